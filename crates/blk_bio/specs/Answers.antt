@@ -1,0 +1,24 @@
+-- What the calls on requests answer.
+use Rattle.std.specs.Prelude.{◌≡◌, ◌≢◌, ◌<◌, ◌≤◌, List, length, Result, Ok, Err}
+use Rattle.blk_bio.specs.declared.request.Side.{Side}
+use Rattle.blk_bio.specs.declared.request.JoinFault.{JoinFault}
+use Rattle.blk_bio.specs.declared.request.JoinFault.TheVariants.{Direction, Apart, Sectors, Segments, Memory}
+use Rattle.blk_bio.specs.Bios.{Bio}
+use Rattle.blk_bio.specs.Limits.{Limits}
+use Rattle.blk_bio.specs.Requests.{dir_of, sectors_of, Abuts, joined, Fits}
+
+-- what each fault of a join says; they come in this order
+abbrev pub IsJoinFault : Limits → List Bio → List Bio → JoinFault → Type 0
+IsJoinFault limits bios newcomer Direction = dir_of newcomer ≢ dir_of bios
+IsJoinFault limits bios newcomer Apart =
+    (dir_of newcomer ≡ dir_of bios) × ((s : Side) → Abuts bios newcomer s → ⊥)
+IsJoinFault limits bios newcomer Sectors =
+    (dir_of newcomer ≡ dir_of bios) × ((s : Side) × Abuts bios newcomer s × (limits.max_sectors < sectors_of (joined bios newcomer s)))
+IsJoinFault limits bios newcomer Segments =
+    (dir_of newcomer ≡ dir_of bios) × ((s : Side) × Abuts bios newcomer s × (sectors_of (joined bios newcomer s) ≤ limits.max_sectors) × (limits.max_segments < length (joined bios newcomer s)))
+IsJoinFault limits bios newcomer Memory = (s : Side) × Fits limits bios newcomer s
+
+-- what each answer of a join says of the request before and after it
+abbrev pub IsJoinAnswer : Limits → List Bio → List Bio → List Bio → Result Side (List Bio × JoinFault) → Type 0
+IsJoinAnswer limits old newcomer new (Ok side) = Fits limits old newcomer side × (new ≡ joined old newcomer side)
+IsJoinAnswer limits old newcomer new (Err e) = (new ≡ old) × (e.0 ≡ newcomer) × IsJoinFault limits old newcomer e.1

@@ -1,0 +1,5 @@
+pub mod Bios
+pub mod Limits
+pub mod Requests
+pub mod Answers
+pub mod Codes

@@ -1,0 +1,111 @@
+//! A bio: one transfer of a range of sectors, after `struct bio` of Linux.
+
+ghost use Rattle.std.specs.Prelude.{◌≡◌, ◌+◌, ◌<◌, ◌≤◌, ◌^◌, IfOk, MatchResult};
+ghost use Rattle.blk_bio.specs.Bios.{Bio as BioFields, IsBio, end_of, IsBioAnswer};
+
+use std::marker::Model;
+use thiserror::Error;
+
+/// No bio reaches past this sector: 2^48, in sectors from the device's beginning.
+pub const SECTOR_LIMIT: u64 = 1 << 48;
+
+/// Which way a bio's data goes, as `REQ_OP_READ` and `REQ_OP_WRITE` of Linux say.
+#[derive(Clone, Copy, Debug, PartialEq, Eq)]
+pub enum Dir {
+    /// From the device.
+    Read,
+    /// To the device.
+    Write,
+}
+
+/// A bio's name: who submitted it, and its number among that submitter's. Any two numbers make a name; that no name
+/// stands twice is looked after where bios are accepted.
+#[derive(Clone, Copy, Debug, PartialEq, Eq, PartialOrd, Ord, Hash)]
+pub struct BioId {
+    pub submitter: u8,
+    pub serial: u64,
+}
+
+/// Why a bio is not made, in the order in which the reasons are looked for.
+#[derive(Clone, Copy, Debug, PartialEq, Eq, Error)]
+pub enum BioFault {
+    /// It has 0 sectors.
+    #[error("Empty")]
+    Empty,
+    /// It ends past [`SECTOR_LIMIT`].
+    #[error("Range")]
+    Range,
+}
+
+/// A transfer of `sectors` sectors from sector `first` on, at least one, that ends at most at [`SECTOR_LIMIT`].
+#[derive(Clone, Copy, Debug, PartialEq, Eq)]
+pub struct Bio {
+    id: BioId,
+    dir: Dir,
+    first: u64,
+    sectors: u64,
+}
+
+impl Model for Bio {
+    ghost use Rattle.std.specs.Prelude.{ℕ};
+    ghost use Rattle.blk_bio.specs.Bios.{Bio as BioFields, IsBio};
+
+    ghost Value = { BioFields };
+
+    ghost view = { λ b. record { id = b.id; dir = b.dir; first = b.first; sectors = b.sectors } };
+
+    ghost invariant = { λ b. IsBio record { id = b.id; dir = b.dir; first = b.first; sectors = b.sectors } };
+
+    ghost inverse = { λ v. record { id = v.id; dir = v.dir; first = v.first; sectors = v.sectors } };
+}
+
+impl Bio {
+    /// A bio of the `sectors` sectors from `first` on. Refused as `Empty` for 0 sectors, and then as `Range` where
+    /// `first + sectors` passes [`SECTOR_LIMIT`]; a bio may end just there.
+    pub fn new(id: BioId, dir: Dir, first: u64, sectors: u64) -> Result<Bio, BioFault>
+        ensures { IsBioAnswer id dir first sectors result }
+    {
+        if sectors == 0 {
+            return Err(BioFault::Empty);
+        }
+        if first > SECTOR_LIMIT || sectors > SECTOR_LIMIT - first {
+            return Err(BioFault::Range);
+        }
+        Ok(Bio {
+            id,
+            dir,
+            first,
+            sectors,
+        })
+    }
+
+    /// Its name.
+    pub fn id(&self) -> BioId
+        ensures { result ≡ self.now.id }
+    {
+        self.id
+    }
+
+    /// Which way its data goes.
+    pub fn dir(&self) -> Dir
+        ensures { result ≡ self.now.dir }
+    {
+        self.dir
+    }
+
+    /// Its first sector, below 2^48.
+    pub fn first(&self) -> u64
+        ensures value { result ≡ self.now.first }
+        ensures is_bio { IsBio self.now }
+    {
+        self.first
+    }
+
+    /// How many sectors it has, 1 to 2^48.
+    pub fn sectors(&self) -> u64
+        ensures value { result ≡ self.now.sectors }
+        ensures is_bio { IsBio self.now }
+    {
+        self.sectors
+    }
+}

@@ -1,0 +1,13 @@
+//! Bios, and the requests that they make up.
+//!
+//! A bio is one transfer of a range of sectors, as the block layer of Linux is handed it (`struct bio`). Bios of one
+//! direction that lie one after the other are merged into a request (`struct request`), which a device gets as one
+//! command: a back merge appends, a front merge puts before. The limits of a request are those of Linux's request
+//! queue, `max_sectors` and `max_segments`, each bio being one segment. No data is moved here, only ranges are kept.
+#![tactic(auto)]
+
+pub mod bio;
+pub mod limits;
+pub mod request;
+#[cfg(test)]
+mod tests;

@@ -1,0 +1,219 @@
+//! A request: bios of one direction that tile a range, after `struct request` of Linux and its back and front merge.
+
+ghost use Rattle.std.specs.Prelude.{◌≡◌, ◌≤◌, ◌+◌, ◌^◌, ◌<◌, ◌∷◌, [], ◌⊎◌, ◌↔◌, IsTrue, length, ◌++◌, IfOk, IfErr, IfNone, IfSome};
+ghost use Rattle.blk_bio.specs.declared.request.Side.{Side};
+ghost use Rattle.blk_bio.specs.declared.request.JoinFault.{JoinFault};
+ghost use Rattle.blk_bio.specs.Requests.{IsRequest, IsWithin, Abuts, Fits, dir_of, first_of, last_of, sectors_of};
+ghost use Rattle.blk_bio.specs.Answers.{IsJoinAnswer};
+
+use crate::bio::{Bio, Dir};
+use crate::limits::Limits;
+use std::alloc::{AllocError, Allocator, Global};
+use std::marker::Model;
+use std::mem;
+use thiserror::Error;
+
+/// The end of a request at which another joins it: `ELEVATOR_BACK_MERGE` and `ELEVATOR_FRONT_MERGE` of Linux.
+#[derive(Clone, Copy, Debug, PartialEq, Eq)]
+pub enum Side {
+    /// The newcomer begins at the request's end.
+    Back,
+    /// The newcomer ends at the request's beginning.
+    Front,
+}
+
+/// Why two requests are not joined, in the order in which the reasons are looked for.
+#[derive(Clone, Copy, Debug, PartialEq, Eq, Error)]
+pub enum JoinFault {
+    /// One reads and the other writes.
+    #[error("Direction")]
+    Direction,
+    /// Neither begins where the other ends.
+    #[error("Apart")]
+    Apart,
+    /// Together they have more sectors than [`Limits::max_sectors`].
+    #[error("Sectors")]
+    Sectors,
+    /// Together they have more bios than [`Limits::max_segments`].
+    #[error("Segments")]
+    Segments,
+    /// Memory ran out.
+    #[error("Memory")]
+    Memory,
+}
+
+/// Bios of one direction, at least one, each beginning where the one before it ends. It keeps its allocator.
+#[derive(Debug, Drop)]
+pub struct Request<A: Allocator = Global> {
+    bios: Vec<Bio, A>,
+}
+
+impl<A: Allocator> Model for Request<A> {
+    ghost use Rattle.std.specs.Prelude.{List};
+    ghost use Rattle.blk_bio.specs.Bios.{Bio as BioFields};
+
+    ghost Value = { List BioFields };
+
+    ghost use Rattle.blk_bio.specs.Requests.{IsRequest};
+
+    ghost view = { λ r. r.bios.items };
+
+    ghost invariant = { λ r. IsRequest r.bios.items };
+}
+
+impl<A: Allocator + Clone> Request<A> {
+    /// A request of one bio. Where memory is refused, the bio comes back.
+    pub fn of(alloc: A, bio: Bio) -> Result<Request<A>, (Bio, AllocError)>
+        ensures ok { IfOk result (λ r. r ≡ bio ∷ []) }
+        ensures err { IfErr result (λ e. e.0 ≡ bio) }
+    {
+        let mut bios = Vec::new(alloc);
+        match bios.push(bio) {
+            Ok(()) => Ok(Request { bios }),
+            Err(_) => Err((bio, AllocError)),
+        }
+    }
+
+    /// Another request of the same bios, from the same allocator. Fails for want of memory alone.
+    pub fn copy(&self) -> Result<Request<A>, AllocError>
+        ensures { IfOk result (λ r. r ≡ self.now) }
+    {
+        let alloc = self.bios.allocator().clone()?;
+        let bios = Vec::from_slice(alloc, self.bios.as_slice())?;
+        Ok(Request { bios })
+    }
+
+    /// The direction of all its bios.
+    pub fn dir(&self) -> Dir
+        ensures { result ≡ dir_of self.now }
+    {
+        self.bios[0].dir()
+    }
+
+    /// Its first sector: where its first bio begins.
+    pub fn first(&self) -> u64
+        ensures { result ≡ first_of self.now }
+    {
+        self.bios[0].first()
+    }
+
+    /// The sector after its last one.
+    fn end(&self) -> u64
+        ensures value { result ≡ last_of self.now }
+        ensures in_range { result ≤ 2 ^ 48 }
+        ensures above { first_of self.now < result }
+    {
+        let last = self.bios[self.bios.len() - 1];
+        last.first() + last.sectors()
+    }
+
+    /// How many sectors its bios have together, 1 to 2^48; they fill its range.
+    pub fn sectors(&self) -> u64
+        ensures value { result ≡ sectors_of self.now }
+        ensures some { 0 < result }
+        ensures range { first_of self.now + result ≡ last_of self.now }
+        ensures in_range { last_of self.now ≤ 2 ^ 48 }
+    {
+        let _ = &self.bios;
+        self.end() - self.first()
+    }
+
+    /// Its bios, in the order of their sectors.
+    pub fn bios(&self) -> &[Bio]
+        ensures bios { result.now ≡ self.now }
+        ensures is_request { IsRequest self.now }
+    {
+        self.bios.as_slice()
+    }
+
+    /// The side of this request at which the other one would stand, by ranges alone: the back where the other begins at
+    /// its end, the front where the other ends at its beginning. Neither the directions nor any limits are looked at.
+    pub fn abuts(&self, other: &Request<A>) -> Option<Side>
+        ensures some { IfSome result (Abuts self.now other.now) }
+        ensures only { IfSome result (λ found. (side : Side) → Abuts self.now other.now side → side ≡ found) }
+        ensures none { IfNone result ((side : Side) → Abuts self.now other.now side → ⊥) }
+    {
+        let (first, end) = (other.first(), other.end());
+        if first == self.end() {
+            Some(Side::Back)
+        } else if end == self.first() {
+            Some(Side::Front)
+        } else {
+            None
+        }
+    }
+
+    /// Whether it is one bio, or has no more sectors and bios than the limits.
+    pub fn within(&self, limits: &Limits) -> bool
+        ensures { IsTrue result ↔ IsWithin limits.now self.now }
+    {
+        self.bios.len() == 1
+            || self.sectors() <= limits.max_sectors()
+                && self.bios.len() as u64 <= limits.max_segments()
+    }
+
+    /// The side at which the newcomer would join this request: it has the same direction, abuts, and is within the
+    /// limits together with it. There is one such side at most, and [`Request::join`] joins there.
+    pub fn fits(&self, newcomer: &Request<A>, limits: &Limits) -> Option<Side>
+        ensures some { IfSome result (Fits limits.now self.now newcomer.now) }
+        ensures only { IfSome result (λ found. (side : Side) → Fits limits.now self.now newcomer.now side → side ≡ found) }
+        ensures none { IfNone result ((side : Side) → Fits limits.now self.now newcomer.now side → ⊥) }
+    {
+        let together = newcomer.dir() == self.dir()
+            && self.sectors() + newcomer.sectors() <= limits.max_sectors()
+            && (self.bios.len() + newcomer.bios.len()) as u64 <= limits.max_segments();
+        if together { self.abuts(newcomer) } else { None }
+    }
+
+    /// Joins the other request to this one, at the side at which it abuts, which is the answer: Linux's back or front
+    /// merge. Refused, in this order, as `Direction`, `Apart`, `Sectors` or `Segments`, and as `Memory` where the growth
+    /// is refused. This request is then as it was and the other one comes back.
+    pub fn join(
+        &mut self,
+        mut other: Request<A>,
+        limits: &Limits,
+    ) -> Result<Side, (Request<A>, JoinFault)>
+        // the side or the fault, and the request as it stands then
+        ensures answer { IsJoinAnswer limits.now self.old other self.new result }
+        ensures only { IfOk result (λ found. (side : Side) → Fits limits.now self.old other side → side ≡ found) }
+        // what fits is refused for want of memory alone
+        ensures accepts { (side : Side) → Fits limits.now self.old other side → IfErr result (λ e. e.1 ≡ JoinFault.Memory) }
+    {
+        if other.dir() != self.dir() {
+            return Err((other, JoinFault::Direction));
+        }
+        let Some(side) = self.abuts(&other) else {
+            return Err((other, JoinFault::Apart));
+        };
+        if self.sectors() + other.sectors() > limits.max_sectors() {
+            return Err((other, JoinFault::Sectors));
+        }
+        if (self.bios.len() + other.bios.len()) as u64 > limits.max_segments() {
+            return Err((other, JoinFault::Segments));
+        }
+        match side {
+            Side::Back => {
+                if self.append(&other).is_err() {
+                    return Err((other, JoinFault::Memory));
+                }
+            }
+            Side::Front => {
+                if other.append(self).is_err() {
+                    return Err((other, JoinFault::Memory));
+                }
+                mem::swap(self, &mut other);
+            }
+        }
+        Ok(side)
+    }
+
+    /// Adds the bios of a request that begins where this one ends.
+    fn append(&mut self, other: &Request<A>) -> Result<(), AllocError>
+        requires direction { dir_of other.now ≡ dir_of self.old }
+        requires abuts { first_of other.now ≡ last_of self.old }
+        ensures ok { IfOk result (λ _. self.new ≡ self.old ++ other.now) }
+        ensures err { IfErr result (λ _. self.new ≡ self.old) }
+    {
+        self.bios.extend_from_slice(other.bios.as_slice())
+    }
+}

@@ -1,0 +1,4 @@
+pub mod Latest
+pub mod Counting
+pub mod Least
+pub mod Blocks

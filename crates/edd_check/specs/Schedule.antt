@@ -1,0 +1,61 @@
+use Rattle.std.specs.Prelude.{ℕ, ◌≡◌, ◌≤◌, ◌<◌, ◌==◌, ◌^◌, List, length, count_by, slice_index, slice_index_or, ℤ, pos, ◌-ℤ◌, ◌≤ℤ◌, All}
+use Rattle.edd_check.specs.declared.Command.{Command}
+
+-- each command was released by its round
+abbrev pub StartsReleased : List Command → List ℕ → Type 0
+StartsReleased commands rounds =
+    (k : ℕ) (d : Command) → k < length commands → (slice_index_or commands k d).release ≤ slice_index rounds k
+
+-- how many places of a schedule have the round x
+unfoldable pub places_at : List ℕ → ℕ → ℕ
+places_at rounds x = count_by (λ y. y == x) rounds
+
+-- a round for each command, none before its release, and no round for more than `depth` of them
+pub record IsLegal (commands : List Command) (rounds : List ℕ) (depth : ℕ) : Type 0 where
+  pub one_each : length rounds ≡ length commands
+  pub released : StartsReleased commands rounds
+  pub within_depth : (x : ℕ) → places_at rounds x ≤ depth
+
+-- how late the command at place k is: its round less its due round
+abbrev pub lateness_at : List Command → List ℕ → ℕ → Command → ℤ
+lateness_at commands rounds k d = pos (slice_index rounds k) -ℤ pos (slice_index_or commands k d).due
+
+-- some command is this late, and none is later
+pub record IsGreatestLateness (commands : List Command) (rounds : List ℕ) (late : ℤ) : Type 0 where
+  pub bound : (k : ℕ) (d : Command) → k < length commands → lateness_at commands rounds k d ≤ℤ late
+  pub place : ℕ
+  pub in_list : place < length commands
+  pub reached : (d : Command) → lateness_at commands rounds place d ≡ late
+
+-- every release and due round is below 2^41
+abbrev pub CommandsInRange : List Command → Type 0
+CommandsInRange commands = All (λ c. (c.release < 2 ^ 41) × (c.due < 2 ^ 41)) commands
+
+-- every round is below 2^41
+abbrev pub RoundsInRange : List ℕ → Type 0
+RoundsInRange rounds = All (λ x. x < 2 ^ 41) rounds
+
+-- the least round of more than `depth` places
+pub record IsLeastOverDeep (rounds : List ℕ) (depth x : ℕ) : Type 0 where
+  pub over : depth < places_at rounds x
+  pub least : (y : ℕ) → y < x → places_at rounds y ≤ depth
+
+-- the least round of the list that is `from` or later
+pub record IsLeastFrom (rounds : List ℕ) (start x : ℕ) : Type 0 where
+  pub late : start ≤ x
+  pub others : All (λ y. start ≤ y → x ≤ y) rounds
+
+-- the first command by place that runs before its release has this id
+pub record IsFirstEarly (commands : List Command) (rounds : List ℕ) (id : ℕ) : Type 0 where
+  pub place : ℕ
+  pub in_list : place < length commands
+  pub early : (d : Command) → slice_index rounds place < (slice_index_or commands place d).release
+  pub named : (d : Command) → (slice_index_or commands place d).id ≡ id
+  pub first : (k : ℕ) (d : Command) → k < place → (slice_index_or commands k d).release ≤ slice_index rounds k
+
+-- late is least: some legal schedule is as late, and no legal schedule is less late
+pub record IsLeastLateness (commands : List Command) (depth : ℕ) (late : ℤ) : Type 0 where
+  pub schedule : List ℕ
+  pub legal : IsLegal commands schedule depth
+  pub reached : IsGreatestLateness commands schedule late
+  pub least : (rounds : List ℕ) (other : ℤ) → IsLegal commands rounds depth → IsGreatestLateness commands rounds other → late ≤ℤ other

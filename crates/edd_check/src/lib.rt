@@ -1,0 +1,288 @@
+//! Checks a claim of least lateness from whoever made it.
+//!
+//! Commands are unit jobs with release and due rounds, and a schedule gives each a round on one of `depth` machines
+//! (Pinedo, Scheduling: identical machines in parallel, unit processing times, release dates, due dates, and the
+//! greatest lateness Lmax as the objective). All calls go by place in the lists, and don't look at whether ids repeat.
+//! Rounds are whole numbers below 2^41.
+#![tactic(auto)]
+
+ghost use Rattle.std.specs.Prelude.{◌+◌, ◌*◌, ℕ, ℤ, pos, negsuc, ◌+ℤ◌, ◌≤ℤ◌, IfNone, IfOk, OnOk, IsOkUnless, ◌≡◌, ◌<◌, ◌^◌, ◌↔◌, [], length, IsTrue, IsNone, IfSome, ◌≤◌, All};
+ghost use Rattle.edd_check.specs.Schedule.{IsLegal, IsGreatestLateness, StartsReleased, IsFirstEarly, IsLeastOverDeep, IsLeastLateness, IsLeastFrom, places_at, CommandsInRange, RoundsInRange};
+ghost use Rattle.edd_check.specs.Window.{load_of, rounds_between, IsCrowded, WindowInRange};
+ghost use Rattle.edd_check.specs.Check.{IsAnswer};
+
+use std::alloc::{AllocError, Allocator};
+use thiserror::Error;
+
+/// Every release, due, round and window number lies below this.
+pub const LIMIT: u64 = 1 << 41;
+
+/// How many rounds one pass of [`is_legal`] counts.
+const BLOCK: u64 = 4096;
+
+/// A unit of work: it takes one round, from `release` on, and ought to run by `due`. Pinedo's job with release date
+/// r, due date d and processing time 1.
+#[derive(Clone, Copy, Debug, PartialEq, Eq)]
+pub struct Command {
+    /// Its name in faults.
+    pub id: u64,
+    /// The first round in which it may run.
+    pub release: u64,
+    /// The round by which it ought to run; it may lie before the release.
+    pub due: u64,
+}
+
+/// A window asks for the commands that are released at `from` or later and due at `due` or sooner.
+#[derive(Clone, Copy, Debug, PartialEq, Eq)]
+pub struct Window {
+    /// The first round of the window.
+    pub from: u64,
+    /// The latest due round; it may lie before `from`.
+    pub due: u64,
+}
+
+/// Why a claim is refused, in the order in which the reasons are looked for.
+#[derive(Clone, Copy, Debug, PartialEq, Eq, Error)]
+pub enum CheckFault {
+    /// There are more rounds than commands, or fewer.
+    #[error("Length")]
+    Length,
+    /// The first command by place that runs before its release, by its id.
+    #[error("BeforeRelease")]
+    BeforeRelease(u64),
+    /// Memory ran out.
+    #[error("Memory")]
+    Memory,
+    /// The least round with more commands than the depth.
+    #[error("OverDepth")]
+    OverDepth(u64),
+    /// The schedule's own greatest lateness, which is not the claimed one.
+    #[error("WrongLateness")]
+    WrongLateness(i64),
+    /// The window's load, which its rounds can carry.
+    #[error("NotCrowded")]
+    NotCrowded(u64),
+}
+
+/// Whether every release, due, round and window number lies below [`LIMIT`], as [`check`] requires.
+pub fn in_range(commands: &[Command], rounds: &[u64], window: Window) -> bool
+    ensures { IsTrue result
+        ↔ (CommandsInRange commands.now × RoundsInRange rounds.now × WindowInRange window) }
+{
+    commands.iter().all(|c| c.release < LIMIT && c.due < LIMIT)
+        && rounds.iter().all(|x| *x < LIMIT)
+        && window.from < LIMIT
+        && window.due < LIMIT
+}
+
+/// The window's load: how many commands are released at its `from` or later and due at its `due` or sooner.
+pub fn load(commands: &[Command], window: Window) -> u64
+    ensures { result ≡ load_of commands.now window }
+{
+    commands
+        .iter()
+        .filter(|c| window.from <= c.release && c.due <= window.due)
+        .count() as u64
+}
+
+/// Whether each command of two equally long lists runs in its release round or later.
+fn starts_released(commands: &[Command], rounds: &[u64]) -> bool
+    requires { length commands.now ≡ length rounds.now }
+    ensures { IsTrue result ↔ StartsReleased commands.now rounds.now }
+{
+    commands
+        .iter()
+        .zip(rounds)
+        .all(|(command, round)| command.release <= *round)
+}
+
+/// The least round of the list that is `from` or later.
+fn least_from(rounds: &[u64], from: u64) -> Option<u64>
+    ensures some { IfSome result (λ x. IsLeastFrom rounds.now from x) }
+    ensures none { IfNone result (All (λ x. x < from) rounds.now) }
+{
+    let mut least: Option<u64> = None;
+    for x in rounds {
+        if *x >= from {
+            least = match least {
+                None => Some(*x),
+                Some(y) => Some(y.min(*x)),
+            };
+        }
+    }
+    least
+}
+
+/// Whether each of the [`BLOCK`] rounds from `from` on stands in at most `depth` places.
+fn block_stays_within(rounds: &[u64], depth: u64, from: u64) -> bool
+    ensures { IsTrue result ↔ ((k : ℕ) → k < 4096 → places_at rounds.now (from + k) ≤ depth) }
+{
+    let mut counts = [0u64; BLOCK as usize];
+    for x in rounds {
+        if *x >= from && *x - from < BLOCK {
+            let k = (*x - from) as usize;
+            if counts[k] >= depth {
+                return false;
+            }
+            counts[k] += 1;
+        }
+    }
+    true
+}
+
+/// Whether each round stands in at most `depth` places.
+fn stays_within(rounds: &[u64], depth: u64) -> bool
+    ensures { IsTrue result ↔ ((x : ℕ) → places_at rounds.now x ≤ depth) }
+{
+    let mut from = 0;
+    while let Some(least) = least_from(rounds, from) {
+        if !block_stays_within(rounds, depth, least) {
+            return false;
+        }
+        let Some(next) = least.checked_add(BLOCK) else {
+            return true;
+        };
+        from = next;
+    }
+    true
+}
+
+/// Whether the schedule is legal: each command has a round, none before its release, and no round has more than
+/// `depth` commands. Lists of different lengths are not.
+///
+/// It takes no memory. It counts in blocks of 4,096 rounds from the least one on that is not yet counted, with one pass
+/// over the list for each block, so its time grows with the list for rounds that lie close together, and with the
+/// square of its length only for rounds that are scattered. [`check`] sorts a copy instead.
+pub fn is_legal(commands: &[Command], rounds: &[u64], depth: u64) -> bool
+    ensures { IsTrue result ↔ IsLegal commands.now rounds.now depth }
+{
+    rounds.len() == commands.len()
+        && starts_released(commands, rounds)
+        && stays_within(rounds, depth)
+}
+
+/// The greatest of the commands' latenesses (Pinedo's Lmax), each its round less its due round: negative where all
+/// run before they are due. There is none exactly where there are no commands.
+pub fn greatest_lateness(commands: &[Command], rounds: &[u64]) -> Option<i64>
+    requires equal { length commands.now ≡ length rounds.now }
+    requires commands_in { CommandsInRange commands.now }
+    requires rounds_in { RoundsInRange rounds.now }
+    ensures none { IsNone result ↔ (commands.now ≡ []) }
+    ensures greatest { IfSome result (IsGreatestLateness commands.now rounds.now) }
+{
+    let mut greatest: Option<i64> = None;
+    for (i, command) in commands.iter().enumerate() {
+        let lateness = rounds[i] as i64 - command.due as i64;
+        greatest = match greatest {
+            None => Some(lateness),
+            Some(g) => Some(g.max(lateness)),
+        };
+    }
+    greatest
+}
+
+/// The id of the first command by place that runs before its release.
+fn first_early(commands: &[Command], rounds: &[u64]) -> Option<u64>
+    requires { length commands.now ≡ length rounds.now }
+    ensures none { IfNone result (StartsReleased commands.now rounds.now) }
+    ensures first { IfSome result (IsFirstEarly commands.now rounds.now) }
+{
+    for (i, command) in commands.iter().enumerate() {
+        if rounds[i] < command.release {
+            return Some(command.id);
+        }
+    }
+    None
+}
+
+/// The least round that more than `depth` places have.
+fn least_over_deep<A: Allocator>(
+    alloc: A,
+    rounds: &[u64],
+    depth: u64,
+) -> Result<Option<u64>, AllocError>
+    ensures none { IfOk result (λ found. IfNone found ((x : ℕ) → places_at rounds.now x ≤ depth)) }
+    ensures least { IfOk result (λ found. IfSome found (IsLeastOverDeep rounds.now depth)) }
+{
+    let depth = depth as usize;
+    let mut sorted = Vec::from_slice(alloc, rounds)?;
+    sorted.sort_unstable();
+    for last in depth..sorted.len() {
+        if sorted[last - depth] == sorted[last] {
+            return Ok(Some(sorted[last]));
+        }
+    }
+    Ok(None)
+}
+
+/// How many rounds the window has for commands that are to be less late than `lateness`.
+fn rounds_in(window: Window, lateness: i64) -> u64
+    requires window { WindowInRange window }
+    requires low { negsuc (2 ^ 41) ≤ℤ lateness }
+    requires high { lateness ≤ℤ pos (2 ^ 41) }
+    ensures rounds { result ≡ rounds_between window.from (pos window.due +ℤ lateness) }
+    ensures small { result ≤ 2 ^ 42 }
+{
+    let end = window.due as i64 + lateness;
+    if end <= window.from as i64 {
+        0
+    } else {
+        (end - window.from as i64) as u64
+    }
+}
+
+/// Checks a schedule, its greatest lateness, and a window that asks for more commands than its rounds carry if each is
+/// to be less late: more than `depth` times the rounds from the window's `from` to its `due + lateness - 1`. Where the
+/// answer is `Ok`, no legal schedule of these commands has a smaller greatest lateness.
+///
+/// The answer depends on the claim alone, but for `Memory`, which may come in place of any answer after `BeforeRelease`.
+/// Refused, in this order, as `Length`, `BeforeRelease`, `Memory`, `OverDepth`, `WrongLateness` and `NotCrowded`, with the
+/// value that [`CheckFault`] says. With no commands there is no lateness to be wrong, and the answer is
+/// `NotCrowded(0)`. A copy of the rounds is sorted, which is all the memory that it takes.
+pub fn check<A: Allocator>(
+    alloc: A,
+    commands: &[Command],
+    depth: u64,
+    lateness: i64,
+    rounds: &[u64],
+    window: Window,
+) -> Result<(), CheckFault>
+    requires depth { depth ≤ 256 }
+    requires commands_in { CommandsInRange commands.now }
+    requires rounds_in { RoundsInRange rounds.now }
+    requires window_in { WindowInRange window }
+    ensures answer { IsAnswer commands.now depth lateness rounds.now window result }
+    ensures accepts { IsLegal commands.now rounds.now depth
+        → IsGreatestLateness commands.now rounds.now lateness
+        → IsCrowded commands.now depth lateness window
+        → IsOkUnless result CheckFault.Memory }
+    // the accepted lateness is least
+    ensures least { OnOk result (IsLeastLateness commands.now depth lateness) }
+{
+    if rounds.len() != commands.len() {
+        return Err(CheckFault::Length);
+    }
+    if let Some(id) = first_early(commands, rounds) {
+        return Err(CheckFault::BeforeRelease(id));
+    }
+    let Ok(over_deep) = least_over_deep(alloc, rounds, depth) else {
+        return Err(CheckFault::Memory);
+    };
+    if let Some(round) = over_deep {
+        return Err(CheckFault::OverDepth(round));
+    }
+    let load = load(commands, window);
+    let Some(own) = greatest_lateness(commands, rounds) else {
+        return Err(CheckFault::NotCrowded(load));
+    };
+    if own != lateness {
+        return Err(CheckFault::WrongLateness(own));
+    }
+    if load <= depth * rounds_in(window, lateness) {
+        return Err(CheckFault::NotCrowded(load));
+    }
+    Ok(())
+}
+
+#[cfg(test)]
+mod tests;
