@@ -10,7 +10,6 @@ use crate::bio::{Bio, Dir};
 use crate::limits::Limits;
 use std::alloc::{AllocError, Allocator, Global};
 use std::marker::Model;
-use std::mem;
 use thiserror::Error;
 
 /// The end of a request at which another joins it: `ELEVATOR_BACK_MERGE` and `ELEVATOR_FRONT_MERGE` of Linux.
@@ -170,7 +169,7 @@ impl<A: Allocator + Clone> Request<A> {
     /// is refused. This request is then as it was and the other one comes back.
     pub fn join(
         &mut self,
-        mut other: Request<A>,
+        other: Request<A>,
         limits: &Limits,
     ) -> Result<Side, (Request<A>, JoinFault)>
         // the side or the fault, and the request as it stands then
@@ -191,18 +190,12 @@ impl<A: Allocator + Clone> Request<A> {
         if (self.bios.len() + other.bios.len()) as u64 > limits.max_segments() {
             return Err((other, JoinFault::Segments));
         }
-        match side {
-            Side::Back => {
-                if self.append(&other).is_err() {
-                    return Err((other, JoinFault::Memory));
-                }
-            }
-            Side::Front => {
-                if other.append(self).is_err() {
-                    return Err((other, JoinFault::Memory));
-                }
-                mem::swap(self, &mut other);
-            }
+        let grown = match side {
+            Side::Back => self.append(&other),
+            Side::Front => self.prepend(&other),
+        };
+        if grown.is_err() {
+            return Err((other, JoinFault::Memory));
         }
         Ok(side)
     }
@@ -215,5 +208,17 @@ impl<A: Allocator + Clone> Request<A> {
         ensures err { IfErr result (λ _. self.new ≡ self.old) }
     {
         self.bios.extend_from_slice(other.bios.as_slice())
+    }
+
+    /// Puts the bios of a request that ends where this one begins before this one's.
+    fn prepend(&mut self, other: &Request<A>) -> Result<(), AllocError>
+        requires direction { dir_of other.now ≡ dir_of self.old }
+        requires abuts { last_of other.now ≡ first_of self.old }
+        ensures ok { IfOk result (λ _. self.new ≡ other.now ++ self.old) }
+        ensures err { IfErr result (λ _. self.new ≡ self.old) }
+    {
+        self.bios.extend_from_slice(other.bios.as_slice())?;
+        self.bios.rotate_right(other.bios.len());
+        Ok(())
     }
 }

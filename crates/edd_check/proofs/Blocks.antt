@@ -1,5 +1,5 @@
 -- Counting in blocks of rounds.
-use Rattle.std.proofs.Common.{◌≡◌, ◌<◌, ◌≤◌, ℕ, ◌+◌, ◌-◌, List, length, get_or, set, replicate, take, ◌⊎◌, inl, inr, arith, refl, ap, sym, ◌∙◌, ◌≢◌, length-set, subst}
+use Rattle.std.proofs.Common.{◌≡◌, ◌<◌, ◌≤◌, ℕ, ◌+◌, ◌-◌, List, length, get_or, set, replicate, take, inl, inr, arith, ap, sym, ◌∙◌, ◌≢◌, length-set, subst}
 use Rattle.std.specs.List.{All}
 use Rattle.std.proofs.lemmas.Bool.{cases_eq, cases_lt}
 use Rattle.std.proofs.lemmas.List.{get_or-set_same, get_or-set_other, get_or-replicate, length-replicate}

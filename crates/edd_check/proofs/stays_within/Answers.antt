@@ -1,6 +1,4 @@
-use Rattle.std.proofs.Common.{arith, rules, ℕ, ◌≡◌, ◌≤◌, ◌<◌, ◌+◌, ◌^◌, refl}
-use Rattle.std.specs.List.{All}
-use Rattle.edd_check.specs.Schedule.{places_at, IsLeastFrom}
+use Rattle.std.proofs.Common.{arith, ◌≤◌, ◌+◌, ◌^◌, refl}
 use Rattle.edd_check.proofs.Blocks.{next_block, no_more, last_block}
 use Rattle.edd_check.proofs.stays_within.Goals as goal
 

@@ -1,0 +1,5 @@
+mod Pushed
+mod Repeats
+mod Waits
+mod Flights
+mod Ties

@@ -1,0 +1,78 @@
+-- A trace to which an event was added, and what that leaves of its list.
+use Rattle.std.proofs.Common.{◌≡◌, ◌∙◌, sym, ap, subst, refl, inl, inr, ℕ, ◌+◌, ◌≤◌, ◌<◌, zero, suc, arith, List, [], ◌∷◌, ◌++◌, length, Option, Some, None, ◌⊎◌}
+use Rattle.std.specs.List.{slice_get}
+use Rattle.blk_bio.specs.Bios.{Bio}
+use Rattle.blk_trace.specs.declared.trace.Prepared.{Prepared}
+use Rattle.blk_trace.specs.Setups.{Setup}
+use Rattle.blk_trace.specs.Happened.{Happened, Ticked, Released, Joined, Issued, Finished}
+use Rattle.blk_trace.specs.declared.rule.PushFault.{PushFault}
+use Rattle.blk_trace.specs.declared.rule.PushFault.TheVariants as push_fault
+use Rattle.blk_trace.specs.Events.{At, open_count}
+use Rattle.blk_trace.specs.Legal.{IsLegalTrace}
+use Rattle.blk_trace.specs.Meaning.{released_ids}
+use Rattle.blk_trace.specs.Standing.{released_count, IsAllowed, places_of}
+use Rattle.blk_trace.specs.Traces.{Traced, IsPreparedFor}
+
+-- one more event, with which the list is legal
+pub record IsPushed (setup : Setup) (events : List Happened) (e : Happened) (setup' : Setup) (events' : List Happened) : Type 0 where
+  pub same : setup' ≡ setup
+  pub added : events' ≡ events ++ e ∷ []
+  pub legal : IsLegalTrace setup (events ++ e ∷ [])
+
+-- what was made ready and then added to
+pub pushed : (setup : Setup) (events : List Happened) (ready new : Traced) (e : Happened) (p q : Prepared) → ready ≡ record { setup = setup; events = events; prepared = p } → (new ≡ record { setup = ready.setup; events = ready.events ++ e ∷ []; prepared = q }) × IsLegalTrace ready.setup (ready.events ++ e ∷ []) → IsPushed setup events e new.setup new.events
+pushed setup events ready new e p q is answer =
+    let s : ready.setup ≡ setup = ap (λ (t : Traced). t.setup) is in
+    let l : ready.events ≡ events = ap (λ (t : Traced). t.events) is in
+    record {
+      same = ap (λ (t : Traced). t.setup) answer.0 ∙ s;
+      added = ap (λ (t : Traced). t.events) answer.0 ∙ ap (λ x. x ++ e ∷ []) l;
+      legal = subst (λ x. IsLegalTrace setup (x ++ e ∷ [])) l (subst (λ x. IsLegalTrace x (ready.events ++ e ∷ [])) s answer.1);
+    }
+
+-- the same of a trace that was not made ready
+pub pushed_at_once : (old new : Traced) (e : Happened) (q : Prepared) → (new ≡ record { setup = old.setup; events = old.events ++ e ∷ []; prepared = q }) × IsLegalTrace old.setup (old.events ++ e ∷ []) → IsPushed old.setup old.events e new.setup new.events
+pushed_at_once old new e q answer = record { same = ap (λ (t : Traced). t.setup) answer.0; added = ap (λ (t : Traced). t.events) answer.0; legal = answer.1 }
+
+-- an event that is allowed, for which there is a place and room was made, is not refused
+pub not_refused : (setup : Setup) (es : List Happened) (ready : Traced) (p : Prepared) (e : Happened) (why : PushFault) → ready ≡ record { setup = setup; events = es; prepared = p } → IsAllowed setup es e → length es + open_count es + places_of e ≤ 1000000 → IsPreparedFor p e → (IsAllowed ready.setup ready.events e → length ready.events + open_count ready.events + places_of e ≤ 1000000 → why ≡ push_fault.Memory) → (why ≡ push_fault.Memory → IsPreparedFor ready.prepared e → ⊥) → ⊥
+not_refused setup es ready p e why is allowed room prepared by_rule by_memory = by_memory
+    (by_rule (subst (λ (t : Traced). IsAllowed t.setup t.events e) (sym is) allowed) (subst (λ (t : Traced). length t.events + open_count t.events + places_of e ≤ 1000000) (sym is) room))
+    (subst (λ (t : Traced). IsPreparedFor t.prepared e) (sym is) prepared)
+
+-- what stands in a list with one more
+pub get_more : {X : Type 0} (xs : List X) (y : X) (k : ℕ) (x : X) → slice_get (xs ++ y ∷ []) k ≡ Some x → (slice_get xs k ≡ Some x) ⊎ ((k ≡ length xs) × (y ≡ x))
+get_more [] y zero x h = inr (refl, (let e : y ≡ x = cc in e))
+get_more [] y (suc k) x h = absurd (let e : None ≡ Some x = h in cc)
+get_more (z ∷ xs) y zero x h = inl h
+get_more (z ∷ xs) y (suc k) x h = elim (get_more xs y k x h) [ inl a ↦ inl a | inr b ↦ inr ((let e = b.0 in omega arith), b.1) ]
+
+-- how many were released
+pub released_more : (es : List Happened) (e : Happened) → released_count (es ++ e ∷ []) ≡ released_count es + released_count (e ∷ [])
+unfolding released_ids
+released_more [] e = omega arith
+released_more (Ticked ∷ es) e = released_more es e
+released_more (Released id bios ∷ es) e = let h = released_more es e in omega arith
+released_more (Joined id bios ∷ es) e = released_more es e
+released_more (Issued id tag ∷ es) e = released_more es e
+released_more (Finished tag ∷ es) e = released_more es e
+
+pub released-released : (es : List Happened) (id : ℕ) (bios : List Bio) → released_count (es ++ Released id bios ∷ []) ≡ released_count es + 1
+unfolding released_ids
+released-released es id bios = released_more es (Released id bios)
+
+pub released-joined : (es : List Happened) (id : ℕ) (bios : List Bio) → released_count (es ++ Joined id bios ∷ []) ≡ released_count es
+unfolding released_ids
+released-joined es id bios = let h = released_more es (Joined id bios) in omega arith
+
+pub released-issued : (es : List Happened) (id tag : ℕ) → released_count (es ++ Issued id tag ∷ []) ≡ released_count es
+unfolding released_ids
+released-issued es id tag = let h = released_more es (Issued id tag) in omega arith
+
+pub released-finished : (es : List Happened) (tag : ℕ) → released_count (es ++ Finished tag ∷ []) ≡ released_count es
+unfolding released_ids
+released-finished es tag = let h = released_more es (Finished tag) in omega arith
+
+pub released-ticked : (es : List Happened) → released_count (es ++ Ticked ∷ []) ≡ released_count es
+unfolding released_ids
+released-ticked es = let h = released_more es Ticked in omega arith

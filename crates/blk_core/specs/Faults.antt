@@ -1,0 +1,61 @@
+-- Why a core refuses a call.
+use Rattle.std.specs.Prelude.{ℕ, ◌+◌, ◌≡◌, ◌≤◌, ◌<◌, ◌++◌, true, List, Option, None, Some, length, IsSome}
+use Rattle.blk_bio.specs.declared.bio.Dir.{Dir}
+use Rattle.blk_bio.specs.Bios.{Bio}
+use Rattle.blk_trace.specs.Events.{entered, open_count, AreOnce}
+use Rattle.blk_trace.specs.Standing.{Seat, seat_at}
+use Rattle.blk_core.specs.Ids.{IsFirstRepeated}
+use Rattle.blk_core.specs.State.{CoreState}
+use Rattle.blk_core.specs.declared.CoreFault.{CoreFault}
+use Rattle.blk_core.specs.declared.CoreFault.TheVariants.{NoQueue, Repeated, TraceFull, Memory}
+use Rattle.blk_core.specs.declared.IssueFault.{IssueFault}
+use Rattle.blk_core.specs.declared.IssueFault.TheVariants as issue
+use Rattle.blk_core.specs.declared.TickFault.{TickFault}
+use Rattle.blk_core.specs.declared.TickFault.TheVariants as tick
+
+-- how many events there are, with a Done counted for each open Issue
+abbrev pub places_taken : CoreState → ℕ
+places_taken c = length c.events + open_count c.events
+
+-- a request that is released: its hardware queue is there, none of its bios' ids stands anywhere else, and there is a place for the event
+pub record CanRelease (c : CoreState) (bios : List Bio) (hw : ℕ) : Type 0 where
+  pub queue : hw < c.setup.hw
+  pub once : AreOnce (entered c.events ++ bios)
+  pub room : places_taken c < 1000000
+
+-- what each fault of a release says; they come in this order
+abbrev pub IsReleaseFault : CoreState → List Bio → ℕ → CoreFault → Type 0
+IsReleaseFault c bios hw NoQueue = c.setup.hw ≤ hw
+IsReleaseFault c bios hw (Repeated id) = (hw < c.setup.hw) × IsFirstRepeated (entered c.events) bios id
+IsReleaseFault c bios hw TraceFull = (hw < c.setup.hw) × AreOnce (entered c.events ++ bios) × (1000000 ≤ places_taken c)
+IsReleaseFault c bios hw Memory = CanRelease c bios hw
+
+-- an issue that may be tried: its hardware queue and its tag are there, the tag was not issued in this round, and there are places for the Issue and its Done
+pub record CanIssue (c : CoreState) (hw tag : ℕ) : Type 0 where
+  pub queue : hw < c.setup.hw
+  pub range : tag < c.setup.depth
+  pub free : seat_at c.events tag ≡ None
+  pub room : places_taken c + 2 ≤ 1000000
+
+-- what each fault of an issue says; they come in this order
+abbrev pub IsIssueFault : CoreState → ℕ → ℕ → IssueFault → Type 0
+IsIssueFault c hw tag issue.NoQueue = c.setup.hw ≤ hw
+IsIssueFault c hw tag issue.TagRange = (hw < c.setup.hw) × (c.setup.depth ≤ tag)
+IsIssueFault c hw tag issue.SlotUsed = (hw < c.setup.hw) × (tag < c.setup.depth) × IsSome (seat_at c.events tag)
+IsIssueFault c hw tag issue.TraceFull = (hw < c.setup.hw) × (tag < c.setup.depth) × (seat_at c.events tag ≡ None) × (1000000 < places_taken c + 2)
+IsIssueFault c hw tag issue.Memory = CanIssue c hw tag
+
+-- a round that ends: no command is in flight, and there is a place for the Tick
+pub record CanTick (c : CoreState) : Type 0 where
+  pub closed : open_count c.events ≡ 0
+  pub room : places_taken c < 1000000
+
+-- what each fault of a tick says; they come in this order
+abbrev pub IsTickFault : CoreState → TickFault → Type 0
+IsTickFault c (tick.InFlight n) = (n ≡ open_count c.events) × (0 < n)
+IsTickFault c tick.TraceFull = (open_count c.events ≡ 0) × (1000000 ≤ places_taken c)
+IsTickFault c tick.Memory = CanTick c
+
+-- a command is in flight under the tag: its Issue has no Done
+abbrev pub IsInFlight : CoreState → ℕ → Type 0
+IsInFlight c tag = (dir : Dir) × (seat_at c.events tag ≡ Some (record { dir = dir; in_flight = true }))

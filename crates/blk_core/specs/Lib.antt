@@ -1,0 +1,4 @@
+pub mod State
+pub mod Ids
+pub mod Faults
+pub mod Calls

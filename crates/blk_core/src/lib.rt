@@ -1,0 +1,432 @@
+//! The core of a block layer: a scheduler beside the trace of what was done with it, where one call is one event.
+//!
+//! Requests are released to a hardware queue, joined or scheduled as Linux's blk-mq does on insertion into an
+//! elevator, issued under tags, reported done, and rounds end by ticks. Every list of calls, the refused ones among
+//! them, leaves a legal trace. Time is counted in rounds: a command takes one, and a tag is issued once in a round.
+#![tactic(auto)]
+
+ghost use Rattle.std.specs.Prelude.{◌≡◌, ◌<◌, ◌^◌, ◌++◌, ◌↔◌, IsTrue, OnOk, OnErr, IfSome, IfNone, length, replicate, None};
+ghost use Rattle.blk_trace.specs.Events.{entered, AreOnce};
+ghost use Rattle.blk_trace.specs.Setups.{expire_of};
+ghost use Rattle.blk_trace.specs.declared.trace.Prepared.{Prepared};
+ghost use Rattle.blk_core.specs.Ids.{HasId, IsFirstRepeated};
+
+use blk_bio::bio::{Bio, BioId, Dir};
+use blk_bio::request::{Request, Side};
+use blk_sched::{JoinRefusal, Queued, Scheduler};
+use blk_trace::event::Event;
+use blk_trace::setup::Setup;
+use blk_trace::trace::{MAX_EVENTS, Trace};
+use edd_check::Command;
+use std::alloc::{AllocError, Allocator};
+use std::marker::Model;
+use thiserror::Error;
+
+/// Where a released request went.
+#[derive(Clone, Copy, Debug, PartialEq, Eq)]
+pub enum Placed {
+    /// It waits by itself under the id: how many Releases there were before it.
+    New(u64),
+    /// It joined the request that waits under the id, at the side.
+    Joined(u64, Side),
+}
+
+/// Why a request is not released, in the order in which the reasons are looked for.
+#[derive(Clone, Copy, Debug, PartialEq, Eq, Error)]
+pub enum CoreFault {
+    /// There is no such hardware queue.
+    #[error("NoQueue")]
+    NoQueue,
+    /// The first bio, in tile order, whose id stands in the trace or earlier in the request.
+    #[error("Repeated")]
+    Repeated(BioId),
+    /// The trace has no place for the event.
+    #[error("TraceFull")]
+    TraceFull,
+    /// Memory ran out.
+    #[error("Memory")]
+    Memory,
+}
+
+/// Why nothing is issued, in the order in which the reasons are looked for.
+#[derive(Clone, Copy, Debug, PartialEq, Eq, Error)]
+pub enum IssueFault {
+    /// There is no such hardware queue.
+    #[error("NoQueue")]
+    NoQueue,
+    /// The tag is not below the depth.
+    #[error("TagRange")]
+    TagRange,
+    /// The tag was issued in this round.
+    #[error("SlotUsed")]
+    SlotUsed,
+    /// The trace has no places for an Issue and its Done.
+    #[error("TraceFull")]
+    TraceFull,
+    /// Memory ran out.
+    #[error("Memory")]
+    Memory,
+}
+
+/// No command is in flight under the tag.
+#[derive(Clone, Copy, Debug, PartialEq, Eq, Error)]
+#[error("NotIssued")]
+pub struct NotIssued;
+
+/// Why a round does not end, in the order in which the reasons are looked for.
+#[derive(Clone, Copy, Debug, PartialEq, Eq, Error)]
+pub enum TickFault {
+    /// So many commands are in flight.
+    #[error("InFlight")]
+    InFlight(u64),
+    /// The trace has no place for the event.
+    #[error("TraceFull")]
+    TraceFull,
+    /// Memory ran out.
+    #[error("Memory")]
+    Memory,
+}
+
+/// What was issued under a tag in this round.
+#[derive(Clone, Copy)]
+struct Flight {
+    hw: u8,
+    dir: Dir,
+    wait: u64,
+    in_flight: bool,
+}
+
+/// A scheduler and the trace of what was done with it.
+#[derive(Drop)]
+pub struct Core<S: Scheduler> {
+    scheduler: S,
+    trace: Trace<S::A>,
+    flights: Vec<Option<Flight>, S::A>,
+    released: u64,
+}
+
+impl<S: Scheduler> Model for Core<S> {
+    ghost use Rattle.blk_core.specs.State.{CoreState, core_code, IsTied};
+
+    ghost Value = { CoreState };
+
+    ghost coded = { core_code };
+
+    ghost view = { λ c. record { setup = c.trace.setup; events = c.trace.events; meaning = S.meaning c.scheduler } };
+
+    ghost invariant = { λ c. IsTied c.trace.setup c.trace.events (S.meaning c.scheduler) c.flights.items c.released };
+}
+
+impl<S: Scheduler> Core<S> {
+    ghost use Rattle.std.specs.Prelude.{◌≡◌, ◌≤◌, ◌<◌, ◌+◌, ◌++◌, ◌↔◌, [], ◌∷◌, IfOk, OnOk, IfErr, OnErr, IsOk, IfSome, IfNone};
+    ghost use Rattle.std.specs.FinMap as map;
+    ghost use Rattle.blk_bio.specs.Requests.{IsWithin};
+    ghost use Rattle.blk_trace.specs.Happened.{Ticked};
+    ghost use Rattle.blk_trace.specs.Events.{round_of};
+    ghost use Rattle.blk_trace.specs.Legal.{IsLegalTrace};
+    ghost use Rattle.blk_trace.specs.Laws.{IsScheduled, IsAccounted};
+    ghost use Rattle.blk_trace.specs.Standing.{waiting_count};
+    ghost use Rattle.blk_core.specs.State.{HoldsWhatWaits};
+    ghost use Rattle.blk_core.specs.Faults.{IsReleaseFault, CanRelease, IsIssueFault, CanIssue, IsTickFault, CanTick, IsInFlight};
+    ghost use Rattle.blk_core.specs.Calls.{Places, Issues, Completes, Adds};
+
+    /// A core without events, over a scheduler in which nothing waits and no pick is open. Fails for want of memory
+    /// alone, and the scheduler comes back then.
+    pub fn new(alloc: S::A, setup: Setup, scheduler: S) -> Result<Core<S>, (S, AllocError)>
+        requires nothing { (S.meaning scheduler).pending ≡ map.empty }
+        requires reads { (S.meaning scheduler).open_picks.reads ≡ 0 }
+        requires writes { (S.meaning scheduler).open_picks.writes ≡ 0 }
+        ensures ok { IfOk result (λ c. c ≡ record { setup = setup; events = []; meaning = S.meaning scheduler }) }
+        ensures err { IfErr result (λ e. e.0 ≡ scheduler) }
+    {
+        let Ok(spare) = alloc.clone() else {
+            return Err((scheduler, AllocError));
+        };
+        let depth = setup.depth() as usize;
+        let Ok(mut flights) = vec![in spare; None; depth] else {
+            return Err((scheduler, AllocError));
+        };
+        clear(&mut flights);
+        match Trace::empty(alloc, setup) {
+            Ok(trace) => Ok(Core {
+                scheduler,
+                trace,
+                flights,
+                released: 0,
+            }),
+            Err(_) => Err((scheduler, AllocError)),
+        }
+    }
+
+    /// Releases a request for a hardware queue, as Linux's blk-mq inserts into an elevator: it joins the newest
+    /// request served for the queue that it fits, at the back where it fits both sides, or waits by itself under the
+    /// next id, due when its direction's expiry has passed from this round. A refused request comes back, and nothing
+    /// is changed.
+    pub fn release(
+        &mut self,
+        request: Request<S::A>,
+        hw: u8,
+    ) -> Result<Placed, (Request<S::A>, CoreFault)>
+        requires { IsWithin self.old.setup.limits request }
+        ensures placed { IfOk result (λ placed. Places S.serves self.old request hw placed self.new) }
+        ensures no_fault { OnOk result (CanRelease self.old request hw) }
+        ensures fault { IfErr result (λ e. IsReleaseFault self.old request hw e.1) }
+        ensures err { IfErr result (λ e. e.0 ≡ request) }
+        ensures same { OnErr result (self.new ≡ self.old) }
+    {
+        if let Some(why) = self.release_fault(&request, hw) {
+            return Err((request, why));
+        }
+        let Ok(copy) = request.copy() else {
+            return Err((request, CoreFault::Memory));
+        };
+        let Ok(()) = self.trace.prepare(Some(&copy)) else {
+            return Err((request, CoreFault::Memory));
+        };
+        let setup = self.trace.setup();
+        let now = self.trace.round();
+        match self.scheduler.try_join(hw, now, &setup.limits(), request) {
+            Ok((id, side)) => match self.trace.push(Event::Join { id, request: copy }) {
+                Ok(()) => Ok(Placed::Joined(id, side)),
+                Err(_) => unreachable!(),
+            },
+            Err((request, JoinRefusal::Memory)) => Err((request, CoreFault::Memory)),
+            Err((request, JoinRefusal::NoFit)) => {
+                let id = self.released;
+                let expire = expire(&setup, request.dir());
+                let queued = Queued {
+                    id,
+                    hw,
+                    release: now,
+                    due: now + expire,
+                    request,
+                };
+                match self.scheduler.insert(queued) {
+                    Err((queued, _)) => Err((queued.request, CoreFault::Memory)),
+                    Ok(()) => match self.trace.push(Event::Release { id, request: copy }) {
+                        Ok(()) => {
+                            self.released += 1;
+                            Ok(Placed::New(id))
+                        }
+                        Err(_) => unreachable!(),
+                    },
+                }
+            }
+        }
+    }
+
+    /// The first reason not to release a request, memory aside.
+    fn release_fault(&self, request: &Request<S::A>, hw: u8) -> Option<CoreFault>
+        ensures some { IfSome result (IsReleaseFault self.now request.now hw) }
+        ensures none { IfNone result (CanRelease self.now request.now hw) }
+    {
+        if hw >= self.trace.setup().hw() {
+            return Some(CoreFault::NoQueue);
+        }
+        if let Some(id) = first_repeated(&self.trace, request.bios()) {
+            return Some(CoreFault::Repeated(id));
+        }
+        if self.trace.len() + self.trace.unfinished() >= MAX_EVENTS {
+            return Some(CoreFault::TraceFull);
+        }
+        None
+    }
+
+    /// Issues the request that the scheduler picks for a hardware queue, under a tag that was not issued in this
+    /// round, and answers its command. None, and no event, only where a command is in flight or the scheduler serves
+    /// nothing for the queue. The faults come before the scheduler is asked, and change nothing.
+    pub fn issue(&mut self, hw: u8, tag: u16) -> Result<Option<Command>, IssueFault>
+        ensures issued { IfOk result (λ found. Issues S.serves self.old hw tag found self.new) }
+        ensures no_fault { OnOk result (CanIssue self.old hw tag) }
+        ensures fault { IfErr result (IsIssueFault self.old hw tag) }
+        ensures same { OnErr result (self.new ≡ self.old) }
+    {
+        let setup = self.trace.setup();
+        if hw >= setup.hw() {
+            return Err(IssueFault::NoQueue);
+        }
+        let slot = tag as usize;
+        if slot >= self.flights.len() {
+            return Err(IssueFault::TagRange);
+        }
+        if self.flights[slot].is_some() {
+            return Err(IssueFault::SlotUsed);
+        }
+        if self.trace.len() + self.trace.unfinished() + 2 > MAX_EVENTS {
+            return Err(IssueFault::TraceFull);
+        }
+        let Ok(()) = prepare(&mut self.trace) else {
+            return Err(IssueFault::Memory);
+        };
+        let now = self.trace.round();
+        let Some(queued) = self.scheduler.pick(hw, now) else {
+            return Ok(None);
+        };
+        let command = Command {
+            id: queued.id,
+            release: queued.release,
+            due: queued.due,
+        };
+        let flight = Flight {
+            hw,
+            dir: queued.request.dir(),
+            wait: now.saturating_sub(queued.release),
+            in_flight: true,
+        };
+        match self.trace.push(Event::Issue {
+            id: command.id,
+            tag,
+        }) {
+            Ok(()) => {
+                self.flights[slot] = Some(flight);
+                Ok(Some(command))
+            }
+            Err(_) => unreachable!(),
+        }
+    }
+
+    /// Completes the command in flight under a tag. Refused exactly where there is none; takes no memory.
+    pub fn done(&mut self, tag: u16) -> Result<(), NotIssued>
+        ensures done { OnOk result (Completes self.old tag self.new) }
+        ensures accepted { IsOk result ↔ IsInFlight self.old tag }
+        ensures same { OnErr result (self.new ≡ self.old) }
+    {
+        let slot = tag as usize;
+        if slot >= self.flights.len() {
+            return Err(NotIssued);
+        }
+        let Some(flight) = self.flights[slot] else {
+            return Err(NotIssued);
+        };
+        if !flight.in_flight {
+            return Err(NotIssued);
+        }
+        match self.trace.push(Event::Done { tag }) {
+            Ok(()) => {
+                self.flights[slot] = Some(Flight {
+                    hw: flight.hw,
+                    dir: flight.dir,
+                    wait: flight.wait,
+                    in_flight: false,
+                });
+                self.scheduler.on_done(flight.hw, flight.dir, flight.wait);
+                Ok(())
+            }
+            Err(_) => unreachable!(),
+        }
+    }
+
+    /// Ends the round, and answers the number of the next one: how many Ticks there are then. Refused while a command
+    /// is in flight, where the trace is full, and for want of memory; nothing is changed then.
+    pub fn tick(&mut self) -> Result<u64, TickFault>
+        ensures ticked { OnOk result (Adds self.old Ticked self.new) }
+        ensures round { IfOk result (λ round. round ≡ round_of self.new.events) }
+        ensures kept { OnOk result (self.new.meaning ≡ self.old.meaning) }
+        ensures no_fault { OnOk result (CanTick self.old) }
+        ensures fault { IfErr result (IsTickFault self.old) }
+        ensures same { OnErr result (self.new ≡ self.old) }
+    {
+        let unfinished = self.trace.unfinished();
+        if unfinished > 0 {
+            return Err(TickFault::InFlight(unfinished));
+        }
+        if self.trace.len() >= MAX_EVENTS {
+            return Err(TickFault::TraceFull);
+        }
+        let Ok(()) = prepare(&mut self.trace) else {
+            return Err(TickFault::Memory);
+        };
+        match self.trace.push(Event::Tick) {
+            Ok(()) => {
+                clear(&mut self.flights);
+                let now = self.trace.round();
+                self.scheduler.on_tick(now);
+                Ok(now)
+            }
+            Err(_) => unreachable!(),
+        }
+    }
+
+    /// The events so far, which are legal: the commands that they issue, in the rounds in which they do, are a legal
+    /// schedule, and each bio that entered stands once in a command or among the requests that wait. The scheduler
+    /// holds exactly these.
+    pub fn trace(&self) -> &Trace<S::A>
+        ensures setup { result.now.setup ≡ self.now.setup }
+        ensures events { result.now.events ≡ self.now.events }
+        ensures legal { IsLegalTrace self.now.setup self.now.events }
+        ensures schedule { IsScheduled self.now.setup self.now.events }
+        ensures accounted { IsAccounted self.now.events }
+        ensures holds { HoldsWhatWaits self.now.setup self.now.events self.now.meaning }
+    {
+        &self.trace
+    }
+
+    /// How many requests wait.
+    pub fn pending(&self) -> u64
+        ensures { result ≡ waiting_count self.now.events }
+    {
+        let _ = &self.trace;
+        self.scheduler.pending()
+    }
+
+    /// The events, which are legal, without the scheduler.
+    pub fn into_trace(self) -> Trace<S::A>
+        ensures setup { result.setup ≡ self.setup }
+        ensures events { result.events ≡ self.events }
+        ensures legal { IsLegalTrace self.setup self.events }
+    {
+        let Core { trace, .. } = self;
+        trace
+    }
+}
+
+/// After how many rounds a request of the direction is due.
+fn expire(setup: &Setup, dir: Dir) -> u64
+    ensures value { result ≡ expire_of setup.now dir }
+    ensures small { result < 2 ^ 40 }
+{
+    match dir {
+        Dir::Read => setup.read_expire(),
+        Dir::Write => setup.write_expire(),
+    }
+}
+
+/// Makes room for an Issue with its Done, or for a Tick.
+fn prepare<'a, A: Allocator + Clone>(trace: &'a mut Trace<A>) -> Result<(), AllocError>
+    ensures ok { OnOk result (trace.new ≡ record { setup = trace.old.setup; events = trace.old.events; prepared = Prepared.AnIssue }) }
+    ensures err { OnErr result (trace.new ≡ trace.old) }
+{
+    let request: Option<&'a Request<A>> = None;
+    trace.prepare(request)
+}
+
+/// Forgets what was issued.
+fn clear(flights: &mut [Option<Flight>])
+    ensures { flights.new ≡ replicate (length flights.old) None }
+{
+    for flight in flights.iter_mut() {
+        *flight = None;
+    }
+}
+
+/// The id of the first of the bios that stands in the trace or earlier among the bios.
+fn first_repeated<A: Allocator + Clone>(trace: &Trace<A>, bios: &[Bio]) -> Option<BioId>
+    requires { AreOnce (entered trace.now.events) }
+    ensures some { IfSome result (IsFirstRepeated (entered trace.now.events) bios.now) }
+    ensures none { IfNone result (AreOnce (entered trace.now.events ++ bios.now)) }
+{
+    for (place, bio) in bios.iter().enumerate() {
+        let id = bio.id();
+        if trace.has_bio(id) || stands_in(&bios[..place], id) {
+            return Some(id);
+        }
+    }
+    None
+}
+
+/// Whether one of the bios has the id.
+fn stands_in(bios: &[Bio], id: BioId) -> bool
+    ensures { IsTrue result ↔ HasId bios.now id }
+{
+    bios.iter().any(|bio| bio.id() == id)
+}

@@ -1,0 +1,200 @@
+//! Hardware queues: which of them serves a software queue, and the requests that came back from one.
+//!
+//! After the hardware dispatch queues of Linux blk-mq (`struct blk_mq_hw_ctx`) and their map from software queues
+//! (`blk_mq_queue_map`).
+#![tactic(auto)]
+
+#[cfg(test)]
+mod tests;
+
+ghost use Rattle.std.specs.Prelude.{◌≡◌, ◌<◌, ◌≤◌, ◌++◌, ◌∷◌, [], ◌↔◌, ℕ, IsTrue, All, Any, Contains, IfOk, IfErr, OnOk, OnErr, IfSome, IfNone, length, slice_index};
+ghost use Rattle.std.specs.Bool.{OnTrue, OnFalse};
+ghost use Rattle.blk_hw.specs.Maps.{IsMap, IsHwCount, IsCounted, IsMapAnswer};
+
+use blk_sched::Queued;
+use std::alloc::{AllocError, Allocator, Global};
+use std::collections::VecDeque;
+use std::marker::Model;
+use thiserror::Error;
+
+/// The most software queues of a map.
+pub const MAX_SOFT_QUEUES: usize = 64;
+
+/// The greatest number of a hardware queue.
+pub const MAX_HW_NUMBER: u8 = 15;
+
+/// Why a map is not made, in the order in which the reasons are looked for.
+#[derive(Clone, Copy, Debug, PartialEq, Eq, Error)]
+pub enum MapFault {
+    /// It has no entry.
+    #[error("Empty")]
+    Empty,
+    /// It has more than [`MAX_SOFT_QUEUES`] entries, or one above [`MAX_HW_NUMBER`].
+    #[error("TooMany")]
+    TooMany,
+    /// No entry names this hardware queue, the least such one below the greatest that an entry names.
+    #[error("Unserved")]
+    Unserved(u8),
+}
+
+/// Which hardware queue serves a software queue: the entry at a software queue's number is its hardware queue's number.
+/// Each hardware queue from 0 to the greatest that is named serves at least one software queue.
+#[derive(Debug, Drop)]
+pub struct Map<A: Allocator = Global> {
+    entries: Vec<u8, A>,
+    hw_count: u8,
+}
+
+impl<A: Allocator> Model for Map<A> {
+    ghost use Rattle.std.specs.Prelude.{List, ℕ};
+    ghost use Rattle.blk_hw.specs.Maps.{IsCounted};
+
+    ghost Value = { List ℕ };
+
+    ghost view = { λ m. m.entries.items };
+
+    ghost invariant = { λ m. IsCounted m.entries.items m.hw_count };
+}
+
+impl<A: Allocator> Map<A> {
+    /// A map of 1 to [`MAX_SOFT_QUEUES`] entries from 0 to [`MAX_HW_NUMBER`], for software queues from 0 on. Refused, in
+    /// this order, as `Empty`, `TooMany` or `Unserved`.
+    pub fn new(entries: Vec<u8, A>) -> Result<Map<A>, MapFault>
+        // the map or the fault
+        ensures answer { IsMapAnswer entries.items result }
+        ensures ok { IfOk result (λ m. m ≡ entries.items) }
+    {
+        if entries.is_empty() {
+            return Err(MapFault::Empty);
+        }
+        if entries.len() > MAX_SOFT_QUEUES || names_above(entries.as_slice(), MAX_HW_NUMBER) {
+            return Err(MapFault::TooMany);
+        }
+        let hw_count = least_unnamed(entries.as_slice());
+        if names_above(entries.as_slice(), hw_count) {
+            return Err(MapFault::Unserved(hw_count));
+        }
+        Ok(Map { entries, hw_count })
+    }
+
+    /// How many software queues it has, 1 to [`MAX_SOFT_QUEUES`].
+    pub fn soft_count(&self) -> usize
+        ensures value { result ≡ length self.now }
+        ensures is_map { IsMap self.now }
+    {
+        self.entries.len()
+    }
+
+    /// How many hardware queues it has, 1 to 16: its entries name just those below this number.
+    pub fn hw_count(&self) -> u8
+        ensures value { IsHwCount self.now result }
+        ensures some { 0 < result }
+        ensures few { result ≤ 16 }
+    {
+        self.hw_count
+    }
+
+    /// The hardware queue that serves a software queue, which is one of this map's.
+    pub fn hw_of(&self, soft: usize) -> u8
+        requires { soft < length self.now }
+        ensures value { result ≡ slice_index self.now soft }
+        // it is below the count of hardware queues
+        ensures below { (count : ℕ) → IsHwCount self.now count → result < count }
+        ensures in_range { result ≤ 15 }
+    {
+        self.entries[soft]
+    }
+}
+
+// Whether an entry is above a number.
+fn names_above(entries: &[u8], limit: u8) -> bool
+    ensures some { OnTrue result (Any (λ hw. limit < hw) entries.now) }
+    ensures none { OnFalse result (All (λ hw. hw ≤ limit) entries.now) }
+{
+    for hw in entries {
+        if *hw > limit {
+            return true;
+        }
+    }
+    false
+}
+
+// Whether an entry is a number.
+fn names(entries: &[u8], hw: u8) -> bool
+    ensures { IsTrue result ↔ Contains entries.now hw }
+{
+    entries.contains(&hw)
+}
+
+// The least number that is no entry, or 16 where each one below that is.
+fn least_unnamed(entries: &[u8]) -> u8
+    ensures named { (hw : ℕ) → hw < result → Contains entries.now hw }
+    ensures unnamed { result < 16 → ¬ Contains entries.now result }
+    ensures few { result ≤ 16 }
+{
+    for hw in 0..16u8 {
+        if !names(entries, hw) {
+            return hw;
+        }
+    }
+    16
+}
+
+/// Requests that the hardware could not take, in the order in which they came back: the list `hctx->dispatch` of Linux
+/// blk-mq, which is served before the scheduler is asked. It keeps its allocator.
+#[derive(Drop)]
+pub struct HeldList<A: Allocator = Global> {
+    requests: VecDeque<Queued<A>, A>,
+}
+
+impl<A: Allocator> Model for HeldList<A> {
+    ghost use Rattle.std.specs.Prelude.{List};
+    ghost use Rattle.blk_sched.specs.Meaning.{Waiting, waiting_code};
+    ghost use Rattle.std.specs.Coded.{coded_list};
+
+    ghost Value = { List Waiting };
+
+    ghost coded = { coded_list waiting_code };
+
+    ghost view = { λ l. l.requests.items };
+}
+
+impl<A: Allocator + Clone> HeldList<A> {
+    /// A list of no requests. It takes no memory.
+    pub fn new(alloc: A) -> HeldList<A>
+        ensures { result ≡ [] }
+    {
+        HeldList {
+            requests: VecDeque::new(alloc),
+        }
+    }
+
+    /// Adds a request at the back. Refused for want of memory alone: the list is then as it was, and the request comes
+    /// back.
+    pub fn push(&mut self, queued: Queued<A>) -> Result<(), (Queued<A>, AllocError)>
+        ensures ok { OnOk result (self.new ≡ self.old ++ queued ∷ []) }
+        ensures err { IfErr result (λ e. e.0 ≡ queued) }
+        ensures same { OnErr result (self.new ≡ self.old) }
+    {
+        match self.requests.push_back(queued) {
+            Ok(()) => Ok(()),
+            Err(refused) => Err((refused.value, AllocError)),
+        }
+    }
+
+    /// Takes the request that came first out. There is none exactly where the list is empty.
+    pub fn take_first(&mut self) -> Option<Queued<A>>
+        ensures some { IfSome result (λ first. self.old ≡ first ∷ self.new) }
+        ensures none { IfNone result (self.old ≡ []) }
+        ensures same { IfNone result (self.new ≡ self.old) }
+    {
+        self.requests.pop_front()
+    }
+
+    /// How many requests it has.
+    pub fn len(&self) -> usize
+        ensures { result ≡ length self.now }
+    {
+        self.requests.len()
+    }
+}

@@ -1,0 +1,26 @@
+-- What the calls on plugs answer.
+use Rattle.std.specs.Prelude.{ℕ, ◌≡◌, ◌<◌, ◌⊎◌, ◌++◌, [], ◌∷◌, true, length, Result, Ok, Err}
+use Rattle.blk_bio.specs.Bios.{Bio}
+use Rattle.blk_bio.specs.Requests.{IsJoinCandidate}
+use Rattle.blk_plug.specs.declared.plug.Added.{Added}
+use Rattle.blk_plug.specs.declared.plug.Added.TheVariants.{New, Joined}
+use Rattle.blk_plug.specs.declared.plug.PlugFault.{PlugFault}
+use Rattle.blk_plug.specs.declared.plug.PlugFault.TheVariants.{Full, Memory}
+use Rattle.blk_plug.specs.Plugs.{Plug, HasCandidate, HasNoCandidate, IsJoinedAt}
+
+-- what each fault says of the plug and the bio
+abbrev pub IsPlugFault : Plug → Bio → PlugFault → Type 0
+IsPlugFault plug bio Full = HasNoCandidate plug.limits plug.requests (bio ∷ []) × (length plug.requests ≡ 32)
+IsPlugFault plug bio Memory =
+    HasCandidate plug.limits plug.requests (bio ∷ [])
+    ⊎ (HasNoCandidate plug.limits plug.requests (bio ∷ []) × (length plug.requests < 32))
+
+-- what each answer of an addition says of the plug before and after it
+abbrev pub IsAddAnswer : Plug → Bio → Plug → Result Added (Bio × PlugFault) → Type 0
+IsAddAnswer old bio new (Ok New) =
+    HasNoCandidate old.limits old.requests (bio ∷ []) × (length old.requests < 32)
+    × (new ≡ record { limits = old.limits; requests = old.requests ++ (bio ∷ []) ∷ [] })
+IsAddAnswer old bio new (Ok (Joined side)) =
+    (place : ℕ) × IsJoinCandidate old.limits true old.requests (bio ∷ []) place side
+    × (new.limits ≡ old.limits) × IsJoinedAt old.requests bio place side new.requests
+IsAddAnswer old bio new (Err e) = (new ≡ old) × (e.0 ≡ bio) × IsPlugFault old bio e.1

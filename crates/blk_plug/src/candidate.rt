@@ -1,0 +1,61 @@
+//! The search for the request that a bio joins.
+
+ghost use Rattle.std.specs.Prelude.{◌≡◌, ◌<◌, ◌↔◌, ◌∷◌, [], IsTrue, length, IfNone, IfSome, true};
+ghost use Rattle.blk_bio.specs.declared.request.Side.{Side};
+ghost use Rattle.blk_bio.specs.Requests.{Fits, IsJoinCandidate};
+ghost use Rattle.blk_plug.specs.Plugs.{MayGrow, HasNoCandidate};
+
+use blk_bio::bio::Bio;
+use blk_bio::limits::Limits;
+use blk_bio::request::{Request, Side};
+use std::alloc::Allocator;
+
+/// Whether the bio has the request's direction and is within the limits together with it.
+fn may_grow<A: Allocator + Clone>(request: &Request<A>, bio: &Bio, limits: &Limits) -> bool
+    ensures exact { IsTrue result ↔ MayGrow limits.now request.now bio.now }
+    ensures some { 0 < length request.now }
+{
+    let count = request.bios().len() as u64;
+    bio.dir() == request.dir()
+        && request.sectors() + bio.sectors() <= limits.max_sectors()
+        && count < limits.max_segments()
+}
+
+/// The side at which the bio fits the request: they have one direction, abut, and are within the limits together.
+#[tactic(auto, unfolding(blk_bio::specs::Requests::last_of))]
+fn side_of<A: Allocator + Clone>(request: &Request<A>, bio: &Bio, limits: &Limits) -> Option<Side>
+    ensures some { IfSome result (Fits limits.now request.now (bio.now ∷ [])) }
+    ensures only { IfSome result (λ found. (side : Side) → Fits limits.now request.now (bio.now ∷ []) side → side ≡ found) }
+    ensures none { IfNone result ((side : Side) → Fits limits.now request.now (bio.now ∷ []) side → ⊥) }
+{
+    if !may_grow(request, bio, limits) {
+        return None;
+    }
+    let (first, end) = (request.first(), request.first() + request.sectors());
+    if bio.first() == end {
+        Some(Side::Back)
+    } else if bio.first() + bio.sectors() == first {
+        Some(Side::Front)
+    } else {
+        None
+    }
+}
+
+/// The place of the newest request that the bio fits, and the side, in requests listed from the oldest to the newest.
+pub fn candidate<A: Allocator + Clone>(
+    requests: &[Request<A>],
+    bio: &Bio,
+    limits: &Limits,
+) -> Option<(usize, Side)>
+    ensures some { IfSome result (λ found. IsJoinCandidate limits.now true requests.now (bio.now ∷ []) found.0 found.1) }
+    ensures none { IfNone result (HasNoCandidate limits.now requests.now (bio.now ∷ [])) }
+{
+    let mut place = requests.len();
+    while place > 0 {
+        place -= 1;
+        if let Some(side) = side_of(&requests[place], bio, limits) {
+            return Some((place, side));
+        }
+    }
+    None
+}

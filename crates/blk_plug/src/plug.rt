@@ -1,0 +1,171 @@
+//! The plug.
+
+ghost use Rattle.std.specs.Prelude.{◌≡◌, ◌≤◌, ◌<◌, ◌∷◌, [], ◌++◌, true, length, vec_len, slice_get, Some, IfOk, OnOk, OnErr, IfNone, IfSome, IsPermutation};
+ghost use Rattle.std.specs.Option.{option_copied};
+ghost use Rattle.blk_bio.specs.Requests.{IsWithin, IsJoinCandidate};
+ghost use Rattle.blk_bio.specs.Answers.{IsJoinAnswer};
+ghost use Rattle.blk_plug.specs.Plugs.{Plug as PlugFields, IsPlug, bios_of, IsJoinedAt};
+ghost use Rattle.blk_plug.specs.Answers.{IsAddAnswer};
+
+use crate::candidate::candidate;
+use blk_bio::bio::Bio;
+use blk_bio::limits::Limits;
+use blk_bio::request::{Request, Side};
+use std::alloc::{AllocError, Allocator, Global};
+use std::marker::Model;
+use thiserror::Error;
+
+/// The most requests that a plug holds.
+pub const PLUG_REQUESTS: usize = 32;
+
+/// What became of a bio that was added.
+#[derive(Clone, Copy, Debug, PartialEq, Eq)]
+pub enum Added {
+    /// It is a request of its own, the plug's newest.
+    New,
+    /// It joined a request of the plug at this side.
+    Joined(Side),
+}
+
+/// Why a bio is not added, in the order in which the reasons are looked for.
+#[derive(Clone, Copy, Debug, PartialEq, Eq, Error)]
+pub enum PlugFault {
+    /// The plug has [`PLUG_REQUESTS`] requests, and the bio fits none of them.
+    #[error("Full")]
+    Full,
+    /// Memory ran out.
+    #[error("Memory")]
+    Memory,
+}
+
+/// At most [`PLUG_REQUESTS`] requests, in the order in which they were begun, and the limits within which bios join
+/// them. It keeps its allocator.
+#[derive(Debug, Drop)]
+pub struct Plug<A: Allocator = Global> {
+    limits: Limits,
+    requests: Vec<Request<A>, A>,
+}
+
+impl<A: Allocator> Model for Plug<A> {
+    ghost use Rattle.blk_plug.specs.Plugs.{Plug as PlugFields, IsPlug};
+
+    ghost Value = { PlugFields };
+
+    ghost view = { λ p. record { limits = p.limits; requests = p.requests.items } };
+
+    ghost invariant = { λ p. IsPlug record { limits = p.limits; requests = p.requests.items } };
+}
+
+impl<A: Allocator + Clone> Plug<A> {
+    /// A plug of no requests, with room for [`PLUG_REQUESTS`]. Fails for want of memory alone.
+    pub fn new(alloc: A, limits: Limits) -> Result<Plug<A>, AllocError>
+        ensures { IfOk result (λ plug. plug ≡ record { limits = limits; requests = [] }) }
+    {
+        let requests = Vec::with_capacity(alloc, PLUG_REQUESTS)?;
+        Ok(Plug { limits, requests })
+    }
+
+    /// Adds a bio: it joins the newest request that it fits, at the back where it can, else at the front; where it fits
+    /// none it becomes a request, the newest. Refused as `Full` where it fits none and the plug has [`PLUG_REQUESTS`]
+    /// requests, and else as `Memory` where a growth is refused. The plug is then as it was and the bio comes back.
+    pub fn add(&mut self, bio: Bio) -> Result<Added, (Bio, PlugFault)>
+        // what became of the bio or the fault, and the plug as it stands then
+        ensures answer { IsAddAnswer self.old bio self.new result }
+        // each bio of the plug stands in it once more as often as it did, and the added one once more
+        ensures kept { OnOk result (IsPermutation (bio ∷ bios_of self.old) (bios_of self.new)) }
+    {
+        let found = candidate(self.requests.as_slice(), &bio, &self.limits);
+        let Some((place, side)) = found else {
+            if self.requests.len() >= PLUG_REQUESTS {
+                return Err((bio, PlugFault::Full));
+            }
+            let Ok(()) = append(&mut self.requests, bio) else {
+                return Err((bio, PlugFault::Memory));
+            };
+            return Ok(Added::New);
+        };
+        let Ok(()) = join_at(&mut self.requests, place, side, bio, &self.limits) else {
+            return Err((bio, PlugFault::Memory));
+        };
+        Ok(Added::Joined(side))
+    }
+
+    /// The limits within which bios join.
+    pub fn limits(&self) -> Limits
+        ensures { result ≡ self.now.limits }
+    {
+        self.limits
+    }
+
+    /// How many requests it has, 0 to [`PLUG_REQUESTS`].
+    pub fn len(&self) -> usize
+        ensures value { result ≡ length self.now.requests }
+        ensures is_plug { IsPlug self.now }
+    {
+        self.requests.len()
+    }
+
+    /// Its oldest request. There is none exactly where it has no requests. Like each of its requests, it is one bio or
+    /// within the limits.
+    pub fn first(&self) -> Option<&Request<A>>
+        ensures value { option_copied result ≡ slice_get self.now.requests 0 }
+        ensures is_plug { IsPlug self.now }
+    {
+        self.requests.first()
+    }
+
+    /// Takes its oldest request out, which is one bio or within the limits. There is none exactly where it has no
+    /// requests.
+    pub fn take_first(&mut self) -> Option<Request<A>>
+        ensures some { IfSome result (λ first. self.old ≡ record { limits = self.new.limits; requests = first ∷ self.new.requests }) }
+        ensures within { IfSome result (IsWithin self.old.limits) }
+        ensures none { IfNone result (self.old.requests ≡ []) }
+        ensures same { IfNone result (self.new ≡ self.old) }
+    {
+        if self.requests.is_empty() {
+            return None;
+        }
+        Some(self.requests.remove(0))
+    }
+}
+
+/// Adds a request of one bio.
+fn append<A: Allocator + Clone>(
+    requests: &mut Vec<Request<A>, A>,
+    bio: Bio,
+) -> Result<(), AllocError>
+    ensures ok { OnOk result (requests.new.items ≡ requests.old.items ++ (bio ∷ []) ∷ []) }
+    ensures err { OnErr result (requests.new.items ≡ requests.old.items) }
+{
+    let alloc = requests.allocator().clone()?;
+    let Ok(request) = Request::of(alloc, bio) else {
+        return Err(AllocError);
+    };
+    let Ok(()) = requests.push(request) else {
+        return Err(AllocError);
+    };
+    Ok(())
+}
+
+/// Joins a bio to the request that it is to join.
+fn join_at<A: Allocator + Clone>(
+    requests: &mut Vec<Request<A>, A>,
+    place: usize,
+    side: Side,
+    bio: Bio,
+    limits: &Limits,
+) -> Result<(), AllocError>
+    requires { IsJoinCandidate limits.now true requests.old.items (bio ∷ []) place side }
+    ensures ok { OnOk result (IsJoinedAt requests.old.items bio place side requests.new.items) }
+    ensures err { OnErr result (requests.new.items ≡ requests.old.items) }
+{
+    let alloc = requests.allocator().clone()?;
+    let Ok(newcomer) = Request::of(alloc, bio) else {
+        return Err(AllocError);
+    };
+    let request = &mut requests[place];
+    let Ok(_) = request.join(newcomer, limits) else {
+        return Err(AllocError);
+    };
+    Ok(())
+}

@@ -1,0 +1,185 @@
+//! What a scheduler is: a trait with its laws.
+#![tactic(auto)]
+
+ghost use Rattle.std.specs.Prelude.{◌≡◌, ◌<◌, ◌+◌, ◌↔◌, ℕ, Bool, ◌⊎◌, IfOk, OnOk, IfErr, OnErr, IfSome, IfNone, IsSome, None};
+ghost use Rattle.std.specs.FinMap as map;
+ghost use Rattle.blk_bio.specs.Requests.{Fits};
+ghost use Rattle.blk_sched.specs.Meaning.{Waiting, Meaning, HasNoCandidate, Joins, ServesNothing, Picks, joined_waiting, opened, open_of};
+
+pub mod fits;
+pub mod ids;
+
+use blk_bio::bio::Dir;
+use blk_bio::limits::Limits;
+use blk_bio::request::{JoinFault, Request, Side};
+use std::alloc::{AllocError, Allocator, Global};
+use std::marker::Model;
+use thiserror::Error;
+
+/// A request as it enters a scheduler and leaves it: its id, the hardware queue (0..=15) that it entered at, the
+/// round of its release, the round in which it is due, and its bios.
+#[derive(Debug, Drop)]
+pub struct Queued<A: Allocator = Global> {
+    pub id: u64,
+    pub hw: u8,
+    pub release: u64,
+    pub due: u64,
+    pub request: Request<A>,
+}
+
+impl<A: Allocator> Model for Queued<A> {
+    ghost use Rattle.blk_sched.specs.Meaning.{Waiting};
+
+    ghost Value = { Waiting };
+
+    ghost view = { λ q. record { id = q.id; hw = q.hw; release = q.release; due = q.due; bios = q.request } };
+}
+
+impl<A: Allocator + Clone> Queued<A> {
+    /// Joins a newcomer in the round `now`, which becomes its release, as `Request::join` does. Where that is refused,
+    /// nothing is changed and the newcomer comes back.
+    pub fn join(
+        &mut self,
+        newcomer: Request<A>,
+        now: u64,
+        limits: &Limits,
+    ) -> Result<Side, (Request<A>, JoinFault)>
+        ensures fits { IfOk result (Fits limits.now self.old.bios newcomer) }
+        ensures ok { IfOk result (λ side. self.new ≡ joined_waiting side now newcomer self.old) }
+        ensures err { IfErr result (λ e. e.0 ≡ newcomer) }
+        ensures same { OnErr result (self.new ≡ self.old) }
+    {
+        let side = self.request.join(newcomer, limits)?;
+        self.release = now;
+        Ok(side)
+    }
+}
+
+/// Why a newcomer joined no request, in the order in which the reasons are looked for.
+#[derive(Clone, Copy, Debug, PartialEq, Eq, Error)]
+pub enum JoinRefusal {
+    /// It fits none of the requests that may be tried.
+    #[error("NoFit")]
+    NoFit,
+    /// Memory ran out.
+    #[error("Memory")]
+    Memory,
+}
+
+/// Why a scheduler is not made, in the order in which the reasons are looked for.
+#[derive(Clone, Copy, Debug, PartialEq, Eq, Error)]
+pub enum SchedFault {
+    /// A batch of no request.
+    #[error("ZeroBatch")]
+    ZeroBatch,
+    /// A target of no round.
+    #[error("ZeroTarget")]
+    ZeroTarget,
+    /// Memory ran out.
+    #[error("Memory")]
+    Memory,
+}
+
+/// A scheduler: requests that wait, which it hands out one by one, in the way of Linux blk-mq's elevators.
+/// Its laws are the clauses of its methods. Every hardware queue is below 16, and times are in rounds.
+pub trait Scheduler: Drop {
+    /// What its requests are allocated by.
+    type A: Allocator + Clone;
+
+    /// What waits, how many picks of each direction are open, and whether a newcomer may join at the front.
+    ghost meaning: { Self → Meaning };
+
+    /// Whether a pick for a hardware queue may take a request.
+    ghost serves: { ℕ → Waiting → Bool };
+
+    /// What an implementation writes for `insert`: takes the request out of the slot, and on a refusal leaves it there.
+    fn enter(&mut self, slot: &mut Option<Queued<Self::A>>) -> Result<(), AllocError>
+        requires some { IsSome slot.old }
+        requires new { IfSome slot.old (λ w. map.get (meaning self.old).pending w.id ≡ None) }
+        requires hw { IfSome slot.old (λ w. w.hw < 16) }
+        ensures ok { OnOk result (IfSome slot.old (λ w. meaning self.new ≡ record (meaning self.old) { pending = map.insert (meaning self.old).pending w.id w })) }
+        ensures err { OnErr result (slot.new ≡ slot.old) }
+        ensures same { OnErr result (meaning self.new ≡ meaning self.old) };
+
+    /// Adds a request, whose id must not be waiting already. Refused for want of memory alone: nothing is changed
+    /// then, and the request comes back.
+    final fn insert(&mut self, queued: Queued<Self::A>) -> Result<(), (Queued<Self::A>, AllocError)>
+        requires new { map.get (meaning self.old).pending queued.id ≡ None }
+        requires hw { queued.hw < 16 }
+        ensures ok { OnOk result (meaning self.new ≡ record (meaning self.old) { pending = map.insert (meaning self.old).pending queued.id queued }) }
+        ensures err { IfErr result (λ e. e.0 ≡ queued) }
+        ensures same { OnErr result (meaning self.new ≡ meaning self.old) }
+    {
+        let mut slot = Some(queued);
+        match self.enter(&mut slot) {
+            Ok(()) => Ok(()),
+            Err(why) => Err((slot.unwrap(), why)),
+        }
+    }
+
+    /// What an implementation writes for `try_join`: takes the newcomer out of the slot, and on a refusal leaves it
+    /// there.
+    fn join_from(
+        &mut self,
+        hw: u8,
+        now: u64,
+        limits: &Limits,
+        slot: &mut Option<Request<Self::A>>,
+    ) -> Result<(u64, Side), JoinRefusal>
+        requires hw { hw < 16 }
+        requires some { IsSome slot.old }
+        ensures joined { IfOk result (λ r. IfSome slot.old (λ newcomer. Joins serves hw now limits.now newcomer (meaning self.old) r.0 r.1 (meaning self.new))) }
+        ensures no_fit { IfErr result (λ e. IfSome slot.old (λ newcomer. (e ≡ JoinRefusal.NoFit) ↔ HasNoCandidate serves hw limits.now newcomer (meaning self.old))) }
+        ensures err { OnErr result (slot.new ≡ slot.old) }
+        ensures same { OnErr result (meaning self.new ≡ meaning self.old) };
+
+    /// Joins a newcomer to the newest request served for the hardware queue that it fits, at the back where it fits
+    /// both sides: `now` becomes that request's release; its id, hardware queue and due round stay. Answers the
+    /// request's id and the side. A refusal changes nothing and hands the newcomer back.
+    final fn try_join(
+        &mut self,
+        hw: u8,
+        now: u64,
+        limits: &Limits,
+        newcomer: Request<Self::A>,
+    ) -> Result<(u64, Side), (Request<Self::A>, JoinRefusal)>
+        requires { hw < 16 }
+        ensures joined { IfOk result (λ r. Joins serves hw now limits.now newcomer (meaning self.old) r.0 r.1 (meaning self.new)) }
+        ensures no_fit { IfErr result (λ e. (e.1 ≡ JoinRefusal.NoFit) ↔ HasNoCandidate serves hw limits.now newcomer (meaning self.old)) }
+        ensures err { IfErr result (λ e. e.0 ≡ newcomer) }
+        ensures same { OnErr result (meaning self.new ≡ meaning self.old) }
+    {
+        let mut slot = Some(newcomer);
+        match self.join_from(hw, now, limits, &mut slot) {
+            Ok(joined) => Ok(joined),
+            Err(why) => Err((slot.unwrap(), why)),
+        }
+    }
+
+    /// Takes out one request that is served for the hardware queue and opens one pick of its direction. None only
+    /// where a pick is open, of either direction, or no served request waits.
+    fn pick(&mut self, hw: u8, now: u64) -> Option<Queued<Self::A>>
+        requires hw { hw < 16 }
+        requires few { (meaning self.old).open_picks.reads + (meaning self.old).open_picks.writes < 256 }
+        ensures picked { IfSome result (λ w. Picks serves hw (meaning self.old) w (meaning self.new)) }
+        ensures none { IfNone result ((0 < (meaning self.old).open_picks.reads + (meaning self.old).open_picks.writes) ⊎ ServesNothing serves hw (meaning self.old)) }
+        ensures same { IfNone result (meaning self.new ≡ meaning self.old) };
+
+    /// Closes an open pick of a direction; `wait` is the number of rounds from the request's release to its issue.
+    fn on_done(&mut self, hw: u8, dir: Dir, wait: u64)
+        requires hw { hw < 16 }
+        requires is_open { 0 < open_of dir (meaning self.old).open_picks }
+        ensures { meaning self.old ≡ record (meaning self.new) { open_picks = opened dir (meaning self.new).open_picks } };
+
+    /// Tells that the round `now` began.
+    fn on_tick(&mut self, now: u64)
+        ensures { meaning self.new ≡ meaning self.old };
+
+    /// How many requests wait.
+    fn pending(&self) -> u64
+        ensures { result ≡ map.len (meaning self.now).pending };
+
+    /// How many picks of a direction are open.
+    fn picked(&self, dir: Dir) -> u64
+        ensures { result ≡ open_of dir (meaning self.now).open_picks };
+}

@@ -1,0 +1,26 @@
+-- Software queues.
+use Rattle.std.specs.Prelude.{ℕ, ◌≡◌, ◌+◌, ◌≤◌, ◌^◌, List, length, sum_by, All}
+use Rattle.blk_bio.specs.Bios.{Bio}
+use Rattle.blk_bio.specs.Limits.{Limits}
+use Rattle.blk_bio.specs.Requests.{IsWithin}
+
+-- a queue: how many requests it may hold, their limits, the requests from the first, and how many bios came and went
+pub record Queue : Type 0 where
+  pub depth : ℕ
+  pub limits : Limits
+  pub requests : List (List Bio)
+  pub bios_in : ℕ
+  pub bios_out : ℕ
+
+-- how many bios the requests of a queue have
+abbrev pub held_of : Queue → ℕ
+held_of queue = sum_by length queue.requests
+
+-- a depth of 1 to 1,024, no more requests than that, each within the limits, and what came is what went or is held
+pub record IsQueue (queue : Queue) : Type 0 where
+  pub some_depth : 1 ≤ queue.depth
+  pub few_depth : queue.depth ≤ 1024
+  pub room : length queue.requests ≤ queue.depth
+  pub within : All (IsWithin queue.limits) queue.requests
+  pub held : queue.bios_in ≡ queue.bios_out + held_of queue
+  pub few_bios : queue.bios_in ≤ 2 ^ 40

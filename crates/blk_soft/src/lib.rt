@@ -1,0 +1,148 @@
+//! A software queue: a bounded queue of requests, first in, first out, that counts the bios that came and went.
+//!
+//! After the software staging queues of Linux blk-mq (`struct blk_mq_ctx`, one for each submitting processor): requests
+//! stand in it after they left a plug and before they enter the scheduler of a hardware queue.
+#![tactic(auto)]
+
+#[cfg(test)]
+mod tests;
+
+ghost use Rattle.std.specs.Prelude.{◌≡◌, ◌++◌, ◌∷◌, [], ◌+◌, ◌≤◌, ◌<◌, ◌^◌, ◌⊎◌, ◌↔◌, IsErr, IfOk, IfErr, OnOk, OnErr, IfSome, IfNone, length};
+ghost use Rattle.blk_bio.specs.Requests.{IsWithin};
+ghost use Rattle.blk_soft.specs.Queues.{Queue, IsQueue};
+
+use blk_bio::limits::Limits;
+use blk_bio::request::Request;
+use circular_buffer::HeapCircularBuffer;
+use std::alloc::{AllocError, Allocator, Global};
+use std::marker::Model;
+
+/// The greatest depth of a software queue, in requests.
+pub const MAX_DEPTH: u64 = 1024;
+
+/// The most bios that a software queue takes in over its life: 2^40.
+pub const MAX_BIOS: u64 = 1 << 40;
+
+/// At most as many requests as its depth, in the order in which they came, each within the queue's limits, and how many
+/// bios came and went since it was made. All its memory is taken when it is made.
+#[derive(Drop)]
+pub struct SoftQueue<A: Allocator = Global> {
+    limits: Limits,
+    ring: HeapCircularBuffer<Request<A>, A>,
+    bios_in: u64,
+    bios_out: u64,
+}
+
+impl<A: Allocator> Model for SoftQueue<A> {
+    ghost use Rattle.blk_soft.specs.Queues.{Queue, IsQueue};
+
+    ghost Value = { Queue };
+
+    ghost view = { λ q. record { depth = q.ring.capacity; limits = q.limits; requests = q.ring.items; bios_in = q.bios_in; bios_out = q.bios_out } };
+
+    ghost invariant = { λ q. IsQueue record { depth = q.ring.capacity; limits = q.limits; requests = q.ring.items; bios_in = q.bios_in; bios_out = q.bios_out } };
+}
+
+impl<A: Allocator + Clone> SoftQueue<A> {
+    /// A queue of no requests with room for `depth`, 1 to [`MAX_DEPTH`]. Fails for want of memory alone.
+    pub fn new(alloc: A, depth: u64, limits: Limits) -> Result<SoftQueue<A>, AllocError>
+        requires { (1 ≤ depth) × (depth ≤ 1024) }
+        ensures { IfOk result (λ q. q ≡ record { depth = depth; limits = limits; requests = []; bios_in = 0; bios_out = 0 }) }
+    {
+        let ring = HeapCircularBuffer::with_capacity(alloc, depth as usize)?;
+        Ok(SoftQueue {
+            limits,
+            ring,
+            bios_in: 0,
+            bios_out: 0,
+        })
+    }
+
+    /// Puts a request at the back. Refused exactly where the queue is full, or where more than [`MAX_BIOS`] bios would
+    /// have come; the queue is then as it was and the request comes back. It takes no memory.
+    pub fn put(&mut self, request: Request<A>) -> Result<(), Request<A>>
+        requires within { IsWithin self.old.limits request }
+        ensures ok { OnOk result (self.new ≡ record self.old { requests = self.old.requests ++ request ∷ []; bios_in = self.old.bios_in + length request }) }
+        ensures err { IfErr result (λ r. r ≡ request) }
+        ensures same { OnErr result (self.new ≡ self.old) }
+        ensures refused { IsErr result ↔ ((length self.old.requests ≡ self.old.depth) ⊎ (2 ^ 40 < self.old.bios_in + length request)) }
+    {
+        let count = request.bios().len() as u64;
+        if self.ring.len() >= self.ring.capacity() || count > MAX_BIOS - self.bios_in {
+            return Err(request);
+        }
+        let _none = self.ring.push_back(request);
+        self.bios_in += count;
+        Ok(())
+    }
+
+    /// Takes the request that came first out. There is none exactly where the queue has no requests.
+    pub fn take_first(&mut self) -> Option<Request<A>>
+        ensures some { IfSome result (λ r. self.old.requests ≡ r ∷ self.new.requests) }
+        ensures counted { IfSome result (λ r. self.new.bios_out ≡ self.old.bios_out + length r) }
+        ensures within { IfSome result (λ r. IsWithin self.old.limits r) }
+        ensures none { IfNone result ((self.old.requests ≡ []) × (self.new ≡ self.old)) }
+        ensures depth { self.new.depth ≡ self.old.depth }
+        ensures limits { self.new.limits ≡ self.old.limits }
+        ensures bios_in { self.new.bios_in ≡ self.old.bios_in }
+    {
+        let first = self.ring.pop_front()?;
+        self.bios_out += first.bios().len() as u64;
+        Some(first)
+    }
+
+    /// Puts a request back at the front, as Linux puts back what a scheduler could not take. The queue is not full, and
+    /// at least as many bios as the request has went out; they no longer count as gone. It takes no memory.
+    pub fn put_first(&mut self, request: Request<A>)
+        requires room { length self.old.requests < self.old.depth }
+        requires counted { length request ≤ self.old.bios_out }
+        requires within { IsWithin self.old.limits request }
+        ensures requests { self.new.requests ≡ request ∷ self.old.requests }
+        ensures counted { self.new.bios_out + length request ≡ self.old.bios_out }
+        ensures depth { self.new.depth ≡ self.old.depth }
+        ensures limits { self.new.limits ≡ self.old.limits }
+        ensures bios_in { self.new.bios_in ≡ self.old.bios_in }
+    {
+        self.bios_out -= request.bios().len() as u64;
+        let _none = self.ring.push_front(request);
+    }
+
+    /// How many requests it has, 0 to its depth.
+    pub fn len(&self) -> usize
+        ensures value { result ≡ length self.now.requests }
+        ensures is_queue { IsQueue self.now }
+    {
+        self.ring.len()
+    }
+
+    /// How many bios came since it was made, 0 to [`MAX_BIOS`]; those that went or that it holds.
+    pub fn bios_in(&self) -> u64
+        ensures value { result ≡ self.now.bios_in }
+        ensures is_queue { IsQueue self.now }
+    {
+        self.bios_in
+    }
+
+    /// How many bios went since it was made and did not come back to the front.
+    pub fn bios_out(&self) -> u64
+        ensures value { result ≡ self.now.bios_out }
+        ensures is_queue { IsQueue self.now }
+    {
+        self.bios_out
+    }
+
+    /// The limits of its requests.
+    pub fn limits(&self) -> Limits
+        ensures { result ≡ self.now.limits }
+    {
+        self.limits
+    }
+
+    /// How many requests it has room for, 1 to [`MAX_DEPTH`].
+    pub fn depth(&self) -> u64
+        ensures value { result ≡ self.now.depth }
+        ensures is_queue { IsQueue self.now }
+    {
+        self.ring.capacity() as u64
+    }
+}

@@ -1,0 +1,31 @@
+use Rattle.std.proofs.Common.{◌≡◌, ◌≤◌, ℕ, zero, suc, List, [], ◌∷◌, get_or, length, Some, None, refl, arith}
+use Rattle.csv.specs.Records.{field_at}
+use Rattle.blk_text.specs.Sources.{Row}
+
+-- the field at a place, by either word
+pub field_is : (fs : Row) (i : ℕ) (x : List ℕ) → Some x ≡ field_at fs i → x ≡ get_or fs i []
+unfolding field_at
+field_is [] i x h = cc h
+field_is (f ∷ fs) zero x h = cc h
+field_is (f ∷ fs) (suc i) x h = field_is fs i x h
+
+pub no_field : (fs : Row) (i : ℕ) → None ≡ field_at fs i → [] ≡ get_or fs i []
+unfolding field_at
+no_field [] i h = refl
+no_field (f ∷ fs) zero h = cc h
+no_field (f ∷ fs) (suc i) h = no_field fs i h
+
+pub titled : (name one : List ℕ) (row : Row) → 2 ≤ length row → get_or row 0 [] ≡ name → get_or row 1 [] ≡ one → (more : Row) × (row ≡ name ∷ one ∷ more)
+titled name one [] h a b = absurd (omega arith)
+titled name one (f ∷ []) h a b = absurd (omega arith)
+titled name one (f ∷ g ∷ more) h a b = (more, rw (a, b) refl)
+
+pub three : (row : Row) (a b c : List ℕ) → length row ≡ 3 → get_or row 0 [] ≡ a → get_or row 1 [] ≡ b → get_or row 2 [] ≡ c → row ≡ a ∷ b ∷ c ∷ []
+three [] a b c h p q r = absurd (omega (arith, h))
+three (x ∷ []) a b c h p q r = absurd (omega (arith, h))
+three (x ∷ y ∷ []) a b c h p q r = absurd (omega (arith, h))
+three (x ∷ y ∷ z ∷ []) a b c h p q r = rw (p, q, r) refl
+three (x ∷ y ∷ z ∷ w ∷ more) a b c h p q r = absurd (omega (arith, h))
+
+pub not_titled : (name one : List ℕ) (row : Row) → ((more : Row) × (row ≡ name ∷ one ∷ more)) → (2 ≤ length row) × (get_or row 0 [] ≡ name) × (get_or row 1 [] ≡ one)
+not_titled name one row h = rw h.1 (omega arith, refl, refl)

@@ -1,0 +1,5 @@
+use Rattle.blk_text.proofs.CommandLaws.{one_fault}
+use Rattle.blk_text.proofs.laws.a_command_list_has_one_fault.Goals as goal
+
+pub returns : goal.returns
+returns c = one_fault

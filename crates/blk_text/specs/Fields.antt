@@ -1,0 +1,98 @@
+-- What may stand in the fields of a record, and what a record lacks.
+use Rattle.std.specs.Prelude.{◌≡◌, ◌⊎◌, ◌<◌, ◌≤◌, ◌^◌, ◌==◌, ◌&&◌, not, Bool, false, ℕ, List, [], ◌∷◌, length, get_or, decimal, codes}
+use Rattle.blk_text.specs.Sources.{Row}
+use Rattle.blk_text.specs.declared.fault.Why.{Why}
+use Rattle.blk_text.specs.declared.fault.Why.TheVariants as why
+use Rattle.blk_text.specs.declared.fields.Slot.{Slot}
+use Rattle.blk_text.specs.declared.fields.Slot.TheVariants as slot
+
+-- whether a field begins with no sign and with no zero before another byte
+abbrev pub canonical : List ℕ → Bool
+canonical [] = false
+canonical (c ∷ []) = not (c == 43)
+canonical (c ∷ d ∷ ds) = not (c == 43) && not (c == 48)
+
+-- each field of a record has this, beside the slot at its place
+abbrev pub EachField : (Slot → List ℕ → Type 0) → List Slot → Row → Type 0
+EachField P slots row = (k : ℕ) → k < length slots → P (get_or slots k slot.Given) (get_or row k [])
+
+-- a blank field is empty
+abbrev pub IsBlank : Slot → List ℕ → Type 0
+IsBlank slot.Given f = Unit {0}
+IsBlank slot.Blank f = f ≡ []
+IsBlank slot.Direction f = Unit {0}
+IsBlank (slot.Number least most) f = Unit {0}
+IsBlank (slot.Lateness most) f = Unit {0}
+
+-- a direction is R or W
+abbrev pub IsDirection : Slot → List ℕ → Type 0
+IsDirection slot.Given f = Unit {0}
+IsDirection slot.Blank f = Unit {0}
+IsDirection slot.Direction f = (f ≡ codes "R") ⊎ (f ≡ codes "W")
+IsDirection (slot.Number least most) f = Unit {0}
+IsDirection (slot.Lateness most) f = Unit {0}
+
+-- a signed number of this size: with one minus before it, if it is not 0
+abbrev pub IsSized : List ℕ → ℕ → Type 0
+IsSized f n = (f ≡ decimal n) ⊎ ((0 < n) × (f ≡ 45 ∷ decimal n))
+
+-- a number is written in decimal digits without leading zeros, and fits a u64
+abbrev pub IsNumber : Slot → List ℕ → Type 0
+IsNumber slot.Given f = Unit {0}
+IsNumber slot.Blank f = Unit {0}
+IsNumber slot.Direction f = Unit {0}
+IsNumber (slot.Number least most) f = (n : ℕ) × (n < 2 ^ 64) × (f ≡ decimal n)
+IsNumber (slot.Lateness most) f = (n : ℕ) × (n < 2 ^ 64) × IsSized f n
+
+-- a number lies in its slot's range
+abbrev pub IsInRange : Slot → List ℕ → Type 0
+IsInRange slot.Given f = Unit {0}
+IsInRange slot.Blank f = Unit {0}
+IsInRange slot.Direction f = Unit {0}
+IsInRange (slot.Number least most) f = (n : ℕ) → n < 2 ^ 64 → f ≡ decimal n → (least ≤ n) × (n ≤ most)
+IsInRange (slot.Lateness most) f = (n : ℕ) → n < 2 ^ 64 → IsSized f n → n ≤ most
+
+-- as many fields as slots, and the blank ones empty
+abbrev pub IsShaped : List Slot → Row → Type 0
+IsShaped slots row = (length row ≡ length slots) × EachField IsBlank slots row
+
+-- the first thing that a record lacks of its slots: all that is looked for before is there
+abbrev pub Lacks : List Slot → Row → Why → Type 0
+Lacks slots row why.Fields = ¬ IsShaped slots row
+Lacks slots row why.Word = IsShaped slots row × ¬ EachField IsDirection slots row
+Lacks slots row why.Number = IsShaped slots row × EachField IsDirection slots row × ¬ EachField IsNumber slots row
+Lacks slots row why.Range = IsShaped slots row × EachField IsDirection slots row × EachField IsNumber slots row × ¬ EachField IsInRange slots row
+Lacks slots row why.Title = ⊥
+Lacks slots row (why.Bio fault) = ⊥
+Lacks slots row why.Count = ⊥
+Lacks slots row why.TooLong = ⊥
+Lacks slots row why.Read = ⊥
+Lacks slots row why.Memory = ⊥
+
+-- this number is written in a field
+abbrev pub NumberOf : Slot → List ℕ → ℕ → Type 0
+NumberOf slot.Given f n = Unit {0}
+NumberOf slot.Blank f n = Unit {0}
+NumberOf slot.Direction f n = Unit {0}
+NumberOf (slot.Number least most) f n = f ≡ decimal n
+NumberOf (slot.Lateness most) f n = IsSized f n
+
+-- a number lies in a slot's range
+abbrev pub IsWithin : Slot → ℕ → Type 0
+IsWithin slot.Given n = Unit {0}
+IsWithin slot.Blank n = Unit {0}
+IsWithin slot.Direction n = Unit {0}
+IsWithin (slot.Number least most) n = (least ≤ n) × (n ≤ most)
+IsWithin (slot.Lateness most) n = n ≤ most
+
+-- each field of a record has this, beside the slot and the number at its place
+abbrev pub EachNumber : (Slot → List ℕ → ℕ → Type 0) → List Slot → Row → List ℕ → Type 0
+EachNumber P slots row ns = (k : ℕ) → k < length slots → P (get_or slots k slot.Given) (get_or row k []) (get_or ns k 0)
+
+-- a field is what its slot wants, and spells this number where the slot has one
+abbrev pub FieldSpells : Slot → List ℕ → ℕ → Type 0
+FieldSpells s f n = IsBlank s f × IsDirection s f × NumberOf s f n × IsWithin s n
+
+-- a record's fields spell these numbers, by place
+abbrev pub FieldsSpell : List Slot → Row → List ℕ → Type 0
+FieldsSpell slots row ns = (length row ≡ length slots) × EachNumber FieldSpells slots row ns

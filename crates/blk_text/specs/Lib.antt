@@ -1,0 +1,12 @@
+pub mod Sources
+pub mod Fields
+pub mod Faults
+pub mod Words
+pub mod Commands
+pub mod SetupRecord
+pub mod BioRecord
+pub mod Script
+pub mod Texts
+pub mod TraceRecords
+pub mod Draft
+pub mod Certificate

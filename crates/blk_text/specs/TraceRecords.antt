@@ -1,0 +1,34 @@
+-- The records of a trace.
+use Rattle.std.specs.Prelude.{ℕ, List, [], ◌∷◌, length, map, decimal, codes}
+use Rattle.std.specs.List.{flat_map}
+use Rattle.blk_bio.specs.Bios.{Bio}
+use Rattle.blk_trace.specs.Setups.{Setup}
+use Rattle.blk_trace.specs.Happened.{Happened, Ticked, Released, Joined, Issued, Finished}
+use Rattle.blk_trace.specs.Traces.{Traced}
+use Rattle.blk_text.specs.Sources.{Row}
+use Rattle.blk_text.specs.BioRecord.{bio_row}
+use Rattle.blk_text.specs.SetupRecord.{setup_row}
+
+-- a record of a word and two fields; the other three are empty
+abbrev pub word_row : List ℕ → List ℕ → List ℕ → Row
+word_row word first second = word ∷ first ∷ second ∷ [] ∷ [] ∷ [] ∷ []
+
+-- a word, a request's id and how many bios it has, and their records in tile order
+abbrev pub group_rows : List ℕ → ℕ → List Bio → List Row
+group_rows word id bios = word_row word (decimal id) (decimal (length bios)) ∷ map bio_row bios
+
+-- the records of an event
+abbrev pub event_rows : Happened → List Row
+event_rows Ticked = word_row (codes "tick") [] [] ∷ []
+event_rows (Released id bios) = group_rows (codes "release") id bios
+event_rows (Joined id bios) = group_rows (codes "join") id bios
+event_rows (Issued id tag) = word_row (codes "issue") (decimal id) (decimal tag) ∷ []
+event_rows (Finished tag) = word_row (codes "done") (decimal tag) [] ∷ []
+
+-- title: blk-trace, 1, depth, hardware queues, number of events, empty
+abbrev pub title_row : Setup → ℕ → Row
+title_row s count = codes "blk-trace" ∷ codes "1" ∷ decimal s.depth ∷ decimal s.hw ∷ decimal count ∷ [] ∷ []
+
+-- the title, the setup, and the records of each event in turn
+abbrev pub trace_rows : Traced → List Row
+trace_rows t = title_row t.setup (length t.events) ∷ setup_row t.setup ∷ flat_map event_rows t.events

@@ -1,0 +1,420 @@
+//! Certificates.
+
+ghost use Rattle.std.specs.Prelude.{◌≡◌, ◌⊎◌, ◌+◌, ◌++◌, ◌≤◌, ◌<◌, ◌^◌, ◌∷◌, [], IfOk, IfErr, IfSome, OnOk, map, length, codes, None, Some, IsTrue, ◌↔◌};
+ghost use Rattle.std.specs.Fmt.{signed_decimal};
+ghost use Rattle.std.specs.Io.KnownBytes.{Appends};
+ghost use Rattle.csv.specs.Records.{fields_of};
+ghost use Rattle.blk_text.specs.Sources.{input_of, Took};
+ghost use Rattle.blk_text.specs.Faults.{IsOutside, TitleMissing};
+ghost use Rattle.blk_text.specs.Fields.{IsSized, FieldsSpell};
+ghost use Rattle.blk_text.specs.Words.{StartsWith};
+ghost use Rattle.blk_text.specs.Texts.{rows_text};
+ghost use Rattle.blk_text.specs.Draft.{draft_text, IsDraft};
+ghost use Rattle.blk_text.specs.Certificate.{claimed, IsClaim, SpellsClaim, ClaimFault, claim_rows, title_row, title_slots, bound_row, bound_slots, BoundLacks, BoundWrong, BoundMissing, IsBound, IsLateness, IsServed, served_row};
+
+use crate::draft::{finish, new_draft, push_row, write_whole};
+use crate::fault::{TextFault, Why, WriteFault};
+use crate::fields::{Slot, WIDTH, after_minus, begins_with, field, read_fields, without_word};
+use crate::lines::{Extent, LineForm, read_lines, read_title};
+use crate::source::Records;
+use csv::{ByteRecord, Writer};
+use edd_check::{Command, Window};
+use std::alloc::{AllocError, Global};
+use std::io::{Read, Write};
+
+/// A schedule of commands, with the claim that it is least late.
+#[derive(Debug, Drop)]
+pub struct Certificate {
+    /// How many commands a round has room for.
+    pub depth: u64,
+    pub commands: Vec<Command>,
+    /// The round of each command, by its place.
+    pub rounds: Vec<u64>,
+    /// The greatest lateness in rounds, and a window that asks for it; none without commands.
+    pub bound: Option<(i64, Window)>,
+}
+
+/// A record of a certificate: id, release, due, round.
+#[derive(Clone, Copy, Drop)]
+pub struct ServedForm;
+
+impl LineForm for ServedForm {
+    ghost use Rattle.blk_text.specs.Certificate.{served_row, IsServed, served_slots};
+    ghost use Rattle.blk_text.specs.Fields.{Lacks};
+
+    type Line = (Command, u64);
+
+    ghost row_of = { λ _. served_row };
+
+    ghost Fits = { λ _. IsServed };
+
+    ghost Refused = { λ _. Lacks served_slots };
+
+    fn line(&self, row: &ByteRecord) -> Result<(Command, u64), Why> {
+        let round = Slot::Number {
+            least: 0,
+            most: (1 << 41) - 1,
+        };
+        let slots = [
+            Slot::Number {
+                least: 0,
+                most: u64::MAX,
+            },
+            Slot::Number {
+                least: 0,
+                most: (1 << 40) - 1,
+            },
+            round,
+            round,
+        ];
+        match read_fields(row, &slots) {
+            Ok(numbers) => {
+                let command = Command {
+                    id: numbers[0],
+                    release: numbers[1],
+                    due: numbers[2],
+                };
+                Ok((command, numbers[3]))
+            }
+            Err(why) => Err(why),
+        }
+    }
+}
+
+// The lateness of a field, by its size.
+fn lateness_of(field: &[u8], size: u64) -> i64
+    requires sized { IsSized field.now size }
+    requires small { size < 2 ^ 41 }
+    ensures text { field.now ≡ signed_decimal result }
+    ensures range { IsLateness result }
+{
+    match after_minus(field) {
+        Some(_) => -(size as i64),
+        None => size as i64,
+    }
+}
+
+// Whether a record that begins with its word says that there is no bound.
+fn is_no_bound(row: &ByteRecord) -> bool
+    requires { StartsWith (codes "bound") (fields_of row.now) }
+    ensures { IsTrue result ↔ (fields_of row.now ≡ bound_row None) }
+{
+    let none = b"none".as_slice();
+    if row.len() != 4 || field(row, 1) != none || field(row, 2) != none {
+        return false;
+    }
+    field(row, 3) == none
+}
+
+// The bound of the numbers of a record.
+fn bound_with(row: &ByteRecord, numbers: &[u64; WIDTH], count: u64) -> (i64, Window)
+    requires some { 0 < count }
+    requires starts { StartsWith (codes "bound") (fields_of row.now) }
+    requires spells { FieldsSpell bound_slots (fields_of row.now) numbers.now }
+    ensures row { fields_of row.now ≡ bound_row (Some result) }
+    ensures range { IsBound count (Some result) }
+{
+    let window = Window {
+        from: numbers[2],
+        due: numbers[3],
+    };
+    (lateness_of(field(row, 1), numbers[1]), window)
+}
+
+// The bound of a record that begins with its word, for so many commands.
+fn bound_of(row: &ByteRecord, count: u64) -> Result<Option<(i64, Window)>, Why>
+    requires { StartsWith (codes "bound") (fields_of row.now) }
+    ensures ok { IfOk result (λ b. (fields_of row.now ≡ bound_row b) × IsBound count b) }
+    ensures err { IfErr result (BoundLacks count (fields_of row.now)) }
+{
+    let late = Slot::Lateness {
+        most: (1 << 41) - 1,
+    };
+    if count == 0 {
+        if is_no_bound(row) {
+            return Ok(None);
+        }
+        let no = Slot::Number { least: 1, most: 0 };
+        return match read_fields(row, &[Slot::Given, late, no, no]) {
+            Ok(_) => unreachable!(),
+            Err(why) => Err(why),
+        };
+    }
+    let round = Slot::Number {
+        least: 0,
+        most: (1 << 41) - 1,
+    };
+    match read_fields(row, &[Slot::Given, late, round, round]) {
+        Ok(numbers) => Ok(Some(bound_with(row, &numbers, count))),
+        Err(why) => Err(why),
+    }
+}
+
+// The bound of the second record, for so many commands.
+fn bound_at(row: &ByteRecord, count: u64) -> Result<Option<(i64, Window)>, Why>
+    ensures ok { IfOk result (λ b. (fields_of row.now ≡ bound_row b) × IsBound count b) }
+    ensures err { IfErr result (BoundWrong count (fields_of row.now)) }
+{
+    if !begins_with(row, b"bound") {
+        return Err(without_word(row, 4));
+    }
+    match bound_of(row, count) {
+        Ok(bound) => Ok(bound),
+        Err(why) => Err(why),
+    }
+}
+
+// The bound, which is the next record.
+fn read_bound<R: Read + Drop>(
+    records: &mut Records<R>,
+    count: u64,
+) -> Result<Option<(i64, Window)>, TextFault>
+    requires start { records.old.at ≡ 1 }
+    ensures at { records.new.at ≡ 2 }
+    ensures ok { IfOk result (λ b. Took (λ row. row ≡ bound_row b) records.old.left records.new.left) }
+    // also where the reader's bytes are not known
+    ensures range { IfOk result (IsBound count) }
+    ensures err { IfErr result (λ f. IfSome records.old.left (λ rows. IsOutside f.why ⊎ ((f.at ≡ 2) × BoundMissing count rows f.why))) }
+{
+    match records.advance() {
+        Ok(true) => {}
+        Ok(false) => return Err(records.fault(Why::Word)),
+        Err(fault) => return Err(fault),
+    }
+    match bound_at(records.row(), count) {
+        Ok(bound) => Ok(bound),
+        Err(why) => Err(records.fault(why)),
+    }
+}
+
+// The depth and the number of commands of the title record, which is the next one.
+fn read_certificate_title<R: Read + Drop>(records: &mut Records<R>) -> Result<(u64, u64), TextFault>
+    requires start { records.old.at ≡ 0 }
+    ensures at { records.new.at ≡ 1 }
+    ensures ok { IfOk result (λ t. Took (λ row. row ≡ title_row t.0 t.1) records.old.left records.new.left) }
+    // also where the reader's bytes are not known
+    ensures range { IfOk result (λ t. (1 ≤ t.0) × (t.0 ≤ 64) × (t.1 ≤ 1_000_000)) }
+    ensures err { IfErr result (λ f. IfSome records.old.left (λ rows. IsOutside f.why
+        ⊎ ((f.at ≡ 1) × TitleMissing (codes "blk-certificate") title_slots rows f.why))) }
+{
+    let slots = [
+        Slot::Given,
+        Slot::Given,
+        Slot::Number { least: 1, most: 64 },
+        Slot::Number {
+            least: 0,
+            most: 1_000_000,
+        },
+    ];
+    match read_title(records, b"blk-certificate", &slots) {
+        Ok(numbers) => Ok((numbers[2], numbers[3])),
+        Err(fault) => Err(fault),
+    }
+}
+
+// The commands of lines.
+fn commands_of(alloc: Global, served: &[(Command, u64)]) -> Result<Vec<Command>, AllocError>
+    ensures { IfOk result (λ v. v.items ≡ map (λ s. s.0) served.now) }
+{
+    served.iter().map(|(command, _)| *command).collect(alloc)
+}
+
+// The rounds of lines.
+fn rounds_of(alloc: Global, served: &[(Command, u64)]) -> Result<Vec<u64>, AllocError>
+    ensures { IfOk result (λ v. v.items ≡ map (λ s. s.1) served.now) }
+{
+    served.iter().map(|(_, round)| *round).collect(alloc)
+}
+
+// The commands and the rounds of lines.
+fn split(alloc: Global, served: &[(Command, u64)]) -> Result<(Vec<Command>, Vec<u64>), AllocError>
+    ensures commands { IfOk result (λ p. p.0.items ≡ map (λ s. s.0) served.now) }
+    ensures rounds { IfOk result (λ p. p.1.items ≡ map (λ s. s.1) served.now) }
+{
+    let commands = commands_of(alloc, served)?;
+    let rounds = rounds_of(alloc, served)?;
+    Ok((commands, rounds))
+}
+
+/// The certificate of a text, from its first record on.
+pub fn read_certificate_from<R: Read + Drop>(
+    alloc: Global,
+    records: &mut Records<R>,
+) -> Result<Certificate, TextFault>
+    requires { records.old.at ≡ 0 }
+    ensures ok { IfOk result (λ c. IfSome records.old.left (λ rows. SpellsClaim rows (claimed c))) }
+    ensures in_range { IfOk result (λ c. IsClaim (claimed c)) }
+    ensures err { IfErr result (λ f. IfSome records.old.left (λ rows.
+        IsOutside f.why ⊎ ClaimFault rows f.at f.why)) }
+    ensures reads { records.new.at ≤ 1_000_003 }
+{
+    let (depth, count) = match read_certificate_title(records) {
+        Ok(title) => title,
+        Err(fault) => return Err(fault),
+    };
+    let bound = match read_bound(records, count) {
+        Ok(bound) => bound,
+        Err(fault) => return Err(fault),
+    };
+    let served = match read_lines(alloc, records, &ServedForm, Extent::Exactly(count)) {
+        Ok(served) => served,
+        Err(fault) => return Err(fault),
+    };
+    match split(alloc, served.as_slice()) {
+        Ok((commands, rounds)) => Ok(Certificate {
+            depth,
+            commands,
+            rounds,
+            bound,
+        }),
+        Err(AllocError) => Err(records.fault(Why::Memory)),
+    }
+}
+
+/// The certificate of a text of records of four fields: a title with the depth and the number of
+/// commands, a bound, and each command with its round.
+///
+/// The fault is the first one: of the least record, and in it the first in the order of [`Why`].
+/// Fewer commands than announced is a fault one past the last record.
+pub fn read_certificate<R: Read + Drop>(alloc: Global, reader: R) -> Result<Certificate, TextFault>
+    ensures ok { IfOk result (λ c. IfSome (input_of (R.remaining reader)) (λ rows. SpellsClaim rows (claimed c))) }
+    // also where the reader's bytes are not known
+    ensures in_range { IfOk result (λ c. IsClaim (claimed c)) }
+    ensures err { IfErr result (λ f. IfSome (input_of (R.remaining reader)) (λ rows.
+        IsOutside f.why ⊎ ClaimFault rows f.at f.why)) }
+{
+    let mut records = Records::new(alloc, reader);
+    read_certificate_from(alloc, &mut records)
+}
+
+// Adds the title record.
+fn push_title(
+    alloc: Global,
+    draft: &mut Writer<Vec<u8>>,
+    depth: u64,
+    count: u64,
+) -> Result<(), AllocError>
+    requires { IsDraft draft.old }
+    ensures draft { OnOk result (IsDraft draft.new) }
+    ensures text { OnOk result (draft_text draft.new ≡ draft_text draft.old ++ rows_text (title_row depth count ∷ [])) }
+{
+    let depth = depth.to_string(alloc)?;
+    let count = count.to_string(alloc)?;
+    let name = b"blk-certificate".as_slice();
+    push_row(
+        draft,
+        &[name, b"1".as_slice(), depth.as_bytes(), count.as_bytes()],
+    )
+}
+
+// Adds the record that says that there is no bound.
+fn push_no_bound(draft: &mut Writer<Vec<u8>>) -> Result<(), AllocError>
+    requires { IsDraft draft.old }
+    ensures draft { OnOk result (IsDraft draft.new) }
+    ensures text { OnOk result (draft_text draft.new ≡ draft_text draft.old ++ rows_text (bound_row None ∷ [])) }
+{
+    let none = b"none".as_slice();
+    push_row(draft, &[b"bound".as_slice(), none, none, none])
+}
+
+// Adds the record of a lateness and its window.
+fn push_some_bound(
+    alloc: Global,
+    draft: &mut Writer<Vec<u8>>,
+    lateness: i64,
+    window: Window,
+) -> Result<(), AllocError>
+    requires { IsDraft draft.old }
+    ensures draft { OnOk result (IsDraft draft.new) }
+    ensures text { OnOk result (draft_text draft.new ≡ draft_text draft.old ++ rows_text (bound_row (Some (lateness, window)) ∷ [])) }
+{
+    let late = lateness.to_string(alloc)?;
+    let from = window.from.to_string(alloc)?;
+    let due = window.due.to_string(alloc)?;
+    push_row(
+        draft,
+        &[
+            b"bound".as_slice(),
+            late.as_bytes(),
+            from.as_bytes(),
+            due.as_bytes(),
+        ],
+    )
+}
+
+// Adds the record of a bound.
+fn push_bound(
+    alloc: Global,
+    draft: &mut Writer<Vec<u8>>,
+    bound: Option<(i64, Window)>,
+) -> Result<(), AllocError>
+    requires { IsDraft draft.old }
+    ensures draft { OnOk result (IsDraft draft.new) }
+    ensures text { OnOk result (draft_text draft.new ≡ draft_text draft.old ++ rows_text (bound_row bound ∷ [])) }
+{
+    match bound {
+        None => push_no_bound(draft),
+        Some((lateness, window)) => push_some_bound(alloc, draft, lateness, window),
+    }
+}
+
+// Adds the record of a command and its round.
+fn push_served(
+    alloc: Global,
+    draft: &mut Writer<Vec<u8>>,
+    command: &Command,
+    round: u64,
+) -> Result<(), AllocError>
+    requires { IsDraft draft.old }
+    ensures draft { OnOk result (IsDraft draft.new) }
+    ensures text { OnOk result (draft_text draft.new ≡ draft_text draft.old ++ rows_text (served_row (command.now, round) ∷ [])) }
+{
+    let id = command.id.to_string(alloc)?;
+    let release = command.release.to_string(alloc)?;
+    let due = command.due.to_string(alloc)?;
+    let round = round.to_string(alloc)?;
+    push_row(
+        draft,
+        &[
+            id.as_bytes(),
+            release.as_bytes(),
+            due.as_bytes(),
+            round.as_bytes(),
+        ],
+    )
+}
+
+// The text of a certificate.
+fn certificate_text(alloc: Global, certificate: &Certificate) -> Result<Vec<u8>, AllocError>
+    requires { IsClaim (claimed certificate.now) }
+    ensures { IfOk result (λ v. v.items ≡ rows_text (claim_rows (claimed certificate.now))) }
+{
+    let mut draft = new_draft(alloc);
+    let commands = certificate.commands.as_slice();
+    let rounds = certificate.rounds.as_slice();
+    push_title(alloc, &mut draft, certificate.depth, commands.len() as u64)?;
+    push_bound(alloc, &mut draft, certificate.bound)?;
+    for i in 0..commands.len() {
+        push_served(alloc, &mut draft, &commands[i], rounds[i])?;
+    }
+    finish(draft)
+}
+
+/// Writes the text of a certificate, at once where all of it could be made.
+///
+/// There are at most 1,000,000 commands with a round each, the numbers lie in the ranges of the
+/// form, and there is no bound exactly where there are no commands.
+pub fn write_certificate<W: Write>(
+    alloc: Global,
+    certificate: &Certificate,
+    writer: &mut W,
+) -> Result<(), WriteFault>
+    requires { IsClaim (claimed certificate.now) }
+    ensures ok { OnOk result (Appends (W.contents writer.old) (W.contents writer.new) (rows_text (claim_rows (claimed certificate.now)))) }
+    ensures memory { IfErr result (λ f. f ≡ WriteFault.Memory → writer.new ≡ writer.old) }
+{
+    match certificate_text(alloc, certificate) {
+        Ok(text) => write_whole(writer, text.as_slice()),
+        Err(AllocError) => Err(WriteFault::Memory),
+    }
+}

@@ -1,0 +1,161 @@
+//! Command lists.
+
+ghost use Rattle.std.specs.Prelude.{◌≡◌, ◌⊎◌, ◌+◌, ◌≤◌, ◌<◌, ◌^◌, ◌++◌, ◌∷◌, [], IfOk, IfErr, IfSome, OnOk};
+ghost use Rattle.std.specs.Io.KnownBytes.{Appends};
+ghost use Rattle.csv.specs.Records.{fields_of};
+ghost use Rattle.blk_text.specs.Sources.{input_of};
+ghost use Rattle.blk_text.specs.Texts.{rows_text};
+ghost use Rattle.blk_text.specs.Draft.{draft_text, IsDraft};
+ghost use Rattle.blk_text.specs.Faults.{IsOutside};
+ghost use Rattle.blk_text.specs.Commands.{AreCommands, SpellsCommands, CommandsFault, command_row, commands_rows};
+
+use crate::draft::{finish, new_draft, push_row, write_whole};
+use crate::fault::{TextFault, Why, WriteFault};
+use crate::fields::{Slot, read_fields};
+use crate::lines::{Extent, LineForm, read_lines, read_title};
+use crate::source::Records;
+use csv::{ByteRecord, Writer};
+use edd_check::Command;
+use std::alloc::{AllocError, Global};
+use std::io::{Read, Write};
+
+/// The most commands of a list.
+pub const MOST_COMMANDS: u64 = 1_000_000;
+
+/// A record of a command list: id, release, due.
+#[derive(Clone, Copy, Drop)]
+pub struct CommandForm;
+
+impl LineForm for CommandForm {
+    ghost use Rattle.blk_text.specs.Commands.{command_row, IsCommandInRange, command_slots};
+    ghost use Rattle.blk_text.specs.Fields.{Lacks};
+
+    type Line = Command;
+
+    ghost row_of = { λ _. command_row };
+
+    ghost Fits = { λ _. IsCommandInRange };
+
+    ghost Refused = { λ _. Lacks command_slots };
+
+    fn line(&self, row: &ByteRecord) -> Result<Command, Why> {
+        let slots = [
+            Slot::Number {
+                least: 0,
+                most: u64::MAX,
+            },
+            Slot::Number {
+                least: 0,
+                most: (1 << 40) - 1,
+            },
+            Slot::Number {
+                least: 0,
+                most: (1 << 41) - 1,
+            },
+        ];
+        match read_fields(row, &slots) {
+            Ok(numbers) => Ok(Command {
+                id: numbers[0],
+                release: numbers[1],
+                due: numbers[2],
+            }),
+            Err(why) => Err(why),
+        }
+    }
+}
+
+/// The depth and the commands of a command list, from its first record on.
+pub fn read_commands_from<R: Read + Drop>(
+    alloc: Global,
+    records: &mut Records<R>,
+) -> Result<(u64, Vec<Command>), TextFault>
+    requires { records.old.at ≡ 0 }
+    ensures ok { IfOk result (λ v. IfSome records.old.left (λ rows. SpellsCommands rows v.0 v.1.items)) }
+    ensures in_range { IfOk result (λ v. AreCommands v.0 v.1.items) }
+    ensures err { IfErr result (λ f. IfSome records.old.left (λ rows.
+        IsOutside f.why ⊎ CommandsFault rows f.at f.why)) }
+    ensures reads { records.new.at ≤ 1_000_002 }
+{
+    let slots = [
+        Slot::Given,
+        Slot::Given,
+        Slot::Number { least: 1, most: 64 },
+    ];
+    let depth = match read_title(records, b"blk-commands", &slots) {
+        Ok(numbers) => numbers[2],
+        Err(fault) => return Err(fault),
+    };
+    match read_lines(alloc, records, &CommandForm, Extent::AtMost(MOST_COMMANDS)) {
+        Ok(commands) => Ok((depth, commands)),
+        Err(fault) => Err(fault),
+    }
+}
+
+/// The depth and the commands of a text of records of three fields: a title with the depth, 1 to 64,
+/// and at most 1,000,000 commands by id, release round and due round.
+///
+/// The fault is the first one: of the least record, and in it the first in the order of [`Why`].
+pub fn read_commands<R: Read + Drop>(
+    alloc: Global,
+    reader: R,
+) -> Result<(u64, Vec<Command>), TextFault>
+    ensures ok { IfOk result (λ v. IfSome (input_of (R.remaining reader)) (λ rows.
+        SpellsCommands rows v.0 v.1.items)) }
+    // also where the reader's bytes are not known
+    ensures in_range { IfOk result (λ v. AreCommands v.0 v.1.items) }
+    ensures err { IfErr result (λ f. IfSome (input_of (R.remaining reader)) (λ rows.
+        IsOutside f.why ⊎ CommandsFault rows f.at f.why)) }
+{
+    let mut records = Records::new(alloc, reader);
+    read_commands_from(alloc, &mut records)
+}
+
+// Adds the record of a command.
+fn push_command(
+    alloc: Global,
+    draft: &mut Writer<Vec<u8>>,
+    command: &Command,
+) -> Result<(), AllocError>
+    requires { IsDraft draft.old }
+    ensures draft { OnOk result (IsDraft draft.new) }
+    ensures text { OnOk result (draft_text draft.new ≡ draft_text draft.old ++ rows_text (command_row command.now ∷ [])) }
+{
+    let id = command.id.to_string(alloc)?;
+    let release = command.release.to_string(alloc)?;
+    let due = command.due.to_string(alloc)?;
+    push_row(draft, &[id.as_bytes(), release.as_bytes(), due.as_bytes()])
+}
+
+// The text of a depth and a list of commands.
+fn commands_text(alloc: Global, depth: u64, commands: &[Command]) -> Result<Vec<u8>, AllocError>
+    ensures { IfOk result (λ v. v.items ≡ rows_text (commands_rows depth commands.now)) }
+{
+    let mut draft = new_draft(alloc);
+    let digits = depth.to_string(alloc)?;
+    let name = b"blk-commands".as_slice();
+    push_row(&mut draft, &[name, b"1".as_slice(), digits.as_bytes()])?;
+    for i in 0..commands.len() {
+        push_command(alloc, &mut draft, &commands[i])?;
+    }
+    finish(draft)
+}
+
+/// Writes the text of a depth and a list of commands, at once where all of it could be made.
+///
+/// There are at most 1,000,000 commands, and the numbers lie in the ranges of the form: a depth of
+/// 1 to 64, releases below round 2^40, dues below round 2^41.
+pub fn write_commands<W: Write>(
+    alloc: Global,
+    depth: u64,
+    commands: &[Command],
+    writer: &mut W,
+) -> Result<(), WriteFault>
+    requires { AreCommands depth commands.now }
+    ensures ok { OnOk result (Appends (W.contents writer.old) (W.contents writer.new) (rows_text (commands_rows depth commands.now))) }
+    ensures memory { IfErr result (λ f. f ≡ WriteFault.Memory → writer.new ≡ writer.old) }
+{
+    match commands_text(alloc, depth, commands) {
+        Ok(text) => write_whole(writer, text.as_slice()),
+        Err(AllocError) => Err(WriteFault::Memory),
+    }
+}

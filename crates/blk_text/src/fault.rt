@@ -1,0 +1,58 @@
+//! What is wrong with a text, and why one was not written.
+
+use blk_bio::bio::BioFault;
+use thiserror::Error;
+
+/// What is wrong with a record, in the order in which it is looked for.
+#[derive(Debug, Clone, Copy, PartialEq, Eq, Error)]
+pub enum Why {
+    /// The first record is missing, or its name or version is another.
+    #[error("Title")]
+    Title,
+    /// Another number of fields, or a field that must be empty is not.
+    #[error("Fields")]
+    Fields,
+    /// The first field is no word that may stand there, or a direction is neither R nor W.
+    #[error("Word")]
+    Word,
+    /// A field is no number.
+    #[error("Number")]
+    Number,
+    /// A number is outside its range.
+    #[error("Range")]
+    Range,
+    /// The bio is refused.
+    #[error("{0}")]
+    Bio(BioFault),
+    /// Fewer or more records than announced.
+    #[error("Count")]
+    Count,
+    /// More records than the form may have.
+    #[error("TooLong")]
+    TooLong,
+    /// The reader answered a fault.
+    #[error("Read")]
+    Read,
+    /// Memory ran out.
+    #[error("Memory")]
+    Memory,
+}
+
+/// The first thing that is wrong with a text, and the number of its record, the first being 1.
+#[derive(Debug, Clone, Copy, PartialEq, Eq, Error)]
+#[error("record {at}: {why}")]
+pub struct TextFault {
+    pub at: u64,
+    pub why: Why,
+}
+
+/// Why a text was not written, in the order in which the reasons are looked for.
+#[derive(Debug, Clone, Copy, PartialEq, Eq, Error)]
+pub enum WriteFault {
+    /// The writer answered a fault.
+    #[error("Write")]
+    Write,
+    /// Memory ran out.
+    #[error("Memory")]
+    Memory,
+}

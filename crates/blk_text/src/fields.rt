@@ -1,0 +1,236 @@
+//! The fields of a record by what may stand in them.
+
+ghost use Rattle.std.specs.Prelude.{◌≡◌, ◌≢◌, ◌<◌, ◌≤◌, ◌^◌, ◌↔◌, ℕ, List, [], ◌∷◌, length, get_or, IsTrue, IfOk, IfErr, MatchOption, decimal, codes};
+ghost use Rattle.csv.specs.Records.{fields_of};
+ghost use Rattle.blk_text.specs.Fields.{EachField, IsBlank, IsDirection, IsNumber, IsInRange, IsShaped, IsSized, Lacks, NumberOf, IsWithin, EachNumber, FieldsSpell, canonical};
+ghost use Rattle.blk_text.specs.Words.{StartsWith, HasNoWord};
+
+use crate::fault::Why;
+use csv::ByteRecord;
+use std::str;
+
+/// The most fields that a record has.
+pub const WIDTH: usize = 6;
+
+/// What may stand in a field of a record.
+#[derive(Debug, Clone, Copy, PartialEq, Eq)]
+pub enum Slot {
+    /// What was looked at before: a word, or the name and version of a form.
+    Given,
+    /// Nothing.
+    Blank,
+    /// R or W.
+    Direction,
+    /// A number from `least` to `most`.
+    Number { least: u64, most: u64 },
+    /// A number up to `most`, one other than 0 perhaps with a minus before it.
+    Lateness { most: u64 },
+}
+
+/// The field at a place, empty where the record has none.
+pub fn field(row: &ByteRecord, place: usize) -> &[u8]
+    ensures { result.now ≡ get_or (fields_of row.now) place [] }
+{
+    match row.get(place) {
+        Some(field) => field,
+        None => &[],
+    }
+}
+
+// Whether a field begins as the digits of a number do: with no sign and no zero before another digit.
+fn is_canonical(field: &[u8]) -> bool
+    ensures { result ≡ canonical field.now }
+{
+    match field {
+        [] => false,
+        [only] => *only != b'+',
+        [first, ..] => *first != b'+' && *first != b'0',
+    }
+}
+
+/// The number that a field writes, in decimal digits with no leading zero.
+pub fn parse_number(field: &[u8]) -> Option<u64>
+    ensures { MatchOption result ((n : ℕ) → n < 2 ^ 64 → field.now ≢ decimal n) (λ n. field.now ≡ decimal n) }
+{
+    if !is_canonical(field) {
+        return None;
+    }
+    let Ok(text) = str::from_utf8(field) else {
+        return None;
+    };
+    match text.parse::<u64>() {
+        Ok(n) => Some(n),
+        Err(_) => None,
+    }
+}
+
+/// What stands after a minus.
+pub fn after_minus(field: &[u8]) -> Option<&[u8]>
+    ensures { MatchOption result (get_or field.now 0 0 ≢ 45) (λ digits. field.now ≡ 45 ∷ digits.now) }
+{
+    match field {
+        [b'-', digits @ ..] => Some(digits),
+        _ => None,
+    }
+}
+
+// The size of a signed number.
+fn parse_sized(field: &[u8]) -> Option<u64>
+    ensures { MatchOption result ((n : ℕ) → n < 2 ^ 64 → ¬ IsSized field.now n) (IsSized field.now) }
+{
+    match after_minus(field) {
+        Some(digits) => match parse_number(digits) {
+            Some(n) => {
+                if n == 0 {
+                    return None;
+                }
+                Some(n)
+            }
+            None => None,
+        },
+        None => parse_number(field),
+    }
+}
+
+// Whether a field is empty where its slot is blank.
+fn is_blank(slot: Slot, field: &[u8]) -> bool
+    ensures { IsTrue result ↔ IsBlank slot field.now }
+{
+    match slot {
+        Slot::Blank => field.is_empty(),
+        Slot::Given | Slot::Direction | Slot::Number { .. } | Slot::Lateness { .. } => true,
+    }
+}
+
+// Whether a field is R or W where its slot is a direction.
+fn is_direction(slot: Slot, field: &[u8]) -> bool
+    ensures { IsTrue result ↔ IsDirection slot field.now }
+{
+    match slot {
+        Slot::Direction => match field {
+            [only] => *only == b'R' || *only == b'W',
+            _ => false,
+        },
+        Slot::Given | Slot::Blank | Slot::Number { .. } | Slot::Lateness { .. } => true,
+    }
+}
+
+// The number of a field, or 0 where its slot has none.
+fn number(slot: Slot, field: &[u8]) -> Option<u64>
+    ensures { MatchOption result (¬ IsNumber slot field.now) (NumberOf slot field.now) }
+{
+    match slot {
+        Slot::Number { .. } => parse_number(field),
+        Slot::Lateness { .. } => parse_sized(field),
+        Slot::Given | Slot::Blank | Slot::Direction => Some(0),
+    }
+}
+
+// Whether a number lies in the range of its slot.
+fn is_within(slot: Slot, number: u64) -> bool
+    ensures { IsTrue result ↔ IsWithin slot number }
+{
+    match slot {
+        Slot::Number { least, most } => least <= number && number <= most,
+        Slot::Lateness { most } => number <= most,
+        Slot::Given | Slot::Blank | Slot::Direction => true,
+    }
+}
+
+// Whether a record has a field for each slot, the blank ones empty.
+fn is_shaped(row: &ByteRecord, slots: &[Slot]) -> bool
+    ensures { IsTrue result ↔ IsShaped slots.now (fields_of row.now) }
+{
+    if row.len() != slots.len() {
+        return false;
+    }
+    for i in 0..slots.len() {
+        if !is_blank(slots[i], field(row, i)) {
+            return false;
+        }
+    }
+    true
+}
+
+// Whether each direction of a record is one.
+fn has_directions(row: &ByteRecord, slots: &[Slot]) -> bool
+    ensures { IsTrue result ↔ EachField IsDirection slots.now (fields_of row.now) }
+{
+    for i in 0..slots.len() {
+        if !is_direction(slots[i], field(row, i)) {
+            return false;
+        }
+    }
+    true
+}
+
+// The numbers of a record's fields by place, if each is one.
+fn numbers_of(row: &ByteRecord, slots: &[Slot]) -> Option<[u64; WIDTH]>
+    requires { length slots.now ≤ 6 }
+    ensures { MatchOption result (¬ EachField IsNumber slots.now (fields_of row.now)) (EachNumber NumberOf slots.now (fields_of row.now)) }
+{
+    let mut numbers = [0; WIDTH];
+    for i in 0..slots.len() {
+        match number(slots[i], field(row, i)) {
+            Some(n) => numbers[i] = n,
+            None => return None,
+        }
+    }
+    Some(numbers)
+}
+
+// Whether each number lies in the range of its slot.
+fn are_within(slots: &[Slot], numbers: &[u64; WIDTH]) -> bool
+    requires { length slots.now ≤ 6 }
+    ensures { IsTrue result ↔ ((k : ℕ) → k < length slots.now → IsWithin (get_or slots.now k Slot.Given) (get_or numbers.now k 0)) }
+{
+    for i in 0..slots.len() {
+        if !is_within(slots[i], numbers[i]) {
+            return false;
+        }
+    }
+    true
+}
+
+/// The numbers of a record's fields by place, 0 where a slot has none, or the first thing that it lacks.
+pub fn read_fields(row: &ByteRecord, slots: &[Slot]) -> Result<[u64; WIDTH], Why>
+    requires { length slots.now ≤ 6 }
+    ensures ok { IfOk result (FieldsSpell slots.now (fields_of row.now)) }
+    ensures err { IfErr result (Lacks slots.now (fields_of row.now)) }
+{
+    if !is_shaped(row, slots) {
+        return Err(Why::Fields);
+    }
+    if !has_directions(row, slots) {
+        return Err(Why::Word);
+    }
+    match numbers_of(row, slots) {
+        None => Err(Why::Number),
+        Some(numbers) => {
+            if are_within(slots, &numbers) {
+                Ok(numbers)
+            } else {
+                Err(Why::Range)
+            }
+        }
+    }
+}
+
+/// The fault of a record that begins with no word of its form.
+pub fn without_word(row: &ByteRecord, width: usize) -> Why
+    ensures { HasNoWord width (fields_of row.now) result }
+{
+    if row.len() == width {
+        Why::Word
+    } else {
+        Why::Fields
+    }
+}
+
+/// Whether a record begins with a word.
+pub fn begins_with(row: &ByteRecord, word: &[u8]) -> bool
+    requires { 0 < length word.now }
+    ensures { IsTrue result ↔ StartsWith word.now (fields_of row.now) }
+{
+    field(row, 0) == word
+}

@@ -1,0 +1,85 @@
+//! Laws of the text forms, each the contract of a function that does nothing.
+
+ghost use Rattle.std.specs.Prelude.{◌≡◌, ℕ, List};
+ghost use Rattle.csv.specs.Reading.{default_config, records, strip_bom};
+ghost use Rattle.edd_check.specs.declared.Command.{Command};
+ghost use Rattle.blk_text.specs.Sources.{Row};
+ghost use Rattle.blk_text.specs.Texts.{rows_text};
+ghost use Rattle.blk_text.specs.Commands.{SpellsCommands, AreCommands, CommandsFault, commands_rows};
+ghost use Rattle.blk_text.specs.Certificate.{Claim, IsClaim, SpellsClaim, ClaimFault, claim_rows};
+ghost use Rattle.blk_trace.specs.Traces.{Traced};
+ghost use Rattle.blk_text.specs.Script.{Scripted, IsScript, SpellsScript, ScriptFault, script_rows};
+ghost use Rattle.blk_text.specs.TraceRecords.{trace_rows};
+ghost use Rattle.blk_text.specs.declared.fault.Why.{Why as AWhy};
+
+/// A list of records spells one depth and one list of commands at most.
+pub fn commands_are_spelled_once()
+    ensures { (rows : List Row) → (depth other : ℕ) → (commands others : List Command)
+        → SpellsCommands rows depth commands → SpellsCommands rows other others
+        → (depth ≡ other) × (commands ≡ others) }
+{}
+
+/// The text of a command list reads back as its records, which spell it.
+pub fn commands_read_back()
+    ensures { (depth : ℕ) → (commands : List Command) → AreCommands depth commands
+        → SpellsCommands (records default_config (strip_bom (rows_text (commands_rows depth commands)))) depth commands }
+{}
+
+/// Records that spell a command list have no fault.
+pub fn spelled_commands_have_no_fault()
+    ensures { (rows : List Row) → (depth : ℕ) → (commands : List Command) → (at : ℕ) → (w : AWhy)
+        → SpellsCommands rows depth commands → CommandsFault rows at w → ⊥ }
+{}
+
+/// Records have one first fault as a command list at most.
+pub fn a_command_list_has_one_fault()
+    ensures { (rows : List Row) → (at other : ℕ) → (w v : AWhy)
+        → CommandsFault rows at w → CommandsFault rows other v → (at ≡ other) × (w ≡ v) }
+{}
+
+/// A list of records spells one certificate at most.
+pub fn certificates_are_spelled_once()
+    ensures { (rows : List Row) → (c d : Claim) → SpellsClaim rows c → SpellsClaim rows d → c ≡ d }
+{}
+
+/// The text of a certificate reads back as its records, which spell it.
+pub fn certificates_read_back()
+    ensures { (c : Claim) → IsClaim c → SpellsClaim (records default_config (strip_bom (rows_text (claim_rows c)))) c }
+{}
+
+/// Records that spell a certificate have no fault.
+pub fn spelled_certificates_have_no_fault()
+    ensures { (rows : List Row) → (c : Claim) → (at : ℕ) → (w : AWhy) → SpellsClaim rows c → ClaimFault rows at w → ⊥ }
+{}
+
+/// Records have one first fault as a certificate at most.
+pub fn a_certificate_has_one_fault()
+    ensures { (rows : List Row) → (at other : ℕ) → (w v : AWhy)
+        → ClaimFault rows at w → ClaimFault rows other v → (at ≡ other) × (w ≡ v) }
+{}
+
+/// A list of records spells one script at most.
+pub fn scripts_are_spelled_once()
+    ensures { (rows : List Row) → (s t : Scripted) → SpellsScript rows s → SpellsScript rows t → s ≡ t }
+{}
+
+/// The text of a script reads back as its records, which spell it.
+pub fn scripts_read_back()
+    ensures { (s : Scripted) → IsScript s → SpellsScript (records default_config (strip_bom (rows_text (script_rows s)))) s }
+{}
+
+/// Records that spell a script have no fault.
+pub fn spelled_scripts_have_no_fault()
+    ensures { (rows : List Row) → (s : Scripted) → (at : ℕ) → (w : AWhy) → SpellsScript rows s → ScriptFault rows at w → ⊥ }
+{}
+
+/// Records have one first fault as a script at most.
+pub fn a_script_has_one_fault()
+    ensures { (rows : List Row) → (at other : ℕ) → (w v : AWhy)
+        → ScriptFault rows at w → ScriptFault rows other v → (at ≡ other) × (w ≡ v) }
+{}
+
+/// The text of a trace reads back as its records.
+pub fn traces_read_back()
+    ensures { (t : Traced) → records default_config (strip_bom (rows_text (trace_rows t))) ≡ trace_rows t }
+{}

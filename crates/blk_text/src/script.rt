@@ -1,0 +1,304 @@
+//! Scripts.
+
+ghost use Rattle.std.specs.Prelude.{◌≡◌, ◌⊎◌, ◌+◌, ◌-◌, ◌≤◌, ◌<◌, ◌^◌, ℕ, IfOk, IfErr, IfSome, MatchOption, get_or, codes, [], length, IsTrue, ◌↔◌};
+ghost use Rattle.csv.specs.Records.{fields_of};
+ghost use Rattle.blk_text.specs.Sources.{input_of, Took};
+ghost use Rattle.blk_text.specs.Faults.{IsOutside, TitleMissing};
+ghost use Rattle.blk_text.specs.Words.{StartsWith};
+ghost use Rattle.blk_text.specs.Fields.{FieldsSpell};
+ghost use Rattle.blk_text.specs.BioRecord.{direction_text};
+ghost use Rattle.blk_text.specs.Script.{word_of, slots_of, LineFits, line_row, StepWrong, SpellsNoBio, title_slots, title_row, IsTitle, FewSubmitters, IsScript, SpellsScript, ScriptFault, scripted};
+ghost use Rattle.blk_text.specs.declared.script.Word.{Word as AWord};
+
+use crate::fault::{TextFault, Why};
+use crate::fields::{Slot, WIDTH, field, read_fields, without_word};
+use crate::lines::{Extent, LineForm, read_lines, read_title};
+use crate::setup::read_setup;
+use crate::source::Records;
+use blk_bio::bio::{Bio, BioId, Dir};
+use blk_trace::setup::Setup;
+use csv::ByteRecord;
+use std::alloc::Global;
+use std::io::Read;
+
+/// The most steps of a script.
+pub const MOST_STEPS: u64 = 999_998;
+
+/// A step of a script, each one record of it.
+#[derive(Clone, Copy, Debug, PartialEq, Eq)]
+pub enum Line {
+    /// A bio enters the plug of its submitter.
+    Bio(Bio),
+    /// The requests of a submitter's plug move into its software queue.
+    Flush(u8),
+    /// The requests of a hardware queue's software queues move into the core.
+    Drain { hw: u8 },
+    /// A hardware queue is asked for a command to go out under a tag.
+    Issue { hw: u8, tag: u16 },
+    /// The command under a tag has completed.
+    Done(u16),
+    /// A round ends.
+    Tick,
+    /// So many rounds of work are done, 1 to 1,000,000.
+    Run(u64),
+}
+
+/// A script: a setup, and what is to be done under it.
+#[derive(Debug, Drop)]
+pub struct Script {
+    pub setup: Setup,
+    /// How many requests a software queue has room for, 1 to 1024.
+    pub soft_depth: u64,
+    /// How many submitters there are, 1 to 64 and at least as many as hardware queues.
+    pub submitters: u64,
+    pub lines: Vec<Line>,
+}
+
+/// The word that a step begins with.
+#[derive(Clone, Copy, Debug, PartialEq, Eq)]
+pub enum Word {
+    Bio,
+    Flush,
+    Drain,
+    Issue,
+    Done,
+    Tick,
+    Run,
+}
+
+// The word of a field.
+fn word_named(field: &[u8]) -> Option<Word>
+    ensures { MatchOption result ((k : AWord) → ¬ (field.now ≡ word_of k)) (λ k. field.now ≡ word_of k) }
+{
+    if field == b"bio".as_slice() {
+        Some(Word::Bio)
+    } else if field == b"flush".as_slice() {
+        Some(Word::Flush)
+    } else if field == b"drain".as_slice() {
+        Some(Word::Drain)
+    } else if field == b"issue".as_slice() {
+        Some(Word::Issue)
+    } else if field == b"done".as_slice() {
+        Some(Word::Done)
+    } else if field == b"tick".as_slice() {
+        Some(Word::Tick)
+    } else if field == b"run".as_slice() {
+        Some(Word::Run)
+    } else {
+        None
+    }
+}
+
+// The direction of a field that is R or W.
+fn direction_of(field: &[u8]) -> Dir
+    requires { (field.now ≡ codes "R") ⊎ (field.now ≡ codes "W") }
+    ensures { field.now ≡ direction_text result }
+{
+    if field == b"R".as_slice() {
+        Dir::Read
+    } else {
+        Dir::Write
+    }
+}
+
+/// The numbers of a script's title.
+#[derive(Clone, Copy, Debug, PartialEq, Eq)]
+pub struct Title {
+    pub depth: u64,
+    pub hw: u8,
+    pub soft_depth: u64,
+    pub submitters: u64,
+}
+
+/// The steps for so many hardware queues and submitters.
+#[derive(Clone, Copy, Drop)]
+pub struct StepForm {
+    hw: u8,
+    submitters: u64,
+    ghost hw_in: { (1 ≤ hw) × (hw ≤ 16) },
+    ghost submitters_in: { (1 ≤ submitters) × (submitters ≤ 64) },
+}
+
+const ANY: Slot = Slot::Number {
+    least: 0,
+    most: u64::MAX,
+};
+
+// The slots of the steps that begin with a word.
+fn step_slots(form: &StepForm, word: Word) -> [Slot; WIDTH]
+    ensures { result ≡ slots_of form.now.hw form.now.submitters word }
+{
+    let submitter = Slot::Number {
+        least: 0,
+        most: form.submitters - 1,
+    };
+    let hw = Slot::Number {
+        least: 0,
+        most: form.hw as u64 - 1,
+    };
+    let tag = Slot::Number {
+        least: 0,
+        most: 65_535,
+    };
+    let rounds = Slot::Number {
+        least: 1,
+        most: 1_000_000,
+    };
+    let none = Slot::Blank;
+    match word {
+        Word::Bio => [Slot::Given, submitter, ANY, Slot::Direction, ANY, ANY],
+        Word::Flush => [Slot::Given, submitter, none, none, none, none],
+        Word::Drain => [Slot::Given, hw, none, none, none, none],
+        Word::Issue => [Slot::Given, hw, tag, none, none, none],
+        Word::Done => [Slot::Given, tag, none, none, none, none],
+        Word::Tick => [Slot::Given, none, none, none, none, none],
+        Word::Run => [Slot::Given, rounds, none, none, none, none],
+    }
+}
+
+// The step of a record whose fields are right for its word.
+fn step_of(
+    form: &StepForm,
+    word: Word,
+    row: &ByteRecord,
+    numbers: &[u64; WIDTH],
+) -> Result<Line, Why>
+    requires starts { StartsWith (word_of word) (fields_of row.now) }
+    requires spells { FieldsSpell (slots_of form.now.hw form.now.submitters word) (fields_of row.now) numbers.now }
+    ensures ok { IfOk result (λ l. (fields_of row.now ≡ line_row l) × LineFits form.now.hw form.now.submitters l) }
+    ensures err { IfErr result (SpellsNoBio form.now.submitters (fields_of row.now)) }
+{
+    match word {
+        Word::Bio => {
+            let id = BioId {
+                submitter: numbers[1] as u8,
+                serial: numbers[2],
+            };
+            match Bio::new(id, direction_of(field(row, 3)), numbers[4], numbers[5]) {
+                Ok(bio) => Ok(Line::Bio(bio)),
+                Err(fault) => Err(Why::Bio(fault)),
+            }
+        }
+        Word::Flush => Ok(Line::Flush(numbers[1] as u8)),
+        Word::Drain => Ok(Line::Drain {
+            hw: numbers[1] as u8,
+        }),
+        Word::Issue => Ok(Line::Issue {
+            hw: numbers[1] as u8,
+            tag: numbers[2] as u16,
+        }),
+        Word::Done => Ok(Line::Done(numbers[1] as u16)),
+        Word::Tick => Ok(Line::Tick),
+        Word::Run => Ok(Line::Run(numbers[1])),
+    }
+}
+
+impl LineForm for StepForm {
+    ghost use Rattle.blk_text.specs.Script.{line_row, LineFits, StepWrong};
+
+    type Line = Line;
+
+    ghost row_of = { λ _. line_row };
+
+    ghost Fits = { λ f. LineFits f.hw f.submitters };
+
+    ghost Refused = { λ f. StepWrong f.hw f.submitters };
+
+    fn line(&self, row: &ByteRecord) -> Result<Line, Why> {
+        let Some(word) = word_named(field(row, 0)) else {
+            return Err(without_word(row, WIDTH));
+        };
+        let slots = step_slots(self, word);
+        match read_fields(row, &slots) {
+            Ok(numbers) => step_of(self, word, row, &numbers),
+            Err(why) => Err(why),
+        }
+    }
+}
+
+// The title of the title record, which is the next one; its submitters are at least as many as its hardware queues.
+fn read_script_title<R: Read + Drop>(records: &mut Records<R>) -> Result<Title, TextFault>
+    requires start { records.old.at ≡ 0 }
+    ensures at { records.new.at ≡ 1 }
+    ensures ok { IfOk result (λ t. Took (λ row. row ≡ title_row t) records.old.left records.new.left) }
+    // also where the reader's bytes are not known
+    ensures title { IfOk result (λ t. IsTitle t × (t.hw ≤ t.submitters)) }
+    ensures err { IfErr result (λ f. IfSome records.old.left (λ rows. IsOutside f.why
+        ⊎ ((f.at ≡ 1) × (TitleMissing (codes "blk-script") title_slots rows f.why ⊎ FewSubmitters rows f.why)))) }
+{
+    let slots = [
+        Slot::Given,
+        Slot::Given,
+        Slot::Number { least: 1, most: 64 },
+        Slot::Number { least: 1, most: 16 },
+        Slot::Number {
+            least: 1,
+            most: 1024,
+        },
+        Slot::Number { least: 1, most: 64 },
+    ];
+    match read_title(records, b"blk-script", &slots) {
+        Ok(numbers) => {
+            if numbers[5] < numbers[3] {
+                return Err(records.fault(Why::Range));
+            }
+            Ok(Title {
+                depth: numbers[2],
+                hw: numbers[3] as u8,
+                soft_depth: numbers[4],
+                submitters: numbers[5],
+            })
+        }
+        Err(fault) => Err(fault),
+    }
+}
+
+/// The script of a text, from its first record on.
+pub fn read_script_from<R: Read + Drop>(
+    alloc: Global,
+    records: &mut Records<R>,
+) -> Result<Script, TextFault>
+    requires { records.old.at ≡ 0 }
+    ensures ok { IfOk result (λ s. IfSome records.old.left (λ rows. SpellsScript rows (scripted s))) }
+    ensures in_range { IfOk result (λ s. IsScript (scripted s)) }
+    ensures err { IfErr result (λ f. IfSome records.old.left (λ rows.
+        IsOutside f.why ⊎ ScriptFault rows f.at f.why)) }
+    ensures reads { records.new.at ≤ 1_000_001 }
+{
+    let title = match read_script_title(records) {
+        Ok(title) => title,
+        Err(fault) => return Err(fault),
+    };
+    let setup = match read_setup(records, title.depth, title.hw) {
+        Ok(setup) => setup,
+        Err(fault) => return Err(fault),
+    };
+    let form = StepForm {
+        hw: title.hw,
+        submitters: title.submitters,
+    };
+    match read_lines(alloc, records, &form, Extent::AtMost(MOST_STEPS)) {
+        Ok(lines) => Ok(Script {
+            setup,
+            soft_depth: title.soft_depth,
+            submitters: title.submitters,
+            lines,
+        }),
+        Err(fault) => Err(fault),
+    }
+}
+
+/// The script of a text of records of six fields: a title with the depth, the hardware queues, the
+/// soft depth and the submitters, a setup, and at most 999,998 steps.
+///
+/// The fault is the first one: of the least record, and in it the first in the order of [`Why`].
+pub fn read_script<R: Read + Drop>(alloc: Global, reader: R) -> Result<Script, TextFault>
+    ensures ok { IfOk result (λ s. IfSome (input_of (R.remaining reader)) (λ rows. SpellsScript rows (scripted s))) }
+    // also where the reader's bytes are not known
+    ensures in_range { IfOk result (λ s. IsScript (scripted s)) }
+    ensures err { IfErr result (λ f. IfSome (input_of (R.remaining reader)) (λ rows.
+        IsOutside f.why ⊎ ScriptFault rows f.at f.why)) }
+{
+    let mut records = Records::new(alloc, reader);
+    read_script_from(alloc, &mut records)
+}

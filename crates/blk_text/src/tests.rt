@@ -1,0 +1,428 @@
+use crate::certificate::{read_certificate, write_certificate};
+use crate::commands::{CommandForm, read_commands, write_commands};
+use crate::fault::{TextFault, Why, WriteFault};
+use crate::lines::{Extent, read_lines};
+use crate::script::{Line, read_script};
+use crate::source::Records;
+use crate::trace::write_trace;
+use blk_bio::bio::{Bio, BioFault, BioId, Dir};
+use blk_bio::limits::Limits;
+use blk_bio::request::Request;
+use blk_trace::event::Event;
+use blk_trace::setup::Setup;
+use blk_trace::trace::Trace;
+use edd_check::Window;
+use std::alloc::Global;
+use std::io;
+use std::io::{ErrorKind, Read, Write};
+use std::test::Fail;
+
+// A reader that gives its text byte by byte, and fails at a read.
+#[derive(Drop)]
+struct Failing<'a> {
+    text: &'a [u8],
+    fails_at: u64,
+}
+
+impl<'a> Read for Failing<'a> {
+    fn read(&mut self, buf: &mut [u8]) -> io::Result<usize> {
+        if self.fails_at == 0 {
+            return Err(io::Error::from(ErrorKind::Other));
+        }
+        self.fails_at -= 1;
+        match self.text.split_first() {
+            Some((first, rest)) => {
+                if buf.is_empty() {
+                    return Ok(0);
+                }
+                buf[0] = *first;
+                self.text = rest;
+                Ok(1)
+            }
+            None => Ok(0),
+        }
+    }
+}
+
+// A writer that takes nothing.
+#[derive(Drop)]
+struct Full;
+
+impl Write for Full {
+    fn write(&mut self, _buf: &[u8]) -> io::Result<usize> {
+        Err(io::Error::from(ErrorKind::Other))
+    }
+
+    fn flush(&mut self) -> io::Result<()> {
+        Ok(())
+    }
+}
+
+#[test]
+fn faults_of_a_command_list(rt: HostRuntime) -> Result<(), Fail> {
+    let alloc = rt.alloc();
+    for (bad, at, why) in [
+        (b"".as_slice(), 1, Why::Title),
+        (b"blk-commands\n".as_slice(), 1, Why::Title),
+        (b"blk-command,1,1\n".as_slice(), 1, Why::Title),
+        (b"blk-commands,2,1\n".as_slice(), 1, Why::Title),
+        (b"\xff,1,1\n".as_slice(), 1, Why::Title),
+        (b"blk-commands,1\n".as_slice(), 1, Why::Fields),
+        (b"blk-commands,1,1\n1,0\n".as_slice(), 2, Why::Fields),
+        (b"blk-commands,1,1\n1,0,0,\n".as_slice(), 2, Why::Fields),
+        (b"blk-commands,1,1\n\"\"\n".as_slice(), 2, Why::Fields),
+        (b"blk-commands,1,01\n".as_slice(), 1, Why::Number),
+        (b"blk-commands,1,+1\n".as_slice(), 1, Why::Number),
+        (b"blk-commands,1,\xff\n".as_slice(), 1, Why::Number),
+        (b"blk-commands,1,1\n1,0,\n".as_slice(), 2, Why::Number),
+        (b"blk-commands,1,1\n1, 0,0\n".as_slice(), 2, Why::Number),
+        (
+            b"blk-commands,1,1\n18446744073709551616,0,0\n".as_slice(),
+            2,
+            Why::Number,
+        ),
+        (
+            b"blk-commands,1,1\n1,0,0\n01,99999999999999,0\n".as_slice(),
+            3,
+            Why::Number,
+        ),
+        (b"blk-commands,1,0\n".as_slice(), 1, Why::Range),
+        (b"blk-commands,1,65\n".as_slice(), 1, Why::Range),
+        (
+            b"blk-commands,1,1\n1,1099511627776,0\n".as_slice(),
+            2,
+            Why::Range,
+        ),
+        (
+            b"blk-commands,1,1\n1,0,2199023255552\n".as_slice(),
+            2,
+            Why::Range,
+        ),
+    ] {
+        assert!(rt; read_commands(alloc, bad).err() == Some(TextFault { at, why }));
+    }
+    Ok(())
+}
+
+#[test]
+fn faults_of_a_script(rt: HostRuntime) -> Result<(), Fail> {
+    let alloc = rt.alloc();
+    for (bad, at, why) in [
+        (b"".as_slice(), 1, Why::Title),
+        (b"blk-script,1,1,1,4\n".as_slice(), 1, Why::Fields),
+        (b"blk-script,1,1,x,4,1\n".as_slice(), 1, Why::Number),
+        (b"blk-script,1,1,17,4,1\n".as_slice(), 1, Why::Range),
+        (b"blk-script,1,1,1,1025,1\n".as_slice(), 1, Why::Range),
+        (b"blk-script,1,1,2,4,1\n".as_slice(), 1, Why::Range),
+        (b"blk-script,1,1,1,4,1\n".as_slice(), 2, Why::Word),
+        (
+            b"blk-script,1,1,1,4,1\nbio,0,0,W,100,8\n".as_slice(),
+            2,
+            Why::Word,
+        ),
+        (
+            b"blk-script,1,1,1,4,1\nsetup,0,9,256,128\n".as_slice(),
+            2,
+            Why::Fields,
+        ),
+        (
+            b"blk-script,1,1,1,4,1\nsetup,0,9,256,128,0\n".as_slice(),
+            2,
+            Why::Fields,
+        ),
+        (
+            b"blk-script,1,1,1,4,1\nsetup,0,9,,128,\n".as_slice(),
+            2,
+            Why::Number,
+        ),
+        (
+            b"blk-script,1,1,1,4,1\nsetup,0,9,256,129,\n".as_slice(),
+            2,
+            Why::Range,
+        ),
+    ] {
+        assert!(rt; read_script(alloc, bad).err() == Some(TextFault { at, why }));
+    }
+    Ok(())
+}
+
+#[test]
+fn faults_of_a_step(rt: HostRuntime) -> Result<(), Fail> {
+    let alloc = rt.alloc();
+    for (step, why) in [
+        (b"foo,0,0,W,100".as_slice(), Why::Fields),
+        (b"flush,0,,,x,".as_slice(), Why::Fields),
+        (b"tick".as_slice(), Why::Fields),
+        (b"foo,0,0,W,100,8".as_slice(), Why::Word),
+        (b"\xff,0,0,W,100,8".as_slice(), Why::Word),
+        (b"bio,9,x,Q,100,8".as_slice(), Why::Word),
+        (b"bio,9,x,R,100,8".as_slice(), Why::Number),
+        (b"bio,2,0,R,100,0".as_slice(), Why::Range),
+        (b"flush,2,,,,".as_slice(), Why::Range),
+        (b"drain,1,,,,".as_slice(), Why::Range),
+        (b"issue,0,65536,,,".as_slice(), Why::Range),
+        (b"done,65536,,,,".as_slice(), Why::Range),
+        (b"run,0,,,,".as_slice(), Why::Range),
+        (b"run,1000001,,,,".as_slice(), Why::Range),
+        (b"bio,0,0,R,100,0".as_slice(), Why::Bio(BioFault::Empty)),
+        (
+            b"bio,0,0,R,281474976710656,1".as_slice(),
+            Why::Bio(BioFault::Range),
+        ),
+    ] {
+        let mut text = Vec::from_slice(alloc, b"blk-script,1,1,1,4,2\nsetup,0,9,256,128,\n")?;
+        text.extend_from_slice(step)?;
+        assert!(rt; read_script(alloc, text.as_slice()).err() == Some(TextFault { at: 3, why }));
+    }
+    Ok(())
+}
+
+#[test]
+fn faults_of_a_certificate(rt: HostRuntime) -> Result<(), Fail> {
+    let alloc = rt.alloc();
+    for (bad, at, why) in [
+        (b"".as_slice(), 1, Why::Title),
+        (b"blk-certificate,1,1\n".as_slice(), 1, Why::Fields),
+        (b"blk-certificate,1,1,-1\n".as_slice(), 1, Why::Number),
+        (b"blk-certificate,1,1,1000001\n".as_slice(), 1, Why::Range),
+        (b"blk-certificate,1,1,0\n".as_slice(), 2, Why::Word),
+        (b"blk-certificate,1,1,0\n1,0,0,0\n".as_slice(), 2, Why::Word),
+        (
+            b"blk-certificate,1,1,0\nbound,none\n".as_slice(),
+            2,
+            Why::Fields,
+        ),
+        (
+            b"blk-certificate,1,1,0\nbound,none,none,0\n".as_slice(),
+            2,
+            Why::Number,
+        ),
+        (
+            b"blk-certificate,1,1,1\nbound,none,none,none\n".as_slice(),
+            2,
+            Why::Number,
+        ),
+        (
+            b"blk-certificate,1,1,1\nbound,-0,0,0\n".as_slice(),
+            2,
+            Why::Number,
+        ),
+        (
+            b"blk-certificate,1,1,0\nbound,-5,0,0\n".as_slice(),
+            2,
+            Why::Range,
+        ),
+        (
+            b"blk-certificate,1,1,1\nbound,-2199023255552,0,0\n".as_slice(),
+            2,
+            Why::Range,
+        ),
+        (
+            b"blk-certificate,1,1,1\nbound,0,0,2199023255552\n".as_slice(),
+            2,
+            Why::Range,
+        ),
+        (
+            b"blk-certificate,1,1,1\nbound,0,0,0\n1,0,0,2199023255552\n".as_slice(),
+            3,
+            Why::Range,
+        ),
+        (
+            b"blk-certificate,1,1,1\nbound,0,0,0\n1,0,0\n".as_slice(),
+            3,
+            Why::Fields,
+        ),
+        (
+            b"blk-certificate,1,1,1\nbound,0,0,0\n1,0,0,00\n".as_slice(),
+            3,
+            Why::Number,
+        ),
+        (
+            b"blk-certificate,1,1,3\nbound,2,0,0\n1,0,0,0\n2,0,0,1\n".as_slice(),
+            5,
+            Why::Count,
+        ),
+        (
+            b"blk-certificate,1,1,1\nbound,0,0,0\n1,0,0,0\n2,0,0,1\n".as_slice(),
+            4,
+            Why::Count,
+        ),
+        (
+            b"blk-certificate,1,1,1\nbound,0,0,0\n1,0,0,0\n2,0,0,x\n".as_slice(),
+            4,
+            Why::Number,
+        ),
+    ] {
+        assert!(rt; read_certificate(alloc, bad).err() == Some(TextFault { at, why }));
+    }
+    Ok(())
+}
+
+#[test]
+fn one_record_too_many(rt: HostRuntime) -> Result<(), Fail> {
+    let alloc = rt.alloc();
+    for (text, why) in [
+        (b"1,0,0\n2,0,0\n3,0,0\n".as_slice(), Why::TooLong),
+        (b"1,0,0\n2,0,0\n3,0,x\n".as_slice(), Why::Number),
+    ] {
+        let mut records = Records::new(alloc, text);
+        let lines = read_lines(alloc, &mut records, &CommandForm, Extent::AtMost(2));
+        assert!(rt; lines.err() == Some(TextFault { at: 3, why }));
+    }
+    Ok(())
+}
+
+// The commands of a text, written again.
+fn again(alloc: Global, text: &[u8]) -> Result<Vec<u8>, Fail> {
+    let mut out = Vec::new(alloc);
+    let (depth, commands) = read_commands(alloc, text)?;
+    write_commands(alloc, depth, commands.as_slice(), &mut out)?;
+    Ok(out)
+}
+
+#[test]
+fn three_at_once(rt: HostRuntime) -> Result<(), Fail> {
+    let alloc = rt.alloc();
+    let text = b"blk-commands,1,1\n1,0,0\n2,0,0\n3,0,0\n".as_slice();
+    for input in [
+        text,
+        b"\xef\xbb\xbfblk-commands,1,1\r\n\n1,0,0\r\n\"2\",0,\"0\"\n\n3,0,0".as_slice(),
+        b"blk-commands,1,1\r1,0,0\r2,0,0\r\"\"3,0,0".as_slice(),
+        b"\"blk-commands\",1,\"1\"\n1,\"0\",0\n2,0,0\n3,0,\"0".as_slice(),
+    ] {
+        let out = again(alloc, input)?;
+        assert!(rt; out.as_slice() == text);
+    }
+    Ok(())
+}
+
+#[test]
+fn certificates_come_back(rt: HostRuntime) -> Result<(), Fail> {
+    let alloc = rt.alloc();
+    for text in [
+        b"blk-certificate,1,1,3\nbound,2,0,0\n1,0,0,0\n2,0,0,1\n3,0,0,2\n".as_slice(),
+        b"blk-certificate,1,1,0\nbound,none,none,none\n".as_slice(),
+        b"blk-certificate,1,64,1\nbound,-5,0,9\n18446744073709551615,0,9,4\n".as_slice(),
+    ] {
+        let mut out = Vec::new(alloc);
+        let certificate = read_certificate(alloc, text)?;
+        write_certificate(alloc, &certificate, &mut out)?;
+        assert!(rt; out.as_slice() == text);
+    }
+    let three = b"blk-certificate,1,1,1\nbound,-3,1,5\n7,1,5,2\n".as_slice();
+    let certificate = read_certificate(alloc, three)?;
+    assert_eq!(rt; certificate.depth, 1);
+    assert!(rt; certificate.rounds.as_slice() == [2].as_slice());
+    let window = Window { from: 1, due: 5 };
+    assert!(rt; certificate.bound == Some((-3, window)));
+    Ok(())
+}
+
+#[test]
+fn steps_of_a_script(rt: HostRuntime) -> Result<(), Fail> {
+    let alloc = rt.alloc();
+    let script = read_script(
+        alloc,
+        b"blk-script,1,1,2,4,3\nsetup,0,9,256,128,\nbio,2,5,W,100,8\nflush,2,,,,\ndrain,1,,,,\nissue,1,65535,,,\ndone,7,,,,\ntick,,,,,\nrun,1000000,,,,\n".as_slice(),
+    )?;
+    assert_eq!(rt; script.setup.hw(), 2);
+    assert_eq!(rt; script.setup.write_expire(), 9);
+    assert_eq!(rt; script.setup.limits().max_sectors(), 256);
+    assert_eq!(rt; script.soft_depth, 4);
+    assert_eq!(rt; script.submitters, 3);
+    let id = BioId {
+        submitter: 2,
+        serial: 5,
+    };
+    let bio = Bio::new(id, Dir::Write, 100, 8)?;
+    let steps = [
+        Line::Bio(bio),
+        Line::Flush(2),
+        Line::Drain { hw: 1 },
+        Line::Issue { hw: 1, tag: 65_535 },
+        Line::Done(7),
+        Line::Tick,
+        Line::Run(1_000_000),
+    ];
+    assert!(rt; script.lines.as_slice() == steps.as_slice());
+    Ok(())
+}
+
+// A request of one bio of 8 sectors.
+fn request_of(alloc: Global, serial: u64, first: u64) -> Result<Request, Fail> {
+    let id = BioId {
+        submitter: 1,
+        serial,
+    };
+    let request = Request::of(alloc, Bio::new(id, Dir::Read, first, 8)?)?;
+    Ok(request)
+}
+
+#[test]
+fn groups_and_joins_are_written(rt: HostRuntime) -> Result<(), Fail> {
+    let alloc = rt.alloc();
+    let limits = Limits::new(256, 128)?;
+    let mut trace = Trace::empty(alloc, Setup::new(1, 1, 0, 9, limits)?)?;
+    let mut request = request_of(alloc, 100, 100)?;
+    let second = request_of(alloc, 101, 108)?;
+    assert!(rt; request.join(second, &limits).is_ok());
+    assert!(rt; trace.push(Event::Release { id: 0, request }).is_ok());
+    let request = request_of(alloc, 116, 116)?;
+    assert!(rt; trace.push(Event::Join { id: 0, request }).is_ok());
+    assert!(rt; trace.push(Event::Issue { id: 0, tag: 0 }).is_ok());
+    assert!(rt; trace.push(Event::Done { tag: 0 }).is_ok());
+    assert!(rt; trace.push(Event::Tick).is_ok());
+    let mut out = Vec::new(alloc);
+    write_trace(alloc, &trace, &mut out)?;
+    let text =
+        b"blk-trace,1,1,1,5,\nsetup,0,9,256,128,\nrelease,0,2,,,\nbio,1,100,R,100,8\nbio,1,101,R,108,8\njoin,0,1,,,\nbio,1,116,R,116,8\nissue,0,0,,,\ndone,0,,,,\ntick,,,,,\n".as_slice();
+    assert!(rt; out.as_slice() == text);
+    assert!(rt; write_trace(alloc, &trace, &mut Full).err() == Some(WriteFault::Write));
+    Ok(())
+}
+
+#[test]
+fn readers_and_writers_that_fail(rt: HostRuntime) -> Result<(), Fail> {
+    let alloc = rt.alloc();
+    let text = b"blk-commands,1,1\n1,0,0\n".as_slice();
+    for (fails_at, at) in [(0, 1), (5, 1), (17, 2), (23, 3)] {
+        let why = Why::Read;
+        let reader = Failing { text, fails_at };
+        assert!(rt; read_commands(alloc, reader).err() == Some(TextFault { at, why }));
+        let reader = Failing { text, fails_at: 0 };
+        assert!(rt; read_script(alloc, reader).err() == Some(TextFault { at: 1, why }));
+        let reader = Failing { text, fails_at: 0 };
+        assert!(rt; read_certificate(alloc, reader).err() == Some(TextFault { at: 1, why }));
+    }
+    let whole = Failing {
+        text,
+        fails_at: 100,
+    };
+    let (depth, commands) = read_commands(alloc, whole)?;
+    assert!(rt;
+        write_commands(alloc, depth, commands.as_slice(), &mut Full).err()
+            == Some(WriteFault::Write)
+    );
+    let none = read_certificate(
+        alloc,
+        b"blk-certificate,1,1,0\nbound,none,none,none\n".as_slice(),
+    )?;
+    assert!(rt; write_certificate(alloc, &none, &mut Full).err() == Some(WriteFault::Write));
+    Ok(())
+}
+
+#[test]
+fn faults_are_printed_by_name(rt: HostRuntime) -> Result<(), Fail> {
+    let alloc = rt.alloc();
+    let fault = TextFault {
+        at: 8,
+        why: Why::Bio(BioFault::Range),
+    };
+    let printed = fault.to_string(alloc)?;
+    assert_eq!(rt; printed.as_str(), "record 8: Range");
+    let printed = Why::TooLong.to_string(alloc)?;
+    assert_eq!(rt; printed.as_str(), "TooLong");
+    let printed = WriteFault::Memory.to_string(alloc)?;
+    assert_eq!(rt; printed.as_str(), "Memory");
+    Ok(())
+}

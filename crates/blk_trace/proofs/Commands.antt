@@ -1,0 +1,80 @@
+-- The commands and their rounds after one more event.
+use Rattle.std.proofs.Common.{◌≡◌, ◌++◌, ◌==◌, ℕ, List, [], ◌∷◌, map, refl, sym, ◌∙◌, ap, Some, append-nil, true, eq-eqb}
+use Rattle.std.proofs.lemmas.List.{map-append}
+use Rattle.std.proofs.lemmas.Bool.{or_left, or_right}
+use Rattle.blk_bio.specs.Bios.{Bio}
+use Rattle.blk_trace.specs.Happened.{Happened, Ticked, Released, Joined, Issued, Finished}
+use Rattle.blk_trace.specs.Setups.{Setup}
+use Rattle.blk_trace.specs.Legal.{IsLegalTrace}
+use Rattle.blk_trace.specs.Events.{round_of}
+use Rattle.blk_trace.specs.Meaning.{release_of, due_of, issued_ids, command_of, commands_of, rounds_of}
+use Rattle.blk_trace.specs.Standing.{Entered, has_id, waits_at}
+use Rattle.blk_trace.proofs.More.{issued_more, rounds_more}
+use Rattle.blk_trace.proofs.Pushing.{shorter_legal, obeys}
+use Rattle.blk_trace.proofs.Ids.{has_issued}
+use Rattle.blk_trace.proofs.Entering.{IsSame, same_entered, stays_out}
+use Rattle.blk_trace.proofs.Waiting.{IsWaiting, waiting_from}
+
+-- two functions that agree on the ids of a list
+pub map_same : {Y : Type 0} (f g : ℕ → Y) (xs : List ℕ) → ((x : ℕ) → has_id xs x ≡ true → f x ≡ g x) → map f xs ≡ map g xs
+map_same f g [] h = refl
+map_same f g (x ∷ xs) h =
+    let one : f x ≡ g x = h x (or_left (x == x) _ (eq-eqb x x refl)) in
+    let more : map f xs ≡ map g xs = map_same f g xs (λ y e. h y (or_right (x == y) _ e)) in
+    cc
+
+same_command : (setup : Setup) (es fs : List Happened) (id : ℕ) → IsSame setup es fs id → command_of setup fs id ≡ command_of setup es id
+same_command setup es fs id same =
+    let release : release_of fs id ≡ release_of es id = same.release in
+    let due : due_of setup fs id ≡ due_of setup es id = same.due in
+    cc
+
+-- those before, and the one that the event issues
+pub commands_more : (setup : Setup) (es : List Happened) (e : Happened) → IsLegalTrace setup (es ++ e ∷ []) → commands_of setup (es ++ e ∷ []) ≡ commands_of setup es ++ map (command_of setup (es ++ e ∷ [])) (issued_ids (e ∷ []))
+unfolding commands_of
+commands_more setup es e legal =
+    let same : map (command_of setup (es ++ e ∷ [])) (issued_ids es) ≡ map (command_of setup es) (issued_ids es) =
+    map_same _ _ (issued_ids es) (λ id h. same_command setup es (es ++ e ∷ []) id (same_entered setup es e id (stays_out setup es e id (shorter_legal setup es e legal) (obeys setup es e legal) (has_issued es id h)))) in
+    ap (map (command_of setup (es ++ e ∷ []))) (issued_more es (e ∷ [])) ∙ map-append (command_of setup (es ++ e ∷ [])) (issued_ids es) (issued_ids (e ∷ [])) ∙ ap (λ l. l ++ map (command_of setup (es ++ e ∷ [])) (issued_ids (e ∷ []))) same
+
+pub commands-ticked : (setup : Setup) (events : List Happened) → IsLegalTrace setup (events ++ Ticked ∷ []) → commands_of setup (events ++ Ticked ∷ []) ≡ commands_of setup events
+unfolding issued_ids
+commands-ticked setup events legal = commands_more setup events Ticked legal ∙ append-nil _
+
+pub commands-released : (setup : Setup) (events : List Happened) (id : ℕ) (bios : List Bio) → IsLegalTrace setup (events ++ Released id bios ∷ []) → commands_of setup (events ++ Released id bios ∷ []) ≡ commands_of setup events
+unfolding issued_ids
+commands-released setup events id bios legal = commands_more setup events (Released id bios) legal ∙ append-nil _
+
+pub commands-joined : (setup : Setup) (events : List Happened) (id : ℕ) (bios : List Bio) → IsLegalTrace setup (events ++ Joined id bios ∷ []) → commands_of setup (events ++ Joined id bios ∷ []) ≡ commands_of setup events
+unfolding issued_ids
+commands-joined setup events id bios legal = commands_more setup events (Joined id bios) legal ∙ append-nil _
+
+pub commands-issued : (setup : Setup) (events : List Happened) (id tag : ℕ) → IsLegalTrace setup (events ++ Issued id tag ∷ []) → (w : Entered) → waits_at setup events id ≡ Some w → commands_of setup (events ++ Issued id tag ∷ []) ≡ commands_of setup events ++ record { id = id; release = w.release; due = w.due } ∷ []
+unfolding issued_ids
+commands-issued setup events id tag legal w waits =
+    let was : IsWaiting setup events id w = waiting_from setup events id w waits in
+    let same : IsSame setup events (events ++ Issued id tag ∷ []) id = same_entered setup events (Issued id tag) id refl in
+    let release : release_of (events ++ Issued id tag ∷ []) id ≡ w.release = same.release ∙ sym was.release_is in
+    let due : due_of setup (events ++ Issued id tag ∷ []) id ≡ w.due = same.due ∙ sym was.due_is in
+    let last : command_of setup (events ++ Issued id tag ∷ []) id ≡ record { id = id; release = w.release; due = w.due } = cc in
+    commands_more setup events (Issued id tag) legal ∙ ap (λ x. commands_of setup events ++ x ∷ []) last
+
+pub commands-finished : (setup : Setup) (events : List Happened) (tag : ℕ) → IsLegalTrace setup (events ++ Finished tag ∷ []) → commands_of setup (events ++ Finished tag ∷ []) ≡ commands_of setup events
+unfolding issued_ids
+commands-finished setup events tag legal = commands_more setup events (Finished tag) legal ∙ append-nil _
+
+-- the rounds
+pub rounds-ticked : (events : List Happened) → rounds_of (events ++ Ticked ∷ []) ≡ rounds_of events
+rounds-ticked events = rounds_more events Ticked ∙ append-nil _
+
+pub rounds-released : (events : List Happened) (id : ℕ) (bios : List Bio) → rounds_of (events ++ Released id bios ∷ []) ≡ rounds_of events
+rounds-released events id bios = rounds_more events (Released id bios) ∙ append-nil _
+
+pub rounds-joined : (events : List Happened) (id : ℕ) (bios : List Bio) → rounds_of (events ++ Joined id bios ∷ []) ≡ rounds_of events
+rounds-joined events id bios = rounds_more events (Joined id bios) ∙ append-nil _
+
+pub rounds-issued : (events : List Happened) (id tag : ℕ) → rounds_of (events ++ Issued id tag ∷ []) ≡ rounds_of events ++ round_of events ∷ []
+rounds-issued events id tag = rounds_more events (Issued id tag)
+
+pub rounds-finished : (events : List Happened) (tag : ℕ) → rounds_of (events ++ Finished tag ∷ []) ≡ rounds_of events
+rounds-finished events tag = rounds_more events (Finished tag) ∙ append-nil _

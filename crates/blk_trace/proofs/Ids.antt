@@ -1,0 +1,119 @@
+-- Ids by place and in the lists of ids; induction over legal lists.
+use Rattle.std.proofs.Common.{◌≡◌, ◌++◌, ◌==◌, ℕ, zero, suc, List, [], ◌∷◌, length, refl, sym, ◌∙◌, ap, subst, arith, inl, inr, true, false, eq-eqb, eqb-true}
+use Rattle.std.specs.Prelude.{◌||◌}
+use Rattle.std.proofs.lemmas.List.Folds.{list_any-append}
+use Rattle.std.proofs.lemmas.Bool.{false_from_ne_true, or_cases, or_left, or_right}
+use Rattle.blk_bio.specs.Bios.{Bio}
+use Rattle.blk_trace.specs.Happened.{Happened, Ticked, Released, Joined, Issued, Finished}
+use Rattle.blk_trace.specs.Setups.{Setup}
+use Rattle.blk_trace.specs.Events.{At, IsReleased, IsIssued}
+use Rattle.blk_trace.specs.Legal.{IsLegalTrace}
+use Rattle.blk_trace.specs.Rules.{IsUnbroken}
+use Rattle.blk_trace.specs.Meaning.{issued_ids, released_ids}
+use Rattle.blk_trace.specs.Standing.{has_id}
+use Rattle.blk_trace.proofs.Places.{of_take}
+use Rattle.blk_trace.proofs.Pushing.{shorter_legal, obeys}
+use Rattle.blk_trace.proofs.More.{issued_more, released_more}
+
+-- a list with an element has a last one
+pub unsnoc : {X : Type 0} (xs : List X) (n : ℕ) → length xs ≡ suc n → (ys : List X) × ((y : X) × (xs ≡ ys ++ y ∷ []) × (length ys ≡ n))
+unsnoc [] n h = absurd (omega arith)
+unsnoc (x ∷ []) n h = ([], (x, refl, omega arith))
+unsnoc (x ∷ y ∷ xs) zero h = absurd (omega arith)
+unsnoc (x ∷ y ∷ xs) (suc n) h =
+    let more = unsnoc (y ∷ xs) n (omega arith) in
+    (x ∷ more.0, (more.1.0, ap (λ l. x ∷ l) more.1.1, omega (arith, more.1.2)))
+
+-- induction over lists from the left
+from_right : (P : List Happened → Type 0) → P [] → ((es : List Happened) (e : Happened) → P es → P (es ++ e ∷ [])) → (n : ℕ) (es : List Happened) → length es ≡ n → P es
+from_right P base step zero [] h = base
+from_right P base step zero (e ∷ es) h = absurd (omega arith)
+from_right P base step (suc n) es h =
+    let u = unsnoc es n h in
+    subst P (sym u.1.1) (step u.0 u.1.0 (from_right P base step n u.0 u.1.2))
+
+pub by_events : (P : List Happened → Type 0) → P [] → ((es : List Happened) (e : Happened) → P es → P (es ++ e ∷ [])) → (es : List Happened) → P es
+by_events P base step es = from_right P base step (length es) es refl
+
+-- induction over legal lists, one event after the other
+pub by_legal : (setup : Setup) (P : List Happened → Type 0) → P [] → ((es : List Happened) (e : Happened) → IsLegalTrace setup (es ++ e ∷ []) → IsLegalTrace setup es → IsUnbroken setup es e → P es → P (es ++ e ∷ [])) → (es : List Happened) → IsLegalTrace setup es → P es
+by_legal setup P base step es legal =
+    by_events (λ l. IsLegalTrace setup l → P l) (λ _. base) (λ l e h new. step l e new (shorter_legal setup l e new) (obeys setup l e new) (h (shorter_legal setup l e new))) es legal
+
+-- the ids in the lists are those of the places
+pub released_has : (es : List Happened) (k id : ℕ) (q : List Bio) → At es k (Released id q) → has_id (released_ids es) id ≡ true
+unfolding released_ids
+released_has [] k id q h = absurd (cc)
+released_has (Ticked ∷ es) zero id q h = absurd (cc)
+released_has (Released i r ∷ es) zero id q h = or_left (i == id) _ (eq-eqb i id (cc))
+released_has (Joined i r ∷ es) zero id q h = absurd (cc)
+released_has (Issued i t ∷ es) zero id q h = absurd (cc)
+released_has (Finished t ∷ es) zero id q h = absurd (cc)
+released_has (Ticked ∷ es) (suc k) id q h = released_has es k id q h
+released_has (Released i r ∷ es) (suc k) id q h = or_right (i == id) _ (released_has es k id q h)
+released_has (Joined i r ∷ es) (suc k) id q h = released_has es k id q h
+released_has (Issued i t ∷ es) (suc k) id q h = released_has es k id q h
+released_has (Finished t ∷ es) (suc k) id q h = released_has es k id q h
+
+pub has_released : (es : List Happened) (id : ℕ) → has_id (released_ids es) id ≡ true → IsReleased es id
+unfolding released_ids
+has_released [] id h = absurd (cc)
+has_released (Ticked ∷ es) id h = let p = has_released es id h in (suc p.0, p.1)
+has_released (Released i r ∷ es) id h = elim (or_cases (i == id) _ h) [
+  | inl p ↦ (0, (r, let same : i ≡ id = eqb-true i id p in cc))
+  | inr p ↦ let q = has_released es id p in (suc q.0, q.1)
+]
+has_released (Joined i r ∷ es) id h = let p = has_released es id h in (suc p.0, p.1)
+has_released (Issued i t ∷ es) id h = let p = has_released es id h in (suc p.0, p.1)
+has_released (Finished t ∷ es) id h = let p = has_released es id h in (suc p.0, p.1)
+
+pub issued_has : (es : List Happened) (k id tag : ℕ) → At es k (Issued id tag) → has_id (issued_ids es) id ≡ true
+unfolding issued_ids
+issued_has [] k id q h = absurd (cc)
+issued_has (Ticked ∷ es) zero id q h = absurd (cc)
+issued_has (Released i r ∷ es) zero id q h = absurd (cc)
+issued_has (Joined i r ∷ es) zero id q h = absurd (cc)
+issued_has (Issued i t ∷ es) zero id q h = or_left (i == id) _ (eq-eqb i id (cc))
+issued_has (Finished t ∷ es) zero id q h = absurd (cc)
+issued_has (Ticked ∷ es) (suc k) id q h = issued_has es k id q h
+issued_has (Released i r ∷ es) (suc k) id q h = issued_has es k id q h
+issued_has (Joined i r ∷ es) (suc k) id q h = issued_has es k id q h
+issued_has (Issued i t ∷ es) (suc k) id q h = or_right (i == id) _ (issued_has es k id q h)
+issued_has (Finished t ∷ es) (suc k) id q h = issued_has es k id q h
+
+pub has_issued : (es : List Happened) (id : ℕ) → has_id (issued_ids es) id ≡ true → IsIssued es id
+unfolding issued_ids
+has_issued [] id h = absurd (cc)
+has_issued (Ticked ∷ es) id h = let p = has_issued es id h in (suc p.0, p.1)
+has_issued (Released i r ∷ es) id h = let p = has_issued es id h in (suc p.0, p.1)
+has_issued (Joined i r ∷ es) id h = let p = has_issued es id h in (suc p.0, p.1)
+has_issued (Issued i t ∷ es) id h = elim (or_cases (i == id) _ h) [
+  | inl p ↦ (0, (t, let same : i ≡ id = eqb-true i id p in cc))
+  | inr p ↦ let q = has_issued es id p in (suc q.0, q.1)
+]
+has_issued (Finished t ∷ es) id h = let p = has_issued es id h in (suc p.0, p.1)
+
+pub not_released : (es : List Happened) (id : ℕ) → (IsReleased es id → ⊥) → has_id (released_ids es) id ≡ false
+not_released es id h = false_from_ne_true _ (λ t. h (has_released es id t))
+
+pub not_issued : (es : List Happened) (id : ℕ) → (IsIssued es id → ⊥) → has_id (issued_ids es) id ≡ false
+not_issued es id h = false_from_ne_true _ (λ t. h (has_issued es id t))
+
+-- with one more event
+pub has_released_more : (es : List Happened) (e : Happened) (id : ℕ) → has_id (released_ids (es ++ e ∷ [])) id ≡ (has_id (released_ids es) id || has_id (released_ids (e ∷ [])) id)
+has_released_more es e id = ap (λ l. has_id l id) (released_more es (e ∷ [])) ∙ list_any-append (λ i. i == id) (released_ids es) (released_ids (e ∷ []))
+
+pub has_issued_more : (es : List Happened) (e : Happened) (id : ℕ) → has_id (issued_ids (es ++ e ∷ [])) id ≡ (has_id (issued_ids es) id || has_id (issued_ids (e ∷ [])) id)
+has_issued_more es e id = ap (λ l. has_id l id) (issued_more es (e ∷ [])) ∙ list_any-append (λ i. i == id) (issued_ids es) (issued_ids (e ∷ []))
+
+-- an id that was issued was released
+pub released_first : (setup : Setup) (es : List Happened) (id : ℕ) → IsLegalTrace setup es → IsIssued es id → IsReleased es id
+released_first setup es id old p =
+    let q = old.issue_released p.0 id p.1.0 p.1.1 in
+    (q.0, (q.1.0, of_take p.0 es q.0 _ q.1.1))
+
+-- an id that was joined was released
+pub joined_after : (setup : Setup) (es : List Happened) (k id : ℕ) (n : List Bio) → IsLegalTrace setup es → At es k (Joined id n) → IsReleased es id
+joined_after setup es k id n old h =
+    let q = old.join_released k id n h in
+    (q.0, (q.1.0, of_take k es q.0 _ q.1.1))

@@ -1,0 +1,101 @@
+-- Each word of a list of events with one more event.
+use Rattle.std.proofs.Common.{◌≡◌, ◌≤◌, ◌+◌, ◌++◌, ℕ, List, [], ◌∷◌, length, refl, sym, ◌∙◌, ap, arith, append-nil, cond, Bool}
+use Rattle.std.specs.Prelude.{Option, count_by, fold, max}
+use Rattle.std.specs.List.{flat_map, filter_map, cons_option}
+use Rattle.std.proofs.lemmas.List.Concat.{flat_map-append}
+use Rattle.std.proofs.lemmas.List.Elements.{filter_map-append}
+use Rattle.std.proofs.lemmas.List.Sums.{sum_by-cons, sum_by-append, fold-append, count_by-le-length}
+use Rattle.blk_trace.specs.Happened.{Happened, Ticked, Released, Joined, Issued, Finished}
+use Rattle.blk_trace.specs.Setups.{Setup}
+use Rattle.blk_trace.specs.Events.{is_tick, round_of, entry, join_up, request_of}
+use Rattle.blk_trace.specs.Meaning.{timed, entry_round, entry_due, release_of, due_of, issued_ids, released_ids, issue_round, rounds_of, greatest, least}
+use Rattle.blk_trace.specs.Standing.{after_last_tick, this_round}
+
+-- the ids
+pub issued_more : (es fs : List Happened) → issued_ids (es ++ fs) ≡ issued_ids es ++ issued_ids fs
+unfolding issued_ids
+issued_more [] fs = refl
+issued_more (Ticked ∷ es) fs = issued_more es fs
+issued_more (Released id q ∷ es) fs = issued_more es fs
+issued_more (Joined id q ∷ es) fs = issued_more es fs
+issued_more (Issued id tag ∷ es) fs = ap (λ l. id ∷ l) (issued_more es fs)
+issued_more (Finished tag ∷ es) fs = issued_more es fs
+
+pub released_more : (es fs : List Happened) → released_ids (es ++ fs) ≡ released_ids es ++ released_ids fs
+unfolding released_ids
+released_more [] fs = refl
+released_more (Ticked ∷ es) fs = released_more es fs
+released_more (Released id q ∷ es) fs = ap (λ l. id ∷ l) (released_more es fs)
+released_more (Joined id q ∷ es) fs = released_more es fs
+released_more (Issued id tag ∷ es) fs = released_more es fs
+released_more (Finished tag ∷ es) fs = released_more es fs
+
+-- counts and rounds
+pub more_of : (p : Happened → Bool) (es : List Happened) (e : Happened) → count_by p (es ++ e ∷ []) ≡ count_by p es + cond (p e) 1 0
+more_of p es e = sum_by-append (λ (x : Happened). cond (p x) 1 0) es (e ∷ []) ∙ ap (λ n. count_by p es + n) (omega arith)
+
+pub round_more : (es : List Happened) (e : Happened) → round_of (es ++ e ∷ []) ≡ round_of es + cond (is_tick e) 1 0
+unfolding round_of
+round_more es e = more_of is_tick es e
+
+-- there are no more rounds than events
+pub rounds_within : (es : List Happened) → round_of es ≤ length es
+unfolding round_of
+rounds_within es = count_by-le-length is_tick es
+
+-- the round after a list that begins in a given round
+pub round_cons : (e : Happened) (es : List Happened) (r : ℕ) → r + round_of (e ∷ es) ≡ cond (is_tick e) (r + 1) r + round_of es
+unfolding round_of
+round_cons Ticked es r = omega (arith, sum_by-cons (λ (x : Happened). cond (is_tick x) 1 0) Ticked es)
+round_cons (Released i q) es r = omega (arith, sum_by-cons (λ (x : Happened). cond (is_tick x) 1 0) (Released i q) es)
+round_cons (Joined i q) es r = omega (arith, sum_by-cons (λ (x : Happened). cond (is_tick x) 1 0) (Joined i q) es)
+round_cons (Issued i tag) es r = omega (arith, sum_by-cons (λ (x : Happened). cond (is_tick x) 1 0) (Issued i tag) es)
+round_cons (Finished tag) es r = omega (arith, sum_by-cons (λ (x : Happened). cond (is_tick x) 1 0) (Finished tag) es)
+
+pub timed_more : (r : ℕ) (es : List Happened) (e : Happened) → timed r (es ++ e ∷ []) ≡ timed r es ++ (r + round_of es, e) ∷ []
+unfolding timed round_of
+timed_more r [] e = ap (λ n. (n, e) ∷ []) (omega arith)
+timed_more r (x ∷ es) e =
+    ap (λ l. (r, x) ∷ l) (timed_more (cond (is_tick x) (r + 1) r) es e ∙ ap (λ n. timed (cond (is_tick x) (r + 1) r) es ++ (n, e) ∷ []) (sym (round_cons x es r)))
+
+pub timed_push : (es : List Happened) (e : Happened) → timed 0 (es ++ e ∷ []) ≡ timed 0 es ++ (round_of es, e) ∷ []
+timed_push es e = timed_more 0 es e ∙ ap (λ n. timed 0 es ++ (n, e) ∷ []) (let z : 0 + round_of es ≡ round_of es = omega arith in z)
+
+-- what a part of each timed event gives
+pub timed_part : {X : Type 0} (f : ℕ × Happened → Option X) (es : List Happened) (e : Happened) → filter_map f (timed 0 (es ++ e ∷ [])) ≡ filter_map f (timed 0 es) ++ cons_option (f (round_of es, e)) []
+timed_part f es e = ap (filter_map f) (timed_push es e) ∙ filter_map-append f (timed 0 es) ((round_of es, e) ∷ [])
+
+pub rounds_more : (es : List Happened) (e : Happened) → rounds_of (es ++ e ∷ []) ≡ rounds_of es ++ cons_option (issue_round (round_of es, e)) []
+unfolding rounds_of
+rounds_more es e = timed_part issue_round es e
+
+-- the request, release and due round of an id
+pub request_more : (es : List Happened) (e : Happened) (id : ℕ) → request_of (es ++ e ∷ []) id ≡ fold join_up (request_of es id) (entry id e)
+unfolding request_of
+request_more es e id =
+    ap (fold join_up []) (flat_map-append (entry id) es (e ∷ []) ∙ ap (λ l. flat_map (entry id) es ++ l) (append-nil (entry id e))) ∙ fold-append join_up [] (flat_map (entry id) es) (entry id e)
+
+pub release_more : (es : List Happened) (e : Happened) (id : ℕ) → release_of (es ++ e ∷ []) id ≡ fold max (release_of es id) (cons_option (entry_round id (round_of es, e)) [])
+unfolding release_of
+release_more es e id = ap greatest (timed_part (entry_round id) es e) ∙ fold-append max 0 (filter_map (entry_round id) (timed 0 es)) (cons_option (entry_round id (round_of es, e)) [])
+
+-- the due rounds of an id's bios
+unfoldable pub dues : Setup → List Happened → ℕ → List ℕ
+dues setup es id = filter_map (entry_due setup id) (timed 0 es)
+
+pub due_is : (setup : Setup) (es : List Happened) (id : ℕ) → due_of setup es id ≡ least (dues setup es id)
+unfolding due_of dues
+due_is setup es id = refl
+
+pub dues_more : (setup : Setup) (es : List Happened) (e : Happened) (id : ℕ) → dues setup (es ++ e ∷ []) id ≡ dues setup es id ++ cons_option (entry_due setup id (round_of es, e)) []
+unfolding dues
+dues_more setup es e id = timed_part (entry_due setup id) es e
+
+-- the round that is on
+after_more : (before es : List Happened) (e : Happened) → after_last_tick before (es ++ e ∷ []) ≡ cond (is_tick e) [] (after_last_tick before es ++ e ∷ [])
+after_more before [] e = refl
+after_more before (x ∷ es) e = after_more (cond (is_tick x) [] (before ++ x ∷ [])) es e
+
+pub now_more : (es : List Happened) (e : Happened) → this_round (es ++ e ∷ []) ≡ cond (is_tick e) [] (this_round es ++ e ∷ [])
+unfolding this_round
+now_more es e = after_more [] es e

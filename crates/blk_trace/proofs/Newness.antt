@@ -1,0 +1,167 @@
+-- Bios whose ids stand once.
+use Rattle.std.proofs.Common.{◌≡◌, ◌≢◌, ◌<◌, ◌≤◌, ◌+◌, ◌++◌, ◌*◌, ◌==◌, ◌↔◌, ℕ, zero, suc, List, [], ◌∷◌, length, take, refl, sym, ◌∙◌, ap, subst, arith, inl, inr, Some, None, cond, Bool, true, false, IsTrue, eqb-true, eq-eqb}
+use Rattle.std.specs.Prelude.{slice_get, ◌⊎◌, ◌&&◌, ◌||◌, not, Option}
+use Rattle.std.specs.List.{list_any}
+use Rattle.std.proofs.lemmas.Bool.{cases_Bool, or_cases, or_left, or_right, and_parts, false_from_ne_true}
+use Rattle.std.proofs.lemmas.Option.{slice_get_within}
+use Rattle.std.proofs.lemmas.List.Folds.{list_any-append}
+use Rattle.std.proofs.lemmas.Map.Keys.{any_passes_from_place}
+use Rattle.blk_bio.specs.Bios.{Bio}
+use Rattle.blk_bio.specs.declared.bio.BioId.{BioId}
+use Rattle.blk_trace.specs.Happened.{Happened}
+use Rattle.blk_trace.specs.Events.{entered, bios_of, AreOnce}
+use Rattle.blk_trace.specs.Traces.{HasBio}
+use Rattle.blk_trace.specs.Kept.{is_bio, has_bio_id}
+use Rattle.std.proofs.Common.{get_or}
+use Rattle.std.proofs.lemmas.List.{take_more, take_all}
+use Rattle.blk_trace.proofs.Places.{of_take}
+use Rattle.blk_trace.proofs.Pushing.{entered_more, once_fewer}
+
+pub same_bio : (x y : BioId) → is_bio x y ≡ true → x ≡ y
+same_bio x y h =
+    let both = and_parts (x.submitter == y.submitter) (x.serial == y.serial) h in
+    let s : x.submitter ≡ y.submitter = eqb-true x.submitter y.submitter both.0 in
+    let n : x.serial ≡ y.serial = eqb-true x.serial y.serial both.1 in
+    ap (λ (k : ℕ). let r : BioId = record { submitter = k; serial = x.serial } in r) s ∙ ap (λ (k : ℕ). let r : BioId = record { submitter = y.submitter; serial = k } in r) n
+
+pub bio_same : (x y : BioId) → x ≡ y → is_bio x y ≡ true
+bio_same x y h =
+    let s : (x.submitter == y.submitter) ≡ true = eq-eqb x.submitter y.submitter (ap (λ (b : BioId). b.submitter) h) in
+    let n : (x.serial == y.serial) ≡ true = eq-eqb x.serial y.serial (ap (λ (b : BioId). b.serial) h) in
+    ap (λ b. b && (x.serial == y.serial)) s ∙ ap (λ b. true && b) n
+
+-- a bio at a place is among the bios, and the way back
+pub has_at : (bs : List Bio) (k : ℕ) (b : Bio) (id : BioId) → slice_get bs k ≡ Some b → b.id ≡ id → has_bio_id bs id ≡ true
+has_at bs k b id h same = any_passes_from_place (λ (x : Bio). is_bio x.id id) bs k b h (bio_same b.id id same)
+
+pub at_has : (bs : List Bio) (id : BioId) → has_bio_id bs id ≡ true → (k : ℕ) × ((b : Bio) × (slice_get bs k ≡ Some b) × (b.id ≡ id))
+at_has [] id h = absurd (cc)
+at_has (b ∷ bs) id h = elim (or_cases (is_bio b.id id) _ h) [
+  | inl p ↦ (0, (b, refl, same_bio b.id id p))
+  | inr p ↦ let q = at_has bs id p in (suc q.0, q.1)
+]
+
+-- where an element of two lists stands
+pub in_either : {X : Type 0} (xs ys : List X) (j : ℕ) (x : X) → slice_get (xs ++ ys) j ≡ Some x → (slice_get xs j ≡ Some x) ⊎ ((k : ℕ) × ((j ≡ length xs + k) × (slice_get ys k ≡ Some x)))
+in_either [] ys j x h = inr (j, (omega arith, h))
+in_either (z ∷ xs) ys zero x h = inl h
+in_either (z ∷ xs) ys (suc j) x h = elim (in_either xs ys j x h) [ inl p ↦ inl p | inr p ↦ inr (p.0, (omega (arith, p.1.0), p.1.1)) ]
+
+pub in_second : {X : Type 0} (xs ys : List X) (k : ℕ) (x : X) → slice_get ys k ≡ Some x → slice_get (xs ++ ys) (length xs + k) ≡ Some x
+in_second [] ys k x h = ap (λ n. slice_get ys n) (let e : 0 + k ≡ k = omega arith in e) ∙ h
+in_second (z ∷ xs) ys k x h = ap (λ n. slice_get (z ∷ xs ++ ys) n) (let e : suc (length xs) + k ≡ suc (length xs + k) = omega arith in e) ∙ in_second xs ys k x h
+
+pub in_first : {X : Type 0} (xs ys : List X) (k : ℕ) (x : X) → slice_get xs k ≡ Some x → slice_get (xs ++ ys) k ≡ Some x
+in_first [] ys k x h = absurd (cc)
+in_first (z ∷ xs) ys zero x h = h
+in_first (z ∷ xs) ys (suc k) x h = in_first xs ys k x h
+
+-- no bio of the second list has the id of one of the first
+abbrev pub AreApart : List Bio → List Bio → Type 0
+AreApart xs ys = (k : ℕ) (b : Bio) → slice_get ys k ≡ Some b → has_bio_id xs b.id ≡ false
+
+pub once_both : (xs ys : List Bio) → AreOnce xs → AreOnce ys → AreApart xs ys → AreOnce (xs ++ ys)
+once_both xs ys one two apart j k b c h l same =
+    elim (in_either xs ys j b h) [
+      | inl p ↦ elim (in_either xs ys k c l) [
+        | inl q ↦ one j k b c p q same
+        | inr q ↦ absurd (let t : has_bio_id xs c.id ≡ true = has_at xs j b c.id p same in let f : has_bio_id xs c.id ≡ false = apart q.0 c q.1.1 in cc)
+      ]
+      | inr p ↦ elim (in_either xs ys k c l) [
+        | inl q ↦ absurd (let t : has_bio_id xs b.id ≡ true = has_at xs k c b.id q (sym same) in let f : has_bio_id xs b.id ≡ false = apart p.0 b p.1.1 in cc)
+        | inr q ↦ omega (arith, p.1.0, q.1.0, two p.0 q.0 b c p.1.1 q.1.1 same)
+      ]
+    ]
+
+pub once_second : (xs ys : List Bio) → AreOnce (xs ++ ys) → AreOnce ys
+once_second xs ys h j k b c p q same = omega (arith, h (length xs + j) (length xs + k) b c (in_second xs ys j b p) (in_second xs ys k c q) same)
+
+pub once_apart : (xs ys : List Bio) → AreOnce (xs ++ ys) → AreApart xs ys
+once_apart xs ys h k b p = false_from_ne_true _ (λ t. let q = at_has xs b.id t in absurd (omega (arith, h q.0 (length xs + k) q.1.0 b (in_first xs ys q.0 q.1.0 q.1.1) (in_second xs ys k b p) q.1.2, slice_get_within xs q.0 q.1.0 q.1.1)))
+
+once_single : (b : Bio) → AreOnce (b ∷ [])
+once_single b zero zero x y h l same = refl
+once_single b zero (suc k) x y h l same = absurd (cc)
+once_single b (suc j) k x y h l same = absurd (cc)
+
+apart_single : (xs : List Bio) (b : Bio) → has_bio_id xs b.id ≡ false → AreApart xs (b ∷ [])
+apart_single xs b fresh zero x h = subst (λ (y : Bio). has_bio_id xs y.id ≡ false) (let e : b ≡ x = cc in e) fresh
+apart_single xs b fresh (suc k) x h = absurd (cc)
+
+-- one bio more
+pub once_push : (xs : List Bio) (b : Bio) → AreOnce xs → has_bio_id xs b.id ≡ false → AreOnce (xs ++ b ∷ [])
+once_push xs b one fresh = once_both xs (b ∷ []) one (once_single b) (apart_single xs b fresh)
+
+-- whether the ids of some bios are in a set whose ids are those of other bios
+not_so : (b : Bool) → not b ≡ true → b ≡ false
+not_so true h = absurd (cc)
+not_so false h = refl
+
+neither : (a b : Bool) → (a || b) ≡ false → (a ≡ false) × (b ≡ false)
+neither true b h = absurd (cc)
+neither false b h = (refl, h)
+
+any_apart : (xs ys : List Bio) (ids : BioId → Bool) → ((id : BioId) → ids id ≡ has_bio_id xs id) → list_any (λ (b : Bio). ids b.id) ys ≡ false → AreApart xs ys
+any_apart xs [] ids are h k b p = absurd (cc)
+any_apart xs (y ∷ ys) ids are h zero b p =
+    let both = neither (ids y.id) (list_any (λ (x : Bio). ids x.id) ys) h in
+    subst (λ (x : Bio). has_bio_id xs x.id ≡ false) (let e : y ≡ b = cc in e) (sym (are y.id) ∙ both.0)
+any_apart xs (y ∷ ys) ids are h (suc k) b p = any_apart xs ys ids are (neither (ids y.id) (list_any (λ (x : Bio). ids x.id) ys) h).1 k b p
+
+any_from : (xs ys : List Bio) (ids : BioId → Bool) → ((id : BioId) → ids id ≡ has_bio_id xs id) → list_any (λ (b : Bio). ids b.id) ys ≡ true → (k : ℕ) × ((b : Bio) × (slice_get ys k ≡ Some b) × (has_bio_id xs b.id ≡ true))
+any_from xs [] ids are h = absurd (cc)
+any_from xs (y ∷ ys) ids are h = elim (or_cases (ids y.id) _ h) [
+  | inl p ↦ (0, (y, refl, sym (are y.id) ∙ p))
+  | inr p ↦ let q = any_from xs ys ids are p in (suc q.0, q.1)
+]
+
+-- what the kept ids say of new bios
+pub new_bios : (es : List Happened) (ids : BioId → Bool) (bs : List Bio) (once any r : Bool) → ((id : BioId) → ids id ≡ has_bio_id (entered es) id) → AreOnce (entered es)
+    → (IsTrue once ↔ AreOnce bs) → any ≡ list_any (λ (b : Bio). ids b.id) bs → r ≡ (once && not any) → IsTrue r ↔ AreOnce (entered es ++ bs)
+new_bios es ids bs once any r are old apart hany hr = (
+  λ t.
+      let both = and_parts once (not any) (sym hr ∙ t) in
+      once_both (entered es) bs old (apart.0 both.0) (any_apart (entered es) bs ids are (sym hany ∙ not_so any both.1)),
+  λ all.
+      let one : once ≡ true = apart.1 (once_second (entered es) bs all) in
+      let none : any ≡ false = false_from_ne_true any (λ t. let q = any_from (entered es) bs ids are (sym hany ∙ t) in absurd (let f : has_bio_id (entered es) q.1.0.id ≡ false = once_apart (entered es) bs all q.0 q.1.0 q.1.1 in let g : has_bio_id (entered es) q.1.0.id ≡ true = q.1.2 in cc)) in
+      hr ∙ ap (λ x. x && not any) one ∙ ap (λ x. true && not x) none,
+)
+
+pub has_bio : (es : List Happened) (id : BioId) (r : Bool) → r ≡ has_bio_id (entered es) id → IsTrue r ↔ HasBio es id
+has_bio es id r h = (λ t. at_has (entered es) id (sym h ∙ t), λ p. h ∙ has_at (entered es) p.0 p.1.0 id p.1.1 p.1.2)
+
+-- the ids that are known with one more event
+pub ids_more : (es : List Happened) (e : Happened) (id : BioId) → has_bio_id (entered (es ++ e ∷ [])) id ≡ (has_bio_id (entered es) id || has_bio_id (bios_of e) id)
+ids_more es e id = ap (λ l. has_bio_id l id) (entered_more es e) ∙ list_any-append (λ (b : Bio). is_bio b.id id) (entered es) (bios_of e)
+
+pub not_apart : (xs bs : List Bio) (once : Bool) → once ≡ false → (IsTrue once ↔ AreOnce bs) → IsTrue once ↔ AreOnce (xs ++ bs)
+not_apart xs bs once f apart = (λ t. absurd (cc), λ all. apart.1 (once_second xs bs all))
+
+pub get_at : {X : Type 0} (xs : List X) (i : ℕ) (d : X) → i < length xs → slice_get xs i ≡ Some (get_or xs i d)
+get_at [] i d h = absurd (omega arith)
+get_at (x ∷ xs) zero d h = refl
+get_at (x ∷ xs) (suc i) d h = get_at xs i d (omega arith)
+
+below_take : {X : Type 0} (xs : List X) (i k : ℕ) (x : X) → slice_get (take i xs) k ≡ Some x → k < i
+below_take xs zero k x h = absurd (cc)
+below_take [] (suc i) k x h = absurd (cc)
+below_take (y ∷ xs) (suc i) zero x h = omega arith
+below_take (y ∷ xs) (suc i) (suc k) x h = omega (arith, below_take xs i k x h)
+
+-- a bio whose id stands before it in the list
+pub found_twice : (bs : List Bio) (i : ℕ) (x : Bio) (id : BioId) → i < length bs → x ≡ get_or bs i x → id ≡ x.id → has_bio_id (take i bs) id ≡ true → AreOnce bs → ⊥
+found_twice bs i x id h is same t all =
+    let q = at_has (take i bs) id t in
+    let here : slice_get bs i ≡ Some x = get_at bs i x h ∙ ap Some (sym is) in
+    let one : q.0 ≡ i = all q.0 i q.1.0 x (of_take i bs q.0 q.1.0 q.1.1) here (q.1.2 ∙ same) in
+    absurd (omega (arith, one, below_take bs i q.0 q.1.0 q.1.1))
+
+pub once_step : (bs : List Bio) (i : ℕ) (x : Bio) (id : BioId) → i < length bs → x ≡ get_or bs i x → id ≡ x.id → has_bio_id (take i bs) id ≡ false → AreOnce (take i bs) → AreOnce (take (i + 1) bs)
+once_step bs i x id h is same f one =
+    let next : take (i + 1) bs ≡ take i bs ++ x ∷ [] = take_more bs i x h ∙ ap (λ y. take i bs ++ y ∷ []) (sym is) in
+    let P : List Bio → Type 0 = λ l. AreOnce l in
+    subst P (sym next) (once_push (take i bs) x one (subst (λ n. has_bio_id (take i bs) n ≡ false) same f))
+
+pub once_whole : (bs : List Bio) (i : ℕ) → length bs ≤ i → AreOnce (take i bs) → AreOnce bs
+once_whole bs i h one = let P : List Bio → Type 0 = λ l. AreOnce l in subst P (take_all i bs h) one

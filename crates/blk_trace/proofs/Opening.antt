@@ -1,0 +1,209 @@
+-- How many commands of each direction are in flight after one more event.
+use Rattle.std.proofs.Common.{◌≡◌, ◌<◌, ◌≤◌, ◌+◌, ◌++◌, ◌==◌, ℕ, List, [], ◌∷◌, refl, sym, ◌∙◌, ap, subst, arith, inl, inr, Some, None, append-nil, cond, Bool, true, false, ne_eqb, eq-eqb, eqb-true}
+use Rattle.std.specs.Prelude.{Option, ◌&&◌, not, count_by}
+use Rattle.std.specs.List.{filter_map, cons_option}
+use Rattle.std.proofs.lemmas.List.Elements.{filter_map-append}
+use Rattle.std.proofs.lemmas.Bool.{cases_Bool}
+use Rattle.blk_bio.specs.Bios.{Bio}
+use Rattle.blk_bio.specs.declared.bio.Dir.{Dir}
+use Rattle.blk_bio.specs.declared.bio.Dir.TheVariants.{Read, Write}
+use Rattle.blk_bio.specs.Requests.{dir_of}
+use Rattle.blk_trace.specs.declared.rule.TraceRule.TheVariants.{TagUsed, InFlight, Unknown, AlreadyIssued}
+use Rattle.blk_trace.specs.Happened.{Happened, Ticked, Released, Joined, Issued, Finished}
+use Rattle.blk_trace.specs.Setups.{Setup}
+use Rattle.blk_trace.specs.Events.{is_tick, is_issue, is_done, open_count, request_of, IsOpen}
+use Rattle.blk_trace.specs.Meaning.{release_of, due_of}
+use Rattle.blk_trace.specs.Legal.{IsLegalTrace}
+use Rattle.blk_trace.specs.Rules.{IsUnbroken}
+use Rattle.blk_trace.specs.Standing.{Entered, Seat, waits_at, seat_at, this_round, issued_by, issue_tag, same_dir, is_flying, open_of}
+use Rattle.blk_trace.proofs.Pushing.{shorter_legal, obeys}
+use Rattle.blk_trace.proofs.More.{more_of}
+use Rattle.blk_trace.proofs.Ids.{by_legal}
+use Rattle.blk_trace.proofs.Waiting.{waits_for}
+use Rattle.blk_trace.proofs.Seats.{taken, ended, now_tick, now_push, taken_tick, taken_kept, taken_new, not_taken}
+use Rattle.blk_trace.proofs.Steady.{IsSeat, seat_parts, no_seat, steady, seat-released, seat-joined, seat-issued, seat-finished, finished-open, open_seat}
+use Rattle.blk_trace.proofs.Counting.{one_if, count_none, count_same, count_push, count_without, count_once}
+
+-- the tags of the round, in the order of their Issues
+unfoldable pub tags : List Happened → List ℕ
+tags es = filter_map issue_tag (this_round es)
+
+pub tags_tick : (es : List Happened) → tags (es ++ Ticked ∷ []) ≡ []
+unfolding tags
+tags_tick es = ap (filter_map issue_tag) (now_tick es)
+
+pub tags_more : (es : List Happened) (e : Happened) → is_tick e ≡ false → tags (es ++ e ∷ []) ≡ tags es ++ cons_option (issue_tag e) []
+unfolding tags
+tags_more es e h = ap (filter_map issue_tag) (now_push es e h) ∙ filter_map-append issue_tag (this_round es) (e ∷ [])
+
+pub tags_kept : (es : List Happened) (e : Happened) → is_tick e ≡ false → issue_tag e ≡ None → tags (es ++ e ∷ []) ≡ tags es
+tags_kept es e h n = tags_more es e h ∙ ap (λ o. tags es ++ cons_option o []) n ∙ append-nil _
+
+-- a tag stands once among them where it is taken, and else not
+abbrev pub number : Option ℕ → ℕ
+number None = 0
+number (Some _) = 1
+
+once_kept : (u : ℕ) (es : List Happened) (e : Happened) → is_tick e ≡ false → issue_tag e ≡ None → issued_by u e ≡ None → count_by (λ t. u == t) (tags es) ≡ number (taken es u) → count_by (λ t. u == t) (tags (es ++ e ∷ [])) ≡ number (taken (es ++ e ∷ []) u)
+once_kept u es e h n i ih = ap (count_by (λ t. u == t)) (tags_kept es e h n) ∙ ih ∙ ap number (sym (taken_kept es e u h i))
+
+once_step : (setup : Setup) (u : ℕ) (es : List Happened) (e : Happened) → IsUnbroken setup es e → count_by (λ t. u == t) (tags es) ≡ number (taken es u) → count_by (λ t. u == t) (tags (es ++ e ∷ [])) ≡ number (taken (es ++ e ∷ []) u)
+once_step setup u es Ticked all ih = ap (count_by (λ t. u == t)) (tags_tick es) ∙ ap number (sym (taken_tick es u))
+once_step setup u es (Released i q) all ih = once_kept u es (Released i q) refl refl refl ih
+once_step setup u es (Joined i q) all ih = once_kept u es (Joined i q) refl refl refl ih
+once_step setup u es (Finished t) all ih = once_kept u es (Finished t) refl refl refl ih
+once_step setup u es (Issued i v) all ih =
+    let more : count_by (λ t. u == t) (tags (es ++ Issued i v ∷ [])) ≡ count_by (λ t. u == t) (tags es) + one_if (u == v) = ap (count_by (λ t. u == t)) (tags_more es (Issued i v) refl) ∙ count_push (λ t. u == t) (tags es) v in
+    elim (cases_Bool (v == u)) [
+      | inl b ↦
+          let same : v ≡ u = eqb-true v u b in
+          let none : taken es u ≡ None = subst (λ x. taken es x ≡ None) same (not_taken es v (all TagUsed)) in
+          let before : number (taken es u) ≡ 0 = ap number none in
+          let one : one_if (u == v) ≡ 1 = rw (eq-eqb u v (sym same)) refl in
+          let now : number (taken (es ++ Issued i v ∷ []) u) ≡ 1 = ap number (taken_new es i v u b none) in
+          omega arith
+      | inr b ↦
+          let other : one_if (u == v) ≡ 0 = rw (ne_eqb u v (λ e. absurd (let t : (v == u) ≡ true = eq-eqb v u (sym e) in cc))) refl in
+          let kept : number (taken (es ++ Issued i v ∷ []) u) ≡ number (taken es u) = ap number (taken_kept es (Issued i v) u refl (rw b refl)) in
+          omega arith
+    ]
+
+pub tag_count : (setup : Setup) (es : List Happened) (u : ℕ) → IsLegalTrace setup es → count_by (λ t. u == t) (tags es) ≡ number (taken es u)
+unfolding tags taken this_round
+tag_count setup es u legal = by_legal setup (λ l. count_by (λ t. u == t) (tags l) ≡ number (taken l u)) refl (λ l e new old all ih. once_step setup u l e all ih) es legal
+
+-- commands in flight, over the tags
+abbrev flies : List Happened → Dir → ℕ → Bool
+flies es d t = is_flying d (seat_at es t)
+
+open_is : (es : List Happened) (d : Dir) → open_of es d ≡ count_by (flies es d) (tags es)
+unfolding open_of tags
+open_is es d = refl
+
+pub open-ticked : (setup : Setup) (events : List Happened) → IsLegalTrace setup (events ++ Ticked ∷ []) → (d : Dir) → open_of (events ++ Ticked ∷ []) d ≡ 0
+open-ticked setup events legal d = open_is (events ++ Ticked ∷ []) d ∙ ap (count_by (flies (events ++ Ticked ∷ []) d)) (tags_tick events)
+
+and_no : (x y : Bool) → y ≡ false → (x && y) ≡ false
+and_no true y h = h
+and_no false y h = refl
+
+and_yes : (x y : Bool) → y ≡ true → (x && y) ≡ x
+and_yes true y h = h
+and_yes false y h = refl
+
+grounded : (d : Dir) (o : Option Seat) → ((seat : Seat) → o ≡ Some seat → seat.in_flight ≡ false) → is_flying d o ≡ false
+grounded d None h = refl
+grounded d (Some seat) h = and_no (same_dir d seat.dir) seat.in_flight (h seat refl)
+
+pub open-before_tick : (setup : Setup) (events : List Happened) → IsLegalTrace setup (events ++ Ticked ∷ []) → (d : Dir) → open_of events d ≡ 0
+open-before_tick setup events legal d =
+    let old = shorter_legal setup events _ legal in
+    let all = obeys setup events _ legal in
+    open_is events d ∙ count_none (flies events d) (tags events) (λ t. grounded d (seat_at events t) (λ seat h.
+    let was : IsSeat events t seat = seat_parts events t seat h in
+    elim (cases_Bool (ended events t)) [
+      | inl b ↦ was.flying_is ∙ ap not b
+      | inr b ↦ absurd (all InFlight t ((steady setup events old).opens t was.id was.taken_is b))
+    ]))
+
+pub open-released : (setup : Setup) (events : List Happened) (id : ℕ) (bios : List Bio) → IsLegalTrace setup (events ++ Released id bios ∷ []) → (d : Dir) → open_of (events ++ Released id bios ∷ []) d ≡ open_of events d
+open-released setup events id bios legal d =
+    open_is (events ++ Released id bios ∷ []) d ∙ ap (count_by (flies (events ++ Released id bios ∷ []) d)) (tags_kept events (Released id bios) refl refl) ∙ count_same _ (flies events d) (tags events) (λ t. ap (is_flying d) (seat-released setup events id bios legal t)) ∙ sym (open_is events d)
+
+pub open-joined : (setup : Setup) (events : List Happened) (id : ℕ) (bios : List Bio) → IsLegalTrace setup (events ++ Joined id bios ∷ []) → (d : Dir) → open_of (events ++ Joined id bios ∷ []) d ≡ open_of events d
+open-joined setup events id bios legal d =
+    open_is (events ++ Joined id bios ∷ []) d ∙ ap (count_by (flies (events ++ Joined id bios ∷ []) d)) (tags_kept events (Joined id bios) refl refl) ∙ count_same _ (flies events d) (tags events) (λ t. ap (is_flying d) (seat-joined setup events id bios legal t)) ∙ sym (open_is events d)
+
+pub open-issued : (setup : Setup) (events : List Happened) (id tag : ℕ) → IsLegalTrace setup (events ++ Issued id tag ∷ []) → (w : Entered) → waits_at setup events id ≡ Some w → (d : Dir) → open_of (events ++ Issued id tag ∷ []) d ≡ open_of events d + cond (same_dir d (dir_of w.bios)) 1 0
+open-issued setup events id tag legal w waits d =
+    let es : List Happened = events ++ Issued id tag ∷ [] in
+    let old = shorter_legal setup events _ legal in
+    let all = obeys setup events _ legal in
+    let none : taken events tag ≡ None = not_taken events tag (all TagUsed) in
+    let seat : (t : ℕ) → seat_at es t ≡ cond (tag == t) (Some (record { dir = dir_of w.bios; in_flight = true })) (seat_at events t) = λ t. seat-issued setup events id tag legal w waits t in
+    let other : (t : ℕ) → (tag == t) ≡ false → flies events d t ≡ flies es d t = λ t b. sym (ap (is_flying d) (seat t ∙ rw b refl)) in
+    let was : flies events d tag ≡ false = ap (is_flying d) (no_seat events tag none) in
+    let here : seat_at es tag ≡ Some (record { dir = dir_of w.bios; in_flight = true }) = seat tag ∙ rw (eq-eqb tag tag refl) refl in
+    let is : flies es d tag ≡ same_dir d (dir_of w.bios) = ap (is_flying d) here ∙ and_yes (same_dir d (dir_of w.bios)) true refl in
+    let zero_before : count_by (λ t. tag == t) (tags events) ≡ 0 = tag_count setup events tag old ∙ ap number none in
+    let one_more : one_if (flies es d tag) ≡ one_if (same_dir d (dir_of w.bios)) = ap one_if is in
+    let none_before : one_if (flies events d tag) ≡ 0 = ap one_if was in
+    let kept : count_by (flies events d) (tags events) ≡ count_by (flies es d) (tags events) = count_without (flies events d) (flies es d) tag (one_if (same_dir d (dir_of w.bios))) (tags events) other (omega arith) zero_before in
+    let push : count_by (flies es d) (tags events ++ tag ∷ []) ≡ count_by (flies es d) (tags events) + one_if (flies es d tag) = count_push (flies es d) (tags events) tag in
+    let now : open_of es d ≡ count_by (flies es d) (tags events ++ tag ∷ []) = open_is es d ∙ ap (count_by (flies es d)) (tags_more events (Issued id tag) refl) in
+    omega (arith, open_is events d)
+
+pub open-finished : (setup : Setup) (events : List Happened) (tag : ℕ) → IsLegalTrace setup (events ++ Finished tag ∷ []) → (dir : Dir) → seat_at events tag ≡ Some (record { dir = dir; in_flight = true }) → (d : Dir) → open_of (events ++ Finished tag ∷ []) d + cond (same_dir d dir) 1 0 ≡ open_of events d
+open-finished setup events tag legal dir taken_is d =
+    let es : List Happened = events ++ Finished tag ∷ [] in
+    let old = shorter_legal setup events _ legal in
+    let was : IsSeat events tag (record { dir = dir; in_flight = true }) = seat_parts events tag _ taken_is in
+    let seat : (t : ℕ) → seat_at es t ≡ cond (tag == t) (Some (record { dir = dir; in_flight = false })) (seat_at events t) = λ t. seat-finished setup events tag legal _ taken_is t in
+    let other : (t : ℕ) → (tag == t) ≡ false → flies es d t ≡ flies events d t = λ t b. ap (is_flying d) (seat t ∙ rw b refl) in
+    let here : seat_at es tag ≡ Some (record { dir = dir; in_flight = false }) = seat tag ∙ rw (eq-eqb tag tag refl) refl in
+    let is : flies es d tag ≡ false = ap (is_flying d) here ∙ and_no (same_dir d dir) false refl in
+    let before : flies events d tag ≡ same_dir d dir = ap (is_flying d) taken_is ∙ and_yes (same_dir d dir) true refl in
+    let none_now : one_if (flies es d tag) ≡ 0 = ap one_if is in
+    let one_before : one_if (flies events d tag) ≡ one_if (same_dir d dir) = ap one_if before in
+    let one : count_by (λ t. tag == t) (tags events) ≡ 1 = tag_count setup events tag old ∙ ap number was.taken_is in
+    let fewer : count_by (flies es d) (tags events) + one_if (same_dir d dir) ≡ count_by (flies events d) (tags events) = count_once (flies es d) (flies events d) tag (one_if (same_dir d dir)) (tags events) other (omega arith) one in
+    let now : open_of es d ≡ count_by (flies es d) (tags events) = open_is es d ∙ ap (count_by (flies es d)) (tags_kept events (Finished tag) refl refl) in
+    omega (arith, open_is events d)
+
+-- both directions, and all commands
+one_dir : (d : Dir) → cond (same_dir Read d) 1 0 + cond (same_dir Write d) 1 0 ≡ 1
+one_dir Read = refl
+one_dir Write = refl
+
+both_step : (setup : Setup) (es : List Happened) (e : Happened) → IsLegalTrace setup (es ++ e ∷ []) → open_of es Read + open_of es Write + count_by is_done es ≡ count_by is_issue es → open_of (es ++ e ∷ []) Read + open_of (es ++ e ∷ []) Write + count_by is_done (es ++ e ∷ []) ≡ count_by is_issue (es ++ e ∷ [])
+both_step setup es Ticked legal ih = omega (arith, ih, more_of is_done es Ticked, more_of is_issue es Ticked, open-ticked setup es legal Read, open-ticked setup es legal Write, open-before_tick setup es legal Read, open-before_tick setup es legal Write)
+both_step setup es (Released i q) legal ih = omega (arith, ih, more_of is_done es (Released i q), more_of is_issue es (Released i q), open-released setup es i q legal Read, open-released setup es i q legal Write)
+both_step setup es (Joined i q) legal ih = omega (arith, ih, more_of is_done es (Joined i q), more_of is_issue es (Joined i q), open-joined setup es i q legal Read, open-joined setup es i q legal Write)
+both_step setup es (Issued i t) legal ih =
+    let all = obeys setup es _ legal in
+    let w : Entered = record { release = release_of es i; due = due_of setup es i; bios = request_of es i } in
+    let waits : waits_at setup es i ≡ Some w = waits_for setup es i (all Unknown) (all AlreadyIssued) in
+    let reads = open-issued setup es i t legal w waits Read in
+    let writes = open-issued setup es i t legal w waits Write in
+    omega (arith, ih, more_of is_done es (Issued i t), more_of is_issue es (Issued i t), reads, writes, one_dir (dir_of (request_of es i)))
+both_step setup es (Finished t) legal ih =
+    let p = finished-open setup es t legal in
+    let reads = open-finished setup es t legal p.0 p.1 Read in
+    let writes = open-finished setup es t legal p.0 p.1 Write in
+    omega (arith, ih, more_of is_done es (Finished t), more_of is_issue es (Finished t), reads, writes, one_dir p.0)
+
+pub open_all : (setup : Setup) (events : List Happened) → IsLegalTrace setup events → open_of events Read + open_of events Write + count_by is_done events ≡ count_by is_issue events
+unfolding open_of this_round
+open_all setup events legal = by_legal setup (λ l. open_of l Read + open_of l Write + count_by is_done l ≡ count_by is_issue l) refl (λ l e new old all ih. both_step setup l e new ih) events legal
+
+pub open-both : (setup : Setup) (events : List Happened) → IsLegalTrace setup events → open_of events Read + open_of events Write ≡ open_count events
+unfolding open_count
+open-both setup events legal = omega (arith, open_all setup events legal)
+
+-- where a tag is open, a command is in flight
+count_positive : (p : ℕ → Bool) (u : ℕ) (xs : List ℕ) → p u ≡ true → count_by (λ x. u == x) xs ≡ 1 → 0 < count_by p xs
+count_positive p u xs h one =
+    let at : one_if (false) + 1 ≡ one_if (p u) = rw h refl in
+    let less = count_once (λ x. cond (u == x) false (p x)) p u 1 xs (λ x b. rw b refl) (rw (eq-eqb u u refl, h) refl) one in
+    omega (arith, less)
+
+same_self : (d : Dir) → (same_dir d d && true) ≡ true
+same_self Read = refl
+same_self Write = refl
+
+either_dir : (events : List Happened) (d : Dir) → 0 < open_of events d → 0 < open_of events Read + open_of events Write
+either_dir events Read h = omega arith
+either_dir events Write h = omega arith
+
+pub open_positive : (setup : Setup) (events : List Happened) (tag : ℕ) → IsLegalTrace setup events → IsOpen events tag → 0 < open_count events
+open_positive setup events tag legal o =
+    let p = open_seat setup events tag legal o in
+    let was : IsSeat events tag (record { dir = p.0; in_flight = true }) = seat_parts events tag _ p.1 in
+    let one : count_by (λ t. tag == t) (tags events) ≡ 1 = tag_count setup events tag legal ∙ ap number was.taken_is in
+    let flying : flies events p.0 tag ≡ true = ap (is_flying p.0) p.1 ∙ same_self p.0 in
+    let some : 0 < open_of events p.0 = rw (open_is events p.0) (count_positive (flies events p.0) tag (tags events) flying one) in
+    omega (arith, either_dir events p.0 some, open-both setup events legal)
+
+-- a legal list has no more Dones than Issues
+pub open_issues : (setup : Setup) (events : List Happened) → IsLegalTrace setup events → count_by is_done events ≤ count_by is_issue events
+open_issues setup events legal = omega (arith, open_all setup events legal)

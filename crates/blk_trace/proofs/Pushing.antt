@@ -1,0 +1,214 @@
+-- A list with one more event is legal exactly where the list is, and the event obeys each rule.
+use Rattle.std.proofs.Common.{◌≡◌, ◌≤◌, ◌+◌, ◌++◌, ℕ, List, [], ◌∷◌, length, refl, sym, ◌∙◌, ap, subst, arith, length-append, inl, inr, append-nil, cond}
+use Rattle.std.specs.Prelude.{count_by}
+use Rattle.std.specs.List.{flat_map}
+use Rattle.std.proofs.lemmas.List.Concat.{flat_map-append}
+use Rattle.std.proofs.lemmas.List.Sums.{sum_by-append}
+use Rattle.std.proofs.lemmas.Option.{slice_get_within}
+use Rattle.blk_bio.specs.Bios.{Bio}
+use Rattle.blk_trace.specs.Happened.{Happened, Ticked, Released, Joined, Issued, Finished}
+use Rattle.blk_trace.specs.declared.rule.TraceRule.{TraceRule}
+use Rattle.blk_trace.specs.declared.rule.TraceRule.TheVariants.{ReleasedTwice, Unknown, AlreadyIssued, BioTwice, Fit, TagRange, TagUsed, NotIssued, InFlight, TooLong}
+use Rattle.blk_trace.specs.Setups.{Setup}
+use Rattle.blk_trace.specs.Events.{At, round_of, round_at, bios_of, entered, is_issue, is_done, open_count, AreOnce}
+use Rattle.blk_trace.specs.Legal.{IsLegalTrace}
+use Rattle.blk_trace.specs.Rules.{Obeys, IsUnbroken}
+use Rattle.blk_trace.proofs.Places.{split, keep, last, before, before_last}
+
+-- no events are legal
+pub empty_legal : (setup : Setup) → IsLegalTrace setup []
+unfolding entered open_count
+empty_legal setup = record {
+  released_once = λ j k id q r h l. absurd (cc);
+  join_released = λ k id n h. absurd (cc);
+  join_unissued = λ j k id tag n h l. absurd (cc);
+  issue_released = λ k id tag h. absurd (cc);
+  issued_once = λ j k id t u h l. absurd (cc);
+  tag_range = λ k id tag h. absurd (cc);
+  tag_once = λ j k i l tag h m s. absurd (cc);
+  done_open = λ k tag h. absurd (cc);
+  tick_closed = λ k tag h o. absurd (cc);
+  bios_once = λ j k b c h l s. absurd (cc);
+  release_within = λ k id q h. absurd (cc);
+  join_fits = λ k id n h. absurd (cc);
+  not_too_long = omega arith;
+}
+
+-- what enters with one more event
+pub entered_more : (es : List Happened) (e : Happened) → entered (es ++ e ∷ []) ≡ entered es ++ bios_of e
+unfolding entered
+entered_more es e = flat_map-append bios_of es (e ∷ []) ∙ ap (λ l. flat_map bios_of es ++ l) (append-nil (bios_of e))
+
+-- no bio enters by an event that is no Released or Joined
+pub once_more : (setup : Setup) (es : List Happened) (e : Happened) → AreOnce (entered es) → Obeys setup es e BioTwice → AreOnce (entered es ++ bios_of e)
+once_more setup es Ticked old h = rw append-nil old
+once_more setup es (Released id q) old h = h
+once_more setup es (Joined id q) old h = h
+once_more setup es (Issued id tag) old h = rw append-nil old
+once_more setup es (Finished tag) old h = rw append-nil old
+
+-- the last rule is the same for every event
+pub short_enough : (setup : Setup) (es : List Happened) (e : Happened) → Obeys setup es e TooLong → length (es ++ e ∷ []) + open_count (es ++ e ∷ []) ≤ 1000000
+short_enough setup es Ticked h = h
+short_enough setup es (Released id q) h = h
+short_enough setup es (Joined id q) h = h
+short_enough setup es (Issued id tag) h = h
+short_enough setup es (Finished tag) h = h
+
+-- a legal list with an event that obeys each rule is legal
+pub push_legal : (setup : Setup) (es : List Happened) (e : Happened) → IsLegalTrace setup es → IsUnbroken setup es e → IsLegalTrace setup (es ++ e ∷ [])
+push_legal setup es e old all =
+    let told : (x : Happened) (r : TraceRule) → e ≡ x → Obeys setup es x r = λ x r h. subst (λ y. Obeys setup es y r) h (all r) in
+    record {
+      released_once = λ j k id q r h l.
+          elim (split es e j _ h) [
+            | inl a ↦ elim (split es e k _ l) [
+              | inl b ↦ old.released_once j k id q r a b
+              | inr b ↦ absurd (told _ ReleasedTwice b.1 (j, (q, a)))
+            ]
+            | inr a ↦ elim (split es e k _ l) [
+              | inl b ↦ absurd (told _ ReleasedTwice a.1 (k, (r, b)))
+              | inr b ↦ a.0 ∙ sym b.0
+            ]
+          ];
+      join_released = λ k id n h.
+          elim (split es e k _ h) [
+            | inl a ↦ rw (before es (e ∷ []) k _ a) (old.join_released k id n a)
+            | inr a ↦ rw (before_last es e k a.0) (told _ Unknown a.1)
+          ];
+      join_unissued = λ j k id tag n h l.
+          elim (split es e j _ h) [
+            | inl a ↦ elim (split es e k _ l) [
+              | inl b ↦ old.join_unissued j k id tag n a b
+              | inr b ↦ omega (arith, b.0, slice_get_within es j _ a)
+            ]
+            | inr a ↦ elim (split es e k _ l) [
+              | inl b ↦ absurd (told _ AlreadyIssued a.1 (k, (tag, b)))
+              | inr b ↦ absurd (let c : Joined id n ≡ Issued id tag = sym a.1 ∙ b.1 in cc)
+            ]
+          ];
+      issue_released = λ k id tag h.
+          elim (split es e k _ h) [
+            | inl a ↦ rw (before es (e ∷ []) k _ a) (old.issue_released k id tag a)
+            | inr a ↦ rw (before_last es e k a.0) (told _ Unknown a.1)
+          ];
+      issued_once = λ j k id t u h l.
+          elim (split es e j _ h) [
+            | inl a ↦ elim (split es e k _ l) [
+              | inl b ↦ old.issued_once j k id t u a b
+              | inr b ↦ absurd (told _ AlreadyIssued b.1 (j, (t, a)))
+            ]
+            | inr a ↦ elim (split es e k _ l) [
+              | inl b ↦ absurd (told _ AlreadyIssued a.1 (k, (u, b)))
+              | inr b ↦ a.0 ∙ sym b.0
+            ]
+          ];
+      tag_range = λ k id tag h.
+          elim (split es e k _ h) [
+            | inl a ↦ old.tag_range k id tag a
+            | inr a ↦ told _ TagRange a.1
+          ];
+      tag_once = λ j k i l tag h m same.
+          elim (split es e j _ h) [
+            | inl a ↦ elim (split es e k _ m) [
+              | inl b ↦ old.tag_once j k i l tag a b (ap round_of (sym (before es (e ∷ []) j _ a)) ∙ same ∙ ap round_of (before es (e ∷ []) k _ b))
+              | inr b ↦ absurd (told _ TagUsed b.1 record { place = j; id = i; issued = a; now = ap round_of (sym (before es (e ∷ []) j _ a)) ∙ same ∙ ap round_of (before_last es e k b.0) })
+            ]
+            | inr a ↦ elim (split es e k _ m) [
+              | inl b ↦ absurd (told _ TagUsed a.1 record { place = k; id = l; issued = b; now = ap round_of (sym (before es (e ∷ []) k _ b)) ∙ sym same ∙ ap round_of (before_last es e j a.0) })
+              | inr b ↦ a.0 ∙ sym b.0
+            ]
+          ];
+      done_open = λ k tag h.
+          elim (split es e k _ h) [
+            | inl a ↦ rw (before es (e ∷ []) k _ a) (old.done_open k tag a)
+            | inr a ↦ rw (before_last es e k a.0) (told _ NotIssued a.1)
+          ];
+      tick_closed = λ k tag h.
+          elim (split es e k _ h) [
+            | inl a ↦ rw (before es (e ∷ []) k _ a) (old.tick_closed k tag a)
+            | inr a ↦ rw (before_last es e k a.0) (told _ InFlight a.1 tag)
+          ];
+      bios_once = rw (entered_more es e) (once_more setup es e old.bios_once (all BioTwice));
+      release_within = λ k id q h.
+          elim (split es e k _ h) [
+            | inl a ↦ old.release_within k id q a
+            | inr a ↦ told _ Fit a.1
+          ];
+      join_fits = λ k id n h.
+          elim (split es e k _ h) [
+            | inl a ↦ rw (before es (e ∷ []) k _ a) (old.join_fits k id n a)
+            | inr a ↦ rw (before_last es e k a.0) (told _ Fit a.1)
+          ];
+      not_too_long = short_enough setup es e (all TooLong);
+    }
+
+one_done : (e : Happened) → count_by is_done (e ∷ []) ≤ 1
+one_done Ticked = omega arith
+one_done (Released id q) = omega arith
+one_done (Joined id q) = omega arith
+one_done (Issued id tag) = omega arith
+one_done (Finished tag) = omega arith
+
+-- the events with a Finished for each open Issued are no fewer with one more event
+pub open_more : (es : List Happened) (e : Happened) → length es + open_count es ≤ length (es ++ e ∷ []) + open_count (es ++ e ∷ [])
+unfolding open_count
+open_more es e =
+    let issues : count_by is_issue (es ++ e ∷ []) ≡ count_by is_issue es + count_by is_issue (e ∷ []) = sum_by-append (λ (x : Happened). cond (is_issue x) 1 0) es (e ∷ []) in
+    let dones : count_by is_done (es ++ e ∷ []) ≡ count_by is_done es + count_by is_done (e ∷ []) = sum_by-append (λ (x : Happened). cond (is_done x) 1 0) es (e ∷ []) in
+    let one : count_by is_done (e ∷ []) ≤ 1 = one_done e in
+    let long : length (es ++ e ∷ []) ≡ length es + 1 = length-append es (e ∷ []) in
+    omega (arith, issues, dones, one, long)
+
+-- bios that stand once in a longer list do in a shorter one
+pub once_fewer : (bs cs : List Bio) → AreOnce (bs ++ cs) → AreOnce bs
+once_fewer bs cs h = λ j k b c x y same. h j k b c (keep bs cs j b x) (keep bs cs k c y) same
+
+-- a legal list is legal without its last event
+pub shorter_legal : (setup : Setup) (es : List Happened) (e : Happened) → IsLegalTrace setup (es ++ e ∷ []) → IsLegalTrace setup es
+shorter_legal setup es e new =
+    let up : (k : ℕ) (x : Happened) → At es k x → At (es ++ e ∷ []) k x = λ k x h. keep es (e ∷ []) k x h in
+    record {
+      released_once = λ j k id q r h l. new.released_once j k id q r (up j _ h) (up k _ l);
+      join_released = λ k id n h. rw (before es (e ∷ []) k _ h) at (new.join_released k id n (up k _ h));
+      join_unissued = λ j k id tag n h l. new.join_unissued j k id tag n (up j _ h) (up k _ l);
+      issue_released = λ k id tag h. rw (before es (e ∷ []) k _ h) at (new.issue_released k id tag (up k _ h));
+      issued_once = λ j k id t u h l. new.issued_once j k id t u (up j _ h) (up k _ l);
+      tag_range = λ k id tag h. new.tag_range k id tag (up k _ h);
+      tag_once = λ j k i l tag h m same. new.tag_once j k i l tag (up j _ h) (up k _ m) (ap round_of (before es (e ∷ []) j _ h) ∙ same ∙ ap round_of (sym (before es (e ∷ []) k _ m)));
+      done_open = λ k tag h. rw (before es (e ∷ []) k _ h) at (new.done_open k tag (up k _ h));
+      tick_closed = λ k tag h. rw (before es (e ∷ []) k _ h) at (new.tick_closed k tag (up k _ h));
+      bios_once = once_fewer (entered es) (bios_of e) (rw (entered_more es e) at new.bios_once);
+      release_within = λ k id q h. new.release_within k id q (up k _ h);
+      join_fits = λ k id n h. rw (before es (e ∷ []) k _ h) at (new.join_fits k id n (up k _ h));
+      not_too_long = omega (arith, new.not_too_long, open_more es e);
+    }
+
+-- the last event of a legal list obeys each rule after those before it
+pub obeys : (setup : Setup) (es : List Happened) (e : Happened) → IsLegalTrace setup (es ++ e ∷ []) → IsUnbroken setup es e
+obeys setup es (Released id q) new ReleasedTwice =
+    λ p. absurd (omega (arith, new.released_once p.0 (length es) id p.1.0 q (keep es _ p.0 _ p.1.1) (last es _), slice_get_within es p.0 _ p.1.1))
+obeys setup es (Joined id n) new Unknown = rw (before_last es (Joined id n) (length es) refl) at (new.join_released (length es) id n (last es _))
+obeys setup es (Issued id tag) new Unknown = rw (before_last es (Issued id tag) (length es) refl) at (new.issue_released (length es) id tag (last es _))
+obeys setup es (Joined id n) new AlreadyIssued =
+    λ p. absurd (omega (arith, new.join_unissued (length es) p.0 id p.1.0 n (last es _) (keep es _ p.0 _ p.1.1), slice_get_within es p.0 _ p.1.1))
+obeys setup es (Issued id tag) new AlreadyIssued =
+    λ p. absurd (omega (arith, new.issued_once p.0 (length es) id p.1.0 tag (keep es _ p.0 _ p.1.1) (last es _), slice_get_within es p.0 _ p.1.1))
+obeys setup es (Released id q) new BioTwice = rw (entered_more es (Released id q)) at new.bios_once
+obeys setup es (Joined id n) new BioTwice = rw (entered_more es (Joined id n)) at new.bios_once
+obeys setup es (Released id q) new Fit = new.release_within (length es) id q (last es _)
+obeys setup es (Joined id n) new Fit = rw (before_last es (Joined id n) (length es) refl) at (new.join_fits (length es) id n (last es _))
+obeys setup es (Issued id tag) new TagRange = new.tag_range (length es) id tag (last es _)
+obeys setup es (Issued id tag) new TagUsed =
+    λ u.
+    let same : round_at (es ++ Issued id tag ∷ []) u.place ≡ round_at (es ++ Issued id tag ∷ []) (length es) =
+    ap round_of (before es (Issued id tag ∷ []) u.place _ u.issued) ∙ u.now ∙ ap round_of (sym (before_last es (Issued id tag) (length es) refl)) in
+    absurd (omega (arith, new.tag_once u.place (length es) u.id id tag (keep es _ u.place _ u.issued) (last es _) same, slice_get_within es u.place _ u.issued))
+obeys setup es (Finished tag) new NotIssued = rw (before_last es (Finished tag) (length es) refl) at (new.done_open (length es) tag (last es _))
+obeys setup es Ticked new InFlight = λ tag o. new.tick_closed (length es) tag (last es _) (rw (before_last es Ticked (length es) refl) o)
+obeys setup es Ticked new TooLong = new.not_too_long
+obeys setup es (Released id q) new TooLong = new.not_too_long
+obeys setup es (Joined id n) new TooLong = new.not_too_long
+obeys setup es (Issued id tag) new TooLong = new.not_too_long
+obeys setup es (Finished tag) new TooLong = new.not_too_long
+obeys setup es _ new _ = tt

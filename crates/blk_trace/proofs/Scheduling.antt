@@ -1,0 +1,205 @@
+-- The commands of a legal trace, in the rounds of their Issues, are a legal schedule.
+use Rattle.std.proofs.Common.{◌≡◌, ◌<◌, ◌≤◌, ◌+◌, ◌++◌, ◌==◌, ℕ, zero, suc, List, [], ◌∷◌, length, get_or, refl, ◌∙◌, ap, subst, arith, inl, inr, Some, None, true, false, ne_eqb, eq-eqb, ltb}
+use Rattle.std.specs.Prelude.{Option, count_by}
+use Rattle.std.proofs.lemmas.List.{get_or_append_left, get_or_push, length_push}
+use Rattle.std.proofs.lemmas.Bool.{cases_lt, cases_eq, lt-ltb, le-ltb}
+use Rattle.edd_check.specs.declared.Command.{Command}
+use Rattle.edd_check.specs.Schedule.{StartsReleased, places_at}
+use Rattle.blk_trace.specs.declared.rule.TraceRule.TheVariants.{Unknown, AlreadyIssued}
+use Rattle.blk_trace.specs.Happened.{Happened, Ticked, Released, Joined, Issued, Finished}
+use Rattle.blk_trace.specs.Setups.{Setup}
+use Rattle.blk_trace.specs.Legal.{IsLegalTrace}
+use Rattle.blk_trace.specs.Rules.{IsUnbroken}
+use Rattle.blk_trace.specs.Events.{is_tick, round_of, request_of}
+use Rattle.blk_trace.specs.Meaning.{timed, issued_ids, release_of, due_of, commands_of, rounds_of}
+use Rattle.blk_trace.specs.Standing.{Entered, waits_at, this_round}
+use Rattle.blk_trace.specs.Laws.{IsScheduled, AddsRound}
+use Rattle.blk_trace.proofs.More.{round_more}
+use Rattle.blk_trace.proofs.Ids.{by_legal}
+use Rattle.blk_trace.proofs.Entering.{release_within}
+use Rattle.blk_trace.proofs.Waiting.{waits_for}
+use Rattle.blk_trace.proofs.Commands.{commands-ticked, commands-released, commands-joined, commands-issued, commands-finished, rounds-ticked, rounds-released, rounds-joined, rounds-issued, rounds-finished}
+use Rattle.blk_trace.proofs.Seats.{taken, cases_option, IsTaken, taken_at}
+use Rattle.blk_trace.proofs.Opening.{tags, tags_tick, tags_more, tags_kept, tag_count, number}
+use Rattle.blk_trace.proofs.Counting.{one_if, count-cons, count_push}
+
+-- one round for each command, none before its release
+record StartsWell (commands : List Command) (rounds : List ℕ) : Type 0 where
+  one_each : length rounds ≡ length commands
+  released : StartsReleased commands rounds
+
+starts_push : (cs : List Command) (rs : List ℕ) (c : Command) (r : ℕ) → StartsWell cs rs → c.release ≤ r → StartsWell (cs ++ c ∷ []) (rs ++ r ∷ [])
+starts_push cs rs c r old h =
+    let one : length rs ≡ length cs = old.one_each in
+    record {
+      one_each = omega (arith, length_push cs c, length_push rs r);
+      released = λ k d l.
+          elim (cases_lt k (length cs)) [
+            | inl b ↦
+                let e : get_or (cs ++ c ∷ []) k d ≡ get_or cs k d = get_or_append_left cs (c ∷ []) d k b in
+                let f : get_or (rs ++ r ∷ []) k 0 ≡ get_or rs k 0 = get_or_append_left rs (r ∷ []) 0 k (omega arith) in
+                rw (e, f) (old.released k d b)
+            | inr b ↦
+                let k_is : length cs ≡ k = omega (arith, length_push cs c) in
+                let e : get_or (cs ++ c ∷ []) k d ≡ c = get_or_push cs c d k k_is in
+                let f : get_or (rs ++ r ∷ []) k 0 ≡ r = get_or_push rs r 0 k (one ∙ k_is) in
+                rw (e, f) h
+          ];
+    }
+
+starts_step : (setup : Setup) (es : List Happened) (e : Happened) → IsLegalTrace setup (es ++ e ∷ []) → IsUnbroken setup es e → StartsWell (commands_of setup es) (rounds_of es) → StartsWell (commands_of setup (es ++ e ∷ [])) (rounds_of (es ++ e ∷ []))
+starts_step setup es Ticked new all ih = rw (commands-ticked setup es new, rounds-ticked es) ih
+starts_step setup es (Released i q) new all ih = rw (commands-released setup es i q new, rounds-released es i q) ih
+starts_step setup es (Joined i q) new all ih = rw (commands-joined setup es i q new, rounds-joined es i q) ih
+starts_step setup es (Finished t) new all ih = rw (commands-finished setup es t new, rounds-finished es t) ih
+starts_step setup es (Issued i t) new all ih =
+    let w : Entered = record { release = release_of es i; due = due_of setup es i; bios = request_of es i } in
+    let waits : waits_at setup es i ≡ Some w = waits_for setup es i (all Unknown) (all AlreadyIssued) in
+    let c : Command = record { id = i; release = w.release; due = w.due } in
+    rw (commands-issued setup es i t new w waits, rounds-issued es i t) (starts_push (commands_of setup es) (rounds_of es) c (round_of es) ih (release_within es i))
+
+starts : (setup : Setup) (es : List Happened) → IsLegalTrace setup es → StartsWell (commands_of setup es) (rounds_of es)
+unfolding commands_of rounds_of issued_ids timed
+starts setup es legal = by_legal setup (λ l. StartsWell (commands_of setup l) (rounds_of l)) (record { one_each = refl; released = λ k d l. absurd (omega arith) }) (λ l e new old all ih. starts_step setup l e new all ih) es legal
+
+-- numbers below a bound, each at most once, are no more than the bound
+split_one : (n x : ℕ) → one_if (ltb x (n + 1)) ≡ one_if (ltb x n) + one_if (n == x)
+split_one n x =
+    elim (cases_lt x n) [
+      | inl b ↦
+          let up : ltb x (n + 1) ≡ true = lt-ltb x (n + 1) (omega arith) in
+          let here : ltb x n ≡ true = lt-ltb x n b in
+          let other : (n == x) ≡ false = ne_eqb n x (λ e. absurd (omega arith)) in
+          rw (up, here, other) refl
+      | inr b ↦
+          let here : ltb x n ≡ false = le-ltb x n b in
+          elim (cases_eq n x) [
+            | inl e ↦
+                let up : ltb x (n + 1) ≡ true = lt-ltb x (n + 1) (omega arith) in
+                let same : (n == x) ≡ true = eq-eqb n x e in
+                rw (up, here, same) refl
+            | inr e ↦
+                let up : ltb x (n + 1) ≡ false = le-ltb x (n + 1) (omega arith) in
+                let other : (n == x) ≡ false = ne_eqb n x e in
+                rw (up, here, other) refl
+          ]
+    ]
+
+split_count : (n : ℕ) (xs : List ℕ) → count_by (λ x. ltb x (n + 1)) xs ≡ count_by (λ x. ltb x n) xs + count_by (λ x. n == x) xs
+split_count n [] = refl
+split_count n (x ∷ xs) =
+    omega (arith, count-cons (λ x. ltb x (n + 1)) x xs, count-cons (λ x. ltb x n) x xs, count-cons (λ x. n == x) x xs, split_count n xs, split_one n x)
+
+below_zero : (xs : List ℕ) → count_by (λ x. ltb x 0) xs ≡ 0
+below_zero [] = refl
+below_zero (x ∷ xs) =
+    let no : ltb x 0 ≡ false = le-ltb x 0 (omega arith) in
+    let here : one_if (ltb x 0) ≡ 0 = rw no refl in
+    omega (arith, count-cons (λ x. ltb x 0) x xs, below_zero xs)
+
+few_below : (n : ℕ) (xs : List ℕ) → ((u : ℕ) → count_by (λ x. u == x) xs ≤ 1) → count_by (λ x. ltb x n) xs ≤ n
+few_below zero xs h = omega (arith, below_zero xs)
+few_below (suc n) xs h =
+    let up : suc n ≡ n + 1 = omega arith in
+    rw up (omega (arith, split_count n xs, few_below n xs h, h n))
+
+all_below : (n : ℕ) (xs : List ℕ) → ((u : ℕ) → n ≤ u → count_by (λ x. u == x) xs ≡ 0) → count_by (λ x. ltb x n) xs ≡ length xs
+all_below n [] h = refl
+all_below n (x ∷ xs) h =
+    let ih : count_by (λ y. ltb y n) xs ≡ length xs = all_below n xs (λ u l. omega (arith, count-cons (λ y. u == y) x xs, h u l)) in
+    elim (cases_lt x n) [
+      | inl b ↦
+          let here : one_if (ltb x n) ≡ 1 = ap one_if (lt-ltb x n b) in
+          omega (arith, count-cons (λ y. ltb y n) x xs)
+      | inr b ↦
+          let one : one_if (x == x) ≡ 1 = ap one_if (eq-eqb x x refl) in
+          absurd (omega (arith, count-cons (λ y. x == y) x xs, h x b))
+    ]
+
+number_few : (o : Option ℕ) → number o ≤ 1
+number_few None = omega arith
+number_few (Some x) = omega arith
+
+-- a round has no more tags than the depth
+pub few_tags : (setup : Setup) (es : List Happened) → IsLegalTrace setup es → length (tags es) ≤ setup.depth
+few_tags setup es legal =
+    let once : (u : ℕ) → count_by (λ x. u == x) (tags es) ≤ 1 = λ u. omega (arith, tag_count setup es u legal, number_few (taken es u)) in
+    let none : (u : ℕ) → setup.depth ≤ u → count_by (λ x. u == x) (tags es) ≡ 0 = λ u l. elim (cases_option (taken es u)) [
+      | inl n ↦ tag_count setup es u legal ∙ ap number n
+      | inr p ↦
+          let at : IsTaken es u p.0 = taken_at es u p.0 p.1 in
+          absurd (omega (arith, legal.tag_range at.place p.0 u at.issued))
+    ] in
+    omega (arith, few_below setup.depth (tags es) once, all_below setup.depth (tags es) none)
+
+-- how many commands a round has
+record FillsWell (setup : Setup) (es : List Happened) : Type 0 where
+  now : places_at (rounds_of es) (round_of es) ≡ length (tags es)
+  later : (x : ℕ) → round_of es < x → places_at (rounds_of es) x ≡ 0
+  within : (x : ℕ) → places_at (rounds_of es) x ≤ setup.depth
+
+fills_kept : (setup : Setup) (es fs : List Happened) → rounds_of fs ≡ rounds_of es → round_of fs ≡ round_of es → tags fs ≡ tags es → FillsWell setup es → FillsWell setup fs
+fills_kept setup es fs a b c old = record {
+  now = rw (a, b, c) old.now;
+  later = λ x l. rw a (old.later x (omega arith));
+  within = λ x. rw a (old.within x);
+}
+
+round_kept : (es : List Happened) (e : Happened) → is_tick e ≡ false → round_of (es ++ e ∷ []) ≡ round_of es
+round_kept es e h = round_more es e ∙ rw h (omega arith)
+
+places_push : (rs : List ℕ) (r x : ℕ) → places_at (rs ++ r ∷ []) x ≡ places_at rs x + one_if (r == x)
+unfolding places_at
+places_push rs r x = count_push (λ y. y == x) rs r
+
+fills_issued : (setup : Setup) (es : List Happened) (i t : ℕ) → IsLegalTrace setup (es ++ Issued i t ∷ []) → FillsWell setup es → FillsWell setup (es ++ Issued i t ∷ [])
+fills_issued setup es i t new old =
+    let fs : List Happened = es ++ Issued i t ∷ [] in
+    let rounds : (x : ℕ) → places_at (rounds_of fs) x ≡ places_at (rounds_of es) x + one_if (round_of es == x) = λ x. ap (λ l. places_at l x) (rounds-issued es i t) ∙ places_push (rounds_of es) (round_of es) x in
+    let round : round_of fs ≡ round_of es = round_kept es (Issued i t) refl in
+    let long : length (tags fs) ≡ length (tags es) + 1 = ap length (tags_more es (Issued i t) refl) ∙ length_push (tags es) t in
+    let one : one_if (round_of es == round_of es) ≡ 1 = ap one_if (eq-eqb (round_of es) (round_of es) refl) in
+    let full : places_at (rounds_of fs) (round_of es) ≡ length (tags fs) = omega (arith, rounds (round_of es), old.now) in
+    record {
+      now = rw round full;
+      later = λ x l.
+          let other : one_if (round_of es == x) ≡ 0 = ap one_if (ne_eqb (round_of es) x (λ e. absurd (omega arith))) in
+          omega (arith, rounds x, old.later x (omega arith));
+      within = λ x. elim (cases_eq (round_of es) x) [
+        | inl e ↦ subst (λ y. places_at (rounds_of fs) y ≤ setup.depth) e (omega (arith, full, few_tags setup fs new))
+        | inr e ↦
+            let other : one_if (round_of es == x) ≡ 0 = ap one_if (ne_eqb (round_of es) x e) in
+            omega (arith, rounds x, old.within x)
+      ];
+    }
+
+fills_step : (setup : Setup) (es : List Happened) (e : Happened) → IsLegalTrace setup (es ++ e ∷ []) → FillsWell setup es → FillsWell setup (es ++ e ∷ [])
+fills_step setup es Ticked new old =
+    let up : round_of (es ++ Ticked ∷ []) ≡ round_of es + 1 = round_more es Ticked in
+    let no_tags : length (tags (es ++ Ticked ∷ [])) ≡ 0 = ap length (tags_tick es) in
+    record {
+      now = rw (rounds-ticked es, up, no_tags) (old.later (round_of es + 1) (omega arith));
+      later = λ x l. rw (rounds-ticked es) (old.later x (omega arith));
+      within = λ x. rw (rounds-ticked es) (old.within x);
+    }
+fills_step setup es (Released i q) new old = fills_kept setup es _ (rounds-released es i q) (round_kept es (Released i q) refl) (tags_kept es (Released i q) refl refl) old
+fills_step setup es (Joined i q) new old = fills_kept setup es _ (rounds-joined es i q) (round_kept es (Joined i q) refl) (tags_kept es (Joined i q) refl refl) old
+fills_step setup es (Issued i t) new old = fills_issued setup es i t new old
+fills_step setup es (Finished t) new old = fills_kept setup es _ (rounds-finished es t) (round_kept es (Finished t) refl) (tags_kept es (Finished t) refl refl) old
+
+fills : (setup : Setup) (es : List Happened) → IsLegalTrace setup es → FillsWell setup es
+unfolding rounds_of timed places_at round_of tags this_round
+fills setup es legal = by_legal setup (FillsWell setup) (record { now = refl; later = λ x l. refl; within = λ x. omega arith }) (λ l e new old all ih. fills_step setup l e new ih) es legal
+
+pub legal-schedule : (setup : Setup) (events : List Happened) → IsLegalTrace setup events → IsScheduled setup events
+legal-schedule setup events legal =
+    let s : StartsWell (commands_of setup events) (rounds_of events) = starts setup events legal in
+    let f : FillsWell setup events = fills setup events legal in
+    record { one_each = s.one_each; released = s.released; within_depth = f.within }
+
+pub adds-round : (events : List Happened) (e : Happened) → AddsRound events e
+adds-round events Ticked = rounds-ticked events
+adds-round events (Released id bios) = rounds-released events id bios
+adds-round events (Joined id bios) = rounds-joined events id bios
+adds-round events (Issued id tag) = rounds-issued events id tag
+adds-round events (Finished tag) = rounds-finished events tag

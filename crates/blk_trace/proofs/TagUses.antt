@@ -1,0 +1,166 @@
+-- How a tag stands with one more event.
+use Rattle.std.proofs.Common.{◌≡◌, ◌≢◌, ◌<◌, ◌≤◌, ◌+◌, ◌++◌, ◌*◌, ◌==◌, ℕ, zero, suc, List, [], ◌∷◌, length, take, refl, sym, ◌∙◌, ap, subst, arith, inl, inr, Some, None, cond, Bool, true, false, set}
+use Rattle.std.specs.Prelude.{slice_get, ◌⊎◌, Option, count_by, replicate}
+use Rattle.std.proofs.lemmas.List.Sums.{sum_by-cons}
+use Rattle.std.proofs.lemmas.Option.{slice_get_within}
+use Rattle.blk_bio.specs.Bios.{Bio}
+use Rattle.blk_trace.specs.declared.rule.TraceRule.TheVariants.{InFlight}
+use Rattle.blk_trace.specs.declared.tags.TagUse.{TagUse}
+use Rattle.blk_trace.specs.declared.tags.TagUse.TheVariants.{Free, Open, Ended}
+use Rattle.blk_trace.specs.Happened.{Happened, Ticked, Released, Joined, Issued, Finished}
+use Rattle.blk_trace.specs.Setups.{Setup}
+use Rattle.blk_trace.specs.Events.{At, is_tick, round_of, round_at, IsOpen, IsUsed}
+use Rattle.blk_trace.specs.Legal.{IsLegalTrace}
+use Rattle.blk_trace.specs.Kept.{IsTagUse}
+use Rattle.blk_trace.proofs.Places.{split, keep, last, before, before_last}
+use Rattle.blk_trace.proofs.Seats.{was_open, closed}
+use Rattle.blk_trace.proofs.More.{round_more}
+
+-- the event neither ends the round nor issues or finishes the tag
+pub record LeavesTag (e : Happened) (tag : ℕ) : Type 0 where
+  pub no_tick : is_tick e ≡ false
+  pub no_issue : (id : ℕ) → e ≡ Issued id tag → ⊥
+  pub no_done : e ≡ Finished tag → ⊥
+
+same_round : (es : List Happened) (e : Happened) → is_tick e ≡ false → round_of (es ++ e ∷ []) ≡ round_of es
+same_round es e h = omega (arith, round_more es e ∙ ap (λ b. round_of es + cond b 1 0) h)
+
+used_keep : (es : List Happened) (e : Happened) (tag : ℕ) → is_tick e ≡ false → IsUsed es tag → IsUsed (es ++ e ∷ []) tag
+used_keep es e tag h u = record {
+  place = u.place;
+  id = u.id;
+  issued = keep es (e ∷ []) u.place _ u.issued;
+  now = ap round_of (before es (e ∷ []) u.place _ u.issued) ∙ u.now ∙ sym (same_round es e h);
+}
+
+used_back : (es : List Happened) (e : Happened) (tag : ℕ) → is_tick e ≡ false → ((id : ℕ) → e ≡ Issued id tag → ⊥) → IsUsed (es ++ e ∷ []) tag → IsUsed es tag
+used_back es e tag h other u =
+    elim (split es e u.place _ u.issued) [
+      | inl p ↦ record { place = u.place; id = u.id; issued = p; now = ap round_of (sym (before es (e ∷ []) u.place _ p)) ∙ u.now ∙ same_round es e h }
+      | inr p ↦ absurd (other u.id p.1)
+    ]
+
+-- a round is no later than the last one
+round_cons_le : (e : Happened) (es : List Happened) → round_of (e ∷ es) ≡ cond (is_tick e) 1 0 + round_of es
+unfolding round_of
+round_cons_le e es = sum_by-cons (λ (x : Happened). cond (is_tick x) 1 0) e es
+
+round_within : (k : ℕ) (es : List Happened) → round_of (take k es) ≤ round_of es
+unfolding round_of
+round_within zero es = omega arith
+round_within (suc k) [] = omega arith
+round_within (suc k) (e ∷ es) = omega (arith, round_within k es, round_cons_le e es, round_cons_le e (take k es))
+
+used_tick : (es : List Happened) (tag : ℕ) → IsUsed (es ++ Ticked ∷ []) tag → ⊥
+used_tick es tag u =
+    elim (split es Ticked u.place _ u.issued) [
+      | inl p ↦
+          let here : round_of (take u.place es) ≡ round_of (es ++ Ticked ∷ []) = ap round_of (sym (before es (Ticked ∷ []) u.place _ p)) ∙ u.now in
+          absurd (omega (arith, here, round_within u.place es, round_more es Ticked))
+      | inr p ↦ absurd (let q = p.1 in cc)
+    ]
+
+used_here : (es : List Happened) (id tag : ℕ) → IsUsed (es ++ Issued id tag ∷ []) tag
+used_here es id tag = record {
+  place = length es;
+  id = id;
+  issued = last es (Issued id tag);
+  now = ap round_of (before_last es (Issued id tag) (length es) refl) ∙ sym (same_round es (Issued id tag) refl);
+}
+
+open_keep : (es : List Happened) (e : Happened) (tag : ℕ) → (e ≡ Finished tag → ⊥) → IsOpen es tag → IsOpen (es ++ e ∷ []) tag
+open_keep es e tag other o = record {
+  place = o.place;
+  id = o.id;
+  issued = keep es (e ∷ []) o.place _ o.issued;
+  not_done = λ j h d. elim (split es e j _ d) [ inl p ↦ o.not_done j h p | inr p ↦ other p.1 ];
+}
+
+open_here : (es : List Happened) (id tag : ℕ) → IsOpen (es ++ Issued id tag ∷ []) tag
+open_here es id tag = record {
+  place = length es;
+  id = id;
+  issued = last es (Issued id tag);
+  not_done = λ j h d. elim (split es (Issued id tag) j _ d) [ inl p ↦ absurd (omega (arith, h, slice_get_within es j _ p)) | inr p ↦ absurd (let q = p.1 in cc) ];
+}
+
+use_keep : (es : List Happened) (e : Happened) (tag : ℕ) (u : TagUse) → LeavesTag e tag → IsTagUse es tag u → IsTagUse (es ++ e ∷ []) tag u
+use_keep es e tag Free l h = (λ x. h.0 (used_back es e tag l.no_tick l.no_issue x), λ x. h.1 (was_open es e tag l.no_issue x))
+use_keep es e tag Open l h = (used_keep es e tag l.no_tick h.0, open_keep es e tag l.no_done h.1)
+use_keep es e tag Ended l h = (used_keep es e tag l.no_tick h.0, λ x. h.1 (was_open es e tag l.no_issue x))
+
+-- what the kept tags say
+abbrev pub TagsAre : List Happened → List TagUse → Type 0
+TagsAre es tags = (tag : ℕ) (u : TagUse) → slice_get tags tag ≡ Some u → IsTagUse es tag u
+
+pub tags_released : (es : List Happened) (tags : List TagUse) (id : ℕ) (q : List Bio) → TagsAre es tags → TagsAre (es ++ Released id q ∷ []) tags
+tags_released es tags id q h tag u x = use_keep es (Released id q) tag u record { no_tick = refl; no_issue = λ i y. absurd (cc); no_done = λ y. absurd (cc) } (h tag u x)
+
+pub tags_joined : (es : List Happened) (tags : List TagUse) (id : ℕ) (q : List Bio) → TagsAre es tags → TagsAre (es ++ Joined id q ∷ []) tags
+tags_joined es tags id q h tag u x = use_keep es (Joined id q) tag u record { no_tick = refl; no_issue = λ i y. absurd (cc); no_done = λ y. absurd (cc) } (h tag u x)
+
+replicate_at : {X : Type 0} (n : ℕ) (x : X) (k : ℕ) (y : X) → slice_get (replicate n x) k ≡ Some y → x ≡ y
+replicate_at zero x k y h = absurd (cc)
+replicate_at (suc n) x zero y h = cc
+replicate_at (suc n) x (suc k) y h = replicate_at n x k y h
+
+pub tags_ticked : (es : List Happened) (n : ℕ) → ((tag : ℕ) → IsOpen es tag → ⊥) → TagsAre (es ++ Ticked ∷ []) (replicate n Free)
+tags_ticked es n none tag u h =
+    subst (IsTagUse (es ++ Ticked ∷ []) tag) (replicate_at n Free tag u h) (used_tick es tag, λ o. none tag (was_open es Ticked tag (λ i y. absurd (cc)) o))
+
+-- what stands in a list after a write
+written : {X : Type 0} (xs : List X) (k : ℕ) (x : X) (j : ℕ) (y : X) → slice_get (set xs k x) j ≡ Some y → ((j ≡ k) × (x ≡ y)) ⊎ ((j ≢ k) × (slice_get xs j ≡ Some y))
+written [] k x j y h = absurd (cc)
+written (z ∷ xs) zero x zero y h = inl (refl, cc)
+written (z ∷ xs) zero x (suc j) y h = inr (λ e. absurd (omega (arith, e)), h)
+written (z ∷ xs) (suc k) x zero y h = inr (λ e. absurd (omega (arith, e)), h)
+written (z ∷ xs) (suc k) x (suc j) y h = elim (written xs k x j y h) [ inl p ↦ inl (omega (arith, p.0), p.1) | inr p ↦ inr (λ e. p.0 (omega (arith, e)), p.1) ]
+
+issue_tag : (i id tag t : ℕ) → Issued i tag ≡ Issued id t → tag ≡ t
+issue_tag i id tag t h = cc
+
+done_tag : (tag t : ℕ) → Finished tag ≡ Finished t → tag ≡ t
+done_tag tag t h = cc
+
+pub tags_issued : (es : List Happened) (tags : List TagUse) (id tag : ℕ) → TagsAre es tags → TagsAre (es ++ Issued id tag ∷ []) (set tags tag Open)
+tags_issued es tags id tag h t u x =
+    elim (written tags tag Open t u x) [
+      | inl p ↦ subst (λ v. IsTagUse (es ++ Issued id tag ∷ []) t v) p.1 (subst (λ n. IsTagUse (es ++ Issued id tag ∷ []) n Open) (sym p.0) (used_here es id tag, open_here es id tag))
+      | inr p ↦ use_keep es (Issued id tag) t u record { no_tick = refl; no_issue = λ i y. p.0 (sym (issue_tag id i tag t y)); no_done = λ y. absurd (cc) } (h t u p.1)
+    ]
+
+pub tags_finished : (es : List Happened) (tags : List TagUse) (tag : ℕ) → IsUsed es tag → TagsAre es tags → TagsAre (es ++ Finished tag ∷ []) (set tags tag Ended)
+tags_finished es tags tag used h t u x =
+    elim (written tags tag Ended t u x) [
+      | inl p ↦ subst (λ v. IsTagUse (es ++ Finished tag ∷ []) t v) p.1 (subst (λ n. IsTagUse (es ++ Finished tag ∷ []) n Ended) (sym p.0) (used_keep es (Finished tag) tag refl used, closed es tag tag refl))
+      | inr p ↦ use_keep es (Finished tag) t u record { no_tick = refl; no_issue = λ i y. absurd (cc); no_done = λ y. p.0 (sym (done_tag tag t y)) } (h t u p.1)
+    ]
+
+at_place : {X : Type 0} (xs : List X) (k : ℕ) → k < length xs → (x : X) × (slice_get xs k ≡ Some x)
+at_place [] k h = absurd (omega arith)
+at_place (x ∷ xs) zero h = (x, refl)
+at_place (x ∷ xs) (suc k) h = at_place xs k (omega arith)
+
+is_open : (es : List Happened) (tag : ℕ) (u : TagUse) → IsTagUse es tag u → IsOpen es tag → u ≡ Open
+is_open es tag Free h o = absurd (h.1 o)
+is_open es tag Open h o = refl
+is_open es tag Ended h o = absurd (h.1 o)
+
+-- an open tag is kept as open
+pub open_found : (setup : Setup) (es : List Happened) (tags : List TagUse) → IsLegalTrace setup es → length tags ≡ setup.depth → TagsAre es tags → (tag : ℕ) → IsOpen es tag → slice_get tags tag ≡ Some Open
+open_found setup es tags legal each h tag o =
+    let below : tag < setup.depth = legal.tag_range o.place o.id tag o.issued in
+    let p = at_place tags tag (omega (arith, below, each)) in
+    p.1 ∙ ap Some (is_open es tag p.0 (h tag p.0 p.1) o)
+
+-- a tag in use
+pub used_unless_free : (es : List Happened) (tag : ℕ) (u : TagUse) → IsTagUse es tag u → (u ≡ Free → ⊥) → IsUsed es tag
+used_unless_free es tag Free h other = absurd (other refl)
+used_unless_free es tag Open h other = h.0
+used_unless_free es tag Ended h other = h.0
+
+pub not_open : (es : List Happened) (tag : ℕ) (u : TagUse) → IsTagUse es tag u → (u ≡ Open → ⊥) → IsOpen es tag → ⊥
+not_open es tag u h other o = other (is_open es tag u h o)
+
+pub tags_empty : (n : ℕ) → TagsAre [] (replicate n Free)
+tags_empty n tag u h = subst (IsTagUse [] tag) (replicate_at n Free tag u h) (λ x. absurd (let p = x.issued in cc), λ x. absurd (let p = x.issued in cc))

@@ -1,0 +1,128 @@
+-- Which requests wait after one more event.
+use Rattle.std.proofs.Common.{◌≡◌, ◌+◌, ◌++◌, ◌==◌, ℕ, List, [], ◌∷◌, refl, sym, ◌∙◌, ap, subst, arith, inl, inr, Some, None, cond, Bool, true, false, eq-eqb, eqb-true}
+use Rattle.std.specs.Prelude.{◌||◌, ◌&&◌, not}
+use Rattle.std.proofs.lemmas.Bool.{cases_Bool, or_right, or_left, and_parts, not-true}
+use Rattle.std.proofs.lemmas.Option.{cond_some}
+use Rattle.blk_bio.specs.Bios.{Bio}
+use Rattle.blk_bio.specs.Requests.{dir_of}
+use Rattle.blk_trace.specs.declared.rule.TraceRule.TheVariants.{ReleasedTwice, Fit}
+use Rattle.blk_trace.specs.Happened.{Happened, Ticked, Released, Joined, Issued, Finished}
+use Rattle.blk_trace.specs.Setups.{Setup, expire_of}
+use Rattle.blk_trace.specs.Events.{round_of, join_up, request_of, IsReleased, IsIssued}
+use Rattle.blk_trace.specs.Legal.{IsLegalTrace}
+use Rattle.blk_trace.specs.Rules.{IsUnbroken}
+use Rattle.blk_trace.specs.Meaning.{release_of, due_of, issued_ids, released_ids, least}
+use Rattle.blk_trace.specs.Standing.{Entered, has_id, waits_at}
+use Rattle.blk_trace.proofs.More.{due_is}
+use Rattle.blk_trace.proofs.Pushing.{shorter_legal, obeys}
+use Rattle.blk_trace.proofs.Ids.{released_has, not_issued, has_released_more, has_issued_more, released_first}
+use Rattle.blk_trace.proofs.Entering.{IsSame, IsEntered, HasNothing, same_entered, entered_released, entered_joined, nothing_before, has_released_same, has_issued_same, release_within, soon, next_soon, round_rises}
+
+-- what waits, by its parts
+pub waits_is : (setup : Setup) (fs : List Happened) (q : ℕ) (b c : Bool) (r d : ℕ) (l : List Bio) → has_id (released_ids fs) q ≡ b → has_id (issued_ids fs) q ≡ c → release_of fs q ≡ r → due_of setup fs q ≡ d → request_of fs q ≡ l
+    → waits_at setup fs q ≡ cond (b && not c) (Some (record { release = r; due = d; bios = l })) None
+unfolding waits_at
+waits_is setup fs q b c r d l h i j k m = rw (h, i, j, k, m) refl
+
+pub waits_same : (setup : Setup) (es fs : List Happened) (q : ℕ) → has_id (released_ids fs) q ≡ has_id (released_ids es) q → has_id (issued_ids fs) q ≡ has_id (issued_ids es) q → IsSame setup es fs q → waits_at setup fs q ≡ waits_at setup es q
+unfolding waits_at
+waits_same setup es fs q h i same = waits_is setup fs q _ _ _ _ _ h i same.release same.due same.request
+
+-- a request that waits
+pub record IsWaiting (setup : Setup) (es : List Happened) (id : ℕ) (w : Entered) : Type 0 where
+  pub released : has_id (released_ids es) id ≡ true
+  pub unissued : has_id (issued_ids es) id ≡ false
+  pub release_is : w.release ≡ release_of es id
+  pub due_is : w.due ≡ due_of setup es id
+  pub bios_is : w.bios ≡ request_of es id
+
+pub waiting_from : (setup : Setup) (es : List Happened) (id : ℕ) (w : Entered) → waits_at setup es id ≡ Some w → IsWaiting setup es id w
+unfolding waits_at
+waiting_from setup es id w h =
+    let p = cond_some (has_id (released_ids es) id && not (has_id (issued_ids es) id)) (record { release = release_of es id; due = due_of setup es id; bios = request_of es id }) w h in
+    let b = and_parts (has_id (released_ids es) id) (not (has_id (issued_ids es) id)) p.0 in
+    record {
+      released = b.0;
+      unissued = not-true _ b.1;
+      release_is = ap (λ (x : Entered). x.release) (sym p.1);
+      due_is = ap (λ (x : Entered). x.due) (sym p.1);
+      bios_is = ap (λ (x : Entered). x.bios) (sym p.1);
+    }
+
+pub waits_from : (setup : Setup) (es : List Happened) (id : ℕ) → has_id (released_ids es) id ≡ true → has_id (issued_ids es) id ≡ false → waits_at setup es id ≡ Some (record { release = release_of es id; due = due_of setup es id; bios = request_of es id })
+waits_from setup es id h i = waits_is setup es id true false _ _ _ h i refl refl refl
+
+-- an id that can be joined or issued waits
+pub waits_for : (setup : Setup) (es : List Happened) (id : ℕ) → IsReleased es id → (IsIssued es id → ⊥) → waits_at setup es id ≡ Some (record { release = release_of es id; due = due_of setup es id; bios = request_of es id })
+waits_for setup es id p n = waits_from setup es id (released_has es p.0 id p.1.0 p.1.1) (not_issued es id n)
+
+pub waits-ticked : (setup : Setup) (events : List Happened) → IsLegalTrace setup (events ++ Ticked ∷ []) → (q : ℕ) → waits_at setup (events ++ Ticked ∷ []) q ≡ waits_at setup events q
+unfolding released_ids issued_ids
+waits-ticked setup events legal q = waits_same setup events _ q (has_released_same events Ticked q refl) (has_issued_same events Ticked q refl) (same_entered setup events Ticked q refl)
+
+pub waits-finished : (setup : Setup) (events : List Happened) (tag : ℕ) → IsLegalTrace setup (events ++ Finished tag ∷ []) → (q : ℕ) → waits_at setup (events ++ Finished tag ∷ []) q ≡ waits_at setup events q
+unfolding released_ids issued_ids
+waits-finished setup events tag legal q = waits_same setup events _ q (has_released_same events (Finished tag) q refl) (has_issued_same events (Finished tag) q refl) (same_entered setup events (Finished tag) q refl)
+
+released_now : (setup : Setup) (events : List Happened) (id : ℕ) (bios : List Bio) → IsLegalTrace setup events → IsUnbroken setup events (Released id bios) → (q : ℕ) → (id == q) ≡ true → waits_at setup (events ++ Released id bios ∷ []) q ≡ Some (record { release = round_of events; due = round_of events + expire_of setup (dir_of bios); bios = bios })
+unfolding released_ids issued_ids
+released_now setup events id bios old all q t =
+    let none : HasNothing setup events q = nothing_before setup events id q bios old all t in
+    let new : IsEntered setup events (events ++ Released id bios ∷ []) q bios = entered_released setup events id q bios t in
+    let same : id ≡ q = eqb-true id q t in
+    let unissued : has_id (issued_ids events) q ≡ false = not_issued events q (λ p. all ReleasedTwice (subst (IsReleased events) (sym same) (released_first setup events q old p))) in
+    waits_is setup (events ++ Released id bios ∷ []) q true false (round_of events) (round_of events + expire_of setup (dir_of bios)) bios
+    (has_released_more events (Released id bios) q ∙ or_right (has_id (released_ids events) q) ((id == q) || false) (or_left (id == q) false t))
+    (has_issued_same events (Released id bios) q refl ∙ unissued)
+    (new.release ∙ omega (arith, none.release))
+    (due_is setup _ q ∙ ap least (new.dues_are ∙ ap (λ l. l ++ (round_of events + expire_of setup (dir_of bios)) ∷ []) none.dues_are))
+    (new.request ∙ ap (λ l. join_up l bios) none.request)
+
+pub waits-released : (setup : Setup) (events : List Happened) (id : ℕ) (bios : List Bio) → IsLegalTrace setup (events ++ Released id bios ∷ []) → (q : ℕ) → waits_at setup (events ++ Released id bios ∷ []) q ≡ cond (id == q) (Some (record { release = round_of events; due = round_of events + expire_of setup (dir_of bios); bios = bios })) (waits_at setup events q)
+unfolding released_ids issued_ids
+waits-released setup events id bios legal q =
+    elim (cases_Bool (id == q)) [
+      | inl t ↦ released_now setup events id bios (shorter_legal setup events _ legal) (obeys setup events _ legal) q t ∙ sym (rw t refl)
+      | inr t ↦ waits_same setup events (events ++ Released id bios ∷ []) q (has_released_same events (Released id bios) q (rw t refl)) (has_issued_same events (Released id bios) q refl) (same_entered setup events (Released id bios) q t) ∙ sym (rw t refl)
+    ]
+
+joined_now : (setup : Setup) (events : List Happened) (id : ℕ) (bios : List Bio) → IsLegalTrace setup events → IsUnbroken setup events (Joined id bios) → (w : Entered) → waits_at setup events id ≡ Some w → (q : ℕ) → id ≡ q → waits_at setup (events ++ Joined id bios ∷ []) q ≡ Some (record { release = round_of events; due = w.due; bios = join_up w.bios bios })
+unfolding released_ids issued_ids
+joined_now setup events id bios old all w waits q same =
+    let t : (id == q) ≡ true = eq-eqb id q same in
+    let was : IsWaiting setup events q w = subst (λ x. IsWaiting setup events x w) same (waiting_from setup events id w waits) in
+    let new : IsEntered setup events (events ++ Joined id bios ∷ []) q bios = entered_joined setup events id q bios t in
+    let dir : dir_of bios ≡ dir_of (request_of events q) = subst (λ x. dir_of bios ≡ dir_of (request_of events x)) same (all Fit).1.same_direction in
+    let kept : due_of setup (events ++ Joined id bios ∷ []) q ≡ due_of setup events q = (next_soon setup events _ q bios (soon setup events q old was.released) new dir (round_rises events (Joined id bios))).1 in
+    waits_is setup (events ++ Joined id bios ∷ []) q true false (round_of events) w.due (join_up w.bios bios)
+    (has_released_same events (Joined id bios) q refl ∙ was.released)
+    (has_issued_same events (Joined id bios) q refl ∙ was.unissued)
+    (new.release ∙ omega (arith, release_within events q))
+    (kept ∙ sym was.due_is)
+    (new.request ∙ ap (λ l. join_up l bios) (sym was.bios_is))
+
+pub waits-joined : (setup : Setup) (events : List Happened) (id : ℕ) (bios : List Bio) → IsLegalTrace setup (events ++ Joined id bios ∷ []) → (w : Entered) → waits_at setup events id ≡ Some w → (q : ℕ) → waits_at setup (events ++ Joined id bios ∷ []) q ≡ cond (id == q) (Some (record { release = round_of events; due = w.due; bios = join_up w.bios bios })) (waits_at setup events q)
+unfolding released_ids issued_ids
+waits-joined setup events id bios legal w waits q =
+    elim (cases_Bool (id == q)) [
+      | inl t ↦ joined_now setup events id bios (shorter_legal setup events _ legal) (obeys setup events _ legal) w waits q (eqb-true id q t) ∙ sym (rw t refl)
+      | inr t ↦ waits_same setup events (events ++ Joined id bios ∷ []) q (has_released_same events (Joined id bios) q refl) (has_issued_same events (Joined id bios) q refl) (same_entered setup events (Joined id bios) q t) ∙ sym (rw t refl)
+    ]
+
+none_issued : {X : Type 0} (b : Bool) (x : X) → cond (b && not true) (Some x) None ≡ None
+none_issued true x = refl
+none_issued false x = refl
+
+issued_now : (setup : Setup) (events : List Happened) (id tag q : ℕ) → (id == q) ≡ true → waits_at setup (events ++ Issued id tag ∷ []) q ≡ None
+unfolding issued_ids
+issued_now setup events id tag q t =
+    let issued : has_id (issued_ids (events ++ Issued id tag ∷ [])) q ≡ true = has_issued_more events (Issued id tag) q ∙ or_right (has_id (issued_ids events) q) ((id == q) || false) (or_left (id == q) false t) in
+    waits_is setup (events ++ Issued id tag ∷ []) q (has_id (released_ids (events ++ Issued id tag ∷ [])) q) true (release_of (events ++ Issued id tag ∷ []) q) (due_of setup (events ++ Issued id tag ∷ []) q) (request_of (events ++ Issued id tag ∷ []) q) refl issued refl refl refl ∙ none_issued (has_id (released_ids (events ++ Issued id tag ∷ [])) q) (record { release = release_of (events ++ Issued id tag ∷ []) q; due = due_of setup (events ++ Issued id tag ∷ []) q; bios = request_of (events ++ Issued id tag ∷ []) q })
+
+pub waits-issued : (setup : Setup) (events : List Happened) (id tag : ℕ) → IsLegalTrace setup (events ++ Issued id tag ∷ []) → (q : ℕ) → waits_at setup (events ++ Issued id tag ∷ []) q ≡ cond (id == q) None (waits_at setup events q)
+unfolding released_ids issued_ids
+waits-issued setup events id tag legal q =
+    elim (cases_Bool (id == q)) [
+      | inl t ↦ issued_now setup events id tag q t ∙ sym (rw t refl)
+      | inr t ↦ waits_same setup events (events ++ Issued id tag ∷ []) q (has_released_same events (Issued id tag) q refl) (has_issued_same events (Issued id tag) q (rw t refl)) (same_entered setup events (Issued id tag) q refl) ∙ sym (rw t refl)
+    ]

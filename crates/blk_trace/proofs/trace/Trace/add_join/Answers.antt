@@ -1,0 +1,78 @@
+use Rattle.std.proofs.Common.{◌≡◌, ◌<◌, ◌≤◌, ◌+◌, ◌-◌, ◌++◌, ◌*◌, ◌∙◌, ℕ, List, [], ◌∷◌, Some, None, map, length, length-append, ap, sym, refl, arith, subst, true, false, cond}
+use Rattle.std.specs.Prelude.{nat_eq, replicate, ◌||◌}
+use Rattle.blk_bio.specs.Bios.{Bio}
+use Rattle.std.proofs.lemmas.List.{map-append}
+use Rattle.std.specs.HashMap as hash
+use Rattle.std.specs.HashSet as hash_set
+use Rattle.std.specs.Vec.{vec_len, vec_capacity}
+use Rattle.edd_check.specs.declared.Command.{Command}
+use Rattle.blk_bio.specs.Requests.{dir_of, Fits}
+use Rattle.blk_bio.specs.declared.request.Side.{Side}
+use Rattle.blk_trace.specs.declared.known.Waiting.{Waiting}
+use Rattle.blk_trace.specs.declared.known.Known.TheVariants.{Waits, Gone}
+use Rattle.blk_trace.specs.declared.tags.TagUse.TheVariants.{Free}
+use Rattle.blk_trace.specs.declared.event.Event.TheVariants.{Tick, Release, Join, Issue, Done}
+use Rattle.blk_trace.specs.declared.rule.TraceRule.TheVariants as rule
+use Rattle.blk_trace.specs.Happened.{Happened, Ticked, Released, Joined, Issued, Finished}
+use Rattle.blk_trace.specs.Setups.{Setup, expire_of}
+use Rattle.blk_trace.specs.Events.{request_of, IsOpen}
+use Rattle.blk_trace.specs.Rules.{Obeys, IsUnbroken}
+use Rattle.blk_trace.specs.Traces.{Traced, IsPreparedFor}
+use Rattle.blk_trace.specs.Kept.{summary, known_of, is_bio, has_bio_id}
+use Rattle.blk_trace.specs.Seen.{happened}
+use Rattle.blk_trace.proofs.More.{rounds_within}
+use Rattle.blk_trace.proofs.Opening.{open_positive}
+use Rattle.blk_trace.proofs.Joining.{fits_to}
+use Rattle.blk_trace.proofs.Knowing.{known_waits, waiting_is}
+use Rattle.blk_trace.proofs.Keeping.{kept_tick, kept_done, kept_issue, kept_release, kept_join, room_after_tick, room_after_issue, room_after_done, room_after_entry, entry_room, join_room, on_ok, on_err}
+use Rattle.blk_trace.proofs.trace.Trace.add_join.Goals as goal
+
+pub waiting_at-old-requires-clause-released : goal.waiting_at-old-requires-clause-released
+waiting_at-old-requires-clause-released g c =
+    c.requires.unbroken rule.Unknown
+
+pub waiting_at-old-requires-clause-waits : goal.waiting_at-old-requires-clause-waits
+waiting_at-old-requires-clause-waits g c =
+    c.requires.unbroken rule.AlreadyIssued
+
+pub unreachable-requires : goal.unreachable-requires
+unreachable-requires g c =
+    let s = c.self.inside in
+    let es : List Happened = map happened c.self.inside.events.items in
+    let k = c.self.invariant.0 in
+    let room = c.self.invariant.1 in
+    let all : IsUnbroken s.setup es (Joined c.args.id c.args.request) = subst (λ (v : Traced). IsUnbroken v.setup v.events (Joined c.args.id c.args.request)) (sym c.self.view_is) c.requires.unbroken in
+    let e : known_of s.setup es c.args.id ≡ Some (Waits c.waiting_at-old.result) = subst (λ (v : Traced). known_of v.setup v.events c.args.id ≡ Some (Waits c.waiting_at-old.result)) (sym c.self.view_is) c.waiting_at-old.ensures in
+    let p = known_waits s.setup es c.args.id c.waiting_at-old.result e in
+    let fit : (x : Side) × Fits s.setup.limits (request_of es c.args.id) c.args.request x = all rule.Fit in
+    let i = waiting_is s.setup es c.args.id p.0 p.1 in
+    let f = fits_to s.setup.limits c.limits.result (request_of es c.args.id) p.0.bios c.args.request (sym c.limits.ensures) i.bios fit in
+    c.in_default.ensures.none p.0 p.2 (k.some_bios c.args.id p.0 p.1) f.0 f.1
+
+pub unreachable-requires-then-is_err : goal.unreachable-requires-then-is_err
+unreachable-requires-then-is_err g c =
+    let s = c.self.inside in
+    let es : List Happened = map happened c.self.inside.events.items in
+    let k = c.self.invariant.0 in
+    let room = c.self.invariant.1 in
+    let all : IsUnbroken s.setup es (Joined c.args.id c.args.request) = subst (λ (v : Traced). IsUnbroken v.setup v.events (Joined c.args.id c.args.request)) (sym c.self.view_is) c.requires.unbroken in
+    let e : known_of s.setup es c.args.id ≡ Some (Waits c.waiting_at-old.result) = subst (λ (v : Traced). known_of v.setup v.events c.args.id ≡ Some (Waits c.waiting_at-old.result)) (sym c.self.view_is) c.waiting_at-old.ensures in
+    let p = known_waits s.setup es c.args.id c.waiting_at-old.result e in
+    absurd (let none : hash.get nat_eq s.known c.args.id ≡ None = on_err c.insert.result (hash.get nat_eq s.known c.args.id ≡ None) (sym c.is_err.ensures.value ∙ c.if-is_err.true) c.insert.ensures.absent in let there : hash.get nat_eq s.known c.args.id ≡ Some (Waits c.waiting_at-old.result) = k.known_are c.args.id ∙ e in let both : None ≡ Some (Waits c.waiting_at-old.result) = sym none ∙ there in cc)
+
+pub invariant_of-self : goal.invariant_of-self
+invariant_of-self g c =
+    let s = c.self.inside in
+    let es : List Happened = map happened c.self.inside.events.items in
+    let k = c.self.invariant.0 in
+    let room = c.self.invariant.1 in
+    let all : IsUnbroken s.setup es (Joined c.args.id c.args.request) = subst (λ (v : Traced). IsUnbroken v.setup v.events (Joined c.args.id c.args.request)) (sym c.self.view_is) c.requires.unbroken in
+    let ready : IsPreparedFor s.prepared (Joined c.args.id c.args.request) = subst (λ (v : Traced). IsPreparedFor v.prepared (Joined c.args.id c.args.request)) (sym c.self.view_is) c.requires.prepared in
+    let e : known_of s.setup es c.args.id ≡ Some (Waits c.waiting_at-old.result) = subst (λ (v : Traced). known_of v.setup v.events c.args.id ≡ Some (Waits c.waiting_at-old.result)) (sym c.self.view_is) c.waiting_at-old.ensures in
+    let p = known_waits s.setup es c.args.id c.waiting_at-old.result e in
+    let hz : map happened c.append.new.list.items ≡ es ++ (Joined c.args.id c.args.request) ∷ [] = ap (map happened) c.append.ensures.items ∙ map-append happened s.events.items (Join c.args.id c.args.request ∷ []) in
+    let n : length c.append.new.list.items ≡ length s.events.items + 1 = ap length c.append.ensures.items ∙ length-append s.events.items (Join c.args.id c.args.request ∷ []) in
+    let some : 0 < length c.args.request = c.bios.ensures.is_request.not_empty in
+    let j = c.in-Some.ensures.some p.0 p.2 (k.some_bios c.args.id p.0 p.1) in
+    let hk = on_ok c.insert.result (hash.Updates nat_eq s.known c.insert.new.self c.args.id (Some (Waits c.in-Some.new))) (sym c.is_err.ensures.value ∙ c.if-is_err.false) c.insert.ensures.updates in
+    (kept_join _ es _ c.args.id c.args.request p.0 c.in-Some.new _ _ _ _ (hash.get nat_eq s.known) _ (hash_set.contains is_bio s.ids) _ _ k all hz some p.1 j.1 hk.0 (λ b. c.enter.ensures.ids b ∙ ap (λ (l : List Bio). hash_set.contains is_bio s.ids b || has_bio_id l b) c.bios.ensures.bios), room_after_entry s.prepared _ _ _ _ _ _ _ _ _ _ _ _ _ (join_room s.prepared c.args.id c.args.request ready).0 room n c.append.ensures.room)

@@ -1,0 +1,43 @@
+use Rattle.std.proofs.Common.{◌≡◌, ◌<◌, ◌≤◌, ◌+◌, ◌-◌, ◌++◌, ◌*◌, ◌∙◌, ℕ, List, [], ◌∷◌, Some, None, map, length, length-append, ap, sym, refl, arith, subst, true, false, cond}
+use Rattle.std.specs.Prelude.{nat_eq, replicate}
+use Rattle.std.proofs.lemmas.List.{map-append}
+use Rattle.std.specs.HashMap as hash
+use Rattle.std.specs.HashSet as hash_set
+use Rattle.std.specs.Vec.{vec_len, vec_capacity}
+use Rattle.edd_check.specs.declared.Command.{Command}
+use Rattle.blk_bio.specs.Requests.{dir_of, Fits}
+use Rattle.blk_bio.specs.declared.request.Side.{Side}
+use Rattle.blk_trace.specs.declared.known.Waiting.{Waiting}
+use Rattle.blk_trace.specs.declared.known.Known.TheVariants.{Waits, Gone}
+use Rattle.blk_trace.specs.declared.tags.TagUse.TheVariants.{Free}
+use Rattle.blk_trace.specs.declared.event.Event.TheVariants.{Tick, Release, Join, Issue, Done}
+use Rattle.blk_trace.specs.declared.rule.TraceRule.TheVariants as rule
+use Rattle.blk_trace.specs.Happened.{Happened, Ticked, Released, Joined, Issued, Finished}
+use Rattle.blk_trace.specs.Setups.{Setup, expire_of}
+use Rattle.blk_trace.specs.Events.{request_of, IsOpen}
+use Rattle.blk_trace.specs.Rules.{Obeys, IsUnbroken}
+use Rattle.blk_trace.specs.Traces.{Traced, IsPreparedFor}
+use Rattle.blk_trace.specs.Kept.{summary, known_of, is_bio}
+use Rattle.blk_trace.specs.Seen.{happened}
+use Rattle.blk_trace.proofs.More.{rounds_within}
+use Rattle.blk_trace.proofs.Opening.{open_positive}
+use Rattle.blk_trace.proofs.Knowing.{known_waits, waiting_is}
+use Rattle.blk_trace.proofs.Keeping.{kept_tick, kept_done, kept_issue, kept_release, kept_join, room_after_tick, room_after_issue, room_after_done, room_after_entry, entry_room, join_room, on_ok, on_err}
+use Rattle.blk_trace.proofs.trace.Trace.add_tick.Goals as goal
+
+pub overflow_add-self : goal.overflow_add-self
+overflow_add-self g c =
+    omega (arith, c.self.invariant.0.round_is, rounds_within (map happened c.self.inside.events.items), c.self.invariant.0.legal.not_too_long)
+
+pub invariant_of-self : goal.invariant_of-self
+invariant_of-self g c =
+    let s = c.self.inside in
+    let es : List Happened = map happened c.self.inside.events.items in
+    let k = c.self.invariant.0 in
+    let room = c.self.invariant.1 in
+    let all : IsUnbroken s.setup es Ticked = subst (λ (v : Traced). IsUnbroken v.setup v.events Ticked) (sym c.self.view_is) c.requires.unbroken in
+    let ready : IsPreparedFor s.prepared Ticked = subst (λ (v : Traced). IsPreparedFor v.prepared Ticked) (sym c.self.view_is) c.requires.prepared in
+    let hz : map happened c.append.new.list.items ≡ es ++ Ticked ∷ [] = ap (map happened) c.append.ensures.items ∙ map-append happened s.events.items (Tick ∷ []) in
+    let n : length c.append.new.list.items ≡ length s.events.items + 1 = ap length c.append.ensures.items ∙ length-append s.events.items (Tick ∷ []) in
+    let ht : c.fill.new.self.items ≡ replicate (length s.tags.items) Free = c.fill.ensures.items (λ y h. h) ∙ ap (λ m. replicate m Free) (let e : vec_len s.tags ≡ length s.tags.items = omega (arith, s.tags.ok.0) in e) in
+    (kept_tick _ es _ _ _ _ _ _ _ s.tags.items _ k all hz ht, room_after_tick s.prepared _ _ _ _ _ _ _ _ _ _ _ ready room n c.append.ensures.room)

@@ -1,0 +1,17 @@
+use Rattle.std.proofs.Common.{◌≡◌, ◌<◌, ◌≤◌, ◌+◌, ℕ, arith}
+use Rattle.blk_trace.proofs.Asked.{holds, fails}
+use Rattle.blk_trace.proofs.Room.{room_done}
+use Rattle.blk_trace.proofs.First.{done_not_issued, done_unbroken}
+use Rattle.blk_trace.proofs.trace.Trace.broken_done.Goals as goal
+
+pub returns-then-tag-depth-clause-some : goal.returns-then-tag-depth-clause-some
+returns-then-tag-depth-clause-some g c =
+    done_not_issued c.args.self.now.setup c.args.self.now.events c.args.tag (λ o. absurd (omega (arith, c.depth.ensures.legal.tag_range o.place o.id c.args.tag o.issued, c.if-tag-depth.true, c.depth.ensures.value)))
+
+pub returns-then-is_open-clause-none : goal.returns-then-is_open-clause-none
+returns-then-is_open-clause-none g c =
+    let o = holds c.is_open.result c.if-is_open.true c.is_open.ensures in done_unbroken c.args.self.now.setup c.args.self.now.events c.args.tag o (room_done c.args.self.now.setup c.args.self.now.events c.args.tag c.depth.ensures.legal o)
+
+pub returns-else-is_open-clause-some : goal.returns-else-is_open-clause-some
+returns-else-is_open-clause-some g c =
+    done_not_issued c.args.self.now.setup c.args.self.now.events c.args.tag (fails c.is_open.result c.if-is_open.false c.is_open.ensures)

@@ -1,0 +1,16 @@
+use Rattle.std.proofs.Common.{map, subst}
+use Rattle.blk_trace.specs.Seen.{happened}
+use Rattle.blk_trace.specs.Traces.{Traced}
+use Rattle.blk_trace.specs.Laws.{IsScheduled}
+use Rattle.blk_trace.proofs.Scheduling.{legal-schedule}
+use Rattle.blk_trace.proofs.trace.Trace.commands.Goals as goal
+
+pub returns-in_err-alloc-clause-scheduled : goal.returns-in_err-alloc-clause-scheduled
+returns-in_err-alloc-clause-scheduled g c =
+    let P : Traced → Type 0 = λ v. IsScheduled v.setup v.events in
+    subst P c.self.view_is (legal-schedule c.self.inside.setup (map happened c.self.inside.events.items) c.self.invariant.0.legal)
+
+pub returns-clause-scheduled : goal.returns-clause-scheduled
+returns-clause-scheduled g c =
+    let P : Traced → Type 0 = λ v. IsScheduled v.setup v.events in
+    subst P c.self.view_is (legal-schedule c.self.inside.setup (map happened c.self.inside.events.items) c.self.invariant.0.legal)

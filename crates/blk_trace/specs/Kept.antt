@@ -1,0 +1,87 @@
+-- What a trace keeps beside its events, what each part says of them, and the room that was made.
+use Rattle.std.specs.Prelude.{ℕ, ◌≡◌, ◌≤◌, ◌<◌, ◌+◌, ◌==◌, ◌&&◌, Bool, cond, List, length, Option, Some, None, option_map, slice_get}
+use Rattle.std.specs.List.{list_any}
+use Rattle.edd_check.specs.declared.Command.{Command}
+use Rattle.blk_bio.specs.Bios.{Bio}
+use Rattle.blk_bio.specs.declared.bio.BioId.{BioId}
+use Rattle.blk_bio.specs.Requests.{dir_of, first_of, last_of, sectors_of}
+use Rattle.blk_trace.specs.declared.known.Waiting.{Waiting}
+use Rattle.blk_trace.specs.declared.known.Known.{Known}
+use Rattle.blk_trace.specs.declared.known.Known.TheVariants.{Waits, Gone}
+use Rattle.blk_trace.specs.declared.tags.TagUse.{TagUse}
+use Rattle.blk_trace.specs.declared.tags.TagUse.TheVariants.{Free, Open, Ended}
+use Rattle.blk_trace.specs.declared.trace.Prepared.{Prepared}
+use Rattle.blk_trace.specs.declared.trace.Prepared.TheVariants.{Nothing, AnIssue, Bios}
+use Rattle.blk_trace.specs.Happened.{Happened}
+use Rattle.blk_trace.specs.Setups.{Setup}
+use Rattle.blk_trace.specs.Events.{round_of, open_count, entered, IsOpen, IsUsed}
+use Rattle.blk_trace.specs.Legal.{IsLegalTrace}
+use Rattle.blk_trace.specs.Meaning.{commands_of, rounds_of, issued_ids}
+use Rattle.blk_trace.specs.Standing.{Entered, has_id, waits_at}
+
+-- what is kept of a request that waits
+abbrev pub summary : Entered → Waiting
+summary w = record { dir = dir_of w.bios; first = first_of w.bios; end = last_of w.bios; sectors = sectors_of w.bios; bios = length w.bios; release = w.release; due = w.due }
+
+-- what is kept under an id: nothing of one that was not released, no more than that of one that was issued
+unfoldable pub known_of : Setup → List Happened → ℕ → Option Known
+known_of setup events id = cond (has_id (issued_ids events) id) (Some Gone) (option_map (λ w. Waits (summary w)) (waits_at setup events id))
+
+-- whether two ids of bios are one
+abbrev pub is_bio : BioId → BioId → Bool
+is_bio x y = (x.submitter == y.submitter) && (x.serial == y.serial)
+
+-- whether a bio of the id is among the bios
+abbrev pub has_bio_id : List Bio → BioId → Bool
+has_bio_id bios id = list_any (λ b. is_bio b.id id) bios
+
+-- how a tag stands: not issued in this round, issued and open, or issued and done
+abbrev pub IsTagUse : List Happened → ℕ → TagUse → Type 0
+IsTagUse events tag Free = (IsUsed events tag → ⊥) × (IsOpen events tag → ⊥)
+IsTagUse events tag Open = IsUsed events tag × IsOpen events tag
+IsTagUse events tag Ended = IsUsed events tag × (IsOpen events tag → ⊥)
+
+-- what is kept is what the events say
+pub record IsKept (setup : Setup) (events : List Happened) (commands : List Command) (rounds : List ℕ) (round opened : ℕ) (known : ℕ → Option Known) (ids : BioId → Bool) (tags : List TagUse) : Type 0 where
+  pub legal : IsLegalTrace setup events
+  pub commands_are : commands ≡ commands_of setup events
+  pub rounds_are : rounds ≡ rounds_of events
+  pub round_is : round ≡ round_of events
+  pub open_is : opened ≡ open_count events
+  pub known_are : (id : ℕ) → known id ≡ known_of setup events id
+  pub some_bios : (id : ℕ) (w : Entered) → waits_at setup events id ≡ Some w → 0 < length w.bios
+  pub ids_are : (id : BioId) → ids id ≡ has_bio_id (entered events) id
+  pub tags_are : (tag : ℕ) (u : TagUse) → slice_get tags tag ≡ Some u → IsTagUse events tag u
+  pub each_tag : length tags ≡ setup.depth
+
+-- places for events that were made: an Issue needs its own and its Done's
+abbrev pub event_room : Prepared → ℕ
+event_room Nothing = 0
+event_room AnIssue = 2
+event_room (Bios _) = 1
+
+-- places for commands that were made
+abbrev pub command_room : Prepared → ℕ
+command_room Nothing = 0
+command_room AnIssue = 1
+command_room (Bios _) = 0
+
+-- places for requests that were made
+abbrev pub request_room : Prepared → ℕ
+request_room Nothing = 0
+request_room AnIssue = 0
+request_room (Bios _) = 1
+
+-- places for bios that were made
+abbrev pub bio_room : Prepared → ℕ
+bio_room Nothing = 0
+bio_room AnIssue = 0
+bio_room (Bios n) = n
+
+-- there is room for each open Issue's Done, and for what was prepared
+pub record HasRoom (prepared : Prepared) (events opened commands rounds places command_places round_places known_spare ids_spare : ℕ) : Type 0 where
+  pub for_events : events + opened + event_room prepared ≤ places
+  pub for_command : commands + command_room prepared ≤ command_places
+  pub for_round : rounds + command_room prepared ≤ round_places
+  pub for_request : request_room prepared ≤ known_spare
+  pub for_bios : bio_room prepared ≤ ids_spare

@@ -1,0 +1,11 @@
+pub mod Happened
+pub mod Seen
+pub mod Setups
+pub mod Events
+pub mod Legal
+pub mod Rules
+pub mod Meaning
+pub mod Traces
+pub mod Standing
+pub mod Kept
+pub mod Laws

@@ -1,0 +1,90 @@
+-- What a trace means: its commands, the rounds in which they ran, and the bios that wait.
+use Rattle.std.specs.Prelude.{ℕ, ◌≡◌, ◌<◌, ◌+◌, ◌==◌, ◌++◌, Bool, true, false, not, cond, List, [], ◌∷◌, Option, Some, None, min, max, map, fold, filter, nat_le}
+use Rattle.std.specs.List.{flat_map, filter_map, list_any}
+use Rattle.blk_bio.specs.Bios.{Bio}
+use Rattle.blk_bio.specs.Requests.{dir_of}
+use Rattle.edd_check.specs.declared.Command.{Command}
+use Rattle.blk_trace.specs.Happened.{Happened, Ticked, Released, Joined, Issued, Finished}
+use Rattle.blk_trace.specs.Setups.{Setup, expire_of}
+use Rattle.blk_trace.specs.Events.{is_tick, round_of, request_of}
+
+-- each event with its round, where the first one's round is given
+unfoldable pub timed : ℕ → List Happened → List (ℕ × Happened)
+timed round [] = []
+timed round (e ∷ es) = (round, e) ∷ timed (cond (is_tick e) (round + 1) round) es
+
+-- the greatest of some numbers, 0 without any
+abbrev pub greatest : List ℕ → ℕ
+greatest xs = fold max 0 xs
+
+-- the least of some numbers, 0 without any
+abbrev pub least : List ℕ → ℕ
+least [] = 0
+least (x ∷ xs) = fold min x xs
+
+-- the round in which a request enters under the id by an event, if one does
+abbrev pub entry_round : ℕ → ℕ × Happened → Option ℕ
+entry_round id (round, Released i _) = cond (i == id) (Some round) None
+entry_round id (round, Joined i _) = cond (i == id) (Some round) None
+entry_round id (round, _) = None
+
+-- the round in which its bios are due
+abbrev pub entry_due : Setup → ℕ → ℕ × Happened → Option ℕ
+entry_due setup id (round, Released i bios) = cond (i == id) (Some (round + expire_of setup (dir_of bios))) None
+entry_due setup id (round, Joined i bios) = cond (i == id) (Some (round + expire_of setup (dir_of bios))) None
+entry_due setup id (round, _) = None
+
+-- the greatest round of the id's Release and Joins
+unfoldable pub release_of : List Happened → ℕ → ℕ
+release_of events id = greatest (filter_map (entry_round id) (timed 0 events))
+
+-- the least round in which a bio of the id is due
+unfoldable pub due_of : Setup → List Happened → ℕ → ℕ
+due_of setup events id = least (filter_map (entry_due setup id) (timed 0 events))
+
+-- the command of the id
+abbrev pub command_of : Setup → List Happened → ℕ → Command
+command_of setup events id = record { id = id; release = release_of events id; due = due_of setup events id }
+
+-- the ids in the order of their Issues
+unfoldable pub issued_ids : List Happened → List ℕ
+issued_ids [] = []
+issued_ids (Issued id _ ∷ es) = id ∷ issued_ids es
+issued_ids (_ ∷ es) = issued_ids es
+
+-- the commands, in the order of their Issues
+unfoldable pub commands_of : Setup → List Happened → List Command
+commands_of setup events = map (command_of setup events) (issued_ids events)
+
+-- the round of an Issue
+abbrev pub issue_round : ℕ × Happened → Option ℕ
+issue_round (round, Issued _ _) = Some round
+issue_round (round, _) = None
+
+-- the rounds of the Issues, in their order
+unfoldable pub rounds_of : List Happened → List ℕ
+rounds_of events = filter_map issue_round (timed 0 events)
+
+-- the ids in the order of their Releases
+unfoldable pub released_ids : List Happened → List ℕ
+released_ids [] = []
+released_ids (Released id _ ∷ es) = id ∷ released_ids es
+released_ids (_ ∷ es) = released_ids es
+
+-- the list with the number put before the first that is not below it
+abbrev pub put_rising : ℕ → List ℕ → List ℕ
+put_rising x [] = x ∷ []
+put_rising x (y ∷ ys) = cond (nat_le x y) (x ∷ y ∷ ys) (y ∷ put_rising x ys)
+
+-- the numbers of a list, rising
+unfoldable pub rising : List ℕ → List ℕ
+rising [] = []
+rising (x ∷ xs) = put_rising x (rising xs)
+
+-- the released ids without an Issue, rising
+unfoldable pub waiting_ids : List Happened → List ℕ
+waiting_ids events = rising (filter (λ id. not (list_any (λ i. i == id) (issued_ids events))) (released_ids events))
+
+-- the bios of the released requests without an Issue, by rising id and in tile order
+unfoldable pub waiting_of : List Happened → List Bio
+waiting_of events = flat_map (request_of events) (waiting_ids events)

@@ -1,0 +1,112 @@
+-- What the events so far leave for the next one: which requests wait, and which tags of the round are taken.
+use Rattle.std.specs.Prelude.{ℕ, ◌≡◌, ◌<◌, ◌≤◌, ◌+◌, ◌==◌, ◌++◌, ◌&&◌, Bool, true, false, IsTrue, not, cond, List, [], ◌∷◌, Option, Some, None, length, count_by, option_map}
+use Rattle.std.specs.List.{filter_map, list_any}
+use Rattle.blk_bio.specs.Bios.{Bio}
+use Rattle.blk_bio.specs.declared.bio.Dir.{Dir}
+use Rattle.blk_bio.specs.declared.bio.Dir.TheVariants.{Read, Write}
+use Rattle.blk_bio.specs.declared.request.Side.{Side}
+use Rattle.blk_bio.specs.Requests.{dir_of, IsWithin, Fits}
+use Rattle.blk_trace.specs.Happened.{Happened, Ticked, Released, Joined, Issued, Finished}
+use Rattle.blk_trace.specs.Setups.{Setup}
+use Rattle.blk_trace.specs.Events.{is_tick, request_of, entered, AreOnce, IsReleased}
+use Rattle.blk_trace.specs.Meaning.{release_of, due_of, released_ids, issued_ids, waiting_ids}
+
+-- a request that waits, as it was joined
+pub record Entered : Type 0 where
+  pub release : ℕ
+  pub due : ℕ
+  pub bios : List Bio
+
+-- whether the number is in the list
+abbrev pub has_id : List ℕ → ℕ → Bool
+has_id ids id = list_any (λ i. i == id) ids
+
+-- the request that waits under the id: it was released and has no Issue
+unfoldable pub waits_at : Setup → List Happened → ℕ → Option Entered
+waits_at setup events id =
+    cond (has_id (released_ids events) id && not (has_id (issued_ids events) id))
+    (Some (record { release = release_of events id; due = due_of setup events id; bios = request_of events id }))
+    None
+
+-- how many requests wait
+abbrev pub waiting_count : List Happened → ℕ
+waiting_count events = length (waiting_ids events)
+
+-- how many requests were released
+abbrev pub released_count : List Happened → ℕ
+released_count events = length (released_ids events)
+
+-- the events after the last Tick, where those given stand before the others
+abbrev pub after_last_tick : List Happened → List Happened → List Happened
+after_last_tick before [] = before
+after_last_tick before (e ∷ es) = after_last_tick (cond (is_tick e) [] (before ++ e ∷ [])) es
+
+-- the events of the round that is on
+unfoldable pub this_round : List Happened → List Happened
+this_round events = after_last_tick [] events
+
+-- the id that an event issues under the tag, if it does
+abbrev pub issued_by : ℕ → Happened → Option ℕ
+issued_by tag (Issued id t) = cond (t == tag) (Some id) None
+issued_by tag _ = None
+
+-- whether it is a Done of the tag
+abbrev pub is_done_of : ℕ → Happened → Bool
+is_done_of tag (Finished t) = t == tag
+is_done_of tag _ = false
+
+-- a tag of the round: the direction of its command, and whether the command is in flight
+pub record Seat : Type 0 where
+  pub dir : Dir
+  pub in_flight : Bool
+
+abbrev pub first_id : List ℕ → Option ℕ
+first_id [] = None
+first_id (id ∷ _) = Some id
+
+-- how the tag is taken in the round that is on, if it is
+unfoldable pub seat_at : List Happened → ℕ → Option Seat
+seat_at events tag =
+    option_map (λ id. record { dir = dir_of (request_of events id); in_flight = not (list_any (is_done_of tag) (this_round events)) })
+    (first_id (filter_map (issued_by tag) (this_round events)))
+
+-- whether two directions are one
+abbrev pub same_dir : Dir → Dir → Bool
+same_dir Read Read = true
+same_dir Read Write = false
+same_dir Write Read = false
+same_dir Write Write = true
+
+-- whether a seat's command is of the direction and in flight
+abbrev pub is_flying : Dir → Option Seat → Bool
+is_flying dir None = false
+is_flying dir (Some seat) = same_dir dir seat.dir && seat.in_flight
+
+-- the tag of an event that issues
+abbrev pub issue_tag : Happened → Option ℕ
+issue_tag (Issued _ tag) = Some tag
+issue_tag _ = None
+
+-- how many commands of the direction are in flight
+unfoldable pub open_of : List Happened → Dir → ℕ
+open_of events dir = count_by (λ tag. is_flying dir (seat_at events tag)) (filter_map issue_tag (this_round events))
+
+-- what may happen next, apart from the number of events
+abbrev pub IsAllowed : Setup → List Happened → Happened → Type 0
+IsAllowed setup events Ticked = (open_of events Read ≡ 0) × (open_of events Write ≡ 0)
+IsAllowed setup events (Released id bios) =
+    (IsReleased events id → ⊥) × IsWithin setup.limits bios × AreOnce (entered events ++ bios)
+IsAllowed setup events (Joined id bios) =
+    (w : Entered) × (side : Side) × (waits_at setup events id ≡ Some w) × Fits setup.limits w.bios bios side × AreOnce (entered events ++ bios)
+IsAllowed setup events (Issued id tag) =
+    (w : Entered) × (waits_at setup events id ≡ Some w) × (tag < setup.depth) × (seat_at events tag ≡ None)
+IsAllowed setup events (Finished tag) =
+    (dir : Dir) × (seat_at events tag ≡ Some (record { dir = dir; in_flight = true }))
+
+-- how many places an event asks for: an Issue reserves that of its Done, which asks for none
+abbrev pub places_of : Happened → ℕ
+places_of Ticked = 1
+places_of (Released _ _) = 1
+places_of (Joined _ _) = 1
+places_of (Issued _ _) = 2
+places_of (Finished _) = 0

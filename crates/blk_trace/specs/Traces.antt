@@ -1,0 +1,55 @@
+-- What contracts see of a trace, and what its calls answer.
+use Rattle.std.specs.Prelude.{ℕ, ◌≡◌, ◌++◌, ◌<◌, List, [], ◌∷◌, Bool, Option, Some, None, length, take, slice_get, Result, Ok, Err, IsTrue, Any, ⊤}
+use Rattle.blk_bio.specs.Bios.{Bio}
+use Rattle.blk_bio.specs.declared.bio.BioId.{BioId}
+use Rattle.blk_trace.specs.Happened.{Happened, Ticked, Released, Joined, Issued, Finished}
+use Rattle.blk_trace.specs.declared.rule.PushFault.{PushFault}
+use Rattle.blk_trace.specs.declared.rule.PushFault.TheVariants as push_fault
+use Rattle.blk_trace.specs.declared.rule.TraceFault.{TraceFault}
+use Rattle.blk_trace.specs.declared.rule.TraceFault.TheVariants as trace_fault
+use Rattle.blk_trace.specs.declared.trace.Prepared.{Prepared}
+use Rattle.blk_trace.specs.declared.trace.Prepared.TheVariants.{Nothing, AnIssue, Bios}
+use Rattle.blk_trace.specs.Setups.{Setup}
+use Rattle.blk_trace.specs.Events.{entered}
+use Rattle.blk_trace.specs.Legal.{IsLegalTrace}
+use Rattle.blk_trace.specs.Rules.{IsFirstBroken, IsUnbroken}
+
+-- a trace: what it is made for, its events, and what it is prepared for
+pub record Traced : Type 0 where
+  pub setup : Setup
+  pub events : List Happened
+  pub prepared : Prepared
+
+-- room for the event was made: always for a Done, else for an Issue (and then for a Tick too) or for as many bios
+abbrev pub IsPreparedFor : Prepared → Happened → Type 0
+IsPreparedFor p (Finished _) = ⊤
+IsPreparedFor AnIssue (Issued _ _) = ⊤
+IsPreparedFor AnIssue Ticked = ⊤
+IsPreparedFor (Bios n) (Released _ bios) = length bios ≡ n
+IsPreparedFor (Bios n) (Joined _ bios) = length bios ≡ n
+IsPreparedFor _ _ = ⊥
+
+-- what is asked of `prepare`
+abbrev pub wanted : Option (List Bio) → Prepared
+wanted None = AnIssue
+wanted (Some bios) = Bios (length bios)
+
+-- what each answer of `push` says of the trace before and after it, whatever comes back with a fault
+abbrev pub IsPushAnswer : {X : Type 0} → Traced → Happened → Traced → Result (Unit {0}) (X × PushFault) → Type 0
+IsPushAnswer old e new (Ok _) =
+    (new ≡ record { setup = old.setup; events = old.events ++ e ∷ []; prepared = Nothing }) × IsUnbroken old.setup old.events e
+IsPushAnswer old e new (Err (_, push_fault.Rule rule)) =
+    (new ≡ old) × IsFirstBroken old.setup old.events e rule
+IsPushAnswer old e new (Err (_, push_fault.Memory)) =
+    (new ≡ old) × IsUnbroken old.setup old.events e × (IsPreparedFor old.prepared e → ⊥)
+
+-- what each answer of `from_events` says of the list
+abbrev pub IsFromEventsAnswer : Setup → List Happened → Result Traced TraceFault → Type 0
+IsFromEventsAnswer setup events (Ok t) = (t.setup ≡ setup) × (t.events ≡ events) × IsLegalTrace setup events
+IsFromEventsAnswer setup events (Err (trace_fault.Rule at rule)) =
+    IsLegalTrace setup (take at events) × ((e : Happened) × (slice_get events at ≡ Some e) × IsFirstBroken setup (take at events) e rule)
+IsFromEventsAnswer setup events (Err trace_fault.Memory) = ⊤
+
+-- a bio of the id entered
+abbrev pub HasBio : List Happened → BioId → Type 0
+HasBio events id = (k : ℕ) × ((b : Bio) × (slice_get (entered events) k ≡ Some b) × (b.id ≡ id))

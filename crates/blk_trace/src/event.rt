@@ -1,0 +1,19 @@
+//! What can happen in a block layer: the events of Linux's blktrace that this model has.
+
+use blk_bio::request::Request;
+use std::alloc::{Allocator, Global};
+
+/// One thing that happened.
+#[derive(Debug, Drop)]
+pub enum Event<A: Allocator = Global> {
+    /// A round ends. A command takes one round.
+    Tick,
+    /// A request enters the scheduler under a new id (an insert).
+    Release { id: u64, request: Request<A> },
+    /// A request joins the one that entered under the id, at its back or front (a merge).
+    Join { id: u64, request: Request<A> },
+    /// The request of the id goes to the device under the tag (an issue, named by blk-mq's tag).
+    Issue { id: u64, tag: u16 },
+    /// The command under the tag has completed, and the tag is free from the next round on.
+    Done { tag: u16 },
+}

@@ -1,0 +1,135 @@
+//! What a trace is made for.
+
+ghost use Rattle.std.specs.Prelude.{◌≡◌, ◌<◌, ◌^◌};
+ghost use Rattle.blk_trace.specs.Setups.{IsSetup, IsSetupAnswer, expire_of};
+
+use blk_bio::bio::Dir;
+use blk_bio::limits::Limits;
+use std::marker::Model;
+use thiserror::Error;
+
+/// The most tags.
+pub const MAX_DEPTH: u64 = 64;
+
+/// The most hardware queues.
+pub const MAX_QUEUES: u8 = 16;
+
+/// Every expiry lies below this number of rounds.
+pub const EXPIRE_LIMIT: u64 = 1 << 40;
+
+/// Why a setup is not made, in the order in which the reasons are looked for.
+#[derive(Clone, Copy, Debug, PartialEq, Eq, Error)]
+pub enum SetupFault {
+    /// The depth is 0 or above 64.
+    #[error("Depth")]
+    Depth,
+    /// The number of hardware queues is 0 or above 16.
+    #[error("Queues")]
+    Queues,
+    /// An expiry is 2^40 or more.
+    #[error("Expire")]
+    Expire,
+}
+
+/// How many tags and hardware queues there are, after how many rounds a read and a write are due,
+/// and how large a request of several bios may be.
+#[derive(Clone, Copy, Debug, PartialEq, Eq)]
+pub struct Setup {
+    depth: u64,
+    hw: u8,
+    read_expire: u64,
+    write_expire: u64,
+    limits: Limits,
+}
+
+impl Model for Setup {
+    ghost use Rattle.blk_trace.specs.Setups.{Setup as SetupFields, IsSetup};
+
+    ghost Value = { SetupFields };
+
+    ghost view = { λ s. record { depth = s.depth; hw = s.hw; read_expire = s.read_expire; write_expire = s.write_expire; limits = s.limits } };
+
+    ghost invariant = { λ s. IsSetup record { depth = s.depth; hw = s.hw; read_expire = s.read_expire; write_expire = s.write_expire; limits = s.limits } };
+
+    ghost inverse = { λ v. record { depth = v.depth; hw = v.hw; read_expire = v.read_expire; write_expire = v.write_expire; limits = v.limits } };
+}
+
+impl Setup {
+    /// A setup of 1 to 64 tags and 1 to 16 hardware queues, with expiries below 2^40 rounds.
+    pub fn new(
+        depth: u64,
+        hw: u8,
+        read_expire: u64,
+        write_expire: u64,
+        limits: Limits,
+    ) -> Result<Setup, SetupFault>
+        ensures { IsSetupAnswer depth hw read_expire write_expire limits result }
+    {
+        if depth == 0 || depth > MAX_DEPTH {
+            return Err(SetupFault::Depth);
+        }
+        if hw == 0 || hw > MAX_QUEUES {
+            return Err(SetupFault::Queues);
+        }
+        if read_expire >= EXPIRE_LIMIT || write_expire >= EXPIRE_LIMIT {
+            return Err(SetupFault::Expire);
+        }
+        Ok(Setup {
+            depth,
+            hw,
+            read_expire,
+            write_expire,
+            limits,
+        })
+    }
+
+    /// How many tags there are.
+    pub fn depth(&self) -> u64
+        ensures value { result ≡ self.now.depth }
+        ensures is_setup { IsSetup self.now }
+    {
+        self.depth
+    }
+
+    /// How many hardware queues there are.
+    pub fn hw(&self) -> u8
+        ensures value { result ≡ self.now.hw }
+        ensures is_setup { IsSetup self.now }
+    {
+        self.hw
+    }
+
+    /// After how many rounds a read is due.
+    pub fn read_expire(&self) -> u64
+        ensures value { result ≡ self.now.read_expire }
+        ensures is_setup { IsSetup self.now }
+    {
+        self.read_expire
+    }
+
+    /// After how many rounds a write is due.
+    pub fn write_expire(&self) -> u64
+        ensures value { result ≡ self.now.write_expire }
+        ensures is_setup { IsSetup self.now }
+    {
+        self.write_expire
+    }
+
+    /// The limits of a request of several bios.
+    pub fn limits(&self) -> Limits
+        ensures { result ≡ self.now.limits }
+    {
+        self.limits
+    }
+
+    /// After how many rounds a bio of the direction is due.
+    pub(crate) fn expire(&self, dir: Dir) -> u64
+        ensures value { result ≡ expire_of self.now dir }
+        ensures small { result < 2 ^ 40 }
+    {
+        match dir {
+            Dir::Read => self.read_expire,
+            Dir::Write => self.write_expire,
+        }
+    }
+}

@@ -1,0 +1,245 @@
+//! A list of events that is legal, with a setup.
+
+ghost use Rattle.std.specs.Prelude.{ℕ, ◌≡◌, ◌≢◌, ◌↔◌, ◌++◌, ◌+◌, ◌≤◌, ◌∷◌, [], IsTrue, IfOk, IfErr, OnOk, OnErr, length, map};
+ghost use Rattle.std.specs.Option.{option_copied};
+ghost use Rattle.blk_trace.specs.Legal.{IsLegalTrace};
+ghost use Rattle.blk_trace.specs.Rules.{IsUnbroken};
+ghost use Rattle.blk_trace.specs.Events.{round_of, open_count};
+ghost use Rattle.blk_trace.specs.Standing.{IsAllowed, places_of};
+ghost use Rattle.blk_trace.specs.Traces.{wanted, IsPreparedFor, IsPushAnswer, HasBio};
+ghost use Rattle.blk_trace.specs.Seen.{happened};
+ghost use Rattle.blk_trace.specs.Kept.{event_room, command_room, request_room, bio_room};
+
+use crate::event::Event;
+use crate::known::Known;
+use crate::rule::PushFault;
+use crate::setup::Setup;
+use crate::tags::TagUse;
+use blk_bio::bio::BioId;
+use blk_bio::request::Request;
+use edd_check::Command;
+use std::alloc::{AllocError, Allocator, Global};
+use std::collections::{HashMap, HashSet};
+use std::hash::{BuildHasherDefault, FoldHasher};
+use std::marker::Model;
+
+mod adding;
+mod checking;
+mod reading;
+
+/// The most events of a trace, with a Done counted for each open Issue.
+pub const MAX_EVENTS: u64 = 1_000_000;
+
+/// How the maps of a trace hash: by numbers alone, so that a trace needs no source of randomness.
+type Hashing = BuildHasherDefault<FoldHasher>;
+
+/// What the next push was given room for.
+#[derive(Clone, Copy, Debug, PartialEq, Eq)]
+pub enum Prepared {
+    /// No event but a Done.
+    Nothing,
+    /// An Issue, or a Tick.
+    AnIssue,
+    /// A Release or a Join of as many bios.
+    Bios(u64),
+}
+
+/// How many places an event needs.
+#[derive(Clone, Copy)]
+struct Room {
+    events: usize,
+    commands: usize,
+    requests: usize,
+    bios: usize,
+}
+
+/// The places that what is wanted needs: an Issue needs its own and its Done's.
+fn room_for(wanted: Prepared) -> Room
+    ensures events { result.events ≡ event_room wanted }
+    ensures commands { result.commands ≡ command_room wanted }
+    ensures requests { result.requests ≡ request_room wanted }
+    ensures bios { result.bios ≡ bio_room wanted }
+{
+    let (events, commands, requests, bios) = match wanted {
+        Prepared::Nothing => (0, 0, 0, 0),
+        Prepared::AnIssue => (2, 1, 0, 0),
+        Prepared::Bios(n) => (1, 0, 1, n as usize),
+    };
+    Room {
+        events,
+        commands,
+        requests,
+        bios,
+    }
+}
+
+/// A legal list of events.
+#[derive(Drop)]
+pub struct Trace<A: Allocator = Global> {
+    setup: Setup,
+    events: Vec<Event<A>, A>,
+    commands: Vec<Command, A>,
+    rounds: Vec<u64, A>,
+    known: HashMap<u64, Known, Hashing, A>,
+    ids: HashSet<BioId, Hashing, A>,
+    tags: Vec<TagUse, A>,
+    round: u64,
+    open: u64,
+    prepared: Prepared,
+}
+
+impl<A: Allocator> Model for Trace<A> {
+    ghost use Rattle.std.specs.Prelude.{map, length, nat_eq, vec_capacity};
+    ghost use Rattle.std.specs.HashMap as hash;
+    ghost use Rattle.std.specs.HashSet as hash_set;
+    ghost use Rattle.blk_trace.specs.Seen.{happened};
+    ghost use Rattle.blk_trace.specs.Traces.{Traced};
+    ghost use Rattle.blk_trace.specs.Kept.{IsKept, HasRoom, is_bio};
+
+    ghost Value = { Traced };
+
+    ghost view = { λ t. record { setup = t.setup; events = map happened t.events.items; prepared = t.prepared } };
+
+    ghost invariant = { λ t. IsKept t.setup (map happened t.events.items) t.commands.items t.rounds.items t.round t.«open» (hash.get nat_eq t.known) (hash_set.contains is_bio t.ids) t.tags.items × HasRoom t.prepared (length t.events.items) t.«open» (length t.commands.items) (length t.rounds.items) (vec_capacity t.events) (vec_capacity t.commands) (vec_capacity t.rounds) (hash.spare t.known) (hash_set.spare t.ids) };
+}
+
+impl<A: Allocator + Clone> Trace<A> {
+    /// A trace without events.
+    pub fn empty(alloc: A, setup: Setup) -> Result<Trace<A>, AllocError>
+        ensures { IfOk result (λ t. t ≡ record { setup = setup; events = []; prepared = Prepared.Nothing }) }
+    {
+        let events = Vec::new(alloc.clone()?);
+        let commands = Vec::new(alloc.clone()?);
+        let rounds = Vec::new(alloc.clone()?);
+        let known = HashMap::new(alloc.clone()?);
+        let ids = HashSet::new(alloc.clone()?);
+        let mut tags = Vec::new(alloc);
+        tags.resize(setup.depth() as usize, TagUse::Free)?;
+        Ok(Trace {
+            setup,
+            events,
+            commands,
+            rounds,
+            known,
+            ids,
+            tags,
+            round: 0,
+            open: 0,
+            prepared: Prepared::Nothing,
+        })
+    }
+
+    /// Adds the event, where it breaks no rule and there is memory for it. A refused event comes back, with the first
+    /// rule that it breaks, or `Memory` where it breaks none; the trace is then as it was.
+    ///
+    /// Adding a Done takes no memory, since its Issue reserved the place; nor does adding what was prepared.
+    pub fn push(&mut self, event: Event<A>) -> Result<(), (Event<A>, PushFault)>
+        ensures answer { IsPushAnswer self.old (happened event) self.new result }
+        ensures ok { OnOk result ((self.new ≡ record { setup = self.old.setup; events = self.old.events ++ happened event ∷ []; prepared = Prepared.Nothing }) × IsLegalTrace self.old.setup (self.old.events ++ happened event ∷ [])) }
+        ensures err { IfErr result (λ e. (e.0 ≡ event) × (self.new ≡ self.old)) }
+        ensures accepts { IsUnbroken self.old.setup self.old.events (happened event) → IfErr result (λ e. e.1 ≡ PushFault.Memory) }
+        ensures accepts_legal { IsLegalTrace self.old.setup (self.old.events ++ happened event ∷ []) → IfErr result (λ e. e.1 ≡ PushFault.Memory) }
+        ensures allowed { IsAllowed self.old.setup self.old.events (happened event) → length self.old.events + open_count self.old.events + places_of (happened event) ≤ 1000000 → IfErr result (λ e. e.1 ≡ PushFault.Memory) }
+        ensures prepared { IfErr result (λ e. e.1 ≡ PushFault.Memory → IsPreparedFor self.old.prepared (happened event) → ⊥) }
+    {
+        if let Some(rule) = self.first_broken(&event) {
+            return Err((event, PushFault::Rule(rule)));
+        }
+        if self.prepare_for(&event).is_err() {
+            return Err((event, PushFault::Memory));
+        }
+        self.add(event);
+        Ok(())
+    }
+
+    /// Makes room for the event, where it was not made before.
+    fn prepare_for(&mut self, event: &Event<A>) -> Result<(), AllocError>
+        ensures ok { OnOk result (IsPreparedFor self.new.prepared (happened event.now) × (self.new.setup ≡ self.old.setup) × (self.new.events ≡ self.old.events)) }
+        ensures err { OnErr result ((self.new ≡ self.old) × (IsPreparedFor self.old.prepared (happened event.now) → ⊥)) }
+    {
+        match event {
+            Event::Done { .. } => Ok(()),
+            Event::Tick | Event::Issue { .. } => self.make_room(Prepared::AnIssue),
+            Event::Release { request, .. } | Event::Join { request, .. } => {
+                self.make_room(Prepared::Bios(request.bios().len() as u64))
+            }
+        }
+    }
+
+    /// Makes room for the next push: of a Release or a Join of a request of as many bios, or of an Issue (or a Tick)
+    /// where none is given. Fails for want of memory alone.
+    pub fn prepare(&mut self, request: Option<&Request<A>>) -> Result<(), AllocError>
+        ensures ok { OnOk result (self.new ≡ record { setup = self.old.setup; events = self.old.events; prepared = wanted (option_copied request.entry) }) }
+        ensures err { OnErr result (self.new ≡ self.old) }
+    {
+        self.make_room(match request {
+            None => Prepared::AnIssue,
+            Some(request) => Prepared::Bios(request.bios().len() as u64),
+        })
+    }
+
+    /// Makes room for what is wanted, where it was not made before.
+    fn make_room(&mut self, wanted: Prepared) -> Result<(), AllocError>
+        ensures ok { OnOk result (self.new ≡ record { setup = self.old.setup; events = self.old.events; prepared = wanted }) }
+        ensures err { OnErr result ((self.new ≡ self.old) × (self.old.prepared ≢ wanted)) }
+    {
+        if self.prepared == wanted {
+            return Ok(());
+        }
+        let room = room_for(wanted);
+        self.events.reserve(self.open as usize + room.events)?;
+        self.commands.reserve(room.commands)?;
+        self.rounds.reserve(room.commands)?;
+        self.known.reserve(room.requests)?;
+        self.ids.reserve(room.bios)?;
+        self.prepared = wanted;
+        Ok(())
+    }
+
+    /// Whether a bio of this id was released or joined.
+    pub fn has_bio(&self, id: BioId) -> bool
+        ensures { IsTrue result ↔ HasBio self.now.events id }
+    {
+        let _ = &self.round;
+        self.ids.contains(&id)
+    }
+
+    /// What the trace is made for.
+    pub fn setup(&self) -> Setup
+        ensures { result ≡ self.now.setup }
+    {
+        self.setup
+    }
+
+    /// The events, which are legal.
+    pub fn events(&self) -> &[Event<A>]
+        ensures events { map happened result.now ≡ self.now.events }
+        ensures legal { IsLegalTrace self.now.setup self.now.events }
+    {
+        self.events.as_slice()
+    }
+
+    /// How many events there are.
+    pub fn len(&self) -> u64
+        ensures value { result ≡ length self.now.events }
+        ensures few { result ≤ 1000000 }
+    {
+        self.events.len() as u64
+    }
+
+    /// The round that is on: how many Ticks there are.
+    pub fn round(&self) -> u64
+        ensures value { result ≡ round_of self.now.events }
+        ensures few { result ≤ 1000000 }
+    {
+        self.round
+    }
+
+    /// How many Issues have no Done yet.
+    pub fn unfinished(&self) -> u64
+        ensures value { result ≡ open_count self.now.events }
+        ensures few { result + length self.now.events ≤ 1000000 }
+    {
+        self.open
+    }
+}

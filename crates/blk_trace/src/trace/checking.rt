@@ -1,0 +1,222 @@
+//! The first rule that an event would break.
+
+ghost use Rattle.std.specs.Prelude.{ℕ, ◌≡◌, ◌<◌, ◌≤◌, ◌+◌, ◌++◌, ◌↔◌, IsTrue, IfSome, IfNone, length};
+ghost use Rattle.blk_trace.specs.Happened.{Ticked, Released, Joined, Issued, Finished};
+ghost use Rattle.blk_trace.specs.Legal.{IsLegalTrace};
+ghost use Rattle.blk_trace.specs.Rules.{IsFirstBroken, IsUnbroken};
+ghost use Rattle.blk_trace.specs.Events.{entered, open_count, IsOpen, IsUsed, AreOnce};
+ghost use Rattle.blk_trace.specs.Standing.{Entered, waits_at};
+ghost use Rattle.std.specs.List.{list_any};
+ghost use Rattle.std.specs.HashSet as hash_set;
+ghost use Rattle.blk_trace.specs.Kept.{known_of, IsTagUse, is_bio, has_bio_id};
+ghost use Rattle.blk_trace.specs.Seen.{happened};
+
+use crate::event::Event;
+use crate::known::Known;
+use crate::rule::TraceRule;
+use crate::tags::{TagUse, any_open};
+use crate::trace::{Hashing, MAX_EVENTS, Trace};
+use blk_bio::bio::{Bio, BioId};
+use blk_bio::request::Request;
+use std::alloc::Allocator;
+use std::collections::HashSet;
+
+impl<A: Allocator + Clone> Trace<A> {
+    /// The first rule that the event would break.
+    pub(crate) fn first_broken(&self, event: &Event<A>) -> Option<TraceRule>
+        ensures some { IfSome result (IsFirstBroken self.now.setup self.now.events (happened event.now)) }
+        ensures none { IfNone result (IsUnbroken self.now.setup self.now.events (happened event.now)) }
+        ensures legal { IsLegalTrace self.now.setup self.now.events }
+    {
+        let _ = &self.round;
+        match event {
+            Event::Tick => self.broken_tick(),
+            Event::Release { id, request } => self.broken_release(*id, request),
+            Event::Join { id, request } => self.broken_join(*id, request),
+            Event::Issue { id, tag } => self.broken_issue(*id, *tag),
+            Event::Done { tag } => self.broken_done(*tag),
+        }
+    }
+
+    fn broken_tick(&self) -> Option<TraceRule>
+        ensures some { IfSome result (IsFirstBroken self.now.setup self.now.events Ticked) }
+        ensures none { IfNone result (IsUnbroken self.now.setup self.now.events Ticked) }
+    {
+        if self.has_open() {
+            Some(TraceRule::InFlight)
+        } else if !self.has_places(1) {
+            Some(TraceRule::TooLong)
+        } else {
+            None
+        }
+    }
+
+    fn broken_release(&self, id: u64, request: &Request<A>) -> Option<TraceRule>
+        ensures some { IfSome result (IsFirstBroken self.now.setup self.now.events (Released id request.now)) }
+        ensures none { IfNone result (IsUnbroken self.now.setup self.now.events (Released id request.now)) }
+    {
+        if self.known_at(id).is_some() {
+            Some(TraceRule::ReleasedTwice)
+        } else if !self.are_new(request) {
+            Some(TraceRule::BioTwice)
+        } else if !request.within(&self.setup().limits()) {
+            Some(TraceRule::Fit)
+        } else if !self.has_places(1) {
+            Some(TraceRule::TooLong)
+        } else {
+            None
+        }
+    }
+
+    fn broken_join(&self, id: u64, request: &Request<A>) -> Option<TraceRule>
+        ensures some { IfSome result (IsFirstBroken self.now.setup self.now.events (Joined id request.now)) }
+        ensures none { IfNone result (IsUnbroken self.now.setup self.now.events (Joined id request.now)) }
+    {
+        let waiting = match self.known_at(id) {
+            None => return Some(TraceRule::Unknown),
+            Some(Known::Gone) => return Some(TraceRule::AlreadyIssued),
+            Some(Known::Waits(waiting)) => waiting,
+        };
+        if !self.are_new(request) {
+            Some(TraceRule::BioTwice)
+        } else if waiting.joined(request, 0, &self.setup().limits()).is_none() {
+            Some(TraceRule::Fit)
+        } else if !self.has_places(1) {
+            Some(TraceRule::TooLong)
+        } else {
+            None
+        }
+    }
+
+    fn broken_issue(&self, id: u64, tag: u16) -> Option<TraceRule>
+        ensures some { IfSome result (IsFirstBroken self.now.setup self.now.events (Issued id tag)) }
+        ensures none { IfNone result (IsUnbroken self.now.setup self.now.events (Issued id tag)) }
+    {
+        match self.known_at(id) {
+            None => return Some(TraceRule::Unknown),
+            Some(Known::Gone) => return Some(TraceRule::AlreadyIssued),
+            Some(Known::Waits(_)) => {}
+        }
+        if tag as u64 >= self.depth() {
+            Some(TraceRule::TagRange)
+        } else if self.is_used(tag) {
+            Some(TraceRule::TagUsed)
+        } else if !self.has_places(2) {
+            Some(TraceRule::TooLong)
+        } else {
+            None
+        }
+    }
+
+    fn broken_done(&self, tag: u16) -> Option<TraceRule>
+        ensures some { IfSome result (IsFirstBroken self.now.setup self.now.events (Finished tag)) }
+        ensures none { IfNone result (IsUnbroken self.now.setup self.now.events (Finished tag)) }
+    {
+        if tag as u64 >= self.depth() {
+            Some(TraceRule::NotIssued)
+        } else if self.is_open(tag) {
+            None
+        } else {
+            Some(TraceRule::NotIssued)
+        }
+    }
+
+    /// What is kept under the id.
+    pub(crate) fn known_at(&self, id: u64) -> Option<Known>
+        ensures value { result ≡ known_of self.now.setup self.now.events id }
+        ensures legal { IsLegalTrace self.now.setup self.now.events }
+        ensures some_bios { (w : Entered) → waits_at self.now.setup self.now.events id ≡ Some w → 0 < length w.bios }
+    {
+        let _ = &self.round;
+        self.known.get(&id).copied()
+    }
+
+    /// How many tags there are.
+    fn depth(&self) -> u64
+        ensures value { result ≡ self.now.setup.depth }
+        ensures legal { IsLegalTrace self.now.setup self.now.events }
+    {
+        self.setup.depth()
+    }
+
+    /// How a tag below the depth stands.
+    fn tag_use(&self, tag: u16) -> TagUse
+        requires { tag < self.now.setup.depth }
+        ensures { IsTagUse self.now.events tag result }
+    {
+        self.tags[tag as usize]
+    }
+
+    /// Whether a tag below the depth has an Issue in this round.
+    fn is_used(&self, tag: u16) -> bool
+        requires { tag < self.now.setup.depth }
+        ensures { IsTrue result ↔ IsUsed self.now.events tag }
+    {
+        match self.tag_use(tag) {
+            TagUse::Free => false,
+            TagUse::Open => true,
+            TagUse::Ended => true,
+        }
+    }
+
+    /// Whether a tag below the depth has an Issue without a Done.
+    fn is_open(&self, tag: u16) -> bool
+        requires { tag < self.now.setup.depth }
+        ensures { IsTrue result ↔ IsOpen self.now.events tag }
+    {
+        match self.tag_use(tag) {
+            TagUse::Free => false,
+            TagUse::Open => true,
+            TagUse::Ended => false,
+        }
+    }
+
+    /// Whether a tag has an Issue without a Done.
+    fn has_open(&self) -> bool
+        ensures { IsTrue result ↔ ((tag : ℕ) × IsOpen self.now.events tag) }
+    {
+        any_open(self.tags.as_slice())
+    }
+
+    /// Whether there are places for so many events more, with a Done counted for each open Issue.
+    fn has_places(&self, places: u64) -> bool
+        requires { places ≤ 2 }
+        ensures { IsTrue result ↔ (length self.now.events + open_count self.now.events + places ≤ 1000000) }
+    {
+        self.events.len() as u64 + self.open + places <= MAX_EVENTS
+    }
+
+    /// Whether no bio of the request has the id of one that entered, or of another of the request.
+    fn are_new(&self, request: &Request<A>) -> bool
+        ensures { IsTrue result ↔ AreOnce (entered self.now.events ++ request.now) }
+    {
+        let bios = request.bios();
+        are_apart(bios) && !any_entered(&self.ids, bios)
+    }
+}
+
+/// Whether no two of the bios have one id.
+fn are_apart(bios: &[Bio]) -> bool
+    ensures { IsTrue result ↔ AreOnce bios.now }
+{
+    for (i, bio) in bios.iter().enumerate() {
+        if has_id(&bios[..i], bio.id()) {
+            return false;
+        }
+    }
+    true
+}
+
+/// Whether one of the bios has the id.
+fn has_id(bios: &[Bio], id: BioId) -> bool
+    ensures { result ≡ has_bio_id bios.now id }
+{
+    bios.iter().any(|bio| bio.id() == id)
+}
+
+/// Whether the id of one of the bios is in the set.
+fn any_entered<A: Allocator>(ids: &HashSet<BioId, Hashing, A>, bios: &[Bio]) -> bool
+    ensures { result ≡ list_any (λ b. hash_set.contains is_bio ids.now b.id) bios.now }
+{
+    bios.iter().any(|bio| ids.contains(&bio.id()))
+}

@@ -1,0 +1,60 @@
+//! Whole lists of events as traces, and what a trace means.
+
+ghost use Rattle.std.specs.Prelude.{◌≡◌, IfOk, map, IsOkUnless};
+ghost use Rattle.blk_trace.specs.Legal.{IsLegalTrace};
+ghost use Rattle.blk_trace.specs.Meaning.{commands_of, rounds_of};
+ghost use Rattle.blk_trace.specs.Laws.{IsScheduled};
+ghost use Rattle.blk_trace.specs.Traces.{IsFromEventsAnswer};
+ghost use Rattle.blk_trace.specs.Seen.{happened};
+
+use crate::event::Event;
+use crate::rule::{PushFault, TraceFault};
+use crate::setup::Setup;
+use crate::trace::Trace;
+use edd_check::Command;
+use std::alloc::{AllocError, Allocator};
+
+impl<A: Allocator + Clone> Trace<A> {
+    /// The trace of these events, or the first of them that breaks a rule, with its place, counted from 0.
+    pub fn from_events(
+        alloc: A,
+        setup: Setup,
+        events: Vec<Event<A>, A>,
+    ) -> Result<Trace<A>, TraceFault>
+        ensures answer { IsFromEventsAnswer setup (map happened events.items) result }
+        ensures accepts { IsLegalTrace setup (map happened events.items) → IsOkUnless result TraceFault.Memory }
+    {
+        let Ok(mut trace) = Trace::empty(alloc, setup) else {
+            return Err(TraceFault::Memory);
+        };
+        for event in events {
+            let at = trace.len();
+            match trace.push(event) {
+                Ok(()) => {}
+                Err((_, PushFault::Rule(rule))) => return Err(TraceFault::Rule { at, rule }),
+                Err((_, PushFault::Memory)) => return Err(TraceFault::Memory),
+            }
+        }
+        Ok(trace)
+    }
+
+    /// The issued requests, in the order of their Issues: each released in the last round in which it was released or
+    /// joined, and due in the first in which one of its bios is. Fails for want of memory alone.
+    pub fn commands(&self) -> Result<Vec<Command, A>, AllocError>
+        ensures commands { IfOk result (λ v. v.items ≡ commands_of self.now.setup self.now.events) }
+        // in the rounds of `rounds` they are a legal schedule
+        ensures scheduled { IsScheduled self.now.setup self.now.events }
+    {
+        let alloc = self.events.allocator().clone()?;
+        Vec::from_slice(alloc, self.commands.as_slice())
+    }
+
+    /// The rounds of the Issues, in their order. Fails for want of memory alone.
+    pub fn rounds(&self) -> Result<Vec<u64, A>, AllocError>
+        ensures rounds { IfOk result (λ v. v.items ≡ rounds_of self.now.events) }
+        ensures scheduled { IsScheduled self.now.setup self.now.events }
+    {
+        let alloc = self.events.allocator().clone()?;
+        Vec::from_slice(alloc, self.rounds.as_slice())
+    }
+}

@@ -1,0 +1,4 @@
+pub mod Input
+pub mod Priority
+pub mod Plan
+pub mod Answer
