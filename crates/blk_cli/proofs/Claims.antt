@@ -1,0 +1,57 @@
+-- Certificates that are proved, from what the oracle and the check answer.
+use Rattle.std.proofs.Common.{ℕ, ◌≡◌, ◌<◌, ◌≤◌, ◌^◌, suc, List, [], ◌∷◌, length, arith, rules, sym, ◌∙◌, ap, subst, Some, None, refl, slice_index_or, slice_index}
+use Rattle.std.specs.Prelude.{ℤ, pos, negsuc, ◌-ℤ◌, ◌↔◌, All, Option, IfSome}
+use Rattle.std.proofs.lemmas.Int.{ints}
+use Rattle.std.proofs.lemmas.List.Elements.{All-get_or}
+use Rattle.edd_check.specs.declared.Command.{Command}
+use Rattle.edd_check.specs.declared.Window.{Window}
+use Rattle.edd_check.specs.Schedule.{IsLegal, IsGreatestLateness, IsLeastLateness, RoundsInRange}
+use Rattle.edd_check.specs.Window.{IsCrowded}
+use Rattle.blk_cli.specs.Outcome.{IsProof}
+use Rattle.edd_oracle.specs.Answer.{IsBest}
+use Rattle.blk_text.specs.Commands.{IsCommandInRange, AreCommands}
+use Rattle.blk_text.specs.Certificate.{IsBound, IsClaim, IsLateness}
+
+difference_in : (late : ℤ) (r d : ℕ) → pos r -ℤ pos d ≡ late → r < 2 ^ 41 → d < 2 ^ 41 → IsLateness late
+difference_in (pos n) r d e h k = omega (arith, ints, e)
+difference_in (negsuc n) r d e h k = omega (arith, ints, e)
+
+-- a schedule's greatest lateness is that of one of its places, so it lies in the range of a text
+pub lateness_in : (commands : List Command) (rounds : List ℕ) (late : ℤ) → length rounds ≡ length commands → All IsCommandInRange commands → RoundsInRange rounds
+    → IsGreatestLateness commands rounds late → IsLateness late
+lateness_in commands rounds late same in_range rounds_in g =
+    let d : Command = record { id = 0; release = 0; due = 0 } in
+    let c : IsCommandInRange (slice_index_or commands g.place d) = All-get_or IsCommandInRange commands g.place d g.in_list in_range in
+    let r : slice_index rounds g.place < 2 ^ 41 = All-get_or (λ x. x < 2 ^ 41) rounds g.place 0 (omega (arith, same, g.in_list)) rounds_in in
+    difference_in late (slice_index rounds g.place) (slice_index_or commands g.place d).due (g.reached d) r c.2
+
+-- what the oracle answers is a certificate's claim
+pub claim_in : (depth : ℕ) (commands : List Command) (rounds : List ℕ) (late : ℤ) (window : Window) → AreCommands depth commands → IsBest commands depth rounds late window
+    → IsClaim (record { depth = depth; commands = commands; rounds = rounds; bound = Some (late, window) })
+claim_in depth commands rounds late window are best = record {
+  depth = (are.0, are.1);
+  few = are.2;
+  one_each = best.legal.one_each;
+  bound = (omega (arith, best.greatest.in_list), lateness_in commands rounds late best.legal.one_each are.3 best.rounds_in best.greatest, best.window_in.0, best.window_in.1);
+  commands = are.3;
+  rounds = best.rounds_in;
+}
+
+no_commands : (commands : List Command) → length commands ≡ 0 → commands ≡ []
+no_commands [] e = refl
+no_commands (c ∷ cs) e = absurd (omega (arith, e))
+
+-- a bound stands exactly beside commands
+pub bound_beside : (count : ℕ) (commands : List Command) (bound : Option (ℤ × Window)) → count ≡ length commands → IsBound count bound → (bound ≡ None) ↔ (commands ≡ [])
+bound_beside count commands None e h = (λ _. no_commands commands (omega (arith, e, h)), λ _. refl)
+bound_beside count [] (Some b) e h = absurd (omega (arith, e, h.0))
+bound_beside count (c ∷ cs) (Some b) e h = (λ e. cc e, λ e. cc e)
+
+-- a bound of which the check said Ok
+pub proof_of : (commands : List Command) (depth : ℕ) (rounds : List ℕ) (bound : Option (ℤ × Window)) (late other : ℤ) (window : Window) → bound ≡ Some (late, window) → other ≡ late
+    → IsLegal commands rounds depth × IsGreatestLateness commands rounds other × IsCrowded commands depth other window → IsLeastLateness commands depth other
+    → IfSome bound (λ b. IsProof commands depth rounds b.0 b.1)
+proof_of commands depth rounds bound late other window e same h least =
+    let P : Option (ℤ × Window) → Type 0 = λ o. IfSome o (λ b. IsProof commands depth rounds b.0 b.1) in
+    let Q : ℤ → Type 0 = λ z. IsProof commands depth rounds z window in
+    subst P (sym e) (subst Q same (record { legal = h.0; greatest = h.1; crowded = h.2; least = least }))

@@ -1,0 +1,36 @@
+use Rattle.std.proofs.Common.{arith, ◌≡◌, ◌<◌, ◌∙◌, ℕ, length, refl, sym, ap, inl, inr}
+use Rattle.std.specs.Prelude.{slice_get, Some}
+use Rattle.std.proofs.lemmas.Option.{slice_get_read}
+use Rattle.std.specs.Prelude.{Ok}
+use Rattle.blk_bio.specs.Bios.{Bio}
+use Rattle.blk_plug.specs.Plugs.{Plug}
+use Rattle.blk_plug.specs.Answers.{IsAddAnswer}
+use Rattle.blk_plug.specs.declared.plug.Added.{Added}
+use Rattle.blk_plug.specs.declared.plug.Added.TheVariants.{New, Joined}
+use Rattle.blk_bio.specs.declared.bio.BioId.{BioId}
+use Rattle.blk_cli.proofs.Picking.{set_cases}
+use Rattle.blk_cli.proofs.Standing.{add_plugged}
+use Rattle.blk_cli.proofs.sim.add.Goals as goal
+
+add_limits : (old : Plug) (bio : Bio) (new : Plug) (added : Added) → IsAddAnswer old bio new (Ok added) → new.limits ≡ old.limits
+add_limits old bio new New h = ap (λ (x : Plug). x.limits) h.2
+add_limits old bio new (Joined side) h = h.2
+
+pub returns-in-Ok-clause-plugged : goal.returns-in-Ok-clause-plugged
+returns-in-Ok-clause-plugged g c hw book plugged =
+    let own : c.id.result.submitter ≡ c.args.bio.id.submitter = ap (λ (i : BioId). i.submitter) c.id.ensures in
+    let req = c.requires in
+    let lt : c.id.result.submitter < length c.args.plugs.now.items = omega (arith, own, req) in
+    let at : slice_get c.args.plugs.now.items c.id.result.submitter ≡ Some c.index_mut-plug.result.now = slice_get_read c.args.plugs.now.items (length c.args.plugs.now.items) c.id.result.submitter c.index_mut-plug.result.now refl lt c.index_mut-plug.ensures.value in
+    add_plugged hw c.args.bio book c.args.plugs.now.items c.index_mut-plug.result.now c.add.new.self c.id.result.submitter own plugged at c.in-Ok.ensures.kept
+
+pub returns-in-Ok-clause-limits : goal.returns-in-Ok-clause-limits
+returns-in-Ok-clause-limits g c limits all s plug here =
+    let own : c.id.result.submitter ≡ c.args.bio.id.submitter = ap (λ (i : BioId). i.submitter) c.id.ensures in
+    let req = c.requires in
+    let lt : c.id.result.submitter < length c.args.plugs.now.items = omega (arith, own, req) in
+    let at : slice_get c.args.plugs.now.items c.id.result.submitter ≡ Some c.index_mut-plug.result.now = slice_get_read c.args.plugs.now.items (length c.args.plugs.now.items) c.id.result.submitter c.index_mut-plug.result.now refl lt c.index_mut-plug.ensures.value in
+    elim (set_cases c.args.plugs.now.items c.id.result.submitter s c.add.new.self plug here) [
+      | inl a ↦ ap (λ (x : Plug). x.limits) a.1 ∙ add_limits _ _ _ c.in-Ok.field-0 c.in-Ok.ensures.answer ∙ all c.id.result.submitter c.index_mut-plug.result.now at
+      | inr a ↦ all s plug a.1
+    ]

@@ -1,0 +1,15 @@
+use Rattle.std.proofs.Common.{◌≡◌, ◌++◌, length}
+use Rattle.blk_trace.specs.Events.{entered, round_of}
+use Rattle.blk_cli.specs.Simulated.{bios_in}
+use Rattle.blk_cli.proofs.sim.drain_queue.Given as goal
+
+abbrev pub invariant-loop-request : goal.invariant-loop-request
+invariant-loop-request g l = record {
+  moved : entered l.core.events ++ bios_in l.queue.requests ≡ entered l.initial.core.events ++ bios_in l.initial.queue.requests;
+  setup : l.core.setup ≡ l.initial.core.setup;
+  ticks : round_of l.core.events ≡ round_of l.initial.core.events;
+  limits : l.queue.limits ≡ l.initial.queue.limits;
+}
+
+abbrev pub decreases-loop-request : goal.decreases-loop-request
+decreases-loop-request g l = length l.queue.requests

@@ -1,0 +1,13 @@
+use Rattle.std.proofs.Common.{◌≡◌, ◌++◌, length}
+use Rattle.blk_cli.proofs.sim.flush_plug.Given as goal
+
+abbrev pub invariant-loop-request : goal.invariant-loop-request
+invariant-loop-request g l = record {
+  moved : l.queue.requests ++ l.plug.requests ≡ l.initial.queue.requests ++ l.initial.plug.requests;
+  same : l.plug.limits ≡ l.queue.limits;
+  plug_limits : l.plug.limits ≡ l.initial.plug.limits;
+  queue_limits : l.queue.limits ≡ l.initial.queue.limits;
+}
+
+abbrev pub decreases-loop-request : goal.decreases-loop-request
+decreases-loop-request g l = length l.plug.requests

@@ -1,0 +1,15 @@
+use Rattle.std.proofs.Common.{◌≡◌, take, length}
+use Rattle.std.specs.Prelude.{sum_by}
+use Rattle.blk_trace.specs.Events.{round_of}
+use Rattle.blk_cli.specs.Simulation.{ticks_of}
+use Rattle.blk_cli.specs.Simulated.{Stands, IsReady, placings}
+use Rattle.blk_cli.proofs.sim.simulate.Given as goal
+
+abbrev pub invariant-loop-place : goal.invariant-loop-place
+invariant-loop-place g l = record {
+  stands : Stands (placings l.script.setup.hw (take l.place l.script.lines.items)) l.simulation.plugs.items l.simulation.queues.items l.simulation.core.events;
+  ready : IsReady l.script.setup.limits l.simulation.plugs.items l.simulation.queues.items;
+  setup : l.simulation.core.setup ≡ l.script.setup;
+  count : length l.simulation.plugs.items ≡ l.script.submitters;
+  ticks : round_of l.simulation.core.events ≡ sum_by ticks_of (take l.place l.script.lines.items);
+}

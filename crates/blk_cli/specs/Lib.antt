@@ -1,0 +1,5 @@
+pub mod Line
+pub mod Outcome
+pub mod Simulation
+pub mod Simulated
+pub mod Refusals
