@@ -24,7 +24,7 @@ negative_text f ds n z e (inr b) h k =
     rw (k b.0) (b.1 ∙ ap (λ (m : ℕ). 45 ∷ decimal m) up)
 
 -- four fields
-pub four : (row : Row) (a b c d : List ℕ) → length row ≡ 4 → get_or row 0 [] ≡ a → get_or row 1 [] ≡ b → get_or row 2 [] ≡ c → get_or row 3 [] ≡ d → row ≡ a ∷ b ∷ c ∷ d ∷ []
+pub four : (cells : Row) (a b c d : List ℕ) → length cells ≡ 4 → get_or cells 0 [] ≡ a → get_or cells 1 [] ≡ b → get_or cells 2 [] ≡ c → get_or cells 3 [] ≡ d → cells ≡ a ∷ b ∷ c ∷ d ∷ []
 four [] a b c d h p q r s = absurd (omega (arith, h))
 four (x ∷ []) a b c d h p q r s = absurd (omega (arith, h))
 four (x ∷ y ∷ []) a b c d h p q r s = absurd (omega (arith, h))
@@ -59,15 +59,15 @@ claim_in depth count bound served cs rs r b a n p q =
     rw (p, q) (record { depth = (r.0, r.1); few = omega (arith, r.2, same); one_each = d ∙ sym c; bound = rw same at b; commands = all_first served a; rounds = all_second served a })
 
 pub claim_made : (left mid after : Option (List Row)) (depth count : ℕ) (bound : Option (ℤ × Window)) (served : List (Command × ℕ)) (cs : List Command) (rs : List ℕ)
-    → Took (λ row. row ≡ title_row depth count) left mid → Took (λ row. row ≡ bound_row bound) mid after
+    → Took (λ cells. cells ≡ title_row depth count) left mid → Took (λ cells. cells ≡ bound_row bound) mid after
     → IfSome after (λ rows. AreLines served_row IsServed (extent.Exactly count) rows served)
     → (count ≤ length served) × (length served ≤ count) → cs ≡ map (λ s. s.0) served → rs ≡ map (λ s. s.1) served
     → IsClaim record { depth = depth; commands = cs; rounds = rs; bound = bound }
     → IfSome left (λ rows. SpellsClaim rows record { depth = depth; commands = cs; rounds = rs; bound = bound })
 claim_made None mid after depth count bound served cs rs t u a n p q i = tt
 claim_made (Some []) mid after depth count bound served cs rs t u a n p q i = absurd t
-claim_made (Some (row ∷ [])) mid after depth count bound served cs rs t u a n p q i = absurd (rw t.0 at u)
-claim_made (Some (row ∷ second ∷ rows)) mid after depth count bound served cs rs t u a n p q i =
+claim_made (Some (cells ∷ [])) mid after depth count bound served cs rs t u a n p q i = absurd (rw t.0 at u)
+claim_made (Some (cells ∷ second ∷ rows)) mid after depth count bound served cs rs t u a n p q i =
     let v = rw t.0 at u in
     let l = rw v.0 at a in
     let c : length (firsts served) ≡ length served = length-map served (λ s. s.0) in

@@ -15,17 +15,17 @@ no_field [] i h = refl
 no_field (f ∷ fs) zero h = cc h
 no_field (f ∷ fs) (suc i) h = no_field fs i h
 
-pub titled : (name one : List ℕ) (row : Row) → 2 ≤ length row → get_or row 0 [] ≡ name → get_or row 1 [] ≡ one → (more : Row) × (row ≡ name ∷ one ∷ more)
+pub titled : (name one : List ℕ) (cells : Row) → 2 ≤ length cells → get_or cells 0 [] ≡ name → get_or cells 1 [] ≡ one → (more : Row) × (cells ≡ name ∷ one ∷ more)
 titled name one [] h a b = absurd (omega arith)
 titled name one (f ∷ []) h a b = absurd (omega arith)
 titled name one (f ∷ g ∷ more) h a b = (more, rw (a, b) refl)
 
-pub three : (row : Row) (a b c : List ℕ) → length row ≡ 3 → get_or row 0 [] ≡ a → get_or row 1 [] ≡ b → get_or row 2 [] ≡ c → row ≡ a ∷ b ∷ c ∷ []
+pub three : (cells : Row) (a b c : List ℕ) → length cells ≡ 3 → get_or cells 0 [] ≡ a → get_or cells 1 [] ≡ b → get_or cells 2 [] ≡ c → cells ≡ a ∷ b ∷ c ∷ []
 three [] a b c h p q r = absurd (omega (arith, h))
 three (x ∷ []) a b c h p q r = absurd (omega (arith, h))
 three (x ∷ y ∷ []) a b c h p q r = absurd (omega (arith, h))
 three (x ∷ y ∷ z ∷ []) a b c h p q r = rw (p, q, r) refl
 three (x ∷ y ∷ z ∷ w ∷ more) a b c h p q r = absurd (omega (arith, h))
 
-pub not_titled : (name one : List ℕ) (row : Row) → ((more : Row) × (row ≡ name ∷ one ∷ more)) → (2 ≤ length row) × (get_or row 0 [] ≡ name) × (get_or row 1 [] ≡ one)
-not_titled name one row h = rw h.1 (omega arith, refl, refl)
+pub not_titled : (name one : List ℕ) (cells : Row) → ((more : Row) × (cells ≡ name ∷ one ∷ more)) → (2 ≤ length cells) × (get_or cells 0 [] ≡ name) × (get_or cells 1 [] ≡ one)
+not_titled name one cells h = rw h.1 (omega arith, refl, refl)

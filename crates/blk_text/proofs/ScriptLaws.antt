@@ -84,7 +84,7 @@ pub record IsWide (b : Bio) : Type 0 where
   pub sectors : b.sectors < 2 ^ 64
 
 bio_at : Row → Bio
-bio_at row = record { id = record { submitter = value (get_or row 1 []); serial = value (get_or row 2 []) }; dir = dir_at (get_or row 3 []); first = value (get_or row 4 []); sectors = value (get_or row 5 []) }
+bio_at cells = record { id = record { submitter = value (get_or cells 1 []); serial = value (get_or cells 2 []) }; dir = dir_at (get_or cells 3 []); first = value (get_or cells 4 []); sectors = value (get_or cells 5 []) }
 
 same_bio : (b c : Bio) → b.id.submitter ≡ c.id.submitter → b.id.serial ≡ c.id.serial → b.dir ≡ c.dir → b.first ≡ c.first → b.sectors ≡ c.sectors → b ≡ c
 same_bio b c p q r s t i = record { id = record { submitter = p i; serial = q i }; dir = r i; first = s i; sectors = t i }
@@ -166,61 +166,61 @@ line_good hw submitters (line.Done tag) g s h = one_number_good 0 65535 tag (ome
 line_good hw submitters line.Tick g s h = ((tt, tt, tt, tt), (blank_good, (blank_good, (blank_good, (blank_good, (blank_good, tt))))))
 line_good hw submitters (line.Run n) g s h = one_number_good 1 1_000_000 n (omega (arith, h.1)) h.0 h.1
 
-wide_no_bio : (submitters : ℕ) (row : Row) (w : Why) → submitters ≤ 64 → (n : SpellsNoBio submitters row w) → IsWide n.0
-wide_no_bio submitters row w s n = record { submitter = omega (arith, n.3, s); serial = n.4; first = n.5; sectors = n.6 }
+wide_no_bio : (submitters : ℕ) (cells : Row) (w : Why) → submitters ≤ 64 → (n : SpellsNoBio submitters cells w) → IsWide n.0
+wide_no_bio submitters cells w s n = record { submitter = omega (arith, n.3, s); serial = n.4; first = n.5; sectors = n.6 }
 
-no_bio_line : (hw submitters : ℕ) (row : Row) (w : Why) (l : Line) → submitters ≤ 64 → SpellsNoBio submitters row w → row ≡ line_row l → LineFits hw submitters l → ⊥
-no_bio_line hw submitters row w (line.Bio b) s n e h =
-    let same = one_bio n.0 b (wide_no_bio submitters row w s n) (wide_bio submitters b s h) (sym n.2 ∙ e) in
+no_bio_line : (hw submitters : ℕ) (cells : Row) (w : Why) (l : Line) → submitters ≤ 64 → SpellsNoBio submitters cells w → cells ≡ line_row l → LineFits hw submitters l → ⊥
+no_bio_line hw submitters cells w (line.Bio b) s n e h =
+    let same = one_bio n.0 b (wide_no_bio submitters cells w s n) (wide_bio submitters b s h) (sym n.2 ∙ e) in
     no_bio_is b n.1 h.2 (subst (λ (x : Bio). IsBioAnswer x.id x.dir x.first x.sectors (Err n.1)) same n.8)
-no_bio_line hw submitters row w (line.Flush n') s n e h = let k = cons_same _ _ _ _ (sym n.2 ∙ e) in let bad = words_tell word.Bio word.Flush k.0 in cc bad
-no_bio_line hw submitters row w (line.Drain n') s n e h = let k = cons_same _ _ _ _ (sym n.2 ∙ e) in let bad = words_tell word.Bio word.Drain k.0 in cc bad
-no_bio_line hw submitters row w (line.Issue n' tag) s n e h = let k = cons_same _ _ _ _ (sym n.2 ∙ e) in let bad = words_tell word.Bio word.Issue k.0 in cc bad
-no_bio_line hw submitters row w (line.Done tag) s n e h = let k = cons_same _ _ _ _ (sym n.2 ∙ e) in let bad = words_tell word.Bio word.Done k.0 in cc bad
-no_bio_line hw submitters row w line.Tick s n e h = let k = cons_same _ _ _ _ (sym n.2 ∙ e) in let bad = words_tell word.Bio word.Tick k.0 in cc bad
-no_bio_line hw submitters row w (line.Run n') s n e h = let k = cons_same _ _ _ _ (sym n.2 ∙ e) in let bad = words_tell word.Bio word.Run k.0 in cc bad
+no_bio_line hw submitters cells w (line.Flush n') s n e h = let k = cons_same _ _ _ _ (sym n.2 ∙ e) in let bad = words_tell word.Bio word.Flush k.0 in cc bad
+no_bio_line hw submitters cells w (line.Drain n') s n e h = let k = cons_same _ _ _ _ (sym n.2 ∙ e) in let bad = words_tell word.Bio word.Drain k.0 in cc bad
+no_bio_line hw submitters cells w (line.Issue n' tag) s n e h = let k = cons_same _ _ _ _ (sym n.2 ∙ e) in let bad = words_tell word.Bio word.Issue k.0 in cc bad
+no_bio_line hw submitters cells w (line.Done tag) s n e h = let k = cons_same _ _ _ _ (sym n.2 ∙ e) in let bad = words_tell word.Bio word.Done k.0 in cc bad
+no_bio_line hw submitters cells w line.Tick s n e h = let k = cons_same _ _ _ _ (sym n.2 ∙ e) in let bad = words_tell word.Bio word.Tick k.0 in cc bad
+no_bio_line hw submitters cells w (line.Run n') s n e h = let k = cons_same _ _ _ _ (sym n.2 ∙ e) in let bad = words_tell word.Bio word.Run k.0 in cc bad
 
-step_apart : (hw submitters : ℕ) (row : Row) (w : Why) (l : Line) → hw ≤ 16 → submitters ≤ 64 → StepWrong hw submitters row w → row ≡ line_row l → LineFits hw submitters l → ⊥
-step_apart hw submitters row w l g s (inl a) e h =
-    word_apart word_of (slots_of hw submitters) 6 words_tell row w (kind_of l) (rw e (line_starts l)) (rw e (line_good hw submitters l g s h)) a
-step_apart hw submitters row w l g s (inr n) e h = no_bio_line hw submitters row w l s n e h
+step_apart : (hw submitters : ℕ) (cells : Row) (w : Why) (l : Line) → hw ≤ 16 → submitters ≤ 64 → StepWrong hw submitters cells w → cells ≡ line_row l → LineFits hw submitters l → ⊥
+step_apart hw submitters cells w l g s (inl a) e h =
+    word_apart word_of (slots_of hw submitters) 6 words_tell cells w (kind_of l) (rw e (line_starts l)) (rw e (line_good hw submitters l g s h)) a
+step_apart hw submitters cells w l g s (inr n) e h = no_bio_line hw submitters cells w l s n e h
 
-no_bio_apart : (hw submitters : ℕ) (row : Row) (w v : Why) → submitters ≤ 64 → Rattle.blk_text.specs.Words.WordWrong word_of (slots_of hw submitters) 6 row w → SpellsNoBio submitters row v → ⊥
-no_bio_apart hw submitters row w v s a n =
-    let goods = bio_good submitters n.0 (wide_no_bio submitters row v s n) n.3 in
-    word_apart word_of (slots_of hw submitters) 6 words_tell row w word.Bio (rw n.2 (_, refl)) (rw n.2 goods) a
+no_bio_apart : (hw submitters : ℕ) (cells : Row) (w v : Why) → submitters ≤ 64 → Rattle.blk_text.specs.Words.WordWrong word_of (slots_of hw submitters) 6 cells w → SpellsNoBio submitters cells v → ⊥
+no_bio_apart hw submitters cells w v s a n =
+    let goods = bio_good submitters n.0 (wide_no_bio submitters cells v s n) n.3 in
+    word_apart word_of (slots_of hw submitters) 6 words_tell cells w word.Bio (rw n.2 (_, refl)) (rw n.2 goods) a
 
-no_bio_once : (submitters : ℕ) (row : Row) (w v : Why) → submitters ≤ 64 → SpellsNoBio submitters row w → SpellsNoBio submitters row v → w ≡ v
-no_bio_once submitters row w v s n m =
-    let same = one_bio n.0 m.0 (wide_no_bio submitters row w s n) (wide_no_bio submitters row v s m) (sym n.2 ∙ m.2) in
+no_bio_once : (submitters : ℕ) (cells : Row) (w v : Why) → submitters ≤ 64 → SpellsNoBio submitters cells w → SpellsNoBio submitters cells v → w ≡ v
+no_bio_once submitters cells w v s n m =
+    let same = one_bio n.0 m.0 (wide_no_bio submitters cells w s n) (wide_no_bio submitters cells v s m) (sym n.2 ∙ m.2) in
     let fault = one_bio_fault m.0 n.1 m.1 (subst (λ (x : Bio). IsBioAnswer x.id x.dir x.first x.sectors (Err n.1)) same n.8) m.8 in
     n.7 ∙ ap why.Bio fault ∙ sym m.7
 
-step_once : (hw submitters : ℕ) (row : Row) (w v : Why) → submitters ≤ 64 → StepWrong hw submitters row w → StepWrong hw submitters row v → w ≡ v
-step_once hw submitters row w v s (inl a) (inl b) = word_once word_of (slots_of hw submitters) 6 words_tell row w v a b
-step_once hw submitters row w v s (inl a) (inr b) = absurd (no_bio_apart hw submitters row w v s a b)
-step_once hw submitters row w v s (inr a) (inl b) = absurd (no_bio_apart hw submitters row v w s b a)
-step_once hw submitters row w v s (inr a) (inr b) = no_bio_once submitters row w v s a b
+step_once : (hw submitters : ℕ) (cells : Row) (w v : Why) → submitters ≤ 64 → StepWrong hw submitters cells w → StepWrong hw submitters cells v → w ≡ v
+step_once hw submitters cells w v s (inl a) (inl b) = word_once word_of (slots_of hw submitters) 6 words_tell cells w v a b
+step_once hw submitters cells w v s (inl a) (inr b) = absurd (no_bio_apart hw submitters cells w v s a b)
+step_once hw submitters cells w v s (inr a) (inl b) = absurd (no_bio_apart hw submitters cells v w s b a)
+step_once hw submitters cells w v s (inr a) (inr b) = no_bio_once submitters cells w v s a b
 
 tells : (hw submitters : ℕ) → hw ≤ 16 → submitters ≤ 64 → Tells line_row (LineFits hw submitters) (StepWrong hw submitters)
 tells hw submitters g s = record {
-  apart = λ row w l bad e fit. step_apart hw submitters row w l g s bad e fit;
-  once = λ row w v a b. step_once hw submitters row w v s a b;
+  apart = λ cells w l bad e fit. step_apart hw submitters cells w l g s bad e fit;
+  once = λ cells w v a b. step_once hw submitters cells w v s a b;
 }
 
 -- a step is told by its record
 
 by_word : Word → Row → Line
-by_word word.Bio row = line.Bio (bio_at row)
-by_word word.Flush row = line.Flush (value (get_or row 1 []))
-by_word word.Drain row = line.Drain (value (get_or row 1 []))
-by_word word.Issue row = line.Issue (value (get_or row 1 [])) (value (get_or row 2 []))
-by_word word.Done row = line.Done (value (get_or row 1 []))
-by_word word.Tick row = line.Tick
-by_word word.Run row = line.Run (value (get_or row 1 []))
+by_word word.Bio cells = line.Bio (bio_at cells)
+by_word word.Flush cells = line.Flush (value (get_or cells 1 []))
+by_word word.Drain cells = line.Drain (value (get_or cells 1 []))
+by_word word.Issue cells = line.Issue (value (get_or cells 1 [])) (value (get_or cells 2 []))
+by_word word.Done cells = line.Done (value (get_or cells 1 []))
+by_word word.Tick cells = line.Tick
+by_word word.Run cells = line.Run (value (get_or cells 1 []))
 
 abbrev line_at : Row → Line
-line_at row = by_word (word_at (get_or row 0 [])) row
+line_at cells = by_word (word_at (get_or cells 0 [])) cells
 
 line_is : (hw submitters : ℕ) (l : Line) → hw ≤ 16 → submitters ≤ 64 → LineFits hw submitters l → line_at (line_row l) ≡ l
 unfolding by_word
@@ -279,12 +279,12 @@ setup_good s h = (
 unit_tells : (j k : Unit {0}) → codes "setup" ≡ codes "setup" → j ≡ k
 unit_tells j k e = refl
 
-setup_apart : (row : Row) (w : Why) (s : Setup) → IsWholeSetup s → row ≡ setup_row s → SetupWrong row w → ⊥
-setup_apart row w s h e a = word_apart (λ (k : Unit {0}). codes "setup") (λ k. setup_slots) 6 unit_tells row w tt (rw e (_, refl)) (rw e (setup_good s h)) a
+setup_apart : (cells : Row) (w : Why) (s : Setup) → IsWholeSetup s → cells ≡ setup_row s → SetupWrong cells w → ⊥
+setup_apart cells w s h e a = word_apart (λ (k : Unit {0}). codes "setup") (λ k. setup_slots) 6 unit_tells cells w tt (rw e (_, refl)) (rw e (setup_good s h)) a
 
 setup_once : (rows : List Row) (w v : Why) → SetupMissing rows w → SetupMissing rows v → w ≡ v
 setup_once [] w v a b = a ∙ sym b
-setup_once (row ∷ rows) w v a b = word_once (λ (k : Unit {0}). codes "setup") (λ k. setup_slots) 6 unit_tells row w v a b
+setup_once (cells ∷ rows) w v a b = word_once (λ (k : Unit {0}). codes "setup") (λ k. setup_slots) 6 unit_tells cells w v a b
 
 same_setup : (s t : Setup) → s.depth ≡ t.depth → s.hw ≡ t.hw → s.read_expire ≡ t.read_expire → s.write_expire ≡ t.write_expire → s.limits.max_sectors ≡ t.limits.max_sectors → s.limits.max_segments ≡ t.limits.max_segments → s ≡ t
 same_setup s t a b c d e f i = record { depth = a i; hw = b i; read_expire = c i; write_expire = d i; limits = record { max_sectors = e i; max_segments = f i } }
