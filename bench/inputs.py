@@ -1,7 +1,8 @@
 #!/usr/bin/env python3
 """Writes the inputs of bench/run: inputs.py KIND N > FILE.
 
-KIND is script (N bios), certificate (N commands) or commands (N commands). All come from a fixed seed, so that every
+KIND is script (N bios), certificate (N commands), commands (N commands) or backlog (N bios of one hardware queue, of which
+none fits another and none is issued). All come from a fixed seed, so that every
 run has the same bytes."""
 import random
 import sys
@@ -48,10 +49,21 @@ def command_list(commands, out):
         out(f"{k},{release},{release + rng.randrange(50)}")
 
 
+def backlog(bios, out):
+    out(f"blk-script,1,{DEPTH},1,64,1")
+    out("setup,5,50,256,128,")
+    for n in range(bios):
+        out(f"bio,0,{n},R,{16 * n},8")
+        if n % PLUG == PLUG - 1 or n == bios - 1:
+            out("flush,0,,,,")
+            out("drain,0,,,,")
+
+
 def main():
     kind, n = sys.argv[1], int(sys.argv[2])
     lines = []
-    {"script": script, "certificate": certificate, "commands": command_list}[kind](n, lines.append)
+    kinds = {"script": script, "certificate": certificate, "commands": command_list, "backlog": backlog}
+    kinds[kind](n, lines.append)
     sys.stdout.write("\n".join(lines) + "\n")
 
 

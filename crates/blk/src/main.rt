@@ -1,15 +1,27 @@
 //! The program `blk`: the standard streams and the words of the command line, handed to `blk_cli::run`.
 #![tactic(auto)]
 
+use std::io::{ErrorKind, Write};
 use std::process::ExitCode;
 use std::{env, io};
 
 fn main(rt: HostRuntime) -> ExitCode {
     let alloc = rt.alloc();
-    let Ok(args) = env::args(&rt) else {
-        return ExitCode::from(blk_cli::COMMAND_LINE);
+    let mut faults = rt.stderr();
+    let args = match env::args(&rt) {
+        Ok(args) => args,
+        Err(error) => {
+            if error.kind() == ErrorKind::OutOfMemory {
+                let _ = faults.write_all(b"blk: want of memory\n");
+                return ExitCode::from(blk_cli::FAILED);
+            }
+            // A word that is no UTF-8.
+            let _ = faults.write_all(b"blk: the command line could not be read\n");
+            return ExitCode::from(blk_cli::COMMAND_LINE);
+        }
     };
     let Ok(words) = args.collect::<Vec<String>>(alloc) else {
+        let _ = faults.write_all(b"blk: want of memory\n");
         return ExitCode::from(blk_cli::FAILED);
     };
     let status = blk_cli::run(
@@ -17,7 +29,7 @@ fn main(rt: HostRuntime) -> ExitCode {
         words.as_slice(),
         rt.reader(),
         &mut io::writer(&rt),
-        &mut rt.stderr(),
+        &mut faults,
     );
     ExitCode::from(status)
 }

@@ -22,7 +22,9 @@ pub enum Dir {
 /// stands twice is looked after where bios are accepted.
 #[derive(Clone, Copy, Debug, PartialEq, Eq, PartialOrd, Ord, Hash)]
 pub struct BioId {
+    /// Who submitted it, 0 to 255; a block layer has submitters from 0 on.
     pub submitter: u8,
+    /// Its number among that submitter's bios, of whatever order.
     pub serial: u64,
 }
 

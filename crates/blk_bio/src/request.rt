@@ -66,7 +66,9 @@ impl<A: Allocator + Clone> Request<A> {
         ensures ok { IfOk result (λ r. r ≡ bio ∷ []) }
         ensures err { IfErr result (λ e. e.0 ≡ bio) }
     {
-        let mut bios = Vec::new(alloc);
+        let Ok(mut bios) = Vec::with_capacity(alloc, 1) else {
+            return Err((bio, AllocError));
+        };
         match bios.push(bio) {
             Ok(()) => Ok(Request { bios }),
             Err(_) => Err((bio, AllocError)),

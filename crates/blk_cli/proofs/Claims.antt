@@ -1,5 +1,5 @@
 -- Certificates that are proved, from what the oracle and the check answer.
-use Rattle.std.proofs.Common.{ℕ, ◌≡◌, ◌<◌, ◌≤◌, ◌^◌, suc, List, [], ◌∷◌, length, arith, rules, sym, ◌∙◌, ap, subst, Some, None, refl, slice_index_or, slice_index}
+use Rattle.std.proofs.Common.{ℕ, ◌≡◌, ◌<◌, ◌^◌, List, [], ◌∷◌, length, arith, sym, subst, Some, None, refl, slice_index_or, slice_index}
 use Rattle.std.specs.Prelude.{ℤ, pos, negsuc, ◌-ℤ◌, ◌↔◌, All, Option, IfSome}
 use Rattle.std.proofs.lemmas.Int.{ints}
 use Rattle.std.proofs.lemmas.List.Elements.{All-get_or}

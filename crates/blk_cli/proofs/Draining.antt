@@ -1,19 +1,18 @@
 -- Software queues that are emptied into the core, one after the other.
-use Rattle.std.proofs.Common.{arith, ◌≡◌, ◌≢◌, ◌+◌, ◌<◌, ◌≤◌, ◌==◌, ◌%◌, ◌&&◌, ◌||◌, not, nat_lt, ◌∙◌, ℕ, List, [], ◌∷◌, ◌++◌, Bool, true, false, cond, Some, length, refl, sym, ap, subst, inl, inr, set}
-use Rattle.std.specs.Prelude.{◌⊎◌, slice_get, All, IsPermutation}
+use Rattle.std.proofs.Common.{arith, ◌≡◌, ◌≢◌, ◌+◌, ◌<◌, ◌≤◌, ◌==◌, ◌%◌, ◌&&◌, ◌||◌, not, nat_lt, ◌∙◌, ℕ, List, [], ◌++◌, Bool, true, false, Some, refl, sym, ap, subst, inl, inr, set}
+use Rattle.std.specs.Prelude.{◌⊎◌, slice_get, IsPermutation}
 use Rattle.std.proofs.Math.Bool.{or-false, and-false, and-true, or_assoc}
 use Rattle.std.proofs.Math.Nat.{mod-lt}
 use Rattle.std.proofs.lemmas.Bool.{cases_Bool, eqb-true, eq-eqb, ne_eqb, lt-ltb, le-ltb, ltb-true, ltb-false}
 use Rattle.std.proofs.lemmas.Bool.Decides.{eqb_tells}
 use Rattle.std.proofs.lemmas.List.Sorted.{IsPermutation-refl, IsPermutation-append, IsPermutation-trans}
-use Rattle.blk_bio.specs.Bios.{Bio}
 use Rattle.blk_bio.specs.Limits.{Limits}
 use Rattle.blk_trace.specs.Happened.{Happened}
 use Rattle.blk_trace.specs.Events.{entered}
 use Rattle.blk_soft.specs.Queues.{Queue}
 use Rattle.blk_core.specs.State.{CoreState}
 use Rattle.blk_cli.specs.Simulation.{Where, Plugged, Staged, Released, is_where}
-use Rattle.blk_cli.specs.Simulated.{Placing, picked, is_in, is_at, bios_in, AreStaged, AreReleased, AreDrained, nobody, is_served, QueuesAreOf, Passed}
+use Rattle.blk_cli.specs.Simulated.{Placing, picked, is_in, is_at, bios_in, AreDrained, nobody, is_served, QueuesAreOf, Passed}
 use Rattle.blk_cli.proofs.Picking.{picked-same, picked-none, picked-both, IsSplit, set_cases}
 
 -- tests that agree

@@ -1,9 +1,8 @@
 -- The loop over a script's lines, from before the first to after the last.
-use Rattle.std.proofs.Common.{◌≡◌, ◌<◌, ◌≤◌, ◌∙◌, ℕ, List, [], Some, length, take, get_or, refl, sym, ap, subst}
+use Rattle.std.proofs.Common.{◌≡◌, ◌<◌, ◌≤◌, ◌∙◌, ℕ, List, [], Some, length, take, get_or, refl, sym, ap, subst, arith}
 use Rattle.std.specs.Prelude.{slice_get, sum_by}
 use Rattle.std.proofs.lemmas.List.{take_all}
 use Rattle.std.proofs.lemmas.Option.{slice_get_read}
-use Rattle.blk_bio.specs.Limits.{Limits}
 use Rattle.blk_trace.specs.Setups.{Setup}
 use Rattle.blk_trace.specs.Happened.{Happened}
 use Rattle.blk_trace.specs.Events.{round_of}
@@ -32,3 +31,7 @@ read_at xs ys k x e lt is = ap (λ l. slice_get l k) (sym e) ∙ slice_get_read 
 -- what was taken at the loop's end
 pub whole : {X : Type 0} (xs ys : List X) (k : ℕ) → ys ≡ xs → length ys ≤ k → take k xs ≡ xs
 whole xs ys k e le = let h : length xs ≤ k = subst (λ l. length l ≤ k) e le in take_all k xs h
+
+-- a place in the list is before the loop's end
+pub before_end : {X : Type 0} (xs ys : List X) (n k : ℕ) → ys ≡ xs → length ys ≤ n → k < length xs → k < n
+before_end xs ys n k e le lt = let h : length xs ≤ n = subst (λ l. length l ≤ n) e le in omega (arith, h, lt)

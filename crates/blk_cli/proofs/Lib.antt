@@ -6,3 +6,5 @@ pub mod Events
 pub mod Draining
 pub mod Standing
 pub mod Ending
+pub mod Spreading
+pub mod Refusing

@@ -1,10 +1,10 @@
 -- What the command line reads from these words.
-use Rattle.std.proofs.Common.{◌≡◌, ◌∷◌, [], List, ℕ, Some, None, box_value, Option, option_map, codes, refl, true, false}
+use Rattle.std.proofs.Common.{◌≡◌, ◌∷◌, [], List, Some, None, box_value, Option, option_map, codes, refl, true}
 use Rattle.clap.specs.Words.{App, Row, Text, subcommand_of, subcommand_rows_of, subcommand_name_of, is_simple, rows_of, found_of, HasMatchesOf}
 use Rattle.clap.specs.declared.builder.value_parser.ValueParser.{ValueParser}
 use Rattle.clap.specs.declared.parser.matches.ArgMatches.{ArgMatches}
 use Rattle.clap.specs.declared.parser.matches.ArgMatches.TheViews.{out-ArgMatches, out-SubCommand}
-use Rattle.std.proofs.Common.{ap, sym, ◌∙◌}
+use Rattle.std.proofs.Common.{ap, ◌∙◌}
 use Rattle.clap.proofs.OnLiterals.{clap_on_literals}
 use Rattle.blk_cli.specs.Line.{blk_app}
 

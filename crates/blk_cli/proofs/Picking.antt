@@ -1,5 +1,5 @@
 -- The bios of a book, by where they are.
-use Rattle.std.proofs.Common.{arith, ◌≡◌, ◌≢◌, ◌+◌, ◌<◌, ◌==◌, ◌&&◌, ◌||◌, not, ◌∙◌, ℕ, suc, List, [], ◌∷◌, ◌++◌, Bool, true, false, cond, Some, map, length, refl, sym, ap, subst, inl, inr, get_or, set}
+use Rattle.std.proofs.Common.{arith, ◌≡◌, ◌<◌, ◌==◌, ◌∙◌, ℕ, suc, List, [], ◌∷◌, ◌++◌, Bool, true, false, cond, Some, map, length, refl, sym, ap, subst, inl, inr, get_or, set}
 use Rattle.std.specs.Prelude.{◌⊎◌, slice_get, All, IsPermutation}
 use Rattle.std.proofs.lemmas.Bool.{cases_Bool}
 use Rattle.std.proofs.lemmas.Bool.Decides.{eqb_tells}

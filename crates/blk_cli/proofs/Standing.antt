@@ -1,12 +1,11 @@
 -- What a step does to a book, and that the plugs, the software queues and the core follow it.
-use Rattle.std.proofs.Common.{arith, ◌≡◌, ◌≢◌, ◌+◌, ◌<◌, ◌≤◌, ◌==◌, ◌%◌, ◌&&◌, ◌||◌, not, nat_lt, ◌∙◌, ℕ, suc, List, [], ◌∷◌, ◌++◌, Bool, true, false, cond, Some, map, length, take, refl, sym, ap, subst, inl, inr, set, append_assoc}
-use Rattle.std.specs.Prelude.{◌⊎◌, slice_get, All, IsPermutation}
-use Rattle.std.specs.List.{flat_map, sum_by}
+use Rattle.std.proofs.Common.{arith, ◌≡◌, ◌+◌, ◌<◌, ◌==◌, ◌%◌, ◌&&◌, ◌||◌, not, ◌∙◌, ℕ, List, [], ◌∷◌, ◌++◌, Bool, true, false, cond, Some, map, length, take, refl, sym, ap, subst, inl, inr, set, append_assoc}
+use Rattle.std.specs.Prelude.{slice_get, All, IsPermutation}
+use Rattle.std.specs.List.{sum_by}
 use Rattle.std.proofs.lemmas.List.Sums.{sum_by_push}
-use Rattle.std.proofs.Math.Bool.{and-true, and-false}
-use Rattle.std.proofs.lemmas.Bool.{cases_Bool, eqb-true, eq-eqb, lt-ltb}
+use Rattle.std.proofs.lemmas.Bool.{cases_Bool, eqb-true, eq-eqb}
 use Rattle.std.proofs.lemmas.Option.{slice_get_within, get_or_from_slice_get}
-use Rattle.std.proofs.lemmas.List.{append-nil, map-append, length-set, take_more as take_more_at}
+use Rattle.std.proofs.lemmas.List.{append-nil, map-append, take_more as take_more_at}
 use Rattle.std.proofs.lemmas.List.Concat.{flat_map-append}
 use Rattle.std.proofs.lemmas.List.Elements.{All-append, All-map, All-nil, All-cons}
 use Rattle.std.proofs.lemmas.List.Sorted.{IsPermutation-refl, IsPermutation-append, IsPermutation-cons, IsPermutation-to_front, IsPermutation-trans, IsPermutation-sym}
@@ -19,7 +18,7 @@ use Rattle.blk_soft.specs.Queues.{Queue}
 use Rattle.blk_text.specs.declared.script.Line.{Line}
 use Rattle.blk_text.specs.declared.script.Line.TheVariants as line
 use Rattle.blk_cli.specs.Simulation.{Where, Plugged, Staged, Released, moved, place_after, is_where, bio_at, bios_at, ticks_of}
-use Rattle.blk_cli.specs.Simulated.{Placing, placed_by, placings, moved_by, stepped, picked, is_in, is_at, bios_in, ArePlugged, AreStaged, AreReleased, AreDrained, nobody, Stands, IsReady}
+use Rattle.blk_cli.specs.Simulated.{Placing, placed_by, placings, moved_by, stepped, picked, is_in, is_at, bios_in, ArePlugged, AreStaged, AreDrained, nobody, Stands, IsReady}
 use Rattle.blk_cli.proofs.Steps.{one_more}
 use Rattle.blk_cli.proofs.Picking.{picked-append, picked-moved, picked-same, picked-same_in, picked-none, picked-both, IsSplit, set_cases}
 

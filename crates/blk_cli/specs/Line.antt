@@ -1,5 +1,5 @@
 -- The command line, as data.
-use Rattle.std.specs.Prelude.{◌≡◌, true, Option, Some, [], ◌∷◌, codes}
+use Rattle.std.specs.Prelude.{◌≡◌, true, Some, [], ◌∷◌, codes}
 use Rattle.clap.specs.Words.{App, Rule, new_app, new_rule, with_rule, with_subcommand}
 use Rattle.clap.specs.declared.builder.ArgAction.TheVariants.{Set}
 use Rattle.clap.specs.declared.builder.value_parser.ValueParser.{ValueParser}

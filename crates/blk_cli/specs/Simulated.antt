@@ -1,5 +1,5 @@
 -- How a simulation stands between two steps.
-use Rattle.std.specs.Prelude.{◌≡◌, ◌<◌, ◌+◌, ◌%◌, ◌==◌, ◌++◌, ◌&&◌, ◌||◌, not, cond, nat_lt, ℕ, Bool, false, List, [], ◌∷◌, Some, length, map, flat_map, slice_get, All, IsPermutation}
+use Rattle.std.specs.Prelude.{◌≡◌, ◌<◌, ◌+◌, ◌%◌, ◌==◌, ◌++◌, ◌&&◌, ◌||◌, not, cond, nat_lt, ℕ, Bool, false, List, [], ◌∷◌, Some, length, map, flat_map, slice_get, slice_index_or, All, IsPermutation}
 use Rattle.blk_bio.specs.Bios.{Bio}
 use Rattle.blk_bio.specs.Limits.{Limits}
 use Rattle.blk_trace.specs.Happened.{Happened}
@@ -101,6 +101,11 @@ pub record IsReady (limits : Limits) (plugs : List Plug) (queues : List Queue) :
   pub counts : length queues ≡ length plugs
   pub plugs_are_of : PlugsAreOf limits plugs
   pub queues_are_of : QueuesAreOf limits queues
+
+-- a map of so many software queues to so many hardware queues: queue s is served by hardware queue s mod these
+pub record IsSpread (hw count : ℕ) (entries : List ℕ) : Type 0 where
+  pub counts : length entries ≡ count
+  pub spread : (s d : ℕ) → s < count → slice_index_or entries s d ≡ s % hw
 
 -- so many rounds passed in the core, and no bio entered
 pub record Passed (rounds : ℕ) (old new : CoreState) : Type 0 where

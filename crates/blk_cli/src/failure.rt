@@ -1,6 +1,7 @@
 //! Why the program ends without its output, as a line and an exit status.
 
-ghost use Rattle.std.specs.Prelude.{◌≢◌};
+ghost use Rattle.std.specs.Prelude.{◌≡◌, ◌≢◌, ◌⊎◌, ◌≤◌};
+ghost use Rattle.blk_cli.specs.Statuses.{IsOfWriter};
 
 use crate::sim::{SimFault, SimWhy};
 use crate::{FAILED, REFUSED};
@@ -36,7 +37,9 @@ enum Kind {
 }
 
 impl Failure {
-    fn kind(&self) -> Kind {
+    fn kind(&self) -> Kind
+        ensures { IsOfWriter self.now → (result ≡ Kind.Write) ⊎ (result ≡ Kind.Memory) }
+    {
         match self {
             Failure::Text(fault) => match fault.why {
                 Why::Read => Kind::Read,
@@ -59,7 +62,8 @@ impl Failure {
     /// Writes the failure's line, `blk: ` and what was refused, and answers the exit status: 1 for refused input, 3 for
     /// want of memory, a read fault or a write fault. Where the line can't be written, the status stays.
     pub fn report<F: Write>(&self, faults: &mut F) -> u8
-        ensures { result ≢ 0 }
+        ensures range { (result ≢ 0) × (result ≤ 3) }
+        ensures of_writer { IsOfWriter self.now → result ≡ 3 }
     {
         let kind = self.kind();
         let _ = match kind {

@@ -1,6 +1,7 @@
 //! What each subcommand does with its input.
 
-ghost use Rattle.std.specs.Prelude.{◌≡◌, ◌*◌, OnOk, IfOk, IfSome};
+ghost use Rattle.std.specs.Prelude.{◌≡◌, ◌*◌, ◌⊎◌, OnOk, IfOk, IfErr, IfSome};
+ghost use Rattle.blk_cli.specs.Statuses.{IsOfWriter};
 ghost use Rattle.std.specs.Prelude.{ℤ, pos, negsuc, ◌+ℤ◌, ◌≤ℤ◌, ◌≤◌, ◌<◌, ◌^◌};
 ghost use Rattle.edd_check.specs.Window.{rounds_between, WindowInRange};
 ghost use Rattle.blk_text.specs.Sources.{input_of};
@@ -27,7 +28,8 @@ pub fn simulate_script<R: Read + Drop, W: Write>(
     reader: R,
     writer: &mut W,
 ) -> Result<(), Failure>
-    ensures { OnOk result (IfSome (input_of (R.remaining reader)) (λ rows. SimWrote rows (W.contents writer.old) (W.contents writer.new))) }
+    ensures wrote { OnOk result (IfSome (input_of (R.remaining reader)) (λ rows. SimWrote rows (W.contents writer.old) (W.contents writer.new))) }
+    ensures kept { IfErr result (λ f. IsOfWriter f ⊎ (writer.new ≡ writer.old)) }
 {
     let script = match read_script(alloc, reader) {
         Ok(script) => script,
@@ -77,7 +79,8 @@ pub fn solve_commands<R: Read + Drop, W: Write>(
     reader: R,
     writer: &mut W,
 ) -> Result<(), Failure>
-    ensures { OnOk result (IfSome (input_of (R.remaining reader)) (λ rows. OracleWrote rows (W.contents writer.old) (W.contents writer.new))) }
+    ensures wrote { OnOk result (IfSome (input_of (R.remaining reader)) (λ rows. OracleWrote rows (W.contents writer.old) (W.contents writer.new))) }
+    ensures kept { IfErr result (λ f. IsOfWriter f ⊎ (writer.new ≡ writer.old)) }
 {
     let (depth, commands) = match read_commands(alloc, reader) {
         Ok(list) => list,
@@ -143,7 +146,8 @@ pub fn check_certificate<R: Read + Drop, W: Write>(
     reader: R,
     writer: &mut W,
 ) -> Result<(), Failure>
-    ensures { OnOk result (IfSome (input_of (R.remaining reader)) CheckRead) }
+    ensures read { OnOk result (IfSome (input_of (R.remaining reader)) CheckRead) }
+    ensures kept { IfErr result (λ f. IsOfWriter f ⊎ (writer.new ≡ writer.old)) }
 {
     let certificate = match read_certificate(alloc, reader) {
         Ok(certificate) => certificate,
@@ -160,7 +164,9 @@ pub fn check_certificate<R: Read + Drop, W: Write>(
 }
 
 // Writes a line.
-fn write_line<W: Write>(writer: &mut W, line: &[u8]) -> Result<(), Failure> {
+fn write_line<W: Write>(writer: &mut W, line: &[u8]) -> Result<(), Failure>
+    ensures { IfErr result IsOfWriter }
+{
     match writer.write_all(line) {
         Ok(()) => Ok(()),
         Err(_) => Err(Failure::Write(WriteFault::Write)),

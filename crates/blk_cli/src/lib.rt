@@ -1,7 +1,7 @@
 //! The command line of the program, over a reader and two writers.
 #![tactic(auto)]
 
-ghost use Rattle.std.specs.Prelude.{◌≡◌, ◌≢◌, ◌∷◌, [], ℕ, List, IfSome, map, codes, string_bytes};
+ghost use Rattle.std.specs.Prelude.{◌≡◌, ◌≢◌, ◌≤◌, ◌∷◌, [], ℕ, List, IfSome, map, codes, string_bytes};
 ghost use Rattle.blk_text.specs.Sources.{input_of};
 ghost use Rattle.blk_cli.specs.Outcome.{CheckRead, OracleWrote, SimWrote};
 
@@ -48,6 +48,9 @@ pub fn run<R: Read + Drop, W: Write, F: Write>(
         → IfSome (input_of (R.remaining reader)) (λ rows. OracleWrote rows (W.contents writer.old) (W.contents writer.new)) }
     ensures check { result ≡ 0 → (name : List ℕ) → map string_bytes words.now ≡ name ∷ codes "check" ∷ []
         → IfSome (input_of (R.remaining reader)) CheckRead }
+    ensures range { result ≤ 3 }
+    // nothing is written at the statuses 1 and 2
+    ensures refused { result ≢ 0 → result ≢ 3 → writer.new ≡ writer.old }
 {
     let choice = match choose(alloc, words) {
         Ok(choice) => choice,
@@ -66,7 +69,7 @@ pub fn run<R: Read + Drop, W: Write, F: Write>(
 
 // Says why the words ask for nothing.
 fn refuse<F: Write>(refusal: NoChoice, faults: &mut F) -> u8
-    ensures { result ≢ 0 }
+    ensures { (result ≢ 0) × (result ≤ 3) }
 {
     match refusal {
         NoChoice::Memory => Failure::Memory.report(faults),

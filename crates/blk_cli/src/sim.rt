@@ -1,20 +1,24 @@
 //! A script's steps, run one after the other over plugs, software queues and the core.
 
-ghost use Rattle.std.specs.Prelude.{◌≡◌, ◌++◌, ◌+◌, ◌<◌, ◌≤◌, ◌%◌, ◌==◌, ◌||◌, ◌≢◌, nat_lt, ℕ, Bool, List, [], IfOk, OnOk, IfErr, length, sum_by, IsPermutation, All};
+ghost use Rattle.std.specs.Prelude.{IsTrue, ◌↔◌, ◌≡◌, ◌++◌, ◌+◌, ◌<◌, ◌≤◌, ◌%◌, ◌==◌, ◌||◌, ◌≢◌, nat_lt, ℕ, Bool, List, [], Some, slice_get, IfOk, OnOk, IfErr, length, sum_by, IsPermutation, All};
 ghost use Rattle.std.specs.FinMap as fin;
 ghost use Rattle.blk_bio.specs.Limits.{Limits as LimitsFields};
 ghost use Rattle.blk_bio.specs.Requests.{IsWithin};
+ghost use Rattle.blk_plug.specs.Plugs.{Plug as PlugFields};
+ghost use Rattle.blk_soft.specs.Queues.{Queue as QueueFields};
 ghost use Rattle.blk_trace.specs.Events.{entered, round_of};
 ghost use Rattle.blk_trace.specs.Legal.{IsLegalTrace};
 ghost use Rattle.blk_text.specs.Script.{IsScript, LineFits, scripted};
 ghost use Rattle.blk_cli.specs.Simulation.{released_bios, ticks_of};
-ghost use Rattle.blk_cli.specs.Refusals.{IsSimFault};
-ghost use Rattle.blk_cli.specs.Simulated.{Placing, ArePlugged, AreStaged, AreDrained, Stands, moved_by, stepped, nobody, is_served, PlugsAreOf, QueuesAreOf, IsReady, Passed, Took, bios_in};
+ghost use Rattle.blk_core.specs.Faults.{IsInFlight, CanIssue, CanTick};
+ghost use Rattle.blk_cli.specs.Refusals.{IsSimFault, IsAcceptedAt, IsStepAccepted, MayAdd, IsStepRefused, IsAddRefused, IsOverfull, IsReleaseRefused, IsIssueRefused, IsTickRefused, IsDrainRefused, IsRunRefused, Reached, added_why, released_why, issued_why, ticked_why};
+ghost use Rattle.blk_cli.specs.Simulated.{Placing, ArePlugged, AreStaged, AreDrained, Stands, moved_by, stepped, nobody, is_served, PlugsAreOf, QueuesAreOf, IsReady, IsSpread, Passed, Took, bios_in};
 
 use blk_bio::bio::Bio;
 use blk_bio::limits::Limits;
 use blk_bio::request::Request;
 use blk_core::{Core, CoreFault, IssueFault, TickFault};
+use blk_hw::Map;
 use blk_plug::plug::{Plug, PlugFault};
 use blk_sched::Scheduler;
 use blk_soft::SoftQueue;
@@ -76,12 +80,14 @@ pub struct SimFault {
 struct Simulation<S: Scheduler> {
     plugs: Vec<Plug<S::A>, S::A>,
     queues: Vec<SoftQueue<S::A>, S::A>,
+    map: Map<S::A>,
     core: Core<S>,
 }
 
 // Why the core refuses a release for one of its hardware queues.
 fn why_released(fault: CoreFault) -> SimWhy
     requires { fault ≢ CoreFault.NoQueue }
+    ensures { released_why fault ≡ Some result }
 {
     match fault {
         CoreFault::NoQueue => unreachable!(),
@@ -94,6 +100,7 @@ fn why_released(fault: CoreFault) -> SimWhy
 // Why the core refuses an issue to one of its hardware queues.
 fn why_issued(fault: IssueFault) -> SimWhy
     requires { fault ≢ IssueFault.NoQueue }
+    ensures { issued_why fault ≡ Some result }
 {
     match fault {
         IssueFault::NoQueue => unreachable!(),
@@ -104,11 +111,33 @@ fn why_issued(fault: IssueFault) -> SimWhy
     }
 }
 
+// Why the core refuses a tick.
+fn why_ticked(fault: TickFault) -> SimWhy
+    ensures { result ≡ ticked_why fault }
+{
+    match fault {
+        TickFault::InFlight(_) => SimWhy::InFlight,
+        TickFault::TraceFull => SimWhy::TraceFull,
+        TickFault::Memory => SimWhy::Memory,
+    }
+}
+
+// Why a plug refuses a bio.
+fn why_added(fault: PlugFault) -> SimWhy
+    ensures { result ≡ added_why fault }
+{
+    match fault {
+        PlugFault::Full => SimWhy::Full,
+        PlugFault::Memory => SimWhy::Memory,
+    }
+}
+
 // Releases a request into the core.
 fn release<S: Scheduler>(core: &mut Core<S>, request: Request<S::A>, hw: u8) -> Result<(), SimWhy>
     requires queue { hw < core.old.setup.hw }
     requires within { IsWithin core.old.setup.limits request }
-    ensures { OnOk result (Took request core.old core.new) }
+    ensures took { OnOk result (Took request core.old core.new) }
+    ensures refused { IfErr result (λ w. IsReleaseRefused core.old request hw w) }
 {
     match core.release(request, hw) {
         Ok(_) => Ok(()),
@@ -119,7 +148,9 @@ fn release<S: Scheduler>(core: &mut Core<S>, request: Request<S::A>, hw: u8) -> 
 // Asks the core to issue a request under a tag, and says whether it did.
 fn issue<S: Scheduler>(core: &mut Core<S>, hw: u8, tag: u16) -> Result<bool, SimWhy>
     requires { hw < core.old.setup.hw }
-    ensures { Passed 0 core.old core.new }
+    ensures passed { Passed 0 core.old core.new }
+    ensures accepted { OnOk result (CanIssue core.old hw tag) }
+    ensures refused { IfErr result (λ w. IsIssueRefused core.old hw tag w) }
 {
     match core.issue(hw, tag) {
         Ok(command) => Ok(command.is_some()),
@@ -129,7 +160,9 @@ fn issue<S: Scheduler>(core: &mut Core<S>, hw: u8, tag: u16) -> Result<bool, Sim
 
 // Completes what is in flight under a tag.
 fn done<S: Scheduler>(core: &mut Core<S>, tag: u16) -> Result<(), SimWhy>
-    ensures { Passed 0 core.old core.new }
+    ensures passed { Passed 0 core.old core.new }
+    ensures accepted { OnOk result (IsInFlight core.old tag) }
+    ensures refused { IfErr result (λ w. (w ≡ SimWhy.NotIssued) × (IsInFlight core.old tag → ⊥)) }
 {
     match core.done(tag) {
         Ok(()) => Ok(()),
@@ -139,13 +172,13 @@ fn done<S: Scheduler>(core: &mut Core<S>, tag: u16) -> Result<(), SimWhy>
 
 // Ends the round.
 fn tick<S: Scheduler>(core: &mut Core<S>) -> Result<(), SimWhy>
-    ensures { OnOk result (Passed 1 core.old core.new) }
+    ensures passed { OnOk result (Passed 1 core.old core.new) }
+    ensures accepted { OnOk result (CanTick core.old) }
+    ensures refused { IfErr result (λ w. IsTickRefused core.old w) }
 {
     match core.tick() {
         Ok(_) => Ok(()),
-        Err(TickFault::InFlight(_)) => Err(SimWhy::InFlight),
-        Err(TickFault::TraceFull) => Err(SimWhy::TraceFull),
-        Err(TickFault::Memory) => Err(SimWhy::Memory),
+        Err(fault) => Err(why_ticked(fault)),
     }
 }
 
@@ -159,6 +192,7 @@ fn flush_plug<A: Allocator + Clone>(
     ensures moved { OnOk result (queue.new.requests ≡ queue.old.requests ++ plug.old.requests) }
     ensures plug_limits { plug.new.limits ≡ plug.old.limits }
     ensures queue_limits { queue.new.limits ≡ queue.old.limits }
+    ensures refused { IfErr result (λ w. (w ≡ SimWhy.SoftFull) × IsOverfull queue.old plug.old) }
 {
     while let Some(request) = plug.take_first() {
         if queue.put(request).is_err() {
@@ -179,6 +213,7 @@ fn drain_queue<S: Scheduler>(
     ensures emptied { OnOk result (queue.new.requests ≡ []) }
     ensures moved { OnOk result (Took (bios_in queue.old.requests) core.old core.new) }
     ensures limits { queue.new.limits ≡ queue.old.limits }
+    ensures refused { IfErr result (λ w. IsDrainRefused core.old hw w) }
 {
     while let Some(request) = queue.take_first() {
         release(core, request, hw)?;
@@ -188,8 +223,10 @@ fn drain_queue<S: Scheduler>(
 
 // Asks the hardware queues for a request, from one on upward and round, until one gives one, and says whether one did.
 fn issue_from<S: Scheduler>(core: &mut Core<S>, first: u8, tag: u16) -> Result<bool, SimWhy>
-    requires { first < core.old.setup.hw }
-    ensures { Passed 0 core.old core.new }
+    requires first { first < core.old.setup.hw }
+    requires tag { tag < core.old.setup.depth }
+    ensures passed { Passed 0 core.old core.new }
+    ensures refused { IfErr result (λ w. (w ≢ SimWhy.SlotUsed) → IsRunRefused core.old w) }
 {
     let count = core.trace().setup().hw();
     for k in 0..count {
@@ -205,9 +242,20 @@ fn issue_from<S: Scheduler>(core: &mut Core<S>, first: u8, tag: u16) -> Result<b
     Ok(false)
 }
 
+// Whether an issue was refused since its tag was used in the round.
+fn is_used(why: SimWhy) -> bool
+    ensures { IsTrue result ↔ (why ≡ SimWhy.SlotUsed) }
+{
+    match why {
+        SimWhy::SlotUsed => true,
+        _ => false,
+    }
+}
+
 // Issues under each tag that was not used in this round, rising, until nothing more is given.
 fn issue_round<S: Scheduler>(core: &mut Core<S>) -> Result<(), SimWhy>
-    ensures { OnOk result (Passed 0 core.old core.new) }
+    ensures passed { OnOk result (Passed 0 core.old core.new) }
+    ensures refused { IfErr result (λ w. IsRunRefused core.old w) }
 {
     let setup = core.trace().setup();
     let depth = setup.depth() as u16;
@@ -216,8 +264,11 @@ fn issue_round<S: Scheduler>(core: &mut Core<S>) -> Result<(), SimWhy>
         match issue_from(core, first, tag) {
             Ok(true) => {}
             Ok(false) => break,
-            Err(SimWhy::SlotUsed) => {}
-            Err(why) => return Err(why),
+            Err(why) => {
+                if !is_used(why) {
+                    return Err(why);
+                }
+            }
         }
     }
     Ok(())
@@ -239,16 +290,19 @@ fn done_round<S: Scheduler>(core: &mut Core<S>)
 
 // One round: what can be issued is issued and completed, and the round ends.
 fn round<S: Scheduler>(core: &mut Core<S>) -> Result<(), SimWhy>
-    ensures { OnOk result (Passed 1 core.old core.new) }
+    ensures passed { OnOk result (Passed 1 core.old core.new) }
+    ensures refused { IfErr result (λ w. IsRunRefused core.old w) }
 {
     issue_round(core)?;
     done_round(core);
-    tick(core)
+    tick(core)?;
+    Ok(())
 }
 
 // So many rounds.
 fn rounds<S: Scheduler>(core: &mut Core<S>, count: u64) -> Result<(), SimWhy>
-    ensures { OnOk result (Passed count core.old core.new) }
+    ensures passed { OnOk result (Passed count core.old core.new) }
+    ensures refused { IfErr result (λ w. IsRunRefused core.old w) }
 {
     for _ in 0..count {
         round(core)?;
@@ -260,9 +314,11 @@ fn rounds<S: Scheduler>(core: &mut Core<S>, count: u64) -> Result<(), SimWhy>
 fn drain<S: Scheduler>(
     core: &mut Core<S>,
     queues: &mut Vec<SoftQueue<S::A>, S::A>,
+    map: &Map<S::A>,
     hw: u8,
 ) -> Result<(), SimWhy>
     requires queue { hw < core.old.setup.hw }
+    requires map { IsSpread core.old.setup.hw (length queues.old.items) map.now }
     requires limits { QueuesAreOf core.old.setup.limits queues.old.items }
     ensures drained { (test : ℕ → Bool) → (book : List Placing) → AreDrained test book queues.old.items core.old.events
         → OnOk result (AreDrained (λ s. test s || is_served (length queues.old.items) core.old.setup.hw hw s) book queues.new.items core.new.events) }
@@ -270,10 +326,11 @@ fn drain<S: Scheduler>(
     ensures ticks { OnOk result (round_of core.new.events ≡ round_of core.old.events) }
     ensures limits { OnOk result (QueuesAreOf core.old.setup.limits queues.new.items) }
     ensures count { length queues.new.items ≡ length queues.old.items }
+    ensures reached { OnOk result (Reached core.old core.new) }
+    ensures refused { IfErr result (λ w. IsDrainRefused core.old hw w) }
 {
-    let count = core.trace().setup().hw() as usize;
     for s in 0..queues.len() {
-        if s % count == hw as usize {
+        if map.hw_of(s) == hw {
             drain_queue(core, &mut queues[s], hw)?;
         }
     }
@@ -284,18 +341,22 @@ fn drain<S: Scheduler>(
 fn drain_all<S: Scheduler>(
     core: &mut Core<S>,
     queues: &mut Vec<SoftQueue<S::A>, S::A>,
+    map: &Map<S::A>,
 ) -> Result<(), SimWhy>
-    requires { QueuesAreOf core.old.setup.limits queues.old.items }
+    requires limits { QueuesAreOf core.old.setup.limits queues.old.items }
+    requires map { IsSpread core.old.setup.hw (length queues.old.items) map.now }
     ensures drained { (book : List Placing) → AreDrained nobody book queues.old.items core.old.events
         → OnOk result (AreDrained (λ s. nat_lt s (length queues.old.items)) book queues.new.items core.new.events) }
     ensures setup { OnOk result (core.new.setup ≡ core.old.setup) }
     ensures ticks { OnOk result (round_of core.new.events ≡ round_of core.old.events) }
     ensures limits { OnOk result (QueuesAreOf core.old.setup.limits queues.new.items) }
     ensures count { length queues.new.items ≡ length queues.old.items }
+    ensures reached { OnOk result (Reached core.old core.new) }
+    ensures refused { IfErr result (λ w. IsRunRefused core.old w) }
 {
     let count = core.trace().setup().hw();
     for hw in 0..count {
-        drain(core, queues, hw)?;
+        drain(core, queues, map, hw)?;
     }
     Ok(())
 }
@@ -305,17 +366,20 @@ fn drain_all<S: Scheduler>(
 fn run<S: Scheduler>(
     core: &mut Core<S>,
     queues: &mut Vec<SoftQueue<S::A>, S::A>,
+    map: &Map<S::A>,
     count: u64,
 ) -> Result<(), SimWhy>
-    requires { QueuesAreOf core.old.setup.limits queues.old.items }
+    requires limits { QueuesAreOf core.old.setup.limits queues.old.items }
+    requires map { IsSpread core.old.setup.hw (length queues.old.items) map.now }
     ensures drained { (book : List Placing) → AreDrained nobody book queues.old.items core.old.events
         → OnOk result (AreDrained (λ s. nat_lt s (length queues.old.items)) book queues.new.items core.new.events) }
     ensures setup { OnOk result (core.new.setup ≡ core.old.setup) }
     ensures ticks { OnOk result (round_of core.new.events ≡ round_of core.old.events + count) }
     ensures limits { OnOk result (QueuesAreOf core.old.setup.limits queues.new.items) }
     ensures count { length queues.new.items ≡ length queues.old.items }
+    ensures refused { IfErr result (λ w. IsRunRefused core.old w) }
 {
-    drain_all(core, queues)?;
+    drain_all(core, queues, map)?;
     rounds(core, count)?;
     Ok(())
 }
@@ -327,12 +391,13 @@ fn add<A: Allocator + Clone>(plugs: &mut Vec<Plug<A>, A>, bio: Bio) -> Result<()
         → OnOk result (ArePlugged (stepped hw (Line.Bio bio) book) plugs.new.items) }
     ensures limits { (limits : LimitsFields) → PlugsAreOf limits plugs.old.items → OnOk result (PlugsAreOf limits plugs.new.items) }
     ensures count { length plugs.new.items ≡ length plugs.old.items }
+    ensures accepted { OnOk result ((own : PlugFields) × (slice_get plugs.old.items bio.id.submitter ≡ Some own) × MayAdd own bio) }
+    ensures refused { IfErr result (λ w. (own : PlugFields) × (slice_get plugs.old.items bio.id.submitter ≡ Some own) × IsAddRefused own bio w) }
 {
     let plug = &mut plugs[bio.id().submitter as usize];
     match plug.add(bio) {
         Ok(_) => Ok(()),
-        Err((_, PlugFault::Full)) => Err(SimWhy::Full),
-        Err((_, PlugFault::Memory)) => Err(SimWhy::Memory),
+        Err((_, fault)) => Err(why_added(fault)),
     }
 }
 
@@ -350,6 +415,7 @@ fn flush<A: Allocator + Clone>(
         → OnOk result (AreStaged nobody (stepped hw (Line.Flush submitter) book) queues.new.items) }
     ensures ready { (limits : LimitsFields) → IsReady limits plugs.old.items queues.old.items → OnOk result (IsReady limits plugs.new.items queues.new.items) }
     ensures count { length plugs.new.items ≡ length plugs.old.items }
+    ensures refused { IfErr result (λ w. (own : PlugFields) × (to : QueueFields) × (slice_get plugs.old.items submitter ≡ Some own) × (slice_get queues.old.items submitter ≡ Some to) × (w ≡ SimWhy.SoftFull) × IsOverfull to own) }
 {
     let s = submitter as usize;
     flush_plug(&mut plugs[s], &mut queues[s])?;
@@ -396,6 +462,35 @@ fn new_queues<A: Allocator + Clone>(
     Ok(queues)
 }
 
+// The hardware queues of so many software queues: of queue s, s modulo the number of hardware queues.
+fn spread<A: Allocator>(alloc: A, count: u64, hw: u8) -> Result<Vec<u8, A>, AllocError>
+    requires { 0 < hw }
+    ensures { IfOk result (λ entries. IsSpread hw count entries.items) }
+{
+    let mut entries = Vec::new(alloc);
+    for s in 0..count {
+        let Ok(()) = entries.push((s % hw as u64) as u8) else {
+            return Err(AllocError);
+        };
+    }
+    Ok(entries)
+}
+
+// The map of so many software queues to so many hardware queues.
+fn new_map<A: Allocator>(alloc: A, count: u64, hw: u8) -> Result<Map<A>, AllocError>
+    requires some { 0 < hw }
+    requires few { hw ≤ 16 }
+    requires enough { hw ≤ count }
+    requires submitters { count ≤ 64 }
+    ensures { IfOk result (λ map. IsSpread hw count map) }
+{
+    let entries = spread(alloc, count, hw)?;
+    match Map::new(entries) {
+        Ok(map) => Ok(map),
+        Err(_) => unreachable!(),
+    }
+}
+
 impl<S: Scheduler> Simulation<S> {
     // A script before its first step.
     fn new(alloc: S::A, script: &Script, scheduler: S) -> Result<Simulation<S>, AllocError>
@@ -407,16 +502,19 @@ impl<S: Scheduler> Simulation<S> {
         ensures events { IfOk result (λ s. s.core.events ≡ []) }
         ensures count { IfOk result (λ s. length s.plugs.items ≡ script.now.submitters) }
         ensures ready { IfOk result (λ s. IsReady script.now.setup.limits s.plugs.items s.queues.items) }
+        ensures map { IfOk result (λ s. IsSpread script.now.setup.hw script.now.submitters s.map) }
         ensures stands { IfOk result (λ s. Stands [] s.plugs.items s.queues.items s.core.events) }
     {
         let limits = script.setup.limits();
         let count = script.submitters;
         let plugs = new_plugs(alloc.clone()?, count, limits)?;
         let queues = new_queues(alloc.clone()?, count, script.soft_depth, limits)?;
+        let map = new_map(alloc.clone()?, count, script.setup.hw())?;
         match Core::new(alloc, script.setup, scheduler) {
             Ok(core) => Ok(Simulation {
                 plugs,
                 queues,
+                map,
                 core,
             }),
             Err(_) => Err(AllocError),
@@ -432,6 +530,7 @@ impl<S: Scheduler> Simulation<S> {
         let Simulation {
             plugs: _plugs,
             queues: _queues,
+            map: _map,
             core,
         } = self;
         let _ = core.trace();
@@ -441,6 +540,7 @@ impl<S: Scheduler> Simulation<S> {
     // Runs one step.
     fn step(&mut self, line: Line) -> Result<(), SimWhy>
         requires ready { IsReady self.old.core.setup.limits self.old.plugs.items self.old.queues.items }
+        requires map { IsSpread self.old.core.setup.hw (length self.old.plugs.items) self.old.map }
         requires fits { LineFits self.old.core.setup.hw (length self.old.plugs.items) line }
         ensures stands { (book : List Placing) → Stands book self.old.plugs.items self.old.queues.items self.old.core.events
             → OnOk result (Stands (stepped self.old.core.setup.hw line book) self.new.plugs.items self.new.queues.items self.new.core.events) }
@@ -448,6 +548,9 @@ impl<S: Scheduler> Simulation<S> {
         ensures setup { OnOk result (self.new.core.setup ≡ self.old.core.setup) }
         ensures ticks { OnOk result (round_of self.new.core.events ≡ round_of self.old.core.events + ticks_of line) }
         ensures count { OnOk result (length self.new.plugs.items ≡ length self.old.plugs.items) }
+        ensures map { self.new.map ≡ self.old.map }
+        ensures accepted { OnOk result (IsStepAccepted self.old.plugs.items self.old.core line) }
+        ensures refused { IfErr result (λ w. IsStepRefused self.old.plugs.items self.old.queues.items self.old.core line w) }
     {
         match line {
             Line::Bio(bio) => {
@@ -459,7 +562,7 @@ impl<S: Scheduler> Simulation<S> {
                 Ok(())
             }
             Line::Drain { hw } => {
-                drain(&mut self.core, &mut self.queues, hw)?;
+                drain(&mut self.core, &mut self.queues, &self.map, hw)?;
                 Ok(())
             }
             Line::Issue { hw, tag } => {
@@ -475,7 +578,7 @@ impl<S: Scheduler> Simulation<S> {
                 Ok(())
             }
             Line::Run(count) => {
-                run(&mut self.core, &mut self.queues, count)?;
+                run(&mut self.core, &mut self.queues, &self.map, count)?;
                 Ok(())
             }
         }
@@ -498,7 +601,8 @@ pub fn simulate<S: Scheduler>(
     ensures legal { IfOk result (λ trace. IsLegalTrace trace.setup trace.events) }
     ensures bios { IfOk result (λ trace. IsPermutation (entered trace.events) (released_bios script.now.setup.hw script.now.lines.items)) }
     ensures ticks { IfOk result (λ trace. round_of trace.events ≡ sum_by ticks_of script.now.lines.items) }
-    ensures fault { IfErr result (λ fault. IsSimFault script.now.lines.items fault) }
+    ensures accepted { OnOk result ((place : ℕ) → place < length script.now.lines.items → IsAcceptedAt script.now.setup script.now.lines.items place) }
+    ensures fault { IfErr result (λ fault. IsSimFault script.now.setup script.now.lines.items fault) }
 {
     let Ok(mut simulation) = Simulation::new(alloc, script, scheduler) else {
         return Err(SimFault {

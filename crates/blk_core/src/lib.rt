@@ -374,6 +374,8 @@ impl<S: Scheduler> Core<S> {
         ensures setup { result.setup ≡ self.setup }
         ensures events { result.events ≡ self.events }
         ensures legal { IsLegalTrace self.setup self.events }
+        ensures schedule { IsScheduled self.setup self.events }
+        ensures accounted { IsAccounted self.events }
     {
         let Core { trace, .. } = self;
         trace

@@ -58,7 +58,7 @@ impl<A: Allocator> Model for Map<A> {
 
 impl<A: Allocator> Map<A> {
     /// A map of 1 to [`MAX_SOFT_QUEUES`] entries from 0 to [`MAX_HW_NUMBER`], for software queues from 0 on. Refused, in
-    /// this order, as `Empty`, `TooMany` or `Unserved`.
+    /// this order, as `Empty`, `TooMany` or `Unserved`; the list of entries is gone then. It takes no memory.
     pub fn new(entries: Vec<u8, A>) -> Result<Map<A>, MapFault>
         // the map or the fault
         ensures answer { IsMapAnswer entries.items result }

@@ -1,7 +1,10 @@
 //! The scheduler that keeps the order of entry.
 #![tactic(auto)]
 
-ghost use Rattle.std.specs.Prelude.{◌≡◌, ◌≤◌, ◌<◌, ◌+◌, ◌^◌, ◌↔◌, ℕ, Bool, ◌⊎◌, IfOk, OnOk, IfErr, OnErr, IfSome, IfNone, None, true};
+#[cfg(test)]
+mod tests;
+
+ghost use Rattle.std.specs.Prelude.{◌≡◌, ◌≤◌, ◌<◌, ◌+◌, ◌^◌, ◌↔◌, ℕ, Bool, ◌⊎◌, IfOk, OnOk, IfErr, OnErr, IfSome, IfNone, IsTrue, None, true, [], length, slice_index_or};
 ghost use Rattle.std.specs.FinMap as map;
 ghost use Rattle.blk_sched.specs.Meaning.{Waiting, Meaning, HasNoCandidate, Joins, ServesNothing, Picks, opened, open_of};
 ghost use Rattle.blk_none.specs.Choice.{serves_own, none_choice};
@@ -9,7 +12,7 @@ ghost use Rattle.blk_none.specs.Choice.{serves_own, none_choice};
 use blk_bio::bio::Dir;
 use blk_bio::limits::Limits;
 use blk_bio::request::{Request, Side};
-use blk_sched::ids::IdSets;
+use blk_sched::extents::{Extent, Extents};
 use blk_sched::{JoinRefusal, Queued, SchedFault, Scheduler};
 use std::alloc::{AllocError, Allocator, Global};
 use std::collections::BTreeMap;
@@ -19,11 +22,11 @@ use std::marker::Model;
 const QUEUES: usize = 16;
 
 /// Requests in the order in which they entered, for each hardware queue by itself, as under `none` of Linux blk-mq.
-/// It holds the requests by id, and for each hardware queue the ids of its own.
+/// It holds the requests by id, and for each hardware queue the extents of its own.
 #[derive(Drop)]
 pub struct NoneSched<A: Allocator = Global> {
     requests: BTreeMap<u64, Queued<A>, A>,
-    ids: IdSets<A>,
+    queues: Vec<Extents<A>, A>,
     reads: u64,
     writes: u64,
 }
@@ -46,7 +49,7 @@ impl<A: Allocator> Model for NoneSched<A> {
       front = true;
     } };
 
-    ghost invariant = { λ s. Kept (get nat_cmp s.requests) s.ids };
+    ghost invariant = { λ s. Kept (get nat_cmp s.requests) s.queues.items };
 }
 
 impl<A: Allocator + Clone> NoneSched<A> {
@@ -59,12 +62,12 @@ impl<A: Allocator + Clone> NoneSched<A> {
         let Ok(own) = alloc.clone() else {
             return Err(SchedFault::Memory);
         };
-        let Ok(ids) = IdSets::new(own, QUEUES) else {
+        let Ok(queues) = empty_queues(own) else {
             return Err(SchedFault::Memory);
         };
         Ok(NoneSched {
             requests: BTreeMap::new(alloc),
-            ids,
+            queues,
             reads: 0,
             writes: 0,
         })
@@ -79,16 +82,17 @@ impl<A: Allocator + Clone> NoneSched<A> {
         ensures same { OnErr result (self.new ≡ self.old) }
     {
         let (id, hw) = (queued.id, queued.hw as usize);
-        let Ok(()) = self.ids.insert(hw, id) else {
-            return Err(queued);
-        };
-        match self.requests.insert(id, queued) {
-            Ok(_) => Ok(()),
-            Err(refused) => {
-                self.ids.remove(hw, id);
-                Err(refused.value.1)
-            }
+        let extent = Extent::of(&queued.request);
+        if let Err(refused) = self.requests.insert(id, queued) {
+            return Err(refused.value.1);
         }
+        let Ok(()) = self.queues[hw].insert(id, extent) else {
+            let Some(returned) = self.requests.remove(&id) else {
+                unreachable!()
+            };
+            return Err(returned);
+        };
+        Ok(())
     }
 
     /// Joins a newcomer to the newest request of the hardware queue that it fits, at either side.
@@ -105,8 +109,20 @@ impl<A: Allocator + Clone> NoneSched<A> {
         ensures err { IfErr result (λ e. e.0 ≡ newcomer) }
         ensures same { OnErr result (self.new ≡ self.old) }
     {
-        self.ids.join_newest(hw as usize, &mut self.requests, newcomer, now, limits, true)
+        self.queues[hw as usize].join_newest(&mut self.requests, newcomer, now, limits, true)
     }
+}
+
+/// No extents, for each of the hardware queues.
+fn empty_queues<A: Allocator + Clone>(alloc: A) -> Result<Vec<Extents<A>, A>, AllocError>
+    ensures count { IfOk result (λ queues. length queues.items ≡ 16) }
+    ensures empty { IfOk result (λ queues. (hw : ℕ) → slice_index_or queues.items hw [] ≡ []) }
+{
+    let mut queues = Vec::with_capacity(alloc.clone()?, QUEUES)?;
+    for _ in 0..QUEUES {
+        queues.push(Extents::new(alloc.clone()?))?;
+    }
+    Ok(queues)
 }
 
 impl<A: Allocator + Clone> Scheduler for NoneSched<A> {
@@ -156,9 +172,10 @@ impl<A: Allocator + Clone> Scheduler for NoneSched<A> {
         ensures picked { IfSome result (λ w. Picks serves_own hw self.old w self.new) }
         ensures none { IfNone result (ServesNothing serves_own hw self.old) }
         ensures same { IfNone result (self.new ≡ self.old) }
+        ensures own { (w : Waiting) → IsTrue (serves_own w.hw w) }
     {
         let _ = now;
-        let Some(id) = self.ids.pop_first(hw as usize) else {
+        let Some(id) = self.queues[hw as usize].pop_first() else {
             return None;
         };
         let Some(queued) = self.requests.remove(&id) else {

@@ -1,19 +1,18 @@
 -- Bios that join requests.
-use Rattle.std.proofs.Common.{◌≡◌, ◌<◌, ◌≤◌, ◌++◌, ◌+◌, ℕ, zero, suc, List, [], ◌∷◌, length, get_or, refl, sym, ◌∙◌, ap, subst, arith, append_assoc, length-append, inl, inr}
+use Rattle.std.proofs.Common.{◌≡◌, ◌<◌, ◌≤◌, ◌++◌, ◌+◌, ℕ, zero, suc, List, [], ◌∷◌, length, get_or, refl, sym, ◌∙◌, ap, subst, arith, append_assoc, inl, inr}
 use Rattle.std.specs.Prelude.{slice_get, slice_set, Some, true}
 use Rattle.std.specs.List.{flat_map}
 use Rattle.std.specs.List.Sorted.{IsPermutation}
 use Rattle.std.proofs.lemmas.List.Sorted.{IsPermutation-append_comm, IsPermutation-append_left, IsPermutation-append_right, IsPermutation-trans, IsPermutation-refl}
 use Rattle.std.proofs.lemmas.Option.{get_or_from_slice_get}
 use Rattle.std.proofs.lemmas.Bool.{cases_eq}
-use Rattle.std.proofs.lemmas.List.Sums.{sum_by-append}
 use Rattle.std.proofs.lemmas.Grind.{flat_map-append}
 use Rattle.blk_bio.specs.declared.request.Side.{Side}
 use Rattle.blk_bio.specs.declared.request.Side.TheVariants.{Back, Front}
 use Rattle.blk_bio.specs.Bios.{Bio}
 use Rattle.blk_bio.specs.Limits.{Limits}
-use Rattle.blk_bio.specs.Requests.{joined, sectors_of, Fits, IsTried}
-use Rattle.blk_plug.specs.Plugs.{MayGrow, IsJoinedAt}
+use Rattle.blk_bio.specs.Requests.{joined, Fits, IsTried}
+use Rattle.blk_plug.specs.Plugs.{IsJoinedAt}
 
 abbrev all_of : List (List Bio) → List Bio
 all_of requests = flat_map (λ request. request) requests
@@ -42,22 +41,6 @@ join_keeps (r ∷ rs) (suc place) bios bio side stands =
 pub append_keeps : (requests new : List (List Bio)) (bio : Bio) → new ≡ requests ++ (bio ∷ []) ∷ [] → IsPermutation (bio ∷ all_of requests) (all_of new)
 append_keeps requests new bio is =
     subst (λ rs. IsPermutation (bio ∷ all_of requests) (all_of rs)) (sym is) (rw flat_map-append (IsPermutation-append_comm (bio ∷ []) (all_of requests)))
-
--- what fits may grow
-pub grows : (limits : Limits) (bios : List Bio) (bio : Bio) (side : Side) → 0 < length bios → Fits limits bios (bio ∷ []) side → MayGrow limits bios bio
-grows limits bios bio Back some fits =
-    let long : length (bios ++ bio ∷ []) ≡ length bios + 1 = length-append bios (bio ∷ []) in
-    let total : sectors_of (bios ++ bio ∷ []) ≡ sectors_of bios + (0 + bio.sectors) = sum_by-append (λ b. b.sectors) bios (bio ∷ []) in
-    elim fits.within [
-      | inl one ↦ absurd (omega arith)
-      | inr within ↦ record { same_direction = fits.same_direction; sectors = omega (arith, within.0); segments = omega (arith, within.1) }
-    ]
-grows limits bios bio Front some fits =
-    let total : sectors_of (bio ∷ bios) ≡ (0 + bio.sectors) + sectors_of bios = sum_by-append (λ b. b.sectors) (bio ∷ []) bios in
-    elim fits.within [
-      | inl one ↦ absurd (omega arith)
-      | inr within ↦ record { same_direction = fits.same_direction; sectors = omega (arith, within.0); segments = omega (arith, within.1) }
-    ]
 
 -- both sides may be tried where the front may
 pub all_tried : (side : Side) → IsTried true side

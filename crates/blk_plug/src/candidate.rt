@@ -2,7 +2,7 @@
 
 ghost use Rattle.std.specs.Prelude.{◌≡◌, ◌<◌, ◌↔◌, ◌∷◌, [], IsTrue, length, IfNone, IfSome, true};
 ghost use Rattle.blk_bio.specs.declared.request.Side.{Side};
-ghost use Rattle.blk_bio.specs.Requests.{Fits, IsJoinCandidate};
+ghost use Rattle.blk_bio.specs.Requests.{Abuts, Fits, IsJoinCandidate};
 ghost use Rattle.blk_plug.specs.Plugs.{MayGrow, HasNoCandidate};
 
 use blk_bio::bio::Bio;
@@ -21,24 +21,43 @@ fn may_grow<A: Allocator + Clone>(request: &Request<A>, bio: &Bio, limits: &Limi
         && count < limits.max_segments()
 }
 
-/// The side at which the bio fits the request: they have one direction, abut, and are within the limits together.
+/// The side at which the bio abuts the request, where they have one direction and are within the limits together.
+fn grown<A: Allocator + Clone>(
+    request: &Request<A>,
+    bio: &Bio,
+    limits: &Limits,
+    side: Side,
+) -> Option<Side>
+    requires { Abuts request.now (bio.now ∷ []) side }
+    ensures some { IfSome result (λ found. (found ≡ side) × Fits limits.now request.now (bio.now ∷ []) side) }
+    ensures none { IfNone result (Fits limits.now request.now (bio.now ∷ []) side → ⊥) }
+{
+    if may_grow(request, bio, limits) {
+        Some(side)
+    } else {
+        None
+    }
+}
+
+/// The side at which the bio fits the request: they have one direction, abut, and are within the limits together. Most
+/// requests are apart from the bio, so the limits are looked at last.
 #[tactic(auto, unfolding(blk_bio::specs::Requests::last_of))]
 fn side_of<A: Allocator + Clone>(request: &Request<A>, bio: &Bio, limits: &Limits) -> Option<Side>
     ensures some { IfSome result (Fits limits.now request.now (bio.now ∷ [])) }
     ensures only { IfSome result (λ found. (side : Side) → Fits limits.now request.now (bio.now ∷ []) side → side ≡ found) }
     ensures none { IfNone result ((side : Side) → Fits limits.now request.now (bio.now ∷ []) side → ⊥) }
 {
-    if !may_grow(request, bio, limits) {
+    if bio.dir() != request.dir() {
         return None;
     }
     let (first, end) = (request.first(), request.first() + request.sectors());
     if bio.first() == end {
-        Some(Side::Back)
-    } else if bio.first() + bio.sectors() == first {
-        Some(Side::Front)
-    } else {
-        None
+        return grown(request, bio, limits, Side::Back);
     }
+    if bio.first() + bio.sectors() == first {
+        return grown(request, bio, limits, Side::Front);
+    }
+    None
 }
 
 /// The place of the newest request that the bio fits, and the side, in requests listed from the oldest to the newest.

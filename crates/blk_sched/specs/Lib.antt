@@ -1,4 +1,4 @@
 pub mod Meaning
 pub mod Maps
 pub mod Fits
-pub mod Ids
+pub mod Extents

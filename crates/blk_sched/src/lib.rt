@@ -1,13 +1,16 @@
 //! What a scheduler is: a trait with its laws.
 #![tactic(auto)]
 
-ghost use Rattle.std.specs.Prelude.{◌≡◌, ◌<◌, ◌+◌, ◌↔◌, ℕ, Bool, ◌⊎◌, IfOk, OnOk, IfErr, OnErr, IfSome, IfNone, IsSome, None};
+#[cfg(test)]
+mod tests;
+
+ghost use Rattle.std.specs.Prelude.{◌≡◌, ◌<◌, ◌+◌, ◌↔◌, ℕ, Bool, ◌⊎◌, IfOk, OnOk, IfErr, OnErr, IfSome, IfNone, IsSome, IsTrue, None};
 ghost use Rattle.std.specs.FinMap as map;
 ghost use Rattle.blk_bio.specs.Requests.{Fits};
 ghost use Rattle.blk_sched.specs.Meaning.{Waiting, Meaning, HasNoCandidate, Joins, ServesNothing, Picks, joined_waiting, opened, open_of};
 
+pub mod extents;
 pub mod fits;
-pub mod ids;
 
 use blk_bio::bio::Dir;
 use blk_bio::limits::Limits;
@@ -99,7 +102,7 @@ pub trait Scheduler: Drop {
         requires hw { IfSome slot.old (λ w. w.hw < 16) }
         ensures ok { OnOk result (IfSome slot.old (λ w. meaning self.new ≡ record (meaning self.old) { pending = map.insert (meaning self.old).pending w.id w })) }
         ensures err { OnErr result (slot.new ≡ slot.old) }
-        ensures same { OnErr result (meaning self.new ≡ meaning self.old) };
+        ensures same { OnErr result (self.new ≡ self.old) };
 
     /// Adds a request, whose id must not be waiting already. Refused for want of memory alone: nothing is changed
     /// then, and the request comes back.
@@ -108,7 +111,7 @@ pub trait Scheduler: Drop {
         requires hw { queued.hw < 16 }
         ensures ok { OnOk result (meaning self.new ≡ record (meaning self.old) { pending = map.insert (meaning self.old).pending queued.id queued }) }
         ensures err { IfErr result (λ e. e.0 ≡ queued) }
-        ensures same { OnErr result (meaning self.new ≡ meaning self.old) }
+        ensures same { OnErr result (self.new ≡ self.old) }
     {
         let mut slot = Some(queued);
         match self.enter(&mut slot) {
@@ -131,7 +134,7 @@ pub trait Scheduler: Drop {
         ensures joined { IfOk result (λ r. IfSome slot.old (λ newcomer. Joins serves hw now limits.now newcomer (meaning self.old) r.0 r.1 (meaning self.new))) }
         ensures no_fit { IfErr result (λ e. IfSome slot.old (λ newcomer. (e ≡ JoinRefusal.NoFit) ↔ HasNoCandidate serves hw limits.now newcomer (meaning self.old))) }
         ensures err { OnErr result (slot.new ≡ slot.old) }
-        ensures same { OnErr result (meaning self.new ≡ meaning self.old) };
+        ensures same { OnErr result (self.new ≡ self.old) };
 
     /// Joins a newcomer to the newest request served for the hardware queue that it fits, at the back where it fits
     /// both sides: `now` becomes that request's release; its id, hardware queue and due round stay. Answers the
@@ -147,7 +150,7 @@ pub trait Scheduler: Drop {
         ensures joined { IfOk result (λ r. Joins serves hw now limits.now newcomer (meaning self.old) r.0 r.1 (meaning self.new)) }
         ensures no_fit { IfErr result (λ e. (e.1 ≡ JoinRefusal.NoFit) ↔ HasNoCandidate serves hw limits.now newcomer (meaning self.old)) }
         ensures err { IfErr result (λ e. e.0 ≡ newcomer) }
-        ensures same { OnErr result (meaning self.new ≡ meaning self.old) }
+        ensures same { OnErr result (self.new ≡ self.old) }
     {
         let mut slot = Some(newcomer);
         match self.join_from(hw, now, limits, &mut slot) {
@@ -157,13 +160,15 @@ pub trait Scheduler: Drop {
     }
 
     /// Takes out one request that is served for the hardware queue and opens one pick of its direction. None only
-    /// where a pick is open, of either direction, or no served request waits.
+    /// where a pick is open, of either direction, or no served request waits. Each request is served for the hardware
+    /// queue that it entered at, at least.
     fn pick(&mut self, hw: u8, now: u64) -> Option<Queued<Self::A>>
         requires hw { hw < 16 }
         requires few { (meaning self.old).open_picks.reads + (meaning self.old).open_picks.writes < 256 }
         ensures picked { IfSome result (λ w. Picks serves hw (meaning self.old) w (meaning self.new)) }
         ensures none { IfNone result ((0 < (meaning self.old).open_picks.reads + (meaning self.old).open_picks.writes) ⊎ ServesNothing serves hw (meaning self.old)) }
-        ensures same { IfNone result (meaning self.new ≡ meaning self.old) };
+        ensures same { IfNone result (meaning self.new ≡ meaning self.old) }
+        ensures own { (w : Waiting) → IsTrue (serves w.hw w) };
 
     /// Closes an open pick of a direction; `wait` is the number of rounds from the request's release to its issue.
     fn on_done(&mut self, hw: u8, dir: Dir, wait: u64)

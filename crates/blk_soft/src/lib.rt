@@ -91,7 +91,7 @@ impl<A: Allocator + Clone> SoftQueue<A> {
         Some(first)
     }
 
-    /// Puts a request back at the front, as Linux puts back what a scheduler could not take. The queue is not full, and
+    /// Puts a request back at the front, where it came from. The queue is not full, the request is within its limits, and
     /// at least as many bios as the request has went out; they no longer count as gone. It takes no memory.
     pub fn put_first(&mut self, request: Request<A>)
         requires room { length self.old.requests < self.old.depth }

@@ -1,5 +1,12 @@
-//! Tests that cross crates.
+//! Tests that cross crates, and a scheduler of one's own.
 #![tactic(auto)]
 
+#[cfg(test)]
+mod calls;
+pub mod lifo;
+#[cfg(test)]
+mod own;
+#[cfg(test)]
+mod refusals;
 #[cfg(test)]
 mod run;

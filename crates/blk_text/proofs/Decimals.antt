@@ -1,10 +1,14 @@
--- The texts that `parse` takes and that begin as numbers are the decimals.
-use Rattle.std.proofs.Common.{◌≡◌, ◌≢◌, ◌<◌, ◌^◌, ◌==◌, ◌∙◌, ℕ, zero, suc, List, [], ◌∷◌, length, true, false, Err, refl, sym, ap, inl, inr, arith, get_or, decimal}
-use Rattle.std.specs.Str.Parse.{ParsesUnsigned, digits_value, AllDigits, without_leading_plus, IsNumeral}
+-- The digits that begin as numbers do are the decimals.
+use Rattle.std.proofs.Common.{◌≡◌, ◌≢◌, ◌<◌, ◌≤◌, ◌+◌, ◌-◌, ◌*◌, ◌^◌, ◌==◌, ◌∙◌, ℕ, zero, suc, List, [], ◌∷◌, length, true, false, Option, Some, None, drop, refl, sym, ap, inl, inr, arith, get_or, decimal}
+use Rattle.std.specs.Prelude.{MatchOption}
+use Rattle.std.specs.Char.{digit_value}
+use Rattle.std.proofs.lemmas.List.{drop_more}
+use Rattle.std.proofs.lemmas.Str.{digit_value_digit}
+use Rattle.std.specs.Str.Parse.{digits_value, digits_value_after, AllDigits}
 use Rattle.std.proofs.lemmas.Bool.{ne_eqb}
-use Rattle.std.proofs.lemmas.Str.Parse.{IsNumeralModel, numerals_by_value, tells_digits, without_leading_plus_none}
-use Rattle.std.proofs.lemmas.Fmt.{decimal_digit, decimal_injective, first_decimal, decimal-digits_value, parse-decimal}
-use Rattle.blk_text.specs.Fields.{canonical, IsSized}
+use Rattle.std.proofs.lemmas.Str.Parse.{IsNumeralModel, numerals_by_value, tells_digits}
+use Rattle.std.proofs.lemmas.Fmt.{decimal_digit, decimal_injective, first_decimal, decimal-digits_value, digits_decimal, digits_value-decimal}
+use Rattle.blk_text.specs.Fields.{canonical, IsSized, WritesNumber}
 
 pub own : IsNumeralModel (AllDigits 10) (digits_value 10)
 own = numerals_by_value _ tells_digits
@@ -20,25 +24,40 @@ pub canonical_decimal : (n : ℕ) → n < 2 ^ 64 → canonical (decimal n) ≡ t
 canonical_decimal zero h = rw (decimal_digit 0 (omega arith)) refl
 canonical_decimal (suc n) h = from_first (decimal (suc n)) (first_decimal (suc n) (omega arith) h)
 
-no_plus : (bs : List ℕ) → canonical bs ≡ true → get_or bs 0 0 ≢ 43
-no_plus [] h e = cc h
-no_plus (c ∷ []) h e = cc (rw e at h)
-no_plus (c ∷ d ∷ ds) h e = cc (rw e at h)
+some : (bs : List ℕ) → canonical bs ≡ true → 0 < length bs
+some [] h = cc h
+some (c ∷ cs) h = omega arith
 
 no_zero : (bs : List ℕ) → canonical bs ≡ true → get_or bs 0 0 ≡ 48 → length bs ≡ 1
 no_zero [] h e = cc h
 no_zero (c ∷ []) h e = refl
 no_zero (c ∷ d ∷ ds) h e = cc (rw e at h)
 
-pub parsed : (bs : List ℕ) (n : ℕ) → (IsNumeral 10 (without_leading_plus bs) × (digits_value 10 (without_leading_plus bs) < 2 ^ 64)) × (n ≡ digits_value 10 (without_leading_plus bs))
-    → canonical bs ≡ true → bs ≡ decimal n
-parsed bs n h k =
-    let w = without_leading_plus_none bs (no_plus bs k) in
-    let (numeral, is) = rw w at h in
-    sym (ap decimal is ∙ decimal-digits_value own bs numeral.0.1 numeral.0.0 (no_zero bs k) numeral.1)
+-- digits that begin as a number's do are the text of the number that they write
+pub written : (bs : List ℕ) (n : ℕ) → WritesNumber bs × (n ≡ digits_value 10 bs) → canonical bs ≡ true → bs ≡ decimal n
+written bs n h k = sym (ap decimal h.1 ∙ decimal-digits_value own bs h.0.0 (some bs k) (no_zero bs k) h.0.1)
 
-pub not_parsed : {E : Type 0} (bs : List ℕ) (n : ℕ) (e : E) → ParsesUnsigned 64 10 bs (Err e) → n < 2 ^ 64 → bs ≡ decimal n → ⊥
-not_parsed bs n e h small is = let bad = parse-decimal 64 n bs (Err e) small small is h in cc bad
+-- the text of a number that fits writes it
+pub writes : (bs : List ℕ) (n : ℕ) → n < 2 ^ 64 → bs ≡ decimal n → WritesNumber bs
+writes bs n small is = rw is (digits_decimal own n small, rw (digits_value-decimal own n small) small)
+
+-- no more is written by fewer digits
+pub grows : (n : ℕ) (ds : List ℕ) → n ≤ digits_value_after 10 n ds
+grows n [] = omega arith
+grows n (c ∷ cs) = omega (arith, grows (n * 10 + digit_value c) cs)
+
+pub by_value : (r : Option ℕ) (bs : List ℕ) → canonical bs ≡ true → MatchOption r (¬ WritesNumber bs) (λ n. WritesNumber bs × (n ≡ digits_value 10 bs))
+    → MatchOption r ((n : ℕ) → n < 2 ^ 64 → bs ≢ decimal n) (λ n. bs ≡ decimal n)
+by_value None bs k h = λ n small is. h (writes bs n small is)
+by_value (Some n) bs k h = written bs n h k
+
+-- a digit that would pass the greatest number
+pub too_great : (bs : List ℕ) (i number : ℕ) → i < length bs → 48 ≤ get_or bs i 0 → get_or bs i 0 ≤ 57 → digits_value_after 10 number (drop i bs) ≡ digits_value 10 bs
+    → 2 ^ 64 ≤ number * 10 + (get_or bs i 0 - 48) → WritesNumber bs → ⊥
+too_great bs i number l lo hi v big w =
+    let split : drop i bs ≡ get_or bs i 0 ∷ drop (i + 1) bs = drop_more bs i 0 l in
+    let more : digits_value_after 10 (number * 10 + digit_value (get_or bs i 0)) (drop (i + 1) bs) ≡ digits_value 10 bs = rw split at v in
+    omega (arith, more, grows (number * 10 + digit_value (get_or bs i 0)) (drop (i + 1) bs), w.1, digit_value_digit (get_or bs i 0) (lo, hi))
 
 apart : (a b : ℕ) (xs ys : List ℕ) → a ≡ 45 → b ≡ 48 → a ∷ xs ≡ b ∷ ys → ⊥
 apart a b xs ys p q e = let same : a ≡ b = cc e in omega (arith, same)

@@ -1,28 +1,17 @@
 -- More records of a text.
-use Rattle.std.proofs.Common.{◌≡◌, ◌+◌, ◌<◌, ◌≤◌, ◌∙◌, Result, Ok, Err, ℕ, List, [], ◌∷◌, ◌++◌, length, map, take, refl, sym, ap, append_assoc, add-one, get_or}
+use Rattle.std.proofs.Common.{◌≡◌, ◌+◌, ◌<◌, ◌≤◌, ◌∙◌, ℕ, List, [], ◌∷◌, ◌++◌, length, map, take, refl, sym, ap, append_assoc, add-one, get_or}
 use Rattle.std.specs.List.{flat_map}
-use Rattle.std.specs.Prelude.{IfOk}
-use Rattle.std.specs.Global.{Global}
-use Rattle.std.specs.declared.vec.Vec.{Vec}
 use Rattle.std.proofs.Math.Seq.{take-suc}
-use Rattle.std.proofs.lemmas.List.{append-nil, flat_map_more, take_all}
+use Rattle.std.proofs.lemmas.List.{flat_map_more, take_all}
 use Rattle.std.proofs.lemmas.List.Concat.{flat_map_single}
 use Rattle.csv.specs.Writing.{row_text, default_writer}
-use Rattle.csv.specs.declared.writer.WriterBuilder.{WriterBuilder}
 use Rattle.blk_text.specs.Sources.{Row}
 use Rattle.blk_text.specs.Texts.{rows_text}
-
-one_row : (row : Row) → rows_text (row ∷ []) ≡ row_text default_writer row
-unfolding rows_text
-one_row row = append-nil (row_text default_writer row)
 
 pub rows_text-append : (rows more : List Row) → rows_text (rows ++ more) ≡ rows_text rows ++ rows_text more
 unfolding rows_text
 rows_text-append [] more = refl
 rows_text-append (r ∷ rows) more = ap (λ t. row_text default_writer r ++ t) (rows_text-append rows more) ∙ sym (append_assoc (row_text default_writer r) (rows_text rows) (rows_text more))
-
-pub added : (cfg : WriterBuilder) (row : Row) (has had : List ℕ) → cfg ≡ default_writer → has ≡ had ++ row_text cfg row → has ≡ had ++ rows_text (row ∷ [])
-added cfg row has had e b = b ∙ rw e (ap (λ t. had ++ t) (sym (one_row row)))
 
 -- the records of the first i of a list, after some others
 abbrev pub IsSoFar : {X : Type 0} → (X → List Row) → List ℕ → List Row → List X → ℕ → List ℕ → Type 0
@@ -58,7 +47,6 @@ pub one_first : (a : Row) (none one : List ℕ) → none ≡ [] → one ≡ none
 one_first a none one e p = p ∙ ap (λ (k : List ℕ). k ++ rows_text (a ∷ [])) e
 
 -- the records of all of a list
-pub whole : {E X : Type 0} (r : Result (Vec ℕ Global) E) (row_of : X → Row) (head : List Row) (xs : List X) (i : ℕ) (has : List ℕ) → length xs ≤ i
-    → IsSoFar (λ x. row_of x ∷ []) [] head xs i has → IfOk r (λ v. v.items ≡ has) → IfOk r (λ v. v.items ≡ rows_text (head ++ map row_of xs))
-whole (Err e) row_of head xs i has l a b = b
-whole (Ok v) row_of head xs i has l a b = b ∙ a ∙ rw (take_all i xs l, flat_map_single row_of xs) refl
+pub whole : {X : Type 0} (row_of : X → Row) (before : List ℕ) (head : List Row) (xs : List X) (i : ℕ) (has : List ℕ) → length xs ≤ i
+    → IsSoFar (λ x. row_of x ∷ []) before head xs i has → has ≡ before ++ rows_text (head ++ map row_of xs)
+whole row_of before head xs i has l a = a ∙ rw (take_all i xs l, flat_map_single row_of xs) refl

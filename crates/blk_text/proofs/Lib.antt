@@ -1,6 +1,7 @@
 pub mod Lists
 pub mod Steps
 pub mod Decimals
+pub mod Digits
 pub mod FieldLemmas
 pub mod LineLemmas
 pub mod CommandLemmas
@@ -8,6 +9,7 @@ pub mod StepLemmas
 pub mod SetupLemmas
 pub mod ScriptLemmas
 pub mod Texts
+pub mod PlainRows
 pub mod DraftLemmas
 pub mod TraceLemmas
 pub mod ClaimLemmas

@@ -1,5 +1,6 @@
 -- What may stand in the fields of a record, and what a record lacks.
 use Rattle.std.specs.Prelude.{◌≡◌, ◌⊎◌, ◌<◌, ◌≤◌, ◌^◌, ◌==◌, ◌&&◌, not, Bool, false, ℕ, List, [], ◌∷◌, length, get_or, decimal, codes}
+use Rattle.std.specs.Str.Parse.{AllDigits, digits_value}
 use Rattle.blk_text.specs.Sources.{Row}
 use Rattle.blk_text.specs.declared.fault.Why.{Why}
 use Rattle.blk_text.specs.declared.fault.Why.TheVariants as why
@@ -11,6 +12,10 @@ abbrev pub canonical : List ℕ → Bool
 canonical [] = false
 canonical (c ∷ []) = not (c == 43)
 canonical (c ∷ d ∷ ds) = not (c == 43) && not (c == 48)
+
+-- decimal digits that write a number which fits a u64, perhaps with zeros before it
+abbrev pub WritesNumber : List ℕ → Type 0
+WritesNumber f = AllDigits 10 f × (digits_value 10 f < 2 ^ 64)
 
 -- each field of a record has this, beside the slot at its place
 abbrev pub EachField : (Slot → List ℕ → Type 0) → List Slot → Row → Type 0

@@ -8,5 +8,5 @@ pub mod BioRecord
 pub mod Script
 pub mod Texts
 pub mod TraceRecords
-pub mod Draft
+pub mod Cells
 pub mod Certificate

@@ -9,15 +9,14 @@ ghost use Rattle.blk_text.specs.Faults.{IsOutside, TitleMissing};
 ghost use Rattle.blk_text.specs.Fields.{IsSized, FieldsSpell};
 ghost use Rattle.blk_text.specs.Words.{StartsWith};
 ghost use Rattle.blk_text.specs.Texts.{rows_text};
-ghost use Rattle.blk_text.specs.Draft.{draft_text, IsDraft};
 ghost use Rattle.blk_text.specs.Certificate.{claimed, IsClaim, SpellsClaim, ClaimFault, claim_rows, title_row, title_slots, bound_row, bound_slots, BoundLacks, BoundWrong, BoundMissing, IsBound, IsLateness, IsServed, served_row};
 
-use crate::draft::{finish, new_draft, push_row, write_whole};
+use crate::draft::{Cell, push_row, write_whole};
 use crate::fault::{TextFault, Why, WriteFault};
 use crate::fields::{Slot, WIDTH, after_minus, begins_with, field, read_fields, without_word};
 use crate::lines::{Extent, LineForm, read_lines, read_title};
 use crate::source::Records;
-use csv::{ByteRecord, Writer};
+use csv::ByteRecord;
 use edd_check::{Command, Window};
 use std::alloc::{AllocError, Global};
 use std::io::{Read, Write};
@@ -288,56 +287,52 @@ pub fn read_certificate<R: Read + Drop>(alloc: Global, reader: R) -> Result<Cert
 }
 
 // Adds the title record.
-fn push_title(
-    alloc: Global,
-    draft: &mut Writer<Vec<u8>>,
-    depth: u64,
-    count: u64,
-) -> Result<(), AllocError>
-    requires { IsDraft draft.old }
-    ensures draft { OnOk result (IsDraft draft.new) }
-    ensures text { OnOk result (draft_text draft.new ≡ draft_text draft.old ++ rows_text (title_row depth count ∷ [])) }
+fn push_title(draft: &mut Vec<u8>, depth: u64, count: u64) -> Result<(), AllocError>
+    ensures text { OnOk result (draft.new.items ≡ draft.old.items ++ rows_text (title_row depth count ∷ [])) }
 {
-    let depth = depth.to_string(alloc)?;
-    let count = count.to_string(alloc)?;
-    let name = b"blk-certificate".as_slice();
     push_row(
         draft,
-        &[name, b"1".as_slice(), depth.as_bytes(), count.as_bytes()],
+        &[
+            Cell::Word(b"blk-certificate"),
+            Cell::Word(b"1"),
+            Cell::Number(depth),
+            Cell::Number(count),
+        ],
     )
 }
 
 // Adds the record that says that there is no bound.
-fn push_no_bound(draft: &mut Writer<Vec<u8>>) -> Result<(), AllocError>
-    requires { IsDraft draft.old }
-    ensures draft { OnOk result (IsDraft draft.new) }
-    ensures text { OnOk result (draft_text draft.new ≡ draft_text draft.old ++ rows_text (bound_row None ∷ [])) }
+fn push_no_bound(draft: &mut Vec<u8>) -> Result<(), AllocError>
+    ensures text { OnOk result (draft.new.items ≡ draft.old.items ++ rows_text (bound_row None ∷ [])) }
 {
-    let none = b"none".as_slice();
-    push_row(draft, &[b"bound".as_slice(), none, none, none])
+    push_row(
+        draft,
+        &[
+            Cell::Word(b"bound"),
+            Cell::Word(b"none"),
+            Cell::Word(b"none"),
+            Cell::Word(b"none"),
+        ],
+    )
 }
 
 // Adds the record of a lateness and its window.
 fn push_some_bound(
     alloc: Global,
-    draft: &mut Writer<Vec<u8>>,
+    draft: &mut Vec<u8>,
     lateness: i64,
     window: Window,
 ) -> Result<(), AllocError>
-    requires { IsDraft draft.old }
-    ensures draft { OnOk result (IsDraft draft.new) }
-    ensures text { OnOk result (draft_text draft.new ≡ draft_text draft.old ++ rows_text (bound_row (Some (lateness, window)) ∷ [])) }
+    ensures text { OnOk result (draft.new.items ≡ draft.old.items ++ rows_text (bound_row (Some (lateness, window)) ∷ [])) }
 {
     let late = lateness.to_string(alloc)?;
-    let from = window.from.to_string(alloc)?;
-    let due = window.due.to_string(alloc)?;
     push_row(
         draft,
         &[
-            b"bound".as_slice(),
-            late.as_bytes(),
-            from.as_bytes(),
-            due.as_bytes(),
+            Cell::Word(b"bound"),
+            Cell::Word(late.as_bytes()),
+            Cell::Number(window.from),
+            Cell::Number(window.due),
         ],
     )
 }
@@ -345,12 +340,10 @@ fn push_some_bound(
 // Adds the record of a bound.
 fn push_bound(
     alloc: Global,
-    draft: &mut Writer<Vec<u8>>,
+    draft: &mut Vec<u8>,
     bound: Option<(i64, Window)>,
 ) -> Result<(), AllocError>
-    requires { IsDraft draft.old }
-    ensures draft { OnOk result (IsDraft draft.new) }
-    ensures text { OnOk result (draft_text draft.new ≡ draft_text draft.old ++ rows_text (bound_row bound ∷ [])) }
+    ensures text { OnOk result (draft.new.items ≡ draft.old.items ++ rows_text (bound_row bound ∷ [])) }
 {
     match bound {
         None => push_no_bound(draft),
@@ -359,27 +352,16 @@ fn push_bound(
 }
 
 // Adds the record of a command and its round.
-fn push_served(
-    alloc: Global,
-    draft: &mut Writer<Vec<u8>>,
-    command: &Command,
-    round: u64,
-) -> Result<(), AllocError>
-    requires { IsDraft draft.old }
-    ensures draft { OnOk result (IsDraft draft.new) }
-    ensures text { OnOk result (draft_text draft.new ≡ draft_text draft.old ++ rows_text (served_row (command.now, round) ∷ [])) }
+fn push_served(draft: &mut Vec<u8>, command: &Command, round: u64) -> Result<(), AllocError>
+    ensures text { OnOk result (draft.new.items ≡ draft.old.items ++ rows_text (served_row (command.now, round) ∷ [])) }
 {
-    let id = command.id.to_string(alloc)?;
-    let release = command.release.to_string(alloc)?;
-    let due = command.due.to_string(alloc)?;
-    let round = round.to_string(alloc)?;
     push_row(
         draft,
         &[
-            id.as_bytes(),
-            release.as_bytes(),
-            due.as_bytes(),
-            round.as_bytes(),
+            Cell::Number(command.id),
+            Cell::Number(command.release),
+            Cell::Number(command.due),
+            Cell::Number(round),
         ],
     )
 }
@@ -389,15 +371,15 @@ fn certificate_text(alloc: Global, certificate: &Certificate) -> Result<Vec<u8>,
     requires { IsClaim (claimed certificate.now) }
     ensures { IfOk result (λ v. v.items ≡ rows_text (claim_rows (claimed certificate.now))) }
 {
-    let mut draft = new_draft(alloc);
+    let mut draft = Vec::new(alloc);
     let commands = certificate.commands.as_slice();
     let rounds = certificate.rounds.as_slice();
-    push_title(alloc, &mut draft, certificate.depth, commands.len() as u64)?;
+    push_title(&mut draft, certificate.depth, commands.len() as u64)?;
     push_bound(alloc, &mut draft, certificate.bound)?;
     for i in 0..commands.len() {
-        push_served(alloc, &mut draft, &commands[i], rounds[i])?;
+        push_served(&mut draft, &commands[i], rounds[i])?;
     }
-    finish(draft)
+    Ok(draft)
 }
 
 /// Writes the text of a certificate, at once where all of it could be made.

@@ -5,16 +5,15 @@ ghost use Rattle.std.specs.Io.KnownBytes.{Appends};
 ghost use Rattle.csv.specs.Records.{fields_of};
 ghost use Rattle.blk_text.specs.Sources.{input_of};
 ghost use Rattle.blk_text.specs.Texts.{rows_text};
-ghost use Rattle.blk_text.specs.Draft.{draft_text, IsDraft};
 ghost use Rattle.blk_text.specs.Faults.{IsOutside};
-ghost use Rattle.blk_text.specs.Commands.{AreCommands, SpellsCommands, CommandsFault, command_row, commands_rows};
+ghost use Rattle.blk_text.specs.Commands.{AreCommands, SpellsCommands, CommandsFault, command_row, commands_rows, title_row};
 
-use crate::draft::{finish, new_draft, push_row, write_whole};
+use crate::draft::{Cell, push_row, write_whole};
 use crate::fault::{TextFault, Why, WriteFault};
 use crate::fields::{Slot, read_fields};
 use crate::lines::{Extent, LineForm, read_lines, read_title};
 use crate::source::Records;
-use csv::{ByteRecord, Writer};
+use csv::ByteRecord;
 use edd_check::Command;
 use std::alloc::{AllocError, Global};
 use std::io::{Read, Write};
@@ -111,33 +110,43 @@ pub fn read_commands<R: Read + Drop>(
 }
 
 // Adds the record of a command.
-fn push_command(
-    alloc: Global,
-    draft: &mut Writer<Vec<u8>>,
-    command: &Command,
-) -> Result<(), AllocError>
-    requires { IsDraft draft.old }
-    ensures draft { OnOk result (IsDraft draft.new) }
-    ensures text { OnOk result (draft_text draft.new ≡ draft_text draft.old ++ rows_text (command_row command.now ∷ [])) }
+fn push_command(draft: &mut Vec<u8>, command: &Command) -> Result<(), AllocError>
+    ensures text { OnOk result (draft.new.items ≡ draft.old.items ++ rows_text (command_row command.now ∷ [])) }
 {
-    let id = command.id.to_string(alloc)?;
-    let release = command.release.to_string(alloc)?;
-    let due = command.due.to_string(alloc)?;
-    push_row(draft, &[id.as_bytes(), release.as_bytes(), due.as_bytes()])
+    push_row(
+        draft,
+        &[
+            Cell::Number(command.id),
+            Cell::Number(command.release),
+            Cell::Number(command.due),
+        ],
+    )
+}
+
+// Adds the title record.
+fn push_title(draft: &mut Vec<u8>, depth: u64) -> Result<(), AllocError>
+    ensures text { OnOk result (draft.new.items ≡ draft.old.items ++ rows_text (title_row depth ∷ [])) }
+{
+    push_row(
+        draft,
+        &[
+            Cell::Word(b"blk-commands"),
+            Cell::Word(b"1"),
+            Cell::Number(depth),
+        ],
+    )
 }
 
 // The text of a depth and a list of commands.
 fn commands_text(alloc: Global, depth: u64, commands: &[Command]) -> Result<Vec<u8>, AllocError>
     ensures { IfOk result (λ v. v.items ≡ rows_text (commands_rows depth commands.now)) }
 {
-    let mut draft = new_draft(alloc);
-    let digits = depth.to_string(alloc)?;
-    let name = b"blk-commands".as_slice();
-    push_row(&mut draft, &[name, b"1".as_slice(), digits.as_bytes()])?;
+    let mut draft = Vec::new(alloc);
+    push_title(&mut draft, depth)?;
     for i in 0..commands.len() {
-        push_command(alloc, &mut draft, &commands[i])?;
+        push_command(&mut draft, &commands[i])?;
     }
-    finish(draft)
+    Ok(draft)
 }
 
 /// Writes the text of a depth and a list of commands, at once where all of it could be made.

@@ -1,13 +1,13 @@
 //! The fields of a record by what may stand in them.
 
-ghost use Rattle.std.specs.Prelude.{◌≡◌, ◌≢◌, ◌<◌, ◌≤◌, ◌^◌, ◌↔◌, ℕ, List, [], ◌∷◌, length, get_or, IsTrue, IfOk, IfErr, MatchOption, decimal, codes};
+ghost use Rattle.std.specs.Prelude.{◌≡◌, ◌≢◌, ◌+◌, ◌*◌, ◌<◌, ◌≤◌, ◌^◌, ◌↔◌, ℕ, List, [], ◌∷◌, length, get_or, IsTrue, IfOk, IfErr, IfSome, MatchOption, decimal, codes};
+ghost use Rattle.std.specs.Str.Parse.{digits_value};
 ghost use Rattle.csv.specs.Records.{fields_of};
-ghost use Rattle.blk_text.specs.Fields.{EachField, IsBlank, IsDirection, IsNumber, IsInRange, IsShaped, IsSized, Lacks, NumberOf, IsWithin, EachNumber, FieldsSpell, canonical};
+ghost use Rattle.blk_text.specs.Fields.{EachField, IsBlank, IsDirection, IsNumber, IsInRange, IsShaped, IsSized, Lacks, NumberOf, IsWithin, EachNumber, FieldSpells, FieldsSpell, WritesNumber, canonical};
 ghost use Rattle.blk_text.specs.Words.{StartsWith, HasNoWord};
 
 use crate::fault::Why;
 use csv::ByteRecord;
-use std::str;
 
 /// The most fields that a record has.
 pub const WIDTH: usize = 6;
@@ -48,6 +48,38 @@ fn is_canonical(field: &[u8]) -> bool
     }
 }
 
+// The greatest number that a digit can follow.
+const LAST: u64 = u64::MAX / 10;
+
+// Whether a number does not fit once one more digit follows it. Seldom asked, so apart from the loop.
+#[cold]
+#[inline(never)]
+fn is_past(number: u64, digit: u64) -> bool
+    requires { digit < 10 }
+    ensures { IsTrue result ↔ (2 ^ 64 ≤ number * 10 + digit) }
+{
+    number > LAST || (number == LAST && digit > u64::MAX % 10)
+}
+
+// The number that digits write, if they are digits and it fits.
+fn number_of(field: &[u8]) -> Option<u64>
+    ensures { MatchOption result (¬ WritesNumber field.now) (λ n. WritesNumber field.now × (n ≡ digits_value 10 field.now)) }
+{
+    let mut number: u64 = 0;
+    for i in 0..field.len() {
+        let byte = field[i];
+        if byte < b'0' || byte > b'9' {
+            return None;
+        }
+        let digit = byte as u64 - b'0' as u64;
+        if number >= LAST && is_past(number, digit) {
+            return None;
+        }
+        number = number * 10 + digit;
+    }
+    Some(number)
+}
+
 /// The number that a field writes, in decimal digits with no leading zero.
 pub fn parse_number(field: &[u8]) -> Option<u64>
     ensures { MatchOption result ((n : ℕ) → n < 2 ^ 64 → field.now ≢ decimal n) (λ n. field.now ≡ decimal n) }
@@ -55,13 +87,7 @@ pub fn parse_number(field: &[u8]) -> Option<u64>
     if !is_canonical(field) {
         return None;
     }
-    let Ok(text) = str::from_utf8(field) else {
-        return None;
-    };
-    match text.parse::<u64>() {
-        Ok(n) => Some(n),
-        Err(_) => None,
-    }
+    number_of(field)
 }
 
 /// What stands after a minus.
@@ -192,8 +218,52 @@ fn are_within(slots: &[Slot], numbers: &[u64; WIDTH]) -> bool
     true
 }
 
-/// The numbers of a record's fields by place, 0 where a slot has none, or the first thing that it lacks.
-pub fn read_fields(row: &ByteRecord, slots: &[Slot]) -> Result<[u64; WIDTH], Why>
+// The number of a field that is what its slot wants, 0 where the slot has none.
+fn spelled(slot: Slot, field: &[u8]) -> Option<u64>
+    ensures { IfSome result (FieldSpells slot field.now) }
+{
+    match slot {
+        Slot::Given => Some(0),
+        Slot::Blank => { if field.is_empty() { Some(0) } else { None } }
+        Slot::Direction => match field {
+            [b'R'] | [b'W'] => Some(0),
+            _ => None,
+        },
+        Slot::Number { least, most } => match parse_number(field) {
+            Some(n) if least <= n && n <= most => Some(n),
+            _ => None,
+        },
+        Slot::Lateness { most } => match parse_sized(field) {
+            Some(n) if n <= most => Some(n),
+            _ => None,
+        },
+    }
+}
+
+// The numbers of a record's fields by place, where the record is what its slots want; in one pass, so that
+// a record without a fault is looked at once.
+fn spelled_numbers(row: &ByteRecord, slots: &[Slot]) -> Option<[u64; WIDTH]>
+    requires { length slots.now ≤ 6 }
+    ensures { IfSome result (FieldsSpell slots.now (fields_of row.now)) }
+{
+    if row.len() != slots.len() {
+        return None;
+    }
+    let mut numbers = [0; WIDTH];
+    for i in 0..slots.len() {
+        match spelled(slots[i], field(row, i)) {
+            Some(n) => numbers[i] = n,
+            None => return None,
+        }
+    }
+    Some(numbers)
+}
+
+// The numbers of a record's fields by place, or the first thing that it lacks: each kind of fault is looked for
+// in all fields before the next kind.
+#[cold]
+#[inline(never)]
+fn check_fields(row: &ByteRecord, slots: &[Slot]) -> Result<[u64; WIDTH], Why>
     requires { length slots.now ≤ 6 }
     ensures ok { IfOk result (FieldsSpell slots.now (fields_of row.now)) }
     ensures err { IfErr result (Lacks slots.now (fields_of row.now)) }
@@ -213,6 +283,18 @@ pub fn read_fields(row: &ByteRecord, slots: &[Slot]) -> Result<[u64; WIDTH], Why
                 Err(Why::Range)
             }
         }
+    }
+}
+
+/// The numbers of a record's fields by place, 0 where a slot has none, or the first thing that it lacks.
+pub fn read_fields(row: &ByteRecord, slots: &[Slot]) -> Result<[u64; WIDTH], Why>
+    requires { length slots.now ≤ 6 }
+    ensures ok { IfOk result (FieldsSpell slots.now (fields_of row.now)) }
+    ensures err { IfErr result (Lacks slots.now (fields_of row.now)) }
+{
+    match spelled_numbers(row, slots) {
+        Some(numbers) => Ok(numbers),
+        None => check_fields(row, slots),
     }
 }
 

@@ -44,13 +44,20 @@ impl<'a> Read for Failing<'a> {
     }
 }
 
-// A writer that takes nothing.
+// A writer that takes so many bytes, and then fails.
 #[derive(Drop)]
-struct Full;
+struct Narrow {
+    room: usize,
+}
 
-impl Write for Full {
-    fn write(&mut self, _buf: &[u8]) -> io::Result<usize> {
-        Err(io::Error::from(ErrorKind::Other))
+impl Write for Narrow {
+    fn write(&mut self, buf: &[u8]) -> io::Result<usize> {
+        if self.room == 0 {
+            return Err(io::Error::from(ErrorKind::Other));
+        }
+        let count = self.room.min(buf.len());
+        self.room -= count;
+        Ok(count)
     }
 
     fn flush(&mut self) -> io::Result<()> {
@@ -67,6 +74,7 @@ fn faults_of_a_command_list(rt: HostRuntime) -> Result<(), Fail> {
         (b"blk-command,1,1\n".as_slice(), 1, Why::Title),
         (b"blk-commands,2,1\n".as_slice(), 1, Why::Title),
         (b"\xff,1,1\n".as_slice(), 1, Why::Title),
+        (b"blk-script,1,1\n".as_slice(), 1, Why::Title),
         (b"blk-commands,1\n".as_slice(), 1, Why::Fields),
         (b"blk-commands,1,1\n1,0\n".as_slice(), 2, Why::Fields),
         (b"blk-commands,1,1\n1,0,0,\n".as_slice(), 2, Why::Fields),
@@ -76,6 +84,8 @@ fn faults_of_a_command_list(rt: HostRuntime) -> Result<(), Fail> {
         (b"blk-commands,1,\xff\n".as_slice(), 1, Why::Number),
         (b"blk-commands,1,1\n1,0,\n".as_slice(), 2, Why::Number),
         (b"blk-commands,1,1\n1, 0,0\n".as_slice(), 2, Why::Number),
+        (b"blk-commands,1,1\n1,-1,0\n".as_slice(), 2, Why::Number),
+        (b"blk-commands,1,1\n1,0,00\n".as_slice(), 2, Why::Number),
         (
             b"blk-commands,1,1\n18446744073709551616,0,0\n".as_slice(),
             2,
@@ -107,41 +117,48 @@ fn faults_of_a_command_list(rt: HostRuntime) -> Result<(), Fail> {
 #[test]
 fn faults_of_a_script(rt: HostRuntime) -> Result<(), Fail> {
     let alloc = rt.alloc();
-    for (bad, at, why) in [
-        (b"".as_slice(), 1, Why::Title),
-        (b"blk-script,1,1,1,4\n".as_slice(), 1, Why::Fields),
-        (b"blk-script,1,1,x,4,1\n".as_slice(), 1, Why::Number),
-        (b"blk-script,1,1,17,4,1\n".as_slice(), 1, Why::Range),
-        (b"blk-script,1,1,1,1025,1\n".as_slice(), 1, Why::Range),
-        (b"blk-script,1,1,2,4,1\n".as_slice(), 1, Why::Range),
-        (b"blk-script,1,1,1,4,1\n".as_slice(), 2, Why::Word),
-        (
-            b"blk-script,1,1,1,4,1\nbio,0,0,W,100,8\n".as_slice(),
-            2,
-            Why::Word,
-        ),
-        (
-            b"blk-script,1,1,1,4,1\nsetup,0,9,256,128\n".as_slice(),
-            2,
-            Why::Fields,
-        ),
-        (
-            b"blk-script,1,1,1,4,1\nsetup,0,9,256,128,0\n".as_slice(),
-            2,
-            Why::Fields,
-        ),
-        (
-            b"blk-script,1,1,1,4,1\nsetup,0,9,,128,\n".as_slice(),
-            2,
-            Why::Number,
-        ),
-        (
-            b"blk-script,1,1,1,4,1\nsetup,0,9,256,129,\n".as_slice(),
-            2,
-            Why::Range,
-        ),
+    for (bad, why) in [
+        (b"".as_slice(), Why::Title),
+        (b"blk-scripts,1,1,1,4,1\n".as_slice(), Why::Title),
+        (b"blk-script,2,1,1,4,1\n".as_slice(), Why::Title),
+        (b"blk-script,1,1,1,4\n".as_slice(), Why::Fields),
+        (b"blk-script,1,1,1,4,1,\n".as_slice(), Why::Fields),
+        (b"blk-script,1,1,x,4,1\n".as_slice(), Why::Number),
+        (b"blk-script,1,0,1,4,1\n".as_slice(), Why::Range),
+        (b"blk-script,1,65,1,4,1\n".as_slice(), Why::Range),
+        (b"blk-script,1,1,0,4,1\n".as_slice(), Why::Range),
+        (b"blk-script,1,1,17,4,64\n".as_slice(), Why::Range),
+        (b"blk-script,1,1,1,0,1\n".as_slice(), Why::Range),
+        (b"blk-script,1,1,1,1025,1\n".as_slice(), Why::Range),
+        (b"blk-script,1,1,1,4,0\n".as_slice(), Why::Range),
+        (b"blk-script,1,1,1,4,65\n".as_slice(), Why::Range),
+        (b"blk-script,1,1,2,4,1\n".as_slice(), Why::Range),
     ] {
-        assert!(rt; read_script(alloc, bad).err() == Some(TextFault { at, why }));
+        assert!(rt; read_script(alloc, bad).err() == Some(TextFault { at: 1, why }));
+    }
+    Ok(())
+}
+
+#[test]
+fn faults_of_a_setup(rt: HostRuntime) -> Result<(), Fail> {
+    let alloc = rt.alloc();
+    for (setup, why) in [
+        (b"".as_slice(), Why::Word),
+        (b"bio,0,0,W,100,8".as_slice(), Why::Word),
+        (b"bio,0,0,W,100".as_slice(), Why::Fields),
+        (b"setup,0,9,256,128".as_slice(), Why::Fields),
+        (b"setup,0,9,256,128,0".as_slice(), Why::Fields),
+        (b"setup,0,9,,128,".as_slice(), Why::Number),
+        (b"setup,1099511627776,9,256,128,".as_slice(), Why::Range),
+        (b"setup,0,1099511627776,256,128,".as_slice(), Why::Range),
+        (b"setup,0,9,0,128,".as_slice(), Why::Range),
+        (b"setup,0,9,65536,128,".as_slice(), Why::Range),
+        (b"setup,0,9,256,0,".as_slice(), Why::Range),
+        (b"setup,0,9,256,129,".as_slice(), Why::Range),
+    ] {
+        let mut text = Vec::from_slice(alloc, b"blk-script,1,1,1,4,1\n")?;
+        text.extend_from_slice(setup)?;
+        assert!(rt; read_script(alloc, text.as_slice()).err() == Some(TextFault { at: 2, why }));
     }
     Ok(())
 }
@@ -152,11 +169,24 @@ fn faults_of_a_step(rt: HostRuntime) -> Result<(), Fail> {
     for (step, why) in [
         (b"foo,0,0,W,100".as_slice(), Why::Fields),
         (b"flush,0,,,x,".as_slice(), Why::Fields),
+        (b"drain,0,0,,,".as_slice(), Why::Fields),
+        (b"issue,0,0,0,,".as_slice(), Why::Fields),
+        (b"done,0,,,,0".as_slice(), Why::Fields),
         (b"tick".as_slice(), Why::Fields),
+        (b"tick,0,,,,".as_slice(), Why::Fields),
+        (b"run,1,1,,,".as_slice(), Why::Fields),
+        (b"bio,0,0,Q,100,8,".as_slice(), Why::Fields),
         (b"foo,0,0,W,100,8".as_slice(), Why::Word),
         (b"\xff,0,0,W,100,8".as_slice(), Why::Word),
         (b"bio,9,x,Q,100,8".as_slice(), Why::Word),
+        (b"bio,0,0,,100,8".as_slice(), Why::Word),
+        (b"bio,0,0,r,100,8".as_slice(), Why::Word),
         (b"bio,9,x,R,100,8".as_slice(), Why::Number),
+        (b"flush,,,,,".as_slice(), Why::Number),
+        (b"drain,00,,,,".as_slice(), Why::Number),
+        (b"issue,0,-1,,,".as_slice(), Why::Number),
+        (b"done,+1,,,,".as_slice(), Why::Number),
+        (b"run,1.0,,,,".as_slice(), Why::Number),
         (b"bio,2,0,R,100,0".as_slice(), Why::Range),
         (b"flush,2,,,,".as_slice(), Why::Range),
         (b"drain,1,,,,".as_slice(), Why::Range),
@@ -180,80 +210,89 @@ fn faults_of_a_step(rt: HostRuntime) -> Result<(), Fail> {
 #[test]
 fn faults_of_a_certificate(rt: HostRuntime) -> Result<(), Fail> {
     let alloc = rt.alloc();
-    for (bad, at, why) in [
-        (b"".as_slice(), 1, Why::Title),
-        (b"blk-certificate,1,1\n".as_slice(), 1, Why::Fields),
-        (b"blk-certificate,1,1,-1\n".as_slice(), 1, Why::Number),
-        (b"blk-certificate,1,1,1000001\n".as_slice(), 1, Why::Range),
-        (b"blk-certificate,1,1,0\n".as_slice(), 2, Why::Word),
-        (b"blk-certificate,1,1,0\n1,0,0,0\n".as_slice(), 2, Why::Word),
-        (
-            b"blk-certificate,1,1,0\nbound,none\n".as_slice(),
-            2,
-            Why::Fields,
-        ),
-        (
-            b"blk-certificate,1,1,0\nbound,none,none,0\n".as_slice(),
-            2,
-            Why::Number,
-        ),
-        (
-            b"blk-certificate,1,1,1\nbound,none,none,none\n".as_slice(),
-            2,
-            Why::Number,
-        ),
-        (
-            b"blk-certificate,1,1,1\nbound,-0,0,0\n".as_slice(),
-            2,
-            Why::Number,
-        ),
-        (
-            b"blk-certificate,1,1,0\nbound,-5,0,0\n".as_slice(),
-            2,
-            Why::Range,
-        ),
-        (
-            b"blk-certificate,1,1,1\nbound,-2199023255552,0,0\n".as_slice(),
-            2,
-            Why::Range,
-        ),
-        (
-            b"blk-certificate,1,1,1\nbound,0,0,2199023255552\n".as_slice(),
-            2,
-            Why::Range,
-        ),
-        (
-            b"blk-certificate,1,1,1\nbound,0,0,0\n1,0,0,2199023255552\n".as_slice(),
-            3,
-            Why::Range,
-        ),
-        (
-            b"blk-certificate,1,1,1\nbound,0,0,0\n1,0,0\n".as_slice(),
-            3,
-            Why::Fields,
-        ),
-        (
-            b"blk-certificate,1,1,1\nbound,0,0,0\n1,0,0,00\n".as_slice(),
-            3,
-            Why::Number,
-        ),
-        (
-            b"blk-certificate,1,1,3\nbound,2,0,0\n1,0,0,0\n2,0,0,1\n".as_slice(),
-            5,
-            Why::Count,
-        ),
-        (
-            b"blk-certificate,1,1,1\nbound,0,0,0\n1,0,0,0\n2,0,0,1\n".as_slice(),
-            4,
-            Why::Count,
-        ),
-        (
-            b"blk-certificate,1,1,1\nbound,0,0,0\n1,0,0,0\n2,0,0,x\n".as_slice(),
-            4,
-            Why::Number,
-        ),
+    for (bad, why) in [
+        (b"".as_slice(), Why::Title),
+        (b"blk-commands,1,1,0\n".as_slice(), Why::Title),
+        (b"blk-certificate,2,1,0\n".as_slice(), Why::Title),
+        (b"blk-certificate,1,1\n".as_slice(), Why::Fields),
+        (b"blk-certificate,1,1,-1\n".as_slice(), Why::Number),
+        (b"blk-certificate,1,0,1\n".as_slice(), Why::Range),
+        (b"blk-certificate,1,65,1\n".as_slice(), Why::Range),
+        (b"blk-certificate,1,1,1000001\n".as_slice(), Why::Range),
     ] {
-        assert!(rt; read_certificate(alloc, bad).err() == Some(TextFault { at, why }));
+        assert!(rt; read_certificate(alloc, bad).err() == Some(TextFault { at: 1, why }));
+    }
+    Ok(())
+}
+
+#[test]
+fn faults_of_no_bound(rt: HostRuntime) -> Result<(), Fail> {
+    let alloc = rt.alloc();
+    for (bound, why) in [
+        (b"".as_slice(), Why::Word),
+        (b"1,0,0,0".as_slice(), Why::Word),
+        (b"bound,none".as_slice(), Why::Fields),
+        (b"bound,none,none,0".as_slice(), Why::Number),
+        (b"bound,none,0,none".as_slice(), Why::Number),
+        (b"bound,0,0,0".as_slice(), Why::Range),
+        (b"bound,-5,0,0".as_slice(), Why::Range),
+    ] {
+        let mut text = Vec::from_slice(alloc, b"blk-certificate,1,1,0\n")?;
+        text.extend_from_slice(bound)?;
+        assert!(rt;
+            read_certificate(alloc, text.as_slice()).err() == Some(TextFault { at: 2, why })
+        );
+    }
+    Ok(())
+}
+
+#[test]
+fn faults_of_a_bound(rt: HostRuntime) -> Result<(), Fail> {
+    let alloc = rt.alloc();
+    for (bound, why) in [
+        (b"bounds,0,0,0".as_slice(), Why::Word),
+        (b"bounds,0,0".as_slice(), Why::Fields),
+        (b"bound,0,0,0,".as_slice(), Why::Fields),
+        (b"bound,none,none,none".as_slice(), Why::Number),
+        (b"bound,-0,0,0".as_slice(), Why::Number),
+        (b"bound,--5,0,0".as_slice(), Why::Number),
+        (b"bound,+5,0,0".as_slice(), Why::Number),
+        (b"bound,-05,0,0".as_slice(), Why::Number),
+        (b"bound,5,-1,0".as_slice(), Why::Number),
+        (b"bound,-18446744073709551616,0,0".as_slice(), Why::Number),
+        (b"bound,-18446744073709551615,0,0".as_slice(), Why::Range),
+        (b"bound,-2199023255552,0,0".as_slice(), Why::Range),
+        (b"bound,2199023255552,0,0".as_slice(), Why::Range),
+        (b"bound,0,2199023255552,0".as_slice(), Why::Range),
+        (b"bound,0,0,2199023255552".as_slice(), Why::Range),
+    ] {
+        let mut text = Vec::from_slice(alloc, b"blk-certificate,1,1,1\n")?;
+        text.extend_from_slice(bound)?;
+        assert!(rt;
+            read_certificate(alloc, text.as_slice()).err() == Some(TextFault { at: 2, why })
+        );
+    }
+    Ok(())
+}
+
+#[test]
+fn faults_of_served_commands(rt: HostRuntime) -> Result<(), Fail> {
+    let alloc = rt.alloc();
+    for (lines, at, why) in [
+        (b"1,0,0\n".as_slice(), 3, Why::Fields),
+        (b"1,0,0,00\n".as_slice(), 3, Why::Number),
+        (b"1,1099511627776,0,0\n".as_slice(), 3, Why::Range),
+        (b"1,0,2199023255552,0\n".as_slice(), 3, Why::Range),
+        (b"1,0,0,2199023255552\n".as_slice(), 3, Why::Range),
+        (b"".as_slice(), 3, Why::Count),
+        (b"1,0,0,0\n".as_slice(), 4, Why::Count),
+        (b"1,0,0,0\n2,0,0,1\n3,0,0,2\n".as_slice(), 5, Why::Count),
+        (b"1,0,0,0\n2,0,0,1\n3,0,0\n".as_slice(), 5, Why::Fields),
+        (b"1,0,0,0\n2,0,0,1\n3,0,0,x\n".as_slice(), 5, Why::Number),
+    ] {
+        let mut text = Vec::from_slice(alloc, b"blk-certificate,1,1,2\nbound,1,0,0\n")?;
+        text.extend_from_slice(lines)?;
+        assert!(rt; read_certificate(alloc, text.as_slice()).err() == Some(TextFault { at, why }));
     }
     Ok(())
 }
@@ -297,12 +336,29 @@ fn three_at_once(rt: HostRuntime) -> Result<(), Fail> {
 }
 
 #[test]
+fn numbers_of_every_length(rt: HostRuntime) -> Result<(), Fail> {
+    let alloc = rt.alloc();
+    for text in [
+        b"blk-commands,1,64\n0,9,10\n99,100,101\n999,1000,1099511627775\n".as_slice(),
+        b"blk-commands,1,9\n9999,10000,10001\n99999,100000,2199023255551\n".as_slice(),
+        b"blk-commands,1,10\n9999999,10000000,99999999\n100000000,12345678,0\n".as_slice(),
+        b"blk-commands,1,1\n18446744073709551615,1099511627775,2199023255551\n".as_slice(),
+        b"blk-commands,1,1\n10000000000000000000,1,1\n9999999999999999999,1,1\n".as_slice(),
+    ] {
+        let out = again(alloc, text)?;
+        assert!(rt; out.as_slice() == text);
+    }
+    Ok(())
+}
+
+#[test]
 fn certificates_come_back(rt: HostRuntime) -> Result<(), Fail> {
     let alloc = rt.alloc();
     for text in [
         b"blk-certificate,1,1,3\nbound,2,0,0\n1,0,0,0\n2,0,0,1\n3,0,0,2\n".as_slice(),
         b"blk-certificate,1,1,0\nbound,none,none,none\n".as_slice(),
         b"blk-certificate,1,64,1\nbound,-5,0,9\n18446744073709551615,0,9,4\n".as_slice(),
+        b"blk-certificate,1,1,1\nbound,-2199023255551,0,2199023255551\n1,0,2199023255551,0\n".as_slice(),
     ] {
         let mut out = Vec::new(alloc);
         let certificate = read_certificate(alloc, text)?;
@@ -377,37 +433,117 @@ fn groups_and_joins_are_written(rt: HostRuntime) -> Result<(), Fail> {
     let text =
         b"blk-trace,1,1,1,5,\nsetup,0,9,256,128,\nrelease,0,2,,,\nbio,1,100,R,100,8\nbio,1,101,R,108,8\njoin,0,1,,,\nbio,1,116,R,116,8\nissue,0,0,,,\ndone,0,,,,\ntick,,,,,\n".as_slice();
     assert!(rt; out.as_slice() == text);
-    assert!(rt; write_trace(alloc, &trace, &mut Full).err() == Some(WriteFault::Write));
+    for room in 0..text.len() {
+        let full = write_trace(alloc, &trace, &mut Narrow { room });
+        assert!(rt; full.err() == Some(WriteFault::Write));
+    }
+    Ok(())
+}
+
+// The number of the record that is being read once so many bytes of a text are.
+fn record_after(text: &[u8], count: usize) -> u64 {
+    let mut at: u64 = 1;
+    for i in 0..count.min(text.len()) {
+        if text[i] == b'\n' {
+            at = at.saturating_add(1);
+        }
+    }
+    at
+}
+
+#[test]
+fn a_read_that_fails_in_a_command_list(rt: HostRuntime) -> Result<(), Fail> {
+    let alloc = rt.alloc();
+    let text = b"blk-commands,1,1\n1,0,0\n\"2\",0,0\n".as_slice();
+    for count in 0..text.len() + 1 {
+        let fails_at = count as u64;
+        let answer = read_commands(alloc, Failing { text, fails_at });
+        let at = record_after(text, count);
+        let why = Why::Read;
+        assert!(rt; answer.err() == Some(TextFault { at, why }));
+    }
+    let fails_at = 100;
+    let (depth, commands) = read_commands(alloc, Failing { text, fails_at })?;
+    assert_eq!(rt; depth, 1);
+    assert_eq!(rt; commands.len(), 2);
     Ok(())
 }
 
 #[test]
-fn readers_and_writers_that_fail(rt: HostRuntime) -> Result<(), Fail> {
+fn a_read_that_fails_in_a_script(rt: HostRuntime) -> Result<(), Fail> {
+    let alloc = rt.alloc();
+    let text =
+        b"blk-script,1,1,1,4,1\nsetup,0,9,256,128,\nbio,0,0,W,100,8\nflush,0,,,,\nrun,2,,,,\n".as_slice();
+    for count in 0..text.len() + 1 {
+        let fails_at = count as u64;
+        let answer = read_script(alloc, Failing { text, fails_at });
+        let at = record_after(text, count);
+        let why = Why::Read;
+        assert!(rt; answer.err() == Some(TextFault { at, why }));
+    }
+    let fails_at = 1000;
+    let script = read_script(alloc, Failing { text, fails_at })?;
+    assert_eq!(rt; script.lines.len(), 3);
+    Ok(())
+}
+
+#[test]
+fn a_read_that_fails_in_a_certificate(rt: HostRuntime) -> Result<(), Fail> {
+    let alloc = rt.alloc();
+    let text = b"blk-certificate,1,1,2\nbound,1,0,0\n1,0,0,0\n2,0,0,1\n".as_slice();
+    for count in 0..text.len() + 1 {
+        let fails_at = count as u64;
+        let answer = read_certificate(alloc, Failing { text, fails_at });
+        let at = record_after(text, count);
+        let why = Why::Read;
+        assert!(rt; answer.err() == Some(TextFault { at, why }));
+    }
+    let fails_at = 1000;
+    let certificate = read_certificate(alloc, Failing { text, fails_at })?;
+    assert_eq!(rt; certificate.commands.len(), 2);
+    Ok(())
+}
+
+#[test]
+fn a_fault_before_the_read_that_fails(rt: HostRuntime) -> Result<(), Fail> {
+    let alloc = rt.alloc();
+    let at = 2;
+    let text = b"blk-commands,1,1\n1,0,x\n2,0,0\n".as_slice();
+    let why = Why::Number;
+    let answer = read_commands(alloc, Failing { text, fails_at: 24 });
+    assert!(rt; answer.err() == Some(TextFault { at, why }));
+    let text = b"blk-script,1,1,1,4,1\nsetup,0,9,256,129,\ntick,,,,,\n".as_slice();
+    let why = Why::Range;
+    let answer = read_script(alloc, Failing { text, fails_at: 42 });
+    assert!(rt; answer.err() == Some(TextFault { at, why }));
+    let text = b"blk-certificate,1,1,1\nbond,1,0,0\n1,0,0,0\n".as_slice();
+    let why = Why::Word;
+    let answer = read_certificate(alloc, Failing { text, fails_at: 35 });
+    assert!(rt; answer.err() == Some(TextFault { at, why }));
+    Ok(())
+}
+
+#[test]
+fn writers_that_fail(rt: HostRuntime) -> Result<(), Fail> {
     let alloc = rt.alloc();
     let text = b"blk-commands,1,1\n1,0,0\n".as_slice();
-    for (fails_at, at) in [(0, 1), (5, 1), (17, 2), (23, 3)] {
-        let why = Why::Read;
-        let reader = Failing { text, fails_at };
-        assert!(rt; read_commands(alloc, reader).err() == Some(TextFault { at, why }));
-        let reader = Failing { text, fails_at: 0 };
-        assert!(rt; read_script(alloc, reader).err() == Some(TextFault { at: 1, why }));
-        let reader = Failing { text, fails_at: 0 };
-        assert!(rt; read_certificate(alloc, reader).err() == Some(TextFault { at: 1, why }));
+    let (depth, commands) = read_commands(alloc, text)?;
+    for room in 0..text.len() {
+        let answer = write_commands(alloc, depth, commands.as_slice(), &mut Narrow { room });
+        assert!(rt; answer.err() == Some(WriteFault::Write));
     }
-    let whole = Failing {
-        text,
-        fails_at: 100,
-    };
-    let (depth, commands) = read_commands(alloc, whole)?;
-    assert!(rt;
-        write_commands(alloc, depth, commands.as_slice(), &mut Full).err()
-            == Some(WriteFault::Write)
-    );
-    let none = read_certificate(
-        alloc,
-        b"blk-certificate,1,1,0\nbound,none,none,none\n".as_slice(),
-    )?;
-    assert!(rt; write_certificate(alloc, &none, &mut Full).err() == Some(WriteFault::Write));
+    let room = text.len();
+    let answer = write_commands(alloc, depth, commands.as_slice(), &mut Narrow { room });
+    assert!(rt; answer.is_ok());
+    let text = b"blk-certificate,1,1,0\nbound,none,none,none\n".as_slice();
+    let none = read_certificate(alloc, text)?;
+    for room in 0..text.len() {
+        let answer = write_certificate(alloc, &none, &mut Narrow { room });
+        assert!(rt; answer.err() == Some(WriteFault::Write));
+    }
+    let room = text.len();
+    let answer = write_certificate(alloc, &none, &mut Narrow { room });
+    assert!(rt; answer.is_ok());
     Ok(())
 }
 

@@ -95,10 +95,13 @@ once_step setup u es (Released i q) all ih =
           rw kept (omega arith)
     ]
 
-pub released_one : (setup : Setup) (es : List Happened) (u : ℕ) → IsLegalTrace setup es → has_id (released_ids es) u ≡ true → count_by (λ t. u == t) (released_ids es) ≡ 1
+pub released_times : (setup : Setup) (es : List Happened) (u : ℕ) → IsLegalTrace setup es → count_by (λ t. u == t) (released_ids es) ≡ one_if (has_id (released_ids es) u)
 unfolding released_ids
-released_one setup es u legal h =
-    by_legal setup (λ l. count_by (λ t. u == t) (released_ids l) ≡ one_if (has_id (released_ids l) u)) refl (λ l e new old all ih. once_step setup u l e all ih) es legal ∙ rw h refl
+released_times setup es u legal =
+    by_legal setup (λ l. count_by (λ t. u == t) (released_ids l) ≡ one_if (has_id (released_ids l) u)) refl (λ l e new old all ih. once_step setup u l e all ih) es legal
+
+pub released_one : (setup : Setup) (es : List Happened) (u : ℕ) → IsLegalTrace setup es → has_id (released_ids es) u ≡ true → count_by (λ t. u == t) (released_ids es) ≡ 1
+released_one setup es u legal h = released_times setup es u legal ∙ ap one_if h
 
 -- how many wait
 length_put : (x : ℕ) (xs : List ℕ) → length (put_rising x xs) ≡ length xs + 1

@@ -1,11 +1,10 @@
 -- Which rule is the first that an event breaks, event by event.
-use Rattle.std.proofs.Common.{◌<◌, ℕ, List, arith}
+use Rattle.std.proofs.Common.{ℕ, List, arith}
 use Rattle.blk_bio.specs.Bios.{Bio}
 use Rattle.blk_trace.specs.Happened.{Happened, Ticked, Released, Joined, Issued, Finished}
-use Rattle.blk_trace.specs.declared.rule.TraceRule.{TraceRule}
 use Rattle.blk_trace.specs.declared.rule.TraceRule.TheVariants.{ReleasedTwice, Unknown, AlreadyIssued, BioTwice, Fit, TagRange, TagUsed, NotIssued, InFlight, TooLong}
 use Rattle.blk_trace.specs.Setups.{Setup}
-use Rattle.blk_trace.specs.Rules.{Obeys, rank, IsFirstBroken, IsUnbroken}
+use Rattle.blk_trace.specs.Rules.{Obeys, IsFirstBroken, IsUnbroken}
 
 pub tick_in_flight : (setup : Setup) (es : List Happened) → (Obeys setup es Ticked InFlight → ⊥) → IsFirstBroken setup es Ticked InFlight
 tick_in_flight setup es fails = record { broken = fails; first = elim [ ReleasedTwice ↦ λ _. tt | Unknown ↦ λ _. tt | AlreadyIssued ↦ λ _. tt | BioTwice ↦ λ _. tt | Fit ↦ λ _. tt | TagRange ↦ λ _. tt | TagUsed ↦ λ _. tt | NotIssued ↦ λ _. tt | InFlight ↦ λ h. absurd (omega (arith, h)) | TooLong ↦ λ h. absurd (omega (arith, h)) ] }

@@ -1,14 +1,12 @@
 -- What is kept of a request that another joins.
-use Rattle.std.proofs.Common.{◌≡◌, ◌≢◌, ◌<◌, ◌≤◌, ◌+◌, ◌++◌, ◌==◌, ◌*◌, ℕ, List, [], ◌∷◌, length, refl, sym, ◌∙◌, ap, subst, arith, length-append, cond, Bool, true, false, inl, inr, ne_eqb, eq-eqb}
-use Rattle.std.specs.Prelude.{◌⊎◌}
+use Rattle.std.proofs.Common.{◌≡◌, ◌<◌, ◌≤◌, ◌+◌, ◌++◌, ◌==◌, ℕ, List, [], ◌∷◌, length, refl, sym, ◌∙◌, ap, subst, arith, length-append, cond, true, false, inr, ne_eqb, eq-eqb}
 use Rattle.std.proofs.lemmas.List.Sums.{sum_by-append}
-use Rattle.std.proofs.lemmas.Bool.{cases_Bool}
 use Rattle.blk_bio.specs.declared.bio.Dir.{Dir}
 use Rattle.blk_bio.specs.declared.request.Side.{Side}
 use Rattle.blk_bio.specs.declared.request.Side.TheVariants.{Back, Front}
 use Rattle.blk_bio.specs.Bios.{Bio}
 use Rattle.blk_bio.specs.Limits.{Limits}
-use Rattle.blk_bio.specs.Requests.{dir_of, first_of, last_of, sectors_of, IsWithin, Fits}
+use Rattle.blk_bio.specs.Requests.{dir_of, first_of, last_of, sectors_of, Fits}
 use Rattle.blk_bio.proofs.Tiles.{last-append}
 use Rattle.blk_trace.specs.declared.known.Waiting.{Waiting}
 use Rattle.blk_trace.specs.Events.{join_up}

@@ -1,9 +1,8 @@
 -- What a trace keeps stays true with one more event.
-use Rattle.std.proofs.Common.{◌≡◌, ◌≢◌, ◌<◌, ◌≤◌, ◌+◌, ◌-◌, ◌*◌, ◌++◌, ◌==◌, ◌||◌, ℕ, zero, suc, List, [], ◌∷◌, length, map, refl, sym, ◌∙◌, ap, subst, arith, length-append, append-nil, cond, Bool, true, false, Some, None, set, inl, inr, take}
-use Rattle.std.specs.Prelude.{Option, Result, Ok, Err, replicate, slice_get}
-use Rattle.std.specs.Result.{is_err, is_ok, OnOk, OnErr}
+use Rattle.std.proofs.Common.{◌≡◌, ◌<◌, ◌≤◌, ◌+◌, ◌-◌, ◌++◌, ◌==◌, ◌||◌, ℕ, zero, suc, List, [], ◌∷◌, length, refl, sym, ◌∙◌, ap, subst, arith, append-nil, cond, Bool, true, false, Some, None, set, take}
+use Rattle.std.specs.Prelude.{Option, Result, Ok, Err, replicate}
+use Rattle.std.specs.Result.{is_err, OnOk, OnErr}
 use Rattle.std.specs.List.{cons_option}
-use Rattle.std.proofs.lemmas.Bool.{cases_Bool}
 use Rattle.edd_check.specs.declared.Command.{Command}
 use Rattle.blk_bio.specs.Bios.{Bio}
 use Rattle.blk_bio.specs.declared.bio.BioId.{BioId}
@@ -15,16 +14,15 @@ use Rattle.blk_trace.specs.declared.tags.TagUse.{TagUse}
 use Rattle.blk_trace.specs.declared.tags.TagUse.TheVariants.{Free, Open, Ended}
 use Rattle.blk_trace.specs.declared.trace.Prepared.{Prepared}
 use Rattle.blk_trace.specs.declared.trace.Prepared.TheVariants.{Nothing, AnIssue, Bios}
-use Rattle.blk_trace.specs.declared.rule.TraceRule.TheVariants.{InFlight, NotIssued, AlreadyIssued, Unknown}
+use Rattle.blk_trace.specs.declared.rule.TraceRule.TheVariants.{InFlight, NotIssued}
 use Rattle.blk_trace.specs.Happened.{Happened, Ticked, Released, Joined, Issued, Finished}
 use Rattle.blk_trace.specs.Setups.{Setup, expire_of}
-use Rattle.blk_trace.specs.Events.{is_tick, round_of, open_count, entered, bios_of, join_up, IsOpen}
-use Rattle.blk_trace.specs.Legal.{IsLegalTrace}
+use Rattle.blk_trace.specs.Events.{round_of, open_count, entered, bios_of, join_up}
 use Rattle.blk_trace.specs.Rules.{IsUnbroken}
 use Rattle.blk_trace.specs.Meaning.{commands_of, rounds_of, issued_ids, released_ids, issue_round, timed}
 use Rattle.blk_trace.specs.Standing.{Entered, waits_at}
 use Rattle.blk_trace.specs.Traces.{IsPreparedFor}
-use Rattle.blk_trace.specs.Kept.{IsKept, HasRoom, summary, known_of, has_bio_id, event_room, command_room, request_room, bio_room, IsTagUse}
+use Rattle.blk_trace.specs.Kept.{IsKept, HasRoom, summary, known_of, has_bio_id, event_room, request_room, bio_room, IsTagUse}
 use Rattle.blk_trace.proofs.Pushing.{push_legal, empty_legal}
 use Rattle.blk_trace.proofs.More.{rounds_more, round_more}
 use Rattle.blk_trace.proofs.Room.{open_tick, open_release, open_join, open_issue, open_done}

@@ -1,24 +1,23 @@
 -- What is kept under each id, with one more event, and what it says of the id.
-use Rattle.std.proofs.Common.{inl, inr, ◌≡◌, ◌+◌, ◌++◌, ◌==◌, ℕ, List, [], ◌∷◌, length, refl, sym, ◌∙◌, ap, subst, arith, Some, None, append-nil, cond, Bool, true, false, eqb-true, eq-eqb}
+use Rattle.std.proofs.Common.{inl, inr, ◌≡◌, ◌+◌, ◌++◌, ◌==◌, ℕ, List, [], ◌∷◌, refl, sym, ◌∙◌, ap, subst, Some, None, append-nil, cond, Bool, true, false, eqb-true}
 use Rattle.std.specs.Prelude.{◌⊎◌, Option, option_map, ◌&&◌, not, ◌||◌}
-use Rattle.std.proofs.lemmas.Bool.{cases_Bool, or_cases, or_left, or_right}
 use Rattle.blk_bio.specs.Bios.{Bio}
 use Rattle.blk_bio.specs.Requests.{dir_of}
 use Rattle.blk_trace.specs.declared.known.Waiting.{Waiting}
 use Rattle.blk_trace.specs.declared.known.Known.{Known}
 use Rattle.blk_trace.specs.declared.known.Known.TheVariants.{Waits, Gone}
-use Rattle.blk_trace.specs.declared.rule.TraceRule.TheVariants.{ReleasedTwice, Unknown, AlreadyIssued}
+use Rattle.blk_trace.specs.declared.rule.TraceRule.TheVariants.{ReleasedTwice, AlreadyIssued}
 use Rattle.blk_trace.specs.Happened.{Happened, Ticked, Released, Joined, Issued, Finished}
 use Rattle.blk_trace.specs.Setups.{Setup, expire_of}
 use Rattle.blk_trace.specs.Events.{round_of, join_up, request_of, IsReleased, IsIssued}
 use Rattle.blk_trace.specs.Legal.{IsLegalTrace}
-use Rattle.blk_trace.specs.Rules.{IsUnbroken}
 use Rattle.blk_trace.specs.Meaning.{issued_ids, released_ids, release_of, due_of}
 use Rattle.blk_trace.specs.Standing.{Entered, has_id, waits_at}
 use Rattle.blk_trace.specs.Kept.{summary, known_of}
 use Rattle.blk_trace.proofs.More.{issued_more}
-use Rattle.blk_trace.proofs.Ids.{released_has, has_released, issued_has, has_issued, not_released, not_issued, has_issued_more, released_first}
+use Rattle.blk_trace.proofs.Ids.{released_has, has_released, issued_has, has_issued, not_issued, has_issued_more, released_first}
 use Rattle.blk_trace.proofs.Pushing.{shorter_legal, obeys}
+use Rattle.blk_trace.proofs.Waiting.{waits_for}
 use Rattle.blk_trace.proofs.Steps.{waits-ticked, waits-released, waits-joined, waits-issued, waits-finished}
 
 -- what is kept, from whether the id was issued and how it waits
@@ -85,6 +84,12 @@ known_issued setup es id tag legal q =
     known_by setup _ q _ _ (has_issued_more es (Issued id tag) q ∙ ap (λ x. has_id (issued_ids es) q || x) (one_more (id == q))) (waits-issued setup es id tag legal q)
     ∙ goes (id == q) (has_id (issued_ids es) q) (waits_at setup es q)
     ∙ ap (λ x. cond (id == q) (Some Gone) x) (sym (known_is setup es q))
+
+-- what is kept of an id that waits
+pub known_when : (setup : Setup) (es : List Happened) (id : ℕ) → IsReleased es id → (IsIssued es id → ⊥) → (w : Waiting) × (known_of setup es id ≡ Some (Waits w))
+known_when setup es id p n =
+    let w : Entered = record { release = release_of es id; due = due_of setup es id; bios = request_of es id } in
+    (summary w, known_by setup es id false (Some w) (not_issued es id n) (waits_for setup es id p n))
 
 -- what is kept says whether the id was released, and issued
 none_from : (gone : Bool) (waits : Option Entered) → kept_from gone waits ≡ None → (gone ≡ false) × (waits ≡ None)

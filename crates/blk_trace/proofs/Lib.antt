@@ -22,3 +22,5 @@ pub mod TagUses
 pub mod Newness
 pub mod Joining
 pub mod Keeping
+pub mod Gathering
+pub mod Rising

@@ -1,8 +1,8 @@
 -- Bios whose ids stand once.
-use Rattle.std.proofs.Common.{◌≡◌, ◌≢◌, ◌<◌, ◌≤◌, ◌+◌, ◌++◌, ◌*◌, ◌==◌, ◌↔◌, ℕ, zero, suc, List, [], ◌∷◌, length, take, refl, sym, ◌∙◌, ap, subst, arith, inl, inr, Some, None, cond, Bool, true, false, IsTrue, eqb-true, eq-eqb}
-use Rattle.std.specs.Prelude.{slice_get, ◌⊎◌, ◌&&◌, ◌||◌, not, Option}
+use Rattle.std.proofs.Common.{◌≡◌, ◌<◌, ◌≤◌, ◌+◌, ◌++◌, ◌==◌, ◌↔◌, ℕ, zero, suc, List, [], ◌∷◌, length, take, refl, sym, ◌∙◌, ap, subst, arith, inl, inr, Some, Bool, true, false, IsTrue, eqb-true, eq-eqb}
+use Rattle.std.specs.Prelude.{slice_get, ◌⊎◌, ◌&&◌, ◌||◌, not}
 use Rattle.std.specs.List.{list_any}
-use Rattle.std.proofs.lemmas.Bool.{cases_Bool, or_cases, or_left, or_right, and_parts, false_from_ne_true}
+use Rattle.std.proofs.lemmas.Bool.{or_cases, and_parts, false_from_ne_true}
 use Rattle.std.proofs.lemmas.Option.{slice_get_within}
 use Rattle.std.proofs.lemmas.List.Folds.{list_any-append}
 use Rattle.std.proofs.lemmas.Map.Keys.{any_passes_from_place}
@@ -15,7 +15,7 @@ use Rattle.blk_trace.specs.Kept.{is_bio, has_bio_id}
 use Rattle.std.proofs.Common.{get_or}
 use Rattle.std.proofs.lemmas.List.{take_more, take_all}
 use Rattle.blk_trace.proofs.Places.{of_take}
-use Rattle.blk_trace.proofs.Pushing.{entered_more, once_fewer}
+use Rattle.blk_trace.proofs.Pushing.{entered_more}
 
 pub same_bio : (x y : BioId) → is_bio x y ≡ true → x ≡ y
 same_bio x y h =

@@ -5,7 +5,7 @@ use Rattle.blk_bio.specs.declared.request.Side.{Side}
 use Rattle.blk_bio.specs.Requests.{IsWithin, Fits}
 use Rattle.blk_trace.specs.Happened.{Happened, Ticked, Released, Joined, Issued, Finished}
 use Rattle.blk_trace.specs.Setups.{Setup}
-use Rattle.blk_trace.specs.Events.{At, round_at, entered, request_of, IsReleased, IsIssued, IsOpen, open_count, AreOnce}
+use Rattle.blk_trace.specs.Events.{At, round_at, entered, request_of, IsReleased, IsOpen, open_count, AreOnce}
 
 -- a list of events is legal: conditions on its places
 pub record IsLegalTrace (setup : Setup) (events : List Happened) : Type 0 where

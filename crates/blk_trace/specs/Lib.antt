@@ -9,3 +9,4 @@ pub mod Traces
 pub mod Standing
 pub mod Kept
 pub mod Laws
+pub mod Gathered

@@ -1,12 +1,12 @@
 -- What a trace means: its commands, the rounds in which they ran, and the bios that wait.
-use Rattle.std.specs.Prelude.{ℕ, ◌≡◌, ◌<◌, ◌+◌, ◌==◌, ◌++◌, Bool, true, false, not, cond, List, [], ◌∷◌, Option, Some, None, min, max, map, fold, filter, nat_le}
+use Rattle.std.specs.Prelude.{ℕ, ◌+◌, ◌==◌, not, cond, List, [], ◌∷◌, Option, Some, None, min, max, map, fold, filter, nat_le}
 use Rattle.std.specs.List.{flat_map, filter_map, list_any}
 use Rattle.blk_bio.specs.Bios.{Bio}
 use Rattle.blk_bio.specs.Requests.{dir_of}
 use Rattle.edd_check.specs.declared.Command.{Command}
-use Rattle.blk_trace.specs.Happened.{Happened, Ticked, Released, Joined, Issued, Finished}
+use Rattle.blk_trace.specs.Happened.{Happened, Released, Joined, Issued}
 use Rattle.blk_trace.specs.Setups.{Setup, expire_of}
-use Rattle.blk_trace.specs.Events.{is_tick, round_of, request_of}
+use Rattle.blk_trace.specs.Events.{is_tick, request_of}
 
 -- each event with its round, where the first one's round is given
 unfoldable pub timed : ℕ → List Happened → List (ℕ × Happened)

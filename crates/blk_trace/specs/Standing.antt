@@ -1,5 +1,5 @@
 -- What the events so far leave for the next one: which requests wait, and which tags of the round are taken.
-use Rattle.std.specs.Prelude.{ℕ, ◌≡◌, ◌<◌, ◌≤◌, ◌+◌, ◌==◌, ◌++◌, ◌&&◌, Bool, true, false, IsTrue, not, cond, List, [], ◌∷◌, Option, Some, None, length, count_by, option_map}
+use Rattle.std.specs.Prelude.{ℕ, ◌≡◌, ◌<◌, ◌==◌, ◌++◌, ◌&&◌, Bool, true, false, not, cond, List, [], ◌∷◌, Option, Some, None, length, count_by, option_map}
 use Rattle.std.specs.List.{filter_map, list_any}
 use Rattle.blk_bio.specs.Bios.{Bio}
 use Rattle.blk_bio.specs.declared.bio.Dir.{Dir}

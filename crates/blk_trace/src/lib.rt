@@ -6,4 +6,6 @@ mod known;
 pub mod rule;
 pub mod setup;
 mod tags;
+#[cfg(test)]
+mod tests;
 pub mod trace;

@@ -26,6 +26,7 @@ use std::marker::Model;
 mod adding;
 mod checking;
 mod reading;
+mod waiting;
 
 /// The most events of a trace, with a Done counted for each open Issue.
 pub const MAX_EVENTS: u64 = 1_000_000;

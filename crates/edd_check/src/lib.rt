@@ -148,7 +148,7 @@ fn stays_within(rounds: &[u64], depth: u64) -> bool
 }
 
 /// Whether the schedule is legal: each command has a round, none before its release, and no round has more than
-/// `depth` commands. Lists of different lengths are not.
+/// `depth` commands, which may be any number. Lists of different lengths are not.
 ///
 /// It takes no memory. It counts in blocks of 4,096 rounds from the least one on that is not yet counted, with one pass
 /// over the list for each block, so its time grows with the list for rounds that lie close together, and with the
@@ -234,6 +234,9 @@ fn rounds_in(window: Window, lateness: i64) -> u64
 /// Checks a schedule, its greatest lateness, and a window that asks for more commands than its rounds carry if each is
 /// to be less late: more than `depth` times the rounds from the window's `from` to its `due + lateness - 1`. Where the
 /// answer is `Ok`, no legal schedule of these commands has a smaller greatest lateness.
+///
+/// `depth` is the most commands of a round, at most 256, and `lateness` is counted in rounds; every release, due, round
+/// and window number lies below [`LIMIT`], as [`in_range`] tells.
 ///
 /// The answer depends on the claim alone, but for `Memory`, which may come in place of any answer after `BeforeRelease`.
 /// Refused, in this order, as `Length`, `BeforeRelease`, `Memory`, `OverDepth`, `WrongLateness` and `NotCrowded`, with the

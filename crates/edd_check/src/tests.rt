@@ -64,6 +64,27 @@ fn no_commands(rt: HostRuntime) {
     assert_eq!(rt; empty, Err(CheckFault::NotCrowded(0)));
 }
 
+/// Of two early commands the first by place is named, and of two over-deep rounds the least.
+#[test]
+fn first_early_and_least_over_deep(rt: HostRuntime) {
+    let commands = [
+        command(7, 0, 9),
+        command(5, 3, 9),
+        command(4, 2, 9),
+        command(3, 0, 9),
+    ];
+    let window = Window { from: 0, due: 9 };
+    for (rounds, fault) in [
+        ([0, 2, 1, 3], CheckFault::BeforeRelease(5)),
+        ([8, 8, 6, 6], CheckFault::OverDepth(6)),
+    ] {
+        assert_eq!(rt;
+            checked(&rt, rt.alloc(), &commands, 0, &rounds, window),
+            Err(fault)
+        );
+    }
+}
+
 /// Rounds of several blocks: legal at depth 2, and not at depth 1, since the last one stands twice.
 #[test]
 fn scattered_rounds(rt: HostRuntime) {

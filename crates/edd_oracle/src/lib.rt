@@ -1,7 +1,9 @@
 //! Schedules unit commands with the least greatest lateness, and shows by a window that it is least.
 //!
-//! The rule is earliest due date first, of what is released (Jackson's rule, and Horn's with release dates;
-//! Pinedo, Scheduling, on minimising Lmax), here on `depth` machines and with whole release rounds.
+//! The rule is earliest due date first, of what is released (Pinedo, Scheduling, on minimising Lmax). Jackson's and
+//! Horn's rules are the like for one machine: Jackson's where all jobs are there from the beginning, Horn's where they
+//! may be interrupted. The case here, unit commands with whole release rounds on `depth` machines, is proved in this
+//! crate.
 #![tactic(auto)]
 
 ghost use Rattle.std.specs.Prelude.{◌≡◌, ◌≤◌, ◌<◌, ◌↔◌, [], length, IfOk, IfErr, IfSome, IsNone, OnOk};
@@ -59,7 +61,7 @@ pub struct Answer<A: Allocator = Global> {
 /// Schedules the commands, at most `depth` of them in a round, so that the greatest lateness is least.
 ///
 /// Round by round it takes, of the released commands that have no round yet, up to `depth` with the least due
-/// round, on a tie with the least id: earliest due date first (Jackson; Horn; see Pinedo, Scheduling, on Lmax).
+/// round, on a tie with the least id: earliest due date first (see Pinedo, Scheduling, on minimising Lmax).
 /// The window's `due` is the due round of the latest command; of several that of the first round, and there of
 /// the least id. Its `from` is one more than the last round before that command's in which fewer than `depth`
 /// commands due by then run, or 0 where there is none.
@@ -69,6 +71,9 @@ pub struct Answer<A: Allocator = Global> {
 /// order: a `depth` out of range (`Depth`), more than 1,000,000 commands (`TooMany`), a release or due round out of
 /// range (`RoundRange`), an id that stands twice (`RepeatedId`), and want of memory (`Memory`), which may also
 /// come in place of `RepeatedId`.
+///
+/// It is plain: for each command it looks through the whole list, so its time grows with the square of the number of
+/// commands.
 pub fn solve<A: Allocator + Clone>(
     alloc: A,
     commands: &[Command],

@@ -1,7 +1,9 @@
 //! Adding an event that breaks no rule, and for which there is room.
 
-ghost use Rattle.std.specs.Prelude.{◌≡◌, ◌≤◌, ◌<◌, ◌+◌, vec_capacity, ◌++◌, ◌∷◌, [], length, ◌||◌};
+ghost use Rattle.std.specs.Prelude.{ℕ, ◌≡◌, ◌≤◌, ◌<◌, ◌+◌, ◌==◌, Some, cond, nat_eq, vec_capacity, ◌++◌, ◌∷◌, [], length, ◌||◌};
+ghost use Rattle.std.specs.HashMap as hash;
 ghost use Rattle.std.specs.HashSet as hash_set;
+ghost use Rattle.blk_trace.specs.declared.known.Waiting.{Waiting as KeptWaiting};
 ghost use Rattle.blk_bio.specs.declared.bio.BioId.{BioId as Name};
 ghost use Rattle.blk_trace.specs.Happened.{Ticked, Released, Joined, Issued, Finished};
 ghost use Rattle.blk_trace.specs.Rules.{IsUnbroken};
@@ -18,7 +20,7 @@ use blk_bio::bio::{Bio, BioId};
 use blk_bio::request::Request;
 use edd_check::Command;
 use std::alloc::Allocator;
-use std::collections::HashSet;
+use std::collections::{HashMap, HashSet};
 
 impl<A: Allocator + Clone> Trace<A> {
     /// Adds an event that breaks no rule, and for which there is room.
@@ -97,7 +99,7 @@ impl<A: Allocator + Clone> Trace<A> {
         requires prepared { IsPreparedFor self.old.prepared (Issued id tag) }
         ensures { self.new ≡ record { setup = self.old.setup; events = self.old.events ++ Issued id tag ∷ []; prepared = Prepared.Nothing } }
     {
-        let old = self.waiting_at(id);
+        let old = issued(&mut self.known, id);
         let command = Command {
             id,
             release: old.release,
@@ -105,9 +107,6 @@ impl<A: Allocator + Clone> Trace<A> {
         };
         append(&mut self.commands, command);
         append(&mut self.rounds, self.round);
-        if self.known.insert(id, Known::Gone).is_err() {
-            unreachable!();
-        }
         self.tags[tag as usize] = TagUse::Open;
         self.open += 1;
         append(&mut self.events, Event::Issue { id, tag });
@@ -123,6 +122,22 @@ impl<A: Allocator + Clone> Trace<A> {
         append(&mut self.events, Event::Done { tag });
         self.prepared = Prepared::Nothing;
     }
+}
+
+/// Marks the request that waits under an id as issued, and hands out what was kept of it.
+fn issued<A: Allocator>(known: &mut HashMap<u64, Known, Hashing, A>, id: u64) -> Waiting
+    requires { (w : KeptWaiting) × (hash.get nat_eq known.old id ≡ Some (Known.Waits w)) }
+    ensures was { hash.get nat_eq known.old id ≡ Some (Known.Waits result) }
+    ensures gone { (i : ℕ) → hash.get nat_eq known.new i ≡ cond (id == i) (Some Known.Gone) (hash.get nat_eq known.old i) }
+{
+    let Some(kept) = known.get_mut(&id) else {
+        unreachable!()
+    };
+    let Known::Waits(waiting) = *kept else {
+        unreachable!()
+    };
+    *kept = Known::Gone;
+    waiting
 }
 
 /// Adds a value at the end of a list that has room for it.

@@ -1,4 +1,4 @@
-use Rattle.std.proofs.Common.{rules, ◌≡◌, arith, sym, subst, Some, w64, of_z, to_z}
+use Rattle.std.proofs.Common.{rules, ◌≡◌, sym, subst, Some, w64, of_z, to_z}
 use Rattle.std.specs.Prelude.{ℤ}
 use Rattle.std.proofs.lemmas.Int.{to_z-of_z}
 use Rattle.blk_text.specs.Certificate.{IsClaim}

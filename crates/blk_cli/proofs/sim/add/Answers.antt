@@ -1,4 +1,4 @@
-use Rattle.std.proofs.Common.{arith, ◌≡◌, ◌<◌, ◌∙◌, ℕ, length, refl, sym, ap, inl, inr}
+use Rattle.std.proofs.Common.{arith, ◌≡◌, ◌<◌, ◌∙◌, length, refl, ap, inl, inr, get_or}
 use Rattle.std.specs.Prelude.{slice_get, Some}
 use Rattle.std.proofs.lemmas.Option.{slice_get_read}
 use Rattle.std.specs.Prelude.{Ok}
@@ -8,6 +8,7 @@ use Rattle.blk_plug.specs.Answers.{IsAddAnswer}
 use Rattle.blk_plug.specs.declared.plug.Added.{Added}
 use Rattle.blk_plug.specs.declared.plug.Added.TheVariants.{New, Joined}
 use Rattle.blk_bio.specs.declared.bio.BioId.{BioId}
+use Rattle.blk_cli.specs.Refusals.{MayAdd}
 use Rattle.blk_cli.proofs.Picking.{set_cases}
 use Rattle.blk_cli.proofs.Standing.{add_plugged}
 use Rattle.blk_cli.proofs.sim.add.Goals as goal
@@ -34,3 +35,25 @@ returns-in-Ok-clause-limits g c limits all s plug here =
       | inl a ↦ ap (λ (x : Plug). x.limits) a.1 ∙ add_limits _ _ _ c.in-Ok.field-0 c.in-Ok.ensures.answer ∙ all c.id.result.submitter c.index_mut-plug.result.now at
       | inr a ↦ all s plug a.1
     ]
+
+pub returns-in-Err-clause-refused : goal.returns-in-Err-clause-refused
+returns-in-Err-clause-refused g c =
+    let own : c.id.result.submitter ≡ c.args.bio.id.submitter = ap (λ (i : BioId). i.submitter) c.id.ensures in
+    let req = c.requires in
+    let lt : c.args.bio.id.submitter < length c.args.plugs.now.items = req in
+    let is : c.index_mut-plug.result.now ≡ get_or c.args.plugs.now.items c.args.bio.id.submitter c.index_mut-plug.result.now = c.index_mut-plug.ensures.value ∙ ap (λ k. get_or c.args.plugs.now.items k c.index_mut-plug.result.now) own in
+    let at : slice_get c.args.plugs.now.items c.args.bio.id.submitter ≡ Some c.index_mut-plug.result.now = slice_get_read c.args.plugs.now.items (length c.args.plugs.now.items) c.args.bio.id.submitter c.index_mut-plug.result.now refl lt is in
+    (c.index_mut-plug.result.now, at, (_, c.in-Err.ensures.answer.2, c.why_added.ensures))
+
+may_add : (old : Plug) (bio : Bio) (new : Plug) (added : Added) → IsAddAnswer old bio new (Ok added) → MayAdd old bio
+may_add old bio new New h = inr h.1
+may_add old bio new (Joined side) h = inl (h.0, (side, h.1))
+
+pub returns-in-Ok-clause-accepted : goal.returns-in-Ok-clause-accepted
+returns-in-Ok-clause-accepted g c =
+    let own : c.id.result.submitter ≡ c.args.bio.id.submitter = ap (λ (i : BioId). i.submitter) c.id.ensures in
+    let req = c.requires in
+    let lt : c.args.bio.id.submitter < length c.args.plugs.now.items = req in
+    let is : c.index_mut-plug.result.now ≡ get_or c.args.plugs.now.items c.args.bio.id.submitter c.index_mut-plug.result.now = c.index_mut-plug.ensures.value ∙ ap (λ k. get_or c.args.plugs.now.items k c.index_mut-plug.result.now) own in
+    let at : slice_get c.args.plugs.now.items c.args.bio.id.submitter ≡ Some c.index_mut-plug.result.now = slice_get_read c.args.plugs.now.items (length c.args.plugs.now.items) c.args.bio.id.submitter c.index_mut-plug.result.now refl lt is in
+    (c.index_mut-plug.result.now, at, may_add _ _ _ c.in-Ok.field-0 c.in-Ok.ensures.answer)

@@ -1,6 +1,7 @@
 use Rattle.std.proofs.Common.{◌≡◌, ◌++◌, length}
 use Rattle.blk_trace.specs.Events.{entered, round_of}
 use Rattle.blk_cli.specs.Simulated.{bios_in}
+use Rattle.blk_cli.specs.Refusals.{Reached}
 use Rattle.blk_cli.proofs.sim.drain_queue.Given as goal
 
 abbrev pub invariant-loop-request : goal.invariant-loop-request
@@ -9,6 +10,7 @@ invariant-loop-request g l = record {
   setup : l.core.setup ≡ l.initial.core.setup;
   ticks : round_of l.core.events ≡ round_of l.initial.core.events;
   limits : l.queue.limits ≡ l.initial.queue.limits;
+  reached : Reached l.initial.core l.core;
 }
 
 abbrev pub decreases-loop-request : goal.decreases-loop-request

@@ -1,9 +1,8 @@
-use Rattle.std.proofs.Common.{arith, ◌≡◌, ◌<◌, ◌∙◌, ℕ, length, refl, sym, ap, inl, inr, set}
+use Rattle.std.proofs.Common.{arith, ◌≡◌, ◌<◌, ◌∙◌, length, refl, sym, ap, inl, inr}
 use Rattle.std.specs.Prelude.{slice_get, Some}
 use Rattle.std.proofs.lemmas.Option.{slice_get_read}
 use Rattle.std.proofs.lemmas.List.{length-set}
 use Rattle.blk_plug.specs.Plugs.{Plug}
-use Rattle.blk_soft.specs.Queues.{Queue}
 use Rattle.blk_cli.proofs.Picking.{set_cases}
 use Rattle.blk_cli.proofs.Draining.{limits_set}
 use Rattle.blk_cli.proofs.Standing.{flush_plugged, flush_staged}

@@ -18,11 +18,14 @@ issued_passed serves old new hw tag (Some command) a = adds_passed _ _ _ 0 a.2 r
 no_queue : (old : CoreState) (hw tag : ℕ) (fault : IssueFault) → hw < old.setup.hw → IsIssueFault old hw tag fault → fault ≡ NoQueue → ⊥
 no_queue old hw tag fault lt h e = let le : old.setup.hw ≤ hw = subst (λ f. IsIssueFault old hw tag f) e h in absurd (omega (arith, lt, le))
 
-pub returns-in-Ok : goal.returns-in-Ok
-returns-in-Ok g c = issued_passed g.S.Scheduler.serves c.args.core.now c.issue.new.self c.args.hw c.args.tag c.in-Ok.command c.in-Ok.ensures.issued
+pub returns-in-Ok-clause-passed : goal.returns-in-Ok-clause-passed
+returns-in-Ok-clause-passed g c = issued_passed g.S.Scheduler.serves c.args.core.now c.issue.new.self c.args.hw c.args.tag c.in-Ok.command c.in-Ok.ensures.issued
 
-pub returns-in-Err : goal.returns-in-Err
-returns-in-Err g c = passed_same _ _ c.in-Err.ensures.same
+pub returns-in-Err-clause-passed : goal.returns-in-Err-clause-passed
+returns-in-Err-clause-passed g c = passed_same _ _ c.in-Err.ensures.same
 
 pub why_issued-requires : goal.why_issued-requires
 why_issued-requires g c = no_queue _ _ _ _ c.requires c.in-Err.ensures.fault
+
+pub returns-in-Err-clause-refused : goal.returns-in-Err-clause-refused
+returns-in-Err-clause-refused g c = (_, c.in-Err.ensures.fault, c.why_issued.ensures)

@@ -19,8 +19,11 @@ placed_took serves old new bios hw (Joined id side) a = adds_took _ _ _ bios a.1
 no_queue : (old : CoreState) (bios : List Bio) (hw : ℕ) (fault : CoreFault) → hw < old.setup.hw → IsReleaseFault old bios hw fault → fault ≡ NoQueue → ⊥
 no_queue old bios hw fault lt h e = let le : old.setup.hw ≤ hw = subst (λ f. IsReleaseFault old bios hw f) e h in absurd (omega (arith, lt, le))
 
-pub returns-in-Ok : goal.returns-in-Ok
-returns-in-Ok g c = placed_took g.S.Scheduler.serves c.args.core.now c.release.new.self c.args.request c.args.hw c.in-Ok.field-0 c.in-Ok.ensures.placed
+pub returns-in-Ok-clause-took : goal.returns-in-Ok-clause-took
+returns-in-Ok-clause-took g c = placed_took g.S.Scheduler.serves c.args.core.now c.release.new.self c.args.request c.args.hw c.in-Ok.field-0 c.in-Ok.ensures.placed
 
 pub why_released-requires : goal.why_released-requires
 why_released-requires g c = no_queue _ _ _ _ c.requires.queue c.in-Err.ensures.fault
+
+pub returns-in-Err-clause-refused : goal.returns-in-Err-clause-refused
+returns-in-Err-clause-refused g c = (_, c.in-Err.ensures.fault, c.why_released.ensures)

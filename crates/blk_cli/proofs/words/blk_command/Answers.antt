@@ -1,4 +1,4 @@
-use Rattle.std.proofs.Common.{rules, ◌≡◌, ◌∙◌, ap, Some, true, false, codes, [], ◌∷◌, ◌||◌}
+use Rattle.std.proofs.Common.{◌≡◌, ◌∙◌, ap, Some, false, codes, [], ◌∷◌, ◌||◌}
 use Rattle.clap.specs.Words.{app_of, rule_of, new_app, new_rule, with_rule, with_subcommand}
 use Rattle.clap.specs.declared.builder.ArgAction.TheVariants.{Set}
 use Rattle.clap.specs.Words.{App, Rule, shape_of}

@@ -1,4 +1,4 @@
-use Rattle.std.proofs.Common.{rules, ◌≡◌, ◌∷◌, ◌∙◌, [], List, ℕ, codes, map, true, false, string_bytes, sym, ap}
+use Rattle.std.proofs.Common.{rules, ◌≡◌, ◌∙◌, codes, sym}
 use Rattle.blk_cli.proofs.Lines.{name_of, sim_name, sim_none_name, oracle_name, check_name}
 use Rattle.blk_cli.proofs.words.choose.Goals as goal
 

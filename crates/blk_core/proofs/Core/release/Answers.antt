@@ -55,4 +55,4 @@ invariant_of-self-in-Ok-push-2 g c =
     (pushed c.self.inside.trace.setup c.self.inside.trace.events c.prepare.new.self c.push-in-Ok-insert.new.self (Released c.self.inside.released c.in-Ok.copy) _ _ c.in-Ok-prepare.ensures.ok c.in-Ok-push-2.ensures.ok)
     c.self.invariant
     (entered_at c.self.inside.trace.setup c.self.inside.trace.events c.self.inside.released c.args.hw c.round-now.result c.expire-expire.result c.in-Err-default-NoFit.request c.in-Ok.copy now_is (c.in-Err-default-NoFit.ensures.err ∙ sym c.in-Ok.ensures) expire)
-    (c.in-Ok-insert.ensures.ok ∙ ap (λ (x : Meaning). record x { pending = map.insert x.pending c.self.inside.released entry }) c.in-Err-default-NoFit.ensures.same)
+    (c.in-Ok-insert.ensures.ok ∙ ap (λ (x : Meaning). record x { pending = map.insert x.pending c.self.inside.released entry }) (ap g.S.Scheduler.meaning c.in-Err-default-NoFit.ensures.same))

@@ -1,4 +1,4 @@
-use Rattle.std.proofs.Common.{rules, ◌∙◌}
+use Rattle.std.proofs.Common.{◌∙◌}
 use Rattle.blk_none.proofs.Turns.{count_is}
 use Rattle.blk_none.proofs.NoneSchedScheduler.pending.Goals as goal
 

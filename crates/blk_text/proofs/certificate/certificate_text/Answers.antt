@@ -1,7 +1,6 @@
-use Rattle.std.proofs.Common.{rules, ◌<◌, ◌≤◌, ◌∷◌, [], length, arith}
+use Rattle.std.proofs.Common.{◌<◌, ◌≤◌, ◌∷◌, [], length, arith}
 use Rattle.std.specs.List.{zip}
 use Rattle.blk_text.specs.Certificate.{title_row, bound_row, served_row}
-use Rattle.blk_text.specs.Draft.{draft_text}
 use Rattle.blk_text.proofs.DraftLemmas.{two_first, one_more_at, whole}
 use Rattle.blk_text.proofs.ClaimLemmas.{paired, length_zip}
 use Rattle.blk_text.proofs.certificate.certificate_text.Goals as goal
@@ -10,9 +9,8 @@ pub loop-i-init : goal.loop-i-init
 loop-i-init c =
     let is = c.as_slice-commands.ensures.value in
     record {
-      draft = search rules;
       text = two_first (title_row c.args.certificate.now.depth (length c.args.certificate.now.commands.items)) (bound_row c.args.certificate.now.bound)
-          (draft_text c.new_draft-draft.result) (draft_text c.push_title.new.draft) (draft_text c.push_bound.new.draft) c.new_draft-draft.ensures.text
+          c.new-draft.result.items c.push_title.new.draft.items c.push_bound.new.draft.items c.new-draft.ensures.items
           (rw is at c.in_ok-push_title.ensures.text) c.in_ok-push_bound.ensures.text;
     }
 
@@ -25,16 +23,15 @@ loop-i-preserved c =
     omega (arith, length_zip c.args.certificate.now.commands.items c.args.certificate.now.rounds.items c.requires.one_each, in_commands) in
     let pair = paired c.args.certificate.now.commands.items c.args.certificate.now.rounds.items c.loop-i.i (record { id = 0; release = 0; due = 0 }) c.requires.one_each in_commands in
     record {
-      draft = search rules;
       text = one_more_at (λ s. served_row s ∷ []) [] (title_row c.args.certificate.now.depth (length c.args.certificate.now.commands.items) ∷ bound_row c.args.certificate.now.bound ∷ [])
           (zip c.args.certificate.now.commands.items c.args.certificate.now.rounds.items) c.loop-i.i (record { id = 0; release = 0; due = 0 }, 0)
-          (draft_text c.loop-i.draft) (draft_text c.push_served.new.draft) in_both c.loop-i.invariant.text (rw pair (rw (commands, rounds) at c.in_ok-push_served.ensures.text));
+          c.loop-i.draft.items c.push_served.new.draft.items in_both c.loop-i.invariant.text (rw pair (rw (commands, rounds) at c.in_ok-push_served.ensures.text));
     }
 
 pub returns : goal.returns
 returns c =
     let commands = c.as_slice-commands.ensures.value in
     let over : length c.args.certificate.now.commands.items ≤ c.loop-i.i = rw commands at c.loop-i-test.false in
-    whole c.finish.result served_row (title_row c.args.certificate.now.depth (length c.args.certificate.now.commands.items) ∷ bound_row c.args.certificate.now.bound ∷ [])
-    (zip c.args.certificate.now.commands.items c.args.certificate.now.rounds.items) c.loop-i.i (draft_text c.loop-i.draft)
-    (omega (arith, length_zip c.args.certificate.now.commands.items c.args.certificate.now.rounds.items c.requires.one_each, over)) c.loop-i.invariant.text c.finish.ensures
+    whole served_row [] (title_row c.args.certificate.now.depth (length c.args.certificate.now.commands.items) ∷ bound_row c.args.certificate.now.bound ∷ [])
+    (zip c.args.certificate.now.commands.items c.args.certificate.now.rounds.items) c.loop-i.i c.loop-i.draft.items
+    (omega (arith, length_zip c.args.certificate.now.commands.items c.args.certificate.now.rounds.items c.requires.one_each, over)) c.loop-i.invariant.text

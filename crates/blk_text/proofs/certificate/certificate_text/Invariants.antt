@@ -1,12 +1,10 @@
 use Rattle.std.proofs.Common.{[], ◌∷◌, length}
 use Rattle.std.specs.List.{zip}
 use Rattle.blk_text.specs.Certificate.{title_row, bound_row, served_row}
-use Rattle.blk_text.specs.Draft.{IsDraft, draft_text}
 use Rattle.blk_text.proofs.DraftLemmas.{IsSoFar}
 use Rattle.blk_text.proofs.certificate.certificate_text.Given as goal
 
 abbrev pub invariant-loop-i : goal.invariant-loop-i
 invariant-loop-i l = record {
-  draft : IsDraft l.draft;
-  text : IsSoFar (λ s. served_row s ∷ []) [] (title_row l.fn.certificate.depth (length l.fn.certificate.commands.items) ∷ bound_row l.fn.certificate.bound ∷ []) (zip l.fn.certificate.commands.items l.fn.certificate.rounds.items) l.i (draft_text l.draft);
+  text : IsSoFar (λ s. served_row s ∷ []) [] (title_row l.fn.certificate.depth (length l.fn.certificate.commands.items) ∷ bound_row l.fn.certificate.bound ∷ []) (zip l.fn.certificate.commands.items l.fn.certificate.rounds.items) l.i l.draft.items;
 }

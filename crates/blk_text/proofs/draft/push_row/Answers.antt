@@ -1,16 +1,14 @@
-use Rattle.std.proofs.Common.{rules, ◌≡◌, ◌≢◌, false}
-use Rattle.std.specs.Result.{is_err}
-use Rattle.csv.proofs.ReadFacts.{on-ok}
-use Rattle.csv.specs.Writing.{writer_setup}
-use Rattle.csv.specs.declared.writer.QuoteStyle.TheVariants as style
-use Rattle.blk_text.proofs.DraftLemmas.{added}
+use Rattle.std.proofs.Common.{rules, arith, ◌≡◌, ◌-◌, ◌∷◌, [], ◌∙◌, sym, take, drop, map, length-drop}
+use Rattle.std.proofs.lemmas.List.{take_all}
+use Rattle.blk_text.specs.Texts.{rows_text}
+use Rattle.blk_text.specs.Cells.{cell_text}
+use Rattle.blk_text.proofs.PlainRows.{line_is}
 use Rattle.blk_text.proofs.draft.push_row.Goals as goal
 
-pub returns-clause-text : goal.returns-clause-text
-returns-clause-text c =
-    let r = c.write_fields.result in
-    let good : is_err r ≡ false = search rules in
-    let inv = c.requires in
-    let plain : (writer_setup c.args.draft.now).style ≢ style.NonNumeric = rw inv.2 (λ e. cc e) in
-    let bytes = (on-ok r good c.write_fields.ensures.bytes) inv.0 inv.1 plain in
-    added (writer_setup c.args.draft.now) _ _ _ inv.2 bytes
+pub returns : goal.returns
+returns c =
+    let start = c.put_row-start.result in
+    let buf = c.put_row-start.new.buf in
+    let whole : take (128 - start) (drop start buf) ≡ rows_text (map cell_text c.args.cells.now ∷ []) =
+    take_all (128 - start) (drop start buf) (omega (arith, length-drop start buf, c.put_row-start.array_long)) ∙ c.put_row-start.ensures.written ∙ sym (line_is c.args.cells.now c.requires.width.0 c.requires.plain) in
+    record { text = rw (← whole) (search rules) }

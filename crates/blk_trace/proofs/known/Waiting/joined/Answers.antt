@@ -1,8 +1,6 @@
-use Rattle.std.proofs.Common.{rules, ◌≡◌, ◌≤◌, ◌<◌, ◌+◌, ◌-◌, ◌∙◌, ap, sym, subst, length, arith, List, ℕ}
+use Rattle.std.proofs.Common.{rules, ◌≡◌, ◌≤◌, ◌<◌, ◌+◌, ◌∙◌, ap, sym, length, arith}
 use Rattle.std.proofs.lemmas.Grind.{common_steps}
-use Rattle.blk_bio.specs.Bios.{Bio}
 use Rattle.blk_bio.specs.Requests.{dir_of, last_of}
-use Rattle.blk_trace.specs.Standing.{Entered}
 use Rattle.blk_trace.proofs.Joining.{joined_back, joined_front}
 use Rattle.blk_trace.proofs.known.Waiting.joined.Goals as goal
 

@@ -1,30 +1,23 @@
-use Rattle.std.proofs.Common.{◌≡◌, ◌<◌, ◌≤◌, ◌+◌, ◌-◌, ◌++◌, ◌*◌, ◌∙◌, ℕ, List, [], ◌∷◌, Some, None, map, length, length-append, ap, sym, refl, arith, subst, true, false, cond}
-use Rattle.std.specs.Prelude.{nat_eq, replicate, ◌||◌}
+use Rattle.std.proofs.Common.{◌≡◌, ◌<◌, ◌+◌, ◌++◌, ◌∙◌, List, [], ◌∷◌, Some, None, map, length, length-append, ap, sym, subst}
+use Rattle.std.specs.Prelude.{nat_eq, ◌||◌}
 use Rattle.blk_bio.specs.Bios.{Bio}
 use Rattle.std.proofs.lemmas.List.{map-append}
 use Rattle.std.specs.HashMap as hash
 use Rattle.std.specs.HashSet as hash_set
-use Rattle.std.specs.Vec.{vec_len, vec_capacity}
-use Rattle.edd_check.specs.declared.Command.{Command}
-use Rattle.blk_bio.specs.Requests.{dir_of, Fits}
+use Rattle.blk_bio.specs.Requests.{Fits}
 use Rattle.blk_bio.specs.declared.request.Side.{Side}
-use Rattle.blk_trace.specs.declared.known.Waiting.{Waiting}
-use Rattle.blk_trace.specs.declared.known.Known.TheVariants.{Waits, Gone}
-use Rattle.blk_trace.specs.declared.tags.TagUse.TheVariants.{Free}
-use Rattle.blk_trace.specs.declared.event.Event.TheVariants.{Tick, Release, Join, Issue, Done}
+use Rattle.blk_trace.specs.declared.known.Known.TheVariants.{Waits}
+use Rattle.blk_trace.specs.declared.event.Event.TheVariants.{Join}
 use Rattle.blk_trace.specs.declared.rule.TraceRule.TheVariants as rule
-use Rattle.blk_trace.specs.Happened.{Happened, Ticked, Released, Joined, Issued, Finished}
-use Rattle.blk_trace.specs.Setups.{Setup, expire_of}
-use Rattle.blk_trace.specs.Events.{request_of, IsOpen}
-use Rattle.blk_trace.specs.Rules.{Obeys, IsUnbroken}
+use Rattle.blk_trace.specs.Happened.{Happened, Joined}
+use Rattle.blk_trace.specs.Events.{request_of}
+use Rattle.blk_trace.specs.Rules.{IsUnbroken}
 use Rattle.blk_trace.specs.Traces.{Traced, IsPreparedFor}
-use Rattle.blk_trace.specs.Kept.{summary, known_of, is_bio, has_bio_id}
+use Rattle.blk_trace.specs.Kept.{known_of, is_bio, has_bio_id}
 use Rattle.blk_trace.specs.Seen.{happened}
-use Rattle.blk_trace.proofs.More.{rounds_within}
-use Rattle.blk_trace.proofs.Opening.{open_positive}
 use Rattle.blk_trace.proofs.Joining.{fits_to}
 use Rattle.blk_trace.proofs.Knowing.{known_waits, waiting_is}
-use Rattle.blk_trace.proofs.Keeping.{kept_tick, kept_done, kept_issue, kept_release, kept_join, room_after_tick, room_after_issue, room_after_done, room_after_entry, entry_room, join_room, on_ok, on_err}
+use Rattle.blk_trace.proofs.Keeping.{kept_join, room_after_entry, join_room, on_ok, on_err}
 use Rattle.blk_trace.proofs.trace.Trace.add_join.Goals as goal
 
 pub waiting_at-old-requires-clause-released : goal.waiting_at-old-requires-clause-released

@@ -1,4 +1,4 @@
-use Rattle.std.proofs.Common.{◌≡◌, ◌++◌, ◌↔◌, IsTrue, ℕ, List, map, ap, sym, subst}
+use Rattle.std.proofs.Common.{◌++◌, ◌↔◌, IsTrue, List, map, ap, sym, subst}
 use Rattle.std.specs.Prelude.{not, ◌&&◌}
 use Rattle.std.specs.HashSet as hash_set
 use Rattle.blk_bio.specs.Bios.{Bio}

@@ -1,4 +1,4 @@
-use Rattle.std.proofs.Common.{◌≡◌, ◌<◌, ◌≤◌, ◌+◌, ℕ, arith}
+use Rattle.std.proofs.Common.{arith}
 use Rattle.blk_trace.proofs.Asked.{holds, fails}
 use Rattle.blk_trace.proofs.Room.{room_done}
 use Rattle.blk_trace.proofs.First.{done_not_issued, done_unbroken}

@@ -1,4 +1,4 @@
-use Rattle.std.proofs.Common.{◌≡◌, ◌<◌, ◌≤◌, ◌+◌, ◌∙◌, ℕ, Some, None, ap, sym, arith, subst}
+use Rattle.std.proofs.Common.{◌≡◌, ◌∙◌, Some, ap, sym, arith}
 use Rattle.blk_trace.specs.declared.known.Known.TheVariants.{Waits, Gone}
 use Rattle.blk_trace.specs.Kept.{known_of}
 use Rattle.blk_trace.proofs.Asked.{holds, fails}

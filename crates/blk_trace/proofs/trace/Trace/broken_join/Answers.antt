@@ -1,4 +1,4 @@
-use Rattle.std.proofs.Common.{◌≡◌, ◌<◌, ◌≤◌, ◌+◌, ◌∙◌, ℕ, Some, None, ap, sym, arith, subst}
+use Rattle.std.proofs.Common.{◌≡◌, ◌<◌, ◌∙◌, Some, ap, sym}
 use Rattle.blk_trace.specs.declared.known.Known.TheVariants.{Waits, Gone}
 use Rattle.blk_trace.specs.Kept.{known_of}
 use Rattle.blk_trace.proofs.Asked.{holds, fails}
@@ -7,10 +7,9 @@ use Rattle.blk_trace.proofs.Knowing.{known_none, known_gone, known_waits, waitin
 use Rattle.blk_trace.proofs.Room.{room_join, full_join}
 use Rattle.blk_trace.proofs.First.{join_unknown, join_already_issued, join_bio_twice, join_fit, join_too_long, join_unbroken}
 use Rattle.std.specs.Prelude.{not}
-use Rattle.blk_bio.specs.Bios.{Bio}
 use Rattle.blk_bio.specs.declared.request.Side.{Side}
 use Rattle.blk_bio.specs.Requests.{Fits}
-use Rattle.std.proofs.Common.{length, List}
+use Rattle.std.proofs.Common.{length}
 use Rattle.blk_trace.specs.declared.known.Waiting.{Waiting}
 use Rattle.blk_trace.specs.Setups.{Setup}
 use Rattle.blk_trace.specs.Standing.{Entered}

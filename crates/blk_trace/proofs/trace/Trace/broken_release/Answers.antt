@@ -1,7 +1,4 @@
-use Rattle.std.proofs.Common.{◌≡◌, ◌∙◌, ℕ, Some, None, ap, sym, subst, false, true}
-use Rattle.std.specs.Prelude.{Option, is_some}
-use Rattle.blk_trace.specs.declared.known.Known.{Known}
-use Rattle.blk_trace.specs.Kept.{known_of}
+use Rattle.std.proofs.Common.{◌∙◌, ap, sym, subst}
 use Rattle.blk_bio.specs.Requests.{IsWithin}
 use Rattle.blk_trace.proofs.Asked.{holds, fails, no_some, is_there}
 use Rattle.blk_trace.proofs.Knowing.{known_none, known_some}

@@ -1,4 +1,3 @@
-use Rattle.std.proofs.Common.{ℕ}
 use Rattle.blk_trace.proofs.Asked.{holds, fails}
 use Rattle.blk_trace.proofs.Room.{room_tick, full_tick}
 use Rattle.blk_trace.proofs.First.{tick_in_flight, tick_too_long, tick_unbroken}

@@ -1,12 +1,11 @@
-use Rattle.std.proofs.Common.{◌≡◌, ◌∙◌, ◌++◌, ◌≤◌, ◌+◌, ℕ, List, [], ap, sym, refl, None, false, arith, length, map, subst}
+use Rattle.std.proofs.Common.{◌≡◌, ◌∙◌, ℕ, List, [], ap, refl, arith, length, map}
 use Rattle.std.specs.Prelude.{replicate, nat_eq}
 use Rattle.std.specs.List.{list_any}
 use Rattle.std.specs.Map.{lookup}
 use Rattle.std.specs.HashMap as hash
 use Rattle.std.specs.HashSet as hash_set
-use Rattle.blk_trace.specs.declared.tags.TagUse.{TagUse}
 use Rattle.blk_trace.specs.declared.tags.TagUse.TheVariants.{Free}
-use Rattle.blk_trace.specs.Kept.{IsKept, HasRoom, is_bio}
+use Rattle.blk_trace.specs.Kept.{is_bio}
 use Rattle.blk_bio.specs.declared.bio.BioId.{BioId}
 use Rattle.blk_trace.specs.declared.known.Known.{Known}
 use Rattle.blk_trace.specs.Seen.{happened}

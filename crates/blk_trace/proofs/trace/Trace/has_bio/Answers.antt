@@ -1,4 +1,4 @@
-use Rattle.std.proofs.Common.{◌≡◌, ◌↔◌, IsTrue, ℕ, List, map, ap, sym, subst, Some, ◌∙◌}
+use Rattle.std.proofs.Common.{◌↔◌, IsTrue, map, subst, ◌∙◌}
 use Rattle.blk_trace.specs.Seen.{happened}
 use Rattle.blk_trace.specs.Traces.{Traced, HasBio}
 use Rattle.blk_trace.proofs.Newness.{has_bio}

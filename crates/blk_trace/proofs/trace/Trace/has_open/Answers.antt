@@ -1,4 +1,4 @@
-use Rattle.std.proofs.Common.{◌≡◌, ◌↔◌, IsTrue, ℕ, List, map, ap, sym, subst, Some, ◌∙◌}
+use Rattle.std.proofs.Common.{◌↔◌, IsTrue, ℕ, map, ap, sym, subst, ◌∙◌}
 use Rattle.std.specs.Prelude.{slice_get}
 use Rattle.blk_trace.specs.declared.tags.TagUse.TheVariants.{Open}
 use Rattle.blk_trace.specs.Seen.{happened}

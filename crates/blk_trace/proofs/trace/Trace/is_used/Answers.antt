@@ -1,4 +1,4 @@
-use Rattle.std.proofs.Common.{◌≡◌, refl, subst}
+use Rattle.std.proofs.Common.{refl, subst}
 use Rattle.blk_trace.specs.declared.tags.TagUse.{TagUse}
 use Rattle.blk_trace.specs.declared.tags.TagUse.TheVariants.{Free, Open, Ended}
 use Rattle.blk_trace.specs.Kept.{IsTagUse}

@@ -1,8 +1,8 @@
-use Rattle.std.proofs.Common.{◌≡◌, ◌≤◌, ◌+◌, ◌∙◌, List, ℕ, map, length, ap, arith, refl}
+use Rattle.std.proofs.Common.{map, ap, arith}
 use Rattle.std.specs.Prelude.{nat_eq}
 use Rattle.std.specs.HashMap as hash
 use Rattle.std.specs.HashSet as hash_set
-use Rattle.blk_trace.specs.Kept.{is_bio, event_room, command_room, request_room, bio_room}
+use Rattle.blk_trace.specs.Kept.{is_bio}
 use Rattle.blk_trace.specs.Seen.{happened}
 use Rattle.blk_trace.proofs.Keeping.{kept_same}
 use Rattle.blk_trace.proofs.trace.Trace.make_room.Goals as goal

@@ -1,13 +1,6 @@
-use Rattle.std.proofs.Common.{arith, length, map}
+use Rattle.std.proofs.Common.{arith, map}
 use Rattle.blk_trace.specs.Seen.{happened}
 use Rattle.blk_trace.proofs.More.{rounds_within}
-use Rattle.blk_trace.proofs.Room.{longer}
-use Rattle.blk_trace.proofs.First.{tick_in_flight}
-use Rattle.blk_trace.proofs.Knowing.{known_none}
-use Rattle.blk_trace.proofs.TagUses.{tags_issued}
-use Rattle.blk_trace.proofs.Newness.{has_bio}
-use Rattle.blk_trace.proofs.Joining.{joined_back}
-use Rattle.blk_trace.proofs.Keeping.{on_ok}
 use Rattle.blk_trace.proofs.trace.Trace.round.Goals as goal
 
 pub returns-clause-few : goal.returns-clause-few

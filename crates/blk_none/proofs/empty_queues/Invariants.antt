@@ -1,0 +1,9 @@
+use Rattle.std.proofs.Common.{◌≡◌, ℕ, [], get_or, vec_len}
+use Rattle.blk_none.proofs.empty_queues.Given as goal
+
+-- as many lists as turns, each empty
+abbrev pub invariant-loop : goal.invariant-loop
+invariant-loop g l = record {
+  count : vec_len l.queues ≡ l.counter;
+  empty : (q : ℕ) → get_or l.queues.items q [] ≡ [];
+}

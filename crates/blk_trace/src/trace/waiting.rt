@@ -1,0 +1,137 @@
+//! The bios that wait, gathered from the events.
+
+ghost use Rattle.std.specs.Prelude.{ℕ, ◌≡◌, ◌==◌, cond, Some, IfOk, OnOk, map, List};
+ghost use Rattle.std.specs.Option.{option_map};
+ghost use Rattle.std.specs.List.{flat_map};
+ghost use Rattle.std.specs.Ordering.{nat_cmp};
+ghost use Rattle.std.specs.BTreeMap.{get, values, IsOrdered};
+ghost use Rattle.blk_trace.specs.Events.{join_up};
+ghost use Rattle.blk_trace.specs.Gathered.{waiting_bios, with_event, Takes, FitsUnder};
+ghost use Rattle.blk_trace.specs.Laws.{IsAccounted};
+ghost use Rattle.blk_trace.specs.Legal.{IsLegalTrace};
+ghost use Rattle.blk_trace.specs.Meaning.{waiting_of};
+ghost use Rattle.blk_trace.specs.Seen.{happened};
+
+use crate::event::Event;
+use crate::setup::Setup;
+use crate::trace::Trace;
+use blk_bio::bio::Bio;
+use blk_bio::limits::Limits;
+use blk_bio::request::{JoinFault, Request};
+use std::alloc::{AllocError, Allocator};
+use std::collections::BTreeMap;
+
+impl<A: Allocator + Clone> Trace<A> {
+    /// The bios of the released requests that have no Issue, by rising id of the requests and then in the order of their
+    /// sectors. It walks the events once. Fails for want of memory alone.
+    pub fn waiting(&self) -> Result<Vec<Bio, A>, AllocError>
+        ensures waiting { IfOk result (λ v. v.items ≡ waiting_of self.now.events) }
+        // with those of the issued requests they are the bios that entered, each once
+        ensures accounted { IsAccounted self.now.events }
+    {
+        all_waiting(self.events.allocator(), self.setup, self.events.as_slice())
+    }
+}
+
+/// The bios that wait after the events.
+fn all_waiting<A: Allocator + Clone>(
+    alloc: &A,
+    setup: Setup,
+    events: &[Event<A>],
+) -> Result<Vec<Bio, A>, AllocError>
+    requires { IsLegalTrace setup (map happened events.now) }
+    ensures { IfOk result (λ v. v.items ≡ waiting_of (map happened events.now)) }
+{
+    let requests = gathered(alloc.clone()?, setup, events)?;
+    in_order(alloc.clone()?, &requests)
+}
+
+/// The requests that wait after the events, by their ids.
+fn gathered<A: Allocator + Clone>(
+    alloc: A,
+    setup: Setup,
+    events: &[Event<A>],
+) -> Result<BTreeMap<u64, Request<A>, A>, AllocError>
+    requires { IsLegalTrace setup (map happened events.now) }
+    ensures { IfOk result (λ m. (id : ℕ) → get nat_cmp m id ≡ waiting_bios setup (map happened events.now) id) }
+{
+    let limits = setup.limits();
+    let mut requests = BTreeMap::new(alloc);
+    for event in events {
+        gather(&mut requests, event, &limits)?;
+    }
+    Ok(requests)
+}
+
+/// Takes account of one more event.
+fn gather<A: Allocator + Clone>(
+    requests: &mut BTreeMap<u64, Request<A>, A>,
+    event: &Event<A>,
+    limits: &Limits,
+) -> Result<(), AllocError>
+    requires { Takes limits.now (get nat_cmp requests.old) (happened event.now) }
+    ensures { OnOk result ((id : ℕ) → get nat_cmp requests.new id ≡ with_event (get nat_cmp requests.old) (happened event.now) id) }
+{
+    match event {
+        Event::Tick => Ok(()),
+        Event::Release { id, request } => put(requests, *id, request.copy()?),
+        Event::Join { id, request } => join(requests, *id, request.copy()?, limits),
+        Event::Issue { id, .. } => {
+            requests.remove(id);
+            Ok(())
+        }
+        Event::Done { .. } => Ok(()),
+    }
+}
+
+/// Puts a request under an id.
+fn put<A: Allocator + Clone>(
+    requests: &mut BTreeMap<u64, Request<A>, A>,
+    id: u64,
+    request: Request<A>,
+) -> Result<(), AllocError>
+    ensures { OnOk result ((i : ℕ) → get nat_cmp requests.new i ≡ cond (id == i) (Some request) (get nat_cmp requests.old i)) }
+{
+    match requests.insert(id, request) {
+        Ok(_) => Ok(()),
+        Err(_) => Err(AllocError),
+    }
+}
+
+/// Joins a newcomer to the request of an id, which it fits.
+fn join<A: Allocator + Clone>(
+    requests: &mut BTreeMap<u64, Request<A>, A>,
+    id: u64,
+    newcomer: Request<A>,
+    limits: &Limits,
+) -> Result<(), AllocError>
+    requires { FitsUnder limits.now (get nat_cmp requests.old id) newcomer }
+    ensures { OnOk result ((i : ℕ) → get nat_cmp requests.new i ≡ cond (id == i) (option_map (λ bios. join_up bios newcomer) (get nat_cmp requests.old id)) (get nat_cmp requests.old i)) }
+{
+    let Some(request) = requests.get_mut(&id) else {
+        unreachable!()
+    };
+    match request.join(newcomer, limits) {
+        Ok(_) => Ok(()),
+        Err((_, JoinFault::Memory)) => Err(AllocError),
+        Err((_, JoinFault::Direction)) => unreachable!(),
+        Err((_, JoinFault::Apart)) => unreachable!(),
+        Err((_, JoinFault::Sectors)) => unreachable!(),
+        Err((_, JoinFault::Segments)) => unreachable!(),
+    }
+}
+
+/// The bios of all the requests, by rising id.
+fn in_order<A: Allocator + Clone>(
+    alloc: A,
+    requests: &BTreeMap<u64, Request<A>, A>,
+) -> Result<Vec<Bio, A>, AllocError>
+    ensures bios { IfOk result (λ v. v.items ≡ flat_map (λ bios. bios) (values requests.now)) }
+    ensures ordered { IsOrdered nat_cmp requests.now }
+{
+    let mut bios = Vec::new(alloc);
+    for request in requests.values() {
+        bios.extend_from_slice(request.bios())?;
+    }
+    Ok(bios)
+}
