@@ -74,14 +74,15 @@ pub record Reached (old new : CoreState) : Type 0 where
   pub rounds : ℕ
   pub ticks : round_of new.events ≡ round_of old.events + rounds
 
--- after a part of a drain the core refuses a request
+-- after a part of a drain the core refuses a request; which part and which request is left open
 pub record IsDrainRefused (core : CoreState) (hw : ℕ) (w : SimWhy) : Type 0 where
   pub middle : CoreState
   pub reached : Reached core middle
   pub bios : List Bio
   pub refused : IsReleaseRefused middle bios hw w
 
--- after a part of a run the core refuses a request, an issue under a tag that was not used in the round, or a tick
+-- after a part of a run the core refuses a request, an issue under a tag that was not used in the round, or a tick; which
+-- part is left open
 pub record IsRunRefused (core : CoreState) (w : SimWhy) : Type 0 where
   pub middle : CoreState
   pub reached : Reached core middle
@@ -115,7 +116,8 @@ IsStepAccepted plugs core (line.Done tag) = IsInFlight core tag
 IsStepAccepted plugs core line.Tick = CanTick core
 IsStepAccepted plugs core (line.Run n) = Unit {0}
 
--- the steps before a place were run: each bio is where they leave it, and so many rounds have passed
+-- a state in which each bio is where the steps before a place leave it, and as many rounds have passed as they end.
+-- Which commands were issued and done in it, and how bios stand together in requests, is left open
 pub record Before (setup : Setup) (lines : List Line) (place : ℕ) : Type 0 where
   pub plugs : List Plug
   pub queues : List Queue
@@ -127,16 +129,16 @@ pub record Before (setup : Setup) (lines : List Line) (place : ℕ) : Type 0 whe
   pub same_setup : core.setup ≡ setup
   pub ticks : round_of core.events ≡ sum_by ticks_of (take place lines)
 
--- the step at a place is refused, after those before it were run
+-- the step at a place is refused in such a state
 abbrev pub IsRefusedAt : Setup → List Line → ℕ → SimWhy → Type 0
 IsRefusedAt setup lines place w = (b : Before setup lines place) × IsStepRefused b.plugs b.queues b.core b.line w
 
--- the step at a place is accepted, after those before it were run
+-- the step at a place is accepted in such a state
 abbrev pub IsAcceptedAt : Setup → List Line → ℕ → Type 0
 IsAcceptedAt setup lines place = (b : Before setup lines place) × IsStepAccepted b.plugs b.core b.line
 
--- the fault stands at the record of the first refused step, or, for want of memory before the first step, at that of
--- the setup
+-- the fault stands at the record of a step that is refused for its reason in a state that the steps before it may leave,
+-- or, for want of memory before the first step, at that of the setup
 abbrev pub IsSimFault : Setup → List Line → SimFault → Type 0
 IsSimFault setup lines fault =
     ((fault.at ≡ 2) × (fault.why ≡ why.Memory))
