@@ -173,6 +173,8 @@ fn read_bound<R: Read + Drop>(
     ensures ok { IfOk result (λ b. Took (λ row. row ≡ bound_row b) records.old.left records.new.left) }
     // also where the reader's bytes are not known
     ensures range { IfOk result (IsBound count) }
+    // at the record that was asked for last: none was read past it
+    ensures last { IfErr result (λ f. f.at ≡ records.new.at) }
     ensures err { IfErr result (λ f. IfSome records.old.left (λ rows. IsOutside f.why ⊎ ((f.at ≡ 2) × BoundMissing count rows f.why))) }
 {
     match records.advance() {
@@ -193,6 +195,8 @@ fn read_certificate_title<R: Read + Drop>(records: &mut Records<R>) -> Result<(u
     ensures ok { IfOk result (λ t. Took (λ row. row ≡ title_row t.0 t.1) records.old.left records.new.left) }
     // also where the reader's bytes are not known
     ensures range { IfOk result (λ t. (1 ≤ t.0) × (t.0 ≤ 64) × (t.1 ≤ 1_000_000)) }
+    // at the record that was asked for last: none was read past it
+    ensures last { IfErr result (λ f. f.at ≡ records.new.at) }
     ensures err { IfErr result (λ f. IfSome records.old.left (λ rows. IsOutside f.why
         ⊎ ((f.at ≡ 1) × TitleMissing (codes "blk-certificate") title_slots rows f.why))) }
 {
@@ -243,6 +247,8 @@ pub fn read_certificate_from<R: Read + Drop>(
     requires { records.old.at ≡ 0 }
     ensures ok { IfOk result (λ c. IfSome records.old.left (λ rows. SpellsClaim rows (claimed c))) }
     ensures in_range { IfOk result (λ c. IsClaim (claimed c)) }
+    // at the record that was asked for last: none was read past it
+    ensures last { IfErr result (λ f. f.at ≡ records.new.at) }
     ensures err { IfErr result (λ f. IfSome records.old.left (λ rows.
         IsOutside f.why ⊎ ClaimFault rows f.at f.why)) }
     ensures reads { records.new.at ≤ 1_000_003 }

@@ -71,6 +71,8 @@ pub fn read_commands_from<R: Read + Drop>(
     requires { records.old.at ≡ 0 }
     ensures ok { IfOk result (λ v. IfSome records.old.left (λ rows. SpellsCommands rows v.0 v.1.items)) }
     ensures in_range { IfOk result (λ v. AreCommands v.0 v.1.items) }
+    // at the record that was asked for last: none was read past it
+    ensures last { IfErr result (λ f. f.at ≡ records.new.at) }
     ensures err { IfErr result (λ f. IfSome records.old.left (λ rows.
         IsOutside f.why ⊎ CommandsFault rows f.at f.why)) }
     ensures reads { records.new.at ≤ 1_000_002 }

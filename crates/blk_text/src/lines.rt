@@ -83,6 +83,8 @@ where
     requires { records.old.at + most_of extent < 2 ^ 64 - 1 }
     ensures ok { IfOk result (λ v. IfSome records.old.left (λ rows.
         AreLines (F.row_of form.now) (F.Fits form.now) extent rows v.items)) }
+    // at the record that was asked for last: none was read past it
+    ensures last { IfErr result (λ f. f.at ≡ records.new.at) }
     ensures err { IfErr result (λ f. IfSome records.old.left (λ rows. IsOutside f.why
         ⊎ ((place : ℕ) × (f.at ≡ records.old.at + place)
         × LinesWrong (F.row_of form.now) (F.Fits form.now) (F.Refused form.now) extent rows place f.why))) }
@@ -147,6 +149,8 @@ pub fn read_title<R: Read + Drop>(
     ensures spells { IfOk result (λ numbers. (row : Row) × FieldsSpell slots.now row numbers) }
     ensures ok { IfOk result (λ numbers. Took
         (λ row. IsTitled name.now row × FieldsSpell slots.now row numbers) records.old.left records.new.left) }
+    // at the record that was asked for last: none was read past it
+    ensures last { IfErr result (λ f. f.at ≡ records.new.at) }
     ensures err { IfErr result (λ f. IfSome records.old.left (λ rows. IsOutside f.why
         ⊎ ((f.at ≡ 1) × TitleMissing name.now slots.now rows f.why))) }
 {

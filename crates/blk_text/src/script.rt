@@ -223,6 +223,8 @@ fn read_script_title<R: Read + Drop>(records: &mut Records<R>) -> Result<Title, 
     ensures ok { IfOk result (λ t. Took (λ row. row ≡ title_row t) records.old.left records.new.left) }
     // also where the reader's bytes are not known
     ensures title { IfOk result (λ t. IsTitle t × (t.hw ≤ t.submitters)) }
+    // at the record that was asked for last: none was read past it
+    ensures last { IfErr result (λ f. f.at ≡ records.new.at) }
     ensures err { IfErr result (λ f. IfSome records.old.left (λ rows. IsOutside f.why
         ⊎ ((f.at ≡ 1) × (TitleMissing (codes "blk-script") title_slots rows f.why ⊎ FewSubmitters rows f.why)))) }
 {
@@ -261,6 +263,8 @@ pub fn read_script_from<R: Read + Drop>(
     requires { records.old.at ≡ 0 }
     ensures ok { IfOk result (λ s. IfSome records.old.left (λ rows. SpellsScript rows (scripted s))) }
     ensures in_range { IfOk result (λ s. IsScript (scripted s)) }
+    // at the record that was asked for last: none was read past it
+    ensures last { IfErr result (λ f. f.at ≡ records.new.at) }
     ensures err { IfErr result (λ f. IfSome records.old.left (λ rows.
         IsOutside f.why ⊎ ScriptFault rows f.at f.why)) }
     ensures reads { records.new.at ≤ 1_000_001 }

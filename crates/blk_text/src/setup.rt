@@ -81,6 +81,8 @@ pub fn read_setup<R: Read + Drop>(
     ensures ok { IfOk result (λ s. Took (λ row. SpellsSetup depth hw row s) records.old.left records.new.left) }
     // also where the reader's bytes are not known
     ensures whole { IfOk result (λ s. (s.depth ≡ depth) × (s.hw ≡ hw) × IsWholeSetup s) }
+    // at the record that was asked for last: none was read past it
+    ensures last { IfErr result (λ f. f.at ≡ records.new.at) }
     ensures err { IfErr result (λ f. IfSome records.old.left (λ rows. IsOutside f.why ⊎ ((f.at ≡ 2) × SetupMissing rows f.why))) }
 {
     match records.advance() {
