@@ -12,7 +12,7 @@ use blk_trace::event::Event;
 use blk_trace::setup::Setup;
 use blk_trace::trace::Trace;
 use edd_check::Window;
-use std::alloc::Global;
+use std::alloc::{AllocError, Global};
 use std::io;
 use std::io::{ErrorKind, Read, Write};
 use std::test::Fail;
@@ -317,6 +317,29 @@ fn again(alloc: Global, text: &[u8]) -> Result<Vec<u8>, Fail> {
     let (depth, commands) = read_commands(alloc, text)?;
     write_commands(alloc, depth, commands.as_slice(), &mut out)?;
     Ok(out)
+}
+
+// A text of a beginning and then one line so many times.
+fn repeated(alloc: Global, head: &[u8], line: &[u8], count: u64) -> Result<Vec<u8>, AllocError> {
+    let mut text = Vec::from_slice(alloc, head)?;
+    for _ in 0..count {
+        text.extend_from_slice(line)?;
+    }
+    Ok(text)
+}
+
+#[test]
+fn one_record_past_the_greatest_number(rt: HostRuntime) -> Result<(), Fail> {
+    let alloc = rt.alloc();
+    let why = Why::TooLong;
+    let text = repeated(alloc, b"blk-commands,1,1\n", b"1,0,0\n", 1_000_001)?;
+    let commands = read_commands(alloc, text.as_slice());
+    assert!(rt; commands.err() == Some(TextFault { at: 1_000_002, why }));
+    let head = b"blk-script,1,1,1,1,1\nsetup,5,50,256,128,\n";
+    let text = repeated(alloc, head, b"tick,,,,,\n", 999_999)?;
+    let script = read_script(alloc, text.as_slice());
+    assert!(rt; script.err() == Some(TextFault { at: 1_000_001, why }));
+    Ok(())
 }
 
 #[test]
