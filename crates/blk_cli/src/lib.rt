@@ -5,11 +5,11 @@ ghost use Rattle.std.specs.Prelude.{◌≡◌, ◌≢◌, ◌≤◌, ◌∷◌, 
 ghost use Rattle.blk_text.specs.Sources.{input_of};
 ghost use Rattle.blk_cli.specs.Outcome.{CheckRead, OracleWrote, SimWrote};
 
-pub mod failure;
-pub mod jobs;
+mod failure;
+mod jobs;
 pub mod laws;
 pub mod sim;
-pub mod words;
+mod words;
 
 use crate::failure::Failure;
 use crate::jobs::{check_certificate, simulate_script, solve_commands};

@@ -3,3 +3,4 @@ mod Repeats
 mod Waits
 mod Flights
 mod Ties
+mod Seated

@@ -1,5 +1,5 @@
 -- A trace to which an event was added, and what that leaves of its list.
-use Rattle.std.proofs.Common.{◌≡◌, ◌∙◌, sym, ap, subst, refl, inl, inr, ℕ, ◌+◌, ◌≤◌, ◌<◌, zero, suc, arith, List, [], ◌∷◌, ◌++◌, length, Option, Some, None, ◌⊎◌}
+use Rattle.std.proofs.Common.{◌≡◌, ◌∙◌, sym, ap, subst, refl, inl, inr, ℕ, ◌+◌, ◌≤◌, zero, suc, arith, List, [], ◌∷◌, ◌++◌, length, Some, None, ◌⊎◌}
 use Rattle.std.specs.List.{slice_get}
 use Rattle.blk_bio.specs.Bios.{Bio}
 use Rattle.blk_trace.specs.declared.trace.Prepared.{Prepared}
@@ -7,7 +7,7 @@ use Rattle.blk_trace.specs.Setups.{Setup}
 use Rattle.blk_trace.specs.Happened.{Happened, Ticked, Released, Joined, Issued, Finished}
 use Rattle.blk_trace.specs.declared.rule.PushFault.{PushFault}
 use Rattle.blk_trace.specs.declared.rule.PushFault.TheVariants as push_fault
-use Rattle.blk_trace.specs.Events.{At, open_count}
+use Rattle.blk_trace.specs.Events.{open_count}
 use Rattle.blk_trace.specs.Legal.{IsLegalTrace}
 use Rattle.blk_trace.specs.Meaning.{released_ids}
 use Rattle.blk_trace.specs.Standing.{released_count, IsAllowed, places_of}

@@ -1,5 +1,5 @@
 -- Ids that stand once in a list of bios.
-use Rattle.std.proofs.Common.{◌≡◌, ◌∙◌, sym, ap, subst, refl, inl, inr, ℕ, ◌+◌, ◌≤◌, ◌<◌, zero, suc, arith, List, [], ◌∷◌, ◌++◌, length, Option, Some, None, ◌⊎◌, append_assoc}
+use Rattle.std.proofs.Common.{◌≡◌, ◌∙◌, sym, ap, subst, refl, inl, inr, ℕ, ◌+◌, ◌≤◌, zero, suc, arith, List, [], ◌∷◌, ◌++◌, length, Some, None, ◌⊎◌, append_assoc}
 use Rattle.std.proofs.Math.ListN.{take}
 use Rattle.std.specs.List.{slice_get}
 use Rattle.blk_bio.specs.declared.bio.BioId.{BioId}

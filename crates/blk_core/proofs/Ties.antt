@@ -1,6 +1,6 @@
 -- Each event keeps the core tied to its trace.
-use Rattle.std.proofs.Common.{◌≡◌, ◌≢◌, ◌∙◌, sym, ap, subst, refl, inl, inr, ℕ, ◌+◌, ◌-◌, ◌*◌, ◌≤◌, ◌<◌, ◌^◌, arith, Bool, true, false, cond, List, [], ◌∷◌, ◌++◌, length, length-append, Option, Some, None, IsTrue, is_some, get_or, sum_by, set, ◌⊎◌, ◌==◌}
-use Rattle.std.proofs.lemmas.List.{length-set, get_or-replicate}
+use Rattle.std.proofs.Common.{◌≡◌, ◌≢◌, ◌∙◌, sym, ap, subst, refl, inl, inr, ℕ, ◌+◌, ◌*◌, ◌≤◌, ◌<◌, arith, Bool, true, false, cond, List, [], ◌∷◌, ◌++◌, length, length-append, Option, Some, None, get_or, sum_by, set, ◌⊎◌, ◌==◌}
+use Rattle.std.proofs.lemmas.List.{length-set}
 use Rattle.std.proofs.lemmas.List.Sums.{sum_by-set}
 use Rattle.std.proofs.lemmas.List.Folds.{sum_by-replicate}
 use Rattle.std.proofs.Math.ListN.{replicate, length-replicate}
@@ -15,12 +15,12 @@ use Rattle.blk_bio.specs.Limits.{Limits}
 use Rattle.blk_bio.specs.Requests.{dir_of}
 use Rattle.blk_trace.specs.Setups.{Setup, IsSetup, expire_of}
 use Rattle.blk_trace.specs.Happened.{Happened, Released, Joined, Issued, Finished, Ticked}
-use Rattle.blk_trace.specs.Events.{At, round_of, entered, AreOnce, open_count, join_up, IsReleased}
+use Rattle.blk_trace.specs.Events.{At, round_of, entered, AreOnce, open_count, join_up}
 use Rattle.blk_trace.specs.Meaning.{commands_of, released_ids, issued_ids, waiting_ids, rising}
-use Rattle.blk_trace.specs.Standing.{Entered, Seat, IsAllowed, waits_at, waiting_count, seat_at, open_of, same_dir, released_count, this_round}
+use Rattle.blk_trace.specs.Standing.{Seat, IsAllowed, waits_at, waiting_count, seat_at, open_of, same_dir, released_count, this_round}
 use Rattle.blk_sched.specs.Meaning.{Waiting, Meaning, Pending, Joins, Picks, opened, joined_waiting}
 use Rattle.blk_core.specs.declared.Flight.{Flight}
-use Rattle.blk_core.specs.State.{IsTied, HoldsWhatWaits, entered_of, seat_of, flying}
+use Rattle.blk_core.specs.State.{IsTied, entered_of, seat_of, flying}
 use Rattle.blk_core.proofs.Pushed.{IsPushed, get_more, released-released, released-joined, released-issued, released-finished, released-ticked}
 use Rattle.blk_core.proofs.Waits.{agree_given, agree_taken, len_new, len_given, len_taken, still_absent, still_none, joined_up}
 use Rattle.blk_core.proofs.Flights.{few_fly, opened_reads, opened_writes, seats_set, queues_set, nothing_in, never, nobody}

@@ -1,9 +1,9 @@
 -- Why a core refuses a call.
-use Rattle.std.specs.Prelude.{ℕ, ◌+◌, ◌≡◌, ◌≤◌, ◌<◌, ◌++◌, true, List, Option, None, Some, length, IsSome}
+use Rattle.std.specs.Prelude.{ℕ, ◌+◌, ◌≡◌, ◌≤◌, ◌<◌, ◌++◌, true, List, None, Some, length, IsSome}
 use Rattle.blk_bio.specs.declared.bio.Dir.{Dir}
 use Rattle.blk_bio.specs.Bios.{Bio}
 use Rattle.blk_trace.specs.Events.{entered, open_count, AreOnce}
-use Rattle.blk_trace.specs.Standing.{Seat, seat_at}
+use Rattle.blk_trace.specs.Standing.{seat_at}
 use Rattle.blk_core.specs.Ids.{IsFirstRepeated}
 use Rattle.blk_core.specs.State.{CoreState}
 use Rattle.blk_core.specs.declared.CoreFault.{CoreFault}

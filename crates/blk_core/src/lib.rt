@@ -11,6 +11,8 @@ ghost use Rattle.blk_trace.specs.Setups.{expire_of};
 ghost use Rattle.blk_trace.specs.declared.trace.Prepared.{Prepared};
 ghost use Rattle.blk_core.specs.Ids.{HasId, IsFirstRepeated};
 
+pub mod laws;
+
 use blk_bio::bio::{Bio, BioId, Dir};
 use blk_bio::request::{Request, Side};
 use blk_sched::{JoinRefusal, Queued, Scheduler};

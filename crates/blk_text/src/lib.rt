@@ -5,12 +5,12 @@ pub mod certificate;
 pub mod commands;
 mod draft;
 pub mod fault;
-pub mod fields;
+mod fields;
 pub mod laws;
-pub mod lines;
+mod lines;
 pub mod script;
-pub mod setup;
-pub mod source;
+mod setup;
+mod source;
 #[cfg(test)]
 mod tests;
 pub mod trace;

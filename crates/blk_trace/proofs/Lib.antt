@@ -24,3 +24,4 @@ pub mod Joining
 pub mod Keeping
 pub mod Gathering
 pub mod Rising
+mod Timing

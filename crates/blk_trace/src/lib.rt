@@ -3,6 +3,7 @@
 
 pub mod event;
 mod known;
+pub mod laws;
 pub mod rule;
 pub mod setup;
 mod tags;

@@ -1,9 +1,9 @@
-use Rattle.std.proofs.Common.{rules, ◌≡◌, ◌∙◌, sym, ap, subst, refl, ℕ, ◌+◌, ◌<◌, [], ◌∷◌, ◌++◌, arith, Some, None, length, get_or, IsTrue, List, append_assoc}
+use Rattle.std.proofs.Common.{rules, ◌≡◌, sym, subst, refl, ◌++◌, Some, length}
 use Rattle.std.proofs.Math.ListN.{take}
 use Rattle.std.specs.List.{slice_get}
 use Rattle.std.proofs.lemmas.Option.{slice_get_read}
 use Rattle.blk_trace.specs.Events.{entered, AreOnce}
-use Rattle.blk_core.specs.Ids.{HasId, IsFirstRepeated}
+use Rattle.blk_core.specs.Ids.{HasId}
 use Rattle.blk_core.proofs.Repeats.{has_left, has_right, has_neither, one_taken, take_all}
 use Rattle.blk_core.proofs.first_repeated.Goals as goal
 use Rattle.blk_core.proofs.first_repeated.Goals.{then-has_bio-via-then-has_bio, then-has_bio-via-else-has_bio+then-stands_in}

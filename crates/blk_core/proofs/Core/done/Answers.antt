@@ -1,4 +1,4 @@
-use Rattle.std.proofs.Common.{rules, ◌≡◌, ◌∙◌, sym, ap, subst, refl, ℕ, ◌<◌, ◌≤◌, None, length, true, false}
+use Rattle.std.proofs.Common.{rules, ◌≡◌, ◌∙◌, sym, ◌<◌, ◌≤◌, None, length, true, false}
 use Rattle.blk_trace.specs.Happened.{Finished}
 use Rattle.blk_trace.specs.Standing.{seat_at}
 use Rattle.blk_core.proofs.Pushed.{pushed_at_once}

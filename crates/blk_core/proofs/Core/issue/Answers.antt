@@ -1,4 +1,4 @@
-use Rattle.std.proofs.Common.{rules, ◌≡◌, ◌∙◌, sym, ap, subst, refl, ℕ, ◌<◌, ◌++◌, ◌∷◌, [], arith, None, length, get_or, true}
+use Rattle.std.proofs.Common.{rules, ◌∙◌, sym, refl, ◌<◌, arith, length, true}
 use Rattle.blk_trace.specs.Happened.{Issued}
 use Rattle.blk_sched.specs.Meaning.{Waiting, Picks, ServesNothing}
 use Rattle.blk_core.specs.declared.Flight.{Flight}

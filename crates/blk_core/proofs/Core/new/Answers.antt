@@ -1,4 +1,4 @@
-use Rattle.std.proofs.Common.{◌≡◌, ◌∙◌, refl, ap, None, sym}
+use Rattle.std.proofs.Common.{◌≡◌, ◌∙◌, refl, ap, None}
 use Rattle.std.proofs.Math.ListN.{replicate}
 use Rattle.blk_trace.specs.Traces.{Traced}
 use Rattle.blk_core.proofs.Ties.{tied_new}

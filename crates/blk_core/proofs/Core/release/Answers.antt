@@ -1,13 +1,12 @@
-use Rattle.std.proofs.Common.{rules, ◌≡◌, ◌∙◌, sym, ap, subst, refl, ℕ, ◌+◌, ◌++◌, arith, length}
+use Rattle.std.proofs.Common.{◌≡◌, ◌∙◌, sym, ap, subst, refl, ◌+◌, ◌++◌, arith}
 use Rattle.std.specs.FinMap as map
-use Rattle.blk_bio.specs.Limits.{Limits}
 use Rattle.blk_bio.specs.Requests.{dir_of, IsWithin}
 use Rattle.blk_trace.specs.Setups.{Setup, expire_of}
 use Rattle.blk_trace.specs.Happened.{Joined, Released}
 use Rattle.blk_trace.specs.Events.{entered, AreOnce, round_of}
 use Rattle.blk_trace.specs.Traces.{Traced}
-use Rattle.blk_sched.specs.Meaning.{Meaning, Waiting, Joins}
-use Rattle.blk_core.specs.State.{CoreState, entered_of}
+use Rattle.blk_sched.specs.Meaning.{Meaning, Waiting}
+use Rattle.blk_core.specs.State.{CoreState}
 use Rattle.blk_core.specs.Faults.{CanRelease}
 use Rattle.blk_core.proofs.Pushed.{pushed, not_refused}
 use Rattle.blk_core.proofs.Ties.{join_allowed, tied_join, tied_release, joins_at, entered_at}

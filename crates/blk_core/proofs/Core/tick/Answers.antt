@@ -1,4 +1,4 @@
-use Rattle.std.proofs.Common.{◌≡◌, ◌∙◌, sym, ap, refl, ℕ, arith, None, length}
+use Rattle.std.proofs.Common.{◌≡◌, ◌∙◌, sym, ap, arith, None, length}
 use Rattle.std.proofs.Math.ListN.{replicate}
 use Rattle.blk_trace.specs.Happened.{Ticked}
 use Rattle.blk_trace.specs.Events.{open_count}

@@ -1,4 +1,4 @@
-use Rattle.std.proofs.Common.{rules, ◌≡◌, sym, ap, subst}
+use Rattle.std.proofs.Common.{rules}
 use Rattle.blk_trace.proofs.Scheduling.{legal-schedule}
 use Rattle.blk_trace.proofs.Accounting.{accounted}
 use Rattle.blk_core.proofs.Core.trace.Goals as goal
