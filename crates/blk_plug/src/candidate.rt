@@ -9,6 +9,7 @@ use blk_bio::bio::Bio;
 use blk_bio::limits::Limits;
 use blk_bio::request::{Request, Side};
 use std::alloc::Allocator;
+use std::collections::VecDeque;
 
 /// Whether the bio has the request's direction and is within the limits together with it.
 fn may_grow<A: Allocator + Clone>(request: &Request<A>, bio: &Bio, limits: &Limits) -> bool
@@ -60,8 +61,8 @@ fn side_of<A: Allocator + Clone>(request: &Request<A>, bio: &Bio, limits: &Limit
     None
 }
 
-/// The place of the newest request that the bio fits, and the side, in requests listed from the oldest to the newest.
-pub fn candidate<A: Allocator + Clone>(
+/// The place of the newest request that the bio fits, and the side, in a slice of requests.
+fn candidate_of<A: Allocator + Clone>(
     requests: &[Request<A>],
     bio: &Bio,
     limits: &Limits,
@@ -77,4 +78,20 @@ pub fn candidate<A: Allocator + Clone>(
         }
     }
     None
+}
+
+/// The place of the newest request that the bio fits, and the side, in requests listed from the oldest to the newest.
+pub fn candidate<A: Allocator + Clone>(
+    requests: &VecDeque<Request<A>, A>,
+    bio: &Bio,
+    limits: &Limits,
+) -> Option<(usize, Side)>
+    ensures some { IfSome result (λ found. IsJoinCandidate limits.now true requests.now.items (bio.now ∷ []) found.0 found.1) }
+    ensures none { IfNone result (HasNoCandidate limits.now requests.now.items (bio.now ∷ [])) }
+{
+    let (older, newer) = requests.as_slices();
+    if let Some((place, side)) = candidate_of(newer, bio, limits) {
+        return Some((older.len() + place, side));
+    }
+    candidate_of(older, bio, limits)
 }

@@ -12,6 +12,7 @@ use blk_bio::bio::Bio;
 use blk_bio::limits::Limits;
 use blk_bio::request::{Request, Side};
 use std::alloc::{AllocError, Allocator, Global};
+use std::collections::VecDeque;
 use std::marker::Model;
 use thiserror::Error;
 
@@ -43,7 +44,7 @@ pub enum PlugFault {
 #[derive(Debug, Drop)]
 pub struct Plug<A: Allocator = Global> {
     limits: Limits,
-    requests: Vec<Request<A>, A>,
+    requests: VecDeque<Request<A>, A>,
 }
 
 impl<A: Allocator> Model for Plug<A> {
@@ -61,7 +62,7 @@ impl<A: Allocator + Clone> Plug<A> {
     pub fn new(alloc: A, limits: Limits) -> Result<Plug<A>, AllocError>
         ensures { IfOk result (λ plug. plug ≡ record { limits = limits; requests = [] }) }
     {
-        let requests = Vec::with_capacity(alloc, PLUG_REQUESTS)?;
+        let requests = VecDeque::with_capacity(alloc, PLUG_REQUESTS)?;
         Ok(Plug { limits, requests })
     }
 
@@ -74,7 +75,7 @@ impl<A: Allocator + Clone> Plug<A> {
         // each bio of the plug stands in it once more as often as it did, and the added one once more
         ensures kept { OnOk result (IsPermutation (bio ∷ bios_of self.old) (bios_of self.new)) }
     {
-        let found = candidate(self.requests.as_slice(), &bio, &self.limits);
+        let found = candidate(&self.requests, &bio, &self.limits);
         let Some((place, side)) = found else {
             if self.requests.len() >= PLUG_REQUESTS {
                 return Err((bio, PlugFault::Full));
@@ -111,7 +112,7 @@ impl<A: Allocator + Clone> Plug<A> {
         ensures value { option_copied result ≡ slice_get self.now.requests 0 }
         ensures is_plug { IsPlug self.now }
     {
-        self.requests.first()
+        self.requests.front()
     }
 
     /// Takes its oldest request out, which is one bio or within the limits. There is none exactly where it has no
@@ -122,16 +123,13 @@ impl<A: Allocator + Clone> Plug<A> {
         ensures none { IfNone result (self.old.requests ≡ []) }
         ensures same { IfNone result (self.new ≡ self.old) }
     {
-        if self.requests.is_empty() {
-            return None;
-        }
-        Some(self.requests.remove(0))
+        self.requests.pop_front()
     }
 }
 
 /// Adds a request of one bio.
 fn append<A: Allocator + Clone>(
-    requests: &mut Vec<Request<A>, A>,
+    requests: &mut VecDeque<Request<A>, A>,
     bio: Bio,
 ) -> Result<(), AllocError>
     ensures ok { OnOk result (requests.new.items ≡ requests.old.items ++ (bio ∷ []) ∷ []) }
@@ -141,7 +139,7 @@ fn append<A: Allocator + Clone>(
     let Ok(request) = Request::of(alloc, bio) else {
         return Err(AllocError);
     };
-    let Ok(()) = requests.push(request) else {
+    let Ok(()) = requests.push_back(request) else {
         return Err(AllocError);
     };
     Ok(())
@@ -149,7 +147,7 @@ fn append<A: Allocator + Clone>(
 
 /// Joins a bio to the request that it is to join.
 fn join_at<A: Allocator + Clone>(
-    requests: &mut Vec<Request<A>, A>,
+    requests: &mut VecDeque<Request<A>, A>,
     place: usize,
     side: Side,
     bio: Bio,

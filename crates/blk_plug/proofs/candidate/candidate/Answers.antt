@@ -1,21 +1,13 @@
-use Rattle.std.proofs.Common.{arith, ◌≡◌, ◌∷◌, [], ◌-◌, length, refl}
-use Rattle.std.proofs.lemmas.Option.{slice_get_read}
-use Rattle.blk_bio.specs.declared.request.Side.TheVariants.{Back}
-use Rattle.blk_plug.proofs.Joining.{all_tried, none_from_here}
+use Rattle.std.proofs.Common.{◌∷◌, []}
+use Rattle.std.proofs.lemmas.Option.{IfSome_then}
+use Rattle.blk_plug.proofs.Slices.{candidate_newer, candidate_older, none_both, none_then}
 use Rattle.blk_plug.proofs.candidate.candidate.Goals as goal
 
 pub returns-in-Some-clause-some : goal.returns-in-Some-clause-some
-returns-in-Some-clause-some g c = record {
-  bios = c.index-requests-place.result;
-  stands = slice_get_read c.args.requests.now (length c.args.requests.now) (c.loop-place.place - 1) c.index-requests-place.result refl (omega arith) c.index-requests-place.is;
-  tried = all_tried c.in-Some.side;
-  fits = c.in-Some.ensures.some;
-  back_first = λ front back. let same : Back ≡ c.in-Some.side = c.in-Some.ensures.only Back back in absurd (cc);
-  newest = λ k newer s above stands tried fits. c.loop-place.invariant.none_newer k newer s (omega arith) stands fits;
-}
+returns-in-Some-clause-some g c = candidate_newer c.args.limits.now c.as_slices.result.0.now c.as_slices.result.1.now c.args.requests.now.items (c.args.bio.now ∷ []) c.in-Some.place c.in-Some.side c.as_slices.ensures.items c.in-Some.ensures.some
 
-pub loop-place-preserved : goal.loop-place-preserved
-loop-place-preserved g c = record {
-  within = omega arith;
-  none_newer = none_from_here c.args.limits.now c.args.requests.now (c.args.bio.now ∷ []) c.loop-place.place (c.loop-place.place - 1) c.index-requests-place.result (omega arith) (omega arith) c.index-requests-place.is c.loop-place.invariant.none_newer c.in_default.ensures.none;
-}
+pub returns-clause-some : goal.returns-clause-some
+returns-clause-some g c = IfSome_then c.candidate_of-2.result c.candidate_of-2.ensures.some (λ r best. candidate_older c.args.limits.now c.as_slices.result.0.now c.as_slices.result.1.now c.args.requests.now.items (c.args.bio.now ∷ []) r.0 r.1 c.as_slices.ensures.items c.in_default.ensures.none best)
+
+pub returns-clause-none : goal.returns-clause-none
+returns-clause-none g c = none_then c.candidate_of-2.result _ _ c.candidate_of-2.ensures.none (none_both c.args.limits.now c.as_slices.result.0.now c.as_slices.result.1.now c.args.requests.now.items (c.args.bio.now ∷ []) c.as_slices.ensures.items c.in_default.ensures.none)
