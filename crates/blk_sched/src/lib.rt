@@ -9,8 +9,8 @@ ghost use Rattle.std.specs.FinMap as map;
 ghost use Rattle.blk_bio.specs.Requests.{Fits};
 ghost use Rattle.blk_sched.specs.Meaning.{Waiting, Meaning, HasNoCandidate, Joins, ServesNothing, Picks, joined_waiting, opened, open_of};
 
-pub mod extents;
 pub mod fits;
+pub mod lane;
 
 use blk_bio::bio::Dir;
 use blk_bio::limits::Limits;
