@@ -12,44 +12,40 @@ ghost use Rattle.blk_none.specs.Choice.{serves_own, none_choice};
 use blk_bio::bio::Dir;
 use blk_bio::limits::Limits;
 use blk_bio::request::{Request, Side};
-use blk_sched::extents::{Extent, Extents};
+use blk_sched::lane::Lane;
 use blk_sched::{JoinRefusal, Queued, SchedFault, Scheduler};
 use std::alloc::{AllocError, Allocator, Global};
-use std::collections::BTreeMap;
 use std::marker::Model;
 
 /// How many hardware queues it keeps: 0 to 15.
 const QUEUES: usize = 16;
 
 /// Requests in the order in which they entered, for each hardware queue by itself, as under `none` of Linux blk-mq.
-/// It holds the requests by id, and for each hardware queue the extents of its own.
+/// It holds the requests of each hardware queue in a lane of their own, and how many wait in all.
 #[derive(Drop)]
 pub struct NoneSched<A: Allocator = Global> {
-    requests: BTreeMap<u64, Queued<A>, A>,
-    queues: Vec<Extents<A>, A>,
+    lanes: Vec<Lane<A>, A>,
+    waiting: u64,
     reads: u64,
     writes: u64,
 }
 
 impl<A: Allocator> Model for NoneSched<A> {
     ghost use Rattle.std.specs.Prelude.{true};
-    ghost use Rattle.std.specs.Ordering.{nat_cmp};
-    ghost use Rattle.std.specs.FinMap as map;
-    ghost use Rattle.std.specs.BTreeMap.{get};
     ghost use Rattle.blk_sched.specs.Meaning.{Meaning, meaning_code};
-    ghost use Rattle.blk_none.specs.Kept.{Kept};
+    ghost use Rattle.blk_none.specs.Kept.{Kept, pending_of};
 
     ghost Value = { Meaning };
 
     ghost coded = { meaning_code };
 
     ghost view = { λ s. record {
-      pending = map.from_entries s.requests.entries;
+      pending = pending_of s.lanes.items;
       open_picks = record { reads = s.reads; writes = s.writes };
       front = true;
     } };
 
-    ghost invariant = { λ s. Kept (get nat_cmp s.requests) s.queues.items };
+    ghost invariant = { λ s. Kept s.lanes.items s.waiting };
 }
 
 impl<A: Allocator + Clone> NoneSched<A> {
@@ -59,15 +55,12 @@ impl<A: Allocator + Clone> NoneSched<A> {
         ensures ok { IfOk result (λ s. s ≡ record { pending = map.empty; open_picks = record { reads = 0; writes = 0 }; front = true }) }
         ensures err { IfErr result (λ e. e ≡ SchedFault.Memory) }
     {
-        let Ok(own) = alloc.clone() else {
-            return Err(SchedFault::Memory);
-        };
-        let Ok(queues) = empty_queues(own) else {
+        let Ok(lanes) = empty_lanes(alloc) else {
             return Err(SchedFault::Memory);
         };
         Ok(NoneSched {
-            requests: BTreeMap::new(alloc),
-            queues,
+            lanes,
+            waiting: 0,
             reads: 0,
             writes: 0,
         })
@@ -81,17 +74,12 @@ impl<A: Allocator + Clone> NoneSched<A> {
         ensures err { IfErr result (λ q. q ≡ queued) }
         ensures same { OnErr result (self.new ≡ self.old) }
     {
-        let (id, hw) = (queued.id, queued.hw as usize);
-        let extent = Extent::of(&queued.request);
-        if let Err(refused) = self.requests.insert(id, queued) {
-            return Err(refused.value.1);
-        }
-        let Ok(()) = self.queues[hw].insert(id, extent) else {
-            let Some(returned) = self.requests.remove(&id) else {
-                unreachable!()
-            };
-            return Err(returned);
+        // no memory holds so many requests that their number would be refused here
+        let Some(waiting) = self.waiting.checked_add(1) else {
+            return Err(queued);
         };
+        self.lanes[queued.hw as usize].insert(queued)?;
+        self.waiting = waiting;
         Ok(())
     }
 
@@ -109,20 +97,20 @@ impl<A: Allocator + Clone> NoneSched<A> {
         ensures err { IfErr result (λ e. e.0 ≡ newcomer) }
         ensures same { OnErr result (self.new ≡ self.old) }
     {
-        self.queues[hw as usize].join_newest(&mut self.requests, newcomer, now, limits, true)
+        self.lanes[hw as usize].join_newest(newcomer, now, limits, true)
     }
 }
 
-/// No extents, for each of the hardware queues.
-fn empty_queues<A: Allocator + Clone>(alloc: A) -> Result<Vec<Extents<A>, A>, AllocError>
-    ensures count { IfOk result (λ queues. length queues.items ≡ 16) }
-    ensures empty { IfOk result (λ queues. (hw : ℕ) → slice_index_or queues.items hw [] ≡ []) }
+/// A lane with no request, for each of the hardware queues.
+fn empty_lanes<A: Allocator + Clone>(alloc: A) -> Result<Vec<Lane<A>, A>, AllocError>
+    ensures count { IfOk result (λ lanes. length lanes.items ≡ 16) }
+    ensures empty { IfOk result (λ lanes. (hw : ℕ) → slice_index_or lanes.items hw [] ≡ []) }
 {
-    let mut queues = Vec::with_capacity(alloc.clone()?, QUEUES)?;
+    let mut lanes = Vec::with_capacity(alloc.clone()?, QUEUES)?;
     for _ in 0..QUEUES {
-        queues.push(Extents::new(alloc.clone()?))?;
+        lanes.push(Lane::new(alloc.clone()?))?;
     }
-    Ok(queues)
+    Ok(lanes)
 }
 
 impl<A: Allocator + Clone> Scheduler for NoneSched<A> {
@@ -175,12 +163,10 @@ impl<A: Allocator + Clone> Scheduler for NoneSched<A> {
         ensures own { (w : Waiting) → IsTrue (serves_own w.hw w) }
     {
         let _ = now;
-        let Some(id) = self.queues[hw as usize].pop_first() else {
+        let Some(queued) = self.lanes[hw as usize].pop_first() else {
             return None;
         };
-        let Some(queued) = self.requests.remove(&id) else {
-            unreachable!()
-        };
+        self.waiting -= 1;
         match queued.request.dir() {
             Dir::Read => self.reads += 1,
             Dir::Write => self.writes += 1,
@@ -201,7 +187,7 @@ impl<A: Allocator + Clone> Scheduler for NoneSched<A> {
     }
 
     fn pending(&self) -> u64 {
-        self.requests.len() as u64
+        self.waiting
     }
 
     fn picked(&self, dir: Dir) -> u64 {

@@ -206,6 +206,27 @@ fn by_hardware_queue(rt: HostRuntime) -> Result<(), Fail> {
     Ok(())
 }
 
+/// The ids of two hardware queues lie between one another, and enter out of order: each queue gives its own by rising id.
+#[test]
+fn two_queues_in_turn(rt: HostRuntime) -> Result<(), Fail> {
+    let alloc = rt.alloc();
+    let mut fed = Fed::new(alloc, alloc)?;
+    for id in [4, 0, 2] {
+        give_read(&mut fed, alloc, id, 0, 100 * id)?;
+        give_read(&mut fed, alloc, 5 - id, 3, 100 * (5 - id))?;
+    }
+    assert_eq!(rt; fed.sched.pending(), 6);
+    for id in [0u64, 2, 4] {
+        assert_eq!(rt; taken(&mut fed, 0)?, Some((id, 100 * id, 4)));
+        assert_eq!(rt; fed.sched.pending(), 5 - id);
+        assert_eq!(rt; taken(&mut fed, 3)?, Some((id + 1, 100 * (id + 1), 4)));
+        assert_eq!(rt; fed.sched.pending(), 4 - id);
+    }
+    assert!(rt; taken(&mut fed, 0)?.is_none());
+    assert!(rt; taken(&mut fed, 3)?.is_none());
+    Ok(())
+}
+
 #[test]
 fn newest_is_joined(rt: HostRuntime) -> Result<(), Fail> {
     let alloc = rt.alloc();
