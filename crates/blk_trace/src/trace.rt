@@ -8,7 +8,6 @@ ghost use Rattle.blk_trace.specs.Events.{round_of, open_count};
 ghost use Rattle.blk_trace.specs.Standing.{IsAllowed, places_of};
 ghost use Rattle.blk_trace.specs.Traces.{wanted, IsPreparedFor, IsPushAnswer, HasBio};
 ghost use Rattle.blk_trace.specs.Seen.{happened};
-ghost use Rattle.blk_trace.specs.Kept.{event_room, command_room, request_room, bio_room};
 
 use crate::event::Event;
 use crate::known::Known;
@@ -43,35 +42,6 @@ pub enum Prepared {
     AnIssue,
     /// A Release or a Join of as many bios.
     Bios(u64),
-}
-
-/// How many places an event needs.
-#[derive(Clone, Copy)]
-struct Room {
-    events: usize,
-    commands: usize,
-    requests: usize,
-    bios: usize,
-}
-
-/// The places that what is wanted needs: an Issue needs its own and its Done's.
-fn room_for(wanted: Prepared) -> Room
-    ensures events { result.events ≡ event_room wanted }
-    ensures commands { result.commands ≡ command_room wanted }
-    ensures requests { result.requests ≡ request_room wanted }
-    ensures bios { result.bios ≡ bio_room wanted }
-{
-    let (events, commands, requests, bios) = match wanted {
-        Prepared::Nothing => (0, 0, 0, 0),
-        Prepared::AnIssue => (2, 1, 0, 0),
-        Prepared::Bios(n) => (1, 0, 1, n as usize),
-    };
-    Room {
-        events,
-        commands,
-        requests,
-        bios,
-    }
 }
 
 /// A legal list of events.
@@ -134,6 +104,7 @@ impl<A: Allocator + Clone> Trace<A> {
     /// rule that it breaks, or `Memory` where it breaks none; the trace is then as it was.
     ///
     /// Adding a Done takes no memory, since its Issue reserved the place; nor does adding what was prepared.
+    #[inline(always)]
     pub fn push(&mut self, event: Event<A>) -> Result<(), (Event<A>, PushFault)>
         ensures answer { IsPushAnswer self.old (happened event) self.new result }
         ensures ok { OnOk result ((self.new ≡ record { setup = self.old.setup; events = self.old.events ++ happened event ∷ []; prepared = Prepared.Nothing }) × IsLegalTrace self.old.setup (self.old.events ++ happened event ∷ [])) }
@@ -154,6 +125,7 @@ impl<A: Allocator + Clone> Trace<A> {
     }
 
     /// Makes room for the event, where it was not made before.
+    #[inline(always)]
     fn prepare_for(&mut self, event: &Event<A>) -> Result<(), AllocError>
         ensures ok { OnOk result (IsPreparedFor self.new.prepared (happened event.now) × (self.new.setup ≡ self.old.setup) × (self.new.events ≡ self.old.events)) }
         ensures err { OnErr result ((self.new ≡ self.old) × (IsPreparedFor self.old.prepared (happened event.now) → ⊥)) }
@@ -169,6 +141,7 @@ impl<A: Allocator + Clone> Trace<A> {
 
     /// Makes room for the next push: of a Release or a Join of a request of as many bios, or of an Issue (or a Tick)
     /// where none is given. Fails for want of memory alone.
+    #[inline(always)]
     pub fn prepare(&mut self, request: Option<&Request<A>>) -> Result<(), AllocError>
         ensures ok { OnOk result (self.new ≡ record { setup = self.old.setup; events = self.old.events; prepared = wanted (option_copied request.entry) }) }
         ensures err { OnErr result (self.new ≡ self.old) }
@@ -180,6 +153,7 @@ impl<A: Allocator + Clone> Trace<A> {
     }
 
     /// Makes room for what is wanted, where it was not made before.
+    #[inline(always)]
     fn make_room(&mut self, wanted: Prepared) -> Result<(), AllocError>
         ensures ok { OnOk result (self.new ≡ record { setup = self.old.setup; events = self.old.events; prepared = wanted }) }
         ensures err { OnErr result ((self.new ≡ self.old) × (self.old.prepared ≢ wanted)) }
@@ -187,13 +161,37 @@ impl<A: Allocator + Clone> Trace<A> {
         if self.prepared == wanted {
             return Ok(());
         }
-        let room = room_for(wanted);
-        self.events.reserve(self.open as usize + room.events)?;
-        self.commands.reserve(room.commands)?;
-        self.rounds.reserve(room.commands)?;
-        self.known.reserve(room.requests)?;
-        self.ids.reserve(room.bios)?;
-        self.prepared = wanted;
+        match wanted {
+            Prepared::Nothing => {
+                self.prepared = wanted;
+                Ok(())
+            }
+            Prepared::AnIssue => self.make_room_to_issue(),
+            Prepared::Bios(n) => self.make_room_for_bios(n),
+        }
+    }
+
+    /// Makes room for an Issue with its Done, or for a Tick.
+    fn make_room_to_issue(&mut self) -> Result<(), AllocError>
+        ensures ok { OnOk result (self.new ≡ record { setup = self.old.setup; events = self.old.events; prepared = Prepared.AnIssue }) }
+        ensures err { OnErr result (self.new ≡ self.old) }
+    {
+        self.events.reserve(self.open as usize + 2)?;
+        self.commands.reserve(1)?;
+        self.rounds.reserve(1)?;
+        self.prepared = Prepared::AnIssue;
+        Ok(())
+    }
+
+    /// Makes room for a Release or a Join of as many bios.
+    fn make_room_for_bios(&mut self, bios: u64) -> Result<(), AllocError>
+        ensures ok { OnOk result (self.new ≡ record { setup = self.old.setup; events = self.old.events; prepared = Prepared.Bios bios }) }
+        ensures err { OnErr result (self.new ≡ self.old) }
+    {
+        self.events.reserve(self.open as usize + 1)?;
+        self.known.reserve(1)?;
+        self.ids.reserve(bios as usize)?;
+        self.prepared = Prepared::Bios(bios);
         Ok(())
     }
 

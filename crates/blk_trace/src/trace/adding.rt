@@ -24,6 +24,7 @@ use std::collections::{HashMap, HashSet};
 
 impl<A: Allocator + Clone> Trace<A> {
     /// Adds an event that breaks no rule, and for which there is room.
+    #[inline(always)]
     pub(crate) fn add(&mut self, event: Event<A>)
         requires unbroken { IsUnbroken self.old.setup self.old.events (happened event) }
         requires prepared { IsPreparedFor self.old.prepared (happened event) }
@@ -146,9 +147,7 @@ fn append<T: Drop, A: Allocator>(list: &mut Vec<T, A>, value: T)
     ensures items { list.new.items ≡ list.old.items ++ value ∷ [] }
     ensures room { vec_capacity list.old ≤ vec_capacity list.new }
 {
-    if list.push(value).is_err() {
-        unreachable!();
-    }
+    list.push_reserved(value);
 }
 
 /// Adds the ids of the bios, for which there is room.

@@ -23,6 +23,7 @@ use std::collections::HashSet;
 
 impl<A: Allocator + Clone> Trace<A> {
     /// The first rule that the event would break.
+    #[inline(always)]
     pub(crate) fn first_broken(&self, event: &Event<A>) -> Option<TraceRule>
         ensures some { IfSome result (IsFirstBroken self.now.setup self.now.events (happened event.now)) }
         ensures none { IfNone result (IsUnbroken self.now.setup self.now.events (happened event.now)) }
