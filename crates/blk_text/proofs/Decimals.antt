@@ -1,7 +1,8 @@
 -- The digits that begin as numbers do are the decimals.
-use Rattle.std.proofs.Common.{◌≡◌, ◌≢◌, ◌<◌, ◌≤◌, ◌+◌, ◌-◌, ◌*◌, ◌^◌, ◌==◌, ◌∙◌, ℕ, zero, suc, List, [], ◌∷◌, length, true, false, Option, Some, None, drop, refl, sym, ap, inl, inr, arith, get_or, decimal}
+use Rattle.std.proofs.Common.{◌≡◌, ◌≢◌, ◌<◌, ◌≤◌, ◌+◌, ◌-◌, ◌*◌, ◌^◌, ◌==◌, ◌∙◌, ℕ, zero, suc, List, [], ◌∷◌, length, Bool, true, false, Option, Some, None, drop, refl, sym, ap, inl, inr, arith, get_or, decimal}
 use Rattle.std.specs.Prelude.{MatchOption}
 use Rattle.std.specs.Char.{digit_value}
+use Rattle.std.proofs.Math.Nat.{pow-le-pow_right}
 use Rattle.std.proofs.lemmas.List.{drop_more}
 use Rattle.std.proofs.lemmas.Str.{digit_value_digit}
 use Rattle.std.specs.Str.Parse.{digits_value, digits_value_after, AllDigits}
@@ -46,10 +47,24 @@ pub grows : (n : ℕ) (ds : List ℕ) → n ≤ digits_value_after 10 n ds
 grows n [] = omega arith
 grows n (c ∷ cs) = omega (arith, grows (n * 10 + digit_value c) cs)
 
-pub by_value : (r : Option ℕ) (bs : List ℕ) → canonical bs ≡ true → MatchOption r (¬ WritesNumber bs) (λ n. WritesNumber bs × (n ≡ digits_value 10 bs))
-    → MatchOption r ((n : ℕ) → n < 2 ^ 64 → bs ≢ decimal n) (λ n. bs ≡ decimal n)
-by_value None bs k h = λ n small is. h (writes bs n small is)
-by_value (Some n) bs k h = written bs n h k
+-- where digits begin as a number's do
+pub by_value : (r : Option ℕ) (bs : List ℕ) (begins : Bool) → begins ≡ true → (AllDigits 10 bs → begins ≡ canonical bs)
+    → MatchOption r (¬ WritesNumber bs) (λ n. WritesNumber bs × (n ≡ digits_value 10 bs)) → MatchOption r ((n : ℕ) → n < 2 ^ 64 → bs ≢ decimal n) (λ n. bs ≡ decimal n)
+by_value None bs begins p is h = λ n small e. h (writes bs n small e)
+by_value (Some n) bs begins p is h = written bs n h (sym (is h.0.0) ∙ p)
+
+-- and where they do not
+pub no_number : (bs : List ℕ) (begins : Bool) → begins ≡ false → (AllDigits 10 bs → begins ≡ canonical bs) → (n : ℕ) → n < 2 ^ 64 → bs ≢ decimal n
+no_number bs begins p is n small e =
+    let same : begins ≡ canonical bs = is (writes bs n small e).0 in
+    let begun : canonical bs ≡ true = rw e (canonical_decimal n small) in
+    cc (p, same, begun)
+
+-- fewer than 19 digits leave room for one more
+pub room : (i number : ℕ) → i < 19 → number < 10 ^ i → number * 10 + 9 < 2 ^ 64
+room i number l small =
+    let most : 10 ^ i ≤ 10 ^ 18 = pow-le-pow_right {n = 10} (omega arith) {i = i} {j = 18} (omega arith) in
+    omega (arith, most)
 
 -- a digit that would pass the greatest number
 pub too_great : (bs : List ℕ) (i number : ℕ) → i < length bs → 48 ≤ get_or bs i 0 → get_or bs i 0 ≤ 57 → digits_value_after 10 number (drop i bs) ≡ digits_value 10 bs

@@ -1,7 +1,7 @@
 //! The fields of a record by what may stand in them.
 
 ghost use Rattle.std.specs.Prelude.{◌≡◌, ◌≢◌, ◌+◌, ◌*◌, ◌<◌, ◌≤◌, ◌^◌, ◌↔◌, ℕ, List, [], ◌∷◌, length, get_or, IsTrue, IfOk, IfErr, IfSome, MatchOption, decimal, codes};
-ghost use Rattle.std.specs.Str.Parse.{digits_value};
+ghost use Rattle.std.specs.Str.Parse.{AllDigits, digits_value};
 ghost use Rattle.csv.specs.Records.{fields_of};
 ghost use Rattle.blk_text.specs.Fields.{EachField, IsBlank, IsDirection, IsNumber, IsInRange, IsShaped, IsSized, Lacks, NumberOf, IsWithin, EachNumber, FieldSpells, FieldsSpell, WritesNumber, canonical};
 ghost use Rattle.blk_text.specs.Words.{StartsWith, HasNoWord};
@@ -37,23 +37,20 @@ pub fn field(row: &ByteRecord, place: usize) -> &[u8]
     }
 }
 
-// Whether a field begins as the digits of a number do: with no sign and no zero before another digit.
+// Whether digits begin as those of a number do: with no zero before another digit.
 fn is_canonical(field: &[u8]) -> bool
-    ensures { result ≡ canonical field.now }
+    ensures { AllDigits 10 field.now → result ≡ canonical field.now }
 {
     match field {
         [] => false,
-        [only] => *only != b'+',
-        [first, ..] => *first != b'+' && *first != b'0',
+        [first, rest @ ..] => *first != b'0' || rest.is_empty(),
     }
 }
 
 // The greatest number that a digit can follow.
 const LAST: u64 = u64::MAX / 10;
 
-// Whether a number does not fit once one more digit follows it. Seldom asked, so apart from the loop.
-#[cold]
-#[inline(never)]
+// Whether a number does not fit once one more digit follows it.
 fn is_past(number: u64, digit: u64) -> bool
     requires { digit < 10 }
     ensures { IsTrue result ↔ (2 ^ 64 ≤ number * 10 + digit) }
@@ -61,8 +58,10 @@ fn is_past(number: u64, digit: u64) -> bool
     number > LAST || (number == LAST && digit > u64::MAX % 10)
 }
 
-// The number that digits write, if they are digits and it fits.
-fn number_of(field: &[u8]) -> Option<u64>
+// The same for digits of any number. Seldom asked, so apart from the others.
+#[cold]
+#[inline(never)]
+fn long_number(field: &[u8]) -> Option<u64>
     ensures { MatchOption result (¬ WritesNumber field.now) (λ n. WritesNumber field.now × (n ≡ digits_value 10 field.now)) }
 {
     let mut number: u64 = 0;
@@ -72,7 +71,26 @@ fn number_of(field: &[u8]) -> Option<u64>
             return None;
         }
         let digit = byte as u64 - b'0' as u64;
-        if number >= LAST && is_past(number, digit) {
+        if is_past(number, digit) {
+            return None;
+        }
+        number = number * 10 + digit;
+    }
+    Some(number)
+}
+
+// The most digits of which every number fits.
+const SAFE: usize = 19;
+
+// The number that so few digits write that it fits, if they are digits.
+fn short_number(field: &[u8]) -> Option<u64>
+    requires { length field.now ≤ 19 }
+    ensures { MatchOption result (¬ WritesNumber field.now) (λ n. WritesNumber field.now × (n ≡ digits_value 10 field.now)) }
+{
+    let mut number: u64 = 0;
+    for byte in field {
+        let digit = (*byte as u64).wrapping_sub(b'0' as u64);
+        if digit > 9 {
             return None;
         }
         number = number * 10 + digit;
@@ -85,9 +103,12 @@ pub fn parse_number(field: &[u8]) -> Option<u64>
     ensures { MatchOption result ((n : ℕ) → n < 2 ^ 64 → field.now ≢ decimal n) (λ n. field.now ≡ decimal n) }
 {
     if !is_canonical(field) {
-        return None;
+        None
+    } else if field.len() <= SAFE {
+        short_number(field)
+    } else {
+        long_number(field)
     }
-    number_of(field)
 }
 
 /// What stands after a minus.

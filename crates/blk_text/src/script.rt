@@ -6,12 +6,12 @@ ghost use Rattle.blk_text.specs.Sources.{input_of, Took};
 ghost use Rattle.blk_text.specs.Faults.{IsOutside, TitleMissing};
 ghost use Rattle.blk_text.specs.Words.{StartsWith};
 ghost use Rattle.blk_text.specs.Fields.{FieldsSpell};
-ghost use Rattle.blk_text.specs.BioRecord.{direction_text};
+ghost use Rattle.blk_text.specs.BioRecord.{bio_row, direction_text};
 ghost use Rattle.blk_text.specs.Script.{word_of, slots_of, LineFits, line_row, StepWrong, SpellsNoBio, title_slots, title_row, IsTitle, FewSubmitters, IsScript, SpellsScript, ScriptFault, scripted};
 ghost use Rattle.blk_text.specs.declared.script.Word.{Word as AWord};
 
 use crate::fault::{TextFault, Why};
-use crate::fields::{Slot, WIDTH, field, read_fields, without_word};
+use crate::fields::{Slot, WIDTH, field, parse_number, read_fields, without_word};
 use crate::lines::{Extent, LineForm, read_lines, read_title};
 use crate::setup::read_setup;
 use crate::source::Records;
@@ -193,6 +193,58 @@ fn step_of(
     }
 }
 
+// The direction that a field spells.
+fn parse_direction(field: &[u8]) -> Option<Dir>
+    ensures { IfSome result (λ dir. field.now ≡ direction_text dir) }
+{
+    match field {
+        [b'R'] => Some(Dir::Read),
+        [b'W'] => Some(Dir::Write),
+        _ => None,
+    }
+}
+
+// The bio of a record that begins with its word, where the record has no fault. Most records of a script spell a
+// bio, so its fields are read without their slots.
+fn bio_of(form: &StepForm, row: &ByteRecord) -> Option<Bio>
+    requires { StartsWith (codes "bio") (fields_of row.now) }
+    ensures { IfSome result (λ b. (fields_of row.now ≡ bio_row b) × LineFits form.now.hw form.now.submitters (Line.Bio b)) }
+{
+    if row.len() != WIDTH {
+        return None;
+    }
+    let submitter = parse_number(field(row, 1))?;
+    let serial = parse_number(field(row, 2))?;
+    let dir = parse_direction(field(row, 3))?;
+    let first = parse_number(field(row, 4))?;
+    let sectors = parse_number(field(row, 5))?;
+    if submitter >= form.submitters {
+        return None;
+    }
+    let id = BioId {
+        submitter: submitter as u8,
+        serial,
+    };
+    match Bio::new(id, dir, first, sectors) {
+        Ok(bio) => Some(bio),
+        Err(_) => None,
+    }
+}
+
+// The step of a record that begins with a word, by the slots of the word.
+#[inline(never)]
+fn slotted_line(form: &StepForm, word: Word, row: &ByteRecord) -> Result<Line, Why>
+    requires { StartsWith (word_of word) (fields_of row.now) }
+    ensures ok { IfOk result (λ l. (fields_of row.now ≡ line_row l) × LineFits form.now.hw form.now.submitters l) }
+    ensures err { IfErr result (StepWrong form.now.hw form.now.submitters (fields_of row.now)) }
+{
+    let slots = step_slots(form, word);
+    match read_fields(row, &slots) {
+        Ok(numbers) => step_of(form, word, row, &numbers),
+        Err(why) => Err(why),
+    }
+}
+
 impl LineForm for StepForm {
     ghost use Rattle.blk_text.specs.Script.{line_row, LineFits, StepWrong};
 
@@ -208,11 +260,12 @@ impl LineForm for StepForm {
         let Some(word) = word_named(field(row, 0)) else {
             return Err(without_word(row, WIDTH));
         };
-        let slots = step_slots(self, word);
-        match read_fields(row, &slots) {
-            Ok(numbers) => step_of(self, word, row, &numbers),
-            Err(why) => Err(why),
+        if word == Word::Bio {
+            if let Some(bio) = bio_of(self, row) {
+                return Ok(Line::Bio(bio));
+            }
         }
+        slotted_line(self, word, row)
     }
 }
 

@@ -1,13 +1,12 @@
-use Rattle.std.proofs.Common.{rules, ◌≡◌, false}
-use Rattle.blk_text.proofs.Decimals.{canonical_decimal, by_value}
-use Rattle.blk_text.specs.Fields.{canonical}
+use Rattle.std.proofs.Common.{rules}
+use Rattle.blk_text.proofs.Decimals.{by_value, no_number}
 use Rattle.blk_text.proofs.fields.parse_number.Goals as goal
 
 pub returns-then-not-is_canonical : goal.returns-then-not-is_canonical
-returns-then-not-is_canonical c n small is =
-    let yes = canonical_decimal n small in
-    let no : canonical c.args.field.now ≡ false = search rules in
-    cc (rw is at no, yes)
+returns-then-not-is_canonical c = no_number c.args.field.now c.is_canonical.result (search rules) c.is_canonical.ensures
 
-pub returns : goal.returns
-returns c = by_value c.number_of.result c.args.field.now (search rules) c.number_of.ensures
+pub returns-then-field-le-SAFE : goal.returns-then-field-le-SAFE
+returns-then-field-le-SAFE c = by_value c.short_number.result c.args.field.now c.is_canonical.result (search rules) c.is_canonical.ensures c.short_number.ensures
+
+pub returns-else-field-le-SAFE : goal.returns-else-field-le-SAFE
+returns-else-field-le-SAFE c = by_value c.long_number.result c.args.field.now c.is_canonical.result (search rules) c.is_canonical.ensures c.long_number.ensures

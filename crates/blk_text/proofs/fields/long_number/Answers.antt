@@ -1,6 +1,6 @@
 use Rattle.std.proofs.Common.{rules}
 use Rattle.blk_text.proofs.Decimals.{too_great}
-use Rattle.blk_text.proofs.fields.number_of.Goals as goal
+use Rattle.blk_text.proofs.fields.long_number.Goals as goal
 
 pub returns-then-is_past : goal.returns-then-is_past
 returns-then-is_past c =
