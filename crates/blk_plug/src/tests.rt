@@ -81,6 +81,31 @@ fn full_plug(rt: HostRuntime) -> Result<(), Fail> {
     Ok(())
 }
 
+#[test]
+fn joins_after_some_left(rt: HostRuntime) -> Result<(), Fail> {
+    let mut plug = Plug::new(rt.alloc(), Limits::new(256, 128)?)?;
+    for k in 0..32u64 {
+        assert_eq!(rt; added(&mut plug, 16 * k, 8)?, Added::New);
+    }
+    for k in 0..20u64 {
+        assert_eq!(rt; taken(&mut plug)?, (16 * k, 8));
+    }
+    // sectors at which requests began that have left
+    for k in 0..20u64 {
+        assert_eq!(rt; added(&mut plug, 16 * k, 8)?, Added::New);
+    }
+    // the newest, an older one, and one of two, the newer of which is joined
+    assert_eq!(rt; added(&mut plug, 312, 4)?, Added::Joined(Side::Back));
+    assert_eq!(rt; added(&mut plug, 504, 8)?, Added::Joined(Side::Back));
+    assert_eq!(rt; added(&mut plug, 328, 8)?, Added::Joined(Side::Front));
+    // where the newest ends by now
+    assert_eq!(rt; added(&mut plug, 316, 2)?, Added::Joined(Side::Back));
+    assert_eq!(rt; plug.len(), 32);
+    assert_eq!(rt; taken(&mut plug)?, (320, 8));
+    assert_eq!(rt; taken(&mut plug)?, (328, 16));
+    Ok(())
+}
+
 /// Adds a read where the n-th allocation is refused, and says whether there was one. It has to leave the plug, and to
 /// succeed when it is asked again.
 fn adds_after_a_refusal<'a>(
