@@ -7,6 +7,8 @@ mod tests;
 ghost use Rattle.std.specs.Prelude.{◌≡◌, ◌<◌, ◌+◌, ◌↔◌, ℕ, Bool, ◌⊎◌, IfOk, OnOk, IfErr, OnErr, IfSome, IfNone, IsSome, IsTrue, None};
 ghost use Rattle.std.specs.FinMap as map;
 ghost use Rattle.blk_bio.specs.Requests.{Fits};
+ghost use Rattle.blk_bio.specs.Answers.{IsJoinAnswer};
+ghost use Rattle.blk_bio.specs.declared.request.Side.{Side};
 ghost use Rattle.blk_sched.specs.Meaning.{Waiting, Meaning, HasNoCandidate, Joins, ServesNothing, Picks, joined_waiting, opened, open_of};
 
 pub mod fits;
@@ -47,6 +49,10 @@ impl<A: Allocator + Clone> Queued<A> {
         now: u64,
         limits: &Limits,
     ) -> Result<Side, (Request<A>, JoinFault)>
+        // the side or the fault, and the bios as they stand then
+        ensures answer { IsJoinAnswer limits.now self.old.bios newcomer self.new.bios result }
+        // what fits is refused for want of memory alone
+        ensures accepts { (side : Side) → Fits limits.now self.old.bios newcomer side → IfErr result (λ e. e.1 ≡ JoinFault.Memory) }
         ensures fits { IfOk result (Fits limits.now self.old.bios newcomer) }
         ensures ok { IfOk result (λ side. self.new ≡ joined_waiting side now newcomer self.old) }
         ensures err { IfErr result (λ e. e.0 ≡ newcomer) }
