@@ -74,7 +74,7 @@ impl<A: Allocator + Clone> NoneSched<A> {
         ensures err { IfErr result (λ q. q ≡ queued) }
         ensures same { OnErr result (self.new ≡ self.old) }
     {
-        // no memory holds so many requests that their number would be refused here
+        // refused like want of memory: no memory holds so many requests that their number doesn't fit
         let Some(waiting) = self.waiting.checked_add(1) else {
             return Err(queued);
         };
