@@ -1,6 +1,7 @@
 //! The requests that wait in one line, in the order of their ids, and the search for a join among them.
 
 ghost use Rattle.std.specs.Prelude.{◌≡◌, ◌<◌, ◌≤◌, ◌+◌, ◌==◌, ◌↔◌, ◌∷◌, ℕ, [], Some, None, cond, if◌then◌else◌, slice_get, length, IfOk, OnOk, IfErr, OnErr, IfSome, IfNone, IsTrue};
+ghost use Rattle.std.specs.List.{insert};
 ghost use Rattle.blk_sched.specs.Fits.{FitsAt, FitsNowhere, IsNewestFit, FitsNone, JoinsAt};
 ghost use Rattle.blk_sched.specs.Meaning.{Waiting, joined_waiting};
 ghost use Rattle.blk_sched.specs.Lanes.{extent_of, waiting_at, IsRising, Touches, TouchesNone, IsNewestAt, FitsNoneAt};
@@ -11,7 +12,7 @@ use crate::{JoinRefusal, Queued};
 use blk_bio::bio::Dir;
 use blk_bio::limits::Limits;
 use blk_bio::request::{Request, Side};
-use std::alloc::{Allocator, Global};
+use std::alloc::{AllocFailed, Allocator, Global};
 use std::collections::VecDeque;
 use std::marker::Model;
 
@@ -45,7 +46,7 @@ impl Extent {
     pub fn touches(&self, newcomer: &Extent) -> bool
         ensures { IsTrue result ↔ Touches self.now newcomer.now }
     {
-        self.dir == newcomer.dir && (self.end == newcomer.first || self.first == newcomer.end)
+        (self.end == newcomer.first || self.first == newcomer.end) && self.dir == newcomer.dir
     }
 }
 
@@ -179,7 +180,7 @@ impl<A: Allocator + Clone> Lane<A> {
         ensures same { OnErr result (self.new ≡ self.old) }
     {
         let place = place_of(&self.entries, queued.id);
-        match self.entries.insert(place, Entry::of(queued)) {
+        match put_at(&mut self.entries, place, Entry::of(queued)) {
             Ok(()) => Ok(()),
             Err(refused) => Err(refused.value.into_queued()),
         }
@@ -228,8 +229,28 @@ impl<A: Allocator + Clone> Lane<A> {
     }
 }
 
-/// How many of the requests, which are in the order of their ids, have a lesser one than this, which none has.
+/// How many of the requests, which are in the order of their ids, have a lesser one than this, which none has: mostly
+/// all of them.
 fn place_of<A: Allocator + Clone>(entries: &VecDeque<Entry<A>, A>, id: u64) -> usize
+    requires rising { IsRising entries.now.items }
+    requires new { waiting_at entries.now.items id ≡ None }
+    ensures bound { result ≤ length entries.now.items }
+    ensures below { (k : ℕ) (w : Waiting) → k < result → slice_get entries.now.items k ≡ Some w → w.id < id }
+    ensures above { (k : ℕ) (w : Waiting) → result ≤ k → slice_get entries.now.items k ≡ Some w → id < w.id }
+{
+    let Some(last) = entries.back() else {
+        return 0;
+    };
+    if last.id() < id {
+        return entries.len();
+    }
+    place_among(entries, id)
+}
+
+/// The same, by a search from the greatest id on.
+#[cold]
+#[inline(never)]
+fn place_among<A: Allocator + Clone>(entries: &VecDeque<Entry<A>, A>, id: u64) -> usize
     requires rising { IsRising entries.now.items }
     requires new { waiting_at entries.now.items id ≡ None }
     ensures bound { result ≤ length entries.now.items }
@@ -243,6 +264,24 @@ fn place_of<A: Allocator + Clone>(entries: &VecDeque<Entry<A>, A>, id: u64) -> u
     place
 }
 
+/// Puts an entry in at a place; the last place costs least. On a refusal nothing is changed, and the entry comes back.
+fn put_at<A: Allocator + Clone>(
+    entries: &mut VecDeque<Entry<A>, A>,
+    place: usize,
+    entry: Entry<A>,
+) -> Result<(), AllocFailed<Entry<A>>>
+    requires { place ≤ length entries.old.items }
+    ensures items { OnOk result (entries.new.items ≡ insert entries.old.items place entry) }
+    ensures refused { IfErr result (λ e. e.value ≡ entry) }
+    ensures same { OnErr result (entries.new.items ≡ entries.old.items) }
+{
+    if place == entries.len() {
+        entries.push_back(entry)
+    } else {
+        entries.insert(place, entry)
+    }
+}
+
 /// The place and the side of the newest fit.
 fn newest_fit<A: Allocator + Clone>(
     entries: &VecDeque<Entry<A>, A>,
@@ -253,28 +292,26 @@ fn newest_fit<A: Allocator + Clone>(
     ensures some { IfSome result (λ r. IsNewestAt limits.now front entries.now.items newcomer.now r.0 r.1) }
     ensures none { IfNone result (FitsNoneAt limits.now front entries.now.items newcomer.now) }
 {
-    let extent = Extent::of(newcomer);
     let (older, newer) = entries.as_slices();
-    if let Some((place, side)) = newest_of(newer, newcomer, &extent, limits, front) {
+    if let Some((place, side)) = newest_of(newer, newcomer, limits, front) {
         return Some((older.len() + place, side));
     }
-    newest_of(older, newcomer, &extent, limits, front)
+    newest_of(older, newcomer, limits, front)
 }
 
-/// The newest fit in one slice of entries, for a newcomer of an extent.
+/// The newest fit in one slice of entries.
 fn newest_of<A: Allocator + Clone>(
     entries: &[Entry<A>],
     newcomer: &Request<A>,
-    extent: &Extent,
     limits: &Limits,
     front: bool,
 ) -> Option<(usize, Side)>
-    requires { extent.now ≡ extent_of newcomer.now }
     ensures some { IfSome result (λ r. IsNewestAt limits.now front entries.now newcomer.now r.0 r.1) }
     ensures none { IfNone result (FitsNoneAt limits.now front entries.now newcomer.now) }
 {
+    let extent = Extent::of(newcomer);
     let mut above = entries.len();
-    while let Some(place) = newest_touched(entries, above, extent) {
+    while let Some(place) = newest_touched(entries, above, &extent) {
         if let Some(side) = entries[place].side_of(newcomer, limits, front) {
             return Some((place, side));
         }
