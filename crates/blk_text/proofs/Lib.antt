@@ -10,6 +10,7 @@ pub mod SetupLemmas
 pub mod ScriptLemmas
 pub mod Texts
 pub mod PlainRows
+pub mod Rows
 pub mod DraftLemmas
 pub mod TraceLemmas
 pub mod ClaimLemmas

@@ -8,39 +8,7 @@ use Rattle.std.proofs.lemmas.List.{append-nil, drop_more}
 use Rattle.csv.specs.Writing.{needs_quotes, needs_byte, default_writer, row_text, fields_text, is_blank}
 use Rattle.blk_text.specs.Texts.{rows_text}
 use Rattle.blk_text.specs.Sources.{Row}
-use Rattle.blk_text.specs.Cells.{cell_text, are_plain, line_of}
-use Rattle.blk_text.specs.declared.draft.Cell.{Cell}
-use Rattle.blk_text.specs.declared.draft.Cell.TheVariants as cell
-
--- what ends the field before these
-abbrev pub mark_of : {X : Type 0} → List X → ℕ
-mark_of [] = 10
-mark_of (x ∷ xs) = 44
-
--- one field more at the front of a line
-cons_cell : (c : Cell) (cs : List Cell) → cell_text c ++ mark_of cs ∷ line_of (map cell_text cs) ≡ line_of (map cell_text (c ∷ cs))
-unfolding line_of
-cons_cell c [] = refl
-cons_cell c (d ∷ cs) = refl
-
--- the same of the last field that was not written yet
-split_at : (cells : List Cell) (done : ℕ) (d : Cell) → done < length cells
-    → drop (length cells - (done + 1)) cells ≡ get_or cells (length cells - 1 - done) d ∷ drop (length cells - done) cells
-split_at cells done d l =
-    let i = length cells - 1 - done in
-    let here : length cells - (done + 1) ≡ i = omega arith in
-    let after : length cells - done ≡ i + 1 = omega arith in
-    rw (here, after) (drop_more cells i d (omega arith))
-
-pub next_mark : (cells : List Cell) (done : ℕ) → done < length cells → 44 ≡ mark_of (drop (length cells - (done + 1)) cells)
-next_mark [] done l = absurd (omega arith)
-next_mark (c ∷ cs) done l = rw (split_at (c ∷ cs) done c l) refl
-
-pub one_more_cell : (cells : List Cell) (done : ℕ) (d : Cell) (mark : ℕ) (rest : List ℕ) → done < length cells
-    → mark ≡ mark_of (drop (length cells - done) cells) → rest ≡ line_of (map cell_text (drop (length cells - done) cells))
-    → cell_text (get_or cells (length cells - 1 - done) d) ++ mark ∷ rest ≡ line_of (map cell_text (drop (length cells - (done + 1)) cells))
-one_more_cell cells done d mark rest l m r =
-    rw (m, r, split_at cells done d l) (cons_cell (get_or cells (length cells - 1 - done) d) (drop (length cells - done) cells))
+use Rattle.blk_text.specs.Cells.{line_of}
 
 -- a byte past the comma needs no quotes
 byte_plain : (b : ℕ) → 44 < b → needs_byte default_writer b ≡ false
@@ -97,19 +65,14 @@ tail_is f (g ∷ fs) h =
     let p = first_plain _ (all_plain fs) h in
     rw p (append_assoc f (44 ∷ (g ++ fields_text default_writer fs)) (10 ∷ []) ∙ ap (λ (t : List ℕ). f ++ 44 ∷ t) (tail_is g fs (others_plain _ _ h)))
 
-pub plain_row : (f g : List ℕ) (fs : Row) → all_plain (f ∷ g ∷ fs) ≡ true → row_text default_writer (f ∷ g ∷ fs) ≡ line_of (f ∷ g ∷ fs)
+plain_row : (f g : List ℕ) (fs : Row) → all_plain (f ∷ g ∷ fs) ≡ true → row_text default_writer (f ∷ g ∷ fs) ≡ line_of (f ∷ g ∷ fs)
 unfolding is_blank
 plain_row f g fs h = rw (first_plain _ (all_plain (g ∷ fs)) h) (tail_is f (g ∷ fs) (others_plain _ _ h))
 
--- the cells' texts are plain
-cells_plain : (cells : List Cell) → are_plain cells ≡ true → all_plain (map cell_text cells) ≡ true
-cells_plain [] h = refl
-cells_plain (cell.Blank ∷ cs) h = cells_plain cs h
-cells_plain (cell.Word w ∷ cs) h = rw (first_plain _ (are_plain cs) h) (cells_plain cs (others_plain _ _ h))
-cells_plain (cell.Number n ∷ cs) h = rw (decimal_plain n) (cells_plain cs h)
 
-pub line_is : (cells : List Cell) → 2 ≤ length cells → are_plain cells ≡ true → rows_text (map cell_text cells ∷ []) ≡ line_of (map cell_text cells)
+-- the text of one plain row of two fields or more
+pub line_is : (row : Row) → 2 ≤ length row → all_plain row ≡ true → rows_text (row ∷ []) ≡ line_of row
 unfolding rows_text
 line_is [] l h = absurd (omega arith)
-line_is (c ∷ []) l h = absurd (omega (arith, l))
-line_is (c ∷ d ∷ cs) l h = append-nil _ ∙ plain_row (cell_text c) (cell_text d) (map cell_text cs) (cells_plain (c ∷ d ∷ cs) h)
+line_is (f ∷ []) l h = absurd (omega (arith, l))
+line_is (f ∷ g ∷ fs) l h = append-nil _ ∙ plain_row f g fs h

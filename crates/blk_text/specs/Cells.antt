@@ -1,31 +1,18 @@
--- The fields of a record that is written.
-use Rattle.std.specs.Prelude.{◌≡◌, ◌≤◌, ◌&&◌, not, Bool, true, false, ℕ, List, [], ◌∷◌, ◌++◌, length, decimal}
+-- The pieces of a record that is written.
+use Rattle.std.specs.Prelude.{◌≡◌, ◌≤◌, ◌+◌, ◌/◌, ◌%◌, false, ℕ, List, [], ◌∷◌, ◌++◌, length}
 use Rattle.csv.specs.Writing.{needs_quotes, default_writer}
-use Rattle.blk_text.specs.declared.draft.Cell.{Cell}
-use Rattle.blk_text.specs.declared.draft.Cell.TheVariants as cell
 
--- the text of a field
-abbrev pub cell_text : Cell → List ℕ
-cell_text cell.Blank = []
-cell_text (cell.Word w) = w.now
-cell_text (cell.Number n) = decimal n
+-- a number below 100 in two digits
+abbrev pub pair_of : ℕ → List ℕ
+pair_of n = (48 + n / 10) ∷ (48 + n % 10) ∷ []
 
--- whether a field needs no quotes
-abbrev pub is_plain_cell : Cell → Bool
-is_plain_cell cell.Blank = true
-is_plain_cell (cell.Word w) = not (needs_quotes default_writer w.now)
-is_plain_cell (cell.Number n) = true
+-- a number below 10,000 in four digits
+abbrev pub four_of : ℕ → List ℕ
+four_of n = pair_of (n / 100) ++ pair_of (n % 100)
 
--- a word has at most 20 bytes
-abbrev pub IsShort : Cell → Type 0
-IsShort cell.Blank = Unit {0}
-IsShort (cell.Word w) = length w.now ≤ 20
-IsShort (cell.Number n) = Unit {0}
-
--- whether no field needs quotes
-abbrev pub are_plain : List Cell → Bool
-are_plain [] = true
-are_plain (c ∷ cs) = is_plain_cell c && are_plain cs
+-- a number below 100,000,000 in eight digits
+abbrev pub eight_of : ℕ → List ℕ
+eight_of n = four_of (n / 10_000) ++ four_of (n % 10_000)
 
 -- plain fields with commas between them and a line feed at the end
 unfoldable pub line_of : List (List ℕ) → List ℕ

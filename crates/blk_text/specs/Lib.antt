@@ -9,4 +9,5 @@ pub mod Script
 pub mod Texts
 pub mod TraceRecords
 pub mod Cells
+pub mod Drafts
 pub mod Certificate

@@ -9,12 +9,14 @@ ghost use Rattle.blk_text.specs.Faults.{IsOutside, TitleMissing};
 ghost use Rattle.blk_text.specs.Fields.{IsSized, FieldsSpell};
 ghost use Rattle.blk_text.specs.Words.{StartsWith};
 ghost use Rattle.blk_text.specs.Texts.{rows_text};
+ghost use Rattle.blk_text.specs.Drafts.{drafted};
 ghost use Rattle.blk_text.specs.Certificate.{claimed, IsClaim, SpellsClaim, ClaimFault, claim_rows, title_row, title_slots, bound_row, bound_slots, BoundLacks, BoundWrong, BoundMissing, IsBound, IsLateness, IsServed, served_row};
 
-use crate::draft::{Cell, push_row, write_whole};
+use crate::draft::{Draft, write_whole};
 use crate::fault::{TextFault, Why, WriteFault};
 use crate::fields::{Slot, WIDTH, after_minus, begins_with, field, read_fields, without_word};
 use crate::lines::{Extent, LineForm, read_lines, read_title};
+use crate::pieces::{put, put_two};
 use crate::source::Records;
 use csv::ByteRecord;
 use edd_check::{Command, Window};
@@ -293,63 +295,53 @@ pub fn read_certificate<R: Read + Drop>(alloc: Global, reader: R) -> Result<Cert
 }
 
 // Adds the title record.
-fn push_title(draft: &mut Vec<u8>, depth: u64, count: u64) -> Result<(), AllocError>
-    ensures text { OnOk result (draft.new.items ≡ draft.old.items ++ rows_text (title_row depth count ∷ [])) }
+fn push_title(draft: &mut Draft, depth: u64, count: u64) -> Result<(), AllocError>
+    ensures text { OnOk result (drafted draft.new ≡ drafted draft.old ++ rows_text (title_row depth count ∷ [])) }
 {
-    push_row(
-        draft,
-        &[
-            Cell::Word(b"blk-certificate"),
-            Cell::Word(b"1"),
-            Cell::Number(depth),
-            Cell::Number(count),
-        ],
-    )
+    let start = draft.room()?;
+    let buf = &mut draft.block;
+    let head = put(b"blk-certificate,1,", buf, start);
+    let end = put_two(depth, count, buf, head);
+    draft.at = put(b"\n", buf, end);
+    Ok(())
 }
 
 // Adds the record that says that there is no bound.
-fn push_no_bound(draft: &mut Vec<u8>) -> Result<(), AllocError>
-    ensures text { OnOk result (draft.new.items ≡ draft.old.items ++ rows_text (bound_row None ∷ [])) }
+fn push_no_bound(draft: &mut Draft) -> Result<(), AllocError>
+    ensures text { OnOk result (drafted draft.new ≡ drafted draft.old ++ rows_text (bound_row None ∷ [])) }
 {
-    push_row(
-        draft,
-        &[
-            Cell::Word(b"bound"),
-            Cell::Word(b"none"),
-            Cell::Word(b"none"),
-            Cell::Word(b"none"),
-        ],
-    )
+    let start = draft.room()?;
+    draft.at = put(b"bound,none,none,none\n", &mut draft.block, start);
+    Ok(())
 }
 
 // Adds the record of a lateness and its window.
 fn push_some_bound(
     alloc: Global,
-    draft: &mut Vec<u8>,
+    draft: &mut Draft,
     lateness: i64,
     window: Window,
 ) -> Result<(), AllocError>
-    ensures text { OnOk result (draft.new.items ≡ draft.old.items ++ rows_text (bound_row (Some (lateness, window)) ∷ [])) }
+    ensures text { OnOk result (drafted draft.new ≡ drafted draft.old ++ rows_text (bound_row (Some (lateness, window)) ∷ [])) }
 {
     let late = lateness.to_string(alloc)?;
-    push_row(
-        draft,
-        &[
-            Cell::Word(b"bound"),
-            Cell::Word(late.as_bytes()),
-            Cell::Number(window.from),
-            Cell::Number(window.due),
-        ],
-    )
+    let start = draft.room()?;
+    let buf = &mut draft.block;
+    let head = put(b"bound,", buf, start);
+    let named = put(late.as_bytes(), buf, head);
+    let mark = put(b",", buf, named);
+    let end = put_two(window.from, window.due, buf, mark);
+    draft.at = put(b"\n", buf, end);
+    Ok(())
 }
 
 // Adds the record of a bound.
 fn push_bound(
     alloc: Global,
-    draft: &mut Vec<u8>,
+    draft: &mut Draft,
     bound: Option<(i64, Window)>,
 ) -> Result<(), AllocError>
-    ensures text { OnOk result (draft.new.items ≡ draft.old.items ++ rows_text (bound_row bound ∷ [])) }
+    ensures text { OnOk result (drafted draft.new ≡ drafted draft.old ++ rows_text (bound_row bound ∷ [])) }
 {
     match bound {
         None => push_no_bound(draft),
@@ -358,18 +350,17 @@ fn push_bound(
 }
 
 // Adds the record of a command and its round.
-fn push_served(draft: &mut Vec<u8>, command: &Command, round: u64) -> Result<(), AllocError>
-    ensures text { OnOk result (draft.new.items ≡ draft.old.items ++ rows_text (served_row (command.now, round) ∷ [])) }
+#[inline]
+fn push_served(draft: &mut Draft, command: &Command, round: u64) -> Result<(), AllocError>
+    ensures text { OnOk result (drafted draft.new ≡ drafted draft.old ++ rows_text (served_row (command.now, round) ∷ [])) }
 {
-    push_row(
-        draft,
-        &[
-            Cell::Number(command.id),
-            Cell::Number(command.release),
-            Cell::Number(command.due),
-            Cell::Number(round),
-        ],
-    )
+    let start = draft.room()?;
+    let buf = &mut draft.block;
+    let named = put_two(command.id, command.release, buf, start);
+    let mark = put(b",", buf, named);
+    let end = put_two(command.due, round, buf, mark);
+    draft.at = put(b"\n", buf, end);
+    Ok(())
 }
 
 // The text of a certificate.
@@ -377,7 +368,7 @@ fn certificate_text(alloc: Global, certificate: &Certificate) -> Result<Vec<u8>,
     requires { IsClaim (claimed certificate.now) }
     ensures { IfOk result (λ v. v.items ≡ rows_text (claim_rows (claimed certificate.now))) }
 {
-    let mut draft = Vec::new(alloc);
+    let mut draft = Draft::new(alloc);
     let commands = certificate.commands.as_slice();
     let rounds = certificate.rounds.as_slice();
     push_title(&mut draft, certificate.depth, commands.len() as u64)?;
@@ -385,7 +376,7 @@ fn certificate_text(alloc: Global, certificate: &Certificate) -> Result<Vec<u8>,
     for i in 0..commands.len() {
         push_served(&mut draft, &commands[i], rounds[i])?;
     }
-    Ok(draft)
+    draft.finish()
 }
 
 /// Writes the text of a certificate, at once where all of it could be made.

@@ -5,13 +5,15 @@ ghost use Rattle.std.specs.Io.KnownBytes.{Appends};
 ghost use Rattle.csv.specs.Records.{fields_of};
 ghost use Rattle.blk_text.specs.Sources.{input_of};
 ghost use Rattle.blk_text.specs.Texts.{rows_text};
+ghost use Rattle.blk_text.specs.Drafts.{drafted};
 ghost use Rattle.blk_text.specs.Faults.{IsOutside};
 ghost use Rattle.blk_text.specs.Commands.{AreCommands, SpellsCommands, CommandsFault, command_row, commands_rows, title_row};
 
-use crate::draft::{Cell, push_row, write_whole};
+use crate::draft::{Draft, write_whole};
 use crate::fault::{TextFault, Why, WriteFault};
 use crate::fields::{Slot, read_fields};
 use crate::lines::{Extent, LineForm, read_lines, read_title};
+use crate::pieces::{put, put_number, put_two};
 use crate::source::Records;
 use csv::ByteRecord;
 use edd_check::Command;
@@ -112,43 +114,41 @@ pub fn read_commands<R: Read + Drop>(
 }
 
 // Adds the record of a command.
-fn push_command(draft: &mut Vec<u8>, command: &Command) -> Result<(), AllocError>
-    ensures text { OnOk result (draft.new.items ≡ draft.old.items ++ rows_text (command_row command.now ∷ [])) }
+#[inline]
+fn push_command(draft: &mut Draft, command: &Command) -> Result<(), AllocError>
+    ensures text { OnOk result (drafted draft.new ≡ drafted draft.old ++ rows_text (command_row command.now ∷ [])) }
 {
-    push_row(
-        draft,
-        &[
-            Cell::Number(command.id),
-            Cell::Number(command.release),
-            Cell::Number(command.due),
-        ],
-    )
+    let start = draft.room()?;
+    let buf = &mut draft.block;
+    let named = put_two(command.id, command.release, buf, start);
+    let mark = put(b",", buf, named);
+    let end = put_number(command.due, buf, mark);
+    draft.at = put(b"\n", buf, end);
+    Ok(())
 }
 
 // Adds the title record.
-fn push_title(draft: &mut Vec<u8>, depth: u64) -> Result<(), AllocError>
-    ensures text { OnOk result (draft.new.items ≡ draft.old.items ++ rows_text (title_row depth ∷ [])) }
+fn push_title(draft: &mut Draft, depth: u64) -> Result<(), AllocError>
+    ensures text { OnOk result (drafted draft.new ≡ drafted draft.old ++ rows_text (title_row depth ∷ [])) }
 {
-    push_row(
-        draft,
-        &[
-            Cell::Word(b"blk-commands"),
-            Cell::Word(b"1"),
-            Cell::Number(depth),
-        ],
-    )
+    let start = draft.room()?;
+    let buf = &mut draft.block;
+    let head = put(b"blk-commands,1,", buf, start);
+    let end = put_number(depth, buf, head);
+    draft.at = put(b"\n", buf, end);
+    Ok(())
 }
 
 // The text of a depth and a list of commands.
 fn commands_text(alloc: Global, depth: u64, commands: &[Command]) -> Result<Vec<u8>, AllocError>
     ensures { IfOk result (λ v. v.items ≡ rows_text (commands_rows depth commands.now)) }
 {
-    let mut draft = Vec::new(alloc);
+    let mut draft = Draft::new(alloc);
     push_title(&mut draft, depth)?;
     for i in 0..commands.len() {
         push_command(&mut draft, &commands[i])?;
     }
-    Ok(draft)
+    draft.finish()
 }
 
 /// Writes the text of a depth and a list of commands, at once where all of it could be made.

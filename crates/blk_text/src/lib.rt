@@ -8,6 +8,7 @@ pub mod fault;
 mod fields;
 pub mod laws;
 mod lines;
+mod pieces;
 pub mod script;
 mod setup;
 mod source;

@@ -6,11 +6,13 @@ ghost use Rattle.blk_trace.specs.Seen.{happened};
 ghost use Rattle.blk_text.specs.Texts.{rows_text};
 ghost use Rattle.blk_text.specs.BioRecord.{bio_row, direction_text};
 ghost use Rattle.blk_text.specs.Cells.{IsPlainWord};
+ghost use Rattle.blk_text.specs.Drafts.{drafted};
 ghost use Rattle.blk_text.specs.SetupRecord.{setup_row};
 ghost use Rattle.blk_text.specs.TraceRecords.{word_row, group_rows, event_rows, title_row, trace_rows};
 
-use crate::draft::{Cell, push_row, write_whole};
+use crate::draft::{Draft, write_whole};
 use crate::fault::WriteFault;
+use crate::pieces::{put, put_number, put_two};
 use blk_bio::bio::{Bio, Dir};
 use blk_trace::event::Event;
 use blk_trace::setup::Setup;
@@ -19,89 +21,74 @@ use std::alloc::{AllocError, Allocator, Global};
 use std::io::Write;
 
 // The letter of a direction.
-fn letter(dir: Dir) -> &'static [u8]
-    ensures { result.now ≡ direction_text dir }
+fn letter(dir: Dir) -> u8
+    ensures { result ∷ [] ≡ direction_text dir }
 {
     match dir {
-        Dir::Read => b"R",
-        Dir::Write => b"W",
+        Dir::Read => b'R',
+        Dir::Write => b'W',
     }
 }
 
 // Adds the record of a bio.
-fn push_bio(draft: &mut Vec<u8>, bio: &Bio) -> Result<(), AllocError>
-    ensures text { OnOk result (draft.new.items ≡ draft.old.items ++ rows_text (bio_row bio.now ∷ [])) }
+#[inline]
+fn push_bio(draft: &mut Draft, bio: &Bio) -> Result<(), AllocError>
+    ensures text { OnOk result (drafted draft.new ≡ drafted draft.old ++ rows_text (bio_row bio.now ∷ [])) }
 {
+    let start = draft.room()?;
     let id = bio.id();
-    push_row(
-        draft,
-        &[
-            Cell::Word(b"bio"),
-            Cell::Number(id.submitter as u64),
-            Cell::Number(id.serial),
-            Cell::Word(letter(bio.dir())),
-            Cell::Number(bio.first()),
-            Cell::Number(bio.sectors()),
-        ],
-    )
+    let buf = &mut draft.block;
+    let head = put(b"bio,", buf, start);
+    let named = put_two(id.submitter as u64, id.serial, buf, head);
+    let way = put(&[b',', letter(bio.dir()), b','], buf, named);
+    let placed = put_two(bio.first(), bio.sectors(), buf, way);
+    draft.at = put(b"\n", buf, placed);
+    Ok(())
 }
 
 // Adds a record of a word and two numbers.
-fn push_numbers(draft: &mut Vec<u8>, word: &[u8], first: u64, second: u64) -> Result<(), AllocError>
+#[inline(always)]
+fn push_numbers(draft: &mut Draft, word: &[u8], first: u64, second: u64) -> Result<(), AllocError>
     requires { IsPlainWord word.now }
-    ensures text { OnOk result (draft.new.items ≡ draft.old.items ++ rows_text (word_row word.now (decimal first) (decimal second) ∷ [])) }
+    ensures text { OnOk result (drafted draft.new ≡ drafted draft.old ++ rows_text (word_row word.now (decimal first) (decimal second) ∷ [])) }
 {
-    push_row(
-        draft,
-        &[
-            Cell::Word(word),
-            Cell::Number(first),
-            Cell::Number(second),
-            Cell::Blank,
-            Cell::Blank,
-            Cell::Blank,
-        ],
-    )
+    let start = draft.room()?;
+    let buf = &mut draft.block;
+    let head = put(word, buf, start);
+    let mark = put(b",", buf, head);
+    let end = put_two(first, second, buf, mark);
+    draft.at = put(b",,,\n", buf, end);
+    Ok(())
 }
 
 // Adds the record of a completion.
-fn push_done(draft: &mut Vec<u8>, tag: u16) -> Result<(), AllocError>
-    ensures text { OnOk result (draft.new.items ≡ draft.old.items ++ rows_text (word_row (codes "done") (decimal tag) [] ∷ [])) }
+#[inline]
+fn push_done(draft: &mut Draft, tag: u16) -> Result<(), AllocError>
+    ensures text { OnOk result (drafted draft.new ≡ drafted draft.old ++ rows_text (word_row (codes "done") (decimal tag) [] ∷ [])) }
 {
-    push_row(
-        draft,
-        &[
-            Cell::Word(b"done"),
-            Cell::Number(tag as u64),
-            Cell::Blank,
-            Cell::Blank,
-            Cell::Blank,
-            Cell::Blank,
-        ],
-    )
+    let start = draft.room()?;
+    let buf = &mut draft.block;
+    let head = put(b"done,", buf, start);
+    let end = put_number(tag as u64, buf, head);
+    draft.at = put(b",,,,\n", buf, end);
+    Ok(())
 }
 
 // Adds the record of the end of a round.
-fn push_tick(draft: &mut Vec<u8>) -> Result<(), AllocError>
-    ensures text { OnOk result (draft.new.items ≡ draft.old.items ++ rows_text (word_row (codes "tick") [] [] ∷ [])) }
+#[inline]
+fn push_tick(draft: &mut Draft) -> Result<(), AllocError>
+    ensures text { OnOk result (drafted draft.new ≡ drafted draft.old ++ rows_text (word_row (codes "tick") [] [] ∷ [])) }
 {
-    push_row(
-        draft,
-        &[
-            Cell::Word(b"tick"),
-            Cell::Blank,
-            Cell::Blank,
-            Cell::Blank,
-            Cell::Blank,
-            Cell::Blank,
-        ],
-    )
+    let start = draft.room()?;
+    draft.at = put(b"tick,,,,,\n", &mut draft.block, start);
+    Ok(())
 }
 
 // Adds the records of a group: its own, and those of its bios.
-fn push_group(draft: &mut Vec<u8>, word: &[u8], id: u64, bios: &[Bio]) -> Result<(), AllocError>
+#[inline(always)]
+fn push_group(draft: &mut Draft, word: &[u8], id: u64, bios: &[Bio]) -> Result<(), AllocError>
     requires { IsPlainWord word.now }
-    ensures text { OnOk result (draft.new.items ≡ draft.old.items ++ rows_text (group_rows word.now id bios.now)) }
+    ensures text { OnOk result (drafted draft.new ≡ drafted draft.old ++ rows_text (group_rows word.now id bios.now)) }
 {
     push_numbers(draft, word, id, bios.len() as u64)?;
     for i in 0..bios.len() {
@@ -111,8 +98,8 @@ fn push_group(draft: &mut Vec<u8>, word: &[u8], id: u64, bios: &[Bio]) -> Result
 }
 
 // Adds the records of an event.
-fn push_event<A: Allocator + Clone>(draft: &mut Vec<u8>, event: &Event<A>) -> Result<(), AllocError>
-    ensures text { OnOk result (draft.new.items ≡ draft.old.items ++ rows_text (event_rows (happened event.now))) }
+fn push_event<A: Allocator + Clone>(draft: &mut Draft, event: &Event<A>) -> Result<(), AllocError>
+    ensures text { OnOk result (drafted draft.new ≡ drafted draft.old ++ rows_text (event_rows (happened event.now))) }
 {
     match event {
         Event::Tick => push_tick(draft),
@@ -124,45 +111,39 @@ fn push_event<A: Allocator + Clone>(draft: &mut Vec<u8>, event: &Event<A>) -> Re
 }
 
 // Adds the title record.
-fn push_title(draft: &mut Vec<u8>, setup: &Setup, count: u64) -> Result<(), AllocError>
-    ensures text { OnOk result (draft.new.items ≡ draft.old.items ++ rows_text (title_row setup.now count ∷ [])) }
+fn push_title(draft: &mut Draft, setup: &Setup, count: u64) -> Result<(), AllocError>
+    ensures text { OnOk result (drafted draft.new ≡ drafted draft.old ++ rows_text (title_row setup.now count ∷ [])) }
 {
-    push_row(
-        draft,
-        &[
-            Cell::Word(b"blk-trace"),
-            Cell::Word(b"1"),
-            Cell::Number(setup.depth()),
-            Cell::Number(setup.hw() as u64),
-            Cell::Number(count),
-            Cell::Blank,
-        ],
-    )
+    let start = draft.room()?;
+    let buf = &mut draft.block;
+    let head = put(b"blk-trace,1,", buf, start);
+    let queues = put_two(setup.depth(), setup.hw() as u64, buf, head);
+    let mark = put(b",", buf, queues);
+    let end = put_number(count, buf, mark);
+    draft.at = put(b",\n", buf, end);
+    Ok(())
 }
 
 // Adds the setup record.
-fn push_setup(draft: &mut Vec<u8>, setup: &Setup) -> Result<(), AllocError>
-    ensures text { OnOk result (draft.new.items ≡ draft.old.items ++ rows_text (setup_row setup.now ∷ [])) }
+fn push_setup(draft: &mut Draft, setup: &Setup) -> Result<(), AllocError>
+    ensures text { OnOk result (drafted draft.new ≡ drafted draft.old ++ rows_text (setup_row setup.now ∷ [])) }
 {
+    let start = draft.room()?;
     let limits = setup.limits();
-    push_row(
-        draft,
-        &[
-            Cell::Word(b"setup"),
-            Cell::Number(setup.read_expire()),
-            Cell::Number(setup.write_expire()),
-            Cell::Number(limits.max_sectors()),
-            Cell::Number(limits.max_segments()),
-            Cell::Blank,
-        ],
-    )
+    let buf = &mut draft.block;
+    let head = put(b"setup,", buf, start);
+    let expiries = put_two(setup.read_expire(), setup.write_expire(), buf, head);
+    let mark = put(b",", buf, expiries);
+    let end = put_two(limits.max_sectors(), limits.max_segments(), buf, mark);
+    draft.at = put(b",\n", buf, end);
+    Ok(())
 }
 
 // The text of a trace.
 fn trace_text<A: Allocator + Clone>(alloc: Global, trace: &Trace<A>) -> Result<Vec<u8>, AllocError>
     ensures { IfOk result (λ v. v.items ≡ rows_text (trace_rows trace.now)) }
 {
-    let mut draft = Vec::new(alloc);
+    let mut draft = Draft::new(alloc);
     let setup = trace.setup();
     let events = trace.events();
     push_title(&mut draft, &setup, events.len() as u64)?;
@@ -170,7 +151,7 @@ fn trace_text<A: Allocator + Clone>(alloc: Global, trace: &Trace<A>) -> Result<V
     for i in 0..events.len() {
         push_event(&mut draft, &events[i])?;
     }
-    Ok(draft)
+    draft.finish()
 }
 
 /// Writes the text of a trace, at once where all of it could be made: records of six fields, a title,

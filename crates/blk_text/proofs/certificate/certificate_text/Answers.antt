@@ -3,6 +3,7 @@ use Rattle.std.specs.List.{zip}
 use Rattle.blk_text.specs.Certificate.{title_row, bound_row, served_row}
 use Rattle.blk_text.proofs.DraftLemmas.{two_first, one_more_at, whole}
 use Rattle.blk_text.proofs.ClaimLemmas.{paired, length_zip}
+use Rattle.blk_text.specs.Drafts.{drafted}
 use Rattle.blk_text.proofs.certificate.certificate_text.Goals as goal
 
 pub loop-i-init : goal.loop-i-init
@@ -10,7 +11,7 @@ loop-i-init c =
     let is = c.as_slice-commands.ensures.value in
     record {
       text = two_first (title_row c.args.certificate.now.depth (length c.args.certificate.now.commands.items)) (bound_row c.args.certificate.now.bound)
-          c.new-draft.result.items c.push_title.new.draft.items c.push_bound.new.draft.items c.new-draft.ensures.items
+          (drafted c.new-draft.result) (drafted c.push_title.new.draft) (drafted c.push_bound.new.draft) c.new-draft.ensures
           (rw is at c.in_ok-push_title.ensures.text) c.in_ok-push_bound.ensures.text;
     }
 
@@ -25,13 +26,14 @@ loop-i-preserved c =
     record {
       text = one_more_at (λ s. served_row s ∷ []) [] (title_row c.args.certificate.now.depth (length c.args.certificate.now.commands.items) ∷ bound_row c.args.certificate.now.bound ∷ [])
           (zip c.args.certificate.now.commands.items c.args.certificate.now.rounds.items) c.loop-i.i (record { id = 0; release = 0; due = 0 }, 0)
-          c.loop-i.draft.items c.push_served.new.draft.items in_both c.loop-i.invariant.text (rw pair (rw (commands, rounds) at c.in_ok-push_served.ensures.text));
+          (drafted c.loop-i.draft) (drafted c.push_served.new.draft) in_both c.loop-i.invariant.text (rw pair (rw (commands, rounds) at c.in_ok-push_served.ensures.text));
     }
 
 pub returns : goal.returns
 returns c =
     let commands = c.as_slice-commands.ensures.value in
     let over : length c.args.certificate.now.commands.items ≤ c.loop-i.i = rw commands at c.loop-i-test.false in
-    whole served_row [] (title_row c.args.certificate.now.depth (length c.args.certificate.now.commands.items) ∷ bound_row c.args.certificate.now.bound ∷ [])
-    (zip c.args.certificate.now.commands.items c.args.certificate.now.rounds.items) c.loop-i.i c.loop-i.draft.items
-    (omega (arith, length_zip c.args.certificate.now.commands.items c.args.certificate.now.rounds.items c.requires.one_each, over)) c.loop-i.invariant.text
+    let all = whole served_row [] (title_row c.args.certificate.now.depth (length c.args.certificate.now.commands.items) ∷ bound_row c.args.certificate.now.bound ∷ [])
+    (zip c.args.certificate.now.commands.items c.args.certificate.now.rounds.items) c.loop-i.i (drafted c.loop-i.draft)
+    (omega (arith, length_zip c.args.certificate.now.commands.items c.args.certificate.now.rounds.items c.requires.one_each, over)) c.loop-i.invariant.text in
+    rw all at c.finish.ensures

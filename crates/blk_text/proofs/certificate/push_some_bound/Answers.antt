@@ -1,18 +1,32 @@
-use Rattle.std.proofs.Common.{rules, ◌≡◌, ◌+◌, ◌<◌, ◌≤◌, ◌^◌, ◌∷◌, [], ◌∙◌, ap, ℕ, zero, suc, length, refl, arith, w64, ℤ, pos, to_z, of_z}
+use Rattle.std.proofs.Common.{◌≡◌, ◌≤◌, ◌<◌, ◌^◌, ◌∙◌, ap, length, arith, w64, to_z, of_z}
 use Rattle.std.specs.Fmt.{signed_decimal}
-use Rattle.std.proofs.lemmas.Fmt.{length_signed_le}
 use Rattle.std.proofs.lemmas.Int.{to_z-of_z}
-use Rattle.blk_text.proofs.PlainRows.{signed_plain}
+use Rattle.blk_text.proofs.Rows.{added, bound_is, late_long}
 use Rattle.blk_text.proofs.certificate.push_some_bound.Goals as goal
 
-pub push_row-requires-clause-short : goal.push_row-requires-clause-short
-push_row-requires-clause-short c zero d h = omega arith
-push_row-requires-clause-short c (suc zero) d h =
+pub put-named-requires : goal.put-named-requires
+put-named-requires c =
     let is = c.as_bytes.ensures.value ∙ c.in_ok-late.ensures.ok ∙ ap signed_decimal (to_z-of_z w64 c.args.lateness c.ranges.lateness) in
-    rw is (length_signed_le 19 c.args.lateness (omega (arith, c.ranges.lateness.sfits)) (omega (arith, c.ranges.lateness.sfits)))
-push_row-requires-clause-short c (suc (suc zero)) d h = tt
-push_row-requires-clause-short c (suc (suc (suc zero))) d h = tt
-push_row-requires-clause-short c (suc (suc (suc (suc k)))) d h = absurd (omega arith)
+    omega (arith, c.in_ok-start.ensures.at.1, late_long c.as_bytes.result.now c.args.lateness is (omega (arith, c.ranges.lateness.sfits)))
 
-pub push_row-requires-clause-plain : goal.push_row-requires-clause-plain
-push_row-requires-clause-plain c = rw (c.as_bytes.ensures.value, c.in_ok-late.ensures.ok, signed_plain (to_z w64 (of_z w64 c.args.lateness))) refl
+pub put-mark-requires : goal.put-mark-requires
+put-mark-requires c =
+    let is = c.as_bytes.ensures.value ∙ c.in_ok-late.ensures.ok ∙ ap signed_decimal (to_z-of_z w64 c.args.lateness c.ranges.lateness) in
+    omega (arith, c.in_ok-start.ensures.at.1, late_long c.as_bytes.result.now c.args.lateness is (omega (arith, c.ranges.lateness.sfits)))
+
+pub put_two-end-requires : goal.put_two-end-requires
+put_two-end-requires c =
+    let is = c.as_bytes.ensures.value ∙ c.in_ok-late.ensures.ok ∙ ap signed_decimal (to_z-of_z w64 c.args.lateness c.ranges.lateness) in
+    omega (arith, c.in_ok-start.ensures.at.1, late_long c.as_bytes.result.now c.args.lateness is (omega (arith, c.ranges.lateness.sfits)))
+
+pub put-draft-requires : goal.put-draft-requires
+put-draft-requires c =
+    let is = c.as_bytes.ensures.value ∙ c.in_ok-late.ensures.ok ∙ ap signed_decimal (to_z-of_z w64 c.args.lateness c.ranges.lateness) in
+    omega (arith, c.in_ok-start.ensures.at.1, late_long c.as_bytes.result.now c.args.lateness is (omega (arith, c.ranges.lateness.sfits)))
+
+pub returns : goal.returns
+returns c =
+    let is = c.as_bytes.ensures.value ∙ c.in_ok-late.ensures.ok ∙ ap signed_decimal (to_z-of_z w64 c.args.lateness c.ranges.lateness) in
+    let written = rw (c.put_two-end.ensures.written, c.put-mark.ensures.written, c.put-named.ensures.written, is, c.put-head.ensures.written) at c.put-draft.ensures.written in
+    let start = c.in_ok-start.ensures in
+    record { text = added _ _ _ _ _ _ _ start.at.0 start.text (written ∙ bound_is _ c.args.lateness c.args.window) }

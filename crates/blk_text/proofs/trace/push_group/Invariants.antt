@@ -2,9 +2,10 @@ use Rattle.std.proofs.Common.{[], ◌∷◌, decimal, length}
 use Rattle.blk_text.specs.BioRecord.{bio_row}
 use Rattle.blk_text.specs.TraceRecords.{word_row}
 use Rattle.blk_text.proofs.DraftLemmas.{IsSoFar}
+use Rattle.blk_text.specs.Drafts.{drafted}
 use Rattle.blk_text.proofs.trace.push_group.Given as goal
 
 abbrev pub invariant-loop-i : goal.invariant-loop-i
 invariant-loop-i l = record {
-  text : IsSoFar (λ b. bio_row b ∷ []) l.fn.draft.items (word_row l.fn.word (decimal l.fn.id) (decimal (length l.bios)) ∷ []) l.bios l.i l.draft.items;
+  text : IsSoFar (λ b. bio_row b ∷ []) (drafted l.fn.draft) (word_row l.fn.word (decimal l.fn.id) (decimal (length l.bios)) ∷ []) l.bios l.i (drafted l.draft);
 }

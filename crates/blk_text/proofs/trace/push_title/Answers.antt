@@ -1,8 +1,10 @@
-use Rattle.std.proofs.Common.{rules, ◌≡◌, ◌∷◌, [], codes, decimal}
-use Rattle.blk_text.specs.TraceRecords.{title_row}
+use Rattle.std.proofs.Common.{◌∙◌}
+use Rattle.blk_text.proofs.Rows.{added, trace_title_is}
 use Rattle.blk_text.proofs.trace.push_title.Goals as goal
 
 pub returns : goal.returns
 returns c =
-    let row : codes "blk-trace" ∷ codes "1" ∷ decimal c.depth.result ∷ decimal c.hw.result ∷ decimal c.args.count ∷ [] ∷ [] ≡ title_row c.args.setup.now c.args.count = search rules in
-    record { text = rw row at c.push_row.ensures.text }
+    let written = rw (c.put_number-end.ensures.written, c.put-mark.ensures.written, c.put_two-queues.ensures.written, c.put-head.ensures.written) at c.put-draft.ensures.written in
+    let row = rw (c.depth.ensures.value, c.hw.ensures.value) at written in
+    let start = c.in_ok-start.ensures in
+    record { text = added _ _ _ _ _ _ _ start.at.0 start.text (row ∙ trace_title_is _ c.args.setup.now c.args.count) }

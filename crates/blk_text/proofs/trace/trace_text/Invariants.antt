@@ -3,9 +3,10 @@ use Rattle.blk_trace.specs.Seen.{happened}
 use Rattle.blk_text.specs.SetupRecord.{setup_row}
 use Rattle.blk_text.specs.TraceRecords.{event_rows, title_row}
 use Rattle.blk_text.proofs.DraftLemmas.{IsSoFar}
+use Rattle.blk_text.specs.Drafts.{drafted}
 use Rattle.blk_text.proofs.trace.trace_text.Given as goal
 
 abbrev pub invariant-loop-i : goal.invariant-loop-i
 invariant-loop-i g l = record {
-  text : IsSoFar (λ e. event_rows (happened e)) [] (title_row l.fn.trace.setup (length l.events) ∷ setup_row l.fn.trace.setup ∷ []) l.events l.i l.draft.items;
+  text : IsSoFar (λ e. event_rows (happened e)) [] (title_row l.fn.trace.setup (length l.events) ∷ setup_row l.fn.trace.setup ∷ []) l.events l.i (drafted l.draft);
 }
