@@ -25,10 +25,15 @@ use thiserror::Error;
 /// round of its release, the round in which it is due, and its bios.
 #[derive(Debug, Drop)]
 pub struct Queued<A: Allocator = Global> {
+    /// Its id among the requests of a scheduler.
     pub id: u64,
+    /// The hardware queue that it entered at, 0 to 15.
     pub hw: u8,
+    /// The round in which it was released or last joined.
     pub release: u64,
+    /// The round in which it is due.
     pub due: u64,
+    /// Its bios.
     pub request: Request<A>,
 }
 
@@ -176,7 +181,8 @@ pub trait Scheduler: Drop {
         ensures same { IfNone result (meaning self.new ≡ meaning self.old) }
         ensures own { (w : Waiting) → IsTrue (serves w.hw w) };
 
-    /// Closes an open pick of a direction; `wait` is the number of rounds from the request's release to its issue.
+    /// Closes an open pick of a direction; `wait` is the number of rounds from the release of the request that was picked
+    /// to its issue, and `hw` the hardware queue that it was picked for.
     fn on_done(&mut self, hw: u8, dir: Dir, wait: u64)
         requires hw { hw < 16 }
         requires is_open { 0 < open_of dir (meaning self.old).open_picks }

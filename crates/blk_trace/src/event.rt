@@ -9,11 +9,29 @@ pub enum Event<A: Allocator = Global> {
     /// A round ends. A command takes one round.
     Tick,
     /// A request enters the scheduler under a new id (an insert).
-    Release { id: u64, request: Request<A> },
+    Release {
+        /// Its id, under which no request was released before.
+        id: u64,
+        /// Its bios.
+        request: Request<A>,
+    },
     /// A request joins the one that entered under the id, at its back or front (a merge).
-    Join { id: u64, request: Request<A> },
+    Join {
+        /// The id of the request that is joined, which waits.
+        id: u64,
+        /// The bios that join it.
+        request: Request<A>,
+    },
     /// The request of the id goes to the device under the tag (an issue, named by blk-mq's tag).
-    Issue { id: u64, tag: u16 },
+    Issue {
+        /// The id of the request, which waits.
+        id: u64,
+        /// The tag, below the depth, that no request was issued under in this round.
+        tag: u16,
+    },
     /// The command under the tag has completed, and the tag is free from the next round on.
-    Done { tag: u16 },
+    Done {
+        /// The tag of a command that is in flight.
+        tag: u16,
+    },
 }

@@ -55,7 +55,9 @@ impl Model for Setup {
 }
 
 impl Setup {
-    /// A setup of 1 to 64 tags and 1 to 16 hardware queues, with expiries below 2^40 rounds.
+    /// A setup of 1 to 64 tags and 1 to 16 hardware queues, with expiries below 2^40 rounds. Refused as `Depth` where the
+    /// number of tags is out of its range, then as `Queues` where that of the hardware queues is, and then as `Expire`
+    /// where one of the expiries is.
     pub fn new(
         depth: u64,
         hw: u8,

@@ -75,7 +75,7 @@ impl<A: Allocator> Model for Trace<A> {
 }
 
 impl<A: Allocator + Clone> Trace<A> {
-    /// A trace without events.
+    /// A trace without events. Fails for want of memory alone.
     pub fn empty(alloc: A, setup: Setup) -> Result<Trace<A>, AllocError>
         ensures { IfOk result (λ t. t ≡ record { setup = setup; events = []; prepared = Prepared.Nothing }) }
     {
