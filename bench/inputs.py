@@ -1,9 +1,9 @@
 #!/usr/bin/env python3
 """Writes the inputs of bench/run: inputs.py KIND N > FILE.
 
-KIND is script (N bios), certificate (N commands), commands (N commands) or backlog (N bios of one hardware queue, of which
-none fits another and none is issued). All come from a fixed seed, so that every
-run has the same bytes."""
+KIND is script (N bios), certificate (N commands), commands (N commands), backlog (N bios of one hardware queue, of which
+none touches another and none is issued) or touching (the same, but each touches half of the others and fits none, since
+each is as large as a request may be). All come from a fixed seed, so that every run has the same bytes."""
 import random
 import sys
 
@@ -49,20 +49,35 @@ def command_list(commands, out):
         out(f"{k},{release},{release + rng.randrange(50)}")
 
 
-def backlog(bios, out):
+def waiting(bios, out, most, first):
+    """Reads of 8 sectors that come in one after the other and all wait; `first` gives the first sector of the n-th."""
     out(f"blk-script,1,{DEPTH},1,64,1")
-    out("setup,5,50,256,128,")
+    out(f"setup,5,50,{most},128,")
     for n in range(bios):
-        out(f"bio,0,{n},R,{16 * n},8")
+        out(f"bio,0,{n},R,{first(n)},8")
         if n % PLUG == PLUG - 1 or n == bios - 1:
             out("flush,0,,,,")
             out("drain,0,,,,")
 
 
+def backlog(bios, out):
+    waiting(bios, out, 256, lambda n: 16 * n)
+
+
+def touching(bios, out):
+    waiting(bios, out, 8, lambda n: 8 * (n % 2))
+
+
 def main():
     kind, n = sys.argv[1], int(sys.argv[2])
     lines = []
-    kinds = {"script": script, "certificate": certificate, "commands": command_list, "backlog": backlog}
+    kinds = {
+        "script": script,
+        "certificate": certificate,
+        "commands": command_list,
+        "backlog": backlog,
+        "touching": touching,
+    }
     kinds[kind](n, lines.append)
     sys.stdout.write("\n".join(lines) + "\n")
 

@@ -201,8 +201,13 @@ fn front_merge(rt: HostRuntime) -> Result<(), Fail> {
     let calls = [
         Call::Release(0, 10, 2, 0, Ok(Placed::New(0))),
         Call::Release(1, 8, 2, 0, Ok(Placed::Joined(0, Side::Front))),
+        Call::Pending(1),
     ];
-    follow(&rt, &alloc, &mut core, &calls)
+    follow(&rt, &alloc, &mut core, &calls)?;
+    // the bios of the one request, in the order of their sectors: it is (8, 4)
+    let tiles = [read(1, 8, 2)?, read(0, 10, 2)?];
+    assert_eq!(rt; core.trace().waiting()?.as_slice(), tiles.as_slice());
+    Ok(())
 }
 
 #[test]

@@ -3,10 +3,16 @@
 
 #[cfg(test)]
 mod calls;
+#[cfg(test)]
+mod failing;
 pub mod lifo;
 #[cfg(test)]
 mod own;
 #[cfg(test)]
 mod refusals;
 #[cfg(test)]
+mod rounds;
+#[cfg(test)]
 mod run;
+#[cfg(test)]
+mod told;

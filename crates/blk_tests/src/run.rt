@@ -2,25 +2,24 @@
 
 use blk_cli::run;
 use std::alloc::{AllocError, Global};
-use std::io;
-use std::io::{ErrorKind, Read, Write};
 use std::process::Abort;
 use std::test::Fail;
 
-const WRITE_BEFORE_READ: &str =
+pub const WRITE_BEFORE_READ: &str =
     "blk-script,1,1,1,4,1\nsetup,0,9,256,128,\nbio,0,0,W,100,8\nbio,0,1,R,200,8\nflush,0,,,,\ndrain,0,,,,\nrun,2,,,,\n";
 
-const ITS_TRACE: &str =
+pub const ITS_TRACE: &str =
     "blk-trace,1,1,1,8,\nsetup,0,9,256,128,\nrelease,0,1,,,\nbio,0,0,W,100,8\nrelease,1,1,,,\nbio,0,1,R,200,8\nissue,0,0,,,\ndone,0,,,,\ntick,,,,,\nissue,1,0,,,\ndone,0,,,,\ntick,,,,,\n";
 
-const THREE_AT_ONCE: &str = "blk-commands,1,1\n1,0,0\n2,0,0\n3,0,0\n";
+pub const THREE_AT_ONCE: &str = "blk-commands,1,1\n1,0,0\n2,0,0\n3,0,0\n";
 
-const ITS_CERTIFICATE: &str = "blk-certificate,1,1,3\nbound,2,0,0\n1,0,0,0\n2,0,0,1\n3,0,0,2\n";
+pub const ITS_CERTIFICATE: &str = "blk-certificate,1,1,3\nbound,2,0,0\n1,0,0,0\n2,0,0,1\n3,0,0,2\n";
 
 /// Words after the program's name, an input, and what comes of them: the status, the output, the line.
-type Case<'a> = (&'a [&'a str], &'a str, u8, &'a str, &'a str);
+pub type Case<'a> = (&'a [&'a str], &'a str, u8, &'a str, &'a str);
 
-fn words_of(alloc: Global, words: &[&str]) -> Result<Vec<String>, AllocError> {
+/// The words of a command line, the program's name before them.
+pub fn words_of(alloc: Global, words: &[&str]) -> Result<Vec<String>, AllocError> {
     let mut all = Vec::new(alloc);
     all.push(String::from_str(alloc, "blk")?)?;
     for word in words {
@@ -30,7 +29,7 @@ fn words_of(alloc: Global, words: &[&str]) -> Result<Vec<String>, AllocError> {
 }
 
 /// Runs each case and compares all that comes of it.
-fn each(rt: &impl Abort, alloc: Global, cases: &[Case<'_>]) -> Result<(), Fail> {
+pub fn each(rt: &impl Abort, alloc: Global, cases: &[Case<'_>]) -> Result<(), Fail> {
     for (words, input, status, output, line) in cases {
         let words = words_of(alloc, *words)?;
         let mut out = Vec::new(alloc);
@@ -60,6 +59,13 @@ fn write_before_read(rt: HostRuntime) -> Result<(), Fail> {
             (&["sim"], WRITE_BEFORE_READ, 0, ITS_TRACE, ""),
             (
                 &["sim", "--sched", "none"],
+                WRITE_BEFORE_READ,
+                0,
+                ITS_TRACE,
+                "",
+            ),
+            (
+                &["sim", "--sched=none"],
                 WRITE_BEFORE_READ,
                 0,
                 ITS_TRACE,
@@ -168,6 +174,44 @@ fn three_at_once(rt: HostRuntime) -> Result<(), Fail> {
     )
 }
 
+/// Command lists, each with its certificate and the line of its check: K is depth * max(0, due + L - from).
+#[test]
+fn lines_of_check(rt: HostRuntime) -> Result<(), Fail> {
+    for (commands, certificate, line) in [
+        // 1 * max(0, 5 - 5 - 0)
+        (
+            "blk-commands,1,1\n1,0,5\n",
+            "blk-certificate,1,1,1\nbound,-5,0,5\n1,0,5,0\n",
+            "ok lateness -5 load 1 carries 0\n",
+        ),
+        // 1 * max(0, 3 + 2 - 5)
+        (
+            "blk-commands,1,1\n1,5,3\n",
+            "blk-certificate,1,1,1\nbound,2,5,3\n1,5,3,5\n",
+            "ok lateness 2 load 1 carries 0\n",
+        ),
+        // 1 * max(0, 1 + 1 - 1); the command due in round 10 is outside the window
+        (
+            "blk-commands,1,1\n1,0,10\n2,1,1\n3,1,1\n",
+            "blk-certificate,1,1,3\nbound,1,1,1\n1,0,10,0\n2,1,1,1\n3,1,1,2\n",
+            "ok lateness 1 load 2 carries 1\n",
+        ),
+        // 2 * max(0, 0 + 2 - 0)
+        (
+            "blk-commands,1,2\n1,0,0\n2,0,0\n3,0,0\n4,0,0\n5,0,0\n",
+            "blk-certificate,1,2,5\nbound,2,0,0\n1,0,0,0\n2,0,0,0\n3,0,0,1\n4,0,0,1\n5,0,0,2\n",
+            "ok lateness 2 load 5 carries 4\n",
+        ),
+    ] {
+        let cases: [Case<'_>; 2] = [
+            (&["oracle"], commands, 0, certificate, ""),
+            (&["check"], certificate, 0, line, ""),
+        ];
+        each(&rt, rt.alloc(), &cases)?;
+    }
+    Ok(())
+}
+
 #[test]
 fn no_commands(rt: HostRuntime) -> Result<(), Fail> {
     let certificate = "blk-certificate,1,1,0\nbound,none,none,none\n";
@@ -229,117 +273,22 @@ fn bad_option(rt: HostRuntime) -> Result<(), Fail> {
     Ok(())
 }
 
-/// A reader that gives its text byte by byte, and fails after so many reads.
-#[derive(Drop)]
-struct Failing<'a> {
-    text: &'a [u8],
-    reads_left: u64,
-}
-
-impl<'a> Read for Failing<'a> {
-    fn read(&mut self, buf: &mut [u8]) -> io::Result<usize> {
-        if self.reads_left == 0 {
-            return Err(io::Error::from(ErrorKind::Other));
-        }
-        self.reads_left -= 1;
-        match self.text.split_first() {
-            Some((first, rest)) => {
-                if buf.is_empty() {
-                    return Ok(0);
-                }
-                buf[0] = *first;
-                self.text = rest;
-                Ok(1)
-            }
-            None => Ok(0),
-        }
-    }
-}
-
-/// A writer that takes a byte at each write, and fails after so many writes.
-#[derive(Drop)]
-struct Choking {
-    writes_left: u64,
-}
-
-impl Write for Choking {
-    fn write(&mut self, buf: &[u8]) -> io::Result<usize> {
-        if self.writes_left == 0 {
-            return Err(io::Error::from(ErrorKind::Other));
-        }
-        self.writes_left -= 1;
-        Ok(if buf.is_empty() { 0 } else { 1 })
-    }
-
-    fn flush(&mut self) -> io::Result<()> {
-        Ok(())
-    }
-}
-
-/// Each way to run a subcommand, with an input and its output.
-fn good_runs<'a>() -> [(&'a str, &'a str, &'a str); 3] {
-    [
-        ("sim", WRITE_BEFORE_READ, ITS_TRACE),
-        ("oracle", THREE_AT_ONCE, ITS_CERTIFICATE),
-        ("check", ITS_CERTIFICATE, "ok lateness 2 load 3 carries 2\n"),
-    ]
-}
-
+/// The texts of clap, by its template: about, usage, subcommands with their abouts in a column, options; and for a word
+/// that it doesn't know, which one, and the usage of the subcommand.
 #[test]
-fn failing_reads(rt: HostRuntime) -> Result<(), Fail> {
-    let alloc = rt.alloc();
-    for (word, input, output) in good_runs() {
-        let words = words_of(alloc, &[word])?;
-        let length = input.as_bytes().len() as u64;
-        // each byte is a read, and one more finds the end
-        for reads_left in 0..length + 2 {
-            let mut out = Vec::new(alloc);
-            let mut faults = Vec::new(alloc);
-            let reader = Failing {
-                text: input.as_bytes(),
-                reads_left,
-            };
-            let status = run(alloc, words.as_slice(), reader, &mut out, &mut faults);
-            if reads_left > length {
-                assert_eq!(rt; status, 0);
-                assert!(rt; out.as_slice() == output.as_bytes());
-                assert!(rt; faults.is_empty());
-            } else {
-                assert_eq!(rt; status, 3, "{reads_left}");
-                assert!(rt; out.is_empty());
-                assert!(rt; faults.as_slice() == b"blk: read fault\n".as_slice());
-            }
-        }
-    }
-    Ok(())
-}
-
-#[test]
-fn failing_writes(rt: HostRuntime) -> Result<(), Fail> {
-    let alloc = rt.alloc();
-    for (word, input, output) in good_runs() {
-        let words = words_of(alloc, &[word])?;
-        let length = output.as_bytes().len() as u64;
-        for writes_left in 0..length + 1 {
-            let mut out = Choking { writes_left };
-            let mut faults = Vec::new(alloc);
-            let status = run(
-                alloc,
-                words.as_slice(),
-                input.as_bytes(),
-                &mut out,
-                &mut faults,
-            );
-            if writes_left == length {
-                assert_eq!(rt; status, 0);
-                assert!(rt; faults.is_empty());
-            } else {
-                assert_eq!(rt; status, 3, "{writes_left}");
-                assert!(rt; faults.as_slice() == b"blk: write fault\n".as_slice());
-            }
-        }
-    }
-    Ok(())
+fn texts_of_clap(rt: HostRuntime) -> Result<(), Fail> {
+    let help =
+        "A multiqueue block layer, and how far its schedules fall short of the best\n\nUsage: blk <COMMAND>\n\nCommands:\n  sim     Runs a script and writes its trace\n  oracle  Writes a least schedule of a command list, with its certificate\n  check   Checks a certificate\n  help    Print this message or the help of the given subcommand(s)\n\nOptions:\n  -h, --help  Print help\n";
+    let bad =
+        "error: unexpected argument '--bad' found\n\nUsage: blk check\n\nFor more information, try '--help'.\n";
+    each(
+        &rt,
+        rt.alloc(),
+        &[
+            (&["--help"], "", 2, "", help),
+            (&["check", "--bad"], ITS_CERTIFICATE, 2, "", bad),
+        ],
+    )
 }
 
 #[test]
@@ -409,23 +358,21 @@ fn full_plug(rt: HostRuntime) -> Result<(), Fail> {
         let line = format!(in alloc; "bio,0,{},R,{},8\n", k, 16 * k)?;
         script.push_str(line.as_str())?;
     }
-    let joins = "bio,0,32,R,8,8\n";
-    let joined = format!(in alloc; "{}{}flush,0,,,,\n", script, joins)?;
-    let words = words_of(alloc, &["sim"])?;
-    let mut out = Vec::new(alloc);
-    let mut faults = Vec::new(alloc);
-    let status = run(
-        alloc,
-        words.as_slice(),
-        joined.as_bytes(),
-        &mut out,
-        &mut faults,
-    );
-    assert_eq!(rt; status, 0);
+    // a bio in front of one that waits still joins, and without a drain no event comes of it
+    let joined = format!(in alloc; "{}bio,0,32,R,8,8\nflush,0,,,,\n", script)?;
     script.push_str("bio,0,32,R,600,8\n")?;
     each(
         &rt,
         alloc,
-        &[(&["sim"], script.as_str(), 1, "", "blk: record 35: Full\n")],
+        &[
+            (
+                &["sim"],
+                joined.as_str(),
+                0,
+                "blk-trace,1,1,1,0,\nsetup,0,0,256,128,\n",
+                "",
+            ),
+            (&["sim"], script.as_str(), 1, "", "blk: record 35: Full\n"),
+        ],
     )
 }
