@@ -1,10 +1,10 @@
 -- Records of plain fields.
-use Rattle.std.proofs.Common.{◌≡◌, ◌+◌, ◌-◌, ◌<◌, ◌≤◌, ◌/◌, ◌%◌, ◌∙◌, ◌==◌, Bool, true, false, not, ◌&&◌, ℕ, zero, suc, List, [], ◌∷◌, ◌++◌, length, map, drop, get_or, refl, ap, append_assoc, arith, decimal, ℤ, pos, negsuc, inl, inr}
+use Rattle.std.proofs.Common.{◌≡◌, ◌<◌, ◌≤◌, ◌/◌, ◌%◌, ◌∙◌, ◌==◌, Bool, true, false, not, ◌&&◌, ℕ, zero, suc, List, [], ◌∷◌, ◌++◌, length, refl, ap, append_assoc, arith, decimal, ℤ, pos, negsuc, inl, inr}
 use Rattle.std.specs.Prelude.{nat_lt}
 use Rattle.std.specs.Fmt.{signed_decimal, digits, digits_onto, digit_glyph}
 use Rattle.std.specs.List.{list_any}
 use Rattle.std.proofs.lemmas.Bool.{cases_Bool, ne_eqb}
-use Rattle.std.proofs.lemmas.List.{append-nil, drop_more}
+use Rattle.std.proofs.lemmas.List.{append-nil}
 use Rattle.csv.specs.Writing.{needs_quotes, needs_byte, default_writer, row_text, fields_text, is_blank}
 use Rattle.blk_text.specs.Texts.{rows_text}
 use Rattle.blk_text.specs.Sources.{Row}
@@ -68,7 +68,6 @@ tail_is f (g ∷ fs) h =
 plain_row : (f g : List ℕ) (fs : Row) → all_plain (f ∷ g ∷ fs) ≡ true → row_text default_writer (f ∷ g ∷ fs) ≡ line_of (f ∷ g ∷ fs)
 unfolding is_blank
 plain_row f g fs h = rw (first_plain _ (all_plain (g ∷ fs)) h) (tail_is f (g ∷ fs) (others_plain _ _ h))
-
 
 -- the text of one plain row of two fields or more
 pub line_is : (row : Row) → 2 ≤ length row → all_plain row ≡ true → rows_text (row ∷ []) ≡ line_of row

@@ -1,5 +1,5 @@
 -- The pieces of each record make its text, after some bytes.
-use Rattle.std.proofs.Common.{◌≡◌, ◌<◌, ◌≤◌, ◌^◌, ℕ, ℤ, List, [], ◌∷◌, ◌++◌, length, take, codes, decimal, true, false, refl, append_assoc, ◌∙◌, ap, arith}
+use Rattle.std.proofs.Common.{◌≡◌, ◌<◌, ◌≤◌, ◌^◌, ℕ, ℤ, List, [], ◌∷◌, ◌++◌, length, take, codes, decimal, true, false, refl, append_assoc, arith}
 use Rattle.csv.specs.Writing.{needs_quotes, default_writer}
 use Rattle.std.specs.Prelude.{None, Some}
 use Rattle.std.specs.Fmt.{signed_decimal}

@@ -1,4 +1,4 @@
-use Rattle.std.proofs.Common.{◌≡◌, ◌≤◌, ◌<◌, ◌^◌, ◌∙◌, ap, length, arith, w64, to_z, of_z}
+use Rattle.std.proofs.Common.{◌∙◌, ap, arith, w64}
 use Rattle.std.specs.Fmt.{signed_decimal}
 use Rattle.std.proofs.lemmas.Int.{to_z-of_z}
 use Rattle.blk_text.proofs.Rows.{added, bound_is, late_long}
