@@ -6,17 +6,18 @@ use std::io;
 use std::io::{ErrorKind, Read, Write};
 use std::test::Fail;
 
-/// A reader that gives its text byte by byte, and fails after so many reads.
+/// A reader that gives its text byte by byte, and fails in this way after so many reads.
 #[derive(Drop)]
 struct Failing<'a> {
     text: &'a [u8],
     reads_left: u64,
+    kind: ErrorKind,
 }
 
 impl<'a> Read for Failing<'a> {
     fn read(&mut self, buf: &mut [u8]) -> io::Result<usize> {
         if self.reads_left == 0 {
-            return Err(io::Error::from(ErrorKind::Other));
+            return Err(io::Error::from(self.kind));
         }
         self.reads_left -= 1;
         match self.text.split_first() {
@@ -75,6 +76,7 @@ fn failing_reads(rt: HostRuntime) -> Result<(), Fail> {
             let reader = Failing {
                 text: input.as_bytes(),
                 reads_left,
+                kind: ErrorKind::Other,
             };
             let status = run(alloc, words.as_slice(), reader, &mut out, &mut faults);
             if reads_left > length {
@@ -86,6 +88,36 @@ fn failing_reads(rt: HostRuntime) -> Result<(), Fail> {
                 assert!(rt; out.is_empty());
                 assert!(rt; faults.as_slice() == b"blk: read fault\n".as_slice());
             }
+        }
+    }
+    Ok(())
+}
+
+/// Whatever a reader failed with, its want of memory among it, it is the reader's fault and not the program's.
+#[test]
+fn each_kind_of_read_fault(rt: HostRuntime) -> Result<(), Fail> {
+    let alloc = rt.alloc();
+    let kinds = [
+        ErrorKind::Other,
+        ErrorKind::OutOfMemory,
+        ErrorKind::InvalidData,
+        ErrorKind::UnexpectedEof,
+        ErrorKind::BrokenPipe,
+    ];
+    for (word, input, _) in good_runs() {
+        let words = words_of(alloc, &[word])?;
+        for kind in kinds {
+            let mut out = Vec::new(alloc);
+            let mut faults = Vec::new(alloc);
+            let reader = Failing {
+                text: input.as_bytes(),
+                reads_left: 7,
+                kind,
+            };
+            let status = run(alloc, words.as_slice(), reader, &mut out, &mut faults);
+            assert_eq!(rt; status, 3, "{word}");
+            assert!(rt; out.is_empty());
+            assert!(rt; faults.as_slice() == b"blk: read fault\n".as_slice());
         }
     }
     Ok(())
@@ -159,6 +191,7 @@ fn lost_lines_of_failures(rt: HostRuntime) -> Result<(), Fail> {
             let reader = Failing {
                 text,
                 reads_left: 7,
+                kind: ErrorKind::Other,
             };
             let status = run(alloc, words.as_slice(), reader, &mut out, &mut faults);
             assert_eq!(rt; (status, faults.writes_left), (3, 0), "{input}");
