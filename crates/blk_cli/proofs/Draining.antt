@@ -12,7 +12,7 @@ use Rattle.blk_trace.specs.Events.{entered}
 use Rattle.blk_soft.specs.Queues.{Queue}
 use Rattle.blk_core.specs.State.{CoreState}
 use Rattle.blk_cli.specs.Simulation.{Where, Plugged, Staged, Released, is_where}
-use Rattle.blk_cli.specs.Simulated.{Placing, picked, is_in, is_at, bios_in, AreDrained, nobody, is_served, QueuesAreOf, Passed}
+use Rattle.blk_cli.specs.Simulated.{Placing, picked, is_in, is_at, bios_in, AreDrained, nobody, is_served, IsQueueOf, QueuesAreOf, Passed}
 use Rattle.blk_cli.proofs.Picking.{picked-same, picked-none, picked-both, IsSplit, set_cases}
 
 -- tests that agree
@@ -90,9 +90,9 @@ pass_step test hw h k book queues events e d = drained_same (λ s. test s || is_
 pub start_step : (test : ℕ → Bool) (hw h : ℕ) (book : List Placing) (queues : List Queue) (events : List Happened) → AreDrained test book queues events → AreDrained (λ s. test s || is_served 0 hw h s) book queues events
 start_step test hw h book queues events d = drained_same test (λ s. test s || is_served 0 hw h s) (λ s. sym (ap (λ b. test s || (b && ((s % hw) == h))) (le-ltb s 0 (omega arith)) ∙ or-false (test s))) book queues events d
 
-pub limits_set : (limits : Limits) (queues : List Queue) (k : ℕ) (q : Queue) → QueuesAreOf limits queues → q.limits ≡ limits → QueuesAreOf limits (set queues k q)
-limits_set limits queues k q all e s r at = elim (set_cases queues k s q r at) [
-  | inl a ↦ ap (λ (x : Queue). x.limits) a.1 ∙ e
+pub queues_set : (limits : Limits) (depth : ℕ) (queues : List Queue) (k : ℕ) (q : Queue) → QueuesAreOf limits depth queues → IsQueueOf limits depth q → QueuesAreOf limits depth (set queues k q)
+queues_set limits depth queues k q all one s r at = elim (set_cases queues k s q r at) [
+  | inl a ↦ subst (IsQueueOf limits depth) (sym a.1) one
   | inr a ↦ all s r a.1
 ]
 
@@ -100,8 +100,8 @@ limits_set limits queues k q all e s r at = elim (set_cases queues k s q r at) [
 pub drained_at : (t : ℕ → Bool) (book : List Placing) (queues queues' : List Queue) (events events' : List Happened) → queues' ≡ queues → events' ≡ events → AreDrained t book queues events → AreDrained t book queues' events'
 drained_at t book queues queues' events events' q e d = subst (λ l. AreDrained t book l events') (sym q) (subst (λ l. AreDrained t book queues l) (sym e) d)
 
-pub queues_of_at : (limits : Limits) (queues queues' : List Queue) → queues' ≡ queues → QueuesAreOf limits queues → QueuesAreOf limits queues'
-queues_of_at limits queues queues' e h = subst (λ l. QueuesAreOf limits l) (sym e) h
+pub queues_of_at : (limits : Limits) (depth : ℕ) (queues queues' : List Queue) → queues' ≡ queues → QueuesAreOf limits depth queues → QueuesAreOf limits depth queues'
+queues_of_at limits depth queues queues' e h = subst (λ l. QueuesAreOf limits depth l) (sym e) h
 
 -- rounds in which nothing enters
 pub drained_passed : (t : ℕ → Bool) (book : List Placing) (queues : List Queue) (n : ℕ) (old new : CoreState) → Passed n old new → AreDrained t book queues old.events → AreDrained t book queues new.events

@@ -21,8 +21,8 @@ rounds_nil events e = ap round_of e
 pub fits_along : (hw hw' n n' : ℕ) (l : Line) → hw' ≡ hw → n' ≡ n → LineFits hw n l → LineFits hw' n' l
 fits_along hw hw' n n' l a b h = subst (λ k. LineFits k n' l) (sym a) (subst (λ k. LineFits hw k l) (sym b) h)
 
-pub ready_along : (a b : Setup) (plugs : List Plug) (queues : List Queue) → a ≡ b → IsReady a.limits plugs queues → IsReady b.limits plugs queues
-ready_along a b plugs queues e h = subst (λ (x : Setup). IsReady x.limits plugs queues) e h
+pub ready_along : (a b : Setup) (depth : ℕ) (plugs : List Plug) (queues : List Queue) → a ≡ b → IsReady a.limits depth plugs queues → IsReady b.limits depth plugs queues
+ready_along a b depth plugs queues e h = subst (λ (x : Setup). IsReady x.limits depth plugs queues) e h
 
 -- the element that a loop reads
 pub read_at : {X : Type 0} (xs ys : List X) (k : ℕ) (x : X) → ys ≡ xs → k < length ys → x ≡ get_or ys k x → slice_get xs k ≡ Some x

@@ -8,3 +8,4 @@ pub mod Standing
 pub mod Ending
 pub mod Spreading
 pub mod Refusing
+pub mod Holding

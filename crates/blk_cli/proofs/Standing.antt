@@ -18,7 +18,7 @@ use Rattle.blk_soft.specs.Queues.{Queue}
 use Rattle.blk_text.specs.declared.script.Line.{Line}
 use Rattle.blk_text.specs.declared.script.Line.TheVariants as line
 use Rattle.blk_cli.specs.Simulation.{Where, Plugged, Staged, Released, moved, place_after, is_where, bio_at, bios_at, ticks_of}
-use Rattle.blk_cli.specs.Simulated.{Placing, placed_by, placings, moved_by, stepped, picked, is_in, is_at, bios_in, ArePlugged, AreStaged, AreDrained, nobody, Stands, IsReady}
+use Rattle.blk_cli.specs.Simulated.{Placing, placed_by, placings, moved_by, stepped, picked, is_in, is_at, bios_in, ArePlugged, AreStaged, AreDrained, nobody, Stands}
 use Rattle.blk_cli.proofs.Steps.{one_more}
 use Rattle.blk_cli.proofs.Picking.{picked-append, picked-moved, picked-same, picked-same_in, picked-none, picked-both, IsSplit, set_cases}
 
@@ -318,13 +318,6 @@ ticks_more k lines l at = ap (sum_by ticks_of) (take_more lines k l at) ∙ sum_
 -- plugs and software queues that were just made
 pub pushed_all : {X : Type 0} (P : X → Type 0) (xs ys : List X) (x : X) → ys ≡ xs ++ x ∷ [] → All P xs → P x → All P ys
 pushed_all P xs ys x e all here = subst (All P) (sym e) (All-append P xs (x ∷ []) all (All-cons P x [] here (All-nil P)))
-
-pub fresh_ready : (limits made : Limits) (n depth : ℕ) (plugs : List Plug) (queues : List Queue) → made ≡ limits → length plugs ≡ n → length queues ≡ n → All (λ (p : Plug). p ≡ record { limits = made; requests = [] }) plugs → All (λ (q : Queue). q ≡ record { depth = depth; limits = made; requests = []; bios_in = 0; bios_out = 0 }) queues → IsReady limits plugs queues
-fresh_ready limits made n depth plugs queues e a b p q = record {
-  counts = b ∙ sym a;
-  plugs_are_of = λ s x at. ap (λ (y : Plug). y.limits) (all_at (λ (y : Plug). y ≡ record { limits = made; requests = [] }) plugs s x p at) ∙ e;
-  queues_are_of = λ s x at. ap (λ (y : Queue). y.limits) (all_at (λ (y : Queue). y ≡ record { depth = depth; limits = made; requests = []; bios_in = 0; bios_out = 0 }) queues s x q at) ∙ e;
-}
 
 pub fresh_stands : (made : Limits) (depth : ℕ) (plugs : List Plug) (queues : List Queue) (events : List Happened) → events ≡ [] → All (λ (p : Plug). p ≡ record { limits = made; requests = [] }) plugs → All (λ (q : Queue). q ≡ record { depth = depth; limits = made; requests = []; bios_in = 0; bios_out = 0 }) queues → Stands [] plugs queues events
 fresh_stands made depth plugs queues events none p q = nothing_stands plugs queues events

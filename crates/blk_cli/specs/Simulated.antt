@@ -1,11 +1,12 @@
 -- How a simulation stands between two steps.
-use Rattle.std.specs.Prelude.{◌≡◌, ◌<◌, ◌+◌, ◌%◌, ◌==◌, ◌++◌, ◌&&◌, ◌||◌, not, cond, nat_lt, ℕ, Bool, false, List, [], ◌∷◌, Some, length, map, flat_map, slice_get, slice_index_or, All, IsPermutation}
+use Rattle.std.specs.Prelude.{◌≡◌, ◌<◌, ◌≤◌, ◌+◌, ◌%◌, ◌==◌, ◌++◌, ◌&&◌, ◌||◌, not, cond, nat_lt, ℕ, Bool, false, List, [], ◌∷◌, Some, length, map, flat_map, slice_get, slice_index_or, All, IsPermutation}
 use Rattle.blk_bio.specs.Bios.{Bio}
 use Rattle.blk_bio.specs.Limits.{Limits}
+use Rattle.blk_bio.specs.Requests.{IsRequest}
 use Rattle.blk_trace.specs.Happened.{Happened}
 use Rattle.blk_trace.specs.Events.{entered, round_of}
-use Rattle.blk_plug.specs.Plugs.{Plug}
-use Rattle.blk_soft.specs.Queues.{Queue}
+use Rattle.blk_plug.specs.Plugs.{Plug, IsPlug}
+use Rattle.blk_soft.specs.Queues.{Queue, IsQueue}
 use Rattle.blk_core.specs.State.{CoreState}
 use Rattle.blk_text.specs.declared.script.Line.{Line}
 use Rattle.blk_text.specs.declared.script.Line.TheVariants as line
@@ -88,19 +89,37 @@ pub record Stands (book : List Placing) (plugs : List Plug) (queues : List Queue
   pub plugged : ArePlugged book plugs
   pub drained : AreDrained nobody book queues events
 
+-- a plug of these limits: at most 32 requests, each one bio or within the limits
+pub record IsPlugOf (limits : Limits) (plug : Plug) : Type 0 where
+  pub limits_are : plug.limits ≡ limits
+  pub is_plug : IsPlug plug
+  pub requests : All IsRequest plug.requests
+
+-- a software queue of these limits and this depth: at most so many requests, each one bio or within the limits
+pub record IsQueueOf (limits : Limits) (depth : ℕ) (queue : Queue) : Type 0 where
+  pub limits_are : queue.limits ≡ limits
+  pub depth_is : queue.depth ≡ depth
+  pub is_queue : IsQueue queue
+  pub requests : All IsRequest queue.requests
+
 -- all plugs are of these limits
 abbrev pub PlugsAreOf : Limits → List Plug → Type 0
-PlugsAreOf limits plugs = (s : ℕ) (plug : Plug) → slice_get plugs s ≡ Some plug → plug.limits ≡ limits
+PlugsAreOf limits plugs = (s : ℕ) (plug : Plug) → slice_get plugs s ≡ Some plug → IsPlugOf limits plug
 
--- all software queues are of these limits
-abbrev pub QueuesAreOf : Limits → List Queue → Type 0
-QueuesAreOf limits queues = (s : ℕ) (queue : Queue) → slice_get queues s ≡ Some queue → queue.limits ≡ limits
+-- all software queues are of these limits and this depth
+abbrev pub QueuesAreOf : Limits → ℕ → List Queue → Type 0
+QueuesAreOf limits depth queues = (s : ℕ) (queue : Queue) → slice_get queues s ≡ Some queue → IsQueueOf limits depth queue
 
--- as many plugs as software queues, all of these limits
-pub record IsReady (limits : Limits) (plugs : List Plug) (queues : List Queue) : Type 0 where
+-- as many plugs as software queues, all of these limits, and the queues of this depth
+pub record IsReady (limits : Limits) (depth : ℕ) (plugs : List Plug) (queues : List Queue) : Type 0 where
   pub counts : length queues ≡ length plugs
   pub plugs_are_of : PlugsAreOf limits plugs
-  pub queues_are_of : QueuesAreOf limits queues
+  pub queues_are_of : QueuesAreOf limits depth queues
+
+-- each submitter sent at most so many bios: those that came into its software queue, and those in its plug
+abbrev pub HaveCome : ℕ → List Plug → List Queue → Type 0
+HaveCome n plugs queues = (s : ℕ) (plug : Plug) (queue : Queue) → slice_get plugs s ≡ Some plug → slice_get queues s ≡ Some queue
+    → queue.bios_in + length (bios_in plug.requests) ≤ n
 
 -- a map of so many software queues to so many hardware queues: queue s is served by hardware queue s mod these
 pub record IsSpread (hw count : ℕ) (entries : List ℕ) : Type 0 where

@@ -86,10 +86,7 @@ pub fn solve_commands<R: Read + Drop, W: Write>(
         Ok(list) => list,
         Err(fault) => return Err(Failure::Text(fault)),
     };
-    let certificate = match certify(alloc, depth, commands) {
-        Ok(certificate) => certificate,
-        Err(failure) => return Err(failure),
-    };
+    let certificate = certify(alloc, depth, commands)?;
     match write_certificate(alloc, &certificate, writer) {
         Ok(()) => Ok(()),
         Err(fault) => Err(Failure::Write(fault)),
@@ -153,10 +150,7 @@ pub fn check_certificate<R: Read + Drop, W: Write>(
         Ok(certificate) => certificate,
         Err(fault) => return Err(Failure::Text(fault)),
     };
-    match verify(alloc, &certificate) {
-        Ok(()) => {}
-        Err(failure) => return Err(failure),
-    }
+    verify(alloc, &certificate)?;
     let Ok(line) = verdict(alloc, &certificate) else {
         return Err(Failure::Memory);
     };

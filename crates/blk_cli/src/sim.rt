@@ -1,7 +1,8 @@
 //! A script's steps, run one after the other over plugs, software queues and the core.
 
-ghost use Rattle.std.specs.Prelude.{IsTrue, ◌↔◌, ◌≡◌, ◌++◌, ◌+◌, ◌<◌, ◌≤◌, ◌%◌, ◌==◌, ◌||◌, ◌≢◌, nat_lt, ℕ, Bool, List, [], Some, slice_get, IfOk, OnOk, IfErr, length, sum_by, IsPermutation, All};
+ghost use Rattle.std.specs.Prelude.{IsTrue, ◌↔◌, ◌≡◌, ◌++◌, ◌+◌, ◌<◌, ◌≤◌, ◌%◌, ◌==◌, ◌||◌, ◌≢◌, ◌^◌, nat_lt, ℕ, Bool, List, [], Some, slice_get, IfOk, OnOk, IfErr, length, sum_by, IsPermutation, All};
 ghost use Rattle.std.specs.FinMap as fin;
+ghost use Rattle.blk_bio.specs.Bios.{IsBio};
 ghost use Rattle.blk_bio.specs.Limits.{Limits as LimitsFields};
 ghost use Rattle.blk_bio.specs.Requests.{IsWithin};
 ghost use Rattle.blk_plug.specs.Plugs.{Plug as PlugFields};
@@ -11,8 +12,8 @@ ghost use Rattle.blk_trace.specs.Legal.{IsLegalTrace};
 ghost use Rattle.blk_text.specs.Script.{IsScript, LineFits, scripted};
 ghost use Rattle.blk_cli.specs.Simulation.{released_bios, ticks_of};
 ghost use Rattle.blk_core.specs.Faults.{IsInFlight, CanIssue, CanTick};
-ghost use Rattle.blk_cli.specs.Refusals.{IsSimFault, IsAcceptedAt, IsStepAccepted, MayAdd, IsStepRefused, IsAddRefused, IsOverfull, IsReleaseRefused, IsIssueRefused, IsTickRefused, IsDrainRefused, IsRunRefused, Reached, added_why, released_why, issued_why, ticked_why};
-ghost use Rattle.blk_cli.specs.Simulated.{Placing, ArePlugged, AreStaged, AreDrained, Stands, moved_by, stepped, nobody, is_served, PlugsAreOf, QueuesAreOf, IsReady, IsSpread, Passed, Took, bios_in};
+ghost use Rattle.blk_cli.specs.Refusals.{IsSimFault, IsAcceptedAt, IsStepAccepted, MayAdd, IsStepRefused, IsAddRefused, HasRoom, IsOverfull, IsReleaseRefused, IsIssueRefused, IsTickRefused, IsMoveRefused, IsDrainRefused, IsDrainsRefused, IsRoundRefused, IsRunRefused, served_requests, requests_below, added_why, released_why, issued_why, ticked_why};
+ghost use Rattle.blk_cli.specs.Simulated.{Placing, ArePlugged, AreStaged, AreDrained, Stands, moved_by, stepped, nobody, is_served, IsPlugOf, IsQueueOf, PlugsAreOf, QueuesAreOf, IsReady, HaveCome, IsSpread, Passed, Took, bios_in};
 
 use blk_bio::bio::Bio;
 use blk_bio::limits::Limits;
@@ -23,7 +24,7 @@ use blk_plug::plug::{Plug, PlugFault};
 use blk_sched::Scheduler;
 use blk_soft::SoftQueue;
 use blk_text::script::{Line, Script};
-use blk_trace::trace::Trace;
+use blk_trace::trace::{MAX_EVENTS, Trace};
 use std::alloc::{AllocError, Allocator};
 use thiserror::Error;
 
@@ -137,8 +138,10 @@ fn release<S: Scheduler>(core: &mut Core<S>, request: Request<S::A>, hw: u8) -> 
     requires queue { hw < core.old.setup.hw }
     requires within { IsWithin core.old.setup.limits request }
     ensures took { OnOk result (Took request core.old core.new) }
+    ensures legal { IsLegalTrace core.old.setup core.old.events }
     ensures refused { IfErr result (λ w. IsReleaseRefused core.old request hw w) }
 {
+    prove!(hw < core.trace().setup().hw());
     match core.release(request, hw) {
         Ok(_) => Ok(()),
         Err((_request, fault)) => Err(why_released(fault)),
@@ -150,8 +153,10 @@ fn issue<S: Scheduler>(core: &mut Core<S>, hw: u8, tag: u16) -> Result<bool, Sim
     requires { hw < core.old.setup.hw }
     ensures passed { Passed 0 core.old core.new }
     ensures accepted { OnOk result (CanIssue core.old hw tag) }
+    ensures legal { IsLegalTrace core.old.setup core.old.events }
     ensures refused { IfErr result (λ w. IsIssueRefused core.old hw tag w) }
 {
+    prove!(hw < core.trace().setup().hw());
     match core.issue(hw, tag) {
         Ok(command) => Ok(command.is_some()),
         Err(fault) => Err(why_issued(fault)),
@@ -174,8 +179,10 @@ fn done<S: Scheduler>(core: &mut Core<S>, tag: u16) -> Result<(), SimWhy>
 fn tick<S: Scheduler>(core: &mut Core<S>) -> Result<(), SimWhy>
     ensures passed { OnOk result (Passed 1 core.old core.new) }
     ensures accepted { OnOk result (CanTick core.old) }
+    ensures legal { IsLegalTrace core.old.setup core.old.events }
     ensures refused { IfErr result (λ w. IsTickRefused core.old w) }
 {
+    prove!(core.trace().len() <= MAX_EVENTS);
     match core.tick() {
         Ok(_) => Ok(()),
         Err(fault) => Err(why_ticked(fault)),
@@ -187,17 +194,19 @@ fn flush_plug<A: Allocator + Clone>(
     plug: &mut Plug<A>,
     queue: &mut SoftQueue<A>,
 ) -> Result<(), SimWhy>
-    requires { plug.old.limits ≡ queue.old.limits }
+    requires limits { plug.old.limits ≡ queue.old.limits }
+    requires few { queue.old.bios_in + length (bios_in plug.old.requests) ≤ 2 ^ 40 }
     ensures emptied { OnOk result (plug.new.requests ≡ []) }
     ensures moved { OnOk result (queue.new.requests ≡ queue.old.requests ++ plug.old.requests) }
-    ensures plug_limits { plug.new.limits ≡ plug.old.limits }
-    ensures queue_limits { queue.new.limits ≡ queue.old.limits }
+    ensures plug { (limits : LimitsFields) → IsPlugOf limits plug.old → OnOk result (IsPlugOf limits plug.new) }
+    ensures queue { (limits : LimitsFields) → (depth : ℕ) → IsPlugOf limits plug.old → IsQueueOf limits depth queue.old → OnOk result (IsQueueOf limits depth queue.new) }
+    ensures counted { OnOk result (queue.new.bios_in ≡ queue.old.bios_in + length (bios_in plug.old.requests)) }
     ensures refused { IfErr result (λ w. (w ≡ SimWhy.SoftFull) × IsOverfull queue.old plug.old) }
 {
     while let Some(request) = plug.take_first() {
-        if queue.put(request).is_err() {
+        let Ok(()) = queue.put(request) else {
             return Err(SimWhy::SoftFull);
-        }
+        };
     }
     Ok(())
 }
@@ -212,8 +221,9 @@ fn drain_queue<S: Scheduler>(
     requires limits { queue.old.limits ≡ core.old.setup.limits }
     ensures emptied { OnOk result (queue.new.requests ≡ []) }
     ensures moved { OnOk result (Took (bios_in queue.old.requests) core.old core.new) }
-    ensures limits { queue.new.limits ≡ queue.old.limits }
-    ensures refused { IfErr result (λ w. IsDrainRefused core.old hw w) }
+    ensures queue { (limits : LimitsFields) → (depth : ℕ) → IsQueueOf limits depth queue.old → OnOk result (IsQueueOf limits depth queue.new) }
+    ensures counted { OnOk result (queue.new.bios_in ≡ queue.old.bios_in) }
+    ensures refused { IfErr result (λ w. IsMoveRefused queue.old.requests core.old hw w) }
 {
     while let Some(request) = queue.take_first() {
         release(core, request, hw)?;
@@ -226,7 +236,7 @@ fn issue_from<S: Scheduler>(core: &mut Core<S>, first: u8, tag: u16) -> Result<b
     requires first { first < core.old.setup.hw }
     requires tag { tag < core.old.setup.depth }
     ensures passed { Passed 0 core.old core.new }
-    ensures refused { IfErr result (λ w. (w ≢ SimWhy.SlotUsed) → IsRunRefused core.old w) }
+    ensures refused { IfErr result (λ w. (w ≢ SimWhy.SlotUsed) → IsRoundRefused 1 core.old w) }
 {
     let count = core.trace().setup().hw();
     for k in 0..count {
@@ -255,7 +265,7 @@ fn is_used(why: SimWhy) -> bool
 // Issues under each tag that was not used in this round, rising, until nothing more is given.
 fn issue_round<S: Scheduler>(core: &mut Core<S>) -> Result<(), SimWhy>
     ensures passed { OnOk result (Passed 0 core.old core.new) }
-    ensures refused { IfErr result (λ w. IsRunRefused core.old w) }
+    ensures refused { IfErr result (λ w. IsRoundRefused 1 core.old w) }
 {
     let setup = core.trace().setup();
     let depth = setup.depth() as u16;
@@ -291,7 +301,7 @@ fn done_round<S: Scheduler>(core: &mut Core<S>)
 // One round: what can be issued is issued and completed, and the round ends.
 fn round<S: Scheduler>(core: &mut Core<S>) -> Result<(), SimWhy>
     ensures passed { OnOk result (Passed 1 core.old core.new) }
-    ensures refused { IfErr result (λ w. IsRunRefused core.old w) }
+    ensures refused { IfErr result (λ w. IsRoundRefused 1 core.old w) }
 {
     issue_round(core)?;
     done_round(core);
@@ -302,7 +312,7 @@ fn round<S: Scheduler>(core: &mut Core<S>) -> Result<(), SimWhy>
 // So many rounds.
 fn rounds<S: Scheduler>(core: &mut Core<S>, count: u64) -> Result<(), SimWhy>
     ensures passed { OnOk result (Passed count core.old core.new) }
-    ensures refused { IfErr result (λ w. IsRunRefused core.old w) }
+    ensures refused { IfErr result (λ w. IsRoundRefused count core.old w) }
 {
     for _ in 0..count {
         round(core)?;
@@ -319,15 +329,17 @@ fn drain<S: Scheduler>(
 ) -> Result<(), SimWhy>
     requires queue { hw < core.old.setup.hw }
     requires map { IsSpread core.old.setup.hw (length queues.old.items) map.now }
-    requires limits { QueuesAreOf core.old.setup.limits queues.old.items }
+    requires queues { (depth : ℕ) × QueuesAreOf core.old.setup.limits depth queues.old.items }
     ensures drained { (test : ℕ → Bool) → (book : List Placing) → AreDrained test book queues.old.items core.old.events
         → OnOk result (AreDrained (λ s. test s || is_served (length queues.old.items) core.old.setup.hw hw s) book queues.new.items core.new.events) }
     ensures setup { OnOk result (core.new.setup ≡ core.old.setup) }
     ensures ticks { OnOk result (round_of core.new.events ≡ round_of core.old.events) }
-    ensures limits { OnOk result (QueuesAreOf core.old.setup.limits queues.new.items) }
+    ensures queues { (depth : ℕ) → QueuesAreOf core.old.setup.limits depth queues.old.items → OnOk result (QueuesAreOf core.old.setup.limits depth queues.new.items) }
+    ensures come { (n : ℕ) → (plugs : List PlugFields) → HaveCome n plugs queues.old.items → OnOk result (HaveCome n plugs queues.new.items) }
     ensures count { length queues.new.items ≡ length queues.old.items }
-    ensures reached { OnOk result (Reached core.old core.new) }
-    ensures refused { IfErr result (λ w. IsDrainRefused core.old hw w) }
+    ensures took { OnOk result (Took (bios_in (served_requests queues.old.items core.old.setup.hw hw (length queues.old.items))) core.old core.new) }
+    ensures others { OnOk result ((s : ℕ) → (s % core.old.setup.hw) ≢ hw → slice_get queues.new.items s ≡ slice_get queues.old.items s) }
+    ensures refused { IfErr result (λ w. IsDrainRefused queues.old.items core.old hw w) }
 {
     for s in 0..queues.len() {
         if map.hw_of(s) == hw {
@@ -343,16 +355,17 @@ fn drain_all<S: Scheduler>(
     queues: &mut Vec<SoftQueue<S::A>, S::A>,
     map: &Map<S::A>,
 ) -> Result<(), SimWhy>
-    requires limits { QueuesAreOf core.old.setup.limits queues.old.items }
+    requires queues { (depth : ℕ) × QueuesAreOf core.old.setup.limits depth queues.old.items }
     requires map { IsSpread core.old.setup.hw (length queues.old.items) map.now }
     ensures drained { (book : List Placing) → AreDrained nobody book queues.old.items core.old.events
         → OnOk result (AreDrained (λ s. nat_lt s (length queues.old.items)) book queues.new.items core.new.events) }
     ensures setup { OnOk result (core.new.setup ≡ core.old.setup) }
     ensures ticks { OnOk result (round_of core.new.events ≡ round_of core.old.events) }
-    ensures limits { OnOk result (QueuesAreOf core.old.setup.limits queues.new.items) }
+    ensures queues { (depth : ℕ) → QueuesAreOf core.old.setup.limits depth queues.old.items → OnOk result (QueuesAreOf core.old.setup.limits depth queues.new.items) }
+    ensures come { (n : ℕ) → (plugs : List PlugFields) → HaveCome n plugs queues.old.items → OnOk result (HaveCome n plugs queues.new.items) }
     ensures count { length queues.new.items ≡ length queues.old.items }
-    ensures reached { OnOk result (Reached core.old core.new) }
-    ensures refused { IfErr result (λ w. IsRunRefused core.old w) }
+    ensures took { OnOk result (Took (bios_in (requests_below queues.old.items core.old.setup.hw core.old.setup.hw)) core.old core.new) }
+    ensures refused { IfErr result (λ w. IsDrainsRefused queues.old.items core.old w) }
 {
     let count = core.trace().setup().hw();
     for hw in 0..count {
@@ -369,15 +382,16 @@ fn run<S: Scheduler>(
     map: &Map<S::A>,
     count: u64,
 ) -> Result<(), SimWhy>
-    requires limits { QueuesAreOf core.old.setup.limits queues.old.items }
+    requires queues { (depth : ℕ) × QueuesAreOf core.old.setup.limits depth queues.old.items }
     requires map { IsSpread core.old.setup.hw (length queues.old.items) map.now }
     ensures drained { (book : List Placing) → AreDrained nobody book queues.old.items core.old.events
         → OnOk result (AreDrained (λ s. nat_lt s (length queues.old.items)) book queues.new.items core.new.events) }
     ensures setup { OnOk result (core.new.setup ≡ core.old.setup) }
     ensures ticks { OnOk result (round_of core.new.events ≡ round_of core.old.events + count) }
-    ensures limits { OnOk result (QueuesAreOf core.old.setup.limits queues.new.items) }
+    ensures queues { (depth : ℕ) → QueuesAreOf core.old.setup.limits depth queues.old.items → OnOk result (QueuesAreOf core.old.setup.limits depth queues.new.items) }
+    ensures come { (n : ℕ) → (plugs : List PlugFields) → HaveCome n plugs queues.old.items → OnOk result (HaveCome n plugs queues.new.items) }
     ensures count { length queues.new.items ≡ length queues.old.items }
-    ensures refused { IfErr result (λ w. IsRunRefused core.old w) }
+    ensures refused { IfErr result (λ w. IsRunRefused queues.old.items core.old count w) }
 {
     drain_all(core, queues, map)?;
     rounds(core, count)?;
@@ -386,11 +400,13 @@ fn run<S: Scheduler>(
 
 // Adds a bio to its submitter's plug.
 fn add<A: Allocator + Clone>(plugs: &mut Vec<Plug<A>, A>, bio: Bio) -> Result<(), SimWhy>
-    requires { bio.id.submitter < length plugs.old.items }
+    requires submitter { bio.id.submitter < length plugs.old.items }
+    requires bio { IsBio bio }
     ensures plugged { (hw : ℕ) → (book : List Placing) → ArePlugged book plugs.old.items
         → OnOk result (ArePlugged (stepped hw (Line.Bio bio) book) plugs.new.items) }
-    ensures limits { (limits : LimitsFields) → PlugsAreOf limits plugs.old.items → OnOk result (PlugsAreOf limits plugs.new.items) }
+    ensures plugs { (limits : LimitsFields) → PlugsAreOf limits plugs.old.items → OnOk result (PlugsAreOf limits plugs.new.items) }
     ensures count { length plugs.new.items ≡ length plugs.old.items }
+    ensures come { (n : ℕ) → (queues : List QueueFields) → HaveCome n plugs.old.items queues → OnOk result (HaveCome (n + 1) plugs.new.items queues) }
     ensures accepted { OnOk result ((own : PlugFields) × (slice_get plugs.old.items bio.id.submitter ≡ Some own) × MayAdd own bio) }
     ensures refused { IfErr result (λ w. (own : PlugFields) × (slice_get plugs.old.items bio.id.submitter ≡ Some own) × IsAddRefused own bio w) }
 {
@@ -408,13 +424,16 @@ fn flush<A: Allocator + Clone>(
     submitter: u8,
 ) -> Result<(), SimWhy>
     requires submitter { submitter < length plugs.old.items }
-    requires ready { (limits : LimitsFields) × IsReady limits plugs.old.items queues.old.items }
+    requires few { HaveCome (2 ^ 40) plugs.old.items queues.old.items }
+    requires ready { (limits : LimitsFields) × (depth : ℕ) × IsReady limits depth plugs.old.items queues.old.items }
     ensures plugged { (hw : ℕ) → (book : List Placing) → ArePlugged book plugs.old.items
         → OnOk result (ArePlugged (stepped hw (Line.Flush submitter) book) plugs.new.items) }
     ensures staged { (hw : ℕ) → (book : List Placing) → ArePlugged book plugs.old.items → AreStaged nobody book queues.old.items
         → OnOk result (AreStaged nobody (stepped hw (Line.Flush submitter) book) queues.new.items) }
-    ensures ready { (limits : LimitsFields) → IsReady limits plugs.old.items queues.old.items → OnOk result (IsReady limits plugs.new.items queues.new.items) }
+    ensures ready { (limits : LimitsFields) → (depth : ℕ) → IsReady limits depth plugs.old.items queues.old.items → OnOk result (IsReady limits depth plugs.new.items queues.new.items) }
     ensures count { length plugs.new.items ≡ length plugs.old.items }
+    ensures come { (n : ℕ) → HaveCome n plugs.old.items queues.old.items → OnOk result (HaveCome n plugs.new.items queues.new.items) }
+    ensures accepted { OnOk result ((own : PlugFields) × (to : QueueFields) × (slice_get plugs.old.items submitter ≡ Some own) × (slice_get queues.old.items submitter ≡ Some to) × HasRoom to own) }
     ensures refused { IfErr result (λ w. (own : PlugFields) × (to : QueueFields) × (slice_get plugs.old.items submitter ≡ Some own) × (slice_get queues.old.items submitter ≡ Some to) × (w ≡ SimWhy.SoftFull) × IsOverfull to own) }
 {
     let s = submitter as usize;
@@ -501,7 +520,8 @@ impl<S: Scheduler> Simulation<S> {
         ensures setup { IfOk result (λ s. s.core.setup ≡ script.now.setup) }
         ensures events { IfOk result (λ s. s.core.events ≡ []) }
         ensures count { IfOk result (λ s. length s.plugs.items ≡ script.now.submitters) }
-        ensures ready { IfOk result (λ s. IsReady script.now.setup.limits s.plugs.items s.queues.items) }
+        ensures ready { IfOk result (λ s. IsReady script.now.setup.limits script.now.soft_depth s.plugs.items s.queues.items) }
+        ensures come { IfOk result (λ s. HaveCome 0 s.plugs.items s.queues.items) }
         ensures map { IfOk result (λ s. IsSpread script.now.setup.hw script.now.submitters s.map) }
         ensures stands { IfOk result (λ s. Stands [] s.plugs.items s.queues.items s.core.events) }
     {
@@ -539,19 +559,24 @@ impl<S: Scheduler> Simulation<S> {
 
     // Runs one step.
     fn step(&mut self, line: Line) -> Result<(), SimWhy>
-        requires ready { IsReady self.old.core.setup.limits self.old.plugs.items self.old.queues.items }
+        requires ready { (depth : ℕ) × IsReady self.old.core.setup.limits depth self.old.plugs.items self.old.queues.items }
+        requires few { HaveCome (2 ^ 40) self.old.plugs.items self.old.queues.items }
         requires map { IsSpread self.old.core.setup.hw (length self.old.plugs.items) self.old.map }
         requires fits { LineFits self.old.core.setup.hw (length self.old.plugs.items) line }
         ensures stands { (book : List Placing) → Stands book self.old.plugs.items self.old.queues.items self.old.core.events
             → OnOk result (Stands (stepped self.old.core.setup.hw line book) self.new.plugs.items self.new.queues.items self.new.core.events) }
-        ensures ready { OnOk result (IsReady self.old.core.setup.limits self.new.plugs.items self.new.queues.items) }
+        ensures ready { (depth : ℕ) → IsReady self.old.core.setup.limits depth self.old.plugs.items self.old.queues.items
+            → OnOk result (IsReady self.old.core.setup.limits depth self.new.plugs.items self.new.queues.items) }
+        ensures come { (n : ℕ) → HaveCome n self.old.plugs.items self.old.queues.items → OnOk result (HaveCome (n + 1) self.new.plugs.items self.new.queues.items) }
         ensures setup { OnOk result (self.new.core.setup ≡ self.old.core.setup) }
+        ensures legal { IsLegalTrace self.old.core.setup self.old.core.events }
         ensures ticks { OnOk result (round_of self.new.core.events ≡ round_of self.old.core.events + ticks_of line) }
         ensures count { OnOk result (length self.new.plugs.items ≡ length self.old.plugs.items) }
         ensures map { self.new.map ≡ self.old.map }
-        ensures accepted { OnOk result (IsStepAccepted self.old.plugs.items self.old.core line) }
+        ensures accepted { OnOk result (IsStepAccepted self.old.plugs.items self.old.queues.items self.old.core line) }
         ensures refused { IfErr result (λ w. IsStepRefused self.old.plugs.items self.old.queues.items self.old.core line w) }
     {
+        prove!(self.core.trace().len() <= MAX_EVENTS);
         match line {
             Line::Bio(bio) => {
                 add(&mut self.plugs, bio)?;
@@ -601,8 +626,8 @@ pub fn simulate<S: Scheduler>(
     ensures legal { IfOk result (λ trace. IsLegalTrace trace.setup trace.events) }
     ensures bios { IfOk result (λ trace. IsPermutation (entered trace.events) (released_bios script.now.setup.hw script.now.lines.items)) }
     ensures ticks { IfOk result (λ trace. round_of trace.events ≡ sum_by ticks_of script.now.lines.items) }
-    ensures accepted { OnOk result ((place : ℕ) → place < length script.now.lines.items → IsAcceptedAt script.now.setup script.now.lines.items place) }
-    ensures fault { IfErr result (λ fault. IsSimFault script.now.setup script.now.lines.items fault) }
+    ensures accepted { OnOk result ((place : ℕ) → place < length script.now.lines.items → IsAcceptedAt (scripted script.now) place) }
+    ensures fault { IfErr result (IsSimFault (scripted script.now)) }
 {
     let Ok(mut simulation) = Simulation::new(alloc, script, scheduler) else {
         return Err(SimFault {

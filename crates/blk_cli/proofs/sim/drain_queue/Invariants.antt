@@ -1,7 +1,8 @@
-use Rattle.std.proofs.Common.{◌≡◌, ◌++◌, length}
+use Rattle.std.proofs.Common.{◌≡◌, ◌++◌, ℕ, length}
+use Rattle.blk_bio.specs.Limits.{Limits}
 use Rattle.blk_trace.specs.Events.{entered, round_of}
-use Rattle.blk_cli.specs.Simulated.{bios_in}
-use Rattle.blk_cli.specs.Refusals.{Reached}
+use Rattle.blk_cli.specs.Simulated.{bios_in, IsQueueOf}
+use Rattle.blk_cli.proofs.Refusing.{IsMoved}
 use Rattle.blk_cli.proofs.sim.drain_queue.Given as goal
 
 abbrev pub invariant-loop-request : goal.invariant-loop-request
@@ -10,7 +11,9 @@ invariant-loop-request g l = record {
   setup : l.core.setup ≡ l.initial.core.setup;
   ticks : round_of l.core.events ≡ round_of l.initial.core.events;
   limits : l.queue.limits ≡ l.initial.queue.limits;
-  reached : Reached l.initial.core l.core;
+  is_queue : (limits : Limits) → (depth : ℕ) → IsQueueOf limits depth l.initial.queue → IsQueueOf limits depth l.queue;
+  counted : l.queue.bios_in ≡ l.initial.queue.bios_in;
+  took : IsMoved l.initial.queue.requests l.queue.requests l.initial.core l.core;
 }
 
 abbrev pub decreases-loop-request : goal.decreases-loop-request

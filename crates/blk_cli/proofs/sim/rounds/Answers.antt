@@ -1,7 +1,7 @@
 use Rattle.blk_cli.proofs.Events.{passed_same, passed_trans}
 use Rattle.std.proofs.lemmas.Result.{err_from_is_err_and}
-use Rattle.std.proofs.Common.{refl}
-use Rattle.blk_cli.proofs.Refusing.{reached_passed, run_later}
+use Rattle.std.proofs.Common.{arith, refl}
+use Rattle.blk_cli.proofs.Refusing.{round_later}
 use Rattle.blk_cli.proofs.sim.rounds.Goals as goal
 
 pub loop-init : goal.loop-init
@@ -11,4 +11,4 @@ pub loop-preserved : goal.loop-preserved
 loop-preserved g c = passed_trans c.loop.counter 1 _ _ _ c.loop.invariant c.in_ok-round.ensures.passed
 
 pub returns-in_err-round-clause-refused : goal.returns-in_err-round-clause-refused
-returns-in_err-round-clause-refused g c = let p = err_from_is_err_and c.from_residual.result c.from_residual.ensures.1 in rw (p.1, p.2) (run_later _ _ _ (reached_passed _ _ _ c.loop.invariant) c.in_err-round.ensures.refused)
+returns-in_err-round-clause-refused g c = let p = err_from_is_err_and c.from_residual.result c.from_residual.ensures.1 in rw (p.1, p.2) (round_later c.loop.counter 1 c.args.count _ _ _ (omega arith) c.loop.invariant c.in_err-round.ensures.refused)
