@@ -1,8 +1,9 @@
 -- The laws of certificates.
 use Rattle.std.proofs.Common.{◌≡◌, ◌+◌, ◌-◌, ◌<◌, ◌≤◌, ◌^◌, ◌∙◌, ℕ, suc, List, [], ◌∷◌, length, map, Option, Some, None, refl, sym, ap, inl, inr, arith, decimal, codes}
-use Rattle.std.specs.Prelude.{All, ℤ, pos, negsuc}
+use Rattle.std.specs.Prelude.{All, IfSome, ℤ, pos, negsuc}
 use Rattle.std.specs.List.{zip}
 use Rattle.std.specs.Fmt.{signed_decimal}
+use Rattle.std.proofs.lemmas.List.{length-map}
 use Rattle.std.proofs.lemmas.Fmt.{decimal_injective, signed_decimal_injective}
 use Rattle.csv.specs.Reading.{default_config, records, strip_bom}
 use Rattle.csv.specs.Writing.{read_back}
@@ -12,6 +13,7 @@ use Rattle.blk_text.specs.Sources.{Row}
 use Rattle.blk_text.specs.Texts.{rows_text}
 use Rattle.blk_text.specs.Fields.{Lacks}
 use Rattle.blk_text.specs.Commands.{IsCommandInRange}
+use Rattle.blk_text.specs.Faults.{LinesWrong, LinesBefore, IsReached}
 use Rattle.blk_text.specs.Words.{StartsWith}
 use Rattle.blk_text.specs.Certificate.{Claim, claim_rows, title_slots, title_row, bound_slots, no_bound_slots, bound_row, served_slots, served_row, IsServed, IsLateness, IsBound, IsClaim, SpellsClaim, BoundLacks, BoundWrong, BoundMissing, AfterTitle, ClaimFault}
 use Rattle.blk_text.specs.declared.fault.Why.{Why}
@@ -19,7 +21,7 @@ use Rattle.blk_text.specs.declared.fields.Slot.TheVariants as slot
 use Rattle.blk_text.specs.declared.lines.Extent.TheVariants as extent
 use Rattle.blk_text.proofs.Lists.{head_of, tail_of, all_cons, cons_same, maps_same}
 use Rattle.blk_text.proofs.Once.{Good, Goods, number_good, late_good, goods_lack, lacks_once, title_apart, title_once, no_word_once}
-use Rattle.blk_text.proofs.LinesOnce.{Tells, lines_once, lines_apart}
+use Rattle.blk_text.proofs.LinesOnce.{Tells, lines_once, lines_apart, lines_behind, lines_far}
 use Rattle.blk_text.proofs.ClaimLemmas.{length_zip}
 use Rattle.blk_text.proofs.CommandLaws.{same_command}
 use Rattle.blk_text.proofs.Texts.{text_back}
@@ -210,3 +212,60 @@ one_fault rows at other w v (inr a) (inr b) =
     let title = four_same _ _ _ _ _ _ _ _ e.0 in
     let count : a.1 ≡ b.1 = decimal_injective a.1 b.1 (omega (arith, a.5)) (omega (arith, b.5)) title.3 in
     after_once b.1 b.2 at other w v (rw (count, e.1) at a.7) b.7
+
+-- faults after a good title
+
+past_title : (rows : List Row) (depth count : ℕ) (more : List Row) (at : ℕ) (w : Why) → 1 ≤ depth → depth ≤ 64 → count ≤ 1_000_000 → rows ≡ title_row depth count ∷ more → ClaimFault rows at w
+    → AfterTitle count more at w
+past_title rows depth count more at w a b c e (inl f) =
+    absurd (title_apart (codes "blk-certificate") title_slots (title_row depth count) more w (_, refl) (title_good depth count a b c) (rw e at f.1))
+past_title rows depth count more at w a b c e (inr f) =
+    let rest = cons_same _ _ _ _ (sym f.6 ∙ e) in
+    let title = four_same _ _ _ _ _ _ _ _ rest.0 in
+    let same : f.1 ≡ count = decimal_injective f.1 count (omega (arith, f.5)) (omega (arith, c)) title.3 in
+    rw (same, rest.1) at f.7
+
+-- faults after a good bound
+
+past_bound : (count : ℕ) (rows : List Row) (bound : Option (ℤ × Window)) (more : List Row) (at : ℕ) (w : Why) → IsBound count bound → rows ≡ bound_row bound ∷ more → AfterTitle count rows at w
+    → (place : ℕ) × (at ≡ 2 + place) × LinesWrong served_row IsServed (Lacks served_slots) (extent.Exactly count) more place w
+past_bound count rows bound more at w i e (inl f) = absurd (bound_apart count bound (bound_row bound) w i refl (rw e at f.1))
+past_bound count rows bound more at w i e (inr f) =
+    let rest = cons_same _ _ _ _ (sym f.3 ∙ e) in
+    rw rest.1 at f.4
+
+later_place : (count : ℕ) (rows : List Row) (at : ℕ) (w : Why) → AfterTitle count rows at w → 2 ≤ at
+later_place count rows at w (inl f) = omega (arith, f.0)
+later_place count rows at w (inr f) = let is = f.4.1 in omega (arith, is)
+
+-- the second record is reached after a good title
+pub reached_bound : (rows : List Row) (depth count : ℕ) (more : List Row) (at : ℕ) → 1 ≤ depth → depth ≤ 64 → count ≤ 1_000_000 → rows ≡ title_row depth count ∷ more
+    → at ≡ 2 → IsReached ClaimFault rows at
+reached_bound rows depth count more at a b c e is =
+    let long : length rows ≡ length (title_row depth count ∷ more) = ap length e in
+    (omega (arith, long, is), λ k w l f. (let later = later_place count more k w (past_title rows depth count more k w a b c e f) in omega (arith, later, is, l)))
+
+-- a record after a good bound and good lines is reached
+pub reached_line : (rows : List Row) (depth count : ℕ) (bound : Option (ℤ × Window)) (more : List Row) (place at : ℕ) → 1 ≤ depth → depth ≤ 64 → count ≤ 1_000_000 → IsBound count bound
+    → rows ≡ title_row depth count ∷ bound_row bound ∷ more
+    → at ≡ 2 + place → LinesBefore served_row IsServed (extent.Exactly count) more place → IsReached ClaimFault rows at
+reached_line rows depth count bound more place at a b c i e is before =
+    let far = lines_far served_row IsServed (extent.Exactly count) more place before in
+    let long : length rows ≡ length (title_row depth count ∷ bound_row bound ∷ more) = ap length e in (
+      omega (arith, far, long, is),
+      λ k w l f. (
+          let bad = past_bound count (bound_row bound ∷ more) bound more k w i refl (past_title rows depth count (bound_row bound ∷ more) k w a b c e f) in
+          let behind = lines_behind served_row IsServed (Lacks served_slots) tells (extent.Exactly count) more place bad.0 w before bad.2 in
+          let there : k ≡ 2 + bad.0 = bad.1 in
+          omega (arith, behind, there, is, l)
+          ),
+    )
+
+-- past the last record of a certificate
+pub reached_end : (left : Option (List Row)) (c : Claim) (at : ℕ) → IfSome left (λ rows. SpellsClaim rows c) → at ≡ length c.commands + 3 → IfSome left (λ rows. IsReached ClaimFault rows at)
+reached_end None c at s e = tt
+reached_end (Some rows) c at s e =
+    let all : length rows ≡ length (claim_rows c) = ap length s.0 in
+    let long : length (map served_row (zip c.commands c.rounds)) ≡ length (zip c.commands c.rounds) = length-map (zip c.commands c.rounds) served_row in
+    let pairs : length (zip c.commands c.rounds) ≡ length c.commands = length_zip c.commands c.rounds s.1.one_each in
+    (omega (arith, all, long, pairs, e), λ k w l f. no_fault rows c k w s f)

@@ -1,6 +1,6 @@
 -- A title, a bound and lines make a certificate, or a wrong one.
-use Rattle.std.proofs.Common.{◌≡◌, ◌-◌, ◌<◌, ◌≤◌, ◌^◌, ◌∙◌, ℕ, suc, List, [], ◌∷◌, length, map, Option, Some, None, refl, sym, ap, inl, inr, arith, get_or, decimal}
-use Rattle.std.specs.Prelude.{IfSome, All, ℤ, negsuc}
+use Rattle.std.proofs.Common.{◌≡◌, ◌+◌, ◌-◌, ◌<◌, ◌≤◌, ◌^◌, ◌∙◌, ℕ, suc, List, [], ◌∷◌, length, map, Option, Some, None, refl, sym, ap, inl, inr, arith, get_or, decimal}
+use Rattle.std.specs.Prelude.{IfSome, All, ◌⊎◌, ℤ, negsuc}
 use Rattle.std.specs.List.{zip}
 use Rattle.std.specs.Fmt.{signed_decimal}
 use Rattle.std.proofs.lemmas.List.{length-map}
@@ -9,10 +9,11 @@ use Rattle.std.proofs.lemmas.Slice.Zip.{get_or-zip}
 use Rattle.edd_check.specs.declared.Command.{Command}
 use Rattle.edd_check.specs.declared.Window.{Window}
 use Rattle.blk_text.specs.Sources.{Row, Took}
-use Rattle.blk_text.specs.Fields.{IsSized}
-use Rattle.blk_text.specs.Faults.{AreLines}
+use Rattle.blk_text.specs.Fields.{IsSized, Lacks}
+use Rattle.blk_text.specs.Faults.{AreLines, LinesWrong, IsOutside}
 use Rattle.blk_text.specs.Commands.{IsCommandInRange}
-use Rattle.blk_text.specs.Certificate.{SpellsClaim, title_row, bound_row, served_row, IsServed, IsBound, IsClaim}
+use Rattle.blk_text.specs.Certificate.{SpellsClaim, title_row, bound_row, served_row, served_slots, IsServed, IsBound, IsClaim, ClaimFault}
+use Rattle.blk_text.specs.declared.fault.Why.{Why}
 use Rattle.blk_text.specs.declared.lines.Extent.TheVariants as extent
 use Rattle.blk_text.proofs.Decimals.{no_minus}
 
@@ -82,3 +83,19 @@ pub length_zip : (cs : List Command) (rs : List ℕ) → length rs ≡ length cs
 length_zip [] rs e = refl
 length_zip (c ∷ cs) [] e = absurd (omega (arith, e))
 length_zip (c ∷ cs) (r ∷ rs) e = ap suc (length_zip cs rs (omega (arith, e)))
+
+-- a wrong line after a title and a bound
+pub claim_wrong : (left mid after : Option (List Row)) (depth count : ℕ) (bound : Option (ℤ × Window)) (at : ℕ) (w : Why)
+    → Took (λ cells. cells ≡ title_row depth count) left mid → Took (λ cells. cells ≡ bound_row bound) mid after
+    → (1 ≤ depth) × (depth ≤ 64) × (count ≤ 1_000_000) → IsBound count bound
+    → IfSome after (λ rows. IsOutside w ⊎ ((place : ℕ) × (at ≡ 2 + place) × LinesWrong served_row IsServed (Lacks served_slots) (extent.Exactly count) rows place w))
+    → IfSome left (λ rows. IsOutside w ⊎ ClaimFault rows at w)
+claim_wrong None mid after depth count bound at w t u r i a = tt
+claim_wrong (Some []) mid after depth count bound at w t u r i a = absurd t
+claim_wrong (Some (cells ∷ [])) mid after depth count bound at w t u r i a = absurd (rw t.0 at u)
+claim_wrong (Some (cells ∷ second ∷ rows)) mid after depth count bound at w t u r i a =
+    let v = rw t.0 at u in
+    elim (rw v.0 at a) [
+      | inl out ↦ inl out
+      | inr bad ↦ inr (inr (depth, count, second ∷ rows, r.0, r.1, r.2, rw t.1 refl, inr (bound, rows, i, rw v.1 refl, bad)))
+    ]

@@ -1,5 +1,5 @@
 -- The laws of command lists.
-use Rattle.std.proofs.Common.{◌≡◌, ◌+◌, ◌-◌, ◌≤◌, ◌^◌, ◌∙◌, ℕ, List, [], ◌∷◌, map, refl, sym, ap, inl, inr, arith, codes}
+use Rattle.std.proofs.Common.{◌≡◌, ◌+◌, ◌-◌, ◌≤◌, ◌^◌, ◌∙◌, ℕ, List, [], ◌∷◌, length, map, refl, sym, ap, inl, inr, arith, codes}
 use Rattle.std.proofs.lemmas.Fmt.{decimal_injective}
 use Rattle.csv.specs.Reading.{default_config, records, strip_bom}
 use Rattle.csv.specs.Writing.{read_back}
@@ -7,12 +7,13 @@ use Rattle.edd_check.specs.declared.Command.{Command}
 use Rattle.blk_text.specs.Sources.{Row}
 use Rattle.blk_text.specs.Texts.{rows_text}
 use Rattle.blk_text.specs.Fields.{Lacks}
+use Rattle.blk_text.specs.Faults.{LinesWrong, LinesBefore, IsReached}
 use Rattle.blk_text.specs.Commands.{title_slots, title_row, command_slots, command_row, IsCommandInRange, SpellsCommands, AreCommands, commands_rows, CommandsFault}
 use Rattle.blk_text.specs.declared.fault.Why.{Why}
 use Rattle.blk_text.specs.declared.lines.Extent.TheVariants as extent
 use Rattle.blk_text.proofs.Lists.{cons_same, maps_same}
 use Rattle.blk_text.proofs.Once.{Goods, number_good, goods_lack, lacks_once, title_apart, title_once}
-use Rattle.blk_text.proofs.LinesOnce.{Tells, lines_once, lines_apart}
+use Rattle.blk_text.proofs.LinesOnce.{Tells, lines_once, lines_apart, lines_behind, lines_far}
 use Rattle.blk_text.proofs.Texts.{text_back}
 
 three_same : (a b c x y z : List ℕ) → a ∷ b ∷ c ∷ [] ≡ x ∷ y ∷ z ∷ [] → (a ≡ x) × (b ≡ y) × (c ≡ z)
@@ -78,3 +79,28 @@ one_fault rows at other w v (inr a) (inr b) =
     let rest = cons_same _ _ _ _ (sym a.4 ∙ b.4) in
     let r = lines_once command_row IsCommandInRange (Lacks command_slots) tells (extent.AtMost 1_000_000) b.1 a.5.0 b.5.0 w v (rw rest.1 at a.5.2) b.5.2 in
     (a.5.1 ∙ ap (λ (k : ℕ). 1 + k) r.0 ∙ sym b.5.1, r.1)
+
+-- faults after a good title
+
+past_title : (rows : List Row) (depth : ℕ) (more : List Row) (at : ℕ) (w : Why) → 1 ≤ depth → depth ≤ 64 → rows ≡ title_row depth ∷ more → CommandsFault rows at w
+    → (place : ℕ) × (at ≡ 1 + place) × LinesWrong command_row IsCommandInRange (Lacks command_slots) (extent.AtMost 1_000_000) more place w
+past_title rows depth more at w a b e (inl f) =
+    absurd (title_apart (codes "blk-commands") title_slots (title_row depth) more w (_, refl) (title_good depth a b) (rw e at f.1))
+past_title rows depth more at w a b e (inr f) =
+    let rest = cons_same _ _ _ _ (sym f.4 ∙ e) in
+    rw rest.1 at f.5
+
+-- a record after good commands is reached
+pub reached_line : (rows : List Row) (depth : ℕ) (more : List Row) (place at : ℕ) → 1 ≤ depth → depth ≤ 64 → rows ≡ title_row depth ∷ more
+    → at ≡ 1 + place → LinesBefore command_row IsCommandInRange (extent.AtMost 1_000_000) more place → IsReached CommandsFault rows at
+reached_line rows depth more place at a b e is before =
+    let far = lines_far command_row IsCommandInRange (extent.AtMost 1_000_000) more place before in
+    let long : length rows ≡ length (title_row depth ∷ more) = ap length e in (
+      omega (arith, far, long, is),
+      λ k w l f. (
+          let bad = past_title rows depth more k w a b e f in
+          let behind = lines_behind command_row IsCommandInRange (Lacks command_slots) tells (extent.AtMost 1_000_000) more place bad.0 w before bad.2 in
+          let there : k ≡ 1 + bad.0 = bad.1 in
+          omega (arith, behind, there, is, l)
+          ),
+    )

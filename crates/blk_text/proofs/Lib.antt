@@ -19,4 +19,5 @@ pub mod LinesOnce
 pub mod CommandLaws
 pub mod ClaimLaws
 pub mod ScriptLaws
+pub mod Reached
 pub mod TraceLaws

@@ -3,7 +3,7 @@ use Rattle.std.proofs.Common.{◌≡◌, ◌+◌, ◌≤◌, ◌∙◌, ℕ, Lis
 use Rattle.std.specs.Prelude.{IfSome, All, ◌⊎◌}
 use Rattle.std.proofs.lemmas.List.{map-append, append-nil, length-map}
 use Rattle.blk_text.specs.Sources.{Row, Takes}
-use Rattle.blk_text.specs.Faults.{least_of, most_of, IsTooFew, IsWrongLine, LinesWrong, AreLines, IsOutside, TitleWrong, TitleMissing}
+use Rattle.blk_text.specs.Faults.{least_of, most_of, IsTooFew, IsWrongLine, LinesWrong, AreLines, LinesBefore, IsOutside, TitleWrong, TitleMissing}
 use Rattle.blk_text.specs.declared.fields.Slot.{Slot}
 use Rattle.blk_text.specs.declared.fault.Why.{Why}
 use Rattle.blk_text.specs.declared.lines.Extent.{Extent}
@@ -75,6 +75,14 @@ made_wrong row_of Fits Refused x (Some rows) left after lines f w start at m t a
       omega (arith, e),
       (lines, a, b, (f ∷ more, is ∙ ap (λ (k : List Row). map row_of lines ++ k) first, rw (length-map lines row_of) refl, bad)),
     )
+
+-- the lines before a record
+pub made_before : {L : Type 0} (row_of : L → Row) (Fits : L → Type 0) (x : Extent) (input left : Option (List Row)) (lines : List L) (start at : ℕ)
+    → MadeOf input (map row_of lines) left → All Fits lines → length lines ≤ most_of x → at ≡ start + length lines + 1
+    → IfSome input (λ rows. (place : ℕ) × (at ≡ start + place) × LinesBefore row_of Fits x rows place)
+made_before row_of Fits x None left lines start at m a b e = tt
+made_before row_of Fits x (Some rows) left lines start at m a b e =
+    let (rest, there, is) = m in (length lines + 1, omega (arith, e), (lines, a, b, (rest, is, refl)))
 
 -- a fault from outside
 pub made_outside : {L : Type 0} (row_of : L → Row) (Fits : L → Type 0) (Refused : Row → Why → Type 0) (x : Extent)

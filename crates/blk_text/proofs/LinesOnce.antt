@@ -1,9 +1,9 @@
 -- Among lines the first fault is one, and lines that are good have none.
 use Rattle.std.proofs.Common.{◌≡◌, ◌+◌, ◌<◌, ◌≤◌, ◌∙◌, ℕ, suc, List, [], ◌∷◌, ◌++◌, length, map, refl, sym, ap, inl, inr, arith}
 use Rattle.std.specs.Prelude.{All}
-use Rattle.std.proofs.lemmas.List.{length-map}
+use Rattle.std.proofs.lemmas.List.{length-map, length-append}
 use Rattle.blk_text.specs.Sources.{Row}
-use Rattle.blk_text.specs.Faults.{least_of, most_of, IsWrongLine, LineWrong, LinesWrong, AreLines}
+use Rattle.blk_text.specs.Faults.{least_of, most_of, IsWrongLine, LineWrong, LinesWrong, LinesBefore, AreLines}
 use Rattle.blk_text.specs.declared.fault.Why.{Why}
 use Rattle.blk_text.specs.declared.lines.Extent.{Extent}
 use Rattle.blk_text.proofs.Lists.{head_of, tail_of, cons_same}
@@ -80,3 +80,33 @@ pub lines_apart : {L : Type 0} (row_of : L → Row) (Fits : L → Type 0) (Refus
     → AreLines row_of Fits x rows lines → LinesWrong row_of Fits Refused x rows place w → ⊥
 lines_apart row_of Fits Refused t x rows lines place w g b =
     apart row_of Fits Refused t x lines b.0 b.3.0 0 (length b.0) w g.1 (omega (arith, g.2)) (omega (arith, g.3)) (omega arith) (sym g.0 ∙ b.3.1) b.3.3
+
+behind : {L : Type 0} (row_of : L → Row) (Fits : L → Type 0) (Refused : Row → Why → Type 0) → Tells row_of Fits Refused → (x : Extent) (ls ms : List L) (rest more : List Row) (n d : ℕ) (v : Why)
+    → All Fits ls → d ≡ n + length ms → n + length ls ≤ most_of x → map row_of ls ++ rest ≡ map row_of ms ++ more
+    → LineWrong (IsLine row_of Fits) Refused x d more v → length ls ≤ length ms
+behind row_of Fits Refused t x [] ms rest more n d v p j h e b = omega arith
+behind row_of Fits Refused t x (l ∷ ls) [] rest more n d v p j h e b =
+    absurd (good_line row_of Fits Refused t x d (row_of l) v l refl (head_of Fits l ls p) (omega (arith, j, h)) (rw (← e) at b))
+behind row_of Fits Refused t x (l ∷ ls) (m ∷ ms) rest more n d v p j h e b =
+    let tails = cons_same _ _ _ _ e in
+    let r = behind row_of Fits Refused t x ls ms rest more (suc n) d v (tail_of Fits l ls p) (omega (arith, j)) (omega (arith, h)) tails.1 b in
+    omega (arith, r)
+
+-- no line before a record is wrong
+pub lines_behind : {L : Type 0} (row_of : L → Row) (Fits : L → Type 0) (Refused : Row → Why → Type 0) → Tells row_of Fits Refused → (x : Extent) (rows : List Row) (place other : ℕ) (v : Why)
+    → LinesBefore row_of Fits x rows place → LinesWrong row_of Fits Refused x rows other v → place ≤ other
+lines_behind row_of Fits Refused t x rows place other v a b =
+    let r = behind row_of Fits Refused t x a.0 b.0 a.3.0 b.3.0 0 (length b.0) v a.1 (omega arith) (omega (arith, a.2)) (sym a.3.1 ∙ b.3.1) b.3.3 in
+    let long : length (map row_of b.0) ≡ length b.0 = length-map b.0 row_of in
+    let at : place ≡ length a.0 + 1 = a.3.2 in
+    let other_at : other ≡ length (map row_of b.0) + 1 = b.3.2 in
+    omega (arith, long, at, other_at, r)
+
+-- nor is the record more than one past the last
+pub lines_far : {L : Type 0} (row_of : L → Row) (Fits : L → Type 0) (x : Extent) (rows : List Row) (place : ℕ) → LinesBefore row_of Fits x rows place → place ≤ length rows + 1
+lines_far row_of Fits x rows place a =
+    let all : length rows ≡ length (map row_of a.0 ++ a.3.0) = ap length a.3.1 in
+    let parts : length (map row_of a.0 ++ a.3.0) ≡ length (map row_of a.0) + length a.3.0 = length-append (map row_of a.0) a.3.0 in
+    let long : length (map row_of a.0) ≡ length a.0 = length-map a.0 row_of in
+    let at : place ≡ length a.0 + 1 = a.3.2 in
+    omega (arith, all, parts, long, at)

@@ -1,5 +1,5 @@
 -- The laws of scripts.
-use Rattle.std.proofs.Common.{◌≡◌, ◌+◌, ◌-◌, ◌<◌, ◌≤◌, ◌^◌, ◌==◌, ◌∙◌, ℕ, List, [], ◌∷◌, map, refl, sym, ap, subst, inl, inr, arith, get_or, decimal, codes}
+use Rattle.std.proofs.Common.{◌≡◌, ◌+◌, ◌-◌, ◌<◌, ◌≤◌, ◌^◌, ◌==◌, ◌∙◌, ℕ, List, [], ◌∷◌, length, map, refl, sym, ap, subst, inl, inr, arith, get_or, decimal, codes}
 use Rattle.std.specs.Prelude.{◌⊎◌, Err, if◌then◌else◌}
 use Rattle.std.specs.Str.Parse.{digits_value}
 use Rattle.std.proofs.lemmas.Fmt.{decimal_injective, digits_value-decimal}
@@ -14,9 +14,9 @@ use Rattle.blk_trace.specs.Setups.{Setup}
 use Rattle.blk_text.specs.Sources.{Row}
 use Rattle.blk_text.specs.Texts.{rows_text}
 use Rattle.blk_text.specs.BioRecord.{bio_row, direction_text}
-use Rattle.blk_text.specs.SetupRecord.{setup_slots, setup_row, IsWholeSetup, SetupWrong, SetupMissing}
+use Rattle.blk_text.specs.SetupRecord.{setup_slots, setup_row, SpellsSetup, IsWholeSetup, SetupWrong, SetupMissing}
 use Rattle.blk_text.specs.Words.{StartsWith}
-use Rattle.blk_text.specs.Faults.{TitleMissing}
+use Rattle.blk_text.specs.Faults.{TitleMissing, LinesWrong, LinesBefore, IsReached}
 use Rattle.blk_text.specs.Script.{word_of, slots_of, line_row, LineFits, SpellsNoBio, StepWrong, title_slots, title_row, IsTitle, Scripted, title_of, script_rows, IsScript, SpellsScript, FewSubmitters, AfterTitle, ScriptFault}
 use Rattle.blk_text.specs.declared.fault.Why.{Why}
 use Rattle.blk_text.specs.declared.fault.Why.TheVariants as why
@@ -30,18 +30,18 @@ use Rattle.blk_text.specs.declared.script.Word.TheVariants as word
 use Rattle.blk_text.proofs.Decimals.{own}
 use Rattle.blk_text.proofs.Lists.{cons_same, maps_same}
 use Rattle.blk_text.proofs.Once.{Goods, blank_good, direction_good, number_good, title_apart, title_once, word_once, word_apart}
-use Rattle.blk_text.proofs.LinesOnce.{Tells, lines_once, lines_apart}
+use Rattle.blk_text.proofs.LinesOnce.{Tells, lines_once, lines_apart, lines_behind, lines_far}
 use Rattle.blk_text.proofs.Texts.{text_back}
 
-six_same : (a b c d e f u v w x y z : List ℕ) → a ∷ b ∷ c ∷ d ∷ e ∷ f ∷ [] ≡ u ∷ v ∷ w ∷ x ∷ y ∷ z ∷ [] → (a ≡ u) × (b ≡ v) × (c ≡ w) × (d ≡ x) × (e ≡ y) × (f ≡ z)
+pub six_same : (a b c d e f u v w x y z : List ℕ) → a ∷ b ∷ c ∷ d ∷ e ∷ f ∷ [] ≡ u ∷ v ∷ w ∷ x ∷ y ∷ z ∷ [] → (a ≡ u) × (b ≡ v) × (c ≡ w) × (d ≡ x) × (e ≡ y) × (f ≡ z)
 six_same a b c d e f u v w x y z h = (cc h, cc h, cc h, cc h, cc h, cc h)
 
 -- the number of a field, the direction of a field and the word of a field, whatever stands there
 
-value : List ℕ → ℕ
+pub value : List ℕ → ℕ
 value f = digits_value 10 f
 
-value_is : (n : ℕ) → n < 2 ^ 64 → value (decimal n) ≡ n
+pub value_is : (n : ℕ) → n < 2 ^ 64 → value (decimal n) ≡ n
 unfolding value
 value_is n h = digits_value-decimal own n h
 
@@ -83,13 +83,13 @@ pub record IsWide (b : Bio) : Type 0 where
   pub first : b.first < 2 ^ 64
   pub sectors : b.sectors < 2 ^ 64
 
-bio_at : Row → Bio
+pub bio_at : Row → Bio
 bio_at cells = record { id = record { submitter = value (get_or cells 1 []); serial = value (get_or cells 2 []) }; dir = dir_at (get_or cells 3 []); first = value (get_or cells 4 []); sectors = value (get_or cells 5 []) }
 
 same_bio : (b c : Bio) → b.id.submitter ≡ c.id.submitter → b.id.serial ≡ c.id.serial → b.dir ≡ c.dir → b.first ≡ c.first → b.sectors ≡ c.sectors → b ≡ c
 same_bio b c p q r s t i = record { id = record { submitter = p i; serial = q i }; dir = r i; first = s i; sectors = t i }
 
-bio_is : (b : Bio) → IsWide b → bio_at (bio_row b) ≡ b
+pub bio_is : (b : Bio) → IsWide b → bio_at (bio_row b) ≡ b
 unfolding bio_at
 bio_is b h = same_bio _ b (value_is b.id.submitter h.submitter) (value_is b.id.serial h.serial) (dir_is b.dir) (value_is b.first h.first) (value_is b.sectors h.sectors)
 
@@ -289,7 +289,7 @@ setup_once (cells ∷ rows) w v a b = word_once (λ (k : Unit {0}). codes "setup
 same_setup : (s t : Setup) → s.depth ≡ t.depth → s.hw ≡ t.hw → s.read_expire ≡ t.read_expire → s.write_expire ≡ t.write_expire → s.limits.max_sectors ≡ t.limits.max_sectors → s.limits.max_segments ≡ t.limits.max_segments → s ≡ t
 same_setup s t a b c d e f i = record { depth = a i; hw = b i; read_expire = c i; write_expire = d i; limits = record { max_sectors = e i; max_segments = f i } }
 
-one_setup : (s t : Setup) → IsWholeSetup s → IsWholeSetup t → s.depth ≡ t.depth → s.hw ≡ t.hw → setup_row s ≡ setup_row t → s ≡ t
+pub one_setup : (s t : Setup) → IsWholeSetup s → IsWholeSetup t → s.depth ≡ t.depth → s.hw ≡ t.hw → setup_row s ≡ setup_row t → s ≡ t
 one_setup s t p q d h e =
     let f = six_same _ _ _ _ _ _ _ _ _ _ _ _ e in
     same_setup s t d h
@@ -390,3 +390,47 @@ one_fault rows at other w v (inr a) (inr b) =
     let e = cons_same _ _ _ _ (sym a.3.1 ∙ b.3.1) in
     let title = one_title a.0 b.0 a.1 b.1 e.0 in
     after_once b.0 b.3.0 at other w v b.1 (rw (title, e.1) at a.3.2) b.3.2
+
+-- faults after a good title
+
+past_title : (rows : List Row) (t : Title) (more : List Row) (at : ℕ) (w : Why) → IsTitle t → t.hw ≤ t.submitters → rows ≡ title_row t ∷ more → ScriptFault rows at w → AfterTitle t more at w
+past_title rows t more at w i h e (inl f) = absurd (first_apart rows t more w i h e f.1)
+past_title rows t more at w i h e (inr f) =
+    let rest = cons_same _ _ _ _ (sym f.3.1 ∙ e) in
+    let title = one_title f.0 t f.1 i rest.0 in
+    rw (title, rest.1) at f.3.2
+
+-- faults after a good setup
+
+past_setup : (t : Title) (rows : List Row) (cells : Row) (s : Setup) (more : List Row) (at : ℕ) (w : Why) → SpellsSetup t.depth t.hw cells s → rows ≡ cells ∷ more → AfterTitle t rows at w
+    → (place : ℕ) × (at ≡ 2 + place) × LinesWrong line_row (LineFits t.hw t.submitters) (StepWrong t.hw t.submitters) (extent.AtMost 999_998) more place w
+past_setup t rows cells s more at w i e (inl f) = absurd (setup_apart cells w s i.whole i.row_is (rw e at f.1))
+past_setup t rows cells s more at w i e (inr f) =
+    let rest = cons_same _ _ _ _ (sym f.3.1 ∙ e) in
+    rw rest.1 at f.3.2
+
+later_place : (t : Title) (rows : List Row) (at : ℕ) (w : Why) → AfterTitle t rows at w → 2 ≤ at
+later_place t rows at w (inl f) = omega (arith, f.0)
+later_place t rows at w (inr f) = let is = f.3.2.1 in omega (arith, is)
+
+-- the setup record is reached after a good title
+pub reached_setup : (rows : List Row) (t : Title) (more : List Row) (at : ℕ) → IsTitle t → t.hw ≤ t.submitters → rows ≡ title_row t ∷ more → at ≡ 2 → IsReached ScriptFault rows at
+reached_setup rows t more at i h e is =
+    let long : length rows ≡ length (title_row t ∷ more) = ap length e in
+    (omega (arith, long, is), λ k w l f. (let later = later_place t more k w (past_title rows t more k w i h e f) in omega (arith, later, is, l)))
+
+-- a record after a good setup and good steps is reached
+pub reached_line : (rows : List Row) (t : Title) (cells : Row) (s : Setup) (more : List Row) (place at : ℕ) → IsTitle t → t.hw ≤ t.submitters → SpellsSetup t.depth t.hw cells s
+    → rows ≡ title_row t ∷ cells ∷ more
+    → at ≡ 2 + place → LinesBefore line_row (LineFits t.hw t.submitters) (extent.AtMost 999_998) more place → IsReached ScriptFault rows at
+reached_line rows t cells s more place at i h u e is before =
+    let far = lines_far line_row (LineFits t.hw t.submitters) (extent.AtMost 999_998) more place before in
+    let long : length rows ≡ length (title_row t ∷ cells ∷ more) = ap length e in (
+      omega (arith, far, long, is),
+      λ k w l f. (
+          let bad = past_setup t (cells ∷ more) cells s more k w u refl (past_title rows t (cells ∷ more) k w i h e f) in
+          let behind = lines_behind line_row (LineFits t.hw t.submitters) (StepWrong t.hw t.submitters) (tells t.hw t.submitters i.hw.1 i.submitters.1) (extent.AtMost 999_998) more place bad.0 w before bad.2 in
+          let there : k ≡ 2 + bad.0 = bad.1 in
+          omega (arith, behind, there, is, l)
+          ),
+    )

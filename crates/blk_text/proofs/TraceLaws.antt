@@ -1,7 +1,9 @@
--- The law of the text of a trace.
-use Rattle.std.proofs.Common.{◌≡◌, List, [], ◌∷◌, map, refl, ap}
+-- The laws of the text of a trace.
+use Rattle.std.proofs.Common.{◌≡◌, ◌==◌, ◌∙◌, ℕ, List, [], ◌∷◌, ◌++◌, length, map, take, get_or, refl, sym, ap, arith}
+use Rattle.std.specs.Prelude.{All, if◌then◌else◌}
 use Rattle.std.specs.List.{flat_map}
-use Rattle.std.proofs.lemmas.List.{map-append}
+use Rattle.std.proofs.lemmas.List.{map-append, append_cancel_left}
+use Rattle.std.proofs.lemmas.Fmt.{decimal_injective}
 use Rattle.csv.specs.Reading.{default_config, records, strip_bom}
 use Rattle.csv.specs.Writing.{read_back}
 use Rattle.blk_bio.specs.Bios.{Bio}
@@ -10,7 +12,9 @@ use Rattle.blk_trace.specs.Traces.{Traced}
 use Rattle.blk_text.specs.Sources.{Row}
 use Rattle.blk_text.specs.Texts.{rows_text}
 use Rattle.blk_text.specs.BioRecord.{bio_row}
-use Rattle.blk_text.specs.TraceRecords.{event_rows, trace_rows}
+use Rattle.blk_text.specs.TraceRecords.{BioFits, EventFits, event_rows, trace_rows, IsTrace, SpellsTrace}
+use Rattle.blk_text.proofs.Lists.{head_of, tail_of, cons_same}
+use Rattle.blk_text.proofs.ScriptLaws.{six_same, value, value_is, IsWide, bio_at, bio_is, one_setup}
 use Rattle.blk_text.proofs.Texts.{text_back}
 
 bios_back : (bios : List Bio) → map read_back (map bio_row bios) ≡ map bio_row bios
@@ -31,3 +35,66 @@ events_back (h ∷ hs) = rw (map-append read_back (event_rows h) (flat_map event
 pub read_back_is : (t : Traced) → records default_config (strip_bom (rows_text (trace_rows t))) ≡ trace_rows t
 unfolding rows_text
 read_back_is t = text_back (trace_rows t) _ refl (rw (events_back t.events) refl)
+
+pub spelled_back : (t : Traced) → IsTrace t → SpellsTrace (records default_config (strip_bom (rows_text (trace_rows t)))) t
+spelled_back t h = (read_back_is t, h)
+
+-- an event is told by its records, whatever follows
+
+wide_bio : (b : Bio) → BioFits b → IsWide b
+wide_bio b h = record { submitter = omega (arith, h.0); serial = h.1; first = omega (arith, h.2.in_range); sectors = omega (arith, h.2.in_range) }
+
+abbrev bios_at : ℕ → List Row → List Bio
+bios_at n rows = map bio_at (take n rows)
+
+bios_are : (bios : List Bio) (rest : List Row) → All BioFits bios → bios_at (length bios) (map bio_row bios ++ rest) ≡ bios
+bios_are [] rest h = refl
+bios_are (b ∷ bs) rest h =
+    let first = bio_is b (wide_bio b (head_of BioFits b bs h)) in
+    let others = bios_are bs rest (tail_of BioFits b bs h) in
+    rw (first, others) refl
+
+abbrev by_letter : ℕ → Row → List Row → Happened
+by_letter c cells rest =
+    if c == 116 then Ticked
+    else if c == 114 then Released (value (get_or cells 1 [])) (bios_at (value (get_or cells 2 [])) rest)
+    else if c == 106 then Joined (value (get_or cells 1 [])) (bios_at (value (get_or cells 2 [])) rest)
+    else if c == 105 then Issued (value (get_or cells 1 [])) (value (get_or cells 2 []))
+    else Finished (value (get_or cells 1 []))
+
+abbrev event_at : List Row → Happened
+event_at [] = Ticked
+event_at (cells ∷ rest) = by_letter (get_or (get_or cells 0 []) 0 0) cells rest
+
+event_is : (h : Happened) (rest : List Row) → EventFits h → event_at (event_rows h ++ rest) ≡ h
+event_is Ticked rest f = refl
+event_is (Released id bios) rest f = rw (value_is id f.0, value_is (length bios) (omega (arith, f.2)), bios_are bios rest f.3) refl
+event_is (Joined id bios) rest f = rw (value_is id f.0, value_is (length bios) (omega (arith, f.2)), bios_are bios rest f.3) refl
+event_is (Issued id tag) rest f = rw (value_is id f.0, value_is tag (omega (arith, f.1))) refl
+event_is (Finished tag) rest f = ap Finished (value_is tag (omega (arith, f)))
+
+some_rows : (h : Happened) (rest : List Row) → [] ≡ event_rows h ++ rest → ⊥
+some_rows Ticked rest e = cc e
+some_rows (Released id bios) rest e = cc e
+some_rows (Joined id bios) rest e = cc e
+some_rows (Issued id tag) rest e = cc e
+some_rows (Finished tag) rest e = cc e
+
+events_once : (es fs : List Happened) → All EventFits es → All EventFits fs → flat_map event_rows es ≡ flat_map event_rows fs → es ≡ fs
+events_once [] [] p q h = refl
+events_once [] (f ∷ fs) p q h = absurd (some_rows f (flat_map event_rows fs) h)
+events_once (e ∷ es) [] p q h = absurd (some_rows e (flat_map event_rows es) (sym h))
+events_once (e ∷ es) (f ∷ fs) p q h =
+    let first : e ≡ f = sym (event_is e (flat_map event_rows es) (head_of EventFits e es p)) ∙ ap event_at h ∙ event_is f (flat_map event_rows fs) (head_of EventFits f fs q) in
+    let others : flat_map event_rows es ≡ flat_map event_rows fs = append_cancel_left (event_rows e) _ _ (h ∙ ap (λ (k : Happened). event_rows k ++ flat_map event_rows fs) (sym first)) in
+    let same : es ≡ fs = events_once es fs (tail_of EventFits e es p) (tail_of EventFits f fs q) others in
+    cc (first, same)
+
+pub spelled_once : (rows : List Row) (t u : Traced) → SpellsTrace rows t → SpellsTrace rows u → (t.setup ≡ u.setup) × (t.events ≡ u.events)
+spelled_once rows t u p q =
+    let e = cons_same _ _ _ _ (sym p.0 ∙ q.0) in
+    let f = cons_same _ _ _ _ e.1 in
+    let title = six_same _ _ _ _ _ _ _ _ _ _ _ _ e.0 in
+    let depth = decimal_injective t.setup.depth u.setup.depth (omega (arith, p.1.setup.is_setup.few_tags)) (omega (arith, q.1.setup.is_setup.few_tags)) title.2 in
+    let hw = decimal_injective t.setup.hw u.setup.hw (omega (arith, p.1.setup.is_setup.few_queues)) (omega (arith, q.1.setup.is_setup.few_queues)) title.3 in
+    (one_setup t.setup u.setup p.1.setup q.1.setup depth hw f.0, events_once t.events u.events p.1.events q.1.events f.1)

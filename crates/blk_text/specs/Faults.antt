@@ -66,6 +66,15 @@ LinesWrong {L} row_of Fits Refused x rows place w =
     (lines : List L) × All Fits lines × (length lines ≤ most_of x)
     × WrongAfter (map row_of lines) (LineWrong (λ row. (l : L) × (row ≡ row_of l) × Fits l) Refused x (length lines)) rows place w
 
+-- all records before the one at this place, the first being 1, are good lines
+abbrev pub LinesBefore : {L : Type 0} → (L → Row) → (L → Type 0) → Extent → List Row → ℕ → Type 0
+LinesBefore {L} row_of Fits x rows place =
+    (lines : List L) × All Fits lines × (length lines ≤ most_of x) × ((rest : List Row) × (rows ≡ map row_of lines ++ rest) × (place ≡ length lines + 1))
+
+-- the record of this number was come to: it is at most one past the last, and no record before it has a fault
+abbrev pub IsReached : (List Row → ℕ → Why → Type 0) → List Row → ℕ → Type 0
+IsReached Fault rows at = (at ≤ length rows + 1) × ((k : ℕ) → (w : Why) → k < at → ¬ Fault rows k w)
+
 -- the records are these lines
 abbrev pub AreLines : {L : Type 0} → (L → Row) → (L → Type 0) → Extent → List Row → List L → Type 0
 AreLines row_of Fits x rows lines = (rows ≡ map row_of lines) × All Fits lines × (length lines ≤ most_of x) × (least_of x ≤ length lines)

@@ -1,13 +1,14 @@
 -- The records of a trace.
-use Rattle.std.specs.Prelude.{ℕ, List, [], ◌∷◌, length, map, decimal, codes}
+use Rattle.std.specs.Prelude.{◌≡◌, ◌≤◌, ◌<◌, ◌^◌, ℕ, List, [], ◌∷◌, length, map, decimal, codes, All}
 use Rattle.std.specs.List.{flat_map}
-use Rattle.blk_bio.specs.Bios.{Bio}
+use Rattle.blk_bio.specs.Bios.{Bio, IsBio}
 use Rattle.blk_trace.specs.Setups.{Setup}
 use Rattle.blk_trace.specs.Happened.{Happened, Ticked, Released, Joined, Issued, Finished}
 use Rattle.blk_trace.specs.Traces.{Traced}
+use Rattle.blk_trace.specs.Legal.{IsLegalTrace}
 use Rattle.blk_text.specs.Sources.{Row}
 use Rattle.blk_text.specs.BioRecord.{bio_row}
-use Rattle.blk_text.specs.SetupRecord.{setup_row}
+use Rattle.blk_text.specs.SetupRecord.{setup_row, IsWholeSetup}
 
 -- a record of a word and two fields; the other three are empty
 abbrev pub word_row : List ℕ → List ℕ → List ℕ → Row
@@ -32,3 +33,29 @@ title_row s count = codes "blk-trace" ∷ codes "1" ∷ decimal s.depth ∷ deci
 -- the title, the setup, and the records of each event in turn
 abbrev pub trace_rows : Traced → List Row
 trace_rows t = title_row t.setup (length t.events) ∷ setup_row t.setup ∷ flat_map event_rows t.events
+
+-- the numbers of a bio lie in their ranges
+abbrev pub BioFits : Bio → Type 0
+BioFits b = (b.id.submitter < 256) × (b.id.serial < 2 ^ 64) × IsBio b
+
+-- the id of a group lies in its range, as does the number of its bios, and those of each bio
+abbrev pub GroupFits : ℕ → List Bio → Type 0
+GroupFits id bios = (id < 2 ^ 64) × (1 ≤ length bios) × (length bios ≤ 128) × All BioFits bios
+
+-- the numbers of an event lie in their ranges
+abbrev pub EventFits : Happened → Type 0
+EventFits Ticked = Unit {0}
+EventFits (Released id bios) = GroupFits id bios
+EventFits (Joined id bios) = GroupFits id bios
+EventFits (Issued id tag) = (id < 2 ^ 64) × (tag < 65536)
+EventFits (Finished tag) = tag < 65536
+
+-- a trace is legal, and its numbers lie in their ranges
+pub record IsTrace (t : Traced) : Type 0 where
+  pub setup : IsWholeSetup t.setup
+  pub events : All EventFits t.events
+  pub legal : IsLegalTrace t.setup t.events
+
+-- the records spell this trace, whatever it is prepared for
+abbrev pub SpellsTrace : List Row → Traced → Type 0
+SpellsTrace rows t = (rows ≡ trace_rows t) × IsTrace t

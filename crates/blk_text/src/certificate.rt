@@ -5,7 +5,7 @@ ghost use Rattle.std.specs.Fmt.{signed_decimal};
 ghost use Rattle.std.specs.Io.KnownBytes.{Appends};
 ghost use Rattle.csv.specs.Records.{fields_of};
 ghost use Rattle.blk_text.specs.Sources.{input_of, Took};
-ghost use Rattle.blk_text.specs.Faults.{IsOutside, TitleMissing};
+ghost use Rattle.blk_text.specs.Faults.{IsOutside, IsReached, TitleMissing};
 ghost use Rattle.blk_text.specs.Fields.{IsSized, FieldsSpell};
 ghost use Rattle.blk_text.specs.Words.{StartsWith};
 ghost use Rattle.blk_text.specs.Texts.{rows_text};
@@ -28,6 +28,7 @@ use std::io::{Read, Write};
 pub struct Certificate {
     /// How many commands a round has room for.
     pub depth: u64,
+    /// The commands, each by its id and its release and due rounds.
     pub commands: Vec<Command>,
     /// The round of each command, by its place.
     pub rounds: Vec<u64>,
@@ -37,7 +38,7 @@ pub struct Certificate {
 
 /// A record of a certificate: id, release, due, round.
 #[derive(Clone, Copy, Drop)]
-pub struct ServedForm;
+pub(crate) struct ServedForm;
 
 impl LineForm for ServedForm {
     ghost use Rattle.blk_text.specs.Certificate.{served_row, IsServed, served_slots};
@@ -159,10 +160,7 @@ fn bound_at(row: &ByteRecord, count: u64) -> Result<Option<(i64, Window)>, Why>
     if !begins_with(row, b"bound") {
         return Err(without_word(row, 4));
     }
-    match bound_of(row, count) {
-        Ok(bound) => Ok(bound),
-        Err(why) => Err(why),
-    }
+    bound_of(row, count)
 }
 
 // The bound, which is the next record.
@@ -179,10 +177,8 @@ fn read_bound<R: Read + Drop>(
     ensures last { IfErr result (λ f. f.at ≡ records.new.at) }
     ensures err { IfErr result (λ f. IfSome records.old.left (λ rows. IsOutside f.why ⊎ ((f.at ≡ 2) × BoundMissing count rows f.why))) }
 {
-    match records.advance() {
-        Ok(true) => {}
-        Ok(false) => return Err(records.fault(Why::Word)),
-        Err(fault) => return Err(fault),
+    if !records.advance()? {
+        return Err(records.fault(Why::Word));
     }
     match bound_at(records.row(), count) {
         Ok(bound) => Ok(bound),
@@ -211,10 +207,8 @@ fn read_certificate_title<R: Read + Drop>(records: &mut Records<R>) -> Result<(u
             most: 1_000_000,
         },
     ];
-    match read_title(records, b"blk-certificate", &slots) {
-        Ok(numbers) => Ok((numbers[2], numbers[3])),
-        Err(fault) => Err(fault),
-    }
+    let numbers = read_title(records, b"blk-certificate", &slots)?;
+    Ok((numbers[2], numbers[3]))
 }
 
 // The commands of lines.
@@ -242,7 +236,7 @@ fn split(alloc: Global, served: &[(Command, u64)]) -> Result<(Vec<Command>, Vec<
 }
 
 /// The certificate of a text, from its first record on.
-pub fn read_certificate_from<R: Read + Drop>(
+pub(crate) fn read_certificate_from<R: Read + Drop>(
     alloc: Global,
     records: &mut Records<R>,
 ) -> Result<Certificate, TextFault>
@@ -253,7 +247,9 @@ pub fn read_certificate_from<R: Read + Drop>(
     ensures last { IfErr result (λ f. f.at ≡ records.new.at) }
     ensures err { IfErr result (λ f. IfSome records.old.left (λ rows.
         IsOutside f.why ⊎ ClaimFault rows f.at f.why)) }
-    ensures reads { records.new.at ≤ 1_000_003 }
+    // also where it came from outside: no record before it is wrong
+    ensures reached { IfErr result (λ f. IfSome records.old.left (λ rows. IsReached ClaimFault rows f.at)) }
+    ensures reads { (1 ≤ records.new.at) × (records.new.at ≤ 1_000_003) }
 {
     let (depth, count) = match read_certificate_title(records) {
         Ok(title) => title,
@@ -282,6 +278,7 @@ pub fn read_certificate_from<R: Read + Drop>(
 /// commands, a bound, and each command with its round.
 ///
 /// The fault is the first one: of the least record, and in it the first in the order of [`Why`].
+/// [`Why::Read`] and [`Why::Memory`] come at the record that is being read.
 /// Fewer commands than announced is a fault one past the last record.
 pub fn read_certificate<R: Read + Drop>(alloc: Global, reader: R) -> Result<Certificate, TextFault>
     ensures ok { IfOk result (λ c. IfSome (input_of (R.remaining reader)) (λ rows. SpellsClaim rows (claimed c))) }
@@ -289,6 +286,10 @@ pub fn read_certificate<R: Read + Drop>(alloc: Global, reader: R) -> Result<Cert
     ensures in_range { IfOk result (λ c. IsClaim (claimed c)) }
     ensures err { IfErr result (λ f. IfSome (input_of (R.remaining reader)) (λ rows.
         IsOutside f.why ⊎ ClaimFault rows f.at f.why)) }
+    // also where it came from outside: at most one past the last record, and no record before it is wrong
+    ensures reached { IfErr result (λ f. IfSome (input_of (R.remaining reader)) (λ rows. IsReached ClaimFault rows f.at)) }
+    // no record is read past that of the fault
+    ensures at { IfErr result (λ f. (1 ≤ f.at) × (f.at ≤ 1_000_003)) }
 {
     let mut records = Records::new(alloc, reader);
     read_certificate_from(alloc, &mut records)
@@ -383,6 +384,9 @@ fn certificate_text(alloc: Global, certificate: &Certificate) -> Result<Vec<u8>,
 ///
 /// There are at most 1,000,000 commands with a round each, the numbers lie in the ranges of the
 /// form, and there is no bound exactly where there are no commands.
+///
+/// [`WriteFault::Write`]: the writer answered a fault; what it took before is out, and nothing says
+/// how much that is. [`WriteFault::Memory`]: nothing was handed to the writer.
 pub fn write_certificate<W: Write>(
     alloc: Global,
     certificate: &Certificate,

@@ -6,7 +6,7 @@ ghost use Rattle.csv.specs.Records.{fields_of};
 ghost use Rattle.blk_text.specs.Sources.{input_of};
 ghost use Rattle.blk_text.specs.Texts.{rows_text};
 ghost use Rattle.blk_text.specs.Drafts.{drafted};
-ghost use Rattle.blk_text.specs.Faults.{IsOutside};
+ghost use Rattle.blk_text.specs.Faults.{IsOutside, IsReached};
 ghost use Rattle.blk_text.specs.Commands.{AreCommands, SpellsCommands, CommandsFault, command_row, commands_rows, title_row};
 
 use crate::draft::{Draft, write_whole};
@@ -25,7 +25,7 @@ pub const MOST_COMMANDS: u64 = 1_000_000;
 
 /// A record of a command list: id, release, due.
 #[derive(Clone, Copy, Drop)]
-pub struct CommandForm;
+pub(crate) struct CommandForm;
 
 impl LineForm for CommandForm {
     ghost use Rattle.blk_text.specs.Commands.{command_row, IsCommandInRange, command_slots};
@@ -66,7 +66,7 @@ impl LineForm for CommandForm {
 }
 
 /// The depth and the commands of a command list, from its first record on.
-pub fn read_commands_from<R: Read + Drop>(
+pub(crate) fn read_commands_from<R: Read + Drop>(
     alloc: Global,
     records: &mut Records<R>,
 ) -> Result<(u64, Vec<Command>), TextFault>
@@ -77,7 +77,9 @@ pub fn read_commands_from<R: Read + Drop>(
     ensures last { IfErr result (λ f. f.at ≡ records.new.at) }
     ensures err { IfErr result (λ f. IfSome records.old.left (λ rows.
         IsOutside f.why ⊎ CommandsFault rows f.at f.why)) }
-    ensures reads { records.new.at ≤ 1_000_002 }
+    // also where it came from outside: no record before it is wrong
+    ensures reached { IfErr result (λ f. IfSome records.old.left (λ rows. IsReached CommandsFault rows f.at)) }
+    ensures reads { (1 ≤ records.new.at) × (records.new.at ≤ 1_000_002) }
 {
     let slots = [
         Slot::Given,
@@ -98,6 +100,7 @@ pub fn read_commands_from<R: Read + Drop>(
 /// and at most 1,000,000 commands by id, release round and due round.
 ///
 /// The fault is the first one: of the least record, and in it the first in the order of [`Why`].
+/// [`Why::Read`] and [`Why::Memory`] come at the record that is being read.
 pub fn read_commands<R: Read + Drop>(
     alloc: Global,
     reader: R,
@@ -108,6 +111,10 @@ pub fn read_commands<R: Read + Drop>(
     ensures in_range { IfOk result (λ v. AreCommands v.0 v.1.items) }
     ensures err { IfErr result (λ f. IfSome (input_of (R.remaining reader)) (λ rows.
         IsOutside f.why ⊎ CommandsFault rows f.at f.why)) }
+    // also where it came from outside: at most one past the last record, and no record before it is wrong
+    ensures reached { IfErr result (λ f. IfSome (input_of (R.remaining reader)) (λ rows. IsReached CommandsFault rows f.at)) }
+    // no record is read past that of the fault
+    ensures at { IfErr result (λ f. (1 ≤ f.at) × (f.at ≤ 1_000_002)) }
 {
     let mut records = Records::new(alloc, reader);
     read_commands_from(alloc, &mut records)
@@ -155,6 +162,9 @@ fn commands_text(alloc: Global, depth: u64, commands: &[Command]) -> Result<Vec<
 ///
 /// There are at most 1,000,000 commands, and the numbers lie in the ranges of the form: a depth of
 /// 1 to 64, releases below round 2^40, dues below round 2^41.
+///
+/// [`WriteFault::Write`]: the writer answered a fault; what it took before is out, and nothing says
+/// how much that is. [`WriteFault::Memory`]: nothing was handed to the writer.
 pub fn write_commands<W: Write>(
     alloc: Global,
     depth: u64,

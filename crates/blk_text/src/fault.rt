@@ -42,17 +42,19 @@ pub enum Why {
 #[derive(Debug, Clone, Copy, PartialEq, Eq, Error)]
 #[error("record {at}: {why}")]
 pub struct TextFault {
+    /// The number of the record, from 1 on; empty lines are not counted.
     pub at: u64,
+    /// What is wrong with it.
     pub why: Why,
 }
 
-/// Why a text was not written, in the order in which the reasons are looked for.
+/// Why a text was not written.
 #[derive(Debug, Clone, Copy, PartialEq, Eq, Error)]
 pub enum WriteFault {
-    /// The writer answered a fault.
+    /// The writer answered a fault: what it took before is out, and nothing says how much that is.
     #[error("Write")]
     Write,
-    /// Memory ran out.
+    /// Memory ran out: nothing was handed to the writer.
     #[error("Memory")]
     Memory,
 }

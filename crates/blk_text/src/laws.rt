@@ -9,7 +9,7 @@ ghost use Rattle.blk_text.specs.Commands.{SpellsCommands, AreCommands, CommandsF
 ghost use Rattle.blk_text.specs.Certificate.{Claim, IsClaim, SpellsClaim, ClaimFault, claim_rows};
 ghost use Rattle.blk_trace.specs.Traces.{Traced};
 ghost use Rattle.blk_text.specs.Script.{Scripted, IsScript, SpellsScript, ScriptFault, script_rows};
-ghost use Rattle.blk_text.specs.TraceRecords.{trace_rows};
+ghost use Rattle.blk_text.specs.TraceRecords.{trace_rows, IsTrace, SpellsTrace};
 ghost use Rattle.blk_text.specs.declared.fault.Why.{Why as AWhy};
 
 /// A list of records spells one depth and one list of commands at most.
@@ -79,7 +79,14 @@ pub fn a_script_has_one_fault()
         → ScriptFault rows at w → ScriptFault rows other v → (at ≡ other) × (w ≡ v) }
 {}
 
-/// The text of a trace reads back as its records.
+/// A list of records spells one legal trace at most: one setup and one list of events.
+pub fn traces_are_spelled_once()
+    ensures { (rows : List Row) → (t u : Traced) → SpellsTrace rows t → SpellsTrace rows u
+        → (t.setup ≡ u.setup) × (t.events ≡ u.events) }
+{}
+
+/// The text of a trace reads back as its records, which spell it where it is legal.
 pub fn traces_read_back()
-    ensures { (t : Traced) → records default_config (strip_bom (rows_text (trace_rows t))) ≡ trace_rows t }
+    ensures rows { (t : Traced) → records default_config (strip_bom (rows_text (trace_rows t))) ≡ trace_rows t }
+    ensures spell { (t : Traced) → IsTrace t → SpellsTrace (records default_config (strip_bom (rows_text (trace_rows t)))) t }
 {}

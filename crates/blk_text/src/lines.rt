@@ -4,7 +4,7 @@ ghost use Rattle.std.specs.Prelude.{◌≡◌, ◌⊎◌, ◌+◌, ◌-◌, ◌<
 ghost use Rattle.csv.specs.Records.{fields_of};
 ghost use Rattle.blk_text.specs.Sources.{Row, Took};
 ghost use Rattle.blk_text.specs.Fields.{FieldsSpell};
-ghost use Rattle.blk_text.specs.Faults.{most_of, least_of, beyond_of, AreLines, LinesWrong, IsOutside, IsTitled, TitleMissing};
+ghost use Rattle.blk_text.specs.Faults.{most_of, least_of, beyond_of, AreLines, LinesWrong, LinesBefore, IsOutside, IsTitled, TitleMissing};
 ghost use Rattle.blk_text.specs.declared.fault.Why.{Why as AWhy};
 
 use crate::fault::{TextFault, Why};
@@ -88,10 +88,15 @@ where
     ensures err { IfErr result (λ f. IfSome records.old.left (λ rows. IsOutside f.why
         ⊎ ((place : ℕ) × (f.at ≡ records.old.at + place)
         × LinesWrong (F.row_of form.now) (F.Fits form.now) (F.Refused form.now) extent rows place f.why))) }
+    // the lines before the record of the fault are good
+    ensures before { IfErr result (λ f. IfSome records.old.left (λ rows. (place : ℕ) × (f.at ≡ records.old.at + place)
+        × LinesBefore (F.row_of form.now) (F.Fits form.now) extent rows place)) }
     // also where the reader's bytes are not known
     ensures fit { IfOk result (λ v. All (F.Fits form.now) v.items) }
     ensures count { IfOk result (λ v. (least_of extent ≤ length v.items) × (length v.items ≤ most_of extent)) }
-    ensures reads { records.new.at ≤ records.old.at + most_of extent + 1 }
+    ensures reads { (records.old.at < records.new.at) × (records.new.at ≤ records.old.at + most_of extent + 1) }
+    // the last thing that was asked for is the record after the lines, which there is not
+    ensures end { IfOk result (λ v. records.new.at ≡ records.old.at + length v.items + 1) }
 {
     let mut lines = Vec::new(alloc);
     let most = extent.most();
@@ -154,10 +159,8 @@ pub fn read_title<R: Read + Drop>(
     ensures err { IfErr result (λ f. IfSome records.old.left (λ rows. IsOutside f.why
         ⊎ ((f.at ≡ 1) × TitleMissing name.now slots.now rows f.why))) }
 {
-    match records.advance() {
-        Ok(true) => {}
-        Ok(false) => return Err(records.fault(Why::Title)),
-        Err(fault) => return Err(fault),
+    if !records.advance()? {
+        return Err(records.fault(Why::Title));
     }
     if !is_titled(records.row(), name) {
         return Err(records.fault(Why::Title));

@@ -3,7 +3,7 @@
 ghost use Rattle.std.specs.Prelude.{◌≡◌, ◌⊎◌, ◌+◌, ◌-◌, ◌≤◌, ◌<◌, ◌^◌, ℕ, IfOk, IfErr, IfSome, MatchOption, get_or, codes, [], length, IsTrue, ◌↔◌};
 ghost use Rattle.csv.specs.Records.{fields_of};
 ghost use Rattle.blk_text.specs.Sources.{input_of, Took};
-ghost use Rattle.blk_text.specs.Faults.{IsOutside, TitleMissing};
+ghost use Rattle.blk_text.specs.Faults.{IsOutside, IsReached, TitleMissing};
 ghost use Rattle.blk_text.specs.Words.{StartsWith};
 ghost use Rattle.blk_text.specs.Fields.{FieldsSpell};
 ghost use Rattle.blk_text.specs.BioRecord.{bio_row, direction_text};
@@ -46,17 +46,19 @@ pub enum Line {
 /// A script: a setup, and what is to be done under it.
 #[derive(Debug, Drop)]
 pub struct Script {
+    /// The tags, the hardware queues, the expiries in rounds and the limits of requests.
     pub setup: Setup,
     /// How many requests a software queue has room for, 1 to 1024.
     pub soft_depth: u64,
     /// How many submitters there are, 1 to 64 and at least as many as hardware queues.
     pub submitters: u64,
+    /// The steps in the order in which they are done, at most 999,998.
     pub lines: Vec<Line>,
 }
 
 /// The word that a step begins with.
 #[derive(Clone, Copy, Debug, PartialEq, Eq)]
-pub enum Word {
+pub(crate) enum Word {
     Bio,
     Flush,
     Drain,
@@ -103,7 +105,7 @@ fn direction_of(field: &[u8]) -> Dir
 
 /// The numbers of a script's title.
 #[derive(Clone, Copy, Debug, PartialEq, Eq)]
-pub struct Title {
+pub(crate) struct Title {
     pub depth: u64,
     pub hw: u8,
     pub soft_depth: u64,
@@ -112,7 +114,7 @@ pub struct Title {
 
 /// The steps for so many hardware queues and submitters.
 #[derive(Clone, Copy, Drop)]
-pub struct StepForm {
+pub(crate) struct StepForm {
     hw: u8,
     submitters: u64,
     ghost hw_in: { (1 ≤ hw) × (hw ≤ 16) },
@@ -309,7 +311,7 @@ fn read_script_title<R: Read + Drop>(records: &mut Records<R>) -> Result<Title, 
 }
 
 /// The script of a text, from its first record on.
-pub fn read_script_from<R: Read + Drop>(
+pub(crate) fn read_script_from<R: Read + Drop>(
     alloc: Global,
     records: &mut Records<R>,
 ) -> Result<Script, TextFault>
@@ -320,7 +322,9 @@ pub fn read_script_from<R: Read + Drop>(
     ensures last { IfErr result (λ f. f.at ≡ records.new.at) }
     ensures err { IfErr result (λ f. IfSome records.old.left (λ rows.
         IsOutside f.why ⊎ ScriptFault rows f.at f.why)) }
-    ensures reads { records.new.at ≤ 1_000_001 }
+    // also where it came from outside: no record before it is wrong
+    ensures reached { IfErr result (λ f. IfSome records.old.left (λ rows. IsReached ScriptFault rows f.at)) }
+    ensures reads { (1 ≤ records.new.at) × (records.new.at ≤ 1_000_001) }
 {
     let title = match read_script_title(records) {
         Ok(title) => title,
@@ -349,12 +353,17 @@ pub fn read_script_from<R: Read + Drop>(
 /// soft depth and the submitters, a setup, and at most 999,998 steps.
 ///
 /// The fault is the first one: of the least record, and in it the first in the order of [`Why`].
+/// [`Why::Read`] and [`Why::Memory`] come at the record that is being read.
 pub fn read_script<R: Read + Drop>(alloc: Global, reader: R) -> Result<Script, TextFault>
     ensures ok { IfOk result (λ s. IfSome (input_of (R.remaining reader)) (λ rows. SpellsScript rows (scripted s))) }
     // also where the reader's bytes are not known
     ensures in_range { IfOk result (λ s. IsScript (scripted s)) }
     ensures err { IfErr result (λ f. IfSome (input_of (R.remaining reader)) (λ rows.
         IsOutside f.why ⊎ ScriptFault rows f.at f.why)) }
+    // also where it came from outside: at most one past the last record, and no record before it is wrong
+    ensures reached { IfErr result (λ f. IfSome (input_of (R.remaining reader)) (λ rows. IsReached ScriptFault rows f.at)) }
+    // no record is read past that of the fault
+    ensures at { IfErr result (λ f. (1 ≤ f.at) × (f.at ≤ 1_000_001)) }
 {
     let mut records = Records::new(alloc, reader);
     read_script_from(alloc, &mut records)

@@ -62,10 +62,8 @@ fn setup_at(row: &ByteRecord, depth: u64, hw: u8) -> Result<Setup, Why>
         },
         Slot::Blank,
     ];
-    match read_fields(row, &slots) {
-        Ok(numbers) => Ok(setup_with(row, depth, hw, &numbers)),
-        Err(why) => Err(why),
-    }
+    let numbers = read_fields(row, &slots)?;
+    Ok(setup_with(row, depth, hw, &numbers))
 }
 
 /// The setup of the setup record, which is the next one, for so many tags and hardware queues.
@@ -85,10 +83,8 @@ pub fn read_setup<R: Read + Drop>(
     ensures last { IfErr result (λ f. f.at ≡ records.new.at) }
     ensures err { IfErr result (λ f. IfSome records.old.left (λ rows. IsOutside f.why ⊎ ((f.at ≡ 2) × SetupMissing rows f.why))) }
 {
-    match records.advance() {
-        Ok(true) => {}
-        Ok(false) => return Err(records.fault(Why::Word)),
-        Err(fault) => return Err(fault),
+    if !records.advance()? {
+        return Err(records.fault(Why::Word));
     }
     match setup_at(records.row(), depth, hw) {
         Ok(setup) => Ok(setup),

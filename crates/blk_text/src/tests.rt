@@ -311,6 +311,51 @@ fn one_record_too_many(rt: HostRuntime) -> Result<(), Fail> {
     Ok(())
 }
 
+#[test]
+fn empty_lines_are_not_counted(rt: HostRuntime) -> Result<(), Fail> {
+    let alloc = rt.alloc();
+    for (bad, at, why) in [
+        (b"\n\nblk-commands,1,65\n".as_slice(), 1, Why::Range),
+        (b"blk-commands,1,1\n\n1,0,x".as_slice(), 2, Why::Number),
+        (
+            b"blk-commands,1,1\r\n\r\n\n1,0,0\n\n\n2,0\n".as_slice(),
+            3,
+            Why::Fields,
+        ),
+    ] {
+        assert!(rt; read_commands(alloc, bad).err() == Some(TextFault { at, why }));
+    }
+    for (bad, at, why) in [
+        (
+            b"blk-script,1,1,1,4,1\n\nset,0,9,256,128,\n".as_slice(),
+            2,
+            Why::Word,
+        ),
+        (
+            b"blk-script,1,1,1,4,1\n\nsetup,0,9,256,128,\n\n\ntick,,,,,\n\nflush,1,,,,\n".as_slice(),
+            4,
+            Why::Range,
+        ),
+    ] {
+        assert!(rt; read_script(alloc, bad).err() == Some(TextFault { at, why }));
+    }
+    for (bad, at, why) in [
+        (
+            b"blk-certificate,1,1,2\n\nbound,1,0,0\n\n1,0,0,0\n\n2,0,0,y\n".as_slice(),
+            4,
+            Why::Number,
+        ),
+        (
+            b"blk-certificate,1,1,2\n\nbound,1,0,0\n\n1,0,0,0\n\n\n".as_slice(),
+            4,
+            Why::Count,
+        ),
+    ] {
+        assert!(rt; read_certificate(alloc, bad).err() == Some(TextFault { at, why }));
+    }
+    Ok(())
+}
+
 // The commands of a text, written again.
 fn again(alloc: Global, text: &[u8]) -> Result<Vec<u8>, Fail> {
     let mut out = Vec::new(alloc);
@@ -394,6 +439,42 @@ fn certificates_come_back(rt: HostRuntime) -> Result<(), Fail> {
     assert!(rt; certificate.rounds.as_slice() == [2].as_slice());
     let window = Window { from: 1, due: 5 };
     assert!(rt; certificate.bound == Some((-3, window)));
+    Ok(())
+}
+
+#[test]
+fn a_certificate_in_other_spellings(rt: HostRuntime) -> Result<(), Fail> {
+    let alloc = rt.alloc();
+    let text = b"blk-certificate,1,1,3\nbound,-2,0,4\n1,0,4,0\n2,0,4,1\n3,0,4,2\n".as_slice();
+    for input in [
+        b"\xef\xbb\xbfblk-certificate,1,1,3\r\n\nbound,\"-2\",0,4\r\n1,0,4,0\r\n\n2,0,\"4\",1\n3,0,4,2".as_slice(),
+        b"\"blk-certificate\",1,1,\"3\"\r\"bound\",-2,0,4\r1,0,4,0\r\"\"2,0,4,1\r3,0,4,\"2".as_slice(),
+    ] {
+        let mut out = Vec::new(alloc);
+        let certificate = read_certificate(alloc, input)?;
+        write_certificate(alloc, &certificate, &mut out)?;
+        assert!(rt; out.as_slice() == text);
+    }
+    Ok(())
+}
+
+#[test]
+fn a_script_in_other_spellings(rt: HostRuntime) -> Result<(), Fail> {
+    let alloc = rt.alloc();
+    let id = BioId {
+        submitter: 0,
+        serial: 7,
+    };
+    let bio = Bio::new(id, Dir::Write, 100, 8)?;
+    let steps = [Line::Bio(bio), Line::Flush(0), Line::Tick, Line::Run(2)];
+    for input in [
+        b"\xef\xbb\xbfblk-script,1,1,1,4,1\r\n\nsetup,0,9,256,128,\"\"\r\nbio,0,\"7\",\"W\",100,8\r\n\nflush,0,,,\"\",\r\ntick,,,,,\nrun,2,,,,".as_slice(),
+        b"\"blk-script\",1,\"1\",1,4,1\r\"setup\",0,9,256,128,\r\"bio\",0,7,W,\"100\",\"8\"\r\"\"flush,\"0\",,,,\rtick,,,,,\r\"run\",\"2\",,,,\"".as_slice(),
+    ] {
+        let script = read_script(alloc, input)?;
+        assert_eq!(rt; script.setup.write_expire(), 9);
+        assert!(rt; script.lines.as_slice() == steps.as_slice());
+    }
     Ok(())
 }
 

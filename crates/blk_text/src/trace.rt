@@ -156,6 +156,9 @@ fn trace_text<A: Allocator + Clone>(alloc: Global, trace: &Trace<A>) -> Result<V
 
 /// Writes the text of a trace, at once where all of it could be made: records of six fields, a title,
 /// a setup, and the records of each event, those of a group's bios after its own in tile order.
+///
+/// [`WriteFault::Write`]: the writer answered a fault; what it took before is out, and nothing says
+/// how much that is. [`WriteFault::Memory`]: nothing was handed to the writer.
 pub fn write_trace<A: Allocator + Clone, W: Write>(
     alloc: Global,
     trace: &Trace<A>,

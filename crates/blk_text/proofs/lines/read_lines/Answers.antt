@@ -5,7 +5,7 @@ use Rattle.std.proofs.lemmas.List.Elements.{All-push}
 use Rattle.blk_text.specs.Sources.{Takes}
 use Rattle.blk_text.specs.Faults.{least_of}
 use Rattle.blk_text.specs.declared.fault.Why.TheVariants as why
-use Rattle.blk_text.proofs.LineLemmas.{made_more, made_wrong, made_few}
+use Rattle.blk_text.proofs.LineLemmas.{made_more, made_wrong, made_few, made_before}
 use Rattle.blk_text.proofs.lines.read_lines.Goals as goal
 
 pub returns-in-Err-line-clause-err : goal.returns-in-Err-line-clause-err
@@ -63,3 +63,40 @@ returns-then-lacks-clause-err g c =
     (made_few (g.F.LineForm.row_of c.args.form.now) (g.F.LineForm.Fits c.args.form.now) (g.F.LineForm.Refused c.args.form.now) c.args.extent
     c.args.records.now.left c.loop.records.left c.advance.new.self.left c.loop.lines.items c.advance.new.self.fields why.Count
     c.args.records.now.at c.fault.result.at c.loop.invariant.made taken c.loop.invariant.fit (omega arith) at (refl, few))
+
+pub returns-then-lacks-clause-before : goal.returns-then-lacks-clause-before
+returns-then-lacks-clause-before g c =
+    made_before (g.F.LineForm.row_of c.args.form.now) (g.F.LineForm.Fits c.args.form.now) c.args.extent c.args.records.now.left c.loop.records.left c.loop.lines.items
+    c.args.records.now.at c.fault.result.at c.loop.invariant.made c.loop.invariant.fit (omega arith) (omega arith)
+
+pub returns-in-Err-clause-before : goal.returns-in-Err-clause-before
+returns-in-Err-clause-before g c =
+    let there = c.in-Err.ensures.fault.0 in
+    made_before (g.F.LineForm.row_of c.args.form.now) (g.F.LineForm.Fits c.args.form.now) c.args.extent c.args.records.now.left c.loop.records.left c.loop.lines.items
+    c.args.records.now.at c.in-Err.fault.at c.loop.invariant.made c.loop.invariant.fit (omega arith) (omega (arith, there))
+
+pub returns-then-is_err-clause-before : goal.returns-then-is_err-clause-before
+returns-then-is_err-clause-before g c =
+    made_before (g.F.LineForm.row_of c.args.form.now) (g.F.LineForm.Fits c.args.form.now) c.args.extent c.args.records.now.left c.loop.records.left c.loop.lines.items
+    c.args.records.now.at c.fault-then-is_err.result.at c.loop.invariant.made c.loop.invariant.fit (omega arith) (omega arith)
+
+pub returns-in-Err-line-clause-before : goal.returns-in-Err-line-clause-before
+returns-in-Err-line-clause-before g c =
+    made_before (g.F.LineForm.row_of c.args.form.now) (g.F.LineForm.Fits c.args.form.now) c.args.extent c.args.records.now.left c.loop.records.left c.loop.lines.items
+    c.args.records.now.at c.fault-in-Err-line.result.at c.loop.invariant.made c.loop.invariant.fit (omega arith) (omega arith)
+
+pub returns-in-Err-advance-clause-before : goal.returns-in-Err-advance-clause-before
+returns-in-Err-advance-clause-before g c =
+    let there = c.in-Err-advance.ensures.fault.0 in
+    made_before (g.F.LineForm.row_of c.args.form.now) (g.F.LineForm.Fits c.args.form.now) c.args.extent c.args.records.now.left c.loop.records.left c.loop.lines.items
+    c.args.records.now.at c.in-Err-advance.fault.at c.loop.invariant.made c.loop.invariant.fit (omega arith) (omega (arith, there))
+
+pub returns-in-Ok-line-clause-before : goal.returns-in-Ok-line-clause-before
+returns-in-Ok-line-clause-before g c =
+    made_before (g.F.LineForm.row_of c.args.form.now) (g.F.LineForm.Fits c.args.form.now) c.args.extent c.args.records.now.left c.loop.records.left c.loop.lines.items
+    c.args.records.now.at c.fault-in-Ok-line.result.at c.loop.invariant.made c.loop.invariant.fit (omega arith) (omega arith)
+
+pub returns-clause-before : goal.returns-clause-before
+returns-clause-before g c =
+    made_before (g.F.LineForm.row_of c.args.form.now) (g.F.LineForm.Fits c.args.form.now) c.args.extent c.args.records.now.left c.loop.records.left c.loop.lines.items
+    c.args.records.now.at c.fault-in-Err-line-2.result.at c.loop.invariant.made c.loop.invariant.fit (omega arith) (omega arith)
