@@ -1,4 +1,4 @@
-use Rattle.std.proofs.Common.{◌+◌, ◌*◌, ◌<◌, ◌^◌, arith}
+use Rattle.std.proofs.Common.{arith}
 use Rattle.blk_text.proofs.Decimals.{room}
 use Rattle.blk_text.proofs.fields.short_number.Goals as goal
 
