@@ -16,6 +16,7 @@ use blk_text::certificate::{Certificate, read_certificate, write_certificate};
 use blk_text::commands::read_commands;
 use blk_text::fault::WriteFault;
 use blk_text::script::read_script;
+use blk_text::source::Records;
 use blk_text::trace::write_trace;
 use edd_check::{Command, Window, check, load};
 use edd_oracle::solve;
@@ -31,7 +32,7 @@ pub fn simulate_script<R: Read + Drop, W: Write>(
     ensures wrote { OnOk result (IfSome (input_of (R.remaining reader)) (λ rows. SimWrote rows (W.contents writer.old) (W.contents writer.new))) }
     ensures kept { IfErr result (λ f. IsOfWriter f ⊎ (writer.new ≡ writer.old)) }
 {
-    let script = match read_script(alloc, reader) {
+    let script = match read_script(alloc, &mut Records::new(alloc, reader)) {
         Ok(script) => script,
         Err(fault) => return Err(Failure::Text(fault)),
     };
@@ -82,7 +83,7 @@ pub fn solve_commands<R: Read + Drop, W: Write>(
     ensures wrote { OnOk result (IfSome (input_of (R.remaining reader)) (λ rows. OracleWrote rows (W.contents writer.old) (W.contents writer.new))) }
     ensures kept { IfErr result (λ f. IsOfWriter f ⊎ (writer.new ≡ writer.old)) }
 {
-    let (depth, commands) = match read_commands(alloc, reader) {
+    let (depth, commands) = match read_commands(alloc, &mut Records::new(alloc, reader)) {
         Ok(list) => list,
         Err(fault) => return Err(Failure::Text(fault)),
     };
@@ -146,7 +147,7 @@ pub fn check_certificate<R: Read + Drop, W: Write>(
     ensures read { OnOk result (IfSome (input_of (R.remaining reader)) CheckRead) }
     ensures kept { IfErr result (λ f. IsOfWriter f ⊎ (writer.new ≡ writer.old)) }
 {
-    let certificate = match read_certificate(alloc, reader) {
+    let certificate = match read_certificate(alloc, &mut Records::new(alloc, reader)) {
         Ok(certificate) => certificate,
         Err(fault) => return Err(Failure::Text(fault)),
     };

@@ -4,7 +4,7 @@ ghost use Rattle.std.specs.Prelude.{◌≡◌, ◌⊎◌, ◌+◌, ◌++◌, ◌
 ghost use Rattle.std.specs.Fmt.{signed_decimal};
 ghost use Rattle.std.specs.Io.KnownBytes.{Appends};
 ghost use Rattle.csv.specs.Records.{fields_of};
-ghost use Rattle.blk_text.specs.Sources.{input_of, Took};
+ghost use Rattle.blk_text.specs.Sources.{Took};
 ghost use Rattle.blk_text.specs.Faults.{IsOutside, IsReached, TitleMissing};
 ghost use Rattle.blk_text.specs.Fields.{IsSized, FieldsSpell};
 ghost use Rattle.blk_text.specs.Words.{StartsWith};
@@ -235,21 +235,30 @@ fn split(alloc: Global, served: &[(Command, u64)]) -> Result<(Vec<Command>, Vec<
     Ok((commands, rounds))
 }
 
-/// The certificate of a text, from its first record on.
-pub(crate) fn read_certificate_from<R: Read + Drop>(
+/// The certificate of a text of records of four fields: a title with the depth and the number of
+/// commands, a bound, and each command with its round. No record was read before.
+///
+/// The fault is the first one: of the least record, and in it the first in the order of [`Why`].
+/// [`Why::Read`] and [`Why::Memory`] come at the record that is being read.
+/// Fewer commands than announced is a fault one past the last record. No record is asked for past
+/// that of the fault, and 1,000,003 at most.
+pub fn read_certificate<R: Read + Drop>(
     alloc: Global,
     records: &mut Records<R>,
 ) -> Result<Certificate, TextFault>
     requires { records.old.at ≡ 0 }
     ensures ok { IfOk result (λ c. IfSome records.old.left (λ rows. SpellsClaim rows (claimed c))) }
+    // also where the reader's bytes are not known
     ensures in_range { IfOk result (λ c. IsClaim (claimed c)) }
     // at the record that was asked for last: none was read past it
     ensures last { IfErr result (λ f. f.at ≡ records.new.at) }
     ensures err { IfErr result (λ f. IfSome records.old.left (λ rows.
         IsOutside f.why ⊎ ClaimFault rows f.at f.why)) }
-    // also where it came from outside: no record before it is wrong
+    // also where it came from outside: at most one past the last record, and no record before it is wrong
     ensures reached { IfErr result (λ f. IfSome records.old.left (λ rows. IsReached ClaimFault rows f.at)) }
     ensures reads { (1 ≤ records.new.at) × (records.new.at ≤ 1_000_003) }
+    // the last thing that was asked for is the record after the commands, which there is not
+    ensures end { IfOk result (λ c. records.new.at ≡ length c.commands.items + 3) }
 {
     let (depth, count) = match read_certificate_title(records) {
         Ok(title) => title,
@@ -272,27 +281,6 @@ pub(crate) fn read_certificate_from<R: Read + Drop>(
         }),
         Err(AllocError) => Err(records.fault(Why::Memory)),
     }
-}
-
-/// The certificate of a text of records of four fields: a title with the depth and the number of
-/// commands, a bound, and each command with its round.
-///
-/// The fault is the first one: of the least record, and in it the first in the order of [`Why`].
-/// [`Why::Read`] and [`Why::Memory`] come at the record that is being read.
-/// Fewer commands than announced is a fault one past the last record.
-pub fn read_certificate<R: Read + Drop>(alloc: Global, reader: R) -> Result<Certificate, TextFault>
-    ensures ok { IfOk result (λ c. IfSome (input_of (R.remaining reader)) (λ rows. SpellsClaim rows (claimed c))) }
-    // also where the reader's bytes are not known
-    ensures in_range { IfOk result (λ c. IsClaim (claimed c)) }
-    ensures err { IfErr result (λ f. IfSome (input_of (R.remaining reader)) (λ rows.
-        IsOutside f.why ⊎ ClaimFault rows f.at f.why)) }
-    // also where it came from outside: at most one past the last record, and no record before it is wrong
-    ensures reached { IfErr result (λ f. IfSome (input_of (R.remaining reader)) (λ rows. IsReached ClaimFault rows f.at)) }
-    // no record is read past that of the fault
-    ensures at { IfErr result (λ f. (1 ≤ f.at) × (f.at ≤ 1_000_003)) }
-{
-    let mut records = Records::new(alloc, reader);
-    read_certificate_from(alloc, &mut records)
 }
 
 // Adds the title record.

@@ -1,9 +1,8 @@
 //! Command lists.
 
-ghost use Rattle.std.specs.Prelude.{◌≡◌, ◌⊎◌, ◌+◌, ◌≤◌, ◌<◌, ◌^◌, ◌++◌, ◌∷◌, [], IfOk, IfErr, IfSome, OnOk};
+ghost use Rattle.std.specs.Prelude.{◌≡◌, ◌⊎◌, ◌+◌, ◌≤◌, ◌<◌, ◌^◌, ◌++◌, ◌∷◌, [], IfOk, IfErr, IfSome, OnOk, length};
 ghost use Rattle.std.specs.Io.KnownBytes.{Appends};
 ghost use Rattle.csv.specs.Records.{fields_of};
-ghost use Rattle.blk_text.specs.Sources.{input_of};
 ghost use Rattle.blk_text.specs.Texts.{rows_text};
 ghost use Rattle.blk_text.specs.Drafts.{drafted};
 ghost use Rattle.blk_text.specs.Faults.{IsOutside, IsReached};
@@ -65,21 +64,29 @@ impl LineForm for CommandForm {
     }
 }
 
-/// The depth and the commands of a command list, from its first record on.
-pub(crate) fn read_commands_from<R: Read + Drop>(
+/// The depth and the commands of a text of records of three fields: a title with the depth, 1 to 64,
+/// and at most 1,000,000 commands by id, release round and due round. No record was read before.
+///
+/// The fault is the first one: of the least record, and in it the first in the order of [`Why`].
+/// [`Why::Read`] and [`Why::Memory`] come at the record that is being read. No record is asked for past
+/// that of the fault, and 1,000,002 at most.
+pub fn read_commands<R: Read + Drop>(
     alloc: Global,
     records: &mut Records<R>,
 ) -> Result<(u64, Vec<Command>), TextFault>
     requires { records.old.at ≡ 0 }
     ensures ok { IfOk result (λ v. IfSome records.old.left (λ rows. SpellsCommands rows v.0 v.1.items)) }
+    // also where the reader's bytes are not known
     ensures in_range { IfOk result (λ v. AreCommands v.0 v.1.items) }
     // at the record that was asked for last: none was read past it
     ensures last { IfErr result (λ f. f.at ≡ records.new.at) }
     ensures err { IfErr result (λ f. IfSome records.old.left (λ rows.
         IsOutside f.why ⊎ CommandsFault rows f.at f.why)) }
-    // also where it came from outside: no record before it is wrong
+    // also where it came from outside: at most one past the last record, and no record before it is wrong
     ensures reached { IfErr result (λ f. IfSome records.old.left (λ rows. IsReached CommandsFault rows f.at)) }
     ensures reads { (1 ≤ records.new.at) × (records.new.at ≤ 1_000_002) }
+    // the last thing that was asked for is the record after the commands, which there is not
+    ensures end { IfOk result (λ v. records.new.at ≡ length v.1.items + 2) }
 {
     let slots = [
         Slot::Given,
@@ -94,30 +101,6 @@ pub(crate) fn read_commands_from<R: Read + Drop>(
         Ok(commands) => Ok((depth, commands)),
         Err(fault) => Err(fault),
     }
-}
-
-/// The depth and the commands of a text of records of three fields: a title with the depth, 1 to 64,
-/// and at most 1,000,000 commands by id, release round and due round.
-///
-/// The fault is the first one: of the least record, and in it the first in the order of [`Why`].
-/// [`Why::Read`] and [`Why::Memory`] come at the record that is being read.
-pub fn read_commands<R: Read + Drop>(
-    alloc: Global,
-    reader: R,
-) -> Result<(u64, Vec<Command>), TextFault>
-    ensures ok { IfOk result (λ v. IfSome (input_of (R.remaining reader)) (λ rows.
-        SpellsCommands rows v.0 v.1.items)) }
-    // also where the reader's bytes are not known
-    ensures in_range { IfOk result (λ v. AreCommands v.0 v.1.items) }
-    ensures err { IfErr result (λ f. IfSome (input_of (R.remaining reader)) (λ rows.
-        IsOutside f.why ⊎ CommandsFault rows f.at f.why)) }
-    // also where it came from outside: at most one past the last record, and no record before it is wrong
-    ensures reached { IfErr result (λ f. IfSome (input_of (R.remaining reader)) (λ rows. IsReached CommandsFault rows f.at)) }
-    // no record is read past that of the fault
-    ensures at { IfErr result (λ f. (1 ≤ f.at) × (f.at ≤ 1_000_002)) }
-{
-    let mut records = Records::new(alloc, reader);
-    read_commands_from(alloc, &mut records)
 }
 
 // Adds the record of a command.

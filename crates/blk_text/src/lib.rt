@@ -11,7 +11,7 @@ mod lines;
 mod pieces;
 pub mod script;
 mod setup;
-mod source;
+pub mod source;
 #[cfg(test)]
 mod tests;
 pub mod trace;

@@ -2,7 +2,7 @@
 
 ghost use Rattle.std.specs.Prelude.{◌≡◌, ◌⊎◌, ◌+◌, ◌-◌, ◌≤◌, ◌<◌, ◌^◌, ℕ, IfOk, IfErr, IfSome, MatchOption, get_or, codes, [], length, IsTrue, ◌↔◌};
 ghost use Rattle.csv.specs.Records.{fields_of};
-ghost use Rattle.blk_text.specs.Sources.{input_of, Took};
+ghost use Rattle.blk_text.specs.Sources.{Took};
 ghost use Rattle.blk_text.specs.Faults.{IsOutside, IsReached, TitleMissing};
 ghost use Rattle.blk_text.specs.Words.{StartsWith};
 ghost use Rattle.blk_text.specs.Fields.{FieldsSpell};
@@ -310,21 +310,29 @@ fn read_script_title<R: Read + Drop>(records: &mut Records<R>) -> Result<Title, 
     }
 }
 
-/// The script of a text, from its first record on.
-pub(crate) fn read_script_from<R: Read + Drop>(
+/// The script of a text of records of six fields: a title with the depth, the hardware queues, the
+/// soft depth and the submitters, a setup, and at most 999,998 steps. No record was read before.
+///
+/// The fault is the first one: of the least record, and in it the first in the order of [`Why`].
+/// [`Why::Read`] and [`Why::Memory`] come at the record that is being read. No record is asked for past
+/// that of the fault, and 1,000,001 at most.
+pub fn read_script<R: Read + Drop>(
     alloc: Global,
     records: &mut Records<R>,
 ) -> Result<Script, TextFault>
     requires { records.old.at ≡ 0 }
     ensures ok { IfOk result (λ s. IfSome records.old.left (λ rows. SpellsScript rows (scripted s))) }
+    // also where the reader's bytes are not known
     ensures in_range { IfOk result (λ s. IsScript (scripted s)) }
     // at the record that was asked for last: none was read past it
     ensures last { IfErr result (λ f. f.at ≡ records.new.at) }
     ensures err { IfErr result (λ f. IfSome records.old.left (λ rows.
         IsOutside f.why ⊎ ScriptFault rows f.at f.why)) }
-    // also where it came from outside: no record before it is wrong
+    // also where it came from outside: at most one past the last record, and no record before it is wrong
     ensures reached { IfErr result (λ f. IfSome records.old.left (λ rows. IsReached ScriptFault rows f.at)) }
     ensures reads { (1 ≤ records.new.at) × (records.new.at ≤ 1_000_001) }
+    // the last thing that was asked for is the record after the steps, which there is not
+    ensures end { IfOk result (λ s. records.new.at ≡ length s.lines.items + 3) }
 {
     let title = match read_script_title(records) {
         Ok(title) => title,
@@ -347,24 +355,4 @@ pub(crate) fn read_script_from<R: Read + Drop>(
         }),
         Err(fault) => Err(fault),
     }
-}
-
-/// The script of a text of records of six fields: a title with the depth, the hardware queues, the
-/// soft depth and the submitters, a setup, and at most 999,998 steps.
-///
-/// The fault is the first one: of the least record, and in it the first in the order of [`Why`].
-/// [`Why::Read`] and [`Why::Memory`] come at the record that is being read.
-pub fn read_script<R: Read + Drop>(alloc: Global, reader: R) -> Result<Script, TextFault>
-    ensures ok { IfOk result (λ s. IfSome (input_of (R.remaining reader)) (λ rows. SpellsScript rows (scripted s))) }
-    // also where the reader's bytes are not known
-    ensures in_range { IfOk result (λ s. IsScript (scripted s)) }
-    ensures err { IfErr result (λ f. IfSome (input_of (R.remaining reader)) (λ rows.
-        IsOutside f.why ⊎ ScriptFault rows f.at f.why)) }
-    // also where it came from outside: at most one past the last record, and no record before it is wrong
-    ensures reached { IfErr result (λ f. IfSome (input_of (R.remaining reader)) (λ rows. IsReached ScriptFault rows f.at)) }
-    // no record is read past that of the fault
-    ensures at { IfErr result (λ f. (1 ≤ f.at) × (f.at ≤ 1_000_001)) }
-{
-    let mut records = Records::new(alloc, reader);
-    read_script_from(alloc, &mut records)
 }

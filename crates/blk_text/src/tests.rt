@@ -109,7 +109,9 @@ fn faults_of_a_command_list(rt: HostRuntime) -> Result<(), Fail> {
             Why::Range,
         ),
     ] {
-        assert!(rt; read_commands(alloc, bad).err() == Some(TextFault { at, why }));
+        assert!(rt;
+            read_commands(alloc, &mut Records::new(alloc, bad)).err() == Some(TextFault { at, why })
+        );
     }
     Ok(())
 }
@@ -134,7 +136,10 @@ fn faults_of_a_script(rt: HostRuntime) -> Result<(), Fail> {
         (b"blk-script,1,1,1,4,65\n".as_slice(), Why::Range),
         (b"blk-script,1,1,2,4,1\n".as_slice(), Why::Range),
     ] {
-        assert!(rt; read_script(alloc, bad).err() == Some(TextFault { at: 1, why }));
+        assert!(rt;
+            read_script(alloc, &mut Records::new(alloc, bad)).err()
+                == Some(TextFault { at: 1, why })
+        );
     }
     Ok(())
 }
@@ -158,7 +163,10 @@ fn faults_of_a_setup(rt: HostRuntime) -> Result<(), Fail> {
     ] {
         let mut text = Vec::from_slice(alloc, b"blk-script,1,1,1,4,1\n")?;
         text.extend_from_slice(setup)?;
-        assert!(rt; read_script(alloc, text.as_slice()).err() == Some(TextFault { at: 2, why }));
+        assert!(rt;
+            read_script(alloc, &mut Records::new(alloc, text.as_slice())).err()
+                == Some(TextFault { at: 2, why })
+        );
     }
     Ok(())
 }
@@ -202,7 +210,10 @@ fn faults_of_a_step(rt: HostRuntime) -> Result<(), Fail> {
     ] {
         let mut text = Vec::from_slice(alloc, b"blk-script,1,1,1,4,2\nsetup,0,9,256,128,\n")?;
         text.extend_from_slice(step)?;
-        assert!(rt; read_script(alloc, text.as_slice()).err() == Some(TextFault { at: 3, why }));
+        assert!(rt;
+            read_script(alloc, &mut Records::new(alloc, text.as_slice())).err()
+                == Some(TextFault { at: 3, why })
+        );
     }
     Ok(())
 }
@@ -220,7 +231,10 @@ fn faults_of_a_certificate(rt: HostRuntime) -> Result<(), Fail> {
         (b"blk-certificate,1,65,1\n".as_slice(), Why::Range),
         (b"blk-certificate,1,1,1000001\n".as_slice(), Why::Range),
     ] {
-        assert!(rt; read_certificate(alloc, bad).err() == Some(TextFault { at: 1, why }));
+        assert!(rt;
+            read_certificate(alloc, &mut Records::new(alloc, bad)).err()
+                == Some(TextFault { at: 1, why })
+        );
     }
     Ok(())
 }
@@ -240,7 +254,8 @@ fn faults_of_no_bound(rt: HostRuntime) -> Result<(), Fail> {
         let mut text = Vec::from_slice(alloc, b"blk-certificate,1,1,0\n")?;
         text.extend_from_slice(bound)?;
         assert!(rt;
-            read_certificate(alloc, text.as_slice()).err() == Some(TextFault { at: 2, why })
+            read_certificate(alloc, &mut Records::new(alloc, text.as_slice())).err()
+                == Some(TextFault { at: 2, why })
         );
     }
     Ok(())
@@ -269,7 +284,8 @@ fn faults_of_a_bound(rt: HostRuntime) -> Result<(), Fail> {
         let mut text = Vec::from_slice(alloc, b"blk-certificate,1,1,1\n")?;
         text.extend_from_slice(bound)?;
         assert!(rt;
-            read_certificate(alloc, text.as_slice()).err() == Some(TextFault { at: 2, why })
+            read_certificate(alloc, &mut Records::new(alloc, text.as_slice())).err()
+                == Some(TextFault { at: 2, why })
         );
     }
     Ok(())
@@ -292,7 +308,10 @@ fn faults_of_served_commands(rt: HostRuntime) -> Result<(), Fail> {
     ] {
         let mut text = Vec::from_slice(alloc, b"blk-certificate,1,1,2\nbound,1,0,0\n")?;
         text.extend_from_slice(lines)?;
-        assert!(rt; read_certificate(alloc, text.as_slice()).err() == Some(TextFault { at, why }));
+        assert!(rt;
+            read_certificate(alloc, &mut Records::new(alloc, text.as_slice())).err()
+                == Some(TextFault { at, why })
+        );
     }
     Ok(())
 }
@@ -323,7 +342,9 @@ fn empty_lines_are_not_counted(rt: HostRuntime) -> Result<(), Fail> {
             Why::Fields,
         ),
     ] {
-        assert!(rt; read_commands(alloc, bad).err() == Some(TextFault { at, why }));
+        assert!(rt;
+            read_commands(alloc, &mut Records::new(alloc, bad)).err() == Some(TextFault { at, why })
+        );
     }
     for (bad, at, why) in [
         (
@@ -337,7 +358,9 @@ fn empty_lines_are_not_counted(rt: HostRuntime) -> Result<(), Fail> {
             Why::Range,
         ),
     ] {
-        assert!(rt; read_script(alloc, bad).err() == Some(TextFault { at, why }));
+        assert!(rt;
+            read_script(alloc, &mut Records::new(alloc, bad)).err() == Some(TextFault { at, why })
+        );
     }
     for (bad, at, why) in [
         (
@@ -351,7 +374,10 @@ fn empty_lines_are_not_counted(rt: HostRuntime) -> Result<(), Fail> {
             Why::Count,
         ),
     ] {
-        assert!(rt; read_certificate(alloc, bad).err() == Some(TextFault { at, why }));
+        assert!(rt;
+            read_certificate(alloc, &mut Records::new(alloc, bad)).err()
+                == Some(TextFault { at, why })
+        );
     }
     Ok(())
 }
@@ -359,7 +385,7 @@ fn empty_lines_are_not_counted(rt: HostRuntime) -> Result<(), Fail> {
 // The commands of a text, written again.
 fn again(alloc: Global, text: &[u8]) -> Result<Vec<u8>, Fail> {
     let mut out = Vec::new(alloc);
-    let (depth, commands) = read_commands(alloc, text)?;
+    let (depth, commands) = read_commands(alloc, &mut Records::new(alloc, text))?;
     write_commands(alloc, depth, commands.as_slice(), &mut out)?;
     Ok(out)
 }
@@ -378,11 +404,11 @@ fn one_record_past_the_greatest_number(rt: HostRuntime) -> Result<(), Fail> {
     let alloc = rt.alloc();
     let why = Why::TooLong;
     let text = repeated(alloc, b"blk-commands,1,1\n", b"1,0,0\n", 1_000_001)?;
-    let commands = read_commands(alloc, text.as_slice());
+    let commands = read_commands(alloc, &mut Records::new(alloc, text.as_slice()));
     assert!(rt; commands.err() == Some(TextFault { at: 1_000_002, why }));
     let head = b"blk-script,1,1,1,1,1\nsetup,5,50,256,128,\n";
     let text = repeated(alloc, head, b"tick,,,,,\n", 999_999)?;
-    let script = read_script(alloc, text.as_slice());
+    let script = read_script(alloc, &mut Records::new(alloc, text.as_slice()));
     assert!(rt; script.err() == Some(TextFault { at: 1_000_001, why }));
     Ok(())
 }
@@ -429,12 +455,12 @@ fn certificates_come_back(rt: HostRuntime) -> Result<(), Fail> {
         b"blk-certificate,1,1,1\nbound,-2199023255551,0,2199023255551\n1,0,2199023255551,0\n".as_slice(),
     ] {
         let mut out = Vec::new(alloc);
-        let certificate = read_certificate(alloc, text)?;
+        let certificate = read_certificate(alloc, &mut Records::new(alloc, text))?;
         write_certificate(alloc, &certificate, &mut out)?;
         assert!(rt; out.as_slice() == text);
     }
     let three = b"blk-certificate,1,1,1\nbound,-3,1,5\n7,1,5,2\n".as_slice();
-    let certificate = read_certificate(alloc, three)?;
+    let certificate = read_certificate(alloc, &mut Records::new(alloc, three))?;
     assert_eq!(rt; certificate.depth, 1);
     assert!(rt; certificate.rounds.as_slice() == [2].as_slice());
     let window = Window { from: 1, due: 5 };
@@ -451,7 +477,7 @@ fn a_certificate_in_other_spellings(rt: HostRuntime) -> Result<(), Fail> {
         b"\"blk-certificate\",1,1,\"3\"\r\"bound\",-2,0,4\r1,0,4,0\r\"\"2,0,4,1\r3,0,4,\"2".as_slice(),
     ] {
         let mut out = Vec::new(alloc);
-        let certificate = read_certificate(alloc, input)?;
+        let certificate = read_certificate(alloc, &mut Records::new(alloc, input))?;
         write_certificate(alloc, &certificate, &mut out)?;
         assert!(rt; out.as_slice() == text);
     }
@@ -471,7 +497,7 @@ fn a_script_in_other_spellings(rt: HostRuntime) -> Result<(), Fail> {
         b"\xef\xbb\xbfblk-script,1,1,1,4,1\r\n\nsetup,0,9,256,128,\"\"\r\nbio,0,\"7\",\"W\",100,8\r\n\nflush,0,,,\"\",\r\ntick,,,,,\nrun,2,,,,".as_slice(),
         b"\"blk-script\",1,\"1\",1,4,1\r\"setup\",0,9,256,128,\r\"bio\",0,7,W,\"100\",\"8\"\r\"\"flush,\"0\",,,,\rtick,,,,,\r\"run\",\"2\",,,,\"".as_slice(),
     ] {
-        let script = read_script(alloc, input)?;
+        let script = read_script(alloc, &mut Records::new(alloc, input))?;
         assert_eq!(rt; script.setup.write_expire(), 9);
         assert!(rt; script.lines.as_slice() == steps.as_slice());
     }
@@ -483,7 +509,10 @@ fn steps_of_a_script(rt: HostRuntime) -> Result<(), Fail> {
     let alloc = rt.alloc();
     let script = read_script(
         alloc,
-        b"blk-script,1,1,2,4,3\nsetup,0,9,256,128,\nbio,2,5,W,100,8\nflush,2,,,,\ndrain,1,,,,\nissue,1,65535,,,\ndone,7,,,,\ntick,,,,,\nrun,1000000,,,,\n".as_slice(),
+        &mut Records::new(
+            alloc,
+            b"blk-script,1,1,2,4,3\nsetup,0,9,256,128,\nbio,2,5,W,100,8\nflush,2,,,,\ndrain,1,,,,\nissue,1,65535,,,\ndone,7,,,,\ntick,,,,,\nrun,1000000,,,,\n".as_slice(),
+        ),
     )?;
     assert_eq!(rt; script.setup.hw(), 2);
     assert_eq!(rt; script.setup.write_expire(), 9);
@@ -561,13 +590,16 @@ fn a_read_that_fails_in_a_command_list(rt: HostRuntime) -> Result<(), Fail> {
     let text = b"blk-commands,1,1\n1,0,0\n\"2\",0,0\n".as_slice();
     for count in 0..text.len() + 1 {
         let fails_at = count as u64;
-        let answer = read_commands(alloc, Failing { text, fails_at });
+        let answer = read_commands(alloc, &mut Records::new(alloc, Failing { text, fails_at }));
         let at = record_after(text, count);
         let why = Why::Read;
         assert!(rt; answer.err() == Some(TextFault { at, why }));
     }
     let fails_at = 100;
-    let (depth, commands) = read_commands(alloc, Failing { text, fails_at })?;
+    let (depth, commands) = read_commands(
+        alloc,
+        &mut Records::new(alloc, Failing { text, fails_at }),
+    )?;
     assert_eq!(rt; depth, 1);
     assert_eq!(rt; commands.len(), 2);
     Ok(())
@@ -580,13 +612,13 @@ fn a_read_that_fails_in_a_script(rt: HostRuntime) -> Result<(), Fail> {
         b"blk-script,1,1,1,4,1\nsetup,0,9,256,128,\nbio,0,0,W,100,8\nflush,0,,,,\nrun,2,,,,\n".as_slice();
     for count in 0..text.len() + 1 {
         let fails_at = count as u64;
-        let answer = read_script(alloc, Failing { text, fails_at });
+        let answer = read_script(alloc, &mut Records::new(alloc, Failing { text, fails_at }));
         let at = record_after(text, count);
         let why = Why::Read;
         assert!(rt; answer.err() == Some(TextFault { at, why }));
     }
     let fails_at = 1000;
-    let script = read_script(alloc, Failing { text, fails_at })?;
+    let script = read_script(alloc, &mut Records::new(alloc, Failing { text, fails_at }))?;
     assert_eq!(rt; script.lines.len(), 3);
     Ok(())
 }
@@ -597,13 +629,16 @@ fn a_read_that_fails_in_a_certificate(rt: HostRuntime) -> Result<(), Fail> {
     let text = b"blk-certificate,1,1,2\nbound,1,0,0\n1,0,0,0\n2,0,0,1\n".as_slice();
     for count in 0..text.len() + 1 {
         let fails_at = count as u64;
-        let answer = read_certificate(alloc, Failing { text, fails_at });
+        let answer = read_certificate(alloc, &mut Records::new(alloc, Failing { text, fails_at }));
         let at = record_after(text, count);
         let why = Why::Read;
         assert!(rt; answer.err() == Some(TextFault { at, why }));
     }
     let fails_at = 1000;
-    let certificate = read_certificate(alloc, Failing { text, fails_at })?;
+    let certificate = read_certificate(
+        alloc,
+        &mut Records::new(alloc, Failing { text, fails_at }),
+    )?;
     assert_eq!(rt; certificate.commands.len(), 2);
     Ok(())
 }
@@ -614,15 +649,24 @@ fn a_fault_before_the_read_that_fails(rt: HostRuntime) -> Result<(), Fail> {
     let at = 2;
     let text = b"blk-commands,1,1\n1,0,x\n2,0,0\n".as_slice();
     let why = Why::Number;
-    let answer = read_commands(alloc, Failing { text, fails_at: 24 });
+    let answer = read_commands(
+        alloc,
+        &mut Records::new(alloc, Failing { text, fails_at: 24 }),
+    );
     assert!(rt; answer.err() == Some(TextFault { at, why }));
     let text = b"blk-script,1,1,1,4,1\nsetup,0,9,256,129,\ntick,,,,,\n".as_slice();
     let why = Why::Range;
-    let answer = read_script(alloc, Failing { text, fails_at: 42 });
+    let answer = read_script(
+        alloc,
+        &mut Records::new(alloc, Failing { text, fails_at: 42 }),
+    );
     assert!(rt; answer.err() == Some(TextFault { at, why }));
     let text = b"blk-certificate,1,1,1\nbond,1,0,0\n1,0,0,0\n".as_slice();
     let why = Why::Word;
-    let answer = read_certificate(alloc, Failing { text, fails_at: 35 });
+    let answer = read_certificate(
+        alloc,
+        &mut Records::new(alloc, Failing { text, fails_at: 35 }),
+    );
     assert!(rt; answer.err() == Some(TextFault { at, why }));
     Ok(())
 }
@@ -631,7 +675,7 @@ fn a_fault_before_the_read_that_fails(rt: HostRuntime) -> Result<(), Fail> {
 fn writers_that_fail(rt: HostRuntime) -> Result<(), Fail> {
     let alloc = rt.alloc();
     let text = b"blk-commands,1,1\n1,0,0\n".as_slice();
-    let (depth, commands) = read_commands(alloc, text)?;
+    let (depth, commands) = read_commands(alloc, &mut Records::new(alloc, text))?;
     for room in 0..text.len() {
         let answer = write_commands(alloc, depth, commands.as_slice(), &mut Narrow { room });
         assert!(rt; answer.err() == Some(WriteFault::Write));
@@ -640,7 +684,7 @@ fn writers_that_fail(rt: HostRuntime) -> Result<(), Fail> {
     let answer = write_commands(alloc, depth, commands.as_slice(), &mut Narrow { room });
     assert!(rt; answer.is_ok());
     let text = b"blk-certificate,1,1,0\nbound,none,none,none\n".as_slice();
-    let none = read_certificate(alloc, text)?;
+    let none = read_certificate(alloc, &mut Records::new(alloc, text))?;
     for room in 0..text.len() {
         let answer = write_certificate(alloc, &none, &mut Narrow { room });
         assert!(rt; answer.err() == Some(WriteFault::Write));

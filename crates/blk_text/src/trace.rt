@@ -1,14 +1,15 @@
 //! Traces.
 
-ghost use Rattle.std.specs.Prelude.{◌≡◌, ◌++◌, ◌∷◌, [], OnOk, IfOk, IfErr, map, decimal, length, codes};
+ghost use Rattle.std.specs.Prelude.{◌≡◌, ◌++◌, ◌∷◌, ◌≤◌, [], All, OnOk, IfOk, IfErr, map, decimal, length, codes};
 ghost use Rattle.std.specs.Io.KnownBytes.{Appends};
+ghost use Rattle.blk_trace.specs.Events.{bios_of};
 ghost use Rattle.blk_trace.specs.Seen.{happened};
 ghost use Rattle.blk_text.specs.Texts.{rows_text};
 ghost use Rattle.blk_text.specs.BioRecord.{bio_row, direction_text};
 ghost use Rattle.blk_text.specs.Cells.{IsPlainWord};
 ghost use Rattle.blk_text.specs.Drafts.{drafted};
-ghost use Rattle.blk_text.specs.SetupRecord.{setup_row};
-ghost use Rattle.blk_text.specs.TraceRecords.{word_row, group_rows, event_rows, title_row, trace_rows};
+ghost use Rattle.blk_text.specs.SetupRecord.{setup_row, IsWholeSetup};
+ghost use Rattle.blk_text.specs.TraceRecords.{word_row, group_rows, event_rows, title_row, trace_rows, BioFits, EventFits, IsTrace, SpellsTrace};
 
 use crate::draft::{Draft, write_whole};
 use crate::fault::WriteFault;
@@ -34,6 +35,7 @@ fn letter(dir: Dir) -> u8
 #[inline]
 fn push_bio(draft: &mut Draft, bio: &Bio) -> Result<(), AllocError>
     ensures text { OnOk result (drafted draft.new ≡ drafted draft.old ++ rows_text (bio_row bio.now ∷ [])) }
+    ensures fits { OnOk result (BioFits bio.now) }
 {
     let start = draft.room()?;
     let id = bio.id();
@@ -89,6 +91,7 @@ fn push_tick(draft: &mut Draft) -> Result<(), AllocError>
 fn push_group(draft: &mut Draft, word: &[u8], id: u64, bios: &[Bio]) -> Result<(), AllocError>
     requires { IsPlainWord word.now }
     ensures text { OnOk result (drafted draft.new ≡ drafted draft.old ++ rows_text (group_rows word.now id bios.now)) }
+    ensures fits { OnOk result (All BioFits bios.now) }
 {
     push_numbers(draft, word, id, bios.len() as u64)?;
     for i in 0..bios.len() {
@@ -99,7 +102,9 @@ fn push_group(draft: &mut Draft, word: &[u8], id: u64, bios: &[Bio]) -> Result<(
 
 // Adds the records of an event.
 fn push_event<A: Allocator + Clone>(draft: &mut Draft, event: &Event<A>) -> Result<(), AllocError>
+    requires { length (bios_of (happened event.now)) ≤ 128 }
     ensures text { OnOk result (drafted draft.new ≡ drafted draft.old ++ rows_text (event_rows (happened event.now))) }
+    ensures fits { OnOk result (EventFits (happened event.now)) }
 {
     match event {
         Event::Tick => push_tick(draft),
@@ -127,6 +132,7 @@ fn push_title(draft: &mut Draft, setup: &Setup, count: u64) -> Result<(), AllocE
 // Adds the setup record.
 fn push_setup(draft: &mut Draft, setup: &Setup) -> Result<(), AllocError>
     ensures text { OnOk result (drafted draft.new ≡ drafted draft.old ++ rows_text (setup_row setup.now ∷ [])) }
+    ensures whole { OnOk result (IsWholeSetup setup.now) }
 {
     let start = draft.room()?;
     let limits = setup.limits();
@@ -141,7 +147,8 @@ fn push_setup(draft: &mut Draft, setup: &Setup) -> Result<(), AllocError>
 
 // The text of a trace.
 fn trace_text<A: Allocator + Clone>(alloc: Global, trace: &Trace<A>) -> Result<Vec<u8>, AllocError>
-    ensures { IfOk result (λ v. v.items ≡ rows_text (trace_rows trace.now)) }
+    ensures text { IfOk result (λ v. v.items ≡ rows_text (trace_rows trace.now)) }
+    ensures fits { IfOk result (λ _. IsTrace trace.now) }
 {
     let mut draft = Draft::new(alloc);
     let setup = trace.setup();
@@ -165,6 +172,8 @@ pub fn write_trace<A: Allocator + Clone, W: Write>(
     writer: &mut W,
 ) -> Result<(), WriteFault>
     ensures ok { OnOk result (Appends (W.contents writer.old) (W.contents writer.new) (rows_text (trace_rows trace.now))) }
+    // what was written spells the trace: its numbers lie in the ranges of the form
+    ensures spells { OnOk result (SpellsTrace (trace_rows trace.now) trace.now) }
     ensures memory { IfErr result (λ f. f ≡ WriteFault.Memory → writer.new ≡ writer.old) }
 {
     match trace_text(alloc, trace) {

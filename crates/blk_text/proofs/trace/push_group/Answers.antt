@@ -1,6 +1,8 @@
 use Rattle.std.proofs.Common.{arith, ◌∷◌, [], decimal, length}
 use Rattle.blk_text.specs.BioRecord.{bio_row}
-use Rattle.blk_text.specs.TraceRecords.{word_row}
+use Rattle.blk_text.specs.TraceRecords.{word_row, BioFits}
+use Rattle.std.proofs.lemmas.List.{take_all}
+use Rattle.blk_text.proofs.TraceLemmas.{one_fits}
 use Rattle.blk_text.proofs.DraftLemmas.{one_more, whole}
 use Rattle.blk_text.specs.Drafts.{drafted}
 use Rattle.blk_text.proofs.trace.push_group.Goals as goal
@@ -9,9 +11,11 @@ pub loop-i-preserved : goal.loop-i-preserved
 loop-i-preserved c = record {
   text = one_more (λ b. bio_row b ∷ []) (drafted c.args.draft.now) (word_row c.args.word.now (decimal c.args.id) (decimal (length c.args.bios.now)) ∷ []) c.args.bios.now c.loop-i.i c.index-bios-i.result (drafted c.loop-i.draft) (drafted c.push_bio.new.draft)
       c.loop-i-test.true c.index-bios-i.is c.loop-i.invariant.text c.in_ok-push_bio.ensures.text;
+  fits = one_fits BioFits c.args.bios.now c.loop-i.i c.index-bios-i.result c.loop-i-test.true c.index-bios-i.is c.loop-i.invariant.fits c.in_ok-push_bio.ensures.fits;
 }
 
 pub returns : goal.returns
 returns c = record {
   text = whole bio_row (drafted c.args.draft.now) (word_row c.args.word.now (decimal c.args.id) (decimal (length c.args.bios.now)) ∷ []) c.args.bios.now c.loop-i.i (drafted c.loop-i.draft) (omega arith) c.loop-i.invariant.text;
+  fits = rw (take_all c.loop-i.i c.args.bios.now (omega arith)) at c.loop-i.invariant.fits;
 }

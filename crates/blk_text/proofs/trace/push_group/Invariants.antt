@@ -1,6 +1,7 @@
-use Rattle.std.proofs.Common.{[], ◌∷◌, decimal, length}
+use Rattle.std.proofs.Common.{[], ◌∷◌, decimal, length, take}
+use Rattle.std.specs.Prelude.{All}
 use Rattle.blk_text.specs.BioRecord.{bio_row}
-use Rattle.blk_text.specs.TraceRecords.{word_row}
+use Rattle.blk_text.specs.TraceRecords.{word_row, BioFits}
 use Rattle.blk_text.proofs.DraftLemmas.{IsSoFar}
 use Rattle.blk_text.specs.Drafts.{drafted}
 use Rattle.blk_text.proofs.trace.push_group.Given as goal
@@ -8,4 +9,5 @@ use Rattle.blk_text.proofs.trace.push_group.Given as goal
 abbrev pub invariant-loop-i : goal.invariant-loop-i
 invariant-loop-i l = record {
   text : IsSoFar (λ b. bio_row b ∷ []) (drafted l.fn.draft) (word_row l.fn.word (decimal l.fn.id) (decimal (length l.bios)) ∷ []) l.bios l.i (drafted l.draft);
+  fits : All BioFits (take l.i l.bios);
 }

@@ -1,6 +1,6 @@
 use Rattle.blk_text.proofs.CommandLemmas.{commands_spelled, commands_wrong}
 use Rattle.blk_text.proofs.Reached.{commands_reached}
-use Rattle.blk_text.proofs.commands.read_commands_from.Goals as goal
+use Rattle.blk_text.proofs.commands.read_commands.Goals as goal
 
 pub returns-in-Ok-read_lines-clause-ok : goal.returns-in-Ok-read_lines-clause-ok
 returns-in-Ok-read_lines-clause-ok g c =

@@ -1,7 +1,7 @@
 use Rattle.std.proofs.Common.{◌∙◌}
 use Rattle.blk_text.proofs.ScriptLemmas.{after_title, after_setup}
 use Rattle.blk_text.proofs.Reached.{setup_reached, step_reached}
-use Rattle.blk_text.proofs.script.read_script_from.Goals as goal
+use Rattle.blk_text.proofs.script.read_script.Goals as goal
 
 pub returns-in-Err-read_lines-clause-err : goal.returns-in-Err-read_lines-clause-err
 returns-in-Err-read_lines-clause-err g c =

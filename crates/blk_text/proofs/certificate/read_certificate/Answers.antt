@@ -1,7 +1,7 @@
 use Rattle.std.proofs.Common.{◌≡◌, ◌+◌, ◌∙◌, length, arith}
 use Rattle.blk_text.proofs.ClaimLemmas.{claim_in, claim_made, claim_wrong}
 use Rattle.blk_text.proofs.Reached.{bound_reached, served_reached, end_reached}
-use Rattle.blk_text.proofs.certificate.read_certificate_from.Goals as goal
+use Rattle.blk_text.proofs.certificate.read_certificate.Goals as goal
 
 pub returns-in-Ok-split-clause-in_range : goal.returns-in-Ok-split-clause-in_range
 returns-in-Ok-split-clause-in_range g c =
