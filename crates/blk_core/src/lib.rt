@@ -162,8 +162,13 @@ impl<S: Scheduler> Core<S> {
 
     /// Releases a request for a hardware queue, as Linux's blk-mq inserts into an elevator: it joins the newest
     /// request served for the queue that it fits, at the back where it fits both sides, or waits by itself under the
-    /// next id, due when its direction's expiry has passed from this round. A refused request comes back, and nothing
-    /// is changed.
+    /// next id, due when its direction's expiry has passed from this round. The request must be within the setup's
+    /// limits: one bio, or no more sectors and bios than they allow.
+    ///
+    /// Refused, by the first of these that applies: as `NoQueue` where `hw` is not below the number of hardware queues;
+    /// as `Repeated` with the id of the first bio, in tile order, whose id stands in the trace or earlier in the
+    /// request; as `TraceFull` where the events, with a Done counted for each command in flight, are 1,000,000 already;
+    /// and as `Memory`. The request comes back then, and nothing is changed.
     pub fn release(
         &mut self,
         request: Request<S::A>,
@@ -236,7 +241,13 @@ impl<S: Scheduler> Core<S> {
 
     /// Issues the request that the scheduler picks for a hardware queue, under a tag that was not issued in this
     /// round, and answers its command. None, and no event, only where a command is in flight or the scheduler serves
-    /// nothing for the queue. The faults come before the scheduler is asked, and change nothing.
+    /// nothing for the queue.
+    ///
+    /// Refused, by the first of these that applies: as `NoQueue` where `hw` is not below the number of hardware queues;
+    /// as `TagRange` where the tag is not below the depth; as `SlotUsed` where the tag was issued in this round, whether
+    /// or not it is done; as `TraceFull` where the Issue and its Done would make more than 1,000,000 events, with a Done
+    /// counted for each command in flight; and as `Memory`. All come before the scheduler is asked, so also where
+    /// nothing waits, and change nothing.
     pub fn issue(&mut self, hw: u8, tag: u16) -> Result<Option<Command>, IssueFault>
         ensures issued { IfOk result (λ found. Issues S.serves self.old hw tag found self.new) }
         ensures no_fault { OnOk result (CanIssue self.old hw tag) }

@@ -200,8 +200,10 @@ impl<A: Allocator + Clone> Lane<A> {
     }
 
     /// Joins a newcomer to the newest of the requests that it fits, in the round `now`, and answers that one's id and
-    /// the side. The front is tried only where `front` allows it. A refusal changes nothing and hands the newcomer
-    /// back.
+    /// the side. The front is tried only where `front` allows it.
+    ///
+    /// Refused as `NoFit` exactly where it fits none of them at a side that may be tried, and as `Memory` where it fits
+    /// one and memory ran out. A refusal changes nothing and hands the newcomer back.
     pub fn join_newest(
         &mut self,
         newcomer: Request<A>,

@@ -149,7 +149,11 @@ pub trait Scheduler: Drop {
 
     /// Joins a newcomer to the newest request served for the hardware queue that it fits, at the back where it fits
     /// both sides: `now` becomes that request's release; its id, hardware queue and due round stay. Answers the
-    /// request's id and the side. A refusal changes nothing and hands the newcomer back.
+    /// request's id and the side.
+    ///
+    /// Refused as `NoFit` exactly where it fits none of them, at the back or, where the scheduler allows it, at the
+    /// front; and as `Memory` where it fits one and memory ran out. A refusal changes nothing and hands the newcomer
+    /// back. `hw` must be below 16.
     final fn try_join(
         &mut self,
         hw: u8,

@@ -85,7 +85,7 @@ impl Setup {
         })
     }
 
-    /// How many tags there are.
+    /// How many tags there are: 1 to 64.
     pub fn depth(&self) -> u64
         ensures value { result ≡ self.now.depth }
         ensures is_setup { IsSetup self.now }
@@ -93,7 +93,7 @@ impl Setup {
         self.depth
     }
 
-    /// How many hardware queues there are.
+    /// How many hardware queues there are: 1 to 16.
     pub fn hw(&self) -> u8
         ensures value { result ≡ self.now.hw }
         ensures is_setup { IsSetup self.now }
@@ -101,7 +101,7 @@ impl Setup {
         self.hw
     }
 
-    /// After how many rounds a read is due.
+    /// After how many rounds a read is due: fewer than 2^40.
     pub fn read_expire(&self) -> u64
         ensures value { result ≡ self.now.read_expire }
         ensures is_setup { IsSetup self.now }
@@ -109,7 +109,7 @@ impl Setup {
         self.read_expire
     }
 
-    /// After how many rounds a write is due.
+    /// After how many rounds a write is due: fewer than 2^40.
     pub fn write_expire(&self) -> u64
         ensures value { result ≡ self.now.write_expire }
         ensures is_setup { IsSetup self.now }
@@ -117,7 +117,7 @@ impl Setup {
         self.write_expire
     }
 
-    /// The limits of a request of several bios.
+    /// The limits of a request of several bios: how many sectors, and how many bios, it may have.
     pub fn limits(&self) -> Limits
         ensures { result ≡ self.now.limits }
     {

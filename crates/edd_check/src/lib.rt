@@ -150,9 +150,10 @@ fn stays_within(rounds: &[u64], depth: u64) -> bool
 /// Whether the schedule is legal: each command has a round, none before its release, and no round has more than
 /// `depth` commands, which may be any number. Lists of different lengths are not.
 ///
-/// It takes no memory. It counts in blocks of 4,096 rounds from the least one on that is not yet counted, with one pass
-/// over the list for each block, so its time grows with the list for rounds that lie close together, and with the
-/// square of its length only for rounds that are scattered. [`check`] sorts a copy instead.
+/// It takes no memory. It counts in blocks of 4,096 rounds from the least one on that is not yet counted, with two
+/// passes over the list for each block, one to find where it begins and one to count it. So its time grows with the list
+/// for rounds that lie close together, and with the square of its length only for rounds that are scattered. [`check`]
+/// sorts a copy instead.
 pub fn is_legal(commands: &[Command], rounds: &[u64], depth: u64) -> bool
     ensures { IsTrue result ↔ IsLegal commands.now rounds.now depth }
 {
