@@ -4,3 +4,4 @@ mod Waits
 mod Flights
 mod Ties
 mod Seated
+mod Opens

@@ -2,3 +2,4 @@ pub mod State
 pub mod Ids
 pub mod Faults
 pub mod Calls
+pub mod Opens

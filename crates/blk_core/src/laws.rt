@@ -1,11 +1,17 @@
 //! What a core says of its tags, in the words of legal lists of events; each law is the contract of a function that does
 //! nothing.
 
-ghost use Rattle.std.specs.Prelude.{ℕ, ◌↔◌, IsSome};
-ghost use Rattle.blk_trace.specs.Events.{IsOpen, IsUsed};
+ghost use Rattle.std.specs.Prelude.{ℕ, ◌≡◌, ◌+◌, ◌↔◌, List, length, IsSome};
+ghost use Rattle.blk_bio.specs.declared.bio.Dir.{Dir};
+ghost use Rattle.blk_bio.specs.declared.bio.Dir.TheVariants.{Read, Write};
+ghost use Rattle.blk_trace.specs.Happened.{Happened};
+ghost use Rattle.blk_trace.specs.Setups.{Setup};
+ghost use Rattle.blk_trace.specs.Events.{IsOpen, IsUsed, open_count};
 ghost use Rattle.blk_trace.specs.Legal.{IsLegalTrace};
-ghost use Rattle.blk_trace.specs.Standing.{seat_at};
-ghost use Rattle.blk_core.specs.State.{CoreState};
+ghost use Rattle.blk_trace.specs.Standing.{seat_at, open_of};
+ghost use Rattle.blk_sched.specs.Meaning.{Meaning};
+ghost use Rattle.blk_core.specs.State.{CoreState, HoldsWhatWaits};
+ghost use Rattle.blk_core.specs.Opens.{open_issues, open_issues_of};
 ghost use Rattle.blk_core.specs.Faults.{IsInFlight};
 
 /// A command is in flight under a tag, so that a Done is accepted, exactly where the tag has an Issue with no Done after
@@ -17,4 +23,18 @@ pub fn in_flight_is_open()
 /// A tag is taken, so that an Issue is refused as `SlotUsed`, exactly where it has an Issue in the round that is on.
 pub fn taken_is_used()
     ensures { (c : CoreState) → (tag : ℕ) → (IsSome (seat_at c.events tag) ↔ IsUsed c.events tag) }
+{}
+
+/// The open picks are the open Issues: in a legal list of events the commands in flight of a direction are as many as
+/// the open Issues of its requests, and those of both directions as many as all open Issues, which are the Issues less
+/// the Dones. So the picks that a scheduler holds open are those that a tick waits for.
+pub fn open_picks_are_open_issues()
+    ensures each { (setup : Setup) → (events : List Happened) → (dir : Dir) → IsLegalTrace setup events
+        → (open_of events dir ≡ open_issues_of events dir) }
+    ensures both { (setup : Setup) → (events : List Happened) → IsLegalTrace setup events
+        → (open_of events Read + open_of events Write ≡ open_count events) }
+    ensures all { (setup : Setup) → (events : List Happened) → IsLegalTrace setup events
+        → (length (open_issues events) ≡ open_count events) }
+    ensures picks { (setup : Setup) → (events : List Happened) → (m : Meaning) → IsLegalTrace setup events
+        → HoldsWhatWaits setup events m → (m.open_picks.reads + m.open_picks.writes ≡ open_count events) }
 {}

@@ -1,0 +1,18 @@
+-- The Issues that are open.
+use Rattle.std.specs.Prelude.{ℕ, cond, List, [], ◌∷◌, count_by}
+use Rattle.std.specs.List.{list_any}
+use Rattle.blk_bio.specs.declared.bio.Dir.{Dir}
+use Rattle.blk_bio.specs.Requests.{dir_of}
+use Rattle.blk_trace.specs.Happened.{Happened, Issued}
+use Rattle.blk_trace.specs.Events.{request_of}
+use Rattle.blk_trace.specs.Standing.{is_done_of, same_dir}
+
+-- the id and the tag of each Issue with no Done of its tag after it, in their order
+unfoldable pub open_issues : List Happened → List (ℕ × ℕ)
+open_issues [] = []
+open_issues (Issued id tag ∷ es) = cond (list_any (is_done_of tag) es) (open_issues es) ((id, tag) ∷ open_issues es)
+open_issues (_ ∷ es) = open_issues es
+
+-- how many of them are of requests of the direction
+abbrev pub open_issues_of : List Happened → Dir → ℕ
+open_issues_of events dir = count_by (λ issue. same_dir dir (dir_of (request_of events issue.0))) (open_issues events)
