@@ -19,6 +19,10 @@ pub sim_none_name : (names : ValueParser) (name : Text) → option_map (λ p. p.
 unfolding clap_on_literals
 sim_none_name names name = refl
 
+pub sim_equals_name : (names : ValueParser) (name : Text) → option_map (λ p. p.0) (subcommand_of (blk_app names) (name ∷ codes "sim" ∷ codes "--sched=none" ∷ [])) ≡ Some (codes "sim")
+unfolding clap_on_literals
+sim_equals_name names name = refl
+
 pub oracle_name : (names : ValueParser) (name : Text) → option_map (λ p. p.0) (subcommand_of (blk_app names) (name ∷ codes "oracle" ∷ [])) ≡ Some (codes "oracle")
 unfolding clap_on_literals
 oracle_name names name = refl

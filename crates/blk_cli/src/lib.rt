@@ -44,6 +44,8 @@ pub fn run<R: Read + Drop, W: Write, F: Write>(
         → IfSome (input_of (R.remaining reader)) (λ rows. SimWrote rows (W.contents writer.old) (W.contents writer.new)) }
     ensures sim_none { result ≡ 0 → (name : List ℕ) → map string_bytes words.now ≡ name ∷ codes "sim" ∷ codes "--sched" ∷ codes "none" ∷ []
         → IfSome (input_of (R.remaining reader)) (λ rows. SimWrote rows (W.contents writer.old) (W.contents writer.new)) }
+    ensures sim_equals { result ≡ 0 → (name : List ℕ) → map string_bytes words.now ≡ name ∷ codes "sim" ∷ codes "--sched=none" ∷ []
+        → IfSome (input_of (R.remaining reader)) (λ rows. SimWrote rows (W.contents writer.old) (W.contents writer.new)) }
     ensures oracle { result ≡ 0 → (name : List ℕ) → map string_bytes words.now ≡ name ∷ codes "oracle" ∷ []
         → IfSome (input_of (R.remaining reader)) (λ rows. OracleWrote rows (W.contents writer.old) (W.contents writer.new)) }
     ensures check { result ≡ 0 → (name : List ℕ) → map string_bytes words.now ≡ name ∷ codes "check" ∷ []

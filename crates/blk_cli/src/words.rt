@@ -61,6 +61,7 @@ fn blk_command<'a>(alloc: Global) -> Result<Command<'a>, AllocError>
 pub fn choose(alloc: Global, words: &[String]) -> Result<Choice, NoChoice>
     ensures sim { IfOk result (λ c. (name : List ℕ) → map string_bytes words.now ≡ name ∷ codes "sim" ∷ [] → c ≡ Choice.Sim) }
     ensures sim_none { IfOk result (λ c. (name : List ℕ) → map string_bytes words.now ≡ name ∷ codes "sim" ∷ codes "--sched" ∷ codes "none" ∷ [] → c ≡ Choice.Sim) }
+    ensures sim_equals { IfOk result (λ c. (name : List ℕ) → map string_bytes words.now ≡ name ∷ codes "sim" ∷ codes "--sched=none" ∷ [] → c ≡ Choice.Sim) }
     ensures oracle { IfOk result (λ c. (name : List ℕ) → map string_bytes words.now ≡ name ∷ codes "oracle" ∷ [] → c ≡ Choice.Oracle) }
     ensures check { IfOk result (λ c. (name : List ℕ) → map string_bytes words.now ≡ name ∷ codes "check" ∷ [] → c ≡ Choice.Check) }
 {
