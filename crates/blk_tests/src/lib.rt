@@ -5,6 +5,8 @@
 mod calls;
 #[cfg(test)]
 mod failing;
+#[cfg(test)]
+mod laws;
 pub mod lifo;
 #[cfg(test)]
 mod own;

@@ -376,3 +376,91 @@ fn full_plug(rt: HostRuntime) -> Result<(), Fail> {
         ],
     )
 }
+
+/// Each name of a text's fault that no other case here prints, and the two of a bio that is refused.
+#[test]
+fn names_of_text_faults(rt: HostRuntime) -> Result<(), Fail> {
+    let script = "blk-script,1,1,1,4,1\nsetup,0,9,256,128,\n";
+    let [no_sector, past_the_end, sideways] = [
+        format!(in rt.alloc(); "{script}bio,0,0,R,0,8\nbio,0,1,R,100,0\n")?,
+        format!(in rt.alloc(); "{script}bio,0,0,R,281474976710655,2\n")?,
+        format!(in rt.alloc(); "{script}tick,,,,,\nbio,0,0,Q,0,8\n")?,
+    ];
+    let sim: &[&str] = &["sim"];
+    let (oracle, check): (&[&str], &[&str]) = (&["oracle"], &["check"]);
+    each(
+        &rt,
+        rt.alloc(),
+        &[
+            (
+                oracle,
+                "blk-commands,1,1\n1,0,0\n2,0\n",
+                1,
+                "",
+                "blk: record 3: Fields\n",
+            ),
+            (
+                sim,
+                "blk-script,1,1,1,4,1\n",
+                1,
+                "",
+                "blk: record 2: Word\n",
+            ),
+            (sim, sideways.as_str(), 1, "", "blk: record 4: Word\n"),
+            (
+                check,
+                "blk-certificate,1,1,1\nbound,-0,0,0\n1,0,0,0\n",
+                1,
+                "",
+                "blk: record 2: Number\n",
+            ),
+            (
+                oracle,
+                "blk-commands,1,65\n",
+                1,
+                "",
+                "blk: record 1: Range\n",
+            ),
+            (sim, no_sector.as_str(), 1, "", "blk: record 4: Empty\n"),
+            (sim, past_the_end.as_str(), 1, "", "blk: record 3: Range\n"),
+            (
+                check,
+                "blk-certificate,1,1,1\nbound,0,0,0\n1,0,0,0\n2,0,0,1\n",
+                1,
+                "",
+                "blk: record 4: Count\n",
+            ),
+        ],
+    )
+}
+
+/// A command list of a record more than the form may have, 1,000,001.
+#[test]
+fn name_of_a_text_too_long(rt: HostRuntime) -> Result<(), Fail> {
+    let mut text = String::from_str(rt.alloc(), "blk-commands,1,1\n")?;
+    for _ in 0..1_000_001u64 {
+        text.push_str("1,0,0\n")?;
+    }
+    let line = "blk: record 1000002: TooLong\n";
+    each(
+        &rt,
+        rt.alloc(),
+        &[(&["oracle"], text.as_str(), 1, "", line)],
+    )
+}
+
+/// The whole script is read before its first step: a text fault anywhere in it comes before a step that is refused.
+#[test]
+fn text_faults_before_refused_steps(rt: HostRuntime) -> Result<(), Fail> {
+    let script =
+        "blk-script,1,1,1,4,1\nsetup,0,9,256,128,\nbio,0,0,W,100,8\nbio,0,1,R,200,8\nflush,0,,,,\ndrain,0,,,,\nissue,0,0,,,\nissue,0,0,,,\n";
+    let faulty = format!(in rt.alloc(); "{script}done,0,,,,\ntock,,,,,\n")?;
+    each(
+        &rt,
+        rt.alloc(),
+        &[
+            (&["sim"], script, 1, "", "blk: record 8: SlotUsed\n"),
+            (&["sim"], faulty.as_str(), 1, "", "blk: record 10: Word\n"),
+        ],
+    )
+}

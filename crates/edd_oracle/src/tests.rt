@@ -114,6 +114,22 @@ fn no_commands(rt: HostRuntime) -> Result<(), Fail> {
     Ok(())
 }
 
+/// A command more than a list may have: refused for that after the depth and before what is wrong with the commands.
+#[test]
+fn one_command_too_many(rt: HostRuntime) -> Result<(), Fail> {
+    let alloc = rt.alloc();
+    let late = command(7, 1099511627776, 0);
+    let mut commands = vec![in alloc; late; 1_000_001]?;
+    assert_eq!(rt; commands.len(), 1_000_001);
+    let many = commands.as_slice();
+    assert!(rt; matches!(solve(alloc, many, 0), Err(OracleFault::Depth)));
+    assert!(rt; matches!(solve(alloc, many, 64), Err(OracleFault::TooMany)));
+    assert!(rt; commands.pop().is_some());
+    let most = commands.as_slice();
+    assert!(rt; matches!(solve(alloc, most, 64), Err(OracleFault::RoundRange(7))));
+    Ok(())
+}
+
 /// The least greatest lateness of all schedules in which each command waits at most four rounds.
 fn least_of_all(commands: &[Command], depth: u64, rounds: &mut [u64]) -> Option<i64> {
     let mut least: Option<i64> = None;
