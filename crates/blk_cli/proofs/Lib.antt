@@ -9,3 +9,4 @@ pub mod Ending
 pub mod Spreading
 pub mod Refusing
 pub mod Holding
+pub mod Written

@@ -9,10 +9,9 @@ use Rattle.blk_text.specs.Sources.{Row}
 use Rattle.blk_text.specs.Texts.{rows_text}
 use Rattle.blk_text.specs.Commands.{SpellsCommands}
 use Rattle.blk_trace.specs.Events.{entered, round_of}
-use Rattle.blk_trace.specs.Legal.{IsLegalTrace}
 use Rattle.blk_trace.specs.Traces.{Traced}
 use Rattle.blk_text.specs.Script.{Scripted, SpellsScript}
-use Rattle.blk_text.specs.TraceRecords.{trace_rows}
+use Rattle.blk_text.specs.TraceRecords.{trace_rows, SpellsTrace}
 use Rattle.blk_cli.specs.Simulation.{released_bios, ticks_of}
 use Rattle.blk_text.specs.Certificate.{Claim, claim_rows, SpellsClaim}
 
@@ -28,11 +27,12 @@ pub record IsProved (claim : Claim) : Type 0 where
   pub no_bound : (claim.bound ≡ None) ↔ (claim.commands ≡ [])
   pub proves : IfSome claim.bound (λ b. IsProof claim.commands claim.depth claim.rounds b.0 b.1)
 
--- what `oracle` wrote: the text of a certificate of the input's depth and commands that is proved
+-- what `oracle` wrote: the text that spells a certificate of the input's depth and commands that is proved
 pub record OracleWrote (rows : List Row) (old new : Option (List ℕ)) : Type 0 where
   pub claim : Claim
   pub read : SpellsCommands rows claim.depth claim.commands
   pub proved : IsProved claim
+  pub spelled : SpellsClaim (claim_rows claim) claim
   pub wrote : Appends old new (rows_text (claim_rows claim))
 
 -- what `check` looked at: a certificate that is proved
@@ -41,15 +41,15 @@ pub record CheckRead (rows : List Row) : Type 0 where
   pub read : SpellsClaim rows claim
   pub proved : IsProved claim
 
--- what `sim` wrote: the text of a legal trace under the script's setup. Its bios are, each once, the `bio` lines that are
--- followed by a flush of their submitter, and after it by a drain of its hardware queue or a run; its Ticks are as many
--- as the `tick` lines and the n of the `run` lines together
+-- what `sim` wrote: the text that spells a legal trace under the script's setup. Its bios are, each once, the `bio` lines
+-- that are followed by a flush of their submitter, and after it by a drain of its hardware queue or a run; its Ticks are
+-- as many as the `tick` lines and the n of the `run` lines together
 pub record SimWrote (rows : List Row) (old new : Option (List ℕ)) : Type 0 where
   pub script : Scripted
   pub trace : Traced
   pub read : SpellsScript rows script
   pub setup : trace.setup ≡ script.setup
-  pub legal : IsLegalTrace trace.setup trace.events
+  pub spelled : SpellsTrace (trace_rows trace) trace
   pub bios : IsPermutation (entered trace.events) (released_bios script.setup.hw script.lines)
   pub ticks : round_of trace.events ≡ sum_by ticks_of script.lines
   pub wrote : Appends old new (rows_text (trace_rows trace))

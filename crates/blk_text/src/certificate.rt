@@ -382,6 +382,8 @@ pub fn write_certificate<W: Write>(
 ) -> Result<(), WriteFault>
     requires { IsClaim (claimed certificate.now) }
     ensures ok { OnOk result (Appends (W.contents writer.old) (W.contents writer.new) (rows_text (claim_rows (claimed certificate.now)))) }
+    // the records of that text spell it
+    ensures spells { SpellsClaim (claim_rows (claimed certificate.now)) (claimed certificate.now) }
     ensures memory { IfErr result (λ f. f ≡ WriteFault.Memory → writer.new ≡ writer.old) }
 {
     match certificate_text(alloc, certificate) {

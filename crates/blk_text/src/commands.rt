@@ -156,6 +156,8 @@ pub fn write_commands<W: Write>(
 ) -> Result<(), WriteFault>
     requires { AreCommands depth commands.now }
     ensures ok { OnOk result (Appends (W.contents writer.old) (W.contents writer.new) (rows_text (commands_rows depth commands.now))) }
+    // the records of that text spell them
+    ensures spells { SpellsCommands (commands_rows depth commands.now) depth commands.now }
     ensures memory { IfErr result (λ f. f ≡ WriteFault.Memory → writer.new ≡ writer.old) }
 {
     match commands_text(alloc, depth, commands) {

@@ -172,7 +172,7 @@ pub fn write_trace<A: Allocator + Clone, W: Write>(
     writer: &mut W,
 ) -> Result<(), WriteFault>
     ensures ok { OnOk result (Appends (W.contents writer.old) (W.contents writer.new) (rows_text (trace_rows trace.now))) }
-    // what was written spells the trace: its numbers lie in the ranges of the form
+    // the records of that text spell it: its numbers lie in the ranges of the form
     ensures spells { OnOk result (SpellsTrace (trace_rows trace.now) trace.now) }
     ensures memory { IfErr result (λ f. f ≡ WriteFault.Memory → writer.new ≡ writer.old) }
 {

@@ -1,0 +1,19 @@
+-- What `sim` wrote, from what was read, what was simulated and what the writer took.
+use Rattle.std.proofs.Common.{ℕ, ◌≡◌, List, Option, Some, None}
+use Rattle.std.specs.Prelude.{IfSome, IsPermutation, sum_by}
+use Rattle.std.specs.Io.KnownBytes.{Appends}
+use Rattle.blk_trace.specs.Events.{entered, round_of}
+use Rattle.blk_trace.specs.Traces.{Traced}
+use Rattle.blk_text.specs.Sources.{Row}
+use Rattle.blk_text.specs.Texts.{rows_text}
+use Rattle.blk_text.specs.Script.{Scripted, SpellsScript}
+use Rattle.blk_text.specs.TraceRecords.{trace_rows, SpellsTrace}
+use Rattle.blk_cli.specs.Simulation.{released_bios, ticks_of}
+use Rattle.blk_cli.specs.Outcome.{SimWrote}
+
+pub sim_wrote : (left : Option (List Row)) (s : Scripted) (t : Traced) (old new : Option (List ℕ)) → IfSome left (λ rows. SpellsScript rows s)
+    → t.setup ≡ s.setup → SpellsTrace (trace_rows t) t → IsPermutation (entered t.events) (released_bios s.setup.hw s.lines)
+    → round_of t.events ≡ sum_by ticks_of s.lines → Appends old new (rows_text (trace_rows t)) → IfSome left (λ rows. SimWrote rows old new)
+sim_wrote None s t old new read setup spelled bios ticks wrote = tt
+sim_wrote (Some rows) s t old new read setup spelled bios ticks wrote =
+    record { script = s; trace = t; read = read; setup = setup; spelled = spelled; bios = bios; ticks = ticks; wrote = wrote }
