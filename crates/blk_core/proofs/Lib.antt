@@ -5,3 +5,4 @@ mod Flights
 mod Ties
 mod Seated
 mod Opens
+mod Listed

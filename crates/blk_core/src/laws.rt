@@ -1,7 +1,7 @@
 //! What a core says of its tags, in the words of legal lists of events; each law is the contract of a function that does
 //! nothing.
 
-ghost use Rattle.std.specs.Prelude.{ℕ, ◌≡◌, ◌+◌, ◌↔◌, List, length, IsSome};
+ghost use Rattle.std.specs.Prelude.{ℕ, ◌≡◌, ◌+◌, ◌↔◌, List, Some, length, slice_get, IsSome};
 ghost use Rattle.blk_bio.specs.declared.bio.Dir.{Dir};
 ghost use Rattle.blk_bio.specs.declared.bio.Dir.TheVariants.{Read, Write};
 ghost use Rattle.blk_trace.specs.Happened.{Happened};
@@ -23,6 +23,12 @@ pub fn in_flight_is_open()
 /// A tag is taken, so that an Issue is refused as `SlotUsed`, exactly where it has an Issue in the round that is on.
 pub fn taken_is_used()
     ensures { (c : CoreState) → (tag : ℕ) → (IsSome (seat_at c.events tag) ↔ IsUsed c.events tag) }
+{}
+
+/// An id and a tag are listed as an open Issue exactly where the tag has an Issue of the id with no Done after it.
+pub fn listed_issues_are_open()
+    ensures { (events : List Happened) → (id tag : ℕ)
+        → (((k : ℕ) × (slice_get (open_issues events) k ≡ Some (id, tag))) ↔ ((is : IsOpen events tag) × (is.id ≡ id))) }
 {}
 
 /// The open picks are the open Issues: in a legal list of events the commands in flight of a direction are as many as
