@@ -3,7 +3,7 @@
 use blk_bio::bio::{Bio, BioFault, BioId, Dir};
 use blk_bio::limits::Limits;
 use blk_bio::request::{Request, Side};
-use blk_core::{Core, CoreFault, IssueFault, NotIssued, Placed, TickFault};
+use blk_core::{Core, CoreFault, IssueFault, NotIssued, Placed, TickFault, laws};
 use blk_none::NoneSched;
 use blk_sched::{Queued, Scheduler};
 use blk_trace::setup::Setup;
@@ -277,5 +277,30 @@ fn full_trace(rt: HostRuntime) -> Result<(), Fail> {
     ];
     follow(&rt, &alloc, &mut core, &calls)?;
     assert_eq!(rt; core.trace().len(), 1_000_000);
+    Ok(())
+}
+
+#[test]
+fn open_picks_are_open_issues(rt: HostRuntime) -> Result<(), Fail> {
+    let alloc = rt.alloc();
+    let mut core = in_order(alloc, setup(3, 1, 0)?)?;
+    let calls = [
+        Call::Release(0, 0, 8, 0, Ok(Placed::New(0))),
+        Call::Release(1, 100, 8, 0, Ok(Placed::New(1))),
+        Call::Release(2, 200, 8, 0, Ok(Placed::New(2))),
+        Call::Issue(0, 2, Ok(Some(command(0, 0, 0)))),
+        Call::Issue(0, 0, Ok(Some(command(1, 0, 0)))),
+        Call::Tick(Err(TickFault::InFlight(2))),
+        Call::Done(2, Ok(())),
+        Call::Issue(0, 1, Ok(Some(command(2, 0, 0)))),
+        Call::Tick(Err(TickFault::InFlight(2))),
+        Call::Done(0, Ok(())),
+        Call::Tick(Err(TickFault::InFlight(1))),
+        Call::Done(1, Ok(())),
+        Call::Tick(Ok(1)),
+    ];
+    follow(&rt, &alloc, &mut core, &calls)?;
+    laws::listed_issues_are_open();
+    laws::open_picks_are_open_issues();
     Ok(())
 }
