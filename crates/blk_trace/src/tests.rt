@@ -1,4 +1,5 @@
 use crate::event::Event;
+use crate::laws::timed_by_the_ticks_before;
 use crate::rule::{PushFault, TraceFault, TraceRule};
 use crate::setup::{Setup, SetupFault};
 use crate::trace::{MAX_EVENTS, Trace};
@@ -162,6 +163,12 @@ fn write_before_read(rt: HostRuntime) -> Result<(), Fail> {
     is_whole(&rt, &pushed(rt.alloc(), setup, &steps)?)?;
     let events = listed(rt.alloc(), &steps)?;
     is_whole(&rt, &Trace::from_events(rt.alloc(), setup, events)?)
+}
+
+/// The law says nothing that runs: it can be called.
+#[test]
+fn laws_hold() {
+    timed_by_the_ticks_before();
 }
 
 /// Without its first Tick the second Issue has the tag of the first one's round.
@@ -468,28 +475,135 @@ fn prepared_takes_no_memory(rt: HostRuntime) -> Result<(), Fail> {
     Ok(())
 }
 
-/// A refused `prepare` leaves the trace, and what was prepared before it.
-#[test]
-fn prepare_refused(rt: HostRuntime) -> Result<(), Fail> {
-    let heap = Refusing::new(rt.alloc());
-    let release = Step::Release(0, apart(0)?);
-    for n in 1..4u64 {
-        let mut trace = Trace::empty(&heap, setup(1, 5, 50)?)?;
-        let other = request(&heap, at_end(0)?)?;
-        let event = event(&heap, release)?;
-        heap.refuse(n);
-        assert!(rt; trace.prepare(Some(&other)).is_err());
-        heap.refuse(0);
-        assert!(rt; has_events(&trace, &[]));
-        trace.prepare(Some(&other))?;
-        heap.refuse(1);
-        let answer = trace.push(event);
-        let untouched = heap.is_armed();
-        heap.refuse(0);
-        assert!(rt; answer.is_ok());
-        assert!(rt; untouched);
-        assert!(rt; has_events(&trace, &[release]));
+/// Asks for room where the n-th allocation is refused, and says whether there was one. Nothing may happen by it.
+fn prepares_refused<'a>(
+    rt: &impl Abort,
+    heap: &'a Refusing<Global>,
+    trace: &mut Trace<&'a Refusing<Global>>,
+    request: Option<&Request<&'a Refusing<Global>>>,
+    n: u64,
+) -> Result<bool, Fail> {
+    let before = (trace.len(), trace.round(), trace.unfinished());
+    heap.refuse(n);
+    let answer = trace.prepare(request);
+    let refused = !heap.is_armed();
+    heap.refuse(0);
+    assert_eq!(rt; answer.is_err(), refused);
+    assert_eq!(rt; (trace.len(), trace.round(), trace.unfinished()), before);
+    Ok(refused)
+}
+
+/// Pushes an event that was prepared, which has to take no memory.
+fn takes_none<'a>(
+    rt: &impl Abort,
+    heap: &'a Refusing<Global>,
+    trace: &mut Trace<&'a Refusing<Global>>,
+    event: Event<&'a Refusing<Global>>,
+) -> Result<(), Fail> {
+    heap.refuse(1);
+    let answer = trace.push(event);
+    let untouched = heap.is_armed();
+    heap.refuse(0);
+    assert!(rt; answer.is_ok());
+    assert!(rt; untouched);
+    Ok(())
+}
+
+/// A read of two bios, which lie in the first two sectors.
+fn pair(heap: &Refusing<Global>) -> Result<Request<&Refusing<Global>>, Fail> {
+    let mut pair = request(heap, apart(0)?)?;
+    let end = request(heap, at_end(0)?)?;
+    pair.join(end, &Limits::new(256, 128)?).map_err(|e| e.1)?;
+    Ok(pair)
+}
+
+/// A trace of so many rounds, in which nothing else happened.
+fn ticked(heap: &Refusing<Global>, rounds: u64) -> Result<Trace<&Refusing<Global>>, Fail> {
+    let mut trace = Trace::empty(heap, setup(1, 5, 50)?)?;
+    for _ in 0..rounds {
+        push(&mut trace, Event::Tick)?;
     }
+    Ok(trace)
+}
+
+/// A refused `prepare` of an Issue leaves the trace, also where nothing was prepared before it, and a Release of two bios
+/// that was prepared before it.
+#[test]
+fn prepare_of_an_issue_refused(rt: HostRuntime) -> Result<(), Fail> {
+    let heap = Refusing::new(rt.alloc());
+    let mut refusals = [0u64; 2];
+    for rounds in 0..5u64 {
+        for n in 1..5u64 {
+            let mut trace = ticked(&heap, rounds)?;
+            if prepares_refused(&rt, &heap, &mut trace, None, n)? {
+                refusals[0] = refusals[0].wrapping_add(1);
+                trace.prepare(None)?;
+                takes_none(&rt, &heap, &mut trace, Event::Tick)?;
+                assert_eq!(rt; trace.round(), rounds.wrapping_add(1));
+            }
+            let mut trace = ticked(&heap, rounds)?;
+            let request = pair(&heap)?;
+            trace.prepare(Some(&request))?;
+            if prepares_refused(&rt, &heap, &mut trace, None, n)? {
+                refusals[1] = refusals[1].wrapping_add(1);
+                let release = Event::Release { id: 0, request };
+                takes_none(&rt, &heap, &mut trace, release)?;
+                let bios = [apart(0)?, at_end(0)?];
+                assert_eq!(rt; trace.waiting()?.as_slice(), bios.as_slice());
+                assert_eq!(rt; trace.round(), rounds);
+            }
+        }
+    }
+    // without events there is no room for commands and their rounds, and after a few ticks none for two events more
+    assert!(rt; refusals[0] > 2 && refusals[1] > 2);
+    Ok(())
+}
+
+/// A refused `prepare` of a Release leaves the trace, where nothing was prepared before it.
+#[test]
+fn prepare_of_a_release_refused(rt: HostRuntime) -> Result<(), Fail> {
+    let heap = Refusing::new(rt.alloc());
+    let mut refusals = 0u64;
+    for n in 1..5u64 {
+        let mut trace = ticked(&heap, 0)?;
+        let request = pair(&heap)?;
+        if prepares_refused(&rt, &heap, &mut trace, Some(&request), n)? {
+            refusals = refusals.wrapping_add(1);
+            trace.prepare(Some(&request))?;
+            let release = Event::Release { id: 0, request };
+            takes_none(&rt, &heap, &mut trace, release)?;
+            assert_eq!(rt; trace.waiting()?.len(), 2);
+        }
+    }
+    assert!(rt; refusals > 2);
+    Ok(())
+}
+
+/// It leaves an Issue that was prepared before it too.
+#[test]
+fn prepared_issue_outlives_a_refusal(rt: HostRuntime) -> Result<(), Fail> {
+    let heap = Refusing::new(rt.alloc());
+    let mut refusals = [0u64; 2];
+    for released in 1..9u64 {
+        for n in 1..3u64 {
+            let mut trace = ticked(&heap, 0)?;
+            for id in 0..released {
+                push(&mut trace, event(&heap, Step::Release(id, apart(id + 1)?))?)?;
+            }
+            let request = pair(&heap)?;
+            trace.prepare(None)?;
+            if prepares_refused(&rt, &heap, &mut trace, Some(&request), n)? {
+                let count = &mut refusals[n as usize - 1];
+                *count = count.wrapping_add(1);
+                let issue = Event::Issue { id: 0, tag: 0 };
+                takes_none(&rt, &heap, &mut trace, issue)?;
+                assert_eq!(rt; (trace.len(), trace.unfinished()), (released + 1, 1));
+                assert_eq!(rt; trace.commands()?.len(), 1);
+            }
+        }
+    }
+    // of the ids of requests and of the ids of bios, one more is refused where there was no room for it
+    assert!(rt; refusals[0] > 0 && refusals[1] > 0);
     Ok(())
 }
 
