@@ -1,5 +1,6 @@
 /* Refuses one allocation of a program: the one whose number, counted from 1, stands in the variable REFUSE. Where COUNT is
-   set, it says on standard error at the program's end how many were asked for. bench/memory loads it before the C library. */
+   set, it says on standard error at the program's end how many were asked for. bench/memory loads it before the C library.
+   Neither calloc nor memalign is counted: the program calls none. */
 #define _GNU_SOURCE
 #include <dlfcn.h>
 #include <errno.h>

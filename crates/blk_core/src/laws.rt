@@ -1,5 +1,5 @@
-//! What a core says of its tags, in the words of legal lists of events; each law is the contract of a function that does
-//! nothing.
+//! What a core says of its tags and its open picks, in the words of legal lists of events; each law is the contract of a
+//! function that does nothing.
 
 ghost use Rattle.std.specs.Prelude.{ℕ, ◌≡◌, ◌+◌, ◌↔◌, List, Some, length, slice_get, IsSome};
 ghost use Rattle.blk_bio.specs.declared.bio.Dir.{Dir};

@@ -350,6 +350,29 @@ fn refused_steps(rt: HostRuntime) -> Result<(), Fail> {
     )
 }
 
+/// A trace of 999,999 Ticks has room for one event more, and an issue asks for two, its own and its Done.
+#[test]
+fn full_traces(rt: HostRuntime) -> Result<(), Fail> {
+    let script = "blk-script,1,1,1,4,1\nsetup,0,0,256,128,\nrun,999999,,,,\n";
+    let [ticked, issued, drained] = [
+        format!(in rt.alloc(); "{script}tick,,,,,\ntick,,,,,\n")?,
+        format!(in rt.alloc(); "{script}issue,0,0,,,\n")?,
+        format!(in rt.alloc();
+            "{script}bio,0,0,R,0,8\nflush,0,,,,\ndrain,0,,,,\nbio,0,1,R,100,8\nflush,0,,,,\ndrain,0,,,,\n"
+        )?,
+    ];
+    let sim: &[&str] = &["sim"];
+    each(
+        &rt,
+        rt.alloc(),
+        &[
+            (sim, ticked.as_str(), 1, "", "blk: record 5: TraceFull\n"),
+            (sim, issued.as_str(), 1, "", "blk: record 4: TraceFull\n"),
+            (sim, drained.as_str(), 1, "", "blk: record 9: TraceFull\n"),
+        ],
+    )
+}
+
 #[test]
 fn full_plug(rt: HostRuntime) -> Result<(), Fail> {
     let alloc = rt.alloc();
@@ -377,7 +400,7 @@ fn full_plug(rt: HostRuntime) -> Result<(), Fail> {
     )
 }
 
-/// Each name of a text's fault that no other case here prints, and the two of a bio that is refused.
+/// The names of a text's faults, Title and TooLong aside, and the two of a bio that is refused.
 #[test]
 fn names_of_text_faults(rt: HostRuntime) -> Result<(), Fail> {
     let script = "blk-script,1,1,1,4,1\nsetup,0,9,256,128,\n";

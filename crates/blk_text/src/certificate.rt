@@ -241,7 +241,7 @@ fn split(alloc: Global, served: &[(Command, u64)]) -> Result<(Vec<Command>, Vec<
 /// The fault is the first one: of the least record, and in it the first in the order of [`Why`].
 /// [`Why::Read`] and [`Why::Memory`] come at the record that is being read.
 /// Fewer commands than announced is a fault one past the last record. No record is asked for past
-/// that of the fault, and 1,000,003 at most.
+/// that of the fault, and never more than 1,000,003.
 pub fn read_certificate<R: Read + Drop>(
     alloc: Global,
     records: &mut Records<R>,

@@ -69,7 +69,7 @@ impl LineForm for CommandForm {
 ///
 /// The fault is the first one: of the least record, and in it the first in the order of [`Why`].
 /// [`Why::Read`] and [`Why::Memory`] come at the record that is being read. No record is asked for past
-/// that of the fault, and 1,000,002 at most.
+/// that of the fault, and never more than 1,000,002.
 pub fn read_commands<R: Read + Drop>(
     alloc: Global,
     records: &mut Records<R>,

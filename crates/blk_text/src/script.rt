@@ -315,7 +315,7 @@ fn read_script_title<R: Read + Drop>(records: &mut Records<R>) -> Result<Title, 
 ///
 /// The fault is the first one: of the least record, and in it the first in the order of [`Why`].
 /// [`Why::Read`] and [`Why::Memory`] come at the record that is being read. No record is asked for past
-/// that of the fault, and 1,000,001 at most.
+/// that of the fault, and never more than 1,000,001.
 pub fn read_script<R: Read + Drop>(
     alloc: Global,
     records: &mut Records<R>,

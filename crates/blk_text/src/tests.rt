@@ -1,6 +1,7 @@
 use crate::certificate::{read_certificate, write_certificate};
 use crate::commands::{CommandForm, read_commands, write_commands};
 use crate::fault::{TextFault, Why, WriteFault};
+use crate::laws;
 use crate::lines::{Extent, read_lines};
 use crate::script::{Line, read_script};
 use crate::source::Records;
@@ -709,4 +710,23 @@ fn faults_are_printed_by_name(rt: HostRuntime) -> Result<(), Fail> {
     let printed = WriteFault::Memory.to_string(alloc)?;
     assert_eq!(rt; printed.as_str(), "Memory");
     Ok(())
+}
+
+// Each law can be called.
+#[test]
+fn laws_hold() {
+    laws::commands_are_spelled_once();
+    laws::commands_read_back();
+    laws::spelled_commands_have_no_fault();
+    laws::a_command_list_has_one_fault();
+    laws::certificates_are_spelled_once();
+    laws::certificates_read_back();
+    laws::spelled_certificates_have_no_fault();
+    laws::a_certificate_has_one_fault();
+    laws::scripts_are_spelled_once();
+    laws::scripts_read_back();
+    laws::spelled_scripts_have_no_fault();
+    laws::a_script_has_one_fault();
+    laws::traces_are_spelled_once();
+    laws::traces_read_back();
 }
