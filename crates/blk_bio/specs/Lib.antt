@@ -1,5 +1,6 @@
 pub mod Bios
 pub mod Limits
 pub mod Requests
+pub mod Extents
 pub mod Answers
 pub mod Codes

@@ -1,8 +1,11 @@
 //! A bio: one transfer of a range of sectors, after `struct bio` of Linux.
 
-ghost use Rattle.std.specs.Prelude.{◌≡◌, ◌+◌, ◌<◌, ◌≤◌, ◌^◌, IfOk, MatchResult};
+ghost use Rattle.std.specs.Prelude.{◌≡◌, ◌+◌, ◌<◌, ◌≤◌, ◌^◌, ◌∷◌, [], IfOk, MatchResult};
 ghost use Rattle.blk_bio.specs.Bios.{Bio as BioFields, IsBio, end_of, IsBioAnswer};
+ghost use Rattle.blk_bio.specs.Requests.{IsRequest};
+ghost use Rattle.blk_bio.specs.Extents.{extent_of};
 
+use crate::extent::Extent;
 use std::marker::Model;
 use thiserror::Error;
 
@@ -109,5 +112,20 @@ impl Bio {
         ensures is_bio { IsBio self.now }
     {
         self.sectors
+    }
+
+    /// Its extent, as that of a request of this bio alone.
+    #[inline]
+    pub fn extent(&self) -> Extent
+        ensures value { result ≡ extent_of (self.now ∷ []) }
+        ensures is_request { IsRequest (self.now ∷ []) }
+        ensures range { result.first < result.end }
+    {
+        Extent {
+            dir: self.dir,
+            first: self.first,
+            end: self.first + self.sectors,
+            bios: 1,
+        }
     }
 }

@@ -7,6 +7,7 @@
 #![tactic(auto)]
 
 pub mod bio;
+pub mod extent;
 pub mod limits;
 pub mod request;
 #[cfg(test)]

@@ -3,10 +3,13 @@
 ghost use Rattle.std.specs.Prelude.{◌≡◌, ◌≤◌, ◌+◌, ◌^◌, ◌<◌, ◌∷◌, [], ◌⊎◌, ◌↔◌, IsTrue, length, ◌++◌, IfOk, IfErr, IfNone, IfSome};
 ghost use Rattle.blk_bio.specs.declared.request.Side.{Side};
 ghost use Rattle.blk_bio.specs.declared.request.JoinFault.{JoinFault};
+ghost use Rattle.blk_bio.specs.Bios.{sector_limit};
 ghost use Rattle.blk_bio.specs.Requests.{IsRequest, IsWithin, Abuts, Fits, dir_of, first_of, last_of, sectors_of};
+ghost use Rattle.blk_bio.specs.Extents.{extent_of};
 ghost use Rattle.blk_bio.specs.Answers.{IsJoinAnswer};
 
 use crate::bio::{Bio, Dir};
+use crate::extent::Extent;
 use crate::limits::Limits;
 use std::alloc::{AllocError, Allocator, Global};
 use std::marker::Model;
@@ -101,7 +104,7 @@ impl<A: Allocator + Clone> Request<A> {
     /// The sector after its last one.
     fn end(&self) -> u64
         ensures value { result ≡ last_of self.now }
-        ensures in_range { result ≤ 2 ^ 48 }
+        ensures in_range { result ≤ sector_limit }
         ensures above { first_of self.now < result }
     {
         let last = self.bios[self.bios.len() - 1];
@@ -113,7 +116,7 @@ impl<A: Allocator + Clone> Request<A> {
         ensures value { result ≡ sectors_of self.now }
         ensures some { 0 < result }
         ensures range { first_of self.now + result ≡ last_of self.now }
-        ensures in_range { last_of self.now ≤ 2 ^ 48 }
+        ensures in_range { last_of self.now ≤ sector_limit }
     {
         let _ = &self.bios;
         self.end() - self.first()
@@ -134,14 +137,7 @@ impl<A: Allocator + Clone> Request<A> {
         ensures only { IfSome result (λ found. (side : Side) → Abuts self.now other.now side → side ≡ found) }
         ensures none { IfNone result ((side : Side) → Abuts self.now other.now side → ⊥) }
     {
-        let (first, end) = (other.first(), other.end());
-        if first == self.end() {
-            Some(Side::Back)
-        } else if end == self.first() {
-            Some(Side::Front)
-        } else {
-            None
-        }
+        self.extent().touches(&other.extent())
     }
 
     /// Whether it is one bio, or has no more sectors and bios than the limits.
@@ -153,17 +149,40 @@ impl<A: Allocator + Clone> Request<A> {
                 && self.bios.len() as u64 <= limits.max_segments()
     }
 
+    /// Its direction and its range, and how many bios it has.
+    #[inline]
+    pub fn extent(&self) -> Extent
+        ensures value { result ≡ extent_of self.now }
+        ensures is_request { IsRequest self.now }
+        ensures range { result.first < result.end }
+    {
+        Extent {
+            dir: self.dir(),
+            first: self.first(),
+            end: self.end(),
+            bios: self.bios.len() as u64,
+        }
+    }
+
     /// The side at which the newcomer would join this request: it has the same direction, abuts, and is within the
     /// limits together with it. There is one such side at most, and [`Request::join`] joins there.
+    #[inline]
     pub fn fits(&self, newcomer: &Request<A>, limits: &Limits) -> Option<Side>
         ensures some { IfSome result (Fits limits.now self.now newcomer.now) }
         ensures only { IfSome result (λ found. (side : Side) → Fits limits.now self.now newcomer.now side → side ≡ found) }
         ensures none { IfNone result ((side : Side) → Fits limits.now self.now newcomer.now side → ⊥) }
     {
-        let together = newcomer.dir() == self.dir()
-            && self.sectors() + newcomer.sectors() <= limits.max_sectors()
-            && (self.bios.len() + newcomer.bios.len()) as u64 <= limits.max_segments();
-        if together { self.abuts(newcomer) } else { None }
+        self.extent().fits(&newcomer.extent(), limits)
+    }
+
+    /// The side at which a bio would join this request, as a request of its own.
+    #[inline]
+    pub fn fits_bio(&self, bio: &Bio, limits: &Limits) -> Option<Side>
+        ensures some { IfSome result (Fits limits.now self.now (bio.now ∷ [])) }
+        ensures only { IfSome result (λ found. (side : Side) → Fits limits.now self.now (bio.now ∷ []) side → side ≡ found) }
+        ensures none { IfNone result ((side : Side) → Fits limits.now self.now (bio.now ∷ []) side → ⊥) }
+    {
+        self.extent().fits(&bio.extent(), limits)
     }
 
     /// Joins the other request to this one, at the side at which it abuts, which is the answer: Linux's back or front

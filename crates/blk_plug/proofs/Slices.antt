@@ -1,11 +1,11 @@
 -- Requests in two slices, one after the other.
-use Rattle.std.proofs.Common.{◌≡◌, ◌<◌, ◌+◌, ◌++◌, ℕ, zero, suc, List, [], ◌∷◌, length, sym, ap, ◌∙◌, arith, inl, inr, ◌⊎◌, Some, None, Option}
+use Rattle.std.proofs.Common.{◌≡◌, ◌+◌, ◌++◌, ℕ, zero, suc, List, [], ◌∷◌, length, sym, ap, ◌∙◌, arith, inl, inr, ◌⊎◌, Some, None, Option}
 use Rattle.std.specs.Prelude.{slice_get, IfNone, true}
 use Rattle.std.proofs.lemmas.Option.{slice_get_within}
 use Rattle.blk_bio.specs.declared.request.Side.{Side}
 use Rattle.blk_bio.specs.Bios.{Bio}
 use Rattle.blk_bio.specs.Limits.{Limits}
-use Rattle.blk_bio.specs.Requests.{Fits, IsJoinCandidate}
+use Rattle.blk_bio.specs.Requests.{IsJoinCandidate}
 use Rattle.blk_plug.specs.Plugs.{HasNoCandidate}
 
 -- a place of the second slice, counted through both

@@ -1,10 +1,10 @@
 -- Plugs.
-use Rattle.std.specs.Prelude.{ℕ, ◌≡◌, ◌<◌, ◌≤◌, ◌+◌, List, [], ◌∷◌, true, length, slice_get, slice_set, Some, All}
+use Rattle.std.specs.Prelude.{ℕ, ◌≡◌, ◌≤◌, List, [], ◌∷◌, true, length, slice_get, slice_set, Some, All}
 use Rattle.std.specs.List.{flat_map}
 use Rattle.blk_bio.specs.declared.request.Side.{Side}
 use Rattle.blk_bio.specs.Bios.{Bio}
 use Rattle.blk_bio.specs.Limits.{Limits}
-use Rattle.blk_bio.specs.Requests.{dir_of, sectors_of, joined, IsWithin, Fits, IsJoinCandidate}
+use Rattle.blk_bio.specs.Requests.{joined, IsWithin, Fits, IsJoinCandidate}
 
 -- a plug: the limits within which bios join, and its requests from the oldest to the newest
 pub record Plug : Type 0 where
@@ -19,12 +19,6 @@ pub record IsPlug (plug : Plug) : Type 0 where
 -- the bios of its requests, in their order
 abbrev pub bios_of : Plug → List Bio
 bios_of plug = flat_map (λ request. request) plug.requests
-
--- the bio has the direction of the request, and both together are within the limits
-pub record MayGrow (limits : Limits) (bios : List Bio) (bio : Bio) : Type 0 where
-  pub same_direction : bio.dir ≡ dir_of bios
-  pub sectors : sectors_of bios + bio.sectors ≤ limits.max_sectors
-  pub segments : length bios < limits.max_segments
 
 -- some request is the one that the newcomer joins, at either side
 abbrev pub HasCandidate : Limits → List (List Bio) → List Bio → Type 0
