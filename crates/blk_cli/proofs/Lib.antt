@@ -1,12 +1,3 @@
 pub mod Lines
 pub mod Claims
-pub mod Steps
-pub mod Picking
-pub mod Events
-pub mod Draining
-pub mod Standing
-pub mod Ending
-pub mod Spreading
-pub mod Refusing
-pub mod Holding
 pub mod Written

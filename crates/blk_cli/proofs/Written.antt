@@ -8,7 +8,7 @@ use Rattle.blk_text.specs.Sources.{Row}
 use Rattle.blk_text.specs.Texts.{rows_text}
 use Rattle.blk_text.specs.Script.{Scripted, SpellsScript}
 use Rattle.blk_text.specs.TraceRecords.{trace_rows, SpellsTrace}
-use Rattle.blk_cli.specs.Simulation.{released_bios, ticks_of}
+use Rattle.blk_sim.specs.Simulation.{released_bios, ticks_of}
 use Rattle.blk_cli.specs.Outcome.{SimWrote}
 
 pub sim_wrote : (left : Option (List Row)) (s : Scripted) (t : Traced) (old new : Option (List ℕ)) → IfSome left (λ rows. SpellsScript rows s)

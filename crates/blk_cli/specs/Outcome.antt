@@ -12,7 +12,7 @@ use Rattle.blk_trace.specs.Events.{entered, round_of}
 use Rattle.blk_trace.specs.Traces.{Traced}
 use Rattle.blk_text.specs.Script.{Scripted, SpellsScript}
 use Rattle.blk_text.specs.TraceRecords.{trace_rows, SpellsTrace}
-use Rattle.blk_cli.specs.Simulation.{released_bios, ticks_of}
+use Rattle.blk_sim.specs.Simulation.{released_bios, ticks_of}
 use Rattle.blk_text.specs.Certificate.{Claim, claim_rows, SpellsClaim}
 
 -- the schedule is legal, its greatest lateness is the one stated, the window is crowded at it, and it is least

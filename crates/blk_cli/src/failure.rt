@@ -3,8 +3,8 @@
 ghost use Rattle.std.specs.Prelude.{◌≡◌, ◌≢◌, ◌⊎◌, ◌≤◌};
 ghost use Rattle.blk_cli.specs.Statuses.{IsOfWriter};
 
-use crate::sim::{SimFault, SimWhy};
 use crate::{FAILED, REFUSED};
+use blk_sim::{SimFault, SimWhy};
 use blk_text::fault::{TextFault, Why, WriteFault};
 use edd_check::CheckFault;
 use edd_oracle::OracleFault;

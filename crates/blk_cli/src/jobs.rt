@@ -10,8 +10,8 @@ ghost use Rattle.blk_text.specs.Commands.{AreCommands};
 ghost use Rattle.blk_cli.specs.Outcome.{CheckRead, IsProved, OracleWrote, SimWrote};
 
 use crate::failure::Failure;
-use crate::sim::simulate;
 use blk_none::NoneSched;
+use blk_sim::simulate;
 use blk_text::certificate::{Certificate, read_certificate, write_certificate};
 use blk_text::commands::read_commands;
 use blk_text::fault::WriteFault;

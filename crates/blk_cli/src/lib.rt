@@ -7,13 +7,12 @@ ghost use Rattle.blk_cli.specs.Outcome.{CheckRead, OracleWrote, SimWrote};
 
 mod failure;
 mod jobs;
-pub mod laws;
-pub mod sim;
 mod words;
 
 use crate::failure::Failure;
 use crate::jobs::{check_certificate, simulate_script, solve_commands};
 use crate::words::{Choice, NoChoice, choose};
+pub use blk_sim::laws;
 use std::alloc::Global;
 use std::io::{Read, Write};
 

@@ -1,0 +1,9 @@
+pub mod Where
+pub mod Picking
+pub mod Events
+pub mod Draining
+pub mod Standing
+pub mod Ending
+pub mod Spreading
+pub mod Refusing
+pub mod Holding

@@ -1,0 +1,5 @@
+use Rattle.blk_sim.specs.Simulated.{IsSpread}
+use Rattle.blk_sim.proofs.simulation.spread.Given as goal
+
+abbrev pub invariant-loop-s : goal.invariant-loop-s
+invariant-loop-s g l = IsSpread l.hw l.s l.entries.items

@@ -1,0 +1,3 @@
+pub mod Simulation
+pub mod Simulated
+pub mod Refusals

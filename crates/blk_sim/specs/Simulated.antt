@@ -1,0 +1,139 @@
+-- How a simulation stands between two steps.
+use Rattle.std.specs.Prelude.{◌≡◌, ◌<◌, ◌≤◌, ◌+◌, ◌%◌, ◌==◌, ◌++◌, ◌&&◌, ◌||◌, not, cond, nat_lt, ℕ, Bool, false, List, [], ◌∷◌, Some, length, map, flat_map, slice_get, slice_index_or, All, IsPermutation}
+use Rattle.blk_bio.specs.Bios.{Bio}
+use Rattle.blk_bio.specs.Limits.{Limits}
+use Rattle.blk_bio.specs.Requests.{IsRequest}
+use Rattle.blk_trace.specs.Happened.{Happened}
+use Rattle.blk_trace.specs.Events.{entered, round_of}
+use Rattle.blk_plug.specs.Plugs.{Plug, IsPlug}
+use Rattle.blk_soft.specs.Queues.{Queue, IsQueue}
+use Rattle.blk_core.specs.State.{CoreState}
+use Rattle.blk_text.specs.declared.script.Line.{Line}
+use Rattle.blk_text.specs.declared.script.Line.TheVariants as line
+use Rattle.blk_sim.specs.Simulation.{Where, Plugged, Staged, Released, moved, place_after, is_where}
+
+-- a bio, and where it is
+pub record Placing : Type 0 where
+  pub bio : Bio
+  pub place : Where
+
+-- a `bio` line's bio, where the steps after it leave it
+abbrev pub placed_by : ℕ → Line → List Line → List Placing
+placed_by hw (line.Bio b) after = record { bio = b; place = place_after hw b.id.submitter Plugged after } ∷ []
+placed_by hw (line.Flush t) after = []
+placed_by hw (line.Drain h) after = []
+placed_by hw (line.Issue h tag) after = []
+placed_by hw (line.Done tag) after = []
+placed_by hw line.Tick after = []
+placed_by hw (line.Run n) after = []
+
+-- where the steps leave the bios of their `bio` lines
+unfoldable pub placings : ℕ → List Line → List Placing
+placings hw [] = []
+placings hw (l ∷ ls) = placed_by hw l ls ++ placings hw ls
+
+-- a bio after one more step
+abbrev pub moved_by : ℕ → Line → Placing → Placing
+moved_by hw l p = record { bio = p.bio; place = moved hw p.bio.id.submitter p.place l }
+
+-- all bios after one more step
+abbrev pub stepped : ℕ → Line → List Placing → List Placing
+stepped hw l book = map (moved_by hw l) book ++ placed_by hw l []
+
+-- the bios whose placing passes a test
+unfoldable pub picked : (Placing → Bool) → List Placing → List Bio
+picked test [] = []
+picked test (p ∷ ps) = cond (test p) (p.bio ∷ picked test ps) (picked test ps)
+
+-- whether a bio is at a place
+abbrev pub is_in : Where → Placing → Bool
+is_in w p = is_where w p.place
+
+-- whether a bio of the submitter is at a place
+abbrev pub is_at : Where → ℕ → Placing → Bool
+is_at w s p = is_where w p.place && (p.bio.id.submitter == s)
+
+-- the bios of requests, in their order
+abbrev pub bios_in : List (List Bio) → List Bio
+bios_in requests = flat_map (λ bios. bios) requests
+
+-- each plug has its submitter's plugged bios
+abbrev pub ArePlugged : List Placing → List Plug → Type 0
+ArePlugged book plugs = (s : ℕ) (plug : Plug) → slice_get plugs s ≡ Some plug → IsPermutation (bios_in plug.requests) (picked (is_at Plugged s) book)
+
+-- the software queues of the submitters that pass the test are empty, and each other one has its submitter's staged bios
+abbrev pub AreStaged : (ℕ → Bool) → List Placing → List Queue → Type 0
+AreStaged test book queues = (s : ℕ) (queue : Queue) → slice_get queues s ≡ Some queue
+    → IsPermutation (bios_in queue.requests) (picked (λ p. is_at Staged s p && not (test s)) book)
+
+-- the core has the released bios, and the staged ones of the submitters that pass the test
+abbrev pub AreReleased : (ℕ → Bool) → List Placing → List Happened → Type 0
+AreReleased test book events = IsPermutation (entered events) (picked (λ p. is_in Released p || (is_in Staged p && test p.bio.id.submitter)) book)
+
+-- the software queues of the submitters that pass the test were emptied into the core
+pub record AreDrained (test : ℕ → Bool) (book : List Placing) (queues : List Queue) (events : List Happened) : Type 0 where
+  pub staged : AreStaged test book queues
+  pub released : AreReleased test book events
+
+-- the test that nothing passes
+abbrev pub nobody : ℕ → Bool
+nobody s = false
+
+-- whether one of so many software queues is served by the hardware queue, of so many
+abbrev pub is_served : ℕ → ℕ → ℕ → ℕ → Bool
+is_served count hw h s = nat_lt s count && ((s % hw) == h)
+
+-- each bio is where the book says
+pub record Stands (book : List Placing) (plugs : List Plug) (queues : List Queue) (events : List Happened) : Type 0 where
+  pub known : All (λ p. p.bio.id.submitter < length plugs) book
+  pub plugged : ArePlugged book plugs
+  pub drained : AreDrained nobody book queues events
+
+-- a plug of these limits: at most 32 requests, each one bio or within the limits
+pub record IsPlugOf (limits : Limits) (plug : Plug) : Type 0 where
+  pub limits_are : plug.limits ≡ limits
+  pub is_plug : IsPlug plug
+  pub requests : All IsRequest plug.requests
+
+-- a software queue of these limits and this depth: at most so many requests, each one bio or within the limits
+pub record IsQueueOf (limits : Limits) (depth : ℕ) (queue : Queue) : Type 0 where
+  pub limits_are : queue.limits ≡ limits
+  pub depth_is : queue.depth ≡ depth
+  pub is_queue : IsQueue queue
+  pub requests : All IsRequest queue.requests
+
+-- all plugs are of these limits
+abbrev pub PlugsAreOf : Limits → List Plug → Type 0
+PlugsAreOf limits plugs = (s : ℕ) (plug : Plug) → slice_get plugs s ≡ Some plug → IsPlugOf limits plug
+
+-- all software queues are of these limits and this depth
+abbrev pub QueuesAreOf : Limits → ℕ → List Queue → Type 0
+QueuesAreOf limits depth queues = (s : ℕ) (queue : Queue) → slice_get queues s ≡ Some queue → IsQueueOf limits depth queue
+
+-- as many plugs as software queues, all of these limits, and the queues of this depth
+pub record IsReady (limits : Limits) (depth : ℕ) (plugs : List Plug) (queues : List Queue) : Type 0 where
+  pub counts : length queues ≡ length plugs
+  pub plugs_are_of : PlugsAreOf limits plugs
+  pub queues_are_of : QueuesAreOf limits depth queues
+
+-- each submitter sent at most so many bios: those that came into its software queue, and those in its plug
+abbrev pub HaveCome : ℕ → List Plug → List Queue → Type 0
+HaveCome n plugs queues = (s : ℕ) (plug : Plug) (queue : Queue) → slice_get plugs s ≡ Some plug → slice_get queues s ≡ Some queue
+    → queue.bios_in + length (bios_in plug.requests) ≤ n
+
+-- a map of so many software queues to so many hardware queues: queue s is served by hardware queue s mod these
+pub record IsSpread (hw count : ℕ) (entries : List ℕ) : Type 0 where
+  pub counts : length entries ≡ count
+  pub spread : (s d : ℕ) → s < count → slice_index_or entries s d ≡ s % hw
+
+-- so many rounds passed in the core, and no bio entered
+pub record Passed (rounds : ℕ) (old new : CoreState) : Type 0 where
+  pub setup : new.setup ≡ old.setup
+  pub entered_same : entered new.events ≡ entered old.events
+  pub ticks : round_of new.events ≡ round_of old.events + rounds
+
+-- bios entered the core in the round that is on
+pub record Took (bios : List Bio) (old new : CoreState) : Type 0 where
+  pub setup : new.setup ≡ old.setup
+  pub took : entered new.events ≡ entered old.events ++ bios
+  pub ticks : round_of new.events ≡ round_of old.events

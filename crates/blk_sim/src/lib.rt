@@ -1,0 +1,12 @@
+//! The simulation of a script: its steps run one after the other over plugs, software queues and the core, as a bio
+//! travels through Linux's blk-mq.
+#![tactic(auto)]
+
+pub mod laws;
+pub mod refusal;
+mod rounds;
+pub mod simulation;
+mod steps;
+
+pub use refusal::{SimFault, SimWhy};
+pub use simulation::simulate;

@@ -1,0 +1,98 @@
+//! Why a step of a script is refused.
+
+ghost use Rattle.std.specs.Prelude.{◌≡◌, ◌≢◌, Some};
+ghost use Rattle.blk_sim.specs.Refusals.{added_why, released_why, issued_why, ticked_why};
+
+use blk_core::{CoreFault, IssueFault, TickFault};
+use blk_plug::plug::PlugFault;
+use thiserror::Error;
+
+/// Why a step of a script is refused.
+#[derive(Clone, Copy, Debug, PartialEq, Eq, Error)]
+pub enum SimWhy {
+    /// The plug has as many requests as it may, and the bio joins none of them.
+    #[error("Full")]
+    Full,
+    /// The software queue has no room for a request of the plug.
+    #[error("SoftFull")]
+    SoftFull,
+    /// A bio of this name was released before.
+    #[error("Repeated")]
+    Repeated,
+    /// The trace has as many events as it may.
+    #[error("TraceFull")]
+    TraceFull,
+    /// There is no such tag.
+    #[error("TagRange")]
+    TagRange,
+    /// The tag was used in this round.
+    #[error("SlotUsed")]
+    SlotUsed,
+    /// Nothing is in flight under the tag.
+    #[error("NotIssued")]
+    NotIssued,
+    /// A command is in flight, so the round can't end.
+    #[error("InFlight")]
+    InFlight,
+    /// Memory ran out.
+    #[error("Memory")]
+    Memory,
+}
+
+/// A refused step.
+#[derive(Clone, Copy, Debug, PartialEq, Eq)]
+pub struct SimFault {
+    /// Its record in the script's text: the title is record 1, the setup record 2 and the first step record 3. Where
+    /// memory ran out before the first step it is 2.
+    pub at: u64,
+    /// The reason.
+    pub why: SimWhy,
+}
+
+/// Why the core refuses a release for one of its hardware queues.
+pub(crate) fn why_released(fault: CoreFault) -> SimWhy
+    requires { fault ≢ CoreFault.NoQueue }
+    ensures { released_why fault ≡ Some result }
+{
+    match fault {
+        CoreFault::NoQueue => unreachable!(),
+        CoreFault::Repeated(_) => SimWhy::Repeated,
+        CoreFault::TraceFull => SimWhy::TraceFull,
+        CoreFault::Memory => SimWhy::Memory,
+    }
+}
+
+/// Why the core refuses an issue to one of its hardware queues.
+pub(crate) fn why_issued(fault: IssueFault) -> SimWhy
+    requires { fault ≢ IssueFault.NoQueue }
+    ensures { issued_why fault ≡ Some result }
+{
+    match fault {
+        IssueFault::NoQueue => unreachable!(),
+        IssueFault::TagRange => SimWhy::TagRange,
+        IssueFault::SlotUsed => SimWhy::SlotUsed,
+        IssueFault::TraceFull => SimWhy::TraceFull,
+        IssueFault::Memory => SimWhy::Memory,
+    }
+}
+
+/// Why the core refuses a tick.
+pub(crate) fn why_ticked(fault: TickFault) -> SimWhy
+    ensures { result ≡ ticked_why fault }
+{
+    match fault {
+        TickFault::InFlight(_) => SimWhy::InFlight,
+        TickFault::TraceFull => SimWhy::TraceFull,
+        TickFault::Memory => SimWhy::Memory,
+    }
+}
+
+/// Why a plug refuses a bio.
+pub(crate) fn why_added(fault: PlugFault) -> SimWhy
+    ensures { result ≡ added_why fault }
+{
+    match fault {
+        PlugFault::Full => SimWhy::Full,
+        PlugFault::Memory => SimWhy::Memory,
+    }
+}
