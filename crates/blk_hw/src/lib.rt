@@ -7,9 +7,9 @@
 #[cfg(test)]
 mod tests;
 
-ghost use Rattle.std.specs.Prelude.{◌≡◌, ◌<◌, ◌≤◌, ◌++◌, ◌∷◌, [], ◌↔◌, ℕ, IsTrue, All, Any, Contains, IfOk, IfErr, OnOk, OnErr, IfSome, IfNone, length, slice_index};
+ghost use Rattle.std.specs.Prelude.{◌≡◌, ◌<◌, ◌≤◌, ◌+◌, ◌++◌, ◌∷◌, [], ◌↔◌, ℕ, IsTrue, All, Any, Contains, IfOk, IfErr, OnOk, OnErr, IfSome, IfNone, length, slice_index};
 ghost use Rattle.std.specs.Bool.{OnTrue, OnFalse};
-ghost use Rattle.blk_hw.specs.Maps.{IsMap, IsHwCount, IsCounted, IsMapAnswer};
+ghost use Rattle.blk_hw.specs.Maps.{greatest_hw, IsMap, IsHwCount, IsCounted, IsMapAnswer};
 
 use blk_sched::Queued;
 use std::alloc::{AllocError, Allocator, Global};
@@ -89,7 +89,7 @@ impl<A: Allocator> Map<A> {
     pub fn hw_count(&self) -> u8
         ensures value { IsHwCount self.now result }
         ensures some { 0 < result }
-        ensures few { result ≤ 16 }
+        ensures few { result ≤ greatest_hw + 1 }
     {
         self.hw_count
     }
@@ -100,7 +100,7 @@ impl<A: Allocator> Map<A> {
         ensures value { result ≡ slice_index self.now soft }
         // it is below the count of hardware queues
         ensures below { (count : ℕ) → IsHwCount self.now count → result < count }
-        ensures in_range { result ≤ 15 }
+        ensures in_range { result ≤ greatest_hw }
     {
         self.entries[soft]
     }

@@ -4,6 +4,14 @@ use Rattle.blk_bio.specs.Bios.{Bio}
 use Rattle.blk_bio.specs.Limits.{Limits}
 use Rattle.blk_bio.specs.Requests.{IsWithin}
 
+-- the greatest depth of a queue, in requests
+abbrev pub greatest_depth : ℕ
+greatest_depth = 1024
+
+-- the most bios that a queue takes in over its life
+abbrev pub most_bios : ℕ
+most_bios = 2 ^ 40
+
 -- a queue: how many requests it may hold, their limits, the requests from the first, and how many bios came and went
 pub record Queue : Type 0 where
   pub depth : ℕ
@@ -16,11 +24,11 @@ pub record Queue : Type 0 where
 abbrev pub held_of : Queue → ℕ
 held_of queue = sum_by length queue.requests
 
--- a depth of 1 to 1,024, no more requests than that, each within the limits, and what came is what went or is held
+-- at least one and at most the greatest depth, no more requests than that, each within the limits, and what came is what went or is held
 pub record IsQueue (queue : Queue) : Type 0 where
   pub some_depth : 1 ≤ queue.depth
-  pub few_depth : queue.depth ≤ 1024
+  pub few_depth : queue.depth ≤ greatest_depth
   pub room : length queue.requests ≤ queue.depth
   pub within : All (IsWithin queue.limits) queue.requests
   pub held : queue.bios_in ≡ queue.bios_out + held_of queue
-  pub few_bios : queue.bios_in ≤ 2 ^ 40
+  pub few_bios : queue.bios_in ≤ most_bios

@@ -9,7 +9,7 @@ mod tests;
 
 ghost use Rattle.std.specs.Prelude.{◌≡◌, ◌++◌, ◌∷◌, [], ◌+◌, ◌≤◌, ◌<◌, ◌^◌, ◌⊎◌, ◌↔◌, IsErr, IfOk, IfErr, OnOk, OnErr, IfSome, IfNone, length};
 ghost use Rattle.blk_bio.specs.Requests.{IsWithin};
-ghost use Rattle.blk_soft.specs.Queues.{Queue, IsQueue};
+ghost use Rattle.blk_soft.specs.Queues.{greatest_depth, most_bios, Queue, IsQueue};
 
 use blk_bio::limits::Limits;
 use blk_bio::request::Request;
@@ -46,7 +46,7 @@ impl<A: Allocator> Model for SoftQueue<A> {
 impl<A: Allocator + Clone> SoftQueue<A> {
     /// A queue of no requests with room for `depth`, 1 to [`MAX_DEPTH`]. Fails for want of memory alone.
     pub fn new(alloc: A, depth: u64, limits: Limits) -> Result<SoftQueue<A>, AllocError>
-        requires { (1 ≤ depth) × (depth ≤ 1024) }
+        requires { (1 ≤ depth) × (depth ≤ greatest_depth) }
         ensures { IfOk result (λ q. q ≡ record { depth = depth; limits = limits; requests = []; bios_in = 0; bios_out = 0 }) }
     {
         let ring = HeapCircularBuffer::with_capacity(alloc, depth as usize)?;
@@ -65,7 +65,7 @@ impl<A: Allocator + Clone> SoftQueue<A> {
         ensures ok { OnOk result (self.new ≡ record self.old { requests = self.old.requests ++ request ∷ []; bios_in = self.old.bios_in + length request }) }
         ensures err { IfErr result (λ r. r ≡ request) }
         ensures same { OnErr result (self.new ≡ self.old) }
-        ensures refused { IsErr result ↔ ((length self.old.requests ≡ self.old.depth) ⊎ (2 ^ 40 < self.old.bios_in + length request)) }
+        ensures refused { IsErr result ↔ ((length self.old.requests ≡ self.old.depth) ⊎ (most_bios < self.old.bios_in + length request)) }
     {
         let count = request.bios().len() as u64;
         if self.ring.len() >= self.ring.capacity() || count > MAX_BIOS - self.bios_in {
