@@ -1,5 +1,6 @@
 -- A trace to which an event was added, and what that leaves of its list.
-use Rattle.std.proofs.Common.{◌≡◌, ◌∙◌, sym, ap, subst, refl, inl, inr, ℕ, ◌+◌, ◌≤◌, zero, suc, arith, List, [], ◌∷◌, ◌++◌, length, Some, None, ◌⊎◌}
+use Rattle.std.proofs.lemmas.List.Sums.{sum_by_push}
+use Rattle.std.proofs.Common.{◌≡◌, ◌∙◌, sym, ap, subst, refl, inl, inr, false, cond, ℕ, ◌+◌, ◌≤◌, zero, suc, arith, List, [], ◌∷◌, ◌++◌, length, Some, None, ◌⊎◌}
 use Rattle.std.specs.List.{slice_get}
 use Rattle.blk_bio.specs.Bios.{Bio}
 use Rattle.blk_trace.specs.declared.trace.Prepared.{Prepared}
@@ -7,7 +8,7 @@ use Rattle.blk_trace.specs.Setups.{Setup}
 use Rattle.blk_trace.specs.Happened.{Happened, Ticked, Released, Joined, Issued, Finished}
 use Rattle.blk_trace.specs.declared.rule.PushFault.{PushFault}
 use Rattle.blk_trace.specs.declared.rule.PushFault.TheVariants as push_fault
-use Rattle.blk_trace.specs.Events.{open_count}
+use Rattle.blk_trace.specs.Events.{open_count, round_of, is_tick}
 use Rattle.blk_trace.specs.Legal.{IsLegalTrace}
 use Rattle.blk_trace.specs.Meaning.{released_ids}
 use Rattle.blk_trace.specs.Standing.{released_count, IsAllowed, places_of}
@@ -46,6 +47,14 @@ get_more [] y zero x h = inr (refl, (let e : y ≡ x = cc in e))
 get_more [] y (suc k) x h = absurd (let e : None ≡ Some x = h in cc)
 get_more (z ∷ xs) y zero x h = inl h
 get_more (z ∷ xs) y (suc k) x h = elim (get_more xs y k x h) [ inl a ↦ inl a | inr b ↦ inr ((let e = b.0 in omega arith), b.1) ]
+
+-- the round after one more event
+pub round_more : (es : List Happened) (e : Happened) → round_of (es ++ e ∷ []) ≡ round_of es + cond (is_tick e) 1 0
+unfolding round_of
+round_more es e = sum_by_push (λ x. cond (is_tick x) 1 0) es e
+
+pub same_round : (es : List Happened) (e : Happened) → is_tick e ≡ false → round_of (es ++ e ∷ []) ≡ round_of es
+same_round es e other = round_more es e ∙ ap (λ b. round_of es + cond b 1 0) other ∙ omega arith
 
 -- how many were released
 pub released_more : (es : List Happened) (e : Happened) → released_count (es ++ e ∷ []) ≡ released_count es + released_count (e ∷ [])

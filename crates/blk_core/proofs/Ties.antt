@@ -21,7 +21,7 @@ use Rattle.blk_trace.specs.Standing.{Seat, IsAllowed, waits_at, waiting_count, s
 use Rattle.blk_sched.specs.Meaning.{Waiting, Meaning, Pending, Joins, Picks, opened, joined_waiting}
 use Rattle.blk_core.specs.declared.Flight.{Flight}
 use Rattle.blk_core.specs.State.{IsTied, entered_of, seat_of, flying}
-use Rattle.blk_core.proofs.Pushed.{IsPushed, get_more, released-released, released-joined, released-issued, released-finished, released-ticked}
+use Rattle.blk_core.proofs.Pushed.{IsPushed, get_more, same_round, round_more, released-released, released-joined, released-issued, released-finished, released-ticked}
 use Rattle.blk_core.proofs.Waits.{agree_given, agree_taken, len_new, len_given, len_taken, still_absent, still_none, joined_up}
 use Rattle.blk_core.proofs.Flights.{few_fly, opened_reads, opened_writes, seats_set, queues_set, nothing_in, never, nobody}
 use Rattle.blk_trace.proofs.Pushing.{empty_legal}
@@ -68,6 +68,7 @@ tied_release setup setup' es es' m m' fl rel bios w p t is m_is =
         count = omega arith;
         reads = t.holds.reads ∙ sym (step.open-released setup es rel bios p.legal Read);
         writes = t.holds.writes ∙ sym (step.open-released setup es rel bios p.legal Write);
+        round = t.holds.round ∙ sym (same_round es (Released rel bios) refl);
       };
       next = omega arith;
       few = omega arith;
@@ -107,6 +108,7 @@ tied_join setup setup' es es' m m' fl rel serves hw now bios id side p t now_is 
         count = omega arith;
         reads = t.holds.reads ∙ sym (step.open-joined setup es id bios p.legal Read);
         writes = t.holds.writes ∙ sym (step.open-joined setup es id bios p.legal Write);
+        round = t.holds.round ∙ sym (same_round es (Joined id bios) refl);
       };
       next = omega arith;
       few = omega arith;
@@ -156,6 +158,7 @@ tied_issue setup setup' es es' m m' fl rel serves hw tag w f p t picks lt none d
         count = omega arith;
         reads = omega arith;
         writes = omega arith;
+        round = t.holds.round ∙ sym (same_round es (Issued w.id tag) refl);
       };
       next = omega arith;
       few = omega arith;
@@ -206,6 +209,7 @@ tied_done setup setup' es es' m m' fl rel tag f p t lt at flies m_is =
         count = sym (ap map.len mp) ∙ t.holds.count ∙ sym count;
         reads = omega arith;
         writes = omega arith;
+        round = ap (λ (x : Meaning). x.round) (sym m_is) ∙ t.holds.round ∙ sym (same_round es (Finished tag) refl);
       };
       next = omega arith;
       few = omega arith;
@@ -219,8 +223,8 @@ tied_done setup setup' es es' m m' fl rel tag f p t lt at flies m_is =
     })
 
 -- after a tick the core is tied
-pub tied_tick : (setup setup' : Setup) (es es' : List Happened) (m m' : Meaning) (fl fl' : List (Option Flight)) (rel : ℕ) → IsPushed setup es Ticked setup' es' → IsTied setup es m fl rel → m' ≡ m → fl' ≡ replicate (length fl) None → IsTied setup' es' m' fl' rel
-tied_tick setup setup' es es' m m' fl fl' rel p t m_is fl_is =
+pub tied_tick : (setup setup' : Setup) (es es' : List Happened) (m m' : Meaning) (fl fl' : List (Option Flight)) (rel now : ℕ) → IsPushed setup es Ticked setup' es' → IsTied setup es m fl rel → m' ≡ record m { round = now } → now ≡ round_of es' → fl' ≡ replicate (length fl) None → IsTied setup' es' m' fl' rel
+tied_tick setup setup' es es' m m' fl fl' rel now p t m_is now_is fl_is =
     let n : ℕ = length fl in
     let l : length (replicate n nobody) ≡ n = length-replicate n nobody in
     let r : sum_by (flying Read) (replicate n nobody) ≡ n * 0 = sum_by-replicate (flying Read) n nobody in
@@ -237,7 +241,7 @@ tied_tick setup setup' es es' m m' fl fl' rel p t m_is fl_is =
     let few = t.few in
     tied_at setup setup' es es' Ticked m' fl' rel p
     (subst (λ x. IsTied setup (es ++ Ticked ∷ []) x fl' rel) (sym m_is)
-    (subst (λ x. IsTied setup (es ++ Ticked ∷ []) m x rel) (sym fl_is)
+    (subst (λ x. IsTied setup (es ++ Ticked ∷ []) (record m { round = now }) x rel) (sym fl_is)
     (record {
       legal = p.legal;
       ranges = t.ranges;
@@ -246,6 +250,7 @@ tied_tick setup setup' es es' m m' fl fl' rel p t m_is fl_is =
         count = t.holds.count ∙ sym count;
         reads = omega arith;
         writes = omega arith;
+        round = now_is ∙ ap round_of p.added;
       };
       next = omega arith;
       few = omega arith;
@@ -279,8 +284,12 @@ none_released : released_count [] ≡ 0
 unfolding released_ids
 none_released = refl
 
-at_first : (setup : Setup) (m : Meaning) (n : ℕ) → m.pending ≡ map.empty → m.open_picks.reads ≡ 0 → m.open_picks.writes ≡ 0 → IsSetup setup → n ≡ setup.depth → IsTied setup [] m (replicate n nobody) 0
-at_first setup m n e r w ranges d =
+no_round : round_of [] ≡ 0
+unfolding round_of
+no_round = refl
+
+at_first : (setup : Setup) (m : Meaning) (n : ℕ) → m.pending ≡ map.empty → m.open_picks.reads ≡ 0 → m.open_picks.writes ≡ 0 → m.round ≡ 0 → IsSetup setup → n ≡ setup.depth → IsTied setup [] m (replicate n nobody) 0
+at_first setup m n e r w now ranges d =
     let rs : sum_by (flying Read) (replicate n nobody) ≡ n * 0 = sum_by-replicate (flying Read) n nobody in
     let ss : sum_by (flying Write) (replicate n nobody) ≡ n * 0 = sum_by-replicate (flying Write) n nobody in
     record {
@@ -291,6 +300,7 @@ at_first setup m n e r w ranges d =
         count = ap map.len e ∙ map.len-empty nat_cmp Waiting ∙ sym no_count;
         reads = r ∙ sym (none_open Read);
         writes = w ∙ sym (none_open Write);
+        round = now ∙ sym no_round;
       };
       next = sym none_released;
       few = omega arith;
@@ -304,9 +314,9 @@ at_first setup m n e r w ranges d =
     }
 
 -- at first the core is tied
-pub tied_new : (s s' : Setup) (es : List Happened) (m : Meaning) (fl : List (Option Flight)) (n : ℕ) → s' ≡ s → es ≡ [] → m.pending ≡ map.empty → m.open_picks.reads ≡ 0 → m.open_picks.writes ≡ 0 → IsSetup s → n ≡ s.depth → fl ≡ replicate n None → IsTied s' es m fl 0
-tied_new s s' es m fl n p q e r w ranges d f =
-    subst (λ x. IsTied x es m fl 0) (sym p) (subst (λ x. IsTied s x m fl 0) (sym q) (subst (λ x. IsTied s [] m x 0) (sym f) (at_first s m n e r w ranges d)))
+pub tied_new : (s s' : Setup) (es : List Happened) (m : Meaning) (fl : List (Option Flight)) (n : ℕ) → s' ≡ s → es ≡ [] → m.pending ≡ map.empty → m.open_picks.reads ≡ 0 → m.open_picks.writes ≡ 0 → m.round ≡ 0 → IsSetup s → n ≡ s.depth → fl ≡ replicate n None → IsTied s' es m fl 0
+tied_new s s' es m fl n p q e r w now ranges d f =
+    subst (λ x. IsTied x es m fl 0) (sym p) (subst (λ x. IsTied s x m fl 0) (sym q) (subst (λ x. IsTied s [] m x 0) (sym f) (at_first s m n e r w now ranges d)))
 
 -- a scheduler's join is one that the trace allows
 pub join_allowed : (setup : Setup) (es : List Happened) (m m' : Meaning) (fl : List (Option Flight)) (rel : ℕ) (serves : ℕ → Waiting → Bool) (hw now : ℕ) (bios : List Bio) (id : ℕ) (side : Side) → IsTied setup es m fl rel → Joins serves hw now setup.limits bios m id side m' → AreOnce (entered es ++ bios) → IsAllowed setup es (Joined id bios)
@@ -325,6 +335,21 @@ tick_allowed setup es m fl rel t none = let both = step.open-both setup es t.leg
 -- the scheduler has no more open picks than there are tags
 pub few_open : (setup : Setup) (es : List Happened) (m : Meaning) (fl : List (Option Flight)) (rel : ℕ) → IsTied setup es m fl rel → m.open_picks.reads + m.open_picks.writes < 256
 few_open setup es m fl rel t = let a = few_fly fl in let b = t.reads in let c = t.writes in let d = t.room in let e = t.ranges.few_tags in omega arith
+
+-- the scheduler's round is the trace's, and the next one is later
+pub round_is : (setup : Setup) (es : List Happened) (m : Meaning) (fl : List (Option Flight)) (rel now : ℕ) → IsTied setup es m fl rel → now ≡ round_of es → now ≡ m.round
+round_is setup es m fl rel now t is = is ∙ sym t.holds.round
+
+pub round_next : (setup setup' : Setup) (es es' : List Happened) (m : Meaning) (fl : List (Option Flight)) (rel now : ℕ) → IsTied setup es m fl rel → IsPushed setup es Ticked setup' es' → now ≡ round_of es' → m.round < now
+round_next setup setup' es es' m fl rel now t p is = let was = t.holds.round in let one = ap round_of p.added ∙ round_more es Ticked in omega arith
+
+-- a tag that is free has no flight
+pub free_slot : (setup : Setup) (es : List Happened) (m : Meaning) (fl : List (Option Flight)) (rel tag : ℕ) → IsTied setup es m fl rel → tag < length fl → seat_at es tag ≡ None → get_or fl tag None ≡ None
+free_slot setup es m fl rel tag t lt free = by_flight (get_or fl tag None) refl
+  where
+    by_flight : (o : Option Flight) → get_or fl tag None ≡ o → get_or fl tag None ≡ None
+    by_flight None e = e
+    by_flight (Some f) e = absurd (let a : Some (seat_of f) ≡ None = sym (ap (option_map seat_of) e) ∙ t.seats tag lt ∙ free in cc)
 
 -- a pick is open where an Issue is
 pub open_issue : (setup : Setup) (es : List Happened) (m : Meaning) (fl : List (Option Flight)) (rel : ℕ) (P : Type 0) → IsTied setup es m fl rel → (0 < m.open_picks.reads + m.open_picks.writes) ⊎ P → (0 < open_count es) ⊎ P

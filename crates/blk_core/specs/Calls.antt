@@ -36,9 +36,11 @@ Places serves old bios hw (New id) new =
     × (id ≡ released_count old.events)
     × Adds old (Released id bios) new
     × (new.meaning ≡ record old.meaning { pending = map.insert old.meaning.pending id (newcomer old bios hw) })
+    × (new.kept ≡ old.kept)
 Places serves old bios hw (JoinedTo id side) new =
     Joins serves hw (round_of old.events) old.setup.limits bios old.meaning id side new.meaning
     × Adds old (Joined id bios) new
+    × (new.kept ≡ old.kept)
 
 -- what an issue does: an Issue of a served request, whose command is then the last one
 abbrev pub Issues : (ℕ → Waiting → Bool) → CoreState → ℕ → ℕ → Option Command → CoreState → Type 0

@@ -10,17 +10,18 @@ use Rattle.blk_bio.specs.Limits.{Limits}
 use Rattle.blk_bio.specs.Codes.{limits_code}
 use Rattle.blk_trace.specs.Setups.{Setup, IsSetup}
 use Rattle.blk_trace.specs.Happened.{Happened, Released, happened_code}
-use Rattle.blk_trace.specs.Events.{At}
+use Rattle.blk_trace.specs.Events.{At, round_of}
 use Rattle.blk_trace.specs.Legal.{IsLegalTrace}
 use Rattle.blk_trace.specs.Standing.{Entered, Seat, waits_at, waiting_count, seat_at, open_of, released_count, same_dir}
 use Rattle.blk_sched.specs.Meaning.{Waiting, Meaning, meaning_code}
 use Rattle.blk_core.specs.declared.Flight.{Flight}
 
--- a core: what it is set up for, what happened, and what its scheduler means
+-- a core: what it is set up for, what happened, what its scheduler means, and what that keeps of its own
 pub record CoreState : Type 0 where
   pub setup : Setup
   pub events : List Happened
   pub meaning : Meaning
+  pub kept : List ℕ
 
 -- a setup's code
 abbrev pub setup_code : Coded Setup
@@ -28,18 +29,19 @@ setup_code = code_by (ℕ × (ℕ × (ℕ × (ℕ × Limits)))) (coded× coded_�
 
 -- a core's code
 abbrev pub core_code : Coded CoreState
-core_code = code_by (Setup × (List Happened × Meaning)) (coded× setup_code (coded× (coded_list happened_code) meaning_code)) (λ c. (c.setup, (c.events, c.meaning))) (λ p. record { setup = p.0; events = p.1.0; meaning = p.1.1 }) (λ _. refl)
+core_code = code_by (Setup × (List Happened × (Meaning × List ℕ))) (coded× setup_code (coded× (coded_list happened_code) (coded× meaning_code (coded_list coded_ℕ)))) (λ c. (c.setup, (c.events, (c.meaning, c.kept)))) (λ p. record { setup = p.0; events = p.1.0; meaning = p.1.1.0; kept = p.1.1.1 }) (λ _. refl)
 
 -- a waiting request as the trace knows it
 abbrev pub entered_of : Waiting → Entered
 entered_of w = record { release = w.release; due = w.due; bios = w.bios }
 
--- the scheduler holds exactly what waits in the trace, as it was joined, and its open picks are the open Issues
+-- the scheduler holds exactly what waits in the trace, as it was joined, its open picks are the open Issues, and its round is the trace's
 pub record HoldsWhatWaits (setup : Setup) (events : List Happened) (m : Meaning) : Type 0 where
   pub pending : (id : ℕ) → option_map entered_of (map.get m.pending id) ≡ waits_at setup events id
   pub count : map.len m.pending ≡ waiting_count events
   pub reads : m.open_picks.reads ≡ open_of events Read
   pub writes : m.open_picks.writes ≡ open_of events Write
+  pub round : m.round ≡ round_of events
 
 -- the seat that a flight stands for
 abbrev pub seat_of : Flight → Seat

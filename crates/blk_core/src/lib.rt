@@ -5,7 +5,7 @@
 //! them, leaves a legal trace. Time is counted in rounds: a command takes one, and a tag is issued once in a round.
 #![tactic(auto)]
 
-ghost use Rattle.std.specs.Prelude.{◌≡◌, ◌<◌, ◌^◌, ◌++◌, ◌↔◌, IsTrue, OnOk, OnErr, IfSome, IfNone, length, replicate, None};
+ghost use Rattle.std.specs.Prelude.{◌≡◌, ◌<◌, ◌^◌, ◌++◌, ◌↔◌, IsTrue, OnOk, OnErr, IfOk, IfSome, IfNone, length, replicate, None};
 ghost use Rattle.blk_trace.specs.Events.{entered, AreOnce};
 ghost use Rattle.blk_trace.specs.Setups.{expire_of};
 ghost use Rattle.blk_trace.specs.declared.trace.Prepared.{Prepared};
@@ -15,7 +15,7 @@ pub mod laws;
 
 use blk_bio::bio::{Bio, BioId, Dir};
 use blk_bio::request::{Request, Side};
-use blk_sched::{JoinRefusal, Queued, Scheduler};
+use blk_sched::{Queued, Scheduler};
 use blk_trace::event::Event;
 use blk_trace::setup::Setup;
 use blk_trace::trace::{MAX_EVENTS, Trace};
@@ -114,7 +114,12 @@ impl<S: Scheduler> Model for Core<S> {
 
     ghost coded = { core_code };
 
-    ghost view = { λ c. record { setup = c.trace.setup; events = c.trace.events; meaning = S.meaning c.scheduler } };
+    ghost view = { λ c. record {
+      setup = c.trace.setup;
+      events = c.trace.events;
+      meaning = S.meaning c.scheduler;
+      kept = S.kept c.scheduler;
+    } };
 
     ghost invariant = { λ c. IsTied c.trace.setup c.trace.events (S.meaning c.scheduler) c.flights.items c.released };
 }
@@ -131,14 +136,16 @@ impl<S: Scheduler> Core<S> {
     ghost use Rattle.blk_core.specs.State.{HoldsWhatWaits};
     ghost use Rattle.blk_core.specs.Faults.{IsReleaseFault, CanRelease, IsIssueFault, CanIssue, IsTickFault, CanTick, IsInFlight};
     ghost use Rattle.blk_core.specs.Calls.{Places, Issues, Completes, Adds};
+    ghost use Rattle.blk_sched.specs.Meaning.{HasCandidate, HasNoCandidate};
 
-    /// A core without events, over a scheduler in which nothing waits and no pick is open. Fails for want of memory
-    /// alone, and the scheduler comes back then.
+    /// A core without events, over a scheduler in which nothing waits and no pick is open, in round 0. Fails for want of
+    /// memory alone, and the scheduler comes back then.
     pub fn new(alloc: S::A, setup: Setup, scheduler: S) -> Result<Core<S>, (S, AllocError)>
         requires nothing { (S.meaning scheduler).pending ≡ map.empty }
         requires reads { (S.meaning scheduler).open_picks.reads ≡ 0 }
         requires writes { (S.meaning scheduler).open_picks.writes ≡ 0 }
-        ensures ok { IfOk result (λ c. c ≡ record { setup = setup; events = []; meaning = S.meaning scheduler }) }
+        requires round { (S.meaning scheduler).round ≡ 0 }
+        ensures ok { IfOk result (λ c. c ≡ record { setup = setup; events = []; meaning = S.meaning scheduler; kept = S.kept scheduler }) }
         ensures err { IfErr result (λ e. e.0 ≡ scheduler) }
     {
         let Ok(spare) = alloc.clone() else {
@@ -184,41 +191,76 @@ impl<S: Scheduler> Core<S> {
         if let Some(why) = self.release_fault(&request, hw) {
             return Err((request, why));
         }
-        let Ok(copy) = request.copy() else {
+        let limits = self.trace.setup().limits();
+        match self.scheduler.candidate(hw, &limits, &request) {
+            Some((id, side)) => self.join(request, hw, id, side),
+            None => self.enter(request, hw),
+        }
+    }
+
+    /// Releases a request that may be released by a join to its candidate. Refused for want of memory alone.
+    fn join(
+        &mut self,
+        request: Request<S::A>,
+        hw: u8,
+        id: u64,
+        side: Side,
+    ) -> Result<Placed, (Request<S::A>, CoreFault)>
+        requires can { CanRelease self.old request hw }
+        requires stands { HasCandidate S.serves hw self.old.setup.limits request self.old.meaning id side }
+        ensures placed { IfOk result (λ placed. Places S.serves self.old request hw placed self.new) }
+        ensures err { IfErr result (λ e. e ≡ (request, CoreFault.Memory)) }
+        ensures same { OnErr result (self.new ≡ self.old) }
+    {
+        let Ok(copy) = prepared(&mut self.trace, &request) else {
             return Err((request, CoreFault::Memory));
         };
-        let Ok(()) = self.trace.prepare(Some(&copy)) else {
-            return Err((request, CoreFault::Memory));
-        };
-        let setup = self.trace.setup();
+        let limits = self.trace.setup().limits();
         let now = self.trace.round();
-        match self.scheduler.try_join(hw, now, &setup.limits(), request) {
-            Ok((id, side)) => match self.trace.push(Event::Join { id, request: copy }) {
-                Ok(()) => Ok(Placed::Joined(id, side)),
-                Err(_) => unreachable!(),
-            },
-            Err((request, JoinRefusal::Memory)) => Err((request, CoreFault::Memory)),
-            Err((request, JoinRefusal::NoFit)) => {
-                let id = self.released;
-                let expire = expire(&setup, request.dir());
-                let queued = Queued {
-                    id,
-                    hw,
-                    release: now,
-                    due: now + expire,
-                    request,
-                };
-                match self.scheduler.insert(queued) {
-                    Err((queued, _)) => Err((queued.request, CoreFault::Memory)),
-                    Ok(()) => match self.trace.push(Event::Release { id, request: copy }) {
-                        Ok(()) => {
-                            self.released += 1;
-                            Ok(Placed::New(id))
-                        }
-                        Err(_) => unreachable!(),
-                    },
-                }
+        if let Err((request, _)) = self.scheduler.join(hw, id, side, now, &limits, request) {
+            return Err((request, CoreFault::Memory));
+        }
+        match self.trace.push(Event::Join { id, request: copy }) {
+            Ok(()) => Ok(Placed::Joined(id, side)),
+            Err(_) => unreachable!(),
+        }
+    }
+
+    /// Releases a request that may be released and has no candidate under the next id. Refused for want of memory alone.
+    fn enter(
+        &mut self,
+        request: Request<S::A>,
+        hw: u8,
+    ) -> Result<Placed, (Request<S::A>, CoreFault)>
+        requires can { CanRelease self.old request hw }
+        requires within { IsWithin self.old.setup.limits request }
+        requires alone { HasNoCandidate S.serves hw self.old.setup.limits request self.old.meaning }
+        ensures placed { IfOk result (λ placed. Places S.serves self.old request hw placed self.new) }
+        ensures err { IfErr result (λ e. e ≡ (request, CoreFault.Memory)) }
+        ensures same { OnErr result (self.new ≡ self.old) }
+    {
+        let Ok(copy) = prepared(&mut self.trace, &request) else {
+            return Err((request, CoreFault::Memory));
+        };
+        let id = self.released;
+        let release = self.trace.round();
+        let expire = expire(&self.trace.setup(), request.dir());
+        let queued = Queued {
+            id,
+            hw,
+            release,
+            due: release + expire,
+            request,
+        };
+        if let Err((queued, _)) = self.scheduler.insert(queued) {
+            return Err((queued.request, CoreFault::Memory));
+        }
+        match self.trace.push(Event::Release { id, request: copy }) {
+            Ok(()) => {
+                self.released += 1;
+                Ok(Placed::New(id))
             }
+            Err(_) => unreachable!(),
         }
     }
 
@@ -254,19 +296,8 @@ impl<S: Scheduler> Core<S> {
         ensures fault { IfErr result (IsIssueFault self.old hw tag) }
         ensures same { OnErr result (self.new ≡ self.old) }
     {
-        let setup = self.trace.setup();
-        if hw >= setup.hw() {
-            return Err(IssueFault::NoQueue);
-        }
-        let slot = tag as usize;
-        if slot >= self.flights.len() {
-            return Err(IssueFault::TagRange);
-        }
-        if self.flights[slot].is_some() {
-            return Err(IssueFault::SlotUsed);
-        }
-        if self.trace.len() + self.trace.unfinished() + 2 > MAX_EVENTS {
-            return Err(IssueFault::TraceFull);
+        if let Some(why) = self.issue_fault(hw, tag) {
+            return Err(why);
         }
         let Ok(()) = prepare(&mut self.trace) else {
             return Err(IssueFault::Memory);
@@ -291,11 +322,32 @@ impl<S: Scheduler> Core<S> {
             tag,
         }) {
             Ok(()) => {
-                self.flights[slot] = Some(flight);
+                self.flights[tag as usize] = Some(flight);
                 Ok(Some(command))
             }
             Err(_) => unreachable!(),
         }
+    }
+
+    /// The first reason not to issue, memory aside.
+    fn issue_fault(&self, hw: u8, tag: u16) -> Option<IssueFault>
+        ensures some { IfSome result (IsIssueFault self.now hw tag) }
+        ensures none { IfNone result (CanIssue self.now hw tag) }
+    {
+        if hw >= self.trace.setup().hw() {
+            return Some(IssueFault::NoQueue);
+        }
+        let slot = tag as usize;
+        if slot >= self.flights.len() {
+            return Some(IssueFault::TagRange);
+        }
+        if self.flights[slot].is_some() {
+            return Some(IssueFault::SlotUsed);
+        }
+        if self.trace.len() + self.trace.unfinished() + 2 > MAX_EVENTS {
+            return Some(IssueFault::TraceFull);
+        }
+        None
     }
 
     /// Completes the command in flight under a tag. Refused exactly where there is none; takes no memory.
@@ -334,7 +386,7 @@ impl<S: Scheduler> Core<S> {
     pub fn tick(&mut self) -> Result<u64, TickFault>
         ensures ticked { OnOk result (Adds self.old Ticked self.new) }
         ensures round { IfOk result (λ round. round ≡ round_of self.new.events) }
-        ensures kept { OnOk result (self.new.meaning ≡ self.old.meaning) }
+        ensures kept { OnOk result (self.new.meaning ≡ record self.old.meaning { round = round_of self.new.events }) }
         ensures no_fault { OnOk result (CanTick self.old) }
         ensures fault { IfErr result (IsTickFault self.old) }
         ensures same { OnErr result (self.new ≡ self.old) }
@@ -404,6 +456,20 @@ fn expire(setup: &Setup, dir: Dir) -> u64
         Dir::Read => setup.read_expire(),
         Dir::Write => setup.write_expire(),
     }
+}
+
+/// A copy of a request, with room made for an event of it.
+fn prepared<A: Allocator + Clone>(
+    trace: &mut Trace<A>,
+    request: &Request<A>,
+) -> Result<Request<A>, AllocError>
+    ensures copy { IfOk result (λ copy. copy ≡ request.now) }
+    ensures ok { IfOk result (λ copy. trace.new ≡ record { setup = trace.old.setup; events = trace.old.events; prepared = Prepared.Bios (length copy) }) }
+    ensures err { OnErr result (trace.new ≡ trace.old) }
+{
+    let copy = request.copy()?;
+    trace.prepare(Some(&copy))?;
+    Ok(copy)
 }
 
 /// Makes room for an Issue with its Done, or for a Tick.

@@ -6,14 +6,15 @@ mod tests;
 
 ghost use Rattle.std.specs.Prelude.{◌≡◌, ◌≤◌, ◌<◌, ◌+◌, ◌^◌, ◌↔◌, ℕ, Bool, ◌⊎◌, IfOk, OnOk, IfErr, OnErr, IfSome, IfNone, IsTrue, None, true, [], length, slice_index_or};
 ghost use Rattle.std.specs.FinMap as map;
-ghost use Rattle.blk_sched.specs.Meaning.{Waiting, Meaning, HasNoCandidate, Joins, ServesNothing, Picks, opened, open_of};
+ghost use Rattle.blk_sched.specs.Meaning.{Waiting, Meaning, HasCandidate, HasNoCandidate, Joins, ServesNothing, Picks, opened, open_of};
 ghost use Rattle.blk_none.specs.Choice.{serves_own, none_choice};
 
 use blk_bio::bio::Dir;
 use blk_bio::limits::Limits;
 use blk_bio::request::{Request, Side};
 use blk_sched::lane::Lane;
-use blk_sched::{JoinRefusal, Queued, SchedFault, Scheduler};
+use blk_sched::picks::OpenPicks;
+use blk_sched::{Queued, SchedFault, Scheduler};
 use std::alloc::{AllocError, Allocator, Global};
 use std::marker::Model;
 
@@ -26,8 +27,8 @@ const QUEUES: usize = 16;
 pub struct NoneSched<A: Allocator = Global> {
     lanes: Vec<Lane<A>, A>,
     waiting: u64,
-    reads: u64,
-    writes: u64,
+    open_picks: OpenPicks,
+    round: u64,
 }
 
 impl<A: Allocator> Model for NoneSched<A> {
@@ -41,18 +42,19 @@ impl<A: Allocator> Model for NoneSched<A> {
 
     ghost view = { λ s. record {
       pending = pending_of s.lanes.items;
-      open_picks = record { reads = s.reads; writes = s.writes };
+      open_picks = s.open_picks;
       front = true;
+      round = s.round;
     } };
 
     ghost invariant = { λ s. Kept s.lanes.items s.waiting };
 }
 
 impl<A: Allocator + Clone> NoneSched<A> {
-    /// A scheduler for the hardware queues 0 to 15, in which nothing waits and no pick is open. Its only fault is
-    /// `Memory`.
+    /// A scheduler for the hardware queues 0 to 15, in which nothing waits and no pick is open, in round 0. Its only
+    /// fault is `Memory`.
     pub fn new(alloc: A) -> Result<NoneSched<A>, SchedFault>
-        ensures ok { IfOk result (λ s. s ≡ record { pending = map.empty; open_picks = record { reads = 0; writes = 0 }; front = true }) }
+        ensures ok { IfOk result (λ s. s ≡ record { pending = map.empty; open_picks = record { reads = 0; writes = 0 }; front = true; round = 0 }) }
         ensures err { IfErr result (λ e. e ≡ SchedFault.Memory) }
     {
         let Ok(lanes) = empty_lanes(alloc) else {
@@ -61,8 +63,8 @@ impl<A: Allocator + Clone> NoneSched<A> {
         Ok(NoneSched {
             lanes,
             waiting: 0,
-            reads: 0,
-            writes: 0,
+            open_picks: OpenPicks::none(),
+            round: 0,
         })
     }
 
@@ -83,21 +85,33 @@ impl<A: Allocator + Clone> NoneSched<A> {
         Ok(())
     }
 
-    /// Joins a newcomer to the newest request of the hardware queue that it fits, at either side.
+    /// The newest request of the hardware queue that a newcomer fits, at either side.
+    fn find(&self, hw: u8, limits: &Limits, newcomer: &Request<A>) -> Option<(u64, Side)>
+        requires { hw < 16 }
+        ensures some { IfSome result (λ r. HasCandidate serves_own hw limits.now newcomer.now self.now r.0 r.1) }
+        ensures none { IfNone result (HasNoCandidate serves_own hw limits.now newcomer.now self.now) }
+    {
+        self.lanes[hw as usize].candidate(newcomer, limits, true)
+    }
+
+    /// Joins a newcomer to its candidate, and hands it back where memory runs out.
     fn join(
         &mut self,
         hw: u8,
+        id: u64,
+        side: Side,
         now: u64,
         limits: &Limits,
         newcomer: Request<A>,
-    ) -> Result<(u64, Side), (Request<A>, JoinRefusal)>
-        requires { hw < 16 }
-        ensures joined { IfOk result (λ r. Joins serves_own hw now limits.now newcomer self.old r.0 r.1 self.new) }
-        ensures no_fit { IfErr result (λ e. (e.1 ≡ JoinRefusal.NoFit) ↔ HasNoCandidate serves_own hw limits.now newcomer self.old) }
-        ensures err { IfErr result (λ e. e.0 ≡ newcomer) }
+    ) -> Result<(), Request<A>>
+        requires hw { hw < 16 }
+        requires stands { HasCandidate serves_own hw limits.now newcomer self.old id side }
+        ensures joined { OnOk result (Joins serves_own hw now limits.now newcomer self.old id side self.new) }
+        ensures err { IfErr result (λ e. e ≡ newcomer) }
         ensures same { OnErr result (self.new ≡ self.old) }
     {
-        self.lanes[hw as usize].join_newest(newcomer, now, limits, true)
+        self.lanes[hw as usize].join_at(id, side, now, limits, newcomer)?;
+        Ok(())
     }
 }
 
@@ -133,21 +147,27 @@ impl<A: Allocator + Clone> Scheduler for NoneSched<A> {
         }
     }
 
-    fn join_from(
+    fn candidate(&self, hw: u8, limits: &Limits, newcomer: &Request<A>) -> Option<(u64, Side)> {
+        self.find(hw, limits, newcomer)
+    }
+
+    fn join_at(
         &mut self,
         hw: u8,
+        id: u64,
+        side: Side,
         now: u64,
         limits: &Limits,
         slot: &mut Option<Request<A>>,
-    ) -> Result<(u64, Side), JoinRefusal> {
+    ) -> Result<(), AllocError> {
         let Some(newcomer) = slot.take() else {
             unreachable!()
         };
-        match self.join(hw, now, limits, newcomer) {
-            Ok(joined) => Ok(joined),
-            Err((newcomer, why)) => {
+        match self.join(hw, id, side, now, limits, newcomer) {
+            Ok(()) => Ok(()),
+            Err(newcomer) => {
                 *slot = Some(newcomer);
-                Err(why)
+                Err(AllocError)
             }
         }
     }
@@ -155,6 +175,7 @@ impl<A: Allocator + Clone> Scheduler for NoneSched<A> {
     /// Hands out the request of the hardware queue that has waited longest: the one with the least id.
     fn pick(&mut self, hw: u8, now: u64) -> Option<Queued<A>>
         requires hw { hw < 16 }
+        requires round { now ≡ self.old.round }
         requires few { self.old.open_picks.reads + self.old.open_picks.writes < 256 }
         ensures choice { result ≡ none_choice hw self.old.pending }
         ensures picked { IfSome result (λ w. Picks serves_own hw self.old w self.new) }
@@ -167,23 +188,17 @@ impl<A: Allocator + Clone> Scheduler for NoneSched<A> {
             return None;
         };
         self.waiting -= 1;
-        match queued.request.dir() {
-            Dir::Read => self.reads += 1,
-            Dir::Write => self.writes += 1,
-        }
+        self.open_picks.open(queued.request.dir());
         Some(queued)
     }
 
     fn on_done(&mut self, hw: u8, dir: Dir, wait: u64) {
         let _ = (hw, wait);
-        match dir {
-            Dir::Read => self.reads -= 1,
-            Dir::Write => self.writes -= 1,
-        }
+        self.open_picks.close(dir);
     }
 
     fn on_tick(&mut self, now: u64) {
-        let _ = now;
+        self.round = now;
     }
 
     fn pending(&self) -> u64 {
@@ -191,9 +206,6 @@ impl<A: Allocator + Clone> Scheduler for NoneSched<A> {
     }
 
     fn picked(&self, dir: Dir) -> u64 {
-        match dir {
-            Dir::Read => self.reads,
-            Dir::Write => self.writes,
-        }
+        self.open_picks.of(dir)
     }
 }

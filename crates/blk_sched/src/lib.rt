@@ -4,15 +4,16 @@
 #[cfg(test)]
 mod tests;
 
-ghost use Rattle.std.specs.Prelude.{◌≡◌, ◌<◌, ◌+◌, ◌↔◌, ℕ, Bool, ◌⊎◌, IfOk, OnOk, IfErr, OnErr, IfSome, IfNone, IsSome, IsTrue, None};
+ghost use Rattle.std.specs.Prelude.{◌≡◌, ◌<◌, ◌+◌, ◌↔◌, ℕ, Bool, List, [], ◌⊎◌, IfOk, OnOk, IfErr, OnErr, IfSome, IfNone, IsSome, IsTrue, None};
 ghost use Rattle.std.specs.FinMap as map;
 ghost use Rattle.blk_bio.specs.Requests.{Fits};
 ghost use Rattle.blk_bio.specs.Answers.{IsJoinAnswer};
 ghost use Rattle.blk_bio.specs.declared.request.Side.{Side};
-ghost use Rattle.blk_sched.specs.Meaning.{Waiting, Meaning, HasNoCandidate, Joins, ServesNothing, Picks, joined_waiting, opened, open_of};
+ghost use Rattle.blk_sched.specs.Meaning.{Waiting, Meaning, HasCandidate, HasNoCandidate, Joins, ServesNothing, Picks, joined_waiting, opened, open_of};
 
 pub mod fits;
 pub mod lane;
+pub mod picks;
 
 use blk_bio::bio::Dir;
 use blk_bio::limits::Limits;
@@ -59,6 +60,7 @@ impl<A: Allocator + Clone> Queued<A> {
         // what fits is refused for want of memory alone
         ensures accepts { (side : Side) → Fits limits.now self.old.bios newcomer side → IfErr result (λ e. e.1 ≡ JoinFault.Memory) }
         ensures fits { IfOk result (Fits limits.now self.old.bios newcomer) }
+        ensures only { IfOk result (λ found. (side : Side) → Fits limits.now self.old.bios newcomer side → side ≡ found) }
         ensures ok { IfOk result (λ side. self.new ≡ joined_waiting side now newcomer self.old) }
         ensures err { IfErr result (λ e. e.0 ≡ newcomer) }
         ensures same { OnErr result (self.new ≡ self.old) }
@@ -100,11 +102,15 @@ pub trait Scheduler: Drop {
     /// What its requests are allocated by.
     type A: Allocator + Clone;
 
-    /// What waits, how many picks of each direction are open, and whether a newcomer may join at the front.
+    /// What waits, how many picks of each direction are open, whether a newcomer may join at the front, and the round.
     ghost meaning: { Self → Meaning };
 
     /// Whether a pick for a hardware queue may take a request.
     ghost serves: { ℕ → Waiting → Bool };
+
+    /// What a scheduler keeps beside its meaning, as its turn or its settings, listed as numbers: inserts, joins and
+    /// picks of nothing leave it. A scheduler that keeps no more has nothing in the list.
+    ghost kept: { Self → List ℕ } = { λ _. [] };
 
     /// What an implementation writes for `insert`: takes the request out of the slot, and on a refusal leaves it there.
     fn enter(&mut self, slot: &mut Option<Queued<Self::A>>) -> Result<(), AllocError>
@@ -112,6 +118,7 @@ pub trait Scheduler: Drop {
         requires new { IfSome slot.old (λ w. map.get (meaning self.old).pending w.id ≡ None) }
         requires hw { IfSome slot.old (λ w. w.hw < 16) }
         ensures ok { OnOk result (IfSome slot.old (λ w. meaning self.new ≡ record (meaning self.old) { pending = map.insert (meaning self.old).pending w.id w })) }
+        ensures kept { OnOk result (Self.kept self.new ≡ Self.kept self.old) }
         ensures err { OnErr result (slot.new ≡ slot.old) }
         ensures same { OnErr result (self.new ≡ self.old) };
 
@@ -121,6 +128,7 @@ pub trait Scheduler: Drop {
         requires new { map.get (meaning self.old).pending queued.id ≡ None }
         requires hw { queued.hw < 16 }
         ensures ok { OnOk result (meaning self.new ≡ record (meaning self.old) { pending = map.insert (meaning self.old).pending queued.id queued }) }
+        ensures kept { OnOk result (Self.kept self.new ≡ Self.kept self.old) }
         ensures err { IfErr result (λ e. e.0 ≡ queued) }
         ensures same { OnErr result (self.new ≡ self.old) }
     {
@@ -131,25 +139,63 @@ pub trait Scheduler: Drop {
         }
     }
 
-    /// What an implementation writes for `try_join`: takes the newcomer out of the slot, and on a refusal leaves it
-    /// there.
-    fn join_from(
+    /// The request that a newcomer joins: the newest served for the hardware queue that it fits, with the side, which
+    /// is the back where it fits both. None exactly where it fits none of them, at the back or, where the scheduler
+    /// allows it, at the front.
+    fn candidate(&self, hw: u8, limits: &Limits, newcomer: &Request<Self::A>) -> Option<(u64, Side)>
+        requires { hw < 16 }
+        ensures some { IfSome result (λ r. HasCandidate serves hw limits.now newcomer.now (meaning self.now) r.0 r.1) }
+        ensures none { IfNone result (HasNoCandidate serves hw limits.now newcomer.now (meaning self.now)) };
+
+    /// What an implementation writes for `join`: takes the newcomer out of the slot, and on a refusal leaves it there.
+    fn join_at(
         &mut self,
         hw: u8,
+        id: u64,
+        side: Side,
         now: u64,
         limits: &Limits,
         slot: &mut Option<Request<Self::A>>,
-    ) -> Result<(u64, Side), JoinRefusal>
+    ) -> Result<(), AllocError>
         requires hw { hw < 16 }
+        requires round { now ≡ (meaning self.old).round }
         requires some { IsSome slot.old }
-        ensures joined { IfOk result (λ r. IfSome slot.old (λ newcomer. Joins serves hw now limits.now newcomer (meaning self.old) r.0 r.1 (meaning self.new))) }
-        ensures no_fit { IfErr result (λ e. IfSome slot.old (λ newcomer. (e ≡ JoinRefusal.NoFit) ↔ HasNoCandidate serves hw limits.now newcomer (meaning self.old))) }
+        requires stands { IfSome slot.old (λ newcomer. HasCandidate serves hw limits.now newcomer (meaning self.old) id side) }
+        ensures joined { OnOk result (IfSome slot.old (λ newcomer. Joins serves hw now limits.now newcomer (meaning self.old) id side (meaning self.new))) }
+        ensures kept { OnOk result (Self.kept self.new ≡ Self.kept self.old) }
         ensures err { OnErr result (slot.new ≡ slot.old) }
         ensures same { OnErr result (self.new ≡ self.old) };
 
+    /// Joins a newcomer to the request of an id at a side, which must be its candidate: `now`, which is the round,
+    /// becomes that request's release; its id, hardware queue and due round stay. Refused for want of memory alone:
+    /// nothing is changed then, and the newcomer comes back.
+    final fn join(
+        &mut self,
+        hw: u8,
+        id: u64,
+        side: Side,
+        now: u64,
+        limits: &Limits,
+        newcomer: Request<Self::A>,
+    ) -> Result<(), (Request<Self::A>, AllocError)>
+        requires hw { hw < 16 }
+        requires round { now ≡ (meaning self.old).round }
+        requires stands { HasCandidate serves hw limits.now newcomer (meaning self.old) id side }
+        ensures joined { OnOk result (Joins serves hw now limits.now newcomer (meaning self.old) id side (meaning self.new)) }
+        ensures kept { OnOk result (Self.kept self.new ≡ Self.kept self.old) }
+        ensures err { IfErr result (λ e. e.0 ≡ newcomer) }
+        ensures same { OnErr result (self.new ≡ self.old) }
+    {
+        let mut slot = Some(newcomer);
+        match self.join_at(hw, id, side, now, limits, &mut slot) {
+            Ok(()) => Ok(()),
+            Err(why) => Err((slot.unwrap(), why)),
+        }
+    }
+
     /// Joins a newcomer to the newest request served for the hardware queue that it fits, at the back where it fits
-    /// both sides: `now` becomes that request's release; its id, hardware queue and due round stay. Answers the
-    /// request's id and the side.
+    /// both sides: `now`, which is the round, becomes that request's release; its id, hardware queue and due round
+    /// stay. Answers the request's id and the side.
     ///
     /// Refused as `NoFit` exactly where it fits none of them, at the back or, where the scheduler allows it, at the
     /// front; and as `Memory` where it fits one and memory ran out. A refusal changes nothing and hands the newcomer
@@ -161,28 +207,34 @@ pub trait Scheduler: Drop {
         limits: &Limits,
         newcomer: Request<Self::A>,
     ) -> Result<(u64, Side), (Request<Self::A>, JoinRefusal)>
-        requires { hw < 16 }
+        requires hw { hw < 16 }
+        requires round { now ≡ (meaning self.old).round }
         ensures joined { IfOk result (λ r. Joins serves hw now limits.now newcomer (meaning self.old) r.0 r.1 (meaning self.new)) }
+        ensures kept { OnOk result (Self.kept self.new ≡ Self.kept self.old) }
         ensures no_fit { IfErr result (λ e. (e.1 ≡ JoinRefusal.NoFit) ↔ HasNoCandidate serves hw limits.now newcomer (meaning self.old)) }
         ensures err { IfErr result (λ e. e.0 ≡ newcomer) }
         ensures same { OnErr result (self.new ≡ self.old) }
     {
-        let mut slot = Some(newcomer);
-        match self.join_from(hw, now, limits, &mut slot) {
-            Ok(joined) => Ok(joined),
-            Err(why) => Err((slot.unwrap(), why)),
+        let Some((id, side)) = self.candidate(hw, limits, &newcomer) else {
+            return Err((newcomer, JoinRefusal::NoFit));
+        };
+        match self.join(hw, id, side, now, limits, newcomer) {
+            Ok(()) => Ok((id, side)),
+            Err((newcomer, _)) => Err((newcomer, JoinRefusal::Memory)),
         }
     }
 
     /// Takes out one request that is served for the hardware queue and opens one pick of its direction. None only
     /// where a pick is open, of either direction, or no served request waits. Each request is served for the hardware
-    /// queue that it entered at, at least.
+    /// queue that it entered at, at least. `now` must be the round.
     fn pick(&mut self, hw: u8, now: u64) -> Option<Queued<Self::A>>
         requires hw { hw < 16 }
+        requires round { now ≡ (meaning self.old).round }
         requires few { (meaning self.old).open_picks.reads + (meaning self.old).open_picks.writes < 256 }
         ensures picked { IfSome result (λ w. Picks serves hw (meaning self.old) w (meaning self.new)) }
         ensures none { IfNone result ((0 < (meaning self.old).open_picks.reads + (meaning self.old).open_picks.writes) ⊎ ServesNothing serves hw (meaning self.old)) }
         ensures same { IfNone result (meaning self.new ≡ meaning self.old) }
+        ensures kept { IfNone result (Self.kept self.new ≡ Self.kept self.old) }
         ensures own { (w : Waiting) → IsTrue (serves w.hw w) };
 
     /// Closes an open pick of a direction; `wait` is the number of rounds from the release of the request that was picked
@@ -192,9 +244,10 @@ pub trait Scheduler: Drop {
         requires is_open { 0 < open_of dir (meaning self.old).open_picks }
         ensures { meaning self.old ≡ record (meaning self.new) { open_picks = opened dir (meaning self.new).open_picks } };
 
-    /// Tells that the round `now` began.
+    /// Tells that the round `now` began, which must be a later one.
     fn on_tick(&mut self, now: u64)
-        ensures { meaning self.new ≡ meaning self.old };
+        requires { (meaning self.old).round < now }
+        ensures { meaning self.new ≡ record (meaning self.old) { round = now } };
 
     /// How many requests wait.
     fn pending(&self) -> u64

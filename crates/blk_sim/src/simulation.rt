@@ -113,6 +113,7 @@ impl<S: Scheduler> Simulation<S> {
         requires nothing { (S.meaning scheduler).pending ≡ fin.empty }
         requires reads { (S.meaning scheduler).open_picks.reads ≡ 0 }
         requires writes { (S.meaning scheduler).open_picks.writes ≡ 0 }
+        requires round { (S.meaning scheduler).round ≡ 0 }
         ensures setup { IfOk result (λ s. s.core.setup ≡ script.now.setup) }
         ensures events { IfOk result (λ s. s.core.events ≡ []) }
         ensures count { IfOk result (λ s. length s.plugs.items ≡ script.now.submitters) }
@@ -218,6 +219,7 @@ pub fn simulate<S: Scheduler>(
     requires nothing { (S.meaning scheduler).pending ≡ fin.empty }
     requires reads { (S.meaning scheduler).open_picks.reads ≡ 0 }
     requires writes { (S.meaning scheduler).open_picks.writes ≡ 0 }
+    requires round { (S.meaning scheduler).round ≡ 0 }
     ensures setup { IfOk result (λ trace. trace.setup ≡ script.now.setup) }
     ensures legal { IfOk result (λ trace. IsLegalTrace trace.setup trace.events) }
     ensures bios { IfOk result (λ trace. IsPermutation (entered trace.events) (released_bios script.now.setup.hw script.now.lines.items)) }

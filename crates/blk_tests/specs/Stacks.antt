@@ -51,10 +51,24 @@ abbrev pub IsNewestOf : Limits → List Bio → List Waiting → ℕ → Option 
 IsNewestOf limits newcomer requests until None = FitsNoneOf limits newcomer requests until
 IsNewestOf limits newcomer requests until (Some place) = IsNewest limits newcomer requests until place
 
--- the request at a place is joined by a newcomer at a side, and the others stay
-pub record JoinsPlace (limits : Limits) (now : ℕ) (newcomer : List Bio) (old : List Waiting) (place id : ℕ) (side : Side) (new : List Waiting) : Type 0 where
+-- the request at a place has the id, and a newcomer fits it at the side
+abbrev pub IsFitAt : Limits → List Bio → List Waiting → ℕ → ℕ → Side → Type 0
+IsFitAt limits newcomer requests place id side =
+    (w : Waiting) × (slice_get requests place ≡ Some w) × (w.id ≡ id) × Fits limits w.bios newcomer side
+
+-- the request at a place has the id
+abbrev pub IsPlaceOf : List Waiting → ℕ → ℕ → Type 0
+IsPlaceOf requests id place = (w : Waiting) × (slice_get requests place ≡ Some w) × (w.id ≡ id)
+
+-- none of the requests before a place has the id
+abbrev pub IsNotBefore : List Waiting → ℕ → ℕ → Type 0
+IsNotBefore requests id until = (k : ℕ) (w : Waiting) → k < until → slice_get requests k ≡ Some w → w.id ≡ id → ⊥
+
+-- the request at a place is joined by a newcomer at the side at which it fits, and the others stay
+pub record JoinsPlace (limits : Limits) (now : ℕ) (newcomer : List Bio) (old : List Waiting) (place : ℕ) (new : List Waiting) : Type 0 where
   pub waiting : Waiting
+  pub side : Side
   pub stands : slice_get old place ≡ Some waiting
-  pub is_id : id ≡ waiting.id
   pub fits : Fits limits waiting.bios newcomer side
+  pub only : (other : Side) → Fits limits waiting.bios newcomer other → other ≡ side
   pub changed : new ≡ slice_set old place (joined_waiting side now newcomer waiting)

@@ -6,7 +6,7 @@ use blk_bio::bio::{Bio, Dir};
 use blk_bio::limits::Limits;
 use blk_bio::request::{Request, Side};
 use blk_core::{Core, Placed};
-use blk_sched::{JoinRefusal, Queued, Scheduler};
+use blk_sched::{Queued, Scheduler};
 use std::alloc::AllocError;
 use std::cell::Cell;
 use std::test::Fail;
@@ -45,18 +45,26 @@ impl<'a, S: Scheduler> Scheduler for Noting<'a, S> {
 
     ghost serves = { S.serves };
 
+    ghost kept = { λ n. S.kept n.scheduler };
+
     fn enter(&mut self, slot: &mut Option<Queued<S::A>>) -> Result<(), AllocError> {
         self.scheduler.enter(slot)
     }
 
-    fn join_from(
+    fn candidate(&self, hw: u8, limits: &Limits, newcomer: &Request<S::A>) -> Option<(u64, Side)> {
+        self.scheduler.candidate(hw, limits, newcomer)
+    }
+
+    fn join_at(
         &mut self,
         hw: u8,
+        id: u64,
+        side: Side,
         now: u64,
         limits: &Limits,
         slot: &mut Option<Request<S::A>>,
-    ) -> Result<(u64, Side), JoinRefusal> {
-        self.scheduler.join_from(hw, now, limits, slot)
+    ) -> Result<(), AllocError> {
+        self.scheduler.join_at(hw, id, side, now, limits, slot)
     }
 
     fn pick(&mut self, hw: u8, now: u64) -> Option<Queued<S::A>> {

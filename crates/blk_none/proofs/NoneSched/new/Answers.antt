@@ -1,5 +1,6 @@
-use Rattle.std.proofs.Common.{ap, true}
-use Rattle.blk_sched.specs.Meaning.{Meaning, Pending}
+use Rattle.std.proofs.Common.{ap, true, ◌∙◌}
+use Rattle.std.specs.FinMap as map
+use Rattle.blk_sched.specs.Meaning.{Meaning, OpenPicks, Pending}
 use Rattle.blk_none.proofs.Turns.{empty_kept, none_pending}
 use Rattle.blk_none.proofs.NoneSched.new.Goals as goal
 
@@ -7,4 +8,6 @@ pub invariant_of-result : goal.invariant_of-result
 invariant_of-result g c = empty_kept c.in-Ok.lanes.items c.in-Ok.ensures.count c.in-Ok.ensures.empty
 
 pub returns-clause-ok : goal.returns-clause-ok
-returns-clause-ok g c = ap (λ (x : Pending). let m : Meaning = record { pending = x; open_picks = record { reads = 0; writes = 0 }; front = true } in m) (none_pending c.in-Ok.lanes.items c.in-Ok.ensures.empty)
+returns-clause-ok g c =
+    ap (λ (x : Pending). let m : Meaning = record { pending = x; open_picks = c.none.result; front = true; round = 0 } in m) (none_pending c.in-Ok.lanes.items c.in-Ok.ensures.empty)
+    ∙ ap (λ (p : OpenPicks). let m : Meaning = record { pending = map.empty; open_picks = p; front = true; round = 0 } in m) c.none.ensures
