@@ -9,5 +9,3 @@
 pub mod bio;
 pub mod limits;
 pub mod request;
-#[cfg(test)]
-mod tests;
