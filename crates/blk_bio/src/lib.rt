@@ -10,5 +10,3 @@ pub mod bio;
 pub mod extent;
 pub mod limits;
 pub mod request;
-#[cfg(test)]
-mod tests;

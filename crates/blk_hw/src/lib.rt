@@ -4,9 +4,6 @@
 //! (`blk_mq_queue_map`).
 #![tactic(auto)]
 
-#[cfg(test)]
-mod tests;
-
 ghost use Rattle.std.specs.Prelude.{◌≡◌, ◌<◌, ◌≤◌, ◌+◌, ◌++◌, ◌∷◌, [], ◌↔◌, ℕ, IsTrue, All, Any, Contains, IfOk, IfErr, OnOk, OnErr, IfSome, IfNone, length, slice_index};
 ghost use Rattle.std.specs.Bool.{OnTrue, OnFalse};
 ghost use Rattle.blk_hw.specs.Maps.{greatest_hw, IsMap, IsHwCount, IsCounted, IsMapAnswer};

@@ -8,5 +8,3 @@
 
 mod candidate;
 pub mod plug;
-#[cfg(test)]
-mod tests;

@@ -4,9 +4,6 @@
 //! stand in it after they left a plug and before they enter the scheduler of a hardware queue.
 #![tactic(auto)]
 
-#[cfg(test)]
-mod tests;
-
 ghost use Rattle.std.specs.Prelude.{◌≡◌, ◌++◌, ◌∷◌, [], ◌+◌, ◌≤◌, ◌<◌, ◌^◌, ◌⊎◌, ◌↔◌, IsErr, IfOk, IfErr, OnOk, OnErr, IfSome, IfNone, length};
 ghost use Rattle.blk_bio.specs.Requests.{IsWithin};
 ghost use Rattle.blk_soft.specs.Queues.{greatest_depth, most_bios, Queue, IsQueue};

@@ -1,0 +1,13 @@
+//! Tests of what lies between a submitter and a scheduler: bios, requests, plugs, software queues, maps and held lists.
+#![tactic(auto)]
+
+#[cfg(test)]
+mod bios;
+#[cfg(test)]
+mod given;
+#[cfg(test)]
+mod hardware;
+#[cfg(test)]
+mod plugs;
+#[cfg(test)]
+mod software;
