@@ -262,17 +262,31 @@ def processors():
     return max(len(os.sched_getaffinity(0)), 1)
 
 
+def side_by_side(work, cases):
+    """Yields each case's name and what work gives for it, in their order; works on as many at once as there are processors."""
+    with concurrent.futures.ThreadPoolExecutor(processors()) as pool:
+        try:
+            for name, outcome in [(name, pool.submit(work, case)) for name, case in cases]:
+                yield name, outcome.result()
+        finally:
+            # where this is ended, what hasn't begun never does
+            pool.shutdown(wait=False, cancel_futures=True)
+
+
 def run_all(program, cases):
     """Runs cases side by side, says what is wrong with each that fails, and how many passed and failed."""
     failed = 0
-    with concurrent.futures.ThreadPoolExecutor(processors()) as pool:
-        told = [(name, pool.submit(judge, program, case)) for name, case in cases]
-        for name, outcome in told:
-            if outcome.result():
-                failed += 1
-                print(f"case {name}:\n{outcome.result()}", end="", flush=True)
+    for name, told in side_by_side(lambda it: judge(program, it), cases):
+        if told:
+            failed += 1
+            print(f"case {name}:\n{told}", end="", flush=True)
     print(f"{len(cases) - failed} passed, {failed} failed", flush=True)
     return failed
+
+
+def ended(number, _):
+    """Ends this command as a signal does that it was sent, after what it left to do."""
+    sys.exit(128 + number)
 
 
 def chosen(words):
@@ -311,4 +325,5 @@ def main(words):
 
 
 if __name__ == "__main__":
+    signal.signal(signal.SIGTERM, ended)
     sys.exit(main(sys.argv[1:]))

@@ -1,5 +1,5 @@
 # shellcheck shell=bash
-# What ./blk and ./test share: from which sources the program is built, whether it is, how it is built, and how what was
+# What ./blk, ./test and bench/run share: from which sources the program is built, whether it is, how it is built, and how what was
 # started ends. Read by bash with `top`, the repository, and `name`, the command's own name, set.
 : "${top:?}" "${name:?}"
 unset CDPATH
@@ -64,6 +64,8 @@ end_by() {
 make_scratch() {
   local signal
   scratch=$(mktemp -d 2>/dev/null) || fail "the temporary folder ${TMPDIR:-/tmp} can't be used"
+  # the gate runs programs as nobody, in folders below this one
+  chmod 711 "$scratch"
   trap clean EXIT
   for signal in HUP INT QUIT PIPE TERM; do
     # shellcheck disable=SC2064 # the signal's name is to stand in the trap
