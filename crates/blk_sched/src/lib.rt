@@ -12,8 +12,10 @@ ghost use Rattle.blk_bio.specs.declared.request.Side.{Side};
 ghost use Rattle.blk_sched.specs.Meaning.{Waiting, Meaning, HasCandidate, HasNoCandidate, Joins, ServesNothing, Picks, joined_waiting, opened, open_of};
 
 pub mod fits;
+pub mod index;
 pub mod lane;
 pub mod picks;
+pub mod spots;
 
 use blk_bio::bio::Dir;
 use blk_bio::limits::Limits;

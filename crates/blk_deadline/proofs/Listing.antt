@@ -1,0 +1,217 @@
+-- The next request of a direction, over the list of what waits.
+use Rattle.std.proofs.Common.{◌≡◌, ◌<◌, ◌≤◌, ◌==◌, ◌&&◌, ◌||◌, inl, inr, ℕ, Bool, true, false, cond, sym, ap, subst, ◌∙◌, refl, arith, Some, None, Option, List, [], ◌∷◌}
+use Rattle.std.specs.Prelude.{if◌then◌else◌, nat_lt, T}
+use Rattle.std.proofs.lemmas.Bool.{ltb-true, ltb-false, eqb-true, eq-eqb, cases_lt, cases_eq}
+use Rattle.std.specs.Ordering.{nat_cmp, is_eq, is_lt, ordering_reverse}
+use Rattle.std.specs.BTreeMap.{is_at}
+use Rattle.std.specs.Map.{lookup, keys_of, values_of}
+use Rattle.std.specs.Cmp.{nat_cmp_total, tied_itself}
+use Rattle.std.specs.FinMap.{find, get, entries, values, entries_sorted, get-entries, nat_cmp-IsAntisymmetric}
+use Rattle.std.specs.FinMap.Entries.{below_all, is_sorted}
+use Rattle.std.specs.List.{AllByRecursion, filter}
+use Rattle.std.specs.List.Sorted.{IsStrictlySortedBy}
+use Rattle.std.proofs.lemmas.Map.Keys.{sorted_head, sorted_tail}
+use Rattle.std.specs.declared.cmp.Ordering.{Ordering}
+use Rattle.std.specs.declared.cmp.Ordering.TheVariants.{Less, Equal, Greater}
+use Rattle.blk_bio.specs.declared.bio.Dir.{Dir}
+use Rattle.blk_bio.specs.Requests.{dir_of, first_of}
+use Rattle.blk_sched.specs.Meaning.{Waiting, Pending}
+use Rattle.blk_sched.specs.Index.{IsNext, NoNext, IsBefore}
+use Rattle.blk_deadline.specs.declared.Last.{Last}
+use Rattle.blk_deadline.specs.Choice.{is_of, comes_before, first_of_two, first_by, next_of}
+use Rattle.blk_deadline.proofs.Served.{same_is, is_same_dir}
+
+-- a look-up by a test of ids
+find_waiting : (es : List (ℕ × Waiting)) (q : ℕ) → find nat_cmp q es ≡ lookup (is_at (nat_cmp q)) es
+find_waiting [] q = refl
+find_waiting (e ∷ es) q = ap (cond (is_at (nat_cmp q) e.0) (Some e.1)) (find_waiting es q)
+
+-- of two orderings the equal one
+is_equal : (o : Ordering) → is_eq o ≡ true → o ≡ Equal
+is_equal Less h = cc
+is_equal Equal h = refl
+is_equal Greater h = cc
+
+-- of two orderings the one below
+is_less : (o : Ordering) → T (is_lt o) → o ≡ Less
+is_less Less h = refl
+is_less Equal h = absurd h
+is_less Greater h = absurd h
+
+-- both of two tests
+first : (a b : Bool) → T (a && b) → T a
+first true b h = tt
+first false b h = h
+
+second : (a b : Bool) → T (a && b) → T b
+second true b h = h
+second false b h = absurd h
+
+-- a finite map's entries are in the order of their keys
+below_each : (x : ℕ) (es : List (ℕ × Waiting)) → T (below_all nat_cmp x es) → AllByRecursion (λ y. nat_cmp x y ≡ Less) (keys_of es)
+below_each x [] h = tt
+below_each x (e ∷ es) h = (is_less (nat_cmp x e.0) (first (is_lt (nat_cmp x e.0)) (below_all nat_cmp x es) h), below_each x es (second (is_lt (nat_cmp x e.0)) (below_all nat_cmp x es) h))
+
+in_order : (es : List (ℕ × Waiting)) → T (is_sorted nat_cmp es) → IsStrictlySortedBy nat_cmp (keys_of es)
+unfolding IsStrictlySortedBy
+in_order [] h = tt
+in_order (e ∷ es) h = (below_each e.0 es (first (below_all nat_cmp e.0 es) (is_sorted nat_cmp es) h), in_order es (second (below_all nat_cmp e.0 es) (is_sorted nat_cmp es) h))
+
+-- what is found among greater keys is greater
+rising : (x k : ℕ) (v : Waiting) (es : List (ℕ × Waiting)) → AllByRecursion (λ y. nat_cmp x y ≡ Less) (keys_of es) → lookup (is_at (nat_cmp k)) es ≡ Some v → nat_cmp x k ≡ Less
+rising x k v [] h f = cc
+rising x k v (e ∷ es) h f =
+    elim (is_eq (nat_cmp k e.0)) as (λ b. is_eq (nat_cmp k e.0) ≡ b → cond b (Some e.1) (lookup (is_at (nat_cmp k)) es) ≡ Some v → nat_cmp x k ≡ Less) [
+      | true ↦ λ t _. ap (nat_cmp x) (nat_cmp-IsAntisymmetric k e.0 (is_equal (nat_cmp k e.0) t)) ∙ h.0
+      | false ↦ λ _ g. rising x k v es h.1 g
+    ] refl f
+
+-- what is found among greater keys is found beside the least
+behind : (e : ℕ × Waiting) (es : List (ℕ × Waiting)) (k : ℕ) (v : Waiting) → AllByRecursion (λ y. nat_cmp e.0 y ≡ Less) (keys_of es) → lookup (is_at (nat_cmp k)) es ≡ Some v → lookup (is_at (nat_cmp k)) (e ∷ es) ≡ Some v
+behind e es k v h f = ap (λ o. cond (is_eq o) (Some e.1) (lookup (is_at (nat_cmp k)) es)) (nat_cmp_total.antisymm k e.0 ∙ ap ordering_reverse (rising e.0 k v es h f)) ∙ f
+
+-- the first entry is found
+at_front : (e : ℕ × Waiting) (es : List (ℕ × Waiting)) → lookup (is_at (nat_cmp e.0)) (e ∷ es) ≡ Some e.1
+at_front e es = ap (λ o. cond (is_eq o) (Some e.1) (lookup (is_at (nat_cmp e.0)) es)) (tied_itself nat_cmp_total e.0)
+
+looked_up : (m : Pending) (q : ℕ) → get m q ≡ lookup (is_at (nat_cmp q)) (entries m)
+looked_up m q = get-entries m q ∙ find_waiting (entries m) q
+
+-- ---- tests
+
+or_true : (b : Bool) → (b || true) ≡ true
+or_true true = refl
+or_true false = refl
+
+left : (a b : Bool) → (a && b) ≡ true → a ≡ true
+left true b h = refl
+left false b h = h
+
+right : (a b : Bool) → (a && b) ≡ true → b ≡ true
+right true b h = h
+right false b h = cc
+
+below_other : (a b : ℕ) → a ≤ b → (a ≡ b → ⊥) → a < b
+below_other a b le differ = elim (cases_eq a b) [ inl same ↦ absurd (differ same) | inr other ↦ omega arith ]
+
+apart : (id k : ℕ) → is_eq (nat_cmp id k) ≡ false → id ≡ k → ⊥
+apart id k e same = let a : true ≡ false = sym (ap is_eq (tied_itself nat_cmp_total id)) ∙ ap (λ n. is_eq (nat_cmp id n)) same ∙ e in cc
+
+-- ---- before, as a test and as a fact
+
+lt_holds : (a b : ℕ) → a < b → nat_lt a b ≡ true
+lt_holds a b h = elim (nat_lt a b) as (λ t. nat_lt a b ≡ t → t ≡ true) [
+  | true ↦ λ _. refl
+  | false ↦ λ e. let more = ltb-false a b e in absurd (omega arith)
+] refl
+
+is_before : (f i g j : ℕ) → IsBefore f i g j → comes_before f i g j ≡ true
+is_before f i g j (inl lt) = ap (λ b. b || (f == g && nat_lt i j)) (lt_holds f g lt)
+is_before f i g j (inr (e, lt)) = ap (λ b. nat_lt f g || (b && nat_lt i j)) (eq-eqb f g e) ∙ ap (λ b. nat_lt f g || b) (lt_holds i j lt) ∙ or_true (nat_lt f g)
+
+from_before : (f i g j : ℕ) → comes_before f i g j ≡ true → IsBefore f i g j
+from_before f i g j h = elim (nat_lt f g) as (λ t. nat_lt f g ≡ t → t || (f == g && nat_lt i j) ≡ true → IsBefore f i g j) [
+  | true ↦ λ e _. inl (ltb-true f g e)
+  | false ↦ λ _ r. inr (eqb-true f g (left (f == g) (nat_lt i j) r), ltb-true i j (right (f == g) (nat_lt i j) r))
+] refl h
+
+-- of two that differ one comes first
+one_first : (f i g j : ℕ) → (i ≡ j → ⊥) → (comes_before f i g j ≡ true → ⊥) → comes_before g j f i ≡ true
+one_first f i g j differ not_before = elim (cases_lt g f) [
+  | inl lt ↦ is_before g j f i (inl lt)
+  | inr le ↦ elim (cases_eq f g) [
+    | inl same ↦ elim (cases_lt j i) [
+      | inl lt ↦ is_before g j f i (inr (sym same, lt))
+      | inr more ↦ absurd (let strict : i < j = below_other i j more differ in not_before (is_before f i g j (inr (same, strict))))
+    ]
+    | inr other ↦ absurd (not_before (is_before f i g j (inl (below_other f g le other))))
+  ]
+]
+
+-- ---- the first of a list
+
+abbrev Entries : Type 0
+Entries = List (ℕ × Waiting)
+
+abbrev before : Waiting → Waiting → Bool
+before v w = comes_before (first_of v.bios) v.id (first_of w.bios) w.id
+
+-- what comes first is there, and passes the test
+came_from : (p : Waiting → Bool) (es : Entries) → IsStrictlySortedBy nat_cmp (keys_of es) → (u : Waiting) → first_by (filter p (values_of es)) ≡ Some u → (k : ℕ) × (lookup (is_at (nat_cmp k)) es ≡ Some u) × (p u ≡ true)
+came_from p [] s u h = absurd (cc)
+came_from p (e ∷ es) s u h =
+    let tail = came_from p es (sorted_tail nat_cmp e.0 (keys_of es) s) in
+    let shift = (λ (v : Waiting) (c : (k : ℕ) × (lookup (is_at (nat_cmp k)) es ≡ Some v) × (p v ≡ true)). let r : (k : ℕ) × (lookup (is_at (nat_cmp k)) (e ∷ es) ≡ Some v) × (p v ≡ true) = (c.0, behind e es c.0 v (sorted_head nat_cmp e.0 (keys_of es) s) c.1, c.2) in r) in
+    elim (p e.1) as (λ b. p e.1 ≡ b → first_by (cond b (e.1 ∷ filter p (values_of es)) (filter p (values_of es))) ≡ Some u → (k : ℕ) × (lookup (is_at (nat_cmp k)) (e ∷ es) ≡ Some u) × (p u ≡ true)) [
+      | true ↦ λ passes g.
+          elim (first_by (filter p (values_of es))) as (λ o. first_by (filter p (values_of es)) ≡ o → first_of_two e.1 o ≡ Some u → (k : ℕ) × (lookup (is_at (nat_cmp k)) (e ∷ es) ≡ Some u) × (p u ≡ true)) [
+            | None ↦ λ _ r. let same : e.1 ≡ u = cc in (e.0, at_front e es ∙ r, ap p (sym same) ∙ passes)
+            | Some v ↦ λ is r. elim (before v e.1) as (λ t. (if t then Some v else Some e.1) ≡ Some u → (k : ℕ) × (lookup (is_at (nat_cmp k)) (e ∷ es) ≡ Some u) × (p u ≡ true)) [
+              | true ↦ λ q. shift u (tail u (is ∙ q))
+              | false ↦ λ q. let same : e.1 ≡ u = cc in (e.0, at_front e es ∙ q, ap p (sym same) ∙ passes)
+            ] r
+          ] refl g
+      | false ↦ λ _ g. shift u (tail u g)
+    ] refl h
+
+first_at : (p : Waiting → Bool) (es : Entries) → IsStrictlySortedBy nat_cmp (keys_of es) → ((k : ℕ) (v : Waiting) → lookup (is_at (nat_cmp k)) es ≡ Some v → v.id ≡ k) → (id : ℕ) (w : Waiting) → lookup (is_at (nat_cmp id)) es ≡ Some w → p w ≡ true → ((k : ℕ) (v : Waiting) → lookup (is_at (nat_cmp k)) es ≡ Some v → p v ≡ true → before v w ≡ true → ⊥) → first_by (filter p (values_of es)) ≡ Some w
+first_at p [] s named id w f pw least = absurd (cc)
+first_at p (e ∷ es) s named id w f pw least =
+    let above = sorted_head nat_cmp e.0 (keys_of es) s in
+    let tail_sorted = sorted_tail nat_cmp e.0 (keys_of es) s in
+    elim (is_eq (nat_cmp id e.0)) as (λ b. is_eq (nat_cmp id e.0) ≡ b → cond b (Some e.1) (lookup (is_at (nat_cmp id)) es) ≡ Some w → first_by (filter p (e.1 ∷ values_of es)) ≡ Some w) [
+      | true ↦ λ _ g.
+          let same : e.1 ≡ w = cc in
+          ap (λ b. first_by (cond b (e.1 ∷ filter p (values_of es)) (filter p (values_of es)))) (ap p same ∙ pw)
+          ∙ ap (λ (x : Waiting). first_of_two x (first_by (filter p (values_of es)))) same
+          ∙ elim (first_by (filter p (values_of es))) as (λ o. first_by (filter p (values_of es)) ≡ o → first_of_two w o ≡ Some w) [
+            | None ↦ λ _. refl
+            | Some u ↦ λ is. elim (before u w) as (λ t. before u w ≡ t → (if t then Some u else Some w) ≡ Some w) [
+              | true ↦ λ less. absurd (let c = came_from p es tail_sorted u is in least c.0 u (behind e es c.0 u above c.1) c.2 less)
+              | false ↦ λ _. refl
+            ] refl
+          ] refl
+      | false ↦ λ other g.
+          let rest = first_at p es tail_sorted (λ k v h. named k v (behind e es k v above h)) id w g pw (λ k v h pv less. least k v (behind e es k v above h) pv less) in
+          elim (p e.1) as (λ b. p e.1 ≡ b → first_by (cond b (e.1 ∷ filter p (values_of es)) (filter p (values_of es))) ≡ Some w) [
+            | true ↦ λ passes.
+                let own : e.1.id ≡ e.0 = named e.0 e.1 (at_front e es) in
+                let w_own : w.id ≡ id = named id w (behind e es id w above g) in
+                let differ : (e.1.id ≡ w.id → ⊥) = λ same. apart id e.0 other (sym w_own ∙ sym same ∙ own) in
+                ap (first_of_two e.1) rest
+                ∙ ap (λ b. if b then Some w else Some e.1) (one_first (first_of e.1.bios) e.1.id (first_of w.bios) w.id differ (least e.0 e.1 (at_front e es) passes))
+            | false ↦ λ _. rest
+          ] refl
+    ] refl f
+
+-- ---- the next one
+
+abbrev test_of : Dir → Last → Waiting → Bool
+test_of dir l w = is_of dir w && comes_before l.first l.id (first_of w.bios) w.id
+
+pub next_is : (m : Pending) (dir : Dir) (last : Option Last) (l : Last) (id : ℕ) (o : Option Waiting) → ((k : ℕ) (v : Waiting) → get m k ≡ Some v → v.id ≡ k) → last ≡ Some l → l.dir ≡ dir → o ≡ get m id → IsNext dir l.first l.id (get m) id → o ≡ next_of dir last (values m)
+next_is m dir last l id o named is same read best =
+    let w = best.waiting in
+    let own : w.id ≡ id = named id w best.is_found in
+    read ∙ best.is_found
+    ∙ sym (first_at (test_of dir l) (entries m) (in_order (entries m) (entries_sorted m)) (λ k v h. named k v (looked_up m k ∙ h)) id w (sym (looked_up m id) ∙ best.is_found)
+    (ap (λ b. b && comes_before l.first l.id (first_of w.bios) w.id) (same_is (dir_of w.bios) dir best.same_dir) ∙ is_before l.first l.id (first_of w.bios) w.id (subst (λ (n : ℕ). IsBefore l.first l.id (first_of w.bios) n) (sym own) best.after))
+    (λ k v h pv less.
+    let there : get m k ≡ Some v = looked_up m k ∙ h in
+    let v_own : v.id ≡ k = named k v there in
+    best.least k v there (is_same_dir (dir_of v.bios) dir (left (is_of dir v) (comes_before l.first l.id (first_of v.bios) v.id) pv))
+    (subst (λ (n : ℕ). IsBefore l.first l.id (first_of v.bios) n) v_own (from_before l.first l.id (first_of v.bios) v.id (right (is_of dir v) (comes_before l.first l.id (first_of v.bios) v.id) pv)))
+    (subst (λ (n : ℕ). IsBefore (first_of v.bios) n (first_of w.bios) id) v_own (subst (λ (n : ℕ). IsBefore (first_of v.bios) v.id (first_of w.bios) n) own (from_before (first_of v.bios) v.id (first_of w.bios) w.id less)))))
+    ∙ sym (ap (λ (x : Option Last). next_of dir x (values m)) is ∙ ap (λ b. if b then first_by (filter (test_of dir l) (values m)) else None) (same_is l.dir dir same))
+
+pub none_next : (m : Pending) (dir : Dir) (last : Option Last) (l : Last) → ((k : ℕ) (v : Waiting) → get m k ≡ Some v → v.id ≡ k) → last ≡ Some l → l.dir ≡ dir → NoNext dir l.first l.id (get m) → None ≡ next_of dir last (values m)
+none_next m dir last l named is same none =
+    elim (first_by (filter (test_of dir l) (values m))) as (λ o. first_by (filter (test_of dir l) (values m)) ≡ o → None ≡ o) [
+      | None ↦ λ _. refl
+      | Some u ↦ λ e. absurd (
+          let c = came_from (test_of dir l) (entries m) (in_order (entries m) (entries_sorted m)) u e in
+          let there : get m c.0 ≡ Some u = looked_up m c.0 ∙ c.1 in
+          none c.0 u there (is_same_dir (dir_of u.bios) dir (left (is_of dir u) (comes_before l.first l.id (first_of u.bios) u.id) c.2))
+          (subst (λ (n : ℕ). IsBefore l.first l.id (first_of u.bios) n) (named c.0 u there) (from_before l.first l.id (first_of u.bios) u.id (right (is_of dir u) (comes_before l.first l.id (first_of u.bios) u.id) c.2))))
+    ] refl
+    ∙ sym (ap (λ (x : Option Last). next_of dir x (values m)) is ∙ ap (λ b. if b then first_by (filter (test_of dir l) (values m)) else None) (same_is l.dir dir same))

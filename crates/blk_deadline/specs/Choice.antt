@@ -1,0 +1,115 @@
+-- What the deadline scheduler serves and picks, over the plain list of what waits by rising id.
+use Rattle.std.specs.Prelude.{ℕ, ◌+◌, ◌==◌, ◌&&◌, ◌||◌, nat_lt, nat_le, Bool, true, false, List, [], ◌∷◌, Option, None, Some, if◌then◌else◌}
+use Rattle.std.specs.List.{find, filter}
+use Rattle.blk_bio.specs.declared.bio.Dir.{Dir}
+use Rattle.blk_bio.specs.declared.bio.Dir.TheVariants.{Read, Write}
+use Rattle.blk_bio.specs.Requests.{dir_of, first_of}
+use Rattle.blk_sched.specs.Meaning.{Waiting, Pending, OpenPicks, Meaning}
+use Rattle.blk_deadline.specs.declared.Last.{Last}
+use Rattle.blk_deadline.specs.declared.Turn.{Turn}
+use Rattle.blk_deadline.specs.declared.Tunables.{Tunables}
+
+-- it serves every request for every hardware queue
+abbrev pub serves_all : ℕ → Waiting → Bool
+serves_all hw w = true
+
+abbrev pub is_same : Dir → Dir → Bool
+is_same Read Read = true
+is_same Write Write = true
+is_same _ _ = false
+
+abbrev pub is_of : Dir → Waiting → Bool
+is_of dir w = is_same (dir_of w.bios) dir
+
+-- by the first sector, and then by the id
+abbrev pub comes_before : ℕ → ℕ → ℕ → ℕ → Bool
+comes_before first id other k = nat_lt first other || (first == other && nat_lt id k)
+
+-- the first of two by their first sectors and ids, and the first of a list
+abbrev pub first_of_two : Waiting → Option Waiting → Option Waiting
+first_of_two w None = Some w
+first_of_two w (Some v) = if comes_before (first_of v.bios) v.id (first_of w.bios) w.id then Some v else Some w
+
+abbrev pub first_by : List Waiting → Option Waiting
+first_by [] = None
+first_by (w ∷ ws) = first_of_two w (first_by ws)
+
+-- the oldest of a direction
+abbrev pub oldest_of : Dir → List Waiting → Option Waiting
+oldest_of dir ws = find (is_of dir) ws
+
+-- the next one of a direction: only where the last pick was in it
+abbrev pub next_of : Dir → Option Last → List Waiting → Option Waiting
+next_of dir None ws = None
+next_of dir (Some l) ws =
+    if is_same l.dir dir then first_by (filter (λ w. is_of dir w && comes_before l.first l.id (first_of w.bios) w.id) ws) else None
+
+-- every pick sets the last position
+abbrev pub taken : Waiting → ℕ → ℕ → Waiting × Turn
+taken w batching starved = (
+  w,
+  record {
+    last = Some (record { dir = dir_of w.bios; first = first_of w.bios; id = w.id });
+    batching = batching;
+    starved = starved;
+  },
+)
+
+-- the oldest where it is due or there is no next one
+abbrev pub due_or_next : ℕ → Waiting → Option Waiting → Waiting
+due_or_next now oldest None = oldest
+due_or_next now oldest (Some next) = if nat_le oldest.due now then oldest else next
+
+-- rules 2 and 3: reads go first until writes have starved
+abbrev pub new_batch : ℕ → ℕ → ℕ → Option Waiting → Option Waiting → (Dir → Option Waiting) → Option (Waiting × Turn)
+new_batch limit starved now None None next = None
+new_batch limit starved now (Some r) None next = Some (taken (due_or_next now r (next Read)) 1 starved)
+new_batch limit starved now None (Some w) next = Some (taken (due_or_next now w (next Write)) 1 0)
+new_batch limit starved now (Some r) (Some w) next =
+    if nat_le limit starved then Some (taken (due_or_next now w (next Write)) 1 0) else Some (taken (due_or_next now r (next Read)) 1 (starved + 1))
+
+-- rule 1: the batch goes on in its direction
+abbrev pub in_batch_of : ℕ → ℕ → Option Last → (Dir → Option Waiting) → Option Waiting
+in_batch_of limit batching None next = None
+in_batch_of limit batching (Some l) next = if nat_lt batching limit then next l.dir else None
+
+abbrev pub in_batch : ℕ → Turn → (Dir → Option Waiting) → Option Waiting
+in_batch limit turn next = in_batch_of limit turn.batching turn.last next
+
+abbrev pub batch_or : Tunables → Turn → ℕ → (Dir → Option Waiting) → (Dir → Option Waiting) → Option Waiting → Option (Waiting × Turn)
+batch_or tunables turn now oldest next (Some w) = Some (taken w (turn.batching + 1) turn.starved)
+batch_or tunables turn now oldest next None = new_batch tunables.writes_starved turn.starved now (oldest Read) (oldest Write) next
+
+abbrev pub choice_of : Tunables → Turn → ℕ → (Dir → Option Waiting) → (Dir → Option Waiting) → Option (Waiting × Turn)
+choice_of tunables turn now oldest next = batch_or tunables turn now oldest next (in_batch tunables.fifo_batch turn next)
+
+-- the choice: a function of what waits, the last position, the batch, how often reads went first, and now
+abbrev pub deadline_choice : Tunables → Turn → ℕ → List Waiting → Option (Waiting × Turn)
+deadline_choice tunables turn now ws = choice_of tunables turn now (λ dir. oldest_of dir ws) (λ dir. next_of dir turn.last ws)
+
+-- what is handed out, and where the scheduler stands after
+abbrev pub chosen : Option (Waiting × Turn) → Option Waiting
+chosen None = None
+chosen (Some x) = Some x.0
+
+abbrev pub turn_after : Turn → Option (Waiting × Turn) → Turn
+turn_after turn None = turn
+turn_after turn (Some x) = x.1
+
+-- the scheduler's meaning
+abbrev pub meaning_of : Pending → OpenPicks → Bool → ℕ → Meaning
+meaning_of pending open_picks front round = record { pending = pending; open_picks = open_picks; front = front; round = round }
+
+-- what it keeps beside its meaning, as numbers: the settings, the batch, how often reads went first, and the last position
+abbrev pub number_of : Bool → ℕ
+number_of false = 0
+number_of true = 1
+
+abbrev pub last_numbers : Option Last → List ℕ
+last_numbers None = []
+last_numbers (Some last) = number_of (is_same last.dir Write) ∷ last.first ∷ last.id ∷ []
+
+abbrev pub kept_of : Turn → Tunables → List ℕ
+kept_of turn tunables =
+    tunables.fifo_batch ∷ tunables.writes_starved ∷ number_of tunables.front_merges
+    ∷ turn.batching ∷ turn.starved ∷ last_numbers turn.last

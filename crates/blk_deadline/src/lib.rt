@@ -1,0 +1,286 @@
+//! The scheduler that goes by sectors within a batch and by due rounds between batches, after Linux's deadline-iosched.
+#![tactic(auto)]
+
+ghost use Rattle.std.specs.Prelude.{◌≡◌, ◌≤◌, ◌<◌, ◌+◌, ◌↔◌, ℕ, Bool, true, Option, None, Some, Err, IfOk, OnOk, IfErr, OnErr, IfSome, IfNone, IsSome, IsTrue};
+ghost use Rattle.std.specs.Option.{OnSome, option_copied};
+ghost use Rattle.std.specs.FinMap as map;
+ghost use Rattle.blk_sched.specs.Meaning.{Waiting, Meaning, HasCandidate, HasNoCandidate, Joins, ServesNothing, Picks, opened, open_of};
+ghost use Rattle.blk_sched.specs.Index.{NoneOf};
+ghost use Rattle.blk_deadline.specs.Choice.{serves_all, oldest_of, next_of, in_batch, due_or_next, taken, chosen, turn_after, kept_of, meaning_of, deadline_choice};
+
+use blk_bio::bio::Dir;
+use blk_bio::limits::Limits;
+use blk_bio::request::{Request, Side};
+use blk_sched::index::Index;
+use blk_sched::picks::OpenPicks;
+use blk_sched::{Queued, SchedFault, Scheduler};
+use std::alloc::{AllocError, Allocator, Global};
+
+/// What the scheduler is tuned by, by the names of Linux's deadline-iosched.
+#[derive(Clone, Copy, Debug, PartialEq, Eq)]
+pub struct Tunables {
+    /// How many requests go in one batch, 1 at least.
+    pub fifo_batch: u16,
+    /// How often a batch of reads begins while writes wait, before the writes' turn comes.
+    pub writes_starved: u16,
+    /// Whether a newcomer may join at the front.
+    pub front_merges: bool,
+}
+
+/// What was picked last.
+#[derive(Clone, Copy, Debug, PartialEq, Eq)]
+pub struct Last {
+    /// Its direction.
+    pub dir: Dir,
+    /// Its first sector.
+    pub first: u64,
+    /// Its id.
+    pub id: u64,
+}
+
+/// Where the scheduler stands: the last position, how many went in this batch, and how often reads went first.
+#[derive(Clone, Copy, Debug, PartialEq, Eq)]
+pub struct Turn {
+    /// What was picked last.
+    pub last: Option<Last>,
+    /// How many requests went in the batch.
+    pub batching: u16,
+    /// How often reads went first while writes waited.
+    pub starved: u16,
+}
+
+/// Requests by sectors within a batch, and by due rounds between them.
+#[derive(Drop)]
+pub struct Deadline<A: Allocator = Global> {
+    index: Index<A>,
+    tunables: Tunables,
+    turn: Turn,
+    open_picks: OpenPicks,
+    round: u64,
+}
+
+impl<A: Allocator + Clone> Deadline<A> {
+    /// A scheduler in which nothing waits and no pick is open, in round 0. Refused as `ZeroBatch` for a batch of no
+    /// request, and as `Memory` where memory runs out.
+    pub fn new(alloc: A, tunables: Tunables) -> Result<Deadline<A>, SchedFault>
+        ensures zero { (tunables.fifo_batch ≡ 0) ↔ (result ≡ Err SchedFault.ZeroBatch) }
+        ensures ok { IfOk result (λ s. (s.index ≡ map.empty) × (s.tunables ≡ tunables) × (s.turn ≡ record { last = None; batching = 0; starved = 0 }) × (s.open_picks ≡ record { reads = 0; writes = 0 }) × (s.round ≡ 0)) }
+    {
+        if tunables.fifo_batch == 0 {
+            return Err(SchedFault::ZeroBatch);
+        }
+        let Ok(index) = Index::new(alloc) else {
+            return Err(SchedFault::Memory);
+        };
+        Ok(Deadline {
+            index,
+            tunables,
+            turn: Turn {
+                last: None,
+                batching: 0,
+                starved: 0,
+            },
+            open_picks: OpenPicks::none(),
+            round: 0,
+        })
+    }
+
+    /// The oldest request of a direction.
+    fn oldest(&self, dir: Dir) -> Option<&Queued<A>>
+        ensures value { option_copied result ≡ oldest_of dir (map.values self.now.index) }
+        ensures there { IfSome result (λ q. map.get self.now.index q.now.id ≡ Some q.now) }
+        ensures none { IfNone result (NoneOf dir (map.get self.now.index)) }
+    {
+        let Some(id) = self.index.oldest(dir) else {
+            return None;
+        };
+        self.index.get(id)
+    }
+
+    /// The next request of a direction.
+    fn next(&self, dir: Dir) -> Option<&Queued<A>>
+        ensures value { option_copied result ≡ next_of dir self.now.turn.last (map.values self.now.index) }
+        ensures there { IfSome result (λ q. map.get self.now.index q.now.id ≡ Some q.now) }
+    {
+        let Some(last) = self.turn.last else {
+            return None;
+        };
+        if last.dir != dir {
+            return None;
+        }
+        let Some(id) = self.index.next(dir, last.first, last.id) else {
+            return None;
+        };
+        self.index.get(id)
+    }
+
+    /// The next request of the batch, if it goes on.
+    fn in_batch(&self) -> Option<&Queued<A>>
+        ensures value { option_copied result ≡ in_batch self.now.tunables.fifo_batch self.now.turn (λ dir. next_of dir self.now.turn.last (map.values self.now.index)) }
+        ensures there { IfSome result (λ q. map.get self.now.index q.now.id ≡ Some q.now) }
+        ensures room { OnSome result (self.now.turn.batching < self.now.tunables.fifo_batch) }
+    {
+        let Some(last) = self.turn.last else {
+            return None;
+        };
+        if self.turn.batching >= self.tunables.fifo_batch {
+            return None;
+        }
+        self.next(last.dir)
+    }
+
+    /// The oldest of a direction where it is due or there is no next one, and otherwise the next one.
+    fn due_or_next<'a>(&'a self, now: u64, oldest: &'a Queued<A>, dir: Dir) -> &'a Queued<A>
+        requires { map.get self.now.index oldest.now.id ≡ Some oldest.now }
+        ensures value { result.now ≡ due_or_next now oldest.now (next_of dir self.now.turn.last (map.values self.now.index)) }
+        ensures there { map.get self.now.index result.now.id ≡ Some result.now }
+    {
+        if oldest.due <= now {
+            return oldest;
+        }
+        match self.next(dir) {
+            Some(next) => next,
+            None => oldest,
+        }
+    }
+
+    /// The choice, by its id, and where the scheduler stands then.
+    fn choose(&self, now: u64) -> Option<(u64, Turn)>
+        ensures some { IfSome result (λ r. (w : Waiting) × (map.get self.now.index r.0 ≡ Some w) × (deadline_choice self.now.tunables self.now.turn now (map.values self.now.index) ≡ Some (w, r.1))) }
+        ensures none { IfNone result (deadline_choice self.now.tunables self.now.turn now (map.values self.now.index) ≡ None) }
+        ensures all { IfNone result ((k : ℕ) (w : Waiting) → map.get self.now.index k ≡ Some w → ⊥) }
+    {
+        let starved = self.turn.starved;
+        let batching = self.turn.batching;
+        let limit = self.tunables.fifo_batch;
+        let patience = self.tunables.writes_starved;
+        if let Some(queued) = self.in_batch() {
+            prove!(batching < limit);
+            return Some(turn_of(queued, batching + 1, starved));
+        }
+        match (self.oldest(Dir::Read), self.oldest(Dir::Write)) {
+            (None, None) => None,
+            (Some(read), None) => Some(turn_of(self.due_or_next(now, read, Dir::Read), 1, starved)),
+            (None, Some(write)) => Some(turn_of(self.due_or_next(now, write, Dir::Write), 1, 0)),
+            (Some(read), Some(write)) => {
+                if starved >= patience {
+                    Some(turn_of(self.due_or_next(now, write, Dir::Write), 1, 0))
+                } else {
+                    Some(turn_of(self.due_or_next(now, read, Dir::Read), 1, starved + 1))
+                }
+            }
+        }
+    }
+}
+
+/// Where the scheduler stands after a pick, and the id of what is picked.
+fn turn_of<A: Allocator + Clone>(queued: &Queued<A>, batching: u16, starved: u16) -> (u64, Turn)
+    ensures { result ≡ (queued.now.id, (taken queued.now batching starved).1) }
+{
+    let last = Last {
+        dir: queued.request.dir(),
+        first: queued.request.first(),
+        id: queued.id,
+    };
+    (
+        queued.id,
+        Turn {
+            last: Some(last),
+            batching,
+            starved,
+        },
+    )
+}
+
+impl<A: Allocator + Clone> Scheduler for Deadline<A> {
+    type A = A;
+
+    ghost meaning = { λ s. record { pending = s.index; open_picks = s.open_picks; front = s.tunables.front_merges; round = s.round } };
+
+    ghost serves = { serves_all };
+
+    ghost kept = { λ s. kept_of s.turn s.tunables };
+
+    fn enter(&mut self, slot: &mut Option<Queued<A>>) -> Result<(), AllocError> {
+        let Some(queued) = slot.take() else {
+            unreachable!()
+        };
+        match self.index.insert(queued) {
+            Ok(()) => Ok(()),
+            Err(queued) => {
+                *slot = Some(queued);
+                Err(AllocError)
+            }
+        }
+    }
+
+    fn candidate(&self, hw: u8, limits: &Limits, newcomer: &Request<A>) -> Option<(u64, Side)> {
+        let _ = hw;
+        self.index
+            .candidate(newcomer, limits, self.tunables.front_merges, None)
+    }
+
+    fn join_at(
+        &mut self,
+        hw: u8,
+        id: u64,
+        side: Side,
+        now: u64,
+        limits: &Limits,
+        slot: &mut Option<Request<A>>,
+    ) -> Result<(), AllocError> {
+        let _ = hw;
+        let Some(newcomer) = slot.take() else {
+            unreachable!()
+        };
+        match self.index.join_at(id, side, now, limits, newcomer) {
+            Ok(()) => Ok(()),
+            Err(newcomer) => {
+                *slot = Some(newcomer);
+                Err(AllocError)
+            }
+        }
+    }
+
+    /// Hands out the request that the three rules choose, and stands then as they say.
+    fn pick(&mut self, hw: u8, now: u64) -> Option<Queued<A>>
+        requires hw { hw < 16 }
+        requires round { now ≡ self.old.round }
+        requires few { self.old.open_picks.reads + self.old.open_picks.writes < 256 }
+        ensures choice { result ≡ chosen (deadline_choice self.old.tunables self.old.turn now (map.values self.old.index)) }
+        ensures turn { self.new.turn ≡ turn_after self.old.turn (deadline_choice self.old.tunables self.old.turn now (map.values self.old.index)) }
+        ensures tunables { self.new.tunables ≡ self.old.tunables }
+        ensures picked { IfSome result (λ w. Picks serves_all hw (meaning_of self.old.index self.old.open_picks self.old.tunables.front_merges self.old.round) w (meaning_of self.new.index self.new.open_picks self.new.tunables.front_merges self.new.round)) }
+        ensures none { IfNone result (ServesNothing serves_all hw (meaning_of self.old.index self.old.open_picks self.old.tunables.front_merges self.old.round)) }
+        ensures same { IfNone result (self.new ≡ self.old) }
+        ensures own { (w : Waiting) → IsTrue (serves_all w.hw w) }
+    {
+        let _ = hw;
+        let Some((id, turn)) = self.choose(now) else {
+            return None;
+        };
+        let Some(queued) = self.index.remove(id) else {
+            unreachable!()
+        };
+        self.open_picks.open(queued.request.dir());
+        self.turn = turn;
+        Some(queued)
+    }
+
+    fn on_done(&mut self, hw: u8, dir: Dir, wait: u64) {
+        let _ = (hw, wait);
+        self.open_picks.close(dir);
+    }
+
+    fn on_tick(&mut self, now: u64) {
+        self.round = now;
+    }
+
+    fn pending(&self) -> u64 {
+        self.index.len() as u64
+    }
+
+    fn picked(&self, dir: Dir) -> u64 {
+        self.open_picks.of(dir)
+    }
+}

@@ -1,0 +1,147 @@
+-- What a change does to the spots of requests.
+use Rattle.std.proofs.Common.{◌≡◌, ◌&&◌, ℕ, Bool, true, false, cond, sym, ap, subst, ◌∙◌, refl, Some, None, Option, List}
+use Rattle.std.specs.Ordering.{nat_cmp, ordering_then, eq_by_cmp, is_eq}
+use Rattle.std.specs.BTreeMap.{is_at}
+use Rattle.std.specs.Map.{lookup}
+use Rattle.std.specs.FinMap as map
+use Rattle.std.specs.declared.cmp.Ordering.{Ordering}
+use Rattle.std.specs.declared.cmp.Ordering.TheVariants.{Less, Equal, Greater}
+use Rattle.blk_sched.specs.declared.lane.Extent.{Extent}
+use Rattle.blk_sched.specs.Meaning.{Waiting, Pending}
+use Rattle.blk_sched.specs.Lanes.{extent_of}
+use Rattle.blk_sched.specs.Maps.{same_number, get_waiting}
+use Rattle.blk_sched.specs.Spots.{Place, Spot, place_cmp, spot_cmp, Adds, Takes, Keeps, is_placed, AreSpots, first_at, end_at, age_at}
+use Rattle.blk_sched.specs.Index.{IsIndex}
+use Rattle.blk_sched.proofs.Listed.{same_place, is_equal}
+
+abbrev pub Found : Type 0
+Found = ℕ → Option Waiting
+
+abbrev pub Has : Type 0
+Has = Spot → Bool
+
+abbrev pub Entries : Type 0
+Entries = List (ℕ × Waiting)
+
+-- what is found then: at one id x, and elsewhere as before
+abbrev pub Becomes : Found → ℕ → Option Waiting → Found → Type 0
+Becomes old id x new = (k : ℕ) → new k ≡ cond (is_at (nat_cmp id) k) x (old k)
+
+-- what the entries of a map have at an id
+abbrev pub found_in : ℕ → Entries → Option Waiting
+found_in k es = lookup (is_at (nat_cmp k)) es
+
+pub none_at : (es : Entries) (self : Pending) (id named : ℕ) → map.from_entries es ≡ self → id ≡ named → map.get self named ≡ None → found_in id es ≡ None
+none_at es self id named view own none = sym (get_waiting es id) ∙ ap (λ (m : Pending). map.get m id) view ∙ ap (map.get self) own ∙ none
+
+-- two spots are one where their places and their ids are
+one_spot : (o r : Ordering) → is_eq (ordering_then o r) ≡ (is_eq o && is_eq r)
+one_spot Less r = refl
+one_spot Equal r = refl
+one_spot Greater r = refl
+
+both_true : (x : Bool) → (x && true) ≡ x
+both_true true = refl
+both_true false = refl
+
+both_false : (x : Bool) → (x && false) ≡ false
+both_false true = refl
+both_false false = refl
+
+-- at one id, and at another
+here : (a p : Place) (id k : ℕ) → is_at (nat_cmp id) k ≡ true → eq_by_cmp spot_cmp (a, id) (p, k) ≡ eq_by_cmp place_cmp a p
+here a p id k e = one_spot (place_cmp a p) (nat_cmp id k) ∙ ap (λ b. is_eq (place_cmp a p) && b) e ∙ both_true (is_eq (place_cmp a p))
+
+there : (a p : Place) (id k : ℕ) → is_at (nat_cmp id) k ≡ false → eq_by_cmp spot_cmp (a, id) (p, k) ≡ false
+there a p id k e = one_spot (place_cmp a p) (nat_cmp id k) ∙ ap (λ b. is_eq (place_cmp a p) && b) e ∙ both_false (is_eq (place_cmp a p))
+
+-- a place that is left and one that is come to
+apart_places : (a b p : Place) → (a ≡ b → ⊥) → cond (eq_by_cmp place_cmp a p) false (cond (eq_by_cmp place_cmp b p) true (eq_by_cmp place_cmp a p)) ≡ eq_by_cmp place_cmp b p
+apart_places a b p apart = elim (eq_by_cmp place_cmp a p) as (λ x. eq_by_cmp place_cmp a p ≡ x → cond x false (cond (eq_by_cmp place_cmp b p) true x) ≡ eq_by_cmp place_cmp b p) [
+  | true ↦ λ e. elim (eq_by_cmp place_cmp b p) as (λ y. eq_by_cmp place_cmp b p ≡ y → false ≡ y) [
+    | true ↦ λ h. absurd (apart (same_place a p (is_equal (place_cmp a p) e) ∙ sym (same_place b p (is_equal (place_cmp b p) h))))
+    | false ↦ λ _. refl
+  ] refl
+  | false ↦ λ _. elim (eq_by_cmp place_cmp b p) as (λ y. cond y true false ≡ y) [ true ↦ refl | false ↦ refl ]
+] refl
+
+pub absent : (at : Extent → Place) (old : Found) (id : ℕ) (has : Has) → AreSpots at old has → old id ≡ None → (p : Place) → has (p, id) ≡ false
+absent at old id has spots none p = spots p id ∙ ap (is_placed at p) none
+
+module _ (at : Extent → Place) (old new : Found) (id : ℕ) where
+  by_id : (x : Option Waiting) (has : Has) → Becomes old id x new → ((p : Place) (k : ℕ) → is_at (nat_cmp id) k ≡ true → has (p, k) ≡ is_placed at p x) → ((p : Place) (k : ℕ) → is_at (nat_cmp id) k ≡ false → has (p, k) ≡ is_placed at p (old k)) → AreSpots at new has
+  by_id x has becomes same other p k =
+      elim (is_at (nat_cmp id) k) as (λ b. is_at (nat_cmp id) k ≡ b → has (p, k) ≡ is_placed at p (cond b x (old k))) [
+        | true ↦ λ e. same p k e
+        | false ↦ λ e. other p k e
+      ] refl
+      ∙ ap (is_placed at p) (sym (becomes k))
+
+  was : (has : Has) (x : Option Waiting) → AreSpots at old has → old id ≡ x → (p : Place) (k : ℕ) → is_at (nat_cmp id) k ≡ true → has (p, k) ≡ is_placed at p x
+  was has x spots is p k e = spots p k ∙ ap (λ j. is_placed at p (old j)) (same_number id k e) ∙ ap (is_placed at p) is
+
+  pub entered : (has now : Has) (w : Waiting) → AreSpots at old has → old id ≡ None → Adds has (at (extent_of w.bios), id) now → Becomes old id (Some w) new → AreSpots at new now
+  entered has now w spots none adds becomes = by_id (Some w) now becomes
+      (λ p k e. adds (p, k) ∙ ap (λ b. cond b true (has (p, k))) (here (at (extent_of w.bios)) p id k e) ∙ ap (cond (eq_by_cmp place_cmp (at (extent_of w.bios)) p) true) (was has None spots none p k e)
+      ∙ elim (eq_by_cmp place_cmp (at (extent_of w.bios)) p) as (λ b. cond b true false ≡ b) [ true ↦ refl | false ↦ refl ])
+      (λ p k e. adds (p, k) ∙ ap (λ b. cond b true (has (p, k))) (there (at (extent_of w.bios)) p id k e) ∙ spots p k)
+
+  pub taken : (has now : Has) (w : Waiting) → AreSpots at old has → old id ≡ Some w → Takes has (at (extent_of w.bios), id) now → Becomes old id None new → AreSpots at new now
+  taken has now w spots is takes becomes = by_id None now becomes
+      (λ p k e. takes (p, k) ∙ ap (λ b. cond b false (has (p, k))) (here (at (extent_of w.bios)) p id k e) ∙ ap (cond (eq_by_cmp place_cmp (at (extent_of w.bios)) p) false) (was has (Some w) spots is p k e)
+      ∙ elim (eq_by_cmp place_cmp (at (extent_of w.bios)) p) as (λ b. cond b false b ≡ false) [ true ↦ refl | false ↦ refl ])
+      (λ p k e. takes (p, k) ∙ ap (λ b. cond b false (has (p, k))) (there (at (extent_of w.bios)) p id k e) ∙ spots p k)
+
+  -- a request moves to another place
+  pub moved : (has mid now : Has) (v w : Waiting) → AreSpots at old has → old id ≡ Some v → Adds has (at (extent_of w.bios), id) mid → Takes mid (at (extent_of v.bios), id) now → (at (extent_of v.bios) ≡ at (extent_of w.bios) → ⊥) → Becomes old id (Some w) new → AreSpots at new now
+  moved has mid now v w spots is adds takes apart becomes = by_id (Some w) now becomes
+      (λ p k e.
+      takes (p, k) ∙ ap (λ b. cond b false (mid (p, k))) (here (at (extent_of v.bios)) p id k e)
+      ∙ ap (cond (eq_by_cmp place_cmp (at (extent_of v.bios)) p) false)
+      (adds (p, k) ∙ ap (λ b. cond b true (has (p, k))) (here (at (extent_of w.bios)) p id k e) ∙ ap (cond (eq_by_cmp place_cmp (at (extent_of w.bios)) p) true) (was has (Some v) spots is p k e))
+      ∙ apart_places (at (extent_of v.bios)) (at (extent_of w.bios)) p apart)
+      (λ p k e.
+      takes (p, k) ∙ ap (λ b. cond b false (mid (p, k))) (there (at (extent_of v.bios)) p id k e)
+      ∙ adds (p, k) ∙ ap (λ b. cond b true (has (p, k))) (there (at (extent_of w.bios)) p id k e) ∙ spots p k)
+
+  -- a request stays at its place
+  pub stayed : (has : Has) (v w : Waiting) → AreSpots at old has → old id ≡ Some v → at (extent_of v.bios) ≡ at (extent_of w.bios) → Becomes old id (Some w) new → AreSpots at new has
+  stayed has v w spots is same becomes = by_id (Some w) has becomes
+      (λ p k e. was has (Some v) spots is p k e ∙ ap (λ a. eq_by_cmp place_cmp a p) same)
+      (λ p k e. spots p k)
+
+pub kept : (at : Extent → Place) (old new : Found) (has now : Has) → AreSpots at old has → ((k : ℕ) → new k ≡ old k) → Keeps has now → AreSpots at new now
+kept at old new has now spots same keeps p k = keeps (p, k) ∙ spots p k ∙ ap (is_placed at p) (sym (same k))
+
+pub named_then : (old new : Found) (id : ℕ) (x : Option Waiting) → ((k : ℕ) (v : Waiting) → old k ≡ Some v → v.id ≡ k) → ((v : Waiting) → x ≡ Some v → v.id ≡ id) → Becomes old id x new → (k : ℕ) (v : Waiting) → new k ≡ Some v → v.id ≡ k
+named_then old new id x named own becomes k v found =
+    elim (is_at (nat_cmp id) k) as (λ b. is_at (nat_cmp id) k ≡ b → cond b x (old k) ≡ Some v → v.id ≡ k) [
+      | true ↦ λ e h. own v h ∙ sym (same_number id k e)
+      | false ↦ λ _ h. named k v h
+    ] refl (sym (becomes k) ∙ found)
+
+pub insert_kept : (old new : Found) (f e a f2 e2 a2 : Has) (id : ℕ) (at : Extent) (w : Waiting) → IsIndex old f e a → old w.id ≡ None → id ≡ w.id → at ≡ extent_of w.bios → Adds f (first_at at, id) f2 → Adds e (end_at at, id) e2 → Adds a (age_at at, id) a2 → Becomes old id (Some w) new → IsIndex new f2 e2 a2
+insert_kept old new f e a f2 e2 a2 id at w index none own is firsts ends ages becomes =
+    let absent : old id ≡ None = ap old own ∙ none in
+    record {
+      named = named_then old new id (Some w) index.named (λ v h. let same : w ≡ v = cc in ap (λ (u : Waiting). u.id) (sym same) ∙ sym own) becomes;
+      firsts = entered first_at old new id f f2 w index.firsts absent (subst (λ (x : Extent). Adds f (first_at x, id) f2) is firsts) becomes;
+      ends = entered end_at old new id e e2 w index.ends absent (subst (λ (x : Extent). Adds e (end_at x, id) e2) is ends) becomes;
+      ages = entered age_at old new id a a2 w index.ages absent (subst (λ (x : Extent). Adds a (age_at x, id) a2) is ages) becomes;
+    }
+
+pub remove_kept : (old new : Found) (f e a f2 e2 a2 : Has) (id : ℕ) (at : Extent) (w : Waiting) → IsIndex old f e a → old id ≡ Some w → at ≡ extent_of w.bios → Takes f (first_at at, id) f2 → Takes e (end_at at, id) e2 → Takes a (age_at at, id) a2 → Becomes old id None new → IsIndex new f2 e2 a2
+remove_kept old new f e a f2 e2 a2 id at w index found is firsts ends ages becomes = record {
+  named = named_then old new id None index.named (λ v h. absurd (cc)) becomes;
+  firsts = taken first_at old new id f f2 w index.firsts found (subst (λ (x : Extent). Takes f (first_at x, id) f2) is firsts) becomes;
+  ends = taken end_at old new id e e2 w index.ends found (subst (λ (x : Extent). Takes e (end_at x, id) e2) is ends) becomes;
+  ages = taken age_at old new id a a2 w index.ages found (subst (λ (x : Extent). Takes a (age_at x, id) a2) is ages) becomes;
+}
+
+pub same_kept : (old new : Found) (f e a f2 e2 a2 : Has) → IsIndex old f e a → ((k : ℕ) → new k ≡ old k) → Keeps f f2 → Keeps e e2 → Keeps a a2 → IsIndex new f2 e2 a2
+same_kept old new f e a f2 e2 a2 index same firsts ends ages = record {
+  named = λ k v h. index.named k v (sym (same k) ∙ h);
+  firsts = kept first_at old new f f2 index.firsts same firsts;
+  ends = kept end_at old new e e2 index.ends same ends;
+  ages = kept age_at old new a a2 index.ages same ages;
+}

@@ -1,0 +1,417 @@
+//! Requests that wait, by their ids and by where they begin and end.
+
+ghost use Rattle.std.specs.Prelude.{◌≡◌, ◌<◌, ◌^◌, ◌+◌, ◌↔◌, ℕ, Option, None, Some, true, false, IfOk, OnOk, IfErr, OnErr, IfSome, IfNone, IsSome, IsTrue};
+ghost use Rattle.std.specs.Option.{OnSome, option_copied};
+ghost use Rattle.std.specs.FinMap as map;
+ghost use Rattle.blk_bio.specs.declared.request.Side.{Side};
+ghost use Rattle.blk_sched.specs.Meaning.{Waiting, joined_waiting};
+ghost use Rattle.blk_sched.specs.Fits.{IsNewestFit, FitsNone, HasFit, FitsAt, FitsNowhere};
+ghost use Rattle.blk_sched.specs.Lanes.{extent_of};
+ghost use Rattle.blk_bio.specs.Requests.{Fits};
+ghost use Rattle.std.specs.Prelude.{nat_lt, ◌≤◌};
+ghost use Rattle.std.specs.Bool.{OnTrue, OnFalse};
+ghost use Rattle.std.specs.BTreeMap.{get};
+ghost use Rattle.std.specs.BTreeSet.{contains};
+ghost use Rattle.std.specs.Ordering.{nat_cmp};
+ghost use Rattle.blk_sched.specs.Spots.{spot_cmp, AreSpots, first_at, age_at};
+ghost use Rattle.blk_sched.specs.Index.{seen, IsNewestBy, FitsNoneBy, FitsBy, IsJoined, at_of, touch_of, joined_extent, newer_of, IsOldest, IsNext, NoneOf, NoNext};
+
+use crate::spots::{
+    Edges, Spot, end_spot, first_spot, is_write, newest_at, oldest_above, oldest_from, put, take,
+};
+use blk_bio::bio::Dir;
+use blk_bio::limits::Limits;
+use blk_bio::request::{Request, Side};
+use crate::Queued;
+use crate::lane::Extent;
+use std::alloc::{AllocError, Allocator, Global};
+use std::collections::{BTreeMap, BTreeSet};
+use std::marker::Model;
+
+/// Requests that wait, found by their ids, by where they begin and by where they end.
+#[derive(Drop)]
+pub struct Index<A: Allocator = Global> {
+    waiting: BTreeMap<u64, Queued<A>, A>,
+    edges: Edges<A>,
+}
+
+impl<A: Allocator> Model for Index<A> {
+    ghost use Rattle.std.specs.BTreeSet.{contains};
+    ghost use Rattle.std.specs.BTreeMap.{get};
+    ghost use Rattle.std.specs.Ordering.{nat_cmp};
+    ghost use Rattle.std.specs.FinMap.{from_entries, code};
+    ghost use Rattle.std.specs.Coded.{coded_ℕ};
+    ghost use Rattle.blk_sched.specs.Meaning.{Pending, waiting_code};
+    ghost use Rattle.blk_sched.specs.Spots.{spot_cmp};
+    ghost use Rattle.blk_sched.specs.Index.{IsIndex};
+
+    ghost Value = { Pending };
+
+    ghost coded = { code coded_ℕ waiting_code };
+
+    ghost view = { λ s. from_entries s.waiting.entries };
+
+    ghost invariant = { λ s. IsIndex (get nat_cmp s.waiting) (contains spot_cmp s.edges.firsts) (contains spot_cmp s.edges.ends) (contains spot_cmp s.edges.ages) };
+}
+
+impl<A: Allocator + Clone> Index<A> {
+    /// No requests.
+    pub fn new(alloc: A) -> Result<Index<A>, AllocError>
+        ensures { IfOk result (λ s. s ≡ map.empty) }
+    {
+        Ok(Index {
+            waiting: BTreeMap::new(alloc.clone()?),
+            edges: Edges {
+                firsts: BTreeSet::new(alloc.clone()?),
+                ends: BTreeSet::new(alloc.clone()?),
+                ages: BTreeSet::new(alloc),
+            },
+        })
+    }
+
+    /// How many requests wait.
+    pub fn len(&self) -> usize
+        ensures { result ≡ map.len self.now }
+    {
+        self.waiting.len()
+    }
+
+    /// The request of an id.
+    pub fn get(&self, id: u64) -> Option<&Queued<A>>
+        ensures value { option_copied result ≡ map.get self.now id }
+        ensures named { (k : ℕ) (w : Waiting) → map.get self.now k ≡ Some w → w.id ≡ k }
+    {
+        self.waiting.get(&id)
+    }
+
+    /// Adds a request whose id isn't there. Refused for want of memory alone: nothing is changed then, and the
+    /// request comes back.
+    pub fn insert(&mut self, queued: Queued<A>) -> Result<(), Queued<A>>
+        requires { map.get self.old queued.id ≡ None }
+        ensures ok { OnOk result (self.new ≡ map.insert self.old queued.id queued) }
+        ensures err { IfErr result (λ q. q ≡ queued) }
+        ensures same { OnErr result (self.new ≡ self.old) }
+    {
+        let id = id_of(&queued);
+        let extent = extent_of(&queued);
+        let Ok(()) = self.edges.enter(extent, id) else {
+            return Err(queued);
+        };
+        match self.waiting.insert(id, queued) {
+            Ok(_) => Ok(()),
+            Err(refused) => {
+                self.edges.leave(extent, id);
+                let (_, queued) = refused.value;
+                Err(queued)
+            }
+        }
+    }
+
+    /// Takes out the request of an id. It takes no memory.
+    pub fn remove(&mut self, id: u64) -> Option<Queued<A>>
+        ensures value { result ≡ map.get self.old id }
+        ensures named { (k : ℕ) (w : Waiting) → map.get self.old k ≡ Some w → w.id ≡ k }
+        ensures removed { self.new ≡ map.remove self.old id }
+    {
+        let Some(queued) = self.waiting.remove(&id) else {
+            return None;
+        };
+        self.edges.leave(extent_of(&queued), id);
+        Some(queued)
+    }
+
+    /// The newest request that a newcomer fits, by its id, and the side: of all, or of those that entered at one
+    /// hardware queue. The front is tried only where `front` allows it. Only requests that the newcomer touches are
+    /// looked at.
+    pub fn candidate(
+        &self,
+        newcomer: &Request<A>,
+        limits: &Limits,
+        front: bool,
+        own: Option<u8>,
+    ) -> Option<(u64, Side)>
+        ensures some { IfSome result (λ r. IsNewestFit limits.now front (λ id. seen own (map.get self.now id)) newcomer.now r.0 r.1) }
+        ensures none { IfNone result (FitsNone limits.now front (λ id. seen own (map.get self.now id)) newcomer.now) }
+    {
+        let back = newest_of(
+            &self.waiting,
+            &self.edges.ends,
+            Side::Back,
+            newcomer,
+            limits,
+            own,
+        );
+        let ahead = newest_ahead(
+            &self.waiting,
+            &self.edges.firsts,
+            front,
+            newcomer,
+            limits,
+            own,
+        );
+        newer(back, ahead)
+    }
+
+    /// The least id of a direction.
+    pub fn oldest(&self, dir: Dir) -> Option<u64>
+        ensures some { IfSome result (IsOldest dir (map.get self.now)) }
+        ensures none { IfNone result (NoneOf dir (map.get self.now)) }
+    {
+        oldest_in(&self.waiting, &self.edges.ages, dir)
+    }
+
+    /// Of a direction's requests with their first sectors and ids the least that is above `first` and `last`.
+    pub fn next(&self, dir: Dir, first: u64, last: u64) -> Option<u64>
+        ensures some { IfSome result (IsNext dir first last (map.get self.now)) }
+        ensures none { IfNone result (NoNext dir first last (map.get self.now)) }
+        ensures named { (k : ℕ) (w : Waiting) → map.get self.now k ≡ Some w → w.id ≡ k }
+    {
+        next_in(&self.waiting, &self.edges.firsts, dir, first, last)
+    }
+
+    /// Joins a newcomer to the request of an id, which it fits at the side, in the round `now`. Refused for want of
+    /// memory alone: nothing is changed then, and the newcomer comes back.
+    pub fn join_at(
+        &mut self,
+        id: u64,
+        side: Side,
+        now: u64,
+        limits: &Limits,
+        newcomer: Request<A>,
+    ) -> Result<(), Request<A>>
+        requires { HasFit limits.now (map.get self.old) newcomer id side }
+        ensures joined { OnOk result (IsJoined now newcomer (map.get self.old) id side (map.get self.new)) }
+        ensures err { IfErr result (λ e. e ≡ newcomer) }
+        ensures same { OnErr result (self.new ≡ self.old) }
+    {
+        let Edges { firsts, ends, .. } = &mut self.edges;
+        match side {
+            Side::Back => join_in(&mut self.waiting, ends, id, side, now, limits, newcomer),
+            Side::Front => join_in(&mut self.waiting, firsts, id, side, now, limits, newcomer),
+        }
+    }
+}
+
+/// The least id of a direction.
+fn oldest_in<A: Allocator + Clone>(
+    waiting: &BTreeMap<u64, Queued<A>, A>,
+    ages: &BTreeSet<Spot, A>,
+    dir: Dir,
+) -> Option<u64>
+    requires { AreSpots age_at (get nat_cmp waiting.now) (contains spot_cmp ages.now) }
+    ensures some { IfSome result (IsOldest dir (get nat_cmp waiting.now)) }
+    ensures none { IfNone result (NoneOf dir (get nat_cmp waiting.now)) }
+{
+    let _ = waiting;
+    let write = is_write(dir);
+    let ((other, sector), id) = oldest_from(ages, ((write, 0), 0))?;
+    let _ = sector;
+    if other != write {
+        return None;
+    }
+    Some(id)
+}
+
+/// The least of a direction's first sectors and ids above others.
+fn next_in<A: Allocator + Clone>(
+    waiting: &BTreeMap<u64, Queued<A>, A>,
+    firsts: &BTreeSet<Spot, A>,
+    dir: Dir,
+    first: u64,
+    last: u64,
+) -> Option<u64>
+    requires { AreSpots first_at (get nat_cmp waiting.now) (contains spot_cmp firsts.now) }
+    ensures some { IfSome result (IsNext dir first last (get nat_cmp waiting.now)) }
+    ensures none { IfNone result (NoNext dir first last (get nat_cmp waiting.now)) }
+{
+    let _ = waiting;
+    let write = is_write(dir);
+    let ((other, sector), id) = oldest_above(firsts, ((write, first), last))?;
+    let _ = sector;
+    if other != write {
+        return None;
+    }
+    Some(id)
+}
+
+/// Where a newcomer touches the requests that it may join at a side.
+fn touched<A: Allocator + Clone>(side: Side, newcomer: &Request<A>) -> (bool, u64)
+    ensures value { result ≡ touch_of side (extent_of newcomer.now) }
+    ensures low { result.1 < 2 ^ 63 }
+{
+    let first = newcomer.first();
+    let end = first + newcomer.sectors();
+    let write = is_write(newcomer.dir());
+    match side {
+        Side::Back => (write, first),
+        Side::Front => (write, end),
+    }
+}
+
+/// Whether the request of an id may be looked at and a newcomer fits it at a side.
+fn fits_by<A: Allocator + Clone>(
+    waiting: &BTreeMap<u64, Queued<A>, A>,
+    id: u64,
+    side: Side,
+    newcomer: &Request<A>,
+    limits: &Limits,
+    own: Option<u8>,
+) -> bool
+    ensures yes { OnTrue result (FitsBy limits.now (seen own (get nat_cmp waiting.now id)) newcomer.now side) }
+    ensures no { OnFalse result ((w : Waiting) → seen own (get nat_cmp waiting.now id) ≡ Some w → Fits limits.now w.bios newcomer.now side → ⊥) }
+{
+    let Some(queued) = waiting.get(&id) else {
+        return false;
+    };
+    if let Some(hw) = own {
+        if queued.hw != hw {
+            return false;
+        }
+    }
+    match queued.request.fits(newcomer, limits) {
+        Some(found) => found == side,
+        None => false,
+    }
+}
+
+/// The newest request that a newcomer fits at a side, where `spots` are the requests' ends at that side.
+fn newest_of<A: Allocator + Clone>(
+    waiting: &BTreeMap<u64, Queued<A>, A>,
+    spots: &BTreeSet<Spot, A>,
+    side: Side,
+    newcomer: &Request<A>,
+    limits: &Limits,
+    own: Option<u8>,
+) -> Option<u64>
+    requires { AreSpots (at_of side) (get nat_cmp waiting.now) (contains spot_cmp spots.now) }
+    ensures some { IfSome result (IsNewestBy limits.now (λ id. seen own (get nat_cmp waiting.now id)) newcomer.now side) }
+    ensures none { IfNone result (FitsNoneBy limits.now (λ id. seen own (get nat_cmp waiting.now id)) newcomer.now side) }
+{
+    let place = touched(side, newcomer);
+    let mut below = None;
+    while let Some(id) = newest_at(spots, place, below) {
+        if fits_by(waiting, id, side, newcomer, limits, own) {
+            return Some(id);
+        }
+        below = Some(id);
+    }
+    None
+}
+
+/// The same at the front, where that is allowed.
+fn newest_ahead<A: Allocator + Clone>(
+    waiting: &BTreeMap<u64, Queued<A>, A>,
+    firsts: &BTreeSet<Spot, A>,
+    front: bool,
+    newcomer: &Request<A>,
+    limits: &Limits,
+    own: Option<u8>,
+) -> Option<u64>
+    requires { AreSpots (at_of Side.Front) (get nat_cmp waiting.now) (contains spot_cmp firsts.now) }
+    ensures some { IfSome result (IsNewestBy limits.now (λ id. seen own (get nat_cmp waiting.now id)) newcomer.now Side.Front) }
+    ensures tried { OnSome result (IsTrue front) }
+    ensures none { IfNone result (IsTrue front → FitsNoneBy limits.now (λ id. seen own (get nat_cmp waiting.now id)) newcomer.now Side.Front) }
+{
+    if !front {
+        return None;
+    }
+    newest_of(waiting, firsts, Side::Front, newcomer, limits, own)
+}
+
+/// Of a fit at the back and one at the front the newer.
+fn newer(back: Option<u64>, ahead: Option<u64>) -> Option<(u64, Side)>
+    ensures { result ≡ newer_of back ahead }
+{
+    match (back, ahead) {
+        (None, None) => None,
+        (Some(id), None) => Some((id, Side::Back)),
+        (None, Some(id)) => Some((id, Side::Front)),
+        (Some(older), Some(id)) => {
+            if older < id {
+                Some((id, Side::Front))
+            } else {
+                Some((older, Side::Back))
+            }
+        }
+    }
+}
+
+/// A request and a newcomer together.
+fn joined_extent(side: Side, request: Extent, newcomer: Extent) -> Extent
+    ensures { result ≡ joined_extent side request newcomer }
+{
+    match side {
+        Side::Back => Extent {
+            end: newcomer.end,
+            ..request
+        },
+        Side::Front => Extent {
+            first: newcomer.first,
+            ..request
+        },
+    }
+}
+
+/// Where a request lies at a side.
+fn spot_at(side: Side, extent: Extent, id: u64) -> Spot
+    ensures { result ≡ (at_of side extent, id) }
+{
+    match side {
+        Side::Back => end_spot(extent, id),
+        Side::Front => first_spot(extent, id),
+    }
+}
+
+/// Joins a newcomer to the request of an id, where `spots` are the requests' ends at the side.
+fn join_in<A: Allocator + Clone>(
+    waiting: &mut BTreeMap<u64, Queued<A>, A>,
+    spots: &mut BTreeSet<Spot, A>,
+    id: u64,
+    side: Side,
+    now: u64,
+    limits: &Limits,
+    newcomer: Request<A>,
+) -> Result<(), Request<A>>
+    requires fit { HasFit limits.now (get nat_cmp waiting.old) newcomer id side }
+    requires spots { AreSpots (at_of side) (get nat_cmp waiting.old) (contains spot_cmp spots.old) }
+    ensures spots { AreSpots (at_of side) (get nat_cmp waiting.new) (contains spot_cmp spots.new) }
+    ensures joined { OnOk result (IsJoined now newcomer (get nat_cmp waiting.old) id side (get nat_cmp waiting.new)) }
+    ensures err { IfErr result (λ e. e ≡ newcomer) }
+    ensures same { OnErr result (waiting.new.entries ≡ waiting.old.entries) }
+{
+    let sectors = newcomer.sectors();
+    let _ = sectors;
+    let added = Extent::of(&newcomer);
+    let Some(queued) = waiting.get_mut(&id) else {
+        unreachable!()
+    };
+    let before = extent_of(queued);
+    let spot = spot_at(side, joined_extent(side, before, added), id);
+    let Ok(()) = put(spots, spot) else {
+        return Err(newcomer);
+    };
+    match queued.join(newcomer, now, limits) {
+        Ok(_) => {
+            take(spots, spot_at(side, before, id));
+            Ok(())
+        }
+        Err((newcomer, _)) => {
+            take(spots, spot);
+            Err(newcomer)
+        }
+    }
+}
+
+/// The id of a request.
+fn id_of<A: Allocator + Clone>(queued: &Queued<A>) -> u64
+    ensures { result ≡ queued.now.id }
+{
+    queued.id
+}
+
+/// Its sectors.
+fn extent_of<A: Allocator + Clone>(queued: &Queued<A>) -> Extent
+    ensures { result ≡ extent_of queued.now.bios }
+{
+    Extent::of(&queued.request)
+}
