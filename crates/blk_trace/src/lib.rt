@@ -7,6 +7,4 @@ pub mod laws;
 pub mod rule;
 pub mod setup;
 mod tags;
-#[cfg(test)]
-mod tests;
 pub mod trace;

@@ -1,0 +1,121 @@
+//! The rules that an event may break.
+
+use crate::given::{
+    Heap, Step, bio, empty, event, has_events, is_event, limits, push, push_all, request, setup,
+    standing,
+};
+use blk_bio::bio::Dir;
+use blk_trace::event::Event;
+use blk_trace::rule::{PushFault, TraceRule};
+use blk_trace::trace::{MAX_EVENTS, Trace};
+use refusing::Refusing;
+use std::process::Abort;
+
+/// Pushes an event that breaks the rule, which has to come back and to leave the trace.
+fn breaks<'a>(
+    rt: &impl Abort,
+    trace: &mut Trace<Heap<'a>>,
+    event: Event<Heap<'a>>,
+    rule: TraceRule,
+) -> Event<Heap<'a>> {
+    let before = standing(trace);
+    match trace.push(event) {
+        Ok(()) => panic!(rt; "pushed"),
+        Err((back, why)) => {
+            assert_eq!(rt; why, PushFault::Rule(rule));
+            assert_eq!(rt; standing(trace), before);
+            back
+        }
+    }
+}
+
+/// Pushes the events of steps, each of which breaks a rule.
+fn break_all<'a>(
+    rt: &impl Abort,
+    heap: Heap<'a>,
+    trace: &mut Trace<Heap<'a>>,
+    steps: &[(Step, TraceRule)],
+) {
+    for (step, rule) in steps {
+        let back = breaks(rt, trace, event(rt, heap, *step), *rule);
+        assert!(rt; is_event(&back, step));
+    }
+}
+
+#[test]
+fn each_rule_refuses(rt: HostRuntime) {
+    let heap = Refusing::new(rt.alloc());
+    let (issued, waits) = (bio(&rt, Dir::Read, 0, 4), bio(&rt, Dir::Read, 100, 4));
+    let new = bio(&rt, Dir::Read, 104, 4);
+    let steps = [
+        Step::Release(0, issued),
+        Step::Release(1, waits),
+        Step::Issue(0, 0),
+    ];
+    let mut trace = empty(&rt, &heap, setup(&rt, 5, 50, limits(&rt, 8, 2)));
+    push_all(&rt, &heap, &mut trace, &steps);
+    let refused = [
+        (Step::Release(0, new), TraceRule::ReleasedTwice),
+        (Step::Release(1, waits), TraceRule::ReleasedTwice),
+        (Step::Join(2, new), TraceRule::Unknown),
+        (Step::Issue(2, 9), TraceRule::Unknown),
+        (Step::Join(0, new), TraceRule::AlreadyIssued),
+        (Step::Issue(0, 9), TraceRule::AlreadyIssued),
+        (Step::Release(2, issued), TraceRule::BioTwice),
+        (Step::Join(1, issued), TraceRule::BioTwice),
+        (Step::Join(1, bio(&rt, Dir::Write, 104, 4)), TraceRule::Fit),
+        (Step::Join(1, bio(&rt, Dir::Read, 105, 4)), TraceRule::Fit),
+        (Step::Join(1, bio(&rt, Dir::Read, 104, 5)), TraceRule::Fit),
+        (Step::Issue(1, 1), TraceRule::TagRange),
+        (Step::Issue(1, 0), TraceRule::TagUsed),
+        (Step::Done(1), TraceRule::NotIssued),
+        (Step::Tick, TraceRule::InFlight),
+    ];
+    break_all(&rt, &heap, &mut trace, &refused);
+    assert!(rt; has_events(&trace, &steps));
+    push(&rt, &heap, &mut trace, Step::Done(0));
+    let refused = [
+        (Step::Done(0), TraceRule::NotIssued),
+        (Step::Issue(1, 0), TraceRule::TagUsed),
+    ];
+    break_all(&rt, &heap, &mut trace, &refused);
+}
+
+/// A request of two bios that has a sector more than the limits of the trace allow.
+#[test]
+fn longer_than_the_limits(rt: HostRuntime) {
+    let heap = Refusing::new(rt.alloc());
+    let mut trace = empty(&rt, &heap, setup(&rt, 5, 50, limits(&rt, 8, 2)));
+    let mut long = request(&rt, &heap, bio(&rt, Dir::Read, 200, 8));
+    let end = request(&rt, &heap, bio(&rt, Dir::Read, 208, 1));
+    assert!(rt; long.join(end, &limits(&rt, 9, 2)).is_ok());
+    let release = Event::Release {
+        id: 2,
+        request: long,
+    };
+    breaks(&rt, &mut trace, release, TraceRule::Fit);
+}
+
+/// An Issue needs a place for its Done too.
+#[test]
+fn too_long(rt: HostRuntime) {
+    let heap = Refusing::new(rt.alloc());
+    let mut trace = empty(&rt, &heap, setup(&rt, 0, 0, limits(&rt, 256, 128)));
+    let read = bio(&rt, Dir::Read, 0, 1);
+    push(&rt, &heap, &mut trace, Step::Release(0, read));
+    for _ in 2..MAX_EVENTS {
+        push(&rt, &heap, &mut trace, Step::Tick);
+    }
+    assert_eq!(rt; standing(&trace), (999_999, 999_998, 0));
+    let refused = [(Step::Issue(0, 0), TraceRule::TooLong)];
+    break_all(&rt, &heap, &mut trace, &refused);
+    push(&rt, &heap, &mut trace, Step::Tick);
+    assert_eq!(rt; standing(&trace), (1_000_000, 999_999, 0));
+    let next = bio(&rt, Dir::Read, 1, 1);
+    let refused = [
+        (Step::Tick, TraceRule::TooLong),
+        (Step::Release(1, next), TraceRule::TooLong),
+        (Step::Join(0, next), TraceRule::TooLong),
+    ];
+    break_all(&rt, &heap, &mut trace, &refused);
+}
