@@ -14,7 +14,7 @@ scratch=
 child=
 
 # say WHAT..: a line on standard error; where that is lost, the status still tells.
-say() { printf '%s: %s\n' "$name" "$*" 2>/dev/null >&2 || true; }
+say() { printf '%s: %s\n' "$name" "$*" >&2 2>/dev/null || true; }
 
 # fail WHY..: ends with status 3, a failure of the command itself.
 fail() {
@@ -203,7 +203,7 @@ look_at_needs() {
 
 # fail_at WHY..: shows the end of what rt said, and ends.
 fail_at() {
-  tail -n 40 "$scratch/log" 2>/dev/null >&2 || true
+  tail -n 40 "$scratch/log" >&2 2>/dev/null || true
   fail "$*; above stands the end of what rt said"
 }
 
