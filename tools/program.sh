@@ -13,7 +13,8 @@ hashed=
 scratch=
 child=
 
-say() { printf '%s: %s\n' "$name" "$*" >&2; }
+# say WHAT..: a line on standard error; where that is lost, the status still tells.
+say() { printf '%s: %s\n' "$name" "$*" >&2 2>/dev/null || true; }
 
 # fail WHY..: ends with status 3, a failure of the command itself.
 fail() {
@@ -116,14 +117,14 @@ take_crate() {
 # find_sources [WHAT..] -- HOW..: what find says of each of these and of each source of the program: of its crates all but what
 # is made of them, the edits that must be refused, and pages. Ends the subshell in which it runs.
 find_sources() {
-  local more=()
+  local others=()
   while [ "$1" != -- ]; do
-    more+=("$1")
+    others+=("$1")
     shift
   done
   shift
   export LC_ALL=C
-  cd "$top" && exec find "${more[@]}" "${crates[@]/#/crates/}" crates.txt HANDLES \
+  cd "$top" && exec find "${others[@]}" "${crates[@]/#/crates/}" crates.txt HANDLES \
     \( -name out -o -name must-fail -o -name wrong \) -prune -o -type f ! -name '*.md' "$@"
 }
 
@@ -202,7 +203,7 @@ look_at_needs() {
 
 # fail_at WHY..: shows the end of what rt said, and ends.
 fail_at() {
-  tail -n 40 "$scratch/log" >&2
+  tail -n 40 "$scratch/log" >&2 2>/dev/null || true
   fail "$*; above stands the end of what rt said"
 }
 
