@@ -15,6 +15,7 @@ pub mod fits;
 pub mod index;
 pub mod lane;
 pub mod picks;
+pub mod shelf;
 pub mod spots;
 
 use blk_bio::bio::Dir;
