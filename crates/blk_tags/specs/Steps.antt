@@ -1,6 +1,8 @@
 -- The rule of a set's words, and the kinds of step that change them or what the seats hold.
-use Rattle.std.specs.Prelude.{ℕ, ◌≡◌, ◌+◌, ◌-◌, ◌/◌, ◌%◌, ◌^◌, ◌<◌, ◌≤◌, List, [], ◌∷◌, ◌++◌, length, slice_index}
+use Rattle.std.specs.Prelude.{ℕ, ◌≡◌, ◌+◌, ◌-◌, ◌/◌, ◌%◌, ◌^◌, ◌<◌, ◌≤◌, List, [], ◌∷◌, ◌++◌, length, slice_index, slice_set, Contains, bit_and, bit_or}
 use Rattle.std.specs.Int.{bit_at}
+use mathlib.Core.Option.{some}
+use lib.ListN.{get_elem?}
 use Rattle.atomic_table.specs.Table.{State, Me, Step}
 use Rattle.blk_tags.specs.Tags.{count_of, without}
 
@@ -20,6 +22,26 @@ pub record TagsAreHeldOnce {S : Type 0} (depth : ℕ) (s : State S (List ℕ)) :
   pub four : length s.words ≡ 4
   pub counted : (t : ℕ) → bit_of s.words t ≡ total_of t s.views
   pub below : (t : ℕ) → depth ≤ t → bit_of s.words t ≡ 0
+
+-- a seat with these tags, and one that holds a tag
+abbrev pub IsSeatWith : List (List ℕ) → ℕ → List ℕ → Type 0
+IsSeatWith views seat tags = get_elem? views seat ≡ some tags
+
+abbrev pub IsHeldBy : List (List ℕ) → ℕ → ℕ → Type 0
+IsHeldBy views seat t = (tags : List ℕ) × IsSeatWith views seat tags × Contains tags t
+
+-- the state with a tag's bit set, or cleared, with other tags for one seat, and with one seat more, which holds none
+abbrev pub set_in : {S : Type 0} → State S (List ℕ) → ℕ → State S (List ℕ)
+set_in s t = record { words = slice_set s.words (t / 64) (bit_or (slice_index s.words (t / 64)) (2 ^ (t % 64))); homes = s.homes; views = s.views }
+
+abbrev pub cleared_in : {S : Type 0} → State S (List ℕ) → ℕ → State S (List ℕ)
+cleared_in s t = record { words = slice_set s.words (t / 64) (bit_and (slice_index s.words (t / 64)) (2 ^ 64 - 1 - 2 ^ (t % 64))); homes = s.homes; views = s.views }
+
+abbrev pub with_seat : {S : Type 0} → State S (List ℕ) → ℕ → List ℕ → State S (List ℕ)
+with_seat s seat tags = record { words = s.words; homes = s.homes; views = slice_set s.views seat tags }
+
+abbrev pub with_new_seat : {S : Type 0} → State S (List ℕ) → State S (List ℕ)
+with_new_seat s = record { words = s.words; homes = s.homes; views = s.views ++ [] ∷ [] }
 
 -- A take, one fetch_or of the tag's bit on its word. It wins where the bit was clear: no seat held the tag, and this one
 -- holds it now, behind those that it held. It loses where the bit was set: the word and what the seat holds stay

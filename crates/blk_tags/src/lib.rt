@@ -7,6 +7,7 @@
 #![tactic(auto)]
 
 pub mod held;
+pub mod laws;
 
 ghost use Rattle.std.specs.Prelude.{◌≡◌, ◌<◌, ◌≤◌, ◌+◌, ◌-◌, ◌/◌, ◌%◌, ◌^◌, ◌++◌, ◌∷◌, [], ◌⊎◌, ◌↔◌, ℕ, List, replicate, true, false, None, Some, Err, IsTrue, IfOk, IfSome, IfNone, Contains};
 ghost use Rattle.std.specs.Bool.{OnTrue, OnFalse};
@@ -33,7 +34,7 @@ pub enum TagFault {
     Memory,
 }
 
-// What is true of the words and of what all seats hold, between any two steps.
+/// What is true of the words and of what all seats hold, between any two steps.
 struct TagRule;
 
 impl TableRule<u8, Held, u16> for TagRule {
@@ -42,21 +43,21 @@ impl TableRule<u8, Held, u16> for TagRule {
     ghost first = { λ _. [] };
 }
 
-// What a take tells the seat.
+/// What a take tells the seat.
 struct Take;
 
 impl Play<u8, Held> for Take {
     ghost then = { took };
 }
 
-// What a give tells the seat.
+/// What a give tells the seat.
 struct Give;
 
 impl Play<u8, Held> for Give {
     ghost then = { gave };
 }
 
-// A seat keeps what it holds, and a new one holds none.
+/// A seat keeps what it holds, and a new one holds none.
 struct Cut;
 
 impl Split<Held> for Cut {
@@ -65,7 +66,7 @@ impl Split<Held> for Cut {
     ghost right = { λ _. [] };
 }
 
-// A seat keeps what it holds, and the one that goes holds none.
+/// A seat keeps what it holds, and the one that goes holds none.
 struct Whole;
 
 impl Join<Held> for Whole {
@@ -153,7 +154,7 @@ impl<A: Allocator + Clone> TagSet<A> {
     }
 }
 
-// As many marks, none of them set.
+/// As many marks, none of them set.
 fn no_marks<A: Allocator + Clone>(alloc: &A, count: usize) -> Result<Vec<bool, A>, AllocError>
     ensures { IfOk result (λ v. v.items ≡ replicate count false) }
 {
@@ -176,7 +177,7 @@ impl<A: Allocator> TagSet<A> {
         self.join_empty(seat, other);
     }
 
-    // Lets a seat that holds no tag go.
+    /// Lets a seat that holds no tag go.
     fn join_empty(&self, seat: &mut TagSeat<A>, other: TagSeat<A>)
         requires of_set { seat.old.of_set ≡ self.now }
         requires other_of_set { other.of_set ≡ self.now }
@@ -213,7 +214,7 @@ impl<A: Allocator> TagSet<A> {
         None
     }
 
-    // Tries to take a tag.
+    /// Tries to take a tag.
     fn take(&self, seat: &mut TagSeat<A>, tag: u16) -> bool
         requires of_set { seat.old.of_set ≡ self.now }
         requires below { tag < self.now.depth }
@@ -229,7 +230,7 @@ impl<A: Allocator> TagSet<A> {
         true
     }
 
-    // Sets a tag's bit, and says whether it was clear.
+    /// Sets a tag's bit, and says whether it was clear.
     fn set_bit(&self, seat: &mut Seat<u8, Held>, tag: u16) -> bool
         requires table { seat.old.table_id ≡ self.now.name }
         requires below { tag < self.now.depth }
@@ -254,7 +255,7 @@ impl<A: Allocator> TagSet<A> {
         seat.marks[usize::from(tag)] = false;
     }
 
-    // Clears the bit of a tag that the seat holds.
+    /// Clears the bit of a tag that the seat holds.
     fn clear_bit(&self, seat: &mut Seat<u8, Held>, tag: u16)
         requires table { seat.old.table_id ≡ self.now.name }
         requires below { tag < self.now.depth }
@@ -287,7 +288,7 @@ impl<A: Allocator> TagSeat<A> {
         usize::from(tag) < self.marks.len() && self.marks[usize::from(tag)]
     }
 
-    // The tag that a take tries first, or the depth where the seat took the last one.
+    /// The tag that a take tries first, or the depth where the seat took the last one.
     fn next(&self) -> u16
         ensures { result ≤ self.now.of_set.depth }
     {
@@ -298,14 +299,14 @@ impl<A: Allocator> TagSeat<A> {
     }
 }
 
-// The word that a tag's bit is in.
+/// The word that a tag's bit is in.
 fn word_of(tag: u16) -> usize
     ensures { result ≡ tag / 64 }
 {
     usize::from(tag / 64)
 }
 
-// A tag's bit in its word.
+/// A tag's bit in its word.
 fn bit_of(tag: u16) -> u64
     ensures { result ≡ 2 ^ (tag % 64) }
 {
