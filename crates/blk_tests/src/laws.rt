@@ -1,16 +1,9 @@
-//! The laws of the crates below that have no tests of their own: each can be called.
+//! The laws of the program: each can be called.
 
 use blk_cli::laws::{one_more_step, released_by_flush_and_move};
-use blk_core::laws::{
-    in_flight_is_open, listed_issues_are_open, open_picks_are_open_issues, taken_is_used,
-};
 
 #[test]
 fn laws_hold() {
-    in_flight_is_open();
-    taken_is_used();
-    listed_issues_are_open();
-    open_picks_are_open_issues();
     released_by_flush_and_move();
     one_more_step();
 }

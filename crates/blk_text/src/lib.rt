@@ -12,6 +12,4 @@ mod pieces;
 pub mod script;
 mod setup;
 pub mod source;
-#[cfg(test)]
-mod tests;
 pub mod trace;
