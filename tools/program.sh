@@ -11,9 +11,7 @@ stamp=$top/crates/blk/out/built-from
 crates=()
 hashed=
 scratch=
-children=()
-# Of each crate that is listed, what it stands on.
-declare -A needs=()
+child=
 
 # say WHAT..: a line on standard error; where that is lost, the status still tells.
 say() { printf '%s: %s\n' "$name" "$*" >&2 2>/dev/null || true; }
@@ -39,34 +37,23 @@ clean() {
   scratch=
 }
 
-# Whether anything that was started still runs.
-any_runs() {
-  local group
-  for group in "${children[@]}"; do
-    if kill -s 0 -- "-$group" 2>/dev/null; then return 0; fi
-  done
-  return 1
-}
-
 # Ends what was started: asked to at first, and after five seconds not asked.
-end_children() {
-  local group try
-  for group in "${children[@]}"; do kill -s TERM -- "-$group" 2>/dev/null || true; done
+end_child() {
+  local try
+  [ -n "$child" ] || return 0
+  kill -s TERM -- "-$child" 2>/dev/null || true
   for ((try = 0; try < 50; try++)); do
-    if ! any_runs; then break; fi
+    if ! kill -s 0 -- "-$child" 2>/dev/null; then break; fi
     sleep 0.1
   done
-  for group in "${children[@]}"; do
-    kill -s KILL -- "-$group" 2>/dev/null || true
-    wait "$group" 2>/dev/null || true
-  done
-  children=()
+  kill -s KILL -- "-$child" 2>/dev/null || true
+  wait "$child" 2>/dev/null || true
 }
 
 # end_by SIGNAL: ends what was started, and then this command as that signal does.
 end_by() {
   trap '' HUP INT QUIT PIPE TERM
-  end_children
+  end_child
   clean
   trap - EXIT "$1"
   kill -s "$1" "$$"
@@ -88,31 +75,15 @@ make_scratch() {
   { printf 'x' >"$scratch/log"; } 2>/dev/null || fail "the temporary folder ${TMPDIR:-/tmp} can't be used"
 }
 
-# spawn FOLDER COMMAND..: starts it there, in a process group of its own, so that all of it can be ended; it is the last of
-# `children` then.
-spawn() {
+# start FOLDER COMMAND..: runs it there, in a process group of its own, so that all of it can be ended; answers its status.
+start() {
+  local status=0
   set -m
   (cd "$1" && shift && TMPDIR=$scratch exec "$@") </dev/null &
-  children+=("$!")
+  child=$!
   set +m
-}
-
-# forget GROUP: that one has ended.
-forget() {
-  local group kept=()
-  for group in "${children[@]}"; do
-    if [ "$group" != "$1" ]; then kept+=("$group"); fi
-  done
-  children=("${kept[@]}")
-}
-
-# start FOLDER COMMAND..: runs it there, and answers its status.
-start() {
-  local status=0 group
-  spawn "$@"
-  group=${children[-1]}
-  wait "$group" 2>/dev/null || status=$?
-  forget "$group"
+  wait "$child" 2>/dev/null || status=$?
+  child=
   return "$status"
 }
 
@@ -121,8 +92,7 @@ start() {
 # crates_of NAME: into `crates`, the crates of the repository that it stands on, each after those below it, and then itself.
 crates_of() {
   local line word
-  local -A seen=()
-  needs=()
+  local -A needs=() seen=()
   crates=()
   [ -r "$top/crates.txt" ] || fail "a source can't be read: crates.txt"
   while IFS= read -r line || [ -n "$line" ]; do
@@ -237,65 +207,20 @@ fail_at() {
   fail "$*; above stands the end of what rt said"
 }
 
-# Whether all that a crate stands on is built, by the `built` of prove_crates.
-is_ready() {
-  local below
-  for below in ${needs[$1]}; do
-    if [ -n "${needs[$below]+listed}" ] && [ -z "${built[$below]:-}" ]; then return 1; fi
-  done
-}
-
-# How many crates are proved at once: a processor and three gigabytes of free memory for each.
-at_once() {
-  local free processors
-  free=$(awk '/^MemAvailable:/ { print int($2 / 3000000) }' /proc/meminfo 2>/dev/null) || free=1
-  processors=$(nproc 2>/dev/null) || processors=1
-  if [ "${free:-1}" -lt "$processors" ]; then processors=${free:-1}; fi
-  if [ "$processors" -lt 1 ]; then processors=1; fi
-  printf '%s' "$processors"
-}
-
-# end_of CRATE STATUS: notes that a crate is built, or ends where it could not be.
-end_of() {
-  local log=$scratch/log.$1
-  if [ "$2" = 0 ]; then
-    built[$1]=1
-    return 0
-  fi
-  end_children
-  mv "$log" "$scratch/log"
-  fail_at "$1 could not be built"
-}
-
-# Proves the libraries of the program, each after those below it, as many side by side as there is room for.
-prove_crates() {
-  local crate group status at=0 most
-  local -A built=() asked=() crate_of=()
-  most=$(at_once)
-  while [ "${#built[@]}" -lt $((${#crates[@]} - 1)) ]; do
-    for crate in "${crates[@]}"; do
-      if [ "${#children[@]}" -ge "$most" ]; then break; fi
-      if [ "$crate" = blk ] || [ -n "${asked[$crate]:-}" ] || ! is_ready "$crate"; then continue; fi
-      at=$((at + 1))
-      say "proving $crate, $at of ${#crates[@]}, after $(so_far)"
-      asked[$crate]=1
-      spawn "$top/crates/$crate" rt lib >"$scratch/log.$crate" 2>&1
-      crate_of[${children[-1]}]=$crate
-    done
-    status=0
-    wait -n -p group "${children[@]}" 2>/dev/null || status=$?
-    forget "$group"
-    end_of "${crate_of[$group]}" "$status"
-  done
-}
-
 # Proves each crate of the program, those below it first, and compiles it.
 build_once() {
-  prove_crates
-  say "proving and compiling blk, ${#crates[@]} of ${#crates[@]}, after $(so_far)"
-  # rt builds a program by running it; asking for the help text ends with status 2
-  start "$top/crates/blk" rt run -- --help >"$scratch/log" 2>&1 || true
-  if [ ! -x "$program" ] || ! grep -q '^Usage: blk' "$scratch/log"; then fail_at "the program could not be built"; fi
+  local crate at=0
+  for crate in "${crates[@]}"; do
+    at=$((at + 1))
+    say "proving $crate, $at of ${#crates[@]}, after $(so_far)"
+    if [ "$crate" != blk ]; then
+      start "$top/crates/$crate" rt lib >"$scratch/log" 2>&1 || fail_at "$crate could not be built"
+    else
+      # rt builds a program by running it; asking for the help text ends with status 2
+      start "$top/crates/blk" rt run -- --help >"$scratch/log" 2>&1 || true
+      if [ ! -x "$program" ] || ! grep -q '^Usage: blk' "$scratch/log"; then fail_at "the program could not be built"; fi
+    fi
+  done
 }
 
 # Builds the program, and again where its sources changed meanwhile.
