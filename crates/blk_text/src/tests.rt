@@ -98,7 +98,7 @@ fn faults_of_a_command_list(rt: HostRuntime) -> Result<(), Fail> {
             Why::Number,
         ),
         (b"blk-commands,1,0\n".as_slice(), 1, Why::Range),
-        (b"blk-commands,1,65\n".as_slice(), 1, Why::Range),
+        (b"blk-commands,1,257\n".as_slice(), 1, Why::Range),
         (
             b"blk-commands,1,1\n1,1099511627776,0\n".as_slice(),
             2,
@@ -335,7 +335,7 @@ fn one_record_too_many(rt: HostRuntime) -> Result<(), Fail> {
 fn empty_lines_are_not_counted(rt: HostRuntime) -> Result<(), Fail> {
     let alloc = rt.alloc();
     for (bad, at, why) in [
-        (b"\n\nblk-commands,1,65\n".as_slice(), 1, Why::Range),
+        (b"\n\nblk-commands,1,257\n".as_slice(), 1, Why::Range),
         (b"blk-commands,1,1\n\n1,0,x".as_slice(), 2, Why::Number),
         (
             b"blk-commands,1,1\r\n\r\n\n1,0,0\n\n\n2,0\n".as_slice(),
