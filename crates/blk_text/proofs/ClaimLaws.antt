@@ -171,8 +171,8 @@ missing_once : (count : ℕ) (rows : List Row) (w v : Why) → BoundMissing coun
 missing_once count [] w v a b = a ∙ sym b
 missing_once count (row ∷ rows) w v a b = bound_once count row w v a b
 
-title_good : (depth count : ℕ) → 1 ≤ depth → depth ≤ 64 → count ≤ 1_000_000 → Goods title_slots (title_row depth count)
-title_good depth count a b c = ((tt, tt, tt, tt), ((tt, tt, tt, tt), (number_good 1 64 depth (omega (arith, b)) a b, (number_good 0 1_000_000 count (omega (arith, c)) (omega arith) c, tt))))
+title_good : (depth count : ℕ) → 1 ≤ depth → depth ≤ 256 → count ≤ 1_000_000 → Goods title_slots (title_row depth count)
+title_good depth count a b c = ((tt, tt, tt, tt), ((tt, tt, tt, tt), (number_good 1 256 depth (omega (arith, b)) a b, (number_good 0 1_000_000 count (omega (arith, c)) (omega arith) c, tt))))
 
 after_apart : (c : Claim) (at : ℕ) (w : Why) → IsClaim c → AfterTitle (length c.commands) (bound_row c.bound ∷ map served_row (zip c.commands c.rounds)) at w → ⊥
 after_apart c at w h (inl f) = bound_apart (length c.commands) c.bound (bound_row c.bound) w h.bound refl f.1
@@ -215,7 +215,7 @@ one_fault rows at other w v (inr a) (inr b) =
 
 -- faults after a good title
 
-past_title : (rows : List Row) (depth count : ℕ) (more : List Row) (at : ℕ) (w : Why) → 1 ≤ depth → depth ≤ 64 → count ≤ 1_000_000 → rows ≡ title_row depth count ∷ more → ClaimFault rows at w
+past_title : (rows : List Row) (depth count : ℕ) (more : List Row) (at : ℕ) (w : Why) → 1 ≤ depth → depth ≤ 256 → count ≤ 1_000_000 → rows ≡ title_row depth count ∷ more → ClaimFault rows at w
     → AfterTitle count more at w
 past_title rows depth count more at w a b c e (inl f) =
     absurd (title_apart (codes "blk-certificate") title_slots (title_row depth count) more w (_, refl) (title_good depth count a b c) (rw e at f.1))
@@ -239,14 +239,14 @@ later_place count rows at w (inl f) = omega (arith, f.0)
 later_place count rows at w (inr f) = let is = f.4.1 in omega (arith, is)
 
 -- the second record is reached after a good title
-pub reached_bound : (rows : List Row) (depth count : ℕ) (more : List Row) (at : ℕ) → 1 ≤ depth → depth ≤ 64 → count ≤ 1_000_000 → rows ≡ title_row depth count ∷ more
+pub reached_bound : (rows : List Row) (depth count : ℕ) (more : List Row) (at : ℕ) → 1 ≤ depth → depth ≤ 256 → count ≤ 1_000_000 → rows ≡ title_row depth count ∷ more
     → at ≡ 2 → IsReached ClaimFault rows at
 reached_bound rows depth count more at a b c e is =
     let long : length rows ≡ length (title_row depth count ∷ more) = ap length e in
     (omega (arith, long, is), λ k w l f. (let later = later_place count more k w (past_title rows depth count more k w a b c e f) in omega (arith, later, is, l)))
 
 -- a record after a good bound and good lines is reached
-pub reached_line : (rows : List Row) (depth count : ℕ) (bound : Option (ℤ × Window)) (more : List Row) (place at : ℕ) → 1 ≤ depth → depth ≤ 64 → count ≤ 1_000_000 → IsBound count bound
+pub reached_line : (rows : List Row) (depth count : ℕ) (bound : Option (ℤ × Window)) (more : List Row) (place at : ℕ) → 1 ≤ depth → depth ≤ 256 → count ≤ 1_000_000 → IsBound count bound
     → rows ≡ title_row depth count ∷ bound_row bound ∷ more
     → at ≡ 2 + place → LinesBefore served_row IsServed (extent.Exactly count) more place → IsReached ClaimFault rows at
 reached_line rows depth count bound more place at a b c i e is before =

@@ -51,7 +51,7 @@ zipped (s ∷ ss) = ap (λ (k : List (Command × ℕ)). s ∷ k) (zipped ss)
 
 -- lines that were read, as commands and rounds
 pub claim_in : (depth count : ℕ) (bound : Option (ℤ × Window)) (served : List (Command × ℕ)) (cs : List Command) (rs : List ℕ)
-    → (1 ≤ depth) × (depth ≤ 64) × (count ≤ 1_000_000) → IsBound count bound → All IsServed served → (count ≤ length served) × (length served ≤ count)
+    → (1 ≤ depth) × (depth ≤ 256) × (count ≤ 1_000_000) → IsBound count bound → All IsServed served → (count ≤ length served) × (length served ≤ count)
     → cs ≡ map (λ s. s.0) served → rs ≡ map (λ s. s.1) served → IsClaim record { depth = depth; commands = cs; rounds = rs; bound = bound }
 claim_in depth count bound served cs rs r b a n p q =
     let c : length (firsts served) ≡ length served = length-map served (λ s. s.0) in
@@ -87,7 +87,7 @@ length_zip (c ∷ cs) (r ∷ rs) e = ap suc (length_zip cs rs (omega (arith, e))
 -- a wrong line after a title and a bound
 pub claim_wrong : (left mid after : Option (List Row)) (depth count : ℕ) (bound : Option (ℤ × Window)) (at : ℕ) (w : Why)
     → Took (λ cells. cells ≡ title_row depth count) left mid → Took (λ cells. cells ≡ bound_row bound) mid after
-    → (1 ≤ depth) × (depth ≤ 64) × (count ≤ 1_000_000) → IsBound count bound
+    → (1 ≤ depth) × (depth ≤ 256) × (count ≤ 1_000_000) → IsBound count bound
     → IfSome after (λ rows. IsOutside w ⊎ ((place : ℕ) × (at ≡ 2 + place) × LinesWrong served_row IsServed (Lacks served_slots) (extent.Exactly count) rows place w))
     → IfSome left (λ rows. IsOutside w ⊎ ClaimFault rows at w)
 claim_wrong None mid after depth count bound at w t u r i a = tt

@@ -61,8 +61,8 @@ tells = record {
   once = lacks_once command_slots;
 }
 
-title_good : (depth : ℕ) → 1 ≤ depth → depth ≤ 64 → Goods title_slots (title_row depth)
-title_good depth a b = ((tt, tt, tt, tt), ((tt, tt, tt, tt), (number_good 1 64 depth (omega (arith, b)) a b, tt)))
+title_good : (depth : ℕ) → 1 ≤ depth → depth ≤ 256 → Goods title_slots (title_row depth)
+title_good depth a b = ((tt, tt, tt, tt), ((tt, tt, tt, tt), (number_good 1 256 depth (omega (arith, b)) a b, tt)))
 
 pub no_fault : (rows : List Row) (depth : ℕ) (commands : List Command) (at : ℕ) (w : Why) → SpellsCommands rows depth commands → CommandsFault rows at w → ⊥
 no_fault rows depth commands at w s (inl f) =
@@ -82,7 +82,7 @@ one_fault rows at other w v (inr a) (inr b) =
 
 -- faults after a good title
 
-past_title : (rows : List Row) (depth : ℕ) (more : List Row) (at : ℕ) (w : Why) → 1 ≤ depth → depth ≤ 64 → rows ≡ title_row depth ∷ more → CommandsFault rows at w
+past_title : (rows : List Row) (depth : ℕ) (more : List Row) (at : ℕ) (w : Why) → 1 ≤ depth → depth ≤ 256 → rows ≡ title_row depth ∷ more → CommandsFault rows at w
     → (place : ℕ) × (at ≡ 1 + place) × LinesWrong command_row IsCommandInRange (Lacks command_slots) (extent.AtMost 1_000_000) more place w
 past_title rows depth more at w a b e (inl f) =
     absurd (title_apart (codes "blk-commands") title_slots (title_row depth) more w (_, refl) (title_good depth a b) (rw e at f.1))
@@ -91,7 +91,7 @@ past_title rows depth more at w a b e (inr f) =
     rw rest.1 at f.5
 
 -- a record after good commands is reached
-pub reached_line : (rows : List Row) (depth : ℕ) (more : List Row) (place at : ℕ) → 1 ≤ depth → depth ≤ 64 → rows ≡ title_row depth ∷ more
+pub reached_line : (rows : List Row) (depth : ℕ) (more : List Row) (place at : ℕ) → 1 ≤ depth → depth ≤ 256 → rows ≡ title_row depth ∷ more
     → at ≡ 1 + place → LinesBefore command_row IsCommandInRange (extent.AtMost 1_000_000) more place → IsReached CommandsFault rows at
 reached_line rows depth more place at a b e is before =
     let far = lines_far command_row IsCommandInRange (extent.AtMost 1_000_000) more place before in

@@ -10,7 +10,7 @@ use Rattle.blk_text.specs.declared.fault.Why.{Why}
 use Rattle.blk_text.specs.declared.lines.Extent.TheVariants as extent
 use Rattle.blk_text.proofs.FieldLemmas.{not_titled, three}
 
-pub title_is : (row : Row) (ns : List ℕ) → IsTitled (codes "blk-commands") row → FieldsSpell title_slots row ns → (row ≡ title_row (get_or ns 2 0)) × (1 ≤ get_or ns 2 0) × (get_or ns 2 0 ≤ 64)
+pub title_is : (row : Row) (ns : List ℕ) → IsTitled (codes "blk-commands") row → FieldsSpell title_slots row ns → (row ≡ title_row (get_or ns 2 0)) × (1 ≤ get_or ns 2 0) × (get_or ns 2 0 ≤ 256)
 title_is row ns t s =
     let n = not_titled (codes "blk-commands") (codes "1") row t in
     let third = s.1 2 (omega arith) in

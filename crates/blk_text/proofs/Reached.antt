@@ -34,7 +34,7 @@ commands_reached (Some (row ∷ rows)) after ns at t a =
 
 -- the bound of a certificate
 pub bound_reached : (left mid : Option (List Row)) (depth count at : ℕ) → Took (λ row. row ≡ title_row depth count) left mid
-    → (1 ≤ depth) × (depth ≤ 64) × (count ≤ 1_000_000) → at ≡ 2 → IfSome left (λ rows. IsReached ClaimFault rows at)
+    → (1 ≤ depth) × (depth ≤ 256) × (count ≤ 1_000_000) → at ≡ 2 → IfSome left (λ rows. IsReached ClaimFault rows at)
 bound_reached None mid depth count at t r e = tt
 bound_reached (Some []) mid depth count at t r e = absurd t
 bound_reached (Some (row ∷ rows)) mid depth count at t r e = claims.reached_bound (row ∷ rows) depth count rows at r.0 r.1 r.2 (rw t.1 refl) e
@@ -42,7 +42,7 @@ bound_reached (Some (row ∷ rows)) mid depth count at t r e = claims.reached_bo
 -- a command of a certificate
 pub served_reached : (left mid after : Option (List Row)) (depth count : ℕ) (bound : Option (ℤ × Window)) (at : ℕ)
     → Took (λ row. row ≡ title_row depth count) left mid → Took (λ row. row ≡ bound_row bound) mid after
-    → (1 ≤ depth) × (depth ≤ 64) × (count ≤ 1_000_000) → IsBound count bound
+    → (1 ≤ depth) × (depth ≤ 256) × (count ≤ 1_000_000) → IsBound count bound
     → IfSome after (λ rows. (place : ℕ) × (at ≡ 2 + place) × LinesBefore served_row IsServed (extent.Exactly count) rows place)
     → IfSome left (λ rows. IsReached ClaimFault rows at)
 served_reached None mid after depth count bound at t u r i a = tt
@@ -56,7 +56,7 @@ served_reached (Some (row ∷ second ∷ rows)) mid after depth count bound at t
 -- the end of a certificate
 pub end_reached : (left mid after : Option (List Row)) (depth count : ℕ) (bound : Option (ℤ × Window)) (served : List (Command × ℕ)) (at : ℕ)
     → Took (λ row. row ≡ title_row depth count) left mid → Took (λ row. row ≡ bound_row bound) mid after
-    → (1 ≤ depth) × (depth ≤ 64) × (count ≤ 1_000_000) → IsBound count bound → All IsServed served
+    → (1 ≤ depth) × (depth ≤ 256) × (count ≤ 1_000_000) → IsBound count bound → All IsServed served
     → IfSome after (λ rows. AreLines served_row IsServed (extent.Exactly count) rows served)
     → (count ≤ length served) × (length served ≤ count) → at ≡ length served + 3
     → IfSome left (λ rows. IsReached ClaimFault rows at)

@@ -29,7 +29,7 @@ claimed c = record { depth = c.depth; commands = c.commands.items; rounds = c.ro
 
 -- title: blk-certificate, 1, depth, number of commands
 abbrev pub title_slots : List Slot
-title_slots = slot.Given ∷ slot.Given ∷ slot.Number 1 64 ∷ slot.Number 0 1_000_000 ∷ []
+title_slots = slot.Given ∷ slot.Given ∷ slot.Number 1 256 ∷ slot.Number 0 1_000_000 ∷ []
 
 -- bound: bound, lateness, window's from, window's due
 abbrev pub bound_slots : List Slot
@@ -76,7 +76,7 @@ claim_rows c = title_row c.depth (length c.commands) ∷ bound_row c.bound ∷ m
 
 -- a round for each command, and each number in its range
 pub record IsClaim (c : Claim) : Type 0 where
-  pub depth : (1 ≤ c.depth) × (c.depth ≤ 64)
+  pub depth : (1 ≤ c.depth) × (c.depth ≤ 256)
   pub few : length c.commands ≤ 1_000_000
   pub one_each : length c.rounds ≡ length c.commands
   pub bound : IsBound (length c.commands) c.bound
@@ -110,4 +110,4 @@ AfterTitle count rows at w =
 abbrev pub ClaimFault : List Row → ℕ → Why → Type 0
 ClaimFault rows at w =
     ((at ≡ 1) × TitleMissing (codes "blk-certificate") title_slots rows w)
-    ⊎ ((depth count : ℕ) × (rest : List Row) × (1 ≤ depth) × (depth ≤ 64) × (count ≤ 1_000_000) × (rows ≡ title_row depth count ∷ rest) × AfterTitle count rest at w)
+    ⊎ ((depth count : ℕ) × (rest : List Row) × (1 ≤ depth) × (depth ≤ 256) × (count ≤ 1_000_000) × (rows ≡ title_row depth count ∷ rest) × AfterTitle count rest at w)

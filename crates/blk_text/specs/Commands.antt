@@ -11,7 +11,7 @@ use Rattle.blk_text.specs.declared.fields.Slot.TheVariants as slot
 
 -- title: blk-commands, 1, depth
 abbrev pub title_slots : List Slot
-title_slots = slot.Given ∷ slot.Given ∷ slot.Number 1 64 ∷ []
+title_slots = slot.Given ∷ slot.Given ∷ slot.Number 1 256 ∷ []
 
 -- each command: id, release, due
 abbrev pub command_slots : List Slot
@@ -35,7 +35,7 @@ commands_rows depth commands = title_row depth ∷ map command_row commands
 
 -- a depth and commands that a command list can spell
 abbrev pub AreCommands : ℕ → List Command → Type 0
-AreCommands depth commands = (1 ≤ depth) × (depth ≤ 64) × (length commands ≤ 1_000_000) × All IsCommandInRange commands
+AreCommands depth commands = (1 ≤ depth) × (depth ≤ 256) × (length commands ≤ 1_000_000) × All IsCommandInRange commands
 
 -- the records spell this depth and these commands
 abbrev pub SpellsCommands : List Row → ℕ → List Command → Type 0
@@ -44,5 +44,5 @@ SpellsCommands rows depth commands = (rows ≡ commands_rows depth commands) × 
 -- the first fault of a command list: of its title, or of the lines after a good title
 abbrev pub CommandsFault : List Row → ℕ → Why → Type 0
 CommandsFault rows at w = ((at ≡ 1) × TitleMissing (codes "blk-commands") title_slots rows w)
-    ⊎ ((depth : ℕ) × (rest : List Row) × (1 ≤ depth) × (depth ≤ 64) × (rows ≡ title_row depth ∷ rest)
+    ⊎ ((depth : ℕ) × (rest : List Row) × (1 ≤ depth) × (depth ≤ 256) × (rows ≡ title_row depth ∷ rest)
     × ((place : ℕ) × (at ≡ 1 + place) × LinesWrong command_row IsCommandInRange (Lacks command_slots) (extent.AtMost 1_000_000) rest place w))

@@ -192,7 +192,7 @@ fn read_certificate_title<R: Read + Drop>(records: &mut Records<R>) -> Result<(u
     ensures at { records.new.at ≡ 1 }
     ensures ok { IfOk result (λ t. Took (λ row. row ≡ title_row t.0 t.1) records.old.left records.new.left) }
     // also where the reader's bytes are not known
-    ensures range { IfOk result (λ t. (1 ≤ t.0) × (t.0 ≤ 64) × (t.1 ≤ 1_000_000)) }
+    ensures range { IfOk result (λ t. (1 ≤ t.0) × (t.0 ≤ 256) × (t.1 ≤ 1_000_000)) }
     // at the record that was asked for last: none was read past it
     ensures last { IfErr result (λ f. f.at ≡ records.new.at) }
     ensures err { IfErr result (λ f. IfSome records.old.left (λ rows. IsOutside f.why
@@ -201,7 +201,7 @@ fn read_certificate_title<R: Read + Drop>(records: &mut Records<R>) -> Result<(u
     let slots = [
         Slot::Given,
         Slot::Given,
-        Slot::Number { least: 1, most: 64 },
+        Slot::Number { least: 1, most: 256 },
         Slot::Number {
             least: 0,
             most: 1_000_000,

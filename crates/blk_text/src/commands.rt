@@ -64,7 +64,7 @@ impl LineForm for CommandForm {
     }
 }
 
-/// The depth and the commands of a text of records of three fields: a title with the depth, 1 to 64,
+/// The depth and the commands of a text of records of three fields: a title with the depth, 1 to 256,
 /// and at most 1,000,000 commands by id, release round and due round. No record was read before.
 ///
 /// The fault is the first one: of the least record, and in it the first in the order of [`Why`].
@@ -91,7 +91,7 @@ pub fn read_commands<R: Read + Drop>(
     let slots = [
         Slot::Given,
         Slot::Given,
-        Slot::Number { least: 1, most: 64 },
+        Slot::Number { least: 1, most: 256 },
     ];
     let depth = match read_title(records, b"blk-commands", &slots) {
         Ok(numbers) => numbers[2],
@@ -144,7 +144,7 @@ fn commands_text(alloc: Global, depth: u64, commands: &[Command]) -> Result<Vec<
 /// Writes the text of a depth and a list of commands, at once where all of it could be made.
 ///
 /// There are at most 1,000,000 commands, and the numbers lie in the ranges of the form: a depth of
-/// 1 to 64, releases below round 2^40, dues below round 2^41.
+/// 1 to 256, releases below round 2^40, dues below round 2^41.
 ///
 /// [`WriteFault::Write`]: the writer answered a fault; what it took before is out, and nothing says
 /// how much that is. [`WriteFault::Memory`]: nothing was handed to the writer.
