@@ -78,3 +78,7 @@ none_count v t nowhere = elim (cases_Bool (ltb 0 (count_of t v))) [
   | inl y ↦ absurd (nowhere (some_held t v (ltb-true 0 (count_of t v) y)))
   | inr n ↦ omega (arith, ltb-false 0 (count_of t v) n)
 ]
+
+-- a tag that is put at the end is held
+pub pushed_held : (t : ℕ) (v w : List ℕ) → w ≡ v ++ t ∷ [] → Contains w t
+pushed_held t v w e = rw e (some_held t (v ++ t ∷ []) (omega (arith, count_push_same t v)))

@@ -198,6 +198,7 @@ impl<A: Allocator> TagSet<A> {
         requires { seat.old.of_set ≡ self.now }
         ensures some { IfSome result (λ t. seat.new ≡ record seat.old { tags = seat.old.tags ++ t ∷ []; last = Some t }) }
         ensures free { IfSome result (λ t. ¬ Contains seat.old.tags t) }
+        ensures held { IfSome result (Contains seat.new.tags) }
         ensures below { IfSome result (λ t. t < self.now.depth) }
         ensures none { IfNone result (seat.new ≡ seat.old) }
     {
@@ -220,6 +221,7 @@ impl<A: Allocator> TagSet<A> {
         requires below { tag < self.now.depth }
         ensures won { OnTrue result (seat.new ≡ record seat.old { tags = seat.old.tags ++ tag ∷ []; last = Some tag }) }
         ensures free { OnTrue result (¬ Contains seat.old.tags tag) }
+        ensures held { OnTrue result (Contains seat.new.tags tag) }
         ensures lost { OnFalse result (seat.new ≡ seat.old) }
     {
         if !self.set_bit(&mut seat.seat, tag) {

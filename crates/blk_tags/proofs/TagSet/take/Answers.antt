@@ -1,7 +1,7 @@
 use Rattle.std.proofs.Common.{◌≡◌, ◌∙◌, sym, ap, subst, arith, length}
 use Rattle.std.specs.Prelude.{Contains}
 use Rattle.blk_tags.specs.Tags.{IsSeat}
-use Rattle.blk_tags.proofs.Counts.{held_some}
+use Rattle.blk_tags.proofs.Counts.{held_some, pushed_held}
 use Rattle.blk_tags.proofs.Marked.{seat_of, took_one}
 use Rattle.blk_tags.proofs.TagSet.take.Goals as goal
 
@@ -14,3 +14,6 @@ invariant_of-seat-2 g c =
 
 pub returns-clause-free : goal.returns-clause-free
 returns-clause-free g c = λ has. omega (arith, c.if-not-set_bit.ensures.free, held_some c.args.tag c.seat.inside.seat.me.0 (subst (λ tags. Contains tags c.args.tag) (sym (ap (λ s. s.tags) c.seat.view_is)) has))
+
+pub returns-clause-held : goal.returns-clause-held
+returns-clause-held g c = pushed_held c.args.tag c.seat.inside.seat.me.0 c.set_bit.new.seat.me.0 c.if-not-set_bit.ensures.won
