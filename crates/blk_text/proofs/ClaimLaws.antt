@@ -22,12 +22,11 @@ use Rattle.parts.specs.declared.Extent.TheVariants as extent
 use Rattle.parts.specs.Parts.{Begins, Spells}
 use Rattle.parts.specs.Laws.{Tells}
 use Rattle.parts.proofs.Then.{record_tells, then_tells}
-use Rattle.parts.proofs.Many.{lines_tells}
 use Rattle.blk_text.proofs.Lists.{head_of, tail_of, all_cons}
 use Rattle.blk_text.proofs.Once.{lacks_once, no_word_once}
-use Rattle.blk_text.proofs.TableLaws.{table_tells, table_part, title_part}
-use Rattle.blk_text.proofs.Each.{rows_map, fit_all, all_fit, size_is, each_plain, each_row, first_version}
-use Rattle.blk_text.proofs.Reading.{then_reads, items_reached, first_reached, second_reached, end_reached}
+use Rattle.blk_text.proofs.TableLaws.{table_tells, title_part}
+use Rattle.blk_text.proofs.Each.{rows_map, fit_all, all_fit, size_is, each_tells, each_reached, one_version, first_version}
+use Rattle.blk_text.proofs.Reading.{then_reads, first_reached, second_reached, end_reached}
 use Rattle.blk_text.proofs.Texts.{text_back}
 
 -- the tables
@@ -100,11 +99,8 @@ bound_tells count = record_tells bound_row (IsBound count) why.Word (BoundWrong 
 
 -- the commands with their rounds
 
-served_tell : (s : List (Command × ℕ)) → Tells (served s)
-served_tell s = table_part why.Count served_cells IsServed served_table
-
 items_tell : (count : ℕ) → Tells (items_of (extent.Exactly count) served)
-items_tell count = lines_tells (extent.Exactly count) why.Count served _ served_tell (each_plain served_row IsServed why.Count (Lacks (slots_by served_cells))) (each_row served_row IsServed why.Count (Lacks (slots_by served_cells))) []
+items_tell count = each_tells served_row IsServed why.Count (Lacks (slots_by served_cells)) (extent.Exactly count) (table_tells served_cells IsServed served_table)
 
 body_tells : (count : ℕ) → Tells (claim_body count)
 body_tells count = then_tells (bound count) (λ b. items_of (extent.Exactly count) served) (bound_tells count) (λ b fit. items_tell count)
@@ -208,9 +204,6 @@ claim_in version depth count bound lines cs rs r b a p q =
     let fit = fit_all served_row IsServed why.Count (Lacks (slots_by served_cells)) [] lines a.0 in
     rw (p, q) (record { depth = (r.1.0, r.1.1); few = omega (arith, r.1.2, same); one_each = d ∙ sym c; bound = rw same at b; commands = all_first lines fit; rounds = all_second lines fit })
 
-one_version : (version : ℕ) → IsVersion 1 version → version ≡ 1
-one_version version h = let high = h.1 in let low = h.0 in omega (arith, low, high)
-
 pub claim_read : (left mid after : Option (List Row)) (version depth count : ℕ) (b : Option (ℤ × Window)) (lines : List (Command × ℕ)) (cs : List Command) (rs : List ℕ)
     → Reads title left mid (version, (depth, count)) → Reads (bound count) mid after b → IfSome after (λ rows. Begins (items_of (extent.Exactly count) served) rows lines [])
     → IsVersion 1 version → length lines ≡ count → cs ≡ map (λ s. s.0) lines → rs ≡ map (λ s. s.1) lines
@@ -234,11 +227,9 @@ bound_reached left mid t middle at e is h =
 pub line_reached : (left mid after : Option (List Row)) (t : ℕ × (ℕ × ℕ)) (b : Option (ℤ × Window)) (middle start at last : ℕ) → middle ≡ 1 → start ≡ 2 → Reads title left mid t → Reads (bound t.1.1) mid after b
     → IsStopped (extent.Exactly t.1.1) served after start 0 at last → Reaches claim_form left 0 at
 line_reached left mid after t b middle start at last e f h k s =
-    let is : at ≡ start + s.0 = (let low = s.1 in let middle = s.2 in let high = s.3 in omega (arith, low, middle, high)) in
     second_reached title (λ t. claim_body t.1.1) left mid t 0 middle at title_tells h (omega (arith, e))
     (second_reached (bound t.1.1) (λ b. items_of (extent.Exactly t.1.1) served) mid after b middle start at (bound_tells t.1.1) k (omega (arith, e, f))
-    (items_reached served (extent.Exactly t.1.1) after start at s.0 served_tell
-    (each_plain served_row IsServed why.Count (Lacks (slots_by served_cells))) (each_row served_row IsServed why.Count (Lacks (slots_by served_cells))) is s.4))
+    (each_reached served_row IsServed why.Count (Lacks (slots_by served_cells)) (extent.Exactly t.1.1) after start at last (table_tells served_cells IsServed served_table) s))
 
 -- and after it is read
 pub whole_reached : (left mid after : Option (List Row)) (t : ℕ × (ℕ × ℕ)) (b : Option (ℤ × Window)) (lines : List (Command × ℕ)) (at : ℕ) → Reads title left mid t → Reads (bound t.1.1) mid after b

@@ -16,10 +16,9 @@ use Rattle.parts.specs.declared.Extent.TheVariants as extent
 use Rattle.parts.specs.Parts.{Begins, Spells}
 use Rattle.parts.specs.Laws.{Tells}
 use Rattle.parts.proofs.Then.{then_tells}
-use Rattle.parts.proofs.Many.{lines_tells}
-use Rattle.blk_text.proofs.TableLaws.{table_part, title_part}
-use Rattle.blk_text.proofs.Each.{rows_map, fit_all, all_fit, each_plain, each_row, first_version}
-use Rattle.blk_text.proofs.Reading.{then_reads, items_reached, second_reached}
+use Rattle.blk_text.proofs.TableLaws.{table_tells, title_part}
+use Rattle.blk_text.proofs.Each.{rows_map, fit_all, all_fit, each_tells, each_reached, one_version, first_version}
+use Rattle.blk_text.proofs.Reading.{then_reads, second_reached}
 use Rattle.blk_text.proofs.Texts.{text_back}
 
 depth_table : (version : ℕ) → IsTable (depth_cells version) IsDepth
@@ -36,8 +35,7 @@ pub title_tells : Tells title
 title_tells = title_part (codes "blk-commands") 1 depth_cells IsDepth (omega arith) depth_table
 
 commands_tell : Tells (items_of (extent.AtMost 1_000_000) command)
-commands_tell = lines_tells (extent.AtMost 1_000_000) why.TooLong command _ (λ s. table_part why.Count command_cells IsCommandInRange command_table)
-    (each_plain command_row IsCommandInRange why.Count (Lacks (slots_by command_cells))) (each_row command_row IsCommandInRange why.Count (Lacks (slots_by command_cells))) []
+commands_tell = each_tells command_row IsCommandInRange why.Count (Lacks (slots_by command_cells)) (extent.AtMost 1_000_000) (table_tells command_cells IsCommandInRange command_table)
 
 pub list_tells : Tells command_list
 list_tells = then_tells title (λ t. items_of (extent.AtMost 1_000_000) command) title_tells (λ t fit. commands_tell)
@@ -71,9 +69,6 @@ spelled_once rows depth other commands others s t =
 
 -- reading
 
-one_version : (version : ℕ) → IsVersion 1 version → version ≡ 1
-one_version version h = let high = h.1 in let low = h.0 in omega (arith, low, high)
-
 pub list_read : (left mid : Option (List Row)) (version depth : ℕ) (commands : List Command) → Reads title left mid (version, depth) → IsVersion 1 version
     → IfSome mid (λ rows. Begins (items_of (extent.AtMost 1_000_000) command) rows commands []) → IfSome left (λ rows. SpellsCommands rows depth commands)
 list_read None mid version depth commands h v k = tt
@@ -84,7 +79,5 @@ list_read (Some rows) mid version depth commands h v k =
 
 pub list_reached : (left mid : Option (List Row)) (t : ℕ × ℕ) (middle at last : ℕ) → middle ≡ 1 → Reads title left mid t → IsStopped (extent.AtMost 1_000_000) command mid middle 0 at last → Reaches command_list left 0 at
 list_reached left mid t middle at last e h s =
-    let is : at ≡ middle + s.0 = (let low = s.1 in let middle = s.2 in let high = s.3 in omega (arith, low, middle, high)) in
     second_reached title (λ t. items_of (extent.AtMost 1_000_000) command) left mid t 0 middle at title_tells h (omega (arith, e))
-    (items_reached command (extent.AtMost 1_000_000) mid middle at s.0 (λ s. table_part why.Count command_cells IsCommandInRange command_table)
-    (each_plain command_row IsCommandInRange why.Count (Lacks (slots_by command_cells))) (each_row command_row IsCommandInRange why.Count (Lacks (slots_by command_cells))) is s.4)
+    (each_reached command_row IsCommandInRange why.Count (Lacks (slots_by command_cells)) (extent.AtMost 1_000_000) mid middle at last (table_tells command_cells IsCommandInRange command_table) s)

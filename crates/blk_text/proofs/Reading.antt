@@ -1,5 +1,5 @@
 -- The items that were read and the records that are left make up the input.
-use Rattle.std.proofs.Common.{◌≡◌, ◌+◌, ◌*◌, ◌≤◌, ◌<◌, ◌∙◌, ℕ, List, [], ◌∷◌, ◌++◌, length, get_or, mul-le-mul_right, true, false, Option, Some, None, refl, sym, ap, inl, inr, arith, append_assoc, append-nil}
+use Rattle.std.proofs.Common.{◌≡◌, ◌+◌, ◌*◌, ◌≤◌, ◌<◌, ◌∙◌, ℕ, List, [], ◌∷◌, ◌++◌, length, get_or, mul-le-mul_right, Bool, true, false, Option, Some, None, refl, sym, ap, inl, inr, arith, append_assoc, append-nil}
 use Rattle.std.specs.Prelude.{IfSome, ◌⊎◌}
 use Rattle.std.proofs.lemmas.List.{length-append}
 use Rattle.blk_text.specs.Sources.{Row, Takes}
@@ -62,27 +62,27 @@ here (extent.AtMost n) c row rest l = (l, λ e. (cc e))
 here (extent.Exactly n) c row rest l = l
 
 -- an item is wrong
-pub items_wrong : {V : Type 0} (q : List V → Part Row Why V) (x : Extent) (input left mid : Option (List Row)) (vs : List V) (row : Row) (start now at : ℕ) (w : Why)
+pub items_wrong : {V : Type 0} (failed : Bool) (q : List V → Part Row Why V) (x : Extent) (input left mid : Option (List Row)) (vs : List V) (row : Row) (start now at : ℕ) (w : Why)
     → MadeOf q input vs left → Takes left mid row true → Fitting q vs → length vs < most_of x → now ≡ start + size_of q vs + 1
-    → HandFails (q vs) mid row now at w → Fails (items_of x q) input start at w
-items_wrong q x None left mid vs row start now at w m t f l e h = tt
-items_wrong q x (Some rows) left mid vs row start now at w m t f l e h =
+    → HandFails failed (q vs) mid row now at w → Fails failed (items_of x q) input start at w
+items_wrong failed q x None left mid vs row start now at w m t f l e h = tt
+items_wrong failed q x (Some rows) left mid vs row start now at w m t f l e h =
     let (more, first, then) = takes_some m.0 mid row (rw m.1 at t) in
     tell more (m.2 ∙ ap (λ z. all_rows q with_next [] vs ++ z) first) (rw then at h)
   where
-    tell : (more : List Row) → rows ≡ all_rows q with_next [] vs ++ (row ∷ more) → (IsOutside w ⊎ ((k : ℕ) × (at + 1 ≡ now + k) × (q vs).Wrong (row ∷ more) k w))
-        → IsOutside w ⊎ ((k : ℕ) × (at ≡ start + k) × (items_of x q).Wrong rows k w)
+    tell : (more : List Row) → rows ≡ all_rows q with_next [] vs ++ (row ∷ more) → (IsOutside failed w ⊎ ((k : ℕ) × (at + 1 ≡ now + k) × (q vs).Wrong (row ∷ more) k w))
+        → IsOutside failed w ⊎ ((k : ℕ) × (at ≡ start + k) × (items_of x q).Wrong rows k w)
     tell more made (inl o) = inl o
     tell more made (inr b) =
         let is = b.1 in
         inr (size_of q vs + b.0, omega (arith, is, e), inl (vs, row ∷ more, b.0, f, made, here x (length vs) row more l, refl, rw (after_all [] vs) b.2))
 
 -- an item never came
-pub items_few : {V : Type 0} (q : List V → Part Row Why V) (n : ℕ) (input left mid : Option (List Row)) (vs : List V) (row : Row) (start at : ℕ) (w : Why)
+pub items_few : {V : Type 0} (failed : Bool) (q : List V → Part Row Why V) (n : ℕ) (input left mid : Option (List Row)) (vs : List V) (row : Row) (start at : ℕ) (w : Why)
     → MadeOf q input vs left → Takes left mid row false → Fitting q vs → length vs < n → at ≡ start + size_of q vs + 1
-    → (q vs).Wrong [] 1 w → Fails (items_of (extent.Exactly n) q) input start at w
-items_few q n None left mid vs row start at w m t f l e h = tt
-items_few q n (Some rows) left mid vs row start at w m t f l e h =
+    → (q vs).Wrong [] 1 w → Fails failed (items_of (extent.Exactly n) q) input start at w
+items_few failed q n None left mid vs row start at w m t f l e h = tt
+items_few failed q n (Some rows) left mid vs row start at w m t f l e h =
     let none = takes_none m.0 mid row (rw m.1 at t) in
     inr (size_of q vs + 1, omega (arith, e), inl (vs, [], 1, f, (m.2 ∙ rw none refl), l, refl, rw (after_all [] vs) h))
 
@@ -99,16 +99,16 @@ items_all {V} q x (Some rows) left mid vs row m t f c =
     }
 
 -- one item more
-pub items_past : {V : Type 0} (q : List V → Part Row Why V) (x : Extent) (input left mid : Option (List Row)) (vs : List V) (row : Row) (start now at : ℕ) (w : Why)
+pub items_past : {V : Type 0} (failed : Bool) (q : List V → Part Row Why V) (x : Extent) (input left mid : Option (List Row)) (vs : List V) (row : Row) (start now at : ℕ) (w : Why)
     → MadeOf q input vs left → Takes left mid row true → Fitting q vs → IsCount x (length vs) → ((rest : List Row) → Stops {R = Row} x (length vs) rest) → now ≡ start + size_of q vs + 1
-    → HandFails (q vs) mid row now at w → Fails (items_of x q) input start at w
-items_past q x None left mid vs row start now at w m t f l s e h = tt
-items_past q x (Some rows) left mid vs row start now at w m t f l s e h =
+    → HandFails failed (q vs) mid row now at w → Fails failed (items_of x q) input start at w
+items_past failed q x None left mid vs row start now at w m t f l s e h = tt
+items_past failed q x (Some rows) left mid vs row start now at w m t f l s e h =
     let (more, first, then) = takes_some m.0 mid row (rw m.1 at t) in
     tell more (m.2 ∙ ap (λ z. all_rows q with_next [] vs ++ z) first) (rw then at h)
   where
-    tell : (more : List Row) → rows ≡ all_rows q with_next [] vs ++ (row ∷ more) → (IsOutside w ⊎ ((k : ℕ) × (at + 1 ≡ now + k) × (q vs).Wrong (row ∷ more) k w))
-        → IsOutside w ⊎ ((k : ℕ) × (at ≡ start + k) × (items_of x q).Wrong rows k w)
+    tell : (more : List Row) → rows ≡ all_rows q with_next [] vs ++ (row ∷ more) → (IsOutside failed w ⊎ ((k : ℕ) × (at + 1 ≡ now + k) × (q vs).Wrong (row ∷ more) k w))
+        → IsOutside failed w ⊎ ((k : ℕ) × (at ≡ start + k) × (items_of x q).Wrong rows k w)
     tell more made (inl o) = inl o
     tell more made (inr b) =
         let is = b.1 in
@@ -118,11 +118,11 @@ items_past q x (Some rows) left mid vs row start now at w m t f l s e h =
           inr (vs, row ∷ more, b.0, record { fits = (f, l); made = made; follows = s (row ∷ more) }, refl, ((λ z. (cc z)), inl (rw (after_all [] vs) b.2))),
         )
 
-pub items_beyond : {V : Type 0} (q : List V → Part Row Why V) (x : Extent) (input left mid new : Option (List Row)) (vs : List V) (row : Row) (start now : ℕ) (v : V)
+pub items_beyond : {V : Type 0} (failed : Bool) (q : List V → Part Row Why V) (x : Extent) (input left mid new : Option (List Row)) (vs : List V) (row : Row) (start now : ℕ) (v : V)
     → MadeOf q input vs left → Takes left mid row true → Fitting q vs → IsCount x (length vs) → ((rest : List Row) → Stops {R = Row} x (length vs) rest) → now ≡ start + size_of q vs + 1
-    → HandReads (q vs) mid row new v → Fails (items_of x q) input start now (beyond_of x)
-items_beyond q x None left mid new vs row start now v m t f l s e h = tt
-items_beyond q x (Some rows) left mid new vs row start now v m t f l s e h =
+    → HandReads (q vs) mid row new v → Fails failed (items_of x q) input start now (beyond_of x)
+items_beyond failed q x None left mid new vs row start now v m t f l s e h = tt
+items_beyond failed q x (Some rows) left mid new vs row start now v m t f l s e h =
     let (more, first, then) = takes_some m.0 mid row (rw m.1 at t) in
     let got = rw then at h in
     inr (
@@ -138,18 +138,18 @@ items_beyond q x (Some rows) left mid new vs row start now v m t f l s e h =
       ),
     )
 
-pub fails_outside : {V : Type 0} (p : Part Row Why V) (input : Option (List Row)) (start at : ℕ) (w : Why) → IsOutside w → Fails p input start at w
-fails_outside p None start at w o = tt
-fails_outside p (Some rows) start at w o = inl o
+pub fails_outside : {V : Type 0} (failed : Bool) (p : Part Row Why V) (input : Option (List Row)) (start at : ℕ) (w : Why) → IsOutside failed w → Fails failed p input start at w
+fails_outside failed p None start at w o = tt
+fails_outside failed p (Some rows) start at w o = inl o
 
 -- room for one item more
 pub room : (c n m : ℕ) → c < n → c * (m + 1) + (m + 1) ≤ n * (m + 1)
 room c n m l = let r : (c + 1) * (m + 1) ≤ n * (m + 1) = mul-le-mul_right (m + 1) (omega (arith, l)) in omega (arith, r)
 
-pub items_few_at : {V : Type 0} (q : List V → Part Row Why V) (x : Extent) (n : ℕ) (input left mid : Option (List Row)) (vs : List V) (row : Row) (start at : ℕ) (w : Why)
+pub items_few_at : {V : Type 0} (failed : Bool) (q : List V → Part Row Why V) (x : Extent) (n : ℕ) (input left mid : Option (List Row)) (vs : List V) (row : Row) (start at : ℕ) (w : Why)
     → x ≡ extent.Exactly n → MadeOf q input vs left → Takes left mid row false → Fitting q vs → length vs < most_of x → at ≡ start + size_of q vs + 1
-    → (q vs).Wrong [] 1 w → Fails (items_of x q) input start at w
-items_few_at q x n input left mid vs row start at w e m t f l is h = rw e (items_few q n input left mid vs row start at w m t f (rw e at l) is h)
+    → (q vs).Wrong [] 1 w → Fails failed (items_of x q) input start at w
+items_few_at failed q x n input left mid vs row start at w e m t f l is h = rw e (items_few failed q n input left mid vs row start at w m t f (rw e at l) is h)
 
 pub full_count : (x : Extent) (c : ℕ) → c ≡ most_of x → IsCount x c
 full_count (extent.AtMost n) c e = omega (arith, e)
@@ -174,17 +174,17 @@ line_reads row_of Fits gone Lacks (Some rows) new row v t e f =
     let (more, first, then) = takes_some rows new row t in
     (more, then, record { fits = f; made = first ∙ ap (λ r. r ∷ more) e; follows = tt })
 
-pub line_wrong : {V : Type 0} (row_of : V → Row) (Fits : V → Type 0) (gone : Why) (Lacks : Row → Why → Type 0) (left new : Option (List Row)) (row : Row) (start at : ℕ) (w : Why)
-    → Takes left new row true → at ≡ start + 1 → Lacks row w → Fails (record_of row_of Fits gone Lacks) left start at w
-line_wrong row_of Fits gone Lacks None new row start at w t e bad = tt
-line_wrong row_of Fits gone Lacks (Some rows) new row start at w t e bad =
+pub line_wrong : {V : Type 0} (failed : Bool) (row_of : V → Row) (Fits : V → Type 0) (gone : Why) (Lacks : Row → Why → Type 0) (left new : Option (List Row)) (row : Row) (start at : ℕ) (w : Why)
+    → Takes left new row true → at ≡ start + 1 → Lacks row w → Fails failed (record_of row_of Fits gone Lacks) left start at w
+line_wrong failed row_of Fits gone Lacks None new row start at w t e bad = tt
+line_wrong failed row_of Fits gone Lacks (Some rows) new row start at w t e bad =
     let (more, first, then) = takes_some rows new row t in
     rw first (inr (1, e, (refl, bad)))
 
-pub line_gone : {V : Type 0} (row_of : V → Row) (Fits : V → Type 0) (gone : Why) (Lacks : Row → Why → Type 0) (left new : Option (List Row)) (row : Row) (start at : ℕ) (w : Why)
-    → Takes left new row false → at ≡ start + 1 → w ≡ gone → Fails (record_of row_of Fits gone Lacks) left start at w
-line_gone row_of Fits gone Lacks None new row start at w t e is = tt
-line_gone row_of Fits gone Lacks (Some rows) new row start at w t e is = let none = takes_none rows new row t in rw none (inr (1, e, (refl, is)))
+pub line_gone : {V : Type 0} (failed : Bool) (row_of : V → Row) (Fits : V → Type 0) (gone : Why) (Lacks : Row → Why → Type 0) (left new : Option (List Row)) (row : Row) (start at : ℕ) (w : Why)
+    → Takes left new row false → at ≡ start + 1 → w ≡ gone → Fails failed (record_of row_of Fits gone Lacks) left start at w
+line_gone failed row_of Fits gone Lacks None new row start at w t e is = tt
+line_gone failed row_of Fits gone Lacks (Some rows) new row start at w t e is = let none = takes_none rows new row t in rw none (inr (1, e, (refl, is)))
 
 -- two parts in turn
 
@@ -193,17 +193,17 @@ pub then_reads : {V W : Type 0} (p : Part Row Why V) (q : V → Part Row Why W) 
 then_reads p q None mid v w h k = tt
 then_reads p q (Some rows) mid v w h k = both_begin p q rows h.0 v w [] h.2 (rw h.1 at k)
 
-pub first_fails : {V W : Type 0} (p : Part Row Why V) (q : V → Part Row Why W) (left : Option (List Row)) (start at : ℕ) (why : Why) → Fails p left start at why → Fails (then p q) left start at why
-first_fails p q None start at why f = tt
-first_fails p q (Some rows) start at why (inl o) = inl o
-first_fails p q (Some rows) start at why (inr f) = inr (f.0, f.1, inl f.2)
+pub first_fails : {V W : Type 0} (failed : Bool) (p : Part Row Why V) (q : V → Part Row Why W) (left : Option (List Row)) (start at : ℕ) (why : Why) → Fails failed p left start at why → Fails failed (then p q) left start at why
+first_fails failed p q None start at why f = tt
+first_fails failed p q (Some rows) start at why (inl o) = inl o
+first_fails failed p q (Some rows) start at why (inr f) = inr (f.0, f.1, inl f.2)
 
-pub second_fails : {V W : Type 0} (p : Part Row Why V) (q : V → Part Row Why W) (left mid : Option (List Row)) (v : V) (start middle at : ℕ) (why : Why) → Reads p left mid v
-    → middle ≡ start + length (p.rows_of v) → Fails (q v) mid middle at why → Fails (then p q) left start at why
-second_fails p q None mid v start middle at why h e f = tt
-second_fails {V} {W} p q (Some rows) mid v start middle at why h e f = tell (rw h.1 at f)
+pub second_fails : {V W : Type 0} (failed : Bool) (p : Part Row Why V) (q : V → Part Row Why W) (left mid : Option (List Row)) (v : V) (start middle at : ℕ) (why : Why) → Reads p left mid v
+    → middle ≡ start + length (p.rows_of v) → Fails failed (q v) mid middle at why → Fails failed (then p q) left start at why
+second_fails failed p q None mid v start middle at why h e f = tt
+second_fails {V} {W} failed p q (Some rows) mid v start middle at why h e f = tell (rw h.1 at f)
   where
-    tell : (IsOutside why ⊎ ((k : ℕ) × (at ≡ middle + k) × (q v).Wrong h.0 k why)) → IsOutside why ⊎ ((k : ℕ) × (at ≡ start + k) × (then p q).Wrong rows k why)
+    tell : (IsOutside failed why ⊎ ((k : ℕ) × (at ≡ middle + k) × (q v).Wrong h.0 k why)) → IsOutside failed why ⊎ ((k : ℕ) × (at ≡ start + k) × (then p q).Wrong rows k why)
     tell (inl o) = inl o
     tell (inr b) = let is = b.1 in inr (length (p.rows_of v) + b.0, omega (arith, is, e), inr (v, h.0, b.0, h.2, refl, b.2))
 
@@ -228,10 +228,10 @@ items_reached q x None start at place t plain some e b = tt
 items_reached q x (Some rows) start at place t plain some e b = (place, e, lines_reached x (beyond_of x) q with_next t plain some [] rows place b)
 
 -- where the text begins
-pub from_start : {V : Type 0} (p : Part Row Why V) (left : Option (List Row)) (at : ℕ) (w : Why) → Fails p left 0 at w → IfSome left (λ rows. IsOutside w ⊎ p.Wrong rows at w)
-from_start p None at w f = tt
-from_start p (Some rows) at w (inl o) = inl o
-from_start p (Some rows) at w (inr f) = let is = f.1 in let same : f.0 ≡ at = omega (arith, is) in inr (rw same at f.2)
+pub from_start : {V : Type 0} (failed : Bool) (p : Part Row Why V) (left : Option (List Row)) (at : ℕ) (w : Why) → Fails failed p left 0 at w → IfSome left (λ rows. IsOutside failed w ⊎ p.Wrong rows at w)
+from_start failed p None at w f = tt
+from_start failed p (Some rows) at w (inl o) = inl o
+from_start failed p (Some rows) at w (inr f) = let is = f.1 in let same : f.0 ≡ at = omega (arith, is) in inr (rw same at f.2)
 
 -- past the last record of a text that is spelled
 pub end_reached : {V : Type 0} (p : Part Row Why V) (left : Option (List Row)) (v : V) (at : ℕ) → Tells p → IfSome left (λ rows. Begins p rows v []) → at ≡ length (p.rows_of v) + 1 → Reaches p left 0 at
@@ -252,12 +252,12 @@ pub tested_reads : {V : Type 0} (p : Part Row Why V) (Good : V → Type 0) (Bad 
 tested_reads p Good Bad None new v h g = tt
 tested_reads p Good Bad (Some rows) new v h g = (h.0, h.1, record { fits = (h.2.fits, g); made = h.2.made; follows = h.2.follows })
 
-pub tested_fails : {V : Type 0} (p : Part Row Why V) (Good : V → Type 0) (Bad : V → ℕ → Why → Type 0) (left : Option (List Row)) (start at : ℕ) (w : Why) → Fails p left start at w → Fails (tested p Good Bad) left start at w
-tested_fails p Good Bad None start at w f = tt
-tested_fails p Good Bad (Some rows) start at w (inl o) = inl o
-tested_fails p Good Bad (Some rows) start at w (inr f) = inr (f.0, f.1, inl f.2)
+pub tested_fails : {V : Type 0} (failed : Bool) (p : Part Row Why V) (Good : V → Type 0) (Bad : V → ℕ → Why → Type 0) (left : Option (List Row)) (start at : ℕ) (w : Why) → Fails failed p left start at w → Fails failed (tested p Good Bad) left start at w
+tested_fails failed p Good Bad None start at w f = tt
+tested_fails failed p Good Bad (Some rows) start at w (inl o) = inl o
+tested_fails failed p Good Bad (Some rows) start at w (inr f) = inr (f.0, f.1, inl f.2)
 
-pub tested_bad : {V : Type 0} (p : Part Row Why V) (Good : V → Type 0) (Bad : V → ℕ → Why → Type 0) (left new : Option (List Row)) (v : V) (start at k : ℕ) (w : Why) → Reads p left new v → at ≡ start + k → Bad v k w
-    → Fails (tested p Good Bad) left start at w
-tested_bad p Good Bad None new v start at k w h e b = tt
-tested_bad p Good Bad (Some rows) new v start at k w h e b = inr (k, e, inr (v, h.0, h.2, b))
+pub tested_bad : {V : Type 0} (failed : Bool) (p : Part Row Why V) (Good : V → Type 0) (Bad : V → ℕ → Why → Type 0) (left new : Option (List Row)) (v : V) (start at k : ℕ) (w : Why) → Reads p left new v → at ≡ start + k → Bad v k w
+    → Fails failed (tested p Good Bad) left start at w
+tested_bad failed p Good Bad None new v start at k w h e b = tt
+tested_bad failed p Good Bad (Some rows) new v start at k w h e b = inr (k, e, inr (v, h.0, h.2, b))

@@ -26,7 +26,6 @@ use Rattle.parts.specs.declared.Extent.TheVariants as extent
 use Rattle.parts.specs.Parts.{Begins, Spells}
 use Rattle.parts.specs.Laws.{Tells, TellsRecord}
 use Rattle.parts.proofs.Then.{record_tells, then_tells, tested_tells}
-use Rattle.parts.proofs.Many.{lines_tells}
 use Rattle.blk_text.specs.declared.script.Line.{Line}
 use Rattle.blk_text.specs.declared.script.Line.TheVariants as line
 use Rattle.blk_text.specs.declared.script.Title.{Title}
@@ -36,8 +35,8 @@ use Rattle.blk_text.proofs.Decimals.{own}
 use Rattle.blk_text.proofs.Lists.{cons_same}
 use Rattle.blk_text.proofs.Once.{Goods, blank_good, direction_good, number_good, word_once, word_apart}
 use Rattle.blk_text.proofs.TableLaws.{goods_by, table_tells, title_part}
-use Rattle.blk_text.proofs.Each.{rows_map, fit_all, all_fit, size_is, each_plain, each_row, first_version}
-use Rattle.blk_text.proofs.Reading.{then_reads, items_reached, first_reached, second_reached}
+use Rattle.blk_text.proofs.Each.{rows_map, fit_all, all_fit, each_tells, each_reached, one_version, first_version}
+use Rattle.blk_text.proofs.Reading.{then_reads, first_reached, second_reached}
 use Rattle.blk_text.proofs.Texts.{text_back}
 
 -- the number of a field, the direction of a field and the word of a field, whatever stands there
@@ -233,12 +232,12 @@ line_is hw submitters (line.Run n) g s h = ap line.Run (value_is n (omega (arith
 one_line : (hw submitters : ℕ) → hw ≤ 16 → submitters ≤ 64 → (l m : Line) → LineFits hw submitters l → LineFits hw submitters m → line_row l ≡ line_row m → l ≡ m
 one_line hw submitters g s l m p q e = sym (line_is hw submitters l g s p) ∙ ap line_at e ∙ line_is hw submitters m g s q
 
-step_tells : (hw submitters : ℕ) → hw ≤ 16 → submitters ≤ 64 → (s : List Line) → Tells (step hw submitters s)
-step_tells hw submitters g s before = record_tells line_row (LineFits hw submitters) why.Count (StepWrong hw submitters) (record {
+step_tells : (hw submitters : ℕ) → hw ≤ 16 → submitters ≤ 64 → TellsRecord line_row (LineFits hw submitters) (StepWrong hw submitters)
+step_tells hw submitters g s = record {
   once = one_line hw submitters g s;
   apart = λ l w fit bad. step_apart hw submitters (line_row l) w l g s bad refl fit;
   first = λ cells w v a b. step_once hw submitters cells w v s a b;
-})
+}
 
 -- titles and setups
 
@@ -286,8 +285,7 @@ setup_tells depth hw = record_tells setup_row (FitsSetup depth hw) why.Word Setu
 -- whole scripts
 
 steps_tell : (t : Title) → IsTitle t → Tells (items_of (extent.AtMost 999_998) (step t.hw t.submitters))
-steps_tell t i = lines_tells (extent.AtMost 999_998) why.TooLong (step t.hw t.submitters) _ (step_tells t.hw t.submitters i.hw.1 i.submitters.1)
-    (each_plain line_row (LineFits t.hw t.submitters) why.Count (StepWrong t.hw t.submitters)) (each_row line_row (LineFits t.hw t.submitters) why.Count (StepWrong t.hw t.submitters)) []
+steps_tell t i = each_tells line_row (LineFits t.hw t.submitters) why.Count (StepWrong t.hw t.submitters) (extent.AtMost 999_998) (step_tells t.hw t.submitters i.hw.1 i.submitters.1)
 
 body_tells : (t : Title) → IsTitle t → Tells (script_body t)
 body_tells t i = then_tells (setup t.depth t.hw) (λ s. items_of (extent.AtMost 999_998) (step t.hw t.submitters)) (setup_tells t.depth t.hw) (λ s fit. steps_tell t i)
@@ -349,9 +347,6 @@ script_in t s lines i enough f a = record {
   short = a.1;
 }
 
-one_version : (version : ℕ) → IsVersion 1 version → version ≡ 1
-one_version version h = let high = h.1 in let low = h.0 in omega (arith, low, high)
-
 pub script_read : (left mid after : Option (List Row)) (t : ℕ × Title) (s : Setup) (lines : List Line) → Reads title left mid t → Reads (setup t.1.depth t.1.hw) mid after s
     → IfSome after (λ rows. Begins (items_of (extent.AtMost 999_998) (step t.1.hw t.1.submitters)) rows lines []) → IsVersion 1 t.0 → FitsSetup t.1.depth t.1.hw s
     → IfSome left (λ rows. SpellsScript rows record { setup = s; soft_depth = t.1.soft_depth; submitters = t.1.submitters; lines = lines })
@@ -371,8 +366,6 @@ setup_reached left mid t middle at e is i h =
 pub step_reached : (left mid after : Option (List Row)) (t : ℕ × Title) (s : Setup) (middle start at last : ℕ) → middle ≡ 1 → start ≡ 2 → IsTitle t.1 → Reads title left mid t
     → Reads (setup t.1.depth t.1.hw) mid after s → IsStopped (extent.AtMost 999_998) (step t.1.hw t.1.submitters) after start 0 at last → Reaches script_form left 0 at
 step_reached left mid after t s middle start at last e f i h k b =
-    let is : at ≡ start + b.0 = (let low = b.1 in let middle = b.2 in let high = b.3 in omega (arith, low, middle, high)) in
     second_reached title (λ t. script_body t.1) left mid t 0 middle at title_tells h (omega (arith, e))
     (second_reached (setup t.1.depth t.1.hw) (λ s. items_of (extent.AtMost 999_998) (step t.1.hw t.1.submitters)) mid after s middle start at (setup_tells t.1.depth t.1.hw) k (omega (arith, e, f))
-    (items_reached (step t.1.hw t.1.submitters) (extent.AtMost 999_998) after start at b.0 (step_tells t.1.hw t.1.submitters i.hw.1 i.submitters.1)
-    (each_plain line_row (LineFits t.1.hw t.1.submitters) why.Count (StepWrong t.1.hw t.1.submitters)) (each_row line_row (LineFits t.1.hw t.1.submitters) why.Count (StepWrong t.1.hw t.1.submitters)) is b.4))
+    (each_reached line_row (LineFits t.1.hw t.1.submitters) why.Count (StepWrong t.1.hw t.1.submitters) (extent.AtMost 999_998) after start at last (step_tells t.1.hw t.1.submitters i.hw.1 i.submitters.1) b))

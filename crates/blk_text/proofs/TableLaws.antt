@@ -16,7 +16,7 @@ use Rattle.blk_text.specs.declared.fault.Why.TheVariants as why
 use Rattle.blk_text.proofs.Once.{Goods, given_good, blank_good, direction_good, Good, number_good, late_good, goods_lack, lacks_once}
 use Rattle.parts.specs.Laws.{Tells, TellsRecord}
 use Rattle.parts.proofs.Then.{record_tells}
-use Rattle.blk_text.specs.Tables.{Cell, Word, Blank, Direction, Number, Signed, row_by, slots_by, FitsBy, AgreeBy, Sized, IsUpTo, IsTable, IsTitled, IsVersion, title_cells, title_by, TitleLacks, table_record, title_record}
+use Rattle.blk_text.specs.Tables.{Cell, Word, Blank, Direction, Number, Signed, row_by, slots_by, FitsBy, AgreeBy, Sized, IsUpTo, IsTable, IsTitled, IsVersion, title_cells, title_by, TitleLacks, title_record}
 
 up_to : (most : ℕ) (z : ℤ) → IsUpTo most z → mag z ≤ most
 up_to most (pos n) h = h
@@ -69,9 +69,6 @@ table_tells cells Fits t = record {
   apart = λ v w f bad. goods_lack (slots_by cells) (row_by cells v) w (goods_by cells v t.sized (t.within v f)) bad;
   first = lacks_once (slots_by cells);
 }
-
-pub table_part : {V : Type 0} (gone : Why) (cells : List (Cell V)) (Fits : V → Type 0) → IsTable cells Fits → Tells (table_record gone cells Fits)
-table_part gone cells Fits t = record_tells (row_by cells) Fits gone (Lacks (slots_by cells)) (table_tells cells Fits t)
 
 -- titles
 

@@ -1,5 +1,5 @@
 -- What reading a part answers.
-use Rattle.std.specs.Prelude.{◌≡◌, ◌⊎◌, ◌+◌, ◌≤◌, ℕ, List, [], ◌∷◌, ◌++◌, Option, Some, IfSome, length}
+use Rattle.std.specs.Prelude.{◌≡◌, ◌⊎◌, ◌+◌, ◌≤◌, ℕ, Bool, true, List, [], ◌∷◌, ◌++◌, Option, Some, IfSome, length}
 use Rattle.blk_text.specs.Sources.{Row}
 use Rattle.blk_text.specs.declared.fault.Why.{Why}
 use Rattle.blk_text.specs.declared.fault.Why.TheVariants as why
@@ -7,9 +7,9 @@ use Rattle.parts.specs.Parts.{Part, Begins, IsReached, AllFit, IsCount, GoodBefo
 use Rattle.parts.specs.declared.Extent.{Extent}
 use Rattle.parts.specs.declared.Extent.TheVariants as extent
 
--- faults from outside, which may come in place of any other
-abbrev pub IsOutside : Why → Type 0
-IsOutside w = (w ≡ why.Read) ⊎ (w ≡ why.Memory)
+-- faults from outside, which may come in place of any other: a read fault where the reader has failed, and want of memory
+abbrev pub IsOutside : Bool → Why → Type 0
+IsOutside failed w = ((w ≡ why.Read) × (failed ≡ true)) ⊎ (w ≡ why.Memory)
 
 -- the records begin with those of this value, and what is left now is what follows them
 abbrev pub Reads : {V : Type 0} → Part Row Why V → Option (List Row) → Option (List Row) → V → Type 0
@@ -20,12 +20,12 @@ abbrev pub HandReads : {V : Type 0} → Part Row Why V → Option (List Row) →
 HandReads p left row new v = IfSome left (λ rows. (rest : List Row) × (new ≡ Some rest) × Begins p (row ∷ rows) v rest)
 
 -- the records have this first fault, or it came from outside; `start` records came before
-abbrev pub Fails : {V : Type 0} → Part Row Why V → Option (List Row) → ℕ → ℕ → Why → Type 0
-Fails p left start at w = IfSome left (λ rows. IsOutside w ⊎ ((k : ℕ) × (at ≡ start + k) × p.Wrong rows k w))
+abbrev pub Fails : {V : Type 0} → Bool → Part Row Why V → Option (List Row) → ℕ → ℕ → Why → Type 0
+Fails failed p left start at w = IfSome left (λ rows. IsOutside failed w ⊎ ((k : ℕ) × (at ≡ start + k) × p.Wrong rows k w))
 
 -- the record in hand and those left have this first fault, or it came from outside; the record in hand has the number `start`
-abbrev pub HandFails : {V : Type 0} → Part Row Why V → Option (List Row) → Row → ℕ → ℕ → Why → Type 0
-HandFails p left row start at w = IfSome left (λ rows. IsOutside w ⊎ ((k : ℕ) × (at + 1 ≡ start + k) × p.Wrong (row ∷ rows) k w))
+abbrev pub HandFails : {V : Type 0} → Bool → Part Row Why V → Option (List Row) → Row → ℕ → ℕ → Why → Type 0
+HandFails failed p left row start at w = IfSome left (λ rows. IsOutside failed w ⊎ ((k : ℕ) × (at + 1 ≡ start + k) × p.Wrong (row ∷ rows) k w))
 
 -- the record of this number was come to: it is at most one past the last, and no record before it has a fault
 abbrev pub Reaches : {V : Type 0} → Part Row Why V → Option (List Row) → ℕ → ℕ → Type 0

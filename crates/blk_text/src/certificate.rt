@@ -14,7 +14,7 @@ ghost use Rattle.blk_text.specs.Texts.{rows_text};
 ghost use Rattle.blk_text.specs.Drafts.{drafted};
 ghost use Rattle.blk_text.specs.Certificate.{claimed, claim_form, IsClaim, SpellsClaim, ClaimFault, claim_rows, title_row, bound_row, bound_cells, BoundLacks, BoundWrong, IsBound, IsLateness, served_row};
 
-use crate::draft::{Draft, write_whole};
+use crate::block::{Block, write_whole};
 use crate::fault::{TextFault, Why, WriteFault};
 use crate::fields::{
     Slot, WIDTH, after_minus, begins_with, field, read_fields, version_of, without_word,
@@ -283,7 +283,7 @@ pub fn read_certificate<R: Read + Drop>(
     // at the record that was asked for last: none was read past it
     ensures last { IfErr result (λ f. f.at ≡ records.new.at) }
     ensures err { IfErr result (λ f. IfSome records.old.left (λ rows.
-        IsOutside f.why ⊎ ClaimFault rows f.at f.why)) }
+        IsOutside records.new.failed f.why ⊎ ClaimFault rows f.at f.why)) }
     // also where it came from outside: at most one past the last record, and no record before it is wrong
     ensures reached { IfErr result (λ f. Reaches claim_form records.old.left 0 f.at) }
     ensures reads { (1 ≤ records.new.at) × (records.new.at ≤ 1_000_003) }
@@ -315,7 +315,7 @@ pub fn read_certificate<R: Read + Drop>(
 }
 
 // Adds the title record.
-fn push_title(draft: &mut Draft, depth: u64, count: u64) -> Result<(), AllocError>
+fn push_title(draft: &mut Block, depth: u64, count: u64) -> Result<(), AllocError>
     ensures text { OnOk result (drafted draft.new ≡ drafted draft.old ++ rows_text (title_row depth count ∷ [])) }
 {
     let start = draft.room()?;
@@ -327,7 +327,7 @@ fn push_title(draft: &mut Draft, depth: u64, count: u64) -> Result<(), AllocErro
 }
 
 // Adds the record that says that there is no bound.
-fn push_no_bound(draft: &mut Draft) -> Result<(), AllocError>
+fn push_no_bound(draft: &mut Block) -> Result<(), AllocError>
     ensures text { OnOk result (drafted draft.new ≡ drafted draft.old ++ rows_text (bound_row None ∷ [])) }
 {
     let start = draft.room()?;
@@ -338,7 +338,7 @@ fn push_no_bound(draft: &mut Draft) -> Result<(), AllocError>
 // Adds the record of a lateness and its window.
 fn push_some_bound(
     alloc: Global,
-    draft: &mut Draft,
+    draft: &mut Block,
     lateness: i64,
     window: Window,
 ) -> Result<(), AllocError>
@@ -358,7 +358,7 @@ fn push_some_bound(
 // Adds the record of a bound.
 fn push_bound(
     alloc: Global,
-    draft: &mut Draft,
+    draft: &mut Block,
     bound: Option<(i64, Window)>,
 ) -> Result<(), AllocError>
     ensures text { OnOk result (drafted draft.new ≡ drafted draft.old ++ rows_text (bound_row bound ∷ [])) }
@@ -371,7 +371,7 @@ fn push_bound(
 
 // Adds the record of a command and its round.
 #[inline]
-fn push_served(draft: &mut Draft, command: &Command, round: u64) -> Result<(), AllocError>
+fn push_served(draft: &mut Block, command: &Command, round: u64) -> Result<(), AllocError>
     ensures text { OnOk result (drafted draft.new ≡ drafted draft.old ++ rows_text (served_row (command.now, round) ∷ [])) }
 {
     let start = draft.room()?;
@@ -388,7 +388,7 @@ fn certificate_text(alloc: Global, certificate: &Certificate) -> Result<Vec<u8>,
     requires { IsClaim (claimed certificate.now) }
     ensures { IfOk result (λ v. v.items ≡ rows_text (claim_rows (claimed certificate.now))) }
 {
-    let mut draft = Draft::new(alloc);
+    let mut draft = Block::new(alloc);
     let commands = certificate.commands.as_slice();
     let rounds = certificate.rounds.as_slice();
     push_title(&mut draft, certificate.depth, commands.len() as u64)?;

@@ -9,7 +9,7 @@ ghost use Rattle.parts.specs.Parts.{Begins};
 ghost use Rattle.blk_text.specs.Reads.{IsOutside, Reads, Fails, Reaches};
 ghost use Rattle.blk_text.specs.Commands.{AreCommands, SpellsCommands, CommandsFault, command_list, command_row, commands_rows, title_row};
 
-use crate::draft::{Draft, write_whole};
+use crate::block::{Block, write_whole};
 use crate::fault::{TextFault, Why, WriteFault};
 use crate::fields::{Slot, read_fields, version_of};
 use crate::items::{Each, LineForm, read_items, read_line};
@@ -131,7 +131,7 @@ pub fn read_commands<R: Read + Drop>(
     // at the record that was asked for last: none was read past it
     ensures last { IfErr result (λ f. f.at ≡ records.new.at) }
     ensures err { IfErr result (λ f. IfSome records.old.left (λ rows.
-        IsOutside f.why ⊎ CommandsFault rows f.at f.why)) }
+        IsOutside records.new.failed f.why ⊎ CommandsFault rows f.at f.why)) }
     // also where it came from outside: at most one past the last record, and no record before it is wrong
     ensures reached { IfErr result (λ f. Reaches command_list records.old.left 0 f.at) }
     ensures reads { (1 ≤ records.new.at) × (records.new.at ≤ 1_000_002) }
@@ -151,7 +151,7 @@ pub fn read_commands<R: Read + Drop>(
 
 // Adds the record of a command.
 #[inline]
-fn push_command(draft: &mut Draft, command: &Command) -> Result<(), AllocError>
+fn push_command(draft: &mut Block, command: &Command) -> Result<(), AllocError>
     ensures text { OnOk result (drafted draft.new ≡ drafted draft.old ++ rows_text (command_row command.now ∷ [])) }
 {
     let start = draft.room()?;
@@ -164,7 +164,7 @@ fn push_command(draft: &mut Draft, command: &Command) -> Result<(), AllocError>
 }
 
 // Adds the title record.
-fn push_title(draft: &mut Draft, depth: u64) -> Result<(), AllocError>
+fn push_title(draft: &mut Block, depth: u64) -> Result<(), AllocError>
     ensures text { OnOk result (drafted draft.new ≡ drafted draft.old ++ rows_text (title_row depth ∷ [])) }
 {
     let start = draft.room()?;
@@ -179,7 +179,7 @@ fn push_title(draft: &mut Draft, depth: u64) -> Result<(), AllocError>
 fn commands_text(alloc: Global, depth: u64, commands: &[Command]) -> Result<Vec<u8>, AllocError>
     ensures { IfOk result (λ v. v.items ≡ rows_text (commands_rows depth commands.now)) }
 {
-    let mut draft = Draft::new(alloc);
+    let mut draft = Block::new(alloc);
     push_title(&mut draft, depth)?;
     for i in 0..commands.len() {
         push_command(&mut draft, &commands[i])?;

@@ -48,7 +48,7 @@ pub fn read_line<R: Read + Drop, F: LineForm>(
     ensures fits { IfOk result (F.Fits form.now) }
     // at the record that was asked for last: none was read past it
     ensures last { IfErr result (λ f. f.at ≡ records.new.at) }
-    ensures err { IfErr result (λ f. Fails (record_of (F.row_of form.now) (F.Fits form.now) F.missing (F.Refused form.now)) records.old.left records.old.at f.at f.why) }
+    ensures err { IfErr result (λ f. Fails records.new.failed (record_of (F.row_of form.now) (F.Fits form.now) F.missing (F.Refused form.now)) records.old.left records.old.at f.at f.why) }
 {
     if !records.advance()? {
         return Err(records.fault(form.gone()));
@@ -88,7 +88,7 @@ pub trait ItemForm {
         ensures fit { IfOk result (λ v. (part self.now (map seen before.now)).Fits (seen v)) }
         ensures end { IfOk result (λ v. records.new.at + 1 ≡ records.old.at + length ((part self.now (map seen before.now)).rows_of (seen v))) }
         ensures last { IfErr result (λ f. (records.old.at ≤ f.at) × (f.at ≤ records.new.at)) }
-        ensures err { IfErr result (λ f. HandFails (part self.now (map seen before.now)) records.old.left records.old.fields records.old.at f.at f.why) }
+        ensures err { IfErr result (λ f. HandFails records.new.failed (part self.now (map seen before.now)) records.old.left records.old.fields records.old.at f.at f.why) }
         ensures reads { (records.old.at ≤ records.new.at) × (records.new.at ≤ records.old.at + more) };
 }
 
@@ -161,7 +161,7 @@ where
     F::Value: Drop,
     requires { records.old.at + (most_of extent + 1) * (F.more + 1) < 2 ^ 64 - 1 }
     ensures ok { IfOk result (λ v. IfSome records.old.left (λ rows. Begins (items_of extent (F.part form.now)) rows (map F.seen v.items) [])) }
-    ensures err { IfErr result (λ f. Fails (items_of extent (F.part form.now)) records.old.left records.old.at f.at f.why) }
+    ensures err { IfErr result (λ f. Fails records.new.failed (items_of extent (F.part form.now)) records.old.left records.old.at f.at f.why) }
     // all items before the one that is being read are good, and no record past that one is asked for
     ensures before { IfErr result (λ f. IsStopped extent (F.part form.now) records.old.left records.old.at F.more f.at records.new.at) }
     // also where the reader's bytes are not known

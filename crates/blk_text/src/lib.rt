@@ -1,9 +1,10 @@
 //! The text forms, their readers and writers.
 #![tactic(auto)]
 
+mod block;
 pub mod certificate;
 pub mod commands;
-mod draft;
+pub mod draft;
 pub mod fault;
 mod fields;
 mod items;

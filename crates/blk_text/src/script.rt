@@ -342,7 +342,7 @@ fn read_script_title<R: Read + Drop>(records: &mut Records<R>) -> Result<(u64, T
     ensures title { IfOk result (λ t. IsVersion 1 t.0 × IsTitle t.1 × (t.1.hw ≤ t.1.submitters)) }
     // at the record that was asked for last: none was read past it
     ensures last { IfErr result (λ f. f.at ≡ records.new.at) }
-    ensures err { IfErr result (λ f. Fails script_title records.old.left 0 f.at f.why) }
+    ensures err { IfErr result (λ f. Fails records.new.failed script_title records.old.left 0 f.at f.why) }
 {
     match read_line(records, &TitleForm) {
         Ok((version, title)) => {
@@ -372,7 +372,7 @@ pub fn read_script<R: Read + Drop>(
     // at the record that was asked for last: none was read past it
     ensures last { IfErr result (λ f. f.at ≡ records.new.at) }
     ensures err { IfErr result (λ f. IfSome records.old.left (λ rows.
-        IsOutside f.why ⊎ ScriptFault rows f.at f.why)) }
+        IsOutside records.new.failed f.why ⊎ ScriptFault rows f.at f.why)) }
     // also where it came from outside: at most one past the last record, and no record before it is wrong
     ensures reached { IfErr result (λ f. Reaches script_form records.old.left 0 f.at) }
     ensures reads { (1 ≤ records.new.at) × (records.new.at ≤ 1_000_001) }

@@ -40,18 +40,18 @@ returns-in-Ok-split-clause-end g c =
 
 pub returns-in-Err-read_line-clause-err : goal.returns-in-Err-read_line-clause-err
 returns-in-Err-read_line-clause-err g c =
-    from_start claim_form c.args.records.now.left c.in-Err-read_line.fault.at c.in-Err-read_line.fault.why
-    (second_fails title (λ t. claim_body t.1.1) c.args.records.now.left c.read_line.new.records.left c.in-Ok.title 0
+    from_start _ claim_form c.args.records.now.left c.in-Err-read_line.fault.at c.in-Err-read_line.fault.why
+    (second_fails _ title (λ t. claim_body t.1.1) c.args.records.now.left c.read_line.new.records.left c.in-Ok.title 0
     c.read_line.new.records.at c.in-Err-read_line.fault.at c.in-Err-read_line.fault.why c.in-Ok.ensures.ok (omega arith)
-    (first_fails (bound c.in-Ok.title.1.1) (λ b. items_of (extent.Exactly c.in-Ok.title.1.1) served) c.read_line.new.records.left c.read_line.new.records.at c.in-Err-read_line.fault.at c.in-Err-read_line.fault.why
+    (first_fails _ (bound c.in-Ok.title.1.1) (λ b. items_of (extent.Exactly c.in-Ok.title.1.1) served) c.read_line.new.records.left c.read_line.new.records.at c.in-Err-read_line.fault.at c.in-Err-read_line.fault.why
     c.in-Err-read_line.ensures.err))
 
 pub returns-in-Err-read_items-clause-err : goal.returns-in-Err-read_items-clause-err
 returns-in-Err-read_items-clause-err g c =
-    from_start claim_form c.args.records.now.left c.in-Err-read_items.fault.at c.in-Err-read_items.fault.why
-    (second_fails title (λ t. claim_body t.1.1) c.args.records.now.left c.read_line.new.records.left c.in-Ok.title 0
+    from_start _ claim_form c.args.records.now.left c.in-Err-read_items.fault.at c.in-Err-read_items.fault.why
+    (second_fails _ title (λ t. claim_body t.1.1) c.args.records.now.left c.read_line.new.records.left c.in-Ok.title 0
     c.read_line.new.records.at c.in-Err-read_items.fault.at c.in-Err-read_items.fault.why c.in-Ok.ensures.ok (omega arith)
-    (second_fails (bound c.in-Ok.title.1.1) (λ b. items_of (extent.Exactly c.in-Ok.title.1.1) served) c.read_line.new.records.left c.read_line-2.new.records.left c.in-Ok-read_line.bound c.read_line.new.records.at
+    (second_fails _ (bound c.in-Ok.title.1.1) (λ b. items_of (extent.Exactly c.in-Ok.title.1.1) served) c.read_line.new.records.left c.read_line-2.new.records.left c.in-Ok-read_line.bound c.read_line.new.records.at
     c.read_line-2.new.records.at c.in-Err-read_items.fault.at c.in-Err-read_items.fault.why c.in-Ok-read_line.ensures.ok (omega arith) c.in-Err-read_items.ensures.err))
 
 pub returns-in-Err-read_line-clause-reached : goal.returns-in-Err-read_line-clause-reached

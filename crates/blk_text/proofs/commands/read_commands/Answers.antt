@@ -31,8 +31,8 @@ returns-in-Ok-read_items-clause-end g c =
 
 pub returns-in-Err-read_items-clause-err : goal.returns-in-Err-read_items-clause-err
 returns-in-Err-read_items-clause-err g c =
-    from_start command_list c.args.records.now.left c.in-Err-read_items.fault.at c.in-Err-read_items.fault.why
-    (second_fails title (λ t. items_of (extent.AtMost 1_000_000) command) c.args.records.now.left c.read_line.new.records.left c.in-Ok.title 0
+    from_start _ command_list c.args.records.now.left c.in-Err-read_items.fault.at c.in-Err-read_items.fault.why
+    (second_fails _ title (λ t. items_of (extent.AtMost 1_000_000) command) c.args.records.now.left c.read_line.new.records.left c.in-Ok.title 0
     c.read_line.new.records.at c.in-Err-read_items.fault.at c.in-Err-read_items.fault.why c.in-Ok.ensures.ok (omega arith) c.in-Err-read_items.ensures.err)
 
 pub returns-in-Err-read_items-clause-reached : goal.returns-in-Err-read_items-clause-reached

@@ -15,7 +15,7 @@ returns-in-Exactly-clause-err g c =
     let less : length vs < most_of c.args.extent = omega (arith, length-map c.loop.items.items g.F.ItemForm.seen) in
     let at : c.fault.result.at ≡ c.args.records.now.at + size_of (g.F.ItemForm.part c.args.form.now) vs + 1 = omega arith in
     rw c.fault.ensures.why
-    (items_few_at (g.F.ItemForm.part c.args.form.now) c.args.extent c.in-Exactly.field-0 c.args.records.now.left c.loop.records.left c.advance.new.self.left vs c.advance.new.self.fields
+    (items_few_at _ (g.F.ItemForm.part c.args.form.now) c.args.extent c.in-Exactly.field-0 c.args.records.now.left c.loop.records.left c.advance.new.self.left vs c.advance.new.self.fields
     c.args.records.now.at c.fault.result.at c.gone.result c.in-Exactly.is c.loop.invariant.made taken c.loop.invariant.fit less at (rw slice at c.gone.ensures))
 
 pub returns-in-Err-read-clause-err : goal.returns-in-Err-read-clause-err
@@ -25,7 +25,7 @@ returns-in-Err-read-clause-err g c =
     let taken : Takes c.loop.records.left c.advance.new.self.left c.advance.new.self.fields true = search rules in
     let less : length vs < most_of c.args.extent = omega (arith, length-map c.loop.items.items g.F.ItemForm.seen) in
     let now : c.advance.new.self.at ≡ c.args.records.now.at + size_of (g.F.ItemForm.part c.args.form.now) vs + 1 = omega arith in
-    items_wrong (g.F.ItemForm.part c.args.form.now) c.args.extent c.args.records.now.left c.loop.records.left c.advance.new.self.left vs c.advance.new.self.fields
+    items_wrong _ (g.F.ItemForm.part c.args.form.now) c.args.extent c.args.records.now.left c.loop.records.left c.advance.new.self.left vs c.advance.new.self.fields
     c.args.records.now.at c.advance.new.self.at c.in-Err-read.fault.at c.in-Err-read.fault.why c.loop.invariant.made taken c.loop.invariant.fit less now (rw slice at c.in-Err-read.ensures.err)
 
 pub loop-preserved : goal.loop-preserved
@@ -58,7 +58,7 @@ returns-in-Ok-read-clause-err g c =
     let all : length vs ≡ most_of c.args.extent = omega (arith, length-map c.loop.items.items g.F.ItemForm.seen) in
     let now : c.fault-fault.result.at ≡ c.args.records.now.at + size_of q vs + 1 = omega arith in
     rw (c.fault-fault.ensures.why, c.beyond.ensures)
-    (items_beyond q c.args.extent c.args.records.now.left c.loop.records.left c.advance-2.new.self.left c.read-2.new.records.left vs c.advance-2.new.self.fields
+    (items_beyond _ q c.args.extent c.args.records.now.left c.loop.records.left c.advance-2.new.self.left c.read-2.new.records.left vs c.advance-2.new.self.fields
     c.args.records.now.at c.fault-fault.result.at (g.F.ItemForm.seen c.in-Ok-read.field-0) c.loop.invariant.made taken c.loop.invariant.fit (full_count c.args.extent (length vs) all) (full_stops c.args.extent (length vs) all) now
     (rw slice at c.in-Ok-read.ensures.ok))
 
@@ -70,7 +70,7 @@ returns-clause-err g c =
     let taken : Takes c.loop.records.left c.advance-2.new.self.left c.advance-2.new.self.fields true = search rules in
     let all : length vs ≡ most_of c.args.extent = omega (arith, length-map c.loop.items.items g.F.ItemForm.seen) in
     let now : c.advance-2.new.self.at ≡ c.args.records.now.at + size_of q vs + 1 = omega arith in
-    items_past q c.args.extent c.args.records.now.left c.loop.records.left c.advance-2.new.self.left vs c.advance-2.new.self.fields
+    items_past _ q c.args.extent c.args.records.now.left c.loop.records.left c.advance-2.new.self.left vs c.advance-2.new.self.fields
     c.args.records.now.at c.advance-2.new.self.at c.in-Err-read-2.fault.at c.in-Err-read-2.fault.why c.loop.invariant.made taken c.loop.invariant.fit (full_count c.args.extent (length vs) all) (full_stops c.args.extent (length vs) all) now
     (rw slice at c.in-Err-read-2.ensures.err)
 

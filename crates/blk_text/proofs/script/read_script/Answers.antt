@@ -31,23 +31,23 @@ returns-in-Ok-read_items-clause-end g c =
 
 pub returns-in-Err-clause-err : goal.returns-in-Err-clause-err
 returns-in-Err-clause-err g c =
-    from_start script_form c.args.records.now.left c.in-Err.fault.at c.in-Err.fault.why
-    (first_fails title (λ t. script_body t.1) c.args.records.now.left 0 c.in-Err.fault.at c.in-Err.fault.why c.in-Err.ensures.err)
+    from_start _ script_form c.args.records.now.left c.in-Err.fault.at c.in-Err.fault.why
+    (first_fails _ title (λ t. script_body t.1) c.args.records.now.left 0 c.in-Err.fault.at c.in-Err.fault.why c.in-Err.ensures.err)
 
 pub returns-in-Err-read_line-clause-err : goal.returns-in-Err-read_line-clause-err
 returns-in-Err-read_line-clause-err g c =
-    from_start script_form c.args.records.now.left c.in-Err-read_line.fault.at c.in-Err-read_line.fault.why
-    (second_fails title (λ t. script_body t.1) c.args.records.now.left c.read_script_title.new.records.left c.in-Ok.title 0
+    from_start _ script_form c.args.records.now.left c.in-Err-read_line.fault.at c.in-Err-read_line.fault.why
+    (second_fails _ title (λ t. script_body t.1) c.args.records.now.left c.read_script_title.new.records.left c.in-Ok.title 0
     c.read_script_title.new.records.at c.in-Err-read_line.fault.at c.in-Err-read_line.fault.why c.in-Ok.ensures.ok (omega arith)
-    (first_fails (setup c.in-Ok.title.1.depth c.in-Ok.title.1.hw) (λ s. items_of (extent.AtMost 999_998) (step c.in-Ok.title.1.hw c.in-Ok.title.1.submitters)) c.read_script_title.new.records.left
+    (first_fails _ (setup c.in-Ok.title.1.depth c.in-Ok.title.1.hw) (λ s. items_of (extent.AtMost 999_998) (step c.in-Ok.title.1.hw c.in-Ok.title.1.submitters)) c.read_script_title.new.records.left
     c.read_script_title.new.records.at c.in-Err-read_line.fault.at c.in-Err-read_line.fault.why c.in-Err-read_line.ensures.err))
 
 pub returns-in-Err-read_items-clause-err : goal.returns-in-Err-read_items-clause-err
 returns-in-Err-read_items-clause-err g c =
-    from_start script_form c.args.records.now.left c.in-Err-read_items.fault.at c.in-Err-read_items.fault.why
-    (second_fails title (λ t. script_body t.1) c.args.records.now.left c.read_script_title.new.records.left c.in-Ok.title 0
+    from_start _ script_form c.args.records.now.left c.in-Err-read_items.fault.at c.in-Err-read_items.fault.why
+    (second_fails _ title (λ t. script_body t.1) c.args.records.now.left c.read_script_title.new.records.left c.in-Ok.title 0
     c.read_script_title.new.records.at c.in-Err-read_items.fault.at c.in-Err-read_items.fault.why c.in-Ok.ensures.ok (omega arith)
-    (second_fails (setup c.in-Ok.title.1.depth c.in-Ok.title.1.hw) (λ s. items_of (extent.AtMost 999_998) (step c.in-Ok.title.1.hw c.in-Ok.title.1.submitters)) c.read_script_title.new.records.left
+    (second_fails _ (setup c.in-Ok.title.1.depth c.in-Ok.title.1.hw) (λ s. items_of (extent.AtMost 999_998) (step c.in-Ok.title.1.hw c.in-Ok.title.1.submitters)) c.read_script_title.new.records.left
     c.read_line.new.records.left c.in-Ok-read_line.setup c.read_script_title.new.records.at c.read_line.new.records.at c.in-Err-read_items.fault.at c.in-Err-read_items.fault.why
     c.in-Ok-read_line.ensures.ok (omega arith) c.in-Err-read_items.ensures.err))
 

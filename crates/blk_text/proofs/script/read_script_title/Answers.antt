@@ -5,5 +5,5 @@ use Rattle.blk_text.proofs.script.read_script_title.Goals as goal
 
 pub returns-then-title-clause-err : goal.returns-then-title-clause-err
 returns-then-title-clause-err g c =
-    tested_bad plain_title IsEnough TooFew c.args.records.now.left c.read_line.new.records.left (c.in-Ok.version, c.in-Ok.title) 0 c.fault.result.at 1 c.fault.result.why
+    tested_bad _ plain_title IsEnough TooFew c.args.records.now.left c.read_line.new.records.left (c.in-Ok.version, c.in-Ok.title) 0 c.fault.result.at 1 c.fault.result.why
     c.in-Ok.ensures.ok (omega arith) (refl, c.fault.ensures.why, omega arith)
