@@ -1,13 +1,14 @@
 //! The text forms, their readers and writers.
 #![tactic(auto)]
 
+mod block;
 pub mod certificate;
 pub mod commands;
-mod draft;
+pub mod draft;
 pub mod fault;
 mod fields;
+mod items;
 pub mod laws;
-mod lines;
 mod pieces;
 pub mod script;
 mod setup;
