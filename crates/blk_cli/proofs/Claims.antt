@@ -5,6 +5,8 @@ use Rattle.std.proofs.lemmas.Int.{ints}
 use Rattle.std.proofs.lemmas.List.Elements.{All-get_or}
 use Rattle.edd_check.specs.declared.Command.{Command}
 use Rattle.edd_check.specs.declared.Window.{Window}
+use Rattle.edd_check.specs.declared.steps.Step.{Step}
+use Rattle.edd_check.specs.Capacity.{fixed}
 use Rattle.edd_check.specs.Schedule.{IsLegal, IsGreatestLateness, IsLeastLateness, RoundsInRange}
 use Rattle.edd_check.specs.Window.{IsCrowded}
 use Rattle.blk_cli.specs.Outcome.{IsProof}
@@ -26,9 +28,9 @@ lateness_in commands rounds late same in_range rounds_in g =
     difference_in late (slice_index rounds g.place) (slice_index_or commands g.place d).due (g.reached d) r c.2
 
 -- what the oracle answers is a certificate's claim
-pub claim_in : (depth : ℕ) (commands : List Command) (rounds : List ℕ) (late : ℤ) (window : Window) → AreCommands depth commands → IsBest commands depth rounds late window
+pub claim_in : (depth : ℕ) (steps : List Step) (commands : List Command) (rounds : List ℕ) (late : ℤ) (window : Window) → AreCommands depth commands → IsBest commands steps rounds late window
     → IsClaim (record { depth = depth; commands = commands; rounds = rounds; bound = Some (late, window) })
-claim_in depth commands rounds late window are best = record {
+claim_in depth steps commands rounds late window are best = record {
   depth = (are.0, are.1);
   few = are.2;
   one_each = best.legal.one_each;
@@ -48,10 +50,15 @@ bound_beside count [] (Some b) e h = absurd (omega (arith, e, h.0))
 bound_beside count (c ∷ cs) (Some b) e h = (λ e. cc e, λ e. cc e)
 
 -- a bound of which the check said Ok
-pub proof_of : (commands : List Command) (depth : ℕ) (rounds : List ℕ) (bound : Option (ℤ × Window)) (late other : ℤ) (window : Window) → bound ≡ Some (late, window) → other ≡ late
-    → IsLegal commands rounds depth × IsGreatestLateness commands rounds other × IsCrowded commands depth other window → IsLeastLateness commands depth other
+pub proof_of : (commands : List Command) (steps : List Step) (depth : ℕ) (rounds : List ℕ) (bound : Option (ℤ × Window)) (late other : ℤ) (window : Window) → steps ≡ fixed depth → bound ≡ Some (late, window) → other ≡ late
+    → IsLegal commands rounds steps × IsGreatestLateness commands rounds other × IsCrowded commands steps other window → IsLeastLateness commands steps other
     → IfSome bound (λ b. IsProof commands depth rounds b.0 b.1)
-proof_of commands depth rounds bound late other window e same h least =
+proof_of commands steps depth rounds bound late other window under e same h least =
     let P : Option (ℤ × Window) → Type 0 = λ o. IfSome o (λ b. IsProof commands depth rounds b.0 b.1) in
     let Q : ℤ → Type 0 = λ z. IsProof commands depth rounds z window in
-    subst P (sym e) (subst Q same (record { legal = h.0; greatest = h.1; crowded = h.2; least = least }))
+    subst P (sym e) (subst Q same (record {
+      legal = subst (λ s. IsLegal commands rounds s) under h.0;
+      greatest = h.1;
+      crowded = subst (λ s. IsCrowded commands s other window) under h.2;
+      least = subst (λ s. IsLeastLateness commands s other) under least;
+    }))

@@ -3,6 +3,7 @@ use Rattle.std.specs.Prelude.{◌≡◌, ◌↔◌, ℕ, ℤ, List, [], Option, 
 use Rattle.std.specs.Io.KnownBytes.{Appends}
 use Rattle.edd_check.specs.declared.Command.{Command}
 use Rattle.edd_check.specs.declared.Window.{Window}
+use Rattle.edd_check.specs.Capacity.{fixed}
 use Rattle.edd_check.specs.Schedule.{IsLegal, IsGreatestLateness, IsLeastLateness}
 use Rattle.edd_check.specs.Window.{IsCrowded}
 use Rattle.blk_text.specs.Sources.{Row}
@@ -17,10 +18,10 @@ use Rattle.blk_text.specs.Certificate.{Claim, claim_rows, SpellsClaim}
 
 -- the schedule is legal, its greatest lateness is the one stated, the window is crowded at it, and it is least
 pub record IsProof (commands : List Command) (depth : ℕ) (rounds : List ℕ) (late : ℤ) (window : Window) : Type 0 where
-  pub legal : IsLegal commands rounds depth
+  pub legal : IsLegal commands rounds (fixed depth)
   pub greatest : IsGreatestLateness commands rounds late
-  pub crowded : IsCrowded commands depth late window
-  pub least : IsLeastLateness commands depth late
+  pub crowded : IsCrowded commands (fixed depth) late window
+  pub least : IsLeastLateness commands (fixed depth) late
 
 -- a certificate without a bound exactly where it has no commands, that proves its lateness least where it has some
 pub record IsProved (claim : Claim) : Type 0 where

@@ -18,7 +18,7 @@ use blk_text::fault::WriteFault;
 use blk_text::script::read_script;
 use blk_text::source::Records;
 use blk_text::trace::write_trace;
-use edd_check::{Command, Window, check, load};
+use edd_check::{Capacity, Command, Window, check, load};
 use edd_oracle::solve;
 use std::alloc::{AllocError, Global};
 use std::io::{Read, Write};
@@ -57,7 +57,10 @@ fn certify(alloc: Global, depth: u64, commands: Vec<Command>) -> Result<Certific
     ensures in_range { IfOk result (λ c. IsClaim (claimed c)) }
     ensures proved { IfOk result (λ c. IsProved (claimed c)) }
 {
-    match solve(alloc, commands.as_slice(), depth) {
+    let Ok(capacity) = Capacity::fixed(alloc, depth) else {
+        return Err(Failure::Memory);
+    };
+    match solve(alloc, commands.as_slice(), &capacity) {
         Ok(None) => Ok(Certificate {
             depth,
             commands,
@@ -96,7 +99,7 @@ pub fn solve_commands<R: Read + Drop, W: Write>(
 
 // How many commands the rounds of a window carry, if each is to be less late than `lateness`.
 fn carried(depth: u64, window: Window, lateness: i64) -> u64
-    requires depth { depth ≤ 64 }
+    requires depth { depth ≤ 256 }
     requires window { WindowInRange window }
     requires lateness { IsLateness lateness }
     ensures { result ≡ depth * rounds_between window.from (pos window.due +ℤ lateness) }
@@ -118,7 +121,10 @@ fn verify(alloc: Global, certificate: &Certificate) -> Result<(), Failure>
     match certificate.bound {
         None => Ok(()),
         Some((lateness, window)) => {
-            match check(alloc, commands, certificate.depth, lateness, rounds, window) {
+            let Ok(capacity) = Capacity::fixed(alloc, certificate.depth) else {
+                return Err(Failure::Memory);
+            };
+            match check(alloc, commands, &capacity, lateness, rounds, window) {
                 Ok(()) => Ok(()),
                 Err(fault) => Err(Failure::Check(fault)),
             }

@@ -8,7 +8,7 @@ use Rattle.blk_cli.proofs.jobs.certify.Goals as goal
 
 pub returns-in-Ok-Some-clause-in_range : goal.returns-in-Ok-Some-clause-in_range
 returns-in-Ok-Some-clause-in_range c =
-    let best : IsBest c.args.commands.items c.args.depth c.in-Ok-Some.answer.rounds.items c.in-Ok-Some.answer.lateness c.in-Ok-Some.answer.window = search rules in
+    let best : IsBest c.args.commands.items c.in-Ok.capacity c.in-Ok-Some.answer.rounds.items c.in-Ok-Some.answer.lateness c.in-Ok-Some.answer.window = search rules in
     let back : to_z w64 (of_z w64 c.in-Ok-Some.answer.lateness) ≡ c.in-Ok-Some.answer.lateness = search (rules, to_z-of_z) in
     subst (λ (z : ℤ). IsClaim (record { depth = c.args.depth; commands = c.args.commands.items; rounds = c.in-Ok-Some.answer.rounds.items; bound = Some (z, c.in-Ok-Some.answer.window) })) (sym back)
-    (claim_in c.args.depth c.args.commands.items c.in-Ok-Some.answer.rounds.items c.in-Ok-Some.answer.lateness c.in-Ok-Some.answer.window c.requires best)
+    (claim_in c.args.depth c.in-Ok.capacity c.args.commands.items c.in-Ok-Some.answer.rounds.items c.in-Ok-Some.answer.lateness c.in-Ok-Some.answer.window c.requires best)

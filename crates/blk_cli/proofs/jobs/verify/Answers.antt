@@ -5,12 +5,12 @@ use Rattle.blk_cli.specs.Outcome.{IsProof}
 use Rattle.blk_cli.proofs.Claims.{bound_beside, proof_of}
 use Rattle.blk_cli.proofs.jobs.verify.Goals as goal
 
-pub returns-in-Ok : goal.returns-in-Ok
-returns-in-Ok c =
+pub returns-in-Ok-check : goal.returns-in-Ok-check
+returns-in-Ok-check c =
     let certificate = c.args.certificate.now in
     let back : to_z w64 (of_z w64 c.in-Some.lateness) ≡ c.in-Some.lateness = search (rules, to_z-of_z) in
     let seen : IfSome certificate.bound (λ b. IsProof c.as_slice-commands.result.now certificate.depth c.as_slice-rounds.result.now b.0 b.1) =
-    proof_of c.as_slice-commands.result.now certificate.depth c.as_slice-rounds.result.now certificate.bound c.in-Some.lateness _ c.in-Some.window c.in-Some.is back c.in-Ok.ensures.answer c.in-Ok.ensures.least in
+    proof_of c.as_slice-commands.result.now c.in-Ok.capacity certificate.depth c.as_slice-rounds.result.now certificate.bound c.in-Some.lateness _ c.in-Some.window c.in-Ok.ensures c.in-Some.is back c.in-Ok-check.ensures.answer c.in-Ok-check.ensures.least in
     let P : List Command → Type 0 = λ xs. IfSome certificate.bound (λ b. IsProof xs certificate.depth c.as_slice-rounds.result.now b.0 b.1) in
     let Q : List ℕ → Type 0 = λ ys. IfSome certificate.bound (λ b. IsProof certificate.commands.items certificate.depth ys b.0 b.1) in
     let commands : c.as_slice-commands.result.now ≡ certificate.commands.items = search rules in
