@@ -1,9 +1,12 @@
 pub mod Where
 pub mod Picking
 pub mod Events
+pub mod Chains
+pub mod Serving
+pub mod Spreading
+pub mod Holding
 pub mod Draining
 pub mod Standing
 pub mod Ending
-pub mod Spreading
-pub mod Refusing
-pub mod Holding
+pub mod Keeping
+pub mod Rounding

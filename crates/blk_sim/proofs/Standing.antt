@@ -18,7 +18,8 @@ use Rattle.blk_soft.specs.Queues.{Queue}
 use Rattle.blk_text.specs.declared.script.Line.{Line}
 use Rattle.blk_text.specs.declared.script.Line.TheVariants as line
 use Rattle.blk_sim.specs.Simulation.{Where, Plugged, Staged, Released, moved, place_after, is_where, bio_at, bios_at, ticks_of}
-use Rattle.blk_sim.specs.Simulated.{Placing, placed_by, placings, moved_by, stepped, picked, is_in, is_at, bios_in, ArePlugged, AreStaged, AreDrained, nobody, Stands}
+use Rattle.blk_sim.specs.Moves.{bios_in}
+use Rattle.blk_sim.specs.Simulated.{Placing, placed_by, placings, moved_by, stepped, picked, is_in, is_at, ArePlugged, AreStaged, AreDrained, nobody, Stands}
 use Rattle.blk_sim.proofs.Where.{one_more}
 use Rattle.blk_sim.proofs.Picking.{picked-append, picked-moved, picked-same, picked-same_in, picked-none, picked-both, IsSplit, set_cases}
 
@@ -316,9 +317,6 @@ pub ticks_more : (k : ℕ) (lines : List Line) (l : Line) → slice_get lines k 
 ticks_more k lines l at = ap (sum_by ticks_of) (take_more lines k l at) ∙ sum_by_push ticks_of (take k lines) l
 
 -- plugs and software queues that were just made
-pub pushed_all : {X : Type 0} (P : X → Type 0) (xs ys : List X) (x : X) → ys ≡ xs ++ x ∷ [] → All P xs → P x → All P ys
-pushed_all P xs ys x e all here = subst (All P) (sym e) (All-append P xs (x ∷ []) all (All-cons P x [] here (All-nil P)))
-
 pub fresh_stands : (made : Limits) (depth : ℕ) (plugs : List Plug) (queues : List Queue) (events : List Happened) → events ≡ [] → All (λ (p : Plug). p ≡ record { limits = made; requests = [] }) plugs → All (λ (q : Queue). q ≡ record { depth = depth; limits = made; requests = []; bios_in = 0; bios_out = 0 }) queues → Stands [] plugs queues events
 fresh_stands made depth plugs queues events none p q = nothing_stands plugs queues events
     (λ s x at. ap (λ (y : Plug). y.requests) (all_at (λ (y : Plug). y ≡ record { limits = made; requests = [] }) plugs s x p at))

@@ -1,31 +1,28 @@
 -- How a simulation stands between two steps.
-use Rattle.std.specs.Prelude.{◌≡◌, ◌<◌, ◌≤◌, ◌+◌, ◌%◌, ◌==◌, ◌++◌, ◌&&◌, ◌||◌, not, cond, nat_lt, ℕ, Bool, false, List, [], ◌∷◌, Some, length, map, flat_map, slice_get, slice_index_or, All, IsPermutation}
+use Rattle.std.specs.Prelude.{◌≡◌, ◌<◌, ◌≤◌, ◌+◌, ◌%◌, ◌==◌, ◌++◌, ◌&&◌, ◌||◌, not, cond, nat_lt, ℕ, Bool, false, List, [], ◌∷◌, Some, length, map, slice_get, slice_index_or, All, IsPermutation}
 use Rattle.blk_bio.specs.Bios.{Bio}
-use Rattle.blk_bio.specs.Limits.{Limits}
-use Rattle.blk_bio.specs.Requests.{IsRequest}
 use Rattle.blk_trace.specs.Happened.{Happened}
 use Rattle.blk_trace.specs.Events.{entered, round_of}
-use Rattle.blk_plug.specs.Plugs.{Plug, IsPlug}
-use Rattle.blk_soft.specs.Queues.{Queue, IsQueue}
+use Rattle.blk_plug.specs.Plugs.{Plug}
+use Rattle.blk_soft.specs.Queues.{Queue}
 use Rattle.blk_core.specs.State.{CoreState}
 use Rattle.blk_text.specs.declared.script.Line.{Line}
-use Rattle.blk_text.specs.declared.script.Line.TheVariants as line
-use Rattle.blk_sim.specs.Simulation.{Where, Plugged, Staged, Released, moved, place_after, is_where}
+use Rattle.blk_sim.specs.Simulation.{Where, Plugged, Staged, Released, moved, place_after, is_where, effect_of, added_by}
+use Rattle.blk_sim.specs.State.{SimState}
+use Rattle.blk_sim.specs.Moves.{bios_in}
 
 -- a bio, and where it is
 pub record Placing : Type 0 where
   pub bio : Bio
   pub place : Where
 
+-- a bio where these steps leave it, from its plug on
+abbrev pub placed_at : ℕ → List Line → Bio → Placing
+placed_at hw after b = record { bio = b; place = place_after hw b.id.submitter Plugged after }
+
 -- a `bio` line's bio, where the steps after it leave it
 abbrev pub placed_by : ℕ → Line → List Line → List Placing
-placed_by hw (line.Bio b) after = record { bio = b; place = place_after hw b.id.submitter Plugged after } ∷ []
-placed_by hw (line.Flush t) after = []
-placed_by hw (line.Drain h) after = []
-placed_by hw (line.Issue h tag) after = []
-placed_by hw (line.Done tag) after = []
-placed_by hw line.Tick after = []
-placed_by hw (line.Run n) after = []
+placed_by hw l after = map (placed_at hw after) (added_by (effect_of l))
 
 -- where the steps leave the bios of their `bio` lines
 unfoldable pub placings : ℕ → List Line → List Placing
@@ -52,10 +49,6 @@ is_in w p = is_where w p.place
 -- whether a bio of the submitter is at a place
 abbrev pub is_at : Where → ℕ → Placing → Bool
 is_at w s p = is_where w p.place && (p.bio.id.submitter == s)
-
--- the bios of requests, in their order
-abbrev pub bios_in : List (List Bio) → List Bio
-bios_in requests = flat_map (λ bios. bios) requests
 
 -- each plug has its submitter's plugged bios
 abbrev pub ArePlugged : List Placing → List Plug → Type 0
@@ -89,37 +82,17 @@ pub record Stands (book : List Placing) (plugs : List Plug) (queues : List Queue
   pub plugged : ArePlugged book plugs
   pub drained : AreDrained nobody book queues events
 
--- a plug of these limits: at most 32 requests, each one bio or within the limits
-pub record IsPlugOf (limits : Limits) (plug : Plug) : Type 0 where
-  pub limits_are : plug.limits ≡ limits
-  pub is_plug : IsPlug plug
-  pub requests : All IsRequest plug.requests
-
--- a software queue of these limits and this depth: at most so many requests, each one bio or within the limits
-pub record IsQueueOf (limits : Limits) (depth : ℕ) (queue : Queue) : Type 0 where
-  pub limits_are : queue.limits ≡ limits
-  pub depth_is : queue.depth ≡ depth
-  pub is_queue : IsQueue queue
-  pub requests : All IsRequest queue.requests
-
--- all plugs are of these limits
-abbrev pub PlugsAreOf : Limits → List Plug → Type 0
-PlugsAreOf limits plugs = (s : ℕ) (plug : Plug) → slice_get plugs s ≡ Some plug → IsPlugOf limits plug
-
--- all software queues are of these limits and this depth
-abbrev pub QueuesAreOf : Limits → ℕ → List Queue → Type 0
-QueuesAreOf limits depth queues = (s : ℕ) (queue : Queue) → slice_get queues s ≡ Some queue → IsQueueOf limits depth queue
-
--- as many plugs as software queues, all of these limits, and the queues of this depth
-pub record IsReady (limits : Limits) (depth : ℕ) (plugs : List Plug) (queues : List Queue) : Type 0 where
-  pub counts : length queues ≡ length plugs
-  pub plugs_are_of : PlugsAreOf limits plugs
-  pub queues_are_of : QueuesAreOf limits depth queues
-
 -- each submitter sent at most so many bios: those that came into its software queue, and those in its plug
 abbrev pub HaveCome : ℕ → List Plug → List Queue → Type 0
 HaveCome n plugs queues = (s : ℕ) (plug : Plug) (queue : Queue) → slice_get plugs s ≡ Some plug → slice_get queues s ≡ Some queue
     → queue.bios_in + length (bios_in plug.requests) ≤ n
+
+-- as many software queues as plugs, all of the core's limits, and no submitter sent more bios than these
+pub record IsReady (n : ℕ) (state : SimState) : Type 0 where
+  pub counts : length state.queues ≡ length state.plugs
+  pub plug_limits : (s : ℕ) (plug : Plug) → slice_get state.plugs s ≡ Some plug → plug.limits ≡ state.core.setup.limits
+  pub queue_limits : (s : ℕ) (queue : Queue) → slice_get state.queues s ≡ Some queue → queue.limits ≡ state.core.setup.limits
+  pub come : HaveCome n state.plugs state.queues
 
 -- a map of so many software queues to so many hardware queues: queue s is served by hardware queue s mod these
 pub record IsSpread (hw count : ℕ) (entries : List ℕ) : Type 0 where

@@ -1,5 +1,6 @@
 -- What a script says of the trace that it leads to.
 use Rattle.std.specs.Prelude.{◌≡◌, ◌⊎◌, ◌<◌, ◌%◌, ◌==◌, ◌++◌, ℕ, Bool, true, false, List, [], ◌∷◌, Some, slice_get, if◌then◌else◌}
+use Rattle.std.specs.List.{filter}
 use Rattle.blk_bio.specs.Bios.{Bio}
 use Rattle.blk_text.specs.declared.script.Line.{Line}
 use Rattle.blk_text.specs.declared.script.Line.TheVariants as line
@@ -10,23 +11,42 @@ pub data Where : Type 0 where
   Staged : Where
   Released : Where
 
--- a later step moves a bio of this submitter on: a flush of its plug, then a drain of its hardware queue or a run
+-- what a step does to where bios stand: it adds a bio to its plug, flushes a submitter's plug, drains a hardware queue's
+-- software queues, drains all of them, or leaves the bios where they are
+pub data Effect : Type 0 where
+  Adding : Bio → Effect
+  Flushing : ℕ → Effect
+  Draining : ℕ → Effect
+  DrainingAll : Effect
+  Leaving : Effect
+
+-- what each step does to where bios stand
+abbrev pub effect_of : Line → Effect
+effect_of (line.Bio b) = Adding b
+effect_of (line.Flush s) = Flushing s
+effect_of (line.Drain hw) = Draining hw
+effect_of (line.Issue hw tag) = Leaving
+effect_of (line.Done tag) = Leaving
+effect_of line.Tick = Leaving
+effect_of (line.Run n) = DrainingAll
+
+-- a bio of this submitter is moved on: by a flush of its plug, then by a drain of its hardware queue or of all
+abbrev pub moved_on : ℕ → ℕ → Where → Effect → Where
+moved_on hw s Plugged (Adding b) = Plugged
+moved_on hw s Plugged (Flushing t) = if s == t then Staged else Plugged
+moved_on hw s Plugged (Draining h) = Plugged
+moved_on hw s Plugged DrainingAll = Plugged
+moved_on hw s Plugged Leaving = Plugged
+moved_on hw s Staged (Adding b) = Staged
+moved_on hw s Staged (Flushing t) = Staged
+moved_on hw s Staged (Draining h) = if (s % hw) == h then Released else Staged
+moved_on hw s Staged DrainingAll = Released
+moved_on hw s Staged Leaving = Staged
+moved_on hw s Released e = Released
+
+-- a later step moves a bio of this submitter on
 abbrev pub moved : ℕ → ℕ → Where → Line → Where
-moved hw s Plugged (line.Flush t) = if s == t then Staged else Plugged
-moved hw s Plugged (line.Bio b) = Plugged
-moved hw s Plugged (line.Drain h) = Plugged
-moved hw s Plugged (line.Issue h tag) = Plugged
-moved hw s Plugged (line.Done tag) = Plugged
-moved hw s Plugged line.Tick = Plugged
-moved hw s Plugged (line.Run n) = Plugged
-moved hw s Staged (line.Drain h) = if (s % hw) == h then Released else Staged
-moved hw s Staged (line.Run n) = Released
-moved hw s Staged (line.Bio b) = Staged
-moved hw s Staged (line.Flush t) = Staged
-moved hw s Staged (line.Issue h tag) = Staged
-moved hw s Staged (line.Done tag) = Staged
-moved hw s Staged line.Tick = Staged
-moved hw s Released l = Released
+moved hw s w l = moved_on hw s w (effect_of l)
 
 -- where a bio of this submitter is after these steps, from this place
 unfoldable pub place_after : ℕ → ℕ → Where → List Line → Where
@@ -53,15 +73,17 @@ is_where Released Plugged = false
 is_where Released Staged = false
 is_where Released Released = true
 
+-- the bio that an effect adds, as a list
+abbrev pub added_by : Effect → List Bio
+added_by (Adding b) = b ∷ []
+added_by (Flushing s) = []
+added_by (Draining h) = []
+added_by DrainingAll = []
+added_by Leaving = []
+
 -- a `bio` line's bio, where the steps after it leave it at this place
 abbrev pub bio_at : ℕ → Where → Line → List Line → List Bio
-bio_at hw w (line.Bio b) after = if is_where w (place_after hw b.id.submitter Plugged after) then b ∷ [] else []
-bio_at hw w (line.Flush t) after = []
-bio_at hw w (line.Drain h) after = []
-bio_at hw w (line.Issue h tag) after = []
-bio_at hw w (line.Done tag) after = []
-bio_at hw w line.Tick after = []
-bio_at hw w (line.Run n) after = []
+bio_at hw w l after = filter (λ b. is_where w (place_after hw b.id.submitter Plugged after)) (added_by (effect_of l))
 
 -- the bios that a script's steps leave at a place, in the order of their lines
 unfoldable pub bios_at : ℕ → Where → List Line → List Bio

@@ -1,34 +1,36 @@
 //! The rounds of a script's `run`.
 
-ghost use Rattle.std.specs.Prelude.{IsTrue, ◌↔◌, ◌≡◌, ◌+◌, ◌<◌, ◌%◌, ◌==◌, ◌≢◌, nat_lt, ℕ, List, OnOk, IfErr, length};
-ghost use Rattle.blk_plug.specs.Plugs.{Plug as PlugFields};
-ghost use Rattle.blk_trace.specs.Events.{round_of};
-ghost use Rattle.blk_sim.specs.Refusals.{IsDrainsRefused, IsRoundRefused, IsRunRefused, requests_below};
-ghost use Rattle.blk_sim.specs.Simulated.{Placing, AreDrained, nobody, QueuesAreOf, HaveCome, IsSpread, Passed, Took, bios_in};
+ghost use Rattle.std.specs.Prelude.{IsTrue, ◌↔◌, ◌≡◌, ◌≢◌, ◌≤◌, ◌<◌, ℕ, Some, slice_get, OnOk, OnErr, IfOk, IfErr, length};
+ghost use Rattle.blk_soft.specs.Queues.{Queue as QueueFields};
+ghost use Rattle.blk_sim.specs.Moves.{DrainInTurn};
+ghost use Rattle.blk_sim.specs.Rounds.{IsGiven, IsTaken, IssuesAll, CompleteInTurn, Works, Rounds};
+ghost use Rattle.blk_sim.specs.Refusals.{IsAskRefused, IsIssueInTurnRefused, IsWorkRefused, IsDrainInTurnRefused, IsRunRefused};
+ghost use Rattle.blk_sim.specs.Simulated.{IsSpread};
+ghost use Rattle.blk_sim.specs.Working.{WorkInTurn, IsWorkInTurnRefused};
 
 use crate::refusal::SimWhy;
 use crate::steps::{done, drain, issue, tick};
 use blk_core::Core;
+use blk_core::laws::{in_flight_is_open, listed_issues_are_open, open_picks_are_open_issues};
 use blk_hw::Map;
 use blk_sched::Scheduler;
 use blk_soft::SoftQueue;
 
-/// Asks the hardware queues for a request, from one on upward and round, until one gives one, and says whether one did.
-fn issue_from<S: Scheduler>(core: &mut Core<S>, first: u8, tag: u16) -> Result<bool, SimWhy>
-    requires first { first < core.old.setup.hw }
-    requires tag { tag < core.old.setup.depth }
-    ensures passed { Passed 0 core.old core.new }
-    ensures refused { IfErr result (λ w. (w ≢ SimWhy.SlotUsed) → IsRoundRefused 1 core.old w) }
+/// Asks the hardware queues for a command under a tag, from the tag modulo their number on upward and round, until one
+/// gives one, and says whether one did.
+fn issue_tag<S: Scheduler>(core: &mut Core<S>, tag: u16) -> Result<bool, SimWhy>
+    ensures given { IfOk result (λ given. IsGiven S.serves tag core.old given core.new) }
+    ensures taken { IfErr result (λ w. w ≡ SimWhy.SlotUsed → IsTaken core.old tag) }
+    ensures refused { IfErr result (λ w. w ≢ SimWhy.SlotUsed → IsAskRefused S.serves tag core.old w) }
+    ensures same { OnErr result (core.new ≡ core.old) }
 {
     let count = core.trace().setup().hw();
+    let first = (tag % count as u16) as u8;
     for k in 0..count {
-        let hw = if k < count - first {
-            first + k
-        } else {
-            k - (count - first)
-        };
-        if issue(core, hw, tag)? {
-            return Ok(true);
+        let hw = (first + k) % count;
+        match issue(core, hw, tag)? {
+            Some(_) => return Ok(true),
+            None => {}
         }
     }
     Ok(false)
@@ -45,17 +47,15 @@ fn is_used(why: SimWhy) -> bool
 }
 
 /// Issues under each tag that was not used in this round, rising, until nothing more is given.
-fn issue_round<S: Scheduler>(core: &mut Core<S>) -> Result<(), SimWhy>
-    ensures passed { OnOk result (Passed 0 core.old core.new) }
-    ensures refused { IfErr result (λ w. IsRoundRefused 1 core.old w) }
+fn issue_all<S: Scheduler>(core: &mut Core<S>) -> Result<(), SimWhy>
+    ensures issued { OnOk result (IssuesAll S.serves core.old core.new) }
+    ensures refused { IfErr result (λ w. IsIssueInTurnRefused S.serves core.old w) }
 {
-    let setup = core.trace().setup();
-    let depth = setup.depth() as u16;
+    let depth = core.trace().setup().depth() as u16;
     for tag in 0..depth {
-        let first = (tag % setup.hw() as u16) as u8;
-        match issue_from(core, first, tag) {
+        match issue_tag(core, tag) {
             Ok(true) => {}
-            Ok(false) => break,
+            Ok(false) => return Ok(()),
             Err(why) => {
                 if !is_used(why) {
                     return Err(why);
@@ -67,13 +67,16 @@ fn issue_round<S: Scheduler>(core: &mut Core<S>) -> Result<(), SimWhy>
 }
 
 /// Completes what is in flight, by rising tags.
-fn done_round<S: Scheduler>(core: &mut Core<S>)
-    ensures { Passed 0 core.old core.new }
+fn complete_all<S: Scheduler>(core: &mut Core<S>)
+    ensures { CompleteInTurn core.old.setup.depth core.old core.new }
 {
     let depth = core.trace().setup().depth() as u16;
     for tag in 0..depth {
         if core.trace().unfinished() == 0 {
-            break;
+            in_flight_is_open();
+            listed_issues_are_open();
+            open_picks_are_open_issues();
+            return;
         }
         // A tag that is not in flight is passed over.
         let _ = done(core, tag);
@@ -81,23 +84,23 @@ fn done_round<S: Scheduler>(core: &mut Core<S>)
 }
 
 /// One round: what can be issued is issued and completed, and the round ends.
-fn round<S: Scheduler>(core: &mut Core<S>) -> Result<(), SimWhy>
-    ensures passed { OnOk result (Passed 1 core.old core.new) }
-    ensures refused { IfErr result (λ w. IsRoundRefused 1 core.old w) }
+fn work<S: Scheduler>(core: &mut Core<S>) -> Result<(), SimWhy>
+    ensures worked { OnOk result (Works S.serves core.old core.new) }
+    ensures refused { IfErr result (λ w. IsWorkRefused S.serves core.old w) }
 {
-    issue_round(core)?;
-    done_round(core);
+    issue_all(core)?;
+    complete_all(core);
     tick(core)?;
     Ok(())
 }
 
-/// So many rounds.
-fn rounds<S: Scheduler>(core: &mut Core<S>, count: u64) -> Result<(), SimWhy>
-    ensures passed { OnOk result (Passed count core.old core.new) }
-    ensures refused { IfErr result (λ w. IsRoundRefused count core.old w) }
+/// So many rounds of the core alone.
+fn work_rounds<S: Scheduler>(core: &mut Core<S>, count: u64) -> Result<(), SimWhy>
+    ensures worked { OnOk result (WorkInTurn S.serves count core.old core.new) }
+    ensures refused { IfErr result (λ w. IsWorkInTurnRefused S.serves count core.old w) }
 {
     for _ in 0..count {
-        round(core)?;
+        work(core)?;
     }
     Ok(())
 }
@@ -108,17 +111,11 @@ fn drain_all<S: Scheduler>(
     queues: &mut Vec<SoftQueue<S::A>, S::A>,
     map: &Map<S::A>,
 ) -> Result<(), SimWhy>
-    requires queues { (depth : ℕ) × QueuesAreOf core.old.setup.limits depth queues.old.items }
     requires map { IsSpread core.old.setup.hw (length queues.old.items) map.now }
-    ensures drained { (book : List Placing) → AreDrained nobody book queues.old.items core.old.events
-        → OnOk result (AreDrained (λ s. nat_lt s (length queues.old.items)) book queues.new.items core.new.events) }
-    ensures setup { OnOk result (core.new.setup ≡ core.old.setup) }
-    ensures ticks { OnOk result (round_of core.new.events ≡ round_of core.old.events) }
-    ensures queues { (depth : ℕ) → QueuesAreOf core.old.setup.limits depth queues.old.items → OnOk result (QueuesAreOf core.old.setup.limits depth queues.new.items) }
-    ensures come { (n : ℕ) → (plugs : List PlugFields) → HaveCome n plugs queues.old.items → OnOk result (HaveCome n plugs queues.new.items) }
-    ensures count { length queues.new.items ≡ length queues.old.items }
-    ensures took { OnOk result (Took (bios_in (requests_below queues.old.items core.old.setup.hw core.old.setup.hw)) core.old core.new) }
-    ensures refused { IfErr result (λ w. IsDrainsRefused queues.old.items core.old w) }
+    requires limits { (s : ℕ) (queue : QueueFields) → slice_get queues.old.items s ≡ Some queue → queue.limits ≡ core.old.setup.limits }
+    ensures some { 0 < core.old.setup.hw }
+    ensures drained { OnOk result (DrainInTurn S.serves core.old.setup.hw core.old.setup.hw queues.old.items core.old queues.new.items core.new) }
+    ensures refused { IfErr result (λ w. IsDrainInTurnRefused S.serves core.old.setup.hw queues.old.items core.old w) }
 {
     let count = core.trace().setup().hw();
     for hw in 0..count {
@@ -127,26 +124,21 @@ fn drain_all<S: Scheduler>(
     Ok(())
 }
 
-/// So many rounds of a script's `run`. Nothing enters a software queue in them, so the drains of the first round move
-/// all that those of the later ones could.
+/// So many rounds of a script's `run`, at least one. Nothing enters a software queue in them, so the drains of the first
+/// round move all that those of the later ones could.
 pub(crate) fn run<S: Scheduler>(
     core: &mut Core<S>,
     queues: &mut Vec<SoftQueue<S::A>, S::A>,
     map: &Map<S::A>,
     count: u64,
 ) -> Result<(), SimWhy>
-    requires queues { (depth : ℕ) × QueuesAreOf core.old.setup.limits depth queues.old.items }
+    requires some { 1 ≤ count }
     requires map { IsSpread core.old.setup.hw (length queues.old.items) map.now }
-    ensures drained { (book : List Placing) → AreDrained nobody book queues.old.items core.old.events
-        → OnOk result (AreDrained (λ s. nat_lt s (length queues.old.items)) book queues.new.items core.new.events) }
-    ensures setup { OnOk result (core.new.setup ≡ core.old.setup) }
-    ensures ticks { OnOk result (round_of core.new.events ≡ round_of core.old.events + count) }
-    ensures queues { (depth : ℕ) → QueuesAreOf core.old.setup.limits depth queues.old.items → OnOk result (QueuesAreOf core.old.setup.limits depth queues.new.items) }
-    ensures come { (n : ℕ) → (plugs : List PlugFields) → HaveCome n plugs queues.old.items → OnOk result (HaveCome n plugs queues.new.items) }
-    ensures count { length queues.new.items ≡ length queues.old.items }
-    ensures refused { IfErr result (λ w. IsRunRefused queues.old.items core.old count w) }
+    requires limits { (s : ℕ) (queue : QueueFields) → slice_get queues.old.items s ≡ Some queue → queue.limits ≡ core.old.setup.limits }
+    ensures passed { OnOk result (Rounds S.serves count queues.old.items core.old queues.new.items core.new) }
+    ensures refused { IfErr result (λ w. IsRunRefused S.serves count queues.old.items core.old w) }
 {
     drain_all(core, queues, map)?;
-    rounds(core, count)?;
+    work_rounds(core, count)?;
     Ok(())
 }

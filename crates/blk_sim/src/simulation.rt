@@ -1,13 +1,15 @@
 //! A script's steps, run one after the other over plugs, software queues and the core.
 
-ghost use Rattle.std.specs.Prelude.{◌≡◌, ◌+◌, ◌<◌, ◌≤◌, ◌%◌, ◌^◌, ℕ, List, [], IfOk, OnOk, IfErr, length, sum_by, IsPermutation, All};
+ghost use Rattle.std.specs.Prelude.{◌≡◌, ◌<◌, ◌≤◌, ◌%◌, ◌^◌, ℕ, List, [], replicate, IfOk, OnOk, IfErr, length, sum_by, IsPermutation};
 ghost use Rattle.std.specs.FinMap as fin;
 ghost use Rattle.blk_trace.specs.Events.{entered, round_of};
 ghost use Rattle.blk_trace.specs.Legal.{IsLegalTrace};
 ghost use Rattle.blk_text.specs.Script.{IsScript, LineFits, scripted};
 ghost use Rattle.blk_sim.specs.Simulation.{released_bios, ticks_of};
-ghost use Rattle.blk_sim.specs.Refusals.{IsSimFault, IsAcceptedAt, IsStepAccepted, IsStepRefused};
-ghost use Rattle.blk_sim.specs.Simulated.{Placing, Stands, stepped, IsReady, HaveCome, IsSpread, bios_in};
+ghost use Rattle.blk_sim.specs.State.{SimState, start_of};
+ghost use Rattle.blk_sim.specs.Runs.{Steps, Runs};
+ghost use Rattle.blk_sim.specs.Refusals.{IsSimFault, IsStepRefused};
+ghost use Rattle.blk_sim.specs.Simulated.{IsReady, IsSpread};
 
 use crate::refusal::{SimFault, SimWhy};
 use crate::rounds::run;
@@ -19,8 +21,9 @@ use blk_plug::plug::Plug;
 use blk_sched::Scheduler;
 use blk_soft::SoftQueue;
 use blk_text::script::{Line, Script};
-use blk_trace::trace::{MAX_EVENTS, Trace};
+use blk_trace::trace::Trace;
 use std::alloc::{AllocError, Allocator};
+use std::marker::Model;
 
 /// The record of a script's setup.
 const SETUP_RECORD: u64 = 2;
@@ -28,13 +31,22 @@ const SETUP_RECORD: u64 = 2;
 /// The record of a script's first step.
 const FIRST_STEP: u64 = 3;
 
-/// A script between two of its steps.
+/// A script between two of its steps: the plugs and the software queues, one of each for a submitter, and the core.
 #[derive(Drop)]
 struct Simulation<S: Scheduler> {
     plugs: Vec<Plug<S::A>, S::A>,
     queues: Vec<SoftQueue<S::A>, S::A>,
-    map: Map<S::A>,
     core: Core<S>,
+}
+
+impl<S: Scheduler> Model for Simulation<S> {
+    ghost use Rattle.blk_sim.specs.State.{SimState, sim_code};
+
+    ghost Value = { SimState };
+
+    ghost coded = { sim_code };
+
+    ghost view = { λ s. record { plugs = s.plugs.items; queues = s.queues.items; core = s.core } };
 }
 
 /// So many plugs without requests.
@@ -43,8 +55,7 @@ fn new_plugs<A: Allocator + Clone>(
     count: u64,
     limits: Limits,
 ) -> Result<Vec<Plug<A>, A>, AllocError>
-    ensures count { IfOk result (λ plugs. length plugs.items ≡ count) }
-    ensures empty { IfOk result (λ plugs. All (λ plug. plug ≡ record { limits = limits; requests = [] }) plugs.items) }
+    ensures { IfOk result (λ plugs. plugs.items ≡ replicate count (record { limits = limits; requests = [] })) }
 {
     let mut plugs = Vec::new(alloc.clone()?);
     for _ in 0..count {
@@ -64,8 +75,7 @@ fn new_queues<A: Allocator + Clone>(
     limits: Limits,
 ) -> Result<Vec<SoftQueue<A>, A>, AllocError>
     requires { (1 ≤ depth) × (depth ≤ 1024) }
-    ensures count { IfOk result (λ queues. length queues.items ≡ count) }
-    ensures empty { IfOk result (λ queues. All (λ queue. queue ≡ record { depth = depth; limits = limits; requests = []; bios_in = 0; bios_out = 0 }) queues.items) }
+    ensures { IfOk result (λ queues. queues.items ≡ replicate count (record { depth = depth; limits = limits; requests = []; bios_in = 0; bios_out = 0 })) }
 {
     let mut queues = Vec::new(alloc.clone()?);
     for _ in 0..count {
@@ -114,24 +124,16 @@ impl<S: Scheduler> Simulation<S> {
         requires reads { (S.meaning scheduler).open_picks.reads ≡ 0 }
         requires writes { (S.meaning scheduler).open_picks.writes ≡ 0 }
         requires round { (S.meaning scheduler).round ≡ 0 }
-        ensures setup { IfOk result (λ s. s.core.setup ≡ script.now.setup) }
-        ensures events { IfOk result (λ s. s.core.events ≡ []) }
-        ensures count { IfOk result (λ s. length s.plugs.items ≡ script.now.submitters) }
-        ensures ready { IfOk result (λ s. IsReady script.now.setup.limits script.now.soft_depth s.plugs.items s.queues.items) }
-        ensures come { IfOk result (λ s. HaveCome 0 s.plugs.items s.queues.items) }
-        ensures map { IfOk result (λ s. IsSpread script.now.setup.hw script.now.submitters s.map) }
-        ensures stands { IfOk result (λ s. Stands [] s.plugs.items s.queues.items s.core.events) }
+        ensures { IfOk result (λ s. s ≡ start_of (scripted script.now) (S.meaning scheduler) (S.kept scheduler)) }
     {
         let limits = script.setup.limits();
         let count = script.submitters;
         let plugs = new_plugs(alloc.clone()?, count, limits)?;
         let queues = new_queues(alloc.clone()?, count, script.soft_depth, limits)?;
-        let map = new_map(alloc.clone()?, count, script.setup.hw())?;
         match Core::new(alloc, script.setup, scheduler) {
             Ok(core) => Ok(Simulation {
                 plugs,
                 queues,
-                map,
                 core,
             }),
             Err(_) => Err(AllocError),
@@ -147,33 +149,19 @@ impl<S: Scheduler> Simulation<S> {
         let Simulation {
             plugs: _plugs,
             queues: _queues,
-            map: _map,
             core,
         } = self;
-        let _ = core.trace();
         core.into_trace()
     }
 
-    /// Runs one step.
-    fn step(&mut self, line: Line) -> Result<(), SimWhy>
-        requires ready { (depth : ℕ) × IsReady self.old.core.setup.limits depth self.old.plugs.items self.old.queues.items }
-        requires few { HaveCome (2 ^ 40) self.old.plugs.items self.old.queues.items }
-        requires map { IsSpread self.old.core.setup.hw (length self.old.plugs.items) self.old.map }
-        requires fits { LineFits self.old.core.setup.hw (length self.old.plugs.items) line }
-        ensures stands { (book : List Placing) → Stands book self.old.plugs.items self.old.queues.items self.old.core.events
-            → OnOk result (Stands (stepped self.old.core.setup.hw line book) self.new.plugs.items self.new.queues.items self.new.core.events) }
-        ensures ready { (depth : ℕ) → IsReady self.old.core.setup.limits depth self.old.plugs.items self.old.queues.items
-            → OnOk result (IsReady self.old.core.setup.limits depth self.new.plugs.items self.new.queues.items) }
-        ensures come { (n : ℕ) → HaveCome n self.old.plugs.items self.old.queues.items → OnOk result (HaveCome (n + 1) self.new.plugs.items self.new.queues.items) }
-        ensures setup { OnOk result (self.new.core.setup ≡ self.old.core.setup) }
-        ensures legal { IsLegalTrace self.old.core.setup self.old.core.events }
-        ensures ticks { OnOk result (round_of self.new.core.events ≡ round_of self.old.core.events + ticks_of line) }
-        ensures count { OnOk result (length self.new.plugs.items ≡ length self.old.plugs.items) }
-        ensures map { self.new.map ≡ self.old.map }
-        ensures accepted { OnOk result (IsStepAccepted self.old.plugs.items self.old.queues.items self.old.core line) }
-        ensures refused { IfErr result (λ w. IsStepRefused self.old.plugs.items self.old.queues.items self.old.core line w) }
+    /// Runs one step, with this map of the software queues to the hardware queues.
+    fn step(&mut self, map: &Map<S::A>, line: Line) -> Result<(), SimWhy>
+        requires ready { IsReady (2 ^ 40) self.old }
+        requires map { IsSpread self.old.core.setup.hw (length self.old.plugs) map.now }
+        requires fits { LineFits self.old.core.setup.hw (length self.old.plugs) line }
+        ensures stepped { OnOk result (Steps S.serves self.old line self.new) }
+        ensures refused { IfErr result (λ w. IsStepRefused S.serves self.old line w) }
     {
-        prove!(self.core.trace().len() <= MAX_EVENTS);
         match line {
             Line::Bio(bio) => {
                 add(&mut self.plugs, bio)?;
@@ -184,7 +172,7 @@ impl<S: Scheduler> Simulation<S> {
                 Ok(())
             }
             Line::Drain { hw } => {
-                drain(&mut self.core, &mut self.queues, &self.map, hw)?;
+                drain(&mut self.core, &mut self.queues, map, hw)?;
                 Ok(())
             }
             Line::Issue { hw, tag } => {
@@ -200,11 +188,30 @@ impl<S: Scheduler> Simulation<S> {
                 Ok(())
             }
             Line::Run(count) => {
-                run(&mut self.core, &mut self.queues, &self.map, count)?;
+                run(&mut self.core, &mut self.queues, map, count)?;
                 Ok(())
             }
         }
     }
+}
+
+/// The map of a script's software queues and its simulation before the first step.
+fn start<S: Scheduler>(
+    alloc: S::A,
+    script: &Script,
+    scheduler: S,
+) -> Result<(Map<S::A>, Simulation<S>), AllocError>
+    requires script { IsScript (scripted script.now) }
+    requires nothing { (S.meaning scheduler).pending ≡ fin.empty }
+    requires reads { (S.meaning scheduler).open_picks.reads ≡ 0 }
+    requires writes { (S.meaning scheduler).open_picks.writes ≡ 0 }
+    requires round { (S.meaning scheduler).round ≡ 0 }
+    ensures map { IfOk result (λ r. IsSpread script.now.setup.hw script.now.submitters r.0) }
+    ensures simulation { IfOk result (λ r. r.1 ≡ start_of (scripted script.now) (S.meaning scheduler) (S.kept scheduler)) }
+{
+    let map = new_map(alloc.clone()?, script.submitters, script.setup.hw())?;
+    let simulation = Simulation::new(alloc, script, scheduler)?;
+    Ok((map, simulation))
 }
 
 /// The trace of a script under a scheduler in which nothing waits: its steps are run in their order, each bio going
@@ -220,21 +227,23 @@ pub fn simulate<S: Scheduler>(
     requires reads { (S.meaning scheduler).open_picks.reads ≡ 0 }
     requires writes { (S.meaning scheduler).open_picks.writes ≡ 0 }
     requires round { (S.meaning scheduler).round ≡ 0 }
+    // the trace is that of a simulation to which all steps lead, from the start
+    ensures ran { IfOk result (λ trace. (end : SimState) × Runs S.serves script.now.lines.items (start_of (scripted script.now) (S.meaning scheduler) (S.kept scheduler)) end
+        × (trace.setup ≡ end.core.setup) × (trace.events ≡ end.core.events)) }
     ensures setup { IfOk result (λ trace. trace.setup ≡ script.now.setup) }
     ensures legal { IfOk result (λ trace. IsLegalTrace trace.setup trace.events) }
     ensures bios { IfOk result (λ trace. IsPermutation (entered trace.events) (released_bios script.now.setup.hw script.now.lines.items)) }
     ensures ticks { IfOk result (λ trace. round_of trace.events ≡ sum_by ticks_of script.now.lines.items) }
-    ensures accepted { OnOk result ((place : ℕ) → place < length script.now.lines.items → IsAcceptedAt (scripted script.now) place) }
-    ensures fault { IfErr result (IsSimFault (scripted script.now)) }
+    ensures fault { IfErr result (IsSimFault S.serves (scripted script.now) (S.meaning scheduler) (S.kept scheduler)) }
 {
-    let Ok(mut simulation) = Simulation::new(alloc, script, scheduler) else {
+    let Ok((map, mut simulation)) = start(alloc, script, scheduler) else {
         return Err(SimFault {
             at: SETUP_RECORD,
             why: SimWhy::Memory,
         });
     };
     for (place, line) in script.lines.iter().enumerate() {
-        if let Err(why) = simulation.step(*line) {
+        if let Err(why) = simulation.step(&map, *line) {
             return Err(SimFault {
                 at: place as u64 + FIRST_STEP,
                 why,

@@ -1,30 +1,32 @@
-use Rattle.std.proofs.Common.{◌∙◌, ◌++◌, refl, sym, ap, subst, append_assoc}
+use Rattle.std.proofs.Common.{◌∙◌, refl, sym}
 use Rattle.std.proofs.lemmas.Result.{err_from_is_err_and}
-use Rattle.blk_trace.specs.Events.{entered}
-use Rattle.blk_sim.specs.Simulated.{bios_in, IsQueueOf}
-use Rattle.blk_sim.proofs.Holding.{taken_queue}
-use Rattle.blk_sim.proofs.Refusing.{moved_none, moved_more, moved_refused}
+use Rattle.blk_sim.proofs.Events.{enters_took}
+use Rattle.blk_sim.proofs.Chains.{moved_none, moved_more, moved_all, moved_refused, counted_out, queue_drained}
 use Rattle.blk_sim.proofs.steps.drain_queue.Goals as goal
 
 pub loop-request-init : goal.loop-request-init
-loop-request-init g c = record { moved = refl; setup = refl; ticks = refl; limits = refl; is_queue = λ limits depth h. h; counted = refl; took = moved_none _ _ }
+loop-request-init g c = record { moved = moved_none _ _ _ _; setup = refl; limits = refl; depth = refl; came = refl; counted = refl }
 
 pub loop-request-preserved : goal.loop-request-preserved
 loop-request-preserved g c =
     let i = c.loop-request.invariant in
-    let t = c.in_ok-release.ensures.took in
+    let e = c.in_ok-release.ensures.entered in
     record {
-      moved = ap (λ l. l ++ bios_in c.take_first.new.self.requests) t.took ∙ append_assoc (entered c.loop-request.core.events) c.in-Some.request (bios_in c.take_first.new.self.requests) ∙ ap (λ l. entered c.loop-request.core.events ++ bios_in l) (sym c.in-Some.ensures.some) ∙ i.moved;
-      setup = t.setup ∙ i.setup;
-      ticks = t.ticks ∙ i.ticks;
+      moved = moved_more g.S.Scheduler.serves c.args.hw c.args.queue.now.requests c.loop-request.queue.requests c.in-Some.request c.take_first.new.self.requests c.args.core.now c.loop-request.core c.release.new.core c.in-Some.ensures.some i.moved e;
+      setup = (enters_took g.S.Scheduler.serves c.args.hw c.in-Some.request c.loop-request.core c.release.new.core e).setup ∙ i.setup;
       limits = c.take_first.ensures.limits ∙ i.limits;
-      is_queue = λ limits depth h. taken_queue limits depth c.loop-request.queue c.take_first.new.self c.in-Some.request c.in-Some.ensures.some c.in-Some.ensures.counted c.take_first.ensures.depth c.take_first.ensures.limits c.take_first.ensures.bios_in (i.is_queue limits depth h);
-      counted = c.take_first.ensures.bios_in ∙ i.counted;
-      took = moved_more _ _ c.in-Some.request c.take_first.new.self.requests _ _ _ c.in-Some.ensures.some i.took t;
+      depth = c.take_first.ensures.depth ∙ i.depth;
+      came = c.take_first.ensures.bios_in ∙ i.came;
+      counted = counted_out _ _ _ _ _ c.in-Some.request c.in-Some.ensures.some c.in-Some.ensures.counted i.counted;
     }
 
 pub returns-in_err-release-clause-refused : goal.returns-in_err-release-clause-refused
-returns-in_err-release-clause-refused g c = let p = err_from_is_err_and c.from_residual.result c.from_residual.ensures.1 in rw (p.1, p.2) (moved_refused _ _ c.in-Some.request c.take_first.new.self.requests _ _ _ _ c.in-Some.ensures.some c.loop-request.invariant.took c.in_err-release.ensures.legal c.in_err-release.ensures.refused)
+returns-in_err-release-clause-refused g c = let p = err_from_is_err_and c.from_residual.result c.from_residual.ensures.1 in rw (p.1, p.2) (moved_refused _ _ _ _ c.in-Some.request c.take_first.new.self.requests _ _ _ c.in-Some.ensures.some c.loop-request.invariant.moved c.in_err-release.ensures.refused)
 
-pub returns-clause-queue : goal.returns-clause-queue
-returns-clause-queue g c limits depth h = subst (IsQueueOf limits depth) (sym c.in_default.ensures.none.1) (c.loop-request.invariant.is_queue limits depth h)
+pub returns-clause-emptied : goal.returns-clause-emptied
+returns-clause-emptied g c =
+    let i = c.loop-request.invariant in
+    c.in_default.ensures.none.1 ∙ queue_drained c.args.queue.now c.loop-request.queue i.depth i.limits c.in_default.ensures.none.0 i.came i.counted
+
+pub returns-clause-entered : goal.returns-clause-entered
+returns-clause-entered g c = moved_all g.S.Scheduler.serves c.args.hw c.args.queue.now.requests c.loop-request.queue.requests c.args.core.now c.loop-request.core c.in_default.ensures.none.0 c.loop-request.invariant.moved

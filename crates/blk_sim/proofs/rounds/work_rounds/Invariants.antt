@@ -1,0 +1,5 @@
+use Rattle.blk_sim.specs.Working.{WorkInTurn}
+use Rattle.blk_sim.proofs.rounds.work_rounds.Given as goal
+
+abbrev pub invariant-loop : goal.invariant-loop
+invariant-loop g l = WorkInTurn g.S.Scheduler.serves l.counter l.initial.core l.core

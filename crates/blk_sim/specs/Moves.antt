@@ -1,0 +1,103 @@
+-- What the steps that move requests do to plugs, software queues and the core.
+use Rattle.std.specs.Prelude.{[], ◌∷◌, ◌≡◌, ◌≢◌, ◌+◌, ◌≤◌, ◌%◌, ◌==◌, ◌++◌, ℕ, zero, suc, Bool, cond, List, Option, Some, None, Ok, length, slice_get, slice_set, flat_map, IsPermutation}
+use Rattle.std.specs.Option.{option_map}
+use Rattle.blk_bio.specs.Bios.{Bio}
+use Rattle.blk_plug.specs.Plugs.{Plug, bios_of}
+use Rattle.blk_plug.specs.Answers.{IsAddAnswer}
+use Rattle.blk_plug.specs.declared.plug.Added.{Added}
+use Rattle.blk_soft.specs.Queues.{Queue, held_of}
+use Rattle.blk_sched.specs.Meaning.{Waiting}
+use Rattle.blk_core.specs.State.{CoreState}
+use Rattle.blk_core.specs.Calls.{Places}
+use Rattle.blk_core.specs.Faults.{CanRelease}
+use Rattle.blk_core.specs.declared.Placed.{Placed}
+
+-- the bios of requests, in their order
+abbrev pub bios_in : List (List Bio) → List Bio
+bios_in requests = flat_map (λ bios. bios) requests
+
+-- the plug of a bio's submitter takes it, as the plug answers, and the other plugs stay
+pub record AddsBio (old : List Plug) (b : Bio) (new : List Plug) : Type 0 where
+  pub own : Plug
+  pub grown : Plug
+  pub added : Added
+  pub stands : slice_get old b.id.submitter ≡ Some own
+  pub answer : IsAddAnswer own b grown (Ok added)
+  pub kept : IsPermutation (b ∷ bios_of own) (bios_of grown)
+  pub changed : new ≡ slice_set old b.id.submitter grown
+
+-- a software queue has room for all requests of a plug
+abbrev pub HasRoom : Queue → Plug → Type 0
+HasRoom queue plug = length queue.requests + length plug.requests ≤ queue.depth
+
+-- a plug without its requests
+abbrev pub flushed_plug : Plug → Plug
+flushed_plug plug = record { limits = plug.limits; requests = [] }
+
+-- a software queue that took these requests in, behind its own
+abbrev pub with_requests : Queue → List (List Bio) → Queue
+with_requests queue requests = record {
+  depth = queue.depth;
+  limits = queue.limits;
+  requests = queue.requests ++ requests;
+  bios_in = queue.bios_in + length (bios_in requests);
+  bios_out = queue.bios_out;
+}
+
+-- a submitter's plug is emptied into its software queue, which has room, in the order of its requests, and the others stay
+pub record Flushes (plugs : List Plug) (queues : List Queue) (s : ℕ) (new_plugs : List Plug) (new_queues : List Queue) : Type 0 where
+  pub own : Plug
+  pub to : Queue
+  pub own_stands : slice_get plugs s ≡ Some own
+  pub to_stands : slice_get queues s ≡ Some to
+  pub room : HasRoom to own
+  pub plugs_are : new_plugs ≡ slice_set plugs s (flushed_plug own)
+  pub queues_are : new_queues ≡ slice_set queues s (with_requests to own.requests)
+
+-- the core takes a request for a hardware queue, and places it
+abbrev pub Enters : (ℕ → Waiting → Bool) → ℕ → List Bio → CoreState → CoreState → Type 0
+Enters serves hw bios old new = (placed : Placed) × CanRelease old bios hw × Places serves old bios hw placed new
+
+-- requests enter the core, one after the other
+unfoldable pub EnterInTurn : (ℕ → Waiting → Bool) → ℕ → List (List Bio) → CoreState → CoreState → Type 0
+EnterInTurn serves hw [] old new = new ≡ old
+EnterInTurn serves hw (bios ∷ rest) old new = (middle : CoreState) × Enters serves hw bios old middle × EnterInTurn serves hw rest middle new
+
+-- the requests of the software queue of this number
+abbrev pub requests_in : Option Queue → List (List Bio)
+requests_in None = []
+requests_in (Some queue) = queue.requests
+
+-- the requests of those of the first n software queues that a hardware queue of so many serves, by their rising number
+-- and in each from the first
+unfoldable pub served_requests : List Queue → ℕ → ℕ → ℕ → List (List Bio)
+served_requests queues count hw zero = []
+served_requests queues count hw (suc n) = served_requests queues count hw n ++ cond ((n % count) == hw) (requests_in (slice_get queues n)) []
+
+-- a software queue whose requests went
+abbrev pub drained : Queue → Queue
+drained queue = record {
+  depth = queue.depth;
+  limits = queue.limits;
+  requests = [];
+  bios_in = queue.bios_in;
+  bios_out = queue.bios_out + held_of queue;
+}
+
+-- the requests of the software queues that a hardware queue of so many serves went, and the others stay
+pub record AreEmptied (count hw : ℕ) (old new : List Queue) : Type 0 where
+  pub as_many : length new ≡ length old
+  pub served : (s : ℕ) → (s % count) ≡ hw → slice_get new s ≡ option_map drained (slice_get old s)
+  pub others : (s : ℕ) → (s % count) ≢ hw → slice_get new s ≡ slice_get old s
+
+-- the requests of the software queues that a hardware queue of so many serves enter the core
+pub record Drains (serves : ℕ → Waiting → Bool) (count hw : ℕ) (queues : List Queue) (core : CoreState) (new_queues : List Queue) (new_core : CoreState) : Type 0 where
+  pub emptied : AreEmptied count hw queues new_queues
+  pub entered : EnterInTurn serves hw (served_requests queues count hw (length queues)) core new_core
+
+-- the first n hardware queues, of so many, are drained in turn
+unfoldable pub DrainInTurn : (ℕ → Waiting → Bool) → ℕ → ℕ → List Queue → CoreState → List Queue → CoreState → Type 0
+DrainInTurn serves count zero queues core new_queues new_core = (new_queues ≡ queues) × (new_core ≡ core)
+DrainInTurn serves count (suc n) queues core new_queues new_core =
+    (between : List Queue) × (middle : CoreState) × DrainInTurn serves count n queues core between middle
+    × Drains serves count n between middle new_queues new_core
