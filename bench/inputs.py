@@ -3,7 +3,9 @@
 
 KIND is script (N bios), certificate (N commands), commands (N commands), backlog (N bios of one hardware queue, of which
 none touches another and none is issued) or touching (the same, but each touches half of the others and fits none, since
-each is as large as a request may be). All come from a fixed seed, so that every run has the same bytes."""
+each is as large as a request may be). Four kinds more are N commands at depth 8 in random order: at_once (all released in
+round 0), carried (as many as the rounds carry), crowded (twice as many) and sparse (one in a hundred rounds). All come from
+a fixed seed, so that every run has the same bytes."""
 import random
 import sys
 
@@ -49,6 +51,31 @@ def command_list(commands, out):
         out(f"{k},{release},{release + rng.randrange(50)}")
 
 
+def released(commands, out, rounds):
+    """Released in one of so many rounds, and due within a thousand rounds from then on."""
+    rng = random.Random(7)
+    out("blk-commands,1,8")
+    for k in range(commands):
+        release = rng.randrange(rounds)
+        out(f"{k},{release},{release + rng.randrange(1000)}")
+
+
+def at_once(commands, out):
+    released(commands, out, 1)
+
+
+def carried(commands, out):
+    released(commands, out, commands // 8 + 1)
+
+
+def crowded(commands, out):
+    released(commands, out, commands // 16 + 1)
+
+
+def sparse(commands, out):
+    released(commands, out, 100 * commands)
+
+
 def waiting(bios, out, most, first):
     """Reads of 8 sectors that come in one after the other and all wait; `first` gives the first sector of the n-th."""
     out(f"blk-script,1,{DEPTH},1,64,1")
@@ -75,6 +102,10 @@ def main():
         "script": script,
         "certificate": certificate,
         "commands": command_list,
+        "at_once": at_once,
+        "carried": carried,
+        "crowded": crowded,
+        "sparse": sparse,
         "backlog": backlog,
         "touching": touching,
     }

@@ -27,7 +27,7 @@ fail() {
 # Leaves no file.
 clean() {
   local try
-  rm -f "$stamp.$$" 2>/dev/null || true
+  rm -f "$stamp.$$" "$top"/crates/*/out/writable.$$ 2>/dev/null || true
   [ -n "$scratch" ] || return 0
   # what was ended a moment ago may still write
   for try in 1 2 3 4 5 6 7 8 9 10; do
@@ -64,14 +64,14 @@ end_by() {
 # Makes the temporary folder, in which all that is started keeps its files.
 make_scratch() {
   local signal
-  scratch=$(mktemp -d 2>/dev/null) || fail "the temporary folder ${TMPDIR:-/tmp} can't be used"
-  # the gate runs programs as nobody, in folders below this one
-  chmod 711 "$scratch"
   trap clean EXIT
   for signal in HUP INT QUIT PIPE TERM; do
     # shellcheck disable=SC2064 # the signal's name is to stand in the trap
     trap "end_by $signal" "$signal"
   done
+  scratch=$(mktemp -d 2>/dev/null) || fail "the temporary folder ${TMPDIR:-/tmp} can't be used"
+  # the gate runs programs as nobody, in folders below this one
+  chmod 711 "$scratch"
   { printf 'x' >"$scratch/log"; } 2>/dev/null || fail "the temporary folder ${TMPDIR:-/tmp} can't be used"
 }
 

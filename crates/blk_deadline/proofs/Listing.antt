@@ -1,81 +1,23 @@
 -- The next request of a direction, over the list of what waits.
 use Rattle.std.proofs.Common.{◌≡◌, ◌<◌, ◌≤◌, ◌==◌, ◌&&◌, ◌||◌, inl, inr, ℕ, Bool, true, false, cond, sym, ap, subst, ◌∙◌, refl, arith, Some, None, Option, List, [], ◌∷◌}
-use Rattle.std.specs.Prelude.{if◌then◌else◌, nat_lt, T}
+use Rattle.std.specs.Prelude.{if◌then◌else◌, nat_lt}
 use Rattle.std.proofs.lemmas.Bool.{ltb-true, ltb-false, eqb-true, eq-eqb, cases_lt, cases_eq}
-use Rattle.std.specs.Ordering.{nat_cmp, is_eq, is_lt, ordering_reverse}
+use Rattle.std.specs.Ordering.{nat_cmp, is_eq}
 use Rattle.std.specs.BTreeMap.{is_at}
 use Rattle.std.specs.Map.{lookup, keys_of, values_of}
 use Rattle.std.specs.Cmp.{nat_cmp_total, tied_itself}
-use Rattle.std.specs.FinMap.{find, get, entries, values, entries_sorted, get-entries, nat_cmp-IsAntisymmetric}
-use Rattle.std.specs.FinMap.Entries.{below_all, is_sorted}
-use Rattle.std.specs.List.{AllByRecursion, filter}
+use Rattle.std.specs.FinMap.{get, entries, values, entries_sorted}
+use Rattle.std.specs.List.{filter}
 use Rattle.std.specs.List.Sorted.{IsStrictlySortedBy}
 use Rattle.std.proofs.lemmas.Map.Keys.{sorted_head, sorted_tail}
-use Rattle.std.specs.declared.cmp.Ordering.{Ordering}
-use Rattle.std.specs.declared.cmp.Ordering.TheVariants.{Less, Equal, Greater}
 use Rattle.blk_bio.specs.declared.bio.Dir.{Dir}
 use Rattle.blk_bio.specs.Requests.{dir_of, first_of}
 use Rattle.blk_sched.specs.Meaning.{Waiting, Pending}
+use Rattle.blk_sched.specs.Maps.{behind, at_front, in_order, looked_up}
 use Rattle.blk_sched.specs.Index.{IsNext, NoNext, IsBefore}
 use Rattle.blk_deadline.specs.declared.Last.{Last}
 use Rattle.blk_deadline.specs.Choice.{is_of, comes_before, first_of_two, first_by, next_of}
 use Rattle.blk_deadline.proofs.Served.{same_is, is_same_dir}
-
--- a look-up by a test of ids
-find_waiting : (es : List (ℕ × Waiting)) (q : ℕ) → find nat_cmp q es ≡ lookup (is_at (nat_cmp q)) es
-find_waiting [] q = refl
-find_waiting (e ∷ es) q = ap (cond (is_at (nat_cmp q) e.0) (Some e.1)) (find_waiting es q)
-
--- of two orderings the equal one
-is_equal : (o : Ordering) → is_eq o ≡ true → o ≡ Equal
-is_equal Less h = cc
-is_equal Equal h = refl
-is_equal Greater h = cc
-
--- of two orderings the one below
-is_less : (o : Ordering) → T (is_lt o) → o ≡ Less
-is_less Less h = refl
-is_less Equal h = absurd h
-is_less Greater h = absurd h
-
--- both of two tests
-first : (a b : Bool) → T (a && b) → T a
-first true b h = tt
-first false b h = h
-
-second : (a b : Bool) → T (a && b) → T b
-second true b h = h
-second false b h = absurd h
-
--- a finite map's entries are in the order of their keys
-below_each : (x : ℕ) (es : List (ℕ × Waiting)) → T (below_all nat_cmp x es) → AllByRecursion (λ y. nat_cmp x y ≡ Less) (keys_of es)
-below_each x [] h = tt
-below_each x (e ∷ es) h = (is_less (nat_cmp x e.0) (first (is_lt (nat_cmp x e.0)) (below_all nat_cmp x es) h), below_each x es (second (is_lt (nat_cmp x e.0)) (below_all nat_cmp x es) h))
-
-in_order : (es : List (ℕ × Waiting)) → T (is_sorted nat_cmp es) → IsStrictlySortedBy nat_cmp (keys_of es)
-unfolding IsStrictlySortedBy
-in_order [] h = tt
-in_order (e ∷ es) h = (below_each e.0 es (first (below_all nat_cmp e.0 es) (is_sorted nat_cmp es) h), in_order es (second (below_all nat_cmp e.0 es) (is_sorted nat_cmp es) h))
-
--- what is found among greater keys is greater
-rising : (x k : ℕ) (v : Waiting) (es : List (ℕ × Waiting)) → AllByRecursion (λ y. nat_cmp x y ≡ Less) (keys_of es) → lookup (is_at (nat_cmp k)) es ≡ Some v → nat_cmp x k ≡ Less
-rising x k v [] h f = cc
-rising x k v (e ∷ es) h f =
-    elim (is_eq (nat_cmp k e.0)) as (λ b. is_eq (nat_cmp k e.0) ≡ b → cond b (Some e.1) (lookup (is_at (nat_cmp k)) es) ≡ Some v → nat_cmp x k ≡ Less) [
-      | true ↦ λ t _. ap (nat_cmp x) (nat_cmp-IsAntisymmetric k e.0 (is_equal (nat_cmp k e.0) t)) ∙ h.0
-      | false ↦ λ _ g. rising x k v es h.1 g
-    ] refl f
-
--- what is found among greater keys is found beside the least
-behind : (e : ℕ × Waiting) (es : List (ℕ × Waiting)) (k : ℕ) (v : Waiting) → AllByRecursion (λ y. nat_cmp e.0 y ≡ Less) (keys_of es) → lookup (is_at (nat_cmp k)) es ≡ Some v → lookup (is_at (nat_cmp k)) (e ∷ es) ≡ Some v
-behind e es k v h f = ap (λ o. cond (is_eq o) (Some e.1) (lookup (is_at (nat_cmp k)) es)) (nat_cmp_total.antisymm k e.0 ∙ ap ordering_reverse (rising e.0 k v es h f)) ∙ f
-
--- the first entry is found
-at_front : (e : ℕ × Waiting) (es : List (ℕ × Waiting)) → lookup (is_at (nat_cmp e.0)) (e ∷ es) ≡ Some e.1
-at_front e es = ap (λ o. cond (is_eq o) (Some e.1) (lookup (is_at (nat_cmp e.0)) es)) (tied_itself nat_cmp_total e.0)
-
-looked_up : (m : Pending) (q : ℕ) → get m q ≡ lookup (is_at (nat_cmp q)) (entries m)
-looked_up m q = get-entries m q ∙ find_waiting (entries m) q
 
 -- ---- tests
 

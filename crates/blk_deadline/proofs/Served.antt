@@ -2,9 +2,6 @@
 use Rattle.std.proofs.Common.{◌≡◌, ◌<◌, ◌≤◌, ◌+◌, ℕ, Bool, true, false, cond, sym, ap, ◌∙◌, refl, arith, Some, None, Option, List}
 use Rattle.std.specs.Prelude.{nat_le}
 use Rattle.std.proofs.lemmas.Bool.{leb-true, leb-false}
-use Rattle.std.specs.Ordering.{nat_cmp}
-use Rattle.std.specs.Cmp.{nat_cmp_total, eq_by_cmp_equiv}
-use Rattle.std.specs.BTreeMap.{is_at}
 use Rattle.std.specs.FinMap as map
 use Rattle.blk_bio.specs.declared.bio.Dir.{Dir}
 use Rattle.blk_bio.specs.declared.bio.Dir.TheVariants.{Read, Write}
@@ -35,19 +32,14 @@ candidate_of m hw limits newcomer id side best = (
   },
 )
 
--- a map that differs at one id
-inserted : (old new : Pending) (id : ℕ) (u : Waiting) → ((k : ℕ) → map.get new k ≡ cond (is_at (nat_cmp id) k) (Some u) (map.get old k)) → new ≡ map.insert old id u
-inserted old new id u is = map.same_map nat_cmp_total map.nat_cmp-IsAntisymmetric new (map.insert old id u) (λ k.
-    is k ∙ ap (λ b. cond b (Some u) (map.get old k)) ((eq_by_cmp_equiv nat_cmp_total).symm id k) ∙ sym (map.get-insert nat_cmp_total old id u k))
-
-pub joins : (m : Meaning) (new : Pending) (hw now : ℕ) (limits : Limits) (newcomer : List Bio) (id : ℕ) (side : Side) → HasCandidate serves_all hw limits newcomer m id side → IsJoined now newcomer (map.get m.pending) id side (map.get new) → Joins serves_all hw now limits newcomer m id side (record m { pending = new })
+pub joins : (m : Meaning) (new : Pending) (hw now : ℕ) (limits : Limits) (newcomer : List Bio) (id : ℕ) (side : Side) → HasCandidate serves_all hw limits newcomer m id side → IsJoined now newcomer m.pending id side new → Joins serves_all hw now limits newcomer m id side (record m { pending = new })
 joins m new hw now limits newcomer id side candidate join =
     let w = candidate.0 in
     let one : Some join.waiting ≡ Some w = sym join.was ∙ candidate.1.pending in
     let same : join.waiting ≡ w = cc in (
       w,
       candidate.1,
-      ap (λ (x : Pending). let n : Meaning = record m { pending = x } in n) (inserted m.pending new id (joined_waiting side now newcomer join.waiting) join.is ∙ ap (λ (x : Waiting). map.insert m.pending id (joined_waiting side now newcomer x)) same),
+      ap (λ (x : Pending). let n : Meaning = record m { pending = x } in n) (join.is ∙ ap (λ (x : Waiting). map.insert m.pending id (joined_waiting side now newcomer x)) same),
     )
 
 -- ---- the oldest

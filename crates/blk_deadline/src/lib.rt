@@ -217,7 +217,7 @@ impl<A: Allocator + Clone> Scheduler for Deadline<A> {
     fn candidate(&self, hw: u8, limits: &Limits, newcomer: &Request<A>) -> Option<(u64, Side)> {
         let _ = hw;
         self.index
-            .candidate(newcomer, limits, self.tunables.front_merges, None)
+            .candidate(newcomer, limits, self.tunables.front_merges)
     }
 
     fn join_at(

@@ -2,14 +2,16 @@
 use Rattle.std.proofs.Common.{◌≡◌, ◌&&◌, ℕ, Bool, true, false, cond, sym, ap, subst, ◌∙◌, refl, Some, None, Option, List}
 use Rattle.std.specs.Ordering.{nat_cmp, ordering_then, eq_by_cmp, is_eq}
 use Rattle.std.specs.BTreeMap.{is_at}
-use Rattle.std.specs.Map.{lookup}
+use Rattle.std.specs.BTreeSet.{BTreeSet, IsEmpty, contains}
+use Rattle.std.specs.List.{list_any}
+use Rattle.std.specs.Cmp.{nat_cmp_total, eq_by_cmp_equiv}
 use Rattle.std.specs.FinMap as map
 use Rattle.std.specs.declared.cmp.Ordering.{Ordering}
 use Rattle.std.specs.declared.cmp.Ordering.TheVariants.{Less, Equal, Greater}
 use Rattle.blk_sched.specs.declared.lane.Extent.{Extent}
 use Rattle.blk_sched.specs.Meaning.{Waiting, Pending}
 use Rattle.blk_sched.specs.Lanes.{extent_of}
-use Rattle.blk_sched.specs.Maps.{same_number, get_waiting}
+use Rattle.blk_sched.specs.Maps.{same_number}
 use Rattle.blk_sched.specs.Spots.{Place, Spot, place_cmp, spot_cmp, Adds, Takes, Keeps, is_placed, AreSpots, first_at, end_at, age_at}
 use Rattle.blk_sched.specs.Index.{IsIndex}
 use Rattle.blk_sched.proofs.Listed.{same_place, is_equal}
@@ -20,19 +22,19 @@ Found = ℕ → Option Waiting
 abbrev pub Has : Type 0
 Has = Spot → Bool
 
-abbrev pub Entries : Type 0
-Entries = List (ℕ × Waiting)
-
 -- what is found then: at one id x, and elsewhere as before
 abbrev pub Becomes : Found → ℕ → Option Waiting → Found → Type 0
 Becomes old id x new = (k : ℕ) → new k ≡ cond (is_at (nat_cmp id) k) x (old k)
 
--- what the entries of a map have at an id
-abbrev pub found_in : ℕ → Entries → Option Waiting
-found_in k es = lookup (is_at (nat_cmp k)) es
+-- the map's test of two ids in the order of the look-up's
+by_key : (q id : ℕ) → eq_by_cmp nat_cmp q id ≡ is_at (nat_cmp id) q
+by_key q id = sym ((eq_by_cmp_equiv nat_cmp_total).symm id q)
 
-pub none_at : (es : Entries) (self : Pending) (id named : ℕ) → map.from_entries es ≡ self → id ≡ named → map.get self named ≡ None → found_in id es ≡ None
-none_at es self id named view own none = sym (get_waiting es id) ∙ ap (λ (m : Pending). map.get m id) view ∙ ap (map.get self) own ∙ none
+pub becomes_given : (old new : Pending) (id : ℕ) (w : Waiting) → new ≡ map.insert old id w → Becomes (map.get old) id (Some w) (map.get new)
+becomes_given old new id w is k = ap (λ (m : Pending). map.get m k) is ∙ map.get-insert nat_cmp_total old id w k ∙ ap (λ b. cond b (Some w) (map.get old k)) (by_key k id)
+
+pub becomes_taken : (old new : Pending) (id : ℕ) → new ≡ map.remove old id → Becomes (map.get old) id None (map.get new)
+becomes_taken old new id is k = ap (λ (m : Pending). map.get m k) is ∙ map.get-remove nat_cmp_total old id k ∙ ap (λ b. cond b None (map.get old k)) (by_key k id)
 
 -- two spots are one where their places and their ids are
 one_spot : (o r : Ordering) → is_eq (ordering_then o r) ≡ (is_eq o && is_eq r)
@@ -145,3 +147,28 @@ same_kept old new f e a f2 e2 a2 index same firsts ends ages = record {
   ends = kept end_at old new e e2 index.ends same ends;
   ages = kept age_at old new a a2 index.ages same ages;
 }
+
+-- ---- nothing
+
+pub no_spot : (s : BTreeSet Spot) → IsEmpty s → (q : Spot) → contains spot_cmp s q ≡ false
+no_spot s none q = ap (list_any (is_at (spot_cmp q))) none
+
+no_spots : (at : Extent → Place) (m : Pending) (has : Has) → m ≡ map.empty → ((q : Spot) → has q ≡ false) → AreSpots at (map.get m) has
+no_spots at m has none empty p k = empty (p, k) ∙ ap (is_placed at p) (sym (ap (λ (x : Pending). map.get x k) none ∙ map.get-empty nat_cmp k))
+
+pub empty_index : (m : Pending) (f e a : Has) → m ≡ map.empty → ((q : Spot) → f q ≡ false) → ((q : Spot) → e q ≡ false) → ((q : Spot) → a q ≡ false) → IsIndex (map.get m) f e a
+empty_index m f e a none firsts ends ages = record {
+  named = λ k w h. absurd (let x : None ≡ Some w = sym (ap (λ (x : Pending). map.get x k) none ∙ map.get-empty nat_cmp k) ∙ h in cc);
+  firsts = no_spots first_at m f none firsts;
+  ends = no_spots end_at m e none ends;
+  ages = no_spots age_at m a none ages;
+}
+
+-- an id that isn't there is taken out
+pub absent_kept : (m n : Pending) (id : ℕ) (f e a : Has) → IsIndex (map.get m) f e a → map.get m id ≡ None → n ≡ map.remove m id → IsIndex (map.get n) f e a
+absent_kept m n id f e a index none is = same_kept (map.get m) (map.get n) f e a f e a index
+    (λ k. becomes_taken m n id is k ∙ elim (is_at (nat_cmp id) k) as (λ b. is_at (nat_cmp id) k ≡ b → cond b None (map.get m k) ≡ map.get m k) [
+      | true ↦ λ e. sym (ap (map.get m) (same_number id k e) ∙ none)
+      | false ↦ λ _. refl
+    ] refl)
+    (λ q. refl) (λ q. refl) (λ q. refl)

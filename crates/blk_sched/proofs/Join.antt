@@ -1,7 +1,7 @@
 -- A join of a request that waits.
 use Rattle.std.proofs.Common.{◌≡◌, ◌<◌, ◌+◌, ℕ, true, false, sym, ap, subst, ◌∙◌, refl, arith, Some, List, [], ◌∷◌, ◌++◌}
 use Rattle.std.specs.Prelude.{Result, Ok, Err, OnOk, OnErr}
-use Rattle.std.specs.Ordering.{nat_cmp, eq_by_cmp}
+use Rattle.std.specs.Ordering.{eq_by_cmp}
 use Rattle.std.specs.FinMap as map
 use Rattle.blk_bio.specs.declared.bio.Dir.{Dir}
 use Rattle.blk_bio.specs.declared.request.Side.{Side}
@@ -12,11 +12,11 @@ use Rattle.blk_bio.specs.Requests.{Fits, dir_of, first_of, last_of, joined}
 use Rattle.blk_sched.specs.Meaning.{Waiting, Pending, joined_waiting}
 use Rattle.blk_sched.specs.Lanes.{extent_of}
 use Rattle.blk_sched.specs.Fits.{HasFit}
-use Rattle.blk_sched.specs.Maps.{get_waiting}
+use Rattle.blk_sched.specs.Shelves.{JoinsOne}
 use Rattle.blk_sched.specs.Spots.{Place, Spot, place_cmp, is_write, is_placed, AreSpots, Adds, Takes, first_at, end_at, age_at}
 use Rattle.blk_sched.specs.Index.{at_of, joined_extent, IsIndex, IsJoined}
 use Rattle.blk_sched.proofs.Listed.{same_place, is_equal}
-use Rattle.blk_sched.proofs.Indexed.{Found, Has, Entries, Becomes, found_in, moved, stayed, kept, named_then}
+use Rattle.blk_sched.proofs.Indexed.{Found, Has, Becomes, moved, stayed, kept, named_then, becomes_given}
 
 -- ---- where a joined request begins and ends
 
@@ -120,60 +120,59 @@ spots_joined limits old new has mid now id s at side other newcomer v w spot las
 
 -- ---- the index
 
-module _ (limits : Limits) (old new : Found) (id at : ℕ) (newcomer : List Bio) where
-  joined_back : (f e a e2 : Has) → IsIndex old f e a → HasFit limits old newcomer id Back → AreSpots end_at new e2 → IsJoined at newcomer old id Back new → IsIndex new f e2 a
+module _ (limits : Limits) (m n : Pending) (id at : ℕ) (newcomer : List Bio) where
+  joined_back : (f e a e2 : Has) → IsIndex (map.get m) f e a → HasFit limits (map.get m) newcomer id Back → AreSpots end_at (map.get n) e2 → IsJoined at newcomer m id Back n → IsIndex (map.get n) f e2 a
   joined_back f e a e2 index fit ends join =
       let v = join.waiting in
-      let fits = fits_it limits old id Back newcomer v join.was fit in
+      let fits = fits_it limits (map.get m) id Back newcomer v join.was fit in
       record {
-        named = named_then old new id (Some (joined_waiting Back at newcomer v)) index.named (λ u h. let same : joined_waiting Back at newcomer v ≡ u = cc in ap (λ (x : Waiting). x.id) (sym same) ∙ index.named id v join.was) join.is;
-        firsts = stayed first_at old new id f v (joined_waiting Back at newcomer v) index.firsts join.was (first_place limits v.bios newcomer fits) join.is;
+        named = named_then (map.get m) (map.get n) id (Some (joined_waiting Back at newcomer v)) index.named (λ u h. let same : joined_waiting Back at newcomer v ≡ u = cc in ap (λ (x : Waiting). x.id) (sym same) ∙ index.named id v join.was) (becomes_given m n id (joined_waiting Back at newcomer v) join.is);
+        firsts = stayed first_at (map.get m) (map.get n) id f v (joined_waiting Back at newcomer v) index.firsts join.was (first_place limits v.bios newcomer fits) (becomes_given m n id (joined_waiting Back at newcomer v) join.is);
         ends = ends;
-        ages = stayed age_at old new id a v (joined_waiting Back at newcomer v) index.ages join.was (age_place limits v.bios newcomer Back fits) join.is;
+        ages = stayed age_at (map.get m) (map.get n) id a v (joined_waiting Back at newcomer v) index.ages join.was (age_place limits v.bios newcomer Back fits) (becomes_given m n id (joined_waiting Back at newcomer v) join.is);
       }
 
-  joined_front : (f e a f2 : Has) → IsIndex old f e a → HasFit limits old newcomer id Front → AreSpots first_at new f2 → IsJoined at newcomer old id Front new → IsIndex new f2 e a
+  joined_front : (f e a f2 : Has) → IsIndex (map.get m) f e a → HasFit limits (map.get m) newcomer id Front → AreSpots first_at (map.get n) f2 → IsJoined at newcomer m id Front n → IsIndex (map.get n) f2 e a
   joined_front f e a f2 index fit firsts join =
       let v = join.waiting in
-      let fits = fits_it limits old id Front newcomer v join.was fit in
+      let fits = fits_it limits (map.get m) id Front newcomer v join.was fit in
       record {
-        named = named_then old new id (Some (joined_waiting Front at newcomer v)) index.named (λ u h. let same : joined_waiting Front at newcomer v ≡ u = cc in ap (λ (x : Waiting). x.id) (sym same) ∙ index.named id v join.was) join.is;
+        named = named_then (map.get m) (map.get n) id (Some (joined_waiting Front at newcomer v)) index.named (λ u h. let same : joined_waiting Front at newcomer v ≡ u = cc in ap (λ (x : Waiting). x.id) (sym same) ∙ index.named id v join.was) (becomes_given m n id (joined_waiting Front at newcomer v) join.is);
         firsts = firsts;
-        ends = stayed end_at old new id e v (joined_waiting Front at newcomer v) index.ends join.was (end_place limits v.bios newcomer fits) join.is;
-        ages = stayed age_at old new id a v (joined_waiting Front at newcomer v) index.ages join.was (age_place limits v.bios newcomer Front fits) join.is;
+        ends = stayed end_at (map.get m) (map.get n) id e v (joined_waiting Front at newcomer v) index.ends join.was (end_place limits v.bios newcomer fits) (becomes_given m n id (joined_waiting Front at newcomer v) join.is);
+        ages = stayed age_at (map.get m) (map.get n) id a v (joined_waiting Front at newcomer v) index.ages join.was (age_place limits v.bios newcomer Front fits) (becomes_given m n id (joined_waiting Front at newcomer v) join.is);
       }
+
+-- a join at the side that was asked for
+pub joined_at : (limits : Limits) (m n : Pending) (id at : ℕ) (side found : Side) (newcomer : List Bio) → HasFit limits (map.get m) newcomer id side → JoinsOne limits at newcomer m id found n → IsJoined at newcomer m id side n
+joined_at limits m n id at side found newcomer fit join = record {
+  waiting = join.waiting;
+  was = join.was;
+  is = join.is ∙ ap (λ (t : Side). map.insert m id (joined_waiting t at newcomer join.waiting)) (sym (join.only side (fits_it limits (map.get m) id side newcomer join.waiting join.was fit)));
+}
 
 fit_at : (limits : Limits) (old : Found) (id : ℕ) (newcomer : List Bio) (side t : Side) → side ≡ t → HasFit limits old newcomer id side → HasFit limits old newcomer id t
 fit_at limits old id newcomer side t is fit = subst (λ (x : Side). HasFit limits old newcomer id x) is fit
 
-module _ {T E : Type 0} (limits : Limits) (es fs : Entries) (id at : ℕ) (side : Side) (newcomer : List Bio) (fit : HasFit limits (λ k. found_in k es) newcomer id side) where
-  pub index_back : (r : Result T E) (f e a e2 : Has) → side ≡ Back → IsIndex (λ k. found_in k es) f e a → AreSpots (at_of side) (λ k. found_in k fs) e2 → OnOk r (IsJoined at newcomer (λ k. found_in k es) id side (λ k. found_in k fs)) → OnErr r (fs ≡ es) → IsIndex (λ k. found_in k fs) f e2 a
+module _ {T E : Type 0} (limits : Limits) (m n : Pending) (id at : ℕ) (side : Side) (newcomer : List Bio) (fit : HasFit limits (map.get m) newcomer id side) where
+  pub index_back : (r : Result T E) (f e a e2 : Has) → side ≡ Back → IsIndex (map.get m) f e a → AreSpots (at_of side) (map.get n) e2 → OnOk r (IsJoined at newcomer m id side n) → OnErr r (n ≡ m) → IsIndex (map.get n) f e2 a
   index_back (Ok x) f e a e2 is index spots join same =
-      joined_back limits (λ k. found_in k es) (λ k. found_in k fs) id at newcomer f e a e2 index (fit_at limits (λ k. found_in k es) id newcomer side Back is fit)
-      (subst (λ (t : Side). AreSpots (at_of t) (λ k. found_in k fs) e2) is spots) (subst (λ (t : Side). IsJoined at newcomer (λ k. found_in k es) id t (λ k. found_in k fs)) is join)
+      joined_back limits m n id at newcomer f e a e2 index (fit_at limits (map.get m) id newcomer side Back is fit)
+      (subst (λ (t : Side). AreSpots (at_of t) (map.get n) e2) is spots) (subst (λ (t : Side). IsJoined at newcomer m id t n) is join)
   index_back (Err x) f e a e2 is index spots join same = record {
-    named = λ k v h. index.named k v (ap (found_in k) (sym same) ∙ h);
-    firsts = kept first_at (λ k. found_in k es) (λ k. found_in k fs) f f index.firsts (λ k. ap (found_in k) same) (λ q. refl);
-    ends = subst (λ (t : Side). AreSpots (at_of t) (λ k. found_in k fs) e2) is spots;
-    ages = kept age_at (λ k. found_in k es) (λ k. found_in k fs) a a index.ages (λ k. ap (found_in k) same) (λ q. refl);
+    named = λ k v h. index.named k v (ap (λ (x : Pending). map.get x k) (sym same) ∙ h);
+    firsts = kept first_at (map.get m) (map.get n) f f index.firsts (λ k. ap (λ (x : Pending). map.get x k) same) (λ q. refl);
+    ends = subst (λ (t : Side). AreSpots (at_of t) (map.get n) e2) is spots;
+    ages = kept age_at (map.get m) (map.get n) a a index.ages (λ k. ap (λ (x : Pending). map.get x k) same) (λ q. refl);
   }
 
-  pub index_front : (r : Result T E) (f e a f2 : Has) → side ≡ Front → IsIndex (λ k. found_in k es) f e a → AreSpots (at_of side) (λ k. found_in k fs) f2 → OnOk r (IsJoined at newcomer (λ k. found_in k es) id side (λ k. found_in k fs)) → OnErr r (fs ≡ es) → IsIndex (λ k. found_in k fs) f2 e a
+  pub index_front : (r : Result T E) (f e a f2 : Has) → side ≡ Front → IsIndex (map.get m) f e a → AreSpots (at_of side) (map.get n) f2 → OnOk r (IsJoined at newcomer m id side n) → OnErr r (n ≡ m) → IsIndex (map.get n) f2 e a
   index_front (Ok x) f e a f2 is index spots join same =
-      joined_front limits (λ k. found_in k es) (λ k. found_in k fs) id at newcomer f e a f2 index (fit_at limits (λ k. found_in k es) id newcomer side Front is fit)
-      (subst (λ (t : Side). AreSpots (at_of t) (λ k. found_in k fs) f2) is spots) (subst (λ (t : Side). IsJoined at newcomer (λ k. found_in k es) id t (λ k. found_in k fs)) is join)
+      joined_front limits m n id at newcomer f e a f2 index (fit_at limits (map.get m) id newcomer side Front is fit)
+      (subst (λ (t : Side). AreSpots (at_of t) (map.get n) f2) is spots) (subst (λ (t : Side). IsJoined at newcomer m id t n) is join)
   index_front (Err x) f e a f2 is index spots join same = record {
-    named = λ k v h. index.named k v (ap (found_in k) (sym same) ∙ h);
-    firsts = subst (λ (t : Side). AreSpots (at_of t) (λ k. found_in k fs) f2) is spots;
-    ends = kept end_at (λ k. found_in k es) (λ k. found_in k fs) e e index.ends (λ k. ap (found_in k) same) (λ q. refl);
-    ages = kept age_at (λ k. found_in k es) (λ k. found_in k fs) a a index.ages (λ k. ap (found_in k) same) (λ q. refl);
+    named = λ k v h. index.named k v (ap (λ (x : Pending). map.get x k) (sym same) ∙ h);
+    firsts = subst (λ (t : Side). AreSpots (at_of t) (map.get n) f2) is spots;
+    ends = kept end_at (map.get m) (map.get n) e e index.ends (λ k. ap (λ (x : Pending). map.get x k) same) (λ q. refl);
+    ages = kept age_at (map.get m) (map.get n) a a index.ages (λ k. ap (λ (x : Pending). map.get x k) same) (λ q. refl);
   }
-
-pub found_is : (es : Entries) (self : Pending) → map.from_entries es ≡ self → (λ k. found_in k es) ≡ map.get self
-found_is es self view = λ i k. (sym (get_waiting es k) ∙ ap (λ (m : Pending). map.get m k) view) i
-
-pub join_seen : {T E : Type 0} (r : Result T E) (es fs : Entries) (self : Pending) (id at : ℕ) (side : Side) (newcomer : List Bio) → map.from_entries es ≡ self → OnOk r (IsJoined at newcomer (λ k. found_in k es) id side (λ k. found_in k fs)) → OnOk r (IsJoined at newcomer (map.get self) id side (map.get (map.from_entries {R = nat_cmp} fs)))
-join_seen (Ok x) es fs self id at side newcomer view join =
-    subst (λ (f : Found). IsJoined at newcomer f id side (map.get (map.from_entries {R = nat_cmp} fs))) (found_is es self view)
-    (subst (λ (f : Found). IsJoined at newcomer (λ k. found_in k es) id side f) (found_is fs (map.from_entries {R = nat_cmp} fs) refl) join)
-join_seen (Err x) es fs self id at side newcomer view join = tt

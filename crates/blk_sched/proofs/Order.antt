@@ -41,7 +41,7 @@ from_start : (b : Bool) (k : ℕ) → is_gt (spot_cmp ((b, 0), 0) ((b, 0), k)) �
 from_start false k = not_below k
 from_start true k = not_below k
 
-greater : (a b : ℕ) → b < a → nat_cmp a b ≡ Greater
+pub greater : (a b : ℕ) → b < a → nat_cmp a b ≡ Greater
 greater a b lt = elim (nat_cmp a b) as (λ o. nat_cmp a b ≡ o → o ≡ Greater) [
   | Less ↦ λ e. let m = lt_of a b e in absurd (omega arith)
   | Equal ↦ λ e. let m : a ≡ b = ranked a b Equal (sym e) in absurd (omega arith)

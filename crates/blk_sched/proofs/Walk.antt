@@ -15,7 +15,7 @@ use Rattle.blk_sched.specs.Meaning.{Waiting}
 use Rattle.blk_sched.specs.Lanes.{extent_of}
 use Rattle.blk_sched.specs.Fits.{FitsNowhere, IsNewestFit, FitsNone}
 use Rattle.blk_sched.specs.Spots.{Place, place_cmp, is_write, is_placed, AreSpots, IsBelow, IsNewestSpot, NoSpot}
-use Rattle.blk_sched.specs.Index.{at_of, touch_of, seen, IsPassed, FitsBy, IsNewestBy, FitsNoneBy, newer_of}
+use Rattle.blk_sched.specs.Index.{at_of, touch_of, IsPassed, FitsBy, IsNewestBy, FitsNoneBy, newer_of}
 use Rattle.blk_sched.proofs.Listed.{place_itself}
 use Rattle.blk_sched.proofs.Indexed.{Found, Has}
 
@@ -26,32 +26,24 @@ touches limits bios newcomer Back fits =
 touches limits bios newcomer Front fits =
     ap (λ (d : Dir). let p : Place = (is_write d, first_of bios) in p) (sym fits.same_direction) ∙ ap (λ (n : ℕ). let p : Place = (is_write (dir_of newcomer), n) in p) (sym fits.abuts)
 
-seen_is : (own : Option ℕ) (o : Option Waiting) (w : Waiting) → seen own o ≡ Some w → o ≡ Some w
-seen_is None o w h = h
-seen_is (Some hw) None w h = absurd (cc)
-seen_is (Some hw) (Some v) w h = elim (v.hw == hw) as (λ b. (if b then Some v else None) ≡ Some w → Some v ≡ Some w) [
-  | true ↦ λ g. g
-  | false ↦ λ g. absurd (cc)
-] h
-
 below_or_passed : (below : Option ℕ) (k : ℕ) → IsBelow below k ⊎ IsPassed below k
 below_or_passed None k = inl tt
 below_or_passed (Some b) k = cases_lt k b
 
-module _ (limits : Limits) (waiting : Found) (has : Has) (own : Option ℕ) (newcomer : List Bio) (side : Side) (p : Place) (spots : AreSpots (at_of side) waiting has) (is : p ≡ touch_of side (extent_of newcomer)) where
-  standing : (k : ℕ) (w : Waiting) → seen own (waiting k) ≡ Some w → Fits limits w.bios newcomer side → has (p, k) ≡ true
+module _ (limits : Limits) (waiting : Found) (has : Has) (newcomer : List Bio) (side : Side) (p : Place) (spots : AreSpots (at_of side) waiting has) (is : p ≡ touch_of side (extent_of newcomer)) where
+  standing : (k : ℕ) (w : Waiting) → waiting k ≡ Some w → Fits limits w.bios newcomer side → has (p, k) ≡ true
   standing k w there fits =
-      spots p k ∙ ap (is_placed (at_of side) p) (seen_is own (waiting k) w there)
+      spots p k ∙ ap (is_placed (at_of side) p) there
       ∙ ap (λ a. eq_by_cmp place_cmp a p) (touches limits w.bios newcomer side fits ∙ sym is) ∙ ap is_eq (place_itself p)
 
   -- after the newest spot below a bound nothing fits that was not passed
-  later : (below : Option ℕ) (id : ℕ) → IsNewestSpot has p below id → ((k : ℕ) (w : Waiting) → IsPassed below k → seen own (waiting k) ≡ Some w → Fits limits w.bios newcomer side → ⊥) → (k : ℕ) (w : Waiting) → id < k → seen own (waiting k) ≡ Some w → Fits limits w.bios newcomer side → ⊥
+  later : (below : Option ℕ) (id : ℕ) → IsNewestSpot has p below id → ((k : ℕ) (w : Waiting) → IsPassed below k → waiting k ≡ Some w → Fits limits w.bios newcomer side → ⊥) → (k : ℕ) (w : Waiting) → id < k → waiting k ≡ Some w → Fits limits w.bios newcomer side → ⊥
   later below id best passed k w after there fits = elim (below_or_passed below k) [
     | inl low ↦ let a : true ≡ false = sym (standing k w there fits) ∙ best.newest k after low in absurd (cc)
     | inr high ↦ passed k w high there fits
   ]
 
-  pub newest_by : (below : Option ℕ) (id : ℕ) → IsNewestSpot has p below id → ((k : ℕ) (w : Waiting) → IsPassed below k → seen own (waiting k) ≡ Some w → Fits limits w.bios newcomer side → ⊥) → FitsBy limits (seen own (waiting id)) newcomer side → IsNewestBy limits (λ k. seen own (waiting k)) newcomer side id
+  pub newest_by : (below : Option ℕ) (id : ℕ) → IsNewestSpot has p below id → ((k : ℕ) (w : Waiting) → IsPassed below k → waiting k ≡ Some w → Fits limits w.bios newcomer side → ⊥) → FitsBy limits (waiting id) newcomer side → IsNewestBy limits waiting newcomer side id
   newest_by below id best passed here = record {
     waiting = here.waiting;
     is_found = here.is_found;
@@ -60,13 +52,13 @@ module _ (limits : Limits) (waiting : Found) (has : Has) (own : Option ℕ) (new
     newest = later below id best passed;
   }
 
-  pub passed_more : (below : Option ℕ) (id : ℕ) → IsNewestSpot has p below id → ((k : ℕ) (w : Waiting) → IsPassed below k → seen own (waiting k) ≡ Some w → Fits limits w.bios newcomer side → ⊥) → ((w : Waiting) → seen own (waiting id) ≡ Some w → Fits limits w.bios newcomer side → ⊥) → (k : ℕ) (w : Waiting) → id ≤ k → seen own (waiting k) ≡ Some w → Fits limits w.bios newcomer side → ⊥
+  pub passed_more : (below : Option ℕ) (id : ℕ) → IsNewestSpot has p below id → ((k : ℕ) (w : Waiting) → IsPassed below k → waiting k ≡ Some w → Fits limits w.bios newcomer side → ⊥) → ((w : Waiting) → waiting id ≡ Some w → Fits limits w.bios newcomer side → ⊥) → (k : ℕ) (w : Waiting) → id ≤ k → waiting k ≡ Some w → Fits limits w.bios newcomer side → ⊥
   passed_more below id best passed not_here k w from there fits = elim (cases_eq k id) [
-    | inl same ↦ not_here w (ap (λ j. seen own (waiting j)) (sym same) ∙ there) fits
+    | inl same ↦ not_here w (ap (waiting) (sym same) ∙ there) fits
     | inr other ↦ later below id best passed k w (omega arith) there fits
   ]
 
-  pub none_by : (below : Option ℕ) → NoSpot has p below → ((k : ℕ) (w : Waiting) → IsPassed below k → seen own (waiting k) ≡ Some w → Fits limits w.bios newcomer side → ⊥) → (k : ℕ) (w : Waiting) → seen own (waiting k) ≡ Some w → Fits limits w.bios newcomer side → ⊥
+  pub none_by : (below : Option ℕ) → NoSpot has p below → ((k : ℕ) (w : Waiting) → IsPassed below k → waiting k ≡ Some w → Fits limits w.bios newcomer side → ⊥) → (k : ℕ) (w : Waiting) → waiting k ≡ Some w → Fits limits w.bios newcomer side → ⊥
   none_by below none passed k w there fits = elim (below_or_passed below k) [
     | inl low ↦ let a : true ≡ false = sym (standing k w there fits) ∙ none k low in absurd (cc)
     | inr high ↦ passed k w high there fits

@@ -1,7 +1,6 @@
 -- What waits, with the places of its requests.
-use Rattle.std.specs.Prelude.{ℕ, ◌≡◌, ◌<◌, ◌≤◌, ◌^◌, ◌==◌, ◌⊎◌, Bool, List, Option, Some, None, if◌then◌else◌, cond, nat_lt}
-use Rattle.std.specs.Ordering.{nat_cmp}
-use Rattle.std.specs.BTreeMap.{is_at}
+use Rattle.std.specs.Prelude.{ℕ, ◌≡◌, ◌<◌, ◌≤◌, ◌^◌, ◌⊎◌, Bool, List, Option, Some, None, if◌then◌else◌, nat_lt}
+use Rattle.std.specs.FinMap as map
 use Rattle.blk_bio.specs.declared.bio.Dir.{Dir}
 use Rattle.blk_bio.specs.declared.request.Side.{Side}
 use Rattle.blk_bio.specs.declared.request.Side.TheVariants.{Back, Front}
@@ -9,7 +8,7 @@ use Rattle.blk_bio.specs.Bios.{Bio}
 use Rattle.blk_bio.specs.Limits.{Limits}
 use Rattle.blk_bio.specs.Requests.{Fits, dir_of, first_of}
 use Rattle.blk_sched.specs.declared.lane.Extent.{Extent}
-use Rattle.blk_sched.specs.Meaning.{Waiting, joined_waiting}
+use Rattle.blk_sched.specs.Meaning.{Waiting, Pending, joined_waiting}
 use Rattle.blk_sched.specs.Spots.{Place, Spot, AreSpots, first_at, end_at, age_at}
 
 -- each request has its id, and the spots are theirs
@@ -18,12 +17,6 @@ pub record IsIndex (waiting : ℕ → Option Waiting) (at_first at_end at_age : 
   pub firsts : AreSpots first_at waiting at_first
   pub ends : AreSpots end_at waiting at_end
   pub ages : AreSpots age_at waiting at_age
-
--- a request, if it may be looked at: all may, or those of one hardware queue
-abbrev pub seen : Option ℕ → Option Waiting → Option Waiting
-seen None o = o
-seen (Some hw) None = None
-seen (Some hw) (Some w) = if w.hw == hw then Some w else None
 
 -- the newest request that fits at one side
 pub record IsNewestBy (limits : Limits) (found : ℕ → Option Waiting) (newcomer : List Bio) (side : Side) (id : ℕ) : Type 0 where
@@ -75,10 +68,10 @@ newer_of None (Some a) = Some (a, Front)
 newer_of (Some b) (Some a) = if nat_lt b a then Some (a, Front) else Some (b, Back)
 
 -- the request of an id is joined by a newcomer at a side, and the others stay
-pub record IsJoined (now : ℕ) (newcomer : List Bio) (old : ℕ → Option Waiting) (id : ℕ) (side : Side) (new : ℕ → Option Waiting) : Type 0 where
+pub record IsJoined (now : ℕ) (newcomer : List Bio) (old : Pending) (id : ℕ) (side : Side) (new : Pending) : Type 0 where
   pub waiting : Waiting
-  pub was : old id ≡ Some waiting
-  pub is : (k : ℕ) → new k ≡ cond (is_at (nat_cmp id) k) (Some (joined_waiting side now newcomer waiting)) (old k)
+  pub was : map.get old id ≡ Some waiting
+  pub is : new ≡ map.insert old id (joined_waiting side now newcomer waiting)
 
 -- the least id of a direction
 pub record IsOldest (dir : Dir) (found : ℕ → Option Waiting) (id : ℕ) : Type 0 where
@@ -104,3 +97,9 @@ NoneOf dir found = (k : ℕ) (v : Waiting) → found k ≡ Some v → dir_of v.b
 
 abbrev pub NoNext : Dir → ℕ → ℕ → (ℕ → Option Waiting) → Type 0
 NoNext dir first last found = (k : ℕ) (v : Waiting) → found k ≡ Some v → dir_of v.bios ≡ dir → IsBefore first last (first_of v.bios) k → ⊥
+
+-- the request of the least id is taken out, and nothing only where nothing waits
+abbrev pub PopsFirst : Pending → Option Waiting → Pending → Type 0
+PopsFirst old None new = ((k : ℕ) → map.get old k ≡ None) × (new ≡ old)
+PopsFirst old (Some w) new =
+    (map.get old w.id ≡ Some w) × ((k : ℕ) → k < w.id → map.get old k ≡ None) × (new ≡ map.remove old w.id)

@@ -10,11 +10,9 @@ ghost use Rattle.blk_sched.specs.Lanes.{extent_of};
 ghost use Rattle.blk_bio.specs.Requests.{Fits};
 ghost use Rattle.std.specs.Prelude.{nat_lt, ◌≤◌};
 ghost use Rattle.std.specs.Bool.{OnTrue, OnFalse};
-ghost use Rattle.std.specs.BTreeMap.{get};
 ghost use Rattle.std.specs.BTreeSet.{contains};
-ghost use Rattle.std.specs.Ordering.{nat_cmp};
 ghost use Rattle.blk_sched.specs.Spots.{spot_cmp, AreSpots, first_at, age_at};
-ghost use Rattle.blk_sched.specs.Index.{seen, IsNewestBy, FitsNoneBy, FitsBy, IsJoined, at_of, touch_of, joined_extent, newer_of, IsOldest, IsNext, NoneOf, NoNext};
+ghost use Rattle.blk_sched.specs.Index.{IsNewestBy, FitsNoneBy, FitsBy, IsJoined, at_of, touch_of, joined_extent, newer_of, IsOldest, IsNext, NoneOf, NoNext, PopsFirst};
 
 use crate::spots::{
     Edges, Spot, end_spot, first_spot, is_write, newest_at, oldest_above, oldest_from, put, take,
@@ -24,23 +22,22 @@ use blk_bio::limits::Limits;
 use blk_bio::request::{Request, Side};
 use crate::Queued;
 use crate::lane::Extent;
+use crate::shelf::Shelf;
 use std::alloc::{AllocError, Allocator, Global};
-use std::collections::{BTreeMap, BTreeSet};
+use std::collections::BTreeSet;
 use std::marker::Model;
 
 /// Requests that wait, found by their ids, by where they begin and by where they end.
 #[derive(Drop)]
 pub struct Index<A: Allocator = Global> {
-    waiting: BTreeMap<u64, Queued<A>, A>,
+    waiting: Shelf<A>,
     edges: Edges<A>,
 }
 
 impl<A: Allocator> Model for Index<A> {
     ghost use Rattle.std.specs.BTreeSet.{contains};
-    ghost use Rattle.std.specs.BTreeMap.{get};
-    ghost use Rattle.std.specs.Ordering.{nat_cmp};
-    ghost use Rattle.std.specs.FinMap.{from_entries, code};
     ghost use Rattle.std.specs.Coded.{coded_ℕ};
+    ghost use Rattle.std.specs.FinMap.{get, code};
     ghost use Rattle.blk_sched.specs.Meaning.{Pending, waiting_code};
     ghost use Rattle.blk_sched.specs.Spots.{spot_cmp};
     ghost use Rattle.blk_sched.specs.Index.{IsIndex};
@@ -49,9 +46,9 @@ impl<A: Allocator> Model for Index<A> {
 
     ghost coded = { code coded_ℕ waiting_code };
 
-    ghost view = { λ s. from_entries s.waiting.entries };
+    ghost view = { λ s. s.waiting };
 
-    ghost invariant = { λ s. IsIndex (get nat_cmp s.waiting) (contains spot_cmp s.edges.firsts) (contains spot_cmp s.edges.ends) (contains spot_cmp s.edges.ages) };
+    ghost invariant = { λ s. IsIndex (get s.waiting) (contains spot_cmp s.edges.firsts) (contains spot_cmp s.edges.ends) (contains spot_cmp s.edges.ages) };
 }
 
 impl<A: Allocator + Clone> Index<A> {
@@ -60,7 +57,7 @@ impl<A: Allocator + Clone> Index<A> {
         ensures { IfOk result (λ s. s ≡ map.empty) }
     {
         Ok(Index {
-            waiting: BTreeMap::new(alloc.clone()?),
+            waiting: Shelf::new(alloc.clone()?)?,
             edges: Edges {
                 firsts: BTreeSet::new(alloc.clone()?),
                 ends: BTreeSet::new(alloc.clone()?),
@@ -81,7 +78,7 @@ impl<A: Allocator + Clone> Index<A> {
         ensures value { option_copied result ≡ map.get self.now id }
         ensures named { (k : ℕ) (w : Waiting) → map.get self.now k ≡ Some w → w.id ≡ k }
     {
-        self.waiting.get(&id)
+        self.waiting.get(id)
     }
 
     /// Adds a request whose id isn't there. Refused for want of memory alone: nothing is changed then, and the
@@ -97,11 +94,10 @@ impl<A: Allocator + Clone> Index<A> {
         let Ok(()) = self.edges.enter(extent, id) else {
             return Err(queued);
         };
-        match self.waiting.insert(id, queued) {
-            Ok(_) => Ok(()),
-            Err(refused) => {
+        match self.waiting.insert(queued) {
+            Ok(()) => Ok(()),
+            Err(queued) => {
                 self.edges.leave(extent, id);
-                let (_, queued) = refused.value;
                 Err(queued)
             }
         }
@@ -113,25 +109,33 @@ impl<A: Allocator + Clone> Index<A> {
         ensures named { (k : ℕ) (w : Waiting) → map.get self.old k ≡ Some w → w.id ≡ k }
         ensures removed { self.new ≡ map.remove self.old id }
     {
-        let Some(queued) = self.waiting.remove(&id) else {
+        let Some(queued) = self.waiting.remove(id) else {
             return None;
         };
         self.edges.leave(extent_of(&queued), id);
         Some(queued)
     }
 
-    /// The newest request that a newcomer fits, by its id, and the side: of all, or of those that entered at one
-    /// hardware queue. The front is tried only where `front` allows it. Only requests that the newcomer touches are
-    /// looked at.
+    /// Takes out the request of the least id. It takes no memory.
+    pub fn pop_first(&mut self) -> Option<Queued<A>>
+        ensures { PopsFirst self.old result self.new }
+    {
+        let Some(id) = self.waiting.first() else {
+            return None;
+        };
+        self.remove(id)
+    }
+
+    /// The newest request that a newcomer fits, by its id, and the side. The front is tried only where `front` allows
+    /// it. Only requests that the newcomer touches are looked at.
     pub fn candidate(
         &self,
         newcomer: &Request<A>,
         limits: &Limits,
         front: bool,
-        own: Option<u8>,
     ) -> Option<(u64, Side)>
-        ensures some { IfSome result (λ r. IsNewestFit limits.now front (λ id. seen own (map.get self.now id)) newcomer.now r.0 r.1) }
-        ensures none { IfNone result (FitsNone limits.now front (λ id. seen own (map.get self.now id)) newcomer.now) }
+        ensures some { IfSome result (λ r. IsNewestFit limits.now front (map.get self.now) newcomer.now r.0 r.1) }
+        ensures none { IfNone result (FitsNone limits.now front (map.get self.now) newcomer.now) }
     {
         let back = newest_of(
             &self.waiting,
@@ -139,7 +143,6 @@ impl<A: Allocator + Clone> Index<A> {
             Side::Back,
             newcomer,
             limits,
-            own,
         );
         let ahead = newest_ahead(
             &self.waiting,
@@ -147,7 +150,6 @@ impl<A: Allocator + Clone> Index<A> {
             front,
             newcomer,
             limits,
-            own,
         );
         newer(back, ahead)
     }
@@ -180,7 +182,7 @@ impl<A: Allocator + Clone> Index<A> {
         newcomer: Request<A>,
     ) -> Result<(), Request<A>>
         requires { HasFit limits.now (map.get self.old) newcomer id side }
-        ensures joined { OnOk result (IsJoined now newcomer (map.get self.old) id side (map.get self.new)) }
+        ensures joined { OnOk result (IsJoined now newcomer self.old id side self.new) }
         ensures err { IfErr result (λ e. e ≡ newcomer) }
         ensures same { OnErr result (self.new ≡ self.old) }
     {
@@ -194,13 +196,13 @@ impl<A: Allocator + Clone> Index<A> {
 
 /// The least id of a direction.
 fn oldest_in<A: Allocator + Clone>(
-    waiting: &BTreeMap<u64, Queued<A>, A>,
+    waiting: &Shelf<A>,
     ages: &BTreeSet<Spot, A>,
     dir: Dir,
 ) -> Option<u64>
-    requires { AreSpots age_at (get nat_cmp waiting.now) (contains spot_cmp ages.now) }
-    ensures some { IfSome result (IsOldest dir (get nat_cmp waiting.now)) }
-    ensures none { IfNone result (NoneOf dir (get nat_cmp waiting.now)) }
+    requires { AreSpots age_at (map.get waiting.now) (contains spot_cmp ages.now) }
+    ensures some { IfSome result (IsOldest dir (map.get waiting.now)) }
+    ensures none { IfNone result (NoneOf dir (map.get waiting.now)) }
 {
     let _ = waiting;
     let write = is_write(dir);
@@ -214,15 +216,15 @@ fn oldest_in<A: Allocator + Clone>(
 
 /// The least of a direction's first sectors and ids above others.
 fn next_in<A: Allocator + Clone>(
-    waiting: &BTreeMap<u64, Queued<A>, A>,
+    waiting: &Shelf<A>,
     firsts: &BTreeSet<Spot, A>,
     dir: Dir,
     first: u64,
     last: u64,
 ) -> Option<u64>
-    requires { AreSpots first_at (get nat_cmp waiting.now) (contains spot_cmp firsts.now) }
-    ensures some { IfSome result (IsNext dir first last (get nat_cmp waiting.now)) }
-    ensures none { IfNone result (NoNext dir first last (get nat_cmp waiting.now)) }
+    requires { AreSpots first_at (map.get waiting.now) (contains spot_cmp firsts.now) }
+    ensures some { IfSome result (IsNext dir first last (map.get waiting.now)) }
+    ensures none { IfNone result (NoNext dir first last (map.get waiting.now)) }
 {
     let _ = waiting;
     let write = is_write(dir);
@@ -248,26 +250,20 @@ fn touched<A: Allocator + Clone>(side: Side, newcomer: &Request<A>) -> (bool, u6
     }
 }
 
-/// Whether the request of an id may be looked at and a newcomer fits it at a side.
+/// Whether a newcomer fits the request of an id at a side.
 fn fits_by<A: Allocator + Clone>(
-    waiting: &BTreeMap<u64, Queued<A>, A>,
+    waiting: &Shelf<A>,
     id: u64,
     side: Side,
     newcomer: &Request<A>,
     limits: &Limits,
-    own: Option<u8>,
 ) -> bool
-    ensures yes { OnTrue result (FitsBy limits.now (seen own (get nat_cmp waiting.now id)) newcomer.now side) }
-    ensures no { OnFalse result ((w : Waiting) → seen own (get nat_cmp waiting.now id) ≡ Some w → Fits limits.now w.bios newcomer.now side → ⊥) }
+    ensures yes { OnTrue result (FitsBy limits.now (map.get waiting.now id) newcomer.now side) }
+    ensures no { OnFalse result ((w : Waiting) → map.get waiting.now id ≡ Some w → Fits limits.now w.bios newcomer.now side → ⊥) }
 {
-    let Some(queued) = waiting.get(&id) else {
+    let Some(queued) = waiting.get(id) else {
         return false;
     };
-    if let Some(hw) = own {
-        if queued.hw != hw {
-            return false;
-        }
-    }
     match queued.request.fits(newcomer, limits) {
         Some(found) => found == side,
         None => false,
@@ -276,21 +272,20 @@ fn fits_by<A: Allocator + Clone>(
 
 /// The newest request that a newcomer fits at a side, where `spots` are the requests' ends at that side.
 fn newest_of<A: Allocator + Clone>(
-    waiting: &BTreeMap<u64, Queued<A>, A>,
+    waiting: &Shelf<A>,
     spots: &BTreeSet<Spot, A>,
     side: Side,
     newcomer: &Request<A>,
     limits: &Limits,
-    own: Option<u8>,
 ) -> Option<u64>
-    requires { AreSpots (at_of side) (get nat_cmp waiting.now) (contains spot_cmp spots.now) }
-    ensures some { IfSome result (IsNewestBy limits.now (λ id. seen own (get nat_cmp waiting.now id)) newcomer.now side) }
-    ensures none { IfNone result (FitsNoneBy limits.now (λ id. seen own (get nat_cmp waiting.now id)) newcomer.now side) }
+    requires { AreSpots (at_of side) (map.get waiting.now) (contains spot_cmp spots.now) }
+    ensures some { IfSome result (IsNewestBy limits.now (map.get waiting.now) newcomer.now side) }
+    ensures none { IfNone result (FitsNoneBy limits.now (map.get waiting.now) newcomer.now side) }
 {
     let place = touched(side, newcomer);
     let mut below = None;
     while let Some(id) = newest_at(spots, place, below) {
-        if fits_by(waiting, id, side, newcomer, limits, own) {
+        if fits_by(waiting, id, side, newcomer, limits) {
             return Some(id);
         }
         below = Some(id);
@@ -300,22 +295,21 @@ fn newest_of<A: Allocator + Clone>(
 
 /// The same at the front, where that is allowed.
 fn newest_ahead<A: Allocator + Clone>(
-    waiting: &BTreeMap<u64, Queued<A>, A>,
+    waiting: &Shelf<A>,
     firsts: &BTreeSet<Spot, A>,
     front: bool,
     newcomer: &Request<A>,
     limits: &Limits,
-    own: Option<u8>,
 ) -> Option<u64>
-    requires { AreSpots (at_of Side.Front) (get nat_cmp waiting.now) (contains spot_cmp firsts.now) }
-    ensures some { IfSome result (IsNewestBy limits.now (λ id. seen own (get nat_cmp waiting.now id)) newcomer.now Side.Front) }
+    requires { AreSpots (at_of Side.Front) (map.get waiting.now) (contains spot_cmp firsts.now) }
+    ensures some { IfSome result (IsNewestBy limits.now (map.get waiting.now) newcomer.now Side.Front) }
     ensures tried { OnSome result (IsTrue front) }
-    ensures none { IfNone result (IsTrue front → FitsNoneBy limits.now (λ id. seen own (get nat_cmp waiting.now id)) newcomer.now Side.Front) }
+    ensures none { IfNone result (IsTrue front → FitsNoneBy limits.now (map.get waiting.now) newcomer.now Side.Front) }
 {
     if !front {
         return None;
     }
-    newest_of(waiting, firsts, Side::Front, newcomer, limits, own)
+    newest_of(waiting, firsts, Side::Front, newcomer, limits)
 }
 
 /// Of a fit at the back and one at the front the newer.
@@ -364,7 +358,7 @@ fn spot_at(side: Side, extent: Extent, id: u64) -> Spot
 
 /// Joins a newcomer to the request of an id, where `spots` are the requests' ends at the side.
 fn join_in<A: Allocator + Clone>(
-    waiting: &mut BTreeMap<u64, Queued<A>, A>,
+    waiting: &mut Shelf<A>,
     spots: &mut BTreeSet<Spot, A>,
     id: u64,
     side: Side,
@@ -372,17 +366,17 @@ fn join_in<A: Allocator + Clone>(
     limits: &Limits,
     newcomer: Request<A>,
 ) -> Result<(), Request<A>>
-    requires fit { HasFit limits.now (get nat_cmp waiting.old) newcomer id side }
-    requires spots { AreSpots (at_of side) (get nat_cmp waiting.old) (contains spot_cmp spots.old) }
-    ensures spots { AreSpots (at_of side) (get nat_cmp waiting.new) (contains spot_cmp spots.new) }
-    ensures joined { OnOk result (IsJoined now newcomer (get nat_cmp waiting.old) id side (get nat_cmp waiting.new)) }
+    requires fit { HasFit limits.now (map.get waiting.old) newcomer id side }
+    requires spots { AreSpots (at_of side) (map.get waiting.old) (contains spot_cmp spots.old) }
+    ensures spots { AreSpots (at_of side) (map.get waiting.new) (contains spot_cmp spots.new) }
+    ensures joined { OnOk result (IsJoined now newcomer waiting.old id side waiting.new) }
     ensures err { IfErr result (λ e. e ≡ newcomer) }
-    ensures same { OnErr result (waiting.new.entries ≡ waiting.old.entries) }
+    ensures same { OnErr result (waiting.new ≡ waiting.old) }
 {
     let sectors = newcomer.sectors();
     let _ = sectors;
     let added = Extent::of(&newcomer);
-    let Some(queued) = waiting.get_mut(&id) else {
+    let Some(queued) = waiting.get(id) else {
         unreachable!()
     };
     let before = extent_of(queued);
@@ -390,12 +384,12 @@ fn join_in<A: Allocator + Clone>(
     let Ok(()) = put(spots, spot) else {
         return Err(newcomer);
     };
-    match queued.join(newcomer, now, limits) {
+    match waiting.join(id, newcomer, now, limits) {
         Ok(_) => {
             take(spots, spot_at(side, before, id));
             Ok(())
         }
-        Err((newcomer, _)) => {
+        Err(newcomer) => {
             take(spots, spot);
             Err(newcomer)
         }

@@ -1,9 +1,6 @@
 //! What a scheduler is: a trait with its laws.
 #![tactic(auto)]
 
-#[cfg(test)]
-mod tests;
-
 ghost use Rattle.std.specs.Prelude.{◌≡◌, ◌<◌, ◌+◌, ◌↔◌, ℕ, Bool, List, [], ◌⊎◌, IfOk, OnOk, IfErr, OnErr, IfSome, IfNone, IsSome, IsTrue, None};
 ghost use Rattle.std.specs.FinMap as map;
 ghost use Rattle.blk_bio.specs.Requests.{Fits};
@@ -15,6 +12,7 @@ pub mod fits;
 pub mod index;
 pub mod lane;
 pub mod picks;
+pub mod shelf;
 pub mod spots;
 
 use blk_bio::bio::Dir;

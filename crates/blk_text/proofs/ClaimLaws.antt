@@ -1,10 +1,9 @@
 -- The laws of certificates.
-use Rattle.std.proofs.Common.{◌≡◌, ◌+◌, ◌-◌, ◌<◌, ◌≤◌, ◌^◌, ◌∙◌, ℕ, suc, List, [], ◌∷◌, length, map, Option, Some, None, refl, sym, ap, inl, inr, arith, decimal, codes}
+use Rattle.std.proofs.Common.{◌≡◌, ◌+◌, ◌-◌, ◌<◌, ◌≤◌, ◌^◌, ◌∙◌, ℕ, suc, List, [], ◌∷◌, ◌++◌, length, map, Option, Some, None, refl, sym, ap, subst, inl, inr, arith, decimal, codes, append-nil}
 use Rattle.std.specs.Prelude.{All, IfSome, ℤ, pos, negsuc}
 use Rattle.std.specs.List.{zip}
-use Rattle.std.specs.Fmt.{signed_decimal}
 use Rattle.std.proofs.lemmas.List.{length-map}
-use Rattle.std.proofs.lemmas.Fmt.{decimal_injective, signed_decimal_injective}
+use Rattle.std.proofs.lemmas.List.Elements.{All-map}
 use Rattle.csv.specs.Reading.{default_config, records, strip_bom}
 use Rattle.csv.specs.Writing.{read_back}
 use Rattle.edd_check.specs.declared.Command.{Command}
@@ -13,30 +12,101 @@ use Rattle.blk_text.specs.Sources.{Row}
 use Rattle.blk_text.specs.Texts.{rows_text}
 use Rattle.blk_text.specs.Fields.{Lacks}
 use Rattle.blk_text.specs.Commands.{IsCommandInRange}
-use Rattle.blk_text.specs.Faults.{LinesWrong, LinesBefore, IsReached}
+use Rattle.blk_text.specs.Reads.{Reads, Reaches, IsStopped, AreItems, items_of}
+use Rattle.blk_text.specs.Tables.{IsTable, IsVersion, IsUpTo, slots_by}
 use Rattle.blk_text.specs.Words.{StartsWith}
-use Rattle.blk_text.specs.Certificate.{Claim, claim_rows, title_slots, title_row, bound_slots, no_bound_slots, bound_row, served_slots, served_row, IsServed, IsLateness, IsBound, IsClaim, SpellsClaim, BoundLacks, BoundWrong, BoundMissing, AfterTitle, ClaimFault}
+use Rattle.blk_text.specs.Certificate.{Claim, claim_rows, counted_cells, IsCounted, title, title_row, bound_cells, no_bound_slots, bound, bound_row, served_cells, served, served_row, IsServed, IsLateness, IsBound, IsClaim, claim_body, claim_form, claim_value, SpellsClaim, BoundLacks, BoundWrong}
 use Rattle.blk_text.specs.declared.fault.Why.{Why}
-use Rattle.blk_text.specs.declared.fields.Slot.TheVariants as slot
-use Rattle.blk_text.specs.declared.lines.Extent.TheVariants as extent
-use Rattle.blk_text.proofs.Lists.{head_of, tail_of, all_cons, cons_same, maps_same}
-use Rattle.blk_text.proofs.Once.{Good, Goods, number_good, late_good, goods_lack, lacks_once, title_apart, title_once, no_word_once}
-use Rattle.blk_text.proofs.LinesOnce.{Tells, lines_once, lines_apart, lines_behind, lines_far}
-use Rattle.blk_text.proofs.ClaimLemmas.{length_zip}
-use Rattle.blk_text.proofs.CommandLaws.{same_command}
+use Rattle.blk_text.specs.declared.fault.Why.TheVariants as why
+use Rattle.parts.specs.declared.Extent.TheVariants as extent
+use Rattle.parts.specs.Parts.{Begins, Spells}
+use Rattle.parts.specs.Laws.{Tells}
+use Rattle.parts.proofs.Then.{record_tells, then_tells}
+use Rattle.blk_text.proofs.Lists.{head_of, tail_of, all_cons}
+use Rattle.blk_text.proofs.Once.{lacks_once, no_word_once}
+use Rattle.blk_text.proofs.TableLaws.{table_tells, title_part}
+use Rattle.blk_text.proofs.Each.{rows_map, fit_all, all_fit, size_is, each_tells, each_reached, one_version, first_version}
+use Rattle.blk_text.proofs.Reading.{then_reads, first_reached, second_reached, end_reached}
 use Rattle.blk_text.proofs.Texts.{text_back}
 
-four_same : (a b c d x y z v : List ℕ) → a ∷ b ∷ c ∷ d ∷ [] ≡ x ∷ y ∷ z ∷ v ∷ [] → (a ≡ x) × (b ≡ y) × (c ≡ z) × (d ≡ v)
-four_same a b c d x y z v e = (cc e, cc e, cc e, cc e)
+-- the tables
 
-one_served : (s t : Command × ℕ) → IsServed s → IsServed t → served_row s ≡ served_row t → s ≡ t
-one_served s t p q e =
-    let f = four_same _ _ _ _ _ _ _ _ e in
-    let command = same_command s.0 t.0 (decimal_injective s.0.id t.0.id p.0.0 q.0.0 f.0)
-    (decimal_injective s.0.release t.0.release (omega (arith, p.0.1)) (omega (arith, q.0.1)) f.1)
-    (decimal_injective s.0.due t.0.due (omega (arith, p.0.2)) (omega (arith, q.0.2)) f.2) in
-    let round = decimal_injective s.1 t.1 (omega (arith, p.1)) (omega (arith, q.1)) f.3 in
-    λ i. (command i, round i)
+counted_table : (version : ℕ) → IsTable (counted_cells version) IsCounted
+counted_table version = record { sized = (omega arith, (omega arith, tt)); within = λ t f. (f.0, f.1, (omega arith, f.2, tt)); tells = λ t u f g e. (λ i. (e.0 i, e.1.0 i)) }
+
+served_table : IsTable served_cells IsServed
+served_table = record {
+  sized = (omega arith, (omega arith, (omega arith, (omega arith, tt))));
+  within = λ s f. (let id = f.0.0 in let release = f.0.1 in let due = f.0.2 in let round = f.1 in
+      (omega arith, omega (arith, id), (omega arith, omega (arith, release), (omega arith, omega (arith, due), (omega arith, omega (arith, round), tt)))));
+  tells = λ s t f g e. (λ i. (record { id = e.0 i; release = e.1.0 i; due = e.1.1.0 i }, e.1.1.1.0 i));
+}
+
+-- the numbers of a bound
+abbrev IsWindow : ℤ × Window → Type 0
+IsWindow b = IsLateness b.0 × (b.1.from < 2 ^ 41) × (b.1.due < 2 ^ 41)
+
+late_in : (z : ℤ) → IsLateness z → IsUpTo (2 ^ 41 - 1) z
+late_in (pos n) h = omega (arith, h)
+late_in (negsuc n) h = omega (arith, h)
+
+bound_table : IsTable bound_cells IsWindow
+bound_table = record {
+  sized = (omega arith, (omega arith, (omega arith, tt)));
+  within = λ b f. (let from = f.1 in let due = f.2 in (late_in b.0 f.0, (omega arith, omega (arith, from), (omega arith, omega (arith, due), tt))));
+  tells = λ b c f g e. (λ i. (e.0 i, record { from = e.1.0 i; due = e.1.1.0 i }));
+}
+
+title_tells : Tells title
+title_tells = title_part (codes "blk-certificate") 1 counted_cells IsCounted (omega arith) counted_table
+
+-- the bound
+
+bound_same : (count : ℕ) (a b : Option (ℤ × Window)) → IsBound count a → IsBound count b → bound_row a ≡ bound_row b → a ≡ b
+bound_same count None None p q e = refl
+bound_same count None (Some b) p q e = absurd (omega (arith, p, q.0))
+bound_same count (Some a) None p q e = absurd (omega (arith, p.0, q))
+bound_same count (Some a) (Some b) p q e = ap Some ((table_tells bound_cells IsWindow bound_table).once a b (p.1, p.2, p.3) (q.1, q.2, q.3) e)
+
+bound_starts : (b : Option (ℤ × Window)) → StartsWith (codes "bound") (bound_row b)
+bound_starts None = (_, refl)
+bound_starts (Some b) = (_, refl)
+
+bound_lacks : (count : ℕ) (b : Option (ℤ × Window)) (w : Why) → IsBound count b → BoundLacks count (bound_row b) w → ⊥
+bound_lacks count None w i (inl x) = omega (arith, i, x.0)
+bound_lacks count None w i (inr y) = y.1 refl
+bound_lacks count (Some b) w i (inl x) = (table_tells bound_cells IsWindow bound_table).apart b w (i.1, i.2, i.3) x.1
+bound_lacks count (Some b) w i (inr y) = omega (arith, i.0, y.0)
+
+bound_apart : (count : ℕ) (b : Option (ℤ × Window)) (w : Why) → IsBound count b → BoundWrong count (bound_row b) w → ⊥
+bound_apart count b w i (inl x) = bound_lacks count b w i x.1
+bound_apart count b w i (inr y) = y.0 (bound_starts b)
+
+bound_lacks_once : (count : ℕ) (row : Row) (w v : Why) → BoundLacks count row w → BoundLacks count row v → w ≡ v
+bound_lacks_once count row w v (inl a) (inl b) = lacks_once (slots_by bound_cells) row w v a.1 b.1
+bound_lacks_once count row w v (inl a) (inr b) = absurd (omega (arith, a.0, b.0))
+bound_lacks_once count row w v (inr a) (inl b) = absurd (omega (arith, a.0, b.0))
+bound_lacks_once count row w v (inr a) (inr b) = lacks_once no_bound_slots row w v a.2 b.2
+
+bound_once : (count : ℕ) (row : Row) (w v : Why) → BoundWrong count row w → BoundWrong count row v → w ≡ v
+bound_once count row w v (inl a) (inl b) = bound_lacks_once count row w v a.1 b.1
+bound_once count row w v (inl a) (inr b) = absurd (b.0 a.0)
+bound_once count row w v (inr a) (inl b) = absurd (a.0 b.0)
+bound_once count row w v (inr a) (inr b) = no_word_once 4 row w v a.1 b.1
+
+bound_tells : (count : ℕ) → Tells (bound count)
+bound_tells count = record_tells bound_row (IsBound count) why.Word (BoundWrong count) (record { once = bound_same count; apart = bound_apart count; first = bound_once count })
+
+-- the commands with their rounds
+
+items_tell : (count : ℕ) → Tells (items_of (extent.Exactly count) served)
+items_tell count = each_tells served_row IsServed why.Count (Lacks (slots_by served_cells)) (extent.Exactly count) (table_tells served_cells IsServed served_table)
+
+body_tells : (count : ℕ) → Tells (claim_body count)
+body_tells count = then_tells (bound count) (λ b. items_of (extent.Exactly count) served) (bound_tells count) (λ b fit. items_tell count)
+
+pub claim_tells : Tells claim_form
+claim_tells = then_tells title (λ t. claim_body t.1.1) title_tells (λ t fit. body_tells t.1.1)
 
 all_zip : (cs : List Command) (rs : List ℕ) → All IsCommandInRange cs → All (λ x. x < 2 ^ 41) rs → All IsServed (zip cs rs)
 all_zip [] rs p q = λ k d l. absurd (omega arith)
@@ -55,41 +125,43 @@ seconds_zip [] (r ∷ rs) e = absurd (omega (arith, e))
 seconds_zip (c ∷ cs) [] e = absurd (omega (arith, e))
 seconds_zip (c ∷ cs) (r ∷ rs) e = ap (λ (k : List ℕ). r ∷ k) (seconds_zip cs rs (omega (arith, e)))
 
-lateness_same : (y z : ℤ) → IsLateness y → IsLateness z → signed_decimal y ≡ signed_decimal z → y ≡ z
-lateness_same (pos n) (pos m) p q e = signed_decimal_injective (pos n) (pos m) (omega (arith, p)) (omega (arith, q)) e
-lateness_same (pos n) (negsuc m) p q e = signed_decimal_injective (pos n) (negsuc m) (omega (arith, p)) (omega (arith, q)) e
-lateness_same (negsuc n) (pos m) p q e = signed_decimal_injective (negsuc n) (pos m) (omega (arith, p)) (omega (arith, q)) e
-lateness_same (negsuc n) (negsuc m) p q e = signed_decimal_injective (negsuc n) (negsuc m) (omega (arith, p)) (omega (arith, q)) e
-
-same_window : (w v : Window) → w.from ≡ v.from → w.due ≡ v.due → w ≡ v
-same_window w v p q i = record { from = p i; due = q i }
-
-bound_same : (count : ℕ) (a b : Option (ℤ × Window)) → IsBound count a → IsBound count b → bound_row a ≡ bound_row b → a ≡ b
-bound_same count None None p q e = refl
-bound_same count None (Some b) p q e = absurd (omega (arith, p, q.0))
-bound_same count (Some a) None p q e = absurd (omega (arith, p.0, q))
-bound_same count (Some a) (Some b) p q e =
-    let f = four_same _ _ _ _ _ _ _ _ e in
-    let late = lateness_same a.0 b.0 p.1 q.1 f.1 in
-    let window = same_window a.1 b.1 (decimal_injective a.1.from b.1.from (omega (arith, p.2)) (omega (arith, q.2)) f.2) (decimal_injective a.1.due b.1.due (omega (arith, p.3)) (omega (arith, q.3)) f.3) in
-    λ i. Some (late i, window i)
-
 same_claim : (c d : Claim) → c.depth ≡ d.depth → c.commands ≡ d.commands → c.rounds ≡ d.rounds → c.bound ≡ d.bound → c ≡ d
 same_claim c d p q r s i = record { depth = p i; commands = q i; rounds = r i; bound = s i }
 
 pub spelled_once : (rows : List Row) (c d : Claim) → SpellsClaim rows c → SpellsClaim rows d → c ≡ d
 spelled_once rows c d s t =
-    let e = cons_same _ _ _ _ (sym s.0 ∙ t.0) in
-    let title = four_same _ _ _ _ _ _ _ _ e.0 in
-    let depth = decimal_injective c.depth d.depth (omega (arith, s.1.depth.1)) (omega (arith, t.1.depth.1)) title.2 in
-    let count : length c.commands ≡ length d.commands = decimal_injective (length c.commands) (length d.commands) (omega (arith, s.1.few)) (omega (arith, t.1.few)) title.3 in
-    let f = cons_same _ _ _ _ e.1 in
-    let bound = bound_same (length d.commands) c.bound d.bound (rw count at s.1.bound) t.1.bound f.0 in
-    let both = maps_same served_row IsServed one_served (zip c.commands c.rounds) (zip d.commands d.rounds) (all_zip c.commands c.rounds s.1.commands s.1.rounds) (all_zip d.commands d.rounds t.1.commands t.1.rounds) f.1 in
-    same_claim c d depth
-    (sym (firsts_zip c.commands c.rounds s.1.one_each) ∙ ap (map (λ (k : Command × ℕ). k.0)) both ∙ firsts_zip d.commands d.rounds t.1.one_each)
-    (sym (seconds_zip c.commands c.rounds s.1.one_each) ∙ ap (map (λ (k : Command × ℕ). k.1)) both ∙ seconds_zip d.commands d.rounds t.1.one_each)
-    bound
+    let e = (claim_tells.once rows (claim_value c) (claim_value d) [] [] s.1 t.1).0 in
+    let both : zip c.commands c.rounds ≡ zip d.commands d.rounds = λ i. (e i).1.1 in
+    same_claim c d (λ i. (e i).0.1.0)
+    (sym (firsts_zip c.commands c.rounds s.0) ∙ ap (map (λ (k : Command × ℕ). k.0)) both ∙ firsts_zip d.commands d.rounds t.0)
+    (sym (seconds_zip c.commands c.rounds s.0) ∙ ap (map (λ (k : Command × ℕ). k.1)) both ∙ seconds_zip d.commands d.rounds t.0)
+    (λ i. (e i).1.0)
+
+pub length_zip : (cs : List Command) (rs : List ℕ) → length rs ≡ length cs → length (zip cs rs) ≡ length cs
+length_zip [] rs e = refl
+length_zip (c ∷ cs) [] e = absurd (omega (arith, e))
+length_zip (c ∷ cs) (r ∷ rs) e = ap suc (length_zip cs rs (omega (arith, e)))
+
+-- the records of a certificate spell it
+pub rows_spell : (c : Claim) → IsClaim c → SpellsClaim (claim_rows c) c
+rows_spell c h = (
+  h.one_each,
+  record {
+    fits = (
+      ((omega arith, omega arith), (h.depth.0, h.depth.1, h.few)),
+      (
+        h.bound,
+        (
+          (all_fit served_row IsServed why.Count (Lacks (slots_by served_cells)) [] (zip c.commands c.rounds) (all_zip c.commands c.rounds h.commands h.rounds), length_zip c.commands c.rounds h.one_each),
+          tt,
+        ),
+      ),
+    );
+    made = ap (λ t. title_row c.depth (length c.commands) ∷ bound_row c.bound ∷ t) (sym (append-nil _ ∙ append-nil _ ∙ rows_map served_row IsServed why.Count (Lacks (slots_by served_cells)) [] (zip c.commands c.rounds)))
+        ∙ ap (λ one. (codes "blk-certificate" ∷ one ∷ decimal c.depth ∷ decimal (length c.commands) ∷ []) ∷ bound_row c.bound ∷ ((items_of (extent.Exactly (length c.commands)) served).rows_of (zip c.commands c.rounds) ++ [])) (sym first_version);
+    follows = (tt, (tt, (length_zip c.commands c.rounds h.one_each, refl)));
+  },
+)
 
 same_back : (served : List (Command × ℕ)) → map read_back (map served_row served) ≡ map served_row served
 same_back [] = refl
@@ -101,171 +173,70 @@ bound_back (Some b) = refl
 
 pub read_back_is : (c : Claim) → IsClaim c → SpellsClaim (records default_config (strip_bom (rows_text (claim_rows c)))) c
 unfolding rows_text
-read_back_is c h = (
-  text_back (claim_rows c) _ refl
-      (rw (bound_back c.bound, same_back (zip c.commands c.rounds)) refl),
-  h,
-)
+read_back_is c h = rw (text_back (claim_rows c) _ refl (rw (bound_back c.bound, same_back (zip c.commands c.rounds)) refl)) (rows_spell c h)
 
-served_good : (s : Command × ℕ) → IsServed s → Goods served_slots (served_row s)
-served_good s h = (
-  number_good 0 (2 ^ 64 - 1) s.0.id h.0.0 (omega arith) (omega (arith, h.0.0)),
-  (
-    number_good 0 (2 ^ 40 - 1) s.0.release (omega (arith, h.0.1)) (omega arith) (omega (arith, h.0.1)),
-    (
-      number_good 0 (2 ^ 41 - 1) s.0.due (omega (arith, h.0.2)) (omega arith) (omega (arith, h.0.2)),
-      (number_good 0 (2 ^ 41 - 1) s.1 (omega (arith, h.1)) (omega arith) (omega (arith, h.1)), tt),
-    ),
-  ),
-)
+-- reading
 
-tells : Tells served_row IsServed (Lacks served_slots)
-tells = record {
-  apart = λ row w s bad e fit. goods_lack served_slots row w (rw e (served_good s fit)) bad;
-  once = lacks_once served_slots;
-}
+abbrev firsts : List (Command × ℕ) → List Command
+firsts = map (λ s. s.0)
 
-late_field : (z : ℤ) → IsLateness z → Good (slot.Lateness (2 ^ 41 - 1)) (signed_decimal z)
-late_field (pos n) h = late_good (2 ^ 41 - 1) n (decimal n) (omega (arith, h)) (omega (arith, h)) (inl refl)
-late_field (negsuc n) h = late_good (2 ^ 41 - 1) (suc n) (45 ∷ decimal (suc n)) (omega (arith, h)) (omega (arith, h)) (inr (omega arith, refl))
+abbrev seconds : List (Command × ℕ) → List ℕ
+seconds = map (λ s. s.1)
 
-bound_good : (b : ℤ × Window) → IsLateness b.0 → b.1.from < 2 ^ 41 → b.1.due < 2 ^ 41 → Goods bound_slots (bound_row (Some b))
-bound_good b p q r = (
-  (tt, tt, tt, tt),
-  (
-    late_field b.0 p,
-    (
-      number_good 0 (2 ^ 41 - 1) b.1.from (omega (arith, q)) (omega arith) (omega (arith, q)),
-      (number_good 0 (2 ^ 41 - 1) b.1.due (omega (arith, r)) (omega arith) (omega (arith, r)), tt),
-    ),
-  ),
-)
+all_first : (served : List (Command × ℕ)) → All IsServed served → All IsCommandInRange (firsts served)
+all_first served h = All-map IsCommandInRange (λ s. s.0) served (λ k d l. (h k d l).0)
 
-bound_starts : (b : Option (ℤ × Window)) → StartsWith (codes "bound") (bound_row b)
-bound_starts None = (_, refl)
-bound_starts (Some b) = (_, refl)
+all_second : (served : List (Command × ℕ)) → All IsServed served → All (λ x. x < 2 ^ 41) (seconds served)
+all_second served h = All-map (λ x. x < 2 ^ 41) (λ s. s.1) served (λ k d l. (h k d l).1)
 
-bound_lacks : (count : ℕ) (b : Option (ℤ × Window)) (row : Row) (w : Why) → IsBound count b → row ≡ bound_row b → BoundLacks count row w → ⊥
-bound_lacks count None row w i e (inl x) = omega (arith, i, x.0)
-bound_lacks count None row w i e (inr y) = y.1 e
-bound_lacks count (Some b) row w i e (inl x) = goods_lack bound_slots row w (rw e (bound_good b i.1 i.2 i.3)) x.1
-bound_lacks count (Some b) row w i e (inr y) = omega (arith, i.0, y.0)
+zipped : (served : List (Command × ℕ)) → zip (firsts served) (seconds served) ≡ served
+zipped [] = refl
+zipped (s ∷ ss) = ap (λ (k : List (Command × ℕ)). s ∷ k) (zipped ss)
 
-bound_apart : (count : ℕ) (b : Option (ℤ × Window)) (row : Row) (w : Why) → IsBound count b → row ≡ bound_row b → BoundWrong count row w → ⊥
-bound_apart count b row w i e (inl x) = bound_lacks count b row w i e x.1
-bound_apart count b row w i e (inr y) = y.0 (rw e (bound_starts b))
+-- what was read, as commands and rounds
+pub claim_in : (version depth count : ℕ) (bound : Option (ℤ × Window)) (served_lines : List (Command × ℕ)) (cs : List Command) (rs : List ℕ)
+    → IsVersion 1 version × IsCounted (depth, count) → IsBound count bound → AreItems (extent.Exactly count) served served_lines
+    → cs ≡ map (λ s. s.0) served_lines → rs ≡ map (λ s. s.1) served_lines → IsClaim record { depth = depth; commands = cs; rounds = rs; bound = bound }
+claim_in version depth count bound lines cs rs r b a p q =
+    let c : length (firsts lines) ≡ length lines = length-map lines (λ s. s.0) in
+    let d : length (seconds lines) ≡ length lines = length-map lines (λ s. s.1) in
+    let same : count ≡ length (firsts lines) = omega (arith, c, a.1) in
+    let fit = fit_all served_row IsServed why.Count (Lacks (slots_by served_cells)) [] lines a.0 in
+    rw (p, q) (record { depth = (r.1.0, r.1.1); few = omega (arith, r.1.2, same); one_each = d ∙ sym c; bound = rw same at b; commands = all_first lines fit; rounds = all_second lines fit })
 
-bound_lacks_once : (count : ℕ) (row : Row) (w v : Why) → BoundLacks count row w → BoundLacks count row v → w ≡ v
-bound_lacks_once count row w v (inl a) (inl b) = lacks_once bound_slots row w v a.1 b.1
-bound_lacks_once count row w v (inl a) (inr b) = absurd (omega (arith, a.0, b.0))
-bound_lacks_once count row w v (inr a) (inl b) = absurd (omega (arith, a.0, b.0))
-bound_lacks_once count row w v (inr a) (inr b) = lacks_once no_bound_slots row w v a.2 b.2
+pub claim_read : (left mid after : Option (List Row)) (version depth count : ℕ) (b : Option (ℤ × Window)) (lines : List (Command × ℕ)) (cs : List Command) (rs : List ℕ)
+    → Reads title left mid (version, (depth, count)) → Reads (bound count) mid after b → IfSome after (λ rows. Begins (items_of (extent.Exactly count) served) rows lines [])
+    → IsVersion 1 version → length lines ≡ count → cs ≡ map (λ s. s.0) lines → rs ≡ map (λ s. s.1) lines
+    → IfSome left (λ rows. SpellsClaim rows record { depth = depth; commands = cs; rounds = rs; bound = b })
+claim_read None mid after version depth count b lines cs rs t u a v n p q = tt
+claim_read (Some rows) mid after version depth count b lines cs rs t u a v n p q =
+    let c : length (firsts lines) ≡ length lines = length-map lines (λ s. s.0) in
+    let d : length (seconds lines) ≡ length lines = length-map lines (λ s. s.1) in
+    let one = one_version version v in
+    let number : count ≡ length (firsts lines) = omega (arith, c, n) in
+    let whole : Spells claim_form rows ((version, (depth, count)), (b, lines)) = then_reads title (λ t. claim_body t.1.1) (Some rows) mid (version, (depth, count)) (b, lines) t
+    (then_reads (bound count) (λ b. items_of (extent.Exactly count) served) mid after b lines u a) in
+    rw (p, q) (d ∙ sym c, subst (λ v. Spells claim_form rows v) (λ i. ((one i, (depth, number i)), (b, sym (zipped lines) i))) whole)
 
-bound_once : (count : ℕ) (row : Row) (w v : Why) → BoundWrong count row w → BoundWrong count row v → w ≡ v
-bound_once count row w v (inl a) (inl b) = bound_lacks_once count row w v a.1 b.1
-bound_once count row w v (inl a) (inr b) = absurd (b.0 a.0)
-bound_once count row w v (inr a) (inl b) = absurd (a.0 b.0)
-bound_once count row w v (inr a) (inr b) = no_word_once 4 row w v a.1 b.1
+-- the records of a certificate after its title begin with the second
+pub bound_reached : (left mid : Option (List Row)) (t : ℕ × (ℕ × ℕ)) (middle at : ℕ) → middle ≡ 1 → at ≡ 2 → Reads title left mid t → Reaches claim_form left 0 at
+bound_reached left mid t middle at e is h =
+    second_reached title (λ t. claim_body t.1.1) left mid t 0 middle at title_tells h (omega (arith, e))
+    (first_reached (bound t.1.1) (λ b. items_of (extent.Exactly t.1.1) served) mid middle at (bound_tells t.1.1) (λ b fit. items_tell t.1.1) (omega (arith, e, is)))
 
-missing_once : (count : ℕ) (rows : List Row) (w v : Why) → BoundMissing count rows w → BoundMissing count rows v → w ≡ v
-missing_once count [] w v a b = a ∙ sym b
-missing_once count (row ∷ rows) w v a b = bound_once count row w v a b
+pub line_reached : (left mid after : Option (List Row)) (t : ℕ × (ℕ × ℕ)) (b : Option (ℤ × Window)) (middle start at last : ℕ) → middle ≡ 1 → start ≡ 2 → Reads title left mid t → Reads (bound t.1.1) mid after b
+    → IsStopped (extent.Exactly t.1.1) served after start 0 at last → Reaches claim_form left 0 at
+line_reached left mid after t b middle start at last e f h k s =
+    second_reached title (λ t. claim_body t.1.1) left mid t 0 middle at title_tells h (omega (arith, e))
+    (second_reached (bound t.1.1) (λ b. items_of (extent.Exactly t.1.1) served) mid after b middle start at (bound_tells t.1.1) k (omega (arith, e, f))
+    (each_reached served_row IsServed why.Count (Lacks (slots_by served_cells)) (extent.Exactly t.1.1) after start at last (table_tells served_cells IsServed served_table) s))
 
-title_good : (depth count : ℕ) → 1 ≤ depth → depth ≤ 64 → count ≤ 1_000_000 → Goods title_slots (title_row depth count)
-title_good depth count a b c = ((tt, tt, tt, tt), ((tt, tt, tt, tt), (number_good 1 64 depth (omega (arith, b)) a b, (number_good 0 1_000_000 count (omega (arith, c)) (omega arith) c, tt))))
-
-after_apart : (c : Claim) (at : ℕ) (w : Why) → IsClaim c → AfterTitle (length c.commands) (bound_row c.bound ∷ map served_row (zip c.commands c.rounds)) at w → ⊥
-after_apart c at w h (inl f) = bound_apart (length c.commands) c.bound (bound_row c.bound) w h.bound refl f.1
-after_apart c at w h (inr f) =
-    let rest = cons_same _ _ _ _ f.3 in
-    let long = length_zip c.commands c.rounds h.one_each in
-    lines_apart served_row IsServed (Lacks served_slots) tells (extent.Exactly (length c.commands)) f.1 (zip c.commands c.rounds) f.4.0 w
-    (sym rest.1, all_zip c.commands c.rounds h.commands h.rounds, omega (arith, long), omega (arith, long)) f.4.2
-
-pub no_fault : (rows : List Row) (c : Claim) (at : ℕ) (w : Why) → SpellsClaim rows c → ClaimFault rows at w → ⊥
-no_fault rows c at w s (inl f) =
-    title_apart (codes "blk-certificate") title_slots (title_row c.depth (length c.commands)) (bound_row c.bound ∷ map served_row (zip c.commands c.rounds)) w (_, refl)
-    (title_good c.depth (length c.commands) s.1.depth.0 s.1.depth.1 s.1.few) (rw s.0 at f.1)
-no_fault rows c at w s (inr f) =
-    let e = cons_same _ _ _ _ (sym s.0 ∙ f.6) in
-    let title = four_same _ _ _ _ _ _ _ _ e.0 in
-    let count : length c.commands ≡ f.1 = decimal_injective (length c.commands) f.1 (omega (arith, s.1.few)) (omega (arith, f.5)) title.3 in
-    after_apart c at w s.1 (rw (← count, ← e.1) at f.7)
-
-after_once : (count : ℕ) (rows : List Row) (at other : ℕ) (w v : Why) → AfterTitle count rows at w → AfterTitle count rows other v → (at ≡ other) × (w ≡ v)
-after_once count rows at other w v (inl a) (inl b) = (a.0 ∙ sym b.0, missing_once count rows w v a.1 b.1)
-after_once count rows at other w v (inl a) (inr b) = absurd (bound_apart count b.0 (bound_row b.0) w b.2 refl (rw b.3 at a.1))
-after_once count rows at other w v (inr a) (inl b) = absurd (bound_apart count a.0 (bound_row a.0) v a.2 refl (rw a.3 at b.1))
-after_once count rows at other w v (inr a) (inr b) =
-    let rest = cons_same _ _ _ _ (sym a.3 ∙ b.3) in
-    let r = lines_once served_row IsServed (Lacks served_slots) tells (extent.Exactly count) b.1 a.4.0 b.4.0 w v (rw rest.1 at a.4.2) b.4.2 in
-    (a.4.1 ∙ ap (λ (k : ℕ). 2 + k) r.0 ∙ sym b.4.1, r.1)
-
-pub one_fault : (rows : List Row) (at other : ℕ) (w v : Why) → ClaimFault rows at w → ClaimFault rows other v → (at ≡ other) × (w ≡ v)
-one_fault rows at other w v (inl a) (inl b) = (a.0 ∙ sym b.0, title_once (codes "blk-certificate") title_slots rows w v a.1 b.1)
-one_fault rows at other w v (inl a) (inr b) =
-    absurd (title_apart (codes "blk-certificate") title_slots (title_row b.0 b.1) b.2 w (_, refl) (title_good b.0 b.1 b.3 b.4 b.5) (rw b.6 at a.1))
-one_fault rows at other w v (inr a) (inl b) =
-    absurd (title_apart (codes "blk-certificate") title_slots (title_row a.0 a.1) a.2 v (_, refl) (title_good a.0 a.1 a.3 a.4 a.5) (rw a.6 at b.1))
-one_fault rows at other w v (inr a) (inr b) =
-    let e = cons_same _ _ _ _ (sym a.6 ∙ b.6) in
-    let title = four_same _ _ _ _ _ _ _ _ e.0 in
-    let count : a.1 ≡ b.1 = decimal_injective a.1 b.1 (omega (arith, a.5)) (omega (arith, b.5)) title.3 in
-    after_once b.1 b.2 at other w v (rw (count, e.1) at a.7) b.7
-
--- faults after a good title
-
-past_title : (rows : List Row) (depth count : ℕ) (more : List Row) (at : ℕ) (w : Why) → 1 ≤ depth → depth ≤ 64 → count ≤ 1_000_000 → rows ≡ title_row depth count ∷ more → ClaimFault rows at w
-    → AfterTitle count more at w
-past_title rows depth count more at w a b c e (inl f) =
-    absurd (title_apart (codes "blk-certificate") title_slots (title_row depth count) more w (_, refl) (title_good depth count a b c) (rw e at f.1))
-past_title rows depth count more at w a b c e (inr f) =
-    let rest = cons_same _ _ _ _ (sym f.6 ∙ e) in
-    let title = four_same _ _ _ _ _ _ _ _ rest.0 in
-    let same : f.1 ≡ count = decimal_injective f.1 count (omega (arith, f.5)) (omega (arith, c)) title.3 in
-    rw (same, rest.1) at f.7
-
--- faults after a good bound
-
-past_bound : (count : ℕ) (rows : List Row) (bound : Option (ℤ × Window)) (more : List Row) (at : ℕ) (w : Why) → IsBound count bound → rows ≡ bound_row bound ∷ more → AfterTitle count rows at w
-    → (place : ℕ) × (at ≡ 2 + place) × LinesWrong served_row IsServed (Lacks served_slots) (extent.Exactly count) more place w
-past_bound count rows bound more at w i e (inl f) = absurd (bound_apart count bound (bound_row bound) w i refl (rw e at f.1))
-past_bound count rows bound more at w i e (inr f) =
-    let rest = cons_same _ _ _ _ (sym f.3 ∙ e) in
-    rw rest.1 at f.4
-
-later_place : (count : ℕ) (rows : List Row) (at : ℕ) (w : Why) → AfterTitle count rows at w → 2 ≤ at
-later_place count rows at w (inl f) = omega (arith, f.0)
-later_place count rows at w (inr f) = let is = f.4.1 in omega (arith, is)
-
--- the second record is reached after a good title
-pub reached_bound : (rows : List Row) (depth count : ℕ) (more : List Row) (at : ℕ) → 1 ≤ depth → depth ≤ 64 → count ≤ 1_000_000 → rows ≡ title_row depth count ∷ more
-    → at ≡ 2 → IsReached ClaimFault rows at
-reached_bound rows depth count more at a b c e is =
-    let long : length rows ≡ length (title_row depth count ∷ more) = ap length e in
-    (omega (arith, long, is), λ k w l f. (let later = later_place count more k w (past_title rows depth count more k w a b c e f) in omega (arith, later, is, l)))
-
--- a record after a good bound and good lines is reached
-pub reached_line : (rows : List Row) (depth count : ℕ) (bound : Option (ℤ × Window)) (more : List Row) (place at : ℕ) → 1 ≤ depth → depth ≤ 64 → count ≤ 1_000_000 → IsBound count bound
-    → rows ≡ title_row depth count ∷ bound_row bound ∷ more
-    → at ≡ 2 + place → LinesBefore served_row IsServed (extent.Exactly count) more place → IsReached ClaimFault rows at
-reached_line rows depth count bound more place at a b c i e is before =
-    let far = lines_far served_row IsServed (extent.Exactly count) more place before in
-    let long : length rows ≡ length (title_row depth count ∷ bound_row bound ∷ more) = ap length e in (
-      omega (arith, far, long, is),
-      λ k w l f. (
-          let bad = past_bound count (bound_row bound ∷ more) bound more k w i refl (past_title rows depth count (bound_row bound ∷ more) k w a b c e f) in
-          let behind = lines_behind served_row IsServed (Lacks served_slots) tells (extent.Exactly count) more place bad.0 w before bad.2 in
-          let there : k ≡ 2 + bad.0 = bad.1 in
-          omega (arith, behind, there, is, l)
-          ),
-    )
-
--- past the last record of a certificate
-pub reached_end : (left : Option (List Row)) (c : Claim) (at : ℕ) → IfSome left (λ rows. SpellsClaim rows c) → at ≡ length c.commands + 3 → IfSome left (λ rows. IsReached ClaimFault rows at)
-reached_end None c at s e = tt
-reached_end (Some rows) c at s e =
-    let all : length rows ≡ length (claim_rows c) = ap length s.0 in
-    let long : length (map served_row (zip c.commands c.rounds)) ≡ length (zip c.commands c.rounds) = length-map (zip c.commands c.rounds) served_row in
-    let pairs : length (zip c.commands c.rounds) ≡ length c.commands = length_zip c.commands c.rounds s.1.one_each in
-    (omega (arith, all, long, pairs, e), λ k w l f. no_fault rows c k w s f)
+-- and after it is read
+pub whole_reached : (left mid after : Option (List Row)) (t : ℕ × (ℕ × ℕ)) (b : Option (ℤ × Window)) (lines : List (Command × ℕ)) (at : ℕ) → Reads title left mid t → Reads (bound t.1.1) mid after b
+    → IfSome after (λ rows. Begins (items_of (extent.Exactly t.1.1) served) rows lines []) → at ≡ length lines + 3 → Reaches claim_form left 0 at
+whole_reached left mid after t b lines at h k a e =
+    end_reached claim_form left (t, (b, lines)) at claim_tells
+    (then_reads title (λ t. claim_body t.1.1) left mid t (b, lines) h (then_reads (bound t.1.1) (λ b. items_of (extent.Exactly t.1.1) served) mid after b lines k a)) (e ∙ sym (whole_long lines))
+  where
+    whole_long : (ls : List (Command × ℕ)) → length (claim_form.rows_of (t, (b, ls))) + 1 ≡ length ls + 3
+    whole_long ls = let all : length ((items_of (extent.Exactly t.1.1) served).rows_of ls) ≡ length ls = ap length (append-nil _) ∙ size_is served_row IsServed why.Count (Lacks (slots_by served_cells)) ls in omega (arith, all)

@@ -3,11 +3,8 @@ pub mod Steps
 pub mod Decimals
 pub mod Digits
 pub mod FieldLemmas
-pub mod LineLemmas
-pub mod CommandLemmas
 pub mod StepLemmas
 pub mod SetupLemmas
-pub mod ScriptLemmas
 pub mod Texts
 pub mod PlainRows
 pub mod Rows
@@ -15,9 +12,10 @@ pub mod DraftLemmas
 pub mod TraceLemmas
 pub mod ClaimLemmas
 pub mod Once
-pub mod LinesOnce
 pub mod CommandLaws
 pub mod ClaimLaws
 pub mod ScriptLaws
-pub mod Reached
 pub mod TraceLaws
+pub mod TableLaws
+pub mod Each
+pub mod Reading

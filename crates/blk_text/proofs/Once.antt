@@ -7,7 +7,6 @@ use Rattle.blk_bio.specs.declared.bio.Dir.TheVariants as dir
 use Rattle.blk_text.specs.Sources.{Row}
 use Rattle.blk_text.specs.BioRecord.{direction_text}
 use Rattle.blk_text.specs.Fields.{EachField, IsBlank, IsDirection, IsNumber, IsInRange, IsSized, IsShaped, Lacks}
-use Rattle.blk_text.specs.Faults.{IsTitled, TitleMissing}
 use Rattle.blk_text.specs.Words.{StartsWith, HasNoWord, WordWrong}
 use Rattle.blk_text.specs.declared.fault.Why.{Why}
 use Rattle.blk_text.specs.declared.fault.Why.TheVariants as why
@@ -114,19 +113,6 @@ sized_once f n m h k (inr a) (inr b) = decimal_injective n m h k (let q : 45 ∷
 
 pub late_good : (most n : ℕ) (f : List ℕ) → n < 2 ^ 64 → n ≤ most → IsSized f n → Good (slot.Lateness most) f
 late_good most n f h b s = (tt, tt, (n, h, s), λ m k e. (let same : m ≡ n = sized_once f m n k h e s in omega arith))
-
--- titles
-
-pub title_apart : (name : List ℕ) (slots : List Slot) (row : Row) (rest : List Row) (w : Why) → IsTitled name row → Goods slots row → TitleMissing name slots (row ∷ rest) w → ⊥
-title_apart name slots row rest w t g (inl a) = a.1 t
-title_apart name slots row rest w t g (inr b) = goods_lack slots row w g b.1
-
-pub title_once : (name : List ℕ) (slots : List Slot) (rows : List Row) (w v : Why) → TitleMissing name slots rows w → TitleMissing name slots rows v → w ≡ v
-title_once name slots [] w v a b = a ∙ sym b
-title_once name slots (row ∷ rows) w v (inl a) (inl b) = a.0 ∙ sym b.0
-title_once name slots (row ∷ rows) w v (inl a) (inr b) = absurd (a.1 b.0)
-title_once name slots (row ∷ rows) w v (inr a) (inl b) = absurd (b.1 a.0)
-title_once name slots (row ∷ rows) w v (inr a) (inr b) = lacks_once slots row w v a.1 b.1
 
 -- words
 

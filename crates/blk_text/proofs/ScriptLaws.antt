@@ -1,6 +1,6 @@
 -- The laws of scripts.
-use Rattle.std.proofs.Common.{◌≡◌, ◌+◌, ◌-◌, ◌<◌, ◌≤◌, ◌^◌, ◌==◌, ◌∙◌, ℕ, List, [], ◌∷◌, length, map, refl, sym, ap, subst, inl, inr, arith, get_or, decimal, codes}
-use Rattle.std.specs.Prelude.{◌⊎◌, Err, if◌then◌else◌}
+use Rattle.std.proofs.Common.{◌≡◌, ◌+◌, ◌-◌, ◌<◌, ◌≤◌, ◌^◌, ◌==◌, ◌∙◌, ℕ, List, [], ◌∷◌, ◌++◌, length, map, append-nil, Option, Some, None, refl, sym, ap, subst, inl, inr, arith, get_or, decimal, codes}
+use Rattle.std.specs.Prelude.{◌⊎◌, All, Err, IfSome, if◌then◌else◌}
 use Rattle.std.specs.Str.Parse.{digits_value}
 use Rattle.std.proofs.lemmas.Fmt.{decimal_injective, digits_value-decimal}
 use Rattle.csv.specs.Reading.{default_config, records, strip_bom}
@@ -14,27 +14,30 @@ use Rattle.blk_trace.specs.Setups.{Setup}
 use Rattle.blk_text.specs.Sources.{Row}
 use Rattle.blk_text.specs.Texts.{rows_text}
 use Rattle.blk_text.specs.BioRecord.{bio_row, direction_text}
-use Rattle.blk_text.specs.SetupRecord.{setup_slots, setup_row, SpellsSetup, IsWholeSetup, SetupWrong, SetupMissing}
+use Rattle.blk_text.specs.SetupRecord.{setup_slots, setup_cells, setup_row, setup, FitsSetup, IsWholeSetup, SetupWrong}
 use Rattle.blk_text.specs.Words.{StartsWith}
-use Rattle.blk_text.specs.Faults.{TitleMissing, LinesWrong, LinesBefore, IsReached}
-use Rattle.blk_text.specs.Script.{word_of, slots_of, line_row, LineFits, SpellsNoBio, StepWrong, title_slots, title_row, IsTitle, Scripted, title_of, script_rows, IsScript, SpellsScript, FewSubmitters, AfterTitle, ScriptFault}
+use Rattle.blk_text.specs.Reads.{Reads, Reaches, IsStopped, AreItems, items_of}
+use Rattle.blk_text.specs.Tables.{IsTable, IsVersion}
+use Rattle.blk_text.specs.Script.{word_of, slots_of, line_row, LineFits, SpellsNoBio, StepWrong, script_cells, title_row, IsTitle, IsEnough, TooFew, plain_title, title, step, script_body, script_form, script_value, Scripted, title_of, script_rows, IsScript, SpellsScript}
 use Rattle.blk_text.specs.declared.fault.Why.{Why}
 use Rattle.blk_text.specs.declared.fault.Why.TheVariants as why
 use Rattle.blk_text.specs.declared.fields.Slot.TheVariants as slot
-use Rattle.blk_text.specs.declared.lines.Extent.TheVariants as extent
+use Rattle.parts.specs.declared.Extent.TheVariants as extent
+use Rattle.parts.specs.Parts.{Begins, Spells}
+use Rattle.parts.specs.Laws.{Tells, TellsRecord}
+use Rattle.parts.proofs.Then.{record_tells, then_tells, tested_tells}
 use Rattle.blk_text.specs.declared.script.Line.{Line}
 use Rattle.blk_text.specs.declared.script.Line.TheVariants as line
 use Rattle.blk_text.specs.declared.script.Title.{Title}
 use Rattle.blk_text.specs.declared.script.Word.{Word}
 use Rattle.blk_text.specs.declared.script.Word.TheVariants as word
 use Rattle.blk_text.proofs.Decimals.{own}
-use Rattle.blk_text.proofs.Lists.{cons_same, maps_same}
-use Rattle.blk_text.proofs.Once.{Goods, blank_good, direction_good, number_good, title_apart, title_once, word_once, word_apart}
-use Rattle.blk_text.proofs.LinesOnce.{Tells, lines_once, lines_apart, lines_behind, lines_far}
+use Rattle.blk_text.proofs.Lists.{cons_same}
+use Rattle.blk_text.proofs.Once.{Goods, blank_good, direction_good, number_good, word_once, word_apart}
+use Rattle.blk_text.proofs.TableLaws.{goods_by, table_tells, title_part}
+use Rattle.blk_text.proofs.Each.{rows_map, fit_all, all_fit, each_tells, each_reached, one_version, first_version}
+use Rattle.blk_text.proofs.Reading.{then_reads, first_reached, second_reached}
 use Rattle.blk_text.proofs.Texts.{text_back}
-
-pub six_same : (a b c d e f u v w x y z : List ℕ) → a ∷ b ∷ c ∷ d ∷ e ∷ f ∷ [] ≡ u ∷ v ∷ w ∷ x ∷ y ∷ z ∷ [] → (a ≡ u) × (b ≡ v) × (c ≡ w) × (d ≡ x) × (e ≡ y) × (f ≡ z)
-six_same a b c d e f u v w x y z h = (cc h, cc h, cc h, cc h, cc h, cc h)
 
 -- the number of a field, the direction of a field and the word of a field, whatever stands there
 
@@ -202,12 +205,6 @@ step_once hw submitters cells w v s (inl a) (inr b) = absurd (no_bio_apart hw su
 step_once hw submitters cells w v s (inr a) (inl b) = absurd (no_bio_apart hw submitters cells v w s b a)
 step_once hw submitters cells w v s (inr a) (inr b) = no_bio_once submitters cells w v s a b
 
-tells : (hw submitters : ℕ) → hw ≤ 16 → submitters ≤ 64 → Tells line_row (LineFits hw submitters) (StepWrong hw submitters)
-tells hw submitters g s = record {
-  apart = λ cells w l bad e fit. step_apart hw submitters cells w l g s bad e fit;
-  once = λ cells w v a b. step_once hw submitters cells w v s a b;
-}
-
 -- a step is told by its record
 
 by_word : Word → Row → Line
@@ -235,86 +232,87 @@ line_is hw submitters (line.Run n) g s h = ap line.Run (value_is n (omega (arith
 one_line : (hw submitters : ℕ) → hw ≤ 16 → submitters ≤ 64 → (l m : Line) → LineFits hw submitters l → LineFits hw submitters m → line_row l ≡ line_row m → l ≡ m
 one_line hw submitters g s l m p q e = sym (line_is hw submitters l g s p) ∙ ap line_at e ∙ line_is hw submitters m g s q
 
+step_tells : (hw submitters : ℕ) → hw ≤ 16 → submitters ≤ 64 → TellsRecord line_row (LineFits hw submitters) (StepWrong hw submitters)
+step_tells hw submitters g s = record {
+  once = one_line hw submitters g s;
+  apart = λ l w fit bad. step_apart hw submitters (line_row l) w l g s bad refl fit;
+  first = λ cells w v a b. step_once hw submitters cells w v s a b;
+}
+
 -- titles and setups
 
-title_good : (t : Title) → IsTitle t → Goods title_slots (title_row t)
-title_good t i = (
-  (tt, tt, tt, tt),
-  (
-    (tt, tt, tt, tt),
-    (
-      number_good 1 64 t.depth (omega (arith, i.depth.1)) i.depth.0 i.depth.1,
-      (
-        number_good 1 16 t.hw (omega (arith, i.hw.1)) i.hw.0 i.hw.1,
-        (number_good 1 1024 t.soft_depth (omega (arith, i.soft_depth.1)) i.soft_depth.0 i.soft_depth.1, (number_good 1 64 t.submitters (omega (arith, i.submitters.1)) i.submitters.0 i.submitters.1, tt)),
-      ),
-    ),
-  ),
-)
+title_table : (version : ℕ) → IsTable (script_cells version) IsTitle
+title_table version = record {
+  sized = (omega arith, (omega arith, (omega arith, (omega arith, tt))));
+  within = λ t i. (i.depth.0, i.depth.1, (i.hw.0, i.hw.1, (i.soft_depth.0, i.soft_depth.1, (i.submitters.0, i.submitters.1, tt))));
+  tells = λ t u f g e. (λ i. record { depth = e.0 i; hw = e.1.0 i; soft_depth = e.1.1.0 i; submitters = e.1.1.1.0 i });
+}
 
-same_title : (t u : Title) → t.depth ≡ u.depth → t.hw ≡ u.hw → t.soft_depth ≡ u.soft_depth → t.submitters ≡ u.submitters → t ≡ u
-same_title t u p q r s i = record { depth = p i; hw = q i; soft_depth = r i; submitters = s i }
+pub title_tells : Tells title
+title_tells =
+    tested_tells plain_title IsEnough TooFew (title_part (codes "blk-script") 1 script_cells IsTitle (omega arith) title_table)
+    (λ t k j w x fit f g. (f.0 ∙ sym g.0, f.1 ∙ sym g.1))
+    (λ t k w good f. (let few = f.2 in omega (arith, good, few)))
+    (λ t k w f. (let is = f.0 in (omega (arith, is), omega (arith, is))))
 
-one_title : (t u : Title) → IsTitle t → IsTitle u → title_row t ≡ title_row u → t ≡ u
-one_title t u p q e =
-    let f = six_same _ _ _ _ _ _ _ _ _ _ _ _ e in
-    same_title t u (decimal_injective t.depth u.depth (omega (arith, p.depth.1)) (omega (arith, q.depth.1)) f.2) (decimal_injective t.hw u.hw (omega (arith, p.hw.1)) (omega (arith, q.hw.1)) f.3)
-    (decimal_injective t.soft_depth u.soft_depth (omega (arith, p.soft_depth.1)) (omega (arith, q.soft_depth.1)) f.4) (decimal_injective t.submitters u.submitters (omega (arith, p.submitters.1)) (omega (arith, q.submitters.1)) f.5)
-
-setup_good : (s : Setup) → IsWholeSetup s → Goods setup_slots (setup_row s)
-setup_good s h = (
-  (tt, tt, tt, tt),
-  (
-    number_good 0 (2 ^ 40 - 1) s.read_expire (omega (arith, h.is_setup.read_in)) (omega arith) (omega (arith, h.is_setup.read_in)),
-    (
-      number_good 0 (2 ^ 40 - 1) s.write_expire (omega (arith, h.is_setup.write_in)) (omega arith) (omega (arith, h.is_setup.write_in)),
-      (
-        number_good 1 65535 s.limits.max_sectors (omega (arith, h.is_limits.few_sectors)) (omega (arith, h.is_limits.some_sectors)) h.is_limits.few_sectors,
-        (number_good 1 128 s.limits.max_segments (omega (arith, h.is_limits.few_segments)) (omega (arith, h.is_limits.some_segments)) h.is_limits.few_segments, (blank_good, tt)),
-      ),
-    ),
-  ),
-)
+pub setup_table : (depth hw : ℕ) → IsTable setup_cells (FitsSetup depth hw)
+setup_table depth hw = record {
+  sized = (omega arith, (omega arith, (omega arith, (omega arith, tt))));
+  within = λ s f. (
+      let h = f.2 in (
+        omega arith,
+        omega (arith, h.is_setup.read_in),
+        (omega arith, omega (arith, h.is_setup.write_in), (omega (arith, h.is_limits.some_sectors), h.is_limits.few_sectors, (omega (arith, h.is_limits.some_segments), h.is_limits.few_segments, tt))),
+      )
+      );
+  tells = λ s t f g e. (
+      let depth = f.0 ∙ sym g.0 in
+      let hw = f.1 ∙ sym g.1 in
+      λ i. record { depth = depth i; hw = hw i; read_expire = e.0 i; write_expire = e.1.0 i; limits = record { max_sectors = e.1.1.0 i; max_segments = e.1.1.1.0 i } }
+      );
+}
 
 unit_tells : (j k : Unit {0}) → codes "setup" ≡ codes "setup" → j ≡ k
 unit_tells j k e = refl
 
-setup_apart : (cells : Row) (w : Why) (s : Setup) → IsWholeSetup s → cells ≡ setup_row s → SetupWrong cells w → ⊥
-setup_apart cells w s h e a = word_apart (λ (k : Unit {0}). codes "setup") (λ k. setup_slots) 6 unit_tells cells w tt (rw e (_, refl)) (rw e (setup_good s h)) a
-
-setup_once : (rows : List Row) (w v : Why) → SetupMissing rows w → SetupMissing rows v → w ≡ v
-setup_once [] w v a b = a ∙ sym b
-setup_once (cells ∷ rows) w v a b = word_once (λ (k : Unit {0}). codes "setup") (λ k. setup_slots) 6 unit_tells cells w v a b
-
-same_setup : (s t : Setup) → s.depth ≡ t.depth → s.hw ≡ t.hw → s.read_expire ≡ t.read_expire → s.write_expire ≡ t.write_expire → s.limits.max_sectors ≡ t.limits.max_sectors → s.limits.max_segments ≡ t.limits.max_segments → s ≡ t
-same_setup s t a b c d e f i = record { depth = a i; hw = b i; read_expire = c i; write_expire = d i; limits = record { max_sectors = e i; max_segments = f i } }
-
-pub one_setup : (s t : Setup) → IsWholeSetup s → IsWholeSetup t → s.depth ≡ t.depth → s.hw ≡ t.hw → setup_row s ≡ setup_row t → s ≡ t
-one_setup s t p q d h e =
-    let f = six_same _ _ _ _ _ _ _ _ _ _ _ _ e in
-    same_setup s t d h
-    (decimal_injective s.read_expire t.read_expire (omega (arith, p.is_setup.read_in)) (omega (arith, q.is_setup.read_in)) f.1)
-    (decimal_injective s.write_expire t.write_expire (omega (arith, p.is_setup.write_in)) (omega (arith, q.is_setup.write_in)) f.2)
-    (decimal_injective s.limits.max_sectors t.limits.max_sectors (omega (arith, p.is_limits.few_sectors)) (omega (arith, q.is_limits.few_sectors)) f.3)
-    (decimal_injective s.limits.max_segments t.limits.max_segments (omega (arith, p.is_limits.few_segments)) (omega (arith, q.is_limits.few_segments)) f.4)
+setup_tells : (depth hw : ℕ) → Tells (setup depth hw)
+setup_tells depth hw = record_tells setup_row (FitsSetup depth hw) why.Word SetupWrong (record {
+  once = (table_tells setup_cells (FitsSetup depth hw) (setup_table depth hw)).once;
+  apart = λ s w fit bad. word_apart (λ (k : Unit {0}). codes "setup") (λ k. setup_slots) 6 unit_tells (setup_row s) w tt (_, refl) (goods_by setup_cells s (setup_table depth hw).sized ((setup_table depth hw).within s fit)) bad;
+  first = word_once (λ (k : Unit {0}). codes "setup") (λ k. setup_slots) 6 unit_tells;
+})
 
 -- whole scripts
+
+steps_tell : (t : Title) → IsTitle t → Tells (items_of (extent.AtMost 999_998) (step t.hw t.submitters))
+steps_tell t i = each_tells line_row (LineFits t.hw t.submitters) why.Count (StepWrong t.hw t.submitters) (extent.AtMost 999_998) (step_tells t.hw t.submitters i.hw.1 i.submitters.1)
+
+body_tells : (t : Title) → IsTitle t → Tells (script_body t)
+body_tells t i = then_tells (setup t.depth t.hw) (λ s. items_of (extent.AtMost 999_998) (step t.hw t.submitters)) (setup_tells t.depth t.hw) (λ s fit. steps_tell t i)
+
+pub script_tells : Tells script_form
+script_tells = then_tells title (λ t. script_body t.1) title_tells (λ t fit. body_tells t.1 fit.0.1)
 
 same_script : (s t : Scripted) → s.setup ≡ t.setup → s.soft_depth ≡ t.soft_depth → s.submitters ≡ t.submitters → s.lines ≡ t.lines → s ≡ t
 same_script s t a b c d i = record { setup = a i; soft_depth = b i; submitters = c i; lines = d i }
 
 pub spelled_once : (rows : List Row) (s t : Scripted) → SpellsScript rows s → SpellsScript rows t → s ≡ t
 spelled_once rows s t p q =
-    let e = cons_same _ _ _ _ (sym p.0 ∙ q.0) in
-    let f = cons_same _ _ _ _ e.1 in
-    let title = one_title (title_of s) (title_of t) p.1.title q.1.title e.0 in
-    let depth : s.setup.depth ≡ t.setup.depth = ap (λ (k : Title). k.depth) title in
-    let hw : s.setup.hw ≡ t.setup.hw = ap (λ (k : Title). k.hw) title in
-    let soft : s.soft_depth ≡ t.soft_depth = ap (λ (k : Title). k.soft_depth) title in
-    let submitters : s.submitters ≡ t.submitters = ap (λ (k : Title). k.submitters) title in
-    let setup = one_setup s.setup t.setup p.1.setup q.1.setup depth hw f.0 in
-    let lines = maps_same line_row (LineFits t.setup.hw t.submitters) (one_line t.setup.hw t.submitters q.1.title.hw.1 q.1.title.submitters.1) s.lines t.lines (rw (hw, submitters) at p.1.lines) q.1.lines f.1 in
-    same_script s t setup soft submitters lines
+    let e = (script_tells.once rows (script_value s) (script_value t) [] [] p q).0 in
+    same_script s t (λ i. (e i).1.0) (λ i. (e i).0.1.soft_depth) (λ i. (e i).0.1.submitters) (λ i. (e i).1.1)
+
+-- the records of a script spell it
+pub rows_spell : (s : Scripted) → IsScript s → SpellsScript (script_rows s) s
+rows_spell s h = record {
+  fits = (
+    (((omega arith, omega arith), h.title), h.enough),
+    ((refl, refl, h.setup), ((all_fit line_row (LineFits s.setup.hw s.submitters) why.Count (StepWrong s.setup.hw s.submitters) [] s.lines h.lines, h.short), tt)),
+  );
+  made = ap (λ t. title_row (title_of s) ∷ setup_row s.setup ∷ t) (sym (append-nil _ ∙ append-nil _ ∙ rows_map line_row (LineFits s.setup.hw s.submitters) why.Count (StepWrong s.setup.hw s.submitters) [] s.lines))
+      ∙ ap (λ one. (codes "blk-script" ∷ one ∷ decimal s.setup.depth ∷ decimal s.setup.hw ∷ decimal s.soft_depth ∷ decimal s.submitters ∷ []) ∷ setup_row s.setup
+      ∷ ((items_of (extent.AtMost 999_998) (step s.setup.hw s.submitters)).rows_of s.lines ++ [])) (sym first_version);
+  follows = (tt, (tt, (inr refl, refl)));
+}
 
 line_back : (l : Line) → read_back (line_row l) ≡ line_row l
 line_back (line.Bio b) = refl
@@ -331,106 +329,43 @@ lines_back (l ∷ ls) = rw (line_back l, lines_back ls) refl
 
 pub read_back_is : (s : Scripted) → IsScript s → SpellsScript (records default_config (strip_bom (rows_text (script_rows s)))) s
 unfolding rows_text
-read_back_is s h = (text_back (script_rows s) _ refl (rw (lines_back s.lines) refl), h)
+read_back_is s h = rw (text_back (script_rows s) _ refl (rw (lines_back s.lines) refl)) (rows_spell s h)
 
-after_apart : (s : Scripted) (at : ℕ) (w : Why) → IsScript s → AfterTitle (title_of s) (setup_row s.setup ∷ map line_row s.lines) at w → ⊥
-after_apart s at w h (inl f) = setup_apart (setup_row s.setup) w s.setup h.setup refl f.1
-after_apart s at w h (inr f) =
-    let rest = cons_same _ _ _ _ f.3.1 in
-    lines_apart line_row (LineFits s.setup.hw s.submitters) (StepWrong s.setup.hw s.submitters) (tells s.setup.hw s.submitters h.title.hw.1 h.title.submitters.1) (extent.AtMost 999_998) f.3.0 s.lines f.3.2.0 w
-    (sym rest.1, h.lines, h.short, omega arith) f.3.2.2
+-- reading
 
-pub no_fault : (rows : List Row) (s : Scripted) (at : ℕ) (w : Why) → SpellsScript rows s → ScriptFault rows at w → ⊥
-no_fault rows s at w p (inl (k, inl f)) = title_apart (codes "blk-script") title_slots (title_row (title_of s)) (setup_row s.setup ∷ map line_row s.lines) w (_, refl) (title_good (title_of s) p.1.title) (rw p.0 at f)
-no_fault rows s at w p (inl (k, inr f)) =
-    let e = cons_same _ _ _ _ (sym p.0 ∙ f.1.2) in
-    let title = one_title (title_of s) f.1.0 p.1.title f.1.3 e.0 in
-    let hw : s.setup.hw ≡ f.1.0.hw = ap (λ (k : Title). k.hw) title in
-    let submitters : s.submitters ≡ f.1.0.submitters = ap (λ (k : Title). k.submitters) title in
-    omega (arith, hw, submitters, f.1.4, p.1.enough)
-no_fault rows s at w p (inr f) =
-    let e = cons_same _ _ _ _ (sym p.0 ∙ f.3.1) in
-    let title = one_title (title_of s) f.0 p.1.title f.1 e.0 in
-    after_apart s at w p.1 (rw (← title, ← e.1) at f.3.2)
+-- the title of a script that was read
+title_is : (t : Title) (s : Setup) (lines : List Line) → FitsSetup t.depth t.hw s → title_of (record { setup = s; soft_depth = t.soft_depth; submitters = t.submitters; lines = lines }) ≡ t
+title_is t s lines f = λ i. record { depth = f.0 i; hw = f.1 i; soft_depth = t.soft_depth; submitters = t.submitters }
 
--- faults of the first record
+pub script_in : (t : Title) (s : Setup) (lines : List Line) → IsTitle t → t.hw ≤ t.submitters → FitsSetup t.depth t.hw s → AreItems (extent.AtMost 999_998) (step t.hw t.submitters) lines
+    → IsScript record { setup = s; soft_depth = t.soft_depth; submitters = t.submitters; lines = lines }
+script_in t s lines i enough f a = record {
+  title = subst IsTitle (sym (title_is t s lines f)) i;
+  enough = (let hw = f.1 in omega (arith, enough, hw));
+  setup = f.2;
+  lines = subst (λ hw. All (LineFits hw t.submitters) lines) (sym f.1) (fit_all line_row (LineFits t.hw t.submitters) why.Count (StepWrong t.hw t.submitters) [] lines a.0);
+  short = a.1;
+}
 
-abbrev FirstWrong : List Row → Why → Type 0
-FirstWrong rows w = TitleMissing (codes "blk-script") title_slots rows w ⊎ FewSubmitters rows w
+pub script_read : (left mid after : Option (List Row)) (t : ℕ × Title) (s : Setup) (lines : List Line) → Reads title left mid t → Reads (setup t.1.depth t.1.hw) mid after s
+    → IfSome after (λ rows. Begins (items_of (extent.AtMost 999_998) (step t.1.hw t.1.submitters)) rows lines []) → IsVersion 1 t.0 → FitsSetup t.1.depth t.1.hw s
+    → IfSome left (λ rows. SpellsScript rows record { setup = s; soft_depth = t.1.soft_depth; submitters = t.1.submitters; lines = lines })
+script_read None mid after t s lines h k a v f = tt
+script_read (Some rows) mid after t s lines h k a v f =
+    let one = one_version t.0 v in
+    let title_same = title_is t.1 s lines f in
+    let whole : Spells script_form rows (t, (s, lines)) = then_reads title (λ t. script_body t.1) (Some rows) mid t (s, lines) h
+    (then_reads (setup t.1.depth t.1.hw) (λ s. items_of (extent.AtMost 999_998) (step t.1.hw t.1.submitters)) mid after s lines k a) in
+    subst (λ v. Spells script_form rows v) (λ i. ((one i, sym title_same i), (s, lines))) whole
 
-first_once : (rows : List Row) (w v : Why) → FirstWrong rows w → FirstWrong rows v → w ≡ v
-first_once rows w v (inl a) (inl b) = title_once (codes "blk-script") title_slots rows w v a b
-first_once rows w v (inl a) (inr b) = absurd (title_apart (codes "blk-script") title_slots (title_row b.1.0) b.1.1 w (_, refl) (title_good b.1.0 b.1.3) (rw b.1.2 at a))
-first_once rows w v (inr a) (inl b) = absurd (title_apart (codes "blk-script") title_slots (title_row a.1.0) a.1.1 v (_, refl) (title_good a.1.0 a.1.3) (rw a.1.2 at b))
-first_once rows w v (inr a) (inr b) = a.0 ∙ sym b.0
+pub setup_reached : (left mid : Option (List Row)) (t : ℕ × Title) (middle at : ℕ) → middle ≡ 1 → at ≡ 2 → IsTitle t.1 → Reads title left mid t → Reaches script_form left 0 at
+setup_reached left mid t middle at e is i h =
+    second_reached title (λ t. script_body t.1) left mid t 0 middle at title_tells h (omega (arith, e))
+    (first_reached (setup t.1.depth t.1.hw) (λ s. items_of (extent.AtMost 999_998) (step t.1.hw t.1.submitters)) mid middle at (setup_tells t.1.depth t.1.hw) (λ s fit. steps_tell t.1 i) (omega (arith, e, is)))
 
-first_apart : (rows : List Row) (t : Title) (rest : List Row) (w : Why) → IsTitle t → t.hw ≤ t.submitters → rows ≡ title_row t ∷ rest → FirstWrong rows w → ⊥
-first_apart rows t rest w i h e (inl a) = title_apart (codes "blk-script") title_slots (title_row t) rest w (_, refl) (title_good t i) (rw e at a)
-first_apart rows t rest w i h e (inr b) =
-    let f = cons_same _ _ _ _ (sym e ∙ b.1.2) in
-    let title = one_title t b.1.0 i b.1.3 f.0 in
-    let hw : t.hw ≡ b.1.0.hw = ap (λ (k : Title). k.hw) title in
-    let submitters : t.submitters ≡ b.1.0.submitters = ap (λ (k : Title). k.submitters) title in
-    omega (arith, hw, submitters, b.1.4, h)
-
-after_once : (t : Title) (rows : List Row) (at other : ℕ) (w v : Why) → IsTitle t → AfterTitle t rows at w → AfterTitle t rows other v → (at ≡ other) × (w ≡ v)
-after_once t rows at other w v i (inl a) (inl b) = (a.0 ∙ sym b.0, setup_once rows w v a.1 b.1)
-after_once t rows at other w v i (inl a) (inr b) = absurd (setup_apart b.0 w b.1 b.2.whole b.2.row_is (rw b.3.1 at a.1))
-after_once t rows at other w v i (inr a) (inl b) = absurd (setup_apart a.0 v a.1 a.2.whole a.2.row_is (rw a.3.1 at b.1))
-after_once t rows at other w v i (inr a) (inr b) =
-    let rest = cons_same _ _ _ _ (sym a.3.1 ∙ b.3.1) in
-    let r = lines_once line_row (LineFits t.hw t.submitters) (StepWrong t.hw t.submitters) (tells t.hw t.submitters i.hw.1 i.submitters.1) (extent.AtMost 999_998) b.3.0 a.3.2.0 b.3.2.0 w v (rw rest.1 at a.3.2.2) b.3.2.2 in
-    (a.3.2.1 ∙ ap (λ (k : ℕ). 2 + k) r.0 ∙ sym b.3.2.1, r.1)
-
-pub one_fault : (rows : List Row) (at other : ℕ) (w v : Why) → ScriptFault rows at w → ScriptFault rows other v → (at ≡ other) × (w ≡ v)
-one_fault rows at other w v (inl a) (inl b) = (a.0 ∙ sym b.0, first_once rows w v a.1 b.1)
-one_fault rows at other w v (inl a) (inr b) = absurd (first_apart rows b.0 b.3.0 w b.1 b.2 b.3.1 a.1)
-one_fault rows at other w v (inr a) (inl b) = absurd (first_apart rows a.0 a.3.0 v a.1 a.2 a.3.1 b.1)
-one_fault rows at other w v (inr a) (inr b) =
-    let e = cons_same _ _ _ _ (sym a.3.1 ∙ b.3.1) in
-    let title = one_title a.0 b.0 a.1 b.1 e.0 in
-    after_once b.0 b.3.0 at other w v b.1 (rw (title, e.1) at a.3.2) b.3.2
-
--- faults after a good title
-
-past_title : (rows : List Row) (t : Title) (more : List Row) (at : ℕ) (w : Why) → IsTitle t → t.hw ≤ t.submitters → rows ≡ title_row t ∷ more → ScriptFault rows at w → AfterTitle t more at w
-past_title rows t more at w i h e (inl f) = absurd (first_apart rows t more w i h e f.1)
-past_title rows t more at w i h e (inr f) =
-    let rest = cons_same _ _ _ _ (sym f.3.1 ∙ e) in
-    let title = one_title f.0 t f.1 i rest.0 in
-    rw (title, rest.1) at f.3.2
-
--- faults after a good setup
-
-past_setup : (t : Title) (rows : List Row) (cells : Row) (s : Setup) (more : List Row) (at : ℕ) (w : Why) → SpellsSetup t.depth t.hw cells s → rows ≡ cells ∷ more → AfterTitle t rows at w
-    → (place : ℕ) × (at ≡ 2 + place) × LinesWrong line_row (LineFits t.hw t.submitters) (StepWrong t.hw t.submitters) (extent.AtMost 999_998) more place w
-past_setup t rows cells s more at w i e (inl f) = absurd (setup_apart cells w s i.whole i.row_is (rw e at f.1))
-past_setup t rows cells s more at w i e (inr f) =
-    let rest = cons_same _ _ _ _ (sym f.3.1 ∙ e) in
-    rw rest.1 at f.3.2
-
-later_place : (t : Title) (rows : List Row) (at : ℕ) (w : Why) → AfterTitle t rows at w → 2 ≤ at
-later_place t rows at w (inl f) = omega (arith, f.0)
-later_place t rows at w (inr f) = let is = f.3.2.1 in omega (arith, is)
-
--- the setup record is reached after a good title
-pub reached_setup : (rows : List Row) (t : Title) (more : List Row) (at : ℕ) → IsTitle t → t.hw ≤ t.submitters → rows ≡ title_row t ∷ more → at ≡ 2 → IsReached ScriptFault rows at
-reached_setup rows t more at i h e is =
-    let long : length rows ≡ length (title_row t ∷ more) = ap length e in
-    (omega (arith, long, is), λ k w l f. (let later = later_place t more k w (past_title rows t more k w i h e f) in omega (arith, later, is, l)))
-
--- a record after a good setup and good steps is reached
-pub reached_line : (rows : List Row) (t : Title) (cells : Row) (s : Setup) (more : List Row) (place at : ℕ) → IsTitle t → t.hw ≤ t.submitters → SpellsSetup t.depth t.hw cells s
-    → rows ≡ title_row t ∷ cells ∷ more
-    → at ≡ 2 + place → LinesBefore line_row (LineFits t.hw t.submitters) (extent.AtMost 999_998) more place → IsReached ScriptFault rows at
-reached_line rows t cells s more place at i h u e is before =
-    let far = lines_far line_row (LineFits t.hw t.submitters) (extent.AtMost 999_998) more place before in
-    let long : length rows ≡ length (title_row t ∷ cells ∷ more) = ap length e in (
-      omega (arith, far, long, is),
-      λ k w l f. (
-          let bad = past_setup t (cells ∷ more) cells s more k w u refl (past_title rows t (cells ∷ more) k w i h e f) in
-          let behind = lines_behind line_row (LineFits t.hw t.submitters) (StepWrong t.hw t.submitters) (tells t.hw t.submitters i.hw.1 i.submitters.1) (extent.AtMost 999_998) more place bad.0 w before bad.2 in
-          let there : k ≡ 2 + bad.0 = bad.1 in
-          omega (arith, behind, there, is, l)
-          ),
-    )
+pub step_reached : (left mid after : Option (List Row)) (t : ℕ × Title) (s : Setup) (middle start at last : ℕ) → middle ≡ 1 → start ≡ 2 → IsTitle t.1 → Reads title left mid t
+    → Reads (setup t.1.depth t.1.hw) mid after s → IsStopped (extent.AtMost 999_998) (step t.1.hw t.1.submitters) after start 0 at last → Reaches script_form left 0 at
+step_reached left mid after t s middle start at last e f i h k b =
+    second_reached title (λ t. script_body t.1) left mid t 0 middle at title_tells h (omega (arith, e))
+    (second_reached (setup t.1.depth t.1.hw) (λ s. items_of (extent.AtMost 999_998) (step t.1.hw t.1.submitters)) mid after s middle start at (setup_tells t.1.depth t.1.hw) k (omega (arith, e, f))
+    (each_reached line_row (LineFits t.1.hw t.1.submitters) why.Count (StepWrong t.1.hw t.1.submitters) (extent.AtMost 999_998) after start at last (step_tells t.1.hw t.1.submitters i.hw.1 i.submitters.1) b))

@@ -1,14 +1,11 @@
 -- The setup record of numbers that were read.
-use Rattle.std.proofs.Common.{◌≡◌, ℕ, List, [], ◌∷◌, Option, Some, None, true, refl, inr, arith, get_or, codes}
-use Rattle.std.specs.Prelude.{IfSome, ◌⊎◌}
+use Rattle.std.proofs.Common.{◌≡◌, ℕ, List, refl, arith, get_or, codes}
 use Rattle.blk_bio.specs.Limits.{Limits, IsLimits}
 use Rattle.blk_trace.specs.Setups.{Setup, IsSetup}
-use Rattle.blk_text.specs.Sources.{Row, Takes}
+use Rattle.blk_text.specs.Sources.{Row}
 use Rattle.blk_text.specs.Fields.{FieldsSpell}
-use Rattle.blk_text.specs.Faults.{IsOutside}
 use Rattle.blk_text.specs.Words.{StartsWith}
-use Rattle.blk_text.specs.SetupRecord.{setup_row, setup_slots, SpellsSetup, SetupWrong, SetupMissing}
-use Rattle.blk_text.specs.declared.fault.Why.{Why}
+use Rattle.blk_text.specs.SetupRecord.{setup_row, setup_slots, SpellsSetup}
 use Rattle.blk_text.proofs.StepLemmas.{six, first_is}
 
 -- the limits of the numbers of a record
@@ -31,10 +28,3 @@ setup_spelled row ns depth hw l s t f e a d b =
     let a2 = rw e at a in
     let b3 = rw e at b2 in
     rw (d, e) (record { row_is = setup_is row ns depth hw t f; depth_is = refl; hw_is = refl; whole = record { is_setup = b3; is_limits = a2 } })
-
-pub setup_wrong : (left after : Option (List Row)) (f : Row) (w : Why) (at : ℕ)
-    → Takes left after f true → SetupWrong f w → at ≡ 2
-    → IfSome left (λ rows. IsOutside w ⊎ ((at ≡ 2) × SetupMissing rows w))
-setup_wrong None after f w at t bad e = tt
-setup_wrong (Some []) after f w at t bad e = cc t
-setup_wrong (Some (r ∷ rs)) after f w at t bad e = inr (e, rw t.1 at bad)

@@ -12,9 +12,11 @@ use Rattle.blk_trace.specs.Traces.{Traced}
 use Rattle.blk_text.specs.Sources.{Row}
 use Rattle.blk_text.specs.Texts.{rows_text}
 use Rattle.blk_text.specs.BioRecord.{bio_row}
+use Rattle.blk_text.specs.SetupRecord.{setup_cells, FitsSetup}
 use Rattle.blk_text.specs.TraceRecords.{BioFits, EventFits, event_rows, trace_rows, IsTrace, SpellsTrace}
 use Rattle.blk_text.proofs.Lists.{head_of, tail_of, cons_same}
-use Rattle.blk_text.proofs.ScriptLaws.{six_same, value, value_is, IsWide, bio_at, bio_is, one_setup}
+use Rattle.blk_text.proofs.ScriptLaws.{value, value_is, IsWide, bio_at, bio_is, setup_table}
+use Rattle.blk_text.proofs.TableLaws.{table_tells}
 use Rattle.blk_text.proofs.Texts.{text_back}
 
 bios_back : (bios : List Bio) → map read_back (map bio_row bios) ≡ map bio_row bios
@@ -94,7 +96,9 @@ pub spelled_once : (rows : List Row) (t u : Traced) → SpellsTrace rows t → S
 spelled_once rows t u p q =
     let e = cons_same _ _ _ _ (sym p.0 ∙ q.0) in
     let f = cons_same _ _ _ _ e.1 in
-    let title = six_same _ _ _ _ _ _ _ _ _ _ _ _ e.0 in
-    let depth = decimal_injective t.setup.depth u.setup.depth (omega (arith, p.1.setup.is_setup.few_tags)) (omega (arith, q.1.setup.is_setup.few_tags)) title.2 in
-    let hw = decimal_injective t.setup.hw u.setup.hw (omega (arith, p.1.setup.is_setup.few_queues)) (omega (arith, q.1.setup.is_setup.few_queues)) title.3 in
-    (one_setup t.setup u.setup p.1.setup q.1.setup depth hw f.0, events_once t.events u.events p.1.events q.1.events f.1)
+    let title = (cons_same _ _ _ _ (cons_same _ _ _ _ e.0).1).1 in
+    let first = cons_same _ _ _ _ title in
+    let second = cons_same _ _ _ _ first.1 in
+    let depth = decimal_injective t.setup.depth u.setup.depth (omega (arith, p.1.setup.is_setup.few_tags)) (omega (arith, q.1.setup.is_setup.few_tags)) first.0 in
+    let hw = decimal_injective t.setup.hw u.setup.hw (omega (arith, p.1.setup.is_setup.few_queues)) (omega (arith, q.1.setup.is_setup.few_queues)) second.0 in
+    ((table_tells setup_cells (FitsSetup u.setup.depth u.setup.hw) (setup_table u.setup.depth u.setup.hw)).once t.setup u.setup (depth, hw, p.1.setup) (refl, refl, q.1.setup) f.0, events_once t.events u.events p.1.events q.1.events f.1)

@@ -1,5 +1,5 @@
 -- A certificate: a title, a bound, and a record for each command with its round.
-use Rattle.std.specs.Prelude.{◌≡◌, ◌⊎◌, ◌+◌, ◌≤◌, ◌<◌, ◌^◌, ◌-◌, ℕ, ℤ, pos, negsuc, suc, List, [], ◌∷◌, length, map, decimal, codes, All, Option, Some, None}
+use Rattle.std.specs.Prelude.{◌≡◌, ◌⊎◌, ◌≤◌, ◌<◌, ◌^◌, ◌-◌, ℕ, ℤ, pos, negsuc, suc, List, [], ◌∷◌, length, map, decimal, codes, All, Option, Some, None}
 use Rattle.std.specs.List.{zip}
 use Rattle.std.specs.Fmt.{signed_decimal}
 use Rattle.edd_check.specs.declared.Command.{Command}
@@ -7,14 +7,16 @@ use Rattle.edd_check.specs.declared.Window.{Window}
 use Rattle.blk_text.specs.Sources.{Row}
 use Rattle.blk_text.specs.Fields.{Lacks}
 use Rattle.blk_text.specs.Commands.{IsCommandInRange}
-use Rattle.blk_text.specs.Faults.{TitleMissing, LinesWrong, NextWrong}
+use Rattle.blk_text.specs.Reads.{items_of}
+use Rattle.blk_text.specs.Tables.{Cell, Word, Number, Signed, slots_by, table_record, title_record}
 use Rattle.blk_text.specs.Words.{StartsWith, HasNoWord}
 use Rattle.blk_text.specs.declared.certificate.Certificate.{Certificate}
 use Rattle.blk_text.specs.declared.fault.Why.{Why}
 use Rattle.blk_text.specs.declared.fault.Why.TheVariants as why
 use Rattle.blk_text.specs.declared.fields.Slot.{Slot}
 use Rattle.blk_text.specs.declared.fields.Slot.TheVariants as slot
-use Rattle.blk_text.specs.declared.lines.Extent.TheVariants as extent
+use Rattle.parts.specs.declared.Extent.TheVariants as extent
+use Rattle.parts.specs.Parts.{Part, then, record_of, Spells}
 
 -- a certificate: the depth, the commands and their rounds by place, and a lateness with its window
 pub record Claim : Type 0 where
@@ -28,20 +30,24 @@ abbrev pub claimed : Certificate → Claim
 claimed c = record { depth = c.depth; commands = c.commands.items; rounds = c.rounds.items; bound = c.bound }
 
 -- title: blk-certificate, 1, depth, number of commands
-abbrev pub title_slots : List Slot
-title_slots = slot.Given ∷ slot.Given ∷ slot.Number 1 64 ∷ slot.Number 0 1_000_000 ∷ []
+abbrev pub counted_cells : ℕ → List (Cell (ℕ × ℕ))
+counted_cells version = Number 1 256 (λ t. t.0) ∷ Number 0 1_000_000 (λ t. t.1) ∷ []
+
+-- a depth and a number of commands
+abbrev pub IsCounted : ℕ × ℕ → Type 0
+IsCounted t = (1 ≤ t.0) × (t.0 ≤ 256) × (t.1 ≤ 1_000_000)
 
 -- bound: bound, lateness, window's from, window's due
-abbrev pub bound_slots : List Slot
-bound_slots = slot.Given ∷ slot.Lateness (2 ^ 41 - 1) ∷ slot.Number 0 (2 ^ 41 - 1) ∷ slot.Number 0 (2 ^ 41 - 1) ∷ []
+abbrev pub bound_cells : List (Cell (ℤ × Window))
+bound_cells = Word (codes "bound") ∷ Signed (2 ^ 41 - 1) (λ b. b.0) ∷ Number 0 (2 ^ 41 - 1) (λ b. b.1.from) ∷ Number 0 (2 ^ 41 - 1) (λ b. b.1.due) ∷ []
 
 -- a lateness and two numbers beside no commands: no window is in range
 abbrev pub no_bound_slots : List Slot
 no_bound_slots = slot.Given ∷ slot.Lateness (2 ^ 41 - 1) ∷ slot.Number 1 0 ∷ slot.Number 1 0 ∷ []
 
 -- each command: id, release, due, round
-abbrev pub served_slots : List Slot
-served_slots = slot.Number 0 (2 ^ 64 - 1) ∷ slot.Number 0 (2 ^ 40 - 1) ∷ slot.Number 0 (2 ^ 41 - 1) ∷ slot.Number 0 (2 ^ 41 - 1) ∷ []
+abbrev pub served_cells : List (Cell (Command × ℕ))
+served_cells = Number 0 (2 ^ 64 - 1) (λ s. s.0.id) ∷ Number 0 (2 ^ 40 - 1) (λ s. s.0.release) ∷ Number 0 (2 ^ 41 - 1) (λ s. s.0.due) ∷ Number 0 (2 ^ 41 - 1) (λ s. s.1) ∷ []
 
 -- the title record
 abbrev pub title_row : ℕ → ℕ → Row
@@ -76,38 +82,46 @@ claim_rows c = title_row c.depth (length c.commands) ∷ bound_row c.bound ∷ m
 
 -- a round for each command, and each number in its range
 pub record IsClaim (c : Claim) : Type 0 where
-  pub depth : (1 ≤ c.depth) × (c.depth ≤ 64)
+  pub depth : (1 ≤ c.depth) × (c.depth ≤ 256)
   pub few : length c.commands ≤ 1_000_000
   pub one_each : length c.rounds ≡ length c.commands
   pub bound : IsBound (length c.commands) c.bound
   pub commands : All IsCommandInRange c.commands
   pub rounds : All (λ x. x < 2 ^ 41) c.rounds
 
--- the records spell this certificate
-abbrev pub SpellsClaim : List Row → Claim → Type 0
-SpellsClaim rows c = (rows ≡ claim_rows c) × IsClaim c
-
 -- what is wrong with the fields of a bound for so many commands
 abbrev pub BoundLacks : ℕ → Row → Why → Type 0
-BoundLacks count row w = ((0 < count) × Lacks bound_slots row w) ⊎ ((count ≡ 0) × ¬ (row ≡ bound_row None) × Lacks no_bound_slots row w)
+BoundLacks count row w = ((0 < count) × Lacks (slots_by bound_cells) row w) ⊎ ((count ≡ 0) × ¬ (row ≡ bound_row None) × Lacks no_bound_slots row w)
 
 -- what is wrong with the second record, for so many commands
 abbrev pub BoundWrong : ℕ → Row → Why → Type 0
 BoundWrong count row w = (StartsWith (codes "bound") row × BoundLacks count row w) ⊎ ((¬ StartsWith (codes "bound") row) × HasNoWord 4 row w)
 
--- the bound never came, or is wrong
-abbrev pub BoundMissing : ℕ → List Row → Why → Type 0
-BoundMissing count = NextWrong (λ v. v ≡ why.Word) (BoundWrong count)
+abbrev pub title : Part Row Why (ℕ × (ℕ × ℕ))
+title = title_record (codes "blk-certificate") 1 counted_cells IsCounted
 
--- the first fault after a good title: of the bound, or of the lines after a good bound
-abbrev pub AfterTitle : ℕ → List Row → ℕ → Why → Type 0
-AfterTitle count rows at w =
-    ((at ≡ 2) × BoundMissing count rows w)
-    ⊎ ((bound : Option (ℤ × Window)) × (rest : List Row) × IsBound count bound × (rows ≡ bound_row bound ∷ rest)
-    × ((place : ℕ) × (at ≡ 2 + place) × LinesWrong served_row IsServed (Lacks served_slots) (extent.Exactly count) rest place w))
+abbrev pub bound : ℕ → Part Row Why (Option (ℤ × Window))
+bound count = record_of bound_row (IsBound count) why.Word (BoundWrong count)
 
--- the first fault of a certificate: of its title, or after a good one
+abbrev pub served : List (Command × ℕ) → Part Row Why (Command × ℕ)
+served before = table_record why.Count served_cells IsServed
+
+-- a bound and so many commands
+abbrev pub claim_body : ℕ → Part Row Why (Option (ℤ × Window) × List (Command × ℕ))
+claim_body count = then (bound count) (λ b. items_of (extent.Exactly count) served)
+
+-- a title with the depth and the number of commands, a bound, and just so many commands with their rounds
+abbrev pub claim_form : Part Row Why ((ℕ × (ℕ × ℕ)) × (Option (ℤ × Window) × List (Command × ℕ)))
+claim_form = then title (λ t. claim_body t.1.1)
+
+-- what the records of a certificate tell
+abbrev pub claim_value : Claim → (ℕ × (ℕ × ℕ)) × (Option (ℤ × Window) × List (Command × ℕ))
+claim_value c = ((1, (c.depth, length c.commands)), (c.bound, zip c.commands c.rounds))
+
+-- the records spell this certificate
+abbrev pub SpellsClaim : List Row → Claim → Type 0
+SpellsClaim rows c = (length c.rounds ≡ length c.commands) × Spells claim_form rows (claim_value c)
+
+-- the first fault of a certificate
 abbrev pub ClaimFault : List Row → ℕ → Why → Type 0
-ClaimFault rows at w =
-    ((at ≡ 1) × TitleMissing (codes "blk-certificate") title_slots rows w)
-    ⊎ ((depth count : ℕ) × (rest : List Row) × (1 ≤ depth) × (depth ≤ 64) × (count ≤ 1_000_000) × (rows ≡ title_row depth count ∷ rest) × AfterTitle count rest at w)
+ClaimFault = claim_form.Wrong

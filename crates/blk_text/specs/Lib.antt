@@ -1,6 +1,5 @@
 pub mod Sources
 pub mod Fields
-pub mod Faults
 pub mod Words
 pub mod Commands
 pub mod SetupRecord
@@ -11,3 +10,5 @@ pub mod TraceRecords
 pub mod Cells
 pub mod Drafts
 pub mod Certificate
+pub mod Tables
+pub mod Reads

@@ -5,15 +5,17 @@ use Rattle.blk_bio.specs.Bios.{Bio, IsBio, IsBioAnswer}
 use Rattle.blk_bio.specs.declared.bio.BioFault.{BioFault}
 use Rattle.blk_trace.specs.Setups.{Setup}
 use Rattle.blk_text.specs.Sources.{Row}
-use Rattle.blk_text.specs.Faults.{TitleMissing, LinesWrong}
+use Rattle.blk_text.specs.Reads.{items_of}
+use Rattle.blk_text.specs.Tables.{Cell, Number, title_record}
 use Rattle.blk_text.specs.Words.{WordWrong}
 use Rattle.blk_text.specs.BioRecord.{bio_row}
-use Rattle.blk_text.specs.SetupRecord.{setup_row, SpellsSetup, IsWholeSetup, SetupMissing}
+use Rattle.blk_text.specs.SetupRecord.{setup_row, IsWholeSetup, setup}
 use Rattle.blk_text.specs.declared.fault.Why.{Why}
 use Rattle.blk_text.specs.declared.fault.Why.TheVariants as why
 use Rattle.blk_text.specs.declared.fields.Slot.{Slot}
 use Rattle.blk_text.specs.declared.fields.Slot.TheVariants as slot
-use Rattle.blk_text.specs.declared.lines.Extent.TheVariants as extent
+use Rattle.parts.specs.declared.Extent.TheVariants as extent
+use Rattle.parts.specs.Parts.{Part, then, tested, record_of, Spells}
 use Rattle.blk_text.specs.declared.script.Line.{Line}
 use Rattle.blk_text.specs.declared.script.Line.TheVariants as line
 use Rattle.blk_text.specs.declared.script.Script.{Script}
@@ -26,8 +28,8 @@ abbrev pub any : Slot
 any = slot.Number 0 (2 ^ 64 - 1)
 
 -- title: blk-script, 1, depth, hardware queues, soft depth, submitters
-abbrev pub title_slots : List Slot
-title_slots = slot.Given ∷ slot.Given ∷ slot.Number 1 64 ∷ slot.Number 1 16 ∷ slot.Number 1 1024 ∷ slot.Number 1 64 ∷ []
+abbrev pub script_cells : ℕ → List (Cell Title)
+script_cells version = Number 1 64 (λ t. t.depth) ∷ Number 1 16 (λ t. t.hw) ∷ Number 1 1024 (λ t. t.soft_depth) ∷ Number 1 64 (λ t. t.submitters) ∷ []
 
 -- the words of the steps
 abbrev pub word_of : Word → List ℕ
@@ -116,23 +118,41 @@ pub record IsScript (s : Scripted) : Type 0 where
   pub lines : All (LineFits s.setup.hw s.submitters) s.lines
   pub short : length s.lines ≤ 999_998
 
+-- a title whose numbers lie in their own ranges
+abbrev pub plain_title : Part Row Why (ℕ × Title)
+plain_title = title_record (codes "blk-script") 1 script_cells IsTitle
+
+-- as many submitters as hardware queues at least
+abbrev pub IsEnough : ℕ × Title → Type 0
+IsEnough t = t.1.hw ≤ t.1.submitters
+
+-- fewer submitters are out of range too, once the title's own ranges hold
+abbrev pub TooFew : ℕ × Title → ℕ → Why → Type 0
+TooFew t k w = (k ≡ 1) × (w ≡ why.Range) × (t.1.submitters < t.1.hw)
+
+abbrev pub title : Part Row Why (ℕ × Title)
+title = tested plain_title IsEnough TooFew
+
+-- a step, for so many hardware queues and submitters
+abbrev pub step : ℕ → ℕ → List Line → Part Row Why Line
+step hw submitters before = record_of line_row (LineFits hw submitters) why.Count (StepWrong hw submitters)
+
+-- a setup and at most 999,998 steps
+abbrev pub script_body : Title → Part Row Why (Setup × List Line)
+script_body t = then (setup t.depth t.hw) (λ s. items_of (extent.AtMost 999_998) (step t.hw t.submitters))
+
+-- a title, a setup and steps
+abbrev pub script_form : Part Row Why ((ℕ × Title) × (Setup × List Line))
+script_form = then title (λ t. script_body t.1)
+
+-- what the records of a script tell
+abbrev pub script_value : Scripted → (ℕ × Title) × (Setup × List Line)
+script_value s = ((1, title_of s), (s.setup, s.lines))
+
 -- the records spell this script
 abbrev pub SpellsScript : List Row → Scripted → Type 0
-SpellsScript rows s = (rows ≡ script_rows s) × IsScript s
+SpellsScript rows s = Spells script_form rows (script_value s)
 
--- fewer submitters than hardware queues are out of range too, once the title's own ranges hold
-abbrev pub FewSubmitters : List Row → Why → Type 0
-FewSubmitters rows w = (w ≡ why.Range) × ((t : Title) × (rest : List Row) × (rows ≡ title_row t ∷ rest) × IsTitle t × (t.submitters < t.hw))
-
--- the first fault after a good title: of the setup, or of the steps after a good setup
-abbrev pub AfterTitle : Title → List Row → ℕ → Why → Type 0
-AfterTitle t rows at w =
-    ((at ≡ 2) × SetupMissing rows w)
-    ⊎ ((row : Row) × (s : Setup) × SpellsSetup t.depth t.hw row s × ((rest : List Row) × (rows ≡ row ∷ rest)
-    × ((place : ℕ) × (at ≡ 2 + place) × LinesWrong line_row (LineFits t.hw t.submitters) (StepWrong t.hw t.submitters) (extent.AtMost 999_998) rest place w)))
-
--- the first fault of a script: of its title, or after a good one
+-- the first fault of a script
 abbrev pub ScriptFault : List Row → ℕ → Why → Type 0
-ScriptFault rows at w =
-    ((at ≡ 1) × (TitleMissing (codes "blk-script") title_slots rows w ⊎ FewSubmitters rows w))
-    ⊎ ((t : Title) × IsTitle t × (t.hw ≤ t.submitters) × ((rest : List Row) × (rows ≡ title_row t ∷ rest) × AfterTitle t rest at w))
+ScriptFault = script_form.Wrong

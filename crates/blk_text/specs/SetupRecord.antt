@@ -3,16 +3,20 @@ use Rattle.std.specs.Prelude.{◌≡◌, ◌-◌, ◌^◌, ℕ, List, [], ◌∷
 use Rattle.blk_bio.specs.Limits.{IsLimits}
 use Rattle.blk_trace.specs.Setups.{Setup, IsSetup}
 use Rattle.blk_text.specs.Sources.{Row}
-use Rattle.blk_text.specs.Faults.{NextWrong}
+use Rattle.blk_text.specs.Tables.{Cell, Word, Number, Blank, slots_by}
 use Rattle.blk_text.specs.Words.{WordWrong}
 use Rattle.blk_text.specs.declared.fault.Why.{Why}
 use Rattle.blk_text.specs.declared.fault.Why.TheVariants as why
 use Rattle.blk_text.specs.declared.fields.Slot.{Slot}
-use Rattle.blk_text.specs.declared.fields.Slot.TheVariants as slot
+use Rattle.parts.specs.Parts.{Part, record_of}
 
 -- setup: setup, read_expire, write_expire, max_sectors, max_segments, empty
+abbrev pub setup_cells : List (Cell Setup)
+setup_cells = Word (codes "setup") ∷ Number 0 (2 ^ 40 - 1) (λ s. s.read_expire) ∷ Number 0 (2 ^ 40 - 1) (λ s. s.write_expire)
+    ∷ Number 1 65535 (λ s. s.limits.max_sectors) ∷ Number 1 128 (λ s. s.limits.max_segments) ∷ Blank ∷ []
+
 abbrev pub setup_slots : List Slot
-setup_slots = slot.Given ∷ slot.Number 0 (2 ^ 40 - 1) ∷ slot.Number 0 (2 ^ 40 - 1) ∷ slot.Number 1 65535 ∷ slot.Number 1 128 ∷ slot.Blank ∷ []
+setup_slots = slots_by setup_cells
 
 -- the setup record of a setup; its depth and hardware queues stand in the title
 abbrev pub setup_row : Setup → Row
@@ -34,6 +38,10 @@ pub record SpellsSetup (depth hw : ℕ) (row : Row) (s : Setup) : Type 0 where
 abbrev pub SetupWrong : Row → Why → Type 0
 SetupWrong = WordWrong {W = Unit {0}} (λ _. codes "setup") (λ _. setup_slots) 6
 
--- the setup never came, or is wrong
-abbrev pub SetupMissing : List Row → Why → Type 0
-SetupMissing = NextWrong (λ v. v ≡ why.Word) SetupWrong
+-- a setup of so many tags and hardware queues
+abbrev pub FitsSetup : ℕ → ℕ → Setup → Type 0
+FitsSetup depth hw s = (s.depth ≡ depth) × (s.hw ≡ hw) × IsWholeSetup s
+
+-- the setup record, for so many tags and hardware queues
+abbrev pub setup : ℕ → ℕ → Part Row Why Setup
+setup depth hw = record_of setup_row (FitsSetup depth hw) why.Word SetupWrong

@@ -5,21 +5,26 @@ ghost use Rattle.std.specs.Fmt.{signed_decimal};
 ghost use Rattle.std.specs.Io.KnownBytes.{Appends};
 ghost use Rattle.csv.specs.Records.{fields_of};
 ghost use Rattle.blk_text.specs.Sources.{Took};
-ghost use Rattle.blk_text.specs.Faults.{IsOutside, IsReached, TitleMissing};
+ghost use Rattle.parts.specs.Parts.{Begins};
+ghost use Rattle.blk_text.specs.Reads.{IsOutside, Reads, Fails, Reaches};
+ghost use Rattle.blk_text.specs.Tables.{slots_by};
 ghost use Rattle.blk_text.specs.Fields.{IsSized, FieldsSpell};
 ghost use Rattle.blk_text.specs.Words.{StartsWith};
 ghost use Rattle.blk_text.specs.Texts.{rows_text};
 ghost use Rattle.blk_text.specs.Drafts.{drafted};
-ghost use Rattle.blk_text.specs.Certificate.{claimed, IsClaim, SpellsClaim, ClaimFault, claim_rows, title_row, title_slots, bound_row, bound_slots, BoundLacks, BoundWrong, BoundMissing, IsBound, IsLateness, IsServed, served_row};
+ghost use Rattle.blk_text.specs.Certificate.{claimed, claim_form, IsClaim, SpellsClaim, ClaimFault, claim_rows, title_row, bound_row, bound_cells, BoundLacks, BoundWrong, IsBound, IsLateness, served_row};
 
-use crate::draft::{Draft, write_whole};
+use crate::block::{Block, write_whole};
 use crate::fault::{TextFault, Why, WriteFault};
-use crate::fields::{Slot, WIDTH, after_minus, begins_with, field, read_fields, without_word};
-use crate::lines::{Extent, LineForm, read_lines, read_title};
+use crate::fields::{
+    Slot, WIDTH, after_minus, begins_with, field, read_fields, version_of, without_word,
+};
+use crate::items::{Each, LineForm, read_items, read_line};
 use crate::pieces::{put, put_two};
 use crate::source::Records;
 use csv::ByteRecord;
 use edd_check::{Command, Window};
+use parts::Extent;
 use std::alloc::{AllocError, Global};
 use std::io::{Read, Write};
 
@@ -36,21 +41,105 @@ pub struct Certificate {
     pub bound: Option<(i64, Window)>,
 }
 
+/// The title record: the version, and with it the depth and the number of commands.
+#[derive(Clone, Copy, Drop)]
+pub(crate) struct TitleForm;
+
+impl LineForm for TitleForm {
+    ghost use Rattle.std.specs.Prelude.{codes};
+    ghost use Rattle.blk_text.specs.Certificate.{counted_cells, IsCounted};
+    ghost use Rattle.blk_text.specs.Tables.{title_by, IsVersion, TitleLacks};
+    ghost use Rattle.blk_text.specs.declared.fault.Why.TheVariants as why;
+
+    type Line = (u64, (u64, u64));
+
+    ghost row_of = { λ _. title_by (codes "blk-certificate") counted_cells };
+
+    ghost Fits = { λ _ t. IsVersion 1 t.0 × IsCounted t.1 };
+
+    ghost Refused = { λ _. TitleLacks (codes "blk-certificate") 1 counted_cells };
+
+    ghost missing = { why.Title };
+
+    fn gone(&self) -> Why {
+        Why::Title
+    }
+
+    fn line(&self, row: &ByteRecord) -> Result<(u64, (u64, u64)), Why> {
+        let Some(version) = version_of(row, b"blk-certificate", 1) else {
+            return Err(Why::Title);
+        };
+        let slots = [
+            Slot::Given,
+            Slot::Given,
+            Slot::Number { least: 1, most: 256 },
+            Slot::Number {
+                least: 0,
+                most: 1_000_000,
+            },
+        ];
+        match read_fields(row, &slots) {
+            Ok(numbers) => Ok((version, (numbers[2], numbers[3]))),
+            Err(why) => Err(why),
+        }
+    }
+}
+
+/// The bound for so many commands.
+#[derive(Clone, Copy, Drop)]
+pub(crate) struct BoundForm {
+    count: u64,
+}
+
+impl LineForm for BoundForm {
+    ghost use Rattle.blk_text.specs.Certificate.{bound_row, IsBound, BoundWrong};
+    ghost use Rattle.blk_text.specs.declared.fault.Why.TheVariants as why;
+
+    type Line = Option<(i64, Window)>;
+
+    ghost row_of = { λ _. bound_row };
+
+    ghost Fits = { λ f. IsBound f.count };
+
+    ghost Refused = { λ f. BoundWrong f.count };
+
+    ghost missing = { why.Word };
+
+    fn gone(&self) -> Why {
+        Why::Word
+    }
+
+    fn line(&self, row: &ByteRecord) -> Result<Option<(i64, Window)>, Why> {
+        if !begins_with(row, b"bound") {
+            return Err(without_word(row, 4));
+        }
+        bound_of(row, self.count)
+    }
+}
+
 /// A record of a certificate: id, release, due, round.
 #[derive(Clone, Copy, Drop)]
 pub(crate) struct ServedForm;
 
 impl LineForm for ServedForm {
-    ghost use Rattle.blk_text.specs.Certificate.{served_row, IsServed, served_slots};
+    ghost use Rattle.blk_text.specs.Certificate.{served_cells, IsServed};
+    ghost use Rattle.blk_text.specs.Tables.{row_by, slots_by};
     ghost use Rattle.blk_text.specs.Fields.{Lacks};
+    ghost use Rattle.blk_text.specs.declared.fault.Why.TheVariants as why;
 
     type Line = (Command, u64);
 
-    ghost row_of = { λ _. served_row };
+    ghost row_of = { λ _. row_by served_cells };
 
     ghost Fits = { λ _. IsServed };
 
-    ghost Refused = { λ _. Lacks served_slots };
+    ghost Refused = { λ _. Lacks (slots_by served_cells) };
+
+    ghost missing = { why.Count };
+
+    fn gone(&self) -> Why {
+        Why::Count
+    }
 
     fn line(&self, row: &ByteRecord) -> Result<(Command, u64), Why> {
         let round = Slot::Number {
@@ -112,7 +201,7 @@ fn is_no_bound(row: &ByteRecord) -> bool
 fn bound_with(row: &ByteRecord, numbers: &[u64; WIDTH], count: u64) -> (i64, Window)
     requires some { 0 < count }
     requires starts { StartsWith (codes "bound") (fields_of row.now) }
-    requires spells { FieldsSpell bound_slots (fields_of row.now) numbers.now }
+    requires spells { FieldsSpell (slots_by bound_cells) (fields_of row.now) numbers.now }
     ensures row { fields_of row.now ≡ bound_row (Some result) }
     ensures range { IsBound count (Some result) }
 {
@@ -150,65 +239,6 @@ fn bound_of(row: &ByteRecord, count: u64) -> Result<Option<(i64, Window)>, Why>
         Ok(numbers) => Ok(Some(bound_with(row, &numbers, count))),
         Err(why) => Err(why),
     }
-}
-
-// The bound of the second record, for so many commands.
-fn bound_at(row: &ByteRecord, count: u64) -> Result<Option<(i64, Window)>, Why>
-    ensures ok { IfOk result (λ b. (fields_of row.now ≡ bound_row b) × IsBound count b) }
-    ensures err { IfErr result (BoundWrong count (fields_of row.now)) }
-{
-    if !begins_with(row, b"bound") {
-        return Err(without_word(row, 4));
-    }
-    bound_of(row, count)
-}
-
-// The bound, which is the next record.
-fn read_bound<R: Read + Drop>(
-    records: &mut Records<R>,
-    count: u64,
-) -> Result<Option<(i64, Window)>, TextFault>
-    requires start { records.old.at ≡ 1 }
-    ensures at { records.new.at ≡ 2 }
-    ensures ok { IfOk result (λ b. Took (λ row. row ≡ bound_row b) records.old.left records.new.left) }
-    // also where the reader's bytes are not known
-    ensures range { IfOk result (IsBound count) }
-    // at the record that was asked for last: none was read past it
-    ensures last { IfErr result (λ f. f.at ≡ records.new.at) }
-    ensures err { IfErr result (λ f. IfSome records.old.left (λ rows. IsOutside f.why ⊎ ((f.at ≡ 2) × BoundMissing count rows f.why))) }
-{
-    if !records.advance()? {
-        return Err(records.fault(Why::Word));
-    }
-    match bound_at(records.row(), count) {
-        Ok(bound) => Ok(bound),
-        Err(why) => Err(records.fault(why)),
-    }
-}
-
-// The depth and the number of commands of the title record, which is the next one.
-fn read_certificate_title<R: Read + Drop>(records: &mut Records<R>) -> Result<(u64, u64), TextFault>
-    requires start { records.old.at ≡ 0 }
-    ensures at { records.new.at ≡ 1 }
-    ensures ok { IfOk result (λ t. Took (λ row. row ≡ title_row t.0 t.1) records.old.left records.new.left) }
-    // also where the reader's bytes are not known
-    ensures range { IfOk result (λ t. (1 ≤ t.0) × (t.0 ≤ 64) × (t.1 ≤ 1_000_000)) }
-    // at the record that was asked for last: none was read past it
-    ensures last { IfErr result (λ f. f.at ≡ records.new.at) }
-    ensures err { IfErr result (λ f. IfSome records.old.left (λ rows. IsOutside f.why
-        ⊎ ((f.at ≡ 1) × TitleMissing (codes "blk-certificate") title_slots rows f.why))) }
-{
-    let slots = [
-        Slot::Given,
-        Slot::Given,
-        Slot::Number { least: 1, most: 64 },
-        Slot::Number {
-            least: 0,
-            most: 1_000_000,
-        },
-    ];
-    let numbers = read_title(records, b"blk-certificate", &slots)?;
-    Ok((numbers[2], numbers[3]))
 }
 
 // The commands of lines.
@@ -253,22 +283,23 @@ pub fn read_certificate<R: Read + Drop>(
     // at the record that was asked for last: none was read past it
     ensures last { IfErr result (λ f. f.at ≡ records.new.at) }
     ensures err { IfErr result (λ f. IfSome records.old.left (λ rows.
-        IsOutside f.why ⊎ ClaimFault rows f.at f.why)) }
+        IsOutside records.new.failed f.why ⊎ ClaimFault rows f.at f.why)) }
     // also where it came from outside: at most one past the last record, and no record before it is wrong
-    ensures reached { IfErr result (λ f. IfSome records.old.left (λ rows. IsReached ClaimFault rows f.at)) }
+    ensures reached { IfErr result (λ f. Reaches claim_form records.old.left 0 f.at) }
     ensures reads { (1 ≤ records.new.at) × (records.new.at ≤ 1_000_003) }
     // the last thing that was asked for is the record after the commands, which there is not
     ensures end { IfOk result (λ c. records.new.at ≡ length c.commands.items + 3) }
 {
-    let (depth, count) = match read_certificate_title(records) {
+    let (_, (depth, count)) = match read_line(records, &TitleForm) {
         Ok(title) => title,
         Err(fault) => return Err(fault),
     };
-    let bound = match read_bound(records, count) {
+    let bound = match read_line(records, &BoundForm { count }) {
         Ok(bound) => bound,
         Err(fault) => return Err(fault),
     };
-    let served = match read_lines(alloc, records, &ServedForm, Extent::Exactly(count)) {
+    let form = Each { form: ServedForm };
+    let served = match read_items(alloc, records, &form, Extent::Exactly(count)) {
         Ok(served) => served,
         Err(fault) => return Err(fault),
     };
@@ -284,7 +315,7 @@ pub fn read_certificate<R: Read + Drop>(
 }
 
 // Adds the title record.
-fn push_title(draft: &mut Draft, depth: u64, count: u64) -> Result<(), AllocError>
+fn push_title(draft: &mut Block, depth: u64, count: u64) -> Result<(), AllocError>
     ensures text { OnOk result (drafted draft.new ≡ drafted draft.old ++ rows_text (title_row depth count ∷ [])) }
 {
     let start = draft.room()?;
@@ -296,7 +327,7 @@ fn push_title(draft: &mut Draft, depth: u64, count: u64) -> Result<(), AllocErro
 }
 
 // Adds the record that says that there is no bound.
-fn push_no_bound(draft: &mut Draft) -> Result<(), AllocError>
+fn push_no_bound(draft: &mut Block) -> Result<(), AllocError>
     ensures text { OnOk result (drafted draft.new ≡ drafted draft.old ++ rows_text (bound_row None ∷ [])) }
 {
     let start = draft.room()?;
@@ -307,7 +338,7 @@ fn push_no_bound(draft: &mut Draft) -> Result<(), AllocError>
 // Adds the record of a lateness and its window.
 fn push_some_bound(
     alloc: Global,
-    draft: &mut Draft,
+    draft: &mut Block,
     lateness: i64,
     window: Window,
 ) -> Result<(), AllocError>
@@ -327,7 +358,7 @@ fn push_some_bound(
 // Adds the record of a bound.
 fn push_bound(
     alloc: Global,
-    draft: &mut Draft,
+    draft: &mut Block,
     bound: Option<(i64, Window)>,
 ) -> Result<(), AllocError>
     ensures text { OnOk result (drafted draft.new ≡ drafted draft.old ++ rows_text (bound_row bound ∷ [])) }
@@ -340,7 +371,7 @@ fn push_bound(
 
 // Adds the record of a command and its round.
 #[inline]
-fn push_served(draft: &mut Draft, command: &Command, round: u64) -> Result<(), AllocError>
+fn push_served(draft: &mut Block, command: &Command, round: u64) -> Result<(), AllocError>
     ensures text { OnOk result (drafted draft.new ≡ drafted draft.old ++ rows_text (served_row (command.now, round) ∷ [])) }
 {
     let start = draft.room()?;
@@ -357,7 +388,7 @@ fn certificate_text(alloc: Global, certificate: &Certificate) -> Result<Vec<u8>,
     requires { IsClaim (claimed certificate.now) }
     ensures { IfOk result (λ v. v.items ≡ rows_text (claim_rows (claimed certificate.now))) }
 {
-    let mut draft = Draft::new(alloc);
+    let mut draft = Block::new(alloc);
     let commands = certificate.commands.as_slice();
     let rounds = certificate.rounds.as_slice();
     push_title(&mut draft, certificate.depth, commands.len() as u64)?;

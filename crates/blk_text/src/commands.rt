@@ -5,38 +5,88 @@ ghost use Rattle.std.specs.Io.KnownBytes.{Appends};
 ghost use Rattle.csv.specs.Records.{fields_of};
 ghost use Rattle.blk_text.specs.Texts.{rows_text};
 ghost use Rattle.blk_text.specs.Drafts.{drafted};
-ghost use Rattle.blk_text.specs.Faults.{IsOutside, IsReached};
-ghost use Rattle.blk_text.specs.Commands.{AreCommands, SpellsCommands, CommandsFault, command_row, commands_rows, title_row};
+ghost use Rattle.parts.specs.Parts.{Begins};
+ghost use Rattle.blk_text.specs.Reads.{IsOutside, Reads, Fails, Reaches};
+ghost use Rattle.blk_text.specs.Commands.{AreCommands, SpellsCommands, CommandsFault, command_list, command_row, commands_rows, title_row};
 
-use crate::draft::{Draft, write_whole};
+use crate::block::{Block, write_whole};
 use crate::fault::{TextFault, Why, WriteFault};
-use crate::fields::{Slot, read_fields};
-use crate::lines::{Extent, LineForm, read_lines, read_title};
+use crate::fields::{Slot, read_fields, version_of};
+use crate::items::{Each, LineForm, read_items, read_line};
 use crate::pieces::{put, put_number, put_two};
 use crate::source::Records;
 use csv::ByteRecord;
 use edd_check::Command;
+use parts::Extent;
 use std::alloc::{AllocError, Global};
 use std::io::{Read, Write};
 
 /// The most commands of a list.
 pub const MOST_COMMANDS: u64 = 1_000_000;
 
+/// The title record: the version and the depth.
+#[derive(Clone, Copy, Drop)]
+pub(crate) struct TitleForm;
+
+impl LineForm for TitleForm {
+    ghost use Rattle.std.specs.Prelude.{codes};
+    ghost use Rattle.blk_text.specs.Commands.{depth_cells, IsDepth};
+    ghost use Rattle.blk_text.specs.Tables.{title_by, IsVersion, TitleLacks};
+    ghost use Rattle.blk_text.specs.declared.fault.Why.TheVariants as why;
+
+    type Line = (u64, u64);
+
+    ghost row_of = { λ _. title_by (codes "blk-commands") depth_cells };
+
+    ghost Fits = { λ _ t. IsVersion 1 t.0 × IsDepth t.1 };
+
+    ghost Refused = { λ _. TitleLacks (codes "blk-commands") 1 depth_cells };
+
+    ghost missing = { why.Title };
+
+    fn gone(&self) -> Why {
+        Why::Title
+    }
+
+    fn line(&self, row: &ByteRecord) -> Result<(u64, u64), Why> {
+        let Some(version) = version_of(row, b"blk-commands", 1) else {
+            return Err(Why::Title);
+        };
+        let slots = [
+            Slot::Given,
+            Slot::Given,
+            Slot::Number { least: 1, most: 256 },
+        ];
+        match read_fields(row, &slots) {
+            Ok(numbers) => Ok((version, numbers[2])),
+            Err(why) => Err(why),
+        }
+    }
+}
+
 /// A record of a command list: id, release, due.
 #[derive(Clone, Copy, Drop)]
 pub(crate) struct CommandForm;
 
 impl LineForm for CommandForm {
-    ghost use Rattle.blk_text.specs.Commands.{command_row, IsCommandInRange, command_slots};
+    ghost use Rattle.blk_text.specs.Commands.{command_cells, IsCommandInRange};
+    ghost use Rattle.blk_text.specs.Tables.{row_by, slots_by};
     ghost use Rattle.blk_text.specs.Fields.{Lacks};
+    ghost use Rattle.blk_text.specs.declared.fault.Why.TheVariants as why;
 
     type Line = Command;
 
-    ghost row_of = { λ _. command_row };
+    ghost row_of = { λ _. row_by command_cells };
 
     ghost Fits = { λ _. IsCommandInRange };
 
-    ghost Refused = { λ _. Lacks command_slots };
+    ghost Refused = { λ _. Lacks (slots_by command_cells) };
+
+    ghost missing = { why.Count };
+
+    fn gone(&self) -> Why {
+        Why::Count
+    }
 
     fn line(&self, row: &ByteRecord) -> Result<Command, Why> {
         let slots = [
@@ -64,7 +114,7 @@ impl LineForm for CommandForm {
     }
 }
 
-/// The depth and the commands of a text of records of three fields: a title with the depth, 1 to 64,
+/// The depth and the commands of a text of records of three fields: a title with the depth, 1 to 256,
 /// and at most 1,000,000 commands by id, release round and due round. No record was read before.
 ///
 /// The fault is the first one: of the least record, and in it the first in the order of [`Why`].
@@ -81,23 +131,19 @@ pub fn read_commands<R: Read + Drop>(
     // at the record that was asked for last: none was read past it
     ensures last { IfErr result (λ f. f.at ≡ records.new.at) }
     ensures err { IfErr result (λ f. IfSome records.old.left (λ rows.
-        IsOutside f.why ⊎ CommandsFault rows f.at f.why)) }
+        IsOutside records.new.failed f.why ⊎ CommandsFault rows f.at f.why)) }
     // also where it came from outside: at most one past the last record, and no record before it is wrong
-    ensures reached { IfErr result (λ f. IfSome records.old.left (λ rows. IsReached CommandsFault rows f.at)) }
+    ensures reached { IfErr result (λ f. Reaches command_list records.old.left 0 f.at) }
     ensures reads { (1 ≤ records.new.at) × (records.new.at ≤ 1_000_002) }
     // the last thing that was asked for is the record after the commands, which there is not
     ensures end { IfOk result (λ v. records.new.at ≡ length v.1.items + 2) }
 {
-    let slots = [
-        Slot::Given,
-        Slot::Given,
-        Slot::Number { least: 1, most: 64 },
-    ];
-    let depth = match read_title(records, b"blk-commands", &slots) {
-        Ok(numbers) => numbers[2],
+    let (_, depth) = match read_line(records, &TitleForm) {
+        Ok(title) => title,
         Err(fault) => return Err(fault),
     };
-    match read_lines(alloc, records, &CommandForm, Extent::AtMost(MOST_COMMANDS)) {
+    let form = Each { form: CommandForm };
+    match read_items(alloc, records, &form, Extent::AtMost(MOST_COMMANDS)) {
         Ok(commands) => Ok((depth, commands)),
         Err(fault) => Err(fault),
     }
@@ -105,7 +151,7 @@ pub fn read_commands<R: Read + Drop>(
 
 // Adds the record of a command.
 #[inline]
-fn push_command(draft: &mut Draft, command: &Command) -> Result<(), AllocError>
+fn push_command(draft: &mut Block, command: &Command) -> Result<(), AllocError>
     ensures text { OnOk result (drafted draft.new ≡ drafted draft.old ++ rows_text (command_row command.now ∷ [])) }
 {
     let start = draft.room()?;
@@ -118,7 +164,7 @@ fn push_command(draft: &mut Draft, command: &Command) -> Result<(), AllocError>
 }
 
 // Adds the title record.
-fn push_title(draft: &mut Draft, depth: u64) -> Result<(), AllocError>
+fn push_title(draft: &mut Block, depth: u64) -> Result<(), AllocError>
     ensures text { OnOk result (drafted draft.new ≡ drafted draft.old ++ rows_text (title_row depth ∷ [])) }
 {
     let start = draft.room()?;
@@ -133,7 +179,7 @@ fn push_title(draft: &mut Draft, depth: u64) -> Result<(), AllocError>
 fn commands_text(alloc: Global, depth: u64, commands: &[Command]) -> Result<Vec<u8>, AllocError>
     ensures { IfOk result (λ v. v.items ≡ rows_text (commands_rows depth commands.now)) }
 {
-    let mut draft = Draft::new(alloc);
+    let mut draft = Block::new(alloc);
     push_title(&mut draft, depth)?;
     for i in 0..commands.len() {
         push_command(&mut draft, &commands[i])?;
@@ -144,7 +190,7 @@ fn commands_text(alloc: Global, depth: u64, commands: &[Command]) -> Result<Vec<
 /// Writes the text of a depth and a list of commands, at once where all of it could be made.
 ///
 /// There are at most 1,000,000 commands, and the numbers lie in the ranges of the form: a depth of
-/// 1 to 64, releases below round 2^40, dues below round 2^41.
+/// 1 to 256, releases below round 2^40, dues below round 2^41.
 ///
 /// [`WriteFault::Write`]: the writer answered a fault; what it took before is out, and nothing says
 /// how much that is. [`WriteFault::Memory`]: nothing was handed to the writer.

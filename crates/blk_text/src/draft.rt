@@ -1,84 +1,91 @@
-//! A text that is being made, record by record, and written once it is whole.
+//! A text that is being made, piece by piece.
 
-ghost use Rattle.std.specs.Prelude.{◌≡◌, ◌+◌, ◌≤◌, OnOk, IfOk, IfErr};
-ghost use Rattle.std.specs.Io.KnownBytes.{Appends};
+ghost use Rattle.std.specs.Prelude.{◌≡◌, ◌++◌, ◌-◌, [], OnOk, IfOk, decimal, length};
+ghost use Rattle.std.specs.Fmt.{signed_decimal};
+ghost use Rattle.std.proofs.Math.ListN.{replicate};
 
-use crate::fault::WriteFault;
+use crate::block::Block;
 use std::alloc::{AllocError, Global};
-use std::io::Write;
+use std::marker::Model;
 
-// How many bytes are gathered before they join the text.
-const BLOCK: usize = 4096;
-
-// Room for a record of six fields of at most 20 bytes, with a byte after each.
-const ROOM: usize = 128;
-
-/// A text, of which the last bytes stand in a block.
+/// A text that is being made: the bytes that were added, in their order. Each call that adds some answers want of
+/// memory where the text could not grow.
 #[derive(Drop)]
-pub(crate) struct Draft {
-    text: Vec<u8>,
-    /// The last bytes of the text, up to a place.
-    pub(crate) block: [u8; BLOCK],
-    pub(crate) at: usize,
-    ghost within: { at ≤ 4096 },
+pub struct Draft {
+    block: Block,
+}
+
+impl Model for Draft {
+    ghost use Rattle.std.specs.Prelude.{List, ℕ};
+    ghost use Rattle.blk_text.specs.Drafts.{drafted};
+
+    ghost Value = { List ℕ };
+
+    ghost view = { λ d. drafted d.block };
 }
 
 impl Draft {
-    ghost use Rattle.std.specs.Prelude.{[]};
-    ghost use Rattle.blk_text.specs.Drafts.{drafted};
-
     /// An empty text.
-    pub(crate) fn new(alloc: Global) -> Draft
-        ensures { drafted result ≡ [] }
+    pub fn new(alloc: Global) -> Draft
+        ensures { result ≡ [] }
     {
         Draft {
-            text: Vec::new(alloc),
-            block: [0; BLOCK],
-            at: 0,
+            block: Block::new(alloc),
         }
     }
 
-    // Moves what the block holds to the text.
-    #[cold]
-    #[inline(never)]
-    fn flush(&mut self) -> Result<(), AllocError>
-        ensures at { self.new.at ≡ 0 }
-        ensures text { OnOk result (drafted self.new ≡ drafted self.old) }
-        ensures whole { OnOk result (self.new.text.items ≡ drafted self.old) }
+    /// Adds bytes.
+    pub fn text(&mut self, bytes: &[u8]) -> Result<(), AllocError>
+        ensures { OnOk result (self.new ≡ self.old ++ bytes.now) }
     {
-        let end = self.at;
-        self.at = 0;
-        self.text.extend_from_slice(&self.block[..end])
+        self.block.push(bytes)
     }
 
-    /// The place in the block from which on there is room for a record.
-    #[inline]
-    pub(crate) fn room(&mut self) -> Result<usize, AllocError>
-        ensures at { IfOk result (λ at. (at ≡ self.new.at) × (at + 128 ≤ 4096)) }
-        ensures text { OnOk result (drafted self.new ≡ drafted self.old) }
+    /// Adds a number in decimal digits.
+    pub fn number(&mut self, number: u64) -> Result<(), AllocError>
+        ensures { OnOk result (self.new ≡ self.old ++ decimal number) }
     {
-        if self.at > BLOCK - ROOM {
-            self.flush()?;
+        self.block.push_number(number)
+    }
+
+    /// Adds a signed number, with a minus where it is below 0.
+    pub fn signed(&mut self, alloc: Global, number: i64) -> Result<(), AllocError>
+        ensures { OnOk result (self.new ≡ self.old ++ signed_decimal number) }
+    {
+        let text = number.to_string(alloc)?;
+        self.block.push(text.as_bytes())
+    }
+
+    /// Adds so many spaces.
+    pub fn spaces(&mut self, count: usize) -> Result<(), AllocError>
+        ensures { OnOk result (self.new ≡ self.old ++ replicate count 32) }
+    {
+        for _ in 0..count {
+            self.block.push(b" ")?;
         }
-        Ok(self.at)
+        Ok(())
+    }
+
+    /// Adds bytes at the left of so many places; more of them are not cut.
+    pub fn left(&mut self, bytes: &[u8], places: usize) -> Result<(), AllocError>
+        ensures { OnOk result (self.new ≡ (self.old ++ bytes.now) ++ replicate (places - length bytes.now) 32) }
+    {
+        self.text(bytes)?;
+        self.spaces(places.saturating_sub(bytes.len()))
+    }
+
+    /// Adds bytes at the right of so many places; more of them are not cut.
+    pub fn right(&mut self, bytes: &[u8], places: usize) -> Result<(), AllocError>
+        ensures { OnOk result (self.new ≡ (self.old ++ replicate (places - length bytes.now) 32) ++ bytes.now) }
+    {
+        self.spaces(places.saturating_sub(bytes.len()))?;
+        self.text(bytes)
     }
 
     /// The text.
-    pub(crate) fn finish(mut self) -> Result<Vec<u8>, AllocError>
-        ensures { IfOk result (λ v. v.items ≡ drafted self) }
+    pub fn finish(self) -> Result<Vec<u8>, AllocError>
+        ensures { IfOk result (λ v. v.items ≡ self) }
     {
-        self.flush()?;
-        Ok(self.text)
-    }
-}
-
-/// Writes a text that is whole.
-pub(crate) fn write_whole<W: Write>(writer: &mut W, text: &[u8]) -> Result<(), WriteFault>
-    ensures ok { OnOk result (Appends (W.contents writer.old) (W.contents writer.new) text.now) }
-    ensures err { IfErr result (λ f. f ≡ WriteFault.Write) }
-{
-    match writer.write_all(text) {
-        Ok(()) => Ok(()),
-        Err(_) => Err(WriteFault::Write),
+        self.block.finish()
     }
 }

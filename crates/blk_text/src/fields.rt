@@ -4,6 +4,7 @@ ghost use Rattle.std.specs.Prelude.{◌≡◌, ◌≢◌, ◌+◌, ◌*◌, ◌<
 ghost use Rattle.std.specs.Str.Parse.{AllDigits, digits_value};
 ghost use Rattle.csv.specs.Records.{fields_of};
 ghost use Rattle.blk_text.specs.Fields.{EachField, IsBlank, IsDirection, IsNumber, IsInRange, IsShaped, IsSized, Lacks, NumberOf, IsWithin, EachNumber, FieldSpells, FieldsSpell, WritesNumber, canonical};
+ghost use Rattle.blk_text.specs.Tables.{IsTitled, IsVersion};
 ghost use Rattle.blk_text.specs.Words.{StartsWith, HasNoWord};
 
 use crate::fault::Why;
@@ -336,4 +337,24 @@ pub fn begins_with(row: &ByteRecord, word: &[u8]) -> bool
     ensures { IsTrue result ↔ StartsWith word.now (fields_of row.now) }
 {
     field(row, 0) == word
+}
+
+/// The version of a title record of the form of this name, if the form has one like it.
+pub fn version_of(row: &ByteRecord, name: &[u8], latest: u64) -> Option<u64>
+    ensures { MatchOption result ((version : ℕ) → IsVersion latest version → ¬ IsTitled name.now version (fields_of row.now))
+        (λ version. IsVersion latest version × IsTitled name.now version (fields_of row.now)) }
+{
+    if row.len() < 2 || field(row, 0) != name {
+        return None;
+    }
+    let Some(version) = parse_number(field(row, 1)) else {
+        return None;
+    };
+    if version < 1 {
+        return None;
+    }
+    if latest < version {
+        return None;
+    }
+    Some(version)
 }

@@ -1,17 +1,16 @@
 //! The text forms, their readers and writers.
 #![tactic(auto)]
 
+mod block;
 pub mod certificate;
 pub mod commands;
-mod draft;
+pub mod draft;
 pub mod fault;
 mod fields;
+mod items;
 pub mod laws;
-mod lines;
 mod pieces;
 pub mod script;
 mod setup;
 pub mod source;
-#[cfg(test)]
-mod tests;
 pub mod trace;

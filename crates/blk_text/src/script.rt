@@ -2,22 +2,23 @@
 
 ghost use Rattle.std.specs.Prelude.{◌≡◌, ◌⊎◌, ◌+◌, ◌-◌, ◌≤◌, ◌<◌, ◌^◌, ℕ, IfOk, IfErr, IfSome, MatchOption, get_or, codes, [], length, IsTrue, ◌↔◌};
 ghost use Rattle.csv.specs.Records.{fields_of};
-ghost use Rattle.blk_text.specs.Sources.{Took};
-ghost use Rattle.blk_text.specs.Faults.{IsOutside, IsReached, TitleMissing};
+ghost use Rattle.blk_text.specs.Reads.{IsOutside, Reads, Fails, Reaches};
+ghost use Rattle.blk_text.specs.Tables.{IsVersion};
 ghost use Rattle.blk_text.specs.Words.{StartsWith};
 ghost use Rattle.blk_text.specs.Fields.{FieldsSpell};
 ghost use Rattle.blk_text.specs.BioRecord.{bio_row, direction_text};
-ghost use Rattle.blk_text.specs.Script.{word_of, slots_of, LineFits, line_row, StepWrong, SpellsNoBio, title_slots, title_row, IsTitle, FewSubmitters, IsScript, SpellsScript, ScriptFault, scripted};
+ghost use Rattle.blk_text.specs.Script.{word_of, slots_of, LineFits, line_row, StepWrong, SpellsNoBio, IsTitle, IsScript, SpellsScript, ScriptFault, scripted, title as script_title, script_form};
 ghost use Rattle.blk_text.specs.declared.script.Word.{Word as AWord};
 
 use crate::fault::{TextFault, Why};
-use crate::fields::{Slot, WIDTH, field, parse_number, read_fields, without_word};
-use crate::lines::{Extent, LineForm, read_lines, read_title};
-use crate::setup::read_setup;
+use crate::fields::{Slot, WIDTH, field, parse_number, read_fields, version_of, without_word};
+use crate::items::{Each, LineForm, read_items, read_line};
+use crate::setup::SetupForm;
 use crate::source::Records;
 use blk_bio::bio::{Bio, BioId, Dir};
 use blk_trace::setup::Setup;
 use csv::ByteRecord;
+use parts::Extent;
 use std::alloc::Global;
 use std::io::Read;
 
@@ -249,6 +250,7 @@ fn slotted_line(form: &StepForm, word: Word, row: &ByteRecord) -> Result<Line, W
 
 impl LineForm for StepForm {
     ghost use Rattle.blk_text.specs.Script.{line_row, LineFits, StepWrong};
+    ghost use Rattle.blk_text.specs.declared.fault.Why.TheVariants as why;
 
     type Line = Line;
 
@@ -257,6 +259,12 @@ impl LineForm for StepForm {
     ghost Fits = { λ f. LineFits f.hw f.submitters };
 
     ghost Refused = { λ f. StepWrong f.hw f.submitters };
+
+    ghost missing = { why.Count };
+
+    fn gone(&self) -> Why {
+        Why::Count
+    }
 
     fn line(&self, row: &ByteRecord) -> Result<Line, Why> {
         let Some(word) = word_named(field(row, 0)) else {
@@ -271,40 +279,77 @@ impl LineForm for StepForm {
     }
 }
 
+/// The title record: the version, and the numbers of a title, each in its own range.
+#[derive(Clone, Copy, Drop)]
+pub(crate) struct TitleForm;
+
+impl LineForm for TitleForm {
+    ghost use Rattle.std.specs.Prelude.{codes};
+    ghost use Rattle.blk_text.specs.Script.{script_cells, IsTitle};
+    ghost use Rattle.blk_text.specs.Tables.{title_by, IsVersion, TitleLacks};
+    ghost use Rattle.blk_text.specs.declared.fault.Why.TheVariants as why;
+
+    type Line = (u64, Title);
+
+    ghost row_of = { λ _. title_by (codes "blk-script") script_cells };
+
+    ghost Fits = { λ _ t. IsVersion 1 t.0 × IsTitle t.1 };
+
+    ghost Refused = { λ _. TitleLacks (codes "blk-script") 1 script_cells };
+
+    ghost missing = { why.Title };
+
+    fn gone(&self) -> Why {
+        Why::Title
+    }
+
+    fn line(&self, row: &ByteRecord) -> Result<(u64, Title), Why> {
+        let Some(version) = version_of(row, b"blk-script", 1) else {
+            return Err(Why::Title);
+        };
+        let slots = [
+            Slot::Given,
+            Slot::Given,
+            Slot::Number { least: 1, most: 64 },
+            Slot::Number { least: 1, most: 16 },
+            Slot::Number {
+                least: 1,
+                most: 1024,
+            },
+            Slot::Number { least: 1, most: 64 },
+        ];
+        match read_fields(row, &slots) {
+            Ok(numbers) => {
+                let title = Title {
+                    depth: numbers[2],
+                    hw: numbers[3] as u8,
+                    soft_depth: numbers[4],
+                    submitters: numbers[5],
+                };
+                Ok((version, title))
+            }
+            Err(why) => Err(why),
+        }
+    }
+}
+
 // The title of the title record, which is the next one; its submitters are at least as many as its hardware queues.
-fn read_script_title<R: Read + Drop>(records: &mut Records<R>) -> Result<Title, TextFault>
+fn read_script_title<R: Read + Drop>(records: &mut Records<R>) -> Result<(u64, Title), TextFault>
     requires start { records.old.at ≡ 0 }
     ensures at { records.new.at ≡ 1 }
-    ensures ok { IfOk result (λ t. Took (λ row. row ≡ title_row t) records.old.left records.new.left) }
+    ensures ok { IfOk result (λ t. Reads script_title records.old.left records.new.left t) }
     // also where the reader's bytes are not known
-    ensures title { IfOk result (λ t. IsTitle t × (t.hw ≤ t.submitters)) }
+    ensures title { IfOk result (λ t. IsVersion 1 t.0 × IsTitle t.1 × (t.1.hw ≤ t.1.submitters)) }
     // at the record that was asked for last: none was read past it
     ensures last { IfErr result (λ f. f.at ≡ records.new.at) }
-    ensures err { IfErr result (λ f. IfSome records.old.left (λ rows. IsOutside f.why
-        ⊎ ((f.at ≡ 1) × (TitleMissing (codes "blk-script") title_slots rows f.why ⊎ FewSubmitters rows f.why)))) }
+    ensures err { IfErr result (λ f. Fails records.new.failed script_title records.old.left 0 f.at f.why) }
 {
-    let slots = [
-        Slot::Given,
-        Slot::Given,
-        Slot::Number { least: 1, most: 64 },
-        Slot::Number { least: 1, most: 16 },
-        Slot::Number {
-            least: 1,
-            most: 1024,
-        },
-        Slot::Number { least: 1, most: 64 },
-    ];
-    match read_title(records, b"blk-script", &slots) {
-        Ok(numbers) => {
-            if numbers[5] < numbers[3] {
+    match read_line(records, &TitleForm) {
+        Ok((version, title)) => {
+            if title.submitters < title.hw as u64 {
                 return Err(records.fault(Why::Range));
             }
-            Ok(Title {
-                depth: numbers[2],
-                hw: numbers[3] as u8,
-                soft_depth: numbers[4],
-                submitters: numbers[5],
-            })
+            Ok((version, title))
         }
         Err(fault) => Err(fault),
     }
@@ -327,26 +372,32 @@ pub fn read_script<R: Read + Drop>(
     // at the record that was asked for last: none was read past it
     ensures last { IfErr result (λ f. f.at ≡ records.new.at) }
     ensures err { IfErr result (λ f. IfSome records.old.left (λ rows.
-        IsOutside f.why ⊎ ScriptFault rows f.at f.why)) }
+        IsOutside records.new.failed f.why ⊎ ScriptFault rows f.at f.why)) }
     // also where it came from outside: at most one past the last record, and no record before it is wrong
-    ensures reached { IfErr result (λ f. IfSome records.old.left (λ rows. IsReached ScriptFault rows f.at)) }
+    ensures reached { IfErr result (λ f. Reaches script_form records.old.left 0 f.at) }
     ensures reads { (1 ≤ records.new.at) × (records.new.at ≤ 1_000_001) }
     // the last thing that was asked for is the record after the steps, which there is not
     ensures end { IfOk result (λ s. records.new.at ≡ length s.lines.items + 3) }
 {
-    let title = match read_script_title(records) {
+    let (_, title) = match read_script_title(records) {
         Ok(title) => title,
         Err(fault) => return Err(fault),
     };
-    let setup = match read_setup(records, title.depth, title.hw) {
+    let setup_form = SetupForm {
+        depth: title.depth,
+        hw: title.hw,
+    };
+    let setup = match read_line(records, &setup_form) {
         Ok(setup) => setup,
         Err(fault) => return Err(fault),
     };
-    let form = StepForm {
-        hw: title.hw,
-        submitters: title.submitters,
+    let form = Each {
+        form: StepForm {
+            hw: title.hw,
+            submitters: title.submitters,
+        },
     };
-    match read_lines(alloc, records, &form, Extent::AtMost(MOST_STEPS)) {
+    match read_items(alloc, records, &form, Extent::AtMost(MOST_STEPS)) {
         Ok(lines) => Ok(Script {
             setup,
             soft_depth: title.soft_depth,

@@ -3,19 +3,16 @@
 ghost use Rattle.std.specs.Prelude.{◌≡◌, ◌⊎◌, ◌≤◌, ◌<◌, IfOk, IfErr, IfSome, codes};
 ghost use Rattle.csv.specs.Records.{fields_of};
 ghost use Rattle.blk_trace.specs.Setups.{Setup as SetupFields};
-ghost use Rattle.blk_text.specs.Sources.{Took};
-ghost use Rattle.blk_text.specs.Faults.{IsOutside};
 ghost use Rattle.blk_text.specs.Fields.{FieldsSpell};
 ghost use Rattle.blk_text.specs.Words.{StartsWith};
-ghost use Rattle.blk_text.specs.SetupRecord.{setup_slots, SpellsSetup, SetupWrong, SetupMissing, IsWholeSetup};
+ghost use Rattle.blk_text.specs.SetupRecord.{setup_slots, SpellsSetup, SetupWrong};
 
-use crate::fault::{TextFault, Why};
+use crate::fault::Why;
 use crate::fields::{Slot, WIDTH, begins_with, read_fields, without_word};
-use crate::source::Records;
+use crate::items::LineForm;
 use blk_bio::limits::Limits;
 use blk_trace::setup::Setup;
 use csv::ByteRecord;
-use std::io::Read;
 
 // The setup of the numbers of a record.
 fn setup_with(row: &ByteRecord, depth: u64, hw: u8, numbers: &[u64; WIDTH]) -> Setup
@@ -66,28 +63,34 @@ fn setup_at(row: &ByteRecord, depth: u64, hw: u8) -> Result<Setup, Why>
     Ok(setup_with(row, depth, hw, &numbers))
 }
 
-/// The setup of the setup record, which is the next one, for so many tags and hardware queues.
-pub fn read_setup<R: Read + Drop>(
-    records: &mut Records<R>,
-    depth: u64,
-    hw: u8,
-) -> Result<Setup, TextFault>
-    requires start { records.old.at ≡ 1 }
-    requires depth { (0 < depth) × (depth ≤ 64) }
-    requires hw { (0 < hw) × (hw ≤ 16) }
-    ensures at { records.new.at ≡ 2 }
-    ensures ok { IfOk result (λ s. Took (λ row. SpellsSetup depth hw row s) records.old.left records.new.left) }
-    // also where the reader's bytes are not known
-    ensures whole { IfOk result (λ s. (s.depth ≡ depth) × (s.hw ≡ hw) × IsWholeSetup s) }
-    // at the record that was asked for last: none was read past it
-    ensures last { IfErr result (λ f. f.at ≡ records.new.at) }
-    ensures err { IfErr result (λ f. IfSome records.old.left (λ rows. IsOutside f.why ⊎ ((f.at ≡ 2) × SetupMissing rows f.why))) }
-{
-    if !records.advance()? {
-        return Err(records.fault(Why::Word));
+/// The setup record for so many tags and hardware queues.
+#[derive(Clone, Copy, Drop)]
+pub(crate) struct SetupForm {
+    pub depth: u64,
+    pub hw: u8,
+    ghost depth_in: { (0 < depth) × (depth ≤ 64) },
+    ghost hw_in: { (0 < hw) × (hw ≤ 16) },
+}
+
+impl LineForm for SetupForm {
+    ghost use Rattle.blk_text.specs.SetupRecord.{setup_row, FitsSetup, SetupWrong};
+    ghost use Rattle.blk_text.specs.declared.fault.Why.TheVariants as why;
+
+    type Line = Setup;
+
+    ghost row_of = { λ _. setup_row };
+
+    ghost Fits = { λ f. FitsSetup f.depth f.hw };
+
+    ghost Refused = { λ _. SetupWrong };
+
+    ghost missing = { why.Word };
+
+    fn gone(&self) -> Why {
+        Why::Word
     }
-    match setup_at(records.row(), depth, hw) {
-        Ok(setup) => Ok(setup),
-        Err(why) => Err(records.fault(why)),
+
+    fn line(&self, row: &ByteRecord) -> Result<Setup, Why> {
+        setup_at(row, self.depth, self.hw)
     }
 }

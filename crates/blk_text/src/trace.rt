@@ -11,7 +11,7 @@ ghost use Rattle.blk_text.specs.Drafts.{drafted};
 ghost use Rattle.blk_text.specs.SetupRecord.{setup_row, IsWholeSetup};
 ghost use Rattle.blk_text.specs.TraceRecords.{word_row, group_rows, event_rows, title_row, trace_rows, BioFits, EventFits, IsTrace, SpellsTrace};
 
-use crate::draft::{Draft, write_whole};
+use crate::block::{Block, write_whole};
 use crate::fault::WriteFault;
 use crate::pieces::{put, put_number, put_two};
 use blk_bio::bio::{Bio, Dir};
@@ -33,7 +33,7 @@ fn letter(dir: Dir) -> u8
 
 // Adds the record of a bio.
 #[inline]
-fn push_bio(draft: &mut Draft, bio: &Bio) -> Result<(), AllocError>
+fn push_bio(draft: &mut Block, bio: &Bio) -> Result<(), AllocError>
     ensures text { OnOk result (drafted draft.new ≡ drafted draft.old ++ rows_text (bio_row bio.now ∷ [])) }
     ensures fits { OnOk result (BioFits bio.now) }
 {
@@ -50,7 +50,7 @@ fn push_bio(draft: &mut Draft, bio: &Bio) -> Result<(), AllocError>
 
 // Adds a record of a word and two numbers.
 #[inline(always)]
-fn push_numbers(draft: &mut Draft, word: &[u8], first: u64, second: u64) -> Result<(), AllocError>
+fn push_numbers(draft: &mut Block, word: &[u8], first: u64, second: u64) -> Result<(), AllocError>
     requires { IsPlainWord word.now }
     ensures text { OnOk result (drafted draft.new ≡ drafted draft.old ++ rows_text (word_row word.now (decimal first) (decimal second) ∷ [])) }
 {
@@ -65,7 +65,7 @@ fn push_numbers(draft: &mut Draft, word: &[u8], first: u64, second: u64) -> Resu
 
 // Adds the record of a completion.
 #[inline]
-fn push_done(draft: &mut Draft, tag: u16) -> Result<(), AllocError>
+fn push_done(draft: &mut Block, tag: u16) -> Result<(), AllocError>
     ensures text { OnOk result (drafted draft.new ≡ drafted draft.old ++ rows_text (word_row (codes "done") (decimal tag) [] ∷ [])) }
 {
     let start = draft.room()?;
@@ -78,7 +78,7 @@ fn push_done(draft: &mut Draft, tag: u16) -> Result<(), AllocError>
 
 // Adds the record of the end of a round.
 #[inline]
-fn push_tick(draft: &mut Draft) -> Result<(), AllocError>
+fn push_tick(draft: &mut Block) -> Result<(), AllocError>
     ensures text { OnOk result (drafted draft.new ≡ drafted draft.old ++ rows_text (word_row (codes "tick") [] [] ∷ [])) }
 {
     let start = draft.room()?;
@@ -88,7 +88,7 @@ fn push_tick(draft: &mut Draft) -> Result<(), AllocError>
 
 // Adds the records of a group: its own, and those of its bios.
 #[inline(always)]
-fn push_group(draft: &mut Draft, word: &[u8], id: u64, bios: &[Bio]) -> Result<(), AllocError>
+fn push_group(draft: &mut Block, word: &[u8], id: u64, bios: &[Bio]) -> Result<(), AllocError>
     requires { IsPlainWord word.now }
     ensures text { OnOk result (drafted draft.new ≡ drafted draft.old ++ rows_text (group_rows word.now id bios.now)) }
     ensures fits { OnOk result (All BioFits bios.now) }
@@ -101,7 +101,7 @@ fn push_group(draft: &mut Draft, word: &[u8], id: u64, bios: &[Bio]) -> Result<(
 }
 
 // Adds the records of an event.
-fn push_event<A: Allocator + Clone>(draft: &mut Draft, event: &Event<A>) -> Result<(), AllocError>
+fn push_event<A: Allocator + Clone>(draft: &mut Block, event: &Event<A>) -> Result<(), AllocError>
     requires { length (bios_of (happened event.now)) ≤ 128 }
     ensures text { OnOk result (drafted draft.new ≡ drafted draft.old ++ rows_text (event_rows (happened event.now))) }
     ensures fits { OnOk result (EventFits (happened event.now)) }
@@ -116,7 +116,7 @@ fn push_event<A: Allocator + Clone>(draft: &mut Draft, event: &Event<A>) -> Resu
 }
 
 // Adds the title record.
-fn push_title(draft: &mut Draft, setup: &Setup, count: u64) -> Result<(), AllocError>
+fn push_title(draft: &mut Block, setup: &Setup, count: u64) -> Result<(), AllocError>
     ensures text { OnOk result (drafted draft.new ≡ drafted draft.old ++ rows_text (title_row setup.now count ∷ [])) }
 {
     let start = draft.room()?;
@@ -130,7 +130,7 @@ fn push_title(draft: &mut Draft, setup: &Setup, count: u64) -> Result<(), AllocE
 }
 
 // Adds the setup record.
-fn push_setup(draft: &mut Draft, setup: &Setup) -> Result<(), AllocError>
+fn push_setup(draft: &mut Block, setup: &Setup) -> Result<(), AllocError>
     ensures text { OnOk result (drafted draft.new ≡ drafted draft.old ++ rows_text (setup_row setup.now ∷ [])) }
     ensures whole { OnOk result (IsWholeSetup setup.now) }
 {
@@ -150,7 +150,7 @@ fn trace_text<A: Allocator + Clone>(alloc: Global, trace: &Trace<A>) -> Result<V
     ensures text { IfOk result (λ v. v.items ≡ rows_text (trace_rows trace.now)) }
     ensures fits { IfOk result (λ _. IsTrace trace.now) }
 {
-    let mut draft = Draft::new(alloc);
+    let mut draft = Block::new(alloc);
     let setup = trace.setup();
     let events = trace.events();
     push_title(&mut draft, &setup, events.len() as u64)?;

@@ -5,6 +5,7 @@ use Rattle.std.proofs.lemmas.List.{get_or_append_left, get_or_push, length_push}
 use Rattle.std.proofs.lemmas.Bool.{cases_lt, cases_eq, lt-ltb, le-ltb}
 use Rattle.edd_check.specs.declared.Command.{Command}
 use Rattle.edd_check.specs.Schedule.{StartsReleased, places_at}
+use Rattle.edd_check.proofs.InForce.{depth_fixed}
 use Rattle.blk_trace.specs.declared.rule.TraceRule.TheVariants.{Unknown, AlreadyIssued}
 use Rattle.blk_trace.specs.Happened.{Happened, Ticked, Issued}
 use Rattle.blk_trace.specs.Setups.{Setup}
@@ -190,4 +191,4 @@ pub legal-schedule : (setup : Setup) (events : List Happened) → IsLegalTrace s
 legal-schedule setup events legal =
     let s : StartsWell (commands_of setup events) (rounds_of events) = starts setup events legal in
     let f : FillsWell setup events = fills setup events legal in
-    record { one_each = s.one_each; released = s.released; within_depth = f.within }
+    record { one_each = s.one_each; released = s.released; within_depth = λ x. omega (arith, f.within x, depth_fixed setup.depth x) }

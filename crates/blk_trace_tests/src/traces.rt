@@ -100,7 +100,12 @@ fn joined_on_entry(rt: HostRuntime) {
     let second = bio(&rt, Dir::Read, 4, 4);
     let mut trace = empty(&rt, &heap, setup(&rt, 5, 50, limits(&rt, 256, 128)));
     push(&rt, &heap, &mut trace, Step::Release(0, first));
-    push_all(&rt, &heap, &mut trace, &[Step::Tick, Step::Tick, Step::Tick]);
+    push_all(
+        &rt,
+        &heap,
+        &mut trace,
+        &[Step::Tick, Step::Tick, Step::Tick],
+    );
     push(&rt, &heap, &mut trace, Step::Join(0, second));
     assert!(rt; has_waiting(&rt, &heap, &trace, &[first, second]));
     push(&rt, &heap, &mut trace, Step::Issue(0, 0));
@@ -112,7 +117,11 @@ fn joined_on_entry(rt: HostRuntime) {
 fn waiting_by_id_and_sector(rt: HostRuntime) {
     let heap = Refusing::new(rt.alloc());
     let first = bio(&rt, Dir::Read, 100, 4);
-    let (a, b, c) = (bio(&rt, Dir::Read, 6, 2), bio(&rt, Dir::Read, 8, 2), bio(&rt, Dir::Read, 10, 2));
+    let (a, b, c) = (
+        bio(&rt, Dir::Read, 6, 2),
+        bio(&rt, Dir::Read, 8, 2),
+        bio(&rt, Dir::Read, 10, 2),
+    );
     let mut trace = empty(&rt, &heap, setup(&rt, 5, 50, limits(&rt, 256, 128)));
     push(&rt, &heap, &mut trace, Step::Release(5, b));
     push(&rt, &heap, &mut trace, Step::Release(3, first));

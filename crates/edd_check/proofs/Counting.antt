@@ -1,12 +1,14 @@
-use Rattle.std.proofs.Common.{◌≡◌, ◌<◌, ◌≤◌, ℕ, ◌+◌, ◌*◌, zero, suc, Bool, true, false, cond, ◌&&◌, List, [], ◌∷◌, length, get_or, take, count_by, nat_lt, nat_le, ◌==◌, ◌⊎◌, inl, inr, arith, refl, ap, sym, ◌∙◌, ◌≢◌}
-use Rattle.std.specs.List.{All, Contains}
+use Rattle.std.proofs.Common.{◌≡◌, ◌<◌, ◌≤◌, ℕ, ◌+◌, zero, suc, Bool, true, false, cond, ◌&&◌, List, [], ◌∷◌, length, get_or, take, count_by, nat_lt, nat_le, ◌==◌, ◌⊎◌, inl, inr, arith, refl, ap, sym, ◌∙◌, ◌≢◌}
+use Rattle.std.specs.List.{Contains}
 use Rattle.std.specs.List.Sorted.{IsPermutation}
 use Rattle.std.proofs.lemmas.List.Sorted.{sum_by-IsPermutation}
 use Rattle.std.proofs.lemmas.List.Sums.{sum_by-cons, count_by-le-length, sum_by-take-le, count_by_more_yes, count_by_more_no}
 use Rattle.std.proofs.lemmas.List.{get_or_default}
-use Rattle.std.proofs.lemmas.List.Elements.{All-contains}
 use Rattle.std.proofs.lemmas.Bool.{cases_eq, cases_Bool, cond-true, cond-false, ne_eqb, eq-eqb, and_parts, and_from, and_left, and_right, ltb-true, lt-ltb, le-ltb, lt-leb, cases_lt}
 use Rattle.edd_check.specs.Schedule.{places_at, IsLeastOverDeep}
+use Rattle.edd_check.specs.declared.steps.Step.{Step}
+use Rattle.edd_check.specs.Capacity.{depth_at, carried}
+use Rattle.edd_check.proofs.InForce.{carried_suc}
 
 -- a count over one element more
 count_yes : {X : Type 0} (p : X → Bool) (x : X) (xs : List X) → p x ≡ true → count_by p (x ∷ xs) ≡ 1 + count_by p xs
@@ -31,14 +33,6 @@ absent_or_there x (y ∷ ys) =
             | inl none ↦ inl (count_no (λ z. z == x) y ys (ne_eqb y x other) ∙ none)
             | inr there ↦ inr (suc there.0, omega (arith, there.1), there.2)
           ]
-    ]
-
--- each round that stands in the list is seen at one of its places
-pub within_everywhere : (rounds : List ℕ) (depth : ℕ) → All (λ x. places_at rounds x ≤ depth) rounds → (x : ℕ) → places_at rounds x ≤ depth
-within_everywhere rounds depth each x =
-    elim (absent_or_there x rounds) [
-      | inl none ↦ omega arith
-      | inr there ↦ All-contains (λ y. places_at rounds y ≤ depth) rounds x each there
     ]
 
 count_of_none : {X : Type 0} (p : X → Bool) → ((x : X) → p x ≡ false) → (xs : List X) → count_by p xs ≡ 0
@@ -75,10 +69,10 @@ count_along p q (x ∷ xs) (y ∷ ys) same along =
 abbrev pub places_among : List ℕ → ℕ → ℕ → ℕ
 places_among rounds start n = count_by (λ x. nat_le start x && nat_lt x (start + n)) rounds
 
--- n rounds carry at most n times what one carries
-pub places_among-le : (rounds : List ℕ) (depth : ℕ) → ((x : ℕ) → places_at rounds x ≤ depth) → (start n : ℕ) → places_among rounds start n ≤ depth * n
+-- n rounds carry at most what each carries
+pub places_among-le : (rounds : List ℕ) (steps : List Step) → ((x : ℕ) → places_at rounds x ≤ depth_at steps x) → (start n : ℕ) → places_among rounds start n ≤ carried steps start n
 unfolding places_at
-places_among-le rounds depth within start zero =
+places_among-le rounds steps within start zero =
     let none : places_among rounds start 0 ≡ 0 =
     count_of_none (λ x. nat_le start x && nat_lt x (start + 0))
     (λ x. elim (cases_lt x start) [
@@ -86,8 +80,8 @@ places_among-le rounds depth within start zero =
       | inr high ↦ and_right (nat_le start x) (nat_lt x (start + 0)) (le-ltb x (start + 0) (omega arith))
     ]) rounds in
     omega arith
-places_among-le rounds depth within start (suc n) =
-    let rest = places_among-le rounds depth within start n in
+places_among-le rounds steps within start (suc n) =
+    let rest = places_among-le rounds steps within start n in
     let split : places_among rounds start (suc n) ≤ places_among rounds start n + places_at rounds (start + n) =
     count_of_either (λ x. nat_le start x && nat_lt x (start + suc n)) (λ x. nat_le start x && nat_lt x (start + n)) (λ x. x == (start + n))
     (λ x yes. let parts = and_parts (nat_le start x) (nat_lt x (start + suc n)) yes in
@@ -96,7 +90,7 @@ places_among-le rounds depth within start (suc n) =
       | inl last ↦ inr (eq-eqb x (start + n) last)
       | inr other ↦ inl (and_from (nat_le start x) (nat_lt x (start + n)) parts.0 (lt-ltb x (start + n) (omega arith)))
     ]) rounds in
-    omega (arith, rest, split, within (start + n))
+    omega (arith, rest, split, within (start + n), carried_suc steps start n)
 
 -- rounds in order
 abbrev pub Rises : List ℕ → Type 0
@@ -158,34 +152,34 @@ run_of x (y ∷ ys) rises m h =
     ]
 
 -- a copy in order whose ends of a run are equal has a round of more than m places, and the first such run gives the least
-pub over_deep_here : (rounds copy sorted : List ℕ) (m first last : ℕ) → copy ≡ rounds → IsPermutation copy sorted → Rises sorted → ((j e : ℕ) → e < last → e ≡ j + m → get_or sorted j 0 ≢ get_or sorted e 0) → last < length sorted → last ≡ first + m → get_or sorted first 0 ≡ get_or sorted last 0 → IsLeastOverDeep rounds m (get_or sorted last 0)
+pub over_deep_here : (rounds copy sorted : List ℕ) (steps : List Step) (first last : ℕ) → copy ≡ rounds → IsPermutation copy sorted → Rises sorted → ((j e : ℕ) → e < last → e ≡ j + depth_at steps (get_or sorted e 0) → get_or sorted j 0 ≢ get_or sorted e 0) → last < length sorted → last ≡ first + depth_at steps (get_or sorted last 0) → get_or sorted first 0 ≡ get_or sorted last 0 → IsLeastOverDeep rounds steps (get_or sorted last 0)
 unfolding places_at
-over_deep_here rounds copy sorted m first last copied moved rises before within apart same =
+over_deep_here rounds copy sorted steps first last copied moved rises before within apart same =
     let count : (x : ℕ) → places_at sorted x ≡ places_at rounds x =
     λ x. sum_by-IsPermutation (λ y. cond (y == x) 1 0) copy sorted moved ∙ ap (λ xs. places_at xs x) copied in
     record {
       over = omega (arith, count (get_or sorted last 0), run_count (get_or sorted last 0) sorted rises first last (omega arith) within same refl);
       least = λ y low.
-          elim (cases_lt m (places_at rounds y)) [
+          elim (cases_lt (depth_at steps y) (places_at rounds y)) [
             | inl more ↦
-                let run = run_of y sorted rises m (omega (arith, count y)) in
+                let run = run_of y sorted rises (depth_at steps y) (omega (arith, count y)) in
                 elim (cases_lt run.1 last) [
-                  | inl sooner ↦ absurd (before run.0 run.1 sooner run.2 (run.4 ∙ sym run.5))
+                  | inl sooner ↦ absurd (before run.0 run.1 sooner (run.2 ∙ ap (λ r. run.0 + depth_at steps r) (sym run.5)) (run.4 ∙ sym run.5))
                   | inr later ↦ absurd (omega (arith, rises last run.1 later run.3, run.5))
                 ]
             | inr most ↦ most
           ];
     }
 
-pub none_over_deep : (rounds copy sorted : List ℕ) (m last : ℕ) → copy ≡ rounds → IsPermutation copy sorted → Rises sorted → ((j e : ℕ) → e < last → e ≡ j + m → get_or sorted j 0 ≢ get_or sorted e 0) → length sorted ≤ last → (x : ℕ) → places_at rounds x ≤ m
+pub none_over_deep : (rounds copy sorted : List ℕ) (steps : List Step) (last : ℕ) → copy ≡ rounds → IsPermutation copy sorted → Rises sorted → ((j e : ℕ) → e < last → e ≡ j + depth_at steps (get_or sorted e 0) → get_or sorted j 0 ≢ get_or sorted e 0) → length sorted ≤ last → (x : ℕ) → places_at rounds x ≤ depth_at steps x
 unfolding places_at
-none_over_deep rounds copy sorted m last copied moved rises before past x =
+none_over_deep rounds copy sorted steps last copied moved rises before past x =
     let count : places_at sorted x ≡ places_at rounds x =
     sum_by-IsPermutation (λ y. cond (y == x) 1 0) copy sorted moved ∙ ap (λ xs. places_at xs x) copied in
-    elim (cases_lt m (places_at rounds x)) [
+    elim (cases_lt (depth_at steps x) (places_at rounds x)) [
       | inl more ↦
-          let run = run_of x sorted rises m (omega (arith, count)) in
-          absurd (before run.0 run.1 (omega (arith, run.3)) run.2 (run.4 ∙ sym run.5))
+          let run = run_of x sorted rises (depth_at steps x) (omega (arith, count)) in
+          absurd (before run.0 run.1 (omega (arith, run.3)) (run.2 ∙ ap (λ r. run.0 + depth_at steps r) (sym run.5)) (run.4 ∙ sym run.5))
       | inr most ↦ most
     ]
 

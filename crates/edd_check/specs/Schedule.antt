@@ -1,5 +1,8 @@
-use Rattle.std.specs.Prelude.{ℕ, ◌≡◌, ◌≤◌, ◌<◌, ◌==◌, ◌^◌, List, length, count_by, slice_index, slice_index_or, ℤ, pos, ◌-ℤ◌, ◌≤ℤ◌, All}
+use Rattle.std.specs.Prelude.{ℕ, ◌≡◌, ◌≤◌, ◌<◌, ◌==◌, List, length, count_by, slice_index, slice_index_or, ℤ, pos, ◌-ℤ◌, ◌≤ℤ◌, All}
 use Rattle.edd_check.specs.declared.Command.{Command}
+use Rattle.edd_check.specs.declared.steps.Step.{Step}
+use Rattle.edd_check.specs.Limits.{round_limit}
+use Rattle.edd_check.specs.Capacity.{depth_at}
 
 -- each command was released by its round
 abbrev pub StartsReleased : List Command → List ℕ → Type 0
@@ -10,11 +13,11 @@ StartsReleased commands rounds =
 unfoldable pub places_at : List ℕ → ℕ → ℕ
 places_at rounds x = count_by (λ y. y == x) rounds
 
--- a round for each command, none before its release, and no round for more than `depth` of them
-pub record IsLegal (commands : List Command) (rounds : List ℕ) (depth : ℕ) : Type 0 where
+-- a round for each command, none before its release, and no round for more of them than it carries
+pub record IsLegal (commands : List Command) (rounds : List ℕ) (steps : List Step) : Type 0 where
   pub one_each : length rounds ≡ length commands
   pub released : StartsReleased commands rounds
-  pub within_depth : (x : ℕ) → places_at rounds x ≤ depth
+  pub within_depth : (x : ℕ) → places_at rounds x ≤ depth_at steps x
 
 -- how late the command at place k is: its round less its due round
 abbrev pub lateness_at : List Command → List ℕ → ℕ → Command → ℤ
@@ -27,18 +30,18 @@ pub record IsGreatestLateness (commands : List Command) (rounds : List ℕ) (lat
   pub in_list : place < length commands
   pub reached : (d : Command) → lateness_at commands rounds place d ≡ late
 
--- every release and due round is below 2^41
+-- every release and due round is within the limit
 abbrev pub CommandsInRange : List Command → Type 0
-CommandsInRange commands = All (λ c. (c.release < 2 ^ 41) × (c.due < 2 ^ 41)) commands
+CommandsInRange commands = All (λ c. (c.release < round_limit) × (c.due < round_limit)) commands
 
--- every round is below 2^41
+-- every round is within the limit
 abbrev pub RoundsInRange : List ℕ → Type 0
-RoundsInRange rounds = All (λ x. x < 2 ^ 41) rounds
+RoundsInRange rounds = All (λ x. x < round_limit) rounds
 
--- the least round of more than `depth` places
-pub record IsLeastOverDeep (rounds : List ℕ) (depth x : ℕ) : Type 0 where
-  pub over : depth < places_at rounds x
-  pub least : (y : ℕ) → y < x → places_at rounds y ≤ depth
+-- the least round of more places than it carries
+pub record IsLeastOverDeep (rounds : List ℕ) (steps : List Step) (x : ℕ) : Type 0 where
+  pub over : depth_at steps x < places_at rounds x
+  pub least : (y : ℕ) → y < x → places_at rounds y ≤ depth_at steps y
 
 -- the least round of the list that is `from` or later
 pub record IsLeastFrom (rounds : List ℕ) (start x : ℕ) : Type 0 where
@@ -53,9 +56,14 @@ pub record IsFirstEarly (commands : List Command) (rounds : List ℕ) (id : ℕ)
   pub named : (d : Command) → (slice_index_or commands place d).id ≡ id
   pub first : (k : ℕ) (d : Command) → k < place → (slice_index_or commands k d).release ≤ slice_index rounds k
 
--- late is least: some legal schedule is as late, and no legal schedule is less late
-pub record IsLeastLateness (commands : List Command) (depth : ℕ) (late : ℤ) : Type 0 where
+-- every legal schedule is as late at least
+abbrev pub IsLowerBound : List Command → List Step → ℤ → Type 0
+IsLowerBound commands steps late =
+    (rounds : List ℕ) (other : ℤ) → IsLegal commands rounds steps → IsGreatestLateness commands rounds other → late ≤ℤ other
+
+-- late is least: some legal schedule is as late, and none is less late
+pub record IsLeastLateness (commands : List Command) (steps : List Step) (late : ℤ) : Type 0 where
   pub schedule : List ℕ
-  pub legal : IsLegal commands schedule depth
+  pub legal : IsLegal commands schedule steps
   pub reached : IsGreatestLateness commands schedule late
-  pub least : (rounds : List ℕ) (other : ℤ) → IsLegal commands rounds depth → IsGreatestLateness commands rounds other → late ≤ℤ other
+  pub least : IsLowerBound commands steps late

@@ -1,21 +1,32 @@
 //! Checks a claim of least lateness from whoever made it.
 //!
-//! Commands are unit jobs with release and due rounds, and a schedule gives each a round on one of `depth` machines
-//! (Pinedo, Scheduling: identical machines in parallel, unit processing times, release dates, due dates, and the
-//! greatest lateness Lmax as the objective). All calls go by place in the lists, and don't look at whether ids repeat.
-//! Rounds are whole numbers below 2^41.
+//! Commands are unit jobs with release and due rounds, and a schedule gives each a round on one of as many machines as
+//! that round has (Pinedo, Scheduling: identical machines in parallel, unit processing times, release dates, due dates,
+//! and the greatest lateness Lmax as the objective). All calls go by place in the lists, and don't look at whether ids
+//! repeat. Rounds are whole numbers below [`ROUND_LIMIT`].
 #![tactic(auto)]
 
-ghost use Rattle.std.specs.Prelude.{◌+◌, ◌*◌, ℕ, ℤ, pos, negsuc, ◌+ℤ◌, ◌≤ℤ◌, IfNone, IfOk, OnOk, IsOkUnless, ◌≡◌, ◌<◌, ◌^◌, ◌↔◌, [], length, IsTrue, IsNone, IfSome, ◌≤◌, All};
-ghost use Rattle.edd_check.specs.Schedule.{IsLegal, IsGreatestLateness, StartsReleased, IsFirstEarly, IsLeastOverDeep, IsLeastLateness, IsLeastFrom, places_at, CommandsInRange, RoundsInRange};
+ghost use Rattle.std.specs.Prelude.{◌+◌, ◌*◌, ℕ, ℤ, pos, negsuc, ◌+ℤ◌, ◌≤ℤ◌, ◌<ℤ◌, ◌-◌, IfNone, IfOk, OnOk, IsOkUnless, ◌≡◌, ◌<◌, ◌^◌, ◌↔◌, [], List, length, IsTrue, IsNone, IfSome, ◌≤◌, All};
+ghost use Rattle.edd_check.specs.Capacity.{depth_at, carried, fixed};
+ghost use Rattle.edd_check.specs.Schedule.{IsLegal, IsGreatestLateness, StartsReleased, IsFirstEarly, IsLeastOverDeep, IsLeastLateness, IsLeastFrom, IsLowerBound, places_at, CommandsInRange, RoundsInRange};
 ghost use Rattle.edd_check.specs.Window.{load_of, rounds_between, IsCrowded, WindowInRange};
 ghost use Rattle.edd_check.specs.Check.{IsAnswer};
 
+mod steps;
+
 use std::alloc::{AllocError, Allocator};
+pub use steps::{Capacity, CapacityFault, MOST_DEPTH, Step};
 use thiserror::Error;
 
-/// Every release, due, round and window number lies below this.
-pub const LIMIT: u64 = 1 << 41;
+/// Every due, scheduled and window round lies below this.
+pub const ROUND_LIMIT: u64 = 1 << 41;
+
+/// Every release of a command that a schedule is asked for lies below this. So each command has a round below
+/// [`ROUND_LIMIT`] in the schedule, however many wait for one.
+pub const RELEASE_LIMIT: u64 = 1 << 40;
+
+/// A schedule is asked for at most so many commands.
+pub const MOST_COMMANDS: u64 = 1_000_000;
 
 /// How many rounds one pass of [`is_legal`] counts.
 const BLOCK: u64 = 4096;
@@ -53,7 +64,7 @@ pub enum CheckFault {
     /// Memory ran out.
     #[error("Memory")]
     Memory,
-    /// The least round with more commands than the depth.
+    /// The least round with more commands than it carries.
     #[error("OverDepth")]
     OverDepth(u64),
     /// The schedule's own greatest lateness, which is not the claimed one.
@@ -64,15 +75,17 @@ pub enum CheckFault {
     NotCrowded(u64),
 }
 
-/// Whether every release, due, round and window number lies below [`LIMIT`], as [`check`] requires.
+/// Whether every release, due, scheduled and window round lies below [`ROUND_LIMIT`], as [`check`] requires.
 pub fn in_range(commands: &[Command], rounds: &[u64], window: Window) -> bool
     ensures { IsTrue result
         ↔ (CommandsInRange commands.now × RoundsInRange rounds.now × WindowInRange window) }
 {
-    commands.iter().all(|c| c.release < LIMIT && c.due < LIMIT)
-        && rounds.iter().all(|x| *x < LIMIT)
-        && window.from < LIMIT
-        && window.due < LIMIT
+    commands
+        .iter()
+        .all(|c| c.release < ROUND_LIMIT && c.due < ROUND_LIMIT)
+        && rounds.iter().all(|x| *x < ROUND_LIMIT)
+        && window.from < ROUND_LIMIT
+        && window.due < ROUND_LIMIT
 }
 
 /// The window's load: how many commands are released at its `from` or later and due at its `due` or sooner.
@@ -113,15 +126,15 @@ fn least_from(rounds: &[u64], from: u64) -> Option<u64>
     least
 }
 
-/// Whether each of the [`BLOCK`] rounds from `from` on stands in at most `depth` places.
-fn block_stays_within(rounds: &[u64], depth: u64, from: u64) -> bool
-    ensures { IsTrue result ↔ ((k : ℕ) → k < 4096 → places_at rounds.now (from + k) ≤ depth) }
+/// Whether each of the [`BLOCK`] rounds from `from` on stands in at most as many places as it carries.
+fn block_stays_within<A: Allocator>(rounds: &[u64], capacity: &Capacity<A>, from: u64) -> bool
+    ensures { IsTrue result ↔ ((k : ℕ) → k < 4096 → places_at rounds.now (from + k) ≤ depth_at capacity.now (from + k)) }
 {
     let mut counts = [0u64; BLOCK as usize];
     for x in rounds {
         if *x >= from && *x - from < BLOCK {
             let k = (*x - from) as usize;
-            if counts[k] >= depth {
+            if counts[k] >= capacity.at(*x) {
                 return false;
             }
             counts[k] += 1;
@@ -130,13 +143,13 @@ fn block_stays_within(rounds: &[u64], depth: u64, from: u64) -> bool
     true
 }
 
-/// Whether each round stands in at most `depth` places.
-fn stays_within(rounds: &[u64], depth: u64) -> bool
-    ensures { IsTrue result ↔ ((x : ℕ) → places_at rounds.now x ≤ depth) }
+/// Whether each round stands in at most as many places as it carries.
+fn stays_within<A: Allocator>(rounds: &[u64], capacity: &Capacity<A>) -> bool
+    ensures { IsTrue result ↔ ((x : ℕ) → places_at rounds.now x ≤ depth_at capacity.now x) }
 {
     let mut from = 0;
     while let Some(least) = least_from(rounds, from) {
-        if !block_stays_within(rounds, depth, least) {
+        if !block_stays_within(rounds, capacity, least) {
             return false;
         }
         let Some(next) = least.checked_add(BLOCK) else {
@@ -147,19 +160,19 @@ fn stays_within(rounds: &[u64], depth: u64) -> bool
     true
 }
 
-/// Whether the schedule is legal: each command has a round, none before its release, and no round has more than
-/// `depth` commands, which may be any number. Lists of different lengths are not.
+/// Whether the schedule is legal: each command has a round, none before its release, and no round has more
+/// commands than it carries. Lists of different lengths are not.
 ///
 /// It takes no memory. It counts in blocks of 4,096 rounds from the least one on that is not yet counted, with two
 /// passes over the list for each block, one to find where it begins and one to count it. So its time grows with the list
 /// for rounds that lie close together, and with the square of its length only for rounds that are scattered. [`check`]
 /// sorts a copy instead.
-pub fn is_legal(commands: &[Command], rounds: &[u64], depth: u64) -> bool
-    ensures { IsTrue result ↔ IsLegal commands.now rounds.now depth }
+pub fn is_legal<A: Allocator>(commands: &[Command], rounds: &[u64], capacity: &Capacity<A>) -> bool
+    ensures { IsTrue result ↔ IsLegal commands.now rounds.now capacity.now }
 {
     rounds.len() == commands.len()
         && starts_released(commands, rounds)
-        && stays_within(rounds, depth)
+        && stays_within(rounds, capacity)
 }
 
 /// The greatest of the commands' latenesses (Pinedo's Lmax), each its round less its due round: negative where all
@@ -196,72 +209,72 @@ fn first_early(commands: &[Command], rounds: &[u64]) -> Option<u64>
     None
 }
 
-/// The least round that more than `depth` places have.
-fn least_over_deep<A: Allocator>(
+/// The least round that more places have than it carries.
+fn least_over_deep<A: Allocator, B: Allocator>(
     alloc: A,
     rounds: &[u64],
-    depth: u64,
+    capacity: &Capacity<B>,
 ) -> Result<Option<u64>, AllocError>
-    ensures none { IfOk result (λ found. IfNone found ((x : ℕ) → places_at rounds.now x ≤ depth)) }
-    ensures least { IfOk result (λ found. IfSome found (IsLeastOverDeep rounds.now depth)) }
+    ensures none { IfOk result (λ found. IfNone found ((x : ℕ) → places_at rounds.now x ≤ depth_at capacity.now x)) }
+    ensures least { IfOk result (λ found. IfSome found (IsLeastOverDeep rounds.now capacity.now)) }
 {
-    let depth = depth as usize;
     let mut sorted = Vec::from_slice(alloc, rounds)?;
     sorted.sort_unstable();
-    for last in depth..sorted.len() {
-        if sorted[last - depth] == sorted[last] {
+    for last in 0..sorted.len() {
+        let depth = capacity.at(sorted[last]) as usize;
+        if depth <= last && sorted[last - depth] == sorted[last] {
             return Ok(Some(sorted[last]));
         }
     }
     Ok(None)
 }
 
-/// How many rounds the window has for commands that are to be less late than `lateness`.
-fn rounds_in(window: Window, lateness: i64) -> u64
+/// The round after the last in which the window's commands may run if each is to be less late than `lateness`, or the
+/// window's `from` where there is none.
+fn end_of(window: Window, lateness: i64) -> u64
     requires window { WindowInRange window }
     requires low { negsuc (2 ^ 41) ≤ℤ lateness }
-    requires high { lateness ≤ℤ pos (2 ^ 41) }
-    ensures rounds { result ≡ rounds_between window.from (pos window.due +ℤ lateness) }
-    ensures small { result ≤ 2 ^ 42 }
+    requires high { lateness <ℤ pos (2 ^ 41) }
+    ensures rounds { result - window.from ≡ rounds_between window.from (pos window.due +ℤ lateness) }
+    ensures small { result < 2 ^ 42 }
 {
     let end = window.due as i64 + lateness;
     if end <= window.from as i64 {
-        0
+        window.from
     } else {
-        (end - window.from as i64) as u64
+        end as u64
     }
 }
 
 /// Checks a schedule, its greatest lateness, and a window that asks for more commands than its rounds carry if each is
-/// to be less late: more than `depth` times the rounds from the window's `from` to its `due + lateness - 1`. Where the
+/// to be less late: more than the rounds from the window's `from` to its `due + lateness - 1` carry. Where the
 /// answer is `Ok`, no legal schedule of these commands has a smaller greatest lateness.
 ///
-/// `depth` is the most commands of a round, at most 256, and `lateness` is counted in rounds; every release, due, round
-/// and window number lies below [`LIMIT`], as [`in_range`] tells.
+/// `lateness` is counted in rounds; every release, due, scheduled and window round lies below [`ROUND_LIMIT`], as
+/// [`in_range`] tells.
 ///
 /// The answer depends on the claim alone, but for `Memory`, which may come in place of any answer after `BeforeRelease`.
 /// Refused, in this order, as `Length`, `BeforeRelease`, `Memory`, `OverDepth`, `WrongLateness` and `NotCrowded`, with the
 /// value that [`CheckFault`] says. With no commands there is no lateness to be wrong, and the answer is
 /// `NotCrowded(0)`. A copy of the rounds is sorted, which is all the memory that it takes.
-pub fn check<A: Allocator>(
+pub fn check<A: Allocator, B: Allocator>(
     alloc: A,
     commands: &[Command],
-    depth: u64,
+    capacity: &Capacity<B>,
     lateness: i64,
     rounds: &[u64],
     window: Window,
 ) -> Result<(), CheckFault>
-    requires depth { depth ≤ 256 }
     requires commands_in { CommandsInRange commands.now }
     requires rounds_in { RoundsInRange rounds.now }
     requires window_in { WindowInRange window }
-    ensures answer { IsAnswer commands.now depth lateness rounds.now window result }
-    ensures accepts { IsLegal commands.now rounds.now depth
+    ensures answer { IsAnswer commands.now capacity.now lateness rounds.now window result }
+    ensures accepts { IsLegal commands.now rounds.now capacity.now
         → IsGreatestLateness commands.now rounds.now lateness
-        → IsCrowded commands.now depth lateness window
+        → IsCrowded commands.now capacity.now lateness window
         → IsOkUnless result CheckFault.Memory }
     // the accepted lateness is least
-    ensures least { OnOk result (IsLeastLateness commands.now depth lateness) }
+    ensures least { OnOk result (IsLeastLateness commands.now capacity.now lateness) }
 {
     if rounds.len() != commands.len() {
         return Err(CheckFault::Length);
@@ -269,7 +282,7 @@ pub fn check<A: Allocator>(
     if let Some(id) = first_early(commands, rounds) {
         return Err(CheckFault::BeforeRelease(id));
     }
-    let Ok(over_deep) = least_over_deep(alloc, rounds, depth) else {
+    let Ok(over_deep) = least_over_deep(alloc, rounds, capacity) else {
         return Err(CheckFault::Memory);
     };
     if let Some(round) = over_deep {
@@ -282,11 +295,31 @@ pub fn check<A: Allocator>(
     if own != lateness {
         return Err(CheckFault::WrongLateness(own));
     }
-    if load <= depth * rounds_in(window, lateness) {
+    if load <= capacity.sum(window.from, end_of(window, lateness)) {
         return Err(CheckFault::NotCrowded(load));
     }
     Ok(())
 }
 
-#[cfg(test)]
-mod tests;
+/// A window that is crowded at a lateness bounds the greatest lateness of every legal schedule of the commands.
+///
+/// A law: it does nothing when it runs, and a caller has its clause.
+pub fn law_of_crowded_windows<A: Allocator>(
+    commands: &[Command],
+    capacity: &Capacity<A>,
+    lateness: i64,
+    window: Window,
+)
+    requires { IsCrowded commands.now capacity.now lateness window }
+    ensures { IsLowerBound commands.now capacity.now lateness }
+{
+    let _ = (commands.len(), capacity.at(0), lateness, window.from);
+}
+
+/// Under one depth each round carries that depth, and n rounds carry n times as much.
+///
+/// A law: it does nothing when it runs, and a caller has its clauses.
+pub fn law_of_one_depth()
+    ensures each { (depth x : ℕ) → depth_at (fixed depth) x ≡ depth }
+    ensures sum { (depth start n : ℕ) → carried (fixed depth) start n ≡ depth * n }
+{}

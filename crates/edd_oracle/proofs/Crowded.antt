@@ -1,17 +1,16 @@
-use Rattle.std.proofs.Common.{◌≡◌, ◌<◌, ◌≤◌, ℕ, ◌+◌, ◌-◌, ◌*◌, ◌^◌, zero, suc, Bool, true, ◌&&◌, nat_le, nat_lt, ◌==◌, List, length, get_or, count_by, inl, inr, ℤ, pos, ◌+ℤ◌, ◌-ℤ◌, arith, ap, sym, ◌∙◌, subst}
+use Rattle.std.proofs.Common.{◌≡◌, ◌<◌, ◌≤◌, ℕ, ◌+◌, ◌-◌, zero, suc, Bool, true, ◌&&◌, nat_le, nat_lt, ◌==◌, List, length, get_or, count_by, inl, inr, ℤ, pos, ◌+ℤ◌, ◌-ℤ◌, arith, ap, sym, ◌∙◌, subst}
 use Rattle.std.specs.List.{zip}
 use Rattle.std.proofs.lemmas.Int.{ints}
 use Rattle.std.proofs.lemmas.List.{get_or_default}
 use Rattle.std.proofs.lemmas.Bool.{and_parts, and_from, and_right, leb-true, le-leb, ltb-true, lt-ltb, eq-eqb, ne_eqb, eqb-true, cases_lt}
 use Rattle.edd_check.specs.declared.Command.{Command}
-use Rattle.std.specs.List.{All}
-use Rattle.edd_check.specs.Schedule.{places_at, lateness_at, IsLegal, IsGreatestLateness, RoundsInRange}
-use Rattle.edd_check.proofs.Least.{least_here}
+use Rattle.edd_check.specs.declared.steps.Step.{Step}
+use Rattle.edd_check.specs.Capacity.{depth_at, carried}
+use Rattle.edd_check.proofs.InForce.{carried_suc, carried_none}
+use Rattle.edd_check.specs.Schedule.{places_at, lateness_at, IsGreatestLateness}
 use Rattle.edd_check.specs.Window.{IsCrowded, load_of}
-use Rattle.edd_oracle.specs.Input.{IsSolvable}
-use Rattle.edd_oracle.specs.Answer.{IsBest}
-use Rattle.edd_oracle.specs.Plan.{due_at, IsWindowStart, IsLatest}
-use Rattle.edd_oracle.specs.Priority.{IsEarliestDueFirst}
+use Rattle.edd_oracle.specs.Plan.{due_at, IsWindowStart, IsLatest, IsChosen}
+use Rattle.edd_oracle.specs.Priority.{IsEarliestDueFirst, ComesFirst}
 use Rattle.edd_oracle.proofs.Counting.{count_of_both, count_along, count_some}
 use Rattle.edd_oracle.proofs.Pairs.{pair_at, length_pairs, counted}
 
@@ -44,18 +43,22 @@ due_among-more commands rounds start n due =
     (zip commands rounds)
 
 -- n full rounds
-due_among-full : (commands : List Command) (rounds : List ℕ) (depth start due n : ℕ) → ((y : ℕ) → start ≤ y → y < start + n → depth ≤ due_at commands rounds y due) → depth * n ≤ due_among commands rounds start n due
-due_among-full commands rounds depth start due zero full = omega arith
-due_among-full commands rounds depth start due (suc n) full =
-    let rest : depth * n ≤ due_among commands rounds start n due =
-    due_among-full commands rounds depth start due n (λ y low high. full y low (omega arith)) in
-    let here : depth ≤ due_at commands rounds (start + n) due = full (start + n) (omega arith) (omega arith) in
-    omega (arith, rest, here, due_among-more commands rounds start n due)
+due_among-full : (commands : List Command) (rounds : List ℕ) (steps : List Step) (start due n : ℕ) → ((y : ℕ) → start ≤ y → y < start + n → depth_at steps y ≤ due_at commands rounds y due) → carried steps start n ≤ due_among commands rounds start n due
+due_among-full commands rounds steps start due zero full = omega (arith, carried_none steps start)
+due_among-full commands rounds steps start due (suc n) full =
+    let rest : carried steps start n ≤ due_among commands rounds start n due =
+    due_among-full commands rounds steps start due n (λ y low high. full y low (omega arith)) in
+    let here : depth_at steps (start + n) ≤ due_at commands rounds (start + n) due = full (start + n) (omega arith) (omega arith) in
+    omega (arith, rest, here, due_among-more commands rounds start n due, carried_suc steps start n)
+
+-- what comes first is due no later
+due_from_first : (a b : Command) → ComesFirst a b → a.due ≤ b.due
+due_from_first a b first = elim first [ inl sooner ↦ omega arith | inr tie ↦ omega (arith, tie.0) ]
 
 -- what is due by then and runs from the start on was released at the start or later
-released_inside : (commands : List Command) (rounds : List ℕ) (depth x due start k : ℕ) (d : Command) → length rounds ≡ length commands → IsEarliestDueFirst commands rounds depth → IsWindowStart commands rounds depth x due start → k < length commands → (get_or commands k d).due ≤ due → start ≤ get_or rounds k 0 → start ≤ (get_or commands k d).release
+released_inside : (commands : List Command) (rounds : List ℕ) (steps : List Step) (x due start k : ℕ) (d : Command) → length rounds ≡ length commands → IsEarliestDueFirst commands rounds steps → IsWindowStart commands rounds steps x due start → k < length commands → (get_or commands k d).due ≤ due → start ≤ get_or rounds k 0 → start ≤ (get_or commands k d).release
 unfolding due_at places_at
-released_inside commands rounds depth x due start k d same priority is_start within is_due runs =
+released_inside commands rounds steps x due start k d same priority is_start within is_due runs =
     elim is_start.first [
       | inl none ↦ omega arith
       | inr «open» ↦
@@ -64,13 +67,13 @@ released_inside commands rounds depth x due start k d same priority is_start wit
                 let y : ℕ = start - 1 in
                 let by_then : (get_or commands k d).release ≤ y = omega arith in
                 let later : y < get_or rounds k 0 = omega arith in
-                let filled : places_at rounds y ≡ depth = priority.full y k d within by_then later in
+                let filled : places_at rounds y ≡ depth_at steps y = priority.full y k d within by_then later in
                 let held : places_at rounds y ≤ due_at commands rounds y due =
                 count_along (λ z. z == y) (λ p. nat_le p.0.due due && p.1 == y) rounds (zip commands rounds) (length_pairs commands rounds same ∙ sym same)
                 (λ j e p in_list is_y.
                 let j_in : j < length commands = omega arith in
                 let at_y : get_or rounds j 0 ≡ y = get_or_default rounds j 0 e in_list ∙ eqb-true (get_or rounds j e) y is_y in
-                let sooner : (get_or commands j d).due ≤ (get_or commands k d).due = priority.due_first y k j d within by_then later j_in at_y in
+                let sooner : (get_or commands j d).due ≤ (get_or commands k d).due = due_from_first (get_or commands j d) (get_or commands k d) (priority.due_first y k j d within by_then later j_in at_y) in
                 subst (λ (q : Command × ℕ). (nat_le q.0.due due && q.1 == y) ≡ true) (sym (pair_at commands rounds j p d 0 same j_in))
                 (and_from (nat_le (get_or commands j d).due due) (get_or rounds j 0 == y) (le-leb (get_or commands j d).due due (omega arith)) (eq-eqb (get_or rounds j 0) y at_y))) in
                 absurd (omega (arith, filled, held, «open»))
@@ -79,13 +82,13 @@ released_inside commands rounds depth x due start k d same priority is_start wit
     ]
 
 -- the window that ends with the latest command asks for more than its rounds carry
-pub crowded_to : (commands : List Command) (rounds : List ℕ) (depth x due start k : ℕ) (d : Command) → length rounds ≡ length commands → IsEarliestDueFirst commands rounds depth → IsWindowStart commands rounds depth x due start → k < length commands → get_or rounds k 0 ≡ x → (get_or commands k d).due ≡ due → depth * (x - start) < load_of commands record { from = start; due = due }
+pub crowded_to : (commands : List Command) (rounds : List ℕ) (steps : List Step) (x due start k : ℕ) (d : Command) → length rounds ≡ length commands → IsEarliestDueFirst commands rounds steps → IsWindowStart commands rounds steps x due start → k < length commands → get_or rounds k 0 ≡ x → (get_or commands k d).due ≡ due → carried steps start (x - start) < load_of commands record { from = start; due = due }
 unfolding due_at
-crowded_to commands rounds depth x due start k d same priority is_start within at_x is_due =
+crowded_to commands rounds steps x due start k d same priority is_start within at_x is_due =
     let n : ℕ = x - start in
     let end : start + n ≡ x = omega (arith, is_start.before) in
-    let full : depth * n ≤ due_among commands rounds start n due =
-    due_among-full commands rounds depth start due n (λ y low high. is_start.full y low (omega arith)) in
+    let full : carried steps start n ≤ due_among commands rounds start n due =
+    due_among-full commands rounds steps start due n (λ y low high. is_start.full y low (omega arith)) in
     let more : due_among commands rounds start n due + due_at commands rounds (start + n) due ≤ due_among commands rounds start (suc n) due =
     due_among-more commands rounds start n due in
     let late : 0 < due_at commands rounds (start + n) due =
@@ -100,18 +103,21 @@ crowded_to commands rounds depth x due start k d same priority is_start within a
     let parts = and_parts (nat_le (get_or commands j e).due due) (nat_le start (get_or rounds j 0) && nat_lt (get_or rounds j 0) (start + suc n)) here in
     let ends = and_parts (nat_le start (get_or rounds j 0)) (nat_lt (get_or rounds j 0) (start + suc n)) parts.1 in
     let released : start ≤ (get_or commands j e).release =
-    released_inside commands rounds depth x due start j e same priority is_start j_in (leb-true (get_or commands j e).due due parts.0) (leb-true start (get_or rounds j 0) ends.0) in
+    released_inside commands rounds steps x due start j e same priority is_start j_in (leb-true (get_or commands j e).due due parts.0) (leb-true start (get_or rounds j 0) ends.0) in
     and_from (nat_le start (get_or commands j e).release) (nat_le (get_or commands j e).due due) (le-leb start (get_or commands j e).release released) parts.0) in
     omega (arith, full, more, late, asked)
+
+le_from_chosen : (one : Command) (x : ℕ) (other : Command) (y : ℕ) → IsChosen one x other y → y + one.due ≤ x + other.due
+le_from_chosen one x other y chosen = elim chosen [ inl later ↦ omega arith | inr tie ↦ omega (arith, tie.0) ]
 
 due_and_late : (x due : ℕ) → (pos due +ℤ (pos x -ℤ pos due)) ≡ pos x
 due_and_late x due = omega (arith, ints)
 
 -- the window is crowded at the lateness of the latest command
-pub crowded_at : (commands : List Command) (rounds : List ℕ) (depth x due start k : ℕ) (d : Command) (late : ℤ) → length rounds ≡ length commands → IsEarliestDueFirst commands rounds depth → IsWindowStart commands rounds depth x due start → k < length commands → get_or rounds k 0 ≡ x → (get_or commands k d).due ≡ due → late ≡ (pos x -ℤ pos due) → IsCrowded commands depth late record { from = start; due = due }
-crowded_at commands rounds depth x due start k d late same priority is_start within at_x is_due is_late =
+pub crowded_at : (commands : List Command) (rounds : List ℕ) (steps : List Step) (x due start k : ℕ) (d : Command) (late : ℤ) → length rounds ≡ length commands → IsEarliestDueFirst commands rounds steps → IsWindowStart commands rounds steps x due start → k < length commands → get_or rounds k 0 ≡ x → (get_or commands k d).due ≡ due → late ≡ (pos x -ℤ pos due) → IsCrowded commands steps late record { from = start; due = due }
+crowded_at commands rounds steps x due start k d late same priority is_start within at_x is_due is_late =
     let end : (pos due +ℤ late) ≡ pos x = ap (λ (z : ℤ). pos due +ℤ z) is_late ∙ due_and_late x due in
-    rw end (crowded_to commands rounds depth x due start k d same priority is_start within at_x is_due)
+    rw end (crowded_to commands rounds steps x due start k d same priority is_start within at_x is_due)
 
 -- a command's lateness by place, with any default
 late_at : (commands : List Command) (rounds : List ℕ) (k x due : ℕ) (d e : Command) → k < length commands → get_or rounds k 0 ≡ x → (get_or commands k d).due ≡ due → lateness_at commands rounds k e ≡ (pos x -ℤ pos due)
@@ -120,31 +126,14 @@ late_at commands rounds k x due d e within at_x is_due =
     ap (λ n. pos n -ℤ pos (get_or commands k e).due) at_x ∙ ap (λ n. pos x -ℤ pos n) same
 
 -- the latest command's lateness is the greatest
-greatest_at : (commands : List Command) (rounds : List ℕ) (k x due : ℕ) (d : Command) (late : ℤ) → k < length commands → get_or rounds k 0 ≡ x → (get_or commands k d).due ≡ due → late ≡ (pos x -ℤ pos due) → IsLatest commands rounds k → IsGreatestLateness commands rounds late
+pub greatest_at : (commands : List Command) (rounds : List ℕ) (k x due : ℕ) (d : Command) (late : ℤ) → k < length commands → get_or rounds k 0 ≡ x → (get_or commands k d).due ≡ due → late ≡ (pos x -ℤ pos due) → IsLatest commands rounds k → IsGreatestLateness commands rounds late
 greatest_at commands rounds k x due d late within at_x is_due is_late latest =
     record {
       bound = λ j e h.
-          let there = latest j e h in
+          let there = le_from_chosen (get_or commands k e) (get_or rounds k 0) (get_or commands j e) (get_or rounds j 0) (latest j e h) in
           let here = late_at commands rounds k x due d e within at_x is_due in
           omega (arith, ints);
       place = k;
       in_list = within;
       reached = λ e. late_at commands rounds k x due d e within at_x is_due ∙ sym is_late;
-    }
-
--- an earliest-due-date-first schedule, its latest command and the window that ends with it
-pub best_here : (commands : List Command) (rounds : List ℕ) (depth x due start k : ℕ) (d : Command) (late : ℤ) → IsLegal commands rounds depth → RoundsInRange rounds → All IsSolvable commands → IsEarliestDueFirst commands rounds depth → k < length commands → get_or rounds k 0 ≡ x → (get_or commands k d).due ≡ due → late ≡ (pos x -ℤ pos due) → IsLatest commands rounds k → IsWindowStart commands rounds depth x due start → IsBest commands depth rounds late record { from = start; due = due }
-best_here commands rounds depth x due start k d late legal rounds_in solvable priority within at_x is_due is_late latest is_start =
-    let greatest : IsGreatestLateness commands rounds late = greatest_at commands rounds k x due d late within at_x is_due is_late latest in
-    let crowded : IsCrowded commands depth late record { from = start; due = due } =
-    crowded_at commands rounds depth x due start k d late legal.one_each priority is_start within at_x is_due is_late in
-    let round_small : get_or rounds k 0 < 2 ^ 41 = rounds_in k 0 (omega (arith, legal.one_each)) in
-    let due_small : (get_or commands k d).due < 2 ^ 41 = (solvable k d within).1 in
-    record {
-      legal = legal;
-      greatest = greatest;
-      crowded = crowded;
-      least = least_here commands depth late rounds record { from = start; due = due } legal greatest crowded;
-      rounds_in = rounds_in;
-      window_in = (omega (arith, is_start.before), omega arith);
     }

@@ -4,11 +4,13 @@ use Rattle.std.proofs.lemmas.List.{get_or-set_same, get_or-set_other, length-set
 use Rattle.std.proofs.lemmas.List.Sums.{sum_by-set, count_by-le-length}
 use Rattle.std.proofs.lemmas.Bool.{cases_eq, cases_Bool, cases_lt, cond-true, cond-false, eq-eqb, ne_eqb, eqb-true}
 use Rattle.edd_check.specs.declared.Command.{Command}
+use Rattle.edd_check.specs.declared.steps.Step.{Step}
+use Rattle.edd_check.specs.Capacity.{depth_at}
 use Rattle.edd_check.specs.Schedule.{IsLegal, RoundsInRange, places_at}
 use Rattle.std.specs.List.{All}
 use Rattle.edd_oracle.specs.Input.{IsSolvable}
 use Rattle.edd_oracle.specs.Plan.{IsWaiting, IsFirstReleased, IsEarliestDue}
-use Rattle.edd_oracle.specs.Priority.{IsEarliestDueFirst}
+use Rattle.edd_oracle.specs.Priority.{IsEarliestDueFirst, ComesFirst}
 use Rattle.edd_oracle.proofs.Counting.{count_none, count_map}
 
 -- whether this is the round x
@@ -36,14 +38,14 @@ pub record CouldRun (commands : List Command) (rounds : List (Option ℕ)) (x k 
   pub later : (y : ℕ) → get_or rounds k None ≡ Some y → x < y
 
 -- the rounds up to `round` are as earliest due date first has them, and that round has `used` commands so far
-pub record IsPartial (commands : List Command) (rounds : List (Option ℕ)) (depth round used : ℕ) : Type 0 where
+pub record IsPartial (commands : List Command) (rounds : List (Option ℕ)) (steps : List Step) (round used : ℕ) : Type 0 where
   pub one_each : length rounds ≡ length commands
   pub timely : (k x : ℕ) (d : Command) → get_or rounds k None ≡ Some x → ((get_or commands k d).release ≤ x) × (x ≤ round)
-  pub within : (x : ℕ) → placed_at rounds x ≤ depth
+  pub within : (x : ℕ) → placed_at rounds x ≤ depth_at steps x
   pub filled : placed_at rounds round ≡ used
-  pub full : (x k : ℕ) (d : Command) → x < round → CouldRun commands rounds x k d → placed_at rounds x ≡ depth
-  pub due_first : (x k p : ℕ) (d : Command) → x < round → CouldRun commands rounds x k d → get_or rounds p None ≡ Some x → (get_or commands p d).due ≤ (get_or commands k d).due
-  pub due_now : (k p : ℕ) (d : Command) → IsWaiting rounds k → (get_or commands k d).release ≤ round → get_or rounds p None ≡ Some round → (get_or commands p d).due ≤ (get_or commands k d).due
+  pub full : (x k : ℕ) (d : Command) → x < round → CouldRun commands rounds x k d → placed_at rounds x ≡ depth_at steps x
+  pub due_first : (x k p : ℕ) (d : Command) → x < round → CouldRun commands rounds x k d → get_or rounds p None ≡ Some x → ComesFirst (get_or commands p d) (get_or commands k d)
+  pub due_now : (k p : ℕ) (d : Command) → IsWaiting rounds k → (get_or commands k d).release ≤ round → get_or rounds p None ≡ Some round → ComesFirst (get_or commands p d) (get_or commands k d)
   pub room : round + used + waiting_count rounds ≤ 2 ^ 40 + length commands
 
 has_round_true : (x : ℕ) (o : Option ℕ) → has_round x o ≡ true → o ≡ Some x
@@ -102,8 +104,8 @@ unfolding waiting_count
 waiting_count-le rounds = count_by-le-length has_none rounds
 
 -- before the first command
-pub start_partial : (commands : List Command) (rounds : List (Option ℕ)) (depth : ℕ) → length rounds ≡ length commands → ((k : ℕ) → get_or rounds k None ≡ None) → IsPartial commands rounds depth 0 0
-start_partial commands rounds depth same none =
+pub start_partial : (commands : List Command) (rounds : List (Option ℕ)) (steps : List Step) → length rounds ≡ length commands → ((k : ℕ) → get_or rounds k None ≡ None) → IsPartial commands rounds steps 0 0
+start_partial commands rounds steps same none =
     let never : (x k : ℕ) → get_or rounds k None ≡ Some x → ⊥ = λ x k there. let n = none k in absurd (cc) in
     record {
       one_each = same;
@@ -117,8 +119,8 @@ start_partial commands rounds depth same none =
     }
 
 -- where nothing that waits is released yet the next round is that of the least release
-pub jump_partial : (commands : List Command) (rounds : List (Option ℕ)) (depth round used next : ℕ) → IsPartial commands rounds depth round used → round < next → next < 2 ^ 40 → ((j : ℕ) (d : Command) → IsWaiting rounds j → next ≤ (get_or commands j d).release) → IsPartial commands rounds depth next 0
-jump_partial commands rounds depth round used next so_far up small least =
+pub jump_partial : (commands : List Command) (rounds : List (Option ℕ)) (steps : List Step) (round used next : ℕ) → IsPartial commands rounds steps round used → round < next → next < 2 ^ 40 → ((j : ℕ) (d : Command) → IsWaiting rounds j → next ≤ (get_or commands j d).release) → IsPartial commands rounds steps next 0
+jump_partial commands rounds steps round used next so_far up small least =
     let idle : (x k : ℕ) (d : Command) → round ≤ x → x < next → CouldRun commands rounds x k d → ⊥ =
     λ x k d after lt runs.
     elim (waiting_or_placed rounds k (omega (arith, so_far.one_each, runs.in_list))) [
@@ -145,8 +147,8 @@ jump_partial commands rounds depth round used next so_far up small least =
     }
 
 -- after a full round comes the next one
-pub next_partial : (commands : List Command) (rounds : List (Option ℕ)) (depth round used : ℕ) → IsPartial commands rounds depth round used → used ≡ depth → 0 < depth → IsPartial commands rounds depth (round + 1) 0
-next_partial commands rounds depth round used so_far done some =
+pub next_partial : (commands : List Command) (rounds : List (Option ℕ)) (steps : List Step) (round used : ℕ) → IsPartial commands rounds steps round used → used ≡ depth_at steps round → ((x : ℕ) → 0 < depth_at steps x) → IsPartial commands rounds steps (round + 1) 0
+next_partial commands rounds steps round used so_far done some =
     record {
       one_each = so_far.one_each;
       timely = λ k x d there. let known = so_far.timely k x d there in (known.0, omega (arith, known.1));
@@ -157,7 +159,7 @@ next_partial commands rounds depth round used so_far done some =
             | inl before ↦ so_far.full x k d before runs
             | inr after ↦
                 let last : x ≡ round = omega arith in
-                ap (λ y. placed_at rounds y) last ∙ so_far.filled ∙ done
+                ap (λ y. placed_at rounds y) last ∙ so_far.filled ∙ done ∙ ap (λ y. depth_at steps y) (sym last)
           ];
       due_first = λ x k p d lt runs there.
           elim (cases_lt x round) [
@@ -174,8 +176,8 @@ next_partial commands rounds depth round used so_far done some =
     }
 
 -- the command that is due first gets the round
-pub put_partial : (commands : List Command) (rounds : List (Option ℕ)) (depth round used place : ℕ) → IsPartial commands rounds depth round used → used < depth → IsEarliestDue commands rounds round place → IsPartial commands (set rounds place (Some round)) depth round (used + 1)
-put_partial commands rounds depth round used place so_far fits pick =
+pub put_partial : (commands : List Command) (rounds : List (Option ℕ)) (steps : List Step) (round used place : ℕ) → IsPartial commands rounds steps round used → used < depth_at steps round → IsEarliestDue commands rounds round place → IsPartial commands (set rounds place (Some round)) steps round (used + 1)
+put_partial commands rounds steps round used place so_far fits pick =
     let rounds' : List (Option ℕ) = set rounds place (Some round) in
     let at_place : get_or rounds' place None ≡ Some round =
     get_or-set_same rounds place (Some round) None pick.waiting.in_list in
@@ -211,7 +213,7 @@ put_partial commands rounds depth round used place so_far fits pick =
           elim (cases_eq x round) [
             | inl here ↦
                 let more : placed_at rounds' round ≡ placed_at rounds round + 1 = placed_here rounds place round pick.waiting in
-                subst (λ y. placed_at rounds' y ≤ depth) (sym here) (omega (arith, more, so_far.filled))
+                subst (λ y. placed_at rounds' y ≤ depth_at steps y) (sym here) (omega (arith, more, so_far.filled))
             | inr other ↦ omega (arith, placed_elsewhere rounds place round x pick.waiting other, so_far.within x)
           ];
       filled = omega (arith, placed_here rounds place round pick.waiting, so_far.filled);
@@ -235,7 +237,7 @@ put_partial commands rounds depth round used place so_far fits pick =
                 record { in_list = omega (arith, same_length, waits.in_list); none = sym (kept k apart) ∙ waits.none } in
                 elim (cases_eq p place) [
                   | inl here ↦
-                      subst (λ i. (get_or commands i d).due ≤ (get_or commands k d).due) (sym here) (pick.least k d waited released)
+                      subst (λ i. ComesFirst (get_or commands i d) (get_or commands k d)) (sym here) (pick.least k d waited released)
                   | inr other ↦ so_far.due_now k p d waited released (sym (kept p other) ∙ there)
                 ]
           ];
@@ -243,14 +245,14 @@ put_partial commands rounds depth round used place so_far fits pick =
     }
 
 -- the rounds once each command has one
-pub record IsFinished (commands : List Command) (rounds : List ℕ) (depth : ℕ) : Type 0 where
-  pub legal : IsLegal commands rounds depth
+pub record IsFinished (commands : List Command) (rounds : List ℕ) (steps : List Step) : Type 0 where
+  pub legal : IsLegal commands rounds steps
   pub in_range : RoundsInRange rounds
-  pub earliest : IsEarliestDueFirst commands rounds depth
+  pub earliest : IsEarliestDueFirst commands rounds steps
 
-pub finish_partial : (commands : List Command) (rounds : List (Option ℕ)) (depth round used : ℕ) (all : List ℕ) → IsPartial commands rounds depth round used → length commands ≤ 1000000 → map (λ x. Some x) all ≡ rounds → IsFinished commands all depth
+pub finish_partial : (commands : List Command) (rounds : List (Option ℕ)) (steps : List Step) (round used : ℕ) (all : List ℕ) → IsPartial commands rounds steps round used → length commands ≤ 1000000 → map (λ x. Some x) all ≡ rounds → IsFinished commands all steps
 unfolding placed_at places_at
-finish_partial commands rounds depth round used all so_far few settled =
+finish_partial commands rounds steps round used all so_far few settled =
     let same : length all ≡ length commands =
     sym (length-map all (λ x. Some x)) ∙ ap (λ xs. length xs) settled ∙ so_far.one_each in
     let at : (k : ℕ) → k < length commands → get_or rounds k None ≡ Some (get_or all k 0) =
@@ -288,33 +290,33 @@ finish_partial commands rounds depth round used all so_far few settled =
     }
 
 -- there is a place left in the round
-pub record IsReady (commands : List Command) (rounds : List (Option ℕ)) (depth round used : ℕ) : Type 0 where
-  pub so_far : IsPartial commands rounds depth round used
-  pub fits : used < depth
+pub record IsReady (commands : List Command) (rounds : List (Option ℕ)) (steps : List Step) (round used : ℕ) : Type 0 where
+  pub so_far : IsPartial commands rounds steps round used
+  pub fits : used < depth_at steps round
 
-ready_at : (commands : List Command) (rounds : List (Option ℕ)) (depth round used round' used' : ℕ) → IsPartial commands rounds depth round used → used < depth → round' ≡ round → used' ≡ used → IsReady commands rounds depth round' used'
-ready_at commands rounds depth round used round' used' so_far fits same_round same_used =
+ready_at : (commands : List Command) (rounds : List (Option ℕ)) (steps : List Step) (round used round' used' : ℕ) → IsPartial commands rounds steps round used → used < depth_at steps round → round' ≡ round → used' ≡ used → IsReady commands rounds steps round' used'
+ready_at commands rounds steps round used round' used' so_far fits same_round same_used =
     record {
-      so_far = subst (λ r. IsPartial commands rounds depth r used') (sym same_round) (subst (λ u. IsPartial commands rounds depth round u) (sym same_used) so_far);
-      fits = omega arith;
+      so_far = subst (λ r. IsPartial commands rounds steps r used') (sym same_round) (subst (λ u. IsPartial commands rounds steps round u) (sym same_used) so_far);
+      fits = let same : depth_at steps round' ≡ depth_at steps round = ap (λ x. depth_at steps x) same_round in omega arith;
     }
 
-pub ready_jumped : (commands : List Command) (rounds : List (Option ℕ)) (depth round used first round' used' : ℕ) (d : Command) → IsPartial commands rounds depth round used → 0 < depth → All IsSolvable commands → IsFirstReleased commands rounds first → round < (get_or commands first d).release → round' ≡ (get_or commands first d).release → used' ≡ 0 → IsReady commands rounds depth round' used'
-ready_jumped commands rounds depth round used first round' used' d so_far some solvable is_first up is_round is_used =
+pub ready_jumped : (commands : List Command) (rounds : List (Option ℕ)) (steps : List Step) (round used first round' used' : ℕ) (d : Command) → IsPartial commands rounds steps round used → ((x : ℕ) → 0 < depth_at steps x) → All IsSolvable commands → IsFirstReleased commands rounds first → round < (get_or commands first d).release → round' ≡ (get_or commands first d).release → used' ≡ 0 → IsReady commands rounds steps round' used'
+ready_jumped commands rounds steps round used first round' used' d so_far some solvable is_first up is_round is_used =
     let in_list : first < length commands = omega (arith, so_far.one_each, is_first.waiting.in_list) in
-    ready_at commands rounds depth (get_or commands first d).release 0 round' used'
-    (jump_partial commands rounds depth round used (get_or commands first d).release so_far up (solvable first d in_list).0
+    ready_at commands rounds steps (get_or commands first d).release 0 round' used'
+    (jump_partial commands rounds steps round used (get_or commands first d).release so_far up (solvable first d in_list).0
     (λ j e waits.
     let same : (get_or commands first d).release ≡ (get_or commands first e).release = ap (λ (c : Command). c.release) (get_or_default commands first d e in_list) in
     omega (arith, is_first.least j e waits)))
-    some is_round is_used
+    (some (get_or commands first d).release) is_round is_used
 
-pub ready_next : (commands : List Command) (rounds : List (Option ℕ)) (depth round used round' used' : ℕ) → IsPartial commands rounds depth round used → 0 < depth → used ≡ depth → round' ≡ round + 1 → used' ≡ 0 → IsReady commands rounds depth round' used'
-ready_next commands rounds depth round used round' used' so_far some done is_round is_used =
-    ready_at commands rounds depth (round + 1) 0 round' used' (next_partial commands rounds depth round used so_far done some) some is_round is_used
+pub ready_next : (commands : List Command) (rounds : List (Option ℕ)) (steps : List Step) (round used round' used' : ℕ) → IsPartial commands rounds steps round used → ((x : ℕ) → 0 < depth_at steps x) → used ≡ depth_at steps round → round' ≡ round + 1 → used' ≡ 0 → IsReady commands rounds steps round' used'
+ready_next commands rounds steps round used round' used' so_far some done is_round is_used =
+    ready_at commands rounds steps (round + 1) 0 round' used' (next_partial commands rounds steps round used so_far done some) (some (round + 1)) is_round is_used
 
-pub ready_still : (commands : List Command) (rounds : List (Option ℕ)) (depth round used round' used' : ℕ) → IsPartial commands rounds depth round used → (used ≡ depth → ⊥) → round' ≡ round → used' ≡ used → IsReady commands rounds depth round' used'
-ready_still commands rounds depth round used round' used' so_far more is_round is_used =
+pub ready_still : (commands : List Command) (rounds : List (Option ℕ)) (steps : List Step) (round used round' used' : ℕ) → IsPartial commands rounds steps round used → (used ≡ depth_at steps round → ⊥) → round' ≡ round → used' ≡ used → IsReady commands rounds steps round' used'
+ready_still commands rounds steps round used round' used' so_far more is_round is_used =
     let most = so_far.within round in
     let here = so_far.filled in
-    ready_at commands rounds depth round used round' used' so_far (omega arith) is_round is_used
+    ready_at commands rounds steps round used round' used' so_far (omega arith) is_round is_used

@@ -2,40 +2,35 @@
 //!
 //! The rule is earliest due date first, of what is released (Pinedo, Scheduling, on minimising Lmax). Jackson's and
 //! Horn's rules are the like for one machine: Jackson's where all jobs are there from the beginning, Horn's where they
-//! may be interrupted. The case here, unit commands with whole release rounds on `depth` machines, is proved in this
-//! crate.
+//! may be interrupted. The case here, unit commands with whole release rounds on identical machines whose number may
+//! change from round to round, is proved in this crate.
 #![tactic(auto)]
 
-ghost use Rattle.std.specs.Prelude.{◌≡◌, ◌≤◌, ◌<◌, ◌↔◌, [], length, IfOk, IfErr, IfSome, IsNone, OnOk};
-ghost use Rattle.edd_oracle.specs.Input.{IsTaken, IsRefusal};
+ghost use Rattle.std.specs.Prelude.{◌≡◌, ◌≤◌, ◌<◌, ◌↔◌, [], length, IfOk, IfErr, IfSome, IsNone, OnOk, IsOkUnless};
+ghost use Rattle.edd_check.specs.Schedule.{IsLegal};
+ghost use Rattle.edd_oracle.specs.Input.{IsTaken, IsRefusal, HasDistinctIds};
 ghost use Rattle.edd_oracle.specs.Answer.{IsBest};
+ghost use Rattle.edd_oracle.specs.Priority.{IsEarliestDueFirst};
+ghost use Rattle.edd_oracle.specs.Plan.{IsLatestWindow};
 
 mod input;
-mod plain;
-#[cfg(test)]
-mod tests;
+mod queue;
 mod window;
 
-use edd_check::{Command, Window};
+use edd_check::{
+    Capacity, CheckFault, Command, MOST_COMMANDS, Window, check, law_of_crowded_windows,
+};
 use std::alloc::{Allocator, Global};
 use thiserror::Error;
-
-/// The most commands that run in one round.
-pub const MOST_DEPTH: u64 = 64;
-
-/// The most commands of a list.
-pub const MOST_COMMANDS: usize = 1_000_000;
 
 /// Why a list is refused, in the order in which the reasons are looked for.
 #[derive(Clone, Copy, Debug, PartialEq, Eq, Error)]
 pub enum OracleFault {
-    /// The depth is 0 or above 64.
-    #[error("Depth")]
-    Depth,
-    /// There are more than 1,000,000 commands.
+    /// There are more than [`MOST_COMMANDS`] commands.
     #[error("TooMany")]
     TooMany,
-    /// The id of the first command by place that is released in round 2^40 or later or due in round 2^41 or later.
+    /// The id of the first command by place that is released at [`RELEASE_LIMIT`](edd_check::RELEASE_LIMIT) or later or
+    /// due at [`ROUND_LIMIT`](edd_check::ROUND_LIMIT) or later.
     #[error("RoundRange")]
     RoundRange(u64),
     /// The id of the first command by place whose id stood before.
@@ -58,37 +53,37 @@ pub struct Answer<A: Allocator = Global> {
     pub window: Window,
 }
 
-/// Schedules the commands, at most `depth` of them in a round, so that the greatest lateness is least.
+/// Schedules the commands, no more of them in a round than it carries, so that the greatest lateness is least.
 ///
-/// Round by round it takes, of the released commands that have no round yet, up to `depth` with the least due
-/// round, on a tie with the least id: earliest due date first (see Pinedo, Scheduling, on minimising Lmax).
+/// Round by round it takes, of the released commands that have no round yet, as many as the round carries with the
+/// least due round, on a tie with the least id: earliest due date first (see Pinedo, Scheduling, on minimising Lmax).
 /// The window's `due` is the due round of the latest command; of several that of the first round, and there of
-/// the least id. Its `from` is one more than the last round before that command's in which fewer than `depth`
-/// commands due by then run, or 0 where there is none.
+/// the least id. Its `from` is one more than the last round before that command's in which fewer commands due by then
+/// run than it carries, or 0 where there is none.
 ///
-/// There is no answer exactly where there are no commands. `depth` is 1 to 64 commands in a round, releases are
-/// rounds below 2^40 and due rounds below 2^41; all rounds of the answer are below 2^41. Refused are, in this
-/// order: a `depth` out of range (`Depth`), more than 1,000,000 commands (`TooMany`), a release or due round out of
-/// range (`RoundRange`), an id that stands twice (`RepeatedId`), and want of memory (`Memory`), which may also
-/// come in place of `RepeatedId`.
+/// There is no answer exactly where there are no commands. Releases are rounds below 2^40 and due rounds below 2^41; all
+/// rounds of the answer are below 2^41. Refused are, in this order: more than 1,000,000 commands (`TooMany`), a release
+/// or due round out of range (`RoundRange`), an id that stands twice (`RepeatedId`), and want of memory (`Memory`),
+/// which may also come in place of `RepeatedId`.
 ///
-/// It is plain: for each command it looks through the whole list, so its time grows with the square of the number of
-/// commands.
-pub fn solve<A: Allocator + Clone>(
+/// The released commands wait in a heap, and rounds in which nothing is released and nothing waits are jumped over. So
+/// the time grows as n log n in the number of commands, whatever their rounds.
+pub fn solve<A: Allocator + Clone, B: Allocator>(
     alloc: A,
     commands: &[Command],
-    depth: u64,
+    capacity: &Capacity<B>,
 ) -> Result<Option<Answer<A>>, OracleFault>
-    ensures taken { OnOk result (IsTaken commands.now depth) }
-    ensures refused { IfErr result (IsRefusal commands.now depth) }
+    ensures taken { OnOk result (IsTaken commands.now) }
+    ensures refused { IfErr result (IsRefusal commands.now) }
     ensures none { IfOk result (λ found. IsNone found ↔ (commands.now ≡ [])) }
     ensures best { IfOk result (λ found. IfSome found (λ answer.
-        IsBest commands.now depth answer.rounds.items answer.lateness answer.window)) }
+        IsBest commands.now capacity.now answer.rounds.items answer.lateness answer.window)) }
+    ensures first { IfOk result (λ found. IfSome found (λ answer.
+        IsEarliestDueFirst commands.now answer.rounds.items capacity.now)) }
+    ensures latest { IfOk result (λ found. IfSome found (λ answer.
+        IsLatestWindow commands.now answer.rounds.items capacity.now answer.window)) }
 {
-    if depth == 0 || depth > MOST_DEPTH {
-        return Err(OracleFault::Depth);
-    }
-    if commands.len() > MOST_COMMANDS {
+    if commands.len() as u64 > MOST_COMMANDS {
         return Err(OracleFault::TooMany);
     }
     if let Some(id) = input::first_out_of_range(commands) {
@@ -106,15 +101,60 @@ pub fn solve<A: Allocator + Clone>(
     if commands.is_empty() {
         return Ok(None);
     }
-    let Ok(rounds) = plain::schedule(alloc, commands, depth) else {
+    let Ok(alloc_window) = alloc.clone() else {
         return Err(OracleFault::Memory);
     };
-    let late = window::latest(commands, rounds.as_slice());
-    let (round, due) = (rounds[late], commands[late].due);
-    let from = window::start(commands, rounds.as_slice(), depth, round, due);
+    let Ok(rounds) = queue::schedule(alloc, commands, capacity) else {
+        return Err(OracleFault::Memory);
+    };
+    let tight = window::tight(alloc_window, commands, rounds.as_slice(), capacity);
+    let Ok((lateness, window)) = tight else {
+        return Err(OracleFault::Memory);
+    };
+    law_of_crowded_windows(commands, capacity, lateness, window);
     Ok(Some(Answer {
         rounds,
-        lateness: round as i64 - due as i64,
-        window: Window { from, due },
+        lateness,
+        window,
     }))
+}
+
+/// Checks an answer of [`solve`] by the separate check, which passes it unless memory runs out.
+pub fn check_answer<A: Allocator, B: Allocator, C: Allocator>(
+    alloc: A,
+    commands: &[Command],
+    capacity: &Capacity<B>,
+    answer: &Answer<C>,
+) -> Result<(), CheckFault>
+    requires taken { IsTaken commands.now }
+    requires best { IsBest commands.now capacity.now answer.now.rounds.items answer.now.lateness answer.now.window }
+    ensures { IsOkUnless result CheckFault.Memory }
+{
+    check(
+        alloc,
+        commands,
+        capacity,
+        answer.lateness,
+        answer.rounds.as_slice(),
+        answer.window,
+    )
+}
+
+/// There is one legal schedule by earliest due date first with ties by id, where no id stands twice.
+///
+/// A law: it does nothing when it runs, and a caller has its clause.
+pub fn law_of_one_schedule<A: Allocator>(
+    commands: &[Command],
+    capacity: &Capacity<A>,
+    one: &[u64],
+    other: &[u64],
+)
+    requires distinct { HasDistinctIds commands.now (length commands.now) }
+    requires legal { IsLegal commands.now one.now capacity.now }
+    requires first { IsEarliestDueFirst commands.now one.now capacity.now }
+    requires other_legal { IsLegal commands.now other.now capacity.now }
+    requires other_first { IsEarliestDueFirst commands.now other.now capacity.now }
+    ensures { one.now ≡ other.now }
+{
+    let _ = (commands.len(), capacity.at(0), one.len(), other.len());
 }

@@ -1,28 +1,38 @@
 //! The window that shows why a schedule's greatest lateness is least.
 
-ghost use Rattle.std.specs.Prelude.{◌≡◌, ◌≤◌, ◌<◌, ◌+◌, ◌^◌, length};
+ghost use Rattle.std.specs.Prelude.{◌≡◌, ◌≤◌, ◌<◌, ◌+◌, ℕ, All, IfOk, length};
 ghost use Rattle.std.specs.Bool.{OnTrue, OnFalse};
-ghost use Rattle.edd_check.specs.Schedule.{CommandsInRange, RoundsInRange};
-ghost use Rattle.edd_oracle.specs.Plan.{due_at, IsLatest, IsWindowStart};
+ghost use Rattle.edd_check.specs.Limits.{round_limit};
+ghost use Rattle.edd_check.specs.Schedule.{CommandsInRange, RoundsInRange, IsLegal, IsGreatestLateness, places_at};
+ghost use Rattle.edd_check.specs.Window.{IsCrowded, WindowInRange};
+ghost use Rattle.edd_oracle.specs.Plan.{due_at, IsChosen, IsLatest, IsWindowStart, IsLatestWindow};
+ghost use Rattle.edd_oracle.specs.Priority.{IsEarliestDueFirst};
 
-use edd_check::Command;
+use edd_check::{Capacity, Command, Window};
+use std::alloc::{AllocError, Allocator};
 
 /// Whether the one command at its round comes before the other at its: by lateness, the later first, then by
 /// round, then by id.
 fn is_later(one: Command, x: u64, other: Command, y: u64) -> bool
-    requires one_due { one.due < 2 ^ 41 }
-    requires other_due { other.due < 2 ^ 41 }
-    requires one_round { x < 2 ^ 41 }
-    requires other_round { y < 2 ^ 41 }
-    ensures yes { OnTrue result (y + one.due ≤ x + other.due) }
-    ensures no { OnFalse result (x + other.due ≤ y + one.due) }
+    requires one_due { one.due < round_limit }
+    requires other_due { other.due < round_limit }
+    requires one_round { x < round_limit }
+    requires other_round { y < round_limit }
+    ensures yes { OnTrue result (IsChosen one x other y) }
+    ensures no { OnFalse result (IsChosen other y one x) }
 {
     let (here, there) = (x + other.due, y + one.due);
-    here > there || (here == there && (x < y || (x == y && one.id < other.id)))
+    if here != there {
+        here > there
+    } else if x != y {
+        x < y
+    } else {
+        one.id < other.id
+    }
 }
 
 /// The place of the latest command; of several the one of the first round, and there of the least id.
-pub fn latest(commands: &[Command], rounds: &[u64]) -> usize
+fn latest(commands: &[Command], rounds: &[u64]) -> usize
     requires some { 0 < length commands.now }
     requires equal { length rounds.now ≡ length commands.now }
     requires commands_in { CommandsInRange commands.now }
@@ -39,28 +49,75 @@ pub fn latest(commands: &[Command], rounds: &[u64]) -> usize
     late
 }
 
-/// How many commands due by `due` have the round `x`.
-fn due_at(commands: &[Command], rounds: &[u64], x: u64, due: u64) -> u64
-    requires { length commands.now ≡ length rounds.now }
-    ensures { result ≡ due_at commands.now rounds.now x due }
+/// The rounds before `x` of the commands due by `due`.
+fn rounds_before<A: Allocator>(
+    alloc: A,
+    commands: &[Command],
+    rounds: &[u64],
+    x: u64,
+    due: u64,
+) -> Result<Vec<u64, A>, AllocError>
+    requires { length rounds.now ≡ length commands.now }
+    ensures below { IfOk result (λ early. All (λ y. y < x) early.items) }
+    ensures same { IfOk result (λ early. (y : ℕ) → y < x → places_at early.items y ≡ due_at commands.now rounds.now y due) }
 {
-    let mut count = 0;
+    let mut early = Vec::new(alloc);
     for (i, command) in commands.iter().enumerate() {
-        if command.due <= due && rounds[i] == x {
-            count += 1;
+        if command.due <= due && rounds[i] < x {
+            let Ok(()) = early.push(rounds[i]) else {
+                return Err(AllocError);
+            };
         }
     }
-    count
+    Ok(early)
 }
 
-/// One more than the last round before `x` with fewer than `depth` commands due by `due`, or 0.
-pub fn start(commands: &[Command], rounds: &[u64], depth: u64, x: u64, due: u64) -> u64
-    requires { length commands.now ≡ length rounds.now }
-    ensures { IsWindowStart commands.now rounds.now depth x due result }
+/// One more than the last round before `x` with fewer commands due by `due` than it carries, or 0.
+fn start<A: Allocator, B: Allocator>(
+    alloc: A,
+    commands: &[Command],
+    rounds: &[u64],
+    capacity: &Capacity<B>,
+    x: u64,
+    due: u64,
+) -> Result<u64, AllocError>
+    requires { IsLegal commands.now rounds.now capacity.now }
+    ensures { IfOk result (IsWindowStart commands.now rounds.now capacity.now x due) }
 {
+    let mut early = rounds_before(alloc, commands, rounds, x, due)?;
+    early.sort_unstable();
     let mut from = x;
-    while from > 0 && due_at(commands, rounds, from - 1, due) >= depth {
+    let mut left = early.len();
+    while from > 0 {
+        let depth = capacity.at(from - 1) as usize;
+        if left < depth || early[left - depth] != from - 1 {
+            return Ok(from);
+        }
+        left -= depth;
         from -= 1;
     }
-    from
+    Ok(from)
+}
+
+/// The greatest lateness of a schedule by earliest due date first, and the window of its latest command.
+pub fn tight<A: Allocator, B: Allocator>(
+    alloc: A,
+    commands: &[Command],
+    rounds: &[u64],
+    capacity: &Capacity<B>,
+) -> Result<(i64, Window), AllocError>
+    requires some { 0 < length commands.now }
+    requires commands_in { CommandsInRange commands.now }
+    requires rounds_in { RoundsInRange rounds.now }
+    requires legal { IsLegal commands.now rounds.now capacity.now }
+    requires first { IsEarliestDueFirst commands.now rounds.now capacity.now }
+    ensures greatest { IfOk result (λ t. IsGreatestLateness commands.now rounds.now t.0) }
+    ensures crowded { IfOk result (λ t. IsCrowded commands.now capacity.now t.0 t.1) }
+    ensures latest { IfOk result (λ t. IsLatestWindow commands.now rounds.now capacity.now t.1) }
+    ensures in_range { IfOk result (λ t. WindowInRange t.1) }
+{
+    let late = latest(commands, rounds);
+    let (round, due) = (rounds[late], commands[late].due);
+    let from = start(alloc, commands, rounds, capacity, round, due)?;
+    Ok((round as i64 - due as i64, Window { from, due }))
 }

@@ -1,32 +1,33 @@
-use Rattle.std.proofs.Common.{◌≡◌, ◌<◌, ◌*◌, ◌^◌, ℤ, pos, negsuc, ◌+ℤ◌, ◌≤ℤ◌, subst, arith, rules, ap, of_z, w64}
+use Rattle.std.proofs.Common.{◌≡◌, ◌<◌, ◌-◌, ◌^◌, ℤ, pos, negsuc, ◌+ℤ◌, ◌≤ℤ◌, ◌<ℤ◌, subst, arith, rules, ap, of_z, w64}
 use Rattle.std.specs.Prelude.{⊤}
 use Rattle.std.proofs.lemmas.Int.{ints, to_z-of_z}
 use Rattle.std.proofs.lemmas.Option.{MatchOption-at_some}
 use Rattle.edd_check.specs.declared.Command.{Command}
 use Rattle.edd_check.specs.Schedule.{IsLegal, IsGreatestLateness, IsLeastOverDeep}
+use Rattle.edd_check.specs.Capacity.{carried}
 use Rattle.edd_check.specs.Window.{rounds_between, load_of, IsCrowded}
 use Rattle.edd_check.proofs.Latest.{greatest_in_range, same_greatest}
 use Rattle.edd_check.proofs.Least.{least_here}
 use Rattle.edd_check.proofs.check.Given.{Over}
 use Rattle.edd_check.proofs.check.Goals as goal
 
-own_in_range : (g : Over) (c : goal.Else-own-lateness g) → (negsuc (2 ^ 41) ≤ℤ c.in-Some-greatest_lateness.own) × (c.in-Some-greatest_lateness.own ≤ℤ pos (2 ^ 41))
+own_in_range : (g : Over) (c : goal.Else-own-lateness g) → (negsuc (2 ^ 41) ≤ℤ c.in-Some-greatest_lateness.own) × (c.in-Some-greatest_lateness.own <ℤ pos (2 ^ 41))
 own_in_range g c =
     greatest_in_range c.args.commands.now c.args.rounds.now c.in-Some-greatest_lateness.own (omega arith) c.requires.commands_in c.requires.rounds_in c.in-Some-greatest_lateness.ensures.greatest record { id = 0; release = 0; due = 0 }
 
-pub rounds_in-requires-clause-low : goal.rounds_in-requires-clause-low
-rounds_in-requires-clause-low g c = let own = own_in_range g c in omega (arith, ints)
+pub end_of-requires-clause-low : goal.end_of-requires-clause-low
+end_of-requires-clause-low g c = let own = own_in_range g c in omega (arith, ints)
 
-pub rounds_in-requires-clause-high : goal.rounds_in-requires-clause-high
-rounds_in-requires-clause-high g c = let own = own_in_range g c in omega (arith, ints)
+pub end_of-requires-clause-high : goal.end_of-requires-clause-high
+end_of-requires-clause-high g c = let own = own_in_range g c in omega (arith, ints)
 
-proven : (g : Over) (c : goal.Else-load-depth g) → IsLegal c.args.commands.now c.args.rounds.now c.args.depth × IsGreatestLateness c.args.commands.now c.args.rounds.now c.args.lateness × IsCrowded c.args.commands.now c.args.depth c.args.lateness c.args.window
+proven : (g : Over) (c : goal.Else-load-sum g) → IsLegal c.args.commands.now c.args.rounds.now c.args.capacity.now × IsGreatestLateness c.args.commands.now c.args.rounds.now c.args.lateness × IsCrowded c.args.commands.now c.args.capacity.now c.args.lateness c.args.window
 proven g c =
-    let legal : IsLegal c.args.commands.now c.args.rounds.now c.args.depth = search rules in
+    let legal : IsLegal c.args.commands.now c.args.rounds.now c.args.capacity.now = search rules in
     let same : c.in-Some-greatest_lateness.own ≡ c.args.lateness = omega (arith, ints) in
     let late : ℤ = pos c.args.window.due +ℤ c.args.lateness in
-    let n : c.rounds_in.result ≡ rounds_between c.args.window.from late = grind (arith, to_z-of_z, c.rounds_in.ensures.rounds) in
-    (legal, subst (λ z. IsGreatestLateness c.args.commands.now c.args.rounds.now z) same c.in-Some-greatest_lateness.ensures.greatest, subst (λ k. c.args.depth * k < load_of c.args.commands.now c.args.window) n (omega arith))
+    let n : c.end_of.result - c.args.window.from ≡ rounds_between c.args.window.from late = grind (arith, to_z-of_z, c.end_of.ensures.rounds) in
+    (legal, subst (λ z. IsGreatestLateness c.args.commands.now c.args.rounds.now z) same c.in-Some-greatest_lateness.ensures.greatest, subst (λ k. carried c.args.capacity.now c.args.window.from k < load_of c.args.commands.now c.args.window) n (omega arith))
 
 pub returns-clause-answer : goal.returns-clause-answer
 returns-clause-answer g c = proven g c
@@ -34,7 +35,7 @@ returns-clause-answer g c = proven g c
 pub returns-clause-least : goal.returns-clause-least
 returns-clause-least g c =
     let all = proven g c in
-    least_here c.args.commands.now c.args.depth c.args.lateness c.args.rounds.now c.args.window all.0 all.1 all.2
+    least_here c.args.commands.now c.args.capacity.now c.args.lateness c.args.rounds.now c.args.window all.0 all.1 all.2
 
 none : Command
 none = record { id = 0; release = 0; due = 0 }
@@ -48,7 +49,7 @@ returns-in-Some-clause-accepts g c =
 pub returns-in-Some-over_deep-clause-accepts : goal.returns-in-Some-over_deep-clause-accepts
 returns-in-Some-over_deep-clause-accepts g c =
     λ legal greatest crowded.
-    let deep = MatchOption-at_some ⊤ (IsLeastOverDeep c.args.rounds.now c.args.depth) c.in-Some-over_deep.round c.in-Some-over_deep.is c.in-Ok.ensures.least in
+    let deep = MatchOption-at_some ⊤ (IsLeastOverDeep c.args.rounds.now c.args.capacity.now) c.in-Some-over_deep.round c.in-Some-over_deep.is c.in-Ok.ensures.least in
     absurd (omega (arith, deep.over, legal.within_depth c.in-Some-over_deep.round))
 
 pub returns-then-own-lateness-clause-accepts : goal.returns-then-own-lateness-clause-accepts

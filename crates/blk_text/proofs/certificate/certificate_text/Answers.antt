@@ -2,7 +2,8 @@ use Rattle.std.proofs.Common.{◌<◌, ◌≤◌, ◌∷◌, [], length, arith}
 use Rattle.std.specs.List.{zip}
 use Rattle.blk_text.specs.Certificate.{title_row, bound_row, served_row}
 use Rattle.blk_text.proofs.DraftLemmas.{two_first, one_more_at, whole}
-use Rattle.blk_text.proofs.ClaimLemmas.{paired, length_zip}
+use Rattle.blk_text.proofs.ClaimLemmas.{paired}
+use Rattle.blk_text.proofs.ClaimLaws.{length_zip}
 use Rattle.blk_text.specs.Drafts.{drafted}
 use Rattle.blk_text.proofs.certificate.certificate_text.Goals as goal
 

@@ -1,5 +1,5 @@
-use Rattle.blk_text.proofs.CommandLaws.{no_fault}
+use Rattle.blk_text.proofs.CommandLaws.{list_tells}
 use Rattle.blk_text.proofs.laws.spelled_commands_have_no_fault.Goals as goal
 
 pub returns : goal.returns
-returns c = no_fault
+returns c = λ rows depth commands at w s f. list_tells.apart rows ((1, depth), commands) _ at w s f

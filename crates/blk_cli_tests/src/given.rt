@@ -1,0 +1,84 @@
+//! What the tests are given: runs of the program over readers and writers that fail.
+
+use blk_cli::run;
+use std::alloc::Global;
+use std::io;
+use std::io::{ErrorKind, Read, Write};
+use std::process::Abort;
+
+/// A reader that gives its text byte by byte, and fails in this way after so many reads.
+#[derive(Drop)]
+pub struct Failing<'a> {
+    /// What it has left to give.
+    pub text: &'a [u8],
+    /// How many reads go well.
+    pub reads_left: u64,
+    /// How the one after them fails.
+    pub kind: ErrorKind,
+}
+
+impl<'a> Read for Failing<'a> {
+    fn read(&mut self, buf: &mut [u8]) -> io::Result<usize> {
+        if self.reads_left == 0 {
+            return Err(io::Error::from(self.kind));
+        }
+        self.reads_left -= 1;
+        match self.text.split_first() {
+            Some((first, rest)) => {
+                if buf.is_empty() {
+                    return Ok(0);
+                }
+                buf[0] = *first;
+                self.text = rest;
+                Ok(1)
+            }
+            None => Ok(0),
+        }
+    }
+}
+
+/// A writer that takes a byte at each write, and fails after so many writes.
+#[derive(Drop)]
+pub struct Choking {
+    /// How many writes go well.
+    pub writes_left: u64,
+}
+
+impl Write for Choking {
+    fn write(&mut self, buf: &[u8]) -> io::Result<usize> {
+        if self.writes_left == 0 {
+            return Err(io::Error::from(ErrorKind::Other));
+        }
+        self.writes_left -= 1;
+        Ok(if buf.is_empty() { 0 } else { 1 })
+    }
+
+    fn flush(&mut self) -> io::Result<()> {
+        Ok(())
+    }
+}
+
+/// The words of a command line, the program's name before them.
+fn words_of(rt: &impl Abort, alloc: Global, words: &[&str]) -> Vec<String> {
+    let mut all = Vec::new(alloc);
+    let name = String::from_str(alloc, "blk").expect(rt, "memory");
+    assert!(rt; all.push(name).is_ok());
+    for word in words {
+        let word = String::from_str(alloc, *word).expect(rt, "memory");
+        assert!(rt; all.push(word).is_ok());
+    }
+    all
+}
+
+/// Runs the program with words after its name, and gives its status.
+pub fn status_of<R: Read + Drop, W: Write, F: Write>(
+    rt: &impl Abort,
+    alloc: Global,
+    words: &[&str],
+    reader: R,
+    out: &mut W,
+    faults: &mut F,
+) -> u8 {
+    let words = words_of(rt, alloc, words);
+    run(alloc, words.as_slice(), reader, out, faults)
+}

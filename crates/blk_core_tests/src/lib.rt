@@ -1,0 +1,17 @@
+//! Tests of schedulers and of the core over them.
+#![tactic(auto)]
+
+#[cfg(test)]
+mod calls;
+#[cfg(test)]
+mod given;
+#[cfg(test)]
+mod laws;
+#[cfg(test)]
+mod own;
+#[cfg(test)]
+mod refusals;
+#[cfg(test)]
+mod told;
+#[cfg(test)]
+mod waiting;

@@ -1,0 +1,76 @@
+//! The core where allocations are refused.
+
+use crate::given::{Call, command, follow, in_order, setup};
+use blk_bio::request::Side;
+use blk_core::{Core, Placed};
+use blk_none::NoneSched;
+use refusing::Refusing;
+use std::alloc::Global;
+use std::process::Abort;
+
+/// The core of this test.
+type Under<'a> = Core<NoneSched<&'a Refusing<Global>>>;
+
+/// A request of two bios enters, and a round ends.
+fn enters<'a>(rt: &impl Abort, heap: &'a Refusing<Global>, core: &mut Under<'a>, id: u64) {
+    assert!(rt; id < 1000);
+    let (bio, sector) = (2 * id, 100 * id);
+    let calls = [
+        Call::Release(bio, sector, 1, 0, Ok(Placed::New(id))),
+        Call::Release(
+            bio + 1,
+            sector + 1,
+            1,
+            0,
+            Ok(Placed::Joined(id, Side::Back)),
+        ),
+        Call::Tick(Ok(id + 1)),
+    ];
+    follow(rt, &heap, core, &calls);
+}
+
+/// A request goes out under each of two tags, the lesser id first.
+fn leave<'a>(rt: &impl Abort, heap: &'a Refusing<Global>, core: &mut Under<'a>, id: u64) {
+    assert!(rt; id < 1000);
+    let next = id + 1;
+    let calls = [
+        Call::Issue(0, 1, Ok(Some(command(id, id, id + 5)))),
+        Call::Issue(0, 0, Ok(Some(command(next, next, next + 5)))),
+        Call::Done(0, Ok(())),
+        Call::Done(1, Ok(())),
+    ];
+    follow(rt, &heap, core, &calls);
+}
+
+/// Twenty requests of two bios enter, one in each round, and then go out two in a round.
+fn come_and_go<'a>(rt: &impl Abort, heap: &'a Refusing<Global>) {
+    let mut core = in_order(rt, &heap, setup(rt, 2, 1, 5));
+    for id in 0..20u64 {
+        enters(rt, heap, &mut core, id);
+    }
+    for n in 0..10u64 {
+        leave(rt, heap, &mut core, 2 * n);
+        follow(rt, &heap, &mut core, &[Call::Tick(Ok(21 + n))]);
+    }
+    follow(
+        rt,
+        &heap,
+        &mut core,
+        &[Call::Issue(0, 0, Ok(None)), Call::Pending(0)],
+    );
+    assert_eq!(rt; core.trace().len(), 110);
+}
+
+#[test]
+fn memory_refused(rt: HostRuntime) {
+    let heap = Refusing::new(rt.alloc());
+    for n in 1..1000u64 {
+        heap.refuse(n);
+        come_and_go(&rt, &heap);
+        if heap.is_armed() {
+            assert!(rt; n > 60);
+            return;
+        }
+    }
+    panic!(rt; "refused for ever");
+}

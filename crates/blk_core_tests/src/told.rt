@@ -1,0 +1,147 @@
+//! What the core tells its scheduler.
+
+use crate::given::{Call, alone, bio, command, follow, release, setup};
+use blk_bio::bio::Dir;
+use blk_bio::limits::Limits;
+use blk_bio::request::{Request, Side};
+use blk_core::{Core, Placed};
+use blk_lifo::lifo::Lifo;
+use blk_sched::{Queued, Scheduler};
+use std::alloc::{AllocError, Global};
+use std::cell::Cell;
+use std::process::Abort;
+
+/// The last pick's hardware queue and round, the last done's hardware queue, direction and wait, and the last tick's
+/// round.
+#[derive(Drop)]
+struct Told {
+    pick: Cell<Option<(u8, u64)>>,
+    done: Cell<Option<(u8, Dir, u64)>>,
+    tick: Cell<Option<u64>>,
+}
+
+impl Told {
+    /// Told nothing so far.
+    fn new() -> Told {
+        Told {
+            pick: Cell::new(None),
+            done: Cell::new(None),
+            tick: Cell::new(None),
+        }
+    }
+}
+
+/// A scheduler that notes what it is told, and does what another does.
+#[derive(Drop)]
+struct Noting<'a, S: Scheduler> {
+    scheduler: S,
+    told: &'a Told,
+}
+
+impl<'a, S: Scheduler> Scheduler for Noting<'a, S> {
+    type A = S::A;
+
+    ghost meaning = { λ n. S.meaning n.scheduler };
+
+    ghost serves = { S.serves };
+
+    ghost kept = { λ n. S.kept n.scheduler };
+
+    fn enter(&mut self, slot: &mut Option<Queued<S::A>>) -> Result<(), AllocError> {
+        self.scheduler.enter(slot)
+    }
+
+    fn candidate(&self, hw: u8, limits: &Limits, newcomer: &Request<S::A>) -> Option<(u64, Side)> {
+        self.scheduler.candidate(hw, limits, newcomer)
+    }
+
+    fn join_at(
+        &mut self,
+        hw: u8,
+        id: u64,
+        side: Side,
+        now: u64,
+        limits: &Limits,
+        slot: &mut Option<Request<S::A>>,
+    ) -> Result<(), AllocError> {
+        self.scheduler.join_at(hw, id, side, now, limits, slot)
+    }
+
+    fn pick(&mut self, hw: u8, now: u64) -> Option<Queued<S::A>> {
+        self.told.pick.set(Some((hw, now)));
+        self.scheduler.pick(hw, now)
+    }
+
+    fn on_done(&mut self, hw: u8, dir: Dir, wait: u64) {
+        self.told.done.set(Some((hw, dir, wait)));
+        self.scheduler.on_done(hw, dir, wait);
+    }
+
+    fn on_tick(&mut self, now: u64) {
+        self.told.tick.set(Some(now));
+        self.scheduler.on_tick(now);
+    }
+
+    fn pending(&self) -> u64 {
+        self.scheduler.pending()
+    }
+
+    fn picked(&self, dir: Dir) -> u64 {
+        self.scheduler.picked(dir)
+    }
+}
+
+/// A core that notes what its scheduler is told.
+type Heard<'a> = Core<Noting<'a, Lifo>>;
+
+/// What is noted of the last pick, the last done and the last tick.
+fn heard(told: &Told) -> (Option<(u8, u64)>, Option<(u8, Dir, u64)>, Option<u64>) {
+    (told.pick.get(), told.done.get(), told.tick.get())
+}
+
+/// A read is released in round 0 for queue 0, joined in round 3, which becomes its release, and issued in round 4 for
+/// queue 1, so its wait is 1.
+fn read_goes_out(rt: &impl Abort, alloc: Global, core: &mut Heard<'_>) {
+    let calls = [
+        Call::Release(0, 0, 4, 0, Ok(Placed::New(0))),
+        Call::Tick(Ok(1)),
+        Call::Tick(Ok(2)),
+        Call::Tick(Ok(3)),
+        Call::Release(1, 4, 4, 0, Ok(Placed::Joined(0, Side::Back))),
+        Call::Tick(Ok(4)),
+        Call::Issue(1, 1, Ok(Some(command(0, 3, 5)))),
+        Call::Done(1, Ok(())),
+        Call::Tick(Ok(5)),
+    ];
+    follow(rt, &alloc, core, &calls);
+}
+
+/// Then a write of round 5 is issued at once, so its wait is 0.
+fn write_goes_out(rt: &impl Abort, alloc: Global, core: &mut Heard<'_>) {
+    let write = alone(rt, &alloc, bio(rt, 2, Dir::Write, 100, 8));
+    assert_eq!(rt; release(rt, core, write, 1), Ok(Placed::New(1)));
+    let calls = [
+        Call::Issue(0, 0, Ok(Some(command(1, 5, 5)))),
+        Call::Done(0, Ok(())),
+    ];
+    follow(rt, &alloc, core, &calls);
+}
+
+#[test]
+fn told_the_scheduler(rt: HostRuntime) {
+    let alloc = rt.alloc();
+    let told = Told::new();
+    let scheduler = Noting {
+        scheduler: Lifo::new(alloc),
+        told: &told,
+    };
+    let Ok(mut core) = Core::new(alloc, setup(&rt, 2, 2, 5), scheduler) else {
+        panic!(rt; "want of memory");
+    };
+    read_goes_out(&rt, alloc, &mut core);
+    let read = (Some((1, 4)), Some((1, Dir::Read, 1)), Some(5));
+    assert!(rt; heard(&told) == read);
+    write_goes_out(&rt, alloc, &mut core);
+    let write = (Some((0, 5)), Some((0, Dir::Write, 0)), Some(5));
+    assert!(rt; heard(&told) == write);
+}

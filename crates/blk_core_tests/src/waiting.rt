@@ -1,0 +1,88 @@
+//! What schedulers share, and the one of the order of entry called by itself.
+
+ghost use Rattle.std.specs.Prelude.{◌≡◌};
+
+use crate::given::{alone, bio, limits};
+use blk_bio::bio::Dir;
+use blk_bio::request::{Request, Side};
+use blk_none::NoneSched;
+use blk_sched::fits::side_of_fit;
+use blk_sched::lane::Lane;
+use blk_sched::{Queued, Scheduler};
+use std::alloc::Global;
+use std::process::Abort;
+
+/// A request of four sectors, whose bio has its first sector as its serial number.
+fn four(rt: &impl Abort, alloc: Global, dir: Dir, first: u64) -> Request {
+    alone(rt, &alloc, bio(rt, first, dir, first, 4))
+}
+
+/// A request of an id at hardware queue 0, of four sectors, released in round 0 and due in round 6.
+fn queued(rt: &impl Abort, alloc: Global, id: u64, dir: Dir, first: u64) -> Queued
+    ensures id { result.id ≡ id }
+    ensures hw { result.hw ≡ 0 }
+{
+    Queued {
+        id,
+        hw: 0,
+        release: 0,
+        due: 6,
+        request: four(rt, alloc, dir, first),
+    }
+}
+
+#[test]
+fn front_only_where_it_is_allowed(rt: HostRuntime) {
+    let alloc = rt.alloc();
+    let (wide, narrow) = (limits(&rt, 8), limits(&rt, 7));
+    let own = four(&rt, alloc, Dir::Read, 8);
+    for (dir, first, side, behind) in [
+        (Dir::Read, 12, Some(Side::Back), Some(Side::Back)),
+        (Dir::Read, 4, Some(Side::Front), None),
+        (Dir::Read, 13, None, None),
+        (Dir::Read, 8, None, None),
+        (Dir::Write, 12, None, None),
+    ] {
+        let newcomer = four(&rt, alloc, dir, first);
+        assert_eq!(rt; side_of_fit(&own, &newcomer, &wide, true), side);
+        assert_eq!(rt; side_of_fit(&own, &newcomer, &wide, false), behind);
+        assert_eq!(rt; side_of_fit(&own, &newcomer, &narrow, true), None);
+    }
+}
+
+/// Whatever the order in which they came, the request of the least id leaves first.
+#[test]
+fn lane_leaves_by_id(rt: HostRuntime) {
+    let alloc = rt.alloc();
+    let mut lane = Lane::new(alloc);
+    assert!(rt; lane.is_empty());
+    assert!(rt; lane.insert(queued(&rt, alloc, 7, Dir::Read, 70)).is_ok());
+    assert!(rt; lane.insert(queued(&rt, alloc, 3, Dir::Write, 30)).is_ok());
+    assert!(rt; lane.insert(queued(&rt, alloc, 5, Dir::Read, 50)).is_ok());
+    assert_eq!(rt; (lane.len(), lane.is_empty()), (3, false));
+    for (id, left) in [(3, 2), (5, 1), (7, 0)] {
+        let first = lane.pop_first().expect(&rt, "a request");
+        assert_eq!(rt; (first.id, lane.len()), (id, left));
+    }
+    assert!(rt; lane.pop_first().is_none());
+}
+
+/// One read waits, is picked in round 1 and done.
+#[test]
+fn picks_are_counted(rt: HostRuntime) {
+    let alloc = rt.alloc();
+    let Ok(mut scheduler) = NoneSched::new(alloc) else {
+        panic!(rt; "want of memory");
+    };
+    assert!(rt;
+        scheduler
+            .insert(queued(&rt, alloc, 0, Dir::Read, 8))
+            .is_ok()
+    );
+    scheduler.on_tick(1);
+    assert!(rt; scheduler.pending() == 1 && scheduler.picked(Dir::Read) == 0);
+    assert!(rt; scheduler.pick(0, 1).is_some());
+    assert!(rt; scheduler.pending() == 0 && scheduler.picked(Dir::Read) == 1);
+    scheduler.on_done(0, Dir::Read, 0);
+    assert!(rt; scheduler.picked(Dir::Read) == 0 && scheduler.picked(Dir::Write) == 0);
+}

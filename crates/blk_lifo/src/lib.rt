@@ -1,0 +1,4 @@
+//! A scheduler of one's own, to read before one writes another.
+#![tactic(auto)]
+
+pub mod lifo;

@@ -1,0 +1,40 @@
+-- Requests that lie at places, found by the places that their ids have.
+use Rattle.std.specs.Prelude.{ℕ, ◌≡◌, ◌<◌, List, [], ◌∷◌, Option, None, Some}
+use Rattle.std.specs.Ordering.{nat_cmp}
+use Rattle.std.specs.BTreeMap.{is_at}
+use Rattle.std.specs.Map.{lookup}
+use Rattle.std.specs.FinMap as map
+use Rattle.blk_bio.specs.declared.request.Side.{Side}
+use Rattle.blk_bio.specs.Bios.{Bio}
+use Rattle.blk_bio.specs.Limits.{Limits}
+use Rattle.blk_bio.specs.Requests.{Fits}
+use Rattle.blk_sched.specs.Meaning.{Waiting, Pending, joined_waiting}
+
+-- a request under an id, if there is one, before others
+abbrev pub beside : ℕ → Option Waiting → List (ℕ × Waiting) → List (ℕ × Waiting)
+beside id None rest = rest
+beside id (Some w) rest = (id, w) ∷ rest
+
+-- the requests under the ids at whose places they lie
+unfoldable pub held : (ℕ → Option Waiting) → List (ℕ × ℕ) → List (ℕ × Waiting)
+held at [] = []
+held at (e ∷ es) = beside e.0 (at e.1) (held at es)
+
+-- at the place of each id lies a request of that id
+abbrev pub IsShelf : List (ℕ × ℕ) → (ℕ → Option Waiting) → Type 0
+IsShelf places at =
+    (id place : ℕ) → lookup (is_at (nat_cmp id)) places ≡ Some place → (w : Waiting) × (at place ≡ Some w) × (w.id ≡ id)
+
+-- the request of an id is joined by a newcomer at the side at which it fits, and the others stay
+pub record JoinsOne (limits : Limits) (now : ℕ) (newcomer : List Bio) (old : Pending) (id : ℕ) (side : Side) (new : Pending) : Type 0 where
+  pub waiting : Waiting
+  pub was : map.get old id ≡ Some waiting
+  pub fits : Fits limits waiting.bios newcomer side
+  pub only : (other : Side) → Fits limits waiting.bios newcomer other → other ≡ side
+  pub is : new ≡ map.insert old id (joined_waiting side now newcomer waiting)
+
+-- the least id
+pub record IsLeast (m : Pending) (id : ℕ) : Type 0 where
+  pub waiting : Waiting
+  pub is_found : map.get m id ≡ Some waiting
+  pub least : (k : ℕ) → k < id → map.get m k ≡ None

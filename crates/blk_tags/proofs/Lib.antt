@@ -1,0 +1,5 @@
+pub mod Counts
+pub mod Bits
+pub mod Rule
+pub mod Marked
+pub mod Plain

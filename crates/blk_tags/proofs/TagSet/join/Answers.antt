@@ -1,0 +1,35 @@
+use Rattle.std.proofs.Common.{◌≢◌, ◌<◌, ◌+◌, ◌==◌, ◌∙◌, ℕ, sym, ap, subst, arith, inl, inr}
+use Rattle.std.specs.Prelude.{Contains}
+use Rattle.std.proofs.lemmas.Bool.{cases_Bool, eqb-true, eq-eqb, ltb-true, ltb-false}
+use lib.Dec.{ltb}
+use Rattle.blk_tags.proofs.Marked.{gave_other}
+use Rattle.blk_tags.proofs.TagSet.join.Goals as goal
+use Rattle.blk_tags.proofs.TagSet.join.Goals.{then-holds, else-holds}
+
+less : (t n : ℕ) → t < n + 1 → t ≢ n → t < n
+less t n a d = elim (cases_Bool (ltb t n)) [
+  | inl y ↦ ltb-true t n y
+  | inr f ↦ absurd (d (omega (arith, a, ltb-false t n f)))
+]
+
+pub loop-tag-preserved : goal.loop-tag-preserved
+loop-tag-preserved g c = elim c.if-holds.branch [
+  | then-holds w ↦ (
+    ap (λ o. o.of_set) w.other-is ∙ ap (λ o. o.of_set) w.give.ensures ∙ c.loop-tag.invariant.0,
+    λ t a has.
+        let kept = gave_other c.loop-tag.tag t c.loop-tag.other.tags (subst (λ tags. Contains tags t) (ap (λ o. o.tags) w.other-is ∙ ap (λ o. o.tags) w.give.ensures) has) in
+        c.loop-tag.invariant.1 t (less t c.loop-tag.tag a kept.0) kept.1,
+  )
+  | else-holds w ↦ (
+    ap (λ o. o.of_set) w.other-is ∙ c.loop-tag.invariant.0,
+    λ t a has.
+        let was : Contains c.loop-tag.other.tags t = subst (λ tags. Contains tags t) (ap (λ o. o.tags) w.other-is) has in
+        elim (cases_Bool (t == c.loop-tag.tag)) [
+          | inl y ↦ cc (sym (c.holds.ensures.value.1 (subst (λ k. Contains c.loop-tag.other.tags k) (eqb-true t c.loop-tag.tag y) was)) ∙ w.if-holds.false)
+          | inr n ↦ c.loop-tag.invariant.1 t (less t c.loop-tag.tag a (λ q. cc (sym (eq-eqb t c.loop-tag.tag q) ∙ n))) was
+        ],
+  )
+]
+
+pub join_empty-requires-clause-none : goal.join_empty-requires-clause-none
+join_empty-requires-clause-none g c = λ t a has. c.loop-tag.invariant.1 t (omega (arith, a, c.loop-tag-test.false, ap (λ s. s.depth) c.self.view_is)) has

@@ -1,0 +1,15 @@
+//! What a seat knows, for the proofs alone.
+
+use std::marker::Model;
+
+/// The tags that a seat holds. No value of it is made: it is the view of a seat at the table of words.
+#[derive(Drop)]
+pub struct Held {}
+
+impl Model for Held {
+    ghost use Rattle.std.specs.Prelude.{ℕ, List, []};
+
+    ghost Value = { List ℕ };
+
+    ghost view = { λ _. [] };
+}

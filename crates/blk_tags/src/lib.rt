@@ -1,0 +1,316 @@
+//! Tags that threads take and give back without a lock.
+//!
+//! After the driver tags of Linux blk-mq (`struct sbitmap_queue` of a `struct blk_mq_tags`): a request at the device is named
+//! by a tag below the queue's depth, which comes back when it is done and is used again. A set has its tags as the bits of
+//! four words, that of tag t in word t / 64. A take is one `fetch_or` on a word and a give one `fetch_and`, so no thread ever
+//! waits for another. Who takes and gives has a seat, which remembers what it holds; no two seats hold one tag.
+#![tactic(auto)]
+
+pub mod held;
+pub mod laws;
+
+ghost use Rattle.std.specs.Prelude.{◌≡◌, ◌<◌, ◌≤◌, ◌+◌, ◌-◌, ◌/◌, ◌%◌, ◌^◌, ◌++◌, ◌∷◌, [], ◌⊎◌, ◌↔◌, ℕ, List, replicate, true, false, None, Some, Err, IsTrue, IfOk, IfSome, IfNone, Contains};
+ghost use Rattle.std.specs.Bool.{OnTrue, OnFalse};
+ghost use Rattle.blk_tags.specs.Tags.{IsSet, IsSeat, count_of, without};
+ghost use Rattle.blk_tags.specs.Steps.{TagsAreHeldOnce, took, gave};
+
+use crate::held::Held;
+use atomic_table::{Join, Play, Seat, Split, Table, TableRule};
+use std::alloc::{AllocError, Allocator, Global};
+use std::marker::Model;
+use thiserror::Error;
+
+/// The most tags of a set.
+pub const MAX_DEPTH: u64 = 256;
+
+/// Why a set is not made, in the order in which the reasons are looked for.
+#[derive(Clone, Copy, Debug, PartialEq, Eq, Error)]
+pub enum TagFault {
+    /// The depth is 0 or above [`MAX_DEPTH`].
+    #[error("Depth")]
+    Depth,
+    /// Want of memory.
+    #[error("Memory")]
+    Memory,
+}
+
+/// What is true of the words and of what all seats hold, between any two steps.
+struct TagRule;
+
+impl TableRule<u8, Held, u16> for TagRule {
+    ghost holds = { λ depth s. TagsAreHeldOnce depth s };
+
+    ghost first = { λ _. [] };
+}
+
+/// What a take tells the seat.
+struct Take;
+
+impl Play<u8, Held> for Take {
+    ghost then = { took };
+}
+
+/// What a give tells the seat.
+struct Give;
+
+impl Play<u8, Held> for Give {
+    ghost then = { gave };
+}
+
+/// A seat keeps what it holds, and a new one holds none.
+struct Cut;
+
+impl Split<Held> for Cut {
+    ghost left = { λ v. v };
+
+    ghost right = { λ _. [] };
+}
+
+/// A seat keeps what it holds, and the one that goes holds none.
+struct Whole;
+
+impl Join<Held> for Whole {
+    ghost both = { λ v _. v };
+
+    ghost spent = { [] };
+}
+
+/// A set of 1 to [`MAX_DEPTH`] tags, numbered from 0. Threads share it by `&`.
+#[derive(Drop)]
+pub struct TagSet<A: Allocator = Global> {
+    table: Table<u8, Held, u16, TagRule, A>,
+    depth: u16,
+}
+
+impl<A: Allocator> Model for TagSet<A> {
+    ghost use Rattle.std.specs.Prelude.{◌≡◌};
+    ghost use Rattle.blk_tags.specs.Tags.{Set, IsSet};
+
+    ghost Value = { Set };
+
+    ghost view = { λ s. record { name = s.table.shared.table_id; depth = s.depth } };
+
+    ghost invariant = { λ s. IsSet record { name = s.table.shared.table_id; depth = s.depth } × (s.table.shared.table_id.words ≡ 4) × (s.table.shared.key ≡ s.depth) };
+}
+
+/// A seat at a set: the tags that it holds, and the one that it took last. One thread at a time takes and gives with it.
+/// What a seat that is dropped still holds is never given back.
+#[derive(Drop)]
+pub struct TagSeat<A: Allocator = Global> {
+    seat: Seat<u8, Held>,
+    marks: Vec<bool, A>,
+    last: Option<u16>,
+}
+
+impl<A: Allocator> Model for TagSeat<A> {
+    ghost use Rattle.std.specs.Prelude.{◌≡◌, [], length};
+    ghost use Rattle.blk_tags.specs.Tags.{Seat as SeatFields, IsSeat, Marks};
+
+    ghost Value = { SeatFields };
+
+    ghost view = { λ s. record { of_set = record { name = s.seat.table_id; depth = length s.marks.items }; tags = s.seat.me.0; last = s.last } };
+
+    ghost invariant = { λ s. IsSeat record { of_set = record { name = s.seat.table_id; depth = length s.marks.items }; tags = s.seat.me.0; last = s.last } × Marks s.marks.items s.seat.me.0 × (s.seat.me.1 ≡ []) };
+}
+
+impl<A: Allocator + Clone> TagSet<A> {
+    /// A set of as many tags, 1 to [`MAX_DEPTH`], none of them taken, with its first seat. Refused as `Depth` where the number
+    /// is out of its range, and then as `Memory` for want of memory.
+    pub fn new(alloc: A, depth: u64) -> Result<(TagSet<A>, TagSeat<A>), TagFault>
+        ensures depth { IfOk result (λ p. p.0.depth ≡ depth) }
+        ensures seat { IfOk result (λ p. p.1 ≡ record { of_set = p.0; tags = []; last = None }) }
+        ensures refused { (result ≡ Err TagFault.Depth) ↔ ((depth < 1) ⊎ (256 < depth)) }
+    {
+        if depth < 1 || depth > MAX_DEPTH {
+            return Err(TagFault::Depth);
+        }
+        let Ok(marks) = no_marks(&alloc, depth as usize) else {
+            return Err(TagFault::Memory);
+        };
+        let depth = depth as u16;
+        let Ok((table, seat)) = Table::of_words(alloc, &[0; 4], &depth) else {
+            return Err(TagFault::Memory);
+        };
+        let seat = TagSeat {
+            seat,
+            marks,
+            last: None,
+        };
+        Ok((TagSet { table, depth }, seat))
+    }
+
+    /// A new seat, which holds no tag; the seat that is handed in stays as it is. Fails for want of memory alone.
+    pub fn split(&self, seat: &mut TagSeat<A>) -> Result<TagSeat<A>, AllocError>
+        requires { seat.old.of_set ≡ self.now }
+        ensures ok { IfOk result (λ s. s ≡ record { of_set = self.now; tags = []; last = None }) }
+        ensures same { seat.new ≡ seat.old }
+    {
+        let marks = no_marks(seat.marks.allocator(), usize::from(self.depth))?;
+        Ok(TagSeat {
+            seat: self.table.shared.split_seat::<Cut>(&mut seat.seat),
+            marks,
+            last: None,
+        })
+    }
+}
+
+/// As many marks, none of them set.
+fn no_marks<A: Allocator + Clone>(alloc: &A, count: usize) -> Result<Vec<bool, A>, AllocError>
+    ensures { IfOk result (λ v. v.items ≡ replicate count false) }
+{
+    vec![in alloc.clone()?; false; count]
+}
+
+impl<A: Allocator> TagSet<A> {
+    /// Gives back each tag that a seat still holds, and lets the seat go; the other seat stays as it is. It takes no memory.
+    pub fn join(&self, seat: &mut TagSeat<A>, other: TagSeat<A>)
+        requires of_set { seat.old.of_set ≡ self.now }
+        requires other_of_set { other.of_set ≡ self.now }
+        ensures { seat.new ≡ seat.old }
+    {
+        let mut other = other;
+        for tag in 0..self.depth {
+            if other.holds(tag) {
+                self.give(&mut other, tag);
+            }
+        }
+        self.join_empty(seat, other);
+    }
+
+    /// Lets a seat that holds no tag go.
+    fn join_empty(&self, seat: &mut TagSeat<A>, other: TagSeat<A>)
+        requires of_set { seat.old.of_set ≡ self.now }
+        requires other_of_set { other.of_set ≡ self.now }
+        requires none { (tag : ℕ) → tag < self.now.depth → ¬ Contains other.tags tag }
+        ensures { seat.new ≡ seat.old }
+    {
+        let TagSeat {
+            seat: gone,
+            marks: _,
+            last: _,
+        } = other;
+        self.table.shared.join_seat::<Whole>(&mut seat.seat, gone);
+    }
+
+    /// Takes a tag that no seat holds. Tries each tag at most once, upward and round from the one after the seat's last, 0
+    /// first. There is none where each try found its tag taken. It neither waits nor takes memory.
+    pub fn get(&self, seat: &mut TagSeat<A>) -> Option<u16>
+        requires { seat.old.of_set ≡ self.now }
+        ensures some { IfSome result (λ t. seat.new ≡ record seat.old { tags = seat.old.tags ++ t ∷ []; last = Some t }) }
+        ensures free { IfSome result (λ t. ¬ Contains seat.old.tags t) }
+        ensures held { IfSome result (Contains seat.new.tags) }
+        ensures below { IfSome result (λ t. t < self.now.depth) }
+        ensures none { IfNone result (seat.new ≡ seat.old) }
+    {
+        let mut tag = seat.next();
+        for _ in 0..self.depth {
+            if tag >= self.depth {
+                tag = 0;
+            }
+            if self.take(seat, tag) {
+                return Some(tag);
+            }
+            tag += 1;
+        }
+        None
+    }
+
+    /// Tries to take a tag.
+    fn take(&self, seat: &mut TagSeat<A>, tag: u16) -> bool
+        requires of_set { seat.old.of_set ≡ self.now }
+        requires below { tag < self.now.depth }
+        ensures won { OnTrue result (seat.new ≡ record seat.old { tags = seat.old.tags ++ tag ∷ []; last = Some tag }) }
+        ensures free { OnTrue result (¬ Contains seat.old.tags tag) }
+        ensures held { OnTrue result (Contains seat.new.tags tag) }
+        ensures lost { OnFalse result (seat.new ≡ seat.old) }
+    {
+        if !self.set_bit(&mut seat.seat, tag) {
+            return false;
+        }
+        seat.marks[usize::from(tag)] = true;
+        seat.last = Some(tag);
+        true
+    }
+
+    /// Sets a tag's bit, and says whether it was clear.
+    fn set_bit(&self, seat: &mut Seat<u8, Held>, tag: u16) -> bool
+        requires table { seat.old.table_id ≡ self.now.name }
+        requires below { tag < self.now.depth }
+        ensures won { OnTrue result (seat.new.me.0 ≡ seat.old.me.0 ++ tag ∷ []) }
+        ensures free { OnTrue result (count_of tag seat.old.me.0 ≡ 0) }
+        ensures lost { OnFalse result (seat.new.me.0 ≡ seat.old.me.0) }
+        ensures slots { seat.new.me.1 ≡ seat.old.me.1 }
+        ensures same { seat.new.table_id ≡ seat.old.table_id }
+    {
+        let bit = bit_of(tag);
+        let found = self.table.shared.fetch_or::<Take>(seat, word_of(tag), bit);
+        found & bit == 0
+    }
+
+    /// Gives back a tag that the seat holds. It neither waits nor takes memory.
+    pub fn give(&self, seat: &mut TagSeat<A>, tag: u16)
+        requires of_set { seat.old.of_set ≡ self.now }
+        requires holds { Contains seat.old.tags tag }
+        ensures { seat.new ≡ record seat.old { tags = without tag seat.old.tags } }
+    {
+        self.clear_bit(&mut seat.seat, tag);
+        seat.marks[usize::from(tag)] = false;
+    }
+
+    /// Clears the bit of a tag that the seat holds.
+    fn clear_bit(&self, seat: &mut Seat<u8, Held>, tag: u16)
+        requires table { seat.old.table_id ≡ self.now.name }
+        requires below { tag < self.now.depth }
+        requires holds { 0 < count_of tag seat.old.me.0 }
+        ensures tags { seat.new.me.0 ≡ without tag seat.old.me.0 }
+        ensures slots { seat.new.me.1 ≡ seat.old.me.1 }
+        ensures same { seat.new.table_id ≡ seat.old.table_id }
+    {
+        let _found = self
+            .table
+            .shared
+            .fetch_and::<Give>(seat, word_of(tag), !bit_of(tag));
+    }
+
+    /// How many tags it has, 1 to [`MAX_DEPTH`].
+    pub fn depth(&self) -> u64
+        ensures value { result ≡ self.now.depth }
+        ensures is_set { IsSet self.now }
+    {
+        u64::from(self.depth)
+    }
+}
+
+impl<A: Allocator> TagSeat<A> {
+    /// Whether it holds a tag. It takes no memory.
+    pub fn holds(&self, tag: u16) -> bool
+        ensures value { IsTrue result ↔ Contains self.now.tags tag }
+        ensures is_seat { IsSeat self.now }
+    {
+        usize::from(tag) < self.marks.len() && self.marks[usize::from(tag)]
+    }
+
+    /// The tag that a take tries first, or the depth where the seat took the last one.
+    fn next(&self) -> u16
+        ensures { result ≤ self.now.of_set.depth }
+    {
+        match self.last {
+            Some(last) => last + 1,
+            None => 0,
+        }
+    }
+}
+
+/// The word that a tag's bit is in.
+fn word_of(tag: u16) -> usize
+    ensures { result ≡ tag / 64 }
+{
+    usize::from(tag / 64)
+}
+
+/// A tag's bit in its word.
+fn bit_of(tag: u16) -> u64
+    ensures { result ≡ 2 ^ (tag % 64) }
+{
+    1 << (tag % 64)
+}

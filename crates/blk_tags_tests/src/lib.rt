@@ -1,0 +1,9 @@
+//! Tests of the tags.
+#![tactic(auto)]
+
+#[cfg(test)]
+mod one_thread;
+#[cfg(test)]
+mod player;
+#[cfg(test)]
+mod threads;

@@ -1,0 +1,96 @@
+//! What one thread sees, and what is refused.
+
+use crate::player::Player;
+use blk_tags::{TagFault, TagSet};
+use refusing::Refusing;
+
+#[test]
+fn tag_set_of_two(rt: HostRuntime) {
+    let (set, mut seat) = TagSet::new(rt.alloc(), 2).expect(&rt, "a set");
+    assert_eq!(rt; set.depth(), 2);
+    assert_eq!(rt; set.get(&mut seat), Some(0));
+    assert_eq!(rt; set.get(&mut seat), Some(1));
+    assert_eq!(rt; set.get(&mut seat), None);
+    assert!(rt; seat.holds(1) && !seat.holds(2));
+    set.give(&mut seat, 1);
+    assert!(rt; !seat.holds(1));
+    assert_eq!(rt; set.get(&mut seat), Some(1));
+}
+
+#[test]
+fn two_seats_of_a_set_of_one(rt: HostRuntime) {
+    let (set, mut a) = TagSet::new(rt.alloc(), 1).expect(&rt, "a set");
+    let mut b = set.split(&mut a).expect(&rt, "a seat");
+    assert_eq!(rt; set.get(&mut a), Some(0));
+    assert_eq!(rt; set.get(&mut b), None);
+    assert!(rt; a.holds(0));
+    set.give(&mut a, 0);
+    assert_eq!(rt; set.get(&mut b), Some(0));
+    assert_eq!(rt; set.get(&mut a), None);
+    set.join(&mut a, b);
+    assert_eq!(rt; set.get(&mut a), Some(0));
+}
+
+// A take begins one after the seat's last tag, also where lower ones are free, and goes round.
+#[test]
+fn upward_and_round(rt: HostRuntime) {
+    let (set, mut seat) = TagSet::new(rt.alloc(), 3).expect(&rt, "a set");
+    assert_eq!(rt; set.get(&mut seat), Some(0));
+    assert_eq!(rt; set.get(&mut seat), Some(1));
+    assert!(rt; seat.holds(0));
+    set.give(&mut seat, 0);
+    assert_eq!(rt; set.get(&mut seat), Some(2));
+    assert_eq!(rt; set.get(&mut seat), Some(0));
+    assert!(rt; seat.holds(1));
+    set.give(&mut seat, 1);
+    let mut other = set.split(&mut seat).expect(&rt, "a seat");
+    assert_eq!(rt; set.get(&mut other), Some(1));
+}
+
+#[test]
+fn two_hundred_and_fifty_six(rt: HostRuntime) {
+    let (set, seat) = TagSet::new(rt.alloc(), 256).expect(&rt, "a set");
+    let mut player = Player::new(&set, seat);
+    for tag in 0..256 {
+        assert_eq!(rt; player.get(), Some(tag));
+    }
+    assert_eq!(rt; player.get(), None);
+    assert!(rt; player.give(200));
+    assert_eq!(rt; player.get(), Some(200));
+    assert_eq!(rt; player.get(), None);
+}
+
+#[test]
+fn depths_refused(rt: HostRuntime) {
+    for depth in [0, 257, u64::MAX] {
+        assert!(rt; matches!(TagSet::new(rt.alloc(), depth), Err(TagFault::Depth)));
+    }
+    let names = format!(in rt.alloc(); "{} {}", TagFault::Depth, TagFault::Memory).expect(
+        &rt, "a text",
+    );
+    assert_eq!(rt; names.as_str(), "Depth Memory");
+}
+
+// Each allocation is refused in turn: `new` and `split` fail as long as one was refused, and then answer as ever.
+#[test]
+fn memory_refused(rt: HostRuntime) {
+    let heap = Refusing::new(rt.alloc());
+    for n in 1..4 {
+        heap.refuse(n);
+        assert!(rt; matches!(TagSet::new(&heap, 2), Err(TagFault::Memory)));
+        assert!(rt; !heap.is_armed());
+    }
+    let (set, mut a) = TagSet::new(&heap, 2).expect(&rt, "a set");
+    heap.refuse(1);
+    assert!(rt; set.split(&mut a).is_err());
+    let mut b = set.split(&mut a).expect(&rt, "a seat");
+    // no other call takes memory
+    heap.refuse(1);
+    assert_eq!(rt; set.get(&mut a), Some(0));
+    assert_eq!(rt; set.get(&mut b), Some(1));
+    assert!(rt; a.holds(0));
+    set.give(&mut a, 0);
+    set.join(&mut a, b);
+    assert_eq!(rt; set.get(&mut a), Some(1));
+    assert!(rt; heap.is_armed());
+}

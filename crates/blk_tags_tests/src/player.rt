@@ -1,0 +1,45 @@
+//! A set and a seat of it, side by side.
+
+ghost use Rattle.std.specs.Prelude.{◌≡◌};
+
+use blk_tags::{TagSeat, TagSet};
+
+/// A seat beside its set.
+#[derive(Drop)]
+pub struct Player<'a> {
+    set: &'a TagSet,
+    seat: TagSeat,
+    ghost of_set: { seat.of_set ≡ set.now },
+}
+
+impl<'a> Player<'a> {
+    /// A seat of this set.
+    pub fn new(set: &'a TagSet, seat: TagSeat) -> Player<'a>
+        requires { seat.of_set ≡ set.now }
+    {
+        Player { set, seat }
+    }
+
+    /// One more seat of the same set. There is none where memory ran out.
+    pub fn another(&mut self) -> Option<Player<'a>> {
+        let seat = self.set.split(&mut self.seat).ok()?;
+        Some(Player {
+            set: self.set,
+            seat,
+        })
+    }
+
+    /// Takes a tag.
+    pub fn get(&mut self) -> Option<u16> {
+        self.set.get(&mut self.seat)
+    }
+
+    /// Gives a tag back where it is held, and says whether it is.
+    pub fn give(&mut self, tag: u16) -> bool {
+        if !self.seat.holds(tag) {
+            return false;
+        }
+        self.set.give(&mut self.seat, tag);
+        true
+    }
+}

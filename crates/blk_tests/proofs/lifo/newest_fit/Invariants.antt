@@ -1,5 +1,0 @@
-use Rattle.blk_tests.specs.Stacks.{IsNewestOf}
-use Rattle.blk_tests.proofs.lifo.newest_fit.Given as goal
-
-abbrev pub invariant-loop-place : goal.invariant-loop-place
-invariant-loop-place g l = IsNewestOf l.limits l.newcomer l.requests l.place l.newest

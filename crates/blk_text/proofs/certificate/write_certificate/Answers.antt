@@ -1,0 +1,9 @@
+use Rattle.blk_text.specs.Certificate.{claimed}
+use Rattle.blk_text.proofs.ClaimLaws.{rows_spell}
+use Rattle.blk_text.proofs.certificate.write_certificate.Goals as goal
+
+pub returns-in-Ok-clause-spells : goal.returns-in-Ok-clause-spells
+returns-in-Ok-clause-spells g c = rows_spell (claimed c.args.certificate.now) c.requires
+
+pub returns-in-Err-clause-spells : goal.returns-in-Err-clause-spells
+returns-in-Err-clause-spells g c = rows_spell (claimed c.args.certificate.now) c.requires

@@ -1,0 +1,8 @@
+use Rattle.blk_text.proofs.CommandLaws.{rows_spell}
+use Rattle.blk_text.proofs.commands.write_commands.Goals as goal
+
+pub returns-in-Ok-clause-spells : goal.returns-in-Ok-clause-spells
+returns-in-Ok-clause-spells g c = rows_spell c.args.depth c.args.commands.now c.requires
+
+pub returns-in-Err-clause-spells : goal.returns-in-Err-clause-spells
+returns-in-Err-clause-spells g c = rows_spell c.args.depth c.args.commands.now c.requires

@@ -1,0 +1,62 @@
+-- What reading a part answers.
+use Rattle.std.specs.Prelude.{◌≡◌, ◌⊎◌, ◌+◌, ◌≤◌, ℕ, Bool, true, List, [], ◌∷◌, ◌++◌, Option, Some, IfSome, length}
+use Rattle.blk_text.specs.Sources.{Row}
+use Rattle.blk_text.specs.declared.fault.Why.{Why}
+use Rattle.blk_text.specs.declared.fault.Why.TheVariants as why
+use Rattle.parts.specs.Parts.{Part, Begins, IsReached, AllFit, IsCount, GoodBefore, all_rows, lines}
+use Rattle.parts.specs.declared.Extent.{Extent}
+use Rattle.parts.specs.declared.Extent.TheVariants as extent
+
+-- faults from outside, which may come in place of any other: a read fault where the reader has failed, and want of memory
+abbrev pub IsOutside : Bool → Why → Type 0
+IsOutside failed w = ((w ≡ why.Read) × (failed ≡ true)) ⊎ (w ≡ why.Memory)
+
+-- the records begin with those of this value, and what is left now is what follows them
+abbrev pub Reads : {V : Type 0} → Part Row Why V → Option (List Row) → Option (List Row) → V → Type 0
+Reads p left new v = IfSome left (λ rows. (rest : List Row) × (new ≡ Some rest) × Begins p rows v rest)
+
+-- the record in hand and those left begin with the records of this value, and what is left now is what follows them
+abbrev pub HandReads : {V : Type 0} → Part Row Why V → Option (List Row) → Row → Option (List Row) → V → Type 0
+HandReads p left row new v = IfSome left (λ rows. (rest : List Row) × (new ≡ Some rest) × Begins p (row ∷ rows) v rest)
+
+-- the records have this first fault, or it came from outside; `start` records came before
+abbrev pub Fails : {V : Type 0} → Bool → Part Row Why V → Option (List Row) → ℕ → ℕ → Why → Type 0
+Fails failed p left start at w = IfSome left (λ rows. IsOutside failed w ⊎ ((k : ℕ) × (at ≡ start + k) × p.Wrong rows k w))
+
+-- the record in hand and those left have this first fault, or it came from outside; the record in hand has the number `start`
+abbrev pub HandFails : {V : Type 0} → Bool → Part Row Why V → Option (List Row) → Row → ℕ → ℕ → Why → Type 0
+HandFails failed p left row start at w = IfSome left (λ rows. IsOutside failed w ⊎ ((k : ℕ) × (at + 1 ≡ start + k) × p.Wrong (row ∷ rows) k w))
+
+-- the record of this number was come to: it is at most one past the last, and no record before it has a fault
+abbrev pub Reaches : {V : Type 0} → Part Row Why V → Option (List Row) → ℕ → ℕ → Type 0
+Reaches p left start at = IfSome left (λ rows. (k : ℕ) × (at ≡ start + k) × IsReached p rows k)
+
+-- the items before are what an item may depend on
+abbrev pub with_next : {V : Type 0} → List V → V → List V
+with_next before v = before ++ v ∷ []
+
+-- the fault of one item more
+abbrev pub beyond_of : Extent → Why
+beyond_of (extent.AtMost most) = why.TooLong
+beyond_of (extent.Exactly count) = why.Count
+
+-- items to the end of the text, each of which may depend on those before it
+abbrev pub items_of : {V : Type 0} → Extent → (List V → Part Row Why V) → Part Row Why (List V)
+items_of x q = lines x (beyond_of x) q with_next []
+
+-- the number of records of items
+abbrev pub size_of : {V : Type 0} → (List V → Part Row Why V) → List V → ℕ
+size_of q vs = length (all_rows q with_next [] vs)
+
+-- the items fit, and are as many as there may be
+abbrev pub AreItems : {V : Type 0} → Extent → (List V → Part Row Why V) → List V → Type 0
+AreItems x q vs = AllFit q with_next [] vs × IsCount x (length vs)
+
+-- the items before the one that begins at this record are good
+abbrev pub ItemsBefore : {V : Type 0} → Extent → (List V → Part Row Why V) → List Row → ℕ → Type 0
+ItemsBefore x q rows place = GoodBefore x q with_next [] rows place
+
+-- reading stopped at the record `at`, and `last` was asked for last: the items before the one that was being read are
+-- good, and no record past the first and the next `more` of that one was asked for
+abbrev pub IsStopped : {V : Type 0} → Extent → (List V → Part Row Why V) → Option (List Row) → ℕ → ℕ → ℕ → ℕ → Type 0
+IsStopped x q left start more at last = (place : ℕ) × (start + place ≤ at) × (at ≤ last) × (last ≤ start + place + more) × IfSome left (λ rows. ItemsBefore x q rows place)

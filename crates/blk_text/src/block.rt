@@ -1,0 +1,107 @@
+//! The bytes of a text that is being made, of which the last ones stand in a block.
+
+ghost use Rattle.std.specs.Prelude.{◌≡◌, ◌+◌, ◌++◌, ◌≤◌, OnOk, IfOk, IfErr, decimal};
+ghost use Rattle.std.specs.Io.KnownBytes.{Appends};
+
+use crate::fault::WriteFault;
+use crate::pieces::{put, put_number};
+use std::alloc::{AllocError, Global};
+use std::io::Write;
+
+// How many bytes are gathered before they join the text.
+const BLOCK: usize = 4096;
+
+// Room for a record of six fields of at most 20 bytes, with a byte after each.
+const ROOM: usize = 128;
+
+/// A text, of which the last bytes stand in a block.
+#[derive(Drop)]
+pub(crate) struct Block {
+    text: Vec<u8>,
+    /// The last bytes of the text, up to a place.
+    pub(crate) block: [u8; BLOCK],
+    pub(crate) at: usize,
+    ghost within: { at ≤ 4096 },
+}
+
+impl Block {
+    ghost use Rattle.std.specs.Prelude.{[]};
+    ghost use Rattle.blk_text.specs.Drafts.{drafted};
+
+    /// An empty text.
+    pub(crate) fn new(alloc: Global) -> Block
+        ensures { drafted result ≡ [] }
+    {
+        Block {
+            text: Vec::new(alloc),
+            block: [0; BLOCK],
+            at: 0,
+        }
+    }
+
+    // Moves what the block holds to the text.
+    #[cold]
+    #[inline(never)]
+    fn flush(&mut self) -> Result<(), AllocError>
+        ensures at { self.new.at ≡ 0 }
+        ensures text { OnOk result (drafted self.new ≡ drafted self.old) }
+        ensures whole { OnOk result (self.new.text.items ≡ drafted self.old) }
+    {
+        let end = self.at;
+        self.at = 0;
+        self.text.extend_from_slice(&self.block[..end])
+    }
+
+    /// The place in the block from which on there is room for a record.
+    #[inline]
+    pub(crate) fn room(&mut self) -> Result<usize, AllocError>
+        ensures at { IfOk result (λ at. (at ≡ self.new.at) × (at + 128 ≤ 4096)) }
+        ensures text { OnOk result (drafted self.new ≡ drafted self.old) }
+    {
+        if self.at > BLOCK - ROOM {
+            self.flush()?;
+        }
+        Ok(self.at)
+    }
+
+    /// Adds bytes, of any number.
+    pub(crate) fn push(&mut self, bytes: &[u8]) -> Result<(), AllocError>
+        ensures { OnOk result (drafted self.new ≡ drafted self.old ++ bytes.now) }
+    {
+        if bytes.len() > ROOM {
+            self.flush()?;
+            return self.text.extend_from_slice(bytes);
+        }
+        let start = self.room()?;
+        self.at = put(bytes, &mut self.block, start);
+        Ok(())
+    }
+
+    /// Adds a number in decimal digits.
+    pub(crate) fn push_number(&mut self, number: u64) -> Result<(), AllocError>
+        ensures { OnOk result (drafted self.new ≡ drafted self.old ++ decimal number) }
+    {
+        let start = self.room()?;
+        self.at = put_number(number, &mut self.block, start);
+        Ok(())
+    }
+
+    /// The text.
+    pub(crate) fn finish(mut self) -> Result<Vec<u8>, AllocError>
+        ensures { IfOk result (λ v. v.items ≡ drafted self) }
+    {
+        self.flush()?;
+        Ok(self.text)
+    }
+}
+
+/// Writes a text that is whole.
+pub(crate) fn write_whole<W: Write>(writer: &mut W, text: &[u8]) -> Result<(), WriteFault>
+    ensures ok { OnOk result (Appends (W.contents writer.old) (W.contents writer.new) text.now) }
+    ensures err { IfErr result (λ f. f ≡ WriteFault.Write) }
+{
+    match writer.write_all(text) {
+        Ok(()) => Ok(()),
+        Err(_) => Err(WriteFault::Write),
+    }
+}

@@ -1,0 +1,128 @@
+//! The faults of texts, each by its record and name. What a user meets of them, and in which order, is shown by the cases
+//! of the program.
+
+use blk_bio::bio::BioFault;
+use blk_text::certificate::read_certificate;
+use blk_text::commands::read_commands;
+use blk_text::fault::{TextFault, Why, WriteFault};
+use blk_text::script::read_script;
+use blk_text::source::Records;
+
+#[test]
+fn faults_of_a_command_list(rt: HostRuntime) {
+    for (text, at, why) in [
+        ("", 1, Why::Title),
+        ("blk-commands,1\n", 1, Why::Fields),
+        ("blk-commands,1,01\n", 1, Why::Number),
+        ("blk-commands,1,0\n", 1, Why::Range),
+        ("blk-commands,1,1\n1,0\n", 2, Why::Fields),
+        (
+            "blk-commands,1,1\n1,0,0\n01,99999999999999,0\n",
+            3,
+            Why::Number,
+        ),
+        (
+            "\nblk-commands,1,1\r\n\r\n\n1,0,0\n\n\n1,0,2199023255552",
+            3,
+            Why::Range,
+        ),
+    ] {
+        let answer = read_commands(rt.alloc(), &mut Records::new(rt.alloc(), text.as_bytes()));
+        assert!(rt; answer.err() == Some(TextFault { at, why }), "{text}");
+    }
+}
+
+#[test]
+fn faults_of_a_script(rt: HostRuntime) {
+    for (text, at, why) in [
+        ("blk-scripts,1,1,1,4,1\n", 1, Why::Title),
+        ("blk-script,1,1,1,4\n", 1, Why::Fields),
+        ("blk-script,1,1,x,4,1\n", 1, Why::Number),
+        ("blk-script,1,1,2,4,1\n", 1, Why::Range),
+        ("blk-script,1,1,1,4,1\n", 2, Why::Word),
+        ("blk-script,1,1,1,4,1\nsetup,0,9,256,128", 2, Why::Fields),
+        ("blk-script,1,1,1,4,1\nsetup,0,9,256,129,\n", 2, Why::Range),
+        (
+            "blk-script,1,1,1,4,1\nsetup,0,9,256,128,\ntick",
+            3,
+            Why::Fields,
+        ),
+        (
+            "blk-script,1,1,1,4,1\nsetup,0,9,256,128,\ntock,,,,,",
+            3,
+            Why::Word,
+        ),
+        (
+            "blk-script,1,1,1,4,1\nsetup,0,9,256,128,\ndone,+1,,,,",
+            3,
+            Why::Number,
+        ),
+        (
+            "blk-script,1,1,1,4,1\nsetup,0,9,256,128,\nrun,0,,,,",
+            3,
+            Why::Range,
+        ),
+    ] {
+        let answer = read_script(rt.alloc(), &mut Records::new(rt.alloc(), text.as_bytes()));
+        assert!(rt; answer.err() == Some(TextFault { at, why }), "{text}");
+    }
+}
+
+#[test]
+fn faults_of_a_bio(rt: HostRuntime) {
+    for (text, fault) in [
+        (
+            "blk-script,1,1,1,4,1\nsetup,0,9,256,128,\nbio,0,0,R,100,0",
+            BioFault::Empty,
+        ),
+        (
+            "blk-script,1,1,1,4,1\nsetup,0,9,256,128,\nbio,0,0,R,281474976710656,1",
+            BioFault::Range,
+        ),
+    ] {
+        let answer = read_script(rt.alloc(), &mut Records::new(rt.alloc(), text.as_bytes()));
+        let why = Why::Bio(fault);
+        assert!(rt; answer.err() == Some(TextFault { at: 3, why }), "{text}");
+    }
+}
+
+#[test]
+fn faults_of_a_certificate(rt: HostRuntime) {
+    for (text, at, why) in [
+        ("blk-commands,1,1,0\n", 1, Why::Title),
+        ("blk-certificate,1,1\n", 1, Why::Fields),
+        ("blk-certificate,1,1,-1\n", 1, Why::Number),
+        ("blk-certificate,1,1,1000001\n", 1, Why::Range),
+        ("blk-certificate,1,1,0\nbound,-5,0,0\n", 2, Why::Range),
+        ("blk-certificate,1,1,1\nbond,0,0,0\n", 2, Why::Word),
+        ("blk-certificate,1,1,1\nbound,-0,0,0\n", 2, Why::Number),
+        (
+            "blk-certificate,1,1,2\nbound,1,0,0\n1,0,0,0\n",
+            4,
+            Why::Count,
+        ),
+        (
+            "blk-certificate,1,1,1\nbound,1,0,0\n1,0,0,0\n2,0,0,1\n",
+            4,
+            Why::Count,
+        ),
+    ] {
+        let answer = read_certificate(rt.alloc(), &mut Records::new(rt.alloc(), text.as_bytes()));
+        assert!(rt; answer.err() == Some(TextFault { at, why }), "{text}");
+    }
+}
+
+#[test]
+fn faults_are_printed_by_name(rt: HostRuntime) {
+    let alloc = rt.alloc();
+    let fault = TextFault {
+        at: 8,
+        why: Why::Bio(BioFault::Range),
+    };
+    let printed = fault.to_string(alloc).expect(&rt, "memory");
+    assert_eq!(rt; printed.as_str(), "record 8: Range");
+    let printed = Why::TooLong.to_string(alloc).expect(&rt, "memory");
+    assert_eq!(rt; printed.as_str(), "TooLong");
+    let printed = WriteFault::Memory.to_string(alloc).expect(&rt, "memory");
+    assert_eq!(rt; printed.as_str(), "Memory");
+}

@@ -1,0 +1,11 @@
+//! Tests of the texts: what is read of them, what is written, and where a reader or a writer fails.
+#![tactic(auto)]
+
+#[cfg(test)]
+mod faults;
+#[cfg(test)]
+mod laws;
+#[cfg(test)]
+mod streams;
+#[cfg(test)]
+mod texts;

@@ -1,0 +1,177 @@
+//! What is read of texts, in all their spellings, and written again.
+
+use blk_bio::bio::{Bio, BioId, Dir};
+use blk_bio::limits::Limits;
+use blk_bio::request::Request;
+use blk_text::certificate::{read_certificate, write_certificate};
+use blk_text::commands::{read_commands, write_commands};
+use blk_text::script::{Line, read_script};
+use blk_text::source::Records;
+use blk_text::trace::write_trace;
+use blk_trace::event::Event;
+use blk_trace::setup::Setup;
+use blk_trace::trace::Trace;
+use edd_check::Window;
+use std::alloc::Global;
+use std::process::Abort;
+
+/// The commands of a text, written again.
+fn commands_again(rt: &impl Abort, alloc: Global, text: &str) -> Vec<u8> {
+    let mut out = Vec::new(alloc);
+    let records = &mut Records::new(alloc, text.as_bytes());
+    let (depth, commands) = read_commands(alloc, records).expect(rt, "commands");
+    assert!(rt; write_commands(alloc, depth, commands.as_slice(), &mut out).is_ok());
+    out
+}
+
+/// The certificate of a text, written again.
+fn certificate_again(rt: &impl Abort, alloc: Global, text: &str) -> Vec<u8> {
+    let mut out = Vec::new(alloc);
+    let records = &mut Records::new(alloc, text.as_bytes());
+    let Ok(certificate) = read_certificate(alloc, records) else {
+        panic!(rt; "{text}");
+    };
+    assert!(rt; write_certificate(alloc, &certificate, &mut out).is_ok());
+    out
+}
+
+#[test]
+fn three_at_once(rt: HostRuntime) {
+    let text = "blk-commands,1,1\n1,0,0\n2,0,0\n3,0,0\n";
+    for input in [
+        text,
+        "\u{feff}blk-commands,1,1\r\n\n1,0,0\r\n\"2\",0,\"0\"\n\n3,0,0",
+        "blk-commands,1,1\r1,0,0\r2,0,0\r\"\"3,0,0",
+        "\"blk-commands\",1,\"1\"\n1,\"0\",0\n2,0,0\n3,0,\"0",
+    ] {
+        assert!(rt; commands_again(&rt, rt.alloc(), input).as_slice() == text.as_bytes());
+    }
+}
+
+#[test]
+fn numbers_of_every_length(rt: HostRuntime) {
+    for text in [
+        "blk-commands,1,64\n0,9,10\n99,100,101\n999,1000,1099511627775\n",
+        "blk-commands,1,9\n9999,10000,10001\n99999,100000,2199023255551\n",
+        "blk-commands,1,10\n9999999,10000000,99999999\n100000000,12345678,0\n",
+        "blk-commands,1,1\n18446744073709551615,1099511627775,2199023255551\n",
+        "blk-commands,1,1\n10000000000000000000,1,1\n9999999999999999999,1,1\n",
+    ] {
+        assert!(rt; commands_again(&rt, rt.alloc(), text).as_slice() == text.as_bytes());
+    }
+}
+
+#[test]
+fn certificates_come_back(rt: HostRuntime) {
+    for text in [
+        "blk-certificate,1,1,3\nbound,2,0,0\n1,0,0,0\n2,0,0,1\n3,0,0,2\n",
+        "blk-certificate,1,1,0\nbound,none,none,none\n",
+        "blk-certificate,1,64,1\nbound,-5,0,9\n18446744073709551615,0,9,4\n",
+        "blk-certificate,1,1,1\nbound,-2199023255551,0,2199023255551\n1,0,2199023255551,0\n",
+    ] {
+        assert!(rt; certificate_again(&rt, rt.alloc(), text).as_slice() == text.as_bytes());
+    }
+}
+
+#[test]
+fn a_certificate_in_other_spellings(rt: HostRuntime) {
+    let text = "blk-certificate,1,1,3\nbound,-2,0,4\n1,0,4,0\n2,0,4,1\n3,0,4,2\n";
+    for input in [
+        "\u{feff}blk-certificate,1,1,3\r\n\nbound,\"-2\",0,4\r\n1,0,4,0\r\n\n2,0,\"4\",1\n3,0,4,2",
+        "\"blk-certificate\",1,1,\"3\"\r\"bound\",-2,0,4\r1,0,4,0\r\"\"2,0,4,1\r3,0,4,\"2",
+    ] {
+        assert!(rt; certificate_again(&rt, rt.alloc(), input).as_slice() == text.as_bytes());
+    }
+}
+
+#[test]
+fn fields_of_a_certificate(rt: HostRuntime) {
+    let text = "blk-certificate,1,1,1\nbound,-3,1,5\n7,1,5,2\n";
+    let records = &mut Records::new(rt.alloc(), text.as_bytes());
+    let Ok(certificate) = read_certificate(rt.alloc(), records) else {
+        panic!(rt; "refused");
+    };
+    assert_eq!(rt; certificate.depth, 1);
+    assert!(rt; certificate.rounds.as_slice() == [2].as_slice());
+    let window = Window { from: 1, due: 5 };
+    assert!(rt; certificate.bound == Some((-3, window)));
+}
+
+/// A bio of a submitter.
+fn bio(rt: &impl Abort, submitter: u8, serial: u64, dir: Dir, first: u64) -> Bio {
+    let id = BioId { submitter, serial };
+    Bio::new(id, dir, first, 8).expect(rt, "a bio")
+}
+
+#[test]
+fn a_script_in_other_spellings(rt: HostRuntime) {
+    let write = bio(&rt, 0, 7, Dir::Write, 100);
+    let steps = [Line::Bio(write), Line::Flush(0), Line::Tick, Line::Run(2)];
+    for input in [
+        "\u{feff}blk-script,1,1,1,4,1\r\n\nsetup,0,9,256,128,\"\"\r\nbio,0,\"7\",\"W\",100,8\r\n\nflush,0,,,\"\",\r\ntick,,,,,\nrun,2,,,,",
+        "\"blk-script\",1,\"1\",1,4,1\r\"setup\",0,9,256,128,\r\"bio\",0,7,W,\"100\",\"8\"\r\"\"flush,\"0\",,,,\rtick,,,,,\r\"run\",\"2\",,,,\"",
+    ] {
+        let records = &mut Records::new(rt.alloc(), input.as_bytes());
+        let Ok(script) = read_script(rt.alloc(), records) else {
+            panic!(rt; "{input}");
+        };
+        assert_eq!(rt; script.setup.write_expire(), 9);
+        assert!(rt; script.lines.as_slice() == steps.as_slice());
+    }
+}
+
+#[test]
+fn steps_of_a_script(rt: HostRuntime) {
+    let text =
+        "blk-script,1,1,2,4,3\nsetup,0,9,256,128,\nbio,2,5,W,100,8\nflush,2,,,,\ndrain,1,,,,\nissue,1,65535,,,\ndone,7,,,,\ntick,,,,,\nrun,1000000,,,,\n";
+    let records = &mut Records::new(rt.alloc(), text.as_bytes());
+    let Ok(script) = read_script(rt.alloc(), records) else {
+        panic!(rt; "refused");
+    };
+    assert_eq!(rt; (script.setup.hw(), script.setup.write_expire()), (2, 9));
+    assert_eq!(rt; script.setup.limits().max_sectors(), 256);
+    assert_eq!(rt; (script.soft_depth, script.submitters), (4, 3));
+    let steps = [
+        Line::Bio(bio(&rt, 2, 5, Dir::Write, 100)),
+        Line::Flush(2),
+        Line::Drain { hw: 1 },
+        Line::Issue { hw: 1, tag: 65_535 },
+        Line::Done(7),
+        Line::Tick,
+        Line::Run(1_000_000),
+    ];
+    assert!(rt; script.lines.as_slice() == steps.as_slice());
+}
+
+/// A request of one read of submitter 1.
+fn read(rt: &impl Abort, alloc: Global, serial: u64, first: u64) -> Request {
+    Request::of(alloc, bio(rt, 1, serial, Dir::Read, first)).expect(rt, "memory")
+}
+
+/// A trace of a request of two bios that a third joins.
+pub fn joined_trace(rt: &impl Abort, alloc: Global) -> Trace {
+    let limits = Limits::new(256, 128).expect(rt, "limits");
+    let setup = Setup::new(1, 1, 0, 9, limits).expect(rt, "a setup");
+    let mut trace = Trace::empty(alloc, setup).expect(rt, "memory");
+    let mut request = read(rt, alloc, 100, 100);
+    assert!(rt; request.join(read(rt, alloc, 101, 108), &limits).is_ok());
+    assert!(rt; trace.push(Event::Release { id: 0, request }).is_ok());
+    let request = read(rt, alloc, 116, 116);
+    assert!(rt; trace.push(Event::Join { id: 0, request }).is_ok());
+    assert!(rt; trace.push(Event::Issue { id: 0, tag: 0 }).is_ok());
+    assert!(rt; trace.push(Event::Done { tag: 0 }).is_ok());
+    assert!(rt; trace.push(Event::Tick).is_ok());
+    trace
+}
+
+/// Its text.
+pub const JOINED: &str =
+    "blk-trace,1,1,1,5,\nsetup,0,9,256,128,\nrelease,0,2,,,\nbio,1,100,R,100,8\nbio,1,101,R,108,8\njoin,0,1,,,\nbio,1,116,R,116,8\nissue,0,0,,,\ndone,0,,,,\ntick,,,,,\n";
+
+#[test]
+fn groups_and_joins_are_written(rt: HostRuntime) {
+    let mut out = Vec::new(rt.alloc());
+    let trace = joined_trace(&rt, rt.alloc());
+    assert!(rt; write_trace(rt.alloc(), &trace, &mut out).is_ok());
+    assert!(rt; out.as_slice() == JOINED.as_bytes());
+}

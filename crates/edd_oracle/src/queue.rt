@@ -1,0 +1,147 @@
+//! Earliest due date first, by a heap of the released commands.
+
+ghost use Rattle.std.specs.Prelude.{◌≡◌, ◌≤◌, ◌<◌, ◌+◌, ℕ, Some, length, drop, map, All, IfOk, IfNone, IfSome, OnOk, slice_index_or};
+ghost use Rattle.std.specs.List.Sorted.{IsNonDecreasingBy};
+ghost use Rattle.std.specs.BinaryHeap.{heap_items, IsHeap};
+ghost use Rattle.edd_check.specs.Limits.{most_commands};
+ghost use Rattle.edd_check.specs.Schedule.{IsLegal, RoundsInRange};
+ghost use Rattle.edd_check.specs.declared.Command.{Command};
+ghost use Rattle.edd_oracle.specs.Input.{IsSolvable, HasDistinctIds};
+ghost use Rattle.edd_oracle.specs.Plan.{IsWaiting};
+ghost use Rattle.edd_oracle.specs.Queue.{IsArrival, IsReleased, arrivals_of, held_of, waiting_cmp, IsRest};
+ghost use Rattle.edd_oracle.specs.Priority.{IsEarliestDueFirst};
+
+use edd_check::{Capacity, Command};
+use std::alloc::{AllocError, Allocator};
+use std::cmp::Reverse;
+use std::collections::BinaryHeap;
+
+/// When the command at a place is released.
+#[derive(Clone, Copy, Debug, PartialEq, Eq)]
+struct Arrival {
+    /// Its release round.
+    release: u64,
+    /// Its place in the list.
+    place: usize,
+}
+
+/// A released command that has no round yet. The one that is due first is the least, on a tie the one with the least id.
+#[derive(Clone, Copy, Debug, PartialEq, Eq, PartialOrd, Ord)]
+struct Released {
+    /// Its due round.
+    due: u64,
+    /// Its id.
+    id: u64,
+    /// Its place in the list.
+    place: usize,
+}
+
+/// The places of the commands by release.
+fn arrivals<A: Allocator>(alloc: A, commands: &[Command]) -> Result<Vec<Arrival, A>, AllocError>
+    ensures once { IfOk result (λ found. (k : ℕ) → k < length commands.now → arrivals_of found.items k ≡ 1) }
+    ensures placed { IfOk result (λ found. All (IsArrival commands.now) found.items) }
+    ensures rising { IfOk result (λ found. IsNonDecreasingBy (λ a. a.release) found.items) }
+{
+    let mut found = Vec::with_capacity(alloc, commands.len())?;
+    for (place, command) in commands.iter().enumerate() {
+        let Ok(()) = found.push(Arrival {
+            release: command.release,
+            place,
+        }) else {
+            return Err(AllocError);
+        };
+    }
+    found.sort_unstable_by_key(|a| a.release);
+    Ok(found)
+}
+
+/// Takes into the heap what is released by the round, from `start` on, and answers where the later ones begin.
+fn release<A: Allocator>(
+    commands: &[Command],
+    arrivals: &[Arrival],
+    start: usize,
+    round: u64,
+    waiting: &mut BinaryHeap<Reverse<Released>, A>,
+) -> Result<usize, AllocError>
+    requires placed { All (IsArrival commands.now) arrivals.now }
+    requires rising { IsNonDecreasingBy (λ a. a.release) arrivals.now }
+    requires within { start ≤ length arrivals.now }
+    requires ordered { IsHeap waiting_cmp (heap_items waiting.old) }
+    requires released { All (IsReleased commands.now round) (heap_items waiting.old) }
+    ensures within { IfOk result (λ next. next ≤ length arrivals.now) }
+    ensures kept { IfOk result (λ next. (k : ℕ) → held_of (heap_items waiting.new) k + arrivals_of (drop next arrivals.now) k ≡ held_of (heap_items waiting.old) k + arrivals_of (drop start arrivals.now) k) }
+    ensures rest { IfOk result (λ next. IsRest arrivals.now next round) }
+    ensures ordered { OnOk result (IsHeap waiting_cmp (heap_items waiting.new)) }
+    ensures released { OnOk result (All (IsReleased commands.now round) (heap_items waiting.new)) }
+    ensures some { OnOk result (length (heap_items waiting.old) ≤ length (heap_items waiting.new)) }
+    ensures more { IfOk result (λ next. start < next → 0 < length (heap_items waiting.new)) }
+    ensures after { IfOk result (λ next. start ≤ next) }
+{
+    let mut next = start;
+    while next < arrivals.len() && arrivals[next].release <= round {
+        let place = arrivals[next].place;
+        let Command { due, id, .. } = commands[place];
+        let Ok(()) = waiting.push(Reverse(Released { due, id, place })) else {
+            return Err(AllocError);
+        };
+        next += 1;
+    }
+    Ok(next)
+}
+
+/// The rounds, once each command has one.
+fn settled<A: Allocator + Clone>(
+    alloc: A,
+    rounds: &[Option<u64>],
+) -> Result<Vec<u64, A>, AllocError>
+    requires { (k : ℕ) → ¬ IsWaiting rounds.now k }
+    ensures { IfOk result (λ all. map (λ x. Some x) all.items ≡ rounds.now) }
+{
+    let mut all = Vec::with_capacity(alloc, rounds.len())?;
+    for round in rounds {
+        if let Some(x) = *round {
+            let Ok(()) = all.push(x) else {
+                return Err(AllocError);
+            };
+        }
+    }
+    Ok(all)
+}
+
+/// A round for each command: round by round from the least release, of the released commands that have no round yet,
+/// as many as the round carries, those with the least due round, on a tie with the least id.
+pub fn schedule<A: Allocator + Clone, B: Allocator>(
+    alloc: A,
+    commands: &[Command],
+    capacity: &Capacity<B>,
+) -> Result<Vec<u64, A>, AllocError>
+    requires few { length commands.now ≤ most_commands }
+    requires in_range { All IsSolvable commands.now }
+    ensures legal { IfOk result (λ rounds. IsLegal commands.now rounds.items capacity.now) }
+    ensures in_range { IfOk result (λ rounds. RoundsInRange rounds.items) }
+    ensures earliest { IfOk result (λ rounds. IsEarliestDueFirst commands.now rounds.items capacity.now) }
+{
+    let arrivals = arrivals(alloc.clone()?, commands)?;
+    let mut rounds = vec![in alloc.clone()?; None; commands.len()]?;
+    let mut waiting = BinaryHeap::new(alloc.clone()?);
+    let mut next = 0;
+    let mut round = 0;
+    let mut used = 0;
+    'places: while next < arrivals.len() || !waiting.is_empty() {
+        let depth = capacity.at(round);
+        if waiting.is_empty() && arrivals[next].release > round {
+            round = arrivals[next].release;
+            used = 0;
+        } else if used == depth {
+            round += 1;
+            used = 0;
+        }
+        next = release(commands, arrivals.as_slice(), next, round, &mut waiting)?;
+        let Some(Reverse(first)) = waiting.pop() else {
+            unreachable!()
+        };
+        rounds[first.place] = Some(round);
+        used += 1;
+    }
+    settled(alloc, rounds.as_slice())
+}

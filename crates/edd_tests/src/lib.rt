@@ -1,0 +1,13 @@
+//! Tests of the check and of the oracle, through their public calls.
+#![tactic(auto)]
+
+#[cfg(test)]
+mod capacities;
+#[cfg(test)]
+mod claims;
+#[cfg(test)]
+mod made;
+#[cfg(test)]
+mod memory;
+#[cfg(test)]
+mod schedules;

@@ -1,0 +1,68 @@
+//! Each allocation of a scenario refused in turn.
+
+use crate::made::{checked, command, window};
+use edd_check::{Capacity, CheckFault};
+use edd_oracle::{OracleFault, check_answer, solve};
+use refusing::Refusing;
+use std::alloc::Global;
+use std::process::Abort;
+
+/// Makes a capacity and checks a claim under it.
+fn claimed(rt: &impl Abort, heap: &Refusing<Global>) -> Result<(), CheckFault> {
+    let Ok(one) = Capacity::fixed(heap, 1) else {
+        return Err(CheckFault::Memory);
+    };
+    let commands = [command(1, 0, 5)];
+    checked(rt, heap, &one, &commands, -5, &[0], window(0, 5))
+}
+
+#[test]
+fn of_a_claim(rt: HostRuntime) {
+    let heap = Refusing::new(rt.alloc());
+    for n in 1..3 {
+        heap.refuse(n);
+        assert_eq!(rt; claimed(&rt, &heap), Err(CheckFault::Memory));
+        assert!(rt; !heap.is_armed());
+        assert_eq!(rt; claimed(&rt, &heap), Ok(()));
+    }
+    heap.refuse(3);
+    assert_eq!(rt; claimed(&rt, &heap), Ok(()));
+    assert!(rt; heap.is_armed());
+}
+
+/// Schedules three commands and has the answer checked; whether memory was not refused.
+fn scheduled(rt: &impl Abort, alloc: Global, heap: &Refusing<Global>) -> bool {
+    let one = Capacity::fixed(alloc, 1).expect(rt, "want of memory");
+    let commands = [command(1, 0, 10), command(2, 1, 1), command(3, 1, 1)];
+    match solve(heap, &commands, &one) {
+        Ok(answer) => {
+            let answer = answer.expect(rt, "an answer");
+            assert_eq!(rt; answer.rounds.as_slice(), [0, 1, 2].as_slice());
+            match check_answer(heap, &commands, &one, &answer) {
+                Ok(()) => true,
+                Err(fault) => {
+                    assert!(rt; fault == CheckFault::Memory);
+                    false
+                }
+            }
+        }
+        Err(fault) => {
+            assert!(rt; fault == OracleFault::Memory);
+            false
+        }
+    }
+}
+
+#[test]
+fn of_a_schedule(rt: HostRuntime) {
+    let heap = Refusing::new(rt.alloc());
+    for n in 1..8 {
+        heap.refuse(n);
+        assert!(rt; !scheduled(&rt, rt.alloc(), &heap));
+        assert!(rt; !heap.is_armed());
+        assert!(rt; scheduled(&rt, rt.alloc(), &heap));
+    }
+    heap.refuse(8);
+    assert!(rt; scheduled(&rt, rt.alloc(), &heap));
+    assert!(rt; heap.is_armed());
+}
