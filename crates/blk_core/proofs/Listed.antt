@@ -1,11 +1,13 @@
 -- The listed Issues are the open ones.
-use Rattle.std.proofs.Common.{◌≡◌, ◌<◌, ◌==◌, ℕ, zero, suc, List, [], ◌∷◌, refl, sym, ap, subst, arith, inl, inr, Some, Bool, true, false, eq-eqb, eqb-true, cond}
+use Rattle.std.proofs.Common.{◌≡◌, ◌<◌, ◌==◌, ℕ, zero, suc, List, [], ◌∷◌, refl, sym, ap, subst, arith, inl, inr, Option, Some, None, ◌∙◌, Bool, true, false, eq-eqb, eqb-true, cond}
 use Rattle.std.specs.Prelude.{slice_get}
 use Rattle.std.specs.List.{list_any}
+use Rattle.std.specs.Option.{option_map_or}
 use Rattle.std.proofs.lemmas.Bool.{false_from_ne_true, or_cases, both_ways}
 use Rattle.std.proofs.lemmas.Map.Keys.{any_passes_from_place}
-use Rattle.blk_trace.specs.Happened.{Happened, Ticked, Released, Joined, Issued, Finished}
-use Rattle.blk_trace.specs.Events.{At, IsOpen}
+use Rattle.blk_trace.specs.Happened.{Happened, Issued}
+use Rattle.blk_trace.specs.Kinds.{ends}
+use Rattle.blk_trace.specs.Events.{At, EndsAt, IsOpen}
 use Rattle.blk_trace.specs.Standing.{is_done_of}
 use Rattle.blk_core.specs.Opens.{open_issues}
 
@@ -17,19 +19,19 @@ HasOpen es id tag = (o : IsOpen es tag) × (o.id ≡ id)
 abbrev IsListed : List (ℕ × ℕ) → ℕ → ℕ → Type 0
 IsListed xs id tag = (k : ℕ) × (slice_get xs k ≡ Some (id, tag))
 
-done_found : (t : ℕ) (es : List Happened) → list_any (is_done_of t) es ≡ true → (j : ℕ) × At es j (Finished t)
+end_of : (t : ℕ) (o : Option ℕ) → option_map_or (λ u. u == t) o false ≡ true → o ≡ Some t
+end_of t None h = absurd (cc)
+end_of t (Some u) h = ap Some (eqb-true u t h)
+
+done_found : (t : ℕ) (es : List Happened) → list_any (is_done_of t) es ≡ true → (j : ℕ) × EndsAt es j t
 done_found t [] h = absurd (cc)
-done_found t (Ticked ∷ es) h = let p = done_found t es h in (suc p.0, p.1)
-done_found t (Released i q ∷ es) h = let p = done_found t es h in (suc p.0, p.1)
-done_found t (Joined i q ∷ es) h = let p = done_found t es h in (suc p.0, p.1)
-done_found t (Issued i u ∷ es) h = let p = done_found t es h in (suc p.0, p.1)
-done_found t (Finished u ∷ es) h = elim (or_cases (u == t) (list_any (is_done_of t) es) h) [
-  | inl b ↦ (0, ap (λ x. Some (Finished x)) (eqb-true u t b))
+done_found t (e ∷ es) h = elim (or_cases (is_done_of t e) (list_any (is_done_of t) es) h) [
+  | inl b ↦ (0, (e, refl, end_of t (ends e) b))
   | inr b ↦ let p = done_found t es b in (suc p.0, p.1)
 ]
 
-found_done : (t : ℕ) (es : List Happened) (j : ℕ) → At es j (Finished t) → list_any (is_done_of t) es ≡ true
-found_done t es j h = any_passes_from_place (is_done_of t) es j (Finished t) h (eq-eqb t t refl)
+found_done : (t : ℕ) (es : List Happened) (j : ℕ) → EndsAt es j t → list_any (is_done_of t) es ≡ true
+found_done t es j d = any_passes_from_place (is_done_of t) es j d.0 d.1 (ap (λ o. option_map_or (λ u. u == t) o false) d.2 ∙ eq-eqb t t refl)
 
 -- one event before the others
 later : (e : Happened) (es : List Happened) (id tag : ℕ) → HasOpen es id tag → HasOpen (e ∷ es) id tag
@@ -43,14 +45,14 @@ later e es id tag p = (
   p.1,
 )
   where
-    not_before : (e : Happened) (es : List Happened) (tag : ℕ) (o : IsOpen es tag) (j : ℕ) → suc o.place < j → At (e ∷ es) j (Finished tag) → ⊥
+    not_before : (e : Happened) (es : List Happened) (tag : ℕ) (o : IsOpen es tag) (j : ℕ) → suc o.place < j → EndsAt (e ∷ es) j tag → ⊥
     not_before e es tag o zero h at = absurd (omega arith)
     not_before e es tag o (suc j) h at = o.not_done j (omega arith) at
 
 first_open : (i t : ℕ) (es : List Happened) → list_any (is_done_of t) es ≡ false → HasOpen (Issued i t ∷ es) i t
 first_open i t es none = (record { place = 0; id = i; issued = refl; not_done = never i t es none }, refl)
   where
-    never : (i t : ℕ) (es : List Happened) → list_any (is_done_of t) es ≡ false → (j : ℕ) → 0 < j → At (Issued i t ∷ es) j (Finished t) → ⊥
+    never : (i t : ℕ) (es : List Happened) → list_any (is_done_of t) es ≡ false → (j : ℕ) → 0 < j → EndsAt (Issued i t ∷ es) j t → ⊥
     never i t es none zero h at = absurd (omega arith)
     never i t es none (suc j) h at = both_ways _ none (found_done t es j at)
 
@@ -70,11 +72,8 @@ by_case i t id tag es false is ih (suc k) h = later (Issued i t) es id tag (ih k
 pub listed_open : (es : List Happened) (id tag k : ℕ) → slice_get (open_issues es) k ≡ Some (id, tag) → HasOpen es id tag
 unfolding open_issues
 listed_open [] id tag k h = absurd (cc)
-listed_open (Ticked ∷ es) id tag k h = later Ticked es id tag (listed_open es id tag k h)
-listed_open (Released i q ∷ es) id tag k h = later (Released i q) es id tag (listed_open es id tag k h)
-listed_open (Joined i q ∷ es) id tag k h = later (Joined i q) es id tag (listed_open es id tag k h)
-listed_open (Finished u ∷ es) id tag k h = later (Finished u) es id tag (listed_open es id tag k h)
 listed_open (Issued i t ∷ es) id tag k h = by_case i t id tag es (list_any (is_done_of t) es) refl (λ k h. listed_open es id tag k h) k h
+listed_open (e ∷ es) id tag k h = later e es id tag (listed_open es id tag k h)
 
 -- an open Issue is listed
 one_more : (x : ℕ × ℕ) (xs : List (ℕ × ℕ)) (id tag : ℕ) (b : Bool) → IsListed xs id tag → IsListed (cond b xs (x ∷ xs)) id tag
@@ -85,25 +84,19 @@ at_head : (xs : List (ℕ × ℕ)) (id tag : ℕ) (b : Bool) → b ≡ false →
 at_head xs id tag true h = absurd (cc)
 at_head xs id tag false h = (0, refl)
 
-listed_at : (es : List Happened) (place id tag : ℕ) → At es place (Issued id tag) → ((j : ℕ) → place < j → At es j (Finished tag) → ⊥) → IsListed (open_issues es) id tag
+listed_at : (es : List Happened) (place id tag : ℕ) → At es place (Issued id tag) → ((j : ℕ) → place < j → EndsAt es j tag → ⊥) → IsListed (open_issues es) id tag
 unfolding open_issues
 listed_at [] place id tag at never = absurd (cc)
-listed_at (Ticked ∷ es) zero id tag at never = absurd (cc)
-listed_at (Released i q ∷ es) zero id tag at never = absurd (cc)
-listed_at (Joined i q ∷ es) zero id tag at never = absurd (cc)
-listed_at (Finished u ∷ es) zero id tag at never = absurd (cc)
 listed_at (Issued i t ∷ es) zero id tag at never =
     let a : i ≡ id = cc in
     let b : t ≡ tag = cc in
     let none : list_any (is_done_of tag) es ≡ false = false_from_ne_true _ (λ some. let p = done_found tag es some in never (suc p.0) (omega arith) p.1) in
     subst (λ x. IsListed (open_issues (Issued x t ∷ es)) id tag) (sym a) (subst (λ x. IsListed (open_issues (Issued id x ∷ es)) id tag) (sym b)
     (at_head (open_issues es) id tag (list_any (is_done_of tag) es) none))
-listed_at (Ticked ∷ es) (suc place) id tag at never = listed_at es place id tag at (λ j h d. never (suc j) (omega arith) d)
-listed_at (Released i q ∷ es) (suc place) id tag at never = listed_at es place id tag at (λ j h d. never (suc j) (omega arith) d)
-listed_at (Joined i q ∷ es) (suc place) id tag at never = listed_at es place id tag at (λ j h d. never (suc j) (omega arith) d)
-listed_at (Finished u ∷ es) (suc place) id tag at never = listed_at es place id tag at (λ j h d. never (suc j) (omega arith) d)
 listed_at (Issued i t ∷ es) (suc place) id tag at never =
     one_more (i, t) (open_issues es) id tag (list_any (is_done_of t) es) (listed_at es place id tag at (λ j h d. never (suc j) (omega arith) d))
+listed_at (e ∷ es) zero id tag at never = absurd (cc)
+listed_at (e ∷ es) (suc place) id tag at never = listed_at es place id tag at (λ j h d. never (suc j) (omega arith) d)
 
 pub open_listed : (es : List Happened) (id tag : ℕ) → HasOpen es id tag → IsListed (open_issues es) id tag
 open_listed es id tag p = subst (λ x. IsListed (open_issues es) x tag) p.1 (listed_at es p.0.place p.0.id tag p.0.issued p.0.not_done)

@@ -60,11 +60,8 @@ same_round es e other = round_more es e ∙ ap (λ b. round_of es + cond b 1 0) 
 pub released_more : (es : List Happened) (e : Happened) → released_count (es ++ e ∷ []) ≡ released_count es + released_count (e ∷ [])
 unfolding released_ids
 released_more [] e = omega arith
-released_more (Ticked ∷ es) e = released_more es e
 released_more (Released id bios ∷ es) e = let h = released_more es e in omega arith
-released_more (Joined id bios ∷ es) e = released_more es e
-released_more (Issued id tag ∷ es) e = released_more es e
-released_more (Finished tag ∷ es) e = released_more es e
+released_more (x ∷ es) e = released_more es e
 
 pub released-released : (es : List Happened) (id : ℕ) (bios : List Bio) → released_count (es ++ Released id bios ∷ []) ≡ released_count es + 1
 unfolding released_ids

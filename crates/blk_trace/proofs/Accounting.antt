@@ -9,7 +9,7 @@ use Rattle.std.proofs.lemmas.Bool.{cases_Bool, or_right, or_left, or_cases, cond
 use Rattle.blk_bio.specs.Bios.{Bio}
 use Rattle.blk_bio.specs.Requests.{first_of, last_of}
 use Rattle.blk_trace.specs.declared.rule.TraceRule.TheVariants.{ReleasedTwice, Unknown, AlreadyIssued}
-use Rattle.blk_trace.specs.Happened.{Happened, Ticked, Released, Joined, Issued, Finished}
+use Rattle.blk_trace.specs.Happened.{Happened, Released, Joined, Issued}
 use Rattle.blk_trace.specs.Setups.{Setup}
 use Rattle.blk_trace.specs.Events.{join_up, request_of, entered, bios_of, IsReleased}
 use Rattle.blk_trace.specs.Legal.{IsLegalTrace}
@@ -271,11 +271,10 @@ on_issued setup es i t old all ih =
 
 account_step : (setup : Setup) (es : List Happened) (e : Happened) → IsLegalTrace setup es → IsUnbroken setup es e → IsPermutation (all_of es) (entered es) → IsPermutation (all_of (es ++ e ∷ [])) (entered (es ++ e ∷ []))
 unfolding released_ids issued_ids
-account_step setup es Ticked old all ih = quiet setup es Ticked refl refl refl (λ x. (same_entered setup es Ticked x refl).request) ih
-account_step setup es (Finished t) old all ih = quiet setup es (Finished t) refl refl refl (λ x. (same_entered setup es (Finished t) x refl).request) ih
 account_step setup es (Released i q) old all ih = on_released setup es i q old all ih
 account_step setup es (Joined i q) old all ih = on_joined setup es i q old all ih
 account_step setup es (Issued i t) old all ih = on_issued setup es i t old all ih
+account_step setup es e old all ih = quiet setup es e refl refl refl (λ x. (same_entered setup es e x refl).request) ih
 
 accounts : (setup : Setup) (es : List Happened) → IsLegalTrace setup es → IsPermutation (all_of es) (entered es)
 unfolding waiting released_ids issued_ids entered

@@ -1,16 +1,18 @@
 -- An event that is allowed breaks no rule.
-use Rattle.std.proofs.Common.{◌<◌, ◌≤◌, ◌+◌, ◌++◌, ℕ, List, [], ◌∷◌, length, subst, arith, length-append}
+use Rattle.std.proofs.Common.{◌≡◌, ◌≤◌, ◌+◌, ℕ, List, length, subst, arith, refl, Option, Some, None, IfSome}
 use Rattle.std.proofs.lemmas.Bool.{both_ways}
-use Rattle.blk_bio.specs.Bios.{Bio}
 use Rattle.blk_bio.specs.Requests.{Fits}
 use Rattle.blk_trace.specs.declared.rule.TraceRule.TheVariants.{ReleasedTwice, Unknown, AlreadyIssued, BioTwice, Fit, TagRange, TagUsed, NotIssued, InFlight, TooLong}
-use Rattle.blk_trace.specs.Happened.{Happened, Ticked, Released, Joined, Issued, Finished}
+use Rattle.blk_trace.specs.declared.trace.TheConstants.{MAX_EVENTS}
+use Rattle.blk_trace.specs.Happened.{Happened, Ticked, Released, Joined, Issued}
+use Rattle.blk_trace.specs.Kinds.{issues, ends}
 use Rattle.blk_trace.specs.Setups.{Setup}
-use Rattle.blk_trace.specs.Events.{is_issue, is_done, open_count, IsIssued}
+use Rattle.blk_trace.specs.Events.{open_count, IsIssued, IsOpen}
 use Rattle.blk_trace.specs.Legal.{IsLegalTrace}
-use Rattle.blk_trace.specs.Rules.{IsUnbroken}
-use Rattle.blk_trace.specs.Standing.{Entered, IsAllowed, places_of}
-use Rattle.blk_trace.proofs.More.{more_of}
+use Rattle.blk_trace.specs.Rules.{Obeys, IsUnbroken}
+use Rattle.blk_trace.specs.Standing.{Entered, IsAllowed, MayEnd, places_of}
+use Rattle.blk_trace.proofs.Words.{OnlyEnds, only_ends, if_some}
+use Rattle.blk_trace.proofs.Room.{room_kept, room_issue, room_end}
 use Rattle.blk_trace.proofs.Ids.{has_released, issued_has}
 use Rattle.blk_trace.proofs.Waiting.{IsWaiting, waiting_from}
 use Rattle.blk_trace.proofs.Steady.{seat_open, seat_unused}
@@ -19,28 +21,26 @@ use Rattle.blk_trace.proofs.Opening.{open-both, open_positive}
 unissued : (setup : Setup) (es : List Happened) (id : ℕ) (w : Entered) → IsWaiting setup es id w → IsIssued es id → ⊥
 unissued setup es id w was p = both_ways _ was.unissued (issued_has es p.0 id p.1.0 p.1.1)
 
+-- what is allowed of an event that ends an Issue
+allowed_end : (setup : Setup) (events : List Happened) (e : Happened) (tag : ℕ) → ends e ≡ Some tag → IsAllowed setup events e → MayEnd events tag
+allowed_end setup events e tag end allowed =
+    let only : OnlyEnds e = only_ends e tag end in
+    rw (only.no_release, only.no_join, only.no_issue, end) at allowed
+
+ends_open : (setup : Setup) (events : List Happened) (e : Happened) → IsLegalTrace setup events → IsAllowed setup events e → IfSome (ends e) (IsOpen events)
+ends_open setup events e legal allowed =
+    if_some (ends e) (IsOpen events) (λ tag end. let may = allowed_end setup events e tag end allowed in seat_open setup events tag may.0 legal may.1)
+
 -- the places that are taken with one more event
-room_tick : (es : List Happened) → length es + open_count es + 1 ≤ 1000000 → length (es ++ Ticked ∷ []) + open_count (es ++ Ticked ∷ []) ≤ 1000000
-unfolding open_count
-room_tick es h = omega (arith, h, more_of is_issue es Ticked, more_of is_done es Ticked, length-append es (Ticked ∷ []))
+enough : (setup : Setup) (events : List Happened) (e : Happened) (o : Option ℕ) → ends e ≡ o → issues e ≡ None → IsLegalTrace setup events → IsAllowed setup events e → length events + open_count events + places_of e ≤ MAX_EVENTS → Obeys setup events e TooLong
+enough setup events e None none i legal allowed room =
+    let one : places_of e ≡ 1 = rw (i, none) refl in
+    room_kept setup events e i none (omega (arith, room, one))
+enough setup events e (Some tag) end i legal allowed room =
+    let may = allowed_end setup events e tag end allowed in
+    room_end setup events e tag end legal (seat_open setup events tag may.0 legal may.1)
 
-room_released : (es : List Happened) (i : ℕ) (q : List Bio) → length es + open_count es + 1 ≤ 1000000 → length (es ++ Released i q ∷ []) + open_count (es ++ Released i q ∷ []) ≤ 1000000
-unfolding open_count
-room_released es i q h = omega (arith, h, more_of is_issue es (Released i q), more_of is_done es (Released i q), length-append es (Released i q ∷ []))
-
-room_joined : (es : List Happened) (i : ℕ) (q : List Bio) → length es + open_count es + 1 ≤ 1000000 → length (es ++ Joined i q ∷ []) + open_count (es ++ Joined i q ∷ []) ≤ 1000000
-unfolding open_count
-room_joined es i q h = omega (arith, h, more_of is_issue es (Joined i q), more_of is_done es (Joined i q), length-append es (Joined i q ∷ []))
-
-room_issued : (es : List Happened) (i t : ℕ) → length es + open_count es + 2 ≤ 1000000 → length (es ++ Issued i t ∷ []) + open_count (es ++ Issued i t ∷ []) ≤ 1000000
-unfolding open_count
-room_issued es i t h = omega (arith, h, more_of is_issue es (Issued i t), more_of is_done es (Issued i t), length-append es (Issued i t ∷ []))
-
-room_finished : (es : List Happened) (t : ℕ) → 0 < open_count es → length es + open_count es + 0 ≤ 1000000 → length (es ++ Finished t ∷ []) + open_count (es ++ Finished t ∷ []) ≤ 1000000
-unfolding open_count
-room_finished es t some h = omega (arith, some, h, more_of is_issue es (Finished t), more_of is_done es (Finished t), length-append es (Finished t ∷ []))
-
-pub allowed-unbroken : (setup : Setup) (events : List Happened) (e : Happened) → IsLegalTrace setup events → IsAllowed setup events e → length events + open_count events + places_of e ≤ 1000000 → IsUnbroken setup events e
+pub allowed-unbroken : (setup : Setup) (events : List Happened) (e : Happened) → IsLegalTrace setup events → IsAllowed setup events e → length events + open_count events + places_of e ≤ MAX_EVENTS → IsUnbroken setup events e
 allowed-unbroken setup events (Released id bios) legal allowed room ReleasedTwice = allowed.0
 allowed-unbroken setup events (Joined id bios) legal allowed room Unknown = has_released events id (waiting_from setup events id allowed.0 allowed.2).released
 allowed-unbroken setup events (Issued id tag) legal allowed room Unknown = has_released events id (waiting_from setup events id allowed.0 allowed.1).released
@@ -52,11 +52,8 @@ allowed-unbroken setup events (Released id bios) legal allowed room Fit = allowe
 allowed-unbroken setup events (Joined id bios) legal allowed room Fit = (allowed.1, subst (λ l. Fits setup.limits l bios allowed.1) (waiting_from setup events id allowed.0 allowed.2).bios_is allowed.3)
 allowed-unbroken setup events (Issued id tag) legal allowed room TagRange = allowed.2
 allowed-unbroken setup events (Issued id tag) legal allowed room TagUsed = seat_unused events tag allowed.3
-allowed-unbroken setup events (Finished tag) legal allowed room NotIssued = seat_open setup events tag allowed.0 legal allowed.1
+allowed-unbroken setup events e legal allowed room NotIssued = ends_open setup events e legal allowed
 allowed-unbroken setup events Ticked legal allowed room InFlight = λ tag o. absurd (omega (arith, allowed.0, allowed.1, open_positive setup events tag legal o, open-both setup events legal))
-allowed-unbroken setup events Ticked legal allowed room TooLong = room_tick events room
-allowed-unbroken setup events (Released id bios) legal allowed room TooLong = room_released events id bios room
-allowed-unbroken setup events (Joined id bios) legal allowed room TooLong = room_joined events id bios room
-allowed-unbroken setup events (Issued id tag) legal allowed room TooLong = room_issued events id tag room
-allowed-unbroken setup events (Finished tag) legal allowed room TooLong = room_finished events tag (open_positive setup events tag legal (seat_open setup events tag allowed.0 legal allowed.1)) room
-allowed-unbroken setup events _ legal allowed room _ = tt
+allowed-unbroken setup events (Issued id tag) legal allowed room TooLong = room_issue setup events id tag legal room
+allowed-unbroken setup events e legal allowed room TooLong = enough setup events e (ends e) refl refl legal allowed room
+allowed-unbroken setup events e legal allowed room rule = tt

@@ -1,9 +1,11 @@
 -- The commands and their rounds after one more event.
-use Rattle.std.proofs.Common.{◌≡◌, ◌++◌, ◌==◌, ℕ, List, [], ◌∷◌, map, refl, sym, ◌∙◌, ap, Some, append-nil, true, eq-eqb}
+use Rattle.std.proofs.Common.{◌≡◌, ◌++◌, ◌==◌, ℕ, List, [], ◌∷◌, map, refl, sym, ◌∙◌, ap, Some, None, option_map, append-nil, true, eq-eqb}
+use Rattle.std.specs.List.{cons_option}
 use Rattle.std.proofs.lemmas.List.{map-append}
 use Rattle.std.proofs.lemmas.Bool.{or_left, or_right}
 use Rattle.blk_bio.specs.Bios.{Bio}
 use Rattle.blk_trace.specs.Happened.{Happened, Ticked, Released, Joined, Issued, Finished}
+use Rattle.blk_trace.specs.Kinds.{issues}
 use Rattle.blk_trace.specs.Setups.{Setup}
 use Rattle.blk_trace.specs.Legal.{IsLegalTrace}
 use Rattle.blk_trace.specs.Events.{round_of}
@@ -37,17 +39,22 @@ commands_more setup es e legal =
     map_same _ _ (issued_ids es) (λ id h. same_command setup es (es ++ e ∷ []) id (same_entered setup es e id (stays_out setup es e id (shorter_legal setup es e legal) (obeys setup es e legal) (has_issued es id h)))) in
     ap (map (command_of setup (es ++ e ∷ []))) (issued_more es (e ∷ [])) ∙ map-append (command_of setup (es ++ e ∷ [])) (issued_ids es) (issued_ids (e ∷ [])) ∙ ap (λ l. l ++ map (command_of setup (es ++ e ∷ [])) (issued_ids (e ∷ []))) same
 
-pub commands-ticked : (setup : Setup) (events : List Happened) → IsLegalTrace setup (events ++ Ticked ∷ []) → commands_of setup (events ++ Ticked ∷ []) ≡ commands_of setup events
+-- an event that issues nothing leaves the commands
+pub commands_kept : (setup : Setup) (events : List Happened) (e : Happened) → IsLegalTrace setup (events ++ e ∷ []) → issues e ≡ None → commands_of setup (events ++ e ∷ []) ≡ commands_of setup events
 unfolding issued_ids
-commands-ticked setup events legal = commands_more setup events Ticked legal ∙ append-nil _
+commands_kept setup events e legal none =
+    commands_more setup events e legal
+    ∙ ap (λ o. commands_of setup events ++ map (command_of setup (events ++ e ∷ [])) (cons_option (option_map (λ p. p.0) o) [])) none
+    ∙ append-nil _
+
+pub commands-ticked : (setup : Setup) (events : List Happened) → IsLegalTrace setup (events ++ Ticked ∷ []) → commands_of setup (events ++ Ticked ∷ []) ≡ commands_of setup events
+commands-ticked setup events legal = commands_kept setup events Ticked legal refl
 
 pub commands-released : (setup : Setup) (events : List Happened) (id : ℕ) (bios : List Bio) → IsLegalTrace setup (events ++ Released id bios ∷ []) → commands_of setup (events ++ Released id bios ∷ []) ≡ commands_of setup events
-unfolding issued_ids
-commands-released setup events id bios legal = commands_more setup events (Released id bios) legal ∙ append-nil _
+commands-released setup events id bios legal = commands_kept setup events (Released id bios) legal refl
 
 pub commands-joined : (setup : Setup) (events : List Happened) (id : ℕ) (bios : List Bio) → IsLegalTrace setup (events ++ Joined id bios ∷ []) → commands_of setup (events ++ Joined id bios ∷ []) ≡ commands_of setup events
-unfolding issued_ids
-commands-joined setup events id bios legal = commands_more setup events (Joined id bios) legal ∙ append-nil _
+commands-joined setup events id bios legal = commands_kept setup events (Joined id bios) legal refl
 
 pub commands-issued : (setup : Setup) (events : List Happened) (id tag : ℕ) → IsLegalTrace setup (events ++ Issued id tag ∷ []) → (w : Entered) → waits_at setup events id ≡ Some w → commands_of setup (events ++ Issued id tag ∷ []) ≡ commands_of setup events ++ record { id = id; release = w.release; due = w.due } ∷ []
 unfolding issued_ids
@@ -60,21 +67,11 @@ commands-issued setup events id tag legal w waits =
     commands_more setup events (Issued id tag) legal ∙ ap (λ x. commands_of setup events ++ x ∷ []) last
 
 pub commands-finished : (setup : Setup) (events : List Happened) (tag : ℕ) → IsLegalTrace setup (events ++ Finished tag ∷ []) → commands_of setup (events ++ Finished tag ∷ []) ≡ commands_of setup events
-unfolding issued_ids
-commands-finished setup events tag legal = commands_more setup events (Finished tag) legal ∙ append-nil _
+commands-finished setup events tag legal = commands_kept setup events (Finished tag) legal refl
 
 -- the rounds
-pub rounds-ticked : (events : List Happened) → rounds_of (events ++ Ticked ∷ []) ≡ rounds_of events
-rounds-ticked events = rounds_more events Ticked ∙ append-nil _
-
-pub rounds-released : (events : List Happened) (id : ℕ) (bios : List Bio) → rounds_of (events ++ Released id bios ∷ []) ≡ rounds_of events
-rounds-released events id bios = rounds_more events (Released id bios) ∙ append-nil _
-
-pub rounds-joined : (events : List Happened) (id : ℕ) (bios : List Bio) → rounds_of (events ++ Joined id bios ∷ []) ≡ rounds_of events
-rounds-joined events id bios = rounds_more events (Joined id bios) ∙ append-nil _
+pub rounds_kept : (events : List Happened) (e : Happened) → issues e ≡ None → rounds_of (events ++ e ∷ []) ≡ rounds_of events
+rounds_kept events e none = rounds_more events e ∙ ap (λ o. rounds_of events ++ cons_option (option_map (λ _. round_of events) o) []) none ∙ append-nil _
 
 pub rounds-issued : (events : List Happened) (id tag : ℕ) → rounds_of (events ++ Issued id tag ∷ []) ≡ rounds_of events ++ round_of events ∷ []
 rounds-issued events id tag = rounds_more events (Issued id tag)
-
-pub rounds-finished : (events : List Happened) (tag : ℕ) → rounds_of (events ++ Finished tag ∷ []) ≡ rounds_of events
-rounds-finished events tag = rounds_more events (Finished tag) ∙ append-nil _

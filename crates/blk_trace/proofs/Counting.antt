@@ -1,11 +1,13 @@
 -- Counts of a list under a changed test.
 use Rattle.std.proofs.Common.{◌≡◌, ◌+◌, ◌*◌, ◌++◌, ◌==◌, ℕ, List, [], ◌∷◌, length, refl, sym, ◌∙◌, ap, subst, arith, inl, inr, append-nil, cond, Bool, true, false, ne_eqb, eq-eqb, eqb-true}
-use Rattle.std.specs.Prelude.{◌||◌, not, count_by, nat_le, filter}
+use Rattle.std.specs.Prelude.{◌||◌, not, count_by, nat_le, filter, None, option_map}
+use Rattle.std.specs.List.{cons_option}
 use Rattle.std.proofs.lemmas.List.Sums.{sum_by-cons, sum_by_push, length-filter}
 use Rattle.std.proofs.lemmas.Bool.{cases_Bool, or_right, or_left, cond_both}
 use Rattle.blk_bio.specs.Bios.{Bio}
 use Rattle.blk_trace.specs.declared.rule.TraceRule.TheVariants.{ReleasedTwice, Unknown, AlreadyIssued}
 use Rattle.blk_trace.specs.Happened.{Happened, Ticked, Released, Joined, Issued, Finished}
+use Rattle.blk_trace.specs.Kinds.{releases, issues}
 use Rattle.blk_trace.specs.Setups.{Setup}
 use Rattle.blk_trace.specs.Events.{IsReleased}
 use Rattle.blk_trace.specs.Legal.{IsLegalTrace}
@@ -75,10 +77,6 @@ count_once p q u c xs h at n =
 -- an id stands once among the released ones
 once_step : (setup : Setup) (u : ℕ) (es : List Happened) (e : Happened) → IsUnbroken setup es e → count_by (λ t. u == t) (released_ids es) ≡ cond (has_id (released_ids es) u) 1 0 → count_by (λ t. u == t) (released_ids (es ++ e ∷ [])) ≡ cond (has_id (released_ids (es ++ e ∷ [])) u) 1 0
 unfolding released_ids
-once_step setup u es Ticked all ih = rw (released_more es (Ticked ∷ []), append-nil (released_ids es)) ih
-once_step setup u es (Joined i q) all ih = rw (released_more es (Joined i q ∷ []), append-nil (released_ids es)) ih
-once_step setup u es (Issued i t) all ih = rw (released_more es (Issued i t ∷ []), append-nil (released_ids es)) ih
-once_step setup u es (Finished t) all ih = rw (released_more es (Finished t ∷ []), append-nil (released_ids es)) ih
 once_step setup u es (Released i q) all ih =
     let more : count_by (λ t. u == t) (released_ids (es ++ Released i q ∷ [])) ≡ count_by (λ t. u == t) (released_ids es) + one_if (u == i) = ap (count_by (λ t. u == t)) (released_more es (Released i q ∷ [])) ∙ count_push (λ t. u == t) (released_ids es) i in
     elim (cases_Bool (i == u)) [
@@ -94,6 +92,7 @@ once_step setup u es (Released i q) all ih =
           let kept : has_id (released_ids (es ++ Released i q ∷ [])) u ≡ has_id (released_ids es) u = has_released_same es (Released i q) u (rw b refl) in
           rw kept (omega arith)
     ]
+once_step setup u es e all ih = rw (released_more es (e ∷ []), append-nil (released_ids es)) ih
 
 pub released_times : (setup : Setup) (es : List Happened) (u : ℕ) → IsLegalTrace setup es → count_by (λ t. u == t) (released_ids es) ≡ one_if (has_id (released_ids es) u)
 unfolding released_ids
@@ -121,17 +120,22 @@ same_waiting : (es fs : List Happened) → released_ids fs ≡ released_ids es �
 unfolding waiting_ids
 same_waiting es fs h i = rw (h, i) refl
 
-pub count-ticked : (setup : Setup) (events : List Happened) → IsLegalTrace setup (events ++ Ticked ∷ []) → waiting_count (events ++ Ticked ∷ []) ≡ waiting_count events
+-- an event that releases and issues nothing
+pub count_kept : (events : List Happened) (e : Happened) → releases e ≡ None → issues e ≡ None → waiting_count (events ++ e ∷ []) ≡ waiting_count events
 unfolding released_ids issued_ids
-count-ticked setup events legal = same_waiting events _ (released_more events (Ticked ∷ []) ∙ append-nil _) (issued_more events (Ticked ∷ []) ∙ append-nil _)
+count_kept events e r i =
+    same_waiting events _
+    (released_more events (e ∷ []) ∙ ap (λ o. released_ids events ++ cons_option (option_map (λ p. p.0) o) []) r ∙ append-nil _)
+    (issued_more events (e ∷ []) ∙ ap (λ o. issued_ids events ++ cons_option (option_map (λ p. p.0) o) []) i ∙ append-nil _)
+
+pub count-ticked : (setup : Setup) (events : List Happened) → IsLegalTrace setup (events ++ Ticked ∷ []) → waiting_count (events ++ Ticked ∷ []) ≡ waiting_count events
+count-ticked setup events legal = count_kept events Ticked refl refl
 
 pub count-joined : (setup : Setup) (events : List Happened) (id : ℕ) (bios : List Bio) → IsLegalTrace setup (events ++ Joined id bios ∷ []) → waiting_count (events ++ Joined id bios ∷ []) ≡ waiting_count events
-unfolding released_ids issued_ids
-count-joined setup events id bios legal = same_waiting events _ (released_more events (Joined id bios ∷ []) ∙ append-nil _) (issued_more events (Joined id bios ∷ []) ∙ append-nil _)
+count-joined setup events id bios legal = count_kept events (Joined id bios) refl refl
 
 pub count-finished : (setup : Setup) (events : List Happened) (tag : ℕ) → IsLegalTrace setup (events ++ Finished tag ∷ []) → waiting_count (events ++ Finished tag ∷ []) ≡ waiting_count events
-unfolding released_ids issued_ids
-count-finished setup events tag legal = same_waiting events _ (released_more events (Finished tag ∷ []) ∙ append-nil _) (issued_more events (Finished tag ∷ []) ∙ append-nil _)
+count-finished setup events tag legal = count_kept events (Finished tag) refl refl
 
 pub count-released : (setup : Setup) (events : List Happened) (id : ℕ) (bios : List Bio) → IsLegalTrace setup (events ++ Released id bios ∷ []) → waiting_count (events ++ Released id bios ∷ []) ≡ waiting_count events + 1
 unfolding released_ids issued_ids

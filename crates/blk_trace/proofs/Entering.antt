@@ -1,29 +1,31 @@
 -- What the events leave of an id's request, its release and its due round.
 use Rattle.std.proofs.Common.{◌≡◌, ◌≤◌, ◌+◌, ◌++◌, ◌==◌, ℕ, List, [], ◌∷◌, refl, sym, ◌∙◌, ap, subst, arith, inl, inr, Some, None, append-nil, Bool, true, false, ne_eqb, eqb-true}
-use Rattle.std.specs.Prelude.{◌⊎◌, Option, ◌||◌, fold, max, min}
+use Rattle.std.specs.Prelude.{◌⊎◌, Option, option_map, cond, ◌||◌, fold, max, min}
+use Rattle.std.specs.Option.{option_map_or, option_and_then}
 use Rattle.std.specs.List.{cons_option}
 use Rattle.std.proofs.lemmas.List.Sums.{fold_push}
 use Rattle.std.proofs.lemmas.Bool.{cases_Bool, or_parts, cond_both, both_ways}
 use Rattle.blk_bio.specs.Bios.{Bio}
 use Rattle.blk_bio.specs.Requests.{dir_of, first_of, last_of}
 use Rattle.blk_trace.specs.declared.rule.TraceRule.TheVariants.{ReleasedTwice, Unknown, AlreadyIssued, Fit}
-use Rattle.blk_trace.specs.Happened.{Happened, Ticked, Released, Joined, Issued, Finished}
+use Rattle.blk_trace.specs.Happened.{Happened, Released, Joined}
+use Rattle.blk_trace.specs.Kinds.{enters, enters_under}
 use Rattle.blk_trace.specs.Setups.{Setup, expire_of}
-use Rattle.blk_trace.specs.Events.{round_of, entry, join_up, request_of, IsReleased, IsIssued}
+use Rattle.blk_trace.specs.Events.{round_of, join_up, request_of, IsReleased, IsIssued}
 use Rattle.blk_trace.specs.Legal.{IsLegalTrace}
 use Rattle.blk_trace.specs.Rules.{IsUnbroken}
-use Rattle.blk_trace.specs.Meaning.{timed, entry_round, entry_due, release_of, due_of, issued_ids, released_ids, least}
+use Rattle.blk_trace.specs.Meaning.{timed, release_of, due_of, issued_ids, released_ids, least}
 use Rattle.blk_trace.specs.Standing.{has_id}
 use Rattle.blk_trace.proofs.More.{request_more, release_more, dues, dues_more, due_is, round_more}
 use Rattle.blk_trace.proofs.Ids.{by_events, by_legal, released_has, not_released, has_released_more, released_first, has_issued_more}
 
 -- whether a request enters under the id by the event
-abbrev pub enters : ℕ → Happened → Bool
-enters id Ticked = false
-enters id (Released i _) = i == id
-enters id (Joined i _) = i == id
-enters id (Issued _ _) = false
-enters id (Finished _) = false
+abbrev pub enters_as : ℕ → Happened → Bool
+enters_as id e = option_map_or (λ p. p.0 == id) (enters e) false
+
+none_under : (id : ℕ) (o : Option (ℕ × List Bio)) → option_map_or (λ p. p.0 == id) o false ≡ false → option_and_then (λ p. cond (p.0 == id) (Some p.1) None) o ≡ None
+none_under id None h = refl
+none_under id (Some p) h = ap (λ b. cond b (Some p.1) None) h
 
 -- what an event that enters nothing under the id leaves
 pub record IsSame (setup : Setup) (es fs : List Happened) (id : ℕ) : Type 0 where
@@ -32,22 +34,18 @@ pub record IsSame (setup : Setup) (es fs : List Happened) (id : ℕ) : Type 0 wh
   pub dues_are : dues setup fs id ≡ dues setup es id
   pub due : due_of setup fs id ≡ due_of setup es id
 
-same_from : (setup : Setup) (es : List Happened) (e : Happened) (id : ℕ) → entry id e ≡ [] → entry_round id (round_of es, e) ≡ None → entry_due setup id (round_of es, e) ≡ None → IsSame setup es (es ++ e ∷ []) id
-same_from setup es e id a b c =
-    let kept : dues setup (es ++ e ∷ []) id ≡ dues setup es id = dues_more setup es e id ∙ ap (λ o. dues setup es id ++ cons_option o []) c ∙ append-nil _ in
+same_from : (setup : Setup) (es : List Happened) (e : Happened) (id : ℕ) → enters_under id e ≡ None → IsSame setup es (es ++ e ∷ []) id
+same_from setup es e id none =
+    let kept : dues setup (es ++ e ∷ []) id ≡ dues setup es id = dues_more setup es e id ∙ ap (λ o. dues setup es id ++ cons_option (option_map (λ bios. round_of es + expire_of setup (dir_of bios)) o) []) none ∙ append-nil _ in
     record {
-      request = request_more es e id ∙ ap (fold join_up (request_of es id)) a;
-      release = release_more es e id ∙ ap (λ o. fold max (release_of es id) (cons_option o [])) b;
+      request = request_more es e id ∙ ap (λ o. fold join_up (request_of es id) (cons_option o [])) none;
+      release = release_more es e id ∙ ap (λ o. fold max (release_of es id) (cons_option (option_map (λ _. round_of es) o) [])) none;
       dues_are = kept;
       due = due_is setup (es ++ e ∷ []) id ∙ ap least kept ∙ sym (due_is setup es id);
     }
 
-pub same_entered : (setup : Setup) (es : List Happened) (e : Happened) (id : ℕ) → enters id e ≡ false → IsSame setup es (es ++ e ∷ []) id
-same_entered setup es Ticked id h = same_from setup es Ticked id refl refl refl
-same_entered setup es (Released i q) id h = same_from setup es (Released i q) id (rw h refl) (rw h refl) (rw h refl)
-same_entered setup es (Joined i q) id h = same_from setup es (Joined i q) id (rw h refl) (rw h refl) (rw h refl)
-same_entered setup es (Issued i tag) id h = same_from setup es (Issued i tag) id refl refl refl
-same_entered setup es (Finished tag) id h = same_from setup es (Finished tag) id refl refl refl
+pub same_entered : (setup : Setup) (es : List Happened) (e : Happened) (id : ℕ) → enters_as id e ≡ false → IsSame setup es (es ++ e ∷ []) id
+same_entered setup es e id h = same_from setup es e id (none_under id (enters e) h)
 
 -- an id that was not released has no request, release or due round
 pub record HasNothing (setup : Setup) (es : List Happened) (id : ℕ) : Type 0 where
@@ -56,14 +54,12 @@ pub record HasNothing (setup : Setup) (es : List Happened) (id : ℕ) : Type 0 w
   pub dues_are : dues setup es id ≡ []
 
 -- a request enters under an id that was released, or that is now
-enters_not : (setup : Setup) (es : List Happened) (e : Happened) (id : ℕ) → IsUnbroken setup es e → has_id (released_ids es) id ≡ false → has_id (released_ids (e ∷ [])) id ≡ false → enters id e ≡ false
+enters_not : (setup : Setup) (es : List Happened) (e : Happened) (id : ℕ) → IsUnbroken setup es e → has_id (released_ids es) id ≡ false → has_id (released_ids (e ∷ [])) id ≡ false → enters_as id e ≡ false
 unfolding released_ids
-enters_not setup es Ticked id all a b = refl
 enters_not setup es (Released i q) id all a b = (or_parts (i == id) false b).0
 enters_not setup es (Joined i q) id all a b =
     ne_eqb i id (λ same. let p : IsReleased es id = subst (IsReleased es) same (all Unknown) in both_ways _ a (released_has es p.0 id p.1.0 p.1.1))
-enters_not setup es (Issued i tag) id all a b = refl
-enters_not setup es (Finished tag) id all a b = refl
+enters_not setup es e id all a b = refl
 
 pub nothing : (setup : Setup) (es : List Happened) (id : ℕ) → IsLegalTrace setup es → has_id (released_ids es) id ≡ false → HasNothing setup es id
 unfolding request_of release_of dues released_ids timed
@@ -89,19 +85,16 @@ max_within : (a b c : ℕ) (o : Option ℕ) → a ≤ c → (o ≡ None) ⊎ (o 
 max_within a b c o h (inl n) l = rw n h
 max_within a b c o h (inr n) l = rw n (omega arith)
 
-entry_now : (r id : ℕ) (e : Happened) → (entry_round id (r, e) ≡ None) ⊎ (entry_round id (r, e) ≡ Some r)
-entry_now r id Ticked = inl refl
-entry_now r id (Released i q) = elim (cases_Bool (i == id)) [ inl t ↦ inr (rw t refl) | inr t ↦ inl (rw t refl) ]
-entry_now r id (Joined i q) = elim (cases_Bool (i == id)) [ inl t ↦ inr (rw t refl) | inr t ↦ inl (rw t refl) ]
-entry_now r id (Issued i tag) = inl refl
-entry_now r id (Finished tag) = inl refl
+now_or_never : (r : ℕ) (o : Option (List Bio)) → (option_map (λ _. r) o ≡ None) ⊎ (option_map (λ _. r) o ≡ Some r)
+now_or_never r None = inl refl
+now_or_never r (Some bios) = inr refl
 
 -- no request enters later than now
 pub release_within : (es : List Happened) (id : ℕ) → release_of es id ≤ round_of es
 unfolding release_of timed round_of
 release_within es id =
     by_events (λ l. release_of l id ≤ round_of l) (omega arith)
-    (λ es e ih. rw (release_more es e id) (max_within (release_of es id) (round_of es) (round_of (es ++ e ∷ [])) _ (omega (arith, ih, round_rises es e)) (entry_now (round_of es) id e) (round_rises es e)))
+    (λ es e ih. rw (release_more es e id) (max_within (release_of es id) (round_of es) (round_of (es ++ e ∷ [])) _ (omega (arith, ih, round_rises es e)) (now_or_never (round_of es) (enters_under id e)) (round_rises es e)))
     es
 
 -- the due round of a released id, against the round that is on
@@ -117,18 +110,18 @@ pub record IsEntered (setup : Setup) (es fs : List Happened) (id : ℕ) (bios : 
   pub release : release_of fs id ≡ max (release_of es id) (round_of es)
   pub dues_are : dues setup fs id ≡ dues setup es id ++ (round_of es + expire_of setup (dir_of bios)) ∷ []
 
-entered_from : (setup : Setup) (es : List Happened) (e : Happened) (id : ℕ) (bios : List Bio) → entry id e ≡ bios ∷ [] → entry_round id (round_of es, e) ≡ Some (round_of es) → entry_due setup id (round_of es, e) ≡ Some (round_of es + expire_of setup (dir_of bios)) → IsEntered setup es (es ++ e ∷ []) id bios
-entered_from setup es e id bios a b c = record {
-  request = request_more es e id ∙ ap (fold join_up (request_of es id)) a;
-  release = release_more es e id ∙ ap (λ o. fold max (release_of es id) (cons_option o [])) b;
-  dues_are = dues_more setup es e id ∙ ap (λ o. dues setup es id ++ cons_option o []) c;
+entered_from : (setup : Setup) (es : List Happened) (e : Happened) (id : ℕ) (bios : List Bio) → enters_under id e ≡ Some bios → IsEntered setup es (es ++ e ∷ []) id bios
+entered_from setup es e id bios here = record {
+  request = request_more es e id ∙ ap (λ o. fold join_up (request_of es id) (cons_option o [])) here;
+  release = release_more es e id ∙ ap (λ o. fold max (release_of es id) (cons_option (option_map (λ _. round_of es) o) [])) here;
+  dues_are = dues_more setup es e id ∙ ap (λ o. dues setup es id ++ cons_option (option_map (λ bios. round_of es + expire_of setup (dir_of bios)) o) []) here;
 }
 
 pub entered_released : (setup : Setup) (es : List Happened) (i id : ℕ) (q : List Bio) → (i == id) ≡ true → IsEntered setup es (es ++ Released i q ∷ []) id q
-entered_released setup es i id q t = entered_from setup es (Released i q) id q (rw t refl) (rw t refl) (rw t refl)
+entered_released setup es i id q t = entered_from setup es (Released i q) id q (rw t refl)
 
 pub entered_joined : (setup : Setup) (es : List Happened) (i id : ℕ) (q : List Bio) → (i == id) ≡ true → IsEntered setup es (es ++ Joined i q ∷ []) id q
-entered_joined setup es i id q t = entered_from setup es (Joined i q) id q (rw t refl) (rw t refl) (rw t refl)
+entered_joined setup es i id q t = entered_from setup es (Joined i q) id q (rw t refl)
 
 least_push : (x : ℕ) (xs : List ℕ) (y : ℕ) → least ((x ∷ xs) ++ y ∷ []) ≡ min (least (x ∷ xs)) y
 least_push x xs y = fold_push min x xs y
@@ -192,7 +185,6 @@ nothing_before setup es i id q old all t =
 -- one more event
 soon_more : (setup : Setup) (es : List Happened) (e : Happened) (id : ℕ) → IsLegalTrace setup es → IsUnbroken setup es e → (has_id (released_ids es) id ≡ true → IsDueSoon setup es id) → has_id (released_ids (es ++ e ∷ [])) id ≡ true → IsDueSoon setup (es ++ e ∷ []) id
 unfolding released_ids
-soon_more setup es Ticked id old all ih h = same_soon setup es _ id (ih (sym (has_released_same es Ticked id refl) ∙ h)) (same_entered setup es Ticked id refl) (round_rises es Ticked)
 soon_more setup es (Released i q) id old all ih h =
     elim (cases_Bool (i == id)) [
       | inl t ↦ first_soon setup es _ id q (nothing_before setup es i id q old all t) (entered_released setup es i id q t) (round_rises es (Released i q))
@@ -207,8 +199,7 @@ soon_more setup es (Joined i q) id old all ih h =
           (next_soon setup es _ id q (ih was) (entered_joined setup es i id q t) (subst (λ x. dir_of q ≡ dir_of (request_of es x)) same fit.1.same_direction) (round_rises es (Joined i q))).0
       | inr t ↦ same_soon setup es _ id (ih was) (same_entered setup es (Joined i q) id t) (round_rises es (Joined i q))
     ]
-soon_more setup es (Issued i tag) id old all ih h = same_soon setup es _ id (ih (sym (has_released_same es (Issued i tag) id refl) ∙ h)) (same_entered setup es (Issued i tag) id refl) (round_rises es (Issued i tag))
-soon_more setup es (Finished tag) id old all ih h = same_soon setup es _ id (ih (sym (has_released_same es (Finished tag) id refl) ∙ h)) (same_entered setup es (Finished tag) id refl) (round_rises es (Finished tag))
+soon_more setup es e id old all ih h = same_soon setup es _ id (ih (sym (has_released_same es e id refl) ∙ h)) (same_entered setup es e id refl) (round_rises es e)
 
 pub soon : (setup : Setup) (es : List Happened) (id : ℕ) → IsLegalTrace setup es → has_id (released_ids es) id ≡ true → IsDueSoon setup es id
 unfolding released_ids
@@ -216,9 +207,7 @@ soon setup es id legal h =
     by_legal setup (λ l. has_id (released_ids l) id ≡ true → IsDueSoon setup l id) (λ t. absurd (cc)) (λ es e new old all ih t. soon_more setup es e id old all ih t) es legal h
 
 -- no event that obeys the rules enters a request under an id that was issued
-pub stays_out : (setup : Setup) (es : List Happened) (e : Happened) (id : ℕ) → IsLegalTrace setup es → IsUnbroken setup es e → IsIssued es id → enters id e ≡ false
-stays_out setup es Ticked id old all p = refl
+pub stays_out : (setup : Setup) (es : List Happened) (e : Happened) (id : ℕ) → IsLegalTrace setup es → IsUnbroken setup es e → IsIssued es id → enters_as id e ≡ false
 stays_out setup es (Released i q) id old all p = ne_eqb i id (λ same. all ReleasedTwice (subst (IsReleased es) (sym same) (released_first setup es id old p)))
 stays_out setup es (Joined i q) id old all p = ne_eqb i id (λ same. all AlreadyIssued (subst (IsIssued es) (sym same) p))
-stays_out setup es (Issued i tag) id old all p = refl
-stays_out setup es (Finished tag) id old all p = refl
+stays_out setup es e id old all p = refl

@@ -13,18 +13,18 @@ use Rattle.blk_bio.specs.Limits.{Limits}
 use Rattle.blk_bio.specs.Requests.{first_of, last_of, joined, IsWithin, Fits}
 use Rattle.blk_trace.specs.declared.event.Event.{Event}
 use Rattle.blk_trace.specs.declared.rule.TraceRule.TheVariants.{Unknown, AlreadyIssued, Fit}
-use Rattle.blk_trace.specs.Happened.{Happened, Ticked, Released, Joined, Issued, Finished}
+use Rattle.blk_trace.specs.Happened.{Happened, Released, Joined, Issued}
 use Rattle.blk_trace.specs.Setups.{Setup}
 use Rattle.blk_trace.specs.Events.{join_up, request_of}
 use Rattle.blk_trace.specs.Legal.{IsLegalTrace}
 use Rattle.blk_trace.specs.Rules.{IsUnbroken}
 use Rattle.blk_trace.specs.Meaning.{issued_ids, released_ids, release_of, due_of}
 use Rattle.blk_trace.specs.Standing.{Entered, waits_at}
-use Rattle.blk_trace.specs.Gathered.{waiting_bios, with_event, Takes}
+use Rattle.blk_trace.specs.Inside.Gathered.{waiting_bios, with_event, Takes}
 use Rattle.blk_trace.specs.Seen.{happened}
 use Rattle.blk_trace.proofs.Pushing.{obeys}
 use Rattle.blk_trace.proofs.Reading.{prefix_legal}
-use Rattle.blk_trace.proofs.Waiting.{waits_for, waits-ticked, waits-released, waits-joined, waits-issued, waits-finished}
+use Rattle.blk_trace.proofs.Waiting.{waits_for, waits_kept, waits-released, waits-joined, waits-issued}
 
 -- without events nothing waits
 pub nothing_waits : (setup : Setup) (id : ℕ) → waiting_bios setup [] id ≡ None
@@ -45,8 +45,6 @@ stands setup es i q all = waits_for setup es i (all Unknown) (all AlreadyIssued)
 
 -- what waits after one more event
 more : (setup : Setup) (es : List Happened) (e : Happened) → IsLegalTrace setup (es ++ e ∷ []) → (id : ℕ) → with_event (waiting_bios setup es) e id ≡ waiting_bios setup (es ++ e ∷ []) id
-more setup es Ticked legal id = ap (option_map (λ w. w.bios)) (sym (waits-ticked setup es legal id))
-more setup es (Finished t) legal id = ap (option_map (λ w. w.bios)) (sym (waits-finished setup es t legal id))
 more setup es (Issued i t) legal id = sym (ap (option_map (λ w. w.bios)) (waits-issued setup es i t legal id) ∙ taken (i == id) (waits_at setup es id))
 more setup es (Released i q) legal id = sym (ap (option_map (λ w. w.bios)) (waits-released setup es i q legal id) ∙ given (i == id) _ (waits_at setup es id))
 more setup es (Joined i q) legal id =
@@ -54,25 +52,21 @@ more setup es (Joined i q) legal id =
     let s : waits_at setup es i ≡ Some w = stands setup es i q (obeys setup es (Joined i q) legal) in
     ap (λ o. cond (i == id) (option_map (λ old. join_up old q) (option_map (λ (x : Entered). x.bios) o)) (waiting_bios setup es id)) s
     ∙ sym (ap (option_map (λ x. x.bios)) (waits-joined setup es i q legal w s id) ∙ given (i == id) _ (waits_at setup es id))
+more setup es e legal id = ap (option_map (λ w. w.bios)) (sym (waits_kept setup es e refl refl refl id))
 
 -- the same of a function that agrees with what waits
 alike : (f h : ℕ → Option (List Bio)) (e : Happened) → ((i : ℕ) → f i ≡ h i) → (id : ℕ) → with_event f e id ≡ with_event h e id
-alike f h Ticked s id = s id
-alike f h (Finished t) s id = s id
 alike f h (Issued i t) s id = ap (λ o. cond (i == id) None o) (s id)
 alike f h (Released i q) s id = ap (λ o. cond (i == id) (Some q) o) (s id)
 alike f h (Joined i q) s id =
     ap (λ o. cond (i == id) (option_map (λ old. join_up old q) o) (f id)) (s i)
     ∙ ap (λ o. cond (i == id) (option_map (λ old. join_up old q) (h i)) o) (s id)
+alike f h e s id = s id
 
 pub gathers : (setup : Setup) (es : List Happened) (e : Happened) (f : ℕ → Option (List Bio)) → IsLegalTrace setup (es ++ e ∷ []) → ((i : ℕ) → f i ≡ waiting_bios setup es i) → (id : ℕ) → with_event f e id ≡ waiting_bios setup (es ++ e ∷ []) id
 gathers setup es e f legal s id = alike f (waiting_bios setup es) e s id ∙ more setup es e legal id
 
 pub takes : (setup : Setup) (limits : Limits) (es : List Happened) (e : Happened) (f : ℕ → Option (List Bio)) → limits ≡ setup.limits → IsLegalTrace setup (es ++ e ∷ []) → ((i : ℕ) → f i ≡ waiting_bios setup es i) → Takes limits f e
-takes setup limits es Ticked f l legal s = tt
-takes setup limits es (Finished t) f l legal s = tt
-takes setup limits es (Issued i t) f l legal s = tt
-takes setup limits es (Released i q) f l legal s = tt
 takes setup limits es (Joined i q) f l legal s =
     let all = obeys setup es (Joined i q) legal in
     let fit : (x : Side) × Fits setup.limits (request_of es i) q x = all Fit in
@@ -82,6 +76,7 @@ takes setup limits es (Joined i q) f l legal s =
       stands = s i ∙ ap (option_map (λ w. w.bios)) (stands setup es i q all);
       fits = subst (λ (m : Limits). Fits m (request_of es i) q fit.0) (sym l) fit.1;
     }
+takes setup limits es e f l legal s = tt
 
 -- the events up to a place and the one there
 pub one_more : {A : Type 0} (setup : Setup) (es : List (Event A)) (i : ℕ) (e : Event A) → i < length es → e ≡ get_or es i e → IsLegalTrace setup (map happened es)

@@ -1,10 +1,12 @@
 -- Ids by place and in the lists of ids; induction over legal lists.
 use Rattle.std.proofs.Common.{◌≡◌, ◌++◌, ◌==◌, ℕ, zero, suc, List, [], ◌∷◌, length, refl, sym, ◌∙◌, ap, subst, arith, inl, inr, true, false, eq-eqb, eqb-true}
-use Rattle.std.specs.Prelude.{◌||◌}
+use Rattle.std.specs.Prelude.{◌||◌, Option, Some, None, option_map}
+use Rattle.std.specs.List.{filter_map, cons_option}
 use Rattle.std.proofs.lemmas.List.Folds.{list_any-append}
 use Rattle.std.proofs.lemmas.Bool.{false_from_ne_true, or_cases, or_left, or_right}
 use Rattle.blk_bio.specs.Bios.{Bio}
-use Rattle.blk_trace.specs.Happened.{Happened, Ticked, Released, Joined, Issued, Finished}
+use Rattle.blk_trace.specs.Happened.{Happened, Released, Joined, Issued}
+use Rattle.blk_trace.specs.Kinds.{releases, issues}
 use Rattle.blk_trace.specs.Setups.{Setup}
 use Rattle.blk_trace.specs.Events.{At, IsReleased, IsIssued}
 use Rattle.blk_trace.specs.Legal.{IsLegalTrace}
@@ -12,6 +14,7 @@ use Rattle.blk_trace.specs.Rules.{IsUnbroken}
 use Rattle.blk_trace.specs.Meaning.{issued_ids, released_ids}
 use Rattle.blk_trace.specs.Standing.{has_id}
 use Rattle.blk_trace.proofs.Places.{of_take}
+use Rattle.blk_trace.proofs.Words.{release_of_id, issue_of_id}
 use Rattle.blk_trace.proofs.Pushing.{shorter_legal, obeys}
 use Rattle.blk_trace.proofs.More.{issued_more, released_more}
 
@@ -40,58 +43,61 @@ pub by_legal : (setup : Setup) (P : List Happened → Type 0) → P [] → ((es 
 by_legal setup P base step es legal =
     by_events (λ l. IsLegalTrace setup l → P l) (λ _. base) (λ l e h new. step l e new (shorter_legal setup l e new) (obeys setup l e new) (h (shorter_legal setup l e new))) es legal
 
+-- what a word gives of an event in the list stands in the list of what it gives
+picked_has : (f : Happened → Option ℕ) (es : List Happened) (k : ℕ) (e : Happened) (id : ℕ) → At es k e → f e ≡ Some id → has_id (filter_map f es) id ≡ true
+picked_has f [] k e id h is = absurd (cc)
+picked_has f (x ∷ es) zero e id h is =
+    let same : f x ≡ Some id = let y : x ≡ e = cc in ap f y ∙ is in
+    rw same (or_left (id == id) _ (eq-eqb id id refl))
+picked_has f (x ∷ es) (suc k) e id h is = more (f x) (filter_map f es) id (picked_has f es k e id h is)
+  where
+    more : (o : Option ℕ) (xs : List ℕ) (id : ℕ) → has_id xs id ≡ true → has_id (cons_option o xs) id ≡ true
+    more None xs id h = h
+    more (Some i) xs id h = or_right (i == id) _ h
+
+-- and the way back
+record IsPicked (f : Happened → Option ℕ) (es : List Happened) (id : ℕ) : Type 0 where
+  place : ℕ
+  event : Happened
+  stands : At es place event
+  gives : f event ≡ Some id
+
+later : (f : Happened → Option ℕ) (x : Happened) (es : List Happened) (id : ℕ) → IsPicked f es id → IsPicked f (x ∷ es) id
+later f x es id p = record { place = suc p.place; event = p.event; stands = p.stands; gives = p.gives }
+
+picked_first : (f : Happened → Option ℕ) (x : Happened) (es : List Happened) (id : ℕ) (o : Option ℕ) → f x ≡ o → (has_id (filter_map f es) id ≡ true → IsPicked f es id) → has_id (cons_option o (filter_map f es)) id ≡ true → IsPicked f (x ∷ es) id
+picked_first f x es id None is rest h = later f x es id (rest h)
+picked_first f x es id (Some i) is rest h = elim (or_cases (i == id) _ h) [
+  | inl p ↦ record { place = 0; event = x; stands = refl; gives = is ∙ ap Some (eqb-true i id p) }
+  | inr p ↦ later f x es id (rest p)
+]
+
+has_picked : (f : Happened → Option ℕ) (es : List Happened) (id : ℕ) → has_id (filter_map f es) id ≡ true → IsPicked f es id
+has_picked f [] id h = absurd (cc)
+has_picked f (x ∷ es) id h = picked_first f x es id (f x) refl (λ r. has_picked f es id r) h
+
 -- the ids in the lists are those of the places
 pub released_has : (es : List Happened) (k id : ℕ) (q : List Bio) → At es k (Released id q) → has_id (released_ids es) id ≡ true
 unfolding released_ids
-released_has [] k id q h = absurd (cc)
-released_has (Ticked ∷ es) zero id q h = absurd (cc)
-released_has (Released i r ∷ es) zero id q h = or_left (i == id) _ (eq-eqb i id (cc))
-released_has (Joined i r ∷ es) zero id q h = absurd (cc)
-released_has (Issued i t ∷ es) zero id q h = absurd (cc)
-released_has (Finished t ∷ es) zero id q h = absurd (cc)
-released_has (Ticked ∷ es) (suc k) id q h = released_has es k id q h
-released_has (Released i r ∷ es) (suc k) id q h = or_right (i == id) _ (released_has es k id q h)
-released_has (Joined i r ∷ es) (suc k) id q h = released_has es k id q h
-released_has (Issued i t ∷ es) (suc k) id q h = released_has es k id q h
-released_has (Finished t ∷ es) (suc k) id q h = released_has es k id q h
+released_has es k id q h = picked_has (λ e. option_map (λ p. p.0) (releases e)) es k (Released id q) id h refl
 
 pub has_released : (es : List Happened) (id : ℕ) → has_id (released_ids es) id ≡ true → IsReleased es id
 unfolding released_ids
-has_released [] id h = absurd (cc)
-has_released (Ticked ∷ es) id h = let p = has_released es id h in (suc p.0, p.1)
-has_released (Released i r ∷ es) id h = elim (or_cases (i == id) _ h) [
-  | inl p ↦ (0, (r, let same : i ≡ id = eqb-true i id p in cc))
-  | inr p ↦ let q = has_released es id p in (suc q.0, q.1)
-]
-has_released (Joined i r ∷ es) id h = let p = has_released es id h in (suc p.0, p.1)
-has_released (Issued i t ∷ es) id h = let p = has_released es id h in (suc p.0, p.1)
-has_released (Finished t ∷ es) id h = let p = has_released es id h in (suc p.0, p.1)
+has_released es id h =
+    let p = has_picked (λ e. option_map (λ p. p.0) (releases e)) es id h in
+    let r = release_of_id p.event id p.gives in
+    (p.place, (r.0, p.stands ∙ ap Some r.1))
 
 pub issued_has : (es : List Happened) (k id tag : ℕ) → At es k (Issued id tag) → has_id (issued_ids es) id ≡ true
 unfolding issued_ids
-issued_has [] k id q h = absurd (cc)
-issued_has (Ticked ∷ es) zero id q h = absurd (cc)
-issued_has (Released i r ∷ es) zero id q h = absurd (cc)
-issued_has (Joined i r ∷ es) zero id q h = absurd (cc)
-issued_has (Issued i t ∷ es) zero id q h = or_left (i == id) _ (eq-eqb i id (cc))
-issued_has (Finished t ∷ es) zero id q h = absurd (cc)
-issued_has (Ticked ∷ es) (suc k) id q h = issued_has es k id q h
-issued_has (Released i r ∷ es) (suc k) id q h = issued_has es k id q h
-issued_has (Joined i r ∷ es) (suc k) id q h = issued_has es k id q h
-issued_has (Issued i t ∷ es) (suc k) id q h = or_right (i == id) _ (issued_has es k id q h)
-issued_has (Finished t ∷ es) (suc k) id q h = issued_has es k id q h
+issued_has es k id tag h = picked_has (λ e. option_map (λ p. p.0) (issues e)) es k (Issued id tag) id h refl
 
 pub has_issued : (es : List Happened) (id : ℕ) → has_id (issued_ids es) id ≡ true → IsIssued es id
 unfolding issued_ids
-has_issued [] id h = absurd (cc)
-has_issued (Ticked ∷ es) id h = let p = has_issued es id h in (suc p.0, p.1)
-has_issued (Released i r ∷ es) id h = let p = has_issued es id h in (suc p.0, p.1)
-has_issued (Joined i r ∷ es) id h = let p = has_issued es id h in (suc p.0, p.1)
-has_issued (Issued i t ∷ es) id h = elim (or_cases (i == id) _ h) [
-  | inl p ↦ (0, (t, let same : i ≡ id = eqb-true i id p in cc))
-  | inr p ↦ let q = has_issued es id p in (suc q.0, q.1)
-]
-has_issued (Finished t ∷ es) id h = let p = has_issued es id h in (suc p.0, p.1)
+has_issued es id h =
+    let p = has_picked (λ e. option_map (λ p. p.0) (issues e)) es id h in
+    let r = issue_of_id p.event id p.gives in
+    (p.place, (r.0, p.stands ∙ ap Some r.1))
 
 pub not_released : (es : List Happened) (id : ℕ) → (IsReleased es id → ⊥) → has_id (released_ids es) id ≡ false
 not_released es id h = false_from_ne_true _ (λ t. h (has_released es id t))

@@ -11,7 +11,7 @@ use Rattle.blk_bio.proofs.Tiles.{last-append}
 use Rattle.blk_trace.specs.declared.known.Waiting.{Waiting}
 use Rattle.blk_trace.specs.Events.{join_up}
 use Rattle.blk_trace.specs.Standing.{Entered}
-use Rattle.blk_trace.specs.Kept.{summary}
+use Rattle.blk_trace.specs.Inside.Kept.{summary}
 
 same_kept : (d d' : Dir) (f f' e e' s s' b b' r u : ℕ) → d ≡ d' → f ≡ f' → e ≡ e' → s ≡ s' → b ≡ b'
     → (let x : Waiting = record { dir = d; first = f; end = e; sectors = s; bios = b; release = r; due = u } in x) ≡ (let y : Waiting = record { dir = d'; first = f'; end = e'; sectors = s'; bios = b'; release = r; due = u } in y)

@@ -22,15 +22,16 @@ use Rattle.blk_trace.specs.Rules.{IsUnbroken}
 use Rattle.blk_trace.specs.Meaning.{commands_of, rounds_of, issued_ids, released_ids, issue_round, timed}
 use Rattle.blk_trace.specs.Standing.{Entered, waits_at}
 use Rattle.blk_trace.specs.Traces.{IsPreparedFor}
-use Rattle.blk_trace.specs.Kept.{IsKept, HasRoom, summary, known_of, has_bio_id, event_room, request_room, bio_room, IsTagUse}
+use Rattle.blk_trace.specs.Inside.Kept.{IsKept, HasRoom, summary, known_of, has_bio_id, event_room, request_room, bio_room, IsTagUse}
 use Rattle.blk_trace.proofs.Pushing.{push_legal, empty_legal}
 use Rattle.blk_trace.proofs.More.{rounds_more, round_more}
-use Rattle.blk_trace.proofs.Room.{open_tick, open_release, open_join, open_issue, open_done}
+use Rattle.blk_trace.proofs.Room.{open_kept, open_issue, open_end}
 use Rattle.blk_trace.proofs.Newness.{ids_more}
-use Rattle.blk_trace.proofs.Knowing.{known_ticked, known_released, known_joined, known_issued, known_finished}
-use Rattle.blk_trace.proofs.TagUses.{tags_ticked, tags_released, tags_joined, tags_issued, tags_finished, tags_empty, open_found}
+use Rattle.blk_trace.proofs.Knowing.{known_kept, known_released, known_joined, known_issued}
+use Rattle.blk_trace.proofs.TagUses.{tags_ticked, tags_kept, tags_issued, tags_ended, tags_empty, open_found}
 use Rattle.blk_trace.proofs.Joining.{join_up_some}
-use Rattle.blk_trace.proofs.Steps.{waits-ticked, waits-released, waits-joined, waits-issued, waits-finished, commands-ticked, commands-released, commands-joined, commands-issued, commands-finished}
+use Rattle.blk_trace.proofs.Waiting.{waits_kept, waits-released, waits-joined, waits-issued}
+use Rattle.blk_trace.proofs.Commands.{commands_kept, commands-issued}
 
 or_none : (b : Bool) → (b || false) ≡ b
 or_none true = refl
@@ -68,12 +69,12 @@ kept_tick setup es zs cs rs round opened known ids tags tags' k all hz ht =
     let P : List Happened → List TagUse → Type 0 = λ l t. IsKept setup l cs rs (round + 1) opened known ids t in
     let here : P (es ++ Ticked ∷ []) (replicate (length tags) Free) = record {
       legal = new;
-      commands_are = k.commands_are ∙ sym (commands-ticked setup es new);
+      commands_are = k.commands_are ∙ sym (commands_kept setup es Ticked new refl);
       rounds_are = k.rounds_are ∙ sym (same_rounds es Ticked refl);
       round_is = omega (arith, k.round_is, round_more es Ticked);
-      open_is = k.open_is ∙ sym (open_tick es);
-      known_are = λ q. k.known_are q ∙ sym (known_ticked setup es new q);
-      some_bios = λ id w h. k.some_bios id w (sym (waits-ticked setup es new id) ∙ h);
+      open_is = k.open_is ∙ sym (open_kept es Ticked refl refl);
+      known_are = λ q. k.known_are q ∙ sym (known_kept setup es Ticked refl refl refl q);
+      some_bios = λ id w h. k.some_bios id w (sym (waits_kept setup es Ticked refl refl refl id) ∙ h);
       ids_are = λ id. k.ids_are id ∙ sym (same_ids es Ticked id refl);
       tags_are = tags_ticked es (length tags) (all InFlight);
       each_tag = replicated (length tags) Free ∙ k.each_tag;
@@ -89,14 +90,14 @@ kept_done setup es zs tag cs rs round opened known ids tags k all hz =
     let used : IsTagUse es tag Open = k.tags_are tag Open (open_found setup es tags k.legal k.each_tag k.tags_are tag (all NotIssued)) in
     let here : P (es ++ Finished tag ∷ []) = record {
       legal = new;
-      commands_are = k.commands_are ∙ sym (commands-finished setup es tag new);
+      commands_are = k.commands_are ∙ sym (commands_kept setup es (Finished tag) new refl);
       rounds_are = k.rounds_are ∙ sym (same_rounds es (Finished tag) refl);
       round_is = omega (arith, k.round_is, round_more es (Finished tag));
-      open_is = omega (arith, k.open_is, open_done es tag);
-      known_are = λ q. k.known_are q ∙ sym (known_finished setup es tag new q);
-      some_bios = λ id w h. k.some_bios id w (sym (waits-finished setup es tag new id) ∙ h);
+      open_is = omega (arith, k.open_is, open_end es (Finished tag) tag refl);
+      known_are = λ q. k.known_are q ∙ sym (known_kept setup es (Finished tag) refl refl refl q);
+      some_bios = λ id w h. k.some_bios id w (sym (waits_kept setup es (Finished tag) refl refl refl id) ∙ h);
       ids_are = λ id. k.ids_are id ∙ sym (same_ids es (Finished tag) id refl);
-      tags_are = tags_finished es tags tag used.0 k.tags_are;
+      tags_are = tags_ended es (Finished tag) tags tag refl used.0 k.tags_are;
       each_tag = length_set tags tag Ended ∙ k.each_tag;
     } in
     subst P (sym hz) here
@@ -134,14 +135,14 @@ kept_release setup es zs id bios s cs rs round opened known known' ids ids' tags
     let now : s ≡ summary record { release = round_of es; due = round_of es + expire_of setup (dir_of bios); bios = bios } = hs ∙ ap (λ n. summary record { release = n; due = n + expire_of setup (dir_of bios); bios = bios }) k.round_is in
     let here : P (es ++ Released id bios ∷ []) = record {
       legal = new;
-      commands_are = k.commands_are ∙ sym (commands-released setup es id bios new);
+      commands_are = k.commands_are ∙ sym (commands_kept setup es (Released id bios) new refl);
       rounds_are = k.rounds_are ∙ sym (same_rounds es (Released id bios) refl);
       round_is = omega (arith, k.round_is, round_more es (Released id bios));
-      open_is = k.open_is ∙ sym (open_release es id bios);
+      open_is = k.open_is ∙ sym (open_kept es (Released id bios) refl refl);
       known_are = λ q. hk q ∙ ap (λ x. cond (id == q) (Some (Waits s)) x) (k.known_are q) ∙ ap (λ x. cond (id == q) (Some (Waits x)) (known_of setup es q)) now ∙ sym (known_released setup es id bios new q);
       some_bios = λ q v h. put (id == q) (waits_at setup es q) _ v some (k.some_bios q v) (sym (waits-released setup es id bios new q) ∙ h);
       ids_are = λ b. hb b ∙ ap (λ x. x || has_bio_id bios b) (k.ids_are b) ∙ sym (ids_more es (Released id bios) b);
-      tags_are = tags_released es tags id bios k.tags_are;
+      tags_are = tags_kept es (Released id bios) tags refl refl refl k.tags_are;
       each_tag = k.each_tag;
     } in
     subst P (sym hz) here
@@ -157,14 +158,14 @@ kept_join setup es zs id bios w s cs rs round opened known known' ids ids' tags 
     let now : s ≡ summary record { release = round_of es; due = w.due; bios = join_up w.bios bios } = hs ∙ ap (λ n. summary record { release = n; due = w.due; bios = join_up w.bios bios }) k.round_is in
     let here : P (es ++ Joined id bios ∷ []) = record {
       legal = new;
-      commands_are = k.commands_are ∙ sym (commands-joined setup es id bios new);
+      commands_are = k.commands_are ∙ sym (commands_kept setup es (Joined id bios) new refl);
       rounds_are = k.rounds_are ∙ sym (same_rounds es (Joined id bios) refl);
       round_is = omega (arith, k.round_is, round_more es (Joined id bios));
-      open_is = k.open_is ∙ sym (open_join es id bios);
+      open_is = k.open_is ∙ sym (open_kept es (Joined id bios) refl refl);
       known_are = λ q. hk q ∙ ap (λ x. cond (id == q) (Some (Waits s)) x) (k.known_are q) ∙ ap (λ x. cond (id == q) (Some (Waits x)) (known_of setup es q)) now ∙ sym (known_joined setup es id bios new w waits q);
       some_bios = λ q v h. put (id == q) (waits_at setup es q) _ v (join_up_some w.bios bios some) (k.some_bios q v) (sym (waits-joined setup es id bios new w waits q) ∙ h);
       ids_are = λ b. hb b ∙ ap (λ x. x || has_bio_id bios b) (k.ids_are b) ∙ sym (ids_more es (Joined id bios) b);
-      tags_are = tags_joined es tags id bios k.tags_are;
+      tags_are = tags_kept es (Joined id bios) tags refl refl refl k.tags_are;
       each_tag = k.each_tag;
     } in
     subst P (sym hz) here

@@ -1,24 +1,25 @@
 -- What is kept under each id, with one more event, and what it says of the id.
 use Rattle.std.proofs.Common.{inl, inr, ◌≡◌, ◌+◌, ◌++◌, ◌==◌, ℕ, List, [], ◌∷◌, refl, sym, ◌∙◌, ap, subst, Some, None, append-nil, cond, Bool, true, false, eqb-true}
 use Rattle.std.specs.Prelude.{◌⊎◌, Option, option_map, ◌&&◌, not, ◌||◌}
+use Rattle.std.specs.List.{cons_option}
 use Rattle.blk_bio.specs.Bios.{Bio}
 use Rattle.blk_bio.specs.Requests.{dir_of}
 use Rattle.blk_trace.specs.declared.known.Waiting.{Waiting}
 use Rattle.blk_trace.specs.declared.known.Known.{Known}
 use Rattle.blk_trace.specs.declared.known.Known.TheVariants.{Waits, Gone}
 use Rattle.blk_trace.specs.declared.rule.TraceRule.TheVariants.{ReleasedTwice, AlreadyIssued}
-use Rattle.blk_trace.specs.Happened.{Happened, Ticked, Released, Joined, Issued, Finished}
+use Rattle.blk_trace.specs.Happened.{Happened, Released, Joined, Issued}
+use Rattle.blk_trace.specs.Kinds.{releases, joins, issues}
 use Rattle.blk_trace.specs.Setups.{Setup, expire_of}
 use Rattle.blk_trace.specs.Events.{round_of, join_up, request_of, IsReleased, IsIssued}
 use Rattle.blk_trace.specs.Legal.{IsLegalTrace}
 use Rattle.blk_trace.specs.Meaning.{issued_ids, released_ids, release_of, due_of}
 use Rattle.blk_trace.specs.Standing.{Entered, has_id, waits_at}
-use Rattle.blk_trace.specs.Kept.{summary, known_of}
+use Rattle.blk_trace.specs.Inside.Kept.{summary, known_of}
 use Rattle.blk_trace.proofs.More.{issued_more}
 use Rattle.blk_trace.proofs.Ids.{released_has, has_released, issued_has, has_issued, not_issued, has_issued_more, released_first}
 use Rattle.blk_trace.proofs.Pushing.{shorter_legal, obeys}
-use Rattle.blk_trace.proofs.Waiting.{waits_for}
-use Rattle.blk_trace.proofs.Steps.{waits-ticked, waits-released, waits-joined, waits-issued, waits-finished}
+use Rattle.blk_trace.proofs.Waiting.{waits_for, waits_kept, waits-released, waits-joined, waits-issued}
 
 -- what is kept, from whether the id was issued and how it waits
 abbrev pub kept_from : Bool → Option Entered → Option Known
@@ -35,13 +36,11 @@ known_by setup es id gone waits a b = known_is setup es id ∙ ap (λ x. kept_fr
 same_issued : (es : List Happened) (e : Happened) (q : ℕ) → issued_ids (e ∷ []) ≡ [] → has_id (issued_ids (es ++ e ∷ [])) q ≡ has_id (issued_ids es) q
 same_issued es e q h = ap (λ l. has_id l q) (issued_more es (e ∷ []) ∙ ap (λ l. issued_ids es ++ l) h ∙ append-nil _)
 
-pub known_ticked : (setup : Setup) (es : List Happened) → IsLegalTrace setup (es ++ Ticked ∷ []) → (q : ℕ) → known_of setup (es ++ Ticked ∷ []) q ≡ known_of setup es q
+-- an event by which nothing enters, and that issues nothing
+pub known_kept : (setup : Setup) (es : List Happened) (e : Happened) → releases e ≡ None → joins e ≡ None → issues e ≡ None → (q : ℕ) → known_of setup (es ++ e ∷ []) q ≡ known_of setup es q
 unfolding issued_ids
-known_ticked setup es legal q = known_by setup _ q _ _ (same_issued es Ticked q refl) (waits-ticked setup es legal q) ∙ sym (known_is setup es q)
-
-pub known_finished : (setup : Setup) (es : List Happened) (tag : ℕ) → IsLegalTrace setup (es ++ Finished tag ∷ []) → (q : ℕ) → known_of setup (es ++ Finished tag ∷ []) q ≡ known_of setup es q
-unfolding issued_ids
-known_finished setup es tag legal q = known_by setup _ q _ _ (same_issued es (Finished tag) q refl) (waits-finished setup es tag legal q) ∙ sym (known_is setup es q)
+known_kept setup es e r j i q =
+    known_by setup _ q _ _ (same_issued es e q (ap (λ o. cons_option (option_map (λ p. p.0) o) []) i)) (waits_kept setup es e r j i q) ∙ sym (known_is setup es q)
 
 -- an id's choice that is put off
 put_off : (b gone : Bool) (x : Entered) (y : Option Entered) → (b ≡ true → gone ≡ false) → kept_from gone (cond b (Some x) y) ≡ cond b (Some (Waits (summary x))) (kept_from gone y)

@@ -1,4 +1,5 @@
 pub mod Places
+pub mod Words
 pub mod Pushing
 pub mod More
 pub mod Ids

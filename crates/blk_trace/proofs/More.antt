@@ -1,34 +1,24 @@
 -- Each word of a list of events with one more event.
-use Rattle.std.proofs.Common.{◌≡◌, ◌≤◌, ◌+◌, ◌++◌, ℕ, List, [], ◌∷◌, length, refl, sym, ◌∙◌, ap, arith, append-nil, cond, Bool}
+use Rattle.std.proofs.Common.{◌≡◌, ◌≤◌, ◌+◌, ◌++◌, ℕ, List, [], ◌∷◌, length, refl, sym, ◌∙◌, ap, arith, cond, Bool, true, false, option_map}
 use Rattle.std.specs.Prelude.{Option, count_by, fold, max}
-use Rattle.std.specs.List.{flat_map, filter_map, cons_option}
-use Rattle.std.proofs.lemmas.List.Concat.{flat_map-append}
+use Rattle.std.specs.List.{filter_map, cons_option}
 use Rattle.std.proofs.lemmas.List.Elements.{filter_map-append}
 use Rattle.std.proofs.lemmas.List.Sums.{sum_by-cons, sum_by-append, fold-append, count_by-le-length}
-use Rattle.blk_trace.specs.Happened.{Happened, Ticked, Released, Joined, Issued, Finished}
+use Rattle.blk_trace.specs.Happened.{Happened}
+use Rattle.blk_trace.specs.Kinds.{releases, issues, enters_under}
 use Rattle.blk_trace.specs.Setups.{Setup}
-use Rattle.blk_trace.specs.Events.{is_tick, round_of, entry, join_up, request_of}
+use Rattle.blk_trace.specs.Events.{is_tick, round_of, join_up, request_of}
 use Rattle.blk_trace.specs.Meaning.{timed, entry_round, entry_due, release_of, due_of, issued_ids, released_ids, issue_round, rounds_of, greatest, least}
 use Rattle.blk_trace.specs.Standing.{after_last_tick, this_round}
 
 -- the ids
 pub issued_more : (es fs : List Happened) → issued_ids (es ++ fs) ≡ issued_ids es ++ issued_ids fs
 unfolding issued_ids
-issued_more [] fs = refl
-issued_more (Ticked ∷ es) fs = issued_more es fs
-issued_more (Released id q ∷ es) fs = issued_more es fs
-issued_more (Joined id q ∷ es) fs = issued_more es fs
-issued_more (Issued id tag ∷ es) fs = ap (λ l. id ∷ l) (issued_more es fs)
-issued_more (Finished tag ∷ es) fs = issued_more es fs
+issued_more es fs = filter_map-append (λ e. option_map (λ p. p.0) (issues e)) es fs
 
 pub released_more : (es fs : List Happened) → released_ids (es ++ fs) ≡ released_ids es ++ released_ids fs
 unfolding released_ids
-released_more [] fs = refl
-released_more (Ticked ∷ es) fs = released_more es fs
-released_more (Released id q ∷ es) fs = ap (λ l. id ∷ l) (released_more es fs)
-released_more (Joined id q ∷ es) fs = released_more es fs
-released_more (Issued id tag ∷ es) fs = released_more es fs
-released_more (Finished tag ∷ es) fs = released_more es fs
+released_more es fs = filter_map-append (λ e. option_map (λ p. p.0) (releases e)) es fs
 
 -- counts and rounds
 pub more_of : (p : Happened → Bool) (es : List Happened) (e : Happened) → count_by p (es ++ e ∷ []) ≡ count_by p es + cond (p e) 1 0
@@ -44,13 +34,13 @@ unfolding round_of
 rounds_within es = count_by-le-length is_tick es
 
 -- the round after a list that begins in a given round
+one_later : (b : Bool) (r n : ℕ) → r + (cond b 1 0 + n) ≡ cond b (r + 1) r + n
+one_later true r n = omega arith
+one_later false r n = omega arith
+
 pub round_cons : (e : Happened) (es : List Happened) (r : ℕ) → r + round_of (e ∷ es) ≡ cond (is_tick e) (r + 1) r + round_of es
 unfolding round_of
-round_cons Ticked es r = omega (arith, sum_by-cons (λ (x : Happened). cond (is_tick x) 1 0) Ticked es)
-round_cons (Released i q) es r = omega (arith, sum_by-cons (λ (x : Happened). cond (is_tick x) 1 0) (Released i q) es)
-round_cons (Joined i q) es r = omega (arith, sum_by-cons (λ (x : Happened). cond (is_tick x) 1 0) (Joined i q) es)
-round_cons (Issued i tag) es r = omega (arith, sum_by-cons (λ (x : Happened). cond (is_tick x) 1 0) (Issued i tag) es)
-round_cons (Finished tag) es r = omega (arith, sum_by-cons (λ (x : Happened). cond (is_tick x) 1 0) (Finished tag) es)
+round_cons e es r = ap (λ (n : ℕ). r + n) (sum_by-cons (λ (x : Happened). cond (is_tick x) 1 0) e es) ∙ one_later (is_tick e) r (count_by is_tick es)
 
 pub timed_more : (r : ℕ) (es : List Happened) (e : Happened) → timed r (es ++ e ∷ []) ≡ timed r es ++ (r + round_of es, e) ∷ []
 unfolding timed round_of
@@ -70,10 +60,10 @@ unfolding rounds_of
 rounds_more es e = timed_part issue_round es e
 
 -- the request, release and due round of an id
-pub request_more : (es : List Happened) (e : Happened) (id : ℕ) → request_of (es ++ e ∷ []) id ≡ fold join_up (request_of es id) (entry id e)
+pub request_more : (es : List Happened) (e : Happened) (id : ℕ) → request_of (es ++ e ∷ []) id ≡ fold join_up (request_of es id) (cons_option (enters_under id e) [])
 unfolding request_of
 request_more es e id =
-    ap (fold join_up []) (flat_map-append (entry id) es (e ∷ []) ∙ ap (λ l. flat_map (entry id) es ++ l) (append-nil (entry id e))) ∙ fold-append join_up [] (flat_map (entry id) es) (entry id e)
+    ap (fold join_up []) (filter_map-append (enters_under id) es (e ∷ [])) ∙ fold-append join_up [] (filter_map (enters_under id) es) (cons_option (enters_under id e) [])
 
 pub release_more : (es : List Happened) (e : Happened) (id : ℕ) → release_of (es ++ e ∷ []) id ≡ fold max (release_of es id) (cons_option (entry_round id (round_of es, e)) [])
 unfolding release_of

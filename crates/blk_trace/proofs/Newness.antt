@@ -11,7 +11,7 @@ use Rattle.blk_bio.specs.declared.bio.BioId.{BioId}
 use Rattle.blk_trace.specs.Happened.{Happened}
 use Rattle.blk_trace.specs.Events.{entered, bios_of, AreOnce}
 use Rattle.blk_trace.specs.Traces.{HasBio}
-use Rattle.blk_trace.specs.Kept.{is_bio, has_bio_id}
+use Rattle.blk_trace.specs.Inside.Kept.{is_bio, has_bio_id}
 use Rattle.std.proofs.Common.{get_or}
 use Rattle.std.proofs.lemmas.List.{take_more, take_all}
 use Rattle.blk_trace.proofs.Places.{of_take}

@@ -1,6 +1,6 @@
 -- How many commands of each direction are in flight after one more event.
 use Rattle.std.proofs.Common.{◌≡◌, ◌<◌, ◌≤◌, ◌+◌, ◌++◌, ◌==◌, ℕ, List, [], ◌∷◌, refl, sym, ◌∙◌, ap, subst, arith, inl, inr, Some, None, append-nil, cond, Bool, true, false, ne_eqb, eq-eqb, eqb-true}
-use Rattle.std.specs.Prelude.{Option, ◌&&◌, not, count_by}
+use Rattle.std.specs.Prelude.{Option, is_some, ◌&&◌, not, count_by}
 use Rattle.std.specs.List.{filter_map, cons_option}
 use Rattle.std.proofs.lemmas.List.Elements.{filter_map-append}
 use Rattle.std.proofs.lemmas.Bool.{cases_Bool}
@@ -10,18 +10,20 @@ use Rattle.blk_bio.specs.declared.bio.Dir.TheVariants.{Read, Write}
 use Rattle.blk_bio.specs.Requests.{dir_of}
 use Rattle.blk_trace.specs.declared.rule.TraceRule.TheVariants.{TagUsed, InFlight, Unknown, AlreadyIssued}
 use Rattle.blk_trace.specs.Happened.{Happened, Ticked, Released, Joined, Issued, Finished}
+use Rattle.blk_trace.specs.Kinds.{issues, ends, is_issue, is_end}
 use Rattle.blk_trace.specs.Setups.{Setup}
-use Rattle.blk_trace.specs.Events.{is_tick, is_issue, is_done, open_count, request_of, IsOpen}
+use Rattle.blk_trace.specs.Events.{is_tick, open_count, request_of, IsOpen}
 use Rattle.blk_trace.specs.Meaning.{release_of, due_of}
 use Rattle.blk_trace.specs.Legal.{IsLegalTrace}
 use Rattle.blk_trace.specs.Rules.{IsUnbroken}
 use Rattle.blk_trace.specs.Standing.{Entered, Seat, waits_at, seat_at, this_round, issued_by, issue_tag, same_dir, is_flying, open_of}
+use Rattle.blk_trace.proofs.Words.{OnlyEnds, only_ends, no_tag}
 use Rattle.blk_trace.proofs.Pushing.{shorter_legal, obeys}
 use Rattle.blk_trace.proofs.More.{more_of}
 use Rattle.blk_trace.proofs.Ids.{by_legal}
 use Rattle.blk_trace.proofs.Waiting.{waits_for}
 use Rattle.blk_trace.proofs.Seats.{taken, ended, now_tick, now_push, taken_tick, taken_kept, taken_new, not_taken}
-use Rattle.blk_trace.proofs.Steady.{IsSeat, seat_parts, no_seat, steady, seat-released, seat-joined, seat-issued, seat-finished, finished-open, open_seat}
+use Rattle.blk_trace.proofs.Steady.{IsSeat, seat_parts, no_seat, steady, seat_quiet, seat-issued, seat_ended, ended_open, open_seat}
 use Rattle.blk_trace.proofs.Counting.{one_if, count_none, count_same, count_push, count_without, count_once}
 
 -- the tags of the round, in the order of their Issues
@@ -49,9 +51,6 @@ once_kept u es e h n i ih = ap (count_by (λ t. u == t)) (tags_kept es e h n) �
 
 once_step : (setup : Setup) (u : ℕ) (es : List Happened) (e : Happened) → IsUnbroken setup es e → count_by (λ t. u == t) (tags es) ≡ number (taken es u) → count_by (λ t. u == t) (tags (es ++ e ∷ [])) ≡ number (taken (es ++ e ∷ []) u)
 once_step setup u es Ticked all ih = ap (count_by (λ t. u == t)) (tags_tick es) ∙ ap number (sym (taken_tick es u))
-once_step setup u es (Released i q) all ih = once_kept u es (Released i q) refl refl refl ih
-once_step setup u es (Joined i q) all ih = once_kept u es (Joined i q) refl refl refl ih
-once_step setup u es (Finished t) all ih = once_kept u es (Finished t) refl refl refl ih
 once_step setup u es (Issued i v) all ih =
     let more : count_by (λ t. u == t) (tags (es ++ Issued i v ∷ [])) ≡ count_by (λ t. u == t) (tags es) + one_if (u == v) = ap (count_by (λ t. u == t)) (tags_more es (Issued i v) refl) ∙ count_push (λ t. u == t) (tags es) v in
     elim (cases_Bool (v == u)) [
@@ -67,6 +66,7 @@ once_step setup u es (Issued i v) all ih =
           let kept : number (taken (es ++ Issued i v ∷ []) u) ≡ number (taken es u) = ap number (taken_kept es (Issued i v) u refl (rw b refl)) in
           omega arith
     ]
+once_step setup u es e all ih = once_kept u es e refl refl refl ih
 
 pub tag_count : (setup : Setup) (es : List Happened) (u : ℕ) → IsLegalTrace setup es → count_by (λ t. u == t) (tags es) ≡ number (taken es u)
 unfolding tags taken this_round
@@ -106,13 +106,16 @@ open-before_tick setup events legal d =
       | inr b ↦ absurd (all InFlight t ((steady setup events old).opens t was.id was.taken_is b))
     ]))
 
+-- an event that issues and ends nothing leaves what is in flight
+pub open_kept : (setup : Setup) (events : List Happened) (e : Happened) → IsLegalTrace setup (events ++ e ∷ []) → is_tick e ≡ false → issues e ≡ None → ends e ≡ None → (d : Dir) → open_of (events ++ e ∷ []) d ≡ open_of events d
+open_kept setup events e legal h i n d =
+    open_is (events ++ e ∷ []) d ∙ ap (count_by (flies (events ++ e ∷ []) d)) (tags_kept events e h (no_tag e i)) ∙ count_same _ (flies events d) (tags events) (λ t. ap (is_flying d) (seat_quiet setup events e legal h i n t)) ∙ sym (open_is events d)
+
 pub open-released : (setup : Setup) (events : List Happened) (id : ℕ) (bios : List Bio) → IsLegalTrace setup (events ++ Released id bios ∷ []) → (d : Dir) → open_of (events ++ Released id bios ∷ []) d ≡ open_of events d
-open-released setup events id bios legal d =
-    open_is (events ++ Released id bios ∷ []) d ∙ ap (count_by (flies (events ++ Released id bios ∷ []) d)) (tags_kept events (Released id bios) refl refl) ∙ count_same _ (flies events d) (tags events) (λ t. ap (is_flying d) (seat-released setup events id bios legal t)) ∙ sym (open_is events d)
+open-released setup events id bios legal d = open_kept setup events (Released id bios) legal refl refl refl d
 
 pub open-joined : (setup : Setup) (events : List Happened) (id : ℕ) (bios : List Bio) → IsLegalTrace setup (events ++ Joined id bios ∷ []) → (d : Dir) → open_of (events ++ Joined id bios ∷ []) d ≡ open_of events d
-open-joined setup events id bios legal d =
-    open_is (events ++ Joined id bios ∷ []) d ∙ ap (count_by (flies (events ++ Joined id bios ∷ []) d)) (tags_kept events (Joined id bios) refl refl) ∙ count_same _ (flies events d) (tags events) (λ t. ap (is_flying d) (seat-joined setup events id bios legal t)) ∙ sym (open_is events d)
+open-joined setup events id bios legal d = open_kept setup events (Joined id bios) legal refl refl refl d
 
 pub open-issued : (setup : Setup) (events : List Happened) (id tag : ℕ) → IsLegalTrace setup (events ++ Issued id tag ∷ []) → (w : Entered) → waits_at setup events id ≡ Some w → (d : Dir) → open_of (events ++ Issued id tag ∷ []) d ≡ open_of events d + cond (same_dir d (dir_of w.bios)) 1 0
 open-issued setup events id tag legal w waits d =
@@ -133,12 +136,14 @@ open-issued setup events id tag legal w waits d =
     let now : open_of es d ≡ count_by (flies es d) (tags events ++ tag ∷ []) = open_is es d ∙ ap (count_by (flies es d)) (tags_more events (Issued id tag) refl) in
     omega (arith, open_is events d)
 
-pub open-finished : (setup : Setup) (events : List Happened) (tag : ℕ) → IsLegalTrace setup (events ++ Finished tag ∷ []) → (dir : Dir) → seat_at events tag ≡ Some (record { dir = dir; in_flight = true }) → (d : Dir) → open_of (events ++ Finished tag ∷ []) d + cond (same_dir d dir) 1 0 ≡ open_of events d
-open-finished setup events tag legal dir taken_is d =
-    let es : List Happened = events ++ Finished tag ∷ [] in
+-- one that ends an Issue leaves one command less in flight
+pub open_ended : (setup : Setup) (events : List Happened) (e : Happened) (tag : ℕ) → IsLegalTrace setup (events ++ e ∷ []) → ends e ≡ Some tag → (dir : Dir) → seat_at events tag ≡ Some (record { dir = dir; in_flight = true }) → (d : Dir) → open_of (events ++ e ∷ []) d + cond (same_dir d dir) 1 0 ≡ open_of events d
+open_ended setup events e tag legal end dir taken_is d =
+    let only : OnlyEnds e = only_ends e tag end in
+    let es : List Happened = events ++ e ∷ [] in
     let old = shorter_legal setup events _ legal in
     let was : IsSeat events tag (record { dir = dir; in_flight = true }) = seat_parts events tag _ taken_is in
-    let seat : (t : ℕ) → seat_at es t ≡ cond (tag == t) (Some (record { dir = dir; in_flight = false })) (seat_at events t) = λ t. seat-finished setup events tag legal _ taken_is t in
+    let seat : (t : ℕ) → seat_at es t ≡ cond (tag == t) (Some (record { dir = dir; in_flight = false })) (seat_at events t) = λ t. seat_ended setup events e tag legal end _ taken_is t in
     let other : (t : ℕ) → (tag == t) ≡ false → flies es d t ≡ flies events d t = λ t b. ap (is_flying d) (seat t ∙ rw b refl) in
     let here : seat_at es tag ≡ Some (record { dir = dir; in_flight = false }) = seat tag ∙ rw (eq-eqb tag tag refl) refl in
     let is : flies es d tag ≡ false = ap (is_flying d) here ∙ and_no (same_dir d dir) false refl in
@@ -147,34 +152,54 @@ open-finished setup events tag legal dir taken_is d =
     let one_before : one_if (flies events d tag) ≡ one_if (same_dir d dir) = ap one_if before in
     let one : count_by (λ t. tag == t) (tags events) ≡ 1 = tag_count setup events tag old ∙ ap number was.taken_is in
     let fewer : count_by (flies es d) (tags events) + one_if (same_dir d dir) ≡ count_by (flies events d) (tags events) = count_once (flies es d) (flies events d) tag (one_if (same_dir d dir)) (tags events) other (omega arith) one in
-    let now : open_of es d ≡ count_by (flies es d) (tags events) = open_is es d ∙ ap (count_by (flies es d)) (tags_kept events (Finished tag) refl refl) in
+    let now : open_of es d ≡ count_by (flies es d) (tags events) = open_is es d ∙ ap (count_by (flies es d)) (tags_kept events e only.no_tick (no_tag e only.no_issue)) in
     omega (arith, open_is events d)
+
+pub open-finished : (setup : Setup) (events : List Happened) (tag : ℕ) → IsLegalTrace setup (events ++ Finished tag ∷ []) → (dir : Dir) → seat_at events tag ≡ Some (record { dir = dir; in_flight = true }) → (d : Dir) → open_of (events ++ Finished tag ∷ []) d + cond (same_dir d dir) 1 0 ≡ open_of events d
+open-finished setup events tag legal dir taken_is d = open_ended setup events (Finished tag) tag legal refl dir taken_is d
 
 -- both directions, and all commands
 one_dir : (d : Dir) → cond (same_dir Read d) 1 0 + cond (same_dir Write d) 1 0 ≡ 1
 one_dir Read = refl
 one_dir Write = refl
 
-both_step : (setup : Setup) (es : List Happened) (e : Happened) → IsLegalTrace setup (es ++ e ∷ []) → open_of es Read + open_of es Write + count_by is_done es ≡ count_by is_issue es → open_of (es ++ e ∷ []) Read + open_of (es ++ e ∷ []) Write + count_by is_done (es ++ e ∷ []) ≡ count_by is_issue (es ++ e ∷ [])
-both_step setup es Ticked legal ih = omega (arith, ih, more_of is_done es Ticked, more_of is_issue es Ticked, open-ticked setup es legal Read, open-ticked setup es legal Write, open-before_tick setup es legal Read, open-before_tick setup es legal Write)
-both_step setup es (Released i q) legal ih = omega (arith, ih, more_of is_done es (Released i q), more_of is_issue es (Released i q), open-released setup es i q legal Read, open-released setup es i q legal Write)
-both_step setup es (Joined i q) legal ih = omega (arith, ih, more_of is_done es (Joined i q), more_of is_issue es (Joined i q), open-joined setup es i q legal Read, open-joined setup es i q legal Write)
+-- how many Issues there are, and how many have ended
+abbrev AreBoth : List Happened → Type 0
+AreBoth es = open_of es Read + open_of es Write + count_by is_end es ≡ count_by is_issue es
+
+both_kept : (setup : Setup) (es : List Happened) (e : Happened) → IsLegalTrace setup (es ++ e ∷ []) → is_tick e ≡ false → issues e ≡ None → ends e ≡ None → AreBoth es → AreBoth (es ++ e ∷ [])
+both_kept setup es e legal h i n ih =
+    let no_end : one_if (is_end e) ≡ 0 = ap (λ o. one_if (is_some o)) n in
+    let no_issue : one_if (is_issue e) ≡ 0 = ap (λ o. one_if (is_some o)) i in
+    omega (arith, ih, no_end, no_issue, more_of is_end es e, more_of is_issue es e, open_kept setup es e legal h i n Read, open_kept setup es e legal h i n Write)
+
+both_ended : (setup : Setup) (es : List Happened) (e : Happened) (t : ℕ) → IsLegalTrace setup (es ++ e ∷ []) → ends e ≡ Some t → AreBoth es → AreBoth (es ++ e ∷ [])
+both_ended setup es e t legal end ih =
+    let p = open_seat setup es t (shorter_legal setup es _ legal) (ended_open setup es e t legal end) in
+    let one_end : one_if (is_end e) ≡ 1 = ap (λ o. one_if (is_some o)) end in
+    let no_issue : one_if (is_issue e) ≡ 0 = ap (λ o. one_if (is_some o)) (only_ends e t end).no_issue in
+    let reads = open_ended setup es e t legal end p.0 p.1 Read in
+    let writes = open_ended setup es e t legal end p.0 p.1 Write in
+    omega (arith, ih, one_end, no_issue, more_of is_end es e, more_of is_issue es e, reads, writes, one_dir p.0)
+
+both_rest : (setup : Setup) (es : List Happened) (e : Happened) (o : Option ℕ) → ends e ≡ o → IsLegalTrace setup (es ++ e ∷ []) → is_tick e ≡ false → issues e ≡ None → AreBoth es → AreBoth (es ++ e ∷ [])
+both_rest setup es e None none legal h i ih = both_kept setup es e legal h i none ih
+both_rest setup es e (Some t) end legal h i ih = both_ended setup es e t legal end ih
+
+both_step : (setup : Setup) (es : List Happened) (e : Happened) → IsLegalTrace setup (es ++ e ∷ []) → AreBoth es → AreBoth (es ++ e ∷ [])
+both_step setup es Ticked legal ih = omega (arith, ih, more_of is_end es Ticked, more_of is_issue es Ticked, open-ticked setup es legal Read, open-ticked setup es legal Write, open-before_tick setup es legal Read, open-before_tick setup es legal Write)
 both_step setup es (Issued i t) legal ih =
     let all = obeys setup es _ legal in
     let w : Entered = record { release = release_of es i; due = due_of setup es i; bios = request_of es i } in
     let waits : waits_at setup es i ≡ Some w = waits_for setup es i (all Unknown) (all AlreadyIssued) in
     let reads = open-issued setup es i t legal w waits Read in
     let writes = open-issued setup es i t legal w waits Write in
-    omega (arith, ih, more_of is_done es (Issued i t), more_of is_issue es (Issued i t), reads, writes, one_dir (dir_of (request_of es i)))
-both_step setup es (Finished t) legal ih =
-    let p = finished-open setup es t legal in
-    let reads = open-finished setup es t legal p.0 p.1 Read in
-    let writes = open-finished setup es t legal p.0 p.1 Write in
-    omega (arith, ih, more_of is_done es (Finished t), more_of is_issue es (Finished t), reads, writes, one_dir p.0)
+    omega (arith, ih, more_of is_end es (Issued i t), more_of is_issue es (Issued i t), reads, writes, one_dir (dir_of (request_of es i)))
+both_step setup es e legal ih = both_rest setup es e (ends e) refl legal refl refl ih
 
-pub open_all : (setup : Setup) (events : List Happened) → IsLegalTrace setup events → open_of events Read + open_of events Write + count_by is_done events ≡ count_by is_issue events
+pub open_all : (setup : Setup) (events : List Happened) → IsLegalTrace setup events → open_of events Read + open_of events Write + count_by is_end events ≡ count_by is_issue events
 unfolding open_of this_round
-open_all setup events legal = by_legal setup (λ l. open_of l Read + open_of l Write + count_by is_done l ≡ count_by is_issue l) refl (λ l e new old all ih. both_step setup l e new ih) events legal
+open_all setup events legal = by_legal setup (λ l. open_of l Read + open_of l Write + count_by is_end l ≡ count_by is_issue l) refl (λ l e new old all ih. both_step setup l e new ih) events legal
 
 pub open-both : (setup : Setup) (events : List Happened) → IsLegalTrace setup events → open_of events Read + open_of events Write ≡ open_count events
 unfolding open_count
@@ -204,6 +229,6 @@ open_positive setup events tag legal o =
     let some : 0 < open_of events p.0 = rw (open_is events p.0) (count_positive (flies events p.0) tag (tags events) flying one) in
     omega (arith, either_dir events p.0 some, open-both setup events legal)
 
--- a legal list has no more Dones than Issues
-pub open_issues : (setup : Setup) (events : List Happened) → IsLegalTrace setup events → count_by is_done events ≤ count_by is_issue events
+-- a legal list ends no more Issues than it has
+pub open_issues : (setup : Setup) (events : List Happened) → IsLegalTrace setup events → count_by is_end events ≤ count_by is_issue events
 open_issues setup events legal = omega (arith, open_all setup events legal)

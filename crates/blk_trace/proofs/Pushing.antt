@@ -1,19 +1,21 @@
 -- A list with one more event is legal exactly where the list is, and the event obeys each rule.
-use Rattle.std.proofs.Common.{◌≡◌, ◌≤◌, ◌+◌, ◌++◌, ℕ, List, [], ◌∷◌, length, refl, sym, ◌∙◌, ap, subst, arith, length-append, inl, inr, append-nil, cond}
-use Rattle.std.specs.Prelude.{count_by}
+use Rattle.std.proofs.Common.{◌≡◌, ◌≤◌, ◌+◌, ◌++◌, ℕ, List, [], ◌∷◌, length, refl, sym, ◌∙◌, ap, subst, arith, length-append, inl, inr, append-nil, cond, Bool, true, false, Option, Some, None, IfSome}
+use Rattle.std.specs.Option.{option_map_or}
 use Rattle.std.specs.List.{flat_map}
 use Rattle.std.proofs.lemmas.List.Concat.{flat_map-append}
-use Rattle.std.proofs.lemmas.List.Sums.{sum_by-append}
 use Rattle.std.proofs.lemmas.Option.{slice_get_within}
 use Rattle.blk_bio.specs.Bios.{Bio}
-use Rattle.blk_trace.specs.Happened.{Happened, Ticked, Released, Joined, Issued, Finished}
+use Rattle.blk_trace.specs.Happened.{Happened, Ticked, Released, Joined, Issued}
+use Rattle.blk_trace.specs.Kinds.{enters, ends, is_issue, is_end}
 use Rattle.blk_trace.specs.declared.rule.TraceRule.{TraceRule}
 use Rattle.blk_trace.specs.declared.rule.TraceRule.TheVariants.{ReleasedTwice, Unknown, AlreadyIssued, BioTwice, Fit, TagRange, TagUsed, NotIssued, InFlight, TooLong}
 use Rattle.blk_trace.specs.Setups.{Setup}
-use Rattle.blk_trace.specs.Events.{At, round_of, round_at, bios_of, entered, is_issue, is_done, open_count, AreOnce}
+use Rattle.blk_trace.specs.Events.{At, round_of, round_at, bios_of, entered, open_count, AreOnce, IsOpen}
 use Rattle.blk_trace.specs.Legal.{IsLegalTrace}
 use Rattle.blk_trace.specs.Rules.{Obeys, IsUnbroken}
 use Rattle.blk_trace.proofs.Places.{split, keep, last, before, before_last}
+use Rattle.blk_trace.proofs.Words.{if_some, some_of, keep_end, split_end}
+use Rattle.blk_trace.proofs.More.{more_of}
 
 -- no events are legal
 pub empty_legal : (setup : Setup) → IsLegalTrace setup []
@@ -41,19 +43,11 @@ entered_more es e = flat_map-append bios_of es (e ∷ []) ∙ ap (λ l. flat_map
 
 -- no bio enters by an event that is no Released or Joined
 pub once_more : (setup : Setup) (es : List Happened) (e : Happened) → AreOnce (entered es) → Obeys setup es e BioTwice → AreOnce (entered es ++ bios_of e)
-once_more setup es Ticked old h = rw append-nil old
-once_more setup es (Released id q) old h = h
-once_more setup es (Joined id q) old h = h
-once_more setup es (Issued id tag) old h = rw append-nil old
-once_more setup es (Finished tag) old h = rw append-nil old
-
--- the last rule is the same for every event
-pub short_enough : (setup : Setup) (es : List Happened) (e : Happened) → Obeys setup es e TooLong → length (es ++ e ∷ []) + open_count (es ++ e ∷ []) ≤ 1000000
-short_enough setup es Ticked h = h
-short_enough setup es (Released id q) h = h
-short_enough setup es (Joined id q) h = h
-short_enough setup es (Issued id tag) h = h
-short_enough setup es (Finished tag) h = h
+once_more setup es e old h = by_entry (entered es) (enters e) old h
+  where
+    by_entry : (bs : List Bio) (o : Option (ℕ × List Bio)) → AreOnce bs → IfSome o (λ p. AreOnce (bs ++ p.1)) → AreOnce (bs ++ option_map_or (λ p. p.1) o [])
+    by_entry bs None old h = rw append-nil old
+    by_entry bs (Some p) old h = h
 
 -- a legal list with an event that obeys each rule is legal
 pub push_legal : (setup : Setup) (es : List Happened) (e : Happened) → IsLegalTrace setup es → IsUnbroken setup es e → IsLegalTrace setup (es ++ e ∷ [])
@@ -120,9 +114,9 @@ push_legal setup es e old all =
             ]
           ];
       done_open = λ k tag h.
-          elim (split es e k _ h) [
-            | inl a ↦ rw (before es (e ∷ []) k _ a) (old.done_open k tag a)
-            | inr a ↦ rw (before_last es e k a.0) (told _ NotIssued a.1)
+          elim (split_end es e k tag h) [
+            | inl a ↦ rw (before es (e ∷ []) k _ a.1) (old.done_open k tag a)
+            | inr a ↦ rw (before_last es e k a.0) (some_of (ends e) (IsOpen es) tag a.1 (all NotIssued))
           ];
       tick_closed = λ k tag h.
           elim (split es e k _ h) [
@@ -140,25 +134,17 @@ push_legal setup es e old all =
             | inl a ↦ rw (before es (e ∷ []) k _ a) (old.join_fits k id n a)
             | inr a ↦ rw (before_last es e k a.0) (told _ Fit a.1)
           ];
-      not_too_long = short_enough setup es e (all TooLong);
+      not_too_long = all TooLong;
     }
 
-one_done : (e : Happened) → count_by is_done (e ∷ []) ≤ 1
-one_done Ticked = omega arith
-one_done (Released id q) = omega arith
-one_done (Joined id q) = omega arith
-one_done (Issued id tag) = omega arith
-one_done (Finished tag) = omega arith
+at_most_one : (b : Bool) → cond b 1 0 ≤ 1
+at_most_one true = omega arith
+at_most_one false = omega arith
 
--- the events with a Finished for each open Issued are no fewer with one more event
+-- the events with a place for the end of each open Issue are no fewer with one more event
 pub open_more : (es : List Happened) (e : Happened) → length es + open_count es ≤ length (es ++ e ∷ []) + open_count (es ++ e ∷ [])
 unfolding open_count
-open_more es e =
-    let issues : count_by is_issue (es ++ e ∷ []) ≡ count_by is_issue es + count_by is_issue (e ∷ []) = sum_by-append (λ (x : Happened). cond (is_issue x) 1 0) es (e ∷ []) in
-    let dones : count_by is_done (es ++ e ∷ []) ≡ count_by is_done es + count_by is_done (e ∷ []) = sum_by-append (λ (x : Happened). cond (is_done x) 1 0) es (e ∷ []) in
-    let one : count_by is_done (e ∷ []) ≤ 1 = one_done e in
-    let long : length (es ++ e ∷ []) ≡ length es + 1 = length-append es (e ∷ []) in
-    omega (arith, issues, dones, one, long)
+open_more es e = omega (arith, more_of is_issue es e, more_of is_end es e, at_most_one (is_end e), length-append es (e ∷ []))
 
 -- bios that stand once in a longer list do in a shorter one
 pub once_fewer : (bs cs : List Bio) → AreOnce (bs ++ cs) → AreOnce bs
@@ -176,7 +162,7 @@ shorter_legal setup es e new =
       issued_once = λ j k id t u h l. new.issued_once j k id t u (up j _ h) (up k _ l);
       tag_range = λ k id tag h. new.tag_range k id tag (up k _ h);
       tag_once = λ j k i l tag h m same. new.tag_once j k i l tag (up j _ h) (up k _ m) (ap round_of (before es (e ∷ []) j _ h) ∙ same ∙ ap round_of (sym (before es (e ∷ []) k _ m)));
-      done_open = λ k tag h. rw (before es (e ∷ []) k _ h) at (new.done_open k tag (up k _ h));
+      done_open = λ k tag h. rw (before es (e ∷ []) k _ h.1) at (new.done_open k tag (keep_end es (e ∷ []) k tag h));
       tick_closed = λ k tag h. rw (before es (e ∷ []) k _ h) at (new.tick_closed k tag (up k _ h));
       bios_once = once_fewer (entered es) (bios_of e) (rw (entered_more es e) at new.bios_once);
       release_within = λ k id q h. new.release_within k id q (up k _ h);
@@ -204,11 +190,7 @@ obeys setup es (Issued id tag) new TagUsed =
     let same : round_at (es ++ Issued id tag ∷ []) u.place ≡ round_at (es ++ Issued id tag ∷ []) (length es) =
     ap round_of (before es (Issued id tag ∷ []) u.place _ u.issued) ∙ u.now ∙ ap round_of (sym (before_last es (Issued id tag) (length es) refl)) in
     absurd (omega (arith, new.tag_once u.place (length es) u.id id tag (keep es _ u.place _ u.issued) (last es _) same, slice_get_within es u.place _ u.issued))
-obeys setup es (Finished tag) new NotIssued = rw (before_last es (Finished tag) (length es) refl) at (new.done_open (length es) tag (last es _))
+obeys setup es e new NotIssued = if_some (ends e) (IsOpen es) (λ tag h. rw (before_last es e (length es) refl) at (new.done_open (length es) tag (e, last es _, h)))
 obeys setup es Ticked new InFlight = λ tag o. new.tick_closed (length es) tag (last es _) (rw (before_last es Ticked (length es) refl) o)
-obeys setup es Ticked new TooLong = new.not_too_long
-obeys setup es (Released id q) new TooLong = new.not_too_long
-obeys setup es (Joined id n) new TooLong = new.not_too_long
-obeys setup es (Issued id tag) new TooLong = new.not_too_long
-obeys setup es (Finished tag) new TooLong = new.not_too_long
-obeys setup es _ new _ = tt
+obeys setup es e new TooLong = new.not_too_long
+obeys setup es e new rule = tt

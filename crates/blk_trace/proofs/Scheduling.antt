@@ -7,19 +7,19 @@ use Rattle.edd_check.specs.declared.Command.{Command}
 use Rattle.edd_check.specs.Schedule.{StartsReleased, places_at}
 use Rattle.edd_check.proofs.InForce.{depth_fixed}
 use Rattle.blk_trace.specs.declared.rule.TraceRule.TheVariants.{Unknown, AlreadyIssued}
-use Rattle.blk_trace.specs.Happened.{Happened, Ticked, Released, Joined, Issued, Finished}
+use Rattle.blk_trace.specs.Happened.{Happened, Ticked, Issued}
 use Rattle.blk_trace.specs.Setups.{Setup}
 use Rattle.blk_trace.specs.Legal.{IsLegalTrace}
 use Rattle.blk_trace.specs.Rules.{IsUnbroken}
 use Rattle.blk_trace.specs.Events.{is_tick, round_of, request_of}
 use Rattle.blk_trace.specs.Meaning.{timed, issued_ids, release_of, due_of, commands_of, rounds_of}
 use Rattle.blk_trace.specs.Standing.{Entered, waits_at, this_round}
-use Rattle.blk_trace.specs.Laws.{IsScheduled, AddsRound}
+use Rattle.blk_trace.specs.Laws.{IsScheduled}
 use Rattle.blk_trace.proofs.More.{round_more}
 use Rattle.blk_trace.proofs.Ids.{by_legal}
 use Rattle.blk_trace.proofs.Entering.{release_within}
 use Rattle.blk_trace.proofs.Waiting.{waits_for}
-use Rattle.blk_trace.proofs.Commands.{commands-ticked, commands-released, commands-joined, commands-issued, commands-finished, rounds-ticked, rounds-released, rounds-joined, rounds-issued, rounds-finished}
+use Rattle.blk_trace.proofs.Commands.{commands_kept, commands-issued, rounds_kept, rounds-issued}
 use Rattle.blk_trace.proofs.Seats.{taken, cases_option, IsTaken, taken_at}
 use Rattle.blk_trace.proofs.Opening.{tags, tags_tick, tags_more, tags_kept, tag_count, number}
 use Rattle.blk_trace.proofs.Counting.{one_if, count-cons, count_push}
@@ -49,15 +49,12 @@ starts_push cs rs c r old h =
     }
 
 starts_step : (setup : Setup) (es : List Happened) (e : Happened) → IsLegalTrace setup (es ++ e ∷ []) → IsUnbroken setup es e → StartsWell (commands_of setup es) (rounds_of es) → StartsWell (commands_of setup (es ++ e ∷ [])) (rounds_of (es ++ e ∷ []))
-starts_step setup es Ticked new all ih = rw (commands-ticked setup es new, rounds-ticked es) ih
-starts_step setup es (Released i q) new all ih = rw (commands-released setup es i q new, rounds-released es i q) ih
-starts_step setup es (Joined i q) new all ih = rw (commands-joined setup es i q new, rounds-joined es i q) ih
-starts_step setup es (Finished t) new all ih = rw (commands-finished setup es t new, rounds-finished es t) ih
 starts_step setup es (Issued i t) new all ih =
     let w : Entered = record { release = release_of es i; due = due_of setup es i; bios = request_of es i } in
     let waits : waits_at setup es i ≡ Some w = waits_for setup es i (all Unknown) (all AlreadyIssued) in
     let c : Command = record { id = i; release = w.release; due = w.due } in
     rw (commands-issued setup es i t new w waits, rounds-issued es i t) (starts_push (commands_of setup es) (rounds_of es) c (round_of es) ih (release_within es i))
+starts_step setup es e new all ih = rw (commands_kept setup es e new refl, rounds_kept es e refl) ih
 
 starts : (setup : Setup) (es : List Happened) → IsLegalTrace setup es → StartsWell (commands_of setup es) (rounds_of es)
 unfolding commands_of rounds_of issued_ids timed
@@ -179,14 +176,12 @@ fills_step setup es Ticked new old =
     let up : round_of (es ++ Ticked ∷ []) ≡ round_of es + 1 = round_more es Ticked in
     let no_tags : length (tags (es ++ Ticked ∷ [])) ≡ 0 = ap length (tags_tick es) in
     record {
-      now = rw (rounds-ticked es, up, no_tags) (old.later (round_of es + 1) (omega arith));
-      later = λ x l. rw (rounds-ticked es) (old.later x (omega arith));
-      within = λ x. rw (rounds-ticked es) (old.within x);
+      now = rw (rounds_kept es Ticked refl, up, no_tags) (old.later (round_of es + 1) (omega arith));
+      later = λ x l. rw (rounds_kept es Ticked refl) (old.later x (omega arith));
+      within = λ x. rw (rounds_kept es Ticked refl) (old.within x);
     }
-fills_step setup es (Released i q) new old = fills_kept setup es _ (rounds-released es i q) (round_kept es (Released i q) refl) (tags_kept es (Released i q) refl refl) old
-fills_step setup es (Joined i q) new old = fills_kept setup es _ (rounds-joined es i q) (round_kept es (Joined i q) refl) (tags_kept es (Joined i q) refl refl) old
 fills_step setup es (Issued i t) new old = fills_issued setup es i t new old
-fills_step setup es (Finished t) new old = fills_kept setup es _ (rounds-finished es t) (round_kept es (Finished t) refl) (tags_kept es (Finished t) refl refl) old
+fills_step setup es e new old = fills_kept setup es _ (rounds_kept es e refl) (round_kept es e refl) (tags_kept es e refl refl) old
 
 fills : (setup : Setup) (es : List Happened) → IsLegalTrace setup es → FillsWell setup es
 unfolding rounds_of timed places_at round_of tags this_round
@@ -197,10 +192,3 @@ legal-schedule setup events legal =
     let s : StartsWell (commands_of setup events) (rounds_of events) = starts setup events legal in
     let f : FillsWell setup events = fills setup events legal in
     record { one_each = s.one_each; released = s.released; within_depth = λ x. omega (arith, f.within x, depth_fixed setup.depth x) }
-
-pub adds-round : (events : List Happened) (e : Happened) → AddsRound events e
-adds-round events Ticked = rounds-ticked events
-adds-round events (Released id bios) = rounds-released events id bios
-adds-round events (Joined id bios) = rounds-joined events id bios
-adds-round events (Issued id tag) = rounds-issued events id tag
-adds-round events (Finished tag) = rounds-finished events tag

@@ -7,10 +7,12 @@ use Rattle.std.proofs.lemmas.List.Folds.{list_any-append}
 use Rattle.std.proofs.lemmas.List.Sums.{sum_by-take-le}
 use Rattle.std.proofs.lemmas.Bool.{cases_Bool}
 use Rattle.std.proofs.lemmas.Option.{slice_get_within}
-use Rattle.blk_trace.specs.Happened.{Happened, Ticked, Released, Joined, Issued, Finished}
+use Rattle.blk_trace.specs.Happened.{Happened, Ticked, Issued}
+use Rattle.blk_trace.specs.Kinds.{ends}
 use Rattle.blk_trace.specs.Events.{At, is_tick, round_of, round_at, IsOpen, IsUsed}
 use Rattle.blk_trace.specs.Standing.{this_round, issued_by, is_done_of, first_id}
 use Rattle.blk_trace.proofs.Places.{split, keep, last, before, before_last}
+use Rattle.blk_trace.proofs.Words.{keep_end, split_end}
 use Rattle.blk_trace.proofs.More.{now_more, round_more}
 use Rattle.blk_trace.proofs.Ids.{by_events}
 
@@ -116,9 +118,6 @@ some_other es e t id h n ih s = still_taken es e t id h (ih (sym (taken_kept es 
 
 taken_step : (t id : ℕ) (es : List Happened) (e : Happened) → (taken es t ≡ Some id → IsTaken es t id) → taken (es ++ e ∷ []) t ≡ Some id → IsTaken (es ++ e ∷ []) t id
 taken_step t id es Ticked ih s = absurd (let n : taken (es ++ Ticked ∷ []) t ≡ None = taken_tick es t in cc)
-taken_step t id es (Released i q) ih s = some_other es (Released i q) t id refl refl ih s
-taken_step t id es (Joined i q) ih s = some_other es (Joined i q) t id refl refl ih s
-taken_step t id es (Finished u) ih s = some_other es (Finished u) t id refl refl ih s
 taken_step t id es (Issued i u) ih s =
     elim (cases_option (taken es t)) [
       | inl n ↦
@@ -140,6 +139,7 @@ taken_step t id es (Issued i u) ih s =
           let same : p.0 ≡ id = cc in
           still_taken es (Issued i u) t id refl (ih (p.1 ∙ ap Some same))
     ]
+taken_step t id es e ih s = some_other es e t id refl refl ih s
 
 pub taken_at : (es : List Happened) (t id : ℕ) → taken es t ≡ Some id → IsTaken es t id
 unfolding taken this_round
@@ -186,23 +186,23 @@ not_taken es t h =
 pub was_open : (es : List Happened) (e : Happened) (t : ℕ) → ((id : ℕ) → e ≡ Issued id t → ⊥) → IsOpen (es ++ e ∷ []) t → IsOpen es t
 was_open es e t other o =
     elim (split es e o.place _ o.issued) [
-      | inl p ↦ record { place = o.place; id = o.id; issued = p; not_done = λ j h d. o.not_done j h (keep es (e ∷ []) j _ d) }
+      | inl p ↦ record { place = o.place; id = o.id; issued = p; not_done = λ j h d. o.not_done j h (keep_end es (e ∷ []) j t d) }
       | inr p ↦ absurd (other o.id p.1)
     ]
 
-pub closed : (es : List Happened) (u t : ℕ) → u ≡ t → IsOpen (es ++ Finished u ∷ []) t → ⊥
-closed es u t same o =
-    elim (split es (Finished u) o.place _ o.issued) [
-      | inl p ↦ o.not_done (length es) (slice_get_within es o.place _ p) (last es (Finished u) ∙ ap (λ x. Some (Finished x)) same)
-      | inr p ↦ absurd (let q = p.1 in cc)
+pub closed : (es : List Happened) (e : Happened) (t : ℕ) → ends e ≡ Some t → IsOpen (es ++ e ∷ []) t → ⊥
+closed es e t end o =
+    elim (split es e o.place _ o.issued) [
+      | inl p ↦ o.not_done (length es) (slice_get_within es o.place _ p) (e, last es e, end)
+      | inr p ↦ absurd (let none : ends e ≡ None = ap ends p.1 in cc)
     ]
 
-pub still_open : (es : List Happened) (e : Happened) (t : ℕ) → (e ≡ Finished t → ⊥) → IsOpen es t → IsOpen (es ++ e ∷ []) t
+pub still_open : (es : List Happened) (e : Happened) (t : ℕ) → (ends e ≡ Some t → ⊥) → IsOpen es t → IsOpen (es ++ e ∷ []) t
 still_open es e t other o = record {
   place = o.place;
   id = o.id;
   issued = keep es (e ∷ []) o.place _ o.issued;
-  not_done = λ j h d. elim (split es e j _ d) [ inl p ↦ o.not_done j h p | inr p ↦ other p.1 ];
+  not_done = λ j h d. elim (split_end es e j t d) [ inl p ↦ o.not_done j h p | inr p ↦ other p.1 ];
 }
 
 pub now_open : (es : List Happened) (i u t : ℕ) → u ≡ t → IsOpen (es ++ Issued i u ∷ []) t
@@ -210,5 +210,5 @@ now_open es i u t same = record {
   place = length es;
   id = i;
   issued = last es (Issued i u) ∙ ap (λ x. Some (Issued i x)) same;
-  not_done = λ j h d. elim (split es (Issued i u) j _ d) [ inl p ↦ omega (arith, slice_get_within es j _ p) | inr p ↦ absurd (let q = p.1 in cc) ];
+  not_done = λ j h d. elim (split_end es (Issued i u) j t d) [ inl p ↦ omega (arith, slice_get_within es j _ p.1) | inr p ↦ absurd (let q = p.1 in cc) ];
 }

@@ -1,17 +1,19 @@
 -- In a legal list the open tags are those that are taken in the round and not ended.
 use Rattle.std.proofs.Common.{◌≡◌, ◌≤◌, ◌++◌, ◌==◌, ℕ, suc, List, [], ◌∷◌, refl, sym, ◌∙◌, ap, subst, arith, inl, inr, Some, None, cond, Bool, true, false, ne_eqb, eqb-true}
-use Rattle.std.specs.Prelude.{◌||◌, not, option_map}
+use Rattle.std.specs.Prelude.{◌||◌, not, Option, option_map}
 use Rattle.std.proofs.lemmas.Bool.{cases_Bool, or_parts, eqb-false}
 use Rattle.blk_bio.specs.Bios.{Bio}
 use Rattle.blk_bio.specs.declared.bio.Dir.{Dir}
 use Rattle.blk_bio.specs.Requests.{dir_of}
 use Rattle.blk_trace.specs.declared.rule.TraceRule.TheVariants.{TagUsed, NotIssued, InFlight}
 use Rattle.blk_trace.specs.Happened.{Happened, Ticked, Released, Joined, Issued, Finished}
+use Rattle.blk_trace.specs.Kinds.{issues, ends}
 use Rattle.blk_trace.specs.Setups.{Setup}
 use Rattle.blk_trace.specs.Events.{is_tick, request_of, IsOpen, IsUsed}
 use Rattle.blk_trace.specs.Legal.{IsLegalTrace}
 use Rattle.blk_trace.specs.Rules.{IsUnbroken}
 use Rattle.blk_trace.specs.Standing.{Entered, Seat, waits_at, seat_at, this_round, issued_by, is_done_of}
+use Rattle.blk_trace.proofs.Words.{OnlyEnds, only_ends, some_of, issued_by_none, done_by_none, done_by, issues_not, ends_not}
 use Rattle.blk_trace.proofs.Pushing.{shorter_legal, obeys}
 use Rattle.blk_trace.proofs.Ids.{by_legal}
 use Rattle.blk_trace.proofs.Entering.{IsSame, same_entered, stays_out}
@@ -25,13 +27,18 @@ pub record IsSteady (es : List Happened) : Type 0 where
   pub fresh : (t : ℕ) → taken es t ≡ None → ended es t ≡ false
 
 -- an event that issues and ends nothing
-quiet : (es : List Happened) (e : Happened) → is_tick e ≡ false → ((t : ℕ) → issued_by t e ≡ None) → ((t : ℕ) → is_done_of t e ≡ false) → ((i t : ℕ) → e ≡ Issued i t → ⊥) → ((t : ℕ) → e ≡ Finished t → ⊥) → IsSteady es → IsSteady (es ++ e ∷ [])
-quiet es e h n d no_issue no_done old = record {
-  runs = λ t o. ended_kept es e t h (d t) ∙ old.runs t (was_open es e t (λ i. no_issue i t) o);
-  takes = λ t o. let p = old.takes t (was_open es e t (λ i. no_issue i t) o) in (p.0, taken_kept es e t h (n t) ∙ p.1);
-  opens = λ t id s r. still_open es e t (no_done t) (old.opens t id (sym (taken_kept es e t h (n t)) ∙ s) (sym (ended_kept es e t h (d t)) ∙ r));
-  fresh = λ t s. ended_kept es e t h (d t) ∙ old.fresh t (sym (taken_kept es e t h (n t)) ∙ s);
-}
+quiet : (es : List Happened) (e : Happened) → is_tick e ≡ false → issues e ≡ None → ends e ≡ None → IsSteady es → IsSteady (es ++ e ∷ [])
+quiet es e h issues_none ends_none old =
+    let n : (t : ℕ) → issued_by t e ≡ None = λ t. issued_by_none t e issues_none in
+    let d : (t : ℕ) → is_done_of t e ≡ false = λ t. done_by_none t e ends_none in
+    let no_issue : (t i : ℕ) → e ≡ Issued i t → ⊥ = λ t i x. issues_not e issues_none i t x in
+    let no_end : (t : ℕ) → ends e ≡ Some t → ⊥ = λ t x. ends_not e ends_none t x in
+    record {
+      runs = λ t o. ended_kept es e t h (d t) ∙ old.runs t (was_open es e t (no_issue t) o);
+      takes = λ t o. let p = old.takes t (was_open es e t (no_issue t) o) in (p.0, taken_kept es e t h (n t) ∙ p.1);
+      opens = λ t id s r. still_open es e t (no_end t) (old.opens t id (sym (taken_kept es e t h (n t)) ∙ s) (sym (ended_kept es e t h (d t)) ∙ r));
+      fresh = λ t s. ended_kept es e t h (d t) ∙ old.fresh t (sym (taken_kept es e t h (n t)) ∙ s);
+    }
 
 steady_issued : (setup : Setup) (es : List Happened) (i u : ℕ) → IsUnbroken setup es (Issued i u) → IsSteady es → IsSteady (es ++ Issued i u ∷ [])
 steady_issued setup es i u all old =
@@ -53,23 +60,31 @@ steady_issued setup es i u all old =
       fresh = λ t s. ended_kept es (Issued i u) t refl refl ∙ old.fresh t (taken_before es (Issued i u) t refl s);
     }
 
-steady_finished : (setup : Setup) (es : List Happened) (u : ℕ) → IsUnbroken setup es (Finished u) → IsSteady es → IsSteady (es ++ Finished u ∷ [])
-steady_finished setup es u all old =
-    let here : IsOpen es u = all NotIssued in
-    let apart : (t : ℕ) → IsOpen (es ++ Finished u ∷ []) t → (u == t) ≡ false = λ t o. ne_eqb u t (λ same. closed es u t same o) in
-    let was : (t : ℕ) → IsOpen (es ++ Finished u ∷ []) t → IsOpen es t = λ t o. was_open es (Finished u) t (λ i e. absurd (cc)) o in
+-- one that ends the Issue of a tag
+steady_ended : (setup : Setup) (es : List Happened) (e : Happened) (u : ℕ) → ends e ≡ Some u → IsUnbroken setup es e → IsSteady es → IsSteady (es ++ e ∷ [])
+steady_ended setup es e u end all old =
+    let only : OnlyEnds e = only_ends e u end in
+    let here : IsOpen es u = some_of (ends e) (IsOpen es) u end (all NotIssued) in
+    let n : (t : ℕ) → issued_by t e ≡ None = λ t. issued_by_none t e only.no_issue in
+    let apart : (t : ℕ) → IsOpen (es ++ e ∷ []) t → (u == t) ≡ false = λ t o. ne_eqb u t (λ same. closed es e t (end ∙ ap Some same) o) in
+    let was : (t : ℕ) → IsOpen (es ++ e ∷ []) t → IsOpen es t = λ t o. was_open es e t (λ i x. issues_not e only.no_issue i t x) o in
     record {
-      runs = λ t o. ended_kept es (Finished u) t refl (apart t o) ∙ old.runs t (was t o);
-      takes = λ t o. let p = old.takes t (was t o) in (p.0, taken_kept es (Finished u) t refl refl ∙ p.1);
+      runs = λ t o. ended_kept es e t only.no_tick (done_by t e u end ∙ apart t o) ∙ old.runs t (was t o);
+      takes = λ t o. let p = old.takes t (was t o) in (p.0, taken_kept es e t only.no_tick (n t) ∙ p.1);
       opens = λ t id s r.
-          let parts = or_parts (ended es t) (u == t) (sym (ended_more es (Finished u) t refl) ∙ r) in
-          still_open es (Finished u) t (λ e. eqb-false u t parts.1 (cc)) (old.opens t id (sym (taken_kept es (Finished u) t refl refl) ∙ s) parts.0);
+          let more : ended (es ++ e ∷ []) t ≡ (ended es t || (u == t)) = ended_more es e t only.no_tick ∙ ap (λ b. ended es t || b) (done_by t e u end) in
+          let parts = or_parts (ended es t) (u == t) (sym more ∙ r) in
+          still_open es e t (λ x. eqb-false u t parts.1 (let y : Some u ≡ Some t = sym end ∙ x in cc)) (old.opens t id (sym (taken_kept es e t only.no_tick (n t)) ∙ s) parts.0);
       fresh = λ t s.
-          let none : taken es t ≡ None = taken_before es (Finished u) t refl s in
+          let none : taken es t ≡ None = taken_before es e t only.no_tick s in
           let p = old.takes u here in
           let apart : (u == t) ≡ false = ne_eqb u t (λ same. absurd (let q : taken es t ≡ Some p.0 = subst (λ x. taken es x ≡ Some p.0) same p.1 in cc)) in
-          ended_kept es (Finished u) t refl apart ∙ old.fresh t none;
+          ended_kept es e t only.no_tick (done_by t e u end ∙ apart) ∙ old.fresh t none;
     }
+
+steady_rest : (setup : Setup) (es : List Happened) (e : Happened) (o : Option ℕ) → ends e ≡ o → is_tick e ≡ false → issues e ≡ None → IsUnbroken setup es e → IsSteady es → IsSteady (es ++ e ∷ [])
+steady_rest setup es e None none h i all old = quiet es e h i none old
+steady_rest setup es e (Some u) end h i all old = steady_ended setup es e u end all old
 
 steady_step : (setup : Setup) (es : List Happened) (e : Happened) → IsUnbroken setup es e → IsSteady es → IsSteady (es ++ e ∷ [])
 steady_step setup es Ticked all old = record {
@@ -78,10 +93,8 @@ steady_step setup es Ticked all old = record {
   opens = λ t id s r. absurd (let n : taken (es ++ Ticked ∷ []) t ≡ None = taken_tick es t in cc);
   fresh = λ t s. ended_tick es t;
 }
-steady_step setup es (Released i q) all old = quiet es (Released i q) refl (λ t. refl) (λ t. refl) (λ j t e. absurd (cc)) (λ t e. absurd (cc)) old
-steady_step setup es (Joined i q) all old = quiet es (Joined i q) refl (λ t. refl) (λ t. refl) (λ j t e. absurd (cc)) (λ t e. absurd (cc)) old
 steady_step setup es (Issued i u) all old = steady_issued setup es i u all old
-steady_step setup es (Finished u) all old = steady_finished setup es u all old
+steady_step setup es e all old = steady_rest setup es e (ends e) refl refl refl all old
 
 pub steady : (setup : Setup) (es : List Happened) → IsLegalTrace setup es → IsSteady es
 unfolding taken ended this_round
@@ -143,11 +156,15 @@ seat_kept setup es e t old all h n d =
 pub seat-ticked : (setup : Setup) (events : List Happened) → IsLegalTrace setup (events ++ Ticked ∷ []) → (t : ℕ) → seat_at (events ++ Ticked ∷ []) t ≡ None
 seat-ticked setup events legal t = no_seat (events ++ Ticked ∷ []) t (taken_tick events t)
 
+-- an event that issues and ends nothing leaves the seats
+pub seat_quiet : (setup : Setup) (events : List Happened) (e : Happened) → IsLegalTrace setup (events ++ e ∷ []) → is_tick e ≡ false → issues e ≡ None → ends e ≡ None → (t : ℕ) → seat_at (events ++ e ∷ []) t ≡ seat_at events t
+seat_quiet setup events e legal h i n t = seat_kept setup events e t (shorter_legal setup events _ legal) (obeys setup events _ legal) h (issued_by_none t e i) (done_by_none t e n)
+
 pub seat-released : (setup : Setup) (events : List Happened) (id : ℕ) (bios : List Bio) → IsLegalTrace setup (events ++ Released id bios ∷ []) → (t : ℕ) → seat_at (events ++ Released id bios ∷ []) t ≡ seat_at events t
-seat-released setup events id bios legal t = seat_kept setup events (Released id bios) t (shorter_legal setup events _ legal) (obeys setup events _ legal) refl refl refl
+seat-released setup events id bios legal t = seat_quiet setup events (Released id bios) legal refl refl refl t
 
 pub seat-joined : (setup : Setup) (events : List Happened) (id : ℕ) (bios : List Bio) → IsLegalTrace setup (events ++ Joined id bios ∷ []) → (t : ℕ) → seat_at (events ++ Joined id bios ∷ []) t ≡ seat_at events t
-seat-joined setup events id bios legal t = seat_kept setup events (Joined id bios) t (shorter_legal setup events _ legal) (obeys setup events _ legal) refl refl refl
+seat-joined setup events id bios legal t = seat_quiet setup events (Joined id bios) legal refl refl refl t
 
 seat_new : (setup : Setup) (events : List Happened) (id tag : ℕ) → IsLegalTrace setup events → IsUnbroken setup events (Issued id tag) → (w : Entered) → waits_at setup events id ≡ Some w → (t : ℕ) → (tag == t) ≡ true → seat_at (events ++ Issued id tag ∷ []) t ≡ Some (record { dir = dir_of w.bios; in_flight = true })
 seat_new setup events id tag old all w waits t b =
@@ -169,20 +186,26 @@ or_true : (x y : Bool) → y ≡ true → (x || y) ≡ true
 or_true true y h = refl
 or_true false y h = h
 
-seat_done : (setup : Setup) (events : List Happened) (tag : ℕ) (seat : Seat) (t : ℕ) → seat_at events t ≡ Some seat → (tag == t) ≡ true → seat_at (events ++ Finished tag ∷ []) t ≡ Some (record { dir = seat.dir; in_flight = false })
-seat_done setup events tag seat t h b =
+seat_done : (setup : Setup) (events : List Happened) (e : Happened) (tag : ℕ) (seat : Seat) (t : ℕ) → ends e ≡ Some tag → seat_at events t ≡ Some seat → (tag == t) ≡ true → seat_at (events ++ e ∷ []) t ≡ Some (record { dir = seat.dir; in_flight = false })
+seat_done setup events e tag seat t end h b =
+    let only : OnlyEnds e = only_ends e tag end in
     let was : IsSeat events t seat = seat_parts events t seat h in
-    let same : IsSame setup events (events ++ Finished tag ∷ []) was.id = same_entered setup events (Finished tag) was.id refl in
-    seat_from (events ++ Finished tag ∷ []) t was.id true seat.dir (taken_kept events (Finished tag) t refl refl ∙ was.taken_is) (ended_more events (Finished tag) t refl ∙ or_true (ended events t) (tag == t) b) (ap dir_of same.request ∙ sym was.dir_is)
+    let same : IsSame setup events (events ++ e ∷ []) was.id = same_entered setup events e was.id (rw (only.no_release, only.no_join) refl) in
+    seat_from (events ++ e ∷ []) t was.id true seat.dir (taken_kept events e t only.no_tick (issued_by_none t e only.no_issue) ∙ was.taken_is) (ended_more events e t only.no_tick ∙ or_true (ended events t) (is_done_of t e) (done_by t e tag end ∙ b)) (ap dir_of same.request ∙ sym was.dir_is)
 
-pub seat-finished : (setup : Setup) (events : List Happened) (tag : ℕ) → IsLegalTrace setup (events ++ Finished tag ∷ []) → (seat : Seat) → seat_at events tag ≡ Some seat → (t : ℕ) → seat_at (events ++ Finished tag ∷ []) t ≡ cond (tag == t) (Some (record { dir = seat.dir; in_flight = false })) (seat_at events t)
-seat-finished setup events tag legal seat taken t =
+-- one that ends a tag's Issue leaves the tag taken, and its command no longer in flight
+pub seat_ended : (setup : Setup) (events : List Happened) (e : Happened) (tag : ℕ) → IsLegalTrace setup (events ++ e ∷ []) → ends e ≡ Some tag → (seat : Seat) → seat_at events tag ≡ Some seat → (t : ℕ) → seat_at (events ++ e ∷ []) t ≡ cond (tag == t) (Some (record { dir = seat.dir; in_flight = false })) (seat_at events t)
+seat_ended setup events e tag legal end seat taken t =
     let old = shorter_legal setup events _ legal in
     let all = obeys setup events _ legal in
+    let only : OnlyEnds e = only_ends e tag end in
     elim (cases_Bool (tag == t)) [
-      | inl b ↦ seat_done setup events tag seat t (subst (λ x. seat_at events x ≡ Some seat) (eqb-true tag t b) taken) b ∙ sym (rw b refl)
-      | inr b ↦ seat_kept setup events (Finished tag) t old all refl refl b ∙ sym (rw b refl)
+      | inl b ↦ seat_done setup events e tag seat t end (subst (λ x. seat_at events x ≡ Some seat) (eqb-true tag t b) taken) b ∙ sym (rw b refl)
+      | inr b ↦ seat_kept setup events e t old all only.no_tick (issued_by_none t e only.no_issue) (done_by t e tag end ∙ b) ∙ sym (rw b refl)
     ]
+
+pub seat-finished : (setup : Setup) (events : List Happened) (tag : ℕ) → IsLegalTrace setup (events ++ Finished tag ∷ []) → (seat : Seat) → seat_at events tag ≡ Some seat → (t : ℕ) → seat_at (events ++ Finished tag ∷ []) t ≡ cond (tag == t) (Some (record { dir = seat.dir; in_flight = false })) (seat_at events t)
+seat-finished setup events tag legal seat taken t = seat_ended setup events (Finished tag) tag legal refl seat taken t
 
 -- a taken tag is below the depth
 pub seat-below : (setup : Setup) (events : List Happened) → IsLegalTrace setup events → (t : ℕ) (seat : Seat) → seat_at events t ≡ Some seat → suc t ≤ setup.depth
@@ -213,5 +236,9 @@ seat_unused events t h u =
     let some : seat_at events t ≡ Some (record { dir = dir_of (request_of events p.0); in_flight = not (ended events t) }) = seat_from events t p.0 (ended events t) _ p.1 refl refl in
     absurd (cc)
 
+-- what ends an Issue ends an open one
+pub ended_open : (setup : Setup) (events : List Happened) (e : Happened) (tag : ℕ) → IsLegalTrace setup (events ++ e ∷ []) → ends e ≡ Some tag → IsOpen events tag
+ended_open setup events e tag legal end = some_of (ends e) (IsOpen events) tag end (obeys setup events _ legal NotIssued)
+
 pub finished-open : (setup : Setup) (events : List Happened) (tag : ℕ) → IsLegalTrace setup (events ++ Finished tag ∷ []) → (dir : Dir) × (seat_at events tag ≡ Some (record { dir = dir; in_flight = true }))
-finished-open setup events tag legal = open_seat setup events tag (shorter_legal setup events _ legal) (obeys setup events _ legal NotIssued)
+finished-open setup events tag legal = open_seat setup events tag (shorter_legal setup events _ legal) (ended_open setup events (Finished tag) tag legal refl)

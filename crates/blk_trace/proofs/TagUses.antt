@@ -1,25 +1,25 @@
 -- How a tag stands with one more event.
-use Rattle.std.proofs.Common.{◌≡◌, ◌≢◌, ◌<◌, ◌≤◌, ◌+◌, ◌++◌, ℕ, zero, suc, List, [], ◌∷◌, length, take, refl, sym, ◌∙◌, ap, subst, arith, inl, inr, Some, cond, false, set}
+use Rattle.std.proofs.Common.{◌≡◌, ◌≢◌, ◌<◌, ◌≤◌, ◌+◌, ◌++◌, ℕ, zero, suc, List, [], ◌∷◌, length, take, refl, sym, ◌∙◌, ap, subst, arith, inl, inr, Some, None, cond, false, set}
 use Rattle.std.specs.Prelude.{slice_get, ◌⊎◌, replicate}
 use Rattle.std.proofs.lemmas.List.Sums.{sum_by-cons}
-use Rattle.std.proofs.lemmas.Option.{slice_get_within}
-use Rattle.blk_bio.specs.Bios.{Bio}
 use Rattle.blk_trace.specs.declared.tags.TagUse.{TagUse}
 use Rattle.blk_trace.specs.declared.tags.TagUse.TheVariants.{Free, Open, Ended}
-use Rattle.blk_trace.specs.Happened.{Happened, Ticked, Released, Joined, Issued, Finished}
+use Rattle.blk_trace.specs.Happened.{Happened, Ticked, Issued}
+use Rattle.blk_trace.specs.Kinds.{issues, ends}
 use Rattle.blk_trace.specs.Setups.{Setup}
 use Rattle.blk_trace.specs.Events.{is_tick, round_of, IsOpen, IsUsed}
 use Rattle.blk_trace.specs.Legal.{IsLegalTrace}
-use Rattle.blk_trace.specs.Kept.{IsTagUse}
+use Rattle.blk_trace.specs.Inside.Kept.{IsTagUse}
 use Rattle.blk_trace.proofs.Places.{split, keep, last, before, before_last}
-use Rattle.blk_trace.proofs.Seats.{was_open, closed}
+use Rattle.blk_trace.proofs.Words.{OnlyEnds, only_ends, issues_not, ends_not}
+use Rattle.blk_trace.proofs.Seats.{was_open, closed, still_open, now_open}
 use Rattle.blk_trace.proofs.More.{round_more}
 
--- the event neither ends the round nor issues or finishes the tag
+-- the event neither ends the round nor issues or ends the tag
 pub record LeavesTag (e : Happened) (tag : ℕ) : Type 0 where
   pub no_tick : is_tick e ≡ false
   pub no_issue : (id : ℕ) → e ≡ Issued id tag → ⊥
-  pub no_done : e ≡ Finished tag → ⊥
+  pub no_end : ends e ≡ Some tag → ⊥
 
 same_round : (es : List Happened) (e : Happened) → is_tick e ≡ false → round_of (es ++ e ∷ []) ≡ round_of es
 same_round es e h = omega (arith, round_more es e ∙ ap (λ b. round_of es + cond b 1 0) h)
@@ -67,36 +67,17 @@ used_here es id tag = record {
   now = ap round_of (before_last es (Issued id tag) (length es) refl) ∙ sym (same_round es (Issued id tag) refl);
 }
 
-open_keep : (es : List Happened) (e : Happened) (tag : ℕ) → (e ≡ Finished tag → ⊥) → IsOpen es tag → IsOpen (es ++ e ∷ []) tag
-open_keep es e tag other o = record {
-  place = o.place;
-  id = o.id;
-  issued = keep es (e ∷ []) o.place _ o.issued;
-  not_done = λ j h d. elim (split es e j _ d) [ inl p ↦ o.not_done j h p | inr p ↦ other p.1 ];
-}
-
-open_here : (es : List Happened) (id tag : ℕ) → IsOpen (es ++ Issued id tag ∷ []) tag
-open_here es id tag = record {
-  place = length es;
-  id = id;
-  issued = last es (Issued id tag);
-  not_done = λ j h d. elim (split es (Issued id tag) j _ d) [ inl p ↦ absurd (omega (arith, h, slice_get_within es j _ p)) | inr p ↦ absurd (let q = p.1 in cc) ];
-}
-
 use_keep : (es : List Happened) (e : Happened) (tag : ℕ) (u : TagUse) → LeavesTag e tag → IsTagUse es tag u → IsTagUse (es ++ e ∷ []) tag u
 use_keep es e tag Free l h = (λ x. h.0 (used_back es e tag l.no_tick l.no_issue x), λ x. h.1 (was_open es e tag l.no_issue x))
-use_keep es e tag Open l h = (used_keep es e tag l.no_tick h.0, open_keep es e tag l.no_done h.1)
+use_keep es e tag Open l h = (used_keep es e tag l.no_tick h.0, still_open es e tag l.no_end h.1)
 use_keep es e tag Ended l h = (used_keep es e tag l.no_tick h.0, λ x. h.1 (was_open es e tag l.no_issue x))
 
 -- what the kept tags say
 abbrev pub TagsAre : List Happened → List TagUse → Type 0
 TagsAre es tags = (tag : ℕ) (u : TagUse) → slice_get tags tag ≡ Some u → IsTagUse es tag u
 
-pub tags_released : (es : List Happened) (tags : List TagUse) (id : ℕ) (q : List Bio) → TagsAre es tags → TagsAre (es ++ Released id q ∷ []) tags
-tags_released es tags id q h tag u x = use_keep es (Released id q) tag u record { no_tick = refl; no_issue = λ i y. absurd (cc); no_done = λ y. absurd (cc) } (h tag u x)
-
-pub tags_joined : (es : List Happened) (tags : List TagUse) (id : ℕ) (q : List Bio) → TagsAre es tags → TagsAre (es ++ Joined id q ∷ []) tags
-tags_joined es tags id q h tag u x = use_keep es (Joined id q) tag u record { no_tick = refl; no_issue = λ i y. absurd (cc); no_done = λ y. absurd (cc) } (h tag u x)
+pub tags_kept : (es : List Happened) (e : Happened) (tags : List TagUse) → is_tick e ≡ false → issues e ≡ None → ends e ≡ None → TagsAre es tags → TagsAre (es ++ e ∷ []) tags
+tags_kept es e tags n i d h tag u x = use_keep es e tag u record { no_tick = n; no_issue = λ id y. issues_not e i id tag y; no_end = ends_not e d tag } (h tag u x)
 
 replicate_at : {X : Type 0} (n : ℕ) (x : X) (k : ℕ) (y : X) → slice_get (replicate n x) k ≡ Some y → x ≡ y
 replicate_at zero x k y h = absurd (cc)
@@ -118,21 +99,19 @@ written (z ∷ xs) (suc k) x (suc j) y h = elim (written xs k x j y h) [ inl p �
 issue_tag : (i id tag t : ℕ) → Issued i tag ≡ Issued id t → tag ≡ t
 issue_tag i id tag t h = cc
 
-done_tag : (tag t : ℕ) → Finished tag ≡ Finished t → tag ≡ t
-done_tag tag t h = cc
-
 pub tags_issued : (es : List Happened) (tags : List TagUse) (id tag : ℕ) → TagsAre es tags → TagsAre (es ++ Issued id tag ∷ []) (set tags tag Open)
 tags_issued es tags id tag h t u x =
     elim (written tags tag Open t u x) [
-      | inl p ↦ subst (λ v. IsTagUse (es ++ Issued id tag ∷ []) t v) p.1 (subst (λ n. IsTagUse (es ++ Issued id tag ∷ []) n Open) (sym p.0) (used_here es id tag, open_here es id tag))
-      | inr p ↦ use_keep es (Issued id tag) t u record { no_tick = refl; no_issue = λ i y. p.0 (sym (issue_tag id i tag t y)); no_done = λ y. absurd (cc) } (h t u p.1)
+      | inl p ↦ subst (λ v. IsTagUse (es ++ Issued id tag ∷ []) t v) p.1 (subst (λ n. IsTagUse (es ++ Issued id tag ∷ []) n Open) (sym p.0) (used_here es id tag, now_open es id tag tag refl))
+      | inr p ↦ use_keep es (Issued id tag) t u record { no_tick = refl; no_issue = λ i y. p.0 (sym (issue_tag id i tag t y)); no_end = λ y. absurd (cc) } (h t u p.1)
     ]
 
-pub tags_finished : (es : List Happened) (tags : List TagUse) (tag : ℕ) → IsUsed es tag → TagsAre es tags → TagsAre (es ++ Finished tag ∷ []) (set tags tag Ended)
-tags_finished es tags tag used h t u x =
+pub tags_ended : (es : List Happened) (e : Happened) (tags : List TagUse) (tag : ℕ) → ends e ≡ Some tag → IsUsed es tag → TagsAre es tags → TagsAre (es ++ e ∷ []) (set tags tag Ended)
+tags_ended es e tags tag end used h t u x =
+    let only : OnlyEnds e = only_ends e tag end in
     elim (written tags tag Ended t u x) [
-      | inl p ↦ subst (λ v. IsTagUse (es ++ Finished tag ∷ []) t v) p.1 (subst (λ n. IsTagUse (es ++ Finished tag ∷ []) n Ended) (sym p.0) (used_keep es (Finished tag) tag refl used, closed es tag tag refl))
-      | inr p ↦ use_keep es (Finished tag) t u record { no_tick = refl; no_issue = λ i y. absurd (cc); no_done = λ y. p.0 (sym (done_tag tag t y)) } (h t u p.1)
+      | inl p ↦ subst (λ v. IsTagUse (es ++ e ∷ []) t v) p.1 (subst (λ n. IsTagUse (es ++ e ∷ []) n Ended) (sym p.0) (used_keep es e tag only.no_tick used, closed es e tag end))
+      | inr p ↦ use_keep es e t u record { no_tick = only.no_tick; no_issue = λ i y. issues_not e only.no_issue i t y; no_end = λ y. p.0 (let same : Some t ≡ Some tag = sym y ∙ end in cc) } (h t u p.1)
     ]
 
 at_place : {X : Type 0} (xs : List X) (k : ℕ) → k < length xs → (x : X) × (slice_get xs k ≡ Some x)

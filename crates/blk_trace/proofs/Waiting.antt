@@ -1,12 +1,14 @@
 -- Which requests wait after one more event.
 use Rattle.std.proofs.Common.{◌≡◌, ◌+◌, ◌++◌, ◌==◌, ℕ, List, [], ◌∷◌, refl, sym, ◌∙◌, ap, subst, arith, inl, inr, Some, None, cond, Bool, true, false, eq-eqb, eqb-true}
-use Rattle.std.specs.Prelude.{◌||◌, ◌&&◌, not}
+use Rattle.std.specs.Prelude.{◌||◌, ◌&&◌, not, option_map}
+use Rattle.std.specs.List.{cons_option}
 use Rattle.std.proofs.lemmas.Bool.{cases_Bool, or_right, or_left, and_parts, not-true}
 use Rattle.std.proofs.lemmas.Option.{cond_some}
 use Rattle.blk_bio.specs.Bios.{Bio}
 use Rattle.blk_bio.specs.Requests.{dir_of}
 use Rattle.blk_trace.specs.declared.rule.TraceRule.TheVariants.{ReleasedTwice, Fit}
 use Rattle.blk_trace.specs.Happened.{Happened, Ticked, Released, Joined, Issued, Finished}
+use Rattle.blk_trace.specs.Kinds.{releases, joins, issues}
 use Rattle.blk_trace.specs.Setups.{Setup, expire_of}
 use Rattle.blk_trace.specs.Events.{round_of, join_up, request_of, IsReleased, IsIssued}
 use Rattle.blk_trace.specs.Legal.{IsLegalTrace}
@@ -56,13 +58,20 @@ waits_from setup es id h i = waits_is setup es id true false _ _ _ h i refl refl
 pub waits_for : (setup : Setup) (es : List Happened) (id : ℕ) → IsReleased es id → (IsIssued es id → ⊥) → waits_at setup es id ≡ Some (record { release = release_of es id; due = due_of setup es id; bios = request_of es id })
 waits_for setup es id p n = waits_from setup es id (released_has es p.0 id p.1.0 p.1.1) (not_issued es id n)
 
-pub waits-ticked : (setup : Setup) (events : List Happened) → IsLegalTrace setup (events ++ Ticked ∷ []) → (q : ℕ) → waits_at setup (events ++ Ticked ∷ []) q ≡ waits_at setup events q
+-- an event by which nothing enters, and that issues nothing, leaves what waits
+pub waits_kept : (setup : Setup) (events : List Happened) (e : Happened) → releases e ≡ None → joins e ≡ None → issues e ≡ None → (q : ℕ) → waits_at setup (events ++ e ∷ []) q ≡ waits_at setup events q
 unfolding released_ids issued_ids
-waits-ticked setup events legal q = waits_same setup events _ q (has_released_same events Ticked q refl) (has_issued_same events Ticked q refl) (same_entered setup events Ticked q refl)
+waits_kept setup events e r j i q =
+    waits_same setup events _ q
+    (has_released_same events e q (ap (λ o. has_id (cons_option (option_map (λ p. p.0) o) []) q) r))
+    (has_issued_same events e q (ap (λ o. has_id (cons_option (option_map (λ p. p.0) o) []) q) i))
+    (same_entered setup events e q (rw (r, j) refl))
+
+pub waits-ticked : (setup : Setup) (events : List Happened) → IsLegalTrace setup (events ++ Ticked ∷ []) → (q : ℕ) → waits_at setup (events ++ Ticked ∷ []) q ≡ waits_at setup events q
+waits-ticked setup events legal q = waits_kept setup events Ticked refl refl refl q
 
 pub waits-finished : (setup : Setup) (events : List Happened) (tag : ℕ) → IsLegalTrace setup (events ++ Finished tag ∷ []) → (q : ℕ) → waits_at setup (events ++ Finished tag ∷ []) q ≡ waits_at setup events q
-unfolding released_ids issued_ids
-waits-finished setup events tag legal q = waits_same setup events _ q (has_released_same events (Finished tag) q refl) (has_issued_same events (Finished tag) q refl) (same_entered setup events (Finished tag) q refl)
+waits-finished setup events tag legal q = waits_kept setup events (Finished tag) refl refl refl q
 
 released_now : (setup : Setup) (events : List Happened) (id : ℕ) (bios : List Bio) → IsLegalTrace setup events → IsUnbroken setup events (Released id bios) → (q : ℕ) → (id == q) ≡ true → waits_at setup (events ++ Released id bios ∷ []) q ≡ Some (record { release = round_of events; due = round_of events + expire_of setup (dir_of bios); bios = bios })
 unfolding released_ids issued_ids

@@ -3,9 +3,10 @@ use Rattle.std.specs.Prelude.{ℕ, ◌≡◌, ◌<◌, ◌≤◌, ◌+◌, List,
 use Rattle.blk_bio.specs.Bios.{Bio}
 use Rattle.blk_bio.specs.declared.request.Side.{Side}
 use Rattle.blk_bio.specs.Requests.{IsWithin, Fits}
-use Rattle.blk_trace.specs.Happened.{Happened, Ticked, Released, Joined, Issued, Finished}
+use Rattle.blk_trace.specs.declared.trace.TheConstants.{MAX_EVENTS}
+use Rattle.blk_trace.specs.Happened.{Happened, Ticked, Released, Joined, Issued}
 use Rattle.blk_trace.specs.Setups.{Setup}
-use Rattle.blk_trace.specs.Events.{At, round_at, entered, request_of, IsReleased, IsOpen, open_count, AreOnce}
+use Rattle.blk_trace.specs.Events.{At, EndsAt, round_at, entered, request_of, IsReleased, IsOpen, open_count, AreOnce}
 
 -- a list of events is legal: conditions on its places
 pub record IsLegalTrace (setup : Setup) (events : List Happened) : Type 0 where
@@ -20,8 +21,8 @@ pub record IsLegalTrace (setup : Setup) (events : List Happened) : Type 0 where
   pub tag_range : (k id tag : ℕ) → At events k (Issued id tag) → tag < setup.depth
   -- no tag has two Issues in one round
   pub tag_once : (j k i l tag : ℕ) → At events j (Issued i tag) → At events k (Issued l tag) → round_at events j ≡ round_at events k → j ≡ k
-  -- each Done names a tag with an open Issue
-  pub done_open : (k tag : ℕ) → At events k (Finished tag) → IsOpen (take k events) tag
+  -- what ends an Issue names a tag with an open one
+  pub done_open : (k tag : ℕ) → EndsAt events k tag → IsOpen (take k events) tag
   -- no Issue before a Tick is open at it
   pub tick_closed : (k tag : ℕ) → At events k Ticked → IsOpen (take k events) tag → ⊥
   -- no bio's id stands twice in the Releases and Joins
@@ -29,5 +30,5 @@ pub record IsLegalTrace (setup : Setup) (events : List Happened) : Type 0 where
   -- each Release is within the limits, and each Join fits the request that it joins
   pub release_within : (k id : ℕ) (q : List Bio) → At events k (Released id q) → IsWithin setup.limits q
   pub join_fits : (k id : ℕ) (n : List Bio) → At events k (Joined id n) → (s : Side) × Fits setup.limits (request_of (take k events) id) n s
-  -- the events, with a Done for each open Issue, are at most 1,000,000
-  pub not_too_long : length events + open_count events ≤ 1000000
+  -- the events, with a place for the end of each open Issue, are at most MAX_EVENTS
+  pub not_too_long : length events + open_count events ≤ MAX_EVENTS

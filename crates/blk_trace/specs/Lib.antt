@@ -1,4 +1,5 @@
 pub mod Happened
+pub mod Kinds
 pub mod Seen
 pub mod Setups
 pub mod Events
@@ -7,6 +8,5 @@ pub mod Rules
 pub mod Meaning
 pub mod Traces
 pub mod Standing
-pub mod Kept
 pub mod Laws
-pub mod Gathered
+pub mod Inside

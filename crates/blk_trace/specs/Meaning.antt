@@ -1,12 +1,13 @@
 -- What a trace means: its commands, the rounds in which they ran, and the bios that wait.
-use Rattle.std.specs.Prelude.{ℕ, ◌+◌, ◌==◌, not, cond, List, [], ◌∷◌, Option, Some, None, min, max, map, fold, filter, nat_le}
+use Rattle.std.specs.Prelude.{ℕ, ◌+◌, ◌==◌, not, cond, List, [], ◌∷◌, Option, option_map, min, max, map, fold, filter, nat_le}
 use Rattle.std.specs.List.{flat_map, filter_map, list_any}
 use Rattle.blk_bio.specs.Bios.{Bio}
 use Rattle.blk_bio.specs.Requests.{dir_of}
 use Rattle.edd_check.specs.declared.Command.{Command}
-use Rattle.blk_trace.specs.Happened.{Happened, Released, Joined, Issued}
+use Rattle.blk_trace.specs.Happened.{Happened}
+use Rattle.blk_trace.specs.Kinds.{releases, issues, is_tick, enters_under}
 use Rattle.blk_trace.specs.Setups.{Setup, expire_of}
-use Rattle.blk_trace.specs.Events.{is_tick, request_of}
+use Rattle.blk_trace.specs.Events.{request_of}
 
 -- each event with its round, where the first one's round is given
 unfoldable pub timed : ℕ → List Happened → List (ℕ × Happened)
@@ -24,15 +25,11 @@ least (x ∷ xs) = fold min x xs
 
 -- the round in which a request enters under the id by an event, if one does
 abbrev pub entry_round : ℕ → ℕ × Happened → Option ℕ
-entry_round id (round, Released i _) = cond (i == id) (Some round) None
-entry_round id (round, Joined i _) = cond (i == id) (Some round) None
-entry_round id (round, _) = None
+entry_round id t = option_map (λ _. t.0) (enters_under id t.1)
 
 -- the round in which its bios are due
 abbrev pub entry_due : Setup → ℕ → ℕ × Happened → Option ℕ
-entry_due setup id (round, Released i bios) = cond (i == id) (Some (round + expire_of setup (dir_of bios))) None
-entry_due setup id (round, Joined i bios) = cond (i == id) (Some (round + expire_of setup (dir_of bios))) None
-entry_due setup id (round, _) = None
+entry_due setup id t = option_map (λ bios. t.0 + expire_of setup (dir_of bios)) (enters_under id t.1)
 
 -- the greatest round of the id's Release and Joins
 unfoldable pub release_of : List Happened → ℕ → ℕ
@@ -48,9 +45,7 @@ command_of setup events id = record { id = id; release = release_of events id; d
 
 -- the ids in the order of their Issues
 unfoldable pub issued_ids : List Happened → List ℕ
-issued_ids [] = []
-issued_ids (Issued id _ ∷ es) = id ∷ issued_ids es
-issued_ids (_ ∷ es) = issued_ids es
+issued_ids events = filter_map (λ e. option_map (λ p. p.0) (issues e)) events
 
 -- the commands, in the order of their Issues
 unfoldable pub commands_of : Setup → List Happened → List Command
@@ -58,8 +53,7 @@ commands_of setup events = map (command_of setup events) (issued_ids events)
 
 -- the round of an Issue
 abbrev pub issue_round : ℕ × Happened → Option ℕ
-issue_round (round, Issued _ _) = Some round
-issue_round (round, _) = None
+issue_round t = option_map (λ _. t.0) (issues t.1)
 
 -- the rounds of the Issues, in their order
 unfoldable pub rounds_of : List Happened → List ℕ
@@ -67,9 +61,7 @@ rounds_of events = filter_map issue_round (timed 0 events)
 
 -- the ids in the order of their Releases
 unfoldable pub released_ids : List Happened → List ℕ
-released_ids [] = []
-released_ids (Released id _ ∷ es) = id ∷ released_ids es
-released_ids (_ ∷ es) = released_ids es
+released_ids events = filter_map (λ e. option_map (λ p. p.0) (releases e)) events
 
 -- the list with the number put before the first that is not below it
 abbrev pub put_rising : ℕ → List ℕ → List ℕ

@@ -1,30 +1,36 @@
 -- The rules that an event has to obey after a list of events, one by one.
-use Rattle.std.specs.Prelude.{ℕ, ◌<◌, ◌≤◌, ◌+◌, ◌++◌, List, [], ◌∷◌, length, ⊤}
+use Rattle.std.specs.Prelude.{ℕ, ◌<◌, ◌≤◌, ◌+◌, ◌++◌, List, [], ◌∷◌, length, Option, option_map, IfSome}
+use Rattle.std.specs.Bool.{OnTrue}
+use Rattle.std.specs.Option.{MatchOption, option_or}
 use Rattle.blk_bio.specs.declared.request.Side.{Side}
 use Rattle.blk_bio.specs.Requests.{IsWithin, Fits}
-use Rattle.blk_trace.specs.Happened.{Happened, Ticked, Released, Joined, Issued, Finished}
+use Rattle.blk_trace.specs.declared.trace.TheConstants.{MAX_EVENTS}
+use Rattle.blk_trace.specs.Happened.{Happened}
+use Rattle.blk_trace.specs.Kinds.{releases, joins, issues, ends, is_tick, enters}
 use Rattle.blk_trace.specs.declared.rule.TraceRule.{TraceRule}
 use Rattle.blk_trace.specs.declared.rule.TraceRule.TheVariants.{ReleasedTwice, Unknown, AlreadyIssued, BioTwice, Fit, TagRange, TagUsed, NotIssued, InFlight, TooLong}
 use Rattle.blk_trace.specs.Setups.{Setup}
 use Rattle.blk_trace.specs.Events.{entered, request_of, IsReleased, IsIssued, IsOpen, IsUsed, open_count, AreOnce}
 
+-- the id of a request that has to wait: one that is joined or issued
+abbrev pub asks_for : Happened → Option ℕ
+asks_for e = option_or (option_map (λ p. p.0) (joins e)) (option_map (λ p. p.0) (issues e))
+
 -- the event, after these events, obeys the rule
 abbrev pub Obeys : Setup → List Happened → Happened → TraceRule → Type 0
-Obeys setup events (Released id bios) ReleasedTwice = IsReleased events id → ⊥
-Obeys setup events (Joined id bios) Unknown = IsReleased events id
-Obeys setup events (Issued id tag) Unknown = IsReleased events id
-Obeys setup events (Joined id bios) AlreadyIssued = IsIssued events id → ⊥
-Obeys setup events (Issued id tag) AlreadyIssued = IsIssued events id → ⊥
-Obeys setup events (Released id bios) BioTwice = AreOnce (entered events ++ bios)
-Obeys setup events (Joined id bios) BioTwice = AreOnce (entered events ++ bios)
-Obeys setup events (Released id bios) Fit = IsWithin setup.limits bios
-Obeys setup events (Joined id bios) Fit = (s : Side) × Fits setup.limits (request_of events id) bios s
-Obeys setup events (Issued id tag) TagRange = tag < setup.depth
-Obeys setup events (Issued id tag) TagUsed = IsUsed events tag → ⊥
-Obeys setup events (Finished tag) NotIssued = IsOpen events tag
-Obeys setup events Ticked InFlight = (tag : ℕ) → IsOpen events tag → ⊥
-Obeys setup events e TooLong = length (events ++ e ∷ []) + open_count (events ++ e ∷ []) ≤ 1000000
-Obeys setup events _ _ = ⊤
+Obeys setup events e ReleasedTwice = IfSome (releases e) (λ p. IsReleased events p.0 → ⊥)
+Obeys setup events e Unknown = IfSome (asks_for e) (λ id. IsReleased events id)
+Obeys setup events e AlreadyIssued = IfSome (asks_for e) (λ id. IsIssued events id → ⊥)
+Obeys setup events e BioTwice = IfSome (enters e) (λ p. AreOnce (entered events ++ p.1))
+Obeys setup events e Fit =
+    MatchOption (releases e)
+    (IfSome (joins e) (λ p. (s : Side) × Fits setup.limits (request_of events p.0) p.1 s))
+    (λ p. IsWithin setup.limits p.1)
+Obeys setup events e TagRange = IfSome (issues e) (λ p. p.1 < setup.depth)
+Obeys setup events e TagUsed = IfSome (issues e) (λ p. IsUsed events p.1 → ⊥)
+Obeys setup events e NotIssued = IfSome (ends e) (λ tag. IsOpen events tag)
+Obeys setup events e InFlight = OnTrue (is_tick e) ((tag : ℕ) → IsOpen events tag → ⊥)
+Obeys setup events e TooLong = length (events ++ e ∷ []) + open_count (events ++ e ∷ []) ≤ MAX_EVENTS
 
 -- the order in which the rules are looked for
 abbrev pub rank : TraceRule → ℕ

@@ -1,14 +1,17 @@
 -- What the events so far leave for the next one: which requests wait, and which tags of the round are taken.
 use Rattle.std.specs.Prelude.{ℕ, ◌≡◌, ◌<◌, ◌==◌, ◌++◌, ◌&&◌, Bool, true, false, not, cond, List, [], ◌∷◌, Option, Some, None, length, count_by, option_map}
+use Rattle.std.specs.Bool.{OnTrue}
+use Rattle.std.specs.Option.{MatchOption, option_map_or, option_and_then}
 use Rattle.std.specs.List.{filter_map, list_any}
 use Rattle.blk_bio.specs.Bios.{Bio}
 use Rattle.blk_bio.specs.declared.bio.Dir.{Dir}
 use Rattle.blk_bio.specs.declared.bio.Dir.TheVariants.{Read, Write}
 use Rattle.blk_bio.specs.declared.request.Side.{Side}
 use Rattle.blk_bio.specs.Requests.{dir_of, IsWithin, Fits}
-use Rattle.blk_trace.specs.Happened.{Happened, Ticked, Released, Joined, Issued, Finished}
+use Rattle.blk_trace.specs.Happened.{Happened}
+use Rattle.blk_trace.specs.Kinds.{releases, joins, issues, ends, is_tick}
 use Rattle.blk_trace.specs.Setups.{Setup}
-use Rattle.blk_trace.specs.Events.{is_tick, request_of, entered, AreOnce, IsReleased}
+use Rattle.blk_trace.specs.Events.{request_of, entered, AreOnce, IsReleased}
 use Rattle.blk_trace.specs.Meaning.{release_of, due_of, released_ids, issued_ids, waiting_ids}
 
 -- a request that waits, as it was joined
@@ -47,13 +50,11 @@ this_round events = after_last_tick [] events
 
 -- the id that an event issues under the tag, if it does
 abbrev pub issued_by : ℕ → Happened → Option ℕ
-issued_by tag (Issued id t) = cond (t == tag) (Some id) None
-issued_by tag _ = None
+issued_by tag e = option_and_then (λ p. cond (p.1 == tag) (Some p.0) None) (issues e)
 
--- whether it is a Done of the tag
+-- whether it ends the Issue of the tag
 abbrev pub is_done_of : ℕ → Happened → Bool
-is_done_of tag (Finished t) = t == tag
-is_done_of tag _ = false
+is_done_of tag e = option_map_or (λ t. t == tag) (ends e) false
 
 -- a tag of the round: the direction of its command, and whether the command is in flight
 pub record Seat : Type 0 where
@@ -84,29 +85,48 @@ is_flying dir (Some seat) = same_dir dir seat.dir && seat.in_flight
 
 -- the tag of an event that issues
 abbrev pub issue_tag : Happened → Option ℕ
-issue_tag (Issued _ tag) = Some tag
-issue_tag _ = None
+issue_tag e = option_map (λ p. p.1) (issues e)
 
 -- how many commands of the direction are in flight
 unfoldable pub open_of : List Happened → Dir → ℕ
 open_of events dir = count_by (λ tag. is_flying dir (seat_at events tag)) (filter_map issue_tag (this_round events))
 
+-- a Tick is allowed where no command is in flight
+abbrev pub MayTick : List Happened → Type 0
+MayTick events = (open_of events Read ≡ 0) × (open_of events Write ≡ 0)
+
+-- a request may enter under an id that no request was released under, within the limits and with new bios
+abbrev pub MayRelease : Setup → List Happened → ℕ → List Bio → Type 0
+MayRelease setup events id bios =
+    (IsReleased events id → ⊥) × IsWithin setup.limits bios × AreOnce (entered events ++ bios)
+
+-- new bios may join the request that waits under the id, where they fit it
+abbrev pub MayJoin : Setup → List Happened → ℕ → List Bio → Type 0
+MayJoin setup events id bios =
+    (w : Entered) × (side : Side) × (waits_at setup events id ≡ Some w) × Fits setup.limits w.bios bios side × AreOnce (entered events ++ bios)
+
+-- a request that waits may be issued under a tag below the depth that is free in the round
+abbrev pub MayIssue : Setup → List Happened → ℕ → ℕ → Type 0
+MayIssue setup events id tag =
+    (w : Entered) × (waits_at setup events id ≡ Some w) × (tag < setup.depth) × (seat_at events tag ≡ None)
+
+-- an Issue may end whose command is in flight
+abbrev pub MayEnd : List Happened → ℕ → Type 0
+MayEnd events tag = (dir : Dir) × (seat_at events tag ≡ Some (record { dir = dir; in_flight = true }))
+
 -- what may happen next, apart from the number of events
 abbrev pub IsAllowed : Setup → List Happened → Happened → Type 0
-IsAllowed setup events Ticked = (open_of events Read ≡ 0) × (open_of events Write ≡ 0)
-IsAllowed setup events (Released id bios) =
-    (IsReleased events id → ⊥) × IsWithin setup.limits bios × AreOnce (entered events ++ bios)
-IsAllowed setup events (Joined id bios) =
-    (w : Entered) × (side : Side) × (waits_at setup events id ≡ Some w) × Fits setup.limits w.bios bios side × AreOnce (entered events ++ bios)
-IsAllowed setup events (Issued id tag) =
-    (w : Entered) × (waits_at setup events id ≡ Some w) × (tag < setup.depth) × (seat_at events tag ≡ None)
-IsAllowed setup events (Finished tag) =
-    (dir : Dir) × (seat_at events tag ≡ Some (record { dir = dir; in_flight = true }))
+IsAllowed setup events e =
+    MatchOption (releases e)
+    (MatchOption (joins e)
+    (MatchOption (issues e)
+    (MatchOption (ends e)
+    (OnTrue (is_tick e) (MayTick events))
+    (λ tag. MayEnd events tag))
+    (λ p. MayIssue setup events p.0 p.1))
+    (λ p. MayJoin setup events p.0 p.1))
+    (λ p. MayRelease setup events p.0 p.1)
 
--- how many places an event asks for: an Issue reserves that of its Done, which asks for none
+-- how many places an event asks for: an Issue reserves that of the event that ends it, which asks for none
 abbrev pub places_of : Happened → ℕ
-places_of Ticked = 1
-places_of (Released _ _) = 1
-places_of (Joined _ _) = 1
-places_of (Issued _ _) = 2
-places_of (Finished _) = 0
+places_of e = option_map_or (λ _. 2) (issues e) (option_map_or (λ _. 0) (ends e) 1)

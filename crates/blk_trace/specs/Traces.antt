@@ -1,8 +1,10 @@
 -- What contracts see of a trace, and what its calls answer.
 use Rattle.std.specs.Prelude.{ℕ, ◌≡◌, ◌++◌, List, [], ◌∷◌, Option, Some, None, length, take, slice_get, Result, Ok, Err, ⊤}
+use Rattle.std.specs.Option.{option_map_or}
 use Rattle.blk_bio.specs.Bios.{Bio}
 use Rattle.blk_bio.specs.declared.bio.BioId.{BioId}
-use Rattle.blk_trace.specs.Happened.{Happened, Ticked, Released, Joined, Issued, Finished}
+use Rattle.blk_trace.specs.Happened.{Happened}
+use Rattle.blk_trace.specs.Kinds.{enters, ends}
 use Rattle.blk_trace.specs.declared.rule.PushFault.{PushFault}
 use Rattle.blk_trace.specs.declared.rule.PushFault.TheVariants as push_fault
 use Rattle.blk_trace.specs.declared.rule.TraceFault.{TraceFault}
@@ -20,14 +22,20 @@ pub record Traced : Type 0 where
   pub events : List Happened
   pub prepared : Prepared
 
+-- what has to be prepared for the event: nothing for what ends an Issue, and as many bios as enter
+abbrev pub needs : Happened → Prepared
+needs e = option_map_or (λ _. Nothing) (ends e) (option_map_or (λ p. Bios (length p.1)) (enters e) AnIssue)
+
+-- what was prepared serves for what is needed
+abbrev pub Serves : Prepared → Prepared → Type 0
+Serves _ Nothing = ⊤
+Serves AnIssue AnIssue = ⊤
+Serves (Bios n) (Bios m) = m ≡ n
+Serves _ _ = ⊥
+
 -- room for the event was made: always for a Done, else for an Issue (and then for a Tick too) or for as many bios
 abbrev pub IsPreparedFor : Prepared → Happened → Type 0
-IsPreparedFor p (Finished _) = ⊤
-IsPreparedFor AnIssue (Issued _ _) = ⊤
-IsPreparedFor AnIssue Ticked = ⊤
-IsPreparedFor (Bios n) (Released _ bios) = length bios ≡ n
-IsPreparedFor (Bios n) (Joined _ bios) = length bios ≡ n
-IsPreparedFor _ _ = ⊥
+IsPreparedFor p e = Serves p (needs e)
 
 -- what is asked of `prepare`
 abbrev pub wanted : Option (List Bio) → Prepared

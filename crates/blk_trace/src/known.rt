@@ -5,7 +5,7 @@ ghost use Rattle.blk_bio.specs.declared.request.Side.{Side};
 ghost use Rattle.blk_bio.specs.Requests.{Fits};
 ghost use Rattle.blk_trace.specs.Events.{join_up};
 ghost use Rattle.blk_trace.specs.Standing.{Entered};
-ghost use Rattle.blk_trace.specs.Kept.{summary};
+ghost use Rattle.blk_trace.specs.Inside.Kept.{summary};
 
 use blk_bio::bio::Dir;
 use blk_bio::limits::Limits;
@@ -16,12 +16,19 @@ use std::alloc::Allocator;
 /// its release and due.
 #[derive(Clone, Copy, Debug, PartialEq, Eq)]
 pub struct Waiting {
+    /// The way that its data goes.
     pub dir: Dir,
+    /// Its first sector.
     pub first: u64,
+    /// The sector after its last one.
     pub end: u64,
+    /// How many sectors it has.
     pub sectors: u64,
+    /// How many bios it has.
     pub bios: u64,
+    /// The last round in which bios entered under its id.
     pub release: u64,
+    /// The first round in which one of its bios is due.
     pub due: u64,
 }
 

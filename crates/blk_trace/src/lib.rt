@@ -8,3 +8,8 @@ pub mod rule;
 pub mod setup;
 mod tags;
 pub mod trace;
+
+pub use event::Event;
+pub use rule::{PushFault, TraceFault, TraceRule};
+pub use setup::{EXPIRE_LIMIT, MAX_DEPTH, MAX_QUEUES, Setup, SetupFault};
+pub use trace::{MAX_EVENTS, Prepared, Trace};

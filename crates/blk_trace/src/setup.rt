@@ -1,6 +1,6 @@
 //! What a trace is made for.
 
-ghost use Rattle.std.specs.Prelude.{◌≡◌, ◌<◌, ◌^◌};
+ghost use Rattle.std.specs.Prelude.{◌≡◌, ◌<◌};
 ghost use Rattle.blk_trace.specs.Setups.{IsSetup, IsSetupAnswer, expire_of};
 
 use blk_bio::bio::Dir;
@@ -11,7 +11,7 @@ use thiserror::Error;
 /// The most tags.
 pub const MAX_DEPTH: u64 = 64;
 
-/// The most hardware queues.
+/// The most hardware queues: they are numbered from 0 on.
 pub const MAX_QUEUES: u8 = 16;
 
 /// Every expiry lies below this number of rounds.
@@ -20,13 +20,13 @@ pub const EXPIRE_LIMIT: u64 = 1 << 40;
 /// Why a setup is not made, in the order in which the reasons are looked for.
 #[derive(Clone, Copy, Debug, PartialEq, Eq, Error)]
 pub enum SetupFault {
-    /// The depth is 0 or above 64.
+    /// The depth is 0 or above `MAX_DEPTH`.
     #[error("Depth")]
     Depth,
-    /// The number of hardware queues is 0 or above 16.
+    /// The number of hardware queues is 0 or above `MAX_QUEUES`.
     #[error("Queues")]
     Queues,
-    /// An expiry is 2^40 or more.
+    /// An expiry is not below `EXPIRE_LIMIT`.
     #[error("Expire")]
     Expire,
 }
@@ -35,10 +35,15 @@ pub enum SetupFault {
 /// and how large a request of several bios may be.
 #[derive(Clone, Copy, Debug, PartialEq, Eq)]
 pub struct Setup {
+    /// The number of tags.
     depth: u64,
+    /// The number of hardware queues.
     hw: u8,
+    /// After how many rounds a read is due.
     read_expire: u64,
+    /// After how many rounds a write is due.
     write_expire: u64,
+    /// The limits of a request of several bios.
     limits: Limits,
 }
 
@@ -125,9 +130,9 @@ impl Setup {
     }
 
     /// After how many rounds a bio of the direction is due.
-    pub(crate) fn expire(&self, dir: Dir) -> u64
+    pub fn expire(&self, dir: Dir) -> u64
         ensures value { result ≡ expire_of self.now dir }
-        ensures small { result < 2 ^ 40 }
+        ensures small { result < EXPIRE_LIMIT }
     {
         match dir {
             Dir::Read => self.read_expire,

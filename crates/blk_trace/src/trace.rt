@@ -47,15 +47,25 @@ pub enum Prepared {
 /// A legal list of events.
 #[derive(Drop)]
 pub struct Trace<A: Allocator = Global> {
+    /// What it is made for.
     setup: Setup,
+    /// The events, with places for the ends of the open Issues.
     events: Vec<Event<A>, A>,
+    /// The command of each Issue.
     commands: Vec<Command, A>,
+    /// The round of each Issue.
     rounds: Vec<u64, A>,
+    /// What is kept of each request that was released.
     known: HashMap<u64, Known, Hashing, A>,
+    /// The ids of the bios that entered.
     ids: HashSet<BioId, Hashing, A>,
+    /// How each tag stands in the round that is on.
     tags: Vec<TagUse, A>,
+    /// The round that is on.
     round: u64,
+    /// How many Issues are open.
     open: u64,
+    /// What the next event was given room for.
     prepared: Prepared,
 }
 
@@ -65,7 +75,7 @@ impl<A: Allocator> Model for Trace<A> {
     ghost use Rattle.std.specs.HashSet as hash_set;
     ghost use Rattle.blk_trace.specs.Seen.{happened};
     ghost use Rattle.blk_trace.specs.Traces.{Traced};
-    ghost use Rattle.blk_trace.specs.Kept.{IsKept, HasRoom, is_bio};
+    ghost use Rattle.blk_trace.specs.Inside.Kept.{IsKept, HasRoom, is_bio};
 
     ghost Value = { Traced };
 
@@ -111,7 +121,7 @@ impl<A: Allocator + Clone> Trace<A> {
         ensures err { IfErr result (λ e. (e.0 ≡ event) × (self.new ≡ self.old)) }
         ensures accepts { IsUnbroken self.old.setup self.old.events (happened event) → IfErr result (λ e. e.1 ≡ PushFault.Memory) }
         ensures accepts_legal { IsLegalTrace self.old.setup (self.old.events ++ happened event ∷ []) → IfErr result (λ e. e.1 ≡ PushFault.Memory) }
-        ensures allowed { IsAllowed self.old.setup self.old.events (happened event) → length self.old.events + open_count self.old.events + places_of (happened event) ≤ 1000000 → IfErr result (λ e. e.1 ≡ PushFault.Memory) }
+        ensures allowed { IsAllowed self.old.setup self.old.events (happened event) → length self.old.events + open_count self.old.events + places_of (happened event) ≤ MAX_EVENTS → IfErr result (λ e. e.1 ≡ PushFault.Memory) }
         ensures prepared { IfErr result (λ e. e.1 ≡ PushFault.Memory → IsPreparedFor self.old.prepared (happened event) → ⊥) }
     {
         if let Some(rule) = self.first_broken(&event) {
@@ -221,7 +231,7 @@ impl<A: Allocator + Clone> Trace<A> {
     /// How many events there are.
     pub fn len(&self) -> u64
         ensures value { result ≡ length self.now.events }
-        ensures few { result ≤ 1000000 }
+        ensures few { result ≤ MAX_EVENTS }
     {
         self.events.len() as u64
     }
@@ -229,7 +239,7 @@ impl<A: Allocator + Clone> Trace<A> {
     /// The round that is on: how many Ticks there are.
     pub fn round(&self) -> u64
         ensures value { result ≡ round_of self.now.events }
-        ensures few { result ≤ 1000000 }
+        ensures few { result ≤ MAX_EVENTS }
     {
         self.round
     }
@@ -237,7 +247,7 @@ impl<A: Allocator + Clone> Trace<A> {
     /// How many Issues have no Done yet.
     pub fn unfinished(&self) -> u64
         ensures value { result ≡ open_count self.now.events }
-        ensures few { result + length self.now.events ≤ 1000000 }
+        ensures few { result + length self.now.events ≤ MAX_EVENTS }
     {
         self.open
     }

@@ -6,11 +6,12 @@ ghost use Rattle.std.specs.HashSet as hash_set;
 ghost use Rattle.blk_trace.specs.declared.known.Waiting.{Waiting as KeptWaiting};
 ghost use Rattle.blk_bio.specs.declared.bio.BioId.{BioId as Name};
 ghost use Rattle.blk_trace.specs.Happened.{Ticked, Released, Joined, Issued, Finished};
+ghost use Rattle.blk_trace.specs.Legal.{IsLegalTrace};
 ghost use Rattle.blk_trace.specs.Rules.{IsUnbroken};
 ghost use Rattle.blk_trace.specs.Traces.{IsPreparedFor};
 ghost use Rattle.blk_trace.specs.Seen.{happened};
 ghost use Rattle.blk_trace.specs.Events.{IsReleased, IsIssued};
-ghost use Rattle.blk_trace.specs.Kept.{known_of, is_bio, has_bio_id};
+ghost use Rattle.blk_trace.specs.Inside.Kept.{known_of, is_bio, has_bio_id};
 
 use crate::event::Event;
 use crate::known::{Known, Waiting};
@@ -23,13 +24,16 @@ use std::alloc::Allocator;
 use std::collections::{HashMap, HashSet};
 
 impl<A: Allocator + Clone> Trace<A> {
-    /// Adds an event that breaks no rule, and for which there is room.
+    /// Adds an event that breaks no rule, and for which there is room: `prepare` made it, or it is a Done, for which its
+    /// Issue did. It looks for no fault and takes no memory.
     #[inline(always)]
-    pub(crate) fn add(&mut self, event: Event<A>)
+    pub fn add(&mut self, event: Event<A>)
         requires unbroken { IsUnbroken self.old.setup self.old.events (happened event) }
         requires prepared { IsPreparedFor self.old.prepared (happened event) }
-        ensures { self.new ≡ record { setup = self.old.setup; events = self.old.events ++ happened event ∷ []; prepared = Prepared.Nothing } }
+        ensures added { self.new ≡ record { setup = self.old.setup; events = self.old.events ++ happened event ∷ []; prepared = Prepared.Nothing } }
+        ensures legal { IsLegalTrace self.old.setup (self.old.events ++ happened event ∷ []) }
     {
+        let _ = &self.round;
         match event {
             Event::Tick => self.add_tick(),
             Event::Release { id, request } => self.add_release(id, request),
@@ -39,6 +43,7 @@ impl<A: Allocator + Clone> Trace<A> {
         }
     }
 
+    /// Adds a Tick: every tag is free in the round that begins.
     fn add_tick(&mut self)
         requires unbroken { IsUnbroken self.old.setup self.old.events Ticked }
         requires prepared { IsPreparedFor self.old.prepared Ticked }
@@ -50,6 +55,7 @@ impl<A: Allocator + Clone> Trace<A> {
         self.prepared = Prepared::Nothing;
     }
 
+    /// Adds a Release: the request waits under its id.
     fn add_release(&mut self, id: u64, request: Request<A>)
         requires unbroken { IsUnbroken self.old.setup self.old.events (Released id request) }
         requires prepared { IsPreparedFor self.old.prepared (Released id request) }
@@ -78,6 +84,7 @@ impl<A: Allocator + Clone> Trace<A> {
         }
     }
 
+    /// Adds a Join: the request that waits under the id has these bios too.
     fn add_join(&mut self, id: u64, request: Request<A>)
         requires unbroken { IsUnbroken self.old.setup self.old.events (Joined id request) }
         requires prepared { IsPreparedFor self.old.prepared (Joined id request) }
@@ -95,6 +102,7 @@ impl<A: Allocator + Clone> Trace<A> {
         self.prepared = Prepared::Nothing;
     }
 
+    /// Adds an Issue: the request waits no more, and its command, of this round, is the last one.
     fn add_issue(&mut self, id: u64, tag: u16)
         requires unbroken { IsUnbroken self.old.setup self.old.events (Issued id tag) }
         requires prepared { IsPreparedFor self.old.prepared (Issued id tag) }
@@ -114,6 +122,7 @@ impl<A: Allocator + Clone> Trace<A> {
         self.prepared = Prepared::Nothing;
     }
 
+    /// Adds a Done: the tag's Issue is no longer open.
     fn add_done(&mut self, tag: u16)
         requires unbroken { IsUnbroken self.old.setup self.old.events (Finished tag) }
         ensures { self.new ≡ record { setup = self.old.setup; events = self.old.events ++ Finished tag ∷ []; prepared = Prepared.Nothing } }

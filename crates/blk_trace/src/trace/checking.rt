@@ -8,7 +8,7 @@ ghost use Rattle.blk_trace.specs.Events.{entered, open_count, IsOpen, IsUsed, Ar
 ghost use Rattle.blk_trace.specs.Standing.{Entered, waits_at};
 ghost use Rattle.std.specs.List.{list_any};
 ghost use Rattle.std.specs.HashSet as hash_set;
-ghost use Rattle.blk_trace.specs.Kept.{known_of, IsTagUse, is_bio, has_bio_id};
+ghost use Rattle.blk_trace.specs.Inside.Kept.{known_of, IsTagUse, is_bio, has_bio_id};
 ghost use Rattle.blk_trace.specs.Seen.{happened};
 
 use crate::event::Event;
@@ -39,6 +39,7 @@ impl<A: Allocator + Clone> Trace<A> {
         }
     }
 
+    /// The first rule that a Tick would break.
     fn broken_tick(&self) -> Option<TraceRule>
         ensures some { IfSome result (IsFirstBroken self.now.setup self.now.events Ticked) }
         ensures none { IfNone result (IsUnbroken self.now.setup self.now.events Ticked) }
@@ -52,6 +53,7 @@ impl<A: Allocator + Clone> Trace<A> {
         }
     }
 
+    /// The first rule that a Release of the request under the id would break.
     fn broken_release(&self, id: u64, request: &Request<A>) -> Option<TraceRule>
         ensures some { IfSome result (IsFirstBroken self.now.setup self.now.events (Released id request.now)) }
         ensures none { IfNone result (IsUnbroken self.now.setup self.now.events (Released id request.now)) }
@@ -69,6 +71,7 @@ impl<A: Allocator + Clone> Trace<A> {
         }
     }
 
+    /// The first rule that a Join of the request under the id would break.
     fn broken_join(&self, id: u64, request: &Request<A>) -> Option<TraceRule>
         ensures some { IfSome result (IsFirstBroken self.now.setup self.now.events (Joined id request.now)) }
         ensures none { IfNone result (IsUnbroken self.now.setup self.now.events (Joined id request.now)) }
@@ -89,6 +92,7 @@ impl<A: Allocator + Clone> Trace<A> {
         }
     }
 
+    /// The first rule that an Issue of the id under the tag would break.
     fn broken_issue(&self, id: u64, tag: u16) -> Option<TraceRule>
         ensures some { IfSome result (IsFirstBroken self.now.setup self.now.events (Issued id tag)) }
         ensures none { IfNone result (IsUnbroken self.now.setup self.now.events (Issued id tag)) }
@@ -109,6 +113,7 @@ impl<A: Allocator + Clone> Trace<A> {
         }
     }
 
+    /// The first rule that a Done of the tag would break. It takes the place that its Issue reserved, so there is one.
     fn broken_done(&self, tag: u16) -> Option<TraceRule>
         ensures some { IfSome result (IsFirstBroken self.now.setup self.now.events (Finished tag)) }
         ensures none { IfNone result (IsUnbroken self.now.setup self.now.events (Finished tag)) }
@@ -182,7 +187,7 @@ impl<A: Allocator + Clone> Trace<A> {
     /// Whether there are places for so many events more, with a Done counted for each open Issue.
     fn has_places(&self, places: u64) -> bool
         requires { places ≤ 2 }
-        ensures { IsTrue result ↔ (length self.now.events + open_count self.now.events + places ≤ 1000000) }
+        ensures { IsTrue result ↔ (length self.now.events + open_count self.now.events + places ≤ MAX_EVENTS) }
     {
         self.events.len() as u64 + self.open + places <= MAX_EVENTS
     }

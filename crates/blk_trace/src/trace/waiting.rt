@@ -6,7 +6,7 @@ ghost use Rattle.std.specs.List.{flat_map};
 ghost use Rattle.std.specs.Ordering.{nat_cmp};
 ghost use Rattle.std.specs.BTreeMap.{get, values, IsOrdered};
 ghost use Rattle.blk_trace.specs.Events.{join_up};
-ghost use Rattle.blk_trace.specs.Gathered.{waiting_bios, with_event, Takes, FitsUnder};
+ghost use Rattle.blk_trace.specs.Inside.Gathered.{waiting_bios, with_event, Takes, FitsUnder};
 ghost use Rattle.blk_trace.specs.Laws.{IsAccounted};
 ghost use Rattle.blk_trace.specs.Legal.{IsLegalTrace};
 ghost use Rattle.blk_trace.specs.Meaning.{waiting_of};

@@ -10,7 +10,7 @@ use Rattle.blk_trace.specs.declared.rule.TraceRule.TheVariants as rule
 use Rattle.blk_trace.specs.Happened.{Happened, Issued}
 use Rattle.blk_trace.specs.Rules.{IsUnbroken}
 use Rattle.blk_trace.specs.Traces.{Traced, IsPreparedFor}
-use Rattle.blk_trace.specs.Kept.{known_of}
+use Rattle.blk_trace.specs.Inside.Kept.{known_of}
 use Rattle.blk_trace.specs.Seen.{happened}
 use Rattle.blk_trace.proofs.Knowing.{known_when, known_waits}
 use Rattle.blk_trace.proofs.Keeping.{kept_issue, room_after_issue}

@@ -13,7 +13,7 @@ use Rattle.blk_trace.specs.Happened.{Happened, Joined}
 use Rattle.blk_trace.specs.Events.{request_of}
 use Rattle.blk_trace.specs.Rules.{IsUnbroken}
 use Rattle.blk_trace.specs.Traces.{Traced, IsPreparedFor}
-use Rattle.blk_trace.specs.Kept.{known_of, is_bio, has_bio_id}
+use Rattle.blk_trace.specs.Inside.Kept.{known_of, is_bio, has_bio_id}
 use Rattle.blk_trace.specs.Seen.{happened}
 use Rattle.blk_trace.proofs.Joining.{fits_to}
 use Rattle.blk_trace.proofs.Knowing.{known_waits, waiting_is}

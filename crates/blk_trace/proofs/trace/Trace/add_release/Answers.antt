@@ -11,7 +11,7 @@ use Rattle.blk_trace.specs.Happened.{Happened, Released}
 use Rattle.blk_trace.specs.Setups.{expire_of}
 use Rattle.blk_trace.specs.Rules.{IsUnbroken}
 use Rattle.blk_trace.specs.Traces.{Traced, IsPreparedFor}
-use Rattle.blk_trace.specs.Kept.{summary, is_bio, has_bio_id}
+use Rattle.blk_trace.specs.Inside.Kept.{summary, is_bio, has_bio_id}
 use Rattle.blk_trace.specs.Seen.{happened}
 use Rattle.blk_trace.proofs.More.{rounds_within}
 use Rattle.blk_trace.proofs.Keeping.{kept_release, room_after_entry, entry_room, on_ok}

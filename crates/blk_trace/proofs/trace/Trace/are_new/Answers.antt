@@ -5,7 +5,7 @@ use Rattle.blk_bio.specs.Bios.{Bio}
 use Rattle.blk_trace.specs.Seen.{happened}
 use Rattle.blk_trace.specs.Traces.{Traced}
 use Rattle.blk_trace.specs.Events.{entered, AreOnce}
-use Rattle.blk_trace.specs.Kept.{is_bio}
+use Rattle.blk_trace.specs.Inside.Kept.{is_bio}
 use Rattle.blk_trace.proofs.Newness.{new_bios, not_apart}
 use Rattle.blk_trace.proofs.trace.Trace.are_new.Goals as goal
 

@@ -1,6 +1,7 @@
-use Rattle.std.proofs.Common.{arith}
+use Rattle.std.proofs.Common.{refl, arith}
 use Rattle.blk_trace.proofs.Asked.{holds, fails}
-use Rattle.blk_trace.proofs.Room.{room_done}
+use Rattle.blk_trace.specs.Happened.{Finished}
+use Rattle.blk_trace.proofs.Room.{room_end}
 use Rattle.blk_trace.proofs.First.{done_not_issued, done_unbroken}
 use Rattle.blk_trace.proofs.trace.Trace.broken_done.Goals as goal
 
@@ -10,7 +11,7 @@ returns-then-tag-depth-clause-some g c =
 
 pub returns-then-is_open-clause-none : goal.returns-then-is_open-clause-none
 returns-then-is_open-clause-none g c =
-    let o = holds c.is_open.result c.if-is_open.true c.is_open.ensures in done_unbroken c.args.self.now.setup c.args.self.now.events c.args.tag o (room_done c.args.self.now.setup c.args.self.now.events c.args.tag c.depth.ensures.legal o)
+    let o = holds c.is_open.result c.if-is_open.true c.is_open.ensures in done_unbroken c.args.self.now.setup c.args.self.now.events c.args.tag o (room_end c.args.self.now.setup c.args.self.now.events (Finished c.args.tag) c.args.tag refl c.depth.ensures.legal o)
 
 pub returns-else-is_open-clause-some : goal.returns-else-is_open-clause-some
 returns-else-is_open-clause-some g c =

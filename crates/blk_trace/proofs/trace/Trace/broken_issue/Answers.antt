@@ -1,6 +1,6 @@
 use Rattle.std.proofs.Common.{◌≡◌, ◌∙◌, Some, ap, sym, arith}
 use Rattle.blk_trace.specs.declared.known.Known.TheVariants.{Waits, Gone}
-use Rattle.blk_trace.specs.Kept.{known_of}
+use Rattle.blk_trace.specs.Inside.Kept.{known_of}
 use Rattle.blk_trace.proofs.Asked.{holds, fails}
 use Rattle.blk_trace.proofs.Ids.{released_first}
 use Rattle.blk_trace.proofs.Knowing.{known_none, known_gone, known_waits, waiting_is}

@@ -1,10 +1,11 @@
-use Rattle.std.proofs.Common.{◌≡◌, ◌<◌, ◌∙◌, Some, ap, sym}
+use Rattle.std.proofs.Common.{refl, ◌≡◌, ◌<◌, ◌∙◌, Some, ap, sym}
 use Rattle.blk_trace.specs.declared.known.Known.TheVariants.{Waits, Gone}
-use Rattle.blk_trace.specs.Kept.{known_of}
+use Rattle.blk_trace.specs.Inside.Kept.{known_of}
 use Rattle.blk_trace.proofs.Asked.{holds, fails}
 use Rattle.blk_trace.proofs.Ids.{released_first}
 use Rattle.blk_trace.proofs.Knowing.{known_none, known_gone, known_waits, waiting_is}
-use Rattle.blk_trace.proofs.Room.{room_join, full_join}
+use Rattle.blk_trace.specs.Happened.{Joined}
+use Rattle.blk_trace.proofs.Room.{room_kept, full_kept}
 use Rattle.blk_trace.proofs.First.{join_unknown, join_already_issued, join_bio_twice, join_fit, join_too_long, join_unbroken}
 use Rattle.std.specs.Prelude.{not}
 use Rattle.blk_bio.specs.declared.request.Side.{Side}
@@ -13,7 +14,7 @@ use Rattle.std.proofs.Common.{length}
 use Rattle.blk_trace.specs.declared.known.Waiting.{Waiting}
 use Rattle.blk_trace.specs.Setups.{Setup}
 use Rattle.blk_trace.specs.Standing.{Entered}
-use Rattle.blk_trace.specs.Kept.{summary}
+use Rattle.blk_trace.specs.Inside.Kept.{summary}
 use Rattle.blk_trace.proofs.Joining.{fits_to}
 use Rattle.blk_trace.specs.Events.{request_of, join_up}
 use Rattle.blk_trace.proofs.Asked.{some_found, none_found}
@@ -57,7 +58,7 @@ returns-then-not-has_places-clause-some g c =
     let Q : Waiting → Type 0 = λ new. (w : Entered) → c.in-Some-Waits.waiting ≡ summary w → 0 < length w.bios → ((x : Side) × Fits c.limits.result w.bios c.args.request.now x) × (new ≡ summary record { release = 0; due = w.due; bios = join_up w.bios c.args.request.now }) in
     let f = some_found c.joined.result Q (c.is_none.ensures ∙ ap not c.if-is_none.false) c.joined.ensures.some in
     let fit = fits_to c.limits.result c.args.self.now.setup.limits p.0.bios (request_of c.args.self.now.events c.args.id) c.args.request.now lim (sym i.bios) (f.1.1 p.0 p.2 some).0 in
-    join_too_long c.args.self.now.setup c.args.self.now.events c.args.id c.args.request.now i.released i.not_issued (holds c.are_new.result c.if-not-are_new.false c.are_new.ensures) fit (full_join c.args.self.now.setup c.args.self.now.events c.args.id c.args.request.now (fails c.has_places.result c.if-not-has_places.true c.has_places.ensures))
+    join_too_long c.args.self.now.setup c.args.self.now.events c.args.id c.args.request.now i.released i.not_issued (holds c.are_new.result c.if-not-are_new.false c.are_new.ensures) fit (full_kept c.args.self.now.setup c.args.self.now.events (Joined c.args.id c.args.request.now) refl refl (fails c.has_places.result c.if-not-has_places.true c.has_places.ensures))
 
 pub returns-else-not-has_places-clause-none : goal.returns-else-not-has_places-clause-none
 returns-else-not-has_places-clause-none g c =
@@ -69,4 +70,4 @@ returns-else-not-has_places-clause-none g c =
     let Q : Waiting → Type 0 = λ new. (w : Entered) → c.in-Some-Waits.waiting ≡ summary w → 0 < length w.bios → ((x : Side) × Fits c.limits.result w.bios c.args.request.now x) × (new ≡ summary record { release = 0; due = w.due; bios = join_up w.bios c.args.request.now }) in
     let f = some_found c.joined.result Q (c.is_none.ensures ∙ ap not c.if-is_none.false) c.joined.ensures.some in
     let fit = fits_to c.limits.result c.args.self.now.setup.limits p.0.bios (request_of c.args.self.now.events c.args.id) c.args.request.now lim (sym i.bios) (f.1.1 p.0 p.2 some).0 in
-    join_unbroken c.args.self.now.setup c.args.self.now.events c.args.id c.args.request.now i.released i.not_issued (holds c.are_new.result c.if-not-are_new.false c.are_new.ensures) fit (room_join c.args.self.now.setup c.args.self.now.events c.args.id c.args.request.now (holds c.has_places.result c.if-not-has_places.false c.has_places.ensures))
+    join_unbroken c.args.self.now.setup c.args.self.now.events c.args.id c.args.request.now i.released i.not_issued (holds c.are_new.result c.if-not-are_new.false c.are_new.ensures) fit (room_kept c.args.self.now.setup c.args.self.now.events (Joined c.args.id c.args.request.now) refl refl (holds c.has_places.result c.if-not-has_places.false c.has_places.ensures))

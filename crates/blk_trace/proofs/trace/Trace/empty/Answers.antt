@@ -5,7 +5,7 @@ use Rattle.std.specs.Map.{lookup}
 use Rattle.std.specs.HashMap as hash
 use Rattle.std.specs.HashSet as hash_set
 use Rattle.blk_trace.specs.declared.tags.TagUse.TheVariants.{Free}
-use Rattle.blk_trace.specs.Kept.{is_bio}
+use Rattle.blk_trace.specs.Inside.Kept.{is_bio}
 use Rattle.blk_bio.specs.declared.bio.BioId.{BioId}
 use Rattle.blk_trace.specs.declared.known.Known.{Known}
 use Rattle.blk_trace.specs.Seen.{happened}

@@ -1,7 +1,7 @@
 use Rattle.std.proofs.Common.{refl, subst}
 use Rattle.blk_trace.specs.declared.tags.TagUse.{TagUse}
 use Rattle.blk_trace.specs.declared.tags.TagUse.TheVariants.{Free, Open, Ended}
-use Rattle.blk_trace.specs.Kept.{IsTagUse}
+use Rattle.blk_trace.specs.Inside.Kept.{IsTagUse}
 use Rattle.blk_trace.proofs.trace.Trace.is_used.Goals as goal
 
 pub returns-in-Free : goal.returns-in-Free

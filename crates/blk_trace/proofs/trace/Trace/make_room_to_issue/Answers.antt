@@ -2,7 +2,7 @@ use Rattle.std.proofs.Common.{map, ap, arith, refl}
 use Rattle.std.specs.Prelude.{nat_eq}
 use Rattle.std.specs.HashMap as hash
 use Rattle.std.specs.HashSet as hash_set
-use Rattle.blk_trace.specs.Kept.{is_bio}
+use Rattle.blk_trace.specs.Inside.Kept.{is_bio}
 use Rattle.blk_trace.specs.Seen.{happened}
 use Rattle.blk_trace.proofs.Keeping.{kept_same}
 use Rattle.blk_trace.proofs.trace.Trace.make_room_to_issue.Goals as goal

@@ -1,6 +1,6 @@
 use Rattle.std.proofs.Common.{◌≡◌, ◌∙◌, Some, ap, sym}
 use Rattle.blk_trace.specs.declared.known.Known.TheVariants.{Gone}
-use Rattle.blk_trace.specs.Kept.{known_of}
+use Rattle.blk_trace.specs.Inside.Kept.{known_of}
 use Rattle.blk_trace.proofs.Knowing.{known_none, known_gone}
 use Rattle.blk_trace.proofs.trace.Trace.waiting_at.Goals as goal
 

@@ -1,7 +1,7 @@
 use Rattle.std.proofs.Common.{◌≡◌, ◌≤◌, ◌+◌, ◌||◌, length, take}
 use Rattle.std.specs.HashSet as hash_set
 use Rattle.blk_bio.specs.declared.bio.BioId.{BioId}
-use Rattle.blk_trace.specs.Kept.{is_bio, has_bio_id}
+use Rattle.blk_trace.specs.Inside.Kept.{is_bio, has_bio_id}
 use Rattle.blk_trace.proofs.trace.adding.enter.Given as goal
 
 abbrev pub invariant-loop-bio : goal.invariant-loop-bio

@@ -4,7 +4,7 @@ use Rattle.std.specs.Map.{lookup}
 use Rattle.std.specs.Ordering.{nat_cmp}
 use Rattle.std.specs.BTreeMap.{get, is_at}
 use Rattle.blk_trace.specs.Happened.{Happened}
-use Rattle.blk_trace.specs.Gathered.{waiting_bios}
+use Rattle.blk_trace.specs.Inside.Gathered.{waiting_bios}
 use Rattle.blk_trace.specs.Seen.{happened}
 use Rattle.blk_trace.proofs.Gathering.{nothing_waits, gathers, takes, one_more}
 use Rattle.blk_trace.proofs.trace.waiting.gathered.Goals as goal

@@ -1,7 +1,7 @@
 use Rattle.std.proofs.Common.{ℕ, ◌≡◌, map, take}
 use Rattle.std.specs.Ordering.{nat_cmp}
 use Rattle.std.specs.BTreeMap.{get}
-use Rattle.blk_trace.specs.Gathered.{waiting_bios}
+use Rattle.blk_trace.specs.Inside.Gathered.{waiting_bios}
 use Rattle.blk_trace.specs.Seen.{happened}
 use Rattle.blk_trace.proofs.trace.waiting.gathered.Given as goal
 

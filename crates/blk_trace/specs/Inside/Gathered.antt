@@ -1,10 +1,12 @@
 -- The bios of each waiting request, one event after the other.
-use Rattle.std.specs.Prelude.{ℕ, ◌≡◌, ◌==◌, cond, List, Option, Some, None, option_map, ⊤}
+use Rattle.std.specs.Prelude.{ℕ, ◌≡◌, ◌==◌, cond, List, Option, Some, None, option_map, IfSome}
+use Rattle.std.specs.Option.{option_map_or}
 use Rattle.blk_bio.specs.Bios.{Bio}
 use Rattle.blk_bio.specs.Limits.{Limits}
 use Rattle.blk_bio.specs.declared.request.Side.{Side}
 use Rattle.blk_bio.specs.Requests.{Fits}
-use Rattle.blk_trace.specs.Happened.{Happened, Ticked, Released, Joined, Issued, Finished}
+use Rattle.blk_trace.specs.Happened.{Happened}
+use Rattle.blk_trace.specs.Kinds.{releases, joins, issues}
 use Rattle.blk_trace.specs.Setups.{Setup}
 use Rattle.blk_trace.specs.Events.{join_up}
 use Rattle.blk_trace.specs.Standing.{waits_at}
@@ -22,16 +24,11 @@ pub record FitsUnder (limits : Limits) (there : Option (List Bio)) (newcomer : L
 
 -- the request of a Join fits the one that waits under its id
 abbrev pub Takes : Limits → (ℕ → Option (List Bio)) → Happened → Type 0
-Takes limits f Ticked = ⊤
-Takes limits f (Released id bios) = ⊤
-Takes limits f (Joined id bios) = FitsUnder limits (f id) bios
-Takes limits f (Issued id tag) = ⊤
-Takes limits f (Finished tag) = ⊤
+Takes limits f e = IfSome (joins e) (λ p. FitsUnder limits (f p.0) p.1)
 
 -- what waits under each id after one more event
 abbrev pub with_event : (ℕ → Option (List Bio)) → Happened → ℕ → Option (List Bio)
-with_event f Ticked i = f i
-with_event f (Released id bios) i = cond (id == i) (Some bios) (f i)
-with_event f (Joined id bios) i = cond (id == i) (option_map (λ old. join_up old bios) (f id)) (f i)
-with_event f (Issued id tag) i = cond (id == i) None (f i)
-with_event f (Finished tag) i = f i
+with_event f e i =
+    option_map_or (λ p. cond (p.0 == i) (Some p.1) (f i)) (releases e)
+    (option_map_or (λ p. cond (p.0 == i) (option_map (λ old. join_up old p.1) (f p.0)) (f i)) (joins e)
+    (option_map_or (λ p. cond (p.0 == i) None (f i)) (issues e) (f i)))

@@ -1,0 +1,3 @@
+-- What invariants and proofs alone need: what a trace keeps, and what waits event by event.
+pub mod Kept
+pub mod Gathered
