@@ -14,7 +14,7 @@ use Rattle.blk_sched.specs.Meaning.{Waiting, Pending, Meaning, HasCandidate, Joi
 use Rattle.blk_sched.specs.Fits.{IsNewestFit}
 use Rattle.blk_sched.specs.Maps.{first_found, none_found}
 use Rattle.blk_sched.specs.Index.{IsOldest, NoneOf, IsJoined}
-use Rattle.blk_deadline.specs.Choice.{serves_all, is_same, is_of, oldest_of, next_of, in_batch, batch_or, new_batch, taken, deadline_choice, meaning_of}
+use Rattle.blk_deadline.specs.Choice.{serves_all, is_same, is_of, oldest_of, next_of, in_batch, batch_or, new_batch, taken, deadline_choice, meaning_with}
 use Rattle.blk_sched.specs.Meaning.{Picks, OpenPicks, opened}
 use Rattle.blk_deadline.specs.declared.Turn.{Turn}
 use Rattle.blk_deadline.specs.declared.Tunables.{Tunables}
@@ -112,11 +112,11 @@ le_fails a b h = elim (nat_le a b) as (λ t. nat_le a b ≡ t → t ≡ false) [
 
 -- ---- the pick
 
-pub picks : (m new : Pending) (front : Bool) (round hw id : ℕ) (p q : OpenPicks) (w : Waiting) → ((k : ℕ) (v : Waiting) → map.get m k ≡ Some v → v.id ≡ k) → map.get m id ≡ Some w → new ≡ map.remove m id → q ≡ opened (dir_of w.bios) p → Picks serves_all hw (meaning_of m p front round) w (meaning_of new q front round)
+pub picks : (m new : Pending) (front : Bool) (round hw id : ℕ) (p q : OpenPicks) (w : Waiting) → ((k : ℕ) (v : Waiting) → map.get m k ≡ Some v → v.id ≡ k) → map.get m id ≡ Some w → new ≡ map.remove m id → q ≡ opened (dir_of w.bios) p → Picks serves_all hw (meaning_with m p front round) w (meaning_with new q front round)
 picks m new front round hw id p q w named there removed opens =
     let own : w.id ≡ id = named id w there in (
       ap (map.get m) own ∙ there,
       refl,
-      ap (λ (x : Pending). meaning_of x q front round) (removed ∙ ap (map.remove m) (sym own))
+      ap (λ (x : Pending). meaning_with x q front round) (removed ∙ ap (map.remove m) (sym own))
           ∙ ap (λ (y : OpenPicks). let n : Meaning = record { pending = map.remove m w.id; open_picks = y; front = front; round = round } in n) opens,
     )

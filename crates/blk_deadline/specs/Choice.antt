@@ -96,9 +96,9 @@ abbrev pub turn_after : Turn → Option (Waiting × Turn) → Turn
 turn_after turn None = turn
 turn_after turn (Some x) = x.1
 
--- the scheduler's meaning
-abbrev pub meaning_of : Pending → OpenPicks → Bool → ℕ → Meaning
-meaning_of pending open_picks front round = record { pending = pending; open_picks = open_picks; front = front; round = round }
+-- a meaning of these parts
+abbrev pub meaning_with : Pending → OpenPicks → Bool → ℕ → Meaning
+meaning_with pending open_picks front round = record { pending = pending; open_picks = open_picks; front = front; round = round }
 
 -- what it keeps beside its meaning, as numbers: the settings, the batch, how often reads went first, and the last position
 abbrev pub number_of : Bool → ℕ

@@ -6,7 +6,8 @@ ghost use Rattle.std.specs.Option.{OnSome, option_copied};
 ghost use Rattle.std.specs.FinMap as map;
 ghost use Rattle.blk_sched.specs.Meaning.{Waiting, Meaning, HasCandidate, HasNoCandidate, Joins, ServesNothing, Picks, opened, open_of};
 ghost use Rattle.blk_sched.specs.Index.{NoneOf};
-ghost use Rattle.blk_deadline.specs.Choice.{serves_all, oldest_of, next_of, in_batch, due_or_next, taken, chosen, turn_after, kept_of, meaning_of, deadline_choice};
+ghost use Rattle.blk_deadline.specs.Choice.{serves_all, oldest_of, next_of, in_batch, due_or_next, taken, chosen, turn_after, kept_of, deadline_choice};
+ghost use Rattle.blk_deadline.specs.Shown.{pending_of, turn_of, tunables_of, meaning_of};
 
 use blk_bio::bio::Dir;
 use blk_bio::limits::Limits;
@@ -64,7 +65,10 @@ impl<A: Allocator + Clone> Deadline<A> {
     /// request, and as `Memory` where memory runs out.
     pub fn new(alloc: A, tunables: Tunables) -> Result<Deadline<A>, SchedFault>
         ensures zero { (tunables.fifo_batch ≡ 0) ↔ (result ≡ Err SchedFault.ZeroBatch) }
-        ensures ok { IfOk result (λ s. (s.index ≡ map.empty) × (s.tunables ≡ tunables) × (s.turn ≡ record { last = None; batching = 0; starved = 0 }) × (s.open_picks ≡ record { reads = 0; writes = 0 }) × (s.round ≡ 0)) }
+        ensures ok { IfOk result (λ s. meaning_of s ≡ record { pending = map.empty; open_picks = record { reads = 0; writes = 0 }; front = tunables.front_merges; round = 0 }) }
+        ensures turn { IfOk result (λ s. turn_of s ≡ record { last = None; batching = 0; starved = 0 }) }
+        ensures tunables { IfOk result (λ s. tunables_of s ≡ tunables) }
+        ensures memory { IfErr result (λ e. 0 < tunables.fifo_batch → e ≡ SchedFault.Memory) }
     {
         if tunables.fifo_batch == 0 {
             return Err(SchedFault::ZeroBatch);
@@ -195,7 +199,7 @@ fn turn_of<A: Allocator + Clone>(queued: &Queued<A>, batching: u16, starved: u16
 impl<A: Allocator + Clone> Scheduler for Deadline<A> {
     type A = A;
 
-    ghost meaning = { λ s. record { pending = s.index; open_picks = s.open_picks; front = s.tunables.front_merges; round = s.round } };
+    ghost meaning = { meaning_of };
 
     ghost serves = { serves_all };
 
@@ -245,13 +249,13 @@ impl<A: Allocator + Clone> Scheduler for Deadline<A> {
     /// Hands out the request that the three rules choose, and stands then as they say.
     fn pick(&mut self, hw: u8, now: u64) -> Option<Queued<A>>
         requires hw { hw < 16 }
-        requires round { now ≡ self.old.round }
-        requires few { self.old.open_picks.reads + self.old.open_picks.writes < 256 }
-        ensures choice { result ≡ chosen (deadline_choice self.old.tunables self.old.turn now (map.values self.old.index)) }
-        ensures turn { self.new.turn ≡ turn_after self.old.turn (deadline_choice self.old.tunables self.old.turn now (map.values self.old.index)) }
-        ensures tunables { self.new.tunables ≡ self.old.tunables }
-        ensures picked { IfSome result (λ w. Picks serves_all hw (meaning_of self.old.index self.old.open_picks self.old.tunables.front_merges self.old.round) w (meaning_of self.new.index self.new.open_picks self.new.tunables.front_merges self.new.round)) }
-        ensures none { IfNone result (ServesNothing serves_all hw (meaning_of self.old.index self.old.open_picks self.old.tunables.front_merges self.old.round)) }
+        requires round { now ≡ (meaning_of self.old).round }
+        requires few { (meaning_of self.old).open_picks.reads + (meaning_of self.old).open_picks.writes < 256 }
+        ensures choice { result ≡ chosen (deadline_choice (tunables_of self.old) (turn_of self.old) now (map.values (pending_of self.old))) }
+        ensures turn { turn_of self.new ≡ turn_after (turn_of self.old) (deadline_choice (tunables_of self.old) (turn_of self.old) now (map.values (pending_of self.old))) }
+        ensures tunables { tunables_of self.new ≡ tunables_of self.old }
+        ensures picked { IfSome result (λ w. Picks serves_all hw (meaning_of self.old) w (meaning_of self.new)) }
+        ensures none { IfNone result (ServesNothing serves_all hw (meaning_of self.old)) }
         ensures same { IfNone result (self.new ≡ self.old) }
         ensures own { (w : Waiting) → IsTrue (serves_all w.hw w) }
     {

@@ -1,7 +1,7 @@
 //! The scheduler that keeps the order of entry.
 #![tactic(auto)]
 
-ghost use Rattle.std.specs.Prelude.{◌≡◌, ◌≤◌, ◌<◌, ◌+◌, ◌^◌, ◌↔◌, ℕ, Bool, ◌⊎◌, IfOk, OnOk, IfErr, OnErr, IfSome, IfNone, IsTrue, None, true, length, slice_index_or};
+ghost use Rattle.std.specs.Prelude.{◌≡◌, ◌≤◌, ◌<◌, ◌+◌, ◌^◌, ◌↔◌, ℕ, Bool, ◌⊎◌, IfOk, OnOk, IfErr, OnErr, IfSome, IfNone, IsTrue, None, true, [], length, slice_index_or};
 ghost use Rattle.std.specs.FinMap as map;
 ghost use Rattle.blk_sched.specs.Meaning.{Waiting, Meaning, HasCandidate, HasNoCandidate, Joins, ServesNothing, Picks, opened, open_of};
 ghost use Rattle.blk_none.specs.Choice.{serves_own, none_choice};
@@ -9,7 +9,7 @@ ghost use Rattle.blk_none.specs.Choice.{serves_own, none_choice};
 use blk_bio::bio::Dir;
 use blk_bio::limits::Limits;
 use blk_bio::request::{Request, Side};
-use blk_sched::index::Index;
+use blk_sched::lane::Lane;
 use blk_sched::picks::OpenPicks;
 use blk_sched::{Queued, SchedFault, Scheduler};
 use std::alloc::{AllocError, Allocator, Global};
@@ -19,10 +19,10 @@ use std::marker::Model;
 const QUEUES: usize = 16;
 
 /// Requests in the order in which they entered, for each hardware queue by itself, as under `none` of Linux blk-mq.
-/// Each hardware queue has an index of its own; beside them stands how many wait in all.
+/// It holds the requests of each hardware queue in a lane of their own, and how many wait in all.
 #[derive(Drop)]
 pub struct NoneSched<A: Allocator = Global> {
-    lanes: Vec<Index<A>, A>,
+    lanes: Vec<Lane<A>, A>,
     waiting: u64,
     open_picks: OpenPicks,
     round: u64,
@@ -113,13 +113,13 @@ impl<A: Allocator + Clone> NoneSched<A> {
 }
 
 /// A lane with no request, for each of the hardware queues.
-fn empty_lanes<A: Allocator + Clone>(alloc: A) -> Result<Vec<Index<A>, A>, AllocError>
+fn empty_lanes<A: Allocator + Clone>(alloc: A) -> Result<Vec<Lane<A>, A>, AllocError>
     ensures count { IfOk result (λ lanes. length lanes.items ≡ 16) }
-    ensures empty { IfOk result (λ lanes. (hw : ℕ) → slice_index_or lanes.items hw map.empty ≡ map.empty) }
+    ensures empty { IfOk result (λ lanes. (hw : ℕ) → slice_index_or lanes.items hw [] ≡ []) }
 {
     let mut lanes = Vec::with_capacity(alloc.clone()?, QUEUES)?;
     for _ in 0..QUEUES {
-        lanes.push(Index::new(alloc.clone()?)?)?;
+        lanes.push(Lane::new(alloc.clone()?))?;
     }
     Ok(lanes)
 }
