@@ -3,6 +3,7 @@ use Rattle.std.specs.Prelude.{[], ◌∷◌, ◌≡◌, ◌+◌, ◌<◌, ◌≤
 use Rattle.edd_check.specs.declared.Command.{Command}
 use Rattle.blk_soft.specs.Queues.{Queue}
 use Rattle.blk_trace.specs.Happened.{Ticked}
+use Rattle.blk_trace.specs.Events.{round_of}
 use Rattle.blk_trace.specs.Standing.{seat_at}
 use Rattle.blk_sched.specs.Meaning.{Waiting}
 use Rattle.blk_core.specs.State.{CoreState}
@@ -14,9 +15,9 @@ use Rattle.blk_sim.specs.Moves.{DrainInTurn}
 abbrev pub Asks : (ℕ → Waiting → Bool) → ℕ → ℕ → CoreState → Option Command → CoreState → Type 0
 Asks serves hw tag old found new = CanIssue old hw tag × Issues serves old hw tag found new
 
--- a round ends
+-- a round ends, and the scheduler is told of the new one
 abbrev pub Ticks : CoreState → CoreState → Type 0
-Ticks old new = CanTick old × Adds old Ticked new × (new.meaning ≡ old.meaning)
+Ticks old new = CanTick old × Adds old Ticked new × (new.meaning ≡ record old.meaning { round = round_of new.events })
 
 -- a tag was issued in the round that is on
 abbrev pub IsTaken : CoreState → ℕ → Type 0
