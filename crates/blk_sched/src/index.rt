@@ -14,15 +14,15 @@ ghost use Rattle.std.specs.BTreeSet.{contains};
 ghost use Rattle.blk_sched.specs.Spots.{spot_cmp, AreSpots, first_at, age_at};
 ghost use Rattle.blk_sched.specs.Index.{IsNewestBy, FitsNoneBy, FitsBy, IsJoined, at_of, touch_of, joined_extent, newer_of, IsOldest, IsNext, NoneOf, NoNext, PopsFirst};
 
+use crate::Queued;
+use crate::lane::Extent;
+use crate::shelf::Shelf;
 use crate::spots::{
     Edges, Spot, end_spot, first_spot, is_write, newest_at, oldest_above, oldest_from, put, take,
 };
 use blk_bio::bio::Dir;
 use blk_bio::limits::Limits;
 use blk_bio::request::{Request, Side};
-use crate::Queued;
-use crate::lane::Extent;
-use crate::shelf::Shelf;
 use std::alloc::{AllocError, Allocator, Global};
 use std::collections::BTreeSet;
 use std::marker::Model;
@@ -144,13 +144,7 @@ impl<A: Allocator + Clone> Index<A> {
             newcomer,
             limits,
         );
-        let ahead = newest_ahead(
-            &self.waiting,
-            &self.edges.firsts,
-            front,
-            newcomer,
-            limits,
-        );
+        let ahead = newest_ahead(&self.waiting, &self.edges.firsts, front, newcomer, limits);
         newer(back, ahead)
     }
 

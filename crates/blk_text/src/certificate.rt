@@ -72,7 +72,10 @@ impl LineForm for TitleForm {
         let slots = [
             Slot::Given,
             Slot::Given,
-            Slot::Number { least: 1, most: 256 },
+            Slot::Number {
+                least: 1,
+                most: 256,
+            },
             Slot::Number {
                 least: 0,
                 most: 1_000_000,

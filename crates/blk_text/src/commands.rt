@@ -55,7 +55,10 @@ impl LineForm for TitleForm {
         let slots = [
             Slot::Given,
             Slot::Given,
-            Slot::Number { least: 1, most: 256 },
+            Slot::Number {
+                least: 1,
+                most: 256,
+            },
         ];
         match read_fields(row, &slots) {
             Ok(numbers) => Ok((version, numbers[2])),

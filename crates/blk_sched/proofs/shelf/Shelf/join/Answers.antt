@@ -28,15 +28,15 @@ returns-clause-joined g c =
     let within : c.in-Some.place.now < length c.self.inside.requests.slots = within_by c.self.inside.requests.slots c.in-Some.place.now c.in-Some-get_mut.queued.now (sym c.in-Some-get_mut.ensures.value) in
     elim c.match-join.branch [
       | in-Ok w ↦ rw w.result-is (record {
-          waiting = c.in-Some-get_mut.queued.now;
-          was = got_by c.self.inside.places.entries (slab.get c.self.inside.requests) c.args.self.now c.self.invariant c.self.view_is c.args.id ∙ ap (lies (slab.get c.self.inside.requests)) (sym c.in-Some.ensures.value) ∙ sym c.in-Some-get_mut.ensures.value;
-          fits = w.in-Ok.ensures.fits;
-          only = w.in-Ok.ensures.only;
-          is = changed_held c.self.inside.places.entries (slab.get c.self.inside.requests) (slab.get (slab.with_value c.self.inside.requests c.in-Some.place.now c.join.new.self)) c.args.id c.in-Some.place.now c.in-Some-get_mut.queued.now c.join.new.self c.self.invariant (sym c.in-Some.ensures.value) (sym c.in-Some-get_mut.ensures.value) (ap (λ (x : Waiting). x.id) w.in-Ok.ensures.ok)
-              (get_or-set_same c.self.inside.requests.slots c.in-Some.place.now (Some c.join.new.self) None within)
-              (λ other apart. get_or-set_other c.self.inside.requests.slots c.in-Some.place.now other (Some c.join.new.self) None apart)
-              ∙ ap (λ (m : Pending). map.insert m c.args.id c.join.new.self) c.self.view_is
-              ∙ ap (map.insert c.args.self.now c.args.id) w.in-Ok.ensures.ok;
-        })
+        waiting = c.in-Some-get_mut.queued.now;
+        was = got_by c.self.inside.places.entries (slab.get c.self.inside.requests) c.args.self.now c.self.invariant c.self.view_is c.args.id ∙ ap (lies (slab.get c.self.inside.requests)) (sym c.in-Some.ensures.value) ∙ sym c.in-Some-get_mut.ensures.value;
+        fits = w.in-Ok.ensures.fits;
+        only = w.in-Ok.ensures.only;
+        is = changed_held c.self.inside.places.entries (slab.get c.self.inside.requests) (slab.get (slab.with_value c.self.inside.requests c.in-Some.place.now c.join.new.self)) c.args.id c.in-Some.place.now c.in-Some-get_mut.queued.now c.join.new.self c.self.invariant (sym c.in-Some.ensures.value) (sym c.in-Some-get_mut.ensures.value) (ap (λ (x : Waiting). x.id) w.in-Ok.ensures.ok)
+            (get_or-set_same c.self.inside.requests.slots c.in-Some.place.now (Some c.join.new.self) None within)
+            (λ other apart. get_or-set_other c.self.inside.requests.slots c.in-Some.place.now other (Some c.join.new.self) None apart)
+            ∙ ap (λ (m : Pending). map.insert m c.args.id c.join.new.self) c.self.view_is
+            ∙ ap (map.insert c.args.self.now c.args.id) w.in-Ok.ensures.ok;
+      })
       | in-Err w ↦ rw w.result-is tt
     ]
