@@ -1,0 +1,113 @@
+//! The rows of the rule. Requests are named by the order in which they enter.
+
+use crate::given::{issue, issues, reads, release, ticks, tuned, under};
+use blk_bio::bio::Dir;
+use blk_bio::request::Side;
+use blk_core::Placed;
+use blk_deadline::Deadline;
+use blk_sched::SchedFault;
+
+/// A batch goes on upwards; where nothing lies further on, the oldest begins the next one.
+#[test]
+fn deadline_batch(rt: HostRuntime) {
+    let alloc = rt.alloc();
+    let mut core = under(&rt, &alloc, 8, 100, tuned(2, 2, true));
+    reads(&rt, &alloc, &mut core, &[300, 100, 200]);
+    issues(&rt, &mut core, &[0, 1, 2]);
+}
+
+/// Reads go first twice while a write waits, and then the write.
+#[test]
+fn writes_starved(rt: HostRuntime) {
+    let alloc = rt.alloc();
+    let mut core = under(&rt, &alloc, 8, 100, tuned(1, 2, true));
+    reads(&rt, &alloc, &mut core, &[100, 200, 300, 400]);
+    let _ = release(&rt, &alloc, &mut core, 0, Dir::Write, 50, 8);
+    issues(&rt, &mut core, &[0, 1, 4, 2, 3]);
+}
+
+/// Reads that don't go first at all: the write does.
+#[test]
+fn write_goes_first(rt: HostRuntime) {
+    let alloc = rt.alloc();
+    let mut core = under(&rt, &alloc, 8, 100, tuned(1, 0, true));
+    reads(&rt, &alloc, &mut core, &[100]);
+    let _ = release(&rt, &alloc, &mut core, 0, Dir::Write, 50, 8);
+    issues(&rt, &mut core, &[1, 0]);
+}
+
+/// Between batches what is due goes first, and nothing in a batch.
+#[test]
+fn batches_and_expiry(rt: HostRuntime) {
+    let alloc = rt.alloc();
+    let entered = [500, 100, 600, 700];
+    let mut due = under(&rt, &alloc, 8, 5, tuned(2, 2, true));
+    reads(&rt, &alloc, &mut due, &entered);
+    ticks(&rt, &mut due, 9);
+    issues(&rt, &mut due, &[0, 2, 1, 3]);
+    let mut early = under(&rt, &alloc, 8, 5, tuned(2, 2, true));
+    reads(&rt, &alloc, &mut early, &entered);
+    issues(&rt, &mut early, &[0, 2, 3, 1]);
+}
+
+/// A newcomer joins at the front where that is allowed.
+#[test]
+fn front_merge(rt: HostRuntime) {
+    let alloc = rt.alloc();
+    let mut on = under(&rt, &alloc, 1, 0, tuned(16, 2, true));
+    let mut off = under(&rt, &alloc, 1, 0, tuned(16, 2, false));
+    assert_eq!(rt;
+        release(&rt, &alloc, &mut on, 0, Dir::Read, 10, 2),
+        Placed::New(0)
+    );
+    assert_eq!(rt;
+        release(&rt, &alloc, &mut off, 0, Dir::Read, 10, 2),
+        Placed::New(0)
+    );
+    let joined = Placed::Joined(0, Side::Front);
+    assert_eq!(rt; release(&rt, &alloc, &mut on, 1, Dir::Read, 8, 2), joined);
+    assert_eq!(rt; on.pending(), 1);
+    assert_eq!(rt;
+        release(&rt, &alloc, &mut off, 1, Dir::Read, 8, 2),
+        Placed::New(1)
+    );
+    assert_eq!(rt; off.pending(), 2);
+}
+
+/// A batch of no request is refused.
+#[test]
+fn constructors_refuse(rt: HostRuntime) {
+    let refused = match Deadline::new(rt.alloc(), tuned(0, 2, true)) {
+        Ok(_) => None,
+        Err(why) => Some(why),
+    };
+    assert_eq!(rt; refused, Some(SchedFault::ZeroBatch));
+    assert!(rt; Deadline::new(rt.alloc(), tuned(1, 0, false)).is_ok());
+}
+
+/// Two commands go out in one round after two ticks: what is due, the oldest first.
+#[test]
+fn two_in_one_round(rt: HostRuntime) {
+    let alloc = rt.alloc();
+    let mut core = under(&rt, &alloc, 2, 2, tuned(1, 2, true));
+    reads(&rt, &alloc, &mut core, &[50, 10, 60]);
+    ticks(&rt, &mut core, 2);
+    issues(&rt, &mut core, &[0, 1]);
+}
+
+/// A batch goes past a request that is due: the read at 50 is issued three rounds late, where the order of entry would
+/// be two rounds late at most.
+#[test]
+fn later_than_none(rt: HostRuntime) {
+    let alloc = rt.alloc();
+    let mut core = under(&rt, &alloc, 1, 0, tuned(16, 2, true));
+    reads(&rt, &alloc, &mut core, &[100, 50, 200]);
+    for id in [0, 2, 3, 1] {
+        assert_eq!(rt; issue(&rt, &mut core, 0), Some(id));
+        assert!(rt; core.done(0).is_ok());
+        ticks(&rt, &mut core, 1);
+        if id == 0 {
+            reads(&rt, &alloc, &mut core, &[300]);
+        }
+    }
+}
