@@ -73,7 +73,7 @@ pub fn setup(rt: &impl Abort, depth: u64, hw: u8, read_expire: u64) -> Setup {
 
 /// A scheduler in the order of entry.
 fn scheduler<A: Allocator + Clone>(rt: &impl Abort, alloc: &A) -> NoneSched<A>
-    ensures { result ≡ record { pending = map.empty; open_picks = record { reads = 0; writes = 0 }; front = true } }
+    ensures { result ≡ record { pending = map.empty; open_picks = record { reads = 0; writes = 0 }; front = true; round = 0 } }
 {
     match NoneSched::new(again(rt, alloc)) {
         Ok(scheduler) => scheduler,
