@@ -9,6 +9,7 @@ use Rattle.std.proofs.Math.Seq.{take-append_seam}
 use Rattle.std.specs.Option.{option_map}
 use Rattle.blk_bio.specs.declared.bio.Dir.{Dir}
 use Rattle.blk_bio.specs.declared.bio.Dir.TheVariants.{Read, Write}
+use Rattle.blk_trace.specs.declared.setup.TheConstants.{MAX_QUEUES}
 use Rattle.blk_trace.specs.Standing.{Seat, same_dir}
 use Rattle.blk_sched.specs.Meaning.{OpenPicks, opened}
 use Rattle.blk_core.specs.declared.Flight.{Flight}
@@ -45,12 +46,12 @@ seats_set W V fl tag f lt h step t u = elim (eqb_tells tag t) [
       ∙ ap (λ b. cond b (Some (seat_of f)) (W t)) (sym n.0) ∙ sym (step t)
 ]
 
-pub queues_set : (fl : List (Option Flight)) (tag : ℕ) (f : Flight) → tag < length fl → f.hw < 16 → ((t : ℕ) (x : Flight) → get_or fl t None ≡ Some x → x.hw < 16) → (t : ℕ) (x : Flight) → get_or (set fl tag (Some f)) t None ≡ Some x → x.hw < 16
+pub queues_set : (fl : List (Option Flight)) (tag : ℕ) (f : Flight) → tag < length fl → f.hw < MAX_QUEUES → ((t : ℕ) (x : Flight) → get_or fl t None ≡ Some x → x.hw < MAX_QUEUES) → (t : ℕ) (x : Flight) → get_or (set fl tag (Some f)) t None ≡ Some x → x.hw < MAX_QUEUES
 queues_set fl tag f lt small h t x e = elim (eqb_tells tag t) [
   | inl y ↦
       let a : Some f ≡ Some x = sym (get_or-set_same fl tag (Some f) None lt) ∙ ap (λ i. get_or (set fl tag (Some f)) i None) y.1 ∙ e in
       let b : f ≡ x = cc in
-      subst (λ (y : Flight). y.hw < 16) b small
+      subst (λ (y : Flight). y.hw < MAX_QUEUES) b small
   | inr n ↦ h t x (sym (get_or-set_other fl tag t (Some f) None (λ e. n.1 (sym e))) ∙ e)
 ]
 

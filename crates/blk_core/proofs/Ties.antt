@@ -13,9 +13,11 @@ use Rattle.blk_bio.specs.declared.request.Side.{Side}
 use Rattle.blk_bio.specs.Bios.{Bio}
 use Rattle.blk_bio.specs.Limits.{Limits}
 use Rattle.blk_bio.specs.Requests.{dir_of}
+use Rattle.blk_trace.specs.declared.setup.TheConstants.{MAX_QUEUES}
 use Rattle.blk_trace.specs.Setups.{Setup, IsSetup, expire_of}
 use Rattle.blk_trace.specs.Happened.{Happened, Released, Joined, Issued, Finished, Ticked}
 use Rattle.blk_trace.specs.Events.{At, round_of, entered, AreOnce, open_count, join_up}
+use Rattle.blk_trace.specs.Rules.{IsUnbroken}
 use Rattle.blk_trace.specs.Meaning.{commands_of, released_ids, issued_ids, waiting_ids, rising}
 use Rattle.blk_trace.specs.Standing.{Seat, IsAllowed, waits_at, waiting_count, seat_at, open_of, same_dir, released_count, this_round}
 use Rattle.blk_sched.specs.Meaning.{Waiting, Meaning, Pending, Joins, Picks, opened, joined_waiting}
@@ -125,7 +127,7 @@ tied_join setup setup' es es' m m' fl rel serves hw now bios id side p t now_is 
     elsewhere q h e = let a : map.get m.pending q ≡ None = t.fresh q h in let b : map.get m.pending id ≡ Some joins.0 = joins.1.pending in let c : map.get m.pending id ≡ map.get m.pending q = ap (map.get m.pending) e in cc
 
 -- after an issue the core is tied
-pub tied_issue : (setup setup' : Setup) (es es' : List Happened) (m m' : Meaning) (fl : List (Option Flight)) (rel : ℕ) (serves : ℕ → Waiting → Bool) (hw tag : ℕ) (w : Waiting) (f : Flight) → IsPushed setup es (Issued w.id tag) setup' es' → IsTied setup es m fl rel → Picks serves hw m w m' → tag < length fl → get_or fl tag None ≡ None → f.dir ≡ dir_of w.bios → f.in_flight ≡ true → f.hw < 16 → IsTied setup' es' m' (set fl tag (Some f)) rel
+pub tied_issue : (setup setup' : Setup) (es es' : List Happened) (m m' : Meaning) (fl : List (Option Flight)) (rel : ℕ) (serves : ℕ → Waiting → Bool) (hw tag : ℕ) (w : Waiting) (f : Flight) → IsPushed setup es (Issued w.id tag) setup' es' → IsTied setup es m fl rel → Picks serves hw m w m' → tag < length fl → get_or fl tag None ≡ None → f.dir ≡ dir_of w.bios → f.in_flight ≡ true → f.hw < MAX_QUEUES → IsTied setup' es' m' (set fl tag (Some f)) rel
 tied_issue setup setup' es es' m m' fl rel serves hw tag w f p t picks lt none dir_is flies small =
     let waits : waits_at setup es w.id ≡ Some (entered_of w) = sym (t.holds.pending w.id) ∙ ap (option_map entered_of) picks.0 in
     let same : seat_of f ≡ record { dir = dir_of w.bios; in_flight = true } = cc in
@@ -172,13 +174,24 @@ tied_issue setup setup' es es' m m' fl rel serves hw tag w f p t picks lt none d
       queues = queues_set fl tag f lt small t.queues;
     }))
 
+-- the seat of a tag whose command is in flight
+seated : (setup : Setup) (es : List Happened) (m : Meaning) (fl : List (Option Flight)) (rel tag : ℕ) (f : Flight) → IsTied setup es m fl rel → tag < length fl → get_or fl tag None ≡ Some f → f.in_flight ≡ true → seat_at es tag ≡ Some (record { dir = f.dir; in_flight = true })
+seated setup es m fl rel tag f t lt at flies =
+    let seat : Seat = record { dir = f.dir; in_flight = true } in
+    let same : seat_of f ≡ seat = cc in
+    sym (t.seats tag lt) ∙ ap (option_map seat_of) at ∙ ap Some same
+
+-- a Done of it breaks no rule
+pub done_unbroken : (setup : Setup) (es : List Happened) (m : Meaning) (fl : List (Option Flight)) (rel tag : ℕ) (f : Flight) → IsTied setup es m fl rel → tag < length fl → get_or fl tag None ≡ Some f → f.in_flight ≡ true → IsUnbroken setup es (Finished tag)
+done_unbroken setup es m fl rel tag f t lt at flies =
+    step.allowed-unbroken setup es (Finished tag) t.legal (f.dir, seated setup es m fl rel tag f t lt at flies) (let l = t.legal.not_too_long in omega arith)
+
 -- after a completion the core is tied
 pub tied_done : (setup setup' : Setup) (es es' : List Happened) (m m' : Meaning) (fl : List (Option Flight)) (rel tag : ℕ) (f : Flight) → IsPushed setup es (Finished tag) setup' es' → IsTied setup es m fl rel → tag < length fl → get_or fl tag None ≡ Some f → f.in_flight ≡ true → m ≡ record m' { open_picks = opened f.dir m'.open_picks } → IsTied setup' es' m' (set fl tag (Some (record { hw = f.hw; dir = f.dir; wait = f.wait; in_flight = false }))) rel
 tied_done setup setup' es es' m m' fl rel tag f p t lt at flies m_is =
     let g : Flight = record { hw = f.hw; dir = f.dir; wait = f.wait; in_flight = false } in
     let seat : Seat = record { dir = f.dir; in_flight = true } in
-    let same : seat_of f ≡ seat = cc in
-    let here : seat_at es tag ≡ Some seat = sym (t.seats tag lt) ∙ ap (option_map seat_of) at ∙ ap Some same in
+    let here : seat_at es tag ≡ Some seat = seated setup es m fl rel tag f t lt at flies in
     let r : flying Read (Some f) ≡ cond (same_dir Read f.dir) 1 0 = ap (λ b. cond b (cond (same_dir Read f.dir) 1 0) 0) flies in
     let s : flying Write (Some f) ≡ cond (same_dir Write f.dir) 1 0 = ap (λ b. cond b (cond (same_dir Write f.dir) 1 0) 0) flies in
     let r0 : flying Read (get_or fl tag None) ≡ flying Read (Some f) = ap (flying Read) at in
@@ -193,7 +206,7 @@ tied_done setup setup' es es' m m' fl rel tag f p t lt at flies m_is =
     let rn = step.open-finished setup es tag p.legal f.dir here Read in
     let sn = step.open-finished setup es tag p.legal f.dir here Write in
     let tr = t.reads in let tw = t.writes in let hr = t.holds.reads in let hs = t.holds.writes in
-    let small : f.hw < 16 = t.queues tag f at in
+    let small : f.hw < MAX_QUEUES = t.queues tag f at in
     let l : length (set fl tag (Some g)) ≡ length fl = length-set fl tag (Some g) in
     let longer = one_longer es (Finished tag) in
     let count = step.count-finished setup es tag p.legal in

@@ -8,6 +8,7 @@ use Rattle.blk_bio.specs.declared.bio.Dir.TheVariants.{Read, Write}
 use Rattle.blk_bio.specs.Bios.{Bio}
 use Rattle.blk_bio.specs.Limits.{Limits}
 use Rattle.blk_bio.specs.Codes.{limits_code}
+use Rattle.blk_trace.specs.declared.setup.TheConstants.{MAX_QUEUES}
 use Rattle.blk_trace.specs.Setups.{Setup, IsSetup}
 use Rattle.blk_trace.specs.Happened.{Happened, Released, happened_code}
 use Rattle.blk_trace.specs.Events.{At, round_of}
@@ -65,4 +66,4 @@ pub record IsTied (setup : Setup) (events : List Happened) (m : Meaning) (flight
   pub seats : (tag : ℕ) → tag < length flights → option_map seat_of (slice_index_or flights tag None) ≡ seat_at events tag
   pub reads : sum_by (flying Read) flights ≡ m.open_picks.reads
   pub writes : sum_by (flying Write) flights ≡ m.open_picks.writes
-  pub queues : (tag : ℕ) (f : Flight) → slice_index_or flights tag None ≡ Some f → f.hw < 16
+  pub queues : (tag : ℕ) (f : Flight) → slice_index_or flights tag None ≡ Some f → f.hw < MAX_QUEUES

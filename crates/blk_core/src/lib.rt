@@ -7,7 +7,6 @@
 
 ghost use Rattle.std.specs.Prelude.{◌≡◌, ◌<◌, ◌^◌, ◌++◌, ◌↔◌, IsTrue, OnOk, OnErr, IfOk, IfSome, IfNone, length, replicate, None};
 ghost use Rattle.blk_trace.specs.Events.{entered, AreOnce};
-ghost use Rattle.blk_trace.specs.Setups.{expire_of};
 ghost use Rattle.blk_trace.specs.declared.trace.Prepared.{Prepared};
 ghost use Rattle.blk_core.specs.Ids.{HasId, IsFirstRepeated};
 
@@ -174,8 +173,8 @@ impl<S: Scheduler> Core<S> {
     ///
     /// Refused, by the first of these that applies: as `NoQueue` where `hw` is not below the number of hardware queues;
     /// as `Repeated` with the id of the first bio, in tile order, whose id stands in the trace or earlier in the
-    /// request; as `TraceFull` where the events, with a Done counted for each command in flight, are 1,000,000 already;
-    /// and as `Memory`. The request comes back then, and nothing is changed.
+    /// request; as `TraceFull` where the events, with a Done counted for each command in flight, are [`MAX_EVENTS`]
+    /// already; and as `Memory`. The request comes back then, and nothing is changed.
     pub fn release(
         &mut self,
         request: Request<S::A>,
@@ -220,10 +219,8 @@ impl<S: Scheduler> Core<S> {
         if let Err((request, _)) = self.scheduler.join(hw, id, side, now, &limits, request) {
             return Err((request, CoreFault::Memory));
         }
-        match self.trace.push(Event::Join { id, request: copy }) {
-            Ok(()) => Ok(Placed::Joined(id, side)),
-            Err(_) => unreachable!(),
-        }
+        self.trace.add(Event::Join { id, request: copy });
+        Ok(Placed::Joined(id, side))
     }
 
     /// Releases a request that may be released and has no candidate under the next id. Refused for want of memory alone.
@@ -244,7 +241,7 @@ impl<S: Scheduler> Core<S> {
         };
         let id = self.released;
         let release = self.trace.round();
-        let expire = expire(&self.trace.setup(), request.dir());
+        let expire = self.trace.setup().expire(request.dir());
         let queued = Queued {
             id,
             hw,
@@ -255,13 +252,9 @@ impl<S: Scheduler> Core<S> {
         if let Err((queued, _)) = self.scheduler.insert(queued) {
             return Err((queued.request, CoreFault::Memory));
         }
-        match self.trace.push(Event::Release { id, request: copy }) {
-            Ok(()) => {
-                self.released += 1;
-                Ok(Placed::New(id))
-            }
-            Err(_) => unreachable!(),
-        }
+        self.trace.add(Event::Release { id, request: copy });
+        self.released += 1;
+        Ok(Placed::New(id))
     }
 
     /// The first reason not to release a request, memory aside.
@@ -287,8 +280,8 @@ impl<S: Scheduler> Core<S> {
     ///
     /// Refused, by the first of these that applies: as `NoQueue` where `hw` is not below the number of hardware queues;
     /// as `TagRange` where the tag is not below the depth; as `SlotUsed` where the tag was issued in this round, whether
-    /// or not it is done; as `TraceFull` where the Issue and its Done would make more than 1,000,000 events, with a Done
-    /// counted for each command in flight; and as `Memory`. All come before the scheduler is asked, so also where
+    /// or not it is done; as `TraceFull` where the Issue and its Done would make more than [`MAX_EVENTS`] events, with a
+    /// Done counted for each command in flight; and as `Memory`. All come before the scheduler is asked, so also where
     /// nothing waits, and change nothing.
     pub fn issue(&mut self, hw: u8, tag: u16) -> Result<Option<Command>, IssueFault>
         ensures issued { IfOk result (λ found. Issues S.serves self.old hw tag found self.new) }
@@ -317,16 +310,12 @@ impl<S: Scheduler> Core<S> {
             wait: now.saturating_sub(queued.release),
             in_flight: true,
         };
-        match self.trace.push(Event::Issue {
+        self.trace.add(Event::Issue {
             id: command.id,
             tag,
-        }) {
-            Ok(()) => {
-                self.flights[tag as usize] = Some(flight);
-                Ok(Some(command))
-            }
-            Err(_) => unreachable!(),
-        }
+        });
+        self.flights[tag as usize] = Some(flight);
+        Ok(Some(command))
     }
 
     /// The first reason not to issue, memory aside.
@@ -366,19 +355,15 @@ impl<S: Scheduler> Core<S> {
         if !flight.in_flight {
             return Err(NotIssued);
         }
-        match self.trace.push(Event::Done { tag }) {
-            Ok(()) => {
-                self.flights[slot] = Some(Flight {
-                    hw: flight.hw,
-                    dir: flight.dir,
-                    wait: flight.wait,
-                    in_flight: false,
-                });
-                self.scheduler.on_done(flight.hw, flight.dir, flight.wait);
-                Ok(())
-            }
-            Err(_) => unreachable!(),
-        }
+        self.trace.add(Event::Done { tag });
+        self.flights[slot] = Some(Flight {
+            hw: flight.hw,
+            dir: flight.dir,
+            wait: flight.wait,
+            in_flight: false,
+        });
+        self.scheduler.on_done(flight.hw, flight.dir, flight.wait);
+        Ok(())
     }
 
     /// Ends the round, and answers the number of the next one: how many Ticks there are then. Refused while a command
@@ -401,15 +386,11 @@ impl<S: Scheduler> Core<S> {
         let Ok(()) = prepare(&mut self.trace) else {
             return Err(TickFault::Memory);
         };
-        match self.trace.push(Event::Tick) {
-            Ok(()) => {
-                clear(&mut self.flights);
-                let now = self.trace.round();
-                self.scheduler.on_tick(now);
-                Ok(now)
-            }
-            Err(_) => unreachable!(),
-        }
+        self.trace.add(Event::Tick);
+        clear(&mut self.flights);
+        let now = self.trace.round();
+        self.scheduler.on_tick(now);
+        Ok(now)
     }
 
     /// The events so far, which are legal: the commands that they issue, in the rounds in which they do, are a legal
@@ -444,17 +425,6 @@ impl<S: Scheduler> Core<S> {
     {
         let Core { trace, .. } = self;
         trace
-    }
-}
-
-/// After how many rounds a request of the direction is due.
-fn expire(setup: &Setup, dir: Dir) -> u64
-    ensures value { result ≡ expire_of setup.now dir }
-    ensures small { result < 2 ^ 40 }
-{
-    match dir {
-        Dir::Read => setup.read_expire(),
-        Dir::Write => setup.write_expire(),
     }
 }
 
