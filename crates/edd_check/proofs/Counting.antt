@@ -40,7 +40,7 @@ count_of_none p never [] = refl
 count_of_none p never (x ∷ xs) = count_no p x xs (never x) ∙ count_of_none p never xs
 
 -- a count of what passes one of two tests
-count_of_either : {X : Type 0} (p q r : X → Bool) → ((x : X) → p x ≡ true → (q x ≡ true) ⊎ (r x ≡ true)) → (xs : List X) → count_by p xs ≤ count_by q xs + count_by r xs
+pub count_of_either : {X : Type 0} (p q r : X → Bool) → ((x : X) → p x ≡ true → (q x ≡ true) ⊎ (r x ≡ true)) → (xs : List X) → count_by p xs ≤ count_by q xs + count_by r xs
 count_of_either p q r either [] = omega arith
 count_of_either p q r either (x ∷ xs) =
     let rest = count_of_either p q r either xs in

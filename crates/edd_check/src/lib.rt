@@ -12,8 +12,13 @@ ghost use Rattle.edd_check.specs.Schedule.{IsLegal, IsGreatestLateness, StartsRe
 ghost use Rattle.edd_check.specs.Window.{load_of, rounds_between, IsCrowded, WindowInRange};
 ghost use Rattle.edd_check.specs.Check.{IsAnswer};
 
+mod met;
 mod steps;
 
+pub use met::{
+    MetFault, carried_by, carried_in, check_met, cover_in_range, inside, law_of_covers, number_met,
+    outside,
+};
 use std::alloc::{AllocError, Allocator};
 pub use steps::{Capacity, CapacityFault, MOST_DEPTH, Step};
 use thiserror::Error;

@@ -6,6 +6,8 @@ mod capacities;
 #[cfg(test)]
 mod claims;
 #[cfg(test)]
+mod covers;
+#[cfg(test)]
 mod made;
 #[cfg(test)]
 mod memory;

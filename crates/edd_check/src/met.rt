@@ -1,0 +1,205 @@
+//! Checks a claim of the greatest number of commands that a schedule can meet.
+//!
+//! A command is met where it runs no later than it is due (Pinedo, Scheduling: the number of tardy jobs, here counted from
+//! the other side, with unit jobs and release dates). Disjoint windows of rounds bound what any schedule meets: a met
+//! command that lies in a window runs in it, and so these are at most what its rounds carry (König's cover of a convex
+//! bipartite graph of commands and rounds).
+
+ghost use Rattle.std.specs.Prelude.{◌≡◌, ◌≤◌, ◌<◌, ◌+◌, ◌-◌, ◌*◌, ◌&&◌, ◌↔◌, not, length, IsTrue, IfOk, IfNone, IfSome, OnOk, IsOkUnless};
+ghost use Rattle.std.specs.List.{list_any};
+ghost use Rattle.edd_check.specs.Limits.{round_limit};
+ghost use Rattle.edd_check.specs.Schedule.{IsLegal};
+ghost use Rattle.edd_check.specs.Met.{number_met, IsMetBound, IsMostMet, holds, lies_in, can_be_met, inside_of, outside_of, carried_in, carried_by, bound_of, IsCover, IsFirstAstray, CoverInRange};
+ghost use Rattle.edd_check.specs.CheckMet.{IsMetAnswer};
+
+use crate::{Capacity, Command, ROUND_LIMIT, Window, first_early, least_over_deep};
+use std::alloc::Allocator;
+use thiserror::Error;
+
+/// Why a claim of a greatest number is refused, in the order in which the reasons are looked for.
+#[derive(Clone, Copy, Debug, PartialEq, Eq, Error)]
+pub enum MetFault {
+    /// There are more rounds than commands, or fewer.
+    #[error("Length")]
+    Length,
+    /// The first command by place that runs before its release, by its id.
+    #[error("BeforeRelease")]
+    BeforeRelease(u64),
+    /// Memory ran out.
+    #[error("Memory")]
+    Memory,
+    /// The least round with more commands than it carries.
+    #[error("OverDepth")]
+    OverDepth(u64),
+    /// The schedule's own number of met commands, which is not the claimed one.
+    #[error("WrongMet")]
+    WrongMet(u64),
+    /// The first window by place that has no round, or doesn't begin after the one before it ends.
+    #[error("Windows")]
+    Windows(usize),
+    /// The windows' bound, which is more than the claimed number.
+    #[error("Loose")]
+    Loose(u64),
+}
+
+/// Whether both numbers of each window lie below [`ROUND_LIMIT`], as [`check_met`] requires.
+pub fn cover_in_range(cover: &[Window]) -> bool
+    ensures { IsTrue result ↔ CoverInRange cover.now }
+{
+    cover
+        .iter()
+        .all(|w| w.from < ROUND_LIMIT && w.due < ROUND_LIMIT)
+}
+
+/// How many commands run no later than they are due.
+#[tactic(auto, unfolding(crate::specs::Met::number_met))]
+pub fn number_met(commands: &[Command], rounds: &[u64]) -> u64
+    ensures { result ≡ number_met commands.now rounds.now }
+{
+    commands
+        .iter()
+        .zip(rounds)
+        .filter(|(command, round)| **round <= command.due)
+        .count() as u64
+}
+
+/// Whether the round is one of the window's rounds, `from` to `due`.
+fn holds(window: Window, round: u64) -> bool
+    ensures { result ≡ holds window round }
+{
+    window.from <= round && round <= window.due
+}
+
+/// How many commands are released by their due round, with both of these among the window's rounds `from` to `due`.
+#[tactic(auto, unfolding(crate::specs::Met::inside_of))]
+pub fn inside(commands: &[Command], window: Window) -> u64
+    ensures { result ≡ inside_of commands.now window }
+{
+    commands
+        .iter()
+        .filter(|c| c.release <= c.due && holds(window, c.release) && holds(window, c.due))
+        .count() as u64
+}
+
+/// Whether the command is released by its due round and lies in none of the windows. The one that may hold it is found by
+/// halves.
+fn is_outside(command: Command, cover: &[Window]) -> bool
+    requires { IsCover cover.now }
+    ensures { result ≡ (can_be_met command && not (list_any (λ w. lies_in command w) cover.now)) }
+{
+    let place = cover.partition_point(|w| w.from <= command.release);
+    command.release <= command.due && (place == 0 || cover[place - 1].due < command.due)
+}
+
+/// How many commands are released by their due round and lie in none of the windows.
+#[tactic(auto, unfolding(crate::specs::Met::outside_of))]
+pub fn outside(commands: &[Command], cover: &[Window]) -> u64
+    requires { IsCover cover.now }
+    ensures value { result ≡ outside_of commands.now cover.now }
+    ensures most { result ≤ length commands.now }
+{
+    commands.iter().filter(|c| is_outside(**c, cover)).count() as u64
+}
+
+/// How many commands the window's rounds, `from` to `due`, carry.
+#[tactic(auto, unfolding(crate::specs::Met::carried_in))]
+pub fn carried_in<A: Allocator>(capacity: &Capacity<A>, window: Window) -> u64
+    requires { window.due < round_limit }
+    ensures value { result ≡ carried_in capacity.now window }
+    ensures most { result ≤ 256 * (window.due + 1 - window.from) }
+{
+    capacity.sum(window.from, window.due + 1)
+}
+
+/// How many commands the windows' rounds carry.
+pub fn carried_by<A: Allocator>(capacity: &Capacity<A>, cover: &[Window]) -> u64
+    requires disjoint { IsCover cover.now }
+    requires in_range { CoverInRange cover.now }
+    ensures value { result ≡ carried_by capacity.now cover.now }
+    ensures small { result ≤ 256 * round_limit }
+{
+    let mut total = 0;
+    for window in cover {
+        total += carried_in(capacity, *window);
+    }
+    total
+}
+
+/// The first window by place that has no round, or doesn't begin after the one before it ends.
+fn first_astray(cover: &[Window]) -> Option<usize>
+    ensures none { IfNone result (IsCover cover.now) }
+    ensures first { IfSome result (IsFirstAstray cover.now) }
+{
+    for (place, window) in cover.iter().enumerate() {
+        if window.due < window.from {
+            return Some(place);
+        }
+        if place > 0 && window.from <= cover[place - 1].due {
+            return Some(place);
+        }
+    }
+    None
+}
+
+/// Checks a schedule, how many commands it meets, and a cover: disjoint windows of rounds whose capacity, with the number of
+/// the commands that are released by their due round and lie in no window, is that number. Where the answer is `Ok`, no
+/// legal schedule of these commands meets more.
+///
+/// A window's rounds are `from` to `due`. Both are below [`ROUND_LIMIT`], as [`cover_in_range`] tells.
+///
+/// The answer depends on the claim alone, but for `Memory`, which may come in place of any answer after `BeforeRelease`.
+/// Refused, in this order, as `Length`, `BeforeRelease`, `Memory`, `OverDepth`, `WrongMet`, `Windows` and `Loose`, with the
+/// value that [`MetFault`] says. A copy of the rounds is sorted, and each command looks for its window by halves.
+pub fn check_met<A: Allocator, B: Allocator>(
+    alloc: A,
+    commands: &[Command],
+    capacity: &Capacity<B>,
+    rounds: &[u64],
+    met: u64,
+    cover: &[Window],
+) -> Result<(), MetFault>
+    requires { CoverInRange cover.now }
+    ensures answer { IsMetAnswer commands.now capacity.now rounds.now met cover.now result }
+    ensures accepts { IsLegal commands.now rounds.now capacity.now
+        → number_met commands.now rounds.now ≡ met
+        → IsCover cover.now
+        → bound_of commands.now capacity.now cover.now ≡ met
+        → IsOkUnless result MetFault.Memory }
+    // no legal schedule meets more
+    ensures most { OnOk result (IsMostMet commands.now capacity.now met) }
+{
+    if rounds.len() != commands.len() {
+        return Err(MetFault::Length);
+    }
+    if let Some(id) = first_early(commands, rounds) {
+        return Err(MetFault::BeforeRelease(id));
+    }
+    let Ok(over_deep) = least_over_deep(alloc, rounds, capacity) else {
+        return Err(MetFault::Memory);
+    };
+    if let Some(round) = over_deep {
+        return Err(MetFault::OverDepth(round));
+    }
+    let own = number_met(commands, rounds);
+    if own != met {
+        return Err(MetFault::WrongMet(own));
+    }
+    if let Some(place) = first_astray(cover) {
+        return Err(MetFault::Windows(place));
+    }
+    let bound = carried_by(capacity, cover) + outside(commands, cover);
+    if bound != met {
+        return Err(MetFault::Loose(bound));
+    }
+    Ok(())
+}
+
+/// What windows carry, with the number of the commands that are released by their due round and lie in none of them, bounds
+/// how many commands any legal schedule meets; windows that overlap only bound it worse.
+///
+/// A law: it does nothing when it runs, and a caller has its clause.
+pub fn law_of_covers<A: Allocator>(commands: &[Command], capacity: &Capacity<A>, cover: &[Window])
+    ensures { IsMetBound commands.now capacity.now (bound_of commands.now capacity.now cover.now) }
+{
+    let _ = (commands.len(), capacity.at(0), cover.len());
+}
