@@ -24,12 +24,12 @@ fn main(rt: HostRuntime) -> ExitCode {
         let _ = faults.write_all(b"blk: want of memory\n");
         return ExitCode::from(blk_cli::FAILED);
     };
-    let status = blk_cli::run(
+    let ended = blk_cli::run(
         alloc,
         words.as_slice(),
         rt.reader(),
         &mut io::writer(&rt),
         &mut faults,
     );
-    ExitCode::from(status)
+    ExitCode::from(ended.status)
 }

@@ -1,6 +1,6 @@
 -- Certificates that are proved, from what the oracle and the check answer.
 use Rattle.std.proofs.Common.{ℕ, ◌≡◌, ◌<◌, ◌^◌, List, [], ◌∷◌, length, arith, sym, subst, Some, None, refl, slice_index_or, slice_index}
-use Rattle.std.specs.Prelude.{ℤ, pos, negsuc, ◌-ℤ◌, ◌↔◌, All, Option, IfSome}
+use Rattle.std.specs.Prelude.{ℤ, pos, negsuc, ◌-ℤ◌, ◌↔◌, All, Option, Err, IfSome}
 use Rattle.std.proofs.lemmas.Int.{ints}
 use Rattle.std.proofs.lemmas.List.Elements.{All-get_or}
 use Rattle.edd_check.specs.declared.Command.{Command}
@@ -9,10 +9,12 @@ use Rattle.edd_check.specs.declared.steps.Step.{Step}
 use Rattle.edd_check.specs.Capacity.{fixed}
 use Rattle.edd_check.specs.Schedule.{IsLegal, IsGreatestLateness, IsLeastLateness, RoundsInRange}
 use Rattle.edd_check.specs.Window.{IsCrowded}
-use Rattle.blk_cli.specs.Outcome.{IsProof}
+use Rattle.edd_check.specs.declared.CheckFault.{CheckFault}
+use Rattle.edd_check.specs.Check.{IsAnswer}
+use Rattle.blk_cli.specs.Outcome.{IsProof, IsRefusedBound}
 use Rattle.edd_oracle.specs.Answer.{IsBest}
 use Rattle.blk_text.specs.Commands.{IsCommandInRange, AreCommands}
-use Rattle.blk_text.specs.Certificate.{IsBound, IsClaim, IsLateness}
+use Rattle.blk_text.specs.Certificate.{Claim, IsBound, IsClaim, IsLateness}
 
 difference_in : (late : ℤ) (r d : ℕ) → pos r -ℤ pos d ≡ late → r < 2 ^ 41 → d < 2 ^ 41 → IsLateness late
 difference_in (pos n) r d e h k = omega (arith, ints, e)
@@ -62,3 +64,13 @@ proof_of commands steps depth rounds bound late other window under e same h leas
       crowded = subst (λ s. IsCrowded commands s other window) under h.2;
       least = subst (λ s. IsLeastLateness commands s other) under least;
     }))
+
+-- a bound that the check refused
+pub refused_of : (claim : Claim) (commands : List Command) (rounds : List ℕ) (steps : List Step) (late other : ℤ) (window : Window) (f : CheckFault) → commands ≡ claim.commands → rounds ≡ claim.rounds → steps ≡ fixed claim.depth
+    → claim.bound ≡ Some (late, window) → other ≡ late → IsAnswer commands steps other rounds window (Err f) → IsRefusedBound claim f claim.bound
+refused_of claim commands rounds steps late other window f same_commands same_rounds under is same h =
+    let C : List Command → Type 0 = λ xs. IsAnswer xs steps other rounds window (Err f) in
+    let R : List ℕ → Type 0 = λ ys. IsAnswer claim.commands steps other ys window (Err f) in
+    let P : List Step → Type 0 = λ s. IsAnswer claim.commands s other claim.rounds window (Err f) in
+    let Q : ℤ → Type 0 = λ z. IsAnswer claim.commands (fixed claim.depth) z claim.rounds window (Err f) in
+    (late, window, is, subst Q same (subst P under (subst R same_rounds (subst C same_commands h))))

@@ -1,25 +1,58 @@
--- What `sim` and `oracle` wrote, from what was read, what was made of it and what the writer took.
-use Rattle.std.proofs.Common.{ℕ, ◌≡◌, List, Option, Some, None, subst, sym}
-use Rattle.edd_check.specs.declared.Command.{Command}
-use Rattle.std.specs.Prelude.{IfSome, IsPermutation, sum_by}
+-- What each job wrote or why it failed, from what was read, what was made of it and what the writer took.
+use Rattle.std.proofs.Common.{ℕ, ◌≡◌, ◌∙◌, ◌⊎◌, ◌*◌, refl, Result, Ok, Err, IfOk, List, Option, Some, None, subst, sym, inl, inr}
+use Rattle.std.specs.Prelude.{Bool, ℤ, pos, ◌+ℤ◌, IfSome, IsPermutation, sum_by}
 use Rattle.std.specs.Io.KnownBytes.{Appends}
+use Rattle.edd_check.specs.declared.Command.{Command}
+use Rattle.edd_check.specs.declared.CheckFault.{CheckFault}
+use Rattle.edd_check.specs.declared.Window.{Window}
+use Rattle.edd_check.specs.Window.{load_of, rounds_between}
+use Rattle.edd_oracle.specs.declared.OracleFault.{OracleFault}
+use Rattle.edd_oracle.specs.Input.{IsRefusal}
 use Rattle.blk_trace.specs.Events.{entered, round_of}
 use Rattle.blk_trace.specs.Traces.{Traced}
+use Rattle.blk_text.specs.declared.fault.TextFault.{TextFault}
+use Rattle.blk_text.specs.declared.fault.Why.{Why}
+use Rattle.blk_text.specs.Reads.{IsOutside}
 use Rattle.blk_text.specs.Sources.{Row}
 use Rattle.blk_text.specs.Texts.{rows_text}
 use Rattle.blk_text.specs.Commands.{SpellsCommands}
 use Rattle.blk_text.specs.Certificate.{Claim, claim_rows, SpellsClaim}
 use Rattle.blk_text.specs.Script.{Scripted, SpellsScript}
 use Rattle.blk_text.specs.TraceRecords.{trace_rows, SpellsTrace}
+use Rattle.blk_sim.specs.declared.refusal.SimFault.{SimFault}
 use Rattle.blk_sim.specs.Simulation.{released_bios, ticks_of}
-use Rattle.blk_cli.specs.Outcome.{IsProved, OracleWrote, SimWrote}
+use Rattle.blk_sim.specs.Refusals.{IsSimFault}
+use Rattle.blk_cli.specs.declared.words.Sched.{Sched}
+use Rattle.blk_cli.specs.declared.failure.Failure.{Failure}
+use Rattle.blk_cli.specs.declared.failure.Failure.TheVariants as failure
+use Rattle.blk_cli.specs.Outcome.{RunsUnder, serves_of, meaning_of, kept_of, IsProved, OracleWrote, SimWrote, CheckWrote, bound_line, verdict_of, IsTextFault, IsStepFault, IsSolveFault, IsCheckFault, IsRefusedBound, IsUnrun, IsUnsolved, IsUnproved, SimFails, OracleFails, CheckFails}
 
-pub sim_wrote : (left : Option (List Row)) (s : Scripted) (t : Traced) (old new : Option (List ℕ)) → IfSome left (λ rows. SpellsScript rows s)
-    → t.setup ≡ s.setup → SpellsTrace (trace_rows t) t → IsPermutation (entered t.events) (released_bios s.setup.hw s.lines)
-    → round_of t.events ≡ sum_by ticks_of s.lines → Appends old new (rows_text (trace_rows t)) → IfSome left (λ rows. SimWrote rows old new)
-sim_wrote None s t old new read setup spelled bios ticks wrote = tt
-sim_wrote (Some rows) s t old new read setup spelled bios ticks wrote =
-    record { script = s; trace = t; read = read; setup = setup; spelled = spelled; bios = bios; ticks = ticks; wrote = wrote }
+-- a text's first fault, or one from outside
+pub text_fault : (wrong : List Row → ℕ → Why → Type 0) (input : Option (List Row)) (failed : Bool) (f : TextFault)
+    → IfSome input (λ rows. IsOutside failed f.why ⊎ wrong rows f.at f.why) → IsTextFault wrong input f
+text_fault wrong None failed f h = tt
+text_fault wrong (Some rows) failed f h = elim h [ inl o ↦ elim o [ inl r ↦ inl r.0 | inr m ↦ inr (inl m) ] | inr w ↦ inr (inr w) ]
+
+pub sim_wrote : (sched : Sched) (left : Option (List Row)) (s : Scripted) (t : Traced) (old new : Option (List ℕ)) → IfSome left (λ rows. SpellsScript rows s)
+    → RunsUnder sched s t → t.setup ≡ s.setup → SpellsTrace (trace_rows t) t → IsPermutation (entered t.events) (released_bios s.setup.hw s.lines)
+    → round_of t.events ≡ sum_by ticks_of s.lines → Appends old new (rows_text (trace_rows t)) → IfSome left (λ rows. SimWrote sched rows old new)
+sim_wrote sched None s t old new read ran setup spelled bios ticks wrote = tt
+sim_wrote sched (Some rows) s t old new read ran setup spelled bios ticks wrote =
+    record { script = s; trace = t; read = read; ran = ran; setup = setup; spelled = spelled; bios = bios; ticks = ticks; wrote = wrote }
+
+step_fault : (sched : Sched) (left : Option (List Row)) (s : Scripted) (f : SimFault) → IfSome left (λ rows. SpellsScript rows s)
+    → IsSimFault (serves_of sched) s (meaning_of sched) (kept_of sched) f → IsStepFault sched left f
+step_fault sched None s f read refused = tt
+step_fault sched (Some rows) s f read refused = (s, read, refused)
+
+-- a script that was read and not run
+pub sim_fails : (sched : Sched) (left : Option (List Row)) (s : Scripted) (f : Failure) → IfSome left (λ rows. SpellsScript rows s) → IsUnrun sched s f → SimFails sched left f
+sim_fails sched left s (failure.Text f) read h = absurd h
+sim_fails sched left s (failure.Step f) read h = step_fault sched left s f read h
+sim_fails sched left s (failure.Solve f) read h = absurd h
+sim_fails sched left s (failure.Check f) read h = absurd h
+sim_fails sched left s (failure.Write f) read h = absurd h
+sim_fails sched left s failure.Memory read h = tt
 
 -- what `oracle` wrote, where the input is known
 pub oracle_wrote : (input : Option (List Row)) (depth : ℕ) (commands : List Command) (claim : Claim) (old new : Option (List ℕ)) → IfSome input (λ rows. SpellsCommands rows depth commands) → claim.depth ≡ depth → claim.commands ≡ commands → IsProved claim → SpellsClaim (claim_rows claim) claim → Appends old new (rows_text (claim_rows claim)) → IfSome input (λ rows. OracleWrote rows old new)
@@ -31,3 +64,42 @@ oracle_wrote (Some rows) depth commands claim old new read same_depth same_comma
   spelled = spelled;
   wrote = wrote;
 }
+
+solve_fault : (left : Option (List Row)) (depth : ℕ) (commands : List Command) (f : OracleFault) → IfSome left (λ rows. SpellsCommands rows depth commands) → IsRefusal commands f → IsSolveFault left f
+solve_fault None depth commands f read refused = tt
+solve_fault (Some rows) depth commands f read refused = (depth, commands, read, refused)
+
+-- commands that were read and not solved
+pub oracle_fails : (left : Option (List Row)) (depth : ℕ) (commands : List Command) (f : Failure) → IfSome left (λ rows. SpellsCommands rows depth commands) → IsUnsolved commands f → OracleFails left f
+oracle_fails left depth commands (failure.Text f) read h = absurd h
+oracle_fails left depth commands (failure.Step f) read h = absurd h
+oracle_fails left depth commands (failure.Solve f) read h = solve_fault left depth commands f read h
+oracle_fails left depth commands (failure.Check f) read h = absurd h
+oracle_fails left depth commands (failure.Write f) read h = absurd h
+oracle_fails left depth commands failure.Memory read h = tt
+
+-- what `check` wrote, where the input is known
+pub check_wrote : (left : Option (List Row)) (claim : Claim) (bytes : List ℕ) (old new : Option (List ℕ)) → IfSome left (λ rows. SpellsClaim rows claim) → IsProved claim → bytes ≡ verdict_of claim claim.bound → Appends old new bytes → IfSome left (λ rows. CheckWrote rows old new)
+check_wrote None claim bytes old new read proved is wrote = tt
+check_wrote (Some rows) claim bytes old new read proved is wrote = record { claim = claim; read = read; proved = proved; wrote = subst (Appends old new) is wrote }
+
+-- the line on a certificate with a bound
+pub verdict_is : {S E : Type 0} (text : S → List ℕ) (r : Result S E) (claim : Claim) (late other : ℤ) (window : Window) (commands : List Command) (load carries : ℕ) → claim.bound ≡ Some (late, window) → other ≡ late
+    → commands ≡ claim.commands → load ≡ load_of commands window → carries ≡ claim.depth * rounds_between window.from (pos window.due +ℤ other)
+    → IfOk r (λ s. text s ≡ bound_line other load carries) → IfOk r (λ s. text s ≡ verdict_of claim claim.bound)
+verdict_is text (Err e) claim late other window commands load carries is same list loads carry h = tt
+verdict_is text (Ok s) claim late other window commands load carries is same list loads carry h =
+    rw is (h ∙ rw (same, loads, carry, same, list) refl)
+
+check_fault : (left : Option (List Row)) (claim : Claim) (f : CheckFault) → IfSome left (λ rows. SpellsClaim rows claim) → IsRefusedBound claim f claim.bound → IsCheckFault left f
+check_fault None claim f read refused = tt
+check_fault (Some rows) claim f read refused = (claim, read, refused)
+
+-- a certificate that was read and not proved
+pub check_fails : (left : Option (List Row)) (claim : Claim) (f : Failure) → IfSome left (λ rows. SpellsClaim rows claim) → IsUnproved claim f → CheckFails left f
+check_fails left claim (failure.Text f) read h = absurd h
+check_fails left claim (failure.Step f) read h = absurd h
+check_fails left claim (failure.Solve f) read h = absurd h
+check_fails left claim (failure.Check f) read h = check_fault left claim f read h
+check_fails left claim (failure.Write f) read h = absurd h
+check_fails left claim failure.Memory read h = tt

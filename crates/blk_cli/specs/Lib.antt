@@ -1,3 +1,5 @@
+pub mod Asked
+pub mod Ends
 pub mod Line
 pub mod Outcome
 pub mod Statuses

@@ -1,20 +1,70 @@
--- What a run of the program wrote, or looked at.
-use Rattle.std.specs.Prelude.{◌≡◌, ◌↔◌, ℕ, ℤ, List, [], Option, None, IfSome, IsPermutation, sum_by}
+-- What a job comes to: what it wrote, or why it failed.
+use Rattle.std.specs.Prelude.{◌≡◌, ◌↔◌, ◌⊎◌, ◌*◌, ◌++◌, ◌∷◌, ⊤, true, ℕ, ℤ, pos, ◌+ℤ◌, Bool, List, [], Option, None, Some, Result, Err, MatchResult, IfSome, IsPermutation, sum_by, codes, decimal}
+use Rattle.std.specs.FinMap as fin
+use Rattle.std.specs.Fmt.{signed_decimal}
 use Rattle.std.specs.Io.KnownBytes.{Appends}
 use Rattle.edd_check.specs.declared.Command.{Command}
+use Rattle.edd_check.specs.declared.CheckFault.{CheckFault}
 use Rattle.edd_check.specs.declared.Window.{Window}
 use Rattle.edd_check.specs.Capacity.{fixed}
+use Rattle.edd_check.specs.Check.{IsAnswer}
 use Rattle.edd_check.specs.Schedule.{IsLegal, IsGreatestLateness, IsLeastLateness}
-use Rattle.edd_check.specs.Window.{IsCrowded}
-use Rattle.blk_text.specs.Sources.{Row}
-use Rattle.blk_text.specs.Texts.{rows_text}
-use Rattle.blk_text.specs.Commands.{SpellsCommands}
+use Rattle.edd_check.specs.Window.{IsCrowded, load_of, rounds_between}
+use Rattle.edd_oracle.specs.declared.OracleFault.{OracleFault}
+use Rattle.edd_oracle.specs.Input.{IsRefusal}
 use Rattle.blk_trace.specs.Events.{entered, round_of}
 use Rattle.blk_trace.specs.Traces.{Traced}
-use Rattle.blk_text.specs.Script.{Scripted, SpellsScript}
+use Rattle.blk_sched.specs.Meaning.{Waiting, Meaning}
+use Rattle.blk_none.specs.Choice.{serves_own}
+use Rattle.blk_text.specs.declared.fault.Why.{Why}
+use Rattle.blk_text.specs.declared.fault.Why.TheVariants as why
+use Rattle.blk_text.specs.declared.fault.TextFault.{TextFault}
+use Rattle.blk_text.specs.Sources.{Row}
+use Rattle.blk_text.specs.Texts.{rows_text}
+use Rattle.blk_text.specs.Commands.{SpellsCommands, CommandsFault}
+use Rattle.blk_text.specs.Script.{Scripted, SpellsScript, ScriptFault}
 use Rattle.blk_text.specs.TraceRecords.{trace_rows, SpellsTrace}
+use Rattle.blk_text.specs.Certificate.{Claim, claim_rows, SpellsClaim, ClaimFault}
+use Rattle.blk_sim.specs.declared.refusal.SimFault.{SimFault}
 use Rattle.blk_sim.specs.Simulation.{released_bios, ticks_of}
-use Rattle.blk_text.specs.Certificate.{Claim, claim_rows, SpellsClaim}
+use Rattle.blk_sim.specs.State.{SimState, start_of}
+use Rattle.blk_sim.specs.Runs.{Runs}
+use Rattle.blk_sim.specs.Refusals.{IsSimFault}
+use Rattle.blk_cli.specs.declared.words.Sched.{Sched}
+use Rattle.blk_cli.specs.declared.words.Sched.TheVariants as sched
+use Rattle.blk_cli.specs.declared.words.Job.{Job}
+use Rattle.blk_cli.specs.declared.words.Job.TheVariants as job
+use Rattle.blk_cli.specs.declared.failure.Failure.{Failure}
+use Rattle.blk_cli.specs.declared.failure.Failure.TheVariants as failure
+
+-- which requests a scheduler serves, what it means before it has any, and what it keeps then
+abbrev pub serves_of : Sched → ℕ → Waiting → Bool
+serves_of sched.None = serves_own
+
+abbrev pub meaning_of : Sched → Meaning
+meaning_of sched.None = record { pending = fin.empty; open_picks = record { reads = 0; writes = 0 }; front = true; round = 0 }
+
+abbrev pub kept_of : Sched → List ℕ
+kept_of sched.None = []
+
+-- steps of a script that a scheduler accepts lead from the start to this trace
+abbrev pub RunsUnder : Sched → Scripted → Traced → Type 0
+RunsUnder s script trace = (end : SimState) × Runs (serves_of s) script.lines (start_of script (meaning_of s) (kept_of s)) end
+    × (trace.setup ≡ end.core.setup) × (trace.events ≡ end.core.events)
+
+-- what `sim` wrote: the text that spells a legal trace under the script's setup, to which its steps lead under the scheduler.
+-- Its bios are, each once, the `bio` lines that are followed by a flush of their submitter, and after it by a drain of its
+-- hardware queue or a run; its Ticks are as many as the `tick` lines and the n of the `run` lines together
+pub record SimWrote (s : Sched) (rows : List Row) (old new : Option (List ℕ)) : Type 0 where
+  pub script : Scripted
+  pub trace : Traced
+  pub read : SpellsScript rows script
+  pub ran : RunsUnder s script trace
+  pub setup : trace.setup ≡ script.setup
+  pub spelled : SpellsTrace (trace_rows trace) trace
+  pub bios : IsPermutation (entered trace.events) (released_bios script.setup.hw script.lines)
+  pub ticks : round_of trace.events ≡ sum_by ticks_of script.lines
+  pub wrote : Appends old new (rows_text (trace_rows trace))
 
 -- the schedule is legal, its greatest lateness is the one stated, the window is crowded at it, and it is least
 pub record IsProof (commands : List Command) (depth : ℕ) (rounds : List ℕ) (late : ℤ) (window : Window) : Type 0 where
@@ -36,21 +86,110 @@ pub record OracleWrote (rows : List Row) (old new : Option (List ℕ)) : Type 0 
   pub spelled : SpellsClaim (claim_rows claim) claim
   pub wrote : Appends old new (rows_text (claim_rows claim))
 
--- what `check` looked at: a certificate that is proved
-pub record CheckRead (rows : List Row) : Type 0 where
+-- the line on a certificate: how late it is, and what its window holds and carries
+abbrev pub bound_line : ℤ → ℕ → ℕ → List ℕ
+bound_line late load carries =
+    codes "ok lateness " ++ (signed_decimal late ++ (codes " load " ++ (decimal load ++ (codes " carries " ++ (decimal carries ++ 10 ∷ [])))))
+
+abbrev pub verdict_of : Claim → Option (ℤ × Window) → List ℕ
+verdict_of claim None = codes "ok no commands" ++ 10 ∷ []
+verdict_of claim (Some b) = bound_line b.0 (load_of claim.commands b.1) (claim.depth * rounds_between b.1.from (pos b.1.due +ℤ b.0))
+
+-- what `check` wrote: the line on the certificate that was read, which is proved
+pub record CheckWrote (rows : List Row) (old new : Option (List ℕ)) : Type 0 where
   pub claim : Claim
   pub read : SpellsClaim rows claim
   pub proved : IsProved claim
+  pub wrote : Appends old new (verdict_of claim claim.bound)
 
--- what `sim` wrote: the text that spells a legal trace under the script's setup. Its bios are, each once, the `bio` lines
--- that are followed by a flush of their submitter, and after it by a drain of its hardware queue or a run; its Ticks are
--- as many as the `tick` lines and the n of the `run` lines together
-pub record SimWrote (rows : List Row) (old new : Option (List ℕ)) : Type 0 where
-  pub script : Scripted
-  pub trace : Traced
-  pub read : SpellsScript rows script
-  pub setup : trace.setup ≡ script.setup
-  pub spelled : SpellsTrace (trace_rows trace) trace
-  pub bios : IsPermutation (entered trace.events) (released_bios script.setup.hw script.lines)
-  pub ticks : round_of trace.events ≡ sum_by ticks_of script.lines
-  pub wrote : Appends old new (rows_text (trace_rows trace))
+-- why a text is refused: its first fault, where the reader didn't fail and memory didn't run out
+abbrev pub IsTextFault : (List Row → ℕ → Why → Type 0) → Option (List Row) → TextFault → Type 0
+IsTextFault wrong input f = IfSome input (λ rows. (f.why ≡ why.Read) ⊎ ((f.why ≡ why.Memory) ⊎ wrong rows f.at f.why))
+
+-- a step of the script that was read is refused
+abbrev pub IsStepFault : Sched → Option (List Row) → SimFault → Type 0
+IsStepFault s input f = IfSome input (λ rows. (script : Scripted) × SpellsScript rows script
+    × IsSimFault (serves_of s) script (meaning_of s) (kept_of s) f)
+
+-- the oracle refuses the commands that were read
+abbrev pub IsSolveFault : Option (List Row) → OracleFault → Type 0
+IsSolveFault input f = IfSome input (λ rows. (depth : ℕ) × (commands : List Command) × SpellsCommands rows depth commands
+    × IsRefusal commands f)
+
+-- the check refuses the certificate that was read, which has a bound
+abbrev pub IsRefusedBound : Claim → CheckFault → Option (ℤ × Window) → Type 0
+IsRefusedBound claim f b = (late : ℤ) × (window : Window) × (b ≡ Some (late, window))
+    × IsAnswer claim.commands (fixed claim.depth) late claim.rounds window (Err f)
+
+abbrev pub IsCheckFault : Option (List Row) → CheckFault → Type 0
+IsCheckFault input f = IfSome input (λ rows. (claim : Claim) × SpellsClaim rows claim × IsRefusedBound claim f claim.bound)
+
+-- a script that was read is not run, a list not solved and a certificate not proved: for what it is refused, or for want of
+-- memory
+abbrev pub IsUnrun : Sched → Scripted → Failure → Type 0
+IsUnrun s script (failure.Text f) = ⊥
+IsUnrun s script (failure.Step f) = IsSimFault (serves_of s) script (meaning_of s) (kept_of s) f
+IsUnrun s script (failure.Solve f) = ⊥
+IsUnrun s script (failure.Check f) = ⊥
+IsUnrun s script (failure.Write f) = ⊥
+IsUnrun s script failure.Memory = ⊤
+
+abbrev pub IsUnsolved : List Command → Failure → Type 0
+IsUnsolved commands (failure.Text f) = ⊥
+IsUnsolved commands (failure.Step f) = ⊥
+IsUnsolved commands (failure.Solve f) = IsRefusal commands f
+IsUnsolved commands (failure.Check f) = ⊥
+IsUnsolved commands (failure.Write f) = ⊥
+IsUnsolved commands failure.Memory = ⊤
+
+abbrev pub IsUnproved : Claim → Failure → Type 0
+IsUnproved claim (failure.Text f) = ⊥
+IsUnproved claim (failure.Step f) = ⊥
+IsUnproved claim (failure.Solve f) = ⊥
+IsUnproved claim (failure.Check f) = IsRefusedBound claim f claim.bound
+IsUnproved claim (failure.Write f) = ⊥
+IsUnproved claim failure.Memory = ⊤
+
+-- why each job fails
+abbrev pub SimFails : Sched → Option (List Row) → Failure → Type 0
+SimFails s input (failure.Text f) = IsTextFault ScriptFault input f
+SimFails s input (failure.Step f) = IsStepFault s input f
+SimFails s input (failure.Solve f) = ⊥
+SimFails s input (failure.Check f) = ⊥
+SimFails s input (failure.Write f) = ⊤
+SimFails s input failure.Memory = ⊤
+
+abbrev pub OracleFails : Option (List Row) → Failure → Type 0
+OracleFails input (failure.Text f) = IsTextFault CommandsFault input f
+OracleFails input (failure.Step f) = ⊥
+OracleFails input (failure.Solve f) = IsSolveFault input f
+OracleFails input (failure.Check f) = ⊥
+OracleFails input (failure.Write f) = ⊤
+OracleFails input failure.Memory = ⊤
+
+abbrev pub CheckFails : Option (List Row) → Failure → Type 0
+CheckFails input (failure.Text f) = IsTextFault ClaimFault input f
+CheckFails input (failure.Step f) = ⊥
+CheckFails input (failure.Solve f) = ⊥
+CheckFails input (failure.Check f) = IsCheckFault input f
+CheckFails input (failure.Write f) = ⊤
+CheckFails input failure.Memory = ⊤
+
+-- the version is written, or the writer fails
+abbrev pub VersionFails : Failure → Type 0
+VersionFails (failure.Text f) = ⊥
+VersionFails (failure.Step f) = ⊥
+VersionFails (failure.Solve f) = ⊥
+VersionFails (failure.Check f) = ⊥
+VersionFails (failure.Write f) = ⊤
+VersionFails failure.Memory = ⊤
+
+abbrev pub version_line : List ℕ
+version_line = codes "blk 1.0.0" ++ 10 ∷ []
+
+-- what a job does with the records of its input: what it wrote where it ends well, and why it fails
+abbrev pub Does : Job → Option (List Row) → Option (List ℕ) → Option (List ℕ) → Result (Unit {0}) Failure → Type 0
+Does job.Version input old new r = MatchResult r (λ _. Appends old new version_line) VersionFails
+Does (job.Sim s) input old new r = MatchResult r (λ _. IfSome input (λ rows. SimWrote s rows old new)) (SimFails s input)
+Does job.Oracle input old new r = MatchResult r (λ _. IfSome input (λ rows. OracleWrote rows old new)) (OracleFails input)
+Does job.Check input old new r = MatchResult r (λ _. IfSome input (λ rows. CheckWrote rows old new)) (CheckFails input)

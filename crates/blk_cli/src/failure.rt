@@ -1,14 +1,27 @@
 //! Why the program ends without its output, as a line and an exit status.
 
-ghost use Rattle.std.specs.Prelude.{◌≡◌, ◌≢◌, ◌⊎◌, ◌≤◌};
-ghost use Rattle.blk_cli.specs.Statuses.{IsOfWriter};
+ghost use Rattle.std.specs.Prelude.{◌≡◌, ◌++◌, OnOk, IsTrue, decimal};
+ghost use Rattle.std.specs.Fmt.{signed_decimal};
+ghost use Rattle.std.specs.Io.KnownBytes.{Appends};
+ghost use Rattle.blk_cli.specs.Ends.{line, numbered, at_record, text_name, bio_name, step_name, text_line, step_line, oracle_line, check_line, line_of, text_status, step_status, oracle_status, check_status, status_of};
 
-use crate::{FAILED, REFUSED};
+use crate::{Ended, FAILED, REFUSED};
+use blk_bio::bio::BioFault;
 use blk_sim::{SimFault, SimWhy};
 use blk_text::fault::{TextFault, Why, WriteFault};
 use edd_check::CheckFault;
 use edd_oracle::OracleFault;
+use std::io;
 use std::io::Write;
+
+/// The line where the reader failed.
+const READ_FAULT: &[u8] = b"blk: read fault\n";
+
+/// The line where the writer failed.
+const WRITE_FAULT: &[u8] = b"blk: write fault\n";
+
+/// The line where memory ran out.
+const WANT_OF_MEMORY: &[u8] = b"blk: want of memory\n";
 
 /// Why a subcommand wrote nothing, or not all.
 #[derive(Clone, Copy, Debug, PartialEq, Eq)]
@@ -27,88 +40,173 @@ pub enum Failure {
     Memory,
 }
 
-/// What a failure is at bottom.
-#[derive(Clone, Copy, Debug, PartialEq, Eq)]
-enum Kind {
-    Refused,
-    Read,
-    Write,
-    Memory,
-}
-
 impl Failure {
-    fn kind(&self) -> Kind
-        ensures { IsOfWriter self.now → (result ≡ Kind.Write) ⊎ (result ≡ Kind.Memory) }
+    /// The exit status: 1 for refused input, 3 for want of memory, a read fault or a write fault.
+    pub fn status(&self) -> u8
+        ensures { result ≡ status_of self.now }
     {
         match self {
             Failure::Text(fault) => match fault.why {
-                Why::Read => Kind::Read,
-                Why::Memory => Kind::Memory,
-                _ => Kind::Refused,
+                Why::Read | Why::Memory => FAILED,
+                _ => REFUSED,
             },
             Failure::Step(fault) => match fault.why {
-                SimWhy::Memory => Kind::Memory,
-                _ => Kind::Refused,
+                SimWhy::Memory => FAILED,
+                _ => REFUSED,
             },
-            Failure::Solve(OracleFault::Memory) => Kind::Memory,
-            Failure::Solve(_) => Kind::Refused,
-            Failure::Check(CheckFault::Memory) => Kind::Memory,
-            Failure::Check(_) => Kind::Refused,
-            Failure::Write(WriteFault::Write) => Kind::Write,
-            Failure::Write(WriteFault::Memory) | Failure::Memory => Kind::Memory,
+            Failure::Solve(OracleFault::Memory) => FAILED,
+            Failure::Solve(_) => REFUSED,
+            Failure::Check(CheckFault::Memory) => FAILED,
+            Failure::Check(_) => REFUSED,
+            Failure::Write(_) | Failure::Memory => FAILED,
         }
     }
 
-    /// Writes the failure's line, `blk: ` and what was refused, and answers the exit status: 1 for refused input, 3 for
-    /// want of memory, a read fault or a write fault. Where the line can't be written, the status stays.
-    pub fn report<F: Write>(&self, faults: &mut F) -> u8
-        ensures range { (result ≢ 0) × (result ≤ 3) }
-        ensures of_writer { IsOfWriter self.now → result ≡ 3 }
+    /// Writes the failure's line: `blk: ` and what was refused, where it stands or which id or number it has.
+    pub fn tell<F: Write>(&self, faults: &mut F) -> io::Result<()>
+        ensures { OnOk result (Appends (F.contents faults.old) (F.contents faults.new) (line_of self.now)) }
     {
-        let kind = self.kind();
-        let _ = match kind {
-            Kind::Refused => self.name(faults),
-            Kind::Read => faults.write_all(b"blk: read fault\n"),
-            Kind::Write => faults.write_all(b"blk: write fault\n"),
-            Kind::Memory => faults.write_all(b"blk: want of memory\n"),
-        };
-        match kind {
-            Kind::Refused => REFUSED,
-            Kind::Read | Kind::Write | Kind::Memory => FAILED,
+        match self {
+            Failure::Text(fault) => tell_text(faults, fault.at, fault.why),
+            Failure::Step(fault) => tell_step(faults, fault.at, fault.why),
+            Failure::Solve(fault) => tell_solve(faults, *fault),
+            Failure::Check(fault) => tell_check(faults, *fault),
+            Failure::Write(WriteFault::Write) => faults.write_all(WRITE_FAULT),
+            Failure::Write(WriteFault::Memory) | Failure::Memory => faults.write_all(
+                WANT_OF_MEMORY,
+            ),
         }
     }
 
-    // Writes the line of what was refused: where it stands or its name, and the id or number that it has.
-    fn name<F: Write>(&self, faults: &mut F) -> std::io::Result<()> {
-        match self {
-            Failure::Text(fault) => writeln!(faults, "blk: {fault}"),
-            Failure::Step(fault) => {
-                let at = fault.at;
-                let why = fault.why;
-                writeln!(faults, "blk: record {at}: {why}")
-            }
-            Failure::Solve(OracleFault::RoundRange(id)) => {
-                writeln!(faults, "blk: RoundRange {id}")
-            }
-            Failure::Solve(OracleFault::RepeatedId(id)) => {
-                writeln!(faults, "blk: RepeatedId {id}")
-            }
-            Failure::Solve(fault) => writeln!(faults, "blk: {fault}"),
-            Failure::Check(CheckFault::BeforeRelease(id)) => {
-                writeln!(faults, "blk: BeforeRelease {id}")
-            }
-            Failure::Check(CheckFault::OverDepth(round)) => {
-                writeln!(faults, "blk: OverDepth {round}")
-            }
-            Failure::Check(CheckFault::WrongLateness(own)) => {
-                writeln!(faults, "blk: WrongLateness {own}")
-            }
-            Failure::Check(CheckFault::NotCrowded(load)) => {
-                writeln!(faults, "blk: NotCrowded {load}")
-            }
-            Failure::Check(fault) => writeln!(faults, "blk: {fault}"),
-            Failure::Write(fault) => writeln!(faults, "blk: {fault}"),
-            Failure::Memory => Ok(()),
+    /// Writes the failure's line and ends with its status, which stays where the line can't be written.
+    pub fn report<F: Write>(&self, faults: &mut F) -> Ended
+        ensures status { result.status ≡ status_of self.now }
+        ensures told { IsTrue result.told → Appends (F.contents faults.old) (F.contents faults.new) (line_of self.now) }
+    {
+        let told = self.tell(faults).is_ok();
+        Ended {
+            status: self.status(),
+            told,
         }
+    }
+}
+
+/// The name of a bio's fault.
+fn bio_name(fault: BioFault) -> &'static str
+    ensures { result.now ≡ bio_name fault }
+{
+    match fault {
+        BioFault::Empty => "Empty",
+        BioFault::Range => "Range",
+    }
+}
+
+/// The name of what is wrong with a record.
+fn text_name(why: Why) -> &'static str
+    ensures { result.now ≡ text_name why }
+{
+    match why {
+        Why::Title => "Title",
+        Why::Fields => "Fields",
+        Why::Word => "Word",
+        Why::Number => "Number",
+        Why::Range => "Range",
+        Why::Bio(fault) => bio_name(fault),
+        Why::Count => "Count",
+        Why::TooLong => "TooLong",
+        Why::Read => "Read",
+        Why::Memory => "Memory",
+    }
+}
+
+/// The name of why a step is refused.
+fn step_name(why: SimWhy) -> &'static str
+    ensures { result.now ≡ step_name why }
+{
+    match why {
+        SimWhy::Full => "Full",
+        SimWhy::SoftFull => "SoftFull",
+        SimWhy::Repeated => "Repeated",
+        SimWhy::TraceFull => "TraceFull",
+        SimWhy::TagRange => "TagRange",
+        SimWhy::SlotUsed => "SlotUsed",
+        SimWhy::NotIssued => "NotIssued",
+        SimWhy::InFlight => "InFlight",
+        SimWhy::Memory => "Memory",
+    }
+}
+
+/// Writes the line of what is refused at a record.
+fn tell_record<F: Write>(faults: &mut F, at: u64, name: &str) -> io::Result<()>
+    ensures { OnOk result (Appends (F.contents faults.old) (F.contents faults.new) (at_record at name.now)) }
+{
+    writeln!(faults, "blk: record {at}: {name}")
+}
+
+/// Writes the line of a name.
+fn tell_name<F: Write>(faults: &mut F, name: &str) -> io::Result<()>
+    ensures { OnOk result (Appends (F.contents faults.old) (F.contents faults.new) (line name.now)) }
+{
+    writeln!(faults, "blk: {name}")
+}
+
+/// Writes the line of a name with an id or a number.
+fn tell_number<F: Write>(faults: &mut F, name: &str, number: u64) -> io::Result<()>
+    ensures { OnOk result (Appends (F.contents faults.old) (F.contents faults.new) (numbered name.now (decimal number))) }
+{
+    writeln!(faults, "blk: {name} {number}")
+}
+
+/// Writes the line of a name with a number that has a sign.
+fn tell_signed<F: Write>(faults: &mut F, name: &str, number: i64) -> io::Result<()>
+    ensures { OnOk result (Appends (F.contents faults.old) (F.contents faults.new) (numbered name.now (signed_decimal number))) }
+{
+    writeln!(faults, "blk: {name} {number}")
+}
+
+/// Writes the line on a text.
+fn tell_text<F: Write>(faults: &mut F, at: u64, why: Why) -> io::Result<()>
+    ensures { OnOk result (Appends (F.contents faults.old) (F.contents faults.new) (text_line at why)) }
+{
+    match why {
+        Why::Read => faults.write_all(READ_FAULT),
+        Why::Memory => faults.write_all(WANT_OF_MEMORY),
+        _ => tell_record(faults, at, text_name(why)),
+    }
+}
+
+/// Writes the line on a step.
+fn tell_step<F: Write>(faults: &mut F, at: u64, why: SimWhy) -> io::Result<()>
+    ensures { OnOk result (Appends (F.contents faults.old) (F.contents faults.new) (step_line at why)) }
+{
+    match why {
+        SimWhy::Memory => faults.write_all(WANT_OF_MEMORY),
+        _ => tell_record(faults, at, step_name(why)),
+    }
+}
+
+/// Writes the line on commands.
+fn tell_solve<F: Write>(faults: &mut F, fault: OracleFault) -> io::Result<()>
+    ensures { OnOk result (Appends (F.contents faults.old) (F.contents faults.new) (oracle_line fault)) }
+{
+    match fault {
+        OracleFault::TooMany => tell_name(faults, "TooMany"),
+        OracleFault::RoundRange(id) => tell_number(faults, "RoundRange", id),
+        OracleFault::RepeatedId(id) => tell_number(faults, "RepeatedId", id),
+        OracleFault::Memory => faults.write_all(WANT_OF_MEMORY),
+    }
+}
+
+/// Writes the line on a certificate.
+fn tell_check<F: Write>(faults: &mut F, fault: CheckFault) -> io::Result<()>
+    ensures { OnOk result (Appends (F.contents faults.old) (F.contents faults.new) (check_line fault)) }
+{
+    match fault {
+        CheckFault::Length => tell_name(faults, "Length"),
+        CheckFault::BeforeRelease(id) => tell_number(faults, "BeforeRelease", id),
+        CheckFault::Memory => faults.write_all(WANT_OF_MEMORY),
+        CheckFault::OverDepth(round) => tell_number(faults, "OverDepth", round),
+        CheckFault::WrongLateness(own) => tell_signed(faults, "WrongLateness", own),
+        CheckFault::NotCrowded(load) => tell_number(faults, "NotCrowded", load),
     }
 }

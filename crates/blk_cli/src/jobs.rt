@@ -1,47 +1,85 @@
 //! What each subcommand does with its input.
 
-ghost use Rattle.std.specs.Prelude.{◌≡◌, ◌*◌, ◌⊎◌, OnOk, IfOk, IfErr, IfSome};
+ghost use Rattle.std.specs.Prelude.{◌≡◌, ◌*◌, ◌⊎◌, OnOk, IfOk, IfErr, IfSome, MatchResult, IsPermutation, sum_by, string_bytes};
+ghost use Rattle.std.specs.Io.KnownBytes.{Appends};
+ghost use Rattle.blk_trace.specs.Events.{entered, round_of};
+ghost use Rattle.blk_text.specs.Script.{IsScript, scripted};
+ghost use Rattle.blk_sim.specs.Simulation.{released_bios, ticks_of};
 ghost use Rattle.blk_cli.specs.Statuses.{IsOfWriter};
 ghost use Rattle.std.specs.Prelude.{ℤ, pos, negsuc, ◌+ℤ◌, ◌≤ℤ◌, ◌≤◌, ◌<◌, ◌^◌};
 ghost use Rattle.edd_check.specs.Window.{rounds_between, WindowInRange};
 ghost use Rattle.blk_text.specs.Sources.{input_of};
 ghost use Rattle.blk_text.specs.Certificate.{IsClaim, IsLateness, claimed};
 ghost use Rattle.blk_text.specs.Commands.{AreCommands};
-ghost use Rattle.blk_cli.specs.Outcome.{CheckRead, IsProved, OracleWrote, SimWrote};
+ghost use Rattle.blk_cli.specs.Outcome.{RunsUnder, IsUnrun, IsUnsolved, IsUnproved, SimWrote, SimFails, OracleWrote, OracleFails, CheckWrote, CheckFails, VersionFails, IsProved, verdict_of, version_line};
 
 use crate::failure::Failure;
+use crate::words::{Sched, VERSION};
 use blk_none::NoneSched;
 use blk_sim::simulate;
 use blk_text::certificate::{Certificate, read_certificate, write_certificate};
 use blk_text::commands::read_commands;
 use blk_text::fault::WriteFault;
-use blk_text::script::read_script;
+use blk_text::script::{Script, read_script};
 use blk_text::source::Records;
 use blk_text::trace::write_trace;
+use blk_trace::trace::Trace;
 use edd_check::{Capacity, Command, Window, check, load};
 use edd_oracle::solve;
 use std::alloc::{AllocError, Global};
 use std::io::{Read, Write};
 
-/// Reads a script, runs it under the scheduler `none`, and writes its trace.
+/// Writes the program's name and version.
+pub fn write_version<W: Write>(writer: &mut W) -> Result<(), Failure>
+    ensures did { MatchResult result (λ _. Appends (W.contents writer.old) (W.contents writer.new) version_line) VersionFails }
+    ensures kept { IfErr result IsOfWriter }
+{
+    match writeln!(writer, "blk {VERSION}") {
+        Ok(()) => Ok(()),
+        Err(_) => Err(Failure::Write(WriteFault::Write)),
+    }
+}
+
+/// The trace of a script under a scheduler.
+fn traced(alloc: Global, sched: Sched, script: &Script) -> Result<Trace, Failure>
+    requires { IsScript (scripted script.now) }
+    ensures ran { IfOk result (λ trace. RunsUnder sched (scripted script.now) trace) }
+    ensures setup { IfOk result (λ trace. trace.setup ≡ script.now.setup) }
+    ensures bios { IfOk result (λ trace. IsPermutation (entered trace.events) (released_bios script.now.setup.hw script.now.lines.items)) }
+    ensures ticks { IfOk result (λ trace. round_of trace.events ≡ sum_by ticks_of script.now.lines.items) }
+    ensures unrun { IfErr result (IsUnrun sched (scripted script.now)) }
+{
+    match sched {
+        Sched::None => {
+            let Ok(scheduler) = NoneSched::new(alloc) else {
+                return Err(Failure::Memory);
+            };
+            match simulate(alloc, script, scheduler) {
+                Ok(trace) => Ok(trace),
+                Err(fault) => Err(Failure::Step(fault)),
+            }
+        }
+    }
+}
+
+/// Reads a script, runs it under a scheduler, and writes its trace.
 pub fn simulate_script<R: Read + Drop, W: Write>(
     alloc: Global,
+    sched: Sched,
     reader: R,
     writer: &mut W,
 ) -> Result<(), Failure>
-    ensures wrote { OnOk result (IfSome (input_of (R.remaining reader)) (λ rows. SimWrote rows (W.contents writer.old) (W.contents writer.new))) }
+    ensures did { MatchResult result (λ _. IfSome (input_of (R.remaining reader)) (λ rows. SimWrote sched rows (W.contents writer.old) (W.contents writer.new)))
+        (SimFails sched (input_of (R.remaining reader))) }
     ensures kept { IfErr result (λ f. IsOfWriter f ⊎ (writer.new ≡ writer.old)) }
 {
     let script = match read_script(alloc, &mut Records::new(alloc, reader)) {
         Ok(script) => script,
         Err(fault) => return Err(Failure::Text(fault)),
     };
-    let Ok(scheduler) = NoneSched::new(alloc) else {
-        return Err(Failure::Memory);
-    };
-    let trace = match simulate(alloc, &script, scheduler) {
+    let trace = match traced(alloc, sched, &script) {
         Ok(trace) => trace,
-        Err(fault) => return Err(Failure::Step(fault)),
+        Err(failure) => return Err(failure),
     };
     match write_trace(alloc, &trace, writer) {
         Ok(()) => Ok(()),
@@ -49,13 +87,14 @@ pub fn simulate_script<R: Read + Drop, W: Write>(
     }
 }
 
-// The certificate of the least schedule of commands.
+/// The certificate of the least schedule of commands.
 fn certify(alloc: Global, depth: u64, commands: Vec<Command>) -> Result<Certificate, Failure>
     requires { AreCommands depth commands.items }
     ensures depth { IfOk result (λ c. c.depth ≡ depth) }
     ensures commands { IfOk result (λ c. c.commands.items ≡ commands.items) }
     ensures in_range { IfOk result (λ c. IsClaim (claimed c)) }
     ensures proved { IfOk result (λ c. IsProved (claimed c)) }
+    ensures unsolved { IfErr result (IsUnsolved commands.items) }
 {
     let Ok(capacity) = Capacity::fixed(alloc, depth) else {
         return Err(Failure::Memory);
@@ -83,21 +122,25 @@ pub fn solve_commands<R: Read + Drop, W: Write>(
     reader: R,
     writer: &mut W,
 ) -> Result<(), Failure>
-    ensures wrote { OnOk result (IfSome (input_of (R.remaining reader)) (λ rows. OracleWrote rows (W.contents writer.old) (W.contents writer.new))) }
+    ensures did { MatchResult result (λ _. IfSome (input_of (R.remaining reader)) (λ rows. OracleWrote rows (W.contents writer.old) (W.contents writer.new)))
+        (OracleFails (input_of (R.remaining reader))) }
     ensures kept { IfErr result (λ f. IsOfWriter f ⊎ (writer.new ≡ writer.old)) }
 {
     let (depth, commands) = match read_commands(alloc, &mut Records::new(alloc, reader)) {
         Ok(list) => list,
         Err(fault) => return Err(Failure::Text(fault)),
     };
-    let certificate = certify(alloc, depth, commands)?;
+    let certificate = match certify(alloc, depth, commands) {
+        Ok(certificate) => certificate,
+        Err(failure) => return Err(failure),
+    };
     match write_certificate(alloc, &certificate, writer) {
         Ok(()) => Ok(()),
         Err(fault) => Err(Failure::Write(fault)),
     }
 }
 
-// How many commands the rounds of a window carry, if each is to be less late than `lateness`.
+/// How many commands the rounds of a window carry, if each is to be less late than `lateness`.
 fn carried(depth: u64, window: Window, lateness: i64) -> u64
     requires depth { depth ≤ 256 }
     requires window { WindowInRange window }
@@ -111,10 +154,11 @@ fn carried(depth: u64, window: Window, lateness: i64) -> u64
     depth * (end - window.from as i64) as u64
 }
 
-// Whether the certificate has no commands, or proves its lateness least.
+/// Whether the certificate has no commands, or proves its lateness least.
 fn verify(alloc: Global, certificate: &Certificate) -> Result<(), Failure>
     requires { IsClaim (claimed certificate.now) }
-    ensures { OnOk result (IsProved (claimed certificate.now)) }
+    ensures proved { OnOk result (IsProved (claimed certificate.now)) }
+    ensures unproved { IfErr result (IsUnproved (claimed certificate.now)) }
 {
     let commands = certificate.commands.as_slice();
     let rounds = certificate.rounds.as_slice();
@@ -132,9 +176,10 @@ fn verify(alloc: Global, certificate: &Certificate) -> Result<(), Failure>
     }
 }
 
-// The line on a certificate that was verified.
+/// The line on a certificate that was verified.
 fn verdict(alloc: Global, certificate: &Certificate) -> Result<String, AllocError>
     requires { IsClaim (claimed certificate.now) }
+    ensures { IfOk result (λ line. string_bytes line ≡ verdict_of (claimed certificate.now) (claimed certificate.now).bound) }
 {
     let Some((lateness, window)) = certificate.bound else {
         return String::from_str(alloc, "ok no commands\n");
@@ -150,25 +195,22 @@ pub fn check_certificate<R: Read + Drop, W: Write>(
     reader: R,
     writer: &mut W,
 ) -> Result<(), Failure>
-    ensures read { OnOk result (IfSome (input_of (R.remaining reader)) CheckRead) }
+    ensures did { MatchResult result (λ _. IfSome (input_of (R.remaining reader)) (λ rows. CheckWrote rows (W.contents writer.old) (W.contents writer.new)))
+        (CheckFails (input_of (R.remaining reader))) }
     ensures kept { IfErr result (λ f. IsOfWriter f ⊎ (writer.new ≡ writer.old)) }
 {
     let certificate = match read_certificate(alloc, &mut Records::new(alloc, reader)) {
         Ok(certificate) => certificate,
         Err(fault) => return Err(Failure::Text(fault)),
     };
-    verify(alloc, &certificate)?;
+    match verify(alloc, &certificate) {
+        Ok(()) => {}
+        Err(failure) => return Err(failure),
+    }
     let Ok(line) = verdict(alloc, &certificate) else {
         return Err(Failure::Memory);
     };
-    write_line(writer, line.as_bytes())
-}
-
-// Writes a line.
-fn write_line<W: Write>(writer: &mut W, line: &[u8]) -> Result<(), Failure>
-    ensures { IfErr result IsOfWriter }
-{
-    match writer.write_all(line) {
+    match writer.write_all(line.as_bytes()) {
         Ok(()) => Ok(()),
         Err(_) => Err(Failure::Write(WriteFault::Write)),
     }

@@ -1,17 +1,20 @@
 //! The command line of the program, over a reader and two writers.
 #![tactic(auto)]
 
-ghost use Rattle.std.specs.Prelude.{◌≡◌, ◌≢◌, ◌≤◌, ◌∷◌, [], ℕ, List, IfSome, map, codes, string_bytes};
+ghost use Rattle.std.specs.Prelude.{◌≡◌, ◌≢◌, ◌≤◌, ◌⊎◌, IfErr, map, string_bytes};
 ghost use Rattle.blk_text.specs.Sources.{input_of};
-ghost use Rattle.blk_cli.specs.Outcome.{CheckRead, OracleWrote, SimWrote};
+ghost use Rattle.blk_cli.specs.Ends.{JobEnds, LineEnds, MemoryEnds, RunEnds};
+ghost use Rattle.blk_cli.specs.Outcome.{Does};
+ghost use Rattle.blk_cli.specs.Statuses.{IsOfWriter};
 
 mod failure;
 mod jobs;
 mod words;
 
-use crate::failure::Failure;
-use crate::jobs::{check_certificate, simulate_script, solve_commands};
-use crate::words::{Choice, NoChoice, choose};
+pub use crate::failure::Failure;
+use crate::jobs::{check_certificate, simulate_script, solve_commands, write_version};
+pub use crate::words::{Job, Sched, VERSION};
+use crate::words::{NoJob, choose};
 pub use blk_sim::laws;
 use std::alloc::Global;
 use std::io::{Read, Write};
@@ -28,56 +31,80 @@ pub const COMMAND_LINE: u8 = 2;
 /// The exit status of want of memory, a read fault or a write fault.
 pub const FAILED: u8 = 3;
 
+/// How a run ended.
+#[derive(Clone, Copy, Debug, PartialEq, Eq)]
+pub struct Ended {
+    /// Its exit status.
+    pub status: u8,
+    /// Whether what it had to say of it was written whole; true where that is nothing.
+    pub told: bool,
+}
+
+/// Does a job: reads the input from the reader, and writes the output to the writer once it is whole.
+pub fn work<R: Read + Drop, W: Write>(
+    alloc: Global,
+    job: Job,
+    reader: R,
+    writer: &mut W,
+) -> Result<(), Failure>
+    ensures did { Does job (input_of (R.remaining reader)) (W.contents writer.old) (W.contents writer.new) result }
+    ensures kept { IfErr result (λ f. IsOfWriter f ⊎ (writer.new ≡ writer.old)) }
+{
+    match job {
+        Job::Version => write_version(writer),
+        Job::Sim(sched) => simulate_script(alloc, sched, reader, writer),
+        Job::Oracle => solve_commands(alloc, reader, writer),
+        Job::Check => check_certificate(alloc, reader, writer),
+    }
+}
+
+/// Does a job, and says to `faults` why it failed.
+pub fn perform<R: Read + Drop, W: Write, F: Write>(
+    alloc: Global,
+    job: Job,
+    reader: R,
+    writer: &mut W,
+    faults: &mut F,
+) -> Ended
+    ensures ended { JobEnds job (input_of (R.remaining reader)) (W.contents writer.old) (W.contents writer.new) (F.contents faults.old) (F.contents faults.new) result }
+    ensures kept { result.status ≢ 0 → result.status ≢ 3 → writer.new ≡ writer.old }
+    ensures quiet { result.status ≡ 0 → faults.new ≡ faults.old }
+{
+    match work(alloc, job, reader, writer) {
+        Ok(()) => Ended {
+            status: GOOD,
+            told: true,
+        },
+        Err(failure) => failure.report(faults),
+    }
+}
+
 /// Runs the program on the words of its command line, the first of which is its name: reads the input from the reader,
-/// writes the output to the writer, and where there is none, a line on why to `faults`. Answers the exit status.
-///
-/// Nothing reaches the writer at status 1: what a subcommand writes is handed over once it is whole.
+/// writes the output to the writer, and where there is none, a line on why to `faults`. Answers how it ended.
 pub fn run<R: Read + Drop, W: Write, F: Write>(
     alloc: Global,
     words: &[String],
     reader: R,
     writer: &mut W,
     faults: &mut F,
-) -> u8
-    ensures sim { result ≡ 0 → (name : List ℕ) → map string_bytes words.now ≡ name ∷ codes "sim" ∷ []
-        → IfSome (input_of (R.remaining reader)) (λ rows. SimWrote rows (W.contents writer.old) (W.contents writer.new)) }
-    ensures sim_none { result ≡ 0 → (name : List ℕ) → map string_bytes words.now ≡ name ∷ codes "sim" ∷ codes "--sched" ∷ codes "none" ∷ []
-        → IfSome (input_of (R.remaining reader)) (λ rows. SimWrote rows (W.contents writer.old) (W.contents writer.new)) }
-    ensures sim_equals { result ≡ 0 → (name : List ℕ) → map string_bytes words.now ≡ name ∷ codes "sim" ∷ codes "--sched=none" ∷ []
-        → IfSome (input_of (R.remaining reader)) (λ rows. SimWrote rows (W.contents writer.old) (W.contents writer.new)) }
-    ensures oracle { result ≡ 0 → (name : List ℕ) → map string_bytes words.now ≡ name ∷ codes "oracle" ∷ []
-        → IfSome (input_of (R.remaining reader)) (λ rows. OracleWrote rows (W.contents writer.old) (W.contents writer.new)) }
-    ensures check { result ≡ 0 → (name : List ℕ) → map string_bytes words.now ≡ name ∷ codes "check" ∷ []
-        → IfSome (input_of (R.remaining reader)) CheckRead }
-    ensures range { result ≤ 3 }
+) -> Ended
+    ensures ended { RunEnds (map string_bytes words.now) (input_of (R.remaining reader)) (W.contents writer.old) (W.contents writer.new) (F.contents faults.old) (F.contents faults.new) result }
     // nothing is written at the statuses 1 and 2
-    ensures refused { result ≢ 0 → result ≢ 3 → writer.new ≡ writer.old }
+    ensures kept { result.status ≢ 0 → result.status ≢ 3 → writer.new ≡ writer.old }
+    // nothing is said at status 0
+    ensures quiet { result.status ≡ 0 → faults.new ≡ faults.old }
+    ensures range { result.status ≤ 3 }
 {
-    let choice = match choose(alloc, words) {
-        Ok(choice) => choice,
-        Err(refusal) => return refuse(refusal, faults),
-    };
-    let ended = match choice {
-        Choice::Sim => simulate_script(alloc, reader, writer),
-        Choice::Oracle => solve_commands(alloc, reader, writer),
-        Choice::Check => check_certificate(alloc, reader, writer),
-    };
-    match ended {
-        Ok(()) => GOOD,
-        Err(failure) => failure.report(faults),
-    }
-}
-
-// Says why the words ask for nothing.
-fn refuse<F: Write>(refusal: NoChoice, faults: &mut F) -> u8
-    ensures { (result ≢ 0) × (result ≤ 3) }
-{
-    match refusal {
-        NoChoice::Memory => Failure::Memory.report(faults),
-        NoChoice::Line(error) => {
-            let _ = write!(faults, "{error}");
-            COMMAND_LINE
-        }
-        NoChoice::Nothing => COMMAND_LINE,
+    match choose(alloc, words) {
+        Ok(job) => perform(alloc, job, reader, writer, faults),
+        Err(NoJob::Memory) => Failure::Memory.report(faults),
+        Err(NoJob::Line(error)) => Ended {
+            status: COMMAND_LINE,
+            told: write!(faults, "{error}").is_ok(),
+        },
+        Err(NoJob::Nothing) => Ended {
+            status: COMMAND_LINE,
+            told: true,
+        },
     }
 }

@@ -1,29 +1,44 @@
-//! The words of the command line, as a choice.
+//! The words of the command line, as a job.
 
-ghost use Rattle.std.specs.Prelude.{◌≡◌, ◌∷◌, [], List, ℕ, IfOk, codes, map, string_bytes};
-ghost use Rattle.clap.specs.Words.{app_of};
-ghost use Rattle.blk_cli.specs.Line.{IsBlkApp};
+ghost use Rattle.std.specs.Prelude.{◌≡◌, ◌⊎◌, false, IfOk, IfErr, map, option_and_then, string_bytes};
+ghost use Rattle.clap.specs.Words.{app_of, rule_of, rows_of, found_of, subcommand_rows_of};
+ghost use Rattle.clap.specs.declared.builder.command.Command.TheViews.{out-Command as fields_of};
+ghost use Rattle.blk_cli.specs.Line.{Names, AreSchedulers, sched_rule, sim_app, blk_app};
+ghost use Rattle.blk_cli.specs.Asked.{Asks, AreRefused, sched_of, job_of};
 
 use clap::error::ErrorKind;
-use clap::{Arg, ArgAction, Command, Error};
+use clap::{Arg, ArgAction, ArgMatches, Command, Error};
 use std::alloc::{AllocError, Global};
 
+/// The names of the schedulers.
 static SCHEDULERS: [&str; 1] = ["none"];
+
+/// The version of the program.
+pub const VERSION: &str = "1.0.0";
+
+/// The scheduler that a script is run under, with its settings.
+#[derive(Clone, Copy, Debug, PartialEq, Eq)]
+pub enum Sched {
+    /// `none`: in the order of entry.
+    None,
+}
 
 /// What the program is asked to do.
 #[derive(Clone, Copy, Debug, PartialEq, Eq)]
-pub enum Choice {
-    /// Run a script under the scheduler `none`, and write its trace.
-    Sim,
+pub enum Job {
+    /// Write the program's name and version.
+    Version,
+    /// Run a script under a scheduler, and write its trace.
+    Sim(Sched),
     /// Write the certificate of a command list.
     Oracle,
     /// Check a certificate.
     Check,
 }
 
-/// Why nothing was chosen.
+/// Why there is no job.
 #[derive(Drop)]
-pub enum NoChoice {
+pub enum NoJob {
     /// Memory ran out.
     Memory,
     /// The words are no command line of the program, or ask for its help: what clap says of them.
@@ -32,23 +47,40 @@ pub enum NoChoice {
     Nothing,
 }
 
-fn blk_command<'a>(alloc: Global) -> Result<Command<'a>, AllocError>
-    ensures { IfOk result (λ c. IsBlkApp (app_of c)) }
+/// The argument that names the scheduler.
+fn sched_arg<'a>(alloc: Global) -> Arg<'a>
+    ensures rule { (names : Names) × AreSchedulers names × (rule_of result ≡ sched_rule names) }
+    ensures local { result.global ≡ false }
 {
-    let sched = Arg::new(alloc, "sched")
+    Arg::new(alloc, "sched")
         .long("sched")
         .action(ArgAction::Set)
         .value_parser(SCHEDULERS.as_slice())
         .default_value("none")
-        .help("The scheduler");
-    let sim = Command::new(alloc, "sim")
+        .help("The scheduler")
+}
+
+/// The subcommand that runs a script.
+fn sim_command<'a>(alloc: Global) -> Result<Command<'a>, AllocError>
+    ensures app { IfOk result (λ c. (names : Names) × AreSchedulers names × (app_of c ≡ sim_app names)) }
+    ensures local { IfOk result (λ c. (fields_of c).has_globals ≡ false) }
+{
+    Command::new(alloc, "sim")
         .about("Runs a script and writes its trace")
-        .arg(sched)?;
+        .arg(sched_arg(alloc))
+}
+
+/// The command line of the program.
+fn blk_command<'a>(alloc: Global) -> Result<Command<'a>, AllocError>
+    ensures { IfOk result (λ c. (names : Names) × AreSchedulers names × (app_of c ≡ blk_app names)) }
+{
+    let sim = sim_command(alloc)?;
     let oracle = Command::new(alloc, "oracle").about(
         "Writes a least schedule of a command list, with its certificate",
     );
     let check = Command::new(alloc, "check").about("Checks a certificate");
     let blk = Command::new(alloc, "blk")
+        .version(VERSION)
         .about("A multiqueue block layer, and how far its schedules fall short of the best")
         .subcommand_required(true)
         .subcommand(sim)?
@@ -57,36 +89,52 @@ fn blk_command<'a>(alloc: Global) -> Result<Command<'a>, AllocError>
     Ok(blk)
 }
 
+/// The scheduler that the options of `sim` name.
+fn sched_of(options: &ArgMatches<'_>) -> Option<Sched>
+    ensures { result ≡ sched_of (rows_of (found_of options.now)) }
+{
+    let name = options.get_str("sched")?;
+    if name == "none" {
+        Some(Sched::None)
+    } else {
+        None
+    }
+}
+
+/// The job of the subcommand that was read.
+fn job_of(matches: &ArgMatches<'_>) -> Option<Job>
+    ensures { result ≡ option_and_then job_of (subcommand_rows_of matches.now) }
+{
+    let (name, options) = matches.subcommand()?;
+    if name == "sim" {
+        let sched = sched_of(options)?;
+        Some(Job::Sim(sched))
+    } else if name == "oracle" {
+        Some(Job::Oracle)
+    } else if name == "check" {
+        Some(Job::Check)
+    } else {
+        None
+    }
+}
+
 /// What the words ask for; the first of them is the program's name.
-pub fn choose(alloc: Global, words: &[String]) -> Result<Choice, NoChoice>
-    ensures sim { IfOk result (λ c. (name : List ℕ) → map string_bytes words.now ≡ name ∷ codes "sim" ∷ [] → c ≡ Choice.Sim) }
-    ensures sim_none { IfOk result (λ c. (name : List ℕ) → map string_bytes words.now ≡ name ∷ codes "sim" ∷ codes "--sched" ∷ codes "none" ∷ [] → c ≡ Choice.Sim) }
-    ensures sim_equals { IfOk result (λ c. (name : List ℕ) → map string_bytes words.now ≡ name ∷ codes "sim" ∷ codes "--sched=none" ∷ [] → c ≡ Choice.Sim) }
-    ensures oracle { IfOk result (λ c. (name : List ℕ) → map string_bytes words.now ≡ name ∷ codes "oracle" ∷ [] → c ≡ Choice.Oracle) }
-    ensures check { IfOk result (λ c. (name : List ℕ) → map string_bytes words.now ≡ name ∷ codes "check" ∷ [] → c ≡ Choice.Check) }
+pub fn choose(alloc: Global, words: &[String]) -> Result<Job, NoJob>
+    ensures asked { IfOk result (Asks (map string_bytes words.now)) }
+    ensures refused { IfErr result (λ why. (why ≡ NoJob.Memory) ⊎ AreRefused (map string_bytes words.now)) }
 {
     let Ok(command) = blk_command(alloc) else {
-        return Err(NoChoice::Memory);
+        return Err(NoJob::Memory);
     };
-    let matches = match command.try_get_matches_from(words) {
-        Ok(matches) => matches,
-        Err(error) => {
-            if error.kind() == ErrorKind::OutOfMemory {
-                return Err(NoChoice::Memory);
-            }
-            return Err(NoChoice::Line(error));
-        }
-    };
-    match matches.subcommand() {
-        None => Err(NoChoice::Nothing),
-        Some((name, _)) => {
-            if name == "sim" {
-                Ok(Choice::Sim)
-            } else if name == "oracle" {
-                Ok(Choice::Oracle)
-            } else {
-                Ok(Choice::Check)
-            }
-        }
+    match command.try_get_matches_from(words) {
+        Ok(matches) => match job_of(&matches) {
+            Some(job) => Ok(job),
+            None => Err(NoJob::Nothing),
+        },
+        Err(error) => match error.kind() {
+            ErrorKind::OutOfMemory => Err(NoJob::Memory),
+            ErrorKind::DisplayVersion => Ok(Job::Version),
+            _ => Err(NoJob::Line(error)),
+        },
     }
 }

@@ -80,5 +80,5 @@ pub fn status_of<R: Read + Drop, W: Write, F: Write>(
     faults: &mut F,
 ) -> u8 {
     let words = words_of(rt, alloc, words);
-    run(alloc, words.as_slice(), reader, out, faults)
+    run(alloc, words.as_slice(), reader, out, faults).status
 }

@@ -1,9 +1,12 @@
-use Rattle.blk_text.specs.Script.{scripted}
-use Rattle.blk_cli.proofs.Written.{sim_wrote}
+use Rattle.blk_text.specs.Script.{ScriptFault, scripted}
+use Rattle.blk_cli.proofs.Written.{text_fault, sim_wrote}
 use Rattle.blk_cli.proofs.jobs.simulate_script.Goals as goal
 
-pub returns-in-Ok-write_trace-clause-wrote : goal.returns-in-Ok-write_trace-clause-wrote
-returns-in-Ok-write_trace-clause-wrote g c =
-    let left = c.new.ensures.left in
-    sim_wrote _ (scripted c.in-Ok.script) c.in-Ok-simulate.trace _ _ (rw left at c.in-Ok.ensures.ok) c.in-Ok-simulate.ensures.setup c.in-Ok-write_trace.ensures.spells
-    c.in-Ok-simulate.ensures.bios c.in-Ok-simulate.ensures.ticks c.in-Ok-write_trace.ensures.ok
+pub returns-in-Err-clause-did : goal.returns-in-Err-clause-did
+returns-in-Err-clause-did g c = text_fault ScriptFault _ _ c.in-Err.fault (rw c.new.ensures.left at c.in-Err.ensures.err)
+
+pub returns-in-Ok-write_trace-clause-did : goal.returns-in-Ok-write_trace-clause-did
+returns-in-Ok-write_trace-clause-did g c =
+    let t = c.in-Ok-traced.ensures in
+    sim_wrote c.args.sched _ (scripted c.in-Ok.script) c.in-Ok-traced.trace _ _ (rw c.new.ensures.left at c.in-Ok.ensures.ok) t.ran t.setup c.in-Ok-write_trace.ensures.spells
+    t.bios t.ticks c.in-Ok-write_trace.ensures.ok

@@ -1,9 +1,13 @@
 use Rattle.blk_text.specs.Certificate.{claimed}
-use Rattle.blk_cli.proofs.Written.{oracle_wrote}
+use Rattle.blk_text.specs.Commands.{CommandsFault}
+use Rattle.blk_cli.proofs.Written.{text_fault, oracle_wrote}
 use Rattle.blk_cli.proofs.jobs.solve_commands.Goals as goal
 
-pub returns-in-Ok-write_certificate-clause-wrote : goal.returns-in-Ok-write_certificate-clause-wrote
-returns-in-Ok-write_certificate-clause-wrote g c =
-    let left = c.new.ensures.left in
-    oracle_wrote _ c.in-Ok.list.0 c.in-Ok.list.1.items (claimed c.in_ok-certificate.certificate) _ _ (rw left at c.in-Ok.ensures.ok) c.in_ok-certificate.ensures.depth c.in_ok-certificate.ensures.commands
-    c.in_ok-certificate.ensures.proved c.in-Ok-write_certificate.ensures.spells c.in-Ok-write_certificate.ensures.ok
+pub returns-in-Err-clause-did : goal.returns-in-Err-clause-did
+returns-in-Err-clause-did g c = text_fault CommandsFault _ _ c.in-Err.fault (rw c.new.ensures.left at c.in-Err.ensures.err)
+
+pub returns-in-Ok-write_certificate-clause-did : goal.returns-in-Ok-write_certificate-clause-did
+returns-in-Ok-write_certificate-clause-did g c =
+    let made = c.in-Ok-certify.ensures in
+    oracle_wrote _ c.in-Ok.list.0 c.in-Ok.list.1.items (claimed c.in-Ok-certify.certificate) _ _ (rw c.new.ensures.left at c.in-Ok.ensures.ok) made.depth made.commands
+    made.proved c.in-Ok-write_certificate.ensures.spells c.in-Ok-write_certificate.ensures.ok

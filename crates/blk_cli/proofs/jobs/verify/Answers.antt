@@ -1,12 +1,13 @@
 use Rattle.std.proofs.Common.{rules, ◌≡◌, List, ℕ, IfSome, refl, subst, w64, of_z, to_z}
 use Rattle.std.proofs.lemmas.Int.{to_z-of_z}
 use Rattle.edd_check.specs.declared.Command.{Command}
+use Rattle.blk_text.specs.Certificate.{claimed}
 use Rattle.blk_cli.specs.Outcome.{IsProof}
-use Rattle.blk_cli.proofs.Claims.{bound_beside, proof_of}
+use Rattle.blk_cli.proofs.Claims.{bound_beside, proof_of, refused_of}
 use Rattle.blk_cli.proofs.jobs.verify.Goals as goal
 
-pub returns-in-Ok-check : goal.returns-in-Ok-check
-returns-in-Ok-check c =
+pub returns-in-Ok-check-clause-proved : goal.returns-in-Ok-check-clause-proved
+returns-in-Ok-check-clause-proved c =
     let certificate = c.args.certificate.now in
     let back : to_z w64 (of_z w64 c.in-Some.lateness) ≡ c.in-Some.lateness = search (rules, to_z-of_z) in
     let seen : IfSome certificate.bound (λ b. IsProof c.as_slice-commands.result.now certificate.depth c.as_slice-rounds.result.now b.0 b.1) =
@@ -19,3 +20,12 @@ returns-in-Ok-check c =
       no_bound = bound_beside _ certificate.commands.items certificate.bound refl c.requires.bound;
       proves = subst Q rounds (subst P commands seen);
     }
+
+pub returns-clause-unproved : goal.returns-clause-unproved
+returns-clause-unproved c =
+    let certificate = c.args.certificate.now in
+    let back : to_z w64 (of_z w64 c.in-Some.lateness) ≡ c.in-Some.lateness = search (rules, to_z-of_z) in
+    let commands : c.as_slice-commands.result.now ≡ certificate.commands.items = search rules in
+    let rounds : c.as_slice-rounds.result.now ≡ certificate.rounds.items = search rules in
+    refused_of (claimed certificate) c.as_slice-commands.result.now c.as_slice-rounds.result.now c.in-Ok.capacity c.in-Some.lateness _ c.in-Some.window c.in-Err.fault commands rounds c.in-Ok.ensures c.in-Some.is back
+    c.in-Err.ensures.answer
