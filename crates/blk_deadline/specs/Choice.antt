@@ -1,6 +1,7 @@
 -- What the deadline scheduler serves and picks, over the plain list of what waits by rising id.
-use Rattle.std.specs.Prelude.{ℕ, ◌+◌, ◌==◌, ◌&&◌, ◌||◌, nat_lt, nat_le, Bool, true, false, List, [], ◌∷◌, Option, None, Some, if◌then◌else◌}
+use Rattle.std.specs.Prelude.{ℕ, ◌+◌, ◌==◌, ◌≡◌, ◌&&◌, ◌||◌, nat_lt, nat_le, Bool, true, false, List, [], ◌∷◌, Option, None, Some, if◌then◌else◌}
 use Rattle.std.specs.List.{find, filter}
+use Rattle.std.specs.FinMap as map
 use Rattle.blk_bio.specs.declared.bio.Dir.{Dir}
 use Rattle.blk_bio.specs.declared.bio.Dir.TheVariants.{Read, Write}
 use Rattle.blk_bio.specs.Requests.{dir_of, first_of}
@@ -113,3 +114,10 @@ abbrev pub kept_of : Turn → Tunables → List ℕ
 kept_of turn tunables =
     tunables.fifo_batch ∷ tunables.writes_starved ∷ number_of tunables.front_merges
     ∷ turn.batching ∷ turn.starved ∷ last_numbers turn.last
+
+-- its choice by what it keeps: of the settings and the turn that are kept, with the turn that follows
+abbrev pub deadline_chooses : List ℕ → Meaning → ℕ → ℕ → Option Waiting → List ℕ → Type 0
+deadline_chooses kept m hw now answer after =
+    (turn : Turn) × (tunables : Tunables) × (kept ≡ kept_of turn tunables)
+    × (answer ≡ chosen (deadline_choice tunables turn now (map.values m.pending)))
+    × (after ≡ kept_of (turn_after turn (deadline_choice tunables turn now (map.values m.pending))) tunables)

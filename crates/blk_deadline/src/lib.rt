@@ -4,17 +4,17 @@
 ghost use Rattle.std.specs.Prelude.{◌≡◌, ◌≤◌, ◌<◌, ◌+◌, ◌↔◌, ℕ, Bool, true, Option, None, Some, Err, IfOk, OnOk, IfErr, OnErr, IfSome, IfNone, IsSome, IsTrue};
 ghost use Rattle.std.specs.Option.{OnSome, option_copied};
 ghost use Rattle.std.specs.FinMap as map;
-ghost use Rattle.blk_sched.specs.Meaning.{Waiting, Meaning, HasCandidate, HasNoCandidate, Joins, ServesNothing, Picks, opened, open_of};
+ghost use Rattle.blk_sched.specs.Meaning.{Waiting, Meaning, HasCandidate, HasNoCandidate, Joins, ServesNothing, Picks, HandsBack, opened, open_of, handed_of, at_start};
 ghost use Rattle.blk_sched.specs.Index.{NoneOf};
-ghost use Rattle.blk_deadline.specs.Choice.{serves_all, oldest_of, next_of, in_batch, due_or_next, taken, chosen, turn_after, kept_of, deadline_choice};
+ghost use Rattle.blk_deadline.specs.Choice.{serves_all, oldest_of, next_of, in_batch, due_or_next, taken, chosen, turn_after, kept_of, deadline_choice, deadline_chooses};
 ghost use Rattle.blk_deadline.specs.Shown.{pending_of, turn_of, tunables_of, meaning_of};
 
 use blk_bio::bio::Dir;
 use blk_bio::limits::Limits;
 use blk_bio::request::{Request, Side};
 use blk_sched::index::Index;
-use blk_sched::picks::OpenPicks;
-use blk_sched::{Queued, SchedFault, Scheduler};
+use blk_sched::picks::{MAX_HANDED, MAX_OPEN, OpenPicks};
+use blk_sched::{MAX_QUEUES, Queued, SchedFault, Scheduler};
 use std::alloc::{AllocError, Allocator, Global};
 
 /// What the scheduler is tuned by, by the names of Linux's deadline-iosched.
@@ -65,7 +65,7 @@ impl<A: Allocator + Clone> Deadline<A> {
     /// request, and as `Memory` where memory runs out.
     pub fn new(alloc: A, tunables: Tunables) -> Result<Deadline<A>, SchedFault>
         ensures zero { (tunables.fifo_batch ≡ 0) ↔ (result ≡ Err SchedFault.ZeroBatch) }
-        ensures ok { IfOk result (λ s. meaning_of s ≡ record { pending = map.empty; open_picks = record { reads = 0; writes = 0 }; front = tunables.front_merges; round = 0 }) }
+        ensures ok { IfOk result (λ s. meaning_of s ≡ at_start tunables.front_merges) }
         ensures turn { IfOk result (λ s. turn_of s ≡ record { last = None; batching = 0; starved = 0 }) }
         ensures tunables { IfOk result (λ s. tunables_of s ≡ tunables) }
         ensures memory { IfErr result (λ e. 0 < tunables.fifo_batch → e ≡ SchedFault.Memory) }
@@ -205,6 +205,8 @@ impl<A: Allocator + Clone> Scheduler for Deadline<A> {
 
     ghost kept = { λ s. kept_of s.turn s.tunables };
 
+    ghost chooses = { deadline_chooses };
+
     fn enter(&mut self, slot: &mut Option<Queued<A>>) -> Result<(), AllocError> {
         let Some(queued) = slot.take() else {
             unreachable!()
@@ -248,9 +250,10 @@ impl<A: Allocator + Clone> Scheduler for Deadline<A> {
 
     /// Hands out the request that the three rules choose, and stands then as they say.
     fn pick(&mut self, hw: u8, now: u64) -> Option<Queued<A>>
-        requires hw { hw < 16 }
+        requires hw { hw < MAX_QUEUES }
         requires round { now ≡ (meaning_of self.old).round }
-        requires few { (meaning_of self.old).open_picks.reads + (meaning_of self.old).open_picks.writes < 256 }
+        requires few { (meaning_of self.old).open_picks.reads + (meaning_of self.old).open_picks.writes < MAX_OPEN }
+        ensures chosen { deadline_chooses (kept_of (turn_of self.old) (tunables_of self.old)) (meaning_of self.old) hw now result (kept_of (turn_of self.new) (tunables_of self.new)) }
         ensures choice { result ≡ chosen (deadline_choice (tunables_of self.old) (turn_of self.old) now (map.values (pending_of self.old))) }
         ensures turn { turn_of self.new ≡ turn_after (turn_of self.old) (deadline_choice (tunables_of self.old) (turn_of self.old) now (map.values (pending_of self.old))) }
         ensures tunables { tunables_of self.new ≡ tunables_of self.old }
@@ -271,12 +274,51 @@ impl<A: Allocator + Clone> Scheduler for Deadline<A> {
         Some(queued)
     }
 
-    fn on_done(&mut self, hw: u8, dir: Dir, wait: u64) {
+    /// Closes an open pick; the turn and the tunables stay.
+    fn on_done(&mut self, hw: u8, dir: Dir, wait: u64)
+        requires hw { hw < MAX_QUEUES }
+        requires is_open { 0 < open_of dir (meaning_of self.old).open_picks }
+        ensures done { meaning_of self.old ≡ record (meaning_of self.new) { open_picks = opened dir (meaning_of self.new).open_picks } }
+        ensures turn { turn_of self.new ≡ turn_of self.old }
+        ensures tunables { tunables_of self.new ≡ tunables_of self.old }
+    {
         let _ = (hw, wait);
         self.open_picks.close(dir);
     }
 
-    fn on_tick(&mut self, now: u64) {
+    /// Hands an open pick back; the turn and the tunables stay.
+    fn on_back(&mut self, hw: u8, dir: Dir)
+        requires hw { hw < MAX_QUEUES }
+        requires is_open { 0 < open_of dir (meaning_of self.old).open_picks }
+        requires few { (meaning_of self.old).open_picks.handed_reads + (meaning_of self.old).open_picks.handed_writes < MAX_HANDED }
+        ensures back { HandsBack dir (meaning_of self.old) (meaning_of self.new) }
+        ensures turn { turn_of self.new ≡ turn_of self.old }
+        ensures tunables { tunables_of self.new ≡ tunables_of self.old }
+    {
+        let _ = hw;
+        self.open_picks.hand_back(dir);
+    }
+
+    /// Opens a pick again that was handed back; the turn and the tunables stay.
+    fn on_again(&mut self, hw: u8, dir: Dir)
+        requires hw { hw < MAX_QUEUES }
+        requires is_handed { 0 < handed_of dir (meaning_of self.old).open_picks }
+        requires few { (meaning_of self.old).open_picks.reads + (meaning_of self.old).open_picks.writes < MAX_OPEN }
+        ensures again { HandsBack dir (meaning_of self.new) (meaning_of self.old) }
+        ensures turn { turn_of self.new ≡ turn_of self.old }
+        ensures tunables { tunables_of self.new ≡ tunables_of self.old }
+    {
+        let _ = hw;
+        self.open_picks.open_again(dir);
+    }
+
+    /// Begins a round; the turn and the tunables stay.
+    fn on_tick(&mut self, now: u64)
+        requires { (meaning_of self.old).round < now }
+        ensures round { meaning_of self.new ≡ record (meaning_of self.old) { round = now } }
+        ensures turn { turn_of self.new ≡ turn_of self.old }
+        ensures tunables { tunables_of self.new ≡ tunables_of self.old }
+    {
         self.round = now;
     }
 
@@ -286,5 +328,9 @@ impl<A: Allocator + Clone> Scheduler for Deadline<A> {
 
     fn picked(&self, dir: Dir) -> u64 {
         self.open_picks.of(dir)
+    }
+
+    fn handed(&self, dir: Dir) -> u64 {
+        self.open_picks.handed(dir)
     }
 }

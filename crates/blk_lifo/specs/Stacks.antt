@@ -1,5 +1,5 @@
 -- A list of requests, read as what waits.
-use Rattle.std.specs.Prelude.{ℕ, ◌≡◌, ◌<◌, Bool, true, List, [], ◌∷◌, map as each, length, Option, None, Some, slice_get, slice_set}
+use Rattle.std.specs.Prelude.{ℕ, ◌≡◌, ◌<◌, Bool, true, List, [], ◌∷◌, map as each, length, Option, None, Some, IfNone, slice_get, slice_set}
 use Rattle.std.specs.Ordering.{nat_cmp}
 use Rattle.std.specs.BTreeMap.{is_at}
 use Rattle.std.specs.Map.{lookup}
@@ -8,11 +8,15 @@ use Rattle.blk_bio.specs.declared.request.Side.{Side}
 use Rattle.blk_bio.specs.Bios.{Bio}
 use Rattle.blk_bio.specs.Limits.{Limits}
 use Rattle.blk_bio.specs.Requests.{Fits}
-use Rattle.blk_sched.specs.Meaning.{Waiting, Pending, joined_waiting}
+use Rattle.blk_sched.specs.Meaning.{Waiting, Pending, Meaning, ServesNothing, joined_waiting}
 
 -- every hardware queue serves every request
 abbrev pub serves_all : ℕ → Waiting → Bool
 serves_all hw w = true
+
+-- it holds nothing back: None only where nothing waits; which one it hands out is the order of entry, which its meaning leaves out
+abbrev pub lifo_chooses : List ℕ → Meaning → ℕ → ℕ → Option Waiting → List ℕ → Type 0
+lifo_chooses kept m hw now answer after = IfNone answer (ServesNothing serves_all hw m) × (after ≡ kept)
 
 -- a request beside its id
 abbrev pub named : Waiting → ℕ × Waiting

@@ -5,8 +5,8 @@
 
 ghost use Rattle.std.specs.Prelude.{◌≡◌, ◌<◌, ◌+◌, ◌↔◌, OnOk, IfErr, OnErr, IfSome, IfNone, IsSome, None, length};
 ghost use Rattle.std.specs.FinMap as map;
-ghost use Rattle.blk_sched.specs.Meaning.{HasCandidate, HasNoCandidate, Joins};
-ghost use Rattle.blk_lifo.specs.Stacks.{serves_all, found, IsNewest, IsNewestOf, IsFitAt, IsPlaceOf, JoinsPlace};
+ghost use Rattle.blk_sched.specs.Meaning.{HasCandidate, HasNoCandidate, Joins, at_start};
+ghost use Rattle.blk_lifo.specs.Stacks.{serves_all, lifo_chooses, found, IsNewest, IsNewestOf, IsFitAt, IsPlaceOf, JoinsPlace};
 
 use blk_bio::bio::Dir;
 use blk_bio::limits::Limits;
@@ -48,7 +48,7 @@ impl<A: Allocator + Clone> Lifo<A> {
 
     /// A scheduler in which nothing waits and no pick is open, in round 0.
     pub fn new(alloc: A) -> Lifo<A>
-        ensures { result ≡ record { pending = map.empty; open_picks = record { reads = 0; writes = 0 }; front = true; round = 0 } }
+        ensures { result ≡ at_start true }
     {
         Lifo {
             requests: Vec::new(alloc),
@@ -111,6 +111,8 @@ impl<A: Allocator + Clone> Scheduler for Lifo<A> {
 
     ghost serves = { serves_all };
 
+    ghost chooses = { lifo_chooses };
+
     fn enter(&mut self, slot: &mut Option<Queued<A>>) -> Result<(), AllocError> {
         let Some(queued) = slot.take() else {
             unreachable!()
@@ -163,6 +165,16 @@ impl<A: Allocator + Clone> Scheduler for Lifo<A> {
         self.open_picks.close(dir);
     }
 
+    fn on_back(&mut self, hw: u8, dir: Dir) {
+        let _ = hw;
+        self.open_picks.hand_back(dir);
+    }
+
+    fn on_again(&mut self, hw: u8, dir: Dir) {
+        let _ = hw;
+        self.open_picks.open_again(dir);
+    }
+
     fn on_tick(&mut self, now: u64) {
         self.round = now;
     }
@@ -173,6 +185,10 @@ impl<A: Allocator + Clone> Scheduler for Lifo<A> {
 
     fn picked(&self, dir: Dir) -> u64 {
         self.open_picks.of(dir)
+    }
+
+    fn handed(&self, dir: Dir) -> u64 {
+        self.open_picks.handed(dir)
     }
 }
 

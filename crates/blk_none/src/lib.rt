@@ -3,20 +3,17 @@
 
 ghost use Rattle.std.specs.Prelude.{◌≡◌, ◌≤◌, ◌<◌, ◌+◌, ◌^◌, ◌↔◌, ℕ, Bool, ◌⊎◌, IfOk, OnOk, IfErr, OnErr, IfSome, IfNone, IsTrue, None, true, [], length, slice_index_or};
 ghost use Rattle.std.specs.FinMap as map;
-ghost use Rattle.blk_sched.specs.Meaning.{Waiting, Meaning, HasCandidate, HasNoCandidate, Joins, ServesNothing, Picks, opened, open_of};
-ghost use Rattle.blk_none.specs.Choice.{serves_own, none_choice};
+ghost use Rattle.blk_sched.specs.Meaning.{Waiting, Meaning, HasCandidate, HasNoCandidate, Joins, ServesNothing, Picks, HandsBack, opened, open_of, handed_of, at_start};
+ghost use Rattle.blk_none.specs.Choice.{serves_own, none_choice, none_chooses};
 
 use blk_bio::bio::Dir;
 use blk_bio::limits::Limits;
 use blk_bio::request::{Request, Side};
 use blk_sched::lane::Lane;
-use blk_sched::picks::OpenPicks;
-use blk_sched::{Queued, SchedFault, Scheduler};
+use blk_sched::picks::{MAX_OPEN, OpenPicks};
+use blk_sched::{MAX_QUEUES, Queued, SchedFault, Scheduler};
 use std::alloc::{AllocError, Allocator, Global};
 use std::marker::Model;
-
-/// How many hardware queues it keeps: 0 to 15.
-const QUEUES: usize = 16;
 
 /// Requests in the order in which they entered, for each hardware queue by itself, as under `none` of Linux blk-mq.
 /// It holds the requests of each hardware queue in a lane of their own, and how many wait in all.
@@ -48,10 +45,10 @@ impl<A: Allocator> Model for NoneSched<A> {
 }
 
 impl<A: Allocator + Clone> NoneSched<A> {
-    /// A scheduler for the hardware queues 0 to 15, in which nothing waits and no pick is open, in round 0. Its only
+    /// A scheduler for all hardware queues, in which nothing waits and no pick is open, in round 0. Its only
     /// fault is `Memory`.
     pub fn new(alloc: A) -> Result<NoneSched<A>, SchedFault>
-        ensures ok { IfOk result (λ s. s ≡ record { pending = map.empty; open_picks = record { reads = 0; writes = 0 }; front = true; round = 0 }) }
+        ensures ok { IfOk result (λ s. s ≡ at_start true) }
         ensures err { IfErr result (λ e. e ≡ SchedFault.Memory) }
     {
         let Ok(lanes) = empty_lanes(alloc) else {
@@ -68,7 +65,7 @@ impl<A: Allocator + Clone> NoneSched<A> {
     /// Adds a request, and hands it back where memory runs out.
     fn add(&mut self, queued: Queued<A>) -> Result<(), Queued<A>>
         requires new { map.get self.old.pending queued.id ≡ None }
-        requires hw { queued.hw < 16 }
+        requires hw { queued.hw < MAX_QUEUES }
         ensures ok { OnOk result (self.new ≡ record self.old { pending = map.insert self.old.pending queued.id queued }) }
         ensures err { IfErr result (λ q. q ≡ queued) }
         ensures same { OnErr result (self.new ≡ self.old) }
@@ -84,7 +81,7 @@ impl<A: Allocator + Clone> NoneSched<A> {
 
     /// The newest request of the hardware queue that a newcomer fits, at either side.
     fn find(&self, hw: u8, limits: &Limits, newcomer: &Request<A>) -> Option<(u64, Side)>
-        requires { hw < 16 }
+        requires { hw < MAX_QUEUES }
         ensures some { IfSome result (λ r. HasCandidate serves_own hw limits.now newcomer.now self.now r.0 r.1) }
         ensures none { IfNone result (HasNoCandidate serves_own hw limits.now newcomer.now self.now) }
     {
@@ -101,7 +98,7 @@ impl<A: Allocator + Clone> NoneSched<A> {
         limits: &Limits,
         newcomer: Request<A>,
     ) -> Result<(), Request<A>>
-        requires hw { hw < 16 }
+        requires hw { hw < MAX_QUEUES }
         requires stands { HasCandidate serves_own hw limits.now newcomer self.old id side }
         ensures joined { OnOk result (Joins serves_own hw now limits.now newcomer self.old id side self.new) }
         ensures err { IfErr result (λ e. e ≡ newcomer) }
@@ -114,11 +111,11 @@ impl<A: Allocator + Clone> NoneSched<A> {
 
 /// A lane with no request, for each of the hardware queues.
 fn empty_lanes<A: Allocator + Clone>(alloc: A) -> Result<Vec<Lane<A>, A>, AllocError>
-    ensures count { IfOk result (λ lanes. length lanes.items ≡ 16) }
+    ensures count { IfOk result (λ lanes. length lanes.items ≡ MAX_QUEUES) }
     ensures empty { IfOk result (λ lanes. (hw : ℕ) → slice_index_or lanes.items hw [] ≡ []) }
 {
-    let mut lanes = Vec::with_capacity(alloc.clone()?, QUEUES)?;
-    for _ in 0..QUEUES {
+    let mut lanes = Vec::with_capacity(alloc.clone()?, MAX_QUEUES as usize)?;
+    for _ in 0..MAX_QUEUES {
         lanes.push(Lane::new(alloc.clone()?))?;
     }
     Ok(lanes)
@@ -130,6 +127,8 @@ impl<A: Allocator + Clone> Scheduler for NoneSched<A> {
     ghost meaning = { λ s. s };
 
     ghost serves = { serves_own };
+
+    ghost chooses = { none_chooses };
 
     fn enter(&mut self, slot: &mut Option<Queued<A>>) -> Result<(), AllocError> {
         let Some(queued) = slot.take() else {
@@ -171,9 +170,10 @@ impl<A: Allocator + Clone> Scheduler for NoneSched<A> {
 
     /// Hands out the request of the hardware queue that has waited longest: the one with the least id.
     fn pick(&mut self, hw: u8, now: u64) -> Option<Queued<A>>
-        requires hw { hw < 16 }
+        requires hw { hw < MAX_QUEUES }
         requires round { now ≡ self.old.round }
-        requires few { self.old.open_picks.reads + self.old.open_picks.writes < 256 }
+        requires few { self.old.open_picks.reads + self.old.open_picks.writes < MAX_OPEN }
+        ensures chosen { none_chooses [] self.old hw now result [] }
         ensures choice { result ≡ none_choice hw self.old.pending }
         ensures picked { IfSome result (λ w. Picks serves_own hw self.old w self.new) }
         ensures none { IfNone result (ServesNothing serves_own hw self.old) }
@@ -194,6 +194,16 @@ impl<A: Allocator + Clone> Scheduler for NoneSched<A> {
         self.open_picks.close(dir);
     }
 
+    fn on_back(&mut self, hw: u8, dir: Dir) {
+        let _ = hw;
+        self.open_picks.hand_back(dir);
+    }
+
+    fn on_again(&mut self, hw: u8, dir: Dir) {
+        let _ = hw;
+        self.open_picks.open_again(dir);
+    }
+
     fn on_tick(&mut self, now: u64) {
         self.round = now;
     }
@@ -204,5 +214,9 @@ impl<A: Allocator + Clone> Scheduler for NoneSched<A> {
 
     fn picked(&self, dir: Dir) -> u64 {
         self.open_picks.of(dir)
+    }
+
+    fn handed(&self, dir: Dir) -> u64 {
+        self.open_picks.handed(dir)
     }
 }

@@ -1,12 +1,13 @@
 //! What a scheduler is: a trait with its laws.
 #![tactic(auto)]
 
-ghost use Rattle.std.specs.Prelude.{◌≡◌, ◌<◌, ◌+◌, ◌↔◌, ℕ, Bool, List, [], ◌⊎◌, IfOk, OnOk, IfErr, OnErr, IfSome, IfNone, IsSome, IsTrue, None};
+ghost use Rattle.std.specs.Prelude.{◌≡◌, ◌<◌, ◌+◌, ◌↔◌, ℕ, Bool, List, [], ◌⊎◌, IfOk, OnOk, IfErr, OnErr, IfSome, IfNone, IsSome, IsTrue, Option, None};
 ghost use Rattle.std.specs.FinMap as map;
 ghost use Rattle.blk_bio.specs.Requests.{Fits};
 ghost use Rattle.blk_bio.specs.Answers.{IsJoinAnswer};
+ghost use Rattle.blk_bio.specs.declared.bio.Dir.{Dir};
 ghost use Rattle.blk_bio.specs.declared.request.Side.{Side};
-ghost use Rattle.blk_sched.specs.Meaning.{Waiting, Meaning, HasCandidate, HasNoCandidate, Joins, ServesNothing, Picks, joined_waiting, opened, open_of};
+ghost use Rattle.blk_sched.specs.Meaning.{Waiting, Meaning, HasCandidate, HasNoCandidate, Joins, ServesNothing, Picks, HandsBack, joined_waiting, opened, open_of, handed_of, unfinished};
 
 pub mod fits;
 pub mod index;
@@ -18,17 +19,21 @@ pub mod spots;
 use blk_bio::bio::Dir;
 use blk_bio::limits::Limits;
 use blk_bio::request::{JoinFault, Request, Side};
+use picks::{MAX_HANDED, MAX_OPEN};
 use std::alloc::{AllocError, Allocator, Global};
 use std::marker::Model;
 use thiserror::Error;
 
-/// A request as it enters a scheduler and leaves it: its id, the hardware queue (0..=15) that it entered at, the
+/// How many hardware queues there are at most: they are numbered from 0.
+pub const MAX_QUEUES: u8 = 16;
+
+/// A request as it enters a scheduler and leaves it: its id, the hardware queue (below `MAX_QUEUES`) that it entered at, the
 /// round of its release, the round in which it is due, and its bios.
 #[derive(Debug, Drop)]
 pub struct Queued<A: Allocator = Global> {
     /// Its id among the requests of a scheduler.
     pub id: u64,
-    /// The hardware queue that it entered at, 0 to 15.
+    /// The hardware queue that it entered at, below `MAX_QUEUES`.
     pub hw: u8,
     /// The round in which it was released or last joined.
     pub release: u64,
@@ -97,12 +102,13 @@ pub enum SchedFault {
 }
 
 /// A scheduler: requests that wait, which it hands out one by one, in the way of Linux blk-mq's elevators.
-/// Its laws are the clauses of its methods. Every hardware queue is below 16, and times are in rounds.
+/// Its laws are the clauses of its methods. Every hardware queue is below `MAX_QUEUES`, and times are in rounds.
 pub trait Scheduler: Drop {
     /// What its requests are allocated by.
     type A: Allocator + Clone;
 
-    /// What waits, how many picks of each direction are open, whether a newcomer may join at the front, and the round.
+    /// What waits, how many picks of each direction are open or handed back, whether a newcomer may join at the front,
+    /// and the round.
     ghost meaning: { Self → Meaning };
 
     /// Whether a pick for a hardware queue may take a request.
@@ -112,11 +118,22 @@ pub trait Scheduler: Drop {
     /// picks of nothing leave it. A scheduler that keeps no more has nothing in the list.
     ghost kept: { Self → List ℕ } = { λ _. [] };
 
+    /// Its choice: from what it keeps, its meaning, the hardware queue and now, to the answer of a pick and to what it
+    /// keeps then.
+    ghost chooses: { List ℕ → Meaning → ℕ → ℕ → Option Waiting → List ℕ → Type 0 };
+
+    /// What it keeps once a completion is reported, by the hardware queue, the direction and the wait: before and then.
+    /// It stays where nothing else is said.
+    ghost told_done: { ℕ → Dir → ℕ → List ℕ → List ℕ → Type 0 } = { λ _ _ _ old new. new ≡ old };
+
+    /// What it keeps once a round began, by that round: before and then. It stays where nothing else is said.
+    ghost told_tick: { ℕ → List ℕ → List ℕ → Type 0 } = { λ _ old new. new ≡ old };
+
     /// What an implementation writes for `insert`: takes the request out of the slot, and on a refusal leaves it there.
     fn enter(&mut self, slot: &mut Option<Queued<Self::A>>) -> Result<(), AllocError>
         requires some { IsSome slot.old }
         requires new { IfSome slot.old (λ w. map.get (meaning self.old).pending w.id ≡ None) }
-        requires hw { IfSome slot.old (λ w. w.hw < 16) }
+        requires hw { IfSome slot.old (λ w. w.hw < MAX_QUEUES) }
         ensures ok { OnOk result (IfSome slot.old (λ w. meaning self.new ≡ record (meaning self.old) { pending = map.insert (meaning self.old).pending w.id w })) }
         ensures kept { OnOk result (Self.kept self.new ≡ Self.kept self.old) }
         ensures err { OnErr result (slot.new ≡ slot.old) }
@@ -126,7 +143,7 @@ pub trait Scheduler: Drop {
     /// then, and the request comes back.
     final fn insert(&mut self, queued: Queued<Self::A>) -> Result<(), (Queued<Self::A>, AllocError)>
         requires new { map.get (meaning self.old).pending queued.id ≡ None }
-        requires hw { queued.hw < 16 }
+        requires hw { queued.hw < MAX_QUEUES }
         ensures ok { OnOk result (meaning self.new ≡ record (meaning self.old) { pending = map.insert (meaning self.old).pending queued.id queued }) }
         ensures kept { OnOk result (Self.kept self.new ≡ Self.kept self.old) }
         ensures err { IfErr result (λ e. e.0 ≡ queued) }
@@ -143,7 +160,7 @@ pub trait Scheduler: Drop {
     /// is the back where it fits both. None exactly where it fits none of them, at the back or, where the scheduler
     /// allows it, at the front.
     fn candidate(&self, hw: u8, limits: &Limits, newcomer: &Request<Self::A>) -> Option<(u64, Side)>
-        requires { hw < 16 }
+        requires { hw < MAX_QUEUES }
         ensures some { IfSome result (λ r. HasCandidate serves hw limits.now newcomer.now (meaning self.now) r.0 r.1) }
         ensures none { IfNone result (HasNoCandidate serves hw limits.now newcomer.now (meaning self.now)) };
 
@@ -157,7 +174,7 @@ pub trait Scheduler: Drop {
         limits: &Limits,
         slot: &mut Option<Request<Self::A>>,
     ) -> Result<(), AllocError>
-        requires hw { hw < 16 }
+        requires hw { hw < MAX_QUEUES }
         requires round { now ≡ (meaning self.old).round }
         requires some { IsSome slot.old }
         requires stands { IfSome slot.old (λ newcomer. HasCandidate serves hw limits.now newcomer (meaning self.old) id side) }
@@ -178,7 +195,7 @@ pub trait Scheduler: Drop {
         limits: &Limits,
         newcomer: Request<Self::A>,
     ) -> Result<(), (Request<Self::A>, AllocError)>
-        requires hw { hw < 16 }
+        requires hw { hw < MAX_QUEUES }
         requires round { now ≡ (meaning self.old).round }
         requires stands { HasCandidate serves hw limits.now newcomer (meaning self.old) id side }
         ensures joined { OnOk result (Joins serves hw now limits.now newcomer (meaning self.old) id side (meaning self.new)) }
@@ -207,7 +224,7 @@ pub trait Scheduler: Drop {
         limits: &Limits,
         newcomer: Request<Self::A>,
     ) -> Result<(u64, Side), (Request<Self::A>, JoinRefusal)>
-        requires hw { hw < 16 }
+        requires hw { hw < MAX_QUEUES }
         requires round { now ≡ (meaning self.old).round }
         ensures joined { IfOk result (λ r. Joins serves hw now limits.now newcomer (meaning self.old) r.0 r.1 (meaning self.new)) }
         ensures kept { OnOk result (Self.kept self.new ≡ Self.kept self.old) }
@@ -224,30 +241,51 @@ pub trait Scheduler: Drop {
         }
     }
 
-    /// Takes out one request that is served for the hardware queue and opens one pick of its direction. None only
-    /// where a pick is open, of either direction, or no served request waits. Each request is served for the hardware
-    /// queue that it entered at, at least. `now` must be the round.
+    /// Takes out one request that is served for the hardware queue and opens one pick of its direction: the one that the
+    /// scheduler chooses. None only where a pick is open or handed back, of either direction, or no served request waits.
+    /// Each request is served for the hardware queue that it entered at, at least. `now` must be the round.
     fn pick(&mut self, hw: u8, now: u64) -> Option<Queued<Self::A>>
-        requires hw { hw < 16 }
+        requires hw { hw < MAX_QUEUES }
         requires round { now ≡ (meaning self.old).round }
-        requires few { (meaning self.old).open_picks.reads + (meaning self.old).open_picks.writes < 256 }
+        requires few { (meaning self.old).open_picks.reads + (meaning self.old).open_picks.writes < MAX_OPEN }
+        ensures chosen { chooses (Self.kept self.old) (meaning self.old) hw now result (Self.kept self.new) }
         ensures picked { IfSome result (λ w. Picks serves hw (meaning self.old) w (meaning self.new)) }
-        ensures none { IfNone result ((0 < (meaning self.old).open_picks.reads + (meaning self.old).open_picks.writes) ⊎ ServesNothing serves hw (meaning self.old)) }
+        ensures none { IfNone result ((0 < unfinished (meaning self.old).open_picks) ⊎ ServesNothing serves hw (meaning self.old)) }
         ensures same { IfNone result (meaning self.new ≡ meaning self.old) }
         ensures kept { IfNone result (Self.kept self.new ≡ Self.kept self.old) }
         ensures own { (w : Waiting) → IsTrue (serves w.hw w) };
 
     /// Closes an open pick of a direction; `wait` is the number of rounds from the release of the request that was picked
-    /// to its issue, and `hw` the hardware queue that it was picked for.
+    /// to its last issue, and `hw` the hardware queue that it was picked for.
     fn on_done(&mut self, hw: u8, dir: Dir, wait: u64)
-        requires hw { hw < 16 }
+        requires hw { hw < MAX_QUEUES }
         requires is_open { 0 < open_of dir (meaning self.old).open_picks }
-        ensures { meaning self.old ≡ record (meaning self.new) { open_picks = opened dir (meaning self.new).open_picks } };
+        ensures done { meaning self.old ≡ record (meaning self.new) { open_picks = opened dir (meaning self.new).open_picks } }
+        ensures told { told_done hw dir wait (Self.kept self.old) (Self.kept self.new) };
+
+    /// Hands back an open pick of a direction, which was picked for the hardware queue: the device was busy. It is no
+    /// completion. Fewer than `MAX_HANDED` may be handed back.
+    fn on_back(&mut self, hw: u8, dir: Dir)
+        requires hw { hw < MAX_QUEUES }
+        requires is_open { 0 < open_of dir (meaning self.old).open_picks }
+        requires few { (meaning self.old).open_picks.handed_reads + (meaning self.old).open_picks.handed_writes < MAX_HANDED }
+        ensures back { HandsBack dir (meaning self.old) (meaning self.new) }
+        ensures kept { Self.kept self.new ≡ Self.kept self.old };
+
+    /// Opens again a pick of a direction that was handed back, as its request is issued again for the hardware queue. Fewer
+    /// than `MAX_OPEN` picks may be open.
+    fn on_again(&mut self, hw: u8, dir: Dir)
+        requires hw { hw < MAX_QUEUES }
+        requires is_handed { 0 < handed_of dir (meaning self.old).open_picks }
+        requires few { (meaning self.old).open_picks.reads + (meaning self.old).open_picks.writes < MAX_OPEN }
+        ensures again { HandsBack dir (meaning self.new) (meaning self.old) }
+        ensures kept { Self.kept self.new ≡ Self.kept self.old };
 
     /// Tells that the round `now` began, which must be a later one.
     fn on_tick(&mut self, now: u64)
         requires { (meaning self.old).round < now }
-        ensures { meaning self.new ≡ record (meaning self.old) { round = now } };
+        ensures round { meaning self.new ≡ record (meaning self.old) { round = now } }
+        ensures told { told_tick now (Self.kept self.old) (Self.kept self.new) };
 
     /// How many requests wait.
     fn pending(&self) -> u64
@@ -256,4 +294,8 @@ pub trait Scheduler: Drop {
     /// How many picks of a direction are open.
     fn picked(&self, dir: Dir) -> u64
         ensures { result ≡ open_of dir (meaning self.now).open_picks };
+
+    /// How many picks of a direction are handed back.
+    fn handed(&self, dir: Dir) -> u64
+        ensures { result ≡ handed_of dir (meaning self.now).open_picks };
 }

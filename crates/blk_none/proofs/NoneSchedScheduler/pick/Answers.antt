@@ -10,6 +10,13 @@ returns-in_default-clause-choice g c =
     none_chosen c.self.inside.lanes.items c.self.inside.waiting c.args.hw c.self.inside.open_picks c.self.inside.round c.args.self.now c.index_mut.result.now c.self.view_is c.self.invariant
     (lane_is c.self.inside.lanes.items c.self.inside.waiting c.args.hw c.index_mut.result.now c.self.invariant c.requires.hw c.index_mut.ensures.value) c.in_default.ensures.none
 
+pub returns-in_default-clause-chosen : goal.returns-in_default-clause-chosen
+returns-in_default-clause-chosen g c = (
+  none_chosen c.self.inside.lanes.items c.self.inside.waiting c.args.hw c.self.inside.open_picks c.self.inside.round c.args.self.now c.index_mut.result.now c.self.view_is c.self.invariant
+      (lane_is c.self.inside.lanes.items c.self.inside.waiting c.args.hw c.index_mut.result.now c.self.invariant c.requires.hw c.index_mut.ensures.value) c.in_default.ensures.none,
+  refl,
+)
+
 pub returns-in_default-clause-none : goal.returns-in_default-clause-none
 returns-in_default-clause-none g c =
     none_served c.self.inside.lanes.items c.self.inside.waiting c.args.hw c.self.inside.open_picks c.self.inside.round c.args.self.now c.index_mut.result.now c.self.view_is c.self.invariant
@@ -29,6 +36,13 @@ pub returns-clause-choice : goal.returns-clause-choice
 returns-clause-choice g c =
     chosen c.self.inside.lanes.items c.self.inside.waiting c.args.hw c.self.inside.open_picks c.self.inside.round c.args.self.now c.index_mut.result.now c.in-Some.queued c.self.view_is c.self.invariant
     (lane_is c.self.inside.lanes.items c.self.inside.waiting c.args.hw c.index_mut.result.now c.self.invariant c.requires.hw c.index_mut.ensures.value) c.in-Some.ensures.there c.in-Some.ensures.least
+
+pub returns-clause-chosen : goal.returns-clause-chosen
+returns-clause-chosen g c = (
+  chosen c.self.inside.lanes.items c.self.inside.waiting c.args.hw c.self.inside.open_picks c.self.inside.round c.args.self.now c.index_mut.result.now c.in-Some.queued c.self.view_is c.self.invariant
+      (lane_is c.self.inside.lanes.items c.self.inside.waiting c.args.hw c.index_mut.result.now c.self.invariant c.requires.hw c.index_mut.ensures.value) c.in-Some.ensures.there c.in-Some.ensures.least,
+  refl,
+)
 
 pub returns-clause-picked : goal.returns-clause-picked
 returns-clause-picked g c =

@@ -1,4 +1,4 @@
-use Rattle.std.proofs.Common.{rules, ◌≡◌, subst, ap, ◌∙◌, inr, true}
+use Rattle.std.proofs.Common.{rules, ◌≡◌, subst, ap, ◌∙◌, inr, true, refl}
 use Rattle.blk_bio.specs.Requests.{dir_of}
 use Rattle.blk_sched.specs.Meaning.{Waiting, Meaning, OpenPicks, opened}
 use Rattle.blk_lifo.specs.Stacks.{AreDistinct, by_id}
@@ -8,6 +8,9 @@ use Rattle.blk_lifo.proofs.lifo.LifoScheduler.pick.Goals as goal
 
 pub returns-in_default-clause-none : goal.returns-in_default-clause-none
 returns-in_default-clause-none g c = inr (none_left c.self.inside.requests.items c.self.inside.open_picks c.self.inside.round c.args.self.now c.args.hw c.self.view_is (search rules))
+
+pub returns-in_default-clause-chosen : goal.returns-in_default-clause-chosen
+returns-in_default-clause-chosen g c = (none_left c.self.inside.requests.items c.self.inside.open_picks c.self.inside.round c.args.self.now c.args.hw c.self.view_is (search rules), refl)
 
 pub invariant_of-self-2 : goal.invariant_of-self-2
 invariant_of-self-2 g c = (distinct_popped c.pop.new.self.items c.in-Some.queued (subst AreDistinct c.in-Some.ensures.items c.self.invariant)).0
