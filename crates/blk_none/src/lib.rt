@@ -28,7 +28,7 @@ pub struct NoneSched<A: Allocator = Global> {
 impl<A: Allocator> Model for NoneSched<A> {
     ghost use Rattle.std.specs.Prelude.{true};
     ghost use Rattle.blk_sched.specs.Meaning.{Meaning, meaning_code};
-    ghost use Rattle.blk_none.specs.Kept.{Kept, pending_of};
+    ghost use Rattle.blk_none.specs.Inside.Kept.{Kept, pending_of};
 
     ghost Value = { Meaning };
 

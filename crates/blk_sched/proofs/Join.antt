@@ -10,10 +10,10 @@ use Rattle.blk_bio.specs.Bios.{Bio}
 use Rattle.blk_bio.specs.Limits.{Limits}
 use Rattle.blk_bio.specs.Requests.{Fits, dir_of, first_of, last_of, joined}
 use Rattle.blk_sched.specs.Meaning.{Waiting, Pending, joined_waiting}
-use Rattle.blk_sched.specs.Lanes.{extent_of}
+use Rattle.blk_bio.specs.Extents.{extent_of}
 use Rattle.blk_sched.specs.Fits.{HasFit}
-use Rattle.blk_sched.specs.Shelves.{JoinsOne}
-use Rattle.blk_sched.specs.Spots.{Place, Spot, place_cmp, is_write, is_placed, AreSpots, Adds, Takes, first_at, end_at, age_at}
+use Rattle.blk_sched.specs.Inside.Shelves.{JoinsOne}
+use Rattle.blk_sched.specs.Inside.Spots.{Place, Spot, place_cmp, is_write, is_placed, AreSpots, Adds, Takes, first_at, end_at, age_at}
 use Rattle.blk_sched.specs.Index.{at_of, joined_extent, IsIndex, IsJoined}
 use Rattle.blk_sched.proofs.Listed.{same_place, is_equal}
 use Rattle.blk_sched.proofs.Indexed.{Found, Has, Becomes, moved, stayed, kept, named_then, becomes_given}
