@@ -116,7 +116,8 @@ fn empty_lanes<A: Allocator + Clone>(alloc: A) -> Result<Vec<Lane<A>, A>, AllocE
 {
     let mut lanes = Vec::with_capacity(alloc.clone()?, MAX_QUEUES as usize)?;
     for _ in 0..MAX_QUEUES {
-        lanes.push(Lane::new(alloc.clone()?))?;
+        let lane = Lane::new(alloc.clone()?)?;
+        lanes.push(lane)?;
     }
     Ok(lanes)
 }

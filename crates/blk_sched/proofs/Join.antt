@@ -35,11 +35,11 @@ append_none [] = refl
 append_none (b ∷ bs) = ap (λ (l : List Bio). b ∷ l) (append_none bs)
 
 -- a request that has sectors has bios
-last_joined : (bios newcomer : List Bio) (s : ℕ) → 0 < s → first_of newcomer + s ≡ last_of newcomer → last_of (bios ++ newcomer) ≡ last_of newcomer
+pub last_joined : (bios newcomer : List Bio) (s : ℕ) → 0 < s → first_of newcomer + s ≡ last_of newcomer → last_of (bios ++ newcomer) ≡ last_of newcomer
 last_joined bios [] s some range = absurd (no_sectors s some range)
 last_joined bios (y ∷ ys) s some range = last_both bios y ys
 
-first_joined : (bios newcomer : List Bio) (s : ℕ) → 0 < s → first_of newcomer + s ≡ last_of newcomer → first_of (newcomer ++ bios) ≡ first_of newcomer
+pub first_joined : (bios newcomer : List Bio) (s : ℕ) → 0 < s → first_of newcomer + s ≡ last_of newcomer → first_of (newcomer ++ bios) ≡ first_of newcomer
 first_joined bios [] s some range = absurd (no_sectors s some range)
 first_joined bios (y ∷ ys) s some range = refl
 
@@ -49,12 +49,12 @@ dir_stays limits (x ∷ xs) newcomer Back fits = refl
 dir_stays limits bios [] Front fits = refl
 dir_stays limits bios (y ∷ ys) Front fits = fits.same_direction
 
-first_stays : (limits : Limits) (bios newcomer : List Bio) → Fits limits bios newcomer Back → first_of (bios ++ newcomer) ≡ first_of bios
+pub first_stays : (limits : Limits) (bios newcomer : List Bio) → Fits limits bios newcomer Back → first_of (bios ++ newcomer) ≡ first_of bios
 unfolding last_of
 first_stays limits [] newcomer fits = fits.abuts
 first_stays limits (x ∷ xs) newcomer fits = refl
 
-last_stays : (limits : Limits) (bios newcomer : List Bio) → Fits limits bios newcomer Front → last_of (newcomer ++ bios) ≡ last_of bios
+pub last_stays : (limits : Limits) (bios newcomer : List Bio) → Fits limits bios newcomer Front → last_of (newcomer ++ bios) ≡ last_of bios
 unfolding last_of
 last_stays limits [] newcomer fits = ap last_of (append_none newcomer) ∙ fits.abuts
 last_stays limits (x ∷ xs) newcomer fits = last_both newcomer x xs
