@@ -54,7 +54,7 @@ fn front_only_where_it_is_allowed(rt: HostRuntime) {
 #[test]
 fn lane_leaves_by_id(rt: HostRuntime) {
     let alloc = rt.alloc();
-    let mut lane = Lane::new(alloc);
+    let mut lane = Lane::new(alloc).expect(&rt, "memory");
     assert!(rt; lane.is_empty());
     assert!(rt; lane.insert(queued(&rt, alloc, 7, Dir::Read, 70)).is_ok());
     assert!(rt; lane.insert(queued(&rt, alloc, 3, Dir::Write, 30)).is_ok());

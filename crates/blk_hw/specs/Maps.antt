@@ -1,20 +1,18 @@
 -- Maps of software queues to the hardware queues that serve them: the list of the hardware queues, by software queue.
-use Rattle.std.specs.Prelude.{ℕ, ◌≡◌, ◌<◌, ◌≤◌, ◌+◌, ◌⊎◌, ◌↔◌, List, [], length, All, Any, Contains, Result, Ok, Err}
+use Rattle.std.specs.Prelude.{ℕ, ◌≡◌, ◌<◌, ◌≤◌, ◌-◌, ◌⊎◌, ◌↔◌, List, [], length, All, Any, Contains, Result, Ok, Err}
+use Rattle.blk_sched.specs.declared.TheConstants.{MAX_QUEUES}
+use Rattle.blk_hw.specs.declared.TheConstants.{MAX_SOFT_QUEUES}
 use Rattle.blk_hw.specs.declared.MapFault.{MapFault}
 use Rattle.blk_hw.specs.declared.MapFault.TheVariants.{Empty, TooMany, Unserved}
 
--- the most software queues of a map
-abbrev pub most_soft_queues : ℕ
-most_soft_queues = 64
-
 -- the greatest number of a hardware queue
 abbrev pub greatest_hw : ℕ
-greatest_hw = 15
+greatest_hw = MAX_QUEUES - 1
 
 -- a map: at least one entry and no more than that, each at most the greatest number, and each number below an entry is an entry
 pub record IsMap (entries : List ℕ) : Type 0 where
   pub some_entry : 0 < length entries
-  pub few_entries : length entries ≤ most_soft_queues
+  pub few_entries : length entries ≤ MAX_SOFT_QUEUES
   pub in_range : All (λ hw. hw ≤ greatest_hw) entries
   pub served : (greater hw : ℕ) → Contains entries greater → hw < greater → Contains entries hw
 
@@ -27,7 +25,7 @@ pub record IsCounted (entries : List ℕ) (count : ℕ) : Type 0 where
   pub is_map : IsMap entries
   pub is_count : IsHwCount entries count
   pub some : 0 < count
-  pub few : count ≤ greatest_hw + 1
+  pub few : count ≤ MAX_QUEUES
 
 -- the least number below the greatest entry that is no entry
 pub record IsLeastUnserved (entries : List ℕ) (hw : ℕ) : Type 0 where
@@ -38,9 +36,9 @@ pub record IsLeastUnserved (entries : List ℕ) (hw : ℕ) : Type 0 where
 -- what each fault says of the entries; they come in this order
 abbrev pub IsMapFault : List ℕ → MapFault → Type 0
 IsMapFault entries Empty = entries ≡ []
-IsMapFault entries TooMany = (0 < length entries) × ((most_soft_queues < length entries) ⊎ Any (λ hw. greatest_hw < hw) entries)
+IsMapFault entries TooMany = (0 < length entries) × ((MAX_SOFT_QUEUES < length entries) ⊎ Any (λ hw. greatest_hw < hw) entries)
 IsMapFault entries (Unserved hw) =
-    (0 < length entries) × (length entries ≤ most_soft_queues) × All (λ named. named ≤ greatest_hw) entries × IsLeastUnserved entries hw
+    (0 < length entries) × (length entries ≤ MAX_SOFT_QUEUES) × All (λ named. named ≤ greatest_hw) entries × IsLeastUnserved entries hw
 
 -- what is made of entries
 abbrev pub IsMapAnswer : List ℕ → Result (List ℕ) MapFault → Type 0

@@ -8,7 +8,7 @@ ghost use Rattle.std.specs.Prelude.{◌≡◌, ◌<◌, ◌≤◌, ◌+◌, ◌+
 ghost use Rattle.std.specs.Bool.{OnTrue, OnFalse};
 ghost use Rattle.blk_hw.specs.Maps.{greatest_hw, IsMap, IsHwCount, IsCounted, IsMapAnswer};
 
-use blk_sched::Queued;
+use blk_sched::{MAX_QUEUES, Queued};
 use std::alloc::{AllocError, Allocator, Global};
 use std::collections::VecDeque;
 use std::marker::Model;
@@ -17,16 +17,13 @@ use thiserror::Error;
 /// The most software queues of a map.
 pub const MAX_SOFT_QUEUES: usize = 64;
 
-/// The greatest number of a hardware queue.
-pub const MAX_HW_NUMBER: u8 = 15;
-
 /// Why a map is not made, in the order in which the reasons are looked for.
 #[derive(Clone, Copy, Debug, PartialEq, Eq, Error)]
 pub enum MapFault {
     /// It has no entry.
     #[error("Empty")]
     Empty,
-    /// It has more than [`MAX_SOFT_QUEUES`] entries, or one above [`MAX_HW_NUMBER`].
+    /// It has more than [`MAX_SOFT_QUEUES`] entries, or one that is not below [`MAX_QUEUES`].
     #[error("TooMany")]
     TooMany,
     /// No entry names this hardware queue, the least such one below the greatest that an entry names.
@@ -54,7 +51,7 @@ impl<A: Allocator> Model for Map<A> {
 }
 
 impl<A: Allocator> Map<A> {
-    /// A map of 1 to [`MAX_SOFT_QUEUES`] entries from 0 to [`MAX_HW_NUMBER`], for software queues from 0 on. Refused, in
+    /// A map of 1 to [`MAX_SOFT_QUEUES`] entries below [`MAX_QUEUES`], for software queues from 0 on. Refused, in
     /// this order, as `Empty`, `TooMany` or `Unserved`; the list of entries is gone then. It takes no memory.
     pub fn new(entries: Vec<u8, A>) -> Result<Map<A>, MapFault>
         // the map or the fault
@@ -64,7 +61,7 @@ impl<A: Allocator> Map<A> {
         if entries.is_empty() {
             return Err(MapFault::Empty);
         }
-        if entries.len() > MAX_SOFT_QUEUES || names_above(entries.as_slice(), MAX_HW_NUMBER) {
+        if entries.len() > MAX_SOFT_QUEUES || names_above(entries.as_slice(), MAX_QUEUES - 1) {
             return Err(MapFault::TooMany);
         }
         let hw_count = least_unnamed(entries.as_slice());
@@ -82,11 +79,11 @@ impl<A: Allocator> Map<A> {
         self.entries.len()
     }
 
-    /// How many hardware queues it has, 1 to 16: its entries name just those below this number.
+    /// How many hardware queues it has, 1 to [`MAX_QUEUES`]: its entries name just those below this number.
     pub fn hw_count(&self) -> u8
         ensures value { IsHwCount self.now result }
         ensures some { 0 < result }
-        ensures few { result ≤ greatest_hw + 1 }
+        ensures few { result ≤ MAX_QUEUES }
     {
         self.hw_count
     }
@@ -103,7 +100,7 @@ impl<A: Allocator> Map<A> {
     }
 }
 
-// Whether an entry is above a number.
+/// Whether an entry is above a number.
 fn names_above(entries: &[u8], limit: u8) -> bool
     ensures some { OnTrue result (Any (λ hw. limit < hw) entries.now) }
     ensures none { OnFalse result (All (λ hw. hw ≤ limit) entries.now) }
@@ -116,25 +113,25 @@ fn names_above(entries: &[u8], limit: u8) -> bool
     false
 }
 
-// Whether an entry is a number.
+/// Whether an entry is a number.
 fn names(entries: &[u8], hw: u8) -> bool
     ensures { IsTrue result ↔ Contains entries.now hw }
 {
     entries.contains(&hw)
 }
 
-// The least number that is no entry, or 16 where each one below that is.
+/// The least number that is no entry, or [`MAX_QUEUES`] where each one below that is.
 fn least_unnamed(entries: &[u8]) -> u8
     ensures named { (hw : ℕ) → hw < result → Contains entries.now hw }
-    ensures unnamed { result < 16 → ¬ Contains entries.now result }
-    ensures few { result ≤ 16 }
+    ensures unnamed { result < MAX_QUEUES → ¬ Contains entries.now result }
+    ensures few { result ≤ MAX_QUEUES }
 {
-    for hw in 0..16u8 {
+    for hw in 0..MAX_QUEUES {
         if !names(entries, hw) {
             return hw;
         }
     }
-    16
+    MAX_QUEUES
 }
 
 /// Requests that the hardware could not take, in the order in which they came back: the list `hctx->dispatch` of Linux

@@ -28,7 +28,7 @@ pub struct NoneSched<A: Allocator = Global> {
 impl<A: Allocator> Model for NoneSched<A> {
     ghost use Rattle.std.specs.Prelude.{true};
     ghost use Rattle.blk_sched.specs.Meaning.{Meaning, meaning_code};
-    ghost use Rattle.blk_none.specs.Kept.{Kept, pending_of};
+    ghost use Rattle.blk_none.specs.Inside.Kept.{Kept, pending_of};
 
     ghost Value = { Meaning };
 
@@ -116,7 +116,8 @@ fn empty_lanes<A: Allocator + Clone>(alloc: A) -> Result<Vec<Lane<A>, A>, AllocE
 {
     let mut lanes = Vec::with_capacity(alloc.clone()?, MAX_QUEUES as usize)?;
     for _ in 0..MAX_QUEUES {
-        lanes.push(Lane::new(alloc.clone()?))?;
+        let lane = Lane::new(alloc.clone()?)?;
+        lanes.push(lane)?;
     }
     Ok(lanes)
 }

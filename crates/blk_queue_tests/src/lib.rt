@@ -8,6 +8,8 @@ mod given;
 #[cfg(test)]
 mod hardware;
 #[cfg(test)]
+mod picks;
+#[cfg(test)]
 mod plugs;
 #[cfg(test)]
 mod software;

@@ -8,11 +8,11 @@ use Rattle.std.specs.Cmp.{nat_cmp_total, eq_by_cmp_equiv}
 use Rattle.std.specs.FinMap as map
 use Rattle.std.specs.declared.cmp.Ordering.{Ordering}
 use Rattle.std.specs.declared.cmp.Ordering.TheVariants.{Less, Equal, Greater}
-use Rattle.blk_sched.specs.declared.lane.Extent.{Extent}
+use Rattle.blk_bio.specs.declared.extent.Extent.{Extent}
 use Rattle.blk_sched.specs.Meaning.{Waiting, Pending}
-use Rattle.blk_sched.specs.Lanes.{extent_of}
+use Rattle.blk_bio.specs.Extents.{extent_of}
 use Rattle.blk_sched.specs.Maps.{same_number}
-use Rattle.blk_sched.specs.Spots.{Place, Spot, place_cmp, spot_cmp, Adds, Takes, Keeps, is_placed, AreSpots, first_at, end_at, age_at}
+use Rattle.blk_sched.specs.Inside.Spots.{Place, Spot, place_cmp, spot_cmp, Adds, Takes, Keeps, is_placed, AreSpots, first_at, end_at, age_at}
 use Rattle.blk_sched.specs.Index.{IsIndex}
 use Rattle.blk_sched.proofs.Listed.{same_place, is_equal}
 

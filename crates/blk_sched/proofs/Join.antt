@@ -10,10 +10,10 @@ use Rattle.blk_bio.specs.Bios.{Bio}
 use Rattle.blk_bio.specs.Limits.{Limits}
 use Rattle.blk_bio.specs.Requests.{Fits, dir_of, first_of, last_of, joined}
 use Rattle.blk_sched.specs.Meaning.{Waiting, Pending, joined_waiting}
-use Rattle.blk_sched.specs.Lanes.{extent_of}
+use Rattle.blk_bio.specs.Extents.{extent_of}
 use Rattle.blk_sched.specs.Fits.{HasFit}
-use Rattle.blk_sched.specs.Shelves.{JoinsOne}
-use Rattle.blk_sched.specs.Spots.{Place, Spot, place_cmp, is_write, is_placed, AreSpots, Adds, Takes, first_at, end_at, age_at}
+use Rattle.blk_sched.specs.Inside.Shelves.{JoinsOne}
+use Rattle.blk_sched.specs.Inside.Spots.{Place, Spot, place_cmp, is_write, is_placed, AreSpots, Adds, Takes, first_at, end_at, age_at}
 use Rattle.blk_sched.specs.Index.{at_of, joined_extent, IsIndex, IsJoined}
 use Rattle.blk_sched.proofs.Listed.{same_place, is_equal}
 use Rattle.blk_sched.proofs.Indexed.{Found, Has, Becomes, moved, stayed, kept, named_then, becomes_given}
@@ -35,11 +35,11 @@ append_none [] = refl
 append_none (b ∷ bs) = ap (λ (l : List Bio). b ∷ l) (append_none bs)
 
 -- a request that has sectors has bios
-last_joined : (bios newcomer : List Bio) (s : ℕ) → 0 < s → first_of newcomer + s ≡ last_of newcomer → last_of (bios ++ newcomer) ≡ last_of newcomer
+pub last_joined : (bios newcomer : List Bio) (s : ℕ) → 0 < s → first_of newcomer + s ≡ last_of newcomer → last_of (bios ++ newcomer) ≡ last_of newcomer
 last_joined bios [] s some range = absurd (no_sectors s some range)
 last_joined bios (y ∷ ys) s some range = last_both bios y ys
 
-first_joined : (bios newcomer : List Bio) (s : ℕ) → 0 < s → first_of newcomer + s ≡ last_of newcomer → first_of (newcomer ++ bios) ≡ first_of newcomer
+pub first_joined : (bios newcomer : List Bio) (s : ℕ) → 0 < s → first_of newcomer + s ≡ last_of newcomer → first_of (newcomer ++ bios) ≡ first_of newcomer
 first_joined bios [] s some range = absurd (no_sectors s some range)
 first_joined bios (y ∷ ys) s some range = refl
 
@@ -49,12 +49,12 @@ dir_stays limits (x ∷ xs) newcomer Back fits = refl
 dir_stays limits bios [] Front fits = refl
 dir_stays limits bios (y ∷ ys) Front fits = fits.same_direction
 
-first_stays : (limits : Limits) (bios newcomer : List Bio) → Fits limits bios newcomer Back → first_of (bios ++ newcomer) ≡ first_of bios
+pub first_stays : (limits : Limits) (bios newcomer : List Bio) → Fits limits bios newcomer Back → first_of (bios ++ newcomer) ≡ first_of bios
 unfolding last_of
 first_stays limits [] newcomer fits = fits.abuts
 first_stays limits (x ∷ xs) newcomer fits = refl
 
-last_stays : (limits : Limits) (bios newcomer : List Bio) → Fits limits bios newcomer Front → last_of (newcomer ++ bios) ≡ last_of bios
+pub last_stays : (limits : Limits) (bios newcomer : List Bio) → Fits limits bios newcomer Front → last_of (newcomer ++ bios) ≡ last_of bios
 unfolding last_of
 last_stays limits [] newcomer fits = ap last_of (append_none newcomer) ∙ fits.abuts
 last_stays limits (x ∷ xs) newcomer fits = last_both newcomer x xs

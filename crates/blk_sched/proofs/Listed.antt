@@ -5,7 +5,7 @@ use Rattle.std.specs.Cmp.{nat_cmp_total, ranked, tied_itself}
 use Rattle.std.specs.declared.cmp.Ordering.{Ordering}
 use Rattle.std.specs.declared.cmp.Ordering.TheVariants.{Less, Equal, Greater}
 use mathlib.Core.Bool.{not, beq}
-use Rattle.blk_sched.specs.Spots.{Place, Spot, place_cmp, spot_cmp, Adds, Takes, Keeps, IsBelow, upper_of}
+use Rattle.blk_sched.specs.Inside.Spots.{Place, Spot, place_cmp, spot_cmp, Adds, Takes, Keeps, IsBelow, upper_of}
 
 -- ---- the order of places and spots
 

@@ -7,11 +7,11 @@ use Rattle.std.specs.declared.cmp.Ordering.TheVariants.{Less, Equal, Greater}
 use Rattle.blk_bio.specs.declared.bio.Dir.{Dir}
 use Rattle.blk_bio.specs.declared.bio.Dir.TheVariants.{Read, Write}
 use Rattle.blk_bio.specs.Requests.{dir_of, first_of}
-use Rattle.blk_sched.specs.declared.lane.Extent.{Extent}
+use Rattle.blk_bio.specs.declared.extent.Extent.{Extent}
 use Rattle.blk_sched.specs.Meaning.{Waiting}
-use Rattle.blk_sched.specs.Lanes.{extent_of}
+use Rattle.blk_bio.specs.Extents.{extent_of}
 use mathlib.Core.Bool.{not, beq}
-use Rattle.blk_sched.specs.Spots.{Place, Spot, place_cmp, spot_cmp, is_write, is_placed, AreSpots, first_at, age_at}
+use Rattle.blk_sched.specs.Inside.Spots.{Place, Spot, place_cmp, spot_cmp, is_write, is_placed, AreSpots, first_at, age_at}
 use Rattle.blk_sched.specs.Index.{IsOldest, IsNext, IsBefore, NoneOf, NoNext}
 use Rattle.blk_sched.proofs.Listed.{same_place, is_equal, place_itself, nat_less, lt_of}
 use Rattle.blk_sched.proofs.Indexed.{Found, Has}

@@ -12,7 +12,7 @@ use Rattle.std.specs.FinMap as map
 use Rattle.blk_sched.specs.Meaning.{Waiting, Pending}
 use Rattle.blk_sched.specs.Maps.{same_number, get_waiting, one_given, one_taken, at_front, behind, len_is}
 use Rattle.blk_sched.proofs.Order.{greater}
-use Rattle.blk_sched.specs.Shelves.{beside, held, IsShelf, IsLeast}
+use Rattle.blk_sched.specs.Inside.Shelves.{beside, held, IsShelf, IsLeast}
 use Rattle.blk_sched.specs.Index.{PopsFirst}
 
 abbrev pub Laid : Type 0

@@ -12,9 +12,9 @@ use Rattle.blk_bio.specs.Bios.{Bio}
 use Rattle.blk_bio.specs.Limits.{Limits}
 use Rattle.blk_bio.specs.Requests.{Fits, dir_of, first_of, last_of, IsTried}
 use Rattle.blk_sched.specs.Meaning.{Waiting}
-use Rattle.blk_sched.specs.Lanes.{extent_of}
+use Rattle.blk_bio.specs.Extents.{extent_of}
 use Rattle.blk_sched.specs.Fits.{FitsNowhere, IsNewestFit, FitsNone}
-use Rattle.blk_sched.specs.Spots.{Place, place_cmp, is_write, is_placed, AreSpots, IsBelow, IsNewestSpot, NoSpot}
+use Rattle.blk_sched.specs.Inside.Spots.{Place, place_cmp, is_write, is_placed, AreSpots, IsBelow, IsNewestSpot, NoSpot}
 use Rattle.blk_sched.specs.Index.{at_of, touch_of, IsPassed, FitsBy, IsNewestBy, FitsNoneBy, newer_of}
 use Rattle.blk_sched.proofs.Listed.{place_itself}
 use Rattle.blk_sched.proofs.Indexed.{Found, Has}

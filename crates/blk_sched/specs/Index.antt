@@ -7,9 +7,9 @@ use Rattle.blk_bio.specs.declared.request.Side.TheVariants.{Back, Front}
 use Rattle.blk_bio.specs.Bios.{Bio}
 use Rattle.blk_bio.specs.Limits.{Limits}
 use Rattle.blk_bio.specs.Requests.{Fits, dir_of, first_of}
-use Rattle.blk_sched.specs.declared.lane.Extent.{Extent}
+use Rattle.blk_bio.specs.declared.extent.Extent.{Extent}
 use Rattle.blk_sched.specs.Meaning.{Waiting, Pending, joined_waiting}
-use Rattle.blk_sched.specs.Spots.{Place, Spot, AreSpots, first_at, end_at, age_at}
+use Rattle.blk_sched.specs.Inside.Spots.{Place, Spot, AreSpots, first_at, end_at, age_at}
 
 -- each request has its id, and the spots are theirs
 pub record IsIndex (waiting : ℕ → Option Waiting) (at_first at_end at_age : Spot → Bool) : Type 0 where
@@ -39,10 +39,10 @@ abbrev pub touch_of : Side → Extent → Place
 touch_of Back e = first_at e
 touch_of Front e = end_at e
 
--- a request and a newcomer together
+-- the range of a request and a newcomer together
 abbrev pub joined_extent : Side → Extent → Extent → Extent
-joined_extent Back e n = record { dir = e.dir; first = e.first; end = n.end }
-joined_extent Front e n = record { dir = e.dir; first = n.first; end = e.end }
+joined_extent Back e n = record e { end = n.end }
+joined_extent Front e n = record e { first = n.first }
 
 -- one request fits at a side, and at no other
 pub record FitsBy (limits : Limits) (found : Option Waiting) (newcomer : List Bio) (side : Side) : Type 0 where

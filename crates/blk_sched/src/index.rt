@@ -6,21 +6,21 @@ ghost use Rattle.std.specs.FinMap as map;
 ghost use Rattle.blk_bio.specs.declared.request.Side.{Side};
 ghost use Rattle.blk_sched.specs.Meaning.{Waiting, joined_waiting};
 ghost use Rattle.blk_sched.specs.Fits.{IsNewestFit, FitsNone, HasFit, FitsAt, FitsNowhere};
-ghost use Rattle.blk_sched.specs.Lanes.{extent_of};
+ghost use Rattle.blk_bio.specs.Extents.{extent_of};
 ghost use Rattle.blk_bio.specs.Requests.{Fits};
 ghost use Rattle.std.specs.Prelude.{nat_lt, ◌≤◌};
 ghost use Rattle.std.specs.Bool.{OnTrue, OnFalse};
 ghost use Rattle.std.specs.BTreeSet.{contains};
-ghost use Rattle.blk_sched.specs.Spots.{spot_cmp, AreSpots, first_at, age_at};
+ghost use Rattle.blk_sched.specs.Inside.Spots.{spot_cmp, AreSpots, first_at, age_at};
 ghost use Rattle.blk_sched.specs.Index.{IsNewestBy, FitsNoneBy, FitsBy, IsJoined, at_of, touch_of, joined_extent, newer_of, IsOldest, IsNext, NoneOf, NoNext, PopsFirst};
 
 use crate::Queued;
-use crate::lane::Extent;
 use crate::shelf::Shelf;
 use crate::spots::{
     Edges, Spot, end_spot, first_spot, is_write, newest_at, oldest_above, oldest_from, put, take,
 };
 use blk_bio::bio::Dir;
+use blk_bio::extent::Extent;
 use blk_bio::limits::Limits;
 use blk_bio::request::{Request, Side};
 use std::alloc::{AllocError, Allocator, Global};
@@ -39,7 +39,7 @@ impl<A: Allocator> Model for Index<A> {
     ghost use Rattle.std.specs.Coded.{coded_ℕ};
     ghost use Rattle.std.specs.FinMap.{get, code};
     ghost use Rattle.blk_sched.specs.Meaning.{Pending, waiting_code};
-    ghost use Rattle.blk_sched.specs.Spots.{spot_cmp};
+    ghost use Rattle.blk_sched.specs.Inside.Spots.{spot_cmp};
     ghost use Rattle.blk_sched.specs.Index.{IsIndex};
 
     ghost Value = { Pending };
@@ -324,7 +324,7 @@ fn newer(back: Option<u64>, ahead: Option<u64>) -> Option<(u64, Side)>
     }
 }
 
-/// A request and a newcomer together.
+/// The range of a request and a newcomer together.
 fn joined_extent(side: Side, request: Extent, newcomer: Extent) -> Extent
     ensures { result ≡ joined_extent side request newcomer }
 {
@@ -369,7 +369,7 @@ fn join_in<A: Allocator + Clone>(
 {
     let sectors = newcomer.sectors();
     let _ = sectors;
-    let added = Extent::of(&newcomer);
+    let added = newcomer.extent();
     let Some(queued) = waiting.get(id) else {
         unreachable!()
     };
@@ -397,9 +397,9 @@ fn id_of<A: Allocator + Clone>(queued: &Queued<A>) -> u64
     queued.id
 }
 
-/// Its sectors.
+/// Its extent.
 fn extent_of<A: Allocator + Clone>(queued: &Queued<A>) -> Extent
     ensures { result ≡ extent_of queued.now.bios }
 {
-    Extent::of(&queued.request)
+    queued.request.extent()
 }

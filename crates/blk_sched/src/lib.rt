@@ -12,6 +12,7 @@ ghost use Rattle.blk_sched.specs.Meaning.{Waiting, Meaning, HasCandidate, HasNoC
 pub mod fits;
 pub mod index;
 pub mod lane;
+mod marks;
 pub mod picks;
 pub mod shelf;
 pub mod spots;
@@ -19,7 +20,7 @@ pub mod spots;
 use blk_bio::bio::Dir;
 use blk_bio::limits::Limits;
 use blk_bio::request::{JoinFault, Request, Side};
-use picks::{MAX_HANDED, MAX_OPEN};
+pub use picks::{MAX_HANDED, MAX_OPEN, OpenPicks};
 use std::alloc::{AllocError, Allocator, Global};
 use std::marker::Model;
 use thiserror::Error;

@@ -4,7 +4,7 @@ ghost use Rattle.std.specs.Prelude.{◌≡◌, ℕ, None, Some, OnOk, IfErr, OnE
 ghost use Rattle.std.specs.Option.{option_copied};
 ghost use Rattle.std.specs.FinMap as map;
 ghost use Rattle.blk_sched.specs.Meaning.{Waiting};
-ghost use Rattle.blk_sched.specs.Shelves.{JoinsOne, IsLeast};
+ghost use Rattle.blk_sched.specs.Inside.Shelves.{JoinsOne, IsLeast};
 
 use crate::Queued;
 use blk_bio::limits::Limits;
@@ -27,7 +27,7 @@ impl<A: Allocator> Model for Shelf<A> {
     ghost use Rattle.std.specs.Ordering.{nat_cmp};
     ghost use Rattle.slab.specs.Slab.{get};
     ghost use Rattle.blk_sched.specs.Meaning.{Pending, waiting_code};
-    ghost use Rattle.blk_sched.specs.Shelves.{held, IsShelf};
+    ghost use Rattle.blk_sched.specs.Inside.Shelves.{held, IsShelf};
 
     ghost Value = { Pending };
 

@@ -4,10 +4,10 @@ ghost use Rattle.std.specs.Prelude.{◌≡◌, ◌<◌, ◌^◌, ◌+◌, ℕ, O
 ghost use Rattle.std.specs.Ordering.{is_lt, is_gt};
 ghost use Rattle.std.specs.BTreeSet.{contains};
 ghost use Rattle.std.specs.declared.cmp.Ordering.TheVariants.{Less};
-ghost use Rattle.blk_sched.specs.Spots.{Place, Spot, spot_cmp, is_write, first_at, end_at, age_at, Adds, Takes, Keeps, IsNewestSpot, NoSpot, upper_of};
+ghost use Rattle.blk_sched.specs.Inside.Spots.{Place, Spot, spot_cmp, is_write, first_at, end_at, age_at, Adds, Takes, Keeps, IsNewestSpot, NoSpot, upper_of};
 
-use crate::lane::Extent;
 use blk_bio::bio::Dir;
+use blk_bio::extent::Extent;
 use std::alloc::{AllocError, Allocator, Global};
 use std::collections::BTreeSet;
 use std::ops::Bound;

@@ -1,6 +1,6 @@
 use Rattle.std.specs.FinMap as map
 use Rattle.std.specs.BTreeSet.{contains}
-use Rattle.blk_sched.specs.Spots.{spot_cmp}
+use Rattle.blk_sched.specs.Inside.Spots.{spot_cmp}
 use Rattle.blk_sched.proofs.Walk.{newest_by, passed_more, none_by}
 use Rattle.blk_sched.proofs.index.newest_of.Goals as goal
 

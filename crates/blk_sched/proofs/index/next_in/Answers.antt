@@ -1,6 +1,6 @@
 use Rattle.std.specs.FinMap as map
 use Rattle.std.specs.BTreeSet.{contains}
-use Rattle.blk_sched.specs.Spots.{spot_cmp}
+use Rattle.blk_sched.specs.Inside.Spots.{spot_cmp}
 use Rattle.blk_sched.proofs.Order.{no_next, other_next, the_next, same_bools, if_none}
 use Rattle.blk_sched.proofs.index.next_in.Goals as goal
 

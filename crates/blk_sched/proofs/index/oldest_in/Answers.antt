@@ -1,6 +1,6 @@
 use Rattle.std.specs.FinMap as map
 use Rattle.std.specs.BTreeSet.{contains}
-use Rattle.blk_sched.specs.Spots.{spot_cmp}
+use Rattle.blk_sched.specs.Inside.Spots.{spot_cmp}
 use Rattle.blk_sched.proofs.Order.{no_oldest, other_oldest, the_oldest, same_bools, if_none}
 use Rattle.blk_sched.proofs.index.oldest_in.Goals as goal
 

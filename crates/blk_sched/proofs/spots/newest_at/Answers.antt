@@ -1,7 +1,7 @@
 use Rattle.std.proofs.Common.{◌≡◌, true, false, refl, ap, sym, subst}
 use Rattle.std.specs.BTreeSet.{contains}
 use Rattle.std.specs.declared.cmp.Ordering.TheVariants.{Less}
-use Rattle.blk_sched.specs.Spots.{Place, Spot, spot_cmp, upper_of}
+use Rattle.blk_sched.specs.Inside.Spots.{Place, Spot, spot_cmp, upper_of}
 use Rattle.blk_sched.proofs.Listed.{of_place, below_upper, bools_differ}
 use Rattle.blk_sched.proofs.spots.newest_at.Goals as goal
 use Rattle.blk_sched.proofs.spots.newest_at.Goals.{then-write-place-via-then-write-place, then-write-place-via-else-write-place+then-sector-place}

@@ -2,7 +2,7 @@ use Rattle.std.proofs.Common.{◌≡◌, ap, sym, subst, ◌∙◌, None}
 use Rattle.std.specs.FinMap as map
 use Rattle.std.specs.BTreeSet.{contains}
 use Rattle.blk_sched.specs.Meaning.{Pending}
-use Rattle.blk_sched.specs.Spots.{spot_cmp, first_at, end_at, age_at}
+use Rattle.blk_sched.specs.Inside.Spots.{spot_cmp, first_at, end_at, age_at}
 use Rattle.blk_sched.proofs.Listed.{undone}
 use Rattle.blk_sched.proofs.Indexed.{absent, insert_kept, same_kept, becomes_given}
 use Rattle.blk_sched.proofs.index.Index.insert.Goals as goal

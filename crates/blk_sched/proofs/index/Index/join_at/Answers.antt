@@ -4,7 +4,7 @@ use Rattle.std.specs.FinMap as map
 use Rattle.std.specs.BTreeSet.{contains}
 use Rattle.blk_sched.specs.Meaning.{Pending}
 use Rattle.blk_sched.specs.Fits.{HasFit}
-use Rattle.blk_sched.specs.Spots.{spot_cmp}
+use Rattle.blk_sched.specs.Inside.Spots.{spot_cmp}
 use Rattle.blk_sched.specs.Index.{IsJoined}
 use Rattle.blk_sched.proofs.Join.{index_back, index_front}
 use Rattle.blk_sched.proofs.index.Index.join_at.Goals as goal

@@ -1,6 +1,6 @@
 use Rattle.std.proofs.Common.{ap}
 use Rattle.std.specs.BTreeSet.{contains}
-use Rattle.blk_sched.specs.Spots.{spot_cmp}
+use Rattle.blk_sched.specs.Inside.Spots.{spot_cmp}
 use Rattle.blk_sched.proofs.Indexed.{empty_index, no_spot}
 use Rattle.blk_sched.proofs.index.Index.new.Goals as goal
 

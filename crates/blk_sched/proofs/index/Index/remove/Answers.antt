@@ -1,7 +1,7 @@
 use Rattle.std.proofs.Common.{ap, sym, ◌∙◌}
 use Rattle.std.specs.FinMap as map
 use Rattle.std.specs.BTreeSet.{contains}
-use Rattle.blk_sched.specs.Spots.{spot_cmp}
+use Rattle.blk_sched.specs.Inside.Spots.{spot_cmp}
 use Rattle.blk_sched.proofs.Indexed.{remove_kept, absent_kept, becomes_taken}
 use Rattle.blk_sched.proofs.index.Index.remove.Goals as goal
 

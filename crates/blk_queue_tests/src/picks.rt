@@ -1,0 +1,21 @@
+//! The counts of picks that are open and of those that were handed back.
+
+use blk_bio::bio::Dir;
+use blk_sched::OpenPicks;
+
+/// A read is picked, handed back, issued again and done; a write is picked meanwhile.
+#[test]
+fn handed_back_and_issued_again(rt: HostRuntime) {
+    let mut picks = OpenPicks::none();
+    picks.open(Dir::Read);
+    picks.open(Dir::Write);
+    assert_eq!(rt; (picks.of(Dir::Read), picks.handed(Dir::Read)), (1, 0));
+    picks.hand_back(Dir::Read);
+    assert_eq!(rt; (picks.of(Dir::Read), picks.handed(Dir::Read)), (0, 1));
+    assert_eq!(rt; (picks.of(Dir::Write), picks.handed(Dir::Write)), (1, 0));
+    picks.open_again(Dir::Read);
+    assert_eq!(rt; (picks.of(Dir::Read), picks.handed(Dir::Read)), (1, 0));
+    picks.close(Dir::Read);
+    assert_eq!(rt; (picks.of(Dir::Read), picks.handed(Dir::Read)), (0, 0));
+    assert_eq!(rt; (picks.of(Dir::Write), picks.handed(Dir::Write)), (1, 0));
+}
