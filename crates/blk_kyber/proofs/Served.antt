@@ -1,7 +1,7 @@
 -- What the lines and the limits say is said of the scheduler.
-use Rattle.std.proofs.Common.{◌≡◌, ◌<◌, ◌≤◌, ◌%◌, ◌==◌, ◌&&◌, inl, inr, ℕ, Bool, true, false, sym, ap, ◌∙◌, refl, arith, Some, None, Option, List}
+use Rattle.std.proofs.Common.{◌≡◌, ◌<◌, ◌&&◌, inl, inr, ℕ, Bool, true, false, ap, ◌∙◌, refl, arith, Some, None, Option, List}
 use Rattle.std.specs.Prelude.{◌⊎◌, nat_lt, if◌then◌else◌}
-use Rattle.std.proofs.lemmas.Bool.{ltb-true, ltb-false, eqb-true, eq-eqb}
+use Rattle.std.proofs.lemmas.Bool.{ltb-false, eq-eqb}
 use Rattle.std.specs.FinMap as map
 use Rattle.blk_bio.specs.declared.bio.Dir.{Dir}
 use Rattle.blk_bio.specs.declared.bio.Dir.TheVariants.{Read, Write}
@@ -10,11 +10,11 @@ use Rattle.blk_bio.specs.declared.request.Side.TheVariants.{Back}
 use Rattle.blk_bio.specs.Bios.{Bio}
 use Rattle.blk_bio.specs.Limits.{Limits as RequestLimits}
 use Rattle.blk_bio.specs.Requests.{dir_of}
-use Rattle.blk_sched.specs.Meaning.{Waiting, Pending, Meaning, OpenPicks, HasCandidate, HasNoCandidate, Joins, ServesNothing, joined_waiting, unfinished}
-use Rattle.blk_sched.specs.Fits.{IsNewestFit, FitsNone, HasFit}
+use Rattle.blk_sched.specs.Meaning.{Waiting, Pending, Meaning, OpenPicks, HasCandidate, HasNoCandidate, ServesNothing, unfinished}
+use Rattle.blk_sched.specs.Fits.{IsNewestFit, FitsNone}
 use Rattle.blk_sched.specs.Maps.{first_found, none_found}
-use Rattle.blk_sched.specs.Index.{IsOldest, NoneOf, IsJoined}
-use Rattle.blk_kyber.specs.Limits.{Limits, Report, Done, Tick, limit_of, target_of, missed, set_anew}
+use Rattle.blk_sched.specs.Index.{IsOldest, NoneOf}
+use Rattle.blk_kyber.specs.Limits.{Limits, Report, limit_of}
 use Rattle.blk_kyber.specs.Choice.{serves_own, is_same, other_of, oldest_of, in_flight, head_of, chosen}
 use Rattle.blk_kyber.specs.Kept.{Kept, choice_for, after_pick, told, numbers_of, Chooses, Told}
 use Rattle.blk_kyber.specs.Inside.Queues.{served_of}
@@ -43,31 +43,12 @@ module _ (m : Pending) (picks : OpenPicks) (round hw : ℕ) (limits : RequestLim
   pub no_candidate_of : FitsNone limits true (served_of hw m) newcomer → HasNoCandidate serves_own hw limits newcomer (meaning_with m picks round)
   no_candidate_of none id w s there own tried fits = none id w (served_there hw (map.get m id) w there own) s tried fits
 
-  pub fit_of : (id : ℕ) (side : Side) → HasCandidate serves_own hw limits newcomer (meaning_with m picks round) id side → HasFit limits (served_of hw m) newcomer id side
-  fit_of id side candidate = (candidate.0, served_there hw (map.get m id) candidate.0 candidate.1.pending candidate.1.served, candidate.1.fits)
-
-  pub joins : (new : Pending) (now id : ℕ) (side : Side) → HasCandidate serves_own hw limits newcomer (meaning_with m picks round) id side → IsJoined now newcomer m id side new → Joins serves_own hw now limits newcomer (meaning_with m picks round) id side (meaning_with new picks round)
-  joins new now id side candidate join =
-      let w = candidate.0 in
-      let one : Some join.waiting ≡ Some w = sym join.was ∙ candidate.1.pending in
-      let same : join.waiting ≡ w = cc in (
-        w,
-        candidate.1,
-        ap (λ (x : Pending). meaning_with x picks round) (join.is ∙ ap (λ (x : Waiting). map.insert m id (joined_waiting side now newcomer x)) same),
-      )
-
 -- ---- the head of a direction
 
 pub lt_holds : (a b : ℕ) → a < b → nat_lt a b ≡ true
 lt_holds a b h = elim (nat_lt a b) as (λ t. nat_lt a b ≡ t → t ≡ true) [
   | true ↦ λ _. refl
   | false ↦ λ e. let more = ltb-false a b e in absurd (omega arith)
-] refl
-
-pub lt_fails : (a b : ℕ) → b ≤ a → nat_lt a b ≡ false
-lt_fails a b h = elim (nat_lt a b) as (λ t. nat_lt a b ≡ t → t ≡ false) [
-  | true ↦ λ e. let less = ltb-true a b e in absurd (omega arith)
-  | false ↦ λ _. refl
 ] refl
 
 same_is : (d e : Dir) → d ≡ e → is_same d e ≡ true
@@ -149,24 +130,3 @@ chooses old new m hw now result choice after = (old, refl, choice, ap numbers_of
 
 pub tells : (old new : Kept) (report : Report) → new ≡ told report old → Told report (numbers_of old) (numbers_of new)
 tells old new report is = (old, refl, ap numbers_of is)
-
-module _ (old : Kept) (dir : Dir) (wait target : ℕ) (is : target ≡ target_of dir old.targets) where
-  pub missed_told : (new : Limits) → target < wait → new ≡ missed dir old.limits → record old { limits = new } ≡ told (Done dir wait) old
-  missed_told new late after =
-      let less : target_of dir old.targets < wait = omega (arith, is, late) in
-      ap (λ (l : Limits). let k : Kept = record old { limits = l } in k) (after ∙ sym (ap (λ b. if b then missed dir old.limits else old.limits) (lt_holds (target_of dir old.targets) wait less)))
-
-  pub kept_told : wait ≤ target → old ≡ told (Done dir wait) old
-  kept_told early =
-      let low : wait ≤ target_of dir old.targets = omega (arith, is, early) in
-      ap (λ (l : Limits). let k : Kept = record old { limits = l } in k) (sym (ap (λ b. if b then missed dir old.limits else old.limits) (lt_fails (target_of dir old.targets) wait low)))
-
-module _ (old : Kept) (now : ℕ) where
-  pub eighth_told : (new : Limits) → now % 8 ≡ 0 → new ≡ set_anew old.limits → record old { limits = new } ≡ told (Tick now) old
-  eighth_told new is after = ap (λ (l : Limits). let k : Kept = record old { limits = l } in k) (after ∙ sym (ap (λ b. if b then set_anew old.limits else old.limits) (eq-eqb (now % 8) 0 is)))
-
-  pub other_told : (now % 8 ≡ 0 → ⊥) → old ≡ told (Tick now) old
-  other_told is = ap (λ (l : Limits). let k : Kept = record old { limits = l } in k) (sym (ap (λ b. if b then set_anew old.limits else old.limits) (elim (now % 8 == 0) as (λ b. (now % 8 == 0) ≡ b → b ≡ false) [
-    | true ↦ λ e. absurd (is (eqb-true (now % 8) 0 e))
-    | false ↦ λ _. refl
-  ] refl)))

@@ -23,7 +23,7 @@ use crate::turn::{Turn, cap, other};
 use blk_bio::bio::Dir;
 use blk_bio::limits::Limits;
 use blk_bio::request::{Request, Side};
-use blk_sched::picks::{MAX_OPEN, OpenPicks};
+use blk_sched::picks::{MAX_HANDED, MAX_OPEN, OpenPicks};
 use blk_sched::{MAX_QUEUES, Queued, SchedFault, Scheduler};
 use std::alloc::{AllocError, Allocator, Global};
 
@@ -229,12 +229,28 @@ impl<A: Allocator + Clone> Scheduler for Kyber<A> {
         }
     }
 
-    fn on_back(&mut self, hw: u8, dir: Dir) {
+    /// Hands a pick back, which stays in flight. It is no completion: what is kept stays.
+    fn on_back(&mut self, hw: u8, dir: Dir)
+        requires hw { hw < MAX_QUEUES }
+        requires is_open { 0 < open_of dir (meaning_of self.old).open_picks }
+        requires few { (meaning_of self.old).open_picks.handed_reads + (meaning_of self.old).open_picks.handed_writes < MAX_HANDED }
+        ensures stays { kept_of self.new ≡ kept_of self.old }
+        ensures back { HandsBack dir (meaning_of self.old) (meaning_of self.new) }
+        ensures kept { numbers_of (kept_of self.new) ≡ numbers_of (kept_of self.old) }
+    {
         let _ = hw;
         self.open_picks.hand_back(dir);
     }
 
-    fn on_again(&mut self, hw: u8, dir: Dir) {
+    /// Opens a pick again that was handed back. What is kept stays.
+    fn on_again(&mut self, hw: u8, dir: Dir)
+        requires hw { hw < MAX_QUEUES }
+        requires is_handed { 0 < handed_of dir (meaning_of self.old).open_picks }
+        requires few { (meaning_of self.old).open_picks.reads + (meaning_of self.old).open_picks.writes < MAX_OPEN }
+        ensures stays { kept_of self.new ≡ kept_of self.old }
+        ensures again { HandsBack dir (meaning_of self.new) (meaning_of self.old) }
+        ensures kept { numbers_of (kept_of self.new) ≡ numbers_of (kept_of self.old) }
+    {
         let _ = hw;
         self.open_picks.open_again(dir);
     }
