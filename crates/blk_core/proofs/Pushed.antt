@@ -6,13 +6,14 @@ use Rattle.blk_bio.specs.Bios.{Bio}
 use Rattle.blk_trace.specs.declared.trace.Prepared.{Prepared}
 use Rattle.blk_trace.specs.Setups.{Setup}
 use Rattle.blk_trace.specs.Happened.{Happened, Ticked, Released, Joined, Issued, Finished}
-use Rattle.blk_trace.specs.declared.rule.PushFault.{PushFault}
-use Rattle.blk_trace.specs.declared.rule.PushFault.TheVariants as push_fault
+use Rattle.blk_trace.specs.declared.trace.TheConstants.{MAX_EVENTS}
+use Rattle.blk_trace.specs.Rules.{IsUnbroken}
 use Rattle.blk_trace.specs.Events.{open_count, round_of, is_tick}
 use Rattle.blk_trace.specs.Legal.{IsLegalTrace}
 use Rattle.blk_trace.specs.Meaning.{released_ids}
 use Rattle.blk_trace.specs.Standing.{released_count, IsAllowed, places_of}
 use Rattle.blk_trace.specs.Traces.{Traced, IsPreparedFor}
+use Rattle.blk_trace.proofs.Steps.{allowed-unbroken}
 
 -- one more event, with which the list is legal
 pub record IsPushed (setup : Setup) (events : List Happened) (e : Happened) (setup' : Setup) (events' : List Happened) : Type 0 where
@@ -21,25 +22,27 @@ pub record IsPushed (setup : Setup) (events : List Happened) (e : Happened) (set
   pub legal : IsLegalTrace setup (events ++ e ∷ [])
 
 -- what was made ready and then added to
-pub pushed : (setup : Setup) (events : List Happened) (ready new : Traced) (e : Happened) (p q : Prepared) → ready ≡ record { setup = setup; events = events; prepared = p } → (new ≡ record { setup = ready.setup; events = ready.events ++ e ∷ []; prepared = q }) × IsLegalTrace ready.setup (ready.events ++ e ∷ []) → IsPushed setup events e new.setup new.events
-pushed setup events ready new e p q is answer =
+pub pushed : (setup : Setup) (events : List Happened) (ready new : Traced) (e : Happened) (p q : Prepared) → ready ≡ record { setup = setup; events = events; prepared = p } → new ≡ record { setup = ready.setup; events = ready.events ++ e ∷ []; prepared = q } → IsLegalTrace ready.setup (ready.events ++ e ∷ []) → IsPushed setup events e new.setup new.events
+pushed setup events ready new e p q is added legal =
     let s : ready.setup ≡ setup = ap (λ (t : Traced). t.setup) is in
     let l : ready.events ≡ events = ap (λ (t : Traced). t.events) is in
     record {
-      same = ap (λ (t : Traced). t.setup) answer.0 ∙ s;
-      added = ap (λ (t : Traced). t.events) answer.0 ∙ ap (λ x. x ++ e ∷ []) l;
-      legal = subst (λ x. IsLegalTrace setup (x ++ e ∷ [])) l (subst (λ x. IsLegalTrace x (ready.events ++ e ∷ [])) s answer.1);
+      same = ap (λ (t : Traced). t.setup) added ∙ s;
+      added = ap (λ (t : Traced). t.events) added ∙ ap (λ x. x ++ e ∷ []) l;
+      legal = subst (λ x. IsLegalTrace setup (x ++ e ∷ [])) l (subst (λ x. IsLegalTrace x (ready.events ++ e ∷ [])) s legal);
     }
 
 -- the same of a trace that was not made ready
-pub pushed_at_once : (old new : Traced) (e : Happened) (q : Prepared) → (new ≡ record { setup = old.setup; events = old.events ++ e ∷ []; prepared = q }) × IsLegalTrace old.setup (old.events ++ e ∷ []) → IsPushed old.setup old.events e new.setup new.events
-pushed_at_once old new e q answer = record { same = ap (λ (t : Traced). t.setup) answer.0; added = ap (λ (t : Traced). t.events) answer.0; legal = answer.1 }
+pub pushed_at_once : (old new : Traced) (e : Happened) (q : Prepared) → new ≡ record { setup = old.setup; events = old.events ++ e ∷ []; prepared = q } → IsLegalTrace old.setup (old.events ++ e ∷ []) → IsPushed old.setup old.events e new.setup new.events
+pushed_at_once old new e q added legal = record { same = ap (λ (t : Traced). t.setup) added; added = ap (λ (t : Traced). t.events) added; legal = legal }
 
--- an event that is allowed, for which there is a place and room was made, is not refused
-pub not_refused : (setup : Setup) (es : List Happened) (ready : Traced) (p : Prepared) (e : Happened) (why : PushFault) → ready ≡ record { setup = setup; events = es; prepared = p } → IsAllowed setup es e → length es + open_count es + places_of e ≤ 1000000 → IsPreparedFor p e → (IsAllowed ready.setup ready.events e → length ready.events + open_count ready.events + places_of e ≤ 1000000 → why ≡ push_fault.Memory) → (why ≡ push_fault.Memory → IsPreparedFor ready.prepared e → ⊥) → ⊥
-not_refused setup es ready p e why is allowed room prepared by_rule by_memory = by_memory
-    (by_rule (subst (λ (t : Traced). IsAllowed t.setup t.events e) (sym is) allowed) (subst (λ (t : Traced). length t.events + open_count t.events + places_of e ≤ 1000000) (sym is) room))
-    (subst (λ (t : Traced). IsPreparedFor t.prepared e) (sym is) prepared)
+-- an event that is allowed, and for which there is a place, breaks no rule of the trace that was made ready
+pub unbroken : (setup : Setup) (es : List Happened) (ready : Traced) (p : Prepared) (e : Happened) → ready ≡ record { setup = setup; events = es; prepared = p } → IsLegalTrace setup es → IsAllowed setup es e → length es + open_count es + places_of e ≤ MAX_EVENTS → IsUnbroken ready.setup ready.events e
+unbroken setup es ready p e is legal allowed room = subst (λ (t : Traced). IsUnbroken t.setup t.events e) (sym is) (allowed-unbroken setup es e legal allowed room)
+
+-- and room for it was made
+pub ready_for : (setup : Setup) (es : List Happened) (ready : Traced) (p : Prepared) (e : Happened) → ready ≡ record { setup = setup; events = es; prepared = p } → IsPreparedFor p e → IsPreparedFor ready.prepared e
+ready_for setup es ready p e is made = subst (λ (t : Traced). IsPreparedFor t.prepared e) (sym is) made
 
 -- what stands in a list with one more
 pub get_more : {X : Type 0} (xs : List X) (y : X) (k : ℕ) (x : X) → slice_get (xs ++ y ∷ []) k ≡ Some x → (slice_get xs k ≡ Some x) ⊎ ((k ≡ length xs) × (y ≡ x))

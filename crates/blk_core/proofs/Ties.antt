@@ -1,5 +1,5 @@
 -- Each event keeps the core tied to its trace.
-use Rattle.std.proofs.Common.{◌≡◌, ◌≢◌, ◌∙◌, sym, ap, subst, refl, inl, inr, ℕ, ◌+◌, ◌*◌, ◌≤◌, ◌<◌, arith, Bool, true, false, cond, List, [], ◌∷◌, ◌++◌, length, length-append, Option, Some, None, get_or, sum_by, set, ◌⊎◌, ◌==◌}
+use Rattle.std.proofs.Common.{◌≡◌, ◌≢◌, ◌∙◌, sym, ap, subst, refl, inl, inr, ℕ, ◌+◌, ◌*◌, ◌≤◌, ◌<◌, arith, Bool, true, cond, List, [], ◌∷◌, ◌++◌, length, length-append, Option, Some, None, get_or, sum_by, set, map as list_map, ◌⊎◌, ◌==◌}
 use Rattle.std.proofs.lemmas.List.{length-set}
 use Rattle.std.proofs.lemmas.List.Sums.{sum_by-set}
 use Rattle.std.proofs.lemmas.List.Folds.{sum_by-replicate}
@@ -13,17 +13,22 @@ use Rattle.blk_bio.specs.declared.request.Side.{Side}
 use Rattle.blk_bio.specs.Bios.{Bio}
 use Rattle.blk_bio.specs.Limits.{Limits}
 use Rattle.blk_bio.specs.Requests.{dir_of}
+use Rattle.blk_trace.specs.declared.setup.TheConstants.{MAX_QUEUES}
 use Rattle.blk_trace.specs.Setups.{Setup, IsSetup, expire_of}
 use Rattle.blk_trace.specs.Happened.{Happened, Released, Joined, Issued, Finished, Ticked}
 use Rattle.blk_trace.specs.Events.{At, round_of, entered, AreOnce, open_count, join_up}
+use Rattle.blk_trace.specs.Rules.{IsUnbroken}
 use Rattle.blk_trace.specs.Meaning.{commands_of, released_ids, issued_ids, waiting_ids, rising}
 use Rattle.blk_trace.specs.Standing.{Seat, IsAllowed, waits_at, waiting_count, seat_at, open_of, same_dir, released_count, this_round}
-use Rattle.blk_sched.specs.Meaning.{Waiting, Meaning, Pending, Joins, Picks, opened, joined_waiting}
-use Rattle.blk_core.specs.declared.Flight.{Flight}
-use Rattle.blk_core.specs.State.{IsTied, entered_of, seat_of, flying}
+use Rattle.blk_sched.specs.declared.picks.TheConstants.{MAX_OPEN}
+use Rattle.blk_sched.specs.Meaning.{Waiting, Meaning, Pending, OpenPicks, Joins, Picks, opened, open_of as open_picks_of, no_picks, at_start, unfinished, joined_waiting}
+use Rattle.blk_core.specs.declared.TagState.{TagState}
+use Rattle.blk_core.specs.declared.TagState.TheVariants.{Free, Flying, Spent}
+use Rattle.blk_core.specs.State.{Flight, CoreState, entered_of}
+use Rattle.blk_core.specs.Inside.Ties.{IsTied, flight_of, seat_of, queue_of, flying}
 use Rattle.blk_core.proofs.Pushed.{IsPushed, get_more, same_round, round_more, released-released, released-joined, released-issued, released-finished, released-ticked}
 use Rattle.blk_core.proofs.Waits.{agree_given, agree_taken, len_new, len_given, len_taken, still_absent, still_none, joined_up}
-use Rattle.blk_core.proofs.Flights.{few_fly, opened_reads, opened_writes, seats_set, queues_set, nothing_in, never, nobody}
+use Rattle.blk_core.proofs.Flights.{few_fly, opened_reads, opened_writes, opened_handed, seats_set, queues_set, all_free, any_default, unused, none_flies}
 use Rattle.blk_trace.proofs.Pushing.{empty_legal}
 use Rattle.blk_trace.proofs.Steps as step
 
@@ -42,12 +47,12 @@ one_longer : (es : List Happened) (e : Happened) → length (es ++ e ∷ []) ≡
 one_longer es e = length-append es (e ∷ [])
 
 -- a tie at the values that the code's are equal to
-tied_at : (setup setup' : Setup) (es es' : List Happened) (e : Happened) (m : Meaning) (fl : List (Option Flight)) (rel : ℕ) → IsPushed setup es e setup' es' → IsTied setup (es ++ e ∷ []) m fl rel → IsTied setup' es' m fl rel
+tied_at : {A : Type 0} (setup setup' : Setup) (es es' : List Happened) (e : Happened) (m : Meaning) (fl : List (TagState A)) (rel : ℕ) → IsPushed setup es e setup' es' → IsTied setup (es ++ e ∷ []) m fl rel → IsTied setup' es' m fl rel
 tied_at setup setup' es es' e m fl rel p t =
     subst (λ s. IsTied s es' m fl rel) (sym p.same) (subst (λ x. IsTied setup x m fl rel) (sym p.added) t)
 
 -- after a release the core is tied
-pub tied_release : (setup setup' : Setup) (es es' : List Happened) (m m' : Meaning) (fl : List (Option Flight)) (rel : ℕ) (bios : List Bio) (w : Waiting) → IsPushed setup es (Released rel bios) setup' es' → IsTied setup es m fl rel → entered_of w ≡ record { release = round_of es; due = round_of es + expire_of setup (dir_of bios); bios = bios } → m' ≡ record m { pending = map.insert m.pending rel w } → IsTied setup' es' m' fl (rel + 1)
+pub tied_release : {A : Type 0} (setup setup' : Setup) (es es' : List Happened) (m m' : Meaning) (fl : List (TagState A)) (rel : ℕ) (bios : List Bio) (w : Waiting) → IsPushed setup es (Released rel bios) setup' es' → IsTied setup es m fl rel → entered_of w ≡ record { release = round_of es; due = round_of es + expire_of setup (dir_of bios); bios = bios } → m' ≡ record m { pending = map.insert m.pending rel w } → IsTied setup' es' m' fl (rel + 1)
 tied_release setup setup' es es' m m' fl rel bios w p t is m_is =
     let absent : map.get m.pending rel ≡ None = t.fresh rel (omega arith) in
     let longer = one_longer es (Released rel bios) in
@@ -78,11 +83,12 @@ tied_release setup setup' es es' m m' fl rel bios w p t is m_is =
       seats = λ tag h. t.seats tag h ∙ sym (step.seat-released setup es rel bios p.legal tag);
       reads = t.reads;
       writes = t.writes;
+      handed = t.handed;
       queues = t.queues;
     }))
 
 -- after a join the core is tied
-pub tied_join : (setup setup' : Setup) (es es' : List Happened) (m m' : Meaning) (fl : List (Option Flight)) (rel : ℕ) (serves : ℕ → Waiting → Bool) (hw now : ℕ) (bios : List Bio) (id : ℕ) (side : Side) → IsPushed setup es (Joined id bios) setup' es' → IsTied setup es m fl rel → now ≡ round_of es → Joins serves hw now setup.limits bios m id side m' → IsTied setup' es' m' fl rel
+pub tied_join : {A : Type 0} (setup setup' : Setup) (es es' : List Happened) (m m' : Meaning) (fl : List (TagState A)) (rel : ℕ) (serves : ℕ → Waiting → Bool) (hw now : ℕ) (bios : List Bio) (id : ℕ) (side : Side) → IsPushed setup es (Joined id bios) setup' es' → IsTied setup es m fl rel → now ≡ round_of es → Joins serves hw now setup.limits bios m id side m' → IsTied setup' es' m' fl rel
 tied_join setup setup' es es' m m' fl rel serves hw now bios id side p t now_is joins =
     let w = joins.0 in
     let candidate = joins.1 in
@@ -118,6 +124,7 @@ tied_join setup setup' es es' m m' fl rel serves hw now bios id side p t now_is 
       seats = λ tag h. t.seats tag h ∙ sym (step.seat-joined setup es id bios p.legal tag);
       reads = t.reads;
       writes = t.writes;
+      handed = t.handed;
       queues = t.queues;
     }))
   where
@@ -125,22 +132,20 @@ tied_join setup setup' es es' m m' fl rel serves hw now bios id side p t now_is 
     elsewhere q h e = let a : map.get m.pending q ≡ None = t.fresh q h in let b : map.get m.pending id ≡ Some joins.0 = joins.1.pending in let c : map.get m.pending id ≡ map.get m.pending q = ap (map.get m.pending) e in cc
 
 -- after an issue the core is tied
-pub tied_issue : (setup setup' : Setup) (es es' : List Happened) (m m' : Meaning) (fl : List (Option Flight)) (rel : ℕ) (serves : ℕ → Waiting → Bool) (hw tag : ℕ) (w : Waiting) (f : Flight) → IsPushed setup es (Issued w.id tag) setup' es' → IsTied setup es m fl rel → Picks serves hw m w m' → tag < length fl → get_or fl tag None ≡ None → f.dir ≡ dir_of w.bios → f.in_flight ≡ true → f.hw < 16 → IsTied setup' es' m' (set fl tag (Some f)) rel
-tied_issue setup setup' es es' m m' fl rel serves hw tag w f p t picks lt none dir_is flies small =
+pub tied_issue : {A : Type 0} (setup setup' : Setup) (es es' : List Happened) (m m' : Meaning) (fl : List (TagState A)) (rel : ℕ) (serves : ℕ → Waiting → Bool) (hw tag : ℕ) (w : Waiting) → IsPushed setup es (Issued w.id tag) setup' es' → IsTied setup es m fl rel → Picks serves hw m w m' → tag < length fl → get_or fl tag Free ≡ Free → hw < MAX_QUEUES → IsTied setup' es' m' (set fl tag (Flying hw w)) rel
+tied_issue {A} setup setup' es es' m m' fl rel serves hw tag w p t picks lt none small =
     let waits : waits_at setup es w.id ≡ Some (entered_of w) = sym (t.holds.pending w.id) ∙ ap (option_map entered_of) picks.0 in
-    let same : seat_of f ≡ record { dir = dir_of w.bios; in_flight = true } = cc in
-    let r : flying Read (Some f) ≡ cond (same_dir Read (dir_of w.bios)) 1 0 = ap (λ b. cond b (cond (same_dir Read f.dir) 1 0) 0) flies ∙ ap (λ d. cond (same_dir Read d) 1 0) dir_is in
-    let s : flying Write (Some f) ≡ cond (same_dir Write (dir_of w.bios)) 1 0 = ap (λ b. cond b (cond (same_dir Write f.dir) 1 0) 0) flies ∙ ap (λ d. cond (same_dir Write d) 1 0) dir_is in
-    let r0 : flying Read (get_or fl tag None) ≡ 0 = ap (flying Read) none in
-    let s0 : flying Write (get_or fl tag None) ≡ 0 = ap (flying Write) none in
-    let rs = sum_by-set (flying Read) fl tag (Some f) None lt in
-    let ss = sum_by-set (flying Write) fl tag (Some f) None lt in
+    let f : TagState A = Flying hw w in
+    let r0 : flying Read (get_or fl tag Free) ≡ 0 = ap (flying Read) none in
+    let s0 : flying Write (get_or fl tag Free) ≡ 0 = ap (flying Write) none in
+    let rs = sum_by-set (flying Read) fl tag f Free lt in
+    let ss = sum_by-set (flying Write) fl tag f Free lt in
     let ro = opened_reads (dir_of w.bios) m.open_picks in
     let so = opened_writes (dir_of w.bios) m.open_picks in
     let rn = step.open-issued setup es w.id tag p.legal (entered_of w) waits Read in
     let sn = step.open-issued setup es w.id tag p.legal (entered_of w) waits Write in
     let tr = t.reads in let tw = t.writes in let hr = t.holds.reads in let hs = t.holds.writes in
-    let l : length (set fl tag (Some f)) ≡ length fl = length-set fl tag (Some f) in
+    let l : length (set fl tag (Flying hw w)) ≡ length fl = length-set fl tag f in
     let longer = one_longer es (Issued w.id tag) in
     let count = step.count-issued setup es w.id tag p.legal in
     let had = t.holds.count in
@@ -148,8 +153,8 @@ tied_issue setup setup' es es' m m' fl rel serves hw tag w f p t picks lt none d
     let more = released-issued es w.id tag in
     let next = t.next in
     let few = t.few in
-    tied_at setup setup' es es' (Issued w.id tag) m' (set fl tag (Some f)) rel p
-    (subst (λ x. IsTied setup (es ++ Issued w.id tag ∷ []) x (set fl tag (Some f)) rel) (sym picks.2)
+    tied_at setup setup' es es' (Issued w.id tag) m' (set fl tag (Flying hw w)) rel p
+    (subst (λ x. IsTied setup (es ++ Issued w.id tag ∷ []) x (set fl tag (Flying hw w)) rel) (sym picks.2)
     (record {
       legal = p.legal;
       ranges = t.ranges;
@@ -165,42 +170,67 @@ tied_issue setup setup' es es' m m' fl rel serves hw tag w f p t picks lt none d
       known = old_known es (Issued w.id tag) rel (λ i b e. cc) t.known;
       fresh = λ q h. still_none m.pending w.id q (t.fresh q h);
       room = l ∙ t.room;
-      seats = λ q h. seats_set (seat_at es) (seat_at (es ++ Issued w.id tag ∷ [])) fl tag f lt t.seats
-          (λ k. subst (λ (x : Seat). seat_at (es ++ Issued w.id tag ∷ []) k ≡ cond (tag == k) (Some x) (seat_at es k)) (sym same) (step.seat-issued setup es w.id tag p.legal (entered_of w) waits k)) q (omega arith);
+      seats = λ q h. seats_set (seat_at es) (seat_at (es ++ Issued w.id tag ∷ [])) fl tag f lt t.seats (step.seat-issued setup es w.id tag p.legal (entered_of w) waits) q (omega arith);
       reads = omega arith;
       writes = omega arith;
+      handed = (let h = t.handed in let o = opened_handed (dir_of w.bios) m.open_picks in omega arith);
       queues = queues_set fl tag f lt small t.queues;
     }))
 
+-- the seat of a tag whose command is in flight
+pub seated : {A : Type 0} (setup : Setup) (es : List Happened) (m : Meaning) (fl : List (TagState A)) (rel tag hw : ℕ) (w : Waiting) → IsTied setup es m fl rel → tag < length fl → get_or fl tag Free ≡ Flying hw w → seat_at es tag ≡ Some (record { dir = dir_of w.bios; in_flight = true })
+seated setup es m fl rel tag hw w t lt at = sym (t.seats tag lt) ∙ ap seat_of at
+
+-- what the code reads under a tag
+pub read_at : {A : Type 0} (fl : List (TagState A)) (tag hw : ℕ) (seen : TagState A) (w : Waiting) → tag < length fl → seen ≡ get_or fl tag seen → seen ≡ Flying hw w → get_or fl tag Free ≡ Flying hw w
+read_at fl tag hw seen w lt e is = any_default fl tag Free seen lt ∙ sym e ∙ is
+
+-- a Done of it breaks no rule
+pub done_unbroken : {A : Type 0} (setup : Setup) (es : List Happened) (m : Meaning) (fl : List (TagState A)) (rel tag hw : ℕ) (w : Waiting) → IsTied setup es m fl rel → tag < length fl → get_or fl tag Free ≡ Flying hw w → IsUnbroken setup es (Finished tag)
+done_unbroken setup es m fl rel tag hw w t lt at =
+    step.allowed-unbroken setup es (Finished tag) t.legal (dir_of w.bios, seated setup es m fl rel tag hw w t lt at) (let l = t.legal.not_too_long in omega arith)
+
+-- a pick of its direction is open
+pub open_flight : {A : Type 0} (setup : Setup) (es : List Happened) (m : Meaning) (fl : List (TagState A)) (rel tag hw : ℕ) (w : Waiting) → IsTied setup es m fl rel → tag < length fl → get_or fl tag Free ≡ Flying hw w → 0 < open_picks_of (dir_of w.bios) m.open_picks
+open_flight {A} setup es m fl rel tag hw w t lt at = by_dir (dir_of w.bios) refl
+  where
+    by_dir : (d : Dir) → dir_of w.bios ≡ d → 0 < open_picks_of d m.open_picks
+    by_dir Read is =
+        let one : flying Read (get_or fl tag Free) ≡ 1 = ap (flying Read) at ∙ ap (λ d. cond (same_dir Read d) 1 0) is in
+        let some = sum_by-set (flying Read) fl tag (unused {A = A}) Free lt in
+        let reads = t.reads in omega arith
+    by_dir Write is =
+        let one : flying Write (get_or fl tag Free) ≡ 1 = ap (flying Write) at ∙ ap (λ d. cond (same_dir Write d) 1 0) is in
+        let some = sum_by-set (flying Write) fl tag (unused {A = A}) Free lt in
+        let writes = t.writes in omega arith
+
 -- after a completion the core is tied
-pub tied_done : (setup setup' : Setup) (es es' : List Happened) (m m' : Meaning) (fl : List (Option Flight)) (rel tag : ℕ) (f : Flight) → IsPushed setup es (Finished tag) setup' es' → IsTied setup es m fl rel → tag < length fl → get_or fl tag None ≡ Some f → f.in_flight ≡ true → m ≡ record m' { open_picks = opened f.dir m'.open_picks } → IsTied setup' es' m' (set fl tag (Some (record { hw = f.hw; dir = f.dir; wait = f.wait; in_flight = false }))) rel
-tied_done setup setup' es es' m m' fl rel tag f p t lt at flies m_is =
-    let g : Flight = record { hw = f.hw; dir = f.dir; wait = f.wait; in_flight = false } in
-    let seat : Seat = record { dir = f.dir; in_flight = true } in
-    let same : seat_of f ≡ seat = cc in
-    let here : seat_at es tag ≡ Some seat = sym (t.seats tag lt) ∙ ap (option_map seat_of) at ∙ ap Some same in
-    let r : flying Read (Some f) ≡ cond (same_dir Read f.dir) 1 0 = ap (λ b. cond b (cond (same_dir Read f.dir) 1 0) 0) flies in
-    let s : flying Write (Some f) ≡ cond (same_dir Write f.dir) 1 0 = ap (λ b. cond b (cond (same_dir Write f.dir) 1 0) 0) flies in
-    let r0 : flying Read (get_or fl tag None) ≡ flying Read (Some f) = ap (flying Read) at in
-    let s0 : flying Write (get_or fl tag None) ≡ flying Write (Some f) = ap (flying Write) at in
-    let rs : sum_by (flying Read) (set fl tag (Some g)) + flying Read (get_or fl tag None) ≡ sum_by (flying Read) fl + 0 = sum_by-set (flying Read) fl tag (Some g) None lt in
-    let ss : sum_by (flying Write) (set fl tag (Some g)) + flying Write (get_or fl tag None) ≡ sum_by (flying Write) fl + 0 = sum_by-set (flying Write) fl tag (Some g) None lt in
-    let ro = opened_reads f.dir m'.open_picks in
-    let so = opened_writes f.dir m'.open_picks in
-    let mr : m.open_picks.reads ≡ (opened f.dir m'.open_picks).reads = ap (λ (x : Meaning). x.open_picks.reads) m_is in
-    let mw : m.open_picks.writes ≡ (opened f.dir m'.open_picks).writes = ap (λ (x : Meaning). x.open_picks.writes) m_is in
+pub tied_done : {A : Type 0} (setup setup' : Setup) (es es' : List Happened) (m m' : Meaning) (fl : List (TagState A)) (rel tag hw : ℕ) (w : Waiting) → IsPushed setup es (Finished tag) setup' es' → IsTied setup es m fl rel → tag < length fl → get_or fl tag Free ≡ Flying hw w → m ≡ record m' { open_picks = opened (dir_of w.bios) m'.open_picks } → IsTied setup' es' m' (set fl tag (Spent (dir_of w.bios))) rel
+tied_done {A} setup setup' es es' m m' fl rel tag hw w p t lt at m_is =
+    let g : TagState A = Spent (dir_of w.bios) in
+    let seat : Seat = record { dir = dir_of w.bios; in_flight = true } in
+    let here : seat_at es tag ≡ Some seat = seated setup es m fl rel tag hw w t lt at in
+    let r0 : flying Read (get_or fl tag Free) ≡ cond (same_dir Read (dir_of w.bios)) 1 0 = ap (flying Read) at in
+    let s0 : flying Write (get_or fl tag Free) ≡ cond (same_dir Write (dir_of w.bios)) 1 0 = ap (flying Write) at in
+    let rs : sum_by (flying Read) (set fl tag g) + flying Read (get_or fl tag Free) ≡ sum_by (flying Read) fl + 0 = sum_by-set (flying Read) fl tag g Free lt in
+    let ss : sum_by (flying Write) (set fl tag g) + flying Write (get_or fl tag Free) ≡ sum_by (flying Write) fl + 0 = sum_by-set (flying Write) fl tag g Free lt in
+    let ro = opened_reads (dir_of w.bios) m'.open_picks in
+    let so = opened_writes (dir_of w.bios) m'.open_picks in
+    let ho = opened_handed (dir_of w.bios) m'.open_picks in
+    let mr : m.open_picks.reads ≡ (opened (dir_of w.bios) m'.open_picks).reads = ap (λ (x : Meaning). x.open_picks.reads) m_is in
+    let mw : m.open_picks.writes ≡ (opened (dir_of w.bios) m'.open_picks).writes = ap (λ (x : Meaning). x.open_picks.writes) m_is in
+    let mh : m.open_picks.handed_reads + m.open_picks.handed_writes ≡ (opened (dir_of w.bios) m'.open_picks).handed_reads + (opened (dir_of w.bios) m'.open_picks).handed_writes = ap (λ (x : Meaning). x.open_picks.handed_reads + x.open_picks.handed_writes) m_is in
     let mp : m.pending ≡ m'.pending = ap (λ (x : Meaning). x.pending) m_is in
-    let rn = step.open-finished setup es tag p.legal f.dir here Read in
-    let sn = step.open-finished setup es tag p.legal f.dir here Write in
-    let tr = t.reads in let tw = t.writes in let hr = t.holds.reads in let hs = t.holds.writes in
-    let small : f.hw < 16 = t.queues tag f at in
-    let l : length (set fl tag (Some g)) ≡ length fl = length-set fl tag (Some g) in
+    let rn = step.open-finished setup es tag p.legal (dir_of w.bios) here Read in
+    let sn = step.open-finished setup es tag p.legal (dir_of w.bios) here Write in
+    let tr = t.reads in let tw = t.writes in let hr = t.holds.reads in let hs = t.holds.writes in let th = t.handed in
+    let l : length (set fl tag g) ≡ length fl = length-set fl tag g in
     let longer = one_longer es (Finished tag) in
     let count = step.count-finished setup es tag p.legal in
     let more = released-finished es tag in
     let next = t.next in
     let few = t.few in
-    tied_at setup setup' es es' (Finished tag) m' (set fl tag (Some g)) rel p
+    tied_at setup setup' es es' (Finished tag) m' (set fl tag g) rel p
     (record {
       legal = p.legal;
       ranges = t.ranges;
@@ -219,16 +249,26 @@ tied_done setup setup' es es' m m' fl rel tag f p t lt at flies m_is =
       seats = λ q h. seats_set (seat_at es) (seat_at (es ++ Finished tag ∷ [])) fl tag g lt t.seats (step.seat-finished setup es tag p.legal seat here) q (omega arith);
       reads = omega arith;
       writes = omega arith;
-      queues = queues_set fl tag g lt small t.queues;
+      handed = omega arith;
+      queues = queues_set fl tag g lt (omega arith) t.queues;
     })
 
+-- a free tag has no hardware queue of its own
+few_of : {A : Type 0} (s : TagState A) → s ≡ Free → queue_of s < MAX_QUEUES
+few_of s is = let q : queue_of s ≡ 0 = ap queue_of is in omega arith
+
+-- the same of what the code calls its direction
+pub tied_done_at : {A : Type 0} (setup setup' : Setup) (es es' : List Happened) (m m' : Meaning) (fl : List (TagState A)) (rel tag hw : ℕ) (w : Waiting) (dir : Dir) → IsPushed setup es (Finished tag) setup' es' → IsTied setup es m fl rel → tag < length fl → get_or fl tag Free ≡ Flying hw w → dir ≡ dir_of w.bios → m ≡ record m' { open_picks = opened dir m'.open_picks } → IsTied setup' es' m' (set fl tag (Spent dir)) rel
+tied_done_at setup setup' es es' m m' fl rel tag hw w dir p t lt at is m_is =
+    subst (λ d. m ≡ record m' { open_picks = opened d m'.open_picks } → IsTied setup' es' m' (set fl tag (Spent d)) rel) (sym is) (λ h. tied_done setup setup' es es' m m' fl rel tag hw w p t lt at h) m_is
+
 -- after a tick the core is tied
-pub tied_tick : (setup setup' : Setup) (es es' : List Happened) (m m' : Meaning) (fl fl' : List (Option Flight)) (rel now : ℕ) → IsPushed setup es Ticked setup' es' → IsTied setup es m fl rel → m' ≡ record m { round = now } → now ≡ round_of es' → fl' ≡ replicate (length fl) None → IsTied setup' es' m' fl' rel
-tied_tick setup setup' es es' m m' fl fl' rel now p t m_is now_is fl_is =
+pub tied_tick : {A : Type 0} (setup setup' : Setup) (es es' : List Happened) (m m' : Meaning) (fl fl' : List (TagState A)) (rel now : ℕ) → IsPushed setup es Ticked setup' es' → IsTied setup es m fl rel → m' ≡ record m { round = now } → now ≡ round_of es' → fl' ≡ replicate (length fl) Free → IsTied setup' es' m' fl' rel
+tied_tick {A} setup setup' es es' m m' fl fl' rel now p t m_is now_is fl_is =
     let n : ℕ = length fl in
-    let l : length (replicate n nobody) ≡ n = length-replicate n nobody in
-    let r : sum_by (flying Read) (replicate n nobody) ≡ n * 0 = sum_by-replicate (flying Read) n nobody in
-    let s : sum_by (flying Write) (replicate n nobody) ≡ n * 0 = sum_by-replicate (flying Write) n nobody in
+    let l : length (replicate n (unused {A = A})) ≡ n = length-replicate n (unused {A = A}) in
+    let r : sum_by (flying Read) (replicate n (unused {A = A})) ≡ n * 0 = sum_by-replicate (flying Read) n (unused {A = A}) in
+    let s : sum_by (flying Write) (replicate n (unused {A = A})) ≡ n * 0 = sum_by-replicate (flying Write) n (unused {A = A}) in
     let ro = step.open-ticked setup es p.legal Read in
     let so = step.open-ticked setup es p.legal Write in
     let rb = step.open-before_tick setup es p.legal Read in
@@ -257,10 +297,11 @@ tied_tick setup setup' es es' m m' fl fl' rel now p t m_is now_is fl_is =
       known = old_known es Ticked rel (λ i b e. cc) t.known;
       fresh = t.fresh;
       room = l ∙ t.room;
-      seats = λ q h. ap (option_map seat_of) (nothing_in n q) ∙ sym (step.seat-ticked setup es p.legal q);
+      seats = λ q h. ap seat_of (all_free A n q) ∙ sym (step.seat-ticked setup es p.legal q);
       reads = omega arith;
       writes = omega arith;
-      queues = λ q f e. never f (sym (nothing_in n q) ∙ e);
+      handed = t.handed;
+      queues = λ q. few_of (get_or (replicate n (unused {A = A})) q Free) (all_free A n q);
     })))
 
 -- nothing waits, is taken or is in flight at first
@@ -288,77 +329,96 @@ no_round : round_of [] ≡ 0
 unfolding round_of
 no_round = refl
 
-at_first : (setup : Setup) (m : Meaning) (n : ℕ) → m.pending ≡ map.empty → m.open_picks.reads ≡ 0 → m.open_picks.writes ≡ 0 → m.round ≡ 0 → IsSetup setup → n ≡ setup.depth → IsTied setup [] m (replicate n nobody) 0
-at_first setup m n e r w now ranges d =
-    let rs : sum_by (flying Read) (replicate n nobody) ≡ n * 0 = sum_by-replicate (flying Read) n nobody in
-    let ss : sum_by (flying Write) (replicate n nobody) ≡ n * 0 = sum_by-replicate (flying Write) n nobody in
+-- what a scheduler means at its start
+start_parts : (m : Meaning) → m ≡ at_start m.front → (m.pending ≡ map.empty) × (m.open_picks ≡ no_picks) × (m.round ≡ 0)
+start_parts m is = (ap (λ (x : Meaning). x.pending) is, ap (λ (x : Meaning). x.open_picks) is, ap (λ (x : Meaning). x.round) is)
+
+at_first : {A : Type 0} (setup : Setup) (m : Meaning) (n : ℕ) → m ≡ at_start m.front → IsSetup setup → n ≡ setup.depth → IsTied setup [] m (replicate n (unused {A = A})) 0
+at_first {A} setup m n start ranges d =
+    let parts = start_parts m start in
+    let rs : sum_by (flying Read) (replicate n (unused {A = A})) ≡ n * 0 = sum_by-replicate (flying Read) n (unused {A = A}) in
+    let ss : sum_by (flying Write) (replicate n (unused {A = A})) ≡ n * 0 = sum_by-replicate (flying Write) n (unused {A = A}) in
+    let r : m.open_picks.reads ≡ 0 = ap (λ (x : OpenPicks). x.reads) parts.1 in
+    let w : m.open_picks.writes ≡ 0 = ap (λ (x : OpenPicks). x.writes) parts.1 in
     record {
       legal = empty_legal setup;
       ranges = ranges;
       holds = record {
-        pending = λ q. ap (λ (x : Pending). option_map entered_of (map.get x q)) e ∙ ap (option_map entered_of) (map.get-empty nat_cmp q) ∙ sym (no_waits setup q);
-        count = ap map.len e ∙ map.len-empty nat_cmp Waiting ∙ sym no_count;
+        pending = λ q. ap (λ (x : Pending). option_map entered_of (map.get x q)) parts.0 ∙ ap (option_map entered_of) (map.get-empty nat_cmp q) ∙ sym (no_waits setup q);
+        count = ap map.len parts.0 ∙ map.len-empty nat_cmp Waiting ∙ sym no_count;
         reads = r ∙ sym (none_open Read);
         writes = w ∙ sym (none_open Write);
-        round = now ∙ sym no_round;
+        round = parts.2 ∙ sym no_round;
       };
       next = sym none_released;
       few = omega arith;
       known = λ k id bios at. absurd (let x : None ≡ Some (Released id bios) = at in cc);
-      fresh = λ q h. ap (λ (x : Pending). map.get x q) e ∙ map.get-empty nat_cmp q;
-      room = length-replicate n nobody ∙ d;
-      seats = λ q h. ap (option_map seat_of) (nothing_in n q) ∙ sym (no_seat q);
+      fresh = λ q h. ap (λ (x : Pending). map.get x q) parts.0 ∙ map.get-empty nat_cmp q;
+      room = length-replicate n (unused {A = A}) ∙ d;
+      seats = λ q h. ap seat_of (all_free A n q) ∙ sym (no_seat q);
       reads = omega arith;
       writes = omega arith;
-      queues = λ q f h. never f (sym (nothing_in n q) ∙ h);
+      handed = ap (λ (x : OpenPicks). x.handed_reads + x.handed_writes) parts.1;
+      queues = λ q. few_of (get_or (replicate n (unused {A = A})) q Free) (all_free A n q);
     }
 
 -- at first the core is tied
-pub tied_new : (s s' : Setup) (es : List Happened) (m : Meaning) (fl : List (Option Flight)) (n : ℕ) → s' ≡ s → es ≡ [] → m.pending ≡ map.empty → m.open_picks.reads ≡ 0 → m.open_picks.writes ≡ 0 → m.round ≡ 0 → IsSetup s → n ≡ s.depth → fl ≡ replicate n None → IsTied s' es m fl 0
-tied_new s s' es m fl n p q e r w now ranges d f =
-    subst (λ x. IsTied x es m fl 0) (sym p) (subst (λ x. IsTied s x m fl 0) (sym q) (subst (λ x. IsTied s [] m x 0) (sym f) (at_first s m n e r w now ranges d)))
+pub tied_new : {A : Type 0} (s s' : Setup) (es : List Happened) (m : Meaning) (fl : List (TagState A)) (n : ℕ) → s' ≡ s → es ≡ [] → m ≡ at_start m.front → IsSetup s → n ≡ s.depth → fl ≡ replicate n Free → IsTied s' es m fl 0
+tied_new {A} s s' es m fl n p q start ranges d f =
+    subst (λ x. IsTied x es m fl 0) (sym p) (subst (λ x. IsTied s x m fl 0) (sym q) (subst (λ x. IsTied s [] m x 0) (sym f) (at_first {A = A} s m n start ranges d)))
+
+-- what a core is at first
+pub at_start_of : (s s' : Setup) (es : List Happened) (m : Meaning) (kept : List ℕ) (flights now : List (Option Flight)) → s' ≡ s → es ≡ [] → flights ≡ now → (let c : CoreState = record { setup = s'; events = es; meaning = m; kept = kept; flights = flights } in c ≡ record { setup = s; events = []; meaning = m; kept = kept; flights = now })
+at_start_of s s' es m kept flights now p q r = cc
 
 -- a scheduler's join is one that the trace allows
-pub join_allowed : (setup : Setup) (es : List Happened) (m m' : Meaning) (fl : List (Option Flight)) (rel : ℕ) (serves : ℕ → Waiting → Bool) (hw now : ℕ) (bios : List Bio) (id : ℕ) (side : Side) → IsTied setup es m fl rel → Joins serves hw now setup.limits bios m id side m' → AreOnce (entered es ++ bios) → IsAllowed setup es (Joined id bios)
+pub join_allowed : {A : Type 0} (setup : Setup) (es : List Happened) (m m' : Meaning) (fl : List (TagState A)) (rel : ℕ) (serves : ℕ → Waiting → Bool) (hw now : ℕ) (bios : List Bio) (id : ℕ) (side : Side) → IsTied setup es m fl rel → Joins serves hw now setup.limits bios m id side m' → AreOnce (entered es ++ bios) → IsAllowed setup es (Joined id bios)
 join_allowed setup es m m' fl rel serves hw now bios id side t joins once =
     (entered_of joins.0, side, sym (t.holds.pending id) ∙ ap (option_map entered_of) joins.1.pending, joins.1.fits, once)
 
 -- a scheduler's pick is an Issue that the trace allows
-pub issue_allowed : (setup : Setup) (es : List Happened) (m m' : Meaning) (fl : List (Option Flight)) (rel : ℕ) (serves : ℕ → Waiting → Bool) (hw tag : ℕ) (w : Waiting) → IsTied setup es m fl rel → Picks serves hw m w m' → tag < length fl → get_or fl tag None ≡ None → IsAllowed setup es (Issued w.id tag)
+pub issue_allowed : {A : Type 0} (setup : Setup) (es : List Happened) (m m' : Meaning) (fl : List (TagState A)) (rel : ℕ) (serves : ℕ → Waiting → Bool) (hw tag : ℕ) (w : Waiting) → IsTied setup es m fl rel → Picks serves hw m w m' → tag < length fl → get_or fl tag Free ≡ Free → IsAllowed setup es (Issued w.id tag)
 issue_allowed setup es m m' fl rel serves hw tag w t picks lt none =
-    (entered_of w, sym (t.holds.pending w.id) ∙ ap (option_map entered_of) picks.0, (let r = t.room in omega arith), sym (t.seats tag lt) ∙ ap (option_map seat_of) none)
+    (entered_of w, sym (t.holds.pending w.id) ∙ ap (option_map entered_of) picks.0, (let r = t.room in omega arith), sym (t.seats tag lt) ∙ ap seat_of none)
 
 -- a Tick is allowed where nothing is in flight
-pub tick_allowed : (setup : Setup) (es : List Happened) (m : Meaning) (fl : List (Option Flight)) (rel : ℕ) → IsTied setup es m fl rel → open_count es ≡ 0 → IsAllowed setup es Ticked
+pub tick_allowed : {A : Type 0} (setup : Setup) (es : List Happened) (m : Meaning) (fl : List (TagState A)) (rel : ℕ) → IsTied setup es m fl rel → open_count es ≡ 0 → IsAllowed setup es Ticked
 tick_allowed setup es m fl rel t none = let both = step.open-both setup es t.legal in ((let r : open_of es Read ≡ 0 = omega arith in r), (let w : open_of es Write ≡ 0 = omega arith in w))
 
 -- the scheduler has no more open picks than there are tags
-pub few_open : (setup : Setup) (es : List Happened) (m : Meaning) (fl : List (Option Flight)) (rel : ℕ) → IsTied setup es m fl rel → m.open_picks.reads + m.open_picks.writes < 256
+pub few_open : {A : Type 0} (setup : Setup) (es : List Happened) (m : Meaning) (fl : List (TagState A)) (rel : ℕ) → IsTied setup es m fl rel → m.open_picks.reads + m.open_picks.writes < MAX_OPEN
 few_open setup es m fl rel t = let a = few_fly fl in let b = t.reads in let c = t.writes in let d = t.room in let e = t.ranges.few_tags in omega arith
 
 -- the scheduler's round is the trace's, and the next one is later
-pub round_is : (setup : Setup) (es : List Happened) (m : Meaning) (fl : List (Option Flight)) (rel now : ℕ) → IsTied setup es m fl rel → now ≡ round_of es → now ≡ m.round
+pub round_is : {A : Type 0} (setup : Setup) (es : List Happened) (m : Meaning) (fl : List (TagState A)) (rel now : ℕ) → IsTied setup es m fl rel → now ≡ round_of es → now ≡ m.round
 round_is setup es m fl rel now t is = is ∙ sym t.holds.round
 
-pub round_next : (setup setup' : Setup) (es es' : List Happened) (m : Meaning) (fl : List (Option Flight)) (rel now : ℕ) → IsTied setup es m fl rel → IsPushed setup es Ticked setup' es' → now ≡ round_of es' → m.round < now
+pub round_next : {A : Type 0} (setup setup' : Setup) (es es' : List Happened) (m : Meaning) (fl : List (TagState A)) (rel now : ℕ) → IsTied setup es m fl rel → IsPushed setup es Ticked setup' es' → now ≡ round_of es' → m.round < now
 round_next setup setup' es es' m fl rel now t p is = let was = t.holds.round in let one = ap round_of p.added ∙ round_more es Ticked in omega arith
 
--- a tag that is free has no flight
-pub free_slot : (setup : Setup) (es : List Happened) (m : Meaning) (fl : List (Option Flight)) (rel tag : ℕ) → IsTied setup es m fl rel → tag < length fl → seat_at es tag ≡ None → get_or fl tag None ≡ None
-free_slot setup es m fl rel tag t lt free = by_flight (get_or fl tag None) refl
+-- a tag without a seat is free
+pub free_slot : {A : Type 0} (setup : Setup) (es : List Happened) (m : Meaning) (fl : List (TagState A)) (rel tag : ℕ) → IsTied setup es m fl rel → tag < length fl → seat_at es tag ≡ None → get_or fl tag Free ≡ Free
+free_slot {A} setup es m fl rel tag t lt free = by_state (get_or fl tag Free) (t.seats tag lt ∙ free)
   where
-    by_flight : (o : Option Flight) → get_or fl tag None ≡ o → get_or fl tag None ≡ None
-    by_flight None e = e
-    by_flight (Some f) e = absurd (let a : Some (seat_of f) ≡ None = sym (ap (option_map seat_of) e) ∙ t.seats tag lt ∙ free in cc)
+    by_state : (s : TagState A) → seat_of s ≡ None → s ≡ Free
+    by_state Free e = refl
+    by_state (Flying hw w) e = absurd (cc)
+    by_state (Spent d) e = absurd (cc)
 
 -- a pick is open where an Issue is
-pub open_issue : (setup : Setup) (es : List Happened) (m : Meaning) (fl : List (Option Flight)) (rel : ℕ) (P : Type 0) → IsTied setup es m fl rel → (0 < m.open_picks.reads + m.open_picks.writes) ⊎ P → (0 < open_count es) ⊎ P
+pub open_issue : {A : Type 0} (setup : Setup) (es : List Happened) (m : Meaning) (fl : List (TagState A)) (rel : ℕ) (P : Type 0) → IsTied setup es m fl rel → (0 < unfinished m.open_picks) ⊎ P → (0 < open_count es) ⊎ P
 open_issue setup es m fl rel P t h =
-    let both = step.open-both setup es t.legal in let r = t.holds.reads in let w = t.holds.writes in
+    let both = step.open-both setup es t.legal in let r = t.holds.reads in let w = t.holds.writes in let none = t.handed in
     elim h [ inl o ↦ inl (omega arith) | inr p ↦ inr p ]
 
--- past the flights no tag is taken
-pub beyond : (setup : Setup) (es : List Happened) (m : Meaning) (fl : List (Option Flight)) (rel tag : ℕ) → IsTied setup es m fl rel → length fl ≤ tag → seat_at es tag ≡ None
+-- a core without open Issues has nothing in flight
+pub none_in_flight : {A : Type 0} (setup : Setup) (es : List Happened) (m : Meaning) (fl : List (TagState A)) (rel : ℕ) → IsTied setup es m fl rel → open_count es ≡ 0 → list_map flight_of fl ≡ replicate (length fl) None
+none_in_flight setup es m fl rel t none =
+    let both = step.open-both setup es t.legal in let r = t.holds.reads in let w = t.holds.writes in let fr = t.reads in let fw = t.writes in
+    none_flies fl (omega arith)
+
+-- past the tags none is taken
+pub beyond : {A : Type 0} (setup : Setup) (es : List Happened) (m : Meaning) (fl : List (TagState A)) (rel tag : ℕ) → IsTied setup es m fl rel → length fl ≤ tag → seat_at es tag ≡ None
 beyond setup es m fl rel tag t past = by_seat (seat_at es tag) refl
   where
     by_seat : (o : Option Seat) → seat_at es tag ≡ o → seat_at es tag ≡ None
@@ -366,7 +426,7 @@ beyond setup es m fl rel tag t past = by_seat (seat_at es tag) refl
     by_seat (Some s) e = absurd (let b = step.seat-below setup es t.legal tag s e in let r = t.room in omega arith)
 
 -- the command of an issue is the last one
-pub last_command : (setup setup' : Setup) (es es' : List Happened) (m : Meaning) (fl : List (Option Flight)) (rel tag : ℕ) (w : Waiting) → IsPushed setup es (Issued w.id tag) setup' es' → IsTied setup es m fl rel → map.get m.pending w.id ≡ Some w → commands_of setup' es' ≡ commands_of setup es ++ record { id = w.id; release = w.release; due = w.due } ∷ []
+pub last_command : {A : Type 0} (setup setup' : Setup) (es es' : List Happened) (m : Meaning) (fl : List (TagState A)) (rel tag : ℕ) (w : Waiting) → IsPushed setup es (Issued w.id tag) setup' es' → IsTied setup es m fl rel → map.get m.pending w.id ≡ Some w → commands_of setup' es' ≡ commands_of setup es ++ record { id = w.id; release = w.release; due = w.due } ∷ []
 last_command setup setup' es es' m fl rel tag w p t here =
     ap (λ s. commands_of s es') p.same ∙ ap (commands_of setup) p.added
     ∙ step.commands-issued setup es w.id tag p.legal (entered_of w) (sym (t.holds.pending w.id) ∙ ap (option_map entered_of) here)

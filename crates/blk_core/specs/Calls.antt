@@ -1,19 +1,19 @@
 -- What the calls of a core do.
-use Rattle.std.specs.Prelude.{ℕ, ◌+◌, ◌≡◌, ◌<◌, ◌⊎◌, ◌++◌, ◌∷◌, [], Bool, true, List, Option, None, Some}
+use Rattle.std.specs.Prelude.{ℕ, ◌+◌, ◌-◌, ◌≡◌, ◌<◌, ◌⊎◌, ◌++◌, ◌∷◌, [], Bool, true, List, Option, None, Some, slice_get, slice_set}
 use Rattle.std.specs.FinMap as map
 use Rattle.blk_bio.specs.declared.bio.Dir.{Dir}
 use Rattle.blk_bio.specs.Bios.{Bio}
 use Rattle.blk_bio.specs.Requests.{dir_of}
 use Rattle.edd_check.specs.declared.Command.{Command}
 use Rattle.blk_trace.specs.Setups.{expire_of}
-use Rattle.blk_trace.specs.Happened.{Happened, Released, Joined, Issued, Finished}
+use Rattle.blk_trace.specs.Happened.{Happened, Ticked, Released, Joined, Issued, Finished}
 use Rattle.blk_trace.specs.Events.{round_of, open_count}
 use Rattle.blk_trace.specs.Meaning.{commands_of}
 use Rattle.blk_trace.specs.Standing.{released_count, seat_at}
-use Rattle.blk_sched.specs.Meaning.{Waiting, HasNoCandidate, ServesNothing, Picks, Joins, opened}
+use Rattle.blk_sched.specs.Meaning.{Waiting, Meaning, HasNoCandidate, ServesNothing, Picks, Joins, opened}
 use Rattle.blk_core.specs.declared.Placed.{Placed}
 use Rattle.blk_core.specs.declared.Placed.TheVariants.{New, Joined as JoinedTo}
-use Rattle.blk_core.specs.State.{CoreState}
+use Rattle.blk_core.specs.State.{Flight, CoreState}
 
 -- one more event, and nothing else in the trace
 abbrev pub Adds : CoreState → Happened → CoreState → Type 0
@@ -37,24 +37,54 @@ Places serves old bios hw (New id) new =
     × Adds old (Released id bios) new
     × (new.meaning ≡ record old.meaning { pending = map.insert old.meaning.pending id (newcomer old bios hw) })
     × (new.kept ≡ old.kept)
+    × (new.flights ≡ old.flights)
 Places serves old bios hw (JoinedTo id side) new =
     Joins serves hw (round_of old.events) old.setup.limits bios old.meaning id side new.meaning
     × Adds old (Joined id bios) new
     × (new.kept ≡ old.kept)
+    × (new.flights ≡ old.flights)
 
--- what an issue does: an Issue of a served request, whose command is then the last one
-abbrev pub Issues : (ℕ → Waiting → Bool) → CoreState → ℕ → ℕ → Option Command → CoreState → Type 0
-Issues serves old hw tag None new =
-    (new ≡ old) × ((0 < open_count old.events) ⊎ ServesNothing serves hw old.meaning)
-Issues serves old hw tag (Some command) new =
+-- a scheduler's choice: from what it keeps, its meaning, a hardware queue and the round to the answer, and to what it keeps then
+abbrev pub Choice : Type 1
+Choice = List ℕ → Meaning → ℕ → ℕ → Option Waiting → List ℕ → Type 0
+
+-- what an issue does: an Issue of a served request, which the scheduler chose for the hardware queue in this round, and whose command
+-- is then the last one and in flight under the tag; or nothing, where the scheduler chose none
+abbrev pub Issues : (ℕ → Waiting → Bool) → Choice → CoreState → ℕ → ℕ → Option Command → CoreState → Type 0
+Issues serves chooses old hw tag None new =
+    (new ≡ old)
+    × chooses old.kept old.meaning hw (round_of old.events) None old.kept
+    × ((0 < open_count old.events) ⊎ ServesNothing serves hw old.meaning)
+Issues serves chooses old hw tag (Some command) new =
     (w : Waiting) × Picks serves hw old.meaning w new.meaning
+    × chooses old.kept old.meaning hw (round_of old.events) (Some w) new.kept
     × Adds old (Issued w.id tag) new
     × (command ≡ record { id = w.id; release = w.release; due = w.due })
     × (commands_of new.setup new.events ≡ commands_of old.setup old.events ++ command ∷ [])
+    × (new.flights ≡ slice_set old.flights tag (Some (record { hw = hw; request = w })))
 
--- what a completion does: a Done of the command in flight, whose pick is then closed
-abbrev pub Completes : CoreState → ℕ → CoreState → Type 0
-Completes old tag new =
-    (dir : Dir) × (seat_at old.events tag ≡ Some (record { dir = dir; in_flight = true }))
+-- what a scheduler keeps once it is told of a completion, by the hardware queue, the direction and the wait; and of a round
+abbrev pub OfDone : Type 1
+OfDone = ℕ → Dir → ℕ → List ℕ → List ℕ → Type 0
+
+abbrev pub OfTick : Type 1
+OfTick = ℕ → List ℕ → List ℕ → Type 0
+
+-- what a completion does: a Done of the command in flight, whose pick is then closed; the scheduler is told of the hardware queue that
+-- it was issued for, its direction, and the rounds from its release to its Issue, which is of this round
+abbrev pub Completes : OfDone → CoreState → ℕ → CoreState → Type 0
+Completes told old tag new =
+    (f : Flight) × (slice_get old.flights tag ≡ Some (Some f))
+    × (seat_at old.events tag ≡ Some (record { dir = dir_of f.request.bios; in_flight = true }))
     × Adds old (Finished tag) new
-    × (old.meaning ≡ record new.meaning { open_picks = opened dir new.meaning.open_picks })
+    × (old.meaning ≡ record new.meaning { open_picks = opened (dir_of f.request.bios) new.meaning.open_picks })
+    × told f.hw (dir_of f.request.bios) (round_of old.events - f.request.release) old.kept new.kept
+    × (new.flights ≡ slice_set old.flights tag None)
+
+-- what the end of a round does: a Tick, of which the scheduler is told, once
+abbrev pub Ends : OfTick → CoreState → CoreState → Type 0
+Ends told old new =
+    Adds old Ticked new
+    × (new.meaning ≡ record old.meaning { round = round_of new.events })
+    × told (round_of new.events) old.kept new.kept
+    × (new.flights ≡ old.flights)

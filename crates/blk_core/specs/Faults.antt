@@ -2,6 +2,7 @@
 use Rattle.std.specs.Prelude.{ℕ, ◌+◌, ◌≡◌, ◌≤◌, ◌<◌, ◌++◌, true, List, None, Some, length, IsSome}
 use Rattle.blk_bio.specs.declared.bio.Dir.{Dir}
 use Rattle.blk_bio.specs.Bios.{Bio}
+use Rattle.blk_trace.specs.declared.trace.TheConstants.{MAX_EVENTS}
 use Rattle.blk_trace.specs.Events.{entered, open_count, AreOnce}
 use Rattle.blk_trace.specs.Standing.{seat_at}
 use Rattle.blk_core.specs.Ids.{IsFirstRepeated}
@@ -21,13 +22,13 @@ places_taken c = length c.events + open_count c.events
 pub record CanRelease (c : CoreState) (bios : List Bio) (hw : ℕ) : Type 0 where
   pub queue : hw < c.setup.hw
   pub once : AreOnce (entered c.events ++ bios)
-  pub room : places_taken c < 1000000
+  pub room : places_taken c < MAX_EVENTS
 
 -- what each fault of a release says; they come in this order
 abbrev pub IsReleaseFault : CoreState → List Bio → ℕ → CoreFault → Type 0
 IsReleaseFault c bios hw NoQueue = c.setup.hw ≤ hw
 IsReleaseFault c bios hw (Repeated id) = (hw < c.setup.hw) × IsFirstRepeated (entered c.events) bios id
-IsReleaseFault c bios hw TraceFull = (hw < c.setup.hw) × AreOnce (entered c.events ++ bios) × (1000000 ≤ places_taken c)
+IsReleaseFault c bios hw TraceFull = (hw < c.setup.hw) × AreOnce (entered c.events ++ bios) × (MAX_EVENTS ≤ places_taken c)
 IsReleaseFault c bios hw Memory = CanRelease c bios hw
 
 -- an issue that may be tried: its hardware queue and its tag are there, the tag was not issued in this round, and there are places for the Issue and its Done
@@ -35,25 +36,25 @@ pub record CanIssue (c : CoreState) (hw tag : ℕ) : Type 0 where
   pub queue : hw < c.setup.hw
   pub range : tag < c.setup.depth
   pub free : seat_at c.events tag ≡ None
-  pub room : places_taken c + 2 ≤ 1000000
+  pub room : places_taken c + 2 ≤ MAX_EVENTS
 
 -- what each fault of an issue says; they come in this order
 abbrev pub IsIssueFault : CoreState → ℕ → ℕ → IssueFault → Type 0
 IsIssueFault c hw tag issue.NoQueue = c.setup.hw ≤ hw
 IsIssueFault c hw tag issue.TagRange = (hw < c.setup.hw) × (c.setup.depth ≤ tag)
 IsIssueFault c hw tag issue.SlotUsed = (hw < c.setup.hw) × (tag < c.setup.depth) × IsSome (seat_at c.events tag)
-IsIssueFault c hw tag issue.TraceFull = (hw < c.setup.hw) × (tag < c.setup.depth) × (seat_at c.events tag ≡ None) × (1000000 < places_taken c + 2)
+IsIssueFault c hw tag issue.TraceFull = (hw < c.setup.hw) × (tag < c.setup.depth) × (seat_at c.events tag ≡ None) × (MAX_EVENTS < places_taken c + 2)
 IsIssueFault c hw tag issue.Memory = CanIssue c hw tag
 
 -- a round that ends: no command is in flight, and there is a place for the Tick
 pub record CanTick (c : CoreState) : Type 0 where
   pub closed : open_count c.events ≡ 0
-  pub room : places_taken c < 1000000
+  pub room : places_taken c < MAX_EVENTS
 
 -- what each fault of a tick says; they come in this order
 abbrev pub IsTickFault : CoreState → TickFault → Type 0
 IsTickFault c (tick.InFlight n) = (n ≡ open_count c.events) × (0 < n)
-IsTickFault c tick.TraceFull = (open_count c.events ≡ 0) × (1000000 ≤ places_taken c)
+IsTickFault c tick.TraceFull = (open_count c.events ≡ 0) × (MAX_EVENTS ≤ places_taken c)
 IsTickFault c tick.Memory = CanTick c
 
 -- a command is in flight under the tag: its Issue has no Done

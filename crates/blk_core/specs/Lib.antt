@@ -3,3 +3,4 @@ pub mod Ids
 pub mod Faults
 pub mod Calls
 pub mod Opens
+pub mod Inside

@@ -1,35 +1,42 @@
--- What a core is, and what keeps it tied to its trace.
-use Rattle.std.specs.Prelude.{ℕ, ◌≡◌, ◌≤◌, ◌<◌, List, length, sum_by, slice_index_or, Option, None, Some, cond, refl}
+-- What a core is, and what its scheduler holds.
+use Rattle.std.specs.Prelude.{ℕ, ◌≡◌, List, Option, refl}
 use Rattle.std.specs.Option.{option_map}
 use Rattle.std.specs.FinMap as map
-use Rattle.std.specs.Coded.{Coded, code_by, coded×, coded_ℕ, coded_list}
-use Rattle.blk_bio.specs.declared.bio.Dir.{Dir}
+use Rattle.std.specs.Coded.{Coded, code_by, coded×, coded_ℕ, coded_list, coded_option}
 use Rattle.blk_bio.specs.declared.bio.Dir.TheVariants.{Read, Write}
-use Rattle.blk_bio.specs.Bios.{Bio}
 use Rattle.blk_bio.specs.Limits.{Limits}
 use Rattle.blk_bio.specs.Codes.{limits_code}
-use Rattle.blk_trace.specs.Setups.{Setup, IsSetup}
-use Rattle.blk_trace.specs.Happened.{Happened, Released, happened_code}
-use Rattle.blk_trace.specs.Events.{At, round_of}
-use Rattle.blk_trace.specs.Legal.{IsLegalTrace}
-use Rattle.blk_trace.specs.Standing.{Entered, Seat, waits_at, waiting_count, seat_at, open_of, released_count, same_dir}
-use Rattle.blk_sched.specs.Meaning.{Waiting, Meaning, meaning_code}
-use Rattle.blk_core.specs.declared.Flight.{Flight}
+use Rattle.blk_trace.specs.Setups.{Setup}
+use Rattle.blk_trace.specs.Happened.{Happened, happened_code}
+use Rattle.blk_trace.specs.Events.{round_of}
+use Rattle.blk_trace.specs.Standing.{Entered, waits_at, waiting_count, open_of}
+use Rattle.blk_sched.specs.Meaning.{Waiting, Meaning, waiting_code, meaning_code}
 
--- a core: what it is set up for, what happened, what its scheduler means, and what that keeps of its own
+-- a command in flight: the hardware queue that it was issued for, and its request as it was picked
+pub record Flight : Type 0 where
+  pub hw : ℕ
+  pub request : Waiting
+
+-- a core: what it is set up for, what happened, what its scheduler means, what that keeps of its own, and by tag the commands
+-- in flight
 pub record CoreState : Type 0 where
   pub setup : Setup
   pub events : List Happened
   pub meaning : Meaning
   pub kept : List ℕ
+  pub flights : List (Option Flight)
 
 -- a setup's code
 abbrev pub setup_code : Coded Setup
 setup_code = code_by (ℕ × (ℕ × (ℕ × (ℕ × Limits)))) (coded× coded_ℕ (coded× coded_ℕ (coded× coded_ℕ (coded× coded_ℕ limits_code)))) (λ s. (s.depth, (s.hw, (s.read_expire, (s.write_expire, s.limits))))) (λ p. record { depth = p.0; hw = p.1.0; read_expire = p.1.1.0; write_expire = p.1.1.1.0; limits = p.1.1.1.1 }) (λ _. refl)
 
+-- the code of a command in flight
+abbrev pub flight_code : Coded Flight
+flight_code = code_by (ℕ × Waiting) (coded× coded_ℕ waiting_code) (λ f. (f.hw, f.request)) (λ p. record { hw = p.0; request = p.1 }) (λ _. refl)
+
 -- a core's code
 abbrev pub core_code : Coded CoreState
-core_code = code_by (Setup × (List Happened × (Meaning × List ℕ))) (coded× setup_code (coded× (coded_list happened_code) (coded× meaning_code (coded_list coded_ℕ)))) (λ c. (c.setup, (c.events, (c.meaning, c.kept)))) (λ p. record { setup = p.0; events = p.1.0; meaning = p.1.1.0; kept = p.1.1.1 }) (λ _. refl)
+core_code = code_by (Setup × (List Happened × (Meaning × (List ℕ × List (Option Flight))))) (coded× setup_code (coded× (coded_list happened_code) (coded× meaning_code (coded× (coded_list coded_ℕ) (coded_list (coded_option flight_code)))))) (λ c. (c.setup, (c.events, (c.meaning, (c.kept, c.flights))))) (λ p. record { setup = p.0; events = p.1.0; meaning = p.1.1.0; kept = p.1.1.1.0; flights = p.1.1.1.1 }) (λ _. refl)
 
 -- a waiting request as the trace knows it
 abbrev pub entered_of : Waiting → Entered
@@ -42,27 +49,3 @@ pub record HoldsWhatWaits (setup : Setup) (events : List Happened) (m : Meaning)
   pub reads : m.open_picks.reads ≡ open_of events Read
   pub writes : m.open_picks.writes ≡ open_of events Write
   pub round : m.round ≡ round_of events
-
--- the seat that a flight stands for
-abbrev pub seat_of : Flight → Seat
-seat_of f = record { dir = f.dir; in_flight = f.in_flight }
-
--- 1 for a flight of this direction that is on, else 0
-abbrev pub flying : Dir → Option Flight → ℕ
-flying dir None = 0
-flying dir (Some f) = cond f.in_flight (cond (same_dir dir f.dir) 1 0) 0
-
--- a core's own fields say what its trace says
-pub record IsTied (setup : Setup) (events : List Happened) (m : Meaning) (flights : List (Option Flight)) (released : ℕ) : Type 0 where
-  pub legal : IsLegalTrace setup events
-  pub ranges : IsSetup setup
-  pub holds : HoldsWhatWaits setup events m
-  pub next : released ≡ released_count events
-  pub few : released ≤ length events
-  pub known : (k id : ℕ) (bios : List Bio) → At events k (Released id bios) → id < released
-  pub fresh : (id : ℕ) → released ≤ id → map.get m.pending id ≡ None
-  pub room : length flights ≡ setup.depth
-  pub seats : (tag : ℕ) → tag < length flights → option_map seat_of (slice_index_or flights tag None) ≡ seat_at events tag
-  pub reads : sum_by (flying Read) flights ≡ m.open_picks.reads
-  pub writes : sum_by (flying Write) flights ≡ m.open_picks.writes
-  pub queues : (tag : ℕ) (f : Flight) → slice_index_or flights tag None ≡ Some f → f.hw < 16

@@ -5,9 +5,8 @@
 //! them, leaves a legal trace. Time is counted in rounds: a command takes one, and a tag is issued once in a round.
 #![tactic(auto)]
 
-ghost use Rattle.std.specs.Prelude.{◌≡◌, ◌<◌, ◌^◌, ◌++◌, ◌↔◌, IsTrue, OnOk, OnErr, IfOk, IfSome, IfNone, length, replicate, None};
+ghost use Rattle.std.specs.Prelude.{◌≡◌, ◌++◌, ◌↔◌, IsTrue, OnOk, OnErr, IfOk, IfSome, IfNone, length, replicate};
 ghost use Rattle.blk_trace.specs.Events.{entered, AreOnce};
-ghost use Rattle.blk_trace.specs.Setups.{expire_of};
 ghost use Rattle.blk_trace.specs.declared.trace.Prepared.{Prepared};
 ghost use Rattle.blk_core.specs.Ids.{HasId, IsFirstRepeated};
 
@@ -89,26 +88,39 @@ pub enum TickFault {
     Memory,
 }
 
-/// What was issued under a tag in this round.
-#[derive(Clone, Copy)]
-struct Flight {
-    hw: u8,
-    dir: Dir,
-    wait: u64,
-    in_flight: bool,
+/// How a tag stands in the round that is on.
+#[derive(Drop)]
+enum TagState<A: Allocator> {
+    /// It was not issued.
+    Free,
+    /// A command is in flight under it.
+    Flying {
+        /// The hardware queue that it was issued for.
+        hw: u8,
+        /// Its request.
+        queued: Queued<A>,
+    },
+    /// A command of this direction was issued and done.
+    Spent(Dir),
 }
 
 /// A scheduler and the trace of what was done with it.
 #[derive(Drop)]
 pub struct Core<S: Scheduler> {
+    /// The scheduler.
     scheduler: S,
+    /// What was done with it.
     trace: Trace<S::A>,
-    flights: Vec<Option<Flight>, S::A>,
+    /// How each tag stands.
+    tags: Vec<TagState<S::A>, S::A>,
+    /// How many requests were released: the next id.
     released: u64,
 }
 
 impl<S: Scheduler> Model for Core<S> {
-    ghost use Rattle.blk_core.specs.State.{CoreState, core_code, IsTied};
+    ghost use Rattle.std.specs.Prelude.{map};
+    ghost use Rattle.blk_core.specs.State.{CoreState, core_code};
+    ghost use Rattle.blk_core.specs.Inside.Ties.{IsTied, flight_of};
 
     ghost Value = { CoreState };
 
@@ -119,48 +131,42 @@ impl<S: Scheduler> Model for Core<S> {
       events = c.trace.events;
       meaning = S.meaning c.scheduler;
       kept = S.kept c.scheduler;
+      flights = map flight_of c.tags.items;
     } };
 
-    ghost invariant = { λ c. IsTied c.trace.setup c.trace.events (S.meaning c.scheduler) c.flights.items c.released };
+    ghost invariant = { λ c. IsTied c.trace.setup c.trace.events (S.meaning c.scheduler) c.tags.items c.released };
 }
 
 impl<S: Scheduler> Core<S> {
-    ghost use Rattle.std.specs.Prelude.{◌≡◌, ◌≤◌, ◌<◌, ◌+◌, ◌++◌, ◌↔◌, [], ◌∷◌, IfOk, OnOk, IfErr, OnErr, IsOk, IfSome, IfNone};
-    ghost use Rattle.std.specs.FinMap as map;
+    ghost use Rattle.std.specs.Prelude.{◌≡◌, ◌≤◌, ◌<◌, ◌+◌, ◌++◌, ◌↔◌, [], ◌∷◌, IfOk, OnOk, IfErr, OnErr, IsOk, IfSome, IfNone, replicate, None};
     ghost use Rattle.blk_bio.specs.Requests.{IsWithin};
-    ghost use Rattle.blk_trace.specs.Happened.{Ticked};
     ghost use Rattle.blk_trace.specs.Events.{round_of};
     ghost use Rattle.blk_trace.specs.Legal.{IsLegalTrace};
     ghost use Rattle.blk_trace.specs.Laws.{IsScheduled, IsAccounted};
     ghost use Rattle.blk_trace.specs.Standing.{waiting_count};
     ghost use Rattle.blk_core.specs.State.{HoldsWhatWaits};
     ghost use Rattle.blk_core.specs.Faults.{IsReleaseFault, CanRelease, IsIssueFault, CanIssue, IsTickFault, CanTick, IsInFlight};
-    ghost use Rattle.blk_core.specs.Calls.{Places, Issues, Completes, Adds};
-    ghost use Rattle.blk_sched.specs.Meaning.{HasCandidate, HasNoCandidate};
+    ghost use Rattle.blk_core.specs.Calls.{Places, Issues, Completes, Ends};
+    ghost use Rattle.blk_sched.specs.Meaning.{HasCandidate, HasNoCandidate, at_start};
 
-    /// A core without events, over a scheduler in which nothing waits and no pick is open, in round 0. Fails for want of
-    /// memory alone, and the scheduler comes back then.
+    /// A core without events, over a scheduler in which nothing waits and no pick is open or handed back, in round 0.
+    /// Fails for want of memory alone, and the scheduler comes back then.
     pub fn new(alloc: S::A, setup: Setup, scheduler: S) -> Result<Core<S>, (S, AllocError)>
-        requires nothing { (S.meaning scheduler).pending ≡ map.empty }
-        requires reads { (S.meaning scheduler).open_picks.reads ≡ 0 }
-        requires writes { (S.meaning scheduler).open_picks.writes ≡ 0 }
-        requires round { (S.meaning scheduler).round ≡ 0 }
-        ensures ok { IfOk result (λ c. c ≡ record { setup = setup; events = []; meaning = S.meaning scheduler; kept = S.kept scheduler }) }
+        requires start { S.meaning scheduler ≡ at_start (S.meaning scheduler).front }
+        ensures ok { IfOk result (λ c. c ≡ record { setup = setup; events = []; meaning = S.meaning scheduler; kept = S.kept scheduler; flights = replicate setup.depth None }) }
         ensures err { IfErr result (λ e. e.0 ≡ scheduler) }
     {
         let Ok(spare) = alloc.clone() else {
             return Err((scheduler, AllocError));
         };
-        let depth = setup.depth() as usize;
-        let Ok(mut flights) = vec![in spare; None; depth] else {
+        let Ok(tags) = free_tags(spare, setup.depth()) else {
             return Err((scheduler, AllocError));
         };
-        clear(&mut flights);
         match Trace::empty(alloc, setup) {
             Ok(trace) => Ok(Core {
                 scheduler,
                 trace,
-                flights,
+                tags,
                 released: 0,
             }),
             Err(_) => Err((scheduler, AllocError)),
@@ -174,8 +180,8 @@ impl<S: Scheduler> Core<S> {
     ///
     /// Refused, by the first of these that applies: as `NoQueue` where `hw` is not below the number of hardware queues;
     /// as `Repeated` with the id of the first bio, in tile order, whose id stands in the trace or earlier in the
-    /// request; as `TraceFull` where the events, with a Done counted for each command in flight, are 1,000,000 already;
-    /// and as `Memory`. The request comes back then, and nothing is changed.
+    /// request; as `TraceFull` where the events, with a Done counted for each command in flight, are [`MAX_EVENTS`]
+    /// already; and as `Memory`. The request comes back then, and nothing is changed.
     pub fn release(
         &mut self,
         request: Request<S::A>,
@@ -220,10 +226,8 @@ impl<S: Scheduler> Core<S> {
         if let Err((request, _)) = self.scheduler.join(hw, id, side, now, &limits, request) {
             return Err((request, CoreFault::Memory));
         }
-        match self.trace.push(Event::Join { id, request: copy }) {
-            Ok(()) => Ok(Placed::Joined(id, side)),
-            Err(_) => unreachable!(),
-        }
+        self.trace.add(Event::Join { id, request: copy });
+        Ok(Placed::Joined(id, side))
     }
 
     /// Releases a request that may be released and has no candidate under the next id. Refused for want of memory alone.
@@ -244,7 +248,7 @@ impl<S: Scheduler> Core<S> {
         };
         let id = self.released;
         let release = self.trace.round();
-        let expire = expire(&self.trace.setup(), request.dir());
+        let expire = self.trace.setup().expire(request.dir());
         let queued = Queued {
             id,
             hw,
@@ -255,13 +259,9 @@ impl<S: Scheduler> Core<S> {
         if let Err((queued, _)) = self.scheduler.insert(queued) {
             return Err((queued.request, CoreFault::Memory));
         }
-        match self.trace.push(Event::Release { id, request: copy }) {
-            Ok(()) => {
-                self.released += 1;
-                Ok(Placed::New(id))
-            }
-            Err(_) => unreachable!(),
-        }
+        self.trace.add(Event::Release { id, request: copy });
+        self.released += 1;
+        Ok(Placed::New(id))
     }
 
     /// The first reason not to release a request, memory aside.
@@ -287,11 +287,11 @@ impl<S: Scheduler> Core<S> {
     ///
     /// Refused, by the first of these that applies: as `NoQueue` where `hw` is not below the number of hardware queues;
     /// as `TagRange` where the tag is not below the depth; as `SlotUsed` where the tag was issued in this round, whether
-    /// or not it is done; as `TraceFull` where the Issue and its Done would make more than 1,000,000 events, with a Done
-    /// counted for each command in flight; and as `Memory`. All come before the scheduler is asked, so also where
+    /// or not it is done; as `TraceFull` where the Issue and its Done would make more than [`MAX_EVENTS`] events, with a
+    /// Done counted for each command in flight; and as `Memory`. All come before the scheduler is asked, so also where
     /// nothing waits, and change nothing.
     pub fn issue(&mut self, hw: u8, tag: u16) -> Result<Option<Command>, IssueFault>
-        ensures issued { IfOk result (λ found. Issues S.serves self.old hw tag found self.new) }
+        ensures issued { IfOk result (λ found. Issues S.serves S.chooses self.old hw tag found self.new) }
         ensures no_fault { OnOk result (CanIssue self.old hw tag) }
         ensures fault { IfErr result (IsIssueFault self.old hw tag) }
         ensures same { OnErr result (self.new ≡ self.old) }
@@ -311,22 +311,12 @@ impl<S: Scheduler> Core<S> {
             release: queued.release,
             due: queued.due,
         };
-        let flight = Flight {
-            hw,
-            dir: queued.request.dir(),
-            wait: now.saturating_sub(queued.release),
-            in_flight: true,
-        };
-        match self.trace.push(Event::Issue {
+        self.trace.add(Event::Issue {
             id: command.id,
             tag,
-        }) {
-            Ok(()) => {
-                self.flights[tag as usize] = Some(flight);
-                Ok(Some(command))
-            }
-            Err(_) => unreachable!(),
-        }
+        });
+        self.tags[tag as usize] = TagState::Flying { hw, queued };
+        Ok(Some(command))
     }
 
     /// The first reason not to issue, memory aside.
@@ -338,10 +328,10 @@ impl<S: Scheduler> Core<S> {
             return Some(IssueFault::NoQueue);
         }
         let slot = tag as usize;
-        if slot >= self.flights.len() {
+        if slot >= self.tags.len() {
             return Some(IssueFault::TagRange);
         }
-        if self.flights[slot].is_some() {
+        if !matches!(self.tags[slot], TagState::Free) {
             return Some(IssueFault::SlotUsed);
         }
         if self.trace.len() + self.trace.unfinished() + 2 > MAX_EVENTS {
@@ -352,41 +342,31 @@ impl<S: Scheduler> Core<S> {
 
     /// Completes the command in flight under a tag. Refused exactly where there is none; takes no memory.
     pub fn done(&mut self, tag: u16) -> Result<(), NotIssued>
-        ensures done { OnOk result (Completes self.old tag self.new) }
+        ensures done { OnOk result (Completes S.told_done self.old tag self.new) }
         ensures accepted { IsOk result ↔ IsInFlight self.old tag }
         ensures same { OnErr result (self.new ≡ self.old) }
     {
         let slot = tag as usize;
-        if slot >= self.flights.len() {
+        if slot >= self.tags.len() {
             return Err(NotIssued);
         }
-        let Some(flight) = self.flights[slot] else {
+        let TagState::Flying { hw, queued } = &self.tags[slot] else {
             return Err(NotIssued);
         };
-        if !flight.in_flight {
-            return Err(NotIssued);
-        }
-        match self.trace.push(Event::Done { tag }) {
-            Ok(()) => {
-                self.flights[slot] = Some(Flight {
-                    hw: flight.hw,
-                    dir: flight.dir,
-                    wait: flight.wait,
-                    in_flight: false,
-                });
-                self.scheduler.on_done(flight.hw, flight.dir, flight.wait);
-                Ok(())
-            }
-            Err(_) => unreachable!(),
-        }
+        let hw = *hw;
+        let dir = queued.request.dir();
+        let wait = self.trace.round().saturating_sub(queued.release);
+        self.trace.add(Event::Done { tag });
+        self.tags[slot] = TagState::Spent(dir);
+        self.scheduler.on_done(hw, dir, wait);
+        Ok(())
     }
 
     /// Ends the round, and answers the number of the next one: how many Ticks there are then. Refused while a command
     /// is in flight, where the trace is full, and for want of memory; nothing is changed then.
     pub fn tick(&mut self) -> Result<u64, TickFault>
-        ensures ticked { OnOk result (Adds self.old Ticked self.new) }
+        ensures ended { OnOk result (Ends S.told_tick self.old self.new) }
         ensures round { IfOk result (λ round. round ≡ round_of self.new.events) }
-        ensures kept { OnOk result (self.new.meaning ≡ record self.old.meaning { round = round_of self.new.events }) }
         ensures no_fault { OnOk result (CanTick self.old) }
         ensures fault { IfErr result (IsTickFault self.old) }
         ensures same { OnErr result (self.new ≡ self.old) }
@@ -401,15 +381,11 @@ impl<S: Scheduler> Core<S> {
         let Ok(()) = prepare(&mut self.trace) else {
             return Err(TickFault::Memory);
         };
-        match self.trace.push(Event::Tick) {
-            Ok(()) => {
-                clear(&mut self.flights);
-                let now = self.trace.round();
-                self.scheduler.on_tick(now);
-                Ok(now)
-            }
-            Err(_) => unreachable!(),
-        }
+        self.trace.add(Event::Tick);
+        clear(&mut self.tags);
+        let now = self.trace.round();
+        self.scheduler.on_tick(now);
+        Ok(now)
     }
 
     /// The events so far, which are legal: the commands that they issue, in the rounds in which they do, are a legal
@@ -447,17 +423,6 @@ impl<S: Scheduler> Core<S> {
     }
 }
 
-/// After how many rounds a request of the direction is due.
-fn expire(setup: &Setup, dir: Dir) -> u64
-    ensures value { result ≡ expire_of setup.now dir }
-    ensures small { result < 2 ^ 40 }
-{
-    match dir {
-        Dir::Read => setup.read_expire(),
-        Dir::Write => setup.write_expire(),
-    }
-}
-
 /// A copy of a request, with room made for an event of it.
 fn prepared<A: Allocator + Clone>(
     trace: &mut Trace<A>,
@@ -481,12 +446,23 @@ fn prepare<'a, A: Allocator + Clone>(trace: &'a mut Trace<A>) -> Result<(), Allo
     trace.prepare(request)
 }
 
-/// Forgets what was issued.
-fn clear(flights: &mut [Option<Flight>])
-    ensures { flights.new ≡ replicate (length flights.old) None }
+/// So many tags, none of which was issued.
+fn free_tags<A: Allocator>(alloc: A, count: u64) -> Result<Vec<TagState<A>, A>, AllocError>
+    ensures { IfOk result (λ tags. tags.items ≡ replicate count TagState.Free) }
 {
-    for flight in flights.iter_mut() {
-        *flight = None;
+    let mut tags = Vec::with_capacity(alloc, count as usize)?;
+    for _ in 0..count {
+        tags.push(TagState::Free)?;
+    }
+    Ok(tags)
+}
+
+/// Frees all tags.
+fn clear<A: Allocator>(tags: &mut [TagState<A>])
+    ensures { tags.new ≡ replicate (length tags.old) TagState.Free }
+{
+    for tag in tags.iter_mut() {
+        *tag = TagState::Free;
     }
 }
 

@@ -1,7 +1,7 @@
 //! What the tests are given: calls of a core as plain values, which are made once more where memory was refused.
 
 ghost use Rattle.std.specs.Prelude.{◌≡◌, true};
-ghost use Rattle.std.specs.FinMap as map;
+ghost use Rattle.blk_sched.specs.Meaning.{at_start};
 
 use blk_bio::bio::{Bio, BioId, Dir};
 use blk_bio::limits::Limits;
@@ -73,7 +73,7 @@ pub fn setup(rt: &impl Abort, depth: u64, hw: u8, read_expire: u64) -> Setup {
 
 /// A scheduler in the order of entry.
 fn scheduler<A: Allocator + Clone>(rt: &impl Abort, alloc: &A) -> NoneSched<A>
-    ensures { result ≡ record { pending = map.empty; open_picks = record { reads = 0; writes = 0 }; front = true; round = 0 } }
+    ensures { result ≡ at_start true }
 {
     match NoneSched::new(again(rt, alloc)) {
         Ok(scheduler) => scheduler,

@@ -47,6 +47,12 @@ impl<'a, S: Scheduler> Scheduler for Noting<'a, S> {
 
     ghost kept = { λ n. S.kept n.scheduler };
 
+    ghost chooses = { S.chooses };
+
+    ghost told_done = { S.told_done };
+
+    ghost told_tick = { S.told_tick };
+
     fn enter(&mut self, slot: &mut Option<Queued<S::A>>) -> Result<(), AllocError> {
         self.scheduler.enter(slot)
     }
@@ -77,6 +83,14 @@ impl<'a, S: Scheduler> Scheduler for Noting<'a, S> {
         self.scheduler.on_done(hw, dir, wait);
     }
 
+    fn on_back(&mut self, hw: u8, dir: Dir) {
+        self.scheduler.on_back(hw, dir);
+    }
+
+    fn on_again(&mut self, hw: u8, dir: Dir) {
+        self.scheduler.on_again(hw, dir);
+    }
+
     fn on_tick(&mut self, now: u64) {
         self.told.tick.set(Some(now));
         self.scheduler.on_tick(now);
@@ -88,6 +102,10 @@ impl<'a, S: Scheduler> Scheduler for Noting<'a, S> {
 
     fn picked(&self, dir: Dir) -> u64 {
         self.scheduler.picked(dir)
+    }
+
+    fn handed(&self, dir: Dir) -> u64 {
+        self.scheduler.handed(dir)
     }
 }
 

@@ -1,13 +1,11 @@
 -- Chains of requests that enter the core, of drains, of tags and of rounds.
-use Rattle.std.proofs.Common.{arith, ◌≡◌, ◌≢◌, ◌+◌, ◌<◌, ◌≤◌, ◌-◌, ◌%◌, ◌∙◌, ◌++◌, ◌∷◌, ℕ, zero, suc, Bool, List, [], Some, refl, sym, ap, subst, inl, inr, add-one, append_assoc, length}
-use Rattle.std.specs.Prelude.{slice_get, sum_by}
+use Rattle.std.proofs.Common.{arith, ◌≡◌, ◌+◌, ◌≤◌, ◌-◌, ◌∙◌, ◌++◌, ◌∷◌, ℕ, zero, suc, List, [], refl, sym, ap, subst, inl, inr, add-one, append_assoc, length}
+use Rattle.std.specs.Prelude.{sum_by}
 use Rattle.std.proofs.lemmas.List.{append-nil}
 use Rattle.std.proofs.lemmas.List.Sums.{sum_by-cons}
 use Rattle.blk_bio.specs.Bios.{Bio}
-use Rattle.blk_bio.specs.Limits.{Limits}
 use Rattle.blk_plug.specs.Plugs.{Plug}
 use Rattle.blk_soft.specs.Queues.{Queue}
-use Rattle.blk_sched.specs.Meaning.{Waiting}
 use Rattle.blk_core.specs.State.{CoreState}
 use Rattle.blk_core.specs.Faults.{IsInFlight}
 use Rattle.blk_sim.specs.declared.refusal.SimWhy.{SimWhy}
@@ -15,42 +13,43 @@ use Rattle.blk_sim.specs.Moves.{Enters, EnterInTurn, drained, flushed_plug, with
 use Rattle.blk_sim.specs.Rounds.{IsTaken, Gives, IssueInTurn, CompleteInTurn, Works}
 use Rattle.blk_core.specs.Calls.{Completes}
 use Rattle.blk_sim.specs.Working.{WorkInTurn}
+use Rattle.blk_sim.specs.Policies.{Policy}
 use Rattle.blk_sim.specs.Refusals.{IsReleaseRefused, IsMoveRefused}
 
-pub enter_none : (serves : ℕ → Waiting → Bool) (hw : ℕ) (a : CoreState) → EnterInTurn serves hw [] a a
+pub enter_none : (policy : Policy) (hw : ℕ) (a : CoreState) → EnterInTurn policy hw [] a a
 unfolding EnterInTurn
-enter_none serves hw a = refl
+enter_none policy hw a = refl
 
-pub enter_both : (serves : ℕ → Waiting → Bool) (hw : ℕ) (xs ys : List (List Bio)) (a b c : CoreState) → EnterInTurn serves hw xs a b → EnterInTurn serves hw ys b c → EnterInTurn serves hw (xs ++ ys) a c
+pub enter_both : (policy : Policy) (hw : ℕ) (xs ys : List (List Bio)) (a b c : CoreState) → EnterInTurn policy hw xs a b → EnterInTurn policy hw ys b c → EnterInTurn policy hw (xs ++ ys) a c
 unfolding EnterInTurn
-enter_both serves hw [] ys a b c e h = subst (λ x. EnterInTurn serves hw ys x c) e h
-enter_both serves hw (x ∷ xs) ys a b c e h = (e.0, e.1, enter_both serves hw xs ys e.0 b c e.2 h)
+enter_both policy hw [] ys a b c e h = subst (λ x. EnterInTurn policy hw ys x c) e h
+enter_both policy hw (x ∷ xs) ys a b c e h = (e.0, e.1, enter_both policy hw xs ys e.0 b c e.2 h)
 
-pub enter_more : (serves : ℕ → Waiting → Bool) (hw : ℕ) (xs : List (List Bio)) (r : List Bio) (a b c : CoreState) → EnterInTurn serves hw xs a b → Enters serves hw r b c → EnterInTurn serves hw (xs ++ r ∷ []) a c
+pub enter_more : (policy : Policy) (hw : ℕ) (xs : List (List Bio)) (r : List Bio) (a b c : CoreState) → EnterInTurn policy hw xs a b → Enters policy hw r b c → EnterInTurn policy hw (xs ++ r ∷ []) a c
 unfolding EnterInTurn
-enter_more serves hw xs r a b c e h = enter_both serves hw xs (r ∷ []) a b c e (c, h, refl)
+enter_more policy hw xs r a b c e h = enter_both policy hw xs (r ∷ []) a b c e (c, h, refl)
 
 -- of the requests those before the ones that are left entered
-pub record IsMoved (serves : ℕ → Waiting → Bool) (hw : ℕ) (requests left : List (List Bio)) (a b : CoreState) : Type 0 where
+pub record IsMoved (policy : Policy) (hw : ℕ) (requests left : List (List Bio)) (a b : CoreState) : Type 0 where
   pub gone : List (List Bio)
   pub whole : requests ≡ gone ++ left
-  pub entered : EnterInTurn serves hw gone a b
+  pub entered : EnterInTurn policy hw gone a b
 
-pub moved_none : (serves : ℕ → Waiting → Bool) (hw : ℕ) (requests : List (List Bio)) (a : CoreState) → IsMoved serves hw requests requests a a
-moved_none serves hw requests a = record { gone = []; whole = refl; entered = enter_none serves hw a }
+pub moved_none : (policy : Policy) (hw : ℕ) (requests : List (List Bio)) (a : CoreState) → IsMoved policy hw requests requests a a
+moved_none policy hw requests a = record { gone = []; whole = refl; entered = enter_none policy hw a }
 
-pub moved_more : (serves : ℕ → Waiting → Bool) (hw : ℕ) (requests left : List (List Bio)) (r : List Bio) (rest : List (List Bio)) (a b c : CoreState) → left ≡ r ∷ rest → IsMoved serves hw requests left a b → Enters serves hw r b c → IsMoved serves hw requests rest a c
-moved_more serves hw requests left r rest a b c first m t = record {
+pub moved_more : (policy : Policy) (hw : ℕ) (requests left : List (List Bio)) (r : List Bio) (rest : List (List Bio)) (a b c : CoreState) → left ≡ r ∷ rest → IsMoved policy hw requests left a b → Enters policy hw r b c → IsMoved policy hw requests rest a c
+moved_more policy hw requests left r rest a b c first m t = record {
   gone = m.gone ++ r ∷ [];
   whole = m.whole ∙ ap (λ l. m.gone ++ l) first ∙ sym (append_assoc m.gone (r ∷ []) rest);
-  entered = enter_more serves hw m.gone r a b c m.entered t;
+  entered = enter_more policy hw m.gone r a b c m.entered t;
 }
 
-pub moved_all : (serves : ℕ → Waiting → Bool) (hw : ℕ) (requests left : List (List Bio)) (a b : CoreState) → left ≡ [] → IsMoved serves hw requests left a b → EnterInTurn serves hw requests a b
-moved_all serves hw requests left a b none m = subst (λ l. EnterInTurn serves hw l a b) (sym (m.whole ∙ ap (λ l. m.gone ++ l) none ∙ append-nil m.gone)) m.entered
+pub moved_all : (policy : Policy) (hw : ℕ) (requests left : List (List Bio)) (a b : CoreState) → left ≡ [] → IsMoved policy hw requests left a b → EnterInTurn policy hw requests a b
+moved_all policy hw requests left a b none m = subst (λ l. EnterInTurn policy hw l a b) (sym (m.whole ∙ ap (λ l. m.gone ++ l) none ∙ append-nil m.gone)) m.entered
 
-pub moved_refused : (serves : ℕ → Waiting → Bool) (hw : ℕ) (requests left : List (List Bio)) (r : List Bio) (rest : List (List Bio)) (a b : CoreState) (w : SimWhy) → left ≡ r ∷ rest → IsMoved serves hw requests left a b → IsReleaseRefused b r hw w → IsMoveRefused serves requests a hw w
-moved_refused serves hw requests left r rest a b w first m refused = record {
+pub moved_refused : (policy : Policy) (hw : ℕ) (requests left : List (List Bio)) (r : List Bio) (rest : List (List Bio)) (a b : CoreState) (w : SimWhy) → left ≡ r ∷ rest → IsMoved policy hw requests left a b → IsReleaseRefused b r hw w → IsMoveRefused policy requests a hw w
+moved_refused policy hw requests left r rest a b w first m refused = record {
   before = m.gone;
   bios = r;
   after = rest;
@@ -101,50 +100,50 @@ queue_with q q' requests left d l o none r i =
     ∙ ap (λ x. record { depth = q.depth; limits = q.limits; requests = q.requests ++ requests; bios_in = q.bios_in + length (bios_in requests); bios_out = x }) o
 
 -- the chains at no step, and one step more
-pub drain_none : (serves : ℕ → Waiting → Bool) (count : ℕ) (queues : List Queue) (core : CoreState) → DrainInTurn serves count 0 queues core queues core
+pub drain_none : (policy : Policy) (count : ℕ) (queues : List Queue) (core : CoreState) → DrainInTurn policy count 0 queues core queues core
 unfolding DrainInTurn
-drain_none serves count queues core = (refl, refl)
+drain_none policy count queues core = (refl, refl)
 
-pub drain_more : (serves : ℕ → Waiting → Bool) (count n : ℕ) (q q' q'' : List Queue) (a b c : CoreState) → DrainInTurn serves count n q a q' b → Drains serves count n q' b q'' c → DrainInTurn serves count (n + 1) q a q'' c
+pub drain_more : (policy : Policy) (count n : ℕ) (q q' q'' : List Queue) (a b c : CoreState) → DrainInTurn policy count n q a q' b → Drains policy count n q' b q'' c → DrainInTurn policy count (n + 1) q a q'' c
 unfolding DrainInTurn
-drain_more serves count n q q' q'' a b c h d = rw add-one (q', b, h, d)
+drain_more policy count n q q' q'' a b c h d = rw add-one (q', b, h, d)
 
-pub issue_none : (serves : ℕ → Waiting → Bool) (a : CoreState) → IssueInTurn serves 0 a a
+pub issue_none : (policy : Policy) (a : CoreState) → IssueInTurn policy 0 a a
 unfolding IssueInTurn
-issue_none serves a = refl
+issue_none policy a = refl
 
-pub issue_given : (serves : ℕ → Waiting → Bool) (n : ℕ) (a b c : CoreState) → IssueInTurn serves n a b → Gives serves n b c → IssueInTurn serves (n + 1) a c
+pub issue_given : (policy : Policy) (n : ℕ) (a b c : CoreState) → IssueInTurn policy n a b → Gives policy n b c → IssueInTurn policy (n + 1) a c
 unfolding IssueInTurn
-issue_given serves n a b c h d = rw add-one (b, h, inr d)
+issue_given policy n a b c h d = rw add-one (b, h, inr d)
 
-pub issue_passed : (serves : ℕ → Waiting → Bool) (n : ℕ) (a b c : CoreState) → IssueInTurn serves n a b → IsTaken b n → c ≡ b → IssueInTurn serves (n + 1) a c
+pub issue_passed : (policy : Policy) (n : ℕ) (a b c : CoreState) → IssueInTurn policy n a b → IsTaken b n → c ≡ b → IssueInTurn policy (n + 1) a c
 unfolding IssueInTurn
-issue_passed serves n a b c h t e = rw add-one (b, h, inl (t, e))
+issue_passed policy n a b c h t e = rw add-one (b, h, inl (t, e))
 
-pub complete_none : (a : CoreState) → CompleteInTurn 0 a a
+pub complete_none : (policy : Policy) (a : CoreState) → CompleteInTurn policy 0 a a
 unfolding CompleteInTurn
-complete_none a = refl
+complete_none policy a = refl
 
-pub complete_done : (n : ℕ) (a b c : CoreState) → CompleteInTurn n a b → Completes b n c → CompleteInTurn (n + 1) a c
+pub complete_done : (policy : Policy) (n : ℕ) (a b c : CoreState) → CompleteInTurn policy n a b → Completes policy.told_done b n c → CompleteInTurn policy (n + 1) a c
 unfolding CompleteInTurn
-complete_done n a b c h d = rw add-one (b, h, inl d)
+complete_done policy n a b c h d = rw add-one (b, h, inl d)
 
-pub complete_passed : (n : ℕ) (a b c : CoreState) → CompleteInTurn n a b → (IsInFlight b n → ⊥) → c ≡ b → CompleteInTurn (n + 1) a c
+pub complete_passed : (policy : Policy) (n : ℕ) (a b c : CoreState) → CompleteInTurn policy n a b → (IsInFlight b n → ⊥) → c ≡ b → CompleteInTurn policy (n + 1) a c
 unfolding CompleteInTurn
-complete_passed n a b c h never e = rw add-one (b, h, inr (never, e))
+complete_passed policy n a b c h never e = rw add-one (b, h, inr (never, e))
 
 -- nothing is in flight, so the tags that are left are passed over
-complete_idle_suc : (n k : ℕ) (a b : CoreState) → CompleteInTurn n a b → ((tag : ℕ) → IsInFlight b tag → ⊥) → CompleteInTurn (n + k) a b
-complete_idle_suc n zero a b h never = subst (λ m. CompleteInTurn m a b) (let e : n ≡ n + zero = omega arith in e) h
-complete_idle_suc n (suc k) a b h never = subst (λ m. CompleteInTurn m a b) (let e : (n + k) + 1 ≡ n + suc k = omega arith in e) (complete_passed (n + k) a b b (complete_idle_suc n k a b h never) (never (n + k)) refl)
+complete_idle_suc : (policy : Policy) (n k : ℕ) (a b : CoreState) → CompleteInTurn policy n a b → ((tag : ℕ) → IsInFlight b tag → ⊥) → CompleteInTurn policy (n + k) a b
+complete_idle_suc policy n zero a b h never = subst (λ m. CompleteInTurn policy m a b) (let e : n ≡ n + zero = omega arith in e) h
+complete_idle_suc policy n (suc k) a b h never = subst (λ m. CompleteInTurn policy m a b) (let e : (n + k) + 1 ≡ n + suc k = omega arith in e) (complete_passed policy (n + k) a b b (complete_idle_suc policy n k a b h never) (never (n + k)) refl)
 
-pub complete_idle : (n m : ℕ) (a b : CoreState) → n ≤ m → CompleteInTurn n a b → ((tag : ℕ) → IsInFlight b tag → ⊥) → CompleteInTurn m a b
-complete_idle n m a b le h never = subst (λ k. CompleteInTurn k a b) (let e : n + (m - n) ≡ m = omega arith in e) (complete_idle_suc n (m - n) a b h never)
+pub complete_idle : (policy : Policy) (n m : ℕ) (a b : CoreState) → n ≤ m → CompleteInTurn policy n a b → ((tag : ℕ) → IsInFlight b tag → ⊥) → CompleteInTurn policy m a b
+complete_idle policy n m a b le h never = subst (λ k. CompleteInTurn policy k a b) (let e : n + (m - n) ≡ m = omega arith in e) (complete_idle_suc policy n (m - n) a b h never)
 
-pub work_none : (serves : ℕ → Waiting → Bool) (a : CoreState) → WorkInTurn serves 0 a a
+pub work_none : (policy : Policy) (a : CoreState) → WorkInTurn policy 0 a a
 unfolding WorkInTurn
-work_none serves a = refl
+work_none policy a = refl
 
-pub work_more : (serves : ℕ → Waiting → Bool) (n : ℕ) (a b c : CoreState) → WorkInTurn serves n a b → Works serves b c → WorkInTurn serves (n + 1) a c
+pub work_more : (policy : Policy) (n : ℕ) (a b c : CoreState) → WorkInTurn policy n a b → Works policy b c → WorkInTurn policy (n + 1) a c
 unfolding WorkInTurn
-work_more serves n a b c h d = rw add-one (b, h, d)
+work_more policy n a b c h d = rw add-one (b, h, d)

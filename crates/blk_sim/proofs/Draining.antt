@@ -4,7 +4,7 @@ use Rattle.std.specs.Option.{option_map}
 use Rattle.std.proofs.lemmas.Option.{slice_get_within}
 use Rattle.std.proofs.lemmas.List.{append-nil}
 use Rattle.std.proofs.lemmas.List.Concat.{flat_map-append}
-use Rattle.std.specs.Prelude.{◌⊎◌, slice_get, IsPermutation}
+use Rattle.std.specs.Prelude.{slice_get, IsPermutation}
 use Rattle.std.proofs.Math.Bool.{or-false, and-false, and-true, or_assoc}
 use Rattle.std.proofs.Math.Nat.{mod-lt}
 use Rattle.std.proofs.lemmas.Bool.{cases_Bool, eqb-true, eq-eqb, ne_eqb, lt-ltb, le-ltb, ltb-true, ltb-false}
@@ -14,12 +14,12 @@ use Rattle.blk_trace.specs.Happened.{Happened}
 use Rattle.blk_trace.specs.Events.{entered}
 use Rattle.blk_soft.specs.Queues.{Queue}
 use Rattle.blk_core.specs.State.{CoreState}
-use Rattle.blk_sched.specs.Meaning.{Waiting}
 use Rattle.blk_bio.specs.Bios.{Bio}
-use Rattle.blk_sim.specs.Moves.{bios_in, requests_in, served_requests, drained, AreEmptied, Drains, DrainInTurn}
+use Rattle.blk_sim.specs.Moves.{bios_in, requests_in, served_requests, drained, Drains, DrainInTurn}
 use Rattle.blk_sim.specs.Simulation.{Where, Plugged, Staged, Released, is_where}
-use Rattle.blk_sim.specs.Simulated.{Placing, picked, is_in, is_at, AreStaged, AreDrained, nobody, is_served, Passed}
+use Rattle.blk_sim.specs.Simulated.{Placing, picked, is_in, is_at, AreStaged, AreDrained, is_served, Passed}
 use Rattle.blk_sim.proofs.Events.{chain_took}
+use Rattle.blk_sim.specs.Policies.{Policy}
 use Rattle.blk_sim.proofs.Picking.{picked-same, picked-none, picked-both, IsSplit}
 
 -- tests that agree
@@ -129,8 +129,8 @@ drained_none None r e = cc e
 drained_none (Some q) r e = let same : r ≡ drained q = cc e in ap (λ (x : Queue). x.requests) same
 
 -- a drain of a hardware queue
-pub drain_drained : (serves : ℕ → Waiting → Bool) (test : ℕ → Bool) (count hw : ℕ) (book : List Placing) (queues queues' : List Queue) (core core' : CoreState) → Drains serves count hw queues core queues' core' → AreDrained test book queues core.events → AreDrained (λ s. test s || is_served (length queues) count hw s) book queues' core'.events
-drain_drained serves test count hw book queues queues' core core' h d = record {
+pub drain_drained : (policy : Policy) (test : ℕ → Bool) (count hw : ℕ) (book : List Placing) (queues queues' : List Queue) (core core' : CoreState) → Drains policy count hw queues core queues' core' → AreDrained test book queues core.events → AreDrained (λ s. test s || is_served (length queues) count hw s) book queues' core'.events
+drain_drained policy test count hw book queues queues' core core' h d = record {
   staged = λ s r at. elim (eqb_tells (s % count) hw) [
     | inl a ↦
         let none : r.requests ≡ [] = drained_none (slice_get queues s) r (sym at ∙ h.emptied.served s a.1) in
@@ -145,36 +145,36 @@ drain_drained serves test count hw book queues queues' core core' h d = record {
         let is : is_served (length queues) count hw s ≡ false = ap (λ b. nat_lt s (length queues) && b) a.0 ∙ and-false (nat_lt s (length queues)) in
         subst (λ l. IsPermutation (bios_in r.requests) l) (picked-same (λ p. is_at Staged s p && not (test s)) (λ p. is_at Staged s p && not (test s || is_served (length queues) count hw s)) (λ p. ap (λ b. is_at Staged s p && not b) (sym (ap (λ b. test s || b) is ∙ or-false (test s)))) book) (d.staged s r (sym (h.emptied.others s a.1) ∙ at))
   ];
-  released = subst (λ l. IsPermutation l (picked (λ p. is_in Released p || (is_in Staged p && (test p.bio.id.submitter || is_served (length queues) count hw p.bio.id.submitter))) book)) (sym (chain_took serves hw (served_requests queues count hw (length queues)) core core' h.entered).took)
+  released = subst (λ l. IsPermutation l (picked (λ p. is_in Released p || (is_in Staged p && (test p.bio.id.submitter || is_served (length queues) count hw p.bio.id.submitter))) book)) (sym (chain_took policy hw (served_requests queues count hw (length queues)) core core' h.entered).took)
       (bios_served test count hw (length queues) book queues (entered core.events) (omega arith) d.staged d.released);
 }
 
-pub drain_count : (serves : ℕ → Waiting → Bool) (count n : ℕ) (q q' : List Queue) (a b : CoreState) → DrainInTurn serves count n q a q' b → length q' ≡ length q
+pub drain_count : (policy : Policy) (count n : ℕ) (q q' : List Queue) (a b : CoreState) → DrainInTurn policy count n q a q' b → length q' ≡ length q
 unfolding DrainInTurn
-drain_count serves count zero q q' a b h = ap length h.0
-drain_count serves count (suc n) q q' a b h = h.3.emptied.as_many ∙ drain_count serves count n q h.0 a h.1 h.2
+drain_count policy count zero q q' a b h = ap length h.0
+drain_count policy count (suc n) q q' a b h = h.3.emptied.as_many ∙ drain_count policy count n q h.0 a h.1 h.2
 
 -- the drains of the hardware queues in turn
-pub turn_drained : (serves : ℕ → Waiting → Bool) (test : ℕ → Bool) (count n : ℕ) (book : List Placing) (q q' : List Queue) (a b : CoreState) → DrainInTurn serves count n q a q' b → AreDrained test book q a.events → AreDrained (λ s. test s || (nat_lt s (length q) && nat_lt (s % count) n)) book q' b.events
+pub turn_drained : (policy : Policy) (test : ℕ → Bool) (count n : ℕ) (book : List Placing) (q q' : List Queue) (a b : CoreState) → DrainInTurn policy count n q a q' b → AreDrained test book q a.events → AreDrained (λ s. test s || (nat_lt s (length q) && nat_lt (s % count) n)) book q' b.events
 unfolding DrainInTurn
-turn_drained serves test count zero book q q' a b h d =
+turn_drained policy test count zero book q q' a b h d =
     drained_at (λ s. test s || (nat_lt s (length q) && nat_lt (s % count) 0)) book q q' a.events b.events h.0 (ap (λ (x : CoreState). x.events) h.1)
     (drained_same test (λ s. test s || (nat_lt s (length q) && nat_lt (s % count) 0)) (λ s. sym (ap (λ c. test s || (nat_lt s (length q) && c)) (le-ltb (s % count) 0 (omega arith)) ∙ ap (λ c. test s || c) (and-false (nat_lt s (length q))) ∙ or-false (test s))) book q a.events d)
-turn_drained serves test count (suc n) book q q' a b h d =
-    let many : length h.0 ≡ length q = drain_count serves count n q h.0 a h.1 h.2 in
+turn_drained policy test count (suc n) book q q' a b h d =
+    let many : length h.0 ≡ length q = drain_count policy count n q h.0 a h.1 h.2 in
     drained_same (λ s. (test s || (nat_lt s (length q) && nat_lt (s % count) n)) || is_served (length h.0) count n s) (λ s. test s || (nat_lt s (length q) && nat_lt (s % count) (suc n)))
     (λ s. or_assoc (test s) (nat_lt s (length q) && nat_lt (s % count) n) (is_served (length h.0) count n s)
     ∙ ap (λ k. test s || ((nat_lt s (length q) && nat_lt (s % count) n) || is_served k count n s)) many
     ∙ ap (λ c. test s || c) (next_point (nat_lt s (length q)) (s % count) n)
     ∙ ap (λ k. test s || (nat_lt s (length q) && nat_lt (s % count) k)) (let e : n + 1 ≡ suc n = omega arith in e)) book q' b.events
-    (drain_drained serves (λ s. test s || (nat_lt s (length q) && nat_lt (s % count) n)) count n book h.0 q' h.1 b h.3
-    (turn_drained serves test count n book q h.0 a h.1 h.2 d))
+    (drain_drained policy (λ s. test s || (nat_lt s (length q) && nat_lt (s % count) n)) count n book h.0 q' h.1 b h.3
+    (turn_drained policy test count n book q h.0 a h.1 h.2 d))
 
-pub all_drained : (serves : ℕ → Waiting → Bool) (test : ℕ → Bool) (count : ℕ) (book : List Placing) (q q' : List Queue) (a b : CoreState) → 0 < count → DrainInTurn serves count count q a q' b → AreDrained test book q a.events → AreDrained (λ s. test s || nat_lt s (length q)) book q' b.events
-all_drained serves test count book q q' a b some h d =
+pub all_drained : (policy : Policy) (test : ℕ → Bool) (count : ℕ) (book : List Placing) (q q' : List Queue) (a b : CoreState) → 0 < count → DrainInTurn policy count count q a q' b → AreDrained test book q a.events → AreDrained (λ s. test s || nat_lt s (length q)) book q' b.events
+all_drained policy test count book q q' a b some h d =
     drained_same (λ s. test s || (nat_lt s (length q) && nat_lt (s % count) count)) (λ s. test s || nat_lt s (length q))
     (λ s. ap (λ c. test s || (nat_lt s (length q) && c)) (lt-ltb (s % count) count (mod-lt s some)) ∙ ap (λ c. test s || c) (and-true (nat_lt s (length q)))) book q' b.events
-    (turn_drained serves test count count book q q' a b h d)
+    (turn_drained policy test count count book q q' a b h d)
 
 -- rounds in which nothing enters
 pub drained_passed : (t : ℕ → Bool) (book : List Placing) (queues : List Queue) (n : ℕ) (old new : CoreState) → Passed n old new → AreDrained t book queues old.events → AreDrained t book queues new.events

@@ -1,16 +1,16 @@
 -- The loop over a script's lines, from before the first to after the last.
-use Rattle.std.proofs.Common.{◌≡◌, ◌+◌, ◌<◌, ◌≤◌, ◌∙◌, ◌++◌, ◌∷◌, ℕ, Bool, List, [], Some, length, take, get_or, refl, sym, ap, subst, arith}
+use Rattle.std.proofs.Common.{◌≡◌, ◌+◌, ◌<◌, ◌≤◌, ◌∙◌, ◌++◌, ◌∷◌, ℕ, List, [], Some, length, take, get_or, refl, sym, ap, subst}
 use Rattle.std.specs.Prelude.{slice_get, sum_by}
 use Rattle.std.proofs.lemmas.List.{take_all}
 use Rattle.std.proofs.lemmas.Option.{slice_get_read}
 use Rattle.blk_trace.specs.Happened.{Happened}
 use Rattle.blk_trace.specs.Events.{round_of}
-use Rattle.blk_sched.specs.Meaning.{Waiting}
 use Rattle.blk_text.specs.Script.{LineFits}
 use Rattle.blk_text.specs.declared.script.Line.{Line}
 use Rattle.blk_sim.specs.Simulation.{ticks_of}
 use Rattle.blk_sim.specs.State.{SimState}
 use Rattle.blk_sim.specs.Runs.{Steps, Runs}
+use Rattle.blk_sim.specs.Policies.{Policy}
 use Rattle.blk_sim.proofs.Standing.{take_more}
 
 -- before the first line no round has passed
@@ -30,14 +30,14 @@ pub whole : {X : Type 0} (xs ys : List X) (k : ℕ) → ys ≡ xs → length ys 
 whole xs ys k e le = let h : length xs ≤ k = subst (λ l. length l ≤ k) e le in take_all k xs h
 
 -- a run of no step, and of one step more
-pub runs_none : (serves : ℕ → Waiting → Bool) (old new : SimState) → new ≡ old → Runs serves [] old new
+pub runs_none : (policy : Policy) (old new : SimState) → new ≡ old → Runs policy [] old new
 unfolding Runs
-runs_none serves old new e = e
+runs_none policy old new e = e
 
-runs_push : (serves : ℕ → Waiting → Bool) (ls : List Line) (l : Line) (s m t : SimState) → Runs serves ls s m → Steps serves m l t → Runs serves (ls ++ l ∷ []) s t
+runs_push : (policy : Policy) (ls : List Line) (l : Line) (s m t : SimState) → Runs policy ls s m → Steps policy m l t → Runs policy (ls ++ l ∷ []) s t
 unfolding Runs
-runs_push serves [] l s m t e h = (t, subst (λ x. Steps serves x l t) e h, refl)
-runs_push serves (k ∷ ls) l s m t h g = (h.0, h.1, runs_push serves ls l h.0 m t h.2 g)
+runs_push policy [] l s m t e h = (t, subst (λ x. Steps policy x l t) e h, refl)
+runs_push policy (k ∷ ls) l s m t h g = (h.0, h.1, runs_push policy ls l h.0 m t h.2 g)
 
-pub runs_more : (serves : ℕ → Waiting → Bool) (k : ℕ) (lines : List Line) (l : Line) (s m t : SimState) → slice_get lines k ≡ Some l → Runs serves (take k lines) s m → Steps serves m l t → Runs serves (take (k + 1) lines) s t
-runs_more serves k lines l s m t at h g = subst (λ ls. Runs serves ls s t) (sym (take_more lines k l at)) (runs_push serves (take k lines) l s m t h g)
+pub runs_more : (policy : Policy) (k : ℕ) (lines : List Line) (l : Line) (s m t : SimState) → slice_get lines k ≡ Some l → Runs policy (take k lines) s m → Steps policy m l t → Runs policy (take (k + 1) lines) s t
+runs_more policy k lines l s m t at h g = subst (λ ls. Runs policy ls s t) (sym (take_more lines k l at)) (runs_push policy (take k lines) l s m t h g)

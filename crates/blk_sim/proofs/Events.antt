@@ -11,8 +11,8 @@ use Rattle.blk_core.specs.State.{CoreState}
 use Rattle.blk_core.specs.Calls.{Adds, Places}
 use Rattle.blk_core.specs.declared.Placed.{Placed}
 use Rattle.blk_core.specs.declared.Placed.TheVariants.{New, Joined}
-use Rattle.blk_sched.specs.Meaning.{Waiting}
 use Rattle.blk_sim.specs.Moves.{Enters, EnterInTurn, bios_in}
+use Rattle.blk_sim.specs.Policies.{Policy}
 use Rattle.blk_sim.specs.Simulated.{Passed, Took}
 
 -- how many of a list with one more pass a test
@@ -53,17 +53,17 @@ pub took_trans : (xs ys : List Bio) (a b c : CoreState) → Took xs a b → Took
 took_trans xs ys a b c p q = record { setup = q.setup ∙ p.setup; took = q.took ∙ ap (λ r. r ++ ys) p.took ∙ append_assoc (entered a.events) xs ys; ticks = q.ticks ∙ p.ticks }
 
 -- a request that entered, and requests that entered one after the other
-placed_took : (serves : ℕ → Waiting → Bool) (old new : CoreState) (bios : List Bio) (hw : ℕ) (p : Placed) → Places serves old bios hw p new → Took bios old new
-placed_took serves old new bios hw (New id) a = adds_took _ _ _ bios a.2 refl refl
-placed_took serves old new bios hw (Joined id side) a = adds_took _ _ _ bios a.1 refl refl
+placed_took : (policy : Policy) (old new : CoreState) (bios : List Bio) (hw : ℕ) (p : Placed) → Places policy.serves old bios hw p new → Took bios old new
+placed_took policy old new bios hw (New id) a = adds_took _ _ _ bios a.2 refl refl
+placed_took policy old new bios hw (Joined id side) a = adds_took _ _ _ bios a.1 refl refl
 
-pub enters_took : (serves : ℕ → Waiting → Bool) (hw : ℕ) (bios : List Bio) (old new : CoreState) → Enters serves hw bios old new → Took bios old new
-enters_took serves hw bios old new h = placed_took serves old new bios hw h.0 h.2
+pub enters_took : (policy : Policy) (hw : ℕ) (bios : List Bio) (old new : CoreState) → Enters policy hw bios old new → Took bios old new
+enters_took policy hw bios old new h = placed_took policy old new bios hw h.0 h.2
 
 took_none : (a b : CoreState) → b ≡ a → Took [] a b
 took_none a b e = record { setup = ap (λ (c : CoreState). c.setup) e; took = ap (λ (c : CoreState). entered c.events) e ∙ sym (append-nil (entered a.events)); ticks = ap (λ (c : CoreState). round_of c.events) e }
 
-pub chain_took : (serves : ℕ → Waiting → Bool) (hw : ℕ) (requests : List (List Bio)) (a b : CoreState) → EnterInTurn serves hw requests a b → Took (bios_in requests) a b
+pub chain_took : (policy : Policy) (hw : ℕ) (requests : List (List Bio)) (a b : CoreState) → EnterInTurn policy hw requests a b → Took (bios_in requests) a b
 unfolding EnterInTurn
-chain_took serves hw [] a b e = took_none a b e
-chain_took serves hw (x ∷ xs) a b e = took_trans x (bios_in xs) a e.0 b (enters_took serves hw x a e.0 e.1) (chain_took serves hw xs e.0 b e.2)
+chain_took policy hw [] a b e = took_none a b e
+chain_took policy hw (x ∷ xs) a b e = took_trans x (bios_in xs) a e.0 b (enters_took policy hw x a e.0 e.1) (chain_took policy hw xs e.0 b e.2)

@@ -1,5 +1,5 @@
 -- The requests of the software queues that a hardware queue serves, and lists after a write.
-use Rattle.std.proofs.Common.{arith, ◌≡◌, ◌≢◌, ◌+◌, ◌<◌, ◌≤◌, ◌%◌, ◌==◌, ◌∙◌, ◌++◌, ◌∷◌, ℕ, zero, suc, Bool, cond, List, [], Some, length, get_or, set, refl, sym, ap, subst, inl, inr, add-one, append_assoc}
+use Rattle.std.proofs.Common.{arith, ◌≡◌, ◌≢◌, ◌+◌, ◌<◌, ◌≤◌, ◌%◌, ◌==◌, ◌∙◌, ◌++◌, ◌∷◌, ℕ, zero, suc, cond, List, [], Some, length, get_or, set, refl, sym, ap, subst, inl, inr, add-one, append_assoc}
 use Rattle.std.specs.Prelude.{slice_get}
 use Rattle.std.proofs.lemmas.Bool.{cases_eq, cases_lt, eq-eqb, ne_eqb}
 use Rattle.std.proofs.lemmas.List.{append-nil, length-set, get_or-set_other, get_or_default}
@@ -7,12 +7,12 @@ use Rattle.std.proofs.lemmas.Option.{slice_get_read, slice_get_past, slice_get_w
 use Rattle.std.specs.Option.{option_map}
 use Rattle.blk_bio.specs.Bios.{Bio}
 use Rattle.blk_soft.specs.Queues.{Queue}
-use Rattle.blk_sched.specs.Meaning.{Waiting}
 use Rattle.blk_core.specs.State.{CoreState}
 use Rattle.blk_sim.specs.declared.refusal.SimWhy.{SimWhy}
 use Rattle.blk_sim.specs.Moves.{EnterInTurn, requests_in, served_requests, drained}
 use Rattle.blk_sim.specs.Refusals.{IsMoveRefused}
 use Rattle.blk_sim.proofs.Chains.{enter_both}
+use Rattle.blk_sim.specs.Policies.{Policy}
 use Rattle.std.proofs.lemmas.Grind.{get_or-set_at}
 
 -- the requests of the first software queues
@@ -51,15 +51,15 @@ part queues hw h s (suc m) q lt at e = elim (cases_eq s m) [
 ]
 
 -- the loop's step at a software queue that the hardware queue serves, and at another one
-pub enter_next : (serves : ℕ → Waiting → Bool) (queues : List Queue) (hw h n : ℕ) (q : Queue) (a b c : CoreState) → slice_get queues n ≡ Some q → (n % hw) ≡ h → EnterInTurn serves h (served_requests queues hw h n) a b → EnterInTurn serves h q.requests b c → EnterInTurn serves h (served_requests queues hw h (n + 1)) a c
-enter_next serves queues hw h n q a b c at e t u =
-    subst (λ l. EnterInTurn serves h l a c) (sym (served_next queues hw h n q at e)) (enter_both serves h (served_requests queues hw h n) q.requests a b c t u)
+pub enter_next : (policy : Policy) (queues : List Queue) (hw h n : ℕ) (q : Queue) (a b c : CoreState) → slice_get queues n ≡ Some q → (n % hw) ≡ h → EnterInTurn policy h (served_requests queues hw h n) a b → EnterInTurn policy h q.requests b c → EnterInTurn policy h (served_requests queues hw h (n + 1)) a c
+enter_next policy queues hw h n q a b c at e t u =
+    subst (λ l. EnterInTurn policy h l a c) (sym (served_next queues hw h n q at e)) (enter_both policy h (served_requests queues hw h n) q.requests a b c t u)
 
-pub enter_pass : (serves : ℕ → Waiting → Bool) (queues : List Queue) (hw h n : ℕ) (a b : CoreState) → (n % hw) ≢ h → EnterInTurn serves h (served_requests queues hw h n) a b → EnterInTurn serves h (served_requests queues hw h (n + 1)) a b
-enter_pass serves queues hw h n a b ne t = subst (λ l. EnterInTurn serves h l a b) (sym (served_pass queues hw h n ne)) t
+pub enter_pass : (policy : Policy) (queues : List Queue) (hw h n : ℕ) (a b : CoreState) → (n % hw) ≢ h → EnterInTurn policy h (served_requests queues hw h n) a b → EnterInTurn policy h (served_requests queues hw h (n + 1)) a b
+enter_pass policy queues hw h n a b ne t = subst (λ l. EnterInTurn policy h l a b) (sym (served_pass queues hw h n ne)) t
 
-pub move_later : (serves : ℕ → Waiting → Bool) (queues : List Queue) (hw h s n : ℕ) (q : Queue) (a b : CoreState) (w : SimWhy) → s < n → slice_get queues s ≡ Some q → (s % hw) ≡ h → EnterInTurn serves h (served_requests queues hw h s) a b → IsMoveRefused serves q.requests b h w → IsMoveRefused serves (served_requests queues hw h n) a h w
-move_later serves queues hw h s n q a b w lt at e t r =
+pub move_later : (policy : Policy) (queues : List Queue) (hw h s n : ℕ) (q : Queue) (a b : CoreState) (w : SimWhy) → s < n → slice_get queues s ≡ Some q → (s % hw) ≡ h → EnterInTurn policy h (served_requests queues hw h s) a b → IsMoveRefused policy q.requests b h w → IsMoveRefused policy (served_requests queues hw h n) a h w
+move_later policy queues hw h s n q a b w lt at e t r =
     let p = part queues hw h s n q lt at e in
     let front : List (List Bio) = served_requests queues hw h s in
     record {
@@ -68,7 +68,7 @@ move_later serves queues hw h s n q a b w lt at e t r =
       after = r.after ++ p.0;
       place = p.1 ∙ ap (λ l. front ++ (l ++ p.0)) r.place ∙ ap (λ l. front ++ l) (append_assoc r.before (r.bios ∷ r.after) p.0) ∙ sym (append_assoc front r.before (r.bios ∷ (r.after ++ p.0)));
       middle = r.middle;
-      entered = enter_both serves h front r.before a b r.middle t r.entered;
+      entered = enter_both policy h front r.before a b r.middle t r.entered;
       refused = r.refused;
     }
 

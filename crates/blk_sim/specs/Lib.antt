@@ -1,3 +1,4 @@
+pub mod Policies
 pub mod Simulation
 pub mod State
 pub mod Moves

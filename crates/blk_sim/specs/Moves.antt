@@ -1,15 +1,15 @@
 -- What the steps that move requests do to plugs, software queues and the core.
-use Rattle.std.specs.Prelude.{[], ◌∷◌, ◌≡◌, ◌≢◌, ◌+◌, ◌≤◌, ◌%◌, ◌==◌, ◌++◌, ℕ, zero, suc, Bool, cond, List, Option, Some, None, Ok, length, slice_get, slice_set, flat_map, IsPermutation}
+use Rattle.std.specs.Prelude.{[], ◌∷◌, ◌≡◌, ◌≢◌, ◌+◌, ◌≤◌, ◌%◌, ◌==◌, ◌++◌, ℕ, zero, suc, cond, List, Option, Some, None, Ok, length, slice_get, slice_set, flat_map, IsPermutation}
 use Rattle.std.specs.Option.{option_map}
 use Rattle.blk_bio.specs.Bios.{Bio}
 use Rattle.blk_plug.specs.Plugs.{Plug, bios_of}
 use Rattle.blk_plug.specs.Answers.{IsAddAnswer}
 use Rattle.blk_plug.specs.declared.plug.Added.{Added}
 use Rattle.blk_soft.specs.Queues.{Queue, held_of}
-use Rattle.blk_sched.specs.Meaning.{Waiting}
 use Rattle.blk_core.specs.State.{CoreState}
 use Rattle.blk_core.specs.Calls.{Places}
 use Rattle.blk_core.specs.Faults.{CanRelease}
+use Rattle.blk_sim.specs.Policies.{Policy}
 use Rattle.blk_core.specs.declared.Placed.{Placed}
 
 -- the bios of requests, in their order
@@ -55,13 +55,13 @@ pub record Flushes (plugs : List Plug) (queues : List Queue) (s : ℕ) (new_plug
   pub queues_are : new_queues ≡ slice_set queues s (with_requests to own.requests)
 
 -- the core takes a request for a hardware queue, and places it
-abbrev pub Enters : (ℕ → Waiting → Bool) → ℕ → List Bio → CoreState → CoreState → Type 0
-Enters serves hw bios old new = (placed : Placed) × CanRelease old bios hw × Places serves old bios hw placed new
+abbrev pub Enters : Policy → ℕ → List Bio → CoreState → CoreState → Type 0
+Enters policy hw bios old new = (placed : Placed) × CanRelease old bios hw × Places policy.serves old bios hw placed new
 
 -- requests enter the core, one after the other
-unfoldable pub EnterInTurn : (ℕ → Waiting → Bool) → ℕ → List (List Bio) → CoreState → CoreState → Type 0
-EnterInTurn serves hw [] old new = new ≡ old
-EnterInTurn serves hw (bios ∷ rest) old new = (middle : CoreState) × Enters serves hw bios old middle × EnterInTurn serves hw rest middle new
+unfoldable pub EnterInTurn : Policy → ℕ → List (List Bio) → CoreState → CoreState → Type 0
+EnterInTurn policy hw [] old new = new ≡ old
+EnterInTurn policy hw (bios ∷ rest) old new = (middle : CoreState) × Enters policy hw bios old middle × EnterInTurn policy hw rest middle new
 
 -- the requests of the software queue of this number
 abbrev pub requests_in : Option Queue → List (List Bio)
@@ -91,13 +91,13 @@ pub record AreEmptied (count hw : ℕ) (old new : List Queue) : Type 0 where
   pub others : (s : ℕ) → (s % count) ≢ hw → slice_get new s ≡ slice_get old s
 
 -- the requests of the software queues that a hardware queue of so many serves enter the core
-pub record Drains (serves : ℕ → Waiting → Bool) (count hw : ℕ) (queues : List Queue) (core : CoreState) (new_queues : List Queue) (new_core : CoreState) : Type 0 where
+pub record Drains (policy : Policy) (count hw : ℕ) (queues : List Queue) (core : CoreState) (new_queues : List Queue) (new_core : CoreState) : Type 0 where
   pub emptied : AreEmptied count hw queues new_queues
-  pub entered : EnterInTurn serves hw (served_requests queues count hw (length queues)) core new_core
+  pub entered : EnterInTurn policy hw (served_requests queues count hw (length queues)) core new_core
 
 -- the first n hardware queues, of so many, are drained in turn
-unfoldable pub DrainInTurn : (ℕ → Waiting → Bool) → ℕ → ℕ → List Queue → CoreState → List Queue → CoreState → Type 0
-DrainInTurn serves count zero queues core new_queues new_core = (new_queues ≡ queues) × (new_core ≡ core)
-DrainInTurn serves count (suc n) queues core new_queues new_core =
-    (between : List Queue) × (middle : CoreState) × DrainInTurn serves count n queues core between middle
-    × Drains serves count n between middle new_queues new_core
+unfoldable pub DrainInTurn : Policy → ℕ → ℕ → List Queue → CoreState → List Queue → CoreState → Type 0
+DrainInTurn policy count zero queues core new_queues new_core = (new_queues ≡ queues) × (new_core ≡ core)
+DrainInTurn policy count (suc n) queues core new_queues new_core =
+    (between : List Queue) × (middle : CoreState) × DrainInTurn policy count n queues core between middle
+    × Drains policy count n between middle new_queues new_core

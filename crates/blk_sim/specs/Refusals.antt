@@ -1,12 +1,12 @@
 -- Which step of a script is refused, and for what.
-use Rattle.std.specs.Prelude.{◌∷◌, ◌≡◌, ◌≢◌, ◌+◌, ◌<◌, ◌⊎◌, ◌++◌, ℕ, Bool, List, Option, Some, None, length, take, slice_get}
+use Rattle.std.specs.Prelude.{◌∷◌, ◌≡◌, ◌≢◌, ◌+◌, ◌<◌, ◌⊎◌, ◌++◌, ℕ, List, Option, Some, None, length, take, slice_get}
 use Rattle.blk_bio.specs.Bios.{Bio}
 use Rattle.blk_plug.specs.Plugs.{Plug}
 use Rattle.blk_plug.specs.Answers.{IsPlugFault}
 use Rattle.blk_plug.specs.declared.plug.PlugFault.{PlugFault}
 use Rattle.blk_plug.specs.declared.plug.PlugFault.TheVariants as plug
 use Rattle.blk_soft.specs.Queues.{Queue}
-use Rattle.blk_sched.specs.Meaning.{Waiting, Meaning}
+use Rattle.blk_sched.specs.Meaning.{Meaning}
 use Rattle.blk_core.specs.State.{CoreState}
 use Rattle.blk_core.specs.Faults.{IsReleaseFault, IsIssueFault, IsTickFault, IsInFlight}
 use Rattle.blk_core.specs.declared.CoreFault.{CoreFault}
@@ -24,6 +24,7 @@ use Rattle.blk_sim.specs.declared.refusal.SimWhy.TheVariants as why
 use Rattle.blk_sim.specs.State.{SimState, start_of}
 use Rattle.blk_sim.specs.Moves.{EnterInTurn, DrainInTurn, served_requests}
 use Rattle.blk_sim.specs.Rounds.{queue_asked, GiveNothing, IssueInTurn, IssuesAll, CompleteInTurn, Rounds}
+use Rattle.blk_sim.specs.Policies.{Policy}
 use Rattle.blk_sim.specs.Runs.{Runs}
 
 -- a step's reason for what a plug, a release, an issue and a tick are refused for; the hardware queues are there
@@ -77,95 +78,95 @@ IsFlushRefused plugs queues s w =
     (own : Plug) × (to : Queue) × (slice_get plugs s ≡ Some own) × (slice_get queues s ≡ Some to) × (w ≡ why.SoftFull) × IsOverfull to own
 
 -- of requests that enter one after the other the core refuses one, those before it having entered
-pub record IsMoveRefused (serves : ℕ → Waiting → Bool) (requests : List (List Bio)) (core : CoreState) (hw : ℕ) (w : SimWhy) : Type 0 where
+pub record IsMoveRefused (policy : Policy) (requests : List (List Bio)) (core : CoreState) (hw : ℕ) (w : SimWhy) : Type 0 where
   pub before : List (List Bio)
   pub bios : List Bio
   pub after : List (List Bio)
   pub place : requests ≡ before ++ bios ∷ after
   pub middle : CoreState
-  pub entered : EnterInTurn serves hw before core middle
+  pub entered : EnterInTurn policy hw before core middle
   pub refused : IsReleaseRefused middle bios hw w
 
 -- of the requests of the software queues that a hardware queue, of so many, serves the core refuses one
-abbrev pub IsDrainRefused : (ℕ → Waiting → Bool) → ℕ → ℕ → List Queue → CoreState → SimWhy → Type 0
-IsDrainRefused serves count hw queues core w = IsMoveRefused serves (served_requests queues count hw (length queues)) core hw w
+abbrev pub IsDrainRefused : Policy → ℕ → ℕ → List Queue → CoreState → SimWhy → Type 0
+IsDrainRefused policy count hw queues core w = IsMoveRefused policy (served_requests queues count hw (length queues)) core hw w
 
 -- the hardware queues below one, of so many, were drained in turn, and its own drain is refused
-pub record IsDrainInTurnRefused (serves : ℕ → Waiting → Bool) (count : ℕ) (queues : List Queue) (core : CoreState) (w : SimWhy) : Type 0 where
+pub record IsDrainInTurnRefused (policy : Policy) (count : ℕ) (queues : List Queue) (core : CoreState) (w : SimWhy) : Type 0 where
   pub hw : ℕ
   pub below : hw < count
   pub between : List Queue
   pub middle : CoreState
-  pub drained : DrainInTurn serves count hw queues core between middle
-  pub refused : IsDrainRefused serves count hw between middle w
+  pub drained : DrainInTurn policy count hw queues core between middle
+  pub refused : IsDrainRefused policy count hw between middle w
 
 -- of the hardware queues that are asked for a tag the first gave nothing, and the issue of the next one is refused, for
 -- another reason than that the tag was issued in the round
-pub record IsAskRefused (serves : ℕ → Waiting → Bool) (tag : ℕ) (core : CoreState) (w : SimWhy) : Type 0 where
+pub record IsAskRefused (policy : Policy) (tag : ℕ) (core : CoreState) (w : SimWhy) : Type 0 where
   pub place : ℕ
   pub below : place < core.setup.hw
-  pub nothing : GiveNothing serves tag place core
+  pub nothing : GiveNothing policy tag place core
   pub another : w ≢ why.SlotUsed
   pub refused : IsIssueRefused core (queue_asked core.setup.hw tag place) tag w
 
 -- the tags below one were done with, and its own is refused
-pub record IsIssueInTurnRefused (serves : ℕ → Waiting → Bool) (core : CoreState) (w : SimWhy) : Type 0 where
+pub record IsIssueInTurnRefused (policy : Policy) (core : CoreState) (w : SimWhy) : Type 0 where
   pub tag : ℕ
   pub below : tag < core.setup.depth
   pub middle : CoreState
-  pub issued : IssueInTurn serves tag core middle
-  pub refused : IsAskRefused serves tag middle w
+  pub issued : IssueInTurn policy tag core middle
+  pub refused : IsAskRefused policy tag middle w
 
 -- all was issued and completed, and the tick is refused
-pub record IsEndRefused (serves : ℕ → Waiting → Bool) (core : CoreState) (w : SimWhy) : Type 0 where
+pub record IsEndRefused (policy : Policy) (core : CoreState) (w : SimWhy) : Type 0 where
   pub busy : CoreState
   pub idle : CoreState
-  pub issues : IssuesAll serves core busy
-  pub completes : CompleteInTurn busy.setup.depth busy idle
+  pub issues : IssuesAll policy core busy
+  pub completes : CompleteInTurn policy busy.setup.depth busy idle
   pub refused : IsTickRefused idle w
 
 -- what a round does once the hardware queues are drained is refused
-abbrev pub IsWorkRefused : (ℕ → Waiting → Bool) → CoreState → SimWhy → Type 0
-IsWorkRefused serves core w = IsIssueInTurnRefused serves core w ⊎ IsEndRefused serves core w
+abbrev pub IsWorkRefused : Policy → CoreState → SimWhy → Type 0
+IsWorkRefused policy core w = IsIssueInTurnRefused policy core w ⊎ IsEndRefused policy core w
 
 -- a round is refused in its drains, or after them
-abbrev pub IsRoundRefused : (ℕ → Waiting → Bool) → List Queue → CoreState → SimWhy → Type 0
-IsRoundRefused serves queues core w =
-    IsDrainInTurnRefused serves core.setup.hw queues core w
-    ⊎ ((between : List Queue) × (middle : CoreState) × DrainInTurn serves core.setup.hw core.setup.hw queues core between middle
-    × IsWorkRefused serves middle w)
+abbrev pub IsRoundRefused : Policy → List Queue → CoreState → SimWhy → Type 0
+IsRoundRefused policy queues core w =
+    IsDrainInTurnRefused policy core.setup.hw queues core w
+    ⊎ ((between : List Queue) × (middle : CoreState) × DrainInTurn policy core.setup.hw core.setup.hw queues core between middle
+    × IsWorkRefused policy middle w)
 
 -- of so many rounds some passed, and the next is refused
-pub record IsRunRefused (serves : ℕ → Waiting → Bool) (count : ℕ) (queues : List Queue) (core : CoreState) (w : SimWhy) : Type 0 where
+pub record IsRunRefused (policy : Policy) (count : ℕ) (queues : List Queue) (core : CoreState) (w : SimWhy) : Type 0 where
   pub rounds : ℕ
   pub few : rounds < count
   pub between : List Queue
   pub middle : CoreState
-  pub passed : Rounds serves rounds queues core between middle
-  pub refused : IsRoundRefused serves between middle w
+  pub passed : Rounds policy rounds queues core between middle
+  pub refused : IsRoundRefused policy between middle w
 
 -- why a step is refused in a simulation
-abbrev pub IsStepRefused : (ℕ → Waiting → Bool) → SimState → Line → SimWhy → Type 0
-IsStepRefused serves state (line.Bio b) w = IsBioRefused state.plugs b w
-IsStepRefused serves state (line.Flush s) w = IsFlushRefused state.plugs state.queues s w
-IsStepRefused serves state (line.Drain hw) w = IsDrainRefused serves state.core.setup.hw hw state.queues state.core w
-IsStepRefused serves state (line.Issue hw tag) w = IsIssueRefused state.core hw tag w
-IsStepRefused serves state (line.Done tag) w = (w ≡ why.NotIssued) × (IsInFlight state.core tag → ⊥)
-IsStepRefused serves state line.Tick w = IsTickRefused state.core w
-IsStepRefused serves state (line.Run n) w = IsRunRefused serves n state.queues state.core w
+abbrev pub IsStepRefused : Policy → SimState → Line → SimWhy → Type 0
+IsStepRefused policy state (line.Bio b) w = IsBioRefused state.plugs b w
+IsStepRefused policy state (line.Flush s) w = IsFlushRefused state.plugs state.queues s w
+IsStepRefused policy state (line.Drain hw) w = IsDrainRefused policy state.core.setup.hw hw state.queues state.core w
+IsStepRefused policy state (line.Issue hw tag) w = IsIssueRefused state.core hw tag w
+IsStepRefused policy state (line.Done tag) w = (w ≡ why.NotIssued) × (IsInFlight state.core tag → ⊥)
+IsStepRefused policy state line.Tick w = IsTickRefused state.core w
+IsStepRefused policy state (line.Run n) w = IsRunRefused policy n state.queues state.core w
 
 -- the steps before a place are accepted, one after the other from the script's start, and the step at the place is refused
 -- in the simulation that they lead to
-pub record IsRefusedAt (serves : ℕ → Waiting → Bool) (script : Scripted) (meaning : Meaning) (kept : List ℕ) (place : ℕ) (w : SimWhy) : Type 0 where
+pub record IsRefusedAt (policy : Policy) (script : Scripted) (meaning : Meaning) (kept : List ℕ) (place : ℕ) (w : SimWhy) : Type 0 where
   pub state : SimState
   pub step : Line
   pub at : slice_get script.lines place ≡ Some step
-  pub runs : Runs serves (take place script.lines) (start_of script meaning kept) state
-  pub refused : IsStepRefused serves state step w
+  pub runs : Runs policy (take place script.lines) (start_of script meaning kept) state
+  pub refused : IsStepRefused policy state step w
 
 -- the fault stands at the record of the step that is refused, after those before it, for its reason, or, for want of
 -- memory before the first step, at that of the setup
-abbrev pub IsSimFault : (ℕ → Waiting → Bool) → Scripted → Meaning → List ℕ → SimFault → Type 0
-IsSimFault serves script meaning kept fault =
+abbrev pub IsSimFault : Policy → Scripted → Meaning → List ℕ → SimFault → Type 0
+IsSimFault policy script meaning kept fault =
     ((fault.at ≡ 2) × (fault.why ≡ why.Memory))
-    ⊎ ((place : ℕ) × (fault.at ≡ place + 3) × IsRefusedAt serves script meaning kept place fault.why)
+    ⊎ ((place : ℕ) × (fault.at ≡ place + 3) × IsRefusedAt policy script meaning kept place fault.why)

@@ -1,23 +1,21 @@
 -- What a round of a script's `run` does.
-use Rattle.std.specs.Prelude.{[], ◌∷◌, ◌≡◌, ◌+◌, ◌<◌, ◌≤◌, ◌%◌, ◌⊎◌, ℕ, zero, suc, Bool, true, false, List, Option, Some, None, IsSome}
+use Rattle.std.specs.Prelude.{◌≡◌, ◌+◌, ◌<◌, ◌≤◌, ◌%◌, ◌⊎◌, ℕ, zero, suc, Bool, true, false, List, Option, Some, None, IsSome}
 use Rattle.edd_check.specs.declared.Command.{Command}
 use Rattle.blk_soft.specs.Queues.{Queue}
-use Rattle.blk_trace.specs.Happened.{Ticked}
-use Rattle.blk_trace.specs.Events.{round_of}
 use Rattle.blk_trace.specs.Standing.{seat_at}
-use Rattle.blk_sched.specs.Meaning.{Waiting}
 use Rattle.blk_core.specs.State.{CoreState}
-use Rattle.blk_core.specs.Calls.{Adds, Issues, Completes}
+use Rattle.blk_core.specs.Calls.{Issues, Completes, Ends}
 use Rattle.blk_core.specs.Faults.{CanIssue, CanTick, IsInFlight}
+use Rattle.blk_sim.specs.Policies.{Policy}
 use Rattle.blk_sim.specs.Moves.{DrainInTurn}
 
 -- a hardware queue is asked for a command under a tag, which it gives or not
-abbrev pub Asks : (ℕ → Waiting → Bool) → ℕ → ℕ → CoreState → Option Command → CoreState → Type 0
-Asks serves hw tag old found new = CanIssue old hw tag × Issues serves old hw tag found new
+abbrev pub Asks : Policy → ℕ → ℕ → CoreState → Option Command → CoreState → Type 0
+Asks policy hw tag old found new = CanIssue old hw tag × Issues policy.serves policy.chooses old hw tag found new
 
 -- a round ends, and the scheduler is told of the new one
-abbrev pub Ticks : CoreState → CoreState → Type 0
-Ticks old new = CanTick old × Adds old Ticked new × (new.meaning ≡ record old.meaning { round = round_of new.events })
+abbrev pub Ticks : Policy → CoreState → CoreState → Type 0
+Ticks policy old new = CanTick old × Ends policy.told_tick old new
 
 -- a tag was issued in the round that is on
 abbrev pub IsTaken : CoreState → ℕ → Type 0
@@ -29,57 +27,57 @@ abbrev pub queue_asked : ℕ → ℕ → ℕ → ℕ
 queue_asked count tag k = ((tag % count) + k) % count
 
 -- the first n hardware queues that are asked for a tag give nothing
-abbrev pub GiveNothing : (ℕ → Waiting → Bool) → ℕ → ℕ → CoreState → Type 0
-GiveNothing serves tag n core = (k : ℕ) → k < n → Asks serves (queue_asked core.setup.hw tag k) tag core None core
+abbrev pub GiveNothing : Policy → ℕ → ℕ → CoreState → Type 0
+GiveNothing policy tag n core = (k : ℕ) → k < n → Asks policy (queue_asked core.setup.hw tag k) tag core None core
 
 -- of the hardware queues that are asked for a tag the first that gives a command gave this one
-pub record Gives (serves : ℕ → Waiting → Bool) (tag : ℕ) (old new : CoreState) : Type 0 where
+pub record Gives (policy : Policy) (tag : ℕ) (old new : CoreState) : Type 0 where
   pub place : ℕ
   pub below : place < old.setup.hw
-  pub nothing : GiveNothing serves tag place old
+  pub nothing : GiveNothing policy tag place old
   pub command : Command
-  pub gave : Asks serves (queue_asked old.setup.hw tag place) tag old (Some command) new
+  pub gave : Asks policy (queue_asked old.setup.hw tag place) tag old (Some command) new
 
 -- whether a hardware queue gave a command for a tag
-abbrev pub IsGiven : (ℕ → Waiting → Bool) → ℕ → CoreState → Bool → CoreState → Type 0
-IsGiven serves tag old true new = Gives serves tag old new
-IsGiven serves tag old false new = GiveNothing serves tag old.setup.hw old × (new ≡ old)
+abbrev pub IsGiven : Policy → ℕ → CoreState → Bool → CoreState → Type 0
+IsGiven policy tag old true new = Gives policy tag old new
+IsGiven policy tag old false new = GiveNothing policy tag old.setup.hw old × (new ≡ old)
 
 -- the tags below n in turn: one that was issued in this round already is passed over, and each other one gets a command
-unfoldable pub IssueInTurn : (ℕ → Waiting → Bool) → ℕ → CoreState → CoreState → Type 0
-IssueInTurn serves zero old new = new ≡ old
-IssueInTurn serves (suc tag) old new =
-    (middle : CoreState) × IssueInTurn serves tag old middle × ((IsTaken middle tag × (new ≡ middle)) ⊎ Gives serves tag middle new)
+unfoldable pub IssueInTurn : Policy → ℕ → CoreState → CoreState → Type 0
+IssueInTurn policy zero old new = new ≡ old
+IssueInTurn policy (suc tag) old new =
+    (middle : CoreState) × IssueInTurn policy tag old middle × ((IsTaken middle tag × (new ≡ middle)) ⊎ Gives policy tag middle new)
 
 -- all tags in turn, up to the first for which no hardware queue gives a command
-pub record IssuesAll (serves : ℕ → Waiting → Bool) (old new : CoreState) : Type 0 where
+pub record IssuesAll (policy : Policy) (old new : CoreState) : Type 0 where
   pub tags : ℕ
   pub few : tags ≤ old.setup.depth
-  pub issued : IssueInTurn serves tags old new
-  pub ended : (tags ≡ old.setup.depth) ⊎ GiveNothing serves tags new.setup.hw new
+  pub issued : IssueInTurn policy tags old new
+  pub ended : (tags ≡ old.setup.depth) ⊎ GiveNothing policy tags new.setup.hw new
 
 -- of the tags below n those in flight are completed, in turn
-unfoldable pub CompleteInTurn : ℕ → CoreState → CoreState → Type 0
-CompleteInTurn zero old new = new ≡ old
-CompleteInTurn (suc tag) old new =
-    (middle : CoreState) × CompleteInTurn tag old middle × (Completes middle tag new ⊎ ((IsInFlight middle tag → ⊥) × (new ≡ middle)))
+unfoldable pub CompleteInTurn : Policy → ℕ → CoreState → CoreState → Type 0
+CompleteInTurn policy zero old new = new ≡ old
+CompleteInTurn policy (suc tag) old new =
+    (middle : CoreState) × CompleteInTurn policy tag old middle × (Completes policy.told_done middle tag new ⊎ ((IsInFlight middle tag → ⊥) × (new ≡ middle)))
 
 -- what a round does once the hardware queues are drained: what can be issued is issued and completed, and the round ends
-pub record Works (serves : ℕ → Waiting → Bool) (old new : CoreState) : Type 0 where
+pub record Works (policy : Policy) (old new : CoreState) : Type 0 where
   pub busy : CoreState
   pub idle : CoreState
-  pub issues : IssuesAll serves old busy
-  pub completes : CompleteInTurn busy.setup.depth busy idle
-  pub ticks : Ticks idle new
+  pub issues : IssuesAll policy old busy
+  pub completes : CompleteInTurn policy busy.setup.depth busy idle
+  pub ticks : Ticks policy idle new
 
 -- one round: the hardware queues are drained in turn, and the core works
-pub record Round (serves : ℕ → Waiting → Bool) (queues : List Queue) (core : CoreState) (new_queues : List Queue) (new_core : CoreState) : Type 0 where
+pub record Round (policy : Policy) (queues : List Queue) (core : CoreState) (new_queues : List Queue) (new_core : CoreState) : Type 0 where
   pub filled : CoreState
-  pub drains : DrainInTurn serves core.setup.hw core.setup.hw queues core new_queues filled
-  pub works : Works serves filled new_core
+  pub drains : DrainInTurn policy core.setup.hw core.setup.hw queues core new_queues filled
+  pub works : Works policy filled new_core
 
 -- so many rounds
-unfoldable pub Rounds : (ℕ → Waiting → Bool) → ℕ → List Queue → CoreState → List Queue → CoreState → Type 0
-Rounds serves zero queues core new_queues new_core = (new_queues ≡ queues) × (new_core ≡ core)
-Rounds serves (suc n) queues core new_queues new_core =
-    (between : List Queue) × (middle : CoreState) × Rounds serves n queues core between middle × Round serves between middle new_queues new_core
+unfoldable pub Rounds : Policy → ℕ → List Queue → CoreState → List Queue → CoreState → Type 0
+Rounds policy zero queues core new_queues new_core = (new_queues ≡ queues) × (new_core ≡ core)
+Rounds policy (suc n) queues core new_queues new_core =
+    (between : List Queue) × (middle : CoreState) × Rounds policy n queues core between middle × Round policy between middle new_queues new_core

@@ -1,5 +1,5 @@
 -- What a simulation holds between two steps.
-use Rattle.std.specs.Prelude.{ℕ, List, [], replicate, refl}
+use Rattle.std.specs.Prelude.{ℕ, List, [], None, replicate, refl}
 use Rattle.std.specs.Coded.{Coded, code_by, coded×, coded_ℕ, coded_list}
 use Rattle.blk_bio.specs.Bios.{Bio}
 use Rattle.blk_bio.specs.Limits.{Limits}
@@ -16,12 +16,12 @@ pub record SimState : Type 0 where
   pub queues : List Queue
   pub core : CoreState
 
--- before a script's first step: nothing is anywhere, and nothing happened
+-- before a script's first step: nothing is anywhere, nothing happened, and nothing is in flight
 abbrev pub start_of : Scripted → Meaning → List ℕ → SimState
 start_of script meaning kept = record {
   plugs = replicate script.submitters (record { limits = script.setup.limits; requests = [] });
   queues = replicate script.submitters (record { depth = script.soft_depth; limits = script.setup.limits; requests = []; bios_in = 0; bios_out = 0 });
-  core = record { setup = script.setup; events = []; meaning = meaning; kept = kept };
+  core = record { setup = script.setup; events = []; meaning = meaning; kept = kept; flights = replicate script.setup.depth None };
 }
 
 -- the codes of a plug, of a software queue and of a simulation

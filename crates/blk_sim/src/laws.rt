@@ -1,14 +1,16 @@
 //! Laws of the definitions of a simulation.
 
-ghost use Rattle.std.specs.Prelude.{◌≡◌, ◌+◌, ◌<◌, ◌++◌, ◌∷◌, [], ◌↔◌, ℕ, Bool, List, length};
+ghost use Rattle.std.specs.Prelude.{◌≡◌, ◌+◌, ◌<◌, ◌++◌, ◌∷◌, [], ◌↔◌, ℕ, List, length};
 ghost use Rattle.blk_text.specs.declared.script.Line.{Line};
 ghost use Rattle.blk_text.specs.Script.{LineFits};
 ghost use Rattle.blk_trace.specs.Events.{round_of};
-ghost use Rattle.blk_sched.specs.Meaning.{Waiting};
 ghost use Rattle.blk_sim.specs.Simulation.{Where, Plugged, Released, moved, place_after, IsFlushedAndMoved, ticks_of};
 ghost use Rattle.blk_sim.specs.State.{SimState};
+ghost use Rattle.blk_sim.specs.Policies.{policy_of};
 ghost use Rattle.blk_sim.specs.Runs.{Steps};
 ghost use Rattle.blk_sim.specs.Simulated.{Placing, Stands, IsReady, stepped};
+
+use blk_sched::Scheduler;
 
 /// A bio is released by just those steps that have a flush of its submitter, and after it a drain of its hardware
 /// queue or a run.
@@ -23,16 +25,16 @@ pub fn one_more_step()
         → place_after hw s w (steps ++ l ∷ []) ≡ moved hw s (place_after hw s w steps) l }
 {}
 
-/// An accepted step leaves each bio where the step moves it, ends as many rounds as it says, and changes neither the setup
+/// Under each scheduler, an accepted step leaves each bio where the step moves it, ends as many rounds as it says, and changes neither the setup
 /// nor how many plugs and software queues there are.
-pub fn each_step_keeps()
-    ensures stands { (serves : ℕ → Waiting → Bool) → (old : SimState) → (l : Line) → (new : SimState) → (book : List Placing)
-        → 0 < old.core.setup.hw → length old.queues ≡ length old.plugs → LineFits old.core.setup.hw (length old.plugs) l → Steps serves old l new
+pub fn each_step_keeps<S: Scheduler>()
+    ensures stands { (old : SimState) → (l : Line) → (new : SimState) → (book : List Placing)
+        → 0 < old.core.setup.hw → length old.queues ≡ length old.plugs → LineFits old.core.setup.hw (length old.plugs) l → Steps (policy_of S.serves S.chooses S.told_done S.told_tick) old l new
         → Stands book old.plugs old.queues old.core.events → Stands (stepped old.core.setup.hw l book) new.plugs new.queues new.core.events }
-    ensures ready { (serves : ℕ → Waiting → Bool) → (n : ℕ) → (old : SimState) → (l : Line) → (new : SimState)
-        → Steps serves old l new → IsReady n old → IsReady (n + 1) new }
-    ensures rounds { (serves : ℕ → Waiting → Bool) → (old : SimState) → (l : Line) → (new : SimState)
-        → Steps serves old l new → round_of new.core.events ≡ round_of old.core.events + ticks_of l }
-    ensures setup { (serves : ℕ → Waiting → Bool) → (old : SimState) → (l : Line) → (new : SimState)
-        → Steps serves old l new → new.core.setup ≡ old.core.setup }
+    ensures ready { (n : ℕ) → (old : SimState) → (l : Line) → (new : SimState)
+        → Steps (policy_of S.serves S.chooses S.told_done S.told_tick) old l new → IsReady n old → IsReady (n + 1) new }
+    ensures rounds { (old : SimState) → (l : Line) → (new : SimState)
+        → Steps (policy_of S.serves S.chooses S.told_done S.told_tick) old l new → round_of new.core.events ≡ round_of old.core.events + ticks_of l }
+    ensures setup { (old : SimState) → (l : Line) → (new : SimState)
+        → Steps (policy_of S.serves S.chooses S.told_done S.told_tick) old l new → new.core.setup ≡ old.core.setup }
 {}

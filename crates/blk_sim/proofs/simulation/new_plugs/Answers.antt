@@ -1,4 +1,4 @@
-use Rattle.std.proofs.Common.{◌≡◌, ◌∙◌, ◌++◌, ◌∷◌, [], List, replicate, ap, sym}
+use Rattle.std.proofs.Common.{◌≡◌, ◌∙◌, ◌++◌, ◌∷◌, [], List, replicate, ap}
 use Rattle.std.proofs.lemmas.List.{replicate_more}
 use Rattle.blk_plug.specs.Plugs.{Plug}
 use Rattle.blk_sim.proofs.simulation.new_plugs.Goals as goal

@@ -1,4 +1,4 @@
-use Rattle.std.proofs.Common.{arith, ◌≡◌, ◌+◌, ◌≤◌, ◌∙◌, ◌++◌, ◌∷◌, [], length, refl, sym, ap, inl, append_assoc, length-append}
+use Rattle.std.proofs.Common.{arith, ◌≡◌, ◌+◌, ◌≤◌, ◌∙◌, ◌++◌, ◌∷◌, [], length, sym, ap, inl, append_assoc, length-append}
 use Rattle.blk_plug.specs.Plugs.{Plug}
 use Rattle.blk_soft.specs.Queues.{Queue}
 use Rattle.blk_sim.proofs.Chains.{plug_flushed, queue_with}
