@@ -1,0 +1,132 @@
+-- What the lines and the limits say is said of the scheduler.
+use Rattle.std.proofs.Common.{◌≡◌, ◌<◌, ◌&&◌, inl, inr, ℕ, Bool, true, false, ap, ◌∙◌, refl, arith, Some, None, Option, List}
+use Rattle.std.specs.Prelude.{◌⊎◌, nat_lt, if◌then◌else◌}
+use Rattle.std.proofs.lemmas.Bool.{ltb-false, eq-eqb}
+use Rattle.std.specs.FinMap as map
+use Rattle.blk_bio.specs.declared.bio.Dir.{Dir}
+use Rattle.blk_bio.specs.declared.bio.Dir.TheVariants.{Read, Write}
+use Rattle.blk_bio.specs.declared.request.Side.{Side}
+use Rattle.blk_bio.specs.declared.request.Side.TheVariants.{Back}
+use Rattle.blk_bio.specs.Bios.{Bio}
+use Rattle.blk_bio.specs.Limits.{Limits as RequestLimits}
+use Rattle.blk_bio.specs.Requests.{dir_of}
+use Rattle.blk_sched.specs.Meaning.{Waiting, Pending, Meaning, OpenPicks, HasCandidate, HasNoCandidate, ServesNothing, unfinished}
+use Rattle.blk_sched.specs.Fits.{IsNewestFit, FitsNone}
+use Rattle.blk_sched.specs.Maps.{first_found, none_found}
+use Rattle.blk_sched.specs.Index.{IsOldest, NoneOf}
+use Rattle.blk_kyber.specs.Limits.{Limits, Report, limit_of}
+use Rattle.blk_kyber.specs.Choice.{serves_own, is_same, other_of, oldest_of, in_flight, head_of, chosen}
+use Rattle.blk_kyber.specs.Kept.{Kept, choice_for, after_pick, told, numbers_of, Chooses, Told}
+use Rattle.blk_kyber.specs.Inside.Queues.{served_of}
+use Rattle.blk_kyber.proofs.Splits.{serves_it, served_there}
+
+-- ---- joins
+
+abbrev pub meaning_with : Pending → OpenPicks → ℕ → Meaning
+meaning_with pending picks round = record { pending = pending; open_picks = picks; front = true; round = round }
+
+module _ (m : Pending) (picks : OpenPicks) (round hw : ℕ) (limits : RequestLimits) (newcomer : List Bio) where
+  pub candidate_of : (id : ℕ) (side : Side) → IsNewestFit limits true (served_of hw m) newcomer id side → HasCandidate serves_own hw limits newcomer (meaning_with m picks round) id side
+  candidate_of id side best =
+      let f = serves_it hw (map.get m id) best.waiting best.is_found in (
+        best.waiting,
+        record {
+          pending = f.0;
+          served = eq-eqb best.waiting.hw hw f.1;
+          tried = best.fits.tried;
+          fits = best.fits.fits;
+          back_first = λ is_front back. let e : Back ≡ side = best.fits.only Back back in cc;
+          newest = λ other w s later there own tried fits. best.newest other w later (served_there hw (map.get m other) w there own) s tried fits;
+        },
+      )
+
+  pub no_candidate_of : FitsNone limits true (served_of hw m) newcomer → HasNoCandidate serves_own hw limits newcomer (meaning_with m picks round)
+  no_candidate_of none id w s there own tried fits = none id w (served_there hw (map.get m id) w there own) s tried fits
+
+-- ---- the head of a direction
+
+pub lt_holds : (a b : ℕ) → a < b → nat_lt a b ≡ true
+lt_holds a b h = elim (nat_lt a b) as (λ t. nat_lt a b ≡ t → t ≡ true) [
+  | true ↦ λ _. refl
+  | false ↦ λ e. let more = ltb-false a b e in absurd (omega arith)
+] refl
+
+same_is : (d e : Dir) → d ≡ e → is_same d e ≡ true
+same_is Read Read h = refl
+same_is Read Write h = cc
+same_is Write Read h = cc
+same_is Write Write h = refl
+
+is_same_dir : (d e : Dir) → is_same d e ≡ true → d ≡ e
+is_same_dir Read Read h = refl
+is_same_dir Read Write h = cc
+is_same_dir Write Read h = cc
+is_same_dir Write Write h = refl
+
+abbrev test_of : ℕ → Dir → Waiting → Bool
+test_of hw dir w = serves_own hw w && is_same (dir_of w.bios) dir
+
+-- one that passes the test is served, and of the direction
+fails : (hw : ℕ) (dir : Dir) (w : Waiting) → (serves_own hw w ≡ true → dir_of w.bios ≡ dir → ⊥) → test_of hw dir w ≡ false
+fails hw dir w none = elim (serves_own hw w) as (λ b. serves_own hw w ≡ b → (b && is_same (dir_of w.bios) dir) ≡ false) [
+  | true ↦ λ own. elim (is_same (dir_of w.bios) dir) as (λ b. is_same (dir_of w.bios) dir ≡ b → b ≡ false) [
+    | true ↦ λ e. absurd (none own (is_same_dir (dir_of w.bios) dir e))
+    | false ↦ λ _. refl
+  ] refl
+  | false ↦ λ _. refl
+] refl
+
+module _ (m : Pending) (hw : ℕ) (limits : Limits) (picks : OpenPicks) (dir : Dir) (low : in_flight dir picks < limit_of dir limits) where
+  room : (o : Option Waiting) → oldest_of hw dir (map.values m) ≡ o → head_of hw limits picks (map.values m) dir ≡ o
+  room o is = ap (λ b. if b then oldest_of hw dir (map.values m) else None) (lt_holds (in_flight dir picks) (limit_of dir limits) low) ∙ is
+
+  pub head_is : (id : ℕ) → IsOldest dir (served_of hw m) id → (w : Waiting) × (served_of hw m id ≡ Some w) × (head_of hw limits picks (map.values m) dir ≡ Some w)
+  head_is id best =
+      let w = best.waiting in
+      let f = serves_it hw (map.get m id) w best.is_found in (
+        w,
+        best.is_found,
+        room (Some w) (first_found (test_of hw dir) m id w f.0
+            (ap (λ b. b && is_same (dir_of w.bios) dir) (eq-eqb w.hw hw f.1) ∙ same_is (dir_of w.bios) dir best.same_dir)
+            (λ k v before there. fails hw dir v (λ own same. best.least k v before (served_there hw (map.get m k) v there own) same))),
+      )
+
+  pub no_head : NoneOf dir (served_of hw m) → head_of hw limits picks (map.values m) dir ≡ None
+  no_head none = room None (none_found (test_of hw dir) m (λ k v there. fails hw dir v (λ own same. none k v (served_there hw (map.get m k) v there own) same)))
+
+-- ---- nothing is picked
+
+abbrev pub IsIdle : Pending → ℕ → OpenPicks → Dir → Type 0
+IsIdle m hw picks dir = (0 < in_flight dir picks) ⊎ NoneOf dir (served_of hw m)
+
+flying : (picks : OpenPicks) (dir : Dir) → 0 < in_flight dir picks → 0 < unfinished picks
+flying picks Read h = omega (arith, h)
+flying picks Write h = omega (arith, h)
+
+both_idle : (m : Pending) (picks : OpenPicks) (round hw : ℕ) → IsIdle m hw picks Read → IsIdle m hw picks Write → (0 < unfinished picks) ⊎ ServesNothing serves_own hw (meaning_with m picks round)
+both_idle m picks round hw (inl h) writes = inl (flying picks Read h)
+both_idle m picks round hw (inr reads) (inl h) = inl (flying picks Write h)
+both_idle m picks round hw (inr reads) (inr writes) = inr (λ id w there.
+    elim (serves_own hw w) as (λ b. serves_own hw w ≡ b → b ≡ false) [
+      | true ↦ λ own.
+          let waits = served_there hw (map.get m id) w there own in
+          elim (dir_of w.bios) as (λ d. dir_of w.bios ≡ d → true ≡ false) [
+            | Read ↦ λ e. absurd (reads id w waits e)
+            | Write ↦ λ e. absurd (writes id w waits e)
+          ] refl
+      | false ↦ λ _. refl
+    ] refl)
+
+pub idle : (m : Pending) (picks : OpenPicks) (round hw : ℕ) (dir rest : Dir) → rest ≡ other_of dir → IsIdle m hw picks dir → IsIdle m hw picks rest → (0 < unfinished picks) ⊎ ServesNothing serves_own hw (meaning_with m picks round)
+idle m picks round hw Read Write e own other = both_idle m picks round hw own other
+idle m picks round hw Write Read e own other = both_idle m picks round hw other own
+idle m picks round hw Read Read e own other = absurd (cc)
+idle m picks round hw Write Write e own other = absurd (cc)
+
+-- ---- what is kept, as numbers
+
+pub chooses : (old new : Kept) (m : Meaning) (hw now : ℕ) (result : Option Waiting) → result ≡ chosen (choice_for hw old m) → new ≡ after_pick hw old (choice_for hw old m) → Chooses (numbers_of old) m hw now result (numbers_of new)
+chooses old new m hw now result choice after = (old, refl, choice, ap numbers_of after)
+
+pub tells : (old new : Kept) (report : Report) → new ≡ told report old → Told report (numbers_of old) (numbers_of new)
+tells old new report is = (old, refl, ap numbers_of is)

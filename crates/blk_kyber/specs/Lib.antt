@@ -1,0 +1,5 @@
+pub mod Limits
+pub mod Choice
+pub mod Kept
+pub mod Shown
+pub mod Inside

@@ -1,0 +1,283 @@
+//! The scheduler that limits how many requests of each direction are in flight, after Linux's kyber-iosched.
+#![tactic(auto)]
+
+ghost use Rattle.std.specs.Prelude.{◌≡◌, ◌≤◌, ◌<◌, ◌+◌, ◌↔◌, ◌⊎◌, ◌∷◌, ℕ, Bool, true, List, Option, None, Some, Err, IfOk, OnOk, IfErr, OnErr, IfSome, IfNone, IsSome, IsTrue, slice_index_or, is_some};
+ghost use Rattle.std.specs.FinMap as map;
+ghost use Rattle.blk_bio.specs.declared.bio.Dir.{Dir};
+ghost use Rattle.blk_bio.specs.Requests.{dir_of};
+ghost use Rattle.blk_sched.specs.Meaning.{Waiting, Meaning, HasCandidate, HasNoCandidate, Joins, ServesNothing, Picks, HandsBack, at_start, opened, open_of, handed_of, unfinished};
+ghost use Rattle.blk_sched.specs.Index.{NoneOf};
+ghost use Rattle.blk_kyber.specs.Limits.{Limits, Report, Done, Tick, limit_of, target_of, after_report, kyber_limits};
+ghost use Rattle.blk_kyber.specs.Choice.{serves_own, first_turn, in_flight, head_of, chosen};
+ghost use Rattle.blk_kyber.specs.Kept.{Kept, kept_at_first, choice_for, after_pick, told, numbers_of, Chooses, Told};
+ghost use Rattle.blk_kyber.specs.Shown.{meaning_of, kept_of};
+ghost use Rattle.blk_kyber.specs.Inside.Queues.{served_of};
+
+pub mod limits;
+pub mod lines;
+pub mod turn;
+
+use crate::limits::DomainLimits;
+use crate::lines::Lines;
+use crate::turn::{Turn, cap, other};
+use blk_bio::bio::Dir;
+use blk_bio::limits::Limits;
+use blk_bio::request::{Request, Side};
+use blk_sched::picks::{MAX_HANDED, MAX_OPEN, OpenPicks};
+use blk_sched::{MAX_QUEUES, Queued, SchedFault, Scheduler};
+use std::alloc::{AllocError, Allocator, Global};
+
+/// How many rounds a request may wait from its release to its issue, 1 at least.
+#[derive(Clone, Copy, Debug, PartialEq, Eq)]
+pub struct Targets {
+    /// A read.
+    pub read: u64,
+    /// A write.
+    pub write: u64,
+}
+
+impl Targets {
+    /// The target of a direction.
+    fn of(&self, dir: Dir) -> u64
+        ensures { result ≡ target_of dir self.now }
+    {
+        match dir {
+            Dir::Read => self.read,
+            Dir::Write => self.write,
+        }
+    }
+}
+
+/// Requests by turns of reads and writes at each hardware queue, while fewer are in flight than the limits.
+#[derive(Drop)]
+pub struct Kyber<A: Allocator = Global> {
+    lines: Lines<A>,
+    targets: Targets,
+    limits: DomainLimits,
+    turns: [Turn; 16],
+    open_picks: OpenPicks,
+    round: u64,
+}
+
+impl<A: Allocator + Clone> Kyber<A> {
+    /// A scheduler for the hardware queues 0 to 15, in which nothing waits and no pick is open, in round 0, with both limits
+    /// at the depth. Refused as `ZeroTarget` where a target is 0, and as `Memory` where memory runs out.
+    pub fn new(alloc: A, targets: Targets, depth: u64) -> Result<Kyber<A>, SchedFault>
+        requires least { 1 ≤ depth }
+        requires most { depth ≤ MAX_OPEN }
+        ensures zero { ((targets.read ≡ 0) ⊎ (targets.write ≡ 0)) ↔ (result ≡ Err SchedFault.ZeroTarget) }
+        ensures ok { IfOk result (λ s. meaning_of s ≡ at_start true) }
+        ensures kept { IfOk result (λ s. kept_of s ≡ kept_at_first targets depth) }
+        ensures memory { IfErr result (λ e. 0 < targets.read → 0 < targets.write → e ≡ SchedFault.Memory) }
+    {
+        if targets.read == 0 || targets.write == 0 {
+            return Err(SchedFault::ZeroTarget);
+        }
+        let Ok(lines) = Lines::new(alloc) else {
+            return Err(SchedFault::Memory);
+        };
+        Ok(Kyber {
+            lines,
+            targets,
+            limits: DomainLimits::new(depth),
+            turns: [Turn::first(); 16],
+            open_picks: OpenPicks::none(),
+            round: 0,
+        })
+    }
+
+    /// How many requests of a direction may be in flight, 1 to the depth.
+    pub fn limit(&self, dir: Dir) -> u64
+        ensures value { result ≡ limit_of dir (kept_of self.now).limits }
+        ensures least { 1 ≤ result }
+        ensures most { result ≤ (kept_of self.now).limits.depth }
+    {
+        self.limits.of(dir)
+    }
+
+    /// The oldest request of a direction at a hardware queue, while fewer are in flight than the limit.
+    fn head(&self, hw: u8, dir: Dir) -> Option<u64>
+        requires { hw < MAX_QUEUES }
+        ensures some { IfSome result (λ id. (w : Waiting) × (served_of hw self.now.lines id ≡ Some w) × (head_of hw self.now.limits self.now.open_picks (map.values self.now.lines) dir ≡ Some w)) }
+        ensures none { IfNone result (head_of hw self.now.limits self.now.open_picks (map.values self.now.lines) dir ≡ None) }
+        ensures idle { IfNone result ((0 < in_flight dir self.now.open_picks) ⊎ NoneOf dir (served_of hw self.now.lines)) }
+    {
+        let limit = self.limits.of(dir);
+        let open = self.open_picks.of(dir);
+        if open >= limit || self.open_picks.handed(dir) >= limit - open {
+            return None;
+        }
+        self.lines.oldest(hw, dir)
+    }
+
+    /// The choice, by its id, and the turn in which it goes.
+    fn choose(&self, hw: u8) -> Option<(u64, Turn)>
+        requires { hw < MAX_QUEUES }
+        ensures some { IfSome result (λ r. (w : Waiting) × (served_of hw self.now.lines r.0 ≡ Some w) × (choice_for hw (kept_of self.now) (meaning_of self.now) ≡ Some (w, r.1))) }
+        ensures none { IfNone result (choice_for hw (kept_of self.now) (meaning_of self.now) ≡ None) }
+        ensures idle { IfNone result ((0 < unfinished self.now.open_picks) ⊎ ServesNothing serves_own hw (meaning_of self.now)) }
+    {
+        let turn = self.turns[hw as usize];
+        let rest = other(turn.dir);
+        match (self.head(hw, turn.dir), self.head(hw, rest)) {
+            (None, None) => None,
+            (None, Some(id)) => Some((id, Turn::of(rest))),
+            (Some(id), None) => Some((id, turn.next())),
+            (Some(own), Some(id)) => {
+                if turn.taken < cap(turn.dir) {
+                    Some((own, turn.next()))
+                } else {
+                    Some((id, Turn::of(rest)))
+                }
+            }
+        }
+    }
+}
+
+impl<A: Allocator + Clone> Scheduler for Kyber<A> {
+    type A = A;
+
+    ghost meaning = { meaning_of };
+
+    ghost serves = { serves_own };
+
+    ghost kept = { λ s. numbers_of (kept_of s) };
+
+    ghost chooses = { Chooses };
+
+    ghost told_done = { λ _ dir wait old new. Told (Done dir wait) old new };
+
+    ghost told_tick = { λ now old new. Told (Tick now) old new };
+
+    fn enter(&mut self, slot: &mut Option<Queued<A>>) -> Result<(), AllocError> {
+        let Some(queued) = slot.take() else {
+            unreachable!()
+        };
+        match self.lines.insert(queued) {
+            Ok(()) => Ok(()),
+            Err(queued) => {
+                *slot = Some(queued);
+                Err(AllocError)
+            }
+        }
+    }
+
+    fn candidate(&self, hw: u8, limits: &Limits, newcomer: &Request<A>) -> Option<(u64, Side)> {
+        self.lines.candidate(hw, newcomer, limits)
+    }
+
+    fn join_at(
+        &mut self,
+        hw: u8,
+        id: u64,
+        side: Side,
+        now: u64,
+        limits: &Limits,
+        slot: &mut Option<Request<A>>,
+    ) -> Result<(), AllocError> {
+        let Some(newcomer) = slot.take() else {
+            unreachable!()
+        };
+        match self.lines.join_at(hw, id, side, now, limits, newcomer) {
+            Ok(()) => Ok(()),
+            Err(newcomer) => {
+                *slot = Some(newcomer);
+                Err(AllocError)
+            }
+        }
+    }
+
+    /// Hands out the request that the turn and the limits choose; then the turn is as they say.
+    fn pick(&mut self, hw: u8, now: u64) -> Option<Queued<A>>
+        requires hw { hw < MAX_QUEUES }
+        requires round { now ≡ (meaning_of self.old).round }
+        requires few { (meaning_of self.old).open_picks.reads + (meaning_of self.old).open_picks.writes < MAX_OPEN }
+        ensures choice { result ≡ chosen (choice_for hw (kept_of self.old) (meaning_of self.old)) }
+        ensures turn { kept_of self.new ≡ after_pick hw (kept_of self.old) (choice_for hw (kept_of self.old) (meaning_of self.old)) }
+        ensures chosen { Chooses (numbers_of (kept_of self.old)) (meaning_of self.old) hw now result (numbers_of (kept_of self.new)) }
+        ensures picked { IfSome result (λ w. Picks serves_own hw (meaning_of self.old) w (meaning_of self.new)) }
+        ensures none { IfNone result ((0 < unfinished (meaning_of self.old).open_picks) ⊎ ServesNothing serves_own hw (meaning_of self.old)) }
+        ensures same { IfNone result (meaning_of self.new ≡ meaning_of self.old) }
+        ensures kept { IfNone result (numbers_of (kept_of self.new) ≡ numbers_of (kept_of self.old)) }
+        ensures own { (w : Waiting) → IsTrue (serves_own w.hw w) }
+    {
+        let _ = now;
+        let Some((id, turn)) = self.choose(hw) else {
+            return None;
+        };
+        let Some(queued) = self.lines.remove(hw, id) else {
+            unreachable!()
+        };
+        self.open_picks.open(queued.request.dir());
+        self.turns[hw as usize] = turn;
+        Some(queued)
+    }
+
+    /// Closes a pick. A wait above the target of its direction is a miss.
+    fn on_done(&mut self, hw: u8, dir: Dir, wait: u64)
+        requires hw { hw < MAX_QUEUES }
+        requires is_open { 0 < open_of dir (meaning_of self.old).open_picks }
+        ensures limits { kept_of self.new ≡ told (Done dir wait) (kept_of self.old) }
+        ensures reported { (depth : ℕ) (earlier : List Report) → (kept_of self.old).limits ≡ kyber_limits (kept_of self.old).targets depth earlier → (kept_of self.new).limits ≡ kyber_limits (kept_of self.old).targets depth (Done dir wait ∷ earlier) }
+        ensures done { meaning_of self.old ≡ record (meaning_of self.new) { open_picks = opened dir (meaning_of self.new).open_picks } }
+        ensures told { Told (Done dir wait) (numbers_of (kept_of self.old)) (numbers_of (kept_of self.new)) }
+    {
+        let _ = hw;
+        self.open_picks.close(dir);
+        if wait > self.targets.of(dir) {
+            self.limits.miss(dir);
+        }
+    }
+
+    /// Hands a pick back, which stays in flight. It is no completion: what is kept stays.
+    fn on_back(&mut self, hw: u8, dir: Dir)
+        requires hw { hw < MAX_QUEUES }
+        requires is_open { 0 < open_of dir (meaning_of self.old).open_picks }
+        requires few { (meaning_of self.old).open_picks.handed_reads + (meaning_of self.old).open_picks.handed_writes < MAX_HANDED }
+        ensures stays { kept_of self.new ≡ kept_of self.old }
+        ensures back { HandsBack dir (meaning_of self.old) (meaning_of self.new) }
+        ensures kept { numbers_of (kept_of self.new) ≡ numbers_of (kept_of self.old) }
+    {
+        let _ = hw;
+        self.open_picks.hand_back(dir);
+    }
+
+    /// Opens a pick again that was handed back. What is kept stays.
+    fn on_again(&mut self, hw: u8, dir: Dir)
+        requires hw { hw < MAX_QUEUES }
+        requires is_handed { 0 < handed_of dir (meaning_of self.old).open_picks }
+        requires few { (meaning_of self.old).open_picks.reads + (meaning_of self.old).open_picks.writes < MAX_OPEN }
+        ensures stays { kept_of self.new ≡ kept_of self.old }
+        ensures again { HandsBack dir (meaning_of self.new) (meaning_of self.old) }
+        ensures kept { numbers_of (kept_of self.new) ≡ numbers_of (kept_of self.old) }
+    {
+        let _ = hw;
+        self.open_picks.open_again(dir);
+    }
+
+    /// Begins a round. In each eighth one the limits are set anew.
+    fn on_tick(&mut self, now: u64)
+        requires { (meaning_of self.old).round < now }
+        ensures limits { kept_of self.new ≡ told (Tick now) (kept_of self.old) }
+        ensures reported { (depth : ℕ) (earlier : List Report) → (kept_of self.old).limits ≡ kyber_limits (kept_of self.old).targets depth earlier → (kept_of self.new).limits ≡ kyber_limits (kept_of self.old).targets depth (Tick now ∷ earlier) }
+        ensures round { meaning_of self.new ≡ record (meaning_of self.old) { round = now } }
+        ensures told { Told (Tick now) (numbers_of (kept_of self.old)) (numbers_of (kept_of self.new)) }
+    {
+        self.round = now;
+        if now % 8 == 0 {
+            self.limits.set_anew();
+        }
+    }
+
+    fn pending(&self) -> u64 {
+        self.lines.len()
+    }
+
+    fn picked(&self, dir: Dir) -> u64 {
+        self.open_picks.of(dir)
+    }
+
+    fn handed(&self, dir: Dir) -> u64 {
+        self.open_picks.handed(dir)
+    }
+}
