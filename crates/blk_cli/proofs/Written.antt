@@ -25,7 +25,7 @@ use Rattle.blk_sim.specs.Refusals.{IsSimFault}
 use Rattle.blk_cli.specs.declared.words.Sched.{Sched}
 use Rattle.blk_cli.specs.declared.failure.Failure.{Failure}
 use Rattle.blk_cli.specs.declared.failure.Failure.TheVariants as failure
-use Rattle.blk_cli.specs.Outcome.{RunsUnder, serves_of, meaning_of, kept_of, IsProved, OracleWrote, SimWrote, CheckWrote, bound_line, verdict_of, IsTextFault, IsStepFault, IsSolveFault, IsCheckFault, IsRefusedBound, IsUnrun, IsUnsolved, IsUnproved, SimFails, OracleFails, CheckFails}
+use Rattle.blk_cli.specs.Outcome.{RunsUnder, policy_under, meaning_of, kept_of, IsProved, OracleWrote, SimWrote, CheckWrote, bound_line, verdict_of, IsTextFault, IsStepFault, IsSolveFault, IsCheckFault, IsRefusedBound, IsUnrun, IsUnsolved, IsUnproved, SimFails, OracleFails, CheckFails}
 
 -- a text's first fault, or one from outside
 pub text_fault : (wrong : List Row → ℕ → Why → Type 0) (input : Option (List Row)) (failed : Bool) (f : TextFault)
@@ -41,7 +41,7 @@ sim_wrote sched (Some rows) s t old new read ran setup spelled bios ticks wrote 
     record { script = s; trace = t; read = read; ran = ran; setup = setup; spelled = spelled; bios = bios; ticks = ticks; wrote = wrote }
 
 step_fault : (sched : Sched) (left : Option (List Row)) (s : Scripted) (f : SimFault) → IfSome left (λ rows. SpellsScript rows s)
-    → IsSimFault (serves_of sched) s (meaning_of sched) (kept_of sched) f → IsStepFault sched left f
+    → IsSimFault (policy_under sched) s (meaning_of sched) (kept_of sched) f → IsStepFault sched left f
 step_fault sched None s f read refused = tt
 step_fault sched (Some rows) s f read refused = (s, read, refused)
 

@@ -1,6 +1,5 @@
 -- What a job comes to: what it wrote, or why it failed.
 use Rattle.std.specs.Prelude.{◌≡◌, ◌↔◌, ◌⊎◌, ◌*◌, ◌++◌, ◌∷◌, ⊤, true, ℕ, ℤ, pos, ◌+ℤ◌, Bool, List, [], Option, None, Some, Result, Err, MatchResult, IfSome, IsPermutation, sum_by, codes, decimal}
-use Rattle.std.specs.FinMap as fin
 use Rattle.std.specs.Fmt.{signed_decimal}
 use Rattle.std.specs.Io.KnownBytes.{Appends}
 use Rattle.edd_check.specs.declared.Command.{Command}
@@ -14,8 +13,8 @@ use Rattle.edd_oracle.specs.declared.OracleFault.{OracleFault}
 use Rattle.edd_oracle.specs.Input.{IsRefusal}
 use Rattle.blk_trace.specs.Events.{entered, round_of}
 use Rattle.blk_trace.specs.Traces.{Traced}
-use Rattle.blk_sched.specs.Meaning.{Waiting, Meaning}
-use Rattle.blk_none.specs.Choice.{serves_own}
+use Rattle.blk_sched.specs.Meaning.{Meaning, at_start}
+use Rattle.blk_none.specs.Choice.{serves_own, none_chooses}
 use Rattle.blk_text.specs.declared.fault.Why.{Why}
 use Rattle.blk_text.specs.declared.fault.Why.TheVariants as why
 use Rattle.blk_text.specs.declared.fault.TextFault.{TextFault}
@@ -26,6 +25,7 @@ use Rattle.blk_text.specs.Script.{Scripted, SpellsScript, ScriptFault}
 use Rattle.blk_text.specs.TraceRecords.{trace_rows, SpellsTrace}
 use Rattle.blk_text.specs.Certificate.{Claim, claim_rows, SpellsClaim, ClaimFault}
 use Rattle.blk_sim.specs.declared.refusal.SimFault.{SimFault}
+use Rattle.blk_sim.specs.Policies.{Policy, policy_of}
 use Rattle.blk_sim.specs.Simulation.{released_bios, ticks_of}
 use Rattle.blk_sim.specs.State.{SimState, start_of}
 use Rattle.blk_sim.specs.Runs.{Runs}
@@ -37,19 +37,19 @@ use Rattle.blk_cli.specs.declared.words.Job.TheVariants as job
 use Rattle.blk_cli.specs.declared.failure.Failure.{Failure}
 use Rattle.blk_cli.specs.declared.failure.Failure.TheVariants as failure
 
--- which requests a scheduler serves, what it means before it has any, and what it keeps then
-abbrev pub serves_of : Sched → ℕ → Waiting → Bool
-serves_of sched.None = serves_own
+-- the policy of a scheduler, what it means before it has any request, and what it keeps then
+abbrev pub policy_under : Sched → Policy
+policy_under sched.None = policy_of serves_own none_chooses (λ _ _ _ old new. new ≡ old) (λ _ old new. new ≡ old)
 
 abbrev pub meaning_of : Sched → Meaning
-meaning_of sched.None = record { pending = fin.empty; open_picks = record { reads = 0; writes = 0 }; front = true; round = 0 }
+meaning_of sched.None = at_start true
 
 abbrev pub kept_of : Sched → List ℕ
 kept_of sched.None = []
 
 -- steps of a script that a scheduler accepts lead from the start to this trace
 abbrev pub RunsUnder : Sched → Scripted → Traced → Type 0
-RunsUnder s script trace = (end : SimState) × Runs (serves_of s) script.lines (start_of script (meaning_of s) (kept_of s)) end
+RunsUnder s script trace = (end : SimState) × Runs (policy_under s) script.lines (start_of script (meaning_of s) (kept_of s)) end
     × (trace.setup ≡ end.core.setup) × (trace.events ≡ end.core.events)
 
 -- what `sim` wrote: the text that spells a legal trace under the script's setup, to which its steps lead under the scheduler.
@@ -109,7 +109,7 @@ IsTextFault wrong input f = IfSome input (λ rows. (f.why ≡ why.Read) ⊎ ((f.
 -- a step of the script that was read is refused
 abbrev pub IsStepFault : Sched → Option (List Row) → SimFault → Type 0
 IsStepFault s input f = IfSome input (λ rows. (script : Scripted) × SpellsScript rows script
-    × IsSimFault (serves_of s) script (meaning_of s) (kept_of s) f)
+    × IsSimFault (policy_under s) script (meaning_of s) (kept_of s) f)
 
 -- the oracle refuses the commands that were read
 abbrev pub IsSolveFault : Option (List Row) → OracleFault → Type 0
@@ -128,7 +128,7 @@ IsCheckFault input f = IfSome input (λ rows. (claim : Claim) × SpellsClaim row
 -- memory
 abbrev pub IsUnrun : Sched → Scripted → Failure → Type 0
 IsUnrun s script (failure.Text f) = ⊥
-IsUnrun s script (failure.Step f) = IsSimFault (serves_of s) script (meaning_of s) (kept_of s) f
+IsUnrun s script (failure.Step f) = IsSimFault (policy_under s) script (meaning_of s) (kept_of s) f
 IsUnrun s script (failure.Solve f) = ⊥
 IsUnrun s script (failure.Check f) = ⊥
 IsUnrun s script (failure.Write f) = ⊥
