@@ -1,8 +1,10 @@
 -- The laws of certificates.
-use Rattle.std.proofs.Common.{◌≡◌, ◌+◌, ◌-◌, ◌<◌, ◌≤◌, ◌^◌, ◌∙◌, ℕ, suc, List, [], ◌∷◌, ◌++◌, length, map, Option, Some, None, refl, sym, ap, subst, inl, inr, arith, decimal, codes, append-nil}
-use Rattle.std.specs.Prelude.{All, IfSome, ℤ, pos, negsuc}
+use Rattle.std.proofs.Common.{◌≡◌, ◌+◌, ◌-◌, ◌<◌, ◌^◌, ◌∙◌, ℕ, ℤ, zero, suc, pos, negsuc, List, [], ◌∷◌, ◌++◌, length, map, append-nil, Option, Some, None, refl, sym, ap, subst, inl, inr, arith, codes, get_or, decimal}
+use Rattle.std.specs.Prelude.{IfSome, All, ◌⊎◌, Bool}
+use Rattle.std.specs.Fmt.{signed_decimal}
+use Rattle.std.proofs.lemmas.Slice.Zip.{get_or-zip}
 use Rattle.std.specs.List.{zip}
-use Rattle.std.proofs.lemmas.List.{length-map}
+use Rattle.std.proofs.lemmas.List.{length-map, length-append, map-append}
 use Rattle.std.proofs.lemmas.List.Elements.{All-map}
 use Rattle.csv.specs.Reading.{default_config, records, strip_bom}
 use Rattle.csv.specs.Writing.{read_back}
@@ -10,103 +12,187 @@ use Rattle.edd_check.specs.declared.Command.{Command}
 use Rattle.edd_check.specs.declared.Window.{Window}
 use Rattle.blk_text.specs.Sources.{Row}
 use Rattle.blk_text.specs.Texts.{rows_text}
-use Rattle.blk_text.specs.Fields.{Lacks}
+use Rattle.blk_text.specs.Fields.{Lacks, IsSized}
+use Rattle.blk_text.specs.Words.{StartsWith, HasNoWord, WordLacks}
 use Rattle.blk_text.specs.Commands.{IsCommandInRange}
-use Rattle.blk_text.specs.Reads.{Reads, Reaches, IsStopped, AreItems, items_of}
-use Rattle.blk_text.specs.Tables.{IsTable, IsVersion, IsUpTo, slots_by}
-use Rattle.blk_text.specs.Words.{StartsWith}
-use Rattle.blk_text.specs.Certificate.{Claim, claim_rows, counted_cells, IsCounted, title, title_row, bound_cells, no_bound_slots, bound, bound_row, served_cells, served, served_row, IsServed, IsLateness, IsBound, IsClaim, claim_body, claim_form, claim_value, SpellsClaim, BoundLacks, BoundWrong}
+use Rattle.blk_text.specs.Reads.{IsOutside, Reads, Halts, IsWrongLine, IsOne, items_of, with_next}
+use Rattle.blk_text.specs.Tables.{IsUpTo, IsVersion, FitsBy, row_by, slots_by, title_by}
+use Rattle.blk_text.specs.Certificate.{Claim, claim_rows, counted_cells, IsCounted, title, Bounded, NoBound, SomeBound, Bound, TellsBound, bound_kind, kind_of, bound_cells, no_bound_row, last_round, bound, bound_row, served_cells, served, IsServed, IsLateness, IsBound, IsClaim, claim_body, claim_form, claim_value, SpellsClaim, ClaimFault}
 use Rattle.blk_text.specs.declared.fault.Why.{Why}
 use Rattle.blk_text.specs.declared.fault.Why.TheVariants as why
-use Rattle.parts.specs.declared.Extent.TheVariants as extent
-use Rattle.parts.specs.Parts.{Begins, Spells}
-use Rattle.parts.specs.Laws.{Tells}
-use Rattle.parts.proofs.Then.{record_tells, then_tells}
-use Rattle.blk_text.proofs.Lists.{head_of, tail_of, all_cons}
-use Rattle.blk_text.proofs.Once.{lacks_once, no_word_once}
-use Rattle.blk_text.proofs.TableLaws.{table_tells, title_part}
-use Rattle.blk_text.proofs.Each.{rows_map, fit_all, all_fit, size_is, each_tells, each_reached, one_version, first_version}
-use Rattle.blk_text.proofs.Reading.{then_reads, first_reached, second_reached, end_reached}
-use Rattle.blk_text.proofs.Texts.{text_back}
+use Rattle.blk_text.specs.declared.fields.Slot.TheVariants as slot
+use Rattle.blk_text.proofs.Decimals.{no_minus}
+use Rattle.parts.specs.declared.Repeats.TheVariants as repeats
+use Rattle.parts.specs.Parts.{Begins, NextWrong, Spells, all_rows, by_word}
+use Rattle.parts.specs.Laws.{Tells, Either, Decides}
+use Rattle.parts.proofs.Then.{record_tells, record_decides, by_word_tells, by_word_decides, seen_tells, seen_decides, then_tells, then_decides}
+use Rattle.blk_text.proofs.Lists.{head_of, tail_of, all_cons, cons_same}
+use Rattle.blk_text.proofs.Lacking.{both, same_number, same_row, no_word_lacks, word_decided}
+use Rattle.blk_text.proofs.TableLaws.{IsTable, table_tells, table_decides, word_tells, word_decides, title_part, title_decides, next_starts, next_once}
+use Rattle.blk_text.proofs.Each.{size_is, rows_map, all_fit, each_tells, each_decides, one_record, one_version}
+use Rattle.blk_text.proofs.Reading.{then_reads, end_halts, first_halts, second_halts}
+use Rattle.blk_text.proofs.Texts.{text_back, parts_back, begins_itself}
 
 -- the tables
 
-counted_table : (version : ℕ) → IsTable (counted_cells version) IsCounted
-counted_table version = record { sized = (omega arith, (omega arith, tt)); within = λ t f. (f.0, f.1, (omega arith, f.2, tt)); tells = λ t u f g e. (λ i. (e.0 i, e.1.0 i)) }
+pub title_table : (version : ℕ) → IsTable (counted_cells version) IsCounted
+title_table version = record {
+  sized = (omega arith, (omega arith, tt));
+  within = λ t f. ((f.0, f.1), ((omega arith, f.2), tt));
+  made = λ x. (x.0, x.1.0);
+  back = λ t f. refl;
+  forth = λ x. refl;
+  fits = λ x f. (f.0.0, f.0.1, f.1.0.1);
+}
 
-served_table : IsTable served_cells IsServed
+pub served_fits : (s : Command × ℕ) → FitsBy served_cells s → IsServed s
+served_fits s f = let id = f.0.1 in let release = f.1.0.1 in let due = f.1.1.0.1 in let round = f.1.1.1.0.1 in ((omega (arith, id), omega (arith, release), omega (arith, due)), omega (arith, round))
+
+pub served_table : IsTable served_cells IsServed
 served_table = record {
   sized = (omega arith, (omega arith, (omega arith, (omega arith, tt))));
   within = λ s f. (let id = f.0.0 in let release = f.0.1 in let due = f.0.2 in let round = f.1 in
-      (omega arith, omega (arith, id), (omega arith, omega (arith, release), (omega arith, omega (arith, due), (omega arith, omega (arith, round), tt)))));
-  tells = λ s t f g e. (λ i. (record { id = e.0 i; release = e.1.0 i; due = e.1.1.0 i }, e.1.1.1.0 i));
+      ((omega arith, omega (arith, id)), ((omega arith, omega (arith, release)), ((omega arith, omega (arith, due)), ((omega arith, omega (arith, round)), tt)))));
+  made = λ x. (record { id = x.0; release = x.1.0; due = x.1.1.0 }, x.1.1.1.0);
+  back = λ s f. refl;
+  forth = λ x. refl;
+  fits = λ x f. served_fits _ f;
 }
 
--- the numbers of a bound
-abbrev IsWindow : ℤ × Window → Type 0
-IsWindow b = IsLateness b.0 × (b.1.from < 2 ^ 41) × (b.1.due < 2 ^ 41)
+last_small : (count : ℕ) → last_round count < 2 ^ 64
+last_small zero = omega arith
+last_small (suc n) = omega arith
+
+bound_table : (count : ℕ) → IsTable (bound_cells count) (FitsBy (bound_cells count))
+bound_table count = record {
+  sized = (omega arith, (last_small count, (last_small count, tt)));
+  within = λ b f. f;
+  made = λ x. (x.0, record { from = x.1.0; due = x.1.1.0 });
+  back = λ b f. refl;
+  forth = λ x. refl;
+  fits = λ x f. f;
+}
+
+pub title_one : IsOne title
+title_one = record { tells = title_part (codes "blk-certificate") 1 counted_cells IsCounted (omega arith) title_table; plain = λ v rest fit. tt; one = λ v. refl }
+
+pub served_one : IsOne served
+served_one = one_record (row_by served_cells) IsServed why.Count (Lacks (slots_by served_cells)) (table_tells served_cells IsServed served_table)
+
+-- the bound
+
+kind_table : (count : ℕ) (k : Bounded) → Tells (bound_kind count k)
+kind_table count NoBound = record_tells (λ _. no_bound_row) (λ _. count ≡ 0) why.Word (λ _ _. ⊥) (record { once = λ v u f g e. refl; apart = λ v w f bad. bad; first = λ row w x a b. absurd a })
+kind_table count SomeBound = record_tells (λ b. codes "bound" ∷ row_by (bound_cells count) b) (FitsBy (bound_cells count)) why.Word (WordLacks (codes "bound") (slots_by (bound_cells count)))
+    (word_tells (codes "bound") (bound_cells count) (FitsBy (bound_cells count)) (bound_table count))
+
+one_kind : (count : ℕ) (j k : Bounded) (rows : List Row) → TellsBound count j rows → TellsBound count k rows → j ≡ k
+one_kind count NoBound NoBound rows s t = refl
+one_kind count NoBound SomeBound rows s t = absurd (t.1 s)
+one_kind count SomeBound NoBound rows s t = absurd (s.1 t)
+one_kind count SomeBound SomeBound rows s t = refl
+
+-- beside no commands no window is in range
+no_window : (count : ℕ) (b : ℤ × Window) → count ≡ 0 → FitsBy (bound_cells count) b → ⊥
+no_window zero b e f = let low = f.1.0.0 in let high = f.1.0.1 in omega (arith, low, high)
+no_window (suc n) b e f = omega (arith, e)
+
+kind_starts : (count : ℕ) (k : Bounded) (rows : List Row) (v : Bound k) (a : List Row) → Begins (bound_kind count k) rows v a → TellsBound count k rows
+kind_starts count NoBound rows v a h = (h.fits, (a, h.made))
+kind_starts count SomeBound rows v a h = (next_starts (codes "bound") (row_by (bound_cells count) v) rows a h.made, λ n. no_window count v n.0 h.fits)
+
+kind_decided : (count : ℕ) (k : Bounded) (rows : List Row) → TellsBound count k rows → Either (bound_kind count k) rows
+kind_decided count NoBound rows s = inl (tt, s.1.0, record { fits = s.0; made = s.1.1; follows = tt })
+kind_decided count SomeBound rows s = record_decides (λ b. codes "bound" ∷ row_by (bound_cells count) b) (FitsBy (bound_cells count)) why.Word (WordLacks (codes "bound") (slots_by (bound_cells count)))
+    (word_decides (codes "bound") (bound_cells count) (FitsBy (bound_cells count)) (bound_table count)) rows
+
+-- a record that does not begin with its word is of no kind
+pub no_kind : (count : ℕ) (row : Row) (rows : List Row) → ¬ StartsWith (codes "bound") row → (k : Bounded) → ¬ TellsBound count k (row ∷ rows)
+no_kind count row rows n NoBound t = n (_, (cons_same _ _ _ _ t.1.1).0)
+no_kind count row rows n SomeBound t = n t.0
+
+no_kinds : (count : ℕ) (k : Bounded) → ¬ TellsBound count k []
+no_kinds count NoBound t = let e : [] ≡ no_bound_row ∷ t.1.0 = t.1.1 in cc e
+no_kinds count SomeBound t = t.0
+
+kind_found : (count : ℕ) (rows : List Row) → ((k : Bounded) × TellsBound count k rows) ⊎ (((k : Bounded) → ¬ TellsBound count k rows) × ((w : Why) × NextWrong why.Word (HasNoWord 4) rows w))
+kind_found count [] = inr (no_kinds count, (why.Word, refl))
+kind_found count (row ∷ rows) = elim (both (same_number count 0) (same_row row no_bound_row)) [
+  | inl d ↦ inl (NoBound, (d.0, (rows, ap (λ (r : Row). r ∷ rows) d.1)))
+  | inr n ↦ elim (word_decided (codes "bound") row) [
+    | inl s ↦ inl (SomeBound, (s, λ t. n (t.0, (cons_same _ _ _ _ t.1.1).0)))
+    | inr m ↦ inr (no_kind count row rows m, no_word_lacks 4 row)
+  ]
+]
+
+-- the bound of a kind
+bound_of : (k : Bounded) → Bound k → Option (ℤ × Window)
+bound_of NoBound b = None
+bound_of SomeBound b = Some b
+
+kind_back : (b : Option (ℤ × Window)) → bound_of (kind_of b).0 (kind_of b).1 ≡ b
+unfolding bound_of
+kind_back None = refl
+kind_back (Some b) = refl
+
+bound_back : (k : Bounded) (b : Bound k) → kind_of (bound_of k b) ≡ (k, b)
+unfolding bound_of
+bound_back NoBound b = refl
+bound_back SomeBound b = refl
+
+pub bound_one : (count : ℕ) → IsOne (bound count)
+bound_one count = record {
+  tells = seen_tells kind_of (by_word Bound (TellsBound count) (bound_kind count) (NextWrong why.Word (HasNoWord 4))) (λ b c e. sym (kind_back b) ∙ ap (λ (k : (k : Bounded) × Bound k). bound_of k.0 k.1) e ∙ kind_back c)
+      (by_word_tells Bound (TellsBound count) (bound_kind count) (NextWrong why.Word (HasNoWord 4)) (kind_table count) (one_kind count) (kind_starts count) (next_once why.Word 4));
+  plain = plain;
+  one = one;
+}
+  where
+    plain : (b : Option (ℤ × Window)) (rest : List Row) → (bound count).Fits b → (bound count).Follows b rest
+    plain None rest f = tt
+    plain (Some b) rest f = tt
+
+    one : (b : Option (ℤ × Window)) → length ((bound count).rows_of b) ≡ 1
+    one None = refl
+    one (Some b) = refl
+
+bound_decides : (count : ℕ) → Decides (bound count)
+bound_decides count = seen_decides kind_of (by_word Bound (TellsBound count) (bound_kind count) (NextWrong why.Word (HasNoWord 4))) (λ v f. (bound_of v.0 v.1, bound_back v.0 v.1))
+    (by_word_decides Bound (TellsBound count) (bound_kind count) (NextWrong why.Word (HasNoWord 4)) (kind_decided count) (kind_found count))
 
 late_in : (z : ℤ) → IsLateness z → IsUpTo (2 ^ 41 - 1) z
 late_in (pos n) h = omega (arith, h)
 late_in (negsuc n) h = omega (arith, h)
 
-bound_table : IsTable bound_cells IsWindow
-bound_table = record {
-  sized = (omega arith, (omega arith, (omega arith, tt)));
-  within = λ b f. (let from = f.1 in let due = f.2 in (late_in b.0 f.0, (omega arith, omega (arith, from), (omega arith, omega (arith, due), tt))));
-  tells = λ b c f g e. (λ i. (e.0 i, record { from = e.1.0 i; due = e.1.1.0 i }));
-}
+late_out : (z : ℤ) → IsUpTo (2 ^ 41 - 1) z → IsLateness z
+late_out (pos n) h = omega (arith, h)
+late_out (negsuc n) h = omega (arith, h)
 
-title_tells : Tells title
-title_tells = title_part (codes "blk-certificate") 1 counted_cells IsCounted (omega arith) counted_table
+bound_fits : (count : ℕ) (b : Option (ℤ × Window)) → IsBound count b → (bound count).Fits b
+bound_fits count None i = i
+bound_fits zero (Some b) i = absurd (let some = i.0 in omega (arith, some))
+bound_fits (suc n) (Some b) i = let from = i.2 in let due = i.3 in (late_in b.0 i.1, ((omega arith, omega (arith, from)), ((omega arith, omega (arith, due)), tt)))
 
--- the bound
+bound_in : (count : ℕ) (b : Option (ℤ × Window)) → (bound count).Fits b → IsBound count b
+bound_in count None f = f
+bound_in zero (Some b) f = absurd (no_window zero b refl f)
+bound_in (suc n) (Some b) f = let from = f.1.0.1 in let due = f.1.1.0.1 in (omega arith, late_out b.0 f.0, omega (arith, from), omega (arith, due))
 
-bound_same : (count : ℕ) (a b : Option (ℤ × Window)) → IsBound count a → IsBound count b → bound_row a ≡ bound_row b → a ≡ b
-bound_same count None None p q e = refl
-bound_same count None (Some b) p q e = absurd (omega (arith, p, q.0))
-bound_same count (Some a) None p q e = absurd (omega (arith, p.0, q))
-bound_same count (Some a) (Some b) p q e = ap Some ((table_tells bound_cells IsWindow bound_table).once a b (p.1, p.2, p.3) (q.1, q.2, q.3) e)
+-- whole certificates
 
-bound_starts : (b : Option (ℤ × Window)) → StartsWith (codes "bound") (bound_row b)
-bound_starts None = (_, refl)
-bound_starts (Some b) = (_, refl)
+items_tell : (count : ℕ) → Tells (items_of (repeats.Exactly count) (λ _. served))
+items_tell count = each_tells served served_one (repeats.Exactly count)
 
-bound_lacks : (count : ℕ) (b : Option (ℤ × Window)) (w : Why) → IsBound count b → BoundLacks count (bound_row b) w → ⊥
-bound_lacks count None w i (inl x) = omega (arith, i, x.0)
-bound_lacks count None w i (inr y) = y.1 refl
-bound_lacks count (Some b) w i (inl x) = (table_tells bound_cells IsWindow bound_table).apart b w (i.1, i.2, i.3) x.1
-bound_lacks count (Some b) w i (inr y) = omega (arith, i.0, y.0)
-
-bound_apart : (count : ℕ) (b : Option (ℤ × Window)) (w : Why) → IsBound count b → BoundWrong count (bound_row b) w → ⊥
-bound_apart count b w i (inl x) = bound_lacks count b w i x.1
-bound_apart count b w i (inr y) = y.0 (bound_starts b)
-
-bound_lacks_once : (count : ℕ) (row : Row) (w v : Why) → BoundLacks count row w → BoundLacks count row v → w ≡ v
-bound_lacks_once count row w v (inl a) (inl b) = lacks_once (slots_by bound_cells) row w v a.1 b.1
-bound_lacks_once count row w v (inl a) (inr b) = absurd (omega (arith, a.0, b.0))
-bound_lacks_once count row w v (inr a) (inl b) = absurd (omega (arith, a.0, b.0))
-bound_lacks_once count row w v (inr a) (inr b) = lacks_once no_bound_slots row w v a.2 b.2
-
-bound_once : (count : ℕ) (row : Row) (w v : Why) → BoundWrong count row w → BoundWrong count row v → w ≡ v
-bound_once count row w v (inl a) (inl b) = bound_lacks_once count row w v a.1 b.1
-bound_once count row w v (inl a) (inr b) = absurd (b.0 a.0)
-bound_once count row w v (inr a) (inl b) = absurd (a.0 b.0)
-bound_once count row w v (inr a) (inr b) = no_word_once 4 row w v a.1 b.1
-
-bound_tells : (count : ℕ) → Tells (bound count)
-bound_tells count = record_tells bound_row (IsBound count) why.Word (BoundWrong count) (record { once = bound_same count; apart = bound_apart count; first = bound_once count })
-
--- the commands with their rounds
-
-items_tell : (count : ℕ) → Tells (items_of (extent.Exactly count) served)
-items_tell count = each_tells served_row IsServed why.Count (Lacks (slots_by served_cells)) (extent.Exactly count) (table_tells served_cells IsServed served_table)
-
-body_tells : (count : ℕ) → Tells (claim_body count)
-body_tells count = then_tells (bound count) (λ b. items_of (extent.Exactly count) served) (bound_tells count) (λ b fit. items_tell count)
+pub body_tells : (count : ℕ) → Tells (claim_body count)
+body_tells count = then_tells (bound count) (λ b. items_of (repeats.Exactly count) (λ _. served)) (bound_one count).tells (λ b fit. items_tell count)
 
 pub claim_tells : Tells claim_form
-claim_tells = then_tells title (λ t. claim_body t.1.1) title_tells (λ t fit. body_tells t.1.1)
+claim_tells = then_tells title (λ t. claim_body t.1.1) title_one.tells (λ t fit. body_tells t.1.1)
+
+claim_decides : Decides claim_form
+claim_decides = then_decides title (λ t. claim_body t.1.1) (title_decides (codes "blk-certificate") 1 counted_cells IsCounted (omega arith) title_table)
+    (λ t fit. then_decides (bound t.1.1) (λ b. items_of (repeats.Exactly t.1.1) (λ _. served)) (bound_decides t.1.1)
+    (λ b fit. each_decides served (record_decides (row_by served_cells) IsServed why.Count (Lacks (slots_by served_cells)) (table_decides served_cells IsServed served_table)) (repeats.Exactly t.1.1)))
 
 all_zip : (cs : List Command) (rs : List ℕ) → All IsCommandInRange cs → All (λ x. x < 2 ^ 41) rs → All IsServed (zip cs rs)
 all_zip [] rs p q = λ k d l. absurd (omega arith)
@@ -146,34 +232,36 @@ length_zip (c ∷ cs) (r ∷ rs) e = ap suc (length_zip cs rs (omega (arith, e))
 pub rows_spell : (c : Claim) → IsClaim c → SpellsClaim (claim_rows c) c
 rows_spell c h = (
   h.one_each,
-  record {
-    fits = (
-      ((omega arith, omega arith), (h.depth.0, h.depth.1, h.few)),
-      (
-        h.bound,
-        (
-          (all_fit served_row IsServed why.Count (Lacks (slots_by served_cells)) [] (zip c.commands c.rounds) (all_zip c.commands c.rounds h.commands h.rounds), length_zip c.commands c.rounds h.one_each),
-          tt,
-        ),
-      ),
-    );
-    made = ap (λ t. title_row c.depth (length c.commands) ∷ bound_row c.bound ∷ t) (sym (append-nil _ ∙ append-nil _ ∙ rows_map served_row IsServed why.Count (Lacks (slots_by served_cells)) [] (zip c.commands c.rounds)))
-        ∙ ap (λ one. (codes "blk-certificate" ∷ one ∷ decimal c.depth ∷ decimal (length c.commands) ∷ []) ∷ bound_row c.bound ∷ ((items_of (extent.Exactly (length c.commands)) served).rows_of (zip c.commands c.rounds) ++ [])) (sym first_version);
-    follows = (tt, (tt, (length_zip c.commands c.rounds h.one_each, refl)));
-  },
+  begins_itself claim_form (claim_value c) (
+    ((omega arith, omega arith), (h.depth.0, h.depth.1, h.few)),
+    (
+      bound_fits (length c.commands) c.bound h.bound,
+      ((all_fit served [] (zip c.commands c.rounds) (all_zip c.commands c.rounds h.commands h.rounds), length_zip c.commands c.rounds h.one_each), tt),
+    ),
+  )
+      (tt, ((bound_one (length c.commands)).plain c.bound _ (bound_fits (length c.commands) c.bound h.bound), (length_zip c.commands c.rounds h.one_each, refl))),
 )
 
-same_back : (served : List (Command × ℕ)) → map read_back (map served_row served) ≡ map served_row served
-same_back [] = refl
-same_back (s ∷ ss) = ap (λ (t : List Row). served_row s ∷ t) (same_back ss)
+-- the records of a certificate, one by one
+bound_rows : (count : ℕ) (b : Option (ℤ × Window)) → (bound count).rows_of b ≡ bound_row b ∷ []
+bound_rows count None = refl
+bound_rows count (Some b) = refl
 
-bound_back : (b : Option (ℤ × Window)) → read_back (bound_row b) ≡ bound_row b
-bound_back None = refl
-bound_back (Some b) = refl
+pub rows_are : (c : Claim) → claim_rows c ≡ (title_by (codes "blk-certificate") counted_cells (1, (c.depth, length c.commands)) ∷ bound_row c.bound ∷ []) ++ map (row_by served_cells) (zip c.commands c.rounds)
+rows_are c = rw (bound_rows (length c.commands) c.bound, append-nil (all_rows (λ _. served) with_next [] (zip c.commands c.rounds)), rows_map served (row_by served_cells) (λ v. refl) [] (zip c.commands c.rounds)) refl
+
+bound_back_is : (count : ℕ) (b : Option (ℤ × Window)) → map read_back ((bound count).rows_of b) ≡ (bound count).rows_of b
+bound_back_is count None = refl
+bound_back_is count (Some b) = refl
 
 pub read_back_is : (c : Claim) → IsClaim c → SpellsClaim (records default_config (strip_bom (rows_text (claim_rows c)))) c
 unfolding rows_text
-read_back_is c h = rw (text_back (claim_rows c) _ refl (rw (bound_back c.bound, same_back (zip c.commands c.rounds)) refl)) (rows_spell c h)
+read_back_is c h =
+    let body = (bound (length c.commands)).rows_of c.bound in
+    let lines = (items_of (repeats.Exactly (length c.commands)) (λ _. served)).rows_of (zip c.commands c.rounds) in
+    let same : map read_back (body ++ lines) ≡ body ++ lines = rw (map-append read_back body lines, bound_back_is (length c.commands) c.bound, parts_back served (λ s. refl) (zip c.commands c.rounds)) refl in
+    let back : map read_back (claim_rows c) ≡ claim_rows c = ap (λ (t : List Row). title_by (codes "blk-certificate") counted_cells (1, (c.depth, length c.commands)) ∷ t) same in
+    rw (text_back (claim_rows c) _ refl back) (rows_spell c h)
 
 -- reading
 
@@ -193,50 +281,89 @@ zipped : (served : List (Command × ℕ)) → zip (firsts served) (seconds serve
 zipped [] = refl
 zipped (s ∷ ss) = ap (λ (k : List (Command × ℕ)). s ∷ k) (zipped ss)
 
--- what was read, as commands and rounds
-pub claim_in : (version depth count : ℕ) (bound : Option (ℤ × Window)) (served_lines : List (Command × ℕ)) (cs : List Command) (rs : List ℕ)
-    → IsVersion 1 version × IsCounted (depth, count) → IsBound count bound → AreItems (extent.Exactly count) served served_lines
-    → cs ≡ map (λ s. s.0) served_lines → rs ≡ map (λ s. s.1) served_lines → IsClaim record { depth = depth; commands = cs; rounds = rs; bound = bound }
-claim_in version depth count bound lines cs rs r b a p q =
-    let c : length (firsts lines) ≡ length lines = length-map lines (λ s. s.0) in
-    let d : length (seconds lines) ≡ length lines = length-map lines (λ s. s.1) in
-    let same : count ≡ length (firsts lines) = omega (arith, c, a.1) in
-    let fit = fit_all served_row IsServed why.Count (Lacks (slots_by served_cells)) [] lines a.0 in
-    rw (p, q) (record { depth = (r.1.0, r.1.1); few = omega (arith, r.1.2, same); one_each = d ∙ sym c; bound = rw same at b; commands = all_first lines fit; rounds = all_second lines fit })
-
-pub claim_read : (left mid after : Option (List Row)) (version depth count : ℕ) (b : Option (ℤ × Window)) (lines : List (Command × ℕ)) (cs : List Command) (rs : List ℕ)
-    → Reads title left mid (version, (depth, count)) → Reads (bound count) mid after b → IfSome after (λ rows. Begins (items_of (extent.Exactly count) served) rows lines [])
-    → IsVersion 1 version → length lines ≡ count → cs ≡ map (λ s. s.0) lines → rs ≡ map (λ s. s.1) lines
-    → IfSome left (λ rows. SpellsClaim rows record { depth = depth; commands = cs; rounds = rs; bound = b })
-claim_read None mid after version depth count b lines cs rs t u a v n p q = tt
-claim_read (Some rows) mid after version depth count b lines cs rs t u a v n p q =
+-- records that were taken for a title, a bound and commands spell them
+pub claim_spelled : (rows : List Row) (version depth count : ℕ) (b : Option (ℤ × Window)) (lines : List (Command × ℕ)) (cs : List Command) (rs : List ℕ) → IsVersion 1 version → length lines ≡ count
+    → cs ≡ map (λ s. s.0) lines → rs ≡ map (λ s. s.1) lines → Spells claim_form rows ((version, (depth, count)), (b, lines)) → SpellsClaim rows record { depth = depth; commands = cs; rounds = rs; bound = b }
+claim_spelled rows version depth count b lines cs rs v n p q h =
     let c : length (firsts lines) ≡ length lines = length-map lines (λ s. s.0) in
     let d : length (seconds lines) ≡ length lines = length-map lines (λ s. s.1) in
     let one = one_version version v in
     let number : count ≡ length (firsts lines) = omega (arith, c, n) in
-    let whole : Spells claim_form rows ((version, (depth, count)), (b, lines)) = then_reads title (λ t. claim_body t.1.1) (Some rows) mid (version, (depth, count)) (b, lines) t
-    (then_reads (bound count) (λ b. items_of (extent.Exactly count) served) mid after b lines u a) in
-    rw (p, q) (d ∙ sym c, subst (λ v. Spells claim_form rows v) (λ i. ((one i, (depth, number i)), (b, sym (zipped lines) i))) whole)
+    rw (p, q) (d ∙ sym c, subst (λ v. Spells claim_form rows v) (λ i. ((one i, (depth, number i)), (b, sym (zipped lines) i))) h)
 
--- the records of a certificate after its title begin with the second
-pub bound_reached : (left mid : Option (List Row)) (t : ℕ × (ℕ × ℕ)) (middle at : ℕ) → middle ≡ 1 → at ≡ 2 → Reads title left mid t → Reaches claim_form left 0 at
-bound_reached left mid t middle at e is h =
-    second_reached title (λ t. claim_body t.1.1) left mid t 0 middle at title_tells h (omega (arith, e))
-    (first_reached (bound t.1.1) (λ b. items_of (extent.Exactly t.1.1) served) mid middle at (bound_tells t.1.1) (λ b fit. items_tell t.1.1) (omega (arith, e, is)))
+pub spelled_or_wrong : (rows : List Row) → ((c : Claim) × SpellsClaim rows c) ⊎ ((at : ℕ) × (w : Why) × ClaimFault rows at w)
+spelled_or_wrong rows = elim (claim_decides rows) [
+  | inl h ↦ (let f = h.2.fits in let t = h.0.0 in let lines = h.0.1.1 in
+      inl (
+        record { depth = t.1.0; commands = firsts lines; rounds = seconds lines; bound = h.0.1.0 },
+        claim_spelled rows t.0 t.1.0 t.1.1 h.0.1.0 lines (firsts lines) (seconds lines) f.0.0 f.1.1.0.1 refl refl (rw h.2.follows.1.1.1 at h.2),
+      ))
+  | inr f ↦ inr f
+]
 
-pub line_reached : (left mid after : Option (List Row)) (t : ℕ × (ℕ × ℕ)) (b : Option (ℤ × Window)) (middle start at last : ℕ) → middle ≡ 1 → start ≡ 2 → Reads title left mid t → Reads (bound t.1.1) mid after b
-    → IsStopped (extent.Exactly t.1.1) served after start 0 at last → Reaches claim_form left 0 at
-line_reached left mid after t b middle start at last e f h k s =
-    second_reached title (λ t. claim_body t.1.1) left mid t 0 middle at title_tells h (omega (arith, e))
-    (second_reached (bound t.1.1) (λ b. items_of (extent.Exactly t.1.1) served) mid after b middle start at (bound_tells t.1.1) k (omega (arith, e, f))
-    (each_reached served_row IsServed why.Count (Lacks (slots_by served_cells)) (extent.Exactly t.1.1) after start at last (table_tells served_cells IsServed served_table) s))
+-- what was read, as commands and rounds
+pub claim_in : (version depth count : ℕ) (b : Option (ℤ × Window)) (lines : List (Command × ℕ)) (cs : List Command) (rs : List ℕ)
+    → IsVersion 1 version × IsCounted (depth, count) → (bound count).Fits b → All IsServed lines → length lines ≡ count
+    → cs ≡ map (λ s. s.0) lines → rs ≡ map (λ s. s.1) lines → IsClaim record { depth = depth; commands = cs; rounds = rs; bound = b }
+claim_in version depth count b lines cs rs r f fit n p q =
+    let c : length (firsts lines) ≡ length lines = length-map lines (λ s. s.0) in
+    let d : length (seconds lines) ≡ length lines = length-map lines (λ s. s.1) in
+    let same : count ≡ length (firsts lines) = omega (arith, c, n) in
+    rw (p, q) (record { depth = (r.1.0, r.1.1); few = omega (arith, r.1.2, same); one_each = d ∙ sym c; bound = rw same at (bound_in count b f); commands = all_first lines fit; rounds = all_second lines fit })
 
--- and after it is read
-pub whole_reached : (left mid after : Option (List Row)) (t : ℕ × (ℕ × ℕ)) (b : Option (ℤ × Window)) (lines : List (Command × ℕ)) (at : ℕ) → Reads title left mid t → Reads (bound t.1.1) mid after b
-    → IfSome after (λ rows. Begins (items_of (extent.Exactly t.1.1) served) rows lines []) → at ≡ length lines + 3 → Reaches claim_form left 0 at
-whole_reached left mid after t b lines at h k a e =
-    end_reached claim_form left (t, (b, lines)) at claim_tells
-    (then_reads title (λ t. claim_body t.1.1) left mid t (b, lines) h (then_reads (bound t.1.1) (λ b. items_of (extent.Exactly t.1.1) served) mid after b lines k a)) (e ∙ sym (whole_long lines))
+pub claim_read : (left mid after : Option (List Row)) (version depth count : ℕ) (b : Option (ℤ × Window)) (lines : List (Command × ℕ)) (cs : List Command) (rs : List ℕ)
+    → Reads title left mid (version, (depth, count)) → Reads (bound count) mid after b → IfSome after (λ rows. Begins (items_of (repeats.Exactly count) (λ _. served)) rows lines [])
+    → IsVersion 1 version → length lines ≡ count → cs ≡ map (λ s. s.0) lines → rs ≡ map (λ s. s.1) lines
+    → IfSome left (λ rows. SpellsClaim rows record { depth = depth; commands = cs; rounds = rs; bound = b })
+claim_read None mid after version depth count b lines cs rs t u a v n p q = tt
+claim_read (Some rows) mid after version depth count b lines cs rs t u a v n p q =
+    claim_spelled rows version depth count b lines cs rs v n p q (then_reads title (λ t. claim_body t.1.1) (Some rows) mid (version, (depth, count)) (b, lines) t
+    (then_reads (bound count) (λ b. items_of (repeats.Exactly count) (λ _. served)) mid after b lines u a))
+
+-- the records of a certificate come after two
+pub whole_halts : (failed : Bool) (left mid after : Option (List Row)) (t : ℕ × (ℕ × ℕ)) (b : Option (ℤ × Window)) (lines : List (Command × ℕ)) (at : ℕ) (w : Why) → Reads title left mid t → Reads (bound t.1.1) mid after b
+    → IfSome after (λ rows. Begins (items_of (repeats.Exactly t.1.1) (λ _. served)) rows lines []) → at ≡ length lines + 3 → IsOutside failed w → Halts failed claim_form left 0 at w
+whole_halts failed left mid after t b lines at w h k a e o =
+    end_halts failed claim_form left (t, (b, lines)) at w claim_tells
+    (then_reads title (λ t. claim_body t.1.1) left mid t (b, lines) h (then_reads (bound t.1.1) (λ b. items_of (repeats.Exactly t.1.1) (λ _. served)) mid after b lines k a)) (e ∙ sym (long lines)) o
   where
-    whole_long : (ls : List (Command × ℕ)) → length (claim_form.rows_of (t, (b, ls))) + 1 ≡ length ls + 3
-    whole_long ls = let all : length ((items_of (extent.Exactly t.1.1) served).rows_of ls) ≡ length ls = ap length (append-nil _) ∙ size_is served_row IsServed why.Count (Lacks (slots_by served_cells)) ls in omega (arith, all)
+    long : (ls : List (Command × ℕ)) → length (claim_form.rows_of (t, (b, ls))) + 1 ≡ length ls + 3
+    long ls =
+        let all : length ((items_of (repeats.Exactly t.1.1) (λ _. served)).rows_of ls) ≡ length ls = ap length (append-nil _) ∙ size_is served served_one ls in
+        let two = length-append ((bound t.1.1).rows_of b) ((items_of (repeats.Exactly t.1.1) (λ _. served)).rows_of ls) in
+        omega (arith, all, two, (bound_one t.1.1).one b)
+
+-- a size after a minus is that of a number below 0
+pub negative_text : (f ds : List ℕ) (n : ℕ) (z : ℤ) → f ≡ 45 ∷ ds → IsSized f n → n < 2 ^ 41 → (0 < n → z ≡ negsuc (n - 1)) → f ≡ signed_decimal z
+negative_text f ds n z e (inl a) h k = absurd (no_minus n (omega (arith, h)) ds (sym e ∙ a))
+negative_text f ds n z e (inr b) h k =
+    let up : n ≡ suc (n - 1) = omega (arith, b.0) in
+    rw (k b.0) (b.1 ∙ ap (λ (m : ℕ). 45 ∷ decimal m) up)
+
+-- a command and its round, of two lists
+pub paired : (cs : List Command) (rs : List ℕ) (i : ℕ) (d : Command) → length rs ≡ length cs → i < length cs → get_or (zip cs rs) i (d, 0) ≡ (get_or cs i d, get_or rs i 0)
+paired cs rs i d e l = get_or-zip cs rs i (d, 0) l (omega (arith, e, l))
+
+-- a record of a bound
+
+pub bound_lacks : (count : ℕ) (row : Row) (w : Why) → StartsWith (codes "bound") row → ¬ ((count ≡ 0) × (row ≡ no_bound_row)) → Lacks (slot.Given ∷ slots_by (bound_cells count)) row w → IsWrongLine (bound count) row w
+bound_lacks count row w t n l = λ rest. inl (SomeBound, (t, λ s. n (s.0, (cons_same _ _ _ _ s.1.1).0)), (refl, inl (t, l)))
+
+pub bound_gone : (count : ℕ) → (bound count).Wrong [] 1 why.Word
+bound_gone count = inr (refl, no_kinds count, refl)
+
+-- where reading halts
+
+pub title_halts : (failed : Bool) (left : Option (List Row)) (start at : ℕ) (w : Why) → start ≡ 0 → Halts failed title left start at w → Halts failed claim_form left 0 at w
+title_halts failed left start at w e h = first_halts failed title (λ t. claim_body t.1.1) left 0 at w (λ t fit. body_tells t.1.1) (rw e at h)
+
+pub bound_halts : (failed : Bool) (left mid : Option (List Row)) (t : ℕ × (ℕ × ℕ)) (middle at : ℕ) (w : Why) → middle ≡ 1 → Reads title left mid t → Halts failed (bound t.1.1) mid middle at w → Halts failed claim_form left 0 at w
+bound_halts failed left mid t middle at w e r h =
+    second_halts failed title (λ t. claim_body t.1.1) left mid t 0 middle at w title_one.tells r (omega (arith, e))
+    (first_halts failed (bound t.1.1) (λ b. items_of (repeats.Exactly t.1.1) (λ _. served)) mid middle at w (λ b fit. items_tell t.1.1) h)
+
+pub served_halts : (failed : Bool) (left mid after : Option (List Row)) (t : ℕ × (ℕ × ℕ)) (b : Option (ℤ × Window)) (middle start at : ℕ) (w : Why) → middle ≡ 1 → start ≡ 2 → Reads title left mid t → Reads (bound t.1.1) mid after b
+    → Halts failed (items_of (repeats.Exactly t.1.1) (λ _. served)) after start at w → Halts failed claim_form left 0 at w
+served_halts failed left mid after t b middle start at w e f r k h =
+    second_halts failed title (λ t. claim_body t.1.1) left mid t 0 middle at w title_one.tells r (omega (arith, e))
+    (second_halts failed (bound t.1.1) (λ b. items_of (repeats.Exactly t.1.1) (λ _. served)) mid after b middle start at w (bound_one t.1.1).tells k (omega (arith, e, f, (bound_one t.1.1).one b)) h)

@@ -86,9 +86,5 @@ pub sized_after : (f ds : List ℕ) → f ≡ 45 ∷ ds → ((n : ℕ) → n < 2
 sized_after f ds e none n h (inl a) = no_minus n h ds (sym e ∙ a)
 sized_after f ds e none n h (inr b) = none n h (let q : 45 ∷ ds ≡ 45 ∷ decimal n = sym e ∙ b.1 in cc q) b.0
 
-pub sized_plain : (f : List ℕ) → get_or f 0 0 ≢ 45 → ((n : ℕ) → n < 2 ^ 64 → f ≢ decimal n) → (n : ℕ) → n < 2 ^ 64 → ¬ IsSized f n
-sized_plain f m none n h (inl a) = none n h a
-sized_plain f m none n h (inr b) = m (rw b.1 refl)
-
 pub zero_only : (ds : List ℕ) (m : ℕ) → m ≡ 0 → ds ≡ decimal m → (n : ℕ) → n < 2 ^ 64 → ds ≡ decimal n → 0 < n → ⊥
 zero_only ds m z e n h a p = let same : m ≡ n = decimal_injective m n (omega arith) h (sym e ∙ a) in omega arith

@@ -37,10 +37,10 @@ pub one_more_at : {X : Type 0} (rows_of : X → List Row) (before : List ℕ) (h
     → i < length xs → IsSoFar rows_of before head xs i had → has ≡ had ++ rows_text (rows_of (get_or xs i d)) → IsSoFar rows_of before head xs (i + 1) has
 one_more_at rows_of before head xs i d had has l a b = more rows_of before head xs i (get_or xs i d) had has (rw (add-one i) (take-suc xs i d l)) a b
 
--- two records to begin with
-pub two_first : (a b : Row) (none one two : List ℕ) → none ≡ [] → one ≡ none ++ rows_text (a ∷ []) → two ≡ one ++ rows_text (b ∷ []) → two ≡ rows_text (a ∷ b ∷ [])
-two_first a b none one two e p q =
-    q ∙ ap (λ (k : List ℕ). k ++ rows_text (b ∷ [])) (p ∙ ap (λ (k : List ℕ). k ++ rows_text (a ∷ [])) e) ∙ sym (rows_text-append (a ∷ []) (b ∷ []))
+-- a record and others to begin with
+pub two_first : (a : Row) (bs : List Row) (none one two : List ℕ) → none ≡ [] → one ≡ none ++ rows_text (a ∷ []) → two ≡ one ++ rows_text bs → two ≡ rows_text (a ∷ bs)
+two_first a bs none one two e p q =
+    q ∙ ap (λ (k : List ℕ). k ++ rows_text bs) (p ∙ ap (λ (k : List ℕ). k ++ rows_text (a ∷ [])) e) ∙ sym (rows_text-append (a ∷ []) bs)
 
 -- a record to begin with
 pub one_first : (a : Row) (none one : List ℕ) → none ≡ [] → one ≡ none ++ rows_text (a ∷ []) → one ≡ rows_text (a ∷ [])

@@ -1,16 +1,16 @@
 -- The items that were read and the records that are left make up the input.
-use Rattle.std.proofs.Common.{◌≡◌, ◌+◌, ◌*◌, ◌≤◌, ◌<◌, ◌∙◌, ℕ, List, [], ◌∷◌, ◌++◌, length, get_or, mul-le-mul_right, Bool, true, false, Option, Some, None, refl, sym, ap, inl, inr, arith, append_assoc, append-nil}
+use Rattle.std.proofs.Common.{◌≡◌, ◌+◌, ◌*◌, ◌≤◌, ◌<◌, ◌∙◌, ℕ, List, [], ◌∷◌, ◌++◌, length, mul-le-mul_right, Bool, true, false, Option, Some, None, refl, sym, ap, subst, inl, inr, arith, append_assoc, append-nil}
 use Rattle.std.specs.Prelude.{IfSome, ◌⊎◌}
 use Rattle.std.proofs.lemmas.List.{length-append}
 use Rattle.blk_text.specs.Sources.{Row, Takes}
 use Rattle.blk_text.specs.declared.fault.Why.{Why}
-use Rattle.parts.specs.declared.Extent.{Extent}
-use Rattle.parts.specs.declared.Extent.TheVariants as extent
-use Rattle.parts.specs.Parts.{then, Part, Begins, IsReached, all_rows, AllFit, after, GoesOn, Stops, IsCount, most_of, record_of, tested}
+use Rattle.parts.specs.declared.Repeats.{Repeats}
+use Rattle.parts.specs.declared.Repeats.TheVariants as repeats
+use Rattle.parts.specs.Parts.{then, Part, Begins, all_rows, AllFit, after, GoesOn, Stops, IsCount, most_of}
 use Rattle.parts.specs.Laws.{Tells, IsPlain}
 use Rattle.parts.proofs.Many.{all_more, fit_more, lines_reached, HasRows}
-use Rattle.parts.proofs.Then.{both_begin, at_first, reached_first, reached_second}
-use Rattle.blk_text.specs.Reads.{IsOutside, Reads, HandReads, HandFails, Fails, Reaches, ItemsBefore, IsStopped, with_next, items_of, size_of, beyond_of}
+use Rattle.parts.proofs.Then.{both_begin, reached_first, reached_second}
+use Rattle.blk_text.specs.Reads.{IsOutside, Reads, HandReads, HandFails, Fails, Halts, Reaches, IsLine, IsStopped, with_next, items_of, size_of, beyond_of}
 
 takes_some : (rest : List Row) (after : Option (List Row)) (f : Row) → Takes (Some rest) after f true → (more : List Row) × (rest ≡ f ∷ more) × (after ≡ Some more)
 takes_some [] after f t = cc t
@@ -31,10 +31,6 @@ MadeOf q input vs left = IfSome input (λ rows. (rest : List Row) × (left ≡ S
 -- all items fit
 abbrev pub Fitting : {V : Type 0} → (List V → Part Row Why V) → List V → Type 0
 Fitting q vs = AllFit q with_next [] vs
-
-pub made_start : {V : Type 0} (q : List V → Part Row Why V) (input : Option (List Row)) → MadeOf q input [] input
-made_start q None = tt
-made_start q (Some rows) = (rows, refl, refl)
 
 pub made_more : {V : Type 0} (q : List V → Part Row Why V) (input left mid new : Option (List Row)) (vs : List V) (row : Row) (v : V)
     → MadeOf q input vs left → Takes left mid row true → HandReads (q vs) mid row new v → MadeOf q input (vs ++ v ∷ []) new
@@ -57,12 +53,12 @@ size_all q s (u ∷ vs) v =
 pub size_next : {V : Type 0} (q : List V → Part Row Why V) (vs : List V) (v : V) → size_of q (vs ++ v ∷ []) ≡ size_of q vs + length ((q vs).rows_of v)
 size_next q vs v = size_all q [] vs v ∙ ap (λ t. size_of q vs + length ((q t).rows_of v)) (after_all [] vs)
 
-here : (x : Extent) (c : ℕ) (row : Row) (rest : List Row) → c < most_of x → GoesOn x c (row ∷ rest)
-here (extent.AtMost n) c row rest l = (l, λ e. (cc e))
-here (extent.Exactly n) c row rest l = l
+here : (x : Repeats) (c : ℕ) (row : Row) (rest : List Row) → c < most_of x → GoesOn x c (row ∷ rest)
+here (repeats.AtMost n) c row rest l = (l, λ e. (cc e))
+here (repeats.Exactly n) c row rest l = l
 
 -- an item is wrong
-pub items_wrong : {V : Type 0} (failed : Bool) (q : List V → Part Row Why V) (x : Extent) (input left mid : Option (List Row)) (vs : List V) (row : Row) (start now at : ℕ) (w : Why)
+pub items_wrong : {V : Type 0} (failed : Bool) (q : List V → Part Row Why V) (x : Repeats) (input left mid : Option (List Row)) (vs : List V) (row : Row) (start now at : ℕ) (w : Why)
     → MadeOf q input vs left → Takes left mid row true → Fitting q vs → length vs < most_of x → now ≡ start + size_of q vs + 1
     → HandFails failed (q vs) mid row now at w → Fails failed (items_of x q) input start at w
 items_wrong failed q x None left mid vs row start now at w m t f l e h = tt
@@ -80,26 +76,14 @@ items_wrong failed q x (Some rows) left mid vs row start now at w m t f l e h =
 -- an item never came
 pub items_few : {V : Type 0} (failed : Bool) (q : List V → Part Row Why V) (n : ℕ) (input left mid : Option (List Row)) (vs : List V) (row : Row) (start at : ℕ) (w : Why)
     → MadeOf q input vs left → Takes left mid row false → Fitting q vs → length vs < n → at ≡ start + size_of q vs + 1
-    → (q vs).Wrong [] 1 w → Fails failed (items_of (extent.Exactly n) q) input start at w
+    → (q vs).Wrong [] 1 w → Fails failed (items_of (repeats.Exactly n) q) input start at w
 items_few failed q n None left mid vs row start at w m t f l e h = tt
 items_few failed q n (Some rows) left mid vs row start at w m t f l e h =
     let none = takes_none m.0 mid row (rw m.1 at t) in
     inr (size_of q vs + 1, omega (arith, e), inl (vs, [], 1, f, (m.2 ∙ rw none refl), l, refl, rw (after_all [] vs) h))
 
--- nothing is left
-pub items_all : {V : Type 0} (q : List V → Part Row Why V) (x : Extent) (input left mid : Option (List Row)) (vs : List V) (row : Row)
-    → MadeOf q input vs left → Takes left mid row false → Fitting q vs → IsCount x (length vs) × Stops {R = Row} x (length vs) [] → IfSome input (λ rows. Begins (items_of x q) rows vs [])
-items_all q x None left mid vs row m t f c = tt
-items_all {V} q x (Some rows) left mid vs row m t f c =
-    let none = takes_none m.0 mid row (rw m.1 at t) in
-    record {
-      fits = ((f, c.0), tt);
-      made = m.2 ∙ rw none (sym (append-nil _));
-      follows = (c.1, refl);
-    }
-
 -- one item more
-pub items_past : {V : Type 0} (failed : Bool) (q : List V → Part Row Why V) (x : Extent) (input left mid : Option (List Row)) (vs : List V) (row : Row) (start now at : ℕ) (w : Why)
+pub items_past : {V : Type 0} (failed : Bool) (q : List V → Part Row Why V) (x : Repeats) (input left mid : Option (List Row)) (vs : List V) (row : Row) (start now at : ℕ) (w : Why)
     → MadeOf q input vs left → Takes left mid row true → Fitting q vs → IsCount x (length vs) → ((rest : List Row) → Stops {R = Row} x (length vs) rest) → now ≡ start + size_of q vs + 1
     → HandFails failed (q vs) mid row now at w → Fails failed (items_of x q) input start at w
 items_past failed q x None left mid vs row start now at w m t f l s e h = tt
@@ -118,7 +102,7 @@ items_past failed q x (Some rows) left mid vs row start now at w m t f l s e h =
           inr (vs, row ∷ more, b.0, record { fits = (f, l); made = made; follows = s (row ∷ more) }, refl, ((λ z. (cc z)), inl (rw (after_all [] vs) b.2))),
         )
 
-pub items_beyond : {V : Type 0} (failed : Bool) (q : List V → Part Row Why V) (x : Extent) (input left mid new : Option (List Row)) (vs : List V) (row : Row) (start now : ℕ) (v : V)
+pub items_beyond : {V : Type 0} (failed : Bool) (q : List V → Part Row Why V) (x : Repeats) (input left mid new : Option (List Row)) (vs : List V) (row : Row) (start now : ℕ) (v : V)
     → MadeOf q input vs left → Takes left mid row true → Fitting q vs → IsCount x (length vs) → ((rest : List Row) → Stops {R = Row} x (length vs) rest) → now ≡ start + size_of q vs + 1
     → HandReads (q vs) mid row new v → Fails failed (items_of x q) input start now (beyond_of x)
 items_beyond failed q x None left mid new vs row start now v m t f l s e h = tt
@@ -138,53 +122,28 @@ items_beyond failed q x (Some rows) left mid new vs row start now v m t f l s e 
       ),
     )
 
-pub fails_outside : {V : Type 0} (failed : Bool) (p : Part Row Why V) (input : Option (List Row)) (start at : ℕ) (w : Why) → IsOutside failed w → Fails failed p input start at w
-fails_outside failed p None start at w o = tt
-fails_outside failed p (Some rows) start at w o = inl o
-
 -- room for one item more
 pub room : (c n m : ℕ) → c < n → c * (m + 1) + (m + 1) ≤ n * (m + 1)
 room c n m l = let r : (c + 1) * (m + 1) ≤ n * (m + 1) = mul-le-mul_right (m + 1) (omega (arith, l)) in omega (arith, r)
 
-pub items_few_at : {V : Type 0} (failed : Bool) (q : List V → Part Row Why V) (x : Extent) (n : ℕ) (input left mid : Option (List Row)) (vs : List V) (row : Row) (start at : ℕ) (w : Why)
-    → x ≡ extent.Exactly n → MadeOf q input vs left → Takes left mid row false → Fitting q vs → length vs < most_of x → at ≡ start + size_of q vs + 1
+pub items_few_at : {V : Type 0} (failed : Bool) (q : List V → Part Row Why V) (x : Repeats) (n : ℕ) (input left mid : Option (List Row)) (vs : List V) (row : Row) (start at : ℕ) (w : Why)
+    → x ≡ repeats.Exactly n → MadeOf q input vs left → Takes left mid row false → Fitting q vs → length vs < most_of x → at ≡ start + size_of q vs + 1
     → (q vs).Wrong [] 1 w → Fails failed (items_of x q) input start at w
 items_few_at failed q x n input left mid vs row start at w e m t f l is h = rw e (items_few failed q n input left mid vs row start at w m t f (rw e at l) is h)
 
-pub full_count : (x : Extent) (c : ℕ) → c ≡ most_of x → IsCount x c
-full_count (extent.AtMost n) c e = omega (arith, e)
-full_count (extent.Exactly n) c e = e
+pub full_count : (x : Repeats) (c : ℕ) → c ≡ most_of x → IsCount x c
+full_count (repeats.AtMost n) c e = omega (arith, e)
+full_count (repeats.Exactly n) c e = e
 
-pub full_stops : (x : Extent) (c : ℕ) → c ≡ most_of x → (rest : List Row) → Stops {R = Row} x c rest
-full_stops (extent.AtMost n) c e rest = inl e
-full_stops (extent.Exactly n) c e rest = e
+pub full_stops : (x : Repeats) (c : ℕ) → c ≡ most_of x → (rest : List Row) → Stops {R = Row} x c rest
+full_stops (repeats.AtMost n) c e rest = inl e
+full_stops (repeats.Exactly n) c e rest = e
 
 -- reading stopped in an item, before which the others are good
-pub stopped : {V : Type 0} (q : List V → Part Row Why V) (x : Extent) (input left : Option (List Row)) (vs : List V) (start more at last : ℕ) → MadeOf q input vs left → Fitting q vs → length vs ≤ most_of x
+pub stopped : {V : Type 0} (q : List V → Part Row Why V) (x : Repeats) (input left : Option (List Row)) (vs : List V) (start more at last : ℕ) → MadeOf q input vs left → Fitting q vs → length vs ≤ most_of x
     → start + (size_of q vs + 1) ≤ at → at ≤ last → last ≤ start + (size_of q vs + 1) + more → IsStopped x q input start more at last
 stopped q x None left vs start more at last m f l a b c = (size_of q vs + 1, a, b, c, tt)
 stopped q x (Some rows) left vs start more at last m f l a b c = (size_of q vs + 1, a, b, c, (vs, m.0, f, m.2, l, refl))
-
--- one record
-
-pub line_reads : {V : Type 0} (row_of : V → Row) (Fits : V → Type 0) (gone : Why) (Lacks : Row → Why → Type 0) (left new : Option (List Row)) (row : Row) (v : V)
-    → Takes left new row true → row ≡ row_of v → Fits v → Reads (record_of row_of Fits gone Lacks) left new v
-line_reads row_of Fits gone Lacks None new row v t e f = tt
-line_reads row_of Fits gone Lacks (Some rows) new row v t e f =
-    let (more, first, then) = takes_some rows new row t in
-    (more, then, record { fits = f; made = first ∙ ap (λ r. r ∷ more) e; follows = tt })
-
-pub line_wrong : {V : Type 0} (failed : Bool) (row_of : V → Row) (Fits : V → Type 0) (gone : Why) (Lacks : Row → Why → Type 0) (left new : Option (List Row)) (row : Row) (start at : ℕ) (w : Why)
-    → Takes left new row true → at ≡ start + 1 → Lacks row w → Fails failed (record_of row_of Fits gone Lacks) left start at w
-line_wrong failed row_of Fits gone Lacks None new row start at w t e bad = tt
-line_wrong failed row_of Fits gone Lacks (Some rows) new row start at w t e bad =
-    let (more, first, then) = takes_some rows new row t in
-    rw first (inr (1, e, (refl, bad)))
-
-pub line_gone : {V : Type 0} (failed : Bool) (row_of : V → Row) (Fits : V → Type 0) (gone : Why) (Lacks : Row → Why → Type 0) (left new : Option (List Row)) (row : Row) (start at : ℕ) (w : Why)
-    → Takes left new row false → at ≡ start + 1 → w ≡ gone → Fails failed (record_of row_of Fits gone Lacks) left start at w
-line_gone failed row_of Fits gone Lacks None new row start at w t e is = tt
-line_gone failed row_of Fits gone Lacks (Some rows) new row start at w t e is = let none = takes_none rows new row t in rw none (inr (1, e, (refl, is)))
 
 -- two parts in turn
 
@@ -193,50 +152,70 @@ pub then_reads : {V W : Type 0} (p : Part Row Why V) (q : V → Part Row Why W) 
 then_reads p q None mid v w h k = tt
 then_reads p q (Some rows) mid v w h k = both_begin p q rows h.0 v w [] h.2 (rw h.1 at k)
 
-pub first_fails : {V W : Type 0} (failed : Bool) (p : Part Row Why V) (q : V → Part Row Why W) (left : Option (List Row)) (start at : ℕ) (why : Why) → Fails failed p left start at why → Fails failed (then p q) left start at why
-first_fails failed p q None start at why f = tt
-first_fails failed p q (Some rows) start at why (inl o) = inl o
-first_fails failed p q (Some rows) start at why (inr f) = inr (f.0, f.1, inl f.2)
+-- one record
 
-pub second_fails : {V W : Type 0} (failed : Bool) (p : Part Row Why V) (q : V → Part Row Why W) (left mid : Option (List Row)) (v : V) (start middle at : ℕ) (why : Why) → Reads p left mid v
-    → middle ≡ start + length (p.rows_of v) → Fails failed (q v) mid middle at why → Fails failed (then p q) left start at why
-second_fails failed p q None mid v start middle at why h e f = tt
-second_fails {V} {W} failed p q (Some rows) mid v start middle at why h e f = tell (rw h.1 at f)
-  where
-    tell : (IsOutside failed why ⊎ ((k : ℕ) × (at ≡ middle + k) × (q v).Wrong h.0 k why)) → IsOutside failed why ⊎ ((k : ℕ) × (at ≡ start + k) × (then p q).Wrong rows k why)
-    tell (inl o) = inl o
-    tell (inr b) = let is = b.1 in inr (length (p.rows_of v) + b.0, omega (arith, is, e), inr (v, h.0, b.0, h.2, refl, b.2))
+pub line_reads : {V : Type 0} (p : Part Row Why V) (left new : Option (List Row)) (row : Row) (v : V) → Takes left new row true → IsLine p row v → Reads p left new v
+line_reads p None new row v t h = tt
+line_reads p (Some rows) new row v t h = let (more, first, then) = takes_some rows new row t in (more, then, subst (λ r. Begins p r v more) (sym first) (h more))
 
--- records that are reached
+pub hand_reads : {V : Type 0} (p : Part Row Why V) (left : Option (List Row)) (row : Row) (v : V) → IsLine p row v → HandReads p left row left v
+hand_reads p None row v h = tt
+hand_reads p (Some rows) row v h = (rows, refl, h rows)
 
-pub first_reached : {V W : Type 0} (p : Part Row Why V) (q : V → Part Row Why W) (left : Option (List Row)) (start at : ℕ) → Tells p → ((v : V) → p.Fits v → Tells (q v)) → at ≡ start + 1
-    → Reaches (then p q) left start at
-first_reached p q None start at t s e = tt
-first_reached p q (Some rows) start at t s e = (1, e, reached_first p q s rows 1 (at_first p t rows))
+-- two parts in turn, where reading stops
 
-pub second_reached : {V W : Type 0} (p : Part Row Why V) (q : V → Part Row Why W) (left mid : Option (List Row)) (v : V) (start middle at : ℕ) → Tells p → Reads p left mid v
-    → middle ≡ start + length (p.rows_of v) → Reaches (q v) mid middle at → Reaches (then p q) left start at
-second_reached p q None mid v start middle at t h e f = tt
-second_reached p q (Some rows) mid v start middle at t h e f =
+pub first_halts : {V W : Type 0} (failed : Bool) (p : Part Row Why V) (q : V → Part Row Why W) (left : Option (List Row)) (start at : ℕ) (w : Why) → ((v : V) → p.Fits v → Tells (q v)) → Halts failed p left start at w
+    → Halts failed (then p q) left start at w
+first_halts failed p q None start at w s h = tt
+first_halts failed p q (Some rows) start at w s h = (
+  h.0,
+  h.1,
+  reached_first p q s rows h.0 h.2,
+  elim h.3 [
+    | inl o ↦ inl o
+    | inr f ↦ inr (inl f)
+  ],
+)
+
+pub second_halts : {V W : Type 0} (failed : Bool) (p : Part Row Why V) (q : V → Part Row Why W) (left mid : Option (List Row)) (v : V) (start middle at : ℕ) (w : Why) → Tells p → Reads p left mid v
+    → middle ≡ start + length (p.rows_of v) → Halts failed (q v) mid middle at w → Halts failed (then p q) left start at w
+second_halts failed p q None mid v start middle at w t h e f = tt
+second_halts failed p q (Some rows) mid v start middle at w t h e f =
     let b = rw h.1 at f in
-    let is = b.1 in
-    (length (p.rows_of v) + b.0, omega (arith, is, e), reached_second p q t rows h.0 v b.0 h.2 b.2)
+    let is = b.1 in (
+      length (p.rows_of v) + b.0,
+      omega (arith, is, e),
+      reached_second p q t rows h.0 v b.0 h.2 b.2,
+      elim b.3 [
+        | inl o ↦ inl o
+        | inr k ↦ inr (inr (v, h.0, b.0, h.2, refl, k))
+      ],
+    )
 
-pub items_reached : {V : Type 0} (q : List V → Part Row Why V) (x : Extent) (left : Option (List Row)) (start at place : ℕ) → ((s : List V) → Tells (q s)) → ((s : List V) → IsPlain (q s)) → HasRows q
-    → at ≡ start + place → IfSome left (λ rows. ItemsBefore x q rows place) → Reaches (items_of x q) left start at
-items_reached q x None start at place t plain some e b = tt
-items_reached q x (Some rows) start at place t plain some e b = (place, e, lines_reached x (beyond_of x) q with_next t plain some [] rows place b)
+-- lines, where reading stops
 
--- where the text begins
-pub from_start : {V : Type 0} (failed : Bool) (p : Part Row Why V) (left : Option (List Row)) (at : ℕ) (w : Why) → Fails failed p left 0 at w → IfSome left (λ rows. IsOutside failed w ⊎ p.Wrong rows at w)
-from_start failed p None at w f = tt
-from_start failed p (Some rows) at w (inl o) = inl o
-from_start failed p (Some rows) at w (inr f) = let is = f.1 in let same : f.0 ≡ at = omega (arith, is) in inr (rw same at f.2)
+pub lines_halt : {V : Type 0} (failed : Bool) (q : List V → Part Row Why V) (x : Repeats) (left : Option (List Row)) (start at last : ℕ) (w : Why) → ((s : List V) → Tells (q s)) → ((s : List V) → IsPlain (q s)) → HasRows q
+    → IsStopped x q left start 0 at last → Fails failed (items_of x q) left start at w → Halts failed (items_of x q) left start at w
+lines_halt failed q x None start at last w t plain some s f = tt
+lines_halt failed q x (Some rows) start at last w t plain some s f =
+    let low = s.1 in
+    let middle = s.2 in
+    let high = s.3 in
+    let is : at ≡ start + s.0 = omega (arith, low, middle, high) in (
+      s.0,
+      is,
+      lines_reached x (beyond_of x) q with_next t plain some [] rows s.0 s.4,
+      elim f [
+        | inl o ↦ inl o
+        | inr k ↦ (let other = k.1 in let same : k.0 ≡ s.0 = omega (arith, is, other) in inr (rw same at k.2))
+      ],
+    )
 
 -- past the last record of a text that is spelled
-pub end_reached : {V : Type 0} (p : Part Row Why V) (left : Option (List Row)) (v : V) (at : ℕ) → Tells p → IfSome left (λ rows. Begins p rows v []) → at ≡ length (p.rows_of v) + 1 → Reaches p left 0 at
-end_reached p None v at t h e = tt
-end_reached p (Some rows) v at t h e = (
+pub end_halts : {V : Type 0} (failed : Bool) (p : Part Row Why V) (left : Option (List Row)) (v : V) (at : ℕ) (w : Why) → Tells p → IfSome left (λ rows. Begins p rows v []) → at ≡ length (p.rows_of v) + 1 → IsOutside failed w
+    → Halts failed p left 0 at w
+end_halts failed p None v at w t h e o = tt
+end_halts failed p (Some rows) v at w t h e o = (
   at,
   omega arith,
   record {
@@ -244,20 +223,18 @@ end_reached p (Some rows) v at t h e = (
     good = λ k w f. absurd (t.apart rows v [] k w h f);
     within = λ u rest k. (let same : length (p.rows_of u) ≡ length (p.rows_of v) = ap (λ z. length (p.rows_of z)) (t.once rows u v rest [] k h).0 in omega (arith, same, e));
   },
+  inl o,
 )
 
--- one more test of a part
+-- where a text begins: its fault, and that it is reached
 
-pub tested_reads : {V : Type 0} (p : Part Row Why V) (Good : V → Type 0) (Bad : V → ℕ → Why → Type 0) (left new : Option (List Row)) (v : V) → Reads p left new v → Good v → Reads (tested p Good Bad) left new v
-tested_reads p Good Bad None new v h g = tt
-tested_reads p Good Bad (Some rows) new v h g = (h.0, h.1, record { fits = (h.2.fits, g); made = h.2.made; follows = h.2.follows })
+pub halts_err : {V : Type 0} (failed : Bool) (p : Part Row Why V) (left : Option (List Row)) (at : ℕ) (w : Why) → Halts failed p left 0 at w → IfSome left (λ rows. IsOutside failed w ⊎ p.Wrong rows at w)
+halts_err failed p None at w f = tt
+halts_err failed p (Some rows) at w f = elim f.3 [
+  | inl o ↦ inl o
+  | inr k ↦ (let is = f.1 in let same : f.0 ≡ at = omega (arith, is) in inr (rw same at k))
+]
 
-pub tested_fails : {V : Type 0} (failed : Bool) (p : Part Row Why V) (Good : V → Type 0) (Bad : V → ℕ → Why → Type 0) (left : Option (List Row)) (start at : ℕ) (w : Why) → Fails failed p left start at w → Fails failed (tested p Good Bad) left start at w
-tested_fails failed p Good Bad None start at w f = tt
-tested_fails failed p Good Bad (Some rows) start at w (inl o) = inl o
-tested_fails failed p Good Bad (Some rows) start at w (inr f) = inr (f.0, f.1, inl f.2)
-
-pub tested_bad : {V : Type 0} (failed : Bool) (p : Part Row Why V) (Good : V → Type 0) (Bad : V → ℕ → Why → Type 0) (left new : Option (List Row)) (v : V) (start at k : ℕ) (w : Why) → Reads p left new v → at ≡ start + k → Bad v k w
-    → Fails failed (tested p Good Bad) left start at w
-tested_bad failed p Good Bad None new v start at k w h e b = tt
-tested_bad failed p Good Bad (Some rows) new v start at k w h e b = inr (k, e, inr (v, h.0, h.2, b))
+pub halts_reached : {V : Type 0} (failed : Bool) (p : Part Row Why V) (left : Option (List Row)) (at : ℕ) (w : Why) → Halts failed p left 0 at w → Reaches p left 0 at
+halts_reached failed p None at w f = tt
+halts_reached failed p (Some rows) at w f = (f.0, f.1, f.2)

@@ -1,60 +1,41 @@
 -- The laws of scripts.
-use Rattle.std.proofs.Common.{◌≡◌, ◌+◌, ◌-◌, ◌<◌, ◌≤◌, ◌^◌, ◌==◌, ◌∙◌, ℕ, List, [], ◌∷◌, ◌++◌, length, map, append-nil, Option, Some, None, refl, sym, ap, subst, inl, inr, arith, get_or, decimal, codes}
-use Rattle.std.specs.Prelude.{◌⊎◌, All, Err, IfSome, if◌then◌else◌}
-use Rattle.std.specs.Str.Parse.{digits_value}
-use Rattle.std.proofs.lemmas.Fmt.{decimal_injective, digits_value-decimal}
+use Rattle.std.proofs.Common.{◌≡◌, ◌+◌, ◌<◌, ◌≤◌, ◌==◌, ◌∙◌, ℕ, suc, List, [], ◌∷◌, length, map, Option, Some, None, refl, sym, ap, subst, inl, inr, arith, get_or, codes}
+use Rattle.std.specs.Prelude.{◌⊎◌, All, Err, IfSome, Bool, if◌then◌else◌}
 use Rattle.csv.specs.Reading.{default_config, records, strip_bom}
 use Rattle.csv.specs.Writing.{read_back}
-use Rattle.blk_bio.specs.Bios.{Bio, IsBio, IsBioAnswer}
+use Rattle.blk_bio.specs.Bios.{Bio, IsBio, IsBioAnswer, sector_limit}
 use Rattle.blk_bio.specs.declared.bio.BioFault.{BioFault}
 use Rattle.blk_bio.specs.declared.bio.BioFault.TheVariants as bio_fault
 use Rattle.blk_bio.specs.declared.bio.Dir.{Dir}
-use Rattle.blk_bio.specs.declared.bio.Dir.TheVariants as dir
-use Rattle.blk_trace.specs.Setups.{Setup}
+use Rattle.blk_bio.specs.Limits.{Limits, IsLimits}
+use Rattle.blk_trace.specs.Setups.{Setup, IsSetup}
 use Rattle.blk_text.specs.Sources.{Row}
 use Rattle.blk_text.specs.Texts.{rows_text}
-use Rattle.blk_text.specs.BioRecord.{bio_row, direction_text}
-use Rattle.blk_text.specs.SetupRecord.{setup_slots, setup_cells, setup_row, setup, FitsSetup, IsWholeSetup, SetupWrong}
-use Rattle.blk_text.specs.Words.{StartsWith}
-use Rattle.blk_text.specs.Reads.{Reads, Reaches, IsStopped, AreItems, items_of}
-use Rattle.blk_text.specs.Tables.{IsTable, IsVersion}
-use Rattle.blk_text.specs.Script.{word_of, slots_of, line_row, LineFits, SpellsNoBio, StepWrong, script_cells, title_row, IsTitle, IsEnough, TooFew, plain_title, title, step, script_body, script_form, script_value, Scripted, title_of, script_rows, IsScript, SpellsScript}
+use Rattle.blk_text.specs.SetupRecord.{setup_cells, setup, FitsSetup}
+use Rattle.blk_text.specs.Words.{StartsWith, HasNoWord, WordLacks}
+use Rattle.blk_text.specs.Fields.{Lacks, FieldsSpell}
+use Rattle.blk_text.specs.Reads.{Reads, Halts, IsLine, IsWrongLine, IsOne, items_of}
+use Rattle.blk_text.specs.Tables.{IsVersion, FitsBy, row_by, slots_by, kinds_record}
+use Rattle.blk_text.specs.Script.{word_of, Held, step_cells, held, LineFits, IsRight, IsNoBio, script_cells, IsTitle, IsEnough, TooFew, plain_title, title, plain_step, step, script_body, script_form, script_value, Scripted, title_of, script_rows, IsScript, SpellsScript, ScriptFault}
 use Rattle.blk_text.specs.declared.fault.Why.{Why}
 use Rattle.blk_text.specs.declared.fault.Why.TheVariants as why
 use Rattle.blk_text.specs.declared.fields.Slot.TheVariants as slot
-use Rattle.parts.specs.declared.Extent.TheVariants as extent
+use Rattle.parts.specs.declared.Repeats.TheVariants as repeats
 use Rattle.parts.specs.Parts.{Begins, Spells}
-use Rattle.parts.specs.Laws.{Tells, TellsRecord}
-use Rattle.parts.proofs.Then.{record_tells, then_tells, tested_tells}
+use Rattle.parts.specs.Laws.{Tells, Decides}
+use Rattle.parts.proofs.Then.{record_decides, then_tells, then_decides, tested_tells, tested_decides, seen_tells, seen_decides}
 use Rattle.blk_text.specs.declared.script.Line.{Line}
 use Rattle.blk_text.specs.declared.script.Line.TheVariants as line
 use Rattle.blk_text.specs.declared.script.Title.{Title}
 use Rattle.blk_text.specs.declared.script.Word.{Word}
 use Rattle.blk_text.specs.declared.script.Word.TheVariants as word
-use Rattle.blk_text.proofs.Decimals.{own}
-use Rattle.blk_text.proofs.Lists.{cons_same}
-use Rattle.blk_text.proofs.Once.{Goods, blank_good, direction_good, number_good, word_once, word_apart}
-use Rattle.blk_text.proofs.TableLaws.{goods_by, table_tells, title_part}
-use Rattle.blk_text.proofs.Each.{rows_map, fit_all, all_fit, each_tells, each_reached, one_version, first_version}
-use Rattle.blk_text.proofs.Reading.{then_reads, first_reached, second_reached}
-use Rattle.blk_text.proofs.Texts.{text_back}
+use Rattle.blk_text.proofs.Lacking.{same_text, at_most}
+use Rattle.blk_text.proofs.TableLaws.{IsTable, IsBy, word_line, first_is, kinds_tell, kinds_decide, word_tells, word_decides, title_part, title_decides}
+use Rattle.blk_text.proofs.Each.{all_fit, each_tells, each_decides, one_record, one_version}
+use Rattle.blk_text.proofs.Reading.{then_reads, first_halts, second_halts}
+use Rattle.blk_text.proofs.Texts.{text_back, parts_back, begins_itself}
 
--- the number of a field, the direction of a field and the word of a field, whatever stands there
-
-pub value : List ℕ → ℕ
-value f = digits_value 10 f
-
-pub value_is : (n : ℕ) → n < 2 ^ 64 → value (decimal n) ≡ n
-unfolding value
-value_is n h = digits_value-decimal own n h
-
-abbrev dir_at : List ℕ → Dir
-dir_at f = if get_or f 0 0 == 82 then dir.Read else dir.Write
-
-dir_is : (d : Dir) → dir_at (direction_text d) ≡ d
-dir_is dir.Read = refl
-dir_is dir.Write = refl
-
+-- the word of a field, whatever stands there
 abbrev word_at : List ℕ → Word
 word_at f =
     if get_or f 0 0 == 98 then word.Bio
@@ -77,27 +58,65 @@ word_is word.Run = refl
 words_tell : (j k : Word) → word_of j ≡ word_of k → j ≡ k
 words_tell j k e = sym (word_is j) ∙ ap word_at e ∙ word_is k
 
--- bios
+word_picked : (f : List ℕ) → ((k : Word) × (f ≡ word_of k)) ⊎ ((k : Word) → ¬ (f ≡ word_of k))
+word_picked f = elim (same_text f (word_of (word_at f))) [
+  | inl e ↦ inl (word_at f, e)
+  | inr n ↦ inr (λ k e. n (e ∙ ap word_of (sym (ap word_at e ∙ word_is k))))
+]
 
--- the numbers of a bio are written in 64 bits
-pub record IsWide (b : Bio) : Type 0 where
-  pub submitter : b.id.submitter < 2 ^ 64
-  pub serial : b.id.serial < 2 ^ 64
-  pub first : b.first < 2 ^ 64
-  pub sectors : b.sectors < 2 ^ 64
+-- steps
 
-pub bio_at : Row → Bio
-bio_at cells = record { id = record { submitter = value (get_or cells 1 []); serial = value (get_or cells 2 []) }; dir = dir_at (get_or cells 3 []); first = value (get_or cells 4 []); sectors = value (get_or cells 5 []) }
+step_table : (hw submitters : ℕ) → hw ≤ 16 → submitters ≤ 64 → (k : Word) → IsTable (step_cells hw submitters k) (FitsBy (step_cells hw submitters k))
+step_table hw submitters g s word.Bio = record {
+  sized = (omega (arith, s), (omega arith, (tt, (omega arith, (omega arith, tt)))));
+  within = λ b f. f;
+  made = λ x. record { id = record { submitter = x.0; serial = x.1.0 }; dir = x.1.1.0; first = x.1.1.1.0; sectors = x.1.1.1.1.0 };
+  back = λ b f. refl;
+  forth = λ x. refl;
+  fits = λ x f. f;
+}
+step_table hw submitters g s word.Flush = record { sized = (omega (arith, s), (tt, (tt, (tt, (tt, tt))))); within = λ v f. f; made = λ x. x.0; back = λ v f. refl; forth = λ x. refl; fits = λ x f. f }
+step_table hw submitters g s word.Drain = record { sized = (omega (arith, g), (tt, (tt, (tt, (tt, tt))))); within = λ v f. f; made = λ x. x.0; back = λ v f. refl; forth = λ x. refl; fits = λ x f. f }
+step_table hw submitters g s word.Issue = record { sized = (omega (arith, g), (omega arith, (tt, (tt, (tt, tt))))); within = λ v f. f; made = λ x. (x.0, x.1.0); back = λ v f. refl; forth = λ x. refl; fits = λ x f. f }
+step_table hw submitters g s word.Done = record { sized = (omega arith, (tt, (tt, (tt, (tt, tt))))); within = λ v f. f; made = λ x. x.0; back = λ v f. refl; forth = λ x. refl; fits = λ x f. f }
+step_table hw submitters g s word.Tick = record { sized = (tt, (tt, (tt, (tt, (tt, tt))))); within = λ v f. f; made = λ x. tt; back = λ v f. refl; forth = λ x. refl; fits = λ x f. f }
+step_table hw submitters g s word.Run = record { sized = (omega arith, (tt, (tt, (tt, (tt, tt))))); within = λ v f. f; made = λ x. x.0; back = λ v f. refl; forth = λ x. refl; fits = λ x f. f }
 
-same_bio : (b c : Bio) → b.id.submitter ≡ c.id.submitter → b.id.serial ≡ c.id.serial → b.dir ≡ c.dir → b.first ≡ c.first → b.sectors ≡ c.sectors → b ≡ c
-same_bio b c p q r s t i = record { id = record { submitter = p i; serial = q i }; dir = r i; first = s i; sectors = t i }
+-- the step of a kind
+line_of : (k : Word) → Held k → Line
+line_of word.Bio b = line.Bio b
+line_of word.Flush s = line.Flush s
+line_of word.Drain h = line.Drain h
+line_of word.Issue i = line.Issue i.0 i.1
+line_of word.Done t = line.Done t
+line_of word.Tick t = line.Tick
+line_of word.Run n = line.Run n
 
-pub bio_is : (b : Bio) → IsWide b → bio_at (bio_row b) ≡ b
-unfolding bio_at
-bio_is b h = same_bio _ b (value_is b.id.submitter h.submitter) (value_is b.id.serial h.serial) (dir_is b.dir) (value_is b.first h.first) (value_is b.sectors h.sectors)
+line_back : (l : Line) → line_of (held l).0 (held l).1 ≡ l
+unfolding line_of
+line_back (line.Bio b) = refl
+line_back (line.Flush s) = refl
+line_back (line.Drain h) = refl
+line_back (line.Issue h t) = refl
+line_back (line.Done t) = refl
+line_back line.Tick = refl
+line_back (line.Run n) = refl
 
-one_bio : (b c : Bio) → IsWide b → IsWide c → bio_row b ≡ bio_row c → b ≡ c
-one_bio b c p q e = sym (bio_is b p) ∙ ap bio_at e ∙ bio_is c q
+held_back : (k : Word) (v : Held k) → held (line_of k v) ≡ (k, v)
+unfolding line_of
+held_back word.Bio v = refl
+held_back word.Flush v = refl
+held_back word.Drain v = refl
+held_back word.Issue v = refl
+held_back word.Done v = refl
+held_back word.Tick v = refl
+held_back word.Run v = refl
+
+abbrev kinds : ℕ → ℕ → Rattle.parts.specs.Parts.Part Row Why ((k : Word) × Held k)
+kinds hw submitters = kinds_record Held why.Count 6 word_of (step_cells hw submitters)
+
+one_bio : (b c : Bio) → line.Bio b ≡ line.Bio c → b ≡ c
+one_bio b c e = cc e
 
 no_bio_is : (b : Bio) (f : BioFault) → IsBio b → IsBioAnswer b.id b.dir b.first b.sectors (Err f) → ⊥
 no_bio_is b bio_fault.Empty i a = omega (arith, i.not_empty, a)
@@ -109,189 +128,198 @@ one_bio_fault b bio_fault.Empty bio_fault.Range p q = absurd (omega (arith, p, q
 one_bio_fault b bio_fault.Range bio_fault.Empty p q = absurd (omega (arith, q, p.0))
 one_bio_fault b bio_fault.Range bio_fault.Range p q = refl
 
--- steps
+no_bio_once : (l : Line) (k j : ℕ) (w x : Why) → IsNoBio l k w → IsNoBio l j x → (k ≡ j) × (w ≡ x)
+no_bio_once l k j w x n m =
+    let same : n.0 ≡ m.0 = one_bio n.0 m.0 (sym n.2 ∙ m.2) in
+    let fault = one_bio_fault m.0 n.1 m.1 (subst (λ (b : Bio). IsBioAnswer b.id b.dir b.first b.sectors (Err n.1)) same n.5) m.5 in
+    (n.3 ∙ sym m.3, n.4 ∙ ap why.Bio fault ∙ sym m.4)
 
-kind_of : Line → Word
-kind_of (line.Bio b) = word.Bio
-kind_of (line.Flush submitter) = word.Flush
-kind_of (line.Drain hw) = word.Drain
-kind_of (line.Issue hw tag) = word.Issue
-kind_of (line.Done tag) = word.Done
-kind_of line.Tick = word.Tick
-kind_of (line.Run n) = word.Run
+-- a bio is one, or there is none
+right_or_no_bio : (l : Line) → IsRight l ⊎ ((k : ℕ) × (w : Why) × IsNoBio l k w)
+right_or_no_bio (line.Bio b) = elim (at_most 1 b.sectors) [
+  | inl some ↦ elim (at_most (b.first + b.sectors) sector_limit) [
+    | inl l ↦ inl (λ c e. subst IsBio (one_bio b c e) (record { not_empty = some; in_range = l }))
+    | inr n ↦ inr (1, why.Bio bio_fault.Range, (b, bio_fault.Range, refl, refl, refl, (some, out (b.first + b.sectors) n)))
+  ]
+  | inr n ↦ inr (1, why.Bio bio_fault.Empty, (b, bio_fault.Empty, refl, refl, refl, none b.sectors n))
+]
+  where
+    none : (n : ℕ) → ¬ (1 ≤ n) → n ≡ 0
+    none n h = grind (arith, h)
 
-line_starts : (l : Line) → StartsWith (word_of (kind_of l)) (line_row l)
-unfolding kind_of
-line_starts (line.Bio b) = (_, refl)
-line_starts (line.Flush submitter) = (_, refl)
-line_starts (line.Drain hw) = (_, refl)
-line_starts (line.Issue hw tag) = (_, refl)
-line_starts (line.Done tag) = (_, refl)
-line_starts line.Tick = (_, refl)
-line_starts (line.Run n) = (_, refl)
+    out : (n : ℕ) → ¬ (n ≤ sector_limit) → sector_limit < n
+    out n h = grind (arith, h)
+right_or_no_bio (line.Flush s) = inl (λ b e. absurd (cc e))
+right_or_no_bio (line.Drain h) = inl (λ b e. absurd (cc e))
+right_or_no_bio (line.Issue h t) = inl (λ b e. absurd (cc e))
+right_or_no_bio (line.Done t) = inl (λ b e. absurd (cc e))
+right_or_no_bio line.Tick = inl (λ b e. absurd (cc e))
+right_or_no_bio (line.Run n) = inl (λ b e. absurd (cc e))
 
-bio_good : (submitters : ℕ) (b : Bio) → IsWide b → b.id.submitter < submitters → Goods (slots_of 0 submitters word.Bio) (bio_row b)
-bio_good submitters b w h = (
-  (tt, tt, tt, tt),
-  (
-    number_good 0 (submitters - 1) b.id.submitter w.submitter (omega arith) (omega (arith, h)),
-    (
-      number_good 0 (2 ^ 64 - 1) b.id.serial w.serial (omega arith) (omega (arith, w.serial)),
-      (
-        direction_good b.dir,
-        (number_good 0 (2 ^ 64 - 1) b.first w.first (omega arith) (omega (arith, w.first)), (number_good 0 (2 ^ 64 - 1) b.sectors w.sectors (omega arith) (omega (arith, w.sectors)), tt)),
-      ),
-    ),
-  ),
-)
+step_tells : (hw submitters : ℕ) → hw ≤ 16 → submitters ≤ 64 → Tells (step hw submitters)
+step_tells hw submitters g s = tested_tells (plain_step hw submitters) IsRight IsNoBio
+    (seen_tells held (kinds hw submitters) (λ l m e. sym (line_back l) ∙ ap (λ (h : (k : Word) × Held k). line_of h.0 h.1) e ∙ line_back m) (kinds_tell Held why.Count 6 word_of (step_cells hw submitters) words_tell (step_table hw submitters g s)))
+    (λ l k j w x fit. no_bio_once l k j w x) (λ l k w good n. no_bio_is n.0 n.1 (good n.0 n.2) n.5) (λ l k w n. (let is = n.3 in (omega (arith, is), omega (arith, is))))
 
-wide_bio : (submitters : ℕ) (b : Bio) → submitters ≤ 64 → (b.id.submitter < submitters) × (b.id.serial < 2 ^ 64) × IsBio b → IsWide b
-wide_bio submitters b s h = record {
-  submitter = omega (arith, h.0, s);
-  serial = h.1;
-  first = omega (arith, h.2.in_range);
-  sectors = omega (arith, h.2.in_range);
-}
+pub step_one : (hw submitters : ℕ) → hw ≤ 16 → submitters ≤ 64 → IsOne (step hw submitters)
+step_one hw submitters g s = record { tells = step_tells hw submitters g s; plain = λ l rest f. tt; one = λ l. refl }
 
-one_number_good : (least most n : ℕ) → n < 2 ^ 64 → least ≤ n → n ≤ most
-    → Goods (slot.Given ∷ slot.Number least most ∷ slot.Blank ∷ slot.Blank ∷ slot.Blank ∷ slot.Blank ∷ [])
-    ([] ∷ decimal n ∷ [] ∷ [] ∷ [] ∷ [] ∷ [])
-one_number_good least most n h a b = ((tt, tt, tt, tt), (number_good least most n h a b, (blank_good, (blank_good, (blank_good, (blank_good, tt))))))
+step_decides : (hw submitters : ℕ) → hw ≤ 16 → submitters ≤ 64 → Decides (step hw submitters)
+step_decides hw submitters g s = tested_decides (plain_step hw submitters) IsRight IsNoBio
+    (seen_decides held (kinds hw submitters) (λ v f. (line_of v.0 v.1, held_back v.0 v.1)) (kinds_decide Held why.Count 6 word_of (step_cells hw submitters) word_picked (step_table hw submitters g s)))
+    (λ l fit. right_or_no_bio l)
 
-line_good : (hw submitters : ℕ) (l : Line) → hw ≤ 16 → submitters ≤ 64 → LineFits hw submitters l → Goods (slots_of hw submitters (kind_of l)) (line_row l)
-unfolding kind_of
-line_good hw submitters (line.Bio b) g s h = bio_good submitters b (wide_bio submitters b s h) h.0
-line_good hw submitters (line.Flush n) g s h = one_number_good 0 (submitters - 1) n (omega (arith, h, s)) (omega arith) (omega (arith, h))
-line_good hw submitters (line.Drain n) g s h = one_number_good 0 (hw - 1) n (omega (arith, h, g)) (omega arith) (omega (arith, h))
-line_good hw submitters (line.Issue n tag) g s h =
-    ((tt, tt, tt, tt), (number_good 0 (hw - 1) n (omega (arith, h.0, g)) (omega arith) (omega (arith, h.0)), (number_good 0 65535 tag (omega (arith, h.1)) (omega arith) (omega (arith, h.1)), (blank_good, (blank_good, (blank_good, tt))))))
-line_good hw submitters (line.Done tag) g s h = one_number_good 0 65535 tag (omega (arith, h)) (omega arith) (omega (arith, h))
-line_good hw submitters line.Tick g s h = ((tt, tt, tt, tt), (blank_good, (blank_good, (blank_good, (blank_good, (blank_good, tt))))))
-line_good hw submitters (line.Run n) g s h = one_number_good 1 1_000_000 n (omega (arith, h.1)) h.0 h.1
+-- the numbers of a step, as its table and as the script say
+pub step_fits : (hw submitters : ℕ) → (l : Line) → LineFits hw submitters l → (step hw submitters).Fits l
+step_fits hw submitters (line.Bio b) h =
+    let in_range = h.2.in_range in
+    (((omega arith, omega (arith, h.0)), ((omega arith, omega (arith, h.1)), (tt, ((omega arith, omega (arith, in_range)), ((omega arith, omega (arith, in_range)), tt))))), λ c e. subst IsBio (one_bio b c e) h.2)
+step_fits hw submitters (line.Flush n) h = (((omega arith, omega (arith, h)), (tt, (tt, (tt, (tt, tt))))), λ b e. absurd (cc e))
+step_fits hw submitters (line.Drain n) h = (((omega arith, omega (arith, h)), (tt, (tt, (tt, (tt, tt))))), λ b e. absurd (cc e))
+step_fits hw submitters (line.Issue n t) h = (((omega arith, omega (arith, h.0)), ((omega arith, omega (arith, h.1)), (tt, (tt, (tt, tt))))), λ b e. absurd (cc e))
+step_fits hw submitters (line.Done t) h = (((omega arith, omega (arith, h)), (tt, (tt, (tt, (tt, tt))))), λ b e. absurd (cc e))
+step_fits hw submitters line.Tick h = ((tt, (tt, (tt, (tt, (tt, tt))))), λ b e. absurd (cc e))
+step_fits hw submitters (line.Run n) h = ((h, (tt, (tt, (tt, (tt, tt))))), λ b e. absurd (cc e))
 
-wide_no_bio : (submitters : ℕ) (cells : Row) (w : Why) → submitters ≤ 64 → (n : SpellsNoBio submitters cells w) → IsWide n.0
-wide_no_bio submitters cells w s n = record { submitter = omega (arith, n.3, s); serial = n.4; first = n.5; sectors = n.6 }
+pub fits_step : (hw submitters : ℕ) → 1 ≤ hw → 1 ≤ submitters → (l : Line) → (step hw submitters).Fits l → LineFits hw submitters l
+fits_step hw submitters g s (line.Bio b) f = let low = f.0.0.1 in let serial = f.0.1.0.1 in (omega (arith, low, s), omega (arith, serial), f.1 b refl)
+fits_step hw submitters g s (line.Flush n) f = let low = f.0.0.1 in omega (arith, low, s)
+fits_step hw submitters g s (line.Drain n) f = let low = f.0.0.1 in omega (arith, low, g)
+fits_step hw submitters g s (line.Issue n t) f = let low = f.0.0.1 in let tag = f.0.1.0.1 in (omega (arith, low, g), omega (arith, tag))
+fits_step hw submitters g s (line.Done t) f = let tag = f.0.0.1 in omega (arith, tag)
+fits_step hw submitters g s line.Tick f = tt
+fits_step hw submitters g s (line.Run n) f = f.0.0
 
-no_bio_line : (hw submitters : ℕ) (cells : Row) (w : Why) (l : Line) → submitters ≤ 64 → SpellsNoBio submitters cells w → cells ≡ line_row l → LineFits hw submitters l → ⊥
-no_bio_line hw submitters cells w (line.Bio b) s n e h =
-    let same = one_bio n.0 b (wide_no_bio submitters cells w s n) (wide_bio submitters b s h) (sym n.2 ∙ e) in
-    no_bio_is b n.1 h.2 (subst (λ (x : Bio). IsBioAnswer x.id x.dir x.first x.sectors (Err n.1)) same n.8)
-no_bio_line hw submitters cells w (line.Flush n') s n e h = let k = cons_same _ _ _ _ (sym n.2 ∙ e) in let bad = words_tell word.Bio word.Flush k.0 in cc bad
-no_bio_line hw submitters cells w (line.Drain n') s n e h = let k = cons_same _ _ _ _ (sym n.2 ∙ e) in let bad = words_tell word.Bio word.Drain k.0 in cc bad
-no_bio_line hw submitters cells w (line.Issue n' tag) s n e h = let k = cons_same _ _ _ _ (sym n.2 ∙ e) in let bad = words_tell word.Bio word.Issue k.0 in cc bad
-no_bio_line hw submitters cells w (line.Done tag) s n e h = let k = cons_same _ _ _ _ (sym n.2 ∙ e) in let bad = words_tell word.Bio word.Done k.0 in cc bad
-no_bio_line hw submitters cells w line.Tick s n e h = let k = cons_same _ _ _ _ (sym n.2 ∙ e) in let bad = words_tell word.Bio word.Tick k.0 in cc bad
-no_bio_line hw submitters cells w (line.Run n') s n e h = let k = cons_same _ _ _ _ (sym n.2 ∙ e) in let bad = words_tell word.Bio word.Run k.0 in cc bad
+-- what was read of a step's record
 
-step_apart : (hw submitters : ℕ) (cells : Row) (w : Why) (l : Line) → hw ≤ 16 → submitters ≤ 64 → StepWrong hw submitters cells w → cells ≡ line_row l → LineFits hw submitters l → ⊥
-step_apart hw submitters cells w l g s (inl a) e h =
-    word_apart word_of (slots_of hw submitters) 6 words_tell cells w (kind_of l) (rw e (line_starts l)) (rw e (line_good hw submitters l g s h)) a
-step_apart hw submitters cells w l g s (inr n) e h = no_bio_line hw submitters cells w l s n e h
+pub kind_spells : (hw submitters : ℕ) (k j : Word) (row : Row) (ns : List ℕ) → k ≡ j → FieldsSpell (slot.Given ∷ slots_by (step_cells hw submitters k)) row ns → FieldsSpell (slot.Given ∷ slots_by (step_cells hw submitters j)) row ns
+kind_spells hw submitters k j row ns e s = subst (λ (z : Word). FieldsSpell (slot.Given ∷ slots_by (step_cells hw submitters z)) row ns) e s
 
-no_bio_apart : (hw submitters : ℕ) (cells : Row) (w v : Why) → submitters ≤ 64 → Rattle.blk_text.specs.Words.WordWrong word_of (slots_of hw submitters) 6 cells w → SpellsNoBio submitters cells v → ⊥
-no_bio_apart hw submitters cells w v s a n =
-    let goods = bio_good submitters n.0 (wide_no_bio submitters cells v s n) n.3 in
-    word_apart word_of (slots_of hw submitters) 6 words_tell cells w word.Bio (rw n.2 (_, refl)) (rw n.2 goods) a
+-- of a kind that was told by its word
+pub kind_line : (hw submitters : ℕ) (k j : Word) (v : Held j) (row : Row) (ns : List ℕ) → k ≡ j → StartsWith (word_of k) row → FieldsSpell (slot.Given ∷ slots_by (step_cells hw submitters k)) row ns
+    → IsBy (step_cells hw submitters j) v (λ i. get_or row (suc i) []) (λ i. get_or ns (suc i) 0) → IsLine (kinds hw submitters) row (j, v)
+kind_line hw submitters k j v row ns e t s b =
+    let h = word_line why.Count (word_of j) (step_cells hw submitters j) (FitsBy (step_cells hw submitters j)) v row ns (subst (λ (z : Word). StartsWith (word_of z) row) e t) (kind_spells hw submitters k j row ns e s) b (λ f. f) in
+    λ rest. record { fits = (h rest).fits; made = (h rest).made; follows = tt }
 
-no_bio_once : (submitters : ℕ) (cells : Row) (w v : Why) → submitters ≤ 64 → SpellsNoBio submitters cells w → SpellsNoBio submitters cells v → w ≡ v
-no_bio_once submitters cells w v s n m =
-    let same = one_bio n.0 m.0 (wide_no_bio submitters cells w s n) (wide_no_bio submitters cells v s m) (sym n.2 ∙ m.2) in
-    let fault = one_bio_fault m.0 n.1 m.1 (subst (λ (x : Bio). IsBioAnswer x.id x.dir x.first x.sectors (Err n.1)) same n.8) m.8 in
-    n.7 ∙ ap why.Bio fault ∙ sym m.7
+-- and whose bio is one
+pub plain_line : (hw submitters : ℕ) (l : Line) (row : Row) → IsLine (kinds hw submitters) row (held l) → IsRight l → IsLine (step hw submitters) row l
+plain_line hw submitters l row h r = λ rest. record { fits = ((h rest).fits, r); made = (h rest).made; follows = tt }
 
-step_once : (hw submitters : ℕ) (cells : Row) (w v : Why) → submitters ≤ 64 → StepWrong hw submitters cells w → StepWrong hw submitters cells v → w ≡ v
-step_once hw submitters cells w v s (inl a) (inl b) = word_once word_of (slots_of hw submitters) 6 words_tell cells w v a b
-step_once hw submitters cells w v s (inl a) (inr b) = absurd (no_bio_apart hw submitters cells w v s a b)
-step_once hw submitters cells w v s (inr a) (inl b) = absurd (no_bio_apart hw submitters cells v w s b a)
-step_once hw submitters cells w v s (inr a) (inr b) = no_bio_once submitters cells w v s a b
+pub bio_right : (b : Bio) → IsBio b → IsRight (line.Bio b)
+bio_right b i = λ c e. subst IsBio (one_bio b c e) i
 
--- a step is told by its record
+-- the bio of the numbers of a record
+abbrev pub bio_with : List ℕ → Dir → Bio
+bio_with ns dir = record { id = record { submitter = get_or ns 1 0; serial = get_or ns 2 0 }; dir = dir; first = get_or ns 4 0; sectors = get_or ns 5 0 }
 
-by_word : Word → Row → Line
-by_word word.Bio cells = line.Bio (bio_at cells)
-by_word word.Flush cells = line.Flush (value (get_or cells 1 []))
-by_word word.Drain cells = line.Drain (value (get_or cells 1 []))
-by_word word.Issue cells = line.Issue (value (get_or cells 1 [])) (value (get_or cells 2 []))
-by_word word.Done cells = line.Done (value (get_or cells 1 []))
-by_word word.Tick cells = line.Tick
-by_word word.Run cells = line.Run (value (get_or cells 1 []))
+pub kind_lacks : (hw submitters : ℕ) (k : Word) (row : Row) (w : Why) → StartsWith (word_of k) row → Lacks (slot.Given ∷ slots_by (step_cells hw submitters k)) row w → IsWrongLine (step hw submitters) row w
+kind_lacks hw submitters k row w t l = λ rest. inl (inl (k, t, (refl, inl (t, l))))
 
-abbrev line_at : Row → Line
-line_at cells = by_word (word_at (get_or cells 0 [])) cells
+pub no_kind : (hw submitters : ℕ) (cells : Row) (w : Why) → ((k : Word) → ¬ (get_or cells 0 [] ≡ word_of k)) → HasNoWord 6 cells w → IsWrongLine (step hw submitters) cells w
+no_kind hw submitters cells w n h = λ rest. inl (inr (refl, (λ k s. n k (first_is cells (word_of k) s)), h))
 
-line_is : (hw submitters : ℕ) (l : Line) → hw ≤ 16 → submitters ≤ 64 → LineFits hw submitters l → line_at (line_row l) ≡ l
-unfolding by_word
-line_is hw submitters (line.Bio b) g s h = ap line.Bio (bio_is b (wide_bio submitters b s h))
-line_is hw submitters (line.Flush n) g s h = ap line.Flush (value_is n (omega (arith, h, s)))
-line_is hw submitters (line.Drain n) g s h = ap line.Drain (value_is n (omega (arith, h, g)))
-line_is hw submitters (line.Issue n tag) g s h = rw (value_is n (omega (arith, h.0, g)), value_is tag (omega (arith, h.1))) refl
-line_is hw submitters (line.Done tag) g s h = ap line.Done (value_is tag (omega (arith, h)))
-line_is hw submitters line.Tick g s h = refl
-line_is hw submitters (line.Run n) g s h = ap line.Run (value_is n (omega (arith, h.1)))
+pub step_gone : (hw submitters : ℕ) → (step hw submitters).Wrong [] 1 why.Count
+step_gone hw submitters = inl (inr (refl, (λ k s. s), refl))
 
-one_line : (hw submitters : ℕ) → hw ≤ 16 → submitters ≤ 64 → (l m : Line) → LineFits hw submitters l → LineFits hw submitters m → line_row l ≡ line_row m → l ≡ m
-one_line hw submitters g s l m p q e = sym (line_is hw submitters l g s p) ∙ ap line_at e ∙ line_is hw submitters m g s q
-
-step_tells : (hw submitters : ℕ) → hw ≤ 16 → submitters ≤ 64 → TellsRecord line_row (LineFits hw submitters) (StepWrong hw submitters)
-step_tells hw submitters g s = record {
-  once = one_line hw submitters g s;
-  apart = λ l w fit bad. step_apart hw submitters (line_row l) w l g s bad refl fit;
-  first = λ cells w v a b. step_once hw submitters cells w v s a b;
-}
+-- of a bio that there is not
+pub no_bio_line : (hw submitters : ℕ) (b : Bio) (f : BioFault) (row : Row) → IsLine (kinds hw submitters) row (word.Bio, b) → IsBioAnswer b.id b.dir b.first b.sectors (Err f) → IsWrongLine (step hw submitters) row (why.Bio f)
+no_bio_line hw submitters b f row h a = λ rest. inr (line.Bio b, rest, record { fits = (h rest).fits; made = (h rest).made; follows = tt }, (b, f, refl, refl, refl, a))
 
 -- titles and setups
 
-title_table : (version : ℕ) → IsTable (script_cells version) IsTitle
+pub title_fits : (t : Title) → FitsBy (script_cells 1) t → IsTitle t
+title_fits t f = record { depth = f.0; hw = f.1.0; soft_depth = f.1.1.0; submitters = f.1.1.1.0 }
+
+pub title_table : (version : ℕ) → IsTable (script_cells version) IsTitle
 title_table version = record {
   sized = (omega arith, (omega arith, (omega arith, (omega arith, tt))));
-  within = λ t i. (i.depth.0, i.depth.1, (i.hw.0, i.hw.1, (i.soft_depth.0, i.soft_depth.1, (i.submitters.0, i.submitters.1, tt))));
-  tells = λ t u f g e. (λ i. record { depth = e.0 i; hw = e.1.0 i; soft_depth = e.1.1.0 i; submitters = e.1.1.1.0 i });
+  within = λ t i. (i.depth, (i.hw, (i.soft_depth, (i.submitters, tt))));
+  made = λ x. record { depth = x.0; hw = x.1.0; soft_depth = x.1.1.0; submitters = x.1.1.1.0 };
+  back = λ t i. refl;
+  forth = λ x. refl;
+  fits = λ x f. title_fits _ f;
 }
 
-pub title_tells : Tells title
-title_tells =
-    tested_tells plain_title IsEnough TooFew (title_part (codes "blk-script") 1 script_cells IsTitle (omega arith) title_table)
-    (λ t k j w x fit f g. (f.0 ∙ sym g.0, f.1 ∙ sym g.1))
-    (λ t k w good f. (let few = f.2 in omega (arith, good, few)))
-    (λ t k w f. (let is = f.0 in (omega (arith, is), omega (arith, is))))
+pub title_one : IsOne title
+title_one = record {
+  tells = tested_tells plain_title IsEnough TooFew (title_part (codes "blk-script") 1 script_cells IsTitle (omega arith) title_table)
+      (λ t k j w x fit f g. (f.0 ∙ sym g.0, f.1 ∙ sym g.1))
+      (λ t k w good f. (let few = f.2 in omega (arith, good, few)))
+      (λ t k w f. (let is = f.0 in (omega (arith, is), omega (arith, is))));
+  plain = λ t rest f. tt;
+  one = λ t. refl;
+}
 
-pub setup_table : (depth hw : ℕ) → IsTable setup_cells (FitsSetup depth hw)
-setup_table depth hw = record {
-  sized = (omega arith, (omega arith, (omega arith, (omega arith, tt))));
+title_decided : Decides title
+title_decided = tested_decides plain_title IsEnough TooFew (title_decides (codes "blk-script") 1 script_cells IsTitle (omega arith) title_table) (λ t fit. elim (at_most t.1.hw t.1.submitters) [
+  | inl e ↦ inl e
+  | inr n ↦ inr (1, why.Range, (refl, refl, few t.1.hw t.1.submitters n))
+])
+  where
+    few : (a b : ℕ) → ¬ (a ≤ b) → b < a
+    few a b h = grind (arith, h)
+
+pub setup_table : (depth hw : ℕ) → (0 < depth) × (depth ≤ 64) → (0 < hw) × (hw ≤ 16) → IsTable setup_cells (FitsSetup depth hw)
+setup_table depth hw d q = record {
+  sized = (omega arith, (omega arith, (omega arith, (omega arith, (tt, tt)))));
   within = λ s f. (
       let h = f.2 in (
-        omega arith,
-        omega (arith, h.is_setup.read_in),
-        (omega arith, omega (arith, h.is_setup.write_in), (omega (arith, h.is_limits.some_sectors), h.is_limits.few_sectors, (omega (arith, h.is_limits.some_segments), h.is_limits.few_segments, tt))),
+        (omega arith, omega (arith, h.is_setup.read_in)),
+        (
+          (omega arith, omega (arith, h.is_setup.write_in)),
+          ((omega (arith, h.is_limits.some_sectors), h.is_limits.few_sectors), ((omega (arith, h.is_limits.some_segments), h.is_limits.few_segments), (tt, tt))),
+        ),
       )
       );
-  tells = λ s t f g e. (
-      let depth = f.0 ∙ sym g.0 in
-      let hw = f.1 ∙ sym g.1 in
-      λ i. record { depth = depth i; hw = hw i; read_expire = e.0 i; write_expire = e.1.0 i; limits = record { max_sectors = e.1.1.0 i; max_segments = e.1.1.1.0 i } }
+  made = λ x. record { depth = depth; hw = hw; read_expire = x.0; write_expire = x.1.0; limits = record { max_sectors = x.1.1.0; max_segments = x.1.1.1.0 } };
+  back = λ s f. (λ i. record { depth = sym f.0 i; hw = sym f.1 i; read_expire = s.read_expire; write_expire = s.write_expire; limits = s.limits });
+  forth = λ x. refl;
+  fits = λ x f. (
+      let read = f.0.1 in
+      let write = f.1.0.1 in
+      let sectors = f.1.1.0.0 in
+      let segments = f.1.1.1.0.0 in (
+        refl,
+        refl,
+        record {
+          is_setup = record { some_tags = d.0; few_tags = omega (arith, d.1); some_queues = q.0; few_queues = omega (arith, q.1); read_in = omega (arith, read); write_in = omega (arith, write) };
+          is_limits = record { some_sectors = omega (arith, sectors); few_sectors = f.1.1.0.1; some_segments = omega (arith, segments); few_segments = f.1.1.1.0.1 };
+        },
+      )
       );
 }
 
-unit_tells : (j k : Unit {0}) → codes "setup" ≡ codes "setup" → j ≡ k
-unit_tells j k e = refl
+-- the setup of the numbers of a record
+abbrev pub setup_with : ℕ → ℕ → List ℕ → Setup
+setup_with depth hw ns = record { depth = depth; hw = hw; read_expire = get_or ns 1 0; write_expire = get_or ns 2 0; limits = record { max_sectors = get_or ns 3 0; max_segments = get_or ns 4 0 } }
 
-setup_tells : (depth hw : ℕ) → Tells (setup depth hw)
-setup_tells depth hw = record_tells setup_row (FitsSetup depth hw) why.Word SetupWrong (record {
-  once = (table_tells setup_cells (FitsSetup depth hw) (setup_table depth hw)).once;
-  apart = λ s w fit bad. word_apart (λ (k : Unit {0}). codes "setup") (λ k. setup_slots) 6 unit_tells (setup_row s) w tt (_, refl) (goods_by setup_cells s (setup_table depth hw).sized ((setup_table depth hw).within s fit)) bad;
-  first = word_once (λ (k : Unit {0}). codes "setup") (λ k. setup_slots) 6 unit_tells;
-})
+pub setup_fits : (depth hw : ℕ) (ns : List ℕ) (l : Limits) (s : Setup) → l ≡ record { max_sectors = get_or ns 3 0; max_segments = get_or ns 4 0 } → s ≡ setup_with depth hw ns → IsSetup s → IsLimits l
+    → FitsSetup depth hw (setup_with depth hw ns)
+setup_fits depth hw ns l s e f i k = (refl, refl, record { is_setup = subst IsSetup f i; is_limits = subst IsLimits e k })
+
+abbrev setup_word : Setup → Row
+setup_word s = codes "setup" ∷ row_by setup_cells s
+
+pub setup_one : (depth hw : ℕ) → (0 < depth) × (depth ≤ 64) → (0 < hw) × (hw ≤ 16) → IsOne (setup depth hw)
+setup_one depth hw d q = one_record setup_word (FitsSetup depth hw) why.Word (WordLacks (codes "setup") (slots_by setup_cells)) (word_tells (codes "setup") setup_cells (FitsSetup depth hw) (setup_table depth hw d q))
 
 -- whole scripts
 
-steps_tell : (t : Title) → IsTitle t → Tells (items_of (extent.AtMost 999_998) (step t.hw t.submitters))
-steps_tell t i = each_tells line_row (LineFits t.hw t.submitters) why.Count (StepWrong t.hw t.submitters) (extent.AtMost 999_998) (step_tells t.hw t.submitters i.hw.1 i.submitters.1)
+steps_tell : (t : Title) → IsTitle t → Tells (items_of (repeats.AtMost 999_998) (λ _. step t.hw t.submitters))
+steps_tell t i = each_tells (step t.hw t.submitters) (step_one t.hw t.submitters i.hw.1 i.submitters.1) (repeats.AtMost 999_998)
 
-body_tells : (t : Title) → IsTitle t → Tells (script_body t)
-body_tells t i = then_tells (setup t.depth t.hw) (λ s. items_of (extent.AtMost 999_998) (step t.hw t.submitters)) (setup_tells t.depth t.hw) (λ s fit. steps_tell t i)
+pub body_tells : (t : Title) → IsTitle t → Tells (script_body t)
+body_tells t i = then_tells (setup t.depth t.hw) (λ s. items_of (repeats.AtMost 999_998) (λ _. step t.hw t.submitters)) (setup_one t.depth t.hw i.depth i.hw).tells (λ s fit. steps_tell t i)
 
-pub script_tells : Tells script_form
-script_tells = then_tells title (λ t. script_body t.1) title_tells (λ t fit. body_tells t.1 fit.0.1)
+script_tells : Tells script_form
+script_tells = then_tells title (λ t. script_body t.1) title_one.tells (λ t fit. body_tells t.1 fit.0.1)
+
+script_decides : Decides script_form
+script_decides = then_decides title (λ t. script_body t.1) title_decided (λ t fit. (let i = fit.0.1 in
+    then_decides (setup t.1.depth t.1.hw) (λ s. items_of (repeats.AtMost 999_998) (λ _. step t.1.hw t.1.submitters))
+    (record_decides setup_word (FitsSetup t.1.depth t.1.hw) why.Word (WordLacks (codes "setup") (slots_by setup_cells)) (word_decides (codes "setup") setup_cells (FitsSetup t.1.depth t.1.hw) (setup_table t.1.depth t.1.hw i.depth i.hw)))
+    (λ s fit. each_decides (step t.1.hw t.1.submitters) (step_decides t.1.hw t.1.submitters i.hw.1 i.submitters.1) (repeats.AtMost 999_998))))
 
 same_script : (s t : Scripted) → s.setup ≡ t.setup → s.soft_depth ≡ t.soft_depth → s.submitters ≡ t.submitters → s.lines ≡ t.lines → s ≡ t
 same_script s t a b c d i = record { setup = a i; soft_depth = b i; submitters = c i; lines = d i }
@@ -301,35 +329,33 @@ spelled_once rows s t p q =
     let e = (script_tells.once rows (script_value s) (script_value t) [] [] p q).0 in
     same_script s t (λ i. (e i).1.0) (λ i. (e i).0.1.soft_depth) (λ i. (e i).0.1.submitters) (λ i. (e i).1.1)
 
+pub spelled_apart : (rows : List Row) (s : Scripted) (at : ℕ) (w : Why) → SpellsScript rows s → ScriptFault rows at w → ⊥
+spelled_apart rows s at w = script_tells.apart rows (script_value s) [] at w
+
+pub fault_once : (rows : List Row) (at other : ℕ) (w v : Why) → ScriptFault rows at w → ScriptFault rows other v → (at ≡ other) × (w ≡ v)
+fault_once = script_tells.first
+
+steps_fit : (hw submitters : ℕ) (lines : List Line) → All (LineFits hw submitters) lines → All (step hw submitters).Fits lines
+steps_fit hw submitters lines h = λ k d l. step_fits hw submitters _ (h k d l)
+
 -- the records of a script spell it
 pub rows_spell : (s : Scripted) → IsScript s → SpellsScript (script_rows s) s
-rows_spell s h = record {
-  fits = (
-    (((omega arith, omega arith), h.title), h.enough),
-    ((refl, refl, h.setup), ((all_fit line_row (LineFits s.setup.hw s.submitters) why.Count (StepWrong s.setup.hw s.submitters) [] s.lines h.lines, h.short), tt)),
-  );
-  made = ap (λ t. title_row (title_of s) ∷ setup_row s.setup ∷ t) (sym (append-nil _ ∙ append-nil _ ∙ rows_map line_row (LineFits s.setup.hw s.submitters) why.Count (StepWrong s.setup.hw s.submitters) [] s.lines))
-      ∙ ap (λ one. (codes "blk-script" ∷ one ∷ decimal s.setup.depth ∷ decimal s.setup.hw ∷ decimal s.soft_depth ∷ decimal s.submitters ∷ []) ∷ setup_row s.setup
-      ∷ ((items_of (extent.AtMost 999_998) (step s.setup.hw s.submitters)).rows_of s.lines ++ [])) (sym first_version);
-  follows = (tt, (tt, (inr refl, refl)));
-}
+rows_spell s h = begins_itself script_form (script_value s)
+    ((((omega arith, omega arith), h.title), h.enough), ((refl, refl, h.setup), ((all_fit (step s.setup.hw s.submitters) [] s.lines (steps_fit s.setup.hw s.submitters s.lines h.lines), h.short), tt)))
+    (tt, (tt, (inr refl, refl)))
 
-line_back : (l : Line) → read_back (line_row l) ≡ line_row l
-line_back (line.Bio b) = refl
-line_back (line.Flush n) = refl
-line_back (line.Drain n) = refl
-line_back (line.Issue n tag) = refl
-line_back (line.Done tag) = refl
-line_back line.Tick = refl
-line_back (line.Run n) = refl
-
-lines_back : (ls : List Line) → map read_back (map line_row ls) ≡ map line_row ls
-lines_back [] = refl
-lines_back (l ∷ ls) = rw (line_back l, lines_back ls) refl
+step_back : (hw submitters : ℕ) (l : Line) → map read_back ((step hw submitters).rows_of l) ≡ (step hw submitters).rows_of l
+step_back hw submitters (line.Bio b) = refl
+step_back hw submitters (line.Flush n) = refl
+step_back hw submitters (line.Drain n) = refl
+step_back hw submitters (line.Issue n tag) = refl
+step_back hw submitters (line.Done tag) = refl
+step_back hw submitters line.Tick = refl
+step_back hw submitters (line.Run n) = refl
 
 pub read_back_is : (s : Scripted) → IsScript s → SpellsScript (records default_config (strip_bom (rows_text (script_rows s)))) s
 unfolding rows_text
-read_back_is s h = rw (text_back (script_rows s) _ refl (rw (lines_back s.lines) refl)) (rows_spell s h)
+read_back_is s h = rw (text_back (script_rows s) _ refl (rw (parts_back (step s.setup.hw s.submitters) (step_back s.setup.hw s.submitters) s.lines) refl)) (rows_spell s h)
 
 -- reading
 
@@ -337,35 +363,51 @@ read_back_is s h = rw (text_back (script_rows s) _ refl (rw (lines_back s.lines)
 title_is : (t : Title) (s : Setup) (lines : List Line) → FitsSetup t.depth t.hw s → title_of (record { setup = s; soft_depth = t.soft_depth; submitters = t.submitters; lines = lines }) ≡ t
 title_is t s lines f = λ i. record { depth = f.0 i; hw = f.1 i; soft_depth = t.soft_depth; submitters = t.submitters }
 
-pub script_in : (t : Title) (s : Setup) (lines : List Line) → IsTitle t → t.hw ≤ t.submitters → FitsSetup t.depth t.hw s → AreItems (extent.AtMost 999_998) (step t.hw t.submitters) lines
+-- records that were taken for a title, a setup and steps spell them
+script_spelled : (rows : List Row) (t : ℕ × Title) (s : Setup) (lines : List Line) → IsVersion 1 t.0 → FitsSetup t.1.depth t.1.hw s → Spells script_form rows (t, (s, lines))
+    → SpellsScript rows record { setup = s; soft_depth = t.1.soft_depth; submitters = t.1.submitters; lines = lines }
+script_spelled rows t s lines v f h =
+    let one = one_version t.0 v in
+    let same = title_is t.1 s lines f in
+    subst (λ v. Spells script_form rows v) (λ i. ((one i, sym same i), (s, lines))) h
+
+pub spelled_or_wrong : (rows : List Row) → ((s : Scripted) × SpellsScript rows s) ⊎ ((at : ℕ) × (w : Why) × ScriptFault rows at w)
+spelled_or_wrong rows = elim (script_decides rows) [
+  | inl h ↦ (let f = h.2.fits in let t = h.0.0 in
+      inl (record { setup = h.0.1.0; soft_depth = t.1.soft_depth; submitters = t.1.submitters; lines = h.0.1.1 }, script_spelled rows t h.0.1.0 h.0.1.1 f.0.0.0 f.1.0 (rw h.2.follows.1.1.1 at h.2)))
+  | inr f ↦ inr f
+]
+
+pub script_in : (t : Title) (s : Setup) (lines : List Line) → IsTitle t → t.hw ≤ t.submitters → FitsSetup t.depth t.hw s → All (step t.hw t.submitters).Fits lines → length lines ≤ 999_998
     → IsScript record { setup = s; soft_depth = t.soft_depth; submitters = t.submitters; lines = lines }
-script_in t s lines i enough f a = record {
+script_in t s lines i enough f a short = record {
   title = subst IsTitle (sym (title_is t s lines f)) i;
   enough = (let hw = f.1 in omega (arith, enough, hw));
   setup = f.2;
-  lines = subst (λ hw. All (LineFits hw t.submitters) lines) (sym f.1) (fit_all line_row (LineFits t.hw t.submitters) why.Count (StepWrong t.hw t.submitters) [] lines a.0);
-  short = a.1;
+  lines = subst (λ hw. All (LineFits hw t.submitters) lines) (sym f.1) (λ k d l. fits_step t.hw t.submitters i.hw.0 i.submitters.0 _ (a k d l));
+  short = short;
 }
 
 pub script_read : (left mid after : Option (List Row)) (t : ℕ × Title) (s : Setup) (lines : List Line) → Reads title left mid t → Reads (setup t.1.depth t.1.hw) mid after s
-    → IfSome after (λ rows. Begins (items_of (extent.AtMost 999_998) (step t.1.hw t.1.submitters)) rows lines []) → IsVersion 1 t.0 → FitsSetup t.1.depth t.1.hw s
+    → IfSome after (λ rows. Begins (items_of (repeats.AtMost 999_998) (λ _. step t.1.hw t.1.submitters)) rows lines []) → IsVersion 1 t.0 → FitsSetup t.1.depth t.1.hw s
     → IfSome left (λ rows. SpellsScript rows record { setup = s; soft_depth = t.1.soft_depth; submitters = t.1.submitters; lines = lines })
 script_read None mid after t s lines h k a v f = tt
 script_read (Some rows) mid after t s lines h k a v f =
-    let one = one_version t.0 v in
-    let title_same = title_is t.1 s lines f in
-    let whole : Spells script_form rows (t, (s, lines)) = then_reads title (λ t. script_body t.1) (Some rows) mid t (s, lines) h
-    (then_reads (setup t.1.depth t.1.hw) (λ s. items_of (extent.AtMost 999_998) (step t.1.hw t.1.submitters)) mid after s lines k a) in
-    subst (λ v. Spells script_form rows v) (λ i. ((one i, sym title_same i), (s, lines))) whole
+    script_spelled rows t s lines v f (then_reads title (λ t. script_body t.1) (Some rows) mid t (s, lines) h
+    (then_reads (setup t.1.depth t.1.hw) (λ s. items_of (repeats.AtMost 999_998) (λ _. step t.1.hw t.1.submitters)) mid after s lines k a))
 
-pub setup_reached : (left mid : Option (List Row)) (t : ℕ × Title) (middle at : ℕ) → middle ≡ 1 → at ≡ 2 → IsTitle t.1 → Reads title left mid t → Reaches script_form left 0 at
-setup_reached left mid t middle at e is i h =
-    second_reached title (λ t. script_body t.1) left mid t 0 middle at title_tells h (omega (arith, e))
-    (first_reached (setup t.1.depth t.1.hw) (λ s. items_of (extent.AtMost 999_998) (step t.1.hw t.1.submitters)) mid middle at (setup_tells t.1.depth t.1.hw) (λ s fit. steps_tell t.1 i) (omega (arith, e, is)))
+-- where reading halts
 
-pub step_reached : (left mid after : Option (List Row)) (t : ℕ × Title) (s : Setup) (middle start at last : ℕ) → middle ≡ 1 → start ≡ 2 → IsTitle t.1 → Reads title left mid t
-    → Reads (setup t.1.depth t.1.hw) mid after s → IsStopped (extent.AtMost 999_998) (step t.1.hw t.1.submitters) after start 0 at last → Reaches script_form left 0 at
-step_reached left mid after t s middle start at last e f i h k b =
-    second_reached title (λ t. script_body t.1) left mid t 0 middle at title_tells h (omega (arith, e))
-    (second_reached (setup t.1.depth t.1.hw) (λ s. items_of (extent.AtMost 999_998) (step t.1.hw t.1.submitters)) mid after s middle start at (setup_tells t.1.depth t.1.hw) k (omega (arith, e, f))
-    (each_reached line_row (LineFits t.1.hw t.1.submitters) why.Count (StepWrong t.1.hw t.1.submitters) (extent.AtMost 999_998) after start at last (step_tells t.1.hw t.1.submitters i.hw.1 i.submitters.1) b))
+pub title_halts : (failed : Bool) (left : Option (List Row)) (start at : ℕ) (w : Why) → start ≡ 0 → Halts failed title left start at w → Halts failed script_form left 0 at w
+title_halts failed left start at w e h = first_halts failed title (λ t. script_body t.1) left 0 at w (λ t fit. body_tells t.1 fit.0.1) (rw e at h)
+
+pub setup_halts : (failed : Bool) (left mid : Option (List Row)) (t : ℕ × Title) (middle at : ℕ) (w : Why) → middle ≡ 1 → IsTitle t.1 → Reads title left mid t → Halts failed (setup t.1.depth t.1.hw) mid middle at w → Halts failed script_form left 0 at w
+setup_halts failed left mid t middle at w e i r h =
+    second_halts failed title (λ t. script_body t.1) left mid t 0 middle at w title_one.tells r (omega (arith, e))
+    (first_halts failed (setup t.1.depth t.1.hw) (λ s. items_of (repeats.AtMost 999_998) (λ _. step t.1.hw t.1.submitters)) mid middle at w (λ s fit. steps_tell t.1 i) h)
+
+pub steps_halt : (failed : Bool) (left mid after : Option (List Row)) (t : ℕ × Title) (s : Setup) (middle start at : ℕ) (w : Why) → middle ≡ 1 → start ≡ 2 → IsTitle t.1 → Reads title left mid t → Reads (setup t.1.depth t.1.hw) mid after s
+    → Halts failed (items_of (repeats.AtMost 999_998) (λ _. step t.1.hw t.1.submitters)) after start at w → Halts failed script_form left 0 at w
+steps_halt failed left mid after t s middle start at w e f i r k h =
+    second_halts failed title (λ t. script_body t.1) left mid t 0 middle at w title_one.tells r (omega (arith, e))
+    (second_halts failed (setup t.1.depth t.1.hw) (λ s. items_of (repeats.AtMost 999_998) (λ _. step t.1.hw t.1.submitters)) mid after s middle start at w (setup_one t.1.depth t.1.hw i.depth i.hw).tells k (omega (arith, e, f)) h)

@@ -1,5 +1,5 @@
 -- The laws of the text of a trace.
-use Rattle.std.proofs.Common.{◌≡◌, ◌==◌, ◌∙◌, ℕ, List, [], ◌∷◌, ◌++◌, length, map, take, get_or, refl, sym, ap, arith}
+use Rattle.std.proofs.Common.{◌≡◌, ◌==◌, ◌∙◌, ℕ, List, [], ◌∷◌, ◌++◌, length, map, take, get_or, ◌<◌, ◌^◌, refl, sym, ap, arith}
 use Rattle.std.specs.Prelude.{All, if◌then◌else◌}
 use Rattle.std.specs.List.{flat_map}
 use Rattle.std.proofs.lemmas.List.{map-append, append_cancel_left}
@@ -7,16 +7,19 @@ use Rattle.std.proofs.lemmas.Fmt.{decimal_injective}
 use Rattle.csv.specs.Reading.{default_config, records, strip_bom}
 use Rattle.csv.specs.Writing.{read_back}
 use Rattle.blk_bio.specs.Bios.{Bio}
+use Rattle.blk_bio.specs.declared.bio.Dir.{Dir}
+use Rattle.blk_bio.specs.declared.bio.Dir.TheVariants as dir
 use Rattle.blk_trace.specs.Happened.{Happened, Ticked, Released, Joined, Issued, Finished}
 use Rattle.blk_trace.specs.Traces.{Traced}
 use Rattle.blk_text.specs.Sources.{Row}
 use Rattle.blk_text.specs.Texts.{rows_text}
-use Rattle.blk_text.specs.BioRecord.{bio_row}
+use Rattle.blk_text.specs.BioRecord.{bio_row, direction_text}
 use Rattle.blk_text.specs.SetupRecord.{setup_cells, FitsSetup}
 use Rattle.blk_text.specs.TraceRecords.{BioFits, EventFits, event_rows, trace_rows, IsTrace, SpellsTrace}
 use Rattle.blk_text.proofs.Lists.{head_of, tail_of, cons_same}
-use Rattle.blk_text.proofs.ScriptLaws.{value, value_is, IsWide, bio_at, bio_is, setup_table}
-use Rattle.blk_text.proofs.TableLaws.{table_tells}
+use Rattle.blk_text.proofs.Lacking.{value, value_is}
+use Rattle.blk_text.proofs.ScriptLaws.{setup_table}
+use Rattle.blk_text.proofs.TableLaws.{one_by}
 use Rattle.blk_text.proofs.Texts.{text_back}
 
 bios_back : (bios : List Bio) → map read_back (map bio_row bios) ≡ map bio_row bios
@@ -42,6 +45,30 @@ pub spelled_back : (t : Traced) → IsTrace t → SpellsTrace (records default_c
 spelled_back t h = (read_back_is t, h)
 
 -- an event is told by its records, whatever follows
+
+abbrev dir_at : List ℕ → Dir
+dir_at f = if get_or f 0 0 == 82 then dir.Read else dir.Write
+
+dir_is : (d : Dir) → dir_at (direction_text d) ≡ d
+dir_is dir.Read = refl
+dir_is dir.Write = refl
+
+-- the numbers of a bio are written in 64 bits
+record IsWide (b : Bio) : Type 0 where
+  pub submitter : b.id.submitter < 2 ^ 64
+  pub serial : b.id.serial < 2 ^ 64
+  pub first : b.first < 2 ^ 64
+  pub sectors : b.sectors < 2 ^ 64
+
+bio_at : Row → Bio
+bio_at cells = record { id = record { submitter = value (get_or cells 1 []); serial = value (get_or cells 2 []) }; dir = dir_at (get_or cells 3 []); first = value (get_or cells 4 []); sectors = value (get_or cells 5 []) }
+
+same_bio : (b c : Bio) → b.id.submitter ≡ c.id.submitter → b.id.serial ≡ c.id.serial → b.dir ≡ c.dir → b.first ≡ c.first → b.sectors ≡ c.sectors → b ≡ c
+same_bio b c p q r s t i = record { id = record { submitter = p i; serial = q i }; dir = r i; first = s i; sectors = t i }
+
+bio_is : (b : Bio) → IsWide b → bio_at (bio_row b) ≡ b
+unfolding bio_at
+bio_is b h = same_bio _ b (value_is b.id.submitter h.submitter) (value_is b.id.serial h.serial) (dir_is b.dir) (value_is b.first h.first) (value_is b.sectors h.sectors)
 
 wide_bio : (b : Bio) → BioFits b → IsWide b
 wide_bio b h = record { submitter = omega (arith, h.0); serial = h.1; first = omega (arith, h.2.in_range); sectors = omega (arith, h.2.in_range) }
@@ -101,4 +128,6 @@ spelled_once rows t u p q =
     let second = cons_same _ _ _ _ first.1 in
     let depth = decimal_injective t.setup.depth u.setup.depth (omega (arith, p.1.setup.is_setup.few_tags)) (omega (arith, q.1.setup.is_setup.few_tags)) first.0 in
     let hw = decimal_injective t.setup.hw u.setup.hw (omega (arith, p.1.setup.is_setup.few_queues)) (omega (arith, q.1.setup.is_setup.few_queues)) second.0 in
-    ((table_tells setup_cells (FitsSetup u.setup.depth u.setup.hw) (setup_table u.setup.depth u.setup.hw)).once t.setup u.setup (depth, hw, p.1.setup) (refl, refl, q.1.setup) f.0, events_once t.events u.events p.1.events q.1.events f.1)
+    let is = q.1.setup.is_setup in
+    let table = setup_table u.setup.depth u.setup.hw (is.some_tags, is.few_tags) (is.some_queues, is.few_queues) in
+    (one_by setup_cells (FitsSetup u.setup.depth u.setup.hw) table t.setup u.setup (depth, hw, p.1.setup) (refl, refl, q.1.setup) (cons_same _ _ _ _ f.0).1, events_once t.events u.events p.1.events q.1.events f.1)

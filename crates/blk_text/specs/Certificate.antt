@@ -1,22 +1,18 @@
 -- A certificate: a title, a bound, and a record for each command with its round.
-use Rattle.std.specs.Prelude.{◌≡◌, ◌⊎◌, ◌≤◌, ◌<◌, ◌^◌, ◌-◌, ℕ, ℤ, pos, negsuc, suc, List, [], ◌∷◌, length, map, decimal, codes, All, Option, Some, None}
+use Rattle.std.specs.Prelude.{◌≡◌, ◌≤◌, ◌<◌, ◌^◌, ◌-◌, ℕ, ℤ, zero, suc, pos, negsuc, List, [], ◌∷◌, length, codes, All, Option, Some, None}
 use Rattle.std.specs.List.{zip}
-use Rattle.std.specs.Fmt.{signed_decimal}
 use Rattle.edd_check.specs.declared.Command.{Command}
 use Rattle.edd_check.specs.declared.Window.{Window}
 use Rattle.blk_text.specs.Sources.{Row}
-use Rattle.blk_text.specs.Fields.{Lacks}
 use Rattle.blk_text.specs.Commands.{IsCommandInRange}
 use Rattle.blk_text.specs.Reads.{items_of}
-use Rattle.blk_text.specs.Tables.{Cell, Word, Number, Signed, slots_by, table_record, title_record}
-use Rattle.blk_text.specs.Words.{StartsWith, HasNoWord}
+use Rattle.blk_text.specs.Tables.{Cell, Number, Signed, FitsBy, row_by, table_record, word_record, title_record}
+use Rattle.blk_text.specs.Words.{NextStarts, HasNoWord}
 use Rattle.blk_text.specs.declared.certificate.Certificate.{Certificate}
 use Rattle.blk_text.specs.declared.fault.Why.{Why}
 use Rattle.blk_text.specs.declared.fault.Why.TheVariants as why
-use Rattle.blk_text.specs.declared.fields.Slot.{Slot}
-use Rattle.blk_text.specs.declared.fields.Slot.TheVariants as slot
-use Rattle.parts.specs.declared.Extent.TheVariants as extent
-use Rattle.parts.specs.Parts.{Part, then, record_of, Spells}
+use Rattle.parts.specs.declared.Repeats.TheVariants as repeats
+use Rattle.parts.specs.Parts.{Part, NextWrong, record_of, then, seen_as, by_word, Spells}
 
 -- a certificate: the depth, the commands and their rounds by place, and a lateness with its window
 pub record Claim : Type 0 where
@@ -37,30 +33,26 @@ counted_cells version = Number 1 256 (λ t. t.0) ∷ Number 0 1_000_000 (λ t. t
 abbrev pub IsCounted : ℕ × ℕ → Type 0
 IsCounted t = (1 ≤ t.0) × (t.0 ≤ 256) × (t.1 ≤ 1_000_000)
 
--- bound: bound, lateness, window's from, window's due
-abbrev pub bound_cells : List (Cell (ℤ × Window))
-bound_cells = Word (codes "bound") ∷ Signed (2 ^ 41 - 1) (λ b. b.0) ∷ Number 0 (2 ^ 41 - 1) (λ b. b.1.from) ∷ Number 0 (2 ^ 41 - 1) (λ b. b.1.due) ∷ []
+-- the rounds of a window: none where there are no commands
+abbrev pub first_round : ℕ → ℕ
+first_round zero = 1
+first_round (suc count) = 0
 
--- a lateness and two numbers beside no commands: no window is in range
-abbrev pub no_bound_slots : List Slot
-no_bound_slots = slot.Given ∷ slot.Lateness (2 ^ 41 - 1) ∷ slot.Number 1 0 ∷ slot.Number 1 0 ∷ []
+abbrev pub last_round : ℕ → ℕ
+last_round zero = 0
+last_round (suc count) = 2 ^ 41 - 1
+
+-- bound, lateness, window's from, window's due
+abbrev pub bound_cells : ℕ → List (Cell (ℤ × Window))
+bound_cells count = Signed (2 ^ 41 - 1) (λ b. b.0) ∷ Number (first_round count) (last_round count) (λ b. b.1.from) ∷ Number (first_round count) (last_round count) (λ b. b.1.due) ∷ []
+
+-- no bound
+abbrev pub no_bound_row : Row
+no_bound_row = codes "bound" ∷ codes "none" ∷ codes "none" ∷ codes "none" ∷ []
 
 -- each command: id, release, due, round
 abbrev pub served_cells : List (Cell (Command × ℕ))
 served_cells = Number 0 (2 ^ 64 - 1) (λ s. s.0.id) ∷ Number 0 (2 ^ 40 - 1) (λ s. s.0.release) ∷ Number 0 (2 ^ 41 - 1) (λ s. s.0.due) ∷ Number 0 (2 ^ 41 - 1) (λ s. s.1) ∷ []
-
--- the title record
-abbrev pub title_row : ℕ → ℕ → Row
-title_row depth count = codes "blk-certificate" ∷ codes "1" ∷ decimal depth ∷ decimal count ∷ []
-
--- the record of a bound, or that there is none
-abbrev pub bound_row : Option (ℤ × Window) → Row
-bound_row None = codes "bound" ∷ codes "none" ∷ codes "none" ∷ codes "none" ∷ []
-bound_row (Some b) = codes "bound" ∷ signed_decimal b.0 ∷ decimal b.1.from ∷ decimal b.1.due ∷ []
-
--- a command and its round
-abbrev pub served_row : Command × ℕ → Row
-served_row s = decimal s.0.id ∷ decimal s.0.release ∷ decimal s.0.due ∷ decimal s.1 ∷ []
 
 -- the numbers of a command and its round lie in their ranges
 abbrev pub IsServed : Command × ℕ → Type 0
@@ -76,10 +68,6 @@ abbrev pub IsBound : ℕ → Option (ℤ × Window) → Type 0
 IsBound count None = count ≡ 0
 IsBound count (Some b) = (0 < count) × IsLateness b.0 × (b.1.from < 2 ^ 41) × (b.1.due < 2 ^ 41)
 
--- the records of a certificate
-abbrev pub claim_rows : Claim → List Row
-claim_rows c = title_row c.depth (length c.commands) ∷ bound_row c.bound ∷ map served_row (zip c.commands c.rounds)
-
 -- a round for each command, and each number in its range
 pub record IsClaim (c : Claim) : Type 0 where
   pub depth : (1 ≤ c.depth) × (c.depth ≤ 256)
@@ -89,26 +77,52 @@ pub record IsClaim (c : Claim) : Type 0 where
   pub commands : All IsCommandInRange c.commands
   pub rounds : All (λ x. x < 2 ^ 41) c.rounds
 
--- what is wrong with the fields of a bound for so many commands
-abbrev pub BoundLacks : ℕ → Row → Why → Type 0
-BoundLacks count row w = ((0 < count) × Lacks (slots_by bound_cells) row w) ⊎ ((count ≡ 0) × ¬ (row ≡ bound_row None) × Lacks no_bound_slots row w)
+-- the record of a bound, or of none
+abbrev pub bound_row : Option (ℤ × Window) → Row
+bound_row None = no_bound_row
+bound_row (Some b) = codes "bound" ∷ row_by (bound_cells 0) b
 
--- what is wrong with the second record, for so many commands
-abbrev pub BoundWrong : ℕ → Row → Why → Type 0
-BoundWrong count row w = (StartsWith (codes "bound") row × BoundLacks count row w) ⊎ ((¬ StartsWith (codes "bound") row) × HasNoWord 4 row w)
+-- the kinds of a bound
+pub data Bounded : Type 0 where
+  NoBound : Bounded
+  SomeBound : Bounded
+
+-- what a record of each kind says
+abbrev pub Bound : Bounded → Type 0
+Bound NoBound = Unit {0}
+Bound SomeBound = ℤ × Window
+
+-- no bound is told by its whole record, and stands only beside no commands
+abbrev pub SaysNone : ℕ → List Row → Type 0
+SaysNone count rows = (count ≡ 0) × ((more : List Row) × (rows ≡ no_bound_row ∷ more))
+
+abbrev pub TellsBound : ℕ → Bounded → List Row → Type 0
+TellsBound count NoBound rows = SaysNone count rows
+TellsBound count SomeBound rows = NextStarts (codes "bound") rows × ¬ SaysNone count rows
+
+-- the record of each kind
+abbrev pub bound_kind : ℕ → (k : Bounded) → Part Row Why (Bound k)
+bound_kind count NoBound = record_of (λ _. no_bound_row) (λ _. count ≡ 0) why.Word (λ _ _. ⊥)
+bound_kind count SomeBound = word_record why.Word (codes "bound") (bound_cells count) (FitsBy (bound_cells count))
+
+-- the kind of a bound
+abbrev pub kind_of : Option (ℤ × Window) → (k : Bounded) × Bound k
+kind_of None = (NoBound, tt)
+kind_of (Some b) = (SomeBound, b)
 
 abbrev pub title : Part Row Why (ℕ × (ℕ × ℕ))
 title = title_record (codes "blk-certificate") 1 counted_cells IsCounted
 
+-- the bound of so many commands
 abbrev pub bound : ℕ → Part Row Why (Option (ℤ × Window))
-bound count = record_of bound_row (IsBound count) why.Word (BoundWrong count)
+bound count = seen_as kind_of (by_word Bound (TellsBound count) (bound_kind count) (NextWrong why.Word (HasNoWord 4)))
 
-abbrev pub served : List (Command × ℕ) → Part Row Why (Command × ℕ)
-served before = table_record why.Count served_cells IsServed
+abbrev pub served : Part Row Why (Command × ℕ)
+served = table_record why.Count served_cells IsServed
 
 -- a bound and so many commands
 abbrev pub claim_body : ℕ → Part Row Why (Option (ℤ × Window) × List (Command × ℕ))
-claim_body count = then (bound count) (λ b. items_of (extent.Exactly count) served)
+claim_body count = then (bound count) (λ b. items_of (repeats.Exactly count) (λ _. served))
 
 -- a title with the depth and the number of commands, a bound, and just so many commands with their rounds
 abbrev pub claim_form : Part Row Why ((ℕ × (ℕ × ℕ)) × (Option (ℤ × Window) × List (Command × ℕ)))
@@ -117,6 +131,10 @@ claim_form = then title (λ t. claim_body t.1.1)
 -- what the records of a certificate tell
 abbrev pub claim_value : Claim → (ℕ × (ℕ × ℕ)) × (Option (ℤ × Window) × List (Command × ℕ))
 claim_value c = ((1, (c.depth, length c.commands)), (c.bound, zip c.commands c.rounds))
+
+-- the records of a certificate
+abbrev pub claim_rows : Claim → List Row
+claim_rows c = claim_form.rows_of (claim_value c)
 
 -- the records spell this certificate
 abbrev pub SpellsClaim : List Row → Claim → Type 0

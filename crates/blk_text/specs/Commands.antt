@@ -1,12 +1,12 @@
 -- A command list: a title, and a record for each command.
-use Rattle.std.specs.Prelude.{◌≡◌, ◌≤◌, ◌<◌, ◌-◌, ◌^◌, ℕ, List, [], ◌∷◌, length, map, decimal, codes, All}
+use Rattle.std.specs.Prelude.{◌≤◌, ◌<◌, ◌-◌, ◌^◌, ℕ, List, [], ◌∷◌, length, codes, All}
 use Rattle.edd_check.specs.declared.Command.{Command}
 use Rattle.blk_text.specs.Sources.{Row}
 use Rattle.blk_text.specs.Reads.{items_of}
 use Rattle.blk_text.specs.Tables.{Cell, Number, table_record, title_record}
 use Rattle.blk_text.specs.declared.fault.Why.{Why}
 use Rattle.blk_text.specs.declared.fault.Why.TheVariants as why
-use Rattle.parts.specs.declared.Extent.TheVariants as extent
+use Rattle.parts.specs.declared.Repeats.TheVariants as repeats
 use Rattle.parts.specs.Parts.{Part, then, Spells}
 
 -- title: blk-commands, 1, depth
@@ -28,28 +28,20 @@ IsCommandInRange c = (c.id < 2 ^ 64) × (c.release < 2 ^ 40) × (c.due < 2 ^ 41)
 abbrev pub title : Part Row Why (ℕ × ℕ)
 title = title_record (codes "blk-commands") 1 depth_cells IsDepth
 
-abbrev pub command : List Command → Part Row Why Command
-command before = table_record why.Count command_cells IsCommandInRange
+abbrev pub command : Part Row Why Command
+command = table_record why.Count command_cells IsCommandInRange
 
 -- a title with the depth, and at most 1,000,000 commands
 abbrev pub command_list : Part Row Why ((ℕ × ℕ) × List Command)
-command_list = then title (λ t. items_of (extent.AtMost 1_000_000) command)
-
--- the title record
-abbrev pub title_row : ℕ → Row
-title_row depth = codes "blk-commands" ∷ codes "1" ∷ decimal depth ∷ []
-
--- the record of a command
-abbrev pub command_row : Command → Row
-command_row c = decimal c.id ∷ decimal c.release ∷ decimal c.due ∷ []
-
--- the records of a depth and a list of commands
-abbrev pub commands_rows : ℕ → List Command → List Row
-commands_rows depth commands = title_row depth ∷ map command_row commands
+command_list = then title (λ t. items_of (repeats.AtMost 1_000_000) (λ _. command))
 
 -- a depth and commands that a command list can spell
 abbrev pub AreCommands : ℕ → List Command → Type 0
 AreCommands depth commands = (1 ≤ depth) × (depth ≤ 256) × (length commands ≤ 1_000_000) × All IsCommandInRange commands
+
+-- the records of a depth and a list of commands
+abbrev pub commands_rows : ℕ → List Command → List Row
+commands_rows depth commands = command_list.rows_of ((1, depth), commands)
 
 -- the records spell this depth and these commands
 abbrev pub SpellsCommands : List Row → ℕ → List Command → Type 0

@@ -61,18 +61,14 @@ IsInRange (slot.Lateness most) f = (n : ℕ) → n < 2 ^ 64 → IsSized f n → 
 abbrev pub IsShaped : List Slot → Row → Type 0
 IsShaped slots row = (length row ≡ length slots) × EachField IsBlank slots row
 
--- the first thing that a record lacks of its slots: all that is looked for before is there
+-- this fault where this does not hold, and else what is looked for after it
+abbrev pub Unless : Type 0 → Why → (Why → Type 0) → Why → Type 0
+Unless A fault Later w = ((w ≡ fault) × ¬ A) ⊎ (A × Later w)
+
+-- the first thing that a record lacks of its slots
 abbrev pub Lacks : List Slot → Row → Why → Type 0
-Lacks slots row why.Fields = ¬ IsShaped slots row
-Lacks slots row why.Word = IsShaped slots row × ¬ EachField IsDirection slots row
-Lacks slots row why.Number = IsShaped slots row × EachField IsDirection slots row × ¬ EachField IsNumber slots row
-Lacks slots row why.Range = IsShaped slots row × EachField IsDirection slots row × EachField IsNumber slots row × ¬ EachField IsInRange slots row
-Lacks slots row why.Title = ⊥
-Lacks slots row (why.Bio fault) = ⊥
-Lacks slots row why.Count = ⊥
-Lacks slots row why.TooLong = ⊥
-Lacks slots row why.Read = ⊥
-Lacks slots row why.Memory = ⊥
+Lacks slots row = Unless (IsShaped slots row) why.Fields (Unless (EachField IsDirection slots row) why.Word
+    (Unless (EachField IsNumber slots row) why.Number (Unless (EachField IsInRange slots row) why.Range (λ _. ⊥))))
 
 -- this number is written in a field
 abbrev pub NumberOf : Slot → List ℕ → ℕ → Type 0

@@ -4,8 +4,9 @@ use Rattle.blk_text.specs.Sources.{Row}
 use Rattle.blk_text.specs.declared.fault.Why.{Why}
 use Rattle.blk_text.specs.declared.fault.Why.TheVariants as why
 use Rattle.parts.specs.Parts.{Part, Begins, IsReached, AllFit, IsCount, GoodBefore, all_rows, lines}
-use Rattle.parts.specs.declared.Extent.{Extent}
-use Rattle.parts.specs.declared.Extent.TheVariants as extent
+use Rattle.parts.specs.Laws.{Tells, IsPlain}
+use Rattle.parts.specs.declared.Repeats.{Repeats}
+use Rattle.parts.specs.declared.Repeats.TheVariants as repeats
 
 -- faults from outside, which may come in place of any other: a read fault where the reader has failed, and want of memory
 abbrev pub IsOutside : Bool → Why → Type 0
@@ -31,17 +32,35 @@ HandFails failed p left row start at w = IfSome left (λ rows. IsOutside failed 
 abbrev pub Reaches : {V : Type 0} → Part Row Why V → Option (List Row) → ℕ → ℕ → Type 0
 Reaches p left start at = IfSome left (λ rows. (k : ℕ) × (at ≡ start + k) × IsReached p rows k)
 
+-- reading stopped at this record, which was come to: no record before it is wrong; its fault is the first one, or came from outside
+abbrev pub Halts : {V : Type 0} → Bool → Part Row Why V → Option (List Row) → ℕ → ℕ → Why → Type 0
+Halts failed p left start at w = IfSome left (λ rows. (k : ℕ) × (at ≡ start + k) × IsReached p rows k × (IsOutside failed w ⊎ p.Wrong rows k w))
+
+-- a record by itself is a value's, whatever follows
+abbrev pub IsLine : {V : Type 0} → Part Row Why V → Row → V → Type 0
+IsLine p row v = (rest : List Row) → Begins p (row ∷ rest) v rest
+
+-- a record by itself is wrong, whatever follows
+abbrev pub IsWrongLine : {V : Type 0} → Part Row Why V → Row → Why → Type 0
+IsWrongLine p row w = (rest : List Row) → p.Wrong (row ∷ rest) 1 w
+
+-- a part of one record, which any may follow
+pub record IsOne {V : Type 0} (p : Part Row Why V) : Type 0 where
+  pub tells : Tells p
+  pub plain : IsPlain p
+  pub one : (v : V) → length (p.rows_of v) ≡ 1
+
 -- the items before are what an item may depend on
 abbrev pub with_next : {V : Type 0} → List V → V → List V
 with_next before v = before ++ v ∷ []
 
 -- the fault of one item more
-abbrev pub beyond_of : Extent → Why
-beyond_of (extent.AtMost most) = why.TooLong
-beyond_of (extent.Exactly count) = why.Count
+abbrev pub beyond_of : Repeats → Why
+beyond_of (repeats.AtMost most) = why.TooLong
+beyond_of (repeats.Exactly count) = why.Count
 
 -- items to the end of the text, each of which may depend on those before it
-abbrev pub items_of : {V : Type 0} → Extent → (List V → Part Row Why V) → Part Row Why (List V)
+abbrev pub items_of : {V : Type 0} → Repeats → (List V → Part Row Why V) → Part Row Why (List V)
 items_of x q = lines x (beyond_of x) q with_next []
 
 -- the number of records of items
@@ -49,14 +68,14 @@ abbrev pub size_of : {V : Type 0} → (List V → Part Row Why V) → List V →
 size_of q vs = length (all_rows q with_next [] vs)
 
 -- the items fit, and are as many as there may be
-abbrev pub AreItems : {V : Type 0} → Extent → (List V → Part Row Why V) → List V → Type 0
+abbrev pub AreItems : {V : Type 0} → Repeats → (List V → Part Row Why V) → List V → Type 0
 AreItems x q vs = AllFit q with_next [] vs × IsCount x (length vs)
 
 -- the items before the one that begins at this record are good
-abbrev pub ItemsBefore : {V : Type 0} → Extent → (List V → Part Row Why V) → List Row → ℕ → Type 0
+abbrev pub ItemsBefore : {V : Type 0} → Repeats → (List V → Part Row Why V) → List Row → ℕ → Type 0
 ItemsBefore x q rows place = GoodBefore x q with_next [] rows place
 
 -- reading stopped at the record `at`, and `last` was asked for last: the items before the one that was being read are
 -- good, and no record past the first and the next `more` of that one was asked for
-abbrev pub IsStopped : {V : Type 0} → Extent → (List V → Part Row Why V) → Option (List Row) → ℕ → ℕ → ℕ → ℕ → Type 0
+abbrev pub IsStopped : {V : Type 0} → Repeats → (List V → Part Row Why V) → Option (List Row) → ℕ → ℕ → ℕ → ℕ → Type 0
 IsStopped x q left start more at last = (place : ℕ) × (start + place ≤ at) × (at ≤ last) × (last ≤ start + place + more) × IfSome left (λ rows. ItemsBefore x q rows place)

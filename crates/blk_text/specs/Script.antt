@@ -1,31 +1,23 @@
 -- A script: a title, a setup, and a record for each step.
-use Rattle.std.specs.Prelude.{◌≡◌, ◌⊎◌, ◌+◌, ◌-◌, ◌≤◌, ◌<◌, ◌^◌, ℕ, List, [], ◌∷◌, length, map, decimal, codes, All}
+use Rattle.std.specs.Prelude.{◌≡◌, ◌-◌, ◌≤◌, ◌<◌, ◌^◌, ℕ, List, [], ◌∷◌, length, codes, All}
 use Rattle.std.specs.Prelude.{Err}
 use Rattle.blk_bio.specs.Bios.{Bio, IsBio, IsBioAnswer}
 use Rattle.blk_bio.specs.declared.bio.BioFault.{BioFault}
 use Rattle.blk_trace.specs.Setups.{Setup}
 use Rattle.blk_text.specs.Sources.{Row}
 use Rattle.blk_text.specs.Reads.{items_of}
-use Rattle.blk_text.specs.Tables.{Cell, Number, title_record}
-use Rattle.blk_text.specs.Words.{WordWrong}
-use Rattle.blk_text.specs.BioRecord.{bio_row}
-use Rattle.blk_text.specs.SetupRecord.{setup_row, IsWholeSetup, setup}
+use Rattle.blk_text.specs.Tables.{Cell, Blank, Direction, Number, title_record, kinds_record}
+use Rattle.blk_text.specs.SetupRecord.{IsWholeSetup, setup}
 use Rattle.blk_text.specs.declared.fault.Why.{Why}
 use Rattle.blk_text.specs.declared.fault.Why.TheVariants as why
-use Rattle.blk_text.specs.declared.fields.Slot.{Slot}
-use Rattle.blk_text.specs.declared.fields.Slot.TheVariants as slot
-use Rattle.parts.specs.declared.Extent.TheVariants as extent
-use Rattle.parts.specs.Parts.{Part, then, tested, record_of, Spells}
+use Rattle.parts.specs.declared.Repeats.TheVariants as repeats
+use Rattle.parts.specs.Parts.{Part, then, tested, seen_as, Spells}
 use Rattle.blk_text.specs.declared.script.Line.{Line}
 use Rattle.blk_text.specs.declared.script.Line.TheVariants as line
 use Rattle.blk_text.specs.declared.script.Script.{Script}
 use Rattle.blk_text.specs.declared.script.Title.{Title}
 use Rattle.blk_text.specs.declared.script.Word.{Word}
 use Rattle.blk_text.specs.declared.script.Word.TheVariants as word
-
--- any number
-abbrev pub any : Slot
-any = slot.Number 0 (2 ^ 64 - 1)
 
 -- title: blk-script, 1, depth, hardware queues, soft depth, submitters
 abbrev pub script_cells : ℕ → List (Cell Title)
@@ -41,25 +33,44 @@ word_of word.Done = codes "done"
 word_of word.Tick = codes "tick"
 word_of word.Run = codes "run"
 
--- the fields of each kind of step, for so many hardware queues and submitters
-abbrev pub slots_of : ℕ → ℕ → Word → List Slot
-slots_of hw submitters word.Bio = slot.Given ∷ slot.Number 0 (submitters - 1) ∷ any ∷ slot.Direction ∷ any ∷ any ∷ []
-slots_of hw submitters word.Flush = slot.Given ∷ slot.Number 0 (submitters - 1) ∷ slot.Blank ∷ slot.Blank ∷ slot.Blank ∷ slot.Blank ∷ []
-slots_of hw submitters word.Drain = slot.Given ∷ slot.Number 0 (hw - 1) ∷ slot.Blank ∷ slot.Blank ∷ slot.Blank ∷ slot.Blank ∷ []
-slots_of hw submitters word.Issue = slot.Given ∷ slot.Number 0 (hw - 1) ∷ slot.Number 0 65535 ∷ slot.Blank ∷ slot.Blank ∷ slot.Blank ∷ []
-slots_of hw submitters word.Done = slot.Given ∷ slot.Number 0 65535 ∷ slot.Blank ∷ slot.Blank ∷ slot.Blank ∷ slot.Blank ∷ []
-slots_of hw submitters word.Tick = slot.Given ∷ slot.Blank ∷ slot.Blank ∷ slot.Blank ∷ slot.Blank ∷ slot.Blank ∷ []
-slots_of hw submitters word.Run = slot.Given ∷ slot.Number 1 1_000_000 ∷ slot.Blank ∷ slot.Blank ∷ slot.Blank ∷ slot.Blank ∷ []
+-- what each kind of step says beside its word
+abbrev pub Held : Word → Type 0
+Held word.Bio = Bio
+Held word.Flush = ℕ
+Held word.Drain = ℕ
+Held word.Issue = ℕ × ℕ
+Held word.Done = ℕ
+Held word.Tick = Unit {0}
+Held word.Run = ℕ
 
--- the record of each step
-abbrev pub line_row : Line → Row
-line_row (line.Bio b) = bio_row b
-line_row (line.Flush submitter) = codes "flush" ∷ decimal submitter ∷ [] ∷ [] ∷ [] ∷ [] ∷ []
-line_row (line.Drain hw) = codes "drain" ∷ decimal hw ∷ [] ∷ [] ∷ [] ∷ [] ∷ []
-line_row (line.Issue hw tag) = codes "issue" ∷ decimal hw ∷ decimal tag ∷ [] ∷ [] ∷ [] ∷ []
-line_row (line.Done tag) = codes "done" ∷ decimal tag ∷ [] ∷ [] ∷ [] ∷ [] ∷ []
-line_row line.Tick = codes "tick" ∷ [] ∷ [] ∷ [] ∷ [] ∷ [] ∷ []
-line_row (line.Run n) = codes "run" ∷ decimal n ∷ [] ∷ [] ∷ [] ∷ [] ∷ []
+-- the fields of each kind of step after its word, for so many hardware queues and submitters
+abbrev pub step_cells : ℕ → ℕ → (k : Word) → List (Cell (Held k))
+step_cells hw submitters word.Bio = Number 0 (submitters - 1) (λ b. b.id.submitter) ∷ Number 0 (2 ^ 64 - 1) (λ b. b.id.serial) ∷ Direction (λ b. b.dir)
+    ∷ Number 0 (2 ^ 64 - 1) (λ b. b.first) ∷ Number 0 (2 ^ 64 - 1) (λ b. b.sectors) ∷ []
+step_cells hw submitters word.Flush = Number 0 (submitters - 1) (λ s. s) ∷ Blank ∷ Blank ∷ Blank ∷ Blank ∷ []
+step_cells hw submitters word.Drain = Number 0 (hw - 1) (λ h. h) ∷ Blank ∷ Blank ∷ Blank ∷ Blank ∷ []
+step_cells hw submitters word.Issue = Number 0 (hw - 1) (λ i. i.0) ∷ Number 0 65535 (λ i. i.1) ∷ Blank ∷ Blank ∷ Blank ∷ []
+step_cells hw submitters word.Done = Number 0 65535 (λ t. t) ∷ Blank ∷ Blank ∷ Blank ∷ Blank ∷ []
+step_cells hw submitters word.Tick = Blank ∷ Blank ∷ Blank ∷ Blank ∷ Blank ∷ []
+step_cells hw submitters word.Run = Number 1 1_000_000 (λ n. n) ∷ Blank ∷ Blank ∷ Blank ∷ Blank ∷ []
+
+-- the kind of a step, and what it says
+abbrev pub held : Line → (k : Word) × Held k
+held (line.Bio b) = (word.Bio, b)
+held (line.Flush submitter) = (word.Flush, submitter)
+held (line.Drain hw) = (word.Drain, hw)
+held (line.Issue hw tag) = (word.Issue, (hw, tag))
+held (line.Done tag) = (word.Done, tag)
+held line.Tick = (word.Tick, tt)
+held (line.Run n) = (word.Run, n)
+
+-- the bio of a step, if it has one, is a bio
+abbrev pub IsRight : Line → Type 0
+IsRight l = (b : Bio) → l ≡ line.Bio b → IsBio b
+
+-- there is no such bio, for this reason
+abbrev pub IsNoBio : Line → ℕ → Why → Type 0
+IsNoBio l k w = (b : Bio) × (f : BioFault) × (l ≡ line.Bio b) × (k ≡ 1) × (w ≡ why.Bio f) × IsBioAnswer b.id b.dir b.first b.sectors (Err f)
 
 -- the numbers of a step lie in their ranges, for so many hardware queues and submitters
 abbrev pub LineFits : ℕ → ℕ → Line → Type 0
@@ -70,19 +81,6 @@ LineFits hw submitters (line.Issue h tag) = (h < hw) × (tag < 65536)
 LineFits hw submitters (line.Done tag) = tag < 65536
 LineFits hw submitters line.Tick = Unit {0}
 LineFits hw submitters (line.Run n) = (1 ≤ n) × (n ≤ 1_000_000)
-
--- a record spells a bio that there is not, for this reason
-abbrev pub SpellsNoBio : ℕ → Row → Why → Type 0
-SpellsNoBio submitters row w = (b : Bio) × (f : BioFault) × (row ≡ bio_row b) × (b.id.submitter < submitters)
-    × (b.id.serial < 2 ^ 64) × (b.first < 2 ^ 64) × (b.sectors < 2 ^ 64) × (w ≡ why.Bio f) × IsBioAnswer b.id b.dir b.first b.sectors (Err f)
-
--- what is wrong with the record of a step
-abbrev pub StepWrong : ℕ → ℕ → Row → Why → Type 0
-StepWrong hw submitters row w = WordWrong word_of (slots_of hw submitters) 6 row w ⊎ SpellsNoBio submitters row w
-
--- the title record
-abbrev pub title_row : Title → Row
-title_row t = codes "blk-script" ∷ codes "1" ∷ decimal t.depth ∷ decimal t.hw ∷ decimal t.soft_depth ∷ decimal t.submitters ∷ []
 
 -- a title's numbers lie in their ranges, but for the least number of submitters
 pub record IsTitle (t : Title) : Type 0 where
@@ -105,10 +103,6 @@ scripted s = record { setup = s.setup; soft_depth = s.soft_depth; submitters = s
 -- the numbers of a script's title
 abbrev pub title_of : Scripted → Title
 title_of s = record { depth = s.setup.depth; hw = s.setup.hw; soft_depth = s.soft_depth; submitters = s.submitters }
-
--- the records of a script
-abbrev pub script_rows : Scripted → List Row
-script_rows s = title_row (title_of s) ∷ setup_row s.setup ∷ map line_row s.lines
 
 -- the numbers of a script lie in their ranges
 pub record IsScript (s : Scripted) : Type 0 where
@@ -133,13 +127,17 @@ TooFew t k w = (k ≡ 1) × (w ≡ why.Range) × (t.1.submitters < t.1.hw)
 abbrev pub title : Part Row Why (ℕ × Title)
 title = tested plain_title IsEnough TooFew
 
+-- a step by its table
+abbrev pub plain_step : ℕ → ℕ → Part Row Why Line
+plain_step hw submitters = seen_as held (kinds_record Held why.Count 6 word_of (step_cells hw submitters))
+
 -- a step, for so many hardware queues and submitters
-abbrev pub step : ℕ → ℕ → List Line → Part Row Why Line
-step hw submitters before = record_of line_row (LineFits hw submitters) why.Count (StepWrong hw submitters)
+abbrev pub step : ℕ → ℕ → Part Row Why Line
+step hw submitters = tested (plain_step hw submitters) IsRight IsNoBio
 
 -- a setup and at most 999,998 steps
 abbrev pub script_body : Title → Part Row Why (Setup × List Line)
-script_body t = then (setup t.depth t.hw) (λ s. items_of (extent.AtMost 999_998) (step t.hw t.submitters))
+script_body t = then (setup t.depth t.hw) (λ s. items_of (repeats.AtMost 999_998) (λ _. step t.hw t.submitters))
 
 -- a title, a setup and steps
 abbrev pub script_form : Part Row Why ((ℕ × Title) × (Setup × List Line))
@@ -148,6 +146,10 @@ script_form = then title (λ t. script_body t.1)
 -- what the records of a script tell
 abbrev pub script_value : Scripted → (ℕ × Title) × (Setup × List Line)
 script_value s = ((1, title_of s), (s.setup, s.lines))
+
+-- the records of a script
+abbrev pub script_rows : Scripted → List Row
+script_rows s = script_form.rows_of (script_value s)
 
 -- the records spell this script
 abbrev pub SpellsScript : List Row → Scripted → Type 0

@@ -1,20 +1,20 @@
 -- A record by a table of its fields.
-use Rattle.std.specs.Prelude.{◌≡◌, ◌⊎◌, ◌≤◌, ◌<◌, ◌^◌, ℕ, suc, ℤ, pos, negsuc, List, [], ◌∷◌, decimal}
+use Rattle.std.specs.Prelude.{◌≡◌, ◌⊎◌, ◌≤◌, ℕ, suc, ℤ, pos, negsuc, List, [], ◌∷◌, decimal}
 use Rattle.std.specs.Fmt.{signed_decimal}
 use Rattle.blk_bio.specs.declared.bio.Dir.{Dir}
 use Rattle.blk_text.specs.Sources.{Row}
 use Rattle.blk_text.specs.BioRecord.{direction_text}
 use Rattle.blk_text.specs.Fields.{Lacks}
+use Rattle.blk_text.specs.Words.{NextStarts, HasNoWord, WordLacks}
 use Rattle.blk_text.specs.declared.fault.Why.{Why}
 use Rattle.blk_text.specs.declared.fault.Why.TheVariants as why
 use Rattle.blk_text.specs.declared.fields.Slot.{Slot}
 use Rattle.blk_text.specs.declared.fields.Slot.TheVariants as slot
-use Rattle.parts.specs.Parts.{Part, record_of}
+use Rattle.parts.specs.Parts.{Part, NextWrong, record_of, by_word}
 
--- what stands in a field of the record of a value: a word, nothing, a direction, a number from `least` to `most`, or a
--- signed number of a size up to `most`
+-- what stands in a field of the record of a value: nothing, a direction, a number from `least` to `most`, or a signed
+-- number of a size up to `most`
 pub data Cell (V : Type 0) : Type 0 where
-  Word : List ℕ → Cell V
   Blank : Cell V
   Direction : (V → Dir) → Cell V
   Number : ℕ → ℕ → (V → ℕ) → Cell V
@@ -22,7 +22,6 @@ pub data Cell (V : Type 0) : Type 0 where
 
 -- the slot of a field
 abbrev pub slot_of : {V : Type 0} → Cell V → Slot
-slot_of (Word text) = slot.Given
 slot_of Blank = slot.Blank
 slot_of (Direction f) = slot.Direction
 slot_of (Number least most f) = slot.Number least most
@@ -30,7 +29,6 @@ slot_of (Signed most f) = slot.Lateness most
 
 -- the text of a field
 abbrev pub field_of : {V : Type 0} → V → Cell V → List ℕ
-field_of v (Word text) = text
 field_of v Blank = []
 field_of v (Direction f) = direction_text (f v)
 field_of v (Number least most f) = decimal (f v)
@@ -50,42 +48,29 @@ abbrev pub IsUpTo : ℕ → ℤ → Type 0
 IsUpTo most (pos n) = n ≤ most
 IsUpTo most (negsuc n) = suc n ≤ most
 
--- the numbers of a value lie in their ranges
+-- the number of a field lies in its range
+abbrev pub FitsCell : {V : Type 0} → V → Cell V → Type 0
+FitsCell v Blank = Unit {0}
+FitsCell v (Direction f) = Unit {0}
+FitsCell v (Number least most f) = (least ≤ f v) × (f v ≤ most)
+FitsCell v (Signed most f) = IsUpTo most (f v)
+
+-- all of them do
 abbrev pub FitsBy : {V : Type 0} → List (Cell V) → V → Type 0
 FitsBy [] v = Unit {0}
-FitsBy (Word text ∷ cs) v = FitsBy cs v
-FitsBy (Blank ∷ cs) v = FitsBy cs v
-FitsBy (Direction f ∷ cs) v = FitsBy cs v
-FitsBy (Number least most f ∷ cs) v = (least ≤ f v) × (f v ≤ most) × FitsBy cs v
-FitsBy (Signed most f ∷ cs) v = IsUpTo most (f v) × FitsBy cs v
-
--- two values have the same fields
-abbrev pub AgreeBy : {V : Type 0} → List (Cell V) → V → V → Type 0
-AgreeBy [] v u = Unit {0}
-AgreeBy (Word text ∷ cs) v u = AgreeBy cs v u
-AgreeBy (Blank ∷ cs) v u = AgreeBy cs v u
-AgreeBy (Direction f ∷ cs) v u = (f v ≡ f u) × AgreeBy cs v u
-AgreeBy (Number least most f ∷ cs) v u = (f v ≡ f u) × AgreeBy cs v u
-AgreeBy (Signed most f ∷ cs) v u = (f v ≡ f u) × AgreeBy cs v u
-
--- each greatest number fits its width
-abbrev pub Sized : {V : Type 0} → List (Cell V) → Type 0
-Sized [] = Unit {0}
-Sized (Word text ∷ cs) = Sized cs
-Sized (Blank ∷ cs) = Sized cs
-Sized (Direction f ∷ cs) = Sized cs
-Sized (Number least most f ∷ cs) = (most < 2 ^ 64) × Sized cs
-Sized (Signed most f ∷ cs) = (most < 2 ^ 63) × Sized cs
-
--- a table whose numbers fit their width, and which tells apart the values that fit it
-pub record IsTable {V : Type 0} (cells : List (Cell V)) (Fits : V → Type 0) : Type 0 where
-  pub sized : Sized cells
-  pub within : (v : V) → Fits v → FitsBy cells v
-  pub tells : (v u : V) → Fits v → Fits u → AgreeBy cells v u → v ≡ u
+FitsBy (c ∷ cs) v = FitsCell v c × FitsBy cs v
 
 -- a record all of whose fields are looked at
 abbrev pub table_record : {V : Type 0} → Why → List (Cell V) → (V → Type 0) → Part Row Why V
 table_record gone cells Fits = record_of (row_by cells) Fits gone (Lacks (slots_by cells))
+
+-- a word, and then the fields of a table
+abbrev pub word_record : {V : Type 0} → Why → List ℕ → List (Cell V) → (V → Type 0) → Part Row Why V
+word_record gone word cells Fits = record_of (λ v. word ∷ row_by cells v) Fits gone (WordLacks word (slots_by cells))
+
+-- a record of one of some kinds, each with a word and a table of its own, and all of one width
+abbrev pub kinds_record : {K : Type 0} (V : K → Type 0) → Why → ℕ → (K → List ℕ) → ((k : K) → List (Cell (V k))) → Part Row Why ((k : K) × V k)
+kinds_record V gone width word_of cells = by_word V (λ k. NextStarts (word_of k)) (λ k. word_record gone (word_of k) (cells k) (FitsBy (cells k))) (NextWrong gone (HasNoWord width))
 
 -- a title begins with the name of its form and a version of it
 abbrev pub IsTitled : List ℕ → ℕ → Row → Type 0
@@ -95,18 +80,14 @@ IsTitled name version row = (more : Row) × (row ≡ name ∷ decimal version �
 abbrev pub IsVersion : ℕ → ℕ → Type 0
 IsVersion latest version = (1 ≤ version) × (version ≤ latest)
 
--- the table of a title of this version
-abbrev pub title_cells : {V : Type 0} → List ℕ → (ℕ → List (Cell V)) → ℕ → List (Cell V)
-title_cells name cells version = Word name ∷ Word (decimal version) ∷ cells version
-
 -- the title record of a version and what it tells
 abbrev pub title_by : {V : Type 0} → List ℕ → (ℕ → List (Cell V)) → ℕ × V → Row
-title_by name cells t = row_by (title_cells name cells t.0) t.1
+title_by name cells t = name ∷ decimal t.0 ∷ row_by (cells t.0) t.1
 
 -- what is wrong with a title record: first its name and version
 abbrev pub TitleLacks : {V : Type 0} → List ℕ → ℕ → (ℕ → List (Cell V)) → Row → Why → Type 0
 TitleLacks name latest cells row w = ((w ≡ why.Title) × ((version : ℕ) → IsVersion latest version → ¬ IsTitled name version row))
-    ⊎ ((version : ℕ) × IsVersion latest version × IsTitled name version row × Lacks (slots_by (title_cells name cells version)) row w)
+    ⊎ ((version : ℕ) × IsVersion latest version × IsTitled name version row × Lacks (slot.Given ∷ slot.Given ∷ slots_by (cells version)) row w)
 
 -- a title record, whose value has the version
 abbrev pub title_record : {V : Type 0} → List ℕ → ℕ → (ℕ → List (Cell V)) → (V → Type 0) → Part Row Why (ℕ × V)

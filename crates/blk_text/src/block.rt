@@ -8,10 +8,10 @@ use crate::pieces::{put, put_number};
 use std::alloc::{AllocError, Global};
 use std::io::Write;
 
-// How many bytes are gathered before they join the text.
+/// How many bytes are gathered before they join the text.
 const BLOCK: usize = 4096;
 
-// Room for a record of six fields of at most 20 bytes, with a byte after each.
+/// Room for a record of six fields of at most 20 bytes, with a byte after each.
 const ROOM: usize = 128;
 
 /// A text, of which the last bytes stand in a block.
@@ -39,7 +39,7 @@ impl Block {
         }
     }
 
-    // Moves what the block holds to the text.
+    /// Moves what the block holds to the text.
     #[cold]
     #[inline(never)]
     fn flush(&mut self) -> Result<(), AllocError>

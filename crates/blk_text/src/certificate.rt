@@ -1,30 +1,31 @@
 //! Certificates.
 
-ghost use Rattle.std.specs.Prelude.{◌≡◌, ◌⊎◌, ◌+◌, ◌++◌, ◌≤◌, ◌<◌, ◌^◌, ◌∷◌, [], IfOk, IfErr, IfSome, OnOk, map, length, codes, None, Some, IsTrue, ◌↔◌};
+ghost use Rattle.std.specs.Prelude.{◌≡◌, ◌⊎◌, ◌+◌, ◌++◌, ◌≤◌, ◌<◌, ◌-◌, ◌^◌, ◌∷◌, [], IfOk, IfErr, IfSome, OnOk, map, length, codes, None, Some, IsTrue, ◌↔◌};
 ghost use Rattle.std.specs.Fmt.{signed_decimal};
 ghost use Rattle.std.specs.Io.KnownBytes.{Appends};
 ghost use Rattle.csv.specs.Records.{fields_of};
 ghost use Rattle.blk_text.specs.Sources.{Took};
 ghost use Rattle.parts.specs.Parts.{Begins};
-ghost use Rattle.blk_text.specs.Reads.{IsOutside, Reads, Fails, Reaches};
-ghost use Rattle.blk_text.specs.Tables.{slots_by};
+ghost use Rattle.blk_text.specs.Reads.{IsOutside, IsLine, IsWrongLine, Reaches};
+ghost use Rattle.blk_text.specs.Tables.{IsUpTo, FitsBy, row_by, slots_by, title_by};
 ghost use Rattle.blk_text.specs.Fields.{IsSized, FieldsSpell};
+ghost use Rattle.blk_text.specs.declared.fields.Slot.TheVariants as slot;
 ghost use Rattle.blk_text.specs.Words.{StartsWith};
 ghost use Rattle.blk_text.specs.Texts.{rows_text};
 ghost use Rattle.blk_text.specs.Drafts.{drafted};
-ghost use Rattle.blk_text.specs.Certificate.{claimed, claim_form, IsClaim, SpellsClaim, ClaimFault, claim_rows, title_row, bound_row, bound_cells, BoundLacks, BoundWrong, IsBound, IsLateness, served_row};
+ghost use Rattle.blk_text.specs.Certificate.{claimed, claim_form, IsClaim, SpellsClaim, ClaimFault, claim_rows, counted_cells, bound as bound_part, bound_cells, no_bound_row, bound_row, served_cells};
 
 use crate::block::{Block, write_whole};
 use crate::fault::{TextFault, Why, WriteFault};
 use crate::fields::{
     Slot, WIDTH, after_minus, begins_with, field, read_fields, version_of, without_word,
 };
-use crate::items::{Each, LineForm, read_items, read_line};
+use crate::items::{LineForm, read_line, read_lines};
 use crate::pieces::{put, put_two};
 use crate::source::Records;
 use csv::ByteRecord;
 use edd_check::{Command, Window};
-use parts::Extent;
+use parts::Repeats;
 use std::alloc::{AllocError, Global};
 use std::io::{Read, Write};
 
@@ -46,20 +47,11 @@ pub struct Certificate {
 pub(crate) struct TitleForm;
 
 impl LineForm for TitleForm {
-    ghost use Rattle.std.specs.Prelude.{codes};
-    ghost use Rattle.blk_text.specs.Certificate.{counted_cells, IsCounted};
-    ghost use Rattle.blk_text.specs.Tables.{title_by, IsVersion, TitleLacks};
-    ghost use Rattle.blk_text.specs.declared.fault.Why.TheVariants as why;
+    ghost use Rattle.blk_text.specs.Certificate.{title};
 
     type Line = (u64, (u64, u64));
 
-    ghost row_of = { λ _. title_by (codes "blk-certificate") counted_cells };
-
-    ghost Fits = { λ _ t. IsVersion 1 t.0 × IsCounted t.1 };
-
-    ghost Refused = { λ _. TitleLacks (codes "blk-certificate") 1 counted_cells };
-
-    ghost missing = { why.Title };
+    ghost part = { λ _. title };
 
     fn gone(&self) -> Why {
         Why::Title
@@ -95,18 +87,11 @@ pub(crate) struct BoundForm {
 }
 
 impl LineForm for BoundForm {
-    ghost use Rattle.blk_text.specs.Certificate.{bound_row, IsBound, BoundWrong};
-    ghost use Rattle.blk_text.specs.declared.fault.Why.TheVariants as why;
+    ghost use Rattle.blk_text.specs.Certificate.{bound as bound_part};
 
     type Line = Option<(i64, Window)>;
 
-    ghost row_of = { λ _. bound_row };
-
-    ghost Fits = { λ f. IsBound f.count };
-
-    ghost Refused = { λ f. BoundWrong f.count };
-
-    ghost missing = { why.Word };
+    ghost part = { λ f. bound_part f.count };
 
     fn gone(&self) -> Why {
         Why::Word
@@ -125,20 +110,11 @@ impl LineForm for BoundForm {
 pub(crate) struct ServedForm;
 
 impl LineForm for ServedForm {
-    ghost use Rattle.blk_text.specs.Certificate.{served_cells, IsServed};
-    ghost use Rattle.blk_text.specs.Tables.{row_by, slots_by};
-    ghost use Rattle.blk_text.specs.Fields.{Lacks};
-    ghost use Rattle.blk_text.specs.declared.fault.Why.TheVariants as why;
+    ghost use Rattle.blk_text.specs.Certificate.{served};
 
     type Line = (Command, u64);
 
-    ghost row_of = { λ _. row_by served_cells };
-
-    ghost Fits = { λ _. IsServed };
-
-    ghost Refused = { λ _. Lacks (slots_by served_cells) };
-
-    ghost missing = { why.Count };
+    ghost part = { λ _. served };
 
     fn gone(&self) -> Why {
         Why::Count
@@ -175,12 +151,12 @@ impl LineForm for ServedForm {
     }
 }
 
-// The lateness of a field, by its size.
+/// The lateness of a field, by its size.
 fn lateness_of(field: &[u8], size: u64) -> i64
     requires sized { IsSized field.now size }
     requires small { size < 2 ^ 41 }
     ensures text { field.now ≡ signed_decimal result }
-    ensures range { IsLateness result }
+    ensures range { IsUpTo (2 ^ 41 - 1) result }
 {
     match after_minus(field) {
         Some(_) => -(size as i64),
@@ -188,25 +164,26 @@ fn lateness_of(field: &[u8], size: u64) -> i64
     }
 }
 
-// Whether a record that begins with its word says that there is no bound.
-fn is_no_bound(row: &ByteRecord) -> bool
-    requires { StartsWith (codes "bound") (fields_of row.now) }
-    ensures { IsTrue result ↔ (fields_of row.now ≡ bound_row None) }
+/// Whether a record says that there is no bound, beside no commands.
+fn is_no_bound(row: &ByteRecord, count: u64) -> bool
+    ensures { IsTrue result ↔ ((count ≡ 0) × (fields_of row.now ≡ no_bound_row)) }
 {
     let none = b"none".as_slice();
-    if row.len() != 4 || field(row, 1) != none || field(row, 2) != none {
+    if count != 0 || row.len() != 4 || field(row, 0) != b"bound".as_slice() {
+        return false;
+    }
+    if field(row, 1) != none || field(row, 2) != none {
         return false;
     }
     field(row, 3) == none
 }
 
-// The bound of the numbers of a record.
+/// The bound of the numbers of a record.
 fn bound_with(row: &ByteRecord, numbers: &[u64; WIDTH], count: u64) -> (i64, Window)
-    requires some { 0 < count }
     requires starts { StartsWith (codes "bound") (fields_of row.now) }
-    requires spells { FieldsSpell (slots_by bound_cells) (fields_of row.now) numbers.now }
-    ensures row { fields_of row.now ≡ bound_row (Some result) }
-    ensures range { IsBound count (Some result) }
+    requires spells { FieldsSpell (slot.Given ∷ slots_by (bound_cells count)) (fields_of row.now) numbers.now }
+    ensures row { fields_of row.now ≡ codes "bound" ∷ row_by (bound_cells count) result }
+    ensures fits { FitsBy (bound_cells count) result }
 {
     let window = Window {
         from: numbers[2],
@@ -215,50 +192,55 @@ fn bound_with(row: &ByteRecord, numbers: &[u64; WIDTH], count: u64) -> (i64, Win
     (lateness_of(field(row, 1), numbers[1]), window)
 }
 
-// The bound of a record that begins with its word, for so many commands.
-fn bound_of(row: &ByteRecord, count: u64) -> Result<Option<(i64, Window)>, Why>
-    requires { StartsWith (codes "bound") (fields_of row.now) }
-    ensures ok { IfOk result (λ b. (fields_of row.now ≡ bound_row b) × IsBound count b) }
-    ensures err { IfErr result (BoundLacks count (fields_of row.now)) }
+/// The slots of a bound, beside so many commands.
+fn bound_slots(count: u64) -> [Slot; 4]
+    ensures { result ≡ slot.Given ∷ slots_by (bound_cells count) }
 {
     let late = Slot::Lateness {
         most: (1 << 41) - 1,
     };
     if count == 0 {
-        if is_no_bound(row) {
-            return Ok(None);
-        }
-        let no = Slot::Number { least: 1, most: 0 };
-        return match read_fields(row, &[Slot::Given, late, no, no]) {
-            Ok(_) => unreachable!(),
-            Err(why) => Err(why),
-        };
+        let none = Slot::Number { least: 1, most: 0 };
+        return [Slot::Given, late, none, none];
     }
     let round = Slot::Number {
         least: 0,
         most: (1 << 41) - 1,
     };
-    match read_fields(row, &[Slot::Given, late, round, round]) {
+    [Slot::Given, late, round, round]
+}
+
+/// The bound of a record that begins with its word, for so many commands.
+fn bound_of(row: &ByteRecord, count: u64) -> Result<Option<(i64, Window)>, Why>
+    requires { StartsWith (codes "bound") (fields_of row.now) }
+    ensures ok { IfOk result (IsLine (bound_part count) (fields_of row.now)) }
+    ensures err { IfErr result (IsWrongLine (bound_part count) (fields_of row.now)) }
+{
+    if is_no_bound(row, count) {
+        return Ok(None);
+    }
+    let slots = bound_slots(count);
+    match read_fields(row, &slots) {
         Ok(numbers) => Ok(Some(bound_with(row, &numbers, count))),
         Err(why) => Err(why),
     }
 }
 
-// The commands of lines.
+/// The commands of lines.
 fn commands_of(alloc: Global, served: &[(Command, u64)]) -> Result<Vec<Command>, AllocError>
     ensures { IfOk result (λ v. v.items ≡ map (λ s. s.0) served.now) }
 {
     served.iter().map(|(command, _)| *command).collect(alloc)
 }
 
-// The rounds of lines.
+/// The rounds of lines.
 fn rounds_of(alloc: Global, served: &[(Command, u64)]) -> Result<Vec<u64>, AllocError>
     ensures { IfOk result (λ v. v.items ≡ map (λ s. s.1) served.now) }
 {
     served.iter().map(|(_, round)| *round).collect(alloc)
 }
 
-// The commands and the rounds of lines.
+/// The commands and the rounds of lines.
 fn split(alloc: Global, served: &[(Command, u64)]) -> Result<(Vec<Command>, Vec<u64>), AllocError>
     ensures commands { IfOk result (λ p. p.0.items ≡ map (λ s. s.0) served.now) }
     ensures rounds { IfOk result (λ p. p.1.items ≡ map (λ s. s.1) served.now) }
@@ -301,8 +283,7 @@ pub fn read_certificate<R: Read + Drop>(
         Ok(bound) => bound,
         Err(fault) => return Err(fault),
     };
-    let form = Each { form: ServedForm };
-    let served = match read_items(alloc, records, &form, Extent::Exactly(count)) {
+    let served = match read_lines(alloc, records, ServedForm, Repeats::Exactly(count)) {
         Ok(served) => served,
         Err(fault) => return Err(fault),
     };
@@ -317,9 +298,9 @@ pub fn read_certificate<R: Read + Drop>(
     }
 }
 
-// Adds the title record.
+/// Adds the title record.
 fn push_title(draft: &mut Block, depth: u64, count: u64) -> Result<(), AllocError>
-    ensures text { OnOk result (drafted draft.new ≡ drafted draft.old ++ rows_text (title_row depth count ∷ [])) }
+    ensures text { OnOk result (drafted draft.new ≡ drafted draft.old ++ rows_text (title_by (codes "blk-certificate") counted_cells (1, (depth, count)) ∷ [])) }
 {
     let start = draft.room()?;
     let buf = &mut draft.block;
@@ -329,7 +310,7 @@ fn push_title(draft: &mut Block, depth: u64, count: u64) -> Result<(), AllocErro
     Ok(())
 }
 
-// Adds the record that says that there is no bound.
+/// Adds the record that says that there is no bound.
 fn push_no_bound(draft: &mut Block) -> Result<(), AllocError>
     ensures text { OnOk result (drafted draft.new ≡ drafted draft.old ++ rows_text (bound_row None ∷ [])) }
 {
@@ -338,7 +319,7 @@ fn push_no_bound(draft: &mut Block) -> Result<(), AllocError>
     Ok(())
 }
 
-// Adds the record of a lateness and its window.
+/// Adds the record of a lateness and its window.
 fn push_some_bound(
     alloc: Global,
     draft: &mut Block,
@@ -358,7 +339,7 @@ fn push_some_bound(
     Ok(())
 }
 
-// Adds the record of a bound.
+/// Adds the record of a bound.
 fn push_bound(
     alloc: Global,
     draft: &mut Block,
@@ -372,10 +353,10 @@ fn push_bound(
     }
 }
 
-// Adds the record of a command and its round.
+/// Adds the record of a command and its round.
 #[inline]
 fn push_served(draft: &mut Block, command: &Command, round: u64) -> Result<(), AllocError>
-    ensures text { OnOk result (drafted draft.new ≡ drafted draft.old ++ rows_text (served_row (command.now, round) ∷ [])) }
+    ensures text { OnOk result (drafted draft.new ≡ drafted draft.old ++ rows_text (row_by served_cells (command.now, round) ∷ [])) }
 {
     let start = draft.room()?;
     let buf = &mut draft.block;
@@ -386,7 +367,7 @@ fn push_served(draft: &mut Block, command: &Command, round: u64) -> Result<(), A
     Ok(())
 }
 
-// The text of a certificate.
+/// The text of a certificate.
 fn certificate_text(alloc: Global, certificate: &Certificate) -> Result<Vec<u8>, AllocError>
     requires { IsClaim (claimed certificate.now) }
     ensures { IfOk result (λ v. v.items ≡ rows_text (claim_rows (claimed certificate.now))) }

@@ -1,23 +1,24 @@
 //! Command lists.
 
-ghost use Rattle.std.specs.Prelude.{◌≡◌, ◌⊎◌, ◌+◌, ◌≤◌, ◌<◌, ◌^◌, ◌++◌, ◌∷◌, [], IfOk, IfErr, IfSome, OnOk, length};
+ghost use Rattle.std.specs.Prelude.{◌≡◌, ◌⊎◌, ◌+◌, ◌≤◌, ◌<◌, ◌^◌, ◌++◌, ◌∷◌, [], IfOk, IfErr, IfSome, OnOk, length, codes};
 ghost use Rattle.std.specs.Io.KnownBytes.{Appends};
 ghost use Rattle.csv.specs.Records.{fields_of};
+ghost use Rattle.blk_text.specs.Tables.{row_by, title_by};
 ghost use Rattle.blk_text.specs.Texts.{rows_text};
 ghost use Rattle.blk_text.specs.Drafts.{drafted};
 ghost use Rattle.parts.specs.Parts.{Begins};
-ghost use Rattle.blk_text.specs.Reads.{IsOutside, Reads, Fails, Reaches};
-ghost use Rattle.blk_text.specs.Commands.{AreCommands, SpellsCommands, CommandsFault, command_list, command_row, commands_rows, title_row};
+ghost use Rattle.blk_text.specs.Reads.{IsOutside, Reaches};
+ghost use Rattle.blk_text.specs.Commands.{AreCommands, SpellsCommands, CommandsFault, command_cells, command_list, commands_rows, depth_cells};
 
 use crate::block::{Block, write_whole};
 use crate::fault::{TextFault, Why, WriteFault};
 use crate::fields::{Slot, read_fields, version_of};
-use crate::items::{Each, LineForm, read_items, read_line};
+use crate::items::{LineForm, read_line, read_lines};
 use crate::pieces::{put, put_number, put_two};
 use crate::source::Records;
 use csv::ByteRecord;
 use edd_check::Command;
-use parts::Extent;
+use parts::Repeats;
 use std::alloc::{AllocError, Global};
 use std::io::{Read, Write};
 
@@ -29,20 +30,11 @@ pub const MOST_COMMANDS: u64 = 1_000_000;
 pub(crate) struct TitleForm;
 
 impl LineForm for TitleForm {
-    ghost use Rattle.std.specs.Prelude.{codes};
-    ghost use Rattle.blk_text.specs.Commands.{depth_cells, IsDepth};
-    ghost use Rattle.blk_text.specs.Tables.{title_by, IsVersion, TitleLacks};
-    ghost use Rattle.blk_text.specs.declared.fault.Why.TheVariants as why;
+    ghost use Rattle.blk_text.specs.Commands.{title};
 
     type Line = (u64, u64);
 
-    ghost row_of = { λ _. title_by (codes "blk-commands") depth_cells };
-
-    ghost Fits = { λ _ t. IsVersion 1 t.0 × IsDepth t.1 };
-
-    ghost Refused = { λ _. TitleLacks (codes "blk-commands") 1 depth_cells };
-
-    ghost missing = { why.Title };
+    ghost part = { λ _. title };
 
     fn gone(&self) -> Why {
         Why::Title
@@ -72,20 +64,11 @@ impl LineForm for TitleForm {
 pub(crate) struct CommandForm;
 
 impl LineForm for CommandForm {
-    ghost use Rattle.blk_text.specs.Commands.{command_cells, IsCommandInRange};
-    ghost use Rattle.blk_text.specs.Tables.{row_by, slots_by};
-    ghost use Rattle.blk_text.specs.Fields.{Lacks};
-    ghost use Rattle.blk_text.specs.declared.fault.Why.TheVariants as why;
+    ghost use Rattle.blk_text.specs.Commands.{command};
 
     type Line = Command;
 
-    ghost row_of = { λ _. row_by command_cells };
-
-    ghost Fits = { λ _. IsCommandInRange };
-
-    ghost Refused = { λ _. Lacks (slots_by command_cells) };
-
-    ghost missing = { why.Count };
+    ghost part = { λ _. command };
 
     fn gone(&self) -> Why {
         Why::Count
@@ -145,17 +128,16 @@ pub fn read_commands<R: Read + Drop>(
         Ok(title) => title,
         Err(fault) => return Err(fault),
     };
-    let form = Each { form: CommandForm };
-    match read_items(alloc, records, &form, Extent::AtMost(MOST_COMMANDS)) {
+    match read_lines(alloc, records, CommandForm, Repeats::AtMost(MOST_COMMANDS)) {
         Ok(commands) => Ok((depth, commands)),
         Err(fault) => Err(fault),
     }
 }
 
-// Adds the record of a command.
+/// Adds the record of a command.
 #[inline]
 fn push_command(draft: &mut Block, command: &Command) -> Result<(), AllocError>
-    ensures text { OnOk result (drafted draft.new ≡ drafted draft.old ++ rows_text (command_row command.now ∷ [])) }
+    ensures text { OnOk result (drafted draft.new ≡ drafted draft.old ++ rows_text (row_by command_cells command.now ∷ [])) }
 {
     let start = draft.room()?;
     let buf = &mut draft.block;
@@ -166,9 +148,9 @@ fn push_command(draft: &mut Block, command: &Command) -> Result<(), AllocError>
     Ok(())
 }
 
-// Adds the title record.
+/// Adds the title record.
 fn push_title(draft: &mut Block, depth: u64) -> Result<(), AllocError>
-    ensures text { OnOk result (drafted draft.new ≡ drafted draft.old ++ rows_text (title_row depth ∷ [])) }
+    ensures text { OnOk result (drafted draft.new ≡ drafted draft.old ++ rows_text (title_by (codes "blk-commands") depth_cells (1, depth) ∷ [])) }
 {
     let start = draft.room()?;
     let buf = &mut draft.block;
@@ -178,7 +160,7 @@ fn push_title(draft: &mut Block, depth: u64) -> Result<(), AllocError>
     Ok(())
 }
 
-// The text of a depth and a list of commands.
+/// The text of a depth and a list of commands.
 fn commands_text(alloc: Global, depth: u64, commands: &[Command]) -> Result<Vec<u8>, AllocError>
     ensures { IfOk result (λ v. v.items ≡ rows_text (commands_rows depth commands.now)) }
 {

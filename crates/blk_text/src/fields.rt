@@ -38,7 +38,7 @@ pub fn field(row: &ByteRecord, place: usize) -> &[u8]
     }
 }
 
-// Whether digits begin as those of a number do: with no zero before another digit.
+/// Whether digits begin as those of a number do: with no zero before another digit.
 fn is_canonical(field: &[u8]) -> bool
     ensures { AllDigits 10 field.now → result ≡ canonical field.now }
 {
@@ -48,10 +48,10 @@ fn is_canonical(field: &[u8]) -> bool
     }
 }
 
-// The greatest number that a digit can follow.
+/// The greatest number that a digit can follow.
 const LAST: u64 = u64::MAX / 10;
 
-// Whether a number does not fit once one more digit follows it.
+/// Whether a number does not fit once one more digit follows it.
 fn is_past(number: u64, digit: u64) -> bool
     requires { digit < 10 }
     ensures { IsTrue result ↔ (2 ^ 64 ≤ number * 10 + digit) }
@@ -59,7 +59,7 @@ fn is_past(number: u64, digit: u64) -> bool
     number > LAST || (number == LAST && digit > u64::MAX % 10)
 }
 
-// The same for digits of any number. Seldom asked, so apart from the others.
+/// The same for digits of any number. Seldom asked, so apart from the others.
 #[cold]
 #[inline(never)]
 fn long_number(field: &[u8]) -> Option<u64>
@@ -80,10 +80,10 @@ fn long_number(field: &[u8]) -> Option<u64>
     Some(number)
 }
 
-// The most digits of which every number fits.
+/// The most digits of which every number fits.
 const SAFE: usize = 19;
 
-// The number that so few digits write that it fits, if they are digits.
+/// The number that so few digits write that it fits, if they are digits.
 fn short_number(field: &[u8]) -> Option<u64>
     requires { length field.now ≤ 19 }
     ensures { MatchOption result (¬ WritesNumber field.now) (λ n. WritesNumber field.now × (n ≡ digits_value 10 field.now)) }
@@ -122,7 +122,7 @@ pub fn after_minus(field: &[u8]) -> Option<&[u8]>
     }
 }
 
-// The size of a signed number.
+/// The size of a signed number.
 fn parse_sized(field: &[u8]) -> Option<u64>
     ensures { MatchOption result ((n : ℕ) → n < 2 ^ 64 → ¬ IsSized field.now n) (IsSized field.now) }
 {
@@ -140,7 +140,7 @@ fn parse_sized(field: &[u8]) -> Option<u64>
     }
 }
 
-// Whether a field is empty where its slot is blank.
+/// Whether a field is empty where its slot is blank.
 fn is_blank(slot: Slot, field: &[u8]) -> bool
     ensures { IsTrue result ↔ IsBlank slot field.now }
 {
@@ -150,7 +150,7 @@ fn is_blank(slot: Slot, field: &[u8]) -> bool
     }
 }
 
-// Whether a field is R or W where its slot is a direction.
+/// Whether a field is R or W where its slot is a direction.
 fn is_direction(slot: Slot, field: &[u8]) -> bool
     ensures { IsTrue result ↔ IsDirection slot field.now }
 {
@@ -163,7 +163,7 @@ fn is_direction(slot: Slot, field: &[u8]) -> bool
     }
 }
 
-// The number of a field, or 0 where its slot has none.
+/// The number of a field, or 0 where its slot has none.
 fn number(slot: Slot, field: &[u8]) -> Option<u64>
     ensures { MatchOption result (¬ IsNumber slot field.now) (NumberOf slot field.now) }
 {
@@ -174,7 +174,7 @@ fn number(slot: Slot, field: &[u8]) -> Option<u64>
     }
 }
 
-// Whether a number lies in the range of its slot.
+/// Whether a number lies in the range of its slot.
 fn is_within(slot: Slot, number: u64) -> bool
     ensures { IsTrue result ↔ IsWithin slot number }
 {
@@ -185,7 +185,7 @@ fn is_within(slot: Slot, number: u64) -> bool
     }
 }
 
-// Whether a record has a field for each slot, the blank ones empty.
+/// Whether a record has a field for each slot, the blank ones empty.
 fn is_shaped(row: &ByteRecord, slots: &[Slot]) -> bool
     ensures { IsTrue result ↔ IsShaped slots.now (fields_of row.now) }
 {
@@ -200,7 +200,7 @@ fn is_shaped(row: &ByteRecord, slots: &[Slot]) -> bool
     true
 }
 
-// Whether each direction of a record is one.
+/// Whether each direction of a record is one.
 fn has_directions(row: &ByteRecord, slots: &[Slot]) -> bool
     ensures { IsTrue result ↔ EachField IsDirection slots.now (fields_of row.now) }
 {
@@ -212,7 +212,7 @@ fn has_directions(row: &ByteRecord, slots: &[Slot]) -> bool
     true
 }
 
-// The numbers of a record's fields by place, if each is one.
+/// The numbers of a record's fields by place, if each is one.
 fn numbers_of(row: &ByteRecord, slots: &[Slot]) -> Option<[u64; WIDTH]>
     requires { length slots.now ≤ 6 }
     ensures { MatchOption result (¬ EachField IsNumber slots.now (fields_of row.now)) (EachNumber NumberOf slots.now (fields_of row.now)) }
@@ -227,7 +227,7 @@ fn numbers_of(row: &ByteRecord, slots: &[Slot]) -> Option<[u64; WIDTH]>
     Some(numbers)
 }
 
-// Whether each number lies in the range of its slot.
+/// Whether each number lies in the range of its slot.
 fn are_within(slots: &[Slot], numbers: &[u64; WIDTH]) -> bool
     requires { length slots.now ≤ 6 }
     ensures { IsTrue result ↔ ((k : ℕ) → k < length slots.now → IsWithin (get_or slots.now k Slot.Given) (get_or numbers.now k 0)) }
@@ -240,7 +240,7 @@ fn are_within(slots: &[Slot], numbers: &[u64; WIDTH]) -> bool
     true
 }
 
-// The number of a field that is what its slot wants, 0 where the slot has none.
+/// The number of a field that is what its slot wants, 0 where the slot has none.
 fn spelled(slot: Slot, field: &[u8]) -> Option<u64>
     ensures { IfSome result (FieldSpells slot field.now) }
 {
@@ -262,8 +262,8 @@ fn spelled(slot: Slot, field: &[u8]) -> Option<u64>
     }
 }
 
-// The numbers of a record's fields by place, where the record is what its slots want; in one pass, so that
-// a record without a fault is looked at once.
+/// The numbers of a record's fields by place, where the record is what its slots want; in one pass, so that
+/// a record without a fault is looked at once.
 fn spelled_numbers(row: &ByteRecord, slots: &[Slot]) -> Option<[u64; WIDTH]>
     requires { length slots.now ≤ 6 }
     ensures { IfSome result (FieldsSpell slots.now (fields_of row.now)) }
@@ -281,8 +281,8 @@ fn spelled_numbers(row: &ByteRecord, slots: &[Slot]) -> Option<[u64; WIDTH]>
     Some(numbers)
 }
 
-// The numbers of a record's fields by place, or the first thing that it lacks: each kind of fault is looked for
-// in all fields before the next kind.
+/// The numbers of a record's fields by place, or the first thing that it lacks: each kind of fault is looked for
+/// in all fields before the next kind.
 #[cold]
 #[inline(never)]
 fn check_fields(row: &ByteRecord, slots: &[Slot]) -> Result<[u64; WIDTH], Why>

@@ -1,16 +1,16 @@
 //! Items of a text, each of which may have some records and depend on those before it.
 
-ghost use Rattle.std.specs.Prelude.{◌≡◌, ◌⊎◌, ◌+◌, ◌-◌, ◌*◌, ◌<◌, ◌≤◌, ◌^◌, ℕ, List, [], ◌∷◌, map, length, IfOk, IfErr, IfSome};
+ghost use Rattle.std.specs.Prelude.{◌≡◌, ◌+◌, ◌-◌, ◌*◌, ◌<◌, ◌≤◌, ◌^◌, ℕ, List, [], map, length, All, IfOk, IfErr, IfSome};
 ghost use Rattle.csv.specs.Records.{fields_of};
 ghost use Rattle.blk_text.specs.Sources.{Row};
 ghost use Rattle.blk_text.specs.declared.fault.Why.{Why as AWhy};
-ghost use Rattle.parts.specs.Parts.{Part, Begins, most_of, record_of};
-ghost use Rattle.blk_text.specs.Reads.{Reads, HandReads, HandFails, Fails, AreItems, IsStopped, beyond_of, items_of, size_of};
+ghost use Rattle.parts.specs.Parts.{Part, Begins, IsCount, most_of};
+ghost use Rattle.blk_text.specs.Reads.{Reads, HandReads, HandFails, Fails, Halts, IsLine, IsWrongLine, IsOne, AreItems, IsStopped, beyond_of, items_of, size_of};
 
 use crate::fault::{TextFault, Why};
 use crate::source::Records;
 use csv::ByteRecord;
-use parts::Extent;
+use parts::Repeats;
 use std::alloc::Global;
 use std::io::Read;
 
@@ -18,22 +18,17 @@ use std::io::Read;
 pub trait LineForm {
     type Line;
 
-    ghost row_of: { Self → Self.Line → Row };
-
-    ghost Fits: { Self → Self.Line → Type 0 };
-
-    ghost Refused: { Self → Row → AWhy → Type 0 };
-
-    ghost missing: { AWhy };
+    ghost part: { Self → Part Row AWhy Self.Line };
 
     /// The fault where the record never came.
     fn gone(&self) -> Why
-        ensures { result ≡ missing };
+        ensures wrong { (part self.now).Wrong [] 1 result }
+        ensures one { IsOne (part self.now) };
 
     /// The line that a record spells, or the first thing that is wrong with it.
     fn line(&self, row: &ByteRecord) -> Result<Self::Line, Why>
-        ensures ok { IfOk result (λ l. (fields_of row.now ≡ row_of self.now l) × Fits self.now l) }
-        ensures err { IfErr result (Refused self.now (fields_of row.now)) };
+        ensures ok { IfOk result (IsLine (part self.now) (fields_of row.now)) }
+        ensures err { IfErr result (IsWrongLine (part self.now) (fields_of row.now)) };
 }
 
 /// The line of the next record.
@@ -43,15 +38,16 @@ pub fn read_line<R: Read + Drop, F: LineForm>(
 ) -> Result<F::Line, TextFault>
     requires { records.old.at < 2 ^ 64 - 1 }
     ensures at { records.new.at ≡ records.old.at + 1 }
-    ensures ok { IfOk result (λ l. Reads (record_of (F.row_of form.now) (F.Fits form.now) F.missing (F.Refused form.now)) records.old.left records.new.left l) }
+    ensures ok { IfOk result (Reads (F.part form.now) records.old.left records.new.left) }
     // also where the reader's bytes are not known
-    ensures fits { IfOk result (F.Fits form.now) }
+    ensures fits { IfOk result (F.part form.now).Fits }
     // at the record that was asked for last: none was read past it
     ensures last { IfErr result (λ f. f.at ≡ records.new.at) }
-    ensures err { IfErr result (λ f. Fails records.new.failed (record_of (F.row_of form.now) (F.Fits form.now) F.missing (F.Refused form.now)) records.old.left records.old.at f.at f.why) }
+    ensures err { IfErr result (λ f. Halts records.new.failed (F.part form.now) records.old.left records.old.at f.at f.why) }
 {
+    let gone = form.gone();
     if !records.advance()? {
-        return Err(records.fault(form.gone()));
+        return Err(records.fault(gone));
     }
     match form.line(records.row()) {
         Ok(line) => Ok(line),
@@ -100,8 +96,6 @@ pub struct Each<F> {
 
 impl<F: LineForm> ItemForm for Each<F> {
     ghost use Rattle.std.specs.Prelude.{List};
-    ghost use Rattle.blk_text.specs.declared.fault.Why.TheVariants as why;
-    ghost use Rattle.parts.specs.Parts.{record_of};
 
     type Value = F::Line;
 
@@ -109,12 +103,12 @@ impl<F: LineForm> ItemForm for Each<F> {
 
     ghost seen = { λ v. v };
 
-    ghost part = { λ e _. record_of (F.row_of e.form) (F.Fits e.form) why.Count (F.Refused e.form) };
+    ghost part = { λ e _. F.part e.form };
 
     ghost more = { 0 };
 
     fn gone(&self, before: &[F::Line]) -> Why {
-        Why::Count
+        self.form.gone()
     }
 
     fn read<R: Read + Drop>(
@@ -123,6 +117,7 @@ impl<F: LineForm> ItemForm for Each<F> {
         records: &mut Records<R>,
         before: &[F::Line],
     ) -> Result<F::Line, TextFault> {
+        let _ = self.form.gone();
         match self.form.line(records.row()) {
             Ok(line) => Ok(line),
             Err(why) => Err(records.fault(why)),
@@ -130,23 +125,13 @@ impl<F: LineForm> ItemForm for Each<F> {
     }
 }
 
-// The most items.
-fn most(extent: Extent) -> u64
-    ensures { result ≡ most_of extent }
+/// The fault of one item more.
+fn beyond(repeats: Repeats) -> Why
+    ensures { result ≡ beyond_of repeats }
 {
-    match extent {
-        Extent::AtMost(most) => most,
-        Extent::Exactly(count) => count,
-    }
-}
-
-// The fault of one item more.
-fn beyond(extent: Extent) -> Why
-    ensures { result ≡ beyond_of extent }
-{
-    match extent {
-        Extent::AtMost(_) => Why::TooLong,
-        Extent::Exactly(_) => Why::Count,
+    match repeats {
+        Repeats::AtMost(_) => Why::TooLong,
+        Repeats::Exactly(_) => Why::Count,
     }
 }
 
@@ -155,30 +140,30 @@ pub fn read_items<R: Read + Drop, F: ItemForm>(
     alloc: Global,
     records: &mut Records<R>,
     form: &F,
-    extent: Extent,
+    repeats: Repeats,
 ) -> Result<Vec<F::Value>, TextFault>
 where
     F::Value: Drop,
-    requires { records.old.at + (most_of extent + 1) * (F.more + 1) < 2 ^ 64 - 1 }
-    ensures ok { IfOk result (λ v. IfSome records.old.left (λ rows. Begins (items_of extent (F.part form.now)) rows (map F.seen v.items) [])) }
-    ensures err { IfErr result (λ f. Fails records.new.failed (items_of extent (F.part form.now)) records.old.left records.old.at f.at f.why) }
+    requires { records.old.at + (most_of repeats + 1) * (F.more + 1) < 2 ^ 64 - 1 }
+    ensures ok { IfOk result (λ v. IfSome records.old.left (λ rows. Begins (items_of repeats (F.part form.now)) rows (map F.seen v.items) [])) }
+    ensures err { IfErr result (λ f. Fails records.new.failed (items_of repeats (F.part form.now)) records.old.left records.old.at f.at f.why) }
     // all items before the one that is being read are good, and no record past that one is asked for
-    ensures before { IfErr result (λ f. IsStopped extent (F.part form.now) records.old.left records.old.at F.more f.at records.new.at) }
+    ensures before { IfErr result (λ f. IsStopped repeats (F.part form.now) records.old.left records.old.at F.more f.at records.new.at) }
     // also where the reader's bytes are not known
-    ensures fit { IfOk result (λ v. AreItems extent (F.part form.now) (map F.seen v.items)) }
-    ensures reads { (records.old.at < records.new.at) × (records.new.at ≤ records.old.at + (most_of extent + 1) * (F.more + 1)) }
+    ensures fit { IfOk result (λ v. AreItems repeats (F.part form.now) (map F.seen v.items)) }
+    ensures reads { (records.old.at < records.new.at) × (records.new.at ≤ records.old.at + (most_of repeats + 1) * (F.more + 1)) }
     // the last thing that was asked for is the record after the items, which there is not
     ensures end { IfOk result (λ v. records.new.at ≡ records.old.at + size_of (F.part form.now) (map F.seen v.items) + 1) }
 {
     let mut items = Vec::new(alloc);
-    let most = most(extent);
+    let most = repeats.most();
     for _ in 0..most {
         match records.advance() {
             Ok(true) => {}
             Ok(false) => {
-                return match extent {
-                    Extent::AtMost(_) => Ok(items),
-                    Extent::Exactly(_) => Err(records.fault(form.gone(items.as_slice()))),
+                return match repeats {
+                    Repeats::AtMost(_) => Ok(items),
+                    Repeats::Exactly(_) => Err(records.fault(form.gone(items.as_slice()))),
                 };
             }
             Err(fault) => return Err(fault),
@@ -197,9 +182,37 @@ where
         Ok(false) => return Ok(items),
         Err(fault) => return Err(fault),
     }
-    let fault = records.fault(beyond(extent));
+    let fault = records.fault(beyond(repeats));
     match form.read(alloc, records, items.as_slice()) {
         Ok(_) => Err(fault),
+        Err(fault) => Err(fault),
+    }
+}
+
+/// The lines that are left, to the end of the text.
+pub fn read_lines<R: Read + Drop, F: LineForm>(
+    alloc: Global,
+    records: &mut Records<R>,
+    form: F,
+    repeats: Repeats,
+) -> Result<Vec<F::Line>, TextFault>
+where
+    F::Line: Drop,
+    F: Drop,
+    requires { records.old.at + most_of repeats + 1 < 2 ^ 64 - 1 }
+    ensures ok { IfOk result (λ v. IfSome records.old.left (λ rows. Begins (items_of repeats (λ _. F.part form)) rows v.items [])) }
+    ensures err { IfErr result (λ f. Halts records.new.failed (items_of repeats (λ _. F.part form)) records.old.left records.old.at f.at f.why) }
+    // at the record that was asked for last: none was read past it
+    ensures last { IfErr result (λ f. f.at ≡ records.new.at) }
+    // also where the reader's bytes are not known
+    ensures fit { IfOk result (λ v. All (F.part form).Fits v.items × IsCount repeats (length v.items)) }
+    ensures reads { (records.old.at < records.new.at) × (records.new.at ≤ records.old.at + most_of repeats + 1) }
+    // the last thing that was asked for is the record after the lines, which there is not
+    ensures end { IfOk result (λ v. records.new.at ≡ records.old.at + length v.items + 1) }
+{
+    let _ = form.gone();
+    match read_items(alloc, records, &Each { form }, repeats) {
+        Ok(lines) => Ok(lines),
         Err(fault) => Err(fault),
     }
 }

@@ -1,6 +1,6 @@
 //! Laws of the text forms, each the contract of a function that does nothing.
 
-ghost use Rattle.std.specs.Prelude.{◌≡◌, ℕ, List};
+ghost use Rattle.std.specs.Prelude.{◌≡◌, ◌⊎◌, ℕ, List};
 ghost use Rattle.csv.specs.Reading.{default_config, records, strip_bom};
 ghost use Rattle.edd_check.specs.declared.Command.{Command};
 ghost use Rattle.blk_text.specs.Sources.{Row};
@@ -25,6 +25,11 @@ pub fn commands_read_back()
         → SpellsCommands (records default_config (strip_bom (rows_text (commands_rows depth commands)))) depth commands }
 {}
 
+/// Records either spell a command list or have a fault as one.
+pub fn a_command_list_is_spelled_or_has_a_fault()
+    ensures { (rows : List Row) → ((depth : ℕ) × (commands : List Command) × SpellsCommands rows depth commands) ⊎ ((at : ℕ) × (w : AWhy) × CommandsFault rows at w) }
+{}
+
 /// Records that spell a command list have no fault.
 pub fn spelled_commands_have_no_fault()
     ensures { (rows : List Row) → (depth : ℕ) → (commands : List Command) → (at : ℕ) → (w : AWhy)
@@ -47,6 +52,11 @@ pub fn certificates_read_back()
     ensures { (c : Claim) → IsClaim c → SpellsClaim (records default_config (strip_bom (rows_text (claim_rows c)))) c }
 {}
 
+/// Records either spell a certificate or have a fault as one.
+pub fn a_certificate_is_spelled_or_has_a_fault()
+    ensures { (rows : List Row) → ((c : Claim) × SpellsClaim rows c) ⊎ ((at : ℕ) × (w : AWhy) × ClaimFault rows at w) }
+{}
+
 /// Records that spell a certificate have no fault.
 pub fn spelled_certificates_have_no_fault()
     ensures { (rows : List Row) → (c : Claim) → (at : ℕ) → (w : AWhy) → SpellsClaim rows c → ClaimFault rows at w → ⊥ }
@@ -66,6 +76,11 @@ pub fn scripts_are_spelled_once()
 /// The text of a script reads back as its records, which spell it.
 pub fn scripts_read_back()
     ensures { (s : Scripted) → IsScript s → SpellsScript (records default_config (strip_bom (rows_text (script_rows s)))) s }
+{}
+
+/// Records either spell a script or have a fault as one.
+pub fn a_script_is_spelled_or_has_a_fault()
+    ensures { (rows : List Row) → ((s : Scripted) × SpellsScript rows s) ⊎ ((at : ℕ) × (w : AWhy) × ScriptFault rows at w) }
 {}
 
 /// Records that spell a script have no fault.

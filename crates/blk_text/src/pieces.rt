@@ -3,7 +3,7 @@
 ghost use Rattle.std.specs.Prelude.{◌≡◌, ◌++◌, ◌∷◌, ◌+◌, ◌<◌, ◌≤◌, take, length, decimal};
 ghost use Rattle.blk_text.specs.Cells.{pair_of, four_of, eight_of};
 
-// The numbers below 100 in two digits each.
+/// The numbers below 100 in two digits each.
 const PAIRS: &[u8; 200] =
     b"0001020304050607080910111213141516171819202122232425262728293031323334353637383940414243444546474849\
 5051525354555657585960616263646566676869707172737475767778798081828384858687888990919293949596979899";
@@ -21,7 +21,7 @@ pub(crate) fn put(bytes: &[u8], buf: &mut [u8], at: usize) -> usize
     at + bytes.len()
 }
 
-// Writes a number below 100 in two digits.
+/// Writes a number below 100 in two digits.
 #[inline(always)]
 fn put_pair(pair: u32, buf: &mut [u8], at: usize)
     requires { (pair < 100) × (at + 2 ≤ length buf.old) }
@@ -32,7 +32,7 @@ fn put_pair(pair: u32, buf: &mut [u8], at: usize)
     put(&pairs[from..from + 2], buf, at);
 }
 
-// Writes a number below 10,000 in four digits.
+/// Writes a number below 10,000 in four digits.
 #[inline(always)]
 fn put_four(number: u32, buf: &mut [u8], at: usize)
     requires { (number < 10_000) × (at + 4 ≤ length buf.old) }
@@ -42,7 +42,7 @@ fn put_four(number: u32, buf: &mut [u8], at: usize)
     put_pair(number % 100, buf, at + 2);
 }
 
-// Writes a number below 100,000,000 in eight digits.
+/// Writes a number below 100,000,000 in eight digits.
 #[inline]
 fn put_eight(number: u32, buf: &mut [u8], at: usize)
     requires { (number < 100_000_000) × (at + 8 ≤ length buf.old) }
@@ -52,7 +52,7 @@ fn put_eight(number: u32, buf: &mut [u8], at: usize)
     put_four(number % 10_000, buf, at + 4);
 }
 
-// Writes a number below 100, and says where it ends.
+/// Writes a number below 100, and says where it ends.
 #[inline(always)]
 fn put_short(number: u32, buf: &mut [u8], at: usize) -> usize
     requires { (number < 100) × (at + 2 ≤ length buf.old) }
@@ -67,7 +67,7 @@ fn put_short(number: u32, buf: &mut [u8], at: usize) -> usize
     at + 2
 }
 
-// Writes a number below 10,000, and says where it ends.
+/// Writes a number below 10,000, and says where it ends.
 #[inline]
 fn put_small(number: u32, buf: &mut [u8], at: usize) -> usize
     requires { (number < 10_000) × (at + 4 ≤ length buf.old) }
@@ -82,7 +82,7 @@ fn put_small(number: u32, buf: &mut [u8], at: usize) -> usize
     end + 2
 }
 
-// Writes a number below 100,000,000, and says where it ends.
+/// Writes a number below 100,000,000, and says where it ends.
 #[inline]
 fn put_middle(number: u32, buf: &mut [u8], at: usize) -> usize
     requires { (number < 100_000_000) × (at + 8 ≤ length buf.old) }
@@ -97,7 +97,7 @@ fn put_middle(number: u32, buf: &mut [u8], at: usize) -> usize
     end + 4
 }
 
-// Writes a number below 10^12, and says where it ends.
+/// Writes a number below 10^12, and says where it ends.
 #[inline]
 fn put_upper(number: u64, buf: &mut [u8], at: usize) -> usize
     requires { (number < 1_000_000_000_000) × (at + 12 ≤ length buf.old) }
@@ -112,7 +112,7 @@ fn put_upper(number: u64, buf: &mut [u8], at: usize) -> usize
     end + 8
 }
 
-// Writes a number of any length, and says where it ends.
+/// Writes a number of any length, and says where it ends.
 #[inline(never)]
 fn put_long(number: u64, buf: &mut [u8], at: usize) -> usize
     requires { at + 20 ≤ length buf.old }

@@ -1,24 +1,25 @@
 //! Scripts.
 
-ghost use Rattle.std.specs.Prelude.{◌≡◌, ◌⊎◌, ◌+◌, ◌-◌, ◌≤◌, ◌<◌, ◌^◌, ℕ, IfOk, IfErr, IfSome, MatchOption, get_or, codes, [], length, IsTrue, ◌↔◌};
+ghost use Rattle.std.specs.Prelude.{◌≡◌, ◌⊎◌, ◌+◌, ◌≤◌, ◌<◌, ◌∷◌, ℕ, IfOk, IfErr, IfSome, MatchOption, codes, length};
 ghost use Rattle.csv.specs.Records.{fields_of};
-ghost use Rattle.blk_text.specs.Reads.{IsOutside, Reads, Fails, Reaches};
-ghost use Rattle.blk_text.specs.Tables.{IsVersion};
+ghost use Rattle.blk_text.specs.Reads.{IsOutside, IsLine, IsWrongLine, Reaches};
+ghost use Rattle.blk_text.specs.Tables.{slots_by};
 ghost use Rattle.blk_text.specs.Words.{StartsWith};
 ghost use Rattle.blk_text.specs.Fields.{FieldsSpell};
 ghost use Rattle.blk_text.specs.BioRecord.{bio_row, direction_text};
-ghost use Rattle.blk_text.specs.Script.{word_of, slots_of, LineFits, line_row, StepWrong, SpellsNoBio, IsTitle, IsScript, SpellsScript, ScriptFault, scripted, title as script_title, script_form};
+ghost use Rattle.blk_text.specs.Script.{word_of, step_cells, step, LineFits, IsScript, SpellsScript, ScriptFault, scripted, script_form};
+ghost use Rattle.blk_text.specs.declared.fields.Slot.TheVariants as slot;
 ghost use Rattle.blk_text.specs.declared.script.Word.{Word as AWord};
 
 use crate::fault::{TextFault, Why};
 use crate::fields::{Slot, WIDTH, field, parse_number, read_fields, version_of, without_word};
-use crate::items::{Each, LineForm, read_items, read_line};
+use crate::items::{LineForm, read_line, read_lines};
 use crate::setup::SetupForm;
 use crate::source::Records;
 use blk_bio::bio::{Bio, BioId, Dir};
 use blk_trace::setup::Setup;
 use csv::ByteRecord;
-use parts::Extent;
+use parts::Repeats;
 use std::alloc::Global;
 use std::io::Read;
 
@@ -69,7 +70,7 @@ pub(crate) enum Word {
     Run,
 }
 
-// The word of a field.
+/// The word of a field.
 fn word_named(field: &[u8]) -> Option<Word>
     ensures { MatchOption result ((k : AWord) → ¬ (field.now ≡ word_of k)) (λ k. field.now ≡ word_of k) }
 {
@@ -92,7 +93,7 @@ fn word_named(field: &[u8]) -> Option<Word>
     }
 }
 
-// The direction of a field that is R or W.
+/// The direction of a field that is R or W.
 fn direction_of(field: &[u8]) -> Dir
     requires { (field.now ≡ codes "R") ⊎ (field.now ≡ codes "W") }
     ensures { field.now ≡ direction_text result }
@@ -127,9 +128,9 @@ const ANY: Slot = Slot::Number {
     most: u64::MAX,
 };
 
-// The slots of the steps that begin with a word.
+/// The slots of the steps that begin with a word.
 fn step_slots(form: &StepForm, word: Word) -> [Slot; WIDTH]
-    ensures { result ≡ slots_of form.now.hw form.now.submitters word }
+    ensures { result ≡ slot.Given ∷ slots_by (step_cells form.now.hw form.now.submitters word) }
 {
     let submitter = Slot::Number {
         least: 0,
@@ -159,7 +160,7 @@ fn step_slots(form: &StepForm, word: Word) -> [Slot; WIDTH]
     }
 }
 
-// The step of a record whose fields are right for its word.
+/// The step of a record whose fields are right for its word.
 fn step_of(
     form: &StepForm,
     word: Word,
@@ -167,9 +168,9 @@ fn step_of(
     numbers: &[u64; WIDTH],
 ) -> Result<Line, Why>
     requires starts { StartsWith (word_of word) (fields_of row.now) }
-    requires spells { FieldsSpell (slots_of form.now.hw form.now.submitters word) (fields_of row.now) numbers.now }
-    ensures ok { IfOk result (λ l. (fields_of row.now ≡ line_row l) × LineFits form.now.hw form.now.submitters l) }
-    ensures err { IfErr result (SpellsNoBio form.now.submitters (fields_of row.now)) }
+    requires spells { FieldsSpell (slot.Given ∷ slots_by (step_cells form.now.hw form.now.submitters word)) (fields_of row.now) numbers.now }
+    ensures ok { IfOk result (IsLine (step form.now.hw form.now.submitters) (fields_of row.now)) }
+    ensures err { IfErr result (IsWrongLine (step form.now.hw form.now.submitters) (fields_of row.now)) }
 {
     match word {
         Word::Bio => {
@@ -196,7 +197,7 @@ fn step_of(
     }
 }
 
-// The direction that a field spells.
+/// The direction that a field spells.
 fn parse_direction(field: &[u8]) -> Option<Dir>
     ensures { IfSome result (λ dir. field.now ≡ direction_text dir) }
 {
@@ -207,8 +208,8 @@ fn parse_direction(field: &[u8]) -> Option<Dir>
     }
 }
 
-// The bio of a record that begins with its word, where the record has no fault. Most records of a script spell a
-// bio, so its fields are read without their slots.
+/// The bio of a record that begins with its word, where the record has no fault. Most records of a script spell a
+/// bio, so its fields are read without their slots.
 fn bio_of(form: &StepForm, row: &ByteRecord) -> Option<Bio>
     requires { StartsWith (codes "bio") (fields_of row.now) }
     ensures { IfSome result (λ b. (fields_of row.now ≡ bio_row b) × LineFits form.now.hw form.now.submitters (Line.Bio b)) }
@@ -234,12 +235,12 @@ fn bio_of(form: &StepForm, row: &ByteRecord) -> Option<Bio>
     }
 }
 
-// The step of a record that begins with a word, by the slots of the word.
+/// The step of a record that begins with a word, by the slots of the word.
 #[inline(never)]
 fn slotted_line(form: &StepForm, word: Word, row: &ByteRecord) -> Result<Line, Why>
     requires { StartsWith (word_of word) (fields_of row.now) }
-    ensures ok { IfOk result (λ l. (fields_of row.now ≡ line_row l) × LineFits form.now.hw form.now.submitters l) }
-    ensures err { IfErr result (StepWrong form.now.hw form.now.submitters (fields_of row.now)) }
+    ensures ok { IfOk result (IsLine (step form.now.hw form.now.submitters) (fields_of row.now)) }
+    ensures err { IfErr result (IsWrongLine (step form.now.hw form.now.submitters) (fields_of row.now)) }
 {
     let slots = step_slots(form, word);
     match read_fields(row, &slots) {
@@ -249,18 +250,11 @@ fn slotted_line(form: &StepForm, word: Word, row: &ByteRecord) -> Result<Line, W
 }
 
 impl LineForm for StepForm {
-    ghost use Rattle.blk_text.specs.Script.{line_row, LineFits, StepWrong};
-    ghost use Rattle.blk_text.specs.declared.fault.Why.TheVariants as why;
+    ghost use Rattle.blk_text.specs.Script.{step};
 
     type Line = Line;
 
-    ghost row_of = { λ _. line_row };
-
-    ghost Fits = { λ f. LineFits f.hw f.submitters };
-
-    ghost Refused = { λ f. StepWrong f.hw f.submitters };
-
-    ghost missing = { why.Count };
+    ghost part = { λ f. step f.hw f.submitters };
 
     fn gone(&self) -> Why {
         Why::Count
@@ -279,25 +273,17 @@ impl LineForm for StepForm {
     }
 }
 
-/// The title record: the version, and the numbers of a title, each in its own range.
+/// The title record: the version, and the numbers of a title, each in its own range, and at least as many submitters
+/// as hardware queues.
 #[derive(Clone, Copy, Drop)]
 pub(crate) struct TitleForm;
 
 impl LineForm for TitleForm {
-    ghost use Rattle.std.specs.Prelude.{codes};
-    ghost use Rattle.blk_text.specs.Script.{script_cells, IsTitle};
-    ghost use Rattle.blk_text.specs.Tables.{title_by, IsVersion, TitleLacks};
-    ghost use Rattle.blk_text.specs.declared.fault.Why.TheVariants as why;
+    ghost use Rattle.blk_text.specs.Script.{title as script_title};
 
     type Line = (u64, Title);
 
-    ghost row_of = { λ _. title_by (codes "blk-script") script_cells };
-
-    ghost Fits = { λ _ t. IsVersion 1 t.0 × IsTitle t.1 };
-
-    ghost Refused = { λ _. TitleLacks (codes "blk-script") 1 script_cells };
-
-    ghost missing = { why.Title };
+    ghost part = { λ _. script_title };
 
     fn gone(&self) -> Why {
         Why::Title
@@ -326,32 +312,13 @@ impl LineForm for TitleForm {
                     soft_depth: numbers[4],
                     submitters: numbers[5],
                 };
+                if title.submitters < title.hw as u64 {
+                    return Err(Why::Range);
+                }
                 Ok((version, title))
             }
             Err(why) => Err(why),
         }
-    }
-}
-
-// The title of the title record, which is the next one; its submitters are at least as many as its hardware queues.
-fn read_script_title<R: Read + Drop>(records: &mut Records<R>) -> Result<(u64, Title), TextFault>
-    requires start { records.old.at ≡ 0 }
-    ensures at { records.new.at ≡ 1 }
-    ensures ok { IfOk result (λ t. Reads script_title records.old.left records.new.left t) }
-    // also where the reader's bytes are not known
-    ensures title { IfOk result (λ t. IsVersion 1 t.0 × IsTitle t.1 × (t.1.hw ≤ t.1.submitters)) }
-    // at the record that was asked for last: none was read past it
-    ensures last { IfErr result (λ f. f.at ≡ records.new.at) }
-    ensures err { IfErr result (λ f. Fails records.new.failed script_title records.old.left 0 f.at f.why) }
-{
-    match read_line(records, &TitleForm) {
-        Ok((version, title)) => {
-            if title.submitters < title.hw as u64 {
-                return Err(records.fault(Why::Range));
-            }
-            Ok((version, title))
-        }
-        Err(fault) => Err(fault),
     }
 }
 
@@ -379,7 +346,7 @@ pub fn read_script<R: Read + Drop>(
     // the last thing that was asked for is the record after the steps, which there is not
     ensures end { IfOk result (λ s. records.new.at ≡ length s.lines.items + 3) }
 {
-    let (_, title) = match read_script_title(records) {
+    let (_, title) = match read_line(records, &TitleForm) {
         Ok(title) => title,
         Err(fault) => return Err(fault),
     };
@@ -391,13 +358,11 @@ pub fn read_script<R: Read + Drop>(
         Ok(setup) => setup,
         Err(fault) => return Err(fault),
     };
-    let form = Each {
-        form: StepForm {
-            hw: title.hw,
-            submitters: title.submitters,
-        },
+    let form = StepForm {
+        hw: title.hw,
+        submitters: title.submitters,
     };
-    match read_items(alloc, records, &form, Extent::AtMost(MOST_STEPS)) {
+    match read_lines(alloc, records, form, Repeats::AtMost(MOST_STEPS)) {
         Ok(lines) => Ok(Script {
             setup,
             soft_depth: title.soft_depth,

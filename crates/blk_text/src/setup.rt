@@ -1,11 +1,13 @@
 //! The setup record, which is the second one of a script and of a trace.
 
-ghost use Rattle.std.specs.Prelude.{◌≡◌, ◌⊎◌, ◌≤◌, ◌<◌, IfOk, IfErr, IfSome, codes};
+ghost use Rattle.std.specs.Prelude.{◌≡◌, ◌≤◌, ◌<◌, ◌∷◌, IfOk, IfErr, codes};
 ghost use Rattle.csv.specs.Records.{fields_of};
-ghost use Rattle.blk_trace.specs.Setups.{Setup as SetupFields};
 ghost use Rattle.blk_text.specs.Fields.{FieldsSpell};
+ghost use Rattle.blk_text.specs.Reads.{IsLine, IsWrongLine};
 ghost use Rattle.blk_text.specs.Words.{StartsWith};
-ghost use Rattle.blk_text.specs.SetupRecord.{setup_slots, SpellsSetup, SetupWrong};
+ghost use Rattle.blk_text.specs.SetupRecord.{setup_cells, setup as setup_part};
+ghost use Rattle.blk_text.specs.Tables.{slots_by};
+ghost use Rattle.blk_text.specs.declared.fields.Slot.TheVariants as slot;
 
 use crate::fault::Why;
 use crate::fields::{Slot, WIDTH, begins_with, read_fields, without_word};
@@ -14,13 +16,13 @@ use blk_bio::limits::Limits;
 use blk_trace::setup::Setup;
 use csv::ByteRecord;
 
-// The setup of the numbers of a record.
+/// The setup of the numbers of a record.
 fn setup_with(row: &ByteRecord, depth: u64, hw: u8, numbers: &[u64; WIDTH]) -> Setup
     requires depth { (0 < depth) × (depth ≤ 64) }
     requires hw { (0 < hw) × (hw ≤ 16) }
     requires starts { StartsWith (codes "setup") (fields_of row.now) }
-    requires spells { FieldsSpell setup_slots (fields_of row.now) numbers.now }
-    ensures { SpellsSetup depth hw (fields_of row.now) result }
+    requires spells { FieldsSpell (slot.Given ∷ slots_by setup_cells) (fields_of row.now) numbers.now }
+    ensures { IsLine (setup_part depth hw) (fields_of row.now) result }
 {
     match Limits::new(numbers[3], numbers[4]) {
         Ok(limits) => match Setup::new(depth, hw, numbers[1], numbers[2], limits) {
@@ -31,12 +33,12 @@ fn setup_with(row: &ByteRecord, depth: u64, hw: u8, numbers: &[u64; WIDTH]) -> S
     }
 }
 
-// The setup of a record, for so many tags and hardware queues.
+/// The setup of a record, for so many tags and hardware queues.
 fn setup_at(row: &ByteRecord, depth: u64, hw: u8) -> Result<Setup, Why>
     requires depth { (0 < depth) × (depth ≤ 64) }
     requires hw { (0 < hw) × (hw ≤ 16) }
-    ensures ok { IfOk result (SpellsSetup depth hw (fields_of row.now)) }
-    ensures err { IfErr result (SetupWrong (fields_of row.now)) }
+    ensures ok { IfOk result (IsLine (setup_part depth hw) (fields_of row.now)) }
+    ensures err { IfErr result (IsWrongLine (setup_part depth hw) (fields_of row.now)) }
 {
     if !begins_with(row, b"setup") {
         return Err(without_word(row, WIDTH));
@@ -59,8 +61,10 @@ fn setup_at(row: &ByteRecord, depth: u64, hw: u8) -> Result<Setup, Why>
         },
         Slot::Blank,
     ];
-    let numbers = read_fields(row, &slots)?;
-    Ok(setup_with(row, depth, hw, &numbers))
+    match read_fields(row, &slots) {
+        Ok(numbers) => Ok(setup_with(row, depth, hw, &numbers)),
+        Err(why) => Err(why),
+    }
 }
 
 /// The setup record for so many tags and hardware queues.
@@ -73,18 +77,11 @@ pub(crate) struct SetupForm {
 }
 
 impl LineForm for SetupForm {
-    ghost use Rattle.blk_text.specs.SetupRecord.{setup_row, FitsSetup, SetupWrong};
-    ghost use Rattle.blk_text.specs.declared.fault.Why.TheVariants as why;
+    ghost use Rattle.blk_text.specs.SetupRecord.{setup as setup_part};
 
     type Line = Setup;
 
-    ghost row_of = { λ _. setup_row };
-
-    ghost Fits = { λ f. FitsSetup f.depth f.hw };
-
-    ghost Refused = { λ _. SetupWrong };
-
-    ghost missing = { why.Word };
+    ghost part = { λ f. setup_part f.depth f.hw };
 
     fn gone(&self) -> Why {
         Why::Word

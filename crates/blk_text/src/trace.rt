@@ -21,7 +21,7 @@ use blk_trace::trace::Trace;
 use std::alloc::{AllocError, Allocator, Global};
 use std::io::Write;
 
-// The letter of a direction.
+/// The letter of a direction.
 fn letter(dir: Dir) -> u8
     ensures { result ∷ [] ≡ direction_text dir }
 {
@@ -31,7 +31,7 @@ fn letter(dir: Dir) -> u8
     }
 }
 
-// Adds the record of a bio.
+/// Adds the record of a bio.
 #[inline]
 fn push_bio(draft: &mut Block, bio: &Bio) -> Result<(), AllocError>
     ensures text { OnOk result (drafted draft.new ≡ drafted draft.old ++ rows_text (bio_row bio.now ∷ [])) }
@@ -48,7 +48,7 @@ fn push_bio(draft: &mut Block, bio: &Bio) -> Result<(), AllocError>
     Ok(())
 }
 
-// Adds a record of a word and two numbers.
+/// Adds a record of a word and two numbers.
 #[inline(always)]
 fn push_numbers(draft: &mut Block, word: &[u8], first: u64, second: u64) -> Result<(), AllocError>
     requires { IsPlainWord word.now }
@@ -63,7 +63,7 @@ fn push_numbers(draft: &mut Block, word: &[u8], first: u64, second: u64) -> Resu
     Ok(())
 }
 
-// Adds the record of a completion.
+/// Adds the record of a completion.
 #[inline]
 fn push_done(draft: &mut Block, tag: u16) -> Result<(), AllocError>
     ensures text { OnOk result (drafted draft.new ≡ drafted draft.old ++ rows_text (word_row (codes "done") (decimal tag) [] ∷ [])) }
@@ -76,7 +76,7 @@ fn push_done(draft: &mut Block, tag: u16) -> Result<(), AllocError>
     Ok(())
 }
 
-// Adds the record of the end of a round.
+/// Adds the record of the end of a round.
 #[inline]
 fn push_tick(draft: &mut Block) -> Result<(), AllocError>
     ensures text { OnOk result (drafted draft.new ≡ drafted draft.old ++ rows_text (word_row (codes "tick") [] [] ∷ [])) }
@@ -86,7 +86,7 @@ fn push_tick(draft: &mut Block) -> Result<(), AllocError>
     Ok(())
 }
 
-// Adds the records of a group: its own, and those of its bios.
+/// Adds the records of a group: its own, and those of its bios.
 #[inline(always)]
 fn push_group(draft: &mut Block, word: &[u8], id: u64, bios: &[Bio]) -> Result<(), AllocError>
     requires { IsPlainWord word.now }
@@ -100,7 +100,7 @@ fn push_group(draft: &mut Block, word: &[u8], id: u64, bios: &[Bio]) -> Result<(
     Ok(())
 }
 
-// Adds the records of an event.
+/// Adds the records of an event.
 fn push_event<A: Allocator + Clone>(draft: &mut Block, event: &Event<A>) -> Result<(), AllocError>
     requires { length (bios_of (happened event.now)) ≤ 128 }
     ensures text { OnOk result (drafted draft.new ≡ drafted draft.old ++ rows_text (event_rows (happened event.now))) }
@@ -115,7 +115,7 @@ fn push_event<A: Allocator + Clone>(draft: &mut Block, event: &Event<A>) -> Resu
     }
 }
 
-// Adds the title record.
+/// Adds the title record.
 fn push_title(draft: &mut Block, setup: &Setup, count: u64) -> Result<(), AllocError>
     ensures text { OnOk result (drafted draft.new ≡ drafted draft.old ++ rows_text (title_row setup.now count ∷ [])) }
 {
@@ -129,7 +129,7 @@ fn push_title(draft: &mut Block, setup: &Setup, count: u64) -> Result<(), AllocE
     Ok(())
 }
 
-// Adds the setup record.
+/// Adds the setup record.
 fn push_setup(draft: &mut Block, setup: &Setup) -> Result<(), AllocError>
     ensures text { OnOk result (drafted draft.new ≡ drafted draft.old ++ rows_text (setup_row setup.now ∷ [])) }
     ensures whole { OnOk result (IsWholeSetup setup.now) }
@@ -145,7 +145,7 @@ fn push_setup(draft: &mut Block, setup: &Setup) -> Result<(), AllocError>
     Ok(())
 }
 
-// The text of a trace.
+/// The text of a trace.
 fn trace_text<A: Allocator + Clone>(alloc: Global, trace: &Trace<A>) -> Result<Vec<u8>, AllocError>
     ensures text { IfOk result (λ v. v.items ≡ rows_text (trace_rows trace.now)) }
     ensures fits { IfOk result (λ _. IsTrace trace.now) }

@@ -2,29 +2,29 @@
 use Rattle.std.proofs.Common.{◌≡◌, ◌+◌, ◌≤◌, ◌<◌, ◌∙◌, ℕ, zero, suc, List, [], ◌∷◌, ◌++◌, length, refl, sym, ap, inl, inr, arith, append_assoc, append-nil}
 use Rattle.std.specs.Prelude.{◌⊎◌}
 use Rattle.std.proofs.lemmas.List.{length-append}
-use Rattle.parts.specs.declared.Extent.{Extent}
-use Rattle.parts.specs.declared.Extent.TheVariants as extent
+use Rattle.parts.specs.declared.Repeats.{Repeats}
+use Rattle.parts.specs.declared.Repeats.TheVariants as repeats
 use Rattle.parts.specs.Parts.{Part, Begins, IsReached, after, all_rows, AllFit, IsCount, Stops, GoesOn, GoodBefore, most_of, many, over, lines}
-use Rattle.parts.specs.Laws.{Tells, Decides, IsPlain}
+use Rattle.parts.specs.Laws.{Tells, Either, Decides, IsPlain}
 use Rattle.parts.proofs.Then.{then_tells, then_decides, over_tells, over_decides, seen_tells, seen_decides, at_first, seen_reached, reached_first, reached_second}
 
 -- when the items stop
 
-stop_or_go : {R : Type 0} (x : Extent) (c : ℕ) (rest : List R) → Stops x c rest → GoesOn x c rest → ⊥
-stop_or_go (extent.AtMost n) c rest (inl a) g = let is = g.0 in omega (arith, a, is)
-stop_or_go (extent.AtMost n) c rest (inr a) g = g.1 a
-stop_or_go (extent.Exactly n) c rest a g = omega (arith, a, g)
+stop_or_go : {R : Type 0} (x : Repeats) (c : ℕ) (rest : List R) → Stops x c rest → GoesOn x c rest → ⊥
+stop_or_go (repeats.AtMost n) c rest (inl a) g = let is = g.0 in omega (arith, a, is)
+stop_or_go (repeats.AtMost n) c rest (inr a) g = g.1 a
+stop_or_go (repeats.Exactly n) c rest a g = omega (arith, a, g)
 
 -- where so many more may come, and a record is left, they go on
-still : {R : Type 0} (x : Extent) (c d : ℕ) (row : R) (rest : List R) → IsCount x d → c < d → GoesOn x c (row ∷ rest)
-still (extent.AtMost n) c d row rest i l = (omega (arith, i, l), λ e. (cc e))
-still (extent.Exactly n) c d row rest i l = omega (arith, i, l)
+still : {R : Type 0} (x : Repeats) (c d : ℕ) (row : R) (rest : List R) → IsCount x d → c < d → GoesOn x c (row ∷ rest)
+still (repeats.AtMost n) c d row rest i l = (omega (arith, i, l), λ e. (cc e))
+still (repeats.Exactly n) c d row rest i l = omega (arith, i, l)
 
 -- each item has a record
 abbrev pub HasRows : {R E S V : Type 0} → (S → Part R E V) → Type 0
 HasRows {R} {E} {S} {V} q = (s : S) → (v : V) → (q s).Fits v → ¬ ((q s).rows_of v ≡ [])
 
-still_at : {R : Type 0} (x : Extent) (c d : ℕ) (first others : List R) → ¬ (first ≡ []) → IsCount x d → c < d → GoesOn x c (first ++ others)
+still_at : {R : Type 0} (x : Repeats) (c d : ℕ) (first others : List R) → ¬ (first ≡ []) → IsCount x d → c < d → GoesOn x c (first ++ others)
 still_at x c d [] others some i l = absurd (some refl)
 still_at x c d (row ∷ first) others some i l = still x c d row (first ++ others) i l
 
@@ -62,7 +62,7 @@ compare {R} {E} {S} {V} q next t plain s (v ∷ vs) (u ∷ us) a b f g e = furth
         inr (inr (k.0, k.1, k.2, k.3, omega (arith, long)))
 
 -- the items of a text and those before a fault
-many_once : {R E S V : Type 0} (x : Extent) (q : S → Part R E V) (next : S → V → S) → ((s : S) → Tells (q s)) → ((s : S) → IsPlain (q s)) → HasRows q → (s : S)
+many_once : {R E S V : Type 0} (x : Repeats) (q : S → Part R E V) (next : S → V → S) → ((s : S) → Tells (q s)) → ((s : S) → IsPlain (q s)) → HasRows q → (s : S)
     → (rows : List R) (v u : List V) (a b : List R) → Begins (many x q next s) rows v a → Begins (many x q next s) rows u b → (v ≡ u) × (a ≡ b)
 many_once {R} {E} {S} {V} x q next t plain some s rows v u a b h k = by_cases (compare q next t plain s v u a b h.fits.0 k.fits.0 (sym h.made ∙ k.made))
   where
@@ -82,19 +82,19 @@ goes_begins : {R E S V : Type 0} (q : S → Part R E V) (next : S → V → S) �
 goes_begins q next plain s vs c d e g = item_begins q plain (after next s vs) g.0 c _ g.2.0 (g.3 ∙ append_assoc _ _ e)
 
 -- where they go on after more, they went on before
-went : {R : Type 0} (x : Extent) (c d : ℕ) (first more others : List R) → ¬ (first ≡ []) → GoesOn x d others → c < d → GoesOn x c (first ++ more)
-went (extent.AtMost n) c d [] more others some g l = absurd (some refl)
-went (extent.AtMost n) c d (row ∷ first) more others some g l = (let is = g.0 in omega (arith, is, l), λ e. (cc e))
-went (extent.Exactly n) c d first more others some g l = omega (arith, g, l)
+went : {R : Type 0} (x : Repeats) (c d : ℕ) (first more others : List R) → ¬ (first ≡ []) → GoesOn x d others → c < d → GoesOn x c (first ++ more)
+went (repeats.AtMost n) c d [] more others some g l = absurd (some refl)
+went (repeats.AtMost n) c d (row ∷ first) more others some g l = (let is = g.0 in omega (arith, is, l), λ e. (cc e))
+went (repeats.Exactly n) c d first more others some g l = omega (arith, g, l)
 
-goes_went : {R E S V : Type 0} (x : Extent) (q : S → Part R E V) (next : S → V → S) → HasRows q → (s : S) (vs : List V) (c : List R) (d : ℕ) (e : List R)
+goes_went : {R E S V : Type 0} (x : Repeats) (q : S → Part R E V) (next : S → V → S) → HasRows q → (s : S) (vs : List V) (c : List R) (d : ℕ) (e : List R)
     → Goes q next s vs c d e → GoesOn x d e → GoesOn x (length vs) c
 goes_went x q next some s vs c d e g on =
     let long = g.4 in
     let is : c ≡ (q (after next s vs)).rows_of g.0 ++ (all_rows q next (next (after next s vs) g.0) g.1 ++ e) = g.3 ∙ append_assoc _ _ e in
     rw is (went x (length vs) d _ _ e (some _ g.0 g.2.0) on (omega (arith, long)))
 
-many_apart : {R E S V : Type 0} (x : Extent) (q : S → Part R E V) (next : S → V → S) → ((s : S) → Tells (q s)) → ((s : S) → IsPlain (q s)) → HasRows q → (s : S)
+many_apart : {R E S V : Type 0} (x : Repeats) (q : S → Part R E V) (next : S → V → S) → ((s : S) → Tells (q s)) → ((s : S) → IsPlain (q s)) → HasRows q → (s : S)
     → (rows : List R) (v : List V) (a : List R) (k : ℕ) (w : E) → Begins (many x q next s) rows v a → (many x q next s).Wrong rows k w → ⊥
 many_apart {R} {E} {S} {V} x q next t plain some s rows v a k w h f = by_cases (compare q next t plain s v f.0 a f.1 h.fits.0 f.3 (sym h.made ∙ f.4))
   where
@@ -103,7 +103,7 @@ many_apart {R} {E} {S} {V} x q next t plain some s rows v a k w h f = by_cases (
     by_cases (inr (inl g)) = stop_or_go x (length v) a h.follows (goes_went x q next some s v a (length f.0) f.1 g f.5)
     by_cases (inr (inr g)) = (t (after next s f.0)).apart f.1 g.0 _ f.2 w (goes_begins q next plain s f.0 f.1 (length v) a g) f.7
 
-many_first : {R E S V : Type 0} (x : Extent) (q : S → Part R E V) (next : S → V → S) → ((s : S) → Tells (q s)) → ((s : S) → IsPlain (q s)) → (s : S)
+many_first : {R E S V : Type 0} (x : Repeats) (q : S → Part R E V) (next : S → V → S) → ((s : S) → Tells (q s)) → ((s : S) → IsPlain (q s)) → (s : S)
     → (rows : List R) (k j : ℕ) (w z : E) → (many x q next s).Wrong rows k w → (many x q next s).Wrong rows j z → (k ≡ j) × (w ≡ z)
 many_first {R} {E} {S} {V} x q next t plain s rows k j w z f g = by_cases (compare q next t plain s f.0 g.0 f.1 g.1 f.3 g.3 (sym f.4 ∙ g.4))
   where
@@ -114,7 +114,7 @@ many_first {R} {E} {S} {V} x q next t plain s rows k j w z f g = by_cases (compa
     by_cases (inr (inl c)) = absurd ((t (after next s f.0)).apart f.1 c.0 _ f.2 w (goes_begins q next plain s f.0 f.1 (length g.0) g.1 c) f.7)
     by_cases (inr (inr c)) = absurd ((t (after next s g.0)).apart g.1 c.0 _ g.2 z (goes_begins q next plain s g.0 g.1 (length f.0) f.1 c) g.7)
 
-many_near : {R E S V : Type 0} (x : Extent) (q : S → Part R E V) (next : S → V → S) → ((s : S) → Tells (q s)) → (s : S)
+many_near : {R E S V : Type 0} (x : Repeats) (q : S → Part R E V) (next : S → V → S) → ((s : S) → Tells (q s)) → (s : S)
     → (rows : List R) (k : ℕ) (w : E) → (many x q next s).Wrong rows k w → (1 ≤ k) × (k ≤ length rows + 1)
 many_near x q next t s rows k w f =
     let n = (t (after next s f.0)).near f.1 f.2 w f.7 in
@@ -123,7 +123,7 @@ many_near x q next t s rows k w f =
     let parts : length (all_rows q next s f.0 ++ f.1) ≡ length (all_rows q next s f.0) + length f.1 = length-append (all_rows q next s f.0) f.1 in
     (omega (arith, n, is), omega (arith, n, is, all, parts))
 
-pub many_tells : {R E S V : Type 0} (x : Extent) (q : S → Part R E V) (next : S → V → S) → ((s : S) → Tells (q s)) → ((s : S) → IsPlain (q s)) → HasRows q → (s : S)
+pub many_tells : {R E S V : Type 0} (x : Repeats) (q : S → Part R E V) (next : S → V → S) → ((s : S) → Tells (q s)) → ((s : S) → IsPlain (q s)) → HasRows q → (s : S)
     → Tells (many x q next s)
 many_tells x q next t plain some s = record {
   once = many_once x q next t plain some s;
@@ -132,7 +132,7 @@ many_tells x q next t plain some s = record {
   near = many_near x q next t s;
 }
 
-pub many_plain : {R E S V : Type 0} (n : ℕ) (q : S → Part R E V) (next : S → V → S) (s : S) → IsPlain (many (extent.Exactly n) q next s)
+pub many_plain : {R E S V : Type 0} (n : ℕ) (q : S → Part R E V) (next : S → V → S) (s : S) → IsPlain (many (repeats.Exactly n) q next s)
 many_plain n q next s v rest fit = fit.1
 
 -- records either begin with items or have a fault among them
@@ -153,27 +153,24 @@ after_more next s [] v = refl
 after_more next s (u ∷ vs) v = after_more next (next s u) vs v
 
 -- so many more items may come
-abbrev Room : Extent → ℕ → ℕ → Type 0
-Room (extent.AtMost n) c more = n ≡ c + more
-Room (extent.Exactly n) c more = n ≡ c + more
+abbrev Room : Repeats → ℕ → ℕ → Type 0
+Room (repeats.AtMost n) c more = n ≡ c + more
+Room (repeats.Exactly n) c more = n ≡ c + more
 
-room_less : (x : Extent) (c more : ℕ) → Room x c (suc more) → Room x (c + 1) more
-room_less (extent.AtMost n) c more r = omega (arith, r)
-room_less (extent.Exactly n) c more r = omega (arith, r)
+room_less : (x : Repeats) (c more : ℕ) → Room x c (suc more) → Room x (c + 1) more
+room_less (repeats.AtMost n) c more r = omega (arith, r)
+room_less (repeats.Exactly n) c more r = omega (arith, r)
 
-room_over : {R : Type 0} (x : Extent) (c : ℕ) (rest : List R) → Room x c 0 → IsCount x c × Stops x c rest
-room_over (extent.AtMost n) c rest r = (omega (arith, r), inl (omega (arith, r)))
-room_over (extent.Exactly n) c rest r = (omega (arith, r), omega (arith, r))
+room_over : {R : Type 0} (x : Repeats) (c : ℕ) (rest : List R) → Room x c 0 → IsCount x c × Stops x c rest
+room_over (repeats.AtMost n) c rest r = (omega (arith, r), inl (omega (arith, r)))
+room_over (repeats.Exactly n) c rest r = (omega (arith, r), omega (arith, r))
 
-room_next : {R : Type 0} (x : Extent) (c more : ℕ) (rest : List R) → Room x c (suc more) → (IsCount x c × Stops x c rest) ⊎ GoesOn x c rest
-room_next (extent.AtMost n) c more [] r = inl (omega (arith, r), inr refl)
-room_next (extent.AtMost n) c more (row ∷ rest) r = inr (omega (arith, r), λ e. (cc e))
-room_next (extent.Exactly n) c more rest r = inr (omega (arith, r))
+room_next : {R : Type 0} (x : Repeats) (c more : ℕ) (rest : List R) → Room x c (suc more) → (IsCount x c × Stops x c rest) ⊎ GoesOn x c rest
+room_next (repeats.AtMost n) c more [] r = inl (omega (arith, r), inr refl)
+room_next (repeats.AtMost n) c more (row ∷ rest) r = inr (omega (arith, r), λ e. (cc e))
+room_next (repeats.Exactly n) c more rest r = inr (omega (arith, r))
 
-abbrev Either : {R E V : Type 0} → Part R E V → List R → Type 0
-Either {R} {E} {V} p rows = ((v : V) × (rest : List R) × Begins p rows v rest) ⊎ ((k : ℕ) × (w : E) × p.Wrong rows k w)
-
-decide : {R E S V : Type 0} (x : Extent) (q : S → Part R E V) (next : S → V → S) → ((s : S) → Decides (q s)) → (s : S) (rows rest : List R) (more : ℕ) (vs : List V)
+decide : {R E S V : Type 0} (x : Repeats) (q : S → Part R E V) (next : S → V → S) → ((s : S) → Decides (q s)) → (s : S) (rows rest : List R) (more : ℕ) (vs : List V)
     → AllFit q next s vs → rows ≡ all_rows q next s vs ++ rest → Room x (length vs) more → Either (many x q next s) rows
 decide x q next d s rows rest zero vs f e r =
     let o = room_over x (length vs) rest r in
@@ -189,12 +186,12 @@ decide {R} {E} {S} {V} x q next d s rows rest (suc more) vs f e r =
         again h.0 h.1 (fit_more q next s vs h.0 f h.2.fits) (all_more q next s vs h.0 h.1 rows rest e h.2.made)
         (rw (length-append vs (h.0 ∷ [])) (room_less x (length vs) more r))
 
-pub many_decides : {R E S V : Type 0} (x : Extent) (q : S → Part R E V) (next : S → V → S) → ((s : S) → Decides (q s)) → (s : S) → Decides (many x q next s)
-many_decides (extent.AtMost n) q next d s rows = decide (extent.AtMost n) q next d s rows rows n [] tt refl (omega arith)
-many_decides (extent.Exactly n) q next d s rows = decide (extent.Exactly n) q next d s rows rows n [] tt refl (omega arith)
+pub many_decides : {R E S V : Type 0} (x : Repeats) (q : S → Part R E V) (next : S → V → S) → ((s : S) → Decides (q s)) → (s : S) → Decides (many x q next s)
+many_decides (repeats.AtMost n) q next d s rows = decide (repeats.AtMost n) q next d s rows rows n [] tt refl (omega arith)
+many_decides (repeats.Exactly n) q next d s rows = decide (repeats.Exactly n) q next d s rows rows n [] tt refl (omega arith)
 
 -- no record before the one at a place in an item is wrong
-pub reached_many : {R E S V : Type 0} (x : Extent) (q : S → Part R E V) (next : S → V → S) → ((s : S) → Tells (q s)) → ((s : S) → IsPlain (q s)) → HasRows q → (s : S)
+pub reached_many : {R E S V : Type 0} (x : Repeats) (q : S → Part R E V) (next : S → V → S) → ((s : S) → Tells (q s)) → ((s : S) → IsPlain (q s)) → HasRows q → (s : S)
     → (rows rest : List R) (vs : List V) (at : ℕ) → AllFit q next s vs → rows ≡ all_rows q next s vs ++ rest → GoesOn x (length vs) rest → IsReached (q (after next s vs)) rest at
     → IsReached (many x q next s) rows (length (all_rows q next s vs) + at)
 reached_many {R} {E} {S} {V} x q next t plain some s rows rest vs at f e on r = record { far = far; good = good; within = within }
@@ -249,13 +246,13 @@ reached_many {R} {E} {S} {V} x q next t plain some s rows rest vs at f e on r = 
 
 -- items and then the end
 
-pub lines_tells : {R E S V : Type 0} (x : Extent) (why : E) (q : S → Part R E V) (next : S → V → S) → ((s : S) → Tells (q s)) → ((s : S) → IsPlain (q s)) → HasRows q → (s : S)
+pub lines_tells : {R E S V : Type 0} (x : Repeats) (why : E) (q : S → Part R E V) (next : S → V → S) → ((s : S) → Tells (q s)) → ((s : S) → IsPlain (q s)) → HasRows q → (s : S)
     → Tells (lines x why q next s)
 lines_tells x why q next t plain some s =
     seen_tells _ _ (λ u z e. (let r : u ≡ z = ap (λ y. y.0) e in r))
     (then_tells (many x q next s) (λ vs. over why (q (after next s vs))) (many_tells x q next t plain some s) (λ vs fit. over_tells why (q (after next s vs)) (t (after next s vs))))
 
-pub lines_decides : {R E S V : Type 0} (x : Extent) (why : E) (q : S → Part R E V) (next : S → V → S) → ((s : S) → Decides (q s)) → (s : S) → Decides (lines x why q next s)
+pub lines_decides : {R E S V : Type 0} (x : Repeats) (why : E) (q : S → Part R E V) (next : S → V → S) → ((s : S) → Decides (q s)) → (s : S) → Decides (lines x why q next s)
 lines_decides x why q next d s =
     seen_decides _ _ (λ v fit. (v.0, refl))
     (then_decides (many x q next s) (λ vs. over why (q (after next s vs))) (many_decides x q next d s) (λ vs fit. over_decides why (q (after next s vs)) (d (after next s vs))))
@@ -264,19 +261,19 @@ less : (a b : ℕ) → a ≤ b → (a < b) ⊎ (a ≡ b)
 less a b h = grind arith
 
 -- after no more than the most items they are over or go on
-over_or_on : {R : Type 0} (x : Extent) (c : ℕ) (rest : List R) → c ≤ most_of x → (IsCount x c × Stops x c rest) ⊎ GoesOn x c rest
-over_or_on (extent.AtMost n) c [] l = inl (l, inr refl)
-over_or_on (extent.AtMost n) c (row ∷ rest) l = elim (less c n l) [
+over_or_on : {R : Type 0} (x : Repeats) (c : ℕ) (rest : List R) → c ≤ most_of x → (IsCount x c × Stops x c rest) ⊎ GoesOn x c rest
+over_or_on (repeats.AtMost n) c [] l = inl (l, inr refl)
+over_or_on (repeats.AtMost n) c (row ∷ rest) l = elim (less c n l) [
   | inl k ↦ inr (k, λ e. (cc e))
   | inr e ↦ inl (l, inl e)
 ]
-over_or_on (extent.Exactly n) c rest l = elim (less c n l) [
+over_or_on (repeats.Exactly n) c rest l = elim (less c n l) [
   | inl k ↦ inr k
   | inr e ↦ inl (e, e)
 ]
 
 -- the record at which an item begins after good ones is reached
-pub lines_reached : {R E S V : Type 0} (x : Extent) (why : E) (q : S → Part R E V) (next : S → V → S) → ((s : S) → Tells (q s)) → ((s : S) → IsPlain (q s)) → HasRows q → (s : S)
+pub lines_reached : {R E S V : Type 0} (x : Repeats) (why : E) (q : S → Part R E V) (next : S → V → S) → ((s : S) → Tells (q s)) → ((s : S) → IsPlain (q s)) → HasRows q → (s : S)
     → (rows : List R) (at : ℕ) → GoodBefore x q next s rows at → IsReached (lines x why q next s) rows at
 lines_reached {R} {E} {S} {V} x why q next t plain some s rows at b = rw b.5 (elim (over_or_on x (length b.0) b.1 b.4) [
   | inl o ↦ seen_reached (λ vs. (vs, tt)) _ rows _ (reached_second (many x q next s) (λ vs. over why (q (after next s vs))) (many_tells x q next t plain some s) rows b.1 b.0 1

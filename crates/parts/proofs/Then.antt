@@ -4,7 +4,7 @@ use Rattle.std.specs.Prelude.{◌⊎◌}
 use mathlib.Core.Path.{path_j}
 use Rattle.std.proofs.lemmas.List.{length-append}
 use Rattle.parts.specs.Parts.{Part, Begins, IsReached, NextWrong, record_of, then, over, seen_as, tested, by_word, told_as}
-use Rattle.parts.specs.Laws.{Tells, TellsRecord, Decides, IsPlain}
+use Rattle.parts.specs.Laws.{Tells, TellsRecord, Either, Decides, DecidesRecord, IsPlain}
 
 abbrev Same : {K : Type 0} → (V : K → Type 0) → (i : K) × V i → (i : K) × V i → Type 0
 Same V v u = v ≡ u
@@ -32,6 +32,13 @@ record_tells row_of Fits gone Lacks t = record {
 
 pub record_plain : {R E V : Type 0} (row_of : V → R) (Fits : V → Type 0) (gone : E) (Lacks : R → E → Type 0) → IsPlain (record_of row_of Fits gone Lacks)
 record_plain row_of Fits gone Lacks v rest fit = tt
+
+pub record_decides : {R E V : Type 0} (row_of : V → R) (Fits : V → Type 0) (gone : E) (Lacks : R → E → Type 0) → DecidesRecord row_of Fits Lacks → Decides (record_of row_of Fits gone Lacks)
+record_decides row_of Fits gone Lacks d [] = inr (1, gone, (refl, refl))
+record_decides row_of Fits gone Lacks d (row ∷ rows) = elim (d row) [
+  | inl h ↦ inl (h.0, rows, record { fits = h.1; made = ap (λ r. r ∷ rows) h.2; follows = tt })
+  | inr f ↦ inr (1, f.0, (refl, f.1))
+]
 
 -- a part, and then one that depends on the first one's value
 
@@ -103,13 +110,11 @@ then_decides {R} {E} {V} {W} p q d s rows = elim (d rows) [
   | inr f ↦ inr (f.0, f.1, inl f.2)
 ]
   where
-    whole : (h : (v : V) × (rest : List R) × Begins p rows v rest) → ((v : W) × (rest : List R) × Begins (q h.0) h.1 v rest) ⊎ ((k : ℕ) × (w : E) × (q h.0).Wrong h.1 k w)
-        → ((v : V × W) × (rest : List R) × Begins (then p q) rows v rest) ⊎ ((k : ℕ) × (w : E) × (then p q).Wrong rows k w)
+    whole : (h : (v : V) × (rest : List R) × Begins p rows v rest) → Either (q h.0) h.1 → Either (then p q) rows
     whole h (inl k) = inl ((h.0, k.0), k.1, both_begin p q rows h.1 h.0 k.0 k.1 h.2 k.2)
     whole h (inr f) = inr (length (p.rows_of h.0) + f.0, f.1, inr (h.0, h.1, f.0, h.2, refl, f.2))
 
-    second : (h : (v : V) × (rest : List R) × Begins p rows v rest)
-        → ((v : V × W) × (rest : List R) × Begins (then p q) rows v rest) ⊎ ((k : ℕ) × (w : E) × (then p q).Wrong rows k w)
+    second : (h : (v : V) × (rest : List R) × Begins p rows v rest) → Either (then p q) rows
     second h = whole h (s h.0 h.2.fits h.1)
 
 -- no fault before a record of the first part
@@ -312,11 +317,11 @@ by_word_tells {R} {E} {K} V StartsWith q NoKind t kind starts none = record { on
     near rows k w (inl f) = (t f.0).near rows k w f.2
     near rows k w (inr f) = let is = f.0 in (omega (arith, is), omega (arith, is))
 
-pub by_word_decides : {R E K : Type 0} (V : K → Type 0) (StartsWith : K → List R → Type 0) (q : (i : K) → Part R E (V i)) (NoKind : List R → E → Type 0) → ((i : K) → Decides (q i))
+pub by_word_decides : {R E K : Type 0} (V : K → Type 0) (StartsWith : K → List R → Type 0) (q : (i : K) → Part R E (V i)) (NoKind : List R → E → Type 0) → ((i : K) (rows : List R) → StartsWith i rows → Either (q i) rows)
     → ((rows : List R) → ((i : K) × StartsWith i rows) ⊎ (((i : K) → ¬ StartsWith i rows) × ((w : E) × NoKind rows w)))
     → Decides (by_word V StartsWith q NoKind)
 by_word_decides V StartsWith q NoKind d find rows = elim (find rows) [
-  | inl s ↦ elim (d s.0 rows) [
+  | inl s ↦ elim (d s.0 rows s.1) [
     | inl h ↦ inl ((s.0, h.0), h.1, record { fits = h.2.fits; made = h.2.made; follows = h.2.follows })
     | inr f ↦ inr (f.0, f.1, inl (s.0, s.1, f.2))
   ]
@@ -339,3 +344,9 @@ told_tells f p t = record {
 
 pub told_plain : {R E F V : Type 0} (f : E → F) (p : Part R E V) → IsPlain p → IsPlain (told_as f p)
 told_plain f p t v rest fit = t v rest fit
+
+pub told_decides : {R E F V : Type 0} (f : E → F) (p : Part R E V) → Decides p → Decides (told_as f p)
+told_decides f p d rows = elim (d rows) [
+  | inl h ↦ inl (h.0, h.1, record { fits = h.2.fits; made = h.2.made; follows = h.2.follows })
+  | inr g ↦ inr (g.0, f g.1, (g.1, refl, g.2))
+]

@@ -1,7 +1,7 @@
 -- Parts of a text, and what they are made of.
 use Rattle.std.specs.Prelude.{◌≡◌, ◌⊎◌, ◌+◌, ◌≤◌, ◌<◌, ℕ, List, [], ◌∷◌, ◌++◌, length}
-use Rattle.parts.specs.declared.Extent.{Extent}
-use Rattle.parts.specs.declared.Extent.TheVariants as extent
+use Rattle.parts.specs.declared.Repeats.{Repeats}
+use Rattle.parts.specs.declared.Repeats.TheVariants as repeats
 
 -- a part of a text whose records are of R and whose faults are of E: the records of each value, which values there are,
 -- which records may follow those of a value, and which record is the first that is wrong, from 1 on, and how
@@ -63,22 +63,22 @@ AllFit q next s [] = Unit {0}
 AllFit q next s (v ∷ vs) = (q s).Fits v × AllFit q next (next s v) vs
 
 -- so many items may there be
-abbrev pub IsCount : Extent → ℕ → Type 0
-IsCount (extent.AtMost n) c = c ≤ n
-IsCount (extent.Exactly n) c = c ≡ n
+abbrev pub IsCount : Repeats → ℕ → Type 0
+IsCount (repeats.AtMost n) c = c ≤ n
+IsCount (repeats.Exactly n) c = c ≡ n
 
 -- the items are over after so many, where these records are left
-abbrev pub Stops : {R : Type 0} → Extent → ℕ → List R → Type 0
-Stops (extent.AtMost n) c rest = (c ≡ n) ⊎ (rest ≡ [])
-Stops (extent.Exactly n) c rest = c ≡ n
+abbrev pub Stops : {R : Type 0} → Repeats → ℕ → List R → Type 0
+Stops (repeats.AtMost n) c rest = (c ≡ n) ⊎ (rest ≡ [])
+Stops (repeats.Exactly n) c rest = c ≡ n
 
 -- and here they go on
-abbrev pub GoesOn : {R : Type 0} → Extent → ℕ → List R → Type 0
-GoesOn (extent.AtMost n) c rest = (c < n) × ¬ (rest ≡ [])
-GoesOn (extent.Exactly n) c rest = c < n
+abbrev pub GoesOn : {R : Type 0} → Repeats → ℕ → List R → Type 0
+GoesOn (repeats.AtMost n) c rest = (c < n) × ¬ (rest ≡ [])
+GoesOn (repeats.Exactly n) c rest = c < n
 
 -- items, each of which may depend on those before it: just so many, or so many at most and to the end
-abbrev pub many : {R E S V : Type 0} → Extent → (S → Part R E V) → (S → V → S) → S → Part R E (List V)
+abbrev pub many : {R E S V : Type 0} → Repeats → (S → Part R E V) → (S → V → S) → S → Part R E (List V)
 many {R} {E} {S} {V} x q next s = record {
   rows_of = all_rows q next s;
   Fits = λ vs. AllFit q next s vs × IsCount x (length vs);
@@ -133,17 +133,17 @@ told_as {R} {E} {F} {V} f p = record {
 }
 
 -- the most items
-abbrev pub most_of : Extent → ℕ
-most_of (extent.AtMost n) = n
-most_of (extent.Exactly n) = n
+abbrev pub most_of : Repeats → ℕ
+most_of (repeats.AtMost n) = n
+most_of (repeats.Exactly n) = n
 
 -- all items before the one that begins at this record are good
-abbrev pub GoodBefore : {R E S V : Type 0} → Extent → (S → Part R E V) → (S → V → S) → S → List R → ℕ → Type 0
+abbrev pub GoodBefore : {R E S V : Type 0} → Repeats → (S → Part R E V) → (S → V → S) → S → List R → ℕ → Type 0
 GoodBefore {R} {E} {S} {V} x q next s rows at = (vs : List V) × (rest : List R) × AllFit q next s vs × (rows ≡ all_rows q next s vs ++ rest)
     × (length vs ≤ most_of x) × (at ≡ length (all_rows q next s vs) + 1)
 
 -- items and then the end of the text
-abbrev pub lines : {R E S V : Type 0} → Extent → E → (S → Part R E V) → (S → V → S) → S → Part R E (List V)
+abbrev pub lines : {R E S V : Type 0} → Repeats → E → (S → Part R E V) → (S → V → S) → S → Part R E (List V)
 lines x why q next s = seen_as (λ vs. (vs, tt)) (then (many x q next s) (λ vs. over why (q (after next s vs))))
 
 -- all records are those of a value

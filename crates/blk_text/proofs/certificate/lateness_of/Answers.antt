@@ -1,6 +1,6 @@
 use Rattle.std.proofs.Common.{arith}
 use Rattle.std.proofs.lemmas.Int.{ints}
-use Rattle.blk_text.proofs.ClaimLemmas.{negative_text}
+use Rattle.blk_text.proofs.ClaimLaws.{negative_text}
 use Rattle.blk_text.proofs.certificate.lateness_of.Goals as goal
 
 pub returns-in-Some-clause-text : goal.returns-in-Some-clause-text

@@ -1,6 +1,6 @@
 use Rattle.std.proofs.Common.{rules, ◌≡◌, get_or, []}
 use Rattle.csv.specs.Records.{fields_of}
-use Rattle.blk_text.proofs.StepLemmas.{first_is, begins}
+use Rattle.blk_text.proofs.TableLaws.{first_is, begins}
 use Rattle.blk_text.proofs.fields.begins_with.Goals as goal
 
 pub returns : goal.returns

@@ -1,5 +1,5 @@
-use Rattle.blk_text.proofs.ScriptLaws.{script_tells}
+use Rattle.blk_text.proofs.ScriptLaws.{fault_once}
 use Rattle.blk_text.proofs.laws.a_script_has_one_fault.Goals as goal
 
 pub returns : goal.returns
-returns c = script_tells.first
+returns c = fault_once

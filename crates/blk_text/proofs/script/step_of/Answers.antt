@@ -1,52 +1,68 @@
-use Rattle.std.proofs.Common.{rules, ◌≤◌, ◌∙◌, sym, arith, get_or, codes}
+use Rattle.std.proofs.Common.{◌∙◌, sym, refl, get_or, arith}
 use Rattle.csv.specs.Records.{fields_of}
-use Rattle.blk_text.proofs.StepLemmas.{none_after, one_after, two_after, no_bio}
+use Rattle.blk_text.specs.declared.script.Word.TheVariants as word
+use Rattle.blk_text.proofs.ScriptLaws.{kind_spells, kind_line, plain_line, bio_with, bio_right, no_bio_line}
 use Rattle.blk_text.proofs.script.step_of.Goals as goal
 
-pub returns-in-Flush-clause-ok : goal.returns-in-Flush-clause-ok
-returns-in-Flush-clause-ok c =
-    let starts = rw c.in-Flush.is at c.requires.starts in
-    let spells = rw c.in-Flush.is at c.requires.spells in
-    let is = one_after (codes "flush") (fields_of c.args.row.now) c.args.numbers.now _ _ starts spells in
-    (is.0, (omega (arith, is.2)))
-
-pub returns-in-Drain-clause-ok : goal.returns-in-Drain-clause-ok
-returns-in-Drain-clause-ok c =
-    let starts = rw c.in-Drain.is at c.requires.starts in
-    let spells = rw c.in-Drain.is at c.requires.spells in
-    let is = one_after (codes "drain") (fields_of c.args.row.now) c.args.numbers.now _ _ starts spells in
-    (is.0, (omega (arith, is.2)))
-
-pub returns-in-Done-clause-ok : goal.returns-in-Done-clause-ok
-returns-in-Done-clause-ok c =
-    let starts = rw c.in-Done.is at c.requires.starts in
-    let spells = rw c.in-Done.is at c.requires.spells in
-    let is = one_after (codes "done") (fields_of c.args.row.now) c.args.numbers.now _ _ starts spells in
-    (is.0, (let h : get_or c.args.numbers.now 1 0 ≤ 65535 = is.2 in omega arith))
-
-pub returns-in-Run-clause-ok : goal.returns-in-Run-clause-ok
-returns-in-Run-clause-ok c =
-    let starts = rw c.in-Run.is at c.requires.starts in
-    let spells = rw c.in-Run.is at c.requires.spells in
-    let is = one_after (codes "run") (fields_of c.args.row.now) c.args.numbers.now _ _ starts spells in
-    (is.0, (is.1, is.2))
-
-pub returns-in-Issue-clause-ok : goal.returns-in-Issue-clause-ok
-returns-in-Issue-clause-ok c =
-    let starts = rw c.in-Issue.is at c.requires.starts in
-    let spells = rw c.in-Issue.is at c.requires.spells in
-    let is = two_after (codes "issue") (fields_of c.args.row.now) c.args.numbers.now _ _ _ _ starts spells in
-    (is.0, (omega (arith, is.1), omega (arith, is.2)))
-
-pub returns-in-Tick-clause-ok : goal.returns-in-Tick-clause-ok
-returns-in-Tick-clause-ok c =
-    let starts = rw c.in-Tick.is at c.requires.starts in
-    let spells = rw c.in-Tick.is at c.requires.spells in
-    (none_after (codes "tick") (fields_of c.args.row.now) c.args.numbers.now starts spells, tt)
+pub returns-in-Ok-clause-ok : goal.returns-in-Ok-clause-ok
+returns-in-Ok-clause-ok c =
+    let b = bio_with c.args.numbers.now c.direction_of.result in
+    plain_line c.args.form.now.hw c.args.form.now.submitters _ (fields_of c.args.row.now) (rw c.in-Ok.ensures.0 (kind_line c.args.form.now.hw c.args.form.now.submitters c.args.word word.Bio b (fields_of c.args.row.now) c.args.numbers.now
+    c.in-Bio.is c.requires.starts c.requires.spells (refl, (refl, (sym c.field.ensures ∙ c.direction_of.ensures, (refl, (refl, tt))))))) (bio_right c.in-Ok.bio c.in-Ok.ensures.1)
 
 pub returns-in-Err-clause-err : goal.returns-in-Err-clause-err
 returns-in-Err-clause-err c =
-    let starts = rw c.in-Bio.is at c.requires.starts in
-    let spells = rw c.in-Bio.is at c.requires.spells in
-    no_bio c.args.form.now.submitters (fields_of c.args.row.now) c.args.numbers.now c.direction_of.result c.in-Err.fault (search rules) starts spells
-    (sym c.field.ensures ∙ c.direction_of.ensures) c.in-Err.ensures
+    let b = bio_with c.args.numbers.now c.direction_of.result in
+    no_bio_line c.args.form.now.hw c.args.form.now.submitters b c.in-Err.fault (fields_of c.args.row.now) (kind_line c.args.form.now.hw c.args.form.now.submitters c.args.word word.Bio b (fields_of c.args.row.now) c.args.numbers.now
+    c.in-Bio.is c.requires.starts c.requires.spells (refl, (refl, (sym c.field.ensures ∙ c.direction_of.ensures, (refl, (refl, tt)))))) c.in-Err.ensures
+
+pub returns-in-Flush-clause-ok : goal.returns-in-Flush-clause-ok
+returns-in-Flush-clause-ok c =
+    plain_line c.args.form.now.hw c.args.form.now.submitters _ (fields_of c.args.row.now) (kind_line c.args.form.now.hw c.args.form.now.submitters c.args.word word.Flush (get_or c.args.numbers.now 1 0) (fields_of c.args.row.now) c.args.numbers.now c.in-Flush.is c.requires.starts
+    c.requires.spells (refl, (tt, (tt, (tt, (tt, tt)))))) (λ b e. absurd (cc e))
+
+pub returns-in-Drain-clause-ok : goal.returns-in-Drain-clause-ok
+returns-in-Drain-clause-ok c =
+    plain_line c.args.form.now.hw c.args.form.now.submitters _ (fields_of c.args.row.now) (kind_line c.args.form.now.hw c.args.form.now.submitters c.args.word word.Drain (get_or c.args.numbers.now 1 0) (fields_of c.args.row.now) c.args.numbers.now c.in-Drain.is c.requires.starts
+    c.requires.spells (refl, (tt, (tt, (tt, (tt, tt)))))) (λ b e. absurd (cc e))
+
+pub returns-in-Issue-clause-ok : goal.returns-in-Issue-clause-ok
+returns-in-Issue-clause-ok c =
+    plain_line c.args.form.now.hw c.args.form.now.submitters _ (fields_of c.args.row.now) (kind_line c.args.form.now.hw c.args.form.now.submitters c.args.word word.Issue (get_or c.args.numbers.now 1 0, get_or c.args.numbers.now 2 0) (fields_of c.args.row.now) c.args.numbers.now c.in-Issue.is c.requires.starts
+    c.requires.spells (refl, (refl, (tt, (tt, (tt, tt)))))) (λ b e. absurd (cc e))
+
+pub returns-in-Done-clause-ok : goal.returns-in-Done-clause-ok
+returns-in-Done-clause-ok c =
+    plain_line c.args.form.now.hw c.args.form.now.submitters _ (fields_of c.args.row.now) (kind_line c.args.form.now.hw c.args.form.now.submitters c.args.word word.Done (get_or c.args.numbers.now 1 0) (fields_of c.args.row.now) c.args.numbers.now c.in-Done.is c.requires.starts
+    c.requires.spells (refl, (tt, (tt, (tt, (tt, tt)))))) (λ b e. absurd (cc e))
+
+pub returns-in-Tick-clause-ok : goal.returns-in-Tick-clause-ok
+returns-in-Tick-clause-ok c =
+    plain_line c.args.form.now.hw c.args.form.now.submitters _ (fields_of c.args.row.now) (kind_line c.args.form.now.hw c.args.form.now.submitters c.args.word word.Tick tt (fields_of c.args.row.now) c.args.numbers.now c.in-Tick.is c.requires.starts
+    c.requires.spells (tt, (tt, (tt, (tt, (tt, tt)))))) (λ b e. absurd (cc e))
+
+pub returns-in-Run-clause-ok : goal.returns-in-Run-clause-ok
+returns-in-Run-clause-ok c =
+    plain_line c.args.form.now.hw c.args.form.now.submitters _ (fields_of c.args.row.now) (kind_line c.args.form.now.hw c.args.form.now.submitters c.args.word word.Run (get_or c.args.numbers.now 1 0) (fields_of c.args.row.now) c.args.numbers.now c.in-Run.is c.requires.starts
+    c.requires.spells (refl, (tt, (tt, (tt, (tt, tt)))))) (λ b e. absurd (cc e))
+
+pub overflow_cast-id : goal.overflow_cast-id
+overflow_cast-id c = let high = ((kind_spells c.args.form.now.hw c.args.form.now.submitters c.args.word word.Bio (fields_of c.args.row.now) c.args.numbers.now c.in-Bio.is c.requires.spells).1 1 (omega arith)).3.1 in omega (arith, high)
+
+pub overflow_cast-result : goal.overflow_cast-result
+overflow_cast-result c = let high = ((kind_spells c.args.form.now.hw c.args.form.now.submitters c.args.word word.Flush (fields_of c.args.row.now) c.args.numbers.now c.in-Flush.is c.requires.spells).1 1 (omega arith)).3.1 in omega (arith, high)
+
+pub overflow_cast-result-in-Drain : goal.overflow_cast-result-in-Drain
+overflow_cast-result-in-Drain c = let high = ((kind_spells c.args.form.now.hw c.args.form.now.submitters c.args.word word.Drain (fields_of c.args.row.now) c.args.numbers.now c.in-Drain.is c.requires.spells).1 1 (omega arith)).3.1 in omega (arith, high)
+
+pub overflow_cast-result-in-Issue : goal.overflow_cast-result-in-Issue
+overflow_cast-result-in-Issue c = let high = ((kind_spells c.args.form.now.hw c.args.form.now.submitters c.args.word word.Issue (fields_of c.args.row.now) c.args.numbers.now c.in-Issue.is c.requires.spells).1 1 (omega arith)).3.1 in omega (arith, high)
+
+pub overflow_cast-result-in-Issue-2 : goal.overflow_cast-result-in-Issue-2
+overflow_cast-result-in-Issue-2 c = let high = ((kind_spells c.args.form.now.hw c.args.form.now.submitters c.args.word word.Issue (fields_of c.args.row.now) c.args.numbers.now c.in-Issue.is c.requires.spells).1 2 (omega arith)).3.1 in omega (arith, high)
+
+pub overflow_cast-result-in-Done : goal.overflow_cast-result-in-Done
+overflow_cast-result-in-Done c = let high = ((kind_spells c.args.form.now.hw c.args.form.now.submitters c.args.word word.Done (fields_of c.args.row.now) c.args.numbers.now c.in-Done.is c.requires.spells).1 1 (omega arith)).3.1 in omega (arith, high)
+
+pub direction_of-requires : goal.direction_of-requires
+direction_of-requires c = rw c.field.ensures ((kind_spells c.args.form.now.hw c.args.form.now.submitters c.args.word word.Bio (fields_of c.args.row.now) c.args.numbers.now c.in-Bio.is c.requires.spells).1 3 (omega arith)).1
