@@ -14,9 +14,9 @@ use Rattle.blk_bio.specs.Bios.{Bio}
 use Rattle.blk_bio.specs.Limits.{Limits}
 use Rattle.blk_bio.specs.Requests.{dir_of}
 use Rattle.blk_trace.specs.Setups.{Setup, IsSetup, expire_of}
-use Rattle.blk_trace.specs.Happened.{Happened, Released, Joined, Issued, Finished, Ticked}
+use Rattle.blk_trace.specs.Happened.{Happened, Released, Joined, Issued, Finished, Returned, Ticked}
 use Rattle.blk_trace.specs.Events.{At, round_of, entered, AreOnce, open_count, join_up}
-use Rattle.blk_trace.specs.Meaning.{commands_of, released_ids, issued_ids, waiting_ids, rising}
+use Rattle.blk_trace.specs.Meaning.{commands_of, released_ids, issued_ids, served, waiting_ids, rising}
 use Rattle.blk_trace.specs.Standing.{Seat, IsAllowed, waits_at, waiting_count, seat_at, open_of, same_dir, released_count, this_round}
 use Rattle.blk_sched.specs.Meaning.{Waiting, Meaning, Pending, Joins, Picks, opened, joined_waiting}
 use Rattle.blk_core.specs.declared.Flight.{Flight}
@@ -30,6 +30,10 @@ use Rattle.blk_trace.proofs.Steps as step
 -- no Release is added: those that stand are known
 old_known : (es : List Happened) (e : Happened) (rel : ℕ) → ((id : ℕ) (bios : List Bio) → e ≡ Released id bios → ⊥) → ((k id : ℕ) (bios : List Bio) → At es k (Released id bios) → id < rel) → (k id : ℕ) (bios : List Bio) → At (es ++ e ∷ []) k (Released id bios) → id < rel
 old_known es e rel other h k id bios at = elim (get_more es e k (Released id bios) at) [ inl a ↦ h k id bios a | inr b ↦ absurd (other id bios b.1) ]
+
+-- no Back is added
+old_back : (es : List Happened) (e : Happened) → ((tag : ℕ) → e ≡ Returned tag → ⊥) → ((k tag : ℕ) → At es k (Returned tag) → ⊥) → (k tag : ℕ) → At (es ++ e ∷ []) k (Returned tag) → ⊥
+old_back es e other h k tag at = elim (get_more es e k (Returned tag) at) [ inl a ↦ h k tag a | inr b ↦ other tag b.1 ]
 
 -- the newest Release is known
 new_known : (es : List Happened) (rel : ℕ) (q : List Bio) → ((k id : ℕ) (bios : List Bio) → At es k (Released id bios) → id < rel) → (k id : ℕ) (bios : List Bio) → At (es ++ Released rel q ∷ []) k (Released id bios) → id < rel + 1
@@ -73,6 +77,7 @@ tied_release setup setup' es es' m m' fl rel bios w p t is m_is =
       next = omega arith;
       few = omega arith;
       known = new_known es rel bios t.known;
+      none_back = old_back es (Released rel bios) (λ u e. cc) t.none_back;
       fresh = λ q h. still_absent m.pending rel w q (let ne : rel ≢ q = omega arith in ne) (t.fresh q (omega arith));
       room = t.room;
       seats = λ tag h. t.seats tag h ∙ sym (step.seat-released setup es rel bios p.legal tag);
@@ -113,6 +118,7 @@ tied_join setup setup' es es' m m' fl rel serves hw now bios id side p t now_is 
       next = omega arith;
       few = omega arith;
       known = old_known es (Joined id bios) rel (λ i b e. cc) t.known;
+      none_back = old_back es (Joined id bios) (λ u e. cc) t.none_back;
       fresh = λ q h. still_absent m.pending id new q (elsewhere q h) (t.fresh q h);
       room = t.room;
       seats = λ tag h. t.seats tag h ∙ sym (step.seat-joined setup es id bios p.legal tag);
@@ -163,6 +169,7 @@ tied_issue setup setup' es es' m m' fl rel serves hw tag w f p t picks lt none d
       next = omega arith;
       few = omega arith;
       known = old_known es (Issued w.id tag) rel (λ i b e. cc) t.known;
+      none_back = old_back es (Issued w.id tag) (λ u e. cc) t.none_back;
       fresh = λ q h. still_none m.pending w.id q (t.fresh q h);
       room = l ∙ t.room;
       seats = λ q h. seats_set (seat_at es) (seat_at (es ++ Issued w.id tag ∷ [])) fl tag f lt t.seats
@@ -214,6 +221,7 @@ tied_done setup setup' es es' m m' fl rel tag f p t lt at flies m_is =
       next = omega arith;
       few = omega arith;
       known = old_known es (Finished tag) rel (λ i b e. cc) t.known;
+      none_back = old_back es (Finished tag) (λ u e. cc) t.none_back;
       fresh = λ q h. subst (λ x. map.get x q ≡ None) mp (t.fresh q h);
       room = l ∙ t.room;
       seats = λ q h. seats_set (seat_at es) (seat_at (es ++ Finished tag ∷ [])) fl tag g lt t.seats (step.seat-finished setup es tag p.legal seat here) q (omega arith);
@@ -255,6 +263,7 @@ tied_tick setup setup' es es' m m' fl fl' rel now p t m_is now_is fl_is =
       next = omega arith;
       few = omega arith;
       known = old_known es Ticked rel (λ i b e. cc) t.known;
+      none_back = old_back es Ticked (λ u e. cc) t.none_back;
       fresh = t.fresh;
       room = l ∙ t.room;
       seats = λ q h. ap (option_map seat_of) (nothing_in n q) ∙ sym (step.seat-ticked setup es p.legal q);
@@ -269,7 +278,7 @@ unfolding waits_at released_ids
 no_waits setup q = refl
 
 no_count : waiting_count [] ≡ 0
-unfolding waiting_ids released_ids issued_ids rising
+unfolding waiting_ids released_ids issued_ids served rising
 no_count = refl
 
 no_seat : (t : ℕ) → seat_at [] t ≡ None
@@ -306,6 +315,7 @@ at_first setup m n e r w now ranges d =
       few = omega arith;
       known = λ k id bios at. absurd (let x : None ≡ Some (Released id bios) = at in cc);
       fresh = λ q h. ap (λ (x : Pending). map.get x q) e ∙ map.get-empty nat_cmp q;
+      none_back = λ k tag at. absurd (let x : None ≡ Some (Returned tag) = at in cc);
       room = length-replicate n nobody ∙ d;
       seats = λ q h. ap (option_map seat_of) (nothing_in n q) ∙ sym (no_seat q);
       reads = omega arith;
@@ -321,7 +331,7 @@ tied_new s s' es m fl n p q e r w now ranges d f =
 -- a scheduler's join is one that the trace allows
 pub join_allowed : (setup : Setup) (es : List Happened) (m m' : Meaning) (fl : List (Option Flight)) (rel : ℕ) (serves : ℕ → Waiting → Bool) (hw now : ℕ) (bios : List Bio) (id : ℕ) (side : Side) → IsTied setup es m fl rel → Joins serves hw now setup.limits bios m id side m' → AreOnce (entered es ++ bios) → IsAllowed setup es (Joined id bios)
 join_allowed setup es m m' fl rel serves hw now bios id side t joins once =
-    (entered_of joins.0, side, sym (t.holds.pending id) ∙ ap (option_map entered_of) joins.1.pending, joins.1.fits, once)
+    (entered_of joins.0, side, step.unissued_waiting setup es id (entered_of joins.0) t.none_back (sym (t.holds.pending id) ∙ ap (option_map entered_of) joins.1.pending), joins.1.fits, once)
 
 -- a scheduler's pick is an Issue that the trace allows
 pub issue_allowed : (setup : Setup) (es : List Happened) (m m' : Meaning) (fl : List (Option Flight)) (rel : ℕ) (serves : ℕ → Waiting → Bool) (hw tag : ℕ) (w : Waiting) → IsTied setup es m fl rel → Picks serves hw m w m' → tag < length fl → get_or fl tag None ≡ None → IsAllowed setup es (Issued w.id tag)

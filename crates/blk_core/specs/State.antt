@@ -9,7 +9,7 @@ use Rattle.blk_bio.specs.Bios.{Bio}
 use Rattle.blk_bio.specs.Limits.{Limits}
 use Rattle.blk_bio.specs.Codes.{limits_code}
 use Rattle.blk_trace.specs.Setups.{Setup, IsSetup}
-use Rattle.blk_trace.specs.Happened.{Happened, Released, happened_code}
+use Rattle.blk_trace.specs.Happened.{Happened, Released, Returned, happened_code}
 use Rattle.blk_trace.specs.Events.{At, round_of}
 use Rattle.blk_trace.specs.Legal.{IsLegalTrace}
 use Rattle.blk_trace.specs.Standing.{Entered, Seat, waits_at, waiting_count, seat_at, open_of, released_count, same_dir}
@@ -61,6 +61,7 @@ pub record IsTied (setup : Setup) (events : List Happened) (m : Meaning) (flight
   pub few : released ≤ length events
   pub known : (k id : ℕ) (bios : List Bio) → At events k (Released id bios) → id < released
   pub fresh : (id : ℕ) → released ≤ id → map.get m.pending id ≡ None
+  pub none_back : (k tag : ℕ) → At events k (Returned tag) → ⊥
   pub room : length flights ≡ setup.depth
   pub seats : (tag : ℕ) → tag < length flights → option_map seat_of (slice_index_or flights tag None) ≡ seat_at events tag
   pub reads : sum_by (flying Read) flights ≡ m.open_picks.reads
