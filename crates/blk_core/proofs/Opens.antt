@@ -10,19 +10,21 @@ use Rattle.blk_bio.specs.declared.bio.Dir.{Dir}
 use Rattle.blk_bio.specs.declared.bio.Dir.TheVariants.{Read, Write}
 use Rattle.blk_bio.specs.Requests.{dir_of}
 use Rattle.blk_trace.specs.declared.rule.TraceRule.TheVariants.{TagUsed, InFlight, Unknown, AlreadyIssued}
-use Rattle.blk_trace.specs.Happened.{Happened, Ticked, Released, Joined, Issued, Finished}
+use Rattle.blk_trace.specs.Happened.{Happened, Ticked, Released, Joined, Issued, Finished, Returned}
+use Rattle.blk_trace.specs.Kinds.{issues, ends}
 use Rattle.blk_trace.specs.Setups.{Setup}
 use Rattle.blk_trace.specs.Events.{At, is_tick, open_count, request_of}
 use Rattle.blk_trace.specs.Legal.{IsLegalTrace}
 use Rattle.blk_trace.specs.Meaning.{release_of, due_of}
 use Rattle.blk_trace.specs.Rules.{IsUnbroken}
 use Rattle.blk_trace.specs.Standing.{Entered, waits_at, this_round, issued_by, is_done_of, same_dir, open_of}
-use Rattle.blk_trace.proofs.Ids.{by_legal}
+use Rattle.blk_trace.proofs.Ids.{by_legal, all_back}
+use Rattle.blk_trace.proofs.Words.{OnlyEnds, only_ends, done_by, issued_by_none}
 use Rattle.blk_trace.proofs.Entering.{same_entered, stays_out}
 use Rattle.blk_trace.proofs.Waiting.{waits_for}
 use Rattle.blk_trace.proofs.Seats.{taken, ended, cases_option, taken_tick, taken_kept, taken_new, not_taken, ended_kept, ended_more}
-use Rattle.blk_trace.proofs.Steady.{IsSeat, seat_parts, steady, finished-open}
-use Rattle.blk_trace.proofs.Opening.{open-ticked, open-before_tick, open-released, open-joined, open-issued, open-finished, open-both}
+use Rattle.blk_trace.proofs.Steady.{IsSeat, seat_parts, steady, open_seat, ended_open}
+use Rattle.blk_trace.proofs.Opening.{open-ticked, open-before_tick, open-released, open-joined, open-issued, open_ended, open-both}
 use Rattle.blk_core.specs.Opens.{open_issues, open_issues_of}
 
 -- an id and a tag
@@ -86,6 +88,7 @@ opens_more e h (Ticked ∷ es) = opens_more e h es
 opens_more e h (Released i q ∷ es) = opens_more e h es
 opens_more e h (Joined i q ∷ es) = opens_more e h es
 opens_more e h (Finished t ∷ es) = opens_more e h es
+opens_more e h (Returned t ∷ es) = opens_more e h es
 opens_more e h (Issued i t ∷ es) =
     let same : list_any (is_done_of t) (es ++ e ∷ []) ≡ list_any (is_done_of t) es = any_more t es e ∙ ap (λ b. list_any (is_done_of t) es || b) (h t) ∙ or_false _ in
     ap (λ b. cond b (open_issues (es ++ e ∷ [])) ((i, t) ∷ open_issues (es ++ e ∷ []))) same
@@ -116,7 +119,7 @@ and_false : (x : Bool) → (x && false) ≡ false
 and_false true = refl
 and_false false = refl
 
--- a Done leaves those of other tags
+-- the end of an Issue leaves those of other tags
 at_done : (p : Issue → Bool) (i t u : ℕ) (b : Bool) (new old : List Issue) → count_by p new ≡ count_by (λ x. p x && not (u == x.1)) old
     → count_by p (cond (b || (u == t)) new ((i, t) ∷ new)) ≡ count_by (λ x. p x && not (u == x.1)) (cond b old ((i, t) ∷ old))
 at_done p i t u true new old h = h
@@ -134,16 +137,23 @@ at_done p i t u false new old h =
           omega arith
     ]
 
-opens_finished : (p : Issue → Bool) (u : ℕ) (es : List Happened) → count_by p (open_issues (es ++ Finished u ∷ [])) ≡ count_by (λ x. p x && not (u == x.1)) (open_issues es)
+-- an event that issues nothing has no open Issue
+none_of : (e : Happened) → issues e ≡ None → open_issues (e ∷ []) ≡ []
 unfolding open_issues
-opens_finished p u [] = refl
-opens_finished p u (Ticked ∷ es) = opens_finished p u es
-opens_finished p u (Released i q ∷ es) = opens_finished p u es
-opens_finished p u (Joined i q ∷ es) = opens_finished p u es
-opens_finished p u (Finished t ∷ es) = opens_finished p u es
-opens_finished p u (Issued i t ∷ es) =
-    ap (λ b. count_by p (cond b (open_issues (es ++ Finished u ∷ [])) ((i, t) ∷ open_issues (es ++ Finished u ∷ [])))) (any_more t es (Finished u))
-    ∙ at_done p i t u (list_any (is_done_of t) es) (open_issues (es ++ Finished u ∷ [])) (open_issues es) (opens_finished p u es)
+none_of (Issued i t) h = absurd (cc)
+none_of e h = refl
+
+opens_ended : (p : Issue → Bool) (u : ℕ) (e : Happened) → ((t : ℕ) → is_done_of t e ≡ (u == t)) → open_issues (e ∷ []) ≡ [] → (es : List Happened) → count_by p (open_issues (es ++ e ∷ [])) ≡ count_by (λ x. p x && not (u == x.1)) (open_issues es)
+unfolding open_issues
+opens_ended p u e h n [] = ap (count_by p) n
+opens_ended p u e h n (Ticked ∷ es) = opens_ended p u e h n es
+opens_ended p u e h n (Released i q ∷ es) = opens_ended p u e h n es
+opens_ended p u e h n (Joined i q ∷ es) = opens_ended p u e h n es
+opens_ended p u e h n (Finished t ∷ es) = opens_ended p u e h n es
+opens_ended p u e h n (Returned t ∷ es) = opens_ended p u e h n es
+opens_ended p u e h n (Issued i t ∷ es) =
+    ap (λ b. count_by p (cond b (open_issues (es ++ e ∷ [])) ((i, t) ∷ open_issues (es ++ e ∷ [])))) (any_more t es e ∙ ap (λ b. list_any (is_done_of t) es || b) (h t))
+    ∙ at_done p i t u (list_any (is_done_of t) es) (open_issues (es ++ e ∷ [])) (open_issues es) (opens_ended p u e h n es)
 
 -- the number, or 0 where it is so
 abbrev unless : Bool → ℕ → ℕ
@@ -219,12 +229,13 @@ other_done a u v k b = elim (cases_Bool (u == k)) [
       ap (λ d. (a && d) && not (v == k)) c ∙ ap (λ d. d && not (v == k)) (and_false a) ∙ sym (ap (λ d. a && d) c ∙ and_false a)
 ]
 
-counted_finished : (p : Issue → Bool) (u : ℕ) (es : List Happened) (v : ℕ) → IsCounted p u es → IsCounted p u (es ++ Finished v ∷ [])
-counted_finished p u es v ih =
-    let fs : List Happened = es ++ Finished v ∷ [] in
+counted_ended : (p : Issue → Bool) (u : ℕ) (es : List Happened) (e : Happened) (v : ℕ) → ends e ≡ Some v → IsCounted p u es → IsCounted p u (es ++ e ∷ [])
+counted_ended p u es e v end ih =
+    let only : OnlyEnds e = only_ends e v end in
+    let fs : List Happened = es ++ e ∷ [] in
     let f : Issue → Bool = λ x. p x && (u == x.1) in
-    let left : count_by f (open_issues fs) ≡ count_by (λ x. f x && not (v == x.1)) (open_issues es) = opens_finished f v es in
-    let more : ended fs u ≡ (ended es u || (v == u)) = ended_more es (Finished v) u refl in
+    let left : count_by f (open_issues fs) ≡ count_by (λ x. f x && not (v == x.1)) (open_issues es) = opens_ended f v e (λ t. done_by t e v end) (none_of e only.no_issue) es in
+    let more : ended fs u ≡ (ended es u || (v == u)) = ended_more es e u only.no_tick ∙ ap (λ c. ended es u || c) (done_by u e v end) in
     elim (cases_Bool (v == u)) [
       | inl b ↦
           let none : count_by (λ x. f x && not (v == x.1)) (open_issues es) ≡ 0 = count_none (λ x. f x && not (v == x.1)) (open_issues es)
@@ -235,7 +246,7 @@ counted_finished p u es v ih =
           let kept : ended fs u ≡ ended es u = more ∙ ap (λ c. ended es u || c) b ∙ or_false (ended es u) in
           left ∙ count_same (λ x. f x && not (v == x.1)) f (open_issues es) (λ x. other_done (p x) u v x.1 b) ∙ ih
           ∙ ap (λ c. unless c (number p u (taken es u))) (sym kept)
-          ∙ ap (λ o. unless (ended fs u) (number p u o)) (sym (taken_kept es (Finished v) u refl refl))
+          ∙ ap (λ o. unless (ended fs u) (number p u o)) (sym (taken_kept es e u only.no_tick (issued_by_none u e only.no_issue)))
     ]
   where
     or_true : (x : Bool) → (x || true) ≡ true
@@ -247,7 +258,8 @@ counted_step setup p u es Ticked old all ih = counted_ticked setup p u es old al
 counted_step setup p u es (Released i q) old all ih = counted_kept p u es (Released i q) refl refl refl (opens_released es i q) ih
 counted_step setup p u es (Joined i q) old all ih = counted_kept p u es (Joined i q) refl refl refl (opens_joined es i q) ih
 counted_step setup p u es (Issued i v) old all ih = counted_issued setup p u es i v old all ih
-counted_step setup p u es (Finished v) old all ih = counted_finished p u es v ih
+counted_step setup p u es (Finished v) old all ih = counted_ended p u es (Finished v) v refl ih
+counted_step setup p u es (Returned v) old all ih = counted_ended p u es (Returned v) v refl ih
 
 counted : (setup : Setup) (p : Issue → Bool) (u : ℕ) (es : List Happened) → IsLegalTrace setup es → IsCounted p u es
 unfolding open_issues ended taken this_round
@@ -267,6 +279,7 @@ agree p q (Ticked ∷ es) h = agree p q es (λ k i t at. h (suc k) i t at)
 agree p q (Released j r ∷ es) h = agree p q es (λ k i t at. h (suc k) i t at)
 agree p q (Joined j r ∷ es) h = agree p q es (λ k i t at. h (suc k) i t at)
 agree p q (Finished v ∷ es) h = agree p q es (λ k i t at. h (suc k) i t at)
+agree p q (Returned v ∷ es) h = agree p q es (λ k i t at. h (suc k) i t at)
 agree p q (Issued j v ∷ es) h = one_more p q (j, v) (open_issues es) (list_any (is_done_of v) es) (h 0 j v refl) (agree p q es (λ k i t at. h (suc k) i t at))
 
 -- whether an Issue is of a request of the direction
@@ -282,7 +295,7 @@ of_issued : (setup : Setup) (d : Dir) (es : List Happened) (i t : ℕ) → IsLeg
 of_issued setup d es i t new old all ih =
     let fs : List Happened = es ++ Issued i t ∷ [] in
     let w : Entered = record { release = release_of es i; due = due_of setup es i; bios = request_of es i } in
-    let waits : waits_at setup es i ≡ Some w = waits_for setup es i (all Unknown) (all AlreadyIssued) in
+    let waits : waits_at setup es i ≡ Some w = waits_for setup es i (all Unknown) (all_back es i (all AlreadyIssued)) in
     let opens = open-issued setup es i t new w waits d in
     let kept = still_of setup es (Issued i t) d old all in
     let push : count_by (is_of fs d) (open_issues fs) ≡ count_by (is_of fs d) (open_issues es) + one_if (is_of fs d (i, t)) = ap (count_by (is_of fs d)) (opens_issued es i t) ∙ count_push (is_of fs d) (open_issues es) (i, t) in
@@ -293,20 +306,21 @@ flies_on : (b : Bool) → true ≡ not b → b ≡ false
 flies_on true h = absurd (cc)
 flies_on false h = refl
 
-of_finished : (setup : Setup) (d : Dir) (es : List Happened) (u : ℕ) → IsLegalTrace setup (es ++ Finished u ∷ []) → IsLegalTrace setup es → IsUnbroken setup es (Finished u) → open_of es d ≡ open_issues_of es d → open_of (es ++ Finished u ∷ []) d ≡ open_issues_of (es ++ Finished u ∷ []) d
-of_finished setup d es u new old all ih =
-    let fs : List Happened = es ++ Finished u ∷ [] in
-    let p = finished-open setup es u new in
+of_ended : (setup : Setup) (d : Dir) (es : List Happened) (e : Happened) (u : ℕ) → ends e ≡ Some u → IsLegalTrace setup (es ++ e ∷ []) → IsLegalTrace setup es → IsUnbroken setup es e → open_of es d ≡ open_issues_of es d → open_of (es ++ e ∷ []) d ≡ open_issues_of (es ++ e ∷ []) d
+of_ended setup d es e u end new old all ih =
+    let only : OnlyEnds e = only_ends e u end in
+    let fs : List Happened = es ++ e ∷ [] in
+    let p = open_seat setup es u old (ended_open setup es e u new end) in
     let was : IsSeat es u (record { dir = p.0; in_flight = true }) = seat_parts es u _ p.1 in
-    let closes = open-finished setup es u new p.0 p.1 d in
-    let kept = still_of setup es (Finished u) d old all in
-    let left : count_by (is_of fs d) (open_issues fs) ≡ count_by (λ x. is_of fs d x && not (u == x.1)) (open_issues es) = opens_finished (is_of fs d) u es in
+    let closes = open_ended setup es e u new end p.0 p.1 d in
+    let kept = still_of setup es e d old all in
+    let left : count_by (is_of fs d) (open_issues fs) ≡ count_by (λ x. is_of fs d x && not (u == x.1)) (open_issues es) = opens_ended (is_of fs d) u e (λ t. done_by t e u end) (none_of e only.no_issue) es in
     let parts = count_parts (is_of fs d) (λ x. u == x.1) (open_issues es) in
     let under : count_by (λ x. is_of fs d x && (u == x.1)) (open_issues es) ≡ unless (ended es u) (number (is_of fs d) u (taken es u)) = counted setup (is_of fs d) u es old in
     let runs : unless (ended es u) (number (is_of fs d) u (taken es u)) ≡ one_if (is_of fs d (was.id, u)) =
     ap (λ c. unless c (number (is_of fs d) u (taken es u))) (flies_on (ended es u) was.flying_is) ∙ ap (number (is_of fs d) u) was.taken_is in
     let here : one_if (is_of fs d (was.id, u)) ≡ one_if (same_dir d p.0) =
-    ap (λ r. one_if (same_dir d (dir_of r))) (same_entered setup es (Finished u) was.id refl).request ∙ ap (λ x. one_if (same_dir d x)) (sym was.dir_is) in
+    ap (λ r. one_if (same_dir d (dir_of r))) (same_entered setup es e was.id (rw (only.no_release, only.no_join) refl)).request ∙ ap (λ x. one_if (same_dir d x)) (sym was.dir_is) in
     omega arith
 
 of_step : (setup : Setup) (d : Dir) (es : List Happened) (e : Happened) → IsLegalTrace setup (es ++ e ∷ []) → IsLegalTrace setup es → IsUnbroken setup es e → open_of es d ≡ open_issues_of es d → open_of (es ++ e ∷ []) d ≡ open_issues_of (es ++ e ∷ []) d
@@ -317,7 +331,8 @@ of_step setup d es (Released i q) new old all ih =
 of_step setup d es (Joined i q) new old all ih =
     open-joined setup es i q new d ∙ ih ∙ sym (still_of setup es (Joined i q) d old all) ∙ ap (count_by (is_of (es ++ Joined i q ∷ []) d)) (sym (opens_joined es i q))
 of_step setup d es (Issued i t) new old all ih = of_issued setup d es i t new old all ih
-of_step setup d es (Finished u) new old all ih = of_finished setup d es u new old all ih
+of_step setup d es (Finished u) new old all ih = of_ended setup d es (Finished u) u refl new old all ih
+of_step setup d es (Returned u) new old all ih = of_ended setup d es (Returned u) u refl new old all ih
 
 -- the commands in flight of a direction are the open Issues of its requests
 pub open_by_dir : (setup : Setup) (events : List Happened) (d : Dir) → IsLegalTrace setup events → open_of events d ≡ open_issues_of events d

@@ -15,10 +15,10 @@ use Rattle.blk_bio.specs.Limits.{Limits}
 use Rattle.blk_bio.specs.Requests.{dir_of}
 use Rattle.blk_trace.specs.declared.setup.TheConstants.{MAX_QUEUES}
 use Rattle.blk_trace.specs.Setups.{Setup, IsSetup, expire_of}
-use Rattle.blk_trace.specs.Happened.{Happened, Released, Joined, Issued, Finished, Ticked}
+use Rattle.blk_trace.specs.Happened.{Happened, Released, Joined, Issued, Finished, Returned, Ticked}
 use Rattle.blk_trace.specs.Events.{At, round_of, entered, AreOnce, open_count, join_up}
 use Rattle.blk_trace.specs.Rules.{IsUnbroken}
-use Rattle.blk_trace.specs.Meaning.{commands_of, released_ids, issued_ids, waiting_ids, rising}
+use Rattle.blk_trace.specs.Meaning.{commands_of, released_ids, issued_ids, served, waiting_ids, rising}
 use Rattle.blk_trace.specs.Standing.{Seat, IsAllowed, waits_at, waiting_count, seat_at, open_of, same_dir, released_count, this_round}
 use Rattle.blk_sched.specs.declared.picks.TheConstants.{MAX_OPEN}
 use Rattle.blk_sched.specs.Meaning.{Waiting, Meaning, Pending, OpenPicks, Joins, Picks, opened, open_of as open_picks_of, no_picks, at_start, unfinished, joined_waiting}
@@ -35,6 +35,10 @@ use Rattle.blk_trace.proofs.Steps as step
 -- no Release is added: those that stand are known
 old_known : (es : List Happened) (e : Happened) (rel : ℕ) → ((id : ℕ) (bios : List Bio) → e ≡ Released id bios → ⊥) → ((k id : ℕ) (bios : List Bio) → At es k (Released id bios) → id < rel) → (k id : ℕ) (bios : List Bio) → At (es ++ e ∷ []) k (Released id bios) → id < rel
 old_known es e rel other h k id bios at = elim (get_more es e k (Released id bios) at) [ inl a ↦ h k id bios a | inr b ↦ absurd (other id bios b.1) ]
+
+-- no Back is added
+old_back : (es : List Happened) (e : Happened) → ((tag : ℕ) → e ≡ Returned tag → ⊥) → ((k tag : ℕ) → At es k (Returned tag) → ⊥) → (k tag : ℕ) → At (es ++ e ∷ []) k (Returned tag) → ⊥
+old_back es e other h k tag at = elim (get_more es e k (Returned tag) at) [ inl a ↦ h k tag a | inr b ↦ other tag b.1 ]
 
 -- the newest Release is known
 new_known : (es : List Happened) (rel : ℕ) (q : List Bio) → ((k id : ℕ) (bios : List Bio) → At es k (Released id bios) → id < rel) → (k id : ℕ) (bios : List Bio) → At (es ++ Released rel q ∷ []) k (Released id bios) → id < rel + 1
@@ -78,6 +82,7 @@ tied_release setup setup' es es' m m' fl rel bios w p t is m_is =
       next = omega arith;
       few = omega arith;
       known = new_known es rel bios t.known;
+      none_back = old_back es (Released rel bios) (λ u e. cc) t.none_back;
       fresh = λ q h. still_absent m.pending rel w q (let ne : rel ≢ q = omega arith in ne) (t.fresh q (omega arith));
       room = t.room;
       seats = λ tag h. t.seats tag h ∙ sym (step.seat-released setup es rel bios p.legal tag);
@@ -119,6 +124,7 @@ tied_join setup setup' es es' m m' fl rel serves hw now bios id side p t now_is 
       next = omega arith;
       few = omega arith;
       known = old_known es (Joined id bios) rel (λ i b e. cc) t.known;
+      none_back = old_back es (Joined id bios) (λ u e. cc) t.none_back;
       fresh = λ q h. still_absent m.pending id new q (elsewhere q h) (t.fresh q h);
       room = t.room;
       seats = λ tag h. t.seats tag h ∙ sym (step.seat-joined setup es id bios p.legal tag);
@@ -168,6 +174,7 @@ tied_issue {A} setup setup' es es' m m' fl rel serves hw tag w p t picks lt none
       next = omega arith;
       few = omega arith;
       known = old_known es (Issued w.id tag) rel (λ i b e. cc) t.known;
+      none_back = old_back es (Issued w.id tag) (λ u e. cc) t.none_back;
       fresh = λ q h. still_none m.pending w.id q (t.fresh q h);
       room = l ∙ t.room;
       seats = λ q h. seats_set (seat_at es) (seat_at (es ++ Issued w.id tag ∷ [])) fl tag f lt t.seats (step.seat-issued setup es w.id tag p.legal (entered_of w) waits) q (omega arith);
@@ -244,6 +251,7 @@ tied_done {A} setup setup' es es' m m' fl rel tag hw w p t lt at m_is =
       next = omega arith;
       few = omega arith;
       known = old_known es (Finished tag) rel (λ i b e. cc) t.known;
+      none_back = old_back es (Finished tag) (λ u e. cc) t.none_back;
       fresh = λ q h. subst (λ x. map.get x q ≡ None) mp (t.fresh q h);
       room = l ∙ t.room;
       seats = λ q h. seats_set (seat_at es) (seat_at (es ++ Finished tag ∷ [])) fl tag g lt t.seats (step.seat-finished setup es tag p.legal seat here) q (omega arith);
@@ -295,6 +303,7 @@ tied_tick {A} setup setup' es es' m m' fl fl' rel now p t m_is now_is fl_is =
       next = omega arith;
       few = omega arith;
       known = old_known es Ticked rel (λ i b e. cc) t.known;
+      none_back = old_back es Ticked (λ u e. cc) t.none_back;
       fresh = t.fresh;
       room = l ∙ t.room;
       seats = λ q h. ap seat_of (all_free A n q) ∙ sym (step.seat-ticked setup es p.legal q);
@@ -310,7 +319,7 @@ unfolding waits_at released_ids
 no_waits setup q = refl
 
 no_count : waiting_count [] ≡ 0
-unfolding waiting_ids released_ids issued_ids rising
+unfolding waiting_ids released_ids issued_ids served rising
 no_count = refl
 
 no_seat : (t : ℕ) → seat_at [] t ≡ None
@@ -353,6 +362,7 @@ at_first {A} setup m n start ranges d =
       next = sym none_released;
       few = omega arith;
       known = λ k id bios at. absurd (let x : None ≡ Some (Released id bios) = at in cc);
+      none_back = λ k tag at. absurd (let x : None ≡ Some (Returned tag) = at in cc);
       fresh = λ q h. ap (λ (x : Pending). map.get x q) parts.0 ∙ map.get-empty nat_cmp q;
       room = length-replicate n (unused {A = A}) ∙ d;
       seats = λ q h. ap seat_of (all_free A n q) ∙ sym (no_seat q);
@@ -374,7 +384,7 @@ at_start_of s s' es m kept flights now p q r = cc
 -- a scheduler's join is one that the trace allows
 pub join_allowed : {A : Type 0} (setup : Setup) (es : List Happened) (m m' : Meaning) (fl : List (TagState A)) (rel : ℕ) (serves : ℕ → Waiting → Bool) (hw now : ℕ) (bios : List Bio) (id : ℕ) (side : Side) → IsTied setup es m fl rel → Joins serves hw now setup.limits bios m id side m' → AreOnce (entered es ++ bios) → IsAllowed setup es (Joined id bios)
 join_allowed setup es m m' fl rel serves hw now bios id side t joins once =
-    (entered_of joins.0, side, sym (t.holds.pending id) ∙ ap (option_map entered_of) joins.1.pending, joins.1.fits, once)
+    (entered_of joins.0, side, step.unissued_waiting setup es id (entered_of joins.0) t.none_back (sym (t.holds.pending id) ∙ ap (option_map entered_of) joins.1.pending), joins.1.fits, once)
 
 -- a scheduler's pick is an Issue that the trace allows
 pub issue_allowed : {A : Type 0} (setup : Setup) (es : List Happened) (m m' : Meaning) (fl : List (TagState A)) (rel : ℕ) (serves : ℕ → Waiting → Bool) (hw tag : ℕ) (w : Waiting) → IsTied setup es m fl rel → Picks serves hw m w m' → tag < length fl → get_or fl tag Free ≡ Free → IsAllowed setup es (Issued w.id tag)

@@ -7,7 +7,7 @@ use Rattle.blk_trace.specs.Happened.{Happened, Issued}
 use Rattle.blk_trace.specs.Events.{request_of}
 use Rattle.blk_trace.specs.Standing.{is_done_of, same_dir}
 
--- the id and the tag of each Issue with no Done of its tag after it, in their order
+-- the id and the tag of each Issue whose tag no event after it ends, in their order
 unfoldable pub open_issues : List Happened → List (ℕ × ℕ)
 open_issues [] = []
 open_issues (Issued id tag ∷ es) = cond (list_any (is_done_of tag) es) (open_issues es) ((id, tag) ∷ open_issues es)

@@ -48,6 +48,12 @@ done_is start a =
     let all : all_plain (word_row (codes "done") (decimal a) []) ≡ true = rw (decimal_plain a) refl in
     rw (line_is (word_row (codes "done") (decimal a) []) (omega arith) all) (simp append_assoc)
 
+pub back_is : (start : List ℕ) (a : ℕ) → ((start ++ codes "back,") ++ decimal a) ++ (44 ∷ 44 ∷ 44 ∷ 44 ∷ 10 ∷ []) ≡ start ++ rows_text (word_row (codes "back") (decimal a) [] ∷ [])
+unfolding line_of
+back_is start a =
+    let all : all_plain (word_row (codes "back") (decimal a) []) ≡ true = rw (decimal_plain a) refl in
+    rw (line_is (word_row (codes "back") (decimal a) []) (omega arith) all) (simp append_assoc)
+
 pub tick_is : (start : List ℕ) → start ++ (codes "tick,,,,," ++ 10 ∷ []) ≡ start ++ rows_text (word_row (codes "tick") [] [] ∷ [])
 unfolding line_of
 tick_is start = rw (line_is (word_row (codes "tick") [] []) (omega arith) refl) refl

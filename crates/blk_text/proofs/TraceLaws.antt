@@ -9,7 +9,7 @@ use Rattle.csv.specs.Writing.{read_back}
 use Rattle.blk_bio.specs.Bios.{Bio}
 use Rattle.blk_bio.specs.declared.bio.Dir.{Dir}
 use Rattle.blk_bio.specs.declared.bio.Dir.TheVariants as dir
-use Rattle.blk_trace.specs.Happened.{Happened, Ticked, Released, Joined, Issued, Finished}
+use Rattle.blk_trace.specs.Happened.{Happened, Ticked, Released, Joined, Issued, Finished, Returned}
 use Rattle.blk_trace.specs.Traces.{Traced}
 use Rattle.blk_text.specs.Sources.{Row}
 use Rattle.blk_text.specs.Texts.{rows_text}
@@ -32,6 +32,7 @@ event_back (Released id bios) = rw (bios_back bios) refl
 event_back (Joined id bios) = rw (bios_back bios) refl
 event_back (Issued id tag) = refl
 event_back (Finished tag) = refl
+event_back (Returned tag) = refl
 
 events_back : (hs : List Happened) → map read_back (flat_map event_rows hs) ≡ flat_map event_rows hs
 events_back [] = refl
@@ -89,7 +90,8 @@ by_letter c cells rest =
     else if c == 114 then Released (value (get_or cells 1 [])) (bios_at (value (get_or cells 2 [])) rest)
     else if c == 106 then Joined (value (get_or cells 1 [])) (bios_at (value (get_or cells 2 [])) rest)
     else if c == 105 then Issued (value (get_or cells 1 [])) (value (get_or cells 2 []))
-    else Finished (value (get_or cells 1 []))
+    else if c == 100 then Finished (value (get_or cells 1 []))
+    else Returned (value (get_or cells 1 []))
 
 abbrev event_at : List Row → Happened
 event_at [] = Ticked
@@ -101,6 +103,7 @@ event_is (Released id bios) rest f = rw (value_is id f.0, value_is (length bios)
 event_is (Joined id bios) rest f = rw (value_is id f.0, value_is (length bios) (omega (arith, f.2)), bios_are bios rest f.3) refl
 event_is (Issued id tag) rest f = rw (value_is id f.0, value_is tag (omega (arith, f.1))) refl
 event_is (Finished tag) rest f = ap Finished (value_is tag (omega (arith, f)))
+event_is (Returned tag) rest f = ap Returned (value_is tag (omega (arith, f)))
 
 some_rows : (h : Happened) (rest : List Row) → [] ≡ event_rows h ++ rest → ⊥
 some_rows Ticked rest e = cc e
@@ -108,6 +111,7 @@ some_rows (Released id bios) rest e = cc e
 some_rows (Joined id bios) rest e = cc e
 some_rows (Issued id tag) rest e = cc e
 some_rows (Finished tag) rest e = cc e
+some_rows (Returned tag) rest e = cc e
 
 events_once : (es fs : List Happened) → All EventFits es → All EventFits fs → flat_map event_rows es ≡ flat_map event_rows fs → es ≡ fs
 events_once [] [] p q h = refl

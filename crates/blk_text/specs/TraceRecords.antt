@@ -3,7 +3,7 @@ use Rattle.std.specs.Prelude.{◌≡◌, ◌≤◌, ◌<◌, ◌^◌, ℕ, List,
 use Rattle.std.specs.List.{flat_map}
 use Rattle.blk_bio.specs.Bios.{Bio, IsBio}
 use Rattle.blk_trace.specs.Setups.{Setup}
-use Rattle.blk_trace.specs.Happened.{Happened, Ticked, Released, Joined, Issued, Finished}
+use Rattle.blk_trace.specs.Happened.{Happened, Ticked, Released, Joined, Issued, Finished, Returned}
 use Rattle.blk_trace.specs.Traces.{Traced}
 use Rattle.blk_trace.specs.Legal.{IsLegalTrace}
 use Rattle.blk_text.specs.Sources.{Row}
@@ -25,6 +25,7 @@ event_rows (Released id bios) = group_rows (codes "release") id bios
 event_rows (Joined id bios) = group_rows (codes "join") id bios
 event_rows (Issued id tag) = word_row (codes "issue") (decimal id) (decimal tag) ∷ []
 event_rows (Finished tag) = word_row (codes "done") (decimal tag) [] ∷ []
+event_rows (Returned tag) = word_row (codes "back") (decimal tag) [] ∷ []
 
 -- title: blk-trace, 1, depth, hardware queues, number of events, empty
 abbrev pub title_row : Setup → ℕ → Row
@@ -49,6 +50,7 @@ EventFits (Released id bios) = GroupFits id bios
 EventFits (Joined id bios) = GroupFits id bios
 EventFits (Issued id tag) = (id < 2 ^ 64) × (tag < 65536)
 EventFits (Finished tag) = tag < 65536
+EventFits (Returned tag) = tag < 65536
 
 -- a trace is legal, and its numbers lie in their ranges
 pub record IsTrace (t : Traced) : Type 0 where

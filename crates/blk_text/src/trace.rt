@@ -76,6 +76,19 @@ fn push_done(draft: &mut Block, tag: u16) -> Result<(), AllocError>
     Ok(())
 }
 
+/// Adds the record of a request that is handed back.
+#[inline]
+fn push_back(draft: &mut Block, tag: u16) -> Result<(), AllocError>
+    ensures text { OnOk result (drafted draft.new ≡ drafted draft.old ++ rows_text (word_row (codes "back") (decimal tag) [] ∷ [])) }
+{
+    let start = draft.room()?;
+    let buf = &mut draft.block;
+    let head = put(b"back,", buf, start);
+    let end = put_number(tag as u64, buf, head);
+    draft.at = put(b",,,,\n", buf, end);
+    Ok(())
+}
+
 /// Adds the record of the end of a round.
 #[inline]
 fn push_tick(draft: &mut Block) -> Result<(), AllocError>
@@ -112,6 +125,7 @@ fn push_event<A: Allocator + Clone>(draft: &mut Block, event: &Event<A>) -> Resu
         Event::Join { id, request } => push_group(draft, b"join", *id, request.bios()),
         Event::Issue { id, tag } => push_numbers(draft, b"issue", *id, *tag as u64),
         Event::Done { tag } => push_done(draft, *tag),
+        Event::Back { tag } => push_back(draft, *tag),
     }
 }
 

@@ -1,30 +1,37 @@
 -- The bios of the issued requests and of those that wait are the bios that entered.
-use Rattle.std.proofs.Common.{◌≡◌, ◌++◌, ◌==◌, ℕ, List, [], ◌∷◌, refl, sym, ◌∙◌, ap, subst, arith, inl, inr, append-nil, append_assoc, cond, Bool, true, false, ne_eqb, eq-eqb, eqb-true}
-use Rattle.std.specs.Prelude.{◌||◌, not, count_by, filter, nat_le, IsPermutation}
-use Rattle.std.specs.List.{flat_map}
+use Rattle.std.proofs.Common.{◌≡◌, ◌++◌, ◌==◌, ℕ, List, [], ◌∷◌, None, refl, sym, ◌∙◌, ap, subst, arith, inl, inr, append-nil, append_assoc, cond, Bool, true, false, ne_eqb, eq-eqb, eqb-true}
+use Rattle.std.specs.Prelude.{option_map, ◌||◌, not, count_by, filter, nat_le, IsPermutation}
+use Rattle.std.specs.List.{flat_map, cons_option}
 use Rattle.std.proofs.lemmas.List.Concat.{flat_map-append}
 use Rattle.std.proofs.lemmas.List.Elements.{filter-append}
-use Rattle.std.proofs.lemmas.List.Sorted.{IsPermutation-refl, IsPermutation-trans, IsPermutation-append_left, IsPermutation-append_right, IsPermutation-append_comm}
+use Rattle.std.proofs.lemmas.List.Sorted.{IsPermutation-refl, IsPermutation-sym, IsPermutation-trans, IsPermutation-append_left, IsPermutation-append_right, IsPermutation-append_comm}
 use Rattle.std.proofs.lemmas.Bool.{cases_Bool, or_right, or_left, or_cases, cond_both, not_from_false, both_ways}
 use Rattle.blk_bio.specs.Bios.{Bio}
 use Rattle.blk_bio.specs.Requests.{first_of, last_of}
-use Rattle.blk_trace.specs.declared.rule.TraceRule.TheVariants.{ReleasedTwice, Unknown, AlreadyIssued}
-use Rattle.blk_trace.specs.Happened.{Happened, Released, Joined, Issued}
+use Rattle.blk_trace.specs.declared.rule.TraceRule.TheVariants.{ReleasedTwice, Unknown, AlreadyIssued, NotIssued}
+use Rattle.blk_trace.specs.Happened.{Happened, Released, Joined, Issued, Returned}
+use Rattle.blk_trace.specs.Kinds.{issues, hands_back}
 use Rattle.blk_trace.specs.Setups.{Setup}
-use Rattle.blk_trace.specs.Events.{join_up, request_of, entered, bios_of, IsReleased}
+use Rattle.blk_trace.specs.Events.{join_up, request_of, entered, bios_of, IsReleased, IsOpen}
 use Rattle.blk_trace.specs.Legal.{IsLegalTrace}
 use Rattle.blk_trace.specs.Rules.{IsUnbroken}
-use Rattle.blk_trace.specs.Meaning.{issued_ids, released_ids, put_rising, rising, waiting_ids, waiting_of}
+use Rattle.blk_trace.specs.Meaning.{served, issued_ids, released_ids, put_rising, rising, waiting_ids, waiting_of}
 use Rattle.blk_trace.specs.Standing.{has_id}
 use Rattle.blk_trace.specs.Laws.{IsAccounted}
 use Rattle.blk_trace.proofs.Pushing.{entered_more}
 use Rattle.blk_trace.proofs.More.{issued_more, released_more}
-use Rattle.blk_trace.proofs.Ids.{by_legal, released_has, has_issued, not_released, not_issued, has_issued_more, released_first}
+use Rattle.blk_trace.specs.Inside.Kept.{IsOpenBy}
+use Rattle.blk_trace.proofs.Returning.{IsReturned, returned, IsOut, returned_ids, open_by}
+use Rattle.blk_trace.proofs.Returns.{open_issued}
+use Rattle.blk_trace.proofs.Ids.{by_legal, all_back, released_has, has_issued, not_released, not_issued, has_issued_more, released_first}
 use Rattle.blk_trace.proofs.Entering.{HasNothing, IsEntered, nothing_before, same_entered, entered_released, entered_joined, stays_out, has_issued_same}
 use Rattle.blk_trace.proofs.Counting.{one_if, count-cons, released_one}
 
 trans : {X : Type 0} (xs ys zs : List X) → IsPermutation xs ys → IsPermutation ys zs → IsPermutation xs zs
 trans xs ys zs p q = IsPermutation-trans xs ys zs p q
+
+turned : {X : Type 0} (xs ys : List X) → IsPermutation xs ys → IsPermutation ys xs
+turned xs ys p = IsPermutation-sym xs ys p
 
 -- equal lists
 same : {X : Type 0} (xs ys : List X) → xs ≡ ys → IsPermutation xs ys
@@ -178,11 +185,11 @@ unfolding waiting
 waiting_same es fs h i = rw (h, i) refl
 
 -- an event that enters nothing and releases and issues no id
-quiet : (setup : Setup) (es : List Happened) (e : Happened) → released_ids (e ∷ []) ≡ [] → issued_ids (e ∷ []) ≡ [] → bios_of e ≡ [] → ((x : ℕ) → request_of (es ++ e ∷ []) x ≡ request_of es x) → IsPermutation (all_of es) (entered es) → IsPermutation (all_of (es ++ e ∷ [])) (entered (es ++ e ∷ []))
-quiet setup es e a b c r ih =
+quiet : (setup : Setup) (es : List Happened) (e : Happened) → released_ids (e ∷ []) ≡ [] → issues e ≡ None → hands_back e ≡ None → bios_of e ≡ [] → ((x : ℕ) → request_of (es ++ e ∷ []) x ≡ request_of es x) → IsPermutation (all_of es) (entered es) → IsPermutation (all_of (es ++ e ∷ [])) (entered (es ++ e ∷ []))
+quiet setup es e a b n c r ih =
     let fs : List Happened = es ++ e ∷ [] in
     let released : released_ids fs ≡ released_ids es = released_more es (e ∷ []) ∙ ap (λ l. released_ids es ++ l) a ∙ append-nil _ in
-    let issued : issued_ids fs ≡ issued_ids es = issued_more es (e ∷ []) ∙ ap (λ l. issued_ids es ++ l) b ∙ append-nil _ in
+    let issued : issued_ids fs ≡ issued_ids es = issued_more es e n ∙ ap (λ o. issued_ids es ++ cons_option (option_map (λ p. p.0) o) []) b ∙ append-nil _ in
     let waits : waiting fs ≡ waiting es = waiting_same es fs released issued in
     let first : flat_map (request_of fs) (issued_ids es) ≡ flat_map (request_of es) (issued_ids es) = parts_same (request_of fs) (request_of es) (issued_ids es) (λ x _. r x) in
     let second : flat_map (request_of fs) (waiting es) ≡ flat_map (request_of es) (waiting es) = parts_same (request_of fs) (request_of es) (waiting es) (λ x _. r x) in
@@ -202,7 +209,7 @@ on_released setup es i q old all ih =
     let f : ℕ → List Bio = request_of fs in
     let g : ℕ → List Bio = request_of es in
     let released : released_ids fs ≡ released_ids es ++ i ∷ [] = released_more es (e ∷ []) in
-    let issued : issued_ids fs ≡ issued_ids es = issued_more es (e ∷ []) ∙ append-nil _ in
+    let issued : issued_ids fs ≡ issued_ids es = issued_more es e refl ∙ append-nil _ in
     let fresh : has_id (released_ids es) i ≡ false = not_released es i (all ReleasedTwice) in
     let unissued : not (has_id (issued_ids es) i) ≡ true = not_from_false _ (not_issued es i (λ p. all ReleasedTwice (released_first setup es i old p))) in
     let p : ℕ → Bool = λ id. not (has_id (issued_ids es) id) in
@@ -226,7 +233,7 @@ on_joined setup es i q old all ih =
     let f : ℕ → List Bio = request_of fs in
     let g : ℕ → List Bio = request_of es in
     let released : released_ids fs ≡ released_ids es = released_more es (e ∷ []) ∙ append-nil _ in
-    let issued : issued_ids fs ≡ issued_ids es = issued_more es (e ∷ []) ∙ append-nil _ in
+    let issued : issued_ids fs ≡ issued_ids es = issued_more es e refl ∙ append-nil _ in
     let waits : waiting fs ≡ waiting es = waiting_same es fs released issued in
     let p : ℕ → Bool = λ id. not (has_id (issued_ids es) id) in
     let unissued : p i ≡ true = not_from_false _ (not_issued es i (all AlreadyIssued)) in
@@ -249,15 +256,15 @@ on_issued setup es i t old all ih =
     let f : ℕ → List Bio = request_of fs in
     let g : ℕ → List Bio = request_of es in
     let released : released_ids fs ≡ released_ids es = released_more es (e ∷ []) ∙ append-nil _ in
-    let issued : issued_ids fs ≡ issued_ids es ++ i ∷ [] = issued_more es (e ∷ []) in
+    let issued : issued_ids fs ≡ issued_ids es ++ i ∷ [] = issued_more es e refl in
     let p : ℕ → Bool = λ id. not (has_id (issued_ids es) id) in
     let r : ℕ → Bool = λ id. not (has_id (issued_ids fs) id) in
     let there : IsReleased es i = all Unknown in
     let once : count_by (λ y. i == y) (released_ids es) ≡ 1 = released_one setup es i old (released_has es there.0 i there.1.0 there.1.1) in
-    let passes : p i ≡ true = not_from_false _ (not_issued es i (all AlreadyIssued)) in
-    let now : has_id (issued_ids fs) i ≡ true = has_issued_more es e i ∙ or_right (has_id (issued_ids es) i) ((i == i) || false) (or_left (i == i) false (eq-eqb i i refl)) in
+    let passes : p i ≡ true = not_from_false _ (all_back es i (all AlreadyIssued)) in
+    let now : has_id (issued_ids fs) i ≡ true = has_issued_more es e i refl ∙ or_right (has_id (issued_ids es) i) ((i == i) || false) (or_left (i == i) false (eq-eqb i i refl)) in
     let fails : r i ≡ false = ap not now in
-    let other : (x : ℕ) → (i == x) ≡ false → p x ≡ r x = λ x b. ap not (sym (has_issued_same es e x (rw b refl))) in
+    let other : (x : ℕ) → (i == x) ≡ false → p x ≡ r x = λ x b. ap not (sym (has_issued_same es e x refl (rw b refl))) in
     let fewer : IsPermutation (g i ++ flat_map g (filter r (released_ids es))) (flat_map g (waiting es)) = filter_once g p r i (released_ids es) other passes fails once in
     let request : (x : ℕ) → f x ≡ g x = λ x. (same_entered setup es e x refl).request in
     let waits : waiting fs ≡ filter r (released_ids es) = ap (filter r) released in
@@ -269,15 +276,61 @@ on_issued setup es i t old all ih =
     subst (λ l. IsPermutation l (entered fs)) (sym is) (subst (IsPermutation (flat_map g (issued_ids es) ++ (g i ++ flat_map g (filter r (released_ids es))))) (sym enters)
     (trans _ (all_of es) _ (IsPermutation-append_right (flat_map g (issued_ids es)) (g i ++ flat_map g (filter r (released_ids es))) (flat_map g (waiting es)) fewer) ih))
 
+-- a Back moves the request of its tag from those that are issued to those that wait
+moved : (f : ℕ → List Bio) (i : ℕ) (xs ys : List ℕ) (ws vs : List ℕ) → IsPermutation (f i ++ flat_map f ws) (flat_map f vs) → IsPermutation (flat_map f (xs ++ ys) ++ flat_map f vs) (flat_map f (xs ++ i ∷ ys) ++ flat_map f ws)
+moved f i xs ys ws vs h =
+    let left : flat_map f (xs ++ ys) ≡ flat_map f xs ++ flat_map f ys = flat_map-append f xs ys in
+    let right : flat_map f (xs ++ i ∷ ys) ≡ flat_map f xs ++ (f i ++ flat_map f ys) = flat_map-append f xs (i ∷ ys) in
+    let swap : IsPermutation (flat_map f ys ++ (f i ++ flat_map f ws)) ((f i ++ flat_map f ys) ++ flat_map f ws) =
+    trans _ ((flat_map f ys ++ f i) ++ flat_map f ws) _ (same _ _ (sym (append_assoc (flat_map f ys) (f i) (flat_map f ws))))
+    (IsPermutation-append_left (flat_map f ws) (flat_map f ys ++ f i) (f i ++ flat_map f ys) (IsPermutation-append_comm (flat_map f ys) (f i))) in
+    let back : IsPermutation (flat_map f vs) (f i ++ flat_map f ws) = turned _ _ h in
+    rw (left, right)
+    (trans ((flat_map f xs ++ flat_map f ys) ++ flat_map f vs) ((flat_map f xs ++ flat_map f ys) ++ (f i ++ flat_map f ws)) ((flat_map f xs ++ (f i ++ flat_map f ys)) ++ flat_map f ws)
+    (IsPermutation-append_right (flat_map f xs ++ flat_map f ys) (flat_map f vs) (f i ++ flat_map f ws) back)
+    (trans _ (flat_map f xs ++ (flat_map f ys ++ (f i ++ flat_map f ws))) _ (same _ _ (append_assoc (flat_map f xs) (flat_map f ys) (f i ++ flat_map f ws)))
+    (trans _ (flat_map f xs ++ ((f i ++ flat_map f ys) ++ flat_map f ws)) _ (IsPermutation-append_right (flat_map f xs) (flat_map f ys ++ (f i ++ flat_map f ws)) ((f i ++ flat_map f ys) ++ flat_map f ws) swap) (same _ _ (sym (append_assoc (flat_map f xs) (f i ++ flat_map f ys) (flat_map f ws)))))))
+
+on_returned : (setup : Setup) (es : List Happened) (t : ℕ) → IsLegalTrace setup es → IsUnbroken setup es (Returned t) → IsPermutation (all_of es) (entered es) → IsPermutation (all_of (es ++ Returned t ∷ [])) (entered (es ++ Returned t ∷ []))
+unfolding waiting released_ids
+on_returned setup es t old all ih =
+    let e : Happened = Returned t in
+    let fs : List Happened = es ++ e ∷ [] in
+    let o : IsOpen es t = all NotIssued in
+    let by : IsOpenBy es t o.id = open_by es t o in
+    let back : IsReturned es fs o.id = returned setup es t o.id old by in
+    let out : IsOut (issued_ids es) (issued_ids fs) o.id = returned_ids setup es t o.id old by in
+    let f : ℕ → List Bio = request_of fs in
+    let g : ℕ → List Bio = request_of es in
+    let p : ℕ → Bool = λ id. not (has_id (issued_ids fs) id) in
+    let r : ℕ → Bool = λ id. not (has_id (issued_ids es) id) in
+    let released : released_ids fs ≡ released_ids es = released_more es (e ∷ []) ∙ append-nil _ in
+    let there : IsReleased es o.id = released_first setup es o.id old (open_issued es t o.id by) in
+    let once : count_by (λ y. o.id == y) (released_ids es) ≡ 1 = released_one setup es o.id old (released_has es there.0 o.id there.1.0 there.1.1) in
+    let passes : p o.id ≡ true = not_from_false _ out.gone in
+    let fails : r o.id ≡ false = ap not out.was in
+    let other : (x : ℕ) → (o.id == x) ≡ false → p x ≡ r x = λ x b. ap not (out.other x b) in
+    let more : IsPermutation (g o.id ++ flat_map g (waiting es)) (flat_map g (filter p (released_ids es))) = filter_once g p r o.id (released_ids es) other passes fails once in
+    let request : (x : ℕ) → f x ≡ g x = λ x. (same_entered setup es e x refl).request in
+    let waits : waiting fs ≡ filter p (released_ids es) = ap (filter p) released in
+    let first : flat_map f (issued_ids fs) ≡ flat_map g (back.ids_before ++ back.ids_after) = parts_same f g (issued_ids fs) (λ x _. request x) ∙ ap (flat_map g) back.ids_are in
+    let second : flat_map f (waiting fs) ≡ flat_map g (filter p (released_ids es)) = parts_same f g (waiting fs) (λ x _. request x) ∙ ap (flat_map g) waits in
+    let is : all_of fs ≡ flat_map g (back.ids_before ++ back.ids_after) ++ flat_map g (filter p (released_ids es)) = ap (λ l. l ++ flat_map f (waiting fs)) first ∙ ap (λ l. flat_map g (back.ids_before ++ back.ids_after) ++ l) second in
+    let was : flat_map g (back.ids_before ++ o.id ∷ back.ids_after) ++ flat_map g (waiting es) ≡ all_of es = ap (λ l. flat_map g l ++ flat_map g (waiting es)) (sym back.ids_were) in
+    let enters : entered fs ≡ entered es = entered_more es e ∙ append-nil _ in
+    subst (λ l. IsPermutation l (entered fs)) (sym is) (subst (IsPermutation (flat_map g (back.ids_before ++ back.ids_after) ++ flat_map g (filter p (released_ids es)))) (sym enters)
+    (trans _ (all_of es) _ (subst (IsPermutation (flat_map g (back.ids_before ++ back.ids_after) ++ flat_map g (filter p (released_ids es)))) was (moved g o.id back.ids_before back.ids_after (waiting es) (filter p (released_ids es)) more)) ih))
+
 account_step : (setup : Setup) (es : List Happened) (e : Happened) → IsLegalTrace setup es → IsUnbroken setup es e → IsPermutation (all_of es) (entered es) → IsPermutation (all_of (es ++ e ∷ [])) (entered (es ++ e ∷ []))
 unfolding released_ids issued_ids
 account_step setup es (Released i q) old all ih = on_released setup es i q old all ih
 account_step setup es (Joined i q) old all ih = on_joined setup es i q old all ih
 account_step setup es (Issued i t) old all ih = on_issued setup es i t old all ih
-account_step setup es e old all ih = quiet setup es e refl refl refl (λ x. (same_entered setup es e x refl).request) ih
+account_step setup es (Returned t) old all ih = on_returned setup es t old all ih
+account_step setup es e old all ih = quiet setup es e refl refl refl refl (λ x. (same_entered setup es e x refl).request) ih
 
 accounts : (setup : Setup) (es : List Happened) → IsLegalTrace setup es → IsPermutation (all_of es) (entered es)
-unfolding waiting released_ids issued_ids entered
+unfolding waiting released_ids issued_ids served entered
 accounts setup es legal = by_legal setup (λ l. IsPermutation (all_of l) (entered l)) (IsPermutation-refl []) (λ l e new old all ih. account_step setup l e old all ih) es legal
 
 pub accounted : (setup : Setup) (events : List Happened) → IsLegalTrace setup events → IsAccounted events

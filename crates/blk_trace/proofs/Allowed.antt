@@ -10,16 +10,21 @@ use Rattle.blk_trace.specs.Setups.{Setup}
 use Rattle.blk_trace.specs.Events.{open_count, IsIssued, IsOpen}
 use Rattle.blk_trace.specs.Legal.{IsLegalTrace}
 use Rattle.blk_trace.specs.Rules.{Obeys, IsUnbroken}
-use Rattle.blk_trace.specs.Standing.{Entered, IsAllowed, MayEnd, places_of}
+use Rattle.blk_trace.specs.Standing.{Entered, unissued_at, IsAllowed, MayEnd, places_of}
 use Rattle.blk_trace.proofs.Words.{OnlyEnds, only_ends, if_some}
 use Rattle.blk_trace.proofs.Room.{room_kept, room_issue, room_end}
-use Rattle.blk_trace.proofs.Ids.{has_released, issued_has}
+use Rattle.blk_trace.proofs.Ids.{has_released, issued_was, back_all}
+use Rattle.blk_trace.proofs.Unissued.{unissued_from}
 use Rattle.blk_trace.proofs.Waiting.{IsWaiting, waiting_from}
 use Rattle.blk_trace.proofs.Steady.{seat_open, seat_unused}
 use Rattle.blk_trace.proofs.Opening.{open-both, open_positive}
 
-unissued : (setup : Setup) (es : List Happened) (id : ℕ) (w : Entered) → IsWaiting setup es id w → IsIssued es id → ⊥
-unissued setup es id w was p = both_ways _ was.unissued (issued_has es p.0 id p.1.0 p.1.1)
+-- a request that may be joined waits, and was never issued
+joinable : (setup : Setup) (es : List Happened) (id : ℕ) (w : Entered) → unissued_at setup es id ≡ Some w → IsWaiting setup es id w
+joinable setup es id w h = waiting_from setup es id w (unissued_from setup es id w h).1
+
+unissued : (setup : Setup) (es : List Happened) (id : ℕ) (w : Entered) → unissued_at setup es id ≡ Some w → IsIssued es id → ⊥
+unissued setup es id w h p = both_ways _ (unissued_from setup es id w h).0 (issued_was es id p)
 
 -- what is allowed of an event that ends an Issue
 allowed_end : (setup : Setup) (events : List Happened) (e : Happened) (tag : ℕ) → ends e ≡ Some tag → IsAllowed setup events e → MayEnd events tag
@@ -42,14 +47,14 @@ enough setup events e (Some tag) end i legal allowed room =
 
 pub allowed-unbroken : (setup : Setup) (events : List Happened) (e : Happened) → IsLegalTrace setup events → IsAllowed setup events e → length events + open_count events + places_of e ≤ MAX_EVENTS → IsUnbroken setup events e
 allowed-unbroken setup events (Released id bios) legal allowed room ReleasedTwice = allowed.0
-allowed-unbroken setup events (Joined id bios) legal allowed room Unknown = has_released events id (waiting_from setup events id allowed.0 allowed.2).released
+allowed-unbroken setup events (Joined id bios) legal allowed room Unknown = has_released events id (joinable setup events id allowed.0 allowed.2).released
 allowed-unbroken setup events (Issued id tag) legal allowed room Unknown = has_released events id (waiting_from setup events id allowed.0 allowed.1).released
-allowed-unbroken setup events (Joined id bios) legal allowed room AlreadyIssued = unissued setup events id allowed.0 (waiting_from setup events id allowed.0 allowed.2)
-allowed-unbroken setup events (Issued id tag) legal allowed room AlreadyIssued = unissued setup events id allowed.0 (waiting_from setup events id allowed.0 allowed.1)
+allowed-unbroken setup events (Joined id bios) legal allowed room AlreadyIssued = unissued setup events id allowed.0 allowed.2
+allowed-unbroken setup events (Issued id tag) legal allowed room AlreadyIssued = back_all events id (waiting_from setup events id allowed.0 allowed.1).unissued
 allowed-unbroken setup events (Released id bios) legal allowed room BioTwice = allowed.2
 allowed-unbroken setup events (Joined id bios) legal allowed room BioTwice = allowed.4
 allowed-unbroken setup events (Released id bios) legal allowed room Fit = allowed.1
-allowed-unbroken setup events (Joined id bios) legal allowed room Fit = (allowed.1, subst (λ l. Fits setup.limits l bios allowed.1) (waiting_from setup events id allowed.0 allowed.2).bios_is allowed.3)
+allowed-unbroken setup events (Joined id bios) legal allowed room Fit = (allowed.1, subst (λ l. Fits setup.limits l bios allowed.1) (joinable setup events id allowed.0 allowed.2).bios_is allowed.3)
 allowed-unbroken setup events (Issued id tag) legal allowed room TagRange = allowed.2
 allowed-unbroken setup events (Issued id tag) legal allowed room TagUsed = seat_unused events tag allowed.3
 allowed-unbroken setup events e legal allowed room NotIssued = ends_open setup events e legal allowed

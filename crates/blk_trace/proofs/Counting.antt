@@ -7,7 +7,7 @@ use Rattle.std.proofs.lemmas.Bool.{cases_Bool, or_right, or_left, cond_both}
 use Rattle.blk_bio.specs.Bios.{Bio}
 use Rattle.blk_trace.specs.declared.rule.TraceRule.TheVariants.{ReleasedTwice, Unknown, AlreadyIssued}
 use Rattle.blk_trace.specs.Happened.{Happened, Ticked, Released, Joined, Issued, Finished}
-use Rattle.blk_trace.specs.Kinds.{releases, issues}
+use Rattle.blk_trace.specs.Kinds.{releases, issues, hands_back}
 use Rattle.blk_trace.specs.Setups.{Setup}
 use Rattle.blk_trace.specs.Events.{IsReleased}
 use Rattle.blk_trace.specs.Legal.{IsLegalTrace}
@@ -16,7 +16,7 @@ use Rattle.blk_trace.specs.Meaning.{issued_ids, released_ids, put_rising, rising
 use Rattle.blk_trace.specs.Standing.{has_id, waiting_count}
 use Rattle.blk_trace.proofs.Pushing.{shorter_legal, obeys}
 use Rattle.blk_trace.proofs.More.{issued_more, released_more}
-use Rattle.blk_trace.proofs.Ids.{by_legal, released_has, not_released, not_issued, has_released_more, has_issued_more, released_first}
+use Rattle.blk_trace.proofs.Ids.{by_legal, released_has, not_released, not_issued, all_back, has_released_more, has_issued_more, released_first}
 use Rattle.blk_trace.proofs.Entering.{has_released_same, has_issued_same}
 
 -- 1 where it is so
@@ -120,22 +120,22 @@ same_waiting : (es fs : List Happened) → released_ids fs ≡ released_ids es �
 unfolding waiting_ids
 same_waiting es fs h i = rw (h, i) refl
 
--- an event that releases and issues nothing
-pub count_kept : (events : List Happened) (e : Happened) → releases e ≡ None → issues e ≡ None → waiting_count (events ++ e ∷ []) ≡ waiting_count events
+-- an event that releases and issues nothing, and hands nothing back
+pub count_kept : (events : List Happened) (e : Happened) → releases e ≡ None → issues e ≡ None → hands_back e ≡ None → waiting_count (events ++ e ∷ []) ≡ waiting_count events
 unfolding released_ids issued_ids
-count_kept events e r i =
+count_kept events e r i n =
     same_waiting events _
     (released_more events (e ∷ []) ∙ ap (λ o. released_ids events ++ cons_option (option_map (λ p. p.0) o) []) r ∙ append-nil _)
-    (issued_more events (e ∷ []) ∙ ap (λ o. issued_ids events ++ cons_option (option_map (λ p. p.0) o) []) i ∙ append-nil _)
+    (issued_more events e n ∙ ap (λ o. issued_ids events ++ cons_option (option_map (λ p. p.0) o) []) i ∙ append-nil _)
 
 pub count-ticked : (setup : Setup) (events : List Happened) → IsLegalTrace setup (events ++ Ticked ∷ []) → waiting_count (events ++ Ticked ∷ []) ≡ waiting_count events
-count-ticked setup events legal = count_kept events Ticked refl refl
+count-ticked setup events legal = count_kept events Ticked refl refl refl
 
 pub count-joined : (setup : Setup) (events : List Happened) (id : ℕ) (bios : List Bio) → IsLegalTrace setup (events ++ Joined id bios ∷ []) → waiting_count (events ++ Joined id bios ∷ []) ≡ waiting_count events
-count-joined setup events id bios legal = count_kept events (Joined id bios) refl refl
+count-joined setup events id bios legal = count_kept events (Joined id bios) refl refl refl
 
 pub count-finished : (setup : Setup) (events : List Happened) (tag : ℕ) → IsLegalTrace setup (events ++ Finished tag ∷ []) → waiting_count (events ++ Finished tag ∷ []) ≡ waiting_count events
-count-finished setup events tag legal = count_kept events (Finished tag) refl refl
+count-finished setup events tag legal = count_kept events (Finished tag) refl refl refl
 
 pub count-released : (setup : Setup) (events : List Happened) (id : ℕ) (bios : List Bio) → IsLegalTrace setup (events ++ Released id bios ∷ []) → waiting_count (events ++ Released id bios ∷ []) ≡ waiting_count events + 1
 unfolding released_ids issued_ids
@@ -143,7 +143,7 @@ count-released setup events id bios legal =
     let old = shorter_legal setup events _ legal in
     let all = obeys setup events _ legal in
     let es : List Happened = events ++ Released id bios ∷ [] in
-    let issued : issued_ids es ≡ issued_ids events = issued_more events (Released id bios ∷ []) ∙ append-nil _ in
+    let issued : issued_ids es ≡ issued_ids events = issued_more events (Released id bios) refl ∙ append-nil _ in
     let released : released_ids es ≡ released_ids events ++ id ∷ [] = released_more events (Released id bios ∷ []) in
     let unissued : has_id (issued_ids events) id ≡ false = not_issued events id (λ p. all ReleasedTwice (released_first setup events id old p)) in
     let one : one_if (not (has_id (issued_ids events) id)) ≡ 1 = rw unissued refl in
@@ -160,9 +160,9 @@ count-issued setup events id tag legal =
     let released : released_ids es ≡ released_ids events = released_more events (Issued id tag ∷ []) ∙ append-nil _ in
     let here : IsReleased events id = all Unknown in
     let once : count_by (λ t. id == t) (released_ids events) ≡ 1 = released_one setup events id old (released_has events here.0 id here.1.0 here.1.1) in
-    let unissued : has_id (issued_ids events) id ≡ false = not_issued events id (all AlreadyIssued) in
-    let issued : has_id (issued_ids es) id ≡ true = has_issued_more events (Issued id tag) id ∙ or_right (has_id (issued_ids events) id) ((id == id) || false) (or_left (id == id) false (eq-eqb id id refl)) in
+    let unissued : has_id (issued_ids events) id ≡ false = all_back events id (all AlreadyIssued) in
+    let issued : has_id (issued_ids es) id ≡ true = has_issued_more events (Issued id tag) id refl ∙ or_right (has_id (issued_ids events) id) ((id == id) || false) (or_left (id == id) false (eq-eqb id id refl)) in
     let fewer : count_by (λ x. not (has_id (issued_ids es) x)) (released_ids events) + 1 ≡ count_by (λ x. not (has_id (issued_ids events) x)) (released_ids events) =
-    count_once (λ x. not (has_id (issued_ids es) x)) (λ x. not (has_id (issued_ids events) x)) id 1 (released_ids events) (λ x b. ap not (has_issued_same events (Issued id tag) x (rw b refl))) (rw (issued, unissued) refl) once in
+    count_once (λ x. not (has_id (issued_ids es) x)) (λ x. not (has_id (issued_ids events) x)) id 1 (released_ids events) (λ x b. ap not (has_issued_same events (Issued id tag) x refl (rw b refl))) (rw (issued, unissued) refl) once in
     let now : waiting_count es ≡ count_by (λ x. not (has_id (issued_ids es) x)) (released_ids events) = waiting_is es ∙ ap (count_by (λ x. not (has_id (issued_ids es) x))) released in
     omega (arith, waiting_is events)

@@ -9,14 +9,14 @@ use Rattle.blk_bio.specs.Bios.{Bio}
 use Rattle.blk_bio.specs.Requests.{dir_of, first_of, last_of}
 use Rattle.blk_trace.specs.declared.rule.TraceRule.TheVariants.{ReleasedTwice, Unknown, AlreadyIssued, Fit}
 use Rattle.blk_trace.specs.Happened.{Happened, Released, Joined}
-use Rattle.blk_trace.specs.Kinds.{enters, enters_under}
+use Rattle.blk_trace.specs.Kinds.{enters, hands_back, enters_under}
 use Rattle.blk_trace.specs.Setups.{Setup, expire_of}
 use Rattle.blk_trace.specs.Events.{round_of, join_up, request_of, IsReleased, IsIssued}
 use Rattle.blk_trace.specs.Legal.{IsLegalTrace}
 use Rattle.blk_trace.specs.Rules.{IsUnbroken}
 use Rattle.blk_trace.specs.Meaning.{timed, release_of, due_of, issued_ids, released_ids, least}
 use Rattle.blk_trace.specs.Standing.{has_id}
-use Rattle.blk_trace.proofs.More.{request_more, release_more, dues, dues_more, due_is, round_more}
+use Rattle.blk_trace.proofs.More.{new_ids, request_more, release_more, dues, dues_more, due_is, round_more}
 use Rattle.blk_trace.proofs.Ids.{by_events, by_legal, released_has, not_released, has_released_more, released_first, has_issued_more}
 
 -- whether a request enters under the id by the event
@@ -173,8 +173,8 @@ or_no false y h = h
 pub has_released_same : (es : List Happened) (e : Happened) (id : ℕ) → has_id (released_ids (e ∷ [])) id ≡ false → has_id (released_ids (es ++ e ∷ [])) id ≡ has_id (released_ids es) id
 has_released_same es e id h = has_released_more es e id ∙ or_no _ _ h
 
-pub has_issued_same : (es : List Happened) (e : Happened) (id : ℕ) → has_id (issued_ids (e ∷ [])) id ≡ false → has_id (issued_ids (es ++ e ∷ [])) id ≡ has_id (issued_ids es) id
-has_issued_same es e id h = has_issued_more es e id ∙ or_no _ _ h
+pub has_issued_same : (es : List Happened) (e : Happened) (id : ℕ) → hands_back e ≡ None → has_id (new_ids e) id ≡ false → has_id (issued_ids (es ++ e ∷ [])) id ≡ has_id (issued_ids es) id
+has_issued_same es e id n h = has_issued_more es e id n ∙ or_no _ _ h
 
 -- a Release of an id that was not released
 pub nothing_before : (setup : Setup) (es : List Happened) (i id : ℕ) (q : List Bio) → IsLegalTrace setup es → IsUnbroken setup es (Released i q) → (i == id) ≡ true → HasNothing setup es id

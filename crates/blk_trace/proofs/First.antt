@@ -1,7 +1,7 @@
 -- Which rule is the first that an event breaks, event by event.
 use Rattle.std.proofs.Common.{◌<◌, ◌+◌, ℕ, List, arith}
 use Rattle.blk_bio.specs.Bios.{Bio}
-use Rattle.blk_trace.specs.Happened.{Happened, Ticked, Released, Joined, Issued, Finished}
+use Rattle.blk_trace.specs.Happened.{Happened, Ticked, Released, Joined, Issued, Finished, Returned}
 use Rattle.blk_trace.specs.declared.rule.TraceRule.{TraceRule}
 use Rattle.blk_trace.specs.declared.rule.TraceRule.TheVariants.{ReleasedTwice, Unknown, AlreadyIssued, BioTwice, Fit, TagRange, TagUsed, NotIssued, InFlight, TooLong}
 use Rattle.blk_trace.specs.Setups.{Setup}
@@ -126,3 +126,15 @@ done_not_issued setup es tag fails = record { broken = fails; first = done_rules
 
 pub done_unbroken : (setup : Setup) (es : List Happened) (tag : ℕ) → Obeys setup es (Finished tag) NotIssued → Obeys setup es (Finished tag) TooLong → IsUnbroken setup es (Finished tag)
 done_unbroken setup es tag a0 a1 = λ r. done_rules setup es tag beyond (λ _. a0) (λ _. a1) r (all_before r)
+
+-- the rules that concern a Back, each where it comes before the n-th; it obeys all others
+back_rules : (setup : Setup) (es : List Happened) (tag : ℕ) (n : ℕ) → (rank NotIssued < n → Obeys setup es (Returned tag) NotIssued) → (rank TooLong < n → Obeys setup es (Returned tag) TooLong) → (r : TraceRule) → rank r < n → Obeys setup es (Returned tag) r
+back_rules setup es tag n a0 a1 NotIssued h = a0 h
+back_rules setup es tag n a0 a1 TooLong h = a1 h
+back_rules setup es tag n a0 a1 rule h = tt
+
+pub back_not_issued : (setup : Setup) (es : List Happened) (tag : ℕ) → (Obeys setup es (Returned tag) NotIssued → ⊥) → IsFirstBroken setup es (Returned tag) NotIssued
+back_not_issued setup es tag fails = record { broken = fails; first = back_rules setup es tag (rank NotIssued) (λ h. absurd (omega (arith, h))) (λ h. absurd (omega (arith, h))) }
+
+pub back_unbroken : (setup : Setup) (es : List Happened) (tag : ℕ) → Obeys setup es (Returned tag) NotIssued → Obeys setup es (Returned tag) TooLong → IsUnbroken setup es (Returned tag)
+back_unbroken setup es tag a0 a1 = λ r. back_rules setup es tag beyond (λ _. a0) (λ _. a1) r (all_before r)

@@ -1,44 +1,51 @@
 -- What a trace keeps stays true with one more event.
-use Rattle.std.proofs.Common.{◌≡◌, ◌<◌, ◌≤◌, ◌+◌, ◌-◌, ◌++◌, ◌==◌, ◌||◌, ℕ, zero, suc, List, [], ◌∷◌, length, refl, sym, ◌∙◌, ap, subst, arith, append-nil, cond, Bool, true, false, Some, None, set, take}
+use Rattle.std.proofs.Common.{◌≡◌, ◌<◌, ◌≤◌, ◌+◌, ◌-◌, ◌++◌, ◌==◌, ◌||◌, inl, inr, option_map, ℕ, zero, suc, List, [], ◌∷◌, length, refl, sym, ◌∙◌, ap, subst, arith, append-nil, cond, Bool, true, false, Some, None, set, take}
 use Rattle.std.specs.Prelude.{Option, Result, Ok, Err, replicate}
 use Rattle.std.specs.Result.{is_err, OnOk, OnErr}
 use Rattle.std.specs.List.{cons_option}
+use Rattle.std.proofs.lemmas.Bool.{cases_Bool}
 use Rattle.edd_check.specs.declared.Command.{Command}
 use Rattle.blk_bio.specs.Bios.{Bio}
 use Rattle.blk_bio.specs.declared.bio.BioId.{BioId}
 use Rattle.blk_bio.specs.Requests.{dir_of}
 use Rattle.blk_trace.specs.declared.known.Waiting.{Waiting}
 use Rattle.blk_trace.specs.declared.known.Known.{Known}
-use Rattle.blk_trace.specs.declared.known.Known.TheVariants.{Waits, Gone}
+use Rattle.blk_trace.specs.declared.known.Known.TheVariants.{Waits, Gone, Handed}
 use Rattle.blk_trace.specs.declared.tags.TagUse.{TagUse}
 use Rattle.blk_trace.specs.declared.tags.TagUse.TheVariants.{Free, Open, Ended}
 use Rattle.blk_trace.specs.declared.trace.Prepared.{Prepared}
 use Rattle.blk_trace.specs.declared.trace.Prepared.TheVariants.{Nothing, AnIssue, Bios}
 use Rattle.blk_trace.specs.declared.rule.TraceRule.TheVariants.{InFlight, NotIssued}
-use Rattle.blk_trace.specs.Happened.{Happened, Ticked, Released, Joined, Issued, Finished}
+use Rattle.blk_trace.specs.Happened.{Happened, Ticked, Released, Joined, Issued, Finished, Returned}
+use Rattle.blk_trace.specs.Kinds.{releases, joins}
 use Rattle.blk_trace.specs.Setups.{Setup, expire_of}
-use Rattle.blk_trace.specs.Events.{round_of, open_count, entered, bios_of, join_up}
+use Rattle.blk_trace.specs.Events.{round_of, open_count, entered, bios_of, join_up, request_of}
+use Rattle.blk_trace.specs.Legal.{IsLegalTrace}
 use Rattle.blk_trace.specs.Rules.{IsUnbroken}
-use Rattle.blk_trace.specs.Meaning.{commands_of, rounds_of, issued_ids, released_ids, issue_round, timed}
-use Rattle.blk_trace.specs.Standing.{Entered, waits_at}
+use Rattle.blk_trace.specs.Meaning.{release_of, due_of, served, commands_of, rounds_of, issued_ids, released_ids}
+use Rattle.blk_trace.specs.Standing.{Entered, has_id, waits_at}
 use Rattle.blk_trace.specs.Traces.{IsPreparedFor}
-use Rattle.blk_trace.specs.Inside.Kept.{IsKept, HasRoom, summary, known_of, has_bio_id, event_room, request_room, bio_room, IsTagUse}
+use Rattle.blk_trace.specs.Inside.Kept.{IsKept, HasRoom, summary, known_of, has_bio_id, event_room, request_room, bio_room, IsTagUse, IsOpenBy}
 use Rattle.blk_trace.proofs.Pushing.{push_legal, empty_legal}
-use Rattle.blk_trace.proofs.More.{rounds_more, round_more}
+use Rattle.blk_trace.proofs.More.{round_more}
 use Rattle.blk_trace.proofs.Room.{open_kept, open_issue, open_end}
 use Rattle.blk_trace.proofs.Newness.{ids_more}
-use Rattle.blk_trace.proofs.Knowing.{known_kept, known_released, known_joined, known_issued}
+use Rattle.blk_trace.proofs.Returns.{IsDropped, dropped, there_is, taken_there}
+use Rattle.blk_trace.proofs.Scheduling.{legal-schedule}
+use Rattle.std.proofs.lemmas.Option.{slice_get_within}
+use Rattle.std.specs.Prelude.{slice_get}
+use Rattle.std.proofs.Common.{get_or}
+use Rattle.blk_trace.specs.Meaning.{command_of}
+use Rattle.blk_trace.proofs.Knowing.{known_open, known_kept, known_released, known_joined, known_issued, known_returned}
 use Rattle.blk_trace.proofs.TagUses.{tags_ticked, tags_kept, tags_issued, tags_ended, tags_empty, open_found}
 use Rattle.blk_trace.proofs.Joining.{join_up_some}
-use Rattle.blk_trace.proofs.Waiting.{waits_kept, waits-released, waits-joined, waits-issued}
-use Rattle.blk_trace.proofs.Commands.{commands_kept, commands-issued}
+use Rattle.blk_trace.proofs.Entering.{IsSame, same_entered, HasNothing, nothing_before, IsEntered, entered_released, entered_joined, has_released_same}
+use Rattle.blk_trace.proofs.Waiting.{IsWaiting, waiting_from}
+use Rattle.blk_trace.proofs.Commands.{commands_kept, commands-issued, rounds_kept, rounds-issued}
 
 or_none : (b : Bool) → (b || false) ≡ b
 or_none true = refl
 or_none false = refl
-
-same_rounds : (es : List Happened) (e : Happened) → issue_round (round_of es, e) ≡ None → rounds_of (es ++ e ∷ []) ≡ rounds_of es
-same_rounds es e h = rounds_more es e ∙ ap (λ o. rounds_of es ++ cons_option o []) h ∙ append-nil _
 
 same_ids : (es : List Happened) (e : Happened) (id : BioId) → bios_of e ≡ [] → has_bio_id (entered (es ++ e ∷ [])) id ≡ has_bio_id (entered es) id
 same_ids es e id h = ids_more es e id ∙ ap (λ l. has_bio_id (entered es) id || has_bio_id l id) h ∙ or_none _
@@ -52,14 +59,50 @@ length_set [] k x = refl
 length_set (y ∷ xs) zero x = refl
 length_set (y ∷ xs) (suc k) x = ap suc (length_set xs k x)
 
--- what stays of what waits
-still : (b : Bool) (y : Option Entered) (v : Entered) → cond b None y ≡ Some v → y ≡ Some v
-still true y v h = absurd (cc)
-still false y v h = h
+-- a released request has bios
+abbrev AreSome : List Happened → Type 0
+AreSome es = (id : ℕ) → has_id (released_ids es) id ≡ true → 0 < length (request_of es id)
 
-put : (b : Bool) (y : Option Entered) (x v : Entered) → 0 < length x.bios → (y ≡ Some v → 0 < length v.bios) → cond b (Some x) y ≡ Some v → 0 < length v.bios
-put true y x v some old h = let same : x ≡ v = cc in subst (λ (e : Entered). 0 < length e.bios) same some
-put false y x v some old h = old h
+some_kept : (setup : Setup) (es : List Happened) (e : Happened) → releases e ≡ None → joins e ≡ None → AreSome es → AreSome (es ++ e ∷ [])
+unfolding released_ids
+some_kept setup es e r j old id h =
+    let same : IsSame setup es (es ++ e ∷ []) id = same_entered setup es e id (rw (r, j) refl) in
+    let was : has_id (released_ids es) id ≡ true = sym (has_released_same es e id (ap (λ o. has_id (cons_option (option_map (λ p. p.0) o) []) id) r)) ∙ h in
+    subst (λ l. 0 < length l) (sym same.request) (old id was)
+
+some_released : (setup : Setup) (es : List Happened) (i : ℕ) (bios : List Bio) → IsLegalTrace setup es → IsUnbroken setup es (Released i bios) → 0 < length bios → AreSome es → AreSome (es ++ Released i bios ∷ [])
+unfolding released_ids
+some_released setup es i bios legal all some old id h =
+    elim (cases_Bool (i == id)) [
+      | inl b ↦
+          let none : HasNothing setup es id = nothing_before setup es i id bios legal all b in
+          let new : IsEntered setup es (es ++ Released i bios ∷ []) id bios = entered_released setup es i id bios b in
+          let is : request_of (es ++ Released i bios ∷ []) id ≡ bios = new.request ∙ ap (λ l. join_up l bios) none.request in
+          subst (λ l. 0 < length l) (sym is) some
+      | inr b ↦
+          let same : IsSame setup es (es ++ Released i bios ∷ []) id = same_entered setup es (Released i bios) id b in
+          let was : has_id (released_ids es) id ≡ true = sym (has_released_same es (Released i bios) id (rw b refl)) ∙ h in
+          subst (λ l. 0 < length l) (sym same.request) (old id was)
+    ]
+
+some_joined : (setup : Setup) (es : List Happened) (i : ℕ) (bios : List Bio) → 0 < length bios → AreSome es → AreSome (es ++ Joined i bios ∷ [])
+unfolding released_ids
+some_joined setup es i bios some old id h =
+    let was : has_id (released_ids es) id ≡ true = sym (has_released_same es (Joined i bios) id refl) ∙ h in
+    elim (cases_Bool (i == id)) [
+      | inl b ↦
+          let new : IsEntered setup es (es ++ Joined i bios ∷ []) id bios = entered_joined setup es i id bios b in
+          subst (λ l. 0 < length l) (sym new.request) (join_up_some (request_of es id) bios some)
+      | inr b ↦
+          let same : IsSame setup es (es ++ Joined i bios ∷ []) id = same_entered setup es (Joined i bios) id b in
+          subst (λ l. 0 < length l) (sym same.request) (old id was)
+    ]
+
+-- the bios of a request that waits
+pub some_waiting : (setup : Setup) (es : List Happened) (id : ℕ) (w : Entered) → ((id : ℕ) → has_id (released_ids es) id ≡ true → 0 < length (request_of es id)) → waits_at setup es id ≡ Some w → 0 < length w.bios
+some_waiting setup es id w some h =
+    let was : IsWaiting setup es id w = waiting_from setup es id w h in
+    subst (λ l. 0 < length l) (sym was.bios_is) (some id was.released)
 
 pub kept_tick : (setup : Setup) (es zs : List Happened) (cs : List Command) (rs : List ℕ) (round opened : ℕ) (known : ℕ → Option Known) (ids : BioId → Bool) (tags tags' : List TagUse)
     → IsKept setup es cs rs round opened known ids tags → IsUnbroken setup es Ticked → zs ≡ es ++ Ticked ∷ [] → tags' ≡ replicate (length tags) Free
@@ -69,12 +112,12 @@ kept_tick setup es zs cs rs round opened known ids tags tags' k all hz ht =
     let P : List Happened → List TagUse → Type 0 = λ l t. IsKept setup l cs rs (round + 1) opened known ids t in
     let here : P (es ++ Ticked ∷ []) (replicate (length tags) Free) = record {
       legal = new;
-      commands_are = k.commands_are ∙ sym (commands_kept setup es Ticked new refl);
-      rounds_are = k.rounds_are ∙ sym (same_rounds es Ticked refl);
+      commands_are = k.commands_are ∙ sym (commands_kept setup es Ticked new refl refl);
+      rounds_are = k.rounds_are ∙ sym (rounds_kept es Ticked refl refl);
       round_is = omega (arith, k.round_is, round_more es Ticked);
       open_is = k.open_is ∙ sym (open_kept es Ticked refl refl);
-      known_are = λ q. k.known_are q ∙ sym (known_kept setup es Ticked refl refl refl q);
-      some_bios = λ id w h. k.some_bios id w (sym (waits_kept setup es Ticked refl refl refl id) ∙ h);
+      known_are = λ q. k.known_are q ∙ sym (known_kept setup es Ticked refl refl refl refl q);
+      some_bios = some_kept setup es Ticked refl refl k.some_bios;
       ids_are = λ id. k.ids_are id ∙ sym (same_ids es Ticked id refl);
       tags_are = tags_ticked es (length tags) (all InFlight);
       each_tag = replicated (length tags) Free ∙ k.each_tag;
@@ -87,17 +130,68 @@ pub kept_done : (setup : Setup) (es zs : List Happened) (tag : ℕ) (cs : List C
 kept_done setup es zs tag cs rs round opened known ids tags k all hz =
     let new = push_legal setup es (Finished tag) k.legal all in
     let P : List Happened → Type 0 = λ l. IsKept setup l cs rs round (opened - 1) known ids (set tags tag Ended) in
-    let used : IsTagUse es tag Open = k.tags_are tag Open (open_found setup es tags k.legal k.each_tag k.tags_are tag (all NotIssued)) in
+    let found = open_found setup es tags k.legal k.each_tag k.tags_are tag (all NotIssued) in
+    let used : IsTagUse es tag (Open found.0) = k.tags_are tag (Open found.0) found.1 in
     let here : P (es ++ Finished tag ∷ []) = record {
       legal = new;
-      commands_are = k.commands_are ∙ sym (commands_kept setup es (Finished tag) new refl);
-      rounds_are = k.rounds_are ∙ sym (same_rounds es (Finished tag) refl);
+      commands_are = k.commands_are ∙ sym (commands_kept setup es (Finished tag) new refl refl);
+      rounds_are = k.rounds_are ∙ sym (rounds_kept es (Finished tag) refl refl);
       round_is = omega (arith, k.round_is, round_more es (Finished tag));
       open_is = omega (arith, k.open_is, open_end es (Finished tag) tag refl);
-      known_are = λ q. k.known_are q ∙ sym (known_kept setup es (Finished tag) refl refl refl q);
-      some_bios = λ id w h. k.some_bios id w (sym (waits_kept setup es (Finished tag) refl refl refl id) ∙ h);
+      known_are = λ q. k.known_are q ∙ sym (known_kept setup es (Finished tag) refl refl refl refl q);
+      some_bios = some_kept setup es (Finished tag) refl refl k.some_bios;
       ids_are = λ id. k.ids_are id ∙ sym (same_ids es (Finished tag) id refl);
       tags_are = tags_ended es (Finished tag) tags tag refl used.0 k.tags_are;
+      each_tag = length_set tags tag Ended ∙ k.each_tag;
+    } in
+    subst P (sym hz) here
+
+-- what is kept of the open Issue of a tag
+pub kept_there : (setup : Setup) (es : List Happened) (tag id : ℕ) (cs : List Command) (rs : List ℕ) (round opened : ℕ) (known : ℕ → Option Known) (ids : BioId → Bool) (tags : List TagUse)
+    → IsKept setup es cs rs round opened known ids tags → IsOpenBy es tag id → (k : ℕ) × ((c : Command) × (slice_get cs k ≡ Some c) × (c.id ≡ id))
+kept_there setup es tag id cs rs round opened known ids tags k by =
+    let p = there_is setup es tag id k.legal by in
+    (p.0, (p.1.0, ap (λ l. slice_get l p.0) k.commands_are ∙ p.1.1, p.1.2))
+
+pub kept_within : (setup : Setup) (es : List Happened) (cs : List Command) (rs : List ℕ) (round opened : ℕ) (known : ℕ → Option Known) (ids : BioId → Bool) (tags : List TagUse) (place : ℕ) (c : Command)
+    → IsKept setup es cs rs round opened known ids tags → slice_get cs place ≡ Some c → (place < length cs) × (place < length rs)
+kept_within setup es cs rs round opened known ids tags place c k at =
+    let low : place < length cs = slice_get_within cs place c at in
+    let one : length (rounds_of es) ≡ length (commands_of setup es) = (legal-schedule setup es k.legal).one_each in
+    let even : length rs ≡ length cs = ap length k.rounds_are ∙ one ∙ sym (ap length k.commands_are) in
+    (low, omega arith)
+
+-- the command that is taken out, and what is known under its id
+pub kept_out : (setup : Setup) (es : List Happened) (tag id place : ℕ) (c d : Command) (cs : List Command) (rs : List ℕ) (round opened : ℕ) (known : ℕ → Option Known) (ids : BioId → Bool) (tags : List TagUse)
+    → IsKept setup es cs rs round opened known ids tags → IsOpenBy es tag id → slice_get cs place ≡ Some c → c.id ≡ id → d ≡ get_or cs place d
+    → (d ≡ command_of setup es id) × (known d.id ≡ Some Gone)
+kept_out setup es tag id place c d cs rs round opened known ids tags k by at is taken =
+    let out : IsDropped setup es (es ++ Returned tag ∷ []) id place cs rs = dropped setup es tag id place cs rs c k.legal by k.commands_are k.rounds_are at is in
+    let same : d ≡ command_of setup es id = taken_there cs place d (command_of setup es id) (slice_get_within cs place c at) out.there taken in
+    let named : d.id ≡ id = ap (λ (x : Command). x.id) same in
+    (same, ap known named ∙ k.known_are id ∙ known_open setup es tag id k.legal by)
+
+-- after a Back the command is no longer kept, and its request waits again
+pub kept_back : (setup : Setup) (es zs : List Happened) (tag id : ℕ) (cs ds : List Command) (rs ss : List ℕ) (round opened : ℕ) (known known' : ℕ → Option Known) (ids : BioId → Bool) (tags : List TagUse)
+    → IsKept setup es cs rs round opened known ids tags → IsUnbroken setup es (Returned tag) → IsOpenBy es tag id → zs ≡ es ++ Returned tag ∷ []
+    → ds ≡ commands_of setup (es ++ Returned tag ∷ []) → ss ≡ rounds_of (es ++ Returned tag ∷ [])
+    → ((q : ℕ) → known' q ≡ cond (id == q) (Some (Handed (release_of es id) (due_of setup es id))) (known q))
+    → IsKept setup zs ds ss round (opened - 1) known' ids (set tags tag Ended)
+kept_back setup es zs tag id cs ds rs ss round opened known known' ids tags k all by hz hd hs hk =
+    let new = push_legal setup es (Returned tag) k.legal all in
+    let P : List Happened → Type 0 = λ l. IsKept setup l ds ss round (opened - 1) known' ids (set tags tag Ended) in
+    let found = open_found setup es tags k.legal k.each_tag k.tags_are tag (all NotIssued) in
+    let used : IsTagUse es tag (Open found.0) = k.tags_are tag (Open found.0) found.1 in
+    let here : P (es ++ Returned tag ∷ []) = record {
+      legal = new;
+      commands_are = hd;
+      rounds_are = hs;
+      round_is = omega (arith, k.round_is, round_more es (Returned tag));
+      open_is = omega (arith, k.open_is, open_end es (Returned tag) tag refl);
+      known_are = λ q. hk q ∙ ap (λ x. cond (id == q) (Some (Handed (release_of es id) (due_of setup es id))) x) (k.known_are q) ∙ sym (known_returned setup es tag id k.legal by q);
+      some_bios = some_kept setup es (Returned tag) refl refl k.some_bios;
+      ids_are = λ b. k.ids_are b ∙ sym (same_ids es (Returned tag) b refl);
+      tags_are = tags_ended es (Returned tag) tags tag refl used.0 k.tags_are;
       each_tag = length_set tags tag Ended ∙ k.each_tag;
     } in
     subst P (sym hz) here
@@ -106,21 +200,21 @@ pub kept_issue : (setup : Setup) (es zs : List Happened) (id tag : ℕ) (w : Ent
     → IsKept setup es cs rs round opened known ids tags → IsUnbroken setup es (Issued id tag) → zs ≡ es ++ Issued id tag ∷ []
     → waits_at setup es id ≡ Some w → ds ≡ cs ++ record { id = id; release = w.release; due = w.due } ∷ [] → ss ≡ rs ++ round ∷ []
     → ((q : ℕ) → known' q ≡ cond (id == q) (Some Gone) (known q))
-    → IsKept setup zs ds ss round (opened + 1) known' ids (set tags tag Open)
+    → IsKept setup zs ds ss round (opened + 1) known' ids (set tags tag (Open id))
 kept_issue setup es zs id tag w cs ds rs ss round opened known known' ids tags k all hz waits hd hs hk =
     let new = push_legal setup es (Issued id tag) k.legal all in
-    let P : List Happened → Type 0 = λ l. IsKept setup l ds ss round (opened + 1) known' ids (set tags tag Open) in
+    let P : List Happened → Type 0 = λ l. IsKept setup l ds ss round (opened + 1) known' ids (set tags tag (Open id)) in
     let here : P (es ++ Issued id tag ∷ []) = record {
       legal = new;
       commands_are = hd ∙ ap (λ l. l ++ record { id = id; release = w.release; due = w.due } ∷ []) k.commands_are ∙ sym (commands-issued setup es id tag new w waits);
-      rounds_are = hs ∙ ap (λ l. l ++ round ∷ []) k.rounds_are ∙ ap (λ n. rounds_of es ++ n ∷ []) k.round_is ∙ sym (rounds_more es (Issued id tag));
+      rounds_are = hs ∙ ap (λ l. l ++ round ∷ []) k.rounds_are ∙ ap (λ n. rounds_of es ++ n ∷ []) k.round_is ∙ sym (rounds-issued es id tag);
       round_is = omega (arith, k.round_is, round_more es (Issued id tag));
       open_is = omega (arith, k.open_is, open_issue setup es id tag k.legal);
       known_are = λ q. hk q ∙ ap (λ x. cond (id == q) (Some Gone) x) (k.known_are q) ∙ sym (known_issued setup es id tag new q);
-      some_bios = λ q v h. k.some_bios q v (still (id == q) (waits_at setup es q) v (sym (waits-issued setup es id tag new q) ∙ h));
+      some_bios = some_kept setup es (Issued id tag) refl refl k.some_bios;
       ids_are = λ b. k.ids_are b ∙ sym (same_ids es (Issued id tag) b refl);
       tags_are = tags_issued es tags id tag k.tags_are;
-      each_tag = length_set tags tag Open ∙ k.each_tag;
+      each_tag = length_set tags tag (Open id) ∙ k.each_tag;
     } in
     subst P (sym hz) here
 
@@ -135,12 +229,12 @@ kept_release setup es zs id bios s cs rs round opened known known' ids ids' tags
     let now : s ≡ summary record { release = round_of es; due = round_of es + expire_of setup (dir_of bios); bios = bios } = hs ∙ ap (λ n. summary record { release = n; due = n + expire_of setup (dir_of bios); bios = bios }) k.round_is in
     let here : P (es ++ Released id bios ∷ []) = record {
       legal = new;
-      commands_are = k.commands_are ∙ sym (commands_kept setup es (Released id bios) new refl);
-      rounds_are = k.rounds_are ∙ sym (same_rounds es (Released id bios) refl);
+      commands_are = k.commands_are ∙ sym (commands_kept setup es (Released id bios) new refl refl);
+      rounds_are = k.rounds_are ∙ sym (rounds_kept es (Released id bios) refl refl);
       round_is = omega (arith, k.round_is, round_more es (Released id bios));
       open_is = k.open_is ∙ sym (open_kept es (Released id bios) refl refl);
       known_are = λ q. hk q ∙ ap (λ x. cond (id == q) (Some (Waits s)) x) (k.known_are q) ∙ ap (λ x. cond (id == q) (Some (Waits x)) (known_of setup es q)) now ∙ sym (known_released setup es id bios new q);
-      some_bios = λ q v h. put (id == q) (waits_at setup es q) _ v some (k.some_bios q v) (sym (waits-released setup es id bios new q) ∙ h);
+      some_bios = some_released setup es id bios k.legal all some k.some_bios;
       ids_are = λ b. hb b ∙ ap (λ x. x || has_bio_id bios b) (k.ids_are b) ∙ sym (ids_more es (Released id bios) b);
       tags_are = tags_kept es (Released id bios) tags refl refl refl k.tags_are;
       each_tag = k.each_tag;
@@ -158,21 +252,28 @@ kept_join setup es zs id bios w s cs rs round opened known known' ids ids' tags 
     let now : s ≡ summary record { release = round_of es; due = w.due; bios = join_up w.bios bios } = hs ∙ ap (λ n. summary record { release = n; due = w.due; bios = join_up w.bios bios }) k.round_is in
     let here : P (es ++ Joined id bios ∷ []) = record {
       legal = new;
-      commands_are = k.commands_are ∙ sym (commands_kept setup es (Joined id bios) new refl);
-      rounds_are = k.rounds_are ∙ sym (same_rounds es (Joined id bios) refl);
+      commands_are = k.commands_are ∙ sym (commands_kept setup es (Joined id bios) new refl refl);
+      rounds_are = k.rounds_are ∙ sym (rounds_kept es (Joined id bios) refl refl);
       round_is = omega (arith, k.round_is, round_more es (Joined id bios));
       open_is = k.open_is ∙ sym (open_kept es (Joined id bios) refl refl);
       known_are = λ q. hk q ∙ ap (λ x. cond (id == q) (Some (Waits s)) x) (k.known_are q) ∙ ap (λ x. cond (id == q) (Some (Waits x)) (known_of setup es q)) now ∙ sym (known_joined setup es id bios new w waits q);
-      some_bios = λ q v h. put (id == q) (waits_at setup es q) _ v (join_up_some w.bios bios some) (k.some_bios q v) (sym (waits-joined setup es id bios new w waits q) ∙ h);
+      some_bios = some_joined setup es id bios some k.some_bios;
       ids_are = λ b. hb b ∙ ap (λ x. x || has_bio_id bios b) (k.ids_are b) ∙ sym (ids_more es (Joined id bios) b);
       tags_are = tags_kept es (Joined id bios) tags refl refl refl k.tags_are;
       each_tag = k.each_tag;
     } in
     subst P (sym hz) here
 
+-- a command by its parts
+pub command_is : (c : Command) (id release due : ℕ) → c.id ≡ id → c.release ≡ release → c.due ≡ due → c ≡ record { id = id; release = release; due = due }
+command_is c id release due h i j =
+    ap (λ (n : ℕ). let y : Command = record { id = n; release = c.release; due = c.due } in y) h
+    ∙ ap (λ (n : ℕ). let y : Command = record { id = id; release = n; due = c.due } in y) i
+    ∙ ap (λ (n : ℕ). let y : Command = record { id = id; release = release; due = n } in y) j
+
 -- the trace without events
 pub kept_empty : (setup : Setup) (known : ℕ → Option Known) (ids : BioId → Bool) (n : ℕ) → ((q : ℕ) → known q ≡ None) → ((b : BioId) → ids b ≡ false) → n ≡ setup.depth → IsKept setup [] [] [] 0 0 known ids (replicate n Free)
-unfolding entered open_count round_of commands_of rounds_of issued_ids released_ids timed known_of waits_at
+unfolding entered open_count round_of commands_of rounds_of issued_ids released_ids served known_of waits_at
 kept_empty setup known ids n hk hb hn = record {
   legal = empty_legal setup;
   commands_are = refl;
@@ -180,7 +281,7 @@ kept_empty setup known ids n hk hb hn = record {
   round_is = refl;
   open_is = refl;
   known_are = hk;
-  some_bios = λ id w h. absurd (cc);
+  some_bios = λ id h. absurd (cc);
   ids_are = hb;
   tags_are = tags_empty n;
   each_tag = replicated n Free ∙ hn;
@@ -221,6 +322,10 @@ room_after_issue (Bios m) id tag n n' o c c' r r' P P' C C' R R' K K' I h room h
 
 pub room_after_done : (p : Prepared) (n n' o c r P P' C R K I : ℕ) → 0 < o → HasRoom p n o c r P C R K I → n' ≡ n + 1 → P ≤ P' → HasRoom Nothing n' (o - 1) c r P' C R K I
 room_after_done p n n' o c r P P' C R K I h room hn more = record { for_events = omega (arith, room.for_events, hn, more, h); for_command = omega (arith, room.for_command); for_round = omega (arith, room.for_round); for_request = omega arith; for_bios = omega arith }
+
+-- after a Back, whose command goes
+pub room_after_back : (p : Prepared) (n n' o c c' r r' P P' C C' R R' K K' I : ℕ) → 0 < o → HasRoom p n o c r P C R K I → n' ≡ n + 1 → P ≤ P' → c' + 1 ≡ c → r' + 1 ≡ r → C' ≡ C → R' ≡ R → HasRoom Nothing n' (o - 1) c' r' P' C' R' K' I
+room_after_back p n n' o c c' r r' P P' C C' R R' K K' I h room hn more hc hr kc kr = record { for_events = omega (arith, room.for_events, hn, more, h); for_command = omega (arith, room.for_command, hc, kc); for_round = omega (arith, room.for_round, hr, kr); for_request = omega arith; for_bios = omega arith }
 
 -- after a Release, whose event takes the place that was made
 pub room_after_entry : (p : Prepared) (n n' o c r P P' C R K K' I I' : ℕ) → 1 ≤ event_room p → HasRoom p n o c r P C R K I → n' ≡ n + 1 → P ≤ P' → HasRoom Nothing n' o c r P' C R K' I'

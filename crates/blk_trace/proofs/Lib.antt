@@ -5,11 +5,14 @@ pub mod More
 pub mod Ids
 pub mod Entering
 pub mod Waiting
+pub mod Unissued
 pub mod Commands
 pub mod Seats
 pub mod Steady
 pub mod Counting
 pub mod Opening
+pub mod Returning
+pub mod Returns
 pub mod Allowed
 pub mod Scheduling
 pub mod Accounting

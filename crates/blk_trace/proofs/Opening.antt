@@ -20,7 +20,7 @@ use Rattle.blk_trace.specs.Standing.{Entered, Seat, waits_at, seat_at, this_roun
 use Rattle.blk_trace.proofs.Words.{OnlyEnds, only_ends, no_tag}
 use Rattle.blk_trace.proofs.Pushing.{shorter_legal, obeys}
 use Rattle.blk_trace.proofs.More.{more_of}
-use Rattle.blk_trace.proofs.Ids.{by_legal}
+use Rattle.blk_trace.proofs.Ids.{by_legal, all_back}
 use Rattle.blk_trace.proofs.Waiting.{waits_for}
 use Rattle.blk_trace.proofs.Seats.{taken, ended, now_tick, now_push, taken_tick, taken_kept, taken_new, not_taken}
 use Rattle.blk_trace.proofs.Steady.{IsSeat, seat_parts, no_seat, steady, seat_quiet, seat-issued, seat_ended, ended_open, open_seat}
@@ -191,7 +191,7 @@ both_step setup es Ticked legal ih = omega (arith, ih, more_of is_end es Ticked,
 both_step setup es (Issued i t) legal ih =
     let all = obeys setup es _ legal in
     let w : Entered = record { release = release_of es i; due = due_of setup es i; bios = request_of es i } in
-    let waits : waits_at setup es i ≡ Some w = waits_for setup es i (all Unknown) (all AlreadyIssued) in
+    let waits : waits_at setup es i ≡ Some w = waits_for setup es i (all Unknown) (all_back es i (all AlreadyIssued)) in
     let reads = open-issued setup es i t legal w waits Read in
     let writes = open-issued setup es i t legal w waits Write in
     omega (arith, ih, more_of is_end es (Issued i t), more_of is_issue es (Issued i t), reads, writes, one_dir (dir_of (request_of es i)))

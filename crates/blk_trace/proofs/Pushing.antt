@@ -25,7 +25,7 @@ empty_legal setup = record {
   join_released = λ k id n h. absurd (cc);
   join_unissued = λ j k id tag n h l. absurd (cc);
   issue_released = λ k id tag h. absurd (cc);
-  issued_once = λ j k id t u h l. absurd (cc);
+  issued_again = λ j k id t u h l less. absurd (cc);
   tag_range = λ k id tag h. absurd (cc);
   tag_once = λ j k i l tag h m s. absurd (cc);
   done_open = λ k tag h. absurd (cc);
@@ -86,15 +86,15 @@ push_legal setup es e old all =
             | inl a ↦ rw (before es (e ∷ []) k _ a) (old.issue_released k id tag a)
             | inr a ↦ rw (before_last es e k a.0) (told _ Unknown a.1)
           ];
-      issued_once = λ j k id t u h l.
+      issued_again = λ j k id t u h l less.
           elim (split es e j _ h) [
             | inl a ↦ elim (split es e k _ l) [
-              | inl b ↦ old.issued_once j k id t u a b
-              | inr b ↦ absurd (told _ AlreadyIssued b.1 (j, (t, a)))
+              | inl b ↦ rw (before es (e ∷ []) k _ b) (old.issued_again j k id t u a b less)
+              | inr b ↦ rw (before_last es e k b.0) (told _ AlreadyIssued b.1 j t a)
             ]
             | inr a ↦ elim (split es e k _ l) [
-              | inl b ↦ absurd (told _ AlreadyIssued a.1 (k, (u, b)))
-              | inr b ↦ a.0 ∙ sym b.0
+              | inl b ↦ absurd (omega (arith, a.0, slice_get_within es k _ b))
+              | inr b ↦ absurd (omega (arith, a.0, b.0))
             ]
           ];
       tag_range = λ k id tag h.
@@ -159,7 +159,7 @@ shorter_legal setup es e new =
       join_released = λ k id n h. rw (before es (e ∷ []) k _ h) at (new.join_released k id n (up k _ h));
       join_unissued = λ j k id tag n h l. new.join_unissued j k id tag n (up j _ h) (up k _ l);
       issue_released = λ k id tag h. rw (before es (e ∷ []) k _ h) at (new.issue_released k id tag (up k _ h));
-      issued_once = λ j k id t u h l. new.issued_once j k id t u (up j _ h) (up k _ l);
+      issued_again = λ j k id t u h l less. rw (before es (e ∷ []) k _ l) at (new.issued_again j k id t u (up j _ h) (up k _ l) less);
       tag_range = λ k id tag h. new.tag_range k id tag (up k _ h);
       tag_once = λ j k i l tag h m same. new.tag_once j k i l tag (up j _ h) (up k _ m) (ap round_of (before es (e ∷ []) j _ h) ∙ same ∙ ap round_of (sym (before es (e ∷ []) k _ m)));
       done_open = λ k tag h. rw (before es (e ∷ []) k _ h.1) at (new.done_open k tag (keep_end es (e ∷ []) k tag h));
@@ -179,7 +179,7 @@ obeys setup es (Issued id tag) new Unknown = rw (before_last es (Issued id tag) 
 obeys setup es (Joined id n) new AlreadyIssued =
     λ p. absurd (omega (arith, new.join_unissued (length es) p.0 id p.1.0 n (last es _) (keep es _ p.0 _ p.1.1), slice_get_within es p.0 _ p.1.1))
 obeys setup es (Issued id tag) new AlreadyIssued =
-    λ p. absurd (omega (arith, new.issued_once p.0 (length es) id p.1.0 tag (keep es _ p.0 _ p.1.1) (last es _), slice_get_within es p.0 _ p.1.1))
+    λ k t at. rw (before_last es (Issued id tag) (length es) refl) at (new.issued_again k (length es) id t tag (keep es _ k _ at) (last es _) (slice_get_within es k _ at))
 obeys setup es (Released id q) new BioTwice = rw (entered_more es (Released id q)) at new.bios_once
 obeys setup es (Joined id n) new BioTwice = rw (entered_more es (Joined id n)) at new.bios_once
 obeys setup es (Released id q) new Fit = new.release_within (length es) id q (last es _)

@@ -1,22 +1,25 @@
 -- The commands of a legal trace, in the rounds of their Issues, are a legal schedule.
-use Rattle.std.proofs.Common.{◌≡◌, ◌<◌, ◌≤◌, ◌+◌, ◌++◌, ◌==◌, ℕ, zero, suc, List, [], ◌∷◌, length, get_or, refl, ◌∙◌, ap, subst, arith, inl, inr, Some, None, true, false, ne_eqb, eq-eqb, ltb}
+use Rattle.std.proofs.Common.{◌≡◌, ◌<◌, ◌≤◌, ◌+◌, ◌++◌, ◌==◌, ℕ, zero, suc, List, [], ◌∷◌, length, map, get_or, refl, sym, ◌∙◌, ap, subst, arith, inl, inr, Some, None, true, false, ne_eqb, eq-eqb, ltb}
 use Rattle.std.specs.Prelude.{Option, count_by}
 use Rattle.std.proofs.lemmas.List.{get_or_append_left, get_or_push, length_push}
 use Rattle.std.proofs.lemmas.Bool.{cases_lt, cases_eq, lt-ltb, le-ltb}
 use Rattle.edd_check.specs.declared.Command.{Command}
 use Rattle.edd_check.specs.Schedule.{StartsReleased, places_at}
 use Rattle.edd_check.proofs.InForce.{depth_fixed}
-use Rattle.blk_trace.specs.declared.rule.TraceRule.TheVariants.{Unknown, AlreadyIssued}
-use Rattle.blk_trace.specs.Happened.{Happened, Ticked, Issued}
+use Rattle.blk_trace.specs.declared.rule.TraceRule.TheVariants.{Unknown, AlreadyIssued, NotIssued}
+use Rattle.blk_trace.specs.Happened.{Happened, Ticked, Issued, Returned}
 use Rattle.blk_trace.specs.Setups.{Setup}
 use Rattle.blk_trace.specs.Legal.{IsLegalTrace}
 use Rattle.blk_trace.specs.Rules.{IsUnbroken}
-use Rattle.blk_trace.specs.Events.{is_tick, round_of, request_of}
-use Rattle.blk_trace.specs.Meaning.{timed, issued_ids, release_of, due_of, commands_of, rounds_of}
+use Rattle.blk_trace.specs.Events.{is_tick, round_of, request_of, IsOpen}
+use Rattle.blk_trace.specs.Meaning.{served, issued_ids, release_of, due_of, command_of, commands_of, rounds_of}
 use Rattle.blk_trace.specs.Standing.{Entered, waits_at, this_round}
 use Rattle.blk_trace.specs.Laws.{IsScheduled}
 use Rattle.blk_trace.proofs.More.{round_more}
-use Rattle.blk_trace.proofs.Ids.{by_legal}
+use Rattle.blk_trace.proofs.Pushing.{shorter_legal, obeys}
+use Rattle.blk_trace.proofs.Ids.{by_legal, all_back}
+use Rattle.blk_trace.proofs.Returning.{IsReturned, returned, open_by}
+use Rattle.blk_trace.proofs.Returns.{commands_were, commands_are, map_length}
 use Rattle.blk_trace.proofs.Entering.{release_within}
 use Rattle.blk_trace.proofs.Waiting.{waits_for}
 use Rattle.blk_trace.proofs.Commands.{commands_kept, commands-issued, rounds_kept, rounds-issued}
@@ -48,16 +51,39 @@ starts_push cs rs c r old h =
           ];
     }
 
+-- a first command that isn't early, before others that are not
+starts_first : (b : Command) (cs ds : List Command) (q : ℕ) (rs ss : List ℕ) → b.release ≤ q → StartsReleased (cs ++ ds) (rs ++ ss) → StartsReleased (b ∷ cs ++ ds) (q ∷ rs ++ ss)
+starts_first b cs ds q rs ss h rest zero d l = h
+starts_first b cs ds q rs ss h rest (suc k) d l = rest k d (omega arith)
+
+-- without a command and its round
+starts_out : (cs ds : List Command) (c : Command) (rs ss : List ℕ) (r : ℕ) → length rs ≡ length cs → StartsWell (cs ++ c ∷ ds) (rs ++ r ∷ ss) → StartsWell (cs ++ ds) (rs ++ ss)
+starts_out [] ds c [] ss r even old = record {
+  one_each = omega (arith, old.one_each);
+  released = λ k d l. old.released (suc k) d (omega arith);
+}
+starts_out [] ds c (q ∷ rs) ss r even old = absurd (omega arith)
+starts_out (b ∷ cs) ds c [] ss r even old = absurd (omega arith)
+starts_out (b ∷ cs) ds c (q ∷ rs) ss r even old =
+    let rest : StartsWell (cs ++ ds) (rs ++ ss) = starts_out cs ds c rs ss r (omega arith) (record { one_each = omega (arith, old.one_each); released = λ k d l. old.released (suc k) d (omega arith) }) in
+    record { one_each = omega (arith, rest.one_each); released = starts_first b cs ds q rs ss (old.released 0 b (omega arith)) rest.released }
+
 starts_step : (setup : Setup) (es : List Happened) (e : Happened) → IsLegalTrace setup (es ++ e ∷ []) → IsUnbroken setup es e → StartsWell (commands_of setup es) (rounds_of es) → StartsWell (commands_of setup (es ++ e ∷ [])) (rounds_of (es ++ e ∷ []))
 starts_step setup es (Issued i t) new all ih =
     let w : Entered = record { release = release_of es i; due = due_of setup es i; bios = request_of es i } in
-    let waits : waits_at setup es i ≡ Some w = waits_for setup es i (all Unknown) (all AlreadyIssued) in
+    let waits : waits_at setup es i ≡ Some w = waits_for setup es i (all Unknown) (all_back es i (all AlreadyIssued)) in
     let c : Command = record { id = i; release = w.release; due = w.due } in
     rw (commands-issued setup es i t new w waits, rounds-issued es i t) (starts_push (commands_of setup es) (rounds_of es) c (round_of es) ih (release_within es i))
-starts_step setup es e new all ih = rw (commands_kept setup es e new refl, rounds_kept es e refl) ih
+starts_step setup es (Returned t) new all ih =
+    let old = shorter_legal setup es (Returned t) new in
+    let o : IsOpen es t = all NotIssued in
+    let p : IsReturned es (es ++ Returned t ∷ []) o.id = returned setup es t o.id old (open_by es t o) in
+    rw (commands_are setup es t o.id p, p.rounds_are)
+    (starts_out (map (command_of setup es) p.ids_before) (map (command_of setup es) p.ids_after) (command_of setup es o.id) p.rounds_before p.rounds_after p.round (p.even ∙ sym (map_length (command_of setup es) p.ids_before)) (rw (commands_were setup es (es ++ Returned t ∷ []) o.id p, p.rounds_were) at ih))
+starts_step setup es e new all ih = rw (commands_kept setup es e new refl refl, rounds_kept es e refl refl) ih
 
 starts : (setup : Setup) (es : List Happened) → IsLegalTrace setup es → StartsWell (commands_of setup es) (rounds_of es)
-unfolding commands_of rounds_of issued_ids timed
+unfolding commands_of rounds_of issued_ids served
 starts setup es legal = by_legal setup (λ l. StartsWell (commands_of setup l) (rounds_of l)) (record { one_each = refl; released = λ k d l. absurd (omega arith) }) (λ l e new old all ih. starts_step setup l e new all ih) es legal
 
 -- numbers below a bound, each at most once, are no more than the bound
@@ -132,7 +158,7 @@ few_tags setup es legal =
 
 -- how many commands a round has
 record FillsWell (setup : Setup) (es : List Happened) : Type 0 where
-  now : places_at (rounds_of es) (round_of es) ≡ length (tags es)
+  now : places_at (rounds_of es) (round_of es) ≤ length (tags es)
   later : (x : ℕ) → round_of es < x → places_at (rounds_of es) x ≡ 0
   within : (x : ℕ) → places_at (rounds_of es) x ≤ setup.depth
 
@@ -157,7 +183,7 @@ fills_issued setup es i t new old =
     let round : round_of fs ≡ round_of es = round_kept es (Issued i t) refl in
     let long : length (tags fs) ≡ length (tags es) + 1 = ap length (tags_more es (Issued i t) refl) ∙ length_push (tags es) t in
     let one : one_if (round_of es == round_of es) ≡ 1 = ap one_if (eq-eqb (round_of es) (round_of es) refl) in
-    let full : places_at (rounds_of fs) (round_of es) ≡ length (tags fs) = omega (arith, rounds (round_of es), old.now) in
+    let full : places_at (rounds_of fs) (round_of es) ≤ length (tags fs) = omega (arith, rounds (round_of es), old.now) in
     record {
       now = rw round full;
       later = λ x l.
@@ -171,21 +197,43 @@ fills_issued setup es i t new old =
       ];
     }
 
+-- without a round
+fewer_places : (rs ss : List ℕ) (r x : ℕ) → places_at (rs ++ ss) x ≤ places_at (rs ++ r ∷ ss) x
+unfolding places_at
+fewer_places [] ss r x = omega (arith, count-cons (λ y. y == x) r ss)
+fewer_places (q ∷ rs) ss r x = omega (arith, count-cons (λ y. y == x) q (rs ++ ss), count-cons (λ y. y == x) q (rs ++ r ∷ ss), fewer_places rs ss r x)
+
+fills_returned : (setup : Setup) (es : List Happened) (t : ℕ) → IsLegalTrace setup (es ++ Returned t ∷ []) → FillsWell setup es → FillsWell setup (es ++ Returned t ∷ [])
+fills_returned setup es t new old =
+    let fs : List Happened = es ++ Returned t ∷ [] in
+    let legal = shorter_legal setup es (Returned t) new in
+    let o : IsOpen es t = obeys setup es (Returned t) new NotIssued in
+    let p : IsReturned es fs o.id = returned setup es t o.id legal (open_by es t o) in
+    let fewer : (x : ℕ) → places_at (rounds_of fs) x ≤ places_at (rounds_of es) x = λ x. rw (p.rounds_are, p.rounds_were) (fewer_places p.rounds_before p.rounds_after p.round x) in
+    let round : round_of fs ≡ round_of es = round_kept es (Returned t) refl in
+    let same : tags fs ≡ tags es = tags_kept es (Returned t) refl refl in
+    record {
+      now = rw (round, same) (omega (arith, old.now, fewer (round_of es)));
+      later = λ x l. omega (arith, fewer x, old.later x (omega arith));
+      within = λ x. omega (arith, fewer x, old.within x);
+    }
+
 fills_step : (setup : Setup) (es : List Happened) (e : Happened) → IsLegalTrace setup (es ++ e ∷ []) → FillsWell setup es → FillsWell setup (es ++ e ∷ [])
 fills_step setup es Ticked new old =
     let up : round_of (es ++ Ticked ∷ []) ≡ round_of es + 1 = round_more es Ticked in
     let no_tags : length (tags (es ++ Ticked ∷ [])) ≡ 0 = ap length (tags_tick es) in
     record {
-      now = rw (rounds_kept es Ticked refl, up, no_tags) (old.later (round_of es + 1) (omega arith));
-      later = λ x l. rw (rounds_kept es Ticked refl) (old.later x (omega arith));
-      within = λ x. rw (rounds_kept es Ticked refl) (old.within x);
+      now = rw (rounds_kept es Ticked refl refl, up, no_tags) (omega (arith, old.later (round_of es + 1) (omega arith)));
+      later = λ x l. rw (rounds_kept es Ticked refl refl) (old.later x (omega arith));
+      within = λ x. rw (rounds_kept es Ticked refl refl) (old.within x);
     }
 fills_step setup es (Issued i t) new old = fills_issued setup es i t new old
-fills_step setup es e new old = fills_kept setup es _ (rounds_kept es e refl) (round_kept es e refl) (tags_kept es e refl refl) old
+fills_step setup es (Returned t) new old = fills_returned setup es t new old
+fills_step setup es e new old = fills_kept setup es _ (rounds_kept es e refl refl) (round_kept es e refl) (tags_kept es e refl refl) old
 
 fills : (setup : Setup) (es : List Happened) → IsLegalTrace setup es → FillsWell setup es
-unfolding rounds_of timed places_at round_of tags this_round
-fills setup es legal = by_legal setup (FillsWell setup) (record { now = refl; later = λ x l. refl; within = λ x. omega arith }) (λ l e new old all ih. fills_step setup l e new ih) es legal
+unfolding rounds_of served places_at round_of tags this_round
+fills setup es legal = by_legal setup (FillsWell setup) (record { now = omega arith; later = λ x l. refl; within = λ x. omega arith }) (λ l e new old all ih. fills_step setup l e new ih) es legal
 
 pub legal-schedule : (setup : Setup) (events : List Happened) → IsLegalTrace setup events → IsScheduled setup events
 legal-schedule setup events legal =

@@ -1,7 +1,8 @@
 -- How a tag stands with one more event.
-use Rattle.std.proofs.Common.{◌≡◌, ◌≢◌, ◌<◌, ◌≤◌, ◌+◌, ◌++◌, ℕ, zero, suc, List, [], ◌∷◌, length, take, refl, sym, ◌∙◌, ap, subst, arith, inl, inr, Some, None, cond, false, set}
+use Rattle.std.proofs.Common.{◌≡◌, ◌≢◌, ◌<◌, ◌≤◌, ◌+◌, ◌++◌, ℕ, zero, suc, List, [], ◌∷◌, length, take, refl, sym, ◌∙◌, ap, subst, arith, inl, inr, Some, None, cond, true, false, set}
 use Rattle.std.specs.Prelude.{slice_get, ◌⊎◌, replicate}
 use Rattle.std.proofs.lemmas.List.Sums.{sum_by-cons}
+use Rattle.std.proofs.lemmas.Option.{slice_get_within}
 use Rattle.blk_trace.specs.declared.tags.TagUse.{TagUse}
 use Rattle.blk_trace.specs.declared.tags.TagUse.TheVariants.{Free, Open, Ended}
 use Rattle.blk_trace.specs.Happened.{Happened, Ticked, Issued}
@@ -9,10 +10,12 @@ use Rattle.blk_trace.specs.Kinds.{issues, ends}
 use Rattle.blk_trace.specs.Setups.{Setup}
 use Rattle.blk_trace.specs.Events.{is_tick, round_of, IsOpen, IsUsed}
 use Rattle.blk_trace.specs.Legal.{IsLegalTrace}
-use Rattle.blk_trace.specs.Inside.Kept.{IsTagUse}
+use Rattle.blk_trace.specs.Inside.Kept.{IsOpenBy, IsTagUse, is_open_use}
+use Rattle.std.specs.List.{list_any}
+use Rattle.std.proofs.lemmas.Bool.{or_cases, or_left, or_right}
 use Rattle.blk_trace.proofs.Places.{split, keep, last, before, before_last}
-use Rattle.blk_trace.proofs.Words.{OnlyEnds, only_ends, issues_not, ends_not}
-use Rattle.blk_trace.proofs.Seats.{was_open, closed, still_open, now_open}
+use Rattle.blk_trace.proofs.Words.{OnlyEnds, only_ends, issues_not, ends_not, split_end}
+use Rattle.blk_trace.proofs.Seats.{was_open, closed}
 use Rattle.blk_trace.proofs.More.{round_more}
 
 -- the event neither ends the round nor issues or ends the tag
@@ -67,9 +70,27 @@ used_here es id tag = record {
   now = ap round_of (before_last es (Issued id tag) (length es) refl) ∙ sym (same_round es (Issued id tag) refl);
 }
 
+-- the Issue of an open tag
+still_by : (es : List Happened) (e : Happened) (t id : ℕ) → (ends e ≡ Some t → ⊥) → IsOpenBy es t id → IsOpenBy (es ++ e ∷ []) t id
+still_by es e t id other o = record {
+  place = o.place;
+  issued = keep es (e ∷ []) o.place _ o.issued;
+  not_done = λ j h d. elim (split_end es e j t d) [ inl p ↦ o.not_done j h p | inr p ↦ other p.1 ];
+}
+
+now_by : (es : List Happened) (id t : ℕ) → IsOpenBy (es ++ Issued id t ∷ []) t id
+now_by es id t = record {
+  place = length es;
+  issued = last es (Issued id t);
+  not_done = λ j h d. elim (split_end es (Issued id t) j t d) [ inl p ↦ omega (arith, slice_get_within es j _ p.1) | inr p ↦ absurd (let q = p.1 in cc) ];
+}
+
+pub by_open : (es : List Happened) (t id : ℕ) → IsOpenBy es t id → IsOpen es t
+by_open es t id o = record { place = o.place; id = id; issued = o.issued; not_done = o.not_done }
+
 use_keep : (es : List Happened) (e : Happened) (tag : ℕ) (u : TagUse) → LeavesTag e tag → IsTagUse es tag u → IsTagUse (es ++ e ∷ []) tag u
 use_keep es e tag Free l h = (λ x. h.0 (used_back es e tag l.no_tick l.no_issue x), λ x. h.1 (was_open es e tag l.no_issue x))
-use_keep es e tag Open l h = (used_keep es e tag l.no_tick h.0, still_open es e tag l.no_end h.1)
+use_keep es e tag (Open id) l h = (used_keep es e tag l.no_tick h.0, still_by es e tag id l.no_end h.1)
 use_keep es e tag Ended l h = (used_keep es e tag l.no_tick h.0, λ x. h.1 (was_open es e tag l.no_issue x))
 
 -- what the kept tags say
@@ -99,10 +120,10 @@ written (z ∷ xs) (suc k) x (suc j) y h = elim (written xs k x j y h) [ inl p �
 issue_tag : (i id tag t : ℕ) → Issued i tag ≡ Issued id t → tag ≡ t
 issue_tag i id tag t h = cc
 
-pub tags_issued : (es : List Happened) (tags : List TagUse) (id tag : ℕ) → TagsAre es tags → TagsAre (es ++ Issued id tag ∷ []) (set tags tag Open)
+pub tags_issued : (es : List Happened) (tags : List TagUse) (id tag : ℕ) → TagsAre es tags → TagsAre (es ++ Issued id tag ∷ []) (set tags tag (Open id))
 tags_issued es tags id tag h t u x =
-    elim (written tags tag Open t u x) [
-      | inl p ↦ subst (λ v. IsTagUse (es ++ Issued id tag ∷ []) t v) p.1 (subst (λ n. IsTagUse (es ++ Issued id tag ∷ []) n Open) (sym p.0) (used_here es id tag, now_open es id tag tag refl))
+    elim (written tags tag (Open id) t u x) [
+      | inl p ↦ subst (λ v. IsTagUse (es ++ Issued id tag ∷ []) t v) p.1 (subst (λ n. IsTagUse (es ++ Issued id tag ∷ []) n (Open id)) (sym p.0) (used_here es id tag, now_by es id tag))
       | inr p ↦ use_keep es (Issued id tag) t u record { no_tick = refl; no_issue = λ i y. p.0 (sym (issue_tag id i tag t y)); no_end = λ y. absurd (cc) } (h t u p.1)
     ]
 
@@ -119,26 +140,43 @@ at_place [] k h = absurd (omega arith)
 at_place (x ∷ xs) zero h = (x, refl)
 at_place (x ∷ xs) (suc k) h = at_place xs k (omega arith)
 
-is_open : (es : List Happened) (tag : ℕ) (u : TagUse) → IsTagUse es tag u → IsOpen es tag → u ≡ Open
+is_open : (es : List Happened) (tag : ℕ) (u : TagUse) → IsTagUse es tag u → IsOpen es tag → (id : ℕ) × (u ≡ Open id)
 is_open es tag Free h o = absurd (h.1 o)
-is_open es tag Open h o = refl
+is_open es tag (Open id) h o = (id, refl)
 is_open es tag Ended h o = absurd (h.1 o)
 
 -- an open tag is kept as open
-pub open_found : (setup : Setup) (es : List Happened) (tags : List TagUse) → IsLegalTrace setup es → length tags ≡ setup.depth → TagsAre es tags → (tag : ℕ) → IsOpen es tag → slice_get tags tag ≡ Some Open
+pub open_found : (setup : Setup) (es : List Happened) (tags : List TagUse) → IsLegalTrace setup es → length tags ≡ setup.depth → TagsAre es tags → (tag : ℕ) → IsOpen es tag → (id : ℕ) × (slice_get tags tag ≡ Some (Open id))
 open_found setup es tags legal each h tag o =
     let below : tag < setup.depth = legal.tag_range o.place o.id tag o.issued in
     let p = at_place tags tag (omega (arith, below, each)) in
-    p.1 ∙ ap Some (is_open es tag p.0 (h tag p.0 p.1) o)
+    let q = is_open es tag p.0 (h tag p.0 p.1) o in
+    (q.0, p.1 ∙ ap Some q.1)
 
 -- a tag in use
 pub used_unless_free : (es : List Happened) (tag : ℕ) (u : TagUse) → IsTagUse es tag u → (u ≡ Free → ⊥) → IsUsed es tag
 used_unless_free es tag Free h other = absurd (other refl)
-used_unless_free es tag Open h other = h.0
+used_unless_free es tag (Open id) h other = h.0
 used_unless_free es tag Ended h other = h.0
-
-pub not_open : (es : List Happened) (tag : ℕ) (u : TagUse) → IsTagUse es tag u → (u ≡ Open → ⊥) → IsOpen es tag → ⊥
-not_open es tag u h other o = other (is_open es tag u h o)
 
 pub tags_empty : (n : ℕ) → TagsAre [] (replicate n Free)
 tags_empty n tag u h = subst (IsTagUse [] tag) (replicate_at n Free tag u h) (λ x. absurd (let p = x.issued in cc), λ x. absurd (let p = x.issued in cc))
+
+-- whether a tag is kept as open
+open_use : (u : TagUse) → is_open_use u ≡ true → (id : ℕ) × (u ≡ Open id)
+open_use Free h = absurd (cc)
+open_use (Open id) h = (id, refl)
+open_use Ended h = absurd (cc)
+
+pub any_found : (tags : List TagUse) → list_any is_open_use tags ≡ true → (tag id : ℕ) × (slice_get tags tag ≡ Some (Open id))
+any_found [] h = absurd (cc)
+any_found (u ∷ tags) h =
+    elim (or_cases (is_open_use u) (list_any is_open_use tags) h) [
+      | inl b ↦ let p = open_use u b in (0, p.0, ap Some p.1)
+      | inr b ↦ let p = any_found tags b in (suc p.0, p.1, p.2)
+    ]
+
+pub found_any : (tags : List TagUse) (tag id : ℕ) → slice_get tags tag ≡ Some (Open id) → list_any is_open_use tags ≡ true
+found_any [] tag id h = absurd (cc)
+found_any (u ∷ tags) zero id h = let same : u ≡ Open id = cc in or_left (is_open_use u) _ (ap is_open_use same)
+found_any (u ∷ tags) (suc tag) id h = or_right (is_open_use u) _ (found_any tags tag id h)

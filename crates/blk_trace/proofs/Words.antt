@@ -3,8 +3,8 @@ use Rattle.std.proofs.Common.{◌≡◌, ◌++◌, ◌==◌, ℕ, List, [], ◌�
 use Rattle.std.specs.Prelude.{◌⊎◌, IfSome}
 use Rattle.std.specs.Option.{option_map_or, option_and_then}
 use Rattle.blk_bio.specs.Bios.{Bio}
-use Rattle.blk_trace.specs.Happened.{Happened, Released, Issued, Finished}
-use Rattle.blk_trace.specs.Kinds.{releases, joins, issues, ends, is_tick}
+use Rattle.blk_trace.specs.Happened.{Happened, Released, Issued, Finished, Returned}
+use Rattle.blk_trace.specs.Kinds.{releases, joins, issues, ends, hands_back, is_tick}
 use Rattle.blk_trace.specs.Events.{EndsAt}
 use Rattle.blk_trace.specs.Standing.{issued_by, is_done_of, issue_tag}
 use Rattle.blk_trace.proofs.Places.{split, keep}
@@ -18,6 +18,7 @@ pub record OnlyEnds (e : Happened) : Type 0 where
 
 pub only_ends : (e : Happened) (tag : ℕ) → ends e ≡ Some tag → OnlyEnds e
 only_ends (Finished t) tag h = record { no_tick = refl; no_release = refl; no_join = refl; no_issue = refl }
+only_ends (Returned t) tag h = record { no_tick = refl; no_release = refl; no_join = refl; no_issue = refl }
 only_ends e tag h = absurd (cc)
 
 -- only a Release releases, and only an Issue issues
@@ -28,6 +29,19 @@ release_of_id e id h = absurd (cc)
 pub issue_of_id : (e : Happened) (id : ℕ) → option_map (λ p. p.0) (issues e) ≡ Some id → (tag : ℕ) × (e ≡ Issued id tag)
 issue_of_id (Issued i tag) id h = (tag, let same : i ≡ id = cc in ap (λ n. Issued n tag) same)
 issue_of_id e id h = absurd (cc)
+
+pub issue_is : (e : Happened) (p : ℕ × ℕ) → issues e ≡ Some p → e ≡ Issued p.0 p.1
+issue_is (Issued i tag) p h = let same : ◌≡◌ {A = ℕ × ℕ} (i, tag) p = cc in ap (λ (x : ℕ × ℕ). Issued x.0 x.1) same
+issue_is e p h = absurd (cc)
+
+-- what ends no Issue hands nothing back
+pub no_back : (e : Happened) → ends e ≡ None → hands_back e ≡ None
+no_back (Returned t) h = absurd (cc)
+no_back e h = refl
+
+pub back_ends : (e : Happened) (tag : ℕ) → hands_back e ≡ Some tag → ends e ≡ Some tag
+back_ends (Returned t) tag h = h
+back_ends e tag h = absurd (cc)
 
 -- what an event that issues or ends nothing does to a tag
 pub issued_by_none : (t : ℕ) (e : Happened) → issues e ≡ None → issued_by t e ≡ None

@@ -1,10 +1,10 @@
 -- Lists of events.
-use Rattle.std.specs.Prelude.{ℕ, ◌≡◌, ◌<◌, ◌-◌, ◌==◌, ◌++◌, cond, List, [], ◌∷◌, Some, take, slice_get, count_by, fold}
+use Rattle.std.specs.Prelude.{ℕ, suc, ◌≡◌, ◌<◌, ◌-◌, ◌==◌, ◌++◌, cond, Bool, false, IsTrue, List, [], ◌∷◌, Some, is_some, take, drop, slice_get, count_by, fold}
 use Rattle.std.specs.List.{flat_map, filter_map}
 use Rattle.blk_bio.specs.Bios.{Bio}
 use Rattle.blk_bio.specs.Requests.{first_of, last_of}
 use Rattle.blk_trace.specs.Happened.{Happened, Released, Issued}
-use Rattle.blk_trace.specs.Kinds.{ends, is_issue, is_end, enters_under}
+use Rattle.blk_trace.specs.Kinds.{ends, hands_back, is_done_of, is_issue, is_end, enters_under}
 pub use Rattle.blk_trace.specs.Kinds.{is_tick, bios_of}
 
 -- the event stands at the place
@@ -44,6 +44,19 @@ IsIssued events id = (k : ℕ) × ((tag : ℕ) × At events k (Issued id tag))
 -- at the place the Issue of the tag ends
 abbrev pub EndsAt : List Happened → ℕ → ℕ → Type 0
 EndsAt events k tag = (e : Happened) × At events k e × (ends e ≡ Some tag)
+
+-- whether, of these events, the first that ends the tag's Issue hands its request back
+unfoldable pub goes_back : ℕ → List Happened → Bool
+goes_back tag [] = false
+goes_back tag (e ∷ es) = cond (is_done_of tag e) (is_some (hands_back e)) (goes_back tag es)
+
+-- the request of the tag's Issue at the place was handed back
+abbrev pub IsHandedBack : List Happened → ℕ → ℕ → Type 0
+IsHandedBack events k tag = IsTrue (goes_back tag (drop (suc k) events))
+
+-- whenever the id was issued, it was handed back
+abbrev pub AreHandedBack : List Happened → ℕ → Type 0
+AreHandedBack events id = (k tag : ℕ) → At events k (Issued id tag) → IsHandedBack events k tag
 
 -- the tag has an Issue that no event after it ends
 pub record IsOpen (events : List Happened) (tag : ℕ) : Type 0 where

@@ -2,7 +2,7 @@
 use Rattle.std.specs.Prelude.{ℕ, Bool, true, false, List, [], Option, None, Some, is_some, cond, ◌==◌}
 use Rattle.std.specs.Option.{option_or, option_map_or, option_and_then}
 use Rattle.blk_bio.specs.Bios.{Bio}
-use Rattle.blk_trace.specs.Happened.{Happened, Ticked, Released, Joined, Issued, Finished}
+use Rattle.blk_trace.specs.Happened.{Happened, Ticked, Released, Joined, Issued, Finished, Returned}
 
 -- the id under which a request enters as a new one, with its bios
 abbrev pub releases : Happened → Option (ℕ × List Bio)
@@ -22,7 +22,13 @@ issues _ = None
 -- the tag whose Issue ends
 abbrev pub ends : Happened → Option ℕ
 ends (Finished tag) = Some tag
+ends (Returned tag) = Some tag
 ends _ = None
+
+-- the tag whose request the device hands back
+abbrev pub hands_back : Happened → Option ℕ
+hands_back (Returned tag) = Some tag
+hands_back _ = None
 
 -- whether it is a Tick
 abbrev pub is_tick : Happened → Bool
@@ -40,6 +46,10 @@ is_issue e = is_some (issues e)
 -- whether it ends an Issue
 abbrev pub is_end : Happened → Bool
 is_end e = is_some (ends e)
+
+-- whether it ends the Issue of the tag
+abbrev pub is_done_of : ℕ → Happened → Bool
+is_done_of tag e = option_map_or (λ t. t == tag) (ends e) false
 
 -- the bios that enter
 abbrev pub bios_of : Happened → List Bio

@@ -6,18 +6,18 @@ use Rattle.blk_bio.specs.Requests.{IsWithin, Fits}
 use Rattle.blk_trace.specs.declared.trace.TheConstants.{MAX_EVENTS}
 use Rattle.blk_trace.specs.Happened.{Happened, Ticked, Released, Joined, Issued}
 use Rattle.blk_trace.specs.Setups.{Setup}
-use Rattle.blk_trace.specs.Events.{At, EndsAt, round_at, entered, request_of, IsReleased, IsOpen, open_count, AreOnce}
+use Rattle.blk_trace.specs.Events.{At, EndsAt, IsHandedBack, round_at, entered, request_of, IsReleased, IsOpen, open_count, AreOnce}
 
 -- a list of events is legal: conditions on its places
 pub record IsLegalTrace (setup : Setup) (events : List Happened) : Type 0 where
   -- each id has one Release at most
   pub released_once : (j k id : ℕ) (q r : List Bio) → At events j (Released id q) → At events k (Released id r) → j ≡ k
-  -- each Join stands after its id's Release and before its Issue
+  -- each Join stands after its id's Release and before its Issues
   pub join_released : (k id : ℕ) (n : List Bio) → At events k (Joined id n) → IsReleased (take k events) id
   pub join_unissued : (j k id tag : ℕ) (n : List Bio) → At events j (Joined id n) → At events k (Issued id tag) → j < k
-  -- each Issue names an id that was released and is not issued again, and a tag below the depth
+  -- each Issue names an id that was released, and that was handed back where it was issued before, and a tag below the depth
   pub issue_released : (k id tag : ℕ) → At events k (Issued id tag) → IsReleased (take k events) id
-  pub issued_once : (j k id t u : ℕ) → At events j (Issued id t) → At events k (Issued id u) → j ≡ k
+  pub issued_again : (j k id t u : ℕ) → At events j (Issued id t) → At events k (Issued id u) → j < k → IsHandedBack (take k events) j t
   pub tag_range : (k id tag : ℕ) → At events k (Issued id tag) → tag < setup.depth
   -- no tag has two Issues in one round
   pub tag_once : (j k i l tag : ℕ) → At events j (Issued i tag) → At events k (Issued l tag) → round_at events j ≡ round_at events k → j ≡ k

@@ -1,13 +1,14 @@
 -- What a trace means: its commands, the rounds in which they ran, and the bios that wait.
-use Rattle.std.specs.Prelude.{ℕ, ◌+◌, ◌==◌, not, cond, List, [], ◌∷◌, Option, option_map, min, max, map, fold, filter, nat_le}
-use Rattle.std.specs.List.{flat_map, filter_map, list_any}
+use Rattle.std.specs.Prelude.{ℕ, ◌+◌, ◌==◌, not, cond, List, [], ◌∷◌, Option, Some, None, option_map, min, max, map, fold, filter, nat_le}
+use Rattle.std.specs.Option.{option_and_then}
+use Rattle.std.specs.List.{flat_map, filter_map, cons_option, list_any}
 use Rattle.blk_bio.specs.Bios.{Bio}
 use Rattle.blk_bio.specs.Requests.{dir_of}
 use Rattle.edd_check.specs.declared.Command.{Command}
 use Rattle.blk_trace.specs.Happened.{Happened}
 use Rattle.blk_trace.specs.Kinds.{releases, issues, is_tick, enters_under}
 use Rattle.blk_trace.specs.Setups.{Setup, expire_of}
-use Rattle.blk_trace.specs.Events.{request_of}
+use Rattle.blk_trace.specs.Events.{goes_back, request_of}
 
 -- each event with its round, where the first one's round is given
 unfoldable pub timed : ℕ → List Happened → List (ℕ × Happened)
@@ -43,21 +44,26 @@ due_of setup events id = least (filter_map (entry_due setup id) (timed 0 events)
 abbrev pub command_of : Setup → List Happened → ℕ → Command
 command_of setup events id = record { id = id; release = release_of events id; due = due_of setup events id }
 
--- the ids in the order of their Issues
-unfoldable pub issued_ids : List Happened → List ℕ
-issued_ids events = filter_map (λ e. option_map (λ p. p.0) (issues e)) events
+-- the round and id of an Issue in a given round that is followed by these events, unless they hand its request back
+abbrev pub service : ℕ → Happened → List Happened → Option (ℕ × ℕ)
+service round e later = option_and_then (λ p. cond (goes_back p.1 later) None (Some (round, p.0))) (issues e)
 
--- the commands, in the order of their Issues
+-- the rounds and ids of the Issues that were not handed back, in their order, where the first event's round is given
+unfoldable pub served : ℕ → List Happened → List (ℕ × ℕ)
+served round [] = []
+served round (e ∷ es) = cons_option (service round e es) (served (cond (is_tick e) (round + 1) round) es)
+
+-- the ids in the order of these Issues
+unfoldable pub issued_ids : List Happened → List ℕ
+issued_ids events = map (λ s. s.1) (served 0 events)
+
+-- the commands, in the order of these Issues
 unfoldable pub commands_of : Setup → List Happened → List Command
 commands_of setup events = map (command_of setup events) (issued_ids events)
 
--- the round of an Issue
-abbrev pub issue_round : ℕ × Happened → Option ℕ
-issue_round t = option_map (λ _. t.0) (issues t.1)
-
--- the rounds of the Issues, in their order
+-- the rounds of these Issues, in their order
 unfoldable pub rounds_of : List Happened → List ℕ
-rounds_of events = filter_map issue_round (timed 0 events)
+rounds_of events = map (λ s. s.0) (served 0 events)
 
 -- the ids in the order of their Releases
 unfoldable pub released_ids : List Happened → List ℕ
@@ -73,10 +79,10 @@ unfoldable pub rising : List ℕ → List ℕ
 rising [] = []
 rising (x ∷ xs) = put_rising x (rising xs)
 
--- the released ids without an Issue, rising
+-- the released ids that were not issued, or were handed back, rising
 unfoldable pub waiting_ids : List Happened → List ℕ
 waiting_ids events = rising (filter (λ id. not (list_any (λ i. i == id) (issued_ids events))) (released_ids events))
 
--- the bios of the released requests without an Issue, by rising id and in tile order
+-- the bios of the released requests that were not issued, or were handed back, by rising id and in tile order
 unfoldable pub waiting_of : List Happened → List Bio
 waiting_of events = flat_map (request_of events) (waiting_ids events)

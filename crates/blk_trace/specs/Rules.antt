@@ -10,7 +10,7 @@ use Rattle.blk_trace.specs.Kinds.{releases, joins, issues, ends, is_tick, enters
 use Rattle.blk_trace.specs.declared.rule.TraceRule.{TraceRule}
 use Rattle.blk_trace.specs.declared.rule.TraceRule.TheVariants.{ReleasedTwice, Unknown, AlreadyIssued, BioTwice, Fit, TagRange, TagUsed, NotIssued, InFlight, TooLong}
 use Rattle.blk_trace.specs.Setups.{Setup}
-use Rattle.blk_trace.specs.Events.{entered, request_of, IsReleased, IsIssued, IsOpen, IsUsed, open_count, AreOnce}
+use Rattle.blk_trace.specs.Events.{entered, request_of, IsReleased, IsIssued, AreHandedBack, IsOpen, IsUsed, open_count, AreOnce}
 
 -- the id of a request that has to wait: one that is joined or issued
 abbrev pub asks_for : Happened → Option ℕ
@@ -20,7 +20,10 @@ asks_for e = option_or (option_map (λ p. p.0) (joins e)) (option_map (λ p. p.0
 abbrev pub Obeys : Setup → List Happened → Happened → TraceRule → Type 0
 Obeys setup events e ReleasedTwice = IfSome (releases e) (λ p. IsReleased events p.0 → ⊥)
 Obeys setup events e Unknown = IfSome (asks_for e) (λ id. IsReleased events id)
-Obeys setup events e AlreadyIssued = IfSome (asks_for e) (λ id. IsIssued events id → ⊥)
+Obeys setup events e AlreadyIssued =
+    MatchOption (joins e)
+    (IfSome (issues e) (λ p. AreHandedBack events p.0))
+    (λ p. IsIssued events p.0 → ⊥)
 Obeys setup events e BioTwice = IfSome (enters e) (λ p. AreOnce (entered events ++ p.1))
 Obeys setup events e Fit =
     MatchOption (releases e)

@@ -10,6 +10,7 @@ use Rattle.blk_bio.specs.declared.request.Side.{Side}
 use Rattle.blk_bio.specs.Requests.{dir_of, IsWithin, Fits}
 use Rattle.blk_trace.specs.Happened.{Happened}
 use Rattle.blk_trace.specs.Kinds.{releases, joins, issues, ends, is_tick}
+pub use Rattle.blk_trace.specs.Kinds.{is_done_of}
 use Rattle.blk_trace.specs.Setups.{Setup}
 use Rattle.blk_trace.specs.Events.{request_of, entered, AreOnce, IsReleased}
 use Rattle.blk_trace.specs.Meaning.{release_of, due_of, released_ids, issued_ids, waiting_ids}
@@ -24,12 +25,20 @@ pub record Entered : Type 0 where
 abbrev pub has_id : List ℕ → ℕ → Bool
 has_id ids id = list_any (λ i. i == id) ids
 
--- the request that waits under the id: it was released and has no Issue
+-- the request that waits under the id: it was released, and was not issued or was handed back
 unfoldable pub waits_at : Setup → List Happened → ℕ → Option Entered
 waits_at setup events id =
     cond (has_id (released_ids events) id && not (has_id (issued_ids events) id))
     (Some (record { release = release_of events id; due = due_of setup events id; bios = request_of events id }))
     None
+
+-- whether the id has an Issue, handed back or not
+unfoldable pub was_issued : List Happened → ℕ → Bool
+was_issued events id = list_any (λ e. option_map_or (λ p. p.0 == id) (issues e) false) events
+
+-- the request that may be joined under the id: one that waits and was never issued
+unfoldable pub unissued_at : Setup → List Happened → ℕ → Option Entered
+unissued_at setup events id = cond (was_issued events id) None (waits_at setup events id)
 
 -- how many requests wait
 abbrev pub waiting_count : List Happened → ℕ
@@ -51,10 +60,6 @@ this_round events = after_last_tick [] events
 -- the id that an event issues under the tag, if it does
 abbrev pub issued_by : ℕ → Happened → Option ℕ
 issued_by tag e = option_and_then (λ p. cond (p.1 == tag) (Some p.0) None) (issues e)
-
--- whether it ends the Issue of the tag
-abbrev pub is_done_of : ℕ → Happened → Bool
-is_done_of tag e = option_map_or (λ t. t == tag) (ends e) false
 
 -- a tag of the round: the direction of its command, and whether the command is in flight
 pub record Seat : Type 0 where
@@ -100,10 +105,10 @@ abbrev pub MayRelease : Setup → List Happened → ℕ → List Bio → Type 0
 MayRelease setup events id bios =
     (IsReleased events id → ⊥) × IsWithin setup.limits bios × AreOnce (entered events ++ bios)
 
--- new bios may join the request that waits under the id, where they fit it
+-- new bios may join the request that waits under the id and was never issued, where they fit it
 abbrev pub MayJoin : Setup → List Happened → ℕ → List Bio → Type 0
 MayJoin setup events id bios =
-    (w : Entered) × (side : Side) × (waits_at setup events id ≡ Some w) × Fits setup.limits w.bios bios side × AreOnce (entered events ++ bios)
+    (w : Entered) × (side : Side) × (unissued_at setup events id ≡ Some w) × Fits setup.limits w.bios bios side × AreOnce (entered events ++ bios)
 
 -- a request that waits may be issued under a tag below the depth that is free in the round
 abbrev pub MayIssue : Setup → List Happened → ℕ → ℕ → Type 0

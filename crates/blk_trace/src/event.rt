@@ -17,20 +17,26 @@ pub enum Event<A: Allocator = Global> {
     },
     /// A request joins the one that entered under the id, at its back or front (a merge).
     Join {
-        /// The id of the request that is joined, which waits.
+        /// The id of the request that is joined, which waits and was never issued.
         id: u64,
         /// The bios that join it.
         request: Request<A>,
     },
     /// The request of the id goes to the device under the tag (an issue, named by blk-mq's tag).
     Issue {
-        /// The id of the request, which waits.
+        /// The id of the request, which waits: it was not issued, or was handed back.
         id: u64,
         /// The tag, below the depth, that no request was issued under in this round.
         tag: u16,
     },
     /// The command under the tag has completed, and the tag is free from the next round on.
     Done {
+        /// The tag of a command that is in flight.
+        tag: u16,
+    },
+    /// The device hands the request under the tag back (a requeue): it waits again, was not served, and the tag is free
+    /// from the next round on.
+    Back {
         /// The tag of a command that is in flight.
         tag: u16,
     },

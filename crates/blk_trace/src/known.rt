@@ -35,10 +35,17 @@ pub struct Waiting {
 /// What is kept under an id.
 #[derive(Clone, Copy, Debug, PartialEq, Eq)]
 pub enum Known {
-    /// The request was released and not issued.
+    /// The request was released and never issued.
     Waits(Waiting),
-    /// The request was issued.
+    /// The request was issued, and was not handed back since.
     Gone,
+    /// The request was issued and handed back, so it waits and nothing joins it.
+    Handed {
+        /// The round of its command's release.
+        release: u64,
+        /// The round in which its command is due.
+        due: u64,
+    },
 }
 
 impl Waiting {

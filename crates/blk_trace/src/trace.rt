@@ -27,7 +27,7 @@ mod checking;
 mod reading;
 mod waiting;
 
-/// The most events of a trace, with a Done counted for each open Issue.
+/// The most events of a trace, with an end counted for each open Issue.
 pub const MAX_EVENTS: u64 = 1_000_000;
 
 /// How the maps of a trace hash: by numbers alone, so that a trace needs no source of randomness.
@@ -36,7 +36,7 @@ type Hashing = BuildHasherDefault<FoldHasher>;
 /// What the next push was given room for.
 #[derive(Clone, Copy, Debug, PartialEq, Eq)]
 pub enum Prepared {
-    /// No event but a Done.
+    /// No event but a Done or a Back.
     Nothing,
     /// An Issue, or a Tick.
     AnIssue,
@@ -51,9 +51,9 @@ pub struct Trace<A: Allocator = Global> {
     setup: Setup,
     /// The events, with places for the ends of the open Issues.
     events: Vec<Event<A>, A>,
-    /// The command of each Issue.
+    /// The command of each Issue that was not handed back.
     commands: Vec<Command, A>,
-    /// The round of each Issue.
+    /// The round of each of these Issues.
     rounds: Vec<u64, A>,
     /// What is kept of each request that was released.
     known: HashMap<u64, Known, Hashing, A>,
@@ -113,7 +113,7 @@ impl<A: Allocator + Clone> Trace<A> {
     /// Adds the event, where it breaks no rule and there is memory for it. A refused event comes back, with the first
     /// rule that it breaks, or `Memory` where it breaks none; the trace is then as it was.
     ///
-    /// Adding a Done takes no memory, since its Issue reserved the place; nor does adding what was prepared.
+    /// Adding a Done or a Back takes no memory, since its Issue reserved the place; nor does adding what was prepared.
     #[inline(always)]
     pub fn push(&mut self, event: Event<A>) -> Result<(), (Event<A>, PushFault)>
         ensures answer { IsPushAnswer self.old (happened event) self.new result }
@@ -141,7 +141,7 @@ impl<A: Allocator + Clone> Trace<A> {
         ensures err { OnErr result ((self.new ≡ self.old) × (IsPreparedFor self.old.prepared (happened event.now) → ⊥)) }
     {
         match event {
-            Event::Done { .. } => Ok(()),
+            Event::Done { .. } | Event::Back { .. } => Ok(()),
             Event::Tick | Event::Issue { .. } => self.make_room(Prepared::AnIssue),
             Event::Release { request, .. } | Event::Join { request, .. } => {
                 self.make_room(Prepared::Bios(request.bios().len() as u64))
@@ -181,7 +181,7 @@ impl<A: Allocator + Clone> Trace<A> {
         }
     }
 
-    /// Makes room for an Issue with its Done, or for a Tick.
+    /// Makes room for an Issue with its end, or for a Tick.
     fn make_room_to_issue(&mut self) -> Result<(), AllocError>
         ensures ok { OnOk result (self.new ≡ record { setup = self.old.setup; events = self.old.events; prepared = Prepared.AnIssue }) }
         ensures err { OnErr result (self.new ≡ self.old) }
@@ -244,7 +244,7 @@ impl<A: Allocator + Clone> Trace<A> {
         self.round
     }
 
-    /// How many Issues have no Done yet.
+    /// How many Issues have no Done and no Back yet.
     pub fn unfinished(&self) -> u64
         ensures value { result ≡ open_count self.now.events }
         ensures few { result + length self.now.events ≤ MAX_EVENTS }

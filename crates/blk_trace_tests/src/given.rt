@@ -28,6 +28,8 @@ pub enum Step {
     Issue(u64, u16),
     /// The command under a tag is done.
     Done(u16),
+    /// The request under a tag is handed back.
+    Back(u16),
 }
 
 /// A bio of submitter 0, whose serial number is its first sector.
@@ -75,6 +77,7 @@ pub fn event<'a>(rt: &impl Abort, heap: Heap<'a>, step: Step) -> Event<Heap<'a>>
         },
         Step::Issue(id, tag) => Event::Issue { id, tag },
         Step::Done(tag) => Event::Done { tag },
+        Step::Back(tag) => Event::Back { tag },
     }
 }
 
@@ -90,6 +93,7 @@ pub fn is_event(event: &Event<Heap<'_>>, step: &Step) -> bool {
         }
         (Event::Issue { id, tag }, Step::Issue(i, t)) => *id == *i && *tag == *t,
         (Event::Done { tag }, Step::Done(t)) => *tag == *t,
+        (Event::Back { tag }, Step::Back(t)) => *tag == *t,
         _ => false,
     }
 }

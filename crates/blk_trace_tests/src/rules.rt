@@ -1,12 +1,13 @@
 //! The rules that an event may break.
 
 use crate::given::{
-    Heap, Step, bio, empty, event, has_events, is_event, limits, push, push_all, request, setup,
-    standing,
+    Heap, Step, bio, command, empty, event, has_commands, has_events, has_waiting, is_event,
+    limits, push, push_all, request, setup, standing,
 };
 use blk_bio::bio::Dir;
 use blk_trace::event::Event;
 use blk_trace::rule::{PushFault, TraceRule};
+use blk_trace::setup::Setup;
 use blk_trace::trace::{MAX_EVENTS, Trace};
 use refusing::Refusing;
 use std::process::Abort;
@@ -79,6 +80,63 @@ fn each_rule_refuses(rt: HostRuntime) {
         (Step::Issue(1, 0), TraceRule::TagUsed),
     ];
     break_all(&rt, &heap, &mut trace, &refused);
+}
+
+/// A request that is handed back waits, nothing joins it, and it goes out again under another tag.
+#[test]
+fn handed_back_and_issued_again(rt: HostRuntime) {
+    let heap = Refusing::new(rt.alloc());
+    let (first, second) = (bio(&rt, Dir::Read, 0, 8), bio(&rt, Dir::Read, 100, 8));
+    let made = Setup::new(2, 1, 0, 0, limits(&rt, 256, 128)).expect(&rt, "a setup");
+    let mut trace = empty(&rt, &heap, made);
+    let steps = [
+        Step::Release(0, first),
+        Step::Release(1, second),
+        Step::Issue(0, 0),
+        Step::Back(0),
+    ];
+    push_all(&rt, &heap, &mut trace, &steps);
+    assert_eq!(rt; standing(&trace), (4, 0, 0));
+    assert!(rt; has_waiting(&rt, &heap, &trace, &[first, second]));
+    assert!(rt; has_commands(&rt, &heap, &trace, &[], &[]));
+    let refused = [
+        (
+            Step::Join(0, bio(&rt, Dir::Read, 8, 8)),
+            TraceRule::AlreadyIssued,
+        ),
+        (Step::Issue(0, 0), TraceRule::TagUsed),
+        (Step::Back(0), TraceRule::NotIssued),
+        (Step::Back(1), TraceRule::NotIssued),
+    ];
+    break_all(&rt, &heap, &mut trace, &refused);
+    let more = [
+        Step::Issue(0, 1),
+        Step::Done(1),
+        Step::Tick,
+        Step::Issue(1, 0),
+    ];
+    push_all(&rt, &heap, &mut trace, &more);
+    let commands = [command(0, 0, 0), command(1, 0, 0)];
+    assert!(rt; has_commands(&rt, &heap, &trace, &commands, &[0, 1]));
+    assert!(rt; has_waiting(&rt, &heap, &trace, &[]));
+}
+
+/// The command of a request that is handed back has the round of its last Issue.
+#[test]
+fn handed_back_in_a_round_before(rt: HostRuntime) {
+    let heap = Refusing::new(rt.alloc());
+    let mut trace = empty(&rt, &heap, setup(&rt, 0, 0, limits(&rt, 256, 128)));
+    let steps = [
+        Step::Release(0, bio(&rt, Dir::Read, 0, 8)),
+        Step::Issue(0, 0),
+        Step::Back(0),
+        Step::Tick,
+        Step::Issue(0, 0),
+        Step::Done(0),
+        Step::Tick,
+    ];
+    push_all(&rt, &heap, &mut trace, &steps);
+    assert!(rt; has_commands(&rt, &heap, &trace, &[command(0, 0, 0)], &[1]));
 }
 
 /// A request of two bios that has a sector more than the limits of the trace allow.

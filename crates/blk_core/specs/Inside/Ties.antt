@@ -7,7 +7,7 @@ use Rattle.blk_bio.specs.Bios.{Bio}
 use Rattle.blk_bio.specs.Requests.{dir_of}
 use Rattle.blk_trace.specs.declared.setup.TheConstants.{MAX_QUEUES}
 use Rattle.blk_trace.specs.Setups.{Setup, IsSetup}
-use Rattle.blk_trace.specs.Happened.{Happened, Released}
+use Rattle.blk_trace.specs.Happened.{Happened, Released, Returned}
 use Rattle.blk_trace.specs.Events.{At}
 use Rattle.blk_trace.specs.Legal.{IsLegalTrace}
 use Rattle.blk_trace.specs.Standing.{Seat, seat_at, released_count, same_dir}
@@ -48,6 +48,7 @@ pub record IsTied {A : Type 0} (setup : Setup) (events : List Happened) (m : Mea
   pub next : released ≡ released_count events
   pub few : released ≤ length events
   pub known : (k id : ℕ) (bios : List Bio) → At events k (Released id bios) → id < released
+  pub none_back : (k tag : ℕ) → At events k (Returned tag) → ⊥
   pub fresh : (id : ℕ) → released ≤ id → map.get m.pending id ≡ None
   pub room : length tags ≡ setup.depth
   pub seats : (tag : ℕ) → tag < length tags → seat_of (slice_index_or tags tag Free) ≡ seat_at events tag

@@ -1,5 +1,5 @@
 -- What a trace keeps beside its events, what each part says of them, and the room that was made.
-use Rattle.std.specs.Prelude.{ℕ, ◌≡◌, ◌≤◌, ◌<◌, ◌+◌, ◌==◌, ◌&&◌, Bool, cond, List, length, Option, Some, option_map, slice_get}
+use Rattle.std.specs.Prelude.{ℕ, ◌≡◌, ◌≤◌, ◌<◌, ◌+◌, ◌==◌, ◌&&◌, Bool, true, false, cond, List, length, Option, Some, None, option_map, slice_get}
 use Rattle.std.specs.List.{list_any}
 use Rattle.edd_check.specs.declared.Command.{Command}
 use Rattle.blk_bio.specs.Bios.{Bio}
@@ -7,25 +7,40 @@ use Rattle.blk_bio.specs.declared.bio.BioId.{BioId}
 use Rattle.blk_bio.specs.Requests.{dir_of, first_of, last_of, sectors_of}
 use Rattle.blk_trace.specs.declared.known.Waiting.{Waiting}
 use Rattle.blk_trace.specs.declared.known.Known.{Known}
-use Rattle.blk_trace.specs.declared.known.Known.TheVariants.{Waits, Gone}
+use Rattle.blk_trace.specs.declared.known.Known.TheVariants.{Waits, Gone, Handed}
 use Rattle.blk_trace.specs.declared.tags.TagUse.{TagUse}
 use Rattle.blk_trace.specs.declared.tags.TagUse.TheVariants.{Free, Open, Ended}
 use Rattle.blk_trace.specs.declared.trace.Prepared.{Prepared}
 use Rattle.blk_trace.specs.declared.trace.Prepared.TheVariants.{Nothing, AnIssue, Bios}
-use Rattle.blk_trace.specs.Happened.{Happened}
+use Rattle.blk_trace.specs.Happened.{Happened, Issued}
 use Rattle.blk_trace.specs.Setups.{Setup}
-use Rattle.blk_trace.specs.Events.{round_of, open_count, entered, IsOpen, IsUsed}
+use Rattle.blk_trace.specs.Events.{At, EndsAt, request_of, round_of, open_count, entered, IsOpen, IsUsed}
 use Rattle.blk_trace.specs.Legal.{IsLegalTrace}
-use Rattle.blk_trace.specs.Meaning.{commands_of, rounds_of, issued_ids}
-use Rattle.blk_trace.specs.Standing.{Entered, has_id, waits_at}
+use Rattle.blk_trace.specs.Meaning.{commands_of, rounds_of, released_ids, issued_ids}
+use Rattle.blk_trace.specs.Standing.{Entered, has_id, waits_at, was_issued}
 
 -- what is kept of a request that waits
 abbrev pub summary : Entered → Waiting
 summary w = record { dir = dir_of w.bios; first = first_of w.bios; end = last_of w.bios; sectors = sectors_of w.bios; bios = length w.bios; release = w.release; due = w.due }
 
+-- what is kept of a request that waits, by whether it was issued before
+abbrev pub kept_of : Bool → Entered → Known
+kept_of issued w = cond issued (Handed w.release w.due) (Waits (summary w))
+
 -- what is kept under an id: nothing of one that was not released, no more than that of one that was issued
 unfoldable pub known_of : Setup → List Happened → ℕ → Option Known
-known_of setup events id = cond (has_id (issued_ids events) id) (Some Gone) (option_map (λ w. Waits (summary w)) (waits_at setup events id))
+known_of setup events id = cond (has_id (issued_ids events) id) (Some Gone) (option_map (kept_of (was_issued events id)) (waits_at setup events id))
+
+-- whether a request was issued, and not handed back since
+abbrev pub is_gone : Option Known → Bool
+is_gone (Some Gone) = true
+is_gone _ = false
+
+-- the rounds of the release and due of a request that may be issued
+abbrev pub rounds_in : Known → Option (ℕ × ℕ)
+rounds_in (Waits w) = Some (w.release, w.due)
+rounds_in (Handed release due) = Some (release, due)
+rounds_in Gone = None
 
 -- whether two ids of bios are one
 abbrev pub is_bio : BioId → BioId → Bool
@@ -35,11 +50,22 @@ is_bio x y = (x.submitter == y.submitter) && (x.serial == y.serial)
 abbrev pub has_bio_id : List Bio → BioId → Bool
 has_bio_id bios id = list_any (λ b. is_bio b.id id) bios
 
--- how a tag stands: not issued in this round, issued and open, or issued and done
+-- the id has an Issue under the tag that no event after it ends
+pub record IsOpenBy (events : List Happened) (tag id : ℕ) : Type 0 where
+  pub place : ℕ
+  pub issued : At events place (Issued id tag)
+  pub not_done : (j : ℕ) → place < j → EndsAt events j tag → ⊥
+
+-- how a tag stands: not issued in this round, issued and open, or issued and ended
 abbrev pub IsTagUse : List Happened → ℕ → TagUse → Type 0
 IsTagUse events tag Free = (IsUsed events tag → ⊥) × (IsOpen events tag → ⊥)
-IsTagUse events tag Open = IsUsed events tag × IsOpen events tag
+IsTagUse events tag (Open id) = IsUsed events tag × IsOpenBy events tag id
 IsTagUse events tag Ended = IsUsed events tag × (IsOpen events tag → ⊥)
+
+-- whether a tag has an open Issue
+abbrev pub is_open_use : TagUse → Bool
+is_open_use (Open id) = true
+is_open_use _ = false
 
 -- what is kept is what the events say
 pub record IsKept (setup : Setup) (events : List Happened) (commands : List Command) (rounds : List ℕ) (round opened : ℕ) (known : ℕ → Option Known) (ids : BioId → Bool) (tags : List TagUse) : Type 0 where
@@ -49,7 +75,7 @@ pub record IsKept (setup : Setup) (events : List Happened) (commands : List Comm
   pub round_is : round ≡ round_of events
   pub open_is : opened ≡ open_count events
   pub known_are : (id : ℕ) → known id ≡ known_of setup events id
-  pub some_bios : (id : ℕ) (w : Entered) → waits_at setup events id ≡ Some w → 0 < length w.bios
+  pub some_bios : (id : ℕ) → has_id (released_ids events) id ≡ true → 0 < length (request_of events id)
   pub ids_are : (id : BioId) → ids id ≡ has_bio_id (entered events) id
   pub tags_are : (tag : ℕ) (u : TagUse) → slice_get tags tag ≡ Some u → IsTagUse events tag u
   pub each_tag : length tags ≡ setup.depth

@@ -1,17 +1,18 @@
 //! Adding an event that breaks no rule, and for which there is room.
 
-ghost use Rattle.std.specs.Prelude.{ℕ, ◌≡◌, ◌≤◌, ◌<◌, ◌+◌, ◌==◌, Some, cond, nat_eq, vec_capacity, ◌++◌, ◌∷◌, [], length, ◌||◌};
+ghost use Rattle.std.specs.Prelude.{ℕ, ◌≡◌, ◌≤◌, ◌<◌, ◌+◌, ◌==◌, Some, cond, nat_eq, vec_capacity, ◌++◌, ◌∷◌, [], length, slice_get, ◌||◌};
 ghost use Rattle.std.specs.HashMap as hash;
 ghost use Rattle.std.specs.HashSet as hash_set;
-ghost use Rattle.blk_trace.specs.declared.known.Waiting.{Waiting as KeptWaiting};
+ghost use Rattle.edd_check.specs.declared.Command.{Command as Job};
+ghost use Rattle.blk_trace.specs.declared.known.Known.{Known as Kept};
 ghost use Rattle.blk_bio.specs.declared.bio.BioId.{BioId as Name};
-ghost use Rattle.blk_trace.specs.Happened.{Ticked, Released, Joined, Issued, Finished};
+ghost use Rattle.blk_trace.specs.Happened.{Ticked, Released, Joined, Issued, Finished, Returned};
 ghost use Rattle.blk_trace.specs.Legal.{IsLegalTrace};
 ghost use Rattle.blk_trace.specs.Rules.{IsUnbroken};
 ghost use Rattle.blk_trace.specs.Traces.{IsPreparedFor};
 ghost use Rattle.blk_trace.specs.Seen.{happened};
-ghost use Rattle.blk_trace.specs.Events.{IsReleased, IsIssued};
-ghost use Rattle.blk_trace.specs.Inside.Kept.{known_of, is_bio, has_bio_id};
+ghost use Rattle.blk_trace.specs.Events.{IsReleased, IsIssued, IsOpen};
+ghost use Rattle.blk_trace.specs.Inside.Kept.{known_of, is_bio, has_bio_id, rounds_in, IsOpenBy};
 
 use crate::event::Event;
 use crate::known::{Known, Waiting};
@@ -24,8 +25,8 @@ use std::alloc::Allocator;
 use std::collections::{HashMap, HashSet};
 
 impl<A: Allocator + Clone> Trace<A> {
-    /// Adds an event that breaks no rule, and for which there is room: `prepare` made it, or it is a Done, for which its
-    /// Issue did. It looks for no fault and takes no memory.
+    /// Adds an event that breaks no rule, and for which there is room: `prepare` made it, or it is a Done or a Back, for
+    /// which its Issue did. It looks for no fault and takes no memory.
     #[inline(always)]
     pub fn add(&mut self, event: Event<A>)
         requires unbroken { IsUnbroken self.old.setup self.old.events (happened event) }
@@ -40,6 +41,7 @@ impl<A: Allocator + Clone> Trace<A> {
             Event::Join { id, request } => self.add_join(id, request),
             Event::Issue { id, tag } => self.add_issue(id, tag),
             Event::Done { tag } => self.add_done(tag),
+            Event::Back { tag } => self.add_back(tag),
         }
     }
 
@@ -80,6 +82,7 @@ impl<A: Allocator + Clone> Trace<A> {
         match self.known_at(id) {
             Some(Known::Waits(waiting)) => waiting,
             Some(Known::Gone) => unreachable!(),
+            Some(Known::Handed { .. }) => unreachable!(),
             None => unreachable!(),
         }
     }
@@ -108,15 +111,10 @@ impl<A: Allocator + Clone> Trace<A> {
         requires prepared { IsPreparedFor self.old.prepared (Issued id tag) }
         ensures { self.new ≡ record { setup = self.old.setup; events = self.old.events ++ Issued id tag ∷ []; prepared = Prepared.Nothing } }
     {
-        let old = issued(&mut self.known, id);
-        let command = Command {
-            id,
-            release: old.release,
-            due: old.due,
-        };
+        let command = issued(&mut self.known, id);
         append(&mut self.commands, command);
         append(&mut self.rounds, self.round);
-        self.tags[tag as usize] = TagUse::Open;
+        self.tags[tag as usize] = TagUse::Open(id);
         self.open += 1;
         append(&mut self.events, Event::Issue { id, tag });
         self.prepared = Prepared::Nothing;
@@ -132,22 +130,84 @@ impl<A: Allocator + Clone> Trace<A> {
         append(&mut self.events, Event::Done { tag });
         self.prepared = Prepared::Nothing;
     }
+
+    /// The id of the Issue of a tag that is open.
+    fn open_id(&self, tag: u16) -> u64
+        requires { IsOpen self.now.events tag }
+        ensures { IsOpenBy self.now.events tag result }
+    {
+        let _ = &self.round;
+        match self.tag_use(tag) {
+            TagUse::Open(id) => id,
+            TagUse::Free => unreachable!(),
+            TagUse::Ended => unreachable!(),
+        }
+    }
+
+    /// Adds a Back: the tag's Issue is no longer open, its request waits again, and it is no command any more.
+    fn add_back(&mut self, tag: u16)
+        requires unbroken { IsUnbroken self.old.setup self.old.events (Returned tag) }
+        ensures { self.new ≡ record { setup = self.old.setup; events = self.old.events ++ Returned tag ∷ []; prepared = Prepared.Nothing } }
+    {
+        let id = self.open_id(tag);
+        let place = place_of(self.commands.as_slice(), id);
+        let command = self.commands.remove(place);
+        self.rounds.remove(place);
+        handed(&mut self.known, &command);
+        self.tags[tag as usize] = TagUse::Ended;
+        self.open -= 1;
+        append(&mut self.events, Event::Back { tag });
+        self.prepared = Prepared::Nothing;
+    }
 }
 
-/// Marks the request that waits under an id as issued, and hands out what was kept of it.
-fn issued<A: Allocator>(known: &mut HashMap<u64, Known, Hashing, A>, id: u64) -> Waiting
-    requires { (w : KeptWaiting) × (hash.get nat_eq known.old id ≡ Some (Known.Waits w)) }
-    ensures was { hash.get nat_eq known.old id ≡ Some (Known.Waits result) }
+/// Marks the request that waits under an id as issued, and hands out its command.
+fn issued<A: Allocator>(known: &mut HashMap<u64, Known, Hashing, A>, id: u64) -> Command
+    requires { (k : Kept) × ((x : ℕ × ℕ) × (hash.get nat_eq known.old id ≡ Some k) × (rounds_in k ≡ Some x)) }
+    ensures named { result.id ≡ id }
+    ensures was { (k : Kept) × (hash.get nat_eq known.old id ≡ Some k) × (rounds_in k ≡ Some (result.release, result.due)) }
     ensures gone { (i : ℕ) → hash.get nat_eq known.new i ≡ cond (id == i) (Some Known.Gone) (hash.get nat_eq known.old i) }
 {
     let Some(kept) = known.get_mut(&id) else {
         unreachable!()
     };
-    let Known::Waits(waiting) = *kept else {
-        unreachable!()
+    let (release, due) = match *kept {
+        Known::Waits(waiting) => (waiting.release, waiting.due),
+        Known::Handed { release, due } => (release, due),
+        Known::Gone => unreachable!(),
     };
     *kept = Known::Gone;
-    waiting
+    Command { id, release, due }
+}
+
+/// Marks the request of a command, which was issued, as handed back.
+fn handed<A: Allocator>(known: &mut HashMap<u64, Known, Hashing, A>, command: &Command)
+    requires { hash.get nat_eq known.old command.now.id ≡ Some Known.Gone }
+    ensures { (i : ℕ) → hash.get nat_eq known.new i ≡ cond (command.now.id == i) (Some (Known.Handed command.now.release command.now.due)) (hash.get nat_eq known.old i) }
+{
+    let Some(kept) = known.get_mut(&command.id) else {
+        unreachable!()
+    };
+    *kept = Known::Handed {
+        release: command.release,
+        due: command.due,
+    };
+}
+
+/// The place of the command of an id, which is there. It looks from the end on, since what is in flight was issued in
+/// the round that is on.
+fn place_of(commands: &[Command], id: u64) -> usize
+    requires { (k : ℕ) × ((x : Job) × (slice_get commands.now k ≡ Some x) × (x.id ≡ id)) }
+    ensures { (x : Job) × (slice_get commands.now result ≡ Some x) × (x.id ≡ id) }
+{
+    let mut place = commands.len();
+    while place > 0 {
+        place -= 1;
+        if commands[place].id == id {
+            return place;
+        }
+    }
+    unreachable!()
 }
 
 /// Adds a value at the end of a list that has room for it.

@@ -1,10 +1,10 @@
 //! The first rule that an event would break.
 
 ghost use Rattle.std.specs.Prelude.{ℕ, ◌≡◌, ◌<◌, ◌≤◌, ◌+◌, ◌++◌, ◌↔◌, IsTrue, IfSome, IfNone, length};
-ghost use Rattle.blk_trace.specs.Happened.{Ticked, Released, Joined, Issued, Finished};
+ghost use Rattle.blk_trace.specs.Happened.{Ticked, Released, Joined, Issued, Finished, Returned};
 ghost use Rattle.blk_trace.specs.Legal.{IsLegalTrace};
 ghost use Rattle.blk_trace.specs.Rules.{IsFirstBroken, IsUnbroken};
-ghost use Rattle.blk_trace.specs.Events.{entered, open_count, IsOpen, IsUsed, AreOnce};
+ghost use Rattle.blk_trace.specs.Events.{entered, open_count, IsReleased, AreHandedBack, IsOpen, IsUsed, AreOnce};
 ghost use Rattle.blk_trace.specs.Standing.{Entered, waits_at};
 ghost use Rattle.std.specs.List.{list_any};
 ghost use Rattle.std.specs.HashSet as hash_set;
@@ -36,6 +36,7 @@ impl<A: Allocator + Clone> Trace<A> {
             Event::Join { id, request } => self.broken_join(*id, request),
             Event::Issue { id, tag } => self.broken_issue(*id, *tag),
             Event::Done { tag } => self.broken_done(*tag),
+            Event::Back { tag } => self.broken_back(*tag),
         }
     }
 
@@ -79,6 +80,7 @@ impl<A: Allocator + Clone> Trace<A> {
         let waiting = match self.known_at(id) {
             None => return Some(TraceRule::Unknown),
             Some(Known::Gone) => return Some(TraceRule::AlreadyIssued),
+            Some(Known::Handed { .. }) => return Some(TraceRule::AlreadyIssued),
             Some(Known::Waits(waiting)) => waiting,
         };
         if !self.are_new(request) {
@@ -98,10 +100,20 @@ impl<A: Allocator + Clone> Trace<A> {
         ensures none { IfNone result (IsUnbroken self.now.setup self.now.events (Issued id tag)) }
     {
         match self.known_at(id) {
-            None => return Some(TraceRule::Unknown),
-            Some(Known::Gone) => return Some(TraceRule::AlreadyIssued),
-            Some(Known::Waits(_)) => {}
+            None => Some(TraceRule::Unknown),
+            Some(Known::Gone) => Some(TraceRule::AlreadyIssued),
+            Some(Known::Waits(_)) => self.broken_tag(id, tag),
+            Some(Known::Handed { .. }) => self.broken_tag(id, tag),
         }
+    }
+
+    /// The first rule that an Issue under the tag would break, of a request that waits.
+    fn broken_tag(&self, id: u64, tag: u16) -> Option<TraceRule>
+        requires released { IsReleased self.now.events id }
+        requires waits { AreHandedBack self.now.events id }
+        ensures some { IfSome result (IsFirstBroken self.now.setup self.now.events (Issued id tag)) }
+        ensures none { IfNone result (IsUnbroken self.now.setup self.now.events (Issued id tag)) }
+    {
         if tag as u64 >= self.depth() {
             Some(TraceRule::TagRange)
         } else if self.is_used(tag) {
@@ -117,6 +129,20 @@ impl<A: Allocator + Clone> Trace<A> {
     fn broken_done(&self, tag: u16) -> Option<TraceRule>
         ensures some { IfSome result (IsFirstBroken self.now.setup self.now.events (Finished tag)) }
         ensures none { IfNone result (IsUnbroken self.now.setup self.now.events (Finished tag)) }
+    {
+        if tag as u64 >= self.depth() {
+            Some(TraceRule::NotIssued)
+        } else if self.is_open(tag) {
+            None
+        } else {
+            Some(TraceRule::NotIssued)
+        }
+    }
+
+    /// The first rule that a Back of the tag would break: those of a Done.
+    fn broken_back(&self, tag: u16) -> Option<TraceRule>
+        ensures some { IfSome result (IsFirstBroken self.now.setup self.now.events (Returned tag)) }
+        ensures none { IfNone result (IsUnbroken self.now.setup self.now.events (Returned tag)) }
     {
         if tag as u64 >= self.depth() {
             Some(TraceRule::NotIssued)
@@ -146,7 +172,7 @@ impl<A: Allocator + Clone> Trace<A> {
     }
 
     /// How a tag below the depth stands.
-    fn tag_use(&self, tag: u16) -> TagUse
+    pub(crate) fn tag_use(&self, tag: u16) -> TagUse
         requires { tag < self.now.setup.depth }
         ensures { IsTagUse self.now.events tag result }
     {
@@ -160,31 +186,31 @@ impl<A: Allocator + Clone> Trace<A> {
     {
         match self.tag_use(tag) {
             TagUse::Free => false,
-            TagUse::Open => true,
+            TagUse::Open(_) => true,
             TagUse::Ended => true,
         }
     }
 
-    /// Whether a tag below the depth has an Issue without a Done.
+    /// Whether a tag below the depth has an Issue without an end.
     fn is_open(&self, tag: u16) -> bool
         requires { tag < self.now.setup.depth }
         ensures { IsTrue result ↔ IsOpen self.now.events tag }
     {
         match self.tag_use(tag) {
             TagUse::Free => false,
-            TagUse::Open => true,
+            TagUse::Open(_) => true,
             TagUse::Ended => false,
         }
     }
 
-    /// Whether a tag has an Issue without a Done.
+    /// Whether a tag has an Issue without an end.
     fn has_open(&self) -> bool
         ensures { IsTrue result ↔ ((tag : ℕ) × IsOpen self.now.events tag) }
     {
         any_open(self.tags.as_slice())
     }
 
-    /// Whether there are places for so many events more, with a Done counted for each open Issue.
+    /// Whether there are places for so many events more, with an end counted for each open Issue.
     fn has_places(&self, places: u64) -> bool
         requires { places ≤ 2 }
         ensures { IsTrue result ↔ (length self.now.events + open_count self.now.events + places ≤ MAX_EVENTS) }

@@ -1,48 +1,59 @@
 //! The bios that wait, gathered from the events.
 
-ghost use Rattle.std.specs.Prelude.{ℕ, ◌≡◌, ◌==◌, cond, Some, IfOk, OnOk, map, List};
-ghost use Rattle.std.specs.Option.{option_map};
+ghost use Rattle.std.specs.Prelude.{ℕ, ◌≡◌, ◌==◌, cond, false, not, nat_eq, Some, IfOk, OnOk, map, List};
+ghost use Rattle.std.specs.Option.{option_map, option_map_or};
+ghost use Rattle.std.specs.HashMap as hash;
 ghost use Rattle.std.specs.List.{flat_map};
 ghost use Rattle.std.specs.Ordering.{nat_cmp};
 ghost use Rattle.std.specs.BTreeMap.{get, values, IsOrdered};
 ghost use Rattle.blk_trace.specs.Events.{join_up};
 ghost use Rattle.blk_trace.specs.Inside.Gathered.{waiting_bios, with_event, Takes, FitsUnder};
+ghost use Rattle.blk_trace.specs.Inside.Kept.{known_of, is_gone};
+ghost use Rattle.blk_trace.specs.Kinds.{enters};
 ghost use Rattle.blk_trace.specs.Laws.{IsAccounted};
 ghost use Rattle.blk_trace.specs.Legal.{IsLegalTrace};
 ghost use Rattle.blk_trace.specs.Meaning.{waiting_of};
 ghost use Rattle.blk_trace.specs.Seen.{happened};
 
 use crate::event::Event;
+use crate::known::Known;
 use crate::setup::Setup;
-use crate::trace::Trace;
+use crate::trace::{Hashing, Trace};
 use blk_bio::bio::Bio;
 use blk_bio::limits::Limits;
 use blk_bio::request::{JoinFault, Request};
 use std::alloc::{AllocError, Allocator};
-use std::collections::BTreeMap;
+use std::collections::{BTreeMap, HashMap};
 
 impl<A: Allocator + Clone> Trace<A> {
-    /// The bios of the released requests that have no Issue, by rising id of the requests and then in the order of their
-    /// sectors. It walks the events once. Fails for want of memory alone.
+    /// The bios of the released requests that were not issued, or were handed back, by rising id of the requests and then
+    /// in the order of their sectors. It walks the events once. Fails for want of memory alone.
     pub fn waiting(&self) -> Result<Vec<Bio, A>, AllocError>
         ensures waiting { IfOk result (λ v. v.items ≡ waiting_of self.now.events) }
         // with those of the issued requests they are the bios that entered, each once
         ensures accounted { IsAccounted self.now.events }
     {
-        all_waiting(self.events.allocator(), self.setup, self.events.as_slice())
+        all_waiting(
+            self.events.allocator(),
+            self.setup,
+            &self.known,
+            self.events.as_slice(),
+        )
     }
 }
 
-/// The bios that wait after the events.
+/// The bios that wait after the events, of which this is kept.
 fn all_waiting<A: Allocator + Clone>(
     alloc: &A,
     setup: Setup,
+    known: &HashMap<u64, Known, Hashing, A>,
     events: &[Event<A>],
 ) -> Result<Vec<Bio, A>, AllocError>
-    requires { IsLegalTrace setup (map happened events.now) }
+    requires legal { IsLegalTrace setup (map happened events.now) }
+    requires kept { (id : ℕ) → hash.get nat_eq known.now id ≡ known_of setup (map happened events.now) id }
     ensures { IfOk result (λ v. v.items ≡ waiting_of (map happened events.now)) }
 {
-    let requests = gathered(alloc.clone()?, setup, events)?;
+    let requests = gathered(alloc.clone()?, setup, known, events)?;
     in_order(alloc.clone()?, &requests)
 }
 
@@ -50,17 +61,45 @@ fn all_waiting<A: Allocator + Clone>(
 fn gathered<A: Allocator + Clone>(
     alloc: A,
     setup: Setup,
+    known: &HashMap<u64, Known, Hashing, A>,
     events: &[Event<A>],
 ) -> Result<BTreeMap<u64, Request<A>, A>, AllocError>
-    requires { IsLegalTrace setup (map happened events.now) }
+    requires legal { IsLegalTrace setup (map happened events.now) }
+    requires kept { (id : ℕ) → hash.get nat_eq known.now id ≡ known_of setup (map happened events.now) id }
     ensures { IfOk result (λ m. (id : ℕ) → get nat_cmp m id ≡ waiting_bios setup (map happened events.now) id) }
 {
     let limits = setup.limits();
     let mut requests = BTreeMap::new(alloc);
     for event in events {
-        gather(&mut requests, event, &limits)?;
+        if stays(known, event) {
+            gather(&mut requests, event, &limits)?;
+        }
     }
     Ok(requests)
+}
+
+/// Whether bios enter by the event under an id whose request waits in the end.
+fn stays<A: Allocator + Clone>(known: &HashMap<u64, Known, Hashing, A>, event: &Event<A>) -> bool
+    ensures { result ≡ option_map_or (λ p. not (is_gone (hash.get nat_eq known.now p.0))) (enters (happened event.now)) false }
+{
+    match event {
+        Event::Release { id, .. } => !gone(known, *id),
+        Event::Join { id, .. } => !gone(known, *id),
+        Event::Tick => false,
+        Event::Issue { .. } => false,
+        Event::Done { .. } => false,
+        Event::Back { .. } => false,
+    }
+}
+
+/// Whether the request of the id was issued, and not handed back since.
+fn gone<A: Allocator>(known: &HashMap<u64, Known, Hashing, A>, id: u64) -> bool
+    ensures { result ≡ is_gone (hash.get nat_eq known.now id) }
+{
+    match known.get(&id) {
+        None => false,
+        Some(kept) => matches!(*kept, Known::Gone),
+    }
 }
 
 /// Takes account of one more event.
@@ -73,14 +112,12 @@ fn gather<A: Allocator + Clone>(
     ensures { OnOk result ((id : ℕ) → get nat_cmp requests.new id ≡ with_event (get nat_cmp requests.old) (happened event.now) id) }
 {
     match event {
-        Event::Tick => Ok(()),
         Event::Release { id, request } => put(requests, *id, request.copy()?),
         Event::Join { id, request } => join(requests, *id, request.copy()?, limits),
-        Event::Issue { id, .. } => {
-            requests.remove(id);
-            Ok(())
-        }
+        Event::Tick => Ok(()),
+        Event::Issue { .. } => Ok(()),
         Event::Done { .. } => Ok(()),
+        Event::Back { .. } => Ok(()),
     }
 }
 

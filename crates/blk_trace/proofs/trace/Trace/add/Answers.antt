@@ -18,3 +18,6 @@ returns-in-Issue-clause-legal g c = push_legal _ _ _ (subst (λ (v : Traced). Is
 
 pub returns-in-Done-clause-legal : goal.returns-in-Done-clause-legal
 returns-in-Done-clause-legal g c = push_legal _ _ _ (subst (λ (v : Traced). IsLegalTrace v.setup v.events) c.self.view_is c.self.invariant.0.legal) c.requires.unbroken
+
+pub returns-in-Back-clause-legal : goal.returns-in-Back-clause-legal
+returns-in-Back-clause-legal g c = push_legal _ _ _ (subst (λ (v : Traced). IsLegalTrace v.setup v.events) c.self.view_is c.self.invariant.0.legal) c.requires.unbroken

@@ -3,26 +3,23 @@ use Rattle.std.specs.Prelude.{nat_eq}
 use Rattle.std.proofs.lemmas.List.{map-append}
 use Rattle.std.specs.HashMap as hash
 use Rattle.edd_check.specs.declared.Command.{Command}
-use Rattle.blk_trace.specs.declared.known.Waiting.{Waiting}
-use Rattle.blk_trace.specs.declared.known.Known.TheVariants.{Waits}
 use Rattle.blk_trace.specs.declared.event.Event.TheVariants.{Issue}
 use Rattle.blk_trace.specs.declared.rule.TraceRule.TheVariants as rule
 use Rattle.blk_trace.specs.Happened.{Happened, Issued}
 use Rattle.blk_trace.specs.Rules.{IsUnbroken}
 use Rattle.blk_trace.specs.Traces.{Traced, IsPreparedFor}
-use Rattle.blk_trace.specs.Inside.Kept.{known_of}
 use Rattle.blk_trace.specs.Seen.{happened}
-use Rattle.blk_trace.proofs.Knowing.{known_when, known_waits}
-use Rattle.blk_trace.proofs.Keeping.{kept_issue, room_after_issue}
+use Rattle.blk_trace.proofs.Knowing.{known_when, known_rounds}
+use Rattle.blk_trace.proofs.Keeping.{command_is, kept_issue, room_after_issue}
 use Rattle.blk_trace.proofs.trace.Trace.add_issue.Goals as goal
 
-pub issued-old-requires : goal.issued-old-requires
-issued-old-requires g c =
+pub issued-command-requires : goal.issued-command-requires
+issued-command-requires g c =
     let s = c.self.inside in
     let es : List Happened = map happened c.self.inside.events.items in
     let all : IsUnbroken s.setup es (Issued c.args.id c.args.tag) = subst (λ (v : Traced). IsUnbroken v.setup v.events (Issued c.args.id c.args.tag)) (sym c.self.view_is) c.requires.unbroken in
     let p = known_when s.setup es c.args.id (all rule.Unknown) (all rule.AlreadyIssued) in
-    (p.0, c.self.invariant.0.known_are c.args.id ∙ p.1)
+    (p.0, (p.1.0, c.self.invariant.0.known_are c.args.id ∙ p.1.1, p.1.2))
 
 pub index_mut-requires : goal.index_mut-requires
 index_mut-requires g c =
@@ -42,13 +39,15 @@ invariant_of-self g c =
     let room = c.self.invariant.1 in
     let all : IsUnbroken s.setup es (Issued c.args.id c.args.tag) = subst (λ (v : Traced). IsUnbroken v.setup v.events (Issued c.args.id c.args.tag)) (sym c.self.view_is) c.requires.unbroken in
     let ready : IsPreparedFor s.prepared (Issued c.args.id c.args.tag) = subst (λ (v : Traced). IsPreparedFor v.prepared (Issued c.args.id c.args.tag)) (sym c.self.view_is) c.requires.prepared in
-    let e : known_of s.setup es c.args.id ≡ Some (Waits c.issued-old.result) = sym (k.known_are c.args.id) ∙ c.issued-old.ensures.was in
-    let p = known_waits s.setup es c.args.id c.issued-old.result e in
+    let was = c.issued-command.ensures.was in
+    let p = known_rounds s.setup es c.args.id was.0 (c.issued-command.result.release, c.issued-command.result.due) (sym (k.known_are c.args.id) ∙ was.1) was.2 in
     let hz : map happened c.append-3.new.list.items ≡ es ++ (Issued c.args.id c.args.tag) ∷ [] = ap (map happened) c.append-3.ensures.items ∙ map-append happened s.events.items (Issue c.args.id c.args.tag ∷ []) in
     let n : length c.append-3.new.list.items ≡ length s.events.items + 1 = ap length c.append-3.ensures.items ∙ length-append s.events.items (Issue c.args.id c.args.tag ∷ []) in
-    let release : c.issued-old.result.release ≡ p.0.release = ap (λ (x : Waiting). x.release) p.2 in
-    let due : c.issued-old.result.due ≡ p.0.due = ap (λ (x : Waiting). x.due) p.2 in
-    let hd : c.append.new.list.items ≡ s.commands.items ++ (let y : Command = record { id = c.args.id; release = p.0.release; due = p.0.due } in y) ∷ [] = c.append.ensures.items ∙ ap (λ (r : ℕ). s.commands.items ++ (let y : Command = record { id = c.args.id; release = r; due = c.issued-old.result.due } in y) ∷ []) release ∙ ap (λ (u : ℕ). s.commands.items ++ (let y : Command = record { id = c.args.id; release = p.0.release; due = u } in y) ∷ []) due in
+    let release : c.issued-command.result.release ≡ p.0.release = ap (λ (x : ℕ × ℕ). x.0) p.2 in
+    let due : c.issued-command.result.due ≡ p.0.due = ap (λ (x : ℕ × ℕ). x.1) p.2 in
+    let named : c.issued-command.result.id ≡ c.args.id = c.issued-command.ensures.named in
+    let same : c.issued-command.result ≡ record { id = c.args.id; release = p.0.release; due = p.0.due } = command_is c.issued-command.result c.args.id p.0.release p.0.due named release due in
+    let hd : c.append.new.list.items ≡ s.commands.items ++ (let y : Command = record { id = c.args.id; release = p.0.release; due = p.0.due } in y) ∷ [] = c.append.ensures.items ∙ ap (λ (y : Command). s.commands.items ++ y ∷ []) same in
     let hc : length c.append.new.list.items ≡ length s.commands.items + 1 = ap length c.append.ensures.items ∙ length-append s.commands.items _ in
     let hr : length c.append-2.new.list.items ≡ length s.rounds.items + 1 = ap length c.append-2.ensures.items ∙ length-append s.rounds.items _ in
-    (kept_issue _ es _ c.args.id c.args.tag p.0 _ _ _ _ _ _ (hash.get nat_eq s.known) _ _ s.tags.items k all hz p.1 hd c.append-2.ensures.items c.issued-old.ensures.gone, room_after_issue s.prepared c.args.id c.args.tag _ _ _ _ _ _ _ _ _ _ _ _ _ _ _ _ ready room n hc hr c.append-3.ensures.room c.append.ensures.room c.append-2.ensures.room)
+    (kept_issue _ es _ c.args.id c.args.tag p.0 _ _ _ _ _ _ (hash.get nat_eq s.known) _ _ s.tags.items k all hz p.1 hd c.append-2.ensures.items c.issued-command.ensures.gone, room_after_issue s.prepared c.args.id c.args.tag _ _ _ _ _ _ _ _ _ _ _ _ _ _ _ _ ready room n hc hr c.append-3.ensures.room c.append.ensures.room c.append-2.ensures.room)

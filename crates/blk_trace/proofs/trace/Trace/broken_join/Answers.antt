@@ -3,7 +3,7 @@ use Rattle.blk_trace.specs.declared.known.Known.TheVariants.{Waits, Gone}
 use Rattle.blk_trace.specs.Inside.Kept.{known_of}
 use Rattle.blk_trace.proofs.Asked.{holds, fails}
 use Rattle.blk_trace.proofs.Ids.{released_first}
-use Rattle.blk_trace.proofs.Knowing.{known_none, known_gone, known_waits, waiting_is}
+use Rattle.blk_trace.proofs.Knowing.{known_none, known_gone, known_handed, known_waits, waiting_is}
 use Rattle.blk_trace.specs.Happened.{Joined}
 use Rattle.blk_trace.proofs.Room.{room_kept, full_kept}
 use Rattle.blk_trace.proofs.First.{join_unknown, join_already_issued, join_bio_twice, join_fit, join_too_long, join_unbroken}
@@ -30,18 +30,23 @@ returns-in-Some-Gone-clause-some g c =
     let p = known_gone c.args.self.now.setup c.args.self.now.events c.args.id e in
     join_already_issued c.args.self.now.setup c.args.self.now.events c.args.id c.args.request.now (released_first c.args.self.now.setup c.args.self.now.events c.args.id c.known_at.ensures.legal p) (λ h. h p)
 
+pub returns-in-Some-Handed-clause-some : goal.returns-in-Some-Handed-clause-some
+returns-in-Some-Handed-clause-some g c =
+    let p = known_handed c.args.self.now.setup c.args.self.now.events c.args.id _ _ c.known_at.ensures.legal (sym c.known_at.ensures.value ∙ c.in-Some-Handed.is ∙ ap Some c.in-Some-Handed.field-0-is) in
+    join_already_issued c.args.self.now.setup c.args.self.now.events c.args.id c.args.request.now p.released (λ h. h p.issued)
+
 pub returns-then-not-are_new-clause-some : goal.returns-then-not-are_new-clause-some
 returns-then-not-are_new-clause-some g c =
     let e : known_of c.args.self.now.setup c.args.self.now.events c.args.id ≡ Some (Waits c.in-Some-Waits.waiting) = sym c.known_at.ensures.value ∙ c.in-Some-Waits.is ∙ ap Some c.in-Some-Waits.field-0-is in
     let p = known_waits c.args.self.now.setup c.args.self.now.events c.args.id c.in-Some-Waits.waiting e in
-    let i = waiting_is c.args.self.now.setup c.args.self.now.events c.args.id p.0 p.1 in
+    let i = waiting_is c.args.self.now.setup c.args.self.now.events c.args.id p.0 p.1 p.3 in
     join_bio_twice c.args.self.now.setup c.args.self.now.events c.args.id c.args.request.now i.released i.not_issued (fails c.are_new.result c.if-not-are_new.true c.are_new.ensures)
 
 pub returns-then-is_none-clause-some : goal.returns-then-is_none-clause-some
 returns-then-is_none-clause-some g c =
     let e : known_of c.args.self.now.setup c.args.self.now.events c.args.id ≡ Some (Waits c.in-Some-Waits.waiting) = sym c.known_at.ensures.value ∙ c.in-Some-Waits.is ∙ ap Some c.in-Some-Waits.field-0-is in
     let p = known_waits c.args.self.now.setup c.args.self.now.events c.args.id c.in-Some-Waits.waiting e in
-    let i = waiting_is c.args.self.now.setup c.args.self.now.events c.args.id p.0 p.1 in
+    let i = waiting_is c.args.self.now.setup c.args.self.now.events c.args.id p.0 p.1 p.3 in
     let lim : c.limits.result ≡ c.args.self.now.setup.limits = c.limits.ensures ∙ ap (λ (x : Setup). x.limits) c.setup.ensures in
     let some = c.known_at.ensures.some_bios p.0 p.1 in
     let P : Type 0 = (w : Entered) → c.in-Some-Waits.waiting ≡ summary w → 0 < length w.bios → (x : Side) → Fits c.limits.result w.bios c.args.request.now x → ⊥ in
@@ -52,7 +57,7 @@ pub returns-then-not-has_places-clause-some : goal.returns-then-not-has_places-c
 returns-then-not-has_places-clause-some g c =
     let e : known_of c.args.self.now.setup c.args.self.now.events c.args.id ≡ Some (Waits c.in-Some-Waits.waiting) = sym c.known_at.ensures.value ∙ c.in-Some-Waits.is ∙ ap Some c.in-Some-Waits.field-0-is in
     let p = known_waits c.args.self.now.setup c.args.self.now.events c.args.id c.in-Some-Waits.waiting e in
-    let i = waiting_is c.args.self.now.setup c.args.self.now.events c.args.id p.0 p.1 in
+    let i = waiting_is c.args.self.now.setup c.args.self.now.events c.args.id p.0 p.1 p.3 in
     let lim : c.limits.result ≡ c.args.self.now.setup.limits = c.limits.ensures ∙ ap (λ (x : Setup). x.limits) c.setup.ensures in
     let some = c.known_at.ensures.some_bios p.0 p.1 in
     let Q : Waiting → Type 0 = λ new. (w : Entered) → c.in-Some-Waits.waiting ≡ summary w → 0 < length w.bios → ((x : Side) × Fits c.limits.result w.bios c.args.request.now x) × (new ≡ summary record { release = 0; due = w.due; bios = join_up w.bios c.args.request.now }) in
@@ -64,7 +69,7 @@ pub returns-else-not-has_places-clause-none : goal.returns-else-not-has_places-c
 returns-else-not-has_places-clause-none g c =
     let e : known_of c.args.self.now.setup c.args.self.now.events c.args.id ≡ Some (Waits c.in-Some-Waits.waiting) = sym c.known_at.ensures.value ∙ c.in-Some-Waits.is ∙ ap Some c.in-Some-Waits.field-0-is in
     let p = known_waits c.args.self.now.setup c.args.self.now.events c.args.id c.in-Some-Waits.waiting e in
-    let i = waiting_is c.args.self.now.setup c.args.self.now.events c.args.id p.0 p.1 in
+    let i = waiting_is c.args.self.now.setup c.args.self.now.events c.args.id p.0 p.1 p.3 in
     let lim : c.limits.result ≡ c.args.self.now.setup.limits = c.limits.ensures ∙ ap (λ (x : Setup). x.limits) c.setup.ensures in
     let some = c.known_at.ensures.some_bios p.0 p.1 in
     let Q : Waiting → Type 0 = λ new. (w : Entered) → c.in-Some-Waits.waiting ≡ summary w → 0 < length w.bios → ((x : Side) × Fits c.limits.result w.bios c.args.request.now x) × (new ≡ summary record { release = 0; due = w.due; bios = join_up w.bios c.args.request.now }) in

@@ -11,7 +11,7 @@ returns-in-Free g c =
 
 pub returns-in-Open : goal.returns-in-Open
 returns-in-Open g c =
-    let h : IsTagUse c.args.self.now.events c.args.tag Open = subst (λ (u : TagUse). IsTagUse c.args.self.now.events c.args.tag u) c.in-Open.is c.tag_use.ensures in
+    let h : IsTagUse c.args.self.now.events c.args.tag (Open c.in-Open.field-0) = subst (λ (u : TagUse). IsTagUse c.args.self.now.events c.args.tag u) c.in-Open.is c.tag_use.ensures in
     (λ _. h.0, λ _. refl)
 
 pub returns-in-Ended : goal.returns-in-Ended

@@ -1,0 +1,113 @@
+-- Which requests may still be joined after one more event: those that wait and were never issued.
+use Rattle.std.proofs.Common.{◌≡◌, ◌+◌, ◌++◌, ◌==◌, ℕ, zero, suc, List, [], ◌∷◌, drop, is_some, inl, inr, refl, sym, ◌∙◌, ap, subst, Some, None, cond, Bool, true, false, eqb-true}
+use Rattle.std.specs.Prelude.{◌||◌, Option}
+use Rattle.std.specs.Option.{option_map_or}
+use Rattle.std.proofs.lemmas.Bool.{cases_Bool}
+use Rattle.blk_bio.specs.Bios.{Bio}
+use Rattle.blk_bio.specs.Requests.{dir_of}
+use Rattle.blk_trace.specs.declared.rule.TraceRule.TheVariants.{ReleasedTwice, AlreadyIssued}
+use Rattle.blk_trace.specs.Happened.{Happened, Ticked, Released, Joined, Issued, Finished, Returned}
+use Rattle.blk_trace.specs.Kinds.{releases, joins, issues, hands_back, is_done_of}
+use Rattle.blk_trace.specs.Setups.{Setup, expire_of}
+use Rattle.blk_trace.specs.Events.{At, round_of, goes_back, join_up}
+use Rattle.blk_trace.specs.Legal.{IsLegalTrace}
+use Rattle.blk_trace.specs.Standing.{Entered, waits_at, was_issued, unissued_at}
+use Rattle.blk_trace.proofs.More.{was_issued_more}
+use Rattle.blk_trace.proofs.Pushing.{shorter_legal, obeys}
+use Rattle.blk_trace.proofs.Ids.{never_was, back_all, released_first}
+use Rattle.blk_trace.proofs.Waiting.{IsWaiting, waiting_from, waits_kept, waits-released, waits-joined, waits-issued}
+
+pub unissued_is : (setup : Setup) (es : List Happened) (id : ℕ) (b : Bool) (o : Option Entered) → was_issued es id ≡ b → waits_at setup es id ≡ o → unissued_at setup es id ≡ cond b None o
+unfolding unissued_at
+unissued_is setup es id b o h w = ap (λ x. cond x None (waits_at setup es id)) h ∙ ap (λ x. cond b None x) w
+
+by_test : (b : Bool) (o : Option Entered) (w : Entered) → cond b None o ≡ Some w → (b ≡ false) × (o ≡ Some w)
+by_test true o w h = absurd (cc)
+by_test false o w h = (refl, h)
+
+-- a request that may be joined waits, and was never issued
+pub unissued_from : (setup : Setup) (es : List Happened) (id : ℕ) (w : Entered) → unissued_at setup es id ≡ Some w → (was_issued es id ≡ false) × (waits_at setup es id ≡ Some w)
+unissued_from setup es id w h = by_test (was_issued es id) (waits_at setup es id) w (sym (unissued_is setup es id _ _ refl refl) ∙ h)
+
+or_no : (x y : Bool) → y ≡ false → (x || y) ≡ x
+or_no true y h = refl
+or_no false y h = h
+
+pub was_same : (es : List Happened) (e : Happened) (id : ℕ) → option_map_or (λ p. p.0 == id) (issues e) false ≡ false → was_issued (es ++ e ∷ []) id ≡ was_issued es id
+was_same es e id h = was_issued_more es e id ∙ or_no _ _ h
+
+pub was_kept : (es : List Happened) (e : Happened) (id : ℕ) → issues e ≡ None → was_issued (es ++ e ∷ []) id ≡ was_issued es id
+was_kept es e id h = was_same es e id (ap (λ o. option_map_or (λ p. p.0 == id) o false) h)
+
+pub unissued_kept : (setup : Setup) (events : List Happened) (e : Happened) → releases e ≡ None → joins e ≡ None → issues e ≡ None → hands_back e ≡ None → (q : ℕ) → unissued_at setup (events ++ e ∷ []) q ≡ unissued_at setup events q
+unissued_kept setup events e r j i n q =
+    unissued_is setup (events ++ e ∷ []) q _ _ (was_kept events e q i) (waits_kept setup events e r j i n q) ∙ sym (unissued_is setup events q _ _ refl refl)
+
+put_off : (b was : Bool) (x : Entered) (y : Option Entered) → (b ≡ true → was ≡ false) → cond was None (cond b (Some x) y) ≡ cond b (Some x) (cond was None y)
+put_off true was x y h = ap (λ w. cond w None (Some x)) (h refl)
+put_off false was x y h = refl
+
+pub unissued-released : (setup : Setup) (events : List Happened) (id : ℕ) (bios : List Bio) → IsLegalTrace setup (events ++ Released id bios ∷ []) → (q : ℕ) → unissued_at setup (events ++ Released id bios ∷ []) q ≡ cond (id == q) (Some (record { release = round_of events; due = round_of events + expire_of setup (dir_of bios); bios = bios })) (unissued_at setup events q)
+unissued-released setup events id bios legal q =
+    let e : Happened = Released id bios in
+    let old = shorter_legal setup events e legal in
+    let fresh : was_issued events id ≡ false = never_was events id (λ p. obeys setup events e legal ReleasedTwice (released_first setup events id old p)) in
+    unissued_is setup (events ++ e ∷ []) q _ _ (was_kept events e q refl) (waits-released setup events id bios legal q)
+    ∙ put_off (id == q) (was_issued events q) _ (waits_at setup events q) (λ t. subst (λ n. was_issued events n ≡ false) (eqb-true id q t) fresh)
+    ∙ ap (λ o. cond (id == q) (Some (record { release = round_of events; due = round_of events + expire_of setup (dir_of bios); bios = bios })) o) (sym (unissued_is setup events q _ _ refl refl))
+
+pub unissued-joined : (setup : Setup) (events : List Happened) (id : ℕ) (bios : List Bio) → IsLegalTrace setup (events ++ Joined id bios ∷ []) → (w : Entered) → waits_at setup events id ≡ Some w → (q : ℕ) → unissued_at setup (events ++ Joined id bios ∷ []) q ≡ cond (id == q) (Some (record { release = round_of events; due = w.due; bios = join_up w.bios bios })) (unissued_at setup events q)
+unissued-joined setup events id bios legal w waits q =
+    let e : Happened = Joined id bios in
+    let fresh : was_issued events id ≡ false = never_was events id (obeys setup events e legal AlreadyIssued) in
+    unissued_is setup (events ++ e ∷ []) q _ _ (was_kept events e q refl) (waits-joined setup events id bios legal w waits q)
+    ∙ put_off (id == q) (was_issued events q) _ (waits_at setup events q) (λ t. subst (λ n. was_issued events n ≡ false) (eqb-true id q t) fresh)
+    ∙ ap (λ o. cond (id == q) (Some (record { release = round_of events; due = w.due; bios = join_up w.bios bios })) o) (sym (unissued_is setup events q _ _ refl refl))
+
+goes : (b was : Bool) (y : Option Entered) → cond (was || b) None (cond b None y) ≡ cond b None (cond was None y)
+goes true true y = refl
+goes true false y = refl
+goes false true y = refl
+goes false false y = refl
+
+pub unissued-issued : (setup : Setup) (events : List Happened) (id tag : ℕ) → IsLegalTrace setup (events ++ Issued id tag ∷ []) → (q : ℕ) → unissued_at setup (events ++ Issued id tag ∷ []) q ≡ cond (id == q) None (unissued_at setup events q)
+unissued-issued setup events id tag legal q =
+    unissued_is setup (events ++ Issued id tag ∷ []) q _ _ (was_issued_more events (Issued id tag) q) (waits-issued setup events id tag legal q)
+    ∙ goes (id == q) (was_issued events q) (waits_at setup events q)
+    ∙ ap (λ o. cond (id == q) None o) (sym (unissued_is setup events q _ _ refl refl))
+
+pub unissued-ticked : (setup : Setup) (events : List Happened) → IsLegalTrace setup (events ++ Ticked ∷ []) → (q : ℕ) → unissued_at setup (events ++ Ticked ∷ []) q ≡ unissued_at setup events q
+unissued-ticked setup events legal q = unissued_kept setup events Ticked refl refl refl refl q
+
+pub unissued-finished : (setup : Setup) (events : List Happened) (tag : ℕ) → IsLegalTrace setup (events ++ Finished tag ∷ []) → (q : ℕ) → unissued_at setup (events ++ Finished tag ∷ []) q ≡ unissued_at setup events q
+unissued-finished setup events tag legal q = unissued_kept setup events (Finished tag) refl refl refl refl q
+
+-- where nothing was handed back, what waits was never issued
+is_back : (x : Happened) (o : Option ℕ) → hands_back x ≡ o → is_some o ≡ true → (tag : ℕ) × (x ≡ Returned tag)
+is_back x None h s = absurd (cc)
+is_back (Returned t) (Some u) h s = (t, refl)
+is_back x (Some u) h s = absurd (cc)
+
+back_found : (t : ℕ) (es : List Happened) → goes_back t es ≡ true → (k : ℕ) × (tag : ℕ) × At es k (Returned tag)
+unfolding goes_back
+back_found t [] h = absurd (cc)
+back_found t (x ∷ es) h =
+    elim (cases_Bool (is_done_of t x)) [
+      | inl b ↦ let p = is_back x (hands_back x) refl (sym (ap (λ c. cond c (is_some (hands_back x)) (goes_back t es)) b) ∙ h) in (0, p.0, ap Some p.1)
+      | inr b ↦ let p = back_found t es (sym (ap (λ c. cond c (is_some (hands_back x)) (goes_back t es)) b) ∙ h) in (suc p.0, p.1, p.2)
+    ]
+
+at_dropped : (n : ℕ) (es : List Happened) (k : ℕ) (e : Happened) → At (drop n es) k e → (j : ℕ) × At es j e
+at_dropped zero es k e h = (k, h)
+at_dropped (suc n) [] k e h = absurd (cc)
+at_dropped (suc n) (x ∷ es) k e h = let p = at_dropped n es k e h in (suc p.0, p.1)
+
+pub unissued_waiting : (setup : Setup) (es : List Happened) (id : ℕ) (w : Entered) → ((k tag : ℕ) → At es k (Returned tag) → ⊥) → waits_at setup es id ≡ Some w → unissued_at setup es id ≡ Some w
+unissued_waiting setup es id w none h =
+    let was : IsWaiting setup es id w = waiting_from setup es id w h in
+    let never : was_issued es id ≡ false = never_was es id (λ p.
+    let back = back_all es id was.unissued p.0 p.1.0 p.1.1 in
+    let q = back_found p.1.0 (drop (suc p.0) es) back in
+    let r = at_dropped (suc p.0) es q.0 (Returned q.1) q.2 in
+    none r.0 q.1 r.1) in
+    unissued_is setup es id false (Some w) never h
