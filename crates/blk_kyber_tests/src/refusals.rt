@@ -1,0 +1,46 @@
+//! The kyber scheduler where allocations are refused: each allocation of a scenario in turn, after which the call is made
+//! once more.
+
+use crate::given::{issue, release, targets, ticks, under};
+use blk_bio::bio::Dir;
+use blk_bio::request::Side;
+use blk_core::Placed;
+use refusing::Refusing;
+use std::alloc::Global;
+use std::process::Abort;
+
+/// How many requests enter, each of two bios, one joined at the front.
+const REQUESTS: u64 = 10;
+
+/// Requests enter at one hardware queue and go out in their order.
+fn come_and_go(rt: &impl Abort, heap: &Refusing<Global>) {
+    let mut core = under(rt, &heap, 1, 2, targets(2, 10));
+    for id in 0..REQUESTS {
+        let first = 16 + 32 * id;
+        let new = release(rt, &heap, &mut core, 1, 2 * id, Dir::Read, first);
+        assert_eq!(rt; new, Placed::New(id));
+        let joined = release(rt, &heap, &mut core, 1, 2 * id + 1, Dir::Read, first - 8);
+        assert_eq!(rt; joined, Placed::Joined(id, Side::Front));
+    }
+    assert_eq!(rt; issue(rt, &mut core, 0, 0), None);
+    for id in 0..REQUESTS {
+        assert_eq!(rt; issue(rt, &mut core, 1, 0), Some(id));
+        assert!(rt; core.done(0).is_ok());
+        ticks(rt, &mut core, 1);
+    }
+    assert_eq!(rt; core.pending(), 0);
+}
+
+#[test]
+fn memory_refused(rt: HostRuntime) {
+    let heap = Refusing::new(rt.alloc());
+    for n in 1..1000u64 {
+        heap.refuse(n);
+        come_and_go(&rt, &heap);
+        if heap.is_armed() {
+            assert!(rt; n > 40);
+            return;
+        }
+    }
+    panic!(rt; "refused for ever");
+}
