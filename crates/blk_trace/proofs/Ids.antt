@@ -1,5 +1,5 @@
 -- Ids by place and in the lists of ids; induction over legal lists.
-use Rattle.std.proofs.Common.{◌≡◌, ◌++◌, ◌==◌, ◌+◌, ℕ, zero, suc, cond, map, drop, Bool, List, [], ◌∷◌, length, refl, sym, ◌∙◌, ap, subst, arith, inl, inr, true, false, eq-eqb, eqb-true}
+use Rattle.std.proofs.Common.{◌≡◌, ◌++◌, ◌==◌, ◌+◌, ℕ, zero, suc, cond, map, drop, List, [], ◌∷◌, length, refl, sym, ◌∙◌, ap, subst, arith, inl, inr, true, false, eq-eqb, eqb-true}
 use Rattle.std.specs.Prelude.{◌||◌, Option, Some, None, option_map}
 use Rattle.std.specs.Option.{option_map_or, option_and_then}
 use Rattle.std.specs.List.{filter_map, cons_option, list_any}

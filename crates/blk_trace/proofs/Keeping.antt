@@ -1,5 +1,5 @@
 -- What a trace keeps stays true with one more event.
-use Rattle.std.proofs.Common.{◌≡◌, ◌<◌, ◌≤◌, ◌+◌, ◌-◌, ◌++◌, ◌==◌, ◌||◌, inl, inr, option_map, ℕ, zero, suc, List, [], ◌∷◌, length, refl, sym, ◌∙◌, ap, subst, arith, append-nil, cond, Bool, true, false, Some, None, set, take}
+use Rattle.std.proofs.Common.{◌≡◌, ◌<◌, ◌≤◌, ◌+◌, ◌-◌, ◌++◌, ◌==◌, ◌||◌, inl, inr, option_map, ℕ, zero, suc, List, [], ◌∷◌, length, refl, sym, ◌∙◌, ap, subst, arith, cond, Bool, true, false, Some, None, set, take}
 use Rattle.std.specs.Prelude.{Option, Result, Ok, Err, replicate}
 use Rattle.std.specs.Result.{is_err, OnOk, OnErr}
 use Rattle.std.specs.List.{cons_option}
@@ -7,7 +7,7 @@ use Rattle.std.proofs.lemmas.Bool.{cases_Bool}
 use Rattle.edd_check.specs.declared.Command.{Command}
 use Rattle.blk_bio.specs.Bios.{Bio}
 use Rattle.blk_bio.specs.declared.bio.BioId.{BioId}
-use Rattle.blk_bio.specs.Requests.{dir_of}
+use Rattle.blk_bio.specs.Requests.{IsRequest, dir_of}
 use Rattle.blk_trace.specs.declared.known.Waiting.{Waiting}
 use Rattle.blk_trace.specs.declared.known.Known.{Known}
 use Rattle.blk_trace.specs.declared.known.Known.TheVariants.{Waits, Gone, Handed}
@@ -18,7 +18,7 @@ use Rattle.blk_trace.specs.declared.trace.Prepared.TheVariants.{Nothing, AnIssue
 use Rattle.blk_trace.specs.declared.rule.TraceRule.TheVariants.{InFlight, NotIssued}
 use Rattle.blk_trace.specs.Happened.{Happened, Ticked, Released, Joined, Issued, Finished, Returned}
 use Rattle.blk_trace.specs.Kinds.{releases, joins}
-use Rattle.blk_trace.specs.Setups.{Setup, expire_of}
+use Rattle.blk_trace.specs.Setups.{Setup, IsSetup, expire_of}
 use Rattle.blk_trace.specs.Events.{round_of, open_count, entered, bios_of, join_up, request_of}
 use Rattle.blk_trace.specs.Legal.{IsLegalTrace}
 use Rattle.blk_trace.specs.Rules.{IsUnbroken}
@@ -108,9 +108,10 @@ pub kept_tick : (setup : Setup) (es zs : List Happened) (cs : List Command) (rs 
     → IsKept setup es cs rs round opened known ids tags → IsUnbroken setup es Ticked → zs ≡ es ++ Ticked ∷ [] → tags' ≡ replicate (length tags) Free
     → IsKept setup zs cs rs (round + 1) opened known ids tags'
 kept_tick setup es zs cs rs round opened known ids tags tags' k all hz ht =
-    let new = push_legal setup es Ticked k.legal all in
+    let new = push_legal setup es Ticked k.legal all tt in
     let P : List Happened → List TagUse → Type 0 = λ l t. IsKept setup l cs rs (round + 1) opened known ids t in
     let here : P (es ++ Ticked ∷ []) (replicate (length tags) Free) = record {
+      ranges = k.ranges;
       legal = new;
       commands_are = k.commands_are ∙ sym (commands_kept setup es Ticked new refl refl);
       rounds_are = k.rounds_are ∙ sym (rounds_kept es Ticked refl refl);
@@ -128,11 +129,12 @@ pub kept_done : (setup : Setup) (es zs : List Happened) (tag : ℕ) (cs : List C
     → IsKept setup es cs rs round opened known ids tags → IsUnbroken setup es (Finished tag) → zs ≡ es ++ Finished tag ∷ []
     → IsKept setup zs cs rs round (opened - 1) known ids (set tags tag Ended)
 kept_done setup es zs tag cs rs round opened known ids tags k all hz =
-    let new = push_legal setup es (Finished tag) k.legal all in
+    let new = push_legal setup es (Finished tag) k.legal all tt in
     let P : List Happened → Type 0 = λ l. IsKept setup l cs rs round (opened - 1) known ids (set tags tag Ended) in
     let found = open_found setup es tags k.legal k.each_tag k.tags_are tag (all NotIssued) in
     let used : IsTagUse es tag (Open found.0) = k.tags_are tag (Open found.0) found.1 in
     let here : P (es ++ Finished tag ∷ []) = record {
+      ranges = k.ranges;
       legal = new;
       commands_are = k.commands_are ∙ sym (commands_kept setup es (Finished tag) new refl refl);
       rounds_are = k.rounds_are ∙ sym (rounds_kept es (Finished tag) refl refl);
@@ -178,11 +180,12 @@ pub kept_back : (setup : Setup) (es zs : List Happened) (tag id : ℕ) (cs ds : 
     → ((q : ℕ) → known' q ≡ cond (id == q) (Some (Handed (release_of es id) (due_of setup es id))) (known q))
     → IsKept setup zs ds ss round (opened - 1) known' ids (set tags tag Ended)
 kept_back setup es zs tag id cs ds rs ss round opened known known' ids tags k all by hz hd hs hk =
-    let new = push_legal setup es (Returned tag) k.legal all in
+    let new = push_legal setup es (Returned tag) k.legal all tt in
     let P : List Happened → Type 0 = λ l. IsKept setup l ds ss round (opened - 1) known' ids (set tags tag Ended) in
     let found = open_found setup es tags k.legal k.each_tag k.tags_are tag (all NotIssued) in
     let used : IsTagUse es tag (Open found.0) = k.tags_are tag (Open found.0) found.1 in
     let here : P (es ++ Returned tag ∷ []) = record {
+      ranges = k.ranges;
       legal = new;
       commands_are = hd;
       rounds_are = hs;
@@ -202,9 +205,10 @@ pub kept_issue : (setup : Setup) (es zs : List Happened) (id tag : ℕ) (w : Ent
     → ((q : ℕ) → known' q ≡ cond (id == q) (Some Gone) (known q))
     → IsKept setup zs ds ss round (opened + 1) known' ids (set tags tag (Open id))
 kept_issue setup es zs id tag w cs ds rs ss round opened known known' ids tags k all hz waits hd hs hk =
-    let new = push_legal setup es (Issued id tag) k.legal all in
+    let new = push_legal setup es (Issued id tag) k.legal all tt in
     let P : List Happened → Type 0 = λ l. IsKept setup l ds ss round (opened + 1) known' ids (set tags tag (Open id)) in
     let here : P (es ++ Issued id tag ∷ []) = record {
+      ranges = k.ranges;
       legal = new;
       commands_are = hd ∙ ap (λ l. l ++ record { id = id; release = w.release; due = w.due } ∷ []) k.commands_are ∙ sym (commands-issued setup es id tag new w waits);
       rounds_are = hs ∙ ap (λ l. l ++ round ∷ []) k.rounds_are ∙ ap (λ n. rounds_of es ++ n ∷ []) k.round_is ∙ sym (rounds-issued es id tag);
@@ -219,15 +223,17 @@ kept_issue setup es zs id tag w cs ds rs ss round opened known known' ids tags k
     subst P (sym hz) here
 
 pub kept_release : (setup : Setup) (es zs : List Happened) (id : ℕ) (bios : List Bio) (s : Waiting) (cs : List Command) (rs : List ℕ) (round opened : ℕ) (known known' : ℕ → Option Known) (ids ids' : BioId → Bool) (tags : List TagUse)
-    → IsKept setup es cs rs round opened known ids tags → IsUnbroken setup es (Released id bios) → zs ≡ es ++ Released id bios ∷ [] → 0 < length bios
+    → IsKept setup es cs rs round opened known ids tags → IsUnbroken setup es (Released id bios) → zs ≡ es ++ Released id bios ∷ [] → IsRequest bios
     → s ≡ summary record { release = round; due = round + expire_of setup (dir_of bios); bios = bios }
     → ((q : ℕ) → known' q ≡ cond (id == q) (Some (Waits s)) (known q)) → ((b : BioId) → ids' b ≡ (ids b || has_bio_id bios b))
     → IsKept setup zs cs rs round opened known' ids' tags
-kept_release setup es zs id bios s cs rs round opened known known' ids ids' tags k all hz some hs hk hb =
-    let new = push_legal setup es (Released id bios) k.legal all in
+kept_release setup es zs id bios s cs rs round opened known known' ids ids' tags k all hz request hs hk hb =
+    let new = push_legal setup es (Released id bios) k.legal all request in
+    let some : 0 < length bios = request.not_empty in
     let P : List Happened → Type 0 = λ l. IsKept setup l cs rs round opened known' ids' tags in
     let now : s ≡ summary record { release = round_of es; due = round_of es + expire_of setup (dir_of bios); bios = bios } = hs ∙ ap (λ n. summary record { release = n; due = n + expire_of setup (dir_of bios); bios = bios }) k.round_is in
     let here : P (es ++ Released id bios ∷ []) = record {
+      ranges = k.ranges;
       legal = new;
       commands_are = k.commands_are ∙ sym (commands_kept setup es (Released id bios) new refl refl);
       rounds_are = k.rounds_are ∙ sym (rounds_kept es (Released id bios) refl refl);
@@ -242,15 +248,17 @@ kept_release setup es zs id bios s cs rs round opened known known' ids ids' tags
     subst P (sym hz) here
 
 pub kept_join : (setup : Setup) (es zs : List Happened) (id : ℕ) (bios : List Bio) (w : Entered) (s : Waiting) (cs : List Command) (rs : List ℕ) (round opened : ℕ) (known known' : ℕ → Option Known) (ids ids' : BioId → Bool) (tags : List TagUse)
-    → IsKept setup es cs rs round opened known ids tags → IsUnbroken setup es (Joined id bios) → zs ≡ es ++ Joined id bios ∷ [] → 0 < length bios
+    → IsKept setup es cs rs round opened known ids tags → IsUnbroken setup es (Joined id bios) → zs ≡ es ++ Joined id bios ∷ [] → IsRequest bios
     → waits_at setup es id ≡ Some w → s ≡ summary record { release = round; due = w.due; bios = join_up w.bios bios }
     → ((q : ℕ) → known' q ≡ cond (id == q) (Some (Waits s)) (known q)) → ((b : BioId) → ids' b ≡ (ids b || has_bio_id bios b))
     → IsKept setup zs cs rs round opened known' ids' tags
-kept_join setup es zs id bios w s cs rs round opened known known' ids ids' tags k all hz some waits hs hk hb =
-    let new = push_legal setup es (Joined id bios) k.legal all in
+kept_join setup es zs id bios w s cs rs round opened known known' ids ids' tags k all hz request waits hs hk hb =
+    let new = push_legal setup es (Joined id bios) k.legal all request in
+    let some : 0 < length bios = request.not_empty in
     let P : List Happened → Type 0 = λ l. IsKept setup l cs rs round opened known' ids' tags in
     let now : s ≡ summary record { release = round_of es; due = w.due; bios = join_up w.bios bios } = hs ∙ ap (λ n. summary record { release = n; due = w.due; bios = join_up w.bios bios }) k.round_is in
     let here : P (es ++ Joined id bios ∷ []) = record {
+      ranges = k.ranges;
       legal = new;
       commands_are = k.commands_are ∙ sym (commands_kept setup es (Joined id bios) new refl refl);
       rounds_are = k.rounds_are ∙ sym (rounds_kept es (Joined id bios) refl refl);
@@ -272,9 +280,10 @@ command_is c id release due h i j =
     ∙ ap (λ (n : ℕ). let y : Command = record { id = id; release = release; due = n } in y) j
 
 -- the trace without events
-pub kept_empty : (setup : Setup) (known : ℕ → Option Known) (ids : BioId → Bool) (n : ℕ) → ((q : ℕ) → known q ≡ None) → ((b : BioId) → ids b ≡ false) → n ≡ setup.depth → IsKept setup [] [] [] 0 0 known ids (replicate n Free)
+pub kept_empty : (setup : Setup) (known : ℕ → Option Known) (ids : BioId → Bool) (n : ℕ) → ((q : ℕ) → known q ≡ None) → ((b : BioId) → ids b ≡ false) → n ≡ setup.depth → IsSetup setup → IsKept setup [] [] [] 0 0 known ids (replicate n Free)
 unfolding entered open_count round_of commands_of rounds_of issued_ids released_ids served known_of waits_at
-kept_empty setup known ids n hk hb hn = record {
+kept_empty setup known ids n hk hb hn is = record {
+  ranges = is;
   legal = empty_legal setup;
   commands_are = refl;
   rounds_are = refl;
@@ -293,6 +302,7 @@ pub kept_same : (setup : Setup) (es es' : List Happened) (cs cs' : List Command)
 kept_same setup es es' cs cs' rs rs' round opened known known' ids ids' tags k he hc hr hk hb =
     let P : List Happened → Type 0 = λ l. IsKept setup l cs' rs' round opened known' ids' tags in
     subst P (sym he) record {
+      ranges = k.ranges;
       legal = k.legal;
       commands_are = hc ∙ k.commands_are;
       rounds_are = hr ∙ k.rounds_are;

@@ -1,5 +1,5 @@
 -- What is kept under each id, with one more event, and what it says of the id.
-use Rattle.std.proofs.Common.{inl, inr, ◌≡◌, ◌+◌, ◌++◌, ◌==◌, ℕ, List, [], ◌∷◌, refl, sym, ◌∙◌, ap, subst, Some, None, append-nil, cond, Bool, true, false, eqb-true}
+use Rattle.std.proofs.Common.{inl, inr, ◌≡◌, ◌+◌, ◌++◌, ◌==◌, ℕ, List, [], ◌∷◌, refl, sym, ◌∙◌, ap, subst, Some, None, cond, Bool, true, false, eqb-true}
 use Rattle.std.specs.Prelude.{◌⊎◌, Option, option_map, ◌&&◌, not, ◌||◌}
 use Rattle.std.specs.List.{cons_option}
 use Rattle.blk_bio.specs.Bios.{Bio}

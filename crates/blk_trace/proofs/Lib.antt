@@ -28,4 +28,5 @@ pub mod Joining
 pub mod Keeping
 pub mod Gathering
 pub mod Rising
+pub mod Bounds
 mod Timing

@@ -10,7 +10,7 @@ use Rattle.blk_trace.specs.Kinds.{enters, ends, is_issue, is_end}
 use Rattle.blk_trace.specs.declared.rule.TraceRule.{TraceRule}
 use Rattle.blk_trace.specs.declared.rule.TraceRule.TheVariants.{ReleasedTwice, Unknown, AlreadyIssued, BioTwice, Fit, TagRange, TagUsed, NotIssued, InFlight, TooLong}
 use Rattle.blk_trace.specs.Setups.{Setup}
-use Rattle.blk_trace.specs.Events.{At, round_of, round_at, bios_of, entered, open_count, AreOnce, IsOpen}
+use Rattle.blk_trace.specs.Events.{At, EntersRequest, round_of, round_at, bios_of, entered, open_count, AreOnce, IsOpen}
 use Rattle.blk_trace.specs.Legal.{IsLegalTrace}
 use Rattle.blk_trace.specs.Rules.{Obeys, IsUnbroken}
 use Rattle.blk_trace.proofs.Places.{split, keep, last, before, before_last}
@@ -31,6 +31,7 @@ empty_legal setup = record {
   done_open = λ k tag h. absurd (cc);
   tick_closed = λ k tag h o. absurd (cc);
   bios_once = λ j k b c h l s. absurd (cc);
+  are_requests = λ k e h. absurd (cc);
   release_within = λ k id q h. absurd (cc);
   join_fits = λ k id n h. absurd (cc);
   not_too_long = omega arith;
@@ -49,9 +50,9 @@ once_more setup es e old h = by_entry (entered es) (enters e) old h
     by_entry bs None old h = rw append-nil old
     by_entry bs (Some p) old h = h
 
--- a legal list with an event that obeys each rule is legal
-pub push_legal : (setup : Setup) (es : List Happened) (e : Happened) → IsLegalTrace setup es → IsUnbroken setup es e → IsLegalTrace setup (es ++ e ∷ [])
-push_legal setup es e old all =
+-- a legal list with an event that obeys each rule, and whose bios are a request, is legal
+pub push_legal : (setup : Setup) (es : List Happened) (e : Happened) → IsLegalTrace setup es → IsUnbroken setup es e → EntersRequest e → IsLegalTrace setup (es ++ e ∷ [])
+push_legal setup es e old all request =
     let told : (x : Happened) (r : TraceRule) → e ≡ x → Obeys setup es x r = λ x r h. subst (λ y. Obeys setup es y r) h (all r) in
     record {
       released_once = λ j k id q r h l.
@@ -123,6 +124,7 @@ push_legal setup es e old all =
             | inl a ↦ rw (before es (e ∷ []) k _ a) (old.tick_closed k tag a)
             | inr a ↦ rw (before_last es e k a.0) (told _ InFlight a.1 tag)
           ];
+      are_requests = λ k x h. elim (split es e k x h) [ inl a ↦ old.are_requests k x a | inr a ↦ subst EntersRequest a.1 request ];
       bios_once = rw (entered_more es e) (once_more setup es e old.bios_once (all BioTwice));
       release_within = λ k id q h.
           elim (split es e k _ h) [
@@ -164,6 +166,7 @@ shorter_legal setup es e new =
       tag_once = λ j k i l tag h m same. new.tag_once j k i l tag (up j _ h) (up k _ m) (ap round_of (before es (e ∷ []) j _ h) ∙ same ∙ ap round_of (sym (before es (e ∷ []) k _ m)));
       done_open = λ k tag h. rw (before es (e ∷ []) k _ h.1) at (new.done_open k tag (keep_end es (e ∷ []) k tag h));
       tick_closed = λ k tag h. rw (before es (e ∷ []) k _ h) at (new.tick_closed k tag (up k _ h));
+      are_requests = λ k x h. new.are_requests k x (up k x h);
       bios_once = once_fewer (entered es) (bios_of e) (rw (entered_more es e) at new.bios_once);
       release_within = λ k id q h. new.release_within k id q (up k _ h);
       join_fits = λ k id n h. rw (before es (e ∷ []) k _ h) at (new.join_fits k id n (up k _ h));

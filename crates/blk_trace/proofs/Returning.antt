@@ -1,6 +1,6 @@
 -- What a Back changes: the one open Issue of its tag is no longer among those that were not handed back.
-use Rattle.std.proofs.Common.{◌≡◌, ◌<◌, ◌≤◌, ◌+◌, ◌++◌, ◌==◌, ℕ, zero, suc, List, [], ◌∷◌, length, map, drop, refl, sym, ◌∙◌, ap, subst, arith, inl, inr, Some, None, cond, Bool, true, false, eq-eqb, ne_eqb, eqb-true, is_some, append-nil}
-use Rattle.std.specs.Prelude.{◌||◌, ◌⊎◌, Option, option_map, count_by}
+use Rattle.std.proofs.Common.{◌≡◌, ◌≤◌, ◌+◌, ◌++◌, ◌==◌, ℕ, zero, suc, List, [], ◌∷◌, length, map, drop, refl, sym, ◌∙◌, ap, subst, arith, inl, inr, Some, None, cond, Bool, true, false, eq-eqb, ne_eqb, eqb-true, is_some, append-nil}
+use Rattle.std.specs.Prelude.{◌||◌, ◌⊎◌, Option, count_by}
 use Rattle.std.specs.Option.{option_and_then, option_map_or}
 use Rattle.std.specs.List.{cons_option, list_any}
 use Rattle.std.proofs.lemmas.List.{map-append}
@@ -18,7 +18,7 @@ use Rattle.blk_trace.specs.Meaning.{service, served, issued_ids, rounds_of}
 use Rattle.blk_trace.specs.Standing.{has_id, issued_by}
 use Rattle.blk_trace.specs.Inside.Kept.{IsOpenBy}
 use Rattle.blk_trace.proofs.Words.{issue_is, done_by, some_of}
-use Rattle.blk_trace.proofs.More.{new_ids, issued_more}
+use Rattle.blk_trace.proofs.More.{issued_more}
 use Rattle.blk_trace.proofs.Ids.{by_legal, all_back}
 use Rattle.blk_trace.proofs.Seats.{cases_option, taken_at, still_open, now_open}
 use Rattle.blk_trace.proofs.Steady.{steady}

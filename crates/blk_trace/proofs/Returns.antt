@@ -1,11 +1,11 @@
 -- What waits, what is a command and what may be joined after a Back.
 use Rattle.std.proofs.Common.{◌≡◌, ◌<◌, ◌≤◌, ◌+◌, ◌-◌, ◌++◌, ◌==◌, ℕ, zero, suc, List, [], ◌∷◌, length, map, take, drop, get_or, refl, sym, ◌∙◌, ap, subst, arith, inl, inr, Some, None, cond, Bool, true, false, eq-eqb, eqb-true, add-one, append-nil}
-use Rattle.std.specs.Prelude.{◌||◌, Option, option_map, slice_get, not, count_by}
+use Rattle.std.specs.Prelude.{◌||◌, Option, slice_get, not, count_by}
 use Rattle.std.proofs.lemmas.List.{map-append}
-use Rattle.std.proofs.lemmas.Bool.{cases_Bool, cases_lt, or_left, or_right, or_parts}
+use Rattle.std.proofs.lemmas.Bool.{cases_Bool, cases_lt, or_parts}
 use Rattle.std.proofs.lemmas.Option.{slice_get_within}
 use Rattle.edd_check.specs.declared.Command.{Command}
-use Rattle.blk_trace.specs.Happened.{Happened, Issued, Returned}
+use Rattle.blk_trace.specs.Happened.{Happened, Returned}
 use Rattle.blk_trace.specs.Setups.{Setup}
 use Rattle.blk_trace.specs.Events.{request_of, IsReleased, IsIssued}
 use Rattle.blk_trace.specs.Legal.{IsLegalTrace}
@@ -13,7 +13,6 @@ use Rattle.blk_trace.specs.Meaning.{release_of, due_of, issued_ids, released_ids
 use Rattle.blk_trace.specs.Standing.{Entered, has_id, waits_at, was_issued, unissued_at, waiting_count}
 use Rattle.blk_trace.specs.Inside.Kept.{IsOpenBy}
 use Rattle.blk_trace.proofs.More.{released_more}
-use Rattle.blk_trace.proofs.Pushing.{shorter_legal}
 use Rattle.blk_trace.proofs.Ids.{released_has, released_first, issued_was}
 use Rattle.blk_trace.proofs.Entering.{IsSame, same_entered, has_released_same}
 use Rattle.blk_trace.proofs.Waiting.{waits_is, waits_same}

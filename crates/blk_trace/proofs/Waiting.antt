@@ -10,7 +10,7 @@ use Rattle.blk_trace.specs.declared.rule.TraceRule.TheVariants.{ReleasedTwice, F
 use Rattle.blk_trace.specs.Happened.{Happened, Ticked, Released, Joined, Issued, Finished}
 use Rattle.blk_trace.specs.Kinds.{releases, joins, issues, hands_back}
 use Rattle.blk_trace.specs.Setups.{Setup, expire_of}
-use Rattle.blk_trace.specs.Events.{round_of, join_up, request_of, IsReleased, IsIssued}
+use Rattle.blk_trace.specs.Events.{round_of, join_up, request_of, IsReleased}
 use Rattle.blk_trace.specs.Legal.{IsLegalTrace}
 use Rattle.blk_trace.specs.Rules.{IsUnbroken}
 use Rattle.blk_trace.specs.Meaning.{release_of, due_of, issued_ids, released_ids, least}

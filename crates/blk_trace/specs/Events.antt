@@ -1,10 +1,10 @@
 -- Lists of events.
-use Rattle.std.specs.Prelude.{ℕ, suc, ◌≡◌, ◌<◌, ◌-◌, ◌==◌, ◌++◌, cond, Bool, false, IsTrue, List, [], ◌∷◌, Some, is_some, take, drop, slice_get, count_by, fold}
+use Rattle.std.specs.Prelude.{ℕ, suc, ◌≡◌, ◌<◌, ◌-◌, ◌==◌, ◌++◌, cond, Bool, false, IsTrue, List, [], ◌∷◌, Some, is_some, take, drop, slice_get, count_by, fold, IfSome}
 use Rattle.std.specs.List.{flat_map, filter_map}
 use Rattle.blk_bio.specs.Bios.{Bio}
-use Rattle.blk_bio.specs.Requests.{first_of, last_of}
+use Rattle.blk_bio.specs.Requests.{IsRequest, first_of, last_of}
 use Rattle.blk_trace.specs.Happened.{Happened, Released, Issued}
-use Rattle.blk_trace.specs.Kinds.{ends, hands_back, is_done_of, is_issue, is_end, enters_under}
+use Rattle.blk_trace.specs.Kinds.{ends, hands_back, is_done_of, is_issue, is_end, enters, enters_under}
 pub use Rattle.blk_trace.specs.Kinds.{is_tick, bios_of}
 
 -- the event stands at the place
@@ -32,6 +32,10 @@ join_up (b ∷ bs) newcomer = cond (first_of newcomer == last_of (b ∷ bs)) ((b
 -- the request that the id's Release and Joins make up
 unfoldable pub request_of : List Happened → ℕ → List Bio
 request_of events id = fold join_up [] (filter_map (enters_under id) events)
+
+-- the bios that enter by the event, if some do, are a request
+abbrev pub EntersRequest : Happened → Type 0
+EntersRequest e = IfSome (enters e) (λ p. IsRequest p.1)
 
 -- the id has a Release
 abbrev pub IsReleased : List Happened → ℕ → Type 0

@@ -1,8 +1,11 @@
 -- What holds of every legal trace.
-use Rattle.std.specs.Prelude.{◌++◌, List, IsPermutation}
+use Rattle.std.specs.Prelude.{ℕ, ◌≢◌, ◌<◌, ◌≤◌, ◌++◌, List, length, slice_index_or, All, IsPermutation}
 use Rattle.std.specs.List.{flat_map}
 use Rattle.edd_check.specs.Capacity.{fixed}
+use Rattle.edd_check.specs.declared.Command.{Command}
+use Rattle.edd_check.specs.Limits.{most_commands, round_limit}
 use Rattle.edd_check.specs.Schedule.{IsLegal}
+use Rattle.blk_trace.specs.declared.trace.TheConstants.{MAX_EVENTS}
 use Rattle.blk_trace.specs.Happened.{Happened}
 use Rattle.blk_trace.specs.Setups.{Setup}
 use Rattle.blk_trace.specs.Events.{entered, request_of}
@@ -11,6 +14,13 @@ use Rattle.blk_trace.specs.Meaning.{commands_of, rounds_of, issued_ids, waiting_
 -- its commands, in the rounds of their Issues, are a legal schedule: none before its release, no more in a round than the depth
 abbrev pub IsScheduled : Setup → List Happened → Type 0
 IsScheduled setup events = IsLegal (commands_of setup events) (rounds_of events) (fixed setup.depth)
+
+-- few commands, each id once, each released in a round of the trace and due below the limit of rounds; and each goes out in a round of the trace
+pub record AreBounded (commands : List Command) (rounds : List ℕ) : Type 0 where
+  pub few : length commands ≤ most_commands
+  pub in_range : All (λ c. (c.release ≤ MAX_EVENTS) × (c.due < round_limit)) commands
+  pub distinct : (j k : ℕ) (d : Command) → j < k → k < length commands → (slice_index_or commands j d).id ≢ (slice_index_or commands k d).id
+  pub in_time : All (λ r. r ≤ MAX_EVENTS) rounds
 
 -- the bios of the issued requests and those that wait are the bios that entered, each once
 abbrev pub IsAccounted : List Happened → Type 0

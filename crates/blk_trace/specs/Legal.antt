@@ -6,7 +6,7 @@ use Rattle.blk_bio.specs.Requests.{IsWithin, Fits}
 use Rattle.blk_trace.specs.declared.trace.TheConstants.{MAX_EVENTS}
 use Rattle.blk_trace.specs.Happened.{Happened, Ticked, Released, Joined, Issued}
 use Rattle.blk_trace.specs.Setups.{Setup}
-use Rattle.blk_trace.specs.Events.{At, EndsAt, IsHandedBack, round_at, entered, request_of, IsReleased, IsOpen, open_count, AreOnce}
+use Rattle.blk_trace.specs.Events.{At, EntersRequest, EndsAt, IsHandedBack, round_at, entered, request_of, IsReleased, IsOpen, open_count, AreOnce}
 
 -- a list of events is legal: conditions on its places
 pub record IsLegalTrace (setup : Setup) (events : List Happened) : Type 0 where
@@ -27,6 +27,8 @@ pub record IsLegalTrace (setup : Setup) (events : List Happened) : Type 0 where
   pub tick_closed : (k tag : ℕ) → At events k Ticked → IsOpen (take k events) tag → ⊥
   -- no bio's id stands twice in the Releases and Joins
   pub bios_once : AreOnce (entered events)
+  -- the bios of each Release and Join are a request
+  pub are_requests : (k : ℕ) (e : Happened) → At events k e → EntersRequest e
   -- each Release is within the limits, and each Join fits the request that it joins
   pub release_within : (k id : ℕ) (q : List Bio) → At events k (Released id q) → IsWithin setup.limits q
   pub join_fits : (k id : ℕ) (n : List Bio) → At events k (Joined id n) → (s : Side) × Fits setup.limits (request_of (take k events) id) n s

@@ -13,7 +13,7 @@ use Rattle.blk_trace.specs.declared.tags.TagUse.TheVariants.{Free, Open, Ended}
 use Rattle.blk_trace.specs.declared.trace.Prepared.{Prepared}
 use Rattle.blk_trace.specs.declared.trace.Prepared.TheVariants.{Nothing, AnIssue, Bios}
 use Rattle.blk_trace.specs.Happened.{Happened, Issued}
-use Rattle.blk_trace.specs.Setups.{Setup}
+use Rattle.blk_trace.specs.Setups.{Setup, IsSetup}
 use Rattle.blk_trace.specs.Events.{At, EndsAt, request_of, round_of, open_count, entered, IsOpen, IsUsed}
 use Rattle.blk_trace.specs.Legal.{IsLegalTrace}
 use Rattle.blk_trace.specs.Meaning.{commands_of, rounds_of, released_ids, issued_ids}
@@ -69,6 +69,7 @@ is_open_use _ = false
 
 -- what is kept is what the events say
 pub record IsKept (setup : Setup) (events : List Happened) (commands : List Command) (rounds : List ℕ) (round opened : ℕ) (known : ℕ → Option Known) (ids : BioId → Bool) (tags : List TagUse) : Type 0 where
+  pub ranges : IsSetup setup
   pub legal : IsLegalTrace setup events
   pub commands_are : commands ≡ commands_of setup events
   pub rounds_are : rounds ≡ rounds_of events

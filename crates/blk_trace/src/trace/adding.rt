@@ -49,7 +49,8 @@ impl<A: Allocator + Clone> Trace<A> {
     fn add_tick(&mut self)
         requires unbroken { IsUnbroken self.old.setup self.old.events Ticked }
         requires prepared { IsPreparedFor self.old.prepared Ticked }
-        ensures { self.new ≡ record { setup = self.old.setup; events = self.old.events ++ Ticked ∷ []; prepared = Prepared.Nothing } }
+        ensures added { self.new ≡ record { setup = self.old.setup; events = self.old.events ++ Ticked ∷ []; prepared = Prepared.Nothing } }
+        ensures legal { IsLegalTrace self.old.setup (self.old.events ++ Ticked ∷ []) }
     {
         self.round += 1;
         self.tags.fill(TagUse::Free);
@@ -61,7 +62,8 @@ impl<A: Allocator + Clone> Trace<A> {
     fn add_release(&mut self, id: u64, request: Request<A>)
         requires unbroken { IsUnbroken self.old.setup self.old.events (Released id request) }
         requires prepared { IsPreparedFor self.old.prepared (Released id request) }
-        ensures { self.new ≡ record { setup = self.old.setup; events = self.old.events ++ Released id request ∷ []; prepared = Prepared.Nothing } }
+        ensures added { self.new ≡ record { setup = self.old.setup; events = self.old.events ++ Released id request ∷ []; prepared = Prepared.Nothing } }
+        ensures legal { IsLegalTrace self.old.setup (self.old.events ++ Released id request ∷ []) }
     {
         let expire = self.setup.expire(request.dir());
         let waiting = Waiting::entered(&request, self.round, expire);
@@ -91,7 +93,8 @@ impl<A: Allocator + Clone> Trace<A> {
     fn add_join(&mut self, id: u64, request: Request<A>)
         requires unbroken { IsUnbroken self.old.setup self.old.events (Joined id request) }
         requires prepared { IsPreparedFor self.old.prepared (Joined id request) }
-        ensures { self.new ≡ record { setup = self.old.setup; events = self.old.events ++ Joined id request ∷ []; prepared = Prepared.Nothing } }
+        ensures added { self.new ≡ record { setup = self.old.setup; events = self.old.events ++ Joined id request ∷ []; prepared = Prepared.Nothing } }
+        ensures legal { IsLegalTrace self.old.setup (self.old.events ++ Joined id request ∷ []) }
     {
         let old = self.waiting_at(id);
         let Some(new) = old.joined(&request, self.round, &self.setup.limits()) else {
@@ -109,7 +112,8 @@ impl<A: Allocator + Clone> Trace<A> {
     fn add_issue(&mut self, id: u64, tag: u16)
         requires unbroken { IsUnbroken self.old.setup self.old.events (Issued id tag) }
         requires prepared { IsPreparedFor self.old.prepared (Issued id tag) }
-        ensures { self.new ≡ record { setup = self.old.setup; events = self.old.events ++ Issued id tag ∷ []; prepared = Prepared.Nothing } }
+        ensures added { self.new ≡ record { setup = self.old.setup; events = self.old.events ++ Issued id tag ∷ []; prepared = Prepared.Nothing } }
+        ensures legal { IsLegalTrace self.old.setup (self.old.events ++ Issued id tag ∷ []) }
     {
         let command = issued(&mut self.known, id);
         append(&mut self.commands, command);
@@ -123,7 +127,8 @@ impl<A: Allocator + Clone> Trace<A> {
     /// Adds a Done: the tag's Issue is no longer open.
     fn add_done(&mut self, tag: u16)
         requires unbroken { IsUnbroken self.old.setup self.old.events (Finished tag) }
-        ensures { self.new ≡ record { setup = self.old.setup; events = self.old.events ++ Finished tag ∷ []; prepared = Prepared.Nothing } }
+        ensures added { self.new ≡ record { setup = self.old.setup; events = self.old.events ++ Finished tag ∷ []; prepared = Prepared.Nothing } }
+        ensures legal { IsLegalTrace self.old.setup (self.old.events ++ Finished tag ∷ []) }
     {
         self.tags[tag as usize] = TagUse::Ended;
         self.open -= 1;
@@ -147,7 +152,8 @@ impl<A: Allocator + Clone> Trace<A> {
     /// Adds a Back: the tag's Issue is no longer open, its request waits again, and it is no command any more.
     fn add_back(&mut self, tag: u16)
         requires unbroken { IsUnbroken self.old.setup self.old.events (Returned tag) }
-        ensures { self.new ≡ record { setup = self.old.setup; events = self.old.events ++ Returned tag ∷ []; prepared = Prepared.Nothing } }
+        ensures added { self.new ≡ record { setup = self.old.setup; events = self.old.events ++ Returned tag ∷ []; prepared = Prepared.Nothing } }
+        ensures legal { IsLegalTrace self.old.setup (self.old.events ++ Returned tag ∷ []) }
     {
         let id = self.open_id(tag);
         let place = place_of(self.commands.as_slice(), id);

@@ -3,7 +3,7 @@
 ghost use Rattle.std.specs.Prelude.{◌≡◌, IfOk, map, IsOkUnless};
 ghost use Rattle.blk_trace.specs.Legal.{IsLegalTrace};
 ghost use Rattle.blk_trace.specs.Meaning.{commands_of, rounds_of};
-ghost use Rattle.blk_trace.specs.Laws.{IsScheduled};
+ghost use Rattle.blk_trace.specs.Laws.{IsScheduled, AreBounded};
 ghost use Rattle.blk_trace.specs.Traces.{IsFromEventsAnswer};
 ghost use Rattle.blk_trace.specs.Seen.{happened};
 
@@ -45,6 +45,8 @@ impl<A: Allocator + Clone> Trace<A> {
         ensures commands { IfOk result (λ v. v.items ≡ commands_of self.now.setup self.now.events) }
         // in the rounds of `rounds` they are a legal schedule
         ensures scheduled { IsScheduled self.now.setup self.now.events }
+        // there are few of them, each id stands once, and their releases and dues are small
+        ensures bounded { AreBounded (commands_of self.now.setup self.now.events) (rounds_of self.now.events) }
     {
         let alloc = self.events.allocator().clone()?;
         Vec::from_slice(alloc, self.commands.as_slice())
@@ -54,6 +56,7 @@ impl<A: Allocator + Clone> Trace<A> {
     pub fn rounds(&self) -> Result<Vec<u64, A>, AllocError>
         ensures rounds { IfOk result (λ v. v.items ≡ rounds_of self.now.events) }
         ensures scheduled { IsScheduled self.now.setup self.now.events }
+        ensures bounded { AreBounded (commands_of self.now.setup self.now.events) (rounds_of self.now.events) }
     {
         let alloc = self.events.allocator().clone()?;
         Vec::from_slice(alloc, self.rounds.as_slice())

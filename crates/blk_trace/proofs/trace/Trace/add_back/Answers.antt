@@ -8,7 +8,9 @@ use Rattle.blk_trace.specs.declared.event.Event.TheVariants.{Back}
 use Rattle.blk_trace.specs.declared.rule.TraceRule.TheVariants as rule
 use Rattle.blk_trace.specs.Happened.{Happened, Returned}
 use Rattle.blk_trace.specs.Events.{IsOpen}
+use Rattle.blk_trace.specs.Legal.{IsLegalTrace}
 use Rattle.blk_trace.specs.Rules.{IsUnbroken}
+use Rattle.blk_trace.proofs.Pushing.{push_legal}
 use Rattle.blk_trace.specs.Traces.{Traced}
 use Rattle.blk_trace.specs.Seen.{happened}
 use Rattle.blk_trace.specs.Inside.Kept.{IsOpenBy}
@@ -91,3 +93,6 @@ invariant_of-self g c =
     let hr : length c.remove.new.self.items + 1 ≡ length s.rounds.items = omega (arith, c.remove.ensures.len, s.rounds.ok.0, c.remove.new.self.ok.0) in
     let hk = λ (q : ℕ). c.handed.ensures q ∙ ap (λ (y : Command). cond (y.id == q) (Some (Handed y.release y.due)) (hash.get nat_eq s.known q)) out.0 in
     (kept_back s.setup es _ c.args.tag c.open_id-id.result s.commands.items _ s.rounds.items _ _ _ (hash.get nat_eq s.known) _ _ s.tags.items k all by hz (c.remove-command.ensures.by_index.2 ∙ left.commands_left) (c.remove.ensures.by_index.2 ∙ left.rounds_left) hk, room_after_back s.prepared _ _ _ _ _ _ _ _ _ _ _ _ _ _ _ _ some room n c.append.ensures.room hc hr c.remove-command.ensures.capacity c.remove.ensures.capacity)
+
+pub returns-clause-legal : goal.returns-clause-legal
+returns-clause-legal g c = push_legal _ _ _ (subst (λ (v : Traced). IsLegalTrace v.setup v.events) c.self.view_is c.self.invariant.0.legal) c.requires.unbroken tt

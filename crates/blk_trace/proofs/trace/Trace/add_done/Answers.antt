@@ -4,7 +4,9 @@ use Rattle.blk_trace.specs.declared.event.Event.TheVariants.{Done}
 use Rattle.blk_trace.specs.declared.rule.TraceRule.TheVariants as rule
 use Rattle.blk_trace.specs.Happened.{Happened, Finished}
 use Rattle.blk_trace.specs.Events.{IsOpen}
+use Rattle.blk_trace.specs.Legal.{IsLegalTrace}
 use Rattle.blk_trace.specs.Rules.{IsUnbroken}
+use Rattle.blk_trace.proofs.Pushing.{push_legal}
 use Rattle.blk_trace.specs.Traces.{Traced}
 use Rattle.blk_trace.specs.Seen.{happened}
 use Rattle.blk_trace.proofs.Opening.{open_positive}
@@ -53,3 +55,6 @@ invariant_of-self g c =
     let n : length c.append.new.list.items ≡ length s.events.items + 1 = ap length c.append.ensures.items ∙ length-append s.events.items (Done c.args.tag ∷ []) in
     let some : 0 < s.«open» = omega (arith, open_positive s.setup es c.args.tag k.legal o, k.open_is) in
     (kept_done _ es _ c.args.tag _ _ _ _ _ _ s.tags.items k all hz, room_after_done s.prepared _ _ _ _ _ _ _ _ _ _ _ some room n c.append.ensures.room)
+
+pub returns-clause-legal : goal.returns-clause-legal
+returns-clause-legal g c = push_legal _ _ _ (subst (λ (v : Traced). IsLegalTrace v.setup v.events) c.self.view_is c.self.invariant.0.legal) c.requires.unbroken tt

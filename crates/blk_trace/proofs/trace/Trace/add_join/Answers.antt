@@ -1,4 +1,4 @@
-use Rattle.std.proofs.Common.{◌≡◌, ◌<◌, ◌+◌, ◌++◌, ◌∙◌, List, [], ◌∷◌, Some, None, map, length, length-append, ap, sym, subst}
+use Rattle.std.proofs.Common.{◌≡◌, ◌+◌, ◌++◌, ◌∙◌, List, [], ◌∷◌, Some, None, map, length, length-append, ap, sym, subst}
 use Rattle.std.specs.Prelude.{nat_eq, ◌||◌}
 use Rattle.blk_bio.specs.Bios.{Bio}
 use Rattle.std.proofs.lemmas.List.{map-append}
@@ -11,7 +11,9 @@ use Rattle.blk_trace.specs.declared.event.Event.TheVariants.{Join}
 use Rattle.blk_trace.specs.declared.rule.TraceRule.TheVariants as rule
 use Rattle.blk_trace.specs.Happened.{Happened, Joined}
 use Rattle.blk_trace.specs.Events.{request_of}
+use Rattle.blk_trace.specs.Legal.{IsLegalTrace}
 use Rattle.blk_trace.specs.Rules.{IsUnbroken}
+use Rattle.blk_trace.proofs.Pushing.{push_legal}
 use Rattle.blk_trace.specs.Traces.{Traced, IsPreparedFor}
 use Rattle.blk_trace.specs.Inside.Kept.{known_of, is_bio, has_bio_id}
 use Rattle.blk_trace.specs.Seen.{happened}
@@ -65,7 +67,9 @@ invariant_of-self g c =
     let p = known_waits s.setup es c.args.id c.waiting_at-old.result e in
     let hz : map happened c.append.new.list.items ≡ es ++ (Joined c.args.id c.args.request) ∷ [] = ap (map happened) c.append.ensures.items ∙ map-append happened s.events.items (Join c.args.id c.args.request ∷ []) in
     let n : length c.append.new.list.items ≡ length s.events.items + 1 = ap length c.append.ensures.items ∙ length-append s.events.items (Join c.args.id c.args.request ∷ []) in
-    let some : 0 < length c.args.request = c.bios.ensures.is_request.not_empty in
     let j = c.in-Some.ensures.some p.0 p.2 (some_waiting s.setup es c.args.id p.0 k.some_bios p.1) in
     let hk = on_ok c.insert.result (hash.Updates nat_eq s.known c.insert.new.self c.args.id (Some (Waits c.in-Some.new))) (sym c.is_err.ensures.value ∙ c.if-is_err.false) c.insert.ensures.updates in
-    (kept_join _ es _ c.args.id c.args.request p.0 c.in-Some.new _ _ _ _ (hash.get nat_eq s.known) _ (hash_set.contains is_bio s.ids) _ _ k all hz some p.1 j.1 hk.0 (λ b. c.enter.ensures.ids b ∙ ap (λ (l : List Bio). hash_set.contains is_bio s.ids b || has_bio_id l b) c.bios.ensures.bios), room_after_entry s.prepared _ _ _ _ _ _ _ _ _ _ _ _ _ (join_room s.prepared c.args.id c.args.request ready).0 room n c.append.ensures.room)
+    (kept_join _ es _ c.args.id c.args.request p.0 c.in-Some.new _ _ _ _ (hash.get nat_eq s.known) _ (hash_set.contains is_bio s.ids) _ _ k all hz c.bios.ensures.is_request p.1 j.1 hk.0 (λ b. c.enter.ensures.ids b ∙ ap (λ (l : List Bio). hash_set.contains is_bio s.ids b || has_bio_id l b) c.bios.ensures.bios), room_after_entry s.prepared _ _ _ _ _ _ _ _ _ _ _ _ _ (join_room s.prepared c.args.id c.args.request ready).0 room n c.append.ensures.room)
+
+pub returns-clause-legal : goal.returns-clause-legal
+returns-clause-legal g c = push_legal _ _ _ (subst (λ (v : Traced). IsLegalTrace v.setup v.events) c.self.view_is c.self.invariant.0.legal) c.requires.unbroken c.bios.ensures.is_request

@@ -1,7 +1,8 @@
 use Rattle.std.proofs.Common.{rules, ◌≡◌, ◌++◌, ◌∷◌, []}
 use Rattle.blk_trace.specs.declared.trace.Prepared.TheVariants.{Nothing}
 use Rattle.blk_trace.specs.Seen.{happened}
-use Rattle.blk_trace.proofs.Pushing.{obeys, push_legal}
+use Rattle.blk_trace.proofs.Pushing.{obeys}
+use Rattle.blk_trace.specs.Legal.{IsLegalTrace}
 use Rattle.blk_trace.proofs.Allowed.{allowed-unbroken}
 use Rattle.blk_trace.proofs.trace.Trace.push.Goals as goal
 
@@ -16,4 +17,5 @@ returns-in-Some-clause-allowed g c =
 pub returns-clause-ok : goal.returns-clause-ok
 returns-clause-ok g c =
     let new : c.add.new.self ≡ record { setup = c.args.self.now.setup; events = c.args.self.now.events ++ happened c.args.event ∷ []; prepared = Nothing } = search rules in
-    (new, push_legal c.args.self.now.setup c.args.self.now.events (happened c.args.event) c.in_default.ensures.legal c.in_default.ensures.none)
+    let legal : IsLegalTrace c.args.self.now.setup (c.args.self.now.events ++ happened c.args.event ∷ []) = search rules in
+    (new, legal)
