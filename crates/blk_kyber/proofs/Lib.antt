@@ -1,3 +1,4 @@
 pub mod Found
 pub mod Splits
 pub mod Served
+pub mod Numbers

@@ -91,6 +91,8 @@ impl<A: Allocator + Clone> Kyber<A> {
         ensures value { result ≡ limit_of dir (kept_of self.now).limits }
         ensures least { 1 ≤ result }
         ensures most { result ≤ (kept_of self.now).limits.depth }
+        // what is kept is known by the numbers that the trait speaks of
+        ensures known { (kept other : Kept) → numbers_of kept ≡ numbers_of other → kept ≡ other }
     {
         self.limits.of(dir)
     }
