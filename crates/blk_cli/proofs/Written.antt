@@ -19,13 +19,16 @@ use Rattle.blk_text.specs.Commands.{SpellsCommands}
 use Rattle.blk_text.specs.Certificate.{Claim, claim_rows, SpellsClaim}
 use Rattle.blk_text.specs.Script.{Scripted, SpellsScript}
 use Rattle.blk_text.specs.TraceRecords.{trace_rows, SpellsTrace}
+use Rattle.blk_sched.specs.declared.SchedFault.{SchedFault}
+use Rattle.blk_sched.specs.Meaning.{Meaning}
+use Rattle.blk_sim.specs.Policies.{Policy}
 use Rattle.blk_sim.specs.declared.refusal.SimFault.{SimFault}
 use Rattle.blk_sim.specs.Simulation.{released_bios, ticks_of}
 use Rattle.blk_sim.specs.Refusals.{IsSimFault}
 use Rattle.blk_cli.specs.declared.words.Sched.{Sched}
 use Rattle.blk_cli.specs.declared.failure.Failure.{Failure}
 use Rattle.blk_cli.specs.declared.failure.Failure.TheVariants as failure
-use Rattle.blk_cli.specs.Outcome.{RunsUnder, policy_under, meaning_of, kept_of, IsProved, OracleWrote, SimWrote, CheckWrote, bound_line, verdict_of, IsTextFault, IsStepFault, IsSolveFault, IsCheckFault, IsRefusedBound, IsUnrun, IsUnsolved, IsUnproved, SimFails, OracleFails, CheckFails}
+use Rattle.blk_cli.specs.Outcome.{RunsUnder, RunsFrom, IsRefusedUnder, IsZeroBatch, IsSettingFault, IsProved, OracleWrote, SimWrote, CheckWrote, bound_line, verdict_of, IsTextFault, IsStepFault, IsSolveFault, IsCheckFault, IsRefusedBound, IsUnrun, IsUnsolved, IsUnproved, SimFails, OracleFails, CheckFails}
 
 -- a text's first fault, or one from outside
 pub text_fault : (wrong : List Row → ℕ → Why → Type 0) (input : Option (List Row)) (failed : Bool) (f : TextFault)
@@ -41,13 +44,19 @@ sim_wrote sched (Some rows) s t old new read ran setup spelled bios ticks wrote 
     record { script = s; trace = t; read = read; ran = ran; setup = setup; spelled = spelled; bios = bios; ticks = ticks; wrote = wrote }
 
 step_fault : (sched : Sched) (left : Option (List Row)) (s : Scripted) (f : SimFault) → IfSome left (λ rows. SpellsScript rows s)
-    → IsSimFault (policy_under sched) s (meaning_of sched) (kept_of sched) f → IsStepFault sched left f
+    → IsRefusedUnder sched s f → IsStepFault sched left f
 step_fault sched None s f read refused = tt
 step_fault sched (Some rows) s f read refused = (s, read, refused)
+
+setting_fault : (sched : Sched) (left : Option (List Row)) (s : Scripted) (f : SchedFault) → IfSome left (λ rows. SpellsScript rows s)
+    → IsZeroBatch sched f → IsSettingFault sched left f
+setting_fault sched None s f read zero = tt
+setting_fault sched (Some rows) s f read zero = (s, read, zero)
 
 -- a script that was read and not run
 pub sim_fails : (sched : Sched) (left : Option (List Row)) (s : Scripted) (f : Failure) → IfSome left (λ rows. SpellsScript rows s) → IsUnrun sched s f → SimFails sched left f
 sim_fails sched left s (failure.Text f) read h = absurd h
+sim_fails sched left s (failure.Sched f) read h = setting_fault sched left s f read h
 sim_fails sched left s (failure.Step f) read h = step_fault sched left s f read h
 sim_fails sched left s (failure.Solve f) read h = absurd h
 sim_fails sched left s (failure.Check f) read h = absurd h
@@ -72,6 +81,7 @@ solve_fault (Some rows) depth commands f read refused = (depth, commands, read, 
 -- commands that were read and not solved
 pub oracle_fails : (left : Option (List Row)) (depth : ℕ) (commands : List Command) (f : Failure) → IfSome left (λ rows. SpellsCommands rows depth commands) → IsUnsolved commands f → OracleFails left f
 oracle_fails left depth commands (failure.Text f) read h = absurd h
+oracle_fails left depth commands (failure.Sched f) read h = absurd h
 oracle_fails left depth commands (failure.Step f) read h = absurd h
 oracle_fails left depth commands (failure.Solve f) read h = solve_fault left depth commands f read h
 oracle_fails left depth commands (failure.Check f) read h = absurd h
@@ -98,8 +108,22 @@ check_fault (Some rows) claim f read refused = (claim, read, refused)
 -- a certificate that was read and not proved
 pub check_fails : (left : Option (List Row)) (claim : Claim) (f : Failure) → IfSome left (λ rows. SpellsClaim rows claim) → IsUnproved claim f → CheckFails left f
 check_fails left claim (failure.Text f) read h = absurd h
+check_fails left claim (failure.Sched f) read h = absurd h
 check_fails left claim (failure.Step f) read h = absurd h
 check_fails left claim (failure.Solve f) read h = absurd h
 check_fails left claim (failure.Check f) read h = check_fault left claim f read h
 check_fails left claim (failure.Write f) read h = absurd h
 check_fails left claim failure.Memory read h = tt
+
+-- a run from a start that is another's
+pub from_start : (policy : Policy) (script : Scripted) (trace : Traced) (m n : Meaning) (k l : List ℕ) → m ≡ n → k ≡ l → RunsFrom policy script m k trace → RunsFrom policy script n l trace
+from_start policy script trace m n k l e f h =
+    let M : Meaning → Type 0 = λ x. RunsFrom policy script x k trace in
+    let K : List ℕ → Type 0 = λ x. RunsFrom policy script n x trace in
+    subst K f (subst M e h)
+
+pub refused_from : (policy : Policy) (script : Scripted) (fault : SimFault) (m n : Meaning) (k l : List ℕ) → m ≡ n → k ≡ l → IsSimFault policy script m k fault → IsSimFault policy script n l fault
+refused_from policy script fault m n k l e f h =
+    let M : Meaning → Type 0 = λ x. IsSimFault policy script x k fault in
+    let K : List ℕ → Type 0 = λ x. IsSimFault policy script n x fault in
+    subst K f (subst M e h)

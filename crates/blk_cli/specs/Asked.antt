@@ -1,7 +1,12 @@
 -- What the words of a command line ask for.
-use Rattle.std.specs.Prelude.{◌≡◌, ◌≢◌, ◌⊎◌, List, [], Option, Some, None, codes, option_map, option_and_then, if◌then◌else◌}
+use Rattle.std.specs.Prelude.{◌≡◌, ◌≢◌, ◌⊎◌, ℕ, Bool, false, not, List, [], Option, Some, None, codes, option_map, option_and_then, if◌then◌else◌}
+use Rattle.std.specs.Option.{option_map_or}
 use Rattle.std.specs.Str.{bytes_eq}
-use Rattle.clap.specs.Words.{App, Row, Text, IsAmong, fault_of, first_of, subcommand_of}
+use Rattle.std.specs.Str.Parse.{digits_value, without_leading_plus}
+use Rattle.clap.specs.ValueTests.{accepts}
+use Rattle.clap.specs.declared.builder.value_parser.ValueParser.TheVariants as vp
+use Rattle.blk_deadline.specs.declared.Tunables.{Tunables}
+use Rattle.clap.specs.Words.{App, Row, Text, IsAmong, fault_of, first_of, one_of, subcommand_of}
 use Rattle.clap.specs.declared.error.kind.ErrorKind.{ErrorKind}
 use Rattle.clap.specs.declared.error.kind.ErrorKind.TheVariants as kind
 use Rattle.blk_cli.specs.declared.words.Sched.{Sched}
@@ -10,13 +15,33 @@ use Rattle.blk_cli.specs.declared.words.Job.{Job}
 use Rattle.blk_cli.specs.declared.words.Job.TheVariants as job
 use Rattle.blk_cli.specs.Line.{Names, AreSchedulers, blk_app}
 
--- the scheduler of a name
-abbrev pub sched_named : Text → Option Sched
-sched_named name = if bytes_eq name (codes "none") then Some sched.None else None
+-- a number of 16 bits in decimal digits
+abbrev pub number_in : Text → Option ℕ
+number_in text = if accepts false (vp.Unsigned 0 65535) text then Some (digits_value 10 (without_leading_plus text)) else None
+
+-- the number that an option is given, and whether a flag is
+abbrev pub number_given : Text → List Row → Option ℕ
+number_given id rows = option_and_then number_in (one_of id rows)
+
+abbrev pub is_flagged : Text → List Row → Bool
+is_flagged id rows = option_map_or (λ text. bytes_eq text (codes "true")) (first_of id rows) false
+
+-- the settings of `deadline` of these numbers
+abbrev pub tuned : Bool → Option ℕ → Option ℕ → Option Tunables
+tuned front batch starved = option_and_then (λ b. option_map (λ s. record { fifo_batch = b; writes_starved = s; front_merges = front }) starved) batch
+
+abbrev pub tunables_of : List Row → Option Tunables
+tunables_of rows = tuned (not (is_flagged (codes "no-front-merges") rows)) (number_given (codes "fifo-batch") rows) (number_given (codes "writes-starved") rows)
+
+-- the scheduler of a name, with its settings
+abbrev pub sched_named : List Row → Text → Option Sched
+sched_named rows name =
+    if bytes_eq name (codes "none") then Some sched.None
+    else (if bytes_eq name (codes "deadline") then option_map sched.Deadline (tunables_of rows) else None)
 
 -- the scheduler that the options of `sim` name
 abbrev pub sched_of : List Row → Option Sched
-sched_of rows = option_and_then sched_named (first_of (codes "sched") rows)
+sched_of rows = option_and_then (sched_named rows) (first_of (codes "sched") rows)
 
 -- the job of a subcommand, by its name and what its options are given
 abbrev pub job_of : Text × List Row → Option Job

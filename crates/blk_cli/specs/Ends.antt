@@ -8,6 +8,8 @@ use Rattle.edd_oracle.specs.declared.OracleFault.{OracleFault}
 use Rattle.edd_oracle.specs.declared.OracleFault.TheVariants as oracle
 use Rattle.blk_bio.specs.declared.bio.BioFault.{BioFault}
 use Rattle.blk_bio.specs.declared.bio.BioFault.TheVariants as bio
+use Rattle.blk_sched.specs.declared.SchedFault.{SchedFault}
+use Rattle.blk_sched.specs.declared.SchedFault.TheVariants as setting
 use Rattle.blk_text.specs.declared.fault.Why.{Why}
 use Rattle.blk_text.specs.declared.fault.Why.TheVariants as why
 use Rattle.blk_text.specs.declared.fault.WriteFault.TheVariants as write
@@ -93,9 +95,15 @@ check_line (check.OverDepth round) = numbered (codes "OverDepth") (decimal round
 check_line (check.WrongLateness own) = numbered (codes "WrongLateness") (signed_decimal own)
 check_line (check.NotCrowded load) = numbered (codes "NotCrowded") (decimal load)
 
+abbrev pub sched_line : SchedFault → List ℕ
+sched_line setting.ZeroBatch = line (codes "ZeroBatch")
+sched_line setting.ZeroTarget = line (codes "ZeroTarget")
+sched_line setting.Memory = want_of_memory
+
 -- the line on a failure
 abbrev pub line_of : Failure → List ℕ
 line_of (failure.Text f) = text_line f.at f.why
+line_of (failure.Sched f) = sched_line f
 line_of (failure.Step f) = step_line f.at f.why
 line_of (failure.Solve f) = oracle_line f
 line_of (failure.Check f) = check_line f
@@ -113,6 +121,10 @@ abbrev pub step_status : SimWhy → ℕ
 step_status step.Memory = 3
 step_status w = 1
 
+abbrev pub sched_status : SchedFault → ℕ
+sched_status setting.Memory = 3
+sched_status f = 1
+
 abbrev pub oracle_status : OracleFault → ℕ
 oracle_status oracle.Memory = 3
 oracle_status f = 1
@@ -123,6 +135,7 @@ check_status f = 1
 
 abbrev pub status_of : Failure → ℕ
 status_of (failure.Text f) = text_status f.why
+status_of (failure.Sched f) = sched_status f
 status_of (failure.Step f) = step_status f.why
 status_of (failure.Solve f) = oracle_status f
 status_of (failure.Check f) = check_status f

@@ -1,5 +1,5 @@
 -- What a job comes to: what it wrote, or why it failed.
-use Rattle.std.specs.Prelude.{◌≡◌, ◌↔◌, ◌⊎◌, ◌*◌, ◌++◌, ◌∷◌, ⊤, true, ℕ, ℤ, pos, ◌+ℤ◌, Bool, List, [], Option, None, Some, Result, Err, MatchResult, IfSome, IsPermutation, sum_by, codes, decimal}
+use Rattle.std.specs.Prelude.{◌≡◌, ◌↔◌, ◌⊎◌, ◌*◌, ◌<◌, ◌++◌, ◌∷◌, ⊤, true, ℕ, ℤ, pos, ◌+ℤ◌, Bool, List, [], Option, None, Some, Result, Err, MatchResult, IfSome, IsPermutation, sum_by, codes, decimal}
 use Rattle.std.specs.Fmt.{signed_decimal}
 use Rattle.std.specs.Io.KnownBytes.{Appends}
 use Rattle.edd_check.specs.declared.Command.{Command}
@@ -14,7 +14,10 @@ use Rattle.edd_oracle.specs.Input.{IsRefusal}
 use Rattle.blk_trace.specs.Events.{entered, round_of}
 use Rattle.blk_trace.specs.Traces.{Traced}
 use Rattle.blk_sched.specs.Meaning.{Meaning, at_start}
+use Rattle.blk_sched.specs.declared.SchedFault.{SchedFault}
+use Rattle.blk_sched.specs.declared.SchedFault.TheVariants as setting
 use Rattle.blk_none.specs.Choice.{serves_own, none_chooses}
+use Rattle.blk_deadline.specs.Choice.{serves_all, deadline_chooses, kept_of as deadline_kept}
 use Rattle.blk_text.specs.declared.fault.Why.{Why}
 use Rattle.blk_text.specs.declared.fault.Why.TheVariants as why
 use Rattle.blk_text.specs.declared.fault.TextFault.{TextFault}
@@ -40,17 +43,37 @@ use Rattle.blk_cli.specs.declared.failure.Failure.TheVariants as failure
 -- the policy of a scheduler, what it means before it has any request, and what it keeps then
 abbrev pub policy_under : Sched → Policy
 policy_under sched.None = policy_of serves_own none_chooses (λ _ _ _ old new. new ≡ old) (λ _ old new. new ≡ old)
+policy_under (sched.Deadline t) = policy_of serves_all deadline_chooses (λ _ _ _ old new. new ≡ old) (λ _ old new. new ≡ old)
 
 abbrev pub meaning_of : Sched → Meaning
 meaning_of sched.None = at_start true
+meaning_of (sched.Deadline t) = at_start t.front_merges
 
 abbrev pub kept_of : Sched → List ℕ
 kept_of sched.None = []
+kept_of (sched.Deadline t) = deadline_kept (record { last = None; batching = 0; starved = 0 }) t
 
--- steps of a script that a scheduler accepts lead from the start to this trace
-abbrev pub RunsUnder : Sched → Scripted → Traced → Type 0
-RunsUnder s script trace = (end : SimState) × Runs (policy_under s) script.lines (start_of script (meaning_of s) (kept_of s)) end
+-- a scheduler is made of these settings: a batch is of some request
+abbrev pub IsMade : Sched → Type 0
+IsMade sched.None = ⊤
+IsMade (sched.Deadline t) = 0 < t.fifo_batch
+
+-- it isn't made, for a batch of none
+abbrev pub IsZeroBatch : Sched → SchedFault → Type 0
+IsZeroBatch sched.None f = ⊥
+IsZeroBatch (sched.Deadline t) f = (t.fifo_batch ≡ 0) × (f ≡ setting.ZeroBatch)
+
+-- the steps of a script lead from the start to this trace
+abbrev pub RunsFrom : Policy → Scripted → Meaning → List ℕ → Traced → Type 0
+RunsFrom policy script meaning kept trace = (end : SimState) × Runs policy script.lines (start_of script meaning kept) end
     × (trace.setup ≡ end.core.setup) × (trace.events ≡ end.core.events)
+
+-- they do so under a scheduler, and one of them is refused under it
+abbrev pub RunsUnder : Sched → Scripted → Traced → Type 0
+RunsUnder s script trace = IsMade s × RunsFrom (policy_under s) script (meaning_of s) (kept_of s) trace
+
+abbrev pub IsRefusedUnder : Sched → Scripted → SimFault → Type 0
+IsRefusedUnder s script f = IsMade s × IsSimFault (policy_under s) script (meaning_of s) (kept_of s) f
 
 -- what `sim` wrote: the text that spells a legal trace under the script's setup, to which its steps lead under the scheduler.
 -- Its bios are, each once, the `bio` lines that are followed by a flush of their submitter, and after it by a drain of its
@@ -109,7 +132,11 @@ IsTextFault wrong input f = IfSome input (λ rows. (f.why ≡ why.Read) ⊎ ((f.
 -- a step of the script that was read is refused
 abbrev pub IsStepFault : Sched → Option (List Row) → SimFault → Type 0
 IsStepFault s input f = IfSome input (λ rows. (script : Scripted) × SpellsScript rows script
-    × IsSimFault (policy_under s) script (meaning_of s) (kept_of s) f)
+    × IsRefusedUnder s script f)
+
+-- the scheduler isn't made, once the script was read
+abbrev pub IsSettingFault : Sched → Option (List Row) → SchedFault → Type 0
+IsSettingFault s input f = IfSome input (λ rows. (script : Scripted) × SpellsScript rows script × IsZeroBatch s f)
 
 -- the oracle refuses the commands that were read
 abbrev pub IsSolveFault : Option (List Row) → OracleFault → Type 0
@@ -128,7 +155,8 @@ IsCheckFault input f = IfSome input (λ rows. (claim : Claim) × SpellsClaim row
 -- memory
 abbrev pub IsUnrun : Sched → Scripted → Failure → Type 0
 IsUnrun s script (failure.Text f) = ⊥
-IsUnrun s script (failure.Step f) = IsSimFault (policy_under s) script (meaning_of s) (kept_of s) f
+IsUnrun s script (failure.Sched f) = IsZeroBatch s f
+IsUnrun s script (failure.Step f) = IsRefusedUnder s script f
 IsUnrun s script (failure.Solve f) = ⊥
 IsUnrun s script (failure.Check f) = ⊥
 IsUnrun s script (failure.Write f) = ⊥
@@ -136,6 +164,7 @@ IsUnrun s script failure.Memory = ⊤
 
 abbrev pub IsUnsolved : List Command → Failure → Type 0
 IsUnsolved commands (failure.Text f) = ⊥
+IsUnsolved commands (failure.Sched f) = ⊥
 IsUnsolved commands (failure.Step f) = ⊥
 IsUnsolved commands (failure.Solve f) = IsRefusal commands f
 IsUnsolved commands (failure.Check f) = ⊥
@@ -144,6 +173,7 @@ IsUnsolved commands failure.Memory = ⊤
 
 abbrev pub IsUnproved : Claim → Failure → Type 0
 IsUnproved claim (failure.Text f) = ⊥
+IsUnproved claim (failure.Sched f) = ⊥
 IsUnproved claim (failure.Step f) = ⊥
 IsUnproved claim (failure.Solve f) = ⊥
 IsUnproved claim (failure.Check f) = IsRefusedBound claim f claim.bound
@@ -153,6 +183,7 @@ IsUnproved claim failure.Memory = ⊤
 -- why each job fails
 abbrev pub SimFails : Sched → Option (List Row) → Failure → Type 0
 SimFails s input (failure.Text f) = IsTextFault ScriptFault input f
+SimFails s input (failure.Sched f) = IsSettingFault s input f
 SimFails s input (failure.Step f) = IsStepFault s input f
 SimFails s input (failure.Solve f) = ⊥
 SimFails s input (failure.Check f) = ⊥
@@ -161,6 +192,7 @@ SimFails s input failure.Memory = ⊤
 
 abbrev pub OracleFails : Option (List Row) → Failure → Type 0
 OracleFails input (failure.Text f) = IsTextFault CommandsFault input f
+OracleFails input (failure.Sched f) = ⊥
 OracleFails input (failure.Step f) = ⊥
 OracleFails input (failure.Solve f) = IsSolveFault input f
 OracleFails input (failure.Check f) = ⊥
@@ -169,6 +201,7 @@ OracleFails input failure.Memory = ⊤
 
 abbrev pub CheckFails : Option (List Row) → Failure → Type 0
 CheckFails input (failure.Text f) = IsTextFault ClaimFault input f
+CheckFails input (failure.Sched f) = ⊥
 CheckFails input (failure.Step f) = ⊥
 CheckFails input (failure.Solve f) = ⊥
 CheckFails input (failure.Check f) = IsCheckFault input f
@@ -178,6 +211,7 @@ CheckFails input failure.Memory = ⊤
 -- the version is written, or the writer fails
 abbrev pub VersionFails : Failure → Type 0
 VersionFails (failure.Text f) = ⊥
+VersionFails (failure.Sched f) = ⊥
 VersionFails (failure.Step f) = ⊥
 VersionFails (failure.Solve f) = ⊥
 VersionFails (failure.Check f) = ⊥

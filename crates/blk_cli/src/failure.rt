@@ -3,10 +3,11 @@
 ghost use Rattle.std.specs.Prelude.{◌≡◌, ◌++◌, OnOk, IsTrue, decimal};
 ghost use Rattle.std.specs.Fmt.{signed_decimal};
 ghost use Rattle.std.specs.Io.KnownBytes.{Appends};
-ghost use Rattle.blk_cli.specs.Ends.{line, numbered, at_record, text_name, bio_name, step_name, text_line, step_line, oracle_line, check_line, line_of, text_status, step_status, oracle_status, check_status, status_of};
+ghost use Rattle.blk_cli.specs.Ends.{line, numbered, at_record, text_name, bio_name, step_name, text_line, step_line, sched_line, oracle_line, check_line, line_of, text_status, step_status, oracle_status, check_status, status_of};
 
 use crate::{Ended, FAILED, REFUSED};
 use blk_bio::bio::BioFault;
+use blk_sched::SchedFault;
 use blk_sim::{SimFault, SimWhy};
 use blk_text::fault::{TextFault, Why, WriteFault};
 use edd_check::CheckFault;
@@ -28,6 +29,8 @@ const WANT_OF_MEMORY: &[u8] = b"blk: want of memory\n";
 pub enum Failure {
     /// The text that was read is wrong, or its reader failed.
     Text(TextFault),
+    /// The scheduler is not made of its settings.
+    Sched(SchedFault),
     /// A step of the script is refused.
     Step(SimFault),
     /// The oracle refuses the commands.
@@ -54,6 +57,8 @@ impl Failure {
                 SimWhy::Memory => FAILED,
                 _ => REFUSED,
             },
+            Failure::Sched(SchedFault::Memory) => FAILED,
+            Failure::Sched(_) => REFUSED,
             Failure::Solve(OracleFault::Memory) => FAILED,
             Failure::Solve(_) => REFUSED,
             Failure::Check(CheckFault::Memory) => FAILED,
@@ -68,6 +73,7 @@ impl Failure {
     {
         match self {
             Failure::Text(fault) => tell_text(faults, fault.at, fault.why),
+            Failure::Sched(fault) => tell_sched(faults, *fault),
             Failure::Step(fault) => tell_step(faults, fault.at, fault.why),
             Failure::Solve(fault) => tell_solve(faults, *fault),
             Failure::Check(fault) => tell_check(faults, *fault),
@@ -182,6 +188,17 @@ fn tell_step<F: Write>(faults: &mut F, at: u64, why: SimWhy) -> io::Result<()>
     match why {
         SimWhy::Memory => faults.write_all(WANT_OF_MEMORY),
         _ => tell_record(faults, at, step_name(why)),
+    }
+}
+
+/// Writes the line on a scheduler's settings.
+fn tell_sched<F: Write>(faults: &mut F, fault: SchedFault) -> io::Result<()>
+    ensures { OnOk result (Appends (F.contents faults.old) (F.contents faults.new) (sched_line fault)) }
+{
+    match fault {
+        SchedFault::ZeroBatch => tell_name(faults, "ZeroBatch"),
+        SchedFault::ZeroTarget => tell_name(faults, "ZeroTarget"),
+        SchedFault::Memory => faults.write_all(WANT_OF_MEMORY),
     }
 }
 

@@ -15,7 +15,9 @@ ghost use Rattle.blk_cli.specs.Outcome.{RunsUnder, IsUnrun, IsUnsolved, IsUnprov
 
 use crate::failure::Failure;
 use crate::words::{Sched, VERSION};
+use blk_deadline::{Deadline, Tunables};
 use blk_none::NoneSched;
+use blk_sched::SchedFault;
 use blk_sim::simulate;
 use blk_text::certificate::{Certificate, read_certificate, write_certificate};
 use blk_text::commands::read_commands;
@@ -40,6 +42,45 @@ pub fn write_version<W: Write>(writer: &mut W) -> Result<(), Failure>
     }
 }
 
+/// The trace of a script under `none`.
+fn traced_by_none(alloc: Global, script: &Script) -> Result<Trace, Failure>
+    requires { IsScript (scripted script.now) }
+    ensures ran { IfOk result (λ trace. RunsUnder Sched.None (scripted script.now) trace) }
+    ensures setup { IfOk result (λ trace. trace.setup ≡ script.now.setup) }
+    ensures bios { IfOk result (λ trace. IsPermutation (entered trace.events) (released_bios script.now.setup.hw script.now.lines.items)) }
+    ensures ticks { IfOk result (λ trace. round_of trace.events ≡ sum_by ticks_of script.now.lines.items) }
+    ensures unrun { IfErr result (IsUnrun Sched.None (scripted script.now)) }
+{
+    let Ok(scheduler) = NoneSched::new(alloc) else {
+        return Err(Failure::Memory);
+    };
+    match simulate(alloc, script, scheduler) {
+        Ok(trace) => Ok(trace),
+        Err(fault) => Err(Failure::Step(fault)),
+    }
+}
+
+/// The trace of a script under `deadline`.
+fn traced_by_deadline(alloc: Global, tunables: Tunables, script: &Script) -> Result<Trace, Failure>
+    requires { IsScript (scripted script.now) }
+    ensures ran { IfOk result (λ trace. RunsUnder (Sched.Deadline tunables) (scripted script.now) trace) }
+    ensures setup { IfOk result (λ trace. trace.setup ≡ script.now.setup) }
+    ensures bios { IfOk result (λ trace. IsPermutation (entered trace.events) (released_bios script.now.setup.hw script.now.lines.items)) }
+    ensures ticks { IfOk result (λ trace. round_of trace.events ≡ sum_by ticks_of script.now.lines.items) }
+    ensures unrun { IfErr result (IsUnrun (Sched.Deadline tunables) (scripted script.now)) }
+{
+    if tunables.fifo_batch == 0 {
+        return Err(Failure::Sched(SchedFault::ZeroBatch));
+    }
+    let Ok(scheduler) = Deadline::new(alloc, tunables) else {
+        return Err(Failure::Memory);
+    };
+    match simulate(alloc, script, scheduler) {
+        Ok(trace) => Ok(trace),
+        Err(fault) => Err(Failure::Step(fault)),
+    }
+}
+
 /// The trace of a script under a scheduler.
 fn traced(alloc: Global, sched: Sched, script: &Script) -> Result<Trace, Failure>
     requires { IsScript (scripted script.now) }
@@ -50,15 +91,8 @@ fn traced(alloc: Global, sched: Sched, script: &Script) -> Result<Trace, Failure
     ensures unrun { IfErr result (IsUnrun sched (scripted script.now)) }
 {
     match sched {
-        Sched::None => {
-            let Ok(scheduler) = NoneSched::new(alloc) else {
-                return Err(Failure::Memory);
-            };
-            match simulate(alloc, script, scheduler) {
-                Ok(trace) => Ok(trace),
-                Err(fault) => Err(Failure::Step(fault)),
-            }
-        }
+        Sched::None => traced_by_none(alloc, script),
+        Sched::Deadline(tunables) => traced_by_deadline(alloc, tunables, script),
     }
 }
 

@@ -7,6 +7,7 @@ ghost use Rattle.blk_cli.specs.Ends.{JobEnds, LineEnds, MemoryEnds, RunEnds};
 ghost use Rattle.blk_cli.specs.Outcome.{Does};
 ghost use Rattle.blk_cli.specs.Statuses.{IsOfWriter};
 
+pub mod asking;
 mod failure;
 mod jobs;
 mod words;

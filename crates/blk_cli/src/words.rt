@@ -3,15 +3,16 @@
 ghost use Rattle.std.specs.Prelude.{◌≡◌, ◌⊎◌, false, IfOk, IfErr, map, option_and_then, string_bytes};
 ghost use Rattle.clap.specs.Words.{app_of, rule_of, rows_of, found_of, subcommand_rows_of};
 ghost use Rattle.clap.specs.declared.builder.command.Command.TheViews.{out-Command as fields_of};
-ghost use Rattle.blk_cli.specs.Line.{Names, AreSchedulers, sched_rule, sim_app, blk_app};
-ghost use Rattle.blk_cli.specs.Asked.{Asks, AreRefused, sched_of, job_of};
+ghost use Rattle.blk_cli.specs.Line.{Names, AreSchedulers, sched_rule, number_rule, front_rule, sim_app, blk_app};
+ghost use Rattle.blk_cli.specs.Asked.{Asks, AreRefused, number_given, is_flagged, tunables_of, sched_of, job_of};
 
+use blk_deadline::Tunables;
 use clap::error::ErrorKind;
-use clap::{Arg, ArgAction, ArgMatches, Command, Error};
+use clap::{Arg, ArgAction, ArgMatches, Command, Error, value_parser};
 use std::alloc::{AllocError, Global};
 
 /// The names of the schedulers.
-static SCHEDULERS: [&str; 1] = ["none"];
+static SCHEDULERS: [&str; 2] = ["none", "deadline"];
 
 /// The version of the program.
 pub const VERSION: &str = "1.0.0";
@@ -21,6 +22,8 @@ pub const VERSION: &str = "1.0.0";
 pub enum Sched {
     /// `none`: in the order of entry.
     None,
+    /// `deadline`: by sectors within a batch, and by due rounds between batches.
+    Deadline(Tunables),
 }
 
 /// What the program is asked to do.
@@ -60,14 +63,54 @@ fn sched_arg<'a>(alloc: Global) -> Arg<'a>
         .help("The scheduler")
 }
 
+/// An argument that takes a number of 16 bits.
+fn number_arg<'a>(alloc: Global, name: &'a str, default: &'a str, help: &'a str) -> Arg<'a>
+    ensures rule { rule_of result ≡ number_rule name.entry.now default.entry.now }
+    ensures local { result.global ≡ false }
+{
+    Arg::new(alloc, name)
+        .long(name)
+        .action(ArgAction::Set)
+        .value_parser(value_parser!(u16))
+        .default_value(default)
+        .help(help)
+}
+
+/// The flag that keeps newcomers from joining at the front.
+fn front_arg<'a>(alloc: Global) -> Arg<'a>
+    ensures rule { rule_of result ≡ front_rule }
+    ensures local { result.global ≡ false }
+{
+    Arg::new(alloc, "no-front-merges")
+        .long("no-front-merges")
+        .action(ArgAction::SetTrue)
+        .help("Under deadline, lets no newcomer join at the front")
+}
+
 /// The subcommand that runs a script.
 fn sim_command<'a>(alloc: Global) -> Result<Command<'a>, AllocError>
     ensures app { IfOk result (λ c. (names : Names) × AreSchedulers names × (app_of c ≡ sim_app names)) }
     ensures local { IfOk result (λ c. (fields_of c).has_globals ≡ false) }
 {
-    Command::new(alloc, "sim")
+    let batch = number_arg(
+        alloc,
+        "fifo-batch",
+        "16",
+        "Under deadline, how many requests go in one batch",
+    );
+    let starved = number_arg(
+        alloc,
+        "writes-starved",
+        "2",
+        "Under deadline, how often reads go first while writes wait",
+    );
+    let sim = Command::new(alloc, "sim")
         .about("Runs a script and writes its trace")
-        .arg(sched_arg(alloc))
+        .arg(sched_arg(alloc))?
+        .arg(batch)?
+        .arg(starved)?
+        .arg(front_arg(alloc))?;
+    Ok(sim)
 }
 
 /// The command line of the program.
@@ -89,6 +132,37 @@ fn blk_command<'a>(alloc: Global) -> Result<Command<'a>, AllocError>
     Ok(blk)
 }
 
+/// The number that an option is given.
+fn number_of(options: &ArgMatches<'_>, id: &str) -> Option<u16>
+    ensures { result ≡ number_given id.now (rows_of (found_of options.now)) }
+{
+    options.get_one::<u16>(id)
+}
+
+/// Whether a flag is given.
+fn is_flagged(options: &ArgMatches<'_>, id: &str) -> bool
+    ensures { result ≡ is_flagged id.now (rows_of (found_of options.now)) }
+{
+    match options.get_str(id) {
+        Some(text) => text == "true",
+        None => false,
+    }
+}
+
+/// The settings of `deadline` by the options of `sim`.
+fn tunables_of(options: &ArgMatches<'_>) -> Option<Tunables>
+    ensures { result ≡ tunables_of (rows_of (found_of options.now)) }
+{
+    let fifo_batch = number_of(options, "fifo-batch")?;
+    let writes_starved = number_of(options, "writes-starved")?;
+    let front_merges = !is_flagged(options, "no-front-merges");
+    Some(Tunables {
+        fifo_batch,
+        writes_starved,
+        front_merges,
+    })
+}
+
 /// The scheduler that the options of `sim` name.
 fn sched_of(options: &ArgMatches<'_>) -> Option<Sched>
     ensures { result ≡ sched_of (rows_of (found_of options.now)) }
@@ -96,6 +170,9 @@ fn sched_of(options: &ArgMatches<'_>) -> Option<Sched>
     let name = options.get_str("sched")?;
     if name == "none" {
         Some(Sched::None)
+    } else if name == "deadline" {
+        let tunables = tunables_of(options)?;
+        Some(Sched::Deadline(tunables))
     } else {
         None
     }

@@ -1,5 +1,5 @@
 use Rattle.blk_text.specs.Script.{ScriptFault, scripted}
-use Rattle.blk_cli.proofs.Written.{text_fault, sim_wrote}
+use Rattle.blk_cli.proofs.Written.{text_fault, sim_wrote, sim_fails}
 use Rattle.blk_cli.proofs.jobs.simulate_script.Goals as goal
 
 pub returns-in-Err-clause-did : goal.returns-in-Err-clause-did
@@ -10,3 +10,7 @@ returns-in-Ok-write_trace-clause-did g c =
     let t = c.in-Ok-traced.ensures in
     sim_wrote c.args.sched _ (scripted c.in-Ok.script) c.in-Ok-traced.trace _ _ (rw c.new.ensures.left at c.in-Ok.ensures.ok) t.ran t.setup c.in-Ok-write_trace.ensures.spells
     t.bios t.ticks c.in-Ok-write_trace.ensures.ok
+
+pub returns-in-Err-traced-clause-did : goal.returns-in-Err-traced-clause-did
+returns-in-Err-traced-clause-did g c =
+    sim_fails c.args.sched _ (scripted c.in-Ok.script) c.in-Err-traced.failure (rw c.new.ensures.left at c.in-Ok.ensures.ok) c.in-Err-traced.ensures.unrun

@@ -1,0 +1,19 @@
+//! Laws of the command line: which jobs plain lines ask for, whatever the program's name.
+
+ghost use Rattle.std.specs.Prelude.{◌≡◌, ◌↔◌, ◌∷◌, [], true, codes};
+ghost use Rattle.clap.specs.Words.{Text};
+ghost use Rattle.blk_cli.specs.declared.words.Job.{Job as AJob};
+ghost use Rattle.blk_cli.specs.Asked.{Asks};
+
+use crate::words::{Job, Sched};
+
+/// Each of these lines asks for its job and for no other.
+pub fn plain_lines()
+    ensures sim { (name : Text) → (j : AJob) → Asks (name ∷ codes "sim" ∷ []) j ↔ (j ≡ Job.Sim Sched.None) }
+    ensures none { (name : Text) → (j : AJob) → Asks (name ∷ codes "sim" ∷ codes "--sched" ∷ codes "none" ∷ []) j ↔ (j ≡ Job.Sim Sched.None) }
+    ensures deadline { (name : Text) → (j : AJob) → Asks (name ∷ codes "sim" ∷ codes "--sched" ∷ codes "deadline" ∷ []) j
+        ↔ (j ≡ Job.Sim (Sched.Deadline (record { fifo_batch = 16; writes_starved = 2; front_merges = true }))) }
+    ensures oracle { (name : Text) → (j : AJob) → Asks (name ∷ codes "oracle" ∷ []) j ↔ (j ≡ Job.Oracle) }
+    ensures check { (name : Text) → (j : AJob) → Asks (name ∷ codes "check" ∷ []) j ↔ (j ≡ Job.Check) }
+    ensures version { (name : Text) → Asks (name ∷ codes "--version" ∷ []) Job.Version }
+{}
