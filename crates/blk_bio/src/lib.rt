@@ -10,3 +10,8 @@ pub mod bio;
 pub mod extent;
 pub mod limits;
 pub mod request;
+
+pub use crate::bio::{Bio, BioFault, BioId, Dir, SECTOR_LIMIT};
+pub use crate::extent::Extent;
+pub use crate::limits::{Limits, LimitsFault, MAX_QUEUES, MAX_SECTORS, MAX_SEGMENTS};
+pub use crate::request::{JoinFault, Request, Side};

@@ -1,4 +1,5 @@
-//! How large a request of several bios may be, after `max_sectors` and `max_segments` of Linux's request queue.
+//! How large a request of several bios may be, after `max_sectors` and `max_segments` of Linux's request queue, and how many
+//! hardware queues a device has at most.
 
 ghost use Rattle.std.specs.Prelude.{◌≡◌};
 ghost use Rattle.blk_bio.specs.Limits.{IsLimits, IsLimitsAnswer};
@@ -11,6 +12,9 @@ pub const MAX_SECTORS: u64 = 65_535;
 
 /// The greatest number of segments that may be set as a limit; each bio is one segment.
 pub const MAX_SEGMENTS: u64 = 128;
+
+/// The most hardware queues of a device, at each of which requests enter; they are numbered from 0 on.
+pub const MAX_QUEUES: u8 = 16;
 
 /// Why limits are not made, in the order in which the reasons are looked for.
 #[derive(Clone, Copy, Debug, PartialEq, Eq, Error)]

@@ -6,10 +6,10 @@ ghost use Rattle.std.specs.Io.KnownBytes.{Appends};
 ghost use Rattle.blk_cli.specs.Ends.{line, numbered, at_record, text_name, bio_name, step_name, text_line, step_line, sched_line, oracle_line, check_line, line_of, text_status, step_status, oracle_status, check_status, status_of};
 
 use crate::{Ended, FAILED, REFUSED};
-use blk_bio::bio::BioFault;
+use blk_bio::BioFault;
 use blk_sched::SchedFault;
 use blk_sim::{SimFault, SimWhy};
-use blk_text::fault::{TextFault, Why, WriteFault};
+use blk_text::{TextFault, Why, WriteFault};
 use edd_check::CheckFault;
 use edd_oracle::OracleFault;
 use std::io;

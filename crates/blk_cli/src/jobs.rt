@@ -19,13 +19,11 @@ use blk_deadline::{Deadline, Tunables};
 use blk_none::NoneSched;
 use blk_sched::SchedFault;
 use blk_sim::simulate;
-use blk_text::certificate::{Certificate, read_certificate, write_certificate};
-use blk_text::commands::read_commands;
-use blk_text::fault::WriteFault;
-use blk_text::script::{Script, read_script};
-use blk_text::source::Records;
-use blk_text::trace::write_trace;
-use blk_trace::trace::Trace;
+use blk_text::{
+    Certificate, Records, Script, WriteFault, read_certificate, read_commands, read_script,
+    write_certificate, write_trace,
+};
+use blk_trace::Trace;
 use edd_check::{Capacity, Command, Window, check, load};
 use edd_oracle::solve;
 use std::alloc::{AllocError, Global};

@@ -10,7 +10,7 @@ use Rattle.std.specs.List.{slice_get}
 use Rattle.blk_bio.specs.declared.bio.Dir.{Dir}
 use Rattle.blk_bio.specs.declared.bio.Dir.TheVariants.{Read, Write}
 use Rattle.blk_bio.specs.Requests.{dir_of}
-use Rattle.blk_trace.specs.declared.setup.TheConstants.{MAX_QUEUES}
+use Rattle.blk_bio.specs.declared.limits.TheConstants.{MAX_QUEUES}
 use Rattle.blk_trace.specs.Standing.{Seat, same_dir}
 use Rattle.blk_sched.specs.Meaning.{Waiting, OpenPicks, opened}
 use Rattle.blk_core.specs.declared.TagState.{TagState}

@@ -13,7 +13,7 @@ use Rattle.blk_bio.specs.declared.request.Side.{Side}
 use Rattle.blk_bio.specs.Bios.{Bio}
 use Rattle.blk_bio.specs.Limits.{Limits}
 use Rattle.blk_bio.specs.Requests.{dir_of}
-use Rattle.blk_trace.specs.declared.setup.TheConstants.{MAX_QUEUES}
+use Rattle.blk_bio.specs.declared.limits.TheConstants.{MAX_QUEUES}
 use Rattle.blk_trace.specs.Setups.{Setup, IsSetup, expire_of}
 use Rattle.blk_trace.specs.Happened.{Happened, Released, Joined, Issued, Finished, Returned, Ticked}
 use Rattle.blk_trace.specs.Events.{At, round_of, entered, AreOnce, open_count, join_up}

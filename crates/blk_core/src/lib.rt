@@ -12,12 +12,9 @@ ghost use Rattle.blk_core.specs.Ids.{HasId, IsFirstRepeated};
 
 pub mod laws;
 
-use blk_bio::bio::{Bio, BioId, Dir};
-use blk_bio::request::{Request, Side};
+use blk_bio::{Bio, BioId, Dir, Request, Side};
 use blk_sched::{Queued, Scheduler};
-use blk_trace::event::Event;
-use blk_trace::setup::Setup;
-use blk_trace::trace::{MAX_EVENTS, Trace};
+use blk_trace::{Event, MAX_EVENTS, Setup, Trace};
 use edd_check::Command;
 use std::alloc::{AllocError, Allocator};
 use std::marker::Model;

@@ -1,8 +1,7 @@
 //! The core in the order of entry: lists of calls, each with the answer that it has to give.
 
 use crate::given::{Call, alone, bio, command, follow, id_of, in_order, limits, release, setup};
-use blk_bio::bio::Dir;
-use blk_bio::request::Side;
+use blk_bio::{Dir, Side};
 use blk_core::{CoreFault, IssueFault, NotIssued, Placed, TickFault};
 
 #[test]

@@ -3,13 +3,11 @@
 ghost use Rattle.std.specs.Prelude.{◌≡◌, true};
 ghost use Rattle.blk_sched.specs.Meaning.{at_start};
 
-use blk_bio::bio::{Bio, BioId, Dir};
-use blk_bio::limits::Limits;
-use blk_bio::request::Request;
+use blk_bio::{Bio, BioId, Dir, Limits, Request};
 use blk_core::{Core, CoreFault, IssueFault, NotIssued, Placed, TickFault};
 use blk_none::NoneSched;
 use blk_sched::Scheduler;
-use blk_trace::setup::Setup;
+use blk_trace::Setup;
 use edd_check::Command;
 use std::alloc::Allocator;
 use std::process::Abort;

@@ -1,9 +1,9 @@
 //! The core over a scheduler of one's own.
 
 use crate::given::{Call, command, follow, setup};
-use blk_bio::request::Side;
+use blk_bio::Side;
 use blk_core::{Core, Placed, TickFault};
-use blk_lifo::lifo::Lifo;
+use blk_lifo::Lifo;
 
 #[test]
 fn newest_first(rt: HostRuntime) {

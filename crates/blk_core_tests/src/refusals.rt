@@ -1,7 +1,7 @@
 //! The core where allocations are refused.
 
 use crate::given::{Call, command, follow, in_order, setup};
-use blk_bio::request::Side;
+use blk_bio::Side;
 use blk_core::{Core, Placed};
 use blk_none::NoneSched;
 use refusing::Refusing;

@@ -1,11 +1,9 @@
 //! What the core tells its scheduler.
 
 use crate::given::{Call, alone, bio, command, follow, release, setup};
-use blk_bio::bio::Dir;
-use blk_bio::limits::Limits;
-use blk_bio::request::{Request, Side};
+use blk_bio::{Dir, Limits, Request, Side};
 use blk_core::{Core, Placed};
-use blk_lifo::lifo::Lifo;
+use blk_lifo::Lifo;
 use blk_sched::{Queued, Scheduler};
 use std::alloc::{AllocError, Global};
 use std::cell::Cell;

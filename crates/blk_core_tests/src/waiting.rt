@@ -3,12 +3,9 @@
 ghost use Rattle.std.specs.Prelude.{◌≡◌};
 
 use crate::given::{alone, bio, limits};
-use blk_bio::bio::Dir;
-use blk_bio::request::{Request, Side};
+use blk_bio::{Dir, Request, Side};
 use blk_none::NoneSched;
-use blk_sched::fits::side_of_fit;
-use blk_sched::lane::Lane;
-use blk_sched::{Queued, Scheduler};
+use blk_sched::{Lane, Queued, Scheduler, side_of_fit};
 use std::alloc::Global;
 use std::process::Abort;
 

@@ -9,12 +9,8 @@ ghost use Rattle.blk_sched.specs.Index.{NoneOf};
 ghost use Rattle.blk_deadline.specs.Choice.{serves_all, oldest_of, next_of, in_batch, due_or_next, taken, chosen, turn_after, kept_of, deadline_choice, deadline_chooses};
 ghost use Rattle.blk_deadline.specs.Shown.{pending_of, turn_of, tunables_of, meaning_of};
 
-use blk_bio::bio::Dir;
-use blk_bio::limits::Limits;
-use blk_bio::request::{Request, Side};
-use blk_sched::index::Index;
-use blk_sched::picks::{MAX_HANDED, MAX_OPEN, OpenPicks};
-use blk_sched::{MAX_QUEUES, Queued, SchedFault, Scheduler};
+use blk_bio::{Dir, Limits, MAX_QUEUES, Request, Side};
+use blk_sched::{Index, MAX_HANDED, MAX_OPEN, OpenPicks, Queued, SchedFault, Scheduler};
 use std::alloc::{AllocError, Allocator, Global};
 
 /// What the scheduler is tuned by, by the names of Linux's deadline-iosched.

@@ -2,8 +2,7 @@
 //! call is made once more.
 
 use crate::given::{issue, release, ticks, tuned, under};
-use blk_bio::bio::Dir;
-use blk_bio::request::Side;
+use blk_bio::{Dir, Side};
 use blk_core::Placed;
 use refusing::Refusing;
 use std::alloc::Global;

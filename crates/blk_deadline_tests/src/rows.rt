@@ -1,8 +1,7 @@
 //! The rows of the rule. Requests are named by the order in which they enter.
 
 use crate::given::{issue, issues, reads, release, ticks, tuned, under};
-use blk_bio::bio::Dir;
-use blk_bio::request::Side;
+use blk_bio::{Dir, Side};
 use blk_core::Placed;
 use blk_deadline::Deadline;
 use blk_sched::SchedFault;

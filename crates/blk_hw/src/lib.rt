@@ -8,7 +8,8 @@ ghost use Rattle.std.specs.Prelude.{◌≡◌, ◌<◌, ◌≤◌, ◌+◌, ◌+
 ghost use Rattle.std.specs.Bool.{OnTrue, OnFalse};
 ghost use Rattle.blk_hw.specs.Maps.{greatest_hw, IsMap, IsHwCount, IsCounted, IsMapAnswer};
 
-use blk_sched::{MAX_QUEUES, Queued};
+use blk_bio::MAX_QUEUES;
+use blk_sched::Queued;
 use std::alloc::{AllocError, Allocator, Global};
 use std::collections::VecDeque;
 use std::marker::Model;

@@ -20,11 +20,8 @@ pub mod turn;
 use crate::limits::DomainLimits;
 use crate::lines::Lines;
 use crate::turn::{Turn, cap, other};
-use blk_bio::bio::Dir;
-use blk_bio::limits::Limits;
-use blk_bio::request::{Request, Side};
-use blk_sched::picks::{MAX_HANDED, MAX_OPEN, OpenPicks};
-use blk_sched::{MAX_QUEUES, Queued, SchedFault, Scheduler};
+use blk_bio::{Dir, Limits, MAX_QUEUES, Request, Side};
+use blk_sched::{MAX_HANDED, MAX_OPEN, OpenPicks, Queued, SchedFault, Scheduler};
 use std::alloc::{AllocError, Allocator, Global};
 
 /// How many rounds a request may wait from its release to its issue, 1 at least.

@@ -3,8 +3,8 @@
 ghost use Rattle.std.specs.Prelude.{◌≡◌, ◌<◌, ◌≤◌};
 ghost use Rattle.blk_kyber.specs.Limits.{first_limits, limit_of, missed, limit_then, set_anew};
 
-use blk_bio::bio::Dir;
-use blk_sched::picks::MAX_OPEN;
+use blk_bio::Dir;
+use blk_sched::MAX_OPEN;
 use std::marker::Model;
 
 /// The limits of both directions, and which of them had a miss since they were last set.

@@ -8,11 +8,8 @@ ghost use Rattle.blk_sched.specs.Fits.{IsNewestFit, FitsNone, HasFit};
 ghost use Rattle.blk_sched.specs.Index.{IsJoined, IsOldest, NoneOf};
 ghost use Rattle.blk_kyber.specs.Inside.Queues.{served_of};
 
-use blk_bio::bio::Dir;
-use blk_bio::limits::Limits;
-use blk_bio::request::{Request, Side};
-use blk_sched::index::Index;
-use blk_sched::{MAX_QUEUES, Queued};
+use blk_bio::{Dir, Limits, MAX_QUEUES, Request, Side};
+use blk_sched::{Index, Queued};
 use std::alloc::{AllocError, Allocator, Global};
 use std::marker::Model;
 

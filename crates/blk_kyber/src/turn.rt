@@ -3,7 +3,7 @@
 ghost use Rattle.std.specs.Prelude.{◌≡◌, Some, true, false};
 ghost use Rattle.blk_kyber.specs.Choice.{first_turn, turn_by, other_of, cap_of};
 
-use blk_bio::bio::Dir;
+use blk_bio::Dir;
 
 /// The direction whose turn it is at a hardware queue, and how many of its requests went in this turn.
 #[derive(Clone, Copy, Debug, PartialEq, Eq)]

@@ -1,12 +1,10 @@
 //! What the tests are given: cores over the kyber scheduler, and calls that are made once more where memory was refused.
 //! Requests are of 8 sectors, 16 apart, and named by the order in which they enter.
 
-use blk_bio::bio::{Bio, BioId, Dir};
-use blk_bio::limits::Limits;
-use blk_bio::request::Request;
+use blk_bio::{Bio, BioId, Dir, Limits, Request};
 use blk_core::{Core, CoreFault, Placed};
 use blk_kyber::{Kyber, Targets};
-use blk_trace::setup::Setup;
+use blk_trace::Setup;
 use std::alloc::Allocator;
 use std::process::Abort;
 

@@ -1,7 +1,7 @@
 //! The rows of the rule.
 
 use crate::given::{done, enter, issue, issues, targets, ticks, under};
-use blk_bio::bio::Dir;
+use blk_bio::Dir;
 use blk_kyber::Kyber;
 use blk_sched::SchedFault;
 

@@ -2,3 +2,5 @@
 #![tactic(auto)]
 
 pub mod lifo;
+
+pub use crate::lifo::Lifo;

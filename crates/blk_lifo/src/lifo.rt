@@ -8,11 +8,8 @@ ghost use Rattle.std.specs.FinMap as map;
 ghost use Rattle.blk_sched.specs.Meaning.{HasCandidate, HasNoCandidate, Joins, at_start};
 ghost use Rattle.blk_lifo.specs.Stacks.{serves_all, lifo_chooses, found, IsNewest, IsNewestOf, IsFitAt, IsPlaceOf, JoinsPlace};
 
-use blk_bio::bio::Dir;
-use blk_bio::limits::Limits;
-use blk_bio::request::{Request, Side};
-use blk_sched::picks::OpenPicks;
-use blk_sched::{Queued, Scheduler};
+use blk_bio::{Dir, Limits, Request, Side};
+use blk_sched::{OpenPicks, Queued, Scheduler};
 use std::alloc::{AllocError, Allocator, Global};
 use std::marker::Model;
 

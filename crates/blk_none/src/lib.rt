@@ -6,12 +6,8 @@ ghost use Rattle.std.specs.FinMap as map;
 ghost use Rattle.blk_sched.specs.Meaning.{Waiting, Meaning, HasCandidate, HasNoCandidate, Joins, ServesNothing, Picks, HandsBack, opened, open_of, handed_of, at_start};
 ghost use Rattle.blk_none.specs.Choice.{serves_own, none_choice, none_chooses};
 
-use blk_bio::bio::Dir;
-use blk_bio::limits::Limits;
-use blk_bio::request::{Request, Side};
-use blk_sched::lane::Lane;
-use blk_sched::picks::{MAX_OPEN, OpenPicks};
-use blk_sched::{MAX_QUEUES, Queued, SchedFault, Scheduler};
+use blk_bio::{Dir, Limits, MAX_QUEUES, Request, Side};
+use blk_sched::{Lane, MAX_OPEN, OpenPicks, Queued, SchedFault, Scheduler};
 use std::alloc::{AllocError, Allocator, Global};
 use std::marker::Model;
 

@@ -4,9 +4,7 @@ ghost use Rattle.std.specs.Prelude.{◌∷◌, [], IfNone, IfSome, true};
 ghost use Rattle.blk_bio.specs.Requests.{IsJoinCandidate};
 ghost use Rattle.blk_plug.specs.Plugs.{HasNoCandidate};
 
-use blk_bio::bio::Bio;
-use blk_bio::limits::Limits;
-use blk_bio::request::{Request, Side};
+use blk_bio::{Bio, Limits, Request, Side};
 use std::alloc::Allocator;
 use std::collections::VecDeque;
 

@@ -8,3 +8,5 @@
 
 mod candidate;
 pub mod plug;
+
+pub use crate::plug::{Added, PLUG_REQUESTS, Plug, PlugFault};

@@ -8,9 +8,7 @@ ghost use Rattle.blk_plug.specs.Plugs.{Plug as PlugFields, IsPlug, bios_of, IsJo
 ghost use Rattle.blk_plug.specs.Answers.{IsAddAnswer};
 
 use crate::candidate::candidate;
-use blk_bio::bio::Bio;
-use blk_bio::limits::Limits;
-use blk_bio::request::{Request, Side};
+use blk_bio::{Bio, Limits, Request, Side};
 use std::alloc::{AllocError, Allocator, Global};
 use std::collections::VecDeque;
 use std::marker::Model;

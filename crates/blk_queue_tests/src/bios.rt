@@ -1,9 +1,7 @@
 //! Bios, limits and requests.
 
 use crate::given::{Heap, bio, id_of, joined, limits, request};
-use blk_bio::bio::{Bio, BioFault, Dir, SECTOR_LIMIT};
-use blk_bio::limits::{Limits, LimitsFault};
-use blk_bio::request::{JoinFault, Request, Side};
+use blk_bio::{Bio, BioFault, Dir, JoinFault, Limits, LimitsFault, Request, SECTOR_LIMIT, Side};
 use refusing::Refusing;
 use std::process::Abort;
 

@@ -1,8 +1,6 @@
 //! What the tests are given: an allocator that refuses one allocation, and calls that are made once more where it did.
 
-use blk_bio::bio::{Bio, BioId, Dir};
-use blk_bio::limits::Limits;
-use blk_bio::request::{JoinFault, Request, Side};
+use blk_bio::{Bio, BioId, Dir, JoinFault, Limits, Request, Side};
 use refusing::Refusing;
 use std::alloc::Global;
 use std::process::Abort;

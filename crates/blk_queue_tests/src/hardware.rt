@@ -1,7 +1,7 @@
 //! Maps from software queues to hardware queues, and held lists.
 
 use crate::given::{Heap, bio, request};
-use blk_bio::bio::Dir;
+use blk_bio::Dir;
 use blk_hw::{HeldList, Map, MapFault};
 use blk_sched::Queued;
 use refusing::Refusing;

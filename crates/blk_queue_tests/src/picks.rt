@@ -1,6 +1,6 @@
 //! The counts of picks that are open and of those that were handed back.
 
-use blk_bio::bio::Dir;
+use blk_bio::Dir;
 use blk_sched::OpenPicks;
 
 /// A read is picked, handed back, issued again and done; a write is picked meanwhile.

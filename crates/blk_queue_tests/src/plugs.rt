@@ -1,9 +1,8 @@
 //! Plugs.
 
 use crate::given::{Heap, bio, limits};
-use blk_bio::bio::Dir;
-use blk_bio::request::Side;
-use blk_plug::plug::{Added, Plug, PlugFault};
+use blk_bio::{Dir, Side};
+use blk_plug::{Added, Plug, PlugFault};
 use refusing::Refusing;
 use std::process::Abort;
 

@@ -1,8 +1,7 @@
 //! Software queues.
 
 use crate::given::{Heap, bio, limits, request};
-use blk_bio::bio::Dir;
-use blk_bio::request::Request;
+use blk_bio::{Dir, Request};
 use blk_soft::SoftQueue;
 use refusing::Refusing;
 use std::process::Abort;

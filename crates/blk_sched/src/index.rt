@@ -19,10 +19,7 @@ use crate::shelf::Shelf;
 use crate::spots::{
     Edges, Spot, end_spot, first_spot, is_write, newest_at, oldest_above, oldest_from, put, take,
 };
-use blk_bio::bio::Dir;
-use blk_bio::extent::Extent;
-use blk_bio::limits::Limits;
-use blk_bio::request::{Request, Side};
+use blk_bio::{Dir, Extent, Limits, Request, Side};
 use std::alloc::{AllocError, Allocator, Global};
 use std::collections::BTreeSet;
 use std::marker::Model;

@@ -17,16 +17,14 @@ pub mod picks;
 pub mod shelf;
 pub mod spots;
 
-use blk_bio::bio::Dir;
-use blk_bio::limits::Limits;
-use blk_bio::request::{JoinFault, Request, Side};
-pub use picks::{MAX_HANDED, MAX_OPEN, OpenPicks};
+pub use crate::fits::side_of_fit;
+pub use crate::index::Index;
+pub use crate::lane::Lane;
+pub use crate::picks::{MAX_HANDED, MAX_OPEN, OpenPicks};
+use blk_bio::{Dir, JoinFault, Limits, MAX_QUEUES, Request, Side};
 use std::alloc::{AllocError, Allocator, Global};
 use std::marker::Model;
 use thiserror::Error;
-
-/// How many hardware queues there are at most: they are numbered from 0.
-pub const MAX_QUEUES: u8 = 16;
 
 /// A request as it enters a scheduler and leaves it: its id, the hardware queue (below `MAX_QUEUES`) that it entered at, the
 /// round of its release, the round in which it is due, and its bios.

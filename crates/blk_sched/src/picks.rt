@@ -4,7 +4,7 @@
 ghost use Rattle.std.specs.Prelude.{◌≡◌, ◌<◌, ◌+◌};
 ghost use Rattle.blk_sched.specs.Meaning.{no_picks, open_of, handed_of, opened, handed_back};
 
-use blk_bio::bio::Dir;
+use blk_bio::Dir;
 use std::marker::Model;
 
 /// The most picks that may be open, as many as there are tags.

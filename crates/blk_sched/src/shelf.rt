@@ -7,8 +7,7 @@ ghost use Rattle.blk_sched.specs.Meaning.{Waiting};
 ghost use Rattle.blk_sched.specs.Inside.Shelves.{JoinsOne, IsLeast};
 
 use crate::Queued;
-use blk_bio::limits::Limits;
-use blk_bio::request::{Request, Side};
+use blk_bio::{Limits, Request, Side};
 use slab::Slab;
 use std::alloc::{AllocError, Allocator, Global};
 use std::collections::BTreeMap;

@@ -6,8 +6,7 @@ ghost use Rattle.std.specs.BTreeSet.{contains};
 ghost use Rattle.std.specs.declared.cmp.Ordering.TheVariants.{Less};
 ghost use Rattle.blk_sched.specs.Inside.Spots.{Place, Spot, spot_cmp, is_write, first_at, end_at, age_at, Adds, Takes, Keeps, IsNewestSpot, NoSpot, upper_of};
 
-use blk_bio::bio::Dir;
-use blk_bio::extent::Extent;
+use blk_bio::{Dir, Extent};
 use std::alloc::{AllocError, Allocator, Global};
 use std::collections::BTreeSet;
 use std::ops::Bound;

@@ -4,7 +4,7 @@ ghost use Rattle.std.specs.Prelude.{◌≡◌, ◌≢◌, Some};
 ghost use Rattle.blk_sim.specs.Refusals.{added_why, released_why, issued_why, ticked_why};
 
 use blk_core::{CoreFault, IssueFault, TickFault};
-use blk_plug::plug::PlugFault;
+use blk_plug::PlugFault;
 use thiserror::Error;
 
 /// Why a step of a script is refused.

@@ -15,14 +15,14 @@ ghost use Rattle.blk_sim.specs.Simulated.{IsReady, IsSpread};
 use crate::refusal::{SimFault, SimWhy};
 use crate::rounds::run;
 use crate::steps::{add, done, drain, flush, issue, tick};
-use blk_bio::limits::Limits;
+use blk_bio::Limits;
 use blk_core::Core;
 use blk_hw::Map;
-use blk_plug::plug::Plug;
+use blk_plug::Plug;
 use blk_sched::Scheduler;
 use blk_soft::SoftQueue;
-use blk_text::script::{Line, Script};
-use blk_trace::trace::Trace;
+use blk_text::{Line, Script};
+use blk_trace::Trace;
 use std::alloc::{AllocError, Allocator};
 use std::marker::Model;
 

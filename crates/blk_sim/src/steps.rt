@@ -14,14 +14,13 @@ ghost use Rattle.blk_sim.specs.Refusals.{IsBioRefused, IsFlushRefused, IsOverful
 ghost use Rattle.blk_sim.specs.Simulated.{HaveCome, IsSpread};
 
 use crate::refusal::{SimWhy, why_added, why_issued, why_released, why_ticked};
-use blk_bio::bio::Bio;
-use blk_bio::request::Request;
+use blk_bio::{Bio, Request};
 use blk_core::Core;
 use blk_hw::Map;
-use blk_plug::plug::Plug;
+use blk_plug::Plug;
 use blk_sched::Scheduler;
 use blk_soft::SoftQueue;
-use blk_trace::trace::MAX_EVENTS;
+use blk_trace::MAX_EVENTS;
 use edd_check::Command;
 use std::alloc::Allocator;
 

@@ -8,8 +8,7 @@ ghost use Rattle.std.specs.Prelude.{◌≡◌, ◌++◌, ◌∷◌, [], ◌+◌,
 ghost use Rattle.blk_bio.specs.Requests.{IsWithin};
 ghost use Rattle.blk_soft.specs.Queues.{greatest_depth, most_bios, Queue, IsQueue};
 
-use blk_bio::limits::Limits;
-use blk_bio::request::Request;
+use blk_bio::{Limits, Request};
 use circular_buffer::HeapCircularBuffer;
 use std::alloc::{AllocError, Allocator, Global};
 use std::marker::Model;

@@ -1,6 +1,6 @@
 //! What is wrong with a text, and why one was not written.
 
-use blk_bio::bio::BioFault;
+use blk_bio::BioFault;
 use thiserror::Error;
 
 /// What is wrong with a record, in the order in which it is looked for.

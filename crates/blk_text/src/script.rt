@@ -16,8 +16,8 @@ use crate::fields::{Slot, WIDTH, field, parse_number, read_fields, version_of, w
 use crate::items::{LineForm, read_line, read_lines};
 use crate::setup::SetupForm;
 use crate::source::Records;
-use blk_bio::bio::{Bio, BioId, Dir};
-use blk_trace::setup::Setup;
+use blk_bio::{Bio, BioId, Dir};
+use blk_trace::Setup;
 use csv::ByteRecord;
 use parts::Repeats;
 use std::alloc::Global;

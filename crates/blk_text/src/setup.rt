@@ -12,8 +12,8 @@ ghost use Rattle.blk_text.specs.declared.fields.Slot.TheVariants as slot;
 use crate::fault::Why;
 use crate::fields::{Slot, WIDTH, begins_with, read_fields, without_word};
 use crate::items::LineForm;
-use blk_bio::limits::Limits;
-use blk_trace::setup::Setup;
+use blk_bio::Limits;
+use blk_trace::Setup;
 use csv::ByteRecord;
 
 /// The setup of the numbers of a record.

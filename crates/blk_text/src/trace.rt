@@ -14,10 +14,8 @@ ghost use Rattle.blk_text.specs.TraceRecords.{word_row, group_rows, event_rows, 
 use crate::block::{Block, write_whole};
 use crate::fault::WriteFault;
 use crate::pieces::{put, put_number, put_two};
-use blk_bio::bio::{Bio, Dir};
-use blk_trace::event::Event;
-use blk_trace::setup::Setup;
-use blk_trace::trace::Trace;
+use blk_bio::{Bio, Dir};
+use blk_trace::{Event, Setup, Trace};
 use std::alloc::{AllocError, Allocator, Global};
 use std::io::Write;
 

@@ -1,12 +1,8 @@
 //! The faults of texts, each by its record and name. What a user meets of them, and in which order, is shown by the cases
 //! of the program.
 
-use blk_bio::bio::BioFault;
-use blk_text::certificate::read_certificate;
-use blk_text::commands::read_commands;
-use blk_text::fault::{TextFault, Why, WriteFault};
-use blk_text::script::read_script;
-use blk_text::source::Records;
+use blk_bio::BioFault;
+use blk_text::{Records, TextFault, Why, WriteFault, read_certificate, read_commands, read_script};
 
 #[test]
 fn faults_of_a_command_list(rt: HostRuntime) {

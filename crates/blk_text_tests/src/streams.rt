@@ -1,12 +1,10 @@
 //! Texts whose reader fails after so many bytes, and whose writer does.
 
 use crate::texts::{JOINED, joined_trace};
-use blk_text::certificate::{read_certificate, write_certificate};
-use blk_text::commands::{read_commands, write_commands};
-use blk_text::fault::{TextFault, Why, WriteFault};
-use blk_text::script::read_script;
-use blk_text::source::Records;
-use blk_text::trace::write_trace;
+use blk_text::{
+    Records, TextFault, Why, WriteFault, read_certificate, read_commands, read_script,
+    write_certificate, write_commands, write_trace,
+};
 use std::io;
 use std::io::{ErrorKind, Read, Write};
 

@@ -1,16 +1,11 @@
 //! What is read of texts, in all their spellings, and written again.
 
-use blk_bio::bio::{Bio, BioId, Dir};
-use blk_bio::limits::Limits;
-use blk_bio::request::Request;
-use blk_text::certificate::{read_certificate, write_certificate};
-use blk_text::commands::{read_commands, write_commands};
-use blk_text::script::{Line, read_script};
-use blk_text::source::Records;
-use blk_text::trace::write_trace;
-use blk_trace::event::Event;
-use blk_trace::setup::Setup;
-use blk_trace::trace::Trace;
+use blk_bio::{Bio, BioId, Dir, Limits, Request};
+use blk_text::{
+    Line, Records, read_certificate, read_commands, read_script, write_certificate, write_commands,
+    write_trace,
+};
+use blk_trace::{Event, Setup, Trace};
 use edd_check::Window;
 use std::alloc::Global;
 use std::process::Abort;

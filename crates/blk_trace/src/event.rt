@@ -1,6 +1,6 @@
 //! What can happen in a block layer: the events of Linux's blktrace that this model has.
 
-use blk_bio::request::Request;
+use blk_bio::Request;
 use std::alloc::{Allocator, Global};
 
 /// One thing that happened.

@@ -7,9 +7,7 @@ ghost use Rattle.blk_trace.specs.Events.{join_up};
 ghost use Rattle.blk_trace.specs.Standing.{Entered};
 ghost use Rattle.blk_trace.specs.Inside.Kept.{summary};
 
-use blk_bio::bio::Dir;
-use blk_bio::limits::Limits;
-use blk_bio::request::Request;
+use blk_bio::{Dir, Limits, Request};
 use std::alloc::Allocator;
 
 /// A request that waits, without its bios: its direction, its range and the number of its bios, and the rounds of

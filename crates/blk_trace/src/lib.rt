@@ -11,5 +11,5 @@ pub mod trace;
 
 pub use event::Event;
 pub use rule::{PushFault, TraceFault, TraceRule};
-pub use setup::{EXPIRE_LIMIT, MAX_DEPTH, MAX_QUEUES, Setup, SetupFault};
+pub use setup::{EXPIRE_LIMIT, MAX_DEPTH, Setup, SetupFault};
 pub use trace::{MAX_EVENTS, Prepared, Trace};

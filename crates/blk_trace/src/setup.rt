@@ -3,16 +3,12 @@
 ghost use Rattle.std.specs.Prelude.{◌≡◌, ◌<◌};
 ghost use Rattle.blk_trace.specs.Setups.{IsSetup, IsSetupAnswer, expire_of};
 
-use blk_bio::bio::Dir;
-use blk_bio::limits::Limits;
+use blk_bio::{Dir, Limits, MAX_QUEUES};
 use std::marker::Model;
 use thiserror::Error;
 
 /// The most tags.
 pub const MAX_DEPTH: u64 = 64;
-
-/// The most hardware queues: they are numbered from 0 on.
-pub const MAX_QUEUES: u8 = 16;
 
 /// Every expiry lies below this number of rounds.
 pub const EXPIRE_LIMIT: u64 = 1 << 40;

@@ -1,12 +1,7 @@
 //! What the tests are given: events as plain values, and calls that are made once more where an allocation was refused.
 
-use blk_bio::bio::{Bio, BioId, Dir};
-use blk_bio::limits::Limits;
-use blk_bio::request::Request;
-use blk_trace::event::Event;
-use blk_trace::rule::{PushFault, TraceFault};
-use blk_trace::setup::Setup;
-use blk_trace::trace::Trace;
+use blk_bio::{Bio, BioId, Dir, Limits, Request};
+use blk_trace::{Event, PushFault, Setup, Trace, TraceFault};
 use edd_check::Command;
 use refusing::Refusing;
 use std::alloc::Global;

@@ -4,10 +4,8 @@ use crate::given::{
     Heap, Step, bio, command, empty, event, has_commands, has_events, has_waiting, limits, made,
     push, setup, standing,
 };
-use blk_bio::bio::{Bio, Dir};
-use blk_trace::event::Event;
-use blk_trace::rule::TraceFault;
-use blk_trace::trace::Trace;
+use blk_bio::{Bio, Dir};
+use blk_trace::{Event, Trace, TraceFault};
 use refusing::Refusing;
 use std::process::Abort;
 

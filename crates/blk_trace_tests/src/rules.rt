@@ -4,11 +4,8 @@ use crate::given::{
     Heap, Step, bio, command, empty, event, has_commands, has_events, has_waiting, is_event,
     limits, push, push_all, request, setup, standing,
 };
-use blk_bio::bio::Dir;
-use blk_trace::event::Event;
-use blk_trace::rule::{PushFault, TraceRule};
-use blk_trace::setup::Setup;
-use blk_trace::trace::{MAX_EVENTS, Trace};
+use blk_bio::Dir;
+use blk_trace::{Event, MAX_EVENTS, PushFault, Setup, Trace, TraceRule};
 use refusing::Refusing;
 use std::process::Abort;
 

@@ -4,11 +4,9 @@ use crate::given::{
     Heap, Step, bio, command, empty, has_commands, has_events, has_waiting, limits, made, push,
     push_all, setup, standing,
 };
-use blk_bio::bio::Dir;
+use blk_bio::Dir;
 use blk_trace::laws::timed_by_the_ticks_before;
-use blk_trace::rule::{TraceFault, TraceRule};
-use blk_trace::setup::{Setup, SetupFault};
-use blk_trace::trace::Trace;
+use blk_trace::{Setup, SetupFault, Trace, TraceFault, TraceRule};
 use refusing::Refusing;
 use std::process::Abort;
 

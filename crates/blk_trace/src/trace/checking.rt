@@ -16,8 +16,7 @@ use crate::known::Known;
 use crate::rule::TraceRule;
 use crate::tags::{TagUse, any_open};
 use crate::trace::{Hashing, MAX_EVENTS, Trace};
-use blk_bio::bio::{Bio, BioId};
-use blk_bio::request::Request;
+use blk_bio::{Bio, BioId, Request};
 use std::alloc::Allocator;
 use std::collections::HashSet;
 

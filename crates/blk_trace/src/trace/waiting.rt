@@ -19,9 +19,7 @@ use crate::event::Event;
 use crate::known::Known;
 use crate::setup::Setup;
 use crate::trace::{Hashing, Trace};
-use blk_bio::bio::Bio;
-use blk_bio::limits::Limits;
-use blk_bio::request::{JoinFault, Request};
+use blk_bio::{Bio, JoinFault, Limits, Request};
 use std::alloc::{AllocError, Allocator};
 use std::collections::{BTreeMap, HashMap};
 

@@ -1,6 +1,6 @@
 use Rattle.std.proofs.Common.{rules, ℕ, ◌≡◌, ◌∙◌, ap, List, Option, Some, None, sym, subst, refl, ◌<◌, arith, length, map, set}
 use Rattle.std.proofs.lemmas.List.{map-set}
-use Rattle.blk_trace.specs.declared.setup.TheConstants.{MAX_QUEUES}
+use Rattle.blk_bio.specs.declared.limits.TheConstants.{MAX_QUEUES}
 use Rattle.blk_trace.specs.Happened.{Issued}
 use Rattle.blk_trace.specs.Events.{round_of}
 use Rattle.blk_trace.specs.Traces.{Traced}
