@@ -1,26 +1,26 @@
 -- What is kept of a request that another joins.
-use Rattle.std.proofs.Common.{◌≡◌, ◌<◌, ◌≤◌, ◌+◌, ◌++◌, ◌==◌, ℕ, List, [], ◌∷◌, length, refl, sym, ◌∙◌, ap, subst, arith, length-append, cond, true, false, inr, ne_eqb, eq-eqb}
-use Rattle.std.proofs.lemmas.List.Sums.{sum_by-append}
+use Rattle.std.proofs.Common.{◌≡◌, ◌<◌, ◌≤◌, ◌+◌, ◌++◌, ◌==◌, ℕ, List, [], ◌∷◌, length, refl, sym, ◌∙◌, ap, subst, arith, length-append, cond, true, false, inl, inr, ne_eqb, eq-eqb}
 use Rattle.blk_bio.specs.declared.bio.Dir.{Dir}
 use Rattle.blk_bio.specs.declared.request.Side.{Side}
 use Rattle.blk_bio.specs.declared.request.Side.TheVariants.{Back, Front}
 use Rattle.blk_bio.specs.Bios.{Bio}
 use Rattle.blk_bio.specs.Limits.{Limits}
-use Rattle.blk_bio.specs.Requests.{dir_of, first_of, last_of, sectors_of, Fits}
-use Rattle.blk_bio.proofs.Tiles.{last-append}
+use Rattle.blk_bio.specs.Requests.{IsRequest, IsWithin, dir_of, first_of, last_of, Fits}
+use Rattle.blk_bio.specs.declared.extent.Extent.{Extent}
+use Rattle.blk_bio.specs.Extents.{extent_of}
+use Rattle.blk_bio.proofs.Tiles.{last-append, joins, range_of}
 use Rattle.blk_trace.specs.declared.known.Waiting.{Waiting}
 use Rattle.blk_trace.specs.Events.{join_up}
 use Rattle.blk_trace.specs.Waits.{Entered}
-use Rattle.blk_trace.specs.Inside.Kept.{summary}
+use Rattle.blk_trace.specs.Inside.Kept.{summary, together}
 
-same_kept : (d d' : Dir) (f f' e e' s s' b b' r u : ℕ) → d ≡ d' → f ≡ f' → e ≡ e' → s ≡ s' → b ≡ b'
-    → (let x : Waiting = record { dir = d; first = f; end = e; sectors = s; bios = b; release = r; due = u } in x) ≡ (let y : Waiting = record { dir = d'; first = f'; end = e'; sectors = s'; bios = b'; release = r; due = u } in y)
-same_kept d d' f f' e e' s s' b b' r u hd hf he hs hb =
-    ap (λ (x : Dir). let y : Waiting = record { dir = x; first = f; end = e; sectors = s; bios = b; release = r; due = u } in y) hd
-    ∙ ap (λ (x : ℕ). let y : Waiting = record { dir = d'; first = x; end = e; sectors = s; bios = b; release = r; due = u } in y) hf
-    ∙ ap (λ (x : ℕ). let y : Waiting = record { dir = d'; first = f'; end = x; sectors = s; bios = b; release = r; due = u } in y) he
-    ∙ ap (λ (x : ℕ). let y : Waiting = record { dir = d'; first = f'; end = e'; sectors = x; bios = b; release = r; due = u } in y) hs
-    ∙ ap (λ (x : ℕ). let y : Waiting = record { dir = d'; first = f'; end = e'; sectors = s'; bios = x; release = r; due = u } in y) hb
+same_extent : (d d' : Dir) (f f' e e' b b' : ℕ) → d ≡ d' → f ≡ f' → e ≡ e' → b ≡ b'
+    → (let x : Extent = record { dir = d; first = f; end = e; bios = b } in x) ≡ (let y : Extent = record { dir = d'; first = f'; end = e'; bios = b' } in y)
+same_extent d d' f f' e e' b b' hd hf he hb =
+    ap (λ (x : Dir). let y : Extent = record { dir = x; first = f; end = e; bios = b } in y) hd
+    ∙ ap (λ (x : ℕ). let y : Extent = record { dir = d'; first = x; end = e; bios = b } in y) hf
+    ∙ ap (λ (x : ℕ). let y : Extent = record { dir = d'; first = f'; end = x; bios = b } in y) he
+    ∙ ap (λ (x : ℕ). let y : Extent = record { dir = d'; first = f'; end = e'; bios = x } in y) hb
 
 last_of_second : (a n : List Bio) → 0 < length n → last_of (a ++ n) ≡ last_of n
 last_of_second a [] h = absurd (omega arith)
@@ -38,66 +38,43 @@ joins_front : (a n : List Bio) → 0 < length a → (first_of n ≡ last_of a �
 joins_front [] n h other = absurd (omega arith)
 joins_front (x ∷ a) n h other = let t : (first_of n == last_of (x ∷ a)) ≡ false = ne_eqb _ _ other in ap (λ b. cond b ((x ∷ a) ++ n) (n ++ (x ∷ a))) t
 
--- the kept numbers of a request to which another is joined at the back
-pub joined_back : (limits : Limits) (old : Waiting) (w : Entered) (n : List Bio) (round end sectors count : ℕ) → old ≡ summary w → 0 < length w.bios → 0 < length n
-    → dir_of n ≡ old.dir → first_of n ≡ old.end → end ≡ last_of n → sectors ≡ sectors_of n → count ≡ length n
-    → old.sectors + sectors ≤ limits.max_sectors → old.bios + count ≤ limits.max_segments
-    → ((s : Side) × Fits limits w.bios n s) × ((let x : Waiting = record { dir = old.dir; first = old.first; end = end; sectors = old.sectors + sectors; bios = old.bios + count; release = round; due = old.due } in x) ≡ summary record { release = round; due = w.due; bios = join_up w.bios n })
-joined_back limits old w n round end sectors count is some new same here he hs hc most many =
-    let j : join_up w.bios n ≡ w.bios ++ n = joins_back w.bios n some (here ∙ ap (λ (x : Waiting). x.end) is) in
-    let total : sectors_of (w.bios ++ n) ≡ sectors_of w.bios + sectors_of n = sum_by-append (λ (b : Bio). b.sectors) w.bios n in
-    let os : old.sectors ≡ sectors_of w.bios = ap (λ (x : Waiting). x.sectors) is in
-    let ob : old.bios ≡ length w.bios = ap (λ (x : Waiting). x.bios) is in
-    let od : old.dir ≡ dir_of w.bios = ap (λ (x : Waiting). x.dir) is in
-    let of : old.first ≡ first_of w.bios = ap (λ (x : Waiting). x.first) is in
-    let ou : old.due ≡ w.due = ap (λ (x : Waiting). x.due) is in
-    let fs = first_of_first w.bios n some in (
-      (
-        Back,
-        record {
-          same_direction = same ∙ od;
-          abuts = here ∙ ap (λ (x : Waiting). x.end) is;
-          within = inr (omega (arith, total, os, hs, most), omega (arith, length-append w.bios n, ob, hc, many));
-        },
-      ),
-      same_kept _ _ _ _ _ _ _ _ _ _ round old.due (od ∙ sym fs.1) (of ∙ sym fs.0) (he ∙ sym (last_of_second w.bios n new)) (omega (arith, total, os, hs)) (omega (arith, length-append w.bios n, ob, hc))
-          ∙ ap (λ u. summary record { release = round; due = u; bios = w.bios ++ n }) ou ∙ ap (λ l. summary record { release = round; due = w.due; bios = l }) (sym j),
-    )
+-- of more than one bio, within limits
+few_of : (limits : Limits) (bios : List Bio) (n : ℕ) → n ≡ length bios → 1 < n → IsWithin limits bios → n ≤ limits.max_segments
+few_of limits bios n h more (inl one) = absurd (omega (arith, one))
+few_of limits bios n h more (inr within) = omega (arith, within.1)
 
--- and at the front
-pub joined_front : (limits : Limits) (old : Waiting) (w : Entered) (n : List Bio) (round first sectors count : ℕ) → old ≡ summary w → 0 < length w.bios → 0 < length n
-    → dir_of n ≡ old.dir → (first_of n ≡ old.end → ⊥) → last_of n ≡ old.first → first ≡ first_of n → sectors ≡ sectors_of n → count ≡ length n
-    → old.sectors + sectors ≤ limits.max_sectors → old.bios + count ≤ limits.max_segments
-    → ((s : Side) × Fits limits w.bios n s) × ((let x : Waiting = record { dir = old.dir; first = first; end = old.end; sectors = old.sectors + sectors; bios = old.bios + count; release = round; due = old.due } in x) ≡ summary record { release = round; due = w.due; bios = join_up w.bios n })
-joined_front limits old w n round first sectors count is some new same other here hf hs hc most many =
-    let j : join_up w.bios n ≡ n ++ w.bios = joins_front w.bios n some (λ e. other (e ∙ sym (ap (λ (x : Waiting). x.end) is))) in
-    let total : sectors_of (n ++ w.bios) ≡ sectors_of n + sectors_of w.bios = sum_by-append (λ (b : Bio). b.sectors) n w.bios in
-    let os : old.sectors ≡ sectors_of w.bios = ap (λ (x : Waiting). x.sectors) is in
-    let ob : old.bios ≡ length w.bios = ap (λ (x : Waiting). x.bios) is in
-    let od : old.dir ≡ dir_of w.bios = ap (λ (x : Waiting). x.dir) is in
-    let oe : old.end ≡ last_of w.bios = ap (λ (x : Waiting). x.end) is in
-    let ou : old.due ≡ w.due = ap (λ (x : Waiting). x.due) is in
-    let fs = first_of_first n w.bios new in (
-      (
-        Front,
-        record {
-          same_direction = same ∙ od;
-          abuts = here ∙ ap (λ (x : Waiting). x.first) is;
-          within = inr (omega (arith, total, os, hs, most), omega (arith, length-append n w.bios, ob, hc, many));
-        },
-      ),
-      same_kept _ _ _ _ _ _ _ _ _ _ round old.due (sym same ∙ sym fs.1) (hf ∙ sym fs.0) (oe ∙ sym (last_of_second n w.bios some)) (omega (arith, total, os, hs)) (omega (arith, length-append n w.bios, ob, hc))
-          ∙ ap (λ u. summary record { release = round; due = u; bios = n ++ w.bios }) ou ∙ ap (λ l. summary record { release = round; due = w.due; bios = l }) (sym j),
-    )
+-- the side at which a newcomer stands that fits
+stands_front : (limits : Limits) (a n : List Bio) → IsRequest a → IsRequest n → Fits limits a n Front → join_up a n ≡ n ++ a
+stands_front limits a n ra rn f = joins_front a n ra.not_empty (λ e. absurd (omega (arith, e, f.abuts, (range_of a ra).0, (range_of n rn).0)))
 
--- a request that another joins has bios
-pub join_up_some : (a n : List Bio) → 0 < length n → 0 < length (join_up a n)
-join_up_some [] n h = h
-join_up_some (x ∷ a) n h =
-    elim (first_of n == last_of (x ∷ a)) as (λ b. 0 < length (cond b ((x ∷ a) ++ n) (n ++ (x ∷ a)))) [
-      | true ↦ omega (arith, length-append (x ∷ a) n)
-      | false ↦ omega (arith, length-append n (x ∷ a))
-    ]
+-- a request that another joins is one
+pub join_request : (limits : Limits) (a n : List Bio) (side : Side) → IsRequest a → IsRequest n → Fits limits a n side → IsRequest (join_up a n)
+join_request limits a n Back ra rn f = subst IsRequest (sym (joins_back a n ra.not_empty f.abuts)) (joins a n ra rn f.same_direction f.abuts)
+join_request limits a n Front ra rn f = subst IsRequest (sym (stands_front limits a n ra rn f)) (joins n a rn ra (sym f.same_direction) (sym f.abuts))
+
+-- its extent
+pub together_is : (limits : Limits) (a n : List Bio) (side : Side) → IsRequest a → IsRequest n → Fits limits a n side → together side (extent_of a) (extent_of n) ≡ extent_of (join_up a n)
+together_is limits a n Back ra rn f =
+    let fs = first_of_first a n ra.not_empty in
+    same_extent _ _ _ _ _ _ _ _ (sym fs.1) (sym fs.0) (sym (last_of_second a n rn.not_empty)) (sym (length-append a n)) ∙ ap extent_of (sym (joins_back a n ra.not_empty f.abuts))
+together_is limits a n Front ra rn f =
+    let fs = first_of_first n a rn.not_empty in
+    let count : length a + length n ≡ length (n ++ a) = omega (arith, length-append n a) in
+    same_extent _ _ _ _ _ _ _ _ (sym f.same_direction ∙ sym fs.1) (sym fs.0) (sym (last_of_second n a ra.not_empty)) count ∙ ap extent_of (sym (stands_front limits a n ra rn f))
+
+-- both together have few bios
+pub few_together : (limits : Limits) (a n : List Bio) (side : Side) → IsRequest a → IsRequest n → Fits limits a n side → length a + length n ≤ limits.max_segments
+few_together limits a n Back ra rn f = few_of limits (a ++ n) (length a + length n) (sym (length-append a n)) (omega (arith, ra.not_empty, rn.not_empty)) f.within
+few_together limits a n Front ra rn f = few_of limits (n ++ a) (length a + length n) (omega (arith, length-append n a)) (omega (arith, ra.not_empty, rn.not_empty)) f.within
+
+-- what is kept once another has joined
+pub joined_is : (limits : Limits) (old : Waiting) (w : Entered) (n : List Bio) (round : ℕ) (side : Side) (extent newcomer : Extent) → old ≡ summary w → IsRequest w.bios → IsRequest n → Fits limits w.bios n side
+    → newcomer ≡ extent_of n → extent ≡ together side old.extent newcomer
+    → (let x : Waiting = record { extent = extent; release = round; due = old.due } in x) ≡ summary record { release = round; due = w.due; bios = join_up w.bios n }
+joined_is limits old w n round side extent newcomer is ra rn f hn he =
+    let e : extent ≡ extent_of (join_up w.bios n) = he ∙ ap (λ (x : Waiting). together side x.extent newcomer) is ∙ ap (together side (extent_of w.bios)) hn ∙ together_is limits w.bios n side ra rn f in
+    ap (λ (x : Extent). let y : Waiting = record { extent = x; release = round; due = old.due } in y) e
+    ∙ ap (λ (x : Waiting). let y : Waiting = record { extent = extent_of (join_up w.bios n); release = round; due = x.due } in y) is
 
 pub fits_to : (l l' : Limits) (a b n : List Bio) → l ≡ l' → a ≡ b → (x : Side) × Fits l a n x → (x : Side) × Fits l' b n x
 fits_to l l' a b n hl ha f = (f.0, subst (λ (m : Limits). Fits m b n f.0) hl (subst (λ (c : List Bio). Fits l c n f.0) ha f.1))

@@ -1,5 +1,5 @@
 -- What a trace keeps stays true with one more event.
-use Rattle.std.proofs.Common.{◌≡◌, ◌<◌, ◌≤◌, ◌+◌, ◌-◌, ◌++◌, ◌==◌, ◌||◌, inl, inr, option_map, ℕ, zero, suc, List, [], ◌∷◌, length, refl, sym, ◌∙◌, ap, subst, arith, cond, Bool, true, false, Some, None, set, take}
+use Rattle.std.proofs.Common.{◌≡◌, ◌<◌, ◌≤◌, ◌+◌, ◌-◌, ◌++◌, ◌==◌, ◌||◌, inl, inr, option_map, ℕ, zero, suc, List, [], ◌∷◌, length, refl, sym, ◌∙◌, ap, subst, arith, cond, Bool, true, false, Some, None, set, take, eqb-true}
 use Rattle.std.specs.Prelude.{Option, Result, Ok, Err, replicate}
 use Rattle.std.specs.Result.{is_err, OnOk, OnErr}
 use Rattle.std.specs.List.{cons_option}
@@ -7,7 +7,8 @@ use Rattle.std.proofs.lemmas.Bool.{cases_Bool}
 use Rattle.edd_check.specs.declared.Command.{Command}
 use Rattle.blk_bio.specs.Bios.{Bio}
 use Rattle.blk_bio.specs.declared.bio.BioId.{BioId}
-use Rattle.blk_bio.specs.Requests.{IsRequest, dir_of}
+use Rattle.blk_bio.specs.Requests.{IsRequest, Fits, dir_of}
+use Rattle.blk_bio.specs.declared.request.Side.{Side}
 use Rattle.blk_trace.specs.declared.known.Waiting.{Waiting}
 use Rattle.blk_trace.specs.declared.known.Known.{Known}
 use Rattle.blk_trace.specs.declared.known.Known.TheVariants.{Waits, Gone, Handed}
@@ -15,7 +16,7 @@ use Rattle.blk_trace.specs.declared.tags.TagUse.{TagUse}
 use Rattle.blk_trace.specs.declared.tags.TagUse.TheVariants.{Free, Open, Ended}
 use Rattle.blk_trace.specs.declared.trace.Prepared.{Prepared}
 use Rattle.blk_trace.specs.declared.trace.Prepared.TheVariants.{Nothing, AnIssue, Bios}
-use Rattle.blk_trace.specs.declared.rule.TraceRule.TheVariants.{InFlight, NotIssued}
+use Rattle.blk_trace.specs.declared.rule.TraceRule.TheVariants.{InFlight, NotIssued, Fit}
 use Rattle.blk_trace.specs.Happened.{Happened, Ticked, Released, Joined, Issued, Finished, Returned, DepthSet}
 use Rattle.blk_trace.specs.Kinds.{releases, joins}
 use Rattle.blk_trace.specs.Setups.{Setup, IsSetup, expire_of}
@@ -38,7 +39,7 @@ use Rattle.std.proofs.Common.{get_or}
 use Rattle.blk_trace.specs.Meaning.{command_of}
 use Rattle.blk_trace.proofs.Knowing.{known_open, known_kept, known_released, known_joined, known_issued, known_returned}
 use Rattle.blk_trace.proofs.TagUses.{tags_ticked, tags_kept, tags_issued, tags_ended, tags_empty, open_found}
-use Rattle.blk_trace.proofs.Joining.{join_up_some}
+use Rattle.blk_trace.proofs.Joining.{join_request}
 use Rattle.blk_trace.proofs.Entering.{IsSame, same_entered, HasNothing, nothing_before, IsEntered, entered_released, entered_joined, has_released_same}
 use Rattle.blk_trace.proofs.Waiting.{IsWaiting, waiting_from}
 use Rattle.blk_trace.proofs.Commands.{commands_kept, commands-issued, rounds_kept, rounds-issued}
@@ -59,50 +60,51 @@ length_set [] k x = refl
 length_set (y ∷ xs) zero x = refl
 length_set (y ∷ xs) (suc k) x = ap suc (length_set xs k x)
 
--- a released request has bios
-abbrev AreSome : List Happened → Type 0
-AreSome es = (id : ℕ) → has_id (released_ids es) id ≡ true → 0 < length (request_of es id)
+-- what was released under an id is a request
+abbrev AreRequests : List Happened → Type 0
+AreRequests es = (id : ℕ) → has_id (released_ids es) id ≡ true → IsRequest (request_of es id)
 
-some_kept : (setup : Setup) (es : List Happened) (e : Happened) → releases e ≡ None → joins e ≡ None → AreSome es → AreSome (es ++ e ∷ [])
+requests_kept : (setup : Setup) (es : List Happened) (e : Happened) → releases e ≡ None → joins e ≡ None → AreRequests es → AreRequests (es ++ e ∷ [])
 unfolding released_ids
-some_kept setup es e r j old id h =
+requests_kept setup es e r j old id h =
     let same : IsSame setup es (es ++ e ∷ []) id = same_entered setup es e id (rw (r, j) refl) in
     let was : has_id (released_ids es) id ≡ true = sym (has_released_same es e id (ap (λ o. has_id (cons_option (option_map (λ p. p.0) o) []) id) r)) ∙ h in
-    subst (λ l. 0 < length l) (sym same.request) (old id was)
+    subst IsRequest (sym same.request) (old id was)
 
-some_released : (setup : Setup) (es : List Happened) (i : ℕ) (bios : List Bio) → IsLegalTrace setup es → IsUnbroken setup es (Released i bios) → 0 < length bios → AreSome es → AreSome (es ++ Released i bios ∷ [])
+requests_released : (setup : Setup) (es : List Happened) (i : ℕ) (bios : List Bio) → IsLegalTrace setup es → IsUnbroken setup es (Released i bios) → IsRequest bios → AreRequests es → AreRequests (es ++ Released i bios ∷ [])
 unfolding released_ids
-some_released setup es i bios legal all some old id h =
+requests_released setup es i bios legal all some old id h =
     elim (cases_Bool (i == id)) [
       | inl b ↦
           let none : HasNothing setup es id = nothing_before setup es i id bios legal all b in
           let new : IsEntered setup es (es ++ Released i bios ∷ []) id bios = entered_released setup es i id bios b in
           let is : request_of (es ++ Released i bios ∷ []) id ≡ bios = new.request ∙ ap (λ l. join_up l bios) none.request in
-          subst (λ l. 0 < length l) (sym is) some
+          subst IsRequest (sym is) some
       | inr b ↦
           let same : IsSame setup es (es ++ Released i bios ∷ []) id = same_entered setup es (Released i bios) id b in
           let was : has_id (released_ids es) id ≡ true = sym (has_released_same es (Released i bios) id (rw b refl)) ∙ h in
-          subst (λ l. 0 < length l) (sym same.request) (old id was)
+          subst IsRequest (sym same.request) (old id was)
     ]
 
-some_joined : (setup : Setup) (es : List Happened) (i : ℕ) (bios : List Bio) → 0 < length bios → AreSome es → AreSome (es ++ Joined i bios ∷ [])
+requests_joined : (setup : Setup) (es : List Happened) (i : ℕ) (bios : List Bio) → IsUnbroken setup es (Joined i bios) → IsRequest bios → AreRequests es → AreRequests (es ++ Joined i bios ∷ [])
 unfolding released_ids
-some_joined setup es i bios some old id h =
+requests_joined setup es i bios all request old id h =
     let was : has_id (released_ids es) id ≡ true = sym (has_released_same es (Joined i bios) id refl) ∙ h in
     elim (cases_Bool (i == id)) [
       | inl b ↦
           let new : IsEntered setup es (es ++ Joined i bios ∷ []) id bios = entered_joined setup es i id bios b in
-          subst (λ l. 0 < length l) (sym new.request) (join_up_some (request_of es id) bios some)
+          let f : (x : Side) × Fits setup.limits (request_of es id) bios x = subst (λ (n : ℕ). (x : Side) × Fits setup.limits (request_of es n) bios x) (eqb-true i id b) (all Fit) in
+          subst IsRequest (sym new.request) (join_request setup.limits (request_of es id) bios f.0 (old id was) request f.1)
       | inr b ↦
           let same : IsSame setup es (es ++ Joined i bios ∷ []) id = same_entered setup es (Joined i bios) id b in
-          subst (λ l. 0 < length l) (sym same.request) (old id was)
+          subst IsRequest (sym same.request) (old id was)
     ]
 
 -- the bios of a request that waits
-pub some_waiting : (setup : Setup) (es : List Happened) (id : ℕ) (w : Entered) → ((id : ℕ) → has_id (released_ids es) id ≡ true → 0 < length (request_of es id)) → waits_at setup es id ≡ Some w → 0 < length w.bios
-some_waiting setup es id w some h =
+pub waiting_request : (setup : Setup) (es : List Happened) (id : ℕ) (w : Entered) → ((id : ℕ) → has_id (released_ids es) id ≡ true → IsRequest (request_of es id)) → waits_at setup es id ≡ Some w → IsRequest w.bios
+waiting_request setup es id w some h =
     let was : IsWaiting setup es id w = waiting_from setup es id w h in
-    subst (λ l. 0 < length l) (sym was.bios_is) (some id was.released)
+    subst IsRequest (sym was.bios_is) (some id was.released)
 
 pub kept_tick : (setup : Setup) (es zs : List Happened) (cs : List Command) (rs : List ℕ) (round opened : ℕ) (known : ℕ → Option Known) (ids : BioId → Bool) (tags tags' : List TagUse)
     → IsKept setup es cs rs round opened known ids tags → IsUnbroken setup es Ticked → zs ≡ es ++ Ticked ∷ [] → tags' ≡ replicate (length tags) Free
@@ -118,7 +120,7 @@ kept_tick setup es zs cs rs round opened known ids tags tags' k all hz ht =
       round_is = omega (arith, k.round_is, round_more es Ticked);
       open_is = k.open_is ∙ sym (open_kept es Ticked refl refl);
       known_are = λ q. k.known_are q ∙ sym (known_kept setup es Ticked refl refl refl refl q);
-      some_bios = some_kept setup es Ticked refl refl k.some_bios;
+      requests_are = requests_kept setup es Ticked refl refl k.requests_are;
       ids_are = λ id. k.ids_are id ∙ sym (same_ids es Ticked id refl);
       tags_are = tags_ticked es (length tags) (all InFlight);
       each_tag = replicated (length tags) Free ∙ k.each_tag;
@@ -141,7 +143,7 @@ kept_done setup es zs tag cs rs round opened known ids tags k all hz =
       round_is = omega (arith, k.round_is, round_more es (Finished tag));
       open_is = omega (arith, k.open_is, open_end es (Finished tag) tag refl);
       known_are = λ q. k.known_are q ∙ sym (known_kept setup es (Finished tag) refl refl refl refl q);
-      some_bios = some_kept setup es (Finished tag) refl refl k.some_bios;
+      requests_are = requests_kept setup es (Finished tag) refl refl k.requests_are;
       ids_are = λ id. k.ids_are id ∙ sym (same_ids es (Finished tag) id refl);
       tags_are = tags_ended es (Finished tag) tags tag refl used.0 k.tags_are;
       each_tag = length_set tags tag Ended ∙ k.each_tag;
@@ -192,7 +194,7 @@ kept_back setup es zs tag id cs ds rs ss round opened known known' ids tags k al
       round_is = omega (arith, k.round_is, round_more es (Returned tag));
       open_is = omega (arith, k.open_is, open_end es (Returned tag) tag refl);
       known_are = λ q. hk q ∙ ap (λ x. cond (id == q) (Some (Handed (release_of es id) (due_of setup es id))) x) (k.known_are q) ∙ sym (known_returned setup es tag id k.legal by q);
-      some_bios = some_kept setup es (Returned tag) refl refl k.some_bios;
+      requests_are = requests_kept setup es (Returned tag) refl refl k.requests_are;
       ids_are = λ b. k.ids_are b ∙ sym (same_ids es (Returned tag) b refl);
       tags_are = tags_ended es (Returned tag) tags tag refl used.0 k.tags_are;
       each_tag = length_set tags tag Ended ∙ k.each_tag;
@@ -215,7 +217,7 @@ kept_issue setup es zs id tag w cs ds rs ss round opened known known' ids tags k
       round_is = omega (arith, k.round_is, round_more es (Issued id tag));
       open_is = omega (arith, k.open_is, open_issue setup es id tag k.legal);
       known_are = λ q. hk q ∙ ap (λ x. cond (id == q) (Some Gone) x) (k.known_are q) ∙ sym (known_issued setup es id tag new q);
-      some_bios = some_kept setup es (Issued id tag) refl refl k.some_bios;
+      requests_are = requests_kept setup es (Issued id tag) refl refl k.requests_are;
       ids_are = λ b. k.ids_are b ∙ sym (same_ids es (Issued id tag) b refl);
       tags_are = tags_issued es tags id tag k.tags_are;
       each_tag = length_set tags tag (Open id) ∙ k.each_tag;
@@ -229,7 +231,6 @@ pub kept_release : (setup : Setup) (es zs : List Happened) (id : ℕ) (bios : Li
     → IsKept setup zs cs rs round opened known' ids' tags
 kept_release setup es zs id bios s cs rs round opened known known' ids ids' tags k all hz request hs hk hb =
     let new = push_legal setup es (Released id bios) k.legal all request in
-    let some : 0 < length bios = request.not_empty in
     let P : List Happened → Type 0 = λ l. IsKept setup l cs rs round opened known' ids' tags in
     let now : s ≡ summary record { release = round_of es; due = round_of es + expire_of setup (dir_of bios); bios = bios } = hs ∙ ap (λ n. summary record { release = n; due = n + expire_of setup (dir_of bios); bios = bios }) k.round_is in
     let here : P (es ++ Released id bios ∷ []) = record {
@@ -240,7 +241,7 @@ kept_release setup es zs id bios s cs rs round opened known known' ids ids' tags
       round_is = omega (arith, k.round_is, round_more es (Released id bios));
       open_is = k.open_is ∙ sym (open_kept es (Released id bios) refl refl);
       known_are = λ q. hk q ∙ ap (λ x. cond (id == q) (Some (Waits s)) x) (k.known_are q) ∙ ap (λ x. cond (id == q) (Some (Waits x)) (known_of setup es q)) now ∙ sym (known_released setup es id bios new q);
-      some_bios = some_released setup es id bios k.legal all some k.some_bios;
+      requests_are = requests_released setup es id bios k.legal all request k.requests_are;
       ids_are = λ b. hb b ∙ ap (λ x. x || has_bio_id bios b) (k.ids_are b) ∙ sym (ids_more es (Released id bios) b);
       tags_are = tags_kept es (Released id bios) tags refl refl refl k.tags_are;
       each_tag = k.each_tag;
@@ -254,7 +255,6 @@ pub kept_join : (setup : Setup) (es zs : List Happened) (id : ℕ) (bios : List 
     → IsKept setup zs cs rs round opened known' ids' tags
 kept_join setup es zs id bios w s cs rs round opened known known' ids ids' tags k all hz request waits hs hk hb =
     let new = push_legal setup es (Joined id bios) k.legal all request in
-    let some : 0 < length bios = request.not_empty in
     let P : List Happened → Type 0 = λ l. IsKept setup l cs rs round opened known' ids' tags in
     let now : s ≡ summary record { release = round_of es; due = w.due; bios = join_up w.bios bios } = hs ∙ ap (λ n. summary record { release = n; due = w.due; bios = join_up w.bios bios }) k.round_is in
     let here : P (es ++ Joined id bios ∷ []) = record {
@@ -265,7 +265,7 @@ kept_join setup es zs id bios w s cs rs round opened known known' ids ids' tags 
       round_is = omega (arith, k.round_is, round_more es (Joined id bios));
       open_is = k.open_is ∙ sym (open_kept es (Joined id bios) refl refl);
       known_are = λ q. hk q ∙ ap (λ x. cond (id == q) (Some (Waits s)) x) (k.known_are q) ∙ ap (λ x. cond (id == q) (Some (Waits x)) (known_of setup es q)) now ∙ sym (known_joined setup es id bios new w waits q);
-      some_bios = some_joined setup es id bios some k.some_bios;
+      requests_are = requests_joined setup es id bios all request k.requests_are;
       ids_are = λ b. hb b ∙ ap (λ x. x || has_bio_id bios b) (k.ids_are b) ∙ sym (ids_more es (Joined id bios) b);
       tags_are = tags_kept es (Joined id bios) tags refl refl refl k.tags_are;
       each_tag = k.each_tag;
@@ -286,7 +286,7 @@ kept_depth setup es zs depth cs rs round opened known ids tags k all hz =
       round_is = omega (arith, k.round_is, round_more es (DepthSet depth));
       open_is = k.open_is ∙ sym (open_kept es (DepthSet depth) refl refl);
       known_are = λ q. k.known_are q ∙ sym (known_kept setup es (DepthSet depth) refl refl refl refl q);
-      some_bios = some_kept setup es (DepthSet depth) refl refl k.some_bios;
+      requests_are = requests_kept setup es (DepthSet depth) refl refl k.requests_are;
       ids_are = λ id. k.ids_are id ∙ sym (same_ids es (DepthSet depth) id refl);
       tags_are = tags_kept es (DepthSet depth) tags refl refl refl k.tags_are;
       each_tag = k.each_tag;
@@ -311,7 +311,7 @@ kept_empty setup known ids n hk hb hn is = record {
   round_is = refl;
   open_is = refl;
   known_are = hk;
-  some_bios = λ id h. absurd (cc);
+  requests_are = λ id h. absurd (cc);
   ids_are = hb;
   tags_are = tags_empty n;
   each_tag = replicated n Free ∙ hn;
@@ -330,7 +330,7 @@ kept_same setup es es' cs cs' rs rs' round opened known known' ids ids' tags k h
       round_is = k.round_is;
       open_is = k.open_is;
       known_are = λ q. hk q ∙ k.known_are q;
-      some_bios = k.some_bios;
+      requests_are = k.requests_are;
       ids_are = λ b. hb b ∙ k.ids_are b;
       tags_are = k.tags_are;
       each_tag = k.each_tag;

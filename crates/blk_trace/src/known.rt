@@ -1,29 +1,20 @@
 //! What a trace keeps of each request.
 
-ghost use Rattle.std.specs.Prelude.{ℕ, ◌≡◌, ◌<◌, ◌+◌, ◌^◌, IfSome, IfNone, length, List};
-ghost use Rattle.blk_bio.specs.declared.request.Side.{Side};
-ghost use Rattle.blk_bio.specs.Requests.{Fits};
+ghost use Rattle.std.specs.Prelude.{◌≡◌, ◌<◌, ◌+◌, ◌^◌, IfSome, IfNone};
+ghost use Rattle.blk_bio.specs.declared.request.Side.{Side as Where};
+ghost use Rattle.blk_bio.specs.Requests.{IsRequest, Fits};
 ghost use Rattle.blk_trace.specs.Events.{join_up};
 ghost use Rattle.blk_trace.specs.Waits.{Entered};
-ghost use Rattle.blk_trace.specs.Inside.Kept.{summary};
+ghost use Rattle.blk_trace.specs.Inside.Kept.{summary, together};
 
-use blk_bio::{Dir, Limits, Request};
+use blk_bio::{Extent, Limits, Request, Side};
 use std::alloc::Allocator;
 
-/// A request that waits, without its bios: its direction, its range and the number of its bios, and the rounds of
-/// its release and due.
+/// A request that waits, without its bios: what decides whether another may join it, and the rounds of its release and due.
 #[derive(Clone, Copy, Debug, PartialEq, Eq)]
 pub struct Waiting {
-    /// The way that its data goes.
-    pub dir: Dir,
-    /// Its first sector.
-    pub first: u64,
-    /// The sector after its last one.
-    pub end: u64,
-    /// How many sectors it has.
-    pub sectors: u64,
-    /// How many bios it has.
-    pub bios: u64,
+    /// Its direction and its range, and how many bios it has.
+    pub extent: Extent,
     /// The last round in which bios entered under its id.
     pub release: u64,
     /// The first round in which one of its bios is due.
@@ -56,13 +47,8 @@ impl Waiting {
         requires { round + expire < 2 ^ 64 }
         ensures { result ≡ summary record { release = round; due = round + expire; bios = request.now } }
     {
-        let (first, sectors) = (request.first(), request.sectors());
         Waiting {
-            dir: request.dir(),
-            first,
-            end: first + sectors,
-            sectors,
-            bios: request.bios().len() as u64,
+            extent: request.extent(),
             release: round,
             due: round + expire,
         }
@@ -75,31 +61,38 @@ impl Waiting {
         round: u64,
         limits: &Limits,
     ) -> Option<Waiting>
-        ensures some { IfSome result (λ new. (w : Entered) → self.now ≡ summary w → 0 < length w.bios → ((s : Side) × Fits limits.now w.bios request.now s) × (new ≡ summary record { release = round; due = w.due; bios = join_up w.bios request.now })) }
-        ensures none { IfNone result ((w : Entered) → self.now ≡ summary w → 0 < length w.bios → (s : Side) → Fits limits.now w.bios request.now s → ⊥) }
+        requires { (w : Entered) × (self.now ≡ summary w) × IsRequest w.bios }
+        ensures some { IfSome result (λ new. (w : Entered) → self.now ≡ summary w → IsRequest w.bios → ((s : Where) × Fits limits.now w.bios request.now s) × (new ≡ summary record { release = round; due = w.due; bios = join_up w.bios request.now })) }
+        ensures none { IfNone result ((w : Entered) → self.now ≡ summary w → IsRequest w.bios → (s : Where) → Fits limits.now w.bios request.now s → ⊥) }
     {
-        let (first, sectors) = (request.first(), request.sectors());
-        let bios = request.bios().len() as u64;
-        let (most, most_bios) = (limits.max_sectors(), limits.max_segments());
-        let within = sectors <= most
-            && self.sectors <= most - sectors
-            && bios <= most_bios
-            && self.bios <= most_bios - bios;
-        if request.dir() != self.dir || !within {
+        let _ = limits.max_segments();
+        let newcomer = request.extent();
+        let Some(side) = self.extent.fits(&newcomer, limits) else {
             return None;
-        }
+        };
         let mut new = *self;
-        new.sectors = self.sectors + sectors;
-        new.bios = self.bios + bios;
+        new.extent = together(side, self.extent, newcomer);
         new.release = round;
-        if first == self.end {
-            new.end = first + sectors;
-            Some(new)
-        } else if first + sectors == self.first {
-            new.first = first;
-            Some(new)
-        } else {
-            None
-        }
+        Some(new)
+    }
+}
+
+/// The extent of a request with a newcomer at the side.
+fn together(side: Side, extent: Extent, newcomer: Extent) -> Extent
+    requires { extent.bios + newcomer.bios < 2 ^ 64 }
+    ensures { result ≡ together side extent newcomer }
+{
+    let bios = extent.bios + newcomer.bios;
+    match side {
+        Side::Back => Extent {
+            end: newcomer.end,
+            bios,
+            ..extent
+        },
+        Side::Front => Extent {
+            first: newcomer.first,
+            bios,
+            ..extent
+        },
     }
 }

@@ -1,10 +1,14 @@
 -- What a trace keeps beside its events, what each part says of them, and the room that was made.
-use Rattle.std.specs.Prelude.{ℕ, ◌≡◌, ◌≤◌, ◌<◌, ◌+◌, ◌==◌, ◌&&◌, Bool, true, false, cond, List, length, Option, Some, None, option_map, slice_get}
+use Rattle.std.specs.Prelude.{ℕ, ◌≡◌, ◌≤◌, ◌+◌, ◌==◌, ◌&&◌, Bool, true, false, cond, List, length, Option, Some, None, option_map, slice_get}
 use Rattle.std.specs.List.{list_any}
 use Rattle.edd_check.specs.declared.Command.{Command}
 use Rattle.blk_bio.specs.Bios.{Bio}
 use Rattle.blk_bio.specs.declared.bio.BioId.{BioId}
-use Rattle.blk_bio.specs.Requests.{dir_of, first_of, last_of, sectors_of}
+use Rattle.blk_bio.specs.declared.extent.Extent.{Extent}
+use Rattle.blk_bio.specs.declared.request.Side.{Side}
+use Rattle.blk_bio.specs.declared.request.Side.TheVariants.{Back, Front}
+use Rattle.blk_bio.specs.Requests.{IsRequest}
+use Rattle.blk_bio.specs.Extents.{extent_of}
 use Rattle.blk_trace.specs.declared.known.Waiting.{Waiting}
 use Rattle.blk_trace.specs.declared.known.Known.{Known}
 use Rattle.blk_trace.specs.declared.known.Known.TheVariants.{Waits, Gone, Handed}
@@ -22,7 +26,12 @@ use Rattle.blk_trace.specs.Waits.{Entered, has_id, waits_at, was_issued}
 
 -- what is kept of a request that waits
 abbrev pub summary : Entered → Waiting
-summary w = record { dir = dir_of w.bios; first = first_of w.bios; end = last_of w.bios; sectors = sectors_of w.bios; bios = length w.bios; release = w.release; due = w.due }
+summary w = record { extent = extent_of w.bios; release = w.release; due = w.due }
+
+-- the extent of a request with a newcomer of an extent at the side
+abbrev pub together : Side → Extent → Extent → Extent
+together Back e newcomer = record { dir = e.dir; first = e.first; end = newcomer.end; bios = e.bios + newcomer.bios }
+together Front e newcomer = record { dir = e.dir; first = newcomer.first; end = e.end; bios = e.bios + newcomer.bios }
 
 -- what is kept of a request that waits, by whether it was issued before
 abbrev pub kept_of : Bool → Entered → Known
@@ -71,7 +80,7 @@ pub record IsKept (setup : Setup) (events : List Happened) (commands : List Comm
   pub round_is : round ≡ round_of events
   pub open_is : opened ≡ open_count events
   pub known_are : (id : ℕ) → known id ≡ known_of setup events id
-  pub some_bios : (id : ℕ) → has_id (released_ids events) id ≡ true → 0 < length (request_of events id)
+  pub requests_are : (id : ℕ) → has_id (released_ids events) id ≡ true → IsRequest (request_of events id)
   pub ids_are : (id : BioId) → ids id ≡ has_bio_id (entered events) id
   pub tags_are : (tag : ℕ) (u : TagUse) → slice_get tags tag ≡ Some u → IsTagUse events tag u
   pub each_tag : length tags ≡ setup.depth

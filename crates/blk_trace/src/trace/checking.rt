@@ -1,6 +1,7 @@
 //! The first rule that an event would break.
 
 ghost use Rattle.std.specs.Prelude.{ℕ, ◌≡◌, ◌<◌, ◌≤◌, ◌+◌, ◌++◌, ◌↔◌, IsTrue, IfSome, IfNone, length};
+ghost use Rattle.blk_bio.specs.Requests.{IsRequest};
 ghost use Rattle.blk_trace.specs.Happened.{Ticked, Released, Joined, Issued, Finished, Returned, DepthSet};
 ghost use Rattle.blk_trace.specs.Legal.{IsLegalTrace};
 ghost use Rattle.blk_trace.specs.Rules.{IsFirstBroken, IsUnbroken};
@@ -172,7 +173,7 @@ impl<A: Allocator + Clone> Trace<A> {
     pub(crate) fn known_at(&self, id: u64) -> Option<Known>
         ensures value { result ≡ known_of self.now.setup self.now.events id }
         ensures legal { IsLegalTrace self.now.setup self.now.events }
-        ensures some_bios { (w : Entered) → waits_at self.now.setup self.now.events id ≡ Some w → 0 < length w.bios }
+        ensures request { (w : Entered) → waits_at self.now.setup self.now.events id ≡ Some w → IsRequest w.bios }
     {
         let _ = &self.round;
         self.known.get(&id).copied()

@@ -20,7 +20,7 @@ use Rattle.blk_trace.specs.Seen.{happened}
 use Rattle.blk_trace.proofs.Joining.{fits_to}
 use Rattle.blk_trace.proofs.Knowing.{known_waits, waiting_is}
 use Rattle.blk_trace.proofs.Capacities.{depths_kept}
-use Rattle.blk_trace.proofs.Keeping.{some_waiting, kept_join, room_after_entry, join_room, on_ok, on_err}
+use Rattle.blk_trace.proofs.Keeping.{waiting_request, kept_join, room_after_entry, join_room, on_ok, on_err}
 use Rattle.blk_trace.proofs.trace.Trace.add_join.Goals as goal
 
 pub waiting_at-old-requires-clause-released : goal.waiting_at-old-requires-clause-released
@@ -43,7 +43,7 @@ unreachable-requires g c =
     let fit : (x : Side) × Fits s.setup.limits (request_of es c.args.id) c.args.request x = all rule.Fit in
     let i = waiting_is s.setup es c.args.id p.0 p.1 p.3 in
     let f = fits_to s.setup.limits c.limits.result (request_of es c.args.id) p.0.bios c.args.request (sym c.limits.ensures) i.bios fit in
-    c.in_default.ensures.none p.0 p.2 (some_waiting s.setup es c.args.id p.0 k.some_bios p.1) f.0 f.1
+    c.in_default.ensures.none p.0 p.2 (waiting_request s.setup es c.args.id p.0 k.requests_are p.1) f.0 f.1
 
 pub unreachable-requires-then-is_err : goal.unreachable-requires-then-is_err
 unreachable-requires-then-is_err g c =
@@ -68,9 +68,17 @@ invariant_of-self g c =
     let p = known_waits s.setup es c.args.id c.waiting_at-old.result e in
     let hz : map happened c.append.new.list.items ≡ es ++ (Joined c.args.id c.args.request) ∷ [] = ap (map happened) c.append.ensures.items ∙ map-append happened s.events.items (Join c.args.id c.args.request ∷ []) in
     let n : length c.append.new.list.items ≡ length s.events.items + 1 = ap length c.append.ensures.items ∙ length-append s.events.items (Join c.args.id c.args.request ∷ []) in
-    let j = c.in-Some.ensures.some p.0 p.2 (some_waiting s.setup es c.args.id p.0 k.some_bios p.1) in
+    let j = c.in-Some.ensures.some p.0 p.2 (waiting_request s.setup es c.args.id p.0 k.requests_are p.1) in
     let hk = on_ok c.insert.result (hash.Updates nat_eq s.known c.insert.new.self c.args.id (Some (Waits c.in-Some.new))) (sym c.is_err.ensures.value ∙ c.if-is_err.false) c.insert.ensures.updates in
     (kept_join _ es _ c.args.id c.args.request p.0 c.in-Some.new _ _ _ _ (hash.get nat_eq s.known) _ (hash_set.contains is_bio s.ids) _ _ k all hz c.bios.ensures.is_request p.1 j.1 hk.0 (λ b. c.enter.ensures.ids b ∙ ap (λ (l : List Bio). hash_set.contains is_bio s.ids b || has_bio_id l b) c.bios.ensures.bios), room_after_entry s.prepared _ _ _ _ _ _ _ _ _ _ _ _ _ (join_room s.prepared c.args.id c.args.request ready).0 room n c.append.ensures.room, depths_kept s.setup es _ (Joined c.args.id c.args.request) s.depth s.next_depth c.self.invariant.2 refl refl hz)
 
 pub returns-clause-legal : goal.returns-clause-legal
 returns-clause-legal g c = push_legal _ _ _ (subst (λ (v : Traced). IsLegalTrace v.setup v.events) c.self.view_is c.self.invariant.0.legal) c.requires.unbroken c.bios.ensures.is_request
+
+pub joined-requires : goal.joined-requires
+joined-requires g c =
+    let s = c.self.inside in
+    let es : List Happened = map happened c.self.inside.events.items in
+    let e : known_of s.setup es c.args.id ≡ Some (Waits c.waiting_at-old.result) = subst (λ (v : Traced). known_of v.setup v.events c.args.id ≡ Some (Waits c.waiting_at-old.result)) (sym c.self.view_is) c.waiting_at-old.ensures in
+    let p = known_waits s.setup es c.args.id c.waiting_at-old.result e in
+    (p.0, p.2, waiting_request s.setup es c.args.id p.0 c.self.invariant.0.requests_are p.1)
