@@ -12,10 +12,8 @@ use Rattle.blk_sched.specs.Meaning.{Waiting, Pending, joined_waiting}
 use Rattle.blk_sched.specs.Inside.Spots.{Place, Spot, AreSpots, first_at, end_at, age_at}
 
 -- each request has its id, and the spots are theirs
-pub record IsIndex (waiting : ℕ → Option Waiting) (at_first at_end at_age : Spot → Bool) : Type 0 where
+pub record IsIndex (waiting : ℕ → Option Waiting) (at_age : Spot → Bool) : Type 0 where
   pub named : (id : ℕ) (w : Waiting) → waiting id ≡ Some w → w.id ≡ id
-  pub firsts : AreSpots first_at waiting at_first
-  pub ends : AreSpots end_at waiting at_end
   pub ages : AreSpots age_at waiting at_age
 
 -- the newest request that fits at one side

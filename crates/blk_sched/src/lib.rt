@@ -12,7 +12,6 @@ ghost use Rattle.blk_sched.specs.Meaning.{Waiting, Meaning, HasCandidate, HasNoC
 pub mod fits;
 pub mod index;
 pub mod lane;
-mod marks;
 pub mod picks;
 pub mod shelf;
 pub mod sorted;

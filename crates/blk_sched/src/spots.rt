@@ -1,12 +1,17 @@
 //! Where requests begin and end.
 
-ghost use Rattle.std.specs.Prelude.{◌≡◌, ◌<◌, ◌^◌, ◌+◌, ℕ, Option, Some, true, false, nat_eq, OnOk, OnErr, IfOk, IfSome, IfNone};
-ghost use Rattle.std.specs.Ordering.{is_lt, is_gt};
+ghost use Rattle.std.specs.Prelude.{◌≡◌, ◌<◌, ◌^◌, ◌+◌, ℕ, Option, None, Some, true, false, OnOk, OnErr, IfOk, IfSome, IfNone};
+ghost use Rattle.std.specs.Bool.{OnFalse};
+ghost use Rattle.std.specs.Ordering.{is_lt, is_gt, eq_by_cmp};
 ghost use Rattle.std.specs.BTreeSet.{contains};
-ghost use Rattle.std.specs.HashMap as hash;
 ghost use Rattle.std.specs.declared.cmp.Ordering.TheVariants.{Less};
-ghost use Rattle.blk_sched.specs.Inside.Spots.{Place, Spot, spot_cmp, is_write, first_at, end_at, age_at, Adds, Takes, Keeps, IsBelow, IsNewestSpot, NoSpot, upper_of, is_single, greater_of};
-ghost use Rattle.blk_sched.specs.Inside.Edges.{spots_in};
+ghost use Rattle.blk_sched.specs.Inside.Spots.{Place, Spot, place_cmp, spot_cmp, is_write, first_at, end_at, age_at, Adds, Takes, Keeps, IsBelow, IsNewestSpot, NoSpot, upper_of, greater_of};
+ghost use Rattle.blk_sched.specs.Inside.Heads.{is_head, Becomes, HasHeads, HasNone, Lowers, KeepsLeast};
+ghost use Rattle.blk_sched.specs.Inside.Edges.{heads_in, others_in, spots_in, IsEdges};
+ghost use Rattle.blk_sched.specs.Meaning.{Waiting};
+ghost use Rattle.blk_sched.specs.declared.spots.Head.{Head};
+ghost use Rattle.blk_bio.specs.Requests.{sectors_of};
+ghost use Rattle.blk_bio.specs.Extents.{extent_of};
 
 use blk_bio::{Dir, Extent};
 use std::alloc::{AllocError, Allocator, Global};
@@ -112,51 +117,97 @@ pub fn newest_at<A: Allocator + Clone>(
     Some(id)
 }
 
+/// One of the spots at a sector, and how many sectors each request there has at least.
+#[derive(Clone, Copy, Drop)]
+pub struct Head {
+    /// The spot.
+    pub spot: Spot,
+    /// No request at the sector has fewer sectors.
+    pub least: u64,
+}
+
 /// Requests found by where they begin, or by where they end: one spot of each sector stands in a hash table, and what others
 /// there are of a sector in an ordered set.
 #[derive(Drop)]
 pub struct Spots<A: Allocator = Global> {
-    single: HashMap<u64, Spot, Hashing, A>,
+    heads: HashMap<u64, Head, Hashing, A>,
     others: BTreeSet<Spot, A>,
 }
 
 impl<A: Allocator + Clone> Spots<A> {
     /// No spots. It takes no memory but for the allocators.
     pub fn new(alloc: A) -> Result<Spots<A>, AllocError>
-        ensures { IfOk result (λ s. (q : Spot) → spots_in s q ≡ false) }
+        ensures heads { IfOk result (λ s. (k : ℕ) → heads_in s k ≡ None) }
+        ensures others { IfOk result (λ s. (q : Spot) → others_in s q ≡ false) }
     {
         Ok(Spots {
-            single: HashMap::new(alloc.clone()?),
+            heads: HashMap::new(alloc.clone()?),
             others: BTreeSet::new(alloc),
         })
     }
 
-    /// Puts a spot in. On a refusal nothing is changed.
-    pub fn put(&mut self, spot: Spot) -> Result<(), AllocError>
+    /// Puts in the spot of a request that has so many sectors. On a refusal nothing is changed.
+    pub fn put(&mut self, spot: Spot, sectors: u64) -> Result<(), AllocError>
         ensures ok { OnOk result (Adds (spots_in self.old) spot (spots_in self.new)) }
-        ensures same { OnErr result (Keeps (spots_in self.old) (spots_in self.new)) }
+        ensures heads { OnOk result (HasHeads (heads_in self.old) (others_in self.old) → HasHeads (heads_in self.new) (others_in self.new)) }
+        ensures least { OnOk result (Lowers (heads_in self.old) spot.0.1 sectors (heads_in self.new)) }
+        ensures same { OnErr result ((k : ℕ) → heads_in self.new k ≡ heads_in self.old k) }
+        ensures same_others { OnErr result (Keeps (others_in self.old) (others_in self.new)) }
     {
         let ((_, sector), _) = spot;
-        if self.single.contains_key(&sector) {
-            return put(&mut self.others, spot);
-        }
-        match self.single.insert(sector, spot) {
-            Ok(_) => Ok(()),
-            Err(_) => Err(AllocError),
-        }
+        let Some(head) = self.heads.get(&sector) else {
+            let head = Head {
+                spot,
+                least: sectors,
+            };
+            return match self.heads.insert(sector, head) {
+                Ok(_) => Ok(()),
+                Err(_) => Err(AllocError),
+            };
+        };
+        let head = Head {
+            spot: head.spot,
+            least: head.least.min(sectors),
+        };
+        put(&mut self.others, spot)?;
+        let Ok(_) = self.heads.insert(sector, head) else {
+            unreachable!()
+        };
+        Ok(())
     }
 
     /// Takes a spot out. It takes no memory.
     pub fn take(&mut self, spot: Spot)
-        ensures { Takes (spots_in self.old) spot (spots_in self.new) }
+        ensures takes { Takes (spots_in self.old) spot (spots_in self.new) }
+        ensures heads { HasHeads (heads_in self.old) (others_in self.old) → HasHeads (heads_in self.new) (others_in self.new) }
+        ensures least { KeepsLeast (heads_in self.old) (heads_in self.new) }
     {
         let ((_, sector), _) = spot;
-        if !self.is_single(spot) {
-            take(&mut self.others, spot);
-            return;
-        }
-        let _ = self.single.remove(&sector);
         take(&mut self.others, spot);
+        let Some(least) = self.least_of(spot) else {
+            return;
+        };
+        match spot_at(&self.others, sector) {
+            Some(other) => {
+                let head = Head { spot: other, least };
+                let Ok(_) = self.heads.insert(sector, head) else {
+                    unreachable!()
+                };
+            }
+            None => {
+                let _ = self.heads.remove(&sector);
+            }
+        }
+    }
+
+    /// Whether there may be a request at a sector that has no more sectors than these.
+    pub fn may_have(&self, sector: u64, sectors: u64) -> bool
+        ensures { OnFalse result (HasNone (heads_in self.now sector) sectors) }
+    {
+        match self.heads.get(&sector) {
+            Some(head) => head.least <= sectors,
+            None => false,
+        }
     }
 
     /// The greatest id at a place, below a bound if there is one.
@@ -166,32 +217,30 @@ impl<A: Allocator + Clone> Spots<A> {
         ensures none { IfNone result (NoSpot (spots_in self.now) place below) }
     {
         greater(
-            self.single_at(place, below),
+            self.head_at(place, below),
             newest_at(&self.others, place, below),
         )
     }
 
-    /// Whether a spot stands in the hash table.
-    fn is_single(&self, spot: Spot) -> bool
-        ensures { result ≡ is_single (hash.get nat_eq self.now.single spot.0.1) spot }
+    /// The fewest sectors at a spot's sector, where the spot is the one that stands in the hash table.
+    fn least_of(&self, spot: Spot) -> Option<u64>
+        ensures some { IfSome result (λ least. heads_in self.now spot.0.1 ≡ Some (record { spot = spot; least = least })) }
+        ensures none { IfNone result (is_head (heads_in self.now spot.0.1) spot ≡ false) }
     {
-        let ((write, sector), id) = spot;
-        match self.single.get(&sector) {
-            Some(one) => {
-                let ((other, at), number) = *one;
-                other == write && at == sector && number == id
-            }
-            None => false,
+        let head = self.heads.get(&spot.0.1)?;
+        if !is_spot(head.spot, spot) {
+            return None;
         }
+        Some(head.least)
     }
 
     /// The id at a place that stands in the hash table, where it is below the bound.
-    fn single_at(&self, place: (bool, u64), below: Option<u64>) -> Option<u64>
-        ensures there { IfSome result (λ id. hash.get nat_eq self.now.single place.1 ≡ Some (place, id)) }
+    fn head_at(&self, place: (bool, u64), below: Option<u64>) -> Option<u64>
+        ensures there { IfSome result (λ id. (h : Head) × (heads_in self.now place.1 ≡ Some h) × (h.spot ≡ (place, id))) }
         ensures low { IfSome result (IsBelow below) }
-        ensures none { IfNone result ((id : ℕ) → IsBelow below id → is_single (hash.get nat_eq self.now.single place.1) (place, id) ≡ false) }
+        ensures none { IfNone result ((id : ℕ) → IsBelow below id → is_head (heads_in self.now place.1) (place, id) ≡ false) }
     {
-        let ((write, sector), id) = *self.single.get(&place.1)?;
+        let ((write, sector), id) = self.heads.get(&place.1)?.spot;
         if write != place.0 || sector != place.1 {
             return None;
         }
@@ -200,6 +249,50 @@ impl<A: Allocator + Clone> Spots<A> {
             _ => Some(id),
         }
     }
+}
+
+/// Whether two spots are one.
+fn is_spot(one: Spot, other: Spot) -> bool
+    ensures { result ≡ eq_by_cmp spot_cmp one other }
+{
+    let ((write, sector), id) = one;
+    let ((other_write, other_sector), other_id) = other;
+    write == other_write && sector == other_sector && id == other_id
+}
+
+/// One of the spots at a sector, of either direction.
+fn spot_at<A: Allocator + Clone>(spots: &BTreeSet<Spot, A>, sector: u64) -> Option<Spot>
+    ensures there { IfSome result (λ s. contains spot_cmp spots.now s ≡ true) }
+    ensures at { IfSome result (λ s. s.0.1 ≡ sector) }
+    ensures none { IfNone result ((q : Spot) → q.0.1 ≡ sector → contains spot_cmp spots.now q ≡ false) }
+{
+    if spots.is_empty() {
+        return None;
+    }
+    match spot_on(spots, (false, sector)) {
+        Some(spot) => Some(spot),
+        None => spot_on(spots, (true, sector)),
+    }
+}
+
+/// One of the spots at a place.
+fn spot_on<A: Allocator + Clone>(spots: &BTreeSet<Spot, A>, place: (bool, u64)) -> Option<Spot>
+    ensures there { IfSome result (λ s. contains spot_cmp spots.now s ≡ true) }
+    ensures at { IfSome result (λ s. s.0 ≡ place) }
+    ensures none { IfNone result ((k : ℕ) → contains spot_cmp spots.now (place, k) ≡ false) }
+{
+    let spot = oldest_from(spots, (place, 0))?;
+    if !is_place(spot.0, place) {
+        return None;
+    }
+    Some(spot)
+}
+
+/// Whether two places are one.
+fn is_place(one: (bool, u64), other: (bool, u64)) -> bool
+    ensures { result ≡ eq_by_cmp place_cmp one other }
+{
+    one.0 == other.0 && one.1 == other.1
 }
 
 /// Of two ids the greater.
@@ -213,15 +306,13 @@ fn greater(one: Option<u64>, other: Option<u64>) -> Option<u64>
     }
 }
 
-/// Where requests begin, where they end, and which directions they have, each with their ids.
+/// Where requests begin and where they end, each with their ids.
 #[derive(Drop)]
 pub struct Edges<A: Allocator = Global> {
     /// Where they begin.
     pub firsts: Spots<A>,
     /// Where they end.
     pub ends: Spots<A>,
-    /// Their directions alone, at sector 0.
-    pub ages: BTreeSet<Spot, A>,
 }
 
 /// Where a request begins.
@@ -246,27 +337,24 @@ pub fn age_spot(extent: Extent, id: u64) -> Spot
 }
 
 impl<A: Allocator + Clone> Edges<A> {
-    /// Puts in the edges of a request that isn't there. On a refusal nothing is changed.
-    pub fn enter(&mut self, extent: Extent, id: u64) -> Result<(), AllocError>
-        requires firsts { spots_in self.old.firsts (first_at extent, id) ≡ false }
-        requires ends { spots_in self.old.ends (end_at extent, id) ≡ false }
-        requires ages { contains spot_cmp self.old.ages (age_at extent, id) ≡ false }
-        ensures firsts { OnOk result (Adds (spots_in self.old.firsts) (first_at extent, id) (spots_in self.new.firsts)) }
-        ensures ends { OnOk result (Adds (spots_in self.old.ends) (end_at extent, id) (spots_in self.new.ends)) }
-        ensures ages { OnOk result (Adds (contains spot_cmp self.old.ages) (age_at extent, id) (contains spot_cmp self.new.ages)) }
-        ensures same_firsts { OnErr result (Keeps (spots_in self.old.firsts) (spots_in self.new.firsts)) }
-        ensures same_ends { OnErr result (Keeps (spots_in self.old.ends) (spots_in self.new.ends)) }
-        ensures same_ages { OnErr result (Keeps (contains spot_cmp self.old.ages) (contains spot_cmp self.new.ages)) }
+    /// No edges. It takes no memory but for the allocators.
+    pub fn new(alloc: A) -> Result<Edges<A>, AllocError>
+        ensures { IfOk result (λ e. (found : ℕ → Option Waiting) → ((k : ℕ) → found k ≡ None) → IsEdges found e) }
+    {
+        Ok(Edges {
+            firsts: Spots::new(alloc.clone()?)?,
+            ends: Spots::new(alloc)?,
+        })
+    }
+
+    /// Puts in the edges of a request that isn't there and has so many sectors. On a refusal nothing is changed.
+    pub fn enter(&mut self, extent: Extent, sectors: u64, id: u64) -> Result<(), AllocError>
+        ensures ok { OnOk result ((old new : ℕ → Option Waiting) (w : Waiting) → extent ≡ extent_of w.bios → sectors ≡ sectors_of w.bios → IsEdges old self.old → old id ≡ None → Becomes old id (Some w) new → IsEdges new self.new) }
+        ensures same { OnErr result ((old : ℕ → Option Waiting) → IsEdges old self.old → old id ≡ None → IsEdges old self.new) }
     {
         let first = first_spot(extent, id);
-        let end = end_spot(extent, id);
-        self.firsts.put(first)?;
-        let Ok(()) = self.ends.put(end) else {
-            self.firsts.take(first);
-            return Err(AllocError);
-        };
-        let Ok(()) = put(&mut self.ages, age_spot(extent, id)) else {
-            self.ends.take(end);
+        self.firsts.put(first, sectors)?;
+        let Ok(()) = self.ends.put(end_spot(extent, id), sectors) else {
             self.firsts.take(first);
             return Err(AllocError);
         };
@@ -275,12 +363,9 @@ impl<A: Allocator + Clone> Edges<A> {
 
     /// Takes out the edges of a request.
     pub fn leave(&mut self, extent: Extent, id: u64)
-        ensures firsts { Takes (spots_in self.old.firsts) (first_at extent, id) (spots_in self.new.firsts) }
-        ensures ends { Takes (spots_in self.old.ends) (end_at extent, id) (spots_in self.new.ends) }
-        ensures ages { Takes (contains spot_cmp self.old.ages) (age_at extent, id) (contains spot_cmp self.new.ages) }
+        ensures { (old new : ℕ → Option Waiting) (w : Waiting) → extent ≡ extent_of w.bios → IsEdges old self.old → old id ≡ Some w → Becomes old id None new → IsEdges new self.new }
     {
         self.firsts.take(first_spot(extent, id));
         self.ends.take(end_spot(extent, id));
-        take(&mut self.ages, age_spot(extent, id));
     }
 }
