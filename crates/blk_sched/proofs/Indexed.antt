@@ -163,4 +163,3 @@ same_without m n id none is k =
       | true ↦ λ e. sym (ap (map.get m) (same_number id k e) ∙ none)
       | false ↦ λ _. refl
     ] refl
-

@@ -139,4 +139,3 @@ joined_at limits m n id at side found newcomer fit join = record {
   was = join.was;
   is = join.is ∙ ap (λ (t : Side). map.insert m id (joined_waiting t at newcomer join.waiting)) (sym (join.only side (fits_it limits (map.get m) id side newcomer join.waiting join.was fit)));
 }
-

@@ -7,7 +7,7 @@ use Rattle.std.proofs.lemmas.Bool.{eqb-true, eq-eqb}
 use borrow.Author.Tests.{ltb-true, ltb-false}
 use Rattle.blk_sched.specs.declared.spots.Head.{Head}
 use Rattle.blk_sched.specs.Inside.Spots.{Place, Spot, spot_cmp, Adds, Takes, IsBelow, IsNewestSpot, NoSpot, greater_of}
-use Rattle.blk_sched.specs.Inside.Heads.{is_head, spots_of, HasHeads, Lowers, KeepsLeast}
+use Rattle.blk_sched.specs.Inside.Heads.{is_head, spots_of, HasHeads, Lowers, KeepsLeast, Sets}
 use Rattle.blk_sched.proofs.Listed.{same_spot, place_itself}
 
 abbrev pub Heads : Type 0
@@ -67,8 +67,27 @@ nothing heads others none empty q = ap (λ o. cond (is_head o q) true (others q)
 
 -- ---- a head is set at a sector, or taken away
 
-abbrev Sets : Heads → ℕ → Option Head → Heads → Type 0
-Sets old sector x new = (k : ℕ) → new k ≡ cond (nat_eq sector k) x (old k)
+-- what is set twice is what is set last
+pub set_twice : (old mid now : Heads) (sector : ℕ) (x y : Option Head) → Sets old sector x mid → Sets mid sector y now → Sets old sector y now
+set_twice old mid now sector x y first second k =
+    second k ∙ ap (cond (nat_eq sector k) y) (first k)
+    ∙ elim (nat_eq sector k) as (λ b. cond b y (cond b x (old k)) ≡ cond b y (old k)) [ true ↦ refl | false ↦ refl ]
+
+-- and what was there is there again
+pub set_again : (old mid now : Heads) (sector : ℕ) (x y : Option Head) → Sets old sector x mid → Sets mid sector y now → old sector ≡ y → (k : ℕ) → now k ≡ old k
+set_again old mid now sector x y first second was k =
+    set_twice old mid now sector x y first second k
+    ∙ elim (nat_eq sector k) as (λ b. nat_eq sector k ≡ b → cond b y (old k) ≡ old k) [
+      | true ↦ λ e. sym was ∙ ap old (eqb-true sector k e)
+      | false ↦ λ _. refl
+    ] refl
+
+pub set_there : (old mid : Heads) (sector : ℕ) (h : Head) → Sets old sector (Some h) mid → IsSome (mid sector)
+set_there old mid sector h sets = subst IsSome (sym (sets sector ∙ ap (λ b. cond b (Some h) (old sector)) (eq-eqb sector sector refl))) refl
+
+-- nothing is taken from nothing
+pub taken_none : (has : Others) (s : Spot) → ((q : Spot) → has q ≡ false) → Takes has s has
+taken_none has s none q = none q ∙ elim (eq_by_cmp spot_cmp s q) as (λ b. false ≡ cond b false (has q)) [ true ↦ refl | false ↦ sym (none q) ]
 
 -- a spot more, where its sector had none
 module _ (heads now : Heads) (others : Others) (s : Spot) (sectors : ℕ) (none : heads s.0.1 ≡ None) (sets : Sets heads s.0.1 (Some (record { spot = s; least = sectors })) now) where
@@ -95,9 +114,9 @@ module _ (heads now : Heads) (others : Others) (s : Spot) (sectors : ℕ) (none 
             let same : sectors ≡ h.least = ap (λ (x : Head). x.least) one in
             (λ _. omega (arith, same), λ g there. absurd (let a : None ≡ Some g = sym none ∙ ap heads (eqb-true s.0.1 k e) ∙ there in cc))
         | false ↦ λ e own. (
-            λ at. absurd (let a : true ≡ false = sym (eq-eqb s.0.1 k (sym at)) ∙ e in cc),
-            λ g there. let one : Some h ≡ Some g = sym own ∙ there in let same : h ≡ g = cc in let least : h.least ≡ g.least = ap (λ (x : Head). x.least) same in omega (arith, least)
-          )
+          λ at. absurd (let a : true ≡ false = sym (eq-eqb s.0.1 k (sym at)) ∙ e in cc),
+          λ g there. let one : Some h ≡ Some g = sym own ∙ there in let same : h ≡ g = cc in let least : h.least ≡ g.least = ap (λ (x : Head). x.least) same in omega (arith, least),
+        )
       ] refl (sym (sets k) ∙ is)
 
 -- a spot more, where its sector has a head, which may be said to have fewer sectors
@@ -126,15 +145,17 @@ module _ (heads now : Heads) (others more : Others) (s : Spot) (head after : Hea
       elim (nat_eq s.0.1 k) as (λ b. nat_eq s.0.1 k ≡ b → cond b (Some after) (heads k) ≡ Some h → (k ≡ s.0.1 → h.least ≤ sectors) × ((g : Head) → heads k ≡ Some g → h.least ≤ g.least)) [
         | true ↦ λ e own.
             let one : after ≡ h = cc in
-            let same : after.least ≡ h.least = ap (λ (x : Head). x.least) one in
-            (λ _. omega (arith, same, low), λ g there.
-              let two : Some head ≡ Some g = sym is_head_now ∙ ap heads (eqb-true s.0.1 k e) ∙ there in
-              let met : head ≡ g = cc in
-              let least : head.least ≡ g.least = ap (λ (x : Head). x.least) met in omega (arith, same, least, lower))
+            let same : after.least ≡ h.least = ap (λ (x : Head). x.least) one in (
+              λ _. omega (arith, same, low),
+              λ g there.
+                  let two : Some head ≡ Some g = sym is_head_now ∙ ap heads (eqb-true s.0.1 k e) ∙ there in
+                  let met : head ≡ g = cc in
+                  let least : head.least ≡ g.least = ap (λ (x : Head). x.least) met in omega (arith, same, least, lower),
+            )
         | false ↦ λ e own. (
-            λ at. absurd (let a : true ≡ false = sym (eq-eqb s.0.1 k (sym at)) ∙ e in cc),
-            λ g there. let one : Some h ≡ Some g = sym own ∙ there in let same : h ≡ g = cc in let least : h.least ≡ g.least = ap (λ (x : Head). x.least) same in omega (arith, least)
-          )
+          λ at. absurd (let a : true ≡ false = sym (eq-eqb s.0.1 k (sym at)) ∙ e in cc),
+          λ g there. let one : Some h ≡ Some g = sym own ∙ there in let same : h ≡ g = cc in let least : h.least ≡ g.least = ap (λ (x : Head). x.least) same in omega (arith, least),
+        )
       ] refl (sym (sets k) ∙ is)
 
 -- ---- a spot less

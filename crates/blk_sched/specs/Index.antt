@@ -95,9 +95,3 @@ NoneOf dir found = (k : ℕ) (v : Waiting) → found k ≡ Some v → dir_of v.b
 
 abbrev pub NoNext : Dir → ℕ → ℕ → (ℕ → Option Waiting) → Type 0
 NoNext dir first last found = (k : ℕ) (v : Waiting) → found k ≡ Some v → dir_of v.bios ≡ dir → IsBefore first last (first_of v.bios) k → ⊥
-
--- the request of the least id is taken out, and nothing only where nothing waits
-abbrev pub PopsFirst : Pending → Option Waiting → Pending → Type 0
-PopsFirst old None new = ((k : ℕ) → map.get old k ≡ None) × (new ≡ old)
-PopsFirst old (Some w) new =
-    (map.get old w.id ≡ Some w) × ((k : ℕ) → k < w.id → map.get old k ≡ None) × (new ≡ map.remove old w.id)

@@ -15,7 +15,7 @@ ghost use Rattle.std.specs.BTreeSet.{contains};
 ghost use Rattle.blk_sched.specs.Inside.Spots.{spot_cmp, AreSpots, age_at};
 ghost use Rattle.blk_sched.specs.Inside.Heads.{IsEdge};
 ghost use Rattle.blk_sched.specs.Inside.Edges.{heads_in, others_in};
-ghost use Rattle.blk_sched.specs.Index.{IsNewestBy, FitsNoneBy, FitsBy, IsJoined, at_of, touch_of, joined_extent, newer_of, IsOldest, NoneOf, PopsFirst};
+ghost use Rattle.blk_sched.specs.Index.{IsNewestBy, FitsNoneBy, FitsBy, IsJoined, at_of, touch_of, joined_extent, newer_of, IsOldest, NoneOf};
 
 use crate::Queued;
 use crate::shelf::Shelf;
@@ -123,16 +123,6 @@ impl<A: Allocator + Clone> Index<A> {
         self.edges.leave(extent, id);
         take(&mut self.ages, age_spot(extent, id));
         Some(queued)
-    }
-
-    /// Takes out the request of the least id. It takes no memory.
-    pub fn pop_first(&mut self) -> Option<Queued<A>>
-        ensures { PopsFirst self.old result self.new }
-    {
-        let Some(id) = self.waiting.first() else {
-            return None;
-        };
-        self.remove(id)
     }
 
     /// The newest request that a newcomer fits, by its id, and the side. The front is tried only where `front` allows

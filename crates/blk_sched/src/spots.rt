@@ -1,12 +1,13 @@
 //! Where requests begin and end.
 
-ghost use Rattle.std.specs.Prelude.{◌≡◌, ◌<◌, ◌^◌, ◌+◌, ℕ, Option, None, Some, true, false, OnOk, OnErr, IfOk, IfSome, IfNone};
+ghost use Rattle.std.specs.Prelude.{◌≡◌, ◌<◌, ◌^◌, ◌+◌, ℕ, Option, None, Some, true, false, OnOk, OnErr, IfOk, IfSome, IfNone, IsSome, nat_eq};
+ghost use Rattle.std.specs.HashMap as hash;
 ghost use Rattle.std.specs.Bool.{OnFalse};
 ghost use Rattle.std.specs.Ordering.{is_lt, is_gt, eq_by_cmp};
 ghost use Rattle.std.specs.BTreeSet.{contains};
 ghost use Rattle.std.specs.declared.cmp.Ordering.TheVariants.{Less};
 ghost use Rattle.blk_sched.specs.Inside.Spots.{Place, Spot, place_cmp, spot_cmp, is_write, first_at, end_at, age_at, Adds, Takes, Keeps, IsBelow, IsNewestSpot, NoSpot, upper_of, greater_of};
-ghost use Rattle.blk_sched.specs.Inside.Heads.{is_head, Becomes, HasHeads, HasNone, Lowers, KeepsLeast};
+ghost use Rattle.blk_sched.specs.Inside.Heads.{is_head, Becomes, HasHeads, HasNone, Lowers, KeepsLeast, Sets};
 ghost use Rattle.blk_sched.specs.Inside.Edges.{heads_in, others_in, spots_in, IsEdges};
 ghost use Rattle.blk_sched.specs.Meaning.{Waiting};
 ghost use Rattle.blk_sched.specs.declared.spots.Head.{Head};
@@ -22,8 +23,8 @@ use std::ops::Bound;
 /// A direction, as whether it writes, and a sector; and the id of a request.
 pub type Spot = ((bool, u64), u64);
 
-/// How the sectors are hashed: with a fixed seed, so that every run is the same.
-type Hashing = BuildHasherDefault<FoldHasher>;
+/// How sectors and ids are hashed: with a fixed seed, so that every run is the same.
+pub type Hashing = BuildHasherDefault<FoldHasher>;
 
 /// Whether a direction writes.
 pub fn is_write(dir: Dir) -> bool
@@ -51,6 +52,9 @@ pub fn put<A: Allocator + Clone>(
 pub fn take<A: Allocator + Clone>(spots: &mut BTreeSet<Spot, A>, spot: Spot)
     ensures { Takes (contains spot_cmp spots.old) spot (contains spot_cmp spots.new) }
 {
+    if spots.is_empty() {
+        return;
+    }
     let _ = spots.remove(&spot);
 }
 
@@ -155,24 +159,26 @@ impl<A: Allocator + Clone> Spots<A> {
         ensures same_others { OnErr result (Keeps (others_in self.old) (others_in self.new)) }
     {
         let ((_, sector), _) = spot;
-        let Some(head) = self.heads.get(&sector) else {
-            let head = Head {
-                spot,
-                least: sectors,
-            };
-            return match self.heads.insert(sector, head) {
-                Ok(_) => Ok(()),
-                Err(_) => Err(AllocError),
-            };
+        let first = Head {
+            spot,
+            least: sectors,
         };
-        let head = Head {
+        let Ok(found) = self.heads.insert(sector, first) else {
+            return Err(AllocError);
+        };
+        let Some(head) = found else {
+            return Ok(());
+        };
+        // the sector has a head, which stays
+        let lower = Head {
             spot: head.spot,
             least: head.least.min(sectors),
         };
-        put(&mut self.others, spot)?;
-        let Ok(_) = self.heads.insert(sector, head) else {
-            unreachable!()
+        let Ok(()) = put(&mut self.others, spot) else {
+            set_head(&mut self.heads, sector, head);
+            return Err(AllocError);
         };
+        set_head(&mut self.heads, sector, lower);
         Ok(())
     }
 
@@ -189,10 +195,7 @@ impl<A: Allocator + Clone> Spots<A> {
         };
         match spot_at(&self.others, sector) {
             Some(other) => {
-                let head = Head { spot: other, least };
-                let Ok(_) = self.heads.insert(sector, head) else {
-                    unreachable!()
-                };
+                set_head(&mut self.heads, sector, Head { spot: other, least });
             }
             None => {
                 let _ = self.heads.remove(&sector);
@@ -249,6 +252,20 @@ impl<A: Allocator + Clone> Spots<A> {
             _ => Some(id),
         }
     }
+}
+
+/// Sets the head of a sector that has one. It takes no memory.
+fn set_head<A: Allocator + Clone>(
+    heads: &mut HashMap<u64, Head, Hashing, A>,
+    sector: u64,
+    head: Head,
+)
+    requires { IsSome (hash.get nat_eq heads.old sector) }
+    ensures { Sets (hash.get nat_eq heads.old) sector (Some head) (hash.get nat_eq heads.new) }
+{
+    let Ok(_) = heads.insert(sector, head) else {
+        unreachable!()
+    };
 }
 
 /// Whether two spots are one.

@@ -1,5 +1,5 @@
 -- Spots of which one of each sector stands by itself, with the fewest sectors that a request there has.
-use Rattle.std.specs.Prelude.{ℕ, ◌≡◌, ◌<◌, ◌≤◌, Bool, true, false, cond, Option, Some, None, IsSome}
+use Rattle.std.specs.Prelude.{ℕ, ◌≡◌, ◌<◌, ◌≤◌, Bool, true, false, cond, nat_eq, Option, Some, None, IsSome}
 use Rattle.std.specs.Ordering.{nat_cmp, eq_by_cmp}
 use Rattle.std.specs.BTreeMap.{is_at}
 use Rattle.blk_bio.specs.declared.extent.Extent.{Extent}
@@ -30,6 +30,10 @@ HasHeads heads others = (q : Spot) → others q ≡ true → IsSome (heads q.0.1
 abbrev pub HasNone : Option Head → ℕ → Type 0
 HasNone None sectors = Unit {0}
 HasNone (Some h) sectors = sectors < h.least
+
+-- a head is set at a sector, or taken away
+abbrev pub Sets : (ℕ → Option Head) → ℕ → Option Head → (ℕ → Option Head) → Type 0
+Sets old sector x new = (k : ℕ) → new k ≡ cond (nat_eq sector k) x (old k)
 
 -- what is said of the fewest sectors holds for a request more, and for those before
 abbrev pub Lowers : (ℕ → Option Head) → ℕ → ℕ → (ℕ → Option Head) → Type 0

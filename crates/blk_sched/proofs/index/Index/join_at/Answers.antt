@@ -21,8 +21,7 @@ join_in-requires-in-Front-clause-fit g c = subst (λ (m : Pending). HasFit c.arg
 pub invariant_of-self : goal.invariant_of-self
 invariant_of-self g c =
     let fit = subst (λ (m : Pending). HasFit c.args.limits.now (map.get m) c.args.newcomer c.args.id c.args.side) (sym c.self.view_is) c.requires in
-    let own = c.self.inside.waiting in
-    (
+    let own = c.self.inside.waiting in (
       index_joined c.args.limits.now own c.join_in.new.waiting c.args.id c.args.now c.args.side c.args.newcomer fit c.join_in.result (contains spot_cmp c.self.inside.ages) c.self.invariant.0 c.join_in.ensures.joined c.join_in.ensures.same,
       record {
         firsts = firsts_stay c.args.limits.now own c.join_in.new.waiting c.args.id c.args.now c.args.side c.args.newcomer fit c.join_in.result (heads_in c.self.inside.edges.firsts) (others_in c.self.inside.edges.firsts) c.in-Back.is c.self.invariant.1.firsts c.join_in.ensures.joined c.join_in.ensures.same;
@@ -33,8 +32,7 @@ invariant_of-self g c =
 pub invariant_of-self-in-Front : goal.invariant_of-self-in-Front
 invariant_of-self-in-Front g c =
     let fit = subst (λ (m : Pending). HasFit c.args.limits.now (map.get m) c.args.newcomer c.args.id c.args.side) (sym c.self.view_is) c.requires in
-    let own = c.self.inside.waiting in
-    (
+    let own = c.self.inside.waiting in (
       index_joined c.args.limits.now own c.join_in-in-Front.new.waiting c.args.id c.args.now c.args.side c.args.newcomer fit c.join_in-in-Front.result (contains spot_cmp c.self.inside.ages) c.self.invariant.0 c.join_in-in-Front.ensures.joined c.join_in-in-Front.ensures.same,
       record {
         firsts = subst (λ (t : Side). IsEdge (at_of t) (map.get c.join_in-in-Front.new.waiting) (heads_in c.join_in-in-Front.new.spots) (others_in c.join_in-in-Front.new.spots)) c.in-Front.is c.join_in-in-Front.ensures.spots;

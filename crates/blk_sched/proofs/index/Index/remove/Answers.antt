@@ -19,6 +19,6 @@ invariant_of-self-2 g c =
     let found = sym c.remove.ensures.value ∙ c.in-Some.is in
     let becomes = becomes_taken c.self.inside.waiting c.remove.new.self c.args.id c.remove.ensures.removed in (
       index_taken (map.get c.self.inside.waiting) (map.get c.remove.new.self) (contains spot_cmp c.self.inside.ages) (contains spot_cmp c.take.new.spots) c.args.id c.extent_of-extent.result c.age_spot.result c.in-Some.queued
-      c.self.invariant.0 found c.extent_of-extent.ensures c.age_spot.ensures c.take.ensures becomes,
+          c.self.invariant.0 found c.extent_of-extent.ensures c.age_spot.ensures c.take.ensures becomes,
       c.leave.ensures (map.get c.self.inside.waiting) (map.get c.remove.new.self) c.in-Some.queued c.extent_of-extent.ensures c.self.invariant.1 found becomes,
     )
