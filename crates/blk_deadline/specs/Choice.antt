@@ -1,4 +1,5 @@
 -- What the deadline scheduler serves and picks, over the plain list of what waits by rising id.
+pub use Rattle.blk_sched.specs.Meaning.{is_same}
 use Rattle.std.specs.Prelude.{ℕ, ◌+◌, ◌==◌, ◌≡◌, ◌&&◌, ◌||◌, nat_lt, nat_le, Bool, true, false, List, [], ◌∷◌, Option, None, Some, if◌then◌else◌}
 use Rattle.std.specs.List.{find, filter}
 use Rattle.std.specs.FinMap as map
@@ -13,11 +14,6 @@ use Rattle.blk_deadline.specs.declared.Tunables.{Tunables}
 -- it serves every request for every hardware queue
 abbrev pub serves_all : ℕ → Waiting → Bool
 serves_all hw w = true
-
-abbrev pub is_same : Dir → Dir → Bool
-is_same Read Read = true
-is_same Write Write = true
-is_same _ _ = false
 
 abbrev pub is_of : Dir → Waiting → Bool
 is_of dir w = is_same (dir_of w.bios) dir

@@ -1,5 +1,6 @@
 -- What kyber serves and picks, over the plain list of what waits by rising id.
-use Rattle.std.specs.Prelude.{ℕ, ◌+◌, ◌==◌, ◌&&◌, nat_lt, Bool, true, false, List, Option, None, Some, is_some, if◌then◌else◌}
+pub use Rattle.blk_sched.specs.Meaning.{serves_own, is_same}
+use Rattle.std.specs.Prelude.{ℕ, ◌+◌, ◌&&◌, nat_lt, Bool, true, false, List, Option, None, Some, is_some, if◌then◌else◌}
 use Rattle.std.specs.List.{find}
 use Rattle.blk_bio.specs.declared.bio.Dir.{Dir}
 use Rattle.blk_bio.specs.declared.bio.Dir.TheVariants.{Read, Write}
@@ -7,15 +8,6 @@ use Rattle.blk_bio.specs.Requests.{dir_of}
 use Rattle.blk_sched.specs.Meaning.{Waiting, OpenPicks, open_of, handed_of}
 use Rattle.blk_kyber.specs.declared.turn.Turn.{Turn}
 use Rattle.blk_kyber.specs.Limits.{Limits, limit_of}
-
--- a hardware queue serves the requests that entered at it
-abbrev pub serves_own : ℕ → Waiting → Bool
-serves_own hw w = w.hw == hw
-
-abbrev pub is_same : Dir → Dir → Bool
-is_same Read Read = true
-is_same Write Write = true
-is_same _ _ = false
 
 -- the other direction, and how many requests of a direction go in one turn
 abbrev pub other_of : Dir → Dir

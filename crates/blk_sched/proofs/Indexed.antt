@@ -1,5 +1,5 @@
 -- What a change does to the spots of requests.
-use Rattle.std.proofs.Common.{◌≡◌, ◌&&◌, ℕ, Bool, true, false, cond, sym, ap, subst, ◌∙◌, refl, Some, None, Option, List}
+use Rattle.std.proofs.Common.{◌≡◌, ◌&&◌, ℕ, Bool, true, false, cond, sym, ap, subst, ◌∙◌, refl, Some, None, Option}
 use Rattle.std.specs.Ordering.{nat_cmp, ordering_then, eq_by_cmp, is_eq}
 use Rattle.std.specs.BTreeMap.{is_at}
 use Rattle.std.specs.BTreeSet.{BTreeSet, IsEmpty, contains}
@@ -12,7 +12,8 @@ use Rattle.blk_bio.specs.declared.extent.Extent.{Extent}
 use Rattle.blk_sched.specs.Meaning.{Waiting, Pending}
 use Rattle.blk_bio.specs.Extents.{extent_of}
 use Rattle.blk_sched.specs.Maps.{same_number}
-use Rattle.blk_sched.specs.Inside.Spots.{Place, Spot, place_cmp, spot_cmp, Adds, Takes, Keeps, is_placed, AreSpots, first_at, end_at, age_at}
+use Rattle.blk_sched.specs.Inside.Spots.{Place, Spot, place_cmp, spot_cmp, Adds, Takes, Keeps, is_placed, AreSpots, age_at}
+use Rattle.blk_sched.specs.Inside.Heads.{Becomes}
 use Rattle.blk_sched.specs.Index.{IsIndex}
 use Rattle.blk_sched.proofs.Listed.{same_place, is_equal}
 
@@ -21,10 +22,6 @@ Found = ℕ → Option Waiting
 
 abbrev pub Has : Type 0
 Has = Spot → Bool
-
--- what is found then: at one id x, and elsewhere as before
-abbrev pub Becomes : Found → ℕ → Option Waiting → Found → Type 0
-Becomes old id x new = (k : ℕ) → new k ≡ cond (is_at (nat_cmp id) k) x (old k)
 
 -- the map's test of two ids in the order of the look-up's
 by_key : (q id : ℕ) → eq_by_cmp nat_cmp q id ≡ is_at (nat_cmp id) q
@@ -122,29 +119,23 @@ named_then old new id x named own becomes k v found =
       | false ↦ λ _ h. named k v h
     ] refl (sym (becomes k) ∙ found)
 
-pub insert_kept : (old new : Found) (f e a f2 e2 a2 : Has) (id : ℕ) (at : Extent) (w : Waiting) → IsIndex old f e a → old w.id ≡ None → id ≡ w.id → at ≡ extent_of w.bios → Adds f (first_at at, id) f2 → Adds e (end_at at, id) e2 → Adds a (age_at at, id) a2 → Becomes old id (Some w) new → IsIndex new f2 e2 a2
-insert_kept old new f e a f2 e2 a2 id at w index none own is firsts ends ages becomes =
+pub insert_kept : (old new : Found) (a a2 : Has) (id : ℕ) (at : Extent) (w : Waiting) → IsIndex old a → old w.id ≡ None → id ≡ w.id → at ≡ extent_of w.bios → Adds a (age_at at, id) a2 → Becomes old id (Some w) new → IsIndex new a2
+insert_kept old new a a2 id at w index none own is ages becomes =
     let absent : old id ≡ None = ap old own ∙ none in
     record {
       named = named_then old new id (Some w) index.named (λ v h. let same : w ≡ v = cc in ap (λ (u : Waiting). u.id) (sym same) ∙ sym own) becomes;
-      firsts = entered first_at old new id f f2 w index.firsts absent (subst (λ (x : Extent). Adds f (first_at x, id) f2) is firsts) becomes;
-      ends = entered end_at old new id e e2 w index.ends absent (subst (λ (x : Extent). Adds e (end_at x, id) e2) is ends) becomes;
       ages = entered age_at old new id a a2 w index.ages absent (subst (λ (x : Extent). Adds a (age_at x, id) a2) is ages) becomes;
     }
 
-pub remove_kept : (old new : Found) (f e a f2 e2 a2 : Has) (id : ℕ) (at : Extent) (w : Waiting) → IsIndex old f e a → old id ≡ Some w → at ≡ extent_of w.bios → Takes f (first_at at, id) f2 → Takes e (end_at at, id) e2 → Takes a (age_at at, id) a2 → Becomes old id None new → IsIndex new f2 e2 a2
-remove_kept old new f e a f2 e2 a2 id at w index found is firsts ends ages becomes = record {
+pub remove_kept : (old new : Found) (a a2 : Has) (id : ℕ) (at : Extent) (w : Waiting) → IsIndex old a → old id ≡ Some w → at ≡ extent_of w.bios → Takes a (age_at at, id) a2 → Becomes old id None new → IsIndex new a2
+remove_kept old new a a2 id at w index found is ages becomes = record {
   named = named_then old new id None index.named (λ v h. absurd (cc)) becomes;
-  firsts = taken first_at old new id f f2 w index.firsts found (subst (λ (x : Extent). Takes f (first_at x, id) f2) is firsts) becomes;
-  ends = taken end_at old new id e e2 w index.ends found (subst (λ (x : Extent). Takes e (end_at x, id) e2) is ends) becomes;
   ages = taken age_at old new id a a2 w index.ages found (subst (λ (x : Extent). Takes a (age_at x, id) a2) is ages) becomes;
 }
 
-pub same_kept : (old new : Found) (f e a f2 e2 a2 : Has) → IsIndex old f e a → ((k : ℕ) → new k ≡ old k) → Keeps f f2 → Keeps e e2 → Keeps a a2 → IsIndex new f2 e2 a2
-same_kept old new f e a f2 e2 a2 index same firsts ends ages = record {
+pub same_kept : (old new : Found) (a a2 : Has) → IsIndex old a → ((k : ℕ) → new k ≡ old k) → Keeps a a2 → IsIndex new a2
+same_kept old new a a2 index same ages = record {
   named = λ k v h. index.named k v (sym (same k) ∙ h);
-  firsts = kept first_at old new f f2 index.firsts same firsts;
-  ends = kept end_at old new e e2 index.ends same ends;
   ages = kept age_at old new a a2 index.ages same ages;
 }
 
@@ -153,22 +144,22 @@ same_kept old new f e a f2 e2 a2 index same firsts ends ages = record {
 pub no_spot : (s : BTreeSet Spot) → IsEmpty s → (q : Spot) → contains spot_cmp s q ≡ false
 no_spot s none q = ap (list_any (is_at (spot_cmp q))) none
 
-no_spots : (at : Extent → Place) (m : Pending) (has : Has) → m ≡ map.empty → ((q : Spot) → has q ≡ false) → AreSpots at (map.get m) has
+pub no_spots : (at : Extent → Place) (m : Pending) (has : Has) → m ≡ map.empty → ((q : Spot) → has q ≡ false) → AreSpots at (map.get m) has
 no_spots at m has none empty p k = empty (p, k) ∙ ap (is_placed at p) (sym (ap (λ (x : Pending). map.get x k) none ∙ map.get-empty nat_cmp k))
 
-pub empty_index : (m : Pending) (f e a : Has) → m ≡ map.empty → ((q : Spot) → f q ≡ false) → ((q : Spot) → e q ≡ false) → ((q : Spot) → a q ≡ false) → IsIndex (map.get m) f e a
-empty_index m f e a none firsts ends ages = record {
-  named = λ k w h. absurd (let x : None ≡ Some w = sym (ap (λ (x : Pending). map.get x k) none ∙ map.get-empty nat_cmp k) ∙ h in cc);
-  firsts = no_spots first_at m f none firsts;
-  ends = no_spots end_at m e none ends;
+pub none_found : (m : Pending) → m ≡ map.empty → (k : ℕ) → map.get m k ≡ None
+none_found m none k = ap (λ (x : Pending). map.get x k) none ∙ map.get-empty nat_cmp k
+
+pub empty_index : (m : Pending) (a : Has) → m ≡ map.empty → ((q : Spot) → a q ≡ false) → IsIndex (map.get m) a
+empty_index m a none ages = record {
+  named = λ k w h. absurd (let x : None ≡ Some w = sym (none_found m none k) ∙ h in cc);
   ages = no_spots age_at m a none ages;
 }
 
 -- an id that isn't there is taken out
-pub absent_kept : (m n : Pending) (id : ℕ) (f e a : Has) → IsIndex (map.get m) f e a → map.get m id ≡ None → n ≡ map.remove m id → IsIndex (map.get n) f e a
-absent_kept m n id f e a index none is = same_kept (map.get m) (map.get n) f e a f e a index
-    (λ k. becomes_taken m n id is k ∙ elim (is_at (nat_cmp id) k) as (λ b. is_at (nat_cmp id) k ≡ b → cond b None (map.get m k) ≡ map.get m k) [
+pub same_without : (m n : Pending) (id : ℕ) → map.get m id ≡ None → n ≡ map.remove m id → (k : ℕ) → map.get n k ≡ map.get m k
+same_without m n id none is k =
+    becomes_taken m n id is k ∙ elim (is_at (nat_cmp id) k) as (λ b. is_at (nat_cmp id) k ≡ b → cond b None (map.get m k) ≡ map.get m k) [
       | true ↦ λ e. sym (ap (map.get m) (same_number id k e) ∙ none)
       | false ↦ λ _. refl
-    ] refl)
-    (λ q. refl) (λ q. refl) (λ q. refl)
+    ] refl

@@ -14,9 +14,10 @@ use Rattle.blk_bio.specs.Extents.{extent_of}
 use Rattle.blk_sched.specs.Fits.{HasFit}
 use Rattle.blk_sched.specs.Inside.Shelves.{JoinsOne}
 use Rattle.blk_sched.specs.Inside.Spots.{Place, Spot, place_cmp, is_write, is_placed, AreSpots, Adds, Takes, first_at, end_at, age_at}
-use Rattle.blk_sched.specs.Index.{at_of, joined_extent, IsIndex, IsJoined}
+use Rattle.blk_sched.specs.Inside.Heads.{Becomes}
+use Rattle.blk_sched.specs.Index.{at_of, joined_extent, IsJoined}
 use Rattle.blk_sched.proofs.Listed.{same_place, is_equal}
-use Rattle.blk_sched.proofs.Indexed.{Found, Has, Becomes, moved, stayed, kept, named_then, becomes_given}
+use Rattle.blk_sched.proofs.Indexed.{Found, Has, moved, stayed, kept, becomes_given}
 
 -- ---- where a joined request begins and ends
 
@@ -60,7 +61,7 @@ last_stays limits [] newcomer fits = ap last_of (append_none newcomer) ∙ fits.
 last_stays limits (x ∷ xs) newcomer fits = last_both newcomer x xs
 
 -- where it lies at the side then
-at_joined : (limits : Limits) (bios newcomer : List Bio) (s : ℕ) (side : Side) → Fits limits bios newcomer side → 0 < s → first_of newcomer + s ≡ last_of newcomer → at_of side (extent_of (joined bios newcomer side)) ≡ at_of side (joined_extent side (extent_of bios) (extent_of newcomer))
+pub at_joined : (limits : Limits) (bios newcomer : List Bio) (s : ℕ) (side : Side) → Fits limits bios newcomer side → 0 < s → first_of newcomer + s ≡ last_of newcomer → at_of side (extent_of (joined bios newcomer side)) ≡ at_of side (joined_extent side (extent_of bios) (extent_of newcomer))
 at_joined limits bios newcomer s Back fits some range =
     ap (λ (d : Dir). let p : Place = (is_write d, last_of (bios ++ newcomer)) in p) (dir_stays limits bios newcomer Back fits)
     ∙ ap (λ (n : ℕ). let p : Place = (is_write (dir_of bios), n) in p) (last_joined bios newcomer s some range)
@@ -74,22 +75,22 @@ apart_at limits bios newcomer s Back fits some range same = let e : last_of bios
 apart_at limits bios newcomer s Front fits some range same = let e : first_of bios ≡ first_of newcomer = ap (λ (p : Place). p.1) same in let b : last_of newcomer ≡ first_of bios = fits.abuts in omega arith
 
 -- and as before at the other side
-first_place : (limits : Limits) (bios newcomer : List Bio) → Fits limits bios newcomer Back → first_at (extent_of bios) ≡ first_at (extent_of (joined bios newcomer Back))
+pub first_place : (limits : Limits) (bios newcomer : List Bio) → Fits limits bios newcomer Back → first_at (extent_of bios) ≡ first_at (extent_of (joined bios newcomer Back))
 first_place limits bios newcomer fits =
     ap (λ (d : Dir). let p : Place = (is_write d, first_of bios) in p) (sym (dir_stays limits bios newcomer Back fits))
     ∙ ap (λ (n : ℕ). let p : Place = (is_write (dir_of (bios ++ newcomer)), n) in p) (sym (first_stays limits bios newcomer fits))
 
-end_place : (limits : Limits) (bios newcomer : List Bio) → Fits limits bios newcomer Front → end_at (extent_of bios) ≡ end_at (extent_of (joined bios newcomer Front))
+pub end_place : (limits : Limits) (bios newcomer : List Bio) → Fits limits bios newcomer Front → end_at (extent_of bios) ≡ end_at (extent_of (joined bios newcomer Front))
 end_place limits bios newcomer fits =
     ap (λ (d : Dir). let p : Place = (is_write d, last_of bios) in p) (sym (dir_stays limits bios newcomer Front fits))
     ∙ ap (λ (n : ℕ). let p : Place = (is_write (dir_of (newcomer ++ bios)), n) in p) (sym (last_stays limits bios newcomer fits))
 
-age_place : (limits : Limits) (bios newcomer : List Bio) (side : Side) → Fits limits bios newcomer side → age_at (extent_of bios) ≡ age_at (extent_of (joined bios newcomer side))
+pub age_place : (limits : Limits) (bios newcomer : List Bio) (side : Side) → Fits limits bios newcomer side → age_at (extent_of bios) ≡ age_at (extent_of (joined bios newcomer side))
 age_place limits bios newcomer side fits = ap (λ (d : Dir). let p : Place = (is_write d, 0) in p) (sym (dir_stays limits bios newcomer side fits))
 
 -- ---- the spots at the side
 
-fits_it : (limits : Limits) (old : Found) (id : ℕ) (side : Side) (newcomer : List Bio) (v : Waiting) → old id ≡ Some v → HasFit limits old newcomer id side → Fits limits v.bios newcomer side
+pub fits_it : (limits : Limits) (old : Found) (id : ℕ) (side : Side) (newcomer : List Bio) (v : Waiting) → old id ≡ Some v → HasFit limits old newcomer id side → Fits limits v.bios newcomer side
 fits_it limits old id side newcomer v found fit =
     let one : Some fit.0 ≡ Some v = sym fit.1 ∙ found in
     let same : fit.0 ≡ v = cc in
@@ -107,10 +108,9 @@ new_spot limits old has id s side newcomer v spot spots found fit some range is 
       | false ↦ λ _. refl
     ] refl
 
-pub spots_joined : (limits : Limits) (old new : Found) (has mid now : Has) (id s at : ℕ) (side other : Side) (newcomer : List Bio) (v w : Waiting) (spot last : Spot) → AreSpots (at_of side) old has → old id ≡ Some v → HasFit limits old newcomer id side → 0 < s → first_of newcomer + s ≡ last_of newcomer → spot ≡ (at_of side (joined_extent side (extent_of v.bios) (extent_of newcomer)), id) → last ≡ (at_of side (extent_of v.bios), id) → ((t : Side) → Fits limits v.bios newcomer t → t ≡ other) → w ≡ joined_waiting other at newcomer v → Adds has spot mid → Takes mid last now → Becomes old id (Some w) new → AreSpots (at_of side) new now
-spots_joined limits old new has mid now id s at side other newcomer v w spot last spots found fit some range is was only join adds takes becomes =
+pub spots_moved : (limits : Limits) (old new : Found) (has mid now : Has) (id s at : ℕ) (side : Side) (newcomer : List Bio) (v w : Waiting) (spot last : Spot) → AreSpots (at_of side) old has → old id ≡ Some v → HasFit limits old newcomer id side → 0 < s → first_of newcomer + s ≡ last_of newcomer → spot ≡ (at_of side (joined_extent side (extent_of v.bios) (extent_of newcomer)), id) → last ≡ (at_of side (extent_of v.bios), id) → w ≡ joined_waiting side at newcomer v → Adds has spot mid → Takes mid last now → Becomes old id (Some w) new → AreSpots (at_of side) new now
+spots_moved limits old new has mid now id s at side newcomer v w spot last spots found fit some range is was w_is adds takes becomes =
     let fits = fits_it limits old id side newcomer v found fit in
-    let w_is : w ≡ joined_waiting side at newcomer v = join ∙ ap (λ (t : Side). joined_waiting t at newcomer v) (sym (only side fits)) in
     let place : at_of side (joined_extent side (extent_of v.bios) (extent_of newcomer)) ≡ at_of side (extent_of w.bios) = sym (at_joined limits v.bios newcomer s side fits some range) ∙ ap (λ (x : Waiting). at_of side (extent_of x.bios)) (sym w_is) in
     moved (at_of side) old new id has mid now v w spots found
     (subst (λ (q : Spot). Adds has q mid) (is ∙ ap (λ (p : Place). let q : Spot = (p, id) in q) place) adds)
@@ -118,30 +118,19 @@ spots_joined limits old new has mid now id s at side other newcomer v w spot las
     (λ same. apart_at limits v.bios newcomer s side fits some range (same ∙ sym place))
     becomes
 
--- ---- the index
+-- the same where the join says its side
+pub spots_joined : (limits : Limits) (old new : Found) (has mid now : Has) (id s at : ℕ) (side other : Side) (newcomer : List Bio) (v w : Waiting) (spot last : Spot) → AreSpots (at_of side) old has → old id ≡ Some v → HasFit limits old newcomer id side → 0 < s → first_of newcomer + s ≡ last_of newcomer → spot ≡ (at_of side (joined_extent side (extent_of v.bios) (extent_of newcomer)), id) → last ≡ (at_of side (extent_of v.bios), id) → ((t : Side) → Fits limits v.bios newcomer t → t ≡ other) → w ≡ joined_waiting other at newcomer v → Adds has spot mid → Takes mid last now → Becomes old id (Some w) new → AreSpots (at_of side) new now
+spots_joined limits old new has mid now id s at side other newcomer v w spot last spots found fit some range is was only join adds takes becomes =
+    spots_moved limits old new has mid now id s at side newcomer v w spot last spots found fit some range is was
+    (join ∙ ap (λ (t : Side). joined_waiting t at newcomer v) (sym (only side (fits_it limits old id side newcomer v found fit)))) adds takes becomes
 
-module _ (limits : Limits) (m n : Pending) (id at : ℕ) (newcomer : List Bio) where
-  joined_back : (f e a e2 : Has) → IsIndex (map.get m) f e a → HasFit limits (map.get m) newcomer id Back → AreSpots end_at (map.get n) e2 → IsJoined at newcomer m id Back n → IsIndex (map.get n) f e2 a
-  joined_back f e a e2 index fit ends join =
-      let v = join.waiting in
-      let fits = fits_it limits (map.get m) id Back newcomer v join.was fit in
-      record {
-        named = named_then (map.get m) (map.get n) id (Some (joined_waiting Back at newcomer v)) index.named (λ u h. let same : joined_waiting Back at newcomer v ≡ u = cc in ap (λ (x : Waiting). x.id) (sym same) ∙ index.named id v join.was) (becomes_given m n id (joined_waiting Back at newcomer v) join.is);
-        firsts = stayed first_at (map.get m) (map.get n) id f v (joined_waiting Back at newcomer v) index.firsts join.was (first_place limits v.bios newcomer fits) (becomes_given m n id (joined_waiting Back at newcomer v) join.is);
-        ends = ends;
-        ages = stayed age_at (map.get m) (map.get n) id a v (joined_waiting Back at newcomer v) index.ages join.was (age_place limits v.bios newcomer Back fits) (becomes_given m n id (joined_waiting Back at newcomer v) join.is);
-      }
-
-  joined_front : (f e a f2 : Has) → IsIndex (map.get m) f e a → HasFit limits (map.get m) newcomer id Front → AreSpots first_at (map.get n) f2 → IsJoined at newcomer m id Front n → IsIndex (map.get n) f2 e a
-  joined_front f e a f2 index fit firsts join =
-      let v = join.waiting in
-      let fits = fits_it limits (map.get m) id Front newcomer v join.was fit in
-      record {
-        named = named_then (map.get m) (map.get n) id (Some (joined_waiting Front at newcomer v)) index.named (λ u h. let same : joined_waiting Front at newcomer v ≡ u = cc in ap (λ (x : Waiting). x.id) (sym same) ∙ index.named id v join.was) (becomes_given m n id (joined_waiting Front at newcomer v) join.is);
-        firsts = firsts;
-        ends = stayed end_at (map.get m) (map.get n) id e v (joined_waiting Front at newcomer v) index.ends join.was (end_place limits v.bios newcomer fits) (becomes_given m n id (joined_waiting Front at newcomer v) join.is);
-        ages = stayed age_at (map.get m) (map.get n) id a v (joined_waiting Front at newcomer v) index.ages join.was (age_place limits v.bios newcomer Front fits) (becomes_given m n id (joined_waiting Front at newcomer v) join.is);
-      }
+-- a join at the back leaves where the request begins
+pub firsts_stay : {T E : Type 0} (limits : Limits) (m n : Pending) (id at : ℕ) (side : Side) (newcomer : List Bio) (has : Has) (r : Result T E) → side ≡ Back → AreSpots first_at (map.get m) has → HasFit limits (map.get m) newcomer id side → OnOk r (IsJoined at newcomer m id side n) → OnErr r (n ≡ m) → AreSpots first_at (map.get n) has
+firsts_stay limits m n id at side newcomer has (Ok x) is spots fit join same =
+    let back : IsJoined at newcomer m id Back n = subst (λ (t : Side). IsJoined at newcomer m id t n) is join in
+    let fits : Fits limits back.waiting.bios newcomer Back = fits_it limits (map.get m) id Back newcomer back.waiting back.was (subst (λ (t : Side). HasFit limits (map.get m) newcomer id t) is fit) in
+    stayed first_at (map.get m) (map.get n) id has back.waiting (joined_waiting Back at newcomer back.waiting) spots back.was (first_place limits back.waiting.bios newcomer fits) (becomes_given m n id (joined_waiting Back at newcomer back.waiting) back.is)
+firsts_stay limits m n id at side newcomer has (Err x) is spots fit join same = kept first_at (map.get m) (map.get n) has has spots (λ k. ap (λ (x : Pending). map.get x k) same) (λ q. refl)
 
 -- a join at the side that was asked for
 pub joined_at : (limits : Limits) (m n : Pending) (id at : ℕ) (side found : Side) (newcomer : List Bio) → HasFit limits (map.get m) newcomer id side → JoinsOne limits at newcomer m id found n → IsJoined at newcomer m id side n
@@ -150,29 +139,3 @@ joined_at limits m n id at side found newcomer fit join = record {
   was = join.was;
   is = join.is ∙ ap (λ (t : Side). map.insert m id (joined_waiting t at newcomer join.waiting)) (sym (join.only side (fits_it limits (map.get m) id side newcomer join.waiting join.was fit)));
 }
-
-fit_at : (limits : Limits) (old : Found) (id : ℕ) (newcomer : List Bio) (side t : Side) → side ≡ t → HasFit limits old newcomer id side → HasFit limits old newcomer id t
-fit_at limits old id newcomer side t is fit = subst (λ (x : Side). HasFit limits old newcomer id x) is fit
-
-module _ {T E : Type 0} (limits : Limits) (m n : Pending) (id at : ℕ) (side : Side) (newcomer : List Bio) (fit : HasFit limits (map.get m) newcomer id side) where
-  pub index_back : (r : Result T E) (f e a e2 : Has) → side ≡ Back → IsIndex (map.get m) f e a → AreSpots (at_of side) (map.get n) e2 → OnOk r (IsJoined at newcomer m id side n) → OnErr r (n ≡ m) → IsIndex (map.get n) f e2 a
-  index_back (Ok x) f e a e2 is index spots join same =
-      joined_back limits m n id at newcomer f e a e2 index (fit_at limits (map.get m) id newcomer side Back is fit)
-      (subst (λ (t : Side). AreSpots (at_of t) (map.get n) e2) is spots) (subst (λ (t : Side). IsJoined at newcomer m id t n) is join)
-  index_back (Err x) f e a e2 is index spots join same = record {
-    named = λ k v h. index.named k v (ap (λ (x : Pending). map.get x k) (sym same) ∙ h);
-    firsts = kept first_at (map.get m) (map.get n) f f index.firsts (λ k. ap (λ (x : Pending). map.get x k) same) (λ q. refl);
-    ends = subst (λ (t : Side). AreSpots (at_of t) (map.get n) e2) is spots;
-    ages = kept age_at (map.get m) (map.get n) a a index.ages (λ k. ap (λ (x : Pending). map.get x k) same) (λ q. refl);
-  }
-
-  pub index_front : (r : Result T E) (f e a f2 : Has) → side ≡ Front → IsIndex (map.get m) f e a → AreSpots (at_of side) (map.get n) f2 → OnOk r (IsJoined at newcomer m id side n) → OnErr r (n ≡ m) → IsIndex (map.get n) f2 e a
-  index_front (Ok x) f e a f2 is index spots join same =
-      joined_front limits m n id at newcomer f e a f2 index (fit_at limits (map.get m) id newcomer side Front is fit)
-      (subst (λ (t : Side). AreSpots (at_of t) (map.get n) f2) is spots) (subst (λ (t : Side). IsJoined at newcomer m id t n) is join)
-  index_front (Err x) f e a f2 is index spots join same = record {
-    named = λ k v h. index.named k v (ap (λ (x : Pending). map.get x k) (sym same) ∙ h);
-    firsts = subst (λ (t : Side). AreSpots (at_of t) (map.get n) f2) is spots;
-    ends = kept end_at (map.get m) (map.get n) e e index.ends (λ k. ap (λ (x : Pending). map.get x k) same) (λ q. refl);
-    ages = kept age_at (map.get m) (map.get n) a a index.ages (λ k. ap (λ (x : Pending). map.get x k) same) (λ q. refl);
-  }

@@ -26,7 +26,7 @@ placed : (at : Extent → Place) (p : Place) (o : Option Waiting) → is_placed 
 placed at p None h = absurd (cc)
 placed at p (Some w) h = (w, refl, same_place (at (extent_of w.bios)) p (is_equal (place_cmp (at (extent_of w.bios)) p) h))
 
-standing : (at : Extent → Place) (found : Found) (has : Has) (k : ℕ) (v : Waiting) → AreSpots at found has → found k ≡ Some v → has (at (extent_of v.bios), k) ≡ true
+pub standing : (at : Extent → Place) (found : Found) (has : Has) (k : ℕ) (v : Waiting) → AreSpots at found has → found k ≡ Some v → has (at (extent_of v.bios), k) ≡ true
 standing at found has k v spots is = spots (at (extent_of v.bios)) k ∙ ap (is_placed at (at (extent_of v.bios))) is ∙ ap is_eq (place_itself (at (extent_of v.bios)))
 
 -- nothing is below the first place of a direction

@@ -1,19 +1,17 @@
 -- What lies at places, found by ids.
-use Rattle.std.proofs.Common.{◌≡◌, ◌≢◌, ◌<◌, ◌∙◌, sym, ap, subst, refl, true, false, Bool, cond, ℕ, Some, None, Option, List, [], ◌∷◌, zero, suc, get_or, length, arith}
-use Rattle.std.specs.Prelude.{IsSome}
-use Rattle.std.specs.Ordering.{nat_cmp, is_eq, is_gt}
+use Rattle.std.proofs.Common.{◌≡◌, ◌≢◌, ◌<◌, ◌∙◌, sym, ap, subst, refl, true, false, cond, ℕ, Some, None, Option, List, [], ◌∷◌, zero, suc, get_or, length, arith}
+use Rattle.std.specs.Prelude.{IsSome, is_some, nat_eq, ◌+◌}
+use Rattle.std.specs.Ordering.{nat_cmp, is_eq}
 use Rattle.std.specs.Cmp.{nat_cmp_total, tied_itself}
 use Rattle.std.specs.BTreeMap.{is_at}
 use Rattle.std.specs.Map.{lookup, keys_of}
-use Rattle.std.specs.List.Sorted.{IsStrictlySortedBy}
-use Rattle.std.proofs.lemmas.Map.Keys.{sorted_head, sorted_tail}
-use Rattle.std.specs.FinMap.{FinMap, get, insert, remove, from_entries, len}
+use Rattle.std.specs.List.{IsDistinct}
+use Rattle.std.specs.FinMap.{get, insert, remove, from_entries, len}
 use Rattle.std.specs.FinMap as map
 use Rattle.blk_sched.specs.Meaning.{Waiting, Pending}
-use Rattle.blk_sched.specs.Maps.{same_number, get_waiting, one_given, one_taken, at_front, behind, len_is}
-use Rattle.blk_sched.proofs.Order.{greater}
-use Rattle.blk_sched.specs.Inside.Shelves.{beside, held, IsShelf, IsLeast}
-use Rattle.blk_sched.specs.Index.{PopsFirst}
+use Rattle.blk_sched.specs.Maps.{same_number, get_waiting, one_given, one_taken, at_front}
+use Rattle.blk_sched.proofs.Hashed.{absent}
+use Rattle.blk_sched.specs.Inside.Shelves.{beside, held, IsShelf}
 
 abbrev pub Laid : Type 0
 Laid = ℕ → Option Waiting
@@ -168,17 +166,7 @@ within_by [] k v h = absurd (cc)
 within_by (x ∷ xs) zero v h = omega arith
 within_by (x ∷ xs) (suc k) v h = let rest = within_by xs k v h in omega arith
 
--- what is taken out at the least id
-pub popped : (m n : Pending) (id : ℕ) (r : Option Waiting) → IsLeast m id → ((k : ℕ) (w : Waiting) → get m k ≡ Some w → w.id ≡ k) → r ≡ get m id → n ≡ remove m id → PopsFirst m r n
-popped m n id None least named is out = absurd (let a : None ≡ Some least.waiting = is ∙ least.is_found in cc)
-popped m n id (Some w) least named is out =
-    let own : w.id ≡ id = named id w (sym is) in (
-      ap (get m) own ∙ sym is,
-      λ k before. least.least k (omega (arith, before, own)),
-      out ∙ ap (remove m) (sym own),
-    )
-
--- ---- nothing, the least, and how many
+-- ---- nothing, and how many
 
 pub none_held : (at : Laid) (es : Places) → es ≡ [] → from_entries {R = nat_cmp} (held at es) ≡ map.empty
 unfolding held
@@ -187,31 +175,30 @@ none_held at es none = ap (λ l. from_entries {R = nat_cmp} (held at l)) none
 pub none_shelf : (at : Laid) (es : Places) → es ≡ [] → IsShelf es at
 none_shelf at es none q p h = absurd (let e : None ≡ Some p = ap (place_in q) (sym none) ∙ h in cc)
 
-pub none_by : (es : Places) (at : Laid) (self : Pending) → IsShelf es at → from_entries (held at es) ≡ self → (0 < length es → ⊥) → (k : ℕ) → get self k ≡ None
-none_by [] at self shelf view none k = got_by [] at self shelf view k
-none_by (e ∷ es) at self shelf view none k = absurd (none (omega arith))
+-- the others of a place whose id is not among them
+tail_shelf : (e : ℕ × ℕ) (es : Places) (at : Laid) → place_in e.0 es ≡ None → IsShelf (e ∷ es) at → IsShelf es at
+tail_shelf e es at none shelf q p h =
+    shelf q p (elim (is_at (nat_cmp q) e.0) as (λ b. is_at (nat_cmp q) e.0 ≡ b → cond b (Some e.1) (place_in q es) ≡ Some p) [
+      | true ↦ λ t. absurd (let a : None ≡ Some p = sym none ∙ ap (λ k. place_in k es) (same_number q e.0 t) ∙ h in cc)
+      | false ↦ λ _. h
+    ] refl)
 
-pub least_by : (es : Places) (at : Laid) (self : Pending) (id p : ℕ) → IsShelf es at → from_entries (held at es) ≡ self → place_in id es ≡ Some p → ((q : ℕ) → IsSome (place_in q es) → is_gt (nat_cmp id q) ≡ false) → IsLeast self id
-least_by es at self id p shelf view is least = record {
-  waiting = (shelf id p is).0;
-  is_found = got_by es at self shelf view id ∙ ap (lies at) is ∙ (shelf id p is).1;
-  least = λ k before. got_by es at self shelf view k ∙ elim (place_in k es) as (λ o. place_in k es ≡ o → lies at o ≡ None) [
-    | None ↦ λ _. refl
-    | Some x ↦ λ e. let a : true ≡ false = ap is_gt (sym (greater id k before)) ∙ least k (subst IsSome (sym e) refl) in cc
-  ] refl;
-}
+one_more : (es : List (ℕ × Waiting)) (id : ℕ) (w : Waiting) → lookup (is_at (nat_cmp id)) es ≡ None → len (from_entries {R = nat_cmp} ((id, w) ∷ es)) ≡ suc (len (from_entries {R = nat_cmp} es))
+one_more es id w none =
+    let m = from_entries {R = nat_cmp} es in
+    let absent : get m id ≡ None = get_waiting es id ∙ none in
+    map.len-insert nat_cmp_total m id w ∙ ap (λ o. cond (is_some o) (len m) (len m + 1)) absent ∙ omega arith
 
-keys_held : (es : Places) (at : Laid) → IsStrictlySortedBy nat_cmp (keys_of es) → IsShelf es at → (keys_of (held at es) ≡ keys_of es) × (length (held at es) ≡ length es)
-unfolding held
-keys_held [] at sorted shelf = (refl, refl)
-keys_held (e ∷ es) at sorted shelf =
+len_held : (es : Places) (at : Laid) → IsDistinct nat_eq (keys_of es) → IsShelf es at → length es ≡ len (from_entries {R = nat_cmp} (held at es))
+unfolding held IsDistinct
+len_held [] at distinct shelf = sym (map.len-empty nat_cmp Waiting)
+len_held (e ∷ es) at distinct shelf =
     let there = (shelf e.0 e.1 (at_front e es)).1 in
-    let rest = keys_held es at (sorted_tail nat_cmp e.0 (keys_of es) sorted) (λ q p h. shelf q p (behind e es q p (sorted_head nat_cmp e.0 (keys_of es) sorted) h)) in (
-      ap (λ o. keys_of (beside e.0 o (held at es))) there ∙ ap (λ (l : List ℕ). e.0 ∷ l) rest.0,
-      ap (λ o. length (beside e.0 o (held at es))) there ∙ ap suc rest.1,
-    )
+    let none : place_in e.0 es ≡ None = absent e.0 es distinct.0 in
+    let tail = tail_shelf e es at none shelf in
+    let rest : length es ≡ len (from_entries {R = nat_cmp} (held at es)) = len_held es at distinct.1 tail in
+    ap suc rest ∙ sym (one_more (held at es) e.0 (shelf e.0 e.1 (at_front e es)).0 (found_by es at tail e.0 ∙ ap (lies at) none))
+    ∙ ap (λ o. len (from_entries {R = nat_cmp} (beside e.0 o (held at es)))) (sym there)
 
-pub len_by : (es : Places) (at : Laid) (self : Pending) → IsStrictlySortedBy nat_cmp (keys_of es) → IsShelf es at → from_entries (held at es) ≡ self → length es ≡ len self
-len_by es at self sorted shelf view =
-    let both = keys_held es at sorted shelf in
-    sym both.1 ∙ sym (len_is (held at es) (subst (IsStrictlySortedBy nat_cmp) (sym both.0) sorted)) ∙ ap (λ (m : Pending). len m) view
+pub len_by : (es : Places) (at : Laid) (self : Pending) → IsDistinct nat_eq (keys_of es) → IsShelf es at → from_entries (held at es) ≡ self → length es ≡ len self
+len_by es at self distinct shelf view = len_held es at distinct shelf ∙ ap (λ (m : Pending). len m) view

@@ -1,5 +1,5 @@
 -- The search for a join among the requests that a newcomer touches.
-use Rattle.std.proofs.Common.{◌≡◌, ◌<◌, ◌≤◌, ◌⊎◌, inl, inr, ◌==◌, ℕ, Bool, true, false, sym, ap, ◌∙◌, refl, arith, Some, None, Option, List}
+use Rattle.std.proofs.Common.{◌≡◌, ◌<◌, ◌≤◌, ◌+◌, ◌⊎◌, inl, inr, ℕ, Bool, true, false, sym, ap, subst, ◌∙◌, refl, arith, Some, None, Option, List}
 use Rattle.std.specs.Prelude.{if◌then◌else◌, IfSome, IfNone, IsTrue, nat_lt}
 use Rattle.std.specs.Option.{OnSome}
 use Rattle.std.specs.Ordering.{eq_by_cmp, is_eq}
@@ -10,13 +10,18 @@ use Rattle.blk_bio.specs.declared.request.Side.{Side}
 use Rattle.blk_bio.specs.declared.request.Side.TheVariants.{Back, Front}
 use Rattle.blk_bio.specs.Bios.{Bio}
 use Rattle.blk_bio.specs.Limits.{Limits}
-use Rattle.blk_bio.specs.Requests.{Fits, dir_of, first_of, last_of, IsTried}
+use Rattle.blk_bio.specs.Requests.{Fits, dir_of, first_of, last_of, sectors_of, joined, IsTried}
 use Rattle.blk_sched.specs.Meaning.{Waiting}
 use Rattle.blk_bio.specs.Extents.{extent_of}
 use Rattle.blk_sched.specs.Fits.{FitsNowhere, IsNewestFit, FitsNone}
 use Rattle.blk_sched.specs.Inside.Spots.{Place, place_cmp, is_write, is_placed, AreSpots, IsBelow, IsNewestSpot, NoSpot}
 use Rattle.blk_sched.specs.Index.{at_of, touch_of, IsPassed, FitsBy, IsNewestBy, FitsNoneBy, newer_of}
+use Rattle.blk_sched.specs.declared.spots.Head.{Head}
+use Rattle.blk_sched.specs.Inside.Heads.{HasNone, IsEdge}
 use Rattle.blk_sched.proofs.Listed.{place_itself}
+use Rattle.blk_sched.proofs.Spotted.{Heads, Others}
+use Rattle.blk_sched.proofs.Edged.{head_at, some_head}
+use Rattle.blk_sched.proofs.Joining.{sectors_both, not_one}
 use Rattle.blk_sched.proofs.Indexed.{Found, Has}
 
 -- what fits is touched
@@ -63,6 +68,23 @@ module _ (limits : Limits) (waiting : Found) (has : Has) (newcomer : List Bio) (
     | inl low ↦ let a : true ≡ false = sym (standing k w there fits) ∙ none k low in absurd (cc)
     | inr high ↦ passed k w high there fits
   ]
+
+-- where each request at the place has too many sectors, none fits
+too_many : (limits : Limits) (bios newcomer : List Bio) (side : Side) (room least : ℕ) → limits.max_sectors ≤ room + sectors_of newcomer → 0 < sectors_of newcomer → room < least → least ≤ sectors_of bios → Fits limits bios newcomer side → ⊥
+too_many limits bios newcomer side room least wide some above has fits =
+    let size : sectors_of (joined bios newcomer side) ≡ sectors_of bios + sectors_of newcomer = sectors_both bios newcomer side in
+    elim fits.within [
+      | inl one ↦ not_one bios newcomer side (omega (arith, above, has)) some one
+      | inr both ↦ let most : sectors_of (joined bios newcomer side) ≤ limits.max_sectors = both.0 in omega (arith, size, most, wide, above, has)
+    ]
+
+pub none_room : (limits : Limits) (waiting : Found) (heads : Heads) (others : Others) (newcomer : List Bio) (side : Side) (p : Place) (room : ℕ) → IsEdge (at_of side) waiting heads others → p ≡ touch_of side (extent_of newcomer) → limits.max_sectors ≤ room + sectors_of newcomer → 0 < sectors_of newcomer → HasNone (heads p.1) room → (k : ℕ) (w : Waiting) → waiting k ≡ Some w → Fits limits w.bios newcomer side → ⊥
+none_room limits waiting heads others newcomer side p room edge is wide some none k w there fits =
+    let place : at_of side (extent_of w.bios) ≡ p = touches limits w.bios newcomer side fits ∙ sym is in
+    let head = some_head (heads (at_of side (extent_of w.bios)).1) (head_at (at_of side) waiting heads others k w edge there) in
+    let here : heads p.1 ≡ Some head.0 = ap (λ (q : Place). heads q.1) (sym place) ∙ head.1 in
+    let above : room < head.0.least = subst (λ (o : Option Head). HasNone o room) here none in
+    too_many limits w.bios newcomer side room head.0.least wide some above (edge.least k w head.0 there head.1) fits
 
 -- ---- of the newest at both sides the newer
 

@@ -12,10 +12,8 @@ use Rattle.blk_sched.specs.Meaning.{Waiting, Pending, joined_waiting}
 use Rattle.blk_sched.specs.Inside.Spots.{Place, Spot, AreSpots, first_at, end_at, age_at}
 
 -- each request has its id, and the spots are theirs
-pub record IsIndex (waiting : ℕ → Option Waiting) (at_first at_end at_age : Spot → Bool) : Type 0 where
+pub record IsIndex (waiting : ℕ → Option Waiting) (at_age : Spot → Bool) : Type 0 where
   pub named : (id : ℕ) (w : Waiting) → waiting id ≡ Some w → w.id ≡ id
-  pub firsts : AreSpots first_at waiting at_first
-  pub ends : AreSpots end_at waiting at_end
   pub ages : AreSpots age_at waiting at_age
 
 -- the newest request that fits at one side
@@ -97,9 +95,3 @@ NoneOf dir found = (k : ℕ) (v : Waiting) → found k ≡ Some v → dir_of v.b
 
 abbrev pub NoNext : Dir → ℕ → ℕ → (ℕ → Option Waiting) → Type 0
 NoNext dir first last found = (k : ℕ) (v : Waiting) → found k ≡ Some v → dir_of v.bios ≡ dir → IsBefore first last (first_of v.bios) k → ⊥
-
--- the request of the least id is taken out, and nothing only where nothing waits
-abbrev pub PopsFirst : Pending → Option Waiting → Pending → Type 0
-PopsFirst old None new = ((k : ℕ) → map.get old k ≡ None) × (new ≡ old)
-PopsFirst old (Some w) new =
-    (map.get old w.id ≡ Some w) × ((k : ℕ) → k < w.id → map.get old k ≡ None) × (new ≡ map.remove old w.id)

@@ -1,4 +1,5 @@
--- What invariants and proofs alone need: the ordered sets of an index, its requests in a slab, and the marks of a lane.
+-- What invariants and proofs alone need: the spots of requests, and the requests in a slab.
 pub mod Spots
+pub mod Heads
+pub mod Edges
 pub mod Shelves
-pub mod Marks

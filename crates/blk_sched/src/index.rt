@@ -1,23 +1,26 @@
 //! Requests that wait, by their ids and by where they begin and end.
 
-ghost use Rattle.std.specs.Prelude.{◌≡◌, ◌<◌, ◌^◌, ◌+◌, ◌↔◌, ℕ, Option, None, Some, true, false, IfOk, OnOk, IfErr, OnErr, IfSome, IfNone, IsSome, IsTrue};
+ghost use Rattle.std.specs.Prelude.{◌≡◌, ◌<◌, ◌≤◌, ◌^◌, ◌+◌, ◌↔◌, ℕ, Option, None, Some, true, false, IfOk, OnOk, IfErr, OnErr, IfSome, IfNone, IsSome, IsTrue};
 ghost use Rattle.std.specs.Option.{OnSome, option_copied};
 ghost use Rattle.std.specs.FinMap as map;
 ghost use Rattle.blk_bio.specs.declared.request.Side.{Side};
 ghost use Rattle.blk_sched.specs.Meaning.{Waiting, joined_waiting};
 ghost use Rattle.blk_sched.specs.Fits.{IsNewestFit, FitsNone, HasFit, FitsAt, FitsNowhere};
+ghost use Rattle.blk_bio.specs.Bios.{sector_limit};
 ghost use Rattle.blk_bio.specs.Extents.{extent_of};
-ghost use Rattle.blk_bio.specs.Requests.{Fits};
-ghost use Rattle.std.specs.Prelude.{nat_lt, ◌≤◌};
+ghost use Rattle.blk_bio.specs.Requests.{Fits, sectors_of};
+ghost use Rattle.std.specs.Prelude.{nat_lt};
 ghost use Rattle.std.specs.Bool.{OnTrue, OnFalse};
 ghost use Rattle.std.specs.BTreeSet.{contains};
-ghost use Rattle.blk_sched.specs.Inside.Spots.{spot_cmp, AreSpots, first_at, age_at};
-ghost use Rattle.blk_sched.specs.Index.{IsNewestBy, FitsNoneBy, FitsBy, IsJoined, at_of, touch_of, joined_extent, newer_of, IsOldest, IsNext, NoneOf, NoNext, PopsFirst};
+ghost use Rattle.blk_sched.specs.Inside.Spots.{spot_cmp, AreSpots, age_at};
+ghost use Rattle.blk_sched.specs.Inside.Heads.{IsEdge};
+ghost use Rattle.blk_sched.specs.Inside.Edges.{heads_in, others_in};
+ghost use Rattle.blk_sched.specs.Index.{IsNewestBy, FitsNoneBy, FitsBy, IsJoined, at_of, touch_of, joined_extent, newer_of, IsOldest, NoneOf};
 
 use crate::Queued;
 use crate::shelf::Shelf;
 use crate::spots::{
-    Edges, Spot, end_spot, first_spot, is_write, newest_at, oldest_above, oldest_from, put, take,
+    Edges, Spot, Spots, age_spot, end_spot, first_spot, is_write, oldest_from, put, take,
 };
 use blk_bio::{Dir, Extent, Limits, Request, Side};
 use std::alloc::{AllocError, Allocator, Global};
@@ -29,6 +32,7 @@ use std::marker::Model;
 pub struct Index<A: Allocator = Global> {
     waiting: Shelf<A>,
     edges: Edges<A>,
+    ages: BTreeSet<Spot, A>,
 }
 
 impl<A: Allocator> Model for Index<A> {
@@ -37,6 +41,7 @@ impl<A: Allocator> Model for Index<A> {
     ghost use Rattle.std.specs.FinMap.{get, code};
     ghost use Rattle.blk_sched.specs.Meaning.{Pending, waiting_code};
     ghost use Rattle.blk_sched.specs.Inside.Spots.{spot_cmp};
+    ghost use Rattle.blk_sched.specs.Inside.Edges.{IsEdges};
     ghost use Rattle.blk_sched.specs.Index.{IsIndex};
 
     ghost Value = { Pending };
@@ -45,7 +50,7 @@ impl<A: Allocator> Model for Index<A> {
 
     ghost view = { λ s. s.waiting };
 
-    ghost invariant = { λ s. IsIndex (get s.waiting) (contains spot_cmp s.edges.firsts) (contains spot_cmp s.edges.ends) (contains spot_cmp s.edges.ages) };
+    ghost invariant = { λ s. IsIndex (get s.waiting) (contains spot_cmp s.ages) × IsEdges (get s.waiting) s.edges };
 }
 
 impl<A: Allocator + Clone> Index<A> {
@@ -55,17 +60,15 @@ impl<A: Allocator + Clone> Index<A> {
     {
         Ok(Index {
             waiting: Shelf::new(alloc.clone()?)?,
-            edges: Edges {
-                firsts: BTreeSet::new(alloc.clone()?),
-                ends: BTreeSet::new(alloc.clone()?),
-                ages: BTreeSet::new(alloc),
-            },
+            edges: Edges::new(alloc.clone()?)?,
+            ages: BTreeSet::new(alloc),
         })
     }
 
     /// How many requests wait.
     pub fn len(&self) -> usize
-        ensures { result ≡ map.len self.now }
+        ensures len { result ≡ map.len self.now }
+        ensures named { (k : ℕ) (w : Waiting) → map.get self.now k ≡ Some w → w.id ≡ k }
     {
         self.waiting.len()
     }
@@ -88,13 +91,20 @@ impl<A: Allocator + Clone> Index<A> {
     {
         let id = id_of(&queued);
         let extent = extent_of(&queued);
-        let Ok(()) = self.edges.enter(extent, id) else {
+        let sectors = sectors_of(&queued);
+        let age = age_spot(extent, id);
+        let Ok(()) = put(&mut self.ages, age) else {
+            return Err(queued);
+        };
+        let Ok(()) = self.edges.enter(extent, sectors, id) else {
+            take(&mut self.ages, age);
             return Err(queued);
         };
         match self.waiting.insert(queued) {
             Ok(()) => Ok(()),
             Err(queued) => {
                 self.edges.leave(extent, id);
+                take(&mut self.ages, age);
                 Err(queued)
             }
         }
@@ -109,22 +119,14 @@ impl<A: Allocator + Clone> Index<A> {
         let Some(queued) = self.waiting.remove(id) else {
             return None;
         };
-        self.edges.leave(extent_of(&queued), id);
+        let extent = extent_of(&queued);
+        self.edges.leave(extent, id);
+        take(&mut self.ages, age_spot(extent, id));
         Some(queued)
     }
 
-    /// Takes out the request of the least id. It takes no memory.
-    pub fn pop_first(&mut self) -> Option<Queued<A>>
-        ensures { PopsFirst self.old result self.new }
-    {
-        let Some(id) = self.waiting.first() else {
-            return None;
-        };
-        self.remove(id)
-    }
-
     /// The newest request that a newcomer fits, by its id, and the side. The front is tried only where `front` allows
-    /// it. Only requests that the newcomer touches are looked at.
+    /// it. Only requests that the newcomer touches are looked at, and none of these where each has too many sectors.
     pub fn candidate(
         &self,
         newcomer: &Request<A>,
@@ -150,16 +152,7 @@ impl<A: Allocator + Clone> Index<A> {
         ensures some { IfSome result (IsOldest dir (map.get self.now)) }
         ensures none { IfNone result (NoneOf dir (map.get self.now)) }
     {
-        oldest_in(&self.waiting, &self.edges.ages, dir)
-    }
-
-    /// Of a direction's requests with their first sectors and ids the least that is above `first` and `last`.
-    pub fn next(&self, dir: Dir, first: u64, last: u64) -> Option<u64>
-        ensures some { IfSome result (IsNext dir first last (map.get self.now)) }
-        ensures none { IfNone result (NoNext dir first last (map.get self.now)) }
-        ensures named { (k : ℕ) (w : Waiting) → map.get self.now k ≡ Some w → w.id ≡ k }
-    {
-        next_in(&self.waiting, &self.edges.firsts, dir, first, last)
+        oldest_in(&self.waiting, &self.ages, dir)
     }
 
     /// Joins a newcomer to the request of an id, which it fits at the side, in the round `now`. Refused for want of
@@ -177,7 +170,7 @@ impl<A: Allocator + Clone> Index<A> {
         ensures err { IfErr result (λ e. e ≡ newcomer) }
         ensures same { OnErr result (self.new ≡ self.old) }
     {
-        let Edges { firsts, ends, .. } = &mut self.edges;
+        let Edges { firsts, ends } = &mut self.edges;
         match side {
             Side::Back => join_in(&mut self.waiting, ends, id, side, now, limits, newcomer),
             Side::Front => join_in(&mut self.waiting, firsts, id, side, now, limits, newcomer),
@@ -205,30 +198,8 @@ fn oldest_in<A: Allocator + Clone>(
     Some(id)
 }
 
-/// The least of a direction's first sectors and ids above others.
-fn next_in<A: Allocator + Clone>(
-    waiting: &Shelf<A>,
-    firsts: &BTreeSet<Spot, A>,
-    dir: Dir,
-    first: u64,
-    last: u64,
-) -> Option<u64>
-    requires { AreSpots first_at (map.get waiting.now) (contains spot_cmp firsts.now) }
-    ensures some { IfSome result (IsNext dir first last (map.get waiting.now)) }
-    ensures none { IfNone result (NoNext dir first last (map.get waiting.now)) }
-{
-    let _ = waiting;
-    let write = is_write(dir);
-    let ((other, sector), id) = oldest_above(firsts, ((write, first), last))?;
-    let _ = sector;
-    if other != write {
-        return None;
-    }
-    Some(id)
-}
-
 /// Where a newcomer touches the requests that it may join at a side.
-fn touched<A: Allocator + Clone>(side: Side, newcomer: &Request<A>) -> (bool, u64)
+pub fn touched<A: Allocator + Clone>(side: Side, newcomer: &Request<A>) -> (bool, u64)
     ensures value { result ≡ touch_of side (extent_of newcomer.now) }
     ensures low { result.1 < 2 ^ 63 }
 {
@@ -239,6 +210,14 @@ fn touched<A: Allocator + Clone>(side: Side, newcomer: &Request<A>) -> (bool, u6
         Side::Back => (write, first),
         Side::Front => (write, end),
     }
+}
+
+/// How many sectors a request may have at most for a newcomer to fit it.
+pub fn room_beside<A: Allocator + Clone>(newcomer: &Request<A>, limits: &Limits) -> u64
+    ensures wide { limits.now.max_sectors ≤ result + sectors_of newcomer.now }
+    ensures some { 0 < sectors_of newcomer.now }
+{
+    limits.max_sectors().saturating_sub(newcomer.sectors())
 }
 
 /// Whether a newcomer fits the request of an id at a side.
@@ -264,18 +243,21 @@ fn fits_by<A: Allocator + Clone>(
 /// The newest request that a newcomer fits at a side, where `spots` are the requests' ends at that side.
 fn newest_of<A: Allocator + Clone>(
     waiting: &Shelf<A>,
-    spots: &BTreeSet<Spot, A>,
+    spots: &Spots<A>,
     side: Side,
     newcomer: &Request<A>,
     limits: &Limits,
 ) -> Option<u64>
-    requires { AreSpots (at_of side) (map.get waiting.now) (contains spot_cmp spots.now) }
+    requires { IsEdge (at_of side) (map.get waiting.now) (heads_in spots.now) (others_in spots.now) }
     ensures some { IfSome result (IsNewestBy limits.now (map.get waiting.now) newcomer.now side) }
     ensures none { IfNone result (FitsNoneBy limits.now (map.get waiting.now) newcomer.now side) }
 {
     let place = touched(side, newcomer);
+    if !spots.may_have(place.1, room_beside(newcomer, limits)) {
+        return None;
+    }
     let mut below = None;
-    while let Some(id) = newest_at(spots, place, below) {
+    while let Some(id) = spots.newest_at(place, below) {
         if fits_by(waiting, id, side, newcomer, limits) {
             return Some(id);
         }
@@ -287,12 +269,12 @@ fn newest_of<A: Allocator + Clone>(
 /// The same at the front, where that is allowed.
 fn newest_ahead<A: Allocator + Clone>(
     waiting: &Shelf<A>,
-    firsts: &BTreeSet<Spot, A>,
+    firsts: &Spots<A>,
     front: bool,
     newcomer: &Request<A>,
     limits: &Limits,
 ) -> Option<u64>
-    requires { AreSpots (at_of Side.Front) (map.get waiting.now) (contains spot_cmp firsts.now) }
+    requires { IsEdge (at_of Side.Front) (map.get waiting.now) (heads_in firsts.now) (others_in firsts.now) }
     ensures some { IfSome result (IsNewestBy limits.now (map.get waiting.now) newcomer.now Side.Front) }
     ensures tried { OnSome result (IsTrue front) }
     ensures none { IfNone result (IsTrue front → FitsNoneBy limits.now (map.get waiting.now) newcomer.now Side.Front) }
@@ -304,7 +286,7 @@ fn newest_ahead<A: Allocator + Clone>(
 }
 
 /// Of a fit at the back and one at the front the newer.
-fn newer(back: Option<u64>, ahead: Option<u64>) -> Option<(u64, Side)>
+pub fn newer(back: Option<u64>, ahead: Option<u64>) -> Option<(u64, Side)>
     ensures { result ≡ newer_of back ahead }
 {
     match (back, ahead) {
@@ -322,7 +304,7 @@ fn newer(back: Option<u64>, ahead: Option<u64>) -> Option<(u64, Side)>
 }
 
 /// The range of a request and a newcomer together.
-fn joined_extent(side: Side, request: Extent, newcomer: Extent) -> Extent
+pub fn joined_extent(side: Side, request: Extent, newcomer: Extent) -> Extent
     ensures { result ≡ joined_extent side request newcomer }
 {
     match side {
@@ -338,7 +320,7 @@ fn joined_extent(side: Side, request: Extent, newcomer: Extent) -> Extent
 }
 
 /// Where a request lies at a side.
-fn spot_at(side: Side, extent: Extent, id: u64) -> Spot
+pub fn spot_at(side: Side, extent: Extent, id: u64) -> Spot
     ensures { result ≡ (at_of side extent, id) }
 {
     match side {
@@ -350,7 +332,7 @@ fn spot_at(side: Side, extent: Extent, id: u64) -> Spot
 /// Joins a newcomer to the request of an id, where `spots` are the requests' ends at the side.
 fn join_in<A: Allocator + Clone>(
     waiting: &mut Shelf<A>,
-    spots: &mut BTreeSet<Spot, A>,
+    spots: &mut Spots<A>,
     id: u64,
     side: Side,
     now: u64,
@@ -358,44 +340,51 @@ fn join_in<A: Allocator + Clone>(
     newcomer: Request<A>,
 ) -> Result<(), Request<A>>
     requires fit { HasFit limits.now (map.get waiting.old) newcomer id side }
-    requires spots { AreSpots (at_of side) (map.get waiting.old) (contains spot_cmp spots.old) }
-    ensures spots { AreSpots (at_of side) (map.get waiting.new) (contains spot_cmp spots.new) }
+    requires spots { IsEdge (at_of side) (map.get waiting.old) (heads_in spots.old) (others_in spots.old) }
+    ensures spots { IsEdge (at_of side) (map.get waiting.new) (heads_in spots.new) (others_in spots.new) }
     ensures joined { OnOk result (IsJoined now newcomer waiting.old id side waiting.new) }
     ensures err { IfErr result (λ e. e ≡ newcomer) }
     ensures same { OnErr result (waiting.new ≡ waiting.old) }
 {
     let sectors = newcomer.sectors();
-    let _ = sectors;
     let added = newcomer.extent();
     let Some(queued) = waiting.get(id) else {
         unreachable!()
     };
     let before = extent_of(queued);
     let spot = spot_at(side, joined_extent(side, before, added), id);
-    let Ok(()) = put(spots, spot) else {
+    let Ok(()) = spots.put(spot, sectors_of(queued) + sectors) else {
         return Err(newcomer);
     };
     match waiting.join(id, newcomer, now, limits) {
         Ok(_) => {
-            take(spots, spot_at(side, before, id));
+            spots.take(spot_at(side, before, id));
             Ok(())
         }
         Err(newcomer) => {
-            take(spots, spot);
+            spots.take(spot);
             Err(newcomer)
         }
     }
 }
 
 /// The id of a request.
-fn id_of<A: Allocator + Clone>(queued: &Queued<A>) -> u64
+pub fn id_of<A: Allocator + Clone>(queued: &Queued<A>) -> u64
     ensures { result ≡ queued.now.id }
 {
     queued.id
 }
 
+/// How many sectors it has.
+pub fn sectors_of<A: Allocator + Clone>(queued: &Queued<A>) -> u64
+    ensures value { result ≡ sectors_of queued.now.bios }
+    ensures in_range { result ≤ sector_limit }
+{
+    queued.request.sectors()
+}
+
 /// Its extent.
-fn extent_of<A: Allocator + Clone>(queued: &Queued<A>) -> Extent
+pub fn extent_of<A: Allocator + Clone>(queued: &Queued<A>) -> Extent
     ensures { result ≡ extent_of queued.now.bios }
 {
     queued.request.extent()

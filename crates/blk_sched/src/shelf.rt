@@ -4,26 +4,26 @@ ghost use Rattle.std.specs.Prelude.{◌≡◌, ℕ, None, Some, OnOk, IfErr, OnE
 ghost use Rattle.std.specs.Option.{option_copied};
 ghost use Rattle.std.specs.FinMap as map;
 ghost use Rattle.blk_sched.specs.Meaning.{Waiting};
-ghost use Rattle.blk_sched.specs.Inside.Shelves.{JoinsOne, IsLeast};
+ghost use Rattle.blk_sched.specs.Inside.Shelves.{JoinsOne};
 
 use crate::Queued;
+use crate::spots::Hashing;
 use blk_bio::{Limits, Request, Side};
 use slab::Slab;
 use std::alloc::{AllocError, Allocator, Global};
-use std::collections::BTreeMap;
+use std::collections::HashMap;
 use std::marker::Model;
 
-/// Requests that wait, in a slab, and the place that each id has there. Seen as the map from ids to requests.
+/// Requests that wait, in a slab, and in a hash table the place that each id has there. Seen as the map from ids to requests.
 #[derive(Drop)]
 pub struct Shelf<A: Allocator = Global> {
     requests: Slab<Queued<A>, A>,
-    places: BTreeMap<u64, usize, A>,
+    places: HashMap<u64, usize, Hashing, A>,
 }
 
 impl<A: Allocator> Model for Shelf<A> {
     ghost use Rattle.std.specs.Coded.{coded_ℕ};
     ghost use Rattle.std.specs.FinMap.{from_entries, code};
-    ghost use Rattle.std.specs.Ordering.{nat_cmp};
     ghost use Rattle.slab.specs.Slab.{get};
     ghost use Rattle.blk_sched.specs.Meaning.{Pending, waiting_code};
     ghost use Rattle.blk_sched.specs.Inside.Shelves.{held, IsShelf};
@@ -44,7 +44,7 @@ impl<A: Allocator + Clone> Shelf<A> {
     {
         Ok(Shelf {
             requests: Slab::new(alloc.clone()?),
-            places: BTreeMap::new(alloc),
+            places: HashMap::new(alloc),
         })
     }
 
@@ -64,17 +64,6 @@ impl<A: Allocator + Clone> Shelf<A> {
             return None;
         };
         self.requests.get(*place)
-    }
-
-    /// The least id.
-    pub fn first(&self) -> Option<u64>
-        ensures some { IfSome result (IsLeast self.now) }
-        ensures none { IfNone result ((k : ℕ) → map.get self.now k ≡ None) }
-    {
-        let Some((id, _)) = self.places.first_key_value() else {
-            return None;
-        };
-        Some(*id)
     }
 
     /// Adds a request whose id isn't there. Refused for want of memory alone: nothing is changed then, and the

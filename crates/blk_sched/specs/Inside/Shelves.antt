@@ -1,5 +1,5 @@
 -- Requests that lie at places, found by the places that their ids have.
-use Rattle.std.specs.Prelude.{ℕ, ◌≡◌, ◌<◌, List, [], ◌∷◌, Option, None, Some}
+use Rattle.std.specs.Prelude.{ℕ, ◌≡◌, List, [], ◌∷◌, Option, None, Some}
 use Rattle.std.specs.Ordering.{nat_cmp}
 use Rattle.std.specs.BTreeMap.{is_at}
 use Rattle.std.specs.Map.{lookup}
@@ -32,9 +32,3 @@ pub record JoinsOne (limits : Limits) (now : ℕ) (newcomer : List Bio) (old : P
   pub fits : Fits limits waiting.bios newcomer side
   pub only : (other : Side) → Fits limits waiting.bios newcomer other → other ≡ side
   pub is : new ≡ map.insert old id (joined_waiting side now newcomer waiting)
-
--- the least id
-pub record IsLeast (m : Pending) (id : ℕ) : Type 0 where
-  pub waiting : Waiting
-  pub is_found : map.get m id ≡ Some waiting
-  pub least : (k : ℕ) → k < id → map.get m k ≡ None

@@ -1,15 +1,16 @@
 use Rattle.std.proofs.Common.{◌≡◌, ap, sym, subst, refl, ◌∙◌, Some}
 use Rattle.std.specs.Prelude.{IsSome}
 use Rattle.std.specs.FinMap as map
-use Rattle.std.specs.BTreeSet.{contains}
 use Rattle.blk_bio.specs.declared.extent.Extent.{Extent}
 use Rattle.blk_sched.specs.Meaning.{Waiting, Pending, joined_waiting}
 use Rattle.blk_bio.specs.Extents.{extent_of}
-use Rattle.blk_sched.specs.Inside.Spots.{Spot, spot_cmp}
+use Rattle.blk_bio.specs.Requests.{Fits}
+use Rattle.blk_sched.specs.Inside.Spots.{Spot}
+use Rattle.blk_sched.specs.Inside.Edges.{heads_in, others_in}
 use Rattle.blk_sched.specs.Index.{at_of, joined_extent}
-use Rattle.blk_sched.proofs.Listed.{undone}
-use Rattle.blk_sched.proofs.Indexed.{kept, becomes_given}
-use Rattle.blk_sched.proofs.Join.{new_spot, spots_joined, joined_at}
+use Rattle.blk_sched.proofs.Indexed.{becomes_given}
+use Rattle.blk_sched.proofs.Join.{joined_at}
+use Rattle.blk_sched.proofs.Joining.{edge_joined, edge_unjoined}
 use Rattle.blk_sched.proofs.index.join_in.Goals as goal
 
 pub join-requires : goal.join-requires
@@ -18,16 +19,21 @@ join-requires g c = subst IsSome c.in-Some.ensures.value refl
 pub returns-in-Ok-join-clause-spots : goal.returns-in-Ok-join-clause-spots
 returns-in-Ok-join-clause-spots g c =
     let j = c.in-Ok-join.ensures.joined in
-    let one : Some c.in-Some.queued.now ≡ Some j.waiting = c.in-Some.ensures.value ∙ j.was in
-    let same : c.in-Some.queued.now ≡ j.waiting = cc in
-    let before : c.extent_of-before.result ≡ extent_of j.waiting.bios = c.extent_of-before.ensures ∙ ap (λ (x : Waiting). extent_of x.bios) same in
-    let spot : c.spot_at-spot.result ≡ (at_of c.args.side (joined_extent c.args.side (extent_of j.waiting.bios) (extent_of c.args.newcomer)), c.args.id) =
-    c.spot_at-spot.ensures ∙ ap (λ (x : Extent). let q : Spot = (at_of c.args.side x, c.args.id) in q) (c.joined_extent.ensures ∙ ap (λ (x : Extent). joined_extent c.args.side x c.extent-added.result) before ∙ ap (λ (x : Extent). joined_extent c.args.side (extent_of j.waiting.bios) x) c.extent-added.ensures.value) in
-    spots_joined c.args.limits.now (map.get c.args.waiting.now) (map.get c.join.new.self) (contains spot_cmp c.args.spots.now) (contains spot_cmp c.put.new.spots) (contains spot_cmp c.take.new.spots)
-    c.args.id c.sectors-sectors.result c.args.now c.args.side c.in-Ok-join.field-0 c.args.newcomer j.waiting (joined_waiting c.in-Ok-join.field-0 c.args.now c.args.newcomer j.waiting) c.spot_at-spot.result c.spot_at.result
-    c.requires.spots j.was c.requires.fit c.sectors-sectors.ensures.some c.sectors-sectors.ensures.range spot
-    (c.spot_at.ensures ∙ ap (λ (x : Extent). let q : Spot = (at_of c.args.side x, c.args.id) in q) before)
-    j.only refl c.in-Ok.ensures.ok c.take.ensures
+    let v = c.in-Some.queued.now in
+    let one : Some j.waiting ≡ Some v = sym j.was ∙ sym c.in-Some.ensures.value in
+    let same : j.waiting ≡ v = cc in
+    let spot : c.spot_at-spot.result ≡ (at_of c.args.side (joined_extent c.args.side (extent_of v.bios) (extent_of c.args.newcomer)), c.args.id) =
+    c.spot_at-spot.ensures ∙ ap (λ (x : Extent). let q : Spot = (at_of c.args.side x, c.args.id) in q) (c.joined_extent.ensures ∙ ap (λ (x : Extent). joined_extent c.args.side x c.extent-added.result) c.extent_of-before.ensures ∙ ap (λ (x : Extent). joined_extent c.args.side (extent_of v.bios) x) c.extent-added.ensures.value) in
+    edge_joined c.args.limits.now (map.get c.args.waiting.now) (map.get c.join.new.self) (heads_in c.args.spots.now) (heads_in c.put.new.self) (heads_in c.take.new.self) (others_in c.args.spots.now) (others_in c.put.new.self) (others_in c.take.new.self)
+    c.args.id c.sectors-sectors.result c.sectors_of.result c.args.now c.args.side c.args.newcomer v c.spot_at-spot.result
+    c.requires.spots (sym c.in-Some.ensures.value) c.requires.fit c.sectors-sectors.ensures.some c.sectors-sectors.ensures.range spot
+    c.in-Ok.ensures.ok c.in-Ok.ensures.heads c.in-Ok.ensures.least c.take.ensures.heads c.take.ensures.least
+    c.in-Ok-join.field-0 (joined_waiting c.in-Ok-join.field-0 c.args.now c.args.newcomer j.waiting) c.spot_at.result
+    c.sectors-sectors.ensures.value c.sectors_of.ensures.value
+    (c.spot_at.ensures ∙ ap (λ (x : Extent). let q : Spot = (at_of c.args.side x, c.args.id) in q) c.extent_of-before.ensures)
+    (λ t fits. j.only t (subst (λ (x : Waiting). Fits c.args.limits.now x.bios c.args.newcomer t) (sym same) fits))
+    (ap (λ (x : Waiting). joined_waiting c.in-Ok-join.field-0 c.args.now c.args.newcomer x) same)
+    c.take.ensures.takes
     (becomes_given c.args.waiting.now c.join.new.self c.args.id (joined_waiting c.in-Ok-join.field-0 c.args.now c.args.newcomer j.waiting) j.is)
 
 pub returns-in-Ok-join-clause-joined : goal.returns-in-Ok-join-clause-joined
@@ -39,8 +45,8 @@ returns-in-Err-clause-spots g c =
     let v = c.in-Some.queued.now in
     let spot : c.spot_at-spot.result ≡ (at_of c.args.side (joined_extent c.args.side (extent_of v.bios) (extent_of c.args.newcomer)), c.args.id) =
     c.spot_at-spot.ensures ∙ ap (λ (x : Extent). let q : Spot = (at_of c.args.side x, c.args.id) in q) (c.joined_extent.ensures ∙ ap (λ (x : Extent). joined_extent c.args.side x c.extent-added.result) c.extent_of-before.ensures ∙ ap (λ (x : Extent). joined_extent c.args.side (extent_of v.bios) x) c.extent-added.ensures.value) in
-    kept (at_of c.args.side) (map.get c.args.waiting.now) (map.get c.join.new.self) (contains spot_cmp c.args.spots.now) (contains spot_cmp c.take-in-Err.new.spots)
-    c.requires.spots (λ k. ap (λ (m : Pending). map.get m k) c.in-Err.ensures.same)
-    (undone (contains spot_cmp c.args.spots.now) (contains spot_cmp c.put.new.spots) (contains spot_cmp c.take-in-Err.new.spots) c.spot_at-spot.result c.in-Ok.ensures.ok c.take-in-Err.ensures
-    (new_spot c.args.limits.now (map.get c.args.waiting.now) (contains spot_cmp c.args.spots.now) c.args.id c.sectors-sectors.result c.args.side c.args.newcomer v c.spot_at-spot.result
-    c.requires.spots (sym c.in-Some.ensures.value) c.requires.fit c.sectors-sectors.ensures.some c.sectors-sectors.ensures.range spot))
+    edge_unjoined c.args.limits.now (map.get c.args.waiting.now) (map.get c.join.new.self) (heads_in c.args.spots.now) (heads_in c.put.new.self) (heads_in c.take-in-Err.new.self) (others_in c.args.spots.now) (others_in c.put.new.self) (others_in c.take-in-Err.new.self)
+    c.args.id c.sectors-sectors.result c.sectors_of.result c.args.now c.args.side c.args.newcomer v c.spot_at-spot.result
+    c.requires.spots (sym c.in-Some.ensures.value) c.requires.fit c.sectors-sectors.ensures.some c.sectors-sectors.ensures.range spot
+    c.in-Ok.ensures.ok c.in-Ok.ensures.heads c.in-Ok.ensures.least c.take-in-Err.ensures.heads c.take-in-Err.ensures.least
+    c.take-in-Err.ensures.takes (λ k. ap (λ (m : Pending). map.get m k) c.in-Err.ensures.same)
