@@ -11,6 +11,8 @@ use Rattle.blk_core.specs.declared.CoreFault.{CoreFault}
 use Rattle.blk_core.specs.declared.CoreFault.TheVariants.{NoQueue, Repeated, TraceFull, Memory}
 use Rattle.blk_core.specs.declared.IssueFault.{IssueFault}
 use Rattle.blk_core.specs.declared.IssueFault.TheVariants as issue
+use Rattle.blk_core.specs.declared.BackFault.{BackFault}
+use Rattle.blk_core.specs.declared.BackFault.TheVariants as back
 use Rattle.blk_core.specs.declared.TickFault.{TickFault}
 use Rattle.blk_core.specs.declared.TickFault.TheVariants as tick
 
@@ -57,6 +59,11 @@ IsTickFault c (tick.InFlight n) = (n ≡ open_count c.events) × (0 < n)
 IsTickFault c tick.TraceFull = (open_count c.events ≡ 0) × (MAX_EVENTS ≤ places_taken c)
 IsTickFault c tick.Memory = CanTick c
 
--- a command is in flight under the tag: its Issue has no Done
+-- a command is in flight under the tag: its Issue has no Done and no Back
 abbrev pub IsInFlight : CoreState → ℕ → Type 0
 IsInFlight c tag = (dir : Dir) × (seat_at c.events tag ≡ Some (record { dir = dir; in_flight = true }))
+
+-- what each fault of a Back says; they come in this order
+abbrev pub IsBackFault : CoreState → ℕ → BackFault → Type 0
+IsBackFault c tag back.NotIssued = IsInFlight c tag → ⊥
+IsBackFault c tag back.Memory = IsInFlight c tag
