@@ -3,7 +3,7 @@ use Rattle.std.proofs.Common.{◌≡◌, ◌∙◌, sym, ap, subst, refl, ℕ, B
 use Rattle.std.specs.Prelude.{◌||◌, ◌&&◌, not}
 use Rattle.blk_bio.specs.Bios.{Bio}
 use Rattle.blk_trace.specs.declared.rule.TraceRule.TheVariants.{ReleasedTwice, AlreadyIssued}
-use Rattle.blk_trace.specs.Happened.{Happened, Ticked, Released, Joined, Issued, Finished, Returned}
+use Rattle.blk_trace.specs.Happened.{Happened, Ticked, Released, Joined, Issued, Finished, Returned, DepthSet}
 use Rattle.blk_trace.specs.Kinds.{releases, joins, issues, hands_back}
 use Rattle.blk_trace.specs.Setups.{Setup}
 use Rattle.blk_trace.specs.Events.{IsIssued, request_of}
@@ -62,6 +62,9 @@ returned-ticked setup es q = returned_kept setup es Ticked refl refl refl refl q
 
 pub returned-finished : (setup : Setup) (es : List Happened) (tag q : ℕ) → returned_at setup (es ++ Finished tag ∷ []) q ≡ returned_at setup es q
 returned-finished setup es tag q = returned_kept setup es (Finished tag) refl refl refl refl q
+
+pub returned-set : (setup : Setup) (es : List Happened) (depth q : ℕ) → returned_at setup (es ++ DepthSet depth ∷ []) q ≡ returned_at setup es q
+returned-set setup es depth q = returned_kept setup es (DepthSet depth) refl refl refl refl q
 
 drops : (b was : Bool) (x : Entered) (y : Option Entered) → (b ≡ true → was ≡ false) → cond was (cond b (Some x) y) None ≡ cond was y None
 drops true was x y h = ap (λ w. cond w (Some x) None) (h refl) ∙ sym (ap (λ w. cond w y None) (h refl))

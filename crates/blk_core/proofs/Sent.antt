@@ -8,6 +8,7 @@ use Rattle.blk_bio.specs.declared.bio.Dir.{Dir}
 use Rattle.blk_bio.specs.declared.bio.Dir.TheVariants.{Read, Write}
 use Rattle.blk_bio.specs.Requests.{dir_of}
 use Rattle.blk_trace.specs.Setups.{Setup}
+use Rattle.blk_trace.specs.Depths.{depth_now}
 use Rattle.blk_trace.specs.Happened.{Happened, Issued}
 use Rattle.blk_trace.specs.Meaning.{commands_of}
 use Rattle.blk_trace.specs.Standing.{IsAllowed, waits_at, unissued_at, waiting_count, seat_at, same_dir}
@@ -178,9 +179,9 @@ tied_issue {A} setup setup' es es' m m' fl held held' rel serves chooses kept ke
     (again_goes setup es m m' fl held rel hw tag w rest (step.unissued-issued setup es w.id tag p.legal) (returned-issued setup es w.id tag p.legal) t (omega arith) (is ∙ ap (λ x. x ∷ rest) sends.0) sends.1) lt none small)
 
 -- what goes is an Issue that the trace allows
-pub issue_allowed : {A : Type 0} (setup : Setup) (es : List Happened) (m : Meaning) (fl : List (TagState A)) (held : List (List Waiting)) (rel tag : ℕ) (w : Waiting) → IsTied setup es m fl held rel → waits_at setup es w.id ≡ Some (entered_of w) → tag < length fl → get_or fl tag Free ≡ Free → IsAllowed setup es (Issued w.id tag)
-issue_allowed setup es m fl held rel tag w t waits lt none =
-    (entered_of w, waits, (let r = t.room in omega arith), sym (t.seats tag lt) ∙ ap seat_of none)
+pub issue_allowed : {A : Type 0} (setup : Setup) (es : List Happened) (m : Meaning) (fl : List (TagState A)) (held : List (List Waiting)) (rel tag : ℕ) (w : Waiting) → IsTied setup es m fl held rel → waits_at setup es w.id ≡ Some (entered_of w) → tag < depth_now setup es → tag < length fl → get_or fl tag Free ≡ Free → IsAllowed setup es (Issued w.id tag)
+issue_allowed setup es m fl held rel tag w t waits below lt none =
+    (entered_of w, waits, below, sym (t.seats tag lt) ∙ ap seat_of none)
 
 -- its command is the last one
 pub last_command : (setup setup' : Setup) (es es' : List Happened) (tag : ℕ) (w : Waiting) → IsPushed setup es (Issued w.id tag) setup' es' → waits_at setup es w.id ≡ Some (entered_of w) → commands_of setup' es' ≡ commands_of setup es ++ record { id = w.id; release = w.release; due = w.due } ∷ []

@@ -16,7 +16,9 @@ use Rattle.blk_bio.specs.Bios.{Bio}
 use Rattle.blk_bio.specs.Limits.{Limits}
 use Rattle.blk_bio.specs.Requests.{dir_of}
 use Rattle.blk_trace.specs.Setups.{Setup, IsSetup, expire_of}
-use Rattle.blk_trace.specs.Happened.{Happened, Released, Joined, Ticked}
+use Rattle.blk_trace.specs.Happened.{Happened, Released, Joined, Ticked, DepthSet}
+use Rattle.blk_trace.specs.Depths.{depth_now}
+use Rattle.blk_trace.proofs.Depths.{depth_now_is}
 use Rattle.blk_trace.specs.Events.{At, round_of, entered, AreOnce, open_count, join_up}
 use Rattle.blk_trace.specs.Meaning.{released_ids, issued_ids, served, waiting_ids, rising}
 use Rattle.blk_trace.specs.Standing.{Seat, IsAllowed, has_id, waits_at, was_issued, unissued_at, waiting_count, seat_at, open_of, released_count, this_round, same_dir}
@@ -27,15 +29,18 @@ use Rattle.blk_core.specs.declared.TagState.{TagState}
 use Rattle.blk_core.specs.declared.TagState.TheVariants.{Free, Flying, Spent}
 use Rattle.blk_core.specs.State.{Flight, CoreState, entered_of, returned_at, is_of, is_named}
 use Rattle.blk_core.specs.Inside.Ties.{IsTied, IsFlown, flight_of, seat_of, queue_of, flying}
-use Rattle.blk_core.proofs.Pushed.{IsPushed, get_more, same_round, round_more, released-released, released-joined, released-ticked}
+use Rattle.blk_core.proofs.Pushed.{IsPushed, get_more, same_round, round_more, released-released, released-joined, released-ticked, released-set}
 use Rattle.blk_core.proofs.Waits.{agree_given, len_new, len_given, still_absent, joined_up}
 use Rattle.blk_core.proofs.Flights.{free_flies, all_free, any_default, unused, none_flies}
 use Rattle.blk_core.proofs.Held.{by_dirs, as_same, once_same, empty_list, none_counted, none_held}
-use Rattle.blk_core.proofs.Returned.{returned-released, returned-joined, returned-ticked}
+use Rattle.blk_core.proofs.Returned.{returned-released, returned-joined, returned-ticked, returned-set}
 use Rattle.blk_core.proofs.Flown.{flown_kept}
-use Rattle.blk_trace.proofs.Counting.{waiting_is}
+use Rattle.blk_trace.proofs.Counting.{waiting_is, count_kept}
+use Rattle.blk_trace.proofs.Opening.{open_kept}
+use Rattle.blk_trace.proofs.Steady.{seat_quiet}
+use Rattle.blk_trace.proofs.Capacities.{depth_few}
 use Rattle.blk_trace.proofs.Pushing.{empty_legal}
-use Rattle.blk_trace.proofs.Unissued.{unissued_from}
+use Rattle.blk_trace.proofs.Unissued.{unissued_from, unissued_kept}
 use Rattle.blk_trace.proofs.Steps as step
 
 -- no Release is added: those that stand are known
@@ -233,6 +238,44 @@ tied_tick {A} setup setup' es es' m m' fl fl' held rel now p t m_is now_is fl_is
       queues = λ q. few_of setup.hw (get_or (replicate n (unused {A = A})) q Free) t.ranges.some_queues (all_free A n q);
     })))
 
+-- after a Depth the core is tied
+pub tied_set : {A : Type 0} (setup setup' : Setup) (es es' : List Happened) (m : Meaning) (fl : List (TagState A)) (held : List (List Waiting)) (rel depth : ℕ) → IsPushed setup es (DepthSet depth) setup' es' → IsTied setup es m fl held rel → IsTied setup' es' m fl held rel
+tied_set setup setup' es es' m fl held rel depth p t =
+    let e : Happened = DepthSet depth in
+    let fs : List Happened = es ++ e ∷ [] in
+    let longer = one_longer es e in
+    let count = count_kept es e refl refl refl in
+    let more = released-set es depth in
+    let next = t.next in
+    let few = t.few in
+    let same : (q : ℕ) → returned_at setup fs q ≡ returned_at setup es q = λ q. returned-set setup es depth q in
+    tied_at setup setup' es es' e m fl held rel p
+    (record {
+      legal = p.legal;
+      ranges = t.ranges;
+      holds = record {
+        pending = λ q. t.holds.pending q ∙ sym (unissued_kept setup es e refl refl refl refl q);
+        returned = as_same (returned_at setup es) (returned_at setup fs) held same t.holds.returned;
+        held_once = once_same (returned_at setup es) (returned_at setup fs) held same t.holds.held_once;
+        count = t.holds.count ∙ sym count;
+        reads = t.holds.reads ∙ sym (open_kept setup es e p.legal refl refl refl Read);
+        writes = t.holds.writes ∙ sym (open_kept setup es e p.legal refl refl refl Write);
+        handed = t.holds.handed;
+        round = t.holds.round ∙ sym (same_round es e refl);
+      };
+      next = omega arith;
+      few = omega arith;
+      known = old_known es e rel (λ i b x. cc) t.known;
+      fresh = t.fresh;
+      room = t.room;
+      lists = t.lists;
+      seats = λ tag h. t.seats tag h ∙ sym (seat_quiet setup es e p.legal refl refl refl tag);
+      flown = λ tag h v at. flown_kept setup es e tag v p.legal (λ x. absurd (cc)) (t.flown tag h v at);
+      reads = t.reads;
+      writes = t.writes;
+      queues = t.queues;
+    })
+
 -- nothing waits, is taken or is in flight at first
 no_waits : (setup : Setup) (q : ℕ) → unissued_at setup [] q ≡ None
 unfolding unissued_at waits_at was_issued released_ids
@@ -326,6 +369,11 @@ join_allowed setup es m m' fl held rel serves hw now bios id side t joins once =
 -- a Tick is allowed where nothing is in flight
 pub tick_allowed : {A : Type 0} (setup : Setup) (es : List Happened) (m : Meaning) (fl : List (TagState A)) (held : List (List Waiting)) (rel : ℕ) → IsTied setup es m fl held rel → open_count es ≡ 0 → IsAllowed setup es Ticked
 tick_allowed setup es m fl held rel t none = let both = step.open-both setup es t.legal in ((let r : open_of es Read ≡ 0 = omega arith in r), (let w : open_of es Write ≡ 0 = omega arith in w))
+
+-- a tag below the depth of the round that is on is one of the core's
+pub tag_there : {A : Type 0} (setup : Setup) (es : List Happened) (m : Meaning) (fl : List (TagState A)) (held : List (List Waiting)) (rel tag : ℕ) → IsTied setup es m fl held rel → tag < depth_now setup es → tag < length fl
+tag_there setup es m fl held rel tag t below =
+    let is = depth_now_is setup es in let few = depth_few setup es (round_of es) t.legal in let room = t.room in omega arith
 
 -- where a tag is free, a scheduler can open one more pick
 pub few_open : {A : Type 0} (setup : Setup) (es : List Happened) (m : Meaning) (fl : List (TagState A)) (held : List (List Waiting)) (rel tag : ℕ) → IsTied setup es m fl held rel → tag < length fl → get_or fl tag Free ≡ Free → m.open_picks.reads + m.open_picks.writes < MAX_OPEN

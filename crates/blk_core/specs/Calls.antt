@@ -6,7 +6,7 @@ use Rattle.blk_bio.specs.Bios.{Bio}
 use Rattle.blk_bio.specs.Requests.{dir_of}
 use Rattle.edd_check.specs.declared.Command.{Command}
 use Rattle.blk_trace.specs.Setups.{expire_of}
-use Rattle.blk_trace.specs.Happened.{Happened, Ticked, Released, Joined, Issued, Finished, Returned}
+use Rattle.blk_trace.specs.Happened.{Happened, Ticked, Released, Joined, Issued, Finished, Returned, DepthSet}
 use Rattle.blk_trace.specs.Events.{round_of, open_count}
 use Rattle.blk_trace.specs.Meaning.{commands_of}
 use Rattle.blk_trace.specs.Standing.{released_count, seat_at}
@@ -116,5 +116,14 @@ Ends told old new =
     Adds old Ticked new
     × (new.meaning ≡ record old.meaning { round = round_of new.events })
     × told (round_of new.events) old.kept new.kept
+    × (new.flights ≡ old.flights)
+    × (new.held ≡ old.held)
+
+-- what a new depth does: a Depth, and nothing else; it is in force from the next round on
+abbrev pub SetsDepth : CoreState → ℕ → CoreState → Type 0
+SetsDepth old depth new =
+    Adds old (DepthSet depth) new
+    × (new.meaning ≡ old.meaning)
+    × (new.kept ≡ old.kept)
     × (new.flights ≡ old.flights)
     × (new.held ≡ old.held)

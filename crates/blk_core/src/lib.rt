@@ -62,7 +62,7 @@ pub enum IssueFault {
     /// There is no such hardware queue.
     #[error("NoQueue")]
     NoQueue,
-    /// The tag is not below the depth.
+    /// The tag is not below the depth of this round.
     #[error("TagRange")]
     TagRange,
     /// The tag was issued in this round.
@@ -101,6 +101,20 @@ pub enum TickFault {
     /// The trace has no place for the event.
     #[error("TraceFull")]
     TraceFull,
+    /// Memory ran out.
+    #[error("Memory")]
+    Memory,
+}
+
+/// Why no depth is set, in the order in which the reasons are looked for.
+#[derive(Clone, Copy, Debug, PartialEq, Eq, Error)]
+pub enum DepthFault {
+    /// The trace has no place for the event.
+    #[error("TraceFull")]
+    TraceFull,
+    /// The depth is 0 or above the setup's.
+    #[error("DepthRange")]
+    DepthRange,
     /// Memory ran out.
     #[error("Memory")]
     Memory,
@@ -166,8 +180,8 @@ impl<S: Scheduler> Core<S> {
     ghost use Rattle.blk_trace.specs.Laws.{IsScheduled, IsAccounted};
     ghost use Rattle.blk_trace.specs.Standing.{waiting_count};
     ghost use Rattle.blk_core.specs.State.{HoldsWhatWaits};
-    ghost use Rattle.blk_core.specs.Faults.{IsReleaseFault, CanRelease, IsIssueFault, CanIssue, IsBackFault, IsTickFault, CanTick, IsInFlight};
-    ghost use Rattle.blk_core.specs.Calls.{Places, Issues, Completes, TakesBack, Ends};
+    ghost use Rattle.blk_core.specs.Faults.{IsReleaseFault, CanRelease, IsIssueFault, CanIssue, IsBackFault, IsTickFault, CanTick, IsDepthFault, CanSetDepth, IsInFlight};
+    ghost use Rattle.blk_core.specs.Calls.{Places, Issues, Completes, TakesBack, Ends, SetsDepth};
     ghost use Rattle.blk_sched.specs.Meaning.{HasCandidate, HasNoCandidate, at_start};
 
     /// A core without events, over a scheduler in which nothing waits and no pick is open or handed back, in round 0.
@@ -316,7 +330,7 @@ impl<S: Scheduler> Core<S> {
     /// this one.
     ///
     /// Refused, by the first of these that applies: as `NoQueue` where `hw` is not below the number of hardware queues;
-    /// as `TagRange` where the tag is not below the depth; as `SlotUsed` where the tag was issued in this round, whether
+    /// as `TagRange` where the tag is not below the depth of this round; as `SlotUsed` where the tag was issued in this round, whether
     /// or not it is done; as `TraceFull` where the Issue and its Done would make more than [`MAX_EVENTS`] events, with a
     /// Done counted for each command in flight; and as `Memory`. All come before the scheduler is asked, so also where
     /// nothing waits, and change nothing.
@@ -357,11 +371,10 @@ impl<S: Scheduler> Core<S> {
         if hw >= self.trace.setup().hw() {
             return Some(IssueFault::NoQueue);
         }
-        let slot = tag as usize;
-        if slot >= self.tags.len() {
+        if tag as u64 >= self.trace.depth_now() {
             return Some(IssueFault::TagRange);
         }
-        if !matches!(self.tags[slot], TagState::Free) {
+        if !matches!(self.tags[tag as usize], TagState::Free) {
             return Some(IssueFault::SlotUsed);
         }
         if self.trace.len() + self.trace.unfinished() + 2 > MAX_EVENTS {
@@ -444,6 +457,31 @@ impl<S: Scheduler> Core<S> {
         let now = self.trace.round();
         self.scheduler.on_tick(now);
         Ok(now)
+    }
+
+    /// Sets how many commands the rounds after this one carry, until another depth is set: tags below it are issued in
+    /// them. A scheduler isn't told.
+    ///
+    /// Refused, by the first of these that applies: as `TraceFull` where the events, with an end counted for each command
+    /// in flight, are [`MAX_EVENTS`] already; as `DepthRange` where the depth is 0 or above the setup's; and as `Memory`.
+    /// Nothing is changed then.
+    pub fn set_depth(&mut self, depth: u64) -> Result<(), DepthFault>
+        ensures set { OnOk result (SetsDepth self.old depth self.new) }
+        ensures no_fault { OnOk result (CanSetDepth self.old depth) }
+        ensures fault { IfErr result (IsDepthFault self.old depth) }
+        ensures same { OnErr result (self.new ≡ self.old) }
+    {
+        if self.trace.len() + self.trace.unfinished() >= MAX_EVENTS {
+            return Err(DepthFault::TraceFull);
+        }
+        if depth == 0 || depth > self.trace.setup().depth() {
+            return Err(DepthFault::DepthRange);
+        }
+        let Ok(()) = prepare(&mut self.trace) else {
+            return Err(DepthFault::Memory);
+        };
+        self.trace.add(Event::Depth { depth });
+        Ok(())
     }
 
     /// The events so far, which are legal: the commands that they issue, in the rounds in which they do, are a legal
@@ -551,7 +589,7 @@ fn prepared<A: Allocator + Clone>(
     Ok(copy)
 }
 
-/// Makes room for an Issue with its Done, or for a Tick.
+/// Makes room for an Issue with its end, or for a Tick or a Depth.
 fn prepare<'a, A: Allocator + Clone>(trace: &'a mut Trace<A>) -> Result<(), AllocError>
     ensures ok { OnOk result (trace.new ≡ record { setup = trace.old.setup; events = trace.old.events; prepared = Prepared.AnIssue }) }
     ensures err { OnErr result (trace.new ≡ trace.old) }

@@ -7,7 +7,7 @@ use Rattle.blk_trace.specs.Standing.{waits_at}
 use Rattle.blk_trace.specs.Traces.{Traced}
 use Rattle.blk_sched.specs.Meaning.{Waiting, Meaning, ServesNothing}
 use Rattle.blk_core.proofs.Pushed.{IsPushed, pushed, unbroken, ready_for}
-use Rattle.blk_core.proofs.Ties.{free_slot, few_open, open_issue}
+use Rattle.blk_core.proofs.Ties.{free_slot, few_open, open_issue, tag_there}
 use Rattle.blk_core.proofs.Sent.{sent_waits, issue_allowed, tied_issue, last_command, sends_at}
 use Rattle.blk_core.specs.Calls.{Choice}
 use Rattle.blk_core.specs.State.{Flight, CoreState, entered_of}
@@ -27,7 +27,7 @@ same_core s s' es es' m m' k k' f h h' a b c d e = cc
 pub next-requires-clause-few : goal.next-requires-clause-few
 next-requires-clause-few g c =
     let can : CanIssue (record { setup = c.self.inside.trace.setup; events = c.self.inside.trace.events; meaning = g.S.Scheduler.meaning c.self.inside.scheduler; kept = g.S.Scheduler.kept c.self.inside.scheduler; flights = map flight_of c.self.inside.tags.items; held = c.self.inside.held }) c.args.hw c.args.tag = subst (λ (v : CoreState). CanIssue v c.args.hw c.args.tag) (sym c.self.view_is) c.in_default.ensures.none in
-    let lt : c.args.tag < length c.self.inside.tags.items = (let r = c.self.invariant.room in let d = can.range in omega arith) in
+    let lt : c.args.tag < length c.self.inside.tags.items = tag_there c.self.inside.trace.setup c.self.inside.trace.events _ c.self.inside.tags.items c.self.inside.held c.self.inside.released c.args.tag c.self.invariant can.range in
     few_open c.self.inside.trace.setup c.self.inside.trace.events _ c.self.inside.tags.items c.self.inside.held c.self.inside.released c.args.tag c.self.invariant lt
     (free_slot c.self.inside.trace.setup c.self.inside.trace.events _ c.self.inside.tags.items c.self.inside.held c.self.inside.released c.args.tag c.self.invariant lt can.free)
 
@@ -46,13 +46,13 @@ returns-in_default-next-clause-issued g c =
 pub add-requires-clause-unbroken : goal.add-requires-clause-unbroken
 add-requires-clause-unbroken g c =
     let can : CanIssue (record { setup = c.self.inside.trace.setup; events = c.self.inside.trace.events; meaning = g.S.Scheduler.meaning c.self.inside.scheduler; kept = g.S.Scheduler.kept c.self.inside.scheduler; flights = map flight_of c.self.inside.tags.items; held = c.self.inside.held }) c.args.hw c.args.tag = subst (λ (v : CoreState). CanIssue v c.args.hw c.args.tag) (sym c.self.view_is) c.in_default.ensures.none in
-    let lt : c.args.tag < length c.self.inside.tags.items = (let r = c.self.invariant.room in let d = can.range in omega arith) in
+    let lt : c.args.tag < length c.self.inside.tags.items = tag_there c.self.inside.trace.setup c.self.inside.trace.events _ c.self.inside.tags.items c.self.inside.held c.self.inside.released c.args.tag c.self.invariant can.range in
     let w : Waiting = record { id = c.queued.inside.id; hw = c.queued.inside.hw; release = c.queued.inside.release; due = c.queued.inside.due; bios = c.queued.inside.request } in
     let sends = sends_at g.S.Scheduler.serves g.S.Scheduler.chooses c.args.hw c.round-now.result (round_of c.self.inside.trace.events) (get_or c.self.inside.held c.args.hw []) (g.S.Scheduler.meaning c.self.inside.scheduler) (g.S.Scheduler.meaning c.next.new.scheduler) (g.S.Scheduler.kept c.self.inside.scheduler) (g.S.Scheduler.kept c.next.new.scheduler) c.self.inside.held c.next.new.held c.in-Some-next.queued w
     (c.round-now.ensures.value ∙ ap (λ (t : Traced). round_of t.events) c.in-Ok.ensures.ok) (sym c.queued.view_is) c.in-Some-next.ensures.some in
     let waits : waits_at c.self.inside.trace.setup c.self.inside.trace.events w.id ≡ Some (entered_of w) = sent_waits c.self.inside.trace.setup c.self.inside.trace.events _ _ c.self.inside.tags.items c.self.inside.held c.next.new.held c.self.inside.released g.S.Scheduler.serves g.S.Scheduler.chooses _ _ c.args.hw (round_of c.self.inside.trace.events) w (get_or c.self.inside.held c.args.hw []) c.self.invariant refl sends in
     unbroken c.self.inside.trace.setup c.self.inside.trace.events c.prepare.new.trace _ (Issued c.queued.inside.id c.args.tag) c.in-Ok.ensures.ok c.self.invariant.legal
-    (issue_allowed c.self.inside.trace.setup c.self.inside.trace.events _ c.self.inside.tags.items c.self.inside.held c.self.inside.released c.args.tag w c.self.invariant waits lt
+    (issue_allowed c.self.inside.trace.setup c.self.inside.trace.events _ c.self.inside.tags.items c.self.inside.held c.self.inside.released c.args.tag w c.self.invariant waits can.range lt
     (free_slot c.self.inside.trace.setup c.self.inside.trace.events _ c.self.inside.tags.items c.self.inside.held c.self.inside.released c.args.tag c.self.invariant lt can.free))
     (let room = can.room in omega arith)
 
@@ -62,7 +62,7 @@ add-requires-clause-prepared g c = ready_for c.self.inside.trace.setup c.self.in
 pub invariant_of-self-2 : goal.invariant_of-self-2
 invariant_of-self-2 g c =
     let can : CanIssue (record { setup = c.self.inside.trace.setup; events = c.self.inside.trace.events; meaning = g.S.Scheduler.meaning c.self.inside.scheduler; kept = g.S.Scheduler.kept c.self.inside.scheduler; flights = map flight_of c.self.inside.tags.items; held = c.self.inside.held }) c.args.hw c.args.tag = subst (λ (v : CoreState). CanIssue v c.args.hw c.args.tag) (sym c.self.view_is) c.in_default.ensures.none in
-    let lt : c.args.tag < length c.self.inside.tags.items = (let r = c.self.invariant.room in let d = can.range in omega arith) in
+    let lt : c.args.tag < length c.self.inside.tags.items = tag_there c.self.inside.trace.setup c.self.inside.trace.events _ c.self.inside.tags.items c.self.inside.held c.self.inside.released c.args.tag c.self.invariant can.range in
     let w : Waiting = record { id = c.queued.inside.id; hw = c.queued.inside.hw; release = c.queued.inside.release; due = c.queued.inside.due; bios = c.queued.inside.request } in
     let sends = sends_at g.S.Scheduler.serves g.S.Scheduler.chooses c.args.hw c.round-now.result (round_of c.self.inside.trace.events) (get_or c.self.inside.held c.args.hw []) (g.S.Scheduler.meaning c.self.inside.scheduler) (g.S.Scheduler.meaning c.next.new.scheduler) (g.S.Scheduler.kept c.self.inside.scheduler) (g.S.Scheduler.kept c.next.new.scheduler) c.self.inside.held c.next.new.held c.in-Some-next.queued w
     (c.round-now.ensures.value ∙ ap (λ (t : Traced). round_of t.events) c.in-Ok.ensures.ok) (sym c.queued.view_is) c.in-Some-next.ensures.some in
@@ -88,3 +88,9 @@ returns-clause-issued g c =
       last_command c.self.inside.trace.setup c.add.new.self.setup c.self.inside.trace.events c.add.new.self.events c.args.tag w p waits,
       map-set flight_of c.self.inside.tags.items c.args.tag (Flying c.args.hw c.in-Some-next.queued) ∙ ap (λ (x : Waiting). set (map flight_of c.self.inside.tags.items) c.args.tag (Some (record { hw = c.args.hw; request = x }))) (sym c.queued.view_is),
     )
+
+pub index_mut-requires : goal.index_mut-requires
+index_mut-requires g c =
+    let can : CanIssue (record { setup = c.self.inside.trace.setup; events = c.self.inside.trace.events; meaning = g.S.Scheduler.meaning c.self.inside.scheduler; kept = g.S.Scheduler.kept c.self.inside.scheduler; flights = map flight_of c.self.inside.tags.items; held = c.self.inside.held }) c.args.hw c.args.tag = subst (λ (v : CoreState). CanIssue v c.args.hw c.args.tag) (sym c.self.view_is) c.in_default.ensures.none in
+    let lt : c.args.tag < length c.self.inside.tags.items = tag_there c.self.inside.trace.setup c.self.inside.trace.events _ c.self.inside.tags.items c.self.inside.held c.self.inside.released c.args.tag c.self.invariant can.range in
+    omega (arith, lt, c.self.inside.tags.ok)
