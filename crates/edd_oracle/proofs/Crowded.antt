@@ -43,7 +43,7 @@ due_among-more commands rounds start n due =
     (zip commands rounds)
 
 -- n full rounds
-due_among-full : (commands : List Command) (rounds : List ℕ) (steps : List Step) (start due n : ℕ) → ((y : ℕ) → start ≤ y → y < start + n → depth_at steps y ≤ due_at commands rounds y due) → carried steps start n ≤ due_among commands rounds start n due
+pub due_among-full : (commands : List Command) (rounds : List ℕ) (steps : List Step) (start due n : ℕ) → ((y : ℕ) → start ≤ y → y < start + n → depth_at steps y ≤ due_at commands rounds y due) → carried steps start n ≤ due_among commands rounds start n due
 due_among-full commands rounds steps start due zero full = omega (arith, carried_none steps start)
 due_among-full commands rounds steps start due (suc n) full =
     let rest : carried steps start n ≤ due_among commands rounds start n due =
@@ -52,7 +52,7 @@ due_among-full commands rounds steps start due (suc n) full =
     omega (arith, rest, here, due_among-more commands rounds start n due, carried_suc steps start n)
 
 -- what comes first is due no later
-due_from_first : (a b : Command) → ComesFirst a b → a.due ≤ b.due
+pub due_from_first : (a b : Command) → ComesFirst a b → a.due ≤ b.due
 due_from_first a b first = elim first [ inl sooner ↦ omega arith | inr tie ↦ omega (arith, tie.0) ]
 
 -- what is due by then and runs from the start on was released at the start or later

@@ -4,23 +4,11 @@ use Rattle.edd_check.specs.declared.Command.{Command}
 use Rattle.edd_check.specs.declared.Window.{Window}
 use Rattle.edd_check.specs.declared.steps.Step.{Step}
 use Rattle.edd_check.specs.Capacity.{depth_at}
-use Rattle.edd_oracle.specs.Priority.{ComesFirst}
 
 -- the command at place k has no round yet
 pub record IsWaiting (rounds : List (Option ℕ)) (k : ℕ) : Type 0 where
   pub in_list : k < length rounds
   pub none : slice_index_or rounds k None ≡ None
-
--- of the waiting commands the one at place k has the least release
-pub record IsFirstReleased (commands : List Command) (rounds : List (Option ℕ)) (k : ℕ) : Type 0 where
-  pub waiting : IsWaiting rounds k
-  pub least : (j : ℕ) (d : Command) → IsWaiting rounds j → (slice_index_or commands k d).release ≤ (slice_index_or commands j d).release
-
--- of the waiting commands released by the round x the one at place k comes first
-pub record IsEarliestDue (commands : List Command) (rounds : List (Option ℕ)) (x k : ℕ) : Type 0 where
-  pub waiting : IsWaiting rounds k
-  pub released : (d : Command) → (slice_index_or commands k d).release ≤ x
-  pub least : (j : ℕ) (d : Command) → IsWaiting rounds j → (slice_index_or commands j d).release ≤ x → ComesFirst (slice_index_or commands k d) (slice_index_or commands j d)
 
 -- how many commands due by `due` have the round x
 unfoldable pub due_at : List Command → List ℕ → ℕ → ℕ → ℕ

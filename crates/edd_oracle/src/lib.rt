@@ -12,13 +12,16 @@ ghost use Rattle.edd_oracle.specs.Input.{IsTaken, IsRefusal, HasDistinctIds};
 ghost use Rattle.edd_oracle.specs.Answer.{IsBest};
 ghost use Rattle.edd_oracle.specs.Priority.{IsEarliestDueFirst};
 ghost use Rattle.edd_oracle.specs.Plan.{IsLatestWindow};
+ghost use Rattle.edd_oracle.specs.Met.{IsMostAnswer, IsMetFirst, IsPassedCover};
 
+mod cover;
 mod input;
 mod queue;
 mod window;
 
 use edd_check::{
-    Capacity, CheckFault, Command, MOST_COMMANDS, Window, check, law_of_crowded_windows,
+    Capacity, CheckFault, Command, MetFault, Window, check, check_met, law_of_covers,
+    law_of_crowded_windows, number_met,
 };
 use std::alloc::{Allocator, Global};
 use thiserror::Error;
@@ -83,20 +86,8 @@ pub fn solve<A: Allocator + Clone, B: Allocator>(
     ensures latest { IfOk result (λ found. IfSome found (λ answer.
         IsLatestWindow commands.now answer.rounds.items capacity.now answer.window)) }
 {
-    if commands.len() as u64 > MOST_COMMANDS {
-        return Err(OracleFault::TooMany);
-    }
-    if let Some(id) = input::first_out_of_range(commands) {
-        return Err(OracleFault::RoundRange(id));
-    }
-    let Ok(alloc_ids) = alloc.clone() else {
-        return Err(OracleFault::Memory);
-    };
-    let Ok(repeated) = input::first_repeated(alloc_ids, commands) else {
-        return Err(OracleFault::Memory);
-    };
-    if let Some(id) = repeated {
-        return Err(OracleFault::RepeatedId(id));
+    if let Err(fault) = input::accept(&alloc, commands) {
+        return Err(fault);
     }
     if commands.is_empty() {
         return Ok(None);
@@ -137,6 +128,86 @@ pub fn check_answer<A: Allocator, B: Allocator, C: Allocator>(
         answer.lateness,
         answer.rounds.as_slice(),
         answer.window,
+    )
+}
+
+/// A schedule that meets as many commands as any can, each by its due round.
+#[derive(Debug, Drop)]
+pub struct MostMet<A: Allocator = Global> {
+    /// The round of each command, by place.
+    pub rounds: Vec<u64, A>,
+    /// How many commands run no later than they are due.
+    pub met: u64,
+    /// What shows that no schedule meets more: windows, `from` to `due`, that don't overlap, by rising rounds. What their
+    /// rounds carry, and the commands released by their due round that lie in none of them, are `met`.
+    pub cover: Vec<Window, A>,
+}
+
+/// Schedules the commands, no more of them in a round than it carries, so that as many as possible are met, each by its due
+/// round.
+///
+/// Round by round it takes of the released commands those with the least due round, on a tie with the least id, and passes
+/// over those whose due round is past (Glover, Maximum matching in a convex bipartite graph; Pinedo, Scheduling, on the number
+/// of tardy jobs). What is passed over, and what is released after its due round, is served from the round after the last
+/// met command's on, earliest due date first with ties by id as [`solve`] has it.
+///
+/// The windows of the cover are those of the commands that are released by their due round and passed over. A window ends
+/// with that due round, and begins one past the last round up to there in which fewer commands due by then run than it
+/// carries, or in round 0; windows that overlap or touch are one.
+///
+/// Refused as [`solve`] refuses: more than 1,000,000 commands (`TooMany`), a release or due round out of range
+/// (`RoundRange`), an id that stands twice (`RepeatedId`), and want of memory (`Memory`), which may also come in place of
+/// `RepeatedId`. No command is no fault: then none is met and there is no window.
+///
+/// The time grows as n log n in the number of commands, whatever their rounds.
+pub fn most_met<A: Allocator + Clone, B: Allocator>(
+    alloc: A,
+    commands: &[Command],
+    capacity: &Capacity<B>,
+) -> Result<MostMet<A>, OracleFault>
+    ensures taken { OnOk result (IsTaken commands.now) }
+    ensures refused { IfErr result (IsRefusal commands.now) }
+    // no legal schedule meets more, by the cover
+    ensures most { IfOk result (λ answer.
+        IsMostAnswer commands.now capacity.now answer.rounds.items answer.met answer.cover.items) }
+    ensures first { IfOk result (λ answer. IsMetFirst commands.now answer.rounds.items capacity.now) }
+    ensures cover { IfOk result (λ answer.
+        IsPassedCover commands.now answer.rounds.items capacity.now answer.cover.items) }
+{
+    if let Err(fault) = input::accept(&alloc, commands) {
+        return Err(fault);
+    }
+    let Ok(alloc_cover) = alloc.clone() else {
+        return Err(OracleFault::Memory);
+    };
+    let Ok(rounds) = queue::schedule_met(alloc, commands, capacity) else {
+        return Err(OracleFault::Memory);
+    };
+    let Ok(cover) = cover::cover(alloc_cover, commands, rounds.as_slice(), capacity) else {
+        return Err(OracleFault::Memory);
+    };
+    let met = number_met(commands, rounds.as_slice());
+    law_of_covers(commands, capacity, cover.as_slice());
+    Ok(MostMet { rounds, met, cover })
+}
+
+/// Checks an answer of [`most_met`] by the separate check, which passes it unless memory runs out.
+pub fn check_most<A: Allocator, B: Allocator, C: Allocator>(
+    alloc: A,
+    commands: &[Command],
+    capacity: &Capacity<B>,
+    answer: &MostMet<C>,
+) -> Result<(), MetFault>
+    requires { IsMostAnswer commands.now capacity.now answer.now.rounds.items answer.now.met answer.now.cover.items }
+    ensures { IsOkUnless result MetFault.Memory }
+{
+    check_met(
+        alloc,
+        commands,
+        capacity,
+        answer.rounds.as_slice(),
+        answer.met,
+        answer.cover.as_slice(),
     )
 }
 

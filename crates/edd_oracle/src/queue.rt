@@ -1,14 +1,17 @@
 //! Earliest due date first, by a heap of the released commands.
 
-ghost use Rattle.std.specs.Prelude.{◌≡◌, ◌≤◌, ◌<◌, ◌+◌, ℕ, Some, length, drop, map, All, IfOk, IfNone, IfSome, OnOk, slice_index_or};
+ghost use Rattle.std.specs.Prelude.{◌≡◌, ◌≤◌, ◌<◌, ◌+◌, ◌^◌, ℕ, Some, None, length, drop, map, All, IfOk, IfNone, IfSome, OnOk, slice_index_or};
 ghost use Rattle.std.specs.List.Sorted.{IsNonDecreasingBy};
 ghost use Rattle.std.specs.BinaryHeap.{heap_items, IsHeap};
+ghost use Rattle.edd_check.specs.Capacity.{depth_at};
 ghost use Rattle.edd_check.specs.Limits.{most_commands};
 ghost use Rattle.edd_check.specs.Schedule.{IsLegal, RoundsInRange};
 ghost use Rattle.edd_check.specs.declared.Command.{Command};
 ghost use Rattle.edd_oracle.specs.Input.{IsSolvable, HasDistinctIds};
 ghost use Rattle.edd_oracle.specs.Plan.{IsWaiting};
 ghost use Rattle.edd_oracle.specs.Queue.{IsArrival, IsReleased, arrivals_of, held_of, waiting_cmp, IsRest};
+ghost use Rattle.edd_oracle.specs.Inside.Leave.{waits_at, IsTakenOut, IsBegun, IsLeft, IsAfter};
+ghost use Rattle.edd_oracle.specs.Met.{IsMetFirst};
 ghost use Rattle.edd_oracle.specs.Priority.{IsEarliestDueFirst};
 
 use edd_check::{Capacity, Command};
@@ -36,20 +39,27 @@ struct Released {
     place: usize,
 }
 
-/// The places of the commands by release.
-fn arrivals<A: Allocator>(alloc: A, commands: &[Command]) -> Result<Vec<Arrival, A>, AllocError>
-    ensures once { IfOk result (λ found. (k : ℕ) → k < length commands.now → arrivals_of found.items k ≡ 1) }
+/// The places of the commands that have no round yet, by release.
+fn arrivals<A: Allocator>(
+    alloc: A,
+    commands: &[Command],
+    rounds: &[Option<u64>],
+) -> Result<Vec<Arrival, A>, AllocError>
+    requires { length rounds.now ≡ length commands.now }
+    ensures once { IfOk result (λ found. (k : ℕ) → k < length commands.now → arrivals_of found.items k ≡ waits_at rounds.now k) }
     ensures placed { IfOk result (λ found. All (IsArrival commands.now) found.items) }
     ensures rising { IfOk result (λ found. IsNonDecreasingBy (λ a. a.release) found.items) }
 {
     let mut found = Vec::with_capacity(alloc, commands.len())?;
     for (place, command) in commands.iter().enumerate() {
-        let Ok(()) = found.push(Arrival {
-            release: command.release,
-            place,
-        }) else {
-            return Err(AllocError);
-        };
+        if rounds[place].is_none() {
+            let Ok(()) = found.push(Arrival {
+                release: command.release,
+                place,
+            }) else {
+                return Err(AllocError);
+            };
+        }
     }
     found.sort_unstable_by_key(|a| a.release);
     Ok(found)
@@ -76,6 +86,7 @@ fn release<A: Allocator>(
     ensures some { OnOk result (length (heap_items waiting.old) ≤ length (heap_items waiting.new)) }
     ensures more { IfOk result (λ next. start < next → 0 < length (heap_items waiting.new)) }
     ensures after { IfOk result (λ next. start ≤ next) }
+    ensures moved { IfOk result (λ next. length (heap_items waiting.new) + start ≡ length (heap_items waiting.old) + next) }
 {
     let mut next = start;
     while next < arrivals.len() && arrivals[next].release <= round {
@@ -108,6 +119,80 @@ fn settled<A: Allocator + Clone>(
     Ok(all)
 }
 
+/// Gives the command the round, unless late commands are passed over and it is late, and answers how many places it takes.
+fn take<A: Allocator>(
+    rounds: &mut Vec<Option<u64>, A>,
+    first: Released,
+    round: u64,
+    passes: bool,
+) -> u64
+    requires { first.place < length rounds.old.items }
+    ensures { IsTakenOut passes first round rounds.old.items rounds.new.items result }
+{
+    if passes && first.due < round {
+        return 0;
+    }
+    rounds[first.place] = Some(round);
+    1
+}
+
+/// Gives a round to each command that has none: round by round from `start` on, of the released commands that wait, as
+/// many as the round carries, those with the least due round, on a tie with the least id. Where late commands are passed
+/// over, one that comes to its turn after its due round leaves without a round and takes no place.
+fn leave<A: Allocator + Clone, B: Allocator>(
+    alloc: A,
+    commands: &[Command],
+    capacity: &Capacity<B>,
+    rounds: &mut Vec<Option<u64>, A>,
+    start: u64,
+    passes: bool,
+) -> Result<(), AllocError>
+    requires few { length commands.now ≤ most_commands }
+    requires in_range { All IsSolvable commands.now }
+    requires begun { IsBegun commands.now rounds.old.items capacity.now start }
+    ensures { OnOk result (IsLeft passes commands.now rounds.old.items rounds.new.items capacity.now start) }
+{
+    let arrivals = arrivals(alloc.clone()?, commands, rounds.as_slice())?;
+    let mut waiting = BinaryHeap::new(alloc);
+    let mut next = 0;
+    let mut round = start;
+    let mut depth = capacity.at(round);
+    let mut used = 0;
+    'places: while next < arrivals.len() || !waiting.is_empty() {
+        if waiting.is_empty() && arrivals[next].release > round {
+            round = arrivals[next].release;
+            depth = capacity.at(round);
+            used = 0;
+        } else if used == depth {
+            round += 1;
+            depth = capacity.at(round);
+            used = 0;
+        }
+        next = release(commands, arrivals.as_slice(), next, round, &mut waiting)?;
+        let Some(Reverse(first)) = waiting.pop() else {
+            unreachable!()
+        };
+        used += take(rounds, first, round, passes);
+    }
+    Ok(())
+}
+
+/// One more than the last of the rounds, or 0 where there is none.
+fn after(rounds: &[Option<u64>]) -> u64
+    requires { (k x : ℕ) → slice_index_or rounds.now k None ≡ Some x → x < 2 ^ 63 }
+    ensures { IsAfter rounds.now result }
+{
+    let mut end = 0;
+    for round in rounds {
+        if let Some(x) = *round {
+            if end <= x {
+                end = x + 1;
+            }
+        }
+    }
+    end
+}
+
 /// A round for each command: round by round from the least release, of the released commands that have no round yet,
 /// as many as the round carries, those with the least due round, on a tie with the least id.
 pub fn schedule<A: Allocator + Clone, B: Allocator>(
@@ -121,27 +206,28 @@ pub fn schedule<A: Allocator + Clone, B: Allocator>(
     ensures in_range { IfOk result (λ rounds. RoundsInRange rounds.items) }
     ensures earliest { IfOk result (λ rounds. IsEarliestDueFirst commands.now rounds.items capacity.now) }
 {
-    let arrivals = arrivals(alloc.clone()?, commands)?;
     let mut rounds = vec![in alloc.clone()?; None; commands.len()]?;
-    let mut waiting = BinaryHeap::new(alloc.clone()?);
-    let mut next = 0;
-    let mut round = 0;
-    let mut used = 0;
-    'places: while next < arrivals.len() || !waiting.is_empty() {
-        let depth = capacity.at(round);
-        if waiting.is_empty() && arrivals[next].release > round {
-            round = arrivals[next].release;
-            used = 0;
-        } else if used == depth {
-            round += 1;
-            used = 0;
-        }
-        next = release(commands, arrivals.as_slice(), next, round, &mut waiting)?;
-        let Some(Reverse(first)) = waiting.pop() else {
-            unreachable!()
-        };
-        rounds[first.place] = Some(round);
-        used += 1;
-    }
+    leave(alloc.clone()?, commands, capacity, &mut rounds, 0, false)?;
+    settled(alloc, rounds.as_slice())
+}
+
+/// A round for each command so that as many as possible are met: earliest due first, passing over what can no more be met,
+/// and from the round after the last met one on earliest due first of what was passed over.
+pub fn schedule_met<A: Allocator + Clone, B: Allocator>(
+    alloc: A,
+    commands: &[Command],
+    capacity: &Capacity<B>,
+) -> Result<Vec<u64, A>, AllocError>
+    requires few { length commands.now ≤ most_commands }
+    requires in_range { All IsSolvable commands.now }
+    ensures legal { IfOk result (λ rounds. IsLegal commands.now rounds.items capacity.now) }
+    ensures in_range { IfOk result (λ rounds. RoundsInRange rounds.items) }
+    ensures first { IfOk result (λ rounds. IsMetFirst commands.now rounds.items capacity.now) }
+    ensures carries { OnOk result ((x : ℕ) → 0 < depth_at capacity.now x) }
+{
+    let mut rounds = vec![in alloc.clone()?; None; commands.len()]?;
+    leave(alloc.clone()?, commands, capacity, &mut rounds, 0, true)?;
+    let end = after(rounds.as_slice());
+    leave(alloc.clone()?, commands, capacity, &mut rounds, end, false)?;
     settled(alloc, rounds.as_slice())
 }

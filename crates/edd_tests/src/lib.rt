@@ -12,4 +12,6 @@ mod made;
 #[cfg(test)]
 mod memory;
 #[cfg(test)]
+mod most;
+#[cfg(test)]
 mod schedules;

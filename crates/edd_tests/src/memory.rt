@@ -1,8 +1,8 @@
 //! Each allocation of a scenario refused in turn.
 
 use crate::made::{checked, command, window};
-use edd_check::{Capacity, CheckFault};
-use edd_oracle::{OracleFault, check_answer, solve};
+use edd_check::{Capacity, CheckFault, MetFault};
+use edd_oracle::{OracleFault, check_answer, check_most, most_met, solve};
 use refusing::Refusing;
 use std::alloc::Global;
 use std::process::Abort;
@@ -64,5 +64,41 @@ fn of_a_schedule(rt: HostRuntime) {
     }
     heap.refuse(8);
     assert!(rt; scheduled(&rt, rt.alloc(), &heap));
+    assert!(rt; heap.is_armed());
+}
+
+/// Schedules three commands of which one can't be met and has the answer checked; whether memory was not refused.
+fn met(rt: &impl Abort, alloc: Global, heap: &Refusing<Global>) -> bool {
+    let one = Capacity::fixed(alloc, 1).expect(rt, "want of memory");
+    let commands = [command(1, 0, 0), command(2, 0, 0), command(3, 0, 5)];
+    match most_met(heap, &commands, &one) {
+        Ok(answer) => {
+            assert_eq!(rt; answer.rounds.as_slice(), [0, 2, 1].as_slice());
+            match check_most(heap, &commands, &one, &answer) {
+                Ok(()) => true,
+                Err(fault) => {
+                    assert!(rt; fault == MetFault::Memory);
+                    false
+                }
+            }
+        }
+        Err(fault) => {
+            assert!(rt; fault == OracleFault::Memory);
+            false
+        }
+    }
+}
+
+#[test]
+fn of_a_greatest_number(rt: HostRuntime) {
+    let heap = Refusing::new(rt.alloc());
+    for n in 1..12 {
+        heap.refuse(n);
+        assert!(rt; !met(&rt, rt.alloc(), &heap));
+        assert!(rt; !heap.is_armed());
+        assert!(rt; met(&rt, rt.alloc(), &heap));
+    }
+    heap.refuse(12);
+    assert!(rt; met(&rt, rt.alloc(), &heap));
     assert!(rt; heap.is_armed());
 }
