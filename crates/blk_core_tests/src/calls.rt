@@ -2,7 +2,7 @@
 
 use crate::given::{Call, alone, bio, command, follow, id_of, in_order, limits, release, setup};
 use blk_bio::{Dir, Side};
-use blk_core::{CoreFault, IssueFault, NotIssued, Placed, TickFault};
+use blk_core::{CoreFault, DepthFault, IssueFault, NotIssued, Placed, TickFault};
 
 #[test]
 fn core_refusals(rt: HostRuntime) {
@@ -192,6 +192,7 @@ fn full_trace(rt: HostRuntime) {
         Call::Tick(Ok(999_999)),
         Call::Tick(Err(TickFault::TraceFull)),
         Call::Release(1, 100, 8, 0, Err(CoreFault::TraceFull)),
+        Call::Depth(0, Err(DepthFault::TraceFull)),
         Call::Pending(1),
     ];
     follow(&rt, &alloc, &mut core, &calls);

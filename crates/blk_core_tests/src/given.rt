@@ -4,7 +4,7 @@ ghost use Rattle.std.specs.Prelude.{◌≡◌, true};
 ghost use Rattle.blk_sched.specs.Meaning.{at_start};
 
 use blk_bio::{Bio, BioId, Dir, Limits, Request};
-use blk_core::{BackFault, Core, CoreFault, IssueFault, NotIssued, Placed, TickFault};
+use blk_core::{BackFault, Core, CoreFault, DepthFault, IssueFault, NotIssued, Placed, TickFault};
 use blk_none::NoneSched;
 use blk_sched::Scheduler;
 use blk_trace::Setup;
@@ -23,6 +23,8 @@ pub enum Call {
     Done(u16, Result<(), NotIssued>),
     /// Takes what is in flight under a tag back.
     Back(u16, Result<u64, BackFault>),
+    /// Sets the depth of the rounds to come.
+    Depth(u64, Result<(), DepthFault>),
     /// Ends the round.
     Tick(Result<u64, TickFault>),
     /// Counts what waits.
@@ -144,6 +146,14 @@ fn back<S: Scheduler>(core: &mut Core<S>, tag: u16) -> Result<u64, BackFault> {
     }
 }
 
+/// Sets the depth of the rounds to come.
+fn set_depth<S: Scheduler>(core: &mut Core<S>, depth: u64) -> Result<(), DepthFault> {
+    match core.set_depth(depth) {
+        Err(DepthFault::Memory) => core.set_depth(depth),
+        answer => answer,
+    }
+}
+
 /// Ends the round.
 fn tick<S: Scheduler>(core: &mut Core<S>) -> Result<u64, TickFault> {
     match core.tick() {
@@ -162,6 +172,7 @@ fn make<S: Scheduler>(rt: &impl Abort, alloc: &S::A, core: &mut Core<S>, call: C
         Call::Issue(hw, tag, answer) => assert_eq!(rt; issue(core, hw, tag), answer),
         Call::Done(tag, answer) => assert_eq!(rt; core.done(tag), answer),
         Call::Back(tag, answer) => assert_eq!(rt; back(core, tag), answer),
+        Call::Depth(depth, answer) => assert_eq!(rt; set_depth(core, depth), answer),
         Call::Tick(answer) => assert_eq!(rt; tick(core), answer),
         Call::Pending(count) => assert_eq!(rt; core.pending(), count),
     }

@@ -6,6 +6,8 @@ mod busy;
 #[cfg(test)]
 mod calls;
 #[cfg(test)]
+mod depths;
+#[cfg(test)]
 mod given;
 #[cfg(test)]
 mod laws;

@@ -42,7 +42,7 @@ fn leave<'a>(rt: &impl Abort, heap: &'a Refusing<Global>, core: &mut Under<'a>, 
     follow(rt, &heap, core, &calls);
 }
 
-/// The first request goes out and comes back, twice.
+/// The first request goes out and comes back, twice, and the depth is set to what it is.
 fn comes_back<'a>(rt: &impl Abort, heap: &'a Refusing<Global>, core: &mut Under<'a>) {
     let calls = [
         Call::Issue(0, 0, Ok(Some(command(0, 0, 5)))),
@@ -50,6 +50,7 @@ fn comes_back<'a>(rt: &impl Abort, heap: &'a Refusing<Global>, core: &mut Under<
         Call::Issue(0, 1, Ok(Some(command(0, 0, 5)))),
         Call::Back(1, Ok(0)),
         Call::Pending(20),
+        Call::Depth(2, Ok(())),
         Call::Tick(Ok(21)),
     ];
     follow(rt, &heap, core, &calls);
@@ -72,7 +73,7 @@ fn come_and_go<'a>(rt: &impl Abort, heap: &'a Refusing<Global>) {
         &mut core,
         &[Call::Issue(0, 0, Ok(None)), Call::Pending(0)],
     );
-    assert_eq!(rt; core.trace().len(), 115);
+    assert_eq!(rt; core.trace().len(), 116);
 }
 
 #[test]
