@@ -10,7 +10,7 @@ ghost use Rattle.blk_deadline.specs.Choice.{serves_all, oldest_of, next_of, in_b
 ghost use Rattle.blk_deadline.specs.Shown.{pending_of, turn_of, tunables_of, meaning_of};
 
 use blk_bio::{Dir, Limits, MAX_QUEUES, Request, Side};
-use blk_sched::{Index, MAX_HANDED, MAX_OPEN, OpenPicks, Queued, SchedFault, Scheduler};
+use blk_sched::{MAX_HANDED, MAX_OPEN, OpenPicks, Queued, SchedFault, Scheduler, Sorted};
 use std::alloc::{AllocError, Allocator, Global};
 
 /// What the scheduler is tuned by, by the names of Linux's deadline-iosched.
@@ -49,7 +49,7 @@ pub struct Turn {
 /// Requests by sectors within a batch, and by due rounds between them.
 #[derive(Drop)]
 pub struct Deadline<A: Allocator = Global> {
-    index: Index<A>,
+    index: Sorted<A>,
     tunables: Tunables,
     turn: Turn,
     open_picks: OpenPicks,
@@ -69,7 +69,7 @@ impl<A: Allocator + Clone> Deadline<A> {
         if tunables.fifo_batch == 0 {
             return Err(SchedFault::ZeroBatch);
         }
-        let Ok(index) = Index::new(alloc) else {
+        let Ok(index) = Sorted::new(alloc) else {
             return Err(SchedFault::Memory);
         };
         Ok(Deadline {

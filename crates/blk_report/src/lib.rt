@@ -14,8 +14,10 @@ ghost use Rattle.blk_report.specs.Shortfall.{IsReport, HasFigures};
 ghost use Rattle.blk_report.specs.Comparison.{IsFirstBest, HasNoBest, better_of};
 
 mod figures;
+mod lines;
 
 pub use crate::figures::Report;
+pub use crate::lines::write;
 use blk_trace::Trace;
 use edd_check::{Capacity, Command, greatest_lateness, load};
 use edd_oracle::{Answer, solve};

@@ -1,5 +1,5 @@
 -- What a change does to the spots of requests.
-use Rattle.std.proofs.Common.{◌≡◌, ◌&&◌, ℕ, Bool, true, false, cond, sym, ap, subst, ◌∙◌, refl, Some, None, Option, List}
+use Rattle.std.proofs.Common.{◌≡◌, ◌&&◌, ℕ, Bool, true, false, cond, sym, ap, subst, ◌∙◌, refl, Some, None, Option}
 use Rattle.std.specs.Ordering.{nat_cmp, ordering_then, eq_by_cmp, is_eq}
 use Rattle.std.specs.BTreeMap.{is_at}
 use Rattle.std.specs.BTreeSet.{BTreeSet, IsEmpty, contains}
@@ -153,7 +153,7 @@ same_kept old new f e a f2 e2 a2 index same firsts ends ages = record {
 pub no_spot : (s : BTreeSet Spot) → IsEmpty s → (q : Spot) → contains spot_cmp s q ≡ false
 no_spot s none q = ap (list_any (is_at (spot_cmp q))) none
 
-no_spots : (at : Extent → Place) (m : Pending) (has : Has) → m ≡ map.empty → ((q : Spot) → has q ≡ false) → AreSpots at (map.get m) has
+pub no_spots : (at : Extent → Place) (m : Pending) (has : Has) → m ≡ map.empty → ((q : Spot) → has q ≡ false) → AreSpots at (map.get m) has
 no_spots at m has none empty p k = empty (p, k) ∙ ap (is_placed at p) (sym (ap (λ (x : Pending). map.get x k) none ∙ map.get-empty nat_cmp k))
 
 pub empty_index : (m : Pending) (f e a : Has) → m ≡ map.empty → ((q : Spot) → f q ≡ false) → ((q : Spot) → e q ≡ false) → ((q : Spot) → a q ≡ false) → IsIndex (map.get m) f e a
@@ -165,10 +165,12 @@ empty_index m f e a none firsts ends ages = record {
 }
 
 -- an id that isn't there is taken out
-pub absent_kept : (m n : Pending) (id : ℕ) (f e a : Has) → IsIndex (map.get m) f e a → map.get m id ≡ None → n ≡ map.remove m id → IsIndex (map.get n) f e a
-absent_kept m n id f e a index none is = same_kept (map.get m) (map.get n) f e a f e a index
-    (λ k. becomes_taken m n id is k ∙ elim (is_at (nat_cmp id) k) as (λ b. is_at (nat_cmp id) k ≡ b → cond b None (map.get m k) ≡ map.get m k) [
+pub same_without : (m n : Pending) (id : ℕ) → map.get m id ≡ None → n ≡ map.remove m id → (k : ℕ) → map.get n k ≡ map.get m k
+same_without m n id none is k =
+    becomes_taken m n id is k ∙ elim (is_at (nat_cmp id) k) as (λ b. is_at (nat_cmp id) k ≡ b → cond b None (map.get m k) ≡ map.get m k) [
       | true ↦ λ e. sym (ap (map.get m) (same_number id k e) ∙ none)
       | false ↦ λ _. refl
-    ] refl)
-    (λ q. refl) (λ q. refl) (λ q. refl)
+    ] refl
+
+pub absent_kept : (m n : Pending) (id : ℕ) (f e a : Has) → IsIndex (map.get m) f e a → map.get m id ≡ None → n ≡ map.remove m id → IsIndex (map.get n) f e a
+absent_kept m n id f e a index none is = same_kept (map.get m) (map.get n) f e a f e a index (same_without m n id none is) (λ q. refl) (λ q. refl) (λ q. refl)

@@ -107,16 +107,29 @@ new_spot limits old has id s side newcomer v spot spots found fit some range is 
       | false ↦ λ _. refl
     ] refl
 
-pub spots_joined : (limits : Limits) (old new : Found) (has mid now : Has) (id s at : ℕ) (side other : Side) (newcomer : List Bio) (v w : Waiting) (spot last : Spot) → AreSpots (at_of side) old has → old id ≡ Some v → HasFit limits old newcomer id side → 0 < s → first_of newcomer + s ≡ last_of newcomer → spot ≡ (at_of side (joined_extent side (extent_of v.bios) (extent_of newcomer)), id) → last ≡ (at_of side (extent_of v.bios), id) → ((t : Side) → Fits limits v.bios newcomer t → t ≡ other) → w ≡ joined_waiting other at newcomer v → Adds has spot mid → Takes mid last now → Becomes old id (Some w) new → AreSpots (at_of side) new now
-spots_joined limits old new has mid now id s at side other newcomer v w spot last spots found fit some range is was only join adds takes becomes =
+pub spots_moved : (limits : Limits) (old new : Found) (has mid now : Has) (id s at : ℕ) (side : Side) (newcomer : List Bio) (v w : Waiting) (spot last : Spot) → AreSpots (at_of side) old has → old id ≡ Some v → HasFit limits old newcomer id side → 0 < s → first_of newcomer + s ≡ last_of newcomer → spot ≡ (at_of side (joined_extent side (extent_of v.bios) (extent_of newcomer)), id) → last ≡ (at_of side (extent_of v.bios), id) → w ≡ joined_waiting side at newcomer v → Adds has spot mid → Takes mid last now → Becomes old id (Some w) new → AreSpots (at_of side) new now
+spots_moved limits old new has mid now id s at side newcomer v w spot last spots found fit some range is was w_is adds takes becomes =
     let fits = fits_it limits old id side newcomer v found fit in
-    let w_is : w ≡ joined_waiting side at newcomer v = join ∙ ap (λ (t : Side). joined_waiting t at newcomer v) (sym (only side fits)) in
     let place : at_of side (joined_extent side (extent_of v.bios) (extent_of newcomer)) ≡ at_of side (extent_of w.bios) = sym (at_joined limits v.bios newcomer s side fits some range) ∙ ap (λ (x : Waiting). at_of side (extent_of x.bios)) (sym w_is) in
     moved (at_of side) old new id has mid now v w spots found
     (subst (λ (q : Spot). Adds has q mid) (is ∙ ap (λ (p : Place). let q : Spot = (p, id) in q) place) adds)
     (subst (λ (q : Spot). Takes mid q now) was takes)
     (λ same. apart_at limits v.bios newcomer s side fits some range (same ∙ sym place))
     becomes
+
+-- the same where the join says its side
+pub spots_joined : (limits : Limits) (old new : Found) (has mid now : Has) (id s at : ℕ) (side other : Side) (newcomer : List Bio) (v w : Waiting) (spot last : Spot) → AreSpots (at_of side) old has → old id ≡ Some v → HasFit limits old newcomer id side → 0 < s → first_of newcomer + s ≡ last_of newcomer → spot ≡ (at_of side (joined_extent side (extent_of v.bios) (extent_of newcomer)), id) → last ≡ (at_of side (extent_of v.bios), id) → ((t : Side) → Fits limits v.bios newcomer t → t ≡ other) → w ≡ joined_waiting other at newcomer v → Adds has spot mid → Takes mid last now → Becomes old id (Some w) new → AreSpots (at_of side) new now
+spots_joined limits old new has mid now id s at side other newcomer v w spot last spots found fit some range is was only join adds takes becomes =
+    spots_moved limits old new has mid now id s at side newcomer v w spot last spots found fit some range is was
+    (join ∙ ap (λ (t : Side). joined_waiting t at newcomer v) (sym (only side (fits_it limits old id side newcomer v found fit)))) adds takes becomes
+
+-- a join at the back leaves where the request begins
+pub firsts_stay : {T E : Type 0} (limits : Limits) (m n : Pending) (id at : ℕ) (side : Side) (newcomer : List Bio) (has : Has) (r : Result T E) → side ≡ Back → AreSpots first_at (map.get m) has → HasFit limits (map.get m) newcomer id side → OnOk r (IsJoined at newcomer m id side n) → OnErr r (n ≡ m) → AreSpots first_at (map.get n) has
+firsts_stay limits m n id at side newcomer has (Ok x) is spots fit join same =
+    let back : IsJoined at newcomer m id Back n = subst (λ (t : Side). IsJoined at newcomer m id t n) is join in
+    let fits : Fits limits back.waiting.bios newcomer Back = fits_it limits (map.get m) id Back newcomer back.waiting back.was (subst (λ (t : Side). HasFit limits (map.get m) newcomer id t) is fit) in
+    stayed first_at (map.get m) (map.get n) id has back.waiting (joined_waiting Back at newcomer back.waiting) spots back.was (first_place limits back.waiting.bios newcomer fits) (becomes_given m n id (joined_waiting Back at newcomer back.waiting) back.is)
+firsts_stay limits m n id at side newcomer has (Err x) is spots fit join same = kept first_at (map.get m) (map.get n) has has spots (λ k. ap (λ (x : Pending). map.get x k) same) (λ q. refl)
 
 -- ---- the index
 

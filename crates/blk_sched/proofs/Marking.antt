@@ -1,6 +1,6 @@
 -- How often the requests of a lane begin or end at a sector, as they come, go and are joined.
-use Rattle.std.proofs.Common.{◌≡◌, ◌≤◌, ◌<◌, ◌+◌, ◌-◌, ◌∷◌, ◌∙◌, ℕ, Bool, List, Option, Some, cond, length, set, get_or, sym, ap, subst, refl, arith}
-use Rattle.std.specs.Prelude.{nat_eq, sum_by, slice_get}
+use Rattle.std.proofs.Common.{◌≡◌, ◌≤◌, ◌<◌, ◌+◌, ◌-◌, ◌∷◌, ◌∙◌, ℕ, Bool, List, Option, Some, cond, length, set, get_or, sym, ap, subst, arith}
+use Rattle.std.specs.Prelude.{sum_by, slice_get}
 use Rattle.std.specs.List.{insert}
 use Rattle.std.specs.Map.{count_at}
 use Rattle.std.proofs.lemmas.Bool.{eq-eqb}

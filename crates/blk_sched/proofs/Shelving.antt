@@ -1,5 +1,5 @@
 -- What lies at places, found by ids.
-use Rattle.std.proofs.Common.{◌≡◌, ◌≢◌, ◌<◌, ◌∙◌, sym, ap, subst, refl, true, false, Bool, cond, ℕ, Some, None, Option, List, [], ◌∷◌, zero, suc, get_or, length, arith}
+use Rattle.std.proofs.Common.{◌≡◌, ◌≢◌, ◌<◌, ◌∙◌, sym, ap, subst, refl, true, false, cond, ℕ, Some, None, Option, List, [], ◌∷◌, zero, suc, get_or, length, arith}
 use Rattle.std.specs.Prelude.{IsSome}
 use Rattle.std.specs.Ordering.{nat_cmp, is_eq, is_gt}
 use Rattle.std.specs.Cmp.{nat_cmp_total, tied_itself}
@@ -7,7 +7,7 @@ use Rattle.std.specs.BTreeMap.{is_at}
 use Rattle.std.specs.Map.{lookup, keys_of}
 use Rattle.std.specs.List.Sorted.{IsStrictlySortedBy}
 use Rattle.std.proofs.lemmas.Map.Keys.{sorted_head, sorted_tail}
-use Rattle.std.specs.FinMap.{FinMap, get, insert, remove, from_entries, len}
+use Rattle.std.specs.FinMap.{get, insert, remove, from_entries, len}
 use Rattle.std.specs.FinMap as map
 use Rattle.blk_sched.specs.Meaning.{Waiting, Pending}
 use Rattle.blk_sched.specs.Maps.{same_number, get_waiting, one_given, one_taken, at_front, behind, len_is}

@@ -1,5 +1,5 @@
 -- The search for a join among the requests that a newcomer touches.
-use Rattle.std.proofs.Common.{◌≡◌, ◌<◌, ◌≤◌, ◌⊎◌, inl, inr, ◌==◌, ℕ, Bool, true, false, sym, ap, ◌∙◌, refl, arith, Some, None, Option, List}
+use Rattle.std.proofs.Common.{◌≡◌, ◌<◌, ◌≤◌, ◌⊎◌, inl, inr, ℕ, Bool, true, false, sym, ap, ◌∙◌, refl, arith, Some, None, Option, List}
 use Rattle.std.specs.Prelude.{if◌then◌else◌, IfSome, IfNone, IsTrue, nat_lt}
 use Rattle.std.specs.Option.{OnSome}
 use Rattle.std.specs.Ordering.{eq_by_cmp, is_eq}

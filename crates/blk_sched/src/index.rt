@@ -11,14 +11,13 @@ ghost use Rattle.blk_bio.specs.Requests.{Fits};
 ghost use Rattle.std.specs.Prelude.{nat_lt, ◌≤◌};
 ghost use Rattle.std.specs.Bool.{OnTrue, OnFalse};
 ghost use Rattle.std.specs.BTreeSet.{contains};
-ghost use Rattle.blk_sched.specs.Inside.Spots.{spot_cmp, AreSpots, first_at, age_at};
-ghost use Rattle.blk_sched.specs.Index.{IsNewestBy, FitsNoneBy, FitsBy, IsJoined, at_of, touch_of, joined_extent, newer_of, IsOldest, IsNext, NoneOf, NoNext, PopsFirst};
+ghost use Rattle.blk_sched.specs.Inside.Spots.{spot_cmp, AreSpots, age_at};
+ghost use Rattle.blk_sched.specs.Inside.Edges.{spots_in};
+ghost use Rattle.blk_sched.specs.Index.{IsNewestBy, FitsNoneBy, FitsBy, IsJoined, at_of, touch_of, joined_extent, newer_of, IsOldest, NoneOf, PopsFirst};
 
 use crate::Queued;
 use crate::shelf::Shelf;
-use crate::spots::{
-    Edges, Spot, end_spot, first_spot, is_write, newest_at, oldest_above, oldest_from, put, take,
-};
+use crate::spots::{Edges, Spot, Spots, end_spot, first_spot, is_write, oldest_from};
 use blk_bio::{Dir, Extent, Limits, Request, Side};
 use std::alloc::{AllocError, Allocator, Global};
 use std::collections::BTreeSet;
@@ -37,6 +36,7 @@ impl<A: Allocator> Model for Index<A> {
     ghost use Rattle.std.specs.FinMap.{get, code};
     ghost use Rattle.blk_sched.specs.Meaning.{Pending, waiting_code};
     ghost use Rattle.blk_sched.specs.Inside.Spots.{spot_cmp};
+    ghost use Rattle.blk_sched.specs.Inside.Edges.{spots_in};
     ghost use Rattle.blk_sched.specs.Index.{IsIndex};
 
     ghost Value = { Pending };
@@ -45,7 +45,7 @@ impl<A: Allocator> Model for Index<A> {
 
     ghost view = { λ s. s.waiting };
 
-    ghost invariant = { λ s. IsIndex (get s.waiting) (contains spot_cmp s.edges.firsts) (contains spot_cmp s.edges.ends) (contains spot_cmp s.edges.ages) };
+    ghost invariant = { λ s. IsIndex (get s.waiting) (spots_in s.edges.firsts) (spots_in s.edges.ends) (contains spot_cmp s.edges.ages) };
 }
 
 impl<A: Allocator + Clone> Index<A> {
@@ -56,8 +56,8 @@ impl<A: Allocator + Clone> Index<A> {
         Ok(Index {
             waiting: Shelf::new(alloc.clone()?)?,
             edges: Edges {
-                firsts: BTreeSet::new(alloc.clone()?),
-                ends: BTreeSet::new(alloc.clone()?),
+                firsts: Spots::new(alloc.clone()?)?,
+                ends: Spots::new(alloc.clone()?)?,
                 ages: BTreeSet::new(alloc),
             },
         })
@@ -65,7 +65,8 @@ impl<A: Allocator + Clone> Index<A> {
 
     /// How many requests wait.
     pub fn len(&self) -> usize
-        ensures { result ≡ map.len self.now }
+        ensures len { result ≡ map.len self.now }
+        ensures named { (k : ℕ) (w : Waiting) → map.get self.now k ≡ Some w → w.id ≡ k }
     {
         self.waiting.len()
     }
@@ -153,15 +154,6 @@ impl<A: Allocator + Clone> Index<A> {
         oldest_in(&self.waiting, &self.edges.ages, dir)
     }
 
-    /// Of a direction's requests with their first sectors and ids the least that is above `first` and `last`.
-    pub fn next(&self, dir: Dir, first: u64, last: u64) -> Option<u64>
-        ensures some { IfSome result (IsNext dir first last (map.get self.now)) }
-        ensures none { IfNone result (NoNext dir first last (map.get self.now)) }
-        ensures named { (k : ℕ) (w : Waiting) → map.get self.now k ≡ Some w → w.id ≡ k }
-    {
-        next_in(&self.waiting, &self.edges.firsts, dir, first, last)
-    }
-
     /// Joins a newcomer to the request of an id, which it fits at the side, in the round `now`. Refused for want of
     /// memory alone: nothing is changed then, and the newcomer comes back.
     pub fn join_at(
@@ -198,28 +190,6 @@ fn oldest_in<A: Allocator + Clone>(
     let _ = waiting;
     let write = is_write(dir);
     let ((other, sector), id) = oldest_from(ages, ((write, 0), 0))?;
-    let _ = sector;
-    if other != write {
-        return None;
-    }
-    Some(id)
-}
-
-/// The least of a direction's first sectors and ids above others.
-fn next_in<A: Allocator + Clone>(
-    waiting: &Shelf<A>,
-    firsts: &BTreeSet<Spot, A>,
-    dir: Dir,
-    first: u64,
-    last: u64,
-) -> Option<u64>
-    requires { AreSpots first_at (map.get waiting.now) (contains spot_cmp firsts.now) }
-    ensures some { IfSome result (IsNext dir first last (map.get waiting.now)) }
-    ensures none { IfNone result (NoNext dir first last (map.get waiting.now)) }
-{
-    let _ = waiting;
-    let write = is_write(dir);
-    let ((other, sector), id) = oldest_above(firsts, ((write, first), last))?;
     let _ = sector;
     if other != write {
         return None;
@@ -264,18 +234,18 @@ fn fits_by<A: Allocator + Clone>(
 /// The newest request that a newcomer fits at a side, where `spots` are the requests' ends at that side.
 fn newest_of<A: Allocator + Clone>(
     waiting: &Shelf<A>,
-    spots: &BTreeSet<Spot, A>,
+    spots: &Spots<A>,
     side: Side,
     newcomer: &Request<A>,
     limits: &Limits,
 ) -> Option<u64>
-    requires { AreSpots (at_of side) (map.get waiting.now) (contains spot_cmp spots.now) }
+    requires { AreSpots (at_of side) (map.get waiting.now) (spots_in spots.now) }
     ensures some { IfSome result (IsNewestBy limits.now (map.get waiting.now) newcomer.now side) }
     ensures none { IfNone result (FitsNoneBy limits.now (map.get waiting.now) newcomer.now side) }
 {
     let place = touched(side, newcomer);
     let mut below = None;
-    while let Some(id) = newest_at(spots, place, below) {
+    while let Some(id) = spots.newest_at(place, below) {
         if fits_by(waiting, id, side, newcomer, limits) {
             return Some(id);
         }
@@ -287,12 +257,12 @@ fn newest_of<A: Allocator + Clone>(
 /// The same at the front, where that is allowed.
 fn newest_ahead<A: Allocator + Clone>(
     waiting: &Shelf<A>,
-    firsts: &BTreeSet<Spot, A>,
+    firsts: &Spots<A>,
     front: bool,
     newcomer: &Request<A>,
     limits: &Limits,
 ) -> Option<u64>
-    requires { AreSpots (at_of Side.Front) (map.get waiting.now) (contains spot_cmp firsts.now) }
+    requires { AreSpots (at_of Side.Front) (map.get waiting.now) (spots_in firsts.now) }
     ensures some { IfSome result (IsNewestBy limits.now (map.get waiting.now) newcomer.now Side.Front) }
     ensures tried { OnSome result (IsTrue front) }
     ensures none { IfNone result (IsTrue front → FitsNoneBy limits.now (map.get waiting.now) newcomer.now Side.Front) }
@@ -322,7 +292,7 @@ fn newer(back: Option<u64>, ahead: Option<u64>) -> Option<(u64, Side)>
 }
 
 /// The range of a request and a newcomer together.
-fn joined_extent(side: Side, request: Extent, newcomer: Extent) -> Extent
+pub fn joined_extent(side: Side, request: Extent, newcomer: Extent) -> Extent
     ensures { result ≡ joined_extent side request newcomer }
 {
     match side {
@@ -350,7 +320,7 @@ fn spot_at(side: Side, extent: Extent, id: u64) -> Spot
 /// Joins a newcomer to the request of an id, where `spots` are the requests' ends at the side.
 fn join_in<A: Allocator + Clone>(
     waiting: &mut Shelf<A>,
-    spots: &mut BTreeSet<Spot, A>,
+    spots: &mut Spots<A>,
     id: u64,
     side: Side,
     now: u64,
@@ -358,8 +328,8 @@ fn join_in<A: Allocator + Clone>(
     newcomer: Request<A>,
 ) -> Result<(), Request<A>>
     requires fit { HasFit limits.now (map.get waiting.old) newcomer id side }
-    requires spots { AreSpots (at_of side) (map.get waiting.old) (contains spot_cmp spots.old) }
-    ensures spots { AreSpots (at_of side) (map.get waiting.new) (contains spot_cmp spots.new) }
+    requires spots { AreSpots (at_of side) (map.get waiting.old) (spots_in spots.old) }
+    ensures spots { AreSpots (at_of side) (map.get waiting.new) (spots_in spots.new) }
     ensures joined { OnOk result (IsJoined now newcomer waiting.old id side waiting.new) }
     ensures err { IfErr result (λ e. e ≡ newcomer) }
     ensures same { OnErr result (waiting.new ≡ waiting.old) }
@@ -372,30 +342,30 @@ fn join_in<A: Allocator + Clone>(
     };
     let before = extent_of(queued);
     let spot = spot_at(side, joined_extent(side, before, added), id);
-    let Ok(()) = put(spots, spot) else {
+    let Ok(()) = spots.put(spot) else {
         return Err(newcomer);
     };
     match waiting.join(id, newcomer, now, limits) {
         Ok(_) => {
-            take(spots, spot_at(side, before, id));
+            spots.take(spot_at(side, before, id));
             Ok(())
         }
         Err(newcomer) => {
-            take(spots, spot);
+            spots.take(spot);
             Err(newcomer)
         }
     }
 }
 
 /// The id of a request.
-fn id_of<A: Allocator + Clone>(queued: &Queued<A>) -> u64
+pub fn id_of<A: Allocator + Clone>(queued: &Queued<A>) -> u64
     ensures { result ≡ queued.now.id }
 {
     queued.id
 }
 
 /// Its extent.
-fn extent_of<A: Allocator + Clone>(queued: &Queued<A>) -> Extent
+pub fn extent_of<A: Allocator + Clone>(queued: &Queued<A>) -> Extent
     ensures { result ≡ extent_of queued.now.bios }
 {
     queued.request.extent()

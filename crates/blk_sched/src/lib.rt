@@ -15,12 +15,14 @@ pub mod lane;
 mod marks;
 pub mod picks;
 pub mod shelf;
+pub mod sorted;
 pub mod spots;
 
 pub use crate::fits::side_of_fit;
 pub use crate::index::Index;
 pub use crate::lane::Lane;
 pub use crate::picks::{MAX_HANDED, MAX_OPEN, OpenPicks};
+pub use crate::sorted::Sorted;
 use blk_bio::{Dir, JoinFault, Limits, MAX_QUEUES, Request, Side};
 use std::alloc::{AllocError, Allocator, Global};
 use std::marker::Model;

@@ -40,7 +40,7 @@ use Rattle.blk_sim.proofs.Standing.{all_at, add_plugged, bio_stands, flush_plugg
 -- the core's steps by themselves let no bio enter
 issues_passed : (policy : Policy) (hw tag : ℕ) (a b : CoreState) (found : Option Command) → Issues policy.serves policy.chooses a hw tag found b → Passed 0 a b
 issues_passed policy hw tag a b None h = passed_same a b h.0
-issues_passed policy hw tag a b (Some command) h = adds_passed a b _ 0 h.3 refl refl
+issues_passed policy hw tag a b (Some command) h = adds_passed a b _ 0 h.2 refl refl
 
 pub asks_passed : (policy : Policy) (hw tag : ℕ) (a b : CoreState) (found : Option Command) → Asks policy hw tag a found b → Passed 0 a b
 asks_passed policy hw tag a b found h = issues_passed policy hw tag a b found h.1

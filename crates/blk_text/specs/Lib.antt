@@ -12,3 +12,4 @@ pub mod Drafts
 pub mod Certificate
 pub mod Tables
 pub mod Reads
+pub mod BioTable

@@ -12,15 +12,14 @@ use Rattle.blk_trace.specs.declared.rule.TraceRule.TheVariants.{ReleasedTwice, U
 use Rattle.blk_trace.specs.Happened.{Happened, Released, Joined, Issued, Returned}
 use Rattle.blk_trace.specs.Kinds.{issues, hands_back}
 use Rattle.blk_trace.specs.Setups.{Setup}
-use Rattle.blk_trace.specs.Events.{join_up, request_of, entered, bios_of, IsReleased, IsOpen}
+use Rattle.blk_trace.specs.Events.{join_up, request_of, entered, bios_of, IsReleased, IsOpen, IsOpenBy}
 use Rattle.blk_trace.specs.Legal.{IsLegalTrace}
 use Rattle.blk_trace.specs.Rules.{IsUnbroken}
 use Rattle.blk_trace.specs.Meaning.{served, issued_ids, released_ids, put_rising, rising, waiting_ids, waiting_of}
-use Rattle.blk_trace.specs.Standing.{has_id}
+use Rattle.blk_trace.specs.Waits.{has_id}
 use Rattle.blk_trace.specs.Laws.{IsAccounted}
 use Rattle.blk_trace.proofs.Pushing.{entered_more}
 use Rattle.blk_trace.proofs.More.{issued_more, released_more}
-use Rattle.blk_trace.specs.Inside.Kept.{IsOpenBy}
 use Rattle.blk_trace.proofs.Returning.{IsReturned, returned, IsOut, returned_ids, open_by}
 use Rattle.blk_trace.proofs.Returns.{open_issued}
 use Rattle.blk_trace.proofs.Ids.{by_legal, all_back, released_has, has_issued, not_released, not_issued, has_issued_more, released_first}

@@ -10,7 +10,8 @@ use Rattle.blk_trace.specs.Setups.{Setup}
 use Rattle.blk_trace.specs.Events.{open_count, IsIssued, IsOpen}
 use Rattle.blk_trace.specs.Legal.{IsLegalTrace}
 use Rattle.blk_trace.specs.Rules.{Obeys, IsUnbroken}
-use Rattle.blk_trace.specs.Standing.{Entered, unissued_at, IsAllowed, MayEnd, places_of}
+use Rattle.blk_trace.specs.Waits.{Entered, unissued_at}
+use Rattle.blk_trace.specs.Inside.Allowed.{IsAllowed, MayEnd, places_of}
 use Rattle.blk_trace.proofs.Words.{OnlyEnds, only_ends, if_some}
 use Rattle.blk_trace.proofs.Room.{room_kept, room_issue, room_end}
 use Rattle.blk_trace.proofs.Ids.{has_released, issued_was, back_all}

@@ -18,7 +18,7 @@ use Rattle.blk_trace.specs.Setups.{Setup, IsSetup, expire_of}
 use Rattle.blk_trace.specs.Events.{round_of, goes_back, request_of, IsReleased}
 use Rattle.blk_trace.specs.Legal.{IsLegalTrace}
 use Rattle.blk_trace.specs.Meaning.{service, served, issued_ids, command_of, commands_of, rounds_of}
-use Rattle.blk_trace.specs.Standing.{has_id}
+use Rattle.blk_trace.specs.Waits.{has_id}
 use Rattle.blk_trace.specs.Laws.{AreBounded}
 use Rattle.blk_trace.proofs.More.{round_cons, rounds_within}
 use Rattle.blk_trace.proofs.Ids.{has_issued, released_first, released_has}

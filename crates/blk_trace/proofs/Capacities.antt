@@ -1,5 +1,5 @@
 -- The depths of a legal list, and how those that are kept stand with one more event.
-use Rattle.std.proofs.Common.{◌≡◌, ◌≤◌, ◌<◌, ◌+◌, ◌++◌, ℕ, List, [], ◌∷◌, refl, sym, ◌∙◌, ap, subst, arith, cond, nat_le, inl, inr, false, Some, None}
+use Rattle.std.proofs.Common.{◌≡◌, ◌≤◌, ◌<◌, ◌+◌, ◌++◌, ℕ, List, [], ◌∷◌, length, refl, sym, ◌∙◌, ap, subst, arith, cond, nat_le, inl, inr, false, Some, None}
 use Rattle.std.specs.Prelude.{Option}
 use Rattle.std.proofs.lemmas.Bool.{cond-true, le-leb, cases_lt}
 use Rattle.edd_check.specs.Capacity.{depth_at}
@@ -9,10 +9,12 @@ use Rattle.blk_trace.specs.Kinds.{sets_depth, is_tick}
 use Rattle.blk_trace.specs.Setups.{Setup}
 use Rattle.blk_trace.specs.Events.{At, round_of, round_at}
 use Rattle.blk_trace.specs.Meaning.{timed}
-use Rattle.blk_trace.specs.Depths.{changes_of, depth_in, depth_now}
+use Rattle.blk_trace.specs.Depths.{changes_of, depth_in, depth_now, IsLastBefore, HasNoneBefore}
 use Rattle.blk_trace.specs.Legal.{IsLegalTrace}
 use Rattle.blk_trace.specs.Rules.{IsUnbroken}
 use Rattle.blk_trace.specs.Inside.Kept.{HasDepths}
+use Rattle.std.proofs.lemmas.Option.{slice_get_within}
+use Rattle.blk_trace.proofs.Places.{split, keep, last, before, before_last}
 use Rattle.blk_trace.proofs.Words.{some_of}
 use Rattle.blk_trace.proofs.More.{round_more}
 use Rattle.blk_trace.proofs.Depths.{depth_kept, depth_set, depth_past, depth_now_is}
@@ -115,3 +117,60 @@ depths_set setup es zs n m d old hz =
 
 pub depths_same : (setup : Setup) (es zs : List Happened) (n m : ℕ) → HasDepths setup es n m → zs ≡ es → HasDepths setup zs n m
 depths_same setup es zs n m old hz = subst (λ l. HasDepths setup l n m) (sym hz) old
+
+-- only a Depth sets a depth
+depth_event : (e : Happened) (n : ℕ) → sets_depth e ≡ Some n → e ≡ DepthSet n
+depth_event (DepthSet m) n h = let same : m ≡ n = cc in ap DepthSet same
+depth_event e n h = absurd (cc)
+
+-- a round's depth, by places
+last_step : (setup : Setup) (l : List Happened) (e : Happened) → ((k d x : ℕ) → IsLastBefore l k d x → depth_in setup l x ≡ d) → (k d x : ℕ) → IsLastBefore (l ++ e ∷ []) k d x → depth_in setup (l ++ e ∷ []) x ≡ d
+last_step setup l e ih k d x is = by_set (sets_depth e) refl
+  where
+    here : (n : ℕ) → sets_depth e ≡ Some n → At (l ++ e ∷ []) (length l) (DepthSet n)
+    here n s = last l e ∙ ap Some (depth_event e n s)
+
+    there : round_at (l ++ e ∷ []) (length l) ≡ round_of l
+    there = ap round_of (before_last l e (length l) refl)
+
+    was : At l k (DepthSet d) → IsLastBefore l k d x
+    was at = record {
+      stands = at;
+      sooner = omega (arith, is.sooner, ap round_of (before l (e ∷ []) k _ at));
+      last = λ j n h p. omega (arith, is.last j n h (keep l (e ∷ []) j _ p), ap round_of (before l (e ∷ []) j _ p));
+    }
+
+    by_set : (o : Option ℕ) → sets_depth e ≡ o → depth_in setup (l ++ e ∷ []) x ≡ d
+    by_set None s = elim (split l e k _ is.stands) [
+      | inl p ↦ depth_kept setup l e x s ∙ ih k d x (was p)
+      | inr p ↦ absurd (let q : sets_depth e ≡ Some d = ap sets_depth p.1 in cc)
+    ]
+    by_set (Some n) s = elim (cases_lt (round_of l) x) [
+      | inl b ↦ elim (split l e k _ is.stands) [
+        | inl p ↦ absurd (omega (arith, b, there, is.last (length l) n (slice_get_within l k _ p) (here n s)))
+        | inr p ↦ set_later setup l e d x (ap sets_depth p.1) b
+      ]
+      | inr b ↦ elim (split l e k _ is.stands) [
+        | inl p ↦ depth_past setup l e x b ∙ ih k d x (was p)
+        | inr p ↦ absurd (omega (arith, b, there, is.sooner, ap (round_at (l ++ e ∷ [])) p.0))
+      ]
+    ]
+
+pub depth_last : (setup : Setup) (es : List Happened) (k d x : ℕ) → IsLastBefore es k d x → depth_in setup es x ≡ d
+depth_last setup es = by_events (λ l. (k d x : ℕ) → IsLastBefore l k d x → depth_in setup l x ≡ d) (λ k d x is. absurd (let h = is.stands in cc)) (λ l e ih. last_step setup l e ih) es
+
+none_step : (setup : Setup) (l : List Happened) (e : Happened) → ((x : ℕ) → HasNoneBefore l x → depth_in setup l x ≡ setup.depth) → (x : ℕ) → HasNoneBefore (l ++ e ∷ []) x → depth_in setup (l ++ e ∷ []) x ≡ setup.depth
+none_step setup l e ih x none = by_set (sets_depth e) refl
+  where
+    was : HasNoneBefore l x
+    was j n p = omega (arith, none j n (keep l (e ∷ []) j _ p), ap round_of (before l (e ∷ []) j _ p))
+
+    by_set : (o : Option ℕ) → sets_depth e ≡ o → depth_in setup (l ++ e ∷ []) x ≡ setup.depth
+    by_set None s = depth_kept setup l e x s ∙ ih x was
+    by_set (Some n) s = elim (cases_lt (round_of l) x) [
+      | inl b ↦ absurd (omega (arith, b, none (length l) n (last l e ∙ ap Some (depth_event e n s)), ap round_of (before_last l e (length l) refl)))
+      | inr b ↦ depth_past setup l e x b ∙ ih x was
+    ]
+
+pub depth_none : (setup : Setup) (es : List Happened) (x : ℕ) → HasNoneBefore es x → depth_in setup es x ≡ setup.depth
+depth_none setup es = by_events (λ l. (x : ℕ) → HasNoneBefore l x → depth_in setup l x ≡ setup.depth) (λ x none. depth_start setup x) (λ l e ih. none_step setup l e ih) es

@@ -13,7 +13,7 @@ use Rattle.blk_trace.specs.Events.{IsReleased}
 use Rattle.blk_trace.specs.Legal.{IsLegalTrace}
 use Rattle.blk_trace.specs.Rules.{IsUnbroken}
 use Rattle.blk_trace.specs.Meaning.{issued_ids, released_ids, put_rising, rising, waiting_ids}
-use Rattle.blk_trace.specs.Standing.{has_id, waiting_count}
+use Rattle.blk_trace.specs.Waits.{has_id, waiting_count}
 use Rattle.blk_trace.proofs.Pushing.{shorter_legal, obeys}
 use Rattle.blk_trace.proofs.More.{issued_more, released_more}
 use Rattle.blk_trace.proofs.Ids.{by_legal, released_has, not_released, not_issued, all_back, has_released_more, has_issued_more, released_first}

@@ -23,7 +23,7 @@ use Rattle.blk_trace.specs.Events.{join_up, request_of, IsReleased}
 use Rattle.blk_trace.specs.Legal.{IsLegalTrace}
 use Rattle.blk_trace.specs.Rules.{IsUnbroken}
 use Rattle.blk_trace.specs.Meaning.{issued_ids, released_ids, release_of, due_of}
-use Rattle.blk_trace.specs.Standing.{Entered, has_id, waits_at}
+use Rattle.blk_trace.specs.Waits.{Entered, has_id, waits_at}
 use Rattle.blk_trace.specs.Inside.Gathered.{waiting_bios, bios_unless, enters_to_stay, with_event, Takes}
 use Rattle.blk_trace.specs.Inside.Kept.{is_gone}
 use Rattle.blk_trace.specs.Seen.{happened}

@@ -13,7 +13,7 @@ use Rattle.blk_trace.specs.Events.{At, goes_back, IsReleased, IsIssued, AreHande
 use Rattle.blk_trace.specs.Legal.{IsLegalTrace}
 use Rattle.blk_trace.specs.Rules.{IsUnbroken}
 use Rattle.blk_trace.specs.Meaning.{service, served, issued_ids, released_ids}
-use Rattle.blk_trace.specs.Standing.{has_id, was_issued}
+use Rattle.blk_trace.specs.Waits.{has_id, was_issued}
 use Rattle.blk_trace.proofs.Places.{of_take}
 use Rattle.blk_trace.proofs.Words.{release_of_id, issue_is}
 use Rattle.blk_trace.proofs.Pushing.{shorter_legal, obeys}

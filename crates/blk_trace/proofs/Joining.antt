@@ -10,7 +10,7 @@ use Rattle.blk_bio.specs.Requests.{dir_of, first_of, last_of, sectors_of, Fits}
 use Rattle.blk_bio.proofs.Tiles.{last-append}
 use Rattle.blk_trace.specs.declared.known.Waiting.{Waiting}
 use Rattle.blk_trace.specs.Events.{join_up}
-use Rattle.blk_trace.specs.Standing.{Entered}
+use Rattle.blk_trace.specs.Waits.{Entered}
 use Rattle.blk_trace.specs.Inside.Kept.{summary}
 
 same_kept : (d d' : Dir) (f f' e e' s s' b b' r u : ℕ) → d ≡ d' → f ≡ f' → e ≡ e' → s ≡ s' → b ≡ b'

@@ -19,13 +19,13 @@ use Rattle.blk_trace.specs.declared.rule.TraceRule.TheVariants.{InFlight, NotIss
 use Rattle.blk_trace.specs.Happened.{Happened, Ticked, Released, Joined, Issued, Finished, Returned, DepthSet}
 use Rattle.blk_trace.specs.Kinds.{releases, joins}
 use Rattle.blk_trace.specs.Setups.{Setup, IsSetup, expire_of}
-use Rattle.blk_trace.specs.Events.{round_of, open_count, entered, bios_of, join_up, request_of}
+use Rattle.blk_trace.specs.Events.{round_of, open_count, entered, bios_of, join_up, request_of, IsOpenBy}
 use Rattle.blk_trace.specs.Legal.{IsLegalTrace}
 use Rattle.blk_trace.specs.Rules.{IsUnbroken}
 use Rattle.blk_trace.specs.Meaning.{release_of, due_of, served, commands_of, rounds_of, issued_ids, released_ids}
-use Rattle.blk_trace.specs.Standing.{Entered, has_id, waits_at}
+use Rattle.blk_trace.specs.Waits.{Entered, has_id, waits_at}
 use Rattle.blk_trace.specs.Traces.{IsPreparedFor}
-use Rattle.blk_trace.specs.Inside.Kept.{IsKept, HasRoom, summary, known_of, has_bio_id, event_room, request_room, bio_room, IsTagUse, IsOpenBy}
+use Rattle.blk_trace.specs.Inside.Kept.{IsKept, HasRoom, summary, known_of, has_bio_id, event_room, request_room, bio_room, IsTagUse}
 use Rattle.blk_trace.proofs.Pushing.{push_legal, empty_legal}
 use Rattle.blk_trace.proofs.More.{round_more}
 use Rattle.blk_trace.proofs.Room.{open_kept, open_issue, open_end}

@@ -11,11 +11,11 @@ use Rattle.blk_trace.specs.declared.rule.TraceRule.TheVariants.{ReleasedTwice, A
 use Rattle.blk_trace.specs.Happened.{Happened, Released, Joined, Issued, Returned}
 use Rattle.blk_trace.specs.Kinds.{releases, joins, issues, hands_back}
 use Rattle.blk_trace.specs.Setups.{Setup, expire_of}
-use Rattle.blk_trace.specs.Events.{round_of, join_up, request_of, IsReleased, IsIssued, AreHandedBack}
+use Rattle.blk_trace.specs.Events.{round_of, join_up, request_of, IsReleased, IsIssued, AreHandedBack, IsOpenBy}
 use Rattle.blk_trace.specs.Legal.{IsLegalTrace}
 use Rattle.blk_trace.specs.Meaning.{issued_ids, released_ids, release_of, due_of}
-use Rattle.blk_trace.specs.Standing.{Entered, has_id, waits_at, was_issued}
-use Rattle.blk_trace.specs.Inside.Kept.{summary, kept_of, known_of, rounds_in, is_gone, IsOpenBy}
+use Rattle.blk_trace.specs.Waits.{Entered, has_id, waits_at, was_issued}
+use Rattle.blk_trace.specs.Inside.Kept.{summary, kept_of, known_of, rounds_in, is_gone}
 use Rattle.blk_trace.proofs.More.{was_issued_more}
 use Rattle.blk_trace.proofs.Entering.{has_issued_same}
 use Rattle.blk_trace.proofs.Unissued.{was_kept}

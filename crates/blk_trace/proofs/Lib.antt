@@ -32,4 +32,5 @@ pub mod Keeping
 pub mod Gathering
 pub mod Rising
 pub mod Bounds
+pub mod Seated
 mod Timing

@@ -12,7 +12,8 @@ use Rattle.blk_trace.specs.Kinds.{releases, issues, hands_back, is_done_of, ente
 use Rattle.blk_trace.specs.Setups.{Setup}
 use Rattle.blk_trace.specs.Events.{is_tick, round_of, goes_back, join_up, request_of}
 use Rattle.blk_trace.specs.Meaning.{timed, entry_round, entry_due, release_of, due_of, service, served, issued_ids, released_ids, rounds_of, greatest, least}
-use Rattle.blk_trace.specs.Standing.{after_last_tick, this_round, was_issued}
+use Rattle.blk_trace.specs.Waits.{was_issued}
+use Rattle.blk_trace.specs.Inside.Seats.{after_last_tick, this_round}
 
 -- the released ids
 pub released_more : (es fs : List Happened) → released_ids (es ++ fs) ≡ released_ids es ++ released_ids fs

@@ -11,12 +11,13 @@ use Rattle.blk_bio.specs.Requests.{dir_of}
 use Rattle.blk_trace.specs.declared.rule.TraceRule.TheVariants.{TagUsed, InFlight, Unknown, AlreadyIssued}
 use Rattle.blk_trace.specs.Happened.{Happened, Ticked, Released, Joined, Issued, Finished}
 use Rattle.blk_trace.specs.Kinds.{issues, ends, is_issue, is_end}
-use Rattle.blk_trace.specs.Setups.{Setup}
+use Rattle.blk_trace.specs.Setups.{Setup, same_dir}
 use Rattle.blk_trace.specs.Events.{is_tick, open_count, request_of, IsOpen}
 use Rattle.blk_trace.specs.Meaning.{release_of, due_of}
 use Rattle.blk_trace.specs.Legal.{IsLegalTrace}
 use Rattle.blk_trace.specs.Rules.{IsUnbroken}
-use Rattle.blk_trace.specs.Standing.{Entered, Seat, waits_at, seat_at, this_round, issued_by, issue_tag, same_dir, is_flying, open_of}
+use Rattle.blk_trace.specs.Waits.{Entered, waits_at}
+use Rattle.blk_trace.specs.Inside.Seats.{Seat, seat_at, this_round, issued_by, issue_tag, is_flying, open_of}
 use Rattle.blk_trace.proofs.Words.{OnlyEnds, only_ends, no_tag}
 use Rattle.blk_trace.proofs.Pushing.{shorter_legal, obeys}
 use Rattle.blk_trace.proofs.More.{more_of}

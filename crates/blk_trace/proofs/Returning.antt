@@ -11,12 +11,12 @@ use Rattle.blk_trace.specs.declared.rule.TraceRule.TheVariants.{TagUsed, Already
 use Rattle.blk_trace.specs.Happened.{Happened, Issued, Returned}
 use Rattle.blk_trace.specs.Kinds.{issues, ends, hands_back, is_done_of, is_tick}
 use Rattle.blk_trace.specs.Setups.{Setup}
-use Rattle.blk_trace.specs.Events.{At, EndsAt, goes_back, IsOpen, IsUsed}
+use Rattle.blk_trace.specs.Events.{At, EndsAt, goes_back, IsOpen, IsUsed, IsOpenBy}
 use Rattle.blk_trace.specs.Legal.{IsLegalTrace}
 use Rattle.blk_trace.specs.Rules.{IsUnbroken}
 use Rattle.blk_trace.specs.Meaning.{service, served, issued_ids, rounds_of}
-use Rattle.blk_trace.specs.Standing.{has_id, issued_by}
-use Rattle.blk_trace.specs.Inside.Kept.{IsOpenBy}
+use Rattle.blk_trace.specs.Waits.{has_id}
+use Rattle.blk_trace.specs.Inside.Seats.{issued_by}
 use Rattle.blk_trace.proofs.Words.{issue_is, done_by, some_of}
 use Rattle.blk_trace.proofs.More.{issued_more}
 use Rattle.blk_trace.proofs.Ids.{by_legal, all_back}

@@ -7,11 +7,10 @@ use Rattle.std.proofs.lemmas.Option.{slice_get_within}
 use Rattle.edd_check.specs.declared.Command.{Command}
 use Rattle.blk_trace.specs.Happened.{Happened, Returned}
 use Rattle.blk_trace.specs.Setups.{Setup}
-use Rattle.blk_trace.specs.Events.{request_of, IsReleased, IsIssued}
+use Rattle.blk_trace.specs.Events.{request_of, IsReleased, IsIssued, IsOpenBy}
 use Rattle.blk_trace.specs.Legal.{IsLegalTrace}
 use Rattle.blk_trace.specs.Meaning.{release_of, due_of, issued_ids, released_ids, command_of, commands_of, rounds_of}
-use Rattle.blk_trace.specs.Standing.{Entered, has_id, waits_at, was_issued, unissued_at, waiting_count}
-use Rattle.blk_trace.specs.Inside.Kept.{IsOpenBy}
+use Rattle.blk_trace.specs.Waits.{Entered, has_id, waits_at, was_issued, unissued_at, waiting_count}
 use Rattle.blk_trace.proofs.More.{released_more}
 use Rattle.blk_trace.proofs.Ids.{released_has, released_first, issued_was}
 use Rattle.blk_trace.proofs.Entering.{IsSame, same_entered, has_released_same}

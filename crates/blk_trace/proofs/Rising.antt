@@ -16,7 +16,7 @@ use Rattle.blk_trace.specs.Setups.{Setup}
 use Rattle.blk_trace.specs.Events.{request_of}
 use Rattle.blk_trace.specs.Legal.{IsLegalTrace}
 use Rattle.blk_trace.specs.Meaning.{released_ids, issued_ids, put_rising, rising, waiting_ids, waiting_of}
-use Rattle.blk_trace.specs.Standing.{Entered, has_id, waits_at}
+use Rattle.blk_trace.specs.Waits.{Entered, has_id, waits_at}
 use Rattle.blk_trace.specs.Inside.Gathered.{waiting_bios}
 use Rattle.blk_trace.proofs.Counting.{one_if, count-cons, released_times}
 use Rattle.blk_trace.proofs.Waiting.{IsWaiting, waiting_from}

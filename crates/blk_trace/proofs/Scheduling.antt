@@ -13,7 +13,8 @@ use Rattle.blk_trace.specs.Legal.{IsLegalTrace}
 use Rattle.blk_trace.specs.Rules.{IsUnbroken}
 use Rattle.blk_trace.specs.Events.{is_tick, round_of, round_at, request_of, IsOpen}
 use Rattle.blk_trace.specs.Meaning.{served, issued_ids, release_of, due_of, command_of, commands_of, rounds_of}
-use Rattle.blk_trace.specs.Standing.{Entered, waits_at, this_round}
+use Rattle.blk_trace.specs.Waits.{Entered, waits_at}
+use Rattle.blk_trace.specs.Inside.Seats.{this_round}
 use Rattle.blk_trace.specs.Laws.{IsScheduled}
 use Rattle.blk_trace.proofs.More.{round_more}
 use Rattle.blk_trace.proofs.Pushing.{shorter_legal, obeys}

@@ -10,7 +10,8 @@ use Rattle.std.proofs.lemmas.Option.{slice_get_within}
 use Rattle.blk_trace.specs.Happened.{Happened, Ticked, Issued}
 use Rattle.blk_trace.specs.Kinds.{ends}
 use Rattle.blk_trace.specs.Events.{At, is_tick, round_of, round_at, IsOpen, IsUsed}
-use Rattle.blk_trace.specs.Standing.{this_round, issued_by, is_done_of, first_id}
+use Rattle.blk_trace.specs.Kinds.{is_done_of}
+use Rattle.blk_trace.specs.Inside.Seats.{this_round, issued_by, first_id}
 use Rattle.blk_trace.proofs.Places.{split, keep, last, before, before_last}
 use Rattle.blk_trace.proofs.Words.{keep_end, split_end}
 use Rattle.blk_trace.proofs.More.{now_more, round_more}

@@ -12,7 +12,9 @@ use Rattle.blk_trace.specs.Setups.{Setup}
 use Rattle.blk_trace.specs.Events.{is_tick, request_of, IsOpen, IsUsed}
 use Rattle.blk_trace.specs.Legal.{IsLegalTrace}
 use Rattle.blk_trace.specs.Rules.{IsUnbroken}
-use Rattle.blk_trace.specs.Standing.{Entered, Seat, waits_at, seat_at, this_round, issued_by, is_done_of}
+use Rattle.blk_trace.specs.Kinds.{is_done_of}
+use Rattle.blk_trace.specs.Waits.{Entered, waits_at}
+use Rattle.blk_trace.specs.Inside.Seats.{Seat, seat_at, this_round, issued_by}
 use Rattle.blk_trace.proofs.Words.{OnlyEnds, only_ends, some_of, issued_by_none, done_by_none, done_by, issues_not, ends_not}
 use Rattle.blk_trace.proofs.Pushing.{shorter_legal, obeys}
 use Rattle.blk_trace.proofs.Ids.{by_legal}

@@ -7,9 +7,9 @@ use Rattle.blk_trace.specs.declared.tags.TagUse.TheVariants.{Free, Open, Ended}
 use Rattle.blk_trace.specs.Happened.{Happened, Ticked, Issued}
 use Rattle.blk_trace.specs.Kinds.{issues, ends}
 use Rattle.blk_trace.specs.Setups.{Setup}
-use Rattle.blk_trace.specs.Events.{is_tick, round_of, IsOpen, IsUsed}
+use Rattle.blk_trace.specs.Events.{is_tick, round_of, IsOpen, IsUsed, IsOpenBy}
 use Rattle.blk_trace.specs.Legal.{IsLegalTrace}
-use Rattle.blk_trace.specs.Inside.Kept.{IsOpenBy, IsTagUse, is_open_use}
+use Rattle.blk_trace.specs.Inside.Kept.{IsTagUse, is_open_use}
 use Rattle.std.specs.List.{list_any}
 use Rattle.std.proofs.lemmas.Bool.{or_cases, or_left, or_right}
 use Rattle.blk_trace.proofs.Places.{split, keep, last, before, before_last}

@@ -11,7 +11,7 @@ use Rattle.blk_trace.specs.Kinds.{releases, joins, issues, hands_back, is_done_o
 use Rattle.blk_trace.specs.Setups.{Setup, expire_of}
 use Rattle.blk_trace.specs.Events.{At, round_of, goes_back, join_up}
 use Rattle.blk_trace.specs.Legal.{IsLegalTrace}
-use Rattle.blk_trace.specs.Standing.{Entered, waits_at, was_issued, unissued_at}
+use Rattle.blk_trace.specs.Waits.{Entered, waits_at, was_issued, unissued_at}
 use Rattle.blk_trace.proofs.More.{was_issued_more}
 use Rattle.blk_trace.proofs.Pushing.{shorter_legal, obeys}
 use Rattle.blk_trace.proofs.Ids.{never_was, back_all, released_first}

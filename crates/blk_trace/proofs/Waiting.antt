@@ -14,7 +14,7 @@ use Rattle.blk_trace.specs.Events.{round_of, join_up, request_of, IsReleased}
 use Rattle.blk_trace.specs.Legal.{IsLegalTrace}
 use Rattle.blk_trace.specs.Rules.{IsUnbroken}
 use Rattle.blk_trace.specs.Meaning.{release_of, due_of, issued_ids, released_ids, least}
-use Rattle.blk_trace.specs.Standing.{Entered, has_id, waits_at}
+use Rattle.blk_trace.specs.Waits.{Entered, has_id, waits_at}
 use Rattle.blk_trace.proofs.More.{due_is}
 use Rattle.blk_trace.proofs.Pushing.{shorter_legal, obeys}
 use Rattle.blk_trace.proofs.Ids.{released_has, not_issued, has_released_more, has_issued_more, released_first}

@@ -6,7 +6,8 @@ use Rattle.blk_bio.specs.Bios.{Bio}
 use Rattle.blk_trace.specs.Happened.{Happened, Released, Issued, Finished, Returned}
 use Rattle.blk_trace.specs.Kinds.{releases, joins, issues, ends, hands_back, is_tick}
 use Rattle.blk_trace.specs.Events.{EndsAt}
-use Rattle.blk_trace.specs.Standing.{issued_by, is_done_of, issue_tag}
+use Rattle.blk_trace.specs.Kinds.{is_done_of}
+use Rattle.blk_trace.specs.Inside.Seats.{issued_by, issue_tag}
 use Rattle.blk_trace.proofs.Places.{split, keep}
 
 -- what ends an Issue does nothing else

@@ -1,12 +1,12 @@
 -- How many commands each round of a trace carries.
-use Rattle.std.specs.Prelude.{ℕ, ◌+◌, ◌==◌, Bool, false, cond, List, [], ◌∷◌, Option, option_map}
+use Rattle.std.specs.Prelude.{ℕ, ◌+◌, ◌<◌, ◌≤◌, ◌==◌, Bool, false, cond, List, [], ◌∷◌, Option, option_map}
 use Rattle.std.specs.List.{filter_map}
 use Rattle.edd_check.specs.declared.steps.Step.{Step}
 use Rattle.edd_check.specs.Capacity.{depth_at}
 use Rattle.blk_trace.specs.Happened.{Happened, DepthSet}
 use Rattle.blk_trace.specs.Kinds.{sets_depth}
 use Rattle.blk_trace.specs.Setups.{Setup}
-use Rattle.blk_trace.specs.Events.{At, round_of}
+use Rattle.blk_trace.specs.Events.{At, round_of, round_at}
 use Rattle.blk_trace.specs.Meaning.{timed}
 
 -- from the round after this one on, so many commands
@@ -42,6 +42,16 @@ last_of_each (s ∷ steps) = cond (begins_at steps s.from) (last_of_each steps) 
 -- the steps by which the rounds' depths change
 unfoldable pub capacity_of : Setup → List Happened → List Step
 capacity_of setup events = last_of_each (changes_of setup events)
+
+-- at the place stands a Depth in a round before this one, and after it none
+pub record IsLastBefore (events : List Happened) (place depth round : ℕ) : Type 0 where
+  pub stands : At events place (DepthSet depth)
+  pub sooner : round_at events place < round
+  pub last : (k n : ℕ) → place < k → At events k (DepthSet n) → round ≤ round_at events k
+
+-- each Depth stands in this round or after it
+abbrev pub HasNoneBefore : List Happened → ℕ → Type 0
+HasNoneBefore events round = (k n : ℕ) → At events k (DepthSet n) → round ≤ round_at events k
 
 -- no event sets a depth
 abbrev pub IsFixed : List Happened → Type 0

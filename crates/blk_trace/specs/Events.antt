@@ -69,6 +69,12 @@ pub record IsOpen (events : List Happened) (tag : ℕ) : Type 0 where
   pub issued : At events place (Issued id tag)
   pub not_done : (j : ℕ) → place < j → EndsAt events j tag → ⊥
 
+-- the id has an Issue under the tag that no event after it ends
+pub record IsOpenBy (events : List Happened) (tag id : ℕ) : Type 0 where
+  pub place : ℕ
+  pub issued : At events place (Issued id tag)
+  pub not_done : (j : ℕ) → place < j → EndsAt events j tag → ⊥
+
 -- the tag has an Issue in the round that is still on
 pub record IsUsed (events : List Happened) (tag : ℕ) : Type 0 where
   pub place : ℕ

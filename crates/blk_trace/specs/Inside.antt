@@ -2,3 +2,5 @@
 pub mod Kept
 pub mod Gathered
 pub mod Changing
+pub mod Seats
+pub mod Allowed

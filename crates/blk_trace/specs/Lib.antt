@@ -8,6 +8,7 @@ pub mod Legal
 pub mod Rules
 pub mod Meaning
 pub mod Traces
+pub mod Waits
 pub mod Standing
 pub mod Laws
 pub mod Inside

@@ -4,7 +4,7 @@ ghost use Rattle.std.specs.Prelude.{ℕ, ◌≡◌, ◌<◌, ◌+◌, ◌^◌, I
 ghost use Rattle.blk_bio.specs.declared.request.Side.{Side};
 ghost use Rattle.blk_bio.specs.Requests.{Fits};
 ghost use Rattle.blk_trace.specs.Events.{join_up};
-ghost use Rattle.blk_trace.specs.Standing.{Entered};
+ghost use Rattle.blk_trace.specs.Waits.{Entered};
 ghost use Rattle.blk_trace.specs.Inside.Kept.{summary};
 
 use blk_bio::{Dir, Limits, Request};

@@ -6,7 +6,6 @@ ghost use Rattle.blk_trace.specs.Legal.{IsLegalTrace};
 ghost use Rattle.blk_trace.specs.Rules.{IsUnbroken};
 ghost use Rattle.blk_trace.specs.Events.{round_of, open_count};
 ghost use Rattle.blk_trace.specs.Depths.{depth_now};
-ghost use Rattle.blk_trace.specs.Standing.{IsAllowed, places_of};
 ghost use Rattle.blk_trace.specs.Traces.{wanted, IsPreparedFor, IsPushAnswer, HasBio};
 ghost use Rattle.blk_trace.specs.Seen.{happened};
 
@@ -129,7 +128,6 @@ impl<A: Allocator + Clone> Trace<A> {
         ensures err { IfErr result (λ e. (e.0 ≡ event) × (self.new ≡ self.old)) }
         ensures accepts { IsUnbroken self.old.setup self.old.events (happened event) → IfErr result (λ e. e.1 ≡ PushFault.Memory) }
         ensures accepts_legal { IsLegalTrace self.old.setup (self.old.events ++ happened event ∷ []) → IfErr result (λ e. e.1 ≡ PushFault.Memory) }
-        ensures allowed { IsAllowed self.old.setup self.old.events (happened event) → length self.old.events + open_count self.old.events + places_of (happened event) ≤ MAX_EVENTS → IfErr result (λ e. e.1 ≡ PushFault.Memory) }
         ensures prepared { IfErr result (λ e. e.1 ≡ PushFault.Memory → IsPreparedFor self.old.prepared (happened event) → ⊥) }
     {
         if let Some(rule) = self.first_broken(&event) {

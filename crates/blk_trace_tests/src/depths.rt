@@ -15,12 +15,13 @@ fn of_depth(rt: &impl Abort, depth: u64) -> Setup {
 }
 
 /// The entry of a read that touches no other.
-fn enters(rt: &impl Abort, id: u64) -> Step {
+fn enters(rt: &impl Abort, id: u8) -> Step {
+    let id = id as u64;
     Step::Release(id, bio(rt, Dir::Read, 100 * id, 8))
 }
 
 /// A trace in which so many reads wait.
-fn of_reads<'a>(rt: &impl Abort, heap: Heap<'a>, depth: u64, reads: u64) -> Trace<Heap<'a>> {
+fn of_reads<'a>(rt: &impl Abort, heap: Heap<'a>, depth: u64, reads: u8) -> Trace<Heap<'a>> {
     let mut trace = empty(rt, heap, of_depth(rt, depth));
     for id in 0..reads {
         push_all(rt, heap, &mut trace, &[enters(rt, id)]);

@@ -5,7 +5,7 @@ use crate::given::{
     push_all, setup, standing,
 };
 use blk_bio::Dir;
-use blk_trace::laws::timed_by_the_ticks_before;
+use blk_trace::laws::{depths_by_places, timed_by_the_ticks_before};
 use blk_trace::{Setup, SetupFault, Trace, TraceFault, TraceRule};
 use refusing::Refusing;
 use std::process::Abort;
@@ -130,8 +130,9 @@ fn waiting_by_id_and_sector(rt: HostRuntime) {
     assert!(rt; has_waiting(&rt, &heap, &trace, &[a, b, c]));
 }
 
-/// The law says nothing that runs: it can be called.
+/// The laws say nothing that runs: they can be called.
 #[test]
 fn laws_hold() {
     timed_by_the_ticks_before();
+    depths_by_places();
 }

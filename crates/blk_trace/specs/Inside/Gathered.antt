@@ -10,7 +10,7 @@ use Rattle.blk_trace.specs.Kinds.{releases, joins, enters}
 use Rattle.blk_trace.specs.Setups.{Setup}
 use Rattle.blk_trace.specs.Events.{join_up, request_of}
 use Rattle.blk_trace.specs.Meaning.{released_ids}
-use Rattle.blk_trace.specs.Standing.{has_id, waits_at}
+use Rattle.blk_trace.specs.Waits.{has_id, waits_at}
 
 -- the bios of the request that waits under the id
 abbrev pub waiting_bios : Setup → List Happened → ℕ → Option (List Bio)

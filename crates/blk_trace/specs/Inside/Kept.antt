@@ -12,13 +12,13 @@ use Rattle.blk_trace.specs.declared.tags.TagUse.{TagUse}
 use Rattle.blk_trace.specs.declared.tags.TagUse.TheVariants.{Free, Open, Ended}
 use Rattle.blk_trace.specs.declared.trace.Prepared.{Prepared}
 use Rattle.blk_trace.specs.declared.trace.Prepared.TheVariants.{Nothing, AnIssue, Bios}
-use Rattle.blk_trace.specs.Happened.{Happened, Issued}
+use Rattle.blk_trace.specs.Happened.{Happened}
 use Rattle.blk_trace.specs.Setups.{Setup, IsSetup}
-use Rattle.blk_trace.specs.Events.{At, EndsAt, request_of, round_of, open_count, entered, IsOpen, IsUsed}
+use Rattle.blk_trace.specs.Events.{request_of, round_of, open_count, entered, IsOpen, IsOpenBy, IsUsed}
 use Rattle.blk_trace.specs.Depths.{depth_in, depth_now}
 use Rattle.blk_trace.specs.Legal.{IsLegalTrace}
 use Rattle.blk_trace.specs.Meaning.{commands_of, rounds_of, released_ids, issued_ids}
-use Rattle.blk_trace.specs.Standing.{Entered, has_id, waits_at, was_issued}
+use Rattle.blk_trace.specs.Waits.{Entered, has_id, waits_at, was_issued}
 
 -- what is kept of a request that waits
 abbrev pub summary : Entered → Waiting
@@ -50,12 +50,6 @@ is_bio x y = (x.submitter == y.submitter) && (x.serial == y.serial)
 -- whether a bio of the id is among the bios
 abbrev pub has_bio_id : List Bio → BioId → Bool
 has_bio_id bios id = list_any (λ b. is_bio b.id id) bios
-
--- the id has an Issue under the tag that no event after it ends
-pub record IsOpenBy (events : List Happened) (tag id : ℕ) : Type 0 where
-  pub place : ℕ
-  pub issued : At events place (Issued id tag)
-  pub not_done : (j : ℕ) → place < j → EndsAt events j tag → ⊥
 
 -- how a tag stands: not issued in this round, issued and open, or issued and ended
 abbrev pub IsTagUse : List Happened → ℕ → TagUse → Type 0

@@ -11,8 +11,8 @@ ghost use Rattle.blk_trace.specs.Legal.{IsLegalTrace};
 ghost use Rattle.blk_trace.specs.Rules.{IsUnbroken};
 ghost use Rattle.blk_trace.specs.Traces.{IsPreparedFor};
 ghost use Rattle.blk_trace.specs.Seen.{happened};
-ghost use Rattle.blk_trace.specs.Events.{IsReleased, IsIssued, IsOpen};
-ghost use Rattle.blk_trace.specs.Inside.Kept.{known_of, is_bio, has_bio_id, rounds_in, IsOpenBy};
+ghost use Rattle.blk_trace.specs.Events.{IsReleased, IsIssued, IsOpen, IsOpenBy};
+ghost use Rattle.blk_trace.specs.Inside.Kept.{known_of, is_bio, has_bio_id, rounds_in};
 
 use crate::event::Event;
 use crate::known::{Known, Waiting};

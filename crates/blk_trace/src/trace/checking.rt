@@ -5,7 +5,7 @@ ghost use Rattle.blk_trace.specs.Happened.{Ticked, Released, Joined, Issued, Fin
 ghost use Rattle.blk_trace.specs.Legal.{IsLegalTrace};
 ghost use Rattle.blk_trace.specs.Rules.{IsFirstBroken, IsUnbroken};
 ghost use Rattle.blk_trace.specs.Events.{entered, open_count, IsReleased, AreHandedBack, IsOpen, IsUsed, AreOnce};
-ghost use Rattle.blk_trace.specs.Standing.{Entered, waits_at};
+ghost use Rattle.blk_trace.specs.Waits.{Entered, waits_at};
 ghost use Rattle.std.specs.List.{list_any};
 ghost use Rattle.std.specs.HashSet as hash_set;
 ghost use Rattle.blk_trace.specs.Inside.Kept.{known_of, IsTagUse, is_bio, has_bio_id};

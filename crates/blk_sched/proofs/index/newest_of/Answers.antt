@@ -1,20 +1,19 @@
 use Rattle.std.specs.FinMap as map
-use Rattle.std.specs.BTreeSet.{contains}
-use Rattle.blk_sched.specs.Inside.Spots.{spot_cmp}
+use Rattle.blk_sched.specs.Inside.Edges.{spots_in}
 use Rattle.blk_sched.proofs.Walk.{newest_by, passed_more, none_by}
 use Rattle.blk_sched.proofs.index.newest_of.Goals as goal
 
 pub returns-then-fits_by-clause-some : goal.returns-then-fits_by-clause-some
 returns-then-fits_by-clause-some g c =
-    newest_by c.args.limits.now (map.get c.args.waiting.now) (contains spot_cmp c.args.spots.now) c.args.newcomer.now c.args.side c.touched-place.result c.requires c.touched-place.ensures.value
+    newest_by c.args.limits.now (map.get c.args.waiting.now) (spots_in c.args.spots.now) c.args.newcomer.now c.args.side c.touched-place.result c.requires c.touched-place.ensures.value
     c.loop-id.below c.in-Some.id c.in-Some.ensures.some c.loop-id.invariant c.if-fits_by.ensures.yes
 
 pub loop-id-preserved : goal.loop-id-preserved
 loop-id-preserved g c =
-    passed_more c.args.limits.now (map.get c.args.waiting.now) (contains spot_cmp c.args.spots.now) c.args.newcomer.now c.args.side c.touched-place.result c.requires c.touched-place.ensures.value
+    passed_more c.args.limits.now (map.get c.args.waiting.now) (spots_in c.args.spots.now) c.args.newcomer.now c.args.side c.touched-place.result c.requires c.touched-place.ensures.value
     c.loop-id.below c.in-Some.id c.in-Some.ensures.some c.loop-id.invariant c.if-fits_by.ensures.no
 
 pub returns-clause-none : goal.returns-clause-none
 returns-clause-none g c =
-    none_by c.args.limits.now (map.get c.args.waiting.now) (contains spot_cmp c.args.spots.now) c.args.newcomer.now c.args.side c.touched-place.result c.requires c.touched-place.ensures.value
+    none_by c.args.limits.now (map.get c.args.waiting.now) (spots_in c.args.spots.now) c.args.newcomer.now c.args.side c.touched-place.result c.requires c.touched-place.ensures.value
     c.loop-id.below c.in_default.ensures.none c.loop-id.invariant

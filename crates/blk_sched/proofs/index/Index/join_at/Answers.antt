@@ -1,10 +1,11 @@
-use Rattle.std.proofs.Common.{sym, subst, ap}
+use Rattle.std.proofs.Common.{sym, subst}
 use Rattle.std.specs.Prelude.{OnOk}
 use Rattle.std.specs.FinMap as map
 use Rattle.std.specs.BTreeSet.{contains}
 use Rattle.blk_sched.specs.Meaning.{Pending}
 use Rattle.blk_sched.specs.Fits.{HasFit}
 use Rattle.blk_sched.specs.Inside.Spots.{spot_cmp}
+use Rattle.blk_sched.specs.Inside.Edges.{spots_in}
 use Rattle.blk_sched.specs.Index.{IsJoined}
 use Rattle.blk_sched.proofs.Join.{index_back, index_front}
 use Rattle.blk_sched.proofs.index.Index.join_at.Goals as goal
@@ -19,14 +20,14 @@ pub invariant_of-self : goal.invariant_of-self
 invariant_of-self g c =
     index_back c.args.limits.now c.self.inside.waiting c.join_in.new.waiting c.args.id c.args.now c.args.side c.args.newcomer
     (subst (λ (m : Pending). HasFit c.args.limits.now (map.get m) c.args.newcomer c.args.id c.args.side) (sym c.self.view_is) c.requires)
-    c.join_in.result (contains spot_cmp c.self.inside.edges.firsts) (contains spot_cmp c.self.inside.edges.ends) (contains spot_cmp c.self.inside.edges.ages) (contains spot_cmp c.join_in.new.spots)
+    c.join_in.result (spots_in c.self.inside.edges.firsts) (spots_in c.self.inside.edges.ends) (contains spot_cmp c.self.inside.edges.ages) (spots_in c.join_in.new.spots)
     c.in-Back.is c.self.invariant c.join_in.ensures.spots c.join_in.ensures.joined c.join_in.ensures.same
 
 pub invariant_of-self-in-Front : goal.invariant_of-self-in-Front
 invariant_of-self-in-Front g c =
     index_front c.args.limits.now c.self.inside.waiting c.join_in-in-Front.new.waiting c.args.id c.args.now c.args.side c.args.newcomer
     (subst (λ (m : Pending). HasFit c.args.limits.now (map.get m) c.args.newcomer c.args.id c.args.side) (sym c.self.view_is) c.requires)
-    c.join_in-in-Front.result (contains spot_cmp c.self.inside.edges.firsts) (contains spot_cmp c.self.inside.edges.ends) (contains spot_cmp c.self.inside.edges.ages) (contains spot_cmp c.join_in-in-Front.new.spots)
+    c.join_in-in-Front.result (spots_in c.self.inside.edges.firsts) (spots_in c.self.inside.edges.ends) (contains spot_cmp c.self.inside.edges.ages) (spots_in c.join_in-in-Front.new.spots)
     c.in-Front.is c.self.invariant c.join_in-in-Front.ensures.spots c.join_in-in-Front.ensures.joined c.join_in-in-Front.ensures.same
 
 pub returns-in-Back-clause-joined : goal.returns-in-Back-clause-joined

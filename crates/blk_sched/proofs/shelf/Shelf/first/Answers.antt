@@ -1,4 +1,3 @@
-use Rattle.std.proofs.Common.{sym}
 use Rattle.slab.specs.Slab as slab
 use Rattle.blk_sched.proofs.Shelving.{none_by, least_by}
 use Rattle.blk_sched.proofs.shelf.Shelf.first.Goals as goal

@@ -7,13 +7,12 @@ use Rattle.blk_trace.specs.declared.known.Known.TheVariants.{Handed}
 use Rattle.blk_trace.specs.declared.event.Event.TheVariants.{Back}
 use Rattle.blk_trace.specs.declared.rule.TraceRule.TheVariants as rule
 use Rattle.blk_trace.specs.Happened.{Happened, Returned}
-use Rattle.blk_trace.specs.Events.{IsOpen}
+use Rattle.blk_trace.specs.Events.{IsOpen, IsOpenBy}
 use Rattle.blk_trace.specs.Legal.{IsLegalTrace}
 use Rattle.blk_trace.specs.Rules.{IsUnbroken}
 use Rattle.blk_trace.proofs.Pushing.{push_legal}
 use Rattle.blk_trace.specs.Traces.{Traced}
 use Rattle.blk_trace.specs.Seen.{happened}
-use Rattle.blk_trace.specs.Inside.Kept.{IsOpenBy}
 use Rattle.blk_trace.proofs.Opening.{open_positive}
 use Rattle.blk_trace.proofs.Returns.{IsDropped, dropped}
 use Rattle.blk_trace.proofs.Capacities.{tag_below, depths_kept}

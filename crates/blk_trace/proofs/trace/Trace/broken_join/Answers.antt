@@ -13,7 +13,7 @@ use Rattle.blk_bio.specs.Requests.{Fits}
 use Rattle.std.proofs.Common.{length}
 use Rattle.blk_trace.specs.declared.known.Waiting.{Waiting}
 use Rattle.blk_trace.specs.Setups.{Setup}
-use Rattle.blk_trace.specs.Standing.{Entered}
+use Rattle.blk_trace.specs.Waits.{Entered}
 use Rattle.blk_trace.specs.Inside.Kept.{summary}
 use Rattle.blk_trace.proofs.Joining.{fits_to}
 use Rattle.blk_trace.specs.Events.{request_of, join_up}

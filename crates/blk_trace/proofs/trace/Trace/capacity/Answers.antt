@@ -4,7 +4,7 @@ use Rattle.edd_check.specs.Capacity.{IsCapacity}
 use Rattle.blk_trace.specs.Happened.{Happened}
 use Rattle.blk_trace.specs.Depths.{capacity_of}
 use Rattle.blk_trace.specs.Seen.{happened}
-use Rattle.blk_trace.proofs.Changes.{capacity_steps, no_fault}
+use Rattle.blk_trace.proofs.Changes.{capacity_steps, capacity_depth, no_fault}
 use Rattle.blk_trace.proofs.trace.Trace.capacity.Goals as goal
 
 pub unreachable-requires : goal.unreachable-requires
@@ -13,3 +13,12 @@ unreachable-requires g c =
     let es : List Happened = map happened s.events.items in
     let is : c.in_ok-steps.steps.items ≡ capacity_of s.setup es = c.in_ok-steps.ensures ∙ ap (λ l. capacity_of s.setup (map happened l)) c.as_slice.ensures.value in
     no_fault c.in_ok-steps.steps.items c.in-Err.field-0 (subst (λ (l : List Step). IsCapacity l) (sym is) (capacity_steps s.setup es c.self.invariant.0.ranges c.self.invariant.0.legal)) c.in-Err.ensures.refused
+
+pub returns-in_err-alloc-clause-each : goal.returns-in_err-alloc-clause-each
+returns-in_err-alloc-clause-each g c = λ round. capacity_depth c.args.self.now.setup c.args.self.now.events round
+
+pub returns-in_err-steps-clause-each : goal.returns-in_err-steps-clause-each
+returns-in_err-steps-clause-each g c = λ round. capacity_depth c.args.self.now.setup c.args.self.now.events round
+
+pub returns-clause-each : goal.returns-clause-each
+returns-clause-each g c = λ round. capacity_depth c.args.self.now.setup c.args.self.now.events round

@@ -1,5 +1,5 @@
 use Rattle.std.proofs.Common.{◌≡◌, ◌<◌, Some, length, map, subst}
-use Rattle.blk_trace.specs.Standing.{Entered, waits_at}
+use Rattle.blk_trace.specs.Waits.{Entered, waits_at}
 use Rattle.blk_trace.specs.Seen.{happened}
 use Rattle.blk_trace.specs.Traces.{Traced}
 use Rattle.blk_trace.proofs.Keeping.{some_waiting}

@@ -3,16 +3,11 @@ use Rattle.blk_trace.specs.declared.trace.Prepared.TheVariants.{Nothing}
 use Rattle.blk_trace.specs.Seen.{happened}
 use Rattle.blk_trace.proofs.Pushing.{obeys}
 use Rattle.blk_trace.specs.Legal.{IsLegalTrace}
-use Rattle.blk_trace.proofs.Allowed.{allowed-unbroken}
 use Rattle.blk_trace.proofs.trace.Trace.push.Goals as goal
 
 pub returns-in-Some-clause-accepts_legal : goal.returns-in-Some-clause-accepts_legal
 returns-in-Some-clause-accepts_legal g c =
     λ legal. absurd (c.in-Some.ensures.some.broken (obeys c.args.self.now.setup c.args.self.now.events (happened c.args.event) legal c.in-Some.rule))
-
-pub returns-in-Some-clause-allowed : goal.returns-in-Some-clause-allowed
-returns-in-Some-clause-allowed g c =
-    λ may room. absurd (c.in-Some.ensures.some.broken (allowed-unbroken c.args.self.now.setup c.args.self.now.events (happened c.args.event) c.in-Some.ensures.legal may room c.in-Some.rule))
 
 pub returns-clause-ok : goal.returns-clause-ok
 returns-clause-ok g c =

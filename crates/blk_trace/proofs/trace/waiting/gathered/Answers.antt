@@ -7,7 +7,7 @@ use Rattle.std.specs.Ordering.{nat_cmp}
 use Rattle.std.specs.BTreeMap.{get, is_at}
 use Rattle.blk_trace.specs.Happened.{Happened}
 use Rattle.blk_trace.specs.Meaning.{issued_ids}
-use Rattle.blk_trace.specs.Standing.{has_id}
+use Rattle.blk_trace.specs.Waits.{has_id}
 use Rattle.blk_trace.specs.Inside.Gathered.{bios_unless, enters_to_stay}
 use Rattle.blk_trace.specs.Inside.Kept.{is_gone}
 use Rattle.blk_trace.specs.Seen.{happened}

@@ -2,7 +2,7 @@ use Rattle.std.proofs.Common.{ℕ, ◌≡◌, map, take}
 use Rattle.std.specs.Ordering.{nat_cmp}
 use Rattle.std.specs.BTreeMap.{get}
 use Rattle.blk_trace.specs.Meaning.{issued_ids}
-use Rattle.blk_trace.specs.Standing.{has_id}
+use Rattle.blk_trace.specs.Waits.{has_id}
 use Rattle.blk_trace.specs.Inside.Gathered.{bios_unless}
 use Rattle.blk_trace.specs.Seen.{happened}
 use Rattle.blk_trace.proofs.trace.waiting.gathered.Given as goal
