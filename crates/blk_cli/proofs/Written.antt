@@ -18,7 +18,8 @@ use Rattle.blk_text.specs.Texts.{rows_text}
 use Rattle.blk_text.specs.Commands.{SpellsCommands}
 use Rattle.blk_text.specs.Certificate.{Claim, claim_rows, SpellsClaim}
 use Rattle.blk_text.specs.Script.{Scripted, SpellsScript}
-use Rattle.blk_text.specs.TraceRecords.{trace_rows, SpellsTrace}
+use Rattle.blk_text.specs.TraceForm.{SpellsTrace}
+use Rattle.blk_text.specs.TraceRecords.{trace_rows}
 use Rattle.blk_sched.specs.declared.SchedFault.{SchedFault}
 use Rattle.blk_sched.specs.declared.SchedFault.TheVariants as setting
 use Rattle.blk_deadline.specs.declared.Tunables.{Tunables}

@@ -28,7 +28,8 @@ use Rattle.blk_text.specs.Sources.{Row}
 use Rattle.blk_text.specs.Texts.{rows_text}
 use Rattle.blk_text.specs.Commands.{SpellsCommands, CommandsFault}
 use Rattle.blk_text.specs.Script.{Scripted, SpellsScript, ScriptFault}
-use Rattle.blk_text.specs.TraceRecords.{trace_rows, SpellsTrace}
+use Rattle.blk_text.specs.TraceForm.{SpellsTrace}
+use Rattle.blk_text.specs.TraceRecords.{trace_rows}
 use Rattle.blk_text.specs.Certificate.{Claim, claim_rows, SpellsClaim, ClaimFault}
 use Rattle.blk_sim.specs.declared.refusal.SimFault.{SimFault}
 use Rattle.blk_sim.specs.Policies.{Policy, policy_of}

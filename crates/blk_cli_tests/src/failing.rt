@@ -9,7 +9,7 @@ const SCRIPT: &str =
 
 /// Its trace: the write goes out in round 0, the read in round 1.
 const TRACE: &str =
-    "blk-trace,1,1,1,8,\nsetup,0,9,256,128,\nrelease,0,1,,,\nbio,0,0,W,100,8\nrelease,1,1,,,\nbio,0,1,R,200,8\nissue,0,0,,,\ndone,0,,,,\ntick,,,,,\nissue,1,0,,,\ndone,0,,,,\ntick,,,,,\n";
+    "blk-trace,2,1,1,8,\nsetup,0,9,256,128,\nrelease,0,1,,,\nbio,0,0,W,100,8\nrelease,1,1,,,\nbio,0,1,R,200,8\nissue,0,0,,,\ndone,0,,,,\ntick,,,,,\nissue,1,0,,,\ndone,0,,,,\ntick,,,,,\n";
 
 /// Three commands that are due in the round of their release.
 const COMMANDS: &str = "blk-commands,1,1\n1,0,0\n2,0,0\n3,0,0\n";

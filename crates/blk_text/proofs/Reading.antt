@@ -201,6 +201,14 @@ second_halts failed p q (Some rows) mid v start middle at w t h e f =
       ],
     )
 
+pub second_fails : {V W : Type 0} (failed : Bool) (p : Part Row Why V) (q : V → Part Row Why W) (left mid : Option (List Row)) (v : V) (start middle at : ℕ) (w : Why) → Reads p left mid v → middle ≡ start + length (p.rows_of v)
+    → Fails failed (q v) mid middle at w → Fails failed (then p q) left start at w
+second_fails failed p q None mid v start middle at w h e f = tt
+second_fails failed p q (Some rows) mid v start middle at w h e f = elim (rw h.1 at f) [
+  | inl o ↦ inl o
+  | inr k ↦ (let is = k.1 in inr (length (p.rows_of v) + k.0, omega (arith, is, e), inr (v, h.0, k.0, h.2, refl, k.2)))
+]
+
 -- lines, where reading stops
 
 pub lines_halt : {V : Type 0} (failed : Bool) (q : List V → Part Row Why V) (x : Repeats) (left : Option (List Row)) (start at last : ℕ) (w : Why) → ((s : List V) → Tells (q s)) → ((s : List V) → IsPlain (q s)) → HasRows q

@@ -13,3 +13,4 @@ pub mod Certificate
 pub mod Tables
 pub mod Reads
 pub mod BioTable
+pub mod TraceForm

@@ -6,7 +6,7 @@ use Rattle.blk_bio.specs.declared.bio.BioFault.{BioFault}
 use Rattle.blk_trace.specs.Setups.{Setup}
 use Rattle.blk_text.specs.Sources.{Row}
 use Rattle.blk_text.specs.Reads.{items_of}
-use Rattle.blk_text.specs.Tables.{Cell, Blank, Direction, Number, IsVersion, title_record, kinds_record}
+use Rattle.blk_text.specs.Tables.{Cell, Blank, Number, IsVersion, title_record, kinds_record}
 use Rattle.blk_text.specs.BioTable.{bio_cells}
 use Rattle.blk_text.specs.SetupRecord.{IsWholeSetup, most_depth, setup}
 use Rattle.blk_text.specs.declared.fault.Why.{Why}

@@ -101,7 +101,7 @@ pub fn gather<R: Read + Drop, F: ItemForm>(
     repeats: Repeats,
     items: &mut F::Items,
 ) -> Result<bool, TextFault>
-    requires room { records.old.at + most_of repeats * (F.more + 1) + 1 < 2 ^ 64 - 1 }
+    requires room { records.old.at + most_of repeats * (F.more + 1) < 2 ^ 64 - 1 }
     requires none { F.seen items.old ≡ [] }
     requires suits { F.suits form.now items.old }
     ensures suits { OnOk result (F.suits form.now items.new) }

@@ -12,7 +12,9 @@ ghost use Rattle.blk_text.specs.declared.fields.Slot.TheVariants as slot;
 ghost use Rattle.blk_text.specs.declared.script.Word.{Word as AWord};
 
 use crate::fault::{TextFault, Why};
-use crate::fields::{ANY, Slot, TAG, WIDTH, direction_of, field, parse_number, read_fields, version_of, without_word};
+use crate::fields::{
+    ANY, Slot, TAG, WIDTH, direction_of, field, parse_number, read_fields, version_of, without_word,
+};
 use crate::items::{LineForm, read_line, read_lines};
 use crate::setup::{SetupForm, most_depth};
 use crate::source::Records;
