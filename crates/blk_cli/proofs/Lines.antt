@@ -1,5 +1,5 @@
 -- What the command line reads of words.
-use Rattle.std.proofs.Common.{◌≡◌, ◌∙◌, List, [], Some, None, Option, box_value, option_map, ap, sym, refl, codes, true, false, inl, inr, ℕ, ◌<◌, ◌^◌, arith}
+use Rattle.std.proofs.Common.{◌≡◌, ◌∙◌, List, [], Some, None, Option, box_value, option_map, ap, sym, subst, refl, codes, true, false, inl, inr, ℕ, suc, ◌<◌, ◌^◌, arith}
 use Rattle.std.specs.Prelude.{◌≢◌, Bool, Result, Ok, Err, option_and_then, if◌then◌else◌}
 use Rattle.std.specs.Option.{option_map_or}
 use Rattle.std.specs.Str.{bytes_eq}
@@ -9,17 +9,20 @@ use Rattle.clap.proofs.ValueTestLemmas.{accepts-Accepts, Accepts-accepts}
 use Rattle.clap.specs.declared.builder.value_parser.ValueParser.TheVariants as vp
 use Rattle.clap.proofs.WalkLemmas.{first_value-rows, one_text-rows}
 use Rattle.clap.specs.declared.parser.matches.Found.{Found}
-use Rattle.clap.specs.Words.{App, Rule, Row, Text, with_rule, ReadsOne, one_text, first_value, IsAmong, HasKind, subcommand_rows_of, subcommand_of, subcommand_name_of, is_simple, is_simple_and_free, fault_of, kind_of, rows_of, found_of, HasMatchesOf}
+use Rattle.clap.specs.Words.{App, Rule, Row, Text, with_rule, ReadsOne, one_of, one_text, first_value, IsAmong, HasKind, subcommand_rows_of, subcommand_of, subcommand_name_of, is_simple, is_simple_and_free, fault_of, kind_of, rows_of, found_of, HasMatchesOf}
 use Rattle.clap.specs.declared.parser.matches.ArgMatches.{ArgMatches}
 use Rattle.clap.specs.declared.parser.matches.ArgMatches.TheViews.{out-ArgMatches, out-SubCommand}
 use Rattle.clap.specs.declared.error.Error.{Error}
 use Rattle.clap.specs.declared.error.kind.ErrorKind.{ErrorKind}
 use Rattle.clap.specs.declared.error.kind.ErrorKind.TheVariants as kind
 use Rattle.blk_deadline.specs.declared.Tunables.{Tunables}
+use Rattle.blk_kyber.specs.declared.Targets.{Targets}
 use Rattle.blk_cli.specs.declared.words.Sched.{Sched}
 use Rattle.blk_cli.specs.declared.words.Sched.TheVariants as sched
 use Rattle.blk_cli.specs.Line.{Names, AreSchedulers, blk_app}
-use Rattle.blk_cli.specs.Asked.{AreRefused, number_in, number_given, is_flagged, tunables_of, sched_named, sched_of, job_of, job_read}
+use Rattle.blk_cli.specs.declared.words.Job.{Job}
+use Rattle.blk_cli.specs.declared.words.Job.TheVariants as job
+use Rattle.blk_cli.specs.Asked.{Asks, AreRefused, number_in, is_flagged, tunables_of, targets_of, sched_named, sched_of, job_of, job_read}
 
 simple : (names : Names) → is_simple (blk_app names) ≡ true
 simple names = refl
@@ -49,7 +52,15 @@ subcommand_read m name rows e f = both (subcommand_rows_of m) name rows (e ∙ n
 pub nothing_read : (m : ArgMatches) → None ≡ subcommand_name_of m → subcommand_rows_of m ≡ None
 nothing_read m e = neither (subcommand_rows_of m) (e ∙ named m)
 
--- words that were parsed and name no job are refused
+-- words that were parsed ask for the job that they name, and are refused where they name none
+pub asks_by : (names : Names) (a : App) (words : List Text) (m : ArgMatches) (j : Job) → AreSchedulers names → a ≡ blk_app names → HasMatchesOf a words m
+    → (is_simple_and_free a ≡ true → fault_of a words ≡ []) → Some j ≡ option_and_then job_of (subcommand_rows_of m) → Asks words j
+asks_by names a words m j are e has kinds is =
+    let h = (rw e at has) (simple names) in
+    let f : fault_of (blk_app names) words ≡ [] = (rw e at kinds) (free names) in
+    let read : option_and_then job_of (subcommand_rows_of m) ≡ job_read (blk_app names) words = ap (option_and_then job_of) {y = subcommand_of (blk_app names) words} h.1 in
+    (names, are, inl (f, sym (is ∙ read)))
+
 pub refused_by : (names : Names) (a : App) (words : List Text) (m : ArgMatches) → AreSchedulers names → a ≡ blk_app names → HasMatchesOf a words m
     → (is_simple_and_free a ≡ true → fault_of a words ≡ []) → None ≡ option_and_then job_of (subcommand_rows_of m) → AreRefused words
 refused_by names a words m are e has kinds is =
@@ -63,6 +74,11 @@ among : (names : Names) (a : App) (words : List Text) (error : Error) (k : Error
 among names a words error k e kinds is not =
     let h = (rw e at kinds) (free names) in
     elim h [ inl m ↦ absurd (not (is ∙ m)) | inr m ↦ rw is m ]
+
+-- words that were not parsed, since they ask for the version
+pub version_by : (names : Names) (a : App) (words : List Text) (error : Error) → AreSchedulers names → a ≡ blk_app names
+    → (is_simple_and_free a ≡ true → HasKind (fault_of a words) error) → kind.DisplayVersion ≡ kind_of error → Asks words job.Version
+version_by names a words error are e kinds is = (names, are, inr (among names a words error kind.DisplayVersion e kinds is (λ x. cc x), refl))
 
 -- words that were not parsed, for another kind of error than want of memory and no question for the version, are refused
 pub line_by : (names : Names) (a : App) (words : List Text) (error : Error) (k : ErrorKind) → AreSchedulers names → a ≡ blk_app names
@@ -83,42 +99,66 @@ flagged_by f id text b e is = is ∙ ap (λ (o : Option Text). option_map_or (λ
 pub not_flagged_by : (f : Found) (id : Text) → None ≡ first_value f id → false ≡ is_flagged id (rows_of f)
 not_flagged_by f id e = ap (λ (o : Option Text). option_map_or (λ t. bytes_eq t (codes "true")) o false) (e ∙ first_value-rows f id)
 
--- a text that parses as a number of 16 bits, and one that does not
-pub number_parsed : (text : Text) (n : ℕ) → IsNumeral 10 (without_leading_plus text) → digits_value 10 (without_leading_plus text) < 2 ^ 16 → n ≡ digits_value 10 (without_leading_plus text) → number_in text ≡ Some n
-number_parsed text n digits few is =
-    let t : accepts false (vp.Unsigned 0 65535) text ≡ true = Accepts-accepts false (vp.Unsigned 0 65535) text (digits, omega arith, omega arith, omega arith) in
+-- the greatest number of so many bits
+abbrev IsGreatest : ℕ → ℕ → Type 0
+IsGreatest bits most = (suc most ≡ 2 ^ bits) × (most < 2 ^ 64)
+
+-- a text that parses as a number of so many bits, and one that does not
+abbrev Parses : ℕ → Text → Type 0
+Parses bits text = IsNumeral 10 (without_leading_plus text) × (digits_value 10 (without_leading_plus text) < 2 ^ bits)
+
+number_parsed : (bits most : ℕ) → IsGreatest bits most → (text : Text) (n : ℕ) → Parses bits text → n ≡ digits_value 10 (without_leading_plus text) → number_in most text ≡ Some n
+number_parsed bits most g text n p is =
+    let below : digits_value 10 (without_leading_plus text) < suc most = subst (λ x. digits_value 10 (without_leading_plus text) < x) (sym g.0) p.1 in
+    let t : accepts false (vp.Unsigned 0 most) text ≡ true = Accepts-accepts false (vp.Unsigned 0 most) text (p.0, omega (arith, g.1), omega arith, omega arith) in
     ap (λ (b : Bool). if b then Some (digits_value 10 (without_leading_plus text)) else None) t ∙ ap (λ (m : ℕ). Some m) (sym is)
 
-not_accepted : (text : Text) (b : Bool) → accepts false (vp.Unsigned 0 65535) text ≡ b → ((IsNumeral 10 (without_leading_plus text) × (digits_value 10 (without_leading_plus text) < 2 ^ 16)) → ⊥) → b ≡ false
-not_accepted text false e wrong = refl
-not_accepted text true e wrong = let a = accepts-Accepts false (vp.Unsigned 0 65535) text e in absurd (wrong (a.0, omega (arith, a.3)))
+not_accepted : (bits most : ℕ) → IsGreatest bits most → (text : Text) (b : Bool) → accepts false (vp.Unsigned 0 most) text ≡ b → (Parses bits text → ⊥) → b ≡ false
+not_accepted bits most g text false e wrong = refl
+not_accepted bits most g text true e wrong =
+    let a = accepts-Accepts false (vp.Unsigned 0 most) text e in
+    let below : digits_value 10 (without_leading_plus text) < suc most = omega (arith, a.3) in
+    absurd (wrong (a.0, subst (λ x. digits_value 10 (without_leading_plus text) < x) g.0 below))
 
-pub number_unparsed : (text : Text) → ((IsNumeral 10 (without_leading_plus text) × (digits_value 10 (without_leading_plus text) < 2 ^ 16)) → ⊥) → number_in text ≡ None
-number_unparsed text wrong = ap (λ (b : Bool). if b then Some (digits_value 10 (without_leading_plus text)) else None) (not_accepted text _ refl wrong)
+number_unparsed : (bits most : ℕ) → IsGreatest bits most → (text : Text) → (Parses bits text → ⊥) → number_in most text ≡ None
+number_unparsed bits most g text wrong =
+    ap (λ (b : Bool). if b then Some (digits_value 10 (without_leading_plus text)) else None) (not_accepted bits most g text _ refl wrong)
 
--- what a reader of numbers of 16 bits gives for the text of an option
-read_number : {E : Type 0} (gives : Text → Result ℕ E → Type 0) → ((t : Text) (q : Result ℕ E) → gives t q → ParsesUnsigned 16 10 t q) → (o : Option Text) (r : Option ℕ)
-    → (o ≡ None → r ≡ None) → ((t : Text) → o ≡ Some t → ReadsOne gives t r) → r ≡ option_and_then number_in o
-read_number gives w None r none value = none refl
-read_number gives w (Some t) None none value = let h = value t refl in sym (number_unparsed t (w t (Err h.0) h.1))
-read_number gives w (Some t) (Some n) none value = let h = w t (Ok n) (value t refl) in sym (number_parsed t n h.0.0 h.0.1 h.1)
+-- what a reader of numbers of so many bits gives for the text of an option
+read_number : (bits most : ℕ) → IsGreatest bits most → {E : Type 0} (gives : Text → Result ℕ E → Type 0) → ((t : Text) (q : Result ℕ E) → gives t q → ParsesUnsigned bits 10 t q) → (o : Option Text) (r : Option ℕ)
+    → (o ≡ None → r ≡ None) → ((t : Text) → o ≡ Some t → ReadsOne gives t r) → r ≡ option_and_then (number_in most) o
+read_number bits most g gives w None r none value = none refl
+read_number bits most g gives w (Some t) None none value = let h = value t refl in sym (number_unparsed bits most g t (w t (Err h.0) h.1))
+read_number bits most g gives w (Some t) (Some n) none value = let h = w t (Ok n) (value t refl) in sym (number_parsed bits most g t n h.0 h.1)
 
-pub number_by : {E : Type 0} (gives : Text → Result ℕ E → Type 0) → ((t : Text) (q : Result ℕ E) → gives t q → ParsesUnsigned 16 10 t q) → (f : Found) (id : Text) (r : Option ℕ)
-    → (one_text f id ≡ None → r ≡ None) → ((t : Text) → one_text f id ≡ Some t → ReadsOne gives t r) → r ≡ number_given id (rows_of f)
-number_by gives w f id r none value = read_number gives w (one_text f id) r none value ∙ ap (option_and_then number_in) (one_text-rows f id)
+pub number_by : (bits most : ℕ) → IsGreatest bits most → {E : Type 0} (gives : Text → Result ℕ E → Type 0) → ((t : Text) (q : Result ℕ E) → gives t q → ParsesUnsigned bits 10 t q) → (f : Found) (id : Text) (r : Option ℕ)
+    → (one_text f id ≡ None → r ≡ None) → ((t : Text) → one_text f id ≡ Some t → ReadsOne gives t r) → r ≡ option_and_then (number_in most) (one_of id (rows_of f))
+number_by bits most g gives w f id r none value = read_number bits most g gives w (one_text f id) r none value ∙ ap (option_and_then (number_in most)) (one_text-rows f id)
 
--- the scheduler of a name that is no `none`: deadline with its settings, or none at all
+-- the scheduler of a name, by which of the names it is
+abbrev none_or : Bool → Option Sched → Option Sched
+none_or is other = if is then Some sched.None else other
+
+abbrev deadline_or : Bool → Option Tunables → Option Sched → Option Sched
+deadline_or is o other = if is then option_map sched.Deadline o else other
+
+abbrev kyber_or : Bool → Option Targets → Option Sched
+kyber_or is o = if is then option_map sched.Kyber o else None
+
+by_name : (rows : List Row) (name : Text) (a b d : Bool) → bytes_eq name (codes "none") ≡ a → bytes_eq name (codes "deadline") ≡ b → bytes_eq name (codes "kyber") ≡ d
+    → sched_named rows name ≡ none_or a (deadline_or b (tunables_of rows) (kyber_or d (targets_of rows)))
+by_name rows name a b d e f g = rw (e, f, g) refl
+
 pub deadline_named : (rows : List Row) (name : Text) (o : Option Tunables) → bytes_eq name (codes "none") ≡ false → bytes_eq name (codes "deadline") ≡ true
     → o ≡ tunables_of rows → sched_named rows name ≡ option_map sched.Deadline o
-deadline_named rows name o other is given =
-    ap (λ (b : Bool). if b then Some sched.None else (if bytes_eq name (codes "deadline") then option_map sched.Deadline (tunables_of rows) else None)) other
-    ∙ ap (λ (b : Bool). if b then option_map sched.Deadline (tunables_of rows) else None) is
-    ∙ ap (λ (x : Option Tunables). option_map sched.Deadline x) (sym given)
+deadline_named rows name o other is given = by_name rows name _ _ _ other is refl ∙ ap (option_map sched.Deadline) (sym given)
 
-pub unnamed : (rows : List Row) (name : Text) → bytes_eq name (codes "none") ≡ false → bytes_eq name (codes "deadline") ≡ false → sched_named rows name ≡ None
-unnamed rows name other another =
-    ap (λ (b : Bool). if b then Some sched.None else (if bytes_eq name (codes "deadline") then option_map sched.Deadline (tunables_of rows) else None)) other
-    ∙ ap (λ (b : Bool). if b then option_map sched.Deadline (tunables_of rows) else None) another
+pub kyber_named : (rows : List Row) (name : Text) (o : Option Targets) → bytes_eq name (codes "none") ≡ false → bytes_eq name (codes "deadline") ≡ false → bytes_eq name (codes "kyber") ≡ true
+    → o ≡ targets_of rows → sched_named rows name ≡ option_map sched.Kyber o
+kyber_named rows name o other another is given = by_name rows name _ _ _ other another is ∙ ap (option_map sched.Kyber) (sym given)
+
+pub unnamed : (rows : List Row) (name : Text) → bytes_eq name (codes "none") ≡ false → bytes_eq name (codes "deadline") ≡ false → bytes_eq name (codes "kyber") ≡ false → sched_named rows name ≡ None
+unnamed rows name other another third = by_name rows name _ _ _ other another third
 
 -- a command with one rule more
 pub adds_rule : (x a b : App) (p q : Rule) → x ≡ with_rule a p → a ≡ b → p ≡ q → x ≡ with_rule b q

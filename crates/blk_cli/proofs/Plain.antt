@@ -2,8 +2,7 @@
 use Rattle.std.proofs.Common.{◌≡◌, ◌∙◌, ◌∷◌, [], ℕ, List, Some, map, sym, refl, subst, codes, true, inl, inr}
 use Rattle.std.specs.Prelude.{◌↔◌}
 use Rattle.std.specs.Borrow.{Bor}
-use Rattle.clap.specs.Words.{Text, IsAmong, fault_of}
-use Rattle.clap.specs.declared.error.kind.ErrorKind.TheVariants as kind
+use Rattle.clap.specs.Words.{Text, fault_of}
 use Rattle.clap.proofs.OnLiterals.{clap_on_literals}
 use Rattle.blk_cli.specs.declared.words.Sched.TheVariants as sched
 use Rattle.blk_cli.specs.declared.words.Job.{Job}
@@ -12,22 +11,27 @@ use Rattle.blk_cli.specs.Line.{Names, AreSchedulers, blk_app}
 use Rattle.blk_cli.specs.Asked.{Asks, job_read}
 
 -- the names of the schedulers, at some places
-abbrev at_places : ℕ × ℕ → ℕ × ℕ → ℕ × ℕ → Names
-at_places p q r = record { ref_ptr = p; now = record { ref_ptr = q; now = codes "none" } ∷ record { ref_ptr = r; now = codes "deadline" } ∷ [] }
+abbrev at_places : ℕ × ℕ → ℕ × ℕ → ℕ × ℕ → ℕ × ℕ → Names
+at_places p q r s =
+    record { ref_ptr = p; now = record { ref_ptr = q; now = codes "none" } ∷ record { ref_ptr = r; now = codes "deadline" } ∷ record { ref_ptr = s; now = codes "kyber" } ∷ [] }
 
-go : (P : Names → Type 0) → ((p q r : ℕ × ℕ) → P (at_places p q r)) → (p : ℕ × ℕ) (xs : List (Bor Text)) → map (λ (x : Bor Text). x.now) xs ≡ codes "none" ∷ codes "deadline" ∷ [] → P (record { ref_ptr = p; now = xs })
+go : (P : Names → Type 0) → ((p q r s : ℕ × ℕ) → P (at_places p q r s)) → (p : ℕ × ℕ) (xs : List (Bor Text)) → map (λ (x : Bor Text). x.now) xs ≡ codes "none" ∷ codes "deadline" ∷ codes "kyber" ∷ []
+    → P (record { ref_ptr = p; now = xs })
 go P h p [] e = cc e
 go P h p (a ∷ []) e = cc e
-go P h p (a ∷ b ∷ c ∷ xs) e = cc e
-go P h p (a ∷ b ∷ []) e =
+go P h p (a ∷ b ∷ []) e = cc e
+go P h p (a ∷ b ∷ c ∷ d ∷ xs) e = cc e
+go P h p (a ∷ b ∷ c ∷ []) e =
     let ea : a.now ≡ codes "none" = cc e in
     let eb : b.now ≡ codes "deadline" = cc e in
-    let A : Text → Type 0 = λ t. P (record { ref_ptr = p; now = record { ref_ptr = a.ref_ptr; now = t } ∷ b ∷ [] }) in
-    let B : Text → Type 0 = λ t. P (record { ref_ptr = p; now = record { ref_ptr = a.ref_ptr; now = codes "none" } ∷ record { ref_ptr = b.ref_ptr; now = t } ∷ [] }) in
-    subst A (sym ea) (subst B (sym eb) (h p a.ref_ptr b.ref_ptr))
+    let ec : c.now ≡ codes "kyber" = cc e in
+    let A : Text → Type 0 = λ t. P (record { ref_ptr = p; now = record { ref_ptr = a.ref_ptr; now = t } ∷ b ∷ c ∷ [] }) in
+    let B : Text → Type 0 = λ t. P (record { ref_ptr = p; now = record { ref_ptr = a.ref_ptr; now = codes "none" } ∷ record { ref_ptr = b.ref_ptr; now = t } ∷ c ∷ [] }) in
+    let C : Text → Type 0 = λ t. P (record { ref_ptr = p; now = record { ref_ptr = a.ref_ptr; now = codes "none" } ∷ record { ref_ptr = b.ref_ptr; now = codes "deadline" } ∷ record { ref_ptr = c.ref_ptr; now = t } ∷ [] }) in
+    subst A (sym ea) (subst B (sym eb) (subst C (sym ec) (h p a.ref_ptr b.ref_ptr c.ref_ptr)))
 
 -- what holds of them there holds of them all
-any_names : (P : Names → Type 0) → ((p q r : ℕ × ℕ) → P (at_places p q r)) → (names : Names) → AreSchedulers names → P names
+any_names : (P : Names → Type 0) → ((p q r s : ℕ × ℕ) → P (at_places p q r s)) → (names : Names) → AreSchedulers names → P names
 any_names P h names are = go P h names.ref_ptr names.now are
 
 -- a line is read as a job, whatever the places
@@ -35,33 +39,47 @@ abbrev pub IsReadAs : List Text → Job → Names → Type 0
 IsReadAs words j names = (fault_of (blk_app names) words ≡ []) × (job_read (blk_app names) words ≡ Some j)
 
 -- then it asks for that job alone
-pub asks_alone : (words : List Text) (k : Job) → ((p q r : ℕ × ℕ) → IsReadAs words k (at_places p q r)) → (j : Job) → Asks words j ↔ (j ≡ k)
+pub asks_alone : (words : List Text) (k : Job) → ((p q r s : ℕ × ℕ) → IsReadAs words k (at_places p q r s)) → (j : Job) → Asks words j ↔ (j ≡ k)
 asks_alone words k h j = (
   λ a. let g = any_names (IsReadAs words k) h a.0 a.1 in
       elim a.2 [ inl x ↦ let e : Some j ≡ Some k = sym x.1 ∙ g.1 in cc e | inr x ↦ absurd (rw g.0 at x.0) ],
-  λ e. let z : ℕ × ℕ = (0, 0) in let g = h z z z in (at_places z z z, refl, inl (g.0, rw e g.1)),
+  λ e. let z : ℕ × ℕ = (0, 0) in let g = h z z z z in (at_places z z z z, refl, inl (g.0, rw e g.1)),
 )
 
-pub sim_line : (name : Text) (p q r : ℕ × ℕ) → IsReadAs (name ∷ codes "sim" ∷ []) (job.Sim sched.None) (at_places p q r)
+pub sim_line : (name : Text) (p q r s : ℕ × ℕ) → IsReadAs (name ∷ codes "sim" ∷ []) (job.Sim sched.None) (at_places p q r s)
 unfolding clap_on_literals
-sim_line name p q r = (refl, refl)
+sim_line name p q r s = (refl, refl)
 
-pub none_line : (name : Text) (p q r : ℕ × ℕ) → IsReadAs (name ∷ codes "sim" ∷ codes "--sched" ∷ codes "none" ∷ []) (job.Sim sched.None) (at_places p q r)
+pub none_line : (name : Text) (p q r s : ℕ × ℕ) → IsReadAs (name ∷ codes "sim" ∷ codes "--sched" ∷ codes "none" ∷ []) (job.Sim sched.None) (at_places p q r s)
 unfolding clap_on_literals
-none_line name p q r = (refl, refl)
+none_line name p q r s = (refl, refl)
 
-pub deadline_line : (name : Text) (p q r : ℕ × ℕ) → IsReadAs (name ∷ codes "sim" ∷ codes "--sched" ∷ codes "deadline" ∷ []) (job.Sim (sched.Deadline (record { fifo_batch = 16; writes_starved = 2; front_merges = true }))) (at_places p q r)
+pub deadline_line : (name : Text) (p q r s : ℕ × ℕ) → IsReadAs (name ∷ codes "sim" ∷ codes "--sched" ∷ codes "deadline" ∷ []) (job.Sim (sched.Deadline (record { fifo_batch = 16; writes_starved = 2; front_merges = true }))) (at_places p q r s)
 unfolding clap_on_literals
-deadline_line name p q r = (refl, refl)
+deadline_line name p q r s = (refl, refl)
 
-pub oracle_line : (name : Text) (p q r : ℕ × ℕ) → IsReadAs (name ∷ codes "oracle" ∷ []) job.Oracle (at_places p q r)
+pub kyber_line : (name : Text) (p q r s : ℕ × ℕ) → IsReadAs (name ∷ codes "sim" ∷ codes "--sched" ∷ codes "kyber" ∷ []) (job.Sim (sched.Kyber (record { read = 2; write = 10 }))) (at_places p q r s)
 unfolding clap_on_literals
-oracle_line name p q r = (refl, refl)
+kyber_line name p q r s = (refl, refl)
 
-pub check_line : (name : Text) (p q r : ℕ × ℕ) → IsReadAs (name ∷ codes "check" ∷ []) job.Check (at_places p q r)
+pub batch_line : (name : Text) (p q r s : ℕ × ℕ) → IsReadAs (name ∷ codes "sim" ∷ codes "--sched" ∷ codes "deadline" ∷ codes "--fifo-batch" ∷ codes "1" ∷ []) (job.Sim (sched.Deadline (record { fifo_batch = 1; writes_starved = 2; front_merges = true })))
+    (at_places p q r s)
 unfolding clap_on_literals
-check_line name p q r = (refl, refl)
+batch_line name p q r s = (refl, refl)
+
+pub target_line : (name : Text) (p q r s : ℕ × ℕ) → IsReadAs (name ∷ codes "sim" ∷ codes "--sched" ∷ codes "kyber" ∷ codes "--read-target" ∷ codes "1000000" ∷ []) (job.Sim (sched.Kyber (record { read = 1_000_000; write = 10 })))
+    (at_places p q r s)
+unfolding clap_on_literals
+target_line name p q r s = (refl, refl)
+
+pub oracle_line : (name : Text) (p q r s : ℕ × ℕ) → IsReadAs (name ∷ codes "oracle" ∷ []) job.Oracle (at_places p q r s)
+unfolding clap_on_literals
+oracle_line name p q r s = (refl, refl)
+
+pub check_line : (name : Text) (p q r s : ℕ × ℕ) → IsReadAs (name ∷ codes "check" ∷ []) job.Check (at_places p q r s)
+unfolding clap_on_literals
+check_line name p q r s = (refl, refl)
 
 pub version_line : (name : Text) → Asks (name ∷ codes "--version" ∷ []) job.Version
 unfolding clap_on_literals
-version_line name = let z : ℕ × ℕ = (0, 0) in (at_places z z z, refl, inr (inl refl, refl))
+version_line name = let z : ℕ × ℕ = (0, 0) in (at_places z z z z, refl, inr (inl refl, refl))

@@ -1,6 +1,6 @@
 -- What each job wrote or why it failed, from what was read, what was made of it and what the writer took.
-use Rattle.std.proofs.Common.{ℕ, ◌≡◌, ◌∙◌, ◌⊎◌, ◌*◌, refl, Result, Ok, Err, IfOk, List, Option, Some, None, subst, sym, inl, inr}
-use Rattle.std.specs.Prelude.{Bool, ℤ, pos, ◌+ℤ◌, IfSome, IsPermutation, sum_by}
+use Rattle.std.proofs.Common.{ℕ, zero, suc, arith, ◌≡◌, ◌∙◌, ◌⊎◌, ◌*◌, refl, Result, Ok, Err, IfOk, List, Option, Some, None, subst, sym, inl, inr}
+use Rattle.std.specs.Prelude.{◌<◌, ◌↔◌, Bool, ℤ, pos, ◌+ℤ◌, IfSome, IsPermutation, sum_by}
 use Rattle.std.specs.Io.KnownBytes.{Appends}
 use Rattle.edd_check.specs.declared.Command.{Command}
 use Rattle.edd_check.specs.declared.CheckFault.{CheckFault}
@@ -21,15 +21,19 @@ use Rattle.blk_text.specs.Script.{Scripted, SpellsScript}
 use Rattle.blk_text.specs.TraceForm.{SpellsTrace}
 use Rattle.blk_text.specs.TraceRecords.{trace_rows}
 use Rattle.blk_sched.specs.declared.SchedFault.{SchedFault}
+use Rattle.blk_sched.specs.declared.SchedFault.TheVariants as setting
+use Rattle.blk_deadline.specs.declared.Tunables.{Tunables}
+use Rattle.blk_kyber.specs.declared.Targets.{Targets}
 use Rattle.blk_sched.specs.Meaning.{Meaning}
 use Rattle.blk_sim.specs.Policies.{Policy}
 use Rattle.blk_sim.specs.declared.refusal.SimFault.{SimFault}
 use Rattle.blk_sim.specs.Simulation.{released_bios, ticks_of}
 use Rattle.blk_sim.specs.Refusals.{IsSimFault}
 use Rattle.blk_cli.specs.declared.words.Sched.{Sched}
+use Rattle.blk_cli.specs.declared.words.Sched.TheVariants as under
 use Rattle.blk_cli.specs.declared.failure.Failure.{Failure}
 use Rattle.blk_cli.specs.declared.failure.Failure.TheVariants as failure
-use Rattle.blk_cli.specs.Outcome.{RunsUnder, RunsFrom, IsRefusedUnder, IsZeroBatch, IsSettingFault, IsProved, OracleWrote, SimWrote, CheckWrote, bound_line, verdict_of, IsTextFault, IsStepFault, IsSolveFault, IsCheckFault, IsRefusedBound, IsUnrun, IsUnsolved, IsUnproved, SimFails, OracleFails, CheckFails}
+use Rattle.blk_cli.specs.Outcome.{RunsUnder, RunsFrom, IsMade, IsRefusedUnder, IsUnmade, IsSettingFault, IsProved, OracleWrote, SimWrote, CheckWrote, bound_line, verdict_of, IsTextFault, IsStepFault, IsSolveFault, IsCheckFault, IsRefusedBound, IsUnrun, IsUnsolved, IsUnproved, SimFails, OracleFails, CheckFails}
 
 -- a text's first fault, or one from outside
 pub text_fault : (wrong : List Row → ℕ → Why → Type 0) (input : Option (List Row)) (failed : Bool) (f : TextFault)
@@ -50,9 +54,9 @@ step_fault sched None s f read refused = tt
 step_fault sched (Some rows) s f read refused = (s, read, refused)
 
 setting_fault : (sched : Sched) (left : Option (List Row)) (s : Scripted) (f : SchedFault) → IfSome left (λ rows. SpellsScript rows s)
-    → IsZeroBatch sched f → IsSettingFault sched left f
-setting_fault sched None s f read zero = tt
-setting_fault sched (Some rows) s f read zero = (s, read, zero)
+    → IsUnmade sched f → IsSettingFault sched left f
+setting_fault sched None s f read unmade = tt
+setting_fault sched (Some rows) s f read unmade = (s, read, unmade)
 
 -- a script that was read and not run
 pub sim_fails : (sched : Sched) (left : Option (List Row)) (s : Scripted) (f : Failure) → IfSome left (λ rows. SpellsScript rows s) → IsUnrun sched s f → SimFails sched left f
@@ -115,6 +119,44 @@ check_fails left claim (failure.Solve f) read h = absurd h
 check_fails left claim (failure.Check f) read h = check_fault left claim f read h
 check_fails left claim (failure.Write f) read h = absurd h
 check_fails left claim failure.Memory read h = tt
+
+-- a scheduler that is not made, by what its making promises
+positive : (n : ℕ) → (n ≡ 0) ⊎ (0 < n)
+positive zero = inl refl
+positive (suc n) = inr (omega arith)
+
+pub none_unmade : (f : SchedFault) → f ≡ setting.Memory → IsUnmade under.None f
+none_unmade setting.ZeroBatch e = cc e
+none_unmade setting.ZeroTarget e = cc e
+none_unmade setting.Memory e = tt
+
+pub deadline_unmade : {X : Type 0} (t : Tunables) (f : SchedFault) (r : Result X SchedFault) → r ≡ Err f → ((t.fifo_batch ≡ 0) ↔ (r ≡ Err setting.ZeroBatch)) → (0 < t.fifo_batch → f ≡ setting.Memory)
+    → IsUnmade (under.Deadline t) f
+deadline_unmade t setting.ZeroBatch r e exact memory = exact.1 e
+deadline_unmade t setting.ZeroTarget r e exact memory =
+    elim (positive t.fifo_batch) [ inl z ↦ let g = sym (exact.0 z) ∙ e in cc g | inr p ↦ let g = memory p in cc g ]
+deadline_unmade t setting.Memory r e exact memory = tt
+
+pub kyber_unmade : {X : Type 0} (t : Targets) (f : SchedFault) (r : Result X SchedFault) → r ≡ Err f → (((t.read ≡ 0) ⊎ (t.write ≡ 0)) ↔ (r ≡ Err setting.ZeroTarget))
+    → (0 < t.read → 0 < t.write → f ≡ setting.Memory) → IsUnmade (under.Kyber t) f
+kyber_unmade t setting.ZeroBatch r e exact memory =
+    elim (positive t.read) [
+      | inl z ↦ let g = sym (exact.0 (inl z)) ∙ e in cc g
+      | inr p ↦ elim (positive t.write) [ inl z ↦ let g = sym (exact.0 (inr z)) ∙ e in cc g | inr q ↦ let g = memory p q in cc g ]
+    ]
+kyber_unmade t setting.ZeroTarget r e exact memory = exact.1 e
+kyber_unmade t setting.Memory r e exact memory = tt
+
+-- one that is made
+not_zero : (n : ℕ) → (n ≡ 0 → ⊥) → 0 < n
+not_zero n h = elim (positive n) [ inl z ↦ absurd (h z) | inr p ↦ p ]
+
+pub deadline_made : {X : Type 0} (t : Tunables) (s : X) (r : Result X SchedFault) → r ≡ Ok s → ((t.fifo_batch ≡ 0) ↔ (r ≡ Err setting.ZeroBatch)) → IsMade (under.Deadline t)
+deadline_made t s r e exact = not_zero t.fifo_batch (λ z. let g = sym e ∙ exact.0 z in cc g)
+
+pub kyber_made : {X : Type 0} (t : Targets) (s : X) (r : Result X SchedFault) → r ≡ Ok s → (((t.read ≡ 0) ⊎ (t.write ≡ 0)) ↔ (r ≡ Err setting.ZeroTarget)) → IsMade (under.Kyber t)
+kyber_made t s r e exact =
+    (not_zero t.read (λ z. let g = sym e ∙ exact.0 (inl z) in cc g), not_zero t.write (λ z. let g = sym e ∙ exact.0 (inr z) in cc g))
 
 -- a run from a start that is another's
 pub from_start : (policy : Policy) (script : Scripted) (trace : Traced) (m n : Meaning) (k l : List ℕ) → m ≡ n → k ≡ l → RunsFrom policy script m k trace → RunsFrom policy script n l trace

@@ -6,6 +6,7 @@ use Rattle.std.specs.Str.Parse.{digits_value, without_leading_plus}
 use Rattle.clap.specs.ValueTests.{accepts}
 use Rattle.clap.specs.declared.builder.value_parser.ValueParser.TheVariants as vp
 use Rattle.blk_deadline.specs.declared.Tunables.{Tunables}
+use Rattle.blk_kyber.specs.declared.Targets.{Targets}
 use Rattle.clap.specs.Words.{App, Row, Text, IsAmong, fault_of, first_of, one_of, subcommand_of}
 use Rattle.clap.specs.declared.error.kind.ErrorKind.{ErrorKind}
 use Rattle.clap.specs.declared.error.kind.ErrorKind.TheVariants as kind
@@ -15,13 +16,16 @@ use Rattle.blk_cli.specs.declared.words.Job.{Job}
 use Rattle.blk_cli.specs.declared.words.Job.TheVariants as job
 use Rattle.blk_cli.specs.Line.{Names, AreSchedulers, blk_app}
 
--- a number of 16 bits in decimal digits
-abbrev pub number_in : Text → Option ℕ
-number_in text = if accepts false (vp.Unsigned 0 65535) text then Some (digits_value 10 (without_leading_plus text)) else None
+-- a number in decimal digits, up to the most
+abbrev pub number_in : ℕ → Text → Option ℕ
+number_in most text = if accepts false (vp.Unsigned 0 most) text then Some (digits_value 10 (without_leading_plus text)) else None
 
--- the number that an option is given, and whether a flag is
+-- the number of 16 bits that an option is given, the one of 64 bits, and whether a flag is
+abbrev pub short_given : Text → List Row → Option ℕ
+short_given id rows = option_and_then (number_in 65_535) (one_of id rows)
+
 abbrev pub number_given : Text → List Row → Option ℕ
-number_given id rows = option_and_then number_in (one_of id rows)
+number_given id rows = option_and_then (number_in 18_446_744_073_709_551_615) (one_of id rows)
 
 abbrev pub is_flagged : Text → List Row → Bool
 is_flagged id rows = option_map_or (λ text. bytes_eq text (codes "true")) (first_of id rows) false
@@ -31,13 +35,21 @@ abbrev pub tuned : Bool → Option ℕ → Option ℕ → Option Tunables
 tuned front batch starved = option_and_then (λ b. option_map (λ s. record { fifo_batch = b; writes_starved = s; front_merges = front }) starved) batch
 
 abbrev pub tunables_of : List Row → Option Tunables
-tunables_of rows = tuned (not (is_flagged (codes "no-front-merges") rows)) (number_given (codes "fifo-batch") rows) (number_given (codes "writes-starved") rows)
+tunables_of rows = tuned (not (is_flagged (codes "no-front-merges") rows)) (short_given (codes "fifo-batch") rows) (short_given (codes "writes-starved") rows)
+
+-- the settings of `kyber` of these numbers
+abbrev pub aimed : Option ℕ → Option ℕ → Option Targets
+aimed read write = option_and_then (λ r. option_map (λ w. record { read = r; write = w }) write) read
+
+abbrev pub targets_of : List Row → Option Targets
+targets_of rows = aimed (number_given (codes "read-target") rows) (number_given (codes "write-target") rows)
 
 -- the scheduler of a name, with its settings
 abbrev pub sched_named : List Row → Text → Option Sched
 sched_named rows name =
     if bytes_eq name (codes "none") then Some sched.None
-    else (if bytes_eq name (codes "deadline") then option_map sched.Deadline (tunables_of rows) else None)
+    else (if bytes_eq name (codes "deadline") then option_map sched.Deadline (tunables_of rows)
+    else (if bytes_eq name (codes "kyber") then option_map sched.Kyber (targets_of rows) else None))
 
 -- the scheduler that the options of `sim` name
 abbrev pub sched_of : List Row → Option Sched

@@ -3,6 +3,7 @@ use Rattle.std.specs.Prelude.{◌≡◌, pos, true, List, Some, [], ◌∷◌, c
 use Rattle.std.specs.Borrow.{Bor}
 use Rattle.clap.specs.Words.{App, Rule, Text, new_app, new_rule, with_rule, with_subcommand}
 use Rattle.clap.specs.declared.builder.ArgAction.TheVariants.{Set, SetTrue}
+use Rattle.clap.specs.declared.builder.value_parser.ValueParser.{ValueParser}
 use Rattle.clap.specs.declared.builder.value_parser.ValueParser.TheVariants as vp
 
 -- names behind a reference
@@ -11,15 +12,22 @@ Names = Bor (List (Bor Text))
 
 -- they are those of the schedulers
 abbrev pub AreSchedulers : Names → Type 0
-AreSchedulers names = map (λ name. name.now) names.now ≡ codes "none" ∷ codes "deadline" ∷ []
+AreSchedulers names = map (λ name. name.now) names.now ≡ codes "none" ∷ codes "deadline" ∷ codes "kyber" ∷ []
 
 -- `--sched`, by default none
 abbrev pub sched_rule : Names → Rule
 sched_rule names = record (new_rule (codes "sched")) { long = Some (codes "sched"); action = Some Set; parser = Some (vp.Names names); defaults = codes "none" ∷ [] }
 
--- an option that takes a number of 16 bits, and its default
-abbrev pub number_rule : Text → Text → Rule
-number_rule name default = record (new_rule name) { long = Some name; action = Some Set; parser = Some (vp.Signed (pos 0) (pos 65535)); defaults = default ∷ [] }
+-- an option that takes a number, and its default
+abbrev pub number_rule : Text → ValueParser → Text → Rule
+number_rule name parser default = record (new_rule name) { long = Some name; action = Some Set; parser = Some parser; defaults = default ∷ [] }
+
+-- a number of 16 bits, and a target in rounds
+abbrev pub short : ValueParser
+short = vp.Signed (pos 0) (pos 65535)
+
+abbrev pub target : ValueParser
+target = vp.Unsigned 0 1_000_000
 
 -- the flag `--no-front-merges`
 abbrev pub front_rule : Rule
@@ -28,8 +36,8 @@ front_rule = record (new_rule (codes "no-front-merges")) { long = Some (codes "n
 -- `sim` and its options
 abbrev pub sim_app : Names → App
 sim_app names =
-    with_rule (with_rule (with_rule (with_rule (new_app (codes "sim")) (sched_rule names)) (number_rule (codes "fifo-batch") (codes "16")))
-    (number_rule (codes "writes-starved") (codes "2"))) front_rule
+    with_rule (with_rule (with_rule (with_rule (with_rule (with_rule (new_app (codes "sim")) (sched_rule names)) (number_rule (codes "fifo-batch") short (codes "16")))
+    (number_rule (codes "writes-starved") short (codes "2"))) front_rule) (number_rule (codes "read-target") target (codes "2"))) (number_rule (codes "write-target") target (codes "10"))
 
 -- a command with a version, which wants a subcommand
 abbrev pub topmost : App → App

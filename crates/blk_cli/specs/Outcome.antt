@@ -1,5 +1,5 @@
 -- What a job comes to: what it wrote, or why it failed.
-use Rattle.std.specs.Prelude.{◌≡◌, ◌↔◌, ◌⊎◌, ◌*◌, ◌<◌, ◌++◌, ◌∷◌, ⊤, true, ℕ, ℤ, pos, ◌+ℤ◌, Bool, List, [], Option, None, Some, Result, Err, MatchResult, IfSome, IsPermutation, sum_by, codes, decimal}
+use Rattle.std.specs.Prelude.{◌≡◌, ◌↔◌, ◌⊎◌, ◌*◌, ◌<◌, ◌++◌, ◌∷◌, ⊤, true, ℕ, ℤ, pos, ◌+ℤ◌, List, [], Option, None, Some, Result, Err, MatchResult, IfSome, IsPermutation, sum_by, codes, decimal}
 use Rattle.std.specs.Fmt.{signed_decimal}
 use Rattle.std.specs.Io.KnownBytes.{Appends}
 use Rattle.edd_check.specs.declared.Command.{Command}
@@ -18,6 +18,9 @@ use Rattle.blk_sched.specs.declared.SchedFault.{SchedFault}
 use Rattle.blk_sched.specs.declared.SchedFault.TheVariants as setting
 use Rattle.blk_none.specs.Choice.{serves_own, none_chooses}
 use Rattle.blk_deadline.specs.Choice.{serves_all, deadline_chooses, kept_of as deadline_kept}
+use Rattle.blk_kyber.specs.Choice.{serves_own as kyber_serves}
+use Rattle.blk_kyber.specs.Kept.{kept_at_first, numbers_of, Chooses, Told}
+use Rattle.blk_kyber.specs.Limits.{Done, Tick}
 use Rattle.blk_text.specs.declared.fault.Why.{Why}
 use Rattle.blk_text.specs.declared.fault.Why.TheVariants as why
 use Rattle.blk_text.specs.declared.fault.TextFault.{TextFault}
@@ -41,28 +44,43 @@ use Rattle.blk_cli.specs.declared.words.Job.TheVariants as job
 use Rattle.blk_cli.specs.declared.failure.Failure.{Failure}
 use Rattle.blk_cli.specs.declared.failure.Failure.TheVariants as failure
 
--- the policy of a scheduler, what it means before it has any request, and what it keeps then
+-- the policy of a scheduler, what it means before it has any request, and what it keeps then at a depth
 abbrev pub policy_under : Sched → Policy
 policy_under sched.None = policy_of serves_own none_chooses (λ _ _ _ old new. new ≡ old) (λ _ old new. new ≡ old)
 policy_under (sched.Deadline t) = policy_of serves_all deadline_chooses (λ _ _ _ old new. new ≡ old) (λ _ old new. new ≡ old)
+policy_under (sched.Kyber t) = policy_of kyber_serves Chooses (λ _ dir wait old new. Told (Done dir wait) old new) (λ now old new. Told (Tick now) old new)
 
 abbrev pub meaning_of : Sched → Meaning
 meaning_of sched.None = at_start true
 meaning_of (sched.Deadline t) = at_start t.front_merges
+meaning_of (sched.Kyber t) = at_start true
 
-abbrev pub kept_of : Sched → List ℕ
-kept_of sched.None = []
-kept_of (sched.Deadline t) = deadline_kept (record { last = None; batching = 0; starved = 0 }) t
+abbrev pub kept_of : Sched → ℕ → List ℕ
+kept_of sched.None depth = []
+kept_of (sched.Deadline t) depth = deadline_kept (record { last = None; batching = 0; starved = 0 }) t
+kept_of (sched.Kyber t) depth = numbers_of (kept_at_first t depth)
 
--- a scheduler is made of these settings: a batch is of some request
+-- a scheduler is made of these settings: a batch is of some request, a target of some round
 abbrev pub IsMade : Sched → Type 0
 IsMade sched.None = ⊤
 IsMade (sched.Deadline t) = 0 < t.fifo_batch
+IsMade (sched.Kyber t) = (0 < t.read) × (0 < t.write)
 
--- it isn't made, for a batch of none
-abbrev pub IsZeroBatch : Sched → SchedFault → Type 0
-IsZeroBatch sched.None f = ⊥
-IsZeroBatch (sched.Deadline t) f = (t.fifo_batch ≡ 0) × (f ≡ setting.ZeroBatch)
+-- it isn't made: for a batch of no request, for a target of no round, or for want of memory
+abbrev pub HasZeroBatch : Sched → Type 0
+HasZeroBatch sched.None = ⊥
+HasZeroBatch (sched.Deadline t) = t.fifo_batch ≡ 0
+HasZeroBatch (sched.Kyber t) = ⊥
+
+abbrev pub HasZeroTarget : Sched → Type 0
+HasZeroTarget sched.None = ⊥
+HasZeroTarget (sched.Deadline t) = ⊥
+HasZeroTarget (sched.Kyber t) = (t.read ≡ 0) ⊎ (t.write ≡ 0)
+
+abbrev pub IsUnmade : Sched → SchedFault → Type 0
+IsUnmade s setting.ZeroBatch = HasZeroBatch s
+IsUnmade s setting.ZeroTarget = HasZeroTarget s
+IsUnmade s setting.Memory = ⊤
 
 -- the steps of a script lead from the start to this trace
 abbrev pub RunsFrom : Policy → Scripted → Meaning → List ℕ → Traced → Type 0
@@ -71,10 +89,10 @@ RunsFrom policy script meaning kept trace = (end : SimState) × Runs policy scri
 
 -- they do so under a scheduler, and one of them is refused under it
 abbrev pub RunsUnder : Sched → Scripted → Traced → Type 0
-RunsUnder s script trace = IsMade s × RunsFrom (policy_under s) script (meaning_of s) (kept_of s) trace
+RunsUnder s script trace = IsMade s × RunsFrom (policy_under s) script (meaning_of s) (kept_of s script.setup.depth) trace
 
 abbrev pub IsRefusedUnder : Sched → Scripted → SimFault → Type 0
-IsRefusedUnder s script f = IsMade s × IsSimFault (policy_under s) script (meaning_of s) (kept_of s) f
+IsRefusedUnder s script f = IsMade s × IsSimFault (policy_under s) script (meaning_of s) (kept_of s script.setup.depth) f
 
 -- what `sim` wrote: the text that spells a legal trace under the script's setup, to which its steps lead under the scheduler.
 -- Its bios are, each once, the `bio` lines that are followed by a flush of their submitter, and after it by a drain of its
@@ -137,7 +155,7 @@ IsStepFault s input f = IfSome input (λ rows. (script : Scripted) × SpellsScri
 
 -- the scheduler isn't made, once the script was read
 abbrev pub IsSettingFault : Sched → Option (List Row) → SchedFault → Type 0
-IsSettingFault s input f = IfSome input (λ rows. (script : Scripted) × SpellsScript rows script × IsZeroBatch s f)
+IsSettingFault s input f = IfSome input (λ rows. (script : Scripted) × SpellsScript rows script × IsUnmade s f)
 
 -- the oracle refuses the commands that were read
 abbrev pub IsSolveFault : Option (List Row) → OracleFault → Type 0
@@ -156,7 +174,7 @@ IsCheckFault input f = IfSome input (λ rows. (claim : Claim) × SpellsClaim row
 -- memory
 abbrev pub IsUnrun : Sched → Scripted → Failure → Type 0
 IsUnrun s script (failure.Text f) = ⊥
-IsUnrun s script (failure.Sched f) = IsZeroBatch s f
+IsUnrun s script (failure.Sched f) = IsUnmade s f
 IsUnrun s script (failure.Step f) = IsRefusedUnder s script f
 IsUnrun s script (failure.Solve f) = ⊥
 IsUnrun s script (failure.Check f) = ⊥

@@ -13,6 +13,12 @@ pub fn plain_lines()
     ensures none { (name : Text) → (j : AJob) → Asks (name ∷ codes "sim" ∷ codes "--sched" ∷ codes "none" ∷ []) j ↔ (j ≡ Job.Sim Sched.None) }
     ensures deadline { (name : Text) → (j : AJob) → Asks (name ∷ codes "sim" ∷ codes "--sched" ∷ codes "deadline" ∷ []) j
         ↔ (j ≡ Job.Sim (Sched.Deadline (record { fifo_batch = 16; writes_starved = 2; front_merges = true }))) }
+    ensures kyber { (name : Text) → (j : AJob) → Asks (name ∷ codes "sim" ∷ codes "--sched" ∷ codes "kyber" ∷ []) j
+        ↔ (j ≡ Job.Sim (Sched.Kyber (record { read = 2; write = 10 }))) }
+    ensures batch { (name : Text) → (j : AJob) → Asks (name ∷ codes "sim" ∷ codes "--sched" ∷ codes "deadline" ∷ codes "--fifo-batch" ∷ codes "1" ∷ []) j
+        ↔ (j ≡ Job.Sim (Sched.Deadline (record { fifo_batch = 1; writes_starved = 2; front_merges = true }))) }
+    ensures target { (name : Text) → (j : AJob) → Asks (name ∷ codes "sim" ∷ codes "--sched" ∷ codes "kyber" ∷ codes "--read-target" ∷ codes "1000000" ∷ []) j
+        ↔ (j ≡ Job.Sim (Sched.Kyber (record { read = 1_000_000; write = 10 }))) }
     ensures oracle { (name : Text) → (j : AJob) → Asks (name ∷ codes "oracle" ∷ []) j ↔ (j ≡ Job.Oracle) }
     ensures check { (name : Text) → (j : AJob) → Asks (name ∷ codes "check" ∷ []) j ↔ (j ≡ Job.Check) }
     ensures version { (name : Text) → Asks (name ∷ codes "--version" ∷ []) Job.Version }

@@ -16,8 +16,8 @@ ghost use Rattle.blk_cli.specs.Outcome.{RunsUnder, IsUnrun, IsUnsolved, IsUnprov
 use crate::failure::Failure;
 use crate::words::{Sched, VERSION};
 use blk_deadline::{Deadline, Tunables};
+use blk_kyber::{Kyber, Targets};
 use blk_none::NoneSched;
-use blk_sched::SchedFault;
 use blk_sim::simulate;
 use blk_text::{
     Certificate, Records, Script, WriteFault, read_certificate, read_commands, read_script,
@@ -49,8 +49,9 @@ fn traced_by_none(alloc: Global, script: &Script) -> Result<Trace, Failure>
     ensures ticks { IfOk result (λ trace. round_of trace.events ≡ sum_by ticks_of script.now.lines.items) }
     ensures unrun { IfErr result (IsUnrun Sched.None (scripted script.now)) }
 {
-    let Ok(scheduler) = NoneSched::new(alloc) else {
-        return Err(Failure::Memory);
+    let scheduler = match NoneSched::new(alloc) {
+        Ok(scheduler) => scheduler,
+        Err(fault) => return Err(Failure::Sched(fault)),
     };
     match simulate(alloc, script, scheduler) {
         Ok(trace) => Ok(trace),
@@ -67,11 +68,28 @@ fn traced_by_deadline(alloc: Global, tunables: Tunables, script: &Script) -> Res
     ensures ticks { IfOk result (λ trace. round_of trace.events ≡ sum_by ticks_of script.now.lines.items) }
     ensures unrun { IfErr result (IsUnrun (Sched.Deadline tunables) (scripted script.now)) }
 {
-    if tunables.fifo_batch == 0 {
-        return Err(Failure::Sched(SchedFault::ZeroBatch));
+    let scheduler = match Deadline::new(alloc, tunables) {
+        Ok(scheduler) => scheduler,
+        Err(fault) => return Err(Failure::Sched(fault)),
+    };
+    match simulate(alloc, script, scheduler) {
+        Ok(trace) => Ok(trace),
+        Err(fault) => Err(Failure::Step(fault)),
     }
-    let Ok(scheduler) = Deadline::new(alloc, tunables) else {
-        return Err(Failure::Memory);
+}
+
+/// The trace of a script under `kyber`, whose limits begin at the depth of the script's setup.
+fn traced_by_kyber(alloc: Global, targets: Targets, script: &Script) -> Result<Trace, Failure>
+    requires { IsScript (scripted script.now) }
+    ensures ran { IfOk result (λ trace. RunsUnder (Sched.Kyber targets) (scripted script.now) trace) }
+    ensures setup { IfOk result (λ trace. trace.setup ≡ script.now.setup) }
+    ensures bios { IfOk result (λ trace. IsPermutation (entered trace.events) (released_bios script.now.setup.hw script.now.lines.items)) }
+    ensures ticks { IfOk result (λ trace. round_of trace.events ≡ sum_by ticks_of script.now.lines.items) }
+    ensures unrun { IfErr result (IsUnrun (Sched.Kyber targets) (scripted script.now)) }
+{
+    let scheduler = match Kyber::new(alloc, targets, script.setup.depth()) {
+        Ok(scheduler) => scheduler,
+        Err(fault) => return Err(Failure::Sched(fault)),
     };
     match simulate(alloc, script, scheduler) {
         Ok(trace) => Ok(trace),
@@ -91,6 +109,7 @@ fn traced(alloc: Global, sched: Sched, script: &Script) -> Result<Trace, Failure
     match sched {
         Sched::None => traced_by_none(alloc, script),
         Sched::Deadline(tunables) => traced_by_deadline(alloc, tunables, script),
+        Sched::Kyber(targets) => traced_by_kyber(alloc, targets, script),
     }
 }
 

@@ -3,16 +3,21 @@
 ghost use Rattle.std.specs.Prelude.{◌≡◌, ◌⊎◌, false, IfOk, IfErr, map, option_and_then, string_bytes};
 ghost use Rattle.clap.specs.Words.{app_of, rule_of, rows_of, found_of, subcommand_rows_of};
 ghost use Rattle.clap.specs.declared.builder.command.Command.TheViews.{out-Command as fields_of};
-ghost use Rattle.blk_cli.specs.Line.{Names, AreSchedulers, sched_rule, number_rule, front_rule, sim_app, blk_app};
-ghost use Rattle.blk_cli.specs.Asked.{Asks, AreRefused, number_given, is_flagged, tunables_of, sched_of, job_of};
+ghost use Rattle.blk_cli.specs.Line.{Names, AreSchedulers, sched_rule, number_rule, target, front_rule, sim_app, blk_app};
+ghost use Rattle.blk_cli.specs.Asked.{Asks, AreRefused, short_given, number_given, is_flagged, tunables_of, targets_of, sched_of, job_of};
 
 use blk_deadline::Tunables;
+use blk_kyber::Targets;
+use clap::builder::ValueParser;
 use clap::error::ErrorKind;
 use clap::{Arg, ArgAction, ArgMatches, Command, Error, value_parser};
 use std::alloc::{AllocError, Global};
 
 /// The names of the schedulers.
-static SCHEDULERS: [&str; 2] = ["none", "deadline"];
+static SCHEDULERS: [&str; 3] = ["none", "deadline", "kyber"];
+
+/// The greatest target of `kyber`, in rounds.
+const MOST_TARGET: u64 = 1_000_000;
 
 /// The version of the program.
 pub const VERSION: &str = "1.0.0";
@@ -24,6 +29,8 @@ pub enum Sched {
     None,
     /// `deadline`: by sectors within a batch, and by due rounds between batches.
     Deadline(Tunables),
+    /// `kyber`: by turns of reads and writes, within limits on what is in flight.
+    Kyber(Targets),
 }
 
 /// What the program is asked to do.
@@ -63,17 +70,32 @@ fn sched_arg<'a>(alloc: Global) -> Arg<'a>
         .help("The scheduler")
 }
 
-/// An argument that takes a number of 16 bits.
-fn number_arg<'a>(alloc: Global, name: &'a str, default: &'a str, help: &'a str) -> Arg<'a>
-    ensures rule { rule_of result ≡ number_rule name.entry.now default.entry.now }
+/// An argument that takes a number.
+fn number_arg<'a>(
+    alloc: Global,
+    name: &'a str,
+    parser: ValueParser<'a>,
+    default: &'a str,
+    help: &'a str,
+) -> Arg<'a>
+    ensures rule { rule_of result ≡ number_rule name.entry.now parser.entry default.entry.now }
     ensures local { result.global ≡ false }
 {
     Arg::new(alloc, name)
         .long(name)
         .action(ArgAction::Set)
-        .value_parser(value_parser!(u16))
+        .value_parser(parser)
         .default_value(default)
         .help(help)
+}
+
+/// An argument that takes a target of `kyber`.
+fn target_arg<'a>(alloc: Global, name: &'a str, default: &'a str, help: &'a str) -> Arg<'a>
+    ensures rule { rule_of result ≡ number_rule name.entry.now target default.entry.now }
+    ensures local { result.global ≡ false }
+{
+    let parser = ValueParser::unsigned(0, MOST_TARGET);
+    number_arg(alloc, name, parser, default, help)
 }
 
 /// The flag that keeps newcomers from joining at the front.
@@ -95,21 +117,37 @@ fn sim_command<'a>(alloc: Global) -> Result<Command<'a>, AllocError>
     let batch = number_arg(
         alloc,
         "fifo-batch",
+        value_parser!(u16),
         "16",
         "Under deadline, how many requests go in one batch",
     );
     let starved = number_arg(
         alloc,
         "writes-starved",
+        value_parser!(u16),
         "2",
         "Under deadline, how often reads go first while writes wait",
+    );
+    let read = target_arg(
+        alloc,
+        "read-target",
+        "2",
+        "Under kyber, how many rounds a read may wait",
+    );
+    let write = target_arg(
+        alloc,
+        "write-target",
+        "10",
+        "Under kyber, how many rounds a write may wait",
     );
     let sim = Command::new(alloc, "sim")
         .about("Runs a script and writes its trace")
         .arg(sched_arg(alloc))?
         .arg(batch)?
         .arg(starved)?
-        .arg(front_arg(alloc))?;
+        .arg(front_arg(alloc))?
+        .arg(read)?
+        .arg(write)?;
     Ok(sim)
 }
 
@@ -132,11 +170,18 @@ fn blk_command<'a>(alloc: Global) -> Result<Command<'a>, AllocError>
     Ok(blk)
 }
 
-/// The number that an option is given.
-fn number_of(options: &ArgMatches<'_>, id: &str) -> Option<u16>
-    ensures { result ≡ number_given id.now (rows_of (found_of options.now)) }
+/// The number of 16 bits that an option is given.
+fn short_of(options: &ArgMatches<'_>, id: &str) -> Option<u16>
+    ensures { result ≡ short_given id.now (rows_of (found_of options.now)) }
 {
     options.get_one::<u16>(id)
+}
+
+/// The number that an option is given.
+fn number_of(options: &ArgMatches<'_>, id: &str) -> Option<u64>
+    ensures { result ≡ number_given id.now (rows_of (found_of options.now)) }
+{
+    options.get_one::<u64>(id)
 }
 
 /// Whether a flag is given.
@@ -153,14 +198,23 @@ fn is_flagged(options: &ArgMatches<'_>, id: &str) -> bool
 fn tunables_of(options: &ArgMatches<'_>) -> Option<Tunables>
     ensures { result ≡ tunables_of (rows_of (found_of options.now)) }
 {
-    let fifo_batch = number_of(options, "fifo-batch")?;
-    let writes_starved = number_of(options, "writes-starved")?;
+    let fifo_batch = short_of(options, "fifo-batch")?;
+    let writes_starved = short_of(options, "writes-starved")?;
     let front_merges = !is_flagged(options, "no-front-merges");
     Some(Tunables {
         fifo_batch,
         writes_starved,
         front_merges,
     })
+}
+
+/// The settings of `kyber` by the options of `sim`.
+fn targets_of(options: &ArgMatches<'_>) -> Option<Targets>
+    ensures { result ≡ targets_of (rows_of (found_of options.now)) }
+{
+    let read = number_of(options, "read-target")?;
+    let write = number_of(options, "write-target")?;
+    Some(Targets { read, write })
 }
 
 /// The scheduler that the options of `sim` name.
@@ -173,6 +227,9 @@ fn sched_of(options: &ArgMatches<'_>) -> Option<Sched>
     } else if name == "deadline" {
         let tunables = tunables_of(options)?;
         Some(Sched::Deadline(tunables))
+    } else if name == "kyber" {
+        let targets = targets_of(options)?;
+        Some(Sched::Kyber(targets))
     } else {
         None
     }

@@ -1,9 +1,13 @@
 //! The laws of the program: each can be called.
 
-use blk_cli::laws::{one_more_step, released_by_flush_and_move};
+use blk_cli::asking::plain_lines;
+use blk_cli::laws::{each_step_keeps, one_more_step, released_by_flush_and_move};
+use blk_none::NoneSched;
 
 #[test]
 fn laws_hold() {
+    plain_lines();
     released_by_flush_and_move();
     one_more_step();
+    each_step_keeps::<NoneSched>();
 }

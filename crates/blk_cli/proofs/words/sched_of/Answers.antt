@@ -2,7 +2,7 @@ use Rattle.std.proofs.Common.{◌≡◌, ◌∙◌, sym, refl, true, false, code
 use Rattle.std.specs.Str.{bytes_eq}
 use Rattle.clap.specs.Words.{found_of, rows_of}
 use Rattle.blk_cli.specs.declared.words.Sched.TheVariants as sched
-use Rattle.blk_cli.proofs.Lines.{sched_by, no_sched_by, deadline_named, unnamed}
+use Rattle.blk_cli.proofs.Lines.{sched_by, no_sched_by, deadline_named, kyber_named, unnamed}
 use Rattle.blk_cli.proofs.words.sched_of.Goals as goal
 
 pub returns-in_err-name : goal.returns-in_err-name
@@ -30,10 +30,30 @@ returns-in_ok-tunables c =
     sched_by f name (Some (sched.Deadline c.in_ok-tunables.tunables)) c.in_ok-name.ensures
     (deadline_named (rows_of f) name (Some c.in_ok-tunables.tunables) other is c.in_ok-tunables.ensures)
 
-pub returns-else-eq-2 : goal.returns-else-eq-2
-returns-else-eq-2 c =
+pub returns-in_err-targets : goal.returns-in_err-targets
+returns-in_err-targets c =
     let f = found_of c.args.options.now in
     let name = c.in_ok-name.name.now in
     let other : bytes_eq name (codes "none") ≡ false = sym c.eq.ensures ∙ c.if-eq.false in
     let another : bytes_eq name (codes "deadline") ≡ false = sym c.eq-else-eq.ensures ∙ c.if-eq-2.false in
-    sched_by f name None c.in_ok-name.ensures (unnamed (rows_of f) name other another)
+    let is : bytes_eq name (codes "kyber") ≡ true = sym c.eq-else-eq-2.ensures ∙ c.if-eq-3.true in
+    c.from_residual-in_err-targets.ensures ∙ sched_by f name None c.in_ok-name.ensures (kyber_named (rows_of f) name None other another is c.in_err-targets.ensures)
+
+pub returns-in_ok-targets : goal.returns-in_ok-targets
+returns-in_ok-targets c =
+    let f = found_of c.args.options.now in
+    let name = c.in_ok-name.name.now in
+    let other : bytes_eq name (codes "none") ≡ false = sym c.eq.ensures ∙ c.if-eq.false in
+    let another : bytes_eq name (codes "deadline") ≡ false = sym c.eq-else-eq.ensures ∙ c.if-eq-2.false in
+    let is : bytes_eq name (codes "kyber") ≡ true = sym c.eq-else-eq-2.ensures ∙ c.if-eq-3.true in
+    sched_by f name (Some (sched.Kyber c.in_ok-targets.targets)) c.in_ok-name.ensures
+    (kyber_named (rows_of f) name (Some c.in_ok-targets.targets) other another is c.in_ok-targets.ensures)
+
+pub returns-else-eq-3 : goal.returns-else-eq-3
+returns-else-eq-3 c =
+    let f = found_of c.args.options.now in
+    let name = c.in_ok-name.name.now in
+    let other : bytes_eq name (codes "none") ≡ false = sym c.eq.ensures ∙ c.if-eq.false in
+    let another : bytes_eq name (codes "deadline") ≡ false = sym c.eq-else-eq.ensures ∙ c.if-eq-2.false in
+    let third : bytes_eq name (codes "kyber") ≡ false = sym c.eq-else-eq-2.ensures ∙ c.if-eq-3.false in
+    sched_by f name None c.in_ok-name.ensures (unnamed (rows_of f) name other another third)

@@ -1,0 +1,113 @@
+//! How far a trace fell short of the best possible deadlines, and which of several traces is the best.
+//!
+//! The measure is the greatest lateness (Lmax of Pinedo, Scheduling): the round of a command less the round in which it was
+//! due, the greatest of all commands. A trace has one, the oracle finds the least that any legal schedule of the same commands
+//! has, and the difference is what the scheduler lost. A window of rounds that had more commands to serve than they carry
+//! proves the least.
+#![tactic(auto)]
+
+ghost use Rattle.std.specs.Prelude.{◌≡◌, IfOk, IfSome, IsNone, ◌↔◌};
+ghost use Rattle.edd_check.specs.Schedule.{IsLegal};
+ghost use Rattle.edd_oracle.specs.Answer.{IsBest};
+ghost use Rattle.blk_trace.specs.Laws.{AreBounded};
+ghost use Rattle.blk_report.specs.Shortfall.{IsReport, HasFigures};
+ghost use Rattle.blk_report.specs.Comparison.{IsFirstBest, HasNoBest, better_of};
+
+mod figures;
+mod lines;
+
+pub use crate::figures::Report;
+pub use crate::lines::write;
+use blk_trace::Trace;
+use edd_check::{Capacity, Command, greatest_lateness, load};
+use edd_oracle::{Answer, solve};
+use std::alloc::{AllocError, Allocator};
+
+/// The report with the figures of the schedule of its commands, of which the oracle gave this answer.
+fn with_figures<A: Allocator, B: Allocator>(
+    report: Report,
+    commands: &[Command],
+    rounds: &[u64],
+    capacity: &Capacity<B>,
+    answer: &Answer<A>,
+) -> Report
+    requires scheduled { IsLegal commands.now rounds.now capacity.now }
+    requires bounded { AreBounded commands.now rounds.now }
+    requires best { IsBest commands.now capacity.now answer.now.rounds.items answer.now.lateness answer.now.window }
+    ensures figures { HasFigures commands.now rounds.now capacity.now result }
+    ensures counts { (result.commands ≡ report.commands) × (result.waiting ≡ report.waiting) × (result.depth ≡ report.depth) }
+{
+    let _ = capacity.at(0);
+    let Some(greatest) = greatest_lateness(commands, rounds) else {
+        unreachable!()
+    };
+    Report {
+        greatest: Some(greatest),
+        least: Some(answer.lateness),
+        shortfall: Some(greatest - answer.lateness),
+        window: Some(answer.window),
+        load: Some(load(commands, answer.window)),
+        ..report
+    }
+}
+
+/// The report of a trace. The least lateness is by the trace's own capacity, the depth of each of its rounds. Fails for want of
+/// memory alone. The time grows as n log n in the number of commands and events.
+pub fn report<A: Allocator + Clone>(trace: &Trace<A>) -> Result<Report, AllocError>
+    ensures { IfOk result (IsReport trace.now.setup trace.now.events) }
+{
+    let commands = trace.commands()?;
+    let rounds = trace.rounds()?;
+    let capacity = trace.capacity()?;
+    let counts = Report {
+        commands: commands.len() as u64,
+        waiting: trace.waiting()?.len() as u64,
+        depth: trace.setup().depth(),
+        greatest: None,
+        least: None,
+        shortfall: None,
+        window: None,
+        load: None,
+    };
+    let alloc = commands.allocator().clone()?;
+    match solve(alloc, commands.as_slice(), &capacity) {
+        Ok(None) => Ok(counts),
+        Ok(Some(answer)) => Ok(with_figures(
+            counts,
+            commands.as_slice(),
+            rounds.as_slice(),
+            &capacity,
+            &answer,
+        )),
+        // a trace's commands are within the limits of the oracle, so want of memory is all that it refuses them for
+        Err(_) => Err(AllocError),
+    }
+}
+
+/// The better of the best so far and the next report, which is at this place and has this greatest lateness: the best so far,
+/// unless there is none or the next one is less late.
+fn better(best: Option<(usize, i64)>, place: usize, late: Option<i64>) -> Option<(usize, i64)>
+    ensures { result ≡ better_of best place late }
+{
+    match (best, late) {
+        (Some((_, least)), Some(late)) if late < least => Some((place, late)),
+        (None, Some(late)) => Some((place, late)),
+        _ => best,
+    }
+}
+
+/// The place of the report with the smallest greatest lateness, the first on a tie; there is none exactly where no report has
+/// commands. It takes no memory.
+pub fn compare(reports: &[Report]) -> Option<usize>
+    ensures best { IfSome result (IsFirstBest reports.now) }
+    ensures none { IsNone result ↔ HasNoBest reports.now }
+{
+    let mut best = None;
+    for place in 0..reports.len() {
+        best = better(best, place, reports[place].greatest);
+    }
+    match best {
+        Some((place, _)) => Some(place),
+        None => None,
+    }
+}

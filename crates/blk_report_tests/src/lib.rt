@@ -1,0 +1,11 @@
+//! Tests of reports.
+#![tactic(auto)]
+
+#[cfg(test)]
+mod comparison;
+#[cfg(test)]
+mod given;
+#[cfg(test)]
+mod refusals;
+#[cfg(test)]
+mod reports;
