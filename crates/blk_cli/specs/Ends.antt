@@ -86,6 +86,7 @@ step_name step.TagRange = codes "TagRange"
 step_name step.SlotUsed = codes "SlotUsed"
 step_name step.NotIssued = codes "NotIssued"
 step_name step.InFlight = codes "InFlight"
+step_name step.DepthRange = codes "DepthRange"
 step_name step.Memory = codes "Memory"
 
 -- the line on a fault of a text, of a step, of the oracle and of the check

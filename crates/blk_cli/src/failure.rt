@@ -160,6 +160,7 @@ fn step_name(why: SimWhy) -> &'static str
         SimWhy::SlotUsed => "SlotUsed",
         SimWhy::NotIssued => "NotIssued",
         SimWhy::InFlight => "InFlight",
+        SimWhy::DepthRange => "DepthRange",
         SimWhy::Memory => "Memory",
     }
 }
