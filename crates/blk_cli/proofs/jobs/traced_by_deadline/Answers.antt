@@ -1,4 +1,4 @@
-use Rattle.std.proofs.Common.{ap, ◌∙◌, ◌≡◌, List, ℕ, None, arith}
+use Rattle.std.proofs.Common.{ap, ◌∙◌, ◌≡◌, arith}
 use Rattle.blk_text.specs.Script.{scripted}
 use Rattle.blk_deadline.specs.Choice.{kept_of as deadline_kept}
 use Rattle.blk_deadline.specs.declared.Turn.{Turn}

@@ -1,5 +1,5 @@
 use Rattle.std.proofs.Common.{◌≡◌, ◌∙◌, ap, codes}
-use Rattle.clap.specs.Words.{App, app_of, new_app}
+use Rattle.clap.specs.Words.{app_of, new_app}
 use Rattle.clap.specs.Simple.{app_of_fields}
 use Rattle.blk_cli.proofs.Lines.{adds_rule}
 use Rattle.blk_cli.proofs.words.sim_command.Goals as goal
