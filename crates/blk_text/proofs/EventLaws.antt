@@ -337,4 +337,4 @@ events_end version count s left mid new es row h t = many_ends (event version s)
 pub events_past : (version count : ℕ) (s own : Setup) (failed : Bool) (left mid new : Option (List Row)) (es : List Happened) (row cells : Row) (at : ℕ) (w : Why) → own ≡ s → cells ≡ row → Reads (repeated (repeats.Exactly count) (event version s)) left mid es
     → Takes mid new row true → at ≡ 2 + size_of (event version s) es + 1 → (w ≡ why.Memory) ⊎ IsPast version own es cells w → Fails failed (events_of version s count) left 2 at w
 events_past version count s own failed left mid new es row cells at w e r h t is (inl m) = outside_fails failed (events_of version s count) left 2 at w (inr m)
-events_past version count s own failed left mid new es row cells at w e r h t is (inr p) = past_wrong failed (event version s) (one_more version s) (repeats.Exactly count) left mid new es row 2 at w h t is (rw (e, r) at p)
+events_past version count s own failed left mid new es row cells at w e r h t is (inr p) = past_wrong failed (event version s) (one_more version s) (repeats.Exactly count) left mid new es row (2) at w h t is (rw (e, r) at p)

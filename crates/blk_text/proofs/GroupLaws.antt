@@ -92,7 +92,7 @@ bio_gone version limits before = inl (inl (inr (refl, (λ i s. s), refl)))
 pub bio_lacks : (version : ℕ) (row : Row) (w : Why) → StartsWith (codes "bio") row → Lacks (slot.Given ∷ slots_by (bio_cells 256)) row w → IsWrongLine (whole_bio version) row w
 bio_lacks version row w t l = λ rest. inl (inl (tt, t, (refl, inl (t, l))))
 
-pub no_such_bio : (version : ℕ) (f : BioFault) (dir : Dir) (row : Row) (ns : List ℕ) → StartsWith (codes "bio") row → FieldsSpell (slot.Given ∷ slots_by (bio_cells 256)) row ns → get_or row 3 [] ≡ direction_text dir
+pub no_such_bio : (version : ℕ) (f : BioFault) (dir : Dir) (row : Row) (ns : List ℕ) → StartsWith (codes "bio") row → FieldsSpell (slot.Given ∷ slots_by (bio_cells 256)) row ns → get_or row (3) [] ≡ direction_text dir
     → IsBioAnswer (bio_with ns dir).id dir (bio_with ns dir).first (bio_with ns dir).sectors (Err f) → IsWrongLine (whole_bio version) row (why.Bio f)
 no_such_bio version f dir row ns t s d a =
     let line = word_line why.Count (codes "bio") (bio_cells 256) (FitsBy (bio_cells 256)) (bio_with ns dir) row ns t s (refl, (refl, (d, (refl, (refl, tt))))) (λ f. f) in

@@ -1,5 +1,5 @@
 -- The laws of the text of a trace.
-use Rattle.std.proofs.Common.{◌≡◌, ◌+◌, ◌<◌, ◌∙◌, ℕ, List, [], ◌∷◌, ◌++◌, length, map, refl, sym, ap, subst, inl, inr, arith, append_assoc, append-nil, get_or, codes, decimal, Option, Some, None, Bool}
+use Rattle.std.proofs.Common.{◌≡◌, ◌+◌, ◌<◌, ◌≤◌, ◌∙◌, ℕ, zero, suc, List, [], ◌∷◌, ◌++◌, length, map, refl, sym, ap, subst, inl, inr, arith, append_assoc, append-nil, get_or, codes, decimal, Option, Some, None, Bool}
 use Rattle.std.specs.Prelude.{◌⊎◌, All, IfSome}
 use Rattle.std.specs.List.{flat_map}
 use Rattle.std.proofs.lemmas.List.{map-append, length-append}
@@ -10,18 +10,19 @@ use Rattle.std.proofs.Math.ListN.{get_or-append}
 use Rattle.std.proofs.Math.Seq.{get_or-append_seam}
 use Rattle.csv.specs.Reading.{default_config, records, strip_bom}
 use Rattle.csv.specs.Writing.{read_back}
-use Rattle.blk_bio.specs.Bios.{Bio, end_of}
+use Rattle.blk_bio.specs.Bios.{Bio, IsBio, end_of}
 use Rattle.blk_bio.specs.Limits.{Limits}
 use Rattle.blk_bio.specs.Requests.{IsRequest, IsWithin, last_of, sectors_of, joined}
 use Rattle.blk_bio.specs.declared.request.Side.{Side}
 use Rattle.blk_bio.specs.declared.request.Side.TheVariants as side
-use Rattle.blk_bio.proofs.Tiles.{last_at}
+use Rattle.blk_bio.proofs.Tiles.{last_at, joins}
 use Rattle.blk_trace.specs.Happened.{Happened, Ticked, Released, Joined, Issued, Finished, Returned, DepthSet}
 use Rattle.blk_trace.specs.Setups.{Setup}
 use Rattle.blk_trace.specs.Traces.{Traced}
-use Rattle.blk_trace.specs.Events.{At}
+use Rattle.blk_trace.specs.Events.{At, EntersRequest}
 use Rattle.blk_trace.specs.Legal.{IsLegalTrace}
 use Rattle.blk_trace.proofs.Ids.{by_legal}
+use Rattle.blk_trace.proofs.Pushing.{empty_legal, push_legal}
 use Rattle.blk_text.specs.Sources.{Row}
 use Rattle.blk_text.specs.Texts.{rows_text}
 use Rattle.blk_text.specs.BioRecord.{bio_row}
@@ -261,6 +262,55 @@ fits_event version limits (DepthSet depth) f = let depth_in = f.0.1.0.1 in omega
 events_fit : (version : ℕ) (setup : Setup) (before es : List Happened) → AllFit (event version setup) with_next before es → All EventFits es
 events_fit version setup before [] f = All-nil EventFits
 events_fit version setup before (e ∷ es) f = all_cons EventFits e es (fits_event version setup.limits e f.0.0) (events_fit version setup (before ++ e ∷ []) es f.1)
+
+-- what is spelled is legal
+
+one_bio : (b : Bio) → IsBio b → IsRequest (b ∷ [])
+one_bio b i = record {
+  not_empty = omega arith;
+  each_bio = all_cons IsBio b [] i (All-nil IsBio);
+  one_direction = one_way;
+  tiles = λ k d l. absurd (omega (arith, l));
+}
+  where
+    one_way : (k : ℕ) (d : Bio) → k < length (b ∷ []) → (get_or (b ∷ []) k d).dir ≡ b.dir
+    one_way zero d l = refl
+    one_way (suc k) d l = absurd (omega (arith, l))
+
+-- a bio that tiles makes a request of those before it
+grown_request : (version : ℕ) (limits : Limits) (before : List Bio) (b : Bio) → (before ≡ []) ⊎ IsRequest before → (group_bio version limits before).Fits b → IsRequest (before ++ b ∷ [])
+grown_request version limits [] b r f = one_bio b f.0.1
+grown_request version limits (a ∷ bs) b (inl e) f = absurd (cc e)
+grown_request version limits (a ∷ bs) b (inr r) f = joins (a ∷ bs) (b ∷ []) r (one_bio b f.0.1) f.1.same_direction f.1.abuts
+
+group_request : (version : ℕ) (limits : Limits) (before bios : List Bio) → IsRequest before → AllFit (group_bio version limits) with_next before bios → IsRequest (before ++ bios)
+group_request version limits before [] r f = rw (append-nil before) r
+group_request version limits before (b ∷ bs) r f =
+    subst IsRequest (append_assoc before (b ∷ []) bs) (group_request version limits (before ++ b ∷ []) bs (grown_request version limits before b (inr r) f.0) f.1)
+
+some_request : (version : ℕ) (limits : Limits) (bios : List Bio) → 1 ≤ length bios → AllFit (group_bio version limits) with_next [] bios → IsRequest bios
+some_request version limits [] l f = absurd (omega (arith, l))
+some_request version limits (b ∷ bs) l f = group_request version limits (b ∷ []) bs (grown_request version limits [] b (inl refl) f.0) f.1
+
+enters_request : (version : ℕ) (limits : Limits) (e : Happened) → (plain_event version limits).Fits e → EntersRequest e
+enters_request version limits Ticked f = tt
+enters_request version limits (Released id bios) f = some_request version limits bios f.0.1.1.0.0 f.1.0
+enters_request version limits (Joined id bios) f = some_request version limits bios f.0.1.1.0.0 f.1.0
+enters_request version limits (Issued id tag) f = tt
+enters_request version limits (Finished tag) f = tt
+enters_request version limits (Returned tag) f = tt
+enters_request version limits (DepthSet depth) f = tt
+
+events_legal : (version : ℕ) (setup : Setup) (before es : List Happened) → IsLegalTrace setup before → AllFit (event version setup) with_next before es → IsLegalTrace setup (before ++ es)
+events_legal version setup before [] l f = rw (append-nil before) l
+events_legal version setup before (e ∷ es) l f =
+    subst (IsLegalTrace setup) (append_assoc before (e ∷ []) es)
+    (events_legal version setup (before ++ e ∷ []) es (push_legal setup before e l f.0.1 (enters_request version setup.limits e f.0.0)) f.1)
+
+pub spelled_legal : (rows : List Row) (t : Traced) → SpellsTrace rows t → IsTrace t
+spelled_legal rows t h =
+    let fits = h.1.fits.1 in
+    record { setup = fits.0.2; events = events_fit h.0 t.setup [] t.events fits.1.0.0; legal = events_legal h.0 t.setup [] t.events (empty_legal t.setup) fits.1.0.0 }
 
 pub trace_in : (t : Traced) (version depth hw count : ℕ) (n s : Setup) → t.setup ≡ n → n ≡ s → FitsSetup depth hw s → AreItems (repeats.Exactly count) (event version n) t.events → IsLegalTrace t.setup t.events → IsTrace t
 trace_in t version depth hw count n s d e f a l = record { setup = subst IsWholeSetup (sym (d ∙ e)) f.2; events = events_fit version n [] t.events a.0; legal = l }

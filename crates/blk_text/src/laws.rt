@@ -111,6 +111,11 @@ pub fn traces_read_back()
         → SpellsTraceIn version (records default_config (strip_bom (rows_text (trace_form.rows_of (trace_value version t))))) t }
 {}
 
+/// Records spell a legal trace alone, whose numbers lie in their ranges.
+pub fn spelled_traces_are_legal()
+    ensures { (rows : List Row) → (t : Traced) → SpellsTrace rows t → IsTrace t }
+{}
+
 /// Records that spell a trace have no fault.
 pub fn spelled_traces_have_no_fault()
     ensures { (rows : List Row) → (t : Traced) → (at : ℕ) → (w : AWhy) → SpellsTrace rows t → TraceFault rows at w → ⊥ }
