@@ -8,6 +8,8 @@ use Rattle.edd_oracle.specs.declared.OracleFault.{OracleFault}
 use Rattle.edd_oracle.specs.declared.OracleFault.TheVariants as oracle
 use Rattle.blk_bio.specs.declared.bio.BioFault.{BioFault}
 use Rattle.blk_bio.specs.declared.bio.BioFault.TheVariants as bio
+use Rattle.blk_trace.specs.declared.rule.TraceRule.{TraceRule}
+use Rattle.blk_trace.specs.declared.rule.TraceRule.TheVariants as rule
 use Rattle.blk_sched.specs.declared.SchedFault.{SchedFault}
 use Rattle.blk_sched.specs.declared.SchedFault.TheVariants as setting
 use Rattle.blk_text.specs.declared.fault.Why.{Why}
@@ -48,6 +50,19 @@ abbrev pub bio_name : BioFault → List ℕ
 bio_name bio.Empty = codes "Empty"
 bio_name bio.Range = codes "Range"
 
+abbrev pub rule_name : TraceRule → List ℕ
+rule_name rule.ReleasedTwice = codes "ReleasedTwice"
+rule_name rule.Unknown = codes "Unknown"
+rule_name rule.AlreadyIssued = codes "AlreadyIssued"
+rule_name rule.BioTwice = codes "BioTwice"
+rule_name rule.Fit = codes "Fit"
+rule_name rule.TagRange = codes "TagRange"
+rule_name rule.TagUsed = codes "TagUsed"
+rule_name rule.NotIssued = codes "NotIssued"
+rule_name rule.InFlight = codes "InFlight"
+rule_name rule.TooLong = codes "TooLong"
+rule_name rule.DepthRange = codes "DepthRange"
+
 abbrev pub text_name : Why → List ℕ
 text_name why.Title = codes "Title"
 text_name why.Fields = codes "Fields"
@@ -55,6 +70,8 @@ text_name why.Word = codes "Word"
 text_name why.Number = codes "Number"
 text_name why.Range = codes "Range"
 text_name (why.Bio fault) = bio_name fault
+text_name why.Tile = codes "Tile"
+text_name (why.Rule r) = rule_name r
 text_name why.Count = codes "Count"
 text_name why.TooLong = codes "TooLong"
 text_name why.Read = codes "Read"
@@ -69,6 +86,7 @@ step_name step.TagRange = codes "TagRange"
 step_name step.SlotUsed = codes "SlotUsed"
 step_name step.NotIssued = codes "NotIssued"
 step_name step.InFlight = codes "InFlight"
+step_name step.DepthRange = codes "DepthRange"
 step_name step.Memory = codes "Memory"
 
 -- the line on a fault of a text, of a step, of the oracle and of the check

@@ -3,13 +3,14 @@
 ghost use Rattle.std.specs.Prelude.{◌≡◌, ◌++◌, OnOk, IsTrue, decimal};
 ghost use Rattle.std.specs.Fmt.{signed_decimal};
 ghost use Rattle.std.specs.Io.KnownBytes.{Appends};
-ghost use Rattle.blk_cli.specs.Ends.{line, numbered, at_record, text_name, bio_name, step_name, text_line, step_line, sched_line, oracle_line, check_line, line_of, text_status, step_status, oracle_status, check_status, status_of};
+ghost use Rattle.blk_cli.specs.Ends.{line, numbered, at_record, text_name, bio_name, rule_name, step_name, text_line, step_line, sched_line, oracle_line, check_line, line_of, text_status, step_status, oracle_status, check_status, status_of};
 
 use crate::{Ended, FAILED, REFUSED};
 use blk_bio::BioFault;
 use blk_sched::SchedFault;
 use blk_sim::{SimFault, SimWhy};
 use blk_text::{TextFault, Why, WriteFault};
+use blk_trace::TraceRule;
 use edd_check::CheckFault;
 use edd_oracle::OracleFault;
 use std::io;
@@ -107,6 +108,25 @@ fn bio_name(fault: BioFault) -> &'static str
     }
 }
 
+/// The name of a rule of a trace.
+fn rule_name(rule: TraceRule) -> &'static str
+    ensures { result.now ≡ rule_name rule }
+{
+    match rule {
+        TraceRule::ReleasedTwice => "ReleasedTwice",
+        TraceRule::Unknown => "Unknown",
+        TraceRule::AlreadyIssued => "AlreadyIssued",
+        TraceRule::BioTwice => "BioTwice",
+        TraceRule::Fit => "Fit",
+        TraceRule::TagRange => "TagRange",
+        TraceRule::TagUsed => "TagUsed",
+        TraceRule::NotIssued => "NotIssued",
+        TraceRule::InFlight => "InFlight",
+        TraceRule::TooLong => "TooLong",
+        TraceRule::DepthRange => "DepthRange",
+    }
+}
+
 /// The name of what is wrong with a record.
 fn text_name(why: Why) -> &'static str
     ensures { result.now ≡ text_name why }
@@ -118,6 +138,8 @@ fn text_name(why: Why) -> &'static str
         Why::Number => "Number",
         Why::Range => "Range",
         Why::Bio(fault) => bio_name(fault),
+        Why::Tile => "Tile",
+        Why::Rule(rule) => rule_name(rule),
         Why::Count => "Count",
         Why::TooLong => "TooLong",
         Why::Read => "Read",
@@ -138,6 +160,7 @@ fn step_name(why: SimWhy) -> &'static str
         SimWhy::SlotUsed => "SlotUsed",
         SimWhy::NotIssued => "NotIssued",
         SimWhy::InFlight => "InFlight",
+        SimWhy::DepthRange => "DepthRange",
         SimWhy::Memory => "Memory",
     }
 }
