@@ -1,7 +1,7 @@
 -- How the tags of a round stand: lists by tags.
 use Rattle.std.proofs.lemmas.Bool.{cases_lt}
 use Rattle.std.proofs.lemmas.Bool.Decides.{eqb_tells}
-use Rattle.std.proofs.Common.{inl, inr, zero, suc, ◌≡◌, ◌∙◌, sym, ap, subst, refl, ℕ, ◌+◌, ◌≤◌, ◌<◌, arith, cond, List, [], ◌∷◌, ◌++◌, length, map, Option, Some, None, get_or, get_or-set_same, get_or-set_other, sum_by, set, ◌==◌}
+use Rattle.std.proofs.Common.{inl, inr, zero, suc, ◌≡◌, ◌≢◌, ◌∙◌, sym, ap, subst, refl, ℕ, ◌+◌, ◌≤◌, ◌<◌, arith, cond, List, [], ◌∷◌, ◌++◌, length, map, Option, Some, None, get_or, get_or-set_same, get_or-set_other, sum_by, set, ◌==◌}
 use Rattle.std.proofs.lemmas.List.{get_or-replicate}
 use Rattle.std.proofs.lemmas.List.Sums.{sum_by-cons}
 use Rattle.std.proofs.Math.ListN.{replicate, length-replicate, take, drop}
@@ -10,9 +10,8 @@ use Rattle.std.specs.List.{slice_get}
 use Rattle.blk_bio.specs.declared.bio.Dir.{Dir}
 use Rattle.blk_bio.specs.declared.bio.Dir.TheVariants.{Read, Write}
 use Rattle.blk_bio.specs.Requests.{dir_of}
-use Rattle.blk_bio.specs.declared.limits.TheConstants.{MAX_QUEUES}
 use Rattle.blk_trace.specs.Standing.{Seat, same_dir}
-use Rattle.blk_sched.specs.Meaning.{Waiting, OpenPicks, opened}
+use Rattle.blk_sched.specs.Meaning.{Waiting, OpenPicks, opened, handed_of, handed_back}
 use Rattle.blk_core.specs.declared.TagState.{TagState}
 use Rattle.blk_core.specs.declared.TagState.TheVariants.{Free, Flying, Spent}
 use Rattle.blk_core.specs.State.{Flight}
@@ -32,6 +31,16 @@ pub few_fly : {A : Type 0} (tags : List (TagState A)) → sum_by (flying Read) t
 few_fly [] = omega arith
 few_fly (s ∷ tags) = omega (arith, one_each s, few_fly tags, sum_by-cons (flying Read) s tags, sum_by-cons (flying Write) s tags)
 
+-- and fewer where one of these is free
+pub free_flies : {A : Type 0} (tags : List (TagState A)) (tag : ℕ) → tag < length tags → get_or tags tag Free ≡ Free → sum_by (flying Read) tags + sum_by (flying Write) tags < length tags
+free_flies [] tag lt at = absurd (omega arith)
+free_flies (s ∷ tags) zero lt at =
+    let r : flying Read s ≡ 0 = ap (flying Read) at in
+    let w : flying Write s ≡ 0 = ap (flying Write) at in
+    omega (arith, few_fly tags, sum_by-cons (flying Read) s tags, sum_by-cons (flying Write) s tags)
+free_flies (s ∷ tags) (suc tag) lt at = omega (arith, one_each s, free_flies tags tag (omega arith) at, sum_by-cons (flying Read) s tags, sum_by-cons (flying Write) s tags)
+
+-- the counts of picks, with one more that is open or handed back
 pub opened_reads : (d : Dir) (p : OpenPicks) → (opened d p).reads ≡ p.reads + cond (same_dir Read d) 1 0
 opened_reads Read p = refl
 opened_reads Write p = omega arith
@@ -40,10 +49,25 @@ pub opened_writes : (d : Dir) (p : OpenPicks) → (opened d p).writes ≡ p.writ
 opened_writes Read p = omega arith
 opened_writes Write p = refl
 
--- one more open pick hands nothing back
-pub opened_handed : (d : Dir) (p : OpenPicks) → (opened d p).handed_reads + (opened d p).handed_writes ≡ p.handed_reads + p.handed_writes
-opened_handed Read p = refl
-opened_handed Write p = refl
+pub opened_handed : (e d : Dir) (p : OpenPicks) → handed_of e (opened d p) ≡ handed_of e p
+opened_handed Read Read p = refl
+opened_handed Read Write p = refl
+opened_handed Write Read p = refl
+opened_handed Write Write p = refl
+
+pub handed_reads : (d : Dir) (p : OpenPicks) → (handed_back d p).reads ≡ p.reads
+handed_reads Read p = refl
+handed_reads Write p = refl
+
+pub handed_writes : (d : Dir) (p : OpenPicks) → (handed_back d p).writes ≡ p.writes
+handed_writes Read p = refl
+handed_writes Write p = refl
+
+pub handed_more : (e d : Dir) (p : OpenPicks) → handed_of e (handed_back d p) ≡ handed_of e p + cond (same_dir e d) 1 0
+handed_more Read Read p = refl
+handed_more Read Write p = omega arith
+handed_more Write Read p = omega arith
+handed_more Write Write p = refl
 
 -- the seats of the tags, after one is set
 pub seats_set : {A : Type 0} (W V : ℕ → Option Seat) (tags : List (TagState A)) (tag : ℕ) (s : TagState A) → tag < length tags → ((t : ℕ) → t < length tags → seat_of (get_or tags t Free) ≡ W t) → ((t : ℕ) → V t ≡ cond (tag == t) (seat_of s) (W t)) → (t : ℕ) → t < length tags → seat_of (get_or (set tags tag s) t Free) ≡ V t
@@ -55,10 +79,17 @@ seats_set W V tags tag s lt h step t u = elim (eqb_tells tag t) [
 ]
 
 -- their hardware queues
-pub queues_set : {A : Type 0} (tags : List (TagState A)) (tag : ℕ) (s : TagState A) → tag < length tags → queue_of s < MAX_QUEUES → ((t : ℕ) → queue_of (get_or tags t Free) < MAX_QUEUES) → (t : ℕ) → queue_of (get_or (set tags tag s) t Free) < MAX_QUEUES
-queues_set tags tag s lt small h t = elim (eqb_tells tag t) [
-  | inl y ↦ subst (λ k. queue_of (get_or (set tags tag s) k Free) < MAX_QUEUES) y.1 (subst (λ x. queue_of x < MAX_QUEUES) (sym (get_or-set_same tags tag s Free lt)) small)
-  | inr n ↦ subst (λ x. queue_of x < MAX_QUEUES) (sym (get_or-set_other tags tag t s Free (λ e. n.1 (sym e)))) (h t)
+pub queues_set : {A : Type 0} (count : ℕ) (tags : List (TagState A)) (tag : ℕ) (s : TagState A) → tag < length tags → queue_of s < count → ((t : ℕ) → queue_of (get_or tags t Free) < count) → (t : ℕ) → queue_of (get_or (set tags tag s) t Free) < count
+queues_set count tags tag s lt small h t = elim (eqb_tells tag t) [
+  | inl y ↦ subst (λ k. queue_of (get_or (set tags tag s) k Free) < count) y.1 (subst (λ x. queue_of x < count) (sym (get_or-set_same tags tag s Free lt)) small)
+  | inr n ↦ subst (λ x. queue_of x < count) (sym (get_or-set_other tags tag t s Free (λ e. n.1 (sym e)))) (h t)
+]
+
+-- what is said of their commands in flight
+pub flown_set : {A : Type 0} (P Q : ℕ → Waiting → Type 0) (tags : List (TagState A)) (tag : ℕ) (s : TagState A) → tag < length tags → ((t : ℕ) (w : Waiting) → tag ≢ t → P t w → Q t w) → ((hw : ℕ) (w : Waiting) → s ≡ Flying hw w → Q tag w) → ((t hw : ℕ) (w : Waiting) → get_or tags t Free ≡ Flying hw w → P t w) → (t hw : ℕ) (w : Waiting) → get_or (set tags tag s) t Free ≡ Flying hw w → Q t w
+flown_set P Q tags tag s lt kept here h t hw w at = elim (eqb_tells tag t) [
+  | inl y ↦ subst (λ k. Q k w) y.1 (here hw w (sym (get_or-set_same tags tag s Free lt) ∙ subst (λ k. get_or (set tags tag s) k Free ≡ Flying hw w) (sym y.1) at))
+  | inr n ↦ kept t w n.1 (h t hw w (sym (get_or-set_other tags tag t s Free (λ e. n.1 (sym e))) ∙ at))
 ]
 
 past_end : {A : Type 0} (tags : List (TagState A)) (q : ℕ) → length tags ≤ q → get_or tags q Free ≡ Free

@@ -2,7 +2,12 @@ mod Pushed
 mod Repeats
 mod Waits
 mod Flights
+mod Held
+mod Returned
+mod Flown
 mod Ties
+mod Sent
+mod Ended
 mod Seated
 mod Opens
 mod Listed

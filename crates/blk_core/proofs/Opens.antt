@@ -10,7 +10,7 @@ use Rattle.blk_bio.specs.declared.bio.Dir.{Dir}
 use Rattle.blk_bio.specs.declared.bio.Dir.TheVariants.{Read, Write}
 use Rattle.blk_bio.specs.Requests.{dir_of}
 use Rattle.blk_trace.specs.declared.rule.TraceRule.TheVariants.{TagUsed, InFlight, Unknown, AlreadyIssued}
-use Rattle.blk_trace.specs.Happened.{Happened, Ticked, Released, Joined, Issued, Finished, Returned}
+use Rattle.blk_trace.specs.Happened.{Happened, Ticked, Released, Joined, Issued, Finished, Returned, DepthSet}
 use Rattle.blk_trace.specs.Kinds.{issues, ends}
 use Rattle.blk_trace.specs.Setups.{Setup}
 use Rattle.blk_trace.specs.Events.{At, is_tick, open_count, request_of}
@@ -24,7 +24,7 @@ use Rattle.blk_trace.proofs.Entering.{same_entered, stays_out}
 use Rattle.blk_trace.proofs.Waiting.{waits_for}
 use Rattle.blk_trace.proofs.Seats.{taken, ended, cases_option, taken_tick, taken_kept, taken_new, not_taken, ended_kept, ended_more}
 use Rattle.blk_trace.proofs.Steady.{IsSeat, seat_parts, steady, open_seat, ended_open}
-use Rattle.blk_trace.proofs.Opening.{open-ticked, open-before_tick, open-released, open-joined, open-issued, open_ended, open-both}
+use Rattle.blk_trace.proofs.Opening.{open-ticked, open-before_tick, open-released, open-joined, open-issued, open_ended, open-both, open_kept}
 use Rattle.blk_core.specs.Opens.{open_issues, open_issues_of}
 
 -- an id and a tag
@@ -89,6 +89,7 @@ opens_more e h (Released i q ∷ es) = opens_more e h es
 opens_more e h (Joined i q ∷ es) = opens_more e h es
 opens_more e h (Finished t ∷ es) = opens_more e h es
 opens_more e h (Returned t ∷ es) = opens_more e h es
+opens_more e h (DepthSet n ∷ es) = opens_more e h es
 opens_more e h (Issued i t ∷ es) =
     let same : list_any (is_done_of t) (es ++ e ∷ []) ≡ list_any (is_done_of t) es = any_more t es e ∙ ap (λ b. list_any (is_done_of t) es || b) (h t) ∙ or_false _ in
     ap (λ b. cond b (open_issues (es ++ e ∷ [])) ((i, t) ∷ open_issues (es ++ e ∷ []))) same
@@ -106,6 +107,10 @@ opens_released es i q = opens_more (Released i q) (λ t. refl) es ∙ append-nil
 opens_joined : (es : List Happened) (i : ℕ) (q : List Bio) → open_issues (es ++ Joined i q ∷ []) ≡ open_issues es
 unfolding open_issues
 opens_joined es i q = opens_more (Joined i q) (λ t. refl) es ∙ append-nil _
+
+opens_set : (es : List Happened) (n : ℕ) → open_issues (es ++ DepthSet n ∷ []) ≡ open_issues es
+unfolding open_issues
+opens_set es n = opens_more (DepthSet n) (λ t. refl) es ∙ append-nil _
 
 opens_issued : (es : List Happened) (i t : ℕ) → open_issues (es ++ Issued i t ∷ []) ≡ open_issues es ++ (i, t) ∷ []
 unfolding open_issues
@@ -151,6 +156,7 @@ opens_ended p u e h n (Released i q ∷ es) = opens_ended p u e h n es
 opens_ended p u e h n (Joined i q ∷ es) = opens_ended p u e h n es
 opens_ended p u e h n (Finished t ∷ es) = opens_ended p u e h n es
 opens_ended p u e h n (Returned t ∷ es) = opens_ended p u e h n es
+opens_ended p u e h n (DepthSet m ∷ es) = opens_ended p u e h n es
 opens_ended p u e h n (Issued i t ∷ es) =
     ap (λ b. count_by p (cond b (open_issues (es ++ e ∷ [])) ((i, t) ∷ open_issues (es ++ e ∷ [])))) (any_more t es e ∙ ap (λ b. list_any (is_done_of t) es || b) (h t))
     ∙ at_done p i t u (list_any (is_done_of t) es) (open_issues (es ++ e ∷ [])) (open_issues es) (opens_ended p u e h n es)
@@ -260,6 +266,7 @@ counted_step setup p u es (Joined i q) old all ih = counted_kept p u es (Joined 
 counted_step setup p u es (Issued i v) old all ih = counted_issued setup p u es i v old all ih
 counted_step setup p u es (Finished v) old all ih = counted_ended p u es (Finished v) v refl ih
 counted_step setup p u es (Returned v) old all ih = counted_ended p u es (Returned v) v refl ih
+counted_step setup p u es (DepthSet n) old all ih = counted_kept p u es (DepthSet n) refl refl refl (opens_set es n) ih
 
 counted : (setup : Setup) (p : Issue → Bool) (u : ℕ) (es : List Happened) → IsLegalTrace setup es → IsCounted p u es
 unfolding open_issues ended taken this_round
@@ -280,6 +287,7 @@ agree p q (Released j r ∷ es) h = agree p q es (λ k i t at. h (suc k) i t at)
 agree p q (Joined j r ∷ es) h = agree p q es (λ k i t at. h (suc k) i t at)
 agree p q (Finished v ∷ es) h = agree p q es (λ k i t at. h (suc k) i t at)
 agree p q (Returned v ∷ es) h = agree p q es (λ k i t at. h (suc k) i t at)
+agree p q (DepthSet n ∷ es) h = agree p q es (λ k i t at. h (suc k) i t at)
 agree p q (Issued j v ∷ es) h = one_more p q (j, v) (open_issues es) (list_any (is_done_of v) es) (h 0 j v refl) (agree p q es (λ k i t at. h (suc k) i t at))
 
 -- whether an Issue is of a request of the direction
@@ -333,6 +341,8 @@ of_step setup d es (Joined i q) new old all ih =
 of_step setup d es (Issued i t) new old all ih = of_issued setup d es i t new old all ih
 of_step setup d es (Finished u) new old all ih = of_ended setup d es (Finished u) u refl new old all ih
 of_step setup d es (Returned u) new old all ih = of_ended setup d es (Returned u) u refl new old all ih
+of_step setup d es (DepthSet n) new old all ih =
+    open_kept setup es (DepthSet n) new refl refl refl d ∙ ih ∙ sym (still_of setup es (DepthSet n) d old all) ∙ ap (count_by (is_of (es ++ DepthSet n ∷ []) d)) (sym (opens_set es n))
 
 -- the commands in flight of a direction are the open Issues of its requests
 pub open_by_dir : (setup : Setup) (events : List Happened) (d : Dir) → IsLegalTrace setup events → open_of events d ≡ open_issues_of events d

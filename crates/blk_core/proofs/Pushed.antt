@@ -5,7 +5,7 @@ use Rattle.std.specs.List.{slice_get}
 use Rattle.blk_bio.specs.Bios.{Bio}
 use Rattle.blk_trace.specs.declared.trace.Prepared.{Prepared}
 use Rattle.blk_trace.specs.Setups.{Setup}
-use Rattle.blk_trace.specs.Happened.{Happened, Ticked, Released, Joined, Issued, Finished}
+use Rattle.blk_trace.specs.Happened.{Happened, Ticked, Released, Joined, Issued, Finished, Returned, DepthSet}
 use Rattle.blk_trace.specs.declared.trace.TheConstants.{MAX_EVENTS}
 use Rattle.blk_trace.specs.Rules.{IsUnbroken}
 use Rattle.blk_trace.specs.Events.{open_count, round_of, is_tick}
@@ -81,6 +81,14 @@ released-issued es id tag = let h = released_more es (Issued id tag) in omega ar
 pub released-finished : (es : List Happened) (tag : ℕ) → released_count (es ++ Finished tag ∷ []) ≡ released_count es
 unfolding released_ids
 released-finished es tag = let h = released_more es (Finished tag) in omega arith
+
+pub released-returned : (es : List Happened) (tag : ℕ) → released_count (es ++ Returned tag ∷ []) ≡ released_count es
+unfolding released_ids
+released-returned es tag = let h = released_more es (Returned tag) in omega arith
+
+pub released-set : (es : List Happened) (depth : ℕ) → released_count (es ++ DepthSet depth ∷ []) ≡ released_count es
+unfolding released_ids
+released-set es depth = let h = released_more es (DepthSet depth) in omega arith
 
 pub released-ticked : (es : List Happened) → released_count (es ++ Ticked ∷ []) ≡ released_count es
 unfolding released_ids

@@ -1,5 +1,5 @@
 -- What waits, as releases, joins and issues change it: in the scheduler and in the trace.
-use Rattle.std.proofs.Common.{◌≡◌, ◌≢◌, ◌∙◌, sym, ap, refl, inl, inr, ℕ, ◌+◌, ◌-◌, arith, Bool, true, false, cond, List, [], ◌∷◌, ◌++◌, length-append, append-nil, Option, Some, None, is_some, ◌==◌}
+use Rattle.std.proofs.Common.{◌≡◌, ◌≢◌, ◌∙◌, sym, ap, refl, inl, inr, ℕ, ◌+◌, arith, Bool, true, false, cond, List, [], ◌∷◌, ◌++◌, length-append, append-nil, Option, Some, None, is_some, ◌==◌}
 use Rattle.std.proofs.lemmas.Bool.{eq-eqb, ne_eqb}
 use Rattle.std.proofs.lemmas.Bool.Decides.{eqb_tells}
 use Rattle.std.proofs.lemmas.List.Sums.{sum_by-append}
@@ -15,6 +15,7 @@ use Rattle.blk_bio.specs.Requests.{first_of, last_of, joined, IsWithin, Fits}
 use Rattle.blk_trace.specs.Events.{join_up}
 use Rattle.blk_trace.specs.Standing.{Entered}
 use Rattle.blk_sched.specs.Meaning.{Waiting, Pending}
+use Rattle.blk_sched.specs.Maps.{put_back}
 use Rattle.blk_core.specs.State.{entered_of}
 
 flip : (q id : ℕ) → (q == id) ≡ (id == q)
@@ -56,8 +57,10 @@ len_new P id w h = map.len-insert nat_cmp_total P id w ∙ ap (λ o. cond (is_so
 pub len_given : (P : Pending) (id : ℕ) (v w : Waiting) → map.get P id ≡ Some v → map.len (map.insert P id w) ≡ map.len P
 len_given P id v w h = map.len-insert nat_cmp_total P id w ∙ ap (λ o. cond (is_some o) (map.len P) (map.len P + 1)) h
 
-pub len_taken : (P : Pending) (id : ℕ) (v : Waiting) → map.get P id ≡ Some v → map.len (map.remove P id) ≡ map.len P - 1
-len_taken P id v h = map.len-remove nat_cmp_total P id ∙ ap (λ o. cond (is_some o) (map.len P - 1) (map.len P)) h
+pub len_taken : (P : Pending) (id : ℕ) (v : Waiting) → map.get P id ≡ Some v → map.len (map.remove P id) + 1 ≡ map.len P
+len_taken P id v h =
+    sym (len_new (map.remove P id) id v (get_taken P id id ∙ ap (λ b. cond b None (map.get P id)) (eq-eqb id id refl)))
+    ∙ ap map.len (put_back P id v) ∙ len_given P id v v h
 
 -- an id that does not wait, where another one is given or taken
 pub still_absent : (P : Pending) (id : ℕ) (w : Waiting) (q : ℕ) → id ≢ q → map.get P q ≡ None → map.get (map.insert P id w) q ≡ None

@@ -6,11 +6,12 @@ use Rattle.blk_bio.specs.Bios.{Bio}
 use Rattle.blk_bio.specs.Requests.{dir_of}
 use Rattle.edd_check.specs.declared.Command.{Command}
 use Rattle.blk_trace.specs.Setups.{expire_of}
-use Rattle.blk_trace.specs.Happened.{Happened, Ticked, Released, Joined, Issued, Finished}
+use Rattle.blk_trace.specs.Happened.{Happened, Ticked, Released, Joined, Issued, Finished, Returned, DepthSet}
 use Rattle.blk_trace.specs.Events.{round_of, open_count}
 use Rattle.blk_trace.specs.Meaning.{commands_of}
 use Rattle.blk_trace.specs.Standing.{released_count, seat_at}
-use Rattle.blk_sched.specs.Meaning.{Waiting, Meaning, HasNoCandidate, ServesNothing, Picks, Joins, opened}
+use Rattle.blk_sched.specs.Meaning.{Waiting, Meaning, HasNoCandidate, ServesNothing, Picks, HandsBack, Joins, opened}
+use Rattle.blk_hw.specs.Held.{held_in, held_total}
 use Rattle.blk_core.specs.declared.Placed.{Placed}
 use Rattle.blk_core.specs.declared.Placed.TheVariants.{New, Joined as JoinedTo}
 use Rattle.blk_core.specs.State.{Flight, CoreState}
@@ -38,26 +39,40 @@ Places serves old bios hw (New id) new =
     × (new.meaning ≡ record old.meaning { pending = map.insert old.meaning.pending id (newcomer old bios hw) })
     × (new.kept ≡ old.kept)
     × (new.flights ≡ old.flights)
+    × (new.held ≡ old.held)
 Places serves old bios hw (JoinedTo id side) new =
     Joins serves hw (round_of old.events) old.setup.limits bios old.meaning id side new.meaning
     × Adds old (Joined id bios) new
     × (new.kept ≡ old.kept)
     × (new.flights ≡ old.flights)
+    × (new.held ≡ old.held)
 
 -- a scheduler's choice: from what it keeps, its meaning, a hardware queue and the round to the answer, and to what it keeps then
 abbrev pub Choice : Type 1
 Choice = List ℕ → Meaning → ℕ → ℕ → Option Waiting → List ℕ → Type 0
 
--- what an issue does: an Issue of a served request, which the scheduler chose for the hardware queue in this round, and whose command
--- is then the last one and in flight under the tag; or nothing, where the scheduler chose none
+-- which request goes to the device for a hardware queue: the first of those that are held for it, whose pick is then open again,
+-- or, where none is held for it, the one that the scheduler chooses in this round
+abbrev pub SendsFrom : (ℕ → Waiting → Bool) → Choice → ℕ → ℕ → List Waiting → Meaning → List ℕ → List (List Waiting) → Waiting → Meaning → List ℕ → List (List Waiting) → Type 0
+SendsFrom serves chooses hw round [] m kept held w new_m new_kept new_held =
+    Picks serves hw m w new_m × chooses kept m hw round (Some w) new_kept × (new_held ≡ held)
+SendsFrom serves chooses hw round (first ∷ rest) m kept held w new_m new_kept new_held =
+    (first ≡ w) × HandsBack (dir_of w.bios) new_m m × (new_kept ≡ kept) × (new_held ≡ slice_set held hw rest)
+
+abbrev pub Sends : (ℕ → Waiting → Bool) → Choice → CoreState → ℕ → Waiting → CoreState → Type 0
+Sends serves chooses old hw w new =
+    SendsFrom serves chooses hw (round_of old.events) (held_in old.held hw) old.meaning old.kept old.held w new.meaning new.kept new.held
+
+-- what an issue does: an Issue of the request that goes to the device, whose command is then the last one and in flight under the
+-- tag; or nothing, where none is held for the hardware queue and the scheduler chose none for it in this round
 abbrev pub Issues : (ℕ → Waiting → Bool) → Choice → CoreState → ℕ → ℕ → Option Command → CoreState → Type 0
 Issues serves chooses old hw tag None new =
     (new ≡ old)
+    × (held_in old.held hw ≡ [])
     × chooses old.kept old.meaning hw (round_of old.events) None old.kept
-    × ((0 < open_count old.events) ⊎ ServesNothing serves hw old.meaning)
+    × ((0 < open_count old.events) ⊎ (0 < held_total old.held) ⊎ ServesNothing serves hw old.meaning)
 Issues serves chooses old hw tag (Some command) new =
-    (w : Waiting) × Picks serves hw old.meaning w new.meaning
-    × chooses old.kept old.meaning hw (round_of old.events) (Some w) new.kept
+    (w : Waiting) × Sends serves chooses old hw w new
     × Adds old (Issued w.id tag) new
     × (command ≡ record { id = w.id; release = w.release; due = w.due })
     × (commands_of new.setup new.events ≡ commands_of old.setup old.events ++ command ∷ [])
@@ -80,6 +95,20 @@ Completes told old tag new =
     × (old.meaning ≡ record new.meaning { open_picks = opened (dir_of f.request.bios) new.meaning.open_picks })
     × told f.hw (dir_of f.request.bios) (round_of old.events - f.request.release) old.kept new.kept
     × (new.flights ≡ slice_set old.flights tag None)
+    × (new.held ≡ old.held)
+
+-- what a Back does: a Back of the command in flight under the tag, whose pick is then handed back; its request is held, as it was
+-- picked, behind those that came back before from the hardware queue that it was issued for
+abbrev pub TakesBack : CoreState → ℕ → ℕ → CoreState → Type 0
+TakesBack old tag id new =
+    (f : Flight) × (slice_get old.flights tag ≡ Some (Some f))
+    × (seat_at old.events tag ≡ Some (record { dir = dir_of f.request.bios; in_flight = true }))
+    × (id ≡ f.request.id)
+    × Adds old (Returned tag) new
+    × HandsBack (dir_of f.request.bios) old.meaning new.meaning
+    × (new.kept ≡ old.kept)
+    × (new.flights ≡ slice_set old.flights tag None)
+    × (new.held ≡ slice_set old.held f.hw (held_in old.held f.hw ++ f.request ∷ []))
 
 -- what the end of a round does: a Tick, of which the scheduler is told, once
 abbrev pub Ends : OfTick → CoreState → CoreState → Type 0
@@ -88,3 +117,13 @@ Ends told old new =
     × (new.meaning ≡ record old.meaning { round = round_of new.events })
     × told (round_of new.events) old.kept new.kept
     × (new.flights ≡ old.flights)
+    × (new.held ≡ old.held)
+
+-- what a new depth does: a Depth, and nothing else; it is in force from the next round on
+abbrev pub SetsDepth : CoreState → ℕ → CoreState → Type 0
+SetsDepth old depth new =
+    Adds old (DepthSet depth) new
+    × (new.meaning ≡ old.meaning)
+    × (new.kept ≡ old.kept)
+    × (new.flights ≡ old.flights)
+    × (new.held ≡ old.held)

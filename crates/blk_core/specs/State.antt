@@ -1,30 +1,34 @@
 -- What a core is, and what its scheduler holds.
-use Rattle.std.specs.Prelude.{ℕ, ◌≡◌, List, Option, refl}
+use Rattle.std.specs.Prelude.{ℕ, ◌≡◌, ◌+◌, ◌==◌, Bool, List, Option, None, Some, cond, slice_get, is_some, refl}
 use Rattle.std.specs.Option.{option_map}
 use Rattle.std.specs.FinMap as map
 use Rattle.std.specs.Coded.{Coded, code_by, coded×, coded_ℕ, coded_list, coded_option}
+use Rattle.blk_bio.specs.declared.bio.Dir.{Dir}
 use Rattle.blk_bio.specs.declared.bio.Dir.TheVariants.{Read, Write}
 use Rattle.blk_bio.specs.Limits.{Limits}
 use Rattle.blk_bio.specs.Codes.{limits_code}
+use Rattle.blk_bio.specs.Requests.{dir_of}
 use Rattle.blk_trace.specs.Setups.{Setup}
 use Rattle.blk_trace.specs.Happened.{Happened, happened_code}
 use Rattle.blk_trace.specs.Events.{round_of}
-use Rattle.blk_trace.specs.Standing.{Entered, waits_at, waiting_count, open_of}
-use Rattle.blk_sched.specs.Meaning.{Waiting, Meaning, waiting_code, meaning_code}
+use Rattle.blk_trace.specs.Standing.{Entered, waits_at, was_issued, unissued_at, waiting_count, open_of, same_dir}
+use Rattle.blk_sched.specs.Meaning.{Waiting, Meaning, handed_of, waiting_code, meaning_code}
+use Rattle.blk_hw.specs.Held.{held_in, held_total, held_count}
 
 -- a command in flight: the hardware queue that it was issued for, and its request as it was picked
 pub record Flight : Type 0 where
   pub hw : ℕ
   pub request : Waiting
 
--- a core: what it is set up for, what happened, what its scheduler means, what that keeps of its own, and by tag the commands
--- in flight
+-- a core: what it is set up for, what happened, what its scheduler means, what that keeps of its own, by tag the commands in
+-- flight, and by hardware queue the requests that the device handed back
 pub record CoreState : Type 0 where
   pub setup : Setup
   pub events : List Happened
   pub meaning : Meaning
   pub kept : List ℕ
   pub flights : List (Option Flight)
+  pub held : List (List Waiting)
 
 -- a setup's code
 abbrev pub setup_code : Coded Setup
@@ -36,16 +40,34 @@ flight_code = code_by (ℕ × Waiting) (coded× coded_ℕ waiting_code) (λ f. (
 
 -- a core's code
 abbrev pub core_code : Coded CoreState
-core_code = code_by (Setup × (List Happened × (Meaning × (List ℕ × List (Option Flight))))) (coded× setup_code (coded× (coded_list happened_code) (coded× meaning_code (coded× (coded_list coded_ℕ) (coded_list (coded_option flight_code)))))) (λ c. (c.setup, (c.events, (c.meaning, (c.kept, c.flights))))) (λ p. record { setup = p.0; events = p.1.0; meaning = p.1.1.0; kept = p.1.1.1.0; flights = p.1.1.1.1 }) (λ _. refl)
+core_code = code_by (Setup × (List Happened × (Meaning × (List ℕ × (List (Option Flight) × List (List Waiting)))))) (coded× setup_code (coded× (coded_list happened_code) (coded× meaning_code (coded× (coded_list coded_ℕ) (coded× (coded_list (coded_option flight_code)) (coded_list (coded_list waiting_code))))))) (λ c. (c.setup, (c.events, (c.meaning, (c.kept, (c.flights, c.held)))))) (λ p. record { setup = p.0; events = p.1.0; meaning = p.1.1.0; kept = p.1.1.1.0; flights = p.1.1.1.1.0; held = p.1.1.1.1.1 }) (λ _. refl)
 
 -- a waiting request as the trace knows it
 abbrev pub entered_of : Waiting → Entered
 entered_of w = record { release = w.release; due = w.due; bios = w.bios }
 
--- the scheduler holds exactly what waits in the trace, as it was joined, its open picks are the open Issues, and its round is the trace's
-pub record HoldsWhatWaits (setup : Setup) (events : List Happened) (m : Meaning) : Type 0 where
-  pub pending : (id : ℕ) → option_map entered_of (map.get m.pending id) ≡ waits_at setup events id
-  pub count : map.len m.pending ≡ waiting_count events
+-- the request that the device handed back and that waits under the id: it was issued before
+unfoldable pub returned_at : Setup → List Happened → ℕ → Option Entered
+returned_at setup events id = cond (was_issued events id) (waits_at setup events id) None
+
+-- whether a request is of a direction, and whether it has an id
+abbrev pub is_of : Dir → Waiting → Bool
+is_of dir w = same_dir dir (dir_of w.bios)
+
+abbrev pub is_named : ℕ → Waiting → Bool
+is_named id w = id == w.id
+
+-- the scheduler and the held lists together hold exactly what waits in the trace, as it was joined
+pub record HoldsWhatWaits (setup : Setup) (events : List Happened) (m : Meaning) (held : List (List Waiting)) : Type 0 where
+  -- the scheduler has what was never issued
+  pub pending : (id : ℕ) → option_map entered_of (map.get m.pending id) ≡ unissued_at setup events id
+  -- the held lists have what was handed back, and each such request once
+  pub returned : (hw place : ℕ) (w : Waiting) → slice_get (held_in held hw) place ≡ Some w → returned_at setup events w.id ≡ Some (entered_of w)
+  pub held_once : (id : ℕ) → held_count (is_named id) held ≡ cond (is_some (returned_at setup events id)) 1 0
+  pub count : map.len m.pending + held_total held ≡ waiting_count events
+  -- the scheduler's open picks are the open Issues, and those that were handed back are the held requests
   pub reads : m.open_picks.reads ≡ open_of events Read
   pub writes : m.open_picks.writes ≡ open_of events Write
+  pub handed : (dir : Dir) → handed_of dir m.open_picks ≡ held_count (is_of dir) held
+  -- its round is the trace's
   pub round : m.round ≡ round_of events

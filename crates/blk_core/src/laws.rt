@@ -9,13 +9,13 @@ ghost use Rattle.blk_trace.specs.Setups.{Setup};
 ghost use Rattle.blk_trace.specs.Events.{IsOpen, IsUsed, open_count};
 ghost use Rattle.blk_trace.specs.Legal.{IsLegalTrace};
 ghost use Rattle.blk_trace.specs.Standing.{seat_at, open_of};
-ghost use Rattle.blk_sched.specs.Meaning.{Meaning};
+ghost use Rattle.blk_sched.specs.Meaning.{Waiting, Meaning};
 ghost use Rattle.blk_core.specs.State.{CoreState, HoldsWhatWaits};
 ghost use Rattle.blk_core.specs.Opens.{open_issues, open_issues_of};
 ghost use Rattle.blk_core.specs.Faults.{IsInFlight};
 
-/// A command is in flight under a tag, so that a Done is accepted, exactly where the tag has an Issue with no Done after
-/// it.
+/// A command is in flight under a tag, so that a Done is accepted, exactly where the tag has an Issue with no Done and no
+/// Back after it.
 pub fn in_flight_is_open()
     ensures { (c : CoreState) → (tag : ℕ) → IsLegalTrace c.setup c.events → (IsInFlight c tag ↔ IsOpen c.events tag) }
 {}
@@ -41,6 +41,6 @@ pub fn open_picks_are_open_issues()
         → (open_of events Read + open_of events Write ≡ open_count events) }
     ensures all { (setup : Setup) → (events : List Happened) → IsLegalTrace setup events
         → (length (open_issues events) ≡ open_count events) }
-    ensures picks { (setup : Setup) → (events : List Happened) → (m : Meaning) → IsLegalTrace setup events
-        → HoldsWhatWaits setup events m → (m.open_picks.reads + m.open_picks.writes ≡ open_count events) }
+    ensures picks { (setup : Setup) → (events : List Happened) → (m : Meaning) → (held : List (List Waiting)) → IsLegalTrace setup events
+        → HoldsWhatWaits setup events m held → (m.open_picks.reads + m.open_picks.writes ≡ open_count events) }
 {}

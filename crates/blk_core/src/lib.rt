@@ -1,23 +1,33 @@
 //! The core of a block layer: a scheduler beside the trace of what was done with it, where one call is one event.
 //!
 //! Requests are released to a hardware queue, joined or scheduled as Linux's blk-mq does on insertion into an
-//! elevator, issued under tags, reported done, and rounds end by ticks. Every list of calls, the refused ones among
-//! them, leaves a legal trace. Time is counted in rounds: a command takes one, and a tag is issued once in a round.
+//! elevator, issued under tags, reported done or handed back by a busy device, and rounds end by ticks. Every list of
+//! calls, the refused ones among them, leaves a legal trace. Time is counted in rounds: a command takes one, and a tag is
+//! issued once in a round.
 #![tactic(auto)]
 
-ghost use Rattle.std.specs.Prelude.{◌≡◌, ◌++◌, ◌↔◌, IsTrue, OnOk, OnErr, IfOk, IfSome, IfNone, length, replicate};
+ghost use Rattle.std.specs.Prelude.{◌≡◌, ◌<◌, ◌+◌, ◌⊎◌, ◌++◌, ◌∷◌, [], ◌↔◌, IsTrue, None, OnOk, OnErr, IfOk, IfSome, IfNone, length, replicate, slice_set};
 ghost use Rattle.blk_trace.specs.Events.{entered, AreOnce};
 ghost use Rattle.blk_trace.specs.declared.trace.Prepared.{Prepared};
+ghost use Rattle.blk_bio.specs.declared.bio.Dir.{Dir as Way};
+ghost use Rattle.blk_bio.specs.Requests.{dir_of};
+ghost use Rattle.blk_sched.specs.Meaning.{ServesNothing, handed_of, unfinished};
+ghost use Rattle.blk_hw.specs.Held.{held_in, held_count};
+ghost use Rattle.blk_core.specs.State.{is_of};
+ghost use Rattle.blk_core.specs.Calls.{SendsFrom};
+ghost use Rattle.blk_core.specs.Inside.Ties.{IfFlying};
 ghost use Rattle.blk_core.specs.Ids.{HasId, IsFirstRepeated};
 
 pub mod laws;
 
-use blk_bio::{Bio, BioId, Dir, Request, Side};
-use blk_sched::{Queued, Scheduler};
+use blk_bio::{Bio, BioId, Dir, MAX_QUEUES, Request, Side};
+use blk_hw::HeldLists;
+use blk_sched::{MAX_OPEN, Queued, Scheduler};
 use blk_trace::{Event, MAX_EVENTS, Setup, Trace};
 use edd_check::Command;
 use std::alloc::{AllocError, Allocator};
 use std::marker::Model;
+use std::mem;
 use thiserror::Error;
 
 /// Where a released request went.
@@ -52,7 +62,7 @@ pub enum IssueFault {
     /// There is no such hardware queue.
     #[error("NoQueue")]
     NoQueue,
-    /// The tag is not below the depth.
+    /// The tag is not below the depth of this round.
     #[error("TagRange")]
     TagRange,
     /// The tag was issued in this round.
@@ -71,6 +81,17 @@ pub enum IssueFault {
 #[error("NotIssued")]
 pub struct NotIssued;
 
+/// Why a command does not go back, in the order in which the reasons are looked for.
+#[derive(Clone, Copy, Debug, PartialEq, Eq, Error)]
+pub enum BackFault {
+    /// No command is in flight under the tag.
+    #[error("NotIssued")]
+    NotIssued,
+    /// Memory ran out.
+    #[error("Memory")]
+    Memory,
+}
+
 /// Why a round does not end, in the order in which the reasons are looked for.
 #[derive(Clone, Copy, Debug, PartialEq, Eq, Error)]
 pub enum TickFault {
@@ -80,6 +101,20 @@ pub enum TickFault {
     /// The trace has no place for the event.
     #[error("TraceFull")]
     TraceFull,
+    /// Memory ran out.
+    #[error("Memory")]
+    Memory,
+}
+
+/// Why no depth is set, in the order in which the reasons are looked for.
+#[derive(Clone, Copy, Debug, PartialEq, Eq, Error)]
+pub enum DepthFault {
+    /// The trace has no place for the event.
+    #[error("TraceFull")]
+    TraceFull,
+    /// The depth is 0 or above the setup's.
+    #[error("DepthRange")]
+    DepthRange,
     /// Memory ran out.
     #[error("Memory")]
     Memory,
@@ -97,7 +132,7 @@ enum TagState<A: Allocator> {
         /// Its request.
         queued: Queued<A>,
     },
-    /// A command of this direction was issued and done.
+    /// A command of this direction was issued, and is done or was handed back.
     Spent(Dir),
 }
 
@@ -110,6 +145,8 @@ pub struct Core<S: Scheduler> {
     trace: Trace<S::A>,
     /// How each tag stands.
     tags: Vec<TagState<S::A>, S::A>,
+    /// The requests that the device handed back, by the hardware queue that they were issued for.
+    held: HeldLists<S::A>,
     /// How many requests were released: the next id.
     released: u64,
 }
@@ -129,9 +166,10 @@ impl<S: Scheduler> Model for Core<S> {
       meaning = S.meaning c.scheduler;
       kept = S.kept c.scheduler;
       flights = map flight_of c.tags.items;
+      held = c.held;
     } };
 
-    ghost invariant = { λ c. IsTied c.trace.setup c.trace.events (S.meaning c.scheduler) c.tags.items c.released };
+    ghost invariant = { λ c. IsTied c.trace.setup c.trace.events (S.meaning c.scheduler) c.tags.items c.held c.released };
 }
 
 impl<S: Scheduler> Core<S> {
@@ -142,15 +180,15 @@ impl<S: Scheduler> Core<S> {
     ghost use Rattle.blk_trace.specs.Laws.{IsScheduled, IsAccounted};
     ghost use Rattle.blk_trace.specs.Standing.{waiting_count};
     ghost use Rattle.blk_core.specs.State.{HoldsWhatWaits};
-    ghost use Rattle.blk_core.specs.Faults.{IsReleaseFault, CanRelease, IsIssueFault, CanIssue, IsTickFault, CanTick, IsInFlight};
-    ghost use Rattle.blk_core.specs.Calls.{Places, Issues, Completes, Ends};
+    ghost use Rattle.blk_core.specs.Faults.{IsReleaseFault, CanRelease, IsIssueFault, CanIssue, IsBackFault, IsTickFault, CanTick, IsDepthFault, CanSetDepth, IsInFlight};
+    ghost use Rattle.blk_core.specs.Calls.{Places, Issues, Completes, TakesBack, Ends, SetsDepth};
     ghost use Rattle.blk_sched.specs.Meaning.{HasCandidate, HasNoCandidate, at_start};
 
     /// A core without events, over a scheduler in which nothing waits and no pick is open or handed back, in round 0.
     /// Fails for want of memory alone, and the scheduler comes back then.
     pub fn new(alloc: S::A, setup: Setup, scheduler: S) -> Result<Core<S>, (S, AllocError)>
         requires start { S.meaning scheduler ≡ at_start (S.meaning scheduler).front }
-        ensures ok { IfOk result (λ c. c ≡ record { setup = setup; events = []; meaning = S.meaning scheduler; kept = S.kept scheduler; flights = replicate setup.depth None }) }
+        ensures ok { IfOk result (λ c. c ≡ record { setup = setup; events = []; meaning = S.meaning scheduler; kept = S.kept scheduler; flights = replicate setup.depth None; held = replicate setup.hw [] }) }
         ensures err { IfErr result (λ e. e.0 ≡ scheduler) }
     {
         let Ok(spare) = alloc.clone() else {
@@ -159,11 +197,18 @@ impl<S: Scheduler> Core<S> {
         let Ok(tags) = free_tags(spare, setup.depth()) else {
             return Err((scheduler, AllocError));
         };
+        let Ok(spare) = alloc.clone() else {
+            return Err((scheduler, AllocError));
+        };
+        let Ok(held) = HeldLists::new(spare, setup.hw()) else {
+            return Err((scheduler, AllocError));
+        };
         match Trace::empty(alloc, setup) {
             Ok(trace) => Ok(Core {
                 scheduler,
                 trace,
                 tags,
+                held,
                 released: 0,
             }),
             Err(_) => Err((scheduler, AllocError)),
@@ -278,12 +323,14 @@ impl<S: Scheduler> Core<S> {
         None
     }
 
-    /// Issues the request that the scheduler picks for a hardware queue, under a tag that was not issued in this
-    /// round, and answers its command. None, and no event, only where a command is in flight or the scheduler serves
-    /// nothing for the queue.
+    /// Issues a request for a hardware queue, under a tag that was not issued in this round, and answers its command: the
+    /// first of those that the device handed back from this queue, as Linux's blk-mq sends the list `hctx->dispatch`
+    /// first, or, where there is none, the one that the scheduler picks. None, and no event, only where none is held for
+    /// the queue, and a command is in flight, a request is held for another queue, or the scheduler serves nothing for
+    /// this one.
     ///
     /// Refused, by the first of these that applies: as `NoQueue` where `hw` is not below the number of hardware queues;
-    /// as `TagRange` where the tag is not below the depth; as `SlotUsed` where the tag was issued in this round, whether
+    /// as `TagRange` where the tag is not below the depth of this round; as `SlotUsed` where the tag was issued in this round, whether
     /// or not it is done; as `TraceFull` where the Issue and its Done would make more than [`MAX_EVENTS`] events, with a
     /// Done counted for each command in flight; and as `Memory`. All come before the scheduler is asked, so also where
     /// nothing waits, and change nothing.
@@ -300,7 +347,7 @@ impl<S: Scheduler> Core<S> {
             return Err(IssueFault::Memory);
         };
         let now = self.trace.round();
-        let Some(queued) = self.scheduler.pick(hw, now) else {
+        let Some(queued) = next(&mut self.scheduler, &mut self.held, hw, now) else {
             return Ok(None);
         };
         let command = Command {
@@ -324,11 +371,10 @@ impl<S: Scheduler> Core<S> {
         if hw >= self.trace.setup().hw() {
             return Some(IssueFault::NoQueue);
         }
-        let slot = tag as usize;
-        if slot >= self.tags.len() {
+        if tag as u64 >= self.trace.depth_now() {
             return Some(IssueFault::TagRange);
         }
-        if !matches!(self.tags[slot], TagState::Free) {
+        if !matches!(self.tags[tag as usize], TagState::Free) {
             return Some(IssueFault::SlotUsed);
         }
         if self.trace.len() + self.trace.unfinished() + 2 > MAX_EVENTS {
@@ -359,6 +405,34 @@ impl<S: Scheduler> Core<S> {
         Ok(())
     }
 
+    /// Takes the command in flight under a tag back: the device was busy. Its request is held for the hardware queue that
+    /// it was issued for, behind those that came back before, and is issued from there again, under another tag or in a
+    /// later round; its id is answered. This is no completion, and no bio joins the request any more.
+    ///
+    /// Refused, by the first of these that applies: as `NotIssued` exactly where no command is in flight under the tag;
+    /// and as `Memory` where the list of held requests can't grow. Nothing is changed then.
+    pub fn back(&mut self, tag: u16) -> Result<u64, BackFault>
+        ensures back { IfOk result (λ id. TakesBack self.old tag id self.new) }
+        ensures no_fault { OnOk result (IsInFlight self.old tag) }
+        ensures fault { IfErr result (IsBackFault self.old tag) }
+        ensures same { OnErr result (self.new ≡ self.old) }
+    {
+        let slot = tag as usize;
+        if slot >= self.tags.len() {
+            return Err(BackFault::NotIssued);
+        }
+        let TagState::Flying { hw, queued } = &self.tags[slot] else {
+            return Err(BackFault::NotIssued);
+        };
+        let (hw, id, dir) = (*hw, queued.id, queued.request.dir());
+        let Ok(()) = hold(&mut self.tags[slot], &mut self.held) else {
+            return Err(BackFault::Memory);
+        };
+        self.trace.add(Event::Back { tag });
+        self.scheduler.on_back(hw, dir);
+        Ok(id)
+    }
+
     /// Ends the round, and answers the number of the next one: how many Ticks there are then. Refused while a command
     /// is in flight, where the trace is full, and for want of memory; nothing is changed then.
     pub fn tick(&mut self) -> Result<u64, TickFault>
@@ -385,26 +459,52 @@ impl<S: Scheduler> Core<S> {
         Ok(now)
     }
 
+    /// Sets how many commands the rounds after this one carry, until another depth is set: tags below it are issued in
+    /// them. A scheduler isn't told.
+    ///
+    /// Refused, by the first of these that applies: as `TraceFull` where the events, with an end counted for each command
+    /// in flight, are [`MAX_EVENTS`] already; as `DepthRange` where the depth is 0 or above the setup's; and as `Memory`.
+    /// Nothing is changed then.
+    pub fn set_depth(&mut self, depth: u64) -> Result<(), DepthFault>
+        ensures set { OnOk result (SetsDepth self.old depth self.new) }
+        ensures no_fault { OnOk result (CanSetDepth self.old depth) }
+        ensures fault { IfErr result (IsDepthFault self.old depth) }
+        ensures same { OnErr result (self.new ≡ self.old) }
+    {
+        if self.trace.len() + self.trace.unfinished() >= MAX_EVENTS {
+            return Err(DepthFault::TraceFull);
+        }
+        if depth == 0 || depth > self.trace.setup().depth() {
+            return Err(DepthFault::DepthRange);
+        }
+        let Ok(()) = prepare(&mut self.trace) else {
+            return Err(DepthFault::Memory);
+        };
+        self.trace.add(Event::Depth { depth });
+        Ok(())
+    }
+
     /// The events so far, which are legal: the commands that they issue, in the rounds in which they do, are a legal
-    /// schedule, and each bio that entered stands once in a command or among the requests that wait. The scheduler
-    /// holds exactly these.
+    /// schedule, and each bio that entered stands once in a command or among the requests that wait. The scheduler and
+    /// the lists of requests that were handed back hold exactly these.
     pub fn trace(&self) -> &Trace<S::A>
         ensures setup { result.now.setup ≡ self.now.setup }
         ensures events { result.now.events ≡ self.now.events }
         ensures legal { IsLegalTrace self.now.setup self.now.events }
         ensures schedule { IsScheduled self.now.setup self.now.events }
         ensures accounted { IsAccounted self.now.events }
-        ensures holds { HoldsWhatWaits self.now.setup self.now.events self.now.meaning }
+        ensures holds { HoldsWhatWaits self.now.setup self.now.events self.now.meaning self.now.held }
     {
         &self.trace
     }
 
-    /// How many requests wait.
+    /// How many requests wait, those among them that the device handed back.
     pub fn pending(&self) -> u64
         ensures { result ≡ waiting_count self.now.events }
     {
         let _ = &self.trace;
-        self.scheduler.pending()
+        let held = self.scheduler.handed(Dir::Read) + self.scheduler.handed(Dir::Write);
+        self.scheduler.pending() + held
     }
 
     /// The events, which are legal, without the scheduler.
@@ -417,6 +517,61 @@ impl<S: Scheduler> Core<S> {
     {
         let Core { trace, .. } = self;
         trace
+    }
+}
+
+/// The request that goes out next for a hardware queue: the first that is held for it, whose pick is then open again, or
+/// else the scheduler's pick.
+fn next<S: Scheduler>(
+    scheduler: &mut S,
+    held: &mut HeldLists<S::A>,
+    hw: u8,
+    now: u64,
+) -> Option<Queued<S::A>>
+    requires queue { hw < MAX_QUEUES }
+    requires list { hw < length held.old }
+    requires round { now ≡ (S.meaning scheduler.old).round }
+    requires few { (S.meaning scheduler.old).open_picks.reads + (S.meaning scheduler.old).open_picks.writes < MAX_OPEN }
+    requires handed { (dir : Way) → handed_of dir (S.meaning scheduler.old).open_picks ≡ held_count (is_of dir) held.old }
+    ensures some { IfSome result (λ w. SendsFrom S.serves S.chooses hw now (held_in held.old hw) (S.meaning scheduler.old) (S.kept scheduler.old) held.old w (S.meaning scheduler.new) (S.kept scheduler.new) held.new) }
+    ensures none { IfNone result (held_in held.old hw ≡ []) }
+    ensures chosen { IfNone result (S.chooses (S.kept scheduler.old) (S.meaning scheduler.old) hw now None (S.kept scheduler.old)) }
+    ensures waits { IfNone result ((0 < unfinished (S.meaning scheduler.old).open_picks) ⊎ ServesNothing S.serves hw (S.meaning scheduler.old)) }
+    ensures same { IfNone result ((S.meaning scheduler.new ≡ S.meaning scheduler.old) × (S.kept scheduler.new ≡ S.kept scheduler.old) × (held.new ≡ held.old)) }
+{
+    match held.take_first(hw) {
+        Some(queued) => {
+            scheduler.on_again(hw, queued.request.dir());
+            Some(queued)
+        }
+        None => scheduler.pick(hw, now),
+    }
+}
+
+/// Moves the request in flight under a tag to the held list of its hardware queue, and the tag is spent then. Refused for
+/// want of memory alone, and nothing is changed.
+fn hold<A: Allocator + Clone>(
+    tag: &mut TagState<A>,
+    held: &mut HeldLists<A>,
+) -> Result<(), AllocError>
+    requires { IfFlying tag.old (λ hw w. hw < length held.old) }
+    ensures ok { OnOk result (IfFlying tag.old (λ hw w. (tag.new ≡ TagState.Spent (dir_of w.bios)) × (held.new ≡ slice_set held.old hw (held_in held.old hw ++ w ∷ [])))) }
+    ensures same { OnErr result ((tag.new ≡ tag.old) × (held.new ≡ held.old)) }
+{
+    let flown = mem::replace(tag, TagState::Free);
+    let TagState::Flying { hw, queued } = flown else {
+        unreachable!()
+    };
+    let dir = queued.request.dir();
+    match held.push(hw, queued) {
+        Ok(()) => {
+            *tag = TagState::Spent(dir);
+            Ok(())
+        }
+        Err((queued, _)) => {
+            *tag = TagState::Flying { hw, queued };
+            Err(AllocError)
+        }
     }
 }
 
@@ -434,7 +589,7 @@ fn prepared<A: Allocator + Clone>(
     Ok(copy)
 }
 
-/// Makes room for an Issue with its Done, or for a Tick.
+/// Makes room for an Issue with its end, or for a Tick or a Depth.
 fn prepare<'a, A: Allocator + Clone>(trace: &'a mut Trace<A>) -> Result<(), AllocError>
     ensures ok { OnOk result (trace.new ≡ record { setup = trace.old.setup; events = trace.old.events; prepared = Prepared.AnIssue }) }
     ensures err { OnErr result (trace.new ≡ trace.old) }

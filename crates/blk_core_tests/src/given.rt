@@ -4,7 +4,7 @@ ghost use Rattle.std.specs.Prelude.{◌≡◌, true};
 ghost use Rattle.blk_sched.specs.Meaning.{at_start};
 
 use blk_bio::{Bio, BioId, Dir, Limits, Request};
-use blk_core::{Core, CoreFault, IssueFault, NotIssued, Placed, TickFault};
+use blk_core::{BackFault, Core, CoreFault, IssueFault, NotIssued, Placed, TickFault};
 use blk_none::NoneSched;
 use blk_sched::Scheduler;
 use blk_trace::Setup;
@@ -21,6 +21,8 @@ pub enum Call {
     Issue(u8, u16, Result<Option<Command>, IssueFault>),
     /// Completes what is in flight under a tag.
     Done(u16, Result<(), NotIssued>),
+    /// Takes what is in flight under a tag back.
+    Back(u16, Result<u64, BackFault>),
     /// Ends the round.
     Tick(Result<u64, TickFault>),
     /// Counts what waits.
@@ -134,6 +136,14 @@ fn issue<S: Scheduler>(
     }
 }
 
+/// Takes what is in flight under a tag back.
+fn back<S: Scheduler>(core: &mut Core<S>, tag: u16) -> Result<u64, BackFault> {
+    match core.back(tag) {
+        Err(BackFault::Memory) => core.back(tag),
+        answer => answer,
+    }
+}
+
 /// Ends the round.
 fn tick<S: Scheduler>(core: &mut Core<S>) -> Result<u64, TickFault> {
     match core.tick() {
@@ -151,6 +161,7 @@ fn make<S: Scheduler>(rt: &impl Abort, alloc: &S::A, core: &mut Core<S>, call: C
         }
         Call::Issue(hw, tag, answer) => assert_eq!(rt; issue(core, hw, tag), answer),
         Call::Done(tag, answer) => assert_eq!(rt; core.done(tag), answer),
+        Call::Back(tag, answer) => assert_eq!(rt; back(core, tag), answer),
         Call::Tick(answer) => assert_eq!(rt; tick(core), answer),
         Call::Pending(count) => assert_eq!(rt; core.pending(), count),
     }

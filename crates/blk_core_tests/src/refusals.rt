@@ -42,15 +42,29 @@ fn leave<'a>(rt: &impl Abort, heap: &'a Refusing<Global>, core: &mut Under<'a>, 
     follow(rt, &heap, core, &calls);
 }
 
-/// Twenty requests of two bios enter, one in each round, and then go out two in a round.
+/// The first request goes out and comes back, twice.
+fn comes_back<'a>(rt: &impl Abort, heap: &'a Refusing<Global>, core: &mut Under<'a>) {
+    let calls = [
+        Call::Issue(0, 0, Ok(Some(command(0, 0, 5)))),
+        Call::Back(0, Ok(0)),
+        Call::Issue(0, 1, Ok(Some(command(0, 0, 5)))),
+        Call::Back(1, Ok(0)),
+        Call::Pending(20),
+        Call::Tick(Ok(21)),
+    ];
+    follow(rt, &heap, core, &calls);
+}
+
+/// Twenty requests of two bios enter, one in each round; the first comes back; and then they go out two in a round.
 fn come_and_go<'a>(rt: &impl Abort, heap: &'a Refusing<Global>) {
     let mut core = in_order(rt, &heap, setup(rt, 2, 1, 5));
     for id in 0..20u64 {
         enters(rt, heap, &mut core, id);
     }
+    comes_back(rt, heap, &mut core);
     for n in 0..10u64 {
         leave(rt, heap, &mut core, 2 * n);
-        follow(rt, &heap, &mut core, &[Call::Tick(Ok(21 + n))]);
+        follow(rt, &heap, &mut core, &[Call::Tick(Ok(22 + n))]);
     }
     follow(
         rt,
@@ -58,7 +72,7 @@ fn come_and_go<'a>(rt: &impl Abort, heap: &'a Refusing<Global>) {
         &mut core,
         &[Call::Issue(0, 0, Ok(None)), Call::Pending(0)],
     );
-    assert_eq!(rt; core.trace().len(), 110);
+    assert_eq!(rt; core.trace().len(), 115);
 }
 
 #[test]

@@ -143,6 +143,19 @@ fn write_goes_out(rt: &impl Abort, alloc: Global, core: &mut Heard<'_>) {
     follow(rt, &alloc, core, &calls);
 }
 
+/// A read of round 5 is handed back then, and issued again in round 6, so its wait is 1; the scheduler isn't asked for it.
+fn read_comes_back(rt: &impl Abort, alloc: Global, core: &mut Heard<'_>) {
+    let calls = [
+        Call::Release(3, 200, 4, 0, Ok(Placed::New(2))),
+        Call::Issue(1, 1, Ok(Some(command(2, 5, 10)))),
+        Call::Back(1, Ok(2)),
+        Call::Tick(Ok(6)),
+        Call::Issue(1, 0, Ok(Some(command(2, 5, 10)))),
+        Call::Done(0, Ok(())),
+    ];
+    follow(rt, &alloc, core, &calls);
+}
+
 #[test]
 fn told_the_scheduler(rt: HostRuntime) {
     let alloc = rt.alloc();
@@ -160,4 +173,7 @@ fn told_the_scheduler(rt: HostRuntime) {
     write_goes_out(&rt, alloc, &mut core);
     let write = (Some((0, 5)), Some((0, Dir::Write, 0)), Some(5));
     assert!(rt; heard(&told) == write);
+    read_comes_back(&rt, alloc, &mut core);
+    let again = (Some((1, 5)), Some((1, Dir::Read, 1)), Some(6));
+    assert!(rt; heard(&told) == again);
 }

@@ -64,7 +64,7 @@ fn lane_leaves_by_id(rt: HostRuntime) {
     assert!(rt; lane.pop_first().is_none());
 }
 
-/// One read waits, is picked in round 1 and done.
+/// One read waits, is picked in round 1, handed back, picked again and done.
 #[test]
 fn picks_are_counted(rt: HostRuntime) {
     let alloc = rt.alloc();
@@ -80,6 +80,12 @@ fn picks_are_counted(rt: HostRuntime) {
     assert!(rt; scheduler.pending() == 1 && scheduler.picked(Dir::Read) == 0);
     assert!(rt; scheduler.pick(0, 1).is_some());
     assert!(rt; scheduler.pending() == 0 && scheduler.picked(Dir::Read) == 1);
+    assert!(rt; scheduler.handed(Dir::Read) == 0);
+    scheduler.on_back(0, Dir::Read);
+    assert!(rt; scheduler.picked(Dir::Read) == 0 && scheduler.handed(Dir::Read) == 1);
+    assert!(rt; scheduler.pending() == 0 && scheduler.handed(Dir::Write) == 0);
+    scheduler.on_again(0, Dir::Read);
+    assert!(rt; scheduler.picked(Dir::Read) == 1 && scheduler.handed(Dir::Read) == 0);
     scheduler.on_done(0, Dir::Read, 0);
     assert!(rt; scheduler.picked(Dir::Read) == 0 && scheduler.picked(Dir::Write) == 0);
 }

@@ -111,6 +111,14 @@ pub fn issue<A: Allocator + Clone>(rt: &impl Abort, core: &mut Under<A>, tag: u1
     Some(command.id)
 }
 
+/// Takes what is in flight under a tag back, and answers its id.
+pub fn back<A: Allocator + Clone>(rt: &impl Abort, core: &mut Under<A>, tag: u16) -> u64 {
+    match core.back(tag) {
+        Ok(id) => id,
+        Err(_) => core.back(tag).expect(rt, "a Back"),
+    }
+}
+
 /// Issues under one tag after the other, and compares the ids.
 pub fn issues<A: Allocator + Clone>(rt: &impl Abort, core: &mut Under<A>, ids: &[u64]) {
     let mut tag = 0;

@@ -1,6 +1,6 @@
 //! The rows of the rule. Requests are named by the order in which they enter.
 
-use crate::given::{issue, issues, reads, release, ticks, tuned, under};
+use crate::given::{back, issue, issues, reads, release, ticks, tuned, under};
 use blk_bio::{Dir, Side};
 use blk_core::Placed;
 use blk_deadline::Deadline;
@@ -109,4 +109,16 @@ fn later_than_none(rt: HostRuntime) {
             reads(&rt, &alloc, &mut core, &[300]);
         }
     }
+}
+
+/// What is handed back goes out first, and the batch goes on from where it was.
+#[test]
+fn handed_back_in_a_batch(rt: HostRuntime) {
+    let alloc = rt.alloc();
+    let mut core = under(&rt, &alloc, 4, 100, tuned(3, 2, true));
+    reads(&rt, &alloc, &mut core, &[300, 100, 400, 500]);
+    issues(&rt, &mut core, &[0]);
+    assert_eq!(rt; back(&rt, &mut core, 0), 0);
+    ticks(&rt, &mut core, 1);
+    issues(&rt, &mut core, &[0, 2, 3, 1]);
 }

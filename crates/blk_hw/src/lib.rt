@@ -4,9 +4,10 @@
 //! (`blk_mq_queue_map`).
 #![tactic(auto)]
 
-ghost use Rattle.std.specs.Prelude.{◌≡◌, ◌<◌, ◌≤◌, ◌+◌, ◌++◌, ◌∷◌, [], ◌↔◌, ℕ, IsTrue, All, Any, Contains, IfOk, IfErr, OnOk, OnErr, IfSome, IfNone, length, slice_index};
+ghost use Rattle.std.specs.Prelude.{◌≡◌, ◌<◌, ◌≤◌, ◌+◌, ◌++◌, ◌∷◌, [], ◌↔◌, ℕ, IsTrue, All, Any, Contains, IfOk, IfErr, OnOk, OnErr, IfSome, IfNone, length, replicate, slice_index, slice_set};
 ghost use Rattle.std.specs.Bool.{OnTrue, OnFalse};
 ghost use Rattle.blk_hw.specs.Maps.{greatest_hw, IsMap, IsHwCount, IsCounted, IsMapAnswer};
+ghost use Rattle.blk_hw.specs.Held.{held_in, TakesFirst};
 
 use blk_bio::MAX_QUEUES;
 use blk_sched::Queued;
@@ -191,5 +192,58 @@ impl<A: Allocator + Clone> HeldList<A> {
         ensures { result ≡ length self.now }
     {
         self.requests.len()
+    }
+}
+
+/// A held list for each hardware queue: what came back from one goes out to that one again.
+#[derive(Drop)]
+pub struct HeldLists<A: Allocator = Global> {
+    lists: Vec<HeldList<A>, A>,
+}
+
+impl<A: Allocator> Model for HeldLists<A> {
+    ghost use Rattle.std.specs.Prelude.{List};
+    ghost use Rattle.blk_sched.specs.Meaning.{Waiting, waiting_code};
+    ghost use Rattle.std.specs.Coded.{coded_list};
+
+    ghost Value = { List (List Waiting) };
+
+    ghost coded = { coded_list (coded_list waiting_code) };
+
+    ghost view = { λ l. l.lists.items };
+}
+
+impl<A: Allocator + Clone> HeldLists<A> {
+    /// Lists of no requests, for so many hardware queues. Fails for want of memory alone.
+    pub fn new(alloc: A, hw_count: u8) -> Result<HeldLists<A>, AllocError>
+        ensures { IfOk result (λ lists. lists ≡ replicate hw_count []) }
+    {
+        let mut lists = Vec::with_capacity(alloc.clone()?, hw_count as usize)?;
+        for _ in 0..hw_count {
+            lists.push(HeldList::new(alloc.clone()?))?;
+        }
+        Ok(HeldLists { lists })
+    }
+
+    /// Adds a request at the back of the list of a hardware queue, which is one of these. Refused for want of memory
+    /// alone: the lists are then as they were, and the request comes back.
+    pub fn push(&mut self, hw: u8, queued: Queued<A>) -> Result<(), (Queued<A>, AllocError)>
+        requires { hw < length self.old }
+        ensures ok { OnOk result (self.new ≡ slice_set self.old hw (held_in self.old hw ++ queued ∷ [])) }
+        ensures err { IfErr result (λ e. e.0 ≡ queued) }
+        ensures same { OnErr result (self.new ≡ self.old) }
+    {
+        self.lists[hw as usize].push(queued)
+    }
+
+    /// Takes out the request that came back first from a hardware queue, which is one of these. There is none exactly
+    /// where its list is empty.
+    pub fn take_first(&mut self, hw: u8) -> Option<Queued<A>>
+        requires { hw < length self.old }
+        ensures some { IfSome result (λ first. TakesFirst self.old hw first self.new) }
+        ensures none { IfNone result (held_in self.old hw ≡ []) }
+        ensures same { IfNone result (self.new ≡ self.old) }
+    {
+        self.lists[hw as usize].take_first()
     }
 }

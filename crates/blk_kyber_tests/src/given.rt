@@ -139,6 +139,14 @@ pub fn issues<A: Allocator + Clone>(
     }
 }
 
+/// Takes what is in flight under a tag back, and answers its id.
+pub fn back<A: Allocator + Clone>(rt: &impl Abort, core: &mut Under<A>, tag: u16) -> u64 {
+    match core.back(tag) {
+        Ok(id) => id,
+        Err(_) => core.back(tag).expect(rt, "a Back"),
+    }
+}
+
 /// Completes what is in flight under the tags below this one.
 pub fn done<A: Allocator + Clone>(rt: &impl Abort, core: &mut Under<A>, tags: u16) {
     for tag in 0..tags {

@@ -1,6 +1,6 @@
 //! The rows of the rule.
 
-use crate::given::{done, enter, issue, issues, targets, ticks, under};
+use crate::given::{back, done, enter, issue, issues, targets, ticks, under};
 use blk_bio::Dir;
 use blk_kyber::Kyber;
 use blk_sched::SchedFault;
@@ -118,4 +118,42 @@ fn constructors_refuse(rt: HostRuntime) {
     };
     assert_eq!(rt; writes, Some(SchedFault::ZeroTarget));
     assert!(rt; Kyber::new(rt.alloc(), targets(1, 1), 1).is_ok());
+}
+
+/// What is handed back counts as in flight: under a limit of one another queue's read stays, until it is done.
+#[test]
+fn handed_back_before_another_queue(rt: HostRuntime) {
+    let alloc = rt.alloc();
+    let mut core = under(&rt, &alloc, 1, 2, targets(2, 10));
+    enter(&rt, &alloc, &mut core, 0, Dir::Read, 0, 1);
+    enter(&rt, &alloc, &mut core, 1, Dir::Read, 1, 1);
+    issues(&rt, &mut core, 0, 0, 0, 1);
+    assert_eq!(rt; back(&rt, &mut core, 0), 0);
+    ticks(&rt, &mut core, 1);
+    assert_eq!(rt; issue(&rt, &mut core, 1, 0), None);
+    issues(&rt, &mut core, 0, 0, 0, 1);
+    done(&rt, &mut core, 1);
+    ticks(&rt, &mut core, 1);
+    issues(&rt, &mut core, 1, 0, 1, 1);
+}
+
+/// A Back is no completion: a read that waited past its target is no miss until it is done.
+#[test]
+fn a_return_is_no_miss(rt: HostRuntime) {
+    let alloc = rt.alloc();
+    let mut core = under(&rt, &alloc, 4, 1, targets(2, 10));
+    enter(&rt, &alloc, &mut core, 0, Dir::Read, 0, 1);
+    ticks(&rt, &mut core, 7);
+    issues(&rt, &mut core, 0, 0, 0, 1);
+    assert_eq!(rt; back(&rt, &mut core, 0), 0);
+    ticks(&rt, &mut core, 1);
+    // round 8: writes may still be 4
+    enter(&rt, &alloc, &mut core, 0, Dir::Write, 1, 3);
+    issues(&rt, &mut core, 0, 0, 0, 4);
+    done(&rt, &mut core, 4);
+    ticks(&rt, &mut core, 8);
+    // round 16: the read was done after 8 rounds, so writes may be 2
+    enter(&rt, &alloc, &mut core, 0, Dir::Write, 4, 3);
+    issues(&rt, &mut core, 0, 0, 4, 2);
+    assert_eq!(rt; issue(&rt, &mut core, 0, 2), None);
 }

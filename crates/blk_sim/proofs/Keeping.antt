@@ -20,7 +20,7 @@ use Rattle.std.specs.Prelude.{Ok}
 use Rattle.blk_soft.specs.Queues.{Queue}
 use Rattle.blk_sched.specs.Meaning.{Meaning}
 use Rattle.blk_core.specs.State.{CoreState}
-use Rattle.blk_core.specs.Calls.{Completes, Issues}
+use Rattle.blk_core.specs.Calls.{Completes, Issues, TakesBack, SetsDepth}
 use Rattle.blk_text.specs.Script.{Scripted, LineFits}
 use Rattle.blk_text.specs.declared.script.Line.{Line}
 use Rattle.blk_text.specs.declared.script.Line.TheVariants as line
@@ -35,18 +35,24 @@ use Rattle.blk_sim.proofs.Events.{adds_passed, passed_same, passed_trans, chain_
 use Rattle.blk_sim.proofs.Draining.{drained_same, drained_at, drain_drained, drain_count, all_drained, drained_passed}
 use Rattle.blk_sim.proofs.Holding.{come_added, come_flushed, come_more}
 use Rattle.blk_sim.specs.Policies.{Policy}
-use Rattle.blk_sim.proofs.Standing.{all_at, add_plugged, bio_stands, flush_plugged, flush_staged, flush_stands, let_go_stands, issue_goes, done_goes, tick_goes, drain_goes, run_goes, fresh_stands}
+use Rattle.blk_sim.proofs.Standing.{all_at, add_plugged, bio_stands, flush_plugged, flush_staged, flush_stands, let_go_stands, issue_goes, done_goes, back_goes, depth_goes, tick_goes, drain_goes, run_goes, fresh_stands}
 
 -- the core's steps by themselves let no bio enter
 issues_passed : (policy : Policy) (hw tag : ℕ) (a b : CoreState) (found : Option Command) → Issues policy.serves policy.chooses a hw tag found b → Passed 0 a b
 issues_passed policy hw tag a b None h = passed_same a b h.0
-issues_passed policy hw tag a b (Some command) h = adds_passed a b _ 0 h.3 refl refl
+issues_passed policy hw tag a b (Some command) h = adds_passed a b _ 0 h.2 refl refl
 
 pub asks_passed : (policy : Policy) (hw tag : ℕ) (a b : CoreState) (found : Option Command) → Asks policy hw tag a found b → Passed 0 a b
 asks_passed policy hw tag a b found h = issues_passed policy hw tag a b found h.1
 
 pub completes_passed : (policy : Policy) (tag : ℕ) (a b : CoreState) → Completes policy.told_done a tag b → Passed 0 a b
 completes_passed policy tag a b h = adds_passed a b _ 0 h.3 refl refl
+
+back_passed : (tag id : ℕ) (a b : CoreState) → TakesBack a tag id b → Passed 0 a b
+back_passed tag id a b h = adds_passed a b _ 0 h.4 refl refl
+
+depth_passed : (n : ℕ) (a b : CoreState) → SetsDepth a n b → Passed 0 a b
+depth_passed n a b h = adds_passed a b _ 0 h.0 refl refl
 
 pub ticks_passed : (policy : Policy) (a b : CoreState) → Ticks policy a b → Passed 1 a b
 ticks_passed policy a b h = adds_passed a b _ 1 h.1.0 refl refl
@@ -100,6 +106,8 @@ steps_went policy old (line.Flush s) new h = went_same old.core new.core h.1
 steps_went policy old (line.Drain hw) new h = drain_went policy _ hw _ _ _ _ h.0
 steps_went policy old (line.Issue hw tag) new h = went 0 _ _ (asks_passed policy hw tag _ _ h.0 h.1)
 steps_went policy old (line.Done tag) new h = went 0 _ _ (completes_passed policy tag _ _ h.0)
+steps_went policy old (line.Back tag) new h = went 0 _ _ (back_passed tag h.0 _ _ h.1)
+steps_went policy old (line.Depth n) new h = went 0 _ _ (depth_passed n _ _ h.1)
 steps_went policy old line.Tick new h = went 1 _ _ (ticks_passed policy _ _ h.0)
 steps_went policy old (line.Run n) new h = rounds_went policy n _ _ _ _ h.0
 
@@ -110,6 +118,8 @@ steps_plugs policy old (line.Flush s) new h = ap length h.0.plugs_are ∙ length
 steps_plugs policy old (line.Drain hw) new h = ap length h.1
 steps_plugs policy old (line.Issue hw tag) new h = ap length h.2
 steps_plugs policy old (line.Done tag) new h = ap length h.1
+steps_plugs policy old (line.Back tag) new h = ap length h.2
+steps_plugs policy old (line.Depth n) new h = ap length h.2
 steps_plugs policy old line.Tick new h = ap length h.1
 steps_plugs policy old (line.Run n) new h = ap length h.1
 
@@ -166,6 +176,12 @@ steps_stand policy old (line.Issue hw tag) new book some counts fits h st =
 steps_stand policy old (line.Done tag) new book some counts fits h st =
     core_stands old.core.setup.hw 0 (line.Done tag) book old new counts (completes_passed policy tag _ _ h.0) h.1 h.2
     (λ x d. let_go_stands old.core.setup.hw (line.Done tag) nobody nobody book old.plugs old.queues new.core.events (done_goes old.core.setup.hw tag) counts (λ s lt. refl) x.known x.plugged d) st
+steps_stand policy old (line.Back tag) new book some counts fits h st =
+    core_stands old.core.setup.hw 0 (line.Back tag) book old new counts (back_passed tag h.0 _ _ h.1) h.2 h.3
+    (λ x d. let_go_stands old.core.setup.hw (line.Back tag) nobody nobody book old.plugs old.queues new.core.events (back_goes old.core.setup.hw tag) counts (λ s lt. refl) x.known x.plugged d) st
+steps_stand policy old (line.Depth n) new book some counts fits h st =
+    core_stands old.core.setup.hw 0 (line.Depth n) book old new counts (depth_passed n _ _ h.1) h.2 h.3
+    (λ x d. let_go_stands old.core.setup.hw (line.Depth n) nobody nobody book old.plugs old.queues new.core.events (depth_goes old.core.setup.hw n) counts (λ s lt. refl) x.known x.plugged d) st
 steps_stand policy old line.Tick new book some counts fits h st =
     core_stands old.core.setup.hw 1 line.Tick book old new counts (ticks_passed policy _ _ h.0) h.1 h.2
     (λ x d. let_go_stands old.core.setup.hw line.Tick nobody nobody book old.plugs old.queues new.core.events (tick_goes old.core.setup.hw) counts (λ s lt. refl) x.known x.plugged d) st
@@ -260,6 +276,8 @@ steps_ready policy n old (line.Flush s) new h r =
 steps_ready policy n old (line.Drain hw) new h r = ready_kept n old new h.1 (kept_drained _ hw old.queues new.queues h.0.emptied) (steps_went policy old (line.Drain hw) new h).setup r
 steps_ready policy n old (line.Issue hw tag) new h r = ready_kept n old new h.2 (kept_same old.queues new.queues h.3) (steps_went policy old (line.Issue hw tag) new h).setup r
 steps_ready policy n old (line.Done tag) new h r = ready_kept n old new h.1 (kept_same old.queues new.queues h.2) (steps_went policy old (line.Done tag) new h).setup r
+steps_ready policy n old (line.Back tag) new h r = ready_kept n old new h.2 (kept_same old.queues new.queues h.3) (steps_went policy old (line.Back tag) new h).setup r
+steps_ready policy n old (line.Depth k) new h r = ready_kept n old new h.2 (kept_same old.queues new.queues h.3) (steps_went policy old (line.Depth k) new h).setup r
 steps_ready policy n old line.Tick new h r = ready_kept n old new h.1 (kept_same old.queues new.queues h.2) (steps_went policy old line.Tick new h).setup r
 steps_ready policy n old (line.Run k) new h r = ready_kept n old new h.1 (kept_rounds policy k old.queues new.queues old.core new.core h.0) (steps_went policy old (line.Run k) new h).setup r
 

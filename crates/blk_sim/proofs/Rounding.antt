@@ -6,6 +6,7 @@ use Rattle.std.proofs.lemmas.Bool.{cases_eq}
 use Rattle.std.proofs.Math.Nat.{mod-lt}
 use Rattle.edd_check.specs.declared.Command.{Command}
 use Rattle.blk_soft.specs.Queues.{Queue}
+use Rattle.blk_trace.specs.Depths.{depth_now}
 use Rattle.blk_core.specs.State.{CoreState}
 use Rattle.blk_core.specs.Calls.{Completes}
 use Rattle.blk_core.specs.Faults.{IsInFlight}
@@ -32,7 +33,7 @@ nothing_more policy tag count k a b c found e same h none before =
     )
 
 -- the tags end where none gives
-pub all_given : (policy : Policy) (tag : ℕ) (a b c : CoreState) (given : Bool) → given ≡ false → tag ≤ a.setup.depth → IssueInTurn policy tag a b → IsGiven policy tag b given c → IssuesAll policy a c
+pub all_given : (policy : Policy) (tag : ℕ) (a b c : CoreState) (given : Bool) → given ≡ false → tag ≤ depth_now a.setup a.events → IssueInTurn policy tag a b → IsGiven policy tag b given c → IssuesAll policy a c
 all_given policy tag a b c given f le chain h =
     let ends : GiveNothing policy tag b.setup.hw b × (c ≡ b) = subst (λ v. IsGiven policy tag b v c) f h in
     record {

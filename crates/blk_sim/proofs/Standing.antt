@@ -106,6 +106,12 @@ issue_goes hw h tag = record { quiet = refl; moves = λ s. elim [ Plugged ↦ re
 pub done_goes : (hw tag : ℕ) → LetsGo hw (line.Done tag) nobody
 done_goes hw tag = record { quiet = refl; moves = λ s. elim [ Plugged ↦ refl | Staged ↦ refl | Released ↦ refl ] }
 
+pub back_goes : (hw tag : ℕ) → LetsGo hw (line.Back tag) nobody
+back_goes hw tag = record { quiet = refl; moves = λ s. elim [ Plugged ↦ refl | Staged ↦ refl | Released ↦ refl ] }
+
+pub depth_goes : (hw n : ℕ) → LetsGo hw (line.Depth n) nobody
+depth_goes hw n = record { quiet = refl; moves = λ s. elim [ Plugged ↦ refl | Staged ↦ refl | Released ↦ refl ] }
+
 pub tick_goes : (hw : ℕ) → LetsGo hw line.Tick nobody
 tick_goes hw = record { quiet = refl; moves = λ s. elim [ Plugged ↦ refl | Staged ↦ refl | Released ↦ refl ] }
 
@@ -251,6 +257,8 @@ placed_more hw (line.Flush t) ls l = refl
 placed_more hw (line.Drain h) ls l = refl
 placed_more hw (line.Issue h tag) ls l = refl
 placed_more hw (line.Done tag) ls l = refl
+placed_more hw (line.Back tag) ls l = refl
+placed_more hw (line.Depth n) ls l = refl
 placed_more hw line.Tick ls l = refl
 placed_more hw (line.Run n) ls l = refl
 
@@ -270,6 +278,8 @@ picked-placed hw w (line.Flush t) ls = refl
 picked-placed hw w (line.Drain h) ls = refl
 picked-placed hw w (line.Issue h tag) ls = refl
 picked-placed hw w (line.Done tag) ls = refl
+picked-placed hw w (line.Back tag) ls = refl
+picked-placed hw w (line.Depth n) ls = refl
 picked-placed hw w line.Tick ls = refl
 picked-placed hw w (line.Run n) ls = refl
 

@@ -29,6 +29,8 @@ staged_moves hw s (line.Drain h ∷ ls) e = elim (cases_Bool ((s % hw) == h)) [
 ]
 staged_moves hw s (line.Issue h tag ∷ ls) e = later hw s _ ls (staged_moves hw s ls e)
 staged_moves hw s (line.Done tag ∷ ls) e = later hw s _ ls (staged_moves hw s ls e)
+staged_moves hw s (line.Back tag ∷ ls) e = later hw s _ ls (staged_moves hw s ls e)
+staged_moves hw s (line.Depth n ∷ ls) e = later hw s _ ls (staged_moves hw s ls e)
 staged_moves hw s (line.Tick ∷ ls) e = later hw s _ ls (staged_moves hw s ls e)
 staged_moves hw s (line.Run n ∷ ls) e = (zero, inr (n, refl))
 
@@ -47,6 +49,8 @@ plugged_moves hw s (line.Flush t ∷ ls) e = elim (cases_Bool (s == t)) [
 plugged_moves hw s (line.Drain h ∷ ls) e = next hw s _ ls (plugged_moves hw s ls e)
 plugged_moves hw s (line.Issue h tag ∷ ls) e = next hw s _ ls (plugged_moves hw s ls e)
 plugged_moves hw s (line.Done tag ∷ ls) e = next hw s _ ls (plugged_moves hw s ls e)
+plugged_moves hw s (line.Back tag ∷ ls) e = next hw s _ ls (plugged_moves hw s ls e)
+plugged_moves hw s (line.Depth n ∷ ls) e = next hw s _ ls (plugged_moves hw s ls e)
 plugged_moves hw s (line.Tick ∷ ls) e = next hw s _ ls (plugged_moves hw s ls e)
 plugged_moves hw s (line.Run n ∷ ls) e = next hw s _ ls (plugged_moves hw s ls e)
 
@@ -77,6 +81,10 @@ move_releases hw s (line.Issue g tag ∷ ls) zero h = elim h [ inl a ↦ cc a | 
 move_releases hw s (line.Issue g tag ∷ ls) (suc k) h = move_releases hw s ls k h
 move_releases hw s (line.Done tag ∷ ls) zero h = elim h [ inl a ↦ cc a | inr b ↦ cc b.1 ]
 move_releases hw s (line.Done tag ∷ ls) (suc k) h = move_releases hw s ls k h
+move_releases hw s (line.Back tag ∷ ls) zero h = elim h [ inl a ↦ cc a | inr b ↦ cc b.1 ]
+move_releases hw s (line.Back tag ∷ ls) (suc k) h = move_releases hw s ls k h
+move_releases hw s (line.Depth n ∷ ls) zero h = elim h [ inl a ↦ cc a | inr b ↦ cc b.1 ]
+move_releases hw s (line.Depth n ∷ ls) (suc k) h = move_releases hw s ls k h
 move_releases hw s (line.Tick ∷ ls) zero h = elim h [ inl a ↦ cc a | inr b ↦ cc b.1 ]
 move_releases hw s (line.Tick ∷ ls) (suc k) h = move_releases hw s ls k h
 
@@ -93,6 +101,8 @@ flushed_releases hw s (line.Bio b ∷ ls) (suc j) (suc k) a f h = flushed_releas
 flushed_releases hw s (line.Drain g ∷ ls) (suc j) (suc k) a f h = flushed_releases hw s ls j k (omega (arith, a)) f h
 flushed_releases hw s (line.Issue g tag ∷ ls) (suc j) (suc k) a f h = flushed_releases hw s ls j k (omega (arith, a)) f h
 flushed_releases hw s (line.Done tag ∷ ls) (suc j) (suc k) a f h = flushed_releases hw s ls j k (omega (arith, a)) f h
+flushed_releases hw s (line.Back tag ∷ ls) (suc j) (suc k) a f h = flushed_releases hw s ls j k (omega (arith, a)) f h
+flushed_releases hw s (line.Depth n ∷ ls) (suc j) (suc k) a f h = flushed_releases hw s ls j k (omega (arith, a)) f h
 flushed_releases hw s (line.Tick ∷ ls) (suc j) (suc k) a f h = flushed_releases hw s ls j k (omega (arith, a)) f h
 flushed_releases hw s (line.Run n ∷ ls) (suc j) (suc k) a f h = flushed_releases hw s ls j k (omega (arith, a)) f h
 

@@ -7,12 +7,17 @@ use Rattle.blk_plug.specs.declared.plug.PlugFault.{PlugFault}
 use Rattle.blk_plug.specs.declared.plug.PlugFault.TheVariants as plug
 use Rattle.blk_soft.specs.Queues.{Queue}
 use Rattle.blk_sched.specs.Meaning.{Meaning}
+use Rattle.blk_trace.specs.Depths.{depth_now}
 use Rattle.blk_core.specs.State.{CoreState}
-use Rattle.blk_core.specs.Faults.{IsReleaseFault, IsIssueFault, IsTickFault, IsInFlight}
+use Rattle.blk_core.specs.Faults.{IsReleaseFault, IsIssueFault, IsBackFault, IsTickFault, IsDepthFault, IsInFlight}
 use Rattle.blk_core.specs.declared.CoreFault.{CoreFault}
 use Rattle.blk_core.specs.declared.CoreFault.TheVariants as release
 use Rattle.blk_core.specs.declared.IssueFault.{IssueFault}
 use Rattle.blk_core.specs.declared.IssueFault.TheVariants as issue
+use Rattle.blk_core.specs.declared.BackFault.{BackFault}
+use Rattle.blk_core.specs.declared.BackFault.TheVariants as back
+use Rattle.blk_core.specs.declared.DepthFault.{DepthFault}
+use Rattle.blk_core.specs.declared.DepthFault.TheVariants as depth
 use Rattle.blk_core.specs.declared.TickFault.{TickFault}
 use Rattle.blk_core.specs.declared.TickFault.TheVariants as tick
 use Rattle.blk_text.specs.Script.{Scripted}
@@ -27,7 +32,7 @@ use Rattle.blk_sim.specs.Rounds.{queue_asked, GiveNothing, IssueInTurn, IssuesAl
 use Rattle.blk_sim.specs.Policies.{Policy}
 use Rattle.blk_sim.specs.Runs.{Runs}
 
--- a step's reason for what a plug, a release, an issue and a tick are refused for; the hardware queues are there
+-- a step's reason for what a plug, a release, an issue, a Back, a Depth and a tick are refused for; the hardware queues are there
 abbrev pub added_why : PlugFault → SimWhy
 added_why plug.Full = why.Full
 added_why plug.Memory = why.Memory
@@ -45,6 +50,15 @@ issued_why issue.SlotUsed = Some why.SlotUsed
 issued_why issue.TraceFull = Some why.TraceFull
 issued_why issue.Memory = Some why.Memory
 
+abbrev pub back_why : BackFault → SimWhy
+back_why back.NotIssued = why.NotIssued
+back_why back.Memory = why.Memory
+
+abbrev pub depth_why : DepthFault → SimWhy
+depth_why depth.TraceFull = why.TraceFull
+depth_why depth.DepthRange = why.DepthRange
+depth_why depth.Memory = why.Memory
+
 abbrev pub ticked_why : TickFault → SimWhy
 ticked_why (tick.InFlight n) = why.InFlight
 ticked_why tick.TraceFull = why.TraceFull
@@ -58,12 +72,18 @@ IsAddRefused plug bio w = (fault : PlugFault) × IsPlugFault plug bio fault × (
 abbrev pub IsOverfull : Queue → Plug → Type 0
 IsOverfull queue plug = queue.depth < length queue.requests + length plug.requests
 
--- the core refuses a request, an issue and a tick
+-- the core refuses a request, an issue, a Back, a Depth and a tick
 abbrev pub IsReleaseRefused : CoreState → List Bio → ℕ → SimWhy → Type 0
 IsReleaseRefused core bios hw w = (fault : CoreFault) × IsReleaseFault core bios hw fault × (released_why fault ≡ Some w)
 
 abbrev pub IsIssueRefused : CoreState → ℕ → ℕ → SimWhy → Type 0
 IsIssueRefused core hw tag w = (fault : IssueFault) × IsIssueFault core hw tag fault × (issued_why fault ≡ Some w)
+
+abbrev pub IsBackRefused : CoreState → ℕ → SimWhy → Type 0
+IsBackRefused core tag w = (fault : BackFault) × IsBackFault core tag fault × (w ≡ back_why fault)
+
+abbrev pub IsDepthRefused : CoreState → ℕ → SimWhy → Type 0
+IsDepthRefused core n w = (fault : DepthFault) × IsDepthFault core n fault × (w ≡ depth_why fault)
 
 abbrev pub IsTickRefused : CoreState → SimWhy → Type 0
 IsTickRefused core w = (fault : TickFault) × IsTickFault core fault × (w ≡ ticked_why fault)
@@ -112,7 +132,7 @@ pub record IsAskRefused (policy : Policy) (tag : ℕ) (core : CoreState) (w : Si
 -- the tags below one were done with, and its own is refused
 pub record IsIssueInTurnRefused (policy : Policy) (core : CoreState) (w : SimWhy) : Type 0 where
   pub tag : ℕ
-  pub below : tag < core.setup.depth
+  pub below : tag < depth_now core.setup core.events
   pub middle : CoreState
   pub issued : IssueInTurn policy tag core middle
   pub refused : IsAskRefused policy tag middle w
@@ -152,6 +172,8 @@ IsStepRefused policy state (line.Flush s) w = IsFlushRefused state.plugs state.q
 IsStepRefused policy state (line.Drain hw) w = IsDrainRefused policy state.core.setup.hw hw state.queues state.core w
 IsStepRefused policy state (line.Issue hw tag) w = IsIssueRefused state.core hw tag w
 IsStepRefused policy state (line.Done tag) w = (w ≡ why.NotIssued) × (IsInFlight state.core tag → ⊥)
+IsStepRefused policy state (line.Back tag) w = IsBackRefused state.core tag w
+IsStepRefused policy state (line.Depth n) w = IsDepthRefused state.core n w
 IsStepRefused policy state line.Tick w = IsTickRefused state.core w
 IsStepRefused policy state (line.Run n) w = IsRunRefused policy n state.queues state.core w
 

@@ -2,6 +2,7 @@
 use Rattle.std.specs.Prelude.{◌≡◌, ◌+◌, ◌<◌, ◌≤◌, ◌%◌, ◌⊎◌, ℕ, zero, suc, Bool, true, false, List, Option, Some, None, IsSome}
 use Rattle.edd_check.specs.declared.Command.{Command}
 use Rattle.blk_soft.specs.Queues.{Queue}
+use Rattle.blk_trace.specs.Depths.{depth_now}
 use Rattle.blk_trace.specs.Standing.{seat_at}
 use Rattle.blk_core.specs.State.{CoreState}
 use Rattle.blk_core.specs.Calls.{Issues, Completes, Ends}
@@ -49,12 +50,12 @@ IssueInTurn policy zero old new = new ≡ old
 IssueInTurn policy (suc tag) old new =
     (middle : CoreState) × IssueInTurn policy tag old middle × ((IsTaken middle tag × (new ≡ middle)) ⊎ Gives policy tag middle new)
 
--- all tags in turn, up to the first for which no hardware queue gives a command
+-- all tags below the depth of the round in turn, up to the first for which no hardware queue gives a command
 pub record IssuesAll (policy : Policy) (old new : CoreState) : Type 0 where
   pub tags : ℕ
-  pub few : tags ≤ old.setup.depth
+  pub few : tags ≤ depth_now old.setup old.events
   pub issued : IssueInTurn policy tags old new
-  pub ended : (tags ≡ old.setup.depth) ⊎ GiveNothing policy tags new.setup.hw new
+  pub ended : (tags ≡ depth_now old.setup old.events) ⊎ GiveNothing policy tags new.setup.hw new
 
 -- of the tags below n those in flight are completed, in turn
 unfoldable pub CompleteInTurn : Policy → ℕ → CoreState → CoreState → Type 0

@@ -1,7 +1,8 @@
 -- What a step of a script does to a simulation, and what its steps do one after the other.
-use Rattle.std.specs.Prelude.{[], ◌∷◌, ◌≡◌, List, Option}
+use Rattle.std.specs.Prelude.{ℕ, [], ◌∷◌, ◌≡◌, List, Option}
 use Rattle.edd_check.specs.declared.Command.{Command}
-use Rattle.blk_core.specs.Calls.{Completes}
+use Rattle.blk_core.specs.Calls.{Completes, TakesBack, SetsDepth}
+use Rattle.blk_core.specs.Faults.{CanSetDepth}
 use Rattle.blk_text.specs.declared.script.Line.{Line}
 use Rattle.blk_text.specs.declared.script.Line.TheVariants as line
 use Rattle.blk_sim.specs.State.{SimState}
@@ -17,6 +18,10 @@ Steps policy old (line.Drain hw) new = Drains policy old.core.setup.hw hw old.qu
 Steps policy old (line.Issue hw tag) new =
     (found : Option Command) × Asks policy hw tag old.core found new.core × (new.plugs ≡ old.plugs) × (new.queues ≡ old.queues)
 Steps policy old (line.Done tag) new = Completes policy.told_done old.core tag new.core × (new.plugs ≡ old.plugs) × (new.queues ≡ old.queues)
+Steps policy old (line.Back tag) new =
+    (id : ℕ) × TakesBack old.core tag id new.core × (new.plugs ≡ old.plugs) × (new.queues ≡ old.queues)
+Steps policy old (line.Depth n) new =
+    CanSetDepth old.core n × SetsDepth old.core n new.core × (new.plugs ≡ old.plugs) × (new.queues ≡ old.queues)
 Steps policy old line.Tick new = Ticks policy old.core new.core × (new.plugs ≡ old.plugs) × (new.queues ≡ old.queues)
 Steps policy old (line.Run n) new = Rounds policy n old.queues old.core new.queues new.core × (new.plugs ≡ old.plugs)
 

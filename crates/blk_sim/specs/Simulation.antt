@@ -27,6 +27,8 @@ effect_of (line.Flush s) = Flushing s
 effect_of (line.Drain hw) = Draining hw
 effect_of (line.Issue hw tag) = Leaving
 effect_of (line.Done tag) = Leaving
+effect_of (line.Back tag) = Leaving
+effect_of (line.Depth n) = Leaving
 effect_of line.Tick = Leaving
 effect_of (line.Run n) = DrainingAll
 
@@ -104,3 +106,5 @@ ticks_of (line.Flush t) = 0
 ticks_of (line.Drain h) = 0
 ticks_of (line.Issue h tag) = 0
 ticks_of (line.Done tag) = 0
+ticks_of (line.Back tag) = 0
+ticks_of (line.Depth n) = 0

@@ -21,7 +21,7 @@ abbrev pub start_of : Scripted → Meaning → List ℕ → SimState
 start_of script meaning kept = record {
   plugs = replicate script.submitters (record { limits = script.setup.limits; requests = [] });
   queues = replicate script.submitters (record { depth = script.soft_depth; limits = script.setup.limits; requests = []; bios_in = 0; bios_out = 0 });
-  core = record { setup = script.setup; events = []; meaning = meaning; kept = kept; flights = replicate script.setup.depth None };
+  core = record { setup = script.setup; events = []; meaning = meaning; kept = kept; flights = replicate script.setup.depth None; held = replicate script.setup.hw [] };
 }
 
 -- the codes of a plug, of a software queue and of a simulation

@@ -1,9 +1,9 @@
 //! Why a step of a script is refused.
 
 ghost use Rattle.std.specs.Prelude.{◌≡◌, ◌≢◌, Some};
-ghost use Rattle.blk_sim.specs.Refusals.{added_why, released_why, issued_why, ticked_why};
+ghost use Rattle.blk_sim.specs.Refusals.{added_why, released_why, issued_why, back_why, depth_why, ticked_why};
 
-use blk_core::{CoreFault, IssueFault, TickFault};
+use blk_core::{BackFault, CoreFault, DepthFault, IssueFault, TickFault};
 use blk_plug::PlugFault;
 use thiserror::Error;
 
@@ -22,7 +22,7 @@ pub enum SimWhy {
     /// The trace has as many events as it may.
     #[error("TraceFull")]
     TraceFull,
-    /// There is no such tag.
+    /// There is no such tag in this round.
     #[error("TagRange")]
     TagRange,
     /// The tag was used in this round.
@@ -34,6 +34,9 @@ pub enum SimWhy {
     /// A command is in flight, so the round can't end.
     #[error("InFlight")]
     InFlight,
+    /// The depth is 0 or above the setup's.
+    #[error("DepthRange")]
+    DepthRange,
     /// Memory ran out.
     #[error("Memory")]
     Memory,
@@ -73,6 +76,27 @@ pub(crate) fn why_issued(fault: IssueFault) -> SimWhy
         IssueFault::SlotUsed => SimWhy::SlotUsed,
         IssueFault::TraceFull => SimWhy::TraceFull,
         IssueFault::Memory => SimWhy::Memory,
+    }
+}
+
+/// Why the core takes no command back.
+pub(crate) fn why_kept(fault: BackFault) -> SimWhy
+    ensures { result ≡ back_why fault }
+{
+    match fault {
+        BackFault::NotIssued => SimWhy::NotIssued,
+        BackFault::Memory => SimWhy::Memory,
+    }
+}
+
+/// Why the core refuses a depth.
+pub(crate) fn why_unset(fault: DepthFault) -> SimWhy
+    ensures { result ≡ depth_why fault }
+{
+    match fault {
+        DepthFault::TraceFull => SimWhy::TraceFull,
+        DepthFault::DepthRange => SimWhy::DepthRange,
+        DepthFault::Memory => SimWhy::Memory,
     }
 }
 

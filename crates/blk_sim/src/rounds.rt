@@ -16,6 +16,7 @@ use blk_core::laws::{in_flight_is_open, listed_issues_are_open, open_picks_are_o
 use blk_hw::Map;
 use blk_sched::Scheduler;
 use blk_soft::SoftQueue;
+use blk_trace::MAX_DEPTH;
 
 /// Asks the hardware queues for a command under a tag, from the tag modulo their number on upward and round, until one
 /// gives one, and says whether one did.
@@ -47,12 +48,13 @@ fn is_used(why: SimWhy) -> bool
     }
 }
 
-/// Issues under each tag that was not used in this round, rising, until nothing more is given.
+/// Issues under each tag below the depth of this round that was not used in it, rising, until nothing more is given.
 fn issue_all<S: Scheduler>(core: &mut Core<S>) -> Result<(), SimWhy>
     ensures issued { OnOk result (IssuesAll (policy_of S.serves S.chooses S.told_done S.told_tick) core.old core.new) }
     ensures refused { IfErr result (λ w. IsIssueInTurnRefused (policy_of S.serves S.chooses S.told_done S.told_tick) core.old w) }
 {
-    let depth = core.trace().setup().depth() as u16;
+    prove!(core.trace().setup().depth() <= MAX_DEPTH);
+    let depth = core.trace().depth_now() as u16;
     for tag in 0..depth {
         match issue_tag(core, tag) {
             Ok(true) => {}

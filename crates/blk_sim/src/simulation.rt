@@ -14,7 +14,7 @@ ghost use Rattle.blk_sim.specs.Simulated.{IsReady, IsSpread};
 
 use crate::refusal::{SimFault, SimWhy};
 use crate::rounds::run;
-use crate::steps::{add, done, drain, flush, issue, tick};
+use crate::steps::{add, back, done, drain, flush, issue, set_depth, tick};
 use blk_bio::Limits;
 use blk_core::Core;
 use blk_hw::Map;
@@ -179,6 +179,14 @@ impl<S: Scheduler> Simulation<S> {
             }
             Line::Done(tag) => {
                 done(&mut self.core, tag)?;
+                Ok(())
+            }
+            Line::Back(tag) => {
+                back(&mut self.core, tag)?;
+                Ok(())
+            }
+            Line::Depth(depth) => {
+                set_depth(&mut self.core, depth)?;
                 Ok(())
             }
             Line::Tick => {

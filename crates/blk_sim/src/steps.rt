@@ -5,15 +5,17 @@ ghost use Rattle.blk_bio.specs.Bios.{IsBio};
 ghost use Rattle.blk_bio.specs.Requests.{IsWithin};
 ghost use Rattle.blk_plug.specs.Plugs.{Plug as PlugFields};
 ghost use Rattle.blk_soft.specs.Queues.{Queue as QueueFields};
-ghost use Rattle.blk_core.specs.Calls.{Completes};
-ghost use Rattle.blk_core.specs.Faults.{IsInFlight};
+ghost use Rattle.blk_core.specs.Calls.{Completes, TakesBack, SetsDepth};
+ghost use Rattle.blk_core.specs.Faults.{IsInFlight, CanSetDepth};
 ghost use Rattle.blk_sim.specs.Policies.{policy_of};
 ghost use Rattle.blk_sim.specs.Moves.{AddsBio, Flushes, HasRoom, flushed_plug, with_requests, bios_in, Enters, EnterInTurn, drained, Drains};
 ghost use Rattle.blk_sim.specs.Rounds.{Asks, Ticks};
-ghost use Rattle.blk_sim.specs.Refusals.{IsBioRefused, IsFlushRefused, IsOverfull, IsReleaseRefused, IsIssueRefused, IsTickRefused, IsMoveRefused, IsDrainRefused};
+ghost use Rattle.blk_sim.specs.Refusals.{IsBioRefused, IsFlushRefused, IsOverfull, IsReleaseRefused, IsIssueRefused, IsBackRefused, IsDepthRefused, IsTickRefused, IsMoveRefused, IsDrainRefused};
 ghost use Rattle.blk_sim.specs.Simulated.{HaveCome, IsSpread};
 
-use crate::refusal::{SimWhy, why_added, why_issued, why_released, why_ticked};
+use crate::refusal::{
+    SimWhy, why_added, why_issued, why_kept, why_released, why_ticked, why_unset,
+};
 use blk_bio::{Bio, Request};
 use blk_core::Core;
 use blk_hw::Map;
@@ -65,6 +67,28 @@ pub(crate) fn done<S: Scheduler>(core: &mut Core<S>, tag: u16) -> Result<(), Sim
     match core.done(tag) {
         Ok(()) => Ok(()),
         Err(_) => Err(SimWhy::NotIssued),
+    }
+}
+
+/// Takes what is in flight under a tag back, as a busy device hands it back.
+pub(crate) fn back<S: Scheduler>(core: &mut Core<S>, tag: u16) -> Result<(), SimWhy>
+    ensures back { OnOk result ((id : ℕ) × TakesBack core.old tag id core.new) }
+    ensures refused { IfErr result (λ w. IsBackRefused core.old tag w) }
+{
+    match core.back(tag) {
+        Ok(_) => Ok(()),
+        Err(fault) => Err(why_kept(fault)),
+    }
+}
+
+/// Sets how many commands the rounds after this one carry.
+pub(crate) fn set_depth<S: Scheduler>(core: &mut Core<S>, depth: u64) -> Result<(), SimWhy>
+    ensures set { OnOk result (CanSetDepth core.old depth × SetsDepth core.old depth core.new) }
+    ensures refused { IfErr result (λ w. IsDepthRefused core.old depth w) }
+{
+    match core.set_depth(depth) {
+        Ok(()) => Ok(()),
+        Err(fault) => Err(why_unset(fault)),
     }
 }
 

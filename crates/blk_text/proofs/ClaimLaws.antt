@@ -74,7 +74,7 @@ bound_table count = record {
 }
 
 pub title_one : IsOne title
-title_one = record { tells = title_part (codes "blk-certificate") 1 counted_cells IsCounted (omega arith) title_table; plain = λ v rest fit. tt; one = λ v. refl }
+title_one = record { tells = title_part (codes "blk-certificate") 1 counted_cells (λ _. IsCounted) (omega arith) title_table; plain = λ v rest fit. tt; one = λ v. refl }
 
 pub served_one : IsOne served
 served_one = one_record (row_by served_cells) IsServed why.Count (Lacks (slots_by served_cells)) (table_tells served_cells IsServed served_table)
@@ -190,7 +190,7 @@ pub claim_tells : Tells claim_form
 claim_tells = then_tells title (λ t. claim_body t.1.1) title_one.tells (λ t fit. body_tells t.1.1)
 
 claim_decides : Decides claim_form
-claim_decides = then_decides title (λ t. claim_body t.1.1) (title_decides (codes "blk-certificate") 1 counted_cells IsCounted (omega arith) title_table)
+claim_decides = then_decides title (λ t. claim_body t.1.1) (title_decides (codes "blk-certificate") 1 counted_cells (λ _. IsCounted) (omega arith) title_table)
     (λ t fit. then_decides (bound t.1.1) (λ b. items_of (repeats.Exactly t.1.1) (λ _. served)) (bound_decides t.1.1)
     (λ b fit. each_decides served (record_decides (row_by served_cells) IsServed why.Count (Lacks (slots_by served_cells)) (table_decides served_cells IsServed served_table)) (repeats.Exactly t.1.1)))
 

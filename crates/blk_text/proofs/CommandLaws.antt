@@ -38,7 +38,7 @@ command_table = record {
 }
 
 pub title_one : IsOne title
-title_one = record { tells = title_part (codes "blk-commands") 1 depth_cells IsDepth (omega arith) title_table; plain = λ v rest fit. tt; one = λ v. refl }
+title_one = record { tells = title_part (codes "blk-commands") 1 depth_cells (λ _. IsDepth) (omega arith) title_table; plain = λ v rest fit. tt; one = λ v. refl }
 
 pub command_one : IsOne command
 command_one = one_record (row_by command_cells) IsCommandInRange why.Count (Lacks (slots_by command_cells)) (table_tells command_cells IsCommandInRange command_table)
@@ -47,7 +47,7 @@ pub list_tells : Tells command_list
 list_tells = then_tells title (λ t. items_of (repeats.AtMost 1_000_000) (λ _. command)) title_one.tells (λ t fit. each_tells command command_one (repeats.AtMost 1_000_000))
 
 list_decides : Decides command_list
-list_decides = then_decides title (λ t. items_of (repeats.AtMost 1_000_000) (λ _. command)) (title_decides (codes "blk-commands") 1 depth_cells IsDepth (omega arith) title_table)
+list_decides = then_decides title (λ t. items_of (repeats.AtMost 1_000_000) (λ _. command)) (title_decides (codes "blk-commands") 1 depth_cells (λ _. IsDepth) (omega arith) title_table)
     (λ t fit. each_decides command (record_decides (row_by command_cells) IsCommandInRange why.Count (Lacks (slots_by command_cells)) (table_decides command_cells IsCommandInRange command_table)) (repeats.AtMost 1_000_000))
 
 -- records that were taken for a title and commands spell them

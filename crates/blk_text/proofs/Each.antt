@@ -1,5 +1,5 @@
 -- Items that have one record each and don't depend on those before them.
-use Rattle.std.proofs.Common.{◌≡◌, ◌+◌, ℕ, List, [], ◌∷◌, ◌++◌, length, map, refl, ap, arith, decimal, codes, Option, Bool}
+use Rattle.std.proofs.Common.{◌≡◌, ℕ, List, [], ◌∷◌, ◌++◌, length, map, refl, ap, arith, decimal, codes, Option, Bool}
 use Rattle.std.specs.Prelude.{All}
 use Rattle.std.proofs.lemmas.Fmt.{decimal_digit}
 use Rattle.std.proofs.lemmas.List.{length-append}

@@ -1,5 +1,5 @@
 -- The laws of scripts.
-use Rattle.std.proofs.Common.{◌≡◌, ◌+◌, ◌<◌, ◌≤◌, ◌==◌, ◌∙◌, ℕ, suc, List, [], ◌∷◌, length, map, Option, Some, None, refl, sym, ap, subst, inl, inr, arith, get_or, codes}
+use Rattle.std.proofs.Common.{◌≡◌, ◌+◌, ◌<◌, ◌≤◌, ◌==◌, ◌∙◌, ℕ, zero, suc, List, [], ◌∷◌, length, map, Option, Some, None, refl, sym, ap, subst, inl, inr, arith, get_or, codes}
 use Rattle.std.specs.Prelude.{◌⊎◌, All, Err, IfSome, Bool, if◌then◌else◌}
 use Rattle.csv.specs.Reading.{default_config, records, strip_bom}
 use Rattle.csv.specs.Writing.{read_back}
@@ -11,12 +11,13 @@ use Rattle.blk_bio.specs.Limits.{Limits, IsLimits}
 use Rattle.blk_trace.specs.Setups.{Setup, IsSetup}
 use Rattle.blk_text.specs.Sources.{Row}
 use Rattle.blk_text.specs.Texts.{rows_text}
-use Rattle.blk_text.specs.SetupRecord.{setup_cells, setup, FitsSetup}
+use Rattle.blk_trace.specs.declared.setup.TheConstants.{MAX_DEPTH}
+use Rattle.blk_text.specs.SetupRecord.{most_depth, setup_cells, setup, FitsSetup}
 use Rattle.blk_text.specs.Words.{StartsWith, HasNoWord, WordLacks}
 use Rattle.blk_text.specs.Fields.{Lacks, FieldsSpell}
 use Rattle.blk_text.specs.Reads.{Reads, Halts, IsLine, IsWrongLine, IsOne, items_of}
-use Rattle.blk_text.specs.Tables.{IsVersion, FitsBy, row_by, slots_by, kinds_record}
-use Rattle.blk_text.specs.Script.{word_of, Held, step_cells, held, LineFits, IsRight, IsNoBio, script_cells, IsTitle, IsEnough, TooFew, plain_title, title, plain_step, step, script_body, script_form, script_value, Scripted, title_of, script_rows, IsScript, SpellsScript, ScriptFault}
+use Rattle.blk_text.specs.Tables.{FitsBy, row_by, slots_by, kinds_record}
+use Rattle.blk_text.specs.Script.{word_of, StandsIn, Held, step_cells, held, LineFits, IsLineOf, IsRight, IsNoBio, latest, script_cells, IsTitle, IsEnough, TooFew, plain_title, title, plain_step, step, script_body, script_form, script_value, Scripted, title_of, script_rows, IsScript, IsScriptOf, SpellsVersion, SpellsScript, ScriptFault}
 use Rattle.blk_text.specs.declared.fault.Why.{Why}
 use Rattle.blk_text.specs.declared.fault.Why.TheVariants as why
 use Rattle.blk_text.specs.declared.fields.Slot.TheVariants as slot
@@ -29,21 +30,22 @@ use Rattle.blk_text.specs.declared.script.Line.TheVariants as line
 use Rattle.blk_text.specs.declared.script.Title.{Title}
 use Rattle.blk_text.specs.declared.script.Word.{Word}
 use Rattle.blk_text.specs.declared.script.Word.TheVariants as word
-use Rattle.blk_text.proofs.Lacking.{same_text, at_most}
+use Rattle.blk_text.proofs.Lacking.{Dec, both, same_text, at_most}
 use Rattle.blk_text.proofs.TableLaws.{IsTable, IsBy, word_line, first_is, kinds_tell, kinds_decide, word_tells, word_decides, title_part, title_decides}
-use Rattle.blk_text.proofs.Each.{all_fit, each_tells, each_decides, one_record, one_version}
+use Rattle.blk_text.proofs.Each.{all_fit, each_tells, each_decides, one_record}
 use Rattle.blk_text.proofs.Reading.{then_reads, first_halts, second_halts}
 use Rattle.blk_text.proofs.Texts.{text_back, parts_back, begins_itself}
 
 -- the word of a field, whatever stands there
 abbrev word_at : List ℕ → Word
 word_at f =
-    if get_or f 0 0 == 98 then word.Bio
+    if get_or f 0 0 == 98 then (if get_or f 1 0 == 105 then word.Bio else word.Back)
     else if get_or f 0 0 == 102 then word.Flush
     else if get_or f 0 0 == 105 then word.Issue
     else if get_or f 0 0 == 116 then word.Tick
     else if get_or f 0 0 == 114 then word.Run
     else if get_or f 1 0 == 114 then word.Drain
+    else if get_or f 1 0 == 101 then word.Depth
     else word.Done
 
 word_is : (k : Word) → word_at (word_of k) ≡ k
@@ -52,16 +54,29 @@ word_is word.Flush = refl
 word_is word.Drain = refl
 word_is word.Issue = refl
 word_is word.Done = refl
+word_is word.Back = refl
+word_is word.Depth = refl
 word_is word.Tick = refl
 word_is word.Run = refl
 
 words_tell : (j k : Word) → word_of j ≡ word_of k → j ≡ k
 words_tell j k e = sym (word_is j) ∙ ap word_at e ∙ word_is k
 
-word_picked : (f : List ℕ) → ((k : Word) × (f ≡ word_of k)) ⊎ ((k : Word) → ¬ (f ≡ word_of k))
-word_picked f = elim (same_text f (word_of (word_at f))) [
-  | inl e ↦ inl (word_at f, e)
-  | inr n ↦ inr (λ k e. n (e ∙ ap word_of (sym (ap word_at e ∙ word_is k))))
+stands_decided : (version : ℕ) (k : Word) → Dec (StandsIn version k)
+stands_decided version word.Bio = inl tt
+stands_decided version word.Flush = inl tt
+stands_decided version word.Drain = inl tt
+stands_decided version word.Issue = inl tt
+stands_decided version word.Done = inl tt
+stands_decided version word.Back = inl tt
+stands_decided version word.Depth = at_most 2 version
+stands_decided version word.Tick = inl tt
+stands_decided version word.Run = inl tt
+
+word_picked : (version : ℕ) (f : List ℕ) → ((k : Word) × StandsIn version k × (f ≡ word_of k)) ⊎ ((k : Word) → StandsIn version k → ¬ (f ≡ word_of k))
+word_picked version f = elim (both (stands_decided version (word_at f)) (same_text f (word_of (word_at f)))) [
+  | inl e ↦ inl (word_at f, e.0, e.1)
+  | inr n ↦ inr (λ k s e. (let is : k ≡ word_at f = sym (ap word_at e ∙ word_is k) in n (subst (StandsIn version) is s, e ∙ ap word_of is)))
 ]
 
 -- steps
@@ -79,6 +94,8 @@ step_table hw submitters g s word.Flush = record { sized = (omega (arith, s), (t
 step_table hw submitters g s word.Drain = record { sized = (omega (arith, g), (tt, (tt, (tt, (tt, tt))))); within = λ v f. f; made = λ x. x.0; back = λ v f. refl; forth = λ x. refl; fits = λ x f. f }
 step_table hw submitters g s word.Issue = record { sized = (omega (arith, g), (omega arith, (tt, (tt, (tt, tt))))); within = λ v f. f; made = λ x. (x.0, x.1.0); back = λ v f. refl; forth = λ x. refl; fits = λ x f. f }
 step_table hw submitters g s word.Done = record { sized = (omega arith, (tt, (tt, (tt, (tt, tt))))); within = λ v f. f; made = λ x. x.0; back = λ v f. refl; forth = λ x. refl; fits = λ x f. f }
+step_table hw submitters g s word.Back = record { sized = (omega arith, (tt, (tt, (tt, (tt, tt))))); within = λ v f. f; made = λ x. x.0; back = λ v f. refl; forth = λ x. refl; fits = λ x f. f }
+step_table hw submitters g s word.Depth = record { sized = (omega arith, (tt, (tt, (tt, (tt, tt))))); within = λ v f. f; made = λ x. x.0; back = λ v f. refl; forth = λ x. refl; fits = λ x f. f }
 step_table hw submitters g s word.Tick = record { sized = (tt, (tt, (tt, (tt, (tt, tt))))); within = λ v f. f; made = λ x. tt; back = λ v f. refl; forth = λ x. refl; fits = λ x f. f }
 step_table hw submitters g s word.Run = record { sized = (omega arith, (tt, (tt, (tt, (tt, tt))))); within = λ v f. f; made = λ x. x.0; back = λ v f. refl; forth = λ x. refl; fits = λ x f. f }
 
@@ -89,6 +106,8 @@ line_of word.Flush s = line.Flush s
 line_of word.Drain h = line.Drain h
 line_of word.Issue i = line.Issue i.0 i.1
 line_of word.Done t = line.Done t
+line_of word.Back t = line.Back t
+line_of word.Depth d = line.Depth d
 line_of word.Tick t = line.Tick
 line_of word.Run n = line.Run n
 
@@ -99,6 +118,8 @@ line_back (line.Flush s) = refl
 line_back (line.Drain h) = refl
 line_back (line.Issue h t) = refl
 line_back (line.Done t) = refl
+line_back (line.Back t) = refl
+line_back (line.Depth d) = refl
 line_back line.Tick = refl
 line_back (line.Run n) = refl
 
@@ -109,11 +130,13 @@ held_back word.Flush v = refl
 held_back word.Drain v = refl
 held_back word.Issue v = refl
 held_back word.Done v = refl
+held_back word.Back v = refl
+held_back word.Depth v = refl
 held_back word.Tick v = refl
 held_back word.Run v = refl
 
-abbrev kinds : ℕ → ℕ → Rattle.parts.specs.Parts.Part Row Why ((k : Word) × Held k)
-kinds hw submitters = kinds_record Held why.Count 6 word_of (step_cells hw submitters)
+abbrev kinds : ℕ → ℕ → ℕ → Rattle.parts.specs.Parts.Part Row Why ((k : Word) × Held k)
+kinds version hw submitters = kinds_record Held why.Count 6 (StandsIn version) word_of (step_cells hw submitters)
 
 one_bio : (b c : Bio) → line.Bio b ≡ line.Bio c → b ≡ c
 one_bio b c e = cc e
@@ -153,42 +176,48 @@ right_or_no_bio (line.Flush s) = inl (λ b e. absurd (cc e))
 right_or_no_bio (line.Drain h) = inl (λ b e. absurd (cc e))
 right_or_no_bio (line.Issue h t) = inl (λ b e. absurd (cc e))
 right_or_no_bio (line.Done t) = inl (λ b e. absurd (cc e))
+right_or_no_bio (line.Back t) = inl (λ b e. absurd (cc e))
+right_or_no_bio (line.Depth d) = inl (λ b e. absurd (cc e))
 right_or_no_bio line.Tick = inl (λ b e. absurd (cc e))
 right_or_no_bio (line.Run n) = inl (λ b e. absurd (cc e))
 
-step_tells : (hw submitters : ℕ) → hw ≤ 16 → submitters ≤ 64 → Tells (step hw submitters)
-step_tells hw submitters g s = tested_tells (plain_step hw submitters) IsRight IsNoBio
-    (seen_tells held (kinds hw submitters) (λ l m e. sym (line_back l) ∙ ap (λ (h : (k : Word) × Held k). line_of h.0 h.1) e ∙ line_back m) (kinds_tell Held why.Count 6 word_of (step_cells hw submitters) words_tell (step_table hw submitters g s)))
+step_tells : (version hw submitters : ℕ) → hw ≤ 16 → submitters ≤ 64 → Tells (step version hw submitters)
+step_tells version hw submitters g s = tested_tells (plain_step version hw submitters) IsRight IsNoBio
+    (seen_tells held (kinds version hw submitters) (λ l m e. sym (line_back l) ∙ ap (λ (h : (k : Word) × Held k). line_of h.0 h.1) e ∙ line_back m) (kinds_tell Held why.Count 6 (StandsIn version) word_of (step_cells hw submitters) words_tell (step_table hw submitters g s)))
     (λ l k j w x fit. no_bio_once l k j w x) (λ l k w good n. no_bio_is n.0 n.1 (good n.0 n.2) n.5) (λ l k w n. (let is = n.3 in (omega (arith, is), omega (arith, is))))
 
-pub step_one : (hw submitters : ℕ) → hw ≤ 16 → submitters ≤ 64 → IsOne (step hw submitters)
-step_one hw submitters g s = record { tells = step_tells hw submitters g s; plain = λ l rest f. tt; one = λ l. refl }
+pub step_one : (version hw submitters : ℕ) → hw ≤ 16 → submitters ≤ 64 → IsOne (step version hw submitters)
+step_one version hw submitters g s = record { tells = step_tells version hw submitters g s; plain = λ l rest f. tt; one = λ l. refl }
 
-step_decides : (hw submitters : ℕ) → hw ≤ 16 → submitters ≤ 64 → Decides (step hw submitters)
-step_decides hw submitters g s = tested_decides (plain_step hw submitters) IsRight IsNoBio
-    (seen_decides held (kinds hw submitters) (λ v f. (line_of v.0 v.1, held_back v.0 v.1)) (kinds_decide Held why.Count 6 word_of (step_cells hw submitters) word_picked (step_table hw submitters g s)))
+step_decides : (version hw submitters : ℕ) → hw ≤ 16 → submitters ≤ 64 → Decides (step version hw submitters)
+step_decides version hw submitters g s = tested_decides (plain_step version hw submitters) IsRight IsNoBio
+    (seen_decides held (kinds version hw submitters) (λ v f. (line_of v.0 v.1, held_back v.0 v.1)) (kinds_decide Held why.Count 6 (StandsIn version) word_of (step_cells hw submitters) (word_picked version) (step_table hw submitters g s)))
     (λ l fit. right_or_no_bio l)
 
 -- the numbers of a step, as its table and as the script say
-pub step_fits : (hw submitters : ℕ) → (l : Line) → LineFits hw submitters l → (step hw submitters).Fits l
-step_fits hw submitters (line.Bio b) h =
+pub step_fits : (version hw submitters : ℕ) → (l : Line) → IsLineOf version l → LineFits hw submitters l → (step version hw submitters).Fits l
+step_fits version hw submitters (line.Bio b) v h =
     let in_range = h.2.in_range in
-    (((omega arith, omega (arith, h.0)), ((omega arith, omega (arith, h.1)), (tt, ((omega arith, omega (arith, in_range)), ((omega arith, omega (arith, in_range)), tt))))), λ c e. subst IsBio (one_bio b c e) h.2)
-step_fits hw submitters (line.Flush n) h = (((omega arith, omega (arith, h)), (tt, (tt, (tt, (tt, tt))))), λ b e. absurd (cc e))
-step_fits hw submitters (line.Drain n) h = (((omega arith, omega (arith, h)), (tt, (tt, (tt, (tt, tt))))), λ b e. absurd (cc e))
-step_fits hw submitters (line.Issue n t) h = (((omega arith, omega (arith, h.0)), ((omega arith, omega (arith, h.1)), (tt, (tt, (tt, tt))))), λ b e. absurd (cc e))
-step_fits hw submitters (line.Done t) h = (((omega arith, omega (arith, h)), (tt, (tt, (tt, (tt, tt))))), λ b e. absurd (cc e))
-step_fits hw submitters line.Tick h = ((tt, (tt, (tt, (tt, (tt, tt))))), λ b e. absurd (cc e))
-step_fits hw submitters (line.Run n) h = ((h, (tt, (tt, (tt, (tt, tt))))), λ b e. absurd (cc e))
+    ((v, ((omega arith, omega (arith, h.0)), ((omega arith, omega (arith, h.1)), (tt, ((omega arith, omega (arith, in_range)), ((omega arith, omega (arith, in_range)), tt)))))), λ c e. subst IsBio (one_bio b c e) h.2)
+step_fits version hw submitters (line.Flush n) v h = ((v, ((omega arith, omega (arith, h)), (tt, (tt, (tt, (tt, tt)))))), λ b e. absurd (cc e))
+step_fits version hw submitters (line.Drain n) v h = ((v, ((omega arith, omega (arith, h)), (tt, (tt, (tt, (tt, tt)))))), λ b e. absurd (cc e))
+step_fits version hw submitters (line.Issue n t) v h = ((v, ((omega arith, omega (arith, h.0)), ((omega arith, omega (arith, h.1)), (tt, (tt, (tt, tt)))))), λ b e. absurd (cc e))
+step_fits version hw submitters (line.Done t) v h = ((v, ((omega arith, omega (arith, h)), (tt, (tt, (tt, (tt, tt)))))), λ b e. absurd (cc e))
+step_fits version hw submitters (line.Back t) v h = ((v, ((omega arith, omega (arith, h)), (tt, (tt, (tt, (tt, tt)))))), λ b e. absurd (cc e))
+step_fits version hw submitters (line.Depth d) v h = ((v, ((omega arith, omega (arith, h)), (tt, (tt, (tt, (tt, tt)))))), λ b e. absurd (cc e))
+step_fits version hw submitters line.Tick v h = ((v, (tt, (tt, (tt, (tt, (tt, tt)))))), λ b e. absurd (cc e))
+step_fits version hw submitters (line.Run n) v h = ((v, (h, (tt, (tt, (tt, (tt, tt)))))), λ b e. absurd (cc e))
 
-pub fits_step : (hw submitters : ℕ) → 1 ≤ hw → 1 ≤ submitters → (l : Line) → (step hw submitters).Fits l → LineFits hw submitters l
-fits_step hw submitters g s (line.Bio b) f = let low = f.0.0.1 in let serial = f.0.1.0.1 in (omega (arith, low, s), omega (arith, serial), f.1 b refl)
-fits_step hw submitters g s (line.Flush n) f = let low = f.0.0.1 in omega (arith, low, s)
-fits_step hw submitters g s (line.Drain n) f = let low = f.0.0.1 in omega (arith, low, g)
-fits_step hw submitters g s (line.Issue n t) f = let low = f.0.0.1 in let tag = f.0.1.0.1 in (omega (arith, low, g), omega (arith, tag))
-fits_step hw submitters g s (line.Done t) f = let tag = f.0.0.1 in omega (arith, tag)
-fits_step hw submitters g s line.Tick f = tt
-fits_step hw submitters g s (line.Run n) f = f.0.0
+pub fits_step : (version hw submitters : ℕ) → 1 ≤ hw → 1 ≤ submitters → (l : Line) → (step version hw submitters).Fits l → LineFits hw submitters l
+fits_step version hw submitters g s (line.Bio b) f = let low = f.0.1.0.1 in let serial = f.0.1.1.0.1 in (omega (arith, low, s), omega (arith, serial), f.1 b refl)
+fits_step version hw submitters g s (line.Flush n) f = let low = f.0.1.0.1 in omega (arith, low, s)
+fits_step version hw submitters g s (line.Drain n) f = let low = f.0.1.0.1 in omega (arith, low, g)
+fits_step version hw submitters g s (line.Issue n t) f = let low = f.0.1.0.1 in let tag = f.0.1.1.0.1 in (omega (arith, low, g), omega (arith, tag))
+fits_step version hw submitters g s (line.Done t) f = let tag = f.0.1.0.1 in omega (arith, tag)
+fits_step version hw submitters g s (line.Back t) f = let tag = f.0.1.0.1 in omega (arith, tag)
+fits_step version hw submitters g s (line.Depth d) f = let high = f.0.1.0.1 in omega (arith, high)
+fits_step version hw submitters g s line.Tick f = tt
+fits_step version hw submitters g s (line.Run n) f = f.0.1.0
 
 -- what was read of a step's record
 
@@ -196,15 +225,16 @@ pub kind_spells : (hw submitters : ℕ) (k j : Word) (row : Row) (ns : List ℕ)
 kind_spells hw submitters k j row ns e s = subst (λ (z : Word). FieldsSpell (slot.Given ∷ slots_by (step_cells hw submitters z)) row ns) e s
 
 -- of a kind that was told by its word
-pub kind_line : (hw submitters : ℕ) (k j : Word) (v : Held j) (row : Row) (ns : List ℕ) → k ≡ j → StartsWith (word_of k) row → FieldsSpell (slot.Given ∷ slots_by (step_cells hw submitters k)) row ns
-    → IsBy (step_cells hw submitters j) v (λ i. get_or row (suc i) []) (λ i. get_or ns (suc i) 0) → IsLine (kinds hw submitters) row (j, v)
-kind_line hw submitters k j v row ns e t s b =
-    let h = word_line why.Count (word_of j) (step_cells hw submitters j) (FitsBy (step_cells hw submitters j)) v row ns (subst (λ (z : Word). StartsWith (word_of z) row) e t) (kind_spells hw submitters k j row ns e s) b (λ f. f) in
+pub kind_line : (version hw submitters : ℕ) (k j : Word) (v : Held j) (row : Row) (ns : List ℕ) → k ≡ j → StandsIn version k → StartsWith (word_of k) row → FieldsSpell (slot.Given ∷ slots_by (step_cells hw submitters k)) row ns
+    → IsBy (step_cells hw submitters j) v (λ i. get_or row (suc i) []) (λ i. get_or ns (suc i) 0) → IsLine (kinds version hw submitters) row (j, v)
+kind_line version hw submitters k j v row ns e a t s b =
+    let h = word_line why.Count (word_of j) (step_cells hw submitters j) (λ v. StandsIn version j × FitsBy (step_cells hw submitters j) v) v row ns (subst (λ (z : Word). StartsWith (word_of z) row) e t) (kind_spells hw submitters k j row ns e s) b
+    (λ f. (subst (StandsIn version) e a, f)) in
     λ rest. record { fits = (h rest).fits; made = (h rest).made; follows = tt }
 
 -- and whose bio is one
-pub plain_line : (hw submitters : ℕ) (l : Line) (row : Row) → IsLine (kinds hw submitters) row (held l) → IsRight l → IsLine (step hw submitters) row l
-plain_line hw submitters l row h r = λ rest. record { fits = ((h rest).fits, r); made = (h rest).made; follows = tt }
+pub plain_line : (version hw submitters : ℕ) (l : Line) (row : Row) → IsLine (kinds version hw submitters) row (held l) → IsRight l → IsLine (step version hw submitters) row l
+plain_line version hw submitters l row h r = λ rest. record { fits = ((h rest).fits, r); made = (h rest).made; follows = tt }
 
 pub bio_right : (b : Bio) → IsBio b → IsRight (line.Bio b)
 bio_right b i = λ c e. subst IsBio (one_bio b c e) i
@@ -213,37 +243,48 @@ bio_right b i = λ c e. subst IsBio (one_bio b c e) i
 abbrev pub bio_with : List ℕ → Dir → Bio
 bio_with ns dir = record { id = record { submitter = get_or ns 1 0; serial = get_or ns 2 0 }; dir = dir; first = get_or ns 4 0; sectors = get_or ns 5 0 }
 
-pub kind_lacks : (hw submitters : ℕ) (k : Word) (row : Row) (w : Why) → StartsWith (word_of k) row → Lacks (slot.Given ∷ slots_by (step_cells hw submitters k)) row w → IsWrongLine (step hw submitters) row w
-kind_lacks hw submitters k row w t l = λ rest. inl (inl (k, t, (refl, inl (t, l))))
+pub kind_lacks : (version hw submitters : ℕ) (k : Word) (row : Row) (w : Why) → StandsIn version k → StartsWith (word_of k) row → Lacks (slot.Given ∷ slots_by (step_cells hw submitters k)) row w → IsWrongLine (step version hw submitters) row w
+kind_lacks version hw submitters k row w a t l = λ rest. inl (inl (k, (a, t), (refl, inl (t, l))))
 
-pub no_kind : (hw submitters : ℕ) (cells : Row) (w : Why) → ((k : Word) → ¬ (get_or cells 0 [] ≡ word_of k)) → HasNoWord 6 cells w → IsWrongLine (step hw submitters) cells w
-no_kind hw submitters cells w n h = λ rest. inl (inr (refl, (λ k s. n k (first_is cells (word_of k) s)), h))
+pub no_kind : (version hw submitters : ℕ) (cells : Row) (w : Why) → ((k : Word) → StandsIn version k → ¬ (get_or cells 0 [] ≡ word_of k)) → HasNoWord 6 cells w → IsWrongLine (step version hw submitters) cells w
+no_kind version hw submitters cells w n h = λ rest. inl (inr (refl, (λ k s. n k s.0 (first_is cells (word_of k) s.1)), h))
 
-pub step_gone : (hw submitters : ℕ) → (step hw submitters).Wrong [] 1 why.Count
-step_gone hw submitters = inl (inr (refl, (λ k s. s), refl))
+pub step_gone : (version hw submitters : ℕ) → (step version hw submitters).Wrong [] 1 why.Count
+step_gone version hw submitters = inl (inr (refl, (λ k s. s.1), refl))
 
 -- of a bio that there is not
-pub no_bio_line : (hw submitters : ℕ) (b : Bio) (f : BioFault) (row : Row) → IsLine (kinds hw submitters) row (word.Bio, b) → IsBioAnswer b.id b.dir b.first b.sectors (Err f) → IsWrongLine (step hw submitters) row (why.Bio f)
-no_bio_line hw submitters b f row h a = λ rest. inr (line.Bio b, rest, record { fits = (h rest).fits; made = (h rest).made; follows = tt }, (b, f, refl, refl, refl, a))
+pub no_bio_line : (version hw submitters : ℕ) (b : Bio) (f : BioFault) (row : Row) → IsLine (kinds version hw submitters) row (word.Bio, b) → IsBioAnswer b.id b.dir b.first b.sectors (Err f) → IsWrongLine (step version hw submitters) row (why.Bio f)
+no_bio_line version hw submitters b f row h a = λ rest. inr (line.Bio b, rest, record { fits = (h rest).fits; made = (h rest).made; follows = tt }, (b, f, refl, refl, refl, a))
 
 -- titles and setups
 
-pub title_fits : (t : Title) → FitsBy (script_cells 1) t → IsTitle t
-title_fits t f = record { depth = f.0; hw = f.1.0; soft_depth = f.1.1.0; submitters = f.1.1.1.0 }
+pub title_fits : (version : ℕ) (t : Title) → FitsBy (script_cells version) t → IsTitle version t
+title_fits version t f = record { depth = f.0; hw = f.1.0; soft_depth = f.1.1.0; submitters = f.1.1.1.0 }
 
-pub title_table : (version : ℕ) → IsTable (script_cells version) IsTitle
+-- a version has no more tags than the latest
+pub fewer_tags : (version : ℕ) → most_depth version ≤ MAX_DEPTH
+fewer_tags zero = omega arith
+fewer_tags (suc zero) = omega arith
+fewer_tags (suc (suc version)) = omega arith
+
+pub title_table : (version : ℕ) → IsTable (script_cells version) (IsTitle version)
 title_table version = record {
-  sized = (omega arith, (omega arith, (omega arith, (omega arith, tt))));
+  sized = (omega (arith, fewer_tags version), (omega arith, (omega arith, (omega arith, tt))));
   within = λ t i. (i.depth, (i.hw, (i.soft_depth, (i.submitters, tt))));
   made = λ x. record { depth = x.0; hw = x.1.0; soft_depth = x.1.1.0; submitters = x.1.1.1.0 };
   back = λ t i. refl;
   forth = λ x. refl;
-  fits = λ x f. title_fits _ f;
+  fits = λ x f. title_fits version _ f;
 }
+
+-- the slots of a title, by its greatest depth
+pub title_slots : (version depth : ℕ) → depth ≡ most_depth version
+    → slot.Given ∷ slot.Given ∷ slot.Number 1 depth ∷ slot.Number 1 16 ∷ slot.Number 1 1024 ∷ slot.Number 1 64 ∷ [] ≡ slot.Given ∷ slot.Given ∷ slots_by (script_cells version)
+title_slots version depth e = ap (λ n. slot.Given ∷ slot.Given ∷ slot.Number 1 n ∷ slot.Number 1 16 ∷ slot.Number 1 1024 ∷ slot.Number 1 64 ∷ []) e
 
 pub title_one : IsOne title
 title_one = record {
-  tells = tested_tells plain_title IsEnough TooFew (title_part (codes "blk-script") 1 script_cells IsTitle (omega arith) title_table)
+  tells = tested_tells plain_title IsEnough TooFew (title_part (codes "blk-script") latest script_cells IsTitle (omega arith) title_table)
       (λ t k j w x fit f g. (f.0 ∙ sym g.0, f.1 ∙ sym g.1))
       (λ t k w good f. (let few = f.2 in omega (arith, good, few)))
       (λ t k w f. (let is = f.0 in (omega (arith, is), omega (arith, is))));
@@ -252,7 +293,7 @@ title_one = record {
 }
 
 title_decided : Decides title
-title_decided = tested_decides plain_title IsEnough TooFew (title_decides (codes "blk-script") 1 script_cells IsTitle (omega arith) title_table) (λ t fit. elim (at_most t.1.hw t.1.submitters) [
+title_decided = tested_decides plain_title IsEnough TooFew (title_decides (codes "blk-script") latest script_cells IsTitle (omega arith) title_table) (λ t fit. elim (at_most t.1.hw t.1.submitters) [
   | inl e ↦ inl e
   | inr n ↦ inr (1, why.Range, (refl, refl, few t.1.hw t.1.submitters n))
 ])
@@ -260,7 +301,7 @@ title_decided = tested_decides plain_title IsEnough TooFew (title_decides (codes
     few : (a b : ℕ) → ¬ (a ≤ b) → b < a
     few a b h = grind (arith, h)
 
-pub setup_table : (depth hw : ℕ) → (0 < depth) × (depth ≤ 64) → (0 < hw) × (hw ≤ 16) → IsTable setup_cells (FitsSetup depth hw)
+pub setup_table : (depth hw : ℕ) → (0 < depth) × (depth ≤ MAX_DEPTH) → (0 < hw) × (hw ≤ 16) → IsTable setup_cells (FitsSetup depth hw)
 setup_table depth hw d q = record {
   sized = (omega arith, (omega arith, (omega arith, (omega arith, (tt, tt)))));
   within = λ s f. (
@@ -301,61 +342,72 @@ setup_fits depth hw ns l s e f i k = (refl, refl, record { is_setup = subst IsSe
 abbrev setup_word : Setup → Row
 setup_word s = codes "setup" ∷ row_by setup_cells s
 
-pub setup_one : (depth hw : ℕ) → (0 < depth) × (depth ≤ 64) → (0 < hw) × (hw ≤ 16) → IsOne (setup depth hw)
+pub setup_one : (depth hw : ℕ) → (0 < depth) × (depth ≤ MAX_DEPTH) → (0 < hw) × (hw ≤ 16) → IsOne (setup depth hw)
 setup_one depth hw d q = one_record setup_word (FitsSetup depth hw) why.Word (WordLacks (codes "setup") (slots_by setup_cells)) (word_tells (codes "setup") setup_cells (FitsSetup depth hw) (setup_table depth hw d q))
 
 -- whole scripts
 
-steps_tell : (t : Title) → IsTitle t → Tells (items_of (repeats.AtMost 999_998) (λ _. step t.hw t.submitters))
-steps_tell t i = each_tells (step t.hw t.submitters) (step_one t.hw t.submitters i.hw.1 i.submitters.1) (repeats.AtMost 999_998)
+-- the depth of a title is one of a setup
+setup_depth : (t : ℕ × Title) → IsTitle t.0 t.1 → (0 < t.1.depth) × (t.1.depth ≤ MAX_DEPTH)
+setup_depth t i = let high = i.depth.1 in (i.depth.0, omega (arith, high, fewer_tags t.0))
 
-pub body_tells : (t : Title) → IsTitle t → Tells (script_body t)
-body_tells t i = then_tells (setup t.depth t.hw) (λ s. items_of (repeats.AtMost 999_998) (λ _. step t.hw t.submitters)) (setup_one t.depth t.hw i.depth i.hw).tells (λ s fit. steps_tell t i)
+steps_tell : (t : ℕ × Title) → IsTitle t.0 t.1 → Tells (items_of (repeats.AtMost 999_998) (λ _. step t.0 t.1.hw t.1.submitters))
+steps_tell t i = each_tells (step t.0 t.1.hw t.1.submitters) (step_one t.0 t.1.hw t.1.submitters i.hw.1 i.submitters.1) (repeats.AtMost 999_998)
+
+pub body_tells : (t : ℕ × Title) → IsTitle t.0 t.1 → Tells (script_body t)
+body_tells t i = then_tells (setup t.1.depth t.1.hw) (λ s. items_of (repeats.AtMost 999_998) (λ _. step t.0 t.1.hw t.1.submitters)) (setup_one t.1.depth t.1.hw (setup_depth t i) i.hw).tells (λ s fit. steps_tell t i)
 
 script_tells : Tells script_form
-script_tells = then_tells title (λ t. script_body t.1) title_one.tells (λ t fit. body_tells t.1 fit.0.1)
+script_tells = then_tells title script_body title_one.tells (λ t fit. body_tells t fit.0.1)
 
 script_decides : Decides script_form
-script_decides = then_decides title (λ t. script_body t.1) title_decided (λ t fit. (let i = fit.0.1 in
-    then_decides (setup t.1.depth t.1.hw) (λ s. items_of (repeats.AtMost 999_998) (λ _. step t.1.hw t.1.submitters))
-    (record_decides setup_word (FitsSetup t.1.depth t.1.hw) why.Word (WordLacks (codes "setup") (slots_by setup_cells)) (word_decides (codes "setup") setup_cells (FitsSetup t.1.depth t.1.hw) (setup_table t.1.depth t.1.hw i.depth i.hw)))
-    (λ s fit. each_decides (step t.1.hw t.1.submitters) (step_decides t.1.hw t.1.submitters i.hw.1 i.submitters.1) (repeats.AtMost 999_998))))
+script_decides = then_decides title script_body title_decided (λ t fit. (let i = fit.0.1 in
+    then_decides (setup t.1.depth t.1.hw) (λ s. items_of (repeats.AtMost 999_998) (λ _. step t.0 t.1.hw t.1.submitters))
+    (record_decides setup_word (FitsSetup t.1.depth t.1.hw) why.Word (WordLacks (codes "setup") (slots_by setup_cells)) (word_decides (codes "setup") setup_cells (FitsSetup t.1.depth t.1.hw) (setup_table t.1.depth t.1.hw (setup_depth t i) i.hw)))
+    (λ s fit. each_decides (step t.0 t.1.hw t.1.submitters) (step_decides t.0 t.1.hw t.1.submitters i.hw.1 i.submitters.1) (repeats.AtMost 999_998))))
 
 same_script : (s t : Scripted) → s.setup ≡ t.setup → s.soft_depth ≡ t.soft_depth → s.submitters ≡ t.submitters → s.lines ≡ t.lines → s ≡ t
 same_script s t a b c d i = record { setup = a i; soft_depth = b i; submitters = c i; lines = d i }
 
-pub spelled_once : (rows : List Row) (s t : Scripted) → SpellsScript rows s → SpellsScript rows t → s ≡ t
-spelled_once rows s t p q =
-    let e = (script_tells.once rows (script_value s) (script_value t) [] [] p q).0 in
-    same_script s t (λ i. (e i).1.0) (λ i. (e i).0.1.soft_depth) (λ i. (e i).0.1.submitters) (λ i. (e i).1.1)
+pub spelled_once : (rows : List Row) (version other : ℕ) (s t : Scripted) → SpellsVersion version rows s → SpellsVersion other rows t → (version ≡ other) × (s ≡ t)
+spelled_once rows version other s t p q =
+    let e = (script_tells.once rows (script_value version s) (script_value other t) [] [] p q).0 in
+    ((λ i. (e i).0.0), same_script s t (λ i. (e i).1.0) (λ i. (e i).0.1.soft_depth) (λ i. (e i).0.1.submitters) (λ i. (e i).1.1))
 
 pub spelled_apart : (rows : List Row) (s : Scripted) (at : ℕ) (w : Why) → SpellsScript rows s → ScriptFault rows at w → ⊥
-spelled_apart rows s at w = script_tells.apart rows (script_value s) [] at w
+spelled_apart rows s at w p = script_tells.apart rows (script_value p.0 s) [] at w p.1
 
 pub fault_once : (rows : List Row) (at other : ℕ) (w v : Why) → ScriptFault rows at w → ScriptFault rows other v → (at ≡ other) × (w ≡ v)
 fault_once = script_tells.first
 
-steps_fit : (hw submitters : ℕ) (lines : List Line) → All (LineFits hw submitters) lines → All (step hw submitters).Fits lines
-steps_fit hw submitters lines h = λ k d l. step_fits hw submitters _ (h k d l)
+steps_fit : (version hw submitters : ℕ) (lines : List Line) → All (IsLineOf version) lines → All (LineFits hw submitters) lines → All (step version hw submitters).Fits lines
+steps_fit version hw submitters lines v h = λ k d l. step_fits version hw submitters _ (v k d l) (h k d l)
+
+title_in : (version : ℕ) (s : Scripted) → IsScript s → IsScriptOf version s → IsTitle version (title_of s)
+title_in version s h v = record { depth = (h.title.depth.0, v.tags); hw = h.title.hw; soft_depth = h.title.soft_depth; submitters = h.title.submitters }
 
 -- the records of a script spell it
-pub rows_spell : (s : Scripted) → IsScript s → SpellsScript (script_rows s) s
-rows_spell s h = begins_itself script_form (script_value s)
-    ((((omega arith, omega arith), h.title), h.enough), ((refl, refl, h.setup), ((all_fit (step s.setup.hw s.submitters) [] s.lines (steps_fit s.setup.hw s.submitters s.lines h.lines), h.short), tt)))
+pub rows_spell : (version : ℕ) (s : Scripted) → IsScript s → IsScriptOf version s → SpellsVersion version (script_rows version s) s
+rows_spell version s h v = begins_itself script_form (script_value version s) (
+  ((v.is_version, title_in version s h v), h.enough),
+  ((refl, refl, h.setup), ((all_fit (step version s.setup.hw s.submitters) [] s.lines (steps_fit version s.setup.hw s.submitters s.lines v.steps h.lines), h.short), tt)),
+)
     (tt, (tt, (inr refl, refl)))
 
-step_back : (hw submitters : ℕ) (l : Line) → map read_back ((step hw submitters).rows_of l) ≡ (step hw submitters).rows_of l
-step_back hw submitters (line.Bio b) = refl
-step_back hw submitters (line.Flush n) = refl
-step_back hw submitters (line.Drain n) = refl
-step_back hw submitters (line.Issue n tag) = refl
-step_back hw submitters (line.Done tag) = refl
-step_back hw submitters line.Tick = refl
-step_back hw submitters (line.Run n) = refl
+step_back : (version hw submitters : ℕ) (l : Line) → map read_back ((step version hw submitters).rows_of l) ≡ (step version hw submitters).rows_of l
+step_back version hw submitters (line.Bio b) = refl
+step_back version hw submitters (line.Flush n) = refl
+step_back version hw submitters (line.Drain n) = refl
+step_back version hw submitters (line.Issue n tag) = refl
+step_back version hw submitters (line.Done tag) = refl
+step_back version hw submitters (line.Back tag) = refl
+step_back version hw submitters (line.Depth d) = refl
+step_back version hw submitters line.Tick = refl
+step_back version hw submitters (line.Run n) = refl
 
-pub read_back_is : (s : Scripted) → IsScript s → SpellsScript (records default_config (strip_bom (rows_text (script_rows s)))) s
+pub read_back_is : (version : ℕ) (s : Scripted) → IsScript s → IsScriptOf version s → SpellsVersion version (records default_config (strip_bom (rows_text (script_rows version s)))) s
 unfolding rows_text
-read_back_is s h = rw (text_back (script_rows s) _ refl (rw (parts_back (step s.setup.hw s.submitters) (step_back s.setup.hw s.submitters) s.lines) refl)) (rows_spell s h)
+read_back_is version s h v = rw (text_back (script_rows version s) _ refl (rw (parts_back (step version s.setup.hw s.submitters) (step_back version s.setup.hw s.submitters) s.lines) refl)) (rows_spell version s h v)
 
 -- reading
 
@@ -364,50 +416,52 @@ title_is : (t : Title) (s : Setup) (lines : List Line) → FitsSetup t.depth t.h
 title_is t s lines f = λ i. record { depth = f.0 i; hw = f.1 i; soft_depth = t.soft_depth; submitters = t.submitters }
 
 -- records that were taken for a title, a setup and steps spell them
-script_spelled : (rows : List Row) (t : ℕ × Title) (s : Setup) (lines : List Line) → IsVersion 1 t.0 → FitsSetup t.1.depth t.1.hw s → Spells script_form rows (t, (s, lines))
+script_spelled : (rows : List Row) (t : ℕ × Title) (s : Setup) (lines : List Line) → FitsSetup t.1.depth t.1.hw s → Spells script_form rows (t, (s, lines))
     → SpellsScript rows record { setup = s; soft_depth = t.1.soft_depth; submitters = t.1.submitters; lines = lines }
-script_spelled rows t s lines v f h =
-    let one = one_version t.0 v in
+script_spelled rows t s lines f h =
     let same = title_is t.1 s lines f in
-    subst (λ v. Spells script_form rows v) (λ i. ((one i, sym same i), (s, lines))) h
+    (t.0, subst (λ v. Spells script_form rows v) (λ i. ((t.0, sym same i), (s, lines))) h)
 
 pub spelled_or_wrong : (rows : List Row) → ((s : Scripted) × SpellsScript rows s) ⊎ ((at : ℕ) × (w : Why) × ScriptFault rows at w)
 spelled_or_wrong rows = elim (script_decides rows) [
   | inl h ↦ (let f = h.2.fits in let t = h.0.0 in
-      inl (record { setup = h.0.1.0; soft_depth = t.1.soft_depth; submitters = t.1.submitters; lines = h.0.1.1 }, script_spelled rows t h.0.1.0 h.0.1.1 f.0.0.0 f.1.0 (rw h.2.follows.1.1.1 at h.2)))
+      inl (record { setup = h.0.1.0; soft_depth = t.1.soft_depth; submitters = t.1.submitters; lines = h.0.1.1 }, script_spelled rows t h.0.1.0 h.0.1.1 f.1.0 (rw h.2.follows.1.1.1 at h.2)))
   | inr f ↦ inr f
 ]
 
-pub script_in : (t : Title) (s : Setup) (lines : List Line) → IsTitle t → t.hw ≤ t.submitters → FitsSetup t.depth t.hw s → All (step t.hw t.submitters).Fits lines → length lines ≤ 999_998
-    → IsScript record { setup = s; soft_depth = t.soft_depth; submitters = t.submitters; lines = lines }
+latest_title : (version : ℕ) (t : Title) → IsTitle version t → IsTitle latest t
+latest_title version t i = record { depth = (let high = i.depth.1 in (i.depth.0, omega (arith, high, fewer_tags version))); hw = i.hw; soft_depth = i.soft_depth; submitters = i.submitters }
+
+pub script_in : (t : ℕ × Title) (s : Setup) (lines : List Line) → IsTitle t.0 t.1 → t.1.hw ≤ t.1.submitters → FitsSetup t.1.depth t.1.hw s → All (step t.0 t.1.hw t.1.submitters).Fits lines → length lines ≤ 999_998
+    → IsScript record { setup = s; soft_depth = t.1.soft_depth; submitters = t.1.submitters; lines = lines }
 script_in t s lines i enough f a short = record {
-  title = subst IsTitle (sym (title_is t s lines f)) i;
+  title = subst (IsTitle latest) (sym (title_is t.1 s lines f)) (latest_title t.0 t.1 i);
   enough = (let hw = f.1 in omega (arith, enough, hw));
   setup = f.2;
-  lines = subst (λ hw. All (LineFits hw t.submitters) lines) (sym f.1) (λ k d l. fits_step t.hw t.submitters i.hw.0 i.submitters.0 _ (a k d l));
+  lines = subst (λ hw. All (LineFits hw t.1.submitters) lines) (sym f.1) (λ k d l. fits_step t.0 t.1.hw t.1.submitters i.hw.0 i.submitters.0 _ (a k d l));
   short = short;
 }
 
 pub script_read : (left mid after : Option (List Row)) (t : ℕ × Title) (s : Setup) (lines : List Line) → Reads title left mid t → Reads (setup t.1.depth t.1.hw) mid after s
-    → IfSome after (λ rows. Begins (items_of (repeats.AtMost 999_998) (λ _. step t.1.hw t.1.submitters)) rows lines []) → IsVersion 1 t.0 → FitsSetup t.1.depth t.1.hw s
+    → IfSome after (λ rows. Begins (items_of (repeats.AtMost 999_998) (λ _. step t.0 t.1.hw t.1.submitters)) rows lines []) → FitsSetup t.1.depth t.1.hw s
     → IfSome left (λ rows. SpellsScript rows record { setup = s; soft_depth = t.1.soft_depth; submitters = t.1.submitters; lines = lines })
-script_read None mid after t s lines h k a v f = tt
-script_read (Some rows) mid after t s lines h k a v f =
-    script_spelled rows t s lines v f (then_reads title (λ t. script_body t.1) (Some rows) mid t (s, lines) h
-    (then_reads (setup t.1.depth t.1.hw) (λ s. items_of (repeats.AtMost 999_998) (λ _. step t.1.hw t.1.submitters)) mid after s lines k a))
+script_read None mid after t s lines h k a f = tt
+script_read (Some rows) mid after t s lines h k a f =
+    script_spelled rows t s lines f (then_reads title script_body (Some rows) mid t (s, lines) h
+    (then_reads (setup t.1.depth t.1.hw) (λ s. items_of (repeats.AtMost 999_998) (λ _. step t.0 t.1.hw t.1.submitters)) mid after s lines k a))
 
 -- where reading halts
 
 pub title_halts : (failed : Bool) (left : Option (List Row)) (start at : ℕ) (w : Why) → start ≡ 0 → Halts failed title left start at w → Halts failed script_form left 0 at w
-title_halts failed left start at w e h = first_halts failed title (λ t. script_body t.1) left 0 at w (λ t fit. body_tells t.1 fit.0.1) (rw e at h)
+title_halts failed left start at w e h = first_halts failed title script_body left 0 at w (λ t fit. body_tells t fit.0.1) (rw e at h)
 
-pub setup_halts : (failed : Bool) (left mid : Option (List Row)) (t : ℕ × Title) (middle at : ℕ) (w : Why) → middle ≡ 1 → IsTitle t.1 → Reads title left mid t → Halts failed (setup t.1.depth t.1.hw) mid middle at w → Halts failed script_form left 0 at w
+pub setup_halts : (failed : Bool) (left mid : Option (List Row)) (t : ℕ × Title) (middle at : ℕ) (w : Why) → middle ≡ 1 → IsTitle t.0 t.1 → Reads title left mid t → Halts failed (setup t.1.depth t.1.hw) mid middle at w → Halts failed script_form left 0 at w
 setup_halts failed left mid t middle at w e i r h =
-    second_halts failed title (λ t. script_body t.1) left mid t 0 middle at w title_one.tells r (omega (arith, e))
-    (first_halts failed (setup t.1.depth t.1.hw) (λ s. items_of (repeats.AtMost 999_998) (λ _. step t.1.hw t.1.submitters)) mid middle at w (λ s fit. steps_tell t.1 i) h)
+    second_halts failed title script_body left mid t 0 middle at w title_one.tells r (omega (arith, e))
+    (first_halts failed (setup t.1.depth t.1.hw) (λ s. items_of (repeats.AtMost 999_998) (λ _. step t.0 t.1.hw t.1.submitters)) mid middle at w (λ s fit. steps_tell t i) h)
 
-pub steps_halt : (failed : Bool) (left mid after : Option (List Row)) (t : ℕ × Title) (s : Setup) (middle start at : ℕ) (w : Why) → middle ≡ 1 → start ≡ 2 → IsTitle t.1 → Reads title left mid t → Reads (setup t.1.depth t.1.hw) mid after s
-    → Halts failed (items_of (repeats.AtMost 999_998) (λ _. step t.1.hw t.1.submitters)) after start at w → Halts failed script_form left 0 at w
+pub steps_halt : (failed : Bool) (left mid after : Option (List Row)) (t : ℕ × Title) (s : Setup) (middle start at : ℕ) (w : Why) → middle ≡ 1 → start ≡ 2 → IsTitle t.0 t.1 → Reads title left mid t → Reads (setup t.1.depth t.1.hw) mid after s
+    → Halts failed (items_of (repeats.AtMost 999_998) (λ _. step t.0 t.1.hw t.1.submitters)) after start at w → Halts failed script_form left 0 at w
 steps_halt failed left mid after t s middle start at w e f i r k h =
-    second_halts failed title (λ t. script_body t.1) left mid t 0 middle at w title_one.tells r (omega (arith, e))
-    (second_halts failed (setup t.1.depth t.1.hw) (λ s. items_of (repeats.AtMost 999_998) (λ _. step t.1.hw t.1.submitters)) mid after s middle start at w (setup_one t.1.depth t.1.hw i.depth i.hw).tells k (omega (arith, e, f)) h)
+    second_halts failed title script_body left mid t 0 middle at w title_one.tells r (omega (arith, e))
+    (second_halts failed (setup t.1.depth t.1.hw) (λ s. items_of (repeats.AtMost 999_998) (λ _. step t.0 t.1.hw t.1.submitters)) mid after s middle start at w (setup_one t.1.depth t.1.hw (setup_depth t i) i.hw).tells k (omega (arith, e, f)) h)

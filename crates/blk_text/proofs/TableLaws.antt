@@ -16,7 +16,7 @@ use Rattle.blk_text.specs.declared.fault.Why.{Why}
 use Rattle.blk_text.specs.declared.fault.Why.TheVariants as why
 use Rattle.blk_text.proofs.Lists.{cons_same}
 use Rattle.blk_text.proofs.Lacking.{Good, Goods, Dec, both, same_as, at_most, same_text, number_decided, sized_once, lacks_once, goods_lack, goods_or_lacks, no_word_once, no_word_lacks, word_decided, starts_same, word_once}
-use Rattle.parts.specs.Parts.{NextWrong}
+use Rattle.parts.specs.Parts.{Part, NextWrong}
 use Rattle.parts.specs.Laws.{Tells, TellsRecord, Decides, DecidesRecord}
 use Rattle.parts.proofs.Then.{record_tells, record_decides, by_word_tells, by_word_decides}
 use Rattle.blk_text.specs.Tables.{Cell, Blank, Direction, Number, Signed, slot_of, field_of, row_by, slots_by, FitsCell, FitsBy, IsUpTo, IsTitled, IsVersion, title_by, TitleLacks, title_record, table_record, word_record, kinds_record}
@@ -219,8 +219,18 @@ word_decides {V} word cells Fits t row = elim (word_decided word row) [
 
 -- kinds
 
-abbrev Kinds : {K : Type 0} → (V : K → Type 0) → (K → List ℕ) → ((k : K) → List (Cell (V k))) → Type 0
-Kinds {K} V word_of cells = (k : K) → IsTable (cells k) (FitsBy (cells k))
+abbrev Kinds : {K : Type 0} → (V : K → Type 0) → ((k : K) → List (Cell (V k))) → Type 0
+Kinds {K} V cells = (k : K) → IsTable (cells k) (FitsBy (cells k))
+
+-- a record that stands in the form
+pub standing_tells : {V : Type 0} (A : Type 0) (row_of : V → Row) (Fits : V → Type 0) (Bad : Row → Why → Type 0) → TellsRecord row_of Fits Bad → TellsRecord row_of (λ v. A × Fits v) Bad
+standing_tells A row_of Fits Bad t = record { once = λ v u f g e. t.once v u f.1 g.1 e; apart = λ v w f bad. t.apart v w f.1 bad; first = t.first }
+
+standing_decides : {V : Type 0} (A : Type 0) (row_of : V → Row) (Fits : V → Type 0) (Bad : Row → Why → Type 0) → A → DecidesRecord row_of Fits Bad → DecidesRecord row_of (λ v. A × Fits v) Bad
+standing_decides A row_of Fits Bad a d row = elim (d row) [
+  | inl h ↦ inl (h.0, (a, h.1), h.2)
+  | inr w ↦ inr w
+]
 
 pub next_starts : (word : List ℕ) (row : Row) (rows others : List Row) → rows ≡ (word ∷ row) ∷ others → NextStarts word rows
 next_starts word row [] others e = absurd (cc e)
@@ -234,25 +244,32 @@ pub next_once : (gone : Why) (width : ℕ) (rows : List Row) (w x : Why) → Nex
 next_once gone width [] w x a b = a ∙ sym b
 next_once gone width (row ∷ rows) w x a b = no_word_once width row w x a b
 
-pub kinds_tell : {K : Type 0} (V : K → Type 0) (gone : Why) (width : ℕ) (word_of : K → List ℕ) (cells : (k : K) → List (Cell (V k))) → ((j k : K) → word_of j ≡ word_of k → j ≡ k)
-    → Kinds V word_of cells → Tells (kinds_record V gone width word_of cells)
-kinds_tell {K} V gone width word_of cells one tables =
-    by_word_tells V (λ k. NextStarts (word_of k)) (λ k. word_record gone (word_of k) (cells k) (FitsBy (cells k))) (NextWrong gone (HasNoWord width))
-    (λ k. record_tells (λ v. word_of k ∷ row_by (cells k) v) (FitsBy (cells k)) gone (WordLacks (word_of k) (slots_by (cells k))) (word_tells (word_of k) (cells k) (FitsBy (cells k)) (tables k)))
-    (λ j k rows s t. one j k (next_same (word_of j) (word_of k) rows s t)) (λ k rows v a h. next_starts (word_of k) (row_by (cells k) v) rows a h.made) (next_once gone width)
+-- a record of a kind
+abbrev kind_record : {V : Type 0} → Type 0 → Why → List ℕ → List (Cell V) → Part Row Why V
+kind_record Stands gone word cells = word_record gone word cells (λ v. Stands × FitsBy cells v)
 
-pub kinds_decide : {K : Type 0} (V : K → Type 0) (gone : Why) (width : ℕ) (word_of : K → List ℕ) (cells : (k : K) → List (Cell (V k))) → ((f : List ℕ) → ((k : K) × (f ≡ word_of k)) ⊎ ((k : K) → ¬ (f ≡ word_of k)))
-    → Kinds V word_of cells → Decides (kinds_record V gone width word_of cells)
-kinds_decide {K} V gone width word_of cells pick tables =
-    by_word_decides V (λ k. NextStarts (word_of k)) (λ k. word_record gone (word_of k) (cells k) (FitsBy (cells k))) (NextWrong gone (HasNoWord width))
-    (λ k rows s. record_decides (λ v. word_of k ∷ row_by (cells k) v) (FitsBy (cells k)) gone (WordLacks (word_of k) (slots_by (cells k))) (word_decides (word_of k) (cells k) (FitsBy (cells k)) (tables k)) rows) find
+pub kinds_tell : {K : Type 0} (V : K → Type 0) (gone : Why) (width : ℕ) (Stands : K → Type 0) (word_of : K → List ℕ) (cells : (k : K) → List (Cell (V k))) → ((j k : K) → word_of j ≡ word_of k → j ≡ k)
+    → Kinds V cells → Tells (kinds_record V gone width Stands word_of cells)
+kinds_tell {K} V gone width Stands word_of cells one tables =
+    by_word_tells V (λ k rows. Stands k × NextStarts (word_of k) rows) (λ k. kind_record (Stands k) gone (word_of k) (cells k)) (NextWrong gone (HasNoWord width))
+    (λ k. record_tells (λ v. word_of k ∷ row_by (cells k) v) (λ v. Stands k × FitsBy (cells k) v) gone (WordLacks (word_of k) (slots_by (cells k)))
+    (standing_tells (Stands k) (λ v. word_of k ∷ row_by (cells k) v) (FitsBy (cells k)) (WordLacks (word_of k) (slots_by (cells k))) (word_tells (word_of k) (cells k) (FitsBy (cells k)) (tables k))))
+    (λ j k rows s t. one j k (next_same (word_of j) (word_of k) rows s.1 t.1)) (λ k rows v a h. (h.fits.0, next_starts (word_of k) (row_by (cells k) v) rows a h.made)) (next_once gone width)
+
+pub kinds_decide : {K : Type 0} (V : K → Type 0) (gone : Why) (width : ℕ) (Stands : K → Type 0) (word_of : K → List ℕ) (cells : (k : K) → List (Cell (V k)))
+    → ((f : List ℕ) → ((k : K) × Stands k × (f ≡ word_of k)) ⊎ ((k : K) → Stands k → ¬ (f ≡ word_of k)))
+    → Kinds V cells → Decides (kinds_record V gone width Stands word_of cells)
+kinds_decide {K} V gone width Stands word_of cells pick tables =
+    by_word_decides V (λ k rows. Stands k × NextStarts (word_of k) rows) (λ k. kind_record (Stands k) gone (word_of k) (cells k)) (NextWrong gone (HasNoWord width))
+    (λ k rows s. record_decides (λ v. word_of k ∷ row_by (cells k) v) (λ v. Stands k × FitsBy (cells k) v) gone (WordLacks (word_of k) (slots_by (cells k)))
+    (standing_decides (Stands k) (λ v. word_of k ∷ row_by (cells k) v) (FitsBy (cells k)) (WordLacks (word_of k) (slots_by (cells k))) s.0 (word_decides (word_of k) (cells k) (FitsBy (cells k)) (tables k))) rows) find
   where
-    find : (rows : List Row) → ((k : K) × NextStarts (word_of k) rows) ⊎ (((k : K) → ¬ NextStarts (word_of k) rows) × ((w : Why) × NextWrong gone (HasNoWord width) rows w))
-    find [] = inr ((λ k s. s), (gone, refl))
-    find ([] ∷ rows) = inr ((λ k s. (let e : [] ≡ word_of k ∷ s.0 = s.1 in cc e)), no_word_lacks width [])
+    find : (rows : List Row) → ((k : K) × (Stands k × NextStarts (word_of k) rows)) ⊎ (((k : K) → ¬ (Stands k × NextStarts (word_of k) rows)) × ((w : Why) × NextWrong gone (HasNoWord width) rows w))
+    find [] = inr ((λ k s. s.1), (gone, refl))
+    find ([] ∷ rows) = inr ((λ k s. (let e : [] ≡ word_of k ∷ s.1.0 = s.1.1 in cc e)), no_word_lacks width [])
     find ((f ∷ fs) ∷ rows) = elim (pick f) [
-      | inl k ↦ inl (k.0, (fs, ap (λ (g : List ℕ). g ∷ fs) k.1))
-      | inr n ↦ inr ((λ k s. n k (cons_same _ _ _ _ s.1).0), no_word_lacks width (f ∷ fs))
+      | inl k ↦ inl (k.0, (k.1, (fs, ap (λ (g : List ℕ). g ∷ fs) k.2)))
+      | inr n ↦ inr ((λ k s. n k s.0 (cons_same _ _ _ _ s.1.1).0), no_word_lacks width (f ∷ fs))
     ]
 
 -- titles
@@ -264,8 +281,8 @@ same_version name latest a b row l p q h k =
     let other = q.1 in
     decimal_injective a b (omega (arith, high, l)) (omega (arith, other, l)) e.0
 
-title_apart : {V : Type 0} (name : List ℕ) (latest : ℕ) (cells : ℕ → List (Cell V)) (Fits : V → Type 0) → latest < 2 ^ 64 → ((version : ℕ) → IsTable (cells version) Fits) → (t : ℕ × V) (w : Why)
-    → IsVersion latest t.0 × Fits t.1 → TitleLacks name latest cells (title_by name cells t) w → ⊥
+title_apart : {V : Type 0} (name : List ℕ) (latest : ℕ) (cells : ℕ → List (Cell V)) (Fits : ℕ → V → Type 0) → latest < 2 ^ 64 → ((version : ℕ) → IsTable (cells version) (Fits version)) → (t : ℕ × V) (w : Why)
+    → IsVersion latest t.0 × Fits t.0 t.1 → TitleLacks name latest cells (title_by name cells t) w → ⊥
 title_apart name latest cells Fits l table t w f (inl bad) = bad.1 t.0 f.0 (_, refl)
 title_apart name latest cells Fits l table t w f (inr bad) =
     let same = same_version name latest bad.0 t.0 (title_by name cells t) l bad.1 f.0 bad.2 (row_by (cells t.0) t.1, refl) in
@@ -280,22 +297,22 @@ title_first name latest cells l row w x (inr a) (inr b) =
     let same = same_version name latest a.0 b.0 row l a.1 b.1 a.2 b.2 in
     lacks_once (slot.Given ∷ slot.Given ∷ slots_by (cells b.0)) row w x (rw same at a.3) b.3
 
-pub title_part : {V : Type 0} (name : List ℕ) (latest : ℕ) (cells : ℕ → List (Cell V)) (Fits : V → Type 0) → latest < 2 ^ 64 → ((version : ℕ) → IsTable (cells version) Fits)
+pub title_part : {V : Type 0} (name : List ℕ) (latest : ℕ) (cells : ℕ → List (Cell V)) (Fits : ℕ → V → Type 0) → latest < 2 ^ 64 → ((version : ℕ) → IsTable (cells version) (Fits version))
     → Tells (title_record name latest cells Fits)
-title_part {V} name latest cells Fits l table = record_tells (title_by name cells) (λ t. IsVersion latest t.0 × Fits t.1) why.Title (TitleLacks name latest cells) (record {
+title_part {V} name latest cells Fits l table = record_tells (title_by name cells) (λ t. IsVersion latest t.0 × Fits t.0 t.1) why.Title (TitleLacks name latest cells) (record {
   once = λ t u f g e. same t u f g e (same_version name latest t.0 u.0 (title_by name cells u) l f.0 g.0 (row_by (cells t.0) t.1, sym e) (row_by (cells u.0) u.1, refl));
   apart = title_apart name latest cells Fits l table;
   first = title_first name latest cells l;
 })
   where
-    same : (t u : ℕ × V) → IsVersion latest t.0 × Fits t.1 → IsVersion latest u.0 × Fits u.1 → title_by name cells t ≡ title_by name cells u → t.0 ≡ u.0 → t ≡ u
+    same : (t u : ℕ × V) → IsVersion latest t.0 × Fits t.0 t.1 → IsVersion latest u.0 × Fits u.0 u.1 → title_by name cells t ≡ title_by name cells u → t.0 ≡ u.0 → t ≡ u
     same t u f g h e =
-        let value = one_by (cells u.0) Fits (table u.0) t.1 u.1 f.1 g.1 (rw e at (cons_same _ _ _ _ (cons_same _ _ _ _ h).1).1) in
+        let value = one_by (cells u.0) (Fits u.0) (table u.0) t.1 u.1 (rw e at f.1) g.1 (rw e at (cons_same _ _ _ _ (cons_same _ _ _ _ h).1).1) in
         λ i. (e i, value i)
 
-pub title_decides : {V : Type 0} (name : List ℕ) (latest : ℕ) (cells : ℕ → List (Cell V)) (Fits : V → Type 0) → latest < 2 ^ 64 → ((version : ℕ) → IsTable (cells version) Fits)
+pub title_decides : {V : Type 0} (name : List ℕ) (latest : ℕ) (cells : ℕ → List (Cell V)) (Fits : ℕ → V → Type 0) → latest < 2 ^ 64 → ((version : ℕ) → IsTable (cells version) (Fits version))
     → Decides (title_record name latest cells Fits)
-title_decides {V} name latest cells Fits l table = record_decides (title_by name cells) (λ t. IsVersion latest t.0 × Fits t.1) why.Title (TitleLacks name latest cells) (λ row. decided row (titled row))
+title_decides {V} name latest cells Fits l table = record_decides (title_by name cells) (λ t. IsVersion latest t.0 × Fits t.0 t.1) why.Title (TitleLacks name latest cells) (λ row. decided row (titled row))
   where
     titled : (row : Row) → Dec ((version : ℕ) × IsVersion latest version × IsTitled name version row)
     titled [] = inr (λ t. (let e : [] ≡ name ∷ decimal t.0 ∷ t.2.0 = t.2.1 in cc e))
@@ -308,11 +325,11 @@ title_decides {V} name latest cells Fits l table = record_decides (title_by name
     ]
 
     starts : (version : ℕ) (row : Row) → IsVersion latest version → IsTitled name version row → Goods (slot.Given ∷ slot.Given ∷ slots_by (cells version)) row
-        → (t : ℕ × V) × (IsVersion latest t.0 × Fits t.1) × (row ≡ title_by name cells t)
+        → (t : ℕ × V) × (IsVersion latest t.0 × Fits t.0 t.1) × (row ≡ title_by name cells t)
     starts version [] v t g = absurd g
     starts version (f ∷ []) v t g = absurd g.1
     starts version (f ∷ h ∷ fs) v t g =
-        let u = by_table (cells version) Fits (table version) fs g.1.1 in
+        let u = by_table (cells version) (Fits version) (table version) fs g.1.1 in
         let e = cons_same _ _ _ _ t.1 in
         let first = e.0 in
         let second = (cons_same _ _ _ _ e.1).0 in
@@ -320,7 +337,7 @@ title_decides {V} name latest cells Fits l table = record_decides (title_by name
         ((version, u.0), (v, u.1), cc (first, second, others))
 
     decided : (row : Row) → Dec ((version : ℕ) × IsVersion latest version × IsTitled name version row)
-        → ((t : ℕ × V) × (IsVersion latest t.0 × Fits t.1) × (row ≡ title_by name cells t)) ⊎ ((w : Why) × TitleLacks name latest cells row w)
+        → ((t : ℕ × V) × (IsVersion latest t.0 × Fits t.0 t.1) × (row ≡ title_by name cells t)) ⊎ ((w : Why) × TitleLacks name latest cells row w)
     decided row (inr n) = inr (why.Title, inl (refl, λ v i t. n (v, i, t)))
     decided row (inl t) = elim (goods_or_lacks (slot.Given ∷ slot.Given ∷ slots_by (cells t.0)) row) [
       | inl g ↦ inl (starts t.0 row t.1 t.2 g)
@@ -383,8 +400,8 @@ word_line gone word cells Fits v row ns t s b f =
     let r = given_by cells v row ns s b word t in
     λ rest. record { fits = f r.1; made = ap (λ (x : Row). x ∷ rest) r.0; follows = tt }
 
-pub title_line : {V : Type 0} (name : List ℕ) (latest : ℕ) (cells : ℕ → List (Cell V)) (Fits : V → Type 0) (version : ℕ) (v : V) (row : Row) (ns : List ℕ) → IsVersion latest version → IsTitled name version row
-    → FieldsSpell (slot.Given ∷ slot.Given ∷ slots_by (cells version)) row ns → IsBy (cells version) v (λ k. get_or row (suc (suc k)) []) (λ k. get_or ns (suc (suc k)) 0) → (FitsBy (cells version) v → Fits v)
+pub title_line : {V : Type 0} (name : List ℕ) (latest : ℕ) (cells : ℕ → List (Cell V)) (Fits : ℕ → V → Type 0) (version : ℕ) (v : V) (row : Row) (ns : List ℕ) → IsVersion latest version → IsTitled name version row
+    → FieldsSpell (slot.Given ∷ slot.Given ∷ slots_by (cells version)) row ns → IsBy (cells version) v (λ k. get_or row (suc (suc k)) []) (λ k. get_or ns (suc (suc k)) 0) → (FitsBy (cells version) v → Fits version v)
     → IsLine (title_record name latest cells Fits) row (version, v)
 title_line name latest cells Fits version v [] ns i t s b f = absurd (let long = s.0 in omega (arith, long))
 title_line name latest cells Fits version v (g ∷ []) ns i t s b f = absurd (let long = s.0 in omega (arith, long))

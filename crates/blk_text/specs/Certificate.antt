@@ -111,7 +111,7 @@ kind_of None = (NoBound, tt)
 kind_of (Some b) = (SomeBound, b)
 
 abbrev pub title : Part Row Why (ℕ × (ℕ × ℕ))
-title = title_record (codes "blk-certificate") 1 counted_cells IsCounted
+title = title_record (codes "blk-certificate") 1 counted_cells (λ _. IsCounted)
 
 -- the bound of so many commands
 abbrev pub bound : ℕ → Part Row Why (Option (ℤ × Window))

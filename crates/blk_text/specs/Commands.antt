@@ -26,7 +26,7 @@ abbrev pub IsCommandInRange : Command → Type 0
 IsCommandInRange c = (c.id < 2 ^ 64) × (c.release < 2 ^ 40) × (c.due < 2 ^ 41)
 
 abbrev pub title : Part Row Why (ℕ × ℕ)
-title = title_record (codes "blk-commands") 1 depth_cells IsDepth
+title = title_record (codes "blk-commands") 1 depth_cells (λ _. IsDepth)
 
 abbrev pub command : Part Row Why Command
 command = table_record why.Count command_cells IsCommandInRange

@@ -6,8 +6,8 @@ use Rattle.blk_bio.specs.declared.bio.BioFault.{BioFault}
 use Rattle.blk_trace.specs.Setups.{Setup}
 use Rattle.blk_text.specs.Sources.{Row}
 use Rattle.blk_text.specs.Reads.{items_of}
-use Rattle.blk_text.specs.Tables.{Cell, Blank, Direction, Number, title_record, kinds_record}
-use Rattle.blk_text.specs.SetupRecord.{IsWholeSetup, setup}
+use Rattle.blk_text.specs.Tables.{Cell, Blank, Direction, Number, IsVersion, title_record, kinds_record}
+use Rattle.blk_text.specs.SetupRecord.{IsWholeSetup, most_depth, setup}
 use Rattle.blk_text.specs.declared.fault.Why.{Why}
 use Rattle.blk_text.specs.declared.fault.Why.TheVariants as why
 use Rattle.parts.specs.declared.Repeats.TheVariants as repeats
@@ -19,9 +19,9 @@ use Rattle.blk_text.specs.declared.script.Title.{Title}
 use Rattle.blk_text.specs.declared.script.Word.{Word}
 use Rattle.blk_text.specs.declared.script.Word.TheVariants as word
 
--- title: blk-script, 1, depth, hardware queues, soft depth, submitters
+-- title: blk-script, version, depth, hardware queues, soft depth, submitters
 abbrev pub script_cells : ℕ → List (Cell Title)
-script_cells version = Number 1 64 (λ t. t.depth) ∷ Number 1 16 (λ t. t.hw) ∷ Number 1 1024 (λ t. t.soft_depth) ∷ Number 1 64 (λ t. t.submitters) ∷ []
+script_cells version = Number 1 (most_depth version) (λ t. t.depth) ∷ Number 1 16 (λ t. t.hw) ∷ Number 1 1024 (λ t. t.soft_depth) ∷ Number 1 64 (λ t. t.submitters) ∷ []
 
 -- the words of the steps
 abbrev pub word_of : Word → List ℕ
@@ -30,8 +30,22 @@ word_of word.Flush = codes "flush"
 word_of word.Drain = codes "drain"
 word_of word.Issue = codes "issue"
 word_of word.Done = codes "done"
+word_of word.Back = codes "back"
+word_of word.Depth = codes "depth"
 word_of word.Tick = codes "tick"
 word_of word.Run = codes "run"
+
+-- a depth is set from version 2 on, and the other steps stand in each version
+abbrev pub StandsIn : ℕ → Word → Type 0
+StandsIn version word.Bio = Unit {0}
+StandsIn version word.Flush = Unit {0}
+StandsIn version word.Drain = Unit {0}
+StandsIn version word.Issue = Unit {0}
+StandsIn version word.Done = Unit {0}
+StandsIn version word.Back = Unit {0}
+StandsIn version word.Depth = 2 ≤ version
+StandsIn version word.Tick = Unit {0}
+StandsIn version word.Run = Unit {0}
 
 -- what each kind of step says beside its word
 abbrev pub Held : Word → Type 0
@@ -40,6 +54,8 @@ Held word.Flush = ℕ
 Held word.Drain = ℕ
 Held word.Issue = ℕ × ℕ
 Held word.Done = ℕ
+Held word.Back = ℕ
+Held word.Depth = ℕ
 Held word.Tick = Unit {0}
 Held word.Run = ℕ
 
@@ -51,6 +67,8 @@ step_cells hw submitters word.Flush = Number 0 (submitters - 1) (λ s. s) ∷ Bl
 step_cells hw submitters word.Drain = Number 0 (hw - 1) (λ h. h) ∷ Blank ∷ Blank ∷ Blank ∷ Blank ∷ []
 step_cells hw submitters word.Issue = Number 0 (hw - 1) (λ i. i.0) ∷ Number 0 65535 (λ i. i.1) ∷ Blank ∷ Blank ∷ Blank ∷ []
 step_cells hw submitters word.Done = Number 0 65535 (λ t. t) ∷ Blank ∷ Blank ∷ Blank ∷ Blank ∷ []
+step_cells hw submitters word.Back = Number 0 65535 (λ t. t) ∷ Blank ∷ Blank ∷ Blank ∷ Blank ∷ []
+step_cells hw submitters word.Depth = Number 0 (2 ^ 64 - 1) (λ d. d) ∷ Blank ∷ Blank ∷ Blank ∷ Blank ∷ []
 step_cells hw submitters word.Tick = Blank ∷ Blank ∷ Blank ∷ Blank ∷ Blank ∷ []
 step_cells hw submitters word.Run = Number 1 1_000_000 (λ n. n) ∷ Blank ∷ Blank ∷ Blank ∷ Blank ∷ []
 
@@ -61,6 +79,8 @@ held (line.Flush submitter) = (word.Flush, submitter)
 held (line.Drain hw) = (word.Drain, hw)
 held (line.Issue hw tag) = (word.Issue, (hw, tag))
 held (line.Done tag) = (word.Done, tag)
+held (line.Back tag) = (word.Back, tag)
+held (line.Depth depth) = (word.Depth, depth)
 held line.Tick = (word.Tick, tt)
 held (line.Run n) = (word.Run, n)
 
@@ -79,12 +99,18 @@ LineFits hw submitters (line.Flush submitter) = submitter < submitters
 LineFits hw submitters (line.Drain h) = h < hw
 LineFits hw submitters (line.Issue h tag) = (h < hw) × (tag < 65536)
 LineFits hw submitters (line.Done tag) = tag < 65536
+LineFits hw submitters (line.Back tag) = tag < 65536
+LineFits hw submitters (line.Depth depth) = depth < 2 ^ 64
 LineFits hw submitters line.Tick = Unit {0}
 LineFits hw submitters (line.Run n) = (1 ≤ n) × (n ≤ 1_000_000)
 
+-- a step stands in a version
+abbrev pub IsLineOf : ℕ → Line → Type 0
+IsLineOf version l = StandsIn version (held l).0
+
 -- a title's numbers lie in their ranges, but for the least number of submitters
-pub record IsTitle (t : Title) : Type 0 where
-  pub depth : (1 ≤ t.depth) × (t.depth ≤ 64)
+pub record IsTitle (version : ℕ) (t : Title) : Type 0 where
+  pub depth : (1 ≤ t.depth) × (t.depth ≤ most_depth version)
   pub hw : (1 ≤ t.hw) × (t.hw ≤ 16)
   pub soft_depth : (1 ≤ t.soft_depth) × (t.soft_depth ≤ 1024)
   pub submitters : (1 ≤ t.submitters) × (t.submitters ≤ 64)
@@ -104,17 +130,27 @@ scripted s = record { setup = s.setup; soft_depth = s.soft_depth; submitters = s
 abbrev pub title_of : Scripted → Title
 title_of s = record { depth = s.setup.depth; hw = s.setup.hw; soft_depth = s.soft_depth; submitters = s.submitters }
 
--- the numbers of a script lie in their ranges
+-- the latest version of scripts
+abbrev pub latest : ℕ
+latest = 2
+
+-- the numbers of a script lie in their ranges, as the latest version has them
 pub record IsScript (s : Scripted) : Type 0 where
-  pub title : IsTitle (title_of s)
+  pub title : IsTitle latest (title_of s)
   pub enough : s.setup.hw ≤ s.submitters
   pub setup : IsWholeSetup s.setup
   pub lines : All (LineFits s.setup.hw s.submitters) s.lines
   pub short : length s.lines ≤ 999_998
 
+-- a script can be spelled in a version: it has no more tags than that, and no other steps
+pub record IsScriptOf (version : ℕ) (s : Scripted) : Type 0 where
+  pub is_version : IsVersion latest version
+  pub tags : s.setup.depth ≤ most_depth version
+  pub steps : All (IsLineOf version) s.lines
+
 -- a title whose numbers lie in their own ranges
 abbrev pub plain_title : Part Row Why (ℕ × Title)
-plain_title = title_record (codes "blk-script") 1 script_cells IsTitle
+plain_title = title_record (codes "blk-script") latest script_cells IsTitle
 
 -- as many submitters as hardware queues at least
 abbrev pub IsEnough : ℕ × Title → Type 0
@@ -128,32 +164,36 @@ abbrev pub title : Part Row Why (ℕ × Title)
 title = tested plain_title IsEnough TooFew
 
 -- a step by its table
-abbrev pub plain_step : ℕ → ℕ → Part Row Why Line
-plain_step hw submitters = seen_as held (kinds_record Held why.Count 6 word_of (step_cells hw submitters))
+abbrev pub plain_step : ℕ → ℕ → ℕ → Part Row Why Line
+plain_step version hw submitters = seen_as held (kinds_record Held why.Count 6 (StandsIn version) word_of (step_cells hw submitters))
 
--- a step, for so many hardware queues and submitters
-abbrev pub step : ℕ → ℕ → Part Row Why Line
-step hw submitters = tested (plain_step hw submitters) IsRight IsNoBio
+-- a step of a version, for so many hardware queues and submitters
+abbrev pub step : ℕ → ℕ → ℕ → Part Row Why Line
+step version hw submitters = tested (plain_step version hw submitters) IsRight IsNoBio
 
 -- a setup and at most 999,998 steps
-abbrev pub script_body : Title → Part Row Why (Setup × List Line)
-script_body t = then (setup t.depth t.hw) (λ s. items_of (repeats.AtMost 999_998) (λ _. step t.hw t.submitters))
+abbrev pub script_body : ℕ × Title → Part Row Why (Setup × List Line)
+script_body t = then (setup t.1.depth t.1.hw) (λ s. items_of (repeats.AtMost 999_998) (λ _. step t.0 t.1.hw t.1.submitters))
 
 -- a title, a setup and steps
 abbrev pub script_form : Part Row Why ((ℕ × Title) × (Setup × List Line))
-script_form = then title (λ t. script_body t.1)
+script_form = then title script_body
 
--- what the records of a script tell
-abbrev pub script_value : Scripted → (ℕ × Title) × (Setup × List Line)
-script_value s = ((1, title_of s), (s.setup, s.lines))
+-- what the records of a script of a version tell
+abbrev pub script_value : ℕ → Scripted → (ℕ × Title) × (Setup × List Line)
+script_value version s = ((version, title_of s), (s.setup, s.lines))
 
--- the records of a script
-abbrev pub script_rows : Scripted → List Row
-script_rows s = script_form.rows_of (script_value s)
+-- the records of a script in a version
+abbrev pub script_rows : ℕ → Scripted → List Row
+script_rows version s = script_form.rows_of (script_value version s)
 
--- the records spell this script
+-- the records spell this script in this version
+abbrev pub SpellsVersion : ℕ → List Row → Scripted → Type 0
+SpellsVersion version rows s = Spells script_form rows (script_value version s)
+
+-- the records spell this script, in one of the versions
 abbrev pub SpellsScript : List Row → Scripted → Type 0
-SpellsScript rows s = Spells script_form rows (script_value s)
+SpellsScript rows s = (version : ℕ) × SpellsVersion version rows s
 
 -- the first fault of a script
 abbrev pub ScriptFault : List Row → ℕ → Why → Type 0

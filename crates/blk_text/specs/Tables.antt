@@ -68,9 +68,10 @@ table_record gone cells Fits = record_of (row_by cells) Fits gone (Lacks (slots_
 abbrev pub word_record : {V : Type 0} → Why → List ℕ → List (Cell V) → (V → Type 0) → Part Row Why V
 word_record gone word cells Fits = record_of (λ v. word ∷ row_by cells v) Fits gone (WordLacks word (slots_by cells))
 
--- a record of one of some kinds, each with a word and a table of its own, and all of one width
-abbrev pub kinds_record : {K : Type 0} (V : K → Type 0) → Why → ℕ → (K → List ℕ) → ((k : K) → List (Cell (V k))) → Part Row Why ((k : K) × V k)
-kinds_record V gone width word_of cells = by_word V (λ k. NextStarts (word_of k)) (λ k. word_record gone (word_of k) (cells k) (FitsBy (cells k))) (NextWrong gone (HasNoWord width))
+-- a record of one of some kinds, each with a word and a table of its own, and all of one width; only some of the kinds may stand there
+abbrev pub kinds_record : {K : Type 0} (V : K → Type 0) → Why → ℕ → (K → Type 0) → (K → List ℕ) → ((k : K) → List (Cell (V k))) → Part Row Why ((k : K) × V k)
+kinds_record V gone width Stands word_of cells =
+    by_word V (λ k rows. Stands k × NextStarts (word_of k) rows) (λ k. word_record gone (word_of k) (cells k) (λ v. Stands k × FitsBy (cells k) v)) (NextWrong gone (HasNoWord width))
 
 -- a title begins with the name of its form and a version of it
 abbrev pub IsTitled : List ℕ → ℕ → Row → Type 0
@@ -90,5 +91,5 @@ TitleLacks name latest cells row w = ((w ≡ why.Title) × ((version : ℕ) → 
     ⊎ ((version : ℕ) × IsVersion latest version × IsTitled name version row × Lacks (slot.Given ∷ slot.Given ∷ slots_by (cells version)) row w)
 
 -- a title record, whose value has the version
-abbrev pub title_record : {V : Type 0} → List ℕ → ℕ → (ℕ → List (Cell V)) → (V → Type 0) → Part Row Why (ℕ × V)
-title_record name latest cells Fits = record_of (title_by name cells) (λ t. IsVersion latest t.0 × Fits t.1) why.Title (TitleLacks name latest cells)
+abbrev pub title_record : {V : Type 0} → List ℕ → ℕ → (ℕ → List (Cell V)) → (ℕ → V → Type 0) → Part Row Why (ℕ × V)
+title_record name latest cells Fits = record_of (title_by name cells) (λ t. IsVersion latest t.0 × Fits t.0 t.1) why.Title (TitleLacks name latest cells)

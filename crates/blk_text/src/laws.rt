@@ -8,7 +8,7 @@ ghost use Rattle.blk_text.specs.Texts.{rows_text};
 ghost use Rattle.blk_text.specs.Commands.{SpellsCommands, AreCommands, CommandsFault, commands_rows};
 ghost use Rattle.blk_text.specs.Certificate.{Claim, IsClaim, SpellsClaim, ClaimFault, claim_rows};
 ghost use Rattle.blk_trace.specs.Traces.{Traced};
-ghost use Rattle.blk_text.specs.Script.{Scripted, IsScript, SpellsScript, ScriptFault, script_rows};
+ghost use Rattle.blk_text.specs.Script.{Scripted, IsScript, IsScriptOf, SpellsScript, SpellsVersion, ScriptFault, script_rows};
 ghost use Rattle.blk_text.specs.TraceRecords.{trace_rows, IsTrace, SpellsTrace};
 ghost use Rattle.blk_text.specs.declared.fault.Why.{Why as AWhy};
 
@@ -68,14 +68,15 @@ pub fn a_certificate_has_one_fault()
         → ClaimFault rows at w → ClaimFault rows other v → (at ≡ other) × (w ≡ v) }
 {}
 
-/// A list of records spells one script at most.
+/// A list of records spells one script at most, and in one version.
 pub fn scripts_are_spelled_once()
-    ensures { (rows : List Row) → (s t : Scripted) → SpellsScript rows s → SpellsScript rows t → s ≡ t }
+    ensures { (rows : List Row) → (version other : ℕ) → (s t : Scripted) → SpellsVersion version rows s → SpellsVersion other rows t → (version ≡ other) × (s ≡ t) }
 {}
 
-/// The text of a script reads back as its records, which spell it.
+/// The text of a script in a version that has its tags and its steps reads back as its records, which spell it.
 pub fn scripts_read_back()
-    ensures { (s : Scripted) → IsScript s → SpellsScript (records default_config (strip_bom (rows_text (script_rows s)))) s }
+    ensures { (version : ℕ) → (s : Scripted) → IsScript s → IsScriptOf version s
+        → SpellsVersion version (records default_config (strip_bom (rows_text (script_rows version s)))) s }
 {}
 
 /// Records either spell a script or have a fault as one.

@@ -7,14 +7,14 @@ ghost use Rattle.blk_text.specs.Tables.{slots_by};
 ghost use Rattle.blk_text.specs.Words.{StartsWith};
 ghost use Rattle.blk_text.specs.Fields.{FieldsSpell};
 ghost use Rattle.blk_text.specs.BioRecord.{bio_row, direction_text};
-ghost use Rattle.blk_text.specs.Script.{word_of, step_cells, step, LineFits, IsScript, SpellsScript, ScriptFault, scripted, script_form};
+ghost use Rattle.blk_text.specs.Script.{StandsIn, word_of, step_cells, step, LineFits, IsScript, SpellsScript, ScriptFault, scripted, script_form};
 ghost use Rattle.blk_text.specs.declared.fields.Slot.TheVariants as slot;
 ghost use Rattle.blk_text.specs.declared.script.Word.{Word as AWord};
 
 use crate::fault::{TextFault, Why};
 use crate::fields::{Slot, WIDTH, field, parse_number, read_fields, version_of, without_word};
 use crate::items::{LineForm, read_line, read_lines};
-use crate::setup::SetupForm;
+use crate::setup::{SetupForm, most_depth};
 use crate::source::Records;
 use blk_bio::{Bio, BioId, Dir};
 use blk_trace::Setup;
@@ -22,6 +22,9 @@ use csv::ByteRecord;
 use parts::Repeats;
 use std::alloc::Global;
 use std::io::Read;
+
+/// The latest version of scripts.
+const LATEST: u64 = 2;
 
 /// The most steps of a script.
 pub const MOST_STEPS: u64 = 999_998;
@@ -39,6 +42,10 @@ pub enum Line {
     Issue { hw: u8, tag: u16 },
     /// The command under a tag has completed.
     Done(u16),
+    /// The device hands the command under a tag back.
+    Back(u16),
+    /// So many tags may be issued in a round from the next one on: version 2 alone.
+    Depth(u64),
     /// A round ends.
     Tick,
     /// So many rounds of work are done, 1 to 1,000,000.
@@ -66,13 +73,15 @@ pub(crate) enum Word {
     Drain,
     Issue,
     Done,
+    Back,
+    Depth,
     Tick,
     Run,
 }
 
-/// The word of a field.
-fn word_named(field: &[u8]) -> Option<Word>
-    ensures { MatchOption result ((k : AWord) → ¬ (field.now ≡ word_of k)) (λ k. field.now ≡ word_of k) }
+/// The word of a field that stands in a version.
+fn word_named(version: u64, field: &[u8]) -> Option<Word>
+    ensures { MatchOption result ((k : AWord) → StandsIn version k → ¬ (field.now ≡ word_of k)) (λ k. StandsIn version k × (field.now ≡ word_of k)) }
 {
     if field == b"bio".as_slice() {
         Some(Word::Bio)
@@ -88,6 +97,10 @@ fn word_named(field: &[u8]) -> Option<Word>
         Some(Word::Tick)
     } else if field == b"run".as_slice() {
         Some(Word::Run)
+    } else if field == b"back".as_slice() {
+        Some(Word::Back)
+    } else if version >= 2 && field == b"depth".as_slice() {
+        Some(Word::Depth)
     } else {
         None
     }
@@ -114,9 +127,10 @@ pub(crate) struct Title {
     pub submitters: u64,
 }
 
-/// The steps for so many hardware queues and submitters.
+/// The steps of a version, for so many hardware queues and submitters.
 #[derive(Clone, Copy, Drop)]
 pub(crate) struct StepForm {
+    version: u64,
     hw: u8,
     submitters: u64,
     ghost hw_in: { (1 ≤ hw) × (hw ≤ 16) },
@@ -155,6 +169,8 @@ fn step_slots(form: &StepForm, word: Word) -> [Slot; WIDTH]
         Word::Drain => [Slot::Given, hw, none, none, none, none],
         Word::Issue => [Slot::Given, hw, tag, none, none, none],
         Word::Done => [Slot::Given, tag, none, none, none, none],
+        Word::Back => [Slot::Given, tag, none, none, none, none],
+        Word::Depth => [Slot::Given, ANY, none, none, none, none],
         Word::Tick => [Slot::Given, none, none, none, none, none],
         Word::Run => [Slot::Given, rounds, none, none, none, none],
     }
@@ -167,10 +183,11 @@ fn step_of(
     row: &ByteRecord,
     numbers: &[u64; WIDTH],
 ) -> Result<Line, Why>
+    requires stands { StandsIn form.now.version word }
     requires starts { StartsWith (word_of word) (fields_of row.now) }
     requires spells { FieldsSpell (slot.Given ∷ slots_by (step_cells form.now.hw form.now.submitters word)) (fields_of row.now) numbers.now }
-    ensures ok { IfOk result (IsLine (step form.now.hw form.now.submitters) (fields_of row.now)) }
-    ensures err { IfErr result (IsWrongLine (step form.now.hw form.now.submitters) (fields_of row.now)) }
+    ensures ok { IfOk result (IsLine (step form.now.version form.now.hw form.now.submitters) (fields_of row.now)) }
+    ensures err { IfErr result (IsWrongLine (step form.now.version form.now.hw form.now.submitters) (fields_of row.now)) }
 {
     match word {
         Word::Bio => {
@@ -192,6 +209,8 @@ fn step_of(
             tag: numbers[2] as u16,
         }),
         Word::Done => Ok(Line::Done(numbers[1] as u16)),
+        Word::Back => Ok(Line::Back(numbers[1] as u16)),
+        Word::Depth => Ok(Line::Depth(numbers[1])),
         Word::Tick => Ok(Line::Tick),
         Word::Run => Ok(Line::Run(numbers[1])),
     }
@@ -238,9 +257,10 @@ fn bio_of(form: &StepForm, row: &ByteRecord) -> Option<Bio>
 /// The step of a record that begins with a word, by the slots of the word.
 #[inline(never)]
 fn slotted_line(form: &StepForm, word: Word, row: &ByteRecord) -> Result<Line, Why>
-    requires { StartsWith (word_of word) (fields_of row.now) }
-    ensures ok { IfOk result (IsLine (step form.now.hw form.now.submitters) (fields_of row.now)) }
-    ensures err { IfErr result (IsWrongLine (step form.now.hw form.now.submitters) (fields_of row.now)) }
+    requires stands { StandsIn form.now.version word }
+    requires starts { StartsWith (word_of word) (fields_of row.now) }
+    ensures ok { IfOk result (IsLine (step form.now.version form.now.hw form.now.submitters) (fields_of row.now)) }
+    ensures err { IfErr result (IsWrongLine (step form.now.version form.now.hw form.now.submitters) (fields_of row.now)) }
 {
     let slots = step_slots(form, word);
     match read_fields(row, &slots) {
@@ -254,14 +274,14 @@ impl LineForm for StepForm {
 
     type Line = Line;
 
-    ghost part = { λ f. step f.hw f.submitters };
+    ghost part = { λ f. step f.version f.hw f.submitters };
 
     fn gone(&self) -> Why {
         Why::Count
     }
 
     fn line(&self, row: &ByteRecord) -> Result<Line, Why> {
-        let Some(word) = word_named(field(row, 0)) else {
+        let Some(word) = word_named(self.version, field(row, 0)) else {
             return Err(without_word(row, WIDTH));
         };
         if word == Word::Bio {
@@ -290,13 +310,16 @@ impl LineForm for TitleForm {
     }
 
     fn line(&self, row: &ByteRecord) -> Result<(u64, Title), Why> {
-        let Some(version) = version_of(row, b"blk-script", 1) else {
+        let Some(version) = version_of(row, b"blk-script", LATEST) else {
             return Err(Why::Title);
         };
         let slots = [
             Slot::Given,
             Slot::Given,
-            Slot::Number { least: 1, most: 64 },
+            Slot::Number {
+                least: 1,
+                most: most_depth(version),
+            },
             Slot::Number { least: 1, most: 16 },
             Slot::Number {
                 least: 1,
@@ -322,8 +345,9 @@ impl LineForm for TitleForm {
     }
 }
 
-/// The script of a text of records of six fields: a title with the depth, the hardware queues, the
-/// soft depth and the submitters, a setup, and at most 999,998 steps. No record was read before.
+/// The script of a text of records of six fields, in version 1 or 2: a title with the depth (to 64 in version 1, to 256
+/// in version 2), the hardware queues, the soft depth and the submitters, a setup, and at most 999,998 steps, which set a
+/// depth in version 2 alone. No record was read before.
 ///
 /// The fault is the first one: of the least record, and in it the first in the order of [`Why`].
 /// [`Why::Read`] and [`Why::Memory`] come at the record that is being read. No record is asked for past
@@ -346,7 +370,7 @@ pub fn read_script<R: Read + Drop>(
     // the last thing that was asked for is the record after the steps, which there is not
     ensures end { IfOk result (λ s. records.new.at ≡ length s.lines.items + 3) }
 {
-    let (_, title) = match read_line(records, &TitleForm) {
+    let (version, title) = match read_line(records, &TitleForm) {
         Ok(title) => title,
         Err(fault) => return Err(fault),
     };
@@ -359,6 +383,7 @@ pub fn read_script<R: Read + Drop>(
         Err(fault) => return Err(fault),
     };
     let form = StepForm {
+        version,
         hw: title.hw,
         submitters: title.submitters,
     };

@@ -65,6 +65,44 @@ fn faults_of_a_script(rt: HostRuntime) {
 }
 
 #[test]
+fn faults_of_versions(rt: HostRuntime) {
+    for (text, at, why) in [
+        ("blk-script,3,1,1,4,1\n", 1, Why::Title),
+        ("blk-script,01,1,1,4,1\n", 1, Why::Title),
+        ("blk-script,1,65,1,4,1\n", 1, Why::Range),
+        ("blk-script,2,257,1,4,1\n", 1, Why::Range),
+        (
+            "blk-script,1,1,1,4,1\nsetup,0,9,256,128,\ndepth,1,,,,\n",
+            3,
+            Why::Word,
+        ),
+        (
+            "blk-script,1,1,1,4,1\nsetup,0,9,256,128,\ndepth,1,,,\n",
+            3,
+            Why::Fields,
+        ),
+        (
+            "blk-script,2,1,1,4,1\nsetup,0,9,256,128,\ndepth,1,1,,,\n",
+            3,
+            Why::Fields,
+        ),
+        (
+            "blk-script,2,1,1,4,1\nsetup,0,9,256,128,\ndepth,01,,,,\n",
+            3,
+            Why::Number,
+        ),
+        (
+            "blk-script,1,1,1,4,1\nsetup,0,9,256,128,\nback,65536,,,,\n",
+            3,
+            Why::Range,
+        ),
+    ] {
+        let answer = read_script(rt.alloc(), &mut Records::new(rt.alloc(), text.as_bytes()));
+        assert!(rt; answer.err() == Some(TextFault { at, why }), "{text}");
+    }
+}
+
+#[test]
 fn faults_of_a_bio(rt: HostRuntime) {
     for (text, fault) in [
         (

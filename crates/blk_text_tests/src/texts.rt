@@ -138,6 +138,16 @@ fn steps_of_a_script(rt: HostRuntime) {
     assert!(rt; script.lines.as_slice() == steps.as_slice());
 }
 
+#[test]
+fn steps_of_version_2(rt: HostRuntime) {
+    let text = "blk-script,2,64,1,4,1\nsetup,0,9,256,128,\nback,65535,,,,\ndepth,0,,,,\ndepth,18446744073709551615,,,,\n";
+    let records = &mut Records::new(rt.alloc(), text.as_bytes());
+    let script = read_script(rt.alloc(), records).expect(&rt, "refused");
+    assert_eq!(rt; script.setup.depth(), 64);
+    let steps = [Line::Back(65_535), Line::Depth(0), Line::Depth(u64::MAX)];
+    assert!(rt; script.lines.as_slice() == steps.as_slice());
+}
+
 /// A request of one read of submitter 1.
 fn read(rt: &impl Abort, alloc: Global, serial: u64, first: u64) -> Request {
     Request::of(alloc, bio(rt, 1, serial, Dir::Read, first)).expect(rt, "memory")

@@ -2,9 +2,9 @@
 use Rattle.std.proofs.Common.{◌≡◌, ◌≤◌, ◌+◌, ℕ, List, length, subst, arith, refl, Option, Some, None, IfSome}
 use Rattle.std.proofs.lemmas.Bool.{both_ways}
 use Rattle.blk_bio.specs.Requests.{Fits}
-use Rattle.blk_trace.specs.declared.rule.TraceRule.TheVariants.{ReleasedTwice, Unknown, AlreadyIssued, BioTwice, Fit, TagRange, TagUsed, NotIssued, InFlight, TooLong}
+use Rattle.blk_trace.specs.declared.rule.TraceRule.TheVariants.{ReleasedTwice, Unknown, AlreadyIssued, BioTwice, Fit, TagRange, TagUsed, NotIssued, InFlight, TooLong, DepthRange}
 use Rattle.blk_trace.specs.declared.trace.TheConstants.{MAX_EVENTS}
-use Rattle.blk_trace.specs.Happened.{Happened, Ticked, Released, Joined, Issued}
+use Rattle.blk_trace.specs.Happened.{Happened, Ticked, Released, Joined, Issued, DepthSet}
 use Rattle.blk_trace.specs.Kinds.{issues, ends}
 use Rattle.blk_trace.specs.Setups.{Setup}
 use Rattle.blk_trace.specs.Events.{open_count, IsIssued, IsOpen}
@@ -61,4 +61,5 @@ allowed-unbroken setup events e legal allowed room NotIssued = ends_open setup e
 allowed-unbroken setup events Ticked legal allowed room InFlight = λ tag o. absurd (omega (arith, allowed.0, allowed.1, open_positive setup events tag legal o, open-both setup events legal))
 allowed-unbroken setup events (Issued id tag) legal allowed room TooLong = room_issue setup events id tag legal room
 allowed-unbroken setup events e legal allowed room TooLong = enough setup events e (ends e) refl refl legal allowed room
+allowed-unbroken setup events (DepthSet depth) legal allowed room DepthRange = allowed
 allowed-unbroken setup events e legal allowed room rule = tt

@@ -1,15 +1,15 @@
 -- Which rule is the first that an event breaks, event by event.
 use Rattle.std.proofs.Common.{◌<◌, ◌+◌, ℕ, List, arith}
 use Rattle.blk_bio.specs.Bios.{Bio}
-use Rattle.blk_trace.specs.Happened.{Happened, Ticked, Released, Joined, Issued, Finished, Returned}
+use Rattle.blk_trace.specs.Happened.{Happened, Ticked, Released, Joined, Issued, Finished, Returned, DepthSet}
 use Rattle.blk_trace.specs.declared.rule.TraceRule.{TraceRule}
-use Rattle.blk_trace.specs.declared.rule.TraceRule.TheVariants.{ReleasedTwice, Unknown, AlreadyIssued, BioTwice, Fit, TagRange, TagUsed, NotIssued, InFlight, TooLong}
+use Rattle.blk_trace.specs.declared.rule.TraceRule.TheVariants.{ReleasedTwice, Unknown, AlreadyIssued, BioTwice, Fit, TagRange, TagUsed, NotIssued, InFlight, TooLong, DepthRange}
 use Rattle.blk_trace.specs.Setups.{Setup}
 use Rattle.blk_trace.specs.Rules.{Obeys, rank, IsFirstBroken, IsUnbroken}
 
 -- no rule comes after the last one
 abbrev beyond : ℕ
-beyond = rank TooLong + 1
+beyond = rank DepthRange + 1
 
 all_before : (r : TraceRule) → rank r < beyond
 all_before ReleasedTwice = omega arith
@@ -22,6 +22,7 @@ all_before TagUsed = omega arith
 all_before NotIssued = omega arith
 all_before InFlight = omega arith
 all_before TooLong = omega arith
+all_before DepthRange = omega arith
 
 -- the rules that concern a Tick, each where it comes before the n-th; it obeys all others
 tick_rules : (setup : Setup) (es : List Happened) (n : ℕ) → (rank InFlight < n → Obeys setup es Ticked InFlight) → (rank TooLong < n → Obeys setup es Ticked TooLong) → (r : TraceRule) → rank r < n → Obeys setup es Ticked r
@@ -138,3 +139,18 @@ back_not_issued setup es tag fails = record { broken = fails; first = back_rules
 
 pub back_unbroken : (setup : Setup) (es : List Happened) (tag : ℕ) → Obeys setup es (Returned tag) NotIssued → Obeys setup es (Returned tag) TooLong → IsUnbroken setup es (Returned tag)
 back_unbroken setup es tag a0 a1 = λ r. back_rules setup es tag beyond (λ _. a0) (λ _. a1) r (all_before r)
+
+-- the rules that concern a Depth, each where it comes before the n-th; it obeys all others
+depth_rules : (setup : Setup) (es : List Happened) (depth : ℕ) (n : ℕ) → (rank TooLong < n → Obeys setup es (DepthSet depth) TooLong) → (rank DepthRange < n → Obeys setup es (DepthSet depth) DepthRange) → (r : TraceRule) → rank r < n → Obeys setup es (DepthSet depth) r
+depth_rules setup es depth n a0 a1 TooLong h = a0 h
+depth_rules setup es depth n a0 a1 DepthRange h = a1 h
+depth_rules setup es depth n a0 a1 rule h = tt
+
+pub depth_too_long : (setup : Setup) (es : List Happened) (depth : ℕ) → (Obeys setup es (DepthSet depth) TooLong → ⊥) → IsFirstBroken setup es (DepthSet depth) TooLong
+depth_too_long setup es depth fails = record { broken = fails; first = depth_rules setup es depth (rank TooLong) (λ h. absurd (omega (arith, h))) (λ h. absurd (omega (arith, h))) }
+
+pub depth_range : (setup : Setup) (es : List Happened) (depth : ℕ) → Obeys setup es (DepthSet depth) TooLong → (Obeys setup es (DepthSet depth) DepthRange → ⊥) → IsFirstBroken setup es (DepthSet depth) DepthRange
+depth_range setup es depth a0 fails = record { broken = fails; first = depth_rules setup es depth (rank DepthRange) (λ _. a0) (λ h. absurd (omega (arith, h))) }
+
+pub depth_unbroken : (setup : Setup) (es : List Happened) (depth : ℕ) → Obeys setup es (DepthSet depth) TooLong → Obeys setup es (DepthSet depth) DepthRange → IsUnbroken setup es (DepthSet depth)
+depth_unbroken setup es depth a0 a1 = λ r. depth_rules setup es depth beyond (λ _. a0) (λ _. a1) r (all_before r)

@@ -16,7 +16,7 @@ use Rattle.blk_trace.specs.declared.tags.TagUse.TheVariants.{Free, Open, Ended}
 use Rattle.blk_trace.specs.declared.trace.Prepared.{Prepared}
 use Rattle.blk_trace.specs.declared.trace.Prepared.TheVariants.{Nothing, AnIssue, Bios}
 use Rattle.blk_trace.specs.declared.rule.TraceRule.TheVariants.{InFlight, NotIssued}
-use Rattle.blk_trace.specs.Happened.{Happened, Ticked, Released, Joined, Issued, Finished, Returned}
+use Rattle.blk_trace.specs.Happened.{Happened, Ticked, Released, Joined, Issued, Finished, Returned, DepthSet}
 use Rattle.blk_trace.specs.Kinds.{releases, joins}
 use Rattle.blk_trace.specs.Setups.{Setup, IsSetup, expire_of}
 use Rattle.blk_trace.specs.Events.{round_of, open_count, entered, bios_of, join_up, request_of}
@@ -272,6 +272,27 @@ kept_join setup es zs id bios w s cs rs round opened known known' ids ids' tags 
     } in
     subst P (sym hz) here
 
+pub kept_depth : (setup : Setup) (es zs : List Happened) (depth : ℕ) (cs : List Command) (rs : List ℕ) (round opened : ℕ) (known : ℕ → Option Known) (ids : BioId → Bool) (tags : List TagUse)
+    → IsKept setup es cs rs round opened known ids tags → IsUnbroken setup es (DepthSet depth) → zs ≡ es ++ DepthSet depth ∷ []
+    → IsKept setup zs cs rs round opened known ids tags
+kept_depth setup es zs depth cs rs round opened known ids tags k all hz =
+    let new = push_legal setup es (DepthSet depth) k.legal all tt in
+    let P : List Happened → Type 0 = λ l. IsKept setup l cs rs round opened known ids tags in
+    let here : P (es ++ DepthSet depth ∷ []) = record {
+      ranges = k.ranges;
+      legal = new;
+      commands_are = k.commands_are ∙ sym (commands_kept setup es (DepthSet depth) new refl refl);
+      rounds_are = k.rounds_are ∙ sym (rounds_kept es (DepthSet depth) refl refl);
+      round_is = omega (arith, k.round_is, round_more es (DepthSet depth));
+      open_is = k.open_is ∙ sym (open_kept es (DepthSet depth) refl refl);
+      known_are = λ q. k.known_are q ∙ sym (known_kept setup es (DepthSet depth) refl refl refl refl q);
+      some_bios = some_kept setup es (DepthSet depth) refl refl k.some_bios;
+      ids_are = λ id. k.ids_are id ∙ sym (same_ids es (DepthSet depth) id refl);
+      tags_are = tags_kept es (DepthSet depth) tags refl refl refl k.tags_are;
+      each_tag = k.each_tag;
+    } in
+    subst P (sym hz) here
+
 -- a command by its parts
 pub command_is : (c : Command) (id release due : ℕ) → c.id ≡ id → c.release ≡ release → c.due ≡ due → c ≡ record { id = id; release = release; due = due }
 command_is c id release due h i j =
@@ -324,6 +345,9 @@ pub room_after_tick : (p : Prepared) (n n' o c r P P' C R K I : ℕ) → IsPrepa
 room_after_tick Nothing n n' o c r P P' C R K I h room hn more = absurd h
 room_after_tick AnIssue n n' o c r P P' C R K I h room hn more = record { for_events = omega (arith, room.for_events, hn, more); for_command = omega (arith, room.for_command); for_round = omega (arith, room.for_round); for_request = omega arith; for_bios = omega arith }
 room_after_tick (Bios m) n n' o c r P P' C R K I h room hn more = absurd h
+
+pub room_after_depth : (p : Prepared) (depth n n' o c r P P' C R K I : ℕ) → IsPreparedFor p (DepthSet depth) → HasRoom p n o c r P C R K I → n' ≡ n + 1 → P ≤ P' → HasRoom Nothing n' o c r P' C R K I
+room_after_depth p depth n n' o c r P P' C R K I h room hn more = room_after_tick p n n' o c r P P' C R K I h room hn more
 
 pub room_after_issue : (p : Prepared) (id tag n n' o c c' r r' P P' C C' R R' K K' I : ℕ) → IsPreparedFor p (Issued id tag) → HasRoom p n o c r P C R K I → n' ≡ n + 1 → c' ≡ c + 1 → r' ≡ r + 1 → P ≤ P' → C ≤ C' → R ≤ R' → HasRoom Nothing n' (o + 1) c' r' P' C' R' K' I
 room_after_issue Nothing id tag n n' o c c' r r' P P' C C' R R' K K' I h room hn hc hr p q s = absurd h

@@ -2,7 +2,10 @@ pub mod Places
 pub mod Words
 pub mod Pushing
 pub mod More
+pub mod Depths
 pub mod Ids
+pub mod Capacities
+pub mod Changes
 pub mod Entering
 pub mod Waiting
 pub mod Unissued

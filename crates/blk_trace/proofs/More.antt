@@ -1,5 +1,5 @@
 -- Each word of a list of events with one more event.
-use Rattle.std.proofs.Common.{◌≡◌, ◌≤◌, ◌+◌, ◌++◌, ◌==◌, ◌||◌, ℕ, List, [], ◌∷◌, length, map, refl, sym, ◌∙◌, ap, arith, cond, Bool, true, false, option_map, Some, None, is_some}
+use Rattle.std.proofs.Common.{◌≡◌, ◌≤◌, ◌+◌, ◌++◌, ◌==◌, ◌||◌, ℕ, zero, suc, List, [], ◌∷◌, length, take, map, refl, sym, ◌∙◌, ap, arith, cond, Bool, true, false, option_map, Some, None, is_some}
 use Rattle.std.specs.Prelude.{Option, count_by, fold, max}
 use Rattle.std.specs.Option.{option_map_or, option_and_then}
 use Rattle.std.specs.List.{filter_map, cons_option, list_any}
@@ -31,6 +31,17 @@ round_more es e = more_of is_tick es e
 pub rounds_within : (es : List Happened) → round_of es ≤ length es
 unfolding round_of
 rounds_within es = count_by-le-length is_tick es
+
+-- a round is no later than the last one
+round_cons_le : (e : Happened) (es : List Happened) → round_of (e ∷ es) ≡ cond (is_tick e) 1 0 + round_of es
+unfolding round_of
+round_cons_le e es = sum_by-cons (λ (x : Happened). cond (is_tick x) 1 0) e es
+
+pub round_within : (k : ℕ) (es : List Happened) → round_of (take k es) ≤ round_of es
+unfolding round_of
+round_within zero es = omega arith
+round_within (suc k) [] = omega arith
+round_within (suc k) (e ∷ es) = omega (arith, round_within k es, round_cons_le e es, round_cons_le e (take k es))
 
 -- the round after a list that begins in a given round
 one_later : (b : Bool) (r n : ℕ) → r + (cond b 1 0 + n) ≡ cond b (r + 1) r + n

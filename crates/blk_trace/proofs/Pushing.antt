@@ -1,21 +1,23 @@
 -- A list with one more event is legal exactly where the list is, and the event obeys each rule.
-use Rattle.std.proofs.Common.{◌≡◌, ◌≤◌, ◌+◌, ◌++◌, ℕ, List, [], ◌∷◌, length, refl, sym, ◌∙◌, ap, subst, arith, length-append, inl, inr, append-nil, cond, Bool, true, false, Option, Some, None, IfSome}
+use Rattle.std.proofs.Common.{◌≡◌, ◌≤◌, ◌+◌, ◌++◌, ℕ, ◌<◌, List, [], ◌∷◌, length, refl, sym, ◌∙◌, ap, subst, arith, length-append, inl, inr, append-nil, cond, Bool, true, false, Option, Some, None, IfSome}
 use Rattle.std.specs.Option.{option_map_or}
 use Rattle.std.specs.List.{flat_map}
 use Rattle.std.proofs.lemmas.List.Concat.{flat_map-append}
 use Rattle.std.proofs.lemmas.Option.{slice_get_within}
 use Rattle.blk_bio.specs.Bios.{Bio}
-use Rattle.blk_trace.specs.Happened.{Happened, Ticked, Released, Joined, Issued}
+use Rattle.blk_trace.specs.Happened.{Happened, Ticked, Released, Joined, Issued, DepthSet}
 use Rattle.blk_trace.specs.Kinds.{enters, ends, is_issue, is_end}
 use Rattle.blk_trace.specs.declared.rule.TraceRule.{TraceRule}
-use Rattle.blk_trace.specs.declared.rule.TraceRule.TheVariants.{ReleasedTwice, Unknown, AlreadyIssued, BioTwice, Fit, TagRange, TagUsed, NotIssued, InFlight, TooLong}
+use Rattle.blk_trace.specs.declared.rule.TraceRule.TheVariants.{ReleasedTwice, Unknown, AlreadyIssued, BioTwice, Fit, TagRange, TagUsed, NotIssued, InFlight, TooLong, DepthRange}
 use Rattle.blk_trace.specs.Setups.{Setup}
 use Rattle.blk_trace.specs.Events.{At, EntersRequest, round_of, round_at, bios_of, entered, open_count, AreOnce, IsOpen}
+use Rattle.blk_trace.specs.Depths.{depth_in, depth_now}
 use Rattle.blk_trace.specs.Legal.{IsLegalTrace}
 use Rattle.blk_trace.specs.Rules.{Obeys, IsUnbroken}
 use Rattle.blk_trace.proofs.Places.{split, keep, last, before, before_last}
 use Rattle.blk_trace.proofs.Words.{if_some, some_of, keep_end, split_end}
-use Rattle.blk_trace.proofs.More.{more_of}
+use Rattle.blk_trace.proofs.More.{more_of, round_within}
+use Rattle.blk_trace.proofs.Depths.{depth_past, depth_now_is}
 
 -- no events are legal
 pub empty_legal : (setup : Setup) → IsLegalTrace setup []
@@ -34,6 +36,7 @@ empty_legal setup = record {
   are_requests = λ k e h. absurd (cc);
   release_within = λ k id q h. absurd (cc);
   join_fits = λ k id n h. absurd (cc);
+  depth_range = λ k d h. absurd (cc);
   not_too_long = omega arith;
 }
 
@@ -49,6 +52,16 @@ once_more setup es e old h = by_entry (entered es) (enters e) old h
     by_entry : (bs : List Bio) (o : Option (ℕ × List Bio)) → AreOnce bs → IfSome o (λ p. AreOnce (bs ++ p.1)) → AreOnce (bs ++ option_map_or (λ p. p.1) o [])
     by_entry bs None old h = rw append-nil old
     by_entry bs (Some p) old h = h
+
+-- a number below the depth of a round that has begun
+sooner : (setup : Setup) (es : List Happened) (e : Happened) (x n : ℕ) → x ≤ round_of es → n < depth_in setup es x → n < depth_in setup (es ++ e ∷ []) x
+sooner setup es e x n early h = omega (arith, h, depth_past setup es e x early)
+
+was_below : (setup : Setup) (es : List Happened) (e : Happened) (x n : ℕ) → x ≤ round_of es → n < depth_in setup (es ++ e ∷ []) x → n < depth_in setup es x
+was_below setup es e x n early h = omega (arith, h, depth_past setup es e x early)
+
+now_below : (setup : Setup) (es : List Happened) (n : ℕ) → n < depth_now setup es → n < depth_in setup es (round_of es)
+now_below setup es n h = omega (arith, h, depth_now_is setup es)
 
 -- a legal list with an event that obeys each rule, and whose bios are a request, is legal
 pub push_legal : (setup : Setup) (es : List Happened) (e : Happened) → IsLegalTrace setup es → IsUnbroken setup es e → EntersRequest e → IsLegalTrace setup (es ++ e ∷ [])
@@ -100,8 +113,8 @@ push_legal setup es e old all request =
           ];
       tag_range = λ k id tag h.
           elim (split es e k _ h) [
-            | inl a ↦ old.tag_range k id tag a
-            | inr a ↦ told _ TagRange a.1
+            | inl a ↦ rw (before es (e ∷ []) k _ a) (sooner setup es e (round_at es k) tag (round_within k es) (old.tag_range k id tag a))
+            | inr a ↦ rw (before_last es e k a.0) (sooner setup es e (round_of es) tag (omega arith) (now_below setup es tag (told _ TagRange a.1)))
           ];
       tag_once = λ j k i l tag h m same.
           elim (split es e j _ h) [
@@ -136,6 +149,11 @@ push_legal setup es e old all request =
             | inl a ↦ rw (before es (e ∷ []) k _ a) (old.join_fits k id n a)
             | inr a ↦ rw (before_last es e k a.0) (told _ Fit a.1)
           ];
+      depth_range = λ k d h.
+          elim (split es e k _ h) [
+            | inl a ↦ old.depth_range k d a
+            | inr a ↦ told _ DepthRange a.1
+          ];
       not_too_long = all TooLong;
     }
 
@@ -162,7 +180,7 @@ shorter_legal setup es e new =
       join_unissued = λ j k id tag n h l. new.join_unissued j k id tag n (up j _ h) (up k _ l);
       issue_released = λ k id tag h. rw (before es (e ∷ []) k _ h) at (new.issue_released k id tag (up k _ h));
       issued_again = λ j k id t u h l less. rw (before es (e ∷ []) k _ l) at (new.issued_again j k id t u (up j _ h) (up k _ l) less);
-      tag_range = λ k id tag h. new.tag_range k id tag (up k _ h);
+      tag_range = λ k id tag h. was_below setup es e (round_at es k) tag (round_within k es) (rw (before es (e ∷ []) k _ h) at (new.tag_range k id tag (up k _ h)));
       tag_once = λ j k i l tag h m same. new.tag_once j k i l tag (up j _ h) (up k _ m) (ap round_of (before es (e ∷ []) j _ h) ∙ same ∙ ap round_of (sym (before es (e ∷ []) k _ m)));
       done_open = λ k tag h. rw (before es (e ∷ []) k _ h.1) at (new.done_open k tag (keep_end es (e ∷ []) k tag h));
       tick_closed = λ k tag h. rw (before es (e ∷ []) k _ h) at (new.tick_closed k tag (up k _ h));
@@ -170,6 +188,7 @@ shorter_legal setup es e new =
       bios_once = once_fewer (entered es) (bios_of e) (rw (entered_more es e) at new.bios_once);
       release_within = λ k id q h. new.release_within k id q (up k _ h);
       join_fits = λ k id n h. rw (before es (e ∷ []) k _ h) at (new.join_fits k id n (up k _ h));
+      depth_range = λ k d h. new.depth_range k d (up k _ h);
       not_too_long = omega (arith, new.not_too_long, open_more es e);
     }
 
@@ -187,7 +206,8 @@ obeys setup es (Released id q) new BioTwice = rw (entered_more es (Released id q
 obeys setup es (Joined id n) new BioTwice = rw (entered_more es (Joined id n)) at new.bios_once
 obeys setup es (Released id q) new Fit = new.release_within (length es) id q (last es _)
 obeys setup es (Joined id n) new Fit = rw (before_last es (Joined id n) (length es) refl) at (new.join_fits (length es) id n (last es _))
-obeys setup es (Issued id tag) new TagRange = new.tag_range (length es) id tag (last es _)
+obeys setup es (Issued id tag) new TagRange =
+    omega (arith, depth_now_is setup es, was_below setup es (Issued id tag) (round_of es) tag (omega arith) (rw (before_last es (Issued id tag) (length es) refl) at (new.tag_range (length es) id tag (last es _))))
 obeys setup es (Issued id tag) new TagUsed =
     λ u.
     let same : round_at (es ++ Issued id tag ∷ []) u.place ≡ round_at (es ++ Issued id tag ∷ []) (length es) =
@@ -196,4 +216,5 @@ obeys setup es (Issued id tag) new TagUsed =
 obeys setup es e new NotIssued = if_some (ends e) (IsOpen es) (λ tag h. rw (before_last es e (length es) refl) at (new.done_open (length es) tag (e, last es _, h)))
 obeys setup es Ticked new InFlight = λ tag o. new.tick_closed (length es) tag (last es _) (rw (before_last es Ticked (length es) refl) o)
 obeys setup es e new TooLong = new.not_too_long
+obeys setup es (DepthSet depth) new DepthRange = new.depth_range (length es) depth (last es _)
 obeys setup es e new rule = tt

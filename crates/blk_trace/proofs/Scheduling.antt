@@ -5,19 +5,21 @@ use Rattle.std.proofs.lemmas.List.{get_or_append_left, get_or_push, length_push}
 use Rattle.std.proofs.lemmas.Bool.{cases_lt, cases_eq, lt-ltb, le-ltb}
 use Rattle.edd_check.specs.declared.Command.{Command}
 use Rattle.edd_check.specs.Schedule.{StartsReleased, places_at}
-use Rattle.edd_check.proofs.InForce.{depth_fixed}
 use Rattle.blk_trace.specs.declared.rule.TraceRule.TheVariants.{Unknown, AlreadyIssued, NotIssued}
 use Rattle.blk_trace.specs.Happened.{Happened, Ticked, Issued, Returned}
 use Rattle.blk_trace.specs.Setups.{Setup}
+use Rattle.blk_trace.specs.Depths.{depth_in, depth_now}
 use Rattle.blk_trace.specs.Legal.{IsLegalTrace}
 use Rattle.blk_trace.specs.Rules.{IsUnbroken}
-use Rattle.blk_trace.specs.Events.{is_tick, round_of, request_of, IsOpen}
+use Rattle.blk_trace.specs.Events.{is_tick, round_of, round_at, request_of, IsOpen}
 use Rattle.blk_trace.specs.Meaning.{served, issued_ids, release_of, due_of, command_of, commands_of, rounds_of}
 use Rattle.blk_trace.specs.Standing.{Entered, waits_at, this_round}
 use Rattle.blk_trace.specs.Laws.{IsScheduled}
 use Rattle.blk_trace.proofs.More.{round_more}
 use Rattle.blk_trace.proofs.Pushing.{shorter_legal, obeys}
 use Rattle.blk_trace.proofs.Ids.{by_legal, all_back}
+use Rattle.blk_trace.proofs.Depths.{depth_past, depth_now_is}
+use Rattle.blk_trace.proofs.Changes.{capacity_depth}
 use Rattle.blk_trace.proofs.Returning.{IsReturned, returned, open_by}
 use Rattle.blk_trace.proofs.Returns.{commands_were, commands_are, map_length}
 use Rattle.blk_trace.proofs.Entering.{release_within}
@@ -144,29 +146,38 @@ number_few : (o : Option ℕ) → number o ≤ 1
 number_few None = omega arith
 number_few (Some x) = omega arith
 
--- a round has no more tags than the depth
-pub few_tags : (setup : Setup) (es : List Happened) → IsLegalTrace setup es → length (tags es) ≤ setup.depth
+-- a round has no more tags than its depth
+pub few_tags : (setup : Setup) (es : List Happened) → IsLegalTrace setup es → length (tags es) ≤ depth_now setup es
 few_tags setup es legal =
     let once : (u : ℕ) → count_by (λ x. u == x) (tags es) ≤ 1 = λ u. omega (arith, tag_count setup es u legal, number_few (taken es u)) in
-    let none : (u : ℕ) → setup.depth ≤ u → count_by (λ x. u == x) (tags es) ≡ 0 = λ u l. elim (cases_option (taken es u)) [
+    let none : (u : ℕ) → depth_now setup es ≤ u → count_by (λ x. u == x) (tags es) ≡ 0 = λ u l. elim (cases_option (taken es u)) [
       | inl n ↦ tag_count setup es u legal ∙ ap number n
       | inr p ↦
           let at : IsTaken es u p.0 = taken_at es u p.0 p.1 in
-          absurd (omega (arith, legal.tag_range at.place p.0 u at.issued))
+          let there : depth_in setup es (round_at es at.place) ≡ depth_now setup es = ap (depth_in setup es) at.now ∙ sym (depth_now_is setup es) in
+          absurd (omega (arith, l, there, legal.tag_range at.place p.0 u at.issued))
     ] in
-    omega (arith, few_below setup.depth (tags es) once, all_below setup.depth (tags es) none)
+    omega (arith, few_below (depth_now setup es) (tags es) once, all_below (depth_now setup es) (tags es) none)
 
 -- how many commands a round has
 record FillsWell (setup : Setup) (es : List Happened) : Type 0 where
   now : places_at (rounds_of es) (round_of es) ≤ length (tags es)
   later : (x : ℕ) → round_of es < x → places_at (rounds_of es) x ≡ 0
-  within : (x : ℕ) → places_at (rounds_of es) x ≤ setup.depth
+  within : (x : ℕ) → places_at (rounds_of es) x ≤ depth_in setup es x
 
-fills_kept : (setup : Setup) (es fs : List Happened) → rounds_of fs ≡ rounds_of es → round_of fs ≡ round_of es → tags fs ≡ tags es → FillsWell setup es → FillsWell setup fs
-fills_kept setup es fs a b c old = record {
+-- also by the depths with one more event
+within_still : (setup : Setup) (es : List Happened) (e : Happened) → FillsWell setup es → (x : ℕ) → places_at (rounds_of es) x ≤ depth_in setup (es ++ e ∷ []) x
+within_still setup es e old x =
+    elim (cases_lt (round_of es) x) [
+      | inl b ↦ omega (arith, old.later x b)
+      | inr b ↦ omega (arith, old.within x, depth_past setup es e x b)
+    ]
+
+fills_kept : (setup : Setup) (es : List Happened) (e : Happened) → rounds_of (es ++ e ∷ []) ≡ rounds_of es → round_of (es ++ e ∷ []) ≡ round_of es → tags (es ++ e ∷ []) ≡ tags es → FillsWell setup es → FillsWell setup (es ++ e ∷ [])
+fills_kept setup es e a b c old = record {
   now = rw (a, b, c) old.now;
   later = λ x l. rw a (old.later x (omega arith));
-  within = λ x. rw a (old.within x);
+  within = λ x. rw a (within_still setup es e old x);
 }
 
 round_kept : (es : List Happened) (e : Happened) → is_tick e ≡ false → round_of (es ++ e ∷ []) ≡ round_of es
@@ -190,10 +201,10 @@ fills_issued setup es i t new old =
           let other : one_if (round_of es == x) ≡ 0 = ap one_if (ne_eqb (round_of es) x (λ e. absurd (omega arith))) in
           omega (arith, rounds x, old.later x (omega arith));
       within = λ x. elim (cases_eq (round_of es) x) [
-        | inl e ↦ subst (λ y. places_at (rounds_of fs) y ≤ setup.depth) e (omega (arith, full, few_tags setup fs new))
+        | inl e ↦ subst (λ y. places_at (rounds_of fs) y ≤ depth_in setup fs y) e (omega (arith, full, few_tags setup fs new, depth_now_is setup fs, ap (depth_in setup fs) round))
         | inr e ↦
             let other : one_if (round_of es == x) ≡ 0 = ap one_if (ne_eqb (round_of es) x e) in
-            omega (arith, rounds x, old.within x)
+            omega (arith, rounds x, within_still setup es (Issued i t) old x)
       ];
     }
 
@@ -215,7 +226,7 @@ fills_returned setup es t new old =
     record {
       now = rw (round, same) (omega (arith, old.now, fewer (round_of es)));
       later = λ x l. omega (arith, fewer x, old.later x (omega arith));
-      within = λ x. omega (arith, fewer x, old.within x);
+      within = λ x. omega (arith, fewer x, within_still setup es (Returned t) old x);
     }
 
 fills_step : (setup : Setup) (es : List Happened) (e : Happened) → IsLegalTrace setup (es ++ e ∷ []) → FillsWell setup es → FillsWell setup (es ++ e ∷ [])
@@ -225,11 +236,11 @@ fills_step setup es Ticked new old =
     record {
       now = rw (rounds_kept es Ticked refl refl, up, no_tags) (omega (arith, old.later (round_of es + 1) (omega arith)));
       later = λ x l. rw (rounds_kept es Ticked refl refl) (old.later x (omega arith));
-      within = λ x. rw (rounds_kept es Ticked refl refl) (old.within x);
+      within = λ x. rw (rounds_kept es Ticked refl refl) (within_still setup es Ticked old x);
     }
 fills_step setup es (Issued i t) new old = fills_issued setup es i t new old
 fills_step setup es (Returned t) new old = fills_returned setup es t new old
-fills_step setup es e new old = fills_kept setup es _ (rounds_kept es e refl refl) (round_kept es e refl) (tags_kept es e refl refl) old
+fills_step setup es e new old = fills_kept setup es e (rounds_kept es e refl refl) (round_kept es e refl) (tags_kept es e refl refl) old
 
 fills : (setup : Setup) (es : List Happened) → IsLegalTrace setup es → FillsWell setup es
 unfolding rounds_of served places_at round_of tags this_round
@@ -239,4 +250,4 @@ pub legal-schedule : (setup : Setup) (events : List Happened) → IsLegalTrace s
 legal-schedule setup events legal =
     let s : StartsWell (commands_of setup events) (rounds_of events) = starts setup events legal in
     let f : FillsWell setup events = fills setup events legal in
-    record { one_each = s.one_each; released = s.released; within_depth = λ x. omega (arith, f.within x, depth_fixed setup.depth x) }
+    record { one_each = s.one_each; released = s.released; within_depth = λ x. omega (arith, f.within x, capacity_depth setup events x) }

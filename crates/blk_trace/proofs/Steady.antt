@@ -16,6 +16,7 @@ use Rattle.blk_trace.specs.Standing.{Entered, Seat, waits_at, seat_at, this_roun
 use Rattle.blk_trace.proofs.Words.{OnlyEnds, only_ends, some_of, issued_by_none, done_by_none, done_by, issues_not, ends_not}
 use Rattle.blk_trace.proofs.Pushing.{shorter_legal, obeys}
 use Rattle.blk_trace.proofs.Ids.{by_legal}
+use Rattle.blk_trace.proofs.Capacities.{tag_below}
 use Rattle.blk_trace.proofs.Entering.{IsSame, same_entered, stays_out}
 use Rattle.blk_trace.proofs.Waiting.{IsWaiting, waiting_from}
 use Rattle.blk_trace.proofs.Seats.{taken, ended, cases_option, taken_tick, ended_tick, taken_kept, ended_kept, ended_more, taken_before, taken_new, IsTaken, taken_at, used_taken, not_taken, was_open, closed, still_open, now_open}
@@ -212,7 +213,7 @@ pub seat-below : (setup : Setup) (events : List Happened) → IsLegalTrace setup
 seat-below setup events legal t seat h =
     let was : IsSeat events t seat = seat_parts events t seat h in
     let at : IsTaken events t was.id = taken_at events t was.id was.taken_is in
-    omega (arith, legal.tag_range at.place was.id t at.issued)
+    omega (arith, tag_below setup events at.place was.id t legal at.issued)
 
 -- seats, open tags and used tags
 pub open_seat : (setup : Setup) (events : List Happened) (t : ℕ) → IsLegalTrace setup events → IsOpen events t → (dir : Dir) × (seat_at events t ≡ Some (record { dir = dir; in_flight = true }))

@@ -1,7 +1,6 @@
 -- How a tag stands with one more event.
-use Rattle.std.proofs.Common.{◌≡◌, ◌≢◌, ◌<◌, ◌≤◌, ◌+◌, ◌++◌, ℕ, zero, suc, List, [], ◌∷◌, length, take, refl, sym, ◌∙◌, ap, subst, arith, inl, inr, Some, None, cond, true, false, set}
+use Rattle.std.proofs.Common.{◌≡◌, ◌≢◌, ◌<◌, ◌+◌, ◌++◌, ℕ, zero, suc, List, [], ◌∷◌, length, take, refl, sym, ◌∙◌, ap, subst, arith, inl, inr, Some, None, cond, true, false, set}
 use Rattle.std.specs.Prelude.{slice_get, ◌⊎◌, replicate}
-use Rattle.std.proofs.lemmas.List.Sums.{sum_by-cons}
 use Rattle.std.proofs.lemmas.Option.{slice_get_within}
 use Rattle.blk_trace.specs.declared.tags.TagUse.{TagUse}
 use Rattle.blk_trace.specs.declared.tags.TagUse.TheVariants.{Free, Open, Ended}
@@ -16,7 +15,8 @@ use Rattle.std.proofs.lemmas.Bool.{or_cases, or_left, or_right}
 use Rattle.blk_trace.proofs.Places.{split, keep, last, before, before_last}
 use Rattle.blk_trace.proofs.Words.{OnlyEnds, only_ends, issues_not, ends_not, split_end}
 use Rattle.blk_trace.proofs.Seats.{was_open, closed}
-use Rattle.blk_trace.proofs.More.{round_more}
+use Rattle.blk_trace.proofs.More.{round_more, round_within}
+use Rattle.blk_trace.proofs.Capacities.{tag_below}
 
 -- the event neither ends the round nor issues or ends the tag
 pub record LeavesTag (e : Happened) (tag : ℕ) : Type 0 where
@@ -41,17 +41,6 @@ used_back es e tag h other u =
       | inl p ↦ record { place = u.place; id = u.id; issued = p; now = ap round_of (sym (before es (e ∷ []) u.place _ p)) ∙ u.now ∙ same_round es e h }
       | inr p ↦ absurd (other u.id p.1)
     ]
-
--- a round is no later than the last one
-round_cons_le : (e : Happened) (es : List Happened) → round_of (e ∷ es) ≡ cond (is_tick e) 1 0 + round_of es
-unfolding round_of
-round_cons_le e es = sum_by-cons (λ (x : Happened). cond (is_tick x) 1 0) e es
-
-round_within : (k : ℕ) (es : List Happened) → round_of (take k es) ≤ round_of es
-unfolding round_of
-round_within zero es = omega arith
-round_within (suc k) [] = omega arith
-round_within (suc k) (e ∷ es) = omega (arith, round_within k es, round_cons_le e es, round_cons_le e (take k es))
 
 used_tick : (es : List Happened) (tag : ℕ) → IsUsed (es ++ Ticked ∷ []) tag → ⊥
 used_tick es tag u =
@@ -148,7 +137,7 @@ is_open es tag Ended h o = absurd (h.1 o)
 -- an open tag is kept as open
 pub open_found : (setup : Setup) (es : List Happened) (tags : List TagUse) → IsLegalTrace setup es → length tags ≡ setup.depth → TagsAre es tags → (tag : ℕ) → IsOpen es tag → (id : ℕ) × (slice_get tags tag ≡ Some (Open id))
 open_found setup es tags legal each h tag o =
-    let below : tag < setup.depth = legal.tag_range o.place o.id tag o.issued in
+    let below : tag < setup.depth = tag_below setup es o.place o.id tag legal o.issued in
     let p = at_place tags tag (omega (arith, below, each)) in
     let q = is_open es tag p.0 (h tag p.0 p.1) o in
     (q.0, p.1 ∙ ap Some q.1)

@@ -1,3 +1,4 @@
 -- What invariants and proofs alone need: what a trace keeps, and what waits event by event.
 pub mod Kept
 pub mod Gathered
+pub mod Changing

@@ -2,7 +2,7 @@
 use Rattle.std.specs.Prelude.{ℕ, Bool, true, false, List, [], Option, None, Some, is_some, cond, ◌==◌}
 use Rattle.std.specs.Option.{option_or, option_map_or, option_and_then}
 use Rattle.blk_bio.specs.Bios.{Bio}
-use Rattle.blk_trace.specs.Happened.{Happened, Ticked, Released, Joined, Issued, Finished, Returned}
+use Rattle.blk_trace.specs.Happened.{Happened, Ticked, Released, Joined, Issued, Finished, Returned, DepthSet}
 
 -- the id under which a request enters as a new one, with its bios
 abbrev pub releases : Happened → Option (ℕ × List Bio)
@@ -29,6 +29,11 @@ ends _ = None
 abbrev pub hands_back : Happened → Option ℕ
 hands_back (Returned tag) = Some tag
 hands_back _ = None
+
+-- the depth that it sets, for the rounds after its own
+abbrev pub sets_depth : Happened → Option ℕ
+sets_depth (DepthSet depth) = Some depth
+sets_depth _ = None
 
 -- whether it is a Tick
 abbrev pub is_tick : Happened → Bool

@@ -1,7 +1,6 @@
 -- What holds of every legal trace.
 use Rattle.std.specs.Prelude.{ℕ, ◌≢◌, ◌<◌, ◌≤◌, ◌++◌, List, length, slice_index_or, All, IsPermutation}
 use Rattle.std.specs.List.{flat_map}
-use Rattle.edd_check.specs.Capacity.{fixed}
 use Rattle.edd_check.specs.declared.Command.{Command}
 use Rattle.edd_check.specs.Limits.{most_commands, round_limit}
 use Rattle.edd_check.specs.Schedule.{IsLegal}
@@ -9,11 +8,12 @@ use Rattle.blk_trace.specs.declared.trace.TheConstants.{MAX_EVENTS}
 use Rattle.blk_trace.specs.Happened.{Happened}
 use Rattle.blk_trace.specs.Setups.{Setup}
 use Rattle.blk_trace.specs.Events.{entered, request_of}
+use Rattle.blk_trace.specs.Depths.{capacity_of}
 use Rattle.blk_trace.specs.Meaning.{commands_of, rounds_of, issued_ids, waiting_of}
 
--- its commands, in the rounds of their Issues, are a legal schedule: none before its release, no more in a round than the depth
+-- its commands, in the rounds of their Issues, are a legal schedule: none before its release, no more in a round than its depth
 abbrev pub IsScheduled : Setup → List Happened → Type 0
-IsScheduled setup events = IsLegal (commands_of setup events) (rounds_of events) (fixed setup.depth)
+IsScheduled setup events = IsLegal (commands_of setup events) (rounds_of events) (capacity_of setup events)
 
 -- few commands, each id once, each released in a round of the trace and due below the limit of rounds; and each goes out in a round of the trace
 pub record AreBounded (commands : List Command) (rounds : List ℕ) : Type 0 where

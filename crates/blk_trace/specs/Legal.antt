@@ -4,9 +4,10 @@ use Rattle.blk_bio.specs.Bios.{Bio}
 use Rattle.blk_bio.specs.declared.request.Side.{Side}
 use Rattle.blk_bio.specs.Requests.{IsWithin, Fits}
 use Rattle.blk_trace.specs.declared.trace.TheConstants.{MAX_EVENTS}
-use Rattle.blk_trace.specs.Happened.{Happened, Ticked, Released, Joined, Issued}
+use Rattle.blk_trace.specs.Happened.{Happened, Ticked, Released, Joined, Issued, DepthSet}
 use Rattle.blk_trace.specs.Setups.{Setup}
 use Rattle.blk_trace.specs.Events.{At, EntersRequest, EndsAt, IsHandedBack, round_at, entered, request_of, IsReleased, IsOpen, open_count, AreOnce}
+use Rattle.blk_trace.specs.Depths.{depth_in}
 
 -- a list of events is legal: conditions on its places
 pub record IsLegalTrace (setup : Setup) (events : List Happened) : Type 0 where
@@ -16,9 +17,10 @@ pub record IsLegalTrace (setup : Setup) (events : List Happened) : Type 0 where
   pub join_released : (k id : ℕ) (n : List Bio) → At events k (Joined id n) → IsReleased (take k events) id
   pub join_unissued : (j k id tag : ℕ) (n : List Bio) → At events j (Joined id n) → At events k (Issued id tag) → j < k
   -- each Issue names an id that was released, and that was handed back where it was issued before, and a tag below the depth
+  -- of its round
   pub issue_released : (k id tag : ℕ) → At events k (Issued id tag) → IsReleased (take k events) id
   pub issued_again : (j k id t u : ℕ) → At events j (Issued id t) → At events k (Issued id u) → j < k → IsHandedBack (take k events) j t
-  pub tag_range : (k id tag : ℕ) → At events k (Issued id tag) → tag < setup.depth
+  pub tag_range : (k id tag : ℕ) → At events k (Issued id tag) → tag < depth_in setup events (round_at events k)
   -- no tag has two Issues in one round
   pub tag_once : (j k i l tag : ℕ) → At events j (Issued i tag) → At events k (Issued l tag) → round_at events j ≡ round_at events k → j ≡ k
   -- what ends an Issue names a tag with an open one
@@ -32,5 +34,7 @@ pub record IsLegalTrace (setup : Setup) (events : List Happened) : Type 0 where
   -- each Release is within the limits, and each Join fits the request that it joins
   pub release_within : (k id : ℕ) (q : List Bio) → At events k (Released id q) → IsWithin setup.limits q
   pub join_fits : (k id : ℕ) (n : List Bio) → At events k (Joined id n) → (s : Side) × Fits setup.limits (request_of (take k events) id) n s
+  -- each Depth is at least 1, and no more than the setup's
+  pub depth_range : (k depth : ℕ) → At events k (DepthSet depth) → (0 < depth) × (depth ≤ setup.depth)
   -- the events, with a place for the end of each open Issue, are at most MAX_EVENTS
   pub not_too_long : length events + open_count events ≤ MAX_EVENTS

@@ -3,6 +3,7 @@ pub mod Kinds
 pub mod Seen
 pub mod Setups
 pub mod Events
+pub mod Depths
 pub mod Legal
 pub mod Rules
 pub mod Meaning

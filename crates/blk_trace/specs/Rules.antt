@@ -6,11 +6,12 @@ use Rattle.blk_bio.specs.declared.request.Side.{Side}
 use Rattle.blk_bio.specs.Requests.{IsWithin, Fits}
 use Rattle.blk_trace.specs.declared.trace.TheConstants.{MAX_EVENTS}
 use Rattle.blk_trace.specs.Happened.{Happened}
-use Rattle.blk_trace.specs.Kinds.{releases, joins, issues, ends, is_tick, enters}
+use Rattle.blk_trace.specs.Kinds.{releases, joins, issues, ends, is_tick, sets_depth, enters}
 use Rattle.blk_trace.specs.declared.rule.TraceRule.{TraceRule}
-use Rattle.blk_trace.specs.declared.rule.TraceRule.TheVariants.{ReleasedTwice, Unknown, AlreadyIssued, BioTwice, Fit, TagRange, TagUsed, NotIssued, InFlight, TooLong}
+use Rattle.blk_trace.specs.declared.rule.TraceRule.TheVariants.{ReleasedTwice, Unknown, AlreadyIssued, BioTwice, Fit, TagRange, TagUsed, NotIssued, InFlight, TooLong, DepthRange}
 use Rattle.blk_trace.specs.Setups.{Setup}
 use Rattle.blk_trace.specs.Events.{entered, request_of, IsReleased, IsIssued, AreHandedBack, IsOpen, IsUsed, open_count, AreOnce}
+use Rattle.blk_trace.specs.Depths.{depth_now}
 
 -- the id of a request that has to wait: one that is joined or issued
 abbrev pub asks_for : Happened → Option ℕ
@@ -29,11 +30,12 @@ Obeys setup events e Fit =
     MatchOption (releases e)
     (IfSome (joins e) (λ p. (s : Side) × Fits setup.limits (request_of events p.0) p.1 s))
     (λ p. IsWithin setup.limits p.1)
-Obeys setup events e TagRange = IfSome (issues e) (λ p. p.1 < setup.depth)
+Obeys setup events e TagRange = IfSome (issues e) (λ p. p.1 < depth_now setup events)
 Obeys setup events e TagUsed = IfSome (issues e) (λ p. IsUsed events p.1 → ⊥)
 Obeys setup events e NotIssued = IfSome (ends e) (λ tag. IsOpen events tag)
 Obeys setup events e InFlight = OnTrue (is_tick e) ((tag : ℕ) → IsOpen events tag → ⊥)
 Obeys setup events e TooLong = length (events ++ e ∷ []) + open_count (events ++ e ∷ []) ≤ MAX_EVENTS
+Obeys setup events e DepthRange = IfSome (sets_depth e) (λ depth. (0 < depth) × (depth ≤ setup.depth))
 
 -- the order in which the rules are looked for
 abbrev pub rank : TraceRule → ℕ
@@ -47,6 +49,7 @@ rank TagUsed = 7
 rank NotIssued = 8
 rank InFlight = 9
 rank TooLong = 10
+rank DepthRange = 11
 
 -- the first rule that the event breaks
 pub record IsFirstBroken (setup : Setup) (events : List Happened) (e : Happened) (rule : TraceRule) : Type 0 where

@@ -1,5 +1,5 @@
 -- What the events so far leave for the next one: which requests wait, and which tags of the round are taken.
-use Rattle.std.specs.Prelude.{ℕ, ◌≡◌, ◌<◌, ◌==◌, ◌++◌, ◌&&◌, Bool, true, false, not, cond, List, [], ◌∷◌, Option, Some, None, length, count_by, option_map}
+use Rattle.std.specs.Prelude.{ℕ, ◌≡◌, ◌<◌, ◌≤◌, ◌==◌, ◌++◌, ◌&&◌, Bool, true, false, not, cond, List, [], ◌∷◌, Option, Some, None, length, count_by, option_map}
 use Rattle.std.specs.Bool.{OnTrue}
 use Rattle.std.specs.Option.{MatchOption, option_map_or, option_and_then}
 use Rattle.std.specs.List.{filter_map, list_any}
@@ -9,10 +9,11 @@ use Rattle.blk_bio.specs.declared.bio.Dir.TheVariants.{Read, Write}
 use Rattle.blk_bio.specs.declared.request.Side.{Side}
 use Rattle.blk_bio.specs.Requests.{dir_of, IsWithin, Fits}
 use Rattle.blk_trace.specs.Happened.{Happened}
-use Rattle.blk_trace.specs.Kinds.{releases, joins, issues, ends, is_tick}
+use Rattle.blk_trace.specs.Kinds.{releases, joins, issues, ends, sets_depth, is_tick}
 pub use Rattle.blk_trace.specs.Kinds.{is_done_of}
 use Rattle.blk_trace.specs.Setups.{Setup}
 use Rattle.blk_trace.specs.Events.{request_of, entered, AreOnce, IsReleased}
+use Rattle.blk_trace.specs.Depths.{depth_now}
 use Rattle.blk_trace.specs.Meaning.{release_of, due_of, released_ids, issued_ids, waiting_ids}
 
 -- a request that waits, as it was joined
@@ -110,14 +111,18 @@ abbrev pub MayJoin : Setup → List Happened → ℕ → List Bio → Type 0
 MayJoin setup events id bios =
     (w : Entered) × (side : Side) × (unissued_at setup events id ≡ Some w) × Fits setup.limits w.bios bios side × AreOnce (entered events ++ bios)
 
--- a request that waits may be issued under a tag below the depth that is free in the round
+-- a request that waits may be issued under a tag below the depth of the round that is free in it
 abbrev pub MayIssue : Setup → List Happened → ℕ → ℕ → Type 0
 MayIssue setup events id tag =
-    (w : Entered) × (waits_at setup events id ≡ Some w) × (tag < setup.depth) × (seat_at events tag ≡ None)
+    (w : Entered) × (waits_at setup events id ≡ Some w) × (tag < depth_now setup events) × (seat_at events tag ≡ None)
 
 -- an Issue may end whose command is in flight
 abbrev pub MayEnd : List Happened → ℕ → Type 0
 MayEnd events tag = (dir : Dir) × (seat_at events tag ≡ Some (record { dir = dir; in_flight = true }))
+
+-- a Depth may be set that is at least 1 and no more than the setup's
+abbrev pub MaySet : Setup → ℕ → Type 0
+MaySet setup depth = (0 < depth) × (depth ≤ setup.depth)
 
 -- what may happen next, apart from the number of events
 abbrev pub IsAllowed : Setup → List Happened → Happened → Type 0
@@ -126,7 +131,9 @@ IsAllowed setup events e =
     (MatchOption (joins e)
     (MatchOption (issues e)
     (MatchOption (ends e)
+    (MatchOption (sets_depth e)
     (OnTrue (is_tick e) (MayTick events))
+    (λ depth. MaySet setup depth))
     (λ tag. MayEnd events tag))
     (λ p. MayIssue setup events p.0 p.1))
     (λ p. MayJoin setup events p.0 p.1))

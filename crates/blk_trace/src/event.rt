@@ -26,7 +26,7 @@ pub enum Event<A: Allocator = Global> {
     Issue {
         /// The id of the request, which waits: it was not issued, or was handed back.
         id: u64,
-        /// The tag, below the depth, that no request was issued under in this round.
+        /// The tag, below the depth of the round, that no request was issued under in this round.
         tag: u16,
     },
     /// The command under the tag has completed, and the tag is free from the next round on.
@@ -39,5 +39,11 @@ pub enum Event<A: Allocator = Global> {
     Back {
         /// The tag of a command that is in flight.
         tag: u16,
+    },
+    /// From the next round on the device takes as many commands in a round, until another Depth (blk-mq's depth of a
+    /// queue, that is set while it runs). Of several in one round the last stands.
+    Depth {
+        /// How many: at least 1, and no more than the setup's depth.
+        depth: u64,
     },
 }

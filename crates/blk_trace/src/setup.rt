@@ -4,11 +4,12 @@ ghost use Rattle.std.specs.Prelude.{◌≡◌, ◌<◌};
 ghost use Rattle.blk_trace.specs.Setups.{IsSetup, IsSetupAnswer, expire_of};
 
 use blk_bio::{Dir, Limits, MAX_QUEUES};
+use edd_check::MOST_DEPTH;
 use std::marker::Model;
 use thiserror::Error;
 
-/// The most tags.
-pub const MAX_DEPTH: u64 = 64;
+/// The most tags: as many commands as a round may carry.
+pub const MAX_DEPTH: u64 = MOST_DEPTH;
 
 /// Every expiry lies below this number of rounds.
 pub const EXPIRE_LIMIT: u64 = 1 << 40;
@@ -56,7 +57,7 @@ impl Model for Setup {
 }
 
 impl Setup {
-    /// A setup of 1 to 64 tags and 1 to 16 hardware queues, with expiries below 2^40 rounds. Refused as `Depth` where the
+    /// A setup of 1 to [`MAX_DEPTH`] tags and 1 to 16 hardware queues, with expiries below 2^40 rounds. Refused as `Depth` where the
     /// number of tags is out of its range, then as `Queues` where that of the hardware queues is, and then as `Expire`
     /// where one of the expiries is.
     pub fn new(
@@ -86,7 +87,7 @@ impl Setup {
         })
     }
 
-    /// How many tags there are: 1 to 64.
+    /// How many tags there are: 1 to [`MAX_DEPTH`].
     pub fn depth(&self) -> u64
         ensures value { result ≡ self.now.depth }
         ensures is_setup { IsSetup self.now }

@@ -1,10 +1,11 @@
 //! A list of events that is legal, with a setup.
 
-ghost use Rattle.std.specs.Prelude.{ℕ, ◌≡◌, ◌≢◌, ◌↔◌, ◌++◌, ◌+◌, ◌≤◌, ◌∷◌, [], IsTrue, IfOk, IfErr, OnOk, OnErr, length, map};
+ghost use Rattle.std.specs.Prelude.{ℕ, ◌≡◌, ◌≢◌, ◌↔◌, ◌++◌, ◌+◌, ◌≤◌, ◌<◌, ◌∷◌, [], IsTrue, IfOk, IfErr, OnOk, OnErr, length, map};
 ghost use Rattle.std.specs.Option.{option_copied};
 ghost use Rattle.blk_trace.specs.Legal.{IsLegalTrace};
 ghost use Rattle.blk_trace.specs.Rules.{IsUnbroken};
 ghost use Rattle.blk_trace.specs.Events.{round_of, open_count};
+ghost use Rattle.blk_trace.specs.Depths.{depth_now};
 ghost use Rattle.blk_trace.specs.Standing.{IsAllowed, places_of};
 ghost use Rattle.blk_trace.specs.Traces.{wanted, IsPreparedFor, IsPushAnswer, HasBio};
 ghost use Rattle.blk_trace.specs.Seen.{happened};
@@ -23,6 +24,7 @@ use std::marker::Model;
 
 mod adding;
 mod checking;
+mod depths;
 mod reading;
 mod waiting;
 
@@ -37,7 +39,7 @@ type Hashing = BuildHasherDefault<FoldHasher>;
 pub enum Prepared {
     /// No event but a Done or a Back.
     Nothing,
-    /// An Issue, or a Tick.
+    /// An Issue, a Tick or a Depth.
     AnIssue,
     /// A Release or a Join of as many bios.
     Bios(u64),
@@ -62,6 +64,10 @@ pub struct Trace<A: Allocator = Global> {
     tags: Vec<TagUse, A>,
     /// The round that is on.
     round: u64,
+    /// How many commands it carries.
+    depth: u64,
+    /// How many the next round carries, as things stand.
+    next_depth: u64,
     /// How many Issues are open.
     open: u64,
     /// What the next event was given room for.
@@ -74,13 +80,13 @@ impl<A: Allocator> Model for Trace<A> {
     ghost use Rattle.std.specs.HashSet as hash_set;
     ghost use Rattle.blk_trace.specs.Seen.{happened};
     ghost use Rattle.blk_trace.specs.Traces.{Traced};
-    ghost use Rattle.blk_trace.specs.Inside.Kept.{IsKept, HasRoom, is_bio};
+    ghost use Rattle.blk_trace.specs.Inside.Kept.{IsKept, HasRoom, HasDepths, is_bio};
 
     ghost Value = { Traced };
 
     ghost view = { λ t. record { setup = t.setup; events = map happened t.events.items; prepared = t.prepared } };
 
-    ghost invariant = { λ t. IsKept t.setup (map happened t.events.items) t.commands.items t.rounds.items t.round t.«open» (hash.get nat_eq t.known) (hash_set.contains is_bio t.ids) t.tags.items × HasRoom t.prepared (length t.events.items) t.«open» (length t.commands.items) (length t.rounds.items) (vec_capacity t.events) (vec_capacity t.commands) (vec_capacity t.rounds) (hash.spare t.known) (hash_set.spare t.ids) };
+    ghost invariant = { λ t. IsKept t.setup (map happened t.events.items) t.commands.items t.rounds.items t.round t.«open» (hash.get nat_eq t.known) (hash_set.contains is_bio t.ids) t.tags.items × HasRoom t.prepared (length t.events.items) t.«open» (length t.commands.items) (length t.rounds.items) (vec_capacity t.events) (vec_capacity t.commands) (vec_capacity t.rounds) (hash.spare t.known) (hash_set.spare t.ids) × HasDepths t.setup (map happened t.events.items) t.depth t.next_depth };
 }
 
 impl<A: Allocator + Clone> Trace<A> {
@@ -93,8 +99,9 @@ impl<A: Allocator + Clone> Trace<A> {
         let rounds = Vec::new(alloc.clone()?);
         let known = HashMap::new(alloc.clone()?);
         let ids = HashSet::new(alloc.clone()?);
+        let depth = setup.depth();
         let mut tags = Vec::new(alloc);
-        tags.resize(setup.depth() as usize, TagUse::Free)?;
+        tags.resize(depth as usize, TagUse::Free)?;
         Ok(Trace {
             setup,
             events,
@@ -104,6 +111,8 @@ impl<A: Allocator + Clone> Trace<A> {
             ids,
             tags,
             round: 0,
+            depth,
+            next_depth: depth,
             open: 0,
             prepared: Prepared::Nothing,
         })
@@ -141,15 +150,17 @@ impl<A: Allocator + Clone> Trace<A> {
     {
         match event {
             Event::Done { .. } | Event::Back { .. } => Ok(()),
-            Event::Tick | Event::Issue { .. } => self.make_room(Prepared::AnIssue),
+            Event::Tick | Event::Issue { .. } | Event::Depth { .. } => self.make_room(
+                Prepared::AnIssue,
+            ),
             Event::Release { request, .. } | Event::Join { request, .. } => {
                 self.make_room(Prepared::Bios(request.bios().len() as u64))
             }
         }
     }
 
-    /// Makes room for the next push: of a Release or a Join of a request of as many bios, or of an Issue (or a Tick)
-    /// where none is given. Fails for want of memory alone.
+    /// Makes room for the next push: of a Release or a Join of a request of as many bios, or of an Issue (or a
+    /// Tick or a Depth) where none is given. Fails for want of memory alone.
     #[inline(always)]
     pub fn prepare(&mut self, request: Option<&Request<A>>) -> Result<(), AllocError>
         ensures ok { OnOk result (self.new ≡ record { setup = self.old.setup; events = self.old.events; prepared = wanted (option_copied request.entry) }) }
@@ -180,7 +191,7 @@ impl<A: Allocator + Clone> Trace<A> {
         }
     }
 
-    /// Makes room for an Issue with its end, or for a Tick.
+    /// Makes room for an Issue with its end, or for a Tick or a Depth.
     fn make_room_to_issue(&mut self) -> Result<(), AllocError>
         ensures ok { OnOk result (self.new ≡ record { setup = self.old.setup; events = self.old.events; prepared = Prepared.AnIssue }) }
         ensures err { OnErr result (self.new ≡ self.old) }
@@ -241,6 +252,17 @@ impl<A: Allocator + Clone> Trace<A> {
         ensures few { result ≤ MAX_EVENTS }
     {
         self.round
+    }
+
+    /// How many commands the round that is on carries: as many as the last Depth of a round before it sets, or as there are
+    /// tags where there is none.
+    pub fn depth_now(&self) -> u64
+        ensures value { result ≡ depth_now self.now.setup self.now.events }
+        ensures some { 0 < result }
+        ensures few { result ≤ self.now.setup.depth }
+        ensures legal { IsLegalTrace self.now.setup self.now.events }
+    {
+        self.depth
     }
 
     /// How many Issues have no Done and no Back yet.

@@ -25,6 +25,8 @@ pub enum Step {
     Done(u16),
     /// The request under a tag is handed back.
     Back(u16),
+    /// A depth is set for the rounds after.
+    Depth(u64),
 }
 
 /// A bio of submitter 0, whose serial number is its first sector.
@@ -73,6 +75,7 @@ pub fn event<'a>(rt: &impl Abort, heap: Heap<'a>, step: Step) -> Event<Heap<'a>>
         Step::Issue(id, tag) => Event::Issue { id, tag },
         Step::Done(tag) => Event::Done { tag },
         Step::Back(tag) => Event::Back { tag },
+        Step::Depth(depth) => Event::Depth { depth },
     }
 }
 
@@ -89,6 +92,7 @@ pub fn is_event(event: &Event<Heap<'_>>, step: &Step) -> bool {
         (Event::Issue { id, tag }, Step::Issue(i, t)) => *id == *i && *tag == *t,
         (Event::Done { tag }, Step::Done(t)) => *tag == *t,
         (Event::Back { tag }, Step::Back(t)) => *tag == *t,
+        (Event::Depth { depth }, Step::Depth(n)) => *depth == *n,
         _ => false,
     }
 }
@@ -197,6 +201,27 @@ pub fn has_waiting<'a>(
             trace.waiting().expect(rt, "memory").as_slice() == bios
         }
     }
+}
+
+/// Whether the trace's rounds carry so many commands, from round 0 on.
+pub fn carries<'a>(
+    rt: &impl Abort,
+    heap: Heap<'a>,
+    trace: &Trace<Heap<'a>>,
+    depths: &[u64],
+) -> bool {
+    let armed = heap.is_armed();
+    let capacity = match trace.capacity() {
+        Ok(capacity) => capacity,
+        Err(_) => {
+            assert!(rt; armed && !heap.is_armed());
+            trace.capacity().expect(rt, "memory")
+        }
+    };
+    depths
+        .iter()
+        .enumerate()
+        .all(|(round, depth)| capacity.at(round as u64) == *depth)
 }
 
 /// A command of an id, a release and a due round.

@@ -2,6 +2,8 @@
 #![tactic(auto)]
 
 #[cfg(test)]
+mod depths;
+#[cfg(test)]
 mod given;
 #[cfg(test)]
 mod refusals;

@@ -1,8 +1,8 @@
 //! Traces where allocations are refused.
 
 use crate::given::{
-    Heap, Step, bio, command, empty, event, has_commands, has_events, has_waiting, limits, made,
-    push, setup, standing,
+    Heap, Step, bio, carries, command, empty, event, has_commands, has_events, has_waiting, limits,
+    made, push, setup, standing,
 };
 use blk_bio::{Bio, Dir};
 use blk_trace::{Event, Trace, TraceFault};
@@ -33,7 +33,7 @@ fn read(rt: &impl Abort, first: u64) -> Bio {
 }
 
 /// Requests of two bios enter and go out, each in a round of its own and every other one of them after room was made, and
-/// one more is left waiting.
+/// one more is left waiting, after a depth was set.
 fn come_and_go<'a>(rt: &impl Abort, heap: Heap<'a>) -> Trace<Heap<'a>> {
     let mut trace = empty(rt, heap, setup(rt, 5, 50, limits(rt, 256, 128)));
     for id in 0..REQUESTS {
@@ -51,6 +51,7 @@ fn come_and_go<'a>(rt: &impl Abort, heap: Heap<'a>) -> Trace<Heap<'a>> {
             }
         }
     }
+    push(rt, heap, &mut trace, Step::Depth(1));
     push(rt, heap, &mut trace, Step::Release(4, read(rt, 16)));
     trace
 }
@@ -75,7 +76,7 @@ fn remade<'a>(rt: &impl Abort, heap: Heap<'a>, steps: &[Step]) -> Trace<Heap<'a>
 /// A trace is built event by event and read, and another is made of a list.
 fn all_of_it(rt: &impl Abort, heap: Heap<'_>) {
     let trace = come_and_go(rt, heap);
-    assert_eq!(rt; standing(&trace), (21, 4, 0));
+    assert_eq!(rt; standing(&trace), (22, 4, 0));
     let commands = [
         command(0, 0, 5),
         command(1, 1, 6),
@@ -83,6 +84,7 @@ fn all_of_it(rt: &impl Abort, heap: Heap<'_>) {
         command(3, 3, 8),
     ];
     assert!(rt; has_commands(rt, heap, &trace, &commands, &[0, 1, 2, 3]));
+    assert!(rt; carries(rt, heap, &trace, &[1, 1, 1, 1, 1, 1]));
     let (last, end) = (read(rt, 16), read(rt, 17));
     assert!(rt; has_waiting(rt, heap, &trace, &[last]));
     assert!(rt; trace.has_bio(last.id()) && !trace.has_bio(end.id()));

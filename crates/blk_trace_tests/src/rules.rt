@@ -151,7 +151,7 @@ fn longer_than_the_limits(rt: HostRuntime) {
     breaks(&rt, &mut trace, release, TraceRule::Fit);
 }
 
-/// An Issue needs a place for its Done too.
+/// An Issue needs a place for its Done too, and a Depth one, which is asked for before its range.
 #[test]
 fn too_long(rt: HostRuntime) {
     let heap = Refusing::new(rt.alloc());
@@ -162,15 +162,20 @@ fn too_long(rt: HostRuntime) {
         push(&rt, &heap, &mut trace, Step::Tick);
     }
     assert_eq!(rt; standing(&trace), (999_999, 999_998, 0));
-    let refused = [(Step::Issue(0, 0), TraceRule::TooLong)];
+    let refused = [
+        (Step::Issue(0, 0), TraceRule::TooLong),
+        (Step::Depth(0), TraceRule::DepthRange),
+    ];
     break_all(&rt, &heap, &mut trace, &refused);
-    push(&rt, &heap, &mut trace, Step::Tick);
-    assert_eq!(rt; standing(&trace), (1_000_000, 999_999, 0));
+    push(&rt, &heap, &mut trace, Step::Depth(1));
+    assert_eq!(rt; standing(&trace), (1_000_000, 999_998, 0));
     let next = bio(&rt, Dir::Read, 1, 1);
     let refused = [
         (Step::Tick, TraceRule::TooLong),
         (Step::Release(1, next), TraceRule::TooLong),
         (Step::Join(0, next), TraceRule::TooLong),
+        (Step::Depth(1), TraceRule::TooLong),
+        (Step::Depth(0), TraceRule::TooLong),
     ];
     break_all(&rt, &heap, &mut trace, &refused);
 }

@@ -16,7 +16,7 @@ fn constructors_refuse(rt: HostRuntime) {
     let last = (1u64 << 40) - 1;
     for (depth, hw, read_expire, write_expire, fault) in [
         (0, 1, 0, 9, SetupFault::Depth),
-        (65, 0, 0, 9, SetupFault::Depth),
+        (257, 0, 0, 9, SetupFault::Depth),
         (1, 0, last + 1, 9, SetupFault::Queues),
         (1, 17, 0, 9, SetupFault::Queues),
         (1, 1, last + 1, 9, SetupFault::Expire),
@@ -25,8 +25,8 @@ fn constructors_refuse(rt: HostRuntime) {
         let answer = Setup::new(depth, hw, read_expire, write_expire, limits);
         assert_eq!(rt; answer, Err(fault));
     }
-    let setup = Setup::new(64, 16, 7, last, limits).expect(&rt, "a setup");
-    assert_eq!(rt; (setup.depth(), setup.hw()), (64, 16));
+    let setup = Setup::new(256, 16, 7, last, limits).expect(&rt, "a setup");
+    assert_eq!(rt; (setup.depth(), setup.hw()), (256, 16));
     assert_eq!(rt; (setup.read_expire(), setup.write_expire()), (7, last));
     assert_eq!(rt; setup.limits(), limits);
     let heap = Refusing::new(rt.alloc());

@@ -1,20 +1,21 @@
 -- What keeps a core tied to its trace.
-use Rattle.std.specs.Prelude.{ℕ, ◌≡◌, ◌≤◌, ◌<◌, ◌+◌, true, false, List, length, sum_by, slice_index_or, Option, None, Some, cond}
+use Rattle.std.specs.Prelude.{ℕ, ◌≡◌, ◌≤◌, ◌<◌, true, false, List, length, sum_by, slice_index_or, Option, None, Some, cond}
 use Rattle.std.specs.FinMap as map
 use Rattle.blk_bio.specs.declared.bio.Dir.{Dir}
 use Rattle.blk_bio.specs.declared.bio.Dir.TheVariants.{Read, Write}
 use Rattle.blk_bio.specs.Bios.{Bio}
 use Rattle.blk_bio.specs.Requests.{dir_of}
-use Rattle.blk_bio.specs.declared.limits.TheConstants.{MAX_QUEUES}
 use Rattle.blk_trace.specs.Setups.{Setup, IsSetup}
-use Rattle.blk_trace.specs.Happened.{Happened, Released, Returned}
-use Rattle.blk_trace.specs.Events.{At}
+use Rattle.blk_trace.specs.Happened.{Happened, Released}
+use Rattle.blk_trace.specs.Events.{At, request_of}
 use Rattle.blk_trace.specs.Legal.{IsLegalTrace}
+use Rattle.blk_trace.specs.Meaning.{release_of, due_of}
+use Rattle.blk_trace.specs.Inside.Kept.{IsOpenBy}
 use Rattle.blk_trace.specs.Standing.{Seat, seat_at, released_count, same_dir}
-use Rattle.blk_sched.specs.Meaning.{Meaning}
+use Rattle.blk_sched.specs.Meaning.{Waiting, Meaning}
 use Rattle.blk_core.specs.declared.TagState.{TagState}
 use Rattle.blk_core.specs.declared.TagState.TheVariants.{Free, Flying, Spent}
-use Rattle.blk_core.specs.State.{Flight, HoldsWhatWaits}
+use Rattle.blk_core.specs.State.{Flight, entered_of, HoldsWhatWaits}
 
 -- the command in flight under a tag that stands so
 abbrev pub flight_of : {A : Type 0} → TagState A → Option Flight
@@ -34,25 +35,35 @@ queue_of Free = 0
 queue_of (Flying hw queued) = hw
 queue_of (Spent dir) = 0
 
+-- of a command in flight under a tag that stands so, this; of another tag, nothing
+abbrev pub IfFlying : {A : Type 0} → TagState A → (ℕ → Waiting → Type 0) → Type 0
+IfFlying (Flying hw queued) P = P hw queued
+IfFlying _ P = ⊥
+
 -- 1 for a command of this direction in flight, else 0
 abbrev pub flying : {A : Type 0} → Dir → TagState A → ℕ
 flying dir Free = 0
 flying dir (Flying hw queued) = cond (same_dir dir (dir_of queued.bios)) 1 0
 flying dir (Spent d) = 0
 
+-- a command in flight is known to the trace: its tag's Issue is open, and its request is as it entered
+pub record IsFlown (setup : Setup) (events : List Happened) (tag : ℕ) (w : Waiting) : Type 0 where
+  pub by : IsOpenBy events tag w.id
+  pub known : entered_of w ≡ record { release = release_of events w.id; due = due_of setup events w.id; bios = request_of events w.id }
+
 -- a core's own fields say what its trace says
-pub record IsTied {A : Type 0} (setup : Setup) (events : List Happened) (m : Meaning) (tags : List (TagState A)) (released : ℕ) : Type 0 where
+pub record IsTied {A : Type 0} (setup : Setup) (events : List Happened) (m : Meaning) (tags : List (TagState A)) (held : List (List Waiting)) (released : ℕ) : Type 0 where
   pub legal : IsLegalTrace setup events
   pub ranges : IsSetup setup
-  pub holds : HoldsWhatWaits setup events m
+  pub holds : HoldsWhatWaits setup events m held
   pub next : released ≡ released_count events
   pub few : released ≤ length events
   pub known : (k id : ℕ) (bios : List Bio) → At events k (Released id bios) → id < released
-  pub none_back : (k tag : ℕ) → At events k (Returned tag) → ⊥
   pub fresh : (id : ℕ) → released ≤ id → map.get m.pending id ≡ None
   pub room : length tags ≡ setup.depth
+  pub lists : length held ≡ setup.hw
   pub seats : (tag : ℕ) → tag < length tags → seat_of (slice_index_or tags tag Free) ≡ seat_at events tag
+  pub flown : (tag hw : ℕ) (w : Waiting) → slice_index_or tags tag Free ≡ Flying hw w → IsFlown setup events tag w
   pub reads : sum_by (flying Read) tags ≡ m.open_picks.reads
   pub writes : sum_by (flying Write) tags ≡ m.open_picks.writes
-  pub handed : m.open_picks.handed_reads + m.open_picks.handed_writes ≡ 0
-  pub queues : (tag : ℕ) → queue_of (slice_index_or tags tag Free) < MAX_QUEUES
+  pub queues : (tag : ℕ) → queue_of (slice_index_or tags tag Free) < setup.hw

@@ -15,6 +15,7 @@ use Rattle.blk_trace.specs.declared.trace.Prepared.TheVariants.{Nothing, AnIssue
 use Rattle.blk_trace.specs.Happened.{Happened, Issued}
 use Rattle.blk_trace.specs.Setups.{Setup, IsSetup}
 use Rattle.blk_trace.specs.Events.{At, EndsAt, request_of, round_of, open_count, entered, IsOpen, IsUsed}
+use Rattle.blk_trace.specs.Depths.{depth_in, depth_now}
 use Rattle.blk_trace.specs.Legal.{IsLegalTrace}
 use Rattle.blk_trace.specs.Meaning.{commands_of, rounds_of, released_ids, issued_ids}
 use Rattle.blk_trace.specs.Standing.{Entered, has_id, waits_at, was_issued}
@@ -80,6 +81,11 @@ pub record IsKept (setup : Setup) (events : List Happened) (commands : List Comm
   pub ids_are : (id : BioId) → ids id ≡ has_bio_id (entered events) id
   pub tags_are : (tag : ℕ) (u : TagUse) → slice_get tags tag ≡ Some u → IsTagUse events tag u
   pub each_tag : length tags ≡ setup.depth
+
+-- the depth of the round that is on, and that of the next one as things stand
+pub record HasDepths (setup : Setup) (events : List Happened) (now next : ℕ) : Type 0 where
+  pub now_is : now ≡ depth_now setup events
+  pub next_is : next ≡ depth_in setup events (round_of events + 1)
 
 -- places for events that were made: an Issue needs its own and its Done's
 abbrev pub event_room : Prepared → ℕ

@@ -6,7 +6,7 @@ ghost use Rattle.std.specs.HashSet as hash_set;
 ghost use Rattle.edd_check.specs.declared.Command.{Command as Job};
 ghost use Rattle.blk_trace.specs.declared.known.Known.{Known as Kept};
 ghost use Rattle.blk_bio.specs.declared.bio.BioId.{BioId as Name};
-ghost use Rattle.blk_trace.specs.Happened.{Ticked, Released, Joined, Issued, Finished, Returned};
+ghost use Rattle.blk_trace.specs.Happened.{Ticked, Released, Joined, Issued, Finished, Returned, DepthSet};
 ghost use Rattle.blk_trace.specs.Legal.{IsLegalTrace};
 ghost use Rattle.blk_trace.specs.Rules.{IsUnbroken};
 ghost use Rattle.blk_trace.specs.Traces.{IsPreparedFor};
@@ -41,10 +41,11 @@ impl<A: Allocator + Clone> Trace<A> {
             Event::Issue { id, tag } => self.add_issue(id, tag),
             Event::Done { tag } => self.add_done(tag),
             Event::Back { tag } => self.add_back(tag),
+            Event::Depth { depth } => self.add_depth(depth),
         }
     }
 
-    /// Adds a Tick: every tag is free in the round that begins.
+    /// Adds a Tick: every tag is free in the round that begins, and the last depth that was set is in force.
     fn add_tick(&mut self)
         requires unbroken { IsUnbroken self.old.setup self.old.events Ticked }
         requires prepared { IsPreparedFor self.old.prepared Ticked }
@@ -52,6 +53,7 @@ impl<A: Allocator + Clone> Trace<A> {
         ensures legal { IsLegalTrace self.old.setup (self.old.events ++ Ticked ∷ []) }
     {
         self.round += 1;
+        self.depth = self.next_depth;
         self.tags.fill(TagUse::Free);
         append(&mut self.events, Event::Tick);
         self.prepared = Prepared::Nothing;
@@ -162,6 +164,18 @@ impl<A: Allocator + Clone> Trace<A> {
         self.tags[tag as usize] = TagUse::Ended;
         self.open -= 1;
         append(&mut self.events, Event::Back { tag });
+        self.prepared = Prepared::Nothing;
+    }
+
+    /// Adds a Depth: the rounds after the one that is on carry so many commands.
+    fn add_depth(&mut self, depth: u64)
+        requires unbroken { IsUnbroken self.old.setup self.old.events (DepthSet depth) }
+        requires prepared { IsPreparedFor self.old.prepared (DepthSet depth) }
+        ensures added { self.new ≡ record { setup = self.old.setup; events = self.old.events ++ DepthSet depth ∷ []; prepared = Prepared.Nothing } }
+        ensures legal { IsLegalTrace self.old.setup (self.old.events ++ DepthSet depth ∷ []) }
+    {
+        self.next_depth = depth;
+        append(&mut self.events, Event::Depth { depth });
         self.prepared = Prepared::Nothing;
     }
 }

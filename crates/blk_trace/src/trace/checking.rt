@@ -1,7 +1,7 @@
 //! The first rule that an event would break.
 
 ghost use Rattle.std.specs.Prelude.{ℕ, ◌≡◌, ◌<◌, ◌≤◌, ◌+◌, ◌++◌, ◌↔◌, IsTrue, IfSome, IfNone, length};
-ghost use Rattle.blk_trace.specs.Happened.{Ticked, Released, Joined, Issued, Finished, Returned};
+ghost use Rattle.blk_trace.specs.Happened.{Ticked, Released, Joined, Issued, Finished, Returned, DepthSet};
 ghost use Rattle.blk_trace.specs.Legal.{IsLegalTrace};
 ghost use Rattle.blk_trace.specs.Rules.{IsFirstBroken, IsUnbroken};
 ghost use Rattle.blk_trace.specs.Events.{entered, open_count, IsReleased, AreHandedBack, IsOpen, IsUsed, AreOnce};
@@ -36,6 +36,7 @@ impl<A: Allocator + Clone> Trace<A> {
             Event::Issue { id, tag } => self.broken_issue(*id, *tag),
             Event::Done { tag } => self.broken_done(*tag),
             Event::Back { tag } => self.broken_back(*tag),
+            Event::Depth { depth } => self.broken_depth(*depth),
         }
     }
 
@@ -113,7 +114,7 @@ impl<A: Allocator + Clone> Trace<A> {
         ensures some { IfSome result (IsFirstBroken self.now.setup self.now.events (Issued id tag)) }
         ensures none { IfNone result (IsUnbroken self.now.setup self.now.events (Issued id tag)) }
     {
-        if tag as u64 >= self.depth() {
+        if tag as u64 >= self.depth_now() {
             Some(TraceRule::TagRange)
         } else if self.is_used(tag) {
             Some(TraceRule::TagUsed)
@@ -149,6 +150,21 @@ impl<A: Allocator + Clone> Trace<A> {
             None
         } else {
             Some(TraceRule::NotIssued)
+        }
+    }
+
+    /// The first rule that a Depth would break.
+    fn broken_depth(&self, depth: u64) -> Option<TraceRule>
+        ensures some { IfSome result (IsFirstBroken self.now.setup self.now.events (DepthSet depth)) }
+        ensures none { IfNone result (IsUnbroken self.now.setup self.now.events (DepthSet depth)) }
+    {
+        let tags = self.depth();
+        if !self.has_places(1) {
+            Some(TraceRule::TooLong)
+        } else if !is_depth(depth, tags) {
+            Some(TraceRule::DepthRange)
+        } else {
+            None
         }
     }
 
@@ -224,6 +240,13 @@ impl<A: Allocator + Clone> Trace<A> {
         let bios = request.bios();
         are_apart(bios) && !any_entered(&self.ids, bios)
     }
+}
+
+/// Whether a round may carry so many commands, where there are so many tags.
+fn is_depth(depth: u64, tags: u64) -> bool
+    ensures { IsTrue result ↔ ((0 < depth) × (depth ≤ tags)) }
+{
+    0 < depth && depth <= tags
 }
 
 /// Whether no two of the bios have one id.

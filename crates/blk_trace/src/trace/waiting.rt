@@ -87,6 +87,7 @@ fn stays<A: Allocator + Clone>(known: &HashMap<u64, Known, Hashing, A>, event: &
         Event::Issue { .. } => false,
         Event::Done { .. } => false,
         Event::Back { .. } => false,
+        Event::Depth { .. } => false,
     }
 }
 
@@ -116,6 +117,7 @@ fn gather<A: Allocator + Clone>(
         Event::Issue { .. } => Ok(()),
         Event::Done { .. } => Ok(()),
         Event::Back { .. } => Ok(()),
+        Event::Depth { .. } => Ok(()),
     }
 }
 

@@ -1,4 +1,4 @@
-use Rattle.std.proofs.Common.{rules, ℕ, ◌≡◌, ◌∙◌, ◌-◌, sym, ap, subst, ◌<◌, ◌≤◌, List, None, length, get_or, true, false}
+use Rattle.std.proofs.Common.{rules, refl, ℕ, ◌≡◌, ◌∙◌, ◌-◌, sym, ap, subst, ◌<◌, ◌≤◌, List, None, length, get_or, true, false}
 use Rattle.std.proofs.lemmas.List.{map-set}
 use Rattle.blk_bio.specs.declared.bio.Dir.{Dir}
 use Rattle.blk_bio.specs.Requests.{dir_of}
@@ -10,7 +10,8 @@ use Rattle.blk_core.specs.Calls.{OfDone}
 use Rattle.blk_trace.specs.Happened.{Finished}
 use Rattle.blk_trace.specs.Standing.{seat_at}
 use Rattle.blk_core.proofs.Pushed.{pushed_at_once}
-use Rattle.blk_core.proofs.Ties.{tied_done_at, done_unbroken, open_flight, read_at, seated, beyond}
+use Rattle.blk_core.proofs.Ties.{open_flight, read_at, seated, beyond}
+use Rattle.blk_core.proofs.Ended.{end_unbroken, tied_done_at}
 use Rattle.blk_core.proofs.Flights.{flight_at}
 use Rattle.blk_core.proofs.Core.done.Goals as goal
 
@@ -27,28 +28,28 @@ two_differ e = cc
 pub returns-then-slot-len-clause-accepted : goal.returns-then-slot-len-clause-accepted
 returns-then-slot-len-clause-accepted g c =
     let past : length c.self.inside.tags.items ≤ c.args.tag = search rules in
-    let none : seat_at c.self.inside.trace.events c.args.tag ≡ None = beyond c.self.inside.trace.setup c.self.inside.trace.events _ _ _ c.args.tag c.self.invariant past in
+    let none : seat_at c.self.inside.trace.events c.args.tag ≡ None = beyond c.self.inside.trace.setup c.self.inside.trace.events _ _ _ _ c.args.tag c.self.invariant past in
     rw (← c.self.view_is) ((λ e. two_differ e), λ h. absurd (let b = h.1 in cc))
 
 pub add-requires-clause-unbroken : goal.add-requires-clause-unbroken
 add-requires-clause-unbroken g c =
     let lt : c.args.tag < length c.self.inside.tags.items = search rules in
-    done_unbroken c.self.inside.trace.setup c.self.inside.trace.events _ c.self.inside.tags.items c.self.inside.released c.args.tag c.in-Flying.hw c.in-Flying.queued c.self.invariant lt
-    (read_at c.self.inside.tags.items c.args.tag c.in-Flying.hw c.index.result.now c.in-Flying.queued lt c.index.ensures c.in-Flying.is)
+    end_unbroken c.self.inside.trace.setup c.self.inside.trace.events (Finished c.args.tag) _ c.self.inside.tags.items c.self.inside.held c.self.inside.released c.args.tag c.in-Flying.hw c.in-Flying.queued c.self.invariant lt
+    (read_at c.self.inside.tags.items c.args.tag c.in-Flying.hw c.index.result.now c.in-Flying.queued lt c.index.ensures c.in-Flying.is) (λ seat. (dir_of c.in-Flying.queued.bios, seat)) refl
 
 pub on_done-requires-clause-is_open : goal.on_done-requires-clause-is_open
 on_done-requires-clause-is_open g c =
     let lt : c.args.tag < length c.self.inside.tags.items = search rules in
     let dir_is : c.dir-dir.result ≡ dir_of c.in-Flying.queued.bios = c.dir-dir.ensures ∙ ap (λ (x : Waiting). dir_of x.bios) c.queued.view_is in
     subst (λ d. 0 < open_of d (g.S.Scheduler.meaning c.self.inside.scheduler).open_picks) (sym dir_is)
-    (open_flight c.self.inside.trace.setup c.self.inside.trace.events _ c.self.inside.tags.items c.self.inside.released c.args.tag c.in-Flying.hw c.in-Flying.queued c.self.invariant lt
+    (open_flight c.self.inside.trace.setup c.self.inside.trace.events _ c.self.inside.tags.items c.self.inside.held c.self.inside.released c.args.tag c.in-Flying.hw c.in-Flying.queued c.self.invariant lt
     (read_at c.self.inside.tags.items c.args.tag c.in-Flying.hw c.index.result.now c.in-Flying.queued lt c.index.ensures c.in-Flying.is))
 
 pub invariant_of-self : goal.invariant_of-self
 invariant_of-self g c =
     let lt : c.args.tag < length c.self.inside.tags.items = search rules in
     let dir_is : c.dir-dir.result ≡ dir_of c.in-Flying.queued.bios = c.dir-dir.ensures ∙ ap (λ (x : Waiting). dir_of x.bios) c.queued.view_is in
-    tied_done_at c.self.inside.trace.setup c.add.new.self.setup c.self.inside.trace.events c.add.new.self.events (g.S.Scheduler.meaning c.self.inside.scheduler) (g.S.Scheduler.meaning c.on_done.new.self) c.self.inside.tags.items c.self.inside.released c.args.tag c.in-Flying.hw c.in-Flying.queued c.dir-dir.result
+    tied_done_at c.self.inside.trace.setup c.add.new.self.setup c.self.inside.trace.events c.add.new.self.events (g.S.Scheduler.meaning c.self.inside.scheduler) (g.S.Scheduler.meaning c.on_done.new.self) c.self.inside.tags.items c.self.inside.held c.self.inside.released c.args.tag c.in-Flying.hw c.in-Flying.queued c.dir-dir.result
     (pushed_at_once c.self.inside.trace c.add.new.self (Finished c.args.tag) _ c.add.ensures.added c.add.ensures.legal) c.self.invariant lt
     (read_at c.self.inside.tags.items c.args.tag c.in-Flying.hw c.index.result.now c.in-Flying.queued lt c.index.ensures c.in-Flying.is) dir_is c.on_done.ensures.done
 
@@ -63,9 +64,10 @@ returns-clause-done g c =
     rw (← c.self.view_is) (
       record { hw = c.in-Flying.hw; request = w },
       flight_at c.self.inside.tags.items c.args.tag c.in-Flying.hw w lt at,
-      seated c.self.inside.trace.setup c.self.inside.trace.events _ c.self.inside.tags.items c.self.inside.released c.args.tag c.in-Flying.hw w c.self.invariant lt at,
+      seated c.self.inside.trace.setup c.self.inside.trace.events _ c.self.inside.tags.items c.self.inside.held c.self.inside.released c.args.tag c.in-Flying.hw w c.self.invariant lt at,
       (p.same, p.added),
       completed_by (g.S.Scheduler.meaning c.self.inside.scheduler) (g.S.Scheduler.meaning c.on_done.new.self) c.dir-dir.result (dir_of w.bios) dir_is c.on_done.ensures.done,
       told_at g.S.Scheduler.told_done c.in-Flying.hw c.dir-dir.result (dir_of w.bios) c.saturating_sub-wait.result (round_of c.self.inside.trace.events - w.release) (g.S.Scheduler.kept c.self.inside.scheduler) (g.S.Scheduler.kept c.on_done.new.self) dir_is wait_is c.on_done.ensures.told,
       map-set flight_of c.self.inside.tags.items c.args.tag (Spent c.dir-dir.result),
+      refl,
     )

@@ -13,5 +13,5 @@ pub returns-clause-all : goal.returns-clause-all
 returns-clause-all c setup events legal = open_listed setup events legal
 
 pub returns-clause-picks : goal.returns-clause-picks
-returns-clause-picks c setup events m legal holds =
+returns-clause-picks c setup events m held legal holds =
     let both = open-both setup events legal in let reads = holds.reads in let writes = holds.writes in omega arith

@@ -1,6 +1,6 @@
 use Rattle.std.proofs.Common.{rules, arith, ◌≡◌, ◌<◌, ◌≤◌, ◌∙◌, ap, subst}
 use Rattle.std.specs.Prelude.{IsTrue, false}
-use Rattle.blk_trace.specs.Setups.{Setup}
+use Rattle.blk_trace.specs.Depths.{depth_now}
 use Rattle.blk_sim.specs.Rounds.{IsGiven}
 use Rattle.blk_sim.specs.declared.refusal.SimWhy.TheVariants as why
 use Rattle.blk_sim.proofs.Chains.{issue_none, issue_given, issue_passed}
@@ -14,14 +14,14 @@ loop-tag-init g c = issue_none _ _
 
 pub returns-in-Ok-false-clause-issued : goal.returns-in-Ok-false-clause-issued
 returns-in-Ok-false-clause-issued g c =
-    let depth : c.depth-depth.result ≡ c.args.core.now.setup.depth = c.depth-depth.ensures.value ∙ ap (λ (s : Setup). s.depth) (c.setup.ensures ∙ c.trace.ensures.setup) in
-    let below : c.loop-tag.tag ≤ c.args.core.now.setup.depth = omega arith in
+    let depth : c.depth_now-depth.result ≡ depth_now c.args.core.now.setup c.args.core.now.events = c.depth_now-depth.ensures.value ∙ ap (λ s. depth_now s c.trace-2.result.now.events) c.trace-2.ensures.setup ∙ ap (depth_now c.args.core.now.setup) c.trace-2.ensures.events in
+    let below : c.loop-tag.tag ≤ depth_now c.args.core.now.setup c.args.core.now.events = omega arith in
     all_given (policy_of g.S.Scheduler.serves g.S.Scheduler.chooses g.S.Scheduler.told_done g.S.Scheduler.told_tick) c.loop-tag.tag c.args.core.now c.loop-tag.core c.issue_tag.new.core c.in-Ok-false.field-0 c.in-Ok-false.field-0-test below c.loop-tag.invariant c.in-Ok-false.ensures.given
 
 pub returns-then-not-is_used-clause-refused : goal.returns-then-not-is_used-clause-refused
 returns-then-not-is_used-clause-refused g c =
-    let depth : c.depth-depth.result ≡ c.args.core.now.setup.depth = c.depth-depth.ensures.value ∙ ap (λ (s : Setup). s.depth) (c.setup.ensures ∙ c.trace.ensures.setup) in
-    let below : c.loop-tag.tag < c.args.core.now.setup.depth = omega arith in
+    let depth : c.depth_now-depth.result ≡ depth_now c.args.core.now.setup c.args.core.now.events = c.depth_now-depth.ensures.value ∙ ap (λ s. depth_now s c.trace-2.result.now.events) c.trace-2.ensures.setup ∙ ap (depth_now c.args.core.now.setup) c.trace-2.ensures.events in
+    let below : c.loop-tag.tag < depth_now c.args.core.now.setup c.args.core.now.events = omega arith in
     record {
       tag = c.loop-tag.tag;
       below = below;

@@ -7,12 +7,12 @@ use Rattle.blk_text.proofs.script.read_script.Goals as goal
 pub returns-in-Ok-read_lines-clause-in_range : goal.returns-in-Ok-read_lines-clause-in_range
 returns-in-Ok-read_lines-clause-in_range g c =
     let fit = c.in-Ok-read_lines.ensures.fit in
-    script_in c.in-Ok.title.1 c.in-Ok-read_line.setup c.in-Ok-read_lines.lines.items c.in-Ok.ensures.fits.0.1 c.in-Ok.ensures.fits.1 c.in-Ok-read_line.ensures.fits fit.0 fit.1
+    script_in c.in-Ok.title c.in-Ok-read_line.setup c.in-Ok-read_lines.lines.items c.in-Ok.ensures.fits.0.1 c.in-Ok.ensures.fits.1 c.in-Ok-read_line.ensures.fits fit.0 fit.1
 
 pub returns-in-Ok-read_lines-clause-ok : goal.returns-in-Ok-read_lines-clause-ok
 returns-in-Ok-read_lines-clause-ok g c =
     script_read c.args.records.now.left c.read_line.new.records.left c.read_line-2.new.records.left c.in-Ok.title c.in-Ok-read_line.setup c.in-Ok-read_lines.lines.items
-    c.in-Ok.ensures.ok c.in-Ok-read_line.ensures.ok c.in-Ok-read_lines.ensures.ok c.in-Ok.ensures.fits.0.0 c.in-Ok-read_line.ensures.fits
+    c.in-Ok.ensures.ok c.in-Ok-read_line.ensures.ok c.in-Ok-read_lines.ensures.ok c.in-Ok-read_line.ensures.fits
 
 pub returns-in-Err-clause-err : goal.returns-in-Err-clause-err
 returns-in-Err-clause-err g c = halts_err _ script_form _ _ _ (title_halts _ _ _ _ _ c.requires c.in-Err.ensures.err)

@@ -25,3 +25,9 @@ returns-in-Tick c = ap (λ (k : Word). slot.Given ∷ slots_by (step_cells c.arg
 
 pub returns-in-Run : goal.returns-in-Run
 returns-in-Run c = ap (λ (k : Word). slot.Given ∷ slots_by (step_cells c.args.form.now.hw c.args.form.now.submitters k)) (sym c.in-Run.is)
+
+pub returns-in-Depth : goal.returns-in-Depth
+returns-in-Depth c = ap (λ (k : Word). slot.Given ∷ slots_by (step_cells c.args.form.now.hw c.args.form.now.submitters k)) (sym c.in-Depth.is)
+
+pub returns-in-Back : goal.returns-in-Back
+returns-in-Back c = ap (λ (k : Word). slot.Given ∷ slots_by (step_cells c.args.form.now.hw c.args.form.now.submitters k)) (sym c.in-Back.is)

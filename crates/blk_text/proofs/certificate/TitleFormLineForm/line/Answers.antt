@@ -5,7 +5,7 @@ use Rattle.blk_text.proofs.TableLaws.{title_line}
 use Rattle.blk_text.proofs.certificate.TitleFormLineForm.line.Goals as goal
 
 pub returns-in-Ok-clause-ok : goal.returns-in-Ok-clause-ok
-returns-in-Ok-clause-ok c = title_line (codes "blk-certificate") 1 counted_cells IsCounted c.in-Some.version _ (fields_of c.args.row.now) c.in-Ok.numbers c.in-Some.ensures.0 c.in-Some.ensures.1 c.in-Ok.ensures.ok (refl, (refl, tt)) (λ f. (f.0.0, f.0.1, f.1.0.1))
+returns-in-Ok-clause-ok c = title_line (codes "blk-certificate") 1 counted_cells (λ _. IsCounted) c.in-Some.version _ (fields_of c.args.row.now) c.in-Ok.numbers c.in-Some.ensures.0 c.in-Some.ensures.1 c.in-Ok.ensures.ok (refl, (refl, tt)) (λ f. (f.0.0, f.0.1, f.1.0.1))
 
 pub returns-in_default-clause-err : goal.returns-in_default-clause-err
 returns-in_default-clause-err c = λ rest. (refl, inl (refl, c.in_default.ensures))

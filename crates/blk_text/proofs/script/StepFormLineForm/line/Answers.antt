@@ -5,4 +5,4 @@ use Rattle.blk_text.proofs.script.StepFormLineForm.line.Goals as goal
 
 pub returns-in_default-clause-err : goal.returns-in_default-clause-err
 returns-in_default-clause-err c =
-    no_kind c.args.self.now.hw c.args.self.now.submitters (fields_of c.args.row.now) c.without_word.result (λ k e. c.in_default.ensures k (c.field.ensures ∙ e)) c.without_word.ensures
+    no_kind c.args.self.now.version c.args.self.now.hw c.args.self.now.submitters (fields_of c.args.row.now) c.without_word.result (λ k s e. c.in_default.ensures k s (c.field.ensures ∙ e)) c.without_word.ensures

@@ -1,4 +1,4 @@
-use Rattle.std.proofs.Common.{◌≡◌, ◌<◌, ◌+◌, ◌++◌, ◌==◌, ◌∙◌, ℕ, List, [], ◌∷◌, Some, cond, map, length, length-append, ap, sym, arith, subst}
+use Rattle.std.proofs.Common.{◌≡◌, ◌<◌, ◌+◌, ◌++◌, ◌==◌, ◌∙◌, ℕ, List, [], ◌∷◌, Some, cond, map, length, length-append, ap, sym, arith, subst, refl}
 use Rattle.std.specs.Prelude.{nat_eq, slice_get}
 use Rattle.std.proofs.lemmas.List.{map-append}
 use Rattle.std.specs.HashMap as hash
@@ -16,6 +16,7 @@ use Rattle.blk_trace.specs.Seen.{happened}
 use Rattle.blk_trace.specs.Inside.Kept.{IsOpenBy}
 use Rattle.blk_trace.proofs.Opening.{open_positive}
 use Rattle.blk_trace.proofs.Returns.{IsDropped, dropped}
+use Rattle.blk_trace.proofs.Capacities.{tag_below, depths_kept}
 use Rattle.blk_trace.proofs.Keeping.{kept_there, kept_within, kept_out, kept_back, room_after_back}
 use Rattle.blk_trace.proofs.trace.Trace.add_back.Goals as goal
 
@@ -53,6 +54,15 @@ handed-requires g c =
     let at : slice_get s.commands.items c.place_of-place.result ≡ Some p.0 = ap (λ l. slice_get l c.place_of-place.result) (sym c.as_slice.ensures.value) ∙ p.1 in
     let out = kept_out s.setup es c.args.tag c.open_id-id.result c.place_of-place.result p.0 c.remove-command.result s.commands.items s.rounds.items _ _ (hash.get nat_eq s.known) _ _ c.self.invariant.0 by at p.2 c.remove-command.ensures.value in
     out.1
+
+pub index_mut-requires : goal.index_mut-requires
+index_mut-requires g c =
+    let s = c.self.inside in
+    let es : List Happened = map happened c.self.inside.events.items in
+    let k = c.self.invariant.0 in
+    let all : IsUnbroken s.setup es (Returned c.args.tag) = subst (λ (v : Traced). IsUnbroken v.setup v.events (Returned c.args.tag)) (sym c.self.view_is) c.requires.unbroken in
+    let o : IsOpen es c.args.tag = all rule.NotIssued in
+    omega (arith, tag_below s.setup es o.place o.id c.args.tag k.legal o.issued, k.each_tag, s.tags.ok.0)
 
 pub overflow_sub-self : goal.overflow_sub-self
 overflow_sub-self g c =
@@ -92,7 +102,7 @@ invariant_of-self g c =
     let hc : length c.remove-command.new.self.items + 1 ≡ length s.commands.items = omega (arith, c.remove-command.ensures.len, s.commands.ok.0, c.remove-command.new.self.ok.0) in
     let hr : length c.remove.new.self.items + 1 ≡ length s.rounds.items = omega (arith, c.remove.ensures.len, s.rounds.ok.0, c.remove.new.self.ok.0) in
     let hk = λ (q : ℕ). c.handed.ensures q ∙ ap (λ (y : Command). cond (y.id == q) (Some (Handed y.release y.due)) (hash.get nat_eq s.known q)) out.0 in
-    (kept_back s.setup es _ c.args.tag c.open_id-id.result s.commands.items _ s.rounds.items _ _ _ (hash.get nat_eq s.known) _ _ s.tags.items k all by hz (c.remove-command.ensures.by_index.2 ∙ left.commands_left) (c.remove.ensures.by_index.2 ∙ left.rounds_left) hk, room_after_back s.prepared _ _ _ _ _ _ _ _ _ _ _ _ _ _ _ _ some room n c.append.ensures.room hc hr c.remove-command.ensures.capacity c.remove.ensures.capacity)
+    (kept_back s.setup es _ c.args.tag c.open_id-id.result s.commands.items _ s.rounds.items _ _ _ (hash.get nat_eq s.known) _ _ s.tags.items k all by hz (c.remove-command.ensures.by_index.2 ∙ left.commands_left) (c.remove.ensures.by_index.2 ∙ left.rounds_left) hk, room_after_back s.prepared _ _ _ _ _ _ _ _ _ _ _ _ _ _ _ _ some room n c.append.ensures.room hc hr c.remove-command.ensures.capacity c.remove.ensures.capacity, depths_kept s.setup es _ (Returned c.args.tag) s.depth s.next_depth c.self.invariant.2 refl refl hz)
 
 pub returns-clause-legal : goal.returns-clause-legal
 returns-clause-legal g c = push_legal _ _ _ (subst (λ (v : Traced). IsLegalTrace v.setup v.events) c.self.view_is c.self.invariant.0.legal) c.requires.unbroken tt

@@ -1,4 +1,4 @@
-use Rattle.std.proofs.Common.{◌≡◌, ◌<◌, ◌+◌, ◌++◌, ◌∙◌, ℕ, List, [], ◌∷◌, map, length, length-append, ap, sym, arith, subst}
+use Rattle.std.proofs.Common.{◌≡◌, ◌<◌, ◌+◌, ◌++◌, ◌∙◌, ℕ, List, [], ◌∷◌, map, length, length-append, ap, sym, arith, subst, refl}
 use Rattle.std.specs.Prelude.{nat_eq}
 use Rattle.std.proofs.lemmas.List.{map-append}
 use Rattle.std.specs.HashMap as hash
@@ -6,12 +6,16 @@ use Rattle.edd_check.specs.declared.Command.{Command}
 use Rattle.blk_trace.specs.declared.event.Event.TheVariants.{Issue}
 use Rattle.blk_trace.specs.declared.rule.TraceRule.TheVariants as rule
 use Rattle.blk_trace.specs.Happened.{Happened, Issued}
+use Rattle.blk_trace.specs.Events.{round_of}
+use Rattle.blk_trace.specs.Depths.{depth_now}
 use Rattle.blk_trace.specs.Legal.{IsLegalTrace}
 use Rattle.blk_trace.specs.Rules.{IsUnbroken}
 use Rattle.blk_trace.proofs.Pushing.{push_legal}
 use Rattle.blk_trace.specs.Traces.{Traced, IsPreparedFor}
 use Rattle.blk_trace.specs.Seen.{happened}
 use Rattle.blk_trace.proofs.Knowing.{known_when, known_rounds}
+use Rattle.blk_trace.proofs.Depths.{depth_now_is}
+use Rattle.blk_trace.proofs.Capacities.{depth_few, depths_kept}
 use Rattle.blk_trace.proofs.Keeping.{command_is, kept_issue, room_after_issue}
 use Rattle.blk_trace.proofs.trace.Trace.add_issue.Goals as goal
 
@@ -30,8 +34,8 @@ index_mut-requires g c =
     let k = c.self.invariant.0 in
     let room = c.self.invariant.1 in
     let all : IsUnbroken s.setup es (Issued c.args.id c.args.tag) = subst (λ (v : Traced). IsUnbroken v.setup v.events (Issued c.args.id c.args.tag)) (sym c.self.view_is) c.requires.unbroken in
-    let below : c.args.tag < s.setup.depth = all rule.TagRange in
-    omega (arith, below, k.each_tag, s.tags.ok.0)
+    let below : c.args.tag < depth_now s.setup es = all rule.TagRange in
+    omega (arith, below, depth_now_is s.setup es, depth_few s.setup es (round_of es) k.legal, k.each_tag, s.tags.ok.0)
 
 pub invariant_of-self : goal.invariant_of-self
 invariant_of-self g c =
@@ -52,7 +56,7 @@ invariant_of-self g c =
     let hd : c.append.new.list.items ≡ s.commands.items ++ (let y : Command = record { id = c.args.id; release = p.0.release; due = p.0.due } in y) ∷ [] = c.append.ensures.items ∙ ap (λ (y : Command). s.commands.items ++ y ∷ []) same in
     let hc : length c.append.new.list.items ≡ length s.commands.items + 1 = ap length c.append.ensures.items ∙ length-append s.commands.items _ in
     let hr : length c.append-2.new.list.items ≡ length s.rounds.items + 1 = ap length c.append-2.ensures.items ∙ length-append s.rounds.items _ in
-    (kept_issue _ es _ c.args.id c.args.tag p.0 _ _ _ _ _ _ (hash.get nat_eq s.known) _ _ s.tags.items k all hz p.1 hd c.append-2.ensures.items c.issued-command.ensures.gone, room_after_issue s.prepared c.args.id c.args.tag _ _ _ _ _ _ _ _ _ _ _ _ _ _ _ _ ready room n hc hr c.append-3.ensures.room c.append.ensures.room c.append-2.ensures.room)
+    (kept_issue _ es _ c.args.id c.args.tag p.0 _ _ _ _ _ _ (hash.get nat_eq s.known) _ _ s.tags.items k all hz p.1 hd c.append-2.ensures.items c.issued-command.ensures.gone, room_after_issue s.prepared c.args.id c.args.tag _ _ _ _ _ _ _ _ _ _ _ _ _ _ _ _ ready room n hc hr c.append-3.ensures.room c.append.ensures.room c.append-2.ensures.room, depths_kept s.setup es _ (Issued c.args.id c.args.tag) s.depth s.next_depth c.self.invariant.2 refl refl hz)
 
 pub returns-clause-legal : goal.returns-clause-legal
 returns-clause-legal g c = push_legal _ _ _ (subst (λ (v : Traced). IsLegalTrace v.setup v.events) c.self.view_is c.self.invariant.0.legal) c.requires.unbroken tt

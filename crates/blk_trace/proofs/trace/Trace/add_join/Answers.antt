@@ -1,4 +1,4 @@
-use Rattle.std.proofs.Common.{◌≡◌, ◌+◌, ◌++◌, ◌∙◌, List, [], ◌∷◌, Some, None, map, length, length-append, ap, sym, subst}
+use Rattle.std.proofs.Common.{◌≡◌, ◌+◌, ◌++◌, ◌∙◌, List, [], ◌∷◌, Some, None, map, length, length-append, ap, sym, subst, refl}
 use Rattle.std.specs.Prelude.{nat_eq, ◌||◌}
 use Rattle.blk_bio.specs.Bios.{Bio}
 use Rattle.std.proofs.lemmas.List.{map-append}
@@ -19,6 +19,7 @@ use Rattle.blk_trace.specs.Inside.Kept.{known_of, is_bio, has_bio_id}
 use Rattle.blk_trace.specs.Seen.{happened}
 use Rattle.blk_trace.proofs.Joining.{fits_to}
 use Rattle.blk_trace.proofs.Knowing.{known_waits, waiting_is}
+use Rattle.blk_trace.proofs.Capacities.{depths_kept}
 use Rattle.blk_trace.proofs.Keeping.{some_waiting, kept_join, room_after_entry, join_room, on_ok, on_err}
 use Rattle.blk_trace.proofs.trace.Trace.add_join.Goals as goal
 
@@ -69,7 +70,7 @@ invariant_of-self g c =
     let n : length c.append.new.list.items ≡ length s.events.items + 1 = ap length c.append.ensures.items ∙ length-append s.events.items (Join c.args.id c.args.request ∷ []) in
     let j = c.in-Some.ensures.some p.0 p.2 (some_waiting s.setup es c.args.id p.0 k.some_bios p.1) in
     let hk = on_ok c.insert.result (hash.Updates nat_eq s.known c.insert.new.self c.args.id (Some (Waits c.in-Some.new))) (sym c.is_err.ensures.value ∙ c.if-is_err.false) c.insert.ensures.updates in
-    (kept_join _ es _ c.args.id c.args.request p.0 c.in-Some.new _ _ _ _ (hash.get nat_eq s.known) _ (hash_set.contains is_bio s.ids) _ _ k all hz c.bios.ensures.is_request p.1 j.1 hk.0 (λ b. c.enter.ensures.ids b ∙ ap (λ (l : List Bio). hash_set.contains is_bio s.ids b || has_bio_id l b) c.bios.ensures.bios), room_after_entry s.prepared _ _ _ _ _ _ _ _ _ _ _ _ _ (join_room s.prepared c.args.id c.args.request ready).0 room n c.append.ensures.room)
+    (kept_join _ es _ c.args.id c.args.request p.0 c.in-Some.new _ _ _ _ (hash.get nat_eq s.known) _ (hash_set.contains is_bio s.ids) _ _ k all hz c.bios.ensures.is_request p.1 j.1 hk.0 (λ b. c.enter.ensures.ids b ∙ ap (λ (l : List Bio). hash_set.contains is_bio s.ids b || has_bio_id l b) c.bios.ensures.bios), room_after_entry s.prepared _ _ _ _ _ _ _ _ _ _ _ _ _ (join_room s.prepared c.args.id c.args.request ready).0 room n c.append.ensures.room, depths_kept s.setup es _ (Joined c.args.id c.args.request) s.depth s.next_depth c.self.invariant.2 refl refl hz)
 
 pub returns-clause-legal : goal.returns-clause-legal
 returns-clause-legal g c = push_legal _ _ _ (subst (λ (v : Traced). IsLegalTrace v.setup v.events) c.self.view_is c.self.invariant.0.legal) c.requires.unbroken c.bios.ensures.is_request

@@ -1,4 +1,4 @@
-use Rattle.std.proofs.Common.{◌≡◌, ◌+◌, ◌++◌, ◌∙◌, ℕ, List, [], ◌∷◌, Some, map, length, length-append, ap, sym, arith, subst}
+use Rattle.std.proofs.Common.{◌≡◌, ◌+◌, ◌++◌, ◌∙◌, ℕ, List, [], ◌∷◌, Some, map, length, length-append, ap, sym, arith, subst, refl}
 use Rattle.std.specs.Prelude.{nat_eq, ◌||◌}
 use Rattle.blk_bio.specs.Bios.{Bio}
 use Rattle.std.proofs.lemmas.List.{map-append}
@@ -16,6 +16,7 @@ use Rattle.blk_trace.specs.Traces.{Traced, IsPreparedFor}
 use Rattle.blk_trace.specs.Inside.Kept.{summary, is_bio, has_bio_id}
 use Rattle.blk_trace.specs.Seen.{happened}
 use Rattle.blk_trace.proofs.More.{rounds_within}
+use Rattle.blk_trace.proofs.Capacities.{depths_kept}
 use Rattle.blk_trace.proofs.Keeping.{kept_release, room_after_entry, entry_room, on_ok}
 use Rattle.blk_trace.proofs.trace.Trace.add_release.Goals as goal
 
@@ -35,7 +36,7 @@ invariant_of-self g c =
     let n : length c.append.new.list.items ≡ length s.events.items + 1 = ap length c.append.ensures.items ∙ length-append s.events.items (Release c.args.id c.args.request ∷ []) in
     let hs : c.entered-waiting.result ≡ summary record { release = s.round; due = s.round + expire_of s.setup (dir_of c.args.request); bios = c.args.request } = c.entered-waiting.ensures ∙ ap (λ (e : ℕ). summary record { release = s.round; due = s.round + e; bios = c.args.request }) (c.expire-expire.ensures.value ∙ ap (expire_of s.setup) c.dir.ensures) in
     let hk = on_ok c.insert.result (hash.Updates nat_eq s.known c.insert.new.self c.args.id (Some (Waits c.entered-waiting.result))) (sym c.is_err.ensures.value ∙ c.if-is_err.false) c.insert.ensures.updates in
-    (kept_release _ es _ c.args.id c.args.request c.entered-waiting.result _ _ _ _ (hash.get nat_eq s.known) _ (hash_set.contains is_bio s.ids) _ _ k all hz c.bios.ensures.is_request hs hk.0 (λ b. c.enter.ensures.ids b ∙ ap (λ (l : List Bio). hash_set.contains is_bio s.ids b || has_bio_id l b) c.bios.ensures.bios), room_after_entry s.prepared _ _ _ _ _ _ _ _ _ _ _ _ _ (entry_room s.prepared c.args.id c.args.request ready).0 room n c.append.ensures.room)
+    (kept_release _ es _ c.args.id c.args.request c.entered-waiting.result _ _ _ _ (hash.get nat_eq s.known) _ (hash_set.contains is_bio s.ids) _ _ k all hz c.bios.ensures.is_request hs hk.0 (λ b. c.enter.ensures.ids b ∙ ap (λ (l : List Bio). hash_set.contains is_bio s.ids b || has_bio_id l b) c.bios.ensures.bios), room_after_entry s.prepared _ _ _ _ _ _ _ _ _ _ _ _ _ (entry_room s.prepared c.args.id c.args.request ready).0 room n c.append.ensures.room, depths_kept s.setup es _ (Released c.args.id c.args.request) s.depth s.next_depth c.self.invariant.2 refl refl hz)
 
 pub returns-clause-legal : goal.returns-clause-legal
 returns-clause-legal g c = push_legal _ _ _ (subst (λ (v : Traced). IsLegalTrace v.setup v.events) c.self.view_is c.self.invariant.0.legal) c.requires.unbroken c.bios.ensures.is_request

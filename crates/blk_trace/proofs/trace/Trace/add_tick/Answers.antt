@@ -11,6 +11,7 @@ use Rattle.blk_trace.proofs.Pushing.{push_legal}
 use Rattle.blk_trace.specs.Traces.{Traced, IsPreparedFor}
 use Rattle.blk_trace.specs.Seen.{happened}
 use Rattle.blk_trace.proofs.More.{rounds_within}
+use Rattle.blk_trace.proofs.Capacities.{depths_ticked}
 use Rattle.blk_trace.proofs.Keeping.{kept_tick, room_after_tick}
 use Rattle.blk_trace.proofs.trace.Trace.add_tick.Goals as goal
 
@@ -29,7 +30,7 @@ invariant_of-self g c =
     let hz : map happened c.append.new.list.items ≡ es ++ Ticked ∷ [] = ap (map happened) c.append.ensures.items ∙ map-append happened s.events.items (Tick ∷ []) in
     let n : length c.append.new.list.items ≡ length s.events.items + 1 = ap length c.append.ensures.items ∙ length-append s.events.items (Tick ∷ []) in
     let ht : c.fill.new.self.items ≡ replicate (length s.tags.items) Free = c.fill.ensures.items (λ y h. h) ∙ ap (λ m. replicate m Free) (let e : vec_len s.tags ≡ length s.tags.items = omega (arith, s.tags.ok.0) in e) in
-    (kept_tick _ es _ _ _ _ _ _ _ s.tags.items _ k all hz ht, room_after_tick s.prepared _ _ _ _ _ _ _ _ _ _ _ ready room n c.append.ensures.room)
+    (kept_tick _ es _ _ _ _ _ _ _ s.tags.items _ k all hz ht, room_after_tick s.prepared _ _ _ _ _ _ _ _ _ _ _ ready room n c.append.ensures.room, depths_ticked s.setup es _ s.depth s.next_depth c.self.invariant.2 hz)
 
 pub returns-clause-legal : goal.returns-clause-legal
 returns-clause-legal g c = push_legal _ _ _ (subst (λ (v : Traced). IsLegalTrace v.setup v.events) c.self.view_is c.self.invariant.0.legal) c.requires.unbroken tt

@@ -2,12 +2,13 @@ use Rattle.std.proofs.Common.{refl, arith}
 use Rattle.blk_trace.proofs.Asked.{holds, fails}
 use Rattle.blk_trace.specs.Happened.{Returned}
 use Rattle.blk_trace.proofs.Room.{room_end}
+use Rattle.blk_trace.proofs.Capacities.{tag_below}
 use Rattle.blk_trace.proofs.First.{back_not_issued, back_unbroken}
 use Rattle.blk_trace.proofs.trace.Trace.broken_back.Goals as goal
 
 pub returns-then-tag-depth-clause-some : goal.returns-then-tag-depth-clause-some
 returns-then-tag-depth-clause-some g c =
-    back_not_issued c.args.self.now.setup c.args.self.now.events c.args.tag (λ o. absurd (omega (arith, c.depth.ensures.legal.tag_range o.place o.id c.args.tag o.issued, c.if-tag-depth.true, c.depth.ensures.value)))
+    back_not_issued c.args.self.now.setup c.args.self.now.events c.args.tag (λ o. absurd (omega (arith, tag_below c.args.self.now.setup c.args.self.now.events o.place o.id c.args.tag c.depth.ensures.legal o.issued, c.if-tag-depth.true, c.depth.ensures.value)))
 
 pub returns-then-is_open-clause-none : goal.returns-then-is_open-clause-none
 returns-then-is_open-clause-none g c =

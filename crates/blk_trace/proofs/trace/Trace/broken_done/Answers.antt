@@ -2,12 +2,13 @@ use Rattle.std.proofs.Common.{refl, arith}
 use Rattle.blk_trace.proofs.Asked.{holds, fails}
 use Rattle.blk_trace.specs.Happened.{Finished}
 use Rattle.blk_trace.proofs.Room.{room_end}
+use Rattle.blk_trace.proofs.Capacities.{tag_below}
 use Rattle.blk_trace.proofs.First.{done_not_issued, done_unbroken}
 use Rattle.blk_trace.proofs.trace.Trace.broken_done.Goals as goal
 
 pub returns-then-tag-depth-clause-some : goal.returns-then-tag-depth-clause-some
 returns-then-tag-depth-clause-some g c =
-    done_not_issued c.args.self.now.setup c.args.self.now.events c.args.tag (λ o. absurd (omega (arith, c.depth.ensures.legal.tag_range o.place o.id c.args.tag o.issued, c.if-tag-depth.true, c.depth.ensures.value)))
+    done_not_issued c.args.self.now.setup c.args.self.now.events c.args.tag (λ o. absurd (omega (arith, tag_below c.args.self.now.setup c.args.self.now.events o.place o.id c.args.tag c.depth.ensures.legal o.issued, c.if-tag-depth.true, c.depth.ensures.value)))
 
 pub returns-then-is_open-clause-none : goal.returns-then-is_open-clause-none
 returns-then-is_open-clause-none g c =

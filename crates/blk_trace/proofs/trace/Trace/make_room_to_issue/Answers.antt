@@ -4,6 +4,7 @@ use Rattle.std.specs.HashMap as hash
 use Rattle.std.specs.HashSet as hash_set
 use Rattle.blk_trace.specs.Inside.Kept.{is_bio}
 use Rattle.blk_trace.specs.Seen.{happened}
+use Rattle.blk_trace.proofs.Capacities.{depths_same}
 use Rattle.blk_trace.proofs.Keeping.{kept_same}
 use Rattle.blk_trace.proofs.trace.Trace.make_room_to_issue.Goals as goal
 
@@ -18,4 +19,5 @@ invariant_of-self-2 g c =
         for_request = omega arith;
         for_bios = omega arith;
       },
+      depths_same s.setup _ _ s.depth s.next_depth c.self.invariant.2 (ap (map happened) c.in_ok-reserve.ensures.items),
     )

@@ -1,0 +1,85 @@
+use Rattle.std.proofs.Common.{rules, refl, ℕ, ◌≡◌, ◌∙◌, sym, ap, subst, ◌<◌, ◌≤◌, ◌++◌, ◌∷◌, [], List, None, length, map, set, get_or, slice_set}
+use Rattle.std.proofs.lemmas.List.{map-set}
+use Rattle.blk_bio.specs.declared.bio.Dir.{Dir}
+use Rattle.blk_bio.specs.Requests.{dir_of}
+use Rattle.blk_sched.specs.Meaning.{Waiting, Meaning, HandsBack, open_of}
+use Rattle.blk_hw.specs.Held.{held_in}
+use Rattle.blk_core.specs.declared.TagState.{TagState}
+use Rattle.blk_core.specs.declared.TagState.TheVariants.{Free, Flying, Spent}
+use Rattle.blk_core.specs.Inside.Ties.{flight_of, queue_of, IfFlying, IsTied}
+use Rattle.blk_trace.specs.Happened.{Returned}
+use Rattle.blk_trace.specs.Standing.{seat_at}
+use Rattle.blk_core.proofs.Pushed.{pushed_at_once}
+use Rattle.blk_core.proofs.Ties.{open_flight, read_at, seated, beyond}
+use Rattle.blk_core.proofs.Ended.{end_unbroken, tied_back, few_handed}
+use Rattle.blk_core.proofs.Flights.{any_default, flight_at}
+use Rattle.blk_core.proofs.Core.back.Goals as goal
+
+-- what is said of the code's direction is said of the request's
+back_by : (old new : Meaning) (d dir : Dir) → d ≡ dir → HandsBack d old new → HandsBack dir old new
+back_by old new d dir is h = subst (λ x. HandsBack x old new) is h
+
+pub returns-then-slot-len-clause-fault : goal.returns-then-slot-len-clause-fault
+returns-then-slot-len-clause-fault g c =
+    let past : length c.self.inside.tags.items ≤ c.args.tag = search rules in
+    let none : seat_at c.self.inside.trace.events c.args.tag ≡ None = beyond c.self.inside.trace.setup c.self.inside.trace.events _ _ _ _ c.args.tag c.self.invariant past in
+    rw (← c.self.view_is) (λ h. absurd (let b = h.1 in cc))
+
+pub add-requires-clause-unbroken : goal.add-requires-clause-unbroken
+add-requires-clause-unbroken g c =
+    let lt : c.args.tag < length c.self.inside.tags.items = search rules in
+    end_unbroken c.self.inside.trace.setup c.self.inside.trace.events (Returned c.args.tag) _ c.self.inside.tags.items c.self.inside.held c.self.inside.released c.args.tag c.in-Flying.hw c.in-Flying.queued c.self.invariant lt
+    (read_at c.self.inside.tags.items c.args.tag c.in-Flying.hw c.index.result.now c.in-Flying.queued lt c.index.ensures c.in-Flying.is) (λ seat. (dir_of c.in-Flying.queued.bios, seat)) refl
+
+pub on_back-requires-clause-is_open : goal.on_back-requires-clause-is_open
+on_back-requires-clause-is_open g c =
+    let lt : c.args.tag < length c.self.inside.tags.items = search rules in
+    let dir_is : c.dir-dir.result ≡ dir_of c.in-Flying.queued.bios = c.dir-dir.ensures ∙ ap (λ (x : Waiting). dir_of x.bios) c.queued.view_is in
+    subst (λ d. 0 < open_of d (g.S.Scheduler.meaning c.self.inside.scheduler).open_picks) (sym dir_is)
+    (open_flight c.self.inside.trace.setup c.self.inside.trace.events _ c.self.inside.tags.items c.self.inside.held c.self.inside.released c.args.tag c.in-Flying.hw c.in-Flying.queued c.self.invariant lt
+    (read_at c.self.inside.tags.items c.args.tag c.in-Flying.hw c.index.result.now c.in-Flying.queued lt c.index.ensures c.in-Flying.is))
+
+pub on_back-requires-clause-few : goal.on_back-requires-clause-few
+on_back-requires-clause-few g c =
+    let lt : c.args.tag < length c.self.inside.tags.items = search rules in
+    few_handed c.self.inside.trace.setup c.self.inside.trace.events _ c.self.inside.tags.items c.self.inside.held c.self.inside.released c.args.tag c.in-Flying.hw c.in-Flying.queued c.self.invariant
+    (read_at c.self.inside.tags.items c.args.tag c.in-Flying.hw c.index.result.now c.in-Flying.queued lt c.index.ensures c.in-Flying.is)
+
+-- what is known of the tag that the code writes
+of_flying : {A : Type 0} (P : ℕ → Waiting → Type 0) (fl : List (TagState A)) (tag hw : ℕ) (seen : TagState A) (w : Waiting) → tag < length fl → seen ≡ get_or fl tag seen → get_or fl tag Free ≡ Flying hw w → IfFlying seen P → P hw w
+of_flying {A} P fl tag hw seen w lt e at h = let is : seen ≡ Flying hw w = e ∙ any_default fl tag seen Free lt ∙ at in subst (λ (s : TagState A). IfFlying s P) is h
+
+queue_below : {A : Type 0} (count hw : ℕ) (s : TagState A) (w : Waiting) → s ≡ Flying hw w → queue_of s < count → hw < count
+queue_below {A} count hw s w is h = subst (λ (x : TagState A). queue_of x < count) is h
+
+pub invariant_of-self-2 : goal.invariant_of-self-2
+invariant_of-self-2 g c =
+    let w = c.in-Flying.queued in
+    let lt : c.args.tag < length c.self.inside.tags.items = search rules in
+    let at : get_or c.self.inside.tags.items c.args.tag Free ≡ Flying c.in-Flying.hw w = read_at c.self.inside.tags.items c.args.tag c.in-Flying.hw c.index.result.now w lt c.index.ensures c.in-Flying.is in
+    let dir_is : c.dir-dir.result ≡ dir_of w.bios = c.dir-dir.ensures ∙ ap (λ (x : Waiting). dir_of x.bios) c.queued.view_is in
+    let held = of_flying (λ hw w. (c.hold.new.tag ≡ Spent (dir_of w.bios)) × (c.hold.new.held ≡ slice_set c.self.inside.held hw (held_in c.self.inside.held hw ++ w ∷ []))) c.self.inside.tags.items c.args.tag c.in-Flying.hw c.index_mut.result.now w lt c.index_mut.ensures.value at c.in-Ok.ensures.ok in
+    subst (λ s. IsTied c.add.new.self.setup c.add.new.self.events (g.S.Scheduler.meaning c.on_back.new.self) (set c.self.inside.tags.items c.args.tag s) c.hold.new.held c.self.inside.released) (sym held.0)
+    (tied_back c.self.inside.trace.setup c.add.new.self.setup c.self.inside.trace.events c.add.new.self.events (g.S.Scheduler.meaning c.self.inside.scheduler) (g.S.Scheduler.meaning c.on_back.new.self) c.self.inside.tags.items c.self.inside.held c.hold.new.held c.self.inside.released c.args.tag c.in-Flying.hw w c.dir-dir.result
+    (pushed_at_once c.self.inside.trace c.add.new.self (Returned c.args.tag) _ c.add.ensures.added c.add.ensures.legal) c.self.invariant lt at dir_is c.on_back.ensures.back held.1
+    (queue_below c.self.inside.trace.setup.hw c.in-Flying.hw (get_or c.self.inside.tags.items c.args.tag Free) w at (c.self.invariant.queues c.args.tag)))
+
+pub returns-clause-back : goal.returns-clause-back
+returns-clause-back g c =
+    let w = c.in-Flying.queued in
+    let lt : c.args.tag < length c.self.inside.tags.items = search rules in
+    let at : get_or c.self.inside.tags.items c.args.tag Free ≡ Flying c.in-Flying.hw w = read_at c.self.inside.tags.items c.args.tag c.in-Flying.hw c.index.result.now w lt c.index.ensures c.in-Flying.is in
+    let dir_is : c.dir-dir.result ≡ dir_of w.bios = c.dir-dir.ensures ∙ ap (λ (x : Waiting). dir_of x.bios) c.queued.view_is in
+    let held = of_flying (λ hw w. (c.hold.new.tag ≡ Spent (dir_of w.bios)) × (c.hold.new.held ≡ slice_set c.self.inside.held hw (held_in c.self.inside.held hw ++ w ∷ []))) c.self.inside.tags.items c.args.tag c.in-Flying.hw c.index_mut.result.now w lt c.index_mut.ensures.value at c.in-Ok.ensures.ok in
+    let p = pushed_at_once c.self.inside.trace c.add.new.self (Returned c.args.tag) _ c.add.ensures.added c.add.ensures.legal in
+    rw (← c.self.view_is) (
+      record { hw = c.in-Flying.hw; request = w },
+      flight_at c.self.inside.tags.items c.args.tag c.in-Flying.hw w lt at,
+      seated c.self.inside.trace.setup c.self.inside.trace.events _ c.self.inside.tags.items c.self.inside.held c.self.inside.released c.args.tag c.in-Flying.hw w c.self.invariant lt at,
+      ap (λ (x : Waiting). x.id) c.queued.view_is,
+      (p.same, p.added),
+      back_by (g.S.Scheduler.meaning c.self.inside.scheduler) (g.S.Scheduler.meaning c.on_back.new.self) c.dir-dir.result (dir_of w.bios) dir_is c.on_back.ensures.back,
+      c.on_back.ensures.kept,
+      map-set flight_of c.self.inside.tags.items c.args.tag c.hold.new.tag ∙ ap (λ s. set (map flight_of c.self.inside.tags.items) c.args.tag (flight_of s)) held.0,
+      held.1,
+    )

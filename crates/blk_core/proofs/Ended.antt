@@ -1,0 +1,183 @@
+-- A Done and a Back: the core is tied after either.
+use Rattle.std.proofs.Common.{◌≡◌, ◌∙◌, sym, ap, subst, refl, ℕ, ◌+◌, ◌<◌, arith, true, cond, List, [], ◌∷◌, ◌++◌, length, Some, get_or, sum_by, set, ◌==◌}
+use Rattle.std.proofs.lemmas.List.{length-set}
+use Rattle.std.proofs.lemmas.List.Sums.{sum_by-set}
+use Rattle.std.specs.Option.{option_map}
+use Rattle.std.specs.FinMap as map
+use Rattle.blk_bio.specs.declared.bio.Dir.{Dir}
+use Rattle.blk_bio.specs.declared.bio.Dir.TheVariants.{Read, Write}
+use Rattle.blk_bio.specs.Bios.{Bio}
+use Rattle.blk_bio.specs.Requests.{dir_of}
+use Rattle.blk_trace.specs.Setups.{Setup}
+use Rattle.blk_trace.specs.Happened.{Happened, Released, Finished, Returned}
+use Rattle.blk_trace.specs.Kinds.{ends}
+use Rattle.blk_trace.specs.Rules.{IsUnbroken}
+use Rattle.blk_trace.specs.Standing.{Seat, IsAllowed, places_of, unissued_at, waiting_count, released_count, seat_at, same_dir}
+use Rattle.blk_sched.specs.declared.picks.TheConstants.{MAX_HANDED}
+use Rattle.blk_sched.specs.Meaning.{Waiting, Meaning, Pending, HandsBack, opened, handed_back, handed_of}
+use Rattle.blk_hw.specs.Held.{held_total, held_count}
+use Rattle.blk_core.specs.declared.TagState.{TagState}
+use Rattle.blk_core.specs.declared.TagState.TheVariants.{Free, Flying, Spent}
+use Rattle.blk_core.specs.State.{entered_of, returned_at, is_of}
+use Rattle.blk_core.specs.Inside.Ties.{IsTied, IsFlown, flying}
+use Rattle.blk_core.proofs.Pushed.{IsPushed, same_round, released-finished, released-returned}
+use Rattle.blk_core.proofs.Flights.{opened_reads, opened_writes, opened_handed, handed_reads, handed_writes, handed_more, seats_set, queues_set, flown_set}
+use Rattle.blk_core.proofs.Held.{AreAs, AreOnce, as_same, once_same, with_one, as_with, once_with, count_with, total_with}
+use Rattle.blk_core.proofs.Returned.{flown_not_returned, returned-finished, returned-returned}
+use Rattle.blk_core.proofs.Flown.{flown_kept}
+use Rattle.blk_core.proofs.Ties.{old_known, one_longer, tied_at, seated, pending_is}
+use Rattle.blk_trace.proofs.Words.{OnlyEnds, only_ends}
+use Rattle.blk_trace.proofs.Steady.{seat_ended}
+use Rattle.blk_trace.proofs.Opening.{open_ended, open_positive}
+use Rattle.blk_trace.proofs.TagUses.{by_open}
+use Rattle.blk_trace.proofs.Steps as step
+
+-- an event that ends the Issue of a command in flight breaks no rule
+pub end_unbroken : {A : Type 0} (setup : Setup) (es : List Happened) (e : Happened) (m : Meaning) (fl : List (TagState A)) (held : List (List Waiting)) (rel tag hw : ℕ) (w : Waiting) → IsTied setup es m fl held rel → tag < length fl → get_or fl tag Free ≡ Flying hw w → (seat_at es tag ≡ Some (record { dir = dir_of w.bios; in_flight = true }) → IsAllowed setup es e) → places_of e ≡ 0 → IsUnbroken setup es e
+end_unbroken setup es e m fl held rel tag hw w t lt at allowed none =
+    step.allowed-unbroken setup es e t.legal (allowed (seated setup es m fl held rel tag hw w t lt at)) (let l = t.legal.not_too_long in omega arith)
+
+-- one pick of the direction fewer is open, and the round is the same
+record IsClosed (m m' : Meaning) (dir : Dir) : Type 0 where
+  reads : m.open_picks.reads ≡ m'.open_picks.reads + cond (same_dir Read dir) 1 0
+  writes : m.open_picks.writes ≡ m'.open_picks.writes + cond (same_dir Write dir) 1 0
+  round : m'.round ≡ m.round
+  pending : m'.pending ≡ m.pending
+
+-- what the scheduler and the held lists hold then
+record IsLeft (setup : Setup) (fs : List Happened) (m' : Meaning) (held' : List (List Waiting)) : Type 0 where
+  pending : (q : ℕ) → option_map entered_of (map.get m'.pending q) ≡ unissued_at setup fs q
+  are : AreAs (returned_at setup fs) held'
+  once : AreOnce (returned_at setup fs) held'
+  count : map.len m'.pending + held_total held' ≡ waiting_count fs
+  handed : (d : Dir) → handed_of d m'.open_picks ≡ held_count (is_of d) held'
+  lists : length held' ≡ setup.hw
+
+tied_end : {A : Type 0} (setup setup' : Setup) (es es' : List Happened) (e : Happened) (m m' : Meaning) (fl : List (TagState A)) (held held' : List (List Waiting)) (rel tag hw : ℕ) (w : Waiting) → IsPushed setup es e setup' es' → ends e ≡ Some tag → released_count (es ++ e ∷ []) ≡ released_count es → ((id : ℕ) (bios : List Bio) → e ≡ Released id bios → ⊥) → IsTied setup es m fl held rel → tag < length fl → get_or fl tag Free ≡ Flying hw w → IsClosed m m' (dir_of w.bios) → IsLeft setup (es ++ e ∷ []) m' held' → IsTied setup' es' m' (set fl tag (Spent (dir_of w.bios))) held' rel
+tied_end {A} setup setup' es es' e m m' fl held held' rel tag hw w p end more other t lt at o s =
+    let fs : List Happened = es ++ e ∷ [] in
+    let g : TagState A = Spent (dir_of w.bios) in
+    let seat : Seat = record { dir = dir_of w.bios; in_flight = true } in
+    let here : seat_at es tag ≡ Some seat = seated setup es m fl held rel tag hw w t lt at in
+    let r0 : flying Read (get_or fl tag Free) ≡ cond (same_dir Read (dir_of w.bios)) 1 0 = ap (flying Read) at in
+    let s0 : flying Write (get_or fl tag Free) ≡ cond (same_dir Write (dir_of w.bios)) 1 0 = ap (flying Write) at in
+    let rs : sum_by (flying Read) (set fl tag g) + flying Read (get_or fl tag Free) ≡ sum_by (flying Read) fl + 0 = sum_by-set (flying Read) fl tag g Free lt in
+    let ss : sum_by (flying Write) (set fl tag g) + flying Write (get_or fl tag Free) ≡ sum_by (flying Write) fl + 0 = sum_by-set (flying Write) fl tag g Free lt in
+    let ro = o.reads in
+    let so = o.writes in
+    let rn = open_ended setup es e tag p.legal end (dir_of w.bios) here Read in
+    let sn = open_ended setup es e tag p.legal end (dir_of w.bios) here Write in
+    let tr = t.reads in let tw = t.writes in let hr = t.holds.reads in let hs = t.holds.writes in
+    let l : length (set fl tag g) ≡ length fl = length-set fl tag g in
+    let longer = one_longer es e in
+    let next = t.next in
+    let few = t.few in
+    let some = t.ranges.some_queues in
+    let mp = o.pending in
+    let only : OnlyEnds e = only_ends e tag end in
+    tied_at setup setup' es es' e m' (set fl tag g) held' rel p
+    (record {
+      legal = p.legal;
+      ranges = t.ranges;
+      holds = record {
+        pending = s.pending;
+        returned = s.are;
+        held_once = s.once;
+        count = s.count;
+        reads = omega arith;
+        writes = omega arith;
+        handed = s.handed;
+        round = o.round ∙ t.holds.round ∙ sym (same_round es e only.no_tick);
+      };
+      next = omega arith;
+      few = omega arith;
+      known = old_known es e rel other t.known;
+      fresh = λ q h. ap (λ (x : Pending). map.get x q) mp ∙ t.fresh q h;
+      room = l ∙ t.room;
+      lists = s.lists;
+      seats = λ q h. seats_set (seat_at es) (seat_at fs) fl tag g lt t.seats (seat_ended setup es e tag p.legal end seat here) q (omega arith);
+      flown = flown_set (IsFlown setup es) (IsFlown setup fs) fl tag g lt
+          (λ u v ne was. flown_kept setup es e u v p.legal (λ x. ne (let y : Some tag ≡ Some u = sym end ∙ x in cc)) was)
+          (λ h v x. absurd (cc))
+          t.flown;
+      reads = omega arith;
+      writes = omega arith;
+      queues = queues_set setup.hw fl tag g lt (omega arith) t.queues;
+    })
+
+-- after a completion the core is tied
+tied_done : {A : Type 0} (setup setup' : Setup) (es es' : List Happened) (m m' : Meaning) (fl : List (TagState A)) (held : List (List Waiting)) (rel tag hw : ℕ) (w : Waiting) → IsPushed setup es (Finished tag) setup' es' → IsTied setup es m fl held rel → tag < length fl → get_or fl tag Free ≡ Flying hw w → m ≡ record m' { open_picks = opened (dir_of w.bios) m'.open_picks } → IsTied setup' es' m' (set fl tag (Spent (dir_of w.bios))) held rel
+tied_done setup setup' es es' m m' fl held rel tag hw w p t lt at m_is =
+    let fs : List Happened = es ++ Finished tag ∷ [] in
+    let mp : m'.pending ≡ m.pending = sym (ap (λ (x : Meaning). x.pending) m_is) in
+    let same : (q : ℕ) → returned_at setup fs q ≡ returned_at setup es q = λ q. returned-finished setup es tag q in
+    let count = step.count-finished setup es tag p.legal in
+    tied_end setup setup' es es' (Finished tag) m m' fl held held rel tag hw w p refl (released-finished es tag) (λ i b e. cc) t lt at
+    (record {
+      reads = ap (λ (x : Meaning). x.open_picks.reads) m_is ∙ opened_reads (dir_of w.bios) m'.open_picks;
+      writes = ap (λ (x : Meaning). x.open_picks.writes) m_is ∙ opened_writes (dir_of w.bios) m'.open_picks;
+      round = sym (ap (λ (x : Meaning). x.round) m_is);
+      pending = mp;
+    })
+    (record {
+      pending = λ q. ap (λ (x : Pending). option_map entered_of (map.get x q)) mp ∙ t.holds.pending q ∙ sym (step.unissued-finished setup es tag p.legal q);
+      are = as_same (returned_at setup es) (returned_at setup fs) held same t.holds.returned;
+      once = once_same (returned_at setup es) (returned_at setup fs) held same t.holds.held_once;
+      count = ap (λ x. map.len x + held_total held) mp ∙ t.holds.count ∙ sym count;
+      handed = λ d. sym (opened_handed d (dir_of w.bios) m'.open_picks) ∙ sym (ap (λ (x : Meaning). handed_of d x.open_picks) m_is) ∙ t.holds.handed d;
+      lists = t.lists;
+    })
+
+-- the same of what the code calls its direction
+pub tied_done_at : {A : Type 0} (setup setup' : Setup) (es es' : List Happened) (m m' : Meaning) (fl : List (TagState A)) (held : List (List Waiting)) (rel tag hw : ℕ) (w : Waiting) (dir : Dir) → IsPushed setup es (Finished tag) setup' es' → IsTied setup es m fl held rel → tag < length fl → get_or fl tag Free ≡ Flying hw w → dir ≡ dir_of w.bios → m ≡ record m' { open_picks = opened dir m'.open_picks } → IsTied setup' es' m' (set fl tag (Spent dir)) held rel
+tied_done_at setup setup' es es' m m' fl held rel tag hw w dir p t lt at is m_is =
+    subst (λ d. m ≡ record m' { open_picks = opened d m'.open_picks } → IsTied setup' es' m' (set fl tag (Spent d)) held rel) (sym is) (λ h. tied_done setup setup' es es' m m' fl held rel tag hw w p t lt at h) m_is
+
+-- after a Back the core is tied: the request is held
+pub tied_back : {A : Type 0} (setup setup' : Setup) (es es' : List Happened) (m m' : Meaning) (fl : List (TagState A)) (held held' : List (List Waiting)) (rel tag hw : ℕ) (w : Waiting) (dir : Dir) → IsPushed setup es (Returned tag) setup' es' → IsTied setup es m fl held rel → tag < length fl → get_or fl tag Free ≡ Flying hw w → dir ≡ dir_of w.bios → HandsBack dir m m' → held' ≡ with_one held hw w → hw < setup.hw → IsTied setup' es' m' (set fl tag (Spent (dir_of w.bios))) held' rel
+tied_back setup setup' es es' m m' fl held held' rel tag hw w dir p t lt at dir_is hands held_is small =
+    let fs : List Happened = es ++ Returned tag ∷ [] in
+    let back : HandsBack (dir_of w.bios) m m' = subst (λ d. HandsBack d m m') dir_is hands in
+    let f : IsFlown setup es tag w = t.flown tag hw w at in
+    let in_lists : hw < length held = (let x = t.lists in omega arith) in
+    let mp : m'.pending ≡ m.pending = ap (λ (x : Meaning). x.pending) back in
+    let none = flown_not_returned setup es tag w.id t.legal f.by in
+    let step_is : (q : ℕ) → returned_at setup fs q ≡ cond (w.id == q) (Some (entered_of w)) (returned_at setup es q) =
+    λ q. subst (λ x. returned_at setup fs q ≡ cond (w.id == q) (Some x) (returned_at setup es q)) (sym f.known) (returned-returned setup es tag w.id t.legal f.by q) in
+    let had = t.holds.count in
+    let len : map.len m'.pending ≡ map.len m.pending = ap map.len mp in
+    let more = total_with held hw w in_lists in
+    let count = step.count_returned setup es tag w.id t.legal f.by in
+    subst (λ x. IsTied setup' es' m' (set fl tag (Spent (dir_of w.bios))) x rel) (sym held_is)
+    (tied_end setup setup' es es' (Returned tag) m m' fl held (with_one held hw w) rel tag hw w p refl (released-returned es tag) (λ i b e. cc) t lt at
+    (record {
+      reads = sym (handed_reads (dir_of w.bios) m.open_picks) ∙ sym (ap (λ (x : Meaning). x.open_picks.reads) back) ∙ opened_reads (dir_of w.bios) m'.open_picks;
+      writes = sym (handed_writes (dir_of w.bios) m.open_picks) ∙ sym (ap (λ (x : Meaning). x.open_picks.writes) back) ∙ opened_writes (dir_of w.bios) m'.open_picks;
+      round = ap (λ (x : Meaning). x.round) back;
+      pending = mp;
+    })
+    (record {
+      pending = λ q. ap (λ (x : Pending). option_map entered_of (map.get x q)) mp ∙ t.holds.pending q ∙ sym (step.unissued_returned setup es tag w.id t.legal f.by q);
+      are = as_with (returned_at setup es) (returned_at setup fs) held hw w in_lists none step_is t.holds.returned;
+      once = once_with (returned_at setup es) (returned_at setup fs) held hw w in_lists none step_is t.holds.held_once;
+      count = omega arith;
+      handed = λ d.
+          let picks : handed_of d (opened (dir_of w.bios) m'.open_picks) ≡ handed_of d (handed_back (dir_of w.bios) m.open_picks) = ap (λ (x : Meaning). handed_of d x.open_picks) back in
+          let before = opened_handed d (dir_of w.bios) m'.open_picks in
+          let after = handed_more d (dir_of w.bios) m.open_picks in
+          let counts = count_with (is_of d) held hw w in_lists in
+          let was = t.holds.handed d in
+          omega arith;
+      lists = length-set held hw (get_or held hw [] ++ w ∷ []) ∙ t.lists;
+    }))
+
+-- where a command is in flight, one more may be handed back
+pub few_handed : {A : Type 0} (setup : Setup) (es : List Happened) (m : Meaning) (fl : List (TagState A)) (held : List (List Waiting)) (rel tag hw : ℕ) (w : Waiting) → IsTied setup es m fl held rel → get_or fl tag Free ≡ Flying hw w → m.open_picks.handed_reads + m.open_picks.handed_writes < MAX_HANDED
+few_handed setup es m fl held rel tag hw w t at =
+    let f : IsFlown setup es tag w = t.flown tag hw w at in
+    let some = open_positive setup es tag t.legal (by_open es tag w.id f.by) in
+    let room = t.legal.not_too_long in
+    let waits = pending_is setup es m fl held rel (map.len m.pending) (handed_of Read m.open_picks) (handed_of Write m.open_picks) t refl refl refl in
+    let all = waits.0 in
+    let few = waits.1 in
+    omega arith

@@ -1,0 +1,117 @@
+-- The depths of a legal list, and how those that are kept stand with one more event.
+use Rattle.std.proofs.Common.{◌≡◌, ◌≤◌, ◌<◌, ◌+◌, ◌++◌, ℕ, List, [], ◌∷◌, refl, sym, ◌∙◌, ap, subst, arith, cond, nat_le, inl, inr, false, Some, None}
+use Rattle.std.specs.Prelude.{Option}
+use Rattle.std.proofs.lemmas.Bool.{cond-true, le-leb, cases_lt}
+use Rattle.edd_check.specs.Capacity.{depth_at}
+use Rattle.blk_trace.specs.declared.rule.TraceRule.TheVariants.{DepthRange}
+use Rattle.blk_trace.specs.Happened.{Happened, Ticked, Issued, DepthSet}
+use Rattle.blk_trace.specs.Kinds.{sets_depth, is_tick}
+use Rattle.blk_trace.specs.Setups.{Setup}
+use Rattle.blk_trace.specs.Events.{At, round_of, round_at}
+use Rattle.blk_trace.specs.Meaning.{timed}
+use Rattle.blk_trace.specs.Depths.{changes_of, depth_in, depth_now}
+use Rattle.blk_trace.specs.Legal.{IsLegalTrace}
+use Rattle.blk_trace.specs.Rules.{IsUnbroken}
+use Rattle.blk_trace.specs.Inside.Kept.{HasDepths}
+use Rattle.blk_trace.proofs.Words.{some_of}
+use Rattle.blk_trace.proofs.More.{round_more}
+use Rattle.blk_trace.proofs.Depths.{depth_kept, depth_set, depth_past, depth_now_is}
+use Rattle.blk_trace.proofs.Ids.{by_events, by_legal}
+
+-- without events each round has the setup's depth
+depth_start : (setup : Setup) (x : ℕ) → depth_in setup [] x ≡ setup.depth
+unfolding depth_in depth_at changes_of timed
+depth_start setup x = cond-true (nat_le 0 x) setup.depth 0 (le-leb 0 x (omega arith))
+
+-- the depth of a later round is the one that was set
+set_later : (setup : Setup) (es : List Happened) (e : Happened) (d x : ℕ) → sets_depth e ≡ Some d → round_of es < x → depth_in setup (es ++ e ∷ []) x ≡ d
+set_later setup es e d x h late = depth_set setup es e d x h ∙ cond-true (nat_le (round_of es + 1) x) d (depth_in setup es x) (le-leb (round_of es + 1) x (omega arith))
+
+-- what holds of the setup's depth, and of each that may be set, holds of each round's
+depth_all : (setup : Setup) (P : ℕ → Type 0) → P setup.depth → ((d : ℕ) → 0 < d → d ≤ setup.depth → P d) → (es : List Happened) → IsLegalTrace setup es → (x : ℕ) → P (depth_in setup es x)
+depth_all setup P first each es legal x =
+    by_legal setup (λ l. P (depth_in setup l x)) (subst P (sym (depth_start setup x)) first) (λ l e new old all ih. more l e all ih) es legal
+  where
+    by_set : (l : List Happened) (e : Happened) (o : Option ℕ) → sets_depth e ≡ o → IsUnbroken setup l e → P (depth_in setup l x) → P (depth_in setup (l ++ e ∷ []) x)
+    by_set l e None h all ih = subst P (sym (depth_kept setup l e x h)) ih
+    by_set l e (Some d) h all ih =
+        let range = some_of (sets_depth e) (λ (n : ℕ). (0 < n) × (n ≤ setup.depth)) d h (all DepthRange) in
+        elim (cases_lt (round_of l) x) [
+          | inl b ↦ subst P (sym (set_later setup l e d x h b)) (each d range.0 range.1)
+          | inr b ↦ subst P (sym (depth_past setup l e x b)) ih
+        ]
+
+    more : (l : List Happened) (e : Happened) → IsUnbroken setup l e → P (depth_in setup l x) → P (depth_in setup (l ++ e ∷ []) x)
+    more l e all ih = by_set l e (sets_depth e) refl all ih
+
+-- no round carries more than there are tags, and each carries some
+pub depth_few : (setup : Setup) (es : List Happened) (x : ℕ) → IsLegalTrace setup es → depth_in setup es x ≤ setup.depth
+depth_few setup es x legal = depth_all setup (λ n. n ≤ setup.depth) (omega arith) (λ d some few. few) es legal x
+
+pub depth_some : (setup : Setup) (es : List Happened) (x : ℕ) → 0 < setup.depth → IsLegalTrace setup es → 0 < depth_in setup es x
+depth_some setup es x some legal = depth_all setup (λ n. 0 < n) some (λ d more few. more) es legal x
+
+-- an issued tag is one of the setup's
+pub tag_below : (setup : Setup) (es : List Happened) (k id tag : ℕ) → IsLegalTrace setup es → At es k (Issued id tag) → tag < setup.depth
+tag_below setup es k id tag legal at = omega (arith, legal.tag_range k id tag at, depth_few setup es (round_at es k) legal)
+
+-- all rounds that have not begun have the depth of the next
+depth_later : (setup : Setup) (es : List Happened) (x : ℕ) → round_of es < x → depth_in setup es x ≡ depth_in setup es (round_of es + 1)
+depth_later setup es x late = by_events (λ l. (y : ℕ) → round_of l < y → depth_in setup l y ≡ depth_in setup l (round_of l + 1)) (λ y h. depth_start setup y ∙ sym (depth_start setup (round_of [] + 1))) more es x late
+  where
+    by_set : (l : List Happened) (e : Happened) (y : ℕ) (o : Option ℕ) → sets_depth e ≡ o → ((z : ℕ) → round_of l < z → depth_in setup l z ≡ depth_in setup l (round_of l + 1)) → round_of (l ++ e ∷ []) < y → depth_in setup (l ++ e ∷ []) y ≡ depth_in setup (l ++ e ∷ []) (round_of (l ++ e ∷ []) + 1)
+    by_set l e y None n ih h =
+        depth_kept setup l e y n
+        ∙ ih y (omega (arith, h, round_more l e))
+        ∙ sym (ih (round_of (l ++ e ∷ []) + 1) (omega (arith, round_more l e)))
+        ∙ sym (depth_kept setup l e (round_of (l ++ e ∷ []) + 1) n)
+    by_set l e y (Some d) s ih h =
+        set_later setup l e d y s (omega (arith, h, round_more l e)) ∙ sym (set_later setup l e d (round_of (l ++ e ∷ []) + 1) s (omega (arith, round_more l e)))
+
+    more : (l : List Happened) (e : Happened) → ((z : ℕ) → round_of l < z → depth_in setup l z ≡ depth_in setup l (round_of l + 1)) → (y : ℕ) → round_of (l ++ e ∷ []) < y → depth_in setup (l ++ e ∷ []) y ≡ depth_in setup (l ++ e ∷ []) (round_of (l ++ e ∷ []) + 1)
+    more l e ih y h = by_set l e y (sets_depth e) refl ih h
+
+-- the depths that are kept
+pub depths_empty : (setup : Setup) (n m : ℕ) → n ≡ setup.depth → m ≡ setup.depth → HasDepths setup [] n m
+depths_empty setup n m h i = record {
+  now_is = h ∙ sym (depth_now_is setup [] ∙ depth_start setup (round_of []));
+  next_is = i ∙ sym (depth_start setup (round_of [] + 1));
+}
+
+same_round : (es : List Happened) (e : Happened) → is_tick e ≡ false → round_of (es ++ e ∷ []) ≡ round_of es
+same_round es e h = round_more es e ∙ ap (λ b. round_of es + cond b 1 0) h ∙ (let z : round_of es + 0 ≡ round_of es = omega arith in z)
+
+-- in the same round the depth stays
+now_kept : (setup : Setup) (es : List Happened) (e : Happened) → is_tick e ≡ false → depth_now setup (es ++ e ∷ []) ≡ depth_now setup es
+now_kept setup es e h =
+    depth_now_is setup (es ++ e ∷ [])
+    ∙ ap (depth_in setup (es ++ e ∷ [])) (same_round es e h)
+    ∙ depth_past setup es e (round_of es) (omega arith)
+    ∙ sym (depth_now_is setup es)
+
+pub depths_kept : (setup : Setup) (es zs : List Happened) (e : Happened) (n m : ℕ) → HasDepths setup es n m → is_tick e ≡ false → sets_depth e ≡ None → zs ≡ es ++ e ∷ [] → HasDepths setup zs n m
+depths_kept setup es zs e n m old h s hz = subst (λ l. HasDepths setup l n m) (sym hz) record {
+  now_is = old.now_is ∙ sym (now_kept setup es e h);
+  next_is = old.next_is ∙ sym (ap (λ r. depth_in setup (es ++ e ∷ []) (r + 1)) (same_round es e h) ∙ depth_kept setup es e (round_of es + 1) s);
+}
+
+pub depths_ticked : (setup : Setup) (es zs : List Happened) (n m : ℕ) → HasDepths setup es n m → zs ≡ es ++ Ticked ∷ [] → HasDepths setup zs m m
+depths_ticked setup es zs n m old hz =
+    let fs : List Happened = es ++ Ticked ∷ [] in
+    let up : round_of fs ≡ round_of es + 1 = round_more es Ticked in
+    let same : (x : ℕ) → depth_in setup fs x ≡ depth_in setup es x = λ x. depth_kept setup es Ticked x refl in
+    subst (λ l. HasDepths setup l m m) (sym hz) record {
+      now_is = old.next_is ∙ sym (depth_now_is setup fs ∙ same (round_of fs) ∙ ap (depth_in setup es) up);
+      next_is = old.next_is ∙ sym (same (round_of fs + 1) ∙ depth_later setup es (round_of fs + 1) (omega (arith, up)));
+    }
+
+pub depths_set : (setup : Setup) (es zs : List Happened) (n m d : ℕ) → HasDepths setup es n m → zs ≡ es ++ DepthSet d ∷ [] → HasDepths setup zs n d
+depths_set setup es zs n m d old hz =
+    let fs : List Happened = es ++ DepthSet d ∷ [] in
+    subst (λ l. HasDepths setup l n d) (sym hz) record {
+      now_is = old.now_is ∙ sym (now_kept setup es (DepthSet d) refl);
+      next_is = sym (set_later setup es (DepthSet d) d (round_of fs + 1) refl (omega (arith, round_more es (DepthSet d))));
+    }
+
+pub depths_same : (setup : Setup) (es zs : List Happened) (n m : ℕ) → HasDepths setup es n m → zs ≡ es → HasDepths setup zs n m
+depths_same setup es zs n m old hz = subst (λ l. HasDepths setup l n m) (sym hz) old
