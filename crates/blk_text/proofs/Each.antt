@@ -11,7 +11,7 @@ use Rattle.parts.specs.Parts.{Part, record_of, all_rows, AllFit}
 use Rattle.parts.specs.declared.Repeats.{Repeats}
 use Rattle.parts.specs.Laws.{Tells, TellsRecord, Decides}
 use Rattle.parts.proofs.Then.{record_tells}
-use Rattle.parts.proofs.Many.{HasRows, lines_tells, lines_decides}
+use Rattle.parts.proofs.Many.{HasRows, ended_tells, ended_decides}
 use Rattle.blk_text.proofs.Reading.{lines_halt}
 use Rattle.blk_text.proofs.Lists.{head_of, tail_of, all_cons}
 
@@ -38,10 +38,10 @@ some_rows : {V : Type 0} (p : Part Row Why V) → IsOne p → HasRows {S = List 
 some_rows p o s v fit e = let none : length (p.rows_of v) ≡ 0 = ap length e in omega (arith, none, o.one v)
 
 pub each_tells : {V : Type 0} (p : Part Row Why V) → IsOne p → (x : Repeats) → Tells (items_of x (λ _. p))
-each_tells p o x = lines_tells x (beyond_of x) (λ _. p) with_next (λ s. o.tells) (λ s. o.plain) (some_rows p o) []
+each_tells p o x = ended_tells x (beyond_of x) (λ _. p) (λ _. p) with_next (λ s. o.tells) (λ s. o.plain) (some_rows p o) (λ s. o.tells) []
 
 pub each_decides : {V : Type 0} (p : Part Row Why V) → Decides p → (x : Repeats) → Decides (items_of x (λ _. p))
-each_decides p d x = lines_decides x (beyond_of x) (λ _. p) with_next (λ s. d) []
+each_decides p d x = ended_decides x (beyond_of x) (λ _. p) (λ _. p) with_next (λ s. d) (λ s. d) []
 
 pub each_halts : {V : Type 0} (failed : Bool) (p : Part Row Why V) → IsOne p → (x : Repeats) (left : Option (List Row)) (start at last : ℕ) (w : Why) → IsStopped x (λ _. p) left start 0 at last
     → Fails failed (items_of x (λ _. p)) left start at w → Halts failed (items_of x (λ _. p)) left start at w

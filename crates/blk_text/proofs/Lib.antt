@@ -14,5 +14,8 @@ pub mod DraftLemmas
 pub mod CommandLaws
 pub mod ClaimLaws
 pub mod ScriptLaws
-pub mod TraceLaws
 pub mod TraceLemmas
+pub mod HeadLaws
+pub mod GroupLaws
+pub mod EventLaws
+pub mod TraceLaws

@@ -6,11 +6,11 @@ use Rattle.blk_text.specs.Sources.{Row, Takes}
 use Rattle.blk_text.specs.declared.fault.Why.{Why}
 use Rattle.parts.specs.declared.Repeats.{Repeats}
 use Rattle.parts.specs.declared.Repeats.TheVariants as repeats
-use Rattle.parts.specs.Parts.{then, Part, Begins, all_rows, AllFit, after, GoesOn, Stops, IsCount, most_of}
+use Rattle.parts.specs.Parts.{then, over, Part, Begins, all_rows, AllFit, after, GoesOn, Stops, IsCount, most_of}
 use Rattle.parts.specs.Laws.{Tells, IsPlain}
-use Rattle.parts.proofs.Many.{all_more, fit_more, lines_reached, HasRows}
+use Rattle.parts.proofs.Many.{all_more, fit_more, ended_reached, HasRows}
 use Rattle.parts.proofs.Then.{both_begin, reached_first, reached_second}
-use Rattle.blk_text.specs.Reads.{IsOutside, Reads, HandReads, HandFails, Fails, Halts, Reaches, IsLine, IsStopped, with_next, items_of, size_of, beyond_of}
+use Rattle.blk_text.specs.Reads.{IsOutside, Reads, HandReads, HandFails, Fails, Halts, Reaches, IsLine, IsStopped, with_next, repeated, ended_of, items_of, size_of, beyond_of}
 
 takes_some : (rest : List Row) (after : Option (List Row)) (f : Row) → Takes (Some rest) after f true → (more : List Row) × (rest ≡ f ∷ more) × (after ≡ Some more)
 takes_some [] after f t = cc t
@@ -57,80 +57,6 @@ here : (x : Repeats) (c : ℕ) (row : Row) (rest : List Row) → c < most_of x �
 here (repeats.AtMost n) c row rest l = (l, λ e. (cc e))
 here (repeats.Exactly n) c row rest l = l
 
--- an item is wrong
-pub items_wrong : {V : Type 0} (failed : Bool) (q : List V → Part Row Why V) (x : Repeats) (input left mid : Option (List Row)) (vs : List V) (row : Row) (start now at : ℕ) (w : Why)
-    → MadeOf q input vs left → Takes left mid row true → Fitting q vs → length vs < most_of x → now ≡ start + size_of q vs + 1
-    → HandFails failed (q vs) mid row now at w → Fails failed (items_of x q) input start at w
-items_wrong failed q x None left mid vs row start now at w m t f l e h = tt
-items_wrong failed q x (Some rows) left mid vs row start now at w m t f l e h =
-    let (more, first, then) = takes_some m.0 mid row (rw m.1 at t) in
-    tell more (m.2 ∙ ap (λ z. all_rows q with_next [] vs ++ z) first) (rw then at h)
-  where
-    tell : (more : List Row) → rows ≡ all_rows q with_next [] vs ++ (row ∷ more) → (IsOutside failed w ⊎ ((k : ℕ) × (at + 1 ≡ now + k) × (q vs).Wrong (row ∷ more) k w))
-        → IsOutside failed w ⊎ ((k : ℕ) × (at ≡ start + k) × (items_of x q).Wrong rows k w)
-    tell more made (inl o) = inl o
-    tell more made (inr b) =
-        let is = b.1 in
-        inr (size_of q vs + b.0, omega (arith, is, e), inl (vs, row ∷ more, b.0, f, made, here x (length vs) row more l, refl, rw (after_all [] vs) b.2))
-
--- an item never came
-pub items_few : {V : Type 0} (failed : Bool) (q : List V → Part Row Why V) (n : ℕ) (input left mid : Option (List Row)) (vs : List V) (row : Row) (start at : ℕ) (w : Why)
-    → MadeOf q input vs left → Takes left mid row false → Fitting q vs → length vs < n → at ≡ start + size_of q vs + 1
-    → (q vs).Wrong [] 1 w → Fails failed (items_of (repeats.Exactly n) q) input start at w
-items_few failed q n None left mid vs row start at w m t f l e h = tt
-items_few failed q n (Some rows) left mid vs row start at w m t f l e h =
-    let none = takes_none m.0 mid row (rw m.1 at t) in
-    inr (size_of q vs + 1, omega (arith, e), inl (vs, [], 1, f, (m.2 ∙ rw none refl), l, refl, rw (after_all [] vs) h))
-
--- one item more
-pub items_past : {V : Type 0} (failed : Bool) (q : List V → Part Row Why V) (x : Repeats) (input left mid : Option (List Row)) (vs : List V) (row : Row) (start now at : ℕ) (w : Why)
-    → MadeOf q input vs left → Takes left mid row true → Fitting q vs → IsCount x (length vs) → ((rest : List Row) → Stops {R = Row} x (length vs) rest) → now ≡ start + size_of q vs + 1
-    → HandFails failed (q vs) mid row now at w → Fails failed (items_of x q) input start at w
-items_past failed q x None left mid vs row start now at w m t f l s e h = tt
-items_past failed q x (Some rows) left mid vs row start now at w m t f l s e h =
-    let (more, first, then) = takes_some m.0 mid row (rw m.1 at t) in
-    tell more (m.2 ∙ ap (λ z. all_rows q with_next [] vs ++ z) first) (rw then at h)
-  where
-    tell : (more : List Row) → rows ≡ all_rows q with_next [] vs ++ (row ∷ more) → (IsOutside failed w ⊎ ((k : ℕ) × (at + 1 ≡ now + k) × (q vs).Wrong (row ∷ more) k w))
-        → IsOutside failed w ⊎ ((k : ℕ) × (at ≡ start + k) × (items_of x q).Wrong rows k w)
-    tell more made (inl o) = inl o
-    tell more made (inr b) =
-        let is = b.1 in
-        inr (
-          size_of q vs + b.0,
-          omega (arith, is, e),
-          inr (vs, row ∷ more, b.0, record { fits = (f, l); made = made; follows = s (row ∷ more) }, refl, ((λ z. (cc z)), inl (rw (after_all [] vs) b.2))),
-        )
-
-pub items_beyond : {V : Type 0} (failed : Bool) (q : List V → Part Row Why V) (x : Repeats) (input left mid new : Option (List Row)) (vs : List V) (row : Row) (start now : ℕ) (v : V)
-    → MadeOf q input vs left → Takes left mid row true → Fitting q vs → IsCount x (length vs) → ((rest : List Row) → Stops {R = Row} x (length vs) rest) → now ≡ start + size_of q vs + 1
-    → HandReads (q vs) mid row new v → Fails failed (items_of x q) input start now (beyond_of x)
-items_beyond failed q x None left mid new vs row start now v m t f l s e h = tt
-items_beyond failed q x (Some rows) left mid new vs row start now v m t f l s e h =
-    let (more, first, then) = takes_some m.0 mid row (rw m.1 at t) in
-    let got = rw then at h in
-    inr (
-      size_of q vs + 1,
-      omega (arith, e),
-      inr (
-        vs,
-        row ∷ more,
-        1,
-        record { fits = (f, l); made = m.2 ∙ ap (λ z. all_rows q with_next [] vs ++ z) first; follows = s (row ∷ more) },
-        refl,
-        ((λ z. (cc z)), inr (refl, refl, (v, got.0, rw (after_all [] vs) got.2))),
-      ),
-    )
-
--- room for one item more
-pub room : (c n m : ℕ) → c < n → c * (m + 1) + (m + 1) ≤ n * (m + 1)
-room c n m l = let r : (c + 1) * (m + 1) ≤ n * (m + 1) = mul-le-mul_right (m + 1) (omega (arith, l)) in omega (arith, r)
-
-pub items_few_at : {V : Type 0} (failed : Bool) (q : List V → Part Row Why V) (x : Repeats) (n : ℕ) (input left mid : Option (List Row)) (vs : List V) (row : Row) (start at : ℕ) (w : Why)
-    → x ≡ repeats.Exactly n → MadeOf q input vs left → Takes left mid row false → Fitting q vs → length vs < most_of x → at ≡ start + size_of q vs + 1
-    → (q vs).Wrong [] 1 w → Fails failed (items_of x q) input start at w
-items_few_at failed q x n input left mid vs row start at w e m t f l is h = rw e (items_few failed q n input left mid vs row start at w m t f (rw e at l) is h)
-
 pub full_count : (x : Repeats) (c : ℕ) → c ≡ most_of x → IsCount x c
 full_count (repeats.AtMost n) c e = omega (arith, e)
 full_count (repeats.Exactly n) c e = e
@@ -139,11 +65,94 @@ pub full_stops : (x : Repeats) (c : ℕ) → c ≡ most_of x → (rest : List Ro
 full_stops (repeats.AtMost n) c e rest = inl e
 full_stops (repeats.Exactly n) c e rest = e
 
+-- an item is wrong
+pub items_wrong : {V : Type 0} (failed : Bool) (q : List V → Part Row Why V) (x : Repeats) (input left mid : Option (List Row)) (vs : List V) (row : Row) (start now at : ℕ) (w : Why)
+    → MadeOf q input vs left → Takes left mid row true → Fitting q vs → length vs < most_of x → now ≡ start + size_of q vs + 1
+    → HandFails failed (q vs) mid row now at w → Fails failed (repeated x q) input start at w
+items_wrong failed q x None left mid vs row start now at w m t f l e h = tt
+items_wrong failed q x (Some rows) left mid vs row start now at w m t f l e h =
+    let (more, first, then) = takes_some m.0 mid row (rw m.1 at t) in
+    tell more (m.2 ∙ ap (λ z. all_rows q with_next [] vs ++ z) first) (rw then at h)
+  where
+    tell : (more : List Row) → rows ≡ all_rows q with_next [] vs ++ (row ∷ more) → (IsOutside failed w ⊎ ((k : ℕ) × (at + 1 ≡ now + k) × (q vs).Wrong (row ∷ more) k w))
+        → IsOutside failed w ⊎ ((k : ℕ) × (at ≡ start + k) × (repeated x q).Wrong rows k w)
+    tell more made (inl o) = inl o
+    tell more made (inr b) =
+        let is = b.1 in
+        inr (size_of q vs + b.0, omega (arith, is, e), (vs, row ∷ more, b.0, f, made, here x (length vs) row more l, refl, rw (after_all [] vs) b.2))
+
+-- an item never came
+pub items_few : {V : Type 0} (failed : Bool) (q : List V → Part Row Why V) (x : Repeats) (n : ℕ) (input left mid : Option (List Row)) (vs : List V) (row : Row) (start at : ℕ) (w : Why)
+    → x ≡ repeats.Exactly n → MadeOf q input vs left → Takes left mid row false → Fitting q vs → length vs < most_of x → at ≡ start + size_of q vs + 1
+    → (q vs).Wrong [] 1 w → Fails failed (repeated x q) input start at w
+items_few failed q x n None left mid vs row start at w g m t f l e h = tt
+items_few failed q x n (Some rows) left mid vs row start at w g m t f l e h =
+    let none = takes_none m.0 mid row (rw m.1 at t) in
+    inr (size_of q vs + 1, omega (arith, e), (vs, [], 1, f, (m.2 ∙ rw none refl), rw g (rw g at l), refl, rw (after_all [] vs) h))
+
+-- the text is over where there may be fewer
+pub items_over : {V : Type 0} (q : List V → Part Row Why V) (x : Repeats) (n : ℕ) (input left mid : Option (List Row)) (vs : List V) (row : Row)
+    → x ≡ repeats.AtMost n → MadeOf q input vs left → Takes left mid row false → Fitting q vs → length vs < most_of x → IfSome input (λ rows. Begins (repeated x q) rows vs [])
+items_over q x n None left mid vs row g m t f l = tt
+items_over q x n (Some rows) left mid vs row g m t f l =
+    let none = takes_none m.0 mid row (rw m.1 at t) in
+    let few : length vs ≤ n = let less : length vs < n = rw g at l in omega (arith, less) in
+    record { fits = (f, rw g few); made = m.2 ∙ rw none refl; follows = rw g (inr refl) }
+
+pub few_count : (x : Repeats) (n c : ℕ) → x ≡ repeats.AtMost n → c < most_of x → IsCount x c
+few_count x n c g l = let less : c < n = rw g at l in let few : c ≤ n = omega (arith, less) in rw g few
+
+-- as many as there may be
+pub items_full : {V : Type 0} (q : List V → Part Row Why V) (x : Repeats) (input left : Option (List Row)) (vs : List V)
+    → MadeOf q input vs left → Fitting q vs → length vs ≡ most_of x → Reads (repeated x q) input left vs
+items_full q x None left vs m f e = tt
+items_full q x (Some rows) left vs m f e = (m.0, m.1, record { fits = (f, full_count x (length vs) e); made = m.2; follows = full_stops x (length vs) e m.0 })
+
+-- room for one item more
+pub room : (c n m : ℕ) → c < n → c * (m + 1) + (m + 1) ≤ n * (m + 1)
+room c n m l = let r : (c + 1) * (m + 1) ≤ n * (m + 1) = mul-le-mul_right (m + 1) (omega (arith, l)) in omega (arith, r)
+
 -- reading stopped in an item, before which the others are good
 pub stopped : {V : Type 0} (q : List V → Part Row Why V) (x : Repeats) (input left : Option (List Row)) (vs : List V) (start more at last : ℕ) → MadeOf q input vs left → Fitting q vs → length vs ≤ most_of x
     → start + (size_of q vs + 1) ≤ at → at ≤ last → last ≤ start + (size_of q vs + 1) + more → IsStopped x q input start more at last
 stopped q x None left vs start more at last m f l a b c = (size_of q vs + 1, a, b, c, tt)
 stopped q x (Some rows) left vs start more at last m f l a b c = (size_of q vs + 1, a, b, c, (vs, m.0, f, m.2, l, refl))
+
+-- the end of the text after items
+
+pub outside_fails : {V : Type 0} (failed : Bool) (p : Part Row Why V) (left : Option (List Row)) (start at : ℕ) (w : Why) → IsOutside failed w → Fails failed p left start at w
+outside_fails failed p None start at w o = tt
+outside_fails failed p (Some rows) start at w o = inl o
+
+pub many_fails : {V W : Type 0} (failed : Bool) (q : List V → Part Row Why V) (past : List V → Part Row Why W) (x : Repeats) (left : Option (List Row)) (start at : ℕ) (w : Why) → Fails failed (repeated x q) left start at w
+    → Fails failed (ended_of x q past) left start at w
+many_fails failed q past x None start at w f = tt
+many_fails failed q past x (Some rows) start at w f = elim f [
+  | inl o ↦ inl o
+  | inr k ↦ inr (k.0, k.1, inl k.2)
+]
+
+pub many_ends : {V W : Type 0} (q : List V → Part Row Why V) (past : List V → Part Row Why W) (x : Repeats) (left : Option (List Row)) (vs : List V) → IfSome left (λ rows. Begins (repeated x q) rows vs [])
+    → IfSome left (λ rows. Begins (ended_of x q past) rows vs [])
+many_ends q past x None vs h = tt
+many_ends q past x (Some rows) vs h = record { fits = (h.fits, tt); made = h.made ∙ ap (λ z. z ++ []) (sym (append-nil (all_rows q with_next [] vs))); follows = (h.follows, refl) }
+
+pub full_ends : {V : Type 0} (q : List V → Part Row Why V) (x : Repeats) (left mid new : Option (List Row)) (vs : List V) (row : Row) → Reads (repeated x q) left mid vs → Takes mid new row false
+    → IfSome left (λ rows. Begins (repeated x q) rows vs [])
+full_ends q x None mid new vs row h t = tt
+full_ends q x (Some rows) mid new vs row h t = let none = takes_none h.0 new row (rw h.1 at t) in rw none at h.2
+
+pub past_wrong : {V W : Type 0} (failed : Bool) (q : List V → Part Row Why V) (past : List V → Part Row Why W) (x : Repeats) (left mid new : Option (List Row)) (vs : List V) (row : Row) (start at : ℕ) (w : Why)
+    → Reads (repeated x q) left mid vs → Takes mid new row true → at ≡ start + size_of q vs + 1 → ((rest : List Row) → (over (beyond_of x) (past vs)).Wrong (row ∷ rest) 1 w) → Fails failed (ended_of x q past) left start at w
+past_wrong failed q past x None mid new vs row start at w h t e bad = tt
+past_wrong failed q past x (Some rows) mid new vs row start at w h t e bad =
+    let (more, first, then) = takes_some h.0 new row (rw h.1 at t) in
+    inr (size_of q vs + 1, omega (arith, e), inr (vs, row ∷ more, 1, rw first at h.2, refl, rw (after_all [] vs) (bad more)))
+
+pub full_stopped : {V : Type 0} (q : List V → Part Row Why V) (x : Repeats) (left mid : Option (List Row)) (vs : List V) (start more at : ℕ) → Reads (repeated x q) left mid vs → length vs ≡ most_of x → at ≡ start + size_of q vs + 1
+    → IsStopped x q left start more at at
+full_stopped q x None mid vs start more at h l e = (size_of q vs + 1, omega (arith, e), omega arith, omega (arith, e), tt)
+full_stopped q x (Some rows) mid vs start more at h l e = (size_of q vs + 1, omega (arith, e), omega arith, omega (arith, e), (vs, h.0, h.2.fits.0, h.2.made, omega (arith, l), refl))
 
 -- two parts in turn
 
@@ -192,6 +201,14 @@ second_halts failed p q (Some rows) mid v start middle at w t h e f =
       ],
     )
 
+pub second_fails : {V W : Type 0} (failed : Bool) (p : Part Row Why V) (q : V → Part Row Why W) (left mid : Option (List Row)) (v : V) (start middle at : ℕ) (w : Why) → Reads p left mid v → middle ≡ start + length (p.rows_of v)
+    → Fails failed (q v) mid middle at w → Fails failed (then p q) left start at w
+second_fails failed p q None mid v start middle at w h e f = tt
+second_fails failed p q (Some rows) mid v start middle at w h e f = elim (rw h.1 at f) [
+  | inl o ↦ inl o
+  | inr k ↦ (let is = k.1 in inr (length (p.rows_of v) + k.0, omega (arith, is, e), inr (v, h.0, k.0, h.2, refl, k.2)))
+]
+
 -- lines, where reading stops
 
 pub lines_halt : {V : Type 0} (failed : Bool) (q : List V → Part Row Why V) (x : Repeats) (left : Option (List Row)) (start at last : ℕ) (w : Why) → ((s : List V) → Tells (q s)) → ((s : List V) → IsPlain (q s)) → HasRows q
@@ -204,7 +221,7 @@ lines_halt failed q x (Some rows) start at last w t plain some s f =
     let is : at ≡ start + s.0 = omega (arith, low, middle, high) in (
       s.0,
       is,
-      lines_reached x (beyond_of x) q with_next t plain some [] rows s.0 s.4,
+      ended_reached x (beyond_of x) q q with_next t plain some t [] rows s.0 s.4,
       elim f [
         | inl o ↦ inl o
         | inr k ↦ (let other = k.1 in let same : k.0 ≡ s.0 = omega (arith, is, other) in inr (rw same at k.2))

@@ -54,12 +54,18 @@ back_is start a =
     let all : all_plain (word_row (codes "back") (decimal a) []) ≡ true = rw (decimal_plain a) refl in
     rw (line_is (word_row (codes "back") (decimal a) []) (omega arith) all) (simp append_assoc)
 
+pub depth_is : (start : List ℕ) (a : ℕ) → ((start ++ codes "depth,") ++ decimal a) ++ (44 ∷ 44 ∷ 44 ∷ 44 ∷ 10 ∷ []) ≡ start ++ rows_text (word_row (codes "depth") (decimal a) [] ∷ [])
+unfolding line_of
+depth_is start a =
+    let all : all_plain (word_row (codes "depth") (decimal a) []) ≡ true = rw (decimal_plain a) refl in
+    rw (line_is (word_row (codes "depth") (decimal a) []) (omega arith) all) (simp append_assoc)
+
 pub tick_is : (start : List ℕ) → start ++ (codes "tick,,,,," ++ 10 ∷ []) ≡ start ++ rows_text (word_row (codes "tick") [] [] ∷ [])
 unfolding line_of
 tick_is start = rw (line_is (word_row (codes "tick") [] []) (omega arith) refl) refl
 
 pub trace_title_is : (start : List ℕ) (s : Setup) (count : ℕ)
-    → ((((start ++ codes "blk-trace,1,") ++ (decimal s.depth ++ 44 ∷ decimal s.hw)) ++ (44 ∷ [])) ++ decimal count) ++ (44 ∷ 10 ∷ []) ≡ start ++ rows_text (trace.title_row s count ∷ [])
+    → ((((start ++ codes "blk-trace,2,") ++ (decimal s.depth ++ 44 ∷ decimal s.hw)) ++ (44 ∷ [])) ++ decimal count) ++ (44 ∷ 10 ∷ []) ≡ start ++ rows_text (trace.title_row s count ∷ [])
 unfolding line_of
 trace_title_is start s count =
     let all : all_plain (trace.title_row s count) ≡ true = rw (decimal_plain s.depth, decimal_plain s.hw, decimal_plain count) refl in

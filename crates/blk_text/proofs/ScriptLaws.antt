@@ -141,11 +141,11 @@ kinds version hw submitters = kinds_record Held why.Count 6 (StandsIn version) w
 one_bio : (b c : Bio) → line.Bio b ≡ line.Bio c → b ≡ c
 one_bio b c e = cc e
 
-no_bio_is : (b : Bio) (f : BioFault) → IsBio b → IsBioAnswer b.id b.dir b.first b.sectors (Err f) → ⊥
+pub no_bio_is : (b : Bio) (f : BioFault) → IsBio b → IsBioAnswer b.id b.dir b.first b.sectors (Err f) → ⊥
 no_bio_is b bio_fault.Empty i a = omega (arith, i.not_empty, a)
 no_bio_is b bio_fault.Range i a = omega (arith, i.in_range, a.1)
 
-one_bio_fault : (b : Bio) (f g : BioFault) → IsBioAnswer b.id b.dir b.first b.sectors (Err f) → IsBioAnswer b.id b.dir b.first b.sectors (Err g) → f ≡ g
+pub one_bio_fault : (b : Bio) (f g : BioFault) → IsBioAnswer b.id b.dir b.first b.sectors (Err f) → IsBioAnswer b.id b.dir b.first b.sectors (Err g) → f ≡ g
 one_bio_fault b bio_fault.Empty bio_fault.Empty p q = refl
 one_bio_fault b bio_fault.Empty bio_fault.Range p q = absurd (omega (arith, p, q.0))
 one_bio_fault b bio_fault.Range bio_fault.Empty p q = absurd (omega (arith, q, p.0))

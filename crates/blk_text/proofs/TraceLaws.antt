@@ -1,26 +1,203 @@
 -- The laws of the text of a trace.
-use Rattle.std.proofs.Common.{◌≡◌, ◌==◌, ◌∙◌, ℕ, List, [], ◌∷◌, ◌++◌, length, map, take, get_or, ◌<◌, ◌^◌, refl, sym, ap, arith}
-use Rattle.std.specs.Prelude.{All, if◌then◌else◌}
+use Rattle.std.proofs.Common.{◌≡◌, ◌+◌, ◌<◌, ◌∙◌, ℕ, List, [], ◌∷◌, ◌++◌, length, map, refl, sym, ap, subst, inl, inr, arith, append_assoc, append-nil, get_or, codes, decimal, Option, Some, None, Bool}
+use Rattle.std.specs.Prelude.{◌⊎◌, All, IfSome}
 use Rattle.std.specs.List.{flat_map}
-use Rattle.std.proofs.lemmas.List.{map-append, append_cancel_left}
-use Rattle.std.proofs.lemmas.Fmt.{decimal_injective}
+use Rattle.std.proofs.lemmas.List.{map-append, length-append}
+use Rattle.std.proofs.lemmas.List.Sums.{sum_by-append}
+use Rattle.std.proofs.lemmas.List.Elements.{All-nil}
+use Rattle.std.proofs.lemmas.Fmt.{decimal_digit}
+use Rattle.std.proofs.Math.ListN.{get_or-append}
+use Rattle.std.proofs.Math.Seq.{get_or-append_seam}
 use Rattle.csv.specs.Reading.{default_config, records, strip_bom}
 use Rattle.csv.specs.Writing.{read_back}
-use Rattle.blk_bio.specs.Bios.{Bio}
-use Rattle.blk_bio.specs.declared.bio.Dir.{Dir}
-use Rattle.blk_bio.specs.declared.bio.Dir.TheVariants as dir
-use Rattle.blk_trace.specs.Happened.{Happened, Ticked, Released, Joined, Issued, Finished, Returned}
+use Rattle.blk_bio.specs.Bios.{Bio, end_of}
+use Rattle.blk_bio.specs.Limits.{Limits}
+use Rattle.blk_bio.specs.Requests.{IsRequest, IsWithin, last_of, sectors_of, joined}
+use Rattle.blk_bio.specs.declared.request.Side.{Side}
+use Rattle.blk_bio.specs.declared.request.Side.TheVariants as side
+use Rattle.blk_bio.proofs.Tiles.{last_at}
+use Rattle.blk_trace.specs.Happened.{Happened, Ticked, Released, Joined, Issued, Finished, Returned, DepthSet}
+use Rattle.blk_trace.specs.Setups.{Setup}
 use Rattle.blk_trace.specs.Traces.{Traced}
+use Rattle.blk_trace.specs.Events.{At}
+use Rattle.blk_trace.specs.Legal.{IsLegalTrace}
+use Rattle.blk_trace.proofs.Ids.{by_legal}
 use Rattle.blk_text.specs.Sources.{Row}
 use Rattle.blk_text.specs.Texts.{rows_text}
-use Rattle.blk_text.specs.BioRecord.{bio_row, direction_text}
-use Rattle.blk_text.specs.SetupRecord.{setup_cells, FitsSetup}
-use Rattle.blk_text.specs.TraceRecords.{BioFits, EventFits, event_rows, trace_rows, IsTrace, SpellsTrace}
-use Rattle.blk_text.proofs.Lists.{head_of, tail_of, cons_same}
-use Rattle.blk_text.proofs.Lacking.{value, value_is}
-use Rattle.blk_text.proofs.ScriptLaws.{setup_table}
-use Rattle.blk_text.proofs.TableLaws.{one_by}
-use Rattle.blk_text.proofs.Texts.{text_back}
+use Rattle.blk_text.specs.BioRecord.{bio_row}
+use Rattle.blk_text.specs.SetupRecord.{setup_row, setup, FitsSetup, IsWholeSetup}
+use Rattle.blk_text.specs.Reads.{IsOutside, Reads, Fails, Halts, AreItems, IsStopped, IsHeldAt, with_next, size_of}
+use Rattle.blk_text.specs.TraceRecords.{word_row, event_rows, title_row, trace_rows, BioFits, EventFits, IsTrace}
+use Rattle.blk_text.specs.TraceForm.{Tiles, group_bio, plain_event, event, one_more, events_of, trace_cells, IsTraceTitle, latest, title, trace_body, trace_form, trace_title, trace_value, IsEventOf, IsTraceOf, SpellsTraceIn, SpellsTrace, TraceFault}
+use Rattle.blk_text.specs.BioTable.{bio_cells}
+use Rattle.blk_text.specs.Tables.{FitsBy, title_by}
+use Rattle.blk_text.specs.declared.fault.Why.{Why}
+use Rattle.blk_text.specs.declared.fault.Why.TheVariants as why
+use Rattle.blk_text.specs.declared.heads.TraceTitle.{TraceTitle}
+use Rattle.parts.specs.declared.Repeats.TheVariants as repeats
+use Rattle.parts.specs.Parts.{Begins, AllFit, all_rows}
+use Rattle.parts.proofs.Many.{fit_more, ended_reached}
+use Rattle.parts.proofs.Then.{reached_second, at_first}
+use Rattle.blk_text.proofs.Lists.{head_of, tail_of, all_cons}
+use Rattle.blk_text.proofs.Reading.{after_all, then_reads, first_halts, second_halts, second_fails}
+use Rattle.blk_text.proofs.Texts.{text_back, begins_itself}
+use Rattle.blk_text.proofs.ScriptLaws.{setup_one}
+use Rattle.blk_text.proofs.EventLaws.{event_tells, event_plain, event_rows as some_rows, more_tells, events_tell, title_one, setup_depth, body_tells, trace_tells}
+
+-- the records of a trace's events, one after the other
+
+bios_rows : (version : ℕ) (limits : Limits) (before bios : List Bio) → all_rows (group_bio version limits) with_next before bios ≡ map bio_row bios
+bios_rows version limits before [] = refl
+bios_rows version limits before (b ∷ bs) = ap (λ (t : List Row). bio_row b ∷ t) (bios_rows version limits (before ++ b ∷ []) bs)
+
+event_same : (version : ℕ) (setup : Setup) (before : List Happened) (e : Happened) → (event version setup before).rows_of e ≡ event_rows e
+event_same version setup before Ticked = refl
+event_same version setup before (Released id bios) = ap (λ (t : List Row). word_row (codes "release") (decimal id) (decimal (length bios)) ∷ t) (bios_rows version setup.limits [] bios)
+event_same version setup before (Joined id bios) = ap (λ (t : List Row). word_row (codes "join") (decimal id) (decimal (length bios)) ∷ t) (bios_rows version setup.limits [] bios)
+event_same version setup before (Issued id tag) = refl
+event_same version setup before (Finished tag) = refl
+event_same version setup before (Returned tag) = refl
+event_same version setup before (DepthSet depth) = refl
+
+events_same : (version : ℕ) (setup : Setup) (before es : List Happened) → all_rows (event version setup) with_next before es ≡ flat_map event_rows es
+events_same version setup before [] = refl
+events_same version setup before (e ∷ es) = λ i. event_same version setup before e i ++ events_same version setup (before ++ e ∷ []) es i
+
+second_version : decimal 2 ≡ codes "2"
+second_version = decimal_digit 2 (omega arith)
+
+pub rows_are : (t : Traced) → trace_rows t ≡ trace_form.rows_of (trace_value latest t)
+rows_are t =
+    let first : title_row t.setup (length t.events) ≡ title_by (codes "blk-trace") trace_cells (2, trace_title t) =
+    ap (λ (v : List ℕ). codes "blk-trace" ∷ v ∷ decimal t.setup.depth ∷ decimal t.setup.hw ∷ decimal (length t.events) ∷ [] ∷ []) (sym second_version) in
+    let others : flat_map event_rows t.events ≡ all_rows (event latest t.setup) with_next [] t.events ++ [] = sym (append-nil (all_rows (event latest t.setup) with_next [] t.events) ∙ events_same latest t.setup [] t.events) in
+    λ i. first i ∷ setup_row t.setup ∷ others i
+
+pub size_is : (version : ℕ) (setup : Setup) (es : List Happened) → size_of (event version setup) es ≡ length (flat_map event_rows es)
+size_is version setup es = ap length (events_same version setup [] es)
+
+-- a legal trace spells
+
+fits_bio : (b : Bio) → BioFits b → FitsBy (bio_cells 256) b
+fits_bio b h =
+    let in_range = h.2.in_range in
+    ((omega arith, omega (arith, h.0)), ((omega arith, omega (arith, h.1)), (tt, ((omega arith, omega (arith, in_range)), ((omega arith, omega (arith, in_range)), tt)))))
+
+-- a bio of a request joins those before it
+tile_of : (limits : Limits) (before rest : List Bio) (b : Bio) → IsRequest (before ++ b ∷ rest) → IsWithin limits (before ++ b ∷ rest) → Tiles limits before b
+tile_of limits [] rest b r w = tt
+tile_of limits (a ∷ bs) rest b r w = record { same_direction = way; abuts = touch; within = few w }
+  where
+    up : length (a ∷ bs) ≡ length bs + 1
+    up = omega arith
+
+    seam : get_or ((a ∷ bs) ++ b ∷ rest) (length (a ∷ bs)) b ≡ b
+    seam = get_or-append_seam (a ∷ bs) b rest b
+
+    long : length ((a ∷ bs) ++ b ∷ rest) ≡ length (a ∷ bs) + length (b ∷ rest)
+    long = length-append (a ∷ bs) (b ∷ rest)
+
+    way : b.dir ≡ a.dir
+    way = ap (λ (x : Bio). x.dir) (sym seam) ∙ r.one_direction (length (a ∷ bs)) b (omega (arith, long))
+
+    touch : b.first ≡ last_of (a ∷ bs)
+    touch =
+        ap (λ (x : Bio). x.first) (sym seam) ∙ ap (λ k. (get_or ((a ∷ bs) ++ b ∷ rest) k b).first) up ∙ r.tiles (length bs) b (omega (arith, long))
+        ∙ ap end_of (get_or-append (a ∷ bs) (b ∷ rest) b (length bs) (omega arith)) ∙ last_at (a ∷ bs) (length bs) b refl
+
+    all : (a ∷ bs) ++ b ∷ rest ≡ ((a ∷ bs) ++ b ∷ []) ++ rest
+    all = sym (append_assoc (a ∷ bs) (b ∷ []) rest)
+
+    few : IsWithin limits ((a ∷ bs) ++ b ∷ rest) → IsWithin limits ((a ∷ bs) ++ b ∷ [])
+    few (inl one) = absurd (omega (arith, one, long))
+    few (inr h) =
+        let total : sectors_of ((a ∷ bs) ++ b ∷ rest) ≡ sectors_of ((a ∷ bs) ++ b ∷ []) + sectors_of rest = ap sectors_of all ∙ sum_by-append (λ (x : Bio). x.sectors) ((a ∷ bs) ++ b ∷ []) rest in
+        let count : length ((a ∷ bs) ++ b ∷ rest) ≡ length ((a ∷ bs) ++ b ∷ []) + length rest = ap length all ∙ length-append ((a ∷ bs) ++ b ∷ []) rest in
+        let sectors = h.0 in
+        let segments = h.1 in
+        inr (omega (arith, total, sectors), omega (arith, count, segments))
+
+group_fits : (version : ℕ) (limits : Limits) (before bios : List Bio) → IsRequest (before ++ bios) → IsWithin limits (before ++ bios) → All BioFits bios → AllFit (group_bio version limits) with_next before bios
+group_fits version limits before [] r w h = tt
+group_fits version limits before (b ∷ bs) r w h =
+    let fits = head_of BioFits b bs h in
+    let same = sym (append_assoc before (b ∷ []) bs) in
+    (((fits_bio b fits, fits.2), tile_of limits before bs b r w), group_fits version limits (before ++ b ∷ []) bs (subst IsRequest same r) (subst (IsWithin limits) same w) (tail_of BioFits b bs h))
+
+-- the bios that join a request within the limits are within them
+newcomer_within : (limits : Limits) (old more : List Bio) (s : Side) → 0 < length more → IsWithin limits (joined old more s) → IsWithin limits more
+newcomer_within limits old more side.Back some (inl one) = let long = length-append old more in inl (omega (arith, one, long, some))
+newcomer_within limits old more side.Back some (inr h) =
+    let long = length-append old more in
+    let total = sum_by-append (λ (x : Bio). x.sectors) old more in
+    let sectors = h.0 in
+    let segments = h.1 in
+    inr (omega (arith, total, sectors), omega (arith, long, segments))
+newcomer_within limits old more side.Front some (inl one) = let long = length-append more old in inl (omega (arith, one, long, some))
+newcomer_within limits old more side.Front some (inr h) =
+    let long = length-append more old in
+    let total = sum_by-append (λ (x : Bio). x.sectors) more old in
+    let sectors = h.0 in
+    let segments = h.1 in
+    inr (omega (arith, total, sectors), omega (arith, long, segments))
+
+last_event : (es : List Happened) (e : Happened) → At (es ++ e ∷ []) (length es) e
+last_event [] e = refl
+last_event (x ∷ es) e = last_event es e
+
+event_fits : (version : ℕ) (setup : Setup) (es : List Happened) (e : Happened) → IsLegalTrace setup (es ++ e ∷ []) → IsEventOf version e → EventFits e → (plain_event version setup.limits).Fits e
+event_fits version setup es Ticked legal v h = ((v, (tt, (tt, (tt, (tt, (tt, tt)))))), (tt, refl))
+event_fits version setup es (Released id bios) legal v h =
+    let at = last_event es (Released id bios) in
+    ((v, ((omega arith, omega (arith, h.0)), ((h.1, h.2), (tt, (tt, (tt, tt)))))), (group_fits version setup.limits [] bios (legal.are_requests _ _ at) (legal.release_within _ id bios at) h.3, refl))
+event_fits version setup es (Joined id bios) legal v h =
+    let at = last_event es (Joined id bios) in
+    let fit = legal.join_fits _ id bios at in
+    let some = h.1 in
+    ((v, ((omega arith, omega (arith, h.0)), ((h.1, h.2), (tt, (tt, (tt, tt)))))), (group_fits version setup.limits [] bios (legal.are_requests _ _ at) (newcomer_within setup.limits _ bios fit.0 (omega (arith, some)) fit.1.within) h.3, refl))
+event_fits version setup es (Issued id tag) legal v h = ((v, ((omega arith, omega (arith, h.0)), ((omega arith, omega (arith, h.1)), (tt, (tt, (tt, tt)))))), (tt, refl))
+event_fits version setup es (Finished tag) legal v h = ((v, ((omega arith, omega (arith, h)), (tt, (tt, (tt, (tt, tt)))))), (tt, refl))
+event_fits version setup es (Returned tag) legal v h = ((v, ((omega arith, omega (arith, h)), (tt, (tt, (tt, (tt, tt)))))), (tt, refl))
+event_fits version setup es (DepthSet depth) legal v h = ((v, ((omega arith, omega (arith, h)), (tt, (tt, (tt, (tt, tt)))))), (tt, refl))
+
+-- of a list with one more, the others have it, and so has the last
+all_before : (P : Happened → Type 0) (es : List Happened) (e : Happened) → All P (es ++ e ∷ []) → All P es × P e
+all_before P [] e h = (All-nil P, head_of P e [] h)
+all_before P (x ∷ es) e h = let r = all_before P es e (tail_of P x (es ++ e ∷ []) h) in (all_cons P x es (head_of P x (es ++ e ∷ []) h) r.0, r.1)
+
+pub legal_fits : (version : ℕ) (setup : Setup) (es : List Happened) → IsLegalTrace setup es → All (IsEventOf version) es → All EventFits es → AllFit (event version setup) with_next [] es
+legal_fits version setup es legal = by_legal setup (λ l. All (IsEventOf version) l → All EventFits l → AllFit (event version setup) with_next [] l) (λ v h. tt)
+    (λ l e now before unbroken fit v h. (
+    let vs = all_before (IsEventOf version) l e v in
+    let hs = all_before EventFits l e h in
+    fit_more (event version setup) with_next [] l e (fit vs.0 hs.0) (rw (after_all [] l) (event_fits version setup l e now vs.1 hs.1, unbroken))
+    ))
+    es legal
+
+pub spells_in : (version : ℕ) (t : Traced) → IsTrace t → IsTraceOf version t → SpellsTraceIn version (trace_form.rows_of (trace_value version t)) t
+spells_in version t h v =
+    let is = h.setup.is_setup in
+    let few = h.legal.not_too_long in
+    begins_itself trace_form (trace_value version t) (
+      (v.is_version, record { depth = (is.some_tags, v.tags); hw = (is.some_queues, is.few_queues); count = omega (arith, few) }),
+      ((refl, refl, h.setup), ((legal_fits version t.setup t.events h.legal v.kinds h.events, refl), tt)),
+    )
+    (tt, (tt, (refl, refl)))
+
+-- the latest version has all
+latest_kind : (e : Happened) → IsEventOf latest e
+latest_kind Ticked = tt
+latest_kind (Released id bios) = tt
+latest_kind (Joined id bios) = tt
+latest_kind (Issued id tag) = tt
+latest_kind (Finished tag) = tt
+latest_kind (Returned tag) = tt
+latest_kind (DepthSet depth) = omega arith
+
+pub rows_spell : (t : Traced) → IsTrace t → SpellsTrace (trace_rows t) t
+rows_spell t h = (latest, subst (λ rows. SpellsTraceIn latest rows t) (sym (rows_are t)) (spells_in latest t h (record { is_version = (omega arith, omega arith); tags = h.setup.is_setup.few_tags; kinds = λ k d l. latest_kind _ })))
+
+-- what is written reads back
 
 bios_back : (bios : List Bio) → map read_back (map bio_row bios) ≡ map bio_row bios
 bios_back [] = refl
@@ -33,105 +210,129 @@ event_back (Joined id bios) = rw (bios_back bios) refl
 event_back (Issued id tag) = refl
 event_back (Finished tag) = refl
 event_back (Returned tag) = refl
+event_back (DepthSet depth) = refl
 
 events_back : (hs : List Happened) → map read_back (flat_map event_rows hs) ≡ flat_map event_rows hs
 events_back [] = refl
 events_back (h ∷ hs) = rw (map-append read_back (event_rows h) (flat_map event_rows hs), event_back h, events_back hs) refl
 
-pub read_back_is : (t : Traced) → records default_config (strip_bom (rows_text (trace_rows t))) ≡ trace_rows t
+all_back : (version : ℕ) (t : Traced) → map read_back (all_rows (event version t.setup) with_next [] t.events ++ []) ≡ all_rows (event version t.setup) with_next [] t.events ++ []
+all_back version t = rw (append-nil (all_rows (event version t.setup) with_next [] t.events), events_same version t.setup [] t.events) (events_back t.events)
+
+pub read_back_is : (version : ℕ) (t : Traced) → IsTrace t → IsTraceOf version t → SpellsTraceIn version (records default_config (strip_bom (rows_text (trace_form.rows_of (trace_value version t))))) t
 unfolding rows_text
-read_back_is t = text_back (trace_rows t) _ refl (rw (events_back t.events) refl)
+read_back_is version t h v = rw (text_back (trace_form.rows_of (trace_value version t)) _ refl (rw (all_back version t) refl)) (spells_in version t h v)
 
-pub spelled_back : (t : Traced) → IsTrace t → SpellsTrace (records default_config (strip_bom (rows_text (trace_rows t)))) t
-spelled_back t h = (read_back_is t, h)
+pub written_back : (t : Traced) → records default_config (strip_bom (rows_text (trace_rows t))) ≡ trace_rows t
+unfolding rows_text
+written_back t = text_back (trace_rows t) _ refl (rw (events_back t.events) refl)
 
--- an event is told by its records, whatever follows
+-- a trace is spelled once, in one version
 
-abbrev dir_at : List ℕ → Dir
-dir_at f = if get_or f 0 0 == 82 then dir.Read else dir.Write
+pub spelled_once : (rows : List Row) (version other : ℕ) (t u : Traced) → SpellsTraceIn version rows t → SpellsTraceIn other rows u → (version ≡ other) × (t.setup ≡ u.setup) × (t.events ≡ u.events)
+spelled_once rows version other t u p q =
+    let e = (trace_tells.once rows (trace_value version t) (trace_value other u) [] [] p q).0 in
+    ((λ i. (e i).0.0), (λ i. (e i).1.0), (λ i. (e i).1.1))
 
-dir_is : (d : Dir) → dir_at (direction_text d) ≡ d
-dir_is dir.Read = refl
-dir_is dir.Write = refl
+pub spelled_apart : (rows : List Row) (t : Traced) (at : ℕ) (w : Why) → SpellsTrace rows t → TraceFault rows at w → ⊥
+spelled_apart rows t at w p = trace_tells.apart rows (trace_value p.0 t) [] at w p.1
 
--- the numbers of a bio are written in 64 bits
-record IsWide (b : Bio) : Type 0 where
-  pub submitter : b.id.submitter < 2 ^ 64
-  pub serial : b.id.serial < 2 ^ 64
-  pub first : b.first < 2 ^ 64
-  pub sectors : b.sectors < 2 ^ 64
+pub fault_once : (rows : List Row) (at other : ℕ) (w v : Why) → TraceFault rows at w → TraceFault rows other v → (at ≡ other) × (w ≡ v)
+fault_once = trace_tells.first
 
-bio_at : Row → Bio
-bio_at cells = record { id = record { submitter = value (get_or cells 1 []); serial = value (get_or cells 2 []) }; dir = dir_at (get_or cells 3 []); first = value (get_or cells 4 []); sectors = value (get_or cells 5 []) }
+-- reading
 
-same_bio : (b c : Bio) → b.id.submitter ≡ c.id.submitter → b.id.serial ≡ c.id.serial → b.dir ≡ c.dir → b.first ≡ c.first → b.sectors ≡ c.sectors → b ≡ c
-same_bio b c p q r s t i = record { id = record { submitter = p i; serial = q i }; dir = r i; first = s i; sectors = t i }
+bio_fits : (b : Bio) (version : ℕ) (limits : Limits) (before : List Bio) → (group_bio version limits before).Fits b → BioFits b
+bio_fits b version limits before f = let low = f.0.0.0.1 in let serial = f.0.0.1.0.1 in (omega (arith, low), omega (arith, serial), f.0.1)
 
-bio_is : (b : Bio) → IsWide b → bio_at (bio_row b) ≡ b
-unfolding bio_at
-bio_is b h = same_bio _ b (value_is b.id.submitter h.submitter) (value_is b.id.serial h.serial) (dir_is b.dir) (value_is b.first h.first) (value_is b.sectors h.sectors)
+bios_fit : (version : ℕ) (limits : Limits) (before bios : List Bio) → AllFit (group_bio version limits) with_next before bios → All BioFits bios
+bios_fit version limits before [] f = All-nil BioFits
+bios_fit version limits before (b ∷ bs) f = all_cons BioFits b bs (bio_fits b version limits before f.0) (bios_fit version limits (before ++ b ∷ []) bs f.1)
 
-wide_bio : (b : Bio) → BioFits b → IsWide b
-wide_bio b h = record { submitter = omega (arith, h.0); serial = h.1; first = omega (arith, h.2.in_range); sectors = omega (arith, h.2.in_range) }
+fits_event : (version : ℕ) (limits : Limits) (e : Happened) → (plain_event version limits).Fits e → EventFits e
+fits_event version limits Ticked f = tt
+fits_event version limits (Released id bios) f = let id_in = f.0.1.0.1 in (omega (arith, id_in), f.0.1.1.0.0, f.0.1.1.0.1, bios_fit version limits [] bios f.1.0)
+fits_event version limits (Joined id bios) f = let id_in = f.0.1.0.1 in (omega (arith, id_in), f.0.1.1.0.0, f.0.1.1.0.1, bios_fit version limits [] bios f.1.0)
+fits_event version limits (Issued id tag) f = let id_in = f.0.1.0.1 in let tag_in = f.0.1.1.0.1 in (omega (arith, id_in), omega (arith, tag_in))
+fits_event version limits (Finished tag) f = let tag_in = f.0.1.0.1 in omega (arith, tag_in)
+fits_event version limits (Returned tag) f = let tag_in = f.0.1.0.1 in omega (arith, tag_in)
+fits_event version limits (DepthSet depth) f = let depth_in = f.0.1.0.1 in omega (arith, depth_in)
 
-abbrev bios_at : ℕ → List Row → List Bio
-bios_at n rows = map bio_at (take n rows)
+events_fit : (version : ℕ) (setup : Setup) (before es : List Happened) → AllFit (event version setup) with_next before es → All EventFits es
+events_fit version setup before [] f = All-nil EventFits
+events_fit version setup before (e ∷ es) f = all_cons EventFits e es (fits_event version setup.limits e f.0.0) (events_fit version setup (before ++ e ∷ []) es f.1)
 
-bios_are : (bios : List Bio) (rest : List Row) → All BioFits bios → bios_at (length bios) (map bio_row bios ++ rest) ≡ bios
-bios_are [] rest h = refl
-bios_are (b ∷ bs) rest h =
-    let first = bio_is b (wide_bio b (head_of BioFits b bs h)) in
-    let others = bios_are bs rest (tail_of BioFits b bs h) in
-    rw (first, others) refl
+pub trace_in : (t : Traced) (version depth hw count : ℕ) (n s : Setup) → t.setup ≡ n → n ≡ s → FitsSetup depth hw s → AreItems (repeats.Exactly count) (event version n) t.events → IsLegalTrace t.setup t.events → IsTrace t
+trace_in t version depth hw count n s d e f a l = record { setup = subst IsWholeSetup (sym (d ∙ e)) f.2; events = events_fit version n [] t.events a.0; legal = l }
 
-abbrev by_letter : ℕ → Row → List Row → Happened
-by_letter c cells rest =
-    if c == 116 then Ticked
-    else if c == 114 then Released (value (get_or cells 1 [])) (bios_at (value (get_or cells 2 [])) rest)
-    else if c == 106 then Joined (value (get_or cells 1 [])) (bios_at (value (get_or cells 2 [])) rest)
-    else if c == 105 then Issued (value (get_or cells 1 [])) (value (get_or cells 2 []))
-    else if c == 100 then Finished (value (get_or cells 1 []))
-    else Returned (value (get_or cells 1 []))
+-- the value that was read, as that of a trace
+value_is : (t : Traced) (v : ℕ × TraceTitle) (s : Setup) → t.setup ≡ s → FitsSetup v.1.depth v.1.hw s → length t.events ≡ v.1.count → (v, (s, t.events)) ≡ trace_value v.0 t
+value_is t v s e f c = λ i. ((v.0, record { depth = (sym f.0 ∙ ap (λ (x : Setup). x.depth) (sym e)) i; hw = (sym f.1 ∙ ap (λ (x : Setup). x.hw) (sym e)) i; count = sym c i }), (sym e i, t.events))
 
-abbrev event_at : List Row → Happened
-event_at [] = Ticked
-event_at (cells ∷ rest) = by_letter (get_or (get_or cells 0 []) 0 0) cells rest
+pub trace_read : (left mid next : Option (List Row)) (t : Traced) (v : ℕ × TraceTitle) (s : Setup) → Reads title left mid v → Reads (setup v.1.depth v.1.hw) mid next s
+    → IfSome next (λ rows. Begins (events_of v.0 s v.1.count) rows t.events []) → t.setup ≡ s → FitsSetup v.1.depth v.1.hw s → length t.events ≡ v.1.count → IfSome left (λ rows. SpellsTrace rows t)
+trace_read None mid next t v s h k a e f c = tt
+trace_read (Some rows) mid next t v s h k a e f c = (
+  v.0,
+  subst (λ (x : (ℕ × TraceTitle) × (Setup × List Happened)). Begins trace_form rows x []) (value_is t v s e f c)
+      (then_reads title trace_body (Some rows) mid v (s, t.events) h (then_reads (setup v.1.depth v.1.hw) (λ s. events_of v.0 s v.1.count) mid next s t.events k a)),
+)
 
-event_is : (h : Happened) (rest : List Row) → EventFits h → event_at (event_rows h ++ rest) ≡ h
-event_is Ticked rest f = refl
-event_is (Released id bios) rest f = rw (value_is id f.0, value_is (length bios) (omega (arith, f.2)), bios_are bios rest f.3) refl
-event_is (Joined id bios) rest f = rw (value_is id f.0, value_is (length bios) (omega (arith, f.2)), bios_are bios rest f.3) refl
-event_is (Issued id tag) rest f = rw (value_is id f.0, value_is tag (omega (arith, f.1))) refl
-event_is (Finished tag) rest f = ap Finished (value_is tag (omega (arith, f)))
-event_is (Returned tag) rest f = ap Returned (value_is tag (omega (arith, f)))
+-- the same of one that began without events, for a setup that is this one
+pub trace_read_of : (left mid next : Option (List Row)) (t : Traced) (v : ℕ × TraceTitle) (n s : Setup) → n ≡ s → Reads title left mid v → Reads (setup v.1.depth v.1.hw) mid next s
+    → IfSome next (λ rows. Begins (events_of v.0 n v.1.count) rows t.events []) → t.setup ≡ n → FitsSetup v.1.depth v.1.hw s → length t.events ≡ v.1.count → IfSome left (λ rows. SpellsTrace rows t)
+trace_read_of left mid next t v n s is h k a e f c = trace_read left mid next t v s h k (rw is at a) (e ∙ is) f c
 
-some_rows : (h : Happened) (rest : List Row) → [] ≡ event_rows h ++ rest → ⊥
-some_rows Ticked rest e = cc e
-some_rows (Released id bios) rest e = cc e
-some_rows (Joined id bios) rest e = cc e
-some_rows (Issued id tag) rest e = cc e
-some_rows (Finished tag) rest e = cc e
-some_rows (Returned tag) rest e = cc e
+-- where reading stops
 
-events_once : (es fs : List Happened) → All EventFits es → All EventFits fs → flat_map event_rows es ≡ flat_map event_rows fs → es ≡ fs
-events_once [] [] p q h = refl
-events_once [] (f ∷ fs) p q h = absurd (some_rows f (flat_map event_rows fs) h)
-events_once (e ∷ es) [] p q h = absurd (some_rows e (flat_map event_rows es) (sym h))
-events_once (e ∷ es) (f ∷ fs) p q h =
-    let first : e ≡ f = sym (event_is e (flat_map event_rows es) (head_of EventFits e es p)) ∙ ap event_at h ∙ event_is f (flat_map event_rows fs) (head_of EventFits f fs q) in
-    let others : flat_map event_rows es ≡ flat_map event_rows fs = append_cancel_left (event_rows e) _ _ (h ∙ ap (λ (k : Happened). event_rows k ++ flat_map event_rows fs) (sym first)) in
-    let same : es ≡ fs = events_once es fs (tail_of EventFits e es p) (tail_of EventFits f fs q) others in
-    cc (first, same)
+pub title_halts : (failed : Bool) (left : Option (List Row)) (start at : ℕ) (w : Why) → start ≡ 0 → Halts failed title left start at w → Halts failed trace_form left 0 at w
+title_halts failed left start at w e h = first_halts failed title trace_body left 0 at w (λ t fit. body_tells t fit.1) (rw e at h)
 
-pub spelled_once : (rows : List Row) (t u : Traced) → SpellsTrace rows t → SpellsTrace rows u → (t.setup ≡ u.setup) × (t.events ≡ u.events)
-spelled_once rows t u p q =
-    let e = cons_same _ _ _ _ (sym p.0 ∙ q.0) in
-    let f = cons_same _ _ _ _ e.1 in
-    let title = (cons_same _ _ _ _ (cons_same _ _ _ _ e.0).1).1 in
-    let first = cons_same _ _ _ _ title in
-    let second = cons_same _ _ _ _ first.1 in
-    let depth = decimal_injective t.setup.depth u.setup.depth (omega (arith, p.1.setup.is_setup.few_tags)) (omega (arith, q.1.setup.is_setup.few_tags)) first.0 in
-    let hw = decimal_injective t.setup.hw u.setup.hw (omega (arith, p.1.setup.is_setup.few_queues)) (omega (arith, q.1.setup.is_setup.few_queues)) second.0 in
-    let is = q.1.setup.is_setup in
-    let table = setup_table u.setup.depth u.setup.hw (is.some_tags, is.few_tags) (is.some_queues, is.few_queues) in
-    (one_by setup_cells (FitsSetup u.setup.depth u.setup.hw) table t.setup u.setup (depth, hw, p.1.setup) (refl, refl, q.1.setup) (cons_same _ _ _ _ f.0).1, events_once t.events u.events p.1.events q.1.events f.1)
+pub setup_halts : (failed : Bool) (left mid : Option (List Row)) (t : ℕ × TraceTitle) (middle at : ℕ) (w : Why) → middle ≡ 1 → IsTraceTitle t.0 t.1 → Reads title left mid t → Halts failed (setup t.1.depth t.1.hw) mid middle at w → Halts failed trace_form left 0 at w
+setup_halts failed left mid t middle at w e i r h =
+    second_halts failed title trace_body left mid t 0 middle at w title_one.tells r (omega (arith, e))
+    (first_halts failed (setup t.1.depth t.1.hw) (λ s. events_of t.0 s t.1.count) mid middle at w (λ s fit. events_tell t.0 s t.1.count) h)
+
+pub events_fail : (failed : Bool) (left mid next : Option (List Row)) (t : ℕ × TraceTitle) (s : Setup) (middle at : ℕ) (w : Why) → middle ≡ 1 → Reads title left mid t → Reads (setup t.1.depth t.1.hw) mid next s
+    → Fails failed (events_of t.0 s t.1.count) next 2 at w → Fails failed trace_form left 0 at w
+events_fail failed left mid next t s middle at w e r k h =
+    second_fails failed title trace_body left mid t 0 middle at w r (omega (arith, e))
+    (second_fails failed (setup t.1.depth t.1.hw) (λ s. events_of t.0 s t.1.count) mid next s middle 2 at w k (omega (arith, e)) h)
+
+pub fails_err : (failed : Bool) (left : Option (List Row)) (at : ℕ) (w : Why) → Fails failed trace_form left 0 at w → IfSome left (λ rows. IsOutside failed w ⊎ TraceFault rows at w)
+fails_err failed None at w f = tt
+fails_err failed (Some rows) at w f = elim f [
+  | inl o ↦ inl o
+  | inr k ↦ (let is = k.1 in let same : k.0 ≡ at = omega (arith, is) in inr (rw same at k.2))
+]
+
+pub halts_held : (failed : Bool) (left : Option (List Row)) (at last : ℕ) (w : Why) → Halts failed trace_form left 0 at w → at ≡ last → IsHeldAt trace_form left 128 at last
+halts_held failed None at last w h e = (at, omega arith, omega (arith, e), omega (arith, e), tt)
+halts_held failed (Some rows) at last w h e = let is = h.1 in (h.0, omega (arith, is), omega (arith, e), omega (arith, is, e), h.2)
+
+-- no memory for a trace without events
+pub none_held : (left mid : Option (List Row)) (t : ℕ × TraceTitle) (at last : ℕ) → IsTraceTitle t.0 t.1 → Reads title left mid t → at ≡ 2 → last ≡ 2 → IsHeldAt trace_form left 128 at last
+none_held None mid t at last i r e f = (2, omega (arith, e), omega (arith, e, f), omega (arith, f), tt)
+none_held (Some rows) mid t at last i r e f = (2, omega (arith, e), omega (arith, e, f), omega (arith, f), reached_second title trace_body title_one.tells rows r.0 t 1 r.2 (at_first (trace_body t) (body_tells t i) r.0))
+
+pub events_held : (left mid next : Option (List Row)) (t : ℕ × TraceTitle) (s : Setup) (at last : ℕ) → IsTraceTitle t.0 t.1 → Reads title left mid t → Reads (setup t.1.depth t.1.hw) mid next s
+    → IsStopped (repeats.Exactly t.1.count) (event t.0 s) next 2 128 at last → IsHeldAt trace_form left 128 at last
+events_held None mid next t s at last i r k h = let low = h.1 in let high = h.3 in (2 + h.0, omega (arith, low), h.2, omega (arith, high), tt)
+events_held (Some rows) mid next t s at last i r k h =
+    let low = h.1 in
+    let high = h.3 in
+    let second = rw r.1 at k in
+    let good = rw second.1 at h.4 in
+    let reached = ended_reached (repeats.Exactly t.1.count) why.Count (event t.0 s) (one_more t.0 s) with_next (event_tells t.0 s) (event_plain t.0 s) (some_rows t.0 s) (more_tells t.0 s) [] second.0 h.0 good in
+    let in_body = reached_second (setup t.1.depth t.1.hw) (λ s. events_of t.0 s t.1.count) (setup_one t.1.depth t.1.hw (setup_depth t i) i.hw).tells r.0 second.0 s h.0 second.2 reached in
+    (1 + (1 + h.0), omega (arith, low), h.2, omega (arith, high), reached_second title trace_body title_one.tells rows r.0 t (1 + h.0) r.2 in_body)
+
+-- of events that were read into a trace whose setup is this one
+
+pub events_fail_of : (failed : Bool) (left mid next : Option (List Row)) (t : ℕ × TraceTitle) (n s : Setup) (middle at : ℕ) (w : Why) → n ≡ s → middle ≡ 1 → Reads title left mid t → Reads (setup t.1.depth t.1.hw) mid next s
+    → Fails failed (events_of t.0 n t.1.count) next 2 at w → IfSome left (λ rows. IsOutside failed w ⊎ TraceFault rows at w)
+events_fail_of failed left mid next t n s middle at w is e r k h = fails_err failed left at w (events_fail failed left mid next t s middle at w e r k (rw is at h))
+
+pub events_held_of : (left mid next : Option (List Row)) (t : ℕ × TraceTitle) (n s : Setup) (at last : ℕ) → n ≡ s → IsTraceTitle t.0 t.1 → Reads title left mid t → Reads (setup t.1.depth t.1.hw) mid next s
+    → IsStopped (repeats.Exactly t.1.count) (event t.0 n) next 2 128 at last → IsHeldAt trace_form left 128 at last
+events_held_of left mid next t n s at last is i r k h = events_held left mid next t s at last i r k (rw is at h)

@@ -12,7 +12,7 @@ use Rattle.blk_bio.specs.declared.request.Side.{Side}
 use Rattle.blk_bio.specs.declared.request.Side.TheVariants.{Back, Front}
 use Rattle.blk_trace.specs.declared.event.Event.{Event}
 use Rattle.blk_trace.specs.Events.{At, bios_of, request_of}
-use Rattle.blk_trace.specs.Happened.{Happened, Ticked, Released, Joined, Issued, Finished, Returned}
+use Rattle.blk_trace.specs.Happened.{Happened, Ticked, Released, Joined, Issued, Finished, Returned, DepthSet}
 use Rattle.blk_trace.specs.Legal.{IsLegalTrace}
 use Rattle.blk_trace.specs.Setups.{Setup}
 use Rattle.blk_trace.specs.Seen.{happened}
@@ -46,6 +46,7 @@ few_bios setup events k (Joined id bios) i l at =
 few_bios setup events k (Issued id tag) i l at = omega arith
 few_bios setup events k (Finished tag) i l at = omega arith
 few_bios setup events k (Returned tag) i l at = omega arith
+few_bios setup events k (DepthSet depth) i l at = omega arith
 
 -- the same of an event that was looked up
 pub few_at : {A : Type 0} (t : Traced) (events : List (Event A)) (k : ℕ) (e : Event A) → IsLimits t.setup.limits → IsLegalTrace t.setup t.events → map happened events ≡ t.events

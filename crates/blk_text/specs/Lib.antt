@@ -12,3 +12,5 @@ pub mod Drafts
 pub mod Certificate
 pub mod Tables
 pub mod Reads
+pub mod BioTable
+pub mod TraceForm

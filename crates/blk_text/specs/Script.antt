@@ -6,7 +6,8 @@ use Rattle.blk_bio.specs.declared.bio.BioFault.{BioFault}
 use Rattle.blk_trace.specs.Setups.{Setup}
 use Rattle.blk_text.specs.Sources.{Row}
 use Rattle.blk_text.specs.Reads.{items_of}
-use Rattle.blk_text.specs.Tables.{Cell, Blank, Direction, Number, IsVersion, title_record, kinds_record}
+use Rattle.blk_text.specs.Tables.{Cell, Blank, Number, IsVersion, title_record, kinds_record}
+use Rattle.blk_text.specs.BioTable.{bio_cells}
 use Rattle.blk_text.specs.SetupRecord.{IsWholeSetup, most_depth, setup}
 use Rattle.blk_text.specs.declared.fault.Why.{Why}
 use Rattle.blk_text.specs.declared.fault.Why.TheVariants as why
@@ -61,8 +62,7 @@ Held word.Run = ℕ
 
 -- the fields of each kind of step after its word, for so many hardware queues and submitters
 abbrev pub step_cells : ℕ → ℕ → (k : Word) → List (Cell (Held k))
-step_cells hw submitters word.Bio = Number 0 (submitters - 1) (λ b. b.id.submitter) ∷ Number 0 (2 ^ 64 - 1) (λ b. b.id.serial) ∷ Direction (λ b. b.dir)
-    ∷ Number 0 (2 ^ 64 - 1) (λ b. b.first) ∷ Number 0 (2 ^ 64 - 1) (λ b. b.sectors) ∷ []
+step_cells hw submitters word.Bio = bio_cells submitters
 step_cells hw submitters word.Flush = Number 0 (submitters - 1) (λ s. s) ∷ Blank ∷ Blank ∷ Blank ∷ Blank ∷ []
 step_cells hw submitters word.Drain = Number 0 (hw - 1) (λ h. h) ∷ Blank ∷ Blank ∷ Blank ∷ Blank ∷ []
 step_cells hw submitters word.Issue = Number 0 (hw - 1) (λ i. i.0) ∷ Number 0 65535 (λ i. i.1) ∷ Blank ∷ Blank ∷ Blank ∷ []

@@ -1,9 +1,9 @@
 -- The records of a trace.
-use Rattle.std.specs.Prelude.{◌≡◌, ◌≤◌, ◌<◌, ◌^◌, ℕ, List, [], ◌∷◌, length, map, decimal, codes, All}
+use Rattle.std.specs.Prelude.{◌≤◌, ◌<◌, ◌^◌, ℕ, List, [], ◌∷◌, length, map, decimal, codes, All}
 use Rattle.std.specs.List.{flat_map}
 use Rattle.blk_bio.specs.Bios.{Bio, IsBio}
 use Rattle.blk_trace.specs.Setups.{Setup}
-use Rattle.blk_trace.specs.Happened.{Happened, Ticked, Released, Joined, Issued, Finished, Returned}
+use Rattle.blk_trace.specs.Happened.{Happened, Ticked, Released, Joined, Issued, Finished, Returned, DepthSet}
 use Rattle.blk_trace.specs.Traces.{Traced}
 use Rattle.blk_trace.specs.Legal.{IsLegalTrace}
 use Rattle.blk_text.specs.Sources.{Row}
@@ -26,10 +26,11 @@ event_rows (Joined id bios) = group_rows (codes "join") id bios
 event_rows (Issued id tag) = word_row (codes "issue") (decimal id) (decimal tag) ∷ []
 event_rows (Finished tag) = word_row (codes "done") (decimal tag) [] ∷ []
 event_rows (Returned tag) = word_row (codes "back") (decimal tag) [] ∷ []
+event_rows (DepthSet depth) = word_row (codes "depth") (decimal depth) [] ∷ []
 
--- title: blk-trace, 1, depth, hardware queues, number of events, empty
+-- title: blk-trace, 2, depth, hardware queues, number of events, empty
 abbrev pub title_row : Setup → ℕ → Row
-title_row s count = codes "blk-trace" ∷ codes "1" ∷ decimal s.depth ∷ decimal s.hw ∷ decimal count ∷ [] ∷ []
+title_row s count = codes "blk-trace" ∷ codes "2" ∷ decimal s.depth ∷ decimal s.hw ∷ decimal count ∷ [] ∷ []
 
 -- the title, the setup, and the records of each event in turn
 abbrev pub trace_rows : Traced → List Row
@@ -51,13 +52,10 @@ EventFits (Joined id bios) = GroupFits id bios
 EventFits (Issued id tag) = (id < 2 ^ 64) × (tag < 65536)
 EventFits (Finished tag) = tag < 65536
 EventFits (Returned tag) = tag < 65536
+EventFits (DepthSet depth) = depth < 2 ^ 64
 
 -- a trace is legal, and its numbers lie in their ranges
 pub record IsTrace (t : Traced) : Type 0 where
   pub setup : IsWholeSetup t.setup
   pub events : All EventFits t.events
   pub legal : IsLegalTrace t.setup t.events
-
--- the records spell this trace, whatever it is prepared for
-abbrev pub SpellsTrace : List Row → Traced → Type 0
-SpellsTrace rows t = (rows ≡ trace_rows t) × IsTrace t

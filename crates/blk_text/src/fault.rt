@@ -1,6 +1,7 @@
 //! What is wrong with a text, and why one was not written.
 
 use blk_bio::BioFault;
+use blk_trace::TraceRule;
 use thiserror::Error;
 
 /// What is wrong with a record, in the order in which it is looked for.
@@ -24,6 +25,13 @@ pub enum Why {
     /// The bio is refused.
     #[error("{0}")]
     Bio(BioFault),
+    /// A bio of a group has another direction than the one before it, does not begin at its end, or makes the group pass
+    /// the limits.
+    #[error("Tile")]
+    Tile,
+    /// An event breaks this rule of a trace; the record is its first.
+    #[error("{0}")]
+    Rule(TraceRule),
     /// Fewer or more records than announced.
     #[error("Count")]
     Count,

@@ -1,13 +1,15 @@
 //! The fields of a record by what may stand in them.
 
-ghost use Rattle.std.specs.Prelude.{◌≡◌, ◌≢◌, ◌+◌, ◌*◌, ◌<◌, ◌≤◌, ◌^◌, ◌↔◌, ℕ, List, [], ◌∷◌, length, get_or, IsTrue, IfOk, IfErr, IfSome, MatchOption, decimal, codes};
+ghost use Rattle.std.specs.Prelude.{◌≡◌, ◌≢◌, ◌⊎◌, ◌+◌, ◌*◌, ◌<◌, ◌≤◌, ◌^◌, ◌↔◌, ℕ, List, [], ◌∷◌, length, get_or, IsTrue, IfOk, IfErr, IfSome, MatchOption, decimal, codes};
 ghost use Rattle.std.specs.Str.Parse.{AllDigits, digits_value};
 ghost use Rattle.csv.specs.Records.{fields_of};
 ghost use Rattle.blk_text.specs.Fields.{EachField, IsBlank, IsDirection, IsNumber, IsInRange, IsShaped, IsSized, Lacks, NumberOf, IsWithin, EachNumber, FieldSpells, FieldsSpell, WritesNumber, canonical};
+ghost use Rattle.blk_text.specs.BioRecord.{direction_text};
 ghost use Rattle.blk_text.specs.Tables.{IsTitled, IsVersion};
 ghost use Rattle.blk_text.specs.Words.{StartsWith, HasNoWord};
 
 use crate::fault::Why;
+use blk_bio::Dir;
 use csv::ByteRecord;
 
 /// The most fields that a record has.
@@ -26,6 +28,30 @@ pub enum Slot {
     Number { least: u64, most: u64 },
     /// A number up to `most`, one other than 0 perhaps with a minus before it.
     Lateness { most: u64 },
+}
+
+/// Any number.
+pub const ANY: Slot = Slot::Number {
+    least: 0,
+    most: u64::MAX,
+};
+
+/// A tag.
+pub const TAG: Slot = Slot::Number {
+    least: 0,
+    most: 65_535,
+};
+
+/// The direction of a field that is R or W.
+pub fn direction_of(field: &[u8]) -> Dir
+    requires { (field.now ≡ codes "R") ⊎ (field.now ≡ codes "W") }
+    ensures { field.now ≡ direction_text result }
+{
+    if field == b"R".as_slice() {
+        Dir::Read
+    } else {
+        Dir::Write
+    }
 }
 
 /// The field at a place, empty where the record has none.

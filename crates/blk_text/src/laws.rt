@@ -9,7 +9,8 @@ ghost use Rattle.blk_text.specs.Commands.{SpellsCommands, AreCommands, CommandsF
 ghost use Rattle.blk_text.specs.Certificate.{Claim, IsClaim, SpellsClaim, ClaimFault, claim_rows};
 ghost use Rattle.blk_trace.specs.Traces.{Traced};
 ghost use Rattle.blk_text.specs.Script.{Scripted, IsScript, IsScriptOf, SpellsScript, SpellsVersion, ScriptFault, script_rows};
-ghost use Rattle.blk_text.specs.TraceRecords.{trace_rows, IsTrace, SpellsTrace};
+ghost use Rattle.blk_text.specs.TraceRecords.{trace_rows, IsTrace};
+ghost use Rattle.blk_text.specs.TraceForm.{trace_form, trace_value, IsTraceOf, SpellsTraceIn, SpellsTrace, TraceFault};
 ghost use Rattle.blk_text.specs.declared.fault.Why.{Why as AWhy};
 
 /// A list of records spells one depth and one list of commands at most.
@@ -95,14 +96,28 @@ pub fn a_script_has_one_fault()
         → ScriptFault rows at w → ScriptFault rows other v → (at ≡ other) × (w ≡ v) }
 {}
 
-/// A list of records spells one legal trace at most: one setup and one list of events.
+/// A list of records spells one trace at most, one setup and one list of events, and in one version.
 pub fn traces_are_spelled_once()
-    ensures { (rows : List Row) → (t u : Traced) → SpellsTrace rows t → SpellsTrace rows u
-        → (t.setup ≡ u.setup) × (t.events ≡ u.events) }
+    ensures { (rows : List Row) → (version other : ℕ) → (t u : Traced) → SpellsTraceIn version rows t → SpellsTraceIn other rows u
+        → (version ≡ other) × (t.setup ≡ u.setup) × (t.events ≡ u.events) }
 {}
 
-/// The text of a trace reads back as its records, which spell it where it is legal.
+/// The text of a trace reads back as its records, which spell it where it is legal: that which is written, and that in a
+/// version that has its tags and its events.
 pub fn traces_read_back()
     ensures rows { (t : Traced) → records default_config (strip_bom (rows_text (trace_rows t))) ≡ trace_rows t }
-    ensures spell { (t : Traced) → IsTrace t → SpellsTrace (records default_config (strip_bom (rows_text (trace_rows t)))) t }
+    ensures spell { (t : Traced) → IsTrace t → SpellsTrace (trace_rows t) t }
+    ensures versions { (version : ℕ) → (t : Traced) → IsTrace t → IsTraceOf version t
+        → SpellsTraceIn version (records default_config (strip_bom (rows_text (trace_form.rows_of (trace_value version t))))) t }
+{}
+
+/// Records that spell a trace have no fault.
+pub fn spelled_traces_have_no_fault()
+    ensures { (rows : List Row) → (t : Traced) → (at : ℕ) → (w : AWhy) → SpellsTrace rows t → TraceFault rows at w → ⊥ }
+{}
+
+/// Records have one first fault as a trace at most.
+pub fn a_trace_has_one_fault()
+    ensures { (rows : List Row) → (at other : ℕ) → (w v : AWhy)
+        → TraceFault rows at w → TraceFault rows other v → (at ≡ other) × (w ≡ v) }
 {}

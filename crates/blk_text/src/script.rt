@@ -12,7 +12,9 @@ ghost use Rattle.blk_text.specs.declared.fields.Slot.TheVariants as slot;
 ghost use Rattle.blk_text.specs.declared.script.Word.{Word as AWord};
 
 use crate::fault::{TextFault, Why};
-use crate::fields::{Slot, WIDTH, field, parse_number, read_fields, version_of, without_word};
+use crate::fields::{
+    ANY, Slot, TAG, WIDTH, direction_of, field, parse_number, read_fields, version_of, without_word,
+};
 use crate::items::{LineForm, read_line, read_lines};
 use crate::setup::{SetupForm, most_depth};
 use crate::source::Records;
@@ -106,18 +108,6 @@ fn word_named(version: u64, field: &[u8]) -> Option<Word>
     }
 }
 
-/// The direction of a field that is R or W.
-fn direction_of(field: &[u8]) -> Dir
-    requires { (field.now ≡ codes "R") ⊎ (field.now ≡ codes "W") }
-    ensures { field.now ≡ direction_text result }
-{
-    if field == b"R".as_slice() {
-        Dir::Read
-    } else {
-        Dir::Write
-    }
-}
-
 /// The numbers of a script's title.
 #[derive(Clone, Copy, Debug, PartialEq, Eq)]
 pub(crate) struct Title {
@@ -137,11 +127,6 @@ pub(crate) struct StepForm {
     ghost submitters_in: { (1 ≤ submitters) × (submitters ≤ 64) },
 }
 
-const ANY: Slot = Slot::Number {
-    least: 0,
-    most: u64::MAX,
-};
-
 /// The slots of the steps that begin with a word.
 fn step_slots(form: &StepForm, word: Word) -> [Slot; WIDTH]
     ensures { result ≡ slot.Given ∷ slots_by (step_cells form.now.hw form.now.submitters word) }
@@ -154,10 +139,6 @@ fn step_slots(form: &StepForm, word: Word) -> [Slot; WIDTH]
         least: 0,
         most: form.hw as u64 - 1,
     };
-    let tag = Slot::Number {
-        least: 0,
-        most: 65_535,
-    };
     let rounds = Slot::Number {
         least: 1,
         most: 1_000_000,
@@ -167,9 +148,9 @@ fn step_slots(form: &StepForm, word: Word) -> [Slot; WIDTH]
         Word::Bio => [Slot::Given, submitter, ANY, Slot::Direction, ANY, ANY],
         Word::Flush => [Slot::Given, submitter, none, none, none, none],
         Word::Drain => [Slot::Given, hw, none, none, none, none],
-        Word::Issue => [Slot::Given, hw, tag, none, none, none],
-        Word::Done => [Slot::Given, tag, none, none, none, none],
-        Word::Back => [Slot::Given, tag, none, none, none, none],
+        Word::Issue => [Slot::Given, hw, TAG, none, none, none],
+        Word::Done => [Slot::Given, TAG, none, none, none, none],
+        Word::Back => [Slot::Given, TAG, none, none, none, none],
         Word::Depth => [Slot::Given, ANY, none, none, none, none],
         Word::Tick => [Slot::Given, none, none, none, none, none],
         Word::Run => [Slot::Given, rounds, none, none, none, none],

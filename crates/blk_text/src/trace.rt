@@ -9,7 +9,8 @@ ghost use Rattle.blk_text.specs.BioRecord.{bio_row, direction_text};
 ghost use Rattle.blk_text.specs.Cells.{IsPlainWord};
 ghost use Rattle.blk_text.specs.Drafts.{drafted};
 ghost use Rattle.blk_text.specs.SetupRecord.{setup_row, IsWholeSetup};
-ghost use Rattle.blk_text.specs.TraceRecords.{word_row, group_rows, event_rows, title_row, trace_rows, BioFits, EventFits, IsTrace, SpellsTrace};
+ghost use Rattle.blk_text.specs.TraceRecords.{word_row, group_rows, event_rows, title_row, trace_rows, BioFits, EventFits, IsTrace};
+ghost use Rattle.blk_text.specs.TraceForm.{SpellsTrace};
 
 use crate::block::{Block, write_whole};
 use crate::fault::WriteFault;
@@ -87,6 +88,19 @@ fn push_back(draft: &mut Block, tag: u16) -> Result<(), AllocError>
     Ok(())
 }
 
+/// Adds the record of a depth that is set.
+#[inline]
+fn push_depth(draft: &mut Block, depth: u64) -> Result<(), AllocError>
+    ensures text { OnOk result (drafted draft.new ≡ drafted draft.old ++ rows_text (word_row (codes "depth") (decimal depth) [] ∷ [])) }
+{
+    let start = draft.room()?;
+    let buf = &mut draft.block;
+    let head = put(b"depth,", buf, start);
+    let end = put_number(depth, buf, head);
+    draft.at = put(b",,,,\n", buf, end);
+    Ok(())
+}
+
 /// Adds the record of the end of a round.
 #[inline]
 fn push_tick(draft: &mut Block) -> Result<(), AllocError>
@@ -124,6 +138,7 @@ fn push_event<A: Allocator + Clone>(draft: &mut Block, event: &Event<A>) -> Resu
         Event::Issue { id, tag } => push_numbers(draft, b"issue", *id, *tag as u64),
         Event::Done { tag } => push_done(draft, *tag),
         Event::Back { tag } => push_back(draft, *tag),
+        Event::Depth { depth } => push_depth(draft, *depth),
     }
 }
 
@@ -133,7 +148,7 @@ fn push_title(draft: &mut Block, setup: &Setup, count: u64) -> Result<(), AllocE
 {
     let start = draft.room()?;
     let buf = &mut draft.block;
-    let head = put(b"blk-trace,1,", buf, start);
+    let head = put(b"blk-trace,2,", buf, start);
     let queues = put_two(setup.depth(), setup.hw() as u64, buf, head);
     let mark = put(b",", buf, queues);
     let end = put_number(count, buf, mark);
@@ -173,7 +188,7 @@ fn trace_text<A: Allocator + Clone>(alloc: Global, trace: &Trace<A>) -> Result<V
     draft.finish()
 }
 
-/// Writes the text of a trace, at once where all of it could be made: records of six fields, a title,
+/// Writes the text of a trace, in version 2, at once where all of it could be made: records of six fields, a title,
 /// a setup, and the records of each event, those of a group's bios after its own in tile order.
 ///
 /// [`WriteFault::Write`]: the writer answered a fault; what it took before is out, and nothing says

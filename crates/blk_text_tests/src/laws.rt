@@ -18,4 +18,6 @@ fn laws_hold() {
     laws::a_script_has_one_fault();
     laws::traces_are_spelled_once();
     laws::traces_read_back();
+    laws::spelled_traces_have_no_fault();
+    laws::a_trace_has_one_fault();
 }

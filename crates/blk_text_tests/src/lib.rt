@@ -9,3 +9,5 @@ mod laws;
 mod streams;
 #[cfg(test)]
 mod texts;
+#[cfg(test)]
+mod traces;

@@ -140,7 +140,8 @@ fn steps_of_a_script(rt: HostRuntime) {
 
 #[test]
 fn steps_of_version_2(rt: HostRuntime) {
-    let text = "blk-script,2,64,1,4,1\nsetup,0,9,256,128,\nback,65535,,,,\ndepth,0,,,,\ndepth,18446744073709551615,,,,\n";
+    let text =
+        "blk-script,2,64,1,4,1\nsetup,0,9,256,128,\nback,65535,,,,\ndepth,0,,,,\ndepth,18446744073709551615,,,,\n";
     let records = &mut Records::new(rt.alloc(), text.as_bytes());
     let script = read_script(rt.alloc(), records).expect(&rt, "refused");
     assert_eq!(rt; script.setup.depth(), 64);
@@ -171,7 +172,7 @@ pub fn joined_trace(rt: &impl Abort, alloc: Global) -> Trace {
 
 /// Its text.
 pub const JOINED: &str =
-    "blk-trace,1,1,1,5,\nsetup,0,9,256,128,\nrelease,0,2,,,\nbio,1,100,R,100,8\nbio,1,101,R,108,8\njoin,0,1,,,\nbio,1,116,R,116,8\nissue,0,0,,,\ndone,0,,,,\ntick,,,,,\n";
+    "blk-trace,2,1,1,5,\nsetup,0,9,256,128,\nrelease,0,2,,,\nbio,1,100,R,100,8\nbio,1,101,R,108,8\njoin,0,1,,,\nbio,1,116,R,116,8\nissue,0,0,,,\ndone,0,,,,\ntick,,,,,\n";
 
 #[test]
 fn groups_and_joins_are_written(rt: HostRuntime) {

@@ -4,7 +4,7 @@ use Rattle.std.specs.Prelude.{◌⊎◌}
 use Rattle.std.proofs.lemmas.List.{length-append}
 use Rattle.parts.specs.declared.Repeats.{Repeats}
 use Rattle.parts.specs.declared.Repeats.TheVariants as repeats
-use Rattle.parts.specs.Parts.{Part, Begins, IsReached, after, all_rows, AllFit, IsCount, Stops, GoesOn, GoodBefore, most_of, many, over, lines}
+use Rattle.parts.specs.Parts.{Part, Begins, IsReached, after, all_rows, AllFit, IsCount, Stops, GoesOn, GoodBefore, most_of, many, over, ended}
 use Rattle.parts.specs.Laws.{Tells, Either, Decides, IsPlain}
 use Rattle.parts.proofs.Then.{then_tells, then_decides, over_tells, over_decides, seen_tells, seen_decides, at_first, seen_reached, reached_first, reached_second}
 
@@ -246,16 +246,16 @@ reached_many {R} {E} {S} {V} x q next t plain some s rows rest vs at f e on r = 
 
 -- items and then the end
 
-pub lines_tells : {R E S V : Type 0} (x : Repeats) (why : E) (q : S → Part R E V) (next : S → V → S) → ((s : S) → Tells (q s)) → ((s : S) → IsPlain (q s)) → HasRows q → (s : S)
-    → Tells (lines x why q next s)
-lines_tells x why q next t plain some s =
+pub ended_tells : {R E S V W : Type 0} (x : Repeats) (why : E) (q : S → Part R E V) (past : S → Part R E W) (next : S → V → S) → ((s : S) → Tells (q s)) → ((s : S) → IsPlain (q s)) → HasRows q → ((s : S) → Tells (past s)) → (s : S)
+    → Tells (ended x why q past next s)
+ended_tells x why q past next t plain some u s =
     seen_tells _ _ (λ u z e. (let r : u ≡ z = ap (λ y. y.0) e in r))
-    (then_tells (many x q next s) (λ vs. over why (q (after next s vs))) (many_tells x q next t plain some s) (λ vs fit. over_tells why (q (after next s vs)) (t (after next s vs))))
+    (then_tells (many x q next s) (λ vs. over why (past (after next s vs))) (many_tells x q next t plain some s) (λ vs fit. over_tells why (past (after next s vs)) (u (after next s vs))))
 
-pub lines_decides : {R E S V : Type 0} (x : Repeats) (why : E) (q : S → Part R E V) (next : S → V → S) → ((s : S) → Decides (q s)) → (s : S) → Decides (lines x why q next s)
-lines_decides x why q next d s =
+pub ended_decides : {R E S V W : Type 0} (x : Repeats) (why : E) (q : S → Part R E V) (past : S → Part R E W) (next : S → V → S) → ((s : S) → Decides (q s)) → ((s : S) → Decides (past s)) → (s : S) → Decides (ended x why q past next s)
+ended_decides x why q past next d u s =
     seen_decides _ _ (λ v fit. (v.0, refl))
-    (then_decides (many x q next s) (λ vs. over why (q (after next s vs))) (many_decides x q next d s) (λ vs fit. over_decides why (q (after next s vs)) (d (after next s vs))))
+    (then_decides (many x q next s) (λ vs. over why (past (after next s vs))) (many_decides x q next d s) (λ vs fit. over_decides why (past (after next s vs)) (u (after next s vs))))
 
 less : (a b : ℕ) → a ≤ b → (a < b) ⊎ (a ≡ b)
 less a b h = grind arith
@@ -273,11 +273,11 @@ over_or_on (repeats.Exactly n) c rest l = elim (less c n l) [
 ]
 
 -- the record at which an item begins after good ones is reached
-pub lines_reached : {R E S V : Type 0} (x : Repeats) (why : E) (q : S → Part R E V) (next : S → V → S) → ((s : S) → Tells (q s)) → ((s : S) → IsPlain (q s)) → HasRows q → (s : S)
-    → (rows : List R) (at : ℕ) → GoodBefore x q next s rows at → IsReached (lines x why q next s) rows at
-lines_reached {R} {E} {S} {V} x why q next t plain some s rows at b = rw b.5 (elim (over_or_on x (length b.0) b.1 b.4) [
-  | inl o ↦ seen_reached (λ vs. (vs, tt)) _ rows _ (reached_second (many x q next s) (λ vs. over why (q (after next s vs))) (many_tells x q next t plain some s) rows b.1 b.0 1
-      (record { fits = (b.2, o.0); made = b.3; follows = o.1 }) (at_first _ (over_tells why (q (after next s b.0)) (t (after next s b.0))) b.1))
-  | inr on ↦ seen_reached (λ vs. (vs, tt)) _ rows _ (reached_first (many x q next s) (λ vs. over why (q (after next s vs))) (λ vs fit. over_tells why (q (after next s vs)) (t (after next s vs))) rows _
+pub ended_reached : {R E S V W : Type 0} (x : Repeats) (why : E) (q : S → Part R E V) (past : S → Part R E W) (next : S → V → S) → ((s : S) → Tells (q s)) → ((s : S) → IsPlain (q s)) → HasRows q → ((s : S) → Tells (past s)) → (s : S)
+    → (rows : List R) (at : ℕ) → GoodBefore x q next s rows at → IsReached (ended x why q past next s) rows at
+ended_reached {R} {E} {S} {V} x why q past next t plain some u s rows at b = rw b.5 (elim (over_or_on x (length b.0) b.1 b.4) [
+  | inl o ↦ seen_reached (λ vs. (vs, tt)) _ rows _ (reached_second (many x q next s) (λ vs. over why (past (after next s vs))) (many_tells x q next t plain some s) rows b.1 b.0 1
+      (record { fits = (b.2, o.0); made = b.3; follows = o.1 }) (at_first _ (over_tells why (past (after next s b.0)) (u (after next s b.0))) b.1))
+  | inr on ↦ seen_reached (λ vs. (vs, tt)) _ rows _ (reached_first (many x q next s) (λ vs. over why (past (after next s vs))) (λ vs fit. over_tells why (past (after next s vs)) (u (after next s vs))) rows _
       (reached_many x q next t plain some s rows b.1 b.0 1 b.2 b.3 on (at_first _ (t (after next s b.0)) b.1)))
 ])

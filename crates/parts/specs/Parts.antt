@@ -142,9 +142,13 @@ abbrev pub GoodBefore : {R E S V : Type 0} → Repeats → (S → Part R E V) �
 GoodBefore {R} {E} {S} {V} x q next s rows at = (vs : List V) × (rest : List R) × AllFit q next s vs × (rows ≡ all_rows q next s vs ++ rest)
     × (length vs ≤ most_of x) × (at ≡ length (all_rows q next s vs) + 1)
 
--- items and then the end of the text
+-- items and then the end of the text, where what comes after them is looked at as `past` before it is one item too many
+abbrev pub ended : {R E S V W : Type 0} → Repeats → E → (S → Part R E V) → (S → Part R E W) → (S → V → S) → S → Part R E (List V)
+ended x why q past next s = seen_as (λ vs. (vs, tt)) (then (many x q next s) (λ vs. over why (past (after next s vs))))
+
+-- items and then the end of the text, where one more is looked at as the others are
 abbrev pub lines : {R E S V : Type 0} → Repeats → E → (S → Part R E V) → (S → V → S) → S → Part R E (List V)
-lines x why q next s = seen_as (λ vs. (vs, tt)) (then (many x q next s) (λ vs. over why (q (after next s vs))))
+lines x why q next s = ended x why q q next s
 
 -- all records are those of a value
 abbrev pub Spells : {R E V : Type 0} → Part R E V → List R → V → Type 0

@@ -1,0 +1,340 @@
+-- The laws of the events of a trace, and of whole traces.
+use Rattle.std.proofs.Common.{◌≡◌, ◌==◌, ◌+◌, ◌<◌, ◌≤◌, ◌∙◌, ℕ, List, [], ◌∷◌, length, refl, sym, ap, subst, inl, inr, arith, codes, Bool, true, false, Option, Some, None}
+use Rattle.std.specs.Prelude.{◌⊎◌, IfSome, Err, if◌then◌else◌}
+use Rattle.blk_bio.specs.Bios.{Bio}
+use Rattle.blk_bio.specs.Limits.{Limits}
+use Rattle.blk_trace.specs.Happened.{Happened, Ticked, Released, Joined, Issued, Finished, Returned, DepthSet}
+use Rattle.blk_trace.specs.Rules.{IsFirstBroken, IsUnbroken, rank}
+use Rattle.blk_trace.specs.declared.rule.TraceRule.{TraceRule}
+use Rattle.blk_trace.specs.declared.rule.TraceRule.TheVariants as rule
+use Rattle.blk_trace.specs.declared.setup.TheConstants.{MAX_DEPTH}
+use Rattle.blk_trace.specs.Setups.{Setup}
+use Rattle.blk_trace.specs.Traces.{Traced, IsPushAnswer}
+use Rattle.blk_trace.specs.declared.rule.PushFault.{PushFault}
+use Rattle.blk_trace.specs.declared.rule.PushFault.TheVariants as push_fault
+use Rattle.blk_text.specs.Sources.{Row, Takes}
+use Rattle.blk_text.specs.Reads.{IsOutside, IsOne, IsLine, IsWrongLine, Reads, HandReads, HandFails, Fails, AreGathered, IsStopped, repeated, size_of, with_next}
+use Rattle.blk_text.specs.SetupRecord.{most_depth, setup}
+use Rattle.blk_text.specs.Tables.{FitsBy, slots_by}
+use Rattle.blk_text.specs.TraceForm.{first_record, bios_after, group, told, plain_event, BreaksRule, event, alone, one_more, IsPast, refusal_of, IsRefused, events_of, trace_cells, IsTraceTitle, latest, title, trace_body, trace_form}
+use Rattle.blk_text.specs.declared.fault.Why.{Why}
+use Rattle.blk_text.specs.declared.fault.Why.TheVariants as why
+use Rattle.blk_text.specs.declared.fields.Slot.TheVariants as slot
+use Rattle.blk_text.specs.declared.heads.Head.{Head}
+use Rattle.blk_text.specs.declared.heads.Head.TheVariants as head
+use Rattle.blk_text.specs.declared.heads.TraceTitle.{TraceTitle}
+use Rattle.parts.specs.declared.Repeats.TheVariants as repeats
+use Rattle.parts.specs.Parts.{Part, Begins}
+use Rattle.parts.specs.Parts.{then as in_turn}
+use Rattle.parts.specs.Laws.{Tells, IsPlain}
+use Rattle.parts.proofs.Then.{seen_tells, then_tells, tested_tells, both_begin}
+use Rattle.parts.proofs.Many.{HasRows, ended_tells}
+use Rattle.blk_text.proofs.Reading.{outside_fails, many_fails, many_ends, full_ends, past_wrong, full_stopped}
+use Rattle.blk_text.proofs.TableLaws.{IsTable, title_part}
+use Rattle.blk_text.proofs.ScriptLaws.{fewer_tags, setup_one}
+use Rattle.blk_text.proofs.HeadLaws.{head_tells, head_gone}
+use Rattle.blk_text.proofs.GroupLaws.{group_tells, group_size}
+
+-- the event of a first record and bios
+back : Head × List Bio → Happened
+back (head.Tick, bios) = Ticked
+back (head.Release id count, bios) = Released id bios
+back (head.Join id count, bios) = Joined id bios
+back (head.Issue id tag, bios) = Issued id tag
+back (head.Done tag, bios) = Finished tag
+back (head.Back tag, bios) = Returned tag
+back (head.Depth depth, bios) = DepthSet depth
+
+back_is : (e : Happened) → back (told e) ≡ e
+unfolding back
+back_is Ticked = refl
+back_is (Released id bios) = refl
+back_is (Joined id bios) = refl
+back_is (Issued id tag) = refl
+back_is (Finished tag) = refl
+back_is (Returned tag) = refl
+back_is (DepthSet depth) = refl
+
+pub plain_tells : (version : ℕ) (limits : Limits) → Tells (plain_event version limits)
+plain_tells version limits = seen_tells told (in_turn (first_record version) (λ h. group version limits (bios_after h))) (λ e f same. sym (back_is e) ∙ ap back same ∙ back_is f)
+    (then_tells (first_record version) (λ h. group version limits (bios_after h)) (head_tells version) (λ h fit. group_tells version limits (bios_after h)))
+
+-- rules
+
+abbrev rule_at : ℕ → TraceRule
+rule_at n =
+    if n == 1 then rule.ReleasedTwice
+    else if n == 2 then rule.Unknown
+    else if n == 3 then rule.AlreadyIssued
+    else if n == 4 then rule.BioTwice
+    else if n == 5 then rule.Fit
+    else if n == 6 then rule.TagRange
+    else if n == 7 then rule.TagUsed
+    else if n == 8 then rule.NotIssued
+    else if n == 9 then rule.InFlight
+    else if n == 10 then rule.TooLong
+    else rule.DepthRange
+
+rule_is : (r : TraceRule) → rule_at (rank r) ≡ r
+rule_is rule.ReleasedTwice = refl
+rule_is rule.Unknown = refl
+rule_is rule.AlreadyIssued = refl
+rule_is rule.BioTwice = refl
+rule_is rule.Fit = refl
+rule_is rule.TagRange = refl
+rule_is rule.TagUsed = refl
+rule_is rule.NotIssued = refl
+rule_is rule.InFlight = refl
+rule_is rule.TooLong = refl
+rule_is rule.DepthRange = refl
+
+three : (a b : ℕ) → (a < b) ⊎ (a ≡ b) ⊎ (b < a)
+three a b = grind arith
+
+one_rule : (setup : Setup) (before : List Happened) (e : Happened) (r s : TraceRule) → IsFirstBroken setup before e r → IsFirstBroken setup before e s → r ≡ s
+one_rule setup before e r s f g = by_cases (three (rank r) (rank s))
+  where
+    by_cases : (rank r < rank s) ⊎ (rank r ≡ rank s) ⊎ (rank s < rank r) → r ≡ s
+    by_cases (inl l) = absurd (f.broken (g.first r l))
+    by_cases (inr (inl same)) = sym (rule_is r) ∙ ap rule_at same ∙ rule_is s
+    by_cases (inr (inr l)) = absurd (g.broken (f.first s l))
+
+breaks_once : (setup : Setup) (before : List Happened) (e : Happened) (k j : ℕ) (w x : Why) → BreaksRule setup before e k w → BreaksRule setup before e j x → (k ≡ j) × (w ≡ x)
+breaks_once setup before e k j w x f g = (f.0 ∙ sym g.0, f.1.1 ∙ ap why.Rule (one_rule setup before e f.1.0 g.1.0 f.1.2 g.1.2) ∙ sym g.1.1)
+
+pub event_tells : (version : ℕ) (setup : Setup) (before : List Happened) → Tells (event version setup before)
+event_tells version setup before = tested_tells (plain_event version setup.limits) (IsUnbroken setup before) (BreaksRule setup before) (plain_tells version setup.limits)
+    (λ e k j w x fit f g. breaks_once setup before e k j w x f g)
+    (λ e k w good f. f.1.2.broken (good f.1.0))
+    (λ e k w f. (let is = f.0 in (omega (arith, is), omega (arith, is))))
+
+pub event_plain : (version : ℕ) (setup : Setup) (before : List Happened) → IsPlain (event version setup before)
+event_plain version setup before e rest fit = (tt, fit.0.1.1)
+
+pub event_rows : (version : ℕ) (setup : Setup) → HasRows {S = List Happened} (event version setup)
+event_rows version setup s e fit z = cc z
+
+-- one event more
+
+some_same : (a b : Happened) → Some a ≡ Some b → a ≡ b
+some_same a b e = cc e
+
+alone_good : (setup : Setup) (before : List Happened) (o : Option Happened) (e : Happened) → IfSome o (IsUnbroken setup before) → o ≡ Some e → IsUnbroken setup before e
+alone_good setup before o e good is = rw is at good
+
+pub more_tells : (version : ℕ) (setup : Setup) (before : List Happened) → Tells (one_more version setup before)
+more_tells version setup before =
+    tested_tells (first_record version) (λ h. IfSome (alone h) (IsUnbroken setup before)) (λ h k w. (e : Happened) × (alone h ≡ Some e) × BreaksRule setup before e k w) (head_tells version)
+    (λ h k j w x fit f g. (let same = some_same f.0 g.0 (sym f.1 ∙ g.1) in breaks_once setup before g.0 k j w x (rw same at f.2) g.2))
+    (λ h k w good f. f.2.1.2.broken (alone_good setup before (alone h) f.0 good f.1 f.2.1.0))
+    (λ h k w f. (let is = f.2.0 in (omega (arith, is), omega (arith, is))))
+
+pub events_tell : (version : ℕ) (setup : Setup) (count : ℕ) → Tells (events_of version setup count)
+events_tell version setup count =
+    ended_tells (repeats.Exactly count) why.Count (event version setup) (one_more version setup) with_next (event_tells version setup) (event_plain version setup) (event_rows version setup) (more_tells version setup) []
+
+pub event_gone : (version : ℕ) (setup : Setup) (before : List Happened) → (event version setup before).Wrong [] 1 why.Count
+event_gone version setup before = inl (inl (head_gone version))
+
+-- whole traces
+
+pub title_fits : (version : ℕ) (t : TraceTitle) → FitsBy (trace_cells version) t → IsTraceTitle version t
+title_fits version t f = record { depth = f.0; hw = f.1.0; count = f.1.1.0.1 }
+
+pub title_table : (version : ℕ) → IsTable (trace_cells version) (IsTraceTitle version)
+title_table version = record {
+  sized = (omega (arith, fewer_tags version), (omega arith, (omega arith, (tt, tt))));
+  within = λ t i. (i.depth, (i.hw, ((omega arith, i.count), (tt, tt))));
+  made = λ x. record { depth = x.0; hw = x.1.0; count = x.1.1.0 };
+  back = λ t i. refl;
+  forth = λ x. refl;
+  fits = λ x f. title_fits version _ f;
+}
+
+-- the slots of a title, by its greatest depth
+pub title_slots : (version depth : ℕ) → depth ≡ most_depth version
+    → slot.Given ∷ slot.Given ∷ slot.Number 1 depth ∷ slot.Number 1 16 ∷ slot.Number 0 1_000_000 ∷ slot.Blank ∷ [] ≡ slot.Given ∷ slot.Given ∷ slots_by (trace_cells version)
+title_slots version depth e = ap (λ n. slot.Given ∷ slot.Given ∷ slot.Number 1 n ∷ slot.Number 1 16 ∷ slot.Number 0 1_000_000 ∷ slot.Blank ∷ []) e
+
+pub title_one : IsOne title
+title_one = record { tells = title_part (codes "blk-trace") latest trace_cells IsTraceTitle (omega arith) title_table; plain = λ t rest f. tt; one = λ t. refl }
+
+-- the depth of a title is one of a setup
+pub setup_depth : (t : ℕ × TraceTitle) → IsTraceTitle t.0 t.1 → (0 < t.1.depth) × (t.1.depth ≤ MAX_DEPTH)
+setup_depth t i = let high = i.depth.1 in (i.depth.0, omega (arith, high, fewer_tags t.0))
+
+pub body_tells : (t : ℕ × TraceTitle) → IsTraceTitle t.0 t.1 → Tells (trace_body t)
+body_tells t i = then_tells (setup t.1.depth t.1.hw) (λ s. events_of t.0 s t.1.count) (setup_one t.1.depth t.1.hw (setup_depth t i) i.hw).tells (λ s fit. events_tell t.0 s t.1.count)
+
+pub trace_tells : Tells trace_form
+trace_tells = then_tells title trace_body title_one.tells (λ t fit. body_tells t fit.1)
+
+-- what was read of an event
+
+pub head_fails : (version : ℕ) (limits : Limits) (failed : Bool) (left : Option (List Row)) (row : Row) (start at : ℕ) (w : Why) → IsWrongLine (first_record version) row w → at ≡ start
+    → HandFails failed (plain_event version limits) left row start at w
+head_fails version limits failed None row start at w h e = tt
+head_fails version limits failed (Some rows) row start at w h e = inr (1, omega (arith, e), inl (h rows))
+
+-- of one record
+pub alone_line : (version : ℕ) (limits : Limits) (h : Head) (e : Happened) (row : Row) → alone h ≡ Some e → IsLine (first_record version) row h → IsLine (plain_event version limits) row e
+alone_line version limits head.Tick e row is l = subst (λ z. IsLine (plain_event version limits) row z) (some_same _ _ is) (λ rest. record { fits = ((l rest).fits, (tt, refl)); made = (l rest).made; follows = (tt, refl) })
+alone_line version limits (head.Release id bios) e row is l = absurd (cc is)
+alone_line version limits (head.Join id bios) e row is l = absurd (cc is)
+alone_line version limits (head.Issue id tag) e row is l = subst (λ z. IsLine (plain_event version limits) row z) (some_same _ _ is) (λ rest. record { fits = ((l rest).fits, (tt, refl)); made = (l rest).made; follows = (tt, refl) })
+alone_line version limits (head.Done tag) e row is l = subst (λ z. IsLine (plain_event version limits) row z) (some_same _ _ is) (λ rest. record { fits = ((l rest).fits, (tt, refl)); made = (l rest).made; follows = (tt, refl) })
+alone_line version limits (head.Back tag) e row is l = subst (λ z. IsLine (plain_event version limits) row z) (some_same _ _ is) (λ rest. record { fits = ((l rest).fits, (tt, refl)); made = (l rest).made; follows = (tt, refl) })
+alone_line version limits (head.Depth depth) e row is l = subst (λ z. IsLine (plain_event version limits) row z) (some_same _ _ is) (λ rest. record { fits = ((l rest).fits, (tt, refl)); made = (l rest).made; follows = (tt, refl) })
+
+pub alone_size : (version : ℕ) (limits : Limits) (h : Head) (e : Happened) → alone h ≡ Some e → length ((plain_event version limits).rows_of e) ≡ 1
+alone_size version limits head.Tick e is = subst (λ z. length ((plain_event version limits).rows_of z) ≡ 1) (some_same _ _ is) refl
+alone_size version limits (head.Release id bios) e is = absurd (cc is)
+alone_size version limits (head.Join id bios) e is = absurd (cc is)
+alone_size version limits (head.Issue id tag) e is = subst (λ z. length ((plain_event version limits).rows_of z) ≡ 1) (some_same _ _ is) refl
+alone_size version limits (head.Done tag) e is = subst (λ z. length ((plain_event version limits).rows_of z) ≡ 1) (some_same _ _ is) refl
+alone_size version limits (head.Back tag) e is = subst (λ z. length ((plain_event version limits).rows_of z) ≡ 1) (some_same _ _ is) refl
+alone_size version limits (head.Depth depth) e is = subst (λ z. length ((plain_event version limits).rows_of z) ≡ 1) (some_same _ _ is) refl
+
+-- of a group: its first record and its bios
+abbrev grouped : ℕ → Limits → Part Row Why (Head × List Bio)
+grouped version limits = in_turn (first_record version) (λ h. group version limits (bios_after h))
+
+group_begins : (version : ℕ) (limits : Limits) (h : Head) (bios : List Bio) (row : Row) (rows rest : List Row) → IsLine (first_record version) row h → Begins (group version limits (bios_after h)) rows bios rest
+    → Begins (grouped version limits) (row ∷ rows) (h, bios) rest
+group_begins version limits h bios row rows rest l b = both_begin (first_record version) (λ h. group version limits (bios_after h)) (row ∷ rows) rows h bios rest (l rows) b
+
+pub release_reads : (version : ℕ) (limits : Limits) (id n : ℕ) (bios : List Bio) (left new : Option (List Row)) (row : Row) → length bios ≡ n → IsLine (first_record version) row (head.Release id n)
+    → Reads (group version limits n) left new bios → HandReads (plain_event version limits) left row new (Released id bios)
+release_reads version limits id n bios None new row e l b = tt
+release_reads version limits id n bios (Some rows) new row e l b =
+    let line : IsLine (first_record version) row (head.Release id (length bios)) = subst (λ m. IsLine (first_record version) row (head.Release id m)) (sym e) l in
+    let bs : Begins (group version limits (length bios)) rows bios b.0 = subst (λ m. Begins (group version limits m) rows bios b.0) (sym e) b.2 in
+    let k = group_begins version limits (head.Release id (length bios)) bios row rows b.0 line bs in
+    (b.0, b.1, record { fits = k.fits; made = k.made; follows = k.follows })
+
+pub join_reads : (version : ℕ) (limits : Limits) (id n : ℕ) (bios : List Bio) (left new : Option (List Row)) (row : Row) → length bios ≡ n → IsLine (first_record version) row (head.Join id n)
+    → Reads (group version limits n) left new bios → HandReads (plain_event version limits) left row new (Joined id bios)
+join_reads version limits id n bios None new row e l b = tt
+join_reads version limits id n bios (Some rows) new row e l b =
+    let line : IsLine (first_record version) row (head.Join id (length bios)) = subst (λ m. IsLine (first_record version) row (head.Join id m)) (sym e) l in
+    let bs : Begins (group version limits (length bios)) rows bios b.0 = subst (λ m. Begins (group version limits m) rows bios b.0) (sym e) b.2 in
+    let k = group_begins version limits (head.Join id (length bios)) bios row rows b.0 line bs in
+    (b.0, b.1, record { fits = k.fits; made = k.made; follows = k.follows })
+
+pub release_fits : (version : ℕ) (limits : Limits) (id n : ℕ) (bios : List Bio) (row : Row) → IsLine (first_record version) row (head.Release id n) → (group version limits n).Fits bios → (plain_event version limits).Fits (Released id bios)
+release_fits version limits id n bios row l f =
+    let line : IsLine (first_record version) row (head.Release id (length bios)) = subst (λ m. IsLine (first_record version) row (head.Release id m)) (sym f.1) l in
+    ((line []).fits, (f.0, refl))
+
+pub join_fits : (version : ℕ) (limits : Limits) (id n : ℕ) (bios : List Bio) (row : Row) → IsLine (first_record version) row (head.Join id n) → (group version limits n).Fits bios → (plain_event version limits).Fits (Joined id bios)
+join_fits version limits id n bios row l f =
+    let line : IsLine (first_record version) row (head.Join id (length bios)) = subst (λ m. IsLine (first_record version) row (head.Join id m)) (sym f.1) l in
+    ((line []).fits, (f.0, refl))
+
+pub release_size : (version : ℕ) (limits : Limits) (id : ℕ) (bios : List Bio) → length ((plain_event version limits).rows_of (Released id bios)) ≡ length bios + 1
+release_size version limits id bios = let size = group_size version limits (length bios) bios in omega (arith, size)
+
+pub join_size : (version : ℕ) (limits : Limits) (id : ℕ) (bios : List Bio) → length ((plain_event version limits).rows_of (Joined id bios)) ≡ length bios + 1
+join_size version limits id bios = let size = group_size version limits (length bios) bios in omega (arith, size)
+
+-- where a group is wrong
+pub group_fails : (version : ℕ) (limits : Limits) (h : Head) (failed : Bool) (left : Option (List Row)) (row : Row) (start middle at : ℕ) (w : Why) → middle ≡ start → IsLine (first_record version) row h
+    → Fails failed (group version limits (bios_after h)) left middle at w → HandFails failed (plain_event version limits) left row start at w
+group_fails version limits h failed None row start middle at w e l f = tt
+group_fails version limits h failed (Some rows) row start middle at w e l f = elim f [
+  | inl o ↦ inl o
+  | inr k ↦ (let is = k.1 in inr (1 + k.0, omega (arith, is, e), inr (h, rows, k.0, l rows, refl, k.2)))
+]
+
+-- an event that breaks no rule, and one that breaks one
+
+pub event_reads : (version : ℕ) (setup : Setup) (before : List Happened) (left new : Option (List Row)) (row : Row) (e : Happened) → HandReads (plain_event version setup.limits) left row new e → IsUnbroken setup before e
+    → HandReads (event version setup before) left row new e
+event_reads version setup before None new row e h u = tt
+event_reads version setup before (Some rows) new row e h u = (h.0, h.1, record { fits = (h.2.fits, u); made = h.2.made; follows = h.2.follows })
+
+pub event_fails : (version : ℕ) (setup : Setup) (before : List Happened) (failed : Bool) (left : Option (List Row)) (row : Row) (start at : ℕ) (w : Why) → HandFails failed (plain_event version setup.limits) left row start at w
+    → HandFails failed (event version setup before) left row start at w
+event_fails version setup before failed None row start at w f = tt
+event_fails version setup before failed (Some rows) row start at w f = elim f [
+  | inl o ↦ inl o
+  | inr k ↦ inr (k.0, k.1, inl k.2)
+]
+
+pub rule_fails : (version : ℕ) (setup : Setup) (before : List Happened) (failed : Bool) (left new : Option (List Row)) (row : Row) (e : Happened) (start at : ℕ) (r : TraceRule) → HandReads (plain_event version setup.limits) left row new e
+    → IsFirstBroken setup before e r → at ≡ start → HandFails failed (event version setup before) left row start at (why.Rule r)
+rule_fails version setup before failed None new row e start at r h b is = tt
+rule_fails version setup before failed (Some rows) new row e start at r h b is = inr (1, omega (arith, is), inr (e, h.0, h.2, (refl, (r, refl, b))))
+
+pub hand_outside : {V : Type 0} (failed : Bool) (p : Part Row Why V) (left : Option (List Row)) (row : Row) (start at : ℕ) (w : Why) → IsOutside failed w → HandFails failed p left row start at w
+hand_outside failed p None row start at w o = tt
+hand_outside failed p (Some rows) row start at w o = inl o
+
+-- a record after the last event
+
+pub past_head : (version : ℕ) (setup : Setup) (before : List Happened) (row : Row) (w : Why) → IsWrongLine (first_record version) row w → IsPast version setup before row w
+past_head version setup before row w l = λ rest. ((λ z. (cc z)), inl (inl (l rest)))
+
+pub past_group : (version : ℕ) (setup : Setup) (before : List Happened) (row : Row) (h : Head) → alone h ≡ None → IsLine (first_record version) row h → IsPast version setup before row why.Count
+past_group version setup before row h n l = λ rest. ((λ z. (cc z)), inr (refl, refl, (h, rest, record { fits = ((l rest).fits, rw n tt); made = (l rest).made; follows = tt })))
+
+pub past_event : (version : ℕ) (setup : Setup) (before : List Happened) (row : Row) (h : Head) (e : Happened) → alone h ≡ Some e → IsLine (first_record version) row h → IsUnbroken setup before e → IsPast version setup before row why.Count
+past_event version setup before row h e is l u = λ rest. ((λ z. (cc z)), inr (refl, refl, (h, rest, record { fits = ((l rest).fits, rw is u); made = (l rest).made; follows = tt })))
+
+pub past_rule : (version : ℕ) (setup : Setup) (before : List Happened) (row : Row) (h : Head) (e : Happened) (r : TraceRule) → alone h ≡ Some e → IsLine (first_record version) row h → IsFirstBroken setup before e r
+    → IsPast version setup before row (why.Rule r)
+past_rule version setup before row h e r is l b = λ rest. ((λ z. (cc z)), inl (inr (h, rest, l rest, (e, is, (refl, (r, refl, b))))))
+
+-- how many bios a first record announces
+pub release_count : (version id n : ℕ) (row : Row) (h : Head) → h ≡ head.Release id n → IsLine (first_record version) row h → (1 ≤ n) × (n ≤ 128)
+release_count version id n row h e l = let line : IsLine (first_record version) row (head.Release id n) = subst (λ z. IsLine (first_record version) row z) e l in (line []).fits.1.1.0
+
+pub join_count : (version id n : ℕ) (row : Row) (h : Head) → h ≡ head.Join id n → IsLine (first_record version) row h → (1 ≤ n) × (n ≤ 128)
+join_count version id n row h e l = let line : IsLine (first_record version) row (head.Join id n) = subst (λ z. IsLine (first_record version) row z) e l in (line []).fits.1.1.0
+
+-- what a trace answers to an event
+
+pub push_refused : {X : Type 0} (old new : Traced) (e : Happened) (x : X) (fault : PushFault) → IsPushAnswer old e new (Err (x, fault)) → (refusal_of fault ≡ why.Memory) ⊎ ((r : TraceRule) × (refusal_of fault ≡ why.Rule r) × IsFirstBroken old.setup old.events e r)
+push_refused old new e x (push_fault.Rule r) a = inr (r, refl, a.1)
+push_refused old new e x push_fault.Memory a = inl refl
+
+-- an event that is refused
+pub refused_fails : (version : ℕ) (setup own : Setup) (before : List Happened) (failed : Bool) (left new : Option (List Row)) (row : Row) (e : Happened) (start at : ℕ) (w : Why) → own ≡ setup
+    → HandReads (plain_event version setup.limits) left row new e → IsRefused own before e w → at ≡ start → HandFails failed (event version setup before) left row start at w
+refused_fails version setup own before failed left new row e start at w same h (inl m) is = hand_outside failed (event version setup before) left row start at w (inr m)
+refused_fails version setup own before failed left new row e start at w same h (inr b) is = rw b.1 (rule_fails version setup before failed left new row e start at b.0 h (rw same at b.2) is)
+
+pub memory_fails : (version : ℕ) (setup : Setup) (before : List Happened) (failed : Bool) (left : Option (List Row)) (row : Row) (start at : ℕ) (w : Why) → w ≡ why.Memory → HandFails failed (event version setup before) left row start at w
+memory_fails version setup before failed left row start at w m = hand_outside failed (event version setup before) left row start at w (inr m)
+
+pub past_refused : (version : ℕ) (setup own : Setup) (before : List Happened) (row : Row) (h : Head) (e : Happened) (w : Why) → own ≡ setup → alone h ≡ Some e → IsLine (first_record version) row h → IsRefused own before e w
+    → (w ≡ why.Memory) ⊎ IsPast version setup before row w
+past_refused version setup own before row h e w same is l (inl m) = inl m
+past_refused version setup own before row h e w same is l (inr b) = inr (rw b.1 (past_rule version setup before row h e b.0 is l (rw same at b.2)))
+
+-- of all events, under a setup that is this one, from the third record on
+
+pub gathered_at : (version count : ℕ) (s own : Setup) (left new : Option (List Row)) (start at : ℕ) (es : List Happened) → own ≡ s → start ≡ 2 → AreGathered (repeats.Exactly count) (event version own) left new start at es false
+    → AreGathered (repeats.Exactly count) (event version s) left new 2 at es false
+gathered_at version count s own left new start at es e is h = rw (e, is) at h
+
+pub events_err : (version count : ℕ) (s own : Setup) (failed : Bool) (left : Option (List Row)) (start at : ℕ) (w : Why) → own ≡ s → start ≡ 2 → Fails failed (repeated (repeats.Exactly count) (event version own)) left start at w
+    → Fails failed (events_of version s count) left 2 at w
+events_err version count s own failed left start at w e is h = many_fails failed (event version s) (one_more version s) (repeats.Exactly count) left 2 at w (rw (e, is) at h)
+
+pub stopped_at : (version count : ℕ) (s own : Setup) (left : Option (List Row)) (start at last : ℕ) → own ≡ s → start ≡ 2 → IsStopped (repeats.Exactly count) (event version own) left start 128 at last
+    → IsStopped (repeats.Exactly count) (event version s) left 2 128 at last
+stopped_at version count s own left start at last e is h = rw (e, is) at h
+
+pub past_stopped : (version count : ℕ) (s : Setup) (left mid : Option (List Row)) (es : List Happened) (at last : ℕ) → Reads (repeated (repeats.Exactly count) (event version s)) left mid es → length es ≡ count → at ≡ last → last ≡ 2 + size_of (event version s) es + 1
+    → IsStopped (repeats.Exactly count) (event version s) left 2 128 at last
+past_stopped version count s left mid es at last h l e is = subst (λ z. IsStopped (repeats.Exactly count) (event version s) left 2 128 z last) (sym e) (full_stopped (event version s) (repeats.Exactly count) left mid es 2 128 last h l is)
+
+pub events_end : (version count : ℕ) (s : Setup) (left mid new : Option (List Row)) (es : List Happened) (row : Row) → Reads (repeated (repeats.Exactly count) (event version s)) left mid es → Takes mid new row false
+    → IfSome left (λ rows. Begins (events_of version s count) rows es [])
+events_end version count s left mid new es row h t = many_ends (event version s) (one_more version s) (repeats.Exactly count) left es (full_ends (event version s) (repeats.Exactly count) left mid new es row h t)
+
+pub events_past : (version count : ℕ) (s own : Setup) (failed : Bool) (left mid new : Option (List Row)) (es : List Happened) (row cells : Row) (at : ℕ) (w : Why) → own ≡ s → cells ≡ row → Reads (repeated (repeats.Exactly count) (event version s)) left mid es
+    → Takes mid new row true → at ≡ 2 + size_of (event version s) es + 1 → (w ≡ why.Memory) ⊎ IsPast version own es cells w → Fails failed (events_of version s count) left 2 at w
+events_past version count s own failed left mid new es row cells at w e r h t is (inl m) = outside_fails failed (events_of version s count) left 2 at w (inr m)
+events_past version count s own failed left mid new es row cells at w e r h t is (inr p) = past_wrong failed (event version s) (one_more version s) (repeats.Exactly count) left mid new es row 2 at w h t is (rw (e, r) at p)

@@ -1,0 +1,155 @@
+-- The laws of the bios of a group.
+use Rattle.std.proofs.Common.{◌≡◌, ◌≤◌, ◌<◌, ◌∙◌, ℕ, suc, List, [], ◌∷◌, ◌++◌, length, refl, sym, ap, inl, inr, arith, get_or, codes, Bool, Option, Some, None}
+use Rattle.std.specs.Prelude.{Err}
+use Rattle.blk_bio.specs.Bios.{Bio, IsBio, IsBioAnswer}
+use Rattle.blk_bio.specs.Limits.{Limits}
+use Rattle.blk_bio.specs.Requests.{Fits}
+use Rattle.blk_bio.specs.declared.request.Side.TheVariants as side
+use Rattle.blk_bio.specs.declared.bio.BioFault.{BioFault}
+use Rattle.blk_bio.specs.declared.bio.Dir.{Dir}
+use Rattle.blk_text.specs.Sources.{Row}
+use Rattle.blk_text.specs.BioTable.{bio_cells, IsNoSuchBio}
+use Rattle.blk_text.specs.BioRecord.{direction_text}
+use Rattle.blk_text.specs.Words.{StartsWith, NextStarts, WordLacks}
+use Rattle.blk_text.specs.Fields.{Lacks, FieldsSpell}
+use Rattle.blk_text.specs.Reads.{IsLine, IsWrongLine, HandFails, Gathers, with_next}
+use Rattle.blk_text.specs.Tables.{FitsBy, row_by, slots_by, word_record}
+use Rattle.blk_text.specs.TraceForm.{Tiles, held, IsAstray, IsNoBio, first_record, plain_bio, whole_bio, group_bio, group}
+use Rattle.blk_text.specs.declared.fault.Why.{Why}
+use Rattle.blk_text.specs.declared.fault.Why.TheVariants as why
+use Rattle.blk_text.specs.declared.fields.Slot.TheVariants as slot
+use Rattle.blk_text.specs.declared.heads.Head.{Head}
+use Rattle.parts.specs.declared.Repeats.TheVariants as repeats
+use Rattle.parts.specs.Parts.{Part, by_word, all_rows}
+use Rattle.parts.specs.Laws.{Tells, IsPlain}
+use Rattle.parts.proofs.Then.{record_tells, by_word_tells, seen_tells, tested_tells, over_tells}
+use Rattle.parts.proofs.Many.{HasRows, many_tells, many_plain}
+use Rattle.blk_text.proofs.TableLaws.{IsTable, word_line, next_starts, word_tells}
+use Rattle.blk_text.proofs.ScriptLaws.{bio_with, no_bio_is, one_bio_fault}
+use Rattle.blk_text.proofs.Reading.{hand_reads}
+use Rattle.blk_text.proofs.HeadLaws.{head_tells}
+
+bio_table : (submitters : ℕ) → submitters ≤ 256 → IsTable (bio_cells submitters) (FitsBy (bio_cells submitters))
+bio_table submitters s = record {
+  sized = (omega (arith, s), (omega arith, (tt, (omega arith, (omega arith, tt)))));
+  within = λ b f. f;
+  made = λ x. record { id = record { submitter = x.0; serial = x.1.0 }; dir = x.1.1.0; first = x.1.1.1.0; sectors = x.1.1.1.1.0 };
+  back = λ b f. refl;
+  forth = λ x. refl;
+  fits = λ x f. f;
+}
+
+no_bio_once : (version : ℕ) (rows : List Row) (w x : Why) → IsNoBio version rows w → IsNoBio version rows x → w ≡ x
+no_bio_once version [] w x a b = a ∙ sym b
+no_bio_once version (row ∷ rows) w x a b = ((over_tells why.Count (first_record version) (head_tells version)).first (row ∷ []) 1 1 w x a b).1
+
+abbrev bio_record : Part Row Why Bio
+bio_record = word_record why.Count (codes "bio") (bio_cells 256) (FitsBy (bio_cells 256))
+
+abbrev only_bios : ℕ → Part Row Why ((i : Unit {0}) × Bio)
+only_bios version = by_word {K = Unit {0}} (λ _. Bio) (λ _. NextStarts (codes "bio")) (λ _. bio_record) (IsNoBio version)
+
+plain_tells : (version : ℕ) → Tells (plain_bio version)
+plain_tells version = seen_tells (λ b. (tt, b)) (only_bios version) (λ u z e. (let r : u ≡ z = (λ i. (e i).1) in r))
+    (by_word_tells {K = Unit {0}} (λ _. Bio) (λ _. NextStarts (codes "bio")) (λ _. bio_record) (IsNoBio version)
+    (λ _. record_tells (λ b. codes "bio" ∷ row_by (bio_cells 256) b) (FitsBy (bio_cells 256)) why.Count (WordLacks (codes "bio") (slots_by (bio_cells 256))) (word_tells (codes "bio") (bio_cells 256) (FitsBy (bio_cells 256)) (bio_table 256 (omega arith))))
+    (λ i j rows s t. refl) (λ i rows v a h. next_starts (codes "bio") (row_by (bio_cells 256) v) rows a h.made) (no_bio_once version))
+
+whole_tells : (version : ℕ) → Tells (whole_bio version)
+whole_tells version = tested_tells (plain_bio version) IsBio IsNoSuchBio (plain_tells version)
+    (λ b k j w x fit f g. (f.1 ∙ sym g.1, f.2 ∙ ap why.Bio (one_bio_fault b f.0 g.0 f.3 g.3) ∙ sym g.2))
+    (λ b k w good f. no_bio_is b f.0 good f.3)
+    (λ b k w f. (let is = f.1 in (omega (arith, is), omega (arith, is))))
+
+pub bio_tells : (version : ℕ) (limits : Limits) (before : List Bio) → Tells (group_bio version limits before)
+bio_tells version limits before = tested_tells (whole_bio version) (Tiles limits before) (IsAstray limits before) (whole_tells version)
+    (λ b k j w x fit f g. (f.0 ∙ sym g.0, f.1 ∙ sym g.1))
+    (λ b k w good f. f.2 good)
+    (λ b k w f. (let is = f.0 in (omega (arith, is), omega (arith, is))))
+
+bio_rows : (version : ℕ) (limits : Limits) → HasRows {S = List Bio} (group_bio version limits)
+bio_rows version limits s v fit e = cc e
+
+pub group_tells : (version : ℕ) (limits : Limits) (count : ℕ) → Tells (group version limits count)
+group_tells version limits count = many_tells (repeats.Exactly count) (group_bio version limits) with_next (bio_tells version limits) (λ s v rest fit. tt) (bio_rows version limits) []
+
+pub group_plain : (version : ℕ) (limits : Limits) (count : ℕ) → IsPlain (group version limits count)
+group_plain version limits count = many_plain count (group_bio version limits) with_next []
+
+-- a group has a record for each bio
+sizes : (version : ℕ) (limits : Limits) (before bios : List Bio) → length (all_rows (group_bio version limits) with_next before bios) ≡ length bios
+sizes version limits before [] = refl
+sizes version limits before (b ∷ bs) = ap suc (sizes version limits (with_next before b) bs)
+
+pub group_size : (version : ℕ) (limits : Limits) (count : ℕ) (bios : List Bio) → length ((group version limits count).rows_of bios) ≡ length bios
+group_size version limits count bios = sizes version limits [] bios
+
+pub bio_gone : (version : ℕ) (limits : Limits) (before : List Bio) → (group_bio version limits before).Wrong [] 1 why.Count
+bio_gone version limits before = inl (inl (inr (refl, (λ i s. s), refl)))
+
+-- what was read of a record
+
+pub bio_lacks : (version : ℕ) (row : Row) (w : Why) → StartsWith (codes "bio") row → Lacks (slot.Given ∷ slots_by (bio_cells 256)) row w → IsWrongLine (whole_bio version) row w
+bio_lacks version row w t l = λ rest. inl (inl (tt, t, (refl, inl (t, l))))
+
+pub no_such_bio : (version : ℕ) (f : BioFault) (dir : Dir) (row : Row) (ns : List ℕ) → StartsWith (codes "bio") row → FieldsSpell (slot.Given ∷ slots_by (bio_cells 256)) row ns → get_or row 3 [] ≡ direction_text dir
+    → IsBioAnswer (bio_with ns dir).id dir (bio_with ns dir).first (bio_with ns dir).sectors (Err f) → IsWrongLine (whole_bio version) row (why.Bio f)
+no_such_bio version f dir row ns t s d a =
+    let line = word_line why.Count (codes "bio") (bio_cells 256) (FitsBy (bio_cells 256)) (bio_with ns dir) row ns t s (refl, (refl, (d, (refl, (refl, tt))))) (λ f. f) in
+    λ rest. inr (bio_with ns dir, rest, record { fits = (line rest).fits; made = (line rest).made; follows = tt }, (f, refl, refl, a))
+
+-- a record that is another event's, or no event's
+pub event_too_soon : (version : ℕ) (h : Head) (row : Row) → ¬ StartsWith (codes "bio") row → IsLine (first_record version) row h → IsWrongLine (whole_bio version) row why.Count
+event_too_soon version h row n l = λ rest. inl (inr (refl, (λ i s. n s), ((λ z. (cc z)), inr (refl, refl, (h, [], l [])))))
+
+pub no_event_there : (version : ℕ) (row : Row) (w : Why) → ¬ StartsWith (codes "bio") row → IsWrongLine (first_record version) row w → IsWrongLine (whole_bio version) row w
+no_event_there version row w n l = λ rest. inl (inr (refl, (λ i s. n s), ((λ z. (cc z)), inl (l []))))
+
+-- a bio that tiles, and one that does not
+pub tiles_line : (version : ℕ) (limits : Limits) (before : List Bio) (b : Bio) (row : Row) → IsLine (whole_bio version) row b → Tiles limits before b → IsLine (group_bio version limits before) row b
+tiles_line version limits before b row l t = λ rest. record { fits = ((l rest).fits, t); made = (l rest).made; follows = tt }
+
+pub astray_line : (version : ℕ) (limits : Limits) (before : List Bio) (b : Bio) (row : Row) → IsLine (whole_bio version) row b → ¬ Tiles limits before b → IsWrongLine (group_bio version limits before) row why.Tile
+astray_line version limits before b row l n = λ rest. inr (b, rest, l rest, (refl, refl, n))
+
+pub wrong_line : (version : ℕ) (limits : Limits) (before : List Bio) (row : Row) (w : Why) → IsWrongLine (whole_bio version) row w → IsWrongLine (group_bio version limits before) row w
+wrong_line version limits before row w l = λ rest. inl (l rest)
+
+pub line_fails : {V : Type 0} (failed : Bool) (p : Part Row Why V) (left : Option (List Row)) (row : Row) (start at : ℕ) (w : Why) → IsWrongLine p row w → at ≡ start → HandFails failed p left row start at w
+line_fails failed p None row start at w h e = tt
+line_fails failed p (Some rows) row start at w h e = inr (1, omega (arith, e), h rows)
+
+bio_gathers : (version : ℕ) (limits : Limits) (old : List Bio) (b : Bio) (left : Option (List Row)) (row : Row) (at : ℕ) → IsLine (whole_bio version) row b → Tiles limits old b
+    → Gathers (group_bio version limits) old (old ++ b ∷ []) left row left at at
+bio_gathers version limits old b left row at l t =
+    let line = tiles_line version limits old b row l t in
+    record { item = b; gathered = refl; fits = (line []).fits; read = hand_reads (group_bio version limits old) left row b line; end = omega arith }
+
+-- the first bio of a group
+pub first_gathers : (version : ℕ) (limits : Limits) (o : Option (List Bio)) (new : List Bio) (b : Bio) (left : Option (List Row)) (row : Row) (at : ℕ) → o ≡ None → new ≡ b ∷ [] → IsLine (whole_bio version) row b
+    → Gathers (group_bio version limits) (held o) new left row left at at
+first_gathers version limits None new b left row at e n l = rw n (bio_gathers version limits [] b left row at l tt)
+first_gathers version limits (Some old) new b left row at e n l = absurd (cc e)
+
+tiles_after : (limits : Limits) (old : List Bio) (b : Bio) → Fits limits old (b ∷ []) side.Back → Tiles limits old b
+tiles_after limits [] b f = tt
+tiles_after limits (a ∷ old) b f = f
+
+fits_tiles : (limits : Limits) (old : List Bio) (b : Bio) → 0 < length old → Tiles limits old b → Fits limits old (b ∷ []) side.Back
+fits_tiles limits [] b some t = absurd (omega (arith, some))
+fits_tiles limits (a ∷ old) b some t = t
+
+-- one more
+pub next_gathers : (version : ℕ) (limits : Limits) (o : Option (List Bio)) (old new : List Bio) (b : Bio) (left : Option (List Row)) (row : Row) (at : ℕ) → o ≡ Some old → new ≡ old ++ b ∷ [] → Fits limits old (b ∷ []) side.Back
+    → IsLine (whole_bio version) row b → Gathers (group_bio version limits) (held o) new left row left at at
+next_gathers version limits None old new b left row at e n f l = absurd (cc e)
+next_gathers version limits (Some x) old new b left row at e n f l =
+    let same : x ≡ old = cc e in
+    rw (same, n) (bio_gathers version limits old b left row at l (tiles_after limits old b f))
+
+pub astray_fails : (version : ℕ) (limits : Limits) (failed : Bool) (o : Option (List Bio)) (old : List Bio) (b : Bio) (left : Option (List Row)) (row : Row) (start at : ℕ) → o ≡ Some old → 0 < length old → ¬ Fits limits old (b ∷ []) side.Back
+    → IsLine (whole_bio version) row b → at ≡ start → HandFails failed (group_bio version limits (held o)) left row start at why.Tile
+astray_fails version limits failed None old b left row start at e some n l is = absurd (cc e)
+astray_fails version limits failed (Some x) old b left row start at e some n l is =
+    let same : x ≡ old = cc e in
+    rw same (line_fails failed (group_bio version limits old) left row start at why.Tile (astray_line version limits old b row l (λ t. n (fits_tiles limits old b some t))) is)

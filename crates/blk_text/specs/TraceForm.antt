@@ -1,0 +1,240 @@
+-- A trace: a title, a setup, and events, each of which has one record, or one and those of its bios.
+use Rattle.std.specs.Prelude.{◌≡◌, ◌⊎◌, ◌≤◌, ◌-◌, ◌^◌, ℕ, List, [], ◌∷◌, length, codes, All, Option, Some, None, IfSome}
+use Rattle.blk_bio.specs.Bios.{Bio, IsBio}
+use Rattle.blk_bio.specs.Limits.{Limits}
+use Rattle.blk_bio.specs.Requests.{Fits}
+use Rattle.blk_bio.specs.declared.request.Side.TheVariants as side
+use Rattle.blk_trace.specs.declared.rule.TraceRule.{TraceRule}
+use Rattle.blk_trace.specs.declared.rule.PushFault.{PushFault}
+use Rattle.blk_trace.specs.declared.rule.PushFault.TheVariants as push_fault
+use Rattle.blk_trace.specs.Happened.{Happened, Ticked, Released, Joined, Issued, Finished, Returned, DepthSet}
+use Rattle.blk_trace.specs.Rules.{IsFirstBroken, IsUnbroken}
+use Rattle.blk_trace.specs.Setups.{Setup}
+use Rattle.blk_trace.specs.Traces.{Traced}
+use Rattle.blk_text.specs.Sources.{Row}
+use Rattle.blk_text.specs.Reads.{ended_of, with_next}
+use Rattle.blk_text.specs.Words.{NextStarts}
+use Rattle.blk_text.specs.Tables.{Cell, Blank, Number, FitsBy, IsVersion, title_record, kinds_record, word_record}
+use Rattle.blk_text.specs.BioTable.{bio_cells, IsNoSuchBio}
+use Rattle.blk_text.specs.SetupRecord.{most_depth, setup}
+use Rattle.blk_text.specs.declared.fault.Why.{Why}
+use Rattle.blk_text.specs.declared.fault.Why.TheVariants as why
+use Rattle.blk_text.specs.declared.heads.Head.{Head}
+use Rattle.blk_text.specs.declared.heads.Head.TheVariants as head
+use Rattle.blk_text.specs.declared.heads.EventWord.{EventWord}
+use Rattle.blk_text.specs.declared.heads.EventWord.TheVariants as word
+use Rattle.blk_text.specs.declared.heads.TraceTitle.{TraceTitle}
+use Rattle.parts.specs.declared.Repeats.TheVariants as repeats
+use Rattle.parts.specs.Parts.{Part, NextWrong, then, many, over, seen_as, tested, by_word, Spells}
+
+-- title: blk-trace, version, depth, hardware queues, number of events, empty
+abbrev pub trace_cells : ℕ → List (Cell TraceTitle)
+trace_cells version = Number 1 (most_depth version) (λ t. t.depth) ∷ Number 1 16 (λ t. t.hw) ∷ Number 0 1_000_000 (λ t. t.count) ∷ Blank ∷ []
+
+-- a title's numbers lie in their ranges
+pub record IsTraceTitle (version : ℕ) (t : TraceTitle) : Type 0 where
+  pub depth : (1 ≤ t.depth) × (t.depth ≤ most_depth version)
+  pub hw : (1 ≤ t.hw) × (t.hw ≤ 16)
+  pub count : t.count ≤ 1_000_000
+
+-- the latest version of traces
+abbrev pub latest : ℕ
+latest = 2
+
+abbrev pub title : Part Row Why (ℕ × TraceTitle)
+title = title_record (codes "blk-trace") latest trace_cells IsTraceTitle
+
+-- the words of the events
+abbrev pub word_of : EventWord → List ℕ
+word_of word.Tick = codes "tick"
+word_of word.Release = codes "release"
+word_of word.Join = codes "join"
+word_of word.Issue = codes "issue"
+word_of word.Done = codes "done"
+word_of word.Back = codes "back"
+word_of word.Depth = codes "depth"
+
+-- a depth is set from version 2 on, and the other events stand in each version
+abbrev pub StandsIn : ℕ → EventWord → Type 0
+StandsIn version word.Tick = Unit {0}
+StandsIn version word.Release = Unit {0}
+StandsIn version word.Join = Unit {0}
+StandsIn version word.Issue = Unit {0}
+StandsIn version word.Done = Unit {0}
+StandsIn version word.Back = Unit {0}
+StandsIn version word.Depth = 2 ≤ version
+
+-- what the first record of each kind of event says beside its word; of a group its id, and how many bios follow
+abbrev pub Says : EventWord → Type 0
+Says word.Tick = Unit {0}
+Says word.Release = ℕ × ℕ
+Says word.Join = ℕ × ℕ
+Says word.Issue = ℕ × ℕ
+Says word.Done = ℕ
+Says word.Back = ℕ
+Says word.Depth = ℕ
+
+-- any number
+abbrev pub any : {V : Type 0} → (V → ℕ) → Cell V
+any f = Number 0 (2 ^ 64 - 1) f
+
+-- its fields after the word
+abbrev pub head_cells : (k : EventWord) → List (Cell (Says k))
+head_cells word.Tick = Blank ∷ Blank ∷ Blank ∷ Blank ∷ Blank ∷ []
+head_cells word.Release = any (λ g. g.0) ∷ Number 1 128 (λ g. g.1) ∷ Blank ∷ Blank ∷ Blank ∷ []
+head_cells word.Join = any (λ g. g.0) ∷ Number 1 128 (λ g. g.1) ∷ Blank ∷ Blank ∷ Blank ∷ []
+head_cells word.Issue = any (λ i. i.0) ∷ Number 0 65535 (λ i. i.1) ∷ Blank ∷ Blank ∷ Blank ∷ []
+head_cells word.Done = Number 0 65535 (λ t. t) ∷ Blank ∷ Blank ∷ Blank ∷ Blank ∷ []
+head_cells word.Back = Number 0 65535 (λ t. t) ∷ Blank ∷ Blank ∷ Blank ∷ Blank ∷ []
+head_cells word.Depth = any (λ d. d) ∷ Blank ∷ Blank ∷ Blank ∷ Blank ∷ []
+
+-- the kind of a first record, and what it says
+abbrev pub said : Head → (k : EventWord) × Says k
+said head.Tick = (word.Tick, tt)
+said (head.Release id bios) = (word.Release, (id, bios))
+said (head.Join id bios) = (word.Join, (id, bios))
+said (head.Issue id tag) = (word.Issue, (id, tag))
+said (head.Done tag) = (word.Done, tag)
+said (head.Back tag) = (word.Back, tag)
+said (head.Depth depth) = (word.Depth, depth)
+
+-- the first record of an event
+abbrev pub first_record : ℕ → Part Row Why Head
+first_record version = seen_as said (kinds_record Says why.Count 6 (StandsIn version) word_of head_cells)
+
+-- what is wrong with a record of a group that does not begin as a bio's: what is wrong with it as the first record of an
+-- event, and else that it came too soon
+abbrev pub IsNoBio : ℕ → List Row → Why → Type 0
+IsNoBio version = NextWrong why.Count (λ row w. (over why.Count (first_record version)).Wrong (row ∷ []) 1 w)
+
+-- the record of a bio of a group, by its table
+abbrev pub plain_bio : ℕ → Part Row Why Bio
+plain_bio version =
+    seen_as (λ b. (tt, b)) (by_word {K = Unit {0}} (λ _. Bio) (λ _. NextStarts (codes "bio")) (λ _. word_record why.Count (codes "bio") (bio_cells 256) (FitsBy (bio_cells 256))) (IsNoBio version))
+
+-- the record of a bio that there is
+abbrev pub whole_bio : ℕ → Part Row Why Bio
+whole_bio version = tested (plain_bio version) IsBio IsNoSuchBio
+
+-- a bio of a group joins those before it at the back, within the limits; the first has any size
+abbrev pub Tiles : Limits → List Bio → Bio → Type 0
+Tiles limits [] b = Unit {0}
+Tiles limits (a ∷ before) b = Fits limits (a ∷ before) (b ∷ []) side.Back
+
+-- and one that does not
+abbrev pub IsAstray : Limits → List Bio → Bio → ℕ → Why → Type 0
+IsAstray limits before b k w = (k ≡ 1) × (w ≡ why.Tile) × ¬ Tiles limits before b
+
+-- a bio of a group, after those before it
+abbrev pub group_bio : ℕ → Limits → List Bio → Part Row Why Bio
+group_bio version limits before = tested (whole_bio version) (Tiles limits before) (IsAstray limits before)
+
+-- the bios of the request that is made of a group so far
+abbrev pub held : Option (List Bio) → List Bio
+held None = []
+held (Some bios) = bios
+
+-- how many bios follow a first record
+abbrev pub bios_after : Head → ℕ
+bios_after head.Tick = 0
+bios_after (head.Release id bios) = bios
+bios_after (head.Join id bios) = bios
+bios_after (head.Issue id tag) = 0
+bios_after (head.Done tag) = 0
+bios_after (head.Back tag) = 0
+bios_after (head.Depth depth) = 0
+
+-- so many bios of a group
+abbrev pub group : ℕ → Limits → ℕ → Part Row Why (List Bio)
+group version limits count = many (repeats.Exactly count) (group_bio version limits) with_next []
+
+-- the first record of an event, and its bios
+abbrev pub told : Happened → Head × List Bio
+told Ticked = (head.Tick, [])
+told (Released id bios) = (head.Release id (length bios), bios)
+told (Joined id bios) = (head.Join id (length bios), bios)
+told (Issued id tag) = (head.Issue id tag, [])
+told (Finished tag) = (head.Done tag, [])
+told (Returned tag) = (head.Back tag, [])
+told (DepthSet depth) = (head.Depth depth, [])
+
+-- an event by its records
+abbrev pub plain_event : ℕ → Limits → Part Row Why Happened
+plain_event version limits = seen_as told (then (first_record version) (λ h. group version limits (bios_after h)))
+
+-- the first rule that an event breaks after those before it, told of the event's first record
+abbrev pub BreaksRule : Setup → List Happened → Happened → ℕ → Why → Type 0
+BreaksRule setup before e k w = (k ≡ 1) × ((rule : TraceRule) × (w ≡ why.Rule rule) × IsFirstBroken setup before e rule)
+
+-- what is told of an event that a trace refuses
+abbrev pub refusal_of : PushFault → Why
+refusal_of (push_fault.Rule rule) = why.Rule rule
+refusal_of push_fault.Memory = why.Memory
+
+-- an event is refused after these: for want of memory, or for the first rule that it breaks
+abbrev pub IsRefused : Setup → List Happened → Happened → Why → Type 0
+IsRefused setup before e w = (w ≡ why.Memory) ⊎ ((rule : TraceRule) × (w ≡ why.Rule rule) × IsFirstBroken setup before e rule)
+
+-- an event that breaks no rule after those before it; its rules are looked for once all its records are read
+abbrev pub event : ℕ → Setup → List Happened → Part Row Why Happened
+event version setup before = tested (plain_event version setup.limits) (IsUnbroken setup before) (BreaksRule setup before)
+
+-- the event of a first record that no bios follow
+abbrev pub alone : Head → Option Happened
+alone head.Tick = Some Ticked
+alone (head.Release id bios) = None
+alone (head.Join id bios) = None
+alone (head.Issue id tag) = Some (Issued id tag)
+alone (head.Done tag) = Some (Finished tag)
+alone (head.Back tag) = Some (Returned tag)
+alone (head.Depth depth) = Some (DepthSet depth)
+
+-- one event more than announced: its rules are looked for where it has one record, and no bio of it is looked at
+abbrev pub one_more : ℕ → Setup → List Happened → Part Row Why Head
+one_more version setup before = tested (first_record version) (λ h. IfSome (alone h) (IsUnbroken setup before)) (λ h k w. (e : Happened) × (alone h ≡ Some e) × BreaksRule setup before e k w)
+
+-- what is wrong with a record after the last event
+abbrev pub IsPast : ℕ → Setup → List Happened → Row → Why → Type 0
+IsPast version setup before row w = (rest : List Row) → (over why.Count (one_more version setup before)).Wrong (row ∷ rest) 1 w
+
+-- just so many events, to the end of the text
+abbrev pub events_of : ℕ → Setup → ℕ → Part Row Why (List Happened)
+events_of version setup count = ended_of (repeats.Exactly count) (event version setup) (one_more version setup)
+
+-- a setup and the events
+abbrev pub trace_body : ℕ × TraceTitle → Part Row Why (Setup × List Happened)
+trace_body t = then (setup t.1.depth t.1.hw) (λ s. events_of t.0 s t.1.count)
+
+-- a title with the number of events, a setup, and just so many events, each of which breaks no rule after those before it
+abbrev pub trace_form : Part Row Why ((ℕ × TraceTitle) × (Setup × List Happened))
+trace_form = then title trace_body
+
+-- the title of a trace
+abbrev pub trace_title : Traced → TraceTitle
+trace_title t = record { depth = t.setup.depth; hw = t.setup.hw; count = length t.events }
+
+-- what the records of a trace of a version tell
+abbrev pub trace_value : ℕ → Traced → (ℕ × TraceTitle) × (Setup × List Happened)
+trace_value version t = ((version, trace_title t), (t.setup, t.events))
+
+-- the records spell this trace in this version, whatever it is prepared for
+abbrev pub SpellsTraceIn : ℕ → List Row → Traced → Type 0
+SpellsTraceIn version rows t = Spells trace_form rows (trace_value version t)
+
+-- the records spell this trace, in one of the versions
+abbrev pub SpellsTrace : List Row → Traced → Type 0
+SpellsTrace rows t = (version : ℕ) × SpellsTraceIn version rows t
+
+-- an event stands in a version
+abbrev pub IsEventOf : ℕ → Happened → Type 0
+IsEventOf version e = StandsIn version (said (told e).0).0
+
+-- a trace can be spelled in a version: it has no more tags than that, and no other events
+pub record IsTraceOf (version : ℕ) (t : Traced) : Type 0 where
+  pub is_version : IsVersion latest version
+  pub tags : t.setup.depth ≤ most_depth version
+  pub kinds : All (IsEventOf version) t.events
+
+-- the first fault of a trace
+abbrev pub TraceFault : List Row → ℕ → Why → Type 0
+TraceFault = trace_form.Wrong

@@ -1,0 +1,302 @@
+//! The events of a trace, each looked at after those before it.
+
+ghost use Rattle.std.specs.Prelude.{◌≡◌, ◌⊎◌, ◌∷◌, ◌++◌, ◌≤◌, ◌<◌, ◌^◌, ◌-◌, ◌+◌, ◌*◌, ℕ, List, [], length, OnOk, IfOk, IfErr, IfSome, option_map};
+ghost use Rattle.csv.specs.Records.{fields_of};
+ghost use Rattle.blk_trace.specs.Rules.{IsUnbroken};
+ghost use Rattle.blk_trace.specs.Seen.{happened};
+ghost use Rattle.parts.specs.declared.Repeats.TheVariants as repeats;
+ghost use Rattle.parts.specs.Parts.{Begins};
+ghost use Rattle.blk_text.specs.Sources.{Row};
+ghost use Rattle.blk_text.specs.Reads.{HandReads, HandFails, Fails, IsOutside, AreItems, IsStopped, IsHeldAt, size_of};
+ghost use Rattle.blk_text.specs.TraceForm.{alone as alone_of, refusal_of, IsRefused, plain_event, event as event_part, IsPast, events_of, trace_form, SpellsTrace, TraceFault};
+ghost use Rattle.blk_text.specs.TraceRecords.{IsTrace, trace_rows};
+
+use crate::fault::{TextFault, Why};
+use crate::fields::{Slot, read_fields, version_of};
+use crate::groups::read_group;
+use crate::heads::{Head, HeadForm, TraceTitle};
+use crate::items::{ItemForm, LineForm, gather, read_line};
+use crate::setup::{SetupForm, most_depth};
+use crate::source::Records;
+use blk_bio::Limits;
+use blk_trace::{Event, PushFault, Setup, Trace};
+use csv::ByteRecord;
+use parts::Repeats;
+use std::alloc::Global;
+use std::io::Read;
+
+/// The event of a first record that no bios follow.
+fn alone(head: Head) -> Option<Event>
+    ensures { option_map happened result ≡ alone_of head }
+{
+    match head {
+        Head::Tick => Some(Event::Tick),
+        Head::Release { .. } | Head::Join { .. } => None,
+        Head::Issue { id, tag } => Some(Event::Issue { id, tag }),
+        Head::Done(tag) => Some(Event::Done { tag }),
+        Head::Back(tag) => Some(Event::Back { tag }),
+        Head::Depth(depth) => Some(Event::Depth { depth }),
+    }
+}
+
+/// The event of the record that was read last and those of the bios after it.
+fn read_event<R: Read + Drop>(
+    alloc: Global,
+    records: &mut Records<R>,
+    form: HeadForm,
+    limits: Limits,
+) -> Result<Event, TextFault>
+    requires { records.old.at + 128 < 2 ^ 64 - 1 }
+    ensures ok { IfOk result (λ e. HandReads (plain_event form.version limits) records.old.left records.old.fields records.new.left (happened e)) }
+    ensures fits { IfOk result (λ e. (plain_event form.version limits).Fits (happened e)) }
+    ensures end { IfOk result (λ e. records.new.at + 1 ≡ records.old.at + length ((plain_event form.version limits).rows_of (happened e))) }
+    ensures err { IfErr result (λ f. HandFails records.new.failed (plain_event form.version limits) records.old.left records.old.fields records.old.at f.at f.why) }
+    ensures last { IfErr result (λ f. (records.old.at ≤ f.at) × (f.at ≤ records.new.at)) }
+    ensures reads { (records.old.at ≤ records.new.at) × (records.new.at ≤ records.old.at + 128) }
+{
+    let head = match form.line(records.row()) {
+        Ok(head) => head,
+        Err(why) => return Err(records.fault(why)),
+    };
+    if let Some(event) = alone(head) {
+        return Ok(event);
+    }
+    match head {
+        Head::Release { id, bios } => match read_group(alloc, records, form, limits, bios) {
+            Ok(request) => Ok(Event::Release { id, request }),
+            Err(fault) => Err(fault),
+        },
+        Head::Join { id, bios } => match read_group(alloc, records, form, limits, bios) {
+            Ok(request) => Ok(Event::Join { id, request }),
+            Err(fault) => Err(fault),
+        },
+        _ => unreachable!(),
+    }
+}
+
+/// What is told of an event that a trace refuses.
+fn refusal(fault: PushFault) -> Why
+    ensures { result ≡ refusal_of fault }
+{
+    match fault {
+        PushFault::Rule(rule) => Why::Rule(rule),
+        PushFault::Memory => Why::Memory,
+    }
+}
+
+/// Adds an event to a trace, where it breaks no rule: else the first that it breaks.
+fn add(trace: &mut Trace, event: Event) -> Result<(), Why>
+    ensures ok { OnOk result ((trace.new.setup ≡ trace.old.setup) × (trace.new.events ≡ trace.old.events ++ happened event ∷ []) × IsUnbroken trace.old.setup trace.old.events (happened event)) }
+    ensures err { IfErr result (IsRefused trace.old.setup trace.old.events (happened event)) }
+{
+    let Err((refused, fault)) = trace.push(event) else {
+        return Ok(());
+    };
+    let _ = refused;
+    Err(refusal(fault))
+}
+
+/// The events of a version under a setup, gathered in a trace.
+#[derive(Clone, Copy, Drop)]
+struct EventForm {
+    head: HeadForm,
+    setup: Setup,
+}
+
+impl ItemForm for EventForm {
+    ghost use Rattle.std.specs.Prelude.{◌≡◌};
+    ghost use Rattle.blk_trace.specs.Happened.{Happened};
+    ghost use Rattle.blk_text.specs.TraceForm.{event as event_part};
+
+    type Items = Trace;
+
+    ghost View = { Happened };
+
+    ghost seen = { λ t. t.events };
+
+    ghost part = { λ f before. event_part f.head.version f.setup before };
+
+    ghost suits = { λ f t. t.setup ≡ f.setup };
+
+    ghost more = { 128 };
+
+    fn gone(&self, items: &Trace) -> Why {
+        let _ = items.len();
+        Why::Count
+    }
+
+    fn read<R: Read + Drop>(
+        &self,
+        alloc: Global,
+        records: &mut Records<R>,
+        items: &mut Trace,
+    ) -> Result<(), TextFault> {
+        let at = records.at();
+        let event = match read_event(alloc, records, self.head, self.setup.limits()) {
+            Ok(event) => event,
+            Err(fault) => return Err(fault),
+        };
+        match add(items, event) {
+            Ok(()) => Ok(()),
+            Err(Why::Memory) => Err(records.fault(Why::Memory)),
+            Err(why) => Err(TextFault { at, why }),
+        }
+    }
+}
+
+/// What is wrong with a record after all events: its own fault, the rule that it breaks where it is an event by itself,
+/// and else that it is one too many.
+fn past_fault(form: &EventForm, row: &ByteRecord, trace: &mut Trace) -> Why
+    requires { trace.old.setup ≡ form.now.setup }
+    ensures { (result ≡ Why.Memory) ⊎ IsPast form.now.head.version form.now.setup trace.old.events (fields_of row.now) result }
+{
+    let head = match form.head.line(row) {
+        Ok(head) => head,
+        Err(why) => return why,
+    };
+    let event = match alone(head) {
+        Some(event) => event,
+        None => return Why::Count,
+    };
+    match add(trace, event) {
+        Ok(()) => Why::Count,
+        Err(why) => why,
+    }
+}
+
+/// The latest version of traces.
+const LATEST: u64 = 2;
+
+/// The title record: the version, and the numbers of a title, each in its own range.
+#[derive(Clone, Copy, Drop)]
+struct TraceTitleForm;
+
+impl LineForm for TraceTitleForm {
+    ghost use Rattle.blk_text.specs.TraceForm.{title as title_part};
+
+    type Line = (u64, TraceTitle);
+
+    ghost part = { λ _. title_part };
+
+    fn gone(&self) -> Why {
+        Why::Title
+    }
+
+    fn line(&self, row: &ByteRecord) -> Result<(u64, TraceTitle), Why> {
+        let Some(version) = version_of(row, b"blk-trace", LATEST) else {
+            return Err(Why::Title);
+        };
+        let slots = [
+            Slot::Given,
+            Slot::Given,
+            Slot::Number {
+                least: 1,
+                most: most_depth(version),
+            },
+            Slot::Number { least: 1, most: 16 },
+            Slot::Number {
+                least: 0,
+                most: 1_000_000,
+            },
+            Slot::Blank,
+        ];
+        match read_fields(row, &slots) {
+            Ok(numbers) => {
+                let title = TraceTitle {
+                    depth: numbers[2],
+                    hw: numbers[3] as u8,
+                    count: numbers[4],
+                };
+                Ok((version, title))
+            }
+            Err(why) => Err(why),
+        }
+    }
+}
+
+/// The trace of so many events, which are the rest of the text, from one without events.
+fn read_events<R: Read + Drop>(
+    alloc: Global,
+    records: &mut Records<R>,
+    version: u64,
+    mut trace: Trace,
+    count: u64,
+) -> Result<Trace, TextFault>
+    requires at { records.old.at ≡ 2 }
+    requires few { count ≤ 1_000_000 }
+    requires none { trace.events ≡ [] }
+    ensures ok { IfOk result (λ t. IfSome records.old.left (λ rows. Begins (events_of version trace.setup count) rows t.events [])) }
+    ensures setup { IfOk result (λ t. t.setup ≡ trace.setup) }
+    ensures fit { IfOk result (λ t. AreItems (repeats.Exactly count) (event_part version trace.setup) t.events) }
+    ensures err { IfErr result (λ f. Fails records.new.failed (events_of version trace.setup count) records.old.left 2 f.at f.why) }
+    // all events before the one that is being read are good, and no record past that one is asked for
+    ensures before { IfErr result (λ f. IsStopped (repeats.Exactly count) (event_part version trace.setup) records.old.left 2 128 f.at records.new.at) }
+    ensures reads { (3 ≤ records.new.at) × (records.new.at ≤ 129_000_003) }
+    ensures end { IfOk result (λ t. records.new.at ≡ size_of (event_part version trace.setup) t.events + 3) }
+{
+    let form = EventForm {
+        head: HeadForm { version },
+        setup: trace.setup(),
+    };
+    match gather(alloc, records, &form, Repeats::Exactly(count), &mut trace) {
+        Ok(true) => unreachable!(),
+        Ok(false) => {}
+        Err(fault) => return Err(fault),
+    }
+    match records.advance() {
+        Ok(true) => {}
+        Ok(false) => return Ok(trace),
+        Err(fault) => return Err(fault),
+    }
+    let why = past_fault(&form, records.row(), &mut trace);
+    Err(records.fault(why))
+}
+
+/// The trace of a text of records of six fields, in version 1 or 2: a title with the depth (to 64 in version 1, to 256
+/// in version 2), the hardware queues and the number of events, a setup, and just so many events, each of which obeys the
+/// rules of a trace after those before it; a depth is set in version 2 alone. No record was read before.
+///
+/// The fault is the first one: of the least record, and in it the first in the order of [`Why`]. A rule that an event
+/// breaks is told of its first record and looked for once its group is whole, so a fault of a bio in the group comes
+/// before it. Of an event past the announced number its own fault and, where it has one record, its rule come before
+/// [`Why::Count`]. [`Why::Read`] and [`Why::Memory`] come at the record that is being read. No record is asked for past
+/// those of the event that is being read, and never more than 129,000,003.
+pub fn read_trace<R: Read + Drop>(
+    alloc: Global,
+    records: &mut Records<R>,
+) -> Result<Trace, TextFault>
+    requires { records.old.at ≡ 0 }
+    ensures ok { IfOk result (λ t. IfSome records.old.left (λ rows. SpellsTrace rows t)) }
+    // also where the reader's bytes are not known
+    ensures in_range { IfOk result IsTrace }
+    ensures err { IfErr result (λ f. IfSome records.old.left (λ rows.
+        IsOutside records.new.failed f.why ⊎ TraceFault rows f.at f.why)) }
+    // also where it came from outside: nothing before what is being read is wrong, and no record past it was asked for
+    ensures before { IfErr result (λ f. IsHeldAt trace_form records.old.left 128 f.at records.new.at) }
+    ensures reads { (1 ≤ records.new.at) × (records.new.at ≤ 129_000_003) }
+    // the last thing that was asked for is the record after the events, which there is not
+    ensures end { IfOk result (λ t. records.new.at ≡ length (trace_rows t) + 1) }
+{
+    let (version, title) = match read_line(records, &TraceTitleForm) {
+        Ok(title) => title,
+        Err(fault) => return Err(fault),
+    };
+    let setup_form = SetupForm {
+        depth: title.depth,
+        hw: title.hw,
+    };
+    let setup = match read_line(records, &setup_form) {
+        Ok(setup) => setup,
+        Err(fault) => return Err(fault),
+    };
+    let Ok(none) = Trace::empty(alloc, setup) else {
+        return Err(records.fault(Why::Memory));
+    };
+    match read_events(alloc, records, version, none, title.count) {
+        Ok(trace) => {
+            let _ = trace.events();
+            Ok(trace)
+        }
+        Err(fault) => Err(fault),
+    }
+}

@@ -1,0 +1,176 @@
+//! The bios of a group of a trace.
+
+ghost use Rattle.std.specs.Prelude.{◌≡◌, ◌≤◌, ◌<◌, ◌^◌, ◌-◌, ◌+◌, ◌++◌, ◌∷◌, [], codes, length, IsTrue, OnOk, IfOk, IfErr};
+ghost use Rattle.csv.specs.Records.{fields_of};
+ghost use Rattle.blk_bio.specs.Requests.{Fits};
+ghost use Rattle.blk_text.specs.Reads.{IsLine, IsWrongLine, Reads, Fails};
+ghost use Rattle.blk_text.specs.Words.{StartsWith};
+ghost use Rattle.blk_text.specs.TraceForm.{whole_bio, group};
+
+use crate::fault::{TextFault, Why};
+use crate::fields::{ANY, Slot, begins_with, direction_of, field, read_fields};
+use crate::heads::HeadForm;
+use crate::items::{ItemForm, LineForm, gather};
+use crate::source::Records;
+use blk_bio::{Bio, BioId, Limits, Request, Side};
+use csv::ByteRecord;
+use parts::Repeats;
+use std::alloc::{AllocError, Global};
+use std::io::Read;
+
+/// The bio of a record that begins with its word.
+fn bio_of(form: &HeadForm, row: &ByteRecord) -> Result<Bio, Why>
+    requires { StartsWith (codes "bio") (fields_of row.now) }
+    ensures ok { IfOk result (IsLine (whole_bio form.now.version) (fields_of row.now)) }
+    ensures err { IfErr result (IsWrongLine (whole_bio form.now.version) (fields_of row.now)) }
+{
+    let _ = form.version;
+    let submitter = Slot::Number {
+        least: 0,
+        most: 255,
+    };
+    let slots = [Slot::Given, submitter, ANY, Slot::Direction, ANY, ANY];
+    let numbers = match read_fields(row, &slots) {
+        Ok(numbers) => numbers,
+        Err(why) => return Err(why),
+    };
+    let id = BioId {
+        submitter: numbers[1] as u8,
+        serial: numbers[2],
+    };
+    match Bio::new(id, direction_of(field(row, 3)), numbers[4], numbers[5]) {
+        Ok(bio) => Ok(bio),
+        Err(fault) => Err(Why::Bio(fault)),
+    }
+}
+
+/// The bio of a record of a group. Another event's record comes too soon there.
+fn bio_line(form: &HeadForm, row: &ByteRecord) -> Result<Bio, Why>
+    ensures ok { IfOk result (IsLine (whole_bio form.now.version) (fields_of row.now)) }
+    ensures err { IfErr result (IsWrongLine (whole_bio form.now.version) (fields_of row.now)) }
+{
+    if begins_with(row, b"bio") {
+        return bio_of(form, row);
+    }
+    match form.line(row) {
+        Ok(_) => Err(Why::Count),
+        Err(why) => Err(why),
+    }
+}
+
+/// Whether a bio joins a request at the back, within the limits.
+fn tiles(request: &Request, bio: &Bio, limits: &Limits) -> bool
+    ensures fits { IsTrue result → Fits limits.now request.now (bio.now ∷ []) Side.Back }
+    ensures only { Fits limits.now request.now (bio.now ∷ []) Side.Back → IsTrue result }
+    ensures some { 0 < length request.now }
+{
+    let _ = request.bios();
+    match request.fits_bio(bio, limits) {
+        Some(Side::Back) => true,
+        Some(Side::Front) => false,
+        None => false,
+    }
+}
+
+/// Joins a bio to a request at the back.
+fn append(alloc: Global, request: &mut Request, bio: Bio, limits: &Limits) -> Result<(), AllocError>
+    requires { Fits limits.now request.old (bio ∷ []) Side.Back }
+    ensures { OnOk result (request.new ≡ request.old ++ bio ∷ []) }
+{
+    let Ok(newcomer) = Request::of(alloc, bio) else {
+        return Err(AllocError);
+    };
+    let Ok(_) = request.join(newcomer, limits) else {
+        return Err(AllocError);
+    };
+    Ok(())
+}
+
+/// The bios of a group of a version, under limits.
+#[derive(Clone, Copy, Drop)]
+struct GroupForm {
+    head: HeadForm,
+    limits: Limits,
+}
+
+impl ItemForm for GroupForm {
+    ghost use Rattle.blk_bio.specs.Bios.{Bio as BioFields};
+    ghost use Rattle.blk_text.specs.TraceForm.{group_bio, held};
+
+    type Items = Option<Request>;
+
+    ghost View = { BioFields };
+
+    ghost seen = { held };
+
+    ghost part = { λ f before. group_bio f.head.version f.limits before };
+
+    ghost suits = { λ _ _. Unit {0} };
+
+    ghost more = { 0 };
+
+    fn gone(&self, items: &Option<Request>) -> Why {
+        let _ = items;
+        Why::Count
+    }
+
+    fn read<R: Read + Drop>(
+        &self,
+        alloc: Global,
+        records: &mut Records<R>,
+        items: &mut Option<Request>,
+    ) -> Result<(), TextFault> {
+        let bio = match bio_line(&self.head, records.row()) {
+            Ok(bio) => bio,
+            Err(why) => return Err(records.fault(why)),
+        };
+        match items {
+            None => match Request::of(alloc, bio) {
+                Ok(request) => {
+                    *items = Some(request);
+                    Ok(())
+                }
+                Err(_) => Err(records.fault(Why::Memory)),
+            },
+            Some(request) => {
+                if !tiles(request, &bio, &self.limits) {
+                    return Err(records.fault(Why::Tile));
+                }
+                match append(alloc, request, bio, &self.limits) {
+                    Ok(()) => Ok(()),
+                    Err(AllocError) => Err(records.fault(Why::Memory)),
+                }
+            }
+        }
+    }
+}
+
+/// The request of so many records that come next.
+pub(crate) fn read_group<R: Read + Drop>(
+    alloc: Global,
+    records: &mut Records<R>,
+    head: HeadForm,
+    limits: Limits,
+    bios: u64,
+) -> Result<Request, TextFault>
+    requires some { (1 ≤ bios) × (bios ≤ 128) }
+    requires room { records.old.at + 128 < 2 ^ 64 - 1 }
+    ensures ok { IfOk result (Reads (group head.version limits bios) records.old.left records.new.left) }
+    ensures fits { IfOk result (group head.version limits bios).Fits }
+    ensures end { IfOk result (λ r. records.new.at ≡ records.old.at + length r) }
+    ensures err { IfErr result (λ f. Fails records.new.failed (group head.version limits bios) records.old.left records.old.at f.at f.why) }
+    ensures last { IfErr result (λ f. (records.old.at ≤ f.at) × (f.at ≤ records.new.at)) }
+    ensures reads { (records.old.at ≤ records.new.at) × (records.new.at ≤ records.old.at + bios) }
+{
+    let form = GroupForm { head, limits };
+    let mut items = None;
+    match gather(alloc, records, &form, Repeats::Exactly(bios), &mut items) {
+        Ok(true) => unreachable!(),
+        Ok(false) => {}
+        Err(fault) => return Err(fault),
+    }
+    match items {
+        Some(request) => Ok(request),
+        None => unreachable!(),
+    }
+}

@@ -1,0 +1,163 @@
+//! Traces read: what comes back, and their faults. The program's cases show more of them.
+
+use crate::texts::JOINED;
+use blk_bio::BioFault;
+use blk_text::{Records, TextFault, Why, read_trace, write_trace};
+use blk_trace::TraceRule;
+
+#[test]
+fn both_versions_come_back(rt: HostRuntime) {
+    for (text, written) in [
+        (JOINED, JOINED),
+        (
+            "blk-trace,1,1,1,2,\nsetup,0,9,256,128,\nrelease,0,1,,,\nbio,0,0,W,100,8\ntick,,,,,\n",
+            "blk-trace,2,1,1,2,\nsetup,0,9,256,128,\nrelease,0,1,,,\nbio,0,0,W,100,8\ntick,,,,,\n",
+        ),
+        (
+            "blk-trace,2,256,1,3,\r\nsetup,0,9,256,128,\r\ndepth,7,,,,\r\ntick,,,,,\r\ndepth,256,,,,",
+            "blk-trace,2,256,1,3,\nsetup,0,9,256,128,\ndepth,7,,,,\ntick,,,,,\ndepth,256,,,,\n",
+        ),
+    ] {
+        let records = &mut Records::new(rt.alloc(), text.as_bytes());
+        let Ok(trace) = read_trace(rt.alloc(), records) else {
+            panic!(rt; "{text}");
+        };
+        let mut out = Vec::new(rt.alloc());
+        assert!(rt; write_trace(rt.alloc(), &trace, &mut out).is_ok());
+        assert!(rt; out.as_slice() == written.as_bytes(), "{text}");
+    }
+}
+
+#[test]
+fn faults_of_a_trace(rt: HostRuntime) {
+    for (text, at, why) in [
+        ("", 1, Why::Title),
+        ("blk-trace,3,1,1,8,\n", 1, Why::Title),
+        ("blk-trace,1,65,1,0,\n", 1, Why::Range),
+        ("blk-trace,2,257,1,0,\n", 1, Why::Range),
+        ("blk-trace,1,1,1,1000001,\n", 1, Why::Range),
+        ("blk-trace,1,1,1,0,x\n", 1, Why::Fields),
+        ("blk-trace,1,1,1,0,\n", 2, Why::Word),
+        (
+            "blk-trace,1,1,1,2,\nsetup,0,9,256,128,\ntick,,,,,\n",
+            4,
+            Why::Count,
+        ),
+        (
+            "blk-trace,1,1,1,1,\nsetup,0,9,256,128,\nbio,0,0,W,100,8\n",
+            3,
+            Why::Word,
+        ),
+        (
+            "blk-trace,1,1,1,1,\nsetup,0,9,256,128,\ndepth,1,,,,\n",
+            3,
+            Why::Word,
+        ),
+        (
+            "blk-trace,2,1,1,1,\nsetup,0,9,256,128,\ndepth,2,,,,\n",
+            3,
+            Why::Rule(TraceRule::DepthRange),
+        ),
+        (
+            "blk-trace,1,1,1,1,\nsetup,0,9,256,128,\nissue,0,00,,,\n",
+            3,
+            Why::Number,
+        ),
+        (
+            "blk-trace,1,1,1,1,\nsetup,0,9,256,128,\nissue,0,0,,,\n",
+            3,
+            Why::Rule(TraceRule::Unknown),
+        ),
+    ] {
+        let answer = read_trace(rt.alloc(), &mut Records::new(rt.alloc(), text.as_bytes()));
+        assert!(rt; answer.err() == Some(TextFault { at, why }), "{text}");
+    }
+}
+
+#[test]
+fn faults_of_a_group(rt: HostRuntime) {
+    for (text, at, why) in [
+        (
+            "blk-trace,1,1,1,1,\nsetup,0,9,256,128,\nrelease,0,129,,,\n",
+            3,
+            Why::Range,
+        ),
+        (
+            "blk-trace,1,1,1,1,\nsetup,0,9,256,128,\nrelease,0,2,,,\nbio,0,0,W,100,8\n",
+            5,
+            Why::Count,
+        ),
+        (
+            "blk-trace,1,1,1,1,\nsetup,0,9,256,128,\nrelease,0,2,,,\nbio,0,0,W,100,8\ntick,,,,,\n",
+            5,
+            Why::Count,
+        ),
+        (
+            "blk-trace,1,1,1,1,\nsetup,0,9,256,128,\nrelease,0,2,,,\nbio,0,0,W,100,8\ntick,x,,,,\n",
+            5,
+            Why::Fields,
+        ),
+        (
+            "blk-trace,1,1,1,1,\nsetup,0,9,256,128,\nrelease,0,2,,,\nbio,0,0,W,100,8\nfoo,,,,,\n",
+            5,
+            Why::Word,
+        ),
+        (
+            "blk-trace,1,1,1,1,\nsetup,0,9,256,128,\njoin,0,2,,,\nbio,0,0,W,100,8\nbio,0,1,R,108,8\n",
+            5,
+            Why::Tile,
+        ),
+        (
+            "blk-trace,1,1,1,1,\nsetup,0,9,256,128,\njoin,0,2,,,\nbio,0,0,W,100,8\nbio,0,1,W,92,8\n",
+            5,
+            Why::Tile,
+        ),
+        (
+            "blk-trace,1,1,1,1,\nsetup,0,9,256,1,\njoin,0,2,,,\nbio,0,0,W,100,8\nbio,0,1,W,108,8\n",
+            5,
+            Why::Tile,
+        ),
+        (
+            "blk-trace,1,1,1,1,\nsetup,0,9,256,128,\njoin,0,1,,,\nbio,0,0,W,100,0\n",
+            4,
+            Why::Bio(BioFault::Empty),
+        ),
+        (
+            "blk-trace,1,1,1,1,\nsetup,0,9,256,128,\njoin,0,1,,,\nbio,0,0,W,100,8\n",
+            3,
+            Why::Rule(TraceRule::Unknown),
+        ),
+    ] {
+        let answer = read_trace(rt.alloc(), &mut Records::new(rt.alloc(), text.as_bytes()));
+        assert!(rt; answer.err() == Some(TextFault { at, why }), "{text}");
+    }
+}
+
+#[test]
+fn events_past_the_announced_number(rt: HostRuntime) {
+    for (text, why) in [
+        (
+            "blk-trace,1,1,1,0,\nsetup,0,9,256,128,\ntick,,,,,\n",
+            Why::Count,
+        ),
+        (
+            "blk-trace,1,1,1,0,\nsetup,0,9,256,128,\ndone,0,,,,\n",
+            Why::Rule(TraceRule::NotIssued),
+        ),
+        (
+            "blk-trace,1,1,1,0,\nsetup,0,9,256,128,\nback,0,,,,\n",
+            Why::Rule(TraceRule::NotIssued),
+        ),
+        (
+            "blk-trace,1,1,1,0,\nsetup,0,9,256,128,\njoin,0,1,,,\nbio,x\n",
+            Why::Count,
+        ),
+        (
+            "blk-trace,1,1,1,0,\nsetup,0,9,256,128,\njoin,0,0,,,\n",
+            Why::Range,
+        ),
+    ] {
+        let answer = read_trace(rt.alloc(), &mut Records::new(rt.alloc(), text.as_bytes()));
+        assert!(rt; answer.err() == Some(TextFault { at: 3, why }), "{text}");
+    }
+}
