@@ -29,7 +29,7 @@ use Rattle.blk_text.specs.Texts.{rows_text}
 use Rattle.blk_text.specs.Commands.{SpellsCommands, CommandsFault}
 use Rattle.blk_text.specs.Script.{Scripted, SpellsScript, ScriptFault}
 use Rattle.blk_text.specs.TraceRecords.{trace_rows}
-use Rattle.blk_text.specs.TraceForm.{latest, SpellsTrace, SpellsTraceIn, TraceFault}
+use Rattle.blk_text.specs.TraceForm.{SpellsTrace, TraceFault}
 use Rattle.blk_text.specs.Certificate.{Claim, claim_rows, SpellsClaim, ClaimFault}
 use Rattle.blk_sim.specs.declared.refusal.SimFault.{SimFault}
 use Rattle.blk_sim.specs.Policies.{Policy, policy_of}
@@ -103,7 +103,7 @@ pub record SimWrote (s : Sched) (rows : List Row) (old new : Option (List ℕ)) 
   pub read : SpellsScript rows script
   pub ran : RunsUnder s script trace
   pub setup : trace.setup ≡ script.setup
-  pub spelled : SpellsTraceIn latest (trace_rows trace) trace
+  pub spelled : SpellsTrace (trace_rows trace) trace
   pub bios : IsPermutation (entered trace.events) (released_bios script.setup.hw script.lines)
   pub ticks : round_of trace.events ≡ sum_by ticks_of script.lines
   pub wrote : Appends old new (rows_text (trace_rows trace))
@@ -113,7 +113,7 @@ pub record SimWrote (s : Sched) (rows : List Row) (old new : Option (List ℕ)) 
 pub record MigrateWrote (rows : List Row) (old new : Option (List ℕ)) : Type 0 where
   pub trace : Traced
   pub read : SpellsTrace rows trace
-  pub spelled : SpellsTraceIn latest (trace_rows trace) trace
+  pub spelled : SpellsTrace (trace_rows trace) trace
   pub wrote : Appends old new (rows_text (trace_rows trace))
 
 -- the schedule is legal, its greatest lateness is the one stated, the window is crowded at it, and it is least

@@ -13,7 +13,7 @@ ghost use Rattle.blk_text.specs.Certificate.{IsClaim, IsLateness, claimed};
 ghost use Rattle.blk_text.specs.Commands.{AreCommands};
 ghost use Rattle.blk_text.specs.Texts.{rows_text};
 ghost use Rattle.blk_text.specs.TraceRecords.{trace_rows};
-ghost use Rattle.blk_text.specs.TraceForm.{latest, SpellsTraceIn};
+ghost use Rattle.blk_text.specs.TraceForm.{SpellsTrace};
 ghost use Rattle.blk_cli.specs.Outcome.{RunsUnder, IsUnrun, IsUnsolved, IsUnproved, SimWrote, SimFails, MigrateWrote, MigrateFails, OracleWrote, OracleFails, CheckWrote, CheckFails, VersionFails, IsProved, verdict_of, version_line};
 
 use crate::failure::Failure;
@@ -119,7 +119,7 @@ fn traced(alloc: Global, sched: Sched, script: &Script) -> Result<Trace, Failure
 /// Writes a trace.
 fn put_trace<W: Write>(alloc: Global, trace: &Trace, writer: &mut W) -> Result<(), Failure>
     ensures wrote { OnOk result (Appends (W.contents writer.old) (W.contents writer.new) (rows_text (trace_rows trace.now))) }
-    ensures spells { OnOk result (SpellsTraceIn latest (trace_rows trace.now) trace.now) }
+    ensures spells { OnOk result (SpellsTrace (trace_rows trace.now) trace.now) }
     ensures failed { IfErr result IsOfWriter }
 {
     match write_trace(alloc, trace, writer) {
