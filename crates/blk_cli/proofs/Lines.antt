@@ -9,7 +9,7 @@ use Rattle.clap.proofs.ValueTestLemmas.{accepts-Accepts, Accepts-accepts}
 use Rattle.clap.specs.declared.builder.value_parser.ValueParser.TheVariants as vp
 use Rattle.clap.proofs.WalkLemmas.{first_value-rows, one_text-rows}
 use Rattle.clap.specs.declared.parser.matches.Found.{Found}
-use Rattle.clap.specs.Words.{App, Rule, Row, Text, with_rule, ReadsOne, one_of, one_text, first_value, IsAmong, HasKind, subcommand_rows_of, subcommand_of, subcommand_name_of, is_simple, is_simple_and_free, fault_of, kind_of, rows_of, found_of, HasMatchesOf}
+use Rattle.clap.specs.Words.{App, Rule, Row, Text, with_rule, with_subcommand, ReadsOne, one_of, one_text, first_value, IsAmong, HasKind, subcommand_rows_of, subcommand_of, subcommand_name_of, is_simple, is_simple_and_free, fault_of, kind_of, rows_of, found_of, HasMatchesOf}
 use Rattle.clap.specs.declared.parser.matches.ArgMatches.{ArgMatches}
 use Rattle.clap.specs.declared.parser.matches.ArgMatches.TheViews.{out-ArgMatches, out-SubCommand}
 use Rattle.clap.specs.declared.error.Error.{Error}
@@ -159,6 +159,10 @@ kyber_named rows name o other another is given = by_name rows name _ _ _ other a
 
 pub unnamed : (rows : List Row) (name : Text) → bytes_eq name (codes "none") ≡ false → bytes_eq name (codes "deadline") ≡ false → bytes_eq name (codes "kyber") ≡ false → sched_named rows name ≡ None
 unnamed rows name other another third = by_name rows name _ _ _ other another third
+
+-- a command with one subcommand more
+pub adds_command : (x a b p q : App) → x ≡ with_subcommand a p.top → a ≡ b → p ≡ q → x ≡ with_subcommand b q.top
+adds_command x a b p q e f g = e ∙ ap (λ (y : App). with_subcommand y p.top) f ∙ ap (λ (r : App). with_subcommand b r.top) g
 
 -- a command with one rule more
 pub adds_rule : (x a b : App) (p q : Rule) → x ≡ with_rule a p → a ≡ b → p ≡ q → x ≡ with_rule b q

@@ -72,6 +72,10 @@ pub target_line : (name : Text) (p q r s : ℕ × ℕ) → IsReadAs (name ∷ co
 unfolding clap_on_literals
 target_line name p q r s = (refl, refl)
 
+pub migrate_line : (name : Text) (p q r s : ℕ × ℕ) → IsReadAs (name ∷ codes "migrate" ∷ []) job.Migrate (at_places p q r s)
+unfolding clap_on_literals
+migrate_line name p q r s = (refl, refl)
+
 pub oracle_line : (name : Text) (p q r s : ℕ × ℕ) → IsReadAs (name ∷ codes "oracle" ∷ []) job.Oracle (at_places p q r s)
 unfolding clap_on_literals
 oracle_line name p q r s = (refl, refl)

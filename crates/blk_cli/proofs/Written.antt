@@ -1,6 +1,6 @@
 -- What each job wrote or why it failed, from what was read, what was made of it and what the writer took.
 use Rattle.std.proofs.Common.{ℕ, zero, suc, arith, ◌≡◌, ◌∙◌, ◌⊎◌, ◌*◌, refl, Result, Ok, Err, IfOk, List, Option, Some, None, subst, sym, inl, inr}
-use Rattle.std.specs.Prelude.{◌<◌, ◌↔◌, Bool, ℤ, pos, ◌+ℤ◌, IfSome, IsPermutation, sum_by}
+use Rattle.std.specs.Prelude.{◌<◌, ◌↔◌, OnOk, IfErr, MatchResult, Bool, ℤ, pos, ◌+ℤ◌, IfSome, IsPermutation, sum_by}
 use Rattle.std.specs.Io.KnownBytes.{Appends}
 use Rattle.edd_check.specs.declared.Command.{Command}
 use Rattle.edd_check.specs.declared.CheckFault.{CheckFault}
@@ -18,8 +18,8 @@ use Rattle.blk_text.specs.Texts.{rows_text}
 use Rattle.blk_text.specs.Commands.{SpellsCommands}
 use Rattle.blk_text.specs.Certificate.{Claim, claim_rows, SpellsClaim}
 use Rattle.blk_text.specs.Script.{Scripted, SpellsScript}
-use Rattle.blk_text.specs.TraceForm.{SpellsTrace}
 use Rattle.blk_text.specs.TraceRecords.{trace_rows}
+use Rattle.blk_text.specs.TraceForm.{SpellsTrace}
 use Rattle.blk_sched.specs.declared.SchedFault.{SchedFault}
 use Rattle.blk_sched.specs.declared.SchedFault.TheVariants as setting
 use Rattle.blk_deadline.specs.declared.Tunables.{Tunables}
@@ -31,9 +31,10 @@ use Rattle.blk_sim.specs.Simulation.{released_bios, ticks_of}
 use Rattle.blk_sim.specs.Refusals.{IsSimFault}
 use Rattle.blk_cli.specs.declared.words.Sched.{Sched}
 use Rattle.blk_cli.specs.declared.words.Sched.TheVariants as under
+use Rattle.blk_cli.specs.Statuses.{IsOfWriter}
 use Rattle.blk_cli.specs.declared.failure.Failure.{Failure}
 use Rattle.blk_cli.specs.declared.failure.Failure.TheVariants as failure
-use Rattle.blk_cli.specs.Outcome.{RunsUnder, RunsFrom, IsMade, IsRefusedUnder, IsUnmade, IsSettingFault, IsProved, OracleWrote, SimWrote, CheckWrote, bound_line, verdict_of, IsTextFault, IsStepFault, IsSolveFault, IsCheckFault, IsRefusedBound, IsUnrun, IsUnsolved, IsUnproved, SimFails, OracleFails, CheckFails}
+use Rattle.blk_cli.specs.Outcome.{RunsUnder, RunsFrom, IsMade, IsRefusedUnder, IsUnmade, IsSettingFault, IsProved, OracleWrote, SimWrote, MigrateWrote, MigrateFails, CheckWrote, bound_line, verdict_of, IsTextFault, IsStepFault, IsSolveFault, IsCheckFault, IsRefusedBound, IsUnrun, IsUnsolved, IsUnproved, SimFails, OracleFails, CheckFails}
 
 -- a text's first fault, or one from outside
 pub text_fault : (wrong : List Row → ℕ → Why → Type 0) (input : Option (List Row)) (failed : Bool) (f : TextFault)
@@ -41,7 +42,7 @@ pub text_fault : (wrong : List Row → ℕ → Why → Type 0) (input : Option (
 text_fault wrong None failed f h = tt
 text_fault wrong (Some rows) failed f h = elim h [ inl o ↦ elim o [ inl r ↦ inl r.0 | inr m ↦ inr (inl m) ] | inr w ↦ inr (inr w) ]
 
-pub sim_wrote : (sched : Sched) (left : Option (List Row)) (s : Scripted) (t : Traced) (old new : Option (List ℕ)) → IfSome left (λ rows. SpellsScript rows s)
+sim_wrote : (sched : Sched) (left : Option (List Row)) (s : Scripted) (t : Traced) (old new : Option (List ℕ)) → IfSome left (λ rows. SpellsScript rows s)
     → RunsUnder sched s t → t.setup ≡ s.setup → SpellsTrace (trace_rows t) t → IsPermutation (entered t.events) (released_bios s.setup.hw s.lines)
     → round_of t.events ≡ sum_by ticks_of s.lines → Appends old new (rows_text (trace_rows t)) → IfSome left (λ rows. SimWrote sched rows old new)
 sim_wrote sched None s t old new read ran setup spelled bios ticks wrote = tt
@@ -57,6 +58,26 @@ setting_fault : (sched : Sched) (left : Option (List Row)) (s : Scripted) (f : S
     → IsUnmade sched f → IsSettingFault sched left f
 setting_fault sched None s f read unmade = tt
 setting_fault sched (Some rows) s f read unmade = (s, read, unmade)
+
+-- what comes of a script that was run, by what became of its trace
+pub sim_came : (sched : Sched) (left : Option (List Row)) (s : Scripted) (t : Traced) (old new : Option (List ℕ)) (r : Result (Unit {0}) Failure) → IfSome left (λ rows. SpellsScript rows s)
+    → RunsUnder sched s t → t.setup ≡ s.setup → IsPermutation (entered t.events) (released_bios s.setup.hw s.lines) → round_of t.events ≡ sum_by ticks_of s.lines
+    → OnOk r (SpellsTrace (trace_rows t) t) → OnOk r (Appends old new (rows_text (trace_rows t))) → IfErr r IsOfWriter
+    → MatchResult r (λ _. IfSome left (λ rows. SimWrote sched rows old new)) (SimFails sched left)
+sim_came sched left s t old new (Ok u) read ran setup bios ticks spelled wrote failed = sim_wrote sched left s t old new read ran setup spelled bios ticks wrote
+sim_came sched left s t old new (Err f) read ran setup bios ticks spelled wrote failed = rw failed.1 tt
+
+-- what comes of a trace that was read
+migrated : (left : Option (List Row)) (t : Traced) (old new : Option (List ℕ)) → IfSome left (λ rows. SpellsTrace rows t) → SpellsTrace (trace_rows t) t → Appends old new (rows_text (trace_rows t))
+    → IfSome left (λ rows. MigrateWrote rows old new)
+migrated None t old new read spelled wrote = tt
+migrated (Some rows) t old new read spelled wrote = record { trace = t; read = read; spelled = spelled; wrote = wrote }
+
+pub migrate_wrote : (left : Option (List Row)) (t : Traced) (old new : Option (List ℕ)) (r : Result (Unit {0}) Failure) → IfSome left (λ rows. SpellsTrace rows t)
+    → OnOk r (SpellsTrace (trace_rows t) t) → OnOk r (Appends old new (rows_text (trace_rows t))) → IfErr r IsOfWriter
+    → MatchResult r (λ _. IfSome left (λ rows. MigrateWrote rows old new)) (MigrateFails left)
+migrate_wrote left t old new (Ok u) read spelled wrote failed = migrated left t old new read spelled wrote
+migrate_wrote left t old new (Err f) read spelled wrote failed = rw failed.1 tt
 
 -- a script that was read and not run
 pub sim_fails : (sched : Sched) (left : Option (List Row)) (s : Scripted) (f : Failure) → IfSome left (λ rows. SpellsScript rows s) → IsUnrun sched s f → SimFails sched left f

@@ -59,8 +59,9 @@ sched_of rows = option_and_then (sched_named rows) (first_of (codes "sched") row
 abbrev pub job_of : Text × List Row → Option Job
 job_of p =
     if bytes_eq p.0 (codes "sim") then option_map job.Sim (sched_of p.1)
+    else (if bytes_eq p.0 (codes "migrate") then Some job.Migrate
     else (if bytes_eq p.0 (codes "oracle") then Some job.Oracle
-    else (if bytes_eq p.0 (codes "check") then Some job.Check else None))
+    else (if bytes_eq p.0 (codes "check") then Some job.Check else None)))
 
 -- the job that the command line reads in words
 abbrev pub job_read : App → List Text → Option Job

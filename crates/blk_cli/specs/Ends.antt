@@ -8,10 +8,10 @@ use Rattle.edd_oracle.specs.declared.OracleFault.{OracleFault}
 use Rattle.edd_oracle.specs.declared.OracleFault.TheVariants as oracle
 use Rattle.blk_bio.specs.declared.bio.BioFault.{BioFault}
 use Rattle.blk_bio.specs.declared.bio.BioFault.TheVariants as bio
-use Rattle.blk_sched.specs.declared.SchedFault.{SchedFault}
-use Rattle.blk_sched.specs.declared.SchedFault.TheVariants as setting
 use Rattle.blk_trace.specs.declared.rule.TraceRule.{TraceRule}
 use Rattle.blk_trace.specs.declared.rule.TraceRule.TheVariants as rule
+use Rattle.blk_sched.specs.declared.SchedFault.{SchedFault}
+use Rattle.blk_sched.specs.declared.SchedFault.TheVariants as setting
 use Rattle.blk_text.specs.declared.fault.Why.{Why}
 use Rattle.blk_text.specs.declared.fault.Why.TheVariants as why
 use Rattle.blk_text.specs.declared.fault.WriteFault.TheVariants as write
@@ -71,7 +71,7 @@ text_name why.Number = codes "Number"
 text_name why.Range = codes "Range"
 text_name (why.Bio fault) = bio_name fault
 text_name why.Tile = codes "Tile"
-text_name (why.Rule rule) = rule_name rule
+text_name (why.Rule r) = rule_name r
 text_name why.Count = codes "Count"
 text_name why.TooLong = codes "TooLong"
 text_name why.Read = codes "Read"

@@ -43,6 +43,11 @@ sim_app names =
 abbrev pub topmost : App → App
 topmost a = record a { top = record a.top { has_version = true; subcommand_required = true } }
 
+-- with a subcommand that has no options
+abbrev pub with_plain : App → Text → App
+with_plain a name = with_subcommand a (new_app name).top
+
 -- the command and its subcommands
 abbrev pub blk_app : Names → App
-blk_app names = with_subcommand (with_subcommand (with_subcommand (topmost (new_app (codes "blk"))) (sim_app names).top) (new_app (codes "oracle")).top) (new_app (codes "check")).top
+blk_app names =
+    with_plain (with_plain (with_plain (with_subcommand (topmost (new_app (codes "blk"))) (sim_app names).top) (codes "migrate")) (codes "oracle")) (codes "check")

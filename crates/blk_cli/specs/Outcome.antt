@@ -28,8 +28,8 @@ use Rattle.blk_text.specs.Sources.{Row}
 use Rattle.blk_text.specs.Texts.{rows_text}
 use Rattle.blk_text.specs.Commands.{SpellsCommands, CommandsFault}
 use Rattle.blk_text.specs.Script.{Scripted, SpellsScript, ScriptFault}
-use Rattle.blk_text.specs.TraceForm.{SpellsTrace}
 use Rattle.blk_text.specs.TraceRecords.{trace_rows}
+use Rattle.blk_text.specs.TraceForm.{SpellsTrace, TraceFault}
 use Rattle.blk_text.specs.Certificate.{Claim, claim_rows, SpellsClaim, ClaimFault}
 use Rattle.blk_sim.specs.declared.refusal.SimFault.{SimFault}
 use Rattle.blk_sim.specs.Policies.{Policy, policy_of}
@@ -106,6 +106,14 @@ pub record SimWrote (s : Sched) (rows : List Row) (old new : Option (List ℕ)) 
   pub spelled : SpellsTrace (trace_rows trace) trace
   pub bios : IsPermutation (entered trace.events) (released_bios script.setup.hw script.lines)
   pub ticks : round_of trace.events ≡ sum_by ticks_of script.lines
+  pub wrote : Appends old new (rows_text (trace_rows trace))
+
+-- what `migrate` wrote: in the latest version, the text of the trace that was read in one of the versions. So its commands, their
+-- rounds and the bios that wait are those that were read
+pub record MigrateWrote (rows : List Row) (old new : Option (List ℕ)) : Type 0 where
+  pub trace : Traced
+  pub read : SpellsTrace rows trace
+  pub spelled : SpellsTrace (trace_rows trace) trace
   pub wrote : Appends old new (rows_text (trace_rows trace))
 
 -- the schedule is legal, its greatest lateness is the one stated, the window is crowded at it, and it is least
@@ -209,6 +217,15 @@ SimFails s input (failure.Check f) = ⊥
 SimFails s input (failure.Write f) = ⊤
 SimFails s input failure.Memory = ⊤
 
+abbrev pub MigrateFails : Option (List Row) → Failure → Type 0
+MigrateFails input (failure.Text f) = IsTextFault TraceFault input f
+MigrateFails input (failure.Sched f) = ⊥
+MigrateFails input (failure.Step f) = ⊥
+MigrateFails input (failure.Solve f) = ⊥
+MigrateFails input (failure.Check f) = ⊥
+MigrateFails input (failure.Write f) = ⊤
+MigrateFails input failure.Memory = ⊥
+
 abbrev pub OracleFails : Option (List Row) → Failure → Type 0
 OracleFails input (failure.Text f) = IsTextFault CommandsFault input f
 OracleFails input (failure.Sched f) = ⊥
@@ -235,7 +252,7 @@ VersionFails (failure.Step f) = ⊥
 VersionFails (failure.Solve f) = ⊥
 VersionFails (failure.Check f) = ⊥
 VersionFails (failure.Write f) = ⊤
-VersionFails failure.Memory = ⊤
+VersionFails failure.Memory = ⊥
 
 abbrev pub version_line : List ℕ
 version_line = codes "blk 1.0.0" ++ 10 ∷ []
@@ -244,5 +261,6 @@ version_line = codes "blk 1.0.0" ++ 10 ∷ []
 abbrev pub Does : Job → Option (List Row) → Option (List ℕ) → Option (List ℕ) → Result (Unit {0}) Failure → Type 0
 Does job.Version input old new r = MatchResult r (λ _. Appends old new version_line) VersionFails
 Does (job.Sim s) input old new r = MatchResult r (λ _. IfSome input (λ rows. SimWrote s rows old new)) (SimFails s input)
+Does job.Migrate input old new r = MatchResult r (λ _. IfSome input (λ rows. MigrateWrote rows old new)) (MigrateFails input)
 Does job.Oracle input old new r = MatchResult r (λ _. IfSome input (λ rows. OracleWrote rows old new)) (OracleFails input)
 Does job.Check input old new r = MatchResult r (λ _. IfSome input (λ rows. CheckWrote rows old new)) (CheckFails input)

@@ -11,7 +11,10 @@ ghost use Rattle.edd_check.specs.Window.{rounds_between, WindowInRange};
 ghost use Rattle.blk_text.specs.Sources.{input_of};
 ghost use Rattle.blk_text.specs.Certificate.{IsClaim, IsLateness, claimed};
 ghost use Rattle.blk_text.specs.Commands.{AreCommands};
-ghost use Rattle.blk_cli.specs.Outcome.{RunsUnder, IsUnrun, IsUnsolved, IsUnproved, SimWrote, SimFails, OracleWrote, OracleFails, CheckWrote, CheckFails, VersionFails, IsProved, verdict_of, version_line};
+ghost use Rattle.blk_text.specs.Texts.{rows_text};
+ghost use Rattle.blk_text.specs.TraceRecords.{trace_rows};
+ghost use Rattle.blk_text.specs.TraceForm.{SpellsTrace};
+ghost use Rattle.blk_cli.specs.Outcome.{RunsUnder, IsUnrun, IsUnsolved, IsUnproved, SimWrote, SimFails, MigrateWrote, MigrateFails, OracleWrote, OracleFails, CheckWrote, CheckFails, VersionFails, IsProved, verdict_of, version_line};
 
 use crate::failure::Failure;
 use crate::words::{Sched, VERSION};
@@ -21,7 +24,7 @@ use blk_none::NoneSched;
 use blk_sim::simulate;
 use blk_text::{
     Certificate, Records, Script, WriteFault, read_certificate, read_commands, read_script,
-    write_certificate, write_trace,
+    read_trace, write_certificate, write_trace,
 };
 use blk_trace::Trace;
 use edd_check::{Capacity, Command, Window, check, load};
@@ -113,6 +116,18 @@ fn traced(alloc: Global, sched: Sched, script: &Script) -> Result<Trace, Failure
     }
 }
 
+/// Writes a trace.
+fn put_trace<W: Write>(alloc: Global, trace: &Trace, writer: &mut W) -> Result<(), Failure>
+    ensures wrote { OnOk result (Appends (W.contents writer.old) (W.contents writer.new) (rows_text (trace_rows trace.now))) }
+    ensures spells { OnOk result (SpellsTrace (trace_rows trace.now) trace.now) }
+    ensures failed { IfErr result IsOfWriter }
+{
+    match write_trace(alloc, trace, writer) {
+        Ok(()) => Ok(()),
+        Err(fault) => Err(Failure::Write(fault)),
+    }
+}
+
 /// Reads a script, runs it under a scheduler, and writes its trace.
 pub fn simulate_script<R: Read + Drop, W: Write>(
     alloc: Global,
@@ -132,10 +147,24 @@ pub fn simulate_script<R: Read + Drop, W: Write>(
         Ok(trace) => trace,
         Err(failure) => return Err(failure),
     };
-    match write_trace(alloc, &trace, writer) {
-        Ok(()) => Ok(()),
-        Err(fault) => Err(Failure::Write(fault)),
-    }
+    put_trace(alloc, &trace, writer)
+}
+
+/// Reads a trace, and writes it in the latest version.
+pub fn migrate_trace<R: Read + Drop, W: Write>(
+    alloc: Global,
+    reader: R,
+    writer: &mut W,
+) -> Result<(), Failure>
+    ensures did { MatchResult result (λ _. IfSome (input_of (R.remaining reader)) (λ rows. MigrateWrote rows (W.contents writer.old) (W.contents writer.new)))
+        (MigrateFails (input_of (R.remaining reader))) }
+    ensures kept { IfErr result (λ f. IsOfWriter f ⊎ (writer.new ≡ writer.old)) }
+{
+    let trace = match read_trace(alloc, &mut Records::new(alloc, reader)) {
+        Ok(trace) => trace,
+        Err(fault) => return Err(Failure::Text(fault)),
+    };
+    put_trace(alloc, &trace, writer)
 }
 
 /// The certificate of the least schedule of commands.

@@ -13,7 +13,9 @@ mod jobs;
 mod words;
 
 pub use crate::failure::Failure;
-use crate::jobs::{check_certificate, simulate_script, solve_commands, write_version};
+use crate::jobs::{
+    check_certificate, migrate_trace, simulate_script, solve_commands, write_version,
+};
 pub use crate::words::{Job, Sched, VERSION};
 use crate::words::{NoJob, choose};
 pub use blk_sim::laws;
@@ -54,6 +56,7 @@ pub fn work<R: Read + Drop, W: Write>(
     match job {
         Job::Version => write_version(writer),
         Job::Sim(sched) => simulate_script(alloc, sched, reader, writer),
+        Job::Migrate => migrate_trace(alloc, reader, writer),
         Job::Oracle => solve_commands(alloc, reader, writer),
         Job::Check => check_certificate(alloc, reader, writer),
     }

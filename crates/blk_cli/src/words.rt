@@ -40,6 +40,8 @@ pub enum Job {
     Version,
     /// Run a script under a scheduler, and write its trace.
     Sim(Sched),
+    /// Write a trace in the latest version.
+    Migrate,
     /// Write the certificate of a command list.
     Oracle,
     /// Check a certificate.
@@ -156,6 +158,7 @@ fn blk_command<'a>(alloc: Global) -> Result<Command<'a>, AllocError>
     ensures { IfOk result (λ c. (names : Names) × AreSchedulers names × (app_of c ≡ blk_app names)) }
 {
     let sim = sim_command(alloc)?;
+    let migrate = Command::new(alloc, "migrate").about("Writes a trace in the latest version");
     let oracle = Command::new(alloc, "oracle").about(
         "Writes a least schedule of a command list, with its certificate",
     );
@@ -165,6 +168,7 @@ fn blk_command<'a>(alloc: Global) -> Result<Command<'a>, AllocError>
         .about("A multiqueue block layer, and how far its schedules fall short of the best")
         .subcommand_required(true)
         .subcommand(sim)?
+        .subcommand(migrate)?
         .subcommand(oracle)?
         .subcommand(check)?;
     Ok(blk)
@@ -243,6 +247,8 @@ fn job_of(matches: &ArgMatches<'_>) -> Option<Job>
     if name == "sim" {
         let sched = sched_of(options)?;
         Some(Job::Sim(sched))
+    } else if name == "migrate" {
+        Some(Job::Migrate)
     } else if name == "oracle" {
         Some(Job::Oracle)
     } else if name == "check" {

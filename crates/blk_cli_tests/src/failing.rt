@@ -11,6 +11,10 @@ const SCRIPT: &str =
 const TRACE: &str =
     "blk-trace,2,1,1,8,\nsetup,0,9,256,128,\nrelease,0,1,,,\nbio,0,0,W,100,8\nrelease,1,1,,,\nbio,0,1,R,200,8\nissue,0,0,,,\ndone,0,,,,\ntick,,,,,\nissue,1,0,,,\ndone,0,,,,\ntick,,,,,\n";
 
+/// The same in version 1.
+const OLD_TRACE: &str =
+    "blk-trace,1,1,1,8,\nsetup,0,9,256,128,\nrelease,0,1,,,\nbio,0,0,W,100,8\nrelease,1,1,,,\nbio,0,1,R,200,8\nissue,0,0,,,\ndone,0,,,,\ntick,,,,,\nissue,1,0,,,\ndone,0,,,,\ntick,,,,,\n";
+
 /// Three commands that are due in the round of their release.
 const COMMANDS: &str = "blk-commands,1,1\n1,0,0\n2,0,0\n3,0,0\n";
 
@@ -18,9 +22,10 @@ const COMMANDS: &str = "blk-commands,1,1\n1,0,0\n2,0,0\n3,0,0\n";
 const CERTIFICATE: &str = "blk-certificate,1,1,3\nbound,2,0,0\n1,0,0,0\n2,0,0,1\n3,0,0,2\n";
 
 /// Each subcommand, with an input and its output.
-fn good_runs<'a>() -> [(&'a str, &'a str, &'a str); 3] {
+fn good_runs<'a>() -> [(&'a str, &'a str, &'a str); 4] {
     [
         ("sim", SCRIPT, TRACE),
+        ("migrate", OLD_TRACE, TRACE),
         ("oracle", COMMANDS, CERTIFICATE),
         ("check", CERTIFICATE, "ok lateness 2 load 3 carries 2\n"),
     ]
