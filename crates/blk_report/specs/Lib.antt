@@ -1,3 +1,4 @@
 pub mod Shortfall
 pub mod Comparison
 pub mod Lines
+pub mod Table

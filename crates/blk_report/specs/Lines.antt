@@ -1,6 +1,5 @@
 -- A report and a table of reports as texts.
-use Rattle.std.specs.Prelude.{ℕ, ◌++◌, ◌-◌, ◌∷◌, [], List, length, Option, Some, None, ℤ, decimal, codes, replicate, zero, suc, slice_index_or}
-use Rattle.std.specs.Borrow.{Bor}
+use Rattle.std.specs.Prelude.{ℕ, ◌++◌, ◌∷◌, [], List, Option, Some, None, ℤ, decimal, codes}
 use Rattle.std.specs.Fmt.{signed_decimal}
 use Rattle.edd_check.specs.declared.Window.{Window}
 use Rattle.blk_report.specs.declared.figures.Report.{Report}

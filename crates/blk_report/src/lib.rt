@@ -6,18 +6,21 @@
 //! proves the least.
 #![tactic(auto)]
 
-ghost use Rattle.std.specs.Prelude.{◌≡◌, IfOk, IfSome, IsNone, ◌↔◌};
+ghost use Rattle.std.specs.Prelude.{◌≡◌, IfOk};
 ghost use Rattle.edd_check.specs.Schedule.{IsLegal};
 ghost use Rattle.edd_oracle.specs.Answer.{IsBest};
 ghost use Rattle.blk_trace.specs.Laws.{AreBounded};
 ghost use Rattle.blk_report.specs.Shortfall.{IsReport, HasFigures};
-ghost use Rattle.blk_report.specs.Comparison.{IsFirstBest, HasNoBest, better_of};
 
+mod comparison;
 mod figures;
 mod lines;
+mod table;
 
+pub use crate::comparison::compare;
 pub use crate::figures::Report;
 pub use crate::lines::write;
+pub use crate::table::write_table;
 use blk_trace::Trace;
 use edd_check::{Capacity, Command, greatest_lateness, load};
 use edd_oracle::{Answer, solve};
@@ -81,33 +84,5 @@ pub fn report<A: Allocator + Clone>(trace: &Trace<A>) -> Result<Report, AllocErr
         )),
         // a trace's commands are within the limits of the oracle, so want of memory is all that it refuses them for
         Err(_) => Err(AllocError),
-    }
-}
-
-/// The better of the best so far and the next report, which is at this place and has this greatest lateness: the best so far,
-/// unless there is none or the next one is less late.
-fn better(best: Option<(usize, i64)>, place: usize, late: Option<i64>) -> Option<(usize, i64)>
-    ensures { result ≡ better_of best place late }
-{
-    match (best, late) {
-        (Some((_, least)), Some(late)) if late < least => Some((place, late)),
-        (None, Some(late)) => Some((place, late)),
-        _ => best,
-    }
-}
-
-/// The place of the report with the smallest greatest lateness, the first on a tie; there is none exactly where no report has
-/// commands. It takes no memory.
-pub fn compare(reports: &[Report]) -> Option<usize>
-    ensures best { IfSome result (IsFirstBest reports.now) }
-    ensures none { IsNone result ↔ HasNoBest reports.now }
-{
-    let mut best = None;
-    for place in 0..reports.len() {
-        best = better(best, place, reports[place].greatest);
-    }
-    match best {
-        Some((place, _)) => Some(place),
-        None => None,
     }
 }

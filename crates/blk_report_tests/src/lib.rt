@@ -9,3 +9,5 @@ mod given;
 mod refusals;
 #[cfg(test)]
 mod reports;
+#[cfg(test)]
+mod texts;

@@ -1,5 +1,5 @@
 use Rattle.blk_report.specs.Comparison.{IsBestOf}
-use Rattle.blk_report.proofs.compare.Given as goal
+use Rattle.blk_report.proofs.comparison.compare.Given as goal
 
 abbrev pub invariant-loop-place : goal.invariant-loop-place
 invariant-loop-place l = IsBestOf l.reports l.place l.best

@@ -2,7 +2,7 @@ use Rattle.std.proofs.Common.{◌≡◌, ◌<◌, ◌+◌, ℕ, length, None, su
 use Rattle.blk_report.specs.declared.figures.Report.{Report}
 use Rattle.blk_report.specs.Comparison.{IsBestOf, LeadsOf}
 use Rattle.blk_report.proofs.Leading.{best_next, led}
-use Rattle.blk_report.proofs.compare.Goals as goal
+use Rattle.blk_report.proofs.comparison.compare.Goals as goal
 
 pub loop-place-init : goal.loop-place-init
 loop-place-init c = λ k d lt. absurd (omega arith)

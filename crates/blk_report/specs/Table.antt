@@ -1,0 +1,46 @@
+-- A table of reports as text.
+use Rattle.std.specs.Prelude.{ℕ, ◌≡◌, ◌++◌, ◌-◌, ◌∷◌, [], List, length, Option, Some, None, decimal, codes, zero, suc, slice_index_or}
+use Rattle.std.proofs.Math.ListN.{replicate}
+use Rattle.blk_report.specs.declared.figures.Report.{Report}
+use Rattle.blk_report.specs.Comparison.{IsFirstBest, HasNoBest}
+use Rattle.blk_report.specs.Lines.{late_text}
+
+-- bytes at the left and at the right of so many places; more of them are not cut
+abbrev pub left_in : ℕ → List ℕ → List ℕ
+left_in places bytes = bytes ++ replicate (places - length bytes) 32
+
+abbrev pub right_in : ℕ → List ℕ → List ℕ
+right_in places bytes = replicate (places - length bytes) 32 ++ bytes
+
+-- the head line
+abbrev pub head_line : List ℕ
+head_line = codes "sched     commands   waiting  greatest     least shortfall" ++ 10 ∷ []
+
+-- a scheduler's line
+abbrev pub row_line : List ℕ → Report → List ℕ
+row_line name r = (((((left_in 8 name ++ right_in 10 (decimal r.commands)) ++ right_in 10 (decimal r.waiting)) ++ right_in 10 (late_text r.greatest)) ++ right_in 10 (late_text r.least)) ++ right_in 10 (late_text r.shortfall)) ++ 10 ∷ []
+
+-- a report without figures
+abbrev pub blank : Report
+blank = record { commands = 0; waiting = 0; depth = 0; greatest = None; least = None; shortfall = None; window = None; load = None }
+
+-- the head line and those of the first n schedulers
+abbrev pub lines_upto : List (List ℕ) → List Report → ℕ → List ℕ
+lines_upto names reports zero = head_line
+lines_upto names reports (suc n) = lines_upto names reports n ++ row_line (slice_index_or names n []) (slice_index_or reports n blank)
+
+-- the last line, which names the best
+abbrev pub best_line : List (List ℕ) → Option ℕ → List ℕ
+best_line names None = codes "best none-served" ++ 10 ∷ []
+best_line names (Some place) = (codes "best " ++ slice_index_or names place []) ++ 10 ∷ []
+
+-- the place is that of the best report, if there is one
+abbrev pub IsBestPlace : List Report → Option ℕ → Type 0
+IsBestPlace reports None = HasNoBest reports
+IsBestPlace reports (Some place) = IsFirstBest reports place
+
+-- the table of these reports, each under its scheduler's name
+pub record IsTable (names : List (List ℕ)) (reports : List Report) (text : List ℕ) : Type 0 where
+  pub best : Option ℕ
+  pub is_best : IsBestPlace reports best
+  pub is_text : text ≡ lines_upto names reports (length reports) ++ best_line names best
