@@ -12,7 +12,10 @@ use Rattle.blk_trace.specs.Setups.{Setup}
 use Rattle.blk_trace.specs.Happened.{Happened, Released, Finished, Returned}
 use Rattle.blk_trace.specs.Kinds.{ends}
 use Rattle.blk_trace.specs.Rules.{IsUnbroken}
-use Rattle.blk_trace.specs.Standing.{Seat, IsAllowed, places_of, unissued_at, waiting_count, released_count, seat_at, same_dir}
+use Rattle.blk_trace.specs.Inside.Seats.{Seat, seat_at}
+use Rattle.blk_trace.specs.Inside.Allowed.{IsAllowed, places_of}
+use Rattle.blk_trace.specs.Waits.{unissued_at, waiting_count, released_count}
+use Rattle.blk_trace.specs.Setups.{same_dir}
 use Rattle.blk_sched.specs.declared.picks.TheConstants.{MAX_HANDED}
 use Rattle.blk_sched.specs.Meaning.{Waiting, Meaning, Pending, HandsBack, opened, handed_back, handed_of}
 use Rattle.blk_hw.specs.Held.{held_total, held_count}

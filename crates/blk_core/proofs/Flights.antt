@@ -10,7 +10,8 @@ use Rattle.std.specs.List.{slice_get}
 use Rattle.blk_bio.specs.declared.bio.Dir.{Dir}
 use Rattle.blk_bio.specs.declared.bio.Dir.TheVariants.{Read, Write}
 use Rattle.blk_bio.specs.Requests.{dir_of}
-use Rattle.blk_trace.specs.Standing.{Seat, same_dir}
+use Rattle.blk_trace.specs.Inside.Seats.{Seat}
+use Rattle.blk_trace.specs.Setups.{same_dir}
 use Rattle.blk_sched.specs.Meaning.{Waiting, OpenPicks, opened, handed_of, handed_back}
 use Rattle.blk_core.specs.declared.TagState.{TagState}
 use Rattle.blk_core.specs.declared.TagState.TheVariants.{Free, Flying, Spent}

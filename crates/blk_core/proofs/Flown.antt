@@ -5,8 +5,8 @@ use Rattle.blk_trace.specs.Happened.{Happened, Issued}
 use Rattle.blk_trace.specs.Kinds.{ends}
 use Rattle.blk_trace.specs.Setups.{Setup}
 use Rattle.blk_trace.specs.Legal.{IsLegalTrace}
-use Rattle.blk_trace.specs.Standing.{waits_at}
-use Rattle.blk_trace.specs.Inside.Kept.{IsOpenBy}
+use Rattle.blk_trace.specs.Waits.{waits_at}
+use Rattle.blk_trace.specs.Events.{IsOpenBy}
 use Rattle.blk_trace.proofs.Places.{keep, last}
 use Rattle.blk_trace.proofs.Words.{split_end}
 use Rattle.blk_trace.proofs.Pushing.{shorter_legal, obeys}

@@ -9,7 +9,8 @@ use Rattle.std.proofs.Math.ListN.{replicate}
 use Rattle.blk_bio.specs.declared.bio.Dir.{Dir}
 use Rattle.blk_bio.specs.declared.bio.Dir.TheVariants.{Read, Write}
 use Rattle.blk_bio.specs.Requests.{dir_of}
-use Rattle.blk_trace.specs.Standing.{Entered, same_dir}
+use Rattle.blk_trace.specs.Waits.{Entered}
+use Rattle.blk_trace.specs.Setups.{same_dir}
 use Rattle.blk_sched.specs.Meaning.{Waiting}
 use Rattle.blk_hw.specs.Held.{held_total, held_count}
 use Rattle.blk_core.specs.State.{entered_of, is_of, is_named}

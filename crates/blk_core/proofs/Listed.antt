@@ -8,7 +8,7 @@ use Rattle.std.proofs.lemmas.Map.Keys.{any_passes_from_place}
 use Rattle.blk_trace.specs.Happened.{Happened, Issued}
 use Rattle.blk_trace.specs.Kinds.{ends}
 use Rattle.blk_trace.specs.Events.{At, EndsAt, IsOpen}
-use Rattle.blk_trace.specs.Standing.{is_done_of}
+use Rattle.blk_trace.specs.Kinds.{is_done_of}
 use Rattle.blk_core.specs.Opens.{open_issues}
 
 -- the tag has an open Issue of the id

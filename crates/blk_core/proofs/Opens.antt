@@ -17,7 +17,10 @@ use Rattle.blk_trace.specs.Events.{At, is_tick, open_count, request_of}
 use Rattle.blk_trace.specs.Legal.{IsLegalTrace}
 use Rattle.blk_trace.specs.Meaning.{release_of, due_of}
 use Rattle.blk_trace.specs.Rules.{IsUnbroken}
-use Rattle.blk_trace.specs.Standing.{Entered, waits_at, this_round, issued_by, is_done_of, same_dir, open_of}
+use Rattle.blk_trace.specs.Waits.{Entered, waits_at}
+use Rattle.blk_trace.specs.Inside.Seats.{this_round, issued_by, open_of}
+use Rattle.blk_trace.specs.Kinds.{is_done_of}
+use Rattle.blk_trace.specs.Setups.{same_dir}
 use Rattle.blk_trace.proofs.Ids.{by_legal, all_back}
 use Rattle.blk_trace.proofs.Words.{OnlyEnds, only_ends, done_by, issued_by_none}
 use Rattle.blk_trace.proofs.Entering.{same_entered, stays_out}

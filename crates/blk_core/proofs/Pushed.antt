@@ -11,7 +11,8 @@ use Rattle.blk_trace.specs.Rules.{IsUnbroken}
 use Rattle.blk_trace.specs.Events.{open_count, round_of, is_tick}
 use Rattle.blk_trace.specs.Legal.{IsLegalTrace}
 use Rattle.blk_trace.specs.Meaning.{released_ids}
-use Rattle.blk_trace.specs.Standing.{released_count, IsAllowed, places_of}
+use Rattle.blk_trace.specs.Waits.{released_count}
+use Rattle.blk_trace.specs.Inside.Allowed.{IsAllowed, places_of}
 use Rattle.blk_trace.specs.Traces.{Traced, IsPreparedFor}
 use Rattle.blk_trace.proofs.Steps.{allowed-unbroken}
 

@@ -9,8 +9,8 @@ use Rattle.blk_trace.specs.Setups.{Setup}
 use Rattle.blk_trace.specs.Events.{IsIssued, request_of}
 use Rattle.blk_trace.specs.Legal.{IsLegalTrace}
 use Rattle.blk_trace.specs.Meaning.{release_of, due_of, released_ids}
-use Rattle.blk_trace.specs.Standing.{Entered, has_id, waits_at, was_issued, unissued_at}
-use Rattle.blk_trace.specs.Inside.Kept.{IsOpenBy}
+use Rattle.blk_trace.specs.Waits.{Entered, has_id, waits_at, was_issued, unissued_at}
+use Rattle.blk_trace.specs.Events.{IsOpenBy}
 use Rattle.blk_trace.proofs.More.{was_issued_more}
 use Rattle.blk_trace.proofs.Pushing.{shorter_legal, obeys}
 use Rattle.blk_trace.proofs.Ids.{never_was, released_first, issued_was}

@@ -4,7 +4,7 @@ use Rattle.std.specs.Prelude.{IsSome}
 use Rattle.std.specs.Option.{is_some}
 use Rattle.blk_trace.specs.Happened.{Happened}
 use Rattle.blk_trace.specs.Events.{IsUsed}
-use Rattle.blk_trace.specs.Standing.{Seat, seat_at}
+use Rattle.blk_trace.specs.Inside.Seats.{Seat, seat_at}
 use Rattle.blk_trace.proofs.Seats.{taken_at}
 use Rattle.blk_trace.proofs.Steady.{seat_parts, seat_unused}
 

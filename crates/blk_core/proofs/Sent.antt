@@ -11,7 +11,10 @@ use Rattle.blk_trace.specs.Setups.{Setup}
 use Rattle.blk_trace.specs.Depths.{depth_now}
 use Rattle.blk_trace.specs.Happened.{Happened, Issued}
 use Rattle.blk_trace.specs.Meaning.{commands_of}
-use Rattle.blk_trace.specs.Standing.{IsAllowed, waits_at, unissued_at, waiting_count, seat_at, same_dir}
+use Rattle.blk_trace.specs.Inside.Allowed.{IsAllowed}
+use Rattle.blk_trace.specs.Waits.{waits_at, unissued_at, waiting_count}
+use Rattle.blk_trace.specs.Inside.Seats.{seat_at}
+use Rattle.blk_trace.specs.Setups.{same_dir}
 use Rattle.blk_sched.specs.Meaning.{Waiting, Meaning, Pending, Picks, HandsBack, opened, handed_back, handed_of}
 use Rattle.blk_hw.specs.Held.{held_total, held_count}
 use Rattle.blk_core.specs.declared.TagState.{TagState}

@@ -21,7 +21,10 @@ use Rattle.blk_trace.specs.Depths.{depth_now}
 use Rattle.blk_trace.proofs.Depths.{depth_now_is}
 use Rattle.blk_trace.specs.Events.{At, round_of, entered, AreOnce, open_count, join_up}
 use Rattle.blk_trace.specs.Meaning.{released_ids, issued_ids, served, waiting_ids, rising}
-use Rattle.blk_trace.specs.Standing.{Seat, IsAllowed, has_id, waits_at, was_issued, unissued_at, waiting_count, seat_at, open_of, released_count, this_round, same_dir}
+use Rattle.blk_trace.specs.Inside.Seats.{Seat, seat_at, open_of, this_round}
+use Rattle.blk_trace.specs.Inside.Allowed.{IsAllowed}
+use Rattle.blk_trace.specs.Waits.{has_id, waits_at, was_issued, unissued_at, waiting_count, released_count}
+use Rattle.blk_trace.specs.Setups.{same_dir}
 use Rattle.blk_sched.specs.declared.picks.TheConstants.{MAX_OPEN}
 use Rattle.blk_sched.specs.Meaning.{Waiting, Meaning, Pending, OpenPicks, Joins, open_of as open_picks_of, handed_of, no_picks, at_start, unfinished, joined_waiting}
 use Rattle.blk_hw.specs.Held.{held_total}

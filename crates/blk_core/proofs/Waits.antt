@@ -13,7 +13,7 @@ use Rattle.blk_bio.specs.Bios.{Bio}
 use Rattle.blk_bio.specs.Limits.{Limits}
 use Rattle.blk_bio.specs.Requests.{first_of, last_of, joined, IsWithin, Fits}
 use Rattle.blk_trace.specs.Events.{join_up}
-use Rattle.blk_trace.specs.Standing.{Entered}
+use Rattle.blk_trace.specs.Waits.{Entered}
 use Rattle.blk_sched.specs.Meaning.{Waiting, Pending}
 use Rattle.blk_sched.specs.Maps.{put_back}
 use Rattle.blk_core.specs.State.{entered_of}

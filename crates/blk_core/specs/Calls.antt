@@ -9,7 +9,8 @@ use Rattle.blk_trace.specs.Setups.{expire_of}
 use Rattle.blk_trace.specs.Happened.{Happened, Ticked, Released, Joined, Issued, Finished, Returned, DepthSet}
 use Rattle.blk_trace.specs.Events.{round_of, open_count}
 use Rattle.blk_trace.specs.Meaning.{commands_of}
-use Rattle.blk_trace.specs.Standing.{released_count, seat_at}
+use Rattle.blk_trace.specs.Waits.{released_count}
+use Rattle.blk_trace.specs.Inside.Seats.{seat_at}
 use Rattle.blk_sched.specs.Meaning.{Waiting, Meaning, HasNoCandidate, ServesNothing, Picks, HandsBack, Joins, opened}
 use Rattle.blk_hw.specs.Held.{held_in, held_total}
 use Rattle.blk_core.specs.declared.Placed.{Placed}

@@ -5,7 +5,7 @@ use Rattle.blk_bio.specs.Bios.{Bio}
 use Rattle.blk_trace.specs.declared.trace.TheConstants.{MAX_EVENTS}
 use Rattle.blk_trace.specs.Events.{entered, open_count, AreOnce}
 use Rattle.blk_trace.specs.Depths.{depth_now}
-use Rattle.blk_trace.specs.Standing.{seat_at}
+use Rattle.blk_trace.specs.Inside.Seats.{seat_at}
 use Rattle.blk_core.specs.Ids.{IsFirstRepeated}
 use Rattle.blk_core.specs.State.{CoreState}
 use Rattle.blk_core.specs.declared.CoreFault.{CoreFault}

@@ -5,7 +5,8 @@ use Rattle.blk_bio.specs.declared.bio.Dir.{Dir}
 use Rattle.blk_bio.specs.Requests.{dir_of}
 use Rattle.blk_trace.specs.Happened.{Happened, Issued}
 use Rattle.blk_trace.specs.Events.{request_of}
-use Rattle.blk_trace.specs.Standing.{is_done_of, same_dir}
+use Rattle.blk_trace.specs.Kinds.{is_done_of}
+use Rattle.blk_trace.specs.Setups.{same_dir}
 
 -- the id and the tag of each Issue whose tag no event after it ends, in their order
 unfoldable pub open_issues : List Happened → List (ℕ × ℕ)

@@ -11,7 +11,9 @@ use Rattle.blk_bio.specs.Requests.{dir_of}
 use Rattle.blk_trace.specs.Setups.{Setup}
 use Rattle.blk_trace.specs.Happened.{Happened, happened_code}
 use Rattle.blk_trace.specs.Events.{round_of}
-use Rattle.blk_trace.specs.Standing.{Entered, waits_at, was_issued, unissued_at, waiting_count, open_of, same_dir}
+use Rattle.blk_trace.specs.Waits.{Entered, waits_at, was_issued, unissued_at, waiting_count}
+use Rattle.blk_trace.specs.Inside.Seats.{open_of}
+use Rattle.blk_trace.specs.Setups.{same_dir}
 use Rattle.blk_sched.specs.Meaning.{Waiting, Meaning, handed_of, waiting_code, meaning_code}
 use Rattle.blk_hw.specs.Held.{held_in, held_total, held_count}
 

@@ -8,7 +8,7 @@ ghost use Rattle.blk_trace.specs.Happened.{Happened};
 ghost use Rattle.blk_trace.specs.Setups.{Setup};
 ghost use Rattle.blk_trace.specs.Events.{IsOpen, IsUsed, open_count};
 ghost use Rattle.blk_trace.specs.Legal.{IsLegalTrace};
-ghost use Rattle.blk_trace.specs.Standing.{seat_at, open_of};
+ghost use Rattle.blk_trace.specs.Inside.Seats.{seat_at, open_of};
 ghost use Rattle.blk_sched.specs.Meaning.{Waiting, Meaning};
 ghost use Rattle.blk_core.specs.State.{CoreState, HoldsWhatWaits};
 ghost use Rattle.blk_core.specs.Opens.{open_issues, open_issues_of};

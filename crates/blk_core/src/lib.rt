@@ -178,7 +178,7 @@ impl<S: Scheduler> Core<S> {
     ghost use Rattle.blk_trace.specs.Events.{round_of};
     ghost use Rattle.blk_trace.specs.Legal.{IsLegalTrace};
     ghost use Rattle.blk_trace.specs.Laws.{IsScheduled, IsAccounted};
-    ghost use Rattle.blk_trace.specs.Standing.{waiting_count};
+    ghost use Rattle.blk_trace.specs.Waits.{waiting_count};
     ghost use Rattle.blk_core.specs.State.{HoldsWhatWaits};
     ghost use Rattle.blk_core.specs.Faults.{IsReleaseFault, CanRelease, IsIssueFault, CanIssue, IsBackFault, IsTickFault, CanTick, IsDepthFault, CanSetDepth, IsInFlight};
     ghost use Rattle.blk_core.specs.Calls.{Places, Issues, Completes, TakesBack, Ends, SetsDepth};

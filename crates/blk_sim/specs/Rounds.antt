@@ -3,7 +3,7 @@ use Rattle.std.specs.Prelude.{◌≡◌, ◌+◌, ◌<◌, ◌≤◌, ◌%◌, �
 use Rattle.edd_check.specs.declared.Command.{Command}
 use Rattle.blk_soft.specs.Queues.{Queue}
 use Rattle.blk_trace.specs.Depths.{depth_now}
-use Rattle.blk_trace.specs.Standing.{seat_at}
+use Rattle.blk_trace.specs.Inside.Seats.{seat_at}
 use Rattle.blk_core.specs.State.{CoreState}
 use Rattle.blk_core.specs.Calls.{Issues, Completes, Ends}
 use Rattle.blk_core.specs.Faults.{CanIssue, CanTick, IsInFlight}

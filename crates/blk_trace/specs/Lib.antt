@@ -9,6 +9,5 @@ pub mod Rules
 pub mod Meaning
 pub mod Traces
 pub mod Waits
-pub mod Standing
 pub mod Laws
 pub mod Inside

@@ -10,8 +10,10 @@ use Rattle.blk_trace.specs.Happened.{Happened, Released}
 use Rattle.blk_trace.specs.Events.{At, request_of}
 use Rattle.blk_trace.specs.Legal.{IsLegalTrace}
 use Rattle.blk_trace.specs.Meaning.{release_of, due_of}
-use Rattle.blk_trace.specs.Inside.Kept.{IsOpenBy}
-use Rattle.blk_trace.specs.Standing.{Seat, seat_at, released_count, same_dir}
+use Rattle.blk_trace.specs.Events.{IsOpenBy}
+use Rattle.blk_trace.specs.Inside.Seats.{Seat, seat_at}
+use Rattle.blk_trace.specs.Waits.{released_count}
+use Rattle.blk_trace.specs.Setups.{same_dir}
 use Rattle.blk_sched.specs.Meaning.{Waiting, Meaning}
 use Rattle.blk_core.specs.declared.TagState.{TagState}
 use Rattle.blk_core.specs.declared.TagState.TheVariants.{Free, Flying, Spent}

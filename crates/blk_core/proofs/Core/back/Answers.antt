@@ -8,7 +8,7 @@ use Rattle.blk_core.specs.declared.TagState.{TagState}
 use Rattle.blk_core.specs.declared.TagState.TheVariants.{Free, Flying, Spent}
 use Rattle.blk_core.specs.Inside.Ties.{flight_of, queue_of, IfFlying, IsTied}
 use Rattle.blk_trace.specs.Happened.{Returned}
-use Rattle.blk_trace.specs.Standing.{seat_at}
+use Rattle.blk_trace.specs.Inside.Seats.{seat_at}
 use Rattle.blk_core.proofs.Pushed.{pushed_at_once}
 use Rattle.blk_core.proofs.Ties.{open_flight, read_at, seated, beyond}
 use Rattle.blk_core.proofs.Ended.{end_unbroken, tied_back, few_handed}

@@ -3,7 +3,7 @@ use Rattle.std.proofs.lemmas.List.{map-set}
 use Rattle.blk_trace.specs.Setups.{Setup}
 use Rattle.blk_trace.specs.Happened.{Happened, Issued}
 use Rattle.blk_trace.specs.Events.{round_of}
-use Rattle.blk_trace.specs.Standing.{waits_at}
+use Rattle.blk_trace.specs.Waits.{waits_at}
 use Rattle.blk_trace.specs.Traces.{Traced}
 use Rattle.blk_sched.specs.Meaning.{Waiting, Meaning, ServesNothing}
 use Rattle.blk_core.proofs.Pushed.{IsPushed, pushed, unbroken, ready_for}
