@@ -576,6 +576,7 @@ fn hold<A: Allocator + Clone>(
 }
 
 /// A copy of a request, with room made for an event of it.
+#[inline(always)]
 fn prepared<A: Allocator + Clone>(
     trace: &mut Trace<A>,
     request: &Request<A>,

@@ -241,6 +241,7 @@ fn fits_by<A: Allocator + Clone>(
 }
 
 /// The newest request that a newcomer fits at a side, where `spots` are the requests' ends at that side.
+#[inline(always)]
 fn newest_of<A: Allocator + Clone>(
     waiting: &Shelf<A>,
     spots: &Spots<A>,
@@ -267,6 +268,7 @@ fn newest_of<A: Allocator + Clone>(
 }
 
 /// The same at the front, where that is allowed.
+#[inline(always)]
 fn newest_ahead<A: Allocator + Clone>(
     waiting: &Shelf<A>,
     firsts: &Spots<A>,

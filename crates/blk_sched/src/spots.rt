@@ -49,6 +49,7 @@ pub fn put<A: Allocator + Clone>(
 }
 
 /// Takes a spot out.
+#[inline(always)]
 pub fn take<A: Allocator + Clone>(spots: &mut BTreeSet<Spot, A>, spot: Spot)
     ensures { Takes (contains spot_cmp spots.old) spot (contains spot_cmp spots.new) }
 {
@@ -151,6 +152,7 @@ impl<A: Allocator + Clone> Spots<A> {
     }
 
     /// Puts in the spot of a request that has so many sectors. On a refusal nothing is changed.
+    #[inline(always)]
     pub fn put(&mut self, spot: Spot, sectors: u64) -> Result<(), AllocError>
         ensures ok { OnOk result (Adds (spots_in self.old) spot (spots_in self.new)) }
         ensures heads { OnOk result (HasHeads (heads_in self.old) (others_in self.old) → HasHeads (heads_in self.new) (others_in self.new)) }
@@ -183,6 +185,7 @@ impl<A: Allocator + Clone> Spots<A> {
     }
 
     /// Takes a spot out. It takes no memory.
+    #[inline(always)]
     pub fn take(&mut self, spot: Spot)
         ensures takes { Takes (spots_in self.old) spot (spots_in self.new) }
         ensures heads { HasHeads (heads_in self.old) (others_in self.old) → HasHeads (heads_in self.new) (others_in self.new) }
@@ -365,6 +368,7 @@ impl<A: Allocator + Clone> Edges<A> {
     }
 
     /// Puts in the edges of a request that isn't there and has so many sectors. On a refusal nothing is changed.
+    #[inline(always)]
     pub fn enter(&mut self, extent: Extent, sectors: u64, id: u64) -> Result<(), AllocError>
         ensures ok { OnOk result ((old new : ℕ → Option Waiting) (w : Waiting) → extent ≡ extent_of w.bios → sectors ≡ sectors_of w.bios → IsEdges old self.old → old id ≡ None → Becomes old id (Some w) new → IsEdges new self.new) }
         ensures same { OnErr result ((old : ℕ → Option Waiting) → IsEdges old self.old → old id ≡ None → IsEdges old self.new) }
@@ -379,6 +383,7 @@ impl<A: Allocator + Clone> Edges<A> {
     }
 
     /// Takes out the edges of a request.
+    #[inline(always)]
     pub fn leave(&mut self, extent: Extent, id: u64)
         ensures { (old new : ℕ → Option Waiting) (w : Waiting) → extent ≡ extent_of w.bios → IsEdges old self.old → old id ≡ Some w → Becomes old id None new → IsEdges new self.new }
     {

@@ -60,6 +60,7 @@ impl<A: Allocator + Clone> Trace<A> {
     }
 
     /// Adds a Release: the request waits under its id.
+    #[inline(always)]
     fn add_release(&mut self, id: u64, request: Request<A>)
         requires unbroken { IsUnbroken self.old.setup self.old.events (Released id request) }
         requires prepared { IsPreparedFor self.old.prepared (Released id request) }
@@ -239,6 +240,7 @@ fn append<T: Drop, A: Allocator>(list: &mut Vec<T, A>, value: T)
 }
 
 /// Adds the ids of the bios, for which there is room.
+#[inline(always)]
 fn enter<A: Allocator + Clone>(ids: &mut HashSet<BioId, Hashing, A>, bios: &[Bio])
     requires { length bios.now ≤ hash_set.spare ids.old }
     ensures ids { (id : Name) → hash_set.contains is_bio ids.new id ≡ hash_set.contains is_bio ids.old id || has_bio_id bios.now id }
