@@ -4,8 +4,8 @@
 KIND is script (N bios), certificate (N commands), commands (N commands), backlog (N bios of one hardware queue, of which
 none touches another and none is issued) or touching (the same, but each touches half of the others and fits none, since
 each is as large as a request may be). Four kinds more are N commands at depth 8 in random order: at_once (all released in
-round 0), carried (as many as the rounds carry), crowded (twice as many) and sparse (one in a hundred rounds). All come from
-a fixed seed, so that every run has the same bytes."""
+round 0), carried (as many as the rounds carry), crowded (twice as many) and sparse (one in a hundred rounds); depths is a trace
+of N rounds, in each of which a depth is set. All come from a fixed seed, so that every run has the same bytes."""
 import random
 import sys
 
@@ -95,6 +95,14 @@ def touching(bios, out):
     waiting(bios, out, 8, lambda n: 8 * (n % 2))
 
 
+def depths(rounds, out):
+    out(f"blk-trace,2,2,1,{2 * rounds},")
+    out("setup,0,0,256,128,")
+    for n in range(rounds):
+        out(f"depth,{1 + n % 2},,,,")
+        out("tick,,,,,")
+
+
 def main():
     kind, n = sys.argv[1], int(sys.argv[2])
     lines = []
@@ -108,6 +116,7 @@ def main():
         "sparse": sparse,
         "backlog": backlog,
         "touching": touching,
+        "depths": depths,
     }
     kinds[kind](n, lines.append)
     sys.stdout.write("\n".join(lines) + "\n")
