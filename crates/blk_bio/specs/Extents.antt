@@ -21,6 +21,11 @@ pub record WithinTogether (limits : Limits) (e newcomer : Extent) : Type 0 where
   pub sectors : (e.end - e.first) + (newcomer.end - newcomer.first) ≤ limits.max_sectors
   pub bios : e.bios + newcomer.bios ≤ limits.max_segments
 
+-- the extent of both, where the newcomer stands at the side
+abbrev pub extent_joined : Extent → Extent → Side → Extent
+extent_joined e newcomer Back = record { dir = e.dir; first = e.first; end = newcomer.end; bios = e.bios + newcomer.bios }
+extent_joined e newcomer Front = record { dir = e.dir; first = newcomer.first; end = e.end; bios = e.bios + newcomer.bios }
+
 -- these are requests of these extents
 pub record AreOf (e newcomer : Extent) (bios more : List Bio) : Type 0 where
   pub request : IsRequest bios

@@ -1,8 +1,8 @@
 //! What of a request decides whether another may join it: the rule of a join.
 
-ghost use Rattle.std.specs.Prelude.{◌≡◌, ◌<◌, ◌↔◌, IsTrue, IfSome, IfNone};
+ghost use Rattle.std.specs.Prelude.{◌≡◌, ◌<◌, ◌+◌, ◌^◌, ◌↔◌, IsTrue, IfSome, IfNone};
 ghost use Rattle.blk_bio.specs.declared.request.Side.{Side};
-ghost use Rattle.blk_bio.specs.Extents.{TouchesAt, WithinTogether, FitAt, FitOnlyAt, FitNowhere};
+ghost use Rattle.blk_bio.specs.Extents.{TouchesAt, WithinTogether, extent_joined, FitAt, FitOnlyAt, FitNowhere};
 
 use crate::bio::Dir;
 use crate::limits::Limits;
@@ -76,5 +76,26 @@ impl Extent {
             && sectors <= most - more
             && newcomer.bios <= most_bios
             && self.bios <= most_bios - newcomer.bios
+    }
+
+    /// The extent of both, once a newcomer that stands at the side has joined. It asks for no limits.
+    #[inline]
+    pub fn joined(&self, newcomer: &Extent, side: Side) -> Extent
+        requires { self.now.bios + newcomer.now.bios < 2 ^ 64 }
+        ensures { result ≡ extent_joined self.now newcomer.now side }
+    {
+        let bios = self.bios + newcomer.bios;
+        match side {
+            Side::Back => Extent {
+                end: newcomer.end,
+                bios,
+                ..*self
+            },
+            Side::Front => Extent {
+                first: newcomer.first,
+                bios,
+                ..*self
+            },
+        }
     }
 }
