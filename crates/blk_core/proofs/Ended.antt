@@ -21,13 +21,14 @@ use Rattle.blk_sched.specs.Meaning.{Waiting, Meaning, Pending, HandsBack, opened
 use Rattle.blk_hw.specs.Held.{held_total, held_count}
 use Rattle.blk_core.specs.declared.TagState.{TagState}
 use Rattle.blk_core.specs.declared.TagState.TheVariants.{Free, Flying, Spent}
-use Rattle.blk_core.specs.State.{entered_of, returned_at, is_of}
-use Rattle.blk_core.specs.Inside.Ties.{IsTied, IsFlown, flying}
+use Rattle.blk_core.specs.State.{entered_of, returned_at, is_of, IsFlown}
+use Rattle.blk_core.specs.Inside.Ties.{IsTied, flying}
 use Rattle.blk_core.proofs.Pushed.{IsPushed, same_round, released-finished, released-returned}
 use Rattle.blk_core.proofs.Flights.{opened_reads, opened_writes, opened_handed, handed_reads, handed_writes, handed_more, seats_set, queues_set, flown_set}
 use Rattle.blk_core.proofs.Held.{AreAs, AreOnce, as_same, once_same, with_one, as_with, once_with, count_with, total_with}
 use Rattle.blk_core.proofs.Returned.{flown_not_returned, returned-finished, returned-returned}
 use Rattle.blk_core.proofs.Flown.{flown_kept}
+use Rattle.blk_core.proofs.Opens.{open_by_dir}
 use Rattle.blk_core.proofs.Ties.{old_known, one_longer, tied_at, seated, pending_is}
 use Rattle.blk_trace.proofs.Words.{OnlyEnds, only_ends}
 use Rattle.blk_trace.proofs.Steady.{seat_ended}
@@ -71,6 +72,8 @@ tied_end {A} setup setup' es es' e m m' fl held held' rel tag hw w p end more ot
     let rn = open_ended setup es e tag p.legal end (dir_of w.bios) here Read in
     let sn = open_ended setup es e tag p.legal end (dir_of w.bios) here Write in
     let tr = t.reads in let tw = t.writes in let hr = t.holds.reads in let hs = t.holds.writes in
+    let br = open_by_dir setup es Read t.legal in let bs = open_by_dir setup es Write t.legal in
+    let ar = open_by_dir setup fs Read p.legal in let aw = open_by_dir setup fs Write p.legal in
     let l : length (set fl tag g) ≡ length fl = length-set fl tag g in
     let longer = one_longer es e in
     let next = t.next in

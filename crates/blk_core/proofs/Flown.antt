@@ -14,8 +14,7 @@ use Rattle.blk_trace.proofs.Entering.{IsSame, same_entered, stays_out}
 use Rattle.blk_trace.proofs.Waiting.{IsWaiting, waiting_from}
 use Rattle.blk_trace.proofs.Returns.{entry_of, open_issued}
 use Rattle.blk_sched.specs.Meaning.{Waiting}
-use Rattle.blk_core.specs.State.{entered_of}
-use Rattle.blk_core.specs.Inside.Ties.{IsFlown}
+use Rattle.blk_core.specs.State.{entered_of, IsFlown}
 
 still_by : (es : List Happened) (e : Happened) (t id : ℕ) → (ends e ≡ Some t → ⊥) → IsOpenBy es t id → IsOpenBy (es ++ e ∷ []) t id
 still_by es e t id other o = record {

@@ -8,6 +8,5 @@ mod Flown
 mod Ties
 mod Sent
 mod Ended
-mod Seated
 mod Opens
 mod Listed

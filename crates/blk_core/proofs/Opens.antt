@@ -361,9 +361,11 @@ each_once es [] = refl
 each_once es (x ∷ xs) =
     omega (arith, count-cons (is_of es Read) x xs, count-cons (is_of es Write) x xs, one_dir (dir_of (request_of es x.0)), each_once es xs)
 
+-- those of both directions are all that are open
+pub open_by_dirs : (setup : Setup) (events : List Happened) → IsLegalTrace setup events → open_issues_of events Read + open_issues_of events Write ≡ open_count events
+open_by_dirs setup events legal = omega (arith, open_by_dir setup events Read legal, open_by_dir setup events Write legal, open-both setup events legal)
+
 -- and all are the Issues less the Dones
 pub open_listed : (setup : Setup) (events : List Happened) → IsLegalTrace setup events → length (open_issues events) ≡ open_count events
 open_listed setup events legal =
-    let reads = open_by_dir setup events Read legal in
-    let writes = open_by_dir setup events Write legal in
-    omega (arith, each_once events (open_issues events), open-both setup events legal)
+    omega (arith, each_once events (open_issues events), open_by_dirs setup events legal)

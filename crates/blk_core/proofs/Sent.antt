@@ -20,14 +20,15 @@ use Rattle.blk_hw.specs.Held.{held_total, held_count}
 use Rattle.blk_core.specs.declared.TagState.{TagState}
 use Rattle.blk_core.specs.declared.TagState.TheVariants.{Free, Flying}
 use Rattle.blk_core.specs.Calls.{Choice, SendsFrom}
-use Rattle.blk_core.specs.State.{entered_of, returned_at, is_of}
-use Rattle.blk_core.specs.Inside.Ties.{IsTied, IsFlown, seat_of, flying}
+use Rattle.blk_core.specs.State.{entered_of, returned_at, is_of, IsFlown}
+use Rattle.blk_core.specs.Inside.Ties.{IsTied, seat_of, flying}
 use Rattle.blk_core.proofs.Pushed.{IsPushed, same_round, released-issued}
 use Rattle.blk_core.proofs.Waits.{agree_taken, len_taken, still_none}
 use Rattle.blk_core.proofs.Flights.{opened_reads, opened_writes, opened_handed, handed_reads, handed_writes, handed_more, seats_set, queues_set, flown_set}
 use Rattle.blk_core.proofs.Held.{AreAs, AreOnce, as_same, once_same, none_gone, as_without, once_without, count_without, total_without, first_stands}
 use Rattle.blk_core.proofs.Returned.{returned_from, unissued_not_returned, returned_not_unissued, returned-issued}
 use Rattle.blk_core.proofs.Flown.{flown_kept, flown_issued}
+use Rattle.blk_core.proofs.Opens.{open_by_dir}
 use Rattle.blk_core.proofs.Ties.{old_known, one_longer, tied_at, never_issued, waits_there}
 use Rattle.blk_trace.proofs.Steps as step
 
@@ -60,6 +61,8 @@ tied_sent {A} setup setup' es es' m m' fl held held' rel hw tag w p t waits o s 
     let rn = step.open-issued setup es w.id tag p.legal (entered_of w) waits Read in
     let sn = step.open-issued setup es w.id tag p.legal (entered_of w) waits Write in
     let tr = t.reads in let tw = t.writes in let hr = t.holds.reads in let hs = t.holds.writes in
+    let br = open_by_dir setup es Read t.legal in let bs = open_by_dir setup es Write t.legal in
+    let ar = open_by_dir setup fs Read p.legal in let aw = open_by_dir setup fs Write p.legal in
     let l : length (set fl tag f) ≡ length fl = length-set fl tag f in
     let longer = one_longer es (Issued w.id tag) in
     let count = step.count-issued setup es w.id tag p.legal in

@@ -1,5 +1,5 @@
 -- Each event keeps the core tied to its trace: here those that issue nothing and end no Issue.
-use Rattle.std.proofs.Common.{◌≡◌, ◌≢◌, ◌∙◌, sym, ap, subst, refl, inl, inr, ℕ, ◌+◌, ◌*◌, ◌≤◌, ◌<◌, arith, Bool, true, cond, List, [], ◌∷◌, ◌++◌, length, length-append, Option, Some, None, is_some, get_or, sum_by, map as list_map, ◌⊎◌, ◌==◌}
+use Rattle.std.proofs.Common.{◌≡◌, ◌≢◌, ◌∙◌, sym, ap, subst, refl, inl, inr, ℕ, ◌+◌, ◌*◌, ◌≤◌, ◌<◌, arith, Bool, true, false, cond, List, [], ◌∷◌, ◌++◌, length, length-append, Option, Some, None, is_some, get_or, sum_by, map as list_map, ◌⊎◌, ◌==◌}
 use Rattle.std.proofs.lemmas.Bool.{cases_lt}
 use Rattle.std.proofs.lemmas.List.Folds.{sum_by-replicate}
 use Rattle.std.proofs.lemmas.List.Sums.{sum_by-set, count_by-le-length}
@@ -18,8 +18,9 @@ use Rattle.blk_bio.specs.Requests.{dir_of}
 use Rattle.blk_trace.specs.Setups.{Setup, IsSetup, expire_of}
 use Rattle.blk_trace.specs.Happened.{Happened, Released, Joined, Ticked, DepthSet}
 use Rattle.blk_trace.specs.Depths.{depth_now}
+use Rattle.blk_trace.specs.Legal.{IsLegalTrace}
 use Rattle.blk_trace.proofs.Depths.{depth_now_is}
-use Rattle.blk_trace.specs.Events.{At, round_of, entered, AreOnce, open_count, join_up}
+use Rattle.blk_trace.specs.Events.{At, round_of, entered, AreOnce, open_count, join_up, IsOpen, IsUsed}
 use Rattle.blk_trace.specs.Meaning.{released_ids, issued_ids, served, waiting_ids, rising}
 use Rattle.blk_trace.specs.Inside.Seats.{Seat, seat_at, open_of, this_round}
 use Rattle.blk_trace.specs.Inside.Allowed.{IsAllowed}
@@ -30,18 +31,22 @@ use Rattle.blk_sched.specs.Meaning.{Waiting, Meaning, Pending, OpenPicks, Joins,
 use Rattle.blk_hw.specs.Held.{held_total}
 use Rattle.blk_core.specs.declared.TagState.{TagState}
 use Rattle.blk_core.specs.declared.TagState.TheVariants.{Free, Flying, Spent}
-use Rattle.blk_core.specs.State.{Flight, CoreState, entered_of, returned_at, is_of, is_named}
-use Rattle.blk_core.specs.Inside.Ties.{IsTied, IsFlown, flight_of, seat_of, queue_of, flying}
+use Rattle.blk_core.specs.State.{Flight, CoreState, entered_of, returned_at, is_of, is_named, IsFlown}
+use Rattle.blk_core.specs.Opens.{open_issues, open_issues_of}
+use Rattle.blk_core.specs.Inside.Ties.{IsTied, flight_of, seat_of, queue_of, flying}
 use Rattle.blk_core.proofs.Pushed.{IsPushed, get_more, same_round, round_more, released-released, released-joined, released-ticked, released-set}
 use Rattle.blk_core.proofs.Waits.{agree_given, len_new, len_given, still_absent, joined_up}
 use Rattle.blk_core.proofs.Flights.{free_flies, all_free, any_default, unused, none_flies}
 use Rattle.blk_core.proofs.Held.{by_dirs, as_same, once_same, empty_list, none_counted, none_held}
 use Rattle.blk_core.proofs.Returned.{returned-released, returned-joined, returned-ticked, returned-set}
 use Rattle.blk_core.proofs.Flown.{flown_kept}
+use Rattle.blk_core.proofs.Opens.{open_by_dir}
 use Rattle.blk_trace.proofs.Counting.{waiting_is, count_kept}
 use Rattle.blk_trace.proofs.Opening.{open_kept}
-use Rattle.blk_trace.proofs.Steady.{seat_quiet}
+use Rattle.blk_trace.proofs.Steady.{seat_quiet, open_seat}
+use Rattle.blk_trace.proofs.Seated.{free_unused, seat_used}
 use Rattle.blk_trace.proofs.Capacities.{depth_few}
+use Rattle.blk_trace.proofs.TagUses.{by_open}
 use Rattle.blk_trace.proofs.Pushing.{empty_legal}
 use Rattle.blk_trace.proofs.Unissued.{unissued_from, unissued_kept}
 use Rattle.blk_trace.proofs.Steps as step
@@ -59,6 +64,10 @@ new_known es rel q h k id bios at = elim (get_more es (Released rel q) k (Releas
 
 pub one_longer : (es : List Happened) (e : Happened) → length (es ++ e ∷ []) ≡ length es + 1
 one_longer es e = length-append es (e ∷ [])
+
+-- as many Issues of a direction are open as before, where as many commands of it are in flight
+opens_same : (setup : Setup) (es fs : List Happened) (d : Dir) (n : ℕ) → IsLegalTrace setup es → IsLegalTrace setup fs → open_of fs d ≡ open_of es d → n ≡ open_issues_of es d → n ≡ open_issues_of fs d
+opens_same setup es fs d n old new same is = is ∙ sym (open_by_dir setup es d old) ∙ sym same ∙ open_by_dir setup fs d new
 
 -- a tie at the values that the code's are equal to
 pub tied_at : {A : Type 0} (setup setup' : Setup) (es es' : List Happened) (e : Happened) (m : Meaning) (fl : List (TagState A)) (held : List (List Waiting)) (rel : ℕ) → IsPushed setup es e setup' es' → IsTied setup (es ++ e ∷ []) m fl held rel → IsTied setup' es' m fl held rel
@@ -96,8 +105,8 @@ tied_release setup setup' es es' m m' fl held rel bios w p t is m_is =
         returned = as_same (returned_at setup es) (returned_at setup fs) held same t.holds.returned;
         held_once = once_same (returned_at setup es) (returned_at setup fs) held same t.holds.held_once;
         count = omega arith;
-        reads = t.holds.reads ∙ sym (step.open-released setup es rel bios p.legal Read);
-        writes = t.holds.writes ∙ sym (step.open-released setup es rel bios p.legal Write);
+        reads = opens_same setup es fs Read m.open_picks.reads t.legal p.legal (step.open-released setup es rel bios p.legal Read) t.holds.reads;
+        writes = opens_same setup es fs Write m.open_picks.writes t.legal p.legal (step.open-released setup es rel bios p.legal Write) t.holds.writes;
         handed = t.holds.handed;
         round = t.holds.round ∙ sym (same_round es (Released rel bios) refl);
       };
@@ -143,8 +152,8 @@ tied_join setup setup' es es' m m' fl held rel serves hw now bios id side p t no
         returned = as_same (returned_at setup es) (returned_at setup fs) held same t.holds.returned;
         held_once = once_same (returned_at setup es) (returned_at setup fs) held same t.holds.held_once;
         count = omega arith;
-        reads = t.holds.reads ∙ sym (step.open-joined setup es id bios p.legal Read);
-        writes = t.holds.writes ∙ sym (step.open-joined setup es id bios p.legal Write);
+        reads = opens_same setup es fs Read m.open_picks.reads t.legal p.legal (step.open-joined setup es id bios p.legal Read) t.holds.reads;
+        writes = opens_same setup es fs Write m.open_picks.writes t.legal p.legal (step.open-joined setup es id bios p.legal Write) t.holds.writes;
         handed = t.holds.handed;
         round = t.holds.round ∙ sym (same_round es (Joined id bios) refl);
       };
@@ -206,6 +215,8 @@ tied_tick {A} setup setup' es es' m m' fl fl' held rel now p t m_is now_is fl_is
     let rb = step.open-before_tick setup es p.legal Read in
     let sb = step.open-before_tick setup es p.legal Write in
     let hr = t.holds.reads in let hs = t.holds.writes in
+    let br = open_by_dir setup es Read t.legal in let bs = open_by_dir setup es Write t.legal in
+    let ar = open_by_dir setup fs Read p.legal in let aw = open_by_dir setup fs Write p.legal in
     let longer = one_longer es Ticked in
     let count = step.count-ticked setup es p.legal in
     let more = released-ticked es in
@@ -261,8 +272,8 @@ tied_set setup setup' es es' m fl held rel depth p t =
         returned = as_same (returned_at setup es) (returned_at setup fs) held same t.holds.returned;
         held_once = once_same (returned_at setup es) (returned_at setup fs) held same t.holds.held_once;
         count = t.holds.count ∙ sym count;
-        reads = t.holds.reads ∙ sym (open_kept setup es e p.legal refl refl refl Read);
-        writes = t.holds.writes ∙ sym (open_kept setup es e p.legal refl refl refl Write);
+        reads = opens_same setup es fs Read m.open_picks.reads t.legal p.legal (open_kept setup es e p.legal refl refl refl Read) t.holds.reads;
+        writes = opens_same setup es fs Write m.open_picks.writes t.legal p.legal (open_kept setup es e p.legal refl refl refl Write) t.holds.writes;
         handed = t.holds.handed;
         round = t.holds.round ∙ sym (same_round es e refl);
       };
@@ -296,8 +307,8 @@ no_seat : (t : ℕ) → seat_at [] t ≡ None
 unfolding seat_at this_round
 no_seat t = refl
 
-none_open : (d : Dir) → open_of [] d ≡ 0
-unfolding open_of this_round
+none_open : (d : Dir) → open_issues_of [] d ≡ 0
+unfolding open_issues
 none_open d = refl
 
 none_released : released_count [] ≡ 0
@@ -389,9 +400,9 @@ round_is setup es m fl held rel now t is = is ∙ sym t.holds.round
 pub round_next : {A : Type 0} (setup setup' : Setup) (es es' : List Happened) (m : Meaning) (fl : List (TagState A)) (held : List (List Waiting)) (rel now : ℕ) → IsTied setup es m fl held rel → IsPushed setup es Ticked setup' es' → now ≡ round_of es' → m.round < now
 round_next setup setup' es es' m fl held rel now t p is = let was = t.holds.round in let one = ap round_of p.added ∙ round_more es Ticked in omega arith
 
--- a tag without a seat is free
-pub free_slot : {A : Type 0} (setup : Setup) (es : List Happened) (m : Meaning) (fl : List (TagState A)) (held : List (List Waiting)) (rel tag : ℕ) → IsTied setup es m fl held rel → tag < length fl → seat_at es tag ≡ None → get_or fl tag Free ≡ Free
-free_slot {A} setup es m fl held rel tag t lt free = by_state (get_or fl tag Free) (t.seats tag lt ∙ free)
+-- a tag that wasn't issued in the round is free
+pub free_slot : {A : Type 0} (setup : Setup) (es : List Happened) (m : Meaning) (fl : List (TagState A)) (held : List (List Waiting)) (rel tag : ℕ) → IsTied setup es m fl held rel → tag < length fl → (IsUsed es tag → ⊥) → get_or fl tag Free ≡ Free
+free_slot {A} setup es m fl held rel tag t lt free = by_state (get_or fl tag Free) (t.seats tag lt ∙ (free_unused es tag).1 free)
   where
     by_state : (s : TagState A) → seat_of s ≡ None → s ≡ Free
     by_state Free e = refl
@@ -416,6 +427,7 @@ pending_is setup es m fl held rel pending reads writes t p r w =
 pub open_issue : {A : Type 0} (setup : Setup) (es : List Happened) (m : Meaning) (fl : List (TagState A)) (held : List (List Waiting)) (rel : ℕ) (P : Type 0) → IsTied setup es m fl held rel → (0 < unfinished m.open_picks) ⊎ P → (0 < open_count es) ⊎ (0 < held_total held) ⊎ P
 open_issue setup es m fl held rel P t h =
     let both = step.open-both setup es t.legal in let r = t.holds.reads in let w = t.holds.writes in let all = all_handed setup es m fl held rel t in
+    let br = open_by_dir setup es Read t.legal in let bw = open_by_dir setup es Write t.legal in
     elim h [
       | inl o ↦ elim (cases_lt 0 (open_count es)) [ inl a ↦ inl a | inr b ↦ inr (inl (omega arith)) ]
       | inr p ↦ inr (inr p)
@@ -425,15 +437,49 @@ open_issue setup es m fl held rel P t h =
 pub none_in_flight : {A : Type 0} (setup : Setup) (es : List Happened) (m : Meaning) (fl : List (TagState A)) (held : List (List Waiting)) (rel : ℕ) → IsTied setup es m fl held rel → open_count es ≡ 0 → list_map flight_of fl ≡ replicate (length fl) None
 none_in_flight setup es m fl held rel t none =
     let both = step.open-both setup es t.legal in let r = t.holds.reads in let w = t.holds.writes in let fr = t.reads in let fw = t.writes in
+    let br = open_by_dir setup es Read t.legal in let bw = open_by_dir setup es Write t.legal in
     none_flies fl (omega arith)
 
--- past the tags none is taken
-pub beyond : {A : Type 0} (setup : Setup) (es : List Happened) (m : Meaning) (fl : List (TagState A)) (held : List (List Waiting)) (rel tag : ℕ) → IsTied setup es m fl held rel → length fl ≤ tag → seat_at es tag ≡ None
-beyond setup es m fl held rel tag t past = by_seat (seat_at es tag) refl
+-- a tag that the code reads as free was not issued in the round, and another was
+pub slot_free : {A : Type 0} (setup : Setup) (es : List Happened) (m : Meaning) (fl : List (TagState A)) (held : List (List Waiting)) (rel tag : ℕ) (seen : TagState A) → IsTied setup es m fl held rel → tag < length fl → seen ≡ get_or fl tag seen → seen ≡ Free → IsUsed es tag → ⊥
+slot_free setup es m fl held rel tag seen t lt e is =
+    (free_unused es tag).0 (sym (t.seats tag lt) ∙ ap seat_of (any_default fl tag Free seen lt ∙ sym e ∙ is))
+
+pub slot_used : {A : Type 0} (setup : Setup) (es : List Happened) (m : Meaning) (fl : List (TagState A)) (held : List (List Waiting)) (rel tag : ℕ) (seen : TagState A) → IsTied setup es m fl held rel → tag < length fl → seen ≡ get_or fl tag seen → (seen ≡ Free → ⊥) → IsUsed es tag
+slot_used {A} setup es m fl held rel tag seen t lt e other =
+    seat_used es tag (ap is_some (sym (t.seats tag lt) ∙ ap seat_of (any_default fl tag Free seen lt ∙ sym e)) ∙ by_state seen other)
   where
-    by_seat : (o : Option Seat) → seat_at es tag ≡ o → seat_at es tag ≡ None
-    by_seat None e = e
-    by_seat (Some s) e = absurd (let b = step.seat-below setup es t.legal tag s e in let r = t.room in omega arith)
+    by_state : (s : TagState A) → (s ≡ Free → ⊥) → is_some (seat_of s) ≡ true
+    by_state Free n = absurd (n refl)
+    by_state (Flying hw w) n = refl
+    by_state (Spent d) n = refl
+
+-- an Issue is open under a tag whose command is in flight, and under no other
+pub flying_open : {A : Type 0} (setup : Setup) (es : List Happened) (m : Meaning) (fl : List (TagState A)) (held : List (List Waiting)) (rel tag hw : ℕ) (w : Waiting) → IsTied setup es m fl held rel → get_or fl tag Free ≡ Flying hw w → IsOpen es tag
+flying_open setup es m fl held rel tag hw w t at = by_open es tag w.id (t.flown tag hw w at).by
+
+abbrev flies_now : Option Seat → Bool
+flies_now None = false
+flies_now (Some seat) = seat.in_flight
+
+pub not_flying : {A : Type 0} (setup : Setup) (es : List Happened) (m : Meaning) (fl : List (TagState A)) (held : List (List Waiting)) (rel tag : ℕ) (seen : TagState A) → IsTied setup es m fl held rel → tag < length fl → seen ≡ get_or fl tag seen → ((hw : ℕ) (w : Waiting) → seen ≡ Flying hw w → ⊥) → IsOpen es tag → ⊥
+not_flying {A} setup es m fl held rel tag seen t lt e other o =
+    let seat = open_seat setup es tag t.legal o in
+    let flies : flies_now (seat_of seen) ≡ true = ap flies_now (ap seat_of (e ∙ any_default fl tag seen Free lt) ∙ t.seats tag lt ∙ seat.1) in
+    by_state seen other flies
+  where
+    by_state : (s : TagState A) → ((hw : ℕ) (w : Waiting) → s ≡ Flying hw w → ⊥) → flies_now (seat_of s) ≡ true → ⊥
+    by_state Free n f = absurd (let x : false ≡ true = f in cc)
+    by_state (Flying hw w) n f = n hw w refl
+    by_state (Spent d) n f = absurd (let x : false ≡ true = f in cc)
+
+-- past the tags none is open
+pub beyond : {A : Type 0} (setup : Setup) (es : List Happened) (m : Meaning) (fl : List (TagState A)) (held : List (List Waiting)) (rel tag : ℕ) → IsTied setup es m fl held rel → length fl ≤ tag → IsOpen es tag → ⊥
+beyond setup es m fl held rel tag t past o =
+    let seat = open_seat setup es tag t.legal o in
+    let b = step.seat-below setup es t.legal tag _ seat.1 in
+    let r = t.room in
+    absurd (omega arith)
 
 -- a join as the trace's own limits and bios say it
 pub joins_at : (serves : ℕ → Waiting → Bool) (hw now : ℕ) (l limits : Limits) (request bios : List Bio) (m m' : Meaning) (id : ℕ) (side : Side) → l ≡ limits → request ≡ bios → Joins serves hw now l request m id side m' → Joins serves hw now limits bios m id side m'

@@ -1,5 +1,5 @@
 -- What the calls of a core do.
-use Rattle.std.specs.Prelude.{ℕ, ◌+◌, ◌-◌, ◌≡◌, ◌<◌, ◌⊎◌, ◌++◌, ◌∷◌, [], Bool, true, List, Option, None, Some, slice_get, slice_set}
+use Rattle.std.specs.Prelude.{ℕ, ◌+◌, ◌-◌, ◌≡◌, ◌<◌, ◌⊎◌, ◌++◌, ◌∷◌, [], Bool, List, Option, None, Some, slice_get, slice_set}
 use Rattle.std.specs.FinMap as map
 use Rattle.blk_bio.specs.declared.bio.Dir.{Dir}
 use Rattle.blk_bio.specs.Bios.{Bio}
@@ -10,16 +10,15 @@ use Rattle.blk_trace.specs.Happened.{Happened, Ticked, Released, Joined, Issued,
 use Rattle.blk_trace.specs.Events.{round_of, open_count}
 use Rattle.blk_trace.specs.Meaning.{commands_of}
 use Rattle.blk_trace.specs.Waits.{released_count}
-use Rattle.blk_trace.specs.Inside.Seats.{seat_at}
 use Rattle.blk_sched.specs.Meaning.{Waiting, Meaning, HasNoCandidate, ServesNothing, Picks, HandsBack, Joins, opened}
 use Rattle.blk_hw.specs.Held.{held_in, held_total}
 use Rattle.blk_core.specs.declared.Placed.{Placed}
 use Rattle.blk_core.specs.declared.Placed.TheVariants.{New, Joined as JoinedTo}
-use Rattle.blk_core.specs.State.{Flight, CoreState}
+use Rattle.blk_core.specs.State.{Flight, CoreState, IsFlown}
 
 -- one more event, and nothing else in the trace
-abbrev pub Adds : CoreState → Happened → CoreState → Type 0
-Adds old event new = (new.setup ≡ old.setup) × (new.events ≡ old.events ++ event ∷ [])
+abbrev pub AddsEvent : CoreState → Happened → CoreState → Type 0
+AddsEvent old event new = (new.setup ≡ old.setup) × (new.events ≡ old.events ++ event ∷ [])
 
 -- how a request enters the scheduler: with the round as its release, and due when its direction's expiry has passed
 abbrev pub newcomer : CoreState → List Bio → ℕ → Waiting
@@ -36,14 +35,14 @@ abbrev pub Places : (ℕ → Waiting → Bool) → CoreState → List Bio → �
 Places serves old bios hw (New id) new =
     HasNoCandidate serves hw old.setup.limits bios old.meaning
     × (id ≡ released_count old.events)
-    × Adds old (Released id bios) new
+    × AddsEvent old (Released id bios) new
     × (new.meaning ≡ record old.meaning { pending = map.insert old.meaning.pending id (newcomer old bios hw) })
     × (new.kept ≡ old.kept)
     × (new.flights ≡ old.flights)
     × (new.held ≡ old.held)
 Places serves old bios hw (JoinedTo id side) new =
     Joins serves hw (round_of old.events) old.setup.limits bios old.meaning id side new.meaning
-    × Adds old (Joined id bios) new
+    × AddsEvent old (Joined id bios) new
     × (new.kept ≡ old.kept)
     × (new.flights ≡ old.flights)
     × (new.held ≡ old.held)
@@ -74,7 +73,7 @@ Issues serves chooses old hw tag None new =
     × ((0 < open_count old.events) ⊎ (0 < held_total old.held) ⊎ ServesNothing serves hw old.meaning)
 Issues serves chooses old hw tag (Some command) new =
     (w : Waiting) × Sends serves chooses old hw w new
-    × Adds old (Issued w.id tag) new
+    × AddsEvent old (Issued w.id tag) new
     × (command ≡ record { id = w.id; release = w.release; due = w.due })
     × (commands_of new.setup new.events ≡ commands_of old.setup old.events ++ command ∷ [])
     × (new.flights ≡ slice_set old.flights tag (Some (record { hw = hw; request = w })))
@@ -91,8 +90,8 @@ OfTick = ℕ → List ℕ → List ℕ → Type 0
 abbrev pub Completes : OfDone → CoreState → ℕ → CoreState → Type 0
 Completes told old tag new =
     (f : Flight) × (slice_get old.flights tag ≡ Some (Some f))
-    × (seat_at old.events tag ≡ Some (record { dir = dir_of f.request.bios; in_flight = true }))
-    × Adds old (Finished tag) new
+    × IsFlown old.setup old.events tag f.request
+    × AddsEvent old (Finished tag) new
     × (old.meaning ≡ record new.meaning { open_picks = opened (dir_of f.request.bios) new.meaning.open_picks })
     × told f.hw (dir_of f.request.bios) (round_of old.events - f.request.release) old.kept new.kept
     × (new.flights ≡ slice_set old.flights tag None)
@@ -103,9 +102,9 @@ Completes told old tag new =
 abbrev pub TakesBack : CoreState → ℕ → ℕ → CoreState → Type 0
 TakesBack old tag id new =
     (f : Flight) × (slice_get old.flights tag ≡ Some (Some f))
-    × (seat_at old.events tag ≡ Some (record { dir = dir_of f.request.bios; in_flight = true }))
+    × IsFlown old.setup old.events tag f.request
     × (id ≡ f.request.id)
-    × Adds old (Returned tag) new
+    × AddsEvent old (Returned tag) new
     × HandsBack (dir_of f.request.bios) old.meaning new.meaning
     × (new.kept ≡ old.kept)
     × (new.flights ≡ slice_set old.flights tag None)
@@ -114,7 +113,7 @@ TakesBack old tag id new =
 -- what the end of a round does: a Tick, of which the scheduler is told, once
 abbrev pub Ends : OfTick → CoreState → CoreState → Type 0
 Ends told old new =
-    Adds old Ticked new
+    AddsEvent old Ticked new
     × (new.meaning ≡ record old.meaning { round = round_of new.events })
     × told (round_of new.events) old.kept new.kept
     × (new.flights ≡ old.flights)
@@ -123,7 +122,7 @@ Ends told old new =
 -- what a new depth does: a Depth, and nothing else; it is in force from the next round on
 abbrev pub SetsDepth : CoreState → ℕ → CoreState → Type 0
 SetsDepth old depth new =
-    Adds old (DepthSet depth) new
+    AddsEvent old (DepthSet depth) new
     × (new.meaning ≡ old.meaning)
     × (new.kept ≡ old.kept)
     × (new.flights ≡ old.flights)

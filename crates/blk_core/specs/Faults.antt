@@ -1,11 +1,9 @@
 -- Why a core refuses a call.
-use Rattle.std.specs.Prelude.{ℕ, ◌+◌, ◌≡◌, ◌≤◌, ◌<◌, ◌⊎◌, ◌++◌, true, List, None, Some, length, IsSome}
-use Rattle.blk_bio.specs.declared.bio.Dir.{Dir}
+use Rattle.std.specs.Prelude.{ℕ, ◌+◌, ◌≡◌, ◌≤◌, ◌<◌, ◌⊎◌, ◌++◌, List, length}
 use Rattle.blk_bio.specs.Bios.{Bio}
 use Rattle.blk_trace.specs.declared.trace.TheConstants.{MAX_EVENTS}
-use Rattle.blk_trace.specs.Events.{entered, open_count, AreOnce}
+use Rattle.blk_trace.specs.Events.{entered, open_count, AreOnce, IsOpen, IsUsed}
 use Rattle.blk_trace.specs.Depths.{depth_now}
-use Rattle.blk_trace.specs.Inside.Seats.{seat_at}
 use Rattle.blk_core.specs.Ids.{IsFirstRepeated}
 use Rattle.blk_core.specs.State.{CoreState}
 use Rattle.blk_core.specs.declared.CoreFault.{CoreFault}
@@ -41,15 +39,15 @@ IsReleaseFault c bios hw Memory = CanRelease c bios hw
 pub record CanIssue (c : CoreState) (hw tag : ℕ) : Type 0 where
   pub queue : hw < c.setup.hw
   pub range : tag < depth_now c.setup c.events
-  pub free : seat_at c.events tag ≡ None
+  pub free : IsUsed c.events tag → ⊥
   pub room : places_taken c + 2 ≤ MAX_EVENTS
 
 -- what each fault of an issue says; they come in this order
 abbrev pub IsIssueFault : CoreState → ℕ → ℕ → IssueFault → Type 0
 IsIssueFault c hw tag issue.NoQueue = c.setup.hw ≤ hw
 IsIssueFault c hw tag issue.TagRange = (hw < c.setup.hw) × (depth_now c.setup c.events ≤ tag)
-IsIssueFault c hw tag issue.SlotUsed = (hw < c.setup.hw) × (tag < depth_now c.setup c.events) × IsSome (seat_at c.events tag)
-IsIssueFault c hw tag issue.TraceFull = (hw < c.setup.hw) × (tag < depth_now c.setup c.events) × (seat_at c.events tag ≡ None) × (MAX_EVENTS < places_taken c + 2)
+IsIssueFault c hw tag issue.SlotUsed = (hw < c.setup.hw) × (tag < depth_now c.setup c.events) × IsUsed c.events tag
+IsIssueFault c hw tag issue.TraceFull = (hw < c.setup.hw) × (tag < depth_now c.setup c.events) × (IsUsed c.events tag → ⊥) × (MAX_EVENTS < places_taken c + 2)
 IsIssueFault c hw tag issue.Memory = CanIssue c hw tag
 
 -- a round that ends: no command is in flight, and there is a place for the Tick
@@ -75,9 +73,9 @@ IsDepthFault c n depth.TraceFull = MAX_EVENTS ≤ places_taken c
 IsDepthFault c n depth.DepthRange = (places_taken c < MAX_EVENTS) × ((n ≡ 0) ⊎ (c.setup.depth < n))
 IsDepthFault c n depth.Memory = CanSetDepth c n
 
--- a command is in flight under the tag: its Issue has no Done and no Back
+-- a command is in flight under the tag: the tag has an Issue with no Done and no Back after it
 abbrev pub IsInFlight : CoreState → ℕ → Type 0
-IsInFlight c tag = (dir : Dir) × (seat_at c.events tag ≡ Some (record { dir = dir; in_flight = true }))
+IsInFlight c tag = IsOpen c.events tag
 
 -- what each fault of a Back says; they come in this order
 abbrev pub IsBackFault : CoreState → ℕ → BackFault → Type 0

@@ -1,6 +1,6 @@
+pub mod Opens
 pub mod State
 pub mod Ids
 pub mod Faults
 pub mod Calls
-pub mod Opens
 pub mod Inside

@@ -10,12 +10,13 @@ use Rattle.blk_bio.specs.Codes.{limits_code}
 use Rattle.blk_bio.specs.Requests.{dir_of}
 use Rattle.blk_trace.specs.Setups.{Setup}
 use Rattle.blk_trace.specs.Happened.{Happened, happened_code}
-use Rattle.blk_trace.specs.Events.{round_of}
+use Rattle.blk_trace.specs.Events.{round_of, request_of, IsOpenBy}
+use Rattle.blk_trace.specs.Meaning.{release_of, due_of}
 use Rattle.blk_trace.specs.Waits.{Entered, waits_at, was_issued, unissued_at, waiting_count}
-use Rattle.blk_trace.specs.Inside.Seats.{open_of}
 use Rattle.blk_trace.specs.Setups.{same_dir}
 use Rattle.blk_sched.specs.Meaning.{Waiting, Meaning, handed_of, waiting_code, meaning_code}
 use Rattle.blk_hw.specs.Held.{held_in, held_total, held_count}
+use Rattle.blk_core.specs.Opens.{open_issues_of}
 
 -- a command in flight: the hardware queue that it was issued for, and its request as it was picked
 pub record Flight : Type 0 where
@@ -48,6 +49,11 @@ core_code = code_by (Setup × (List Happened × (Meaning × (List ℕ × (List (
 abbrev pub entered_of : Waiting → Entered
 entered_of w = record { release = w.release; due = w.due; bios = w.bios }
 
+-- a request is in flight under the tag: the tag's Issue of its id is open, and it is as it was joined
+pub record IsFlown (setup : Setup) (events : List Happened) (tag : ℕ) (w : Waiting) : Type 0 where
+  pub by : IsOpenBy events tag w.id
+  pub known : entered_of w ≡ record { release = release_of events w.id; due = due_of setup events w.id; bios = request_of events w.id }
+
 -- the request that the device handed back and that waits under the id: it was issued before
 unfoldable pub returned_at : Setup → List Happened → ℕ → Option Entered
 returned_at setup events id = cond (was_issued events id) (waits_at setup events id) None
@@ -68,8 +74,8 @@ pub record HoldsWhatWaits (setup : Setup) (events : List Happened) (m : Meaning)
   pub held_once : (id : ℕ) → held_count (is_named id) held ≡ cond (is_some (returned_at setup events id)) 1 0
   pub count : map.len m.pending + held_total held ≡ waiting_count events
   -- the scheduler's open picks are the open Issues, and those that were handed back are the held requests
-  pub reads : m.open_picks.reads ≡ open_of events Read
-  pub writes : m.open_picks.writes ≡ open_of events Write
+  pub reads : m.open_picks.reads ≡ open_issues_of events Read
+  pub writes : m.open_picks.writes ≡ open_issues_of events Write
   pub handed : (dir : Dir) → handed_of dir m.open_picks ≡ held_count (is_of dir) held
   -- its round is the trace's
   pub round : m.round ≡ round_of events

@@ -173,9 +173,9 @@ impl<S: Scheduler> Model for Core<S> {
 }
 
 impl<S: Scheduler> Core<S> {
-    ghost use Rattle.std.specs.Prelude.{◌≡◌, ◌≤◌, ◌<◌, ◌+◌, ◌++◌, ◌↔◌, [], ◌∷◌, IfOk, OnOk, IfErr, OnErr, IsOk, IfSome, IfNone, replicate, None};
+    ghost use Rattle.std.specs.Prelude.{◌≡◌, ◌≤◌, ◌<◌, ◌+◌, ◌++◌, ◌↔◌, [], ◌∷◌, IfOk, OnOk, IfErr, OnErr, IsOk, IfSome, IfNone, IsTrue, replicate, None};
     ghost use Rattle.blk_bio.specs.Requests.{IsWithin};
-    ghost use Rattle.blk_trace.specs.Events.{round_of};
+    ghost use Rattle.blk_trace.specs.Events.{round_of, IsUsed};
     ghost use Rattle.blk_trace.specs.Legal.{IsLegalTrace};
     ghost use Rattle.blk_trace.specs.Laws.{IsScheduled, IsAccounted};
     ghost use Rattle.blk_trace.specs.Waits.{waiting_count};
@@ -374,13 +374,25 @@ impl<S: Scheduler> Core<S> {
         if tag as u64 >= self.trace.depth_now() {
             return Some(IssueFault::TagRange);
         }
-        if !matches!(self.tags[tag as usize], TagState::Free) {
+        if self.is_taken(tag) {
             return Some(IssueFault::SlotUsed);
         }
         if self.trace.len() + self.trace.unfinished() + 2 > MAX_EVENTS {
             return Some(IssueFault::TraceFull);
         }
         None
+    }
+
+    /// Whether a tag of the core was issued in this round.
+    fn is_taken(&self, tag: u16) -> bool
+        requires { tag < self.now.setup.depth }
+        ensures { IsTrue result ↔ IsUsed self.now.events tag }
+    {
+        match self.tags[tag as usize] {
+            TagState::Free => false,
+            TagState::Flying { .. } => true,
+            TagState::Spent(_) => true,
+        }
     }
 
     /// Completes the command in flight under a tag. Refused exactly where there is none; takes no memory.

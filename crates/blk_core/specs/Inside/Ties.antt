@@ -7,17 +7,15 @@ use Rattle.blk_bio.specs.Bios.{Bio}
 use Rattle.blk_bio.specs.Requests.{dir_of}
 use Rattle.blk_trace.specs.Setups.{Setup, IsSetup}
 use Rattle.blk_trace.specs.Happened.{Happened, Released}
-use Rattle.blk_trace.specs.Events.{At, request_of}
+use Rattle.blk_trace.specs.Events.{At}
 use Rattle.blk_trace.specs.Legal.{IsLegalTrace}
-use Rattle.blk_trace.specs.Meaning.{release_of, due_of}
-use Rattle.blk_trace.specs.Events.{IsOpenBy}
 use Rattle.blk_trace.specs.Inside.Seats.{Seat, seat_at}
 use Rattle.blk_trace.specs.Waits.{released_count}
 use Rattle.blk_trace.specs.Setups.{same_dir}
 use Rattle.blk_sched.specs.Meaning.{Waiting, Meaning}
 use Rattle.blk_core.specs.declared.TagState.{TagState}
 use Rattle.blk_core.specs.declared.TagState.TheVariants.{Free, Flying, Spent}
-use Rattle.blk_core.specs.State.{Flight, entered_of, HoldsWhatWaits}
+use Rattle.blk_core.specs.State.{Flight, IsFlown, HoldsWhatWaits}
 
 -- the command in flight under a tag that stands so
 abbrev pub flight_of : {A : Type 0} → TagState A → Option Flight
@@ -47,11 +45,6 @@ abbrev pub flying : {A : Type 0} → Dir → TagState A → ℕ
 flying dir Free = 0
 flying dir (Flying hw queued) = cond (same_dir dir (dir_of queued.bios)) 1 0
 flying dir (Spent d) = 0
-
--- a command in flight is known to the trace: its tag's Issue is open, and its request is as it entered
-pub record IsFlown (setup : Setup) (events : List Happened) (tag : ℕ) (w : Waiting) : Type 0 where
-  pub by : IsOpenBy events tag w.id
-  pub known : entered_of w ≡ record { release = release_of events w.id; due = due_of setup events w.id; bios = request_of events w.id }
 
 -- a core's own fields say what its trace says
 pub record IsTied {A : Type 0} (setup : Setup) (events : List Happened) (m : Meaning) (tags : List (TagState A)) (held : List (List Waiting)) (released : ℕ) : Type 0 where

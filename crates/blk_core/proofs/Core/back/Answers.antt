@@ -8,9 +8,8 @@ use Rattle.blk_core.specs.declared.TagState.{TagState}
 use Rattle.blk_core.specs.declared.TagState.TheVariants.{Free, Flying, Spent}
 use Rattle.blk_core.specs.Inside.Ties.{flight_of, queue_of, IfFlying, IsTied}
 use Rattle.blk_trace.specs.Happened.{Returned}
-use Rattle.blk_trace.specs.Inside.Seats.{seat_at}
 use Rattle.blk_core.proofs.Pushed.{pushed_at_once}
-use Rattle.blk_core.proofs.Ties.{open_flight, read_at, seated, beyond}
+use Rattle.blk_core.proofs.Ties.{open_flight, read_at, beyond, flying_open, not_flying}
 use Rattle.blk_core.proofs.Ended.{end_unbroken, tied_back, few_handed}
 use Rattle.blk_core.proofs.Flights.{any_default, flight_at}
 use Rattle.blk_core.proofs.Core.back.Goals as goal
@@ -22,8 +21,7 @@ back_by old new d dir is h = subst (λ x. HandsBack x old new) is h
 pub returns-then-slot-len-clause-fault : goal.returns-then-slot-len-clause-fault
 returns-then-slot-len-clause-fault g c =
     let past : length c.self.inside.tags.items ≤ c.args.tag = search rules in
-    let none : seat_at c.self.inside.trace.events c.args.tag ≡ None = beyond c.self.inside.trace.setup c.self.inside.trace.events _ _ _ _ c.args.tag c.self.invariant past in
-    rw (← c.self.view_is) (λ h. absurd (let b = h.1 in cc))
+    rw (← c.self.view_is) (beyond c.self.inside.trace.setup c.self.inside.trace.events _ _ _ _ c.args.tag c.self.invariant past)
 
 pub add-requires-clause-unbroken : goal.add-requires-clause-unbroken
 add-requires-clause-unbroken g c =
@@ -75,7 +73,7 @@ returns-clause-back g c =
     rw (← c.self.view_is) (
       record { hw = c.in-Flying.hw; request = w },
       flight_at c.self.inside.tags.items c.args.tag c.in-Flying.hw w lt at,
-      seated c.self.inside.trace.setup c.self.inside.trace.events _ c.self.inside.tags.items c.self.inside.held c.self.inside.released c.args.tag c.in-Flying.hw w c.self.invariant lt at,
+      c.self.invariant.flown c.args.tag c.in-Flying.hw w at,
       ap (λ (x : Waiting). x.id) c.queued.view_is,
       (p.same, p.added),
       back_by (g.S.Scheduler.meaning c.self.inside.scheduler) (g.S.Scheduler.meaning c.on_back.new.self) c.dir-dir.result (dir_of w.bios) dir_is c.on_back.ensures.back,
@@ -83,3 +81,20 @@ returns-clause-back g c =
       map-set flight_of c.self.inside.tags.items c.args.tag c.hold.new.tag ∙ ap (λ s. set (map flight_of c.self.inside.tags.items) c.args.tag (flight_of s)) held.0,
       held.1,
     )
+
+pub returns-in_default-clause-fault : goal.returns-in_default-clause-fault
+returns-in_default-clause-fault g c =
+    let lt : c.args.tag < length c.self.inside.tags.items = search rules in
+    rw (← c.self.view_is) (not_flying c.self.inside.trace.setup c.self.inside.trace.events _ c.self.inside.tags.items c.self.inside.held c.self.inside.released c.args.tag c.index.result.now c.self.invariant lt c.index.ensures c.in_default.not-Flying)
+
+pub returns-in_default-hold-clause-fault : goal.returns-in_default-hold-clause-fault
+returns-in_default-hold-clause-fault g c =
+    let lt : c.args.tag < length c.self.inside.tags.items = search rules in
+    let at : get_or c.self.inside.tags.items c.args.tag Free ≡ Flying c.in-Flying.hw c.in-Flying.queued = read_at c.self.inside.tags.items c.args.tag c.in-Flying.hw c.index.result.now c.in-Flying.queued lt c.index.ensures c.in-Flying.is in
+    rw (← c.self.view_is) (flying_open c.self.inside.trace.setup c.self.inside.trace.events _ c.self.inside.tags.items c.self.inside.held c.self.inside.released c.args.tag c.in-Flying.hw c.in-Flying.queued c.self.invariant at)
+
+pub returns-clause-no_fault : goal.returns-clause-no_fault
+returns-clause-no_fault g c =
+    let lt : c.args.tag < length c.self.inside.tags.items = search rules in
+    let at : get_or c.self.inside.tags.items c.args.tag Free ≡ Flying c.in-Flying.hw c.in-Flying.queued = read_at c.self.inside.tags.items c.args.tag c.in-Flying.hw c.index.result.now c.in-Flying.queued lt c.index.ensures c.in-Flying.is in
+    rw (← c.self.view_is) (flying_open c.self.inside.trace.setup c.self.inside.trace.events _ c.self.inside.tags.items c.self.inside.held c.self.inside.released c.args.tag c.in-Flying.hw c.in-Flying.queued c.self.invariant at)

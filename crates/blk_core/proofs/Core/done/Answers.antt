@@ -8,9 +8,8 @@ use Rattle.blk_core.specs.declared.TagState.TheVariants.{Free, Flying, Spent}
 use Rattle.blk_core.specs.Inside.Ties.{flight_of}
 use Rattle.blk_core.specs.Calls.{OfDone}
 use Rattle.blk_trace.specs.Happened.{Finished}
-use Rattle.blk_trace.specs.Inside.Seats.{seat_at}
 use Rattle.blk_core.proofs.Pushed.{pushed_at_once}
-use Rattle.blk_core.proofs.Ties.{open_flight, read_at, seated, beyond}
+use Rattle.blk_core.proofs.Ties.{open_flight, read_at, beyond, flying_open, not_flying}
 use Rattle.blk_core.proofs.Ended.{end_unbroken, tied_done_at}
 use Rattle.blk_core.proofs.Flights.{flight_at}
 use Rattle.blk_core.proofs.Core.done.Goals as goal
@@ -28,8 +27,7 @@ two_differ e = cc
 pub returns-then-slot-len-clause-accepted : goal.returns-then-slot-len-clause-accepted
 returns-then-slot-len-clause-accepted g c =
     let past : length c.self.inside.tags.items ≤ c.args.tag = search rules in
-    let none : seat_at c.self.inside.trace.events c.args.tag ≡ None = beyond c.self.inside.trace.setup c.self.inside.trace.events _ _ _ _ c.args.tag c.self.invariant past in
-    rw (← c.self.view_is) ((λ e. two_differ e), λ h. absurd (let b = h.1 in cc))
+    rw (← c.self.view_is) ((λ e. two_differ e), λ o. absurd (beyond c.self.inside.trace.setup c.self.inside.trace.events _ _ _ _ c.args.tag c.self.invariant past o))
 
 pub add-requires-clause-unbroken : goal.add-requires-clause-unbroken
 add-requires-clause-unbroken g c =
@@ -64,10 +62,21 @@ returns-clause-done g c =
     rw (← c.self.view_is) (
       record { hw = c.in-Flying.hw; request = w },
       flight_at c.self.inside.tags.items c.args.tag c.in-Flying.hw w lt at,
-      seated c.self.inside.trace.setup c.self.inside.trace.events _ c.self.inside.tags.items c.self.inside.held c.self.inside.released c.args.tag c.in-Flying.hw w c.self.invariant lt at,
+      c.self.invariant.flown c.args.tag c.in-Flying.hw w at,
       (p.same, p.added),
       completed_by (g.S.Scheduler.meaning c.self.inside.scheduler) (g.S.Scheduler.meaning c.on_done.new.self) c.dir-dir.result (dir_of w.bios) dir_is c.on_done.ensures.done,
       told_at g.S.Scheduler.told_done c.in-Flying.hw c.dir-dir.result (dir_of w.bios) c.saturating_sub-wait.result (round_of c.self.inside.trace.events - w.release) (g.S.Scheduler.kept c.self.inside.scheduler) (g.S.Scheduler.kept c.on_done.new.self) dir_is wait_is c.on_done.ensures.told,
       map-set flight_of c.self.inside.tags.items c.args.tag (Spent c.dir-dir.result),
       refl,
     )
+
+pub returns-in_default-clause-accepted : goal.returns-in_default-clause-accepted
+returns-in_default-clause-accepted g c =
+    let lt : c.args.tag < length c.self.inside.tags.items = search rules in
+    rw (← c.self.view_is) ((λ e. two_differ e), λ o. absurd (not_flying c.self.inside.trace.setup c.self.inside.trace.events _ c.self.inside.tags.items c.self.inside.held c.self.inside.released c.args.tag c.index.result.now c.self.invariant lt c.index.ensures c.in_default.not-Flying o))
+
+pub returns-clause-accepted : goal.returns-clause-accepted
+returns-clause-accepted g c =
+    let lt : c.args.tag < length c.self.inside.tags.items = search rules in
+    let at : get_or c.self.inside.tags.items c.args.tag Free ≡ Flying c.in-Flying.hw c.in-Flying.queued = read_at c.self.inside.tags.items c.args.tag c.in-Flying.hw c.index.result.now c.in-Flying.queued lt c.index.ensures c.in-Flying.is in
+    rw (← c.self.view_is) ((λ _. flying_open c.self.inside.trace.setup c.self.inside.trace.events _ c.self.inside.tags.items c.self.inside.held c.self.inside.released c.args.tag c.in-Flying.hw c.in-Flying.queued c.self.invariant at), λ _. refl)
