@@ -1,5 +1,5 @@
 -- What a change does to the spots of requests.
-use Rattle.std.proofs.Common.{◌≡◌, ◌&&◌, ℕ, Bool, true, false, cond, sym, ap, subst, ◌∙◌, refl, Some, None, Option}
+use Rattle.std.proofs.Common.{◌≡◌, ◌&&◌, ℕ, Bool, true, false, cond, sym, ap, ◌∙◌, refl, Some, None, Option}
 use Rattle.std.specs.Ordering.{nat_cmp, ordering_then, eq_by_cmp, is_eq}
 use Rattle.std.specs.BTreeMap.{is_at}
 use Rattle.std.specs.BTreeSet.{BTreeSet, IsEmpty, contains}
@@ -12,9 +12,9 @@ use Rattle.blk_bio.specs.declared.extent.Extent.{Extent}
 use Rattle.blk_sched.specs.Meaning.{Waiting, Pending}
 use Rattle.blk_bio.specs.Extents.{extent_of}
 use Rattle.blk_sched.specs.Maps.{same_number}
-use Rattle.blk_sched.specs.Inside.Spots.{Place, Spot, place_cmp, spot_cmp, Adds, Takes, Keeps, is_placed, AreSpots, age_at}
+use Rattle.blk_sched.specs.Inside.Spots.{Place, Spot, place_cmp, spot_cmp, Adds, Takes, Keeps, is_placed, AreSpots}
 use Rattle.blk_sched.specs.Inside.Heads.{Becomes}
-use Rattle.blk_sched.specs.Index.{IsIndex}
+use Rattle.blk_sched.specs.Index.{IsNamed}
 use Rattle.blk_sched.proofs.Listed.{same_place, is_equal}
 
 abbrev pub Found : Type 0
@@ -112,32 +112,22 @@ module _ (at : Extent → Place) (old new : Found) (id : ℕ) where
 pub kept : (at : Extent → Place) (old new : Found) (has now : Has) → AreSpots at old has → ((k : ℕ) → new k ≡ old k) → Keeps has now → AreSpots at new now
 kept at old new has now spots same keeps p k = keeps (p, k) ∙ spots p k ∙ ap (is_placed at p) (sym (same k))
 
-pub named_then : (old new : Found) (id : ℕ) (x : Option Waiting) → ((k : ℕ) (v : Waiting) → old k ≡ Some v → v.id ≡ k) → ((v : Waiting) → x ≡ Some v → v.id ≡ id) → Becomes old id x new → (k : ℕ) (v : Waiting) → new k ≡ Some v → v.id ≡ k
+-- each request has its id then
+pub named_then : (old new : Found) (id : ℕ) (x : Option Waiting) → IsNamed old → ((v : Waiting) → x ≡ Some v → v.id ≡ id) → Becomes old id x new → IsNamed new
 named_then old new id x named own becomes k v found =
     elim (is_at (nat_cmp id) k) as (λ b. is_at (nat_cmp id) k ≡ b → cond b x (old k) ≡ Some v → v.id ≡ k) [
       | true ↦ λ e h. own v h ∙ sym (same_number id k e)
       | false ↦ λ _ h. named k v h
     ] refl (sym (becomes k) ∙ found)
 
-pub insert_kept : (old new : Found) (a a2 : Has) (id : ℕ) (at : Extent) (w : Waiting) → IsIndex old a → old w.id ≡ None → id ≡ w.id → at ≡ extent_of w.bios → Adds a (age_at at, id) a2 → Becomes old id (Some w) new → IsIndex new a2
-insert_kept old new a a2 id at w index none own is ages becomes =
-    let absent : old id ≡ None = ap old own ∙ none in
-    record {
-      named = named_then old new id (Some w) index.named (λ v h. let same : w ≡ v = cc in ap (λ (u : Waiting). u.id) (sym same) ∙ sym own) becomes;
-      ages = entered age_at old new id a a2 w index.ages absent (subst (λ (x : Extent). Adds a (age_at x, id) a2) is ages) becomes;
-    }
+pub named_one : (old new : Found) (id : ℕ) (w : Waiting) → IsNamed old → id ≡ w.id → Becomes old id (Some w) new → IsNamed new
+named_one old new id w named own becomes = named_then old new id (Some w) named (λ v h. let same : w ≡ v = cc in ap (λ (u : Waiting). u.id) (sym same) ∙ sym own) becomes
 
-pub remove_kept : (old new : Found) (a a2 : Has) (id : ℕ) (at : Extent) (w : Waiting) → IsIndex old a → old id ≡ Some w → at ≡ extent_of w.bios → Takes a (age_at at, id) a2 → Becomes old id None new → IsIndex new a2
-remove_kept old new a a2 id at w index found is ages becomes = record {
-  named = named_then old new id None index.named (λ v h. absurd (cc)) becomes;
-  ages = taken age_at old new id a a2 w index.ages found (subst (λ (x : Extent). Takes a (age_at x, id) a2) is ages) becomes;
-}
+pub named_less : (old new : Found) (id : ℕ) → IsNamed old → Becomes old id None new → IsNamed new
+named_less old new id named becomes = named_then old new id None named (λ v h. absurd (cc)) becomes
 
-pub same_kept : (old new : Found) (a a2 : Has) → IsIndex old a → ((k : ℕ) → new k ≡ old k) → Keeps a a2 → IsIndex new a2
-same_kept old new a a2 index same ages = record {
-  named = λ k v h. index.named k v (sym (same k) ∙ h);
-  ages = kept age_at old new a a2 index.ages same ages;
-}
+pub named_same : (old new : Found) → IsNamed old → ((k : ℕ) → new k ≡ old k) → IsNamed new
+named_same old new named same k v h = named k v (sym (same k) ∙ h)
 
 -- ---- nothing
 
@@ -150,11 +140,8 @@ no_spots at m has none empty p k = empty (p, k) ∙ ap (is_placed at p) (sym (ap
 pub none_found : (m : Pending) → m ≡ map.empty → (k : ℕ) → map.get m k ≡ None
 none_found m none k = ap (λ (x : Pending). map.get x k) none ∙ map.get-empty nat_cmp k
 
-pub empty_index : (m : Pending) (a : Has) → m ≡ map.empty → ((q : Spot) → a q ≡ false) → IsIndex (map.get m) a
-empty_index m a none ages = record {
-  named = λ k w h. absurd (let x : None ≡ Some w = sym (none_found m none k) ∙ h in cc);
-  ages = no_spots age_at m a none ages;
-}
+pub none_named : (m : Pending) → m ≡ map.empty → IsNamed (map.get m)
+none_named m none k w h = absurd (let x : None ≡ Some w = sym (none_found m none k) ∙ h in cc)
 
 -- an id that isn't there is taken out
 pub same_without : (m n : Pending) (id : ℕ) → map.get m id ≡ None → n ≡ map.remove m id → (k : ℕ) → map.get n k ≡ map.get m k

@@ -13,7 +13,7 @@ use Rattle.blk_sched.specs.Meaning.{Waiting, Pending, joined_waiting}
 use Rattle.blk_bio.specs.Extents.{extent_of}
 use Rattle.blk_sched.specs.Fits.{HasFit}
 use Rattle.blk_sched.specs.Inside.Shelves.{JoinsOne}
-use Rattle.blk_sched.specs.Inside.Spots.{Place, Spot, place_cmp, is_write, is_placed, AreSpots, Adds, Takes, first_at, end_at, age_at}
+use Rattle.blk_sched.specs.Inside.Spots.{Place, Spot, place_cmp, is_write, is_placed, AreSpots, Adds, Takes, first_at, end_at}
 use Rattle.blk_sched.specs.Inside.Heads.{Becomes}
 use Rattle.blk_sched.specs.Index.{at_of, joined_extent, IsJoined}
 use Rattle.blk_sched.proofs.Listed.{same_place, is_equal}
@@ -44,7 +44,7 @@ pub first_joined : (bios newcomer : List Bio) (s : ℕ) → 0 < s → first_of n
 first_joined bios [] s some range = absurd (no_sectors s some range)
 first_joined bios (y ∷ ys) s some range = refl
 
-dir_stays : (limits : Limits) (bios newcomer : List Bio) (side : Side) → Fits limits bios newcomer side → dir_of (joined bios newcomer side) ≡ dir_of bios
+pub dir_stays : (limits : Limits) (bios newcomer : List Bio) (side : Side) → Fits limits bios newcomer side → dir_of (joined bios newcomer side) ≡ dir_of bios
 dir_stays limits [] newcomer Back fits = fits.same_direction
 dir_stays limits (x ∷ xs) newcomer Back fits = refl
 dir_stays limits bios [] Front fits = refl
@@ -84,9 +84,6 @@ pub end_place : (limits : Limits) (bios newcomer : List Bio) → Fits limits bio
 end_place limits bios newcomer fits =
     ap (λ (d : Dir). let p : Place = (is_write d, last_of bios) in p) (sym (dir_stays limits bios newcomer Front fits))
     ∙ ap (λ (n : ℕ). let p : Place = (is_write (dir_of (newcomer ++ bios)), n) in p) (sym (last_stays limits bios newcomer fits))
-
-pub age_place : (limits : Limits) (bios newcomer : List Bio) (side : Side) → Fits limits bios newcomer side → age_at (extent_of bios) ≡ age_at (extent_of (joined bios newcomer side))
-age_place limits bios newcomer side fits = ap (λ (d : Dir). let p : Place = (is_write d, 0) in p) (sym (dir_stays limits bios newcomer side fits))
 
 -- ---- the spots at the side
 

@@ -11,11 +11,14 @@ use Rattle.blk_bio.specs.Requests.{Fits, first_of, last_of, sectors_of, joined}
 use Rattle.blk_bio.specs.Extents.{extent_of}
 use Rattle.blk_sched.specs.Meaning.{Waiting, Pending, joined_waiting}
 use Rattle.blk_sched.specs.Fits.{HasFit}
-use Rattle.blk_sched.specs.Inside.Spots.{Spot, Adds, Takes, first_at, end_at, age_at}
+use Rattle.blk_sched.specs.Inside.Spots.{Spot, Adds, Takes, first_at, end_at}
 use Rattle.blk_sched.specs.Inside.Heads.{Becomes, spots_of, HasHeads, Lowers, KeepsLeast, IsEdge}
-use Rattle.blk_sched.specs.Index.{at_of, joined_extent, IsIndex, IsJoined}
-use Rattle.blk_sched.proofs.Indexed.{Found, Has, stayed, kept, named_then, becomes_given}
-use Rattle.blk_sched.proofs.Join.{fits_it, first_place, end_place, age_place, at_joined, spots_moved, new_spot}
+use Rattle.blk_sched.specs.Index.{at_of, joined_extent, IsNamed, IsJoined}
+use Rattle.blk_sched.proofs.Indexed.{Found, named_then, named_same, becomes_given}
+use Rattle.blk_sched.proofs.Join.{fits_it, first_place, end_place, dir_stays, at_joined, spots_moved, new_spot}
+use Rattle.blk_sched.specs.Inside.Ages.{AreAges}
+use Rattle.blk_sched.specs.declared.ages.Ages.{Ages}
+use Rattle.blk_sched.proofs.Aged.{ages_stayed, ages_same}
 use Rattle.blk_sched.proofs.Spotted.{Heads, Others}
 use Rattle.blk_sched.proofs.Edged.{edge_stayed, edge_kept, edge_moved, edge_undone}
 
@@ -57,15 +60,13 @@ unchanged : (m n : Pending) → n ≡ m → (k : ℕ) → map.get n k ≡ map.ge
 unchanged m n same k = ap (λ (x : Pending). map.get x k) same
 
 module _ {T E : Type 0} (limits : Limits) (m n : Pending) (id at : ℕ) (side : Side) (newcomer : List Bio) (fit : HasFit limits (map.get m) newcomer id side) where
-  pub index_joined : (r : Result T E) (a : Has) → IsIndex (map.get m) a → OnOk r (IsJoined at newcomer m id side n) → OnErr r (n ≡ m) → IsIndex (map.get n) a
-  index_joined (Ok x) a index join same = record {
-    named = named_then (map.get m) (map.get n) id (Some (joined_waiting side at newcomer join.waiting)) index.named (λ u h. let one : joined_waiting side at newcomer join.waiting ≡ u = cc in ap (λ (x : Waiting). x.id) (sym one) ∙ index.named id join.waiting join.was) (becomes_so limits m n id at side newcomer join);
-    ages = stayed age_at (map.get m) (map.get n) id a join.waiting (joined_waiting side at newcomer join.waiting) index.ages join.was (age_place limits join.waiting.bios newcomer side (fits_so limits m n id at side newcomer fit join)) (becomes_so limits m n id at side newcomer join);
-  }
-  index_joined (Err x) a index join same = record {
-    named = λ k v h. index.named k v (sym (unchanged m n same k) ∙ h);
-    ages = kept age_at (map.get m) (map.get n) a a index.ages (unchanged m n same) (λ q. refl);
-  }
+  pub named_joined : (r : Result T E) → IsNamed (map.get m) → OnOk r (IsJoined at newcomer m id side n) → OnErr r (n ≡ m) → IsNamed (map.get n)
+  named_joined (Ok x) named join same = named_then (map.get m) (map.get n) id (Some (joined_waiting side at newcomer join.waiting)) named (λ u h. let one : joined_waiting side at newcomer join.waiting ≡ u = cc in ap (λ (x : Waiting). x.id) (sym one) ∙ named id join.waiting join.was) (becomes_so limits m n id at side newcomer join)
+  named_joined (Err x) named join same = named_same (map.get m) (map.get n) named (unchanged m n same)
+
+  pub ages_joined : {A : Type 0} (r : Result T E) (ages : Ages A) → AreAges (map.get m) ages → OnOk r (IsJoined at newcomer m id side n) → OnErr r (n ≡ m) → AreAges (map.get n) ages
+  ages_joined (Ok x) ages are join same = ages_stayed (map.get m) (map.get n) id ages join.waiting (joined_waiting side at newcomer join.waiting) are join.was (dir_stays limits join.waiting.bios newcomer side (fits_so limits m n id at side newcomer fit join)) (becomes_so limits m n id at side newcomer join)
+  ages_joined (Err x) ages are join same = ages_same (map.get m) (map.get n) ages are (unchanged m n same)
 
   pub firsts_stay : (r : Result T E) (heads : Heads) (others : Others) → side ≡ Back → IsEdge first_at (map.get m) heads others → OnOk r (IsJoined at newcomer m id side n) → OnErr r (n ≡ m) → IsEdge first_at (map.get n) heads others
   firsts_stay (Ok x) heads others is edge join same =

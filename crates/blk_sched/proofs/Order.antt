@@ -11,12 +11,12 @@ use Rattle.blk_bio.specs.declared.extent.Extent.{Extent}
 use Rattle.blk_sched.specs.Meaning.{Waiting}
 use Rattle.blk_bio.specs.Extents.{extent_of}
 use mathlib.Core.Bool.{not, beq}
-use Rattle.blk_sched.specs.Inside.Spots.{Place, Spot, place_cmp, spot_cmp, is_write, is_placed, AreSpots, first_at, age_at}
-use Rattle.blk_sched.specs.Index.{IsOldest, IsNext, IsBefore, NoneOf, NoNext}
+use Rattle.blk_sched.specs.Inside.Spots.{Place, Spot, place_cmp, spot_cmp, is_write, is_placed, AreSpots, first_at}
+use Rattle.blk_sched.specs.Index.{IsNext, IsBefore, NoNext}
 use Rattle.blk_sched.proofs.Listed.{same_place, is_equal, place_itself, nat_less, lt_of}
 use Rattle.blk_sched.proofs.Indexed.{Found, Has}
 
-same_dir : (d e : Dir) → is_write d ≡ is_write e → d ≡ e
+pub same_dir : (d e : Dir) → is_write d ≡ is_write e → d ≡ e
 same_dir Read Read h = refl
 same_dir Read Write h = cc
 same_dir Write Read h = cc
@@ -28,18 +28,6 @@ placed at p (Some w) h = (w, refl, same_place (at (extent_of w.bios)) p (is_equa
 
 pub standing : (at : Extent → Place) (found : Found) (has : Has) (k : ℕ) (v : Waiting) → AreSpots at found has → found k ≡ Some v → has (at (extent_of v.bios), k) ≡ true
 standing at found has k v spots is = spots (at (extent_of v.bios)) k ∙ ap (is_placed at (at (extent_of v.bios))) is ∙ ap is_eq (place_itself (at (extent_of v.bios)))
-
--- nothing is below the first place of a direction
-not_below : (k : ℕ) → is_gt (nat_cmp 0 k) ≡ false
-not_below k = elim (nat_cmp 0 k) as (λ o. nat_cmp 0 k ≡ o → is_gt o ≡ false) [
-  | Less ↦ λ _. refl
-  | Equal ↦ λ _. refl
-  | Greater ↦ λ e. let m : k < 0 = ranked 0 k Greater (sym e) in absurd (omega arith)
-] refl
-
-from_start : (b : Bool) (k : ℕ) → is_gt (spot_cmp ((b, 0), 0) ((b, 0), k)) ≡ false
-from_start false k = not_below k
-from_start true k = not_below k
 
 pub greater : (a b : ℕ) → b < a → nat_cmp a b ≡ Greater
 greater a b lt = elim (nat_cmp a b) as (λ o. nat_cmp a b ≡ o → o ≡ Greater) [
@@ -78,17 +66,8 @@ other_above false false f g h i j k differ high least = cc
 other_above true false f g h i j k differ high least = cc
 other_above false true f g h i j k differ high least = cc
 
-other_from : (b other : Bool) (f g h i j k : ℕ) → not (beq other b) ≡ true → is_gt (spot_cmp ((b, f), i) ((other, g), j)) ≡ false → is_gt (spot_cmp ((other, g), j) ((b, h), k)) ≡ false → ⊥
-other_from true true f g h i j k differ high least = cc
-other_from false false f g h i j k differ high least = cc
-other_from true false f g h i j k differ high least = cc
-other_from false true f g h i j k differ high least = cc
-
 at_first : (found : Found) (has : Has) (dir : Dir) (k : ℕ) (v : Waiting) → AreSpots first_at found has → found k ≡ Some v → dir_of v.bios ≡ dir → has ((is_write dir, first_of v.bios), k) ≡ true
 at_first found has dir k v spots is same = ap (λ (d : Dir). has ((is_write d, first_of v.bios), k)) (sym same) ∙ standing first_at found has k v spots is
-
-at_age : (found : Found) (has : Has) (dir : Dir) (k : ℕ) (v : Waiting) → AreSpots age_at found has → found k ≡ Some v → dir_of v.bios ≡ dir → has ((is_write dir, 0), k) ≡ true
-at_age found has dir k v spots is same = ap (λ (d : Dir). has ((is_write d, 0), k)) (sym same) ∙ standing age_at found has k v spots is
 
 module _ (found : Found) (has : Has) (dir : Dir) (first last : ℕ) (write : Bool) (own : write ≡ is_write dir) (spots : AreSpots first_at found has) where
   pub no_next : ((q : Spot) → spot_cmp ((write, first), last) q ≡ Less → has q ≡ false) → NoNext dir first last found
@@ -115,31 +94,6 @@ module _ (found : Found) (has : Has) (dir : Dir) (first last : ℕ) (write : Boo
             let not_greater = least ((write, first_of v.bios), k) (before_less write first (first_of v.bios) last k after) (ap (λ b. has ((b, first_of v.bios), k)) own ∙ at_first found has dir k v spots is same) in
             let more : spot_cmp ((write, sector), id) ((write, first_of v.bios), k) ≡ Greater = before_greater write (first_of v.bios) sector k id (subst (λ (n : ℕ). IsBefore (first_of v.bios) k n id) start before) in
             let a : true ≡ false = ap is_gt (sym more) ∙ ap (λ b. is_gt (spot_cmp ((b, sector), id) ((write, first_of v.bios), k))) (sym same_way) ∙ not_greater in cc;
-      }
-
-module _ (found : Found) (has : Has) (dir : Dir) (write : Bool) (own : write ≡ is_write dir) (spots : AreSpots age_at found has) where
-  pub no_oldest : ((q : Spot) → is_gt (spot_cmp ((write, 0), 0) q) ≡ false → has q ≡ false) → NoneOf dir found
-  no_oldest none k v is same =
-      let a : true ≡ false = sym (at_age found has dir k v spots is same) ∙ ap (λ b. has ((b, 0), k)) (sym own) ∙ none ((write, 0), k) (from_start write k) in cc
-
-  pub other_oldest : (other : Bool) (sector id : ℕ) → is_gt (spot_cmp ((write, 0), 0) ((other, sector), id)) ≡ false → ((q : Spot) → is_gt (spot_cmp ((write, 0), 0) q) ≡ false → has q ≡ true → is_gt (spot_cmp ((other, sector), id) q) ≡ false) → not (beq other write) ≡ true → NoneOf dir found
-  other_oldest other sector id high least differ k v is same =
-      other_from write other 0 sector 0 0 id k differ high
-      (least ((write, 0), k) (from_start write k) (ap (λ b. has ((b, 0), k)) own ∙ at_age found has dir k v spots is same))
-
-  pub the_oldest : (other : Bool) (sector id : ℕ) → has ((other, sector), id) ≡ true → ((q : Spot) → is_gt (spot_cmp ((write, 0), 0) q) ≡ false → has q ≡ true → is_gt (spot_cmp ((other, sector), id) q) ≡ false) → other ≡ write → IsOldest dir found id
-  the_oldest other sector id there least same_way =
-      let at = placed age_at (other, sector) (found id) (sym (spots (other, sector) id) ∙ there) in
-      let way : is_write (dir_of at.0.bios) ≡ other = ap (λ (p : Place). p.0) at.2 in
-      let start : 0 ≡ sector = ap (λ (p : Place). p.1) at.2 in
-      record {
-        waiting = at.0;
-        is_found = at.1;
-        same_dir = same_dir (dir_of at.0.bios) dir (way ∙ same_way ∙ own);
-        least = λ k v lt is same.
-            let not_greater = least ((write, 0), k) (from_start write k) (ap (λ b. has ((b, 0), k)) own ∙ at_age found has dir k v spots is same) in
-            let more : spot_cmp ((write, 0), id) ((write, 0), k) ≡ Greater = before_greater write 0 0 k id (inr (refl, lt)) in
-            let a : true ≡ false = ap is_gt (sym more) ∙ ap (λ n. is_gt (spot_cmp ((write, n), id) ((write, 0), k))) start ∙ ap (λ b. is_gt (spot_cmp ((b, sector), id) ((write, 0), k))) (sym same_way) ∙ not_greater in cc;
       }
 
 pub same_bools : (a b : Bool) → not (beq a b) ≡ false → a ≡ b

@@ -1,5 +1,5 @@
 -- What waits, with the places of its requests.
-use Rattle.std.specs.Prelude.{ℕ, ◌≡◌, ◌<◌, ◌≤◌, ◌^◌, ◌⊎◌, Bool, List, Option, Some, None, if◌then◌else◌, nat_lt}
+use Rattle.std.specs.Prelude.{ℕ, ◌≡◌, ◌<◌, ◌≤◌, ◌^◌, ◌⊎◌, List, Option, Some, None, if◌then◌else◌, nat_lt}
 use Rattle.std.specs.FinMap as map
 use Rattle.blk_bio.specs.declared.bio.Dir.{Dir}
 use Rattle.blk_bio.specs.declared.request.Side.{Side}
@@ -9,12 +9,11 @@ use Rattle.blk_bio.specs.Limits.{Limits}
 use Rattle.blk_bio.specs.Requests.{Fits, dir_of, first_of}
 use Rattle.blk_bio.specs.declared.extent.Extent.{Extent}
 use Rattle.blk_sched.specs.Meaning.{Waiting, Pending, joined_waiting}
-use Rattle.blk_sched.specs.Inside.Spots.{Place, Spot, AreSpots, first_at, end_at, age_at}
+use Rattle.blk_sched.specs.Inside.Spots.{Place, first_at, end_at}
 
--- each request has its id, and the spots are theirs
-pub record IsIndex (waiting : ℕ → Option Waiting) (at_age : Spot → Bool) : Type 0 where
-  pub named : (id : ℕ) (w : Waiting) → waiting id ≡ Some w → w.id ≡ id
-  pub ages : AreSpots age_at waiting at_age
+-- each request has its id
+abbrev pub IsNamed : (ℕ → Option Waiting) → Type 0
+IsNamed found = (id : ℕ) (w : Waiting) → found id ≡ Some w → w.id ≡ id
 
 -- the newest request that fits at one side
 pub record IsNewestBy (limits : Limits) (found : ℕ → Option Waiting) (newcomer : List Bio) (side : Side) (id : ℕ) : Type 0 where

@@ -3,3 +3,5 @@ pub mod Spots
 pub mod Heads
 pub mod Edges
 pub mod Shelves
+pub mod Lists
+pub mod Ages

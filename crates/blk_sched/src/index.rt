@@ -11,38 +11,33 @@ ghost use Rattle.blk_bio.specs.Extents.{extent_of};
 ghost use Rattle.blk_bio.specs.Requests.{Fits, sectors_of};
 ghost use Rattle.std.specs.Prelude.{nat_lt};
 ghost use Rattle.std.specs.Bool.{OnTrue, OnFalse};
-ghost use Rattle.std.specs.BTreeSet.{contains};
-ghost use Rattle.blk_sched.specs.Inside.Spots.{spot_cmp, AreSpots, age_at};
 ghost use Rattle.blk_sched.specs.Inside.Heads.{IsEdge};
 ghost use Rattle.blk_sched.specs.Inside.Edges.{heads_in, others_in};
 ghost use Rattle.blk_sched.specs.Index.{IsNewestBy, FitsNoneBy, FitsBy, IsJoined, at_of, touch_of, joined_extent, newer_of, IsOldest, NoneOf};
 
 use crate::Queued;
+use crate::ages::Ages;
 use crate::shelf::Shelf;
-use crate::spots::{
-    Edges, Spot, Spots, age_spot, end_spot, first_spot, is_write, oldest_from, put, take,
-};
+use crate::spots::{Edges, Spot, Spots, end_spot, first_spot, is_write};
 use blk_bio::{Dir, Extent, Limits, Request, Side};
 use std::alloc::{AllocError, Allocator, Global};
-use std::collections::BTreeSet;
 use std::marker::Model;
 
-/// Requests that wait, found by their ids, by where they begin and by where they end.
+/// Requests that wait, found by their ids, by where they begin and by where they end, and the ids of each direction in order.
 #[derive(Drop)]
 pub struct Index<A: Allocator = Global> {
     waiting: Shelf<A>,
     edges: Edges<A>,
-    ages: BTreeSet<Spot, A>,
+    ages: Ages<A>,
 }
 
 impl<A: Allocator> Model for Index<A> {
-    ghost use Rattle.std.specs.BTreeSet.{contains};
     ghost use Rattle.std.specs.Coded.{coded_ℕ};
     ghost use Rattle.std.specs.FinMap.{get, code};
     ghost use Rattle.blk_sched.specs.Meaning.{Pending, waiting_code};
-    ghost use Rattle.blk_sched.specs.Inside.Spots.{spot_cmp};
+    ghost use Rattle.blk_sched.specs.Inside.Ages.{AreAges};
     ghost use Rattle.blk_sched.specs.Inside.Edges.{IsEdges};
-    ghost use Rattle.blk_sched.specs.Index.{IsIndex};
+    ghost use Rattle.blk_sched.specs.Index.{IsNamed};
 
     ghost Value = { Pending };
 
@@ -50,7 +45,7 @@ impl<A: Allocator> Model for Index<A> {
 
     ghost view = { λ s. s.waiting };
 
-    ghost invariant = { λ s. IsIndex (get s.waiting) (contains spot_cmp s.ages) × IsEdges (get s.waiting) s.edges };
+    ghost invariant = { λ s. IsNamed (get s.waiting) × IsEdges (get s.waiting) s.edges × AreAges (get s.waiting) s.ages };
 }
 
 impl<A: Allocator + Clone> Index<A> {
@@ -61,7 +56,7 @@ impl<A: Allocator + Clone> Index<A> {
         Ok(Index {
             waiting: Shelf::new(alloc.clone()?)?,
             edges: Edges::new(alloc.clone()?)?,
-            ages: BTreeSet::new(alloc),
+            ages: Ages::new(alloc)?,
         })
     }
 
@@ -92,19 +87,18 @@ impl<A: Allocator + Clone> Index<A> {
         let id = id_of(&queued);
         let extent = extent_of(&queued);
         let sectors = sectors_of(&queued);
-        let age = age_spot(extent, id);
-        let Ok(()) = put(&mut self.ages, age) else {
+        let Ok(()) = self.ages.enter(extent.dir, id) else {
             return Err(queued);
         };
         let Ok(()) = self.edges.enter(extent, sectors, id) else {
-            take(&mut self.ages, age);
+            self.ages.leave(&self.waiting, extent.dir, id);
             return Err(queued);
         };
         match self.waiting.insert(queued) {
             Ok(()) => Ok(()),
             Err(queued) => {
                 self.edges.leave(extent, id);
-                take(&mut self.ages, age);
+                self.ages.leave(&self.waiting, extent.dir, id);
                 Err(queued)
             }
         }
@@ -121,7 +115,7 @@ impl<A: Allocator + Clone> Index<A> {
         };
         let extent = extent_of(&queued);
         self.edges.leave(extent, id);
-        take(&mut self.ages, age_spot(extent, id));
+        self.ages.leave(&self.waiting, extent.dir, id);
         Some(queued)
     }
 
@@ -152,7 +146,7 @@ impl<A: Allocator + Clone> Index<A> {
         ensures some { IfSome result (IsOldest dir (map.get self.now)) }
         ensures none { IfNone result (NoneOf dir (map.get self.now)) }
     {
-        oldest_in(&self.waiting, &self.ages, dir)
+        self.ages.first(dir)
     }
 
     /// Joins a newcomer to the request of an id, which it fits at the side, in the round `now`. Refused for want of
@@ -176,26 +170,6 @@ impl<A: Allocator + Clone> Index<A> {
             Side::Front => join_in(&mut self.waiting, firsts, id, side, now, limits, newcomer),
         }
     }
-}
-
-/// The least id of a direction.
-fn oldest_in<A: Allocator + Clone>(
-    waiting: &Shelf<A>,
-    ages: &BTreeSet<Spot, A>,
-    dir: Dir,
-) -> Option<u64>
-    requires { AreSpots age_at (map.get waiting.now) (contains spot_cmp ages.now) }
-    ensures some { IfSome result (IsOldest dir (map.get waiting.now)) }
-    ensures none { IfNone result (NoneOf dir (map.get waiting.now)) }
-{
-    let _ = waiting;
-    let write = is_write(dir);
-    let ((other, sector), id) = oldest_from(ages, ((write, 0), 0))?;
-    let _ = sector;
-    if other != write {
-        return None;
-    }
-    Some(id)
 }
 
 /// Where a newcomer touches the requests that it may join at a side.

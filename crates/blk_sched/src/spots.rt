@@ -6,7 +6,7 @@ ghost use Rattle.std.specs.Bool.{OnFalse};
 ghost use Rattle.std.specs.Ordering.{is_lt, is_gt, eq_by_cmp};
 ghost use Rattle.std.specs.BTreeSet.{contains};
 ghost use Rattle.std.specs.declared.cmp.Ordering.TheVariants.{Less};
-ghost use Rattle.blk_sched.specs.Inside.Spots.{Place, Spot, place_cmp, spot_cmp, is_write, first_at, end_at, age_at, Adds, Takes, Keeps, IsBelow, IsNewestSpot, NoSpot, upper_of, greater_of};
+ghost use Rattle.blk_sched.specs.Inside.Spots.{Place, Spot, place_cmp, spot_cmp, is_write, first_at, end_at, Adds, Takes, Keeps, IsBelow, IsNewestSpot, NoSpot, upper_of, greater_of};
 ghost use Rattle.blk_sched.specs.Inside.Heads.{is_head, Becomes, HasHeads, HasNone, Lowers, KeepsLeast, Sets};
 ghost use Rattle.blk_sched.specs.Inside.Edges.{heads_in, others_in, spots_in, IsEdges};
 ghost use Rattle.blk_sched.specs.Meaning.{Waiting};
@@ -95,7 +95,7 @@ pub fn oldest_above<A: Allocator + Clone>(spots: &BTreeSet<Spot, A>, lower: Spot
 }
 
 /// The least spot from another on.
-pub fn oldest_from<A: Allocator + Clone>(spots: &BTreeSet<Spot, A>, lower: Spot) -> Option<Spot>
+fn oldest_from<A: Allocator + Clone>(spots: &BTreeSet<Spot, A>, lower: Spot) -> Option<Spot>
     ensures there { IfSome result (λ s. contains spot_cmp spots.now s ≡ true) }
     ensures high { IfSome result (λ s. is_gt (spot_cmp lower s) ≡ false) }
     ensures least { IfSome result (λ s. (q : Spot) → is_gt (spot_cmp lower q) ≡ false → contains spot_cmp spots.now q ≡ true → is_gt (spot_cmp s q) ≡ false) }
@@ -347,13 +347,6 @@ pub fn end_spot(extent: Extent, id: u64) -> Spot
     ensures { result ≡ (end_at extent, id) }
 {
     ((is_write(extent.dir), extent.end), id)
-}
-
-/// The direction of a request.
-pub fn age_spot(extent: Extent, id: u64) -> Spot
-    ensures { result ≡ (age_at extent, id) }
-{
-    ((is_write(extent.dir), 0), id)
 }
 
 impl<A: Allocator + Clone> Edges<A> {
