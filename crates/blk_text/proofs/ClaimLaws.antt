@@ -32,6 +32,7 @@ use Rattle.blk_text.proofs.TableLaws.{IsTable, table_tells, table_decides, word_
 use Rattle.blk_text.proofs.Each.{size_is, rows_map, all_fit, each_tells, each_decides, one_record, one_version}
 use Rattle.blk_text.proofs.Reading.{then_reads, end_halts, first_halts, second_halts}
 use Rattle.blk_text.proofs.Texts.{text_back, parts_back, begins_itself}
+use Rattle.edd_check.specs.declared.TheConstants.{ROUND_LIMIT}
 
 -- the tables
 
@@ -160,11 +161,11 @@ bound_decides : (count : ℕ) → Decides (bound count)
 bound_decides count = seen_decides kind_of (by_word Bound (TellsBound count) (bound_kind count) (NextWrong why.Word (HasNoWord 4))) (λ v f. (bound_of v.0 v.1, bound_back v.0 v.1))
     (by_word_decides Bound (TellsBound count) (bound_kind count) (NextWrong why.Word (HasNoWord 4)) (kind_decided count) (kind_found count))
 
-late_in : (z : ℤ) → IsLateness z → IsUpTo (2 ^ 41 - 1) z
+late_in : (z : ℤ) → IsLateness z → IsUpTo (ROUND_LIMIT - 1) z
 late_in (pos n) h = omega (arith, h)
 late_in (negsuc n) h = omega (arith, h)
 
-late_out : (z : ℤ) → IsUpTo (2 ^ 41 - 1) z → IsLateness z
+late_out : (z : ℤ) → IsUpTo (ROUND_LIMIT - 1) z → IsLateness z
 late_out (pos n) h = omega (arith, h)
 late_out (negsuc n) h = omega (arith, h)
 
@@ -194,11 +195,11 @@ claim_decides = then_decides title (λ t. claim_body t.1.1) (title_decides (code
     (λ t fit. then_decides (bound t.1.1) (λ b. items_of (repeats.Exactly t.1.1) (λ _. served)) (bound_decides t.1.1)
     (λ b fit. each_decides served (record_decides (row_by served_cells) IsServed why.Count (Lacks (slots_by served_cells)) (table_decides served_cells IsServed served_table)) (repeats.Exactly t.1.1)))
 
-all_zip : (cs : List Command) (rs : List ℕ) → All IsCommandInRange cs → All (λ x. x < 2 ^ 41) rs → All IsServed (zip cs rs)
+all_zip : (cs : List Command) (rs : List ℕ) → All IsCommandInRange cs → All (λ x. x < ROUND_LIMIT) rs → All IsServed (zip cs rs)
 all_zip [] rs p q = λ k d l. absurd (omega arith)
 all_zip (c ∷ cs) [] p q = λ k d l. absurd (omega arith)
 all_zip (c ∷ cs) (r ∷ rs) p q =
-    all_cons IsServed (c, r) (zip cs rs) (head_of IsCommandInRange c cs p, head_of (λ x. x < 2 ^ 41) r rs q) (all_zip cs rs (tail_of IsCommandInRange c cs p) (tail_of (λ x. x < 2 ^ 41) r rs q))
+    all_cons IsServed (c, r) (zip cs rs) (head_of IsCommandInRange c cs p, head_of (λ x. x < ROUND_LIMIT) r rs q) (all_zip cs rs (tail_of IsCommandInRange c cs p) (tail_of (λ x. x < ROUND_LIMIT) r rs q))
 
 firsts_zip : (cs : List Command) (rs : List ℕ) → length rs ≡ length cs → map (λ (s : Command × ℕ). s.0) (zip cs rs) ≡ cs
 firsts_zip [] rs e = refl
@@ -274,8 +275,8 @@ seconds = map (λ s. s.1)
 all_first : (served : List (Command × ℕ)) → All IsServed served → All IsCommandInRange (firsts served)
 all_first served h = All-map IsCommandInRange (λ s. s.0) served (λ k d l. (h k d l).0)
 
-all_second : (served : List (Command × ℕ)) → All IsServed served → All (λ x. x < 2 ^ 41) (seconds served)
-all_second served h = All-map (λ x. x < 2 ^ 41) (λ s. s.1) served (λ k d l. (h k d l).1)
+all_second : (served : List (Command × ℕ)) → All IsServed served → All (λ x. x < ROUND_LIMIT) (seconds served)
+all_second served h = All-map (λ x. x < ROUND_LIMIT) (λ s. s.1) served (λ k d l. (h k d l).1)
 
 zipped : (served : List (Command × ℕ)) → zip (firsts served) (seconds served) ≡ served
 zipped [] = refl
@@ -334,7 +335,7 @@ whole_halts failed left mid after t b lines at w h k a e o =
         omega (arith, all, two, (bound_one t.1.1).one b)
 
 -- a size after a minus is that of a number below 0
-pub negative_text : (f ds : List ℕ) (n : ℕ) (z : ℤ) → f ≡ 45 ∷ ds → IsSized f n → n < 2 ^ 41 → (0 < n → z ≡ negsuc (n - 1)) → f ≡ signed_decimal z
+pub negative_text : (f ds : List ℕ) (n : ℕ) (z : ℤ) → f ≡ 45 ∷ ds → IsSized f n → n < ROUND_LIMIT → (0 < n → z ≡ negsuc (n - 1)) → f ≡ signed_decimal z
 negative_text f ds n z e (inl a) h k = absurd (no_minus n (omega (arith, h)) ds (sym e ∙ a))
 negative_text f ds n z e (inr b) h k =
     let up : n ≡ suc (n - 1) = omega (arith, b.0) in

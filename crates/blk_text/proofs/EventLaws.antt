@@ -14,9 +14,10 @@ use Rattle.blk_trace.specs.declared.rule.PushFault.{PushFault}
 use Rattle.blk_trace.specs.declared.rule.PushFault.TheVariants as push_fault
 use Rattle.blk_text.specs.Sources.{Row, Takes}
 use Rattle.blk_text.specs.Reads.{IsOutside, IsOne, IsLine, IsWrongLine, Reads, HandReads, HandFails, Fails, AreGathered, IsStopped, repeated, size_of, with_next}
-use Rattle.blk_text.specs.SetupRecord.{most_depth, setup}
+use Rattle.blk_text.specs.SetupRecord.{setup}
 use Rattle.blk_text.specs.Tables.{FitsBy, slots_by}
-use Rattle.blk_text.specs.TraceForm.{first_record, bios_after, group, told, plain_event, BreaksRule, event, alone, one_more, IsPast, refusal_of, IsRefused, events_of, trace_cells, IsTraceTitle, latest, title, trace_body, trace_form}
+use Rattle.blk_text.specs.TraceForm.{first_record, bios_after, group, told, plain_event, BreaksRule, event, alone, one_more, IsPast, refusal_of, IsRefused, events_of, trace_cells, IsTraceTitle, title, trace_body, trace_form}
+use Rattle.blk_text.specs.Versions.{latest, most_tags}
 use Rattle.blk_text.specs.declared.fault.Why.{Why}
 use Rattle.blk_text.specs.declared.fault.Why.TheVariants as why
 use Rattle.blk_text.specs.declared.fields.Slot.TheVariants as slot
@@ -34,6 +35,8 @@ use Rattle.blk_text.proofs.TableLaws.{IsTable, title_part}
 use Rattle.blk_text.proofs.ScriptLaws.{fewer_tags, setup_one}
 use Rattle.blk_text.proofs.HeadLaws.{head_tells, head_gone}
 use Rattle.blk_text.proofs.GroupLaws.{group_tells, group_size}
+use Rattle.blk_trace.specs.declared.trace.TheConstants.{MAX_EVENTS}
+use Rattle.blk_bio.specs.declared.limits.TheConstants.{MAX_QUEUES, MAX_SEGMENTS}
 
 -- the event of a first record and bios
 back : Head × List Bio → Happened
@@ -152,9 +155,9 @@ title_table version = record {
 }
 
 -- the slots of a title, by its greatest depth
-pub title_slots : (version depth : ℕ) → depth ≡ most_depth version
-    → slot.Given ∷ slot.Given ∷ slot.Number 1 depth ∷ slot.Number 1 16 ∷ slot.Number 0 1_000_000 ∷ slot.Blank ∷ [] ≡ slot.Given ∷ slot.Given ∷ slots_by (trace_cells version)
-title_slots version depth e = ap (λ n. slot.Given ∷ slot.Given ∷ slot.Number 1 n ∷ slot.Number 1 16 ∷ slot.Number 0 1_000_000 ∷ slot.Blank ∷ []) e
+pub title_slots : (version depth : ℕ) → depth ≡ most_tags version
+    → slot.Given ∷ slot.Given ∷ slot.Number 1 depth ∷ slot.Number 1 MAX_QUEUES ∷ slot.Number 0 MAX_EVENTS ∷ slot.Blank ∷ [] ≡ slot.Given ∷ slot.Given ∷ slots_by (trace_cells version)
+title_slots version depth e = ap (λ n. slot.Given ∷ slot.Given ∷ slot.Number 1 n ∷ slot.Number 1 MAX_QUEUES ∷ slot.Number 0 MAX_EVENTS ∷ slot.Blank ∷ []) e
 
 pub title_one : IsOne title
 title_one = record { tells = title_part (codes "blk-trace") latest trace_cells IsTraceTitle (omega arith) title_table; plain = λ t rest f. tt; one = λ t. refl }
@@ -286,10 +289,10 @@ pub past_rule : (version : ℕ) (setup : Setup) (before : List Happened) (row : 
 past_rule version setup before row h e r is l b = λ rest. ((λ z. (cc z)), inl (inr (h, rest, l rest, (e, is, (refl, (r, refl, b))))))
 
 -- how many bios a first record announces
-pub release_count : (version id n : ℕ) (row : Row) (h : Head) → h ≡ head.Release id n → IsLine (first_record version) row h → (1 ≤ n) × (n ≤ 128)
+pub release_count : (version id n : ℕ) (row : Row) (h : Head) → h ≡ head.Release id n → IsLine (first_record version) row h → (1 ≤ n) × (n ≤ MAX_SEGMENTS)
 release_count version id n row h e l = let line : IsLine (first_record version) row (head.Release id n) = subst (λ z. IsLine (first_record version) row z) e l in (line []).fits.1.1.0
 
-pub join_count : (version id n : ℕ) (row : Row) (h : Head) → h ≡ head.Join id n → IsLine (first_record version) row h → (1 ≤ n) × (n ≤ 128)
+pub join_count : (version id n : ℕ) (row : Row) (h : Head) → h ≡ head.Join id n → IsLine (first_record version) row h → (1 ≤ n) × (n ≤ MAX_SEGMENTS)
 join_count version id n row h e l = let line : IsLine (first_record version) row (head.Join id n) = subst (λ z. IsLine (first_record version) row z) e l in (line []).fits.1.1.0
 
 -- what a trace answers to an event
@@ -322,13 +325,13 @@ pub events_err : (version count : ℕ) (s own : Setup) (failed : Bool) (left : O
     → Fails failed (events_of version s count) left 2 at w
 events_err version count s own failed left start at w e is h = many_fails failed (event version s) (one_more version s) (repeats.Exactly count) left 2 at w (rw (e, is) at h)
 
-pub stopped_at : (version count : ℕ) (s own : Setup) (left : Option (List Row)) (start at last : ℕ) → own ≡ s → start ≡ 2 → IsStopped (repeats.Exactly count) (event version own) left start 128 at last
-    → IsStopped (repeats.Exactly count) (event version s) left 2 128 at last
+pub stopped_at : (version count : ℕ) (s own : Setup) (left : Option (List Row)) (start at last : ℕ) → own ≡ s → start ≡ 2 → IsStopped (repeats.Exactly count) (event version own) left start MAX_SEGMENTS at last
+    → IsStopped (repeats.Exactly count) (event version s) left 2 MAX_SEGMENTS at last
 stopped_at version count s own left start at last e is h = rw (e, is) at h
 
 pub past_stopped : (version count : ℕ) (s : Setup) (left mid : Option (List Row)) (es : List Happened) (at last : ℕ) → Reads (repeated (repeats.Exactly count) (event version s)) left mid es → length es ≡ count → at ≡ last → last ≡ 2 + size_of (event version s) es + 1
-    → IsStopped (repeats.Exactly count) (event version s) left 2 128 at last
-past_stopped version count s left mid es at last h l e is = subst (λ z. IsStopped (repeats.Exactly count) (event version s) left 2 128 z last) (sym e) (full_stopped (event version s) (repeats.Exactly count) left mid es 2 128 last h l is)
+    → IsStopped (repeats.Exactly count) (event version s) left 2 MAX_SEGMENTS at last
+past_stopped version count s left mid es at last h l e is = subst (λ z. IsStopped (repeats.Exactly count) (event version s) left 2 MAX_SEGMENTS z last) (sym e) (full_stopped (event version s) (repeats.Exactly count) left mid es 2 128 last h l is)
 
 pub events_end : (version count : ℕ) (s : Setup) (left mid new : Option (List Row)) (es : List Happened) (row : Row) → Reads (repeated (repeats.Exactly count) (event version s)) left mid es → Takes mid new row false
     → IfSome left (λ rows. Begins (events_of version s count) rows es [])

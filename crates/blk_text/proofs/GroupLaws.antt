@@ -1,5 +1,5 @@
 -- The laws of the bios of a group.
-use Rattle.std.proofs.Common.{◌≡◌, ◌≤◌, ◌<◌, ◌∙◌, ℕ, suc, List, [], ◌∷◌, ◌++◌, length, refl, sym, ap, inl, inr, arith, get_or, codes, Bool, Option, Some, None}
+use Rattle.std.proofs.Common.{◌≡◌, ◌^◌, ◌≤◌, ◌<◌, ◌∙◌, ℕ, suc, List, [], ◌∷◌, ◌++◌, length, refl, sym, ap, inl, inr, arith, get_or, codes, Bool, Option, Some, None}
 use Rattle.std.specs.Prelude.{Err}
 use Rattle.blk_bio.specs.Bios.{Bio, IsBio, IsBioAnswer}
 use Rattle.blk_bio.specs.Limits.{Limits}
@@ -29,7 +29,7 @@ use Rattle.blk_text.proofs.ScriptLaws.{bio_with, no_bio_is, one_bio_fault}
 use Rattle.blk_text.proofs.Reading.{hand_reads}
 use Rattle.blk_text.proofs.HeadLaws.{head_tells}
 
-bio_table : (submitters : ℕ) → submitters ≤ 256 → IsTable (bio_cells submitters) (FitsBy (bio_cells submitters))
+bio_table : (submitters : ℕ) → submitters ≤ 2 ^ 8 → IsTable (bio_cells submitters) (FitsBy (bio_cells submitters))
 bio_table submitters s = record {
   sized = (omega (arith, s), (omega arith, (tt, (omega arith, (omega arith, tt)))));
   within = λ b f. f;
@@ -44,7 +44,7 @@ no_bio_once version [] w x a b = a ∙ sym b
 no_bio_once version (row ∷ rows) w x a b = ((over_tells why.Count (first_record version) (head_tells version)).first (row ∷ []) 1 1 w x a b).1
 
 abbrev bio_record : Part Row Why Bio
-bio_record = word_record why.Count (codes "bio") (bio_cells 256) (FitsBy (bio_cells 256))
+bio_record = word_record why.Count (codes "bio") (bio_cells (2 ^ 8)) (FitsBy (bio_cells (2 ^ 8)))
 
 abbrev only_bios : ℕ → Part Row Why ((i : Unit {0}) × Bio)
 only_bios version = by_word {K = Unit {0}} (λ _. Bio) (λ _. NextStarts (codes "bio")) (λ _. bio_record) (IsNoBio version)
@@ -52,8 +52,8 @@ only_bios version = by_word {K = Unit {0}} (λ _. Bio) (λ _. NextStarts (codes 
 plain_tells : (version : ℕ) → Tells (plain_bio version)
 plain_tells version = seen_tells (λ b. (tt, b)) (only_bios version) (λ u z e. (let r : u ≡ z = (λ i. (e i).1) in r))
     (by_word_tells {K = Unit {0}} (λ _. Bio) (λ _. NextStarts (codes "bio")) (λ _. bio_record) (IsNoBio version)
-    (λ _. record_tells (λ b. codes "bio" ∷ row_by (bio_cells 256) b) (FitsBy (bio_cells 256)) why.Count (WordLacks (codes "bio") (slots_by (bio_cells 256))) (word_tells (codes "bio") (bio_cells 256) (FitsBy (bio_cells 256)) (bio_table 256 (omega arith))))
-    (λ i j rows s t. refl) (λ i rows v a h. next_starts (codes "bio") (row_by (bio_cells 256) v) rows a h.made) (no_bio_once version))
+    (λ _. record_tells (λ b. codes "bio" ∷ row_by (bio_cells (2 ^ 8)) b) (FitsBy (bio_cells (2 ^ 8))) why.Count (WordLacks (codes "bio") (slots_by (bio_cells (2 ^ 8)))) (word_tells (codes "bio") (bio_cells (2 ^ 8)) (FitsBy (bio_cells (2 ^ 8))) (bio_table 256 (omega arith))))
+    (λ i j rows s t. refl) (λ i rows v a h. next_starts (codes "bio") (row_by (bio_cells (2 ^ 8)) v) rows a h.made) (no_bio_once version))
 
 whole_tells : (version : ℕ) → Tells (whole_bio version)
 whole_tells version = tested_tells (plain_bio version) IsBio IsNoSuchBio (plain_tells version)
@@ -89,13 +89,13 @@ bio_gone version limits before = inl (inl (inr (refl, (λ i s. s), refl)))
 
 -- what was read of a record
 
-pub bio_lacks : (version : ℕ) (row : Row) (w : Why) → StartsWith (codes "bio") row → Lacks (slot.Given ∷ slots_by (bio_cells 256)) row w → IsWrongLine (whole_bio version) row w
+pub bio_lacks : (version : ℕ) (row : Row) (w : Why) → StartsWith (codes "bio") row → Lacks (slot.Given ∷ slots_by (bio_cells (2 ^ 8))) row w → IsWrongLine (whole_bio version) row w
 bio_lacks version row w t l = λ rest. inl (inl (tt, t, (refl, inl (t, l))))
 
-pub no_such_bio : (version : ℕ) (f : BioFault) (dir : Dir) (row : Row) (ns : List ℕ) → StartsWith (codes "bio") row → FieldsSpell (slot.Given ∷ slots_by (bio_cells 256)) row ns → get_or row (3) [] ≡ direction_text dir
+pub no_such_bio : (version : ℕ) (f : BioFault) (dir : Dir) (row : Row) (ns : List ℕ) → StartsWith (codes "bio") row → FieldsSpell (slot.Given ∷ slots_by (bio_cells (2 ^ 8))) row ns → get_or row (3) [] ≡ direction_text dir
     → IsBioAnswer (bio_with ns dir).id dir (bio_with ns dir).first (bio_with ns dir).sectors (Err f) → IsWrongLine (whole_bio version) row (why.Bio f)
 no_such_bio version f dir row ns t s d a =
-    let line = word_line why.Count (codes "bio") (bio_cells 256) (FitsBy (bio_cells 256)) (bio_with ns dir) row ns t s (refl, (refl, (d, (refl, (refl, tt))))) (λ f. f) in
+    let line = word_line why.Count (codes "bio") (bio_cells (2 ^ 8)) (FitsBy (bio_cells (2 ^ 8))) (bio_with ns dir) row ns t s (refl, (refl, (d, (refl, (refl, tt))))) (λ f. f) in
     λ rest. inr (bio_with ns dir, rest, record { fits = (line rest).fits; made = (line rest).made; follows = tt }, (f, refl, refl, a))
 
 -- a record that is another event's, or no event's

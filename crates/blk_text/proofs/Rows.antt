@@ -20,6 +20,7 @@ use Rattle.blk_text.specs.Sources.{Row}
 use Rattle.blk_text.specs.Commands.{depth_cells, command_cells}
 use Rattle.blk_text.specs.Certificate.{counted_cells, no_bound_row, served_cells}
 use Rattle.blk_text.specs.Tables.{row_by, title_by}
+use Rattle.blk_text.specs.Versions.{latest}
 use Rattle.blk_text.proofs.Each.{first_version}
 use Rattle.blk_text.proofs.PlainRows.{all_plain, decimal_plain, signed_plain, line_is}
 
@@ -65,10 +66,10 @@ unfolding line_of
 tick_is start = rw (line_is (word_row (codes "tick") [] []) (omega arith) refl) refl
 
 pub trace_title_is : (start : List ℕ) (s : Setup) (count : ℕ)
-    → ((((start ++ codes "blk-trace,2,") ++ (decimal s.depth ++ 44 ∷ decimal s.hw)) ++ (44 ∷ [])) ++ decimal count) ++ (44 ∷ 10 ∷ []) ≡ start ++ rows_text (trace.title_row s count ∷ [])
+    → ((((start ++ codes "blk-trace,") ++ (decimal latest ++ 44 ∷ decimal s.depth)) ++ (44 ∷ [])) ++ (decimal s.hw ++ 44 ∷ decimal count)) ++ (44 ∷ 10 ∷ []) ≡ start ++ rows_text (trace.title_row s count ∷ [])
 unfolding line_of
 trace_title_is start s count =
-    let all : all_plain (trace.title_row s count) ≡ true = rw (decimal_plain s.depth, decimal_plain s.hw, decimal_plain count) refl in
+    let all : all_plain (trace.title_row s count) ≡ true = rw (decimal_plain latest, decimal_plain s.depth, decimal_plain s.hw, decimal_plain count) refl in
     rw (line_is (trace.title_row s count) (omega arith) all) (simp append_assoc)
 
 pub setup_is : (start : List ℕ) (s : Setup)

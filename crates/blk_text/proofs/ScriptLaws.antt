@@ -12,12 +12,13 @@ use Rattle.blk_trace.specs.Setups.{Setup, IsSetup}
 use Rattle.blk_text.specs.Sources.{Row}
 use Rattle.blk_text.specs.Texts.{rows_text}
 use Rattle.blk_trace.specs.declared.setup.TheConstants.{MAX_DEPTH}
-use Rattle.blk_text.specs.SetupRecord.{most_depth, setup_cells, setup, FitsSetup}
+use Rattle.blk_text.specs.SetupRecord.{setup_cells, setup, FitsSetup}
 use Rattle.blk_text.specs.Words.{StartsWith, HasNoWord, WordLacks}
 use Rattle.blk_text.specs.Fields.{Lacks, FieldsSpell}
 use Rattle.blk_text.specs.Reads.{Reads, Halts, IsLine, IsWrongLine, IsOne, items_of}
 use Rattle.blk_text.specs.Tables.{FitsBy, row_by, slots_by, kinds_record}
-use Rattle.blk_text.specs.Script.{word_of, StandsIn, Held, step_cells, held, LineFits, IsLineOf, IsRight, IsNoBio, latest, script_cells, IsTitle, IsEnough, TooFew, plain_title, title, plain_step, step, script_body, script_form, script_value, Scripted, title_of, script_rows, IsScript, IsScriptOf, SpellsVersion, SpellsScript, ScriptFault}
+use Rattle.blk_text.specs.Script.{word_of, StandsIn, Held, step_cells, held, LineFits, IsLineOf, IsRight, IsNoBio, script_cells, IsTitle, IsEnough, TooFew, plain_title, title, plain_step, step, script_body, script_form, script_value, Scripted, title_of, script_rows, IsScript, IsScriptOf, SpellsVersion, SpellsScript, ScriptFault}
+use Rattle.blk_text.specs.Versions.{latest, most_tags}
 use Rattle.blk_text.specs.declared.fault.Why.{Why}
 use Rattle.blk_text.specs.declared.fault.Why.TheVariants as why
 use Rattle.blk_text.specs.declared.fields.Slot.TheVariants as slot
@@ -35,6 +36,8 @@ use Rattle.blk_text.proofs.TableLaws.{IsTable, IsBy, word_line, first_is, kinds_
 use Rattle.blk_text.proofs.Each.{all_fit, each_tells, each_decides, one_record}
 use Rattle.blk_text.proofs.Reading.{then_reads, first_halts, second_halts}
 use Rattle.blk_text.proofs.Texts.{text_back, parts_back, begins_itself}
+use Rattle.blk_bio.specs.declared.limits.TheConstants.{MAX_QUEUES}
+use Rattle.blk_text.specs.declared.script.TheConstants.{MOST_STEPS, MAX_SUBMITTERS, MAX_SOFT_DEPTH}
 
 -- the word of a field, whatever stands there
 abbrev word_at : List ℕ → Word
@@ -81,7 +84,7 @@ word_picked version f = elim (both (stands_decided version (word_at f)) (same_te
 
 -- steps
 
-step_table : (hw submitters : ℕ) → hw ≤ 16 → submitters ≤ 64 → (k : Word) → IsTable (step_cells hw submitters k) (FitsBy (step_cells hw submitters k))
+step_table : (hw submitters : ℕ) → hw ≤ MAX_QUEUES → submitters ≤ MAX_SUBMITTERS → (k : Word) → IsTable (step_cells hw submitters k) (FitsBy (step_cells hw submitters k))
 step_table hw submitters g s word.Bio = record {
   sized = (omega (arith, s), (omega arith, (tt, (omega arith, (omega arith, tt)))));
   within = λ b f. f;
@@ -181,15 +184,15 @@ right_or_no_bio (line.Depth d) = inl (λ b e. absurd (cc e))
 right_or_no_bio line.Tick = inl (λ b e. absurd (cc e))
 right_or_no_bio (line.Run n) = inl (λ b e. absurd (cc e))
 
-step_tells : (version hw submitters : ℕ) → hw ≤ 16 → submitters ≤ 64 → Tells (step version hw submitters)
+step_tells : (version hw submitters : ℕ) → hw ≤ MAX_QUEUES → submitters ≤ MAX_SUBMITTERS → Tells (step version hw submitters)
 step_tells version hw submitters g s = tested_tells (plain_step version hw submitters) IsRight IsNoBio
     (seen_tells held (kinds version hw submitters) (λ l m e. sym (line_back l) ∙ ap (λ (h : (k : Word) × Held k). line_of h.0 h.1) e ∙ line_back m) (kinds_tell Held why.Count 6 (StandsIn version) word_of (step_cells hw submitters) words_tell (step_table hw submitters g s)))
     (λ l k j w x fit. no_bio_once l k j w x) (λ l k w good n. no_bio_is n.0 n.1 (good n.0 n.2) n.5) (λ l k w n. (let is = n.3 in (omega (arith, is), omega (arith, is))))
 
-pub step_one : (version hw submitters : ℕ) → hw ≤ 16 → submitters ≤ 64 → IsOne (step version hw submitters)
+pub step_one : (version hw submitters : ℕ) → hw ≤ MAX_QUEUES → submitters ≤ MAX_SUBMITTERS → IsOne (step version hw submitters)
 step_one version hw submitters g s = record { tells = step_tells version hw submitters g s; plain = λ l rest f. tt; one = λ l. refl }
 
-step_decides : (version hw submitters : ℕ) → hw ≤ 16 → submitters ≤ 64 → Decides (step version hw submitters)
+step_decides : (version hw submitters : ℕ) → hw ≤ MAX_QUEUES → submitters ≤ MAX_SUBMITTERS → Decides (step version hw submitters)
 step_decides version hw submitters g s = tested_decides (plain_step version hw submitters) IsRight IsNoBio
     (seen_decides held (kinds version hw submitters) (λ v f. (line_of v.0 v.1, held_back v.0 v.1)) (kinds_decide Held why.Count 6 (StandsIn version) word_of (step_cells hw submitters) (word_picked version) (step_table hw submitters g s)))
     (λ l fit. right_or_no_bio l)
@@ -262,7 +265,7 @@ pub title_fits : (version : ℕ) (t : Title) → FitsBy (script_cells version) t
 title_fits version t f = record { depth = f.0; hw = f.1.0; soft_depth = f.1.1.0; submitters = f.1.1.1.0 }
 
 -- a version has no more tags than the latest
-pub fewer_tags : (version : ℕ) → most_depth version ≤ MAX_DEPTH
+pub fewer_tags : (version : ℕ) → most_tags version ≤ MAX_DEPTH
 fewer_tags zero = omega arith
 fewer_tags (suc zero) = omega arith
 fewer_tags (suc (suc version)) = omega arith
@@ -278,9 +281,9 @@ title_table version = record {
 }
 
 -- the slots of a title, by its greatest depth
-pub title_slots : (version depth : ℕ) → depth ≡ most_depth version
-    → slot.Given ∷ slot.Given ∷ slot.Number 1 depth ∷ slot.Number 1 16 ∷ slot.Number 1 1024 ∷ slot.Number 1 64 ∷ [] ≡ slot.Given ∷ slot.Given ∷ slots_by (script_cells version)
-title_slots version depth e = ap (λ n. slot.Given ∷ slot.Given ∷ slot.Number 1 n ∷ slot.Number 1 16 ∷ slot.Number 1 1024 ∷ slot.Number 1 64 ∷ []) e
+pub title_slots : (version depth : ℕ) → depth ≡ most_tags version
+    → slot.Given ∷ slot.Given ∷ slot.Number 1 depth ∷ slot.Number 1 MAX_QUEUES ∷ slot.Number 1 MAX_SOFT_DEPTH ∷ slot.Number 1 MAX_SUBMITTERS ∷ [] ≡ slot.Given ∷ slot.Given ∷ slots_by (script_cells version)
+title_slots version depth e = ap (λ n. slot.Given ∷ slot.Given ∷ slot.Number 1 n ∷ slot.Number 1 MAX_QUEUES ∷ slot.Number 1 MAX_SOFT_DEPTH ∷ slot.Number 1 MAX_SUBMITTERS ∷ []) e
 
 pub title_one : IsOne title
 title_one = record {
@@ -301,7 +304,7 @@ title_decided = tested_decides plain_title IsEnough TooFew (title_decides (codes
     few : (a b : ℕ) → ¬ (a ≤ b) → b < a
     few a b h = grind (arith, h)
 
-pub setup_table : (depth hw : ℕ) → (0 < depth) × (depth ≤ MAX_DEPTH) → (0 < hw) × (hw ≤ 16) → IsTable setup_cells (FitsSetup depth hw)
+pub setup_table : (depth hw : ℕ) → (0 < depth) × (depth ≤ MAX_DEPTH) → (0 < hw) × (hw ≤ MAX_QUEUES) → IsTable setup_cells (FitsSetup depth hw)
 setup_table depth hw d q = record {
   sized = (omega arith, (omega arith, (omega arith, (omega arith, (tt, tt)))));
   within = λ s f. (
@@ -342,7 +345,7 @@ setup_fits depth hw ns l s e f i k = (refl, refl, record { is_setup = subst IsSe
 abbrev setup_word : Setup → Row
 setup_word s = codes "setup" ∷ row_by setup_cells s
 
-pub setup_one : (depth hw : ℕ) → (0 < depth) × (depth ≤ MAX_DEPTH) → (0 < hw) × (hw ≤ 16) → IsOne (setup depth hw)
+pub setup_one : (depth hw : ℕ) → (0 < depth) × (depth ≤ MAX_DEPTH) → (0 < hw) × (hw ≤ MAX_QUEUES) → IsOne (setup depth hw)
 setup_one depth hw d q = one_record setup_word (FitsSetup depth hw) why.Word (WordLacks (codes "setup") (slots_by setup_cells)) (word_tells (codes "setup") setup_cells (FitsSetup depth hw) (setup_table depth hw d q))
 
 -- whole scripts
@@ -351,20 +354,20 @@ setup_one depth hw d q = one_record setup_word (FitsSetup depth hw) why.Word (Wo
 setup_depth : (t : ℕ × Title) → IsTitle t.0 t.1 → (0 < t.1.depth) × (t.1.depth ≤ MAX_DEPTH)
 setup_depth t i = let high = i.depth.1 in (i.depth.0, omega (arith, high, fewer_tags t.0))
 
-steps_tell : (t : ℕ × Title) → IsTitle t.0 t.1 → Tells (items_of (repeats.AtMost 999_998) (λ _. step t.0 t.1.hw t.1.submitters))
-steps_tell t i = each_tells (step t.0 t.1.hw t.1.submitters) (step_one t.0 t.1.hw t.1.submitters i.hw.1 i.submitters.1) (repeats.AtMost 999_998)
+steps_tell : (t : ℕ × Title) → IsTitle t.0 t.1 → Tells (items_of (repeats.AtMost MOST_STEPS) (λ _. step t.0 t.1.hw t.1.submitters))
+steps_tell t i = each_tells (step t.0 t.1.hw t.1.submitters) (step_one t.0 t.1.hw t.1.submitters i.hw.1 i.submitters.1) (repeats.AtMost MOST_STEPS)
 
 pub body_tells : (t : ℕ × Title) → IsTitle t.0 t.1 → Tells (script_body t)
-body_tells t i = then_tells (setup t.1.depth t.1.hw) (λ s. items_of (repeats.AtMost 999_998) (λ _. step t.0 t.1.hw t.1.submitters)) (setup_one t.1.depth t.1.hw (setup_depth t i) i.hw).tells (λ s fit. steps_tell t i)
+body_tells t i = then_tells (setup t.1.depth t.1.hw) (λ s. items_of (repeats.AtMost MOST_STEPS) (λ _. step t.0 t.1.hw t.1.submitters)) (setup_one t.1.depth t.1.hw (setup_depth t i) i.hw).tells (λ s fit. steps_tell t i)
 
 script_tells : Tells script_form
 script_tells = then_tells title script_body title_one.tells (λ t fit. body_tells t fit.0.1)
 
 script_decides : Decides script_form
 script_decides = then_decides title script_body title_decided (λ t fit. (let i = fit.0.1 in
-    then_decides (setup t.1.depth t.1.hw) (λ s. items_of (repeats.AtMost 999_998) (λ _. step t.0 t.1.hw t.1.submitters))
+    then_decides (setup t.1.depth t.1.hw) (λ s. items_of (repeats.AtMost MOST_STEPS) (λ _. step t.0 t.1.hw t.1.submitters))
     (record_decides setup_word (FitsSetup t.1.depth t.1.hw) why.Word (WordLacks (codes "setup") (slots_by setup_cells)) (word_decides (codes "setup") setup_cells (FitsSetup t.1.depth t.1.hw) (setup_table t.1.depth t.1.hw (setup_depth t i) i.hw)))
-    (λ s fit. each_decides (step t.0 t.1.hw t.1.submitters) (step_decides t.0 t.1.hw t.1.submitters i.hw.1 i.submitters.1) (repeats.AtMost 999_998))))
+    (λ s fit. each_decides (step t.0 t.1.hw t.1.submitters) (step_decides t.0 t.1.hw t.1.submitters i.hw.1 i.submitters.1) (repeats.AtMost MOST_STEPS))))
 
 same_script : (s t : Scripted) → s.setup ≡ t.setup → s.soft_depth ≡ t.soft_depth → s.submitters ≡ t.submitters → s.lines ≡ t.lines → s ≡ t
 same_script s t a b c d i = record { setup = a i; soft_depth = b i; submitters = c i; lines = d i }
@@ -432,7 +435,7 @@ spelled_or_wrong rows = elim (script_decides rows) [
 latest_title : (version : ℕ) (t : Title) → IsTitle version t → IsTitle latest t
 latest_title version t i = record { depth = (let high = i.depth.1 in (i.depth.0, omega (arith, high, fewer_tags version))); hw = i.hw; soft_depth = i.soft_depth; submitters = i.submitters }
 
-pub script_in : (t : ℕ × Title) (s : Setup) (lines : List Line) → IsTitle t.0 t.1 → t.1.hw ≤ t.1.submitters → FitsSetup t.1.depth t.1.hw s → All (step t.0 t.1.hw t.1.submitters).Fits lines → length lines ≤ 999_998
+pub script_in : (t : ℕ × Title) (s : Setup) (lines : List Line) → IsTitle t.0 t.1 → t.1.hw ≤ t.1.submitters → FitsSetup t.1.depth t.1.hw s → All (step t.0 t.1.hw t.1.submitters).Fits lines → length lines ≤ MOST_STEPS
     → IsScript record { setup = s; soft_depth = t.1.soft_depth; submitters = t.1.submitters; lines = lines }
 script_in t s lines i enough f a short = record {
   title = subst (IsTitle latest) (sym (title_is t.1 s lines f)) (latest_title t.0 t.1 i);
@@ -443,12 +446,12 @@ script_in t s lines i enough f a short = record {
 }
 
 pub script_read : (left mid after : Option (List Row)) (t : ℕ × Title) (s : Setup) (lines : List Line) → Reads title left mid t → Reads (setup t.1.depth t.1.hw) mid after s
-    → IfSome after (λ rows. Begins (items_of (repeats.AtMost 999_998) (λ _. step t.0 t.1.hw t.1.submitters)) rows lines []) → FitsSetup t.1.depth t.1.hw s
+    → IfSome after (λ rows. Begins (items_of (repeats.AtMost MOST_STEPS) (λ _. step t.0 t.1.hw t.1.submitters)) rows lines []) → FitsSetup t.1.depth t.1.hw s
     → IfSome left (λ rows. SpellsScript rows record { setup = s; soft_depth = t.1.soft_depth; submitters = t.1.submitters; lines = lines })
 script_read None mid after t s lines h k a f = tt
 script_read (Some rows) mid after t s lines h k a f =
     script_spelled rows t s lines f (then_reads title script_body (Some rows) mid t (s, lines) h
-    (then_reads (setup t.1.depth t.1.hw) (λ s. items_of (repeats.AtMost 999_998) (λ _. step t.0 t.1.hw t.1.submitters)) mid after s lines k a))
+    (then_reads (setup t.1.depth t.1.hw) (λ s. items_of (repeats.AtMost MOST_STEPS) (λ _. step t.0 t.1.hw t.1.submitters)) mid after s lines k a))
 
 -- where reading halts
 
@@ -458,10 +461,10 @@ title_halts failed left start at w e h = first_halts failed title script_body le
 pub setup_halts : (failed : Bool) (left mid : Option (List Row)) (t : ℕ × Title) (middle at : ℕ) (w : Why) → middle ≡ 1 → IsTitle t.0 t.1 → Reads title left mid t → Halts failed (setup t.1.depth t.1.hw) mid middle at w → Halts failed script_form left 0 at w
 setup_halts failed left mid t middle at w e i r h =
     second_halts failed title script_body left mid t 0 middle at w title_one.tells r (omega (arith, e))
-    (first_halts failed (setup t.1.depth t.1.hw) (λ s. items_of (repeats.AtMost 999_998) (λ _. step t.0 t.1.hw t.1.submitters)) mid middle at w (λ s fit. steps_tell t i) h)
+    (first_halts failed (setup t.1.depth t.1.hw) (λ s. items_of (repeats.AtMost MOST_STEPS) (λ _. step t.0 t.1.hw t.1.submitters)) mid middle at w (λ s fit. steps_tell t i) h)
 
 pub steps_halt : (failed : Bool) (left mid after : Option (List Row)) (t : ℕ × Title) (s : Setup) (middle start at : ℕ) (w : Why) → middle ≡ 1 → start ≡ 2 → IsTitle t.0 t.1 → Reads title left mid t → Reads (setup t.1.depth t.1.hw) mid after s
-    → Halts failed (items_of (repeats.AtMost 999_998) (λ _. step t.0 t.1.hw t.1.submitters)) after start at w → Halts failed script_form left 0 at w
+    → Halts failed (items_of (repeats.AtMost MOST_STEPS) (λ _. step t.0 t.1.hw t.1.submitters)) after start at w → Halts failed script_form left 0 at w
 steps_halt failed left mid after t s middle start at w e f i r k h =
     second_halts failed title script_body left mid t 0 middle at w title_one.tells r (omega (arith, e))
-    (second_halts failed (setup t.1.depth t.1.hw) (λ s. items_of (repeats.AtMost 999_998) (λ _. step t.0 t.1.hw t.1.submitters)) mid after s middle start at w (setup_one t.1.depth t.1.hw (setup_depth t i) i.hw).tells k (omega (arith, e, f)) h)
+    (second_halts failed (setup t.1.depth t.1.hw) (λ s. items_of (repeats.AtMost MOST_STEPS) (λ _. step t.0 t.1.hw t.1.submitters)) mid after s middle start at w (setup_one t.1.depth t.1.hw (setup_depth t i) i.hw).tells k (omega (arith, e, f)) h)

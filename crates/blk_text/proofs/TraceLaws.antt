@@ -1,11 +1,10 @@
 -- The laws of the text of a trace.
-use Rattle.std.proofs.Common.{◌≡◌, ◌+◌, ◌<◌, ◌≤◌, ◌∙◌, ℕ, zero, suc, List, [], ◌∷◌, ◌++◌, length, map, refl, sym, ap, subst, inl, inr, arith, append_assoc, append-nil, get_or, codes, decimal, Option, Some, None, Bool}
+use Rattle.std.proofs.Common.{◌≡◌, ◌^◌, ◌+◌, ◌<◌, ◌≤◌, ◌∙◌, ℕ, zero, suc, List, [], ◌∷◌, ◌++◌, length, map, refl, sym, ap, subst, inl, inr, arith, append_assoc, append-nil, get_or, codes, decimal, Option, Some, None, Bool}
 use Rattle.std.specs.Prelude.{◌⊎◌, All, IfSome}
 use Rattle.std.specs.List.{flat_map}
 use Rattle.std.proofs.lemmas.List.{map-append, length-append}
 use Rattle.std.proofs.lemmas.List.Sums.{sum_by-append}
 use Rattle.std.proofs.lemmas.List.Elements.{All-nil}
-use Rattle.std.proofs.lemmas.Fmt.{decimal_digit}
 use Rattle.std.proofs.Math.ListN.{get_or-append}
 use Rattle.std.proofs.Math.Seq.{get_or-append_seam}
 use Rattle.csv.specs.Reading.{default_config, records, strip_bom}
@@ -29,9 +28,10 @@ use Rattle.blk_text.specs.BioRecord.{bio_row}
 use Rattle.blk_text.specs.SetupRecord.{setup_row, setup, FitsSetup, IsWholeSetup}
 use Rattle.blk_text.specs.Reads.{IsOutside, Reads, Fails, Halts, AreItems, IsStopped, IsHeldAt, with_next, size_of}
 use Rattle.blk_text.specs.TraceRecords.{word_row, event_rows, title_row, trace_rows, BioFits, EventFits, IsTrace}
-use Rattle.blk_text.specs.TraceForm.{Tiles, group_bio, plain_event, event, one_more, events_of, trace_cells, IsTraceTitle, latest, title, trace_body, trace_form, trace_title, trace_value, IsEventOf, IsTraceOf, SpellsTraceIn, SpellsTrace, TraceFault}
+use Rattle.blk_text.specs.TraceForm.{Tiles, group_bio, plain_event, event, one_more, events_of, IsTraceTitle, title, trace_body, trace_form, trace_value, IsEventOf, IsTraceOf, SpellsTraceIn, SpellsTrace, TraceFault}
 use Rattle.blk_text.specs.BioTable.{bio_cells}
-use Rattle.blk_text.specs.Tables.{FitsBy, title_by}
+use Rattle.blk_text.specs.Tables.{FitsBy}
+use Rattle.blk_text.specs.Versions.{latest}
 use Rattle.blk_text.specs.declared.fault.Why.{Why}
 use Rattle.blk_text.specs.declared.fault.Why.TheVariants as why
 use Rattle.blk_text.specs.declared.heads.TraceTitle.{TraceTitle}
@@ -44,6 +44,7 @@ use Rattle.blk_text.proofs.Reading.{after_all, then_reads, first_halts, second_h
 use Rattle.blk_text.proofs.Texts.{text_back, begins_itself}
 use Rattle.blk_text.proofs.ScriptLaws.{setup_one}
 use Rattle.blk_text.proofs.EventLaws.{event_tells, event_plain, event_rows as some_rows, more_tells, events_tell, title_one, setup_depth, body_tells, trace_tells}
+use Rattle.blk_bio.specs.declared.limits.TheConstants.{MAX_SEGMENTS}
 
 -- the records of a trace's events, one after the other
 
@@ -64,22 +65,17 @@ events_same : (version : ℕ) (setup : Setup) (before es : List Happened) → al
 events_same version setup before [] = refl
 events_same version setup before (e ∷ es) = λ i. event_same version setup before e i ++ events_same version setup (before ++ e ∷ []) es i
 
-second_version : decimal 2 ≡ codes "2"
-second_version = decimal_digit 2 (omega arith)
-
 pub rows_are : (t : Traced) → trace_rows t ≡ trace_form.rows_of (trace_value latest t)
 rows_are t =
-    let first : title_row t.setup (length t.events) ≡ title_by (codes "blk-trace") trace_cells (2, trace_title t) =
-    ap (λ (v : List ℕ). codes "blk-trace" ∷ v ∷ decimal t.setup.depth ∷ decimal t.setup.hw ∷ decimal (length t.events) ∷ [] ∷ []) (sym second_version) in
     let others : flat_map event_rows t.events ≡ all_rows (event latest t.setup) with_next [] t.events ++ [] = sym (append-nil (all_rows (event latest t.setup) with_next [] t.events) ∙ events_same latest t.setup [] t.events) in
-    λ i. first i ∷ setup_row t.setup ∷ others i
+    λ i. title_row t.setup (length t.events) ∷ setup_row t.setup ∷ others i
 
 pub size_is : (version : ℕ) (setup : Setup) (es : List Happened) → size_of (event version setup) es ≡ length (flat_map event_rows es)
 size_is version setup es = ap length (events_same version setup [] es)
 
 -- a legal trace spells
 
-fits_bio : (b : Bio) → BioFits b → FitsBy (bio_cells 256) b
+fits_bio : (b : Bio) → BioFits b → FitsBy (bio_cells (2 ^ 8)) b
 fits_bio b h =
     let in_range = h.2.in_range in
     ((omega arith, omega (arith, h.0)), ((omega arith, omega (arith, h.1)), (tt, ((omega arith, omega (arith, in_range)), ((omega arith, omega (arith, in_range)), tt)))))
@@ -195,8 +191,8 @@ latest_kind (Finished tag) = tt
 latest_kind (Returned tag) = tt
 latest_kind (DepthSet depth) = omega arith
 
-pub rows_spell : (t : Traced) → IsTrace t → SpellsTrace (trace_rows t) t
-rows_spell t h = (latest, subst (λ rows. SpellsTraceIn latest rows t) (sym (rows_are t)) (spells_in latest t h (record { is_version = (omega arith, omega arith); tags = h.setup.is_setup.few_tags; kinds = λ k d l. latest_kind _ })))
+pub rows_spell : (t : Traced) → IsTrace t → SpellsTraceIn latest (trace_rows t) t
+rows_spell t h = subst (λ rows. SpellsTraceIn latest rows t) (sym (rows_are t)) (spells_in latest t h (record { is_version = (omega arith, omega arith); tags = h.setup.is_setup.few_tags; kinds = λ k d l. latest_kind _ }))
 
 -- what is written reads back
 
@@ -356,17 +352,17 @@ fails_err failed (Some rows) at w f = elim f [
   | inr k ↦ (let is = k.1 in let same : k.0 ≡ at = omega (arith, is) in inr (rw same at k.2))
 ]
 
-pub halts_held : (failed : Bool) (left : Option (List Row)) (at last : ℕ) (w : Why) → Halts failed trace_form left 0 at w → at ≡ last → IsHeldAt trace_form left 128 at last
+pub halts_held : (failed : Bool) (left : Option (List Row)) (at last : ℕ) (w : Why) → Halts failed trace_form left 0 at w → at ≡ last → IsHeldAt trace_form left MAX_SEGMENTS at last
 halts_held failed None at last w h e = (at, omega arith, omega (arith, e), omega (arith, e), tt)
 halts_held failed (Some rows) at last w h e = let is = h.1 in (h.0, omega (arith, is), omega (arith, e), omega (arith, is, e), h.2)
 
 -- no memory for a trace without events
-pub none_held : (left mid : Option (List Row)) (t : ℕ × TraceTitle) (at last : ℕ) → IsTraceTitle t.0 t.1 → Reads title left mid t → at ≡ 2 → last ≡ 2 → IsHeldAt trace_form left 128 at last
+pub none_held : (left mid : Option (List Row)) (t : ℕ × TraceTitle) (at last : ℕ) → IsTraceTitle t.0 t.1 → Reads title left mid t → at ≡ 2 → last ≡ 2 → IsHeldAt trace_form left MAX_SEGMENTS at last
 none_held None mid t at last i r e f = (2, omega (arith, e), omega (arith, e, f), omega (arith, f), tt)
 none_held (Some rows) mid t at last i r e f = (2, omega (arith, e), omega (arith, e, f), omega (arith, f), reached_second title trace_body title_one.tells rows r.0 t 1 r.2 (at_first (trace_body t) (body_tells t i) r.0))
 
 pub events_held : (left mid next : Option (List Row)) (t : ℕ × TraceTitle) (s : Setup) (at last : ℕ) → IsTraceTitle t.0 t.1 → Reads title left mid t → Reads (setup t.1.depth t.1.hw) mid next s
-    → IsStopped (repeats.Exactly t.1.count) (event t.0 s) next 2 128 at last → IsHeldAt trace_form left 128 at last
+    → IsStopped (repeats.Exactly t.1.count) (event t.0 s) next 2 MAX_SEGMENTS at last → IsHeldAt trace_form left MAX_SEGMENTS at last
 events_held None mid next t s at last i r k h = let low = h.1 in let high = h.3 in (2 + h.0, omega (arith, low), h.2, omega (arith, high), tt)
 events_held (Some rows) mid next t s at last i r k h =
     let low = h.1 in
@@ -384,5 +380,5 @@ pub events_fail_of : (failed : Bool) (left mid next : Option (List Row)) (t : �
 events_fail_of failed left mid next t n s middle at w is e r k h = fails_err failed left at w (events_fail failed left mid next t s middle at w e r k (rw is at h))
 
 pub events_held_of : (left mid next : Option (List Row)) (t : ℕ × TraceTitle) (n s : Setup) (at last : ℕ) → n ≡ s → IsTraceTitle t.0 t.1 → Reads title left mid t → Reads (setup t.1.depth t.1.hw) mid next s
-    → IsStopped (repeats.Exactly t.1.count) (event t.0 n) next 2 128 at last → IsHeldAt trace_form left 128 at last
+    → IsStopped (repeats.Exactly t.1.count) (event t.0 n) next 2 MAX_SEGMENTS at last → IsHeldAt trace_form left MAX_SEGMENTS at last
 events_held_of left mid next t n s at last is i r k h = events_held left mid next t s at last i r k (rw is at h)

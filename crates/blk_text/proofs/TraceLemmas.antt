@@ -21,6 +21,7 @@ use Rattle.blk_text.specs.SetupRecord.{setup_row}
 use Rattle.blk_text.specs.Texts.{rows_text}
 use Rattle.blk_text.specs.TraceRecords.{event_rows, title_row, trace_rows, EventFits}
 use Rattle.blk_text.proofs.DraftLemmas.{IsSoFar}
+use Rattle.blk_bio.specs.declared.limits.TheConstants.{MAX_SEGMENTS}
 
 pub all_events : {A : Type 0} (has : List ℕ) (t : Traced) (events : List (Event A)) (i : ℕ) → length events ≤ i
     → map happened events ≡ t.events
@@ -29,11 +30,11 @@ pub all_events : {A : Type 0} (has : List ℕ) (t : Traced) (events : List (Even
 all_events has t events i l m a =
     rw (← m, length-map events happened, flat_map-map event_rows happened events) (rw (take_all i events l) at a)
 
-within : (l : Limits) (bios : List Bio) → IsLimits l → IsWithin l bios → length bios ≤ 128
+within : (l : Limits) (bios : List Bio) → IsLimits l → IsWithin l bios → length bios ≤ MAX_SEGMENTS
 within l bios i w = ⊎_elim (λ e. omega (arith, e)) (λ h. omega (arith, h.1, i.few_segments)) w
 
 -- each group of a legal list of events has at most 128 bios
-pub few_bios : (setup : Setup) (events : List Happened) (k : ℕ) (e : Happened) → IsLimits setup.limits → IsLegalTrace setup events → At events k e → length (bios_of e) ≤ 128
+pub few_bios : (setup : Setup) (events : List Happened) (k : ℕ) (e : Happened) → IsLimits setup.limits → IsLegalTrace setup events → At events k e → length (bios_of e) ≤ MAX_SEGMENTS
 few_bios setup events k Ticked i l at = omega arith
 few_bios setup events k (Released id bios) i l at = within setup.limits bios i (l.release_within k id bios at)
 few_bios setup events k (Joined id bios) i l at =
@@ -50,7 +51,7 @@ few_bios setup events k (DepthSet depth) i l at = omega arith
 
 -- the same of an event that was looked up
 pub few_at : {A : Type 0} (t : Traced) (events : List (Event A)) (k : ℕ) (e : Event A) → IsLimits t.setup.limits → IsLegalTrace t.setup t.events → map happened events ≡ t.events
-    → k < length events → e ≡ get_or events k e → length (bios_of (happened e)) ≤ 128
+    → k < length events → e ≡ get_or events k e → length (bios_of (happened e)) ≤ MAX_SEGMENTS
 few_at t events k e i l m lt is =
     few_bios t.setup t.events k (happened e) i l (ap (λ h. slice_get h k) (sym m) ∙ slice_get-map happened events k ∙ ap (option_map happened) (slice_get_read events (length events) k e refl lt is))
 

@@ -1,6 +1,8 @@
 -- A certificate: a title, a bound, and a record for each command with its round.
 use Rattle.std.specs.Prelude.{◌≡◌, ◌≤◌, ◌<◌, ◌^◌, ◌-◌, ℕ, ℤ, zero, suc, pos, negsuc, List, [], ◌∷◌, length, codes, All, Option, Some, None}
 use Rattle.std.specs.List.{zip}
+use Rattle.edd_check.specs.declared.TheConstants.{MOST_COMMANDS, ROUND_LIMIT, RELEASE_LIMIT}
+use Rattle.edd_check.specs.declared.steps.TheConstants.{MOST_DEPTH}
 use Rattle.edd_check.specs.declared.Command.{Command}
 use Rattle.edd_check.specs.declared.Window.{Window}
 use Rattle.blk_text.specs.Sources.{Row}
@@ -27,11 +29,11 @@ claimed c = record { depth = c.depth; commands = c.commands.items; rounds = c.ro
 
 -- title: blk-certificate, 1, depth, number of commands
 abbrev pub counted_cells : ℕ → List (Cell (ℕ × ℕ))
-counted_cells version = Number 1 256 (λ t. t.0) ∷ Number 0 1_000_000 (λ t. t.1) ∷ []
+counted_cells version = Number 1 MOST_DEPTH (λ t. t.0) ∷ Number 0 MOST_COMMANDS (λ t. t.1) ∷ []
 
 -- a depth and a number of commands
 abbrev pub IsCounted : ℕ × ℕ → Type 0
-IsCounted t = (1 ≤ t.0) × (t.0 ≤ 256) × (t.1 ≤ 1_000_000)
+IsCounted t = (1 ≤ t.0) × (t.0 ≤ MOST_DEPTH) × (t.1 ≤ MOST_COMMANDS)
 
 -- the rounds of a window: none where there are no commands
 abbrev pub first_round : ℕ → ℕ
@@ -40,11 +42,11 @@ first_round (suc count) = 0
 
 abbrev pub last_round : ℕ → ℕ
 last_round zero = 0
-last_round (suc count) = 2 ^ 41 - 1
+last_round (suc count) = ROUND_LIMIT - 1
 
 -- bound, lateness, window's from, window's due
 abbrev pub bound_cells : ℕ → List (Cell (ℤ × Window))
-bound_cells count = Signed (2 ^ 41 - 1) (λ b. b.0) ∷ Number (first_round count) (last_round count) (λ b. b.1.from) ∷ Number (first_round count) (last_round count) (λ b. b.1.due) ∷ []
+bound_cells count = Signed (ROUND_LIMIT - 1) (λ b. b.0) ∷ Number (first_round count) (last_round count) (λ b. b.1.from) ∷ Number (first_round count) (last_round count) (λ b. b.1.due) ∷ []
 
 -- no bound
 abbrev pub no_bound_row : Row
@@ -52,30 +54,30 @@ no_bound_row = codes "bound" ∷ codes "none" ∷ codes "none" ∷ codes "none" 
 
 -- each command: id, release, due, round
 abbrev pub served_cells : List (Cell (Command × ℕ))
-served_cells = Number 0 (2 ^ 64 - 1) (λ s. s.0.id) ∷ Number 0 (2 ^ 40 - 1) (λ s. s.0.release) ∷ Number 0 (2 ^ 41 - 1) (λ s. s.0.due) ∷ Number 0 (2 ^ 41 - 1) (λ s. s.1) ∷ []
+served_cells = Number 0 (2 ^ 64 - 1) (λ s. s.0.id) ∷ Number 0 (RELEASE_LIMIT - 1) (λ s. s.0.release) ∷ Number 0 (ROUND_LIMIT - 1) (λ s. s.0.due) ∷ Number 0 (ROUND_LIMIT - 1) (λ s. s.1) ∷ []
 
 -- the numbers of a command and its round lie in their ranges
 abbrev pub IsServed : Command × ℕ → Type 0
-IsServed s = IsCommandInRange s.0 × (s.1 < 2 ^ 41)
+IsServed s = IsCommandInRange s.0 × (s.1 < ROUND_LIMIT)
 
 -- a lateness is above -2^41 and below 2^41
 abbrev pub IsLateness : ℤ → Type 0
-IsLateness (pos n) = n < 2 ^ 41
-IsLateness (negsuc n) = suc n < 2 ^ 41
+IsLateness (pos n) = n < ROUND_LIMIT
+IsLateness (negsuc n) = suc n < ROUND_LIMIT
 
 -- a bound stands exactly beside commands, and its numbers lie in their ranges
 abbrev pub IsBound : ℕ → Option (ℤ × Window) → Type 0
 IsBound count None = count ≡ 0
-IsBound count (Some b) = (0 < count) × IsLateness b.0 × (b.1.from < 2 ^ 41) × (b.1.due < 2 ^ 41)
+IsBound count (Some b) = (0 < count) × IsLateness b.0 × (b.1.from < ROUND_LIMIT) × (b.1.due < ROUND_LIMIT)
 
 -- a round for each command, and each number in its range
 pub record IsClaim (c : Claim) : Type 0 where
-  pub depth : (1 ≤ c.depth) × (c.depth ≤ 256)
-  pub few : length c.commands ≤ 1_000_000
+  pub depth : (1 ≤ c.depth) × (c.depth ≤ MOST_DEPTH)
+  pub few : length c.commands ≤ MOST_COMMANDS
   pub one_each : length c.rounds ≡ length c.commands
   pub bound : IsBound (length c.commands) c.bound
   pub commands : All IsCommandInRange c.commands
-  pub rounds : All (λ x. x < 2 ^ 41) c.rounds
+  pub rounds : All (λ x. x < ROUND_LIMIT) c.rounds
 
 -- the record of a bound, or of none
 abbrev pub bound_row : Option (ℤ × Window) → Row

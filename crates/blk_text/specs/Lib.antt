@@ -14,3 +14,4 @@ pub mod Tables
 pub mod Reads
 pub mod BioTable
 pub mod TraceForm
+pub mod Versions

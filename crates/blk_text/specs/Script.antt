@@ -3,16 +3,20 @@ use Rattle.std.specs.Prelude.{◌≡◌, ◌-◌, ◌≤◌, ◌<◌, ◌^◌, �
 use Rattle.std.specs.Prelude.{Err}
 use Rattle.blk_bio.specs.Bios.{Bio, IsBio, IsBioAnswer}
 use Rattle.blk_bio.specs.declared.bio.BioFault.{BioFault}
+use Rattle.blk_bio.specs.declared.limits.TheConstants.{MAX_QUEUES}
 use Rattle.blk_trace.specs.Setups.{Setup}
 use Rattle.blk_text.specs.Sources.{Row}
 use Rattle.blk_text.specs.Reads.{items_of}
 use Rattle.blk_text.specs.Tables.{Cell, Blank, Number, IsVersion, title_record, kinds_record}
 use Rattle.blk_text.specs.BioTable.{bio_cells}
-use Rattle.blk_text.specs.SetupRecord.{IsWholeSetup, most_depth, setup}
+use Rattle.blk_text.specs.SetupRecord.{IsWholeSetup, setup}
+use Rattle.blk_text.specs.Versions.{latest, most_tags}
 use Rattle.blk_text.specs.declared.fault.Why.{Why}
 use Rattle.blk_text.specs.declared.fault.Why.TheVariants as why
 use Rattle.parts.specs.declared.Repeats.TheVariants as repeats
 use Rattle.parts.specs.Parts.{Part, then, tested, seen_as, Spells}
+use Rattle.blk_text.specs.declared.fields.TheConstants.{TAG_LIMIT}
+use Rattle.blk_text.specs.declared.script.TheConstants.{MAX_SOFT_DEPTH, MAX_SUBMITTERS, MAX_ROUNDS, MOST_STEPS}
 use Rattle.blk_text.specs.declared.script.Line.{Line}
 use Rattle.blk_text.specs.declared.script.Line.TheVariants as line
 use Rattle.blk_text.specs.declared.script.Script.{Script}
@@ -22,7 +26,7 @@ use Rattle.blk_text.specs.declared.script.Word.TheVariants as word
 
 -- title: blk-script, version, depth, hardware queues, soft depth, submitters
 abbrev pub script_cells : ℕ → List (Cell Title)
-script_cells version = Number 1 (most_depth version) (λ t. t.depth) ∷ Number 1 16 (λ t. t.hw) ∷ Number 1 1024 (λ t. t.soft_depth) ∷ Number 1 64 (λ t. t.submitters) ∷ []
+script_cells version = Number 1 (most_tags version) (λ t. t.depth) ∷ Number 1 MAX_QUEUES (λ t. t.hw) ∷ Number 1 MAX_SOFT_DEPTH (λ t. t.soft_depth) ∷ Number 1 MAX_SUBMITTERS (λ t. t.submitters) ∷ []
 
 -- the words of the steps
 abbrev pub word_of : Word → List ℕ
@@ -65,12 +69,12 @@ abbrev pub step_cells : ℕ → ℕ → (k : Word) → List (Cell (Held k))
 step_cells hw submitters word.Bio = bio_cells submitters
 step_cells hw submitters word.Flush = Number 0 (submitters - 1) (λ s. s) ∷ Blank ∷ Blank ∷ Blank ∷ Blank ∷ []
 step_cells hw submitters word.Drain = Number 0 (hw - 1) (λ h. h) ∷ Blank ∷ Blank ∷ Blank ∷ Blank ∷ []
-step_cells hw submitters word.Issue = Number 0 (hw - 1) (λ i. i.0) ∷ Number 0 65535 (λ i. i.1) ∷ Blank ∷ Blank ∷ Blank ∷ []
-step_cells hw submitters word.Done = Number 0 65535 (λ t. t) ∷ Blank ∷ Blank ∷ Blank ∷ Blank ∷ []
-step_cells hw submitters word.Back = Number 0 65535 (λ t. t) ∷ Blank ∷ Blank ∷ Blank ∷ Blank ∷ []
+step_cells hw submitters word.Issue = Number 0 (hw - 1) (λ i. i.0) ∷ Number 0 (TAG_LIMIT - 1) (λ i. i.1) ∷ Blank ∷ Blank ∷ Blank ∷ []
+step_cells hw submitters word.Done = Number 0 (TAG_LIMIT - 1) (λ t. t) ∷ Blank ∷ Blank ∷ Blank ∷ Blank ∷ []
+step_cells hw submitters word.Back = Number 0 (TAG_LIMIT - 1) (λ t. t) ∷ Blank ∷ Blank ∷ Blank ∷ Blank ∷ []
 step_cells hw submitters word.Depth = Number 0 (2 ^ 64 - 1) (λ d. d) ∷ Blank ∷ Blank ∷ Blank ∷ Blank ∷ []
 step_cells hw submitters word.Tick = Blank ∷ Blank ∷ Blank ∷ Blank ∷ Blank ∷ []
-step_cells hw submitters word.Run = Number 1 1_000_000 (λ n. n) ∷ Blank ∷ Blank ∷ Blank ∷ Blank ∷ []
+step_cells hw submitters word.Run = Number 1 MAX_ROUNDS (λ n. n) ∷ Blank ∷ Blank ∷ Blank ∷ Blank ∷ []
 
 -- the kind of a step, and what it says
 abbrev pub held : Line → (k : Word) × Held k
@@ -97,12 +101,12 @@ abbrev pub LineFits : ℕ → ℕ → Line → Type 0
 LineFits hw submitters (line.Bio b) = (b.id.submitter < submitters) × (b.id.serial < 2 ^ 64) × IsBio b
 LineFits hw submitters (line.Flush submitter) = submitter < submitters
 LineFits hw submitters (line.Drain h) = h < hw
-LineFits hw submitters (line.Issue h tag) = (h < hw) × (tag < 65536)
-LineFits hw submitters (line.Done tag) = tag < 65536
-LineFits hw submitters (line.Back tag) = tag < 65536
+LineFits hw submitters (line.Issue h tag) = (h < hw) × (tag < TAG_LIMIT)
+LineFits hw submitters (line.Done tag) = tag < TAG_LIMIT
+LineFits hw submitters (line.Back tag) = tag < TAG_LIMIT
 LineFits hw submitters (line.Depth depth) = depth < 2 ^ 64
 LineFits hw submitters line.Tick = Unit {0}
-LineFits hw submitters (line.Run n) = (1 ≤ n) × (n ≤ 1_000_000)
+LineFits hw submitters (line.Run n) = (1 ≤ n) × (n ≤ MAX_ROUNDS)
 
 -- a step stands in a version
 abbrev pub IsLineOf : ℕ → Line → Type 0
@@ -110,10 +114,10 @@ IsLineOf version l = StandsIn version (held l).0
 
 -- a title's numbers lie in their ranges, but for the least number of submitters
 pub record IsTitle (version : ℕ) (t : Title) : Type 0 where
-  pub depth : (1 ≤ t.depth) × (t.depth ≤ most_depth version)
-  pub hw : (1 ≤ t.hw) × (t.hw ≤ 16)
-  pub soft_depth : (1 ≤ t.soft_depth) × (t.soft_depth ≤ 1024)
-  pub submitters : (1 ≤ t.submitters) × (t.submitters ≤ 64)
+  pub depth : (1 ≤ t.depth) × (t.depth ≤ most_tags version)
+  pub hw : (1 ≤ t.hw) × (t.hw ≤ MAX_QUEUES)
+  pub soft_depth : (1 ≤ t.soft_depth) × (t.soft_depth ≤ MAX_SOFT_DEPTH)
+  pub submitters : (1 ≤ t.submitters) × (t.submitters ≤ MAX_SUBMITTERS)
 
 -- a script: its setup, its soft depth and submitters, and its steps
 pub record Scripted : Type 0 where
@@ -130,22 +134,18 @@ scripted s = record { setup = s.setup; soft_depth = s.soft_depth; submitters = s
 abbrev pub title_of : Scripted → Title
 title_of s = record { depth = s.setup.depth; hw = s.setup.hw; soft_depth = s.soft_depth; submitters = s.submitters }
 
--- the latest version of scripts
-abbrev pub latest : ℕ
-latest = 2
-
 -- the numbers of a script lie in their ranges, as the latest version has them
 pub record IsScript (s : Scripted) : Type 0 where
   pub title : IsTitle latest (title_of s)
   pub enough : s.setup.hw ≤ s.submitters
   pub setup : IsWholeSetup s.setup
   pub lines : All (LineFits s.setup.hw s.submitters) s.lines
-  pub short : length s.lines ≤ 999_998
+  pub short : length s.lines ≤ MOST_STEPS
 
 -- a script can be spelled in a version: it has no more tags than that, and no other steps
 pub record IsScriptOf (version : ℕ) (s : Scripted) : Type 0 where
   pub is_version : IsVersion latest version
-  pub tags : s.setup.depth ≤ most_depth version
+  pub tags : s.setup.depth ≤ most_tags version
   pub steps : All (IsLineOf version) s.lines
 
 -- a title whose numbers lie in their own ranges
@@ -171,9 +171,9 @@ plain_step version hw submitters = seen_as held (kinds_record Held why.Count 6 (
 abbrev pub step : ℕ → ℕ → ℕ → Part Row Why Line
 step version hw submitters = tested (plain_step version hw submitters) IsRight IsNoBio
 
--- a setup and at most 999,998 steps
+-- a setup and steps, at most so many
 abbrev pub script_body : ℕ × Title → Part Row Why (Setup × List Line)
-script_body t = then (setup t.1.depth t.1.hw) (λ s. items_of (repeats.AtMost 999_998) (λ _. step t.0 t.1.hw t.1.submitters))
+script_body t = then (setup t.1.depth t.1.hw) (λ s. items_of (repeats.AtMost MOST_STEPS) (λ _. step t.0 t.1.hw t.1.submitters))
 
 -- a title, a setup and steps
 abbrev pub script_form : Part Row Why ((ℕ × Title) × (Setup × List Line))

@@ -1,23 +1,19 @@
 -- The setup record, which is the second one of a script and of a trace.
-use Rattle.std.specs.Prelude.{◌≡◌, ◌-◌, ◌^◌, ℕ, zero, suc, List, [], ◌∷◌, codes}
+use Rattle.std.specs.Prelude.{◌≡◌, ◌-◌, ℕ, List, [], ◌∷◌, codes}
 use Rattle.blk_bio.specs.Limits.{IsLimits}
 use Rattle.blk_trace.specs.Setups.{Setup, IsSetup}
-use Rattle.blk_trace.specs.declared.setup.TheConstants.{MAX_DEPTH}
+use Rattle.blk_bio.specs.declared.limits.TheConstants.{MAX_SECTORS, MAX_SEGMENTS}
+use Rattle.blk_trace.specs.declared.setup.TheConstants.{EXPIRE_LIMIT}
 use Rattle.blk_text.specs.Sources.{Row}
 use Rattle.blk_text.specs.Tables.{Cell, Number, Blank, row_by, word_record}
 use Rattle.blk_text.specs.declared.fault.Why.{Why}
 use Rattle.blk_text.specs.declared.fault.Why.TheVariants as why
 use Rattle.parts.specs.Parts.{Part}
 
--- the most tags that a title may have in a version of scripts and of traces
-abbrev pub most_depth : ℕ → ℕ
-most_depth (suc zero) = 64
-most_depth _ = MAX_DEPTH
-
 -- setup, read_expire, write_expire, max_sectors, max_segments, empty
 abbrev pub setup_cells : List (Cell Setup)
-setup_cells = Number 0 (2 ^ 40 - 1) (λ s. s.read_expire) ∷ Number 0 (2 ^ 40 - 1) (λ s. s.write_expire)
-    ∷ Number 1 65535 (λ s. s.limits.max_sectors) ∷ Number 1 128 (λ s. s.limits.max_segments) ∷ Blank ∷ []
+setup_cells = Number 0 (EXPIRE_LIMIT - 1) (λ s. s.read_expire) ∷ Number 0 (EXPIRE_LIMIT - 1) (λ s. s.write_expire)
+    ∷ Number 1 MAX_SECTORS (λ s. s.limits.max_sectors) ∷ Number 1 MAX_SEGMENTS (λ s. s.limits.max_segments) ∷ Blank ∷ []
 
 -- the setup record of a setup; its depth and hardware queues stand in the title
 abbrev pub setup_row : Setup → Row

@@ -4,6 +4,8 @@ use Rattle.blk_bio.specs.Bios.{Bio, IsBio}
 use Rattle.blk_bio.specs.Limits.{Limits}
 use Rattle.blk_bio.specs.Requests.{Fits}
 use Rattle.blk_bio.specs.declared.request.Side.TheVariants as side
+use Rattle.blk_bio.specs.declared.limits.TheConstants.{MAX_QUEUES, MAX_SEGMENTS}
+use Rattle.blk_trace.specs.declared.trace.TheConstants.{MAX_EVENTS}
 use Rattle.blk_trace.specs.declared.rule.TraceRule.{TraceRule}
 use Rattle.blk_trace.specs.declared.rule.PushFault.{PushFault}
 use Rattle.blk_trace.specs.declared.rule.PushFault.TheVariants as push_fault
@@ -16,7 +18,9 @@ use Rattle.blk_text.specs.Reads.{ended_of, with_next}
 use Rattle.blk_text.specs.Words.{NextStarts}
 use Rattle.blk_text.specs.Tables.{Cell, Blank, Number, FitsBy, IsVersion, title_record, kinds_record, word_record}
 use Rattle.blk_text.specs.BioTable.{bio_cells, IsNoSuchBio}
-use Rattle.blk_text.specs.SetupRecord.{most_depth, setup}
+use Rattle.blk_text.specs.SetupRecord.{setup}
+use Rattle.blk_text.specs.Versions.{latest, most_tags}
+use Rattle.blk_text.specs.declared.fields.TheConstants.{TAG_LIMIT}
 use Rattle.blk_text.specs.declared.fault.Why.{Why}
 use Rattle.blk_text.specs.declared.fault.Why.TheVariants as why
 use Rattle.blk_text.specs.declared.heads.Head.{Head}
@@ -29,17 +33,13 @@ use Rattle.parts.specs.Parts.{Part, NextWrong, then, many, over, seen_as, tested
 
 -- title: blk-trace, version, depth, hardware queues, number of events, empty
 abbrev pub trace_cells : ℕ → List (Cell TraceTitle)
-trace_cells version = Number 1 (most_depth version) (λ t. t.depth) ∷ Number 1 16 (λ t. t.hw) ∷ Number 0 1_000_000 (λ t. t.count) ∷ Blank ∷ []
+trace_cells version = Number 1 (most_tags version) (λ t. t.depth) ∷ Number 1 MAX_QUEUES (λ t. t.hw) ∷ Number 0 MAX_EVENTS (λ t. t.count) ∷ Blank ∷ []
 
 -- a title's numbers lie in their ranges
 pub record IsTraceTitle (version : ℕ) (t : TraceTitle) : Type 0 where
-  pub depth : (1 ≤ t.depth) × (t.depth ≤ most_depth version)
-  pub hw : (1 ≤ t.hw) × (t.hw ≤ 16)
-  pub count : t.count ≤ 1_000_000
-
--- the latest version of traces
-abbrev pub latest : ℕ
-latest = 2
+  pub depth : (1 ≤ t.depth) × (t.depth ≤ most_tags version)
+  pub hw : (1 ≤ t.hw) × (t.hw ≤ MAX_QUEUES)
+  pub count : t.count ≤ MAX_EVENTS
 
 abbrev pub title : Part Row Why (ℕ × TraceTitle)
 title = title_record (codes "blk-trace") latest trace_cells IsTraceTitle
@@ -81,11 +81,11 @@ any f = Number 0 (2 ^ 64 - 1) f
 -- its fields after the word
 abbrev pub head_cells : (k : EventWord) → List (Cell (Says k))
 head_cells word.Tick = Blank ∷ Blank ∷ Blank ∷ Blank ∷ Blank ∷ []
-head_cells word.Release = any (λ g. g.0) ∷ Number 1 128 (λ g. g.1) ∷ Blank ∷ Blank ∷ Blank ∷ []
-head_cells word.Join = any (λ g. g.0) ∷ Number 1 128 (λ g. g.1) ∷ Blank ∷ Blank ∷ Blank ∷ []
-head_cells word.Issue = any (λ i. i.0) ∷ Number 0 65535 (λ i. i.1) ∷ Blank ∷ Blank ∷ Blank ∷ []
-head_cells word.Done = Number 0 65535 (λ t. t) ∷ Blank ∷ Blank ∷ Blank ∷ Blank ∷ []
-head_cells word.Back = Number 0 65535 (λ t. t) ∷ Blank ∷ Blank ∷ Blank ∷ Blank ∷ []
+head_cells word.Release = any (λ g. g.0) ∷ Number 1 MAX_SEGMENTS (λ g. g.1) ∷ Blank ∷ Blank ∷ Blank ∷ []
+head_cells word.Join = any (λ g. g.0) ∷ Number 1 MAX_SEGMENTS (λ g. g.1) ∷ Blank ∷ Blank ∷ Blank ∷ []
+head_cells word.Issue = any (λ i. i.0) ∷ Number 0 (TAG_LIMIT - 1) (λ i. i.1) ∷ Blank ∷ Blank ∷ Blank ∷ []
+head_cells word.Done = Number 0 (TAG_LIMIT - 1) (λ t. t) ∷ Blank ∷ Blank ∷ Blank ∷ Blank ∷ []
+head_cells word.Back = Number 0 (TAG_LIMIT - 1) (λ t. t) ∷ Blank ∷ Blank ∷ Blank ∷ Blank ∷ []
 head_cells word.Depth = any (λ d. d) ∷ Blank ∷ Blank ∷ Blank ∷ Blank ∷ []
 
 -- the kind of a first record, and what it says
@@ -110,7 +110,7 @@ IsNoBio version = NextWrong why.Count (λ row w. (over why.Count (first_record v
 -- the record of a bio of a group, by its table
 abbrev pub plain_bio : ℕ → Part Row Why Bio
 plain_bio version =
-    seen_as (λ b. (tt, b)) (by_word {K = Unit {0}} (λ _. Bio) (λ _. NextStarts (codes "bio")) (λ _. word_record why.Count (codes "bio") (bio_cells 256) (FitsBy (bio_cells 256))) (IsNoBio version))
+    seen_as (λ b. (tt, b)) (by_word {K = Unit {0}} (λ _. Bio) (λ _. NextStarts (codes "bio")) (λ _. word_record why.Count (codes "bio") (bio_cells (2 ^ 8)) (FitsBy (bio_cells (2 ^ 8)))) (IsNoBio version))
 
 -- the record of a bio that there is
 abbrev pub whole_bio : ℕ → Part Row Why Bio
@@ -232,7 +232,7 @@ IsEventOf version e = StandsIn version (said (told e).0).0
 -- a trace can be spelled in a version: it has no more tags than that, and no other events
 pub record IsTraceOf (version : ℕ) (t : Traced) : Type 0 where
   pub is_version : IsVersion latest version
-  pub tags : t.setup.depth ≤ most_depth version
+  pub tags : t.setup.depth ≤ most_tags version
   pub kinds : All (IsEventOf version) t.events
 
 -- the first fault of a trace

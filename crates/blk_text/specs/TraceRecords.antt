@@ -2,6 +2,7 @@
 use Rattle.std.specs.Prelude.{◌≤◌, ◌<◌, ◌^◌, ℕ, List, [], ◌∷◌, length, map, decimal, codes, All}
 use Rattle.std.specs.List.{flat_map}
 use Rattle.blk_bio.specs.Bios.{Bio, IsBio}
+use Rattle.blk_bio.specs.declared.limits.TheConstants.{MAX_SEGMENTS}
 use Rattle.blk_trace.specs.Setups.{Setup}
 use Rattle.blk_trace.specs.Happened.{Happened, Ticked, Released, Joined, Issued, Finished, Returned, DepthSet}
 use Rattle.blk_trace.specs.Traces.{Traced}
@@ -9,6 +10,8 @@ use Rattle.blk_trace.specs.Legal.{IsLegalTrace}
 use Rattle.blk_text.specs.Sources.{Row}
 use Rattle.blk_text.specs.BioRecord.{bio_row}
 use Rattle.blk_text.specs.SetupRecord.{setup_row, IsWholeSetup}
+use Rattle.blk_text.specs.Versions.{latest}
+use Rattle.blk_text.specs.declared.fields.TheConstants.{TAG_LIMIT}
 
 -- a record of a word and two fields; the other three are empty
 abbrev pub word_row : List ℕ → List ℕ → List ℕ → Row
@@ -28,9 +31,9 @@ event_rows (Finished tag) = word_row (codes "done") (decimal tag) [] ∷ []
 event_rows (Returned tag) = word_row (codes "back") (decimal tag) [] ∷ []
 event_rows (DepthSet depth) = word_row (codes "depth") (decimal depth) [] ∷ []
 
--- title: blk-trace, 2, depth, hardware queues, number of events, empty
+-- title: blk-trace, the latest version, depth, hardware queues, number of events, empty
 abbrev pub title_row : Setup → ℕ → Row
-title_row s count = codes "blk-trace" ∷ codes "2" ∷ decimal s.depth ∷ decimal s.hw ∷ decimal count ∷ [] ∷ []
+title_row s count = codes "blk-trace" ∷ decimal latest ∷ decimal s.depth ∷ decimal s.hw ∷ decimal count ∷ [] ∷ []
 
 -- the title, the setup, and the records of each event in turn
 abbrev pub trace_rows : Traced → List Row
@@ -38,20 +41,20 @@ trace_rows t = title_row t.setup (length t.events) ∷ setup_row t.setup ∷ fla
 
 -- the numbers of a bio lie in their ranges
 abbrev pub BioFits : Bio → Type 0
-BioFits b = (b.id.submitter < 256) × (b.id.serial < 2 ^ 64) × IsBio b
+BioFits b = (b.id.submitter < 2 ^ 8) × (b.id.serial < 2 ^ 64) × IsBio b
 
 -- the id of a group lies in its range, as does the number of its bios, and those of each bio
 abbrev pub GroupFits : ℕ → List Bio → Type 0
-GroupFits id bios = (id < 2 ^ 64) × (1 ≤ length bios) × (length bios ≤ 128) × All BioFits bios
+GroupFits id bios = (id < 2 ^ 64) × (1 ≤ length bios) × (length bios ≤ MAX_SEGMENTS) × All BioFits bios
 
 -- the numbers of an event lie in their ranges
 abbrev pub EventFits : Happened → Type 0
 EventFits Ticked = Unit {0}
 EventFits (Released id bios) = GroupFits id bios
 EventFits (Joined id bios) = GroupFits id bios
-EventFits (Issued id tag) = (id < 2 ^ 64) × (tag < 65536)
-EventFits (Finished tag) = tag < 65536
-EventFits (Returned tag) = tag < 65536
+EventFits (Issued id tag) = (id < 2 ^ 64) × (tag < TAG_LIMIT)
+EventFits (Finished tag) = tag < TAG_LIMIT
+EventFits (Returned tag) = tag < TAG_LIMIT
 EventFits (DepthSet depth) = depth < 2 ^ 64
 
 -- a trace is legal, and its numbers lie in their ranges

@@ -24,7 +24,7 @@ use crate::items::{LineForm, read_line, read_lines};
 use crate::pieces::{put, put_two};
 use crate::source::Records;
 use csv::ByteRecord;
-use edd_check::{Command, Window};
+use edd_check::{Command, MOST_COMMANDS, MOST_DEPTH, RELEASE_LIMIT, ROUND_LIMIT, Window};
 use parts::Repeats;
 use std::alloc::{AllocError, Global};
 use std::io::{Read, Write};
@@ -66,11 +66,11 @@ impl LineForm for TitleForm {
             Slot::Given,
             Slot::Number {
                 least: 1,
-                most: 256,
+                most: MOST_DEPTH,
             },
             Slot::Number {
                 least: 0,
-                most: 1_000_000,
+                most: MOST_COMMANDS,
             },
         ];
         match read_fields(row, &slots) {
@@ -123,7 +123,7 @@ impl LineForm for ServedForm {
     fn line(&self, row: &ByteRecord) -> Result<(Command, u64), Why> {
         let round = Slot::Number {
             least: 0,
-            most: (1 << 41) - 1,
+            most: ROUND_LIMIT - 1,
         };
         let slots = [
             Slot::Number {
@@ -132,7 +132,7 @@ impl LineForm for ServedForm {
             },
             Slot::Number {
                 least: 0,
-                most: (1 << 40) - 1,
+                most: RELEASE_LIMIT - 1,
             },
             round,
             round,
@@ -154,9 +154,9 @@ impl LineForm for ServedForm {
 /// The lateness of a field, by its size.
 fn lateness_of(field: &[u8], size: u64) -> i64
     requires sized { IsSized field.now size }
-    requires small { size < 2 ^ 41 }
+    requires small { size < ROUND_LIMIT }
     ensures text { field.now ≡ signed_decimal result }
-    ensures range { IsUpTo (2 ^ 41 - 1) result }
+    ensures range { IsUpTo (ROUND_LIMIT - 1) result }
 {
     match after_minus(field) {
         Some(_) => -(size as i64),
@@ -197,7 +197,7 @@ fn bound_slots(count: u64) -> [Slot; 4]
     ensures { result ≡ slot.Given ∷ slots_by (bound_cells count) }
 {
     let late = Slot::Lateness {
-        most: (1 << 41) - 1,
+        most: ROUND_LIMIT - 1,
     };
     if count == 0 {
         let none = Slot::Number { least: 1, most: 0 };
@@ -205,7 +205,7 @@ fn bound_slots(count: u64) -> [Slot; 4]
     }
     let round = Slot::Number {
         least: 0,
-        most: (1 << 41) - 1,
+        most: ROUND_LIMIT - 1,
     };
     [Slot::Given, late, round, round]
 }
@@ -271,7 +271,7 @@ pub fn read_certificate<R: Read + Drop>(
         IsOutside records.new.failed f.why ⊎ ClaimFault rows f.at f.why)) }
     // also where it came from outside: at most one past the last record, and no record before it is wrong
     ensures reached { IfErr result (λ f. Reaches claim_form records.old.left 0 f.at) }
-    ensures reads { (1 ≤ records.new.at) × (records.new.at ≤ 1_000_003) }
+    ensures reads { (1 ≤ records.new.at) × (records.new.at ≤ MOST_COMMANDS + 3) }
     // the last thing that was asked for is the record after the commands, which there is not
     ensures end { IfOk result (λ c. records.new.at ≡ length c.commands.items + 3) }
 {

@@ -17,13 +17,10 @@ use crate::items::{LineForm, read_line, read_lines};
 use crate::pieces::{put, put_number, put_two};
 use crate::source::Records;
 use csv::ByteRecord;
-use edd_check::Command;
+use edd_check::{Command, MOST_COMMANDS, MOST_DEPTH, RELEASE_LIMIT, ROUND_LIMIT};
 use parts::Repeats;
 use std::alloc::{AllocError, Global};
 use std::io::{Read, Write};
-
-/// The most commands of a list.
-pub const MOST_COMMANDS: u64 = 1_000_000;
 
 /// The title record: the version and the depth.
 #[derive(Clone, Copy, Drop)]
@@ -49,7 +46,7 @@ impl LineForm for TitleForm {
             Slot::Given,
             Slot::Number {
                 least: 1,
-                most: 256,
+                most: MOST_DEPTH,
             },
         ];
         match read_fields(row, &slots) {
@@ -82,11 +79,11 @@ impl LineForm for CommandForm {
             },
             Slot::Number {
                 least: 0,
-                most: (1 << 40) - 1,
+                most: RELEASE_LIMIT - 1,
             },
             Slot::Number {
                 least: 0,
-                most: (1 << 41) - 1,
+                most: ROUND_LIMIT - 1,
             },
         ];
         match read_fields(row, &slots) {
@@ -120,7 +117,7 @@ pub fn read_commands<R: Read + Drop>(
         IsOutside records.new.failed f.why ⊎ CommandsFault rows f.at f.why)) }
     // also where it came from outside: at most one past the last record, and no record before it is wrong
     ensures reached { IfErr result (λ f. Reaches command_list records.old.left 0 f.at) }
-    ensures reads { (1 ≤ records.new.at) × (records.new.at ≤ 1_000_002) }
+    ensures reads { (1 ≤ records.new.at) × (records.new.at ≤ MOST_COMMANDS + 2) }
     // the last thing that was asked for is the record after the commands, which there is not
     ensures end { IfOk result (λ v. records.new.at ≡ length v.1.items + 2) }
 {

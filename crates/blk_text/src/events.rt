@@ -16,10 +16,10 @@ use crate::fields::{Slot, read_fields, version_of};
 use crate::groups::read_group;
 use crate::heads::{Head, HeadForm, TraceTitle};
 use crate::items::{ItemForm, LineForm, gather, read_line};
-use crate::setup::{SetupForm, most_depth};
+use crate::setup::{LATEST, SetupForm, most_tags};
 use crate::source::Records;
-use blk_bio::Limits;
-use blk_trace::{Event, PushFault, Setup, Trace};
+use blk_bio::{Limits, MAX_QUEUES, MAX_SEGMENTS};
+use blk_trace::{Event, MAX_EVENTS, PushFault, Setup, Trace};
 use csv::ByteRecord;
 use parts::Repeats;
 use std::alloc::Global;
@@ -46,13 +46,13 @@ fn read_event<R: Read + Drop>(
     form: HeadForm,
     limits: Limits,
 ) -> Result<Event, TextFault>
-    requires { records.old.at + 128 < 2 ^ 64 - 1 }
+    requires { records.old.at + MAX_SEGMENTS < 2 ^ 64 - 1 }
     ensures ok { IfOk result (λ e. HandReads (plain_event form.version limits) records.old.left records.old.fields records.new.left (happened e)) }
     ensures fits { IfOk result (λ e. (plain_event form.version limits).Fits (happened e)) }
     ensures end { IfOk result (λ e. records.new.at + 1 ≡ records.old.at + length ((plain_event form.version limits).rows_of (happened e))) }
     ensures err { IfErr result (λ f. HandFails records.new.failed (plain_event form.version limits) records.old.left records.old.fields records.old.at f.at f.why) }
     ensures last { IfErr result (λ f. (records.old.at ≤ f.at) × (f.at ≤ records.new.at)) }
-    ensures reads { (records.old.at ≤ records.new.at) × (records.new.at ≤ records.old.at + 128) }
+    ensures reads { (records.old.at ≤ records.new.at) × (records.new.at ≤ records.old.at + MAX_SEGMENTS) }
 {
     let head = match form.line(records.row()) {
         Ok(head) => head,
@@ -105,6 +105,7 @@ struct EventForm {
 
 impl ItemForm for EventForm {
     ghost use Rattle.std.specs.Prelude.{◌≡◌};
+    ghost use Rattle.blk_bio.specs.declared.limits.TheConstants.{MAX_SEGMENTS};
     ghost use Rattle.blk_trace.specs.Happened.{Happened};
     ghost use Rattle.blk_text.specs.TraceForm.{event as event_part};
 
@@ -118,7 +119,7 @@ impl ItemForm for EventForm {
 
     ghost suits = { λ f t. t.setup ≡ f.setup };
 
-    ghost more = { 128 };
+    ghost more = { MAX_SEGMENTS };
 
     fn gone(&self, items: &Trace) -> Why {
         let _ = items.len();
@@ -164,9 +165,6 @@ fn past_fault(form: &EventForm, row: &ByteRecord, trace: &mut Trace) -> Why
     }
 }
 
-/// The latest version of traces.
-const LATEST: u64 = 2;
-
 /// The title record: the version, and the numbers of a title, each in its own range.
 #[derive(Clone, Copy, Drop)]
 struct TraceTitleForm;
@@ -191,12 +189,15 @@ impl LineForm for TraceTitleForm {
             Slot::Given,
             Slot::Number {
                 least: 1,
-                most: most_depth(version),
+                most: most_tags(version),
             },
-            Slot::Number { least: 1, most: 16 },
+            Slot::Number {
+                least: 1,
+                most: MAX_QUEUES as u64,
+            },
             Slot::Number {
                 least: 0,
-                most: 1_000_000,
+                most: MAX_EVENTS,
             },
             Slot::Blank,
         ];
@@ -223,15 +224,15 @@ fn read_events<R: Read + Drop>(
     count: u64,
 ) -> Result<Trace, TextFault>
     requires at { records.old.at ≡ 2 }
-    requires few { count ≤ 1_000_000 }
+    requires few { count ≤ MAX_EVENTS }
     requires none { trace.events ≡ [] }
     ensures ok { IfOk result (λ t. IfSome records.old.left (λ rows. Begins (events_of version trace.setup count) rows t.events [])) }
     ensures setup { IfOk result (λ t. t.setup ≡ trace.setup) }
     ensures fit { IfOk result (λ t. AreItems (repeats.Exactly count) (event_part version trace.setup) t.events) }
     ensures err { IfErr result (λ f. Fails records.new.failed (events_of version trace.setup count) records.old.left 2 f.at f.why) }
     // all events before the one that is being read are good, and no record past that one is asked for
-    ensures before { IfErr result (λ f. IsStopped (repeats.Exactly count) (event_part version trace.setup) records.old.left 2 128 f.at records.new.at) }
-    ensures reads { (3 ≤ records.new.at) × (records.new.at ≤ 129_000_003) }
+    ensures before { IfErr result (λ f. IsStopped (repeats.Exactly count) (event_part version trace.setup) records.old.left 2 MAX_SEGMENTS f.at records.new.at) }
+    ensures reads { (3 ≤ records.new.at) × (records.new.at ≤ MAX_EVENTS * (MAX_SEGMENTS + 1) + 3) }
     ensures end { IfOk result (λ t. records.new.at ≡ size_of (event_part version trace.setup) t.events + 3) }
 {
     let form = EventForm {
@@ -272,8 +273,8 @@ pub fn read_trace<R: Read + Drop>(
     ensures err { IfErr result (λ f. IfSome records.old.left (λ rows.
         IsOutside records.new.failed f.why ⊎ TraceFault rows f.at f.why)) }
     // also where it came from outside: nothing before what is being read is wrong, and no record past it was asked for
-    ensures before { IfErr result (λ f. IsHeldAt trace_form records.old.left 128 f.at records.new.at) }
-    ensures reads { (1 ≤ records.new.at) × (records.new.at ≤ 129_000_003) }
+    ensures before { IfErr result (λ f. IsHeldAt trace_form records.old.left MAX_SEGMENTS f.at records.new.at) }
+    ensures reads { (1 ≤ records.new.at) × (records.new.at ≤ MAX_EVENTS * (MAX_SEGMENTS + 1) + 3) }
     // the last thing that was asked for is the record after the events, which there is not
     ensures end { IfOk result (λ t. records.new.at ≡ length (trace_rows t) + 1) }
 {

@@ -36,10 +36,13 @@ pub const ANY: Slot = Slot::Number {
     most: u64::MAX,
 };
 
+/// Every tag of a record lies below this.
+pub const TAG_LIMIT: u64 = 1 << 16;
+
 /// A tag.
 pub const TAG: Slot = Slot::Number {
     least: 0,
-    most: 65_535,
+    most: TAG_LIMIT - 1,
 };
 
 /// The direction of a field that is R or W.

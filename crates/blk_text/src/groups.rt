@@ -12,7 +12,7 @@ use crate::fields::{ANY, Slot, begins_with, direction_of, field, read_fields};
 use crate::heads::HeadForm;
 use crate::items::{ItemForm, LineForm, gather};
 use crate::source::Records;
-use blk_bio::{Bio, BioId, Limits, Request, Side};
+use blk_bio::{Bio, BioId, Limits, MAX_SEGMENTS, Request, Side};
 use csv::ByteRecord;
 use parts::Repeats;
 use std::alloc::{AllocError, Global};
@@ -27,7 +27,7 @@ fn bio_of(form: &HeadForm, row: &ByteRecord) -> Result<Bio, Why>
     let _ = form.version;
     let submitter = Slot::Number {
         least: 0,
-        most: 255,
+        most: u8::MAX as u64,
     };
     let slots = [Slot::Given, submitter, ANY, Slot::Direction, ANY, ANY];
     let numbers = match read_fields(row, &slots) {
@@ -153,8 +153,8 @@ pub(crate) fn read_group<R: Read + Drop>(
     limits: Limits,
     bios: u64,
 ) -> Result<Request, TextFault>
-    requires some { (1 ≤ bios) × (bios ≤ 128) }
-    requires room { records.old.at + 128 < 2 ^ 64 - 1 }
+    requires some { (1 ≤ bios) × (bios ≤ MAX_SEGMENTS) }
+    requires room { records.old.at + MAX_SEGMENTS < 2 ^ 64 - 1 }
     ensures ok { IfOk result (Reads (group head.version limits bios) records.old.left records.new.left) }
     ensures fits { IfOk result (group head.version limits bios).Fits }
     ensures end { IfOk result (λ r. records.new.at ≡ records.old.at + length r) }

@@ -13,6 +13,7 @@ ghost use Rattle.blk_text.specs.declared.heads.EventWord.{EventWord as AWord};
 use crate::fault::Why;
 use crate::fields::{ANY, Slot, TAG, WIDTH, field, read_fields, without_word};
 use crate::items::LineForm;
+use blk_bio::MAX_SEGMENTS;
 use csv::ByteRecord;
 
 /// The numbers of a trace's title: tags, hardware queues, and events.
@@ -35,7 +36,7 @@ pub(crate) enum EventWord {
     Depth,
 }
 
-/// What the first record of an event says: of a group its id and how many bios follow, 1 to 128.
+/// What the first record of an event says: of a group its id and how many bios follow, 1 to [`MAX_SEGMENTS`].
 #[derive(Clone, Copy, Debug, PartialEq, Eq)]
 pub(crate) enum Head {
     Tick,
@@ -82,7 +83,7 @@ fn head_slots(word: EventWord) -> [Slot; WIDTH]
 {
     let bios = Slot::Number {
         least: 1,
-        most: 128,
+        most: MAX_SEGMENTS,
     };
     let none = Slot::Blank;
     match word {

@@ -11,6 +11,7 @@ ghost use Rattle.blk_trace.specs.Traces.{Traced};
 ghost use Rattle.blk_text.specs.Script.{Scripted, IsScript, IsScriptOf, SpellsScript, SpellsVersion, ScriptFault, script_rows};
 ghost use Rattle.blk_text.specs.TraceRecords.{trace_rows, IsTrace};
 ghost use Rattle.blk_text.specs.TraceForm.{trace_form, trace_value, IsTraceOf, SpellsTraceIn, SpellsTrace, TraceFault};
+ghost use Rattle.blk_text.specs.Versions.{latest};
 ghost use Rattle.blk_text.specs.declared.fault.Why.{Why as AWhy};
 
 /// A list of records spells one depth and one list of commands at most.
@@ -102,11 +103,11 @@ pub fn traces_are_spelled_once()
         → (version ≡ other) × (t.setup ≡ u.setup) × (t.events ≡ u.events) }
 {}
 
-/// The text of a trace reads back as its records, which spell it where it is legal: that which is written, and that in a
+/// The text of a trace reads back as its records, which spell it where it is legal: that which is written, in the latest version, and that in a
 /// version that has its tags and its events.
 pub fn traces_read_back()
     ensures rows { (t : Traced) → records default_config (strip_bom (rows_text (trace_rows t))) ≡ trace_rows t }
-    ensures spell { (t : Traced) → IsTrace t → SpellsTrace (trace_rows t) t }
+    ensures spell { (t : Traced) → IsTrace t → SpellsTraceIn latest (trace_rows t) t }
     ensures versions { (version : ℕ) → (t : Traced) → IsTrace t → IsTraceOf version t
         → SpellsTraceIn version (records default_config (strip_bom (rows_text (trace_form.rows_of (trace_value version t))))) t }
 {}

@@ -19,10 +19,12 @@ pub mod source;
 pub mod trace;
 
 pub use crate::certificate::{Certificate, read_certificate, write_certificate};
-pub use crate::commands::{MOST_COMMANDS, read_commands, write_commands};
+pub use crate::commands::{read_commands, write_commands};
 pub use crate::draft::Draft;
 pub use crate::events::read_trace;
 pub use crate::fault::{TextFault, Why, WriteFault};
-pub use crate::script::{Line, MOST_STEPS, Script, read_script};
+pub use crate::script::{
+    Line, MAX_ROUNDS, MAX_SOFT_DEPTH, MAX_SUBMITTERS, MOST_STEPS, Script, read_script,
+};
 pub use crate::source::Records;
 pub use crate::trace::write_trace;

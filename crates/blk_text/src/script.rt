@@ -8,6 +8,8 @@ ghost use Rattle.blk_text.specs.Words.{StartsWith};
 ghost use Rattle.blk_text.specs.Fields.{FieldsSpell};
 ghost use Rattle.blk_text.specs.BioRecord.{bio_row, direction_text};
 ghost use Rattle.blk_text.specs.Script.{StandsIn, word_of, step_cells, step, LineFits, IsScript, SpellsScript, ScriptFault, scripted, script_form};
+ghost use Rattle.blk_bio.specs.declared.limits.TheConstants.{MAX_QUEUES as MOST_QUEUES};
+ghost use Rattle.blk_text.specs.declared.script.TheConstants.{MAX_SUBMITTERS as MOST_SUBMITTERS};
 ghost use Rattle.blk_text.specs.declared.fields.Slot.TheVariants as slot;
 ghost use Rattle.blk_text.specs.declared.script.Word.{Word as AWord};
 
@@ -16,20 +18,26 @@ use crate::fields::{
     ANY, Slot, TAG, WIDTH, direction_of, field, parse_number, read_fields, version_of, without_word,
 };
 use crate::items::{LineForm, read_line, read_lines};
-use crate::setup::{SetupForm, most_depth};
+use crate::setup::{LATEST, SetupForm, most_tags};
 use crate::source::Records;
-use blk_bio::{Bio, BioId, Dir};
-use blk_trace::Setup;
+use blk_bio::{Bio, BioId, Dir, MAX_QUEUES};
+use blk_trace::{MAX_EVENTS, Setup};
 use csv::ByteRecord;
 use parts::Repeats;
 use std::alloc::Global;
 use std::io::Read;
 
-/// The latest version of scripts.
-const LATEST: u64 = 2;
-
 /// The most steps of a script.
 pub const MOST_STEPS: u64 = 999_998;
+
+/// The most requests of a software queue.
+pub const MAX_SOFT_DEPTH: u64 = 1024;
+
+/// The most submitters.
+pub const MAX_SUBMITTERS: u64 = 64;
+
+/// The most rounds of a run: each is an event of the trace.
+pub const MAX_ROUNDS: u64 = MAX_EVENTS;
 
 /// A step of a script, each one record of it.
 #[derive(Clone, Copy, Debug, PartialEq, Eq)]
@@ -50,7 +58,7 @@ pub enum Line {
     Depth(u64),
     /// A round ends.
     Tick,
-    /// So many rounds of work are done, 1 to 1,000,000.
+    /// So many rounds of work are done, 1 to [`MAX_ROUNDS`].
     Run(u64),
 }
 
@@ -59,11 +67,11 @@ pub enum Line {
 pub struct Script {
     /// The tags, the hardware queues, the expiries in rounds and the limits of requests.
     pub setup: Setup,
-    /// How many requests a software queue has room for, 1 to 1024.
+    /// How many requests a software queue has room for, 1 to [`MAX_SOFT_DEPTH`].
     pub soft_depth: u64,
-    /// How many submitters there are, 1 to 64 and at least as many as hardware queues.
+    /// How many submitters there are, 1 to [`MAX_SUBMITTERS`] and at least as many as hardware queues.
     pub submitters: u64,
-    /// The steps in the order in which they are done, at most 999,998.
+    /// The steps in the order in which they are done, at most [`MOST_STEPS`].
     pub lines: Vec<Line>,
 }
 
@@ -123,8 +131,8 @@ pub(crate) struct StepForm {
     version: u64,
     hw: u8,
     submitters: u64,
-    ghost hw_in: { (1 ≤ hw) × (hw ≤ 16) },
-    ghost submitters_in: { (1 ≤ submitters) × (submitters ≤ 64) },
+    ghost hw_in: { (1 ≤ hw) × (hw ≤ MOST_QUEUES) },
+    ghost submitters_in: { (1 ≤ submitters) × (submitters ≤ MOST_SUBMITTERS) },
 }
 
 /// The slots of the steps that begin with a word.
@@ -141,7 +149,7 @@ fn step_slots(form: &StepForm, word: Word) -> [Slot; WIDTH]
     };
     let rounds = Slot::Number {
         least: 1,
-        most: 1_000_000,
+        most: MAX_ROUNDS,
     };
     let none = Slot::Blank;
     match word {
@@ -299,14 +307,20 @@ impl LineForm for TitleForm {
             Slot::Given,
             Slot::Number {
                 least: 1,
-                most: most_depth(version),
+                most: most_tags(version),
             },
-            Slot::Number { least: 1, most: 16 },
             Slot::Number {
                 least: 1,
-                most: 1024,
+                most: MAX_QUEUES as u64,
             },
-            Slot::Number { least: 1, most: 64 },
+            Slot::Number {
+                least: 1,
+                most: MAX_SOFT_DEPTH,
+            },
+            Slot::Number {
+                least: 1,
+                most: MAX_SUBMITTERS,
+            },
         ];
         match read_fields(row, &slots) {
             Ok(numbers) => {
@@ -347,7 +361,7 @@ pub fn read_script<R: Read + Drop>(
         IsOutside records.new.failed f.why ⊎ ScriptFault rows f.at f.why)) }
     // also where it came from outside: at most one past the last record, and no record before it is wrong
     ensures reached { IfErr result (λ f. Reaches script_form records.old.left 0 f.at) }
-    ensures reads { (1 ≤ records.new.at) × (records.new.at ≤ 1_000_001) }
+    ensures reads { (1 ≤ records.new.at) × (records.new.at ≤ MOST_STEPS + 3) }
     // the last thing that was asked for is the record after the steps, which there is not
     ensures end { IfOk result (λ s. records.new.at ≡ length s.lines.items + 3) }
 {

@@ -5,7 +5,9 @@ ghost use Rattle.csv.specs.Records.{fields_of};
 ghost use Rattle.blk_text.specs.Fields.{FieldsSpell};
 ghost use Rattle.blk_text.specs.Reads.{IsLine, IsWrongLine};
 ghost use Rattle.blk_text.specs.Words.{StartsWith};
-ghost use Rattle.blk_text.specs.SetupRecord.{setup_cells, most_depth as most_tags, setup as setup_part};
+ghost use Rattle.blk_text.specs.SetupRecord.{setup_cells, setup as setup_part};
+ghost use Rattle.blk_text.specs.Versions.{most_tags};
+ghost use Rattle.blk_bio.specs.declared.limits.TheConstants.{MAX_QUEUES as MOST_QUEUES};
 ghost use Rattle.blk_trace.specs.declared.setup.TheConstants.{MAX_DEPTH as MOST_DEPTH};
 ghost use Rattle.blk_text.specs.Tables.{slots_by};
 ghost use Rattle.blk_text.specs.declared.fields.Slot.TheVariants as slot;
@@ -13,15 +15,18 @@ ghost use Rattle.blk_text.specs.declared.fields.Slot.TheVariants as slot;
 use crate::fault::Why;
 use crate::fields::{Slot, WIDTH, begins_with, read_fields, without_word};
 use crate::items::LineForm;
-use blk_bio::Limits;
-use blk_trace::{MAX_DEPTH, Setup};
+use blk_bio::{Limits, MAX_QUEUES, MAX_SECTORS, MAX_SEGMENTS};
+use blk_trace::{EXPIRE_LIMIT, MAX_DEPTH, Setup};
 use csv::ByteRecord;
 
+/// The latest version of scripts and of traces, which is written.
+pub const LATEST: u64 = 2;
+
 /// The most tags of a version 1 script or trace.
-const MAX_DEPTH_1: u64 = 64;
+pub const MAX_DEPTH_1: u64 = 64;
 
 /// The most tags that a title may have in a version of scripts and of traces.
-pub fn most_depth(version: u64) -> u64
+pub fn most_tags(version: u64) -> u64
     ensures { result ≡ most_tags version }
 {
     match version {
@@ -33,7 +38,7 @@ pub fn most_depth(version: u64) -> u64
 /// The setup of the numbers of a record.
 fn setup_with(row: &ByteRecord, depth: u64, hw: u8, numbers: &[u64; WIDTH]) -> Setup
     requires depth { (0 < depth) × (depth ≤ MAX_DEPTH) }
-    requires hw { (0 < hw) × (hw ≤ 16) }
+    requires hw { (0 < hw) × (hw ≤ MAX_QUEUES) }
     requires starts { StartsWith (codes "setup") (fields_of row.now) }
     requires spells { FieldsSpell (slot.Given ∷ slots_by setup_cells) (fields_of row.now) numbers.now }
     ensures { IsLine (setup_part depth hw) (fields_of row.now) result }
@@ -50,7 +55,7 @@ fn setup_with(row: &ByteRecord, depth: u64, hw: u8, numbers: &[u64; WIDTH]) -> S
 /// The setup of a record, for so many tags and hardware queues.
 fn setup_at(row: &ByteRecord, depth: u64, hw: u8) -> Result<Setup, Why>
     requires depth { (0 < depth) × (depth ≤ MAX_DEPTH) }
-    requires hw { (0 < hw) × (hw ≤ 16) }
+    requires hw { (0 < hw) × (hw ≤ MAX_QUEUES) }
     ensures ok { IfOk result (IsLine (setup_part depth hw) (fields_of row.now)) }
     ensures err { IfErr result (IsWrongLine (setup_part depth hw) (fields_of row.now)) }
 {
@@ -59,7 +64,7 @@ fn setup_at(row: &ByteRecord, depth: u64, hw: u8) -> Result<Setup, Why>
     }
     let expire = Slot::Number {
         least: 0,
-        most: (1 << 40) - 1,
+        most: EXPIRE_LIMIT - 1,
     };
     let slots = [
         Slot::Given,
@@ -67,11 +72,11 @@ fn setup_at(row: &ByteRecord, depth: u64, hw: u8) -> Result<Setup, Why>
         expire,
         Slot::Number {
             least: 1,
-            most: 65_535,
+            most: MAX_SECTORS,
         },
         Slot::Number {
             least: 1,
-            most: 128,
+            most: MAX_SEGMENTS,
         },
         Slot::Blank,
     ];
@@ -87,7 +92,7 @@ pub(crate) struct SetupForm {
     pub depth: u64,
     pub hw: u8,
     ghost depth_in: { (0 < depth) × (depth ≤ MOST_DEPTH) },
-    ghost hw_in: { (0 < hw) × (hw ≤ 16) },
+    ghost hw_in: { (0 < hw) × (hw ≤ MOST_QUEUES) },
 }
 
 impl LineForm for SetupForm {

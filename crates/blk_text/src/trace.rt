@@ -10,12 +10,14 @@ ghost use Rattle.blk_text.specs.Cells.{IsPlainWord};
 ghost use Rattle.blk_text.specs.Drafts.{drafted};
 ghost use Rattle.blk_text.specs.SetupRecord.{setup_row, IsWholeSetup};
 ghost use Rattle.blk_text.specs.TraceRecords.{word_row, group_rows, event_rows, title_row, trace_rows, BioFits, EventFits, IsTrace};
-ghost use Rattle.blk_text.specs.TraceForm.{SpellsTrace};
+ghost use Rattle.blk_text.specs.TraceForm.{SpellsTrace, SpellsTraceIn};
+ghost use Rattle.blk_text.specs.Versions.{latest};
 
 use crate::block::{Block, write_whole};
 use crate::fault::WriteFault;
 use crate::pieces::{put, put_number, put_two};
-use blk_bio::{Bio, Dir};
+use crate::setup::LATEST;
+use blk_bio::{Bio, Dir, MAX_SEGMENTS};
 use blk_trace::{Event, Setup, Trace};
 use std::alloc::{AllocError, Allocator, Global};
 use std::io::Write;
@@ -127,7 +129,7 @@ fn push_group(draft: &mut Block, word: &[u8], id: u64, bios: &[Bio]) -> Result<(
 
 /// Adds the records of an event.
 fn push_event<A: Allocator + Clone>(draft: &mut Block, event: &Event<A>) -> Result<(), AllocError>
-    requires { length (bios_of (happened event.now)) ≤ 128 }
+    requires { length (bios_of (happened event.now)) ≤ MAX_SEGMENTS }
     ensures text { OnOk result (drafted draft.new ≡ drafted draft.old ++ rows_text (event_rows (happened event.now))) }
     ensures fits { OnOk result (EventFits (happened event.now)) }
 {
@@ -148,10 +150,10 @@ fn push_title(draft: &mut Block, setup: &Setup, count: u64) -> Result<(), AllocE
 {
     let start = draft.room()?;
     let buf = &mut draft.block;
-    let head = put(b"blk-trace,2,", buf, start);
-    let queues = put_two(setup.depth(), setup.hw() as u64, buf, head);
-    let mark = put(b",", buf, queues);
-    let end = put_number(count, buf, mark);
+    let head = put(b"blk-trace,", buf, start);
+    let tags = put_two(LATEST, setup.depth(), buf, head);
+    let mark = put(b",", buf, tags);
+    let end = put_two(setup.hw() as u64, count, buf, mark);
     draft.at = put(b",\n", buf, end);
     Ok(())
 }
@@ -188,7 +190,7 @@ fn trace_text<A: Allocator + Clone>(alloc: Global, trace: &Trace<A>) -> Result<V
     draft.finish()
 }
 
-/// Writes the text of a trace, in version 2, at once where all of it could be made: records of six fields, a title,
+/// Writes the text of a trace, in the latest version, at once where all of it could be made: records of six fields, a title,
 /// a setup, and the records of each event, those of a group's bios after its own in tile order.
 ///
 /// [`WriteFault::Write`]: the writer answered a fault; what it took before is out, and nothing says
@@ -201,6 +203,7 @@ pub fn write_trace<A: Allocator + Clone, W: Write>(
     ensures ok { OnOk result (Appends (W.contents writer.old) (W.contents writer.new) (rows_text (trace_rows trace.now))) }
     // the records of that text spell it: its numbers lie in the ranges of the form
     ensures spells { OnOk result (SpellsTrace (trace_rows trace.now) trace.now) }
+    ensures version { OnOk result (SpellsTraceIn latest (trace_rows trace.now) trace.now) }
     ensures memory { IfErr result (λ f. f ≡ WriteFault.Memory → writer.new ≡ writer.old) }
 {
     match trace_text(alloc, trace) {
