@@ -21,7 +21,7 @@ abbrev pub IsHwCount : List ℕ → ℕ → Type 0
 IsHwCount entries count = (hw : ℕ) → Contains entries hw ↔ (hw < count)
 
 -- a map, and how many hardware queues it has
-pub record IsCounted (entries : List ℕ) (count : ℕ) : Type 0 where
+pub record IsCountedMap (entries : List ℕ) (count : ℕ) : Type 0 where
   pub is_map : IsMap entries
   pub is_count : IsHwCount entries count
   pub some : 0 < count

@@ -6,7 +6,7 @@
 
 ghost use Rattle.std.specs.Prelude.{◌≡◌, ◌<◌, ◌≤◌, ◌+◌, ◌++◌, ◌∷◌, [], ◌↔◌, ℕ, IsTrue, All, Any, Contains, IfOk, IfErr, OnOk, OnErr, IfSome, IfNone, length, replicate, slice_index, slice_set};
 ghost use Rattle.std.specs.Bool.{OnTrue, OnFalse};
-ghost use Rattle.blk_hw.specs.Maps.{greatest_hw, IsMap, IsHwCount, IsCounted, IsMapAnswer};
+ghost use Rattle.blk_hw.specs.Maps.{greatest_hw, IsMap, IsHwCount, IsCountedMap, IsMapAnswer};
 ghost use Rattle.blk_hw.specs.Held.{held_in, TakesFirst};
 
 use blk_bio::MAX_QUEUES;
@@ -43,13 +43,13 @@ pub struct Map<A: Allocator = Global> {
 
 impl<A: Allocator> Model for Map<A> {
     ghost use Rattle.std.specs.Prelude.{List, ℕ};
-    ghost use Rattle.blk_hw.specs.Maps.{IsCounted};
+    ghost use Rattle.blk_hw.specs.Maps.{IsCountedMap};
 
     ghost Value = { List ℕ };
 
     ghost view = { λ m. m.entries.items };
 
-    ghost invariant = { λ m. IsCounted m.entries.items m.hw_count };
+    ghost invariant = { λ m. IsCountedMap m.entries.items m.hw_count };
 }
 
 impl<A: Allocator> Map<A> {

@@ -6,7 +6,7 @@ use Rattle.blk_bio.specs.declared.request.Side.{Side}
 use Rattle.blk_bio.specs.Bios.{Bio}
 use Rattle.blk_bio.specs.Limits.{Limits}
 use Rattle.blk_bio.specs.Requests.{IsJoinCandidate}
-use Rattle.blk_plug.specs.Plugs.{HasNoCandidate}
+use Rattle.blk_plug.specs.Plugs.{HasNoPlugCandidate}
 
 -- a place of the second slice, counted through both
 place_after : {X : Type 0} → (us ls : List X) (k : ℕ) → slice_get (us ++ ls) (length us + k) ≡ slice_get ls k
@@ -52,7 +52,7 @@ candidate_newer limits us ls es newcomer place side both best = record {
 }
 
 -- the candidate of the older slice is that of both where the newer one has none
-pub candidate_older : (limits : Limits) (us ls es : List (List Bio)) (newcomer : List Bio) (place : ℕ) (side : Side) → us ++ ls ≡ es → HasNoCandidate limits ls newcomer → IsJoinCandidate limits true us newcomer place side → IsJoinCandidate limits true es newcomer place side
+pub candidate_older : (limits : Limits) (us ls es : List (List Bio)) (newcomer : List Bio) (place : ℕ) (side : Side) → us ++ ls ≡ es → HasNoPlugCandidate limits ls newcomer → IsJoinCandidate limits true us newcomer place side → IsJoinCandidate limits true es newcomer place side
 candidate_older limits us ls es newcomer place side both none best = record {
   bios = best.bios;
   stands = ap (λ (l : List (List Bio)). slice_get l place) (sym both) ∙ place_before us ls place best.bios best.stands;
@@ -66,7 +66,7 @@ candidate_older limits us ls es newcomer place side both none best = record {
 }
 
 -- what fits none of either slice fits none of both
-pub none_both : (limits : Limits) (us ls es : List (List Bio)) (newcomer : List Bio) → us ++ ls ≡ es → HasNoCandidate limits ls newcomer → HasNoCandidate limits us newcomer → HasNoCandidate limits es newcomer
+pub none_both : (limits : Limits) (us ls es : List (List Bio)) (newcomer : List Bio) → us ++ ls ≡ es → HasNoPlugCandidate limits ls newcomer → HasNoPlugCandidate limits us newcomer → HasNoPlugCandidate limits es newcomer
 none_both limits us ls es newcomer both newer older k bios side at fits = elim (in_either us ls es k bios both at) [
   | inl h ↦ older k bios side h fits
   | inr (j, is, there) ↦ newer j bios side there fits

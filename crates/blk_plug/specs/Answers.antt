@@ -6,19 +6,19 @@ use Rattle.blk_plug.specs.declared.plug.Added.{Added}
 use Rattle.blk_plug.specs.declared.plug.Added.TheVariants.{New, Joined}
 use Rattle.blk_plug.specs.declared.plug.PlugFault.{PlugFault}
 use Rattle.blk_plug.specs.declared.plug.PlugFault.TheVariants.{Full, Memory}
-use Rattle.blk_plug.specs.Plugs.{most_requests, Plug, HasCandidate, HasNoCandidate, IsJoinedAt}
+use Rattle.blk_plug.specs.Plugs.{most_requests, Plug, HasPlugCandidate, HasNoPlugCandidate, IsJoinedAt}
 
 -- what each fault says of the plug and the bio
 abbrev pub IsPlugFault : Plug → Bio → PlugFault → Type 0
-IsPlugFault plug bio Full = HasNoCandidate plug.limits plug.requests (bio ∷ []) × (length plug.requests ≡ most_requests)
+IsPlugFault plug bio Full = HasNoPlugCandidate plug.limits plug.requests (bio ∷ []) × (length plug.requests ≡ most_requests)
 IsPlugFault plug bio Memory =
-    HasCandidate plug.limits plug.requests (bio ∷ [])
-    ⊎ (HasNoCandidate plug.limits plug.requests (bio ∷ []) × (length plug.requests < most_requests))
+    HasPlugCandidate plug.limits plug.requests (bio ∷ [])
+    ⊎ (HasNoPlugCandidate plug.limits plug.requests (bio ∷ []) × (length plug.requests < most_requests))
 
 -- what each answer of an addition says of the plug before and after it
 abbrev pub IsAddAnswer : Plug → Bio → Plug → Result Added (Bio × PlugFault) → Type 0
 IsAddAnswer old bio new (Ok New) =
-    HasNoCandidate old.limits old.requests (bio ∷ []) × (length old.requests < most_requests)
+    HasNoPlugCandidate old.limits old.requests (bio ∷ []) × (length old.requests < most_requests)
     × (new ≡ record { limits = old.limits; requests = old.requests ++ (bio ∷ []) ∷ [] })
 IsAddAnswer old bio new (Ok (Joined side)) =
     (place : ℕ) × IsJoinCandidate old.limits true old.requests (bio ∷ []) place side

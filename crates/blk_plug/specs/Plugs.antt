@@ -21,17 +21,17 @@ pub record IsPlug (plug : Plug) : Type 0 where
   pub within : All (IsWithin plug.limits) plug.requests
 
 -- the bios of its requests, in their order
-abbrev pub bios_of : Plug → List Bio
-bios_of plug = flat_map (λ request. request) plug.requests
+abbrev pub bios_plugged : Plug → List Bio
+bios_plugged plug = flat_map (λ request. request) plug.requests
 
 -- some request is the one that the newcomer joins, at either side
-abbrev pub HasCandidate : Limits → List (List Bio) → List Bio → Type 0
-HasCandidate limits requests newcomer =
+abbrev pub HasPlugCandidate : Limits → List (List Bio) → List Bio → Type 0
+HasPlugCandidate limits requests newcomer =
     (place : ℕ) × ((side : Side) × IsJoinCandidate limits true requests newcomer place side)
 
 -- the newcomer fits no request, at neither side
-abbrev pub HasNoCandidate : Limits → List (List Bio) → List Bio → Type 0
-HasNoCandidate limits requests newcomer =
+abbrev pub HasNoPlugCandidate : Limits → List (List Bio) → List Bio → Type 0
+HasNoPlugCandidate limits requests newcomer =
     (k : ℕ) (bios : List Bio) (side : Side) → slice_get requests k ≡ Some bios → Fits limits bios newcomer side → ⊥
 
 -- the request at the place is joined by a bio at the side, and the others stand as they did

@@ -2,7 +2,7 @@
 
 ghost use Rattle.std.specs.Prelude.{◌∷◌, [], IfNone, IfSome, true};
 ghost use Rattle.blk_bio.specs.Requests.{IsJoinCandidate};
-ghost use Rattle.blk_plug.specs.Plugs.{HasNoCandidate};
+ghost use Rattle.blk_plug.specs.Plugs.{HasNoPlugCandidate};
 
 use blk_bio::{Bio, Limits, Request, Side};
 use std::alloc::Allocator;
@@ -15,7 +15,7 @@ fn candidate_of<A: Allocator + Clone>(
     limits: &Limits,
 ) -> Option<(usize, Side)>
     ensures some { IfSome result (λ found. IsJoinCandidate limits.now true requests.now (bio.now ∷ []) found.0 found.1) }
-    ensures none { IfNone result (HasNoCandidate limits.now requests.now (bio.now ∷ [])) }
+    ensures none { IfNone result (HasNoPlugCandidate limits.now requests.now (bio.now ∷ [])) }
 {
     let mut place = requests.len();
     while place > 0 {
@@ -34,7 +34,7 @@ pub fn candidate<A: Allocator + Clone>(
     limits: &Limits,
 ) -> Option<(usize, Side)>
     ensures some { IfSome result (λ found. IsJoinCandidate limits.now true requests.now.items (bio.now ∷ []) found.0 found.1) }
-    ensures none { IfNone result (HasNoCandidate limits.now requests.now.items (bio.now ∷ [])) }
+    ensures none { IfNone result (HasNoPlugCandidate limits.now requests.now.items (bio.now ∷ [])) }
 {
     let (older, newer) = requests.as_slices();
     if let Some((place, side)) = candidate_of(newer, bio, limits) {

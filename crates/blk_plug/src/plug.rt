@@ -4,7 +4,7 @@ ghost use Rattle.std.specs.Prelude.{◌≡◌, ◌≤◌, ◌<◌, ◌∷◌, []
 ghost use Rattle.std.specs.Option.{option_copied};
 ghost use Rattle.blk_bio.specs.Requests.{IsWithin, IsJoinCandidate};
 ghost use Rattle.blk_bio.specs.Answers.{IsJoinAnswer};
-ghost use Rattle.blk_plug.specs.Plugs.{Plug as PlugFields, IsPlug, bios_of, IsJoinedAt};
+ghost use Rattle.blk_plug.specs.Plugs.{Plug as PlugFields, IsPlug, bios_plugged, IsJoinedAt};
 ghost use Rattle.blk_plug.specs.Answers.{IsAddAnswer};
 
 use crate::candidate::candidate;
@@ -71,7 +71,7 @@ impl<A: Allocator + Clone> Plug<A> {
         // what became of the bio or the fault, and the plug as it stands then
         ensures answer { IsAddAnswer self.old bio self.new result }
         // each bio of the plug stands in it once more as often as it did, and the added one once more
-        ensures kept { OnOk result (IsPermutation (bio ∷ bios_of self.old) (bios_of self.new)) }
+        ensures kept { OnOk result (IsPermutation (bio ∷ bios_plugged self.old) (bios_plugged self.new)) }
     {
         let found = candidate(&self.requests, &bio, &self.limits);
         let Some((place, side)) = found else {

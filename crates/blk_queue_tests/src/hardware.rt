@@ -2,7 +2,7 @@
 
 use crate::given::{Heap, bio, request};
 use blk_bio::Dir;
-use blk_hw::{HeldList, Map, MapFault};
+use blk_hw::{HeldList, HeldLists, Map, MapFault};
 use blk_sched::Queued;
 use refusing::Refusing;
 use std::alloc::Global;
@@ -78,6 +78,22 @@ fn holds(rt: &impl Abort, heap: Heap<'_>) {
         );
     }
     assert!(rt; held.take_first().is_none());
+}
+
+/// What came back from a hardware queue goes out to that one alone, first come first.
+#[test]
+fn held_by_hardware_queue(rt: HostRuntime) {
+    let heap = Refusing::new(rt.alloc());
+    let mut held = HeldLists::new(&heap, 3).expect(&rt, "memory");
+    assert!(rt; held.push(2, queued(&rt, &heap, 7)).is_ok());
+    assert!(rt; held.push(0, queued(&rt, &heap, 4)).is_ok());
+    assert!(rt; held.push(2, queued(&rt, &heap, 5)).is_ok());
+    assert!(rt; held.take_first(1).is_none());
+    assert_eq!(rt; held.take_first(2).expect(&rt, "the first of two").id, 7);
+    assert_eq!(rt; held.take_first(0).expect(&rt, "the only one").id, 4);
+    assert_eq!(rt; held.take_first(2).expect(&rt, "the second").id, 5);
+    assert!(rt; held.take_first(2).is_none());
+    assert!(rt; held.take_first(0).is_none());
 }
 
 #[test]

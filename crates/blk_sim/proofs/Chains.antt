@@ -6,11 +6,12 @@ use Rattle.std.proofs.lemmas.List.Sums.{sum_by-cons}
 use Rattle.blk_bio.specs.Bios.{Bio}
 use Rattle.blk_plug.specs.Plugs.{Plug}
 use Rattle.blk_soft.specs.Queues.{Queue}
+use Rattle.blk_trace.specs.Events.{IsUsed}
 use Rattle.blk_core.specs.State.{CoreState}
 use Rattle.blk_core.specs.Faults.{IsInFlight}
 use Rattle.blk_sim.specs.declared.refusal.SimWhy.{SimWhy}
 use Rattle.blk_sim.specs.Moves.{Enters, EnterInTurn, drained, flushed_plug, with_requests, bios_in, Drains, DrainInTurn}
-use Rattle.blk_sim.specs.Rounds.{IsTaken, Gives, IssueInTurn, CompleteInTurn, Works}
+use Rattle.blk_sim.specs.Rounds.{Gives, IssueInTurn, CompleteInTurn, Works}
 use Rattle.blk_core.specs.Calls.{Completes}
 use Rattle.blk_sim.specs.Working.{WorkInTurn}
 use Rattle.blk_sim.specs.Policies.{Policy}
@@ -116,7 +117,7 @@ pub issue_given : (policy : Policy) (n : ℕ) (a b c : CoreState) → IssueInTur
 unfolding IssueInTurn
 issue_given policy n a b c h d = rw add-one (b, h, inr d)
 
-pub issue_passed : (policy : Policy) (n : ℕ) (a b c : CoreState) → IssueInTurn policy n a b → IsTaken b n → c ≡ b → IssueInTurn policy (n + 1) a c
+pub issue_passed : (policy : Policy) (n : ℕ) (a b c : CoreState) → IssueInTurn policy n a b → IsUsed b.events n → c ≡ b → IssueInTurn policy (n + 1) a c
 unfolding IssueInTurn
 issue_passed policy n a b c h t e = rw add-one (b, h, inl (t, e))
 

@@ -8,12 +8,12 @@ use Rattle.blk_bio.specs.Bios.{Bio}
 use Rattle.blk_trace.specs.Happened.{Happened}
 use Rattle.blk_trace.specs.Events.{entered, round_of, bios_of, is_tick}
 use Rattle.blk_core.specs.State.{CoreState}
-use Rattle.blk_core.specs.Calls.{Adds, Places}
+use Rattle.blk_core.specs.Calls.{AddsEvent, Places}
 use Rattle.blk_core.specs.declared.Placed.{Placed}
 use Rattle.blk_core.specs.declared.Placed.TheVariants.{New, Joined}
 use Rattle.blk_sim.specs.Moves.{Enters, EnterInTurn, bios_in}
 use Rattle.blk_sim.specs.Policies.{Policy}
-use Rattle.blk_sim.specs.Simulated.{Passed, Took}
+use Rattle.blk_sim.specs.Simulated.{Passed, TookIn}
 
 -- how many of a list with one more pass a test
 count_more : (t : Happened → Bool) (es : List Happened) (e : Happened) → count_by t (es ++ e ∷ []) ≡ count_by t es + cond (t e) 1 0
@@ -28,7 +28,7 @@ unfolding round_of
 rounds_more es es' e h = ap (count_by is_tick) h ∙ count_more is_tick es e
 
 -- an event by which nothing enters
-pub adds_passed : (old new : CoreState) (e : Happened) (n : ℕ) → Adds old e new → bios_of e ≡ [] → cond (is_tick e) 1 0 ≡ n → Passed n old new
+pub adds_passed : (old new : CoreState) (e : Happened) (n : ℕ) → AddsEvent old e new → bios_of e ≡ [] → cond (is_tick e) 1 0 ≡ n → Passed n old new
 adds_passed old new e n a none ticks = record {
   setup = a.0;
   entered_same = entered_more old.events new.events e a.1 ∙ ap (λ r. entered old.events ++ r) none ∙ append-nil (entered old.events);
@@ -36,7 +36,7 @@ adds_passed old new e n a none ticks = record {
 }
 
 -- an event by which bios enter
-pub adds_took : (old new : CoreState) (e : Happened) (bios : List Bio) → Adds old e new → bios_of e ≡ bios → is_tick e ≡ false → Took bios old new
+pub adds_took : (old new : CoreState) (e : Happened) (bios : List Bio) → AddsEvent old e new → bios_of e ≡ bios → is_tick e ≡ false → TookIn bios old new
 adds_took old new e bios a these no_tick = record {
   setup = a.0;
   took = entered_more old.events new.events e a.1 ∙ ap (λ r. entered old.events ++ r) these;
@@ -49,21 +49,21 @@ passed_same old new e = record { setup = ap (λ (c : CoreState). c.setup) e; ent
 pub passed_trans : (m n : ℕ) (a b c : CoreState) → Passed m a b → Passed n b c → Passed (m + n) a c
 passed_trans m n a b c p q = record { setup = q.setup ∙ p.setup; entered_same = q.entered_same ∙ p.entered_same; ticks = let x = p.ticks in let y = q.ticks in omega arith }
 
-pub took_trans : (xs ys : List Bio) (a b c : CoreState) → Took xs a b → Took ys b c → Took (xs ++ ys) a c
+pub took_trans : (xs ys : List Bio) (a b c : CoreState) → TookIn xs a b → TookIn ys b c → TookIn (xs ++ ys) a c
 took_trans xs ys a b c p q = record { setup = q.setup ∙ p.setup; took = q.took ∙ ap (λ r. r ++ ys) p.took ∙ append_assoc (entered a.events) xs ys; ticks = q.ticks ∙ p.ticks }
 
 -- a request that entered, and requests that entered one after the other
-placed_took : (policy : Policy) (old new : CoreState) (bios : List Bio) (hw : ℕ) (p : Placed) → Places policy.serves old bios hw p new → Took bios old new
+placed_took : (policy : Policy) (old new : CoreState) (bios : List Bio) (hw : ℕ) (p : Placed) → Places policy.serves old bios hw p new → TookIn bios old new
 placed_took policy old new bios hw (New id) a = adds_took _ _ _ bios a.2 refl refl
 placed_took policy old new bios hw (Joined id side) a = adds_took _ _ _ bios a.1 refl refl
 
-pub enters_took : (policy : Policy) (hw : ℕ) (bios : List Bio) (old new : CoreState) → Enters policy hw bios old new → Took bios old new
+pub enters_took : (policy : Policy) (hw : ℕ) (bios : List Bio) (old new : CoreState) → Enters policy hw bios old new → TookIn bios old new
 enters_took policy hw bios old new h = placed_took policy old new bios hw h.0 h.2
 
-took_none : (a b : CoreState) → b ≡ a → Took [] a b
+took_none : (a b : CoreState) → b ≡ a → TookIn [] a b
 took_none a b e = record { setup = ap (λ (c : CoreState). c.setup) e; took = ap (λ (c : CoreState). entered c.events) e ∙ sym (append-nil (entered a.events)); ticks = ap (λ (c : CoreState). round_of c.events) e }
 
-pub chain_took : (policy : Policy) (hw : ℕ) (requests : List (List Bio)) (a b : CoreState) → EnterInTurn policy hw requests a b → Took (bios_in requests) a b
+pub chain_took : (policy : Policy) (hw : ℕ) (requests : List (List Bio)) (a b : CoreState) → EnterInTurn policy hw requests a b → TookIn (bios_in requests) a b
 unfolding EnterInTurn
 chain_took policy hw [] a b e = took_none a b e
 chain_took policy hw (x ∷ xs) a b e = took_trans x (bios_in xs) a e.0 b (enters_took policy hw x a e.0 e.1) (chain_took policy hw xs e.0 b e.2)

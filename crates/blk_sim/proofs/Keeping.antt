@@ -27,7 +27,7 @@ use Rattle.blk_text.specs.declared.script.Line.TheVariants as line
 use Rattle.blk_sim.specs.Simulation.{ticks_of}
 use Rattle.blk_sim.specs.State.{SimState, start_of}
 use Rattle.blk_sim.specs.Moves.{bios_in, flushed_plug, with_requests, drained, AreEmptied, Drains, DrainInTurn}
-use Rattle.blk_sim.specs.Rounds.{Asks, Ticks, IssueInTurn, CompleteInTurn, Works, Round, Rounds}
+use Rattle.blk_sim.specs.Rounds.{AsksQueue, Ticks, IssueInTurn, CompleteInTurn, Works, Round, Rounds}
 use Rattle.blk_sim.specs.Runs.{Steps}
 use Rattle.blk_sim.specs.Simulated.{Placing, AreDrained, nobody, is_served, stepped, Stands, HaveCome, IsReady, Passed}
 use Rattle.blk_sim.proofs.Picking.{set_cases}
@@ -42,7 +42,7 @@ issues_passed : (policy : Policy) (hw tag : ℕ) (a b : CoreState) (found : Opti
 issues_passed policy hw tag a b None h = passed_same a b h.0
 issues_passed policy hw tag a b (Some command) h = adds_passed a b _ 0 h.2 refl refl
 
-pub asks_passed : (policy : Policy) (hw tag : ℕ) (a b : CoreState) (found : Option Command) → Asks policy hw tag a found b → Passed 0 a b
+pub asks_passed : (policy : Policy) (hw tag : ℕ) (a b : CoreState) (found : Option Command) → AsksQueue policy hw tag a found b → Passed 0 a b
 asks_passed policy hw tag a b found h = issues_passed policy hw tag a b found h.1
 
 pub completes_passed : (policy : Policy) (tag : ℕ) (a b : CoreState) → Completes policy.told_done a tag b → Passed 0 a b

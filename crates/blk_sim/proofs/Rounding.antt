@@ -13,7 +13,7 @@ use Rattle.blk_core.specs.Faults.{IsInFlight}
 use Rattle.blk_sim.specs.declared.refusal.SimWhy.{SimWhy}
 use Rattle.blk_sim.specs.declared.refusal.SimWhy.TheVariants as why
 use Rattle.blk_sim.specs.Moves.{EnterInTurn, requests_in, served_requests, drained, DrainInTurn}
-use Rattle.blk_sim.specs.Rounds.{Asks, queue_asked, GiveNothing, IsGiven, IssueInTurn, IssuesAll, CompleteInTurn, Works, Rounds}
+use Rattle.blk_sim.specs.Rounds.{AsksQueue, queue_asked, GiveNothing, IsGiven, IssueInTurn, IssuesAll, CompleteInTurn, Works, Rounds}
 use Rattle.blk_sim.specs.Refusals.{IsWorkRefused, IsRunRefused, IsDrainInTurnRefused}
 use Rattle.blk_sim.specs.Working.{WorkInTurn, IsWorkInTurnRefused}
 use Rattle.blk_sim.proofs.Chains.{enter_none, drained_already, complete_done, complete_passed}
@@ -21,13 +21,13 @@ use Rattle.blk_sim.specs.Policies.{Policy}
 use Rattle.blk_sim.proofs.Draining.{drained_none}
 
 -- one more hardware queue that gives nothing for a tag
-pub nothing_more : (policy : Policy) (tag count k : ℕ) (a b c : CoreState) (found : Option Command) → count ≡ a.setup.hw → b ≡ a → Asks policy (queue_asked count tag k) tag b found c → found ≡ None → GiveNothing policy tag k a → (c ≡ a) × GiveNothing policy tag (k + 1) a
+pub nothing_more : (policy : Policy) (tag count k : ℕ) (a b c : CoreState) (found : Option Command) → count ≡ a.setup.hw → b ≡ a → AsksQueue policy (queue_asked count tag k) tag b found c → found ≡ None → GiveNothing policy tag k a → (c ≡ a) × GiveNothing policy tag (k + 1) a
 nothing_more policy tag count k a b c found e same h none before =
-    let asks : Asks policy (queue_asked a.setup.hw tag k) tag a None c = subst (λ n. Asks policy (queue_asked n tag k) tag a None c) e (subst (λ x. Asks policy (queue_asked count tag k) tag x None c) same (subst (λ o. Asks policy (queue_asked count tag k) tag b o c) none h)) in
+    let asks : AsksQueue policy (queue_asked a.setup.hw tag k) tag a None c = subst (λ n. AsksQueue policy (queue_asked n tag k) tag a None c) e (subst (λ x. AsksQueue policy (queue_asked count tag k) tag x None c) same (subst (λ o. AsksQueue policy (queue_asked count tag k) tag b o c) none h)) in
     let stays : c ≡ a = asks.1.0 in (
       stays,
       λ j lt. elim (cases_eq j k) [
-        | inl s ↦ subst (λ i. Asks policy (queue_asked a.setup.hw tag i) tag a None a) (sym s) (subst (λ x. Asks policy (queue_asked a.setup.hw tag k) tag a None x) stays asks)
+        | inl s ↦ subst (λ i. AsksQueue policy (queue_asked a.setup.hw tag i) tag a None a) (sym s) (subst (λ x. AsksQueue policy (queue_asked a.setup.hw tag k) tag a None x) stays asks)
         | inr o ↦ before j (omega (arith, lt, o))
       ],
     )

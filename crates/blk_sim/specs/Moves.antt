@@ -2,10 +2,10 @@
 use Rattle.std.specs.Prelude.{[], ◌∷◌, ◌≡◌, ◌≢◌, ◌+◌, ◌≤◌, ◌%◌, ◌==◌, ◌++◌, ℕ, zero, suc, cond, List, Option, Some, None, Ok, length, slice_get, slice_set, flat_map, IsPermutation}
 use Rattle.std.specs.Option.{option_map}
 use Rattle.blk_bio.specs.Bios.{Bio}
-use Rattle.blk_plug.specs.Plugs.{Plug, bios_of}
+use Rattle.blk_plug.specs.Plugs.{Plug, bios_plugged}
 use Rattle.blk_plug.specs.Answers.{IsAddAnswer}
 use Rattle.blk_plug.specs.declared.plug.Added.{Added}
-use Rattle.blk_soft.specs.Queues.{Queue, held_of}
+use Rattle.blk_soft.specs.Queues.{Queue, bios_held}
 use Rattle.blk_core.specs.State.{CoreState}
 use Rattle.blk_core.specs.Calls.{Places}
 use Rattle.blk_core.specs.Faults.{CanRelease}
@@ -23,12 +23,12 @@ pub record AddsBio (old : List Plug) (b : Bio) (new : List Plug) : Type 0 where
   pub added : Added
   pub stands : slice_get old b.id.submitter ≡ Some own
   pub answer : IsAddAnswer own b grown (Ok added)
-  pub kept : IsPermutation (b ∷ bios_of own) (bios_of grown)
+  pub kept : IsPermutation (b ∷ bios_plugged own) (bios_plugged grown)
   pub changed : new ≡ slice_set old b.id.submitter grown
 
 -- a software queue has room for all requests of a plug
-abbrev pub HasRoom : Queue → Plug → Type 0
-HasRoom queue plug = length queue.requests + length plug.requests ≤ queue.depth
+abbrev pub HasSoftRoom : Queue → Plug → Type 0
+HasSoftRoom queue plug = length queue.requests + length plug.requests ≤ queue.depth
 
 -- a plug without its requests
 abbrev pub flushed_plug : Plug → Plug
@@ -50,7 +50,7 @@ pub record Flushes (plugs : List Plug) (queues : List Queue) (s : ℕ) (new_plug
   pub to : Queue
   pub own_stands : slice_get plugs s ≡ Some own
   pub to_stands : slice_get queues s ≡ Some to
-  pub room : HasRoom to own
+  pub room : HasSoftRoom to own
   pub plugs_are : new_plugs ≡ slice_set plugs s (flushed_plug own)
   pub queues_are : new_queues ≡ slice_set queues s (with_requests to own.requests)
 
@@ -81,7 +81,7 @@ drained queue = record {
   limits = queue.limits;
   requests = [];
   bios_in = queue.bios_in;
-  bios_out = queue.bios_out + held_of queue;
+  bios_out = queue.bios_out + bios_held queue;
 }
 
 -- the requests of the software queues that a hardware queue of so many serves went, and the others stay

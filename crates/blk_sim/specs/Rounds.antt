@@ -1,9 +1,9 @@
 -- What a round of a script's `run` does.
-use Rattle.std.specs.Prelude.{◌≡◌, ◌+◌, ◌<◌, ◌≤◌, ◌%◌, ◌⊎◌, ℕ, zero, suc, Bool, true, false, List, Option, Some, None, IsSome}
+use Rattle.std.specs.Prelude.{◌≡◌, ◌+◌, ◌<◌, ◌≤◌, ◌%◌, ◌⊎◌, ℕ, zero, suc, Bool, true, false, List, Option, Some, None}
 use Rattle.edd_check.specs.declared.Command.{Command}
 use Rattle.blk_soft.specs.Queues.{Queue}
 use Rattle.blk_trace.specs.Depths.{depth_now}
-use Rattle.blk_trace.specs.Inside.Seats.{seat_at}
+use Rattle.blk_trace.specs.Events.{IsUsed}
 use Rattle.blk_core.specs.State.{CoreState}
 use Rattle.blk_core.specs.Calls.{Issues, Completes, Ends}
 use Rattle.blk_core.specs.Faults.{CanIssue, CanTick, IsInFlight}
@@ -11,16 +11,12 @@ use Rattle.blk_sim.specs.Policies.{Policy}
 use Rattle.blk_sim.specs.Moves.{DrainInTurn}
 
 -- a hardware queue is asked for a command under a tag, which it gives or not
-abbrev pub Asks : Policy → ℕ → ℕ → CoreState → Option Command → CoreState → Type 0
-Asks policy hw tag old found new = CanIssue old hw tag × Issues policy.serves policy.chooses old hw tag found new
+abbrev pub AsksQueue : Policy → ℕ → ℕ → CoreState → Option Command → CoreState → Type 0
+AsksQueue policy hw tag old found new = CanIssue old hw tag × Issues policy.serves policy.chooses old hw tag found new
 
 -- a round ends, and the scheduler is told of the new one
 abbrev pub Ticks : Policy → CoreState → CoreState → Type 0
 Ticks policy old new = CanTick old × Ends policy.told_tick old new
-
--- a tag was issued in the round that is on
-abbrev pub IsTaken : CoreState → ℕ → Type 0
-IsTaken core tag = IsSome (seat_at core.events tag)
 
 -- of so many hardware queues the one that is asked for a tag after so many others: from the tag modulo their number on,
 -- upward and round
@@ -29,7 +25,7 @@ queue_asked count tag k = ((tag % count) + k) % count
 
 -- the first n hardware queues that are asked for a tag give nothing
 abbrev pub GiveNothing : Policy → ℕ → ℕ → CoreState → Type 0
-GiveNothing policy tag n core = (k : ℕ) → k < n → Asks policy (queue_asked core.setup.hw tag k) tag core None core
+GiveNothing policy tag n core = (k : ℕ) → k < n → AsksQueue policy (queue_asked core.setup.hw tag k) tag core None core
 
 -- of the hardware queues that are asked for a tag the first that gives a command gave this one
 pub record Gives (policy : Policy) (tag : ℕ) (old new : CoreState) : Type 0 where
@@ -37,7 +33,7 @@ pub record Gives (policy : Policy) (tag : ℕ) (old new : CoreState) : Type 0 wh
   pub below : place < old.setup.hw
   pub nothing : GiveNothing policy tag place old
   pub command : Command
-  pub gave : Asks policy (queue_asked old.setup.hw tag place) tag old (Some command) new
+  pub gave : AsksQueue policy (queue_asked old.setup.hw tag place) tag old (Some command) new
 
 -- whether a hardware queue gave a command for a tag
 abbrev pub IsGiven : Policy → ℕ → CoreState → Bool → CoreState → Type 0
@@ -48,7 +44,7 @@ IsGiven policy tag old false new = GiveNothing policy tag old.setup.hw old × (n
 unfoldable pub IssueInTurn : Policy → ℕ → CoreState → CoreState → Type 0
 IssueInTurn policy zero old new = new ≡ old
 IssueInTurn policy (suc tag) old new =
-    (middle : CoreState) × IssueInTurn policy tag old middle × ((IsTaken middle tag × (new ≡ middle)) ⊎ Gives policy tag middle new)
+    (middle : CoreState) × IssueInTurn policy tag old middle × ((IsUsed middle.events tag × (new ≡ middle)) ⊎ Gives policy tag middle new)
 
 -- all tags below the depth of the round in turn, up to the first for which no hardware queue gives a command
 pub record IssuesAll (policy : Policy) (old new : CoreState) : Type 0 where

@@ -17,12 +17,12 @@ pub record Placing : Type 0 where
   pub place : Where
 
 -- a bio where these steps leave it, from its plug on
-abbrev pub placed_at : ℕ → List Line → Bio → Placing
-placed_at hw after b = record { bio = b; place = place_after hw b.id.submitter Plugged after }
+abbrev pub placing_of : ℕ → List Line → Bio → Placing
+placing_of hw after b = record { bio = b; place = place_after hw b.id.submitter Plugged after }
 
 -- a `bio` line's bio, where the steps after it leave it
 abbrev pub placed_by : ℕ → Line → List Line → List Placing
-placed_by hw l after = map (placed_at hw after) (added_by (effect_of l))
+placed_by hw l after = map (placing_of hw after) (added_by (effect_of l))
 
 -- where the steps leave the bios of their `bio` lines
 unfoldable pub placings : ℕ → List Line → List Placing
@@ -106,7 +106,7 @@ pub record Passed (rounds : ℕ) (old new : CoreState) : Type 0 where
   pub ticks : round_of new.events ≡ round_of old.events + rounds
 
 -- bios entered the core in the round that is on
-pub record Took (bios : List Bio) (old new : CoreState) : Type 0 where
+pub record TookIn (bios : List Bio) (old new : CoreState) : Type 0 where
   pub setup : new.setup ≡ old.setup
   pub took : entered new.events ≡ entered old.events ++ bios
   pub ticks : round_of new.events ≡ round_of old.events

@@ -2,9 +2,10 @@
 
 ghost use Rattle.std.specs.Prelude.{IsTrue, ◌↔◌, ◌≡◌, ◌≢◌, ◌≤◌, ◌<◌, ℕ, Some, slice_get, OnOk, OnErr, IfOk, IfErr, length};
 ghost use Rattle.blk_soft.specs.Queues.{Queue as QueueFields};
+ghost use Rattle.blk_trace.specs.Events.{IsUsed};
 ghost use Rattle.blk_sim.specs.Policies.{policy_of};
 ghost use Rattle.blk_sim.specs.Moves.{DrainInTurn};
-ghost use Rattle.blk_sim.specs.Rounds.{IsGiven, IsTaken, IssuesAll, CompleteInTurn, Works, Rounds};
+ghost use Rattle.blk_sim.specs.Rounds.{IsGiven, IssuesAll, CompleteInTurn, Works, Rounds};
 ghost use Rattle.blk_sim.specs.Refusals.{IsAskRefused, IsIssueInTurnRefused, IsWorkRefused, IsDrainInTurnRefused, IsRunRefused};
 ghost use Rattle.blk_sim.specs.Simulated.{IsSpread};
 ghost use Rattle.blk_sim.specs.Working.{WorkInTurn, IsWorkInTurnRefused};
@@ -12,7 +13,7 @@ ghost use Rattle.blk_sim.specs.Working.{WorkInTurn, IsWorkInTurnRefused};
 use crate::refusal::SimWhy;
 use crate::steps::{done, drain, issue, tick};
 use blk_core::Core;
-use blk_core::laws::{in_flight_is_open, listed_issues_are_open, open_picks_are_open_issues};
+use blk_core::laws::{listed_issues_are_open, open_picks_are_open_issues};
 use blk_hw::Map;
 use blk_sched::Scheduler;
 use blk_soft::SoftQueue;
@@ -22,7 +23,7 @@ use blk_trace::MAX_DEPTH;
 /// gives one, and says whether one did.
 fn issue_tag<S: Scheduler>(core: &mut Core<S>, tag: u16) -> Result<bool, SimWhy>
     ensures given { IfOk result (λ given. IsGiven (policy_of S.serves S.chooses S.told_done S.told_tick) tag core.old given core.new) }
-    ensures taken { IfErr result (λ w. w ≡ SimWhy.SlotUsed → IsTaken core.old tag) }
+    ensures used { IfErr result (λ w. w ≡ SimWhy.SlotUsed → IsUsed core.old.events tag) }
     ensures refused { IfErr result (λ w. w ≢ SimWhy.SlotUsed → IsAskRefused (policy_of S.serves S.chooses S.told_done S.told_tick) tag core.old w) }
     ensures same { OnErr result (core.new ≡ core.old) }
 {
@@ -76,7 +77,6 @@ fn complete_all<S: Scheduler>(core: &mut Core<S>)
     let depth = core.trace().setup().depth() as u16;
     for tag in 0..depth {
         if core.trace().unfinished() == 0 {
-            in_flight_is_open();
             listed_issues_are_open();
             open_picks_are_open_issues();
             return;

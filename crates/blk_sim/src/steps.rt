@@ -8,8 +8,8 @@ ghost use Rattle.blk_soft.specs.Queues.{Queue as QueueFields};
 ghost use Rattle.blk_core.specs.Calls.{Completes, TakesBack, SetsDepth};
 ghost use Rattle.blk_core.specs.Faults.{IsInFlight, CanSetDepth};
 ghost use Rattle.blk_sim.specs.Policies.{policy_of};
-ghost use Rattle.blk_sim.specs.Moves.{AddsBio, Flushes, HasRoom, flushed_plug, with_requests, bios_in, Enters, EnterInTurn, drained, Drains};
-ghost use Rattle.blk_sim.specs.Rounds.{Asks, Ticks};
+ghost use Rattle.blk_sim.specs.Moves.{AddsBio, Flushes, HasSoftRoom, flushed_plug, with_requests, bios_in, Enters, EnterInTurn, drained, Drains};
+ghost use Rattle.blk_sim.specs.Rounds.{AsksQueue, Ticks};
 ghost use Rattle.blk_sim.specs.Refusals.{IsBioRefused, IsFlushRefused, IsOverfull, IsReleaseRefused, IsIssueRefused, IsBackRefused, IsDepthRefused, IsTickRefused, IsMoveRefused, IsDrainRefused};
 ghost use Rattle.blk_sim.specs.Simulated.{HaveCome, IsSpread};
 
@@ -47,7 +47,7 @@ pub(crate) fn issue<S: Scheduler>(
     tag: u16,
 ) -> Result<Option<Command>, SimWhy>
     requires { hw < core.old.setup.hw }
-    ensures asked { IfOk result (λ found. Asks (policy_of S.serves S.chooses S.told_done S.told_tick) hw tag core.old found core.new) }
+    ensures asked { IfOk result (λ found. AsksQueue (policy_of S.serves S.chooses S.told_done S.told_tick) hw tag core.old found core.new) }
     ensures refused { IfErr result (λ w. IsIssueRefused core.old hw tag w) }
     ensures same { OnErr result (core.new ≡ core.old) }
 {
@@ -113,7 +113,7 @@ fn flush_plug<A: Allocator + Clone>(
     requires few { queue.old.bios_in + length (bios_in plug.old.requests) ≤ 2 ^ 40 }
     ensures emptied { OnOk result (plug.new ≡ flushed_plug plug.old) }
     ensures moved { OnOk result (queue.new ≡ with_requests queue.old plug.old.requests) }
-    ensures room { OnOk result (HasRoom queue.old plug.old) }
+    ensures room { OnOk result (HasSoftRoom queue.old plug.old) }
     ensures refused { IfErr result (λ w. (w ≡ SimWhy.SoftFull) × IsOverfull queue.old plug.old) }
 {
     prove!(queue.len() as u64 <= queue.depth());

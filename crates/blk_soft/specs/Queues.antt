@@ -21,8 +21,8 @@ pub record Queue : Type 0 where
   pub bios_out : ℕ
 
 -- how many bios the requests of a queue have
-abbrev pub held_of : Queue → ℕ
-held_of queue = sum_by length queue.requests
+abbrev pub bios_held : Queue → ℕ
+bios_held queue = sum_by length queue.requests
 
 -- at least one and at most the greatest depth, no more requests than that, each within the limits, and what came is what went or is held
 pub record IsQueue (queue : Queue) : Type 0 where
@@ -30,5 +30,5 @@ pub record IsQueue (queue : Queue) : Type 0 where
   pub few_depth : queue.depth ≤ greatest_depth
   pub room : length queue.requests ≤ queue.depth
   pub within : All (IsWithin queue.limits) queue.requests
-  pub held : queue.bios_in ≡ queue.bios_out + held_of queue
+  pub held : queue.bios_in ≡ queue.bios_out + bios_held queue
   pub few_bios : queue.bios_in ≤ most_bios

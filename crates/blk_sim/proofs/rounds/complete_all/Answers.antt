@@ -1,7 +1,7 @@
 use Rattle.std.proofs.Common.{arith, ◌≡◌, ◌<◌, ◌≤◌, ◌∙◌, length, refl, sym, ap}
 use Rattle.std.proofs.lemmas.Option.{slice_get_within}
 use Rattle.blk_trace.specs.Setups.{Setup}
-use Rattle.blk_trace.specs.Events.{open_count, IsOpen}
+use Rattle.blk_trace.specs.Events.{open_count}
 use Rattle.blk_core.specs.Opens.{open_issues}
 use Rattle.blk_sim.specs.Policies.{policy_of}
 use Rattle.blk_sim.proofs.Chains.{complete_none, complete_idle}
@@ -18,8 +18,7 @@ returns-then-unfinished-eq0 g c =
     let legal = c.trace-in-loop-tag.ensures.legal in
     let few : length (open_issues c.loop-tag.core.events) ≡ open_count c.loop-tag.core.events = c.open_picks_are_open_issues.ensures.all c.loop-tag.core.setup c.loop-tag.core.events legal in
     let zero_open : open_count c.loop-tag.core.events ≡ 0 = sym (ap open_count c.trace-in-loop-tag.ensures.events) ∙ sym c.unfinished.ensures.value ∙ c.if-unfinished-eq0.true in
-    complete_idle (policy_of g.S.Scheduler.serves g.S.Scheduler.chooses g.S.Scheduler.told_done g.S.Scheduler.told_tick) c.loop-tag.tag c.args.core.now.setup.depth c.args.core.now c.loop-tag.core below c.loop-tag.invariant (λ tag f.
-    let is : IsOpen c.loop-tag.core.events tag = (c.in_flight_is_open.ensures c.loop-tag.core tag legal).0 f in
+    complete_idle (policy_of g.S.Scheduler.serves g.S.Scheduler.chooses g.S.Scheduler.told_done g.S.Scheduler.told_tick) c.loop-tag.tag c.args.core.now.setup.depth c.args.core.now c.loop-tag.core below c.loop-tag.invariant (λ tag is.
     let at = (c.listed_issues_are_open.ensures c.loop-tag.core.events is.id tag).1 (is, refl) in
     let within : at.0 < length (open_issues c.loop-tag.core.events) = slice_get_within (open_issues c.loop-tag.core.events) at.0 (is.id, tag) at.1 in
     absurd (omega (arith, within, few, zero_open)))

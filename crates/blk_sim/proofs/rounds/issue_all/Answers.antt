@@ -36,5 +36,5 @@ loop-tag-preserved g c = elim c.match-issue_tag.branch [
       (subst (λ v. IsGiven (policy_of g.S.Scheduler.serves g.S.Scheduler.chooses g.S.Scheduler.told_done g.S.Scheduler.told_tick) c.loop-tag.tag c.loop-tag.core v c.issue_tag.new.core) w.in-Ok-true.field-0-test w.in-Ok-true.ensures.given)
   | in-Err+else-not-is_used w ↦
       let used : w.in-Err.why ≡ why.SlotUsed = search rules in
-      issue_passed (policy_of g.S.Scheduler.serves g.S.Scheduler.chooses g.S.Scheduler.told_done g.S.Scheduler.told_tick) c.loop-tag.tag c.args.core.now c.loop-tag.core c.issue_tag.new.core c.loop-tag.invariant (w.in-Err.ensures.taken used) w.in-Err.ensures.same
+      issue_passed (policy_of g.S.Scheduler.serves g.S.Scheduler.chooses g.S.Scheduler.told_done g.S.Scheduler.told_tick) c.loop-tag.tag c.args.core.now c.loop-tag.core c.issue_tag.new.core c.loop-tag.invariant (w.in-Err.ensures.used used) w.in-Err.ensures.same
 ]
