@@ -1,4 +1,9 @@
+pub mod Services
+pub mod Spread
+pub mod SpreadText
+pub mod Misses
 pub mod Shortfall
 pub mod Comparison
 pub mod Lines
 pub mod Table
+pub mod Inside

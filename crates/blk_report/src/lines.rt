@@ -11,7 +11,11 @@ use std::alloc::{AllocError, Global};
 use std::io::Write;
 
 /// Adds a lateness, or `none`.
-fn push_late(draft: &mut Draft, alloc: Global, late: Option<i64>) -> Result<(), AllocError>
+pub(crate) fn push_late(
+    draft: &mut Draft,
+    alloc: Global,
+    late: Option<i64>,
+) -> Result<(), AllocError>
     ensures { OnOk result (draft.new ≡ draft.old ++ late_text late) }
 {
     match late {
