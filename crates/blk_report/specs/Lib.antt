@@ -2,6 +2,7 @@ pub mod Services
 pub mod Spread
 pub mod SpreadText
 pub mod Misses
+pub mod MissesText
 pub mod Shortfall
 pub mod Comparison
 pub mod Lines
