@@ -1,4 +1,10 @@
+pub mod Services
+pub mod Spread
+pub mod SpreadText
+pub mod Misses
+pub mod MissesText
 pub mod Shortfall
 pub mod Comparison
 pub mod Lines
 pub mod Table
+pub mod Inside

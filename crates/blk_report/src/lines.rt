@@ -11,7 +11,11 @@ use std::alloc::{AllocError, Global};
 use std::io::Write;
 
 /// Adds a lateness, or `none`.
-fn push_late(draft: &mut Draft, alloc: Global, late: Option<i64>) -> Result<(), AllocError>
+pub(crate) fn push_late(
+    draft: &mut Draft,
+    alloc: Global,
+    late: Option<i64>,
+) -> Result<(), AllocError>
     ensures { OnOk result (draft.new ≡ draft.old ++ late_text late) }
 {
     match late {
@@ -45,7 +49,7 @@ fn push_window(draft: &mut Draft, window: Option<Window>) -> Result<(), AllocErr
 }
 
 /// Adds the line of a number.
-fn push_number_line(draft: &mut Draft, word: &[u8], number: u64) -> Result<(), AllocError>
+pub(crate) fn push_number_line(draft: &mut Draft, word: &[u8], number: u64) -> Result<(), AllocError>
     ensures { OnOk result (draft.new ≡ draft.old ++ line_of word.now (decimal number)) }
 {
     draft.text(word)?;

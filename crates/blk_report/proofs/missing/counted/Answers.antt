@@ -1,0 +1,32 @@
+use Rattle.std.proofs.Common.{arith, map, ap, refl, ◌∙◌}
+use Rattle.blk_report.specs.Misses.{crowd_of}
+use Rattle.blk_report.proofs.Lateness.{all_commands, least_late}
+use Rattle.blk_report.proofs.missing.counted.Goals as goal
+
+pub overflow_sub-unavoidable : goal.overflow_sub-unavoidable
+overflow_sub-unavoidable g c =
+    let m = c.requires.most in
+    omega (arith, all_commands c.args.commands.now c.args.answer.now.rounds.items m.legal.one_each, m.number)
+
+pub overflow_sub-result : goal.overflow_sub-result
+overflow_sub-result g c =
+    let m = c.requires.most in
+    let legal = c.requires.legal in
+    omega (arith, all_commands c.args.commands.now c.args.rounds.now legal.one_each, m.most.most c.args.rounds.now legal, c.number_late-late.ensures)
+
+pub returns : goal.returns
+returns g c =
+    let m = c.requires.most in
+    let legal = c.requires.legal in
+    let met = all_commands c.args.commands.now c.args.answer.now.rounds.items m.legal.one_each in
+    let all = all_commands c.args.commands.now c.args.rounds.now legal.one_each in
+    record {
+      count_is = refl;
+      late_is = c.number_late-late.ensures;
+      least = least_late c.args.commands.now c.args.capacity.now c.args.answer.now.met _ m.most (omega (arith, met, m.number));
+      rest = omega (arith, all, m.most.most c.args.rounds.now legal, c.number_late-late.ensures);
+      cover = c.args.answer.now.cover.items;
+      disjoint = m.disjoint;
+      windows_are = c.in_ok-windows.ensures ∙ ap (λ l. map (crowd_of c.args.commands.now c.args.capacity.now) l) c.as_slice.ensures.value;
+      bound = omega (arith, m.bound, met, m.number);
+    }

@@ -1,0 +1,26 @@
+-- The direction and the range of each request, one event after the other.
+use Rattle.std.specs.Prelude.{ℕ, ◌==◌, cond, List, [], ◌∷◌, Option, Some, None}
+use Rattle.blk_bio.specs.Bios.{Bio}
+use Rattle.blk_bio.specs.Requests.{last_of}
+use Rattle.blk_report.specs.declared.serving.Range.{Range}
+
+-- that of a list of bios, if it has some
+abbrev pub range_of : List Bio → Option Range
+range_of [] = None
+range_of (b ∷ bs) = Some (record { dir = b.dir; first = b.first; end = last_of (b ∷ bs) })
+
+-- of a request with a newcomer at its back where that begins at its end, and else at its front
+abbrev pub joined_range : Range → Range → Range
+joined_range r n =
+    cond (n.first == r.end) (record { dir = r.dir; first = r.first; end = n.end }) (record { dir = n.dir; first = n.first; end = r.end })
+
+-- where there may be no request, or no newcomer
+abbrev pub joined_to : Option Range → Option Range → Option Range
+joined_to o None = o
+joined_to None (Some n) = Some n
+joined_to (Some r) (Some n) = Some (joined_range r n)
+
+-- what is under each id once bios entered under an id, if some did
+abbrev pub with_entry : (ℕ → Option Range) → Option (ℕ × List Bio) → ℕ → Option Range
+with_entry f None i = f i
+with_entry f (Some p) i = cond (p.0 == i) (joined_to (f p.0) (range_of p.1)) (f i)

@@ -1,0 +1,54 @@
+-- How long commands waited and how late they were, by quantiles.
+use Rattle.std.specs.Prelude.{ℕ, ◌≡◌, ◌+◌, ◌-◌, ◌*◌, ◌/◌, List, length, map, filter, slice_get, Option, ℤ, pos, ◌-ℤ◌, IsPermutation}
+use Rattle.std.specs.List.Sorted.{IsSorted}
+use Rattle.std.specs.Ordering.{int_cmp}
+use Rattle.blk_bio.specs.declared.bio.Dir.TheVariants.{Read, Write}
+use Rattle.blk_trace.specs.Setups.{same_dir}
+use Rattle.blk_report.specs.declared.serving.Service.{Service}
+use Rattle.blk_report.specs.declared.spreading.Quantiles.{Quantiles}
+use Rattle.blk_report.specs.declared.spreading.ByDir.{ByDir}
+use Rattle.blk_report.specs.declared.spreading.Spreads.{Spreads}
+
+-- how many rounds it waited for its Issue, and how many rounds after its due round that came
+abbrev pub wait_of : Service → ℤ
+wait_of s = pos s.issue -ℤ pos s.release
+
+abbrev pub late_by : Service → ℤ
+late_by s = pos s.issue -ℤ pos s.due
+
+-- the nearest rank: so many thousandths of n, rounded up
+abbrev pub nearest_rank : ℕ → ℕ → ℕ
+nearest_rank thousandths n = (thousandths * n + 999) / 1000
+
+-- of numbers in their order the one at that place, counted from 1, if there are some
+abbrev pub at_rank : ℕ → List ℤ → Option ℤ
+at_rank thousandths sorted = slice_get sorted (nearest_rank thousandths (length sorted) - 1)
+
+-- how many numbers in their order there are, and their quantiles
+abbrev pub quantiles_of : List ℤ → Quantiles
+quantiles_of sorted = record {
+  count = length sorted;
+  p50 = at_rank 500 sorted;
+  p90 = at_rank 900 sorted;
+  p99 = at_rank 990 sorted;
+  p999 = at_rank 999 sorted;
+  max = at_rank 1000 sorted;
+}
+
+-- those of the numbers, put in their order
+pub record IsQuantiles (values : List ℤ) (q : Quantiles) : Type 0 where
+  pub sorted : List ℤ
+  pub same : IsPermutation values sorted
+  pub rising : IsSorted int_cmp sorted
+  pub are : q ≡ quantiles_of sorted
+
+-- of the reads, of the writes and of all
+pub record AreQuantiles (f : Service → ℤ) (services : List Service) (b : ByDir) : Type 0 where
+  pub reads : IsQuantiles (map f (filter (λ s. same_dir s.dir Read) services)) b.reads
+  pub writes : IsQuantiles (map f (filter (λ s. same_dir s.dir Write) services)) b.writes
+  pub all : IsQuantiles (map f services) b.all
+
+-- how long these commands waited and how late they were
+pub record AreSpreads (services : List Service) (s : Spreads) : Type 0 where
+  pub wait : AreQuantiles wait_of services s.wait
+  pub lateness : AreQuantiles late_by services s.lateness

@@ -1,0 +1,73 @@
+//! What was late as text.
+
+ghost use Rattle.std.specs.Prelude.{◌≡◌, ◌++◌, IfOk, IfErr, OnOk};
+ghost use Rattle.std.specs.List.{flat_map};
+ghost use Rattle.std.specs.Io.KnownBytes.{Appends};
+ghost use Rattle.blk_report.specs.MissesText.{crowd_line, misses_text};
+
+use crate::lines::push_number_line;
+use crate::{Crowd, Missed};
+use blk_text::{Draft, WriteFault};
+use std::alloc::{AllocError, Allocator, Global};
+use std::io::Write;
+
+/// Adds the line of a window.
+fn push_crowd(draft: &mut Draft, crowd: &Crowd) -> Result<(), AllocError>
+    ensures { OnOk result (draft.new ≡ draft.old ++ crowd_line crowd.now) }
+{
+    draft.text(b"window ")?;
+    draft.number(crowd.window.from)?;
+    draft.text(b" ")?;
+    draft.number(crowd.window.due)?;
+    draft.text(b" commands ")?;
+    draft.number(crowd.commands)?;
+    draft.text(b" carries ")?;
+    draft.number(crowd.carries)?;
+    draft.text(b"\n")
+}
+
+/// Adds the lines of the windows.
+fn push_crowds(draft: &mut Draft, crowds: &[Crowd]) -> Result<(), AllocError>
+    ensures { OnOk result (draft.new ≡ draft.old ++ flat_map (λ c. crowd_line c) crowds.now) }
+{
+    for crowd in crowds {
+        push_crowd(draft, crowd)?;
+    }
+    Ok(())
+}
+
+/// All the lines.
+fn drafted<A: Allocator>(alloc: Global, missed: &Missed<A>) -> Result<Vec<u8>, AllocError>
+    ensures { IfOk result (λ v. v.items ≡ misses_text missed.now.commands missed.now.late missed.now.unavoidable missed.now.avoidable missed.now.windows.items) }
+{
+    let mut draft = Draft::new(alloc);
+    push_number_line(&mut draft, b"commands", missed.commands)?;
+    push_number_line(&mut draft, b"late", missed.late)?;
+    push_number_line(&mut draft, b"unavoidable", missed.unavoidable)?;
+    push_number_line(&mut draft, b"avoidable", missed.avoidable)?;
+    push_crowds(&mut draft, missed.windows.as_slice())?;
+    draft.finish()
+}
+
+/// Writes how many commands were late, at once where all of it could be made: the lines `commands N`, `late M`, `unavoidable U` and
+/// `avoidable A`, and one for each window, `window FROM UNTIL commands C carries K`: C commands are released and due in the rounds
+/// FROM to UNTIL, and these carry K.
+///
+/// [`WriteFault::Write`]: the writer answered a fault; what it took before is out, and nothing says how much that is.
+/// [`WriteFault::Memory`]: nothing was handed to the writer.
+pub fn write_misses<A: Allocator, W: Write>(
+    alloc: Global,
+    missed: &Missed<A>,
+    writer: &mut W,
+) -> Result<(), WriteFault>
+    ensures ok { OnOk result (Appends (W.contents writer.old) (W.contents writer.new) (misses_text missed.now.commands missed.now.late missed.now.unavoidable missed.now.avoidable missed.now.windows.items)) }
+    ensures memory { IfErr result (λ f. f ≡ WriteFault.Memory → writer.new ≡ writer.old) }
+{
+    let Ok(text) = drafted(alloc, missed) else {
+        return Err(WriteFault::Memory);
+    };
+    match writer.write_all(text.as_slice()) {
+        Ok(()) => Ok(()),
+        Err(_) => Err(WriteFault::Write),
+    }
+}

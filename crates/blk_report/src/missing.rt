@@ -1,0 +1,169 @@
+//! How many commands of a trace were late, and how many of them had to be.
+
+ghost use Rattle.std.specs.Prelude.{ℕ, ◌≡◌, ◌≤◌, ◌<◌, ◌&&◌, IfOk, IfSome, length, map, slice_index_or};
+ghost use Rattle.edd_check.specs.declared.Window.{Window as Span};
+ghost use Rattle.edd_check.specs.Limits.{most_commands};
+ghost use Rattle.edd_check.specs.Schedule.{IsLegal};
+ghost use Rattle.edd_check.specs.Met.{can_be_met, lies_in, inside_of, IsCover, CoverInRange};
+ghost use Rattle.edd_oracle.specs.Met.{IsMostAnswer};
+ghost use Rattle.blk_trace.specs.Depths.{capacity_of};
+ghost use Rattle.blk_trace.specs.Meaning.{commands_of, rounds_of};
+ghost use Rattle.blk_report.specs.Misses.{number_late, crowd_of, AreMisses};
+ghost use Rattle.blk_report.specs.Inside.Placed.{is_place};
+
+use blk_trace::Trace;
+use edd_check::{Capacity, Command, Window, carried_in};
+use edd_oracle::{MostMet, most_met};
+use std::alloc::{AllocError, Allocator, Global};
+
+/// A window of rounds, and what is asked of them.
+#[derive(Clone, Copy, Debug, PartialEq, Eq)]
+pub struct Crowd {
+    /// The window: its rounds are `from` to `due`, both in it.
+    pub window: Window,
+    /// How many commands are released by their due round, with both of these among its rounds: on time they run there.
+    pub commands: u64,
+    /// How many commands its rounds carry.
+    pub carries: u64,
+}
+
+/// How many commands were late, and how many had to be.
+#[derive(Debug, Drop)]
+pub struct Missed<A: Allocator = Global> {
+    /// How many commands were served.
+    pub commands: u64,
+    /// How many of them were issued after they were due.
+    pub late: u64,
+    /// The fewest that any schedule has late: some legal schedule of these commands has so many, and none has fewer.
+    pub unavoidable: u64,
+    /// The others: by how many a schedule could have had fewer late.
+    pub avoidable: u64,
+    /// Disjoint windows by rising rounds which prove that no schedule has fewer late: of the commands in a window no more are on
+    /// time than it carries.
+    pub windows: Vec<Crowd, A>,
+}
+
+/// How many commands run after they are due.
+#[tactic(auto, unfolding(crate::specs::Misses::number_late))]
+fn number_late(commands: &[Command], rounds: &[u64]) -> u64
+    ensures { result ≡ number_late commands.now rounds.now }
+{
+    commands
+        .iter()
+        .zip(rounds)
+        .filter(|(command, round)| command.due < **round)
+        .count() as u64
+}
+
+/// The place of the window in which a command lies that is released by its due round, if there is one. It is found by halves.
+fn window_of(command: Command, cover: &[Window]) -> Option<usize>
+    requires { IsCover cover.now }
+    ensures within { IfSome result (λ place. place < length cover.now) }
+    ensures place { (k : ℕ) → (d : Span) → k < length cover.now → (can_be_met command && lies_in command (slice_index_or cover.now k d)) ≡ is_place result k }
+{
+    if command.due < command.release {
+        return None;
+    }
+    let place = cover.partition_point(|w| w.from <= command.release);
+    if place == 0 || cover[place - 1].due < command.due {
+        return None;
+    }
+    Some(place - 1)
+}
+
+/// How many commands lie in each of the windows, of those that are released by their due round.
+fn inside_each<A: Allocator>(
+    alloc: A,
+    commands: &[Command],
+    cover: &[Window],
+) -> Result<Vec<u64, A>, AllocError>
+    requires disjoint { IsCover cover.now }
+    requires few { length commands.now ≤ most_commands }
+    ensures { IfOk result (λ v. v.items ≡ map (λ w. inside_of commands.now w) cover.now) }
+{
+    let mut counts = Vec::new(alloc);
+    counts.resize(cover.len(), 0)?;
+    for command in commands {
+        if let Some(place) = window_of(*command, cover) {
+            counts[place] += 1;
+        }
+    }
+    Ok(counts)
+}
+
+/// What is asked of the rounds of each window.
+fn crowds<A: Allocator + Clone, B: Allocator>(
+    alloc: A,
+    commands: &[Command],
+    capacity: &Capacity<B>,
+    cover: &[Window],
+) -> Result<Vec<Crowd, A>, AllocError>
+    requires disjoint { IsCover cover.now }
+    requires in_range { CoverInRange cover.now }
+    requires few { length commands.now ≤ most_commands }
+    ensures { IfOk result (λ v. v.items ≡ map (λ w. crowd_of commands.now capacity.now w) cover.now) }
+{
+    let counts = inside_each(alloc.clone()?, commands, cover)?;
+    let mut crowds = Vec::new(alloc);
+    for (place, window) in cover.iter().enumerate() {
+        crowds.push(Crowd {
+            window: *window,
+            commands: counts[place],
+            carries: carried_in(capacity, *window),
+        })?;
+    }
+    Ok(crowds)
+}
+
+/// What the schedule of the commands has late, where the oracle gave this answer.
+fn counted<A: Allocator + Clone, B: Allocator, C: Allocator>(
+    alloc: A,
+    commands: &[Command],
+    rounds: &[u64],
+    capacity: &Capacity<B>,
+    answer: &MostMet<C>,
+) -> Result<Missed<A>, AllocError>
+    requires legal { IsLegal commands.now rounds.now capacity.now }
+    requires few { length commands.now ≤ most_commands }
+    requires most { IsMostAnswer commands.now capacity.now answer.now.rounds.items answer.now.met answer.now.cover.items }
+    ensures { IfOk result (λ m. AreMisses commands.now rounds.now capacity.now m.commands m.late m.unavoidable m.avoidable m.windows.items) }
+{
+    let count = commands.len() as u64;
+    let late = number_late(commands, rounds);
+    let unavoidable = count - answer.met;
+    let windows = crowds(alloc, commands, capacity, answer.cover.as_slice())?;
+    Ok(Missed {
+        commands: count,
+        late,
+        unavoidable,
+        avoidable: late - unavoidable,
+        windows,
+    })
+}
+
+/// How many commands of a trace were late, how many of these had to be, under the trace's own capacity, and the windows that prove
+/// it: no schedule of the same commands has fewer late, and some schedule has no more. Fails for want of memory alone. The time
+/// grows as n log n in the number of commands and events.
+pub fn misses<A: Allocator + Clone>(trace: &Trace<A>) -> Result<Missed<A>, AllocError>
+    ensures { IfOk result (λ m. AreMisses (commands_of trace.now.setup trace.now.events) (rounds_of trace.now.events) (capacity_of trace.now.setup trace.now.events) m.commands m.late m.unavoidable m.avoidable m.windows.items) }
+{
+    let commands = trace.commands()?;
+    let rounds = trace.rounds()?;
+    let capacity = trace.capacity()?;
+    let alloc = commands.allocator().clone()?;
+    match most_met(
+        commands.allocator().clone()?,
+        commands.as_slice(),
+        &capacity,
+    ) {
+        Ok(answer) => counted(
+            alloc,
+            commands.as_slice(),
+            rounds.as_slice(),
+            &capacity,
+            &answer,
+        ),
+        // a trace's commands are within the limits of the oracle, so want of memory is all that it refuses them for
+        Err(_) => Err(AllocError),
+    }
+}

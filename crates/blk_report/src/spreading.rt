@@ -1,0 +1,157 @@
+//! How long the commands of a trace waited, and how late they were, by quantiles.
+
+ghost use Rattle.std.specs.Prelude.{◌≡◌, ◌≤◌, IfOk, filter, length, map};
+ghost use Rattle.edd_check.specs.Limits.{most_commands};
+ghost use Rattle.blk_trace.specs.Setups.{same_dir};
+ghost use Rattle.blk_report.specs.Services.{AreTimed};
+ghost use Rattle.blk_report.specs.Spread.{wait_of, late_by, at_rank, quantiles_of, IsQuantiles, AreQuantiles, AreSpreads};
+
+use crate::serving::Service;
+use blk_bio::Dir;
+use std::alloc::{AllocError, Allocator};
+
+/// How many numbers there are, and their quantiles by nearest rank, each an element of them: of the n numbers in their order the
+/// one at place p n, counted from 1 and rounded up. Without numbers there are none.
+#[derive(Clone, Copy, Debug, PartialEq, Eq)]
+pub struct Quantiles {
+    /// How many numbers there are.
+    pub count: u64,
+    /// The median: half of the numbers are no greater.
+    pub p50: Option<i64>,
+    /// 90 of 100 numbers are no greater.
+    pub p90: Option<i64>,
+    /// 99 of 100 numbers are no greater.
+    pub p99: Option<i64>,
+    /// 999 of 1000 numbers are no greater.
+    pub p999: Option<i64>,
+    /// The greatest number.
+    pub max: Option<i64>,
+}
+
+/// The quantiles of a number that each command has.
+#[derive(Clone, Copy, Debug, PartialEq, Eq)]
+pub struct ByDir {
+    /// Of the reads.
+    pub reads: Quantiles,
+    /// Of the writes.
+    pub writes: Quantiles,
+    /// Of both.
+    pub all: Quantiles,
+}
+
+/// How long commands waited and how late they were, in rounds.
+#[derive(Clone, Copy, Debug, PartialEq, Eq)]
+pub struct Spreads {
+    /// The wait: the round of the Issue less that of the release.
+    pub wait: ByDir,
+    /// The lateness: the round of the Issue less the due round, below 0 where it was early.
+    pub lateness: ByDir,
+}
+
+/// The number at the place of so many thousandths.
+fn at_rank(sorted: &[i64], thousandths: usize) -> Option<i64>
+    requires few { length sorted.now ≤ most_commands }
+    requires part { thousandths ≤ 1000 }
+    ensures { result ≡ at_rank thousandths sorted.now }
+{
+    let rank = (thousandths * sorted.len() + 999) / 1000;
+    sorted.get(rank.saturating_sub(1)).copied()
+}
+
+/// The quantiles of numbers in their order.
+fn of_sorted(sorted: &[i64]) -> Quantiles
+    requires { length sorted.now ≤ most_commands }
+    ensures { result ≡ quantiles_of sorted.now }
+{
+    Quantiles {
+        count: sorted.len() as u64,
+        p50: at_rank(sorted, 500),
+        p90: at_rank(sorted, 900),
+        p99: at_rank(sorted, 990),
+        p999: at_rank(sorted, 999),
+        max: at_rank(sorted, 1000),
+    }
+}
+
+/// The quantiles of numbers, which it puts in order.
+fn quantiles_of(values: &mut [i64]) -> Quantiles
+    requires { length values.old ≤ most_commands }
+    ensures { IsQuantiles values.old result }
+{
+    values.sort_unstable();
+    of_sorted(values)
+}
+
+/// The commands of a direction.
+fn going<A: Allocator>(
+    alloc: A,
+    services: &[Service],
+    dir: Dir,
+) -> Result<Vec<Service, A>, AllocError>
+    requires { AreTimed services.now }
+    ensures services { IfOk result (λ v. v.items ≡ filter (λ s. same_dir s.dir dir) services.now) }
+    ensures timed { IfOk result (λ v. AreTimed v.items) }
+{
+    services
+        .iter()
+        .copied()
+        .filter(|service| goes(service, dir))
+        .collect(alloc)
+}
+
+/// Whether a command has the direction.
+fn goes(service: &Service, dir: Dir) -> bool
+    ensures { result ≡ same_dir service.now.dir dir }
+{
+    match (service.dir, dir) {
+        (Dir::Read, Dir::Read) => true,
+        (Dir::Read, Dir::Write) => false,
+        (Dir::Write, Dir::Read) => false,
+        (Dir::Write, Dir::Write) => true,
+    }
+}
+
+/// The quantiles of the waits.
+fn waits<A: Allocator>(alloc: A, services: &[Service]) -> Result<Quantiles, AllocError>
+    requires { AreTimed services.now }
+    ensures { IfOk result (IsQuantiles (map wait_of services.now)) }
+{
+    let mut values = Vec::new(alloc);
+    for service in services {
+        values.push(service.issue as i64 - service.release as i64)?;
+    }
+    Ok(quantiles_of(values.as_mut_slice()))
+}
+
+/// The quantiles of the latenesses.
+fn latenesses<A: Allocator>(alloc: A, services: &[Service]) -> Result<Quantiles, AllocError>
+    requires { AreTimed services.now }
+    ensures { IfOk result (IsQuantiles (map late_by services.now)) }
+{
+    let mut values = Vec::new(alloc);
+    for service in services {
+        values.push(service.issue as i64 - service.due as i64)?;
+    }
+    Ok(quantiles_of(values.as_mut_slice()))
+}
+
+/// How long the commands waited and how late they were: of the reads, of the writes and of both how many there are, and the
+/// quantiles by nearest rank, in rounds. Fails for want of memory alone. The time grows as n log n in the number of commands.
+pub fn spread<A: Allocator + Clone>(alloc: A, services: &[Service]) -> Result<Spreads, AllocError>
+    requires { AreTimed services.now }
+    ensures { IfOk result (AreSpreads services.now) }
+{
+    let reads = going(alloc.clone()?, services, Dir::Read)?;
+    let writes = going(alloc.clone()?, services, Dir::Write)?;
+    let wait = ByDir {
+        reads: waits(alloc.clone()?, reads.as_slice())?,
+        writes: waits(alloc.clone()?, writes.as_slice())?,
+        all: waits(alloc.clone()?, services)?,
+    };
+    let lateness = ByDir {
+        reads: latenesses(alloc.clone()?, reads.as_slice())?,
+        writes: latenesses(alloc.clone()?, writes.as_slice())?,
+        all: latenesses(alloc, services)?,
+    };
+    Ok(Spreads { wait, lateness })
+}
