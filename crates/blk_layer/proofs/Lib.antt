@@ -1,0 +1,5 @@
+mod Counted
+mod Repeats
+mod Ids
+mod Held
+mod Each

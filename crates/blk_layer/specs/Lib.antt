@@ -1,0 +1,5 @@
+pub mod Served
+pub mod Seats
+pub mod Faults
+pub mod Moves
+pub mod Inside
