@@ -1,5 +1,5 @@
 -- What the command line reads of words that are written out.
-use Rattle.std.proofs.Common.{◌≡◌, ◌∙◌, ◌∷◌, [], ℕ, List, Some, map, sym, refl, subst, codes, true, inl, inr}
+use Rattle.std.proofs.Common.{◌≡◌, ◌∙◌, ◌∷◌, [], ℕ, List, Some, None, map, sym, refl, subst, codes, true, inl, inr}
 use Rattle.std.specs.Prelude.{◌↔◌}
 use Rattle.std.specs.Borrow.{Bor}
 use Rattle.clap.specs.Words.{Text, fault_of}
@@ -46,6 +46,15 @@ asks_alone words k h j = (
   λ e. let z : ℕ × ℕ = (0, 0) in let g = h z z z z in (at_places z z z z, refl, inl (g.0, rw e g.1)),
 )
 
+-- a line is read as no job, whatever the places; then it asks for none
+abbrev pub IsReadAsNothing : List Text → Names → Type 0
+IsReadAsNothing words names = (fault_of (blk_app names) words ≡ []) × (job_read (blk_app names) words ≡ None)
+
+pub asks_nothing : (words : List Text) → ((p q r s : ℕ × ℕ) → IsReadAsNothing words (at_places p q r s)) → (j : Job) → Asks words j → ⊥
+asks_nothing words h j a =
+    let g = any_names (IsReadAsNothing words) h a.0 a.1 in
+    elim a.2 [ inl x ↦ let e : Some j ≡ None = sym x.1 ∙ g.1 in cc e | inr x ↦ absurd (rw g.0 at x.0) ]
+
 pub sim_line : (name : Text) (p q r s : ℕ × ℕ) → IsReadAs (name ∷ codes "sim" ∷ []) (job.Sim sched.None) (at_places p q r s)
 unfolding clap_on_literals
 sim_line name p q r s = (refl, refl)
@@ -91,6 +100,14 @@ oracle_line name p q r s = (refl, refl)
 pub report_line : (name : Text) (p q r s : ℕ × ℕ) → IsReadAs (name ∷ codes "oracle" ∷ codes "--trace" ∷ []) job.Report (at_places p q r s)
 unfolding clap_on_literals
 report_line name p q r s = (refl, refl)
+
+pub met_line : (name : Text) (p q r s : ℕ × ℕ) → IsReadAs (name ∷ codes "oracle" ∷ codes "--met" ∷ []) job.Met (at_places p q r s)
+unfolding clap_on_literals
+met_line name p q r s = (refl, refl)
+
+pub report_and_met_line : (name : Text) (p q r s : ℕ × ℕ) → IsReadAsNothing (name ∷ codes "oracle" ∷ codes "--trace" ∷ codes "--met" ∷ []) (at_places p q r s)
+unfolding clap_on_literals
+report_and_met_line name p q r s = (refl, refl)
 
 pub check_line : (name : Text) (p q r s : ℕ × ℕ) → IsReadAs (name ∷ codes "check" ∷ []) job.Check (at_places p q r s)
 unfolding clap_on_literals

@@ -4,6 +4,7 @@ use Rattle.std.specs.Prelude.{◌<◌, ◌↔◌, OnOk, IfErr, MatchResult, Bool
 use Rattle.std.specs.Io.KnownBytes.{Appends}
 use Rattle.edd_check.specs.declared.Command.{Command}
 use Rattle.edd_check.specs.declared.CheckFault.{CheckFault}
+use Rattle.edd_check.specs.declared.met.MetFault.{MetFault}
 use Rattle.edd_check.specs.declared.Window.{Window}
 use Rattle.edd_check.specs.Window.{load_of, rounds_between}
 use Rattle.edd_oracle.specs.declared.OracleFault.{OracleFault}
@@ -17,6 +18,8 @@ use Rattle.blk_text.specs.Sources.{Row}
 use Rattle.blk_text.specs.Texts.{rows_text}
 use Rattle.blk_text.specs.Commands.{SpellsCommands}
 use Rattle.blk_text.specs.Certificate.{Claim, claim_rows, SpellsClaim}
+use Rattle.blk_text.specs.Met.{MetClaim, met_rows, SpellsMet}
+use Rattle.blk_text.specs.Proof.{ProofClaim, OfLateness, OfMet, SpellsProof}
 use Rattle.blk_text.specs.Script.{Scripted, SpellsScript}
 use Rattle.blk_text.specs.TraceRecords.{trace_rows}
 use Rattle.blk_text.specs.TraceForm.{SpellsTrace}
@@ -34,7 +37,8 @@ use Rattle.blk_cli.specs.declared.words.Sched.TheVariants as under
 use Rattle.blk_cli.specs.Statuses.{IsOfWriter}
 use Rattle.blk_cli.specs.declared.failure.Failure.{Failure}
 use Rattle.blk_cli.specs.declared.failure.Failure.TheVariants as failure
-use Rattle.blk_cli.specs.Outcome.{RunsUnder, RunsFrom, IsMade, IsRefusedUnder, IsUnmade, IsSettingFault, IsProved, OracleWrote, SimWrote, MigrateWrote, MigrateFails, CheckWrote, bound_line, verdict_of, IsTextFault, IsStepFault, IsSolveFault, IsCheckFault, IsRefusedBound, IsUnrun, IsUnsolved, IsUnproved, SimFails, OracleFails, CheckFails}
+use Rattle.blk_cli.specs.Meeting.{IsMetProved, IsRefusedMet, MetWrote, met_line, met_verdict_of}
+use Rattle.blk_cli.specs.Outcome.{RunsUnder, RunsFrom, IsMade, IsRefusedUnder, IsUnmade, IsSettingFault, IsProved, OracleWrote, SimWrote, MigrateWrote, MigrateFails, CheckWrote, bound_line, verdict_of, IsTextFault, IsStepFault, IsSolveFault, IsCheckFault, IsRefusedBound, IsMetCheckFault, IsGood, IsBad, IsUnmet, line_on, IsUnrun, IsUnsolved, IsUnproved, SimFails, OracleFails, CheckFails}
 
 -- a text's first fault, or one from outside
 pub text_fault : (wrong : List Row → ℕ → Why → Type 0) (input : Option (List Row)) (failed : Bool) (f : TextFault)
@@ -86,6 +90,7 @@ sim_fails sched left s (failure.Sched f) read h = setting_fault sched left s f r
 sim_fails sched left s (failure.Step f) read h = step_fault sched left s f read h
 sim_fails sched left s (failure.Solve f) read h = absurd h
 sim_fails sched left s (failure.Check f) read h = absurd h
+sim_fails sched left s (failure.Met f) read h = absurd h
 sim_fails sched left s failure.NotFixed read h = absurd h
 sim_fails sched left s (failure.Write f) read h = absurd h
 sim_fails sched left s failure.Memory read h = tt
@@ -94,6 +99,17 @@ sim_fails sched left s failure.Memory read h = tt
 pub oracle_wrote : (input : Option (List Row)) (depth : ℕ) (commands : List Command) (claim : Claim) (old new : Option (List ℕ)) → IfSome input (λ rows. SpellsCommands rows depth commands) → claim.depth ≡ depth → claim.commands ≡ commands → IsProved claim → SpellsClaim (claim_rows claim) claim → Appends old new (rows_text (claim_rows claim)) → IfSome input (λ rows. OracleWrote rows old new)
 oracle_wrote None depth commands claim old new read same_depth same_commands proved spelled wrote = tt
 oracle_wrote (Some rows) depth commands claim old new read same_depth same_commands proved spelled wrote = record {
+  claim = claim;
+  read = subst (λ d. SpellsCommands rows d claim.commands) (sym same_depth) (subst (λ cs. SpellsCommands rows depth cs) (sym same_commands) read);
+  proved = proved;
+  spelled = spelled;
+  wrote = wrote;
+}
+
+-- what `oracle --met` wrote, where the input is known
+pub met_wrote : (input : Option (List Row)) (depth : ℕ) (commands : List Command) (claim : MetClaim) (old new : Option (List ℕ)) → IfSome input (λ rows. SpellsCommands rows depth commands) → claim.depth ≡ depth → claim.commands ≡ commands → IsMetProved claim → SpellsMet (met_rows claim) claim → Appends old new (rows_text (met_rows claim)) → IfSome input (λ rows. MetWrote rows old new)
+met_wrote None depth commands claim old new read same_depth same_commands proved spelled wrote = tt
+met_wrote (Some rows) depth commands claim old new read same_depth same_commands proved spelled wrote = record {
   claim = claim;
   read = subst (λ d. SpellsCommands rows d claim.commands) (sym same_depth) (subst (λ cs. SpellsCommands rows depth cs) (sym same_commands) read);
   proved = proved;
@@ -112,14 +128,15 @@ oracle_fails left depth commands (failure.Sched f) read h = absurd h
 oracle_fails left depth commands (failure.Step f) read h = absurd h
 oracle_fails left depth commands (failure.Solve f) read h = solve_fault left depth commands f read h
 oracle_fails left depth commands (failure.Check f) read h = absurd h
+oracle_fails left depth commands (failure.Met f) read h = absurd h
 oracle_fails left depth commands failure.NotFixed read h = absurd h
 oracle_fails left depth commands (failure.Write f) read h = absurd h
 oracle_fails left depth commands failure.Memory read h = tt
 
 -- what `check` wrote, where the input is known
-pub check_wrote : (left : Option (List Row)) (claim : Claim) (bytes : List ℕ) (old new : Option (List ℕ)) → IfSome left (λ rows. SpellsClaim rows claim) → IsProved claim → bytes ≡ verdict_of claim claim.bound → Appends old new bytes → IfSome left (λ rows. CheckWrote rows old new)
-check_wrote None claim bytes old new read proved is wrote = tt
-check_wrote (Some rows) claim bytes old new read proved is wrote = record { claim = claim; read = read; proved = proved; wrote = subst (Appends old new) is wrote }
+pub check_wrote : (left : Option (List Row)) (claim : ProofClaim) (bytes : List ℕ) (old new : Option (List ℕ)) → IfSome left (λ rows. SpellsProof rows claim) → IsGood claim → bytes ≡ line_on claim → Appends old new bytes → IfSome left (λ rows. CheckWrote rows old new)
+check_wrote None claim bytes old new read good is wrote = tt
+check_wrote (Some rows) claim bytes old new read good is wrote = record { claim = claim; read = read; good = good; wrote = subst (Appends old new) is wrote }
 
 -- the line on a certificate with a bound
 pub verdict_is : {S E : Type 0} (text : S → List ℕ) (r : Result S E) (claim : Claim) (late other : ℤ) (window : Window) (commands : List Command) (load carries : ℕ) → claim.bound ≡ Some (late, window) → other ≡ late
@@ -133,16 +150,36 @@ check_fault : (left : Option (List Row)) (claim : Claim) (f : CheckFault) → If
 check_fault None claim f read refused = tt
 check_fault (Some rows) claim f read refused = (claim, read, refused)
 
+met_fault : (left : Option (List Row)) (claim : MetClaim) (f : MetFault) → IfSome left (λ rows. SpellsMet rows claim) → IsRefusedMet claim f → IsMetCheckFault left f
+met_fault None claim f read refused = tt
+met_fault (Some rows) claim f read refused = (claim, read, refused)
+
 -- a certificate that was read and not proved
-pub check_fails : (left : Option (List Row)) (claim : Claim) (f : Failure) → IfSome left (λ rows. SpellsClaim rows claim) → IsUnproved claim f → CheckFails left f
-check_fails left claim (failure.Text f) read h = absurd h
-check_fails left claim (failure.Sched f) read h = absurd h
-check_fails left claim (failure.Step f) read h = absurd h
-check_fails left claim (failure.Solve f) read h = absurd h
-check_fails left claim (failure.Check f) read h = check_fault left claim f read h
-check_fails left claim failure.NotFixed read h = absurd h
-check_fails left claim (failure.Write f) read h = absurd h
-check_fails left claim failure.Memory read h = tt
+unproved_fails : (left : Option (List Row)) (claim : Claim) (f : Failure) → IfSome left (λ rows. SpellsClaim rows claim) → IsUnproved claim f → CheckFails left f
+unproved_fails left claim (failure.Text f) read h = absurd h
+unproved_fails left claim (failure.Sched f) read h = absurd h
+unproved_fails left claim (failure.Step f) read h = absurd h
+unproved_fails left claim (failure.Solve f) read h = absurd h
+unproved_fails left claim (failure.Check f) read h = check_fault left claim f read h
+unproved_fails left claim (failure.Met f) read h = absurd h
+unproved_fails left claim failure.NotFixed read h = absurd h
+unproved_fails left claim (failure.Write f) read h = absurd h
+unproved_fails left claim failure.Memory read h = tt
+
+unmet_fails : (left : Option (List Row)) (claim : MetClaim) (f : Failure) → IfSome left (λ rows. SpellsMet rows claim) → IsUnmet claim f → CheckFails left f
+unmet_fails left claim (failure.Text f) read h = absurd h
+unmet_fails left claim (failure.Sched f) read h = absurd h
+unmet_fails left claim (failure.Step f) read h = absurd h
+unmet_fails left claim (failure.Solve f) read h = absurd h
+unmet_fails left claim (failure.Check f) read h = absurd h
+unmet_fails left claim (failure.Met f) read h = met_fault left claim f read h
+unmet_fails left claim failure.NotFixed read h = absurd h
+unmet_fails left claim (failure.Write f) read h = absurd h
+unmet_fails left claim failure.Memory read h = tt
+
+pub check_fails : (left : Option (List Row)) (claim : ProofClaim) (f : Failure) → IfSome left (λ rows. SpellsProof rows claim) → IsBad claim f → CheckFails left f
+check_fails left (OfLateness claim) f read h = unproved_fails left claim f read h
+check_fails left (OfMet claim) f read h = unmet_fails left claim f read h
 
 -- a scheduler that is not made, by what its making promises
 positive : (n : ℕ) → (n ≡ 0) ⊎ (0 < n)

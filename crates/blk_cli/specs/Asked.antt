@@ -1,5 +1,5 @@
 -- What the words of a command line ask for.
-use Rattle.std.specs.Prelude.{◌≡◌, ◌≢◌, ◌⊎◌, ℕ, Bool, false, not, List, [], Option, Some, None, codes, option_map, option_and_then, if◌then◌else◌}
+use Rattle.std.specs.Prelude.{◌≡◌, ◌≢◌, ◌⊎◌, ◌&&◌, ℕ, Bool, false, not, List, [], Option, Some, None, codes, option_map, option_and_then, if◌then◌else◌}
 use Rattle.std.specs.Option.{option_map_or}
 use Rattle.std.specs.Str.{bytes_eq}
 use Rattle.std.specs.Str.Parse.{digits_value, without_leading_plus}
@@ -66,12 +66,19 @@ plain_job name =
     else (if bytes_eq name (codes "commands") then Some job.Commands
     else (if bytes_eq name (codes "check") then Some job.Check else None))
 
+-- the job of `oracle` by whether its flags are given, which may not stand together
+abbrev pub oracle_job : Bool → Bool → Option Job
+oracle_job trace met =
+    if trace && met then None
+    else (if trace then Some job.Report
+    else (if met then Some job.Met else Some job.Oracle))
+
 -- the job of a subcommand, by its name and what its options are given
 abbrev pub job_of : Text × List Row → Option Job
 job_of p =
     if bytes_eq p.0 (codes "sim") then option_map job.Sim (sched_of p.1)
     else (if bytes_eq p.0 (codes "compare") then compared (tunables_of p.1) (targets_of p.1)
-    else (if bytes_eq p.0 (codes "oracle") then (if is_flagged (codes "trace") p.1 then Some job.Report else Some job.Oracle)
+    else (if bytes_eq p.0 (codes "oracle") then oracle_job (is_flagged (codes "trace") p.1) (is_flagged (codes "met") p.1)
     else plain_job p.0))
 
 -- the job that the command line reads in words

@@ -8,6 +8,7 @@ use Rattle.blk_cli.specs.declared.failure.Failure.{Failure}
 use Rattle.blk_cli.specs.Outcome.{SimWrote, SimFails, MigrateWrote, MigrateFails, OracleWrote, OracleFails, CheckWrote, CheckFails, VersionFails, version_line}
 use Rattle.blk_cli.specs.OfTraces.{TraceWrote, TraceFails, IsReportText, IsCommandsText, IsUnfixed}
 use Rattle.blk_cli.specs.Comparing.{CompareWrote, CompareFails}
+use Rattle.blk_cli.specs.Meeting.{MetWrote}
 
 -- what a job does with the records of its input: what it wrote where it ends well, and why it fails
 abbrev pub Does : Job → Option (List Row) → Option (List ℕ) → Option (List ℕ) → Result (Unit {0}) Failure → Type 0
@@ -17,5 +18,6 @@ Does (job.Compare t g) input old new r = MatchResult r (λ _. IfSome input (λ r
 Does job.Migrate input old new r = MatchResult r (λ _. IfSome input (λ rows. MigrateWrote rows old new)) (MigrateFails input)
 Does job.Commands input old new r = MatchResult r (λ _. IfSome input (λ rows. TraceWrote IsCommandsText rows old new)) (TraceFails (IsUnfixed input) input)
 Does job.Oracle input old new r = MatchResult r (λ _. IfSome input (λ rows. OracleWrote rows old new)) (OracleFails input)
+Does job.Met input old new r = MatchResult r (λ _. IfSome input (λ rows. MetWrote rows old new)) (OracleFails input)
 Does job.Report input old new r = MatchResult r (λ _. IfSome input (λ rows. TraceWrote IsReportText rows old new)) (TraceFails ⊥ input)
 Does job.Check input old new r = MatchResult r (λ _. IfSome input (λ rows. CheckWrote rows old new)) (CheckFails input)

@@ -4,6 +4,8 @@ use Rattle.std.specs.Fmt.{signed_decimal}
 use Rattle.std.specs.Io.KnownBytes.{Appends}
 use Rattle.edd_check.specs.declared.CheckFault.{CheckFault}
 use Rattle.edd_check.specs.declared.CheckFault.TheVariants as check
+use Rattle.edd_check.specs.declared.met.MetFault.{MetFault}
+use Rattle.edd_check.specs.declared.met.MetFault.TheVariants as met
 use Rattle.edd_oracle.specs.declared.OracleFault.{OracleFault}
 use Rattle.edd_oracle.specs.declared.OracleFault.TheVariants as oracle
 use Rattle.blk_bio.specs.declared.bio.BioFault.{BioFault}
@@ -113,6 +115,15 @@ check_line (check.OverDepth round) = numbered (codes "OverDepth") (decimal round
 check_line (check.WrongLateness own) = numbered (codes "WrongLateness") (signed_decimal own)
 check_line (check.NotCrowded load) = numbered (codes "NotCrowded") (decimal load)
 
+abbrev pub met_check_line : MetFault → List ℕ
+met_check_line met.Length = line (codes "Length")
+met_check_line (met.BeforeRelease id) = numbered (codes "BeforeRelease") (decimal id)
+met_check_line met.Memory = want_of_memory
+met_check_line (met.OverDepth round) = numbered (codes "OverDepth") (decimal round)
+met_check_line (met.WrongMet own) = numbered (codes "WrongMet") (decimal own)
+met_check_line (met.Windows place) = numbered (codes "Windows") (decimal place)
+met_check_line (met.Loose bound) = numbered (codes "Loose") (decimal bound)
+
 abbrev pub sched_line : SchedFault → List ℕ
 sched_line setting.ZeroBatch = line (codes "ZeroBatch")
 sched_line setting.ZeroTarget = line (codes "ZeroTarget")
@@ -125,6 +136,7 @@ line_of (failure.Sched f) = sched_line f
 line_of (failure.Step f) = step_line f.at f.why
 line_of (failure.Solve f) = oracle_line f
 line_of (failure.Check f) = check_line f
+line_of (failure.Met f) = met_check_line f
 line_of failure.NotFixed = line (codes "NotFixed")
 line_of (failure.Write write.Write) = write_fault
 line_of (failure.Write write.Memory) = want_of_memory
@@ -152,12 +164,17 @@ abbrev pub check_status : CheckFault → ℕ
 check_status check.Memory = 3
 check_status f = 1
 
+abbrev pub met_check_status : MetFault → ℕ
+met_check_status met.Memory = 3
+met_check_status f = 1
+
 abbrev pub status_of : Failure → ℕ
 status_of (failure.Text f) = text_status f.why
 status_of (failure.Sched f) = sched_status f
 status_of (failure.Step f) = step_status f.why
 status_of (failure.Solve f) = oracle_status f
 status_of (failure.Check f) = check_status f
+status_of (failure.Met f) = met_check_status f
 status_of failure.NotFixed = 1
 status_of (failure.Write f) = 3
 status_of failure.Memory = 3

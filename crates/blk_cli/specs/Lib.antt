@@ -3,6 +3,7 @@ pub mod Comparing
 pub mod Does
 pub mod Ends
 pub mod Line
+pub mod Meeting
 pub mod OfTraces
 pub mod Outcome
 pub mod Statuses

@@ -47,7 +47,7 @@ abbrev pub compare_app : App
 compare_app = tuning (new_app (codes "compare"))
 
 abbrev pub oracle_app : App
-oracle_app = with_rule (new_app (codes "oracle")) (flag_rule (codes "trace"))
+oracle_app = with_rule (with_rule (new_app (codes "oracle")) (flag_rule (codes "trace"))) (flag_rule (codes "met"))
 
 -- a command with a version, which wants a subcommand
 abbrev pub topmost : App → App

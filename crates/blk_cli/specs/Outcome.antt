@@ -4,6 +4,7 @@ use Rattle.std.specs.Fmt.{signed_decimal}
 use Rattle.std.specs.Io.KnownBytes.{Appends}
 use Rattle.edd_check.specs.declared.Command.{Command}
 use Rattle.edd_check.specs.declared.CheckFault.{CheckFault}
+use Rattle.edd_check.specs.declared.met.MetFault.{MetFault}
 use Rattle.edd_check.specs.declared.Window.{Window}
 use Rattle.edd_check.specs.Capacity.{fixed}
 use Rattle.edd_check.specs.Check.{IsAnswer}
@@ -30,13 +31,16 @@ use Rattle.blk_text.specs.Commands.{SpellsCommands, CommandsFault}
 use Rattle.blk_text.specs.Script.{Scripted, SpellsScript, ScriptFault}
 use Rattle.blk_text.specs.TraceRecords.{trace_rows}
 use Rattle.blk_text.specs.TraceForm.{SpellsTrace, TraceFault}
-use Rattle.blk_text.specs.Certificate.{Claim, claim_rows, SpellsClaim, ClaimFault}
+use Rattle.blk_text.specs.Certificate.{Claim, claim_rows, SpellsClaim}
+use Rattle.blk_text.specs.Met.{MetClaim, SpellsMet}
+use Rattle.blk_text.specs.Proof.{ProofClaim, OfLateness, OfMet, SpellsProof, ProofFault}
 use Rattle.blk_sim.specs.declared.refusal.SimFault.{SimFault}
 use Rattle.blk_sim.specs.Policies.{Policy, policy_of}
 use Rattle.blk_sim.specs.Simulation.{released_bios, ticks_of}
 use Rattle.blk_sim.specs.State.{SimState, start_of}
 use Rattle.blk_sim.specs.Runs.{Runs}
 use Rattle.blk_sim.specs.Refusals.{IsSimFault}
+use Rattle.blk_cli.specs.Meeting.{IsMetProved, IsRefusedMet, met_verdict_of}
 use Rattle.blk_cli.specs.declared.words.Sched.{Sched}
 use Rattle.blk_cli.specs.declared.words.Sched.TheVariants as sched
 use Rattle.blk_cli.specs.declared.failure.Failure.{Failure}
@@ -147,12 +151,21 @@ abbrev pub verdict_of : Claim → Option (ℤ × Window) → List ℕ
 verdict_of claim None = codes "ok no commands" ++ 10 ∷ []
 verdict_of claim (Some b) = bound_line b.0 (load_of claim.commands b.1) (claim.depth * rounds_between b.1.from (pos b.1.due +ℤ b.0))
 
+-- a certificate of either form is proved, and the line on it
+abbrev pub IsGood : ProofClaim → Type 0
+IsGood (OfLateness claim) = IsProved claim
+IsGood (OfMet claim) = IsMetProved claim
+
+abbrev pub line_on : ProofClaim → List ℕ
+line_on (OfLateness claim) = verdict_of claim claim.bound
+line_on (OfMet claim) = met_verdict_of claim
+
 -- what `check` wrote: the line on the certificate that was read, which is proved
 pub record CheckWrote (rows : List Row) (old new : Option (List ℕ)) : Type 0 where
-  pub claim : Claim
-  pub read : SpellsClaim rows claim
-  pub proved : IsProved claim
-  pub wrote : Appends old new (verdict_of claim claim.bound)
+  pub claim : ProofClaim
+  pub read : SpellsProof rows claim
+  pub good : IsGood claim
+  pub wrote : Appends old new (line_on claim)
 
 -- why a text is refused: its first fault, where the reader didn't fail and memory didn't run out
 abbrev pub IsTextFault : (List Row → ℕ → Why → Type 0) → Option (List Row) → TextFault → Type 0
@@ -180,6 +193,10 @@ IsRefusedBound claim f b = (late : ℤ) × (window : Window) × (b ≡ Some (lat
 abbrev pub IsCheckFault : Option (List Row) → CheckFault → Type 0
 IsCheckFault input f = IfSome input (λ rows. (claim : Claim) × SpellsClaim rows claim × IsRefusedBound claim f claim.bound)
 
+-- the check refuses the certificate of what is met that was read
+abbrev pub IsMetCheckFault : Option (List Row) → MetFault → Type 0
+IsMetCheckFault input f = IfSome input (λ rows. (claim : MetClaim) × SpellsMet rows claim × IsRefusedMet claim f)
+
 -- a script that was read is not run, a list not solved and a certificate not proved: for what it is refused, or for want of
 -- memory
 abbrev pub IsUnrun : Sched → Scripted → Failure → Type 0
@@ -188,6 +205,7 @@ IsUnrun s script (failure.Sched f) = IsUnmade s f
 IsUnrun s script (failure.Step f) = IsRefusedUnder s script f
 IsUnrun s script (failure.Solve f) = ⊥
 IsUnrun s script (failure.Check f) = ⊥
+IsUnrun s script (failure.Met f) = ⊥
 IsUnrun s script failure.NotFixed = ⊥
 IsUnrun s script (failure.Write f) = ⊥
 IsUnrun s script failure.Memory = ⊤
@@ -198,6 +216,7 @@ IsUnsolved commands (failure.Sched f) = ⊥
 IsUnsolved commands (failure.Step f) = ⊥
 IsUnsolved commands (failure.Solve f) = IsRefusal commands f
 IsUnsolved commands (failure.Check f) = ⊥
+IsUnsolved commands (failure.Met f) = ⊥
 IsUnsolved commands failure.NotFixed = ⊥
 IsUnsolved commands (failure.Write f) = ⊥
 IsUnsolved commands failure.Memory = ⊤
@@ -208,9 +227,26 @@ IsUnproved claim (failure.Sched f) = ⊥
 IsUnproved claim (failure.Step f) = ⊥
 IsUnproved claim (failure.Solve f) = ⊥
 IsUnproved claim (failure.Check f) = IsRefusedBound claim f claim.bound
+IsUnproved claim (failure.Met f) = ⊥
 IsUnproved claim failure.NotFixed = ⊥
 IsUnproved claim (failure.Write f) = ⊥
 IsUnproved claim failure.Memory = ⊤
+
+abbrev pub IsUnmet : MetClaim → Failure → Type 0
+IsUnmet claim (failure.Text f) = ⊥
+IsUnmet claim (failure.Sched f) = ⊥
+IsUnmet claim (failure.Step f) = ⊥
+IsUnmet claim (failure.Solve f) = ⊥
+IsUnmet claim (failure.Check f) = ⊥
+IsUnmet claim (failure.Met f) = IsRefusedMet claim f
+IsUnmet claim failure.NotFixed = ⊥
+IsUnmet claim (failure.Write f) = ⊥
+IsUnmet claim failure.Memory = ⊤
+
+-- a certificate of either form is not proved
+abbrev pub IsBad : ProofClaim → Failure → Type 0
+IsBad (OfLateness claim) f = IsUnproved claim f
+IsBad (OfMet claim) f = IsUnmet claim f
 
 -- why each job fails
 abbrev pub SimFails : Sched → Option (List Row) → Failure → Type 0
@@ -219,6 +255,7 @@ SimFails s input (failure.Sched f) = IsSettingFault s input f
 SimFails s input (failure.Step f) = IsStepFault s input f
 SimFails s input (failure.Solve f) = ⊥
 SimFails s input (failure.Check f) = ⊥
+SimFails s input (failure.Met f) = ⊥
 SimFails s input failure.NotFixed = ⊥
 SimFails s input (failure.Write f) = ⊤
 SimFails s input failure.Memory = ⊤
@@ -229,6 +266,7 @@ MigrateFails input (failure.Sched f) = ⊥
 MigrateFails input (failure.Step f) = ⊥
 MigrateFails input (failure.Solve f) = ⊥
 MigrateFails input (failure.Check f) = ⊥
+MigrateFails input (failure.Met f) = ⊥
 MigrateFails input failure.NotFixed = ⊥
 MigrateFails input (failure.Write f) = ⊤
 MigrateFails input failure.Memory = ⊥
@@ -239,16 +277,18 @@ OracleFails input (failure.Sched f) = ⊥
 OracleFails input (failure.Step f) = ⊥
 OracleFails input (failure.Solve f) = IsSolveFault input f
 OracleFails input (failure.Check f) = ⊥
+OracleFails input (failure.Met f) = ⊥
 OracleFails input failure.NotFixed = ⊥
 OracleFails input (failure.Write f) = ⊤
 OracleFails input failure.Memory = ⊤
 
 abbrev pub CheckFails : Option (List Row) → Failure → Type 0
-CheckFails input (failure.Text f) = IsTextFault ClaimFault input f
+CheckFails input (failure.Text f) = IsTextFault ProofFault input f
 CheckFails input (failure.Sched f) = ⊥
 CheckFails input (failure.Step f) = ⊥
 CheckFails input (failure.Solve f) = ⊥
 CheckFails input (failure.Check f) = IsCheckFault input f
+CheckFails input (failure.Met f) = IsMetCheckFault input f
 CheckFails input failure.NotFixed = ⊥
 CheckFails input (failure.Write f) = ⊤
 CheckFails input failure.Memory = ⊤
@@ -260,6 +300,7 @@ VersionFails (failure.Sched f) = ⊥
 VersionFails (failure.Step f) = ⊥
 VersionFails (failure.Solve f) = ⊥
 VersionFails (failure.Check f) = ⊥
+VersionFails (failure.Met f) = ⊥
 VersionFails failure.NotFixed = ⊥
 VersionFails (failure.Write f) = ⊤
 VersionFails failure.Memory = ⊥

@@ -3,7 +3,7 @@
 ghost use Rattle.std.specs.Prelude.{◌≡◌, ◌++◌, OnOk, IsTrue, decimal};
 ghost use Rattle.std.specs.Fmt.{signed_decimal};
 ghost use Rattle.std.specs.Io.KnownBytes.{Appends};
-ghost use Rattle.blk_cli.specs.Ends.{line, numbered, at_record, text_name, bio_name, rule_name, step_name, text_line, step_line, sched_line, oracle_line, check_line, line_of, text_status, step_status, oracle_status, check_status, status_of};
+ghost use Rattle.blk_cli.specs.Ends.{line, numbered, at_record, text_name, bio_name, rule_name, step_name, text_line, step_line, sched_line, oracle_line, check_line, met_check_line, line_of, text_status, step_status, oracle_status, check_status, met_check_status, status_of};
 
 use crate::{Ended, FAILED, REFUSED};
 use blk_bio::BioFault;
@@ -11,7 +11,7 @@ use blk_sched::SchedFault;
 use blk_sim::{SimFault, SimWhy};
 use blk_text::{TextFault, Why, WriteFault};
 use blk_trace::TraceRule;
-use edd_check::CheckFault;
+use edd_check::{CheckFault, MetFault};
 use edd_oracle::OracleFault;
 use std::io;
 use std::io::Write;
@@ -38,6 +38,8 @@ pub enum Failure {
     Solve(OracleFault),
     /// The check refuses the certificate.
     Check(CheckFault),
+    /// The check refuses the certificate of what is met.
+    Met(MetFault),
     /// The trace sets a depth, so that no command list has its commands.
     NotFixed,
     /// The writer failed.
@@ -65,7 +67,8 @@ impl Failure {
             Failure::Solve(OracleFault::Memory) => FAILED,
             Failure::Solve(_) => REFUSED,
             Failure::Check(CheckFault::Memory) => FAILED,
-            Failure::Check(_) | Failure::NotFixed => REFUSED,
+            Failure::Met(MetFault::Memory) => FAILED,
+            Failure::Check(_) | Failure::Met(_) | Failure::NotFixed => REFUSED,
             Failure::Write(_) | Failure::Memory => FAILED,
         }
     }
@@ -80,6 +83,7 @@ impl Failure {
             Failure::Step(fault) => tell_step(faults, fault.at, fault.why),
             Failure::Solve(fault) => tell_solve(faults, *fault),
             Failure::Check(fault) => tell_check(faults, *fault),
+            Failure::Met(fault) => tell_met(faults, *fault),
             Failure::NotFixed => tell_name(faults, "NotFixed"),
             Failure::Write(WriteFault::Write) => faults.write_all(WRITE_FAULT),
             Failure::Write(WriteFault::Memory) | Failure::Memory => faults.write_all(
@@ -251,5 +255,20 @@ fn tell_check<F: Write>(faults: &mut F, fault: CheckFault) -> io::Result<()>
         CheckFault::OverDepth(round) => tell_number(faults, "OverDepth", round),
         CheckFault::WrongLateness(own) => tell_signed(faults, "WrongLateness", own),
         CheckFault::NotCrowded(load) => tell_number(faults, "NotCrowded", load),
+    }
+}
+
+/// Writes the line on a certificate of what is met.
+fn tell_met<F: Write>(faults: &mut F, fault: MetFault) -> io::Result<()>
+    ensures { OnOk result (Appends (F.contents faults.old) (F.contents faults.new) (met_check_line fault)) }
+{
+    match fault {
+        MetFault::Length => tell_name(faults, "Length"),
+        MetFault::BeforeRelease(id) => tell_number(faults, "BeforeRelease", id),
+        MetFault::Memory => faults.write_all(WANT_OF_MEMORY),
+        MetFault::OverDepth(round) => tell_number(faults, "OverDepth", round),
+        MetFault::WrongMet(own) => tell_number(faults, "WrongMet", own),
+        MetFault::Windows(place) => tell_number(faults, "Windows", place as u64),
+        MetFault::Loose(bound) => tell_number(faults, "Loose", bound),
     }
 }

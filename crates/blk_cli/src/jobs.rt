@@ -14,16 +14,18 @@ ghost use Rattle.blk_text.specs.Commands.{AreCommands};
 ghost use Rattle.blk_text.specs.Texts.{rows_text};
 ghost use Rattle.blk_text.specs.TraceRecords.{trace_rows};
 ghost use Rattle.blk_text.specs.TraceForm.{SpellsTrace};
-ghost use Rattle.blk_cli.specs.Outcome.{RunsUnder, IsUnrun, IsUnsolved, IsUnproved, SimWrote, SimFails, MigrateWrote, MigrateFails, OracleWrote, OracleFails, CheckWrote, CheckFails, VersionFails, IsProved, verdict_of, version_line};
+ghost use Rattle.blk_cli.specs.Outcome.{RunsUnder, IsUnrun, IsUnsolved, IsUnproved, SimWrote, SimFails, MigrateWrote, MigrateFails, OracleWrote, OracleFails, CheckWrote, CheckFails, VersionFails, IsProved, IsGood, IsBad, line_on, verdict_of, version_line};
+ghost use Rattle.blk_text.specs.Proof.{proof_claimed, IsProofClaim};
 
 use crate::failure::Failure;
+use crate::meeting::judge_met;
 use crate::words::{Sched, VERSION};
 use blk_deadline::{Deadline, Tunables};
 use blk_kyber::{Kyber, Targets};
 use blk_none::NoneSched;
 use blk_sim::simulate;
 use blk_text::{
-    Certificate, Records, Script, WriteFault, read_certificate, read_commands, read_script,
+    Certificate, Proof, Records, Script, WriteFault, read_commands, read_proof, read_script,
     read_trace, write_certificate, write_trace,
 };
 use blk_trace::Trace;
@@ -269,7 +271,35 @@ fn verdict(alloc: Global, certificate: &Certificate) -> Result<String, AllocErro
     format!(in alloc; "ok lateness {lateness} load {asked} carries {carries}\n")
 }
 
-/// Reads a certificate, checks it, and writes a line on what it proves.
+/// The line on a certificate of a least lateness, which proves it.
+fn judge_lateness(alloc: Global, certificate: &Certificate) -> Result<String, Failure>
+    requires { IsClaim (claimed certificate.now) }
+    ensures good { IfOk result (λ line. IsProved (claimed certificate.now) × (string_bytes line ≡ verdict_of (claimed certificate.now) (claimed certificate.now).bound)) }
+    ensures unproved { IfErr result (IsUnproved (claimed certificate.now)) }
+{
+    match verify(alloc, certificate) {
+        Ok(()) => {}
+        Err(failure) => return Err(failure),
+    }
+    match verdict(alloc, certificate) {
+        Ok(line) => Ok(line),
+        Err(_) => Err(Failure::Memory),
+    }
+}
+
+/// The line on a certificate of either form, which proves what it claims.
+fn judge(alloc: Global, proof: &Proof) -> Result<String, Failure>
+    requires { IsProofClaim (proof_claimed proof.now) }
+    ensures good { IfOk result (λ line. IsGood (proof_claimed proof.now) × (string_bytes line ≡ line_on (proof_claimed proof.now))) }
+    ensures bad { IfErr result (IsBad (proof_claimed proof.now)) }
+{
+    match proof {
+        Proof::Lateness(certificate) => judge_lateness(alloc, certificate),
+        Proof::Met(certificate) => judge_met(alloc, certificate),
+    }
+}
+
+/// Reads a certificate of either form, checks it, and writes a line on what it proves.
 pub fn check_certificate<R: Read + Drop, W: Write>(
     alloc: Global,
     reader: R,
@@ -279,16 +309,13 @@ pub fn check_certificate<R: Read + Drop, W: Write>(
         (CheckFails (input_of (R.remaining reader))) }
     ensures kept { IfErr result (λ f. IsOfWriter f ⊎ (writer.new ≡ writer.old)) }
 {
-    let certificate = match read_certificate(alloc, &mut Records::new(alloc, reader)) {
-        Ok(certificate) => certificate,
+    let proof = match read_proof(alloc, &mut Records::new(alloc, reader)) {
+        Ok(proof) => proof,
         Err(fault) => return Err(Failure::Text(fault)),
     };
-    match verify(alloc, &certificate) {
-        Ok(()) => {}
+    let line = match judge(alloc, &proof) {
+        Ok(line) => line,
         Err(failure) => return Err(failure),
-    }
-    let Ok(line) = verdict(alloc, &certificate) else {
-        return Err(Failure::Memory);
     };
     match writer.write_all(line.as_bytes()) {
         Ok(()) => Ok(()),

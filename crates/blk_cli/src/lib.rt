@@ -11,6 +11,7 @@ pub mod asking;
 mod comparing;
 mod failure;
 mod jobs;
+mod meeting;
 mod traces;
 mod words;
 
@@ -19,6 +20,7 @@ pub use crate::failure::Failure;
 use crate::jobs::{
     check_certificate, migrate_trace, simulate_script, solve_commands, write_version,
 };
+use crate::meeting::meet_commands;
 use crate::traces::{list_commands, report_trace};
 pub use crate::words::{Job, Sched, VERSION};
 use crate::words::{NoJob, choose};
@@ -66,6 +68,7 @@ pub fn work<R: Read + Drop, W: Write>(
         Job::Migrate => migrate_trace(alloc, reader, writer),
         Job::Commands => list_commands(alloc, reader, writer),
         Job::Oracle => solve_commands(alloc, reader, writer),
+        Job::Met => meet_commands(alloc, reader, writer),
         Job::Report => report_trace(alloc, reader, writer),
         Job::Check => check_certificate(alloc, reader, writer),
     }

@@ -1,10 +1,10 @@
 //! The words of the command line, as a job.
 
-ghost use Rattle.std.specs.Prelude.{◌≡◌, ◌⊎◌, false, IfOk, IfErr, map, option_and_then, string_bytes};
+ghost use Rattle.std.specs.Prelude.{◌≡◌, ◌⊎◌, false, IfOk, IfErr, map, option_and_then, codes, string_bytes};
 ghost use Rattle.clap.specs.Words.{app_of, new_app, rule_of, rows_of, found_of, subcommand_rows_of, with_subcommand};
 ghost use Rattle.clap.specs.declared.builder.command.Command.TheViews.{out-Command as fields_of};
 ghost use Rattle.blk_cli.specs.Line.{Names, AreSchedulers, sched_rule, number_rule, target, flag_rule, tuning, sim_app, compare_app, oracle_app, with_plain, over_scripts, over_traces, over_lists, blk_app};
-ghost use Rattle.blk_cli.specs.Asked.{Asks, AreRefused, short_given, number_given, is_flagged, tunables_of, targets_of, sched_of, compared, plain_job, job_of};
+ghost use Rattle.blk_cli.specs.Asked.{Asks, AreRefused, short_given, number_given, is_flagged, tunables_of, targets_of, sched_of, compared, oracle_job, plain_job, job_of};
 
 use blk_deadline::Tunables;
 use blk_kyber::Targets;
@@ -48,6 +48,8 @@ pub enum Job {
     Commands,
     /// Write the certificate of a command list.
     Oracle,
+    /// Write how many commands of a list can be met, with its certificate.
+    Met,
     /// Write the report of a trace.
     Report,
     /// Check a certificate.
@@ -210,7 +212,12 @@ fn oracle_command<'a>(alloc: Global) -> Result<Command<'a>, AllocError>
         "trace",
         "Reads a trace instead, and writes how late it was and had to be",
     );
-    let flagged = oracle.arg(trace)?;
+    let met = flag_arg(
+        alloc,
+        "met",
+        "Writes how many commands can be met, with its certificate",
+    );
+    let flagged = oracle.arg(trace)?.arg(met)?;
     Ok(flagged)
 }
 
@@ -378,6 +385,23 @@ fn plain_job(name: &str) -> Option<Job>
     }
 }
 
+/// The job of `oracle` by its flags, which may not stand together.
+fn oracle_job(options: &ArgMatches<'_>) -> Option<Job>
+    ensures { result ≡ oracle_job (is_flagged (codes "trace") (rows_of (found_of options.now))) (is_flagged (codes "met") (rows_of (found_of options.now))) }
+{
+    let trace = is_flagged(options, "trace");
+    let met = is_flagged(options, "met");
+    if trace && met {
+        None
+    } else if trace {
+        Some(Job::Report)
+    } else if met {
+        Some(Job::Met)
+    } else {
+        Some(Job::Oracle)
+    }
+}
+
 /// The job of a subcommand.
 fn job_named(name: &str, options: &ArgMatches<'_>) -> Option<Job>
     ensures { result ≡ job_of (name.now, rows_of (found_of options.now)) }
@@ -388,11 +412,7 @@ fn job_named(name: &str, options: &ArgMatches<'_>) -> Option<Job>
     } else if name == "compare" {
         compare_of(options)
     } else if name == "oracle" {
-        if is_flagged(options, "trace") {
-            Some(Job::Report)
-        } else {
-            Some(Job::Oracle)
-        }
+        oracle_job(options)
     } else {
         plain_job(name)
     }

@@ -1,7 +1,7 @@
 use Rattle.std.proofs.Common.{[], ◌∷◌, codes, true}
 use Rattle.blk_cli.specs.declared.words.Sched.TheVariants as sched
 use Rattle.blk_cli.specs.declared.words.Job.TheVariants as job
-use Rattle.blk_cli.proofs.Plain.{asks_alone, sim_line, none_line, deadline_line, kyber_line, batch_line, target_line, compare_line, migrate_line, commands_line, oracle_line, report_line, check_line, version_line}
+use Rattle.blk_cli.proofs.Plain.{asks_alone, sim_line, none_line, deadline_line, kyber_line, batch_line, target_line, compare_line, migrate_line, commands_line, oracle_line, report_line, met_line, asks_nothing, report_and_met_line, check_line, version_line}
 use Rattle.blk_cli.proofs.asking.plain_lines.Goals as goal
 
 pub returns : goal.returns
@@ -20,6 +20,8 @@ returns c = record {
   commands = λ name. asks_alone (name ∷ codes "commands" ∷ []) job.Commands (commands_line name);
   oracle = λ name. asks_alone (name ∷ codes "oracle" ∷ []) job.Oracle (oracle_line name);
   report = λ name. asks_alone (name ∷ codes "oracle" ∷ codes "--trace" ∷ []) job.Report (report_line name);
+  met = λ name. asks_alone (name ∷ codes "oracle" ∷ codes "--met" ∷ []) job.Met (met_line name);
+  report_and_met = λ name. asks_nothing (name ∷ codes "oracle" ∷ codes "--trace" ∷ codes "--met" ∷ []) (report_and_met_line name);
   check = λ name. asks_alone (name ∷ codes "check" ∷ []) job.Check (check_line name);
   version = version_line;
 }

@@ -1,0 +1,90 @@
+-- Certificates of what is met, from what the oracle and the check answer.
+use Rattle.std.proofs.Common.{ℕ, ◌≡◌, ◌≤◌, ◌<◌, ◌+◌, ◌-◌, ◌*◌, List, [], ◌∷◌, length, arith, sym, subst, refl, count_by, sum_by, slice_index_or}
+use Rattle.std.specs.Prelude.{All, Err, zip}
+use Rattle.std.proofs.Math.Nat.{le-mul_of_pos_right}
+use Rattle.std.proofs.lemmas.List.Elements.{All-from_get_or}
+use Rattle.std.proofs.lemmas.List.Sums.{count_by-le-length, sum_by-cons}
+use Rattle.edd_check.specs.declared.Command.{Command}
+use Rattle.edd_check.specs.declared.Window.{Window}
+use Rattle.edd_check.specs.declared.steps.Step.{Step}
+use Rattle.edd_check.specs.declared.met.MetFault.{MetFault}
+use Rattle.edd_check.specs.Capacity.{fixed}
+use Rattle.edd_check.specs.Schedule.{IsLegal, RoundsInRange}
+use Rattle.edd_check.specs.Met.{number_met, is_met, carried_in, carried_by, outside_of, bound_of, IsCover, IsMostMet}
+use Rattle.edd_check.specs.CheckMet.{IsMetAnswer}
+use Rattle.edd_check.proofs.Covers.{length_pairs}
+use Rattle.edd_check.proofs.InForce.{carried_fixed}
+use Rattle.edd_oracle.specs.Met.{IsMostAnswer}
+use Rattle.blk_text.specs.Commands.{AreCommands}
+use Rattle.blk_text.specs.Met.{MetClaim, IsMetClaim}
+use Rattle.blk_cli.specs.Meeting.{IsMetProved, IsRefusedMet}
+
+number_most : (commands : List Command) (rounds : List ℕ) → length rounds ≡ length commands → number_met commands rounds ≤ length commands
+unfolding number_met
+number_most commands rounds same =
+    omega (arith, count_by-le-length (λ (p : Command × ℕ). is_met p.0 p.1) (zip commands rounds), length_pairs commands rounds same)
+
+product : (a b : ℕ) → 1 ≤ a → 1 ≤ b → 1 ≤ a * b
+product a b h k = let more : a ≤ a * b = le-mul_of_pos_right {b} a k in omega (arith, more, h)
+
+-- the rounds of a window carry some command
+window_carries : (depth : ℕ) (w : Window) → 1 ≤ depth → w.from ≤ w.due → 1 ≤ carried_in (fixed depth) w
+unfolding carried_in
+window_carries depth w some fits =
+    let e = carried_fixed depth w.from (w.due + 1 - w.from) in
+    omega (arith, e, product depth (w.due + 1 - w.from) some (omega (arith, fits)))
+
+sum_most : (depth : ℕ) (cover : List Window) → 1 ≤ depth → All (λ (w : Window). w.from ≤ w.due) cover → length cover ≤ sum_by (λ w. carried_in (fixed depth) w) cover
+sum_most depth [] some fits = omega arith
+sum_most depth (w ∷ cover) some fits =
+    let e = sum_by-cons (λ (v : Window). carried_in (fixed depth) v) w cover in
+    omega (arith, e, window_carries depth w some fits.0, sum_most depth cover some fits.1)
+
+-- disjoint windows are no more than what they carry
+cover_most : (depth : ℕ) (cover : List Window) → 1 ≤ depth → IsCover cover → length cover ≤ carried_by (fixed depth) cover
+unfolding carried_by
+cover_most depth cover some is =
+    let d : Window = record { from = 0; due = 0 } in
+    sum_most depth cover some (All-from_get_or (λ (w : Window). w.from ≤ w.due) cover d (λ i h. (is i h).some d))
+
+-- what the oracle answers is the claim of a certificate
+pub met_claim_in : (depth : ℕ) (steps : List Step) (commands : List Command) (rounds : List ℕ) (met : ℕ) (cover : List Window) → AreCommands depth commands → steps ≡ fixed depth → IsMostAnswer commands steps rounds met cover
+    → IsMetClaim (record { depth = depth; commands = commands; rounds = rounds; met = met; cover = cover })
+met_claim_in depth steps commands rounds met cover are under answer =
+    let bound : bound_of commands (fixed depth) cover ≡ met = subst (λ s. bound_of commands s cover ≡ met) under answer.bound in
+    let most = number_most commands rounds answer.legal.one_each in
+    let few = cover_most depth cover are.0 answer.disjoint in
+    record {
+      depth = (are.0, are.1);
+      few = are.2;
+      one_each = answer.legal.one_each;
+      numbers = (omega (arith, most, answer.number, are.2), omega (arith, few, bound, most, answer.number, are.2));
+      cover = answer.cover_in;
+      commands = are.3;
+      rounds = answer.rounds_in;
+    }
+
+-- a certificate of which the check said Ok
+pub met_proved : (claim : MetClaim) (commands : List Command) (rounds : List ℕ) (cover : List Window) (steps : List Step) → commands ≡ claim.commands → rounds ≡ claim.rounds → cover ≡ claim.cover → steps ≡ fixed claim.depth
+    → IsMetClaim claim → IsLegal commands rounds steps × (number_met commands rounds ≡ claim.met) × IsCover cover × (bound_of commands steps cover ≡ claim.met) → IsMostMet commands steps claim.met → IsMetProved claim
+met_proved claim commands rounds cover steps same_commands same_rounds same_cover under is h most =
+    let seen : IsMostAnswer commands steps claim.rounds claim.met claim.cover = record {
+      legal = subst (λ r. IsLegal commands r steps) same_rounds h.0;
+      number = subst (λ r. number_met commands r ≡ claim.met) same_rounds h.1;
+      disjoint = subst IsCover same_cover h.2;
+      bound = subst (λ v. bound_of commands steps v ≡ claim.met) same_cover h.3;
+      most = most;
+      rounds_in = is.rounds;
+      cover_in = is.cover;
+    } in
+    subst (λ cs. IsMostAnswer cs (fixed claim.depth) claim.rounds claim.met claim.cover) same_commands (subst (λ s. IsMostAnswer commands s claim.rounds claim.met claim.cover) under seen)
+
+-- one that it refused
+pub met_refused : (claim : MetClaim) (commands : List Command) (rounds : List ℕ) (cover : List Window) (steps : List Step) (f : MetFault) → commands ≡ claim.commands → rounds ≡ claim.rounds → cover ≡ claim.cover → steps ≡ fixed claim.depth
+    → IsMetAnswer commands steps rounds claim.met cover (Err f) → IsRefusedMet claim f
+met_refused claim commands rounds cover steps f same_commands same_rounds same_cover under h =
+    let C : List Command → Type 0 = λ xs. IsMetAnswer xs steps rounds claim.met cover (Err f) in
+    let R : List ℕ → Type 0 = λ ys. IsMetAnswer claim.commands steps ys claim.met cover (Err f) in
+    let V : List Window → Type 0 = λ vs. IsMetAnswer claim.commands steps claim.rounds claim.met vs (Err f) in
+    let P : List Step → Type 0 = λ s. IsMetAnswer claim.commands s claim.rounds claim.met claim.cover (Err f) in
+    subst P under (subst V same_cover (subst R same_rounds (subst C same_commands h)))
