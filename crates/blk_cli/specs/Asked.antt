@@ -64,7 +64,9 @@ abbrev pub plain_job : Text → Option Job
 plain_job name =
     if bytes_eq name (codes "migrate") then Some job.Migrate
     else (if bytes_eq name (codes "commands") then Some job.Commands
-    else (if bytes_eq name (codes "check") then Some job.Check else None))
+    else (if bytes_eq name (codes "misses") then Some job.Misses
+    else (if bytes_eq name (codes "spread") then Some job.Spread
+    else (if bytes_eq name (codes "check") then Some job.Check else None))))
 
 -- the job of a subcommand, by its name and what its options are given
 abbrev pub job_of : Text × List Row → Option Job
