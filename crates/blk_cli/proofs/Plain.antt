@@ -93,6 +93,14 @@ pub commands_line : (name : Text) (p q r s : ℕ × ℕ) → IsReadAs (name ∷ 
 unfolding clap_on_literals
 commands_line name p q r s = (refl, refl)
 
+pub misses_line : (name : Text) (p q r s : ℕ × ℕ) → IsReadAs (name ∷ codes "misses" ∷ []) job.Misses (at_places p q r s)
+unfolding clap_on_literals
+misses_line name p q r s = (refl, refl)
+
+pub spread_line : (name : Text) (p q r s : ℕ × ℕ) → IsReadAs (name ∷ codes "spread" ∷ []) job.Spread (at_places p q r s)
+unfolding clap_on_literals
+spread_line name p q r s = (refl, refl)
+
 pub oracle_line : (name : Text) (p q r s : ℕ × ℕ) → IsReadAs (name ∷ codes "oracle" ∷ []) job.Oracle (at_places p q r s)
 unfolding clap_on_literals
 oracle_line name p q r s = (refl, refl)

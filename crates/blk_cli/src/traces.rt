@@ -5,10 +5,10 @@ ghost use Rattle.std.specs.Io.KnownBytes.{Appends};
 ghost use Rattle.blk_trace.specs.Depths.{IsFixed};
 ghost use Rattle.blk_text.specs.Sources.{input_of};
 ghost use Rattle.blk_cli.specs.Statuses.{IsOfWriter};
-ghost use Rattle.blk_cli.specs.OfTraces.{IsReportText, IsCommandsText, IsUntold, IsUnfixed, TraceWrote, TraceFails};
+ghost use Rattle.blk_cli.specs.OfTraces.{IsReportText, IsCommandsText, IsMissesText, IsSpreadText, IsUntold, IsUnfixed, TraceWrote, TraceFails};
 
 use crate::failure::Failure;
-use blk_report::report;
+use blk_report::{misses, report, services, spread, write_misses, write_spread};
 use blk_text::{Records, read_trace, write_commands};
 use blk_trace::Trace;
 use edd_check::Command;
@@ -67,6 +67,39 @@ fn put_commands<W: Write>(alloc: Global, trace: &Trace, writer: &mut W) -> Resul
     }
 }
 
+/// Writes how many commands of a trace were late, and how many had to be.
+fn put_misses<W: Write>(alloc: Global, trace: &Trace, writer: &mut W) -> Result<(), Failure>
+    ensures wrote { OnOk result ((text : List ℕ) × IsMissesText trace.now text × Appends (W.contents writer.old) (W.contents writer.new) text) }
+    ensures untold { IfErr result (IsUntold ⊥) }
+    ensures kept { IfErr result (λ f. IsOfWriter f ⊎ (writer.new ≡ writer.old)) }
+{
+    let Ok(missed) = misses(trace) else {
+        return Err(Failure::Memory);
+    };
+    match write_misses(alloc, &missed, writer) {
+        Ok(()) => Ok(()),
+        Err(fault) => Err(Failure::Write(fault)),
+    }
+}
+
+/// Writes how long the commands of a trace waited, and how late they were.
+fn put_spread<W: Write>(alloc: Global, trace: &Trace, writer: &mut W) -> Result<(), Failure>
+    ensures wrote { OnOk result ((text : List ℕ) × IsSpreadText trace.now text × Appends (W.contents writer.old) (W.contents writer.new) text) }
+    ensures untold { IfErr result (IsUntold ⊥) }
+    ensures kept { IfErr result (λ f. IsOfWriter f ⊎ (writer.new ≡ writer.old)) }
+{
+    let Ok(services) = services(trace) else {
+        return Err(Failure::Memory);
+    };
+    let Ok(spreads) = spread(alloc, services.as_slice()) else {
+        return Err(Failure::Memory);
+    };
+    match write_spread(alloc, &spreads, writer) {
+        Ok(()) => Ok(()),
+        Err(fault) => Err(Failure::Write(fault)),
+    }
+}
+
 /// Reads a trace, and writes its report.
 pub fn report_trace<R: Read + Drop, W: Write>(
     alloc: Global,
@@ -99,4 +132,38 @@ pub fn list_commands<R: Read + Drop, W: Write>(
         Err(fault) => return Err(Failure::Text(fault)),
     };
     put_commands(alloc, &trace, writer)
+}
+
+/// Reads a trace, and writes how many of its commands were late, and how many had to be.
+pub fn count_misses<R: Read + Drop, W: Write>(
+    alloc: Global,
+    reader: R,
+    writer: &mut W,
+) -> Result<(), Failure>
+    ensures did { MatchResult result (λ _. IfSome (input_of (R.remaining reader)) (λ rows. TraceWrote IsMissesText rows (W.contents writer.old) (W.contents writer.new)))
+        (TraceFails ⊥ (input_of (R.remaining reader))) }
+    ensures kept { IfErr result (λ f. IsOfWriter f ⊎ (writer.new ≡ writer.old)) }
+{
+    let trace = match read_trace(alloc, &mut Records::new(alloc, reader)) {
+        Ok(trace) => trace,
+        Err(fault) => return Err(Failure::Text(fault)),
+    };
+    put_misses(alloc, &trace, writer)
+}
+
+/// Reads a trace, and writes how long its commands waited and how late they were, by quantiles.
+pub fn spread_trace<R: Read + Drop, W: Write>(
+    alloc: Global,
+    reader: R,
+    writer: &mut W,
+) -> Result<(), Failure>
+    ensures did { MatchResult result (λ _. IfSome (input_of (R.remaining reader)) (λ rows. TraceWrote IsSpreadText rows (W.contents writer.old) (W.contents writer.new)))
+        (TraceFails ⊥ (input_of (R.remaining reader))) }
+    ensures kept { IfErr result (λ f. IsOfWriter f ⊎ (writer.new ≡ writer.old)) }
+{
+    let trace = match read_trace(alloc, &mut Records::new(alloc, reader)) {
+        Ok(trace) => trace,
+        Err(fault) => return Err(Failure::Text(fault)),
+    };
+    put_spread(alloc, &trace, writer)
 }

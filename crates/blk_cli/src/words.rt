@@ -46,6 +46,10 @@ pub enum Job {
     Migrate,
     /// Write the command list of a trace.
     Commands,
+    /// Write how many commands of a trace were late, and how many had to be.
+    Misses,
+    /// Write how long the commands of a trace waited, and how late they were, by quantiles.
+    Spread,
     /// Write the certificate of a command list.
     Oracle,
     /// Write how many commands of a list can be met, with its certificate.
@@ -273,7 +277,19 @@ fn over_traces<'a>(alloc: Global, command: Command<'a>) -> Result<Command<'a>, A
         "commands",
         "Writes the command list of a trace",
     )?;
-    Ok(listing)
+    let missing = with_plain(
+        alloc,
+        listing,
+        "misses",
+        "Writes how many commands of a trace were late, and how many had to be",
+    )?;
+    let spreading = with_plain(
+        alloc,
+        missing,
+        "spread",
+        "Writes how long the commands of a trace waited and how late they were, by quantiles",
+    )?;
+    Ok(spreading)
 }
 
 /// The command line with the subcommands over command lists and certificates.
@@ -378,6 +394,10 @@ fn plain_job(name: &str) -> Option<Job>
         Some(Job::Migrate)
     } else if name == "commands" {
         Some(Job::Commands)
+    } else if name == "misses" {
+        Some(Job::Misses)
+    } else if name == "spread" {
+        Some(Job::Spread)
     } else if name == "check" {
         Some(Job::Check)
     } else {
