@@ -1,8 +1,7 @@
 -- Certificates of what is met, from what the oracle and the check answer.
-use Rattle.std.proofs.Common.{ℕ, ◌≡◌, ◌≤◌, ◌<◌, ◌+◌, ◌-◌, ◌*◌, List, [], ◌∷◌, length, arith, sym, subst, refl, count_by, sum_by, slice_index_or}
+use Rattle.std.proofs.Common.{ℕ, suc, ◌≡◌, ◌∙◌, Result, Ok, IfOk, ◌≤◌, ◌<◌, ◌+◌, ◌-◌, ◌*◌, List, [], ◌∷◌, length, arith, sym, subst, refl, count_by, sum_by, slice_index_or}
 use Rattle.std.specs.Prelude.{All, Err, zip}
 use Rattle.std.proofs.Math.Nat.{le-mul_of_pos_right}
-use Rattle.std.proofs.lemmas.List.Elements.{All-from_get_or}
 use Rattle.std.proofs.lemmas.List.Sums.{count_by-le-length, sum_by-cons}
 use Rattle.edd_check.specs.declared.Command.{Command}
 use Rattle.edd_check.specs.declared.Window.{Window}
@@ -17,7 +16,7 @@ use Rattle.edd_check.proofs.InForce.{carried_fixed}
 use Rattle.edd_oracle.specs.Met.{IsMostAnswer}
 use Rattle.blk_text.specs.Commands.{AreCommands}
 use Rattle.blk_text.specs.Met.{MetClaim, IsMetClaim}
-use Rattle.blk_cli.specs.Meeting.{IsMetProved, IsRefusedMet}
+use Rattle.blk_cli.specs.Meeting.{IsMetProved, IsRefusedMet, met_line, met_verdict_of}
 
 number_most : (commands : List Command) (rounds : List ℕ) → length rounds ≡ length commands → number_met commands rounds ≤ length commands
 unfolding number_met
@@ -25,7 +24,7 @@ number_most commands rounds same =
     omega (arith, count_by-le-length (λ (p : Command × ℕ). is_met p.0 p.1) (zip commands rounds), length_pairs commands rounds same)
 
 product : (a b : ℕ) → 1 ≤ a → 1 ≤ b → 1 ≤ a * b
-product a b h k = let more : a ≤ a * b = le-mul_of_pos_right {b} a k in omega (arith, more, h)
+product a b h k = let more : a ≤ a * b = le-mul_of_pos_right {m = b} a k in omega (arith, more, h)
 
 -- the rounds of a window carry some command
 window_carries : (depth : ℕ) (w : Window) → 1 ≤ depth → w.from ≤ w.due → 1 ≤ carried_in (fixed depth) w
@@ -38,14 +37,13 @@ sum_most : (depth : ℕ) (cover : List Window) → 1 ≤ depth → All (λ (w : 
 sum_most depth [] some fits = omega arith
 sum_most depth (w ∷ cover) some fits =
     let e = sum_by-cons (λ (v : Window). carried_in (fixed depth) v) w cover in
-    omega (arith, e, window_carries depth w some fits.0, sum_most depth cover some fits.1)
+    omega (arith, e, window_carries depth w some (fits 0 w (omega arith)), sum_most depth cover some (λ k d h. fits (suc k) d (omega (arith, h))))
 
 -- disjoint windows are no more than what they carry
 cover_most : (depth : ℕ) (cover : List Window) → 1 ≤ depth → IsCover cover → length cover ≤ carried_by (fixed depth) cover
 unfolding carried_by
 cover_most depth cover some is =
-    let d : Window = record { from = 0; due = 0 } in
-    sum_most depth cover some (All-from_get_or (λ (w : Window). w.from ≤ w.due) cover d (λ i h. (is i h).some d))
+    sum_most depth cover some (λ k d h. (is k h).some d)
 
 -- what the oracle answers is the claim of a certificate
 pub met_claim_in : (depth : ℕ) (steps : List Step) (commands : List Command) (rounds : List ℕ) (met : ℕ) (cover : List Window) → AreCommands depth commands → steps ≡ fixed depth → IsMostAnswer commands steps rounds met cover
@@ -88,3 +86,9 @@ met_refused claim commands rounds cover steps f same_commands same_rounds same_c
     let V : List Window → Type 0 = λ vs. IsMetAnswer claim.commands steps claim.rounds claim.met vs (Err f) in
     let P : List Step → Type 0 = λ s. IsMetAnswer claim.commands s claim.rounds claim.met claim.cover (Err f) in
     subst P under (subst V same_cover (subst R same_rounds (subst C same_commands h)))
+
+-- the line on a certificate
+pub met_line_is : {S E : Type 0} (text : S → List ℕ) (r : Result S E) (claim : MetClaim) (met count windows carries rest : ℕ) → met ≡ claim.met → count ≡ length claim.commands → windows ≡ length claim.cover
+    → carries ≡ carried_by (fixed claim.depth) claim.cover → rest ≡ outside_of claim.commands claim.cover → IfOk r (λ s. text s ≡ met_line met count windows carries rest) → IfOk r (λ s. text s ≡ met_verdict_of claim)
+met_line_is text (Err e) claim met count windows carries rest a b d f g h = tt
+met_line_is text (Ok s) claim met count windows carries rest a b d f g h = h ∙ rw (a, b, d, f, g) refl

@@ -11,8 +11,8 @@ returns-in-Ok-clause-proved c =
     let cover : c.as_slice-cover.result.now ≡ certificate.cover.items = search rules in
     met_proved (met_claimed certificate) _ _ _ _ commands rounds cover c.requires.capacity c.requires.claim c.in-Ok.ensures.answer c.in-Ok.ensures.most
 
-pub returns-clause-unmet : goal.returns-clause-unmet
-returns-clause-unmet c =
+pub returns-in-Err-clause-unmet : goal.returns-in-Err-clause-unmet
+returns-in-Err-clause-unmet c =
     let certificate = c.args.certificate.now in
     let commands : c.as_slice-commands.result.now ≡ certificate.commands.items = search rules in
     let rounds : c.as_slice-rounds.result.now ≡ certificate.rounds.items = search rules in
