@@ -12,7 +12,7 @@ use Rattle.blk_sched.specs.Meaning.{Waiting}
 use Rattle.blk_bio.specs.Extents.{extent_of}
 use mathlib.Core.Bool.{not, beq}
 use Rattle.blk_sched.specs.Inside.Spots.{Place, Spot, place_cmp, spot_cmp, is_write, is_placed, AreSpots, first_at}
-use Rattle.blk_sched.specs.Index.{IsNext, IsBefore, NoNext}
+use Rattle.blk_sched.specs.Index.{IsNext, IsBefore}
 use Rattle.blk_sched.proofs.Listed.{same_place, is_equal, place_itself, nat_less, lt_of}
 use Rattle.blk_sched.proofs.Indexed.{Found, Has}
 
@@ -44,7 +44,7 @@ at_one : (b : Bool) (f g i j : ℕ) → spot_cmp ((b, f), i) ((b, g), j) ≡ ord
 at_one false f g i j = refl
 at_one true f g i j = refl
 
-before_less : (b : Bool) (f g i j : ℕ) → IsBefore f i g j → spot_cmp ((b, f), i) ((b, g), j) ≡ Less
+pub before_less : (b : Bool) (f g i j : ℕ) → IsBefore f i g j → spot_cmp ((b, f), i) ((b, g), j) ≡ Less
 before_less b f g i j (inl lt) = at_one b f g i j ∙ ap (λ o. ordering_then o (nat_cmp i j)) (nat_less f g lt)
 before_less b f g i j (inr (e, lt)) = at_one b f g i j ∙ ap (λ o. ordering_then o (nat_cmp i j)) (equal f g e) ∙ nat_less i j lt
 
@@ -59,27 +59,10 @@ less_before b f g i j h = elim (nat_cmp f g) as (λ o. nat_cmp f g ≡ o → ord
   | Greater ↦ λ _ r. absurd (cc)
 ] refl (sym (at_one b f g i j) ∙ h)
 
--- a spot of the other direction: above the reads stand writes alone, and above a write no read
-other_above : (b other : Bool) (f g h i j k : ℕ) → not (beq other b) ≡ true → spot_cmp ((b, f), i) ((other, g), j) ≡ Less → is_gt (spot_cmp ((other, g), j) ((b, h), k)) ≡ false → ⊥
-other_above true true f g h i j k differ high least = cc
-other_above false false f g h i j k differ high least = cc
-other_above true false f g h i j k differ high least = cc
-other_above false true f g h i j k differ high least = cc
-
-at_first : (found : Found) (has : Has) (dir : Dir) (k : ℕ) (v : Waiting) → AreSpots first_at found has → found k ≡ Some v → dir_of v.bios ≡ dir → has ((is_write dir, first_of v.bios), k) ≡ true
+pub at_first : (found : Found) (has : Has) (dir : Dir) (k : ℕ) (v : Waiting) → AreSpots first_at found has → found k ≡ Some v → dir_of v.bios ≡ dir → has ((is_write dir, first_of v.bios), k) ≡ true
 at_first found has dir k v spots is same = ap (λ (d : Dir). has ((is_write d, first_of v.bios), k)) (sym same) ∙ standing first_at found has k v spots is
 
 module _ (found : Found) (has : Has) (dir : Dir) (first last : ℕ) (write : Bool) (own : write ≡ is_write dir) (spots : AreSpots first_at found has) where
-  pub no_next : ((q : Spot) → spot_cmp ((write, first), last) q ≡ Less → has q ≡ false) → NoNext dir first last found
-  no_next none k v is same after =
-      let there = at_first found has dir k v spots is same in
-      let a : true ≡ false = sym there ∙ ap (λ b. has ((b, first_of v.bios), k)) (sym own) ∙ none ((write, first_of v.bios), k) (before_less write first (first_of v.bios) last k after) in cc
-
-  pub other_next : (other : Bool) (sector id : ℕ) → spot_cmp ((write, first), last) ((other, sector), id) ≡ Less → ((q : Spot) → spot_cmp ((write, first), last) q ≡ Less → has q ≡ true → is_gt (spot_cmp ((other, sector), id) q) ≡ false) → not (beq other write) ≡ true → NoNext dir first last found
-  other_next other sector id high least differ k v is same after =
-      other_above write other first sector (first_of v.bios) last id k differ high
-      (least ((write, first_of v.bios), k) (before_less write first (first_of v.bios) last k after) (ap (λ b. has ((b, first_of v.bios), k)) own ∙ at_first found has dir k v spots is same))
-
   pub the_next : (other : Bool) (sector id : ℕ) → has ((other, sector), id) ≡ true → spot_cmp ((write, first), last) ((other, sector), id) ≡ Less → ((q : Spot) → spot_cmp ((write, first), last) q ≡ Less → has q ≡ true → is_gt (spot_cmp ((other, sector), id) q) ≡ false) → other ≡ write → IsNext dir first last found id
   the_next other sector id there high least same_way =
       let at = placed first_at (other, sector) (found id) (sym (spots (other, sector) id) ∙ there) in

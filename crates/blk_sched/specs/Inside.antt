@@ -5,3 +5,4 @@ pub mod Edges
 pub mod Shelves
 pub mod Lists
 pub mod Ages
+pub mod Orders

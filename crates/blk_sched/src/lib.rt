@@ -10,6 +10,7 @@ ghost use Rattle.blk_bio.specs.declared.request.Side.{Side};
 ghost use Rattle.blk_sched.specs.Meaning.{Waiting, Meaning, HasCandidate, HasNoCandidate, Joins, ServesNothing, Picks, HandsBack, joined_waiting, opened, open_of, handed_of, unfinished};
 
 pub mod ages;
+pub mod firsts;
 pub mod fits;
 pub mod index;
 pub mod lane;

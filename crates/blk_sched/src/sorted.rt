@@ -3,18 +3,18 @@
 ghost use Rattle.std.specs.Prelude.{◌≡◌, ◌<◌, ◌↔◌, ℕ, Option, None, Some, true, false, IfOk, OnOk, IfErr, OnErr, IfSome, IfNone};
 ghost use Rattle.std.specs.Option.{option_copied};
 ghost use Rattle.std.specs.FinMap as map;
-ghost use Rattle.std.specs.BTreeSet.{contains};
 ghost use Rattle.blk_sched.specs.Meaning.{Waiting};
 ghost use Rattle.blk_sched.specs.Fits.{IsNewestFit, FitsNone, HasFit};
-ghost use Rattle.blk_sched.specs.Inside.Spots.{spot_cmp, AreSpots, first_at};
+ghost use Rattle.blk_sched.specs.Inside.Spots.{AreSpots, first_at};
+ghost use Rattle.blk_sched.specs.Inside.Orders.{order_in};
 ghost use Rattle.blk_sched.specs.Index.{IsJoined, IsOldest, IsNext, NoneOf, NoNext};
 
 use crate::Queued;
+use crate::firsts::Order;
 use crate::index::{Index, extent_of, id_of, joined_extent};
-use crate::spots::{Spot, first_spot, is_write, oldest_above, put, take};
+use crate::spots::first_spot;
 use blk_bio::{Dir, Limits, Request, Side};
 use std::alloc::{AllocError, Allocator, Global};
-use std::collections::BTreeSet;
 use std::marker::Model;
 
 /// Requests that wait, in an index, and in the order of their directions, first sectors and ids. Seen as the map from ids to
@@ -22,15 +22,15 @@ use std::marker::Model;
 #[derive(Drop)]
 pub struct Sorted<A: Allocator = Global> {
     index: Index<A>,
-    firsts: BTreeSet<Spot, A>,
+    firsts: Order<A>,
 }
 
 impl<A: Allocator> Model for Sorted<A> {
-    ghost use Rattle.std.specs.BTreeSet.{contains};
     ghost use Rattle.std.specs.Coded.{coded_ℕ};
     ghost use Rattle.std.specs.FinMap.{get, code};
     ghost use Rattle.blk_sched.specs.Meaning.{Pending, waiting_code};
-    ghost use Rattle.blk_sched.specs.Inside.Spots.{spot_cmp, AreSpots, first_at};
+    ghost use Rattle.blk_sched.specs.Inside.Orders.{order_in};
+    ghost use Rattle.blk_sched.specs.Inside.Spots.{AreSpots, first_at};
 
     ghost Value = { Pending };
 
@@ -38,7 +38,7 @@ impl<A: Allocator> Model for Sorted<A> {
 
     ghost view = { λ s. s.index };
 
-    ghost invariant = { λ s. AreSpots first_at (get s.index) (contains spot_cmp s.firsts) };
+    ghost invariant = { λ s. AreSpots first_at (get s.index) (order_in s.firsts) };
 }
 
 impl<A: Allocator + Clone> Sorted<A> {
@@ -48,7 +48,7 @@ impl<A: Allocator + Clone> Sorted<A> {
     {
         Ok(Sorted {
             index: Index::new(alloc.clone()?)?,
-            firsts: BTreeSet::new(alloc),
+            firsts: Order::new(alloc)?,
         })
     }
 
@@ -76,13 +76,13 @@ impl<A: Allocator + Clone> Sorted<A> {
         ensures same { OnErr result (self.new ≡ self.old) }
     {
         let spot = first_spot(extent_of(&queued), id_of(&queued));
-        let Ok(()) = put(&mut self.firsts, spot) else {
+        let Ok(()) = self.firsts.put(spot) else {
             return Err(queued);
         };
         match self.index.insert(queued) {
             Ok(()) => Ok(()),
             Err(queued) => {
-                take(&mut self.firsts, spot);
+                self.firsts.take(spot);
                 Err(queued)
             }
         }
@@ -97,7 +97,7 @@ impl<A: Allocator + Clone> Sorted<A> {
         let Some(queued) = self.index.remove(id) else {
             return None;
         };
-        take(&mut self.firsts, first_spot(extent_of(&queued), id));
+        self.firsts.take(first_spot(extent_of(&queued), id));
         Some(queued)
     }
 
@@ -130,7 +130,7 @@ impl<A: Allocator + Clone> Sorted<A> {
         ensures named { (k : ℕ) (w : Waiting) → map.get self.now k ≡ Some w → w.id ≡ k }
     {
         let _ = self.index.len();
-        next_in(&self.index, &self.firsts, dir, first, last)
+        self.firsts.next(dir, first, last)
     }
 
     /// Joins a newcomer to the request of an id, which it fits at the side, in the round `now`. Refused for want of
@@ -155,40 +155,18 @@ impl<A: Allocator + Clone> Sorted<A> {
     }
 }
 
-/// The least of a direction's first sectors and ids above others.
-fn next_in<A: Allocator + Clone>(
-    index: &Index<A>,
-    firsts: &BTreeSet<Spot, A>,
-    dir: Dir,
-    first: u64,
-    last: u64,
-) -> Option<u64>
-    requires { AreSpots first_at (map.get index.now) (contains spot_cmp firsts.now) }
-    ensures some { IfSome result (IsNext dir first last (map.get index.now)) }
-    ensures none { IfNone result (NoNext dir first last (map.get index.now)) }
-{
-    let _ = index;
-    let write = is_write(dir);
-    let ((other, sector), id) = oldest_above(firsts, ((write, first), last))?;
-    let _ = sector;
-    if other != write {
-        return None;
-    }
-    Some(id)
-}
-
 /// Joins a newcomer at the front of the request of an id, where `firsts` are where the requests begin.
 fn join_ahead<A: Allocator + Clone>(
     index: &mut Index<A>,
-    firsts: &mut BTreeSet<Spot, A>,
+    firsts: &mut Order<A>,
     id: u64,
     now: u64,
     limits: &Limits,
     newcomer: Request<A>,
 ) -> Result<(), Request<A>>
     requires fit { HasFit limits.now (map.get index.old) newcomer id Side.Front }
-    requires spots { AreSpots first_at (map.get index.old) (contains spot_cmp firsts.old) }
-    ensures spots { AreSpots first_at (map.get index.new) (contains spot_cmp firsts.new) }
+    requires spots { AreSpots first_at (map.get index.old) (order_in firsts.old) }
+    ensures spots { AreSpots first_at (map.get index.new) (order_in firsts.new) }
     ensures joined { OnOk result (IsJoined now newcomer index.old id Side.Front index.new) }
     ensures err { IfErr result (λ e. e ≡ newcomer) }
     ensures same { OnErr result (index.new ≡ index.old) }
@@ -201,16 +179,16 @@ fn join_ahead<A: Allocator + Clone>(
     };
     let before = extent_of(queued);
     let spot = first_spot(joined_extent(Side::Front, before, added), id);
-    let Ok(()) = put(firsts, spot) else {
+    let Ok(()) = firsts.put(spot) else {
         return Err(newcomer);
     };
     match index.join_at(id, Side::Front, now, limits, newcomer) {
         Ok(()) => {
-            take(firsts, first_spot(before, id));
+            firsts.take(first_spot(before, id));
             Ok(())
         }
         Err(newcomer) => {
-            take(firsts, spot);
+            firsts.take(spot);
             Err(newcomer)
         }
     }

@@ -18,7 +18,6 @@ use blk_bio::{Dir, Extent};
 use std::alloc::{AllocError, Allocator, Global};
 use std::collections::{BTreeSet, HashMap};
 use std::hash::{BuildHasherDefault, FoldHasher};
-use std::ops::Bound;
 
 /// A direction, as whether it writes, and a sector; and the id of a request.
 pub type Spot = ((bool, u64), u64);
@@ -78,19 +77,6 @@ fn newest_below<A: Allocator + Clone>(spots: &BTreeSet<Spot, A>, upper: Spot) ->
     ensures none { IfNone result ((q : Spot) → spot_cmp q upper ≡ Less → contains spot_cmp spots.now q ≡ false) }
 {
     let found = spots.range(..upper).next_back()?;
-    Some(*found)
-}
-
-/// The least spot above another.
-pub fn oldest_above<A: Allocator + Clone>(spots: &BTreeSet<Spot, A>, lower: Spot) -> Option<Spot>
-    ensures there { IfSome result (λ s. contains spot_cmp spots.now s ≡ true) }
-    ensures high { IfSome result (λ s. spot_cmp lower s ≡ Less) }
-    ensures least { IfSome result (λ s. (q : Spot) → spot_cmp lower q ≡ Less → contains spot_cmp spots.now q ≡ true → is_gt (spot_cmp s q) ≡ false) }
-    ensures none { IfNone result ((q : Spot) → spot_cmp lower q ≡ Less → contains spot_cmp spots.now q ≡ false) }
-{
-    let found = spots
-        .range((Bound::Excluded(lower), Bound::Unbounded))
-        .next()?;
     Some(*found)
 }
 
