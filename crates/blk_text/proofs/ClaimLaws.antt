@@ -17,7 +17,8 @@ use Rattle.blk_text.specs.Words.{StartsWith, HasNoWord, WordLacks}
 use Rattle.blk_text.specs.Commands.{IsCommandInRange}
 use Rattle.blk_text.specs.Reads.{IsOutside, Reads, Halts, IsWrongLine, IsOne, items_of, with_next}
 use Rattle.blk_text.specs.Tables.{IsUpTo, IsVersion, FitsBy, row_by, slots_by, title_by}
-use Rattle.blk_text.specs.Certificate.{Claim, claim_rows, counted_cells, IsCounted, title, Bounded, NoBound, SomeBound, Bound, TellsBound, bound_kind, kind_of, bound_cells, no_bound_row, last_round, bound, bound_row, served_cells, served, IsServed, IsLateness, IsBound, IsClaim, claim_body, claim_form, claim_value, SpellsClaim, ClaimFault}
+use Rattle.blk_text.specs.Titles.{counted_cells, IsCounted}
+use Rattle.blk_text.specs.Certificate.{Claim, claim_rows, title, Bounded, NoBound, SomeBound, Bound, TellsBound, bound_kind, kind_of, bound_cells, no_bound_row, last_round, bound, bound_row, served_cells, served, IsServed, IsLateness, IsBound, IsClaim, claim_body, claim_told, claim_form, claim_value, SpellsClaim, ClaimFault}
 use Rattle.blk_text.specs.declared.fault.Why.{Why}
 use Rattle.blk_text.specs.declared.fault.Why.TheVariants as why
 use Rattle.blk_text.specs.declared.fields.Slot.TheVariants as slot
@@ -28,23 +29,14 @@ use Rattle.parts.specs.Laws.{Tells, Either, Decides}
 use Rattle.parts.proofs.Then.{record_tells, record_decides, by_word_tells, by_word_decides, seen_tells, seen_decides, then_tells, then_decides}
 use Rattle.blk_text.proofs.Lists.{head_of, tail_of, all_cons, cons_same}
 use Rattle.blk_text.proofs.Lacking.{both, same_number, same_row, no_word_lacks, word_decided}
-use Rattle.blk_text.proofs.TableLaws.{IsTable, table_tells, table_decides, word_tells, word_decides, title_part, title_decides, next_starts, next_once}
+use Rattle.blk_text.proofs.TableLaws.{IsTable, table_tells, table_decides, word_tells, word_decides, next_starts, next_once}
 use Rattle.blk_text.proofs.Each.{size_is, rows_map, all_fit, each_tells, each_decides, one_record, one_version}
-use Rattle.blk_text.proofs.Reading.{then_reads, end_halts, first_halts, second_halts}
+use Rattle.blk_text.proofs.Reading.{then_reads, ends_halt, first_halts, second_halts}
+use Rattle.blk_text.proofs.Counted.{counted_one, counted_decides}
 use Rattle.blk_text.proofs.Texts.{text_back, parts_back, begins_itself}
 use Rattle.edd_check.specs.declared.TheConstants.{ROUND_LIMIT}
 
 -- the tables
-
-pub title_table : (version : ℕ) → IsTable (counted_cells version) IsCounted
-title_table version = record {
-  sized = (omega arith, (omega arith, tt));
-  within = λ t f. ((f.0, f.1), ((omega arith, f.2), tt));
-  made = λ x. (x.0, x.1.0);
-  back = λ t f. refl;
-  forth = λ x. refl;
-  fits = λ x f. (f.0.0, f.0.1, f.1.0.1);
-}
 
 pub served_fits : (s : Command × ℕ) → FitsBy served_cells s → IsServed s
 served_fits s f = let id = f.0.1 in let release = f.1.0.1 in let due = f.1.1.0.1 in let round = f.1.1.1.0.1 in ((omega (arith, id), omega (arith, release), omega (arith, due)), omega (arith, round))
@@ -75,7 +67,7 @@ bound_table count = record {
 }
 
 pub title_one : IsOne title
-title_one = record { tells = title_part (codes "blk-certificate") 1 counted_cells (λ _. IsCounted) (omega arith) title_table; plain = λ v rest fit. tt; one = λ v. refl }
+title_one = counted_one (codes "blk-certificate")
 
 pub served_one : IsOne served
 served_one = one_record (row_by served_cells) IsServed why.Count (Lacks (slots_by served_cells)) (table_tells served_cells IsServed served_table)
@@ -181,7 +173,7 @@ bound_in (suc n) (Some b) f = let from = f.1.0.1 in let due = f.1.1.0.1 in (omeg
 
 -- whole certificates
 
-items_tell : (count : ℕ) → Tells (items_of (repeats.Exactly count) (λ _. served))
+pub items_tell : (count : ℕ) → Tells (items_of (repeats.Exactly count) (λ _. served))
 items_tell count = each_tells served served_one (repeats.Exactly count)
 
 pub body_tells : (count : ℕ) → Tells (claim_body count)
@@ -190,23 +182,25 @@ body_tells count = then_tells (bound count) (λ b. items_of (repeats.Exactly cou
 pub claim_tells : Tells claim_form
 claim_tells = then_tells title (λ t. claim_body t.1.1) title_one.tells (λ t fit. body_tells t.1.1)
 
-claim_decides : Decides claim_form
-claim_decides = then_decides title (λ t. claim_body t.1.1) (title_decides (codes "blk-certificate") 1 counted_cells (λ _. IsCounted) (omega arith) title_table)
-    (λ t fit. then_decides (bound t.1.1) (λ b. items_of (repeats.Exactly t.1.1) (λ _. served)) (bound_decides t.1.1)
-    (λ b fit. each_decides served (record_decides (row_by served_cells) IsServed why.Count (Lacks (slots_by served_cells)) (table_decides served_cells IsServed served_table)) (repeats.Exactly t.1.1)))
+pub served_decides : (count : ℕ) → Decides (items_of (repeats.Exactly count) (λ _. served))
+served_decides count = each_decides served (record_decides (row_by served_cells) IsServed why.Count (Lacks (slots_by served_cells)) (table_decides served_cells IsServed served_table)) (repeats.Exactly count)
 
-all_zip : (cs : List Command) (rs : List ℕ) → All IsCommandInRange cs → All (λ x. x < ROUND_LIMIT) rs → All IsServed (zip cs rs)
+pub claim_decides : Decides claim_form
+claim_decides = then_decides title (λ t. claim_body t.1.1) (counted_decides (codes "blk-certificate"))
+    (λ t fit. then_decides (bound t.1.1) (λ b. items_of (repeats.Exactly t.1.1) (λ _. served)) (bound_decides t.1.1) (λ b fit. served_decides t.1.1))
+
+pub all_zip : (cs : List Command) (rs : List ℕ) → All IsCommandInRange cs → All (λ x. x < ROUND_LIMIT) rs → All IsServed (zip cs rs)
 all_zip [] rs p q = λ k d l. absurd (omega arith)
 all_zip (c ∷ cs) [] p q = λ k d l. absurd (omega arith)
 all_zip (c ∷ cs) (r ∷ rs) p q =
     all_cons IsServed (c, r) (zip cs rs) (head_of IsCommandInRange c cs p, head_of (λ x. x < ROUND_LIMIT) r rs q) (all_zip cs rs (tail_of IsCommandInRange c cs p) (tail_of (λ x. x < ROUND_LIMIT) r rs q))
 
-firsts_zip : (cs : List Command) (rs : List ℕ) → length rs ≡ length cs → map (λ (s : Command × ℕ). s.0) (zip cs rs) ≡ cs
+pub firsts_zip : (cs : List Command) (rs : List ℕ) → length rs ≡ length cs → map (λ (s : Command × ℕ). s.0) (zip cs rs) ≡ cs
 firsts_zip [] rs e = refl
 firsts_zip (c ∷ cs) [] e = absurd (omega (arith, e))
 firsts_zip (c ∷ cs) (r ∷ rs) e = ap (λ (k : List Command). c ∷ k) (firsts_zip cs rs (omega (arith, e)))
 
-seconds_zip : (cs : List Command) (rs : List ℕ) → length rs ≡ length cs → map (λ (s : Command × ℕ). s.1) (zip cs rs) ≡ rs
+pub seconds_zip : (cs : List Command) (rs : List ℕ) → length rs ≡ length cs → map (λ (s : Command × ℕ). s.1) (zip cs rs) ≡ rs
 seconds_zip [] [] e = refl
 seconds_zip [] (r ∷ rs) e = absurd (omega (arith, e))
 seconds_zip (c ∷ cs) [] e = absurd (omega (arith, e))
@@ -266,19 +260,19 @@ read_back_is c h =
 
 -- reading
 
-abbrev firsts : List (Command × ℕ) → List Command
+abbrev pub firsts : List (Command × ℕ) → List Command
 firsts = map (λ s. s.0)
 
-abbrev seconds : List (Command × ℕ) → List ℕ
+abbrev pub seconds : List (Command × ℕ) → List ℕ
 seconds = map (λ s. s.1)
 
-all_first : (served : List (Command × ℕ)) → All IsServed served → All IsCommandInRange (firsts served)
+pub all_first : (served : List (Command × ℕ)) → All IsServed served → All IsCommandInRange (firsts served)
 all_first served h = All-map IsCommandInRange (λ s. s.0) served (λ k d l. (h k d l).0)
 
-all_second : (served : List (Command × ℕ)) → All IsServed served → All (λ x. x < ROUND_LIMIT) (seconds served)
+pub all_second : (served : List (Command × ℕ)) → All IsServed served → All (λ x. x < ROUND_LIMIT) (seconds served)
 all_second served h = All-map (λ x. x < ROUND_LIMIT) (λ s. s.1) served (λ k d l. (h k d l).1)
 
-zipped : (served : List (Command × ℕ)) → zip (firsts served) (seconds served) ≡ served
+pub zipped : (served : List (Command × ℕ)) → zip (firsts served) (seconds served) ≡ served
 zipped [] = refl
 zipped (s ∷ ss) = ap (λ (k : List (Command × ℕ)). s ∷ k) (zipped ss)
 
@@ -302,37 +296,30 @@ spelled_or_wrong rows = elim (claim_decides rows) [
   | inr f ↦ inr f
 ]
 
--- what was read, as commands and rounds
-pub claim_in : (version depth count : ℕ) (b : Option (ℤ × Window)) (lines : List (Command × ℕ)) (cs : List Command) (rs : List ℕ)
-    → IsVersion 1 version × IsCounted (depth, count) → (bound count).Fits b → All IsServed lines → length lines ≡ count
+-- what was read after the title
+pub claim_in : (depth count : ℕ) (b : Option (ℤ × Window)) (lines : List (Command × ℕ)) (cs : List Command) (rs : List ℕ)
+    → IsCounted (depth, count) → (bound count).Fits b → All IsServed lines → length lines ≡ count
     → cs ≡ map (λ s. s.0) lines → rs ≡ map (λ s. s.1) lines → IsClaim record { depth = depth; commands = cs; rounds = rs; bound = b }
-claim_in version depth count b lines cs rs r f fit n p q =
+claim_in depth count b lines cs rs r f fit n p q =
     let c : length (firsts lines) ≡ length lines = length-map lines (λ s. s.0) in
     let d : length (seconds lines) ≡ length lines = length-map lines (λ s. s.1) in
     let same : count ≡ length (firsts lines) = omega (arith, c, n) in
-    rw (p, q) (record { depth = (r.1.0, r.1.1); few = omega (arith, r.1.2, same); one_each = d ∙ sym c; bound = rw same at (bound_in count b f); commands = all_first lines fit; rounds = all_second lines fit })
+    let few = r.2 in
+    rw (p, q) (record { depth = (r.0, r.1); few = omega (arith, few, same); one_each = d ∙ sym c; bound = rw same at (bound_in count b f); commands = all_first lines fit; rounds = all_second lines fit })
 
-pub claim_read : (left mid after : Option (List Row)) (version depth count : ℕ) (b : Option (ℤ × Window)) (lines : List (Command × ℕ)) (cs : List Command) (rs : List ℕ)
-    → Reads title left mid (version, (depth, count)) → Reads (bound count) mid after b → IfSome after (λ rows. Begins (items_of (repeats.Exactly count) (λ _. served)) rows lines [])
-    → IsVersion 1 version → length lines ≡ count → cs ≡ map (λ s. s.0) lines → rs ≡ map (λ s. s.1) lines
-    → IfSome left (λ rows. SpellsClaim rows record { depth = depth; commands = cs; rounds = rs; bound = b })
-claim_read None mid after version depth count b lines cs rs t u a v n p q = tt
-claim_read (Some rows) mid after version depth count b lines cs rs t u a v n p q =
-    claim_spelled rows version depth count b lines cs rs v n p q (then_reads title (λ t. claim_body t.1.1) (Some rows) mid (version, (depth, count)) (b, lines) t
-    (then_reads (bound count) (λ b. items_of (repeats.Exactly count) (λ _. served)) mid after b lines u a))
+pub body_read : (left mid : Option (List Row)) (count : ℕ) (b : Option (ℤ × Window)) (lines : List (Command × ℕ)) (cs : List Command) (rs : List ℕ) → Reads (bound count) left mid b
+    → IfSome mid (λ rows. Begins (items_of (repeats.Exactly count) (λ _. served)) rows lines []) → cs ≡ map (λ s. s.0) lines → rs ≡ map (λ s. s.1) lines
+    → IfSome left (λ rows. Begins (claim_body count) rows (b, zip cs rs) [])
+body_read left mid count b lines cs rs k e p q =
+    rw (p, q) (subst (λ l. IfSome left (λ rows. Begins (claim_body count) rows (b, l) [])) (sym (zipped lines)) (then_reads (bound count) (λ b. items_of (repeats.Exactly count) (λ _. served)) left mid b lines k e))
 
--- the records of a certificate come after two
-pub whole_halts : (failed : Bool) (left mid after : Option (List Row)) (t : ℕ × (ℕ × ℕ)) (b : Option (ℤ × Window)) (lines : List (Command × ℕ)) (at : ℕ) (w : Why) → Reads title left mid t → Reads (bound t.1.1) mid after b
-    → IfSome after (λ rows. Begins (items_of (repeats.Exactly t.1.1) (λ _. served)) rows lines []) → at ≡ length lines + 3 → IsOutside failed w → Halts failed claim_form left 0 at w
-whole_halts failed left mid after t b lines at w h k a e o =
-    end_halts failed claim_form left (t, (b, lines)) at w claim_tells
-    (then_reads title (λ t. claim_body t.1.1) left mid t (b, lines) h (then_reads (bound t.1.1) (λ b. items_of (repeats.Exactly t.1.1) (λ _. served)) mid after b lines k a)) (e ∙ sym (long lines)) o
-  where
-    long : (ls : List (Command × ℕ)) → length (claim_form.rows_of (t, (b, ls))) + 1 ≡ length ls + 3
-    long ls =
-        let all : length ((items_of (repeats.Exactly t.1.1) (λ _. served)).rows_of ls) ≡ length ls = ap length (append-nil _) ∙ size_is served served_one ls in
-        let two = length-append ((bound t.1.1).rows_of b) ((items_of (repeats.Exactly t.1.1) (λ _. served)).rows_of ls) in
-        omega (arith, all, two, (bound_one t.1.1).one b)
+-- a title and what comes after it
+pub claim_whole : (left mid : Option (List Row)) (version depth count : ℕ) (c : Claim) → Reads title left mid (version, (depth, count)) → IsVersion 1 version
+    → IfSome mid (λ rows. Begins (claim_body count) rows (claim_told c) []) → c.depth ≡ depth → length c.commands ≡ count → length c.rounds ≡ length c.commands → IfSome left (λ rows. SpellsClaim rows c)
+claim_whole None mid version depth count c t v u d n o = tt
+claim_whole (Some rows) mid version depth count c t v u d n o =
+    let one = one_version version v in
+    (o, subst (λ t. Spells claim_form rows (t, claim_told c)) (λ i. (one i, (sym d i, sym n i))) (then_reads title (λ t. claim_body t.1.1) (Some rows) mid (version, (depth, count)) (claim_told c) t u))
 
 -- a size after a minus is that of a number below 0
 pub negative_text : (f ds : List ℕ) (n : ℕ) (z : ℤ) → f ≡ 45 ∷ ds → IsSized f n → n < ROUND_LIMIT → (0 < n → z ≡ negsuc (n - 1)) → f ≡ signed_decimal z
@@ -358,13 +345,25 @@ bound_gone count = inr (refl, no_kinds count, refl)
 pub title_halts : (failed : Bool) (left : Option (List Row)) (start at : ℕ) (w : Why) → start ≡ 0 → Halts failed title left start at w → Halts failed claim_form left 0 at w
 title_halts failed left start at w e h = first_halts failed title (λ t. claim_body t.1.1) left 0 at w (λ t fit. body_tells t.1.1) (rw e at h)
 
-pub bound_halts : (failed : Bool) (left mid : Option (List Row)) (t : ℕ × (ℕ × ℕ)) (middle at : ℕ) (w : Why) → middle ≡ 1 → Reads title left mid t → Halts failed (bound t.1.1) mid middle at w → Halts failed claim_form left 0 at w
-bound_halts failed left mid t middle at w e r h =
-    second_halts failed title (λ t. claim_body t.1.1) left mid t 0 middle at w title_one.tells r (omega (arith, e))
-    (first_halts failed (bound t.1.1) (λ b. items_of (repeats.Exactly t.1.1) (λ _. served)) mid middle at w (λ b fit. items_tell t.1.1) h)
+pub body_halts : (failed : Bool) (left mid : Option (List Row)) (t : ℕ × (ℕ × ℕ)) (at : ℕ) (w : Why) → Reads title left mid t → Halts failed (claim_body t.1.1) mid 1 at w → Halts failed claim_form left 0 at w
+body_halts failed left mid t at w r h = second_halts failed title (λ t. claim_body t.1.1) left mid t 0 1 at w title_one.tells r refl h
 
-pub served_halts : (failed : Bool) (left mid after : Option (List Row)) (t : ℕ × (ℕ × ℕ)) (b : Option (ℤ × Window)) (middle start at : ℕ) (w : Why) → middle ≡ 1 → start ≡ 2 → Reads title left mid t → Reads (bound t.1.1) mid after b
-    → Halts failed (items_of (repeats.Exactly t.1.1) (λ _. served)) after start at w → Halts failed claim_form left 0 at w
-served_halts failed left mid after t b middle start at w e f r k h =
-    second_halts failed title (λ t. claim_body t.1.1) left mid t 0 middle at w title_one.tells r (omega (arith, e))
-    (second_halts failed (bound t.1.1) (λ b. items_of (repeats.Exactly t.1.1) (λ _. served)) mid after b middle start at w (bound_one t.1.1).tells k (omega (arith, e, f, (bound_one t.1.1).one b)) h)
+pub bound_halts : (failed : Bool) (left : Option (List Row)) (count start at : ℕ) (w : Why) → start ≡ 1 → Halts failed (bound count) left start at w → Halts failed (claim_body count) left 1 at w
+bound_halts failed left count start at w e h = first_halts failed (bound count) (λ b. items_of (repeats.Exactly count) (λ _. served)) left 1 at w (λ b fit. items_tell count) (rw e at h)
+
+pub served_halts : (failed : Bool) (left mid : Option (List Row)) (count : ℕ) (b : Option (ℤ × Window)) (start at : ℕ) (w : Why) → start ≡ 2 → Reads (bound count) left mid b
+    → Halts failed (items_of (repeats.Exactly count) (λ _. served)) mid start at w → Halts failed (claim_body count) left 1 at w
+served_halts failed left mid count b start at w e k h =
+    second_halts failed (bound count) (λ b. items_of (repeats.Exactly count) (λ _. served)) left mid b 1 start at w (bound_one count).tells k (omega (arith, e, (bound_one count).one b)) h
+
+-- past the last record
+pub whole_halts : (failed : Bool) (left mid : Option (List Row)) (count : ℕ) (b : Option (ℤ × Window)) (lines : List (Command × ℕ)) (at : ℕ) (w : Why) → Reads (bound count) left mid b
+    → IfSome mid (λ rows. Begins (items_of (repeats.Exactly count) (λ _. served)) rows lines []) → at ≡ length lines + 3 → IsOutside failed w → Halts failed (claim_body count) left 1 at w
+whole_halts failed left mid count b lines at w k e a o =
+    ends_halt failed (claim_body count) left (b, lines) 1 at w (body_tells count) (then_reads (bound count) (λ b. items_of (repeats.Exactly count) (λ _. served)) left mid b lines k e) long o
+  where
+    long : at ≡ 1 + (length ((claim_body count).rows_of (b, lines)) + 1)
+    long =
+        let all : length ((items_of (repeats.Exactly count) (λ _. served)).rows_of lines) ≡ length lines = ap length (append-nil _) ∙ size_is served served_one lines in
+        let two = length-append ((bound count).rows_of b) ((items_of (repeats.Exactly count) (λ _. served)).rows_of lines) in
+        omega (arith, a, all, two, (bound_one count).one b)

@@ -1,5 +1,5 @@
 -- More records of a text.
-use Rattle.std.proofs.Common.{◌≡◌, ◌+◌, ◌<◌, ◌≤◌, ◌∙◌, ℕ, List, [], ◌∷◌, ◌++◌, length, map, take, refl, sym, ap, append_assoc, add-one, get_or}
+use Rattle.std.proofs.Common.{◌≡◌, ◌+◌, ◌<◌, ◌≤◌, ◌∙◌, ℕ, List, [], ◌∷◌, ◌++◌, length, map, take, refl, sym, ap, append_assoc, append-nil, add-one, get_or}
 use Rattle.std.specs.List.{flat_map}
 use Rattle.std.proofs.Math.Seq.{take-suc}
 use Rattle.std.proofs.lemmas.List.{flat_map_more, take_all}
@@ -41,6 +41,11 @@ one_more_at rows_of before head xs i d had has l a b = more rows_of before head 
 pub two_first : (a : Row) (bs : List Row) (none one two : List ℕ) → none ≡ [] → one ≡ none ++ rows_text (a ∷ []) → two ≡ one ++ rows_text bs → two ≡ rows_text (a ∷ bs)
 two_first a bs none one two e p q =
     q ∙ ap (λ (k : List ℕ). k ++ rows_text bs) (p ∙ ap (λ (k : List ℕ). k ++ rows_text (a ∷ [])) e) ∙ sym (rows_text-append (a ∷ []) bs)
+
+-- none to begin with
+pub none_first : (has : List ℕ) → has ≡ has ++ rows_text []
+unfolding rows_text
+none_first has = sym (append-nil has)
 
 -- a record to begin with
 pub one_first : (a : Row) (none one : List ℕ) → none ≡ [] → one ≡ none ++ rows_text (a ∷ []) → one ≡ rows_text (a ∷ [])

@@ -4,15 +4,15 @@ use Rattle.std.specs.Prelude.{All}
 use Rattle.std.proofs.lemmas.Fmt.{decimal_digit}
 use Rattle.std.proofs.lemmas.List.{length-append}
 use Rattle.blk_text.specs.Sources.{Row}
-use Rattle.blk_text.specs.Reads.{with_next, size_of, items_of, beyond_of, IsOne, IsStopped, Fails, Halts}
+use Rattle.blk_text.specs.Reads.{with_next, size_of, items_of, repeated, beyond_of, IsOne, IsStopped, Fails, Halts}
 use Rattle.blk_text.specs.Tables.{IsVersion}
 use Rattle.blk_text.specs.declared.fault.Why.{Why}
 use Rattle.parts.specs.Parts.{Part, record_of, all_rows, AllFit}
 use Rattle.parts.specs.declared.Repeats.{Repeats}
 use Rattle.parts.specs.Laws.{Tells, TellsRecord, Decides}
 use Rattle.parts.proofs.Then.{record_tells}
-use Rattle.parts.proofs.Many.{HasRows, ended_tells, ended_decides}
-use Rattle.blk_text.proofs.Reading.{lines_halt}
+use Rattle.parts.proofs.Many.{HasRows, many_tells, many_decides, ended_tells, ended_decides}
+use Rattle.blk_text.proofs.Reading.{lines_halt, many_halt}
 use Rattle.blk_text.proofs.Lists.{head_of, tail_of, all_cons}
 
 pub rows_map : {V : Type 0} (p : Part Row Why V) (row_of : V → Row) → ((v : V) → p.rows_of v ≡ row_of v ∷ []) → (s vs : List V) → all_rows (λ _. p) with_next s vs ≡ map row_of vs
@@ -42,6 +42,16 @@ each_tells p o x = ended_tells x (beyond_of x) (λ _. p) (λ _. p) with_next (λ
 
 pub each_decides : {V : Type 0} (p : Part Row Why V) → Decides p → (x : Repeats) → Decides (items_of x (λ _. p))
 each_decides p d x = ended_decides x (beyond_of x) (λ _. p) (λ _. p) with_next (λ s. d) (λ s. d) []
+
+pub repeated_tells : {V : Type 0} (p : Part Row Why V) → IsOne p → (x : Repeats) → Tells (repeated x (λ _. p))
+repeated_tells p o x = many_tells x (λ _. p) with_next (λ s. o.tells) (λ s. o.plain) (some_rows p o) []
+
+pub repeated_decides : {V : Type 0} (p : Part Row Why V) → Decides p → (x : Repeats) → Decides (repeated x (λ _. p))
+repeated_decides p d x = many_decides x (λ _. p) with_next (λ s. d) []
+
+pub repeated_halts : {V : Type 0} (failed : Bool) (p : Part Row Why V) → IsOne p → (x : Repeats) (left : Option (List Row)) (start at last : ℕ) (w : Why) → IsStopped x (λ _. p) left start 0 at last
+    → Fails failed (repeated x (λ _. p)) left start at w → Halts failed (repeated x (λ _. p)) left start at w
+repeated_halts failed p o x left start at last w = many_halt failed (λ _. p) x left start at last w (λ s. o.tells) (λ s. o.plain) (some_rows p o)
 
 pub each_halts : {V : Type 0} (failed : Bool) (p : Part Row Why V) → IsOne p → (x : Repeats) (left : Option (List Row)) (start at last : ℕ) (w : Why) → IsStopped x (λ _. p) left start 0 at last
     → Fails failed (items_of x (λ _. p)) left start at w → Halts failed (items_of x (λ _. p)) left start at w

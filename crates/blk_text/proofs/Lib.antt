@@ -19,3 +19,6 @@ pub mod HeadLaws
 pub mod GroupLaws
 pub mod EventLaws
 pub mod TraceLaws
+pub mod Counted
+pub mod MetLaws
+pub mod ProofLaws

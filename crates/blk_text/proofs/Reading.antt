@@ -8,8 +8,8 @@ use Rattle.parts.specs.declared.Repeats.{Repeats}
 use Rattle.parts.specs.declared.Repeats.TheVariants as repeats
 use Rattle.parts.specs.Parts.{then, over, Part, Begins, all_rows, AllFit, after, GoesOn, Stops, IsCount, most_of}
 use Rattle.parts.specs.Laws.{Tells, IsPlain}
-use Rattle.parts.proofs.Many.{all_more, fit_more, ended_reached, HasRows}
-use Rattle.parts.proofs.Then.{both_begin, reached_first, reached_second}
+use Rattle.parts.proofs.Many.{all_more, fit_more, ended_reached, many_reached, HasRows}
+use Rattle.parts.proofs.Then.{both_begin, reached_first, reached_second, after_all_reached}
 use Rattle.blk_text.specs.Reads.{IsOutside, Reads, HandReads, HandFails, Fails, Halts, Reaches, IsLine, IsStopped, with_next, repeated, ended_of, items_of, size_of, beyond_of}
 
 takes_some : (rest : List Row) (after : Option (List Row)) (f : Row) → Takes (Some rest) after f true → (more : List Row) × (rest ≡ f ∷ more) × (after ≡ Some more)
@@ -228,20 +228,34 @@ lines_halt failed q x (Some rows) start at last w t plain some s f =
       ],
     )
 
+-- the same of items that something else may follow
+pub many_halt : {V : Type 0} (failed : Bool) (q : List V → Part Row Why V) (x : Repeats) (left : Option (List Row)) (start at last : ℕ) (w : Why) → ((s : List V) → Tells (q s)) → ((s : List V) → IsPlain (q s)) → HasRows q
+    → IsStopped x q left start 0 at last → Fails failed (repeated x q) left start at w → Halts failed (repeated x q) left start at w
+many_halt failed q x None start at last w t plain some s f = tt
+many_halt failed q x (Some rows) start at last w t plain some s f =
+    let low = s.1 in
+    let middle = s.2 in
+    let high = s.3 in
+    let is : at ≡ start + s.0 = omega (arith, low, middle, high) in (
+      s.0,
+      is,
+      many_reached x q with_next t plain some [] rows s.0 s.4,
+      elim f [
+        | inl o ↦ inl o
+        | inr k ↦ (let other = k.1 in let same : k.0 ≡ s.0 = omega (arith, is, other) in inr (rw same at k.2))
+      ],
+    )
+
+-- past the last record of a part that is spelled
+pub ends_halt : {V : Type 0} (failed : Bool) (p : Part Row Why V) (left : Option (List Row)) (v : V) (start at : ℕ) (w : Why) → Tells p → IfSome left (λ rows. Begins p rows v [])
+    → at ≡ start + (length (p.rows_of v) + 1) → IsOutside failed w → Halts failed p left start at w
+ends_halt failed p None v start at w t h e o = tt
+ends_halt failed p (Some rows) v start at w t h e o = (length (p.rows_of v) + 1, e, after_all_reached p t rows v [] h, inl o)
+
 -- past the last record of a text that is spelled
 pub end_halts : {V : Type 0} (failed : Bool) (p : Part Row Why V) (left : Option (List Row)) (v : V) (at : ℕ) (w : Why) → Tells p → IfSome left (λ rows. Begins p rows v []) → at ≡ length (p.rows_of v) + 1 → IsOutside failed w
     → Halts failed p left 0 at w
-end_halts failed p None v at w t h e o = tt
-end_halts failed p (Some rows) v at w t h e o = (
-  at,
-  omega arith,
-  record {
-    far = (let all : length rows ≡ length (p.rows_of v ++ []) = ap length h.made in omega (arith, all, e, length-append (p.rows_of v) []));
-    good = λ k w f. absurd (t.apart rows v [] k w h f);
-    within = λ u rest k. (let same : length (p.rows_of u) ≡ length (p.rows_of v) = ap (λ z. length (p.rows_of z)) (t.once rows u v rest [] k h).0 in omega (arith, same, e));
-  },
-  inl o,
-)
+end_halts failed p left v at w t h e o = ends_halt failed p left v 0 at w t h (omega (arith, e)) o
 
 -- where a text begins: its fault, and that it is reached
 

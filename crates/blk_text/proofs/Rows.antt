@@ -18,7 +18,8 @@ use Rattle.blk_text.specs.TraceRecords.{word_row}
 use Rattle.blk_text.specs.TraceRecords as trace
 use Rattle.blk_text.specs.Sources.{Row}
 use Rattle.blk_text.specs.Commands.{depth_cells, command_cells}
-use Rattle.blk_text.specs.Certificate.{counted_cells, no_bound_row, served_cells}
+use Rattle.blk_text.specs.Titles.{counted_cells}
+use Rattle.blk_text.specs.Certificate.{no_bound_row, served_cells}
 use Rattle.blk_text.specs.Tables.{row_by, title_by}
 use Rattle.blk_text.specs.Versions.{latest}
 use Rattle.blk_text.proofs.Each.{first_version}
@@ -120,6 +121,21 @@ unfolding line_of
 served_is start c round =
     let all : all_plain (row_by served_cells (c, round)) ≡ true = rw (decimal_plain c.id, decimal_plain c.release, decimal_plain c.due, decimal_plain round) refl in
     rw (line_is (row_by served_cells (c, round)) (omega arith) all) (simp append_assoc)
+
+pub met_title_is : (start : List ℕ) (depth count : ℕ)
+    → ((start ++ codes "blk-met,1,") ++ (decimal depth ++ 44 ∷ decimal count)) ++ (10 ∷ []) ≡ start ++ rows_text (title_by (codes "blk-met") counted_cells (1, (depth, count)) ∷ [])
+unfolding line_of
+met_title_is start depth count =
+    let all : all_plain (codes "blk-met" ∷ codes "1" ∷ decimal depth ∷ decimal count ∷ []) ≡ true = rw (decimal_plain depth, decimal_plain count) refl in
+    rw (first_version, line_is (codes "blk-met" ∷ codes "1" ∷ decimal depth ∷ decimal count ∷ []) (omega arith) all) (simp append_assoc)
+
+-- a word and two numbers
+pub word_is : (start word comma : List ℕ) (a b : ℕ) → needs_quotes default_writer word ≡ false → comma ≡ word ++ 44 ∷ []
+    → ((start ++ comma) ++ (decimal a ++ 44 ∷ decimal b)) ++ (44 ∷ 10 ∷ []) ≡ start ++ rows_text ((word ∷ decimal a ∷ decimal b ∷ [] ∷ []) ∷ [])
+unfolding line_of
+word_is start word comma a b plain e =
+    let all : all_plain (word ∷ decimal a ∷ decimal b ∷ [] ∷ []) ≡ true = rw (plain, decimal_plain a, decimal_plain b) refl in
+    rw (e, line_is (word ∷ decimal a ∷ decimal b ∷ [] ∷ []) (omega arith) all) (simp append_assoc)
 
 -- a lateness is short
 pub late_long : (bytes : List ℕ) (z : ℤ) → bytes ≡ signed_decimal z → mag z < 2 ^ 63 → length bytes ≤ 20

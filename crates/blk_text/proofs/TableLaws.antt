@@ -236,7 +236,7 @@ pub next_starts : (word : List ℕ) (row : Row) (rows others : List Row) → row
 next_starts word row [] others e = absurd (cc e)
 next_starts word row (r ∷ rs) others e = (row, (cons_same _ _ _ _ e).0)
 
-next_same : (a b : List ℕ) (rows : List Row) → NextStarts a rows → NextStarts b rows → a ≡ b
+pub next_same : (a b : List ℕ) (rows : List Row) → NextStarts a rows → NextStarts b rows → a ≡ b
 next_same a b [] h k = absurd h
 next_same a b (row ∷ rows) h k = starts_same a b row h k
 

@@ -45,7 +45,7 @@ text_back rows rest b same =
     rw plain (all_back (length (rows_text rows) + 1) rows (omega arith)) ∙ same
 
 -- so do those of items
-items_back : {V : Type 0} (p : Part Row Why V) → ((v : V) → map read_back (p.rows_of v) ≡ p.rows_of v) → (s vs : List V) → map read_back (all_rows (λ _. p) with_next s vs) ≡ all_rows (λ _. p) with_next s vs
+pub items_back : {V : Type 0} (p : Part Row Why V) → ((v : V) → map read_back (p.rows_of v) ≡ p.rows_of v) → (s vs : List V) → map read_back (all_rows (λ _. p) with_next s vs) ≡ all_rows (λ _. p) with_next s vs
 items_back p h s [] = refl
 items_back p h s (v ∷ vs) = rw (map-append read_back (p.rows_of v) (all_rows (λ _. p) with_next (s ++ v ∷ []) vs), h v, items_back p h (s ++ v ∷ []) vs) refl
 

@@ -8,7 +8,8 @@ use Rattle.edd_check.specs.declared.Window.{Window}
 use Rattle.blk_text.specs.Sources.{Row}
 use Rattle.blk_text.specs.Commands.{IsCommandInRange}
 use Rattle.blk_text.specs.Reads.{items_of}
-use Rattle.blk_text.specs.Tables.{Cell, Number, Signed, FitsBy, row_by, table_record, word_record, title_record}
+use Rattle.blk_text.specs.Tables.{Cell, Number, Signed, FitsBy, row_by, table_record, word_record}
+use Rattle.blk_text.specs.Titles.{counted_title}
 use Rattle.blk_text.specs.Words.{NextStarts, HasNoWord}
 use Rattle.blk_text.specs.declared.certificate.Certificate.{Certificate}
 use Rattle.blk_text.specs.declared.fault.Why.{Why}
@@ -26,14 +27,6 @@ pub record Claim : Type 0 where
 -- what a certificate claims
 abbrev pub claimed : Certificate → Claim
 claimed c = record { depth = c.depth; commands = c.commands.items; rounds = c.rounds.items; bound = c.bound }
-
--- title: blk-certificate, 1, depth, number of commands
-abbrev pub counted_cells : ℕ → List (Cell (ℕ × ℕ))
-counted_cells version = Number 1 MOST_DEPTH (λ t. t.0) ∷ Number 0 MOST_COMMANDS (λ t. t.1) ∷ []
-
--- a depth and a number of commands
-abbrev pub IsCounted : ℕ × ℕ → Type 0
-IsCounted t = (1 ≤ t.0) × (t.0 ≤ MOST_DEPTH) × (t.1 ≤ MOST_COMMANDS)
 
 -- the rounds of a window: none where there are no commands
 abbrev pub first_round : ℕ → ℕ
@@ -113,7 +106,7 @@ kind_of None = (NoBound, tt)
 kind_of (Some b) = (SomeBound, b)
 
 abbrev pub title : Part Row Why (ℕ × (ℕ × ℕ))
-title = title_record (codes "blk-certificate") 1 counted_cells (λ _. IsCounted)
+title = counted_title (codes "blk-certificate")
 
 -- the bound of so many commands
 abbrev pub bound : ℕ → Part Row Why (Option (ℤ × Window))
@@ -130,9 +123,13 @@ claim_body count = then (bound count) (λ b. items_of (repeats.Exactly count) (�
 abbrev pub claim_form : Part Row Why ((ℕ × (ℕ × ℕ)) × (Option (ℤ × Window) × List (Command × ℕ)))
 claim_form = then title (λ t. claim_body t.1.1)
 
--- what the records of a certificate tell
+-- what the records of a certificate tell after the title
+abbrev pub claim_told : Claim → Option (ℤ × Window) × List (Command × ℕ)
+claim_told c = (c.bound, zip c.commands c.rounds)
+
+-- and with it
 abbrev pub claim_value : Claim → (ℕ × (ℕ × ℕ)) × (Option (ℤ × Window) × List (Command × ℕ))
-claim_value c = ((1, (c.depth, length c.commands)), (c.bound, zip c.commands c.rounds))
+claim_value c = ((1, (c.depth, length c.commands)), claim_told c)
 
 -- the records of a certificate
 abbrev pub claim_rows : Claim → List Row

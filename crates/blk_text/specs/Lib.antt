@@ -15,3 +15,6 @@ pub mod Reads
 pub mod BioTable
 pub mod TraceForm
 pub mod Versions
+pub mod Titles
+pub mod Met
+pub mod Proof

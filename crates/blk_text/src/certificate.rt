@@ -6,25 +6,25 @@ ghost use Rattle.std.specs.Io.KnownBytes.{Appends};
 ghost use Rattle.csv.specs.Records.{fields_of};
 ghost use Rattle.blk_text.specs.Sources.{Took};
 ghost use Rattle.parts.specs.Parts.{Begins};
-ghost use Rattle.blk_text.specs.Reads.{IsOutside, IsLine, IsWrongLine, Reaches};
+ghost use Rattle.blk_text.specs.Reads.{IsOutside, IsLine, IsWrongLine, Halts, Reaches};
 ghost use Rattle.blk_text.specs.Tables.{IsUpTo, FitsBy, row_by, slots_by, title_by};
 ghost use Rattle.blk_text.specs.Fields.{IsSized, FieldsSpell};
 ghost use Rattle.blk_text.specs.declared.fields.Slot.TheVariants as slot;
 ghost use Rattle.blk_text.specs.Words.{StartsWith};
 ghost use Rattle.blk_text.specs.Texts.{rows_text};
 ghost use Rattle.blk_text.specs.Drafts.{drafted};
-ghost use Rattle.blk_text.specs.Certificate.{claimed, claim_form, IsClaim, SpellsClaim, ClaimFault, claim_rows, counted_cells, bound as bound_part, bound_cells, no_bound_row, bound_row, served_cells};
+ghost use Rattle.blk_text.specs.Titles.{counted_cells, IsCounted};
+ghost use Rattle.blk_text.specs.Certificate.{claimed, claim_form, IsClaim, SpellsClaim, ClaimFault, claim_rows, claim_body, claim_told, bound as bound_part, bound_cells, no_bound_row, bound_row, served_cells};
 
 use crate::block::{Block, write_whole};
 use crate::fault::{TextFault, Why, WriteFault};
-use crate::fields::{
-    Slot, WIDTH, after_minus, begins_with, field, read_fields, version_of, without_word,
-};
+use crate::fields::{Slot, WIDTH, after_minus, begins_with, field, read_fields, without_word};
 use crate::items::{LineForm, read_line, read_lines};
 use crate::pieces::{put, put_two};
 use crate::source::Records;
+use crate::titles::counted_title;
 use csv::ByteRecord;
-use edd_check::{Command, MOST_COMMANDS, MOST_DEPTH, RELEASE_LIMIT, ROUND_LIMIT, Window};
+use edd_check::{Command, MOST_COMMANDS, RELEASE_LIMIT, ROUND_LIMIT, Window};
 use parts::Repeats;
 use std::alloc::{AllocError, Global};
 use std::io::{Read, Write};
@@ -58,25 +58,7 @@ impl LineForm for TitleForm {
     }
 
     fn line(&self, row: &ByteRecord) -> Result<(u64, (u64, u64)), Why> {
-        let Some(version) = version_of(row, b"blk-certificate", 1) else {
-            return Err(Why::Title);
-        };
-        let slots = [
-            Slot::Given,
-            Slot::Given,
-            Slot::Number {
-                least: 1,
-                most: MOST_DEPTH,
-            },
-            Slot::Number {
-                least: 0,
-                most: MOST_COMMANDS,
-            },
-        ];
-        match read_fields(row, &slots) {
-            Ok(numbers) => Ok((version, (numbers[2], numbers[3]))),
-            Err(why) => Err(why),
-        }
+        counted_title(row, b"blk-certificate")
     }
 }
 
@@ -241,13 +223,52 @@ fn rounds_of(alloc: Global, served: &[(Command, u64)]) -> Result<Vec<u64>, Alloc
 }
 
 /// The commands and the rounds of lines.
-fn split(alloc: Global, served: &[(Command, u64)]) -> Result<(Vec<Command>, Vec<u64>), AllocError>
+pub(crate) fn split(
+    alloc: Global,
+    served: &[(Command, u64)],
+) -> Result<(Vec<Command>, Vec<u64>), AllocError>
     ensures commands { IfOk result (λ p. p.0.items ≡ map (λ s. s.0) served.now) }
     ensures rounds { IfOk result (λ p. p.1.items ≡ map (λ s. s.1) served.now) }
 {
     let commands = commands_of(alloc, served)?;
     let rounds = rounds_of(alloc, served)?;
     Ok((commands, rounds))
+}
+
+/// The rest of a certificate after its title.
+pub(crate) fn read_claim_body<R: Read + Drop>(
+    alloc: Global,
+    records: &mut Records<R>,
+    depth: u64,
+    count: u64,
+) -> Result<Certificate, TextFault>
+    requires at { records.old.at ≡ 1 }
+    requires counted { IsCounted (depth, count) }
+    ensures ok { IfOk result (λ c. IfSome records.old.left (λ rows. Begins (claim_body count) rows (claim_told (claimed c)) [])) }
+    ensures told { IfOk result (λ c. (c.depth ≡ depth) × (length c.commands.items ≡ count)) }
+    ensures in_range { IfOk result (λ c. IsClaim (claimed c)) }
+    ensures last { IfErr result (λ f. f.at ≡ records.new.at) }
+    ensures err { IfErr result (λ f. Halts records.new.failed (claim_body count) records.old.left 1 f.at f.why) }
+    ensures reads { (2 ≤ records.new.at) × (records.new.at ≤ MOST_COMMANDS + 3) }
+    ensures end { IfOk result (λ c. records.new.at ≡ length c.commands.items + 3) }
+{
+    let bound = match read_line(records, &BoundForm { count }) {
+        Ok(bound) => bound,
+        Err(fault) => return Err(fault),
+    };
+    let served = match read_lines(alloc, records, ServedForm, Repeats::Exactly(count)) {
+        Ok(served) => served,
+        Err(fault) => return Err(fault),
+    };
+    match split(alloc, served.as_slice()) {
+        Ok((commands, rounds)) => Ok(Certificate {
+            depth,
+            commands,
+            rounds,
+            bound,
+        }),
+        Err(AllocError) => Err(records.fault(Why::Memory)),
+    }
 }
 
 /// The certificate of a text of records of four fields: a title with the depth and the number of
@@ -279,22 +300,9 @@ pub fn read_certificate<R: Read + Drop>(
         Ok(title) => title,
         Err(fault) => return Err(fault),
     };
-    let bound = match read_line(records, &BoundForm { count }) {
-        Ok(bound) => bound,
-        Err(fault) => return Err(fault),
-    };
-    let served = match read_lines(alloc, records, ServedForm, Repeats::Exactly(count)) {
-        Ok(served) => served,
-        Err(fault) => return Err(fault),
-    };
-    match split(alloc, served.as_slice()) {
-        Ok((commands, rounds)) => Ok(Certificate {
-            depth,
-            commands,
-            rounds,
-            bound,
-        }),
-        Err(AllocError) => Err(records.fault(Why::Memory)),
+    match read_claim_body(alloc, records, depth, count) {
+        Ok(certificate) => Ok(certificate),
+        Err(fault) => Err(fault),
     }
 }
 
@@ -355,7 +363,11 @@ fn push_bound(
 
 /// Adds the record of a command and its round.
 #[inline]
-fn push_served(draft: &mut Block, command: &Command, round: u64) -> Result<(), AllocError>
+pub(crate) fn push_served(
+    draft: &mut Block,
+    command: &Command,
+    round: u64,
+) -> Result<(), AllocError>
     ensures text { OnOk result (drafted draft.new ≡ drafted draft.old ++ rows_text (row_by served_cells (command.now, round) ∷ [])) }
 {
     let start = draft.room()?;

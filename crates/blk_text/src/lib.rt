@@ -12,10 +12,13 @@ mod groups;
 mod heads;
 mod items;
 pub mod laws;
+pub mod met;
 mod pieces;
+pub mod proof;
 pub mod script;
 mod setup;
 pub mod source;
+mod titles;
 pub mod trace;
 
 pub use crate::certificate::{Certificate, read_certificate, write_certificate};
@@ -23,6 +26,8 @@ pub use crate::commands::{read_commands, write_commands};
 pub use crate::draft::Draft;
 pub use crate::events::read_trace;
 pub use crate::fault::{TextFault, Why, WriteFault};
+pub use crate::met::{MetCertificate, read_met, write_met};
+pub use crate::proof::{Proof, read_proof};
 pub use crate::script::{
     Line, MAX_ROUNDS, MAX_SOFT_DEPTH, MAX_SUBMITTERS, MOST_STEPS, Script, read_script,
 };

@@ -6,7 +6,7 @@ use Rattle.parts.specs.declared.Repeats.{Repeats}
 use Rattle.parts.specs.declared.Repeats.TheVariants as repeats
 use Rattle.parts.specs.Parts.{Part, Begins, IsReached, after, all_rows, AllFit, IsCount, Stops, GoesOn, GoodBefore, most_of, many, over, ended}
 use Rattle.parts.specs.Laws.{Tells, Either, Decides, IsPlain}
-use Rattle.parts.proofs.Then.{then_tells, then_decides, over_tells, over_decides, seen_tells, seen_decides, at_first, seen_reached, reached_first, reached_second}
+use Rattle.parts.proofs.Then.{then_tells, then_decides, over_tells, over_decides, seen_tells, seen_decides, at_first, seen_reached, reached_first, reached_second, after_all_reached}
 
 -- when the items stop
 
@@ -280,4 +280,12 @@ ended_reached {R} {E} {S} {V} x why q past next t plain some u s rows at b = rw 
       (record { fits = (b.2, o.0); made = b.3; follows = o.1 }) (at_first _ (over_tells why (past (after next s b.0)) (u (after next s b.0))) b.1))
   | inr on ↦ seen_reached (λ vs. (vs, tt)) _ rows _ (reached_first (many x q next s) (λ vs. over why (past (after next s vs))) (λ vs fit. over_tells why (past (after next s vs)) (u (after next s vs))) rows _
       (reached_many x q next t plain some s rows b.1 b.0 1 b.2 b.3 on (at_first _ (t (after next s b.0)) b.1)))
+])
+
+-- the same of items that something else may follow
+pub many_reached : {R E S V : Type 0} (x : Repeats) (q : S → Part R E V) (next : S → V → S) → ((s : S) → Tells (q s)) → ((s : S) → IsPlain (q s)) → HasRows q → (s : S)
+    → (rows : List R) (at : ℕ) → GoodBefore x q next s rows at → IsReached (many x q next s) rows at
+many_reached {R} {E} {S} {V} x q next t plain some s rows at b = rw b.5 (elim (over_or_on x (length b.0) b.1 b.4) [
+  | inl o ↦ after_all_reached (many x q next s) (many_tells x q next t plain some s) rows b.0 b.1 (record { fits = (b.2, o.0); made = b.3; follows = o.1 })
+  | inr on ↦ reached_many x q next t plain some s rows b.1 b.0 1 b.2 b.3 on (at_first _ (t (after next s b.0)) b.1)
 ])

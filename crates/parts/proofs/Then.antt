@@ -183,6 +183,14 @@ wrong_reached p t rows at w f = record {
   within = λ v rest h. absurd (t.apart rows v rest at w h f);
 }
 
+-- the record after those of a value is reached
+pub after_all_reached : {R E V : Type 0} (p : Part R E V) → Tells p → (rows : List R) (v : V) (rest : List R) → Begins p rows v rest → IsReached p rows (length (p.rows_of v) + 1)
+after_all_reached p t rows v rest h = record {
+  far = (let all : length rows ≡ length (p.rows_of v ++ rest) = ap length h.made in omega (arith, all, length-append (p.rows_of v) rest));
+  good = λ k w f. absurd (t.apart rows v rest k w h f);
+  within = λ u more k. (let same : length (p.rows_of u) ≡ length (p.rows_of v) = ap (λ z. length (p.rows_of z)) (t.once rows u v more rest k h).0 in omega (arith, same));
+}
+
 -- the end of the text
 
 pub over_tells : {R E V : Type 0} (why : E) (q : Part R E V) → Tells q → Tells (over why q)
@@ -331,6 +339,41 @@ by_word_decides V StartsWith q NoKind d find rows = elim (find rows) [
 pub by_word_plain : {R E K : Type 0} (V : K → Type 0) (StartsWith : K → List R → Type 0) (q : (i : K) → Part R E (V i)) (NoKind : List R → E → Type 0) → ((i : K) → IsPlain (q i))
     → IsPlain (by_word V StartsWith q NoKind)
 by_word_plain V StartsWith q NoKind t v rest fit = t v.0 v.1 rest fit
+
+-- what is reached in the part of its kind is reached
+pub kind_reached : {R E K : Type 0} (V : K → Type 0) (StartsWith : K → List R → Type 0) (q : (i : K) → Part R E (V i)) (NoKind : List R → E → Type 0)
+    → ((i j : K) (rows : List R) → StartsWith i rows → StartsWith j rows → i ≡ j)
+    → ((i : K) (rows : List R) (v : V i) (a : List R) → Begins (q i) rows v a → StartsWith i rows)
+    → (i : K) (rows : List R) (at : ℕ) → StartsWith i rows → IsReached (q i) rows at → IsReached (by_word V StartsWith q NoKind) rows at
+kind_reached {R} {E} {K} V StartsWith q NoKind kind starts i rows at s r = record { far = r.far; good = good; within = within }
+  where
+    good : (k : ℕ) (w : E) → (by_word V StartsWith q NoKind).Wrong rows k w → at ≤ k
+    good k w (inl f) = (subst (λ z. IsReached (q z) rows at) (kind i f.0 rows s f.1) r).good k w f.2
+    good k w (inr f) = absurd (f.1 i s)
+
+    within : (v : (i : K) × V i) (rest : List R) → Begins (by_word V StartsWith q NoKind) rows v rest → at ≤ length ((q v.0).rows_of v.1) + 1
+    within v rest h =
+        let this : Begins (q v.0) rows v.1 rest = record { fits = h.fits; made = h.made; follows = h.follows } in
+        (subst (λ z. IsReached (q z) rows at) (kind i v.0 rows s (starts v.0 rows v.1 rest this)) r).within v.1 rest this
+
+-- what is reached in parts that those of each kind begin with is reached
+pub kinds_reached : {R E K : Type 0} (V W : K → Type 0) (StartsWith : K → List R → Type 0) (p : (i : K) → Part R E (V i)) (q : (i : K) → Part R E (W i)) (NoKind : List R → E → Type 0)
+    → ((i : K) (rows : List R) (v : W i) (a : List R) → Begins (q i) rows v a → StartsWith i rows)
+    → ((i : K) (rows : List R) (at : ℕ) → IsReached (p i) rows at → IsReached (q i) rows at)
+    → (rows : List R) (at : ℕ) → IsReached (by_word V StartsWith p NoKind) rows at → IsReached (by_word W StartsWith q NoKind) rows at
+kinds_reached {R} {E} {K} V W StartsWith p q NoKind starts lift rows at r = record { far = r.far; good = good; within = within }
+  where
+    this : (i : K) → StartsWith i rows → IsReached (p i) rows at
+    this i s = record { far = r.far; good = λ k w f. r.good k w (inl (i, s, f)); within = λ v rest h. r.within (i, v) rest (record { fits = h.fits; made = h.made; follows = h.follows }) }
+
+    good : (k : ℕ) (w : E) → (by_word W StartsWith q NoKind).Wrong rows k w → at ≤ k
+    good k w (inl f) = (lift f.0 rows at (this f.0 f.1)).good k w f.2
+    good k w (inr f) = r.good k w (inr f)
+
+    within : (v : (i : K) × W i) (rest : List R) → Begins (by_word W StartsWith q NoKind) rows v rest → at ≤ length ((q v.0).rows_of v.1) + 1
+    within v rest h =
+        let begun : Begins (q v.0) rows v.1 rest = record { fits = h.fits; made = h.made; follows = h.follows } in
+        (lift v.0 rows at (this v.0 (starts v.0 rows v.1 rest begun))).within v.1 rest begun
 
 -- faults told as others
 

@@ -1,6 +1,7 @@
 use Rattle.std.proofs.Common.{◌<◌, ◌≤◌, ◌∷◌, ◌∙◌, [], codes, length, ap, sym, arith}
 use Rattle.std.specs.List.{zip}
-use Rattle.blk_text.specs.Certificate.{claimed, counted_cells, bound_row, served_cells}
+use Rattle.blk_text.specs.Titles.{counted_cells}
+use Rattle.blk_text.specs.Certificate.{claimed, bound_row, served_cells}
 use Rattle.blk_text.specs.Tables.{row_by, title_by}
 use Rattle.blk_text.specs.Texts.{rows_text}
 use Rattle.blk_text.proofs.DraftLemmas.{two_first, one_more_at, whole}

@@ -1,6 +1,7 @@
 use Rattle.std.proofs.Common.{[], ◌∷◌, codes, length}
 use Rattle.std.specs.List.{zip}
-use Rattle.blk_text.specs.Certificate.{counted_cells, bound_row, served_cells}
+use Rattle.blk_text.specs.Titles.{counted_cells}
+use Rattle.blk_text.specs.Certificate.{bound_row, served_cells}
 use Rattle.blk_text.specs.Tables.{row_by, title_by}
 use Rattle.blk_text.proofs.DraftLemmas.{IsSoFar}
 use Rattle.blk_text.specs.Drafts.{drafted}

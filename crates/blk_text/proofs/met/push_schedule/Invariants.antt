@@ -1,0 +1,12 @@
+use Rattle.std.proofs.Common.{[], ◌∷◌}
+use Rattle.std.specs.List.{zip}
+use Rattle.blk_text.specs.Drafts.{drafted}
+use Rattle.blk_text.specs.Certificate.{served_cells}
+use Rattle.blk_text.specs.Tables.{row_by}
+use Rattle.blk_text.proofs.DraftLemmas.{IsSoFar}
+use Rattle.blk_text.proofs.met.push_schedule.Given as goal
+
+abbrev pub invariant-loop-i : goal.invariant-loop-i
+invariant-loop-i l = record {
+  text : IsSoFar (λ s. row_by served_cells s ∷ []) (drafted l.fn.draft) [] (zip l.commands l.rounds) l.i (drafted l.draft);
+}

@@ -1,0 +1,9 @@
+use Rattle.blk_text.specs.Met.{met_claimed}
+use Rattle.blk_text.proofs.MetLaws.{rows_spell}
+use Rattle.blk_text.proofs.met.write_met.Goals as goal
+
+pub returns-in-Ok-clause-spells : goal.returns-in-Ok-clause-spells
+returns-in-Ok-clause-spells g c = rows_spell (met_claimed c.args.certificate.now) c.requires
+
+pub returns-in-Err-clause-spells : goal.returns-in-Err-clause-spells
+returns-in-Err-clause-spells g c = rows_spell (met_claimed c.args.certificate.now) c.requires
