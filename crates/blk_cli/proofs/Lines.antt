@@ -1,6 +1,6 @@
 -- What the command line reads of words.
 use Rattle.std.proofs.Common.{◌≡◌, ◌∙◌, List, [], Some, None, Option, box_value, option_map, ap, sym, subst, refl, codes, true, false, inl, inr, ℕ, suc, ◌<◌, ◌^◌, arith}
-use Rattle.std.specs.Prelude.{◌≢◌, Bool, Result, Ok, Err, option_and_then, if◌then◌else◌}
+use Rattle.std.specs.Prelude.{◌≢◌, Bool, Result, Ok, Err, IfOk, option_and_then, if◌then◌else◌}
 use Rattle.std.specs.Option.{option_map_or}
 use Rattle.std.specs.Str.{bytes_eq}
 use Rattle.std.specs.Str.Parse.{IsNumeral, ParsesUnsigned, digits_value, without_leading_plus}
@@ -9,7 +9,8 @@ use Rattle.clap.proofs.ValueTestLemmas.{accepts-Accepts, Accepts-accepts}
 use Rattle.clap.specs.declared.builder.value_parser.ValueParser.TheVariants as vp
 use Rattle.clap.proofs.WalkLemmas.{first_value-rows, one_text-rows}
 use Rattle.clap.specs.declared.parser.matches.Found.{Found}
-use Rattle.clap.specs.Words.{App, Rule, Row, Text, with_rule, with_subcommand, ReadsOne, one_of, one_text, first_value, IsAmong, HasKind, subcommand_rows_of, subcommand_of, subcommand_name_of, is_simple, is_simple_and_free, fault_of, kind_of, rows_of, found_of, HasMatchesOf}
+use Rattle.clap.specs.Words.{App, Rule, Row, Text, with_rule, with_subcommand, ReadsOne, one_of, one_text, first_value, IsAmong, HasKind, subcommand_rows_of, subcommand_of, subcommand_name_of, is_simple, is_simple_and_free, fault_of, kind_of, rows_of, found_of, HasMatchesOf, app_of}
+use Rattle.clap.specs.declared.builder.command.Command.{Command}
 use Rattle.clap.specs.declared.parser.matches.ArgMatches.{ArgMatches}
 use Rattle.clap.specs.declared.parser.matches.ArgMatches.TheViews.{out-ArgMatches, out-SubCommand}
 use Rattle.clap.specs.declared.error.Error.{Error}
@@ -167,3 +168,11 @@ adds_command x a b p q e f g = e ∙ ap (λ (y : App). with_subcommand y p.top) 
 -- a command with one rule more
 pub adds_rule : (x a b : App) (p q : Rule) → x ≡ with_rule a p → a ≡ b → p ≡ q → x ≡ with_rule b q
 adds_rule x a b p q e f g = e ∙ ap (λ (y : App). with_rule y p) f ∙ ap (λ (r : Rule). with_rule b r) g
+
+-- a command that a call made of another one, of which more is known; and with the names of the schedulers
+pub of_known : {E : Type 0} (r : Result Command E) (f : App → App) (a b : App) → a ≡ b → IfOk r (λ c. app_of c ≡ f a) → IfOk r (λ c. app_of c ≡ f b)
+of_known r f a b e h = subst (λ (x : App). IfOk r (λ c. app_of c ≡ f x)) e h
+
+pub with_names : {E : Type 0} (r : Result Command E) (f : Names → App) (names : Names) → AreSchedulers names → IfOk r (λ c. app_of c ≡ f names) → IfOk r (λ c. (n : Names) × AreSchedulers n × (app_of c ≡ f n))
+with_names (Ok c) f names are h = (names, are, h)
+with_names (Err e) f names are h = tt

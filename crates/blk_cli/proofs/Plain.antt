@@ -72,13 +72,33 @@ pub target_line : (name : Text) (p q r s : ℕ × ℕ) → IsReadAs (name ∷ co
 unfolding clap_on_literals
 target_line name p q r s = (refl, refl)
 
+pub compare_line : (name : Text) (p q r s : ℕ × ℕ) → IsReadAs (name ∷ codes "compare" ∷ []) (job.Compare (record { fifo_batch = 16; writes_starved = 2; front_merges = true }) (record { read = 2; write = 10 })) (at_places p q r s)
+unfolding clap_on_literals
+compare_line name p q r s = (refl, refl)
+
 pub migrate_line : (name : Text) (p q r s : ℕ × ℕ) → IsReadAs (name ∷ codes "migrate" ∷ []) job.Migrate (at_places p q r s)
 unfolding clap_on_literals
 migrate_line name p q r s = (refl, refl)
 
+pub commands_line : (name : Text) (p q r s : ℕ × ℕ) → IsReadAs (name ∷ codes "commands" ∷ []) job.Commands (at_places p q r s)
+unfolding clap_on_literals
+commands_line name p q r s = (refl, refl)
+
+pub misses_line : (name : Text) (p q r s : ℕ × ℕ) → IsReadAs (name ∷ codes "misses" ∷ []) job.Misses (at_places p q r s)
+unfolding clap_on_literals
+misses_line name p q r s = (refl, refl)
+
+pub spread_line : (name : Text) (p q r s : ℕ × ℕ) → IsReadAs (name ∷ codes "spread" ∷ []) job.Spread (at_places p q r s)
+unfolding clap_on_literals
+spread_line name p q r s = (refl, refl)
+
 pub oracle_line : (name : Text) (p q r s : ℕ × ℕ) → IsReadAs (name ∷ codes "oracle" ∷ []) job.Oracle (at_places p q r s)
 unfolding clap_on_literals
 oracle_line name p q r s = (refl, refl)
+
+pub report_line : (name : Text) (p q r s : ℕ × ℕ) → IsReadAs (name ∷ codes "oracle" ∷ codes "--trace" ∷ []) job.Report (at_places p q r s)
+unfolding clap_on_literals
+report_line name p q r s = (refl, refl)
 
 pub check_line : (name : Text) (p q r s : ℕ × ℕ) → IsReadAs (name ∷ codes "check" ∷ []) job.Check (at_places p q r s)
 unfolding clap_on_literals

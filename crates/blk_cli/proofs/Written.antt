@@ -47,7 +47,7 @@ sim_wrote : (sched : Sched) (left : Option (List Row)) (s : Scripted) (t : Trace
     → round_of t.events ≡ sum_by ticks_of s.lines → Appends old new (rows_text (trace_rows t)) → IfSome left (λ rows. SimWrote sched rows old new)
 sim_wrote sched None s t old new read ran setup spelled bios ticks wrote = tt
 sim_wrote sched (Some rows) s t old new read ran setup spelled bios ticks wrote =
-    record { script = s; trace = t; read = read; ran = ran; setup = setup; spelled = spelled; bios = bios; ticks = ticks; wrote = wrote }
+    record { script = s; trace = t; read = read; is_trace = record { ran = ran; setup = setup; bios = bios; ticks = ticks }; spelled = spelled; wrote = wrote }
 
 step_fault : (sched : Sched) (left : Option (List Row)) (s : Scripted) (f : SimFault) → IfSome left (λ rows. SpellsScript rows s)
     → IsRefusedUnder sched s f → IsStepFault sched left f
@@ -86,6 +86,7 @@ sim_fails sched left s (failure.Sched f) read h = setting_fault sched left s f r
 sim_fails sched left s (failure.Step f) read h = step_fault sched left s f read h
 sim_fails sched left s (failure.Solve f) read h = absurd h
 sim_fails sched left s (failure.Check f) read h = absurd h
+sim_fails sched left s failure.NotFixed read h = absurd h
 sim_fails sched left s (failure.Write f) read h = absurd h
 sim_fails sched left s failure.Memory read h = tt
 
@@ -111,6 +112,7 @@ oracle_fails left depth commands (failure.Sched f) read h = absurd h
 oracle_fails left depth commands (failure.Step f) read h = absurd h
 oracle_fails left depth commands (failure.Solve f) read h = solve_fault left depth commands f read h
 oracle_fails left depth commands (failure.Check f) read h = absurd h
+oracle_fails left depth commands failure.NotFixed read h = absurd h
 oracle_fails left depth commands (failure.Write f) read h = absurd h
 oracle_fails left depth commands failure.Memory read h = tt
 
@@ -138,6 +140,7 @@ check_fails left claim (failure.Sched f) read h = absurd h
 check_fails left claim (failure.Step f) read h = absurd h
 check_fails left claim (failure.Solve f) read h = absurd h
 check_fails left claim (failure.Check f) read h = check_fault left claim f read h
+check_fails left claim failure.NotFixed read h = absurd h
 check_fails left claim (failure.Write f) read h = absurd h
 check_fails left claim failure.Memory read h = tt
 

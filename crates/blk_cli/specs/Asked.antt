@@ -55,13 +55,26 @@ sched_named rows name =
 abbrev pub sched_of : List Row → Option Sched
 sched_of rows = option_and_then (sched_named rows) (first_of (codes "sched") rows)
 
+-- the comparison with these settings
+abbrev pub compared : Option Tunables → Option Targets → Option Job
+compared tunables targets = option_and_then (λ t. option_map (λ g. job.Compare t g) targets) tunables
+
+-- the job of a subcommand without options
+abbrev pub plain_job : Text → Option Job
+plain_job name =
+    if bytes_eq name (codes "migrate") then Some job.Migrate
+    else (if bytes_eq name (codes "commands") then Some job.Commands
+    else (if bytes_eq name (codes "misses") then Some job.Misses
+    else (if bytes_eq name (codes "spread") then Some job.Spread
+    else (if bytes_eq name (codes "check") then Some job.Check else None))))
+
 -- the job of a subcommand, by its name and what its options are given
 abbrev pub job_of : Text × List Row → Option Job
 job_of p =
     if bytes_eq p.0 (codes "sim") then option_map job.Sim (sched_of p.1)
-    else (if bytes_eq p.0 (codes "migrate") then Some job.Migrate
-    else (if bytes_eq p.0 (codes "oracle") then Some job.Oracle
-    else (if bytes_eq p.0 (codes "check") then Some job.Check else None)))
+    else (if bytes_eq p.0 (codes "compare") then compared (tunables_of p.1) (targets_of p.1)
+    else (if bytes_eq p.0 (codes "oracle") then (if is_flagged (codes "trace") p.1 then Some job.Report else Some job.Oracle)
+    else plain_job p.0))
 
 -- the job that the command line reads in words
 abbrev pub job_read : App → List Text → Option Job

@@ -22,7 +22,7 @@ use Rattle.clap.specs.Words.{Text}
 use Rattle.blk_cli.specs.declared.Ended.{Ended}
 use Rattle.blk_cli.specs.declared.words.Job.{Job}
 use Rattle.blk_cli.specs.Asked.{Asks, AreRefused}
-use Rattle.blk_cli.specs.Outcome.{Does}
+use Rattle.blk_cli.specs.Does.{Does}
 use Rattle.blk_cli.specs.declared.failure.Failure.{Failure}
 use Rattle.blk_cli.specs.declared.failure.Failure.TheVariants as failure
 
@@ -125,6 +125,7 @@ line_of (failure.Sched f) = sched_line f
 line_of (failure.Step f) = step_line f.at f.why
 line_of (failure.Solve f) = oracle_line f
 line_of (failure.Check f) = check_line f
+line_of failure.NotFixed = line (codes "NotFixed")
 line_of (failure.Write write.Write) = write_fault
 line_of (failure.Write write.Memory) = want_of_memory
 line_of failure.Memory = want_of_memory
@@ -157,6 +158,7 @@ status_of (failure.Sched f) = sched_status f
 status_of (failure.Step f) = step_status f.why
 status_of (failure.Solve f) = oracle_status f
 status_of (failure.Check f) = check_status f
+status_of failure.NotFixed = 1
 status_of (failure.Write f) = 3
 status_of failure.Memory = 3
 

@@ -29,15 +29,25 @@ short = vp.Signed (pos 0) (pos 65535)
 abbrev pub target : ValueParser
 target = vp.Unsigned 0 1_000_000
 
--- the flag `--no-front-merges`
-abbrev pub front_rule : Rule
-front_rule = record (new_rule (codes "no-front-merges")) { long = Some (codes "no-front-merges"); action = Some SetTrue }
+-- a flag
+abbrev pub flag_rule : Text → Rule
+flag_rule name = record (new_rule name) { long = Some name; action = Some SetTrue }
 
--- `sim` and its options
+-- with the options that set the schedulers
+abbrev pub tuning : App → App
+tuning a =
+    with_rule (with_rule (with_rule (with_rule (with_rule a (number_rule (codes "fifo-batch") short (codes "16"))) (number_rule (codes "writes-starved") short (codes "2")))
+    (flag_rule (codes "no-front-merges"))) (number_rule (codes "read-target") target (codes "2"))) (number_rule (codes "write-target") target (codes "10"))
+
+-- `sim`, `compare` and `oracle` with their options
 abbrev pub sim_app : Names → App
-sim_app names =
-    with_rule (with_rule (with_rule (with_rule (with_rule (with_rule (new_app (codes "sim")) (sched_rule names)) (number_rule (codes "fifo-batch") short (codes "16")))
-    (number_rule (codes "writes-starved") short (codes "2"))) front_rule) (number_rule (codes "read-target") target (codes "2"))) (number_rule (codes "write-target") target (codes "10"))
+sim_app names = tuning (with_rule (new_app (codes "sim")) (sched_rule names))
+
+abbrev pub compare_app : App
+compare_app = tuning (new_app (codes "compare"))
+
+abbrev pub oracle_app : App
+oracle_app = with_rule (new_app (codes "oracle")) (flag_rule (codes "trace"))
 
 -- a command with a version, which wants a subcommand
 abbrev pub topmost : App → App
@@ -47,7 +57,16 @@ topmost a = record a { top = record a.top { has_version = true; subcommand_requi
 abbrev pub with_plain : App → Text → App
 with_plain a name = with_subcommand a (new_app name).top
 
+-- the command with its subcommands over scripts, then those over traces, and those over command lists and certificates
+abbrev pub over_scripts : Names → App
+over_scripts names = with_subcommand (with_subcommand (topmost (new_app (codes "blk"))) (sim_app names).top) compare_app.top
+
+abbrev pub over_traces : App → App
+over_traces a = with_plain (with_plain (with_plain (with_plain a (codes "migrate")) (codes "commands")) (codes "misses")) (codes "spread")
+
+abbrev pub over_lists : App → App
+over_lists a = with_plain (with_subcommand a oracle_app.top) (codes "check")
+
 -- the command and its subcommands
 abbrev pub blk_app : Names → App
-blk_app names =
-    with_plain (with_plain (with_plain (with_subcommand (topmost (new_app (codes "blk"))) (sim_app names).top) (codes "migrate")) (codes "oracle")) (codes "check")
+blk_app names = over_lists (over_traces (over_scripts names))

@@ -1,5 +1,5 @@
 -- What a job comes to: what it wrote, or why it failed.
-use Rattle.std.specs.Prelude.{◌≡◌, ◌↔◌, ◌⊎◌, ◌*◌, ◌<◌, ◌++◌, ◌∷◌, ⊤, true, ℕ, ℤ, pos, ◌+ℤ◌, List, [], Option, None, Some, Result, Err, MatchResult, IfSome, IsPermutation, sum_by, codes, decimal}
+use Rattle.std.specs.Prelude.{◌≡◌, ◌↔◌, ◌⊎◌, ◌*◌, ◌<◌, ◌++◌, ◌∷◌, ⊤, true, ℕ, ℤ, pos, ◌+ℤ◌, List, [], Option, None, Some, Err, IfSome, IsPermutation, sum_by, codes, decimal}
 use Rattle.std.specs.Fmt.{signed_decimal}
 use Rattle.std.specs.Io.KnownBytes.{Appends}
 use Rattle.edd_check.specs.declared.Command.{Command}
@@ -39,8 +39,6 @@ use Rattle.blk_sim.specs.Runs.{Runs}
 use Rattle.blk_sim.specs.Refusals.{IsSimFault}
 use Rattle.blk_cli.specs.declared.words.Sched.{Sched}
 use Rattle.blk_cli.specs.declared.words.Sched.TheVariants as sched
-use Rattle.blk_cli.specs.declared.words.Job.{Job}
-use Rattle.blk_cli.specs.declared.words.Job.TheVariants as job
 use Rattle.blk_cli.specs.declared.failure.Failure.{Failure}
 use Rattle.blk_cli.specs.declared.failure.Failure.TheVariants as failure
 
@@ -94,18 +92,22 @@ RunsUnder s script trace = IsMade s × RunsFrom (policy_under s) script (meaning
 abbrev pub IsRefusedUnder : Sched → Scripted → SimFault → Type 0
 IsRefusedUnder s script f = IsMade s × IsSimFault (policy_under s) script (meaning_of s) (kept_of s script.setup.depth) f
 
--- what `sim` wrote: the text that spells a legal trace under the script's setup, to which its steps lead under the scheduler.
--- Its bios are, each once, the `bio` lines that are followed by a flush of their submitter, and after it by a drain of its
--- hardware queue or a run; its Ticks are as many as the `tick` lines and the n of the `run` lines together
+-- the trace to which a script's steps lead under a scheduler, with the script's setup. Its bios are, each once, the `bio` lines that
+-- are followed by a flush of their submitter, and after it by a drain of its hardware queue or a run; its Ticks are as many as the
+-- `tick` lines and the n of the `run` lines together
+pub record IsTraceOf (s : Sched) (script : Scripted) (trace : Traced) : Type 0 where
+  pub ran : RunsUnder s script trace
+  pub setup : trace.setup ≡ script.setup
+  pub bios : IsPermutation (entered trace.events) (released_bios script.setup.hw script.lines)
+  pub ticks : round_of trace.events ≡ sum_by ticks_of script.lines
+
+-- what `sim` wrote: the text that spells the trace of the script that was read, which is legal
 pub record SimWrote (s : Sched) (rows : List Row) (old new : Option (List ℕ)) : Type 0 where
   pub script : Scripted
   pub trace : Traced
   pub read : SpellsScript rows script
-  pub ran : RunsUnder s script trace
-  pub setup : trace.setup ≡ script.setup
+  pub is_trace : IsTraceOf s script trace
   pub spelled : SpellsTrace (trace_rows trace) trace
-  pub bios : IsPermutation (entered trace.events) (released_bios script.setup.hw script.lines)
-  pub ticks : round_of trace.events ≡ sum_by ticks_of script.lines
   pub wrote : Appends old new (rows_text (trace_rows trace))
 
 -- what `migrate` wrote: in the latest version, the text of the trace that was read in one of the versions. So its commands, their
@@ -186,6 +188,7 @@ IsUnrun s script (failure.Sched f) = IsUnmade s f
 IsUnrun s script (failure.Step f) = IsRefusedUnder s script f
 IsUnrun s script (failure.Solve f) = ⊥
 IsUnrun s script (failure.Check f) = ⊥
+IsUnrun s script failure.NotFixed = ⊥
 IsUnrun s script (failure.Write f) = ⊥
 IsUnrun s script failure.Memory = ⊤
 
@@ -195,6 +198,7 @@ IsUnsolved commands (failure.Sched f) = ⊥
 IsUnsolved commands (failure.Step f) = ⊥
 IsUnsolved commands (failure.Solve f) = IsRefusal commands f
 IsUnsolved commands (failure.Check f) = ⊥
+IsUnsolved commands failure.NotFixed = ⊥
 IsUnsolved commands (failure.Write f) = ⊥
 IsUnsolved commands failure.Memory = ⊤
 
@@ -204,6 +208,7 @@ IsUnproved claim (failure.Sched f) = ⊥
 IsUnproved claim (failure.Step f) = ⊥
 IsUnproved claim (failure.Solve f) = ⊥
 IsUnproved claim (failure.Check f) = IsRefusedBound claim f claim.bound
+IsUnproved claim failure.NotFixed = ⊥
 IsUnproved claim (failure.Write f) = ⊥
 IsUnproved claim failure.Memory = ⊤
 
@@ -214,6 +219,7 @@ SimFails s input (failure.Sched f) = IsSettingFault s input f
 SimFails s input (failure.Step f) = IsStepFault s input f
 SimFails s input (failure.Solve f) = ⊥
 SimFails s input (failure.Check f) = ⊥
+SimFails s input failure.NotFixed = ⊥
 SimFails s input (failure.Write f) = ⊤
 SimFails s input failure.Memory = ⊤
 
@@ -223,6 +229,7 @@ MigrateFails input (failure.Sched f) = ⊥
 MigrateFails input (failure.Step f) = ⊥
 MigrateFails input (failure.Solve f) = ⊥
 MigrateFails input (failure.Check f) = ⊥
+MigrateFails input failure.NotFixed = ⊥
 MigrateFails input (failure.Write f) = ⊤
 MigrateFails input failure.Memory = ⊥
 
@@ -232,6 +239,7 @@ OracleFails input (failure.Sched f) = ⊥
 OracleFails input (failure.Step f) = ⊥
 OracleFails input (failure.Solve f) = IsSolveFault input f
 OracleFails input (failure.Check f) = ⊥
+OracleFails input failure.NotFixed = ⊥
 OracleFails input (failure.Write f) = ⊤
 OracleFails input failure.Memory = ⊤
 
@@ -241,6 +249,7 @@ CheckFails input (failure.Sched f) = ⊥
 CheckFails input (failure.Step f) = ⊥
 CheckFails input (failure.Solve f) = ⊥
 CheckFails input (failure.Check f) = IsCheckFault input f
+CheckFails input failure.NotFixed = ⊥
 CheckFails input (failure.Write f) = ⊤
 CheckFails input failure.Memory = ⊤
 
@@ -251,16 +260,9 @@ VersionFails (failure.Sched f) = ⊥
 VersionFails (failure.Step f) = ⊥
 VersionFails (failure.Solve f) = ⊥
 VersionFails (failure.Check f) = ⊥
+VersionFails failure.NotFixed = ⊥
 VersionFails (failure.Write f) = ⊤
 VersionFails failure.Memory = ⊥
 
 abbrev pub version_line : List ℕ
 version_line = codes "blk 1.0.0" ++ 10 ∷ []
-
--- what a job does with the records of its input: what it wrote where it ends well, and why it fails
-abbrev pub Does : Job → Option (List Row) → Option (List ℕ) → Option (List ℕ) → Result (Unit {0}) Failure → Type 0
-Does job.Version input old new r = MatchResult r (λ _. Appends old new version_line) VersionFails
-Does (job.Sim s) input old new r = MatchResult r (λ _. IfSome input (λ rows. SimWrote s rows old new)) (SimFails s input)
-Does job.Migrate input old new r = MatchResult r (λ _. IfSome input (λ rows. MigrateWrote rows old new)) (MigrateFails input)
-Does job.Oracle input old new r = MatchResult r (λ _. IfSome input (λ rows. OracleWrote rows old new)) (OracleFails input)
-Does job.Check input old new r = MatchResult r (λ _. IfSome input (λ rows. CheckWrote rows old new)) (CheckFails input)

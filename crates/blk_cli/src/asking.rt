@@ -19,8 +19,14 @@ pub fn plain_lines()
         ↔ (j ≡ Job.Sim (Sched.Deadline (record { fifo_batch = 1; writes_starved = 2; front_merges = true }))) }
     ensures target { (name : Text) → (j : AJob) → Asks (name ∷ codes "sim" ∷ codes "--sched" ∷ codes "kyber" ∷ codes "--read-target" ∷ codes "1000000" ∷ []) j
         ↔ (j ≡ Job.Sim (Sched.Kyber (record { read = 1_000_000; write = 10 }))) }
+    ensures compare { (name : Text) → (j : AJob) → Asks (name ∷ codes "compare" ∷ []) j
+        ↔ (j ≡ Job.Compare (record { fifo_batch = 16; writes_starved = 2; front_merges = true }) (record { read = 2; write = 10 })) }
     ensures migrate { (name : Text) → (j : AJob) → Asks (name ∷ codes "migrate" ∷ []) j ↔ (j ≡ Job.Migrate) }
+    ensures commands { (name : Text) → (j : AJob) → Asks (name ∷ codes "commands" ∷ []) j ↔ (j ≡ Job.Commands) }
+    ensures misses { (name : Text) → (j : AJob) → Asks (name ∷ codes "misses" ∷ []) j ↔ (j ≡ Job.Misses) }
+    ensures spread { (name : Text) → (j : AJob) → Asks (name ∷ codes "spread" ∷ []) j ↔ (j ≡ Job.Spread) }
     ensures oracle { (name : Text) → (j : AJob) → Asks (name ∷ codes "oracle" ∷ []) j ↔ (j ≡ Job.Oracle) }
+    ensures report { (name : Text) → (j : AJob) → Asks (name ∷ codes "oracle" ∷ codes "--trace" ∷ []) j ↔ (j ≡ Job.Report) }
     ensures check { (name : Text) → (j : AJob) → Asks (name ∷ codes "check" ∷ []) j ↔ (j ≡ Job.Check) }
     ensures version { (name : Text) → Asks (name ∷ codes "--version" ∷ []) Job.Version }
 {}

@@ -38,6 +38,8 @@ pub enum Failure {
     Solve(OracleFault),
     /// The check refuses the certificate.
     Check(CheckFault),
+    /// The trace sets a depth, so that no command list has its commands.
+    NotFixed,
     /// The writer failed.
     Write(WriteFault),
     /// Memory ran out.
@@ -63,7 +65,7 @@ impl Failure {
             Failure::Solve(OracleFault::Memory) => FAILED,
             Failure::Solve(_) => REFUSED,
             Failure::Check(CheckFault::Memory) => FAILED,
-            Failure::Check(_) => REFUSED,
+            Failure::Check(_) | Failure::NotFixed => REFUSED,
             Failure::Write(_) | Failure::Memory => FAILED,
         }
     }
@@ -78,6 +80,7 @@ impl Failure {
             Failure::Step(fault) => tell_step(faults, fault.at, fault.why),
             Failure::Solve(fault) => tell_solve(faults, *fault),
             Failure::Check(fault) => tell_check(faults, *fault),
+            Failure::NotFixed => tell_name(faults, "NotFixed"),
             Failure::Write(WriteFault::Write) => faults.write_all(WRITE_FAULT),
             Failure::Write(WriteFault::Memory) | Failure::Memory => faults.write_all(
                 WANT_OF_MEMORY,

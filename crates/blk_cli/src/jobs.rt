@@ -101,7 +101,7 @@ fn traced_by_kyber(alloc: Global, targets: Targets, script: &Script) -> Result<T
 }
 
 /// The trace of a script under a scheduler.
-fn traced(alloc: Global, sched: Sched, script: &Script) -> Result<Trace, Failure>
+pub fn traced(alloc: Global, sched: Sched, script: &Script) -> Result<Trace, Failure>
     requires { IsScript (scripted script.now) }
     ensures ran { IfOk result (λ trace. RunsUnder sched (scripted script.now) trace) }
     ensures setup { IfOk result (λ trace. trace.setup ≡ script.now.setup) }

@@ -4,18 +4,22 @@
 ghost use Rattle.std.specs.Prelude.{◌≡◌, ◌≢◌, ◌≤◌, ◌⊎◌, IfErr, map, string_bytes};
 ghost use Rattle.blk_text.specs.Sources.{input_of};
 ghost use Rattle.blk_cli.specs.Ends.{JobEnds, LineEnds, MemoryEnds, RunEnds};
-ghost use Rattle.blk_cli.specs.Outcome.{Does};
+ghost use Rattle.blk_cli.specs.Does.{Does};
 ghost use Rattle.blk_cli.specs.Statuses.{IsOfWriter};
 
 pub mod asking;
+mod comparing;
 mod failure;
 mod jobs;
+mod traces;
 mod words;
 
+use crate::comparing::compare_schedulers;
 pub use crate::failure::Failure;
 use crate::jobs::{
     check_certificate, migrate_trace, simulate_script, solve_commands, write_version,
 };
+use crate::traces::{count_misses, list_commands, report_trace, spread_trace};
 pub use crate::words::{Job, Sched, VERSION};
 use crate::words::{NoJob, choose};
 pub use blk_sim::laws;
@@ -56,8 +60,15 @@ pub fn work<R: Read + Drop, W: Write>(
     match job {
         Job::Version => write_version(writer),
         Job::Sim(sched) => simulate_script(alloc, sched, reader, writer),
+        Job::Compare(tunables, targets) => {
+            compare_schedulers(alloc, tunables, targets, reader, writer)
+        }
         Job::Migrate => migrate_trace(alloc, reader, writer),
+        Job::Commands => list_commands(alloc, reader, writer),
+        Job::Misses => count_misses(alloc, reader, writer),
+        Job::Spread => spread_trace(alloc, reader, writer),
         Job::Oracle => solve_commands(alloc, reader, writer),
+        Job::Report => report_trace(alloc, reader, writer),
         Job::Check => check_certificate(alloc, reader, writer),
     }
 }

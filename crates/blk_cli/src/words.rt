@@ -1,10 +1,10 @@
 //! The words of the command line, as a job.
 
 ghost use Rattle.std.specs.Prelude.{◌≡◌, ◌⊎◌, false, IfOk, IfErr, map, option_and_then, string_bytes};
-ghost use Rattle.clap.specs.Words.{app_of, rule_of, rows_of, found_of, subcommand_rows_of};
+ghost use Rattle.clap.specs.Words.{app_of, new_app, rule_of, rows_of, found_of, subcommand_rows_of, with_subcommand};
 ghost use Rattle.clap.specs.declared.builder.command.Command.TheViews.{out-Command as fields_of};
-ghost use Rattle.blk_cli.specs.Line.{Names, AreSchedulers, sched_rule, number_rule, target, front_rule, sim_app, blk_app};
-ghost use Rattle.blk_cli.specs.Asked.{Asks, AreRefused, short_given, number_given, is_flagged, tunables_of, targets_of, sched_of, job_of};
+ghost use Rattle.blk_cli.specs.Line.{Names, AreSchedulers, sched_rule, number_rule, target, flag_rule, tuning, sim_app, compare_app, oracle_app, with_plain, over_scripts, over_traces, over_lists, blk_app};
+ghost use Rattle.blk_cli.specs.Asked.{Asks, AreRefused, short_given, number_given, is_flagged, tunables_of, targets_of, sched_of, compared, plain_job, job_of};
 
 use blk_deadline::Tunables;
 use blk_kyber::Targets;
@@ -40,10 +40,20 @@ pub enum Job {
     Version,
     /// Run a script under a scheduler, and write its trace.
     Sim(Sched),
+    /// Run a script under each scheduler in turn, and write the table of the reports.
+    Compare(Tunables, Targets),
     /// Write a trace in the latest version.
     Migrate,
+    /// Write the command list of a trace.
+    Commands,
+    /// Write how many commands of a trace were late, and how many had to be.
+    Misses,
+    /// Write how long the commands of a trace waited, and how late they were, by quantiles.
+    Spread,
     /// Write the certificate of a command list.
     Oracle,
+    /// Write the report of a trace.
+    Report,
     /// Check a certificate.
     Check,
 }
@@ -100,20 +110,21 @@ fn target_arg<'a>(alloc: Global, name: &'a str, default: &'a str, help: &'a str)
     number_arg(alloc, name, parser, default, help)
 }
 
-/// The flag that keeps newcomers from joining at the front.
-fn front_arg<'a>(alloc: Global) -> Arg<'a>
-    ensures rule { rule_of result ≡ front_rule }
+/// A flag.
+fn flag_arg<'a>(alloc: Global, name: &'a str, help: &'a str) -> Arg<'a>
+    ensures rule { rule_of result ≡ flag_rule name.entry.now }
     ensures local { result.global ≡ false }
 {
-    Arg::new(alloc, "no-front-merges")
-        .long("no-front-merges")
+    Arg::new(alloc, name)
+        .long(name)
         .action(ArgAction::SetTrue)
-        .help("Under deadline, lets no newcomer join at the front")
+        .help(help)
 }
 
-/// The subcommand that runs a script.
-fn sim_command<'a>(alloc: Global) -> Result<Command<'a>, AllocError>
-    ensures app { IfOk result (λ c. (names : Names) × AreSchedulers names × (app_of c ≡ sim_app names)) }
+/// A command with the options that set the schedulers.
+fn with_tuning<'a>(alloc: Global, command: Command<'a>) -> Result<Command<'a>, AllocError>
+    requires { (fields_of command).has_globals ≡ false }
+    ensures app { IfOk result (λ c. app_of c ≡ tuning (app_of command.entry)) }
     ensures local { IfOk result (λ c. (fields_of c).has_globals ≡ false) }
 {
     let batch = number_arg(
@@ -130,6 +141,11 @@ fn sim_command<'a>(alloc: Global) -> Result<Command<'a>, AllocError>
         "2",
         "Under deadline, how often reads go first while writes wait",
     );
+    let front = flag_arg(
+        alloc,
+        "no-front-merges",
+        "Under deadline, lets no newcomer join at the front",
+    );
     let read = target_arg(
         alloc,
         "read-target",
@@ -142,36 +158,151 @@ fn sim_command<'a>(alloc: Global) -> Result<Command<'a>, AllocError>
         "10",
         "Under kyber, how many rounds a write may wait",
     );
-    let sim = Command::new(alloc, "sim")
-        .about("Runs a script and writes its trace")
-        .arg(sched_arg(alloc))?
+    let tuned = command
         .arg(batch)?
         .arg(starved)?
-        .arg(front_arg(alloc))?
+        .arg(front)?
         .arg(read)?
         .arg(write)?;
-    Ok(sim)
+    Ok(tuned)
+}
+
+/// The subcommand that runs a script.
+fn sim_command<'a>(alloc: Global) -> Result<Command<'a>, AllocError>
+    ensures app { IfOk result (λ c. (names : Names) × AreSchedulers names × (app_of c ≡ sim_app names)) }
+    ensures local { IfOk result (λ c. (fields_of c).has_globals ≡ false) }
+{
+    let sim = Command::new(alloc, "sim")
+        .about("Runs a script and writes its trace")
+        .arg(sched_arg(alloc))?;
+    with_tuning(alloc, sim)
+}
+
+/// A subcommand without options.
+fn plain_command<'a>(alloc: Global, name: &'a str, about: &'a str) -> Command<'a>
+    ensures app { app_of result ≡ new_app name.entry.now }
+    ensures local { (fields_of result).has_globals ≡ false }
+{
+    Command::new(alloc, name).about(about)
+}
+
+/// The subcommand that compares the schedulers.
+fn compare_command<'a>(alloc: Global) -> Result<Command<'a>, AllocError>
+    ensures app { IfOk result (λ c. app_of c ≡ compare_app) }
+    ensures local { IfOk result (λ c. (fields_of c).has_globals ≡ false) }
+{
+    let compare = plain_command(
+        alloc,
+        "compare",
+        "Runs a script under each scheduler, and writes how late each was and had to be",
+    );
+    with_tuning(alloc, compare)
+}
+
+/// The subcommand that knows how late commands have to be.
+fn oracle_command<'a>(alloc: Global) -> Result<Command<'a>, AllocError>
+    ensures app { IfOk result (λ c. app_of c ≡ oracle_app) }
+    ensures local { IfOk result (λ c. (fields_of c).has_globals ≡ false) }
+{
+    let oracle = plain_command(
+        alloc,
+        "oracle",
+        "Writes a least schedule of a command list, with its certificate",
+    );
+    let trace = flag_arg(
+        alloc,
+        "trace",
+        "Reads a trace instead, and writes how late it was and had to be",
+    );
+    let flagged = oracle.arg(trace)?;
+    Ok(flagged)
+}
+
+/// A command with one more subcommand.
+fn with_command<'a>(command: Command<'a>, more: Command<'a>) -> Result<Command<'a>, AllocError>
+    requires { (fields_of more).has_globals ≡ false }
+    ensures { IfOk result (λ c. app_of c ≡ with_subcommand (app_of command.entry) (app_of more.entry).top) }
+{
+    let grown = command.subcommand(more)?;
+    Ok(grown)
+}
+
+/// A command with one more subcommand, without options.
+fn with_plain<'a>(
+    alloc: Global,
+    command: Command<'a>,
+    name: &'a str,
+    about: &'a str,
+) -> Result<Command<'a>, AllocError>
+    ensures { IfOk result (λ c. app_of c ≡ with_plain (app_of command.entry) name.entry.now) }
+{
+    with_command(command, plain_command(alloc, name, about))
+}
+
+/// The command line with the subcommands over scripts.
+fn over_scripts<'a>(alloc: Global) -> Result<Command<'a>, AllocError>
+    ensures { IfOk result (λ c. (names : Names) × AreSchedulers names × (app_of c ≡ over_scripts names)) }
+{
+    let sim = sim_command(alloc)?;
+    let compare = compare_command(alloc)?;
+    let blk = Command::new(alloc, "blk")
+        .version(VERSION)
+        .about("A multiqueue block layer, and how far its schedules fall short of the best")
+        .subcommand_required(true);
+    let simulating = with_command(blk, sim)?;
+    let comparing = with_command(simulating, compare)?;
+    Ok(comparing)
+}
+
+/// The command line with the subcommands over traces.
+fn over_traces<'a>(alloc: Global, command: Command<'a>) -> Result<Command<'a>, AllocError>
+    ensures { IfOk result (λ c. app_of c ≡ over_traces (app_of command.entry)) }
+{
+    let migrating = with_plain(
+        alloc,
+        command,
+        "migrate",
+        "Writes a trace in the latest version",
+    )?;
+    let listing = with_plain(
+        alloc,
+        migrating,
+        "commands",
+        "Writes the command list of a trace",
+    )?;
+    let missing = with_plain(
+        alloc,
+        listing,
+        "misses",
+        "Writes how many commands of a trace were late, and how many had to be",
+    )?;
+    let spreading = with_plain(
+        alloc,
+        missing,
+        "spread",
+        "Writes how long the commands of a trace waited and how late they were, by quantiles",
+    )?;
+    Ok(spreading)
+}
+
+/// The command line with the subcommands over command lists and certificates.
+fn over_lists<'a>(alloc: Global, command: Command<'a>) -> Result<Command<'a>, AllocError>
+    ensures { IfOk result (λ c. app_of c ≡ over_lists (app_of command.entry)) }
+{
+    let oracle = oracle_command(alloc)?;
+    let solving = with_command(command, oracle)?;
+    let checking = with_plain(alloc, solving, "check", "Checks a certificate")?;
+    Ok(checking)
 }
 
 /// The command line of the program.
 fn blk_command<'a>(alloc: Global) -> Result<Command<'a>, AllocError>
     ensures { IfOk result (λ c. (names : Names) × AreSchedulers names × (app_of c ≡ blk_app names)) }
 {
-    let sim = sim_command(alloc)?;
-    let migrate = Command::new(alloc, "migrate").about("Writes a trace in the latest version");
-    let oracle = Command::new(alloc, "oracle").about(
-        "Writes a least schedule of a command list, with its certificate",
-    );
-    let check = Command::new(alloc, "check").about("Checks a certificate");
-    let blk = Command::new(alloc, "blk")
-        .version(VERSION)
-        .about("A multiqueue block layer, and how far its schedules fall short of the best")
-        .subcommand_required(true)
-        .subcommand(sim)?
-        .subcommand(migrate)?
-        .subcommand(oracle)?
-        .subcommand(check)?;
-    Ok(blk)
+    let scripts = over_scripts(alloc)?;
+    let traces = over_traces(alloc, scripts)?;
+    let lists = over_lists(alloc, traces)?;
+    Ok(lists)
 }
 
 /// The number of 16 bits that an option is given.
@@ -198,7 +329,7 @@ fn is_flagged(options: &ArgMatches<'_>, id: &str) -> bool
     }
 }
 
-/// The settings of `deadline` by the options of `sim`.
+/// The settings of `deadline` by the options.
 fn tunables_of(options: &ArgMatches<'_>) -> Option<Tunables>
     ensures { result ≡ tunables_of (rows_of (found_of options.now)) }
 {
@@ -212,7 +343,7 @@ fn tunables_of(options: &ArgMatches<'_>) -> Option<Tunables>
     })
 }
 
-/// The settings of `kyber` by the options of `sim`.
+/// The settings of `kyber` by the options.
 fn targets_of(options: &ArgMatches<'_>) -> Option<Targets>
     ensures { result ≡ targets_of (rows_of (found_of options.now)) }
 {
@@ -239,23 +370,60 @@ fn sched_of(options: &ArgMatches<'_>) -> Option<Sched>
     }
 }
 
-/// The job of the subcommand that was read.
-fn job_of(matches: &ArgMatches<'_>) -> Option<Job>
-    ensures { result ≡ option_and_then job_of (subcommand_rows_of matches.now) }
+/// The comparison with the settings that the options of `compare` give.
+fn compare_of(options: &ArgMatches<'_>) -> Option<Job>
+    ensures { result ≡ compared (tunables_of (rows_of (found_of options.now))) (targets_of (rows_of (found_of options.now))) }
 {
-    let (name, options) = matches.subcommand()?;
-    if name == "sim" {
-        let sched = sched_of(options)?;
-        Some(Job::Sim(sched))
-    } else if name == "migrate" {
+    let tunables = tunables_of(options)?;
+    let targets = targets_of(options)?;
+    Some(Job::Compare(tunables, targets))
+}
+
+/// The job of a subcommand without options.
+fn plain_job(name: &str) -> Option<Job>
+    ensures { result ≡ plain_job name.now }
+{
+    if name == "migrate" {
         Some(Job::Migrate)
-    } else if name == "oracle" {
-        Some(Job::Oracle)
+    } else if name == "commands" {
+        Some(Job::Commands)
+    } else if name == "misses" {
+        Some(Job::Misses)
+    } else if name == "spread" {
+        Some(Job::Spread)
     } else if name == "check" {
         Some(Job::Check)
     } else {
         None
     }
+}
+
+/// The job of a subcommand.
+fn job_named(name: &str, options: &ArgMatches<'_>) -> Option<Job>
+    ensures { result ≡ job_of (name.now, rows_of (found_of options.now)) }
+{
+    if name == "sim" {
+        let sched = sched_of(options)?;
+        Some(Job::Sim(sched))
+    } else if name == "compare" {
+        compare_of(options)
+    } else if name == "oracle" {
+        if is_flagged(options, "trace") {
+            Some(Job::Report)
+        } else {
+            Some(Job::Oracle)
+        }
+    } else {
+        plain_job(name)
+    }
+}
+
+/// The job of the subcommand that was read.
+fn job_of(matches: &ArgMatches<'_>) -> Option<Job>
+    ensures { result ≡ option_and_then job_of (subcommand_rows_of matches.now) }
+{
+    let (name, options) = matches.subcommand()?;
+    job_named(name, options)
 }
 
 /// What the words ask for; the first of them is the program's name.

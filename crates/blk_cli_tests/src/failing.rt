@@ -15,19 +15,36 @@ const TRACE: &str =
 const OLD_TRACE: &str =
     "blk-trace,1,1,1,8,\nsetup,0,9,256,128,\nrelease,0,1,,,\nbio,0,0,W,100,8\nrelease,1,1,,,\nbio,0,1,R,200,8\nissue,0,0,,,\ndone,0,,,,\ntick,,,,,\nissue,1,0,,,\ndone,0,,,,\ntick,,,,,\n";
 
+/// How far it fell short.
+const REPORT: &str =
+    "commands 2\nwaiting 0\ndepth 1\ngreatest 1\nleast 0\nshortfall 1\nwindow 0 0\nload 1\n";
+
+/// Its command list.
+const LISTED: &str = "blk-commands,1,1\n0,0,9\n1,0,0\n";
+
+/// How far each scheduler falls short over the script: deadline and kyber issue the read first.
+const TABLE: &str =
+    "sched     commands   waiting  greatest     least shortfall\nnone             2         0         1         0         1\ndeadline         2         0         0         0         0\nkyber            2         0         0         0         0\nbest deadline\n";
+
 /// Three commands that are due in the round of their release.
 const COMMANDS: &str = "blk-commands,1,1\n1,0,0\n2,0,0\n3,0,0\n";
 
 /// Their certificate.
 const CERTIFICATE: &str = "blk-certificate,1,1,3\nbound,2,0,0\n1,0,0,0\n2,0,0,1\n3,0,0,2\n";
 
+/// The words of a command line, with an input and its output.
+type Run<'a> = (&'a [&'a str], &'a str, &'a str);
+
 /// Each subcommand, with an input and its output.
-fn good_runs<'a>() -> [(&'a str, &'a str, &'a str); 4] {
+fn good_runs<'a>() -> [Run<'a>; 7] {
     [
-        ("sim", SCRIPT, TRACE),
-        ("migrate", OLD_TRACE, TRACE),
-        ("oracle", COMMANDS, CERTIFICATE),
-        ("check", CERTIFICATE, "ok lateness 2 load 3 carries 2\n"),
+        (&["sim"], SCRIPT, TRACE),
+        (&["compare"], SCRIPT, TABLE),
+        (&["migrate"], OLD_TRACE, TRACE),
+        (&["commands"], OLD_TRACE, LISTED),
+        (&["oracle"], COMMANDS, CERTIFICATE),
+        (&["oracle", "--trace"], TRACE, REPORT),
+        (&["check"], CERTIFICATE, "ok lateness 2 load 3 carries 2\n"),
     ]
 }
 
@@ -42,13 +59,13 @@ fn failing(text: &str, reads_left: u64, kind: ErrorKind) -> Failing<'_> {
 
 #[test]
 fn failing_reads(rt: HostRuntime) {
-    for (word, input, output) in good_runs() {
+    for (words, input, output) in good_runs() {
         let length = input.as_bytes().len() as u64;
         // each byte is a read, and one more finds the end
         for reads_left in 0..length + 2 {
             let (mut out, mut line) = (Vec::new(rt.alloc()), Vec::new(rt.alloc()));
             let reader = failing(input, reads_left, ErrorKind::Other);
-            let status = status_of(&rt, rt.alloc(), &[word], reader, &mut out, &mut line);
+            let status = status_of(&rt, rt.alloc(), words, reader, &mut out, &mut line);
             if reads_left > length {
                 assert!(rt; status == 0 && line.is_empty());
                 assert!(rt; out.as_slice() == output.as_bytes());
@@ -70,12 +87,12 @@ fn each_kind_of_read_fault(rt: HostRuntime) {
         ErrorKind::UnexpectedEof,
         ErrorKind::BrokenPipe,
     ];
-    for (word, input, _) in good_runs() {
+    for (words, input, _) in good_runs() {
         for kind in kinds {
             let (mut out, mut line) = (Vec::new(rt.alloc()), Vec::new(rt.alloc()));
             let reader = failing(input, 7, kind);
-            let status = status_of(&rt, rt.alloc(), &[word], reader, &mut out, &mut line);
-            assert!(rt; status == 3 && out.is_empty(), "{word}");
+            let status = status_of(&rt, rt.alloc(), words, reader, &mut out, &mut line);
+            assert!(rt; status == 3 && out.is_empty(), "{input}");
             assert!(rt; line.as_slice() == b"blk: read fault\n".as_slice());
         }
     }
@@ -83,12 +100,12 @@ fn each_kind_of_read_fault(rt: HostRuntime) {
 
 #[test]
 fn failing_writes(rt: HostRuntime) {
-    for (word, input, output) in good_runs() {
+    for (words, input, output) in good_runs() {
         let length = output.as_bytes().len() as u64;
         for writes_left in 0..length + 1 {
             let (mut out, mut line) = (Choking { writes_left }, Vec::new(rt.alloc()));
             let reader = input.as_bytes();
-            let status = status_of(&rt, rt.alloc(), &[word], reader, &mut out, &mut line);
+            let status = status_of(&rt, rt.alloc(), words, reader, &mut out, &mut line);
             if writes_left == length {
                 assert!(rt; status == 0 && line.is_empty());
             } else {
@@ -125,11 +142,11 @@ fn lost_lines(rt: HostRuntime) {
 /// The same where the reader fails.
 #[test]
 fn lost_lines_of_reads(rt: HostRuntime) {
-    for (word, input, _) in good_runs() {
+    for (words, input, _) in good_runs() {
         for writes_left in 0..3u64 {
             let (mut out, mut line) = (Vec::new(rt.alloc()), Choking { writes_left });
             let reader = failing(input, 7, ErrorKind::Other);
-            let status = status_of(&rt, rt.alloc(), &[word], reader, &mut out, &mut line);
+            let status = status_of(&rt, rt.alloc(), words, reader, &mut out, &mut line);
             assert!(rt; status == 3 && line.writes_left == 0);
             assert!(rt; out.is_empty());
         }
@@ -139,11 +156,11 @@ fn lost_lines_of_reads(rt: HostRuntime) {
 /// The same where the writer of the output fails too.
 #[test]
 fn lost_lines_of_writes(rt: HostRuntime) {
-    for (word, input, _) in good_runs() {
+    for (words, input, _) in good_runs() {
         for writes_left in 0..3u64 {
             let (mut out, mut line) = (Choking { writes_left }, Choking { writes_left });
             let reader = input.as_bytes();
-            let status = status_of(&rt, rt.alloc(), &[word], reader, &mut out, &mut line);
+            let status = status_of(&rt, rt.alloc(), words, reader, &mut out, &mut line);
             assert!(rt; status == 3 && line.writes_left == 0);
             assert!(rt; out.writes_left == 0);
         }

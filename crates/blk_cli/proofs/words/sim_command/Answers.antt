@@ -1,20 +1,13 @@
 use Rattle.std.proofs.Common.{◌≡◌, ◌∙◌, ap, codes}
 use Rattle.clap.specs.Words.{app_of, new_app}
 use Rattle.clap.specs.Simple.{app_of_fields}
-use Rattle.blk_cli.specs.Line.{number_rule}
-use Rattle.blk_cli.proofs.Lines.{adds_rule}
+use Rattle.blk_cli.specs.Line.{tuning, sim_app}
+use Rattle.blk_cli.proofs.Lines.{adds_rule, of_known, with_names}
 use Rattle.blk_cli.proofs.words.sim_command.Goals as goal
 
 pub returns-clause-app : goal.returns-clause-app
 returns-clause-app c =
     let sched = c.sched_arg.ensures.rule in
     let bare : app_of c.about.result ≡ new_app (codes "sim") = ap app_of_fields c.about.ensures ∙ c.new.ensures.app in
-    let batch = c.number_arg-batch.ensures.rule ∙ ap (λ p. number_rule (codes "fifo-batch") p (codes "16")) c.value_parser.ensures in
-    let starved = c.number_arg-starved.ensures.rule ∙ ap (λ p. number_rule (codes "writes-starved") p (codes "2")) c.value_parser-2.ensures in
-    let one = adds_rule _ _ _ _ _ (c.in_ok-arg.ensures.shape c.sched_arg.ensures.local) bare sched.2 in
-    let two = adds_rule _ _ _ _ _ (c.in_ok-arg-2.ensures.shape c.number_arg-batch.ensures.local) one batch in
-    let three = adds_rule _ _ _ _ _ (c.in_ok-arg-3.ensures.shape c.number_arg-starved.ensures.local) two starved in
-    let four = adds_rule _ _ _ _ _ (c.in_ok-arg-4.ensures.shape c.front_arg.ensures.local) three c.front_arg.ensures.rule in
-    let five = adds_rule _ _ _ _ _ (c.in_ok-arg-5.ensures.shape c.target_arg-read.ensures.local) four c.target_arg-read.ensures.rule in
-    let six = adds_rule _ _ _ _ _ (c.in_ok-sim.ensures.shape c.target_arg-write.ensures.local) five c.target_arg-write.ensures.rule in
-    (sched.0, sched.1, six)
+    let one = adds_rule _ _ _ _ _ (c.in_ok-sim.ensures.shape c.sched_arg.ensures.local) bare sched.2 in
+    with_names _ sim_app sched.0 sched.1 (of_known _ tuning _ _ one c.with_tuning.ensures.app)
