@@ -1,0 +1,7 @@
+mod Counted
+mod Repeats
+mod Ids
+mod Held
+mod Each
+mod Plugged
+mod Moving

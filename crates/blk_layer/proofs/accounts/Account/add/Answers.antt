@@ -1,0 +1,16 @@
+use Rattle.std.proofs.Common.{◌++◌, sym, subst, rules}
+use Rattle.std.specs.HashSet as hash_set
+use Rattle.blk_trace.specs.Events.{AreOnce}
+use Rattle.blk_trace.specs.Inside.Kept.{is_bio}
+use Rattle.blk_layer.proofs.Ids.{same_account, more_account}
+use Rattle.blk_layer.proofs.accounts.Account.add.Goals as goal
+
+pub invariant_of-self-in_err-extend_from_slice : goal.invariant_of-self-in_err-extend_from_slice
+invariant_of-self-in_err-extend_from_slice g c =
+    same_account c.self.inside.bios.items c.extend_from_slice.new.self.items (hash_set.contains is_bio c.self.inside.ids) (hash_set.contains is_bio c.reserve.new.self) c.self.invariant (search rules) c.in_ok-reserve.ensures.keys.2
+
+pub invariant_of-self-2 : goal.invariant_of-self-2
+invariant_of-self-2 g c =
+    let bios = c.self.inside.bios.items in
+    let once : AreOnce (bios ++ c.args.bios.now) = subst (λ v. AreOnce (v ++ c.args.bios.now)) (sym c.self.view_is) c.requires in
+    more_account bios c.args.bios.now c.extend_from_slice.new.self.items (hash_set.contains is_bio c.self.inside.ids) (hash_set.contains is_bio c.reserve.new.self) (hash_set.contains is_bio c.enter.new.ids) c.self.invariant once (search rules) c.in_ok-reserve.ensures.keys.2 c.enter.ensures

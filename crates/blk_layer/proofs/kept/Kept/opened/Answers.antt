@@ -1,0 +1,10 @@
+use Rattle.std.proofs.Common.{◌≡◌, ◌∙◌, sym, ap, refl, []}
+use Rattle.blk_layer.specs.Served.{done_count}
+use Rattle.blk_layer.proofs.kept.Kept.opened.Goals as goal
+
+none_done : done_count [] ≡ 0
+unfolding done_count
+none_done = refl
+
+pub invariant_of-result-clause-counted : goal.invariant_of-result-clause-counted
+invariant_of-result-clause-counted g c = c.requires.total ∙ sym (ap done_count c.requires.empty ∙ none_done)

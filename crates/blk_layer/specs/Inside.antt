@@ -1,0 +1,2 @@
+-- What invariants and proofs need, and no promise names.
+pub mod Kept

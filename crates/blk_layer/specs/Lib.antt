@@ -1,0 +1,6 @@
+pub mod Served
+pub mod Seats
+pub mod Faults
+pub mod Moves
+pub mod Flushes
+pub mod Inside

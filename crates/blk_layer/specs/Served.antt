@@ -1,0 +1,12 @@
+-- The commands of a trace that are done.
+use Rattle.std.specs.Prelude.{ℕ, Bool, true, false, List, count_by}
+use Rattle.blk_trace.specs.Happened.{Happened, Finished}
+
+-- whether an event is a Done
+abbrev pub is_done : Happened → Bool
+is_done (Finished tag) = true
+is_done _ = false
+
+-- how many Dones there are
+unfoldable pub done_count : List Happened → ℕ
+done_count events = count_by is_done events

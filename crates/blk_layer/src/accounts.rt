@@ -1,0 +1,115 @@
+//! The account of a submitter.
+
+ghost use Rattle.std.specs.Prelude.{◌≡◌, ◌≤◌, ◌+◌, ◌++◌, ◌||◌, ◌↔◌, [], IsTrue, IfOk, OnOk, OnErr, IfSome, IfNone, length};
+ghost use Rattle.std.specs.HashSet as hash_set;
+ghost use Rattle.blk_bio.specs.declared.bio.BioId.{BioId as Name};
+ghost use Rattle.blk_trace.specs.Events.{AreOnce};
+ghost use Rattle.blk_trace.specs.Inside.Kept.{is_bio, has_bio_id};
+ghost use Rattle.blk_core.specs.Ids.{HasId, IsFirstRepeated};
+
+use blk_bio::{Bio, BioId};
+use std::alloc::{AllocError, Allocator, Global};
+use std::collections::HashSet;
+use std::hash::{BuildHasherDefault, FoldHasher};
+use std::marker::Model;
+
+/// How the ids of an account hash: by numbers alone, so that an account needs no source of randomness.
+type Hashing = BuildHasherDefault<FoldHasher>;
+
+/// Bios of which no two have one id, in the order in which they came, beside their ids.
+#[derive(Drop)]
+pub struct Account<A: Allocator = Global> {
+    bios: Vec<Bio, A>,
+    ids: HashSet<BioId, Hashing, A>,
+}
+
+impl<A: Allocator> Model for Account<A> {
+    ghost use Rattle.std.specs.Prelude.{List};
+    ghost use Rattle.std.specs.HashSet as hash_set;
+    ghost use Rattle.blk_bio.specs.Bios.{Bio as BioFields};
+    ghost use Rattle.blk_trace.specs.Inside.Kept.{is_bio};
+    ghost use Rattle.blk_layer.specs.Inside.Kept.{IsAccount};
+
+    ghost Value = { List BioFields };
+
+    ghost view = { λ a. a.bios.items };
+
+    ghost invariant = { λ a. IsAccount a.bios.items (hash_set.contains is_bio a.ids) };
+}
+
+impl<A: Allocator + Clone> Account<A> {
+    /// An account of no bios. Fails for want of memory alone.
+    pub fn new(alloc: A) -> Result<Account<A>, AllocError>
+        ensures { IfOk result (λ a. a ≡ []) }
+    {
+        let ids = HashSet::new(alloc.clone()?);
+        Ok(Account {
+            bios: Vec::new(alloc),
+            ids,
+        })
+    }
+
+    /// Its bios.
+    pub fn bios(&self) -> &[Bio]
+        ensures value { result.now ≡ self.now }
+        ensures once { AreOnce self.now }
+    {
+        self.bios.as_slice()
+    }
+
+    /// Whether a bio of this id is in it.
+    fn has(&self, id: BioId) -> bool
+        ensures value { IsTrue result ↔ HasId self.now id }
+        ensures once { AreOnce self.now }
+    {
+        let _ = &self.bios;
+        self.ids.contains(&id)
+    }
+
+    /// The id of the first of the bios that is in the account or earlier among the bios.
+    pub fn first_repeated(&self, bios: &[Bio]) -> Option<BioId>
+        ensures some { IfSome result (IsFirstRepeated self.now bios.now) }
+        ensures none { IfNone result (AreOnce (self.now ++ bios.now)) }
+    {
+        let _ = self.bios().len();
+        for (place, bio) in bios.iter().enumerate() {
+            let id = bio.id();
+            if self.has(id) || stands_in(&bios[..place], id) {
+                return Some(id);
+            }
+        }
+        None
+    }
+
+    /// Adds bios, none of which has an id that is in it or that another of them has. Fails for want of memory alone, and the
+    /// account is then as it was.
+    pub fn add(&mut self, bios: &[Bio]) -> Result<(), AllocError>
+        requires { AreOnce (self.old ++ bios.now) }
+        ensures ok { OnOk result (self.new ≡ self.old ++ bios.now) }
+        ensures err { OnErr result (self.new ≡ self.old) }
+    {
+        self.ids.reserve(bios.len())?;
+        self.bios.extend_from_slice(bios)?;
+        enter(&mut self.ids, bios);
+        Ok(())
+    }
+}
+
+/// Whether one of the bios has the id.
+fn stands_in(bios: &[Bio], id: BioId) -> bool
+    ensures { IsTrue result ↔ HasId bios.now id }
+{
+    bios.iter().any(|bio| bio.id() == id)
+}
+
+/// Adds the ids of the bios, for which there is room.
+fn enter<A: Allocator + Clone>(ids: &mut HashSet<BioId, Hashing, A>, bios: &[Bio])
+    requires { length bios.now ≤ hash_set.spare ids.old }
+    ensures { (id : Name) → hash_set.contains is_bio ids.new id ≡ hash_set.contains is_bio ids.old id || has_bio_id bios.now id }
+{
+    for bio in bios {
+        if ids.insert(bio.id()).is_err() {
+            unreachable!();
+        }
+    }
+}

@@ -1,0 +1,217 @@
+//! The layer.
+
+ghost use Rattle.std.specs.Prelude.{◌≡◌, ◌<◌, ◌+◌, [], All, IfOk, IfErr, OnOk, IfSome, IfNone, length, vec_len};
+ghost use Rattle.blk_layer.specs.Seats.{IsNewLayer};
+ghost use Rattle.blk_layer.specs.Faults.{CanMake, IsFirstOutside, IsLayerFault};
+ghost use Rattle.blk_layer.specs.Moves.{IsMoveAnswer};
+
+use crate::kept::Kept;
+use crate::moves::move_first;
+use crate::names::Named;
+use crate::seats::{Submitter, Worker, seat_submitters, seat_workers};
+use crate::staged::{Staged, empty_queues};
+use blk_core::{Core, CoreFault};
+use blk_hw::Map;
+use blk_sched::Scheduler;
+use blk_soft::{MAX_DEPTH, SoftQueue};
+use blk_tags::TagSet;
+use std::alloc::Allocator;
+use std::marker::Model;
+use std::sync::Mutex;
+use std::sync::ledger::Blank;
+use thiserror::Error;
+
+/// The most workers of a layer, and the parts of its ledger.
+pub const MAX_WORKERS: u64 = 64;
+
+/// Why a layer is not made, in the order in which the reasons are looked for.
+#[derive(Clone, Copy, Debug, PartialEq, Eq, Error)]
+pub enum LayerFault {
+    /// The map has another number of hardware queues than the core.
+    #[error("Queues")]
+    Queues,
+    /// The depth of the software queues is 0 or above [`MAX_DEPTH`] of `blk_soft`.
+    #[error("SoftDepth")]
+    SoftDepth,
+    /// There is no worker, or there are more than [`MAX_WORKERS`].
+    #[error("Workers")]
+    Workers,
+    /// The first worker, counted from 0, whose hardware queue the core doesn't have.
+    #[error("WorkerQueue")]
+    WorkerQueue(usize),
+    /// Memory ran out.
+    #[error("Memory")]
+    Memory,
+}
+
+/// A block layer, which threads share by `&`.
+#[derive(Drop)]
+pub struct Layer<S: Scheduler, L: Named> {
+    pub(crate) kept: Mutex<Kept<S, L>>,
+    pub(crate) queues: Vec<Mutex<Staged<L, S::A>>, S::A>,
+    pub(crate) map: Map<S::A>,
+    pub(crate) tags: TagSet<S::A>,
+    workers: usize,
+}
+
+impl<S: Scheduler, L: Named> Model for Layer<S, L> {
+    ghost use Rattle.std.specs.Prelude.{◌≡◌, length, vec_len};
+    ghost use Rattle.blk_hw.specs.Maps.{IsHwCount};
+    ghost use Rattle.blk_layer.specs.Seats.{LayerShape};
+
+    ghost Value = { LayerShape };
+
+    ghost view = { λ l. record { map = l.map; workers = l.workers; tag_set = l.tags } };
+
+    ghost invariant = { λ l. (vec_len l.queues ≡ length l.map) × IsHwCount l.map L.setup.hw × (l.tags.depth ≡ L.setup.depth) × (l.workers ≡ L.workers) };
+}
+
+impl<S: Scheduler, L: Named> Layer<S, L> {
+    /// A layer over a core without events, with the seats of its submitters, one for each software queue of the map, and of
+    /// its workers, one for each entry of `worker_queues`, the hardware queue that it works for. Each software queue has
+    /// room for `soft_depth` requests. The core's setup is the one that the name says, and the blank has a part for each
+    /// worker that a layer may have; it is spent, also where the layer is refused.
+    ///
+    /// Refused, by the first of these that applies: as `Queues` where the map has another number of hardware queues than
+    /// the core; as `SoftDepth` where `soft_depth` is not 1 to 1,024; as `Workers` where there are none or more than
+    /// [`MAX_WORKERS`]; as `WorkerQueue` with the first worker whose hardware queue is not there; and as `Memory`. The core
+    /// comes back then.
+    pub fn new(
+        alloc: S::A,
+        blank: Blank,
+        core: Core<S>,
+        map: Map<S::A>,
+        soft_depth: u64,
+        worker_queues: Vec<u8, S::A>,
+    ) -> Result<
+        (
+            Layer<S, L>,
+            Vec<Submitter<L, S::A>, S::A>,
+            Vec<Worker<L, S::A>, S::A>,
+        ),
+        (LayerFault, Core<S>),
+    >
+        requires name { blank.name ≡ L.name }
+        requires parts { (blank.parts ≡ MAX_WORKERS) × (L.parts ≡ MAX_WORKERS) }
+        requires setup { core.setup ≡ L.setup }
+        requires workers { L.workers ≡ vec_len worker_queues }
+        requires empty { core.events ≡ [] }
+        ensures made { IfOk result (λ made. IsNewLayer core.setup.depth map worker_queues.items made.0 made.1.items made.2.items) }
+        ensures no_fault { OnOk result (CanMake core.setup.hw map soft_depth worker_queues.items) }
+        ensures fault { IfErr result (λ e. IsLayerFault core.setup.hw map soft_depth worker_queues.items e.0) }
+        ensures core { IfErr result (λ e. e.1 ≡ core) }
+    {
+        let hw = core.trace().setup().hw();
+        match layer_fault(hw, &map, soft_depth, worker_queues.as_slice()) {
+            Some(why) => Err((why, core)),
+            None => Layer::make(alloc, blank, core, map, soft_depth, worker_queues),
+        }
+    }
+
+    /// Makes a layer that can be made. Refused for want of memory alone.
+    fn make(
+        alloc: S::A,
+        blank: Blank,
+        core: Core<S>,
+        map: Map<S::A>,
+        soft_depth: u64,
+        worker_queues: Vec<u8, S::A>,
+    ) -> Result<
+        (
+            Layer<S, L>,
+            Vec<Submitter<L, S::A>, S::A>,
+            Vec<Worker<L, S::A>, S::A>,
+        ),
+        (LayerFault, Core<S>),
+    >
+        requires name { blank.name ≡ L.name }
+        requires parts { (blank.parts ≡ MAX_WORKERS) × (L.parts ≡ MAX_WORKERS) }
+        requires setup { core.setup ≡ L.setup }
+        requires workers { L.workers ≡ vec_len worker_queues }
+        requires empty { core.events ≡ [] }
+        requires can { CanMake L.setup.hw map soft_depth worker_queues.items }
+        ensures made { IfOk result (λ made. IsNewLayer core.setup.depth map worker_queues.items made.0 made.1.items made.2.items) }
+        ensures err { IfErr result (λ e. (e.0 ≡ LayerFault.Memory) × (e.1 ≡ core)) }
+    {
+        let setup = core.trace().setup();
+        let soft_count = map.soft_count();
+        let Ok(staged) = empty_queues(&alloc, soft_count, soft_depth, setup.limits()) else {
+            return Err((LayerFault::Memory, core));
+        };
+        let Ok(submitters) = seat_submitters(&alloc, soft_count as u8) else {
+            return Err((LayerFault::Memory, core));
+        };
+        let Ok(spare) = alloc.clone() else {
+            return Err((LayerFault::Memory, core));
+        };
+        let Ok((tags, mut first)) = TagSet::new(spare, setup.depth()) else {
+            return Err((LayerFault::Memory, core));
+        };
+        let (book, mut rest) = blank.open::<L>();
+        let queues = worker_queues.as_slice();
+        let Ok(workers) = seat_workers(&alloc, &tags, &mut first, &mut rest, queues) else {
+            return Err((LayerFault::Memory, core));
+        };
+        let layer = Layer {
+            kept: Mutex::new(Kept::opened(core, book, rest)),
+            queues: staged,
+            map,
+            tags,
+            workers: workers.len(),
+        };
+        Ok((layer, submitters, workers))
+    }
+
+    /// Moves the first request of a software queue into the core, for a hardware queue: it is released there and leaves
+    /// the queue. False exactly where the queue is empty. Where the core refuses it, it is first in the queue again, and
+    /// both are as they were. The queue's limits are the core's. It waits for nobody: a drain calls it with both locks
+    /// held.
+    pub fn move_first(
+        queue: &mut SoftQueue<S::A>,
+        core: &mut Core<S>,
+        hw: u8,
+    ) -> Result<bool, CoreFault>
+        requires { queue.old.limits ≡ core.old.setup.limits }
+        ensures { IsMoveAnswer S.serves queue.old core.old hw queue.new core.new result }
+    {
+        move_first(queue, core, hw)
+    }
+}
+
+/// The first reason not to make a layer, memory aside.
+fn layer_fault<A: Allocator>(
+    hw: u8,
+    map: &Map<A>,
+    soft_depth: u64,
+    worker_queues: &[u8],
+) -> Option<LayerFault>
+    ensures some { IfSome result (IsLayerFault hw map.now soft_depth worker_queues.now) }
+    ensures none { IfNone result (CanMake hw map.now soft_depth worker_queues.now) }
+{
+    if map.hw_count() != hw {
+        return Some(LayerFault::Queues);
+    }
+    if soft_depth == 0 || soft_depth > MAX_DEPTH {
+        return Some(LayerFault::SoftDepth);
+    }
+    if worker_queues.is_empty() || worker_queues.len() as u64 > MAX_WORKERS {
+        return Some(LayerFault::Workers);
+    }
+    match first_outside(hw, worker_queues) {
+        Some(worker) => Some(LayerFault::WorkerQueue(worker)),
+        None => None,
+    }
+}
+
+/// The place of the first hardware queue that is not below their number.
+fn first_outside(hw: u8, queues: &[u8]) -> Option<usize>
+    ensures some { IfSome result (IsFirstOutside hw queues.now) }
+    ensures none { IfNone result (All (λ queue. queue < hw) queues.now) }
+{
+    for (place, queue) in queues.iter().enumerate() {
+        if *queue >= hw {
+            return Some(place);
+        }
+    }
+    None
+}

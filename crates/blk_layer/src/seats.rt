@@ -1,0 +1,212 @@
+//! The seats of a layer: what a submitter and a worker have for themselves.
+
+ghost use Rattle.std.specs.Prelude.{◌≡◌, ◌++◌, OnErr, IfSome, IfNone, ◌<◌, ◌≤◌, ◌+◌, ◌∷◌, [], ℕ, IfOk, OnOk, All, length, map, replicate, vec_len, slice_get, Some, None};
+ghost use Rattle.blk_trace.specs.Events.{AreOnce};
+ghost use Rattle.blk_layer.specs.Flushes.{CanAccept, IsFlushReason};
+ghost use Rattle.blk_layer.specs.Seats.{AreOwn, HoldsItsTags, new_submitter, new_worker};
+
+use crate::accounts::Account;
+use crate::flushes::{FlushWhy, first_foreign};
+use crate::names::Named;
+use blk_bio::Bio;
+use blk_tags::{TagSeat, TagSet};
+use edd_check::Command;
+use std::alloc::{AllocError, Allocator, Global};
+use std::marker::{Model, PhantomData};
+use std::sync::ledger::Share;
+
+/// A submitter's seat: the software queue that is its own, and the account of its bios that were accepted.
+#[derive(Drop)]
+pub struct Submitter<L: Named, A: Allocator = Global> {
+    number: u8,
+    account: Account<A>,
+    of: PhantomData<L>,
+}
+
+impl<L: Named, A: Allocator> Model for Submitter<L, A> {
+    ghost use Rattle.std.specs.Prelude.{◌≡◌, All};
+    ghost use Rattle.blk_layer.specs.Seats.{SubmitterSeat, AreOwn};
+
+    ghost Value = { SubmitterSeat };
+
+    ghost view = { λ s. record { number = s.number; accepted = s.account } };
+
+    ghost invariant = { λ s. AreOwn s.number s.account };
+}
+
+impl<L: Named, A: Allocator + Clone> Submitter<L, A> {
+    /// The submitter of a software queue, of which nothing was accepted. Fails for want of memory alone.
+    fn new(alloc: A, number: u8) -> Result<Submitter<L, A>, AllocError>
+        ensures { IfOk result (λ s. s ≡ new_submitter number) }
+    {
+        Ok(Submitter {
+            number,
+            account: Account::new(alloc)?,
+            of: PhantomData,
+        })
+    }
+
+    /// The bios that a flush told it were accepted, in the order in which they were: all of this submitter, and no two of one
+    /// id.
+    pub fn accepted(&self) -> &[Bio]
+        ensures value { result.now ≡ self.now.accepted }
+        ensures own { AreOwn self.now.number self.now.accepted }
+        ensures once { AreOnce self.now.accepted }
+    {
+        let _ = self.number;
+        self.account.bios()
+    }
+
+    /// The number of its software queue.
+    pub fn number(&self) -> u8
+        ensures { result ≡ self.now.number }
+    {
+        self.number
+    }
+
+    /// The first reason not to accept bios, memory and the software queue aside.
+    pub(crate) fn refusal(&self, bios: &[Bio]) -> Option<FlushWhy>
+        ensures some { IfSome result (IsFlushReason self.now bios.now) }
+        ensures none { IfNone result (CanAccept self.now bios.now) }
+    {
+        if let Some(id) = first_foreign(self.number, bios) {
+            return Some(FlushWhy::Foreign(id));
+        }
+        match self.account.first_repeated(bios) {
+            Some(id) => Some(FlushWhy::Repeated(id)),
+            None => None,
+        }
+    }
+
+    /// Accepts bios that may be accepted. Fails for want of memory alone, and nothing is changed then.
+    pub(crate) fn accept(&mut self, bios: &[Bio]) -> Result<(), AllocError>
+        requires { CanAccept self.old bios.now }
+        ensures ok { OnOk result (self.new ≡ record { number = self.old.number; accepted = self.old.accepted ++ bios.now }) }
+        ensures err { OnErr result (self.new ≡ self.old) }
+    {
+        self.account.add(bios)
+    }
+}
+
+/// So many submitters, of the software queues from 0 on.
+pub(crate) fn seat_submitters<L: Named, A: Allocator + Clone>(
+    alloc: &A,
+    count: u8,
+) -> Result<Vec<Submitter<L, A>, A>, AllocError>
+    ensures count { IfOk result (λ all. length all.items ≡ count) }
+    ensures each { IfOk result (λ all. (k : ℕ) → k < count → slice_get all.items k ≡ Some (new_submitter k)) }
+{
+    let mut all = Vec::with_capacity(alloc.clone()?, usize::from(count))?;
+    for number in 0..count {
+        all.push(Submitter::new(alloc.clone()?, number)?)?;
+    }
+    Ok(all)
+}
+
+/// A worker's seat: the hardware queue that it works for, the commands in its hands with their tags, the account of the
+/// commands that it ran, and its part of the ledger.
+#[derive(Drop)]
+pub struct Worker<L: Named, A: Allocator = Global> {
+    hw: u8,
+    seat: TagSeat<A>,
+    /// The commands in its hands, by tag.
+    hands: Vec<Option<Command>, A>,
+    /// Its account, which has room for the commands in its hands.
+    ran: Vec<Command, A>,
+    share: Share<L>,
+}
+
+impl<L: Named, A: Allocator> Model for Worker<L, A> {
+    ghost use Rattle.std.specs.Prelude.{◌≡◌, vec_capacity, length};
+    ghost use Rattle.blk_layer.specs.Seats.{WorkerSeat};
+    ghost use Rattle.blk_layer.specs.Inside.Kept.{IsWorking};
+
+    ghost Value = { WorkerSeat };
+
+    ghost view = { λ w. record { tag_set = w.seat.of_set; hw = w.hw; tags = w.seat.tags; hands = w.hands.items; ran = w.ran.items } };
+
+    ghost invariant = { λ w. IsWorking L.setup w.hw w.seat.of_set.depth w.seat.tags w.hands.items (length w.ran.items) (vec_capacity w.ran) w.share.parts w.share.amount };
+}
+
+impl<L: Named, A: Allocator + Clone> Worker<L, A> {
+    /// A worker with nothing in its hands, which ran nothing. Fails for want of memory alone.
+    fn new(
+        alloc: A,
+        seat: TagSeat<A>,
+        share: Share<L>,
+        hw: u8,
+        depth: u64,
+    ) -> Result<Worker<L, A>, AllocError>
+        requires depth { (seat.of_set.depth ≡ depth) × (depth ≡ L.setup.depth) }
+        requires seat { seat.tags ≡ [] }
+        requires share { (share.parts ≡ 1) × (share.amount ≡ 0) }
+        requires queue { hw < L.setup.hw }
+        ensures { IfOk result (λ w. w ≡ new_worker seat.of_set hw) }
+    {
+        let hands = empty_hands(alloc.clone()?, depth)?;
+        Ok(Worker {
+            hw,
+            seat,
+            hands,
+            ran: Vec::new(alloc),
+            share,
+        })
+    }
+
+    /// The commands that were accepted from it as done, in the order in which they were. The tags that it holds are just
+    /// those of the commands in its hands.
+    pub fn ran(&self) -> &[Command]
+        ensures value { result.now ≡ self.now.ran }
+        ensures holds { HoldsItsTags self.now }
+    {
+        let _ = self.hw;
+        self.ran.as_slice()
+    }
+
+    /// The hardware queue that it works for.
+    pub fn hw(&self) -> u8
+        ensures value { result ≡ self.now.hw }
+        ensures there { result < L.setup.hw }
+    {
+        self.hw
+    }
+}
+
+/// So many hands, none of which has a command.
+fn empty_hands<A: Allocator>(alloc: A, count: u64) -> Result<Vec<Option<Command>, A>, AllocError>
+    ensures { IfOk result (λ hands. hands.items ≡ replicate count None) }
+{
+    let mut hands = Vec::with_capacity(alloc, count as usize)?;
+    for _ in 0..count {
+        hands.push(None)?;
+    }
+    Ok(hands)
+}
+
+/// A worker for each of these hardware queues, with a part of the ledger each.
+pub(crate) fn seat_workers<L: Named, A: Allocator + Clone>(
+    alloc: &A,
+    tags: &TagSet<A>,
+    first: &mut TagSeat<A>,
+    rest: &mut Share<L>,
+    queues: &[u8],
+) -> Result<Vec<Worker<L, A>, A>, AllocError>
+    requires seat { first.old.of_set ≡ tags.now }
+    requires depth { tags.now.depth ≡ L.setup.depth }
+    requires queues { All (λ hw. hw < L.setup.hw) queues.now }
+    requires parts { length queues.now ≤ rest.old.parts }
+    requires amount { rest.old.amount ≡ 0 }
+    ensures parts { OnOk result (rest.new.parts + length queues.now ≡ rest.old.parts) }
+    ensures amount { rest.new.amount ≡ 0 }
+    ensures count { IfOk result (λ all. vec_len all ≡ length queues.now) }
+    ensures each { IfOk result (λ all. all.items ≡ map (new_worker tags.now) queues.now) }
+{
+    let mut all = Vec::with_capacity(alloc.clone()?, queues.len())?;
+    for hw in queues {
+        let seat = tags.split(first)?;
+        let share = rest.split_off(1, 0);
+        let worker = Worker::new(alloc.clone()?, seat, share, *hw, tags.depth())?;
+        all.push(worker)?;
+    }
+    Ok(all)
+}

@@ -1,0 +1,93 @@
+//! What lies under the lock of a software queue.
+
+ghost use Rattle.std.specs.Prelude.{◌≡◌, ◌≢◌, ◌≤◌, ◌<◌, [], IfOk, IfErr, OnOk, length, vec_len};
+ghost use Rattle.blk_plug.specs.Plugs.{bios_of};
+ghost use Rattle.blk_layer.specs.Flushes.{Flushes, IsLeft};
+ghost use Rattle.blk_layer.specs.Moves.{IsMoveAnswer};
+ghost use Rattle.blk_soft.specs.Queues.{greatest_depth};
+
+use crate::flushes::{FlushFault, Flushed, flush};
+use crate::kept::Kept;
+use crate::names::Named;
+use crate::seats::Submitter;
+use blk_bio::Limits;
+use blk_core::CoreFault;
+use blk_plug::Plug;
+use blk_sched::Scheduler;
+use blk_soft::SoftQueue;
+use std::alloc::{AllocError, Allocator};
+use std::marker::PhantomData;
+use std::sync::Mutex;
+
+/// A software queue of a layer.
+#[derive(Drop)]
+pub(crate) struct Staged<L: Named, A: Allocator> {
+    /// The queue.
+    pub(crate) queue: SoftQueue<A>,
+    of: PhantomData<L>,
+    ghost limits: { queue.limits ≡ L.setup.limits },
+}
+
+impl<L: Named, A: Allocator> Staged<L, A> {
+    /// A queue whose limits are the layer's.
+    fn of(queue: SoftQueue<A>) -> Staged<L, A>
+        requires { queue.limits ≡ L.setup.limits }
+        ensures { result.queue ≡ queue }
+    {
+        Staged {
+            queue,
+            of: PhantomData,
+        }
+    }
+}
+
+impl<L: Named, A: Allocator + Clone> Staged<L, A> {
+    /// Moves the requests of a plug into the queue, as `Layer::flush` says.
+    pub(crate) fn flush(
+        &mut self,
+        submitter: &mut Submitter<L, A>,
+        plug: &mut Plug<A>,
+    ) -> Result<Flushed, FlushFault>
+        requires { plug.old.limits ≡ L.setup.limits }
+        ensures moved { Flushes submitter.old plug.old submitter.new plug.new }
+        ensures all { OnOk result (plug.new.requests ≡ []) }
+        ensures requests { IfOk result (λ f. f.requests ≡ length plug.old.requests) }
+        ensures bios { IfOk result (λ f. f.bios ≡ length (bios_of plug.old)) }
+        ensures left { IfErr result (λ e. e.left ≡ length plug.new.requests) }
+        ensures fault { IfErr result (λ e. IsLeft submitter.new plug.new e.why) }
+    {
+        flush(&mut self.queue, submitter, plug)
+    }
+
+    /// Moves the first request of the queue into the core, as `Layer::move_first` says.
+    pub(crate) fn move_first<S: Scheduler<A = A>>(
+        &mut self,
+        kept: &mut Kept<S, L>,
+        hw: u8,
+    ) -> Result<bool, CoreFault>
+        requires { hw < L.setup.hw }
+        ensures moved { IsMoveAnswer S.serves self.old.queue kept.old.core hw self.new.queue kept.new.core result }
+        ensures there { IfErr result (λ why. why ≢ CoreFault.NoQueue) }
+    {
+        kept.move_first(&mut self.queue, hw)
+    }
+}
+
+/// So many empty software queues, each of the depth and under a lock of its own.
+pub(crate) fn empty_queues<L: Named, A: Allocator + Clone>(
+    alloc: &A,
+    count: usize,
+    depth: u64,
+    limits: Limits,
+) -> Result<Vec<Mutex<Staged<L, A>>, A>, AllocError>
+    requires depth { (1 ≤ depth) × (depth ≤ greatest_depth) }
+    requires limits { limits ≡ L.setup.limits }
+    ensures { IfOk result (λ queues. vec_len queues ≡ count) }
+{
+    let mut queues = Vec::with_capacity(alloc.clone()?, count)?;
+    for _i in 0..count {
+        let queue = SoftQueue::new(alloc.clone()?, depth, limits)?;
+        queues.push(Mutex::new(Staged::of(queue)))?;
+    }
+    Ok(queues)
+}

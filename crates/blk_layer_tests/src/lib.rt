@@ -1,0 +1,9 @@
+//! Tests of the layer.
+#![tactic(auto)]
+
+#[cfg(test)]
+mod given;
+#[cfg(test)]
+mod made;
+#[cfg(test)]
+mod moved;
