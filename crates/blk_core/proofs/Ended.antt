@@ -12,7 +12,7 @@ use Rattle.blk_trace.specs.Setups.{Setup}
 use Rattle.blk_trace.specs.Happened.{Happened, Released, Finished, Returned}
 use Rattle.blk_trace.specs.Kinds.{ends}
 use Rattle.blk_trace.specs.Rules.{IsUnbroken}
-use Rattle.blk_trace.specs.Inside.Seats.{Seat, seat_at}
+use Rattle.blk_trace.specs.Inside.Seats.{RoundSeat, seat_at}
 use Rattle.blk_trace.specs.Inside.Allowed.{IsAllowed, places_of}
 use Rattle.blk_trace.specs.Waits.{unissued_at, waiting_count, released_count}
 use Rattle.blk_trace.specs.Setups.{same_dir}
@@ -61,7 +61,7 @@ tied_end : {A : Type 0} (setup setup' : Setup) (es es' : List Happened) (e : Hap
 tied_end {A} setup setup' es es' e m m' fl held held' rel tag hw w p end more other t lt at o s =
     let fs : List Happened = es ++ e ∷ [] in
     let g : TagState A = Spent (dir_of w.bios) in
-    let seat : Seat = record { dir = dir_of w.bios; in_flight = true } in
+    let seat : RoundSeat = record { dir = dir_of w.bios; in_flight = true } in
     let here : seat_at es tag ≡ Some seat = seated setup es m fl held rel tag hw w t lt at in
     let r0 : flying Read (get_or fl tag Free) ≡ cond (same_dir Read (dir_of w.bios)) 1 0 = ap (flying Read) at in
     let s0 : flying Write (get_or fl tag Free) ≡ cond (same_dir Write (dir_of w.bios)) 1 0 = ap (flying Write) at in

@@ -10,7 +10,7 @@ use Rattle.std.specs.List.{slice_get}
 use Rattle.blk_bio.specs.declared.bio.Dir.{Dir}
 use Rattle.blk_bio.specs.declared.bio.Dir.TheVariants.{Read, Write}
 use Rattle.blk_bio.specs.Requests.{dir_of}
-use Rattle.blk_trace.specs.Inside.Seats.{Seat}
+use Rattle.blk_trace.specs.Inside.Seats.{RoundSeat}
 use Rattle.blk_trace.specs.Setups.{same_dir}
 use Rattle.blk_sched.specs.Meaning.{Waiting, OpenPicks, opened, handed_of, handed_back}
 use Rattle.blk_core.specs.declared.TagState.{TagState}
@@ -71,7 +71,7 @@ handed_more Write Read p = omega arith
 handed_more Write Write p = refl
 
 -- the seats of the tags, after one is set
-pub seats_set : {A : Type 0} (W V : ℕ → Option Seat) (tags : List (TagState A)) (tag : ℕ) (s : TagState A) → tag < length tags → ((t : ℕ) → t < length tags → seat_of (get_or tags t Free) ≡ W t) → ((t : ℕ) → V t ≡ cond (tag == t) (seat_of s) (W t)) → (t : ℕ) → t < length tags → seat_of (get_or (set tags tag s) t Free) ≡ V t
+pub seats_set : {A : Type 0} (W V : ℕ → Option RoundSeat) (tags : List (TagState A)) (tag : ℕ) (s : TagState A) → tag < length tags → ((t : ℕ) → t < length tags → seat_of (get_or tags t Free) ≡ W t) → ((t : ℕ) → V t ≡ cond (tag == t) (seat_of s) (W t)) → (t : ℕ) → t < length tags → seat_of (get_or (set tags tag s) t Free) ≡ V t
 seats_set W V tags tag s lt h step t u = elim (eqb_tells tag t) [
   | inl y ↦ subst (λ k. seat_of (get_or (set tags tag s) k Free) ≡ seat_of s) y.1 (ap seat_of (get_or-set_same tags tag s Free lt))
       ∙ ap (λ b. cond b (seat_of s) (W t)) (sym y.0) ∙ sym (step t)

@@ -1,34 +1,17 @@
 -- A command in flight is known to the trace, after one more event.
-use Rattle.std.proofs.Common.{◌≡◌, ◌∙◌, sym, refl, inl, inr, ℕ, arith, List, [], ◌∷◌, ◌++◌, length, Some}
-use Rattle.std.proofs.lemmas.Option.{slice_get_within}
+use Rattle.std.proofs.Common.{◌≡◌, ◌∙◌, sym, refl, ℕ, List, [], ◌∷◌, ◌++◌, Some}
 use Rattle.blk_trace.specs.Happened.{Happened, Issued}
 use Rattle.blk_trace.specs.Kinds.{ends}
 use Rattle.blk_trace.specs.Setups.{Setup}
 use Rattle.blk_trace.specs.Legal.{IsLegalTrace}
 use Rattle.blk_trace.specs.Waits.{waits_at}
-use Rattle.blk_trace.specs.Events.{IsOpenBy}
-use Rattle.blk_trace.proofs.Places.{keep, last}
-use Rattle.blk_trace.proofs.Words.{split_end}
 use Rattle.blk_trace.proofs.Pushing.{shorter_legal, obeys}
 use Rattle.blk_trace.proofs.Entering.{IsSame, same_entered, stays_out}
 use Rattle.blk_trace.proofs.Waiting.{IsWaiting, waiting_from}
 use Rattle.blk_trace.proofs.Returns.{entry_of, open_issued}
+use Rattle.blk_trace.proofs.TagUses.{still_by, now_by}
 use Rattle.blk_sched.specs.Meaning.{Waiting}
 use Rattle.blk_core.specs.State.{entered_of, IsFlown}
-
-still_by : (es : List Happened) (e : Happened) (t id : ℕ) → (ends e ≡ Some t → ⊥) → IsOpenBy es t id → IsOpenBy (es ++ e ∷ []) t id
-still_by es e t id other o = record {
-  place = o.place;
-  issued = keep es (e ∷ []) o.place _ o.issued;
-  not_done = λ j h d. elim (split_end es e j t d) [ inl p ↦ o.not_done j h p | inr p ↦ other p.1 ];
-}
-
-now_by : (es : List Happened) (id t : ℕ) → IsOpenBy (es ++ Issued id t ∷ []) t id
-now_by es id t = record {
-  place = length es;
-  issued = last es (Issued id t);
-  not_done = λ j h d. elim (split_end es (Issued id t) j t d) [ inl p ↦ omega (arith, slice_get_within es j _ p.1) | inr p ↦ absurd (let q = p.1 in cc) ];
-}
 
 -- an event that does not end its Issue
 pub flown_kept : (setup : Setup) (es : List Happened) (e : Happened) (tag : ℕ) (w : Waiting) → IsLegalTrace setup (es ++ e ∷ []) → (ends e ≡ Some tag → ⊥) → IsFlown setup es tag w → IsFlown setup (es ++ e ∷ []) tag w

@@ -1,5 +1,4 @@
 mod Pushed
-mod Repeats
 mod Waits
 mod Flights
 mod Held

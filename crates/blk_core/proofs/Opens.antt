@@ -18,7 +18,7 @@ use Rattle.blk_trace.specs.Legal.{IsLegalTrace}
 use Rattle.blk_trace.specs.Meaning.{release_of, due_of}
 use Rattle.blk_trace.specs.Rules.{IsUnbroken}
 use Rattle.blk_trace.specs.Waits.{Entered, waits_at}
-use Rattle.blk_trace.specs.Inside.Seats.{this_round, issued_by, open_of}
+use Rattle.blk_trace.specs.Inside.Seats.{this_round, issued_by, flying_of}
 use Rattle.blk_trace.specs.Kinds.{is_done_of}
 use Rattle.blk_trace.specs.Setups.{same_dir}
 use Rattle.blk_trace.proofs.Ids.{by_legal, all_back}
@@ -302,7 +302,7 @@ still_of : (setup : Setup) (es : List Happened) (e : Happened) (d : Dir) → IsL
 still_of setup es e d old all = agree (is_of (es ++ e ∷ []) d) (is_of es d) es
     (λ k i t at. ap (λ r. same_dir d (dir_of r)) (same_entered setup es e i (stays_out setup es e i old all (k, (t, at)))).request)
 
-of_issued : (setup : Setup) (d : Dir) (es : List Happened) (i t : ℕ) → IsLegalTrace setup (es ++ Issued i t ∷ []) → IsLegalTrace setup es → IsUnbroken setup es (Issued i t) → open_of es d ≡ open_issues_of es d → open_of (es ++ Issued i t ∷ []) d ≡ open_issues_of (es ++ Issued i t ∷ []) d
+of_issued : (setup : Setup) (d : Dir) (es : List Happened) (i t : ℕ) → IsLegalTrace setup (es ++ Issued i t ∷ []) → IsLegalTrace setup es → IsUnbroken setup es (Issued i t) → flying_of es d ≡ open_issues_of es d → flying_of (es ++ Issued i t ∷ []) d ≡ open_issues_of (es ++ Issued i t ∷ []) d
 of_issued setup d es i t new old all ih =
     let fs : List Happened = es ++ Issued i t ∷ [] in
     let w : Entered = record { release = release_of es i; due = due_of setup es i; bios = request_of es i } in
@@ -317,7 +317,7 @@ flies_on : (b : Bool) → true ≡ not b → b ≡ false
 flies_on true h = absurd (cc)
 flies_on false h = refl
 
-of_ended : (setup : Setup) (d : Dir) (es : List Happened) (e : Happened) (u : ℕ) → ends e ≡ Some u → IsLegalTrace setup (es ++ e ∷ []) → IsLegalTrace setup es → IsUnbroken setup es e → open_of es d ≡ open_issues_of es d → open_of (es ++ e ∷ []) d ≡ open_issues_of (es ++ e ∷ []) d
+of_ended : (setup : Setup) (d : Dir) (es : List Happened) (e : Happened) (u : ℕ) → ends e ≡ Some u → IsLegalTrace setup (es ++ e ∷ []) → IsLegalTrace setup es → IsUnbroken setup es e → flying_of es d ≡ open_issues_of es d → flying_of (es ++ e ∷ []) d ≡ open_issues_of (es ++ e ∷ []) d
 of_ended setup d es e u end new old all ih =
     let only : OnlyEnds e = only_ends e u end in
     let fs : List Happened = es ++ e ∷ [] in
@@ -334,7 +334,7 @@ of_ended setup d es e u end new old all ih =
     ap (λ r. one_if (same_dir d (dir_of r))) (same_entered setup es e was.id (rw (only.no_release, only.no_join) refl)).request ∙ ap (λ x. one_if (same_dir d x)) (sym was.dir_is) in
     omega arith
 
-of_step : (setup : Setup) (d : Dir) (es : List Happened) (e : Happened) → IsLegalTrace setup (es ++ e ∷ []) → IsLegalTrace setup es → IsUnbroken setup es e → open_of es d ≡ open_issues_of es d → open_of (es ++ e ∷ []) d ≡ open_issues_of (es ++ e ∷ []) d
+of_step : (setup : Setup) (d : Dir) (es : List Happened) (e : Happened) → IsLegalTrace setup (es ++ e ∷ []) → IsLegalTrace setup es → IsUnbroken setup es e → flying_of es d ≡ open_issues_of es d → flying_of (es ++ e ∷ []) d ≡ open_issues_of (es ++ e ∷ []) d
 of_step setup d es Ticked new old all ih =
     open-ticked setup es new d ∙ sym (open-before_tick setup es new d) ∙ ih ∙ sym (still_of setup es Ticked d old all) ∙ ap (count_by (is_of (es ++ Ticked ∷ []) d)) (sym (opens_ticked es))
 of_step setup d es (Released i q) new old all ih =
@@ -348,9 +348,9 @@ of_step setup d es (DepthSet n) new old all ih =
     open_kept setup es (DepthSet n) new refl refl refl d ∙ ih ∙ sym (still_of setup es (DepthSet n) d old all) ∙ ap (count_by (is_of (es ++ DepthSet n ∷ []) d)) (sym (opens_set es n))
 
 -- the commands in flight of a direction are the open Issues of its requests
-pub open_by_dir : (setup : Setup) (events : List Happened) (d : Dir) → IsLegalTrace setup events → open_of events d ≡ open_issues_of events d
-unfolding open_issues open_of this_round
-open_by_dir setup events d legal = by_legal setup (λ l. open_of l d ≡ open_issues_of l d) refl (λ l e new old all ih. of_step setup d l e new old all ih) events legal
+pub open_by_dir : (setup : Setup) (events : List Happened) (d : Dir) → IsLegalTrace setup events → flying_of events d ≡ open_issues_of events d
+unfolding open_issues flying_of this_round
+open_by_dir setup events d legal = by_legal setup (λ l. flying_of l d ≡ open_issues_of l d) refl (λ l e new old all ih. of_step setup d l e new old all ih) events legal
 
 one_dir : (d : Dir) → one_if (same_dir Read d) + one_if (same_dir Write d) ≡ 1
 one_dir Read = refl

@@ -22,7 +22,7 @@ use Rattle.blk_trace.specs.Legal.{IsLegalTrace}
 use Rattle.blk_trace.proofs.Depths.{depth_now_is}
 use Rattle.blk_trace.specs.Events.{At, round_of, entered, AreOnce, open_count, join_up, IsOpen, IsUsed}
 use Rattle.blk_trace.specs.Meaning.{released_ids, issued_ids, served, waiting_ids, rising}
-use Rattle.blk_trace.specs.Inside.Seats.{Seat, seat_at, open_of, this_round}
+use Rattle.blk_trace.specs.Inside.Seats.{RoundSeat, seat_at, flying_of, this_round}
 use Rattle.blk_trace.specs.Inside.Allowed.{IsAllowed}
 use Rattle.blk_trace.specs.Waits.{has_id, waits_at, was_issued, unissued_at, waiting_count, released_count}
 use Rattle.blk_trace.specs.Setups.{same_dir}
@@ -66,7 +66,7 @@ pub one_longer : (es : List Happened) (e : Happened) → length (es ++ e ∷ [])
 one_longer es e = length-append es (e ∷ [])
 
 -- as many Issues of a direction are open as before, where as many commands of it are in flight
-opens_same : (setup : Setup) (es fs : List Happened) (d : Dir) (n : ℕ) → IsLegalTrace setup es → IsLegalTrace setup fs → open_of fs d ≡ open_of es d → n ≡ open_issues_of es d → n ≡ open_issues_of fs d
+opens_same : (setup : Setup) (es fs : List Happened) (d : Dir) (n : ℕ) → IsLegalTrace setup es → IsLegalTrace setup fs → flying_of fs d ≡ flying_of es d → n ≡ open_issues_of es d → n ≡ open_issues_of fs d
 opens_same setup es fs d n old new same is = is ∙ sym (open_by_dir setup es d old) ∙ sym same ∙ open_by_dir setup fs d new
 
 -- a tie at the values that the code's are equal to
@@ -382,7 +382,7 @@ join_allowed setup es m m' fl held rel serves hw now bios id side t joins once =
 
 -- a Tick is allowed where nothing is in flight
 pub tick_allowed : {A : Type 0} (setup : Setup) (es : List Happened) (m : Meaning) (fl : List (TagState A)) (held : List (List Waiting)) (rel : ℕ) → IsTied setup es m fl held rel → open_count es ≡ 0 → IsAllowed setup es Ticked
-tick_allowed setup es m fl held rel t none = let both = step.open-both setup es t.legal in ((let r : open_of es Read ≡ 0 = omega arith in r), (let w : open_of es Write ≡ 0 = omega arith in w))
+tick_allowed setup es m fl held rel t none = let both = step.open-both setup es t.legal in ((let r : flying_of es Read ≡ 0 = omega arith in r), (let w : flying_of es Write ≡ 0 = omega arith in w))
 
 -- a tag below the depth of the round that is on is one of the core's
 pub tag_there : {A : Type 0} (setup : Setup) (es : List Happened) (m : Meaning) (fl : List (TagState A)) (held : List (List Waiting)) (rel tag : ℕ) → IsTied setup es m fl held rel → tag < depth_now setup es → tag < length fl
@@ -458,7 +458,7 @@ slot_used {A} setup es m fl held rel tag seen t lt e other =
 pub flying_open : {A : Type 0} (setup : Setup) (es : List Happened) (m : Meaning) (fl : List (TagState A)) (held : List (List Waiting)) (rel tag hw : ℕ) (w : Waiting) → IsTied setup es m fl held rel → get_or fl tag Free ≡ Flying hw w → IsOpen es tag
 flying_open setup es m fl held rel tag hw w t at = by_open es tag w.id (t.flown tag hw w at).by
 
-abbrev flies_now : Option Seat → Bool
+abbrev flies_now : Option RoundSeat → Bool
 flies_now None = false
 flies_now (Some seat) = seat.in_flight
 

@@ -2,9 +2,8 @@
 use Rattle.std.specs.Prelude.{ℕ, ◌+◌, ◌≡◌, ◌≤◌, ◌<◌, ◌⊎◌, ◌++◌, List, length}
 use Rattle.blk_bio.specs.Bios.{Bio}
 use Rattle.blk_trace.specs.declared.trace.TheConstants.{MAX_EVENTS}
-use Rattle.blk_trace.specs.Events.{entered, open_count, AreOnce, IsOpen, IsUsed}
+use Rattle.blk_trace.specs.Events.{entered, open_count, AreOnce, IsFirstRepeatedBio, IsOpen, IsUsed}
 use Rattle.blk_trace.specs.Depths.{depth_now}
-use Rattle.blk_core.specs.Ids.{IsFirstRepeated}
 use Rattle.blk_core.specs.State.{CoreState}
 use Rattle.blk_core.specs.declared.CoreFault.{CoreFault}
 use Rattle.blk_core.specs.declared.CoreFault.TheVariants.{NoQueue, Repeated, TraceFull, Memory}
@@ -30,7 +29,7 @@ pub record CanRelease (c : CoreState) (bios : List Bio) (hw : ℕ) : Type 0 wher
 -- what each fault of a release says; they come in this order
 abbrev pub IsReleaseFault : CoreState → List Bio → ℕ → CoreFault → Type 0
 IsReleaseFault c bios hw NoQueue = c.setup.hw ≤ hw
-IsReleaseFault c bios hw (Repeated id) = (hw < c.setup.hw) × IsFirstRepeated (entered c.events) bios id
+IsReleaseFault c bios hw (Repeated id) = (hw < c.setup.hw) × IsFirstRepeatedBio (entered c.events) bios id
 IsReleaseFault c bios hw TraceFull = (hw < c.setup.hw) × AreOnce (entered c.events ++ bios) × (MAX_EVENTS ≤ places_taken c)
 IsReleaseFault c bios hw Memory = CanRelease c bios hw
 

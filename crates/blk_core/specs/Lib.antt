@@ -1,6 +1,5 @@
 pub mod Opens
 pub mod State
-pub mod Ids
 pub mod Faults
 pub mod Calls
 pub mod Inside

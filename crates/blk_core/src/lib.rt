@@ -6,8 +6,7 @@
 //! issued once in a round.
 #![tactic(auto)]
 
-ghost use Rattle.std.specs.Prelude.{◌≡◌, ◌<◌, ◌+◌, ◌⊎◌, ◌++◌, ◌∷◌, [], ◌↔◌, IsTrue, None, OnOk, OnErr, IfOk, IfSome, IfNone, length, replicate, slice_set};
-ghost use Rattle.blk_trace.specs.Events.{entered, AreOnce};
+ghost use Rattle.std.specs.Prelude.{◌≡◌, ◌<◌, ◌+◌, ◌⊎◌, ◌++◌, ◌∷◌, [], None, OnOk, OnErr, IfOk, IfSome, IfNone, length, replicate, slice_set};
 ghost use Rattle.blk_trace.specs.declared.trace.Prepared.{Prepared};
 ghost use Rattle.blk_bio.specs.declared.bio.Dir.{Dir as Way};
 ghost use Rattle.blk_bio.specs.Requests.{dir_of};
@@ -16,11 +15,10 @@ ghost use Rattle.blk_hw.specs.Held.{held_in, held_count};
 ghost use Rattle.blk_core.specs.State.{is_of};
 ghost use Rattle.blk_core.specs.Calls.{SendsFrom};
 ghost use Rattle.blk_core.specs.Inside.Ties.{IfFlying};
-ghost use Rattle.blk_core.specs.Ids.{HasId, IsFirstRepeated};
 
 pub mod laws;
 
-use blk_bio::{Bio, BioId, Dir, MAX_QUEUES, Request, Side};
+use blk_bio::{BioId, Dir, MAX_QUEUES, Request, Side};
 use blk_hw::HeldLists;
 use blk_sched::{MAX_OPEN, Queued, Scheduler};
 use blk_trace::{Event, MAX_EVENTS, Setup, Trace};
@@ -314,7 +312,7 @@ impl<S: Scheduler> Core<S> {
         if hw >= self.trace.setup().hw() {
             return Some(CoreFault::NoQueue);
         }
-        if let Some(id) = first_repeated(&self.trace, request.bios()) {
+        if let Some(id) = self.trace.first_repeated(request.bios()) {
             return Some(CoreFault::Repeated(id));
         }
         if self.trace.len() + self.trace.unfinished() >= MAX_EVENTS {
@@ -629,26 +627,4 @@ fn clear<A: Allocator>(tags: &mut [TagState<A>])
     for tag in tags.iter_mut() {
         *tag = TagState::Free;
     }
-}
-
-/// The id of the first of the bios that stands in the trace or earlier among the bios.
-fn first_repeated<A: Allocator + Clone>(trace: &Trace<A>, bios: &[Bio]) -> Option<BioId>
-    requires { AreOnce (entered trace.now.events) }
-    ensures some { IfSome result (IsFirstRepeated (entered trace.now.events) bios.now) }
-    ensures none { IfNone result (AreOnce (entered trace.now.events ++ bios.now)) }
-{
-    for (place, bio) in bios.iter().enumerate() {
-        let id = bio.id();
-        if trace.has_bio(id) || stands_in(&bios[..place], id) {
-            return Some(id);
-        }
-    }
-    None
-}
-
-/// Whether one of the bios has the id.
-fn stands_in(bios: &[Bio], id: BioId) -> bool
-    ensures { IsTrue result ↔ HasId bios.now id }
-{
-    bios.iter().any(|bio| bio.id() == id)
 }

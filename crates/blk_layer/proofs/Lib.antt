@@ -3,3 +3,5 @@ mod Repeats
 mod Ids
 mod Held
 mod Each
+mod Plugged
+mod Moving

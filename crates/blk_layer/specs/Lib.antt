@@ -2,4 +2,5 @@ pub mod Served
 pub mod Seats
 pub mod Faults
 pub mod Moves
+pub mod Flushes
 pub mod Inside

@@ -1,12 +1,15 @@
 //! What lies under the core's lock.
 
-ghost use Rattle.std.specs.Prelude.{◌≡◌, ◌+◌, []};
+ghost use Rattle.std.specs.Prelude.{◌≡◌, ◌≢◌, ◌+◌, ◌<◌, [], IfErr};
+ghost use Rattle.blk_layer.specs.Moves.{IsMoveAnswer};
 ghost use Rattle.blk_trace.specs.Setups.{Setup};
 ghost use Rattle.blk_layer.specs.Served.{done_count};
 
+use crate::moves::move_first;
 use crate::names::Named;
-use blk_core::Core;
+use blk_core::{Core, CoreFault};
 use blk_sched::Scheduler;
+use blk_soft::SoftQueue;
 use std::sync::ledger::{Book, Share};
 
 /// The core, beside the ledger's book of the commands that are done, and the parts of the ledger that no worker has.
@@ -35,5 +38,20 @@ impl<S: Scheduler, L: Named> Kept<S, L> {
         ensures { result.core ≡ core }
     {
         Kept { core, book, rest }
+    }
+
+    /// Moves the first request of a software queue into the core, as `Layer::move_first` does.
+    pub(crate) fn move_first(
+        &mut self,
+        queue: &mut SoftQueue<S::A>,
+        hw: u8,
+    ) -> Result<bool, CoreFault>
+        requires limits { queue.old.limits ≡ L.setup.limits }
+        requires queue { hw < L.setup.hw }
+        ensures moved { IsMoveAnswer S.serves queue.old self.old.core hw queue.new self.new.core result }
+        ensures limits { queue.new.limits ≡ L.setup.limits }
+        ensures there { IfErr result (λ why. why ≢ CoreFault.NoQueue) }
+    {
+        move_first(queue, &mut self.core, hw)
     }
 }

@@ -6,6 +6,7 @@ ghost use Rattle.blk_layer.specs.Faults.{CanMake, IsFirstOutside, IsLayerFault};
 ghost use Rattle.blk_layer.specs.Moves.{IsMoveAnswer};
 
 use crate::kept::Kept;
+use crate::moves::move_first;
 use crate::names::Named;
 use crate::seats::{Submitter, Worker, seat_submitters, seat_workers};
 use crate::staged::{Staged, empty_queues};
@@ -46,10 +47,10 @@ pub enum LayerFault {
 /// A block layer, which threads share by `&`.
 #[derive(Drop)]
 pub struct Layer<S: Scheduler, L: Named> {
-    kept: Mutex<Kept<S, L>>,
-    queues: Vec<Mutex<Staged<L, S::A>>, S::A>,
-    map: Map<S::A>,
-    tags: TagSet<S::A>,
+    pub(crate) kept: Mutex<Kept<S, L>>,
+    pub(crate) queues: Vec<Mutex<Staged<L, S::A>>, S::A>,
+    pub(crate) map: Map<S::A>,
+    pub(crate) tags: TagSet<S::A>,
     workers: usize,
 }
 
@@ -173,19 +174,7 @@ impl<S: Scheduler, L: Named> Layer<S, L> {
         requires { queue.old.limits ≡ core.old.setup.limits }
         ensures { IsMoveAnswer S.serves queue.old core.old hw queue.new core.new result }
     {
-        if queue.len() == 0 {
-            return Ok(false);
-        }
-        let Some(request) = queue.take_first() else {
-            unreachable!()
-        };
-        match core.release(request, hw) {
-            Ok(_) => Ok(true),
-            Err((request, why)) => {
-                queue.put_first(request);
-                Err(why)
-            }
-        }
+        move_first(queue, core, hw)
     }
 }
 

@@ -7,12 +7,17 @@
 #![tactic(auto)]
 
 pub mod accounts;
+pub mod flushes;
 mod kept;
 pub mod layer;
+mod moves;
 pub mod names;
 pub mod seats;
 mod staged;
+pub mod works;
 
+pub use crate::flushes::{FlushFault, FlushWhy, Flushed};
 pub use crate::layer::{Layer, LayerFault, MAX_WORKERS};
 pub use crate::names::Named;
 pub use crate::seats::{Submitter, Worker};
+pub use crate::works::{DrainFault, MAX_MOVES};

@@ -1,10 +1,12 @@
 //! The seats of a layer: what a submitter and a worker have for themselves.
 
-ghost use Rattle.std.specs.Prelude.{◌≡◌, ◌<◌, ◌≤◌, ◌+◌, ◌∷◌, [], ℕ, IfOk, OnOk, All, length, map, replicate, vec_len, slice_get, Some, None};
+ghost use Rattle.std.specs.Prelude.{◌≡◌, ◌++◌, OnErr, IfSome, IfNone, ◌<◌, ◌≤◌, ◌+◌, ◌∷◌, [], ℕ, IfOk, OnOk, All, length, map, replicate, vec_len, slice_get, Some, None};
 ghost use Rattle.blk_trace.specs.Events.{AreOnce};
+ghost use Rattle.blk_layer.specs.Flushes.{CanAccept, IsFlushReason};
 ghost use Rattle.blk_layer.specs.Seats.{AreOwn, HoldsItsTags, new_submitter, new_worker};
 
 use crate::accounts::Account;
+use crate::flushes::{FlushWhy, first_foreign};
 use crate::names::Named;
 use blk_bio::Bio;
 use blk_tags::{TagSeat, TagSet};
@@ -53,6 +55,36 @@ impl<L: Named, A: Allocator + Clone> Submitter<L, A> {
     {
         let _ = self.number;
         self.account.bios()
+    }
+
+    /// The number of its software queue.
+    pub fn number(&self) -> u8
+        ensures { result ≡ self.now.number }
+    {
+        self.number
+    }
+
+    /// The first reason not to accept bios, memory and the software queue aside.
+    pub(crate) fn refusal(&self, bios: &[Bio]) -> Option<FlushWhy>
+        ensures some { IfSome result (IsFlushReason self.now bios.now) }
+        ensures none { IfNone result (CanAccept self.now bios.now) }
+    {
+        if let Some(id) = first_foreign(self.number, bios) {
+            return Some(FlushWhy::Foreign(id));
+        }
+        match self.account.first_repeated(bios) {
+            Some(id) => Some(FlushWhy::Repeated(id)),
+            None => None,
+        }
+    }
+
+    /// Accepts bios that may be accepted. Fails for want of memory alone, and nothing is changed then.
+    pub(crate) fn accept(&mut self, bios: &[Bio]) -> Result<(), AllocError>
+        requires { CanAccept self.old bios.now }
+        ensures ok { OnOk result (self.new ≡ record { number = self.old.number; accepted = self.old.accepted ++ bios.now }) }
+        ensures err { OnErr result (self.new ≡ self.old) }
+    {
+        self.account.add(bios)
     }
 }
 
@@ -129,6 +161,14 @@ impl<L: Named, A: Allocator + Clone> Worker<L, A> {
     {
         let _ = self.hw;
         self.ran.as_slice()
+    }
+
+    /// The hardware queue that it works for.
+    pub fn hw(&self) -> u8
+        ensures value { result ≡ self.now.hw }
+        ensures there { result < L.setup.hw }
+    {
+        self.hw
     }
 }
 

@@ -1,10 +1,19 @@
 //! What lies under the lock of a software queue.
 
-ghost use Rattle.std.specs.Prelude.{◌≡◌, ◌≤◌, IfOk, vec_len};
+ghost use Rattle.std.specs.Prelude.{◌≡◌, ◌≢◌, ◌≤◌, ◌<◌, [], IfOk, IfErr, OnOk, length, vec_len};
+ghost use Rattle.blk_plug.specs.Plugs.{bios_of};
+ghost use Rattle.blk_layer.specs.Flushes.{Flushes, IsLeft};
+ghost use Rattle.blk_layer.specs.Moves.{IsMoveAnswer};
 ghost use Rattle.blk_soft.specs.Queues.{greatest_depth};
 
+use crate::flushes::{FlushFault, Flushed, flush};
+use crate::kept::Kept;
 use crate::names::Named;
+use crate::seats::Submitter;
 use blk_bio::Limits;
+use blk_core::CoreFault;
+use blk_plug::Plug;
+use blk_sched::Scheduler;
 use blk_soft::SoftQueue;
 use std::alloc::{AllocError, Allocator};
 use std::marker::PhantomData;
@@ -29,6 +38,38 @@ impl<L: Named, A: Allocator> Staged<L, A> {
             queue,
             of: PhantomData,
         }
+    }
+}
+
+impl<L: Named, A: Allocator + Clone> Staged<L, A> {
+    /// Moves the requests of a plug into the queue, as `Layer::flush` says.
+    pub(crate) fn flush(
+        &mut self,
+        submitter: &mut Submitter<L, A>,
+        plug: &mut Plug<A>,
+    ) -> Result<Flushed, FlushFault>
+        requires { plug.old.limits ≡ L.setup.limits }
+        ensures moved { Flushes submitter.old plug.old submitter.new plug.new }
+        ensures all { OnOk result (plug.new.requests ≡ []) }
+        ensures requests { IfOk result (λ f. f.requests ≡ length plug.old.requests) }
+        ensures bios { IfOk result (λ f. f.bios ≡ length (bios_of plug.old)) }
+        ensures left { IfErr result (λ e. e.left ≡ length plug.new.requests) }
+        ensures fault { IfErr result (λ e. IsLeft submitter.new plug.new e.why) }
+    {
+        flush(&mut self.queue, submitter, plug)
+    }
+
+    /// Moves the first request of the queue into the core, as `Layer::move_first` says.
+    pub(crate) fn move_first<S: Scheduler<A = A>>(
+        &mut self,
+        kept: &mut Kept<S, L>,
+        hw: u8,
+    ) -> Result<bool, CoreFault>
+        requires { hw < L.setup.hw }
+        ensures moved { IsMoveAnswer S.serves self.old.queue kept.old.core hw self.new.queue kept.new.core result }
+        ensures there { IfErr result (λ why. why ≢ CoreFault.NoQueue) }
+    {
+        kept.move_first(&mut self.queue, hw)
     }
 }
 

@@ -2,6 +2,8 @@
 #![tactic(auto)]
 
 #[cfg(test)]
+mod flushed;
+#[cfg(test)]
 mod given;
 #[cfg(test)]
 mod made;

@@ -6,12 +6,12 @@ use Rattle.blk_report.specs.declared.spreading.Spreads.{Spreads}
 use Rattle.blk_report.specs.Lines.{late_text}
 
 -- one more field of a record
-abbrev pub field_of : List ℕ → List ℕ
-field_of text = 44 ∷ text
+abbrev pub next_field : List ℕ → List ℕ
+next_field text = 44 ∷ text
 
 -- the record of some quantiles: of what, of which direction, how many numbers there are, and the quantiles
 abbrev pub quantiles_row : List ℕ → List ℕ → Quantiles → List ℕ
-quantiles_row what dir q = (((((((what ++ field_of dir) ++ field_of (decimal q.count)) ++ field_of (late_text q.p50)) ++ field_of (late_text q.p90)) ++ field_of (late_text q.p99)) ++ field_of (late_text q.p999)) ++ field_of (late_text q.max)) ++ 10 ∷ []
+quantiles_row what dir q = (((((((what ++ next_field dir) ++ next_field (decimal q.count)) ++ next_field (late_text q.p50)) ++ next_field (late_text q.p90)) ++ next_field (late_text q.p99)) ++ next_field (late_text q.p999)) ++ next_field (late_text q.max)) ++ 10 ∷ []
 
 -- the records of the reads, the writes and both
 abbrev pub quantiles_rows : List ℕ → ByDir → List ℕ

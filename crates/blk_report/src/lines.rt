@@ -49,7 +49,11 @@ fn push_window(draft: &mut Draft, window: Option<Window>) -> Result<(), AllocErr
 }
 
 /// Adds the line of a number.
-pub(crate) fn push_number_line(draft: &mut Draft, word: &[u8], number: u64) -> Result<(), AllocError>
+pub(crate) fn push_number_line(
+    draft: &mut Draft,
+    word: &[u8],
+    number: u64,
+) -> Result<(), AllocError>
     ensures { OnOk result (draft.new ≡ draft.old ++ line_of word.now (decimal number)) }
 {
     draft.text(word)?;

@@ -7,7 +7,6 @@ ghost use Rattle.blk_trace.specs.Events.{request_of};
 ghost use Rattle.blk_trace.specs.Kinds.{enters};
 ghost use Rattle.blk_trace.specs.Legal.{IsLegalTrace};
 ghost use Rattle.blk_trace.specs.Meaning.{commands_of, rounds_of};
-ghost use Rattle.blk_trace.specs.Laws.{AreBounded, IsScheduled};
 ghost use Rattle.blk_trace.specs.Seen.{happened};
 ghost use Rattle.blk_report.specs.Services.{services_of, command_in, AreTimed, AreRising};
 ghost use Rattle.blk_report.specs.Inside.Ranges.{range_of, joined_range, joined_to, with_entry};

@@ -3,7 +3,7 @@
 ghost use Rattle.std.specs.Prelude.{◌≡◌, ◌++◌, IfOk, IfErr, OnOk, decimal};
 ghost use Rattle.std.specs.Io.KnownBytes.{Appends};
 ghost use Rattle.blk_report.specs.Lines.{late_text};
-ghost use Rattle.blk_report.specs.SpreadText.{field_of, quantiles_row, quantiles_rows, spread_text};
+ghost use Rattle.blk_report.specs.SpreadText.{next_field, quantiles_row, quantiles_rows, spread_text};
 
 use crate::lines::push_late;
 use crate::{ByDir, Quantiles, Spreads};
@@ -13,7 +13,7 @@ use std::io::Write;
 
 /// Adds a field of a quantile, or `none`.
 fn push_field(draft: &mut Draft, alloc: Global, value: Option<i64>) -> Result<(), AllocError>
-    ensures { OnOk result (draft.new ≡ draft.old ++ field_of (late_text value)) }
+    ensures { OnOk result (draft.new ≡ draft.old ++ next_field (late_text value)) }
 {
     draft.text(b",")?;
     push_late(draft, alloc, value)
@@ -21,7 +21,7 @@ fn push_field(draft: &mut Draft, alloc: Global, value: Option<i64>) -> Result<()
 
 /// Adds the first three fields of a record.
 fn push_head(draft: &mut Draft, what: &[u8], dir: &[u8], count: u64) -> Result<(), AllocError>
-    ensures { OnOk result (draft.new ≡ draft.old ++ ((what.now ++ field_of dir.now) ++ field_of (decimal count))) }
+    ensures { OnOk result (draft.new ≡ draft.old ++ ((what.now ++ next_field dir.now) ++ next_field (decimal count))) }
 {
     draft.text(what)?;
     draft.text(b",")?;

@@ -4,7 +4,7 @@ ghost use Rattle.std.specs.Prelude.{◌≡◌, ◌≤◌, IfOk, filter, length, 
 ghost use Rattle.edd_check.specs.Limits.{most_commands};
 ghost use Rattle.blk_trace.specs.Setups.{same_dir};
 ghost use Rattle.blk_report.specs.Services.{AreTimed};
-ghost use Rattle.blk_report.specs.Spread.{wait_of, late_by, at_rank, quantiles_of, IsQuantiles, AreQuantiles, AreSpreads};
+ghost use Rattle.blk_report.specs.Spread.{wait_of, late_by, at_rank, quantiles_of, IsQuantiles, AreSpreads};
 
 use crate::serving::Service;
 use blk_bio::Dir;

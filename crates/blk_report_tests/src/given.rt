@@ -72,6 +72,26 @@ pub fn release<'a>(
     push(rt, heap, trace, Event::Release { id, request });
 }
 
+/// A bio of a range, first sector and number of sectors, joins the request of an id.
+pub fn join<'a>(
+    rt: &impl Abort,
+    heap: Heap<'a>,
+    trace: &mut Trace<Heap<'a>>,
+    id: u64,
+    dir: Dir,
+    range: (u64, u64),
+) {
+    let name = BioId {
+        submitter: 1,
+        serial: id,
+    };
+    let bio = Bio::new(name, dir, range.0, range.1).expect(rt, "a bio");
+    let Ok(request) = Request::of(heap, bio) else {
+        panic!(rt; "want of memory");
+    };
+    push(rt, heap, trace, Event::Join { id, request });
+}
+
 /// Some requests go out in one round, under tags from 0 on, and come back done; then the round ends.
 pub fn serve<'a>(rt: &impl Abort, heap: Heap<'a>, trace: &mut Trace<Heap<'a>>, ids: &[u64]) {
     let mut tag = 0u16;

@@ -6,8 +6,14 @@ mod comparison;
 #[cfg(test)]
 mod given;
 #[cfg(test)]
+mod missing;
+#[cfg(test)]
 mod refusals;
 #[cfg(test)]
 mod reports;
+#[cfg(test)]
+mod serving;
+#[cfg(test)]
+mod spreads;
 #[cfg(test)]
 mod texts;

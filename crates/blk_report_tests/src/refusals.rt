@@ -1,10 +1,30 @@
-//! A report where allocations are refused.
+//! Reports where allocations are refused.
 
 use crate::given::{Heap, empty, release, serve, served};
 use blk_bio::Dir;
-use blk_report::report;
+use blk_report::{misses, report, services, spread};
+use blk_trace::Trace;
 use refusing::Refusing;
 use std::process::Abort;
+
+/// The commands of the two are listed, and their misses counted, or memory is refused once.
+fn asked<'a>(rt: &impl Abort, heap: Heap<'a>, trace: &Trace<Heap<'a>>) {
+    let armed = heap.is_armed();
+    let Ok(found) = services(trace) else {
+        assert!(rt; armed && !heap.is_armed());
+        return;
+    };
+    let Ok(spread) = spread(heap, found.as_slice()) else {
+        assert!(rt; armed && !heap.is_armed());
+        return;
+    };
+    assert_eq!(rt; spread.wait.all.max, Some(1));
+    let Ok(missed) = misses(trace) else {
+        assert!(rt; armed && !heap.is_armed());
+        return;
+    };
+    assert_eq!(rt; missed.avoidable, 1);
+}
 
 /// A trace of two commands is made and reported.
 fn all_of_it(rt: &impl Abort, heap: Heap<'_>) {
@@ -22,6 +42,7 @@ fn all_of_it(rt: &impl Abort, heap: Heap<'_>) {
             assert_eq!(rt; report(&trace).expect(rt, "memory"), whole);
         }
     }
+    asked(rt, heap, &trace);
 }
 
 #[test]

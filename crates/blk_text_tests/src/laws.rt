@@ -12,6 +12,16 @@ fn laws_hold() {
     laws::certificates_read_back();
     laws::spelled_certificates_have_no_fault();
     laws::a_certificate_has_one_fault();
+    laws::met_certificates_are_spelled_once();
+    laws::met_certificates_read_back();
+    laws::a_met_certificate_is_spelled_or_has_a_fault();
+    laws::spelled_met_certificates_have_no_fault();
+    laws::a_met_certificate_has_one_fault();
+    laws::proofs_are_told_by_their_titles();
+    laws::proofs_are_spelled_once();
+    laws::a_proof_is_spelled_or_has_a_fault();
+    laws::spelled_proofs_have_no_fault();
+    laws::a_proof_has_one_fault();
     laws::scripts_are_spelled_once();
     laws::scripts_read_back();
     laws::spelled_scripts_have_no_fault();

@@ -6,6 +6,8 @@ mod faults;
 #[cfg(test)]
 mod laws;
 #[cfg(test)]
+mod met;
+#[cfg(test)]
 mod streams;
 #[cfg(test)]
 mod texts;

@@ -37,8 +37,8 @@ impl<'a> Read for Failing<'a> {
 
 /// A writer that takes so many bytes, and then fails.
 #[derive(Drop)]
-struct Narrow {
-    room: usize,
+pub struct Narrow {
+    pub room: usize,
 }
 
 impl Write for Narrow {

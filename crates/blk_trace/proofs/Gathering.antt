@@ -24,7 +24,7 @@ use Rattle.blk_trace.specs.Legal.{IsLegalTrace}
 use Rattle.blk_trace.specs.Rules.{IsUnbroken}
 use Rattle.blk_trace.specs.Meaning.{issued_ids, released_ids, release_of, due_of}
 use Rattle.blk_trace.specs.Waits.{Entered, has_id, waits_at}
-use Rattle.blk_trace.specs.Inside.Gathered.{waiting_bios, bios_unless, enters_to_stay, with_event, Takes}
+use Rattle.blk_trace.specs.Inside.Gathered.{waiting_bios, bios_unless, enters_to_stay, with_event, TakesJoin}
 use Rattle.blk_trace.specs.Inside.Kept.{is_gone}
 use Rattle.blk_trace.specs.Seen.{happened}
 use Rattle.blk_trace.proofs.Pushing.{shorter_legal, obeys}
@@ -134,7 +134,7 @@ passes setup gone es (Released i q) h id = passed_released gone setup es i q (st
 passes setup gone es (Joined i q) h id = passed_joined gone setup es i q (stays_true (gone i) h) id
 passes setup gone es e h id = bios_same gone es (es ++ e ∷ []) id (has_released_same es e id refl) (same_entered setup es e id refl).request
 
-pub takes : (setup : Setup) (gone : ℕ → Bool) (limits : Limits) (es : List Happened) (e : Happened) (f : ℕ → Option (List Bio)) → limits ≡ setup.limits → IsLegalTrace setup (es ++ e ∷ []) → enters_to_stay gone e ≡ true → ((i : ℕ) → f i ≡ bios_unless gone es i) → Takes limits f e
+pub takes : (setup : Setup) (gone : ℕ → Bool) (limits : Limits) (es : List Happened) (e : Happened) (f : ℕ → Option (List Bio)) → limits ≡ setup.limits → IsLegalTrace setup (es ++ e ∷ []) → enters_to_stay gone e ≡ true → ((i : ℕ) → f i ≡ bios_unless gone es i) → TakesJoin limits f e
 takes setup gone limits es (Joined i q) f l legal stays s =
     let all = obeys setup es (Joined i q) legal in
     let here : IsReleased es i = all Unknown in

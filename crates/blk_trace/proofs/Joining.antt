@@ -7,12 +7,12 @@ use Rattle.blk_bio.specs.Bios.{Bio}
 use Rattle.blk_bio.specs.Limits.{Limits}
 use Rattle.blk_bio.specs.Requests.{IsRequest, IsWithin, dir_of, first_of, last_of, Fits}
 use Rattle.blk_bio.specs.declared.extent.Extent.{Extent}
-use Rattle.blk_bio.specs.Extents.{extent_of}
+use Rattle.blk_bio.specs.Extents.{extent_of, extent_joined}
 use Rattle.blk_bio.proofs.Tiles.{last-append, joins, range_of}
 use Rattle.blk_trace.specs.declared.known.Waiting.{Waiting}
 use Rattle.blk_trace.specs.Events.{join_up}
 use Rattle.blk_trace.specs.Waits.{Entered}
-use Rattle.blk_trace.specs.Inside.Kept.{summary, together}
+use Rattle.blk_trace.specs.Inside.Kept.{summary}
 
 same_extent : (d d' : Dir) (f f' e e' b b' : ℕ) → d ≡ d' → f ≡ f' → e ≡ e' → b ≡ b'
     → (let x : Extent = record { dir = d; first = f; end = e; bios = b } in x) ≡ (let y : Extent = record { dir = d'; first = f'; end = e'; bios = b' } in y)
@@ -53,7 +53,7 @@ join_request limits a n Back ra rn f = subst IsRequest (sym (joins_back a n ra.n
 join_request limits a n Front ra rn f = subst IsRequest (sym (stands_front limits a n ra rn f)) (joins n a rn ra (sym f.same_direction) (sym f.abuts))
 
 -- its extent
-pub together_is : (limits : Limits) (a n : List Bio) (side : Side) → IsRequest a → IsRequest n → Fits limits a n side → together side (extent_of a) (extent_of n) ≡ extent_of (join_up a n)
+pub together_is : (limits : Limits) (a n : List Bio) (side : Side) → IsRequest a → IsRequest n → Fits limits a n side → extent_joined (extent_of a) (extent_of n) side ≡ extent_of (join_up a n)
 together_is limits a n Back ra rn f =
     let fs = first_of_first a n ra.not_empty in
     same_extent _ _ _ _ _ _ _ _ (sym fs.1) (sym fs.0) (sym (last_of_second a n rn.not_empty)) (sym (length-append a n)) ∙ ap extent_of (sym (joins_back a n ra.not_empty f.abuts))
@@ -69,10 +69,10 @@ few_together limits a n Front ra rn f = few_of limits (n ++ a) (length a + lengt
 
 -- what is kept once another has joined
 pub joined_is : (limits : Limits) (old : Waiting) (w : Entered) (n : List Bio) (round : ℕ) (side : Side) (extent newcomer : Extent) → old ≡ summary w → IsRequest w.bios → IsRequest n → Fits limits w.bios n side
-    → newcomer ≡ extent_of n → extent ≡ together side old.extent newcomer
+    → newcomer ≡ extent_of n → extent ≡ extent_joined old.extent newcomer side
     → (let x : Waiting = record { extent = extent; release = round; due = old.due } in x) ≡ summary record { release = round; due = w.due; bios = join_up w.bios n }
 joined_is limits old w n round side extent newcomer is ra rn f hn he =
-    let e : extent ≡ extent_of (join_up w.bios n) = he ∙ ap (λ (x : Waiting). together side x.extent newcomer) is ∙ ap (together side (extent_of w.bios)) hn ∙ together_is limits w.bios n side ra rn f in
+    let e : extent ≡ extent_of (join_up w.bios n) = he ∙ ap (λ (x : Waiting). extent_joined x.extent newcomer side) is ∙ ap (λ (x : Extent). extent_joined (extent_of w.bios) x side) hn ∙ together_is limits w.bios n side ra rn f in
     ap (λ (x : Extent). let y : Waiting = record { extent = x; release = round; due = old.due } in y) e
     ∙ ap (λ (x : Waiting). let y : Waiting = record { extent = extent_of (join_up w.bios n); release = round; due = x.due } in y) is
 

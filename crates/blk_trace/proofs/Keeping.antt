@@ -26,7 +26,7 @@ use Rattle.blk_trace.specs.Rules.{IsUnbroken}
 use Rattle.blk_trace.specs.Meaning.{release_of, due_of, served, commands_of, rounds_of, issued_ids, released_ids}
 use Rattle.blk_trace.specs.Waits.{Entered, has_id, waits_at}
 use Rattle.blk_trace.specs.Traces.{IsPreparedFor}
-use Rattle.blk_trace.specs.Inside.Kept.{IsKept, HasRoom, summary, known_of, has_bio_id, event_room, request_room, bio_room, IsTagUse}
+use Rattle.blk_trace.specs.Inside.Kept.{IsKeptTrace, HasRoom, summary, known_of, has_bio_id, event_room, request_room, bio_room, IsTagUse}
 use Rattle.blk_trace.proofs.Pushing.{push_legal, empty_legal}
 use Rattle.blk_trace.proofs.More.{round_more}
 use Rattle.blk_trace.proofs.Room.{open_kept, open_issue, open_end}
@@ -107,11 +107,11 @@ waiting_request setup es id w some h =
     subst IsRequest (sym was.bios_is) (some id was.released)
 
 pub kept_tick : (setup : Setup) (es zs : List Happened) (cs : List Command) (rs : List ℕ) (round opened : ℕ) (known : ℕ → Option Known) (ids : BioId → Bool) (tags tags' : List TagUse)
-    → IsKept setup es cs rs round opened known ids tags → IsUnbroken setup es Ticked → zs ≡ es ++ Ticked ∷ [] → tags' ≡ replicate (length tags) Free
-    → IsKept setup zs cs rs (round + 1) opened known ids tags'
+    → IsKeptTrace setup es cs rs round opened known ids tags → IsUnbroken setup es Ticked → zs ≡ es ++ Ticked ∷ [] → tags' ≡ replicate (length tags) Free
+    → IsKeptTrace setup zs cs rs (round + 1) opened known ids tags'
 kept_tick setup es zs cs rs round opened known ids tags tags' k all hz ht =
     let new = push_legal setup es Ticked k.legal all tt in
-    let P : List Happened → List TagUse → Type 0 = λ l t. IsKept setup l cs rs (round + 1) opened known ids t in
+    let P : List Happened → List TagUse → Type 0 = λ l t. IsKeptTrace setup l cs rs (round + 1) opened known ids t in
     let here : P (es ++ Ticked ∷ []) (replicate (length tags) Free) = record {
       ranges = k.ranges;
       legal = new;
@@ -128,11 +128,11 @@ kept_tick setup es zs cs rs round opened known ids tags tags' k all hz ht =
     subst (λ t. P zs t) (sym ht) (subst (λ l. P l (replicate (length tags) Free)) (sym hz) here)
 
 pub kept_done : (setup : Setup) (es zs : List Happened) (tag : ℕ) (cs : List Command) (rs : List ℕ) (round opened : ℕ) (known : ℕ → Option Known) (ids : BioId → Bool) (tags : List TagUse)
-    → IsKept setup es cs rs round opened known ids tags → IsUnbroken setup es (Finished tag) → zs ≡ es ++ Finished tag ∷ []
-    → IsKept setup zs cs rs round (opened - 1) known ids (set tags tag Ended)
+    → IsKeptTrace setup es cs rs round opened known ids tags → IsUnbroken setup es (Finished tag) → zs ≡ es ++ Finished tag ∷ []
+    → IsKeptTrace setup zs cs rs round (opened - 1) known ids (set tags tag Ended)
 kept_done setup es zs tag cs rs round opened known ids tags k all hz =
     let new = push_legal setup es (Finished tag) k.legal all tt in
-    let P : List Happened → Type 0 = λ l. IsKept setup l cs rs round (opened - 1) known ids (set tags tag Ended) in
+    let P : List Happened → Type 0 = λ l. IsKeptTrace setup l cs rs round (opened - 1) known ids (set tags tag Ended) in
     let found = open_found setup es tags k.legal k.each_tag k.tags_are tag (all NotIssued) in
     let used : IsTagUse es tag (Open found.0) = k.tags_are tag (Open found.0) found.1 in
     let here : P (es ++ Finished tag ∷ []) = record {
@@ -152,13 +152,13 @@ kept_done setup es zs tag cs rs round opened known ids tags k all hz =
 
 -- what is kept of the open Issue of a tag
 pub kept_there : (setup : Setup) (es : List Happened) (tag id : ℕ) (cs : List Command) (rs : List ℕ) (round opened : ℕ) (known : ℕ → Option Known) (ids : BioId → Bool) (tags : List TagUse)
-    → IsKept setup es cs rs round opened known ids tags → IsOpenBy es tag id → (k : ℕ) × ((c : Command) × (slice_get cs k ≡ Some c) × (c.id ≡ id))
+    → IsKeptTrace setup es cs rs round opened known ids tags → IsOpenBy es tag id → (k : ℕ) × ((c : Command) × (slice_get cs k ≡ Some c) × (c.id ≡ id))
 kept_there setup es tag id cs rs round opened known ids tags k by =
     let p = there_is setup es tag id k.legal by in
     (p.0, (p.1.0, ap (λ l. slice_get l p.0) k.commands_are ∙ p.1.1, p.1.2))
 
 pub kept_within : (setup : Setup) (es : List Happened) (cs : List Command) (rs : List ℕ) (round opened : ℕ) (known : ℕ → Option Known) (ids : BioId → Bool) (tags : List TagUse) (place : ℕ) (c : Command)
-    → IsKept setup es cs rs round opened known ids tags → slice_get cs place ≡ Some c → (place < length cs) × (place < length rs)
+    → IsKeptTrace setup es cs rs round opened known ids tags → slice_get cs place ≡ Some c → (place < length cs) × (place < length rs)
 kept_within setup es cs rs round opened known ids tags place c k at =
     let low : place < length cs = slice_get_within cs place c at in
     let one : length (rounds_of es) ≡ length (commands_of setup es) = (legal-schedule setup es k.legal).one_each in
@@ -167,7 +167,7 @@ kept_within setup es cs rs round opened known ids tags place c k at =
 
 -- the command that is taken out, and what is known under its id
 pub kept_out : (setup : Setup) (es : List Happened) (tag id place : ℕ) (c d : Command) (cs : List Command) (rs : List ℕ) (round opened : ℕ) (known : ℕ → Option Known) (ids : BioId → Bool) (tags : List TagUse)
-    → IsKept setup es cs rs round opened known ids tags → IsOpenBy es tag id → slice_get cs place ≡ Some c → c.id ≡ id → d ≡ get_or cs place d
+    → IsKeptTrace setup es cs rs round opened known ids tags → IsOpenBy es tag id → slice_get cs place ≡ Some c → c.id ≡ id → d ≡ get_or cs place d
     → (d ≡ command_of setup es id) × (known d.id ≡ Some Gone)
 kept_out setup es tag id place c d cs rs round opened known ids tags k by at is taken =
     let out : IsDropped setup es (es ++ Returned tag ∷ []) id place cs rs = dropped setup es tag id place cs rs c k.legal by k.commands_are k.rounds_are at is in
@@ -177,13 +177,13 @@ kept_out setup es tag id place c d cs rs round opened known ids tags k by at is 
 
 -- after a Back the command is no longer kept, and its request waits again
 pub kept_back : (setup : Setup) (es zs : List Happened) (tag id : ℕ) (cs ds : List Command) (rs ss : List ℕ) (round opened : ℕ) (known known' : ℕ → Option Known) (ids : BioId → Bool) (tags : List TagUse)
-    → IsKept setup es cs rs round opened known ids tags → IsUnbroken setup es (Returned tag) → IsOpenBy es tag id → zs ≡ es ++ Returned tag ∷ []
+    → IsKeptTrace setup es cs rs round opened known ids tags → IsUnbroken setup es (Returned tag) → IsOpenBy es tag id → zs ≡ es ++ Returned tag ∷ []
     → ds ≡ commands_of setup (es ++ Returned tag ∷ []) → ss ≡ rounds_of (es ++ Returned tag ∷ [])
     → ((q : ℕ) → known' q ≡ cond (id == q) (Some (Handed (release_of es id) (due_of setup es id))) (known q))
-    → IsKept setup zs ds ss round (opened - 1) known' ids (set tags tag Ended)
+    → IsKeptTrace setup zs ds ss round (opened - 1) known' ids (set tags tag Ended)
 kept_back setup es zs tag id cs ds rs ss round opened known known' ids tags k all by hz hd hs hk =
     let new = push_legal setup es (Returned tag) k.legal all tt in
-    let P : List Happened → Type 0 = λ l. IsKept setup l ds ss round (opened - 1) known' ids (set tags tag Ended) in
+    let P : List Happened → Type 0 = λ l. IsKeptTrace setup l ds ss round (opened - 1) known' ids (set tags tag Ended) in
     let found = open_found setup es tags k.legal k.each_tag k.tags_are tag (all NotIssued) in
     let used : IsTagUse es tag (Open found.0) = k.tags_are tag (Open found.0) found.1 in
     let here : P (es ++ Returned tag ∷ []) = record {
@@ -202,13 +202,13 @@ kept_back setup es zs tag id cs ds rs ss round opened known known' ids tags k al
     subst P (sym hz) here
 
 pub kept_issue : (setup : Setup) (es zs : List Happened) (id tag : ℕ) (w : Entered) (cs ds : List Command) (rs ss : List ℕ) (round opened : ℕ) (known known' : ℕ → Option Known) (ids : BioId → Bool) (tags : List TagUse)
-    → IsKept setup es cs rs round opened known ids tags → IsUnbroken setup es (Issued id tag) → zs ≡ es ++ Issued id tag ∷ []
+    → IsKeptTrace setup es cs rs round opened known ids tags → IsUnbroken setup es (Issued id tag) → zs ≡ es ++ Issued id tag ∷ []
     → waits_at setup es id ≡ Some w → ds ≡ cs ++ record { id = id; release = w.release; due = w.due } ∷ [] → ss ≡ rs ++ round ∷ []
     → ((q : ℕ) → known' q ≡ cond (id == q) (Some Gone) (known q))
-    → IsKept setup zs ds ss round (opened + 1) known' ids (set tags tag (Open id))
+    → IsKeptTrace setup zs ds ss round (opened + 1) known' ids (set tags tag (Open id))
 kept_issue setup es zs id tag w cs ds rs ss round opened known known' ids tags k all hz waits hd hs hk =
     let new = push_legal setup es (Issued id tag) k.legal all tt in
-    let P : List Happened → Type 0 = λ l. IsKept setup l ds ss round (opened + 1) known' ids (set tags tag (Open id)) in
+    let P : List Happened → Type 0 = λ l. IsKeptTrace setup l ds ss round (opened + 1) known' ids (set tags tag (Open id)) in
     let here : P (es ++ Issued id tag ∷ []) = record {
       ranges = k.ranges;
       legal = new;
@@ -225,13 +225,13 @@ kept_issue setup es zs id tag w cs ds rs ss round opened known known' ids tags k
     subst P (sym hz) here
 
 pub kept_release : (setup : Setup) (es zs : List Happened) (id : ℕ) (bios : List Bio) (s : Waiting) (cs : List Command) (rs : List ℕ) (round opened : ℕ) (known known' : ℕ → Option Known) (ids ids' : BioId → Bool) (tags : List TagUse)
-    → IsKept setup es cs rs round opened known ids tags → IsUnbroken setup es (Released id bios) → zs ≡ es ++ Released id bios ∷ [] → IsRequest bios
+    → IsKeptTrace setup es cs rs round opened known ids tags → IsUnbroken setup es (Released id bios) → zs ≡ es ++ Released id bios ∷ [] → IsRequest bios
     → s ≡ summary record { release = round; due = round + expire_of setup (dir_of bios); bios = bios }
     → ((q : ℕ) → known' q ≡ cond (id == q) (Some (Waits s)) (known q)) → ((b : BioId) → ids' b ≡ (ids b || has_bio_id bios b))
-    → IsKept setup zs cs rs round opened known' ids' tags
+    → IsKeptTrace setup zs cs rs round opened known' ids' tags
 kept_release setup es zs id bios s cs rs round opened known known' ids ids' tags k all hz request hs hk hb =
     let new = push_legal setup es (Released id bios) k.legal all request in
-    let P : List Happened → Type 0 = λ l. IsKept setup l cs rs round opened known' ids' tags in
+    let P : List Happened → Type 0 = λ l. IsKeptTrace setup l cs rs round opened known' ids' tags in
     let now : s ≡ summary record { release = round_of es; due = round_of es + expire_of setup (dir_of bios); bios = bios } = hs ∙ ap (λ n. summary record { release = n; due = n + expire_of setup (dir_of bios); bios = bios }) k.round_is in
     let here : P (es ++ Released id bios ∷ []) = record {
       ranges = k.ranges;
@@ -249,13 +249,13 @@ kept_release setup es zs id bios s cs rs round opened known known' ids ids' tags
     subst P (sym hz) here
 
 pub kept_join : (setup : Setup) (es zs : List Happened) (id : ℕ) (bios : List Bio) (w : Entered) (s : Waiting) (cs : List Command) (rs : List ℕ) (round opened : ℕ) (known known' : ℕ → Option Known) (ids ids' : BioId → Bool) (tags : List TagUse)
-    → IsKept setup es cs rs round opened known ids tags → IsUnbroken setup es (Joined id bios) → zs ≡ es ++ Joined id bios ∷ [] → IsRequest bios
+    → IsKeptTrace setup es cs rs round opened known ids tags → IsUnbroken setup es (Joined id bios) → zs ≡ es ++ Joined id bios ∷ [] → IsRequest bios
     → waits_at setup es id ≡ Some w → s ≡ summary record { release = round; due = w.due; bios = join_up w.bios bios }
     → ((q : ℕ) → known' q ≡ cond (id == q) (Some (Waits s)) (known q)) → ((b : BioId) → ids' b ≡ (ids b || has_bio_id bios b))
-    → IsKept setup zs cs rs round opened known' ids' tags
+    → IsKeptTrace setup zs cs rs round opened known' ids' tags
 kept_join setup es zs id bios w s cs rs round opened known known' ids ids' tags k all hz request waits hs hk hb =
     let new = push_legal setup es (Joined id bios) k.legal all request in
-    let P : List Happened → Type 0 = λ l. IsKept setup l cs rs round opened known' ids' tags in
+    let P : List Happened → Type 0 = λ l. IsKeptTrace setup l cs rs round opened known' ids' tags in
     let now : s ≡ summary record { release = round_of es; due = w.due; bios = join_up w.bios bios } = hs ∙ ap (λ n. summary record { release = n; due = w.due; bios = join_up w.bios bios }) k.round_is in
     let here : P (es ++ Joined id bios ∷ []) = record {
       ranges = k.ranges;
@@ -273,11 +273,11 @@ kept_join setup es zs id bios w s cs rs round opened known known' ids ids' tags 
     subst P (sym hz) here
 
 pub kept_depth : (setup : Setup) (es zs : List Happened) (depth : ℕ) (cs : List Command) (rs : List ℕ) (round opened : ℕ) (known : ℕ → Option Known) (ids : BioId → Bool) (tags : List TagUse)
-    → IsKept setup es cs rs round opened known ids tags → IsUnbroken setup es (DepthSet depth) → zs ≡ es ++ DepthSet depth ∷ []
-    → IsKept setup zs cs rs round opened known ids tags
+    → IsKeptTrace setup es cs rs round opened known ids tags → IsUnbroken setup es (DepthSet depth) → zs ≡ es ++ DepthSet depth ∷ []
+    → IsKeptTrace setup zs cs rs round opened known ids tags
 kept_depth setup es zs depth cs rs round opened known ids tags k all hz =
     let new = push_legal setup es (DepthSet depth) k.legal all tt in
-    let P : List Happened → Type 0 = λ l. IsKept setup l cs rs round opened known ids tags in
+    let P : List Happened → Type 0 = λ l. IsKeptTrace setup l cs rs round opened known ids tags in
     let here : P (es ++ DepthSet depth ∷ []) = record {
       ranges = k.ranges;
       legal = new;
@@ -301,7 +301,7 @@ command_is c id release due h i j =
     ∙ ap (λ (n : ℕ). let y : Command = record { id = id; release = release; due = n } in y) j
 
 -- the trace without events
-pub kept_empty : (setup : Setup) (known : ℕ → Option Known) (ids : BioId → Bool) (n : ℕ) → ((q : ℕ) → known q ≡ None) → ((b : BioId) → ids b ≡ false) → n ≡ setup.depth → IsSetup setup → IsKept setup [] [] [] 0 0 known ids (replicate n Free)
+pub kept_empty : (setup : Setup) (known : ℕ → Option Known) (ids : BioId → Bool) (n : ℕ) → ((q : ℕ) → known q ≡ None) → ((b : BioId) → ids b ≡ false) → n ≡ setup.depth → IsSetup setup → IsKeptTrace setup [] [] [] 0 0 known ids (replicate n Free)
 unfolding entered open_count round_of commands_of rounds_of issued_ids released_ids served known_of waits_at
 kept_empty setup known ids n hk hb hn is = record {
   ranges = is;
@@ -319,9 +319,9 @@ kept_empty setup known ids n hk hb hn is = record {
 
 -- the same where the lists are the same, and the maps by keys
 pub kept_same : (setup : Setup) (es es' : List Happened) (cs cs' : List Command) (rs rs' : List ℕ) (round opened : ℕ) (known known' : ℕ → Option Known) (ids ids' : BioId → Bool) (tags : List TagUse)
-    → IsKept setup es cs rs round opened known ids tags → es' ≡ es → cs' ≡ cs → rs' ≡ rs → ((q : ℕ) → known' q ≡ known q) → ((b : BioId) → ids' b ≡ ids b) → IsKept setup es' cs' rs' round opened known' ids' tags
+    → IsKeptTrace setup es cs rs round opened known ids tags → es' ≡ es → cs' ≡ cs → rs' ≡ rs → ((q : ℕ) → known' q ≡ known q) → ((b : BioId) → ids' b ≡ ids b) → IsKeptTrace setup es' cs' rs' round opened known' ids' tags
 kept_same setup es es' cs cs' rs rs' round opened known known' ids ids' tags k he hc hr hk hb =
-    let P : List Happened → Type 0 = λ l. IsKept setup l cs' rs' round opened known' ids' tags in
+    let P : List Happened → Type 0 = λ l. IsKeptTrace setup l cs' rs' round opened known' ids' tags in
     subst P (sym he) record {
       ranges = k.ranges;
       legal = k.legal;
@@ -337,8 +337,8 @@ kept_same setup es es' cs cs' rs rs' round opened known known' ids ids' tags k h
     }
 
 pub kept_tags : (setup : Setup) (es : List Happened) (cs : List Command) (rs : List ℕ) (round opened : ℕ) (known : ℕ → Option Known) (ids : BioId → Bool) (tags tags' : List TagUse)
-    → IsKept setup es cs rs round opened known ids tags → tags' ≡ tags → IsKept setup es cs rs round opened known ids tags'
-kept_tags setup es cs rs round opened known ids tags tags' k h = let P : List TagUse → Type 0 = λ t. IsKept setup es cs rs round opened known ids t in subst P (sym h) k
+    → IsKeptTrace setup es cs rs round opened known ids tags → tags' ≡ tags → IsKeptTrace setup es cs rs round opened known ids tags'
+kept_tags setup es cs rs round opened known ids tags tags' k h = let P : List TagUse → Type 0 = λ t. IsKeptTrace setup es cs rs round opened known ids t in subst P (sym h) k
 
 -- the room that is left
 pub room_after_tick : (p : Prepared) (n n' o c r P P' C R K I : ℕ) → IsPreparedFor p Ticked → HasRoom p n o c r P C R K I → n' ≡ n + 1 → P ≤ P' → HasRoom Nothing n' o c r P' C R K I

@@ -1,6 +1,6 @@
 -- Bios whose ids stand once.
-use Rattle.std.proofs.Common.{◌≡◌, ◌<◌, ◌≤◌, ◌+◌, ◌++◌, ◌==◌, ◌↔◌, ℕ, zero, suc, List, [], ◌∷◌, length, take, refl, sym, ◌∙◌, ap, subst, arith, inl, inr, Some, Bool, true, false, IsTrue, eqb-true, eq-eqb}
-use Rattle.std.specs.Prelude.{slice_get, ◌⊎◌, ◌&&◌, ◌||◌, not}
+use Rattle.std.proofs.Common.{◌≡◌, ◌<◌, ◌≤◌, ◌+◌, ◌++◌, ◌==◌, ◌↔◌, ℕ, zero, suc, List, [], ◌∷◌, length, take, refl, sym, ◌∙◌, ap, subst, arith, inl, inr, Some, None, Bool, true, false, IsTrue, eqb-true, eq-eqb, append_assoc, append-nil}
+use Rattle.std.specs.Prelude.{slice_get, ◌⊎◌, ◌&&◌, ◌||◌, Option, IfSome, IfNone, is_some, not}
 use Rattle.std.specs.List.{list_any}
 use Rattle.std.proofs.lemmas.Bool.{or_cases, and_parts, false_from_ne_true}
 use Rattle.std.proofs.lemmas.Option.{slice_get_within}
@@ -9,7 +9,7 @@ use Rattle.std.proofs.lemmas.Map.Keys.{any_passes_from_place}
 use Rattle.blk_bio.specs.Bios.{Bio}
 use Rattle.blk_bio.specs.declared.bio.BioId.{BioId}
 use Rattle.blk_trace.specs.Happened.{Happened}
-use Rattle.blk_trace.specs.Events.{entered, bios_of, AreOnce}
+use Rattle.blk_trace.specs.Events.{entered, bios_of, AreOnce, HasId, IsFirstRepeatedBio}
 use Rattle.blk_trace.specs.Traces.{HasBio}
 use Rattle.blk_trace.specs.Inside.Kept.{is_bio, has_bio_id}
 use Rattle.std.proofs.Common.{get_or}
@@ -92,51 +92,12 @@ apart_single xs b fresh (suc k) x h = absurd (cc)
 pub once_push : (xs : List Bio) (b : Bio) → AreOnce xs → has_bio_id xs b.id ≡ false → AreOnce (xs ++ b ∷ [])
 once_push xs b one fresh = once_both xs (b ∷ []) one (once_single b) (apart_single xs b fresh)
 
--- whether the ids of some bios are in a set whose ids are those of other bios
-not_so : (b : Bool) → not b ≡ true → b ≡ false
-not_so true h = absurd (cc)
-not_so false h = refl
-
-neither : (a b : Bool) → (a || b) ≡ false → (a ≡ false) × (b ≡ false)
-neither true b h = absurd (cc)
-neither false b h = (refl, h)
-
-any_apart : (xs ys : List Bio) (ids : BioId → Bool) → ((id : BioId) → ids id ≡ has_bio_id xs id) → list_any (λ (b : Bio). ids b.id) ys ≡ false → AreApart xs ys
-any_apart xs [] ids are h k b p = absurd (cc)
-any_apart xs (y ∷ ys) ids are h zero b p =
-    let both = neither (ids y.id) (list_any (λ (x : Bio). ids x.id) ys) h in
-    subst (λ (x : Bio). has_bio_id xs x.id ≡ false) (let e : y ≡ b = cc in e) (sym (are y.id) ∙ both.0)
-any_apart xs (y ∷ ys) ids are h (suc k) b p = any_apart xs ys ids are (neither (ids y.id) (list_any (λ (x : Bio). ids x.id) ys) h).1 k b p
-
-any_from : (xs ys : List Bio) (ids : BioId → Bool) → ((id : BioId) → ids id ≡ has_bio_id xs id) → list_any (λ (b : Bio). ids b.id) ys ≡ true → (k : ℕ) × ((b : Bio) × (slice_get ys k ≡ Some b) × (has_bio_id xs b.id ≡ true))
-any_from xs [] ids are h = absurd (cc)
-any_from xs (y ∷ ys) ids are h = elim (or_cases (ids y.id) _ h) [
-  | inl p ↦ (0, (y, refl, sym (are y.id) ∙ p))
-  | inr p ↦ let q = any_from xs ys ids are p in (suc q.0, q.1)
-]
-
--- what the kept ids say of new bios
-pub new_bios : (es : List Happened) (ids : BioId → Bool) (bs : List Bio) (once any r : Bool) → ((id : BioId) → ids id ≡ has_bio_id (entered es) id) → AreOnce (entered es)
-    → (IsTrue once ↔ AreOnce bs) → any ≡ list_any (λ (b : Bio). ids b.id) bs → r ≡ (once && not any) → IsTrue r ↔ AreOnce (entered es ++ bs)
-new_bios es ids bs once any r are old apart hany hr = (
-  λ t.
-      let both = and_parts once (not any) (sym hr ∙ t) in
-      once_both (entered es) bs old (apart.0 both.0) (any_apart (entered es) bs ids are (sym hany ∙ not_so any both.1)),
-  λ all.
-      let one : once ≡ true = apart.1 (once_second (entered es) bs all) in
-      let none : any ≡ false = false_from_ne_true any (λ t. let q = any_from (entered es) bs ids are (sym hany ∙ t) in absurd (let f : has_bio_id (entered es) q.1.0.id ≡ false = once_apart (entered es) bs all q.0 q.1.0 q.1.1 in let g : has_bio_id (entered es) q.1.0.id ≡ true = q.1.2 in cc)) in
-      hr ∙ ap (λ x. x && not any) one ∙ ap (λ x. true && not x) none,
-)
-
 pub has_bio : (es : List Happened) (id : BioId) (r : Bool) → r ≡ has_bio_id (entered es) id → IsTrue r ↔ HasBio es id
 has_bio es id r h = (λ t. at_has (entered es) id (sym h ∙ t), λ p. h ∙ has_at (entered es) p.0 p.1.0 id p.1.1 p.1.2)
 
 -- the ids that are known with one more event
 pub ids_more : (es : List Happened) (e : Happened) (id : BioId) → has_bio_id (entered (es ++ e ∷ [])) id ≡ (has_bio_id (entered es) id || has_bio_id (bios_of e) id)
 ids_more es e id = ap (λ l. has_bio_id l id) (entered_more es e) ∙ list_any-append (λ (b : Bio). is_bio b.id id) (entered es) (bios_of e)
-
-pub not_apart : (xs bs : List Bio) (once : Bool) → once ≡ false → (IsTrue once ↔ AreOnce bs) → IsTrue once ↔ AreOnce (xs ++ bs)
-not_apart xs bs once f apart = (λ t. absurd (cc), λ all. apart.1 (once_second xs bs all))
 
 pub get_at : {X : Type 0} (xs : List X) (i : ℕ) (d : X) → i < length xs → slice_get xs i ≡ Some (get_or xs i d)
 get_at [] i d h = absurd (omega arith)
@@ -149,19 +110,65 @@ below_take [] (suc i) k x h = absurd (cc)
 below_take (y ∷ xs) (suc i) zero x h = omega arith
 below_take (y ∷ xs) (suc i) (suc k) x h = omega (arith, below_take xs i k x h)
 
--- a bio whose id stands before it in the list
-pub found_twice : (bs : List Bio) (i : ℕ) (x : Bio) (id : BioId) → i < length bs → x ≡ get_or bs i x → id ≡ x.id → has_bio_id (take i bs) id ≡ true → AreOnce bs → ⊥
-found_twice bs i x id h is same t all =
-    let q = at_has (take i bs) id t in
-    let here : slice_get bs i ≡ Some x = get_at bs i x h ∙ ap Some (sym is) in
-    let one : q.0 ≡ i = all q.0 i q.1.0 x (of_take i bs q.0 q.1.0 q.1.1) here (q.1.2 ∙ same) in
-    absurd (omega (arith, one, below_take bs i q.0 q.1.0 q.1.1))
-
-pub once_step : (bs : List Bio) (i : ℕ) (x : Bio) (id : BioId) → i < length bs → x ≡ get_or bs i x → id ≡ x.id → has_bio_id (take i bs) id ≡ false → AreOnce (take i bs) → AreOnce (take (i + 1) bs)
-once_step bs i x id h is same f one =
+-- one more of some bios, whose id stands neither in a list nor earlier among them
+pub once_next : (before bs : List Bio) (i : ℕ) (x : Bio) (id : BioId) → i < length bs → x ≡ get_or bs i x → id ≡ x.id → has_bio_id before id ≡ false → has_bio_id (take i bs) id ≡ false → AreOnce (before ++ take i bs) → AreOnce (before ++ take (i + 1) bs)
+once_next before bs i x id h is same f g one =
     let next : take (i + 1) bs ≡ take i bs ++ x ∷ [] = take_more bs i x h ∙ ap (λ y. take i bs ++ y ∷ []) (sym is) in
+    let none : has_bio_id (before ++ take i bs) id ≡ false = list_any-append (λ (b : Bio). is_bio b.id id) before (take i bs) ∙ ap (λ c. c || has_bio_id (take i bs) id) f ∙ g in
     let P : List Bio → Type 0 = λ l. AreOnce l in
-    subst P (sym next) (once_push (take i bs) x one (subst (λ n. has_bio_id (take i bs) n ≡ false) same f))
+    subst P (append_assoc before (take i bs) (x ∷ []) ∙ ap (λ l. before ++ l) (sym next)) (once_push (before ++ take i bs) x one (subst (λ n. has_bio_id (before ++ take i bs) n ≡ false) same none))
 
-pub once_whole : (bs : List Bio) (i : ℕ) → length bs ≤ i → AreOnce (take i bs) → AreOnce bs
-once_whole bs i h one = let P : List Bio → Type 0 = λ l. AreOnce l in subst P (take_all i bs h) one
+pub once_whole : (before bs : List Bio) (i : ℕ) → length bs ≤ i → AreOnce (before ++ take i bs) → AreOnce (before ++ bs)
+once_whole before bs i h one = let P : List Bio → Type 0 = λ l. AreOnce (before ++ l) in subst P (take_all i bs h) one
+
+-- a bio whose id stands in a list or earlier among the bios
+pub first_at : (before bs : List Bio) (i : ℕ) (x : Bio) (id : BioId) → i < length bs → x ≡ get_or bs i x → id ≡ x.id → (has_bio_id before id || has_bio_id (take i bs) id) ≡ true → AreOnce (before ++ take i bs) → IsFirstRepeatedBio before bs id
+first_at before bs i x id h is same t one = record {
+  place = i;
+  bio = x;
+  stands = get_at bs i x h ∙ ap Some (sym is);
+  named = sym same;
+  again = at_has (before ++ take i bs) id (list_any-append (λ (b : Bio). is_bio b.id id) before (take i bs) ∙ t);
+  first = one;
+}
+
+earlier : (before bs : List Bio) (n k : ℕ) (x : Bio) → slice_get (before ++ take n bs) k ≡ Some x → (slice_get (before ++ bs) k ≡ Some x) × (k < length before + n)
+earlier before bs n k x h = elim (in_either before (take n bs) k x h) [
+  | inl p ↦ (in_first before bs k x p, omega (arith, slice_get_within before k x p))
+  | inr p ↦ (ap (λ i. slice_get (before ++ bs) i) p.1.0 ∙ in_second before bs p.0 x (of_take n bs p.0 x p.1.1), omega (arith, p.1.0, below_take bs n p.0 x p.1.1))
+]
+
+-- where one is repeated, not all stand once
+pub not_once : (before bs : List Bio) (id : BioId) → IsFirstRepeatedBio before bs id → AreOnce (before ++ bs) → ⊥
+not_once before bs id r all =
+    let q = r.again in
+    let there : slice_get (before ++ bs) (length before + r.place) ≡ Some r.bio = in_second before bs r.place r.bio r.stands in
+    let here = earlier before bs r.place q.0 q.1.0 q.1.1 in
+    absurd (omega (arith, here.1, all q.0 (length before + r.place) q.1.0 r.bio here.0 there (q.1.2 ∙ sym r.named)))
+
+-- none is repeated exactly where all stand once
+is_so : (r : Bool) → false ≡ not r → r ≡ true
+is_so true h = refl
+is_so false h = absurd (cc)
+
+pub new_where_none : (before bs : List Bio) (o : Option BioId) (r : Bool) → is_some o ≡ not r → IfSome o (IsFirstRepeatedBio before bs) → IfNone o (AreOnce (before ++ bs)) → IsTrue r ↔ AreOnce (before ++ bs)
+new_where_none before bs None r h some none = (λ _. none, λ _. is_so r h)
+new_where_none before bs (Some id) true h some none = absurd (cc)
+new_where_none before bs (Some id) false h some none = (λ t. absurd (cc), λ all. absurd (not_once before bs id some all))
+
+-- an id that stands before some bios, or earlier among them
+pub seen_before : (before earlier : List Bio) (id : BioId) → HasId before id → (has_bio_id before id || has_bio_id earlier id) ≡ true
+seen_before before earlier id h = ap (λ c. c || has_bio_id earlier id) (has_at before h.0 h.1.0 id h.1.1 h.1.2)
+
+or_yes : (b : Bool) → (b || true) ≡ true
+or_yes true = refl
+or_yes false = refl
+
+pub seen_earlier : (before earlier : List Bio) (id : BioId) → has_bio_id earlier id ≡ true → (has_bio_id before id || has_bio_id earlier id) ≡ true
+seen_earlier before earlier id h = ap (λ c. has_bio_id before id || c) h ∙ or_yes (has_bio_id before id)
+
+pub not_before : (before : List Bio) (id : BioId) (r : Bool) → (IsTrue r ↔ HasId before id) → r ≡ false → has_bio_id before id ≡ false
+not_before before id r is none = false_from_ne_true _ (λ t. let y : r ≡ true = is.1 (at_has before id t) in absurd (let x : false ≡ true = sym none ∙ y in cc))
+
+pub once_first : (bs : List Bio) → AreOnce bs → AreOnce (bs ++ [])
+once_first bs h = let P : List Bio → Type 0 = λ l. AreOnce l in subst P (sym (append-nil bs)) h

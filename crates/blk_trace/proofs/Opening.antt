@@ -17,7 +17,7 @@ use Rattle.blk_trace.specs.Meaning.{release_of, due_of}
 use Rattle.blk_trace.specs.Legal.{IsLegalTrace}
 use Rattle.blk_trace.specs.Rules.{IsUnbroken}
 use Rattle.blk_trace.specs.Waits.{Entered, waits_at}
-use Rattle.blk_trace.specs.Inside.Seats.{Seat, seat_at, this_round, issued_by, issue_tag, is_flying, open_of}
+use Rattle.blk_trace.specs.Inside.Seats.{RoundSeat, seat_at, this_round, issued_by, issue_tag, is_flying, flying_of}
 use Rattle.blk_trace.proofs.Words.{OnlyEnds, only_ends, no_tag}
 use Rattle.blk_trace.proofs.Pushing.{shorter_legal, obeys}
 use Rattle.blk_trace.proofs.More.{more_of}
@@ -77,11 +77,11 @@ tag_count setup es u legal = by_legal setup (λ l. count_by (λ t. u == t) (tags
 abbrev flies : List Happened → Dir → ℕ → Bool
 flies es d t = is_flying d (seat_at es t)
 
-open_is : (es : List Happened) (d : Dir) → open_of es d ≡ count_by (flies es d) (tags es)
-unfolding open_of tags
+open_is : (es : List Happened) (d : Dir) → flying_of es d ≡ count_by (flies es d) (tags es)
+unfolding flying_of tags
 open_is es d = refl
 
-pub open-ticked : (setup : Setup) (events : List Happened) → IsLegalTrace setup (events ++ Ticked ∷ []) → (d : Dir) → open_of (events ++ Ticked ∷ []) d ≡ 0
+pub open-ticked : (setup : Setup) (events : List Happened) → IsLegalTrace setup (events ++ Ticked ∷ []) → (d : Dir) → flying_of (events ++ Ticked ∷ []) d ≡ 0
 open-ticked setup events legal d = open_is (events ++ Ticked ∷ []) d ∙ ap (count_by (flies (events ++ Ticked ∷ []) d)) (tags_tick events)
 
 and_no : (x y : Bool) → y ≡ false → (x && y) ≡ false
@@ -92,11 +92,11 @@ and_yes : (x y : Bool) → y ≡ true → (x && y) ≡ x
 and_yes true y h = h
 and_yes false y h = refl
 
-grounded : (d : Dir) (o : Option Seat) → ((seat : Seat) → o ≡ Some seat → seat.in_flight ≡ false) → is_flying d o ≡ false
+grounded : (d : Dir) (o : Option RoundSeat) → ((seat : RoundSeat) → o ≡ Some seat → seat.in_flight ≡ false) → is_flying d o ≡ false
 grounded d None h = refl
 grounded d (Some seat) h = and_no (same_dir d seat.dir) seat.in_flight (h seat refl)
 
-pub open-before_tick : (setup : Setup) (events : List Happened) → IsLegalTrace setup (events ++ Ticked ∷ []) → (d : Dir) → open_of events d ≡ 0
+pub open-before_tick : (setup : Setup) (events : List Happened) → IsLegalTrace setup (events ++ Ticked ∷ []) → (d : Dir) → flying_of events d ≡ 0
 open-before_tick setup events legal d =
     let old = shorter_legal setup events _ legal in
     let all = obeys setup events _ legal in
@@ -108,17 +108,17 @@ open-before_tick setup events legal d =
     ]))
 
 -- an event that issues and ends nothing leaves what is in flight
-pub open_kept : (setup : Setup) (events : List Happened) (e : Happened) → IsLegalTrace setup (events ++ e ∷ []) → is_tick e ≡ false → issues e ≡ None → ends e ≡ None → (d : Dir) → open_of (events ++ e ∷ []) d ≡ open_of events d
+pub open_kept : (setup : Setup) (events : List Happened) (e : Happened) → IsLegalTrace setup (events ++ e ∷ []) → is_tick e ≡ false → issues e ≡ None → ends e ≡ None → (d : Dir) → flying_of (events ++ e ∷ []) d ≡ flying_of events d
 open_kept setup events e legal h i n d =
     open_is (events ++ e ∷ []) d ∙ ap (count_by (flies (events ++ e ∷ []) d)) (tags_kept events e h (no_tag e i)) ∙ count_same _ (flies events d) (tags events) (λ t. ap (is_flying d) (seat_quiet setup events e legal h i n t)) ∙ sym (open_is events d)
 
-pub open-released : (setup : Setup) (events : List Happened) (id : ℕ) (bios : List Bio) → IsLegalTrace setup (events ++ Released id bios ∷ []) → (d : Dir) → open_of (events ++ Released id bios ∷ []) d ≡ open_of events d
+pub open-released : (setup : Setup) (events : List Happened) (id : ℕ) (bios : List Bio) → IsLegalTrace setup (events ++ Released id bios ∷ []) → (d : Dir) → flying_of (events ++ Released id bios ∷ []) d ≡ flying_of events d
 open-released setup events id bios legal d = open_kept setup events (Released id bios) legal refl refl refl d
 
-pub open-joined : (setup : Setup) (events : List Happened) (id : ℕ) (bios : List Bio) → IsLegalTrace setup (events ++ Joined id bios ∷ []) → (d : Dir) → open_of (events ++ Joined id bios ∷ []) d ≡ open_of events d
+pub open-joined : (setup : Setup) (events : List Happened) (id : ℕ) (bios : List Bio) → IsLegalTrace setup (events ++ Joined id bios ∷ []) → (d : Dir) → flying_of (events ++ Joined id bios ∷ []) d ≡ flying_of events d
 open-joined setup events id bios legal d = open_kept setup events (Joined id bios) legal refl refl refl d
 
-pub open-issued : (setup : Setup) (events : List Happened) (id tag : ℕ) → IsLegalTrace setup (events ++ Issued id tag ∷ []) → (w : Entered) → waits_at setup events id ≡ Some w → (d : Dir) → open_of (events ++ Issued id tag ∷ []) d ≡ open_of events d + cond (same_dir d (dir_of w.bios)) 1 0
+pub open-issued : (setup : Setup) (events : List Happened) (id tag : ℕ) → IsLegalTrace setup (events ++ Issued id tag ∷ []) → (w : Entered) → waits_at setup events id ≡ Some w → (d : Dir) → flying_of (events ++ Issued id tag ∷ []) d ≡ flying_of events d + cond (same_dir d (dir_of w.bios)) 1 0
 open-issued setup events id tag legal w waits d =
     let es : List Happened = events ++ Issued id tag ∷ [] in
     let old = shorter_legal setup events _ legal in
@@ -134,11 +134,11 @@ open-issued setup events id tag legal w waits d =
     let none_before : one_if (flies events d tag) ≡ 0 = ap one_if was in
     let kept : count_by (flies events d) (tags events) ≡ count_by (flies es d) (tags events) = count_without (flies events d) (flies es d) tag (one_if (same_dir d (dir_of w.bios))) (tags events) other (omega arith) zero_before in
     let push : count_by (flies es d) (tags events ++ tag ∷ []) ≡ count_by (flies es d) (tags events) + one_if (flies es d tag) = count_push (flies es d) (tags events) tag in
-    let now : open_of es d ≡ count_by (flies es d) (tags events ++ tag ∷ []) = open_is es d ∙ ap (count_by (flies es d)) (tags_more events (Issued id tag) refl) in
+    let now : flying_of es d ≡ count_by (flies es d) (tags events ++ tag ∷ []) = open_is es d ∙ ap (count_by (flies es d)) (tags_more events (Issued id tag) refl) in
     omega (arith, open_is events d)
 
 -- one that ends an Issue leaves one command less in flight
-pub open_ended : (setup : Setup) (events : List Happened) (e : Happened) (tag : ℕ) → IsLegalTrace setup (events ++ e ∷ []) → ends e ≡ Some tag → (dir : Dir) → seat_at events tag ≡ Some (record { dir = dir; in_flight = true }) → (d : Dir) → open_of (events ++ e ∷ []) d + cond (same_dir d dir) 1 0 ≡ open_of events d
+pub open_ended : (setup : Setup) (events : List Happened) (e : Happened) (tag : ℕ) → IsLegalTrace setup (events ++ e ∷ []) → ends e ≡ Some tag → (dir : Dir) → seat_at events tag ≡ Some (record { dir = dir; in_flight = true }) → (d : Dir) → flying_of (events ++ e ∷ []) d + cond (same_dir d dir) 1 0 ≡ flying_of events d
 open_ended setup events e tag legal end dir taken_is d =
     let only : OnlyEnds e = only_ends e tag end in
     let es : List Happened = events ++ e ∷ [] in
@@ -153,10 +153,10 @@ open_ended setup events e tag legal end dir taken_is d =
     let one_before : one_if (flies events d tag) ≡ one_if (same_dir d dir) = ap one_if before in
     let one : count_by (λ t. tag == t) (tags events) ≡ 1 = tag_count setup events tag old ∙ ap number was.taken_is in
     let fewer : count_by (flies es d) (tags events) + one_if (same_dir d dir) ≡ count_by (flies events d) (tags events) = count_once (flies es d) (flies events d) tag (one_if (same_dir d dir)) (tags events) other (omega arith) one in
-    let now : open_of es d ≡ count_by (flies es d) (tags events) = open_is es d ∙ ap (count_by (flies es d)) (tags_kept events e only.no_tick (no_tag e only.no_issue)) in
+    let now : flying_of es d ≡ count_by (flies es d) (tags events) = open_is es d ∙ ap (count_by (flies es d)) (tags_kept events e only.no_tick (no_tag e only.no_issue)) in
     omega (arith, open_is events d)
 
-pub open-finished : (setup : Setup) (events : List Happened) (tag : ℕ) → IsLegalTrace setup (events ++ Finished tag ∷ []) → (dir : Dir) → seat_at events tag ≡ Some (record { dir = dir; in_flight = true }) → (d : Dir) → open_of (events ++ Finished tag ∷ []) d + cond (same_dir d dir) 1 0 ≡ open_of events d
+pub open-finished : (setup : Setup) (events : List Happened) (tag : ℕ) → IsLegalTrace setup (events ++ Finished tag ∷ []) → (dir : Dir) → seat_at events tag ≡ Some (record { dir = dir; in_flight = true }) → (d : Dir) → flying_of (events ++ Finished tag ∷ []) d + cond (same_dir d dir) 1 0 ≡ flying_of events d
 open-finished setup events tag legal dir taken_is d = open_ended setup events (Finished tag) tag legal refl dir taken_is d
 
 -- both directions, and all commands
@@ -166,7 +166,7 @@ one_dir Write = refl
 
 -- how many Issues there are, and how many have ended
 abbrev AreBoth : List Happened → Type 0
-AreBoth es = open_of es Read + open_of es Write + count_by is_end es ≡ count_by is_issue es
+AreBoth es = flying_of es Read + flying_of es Write + count_by is_end es ≡ count_by is_issue es
 
 both_kept : (setup : Setup) (es : List Happened) (e : Happened) → IsLegalTrace setup (es ++ e ∷ []) → is_tick e ≡ false → issues e ≡ None → ends e ≡ None → AreBoth es → AreBoth (es ++ e ∷ [])
 both_kept setup es e legal h i n ih =
@@ -198,11 +198,11 @@ both_step setup es (Issued i t) legal ih =
     omega (arith, ih, more_of is_end es (Issued i t), more_of is_issue es (Issued i t), reads, writes, one_dir (dir_of (request_of es i)))
 both_step setup es e legal ih = both_rest setup es e (ends e) refl legal refl refl ih
 
-pub open_all : (setup : Setup) (events : List Happened) → IsLegalTrace setup events → open_of events Read + open_of events Write + count_by is_end events ≡ count_by is_issue events
-unfolding open_of this_round
-open_all setup events legal = by_legal setup (λ l. open_of l Read + open_of l Write + count_by is_end l ≡ count_by is_issue l) refl (λ l e new old all ih. both_step setup l e new ih) events legal
+pub open_all : (setup : Setup) (events : List Happened) → IsLegalTrace setup events → flying_of events Read + flying_of events Write + count_by is_end events ≡ count_by is_issue events
+unfolding flying_of this_round
+open_all setup events legal = by_legal setup (λ l. flying_of l Read + flying_of l Write + count_by is_end l ≡ count_by is_issue l) refl (λ l e new old all ih. both_step setup l e new ih) events legal
 
-pub open-both : (setup : Setup) (events : List Happened) → IsLegalTrace setup events → open_of events Read + open_of events Write ≡ open_count events
+pub open-both : (setup : Setup) (events : List Happened) → IsLegalTrace setup events → flying_of events Read + flying_of events Write ≡ open_count events
 unfolding open_count
 open-both setup events legal = omega (arith, open_all setup events legal)
 
@@ -217,7 +217,7 @@ same_self : (d : Dir) → (same_dir d d && true) ≡ true
 same_self Read = refl
 same_self Write = refl
 
-either_dir : (events : List Happened) (d : Dir) → 0 < open_of events d → 0 < open_of events Read + open_of events Write
+either_dir : (events : List Happened) (d : Dir) → 0 < flying_of events d → 0 < flying_of events Read + flying_of events Write
 either_dir events Read h = omega arith
 either_dir events Write h = omega arith
 
@@ -227,7 +227,7 @@ open_positive setup events tag legal o =
     let was : IsSeat events tag (record { dir = p.0; in_flight = true }) = seat_parts events tag _ p.1 in
     let one : count_by (λ t. tag == t) (tags events) ≡ 1 = tag_count setup events tag legal ∙ ap number was.taken_is in
     let flying : flies events p.0 tag ≡ true = ap (is_flying p.0) p.1 ∙ same_self p.0 in
-    let some : 0 < open_of events p.0 = rw (open_is events p.0) (count_positive (flies events p.0) tag (tags events) flying one) in
+    let some : 0 < flying_of events p.0 = rw (open_is events p.0) (count_positive (flies events p.0) tag (tags events) flying one) in
     omega (arith, either_dir events p.0 some, open-both setup events legal)
 
 -- a legal list ends no more Issues than it has

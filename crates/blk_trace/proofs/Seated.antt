@@ -11,7 +11,7 @@ use Rattle.blk_trace.specs.Setups.{Setup}
 use Rattle.blk_trace.specs.Events.{request_of, IsOpen, IsOpenBy, IsUsed}
 use Rattle.blk_trace.specs.Legal.{IsLegalTrace}
 use Rattle.blk_trace.specs.Rules.{IsUnbroken}
-use Rattle.blk_trace.specs.Inside.Seats.{Seat, seat_at}
+use Rattle.blk_trace.specs.Inside.Seats.{RoundSeat, seat_at}
 use Rattle.blk_trace.proofs.Places.{split}
 use Rattle.blk_trace.proofs.Words.{issued_by_none, issues_not, keep_end}
 use Rattle.blk_trace.proofs.Ids.{by_legal}
@@ -24,7 +24,7 @@ use Rattle.blk_trace.proofs.TagUses.{by_open}
 pub seat_used : (events : List Happened) (tag : ℕ) → IsSome (seat_at events tag) → IsUsed events tag
 seat_used events tag some =
     elim (cases_option (seat_at events tag)) [
-      | inl none ↦ absurd (let not : is_some (seat_at events tag) ≡ is_some {T = Seat} None = ap is_some none in cc)
+      | inl none ↦ absurd (let not : is_some (seat_at events tag) ≡ is_some {T = RoundSeat} None = ap is_some none in cc)
       | inr seat ↦
           let was = seat_parts events tag seat.0 seat.1 in
           let at = taken_at events tag was.id was.taken_is in

@@ -14,7 +14,7 @@ use Rattle.blk_trace.specs.Legal.{IsLegalTrace}
 use Rattle.blk_trace.specs.Rules.{IsUnbroken}
 use Rattle.blk_trace.specs.Kinds.{is_done_of}
 use Rattle.blk_trace.specs.Waits.{Entered, waits_at}
-use Rattle.blk_trace.specs.Inside.Seats.{Seat, seat_at, this_round, issued_by}
+use Rattle.blk_trace.specs.Inside.Seats.{RoundSeat, seat_at, this_round, issued_by}
 use Rattle.blk_trace.proofs.Words.{OnlyEnds, only_ends, some_of, issued_by_none, done_by_none, done_by, issues_not, ends_not}
 use Rattle.blk_trace.proofs.Pushing.{shorter_legal, obeys}
 use Rattle.blk_trace.proofs.Ids.{by_legal}
@@ -107,13 +107,13 @@ steady setup es legal =
     (λ l e new old all ih. steady_step setup l e all ih) es legal
 
 -- a seat by its parts
-pub record IsSeat (es : List Happened) (t : ℕ) (seat : Seat) : Type 0 where
+pub record IsSeat (es : List Happened) (t : ℕ) (seat : RoundSeat) : Type 0 where
   pub id : ℕ
   pub taken_is : taken es t ≡ Some id
   pub dir_is : seat.dir ≡ dir_of (request_of es id)
   pub flying_is : seat.in_flight ≡ not (ended es t)
 
-seat_made : (es : List Happened) (b : Bool) (id : ℕ) → Seat
+seat_made : (es : List Happened) (b : Bool) (id : ℕ) → RoundSeat
 seat_made es b id = record { dir = dir_of (request_of es id); in_flight = not b }
 
 seat_is : (es : List Happened) (t : ℕ) → seat_at es t ≡ option_map (seat_made es (ended es t)) (taken es t)
@@ -124,12 +124,12 @@ pub seat_from : (es : List Happened) (t id : ℕ) (b : Bool) (d : Dir) → taken
 unfolding seat_made
 seat_from es t id b d h i j =
     let made : seat_made es (ended es t) id ≡ record { dir = d; in_flight = not b } = rw (i, j) refl in
-    seat_is es t ∙ ap (option_map (seat_made es (ended es t))) h ∙ ap (λ (x : Seat). Some x) made
+    seat_is es t ∙ ap (option_map (seat_made es (ended es t))) h ∙ ap (λ (x : RoundSeat). Some x) made
 
 pub no_seat : (es : List Happened) (t : ℕ) → taken es t ≡ None → seat_at es t ≡ None
 no_seat es t h = seat_is es t ∙ ap (option_map (seat_made es (ended es t))) h
 
-pub seat_parts : (es : List Happened) (t : ℕ) (seat : Seat) → seat_at es t ≡ Some seat → IsSeat es t seat
+pub seat_parts : (es : List Happened) (t : ℕ) (seat : RoundSeat) → seat_at es t ≡ Some seat → IsSeat es t seat
 unfolding seat_made
 seat_parts es t seat h =
     elim (cases_option (taken es t)) [
@@ -140,8 +140,8 @@ seat_parts es t seat h =
           record {
             id = p.0;
             taken_is = p.1;
-            dir_is = ap (λ (x : Seat). x.dir) (sym same);
-            flying_is = ap (λ (x : Seat). x.in_flight) (sym same);
+            dir_is = ap (λ (x : RoundSeat). x.dir) (sym same);
+            flying_is = ap (λ (x : RoundSeat). x.in_flight) (sym same);
           }
     ]
 
@@ -189,7 +189,7 @@ or_true : (x y : Bool) → y ≡ true → (x || y) ≡ true
 or_true true y h = refl
 or_true false y h = h
 
-seat_done : (setup : Setup) (events : List Happened) (e : Happened) (tag : ℕ) (seat : Seat) (t : ℕ) → ends e ≡ Some tag → seat_at events t ≡ Some seat → (tag == t) ≡ true → seat_at (events ++ e ∷ []) t ≡ Some (record { dir = seat.dir; in_flight = false })
+seat_done : (setup : Setup) (events : List Happened) (e : Happened) (tag : ℕ) (seat : RoundSeat) (t : ℕ) → ends e ≡ Some tag → seat_at events t ≡ Some seat → (tag == t) ≡ true → seat_at (events ++ e ∷ []) t ≡ Some (record { dir = seat.dir; in_flight = false })
 seat_done setup events e tag seat t end h b =
     let only : OnlyEnds e = only_ends e tag end in
     let was : IsSeat events t seat = seat_parts events t seat h in
@@ -197,7 +197,7 @@ seat_done setup events e tag seat t end h b =
     seat_from (events ++ e ∷ []) t was.id true seat.dir (taken_kept events e t only.no_tick (issued_by_none t e only.no_issue) ∙ was.taken_is) (ended_more events e t only.no_tick ∙ or_true (ended events t) (is_done_of t e) (done_by t e tag end ∙ b)) (ap dir_of same.request ∙ sym was.dir_is)
 
 -- one that ends a tag's Issue leaves the tag taken, and its command no longer in flight
-pub seat_ended : (setup : Setup) (events : List Happened) (e : Happened) (tag : ℕ) → IsLegalTrace setup (events ++ e ∷ []) → ends e ≡ Some tag → (seat : Seat) → seat_at events tag ≡ Some seat → (t : ℕ) → seat_at (events ++ e ∷ []) t ≡ cond (tag == t) (Some (record { dir = seat.dir; in_flight = false })) (seat_at events t)
+pub seat_ended : (setup : Setup) (events : List Happened) (e : Happened) (tag : ℕ) → IsLegalTrace setup (events ++ e ∷ []) → ends e ≡ Some tag → (seat : RoundSeat) → seat_at events tag ≡ Some seat → (t : ℕ) → seat_at (events ++ e ∷ []) t ≡ cond (tag == t) (Some (record { dir = seat.dir; in_flight = false })) (seat_at events t)
 seat_ended setup events e tag legal end seat taken t =
     let old = shorter_legal setup events _ legal in
     let all = obeys setup events _ legal in
@@ -207,11 +207,11 @@ seat_ended setup events e tag legal end seat taken t =
       | inr b ↦ seat_kept setup events e t old all only.no_tick (issued_by_none t e only.no_issue) (done_by t e tag end ∙ b) ∙ sym (rw b refl)
     ]
 
-pub seat-finished : (setup : Setup) (events : List Happened) (tag : ℕ) → IsLegalTrace setup (events ++ Finished tag ∷ []) → (seat : Seat) → seat_at events tag ≡ Some seat → (t : ℕ) → seat_at (events ++ Finished tag ∷ []) t ≡ cond (tag == t) (Some (record { dir = seat.dir; in_flight = false })) (seat_at events t)
+pub seat-finished : (setup : Setup) (events : List Happened) (tag : ℕ) → IsLegalTrace setup (events ++ Finished tag ∷ []) → (seat : RoundSeat) → seat_at events tag ≡ Some seat → (t : ℕ) → seat_at (events ++ Finished tag ∷ []) t ≡ cond (tag == t) (Some (record { dir = seat.dir; in_flight = false })) (seat_at events t)
 seat-finished setup events tag legal seat taken t = seat_ended setup events (Finished tag) tag legal refl seat taken t
 
 -- a taken tag is below the depth
-pub seat-below : (setup : Setup) (events : List Happened) → IsLegalTrace setup events → (t : ℕ) (seat : Seat) → seat_at events t ≡ Some seat → suc t ≤ setup.depth
+pub seat-below : (setup : Setup) (events : List Happened) → IsLegalTrace setup events → (t : ℕ) (seat : RoundSeat) → seat_at events t ≡ Some seat → suc t ≤ setup.depth
 seat-below setup events legal t seat h =
     let was : IsSeat events t seat = seat_parts events t seat h in
     let at : IsTaken events t was.id = taken_at events t was.id was.taken_is in

@@ -60,14 +60,14 @@ used_here es id tag = record {
 }
 
 -- the Issue of an open tag
-still_by : (es : List Happened) (e : Happened) (t id : ℕ) → (ends e ≡ Some t → ⊥) → IsOpenBy es t id → IsOpenBy (es ++ e ∷ []) t id
+pub still_by : (es : List Happened) (e : Happened) (t id : ℕ) → (ends e ≡ Some t → ⊥) → IsOpenBy es t id → IsOpenBy (es ++ e ∷ []) t id
 still_by es e t id other o = record {
   place = o.place;
   issued = keep es (e ∷ []) o.place _ o.issued;
   not_done = λ j h d. elim (split_end es e j t d) [ inl p ↦ o.not_done j h p | inr p ↦ other p.1 ];
 }
 
-now_by : (es : List Happened) (id t : ℕ) → IsOpenBy (es ++ Issued id t ∷ []) t id
+pub now_by : (es : List Happened) (id t : ℕ) → IsOpenBy (es ++ Issued id t ∷ []) t id
 now_by es id t = record {
   place = length es;
   issued = last es (Issued id t);

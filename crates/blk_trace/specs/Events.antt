@@ -1,6 +1,7 @@
 -- Lists of events.
 use Rattle.std.specs.Prelude.{ℕ, suc, ◌≡◌, ◌<◌, ◌-◌, ◌==◌, ◌++◌, cond, Bool, false, IsTrue, List, [], ◌∷◌, Some, is_some, take, drop, slice_get, count_by, fold, IfSome}
 use Rattle.std.specs.List.{flat_map, filter_map}
+use Rattle.blk_bio.specs.declared.bio.BioId.{BioId}
 use Rattle.blk_bio.specs.Bios.{Bio}
 use Rattle.blk_bio.specs.Requests.{IsRequest, first_of, last_of}
 use Rattle.blk_trace.specs.Happened.{Happened, Released, Issued}
@@ -89,3 +90,16 @@ open_count events = count_by is_issue events - count_by is_end events
 -- no two places of the list have bios of one id
 abbrev pub AreOnce : List Bio → Type 0
 AreOnce bios = (j k : ℕ) (b c : Bio) → slice_get bios j ≡ Some b → slice_get bios k ≡ Some c → b.id ≡ c.id → j ≡ k
+
+-- a bio of the list has the id
+abbrev pub HasId : List Bio → BioId → Type 0
+HasId bios id = (k : ℕ) × ((b : Bio) × (slice_get bios k ≡ Some b) × (b.id ≡ id))
+
+-- of the bios, the first whose id stands before it has this id
+pub record IsFirstRepeatedBio (before bios : List Bio) (id : BioId) : Type 0 where
+  pub place : ℕ
+  pub bio : Bio
+  pub stands : slice_get bios place ≡ Some bio
+  pub named : bio.id ≡ id
+  pub again : HasId (before ++ take place bios) id
+  pub first : AreOnce (before ++ take place bios)

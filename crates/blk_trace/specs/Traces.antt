@@ -12,7 +12,7 @@ use Rattle.blk_trace.specs.declared.rule.TraceFault.TheVariants as trace_fault
 use Rattle.blk_trace.specs.declared.trace.Prepared.{Prepared}
 use Rattle.blk_trace.specs.declared.trace.Prepared.TheVariants.{Nothing, AnIssue, Bios}
 use Rattle.blk_trace.specs.Setups.{Setup}
-use Rattle.blk_trace.specs.Events.{entered}
+use Rattle.blk_trace.specs.Events.{entered, HasId}
 use Rattle.blk_trace.specs.Legal.{IsLegalTrace}
 use Rattle.blk_trace.specs.Rules.{IsFirstBroken, IsUnbroken}
 
@@ -60,4 +60,4 @@ IsFromEventsAnswer setup events (Err trace_fault.Memory) = ⊤
 
 -- a bio of the id entered
 abbrev pub HasBio : List Happened → BioId → Type 0
-HasBio events id = (k : ℕ) × ((b : Bio) × (slice_get (entered events) k ≡ Some b) × (b.id ≡ id))
+HasBio events id = HasId (entered events) id

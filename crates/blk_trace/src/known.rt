@@ -5,9 +5,9 @@ ghost use Rattle.blk_bio.specs.declared.request.Side.{Side as Where};
 ghost use Rattle.blk_bio.specs.Requests.{IsRequest, Fits};
 ghost use Rattle.blk_trace.specs.Events.{join_up};
 ghost use Rattle.blk_trace.specs.Waits.{Entered};
-ghost use Rattle.blk_trace.specs.Inside.Kept.{summary, together};
+ghost use Rattle.blk_trace.specs.Inside.Kept.{summary};
 
-use blk_bio::{Extent, Limits, Request, Side};
+use blk_bio::{Extent, Limits, Request};
 use std::alloc::Allocator;
 
 /// A request that waits, without its bios: what decides whether another may join it, and the rounds of its release and due.
@@ -71,28 +71,8 @@ impl Waiting {
             return None;
         };
         let mut new = *self;
-        new.extent = together(side, self.extent, newcomer);
+        new.extent = self.extent.joined(&newcomer, side);
         new.release = round;
         Some(new)
-    }
-}
-
-/// The extent of a request with a newcomer at the side.
-fn together(side: Side, extent: Extent, newcomer: Extent) -> Extent
-    requires { extent.bios + newcomer.bios < 2 ^ 64 }
-    ensures { result ≡ together side extent newcomer }
-{
-    let bios = extent.bios + newcomer.bios;
-    match side {
-        Side::Back => Extent {
-            end: newcomer.end,
-            bios,
-            ..extent
-        },
-        Side::Front => Extent {
-            first: newcomer.first,
-            bios,
-            ..extent
-        },
     }
 }

@@ -79,13 +79,13 @@ impl<A: Allocator> Model for Trace<A> {
     ghost use Rattle.std.specs.HashSet as hash_set;
     ghost use Rattle.blk_trace.specs.Seen.{happened};
     ghost use Rattle.blk_trace.specs.Traces.{Traced};
-    ghost use Rattle.blk_trace.specs.Inside.Kept.{IsKept, HasRoom, HasDepths, is_bio};
+    ghost use Rattle.blk_trace.specs.Inside.Kept.{IsKeptTrace, HasRoom, HasDepths, is_bio};
 
     ghost Value = { Traced };
 
     ghost view = { λ t. record { setup = t.setup; events = map happened t.events.items; prepared = t.prepared } };
 
-    ghost invariant = { λ t. IsKept t.setup (map happened t.events.items) t.commands.items t.rounds.items t.round t.«open» (hash.get nat_eq t.known) (hash_set.contains is_bio t.ids) t.tags.items × HasRoom t.prepared (length t.events.items) t.«open» (length t.commands.items) (length t.rounds.items) (vec_capacity t.events) (vec_capacity t.commands) (vec_capacity t.rounds) (hash.spare t.known) (hash_set.spare t.ids) × HasDepths t.setup (map happened t.events.items) t.depth t.next_depth };
+    ghost invariant = { λ t. IsKeptTrace t.setup (map happened t.events.items) t.commands.items t.rounds.items t.round t.«open» (hash.get nat_eq t.known) (hash_set.contains is_bio t.ids) t.tags.items × HasRoom t.prepared (length t.events.items) t.«open» (length t.commands.items) (length t.rounds.items) (vec_capacity t.events) (vec_capacity t.commands) (vec_capacity t.rounds) (hash.spare t.known) (hash_set.spare t.ids) × HasDepths t.setup (map happened t.events.items) t.depth t.next_depth };
 }
 
 impl<A: Allocator + Clone> Trace<A> {

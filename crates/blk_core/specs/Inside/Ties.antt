@@ -9,7 +9,7 @@ use Rattle.blk_trace.specs.Setups.{Setup, IsSetup}
 use Rattle.blk_trace.specs.Happened.{Happened, Released}
 use Rattle.blk_trace.specs.Events.{At}
 use Rattle.blk_trace.specs.Legal.{IsLegalTrace}
-use Rattle.blk_trace.specs.Inside.Seats.{Seat, seat_at}
+use Rattle.blk_trace.specs.Inside.Seats.{RoundSeat, seat_at}
 use Rattle.blk_trace.specs.Waits.{released_count}
 use Rattle.blk_trace.specs.Setups.{same_dir}
 use Rattle.blk_sched.specs.Meaning.{Waiting, Meaning}
@@ -24,7 +24,7 @@ flight_of (Flying hw queued) = Some (record { hw = hw; request = queued })
 flight_of (Spent dir) = None
 
 -- the seat that it stands for
-abbrev pub seat_of : {A : Type 0} → TagState A → Option Seat
+abbrev pub seat_of : {A : Type 0} → TagState A → Option RoundSeat
 seat_of Free = None
 seat_of (Flying hw queued) = Some (record { dir = dir_of queued.bios; in_flight = true })
 seat_of (Spent dir) = Some (record { dir = dir; in_flight = false })

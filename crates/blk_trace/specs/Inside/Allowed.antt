@@ -13,11 +13,11 @@ use Rattle.blk_trace.specs.Setups.{Setup}
 use Rattle.blk_trace.specs.Events.{entered, AreOnce, IsReleased}
 use Rattle.blk_trace.specs.Depths.{depth_now}
 use Rattle.blk_trace.specs.Waits.{Entered, waits_at, unissued_at}
-use Rattle.blk_trace.specs.Inside.Seats.{seat_at, open_of}
+use Rattle.blk_trace.specs.Inside.Seats.{seat_at, flying_of}
 
 -- a Tick is allowed where no command is in flight
 abbrev pub MayTick : List Happened → Type 0
-MayTick events = (open_of events Read ≡ 0) × (open_of events Write ≡ 0)
+MayTick events = (flying_of events Read ≡ 0) × (flying_of events Write ≡ 0)
 
 -- a request may enter under an id that no request was released under, within the limits and with new bios
 abbrev pub MayRelease : Setup → List Happened → ℕ → List Bio → Type 0

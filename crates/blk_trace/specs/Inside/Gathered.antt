@@ -32,8 +32,8 @@ pub record FitsUnder (limits : Limits) (there : Option (List Bio)) (newcomer : L
   pub fits : Fits limits bios newcomer side
 
 -- the request of a Join fits the one that is there under its id
-abbrev pub Takes : Limits → (ℕ → Option (List Bio)) → Happened → Type 0
-Takes limits f e = IfSome (joins e) (λ p. FitsUnder limits (f p.0) p.1)
+abbrev pub TakesJoin : Limits → (ℕ → Option (List Bio)) → Happened → Type 0
+TakesJoin limits f e = IfSome (joins e) (λ p. FitsUnder limits (f p.0) p.1)
 
 -- what is under each id after one more event
 abbrev pub with_event : (ℕ → Option (List Bio)) → Happened → ℕ → Option (List Bio)

@@ -4,9 +4,6 @@ use Rattle.std.specs.List.{list_any}
 use Rattle.edd_check.specs.declared.Command.{Command}
 use Rattle.blk_bio.specs.Bios.{Bio}
 use Rattle.blk_bio.specs.declared.bio.BioId.{BioId}
-use Rattle.blk_bio.specs.declared.extent.Extent.{Extent}
-use Rattle.blk_bio.specs.declared.request.Side.{Side}
-use Rattle.blk_bio.specs.declared.request.Side.TheVariants.{Back, Front}
 use Rattle.blk_bio.specs.Requests.{IsRequest}
 use Rattle.blk_bio.specs.Extents.{extent_of}
 use Rattle.blk_trace.specs.declared.known.Waiting.{Waiting}
@@ -28,18 +25,13 @@ use Rattle.blk_trace.specs.Waits.{Entered, has_id, waits_at, was_issued}
 abbrev pub summary : Entered → Waiting
 summary w = record { extent = extent_of w.bios; release = w.release; due = w.due }
 
--- the extent of a request with a newcomer of an extent at the side
-abbrev pub together : Side → Extent → Extent → Extent
-together Back e newcomer = record { dir = e.dir; first = e.first; end = newcomer.end; bios = e.bios + newcomer.bios }
-together Front e newcomer = record { dir = e.dir; first = newcomer.first; end = e.end; bios = e.bios + newcomer.bios }
-
 -- what is kept of a request that waits, by whether it was issued before
-abbrev pub kept_of : Bool → Entered → Known
-kept_of issued w = cond issued (Handed w.release w.due) (Waits (summary w))
+abbrev pub known_waiting : Bool → Entered → Known
+known_waiting issued w = cond issued (Handed w.release w.due) (Waits (summary w))
 
 -- what is kept under an id: nothing of one that was not released, no more than that of one that was issued
 unfoldable pub known_of : Setup → List Happened → ℕ → Option Known
-known_of setup events id = cond (has_id (issued_ids events) id) (Some Gone) (option_map (kept_of (was_issued events id)) (waits_at setup events id))
+known_of setup events id = cond (has_id (issued_ids events) id) (Some Gone) (option_map (known_waiting (was_issued events id)) (waits_at setup events id))
 
 -- whether a request was issued, and not handed back since
 abbrev pub is_gone : Option Known → Bool
@@ -72,7 +64,7 @@ is_open_use (Open id) = true
 is_open_use _ = false
 
 -- what is kept is what the events say
-pub record IsKept (setup : Setup) (events : List Happened) (commands : List Command) (rounds : List ℕ) (round opened : ℕ) (known : ℕ → Option Known) (ids : BioId → Bool) (tags : List TagUse) : Type 0 where
+pub record IsKeptTrace (setup : Setup) (events : List Happened) (commands : List Command) (rounds : List ℕ) (round opened : ℕ) (known : ℕ → Option Known) (ids : BioId → Bool) (tags : List TagUse) : Type 0 where
   pub ranges : IsSetup setup
   pub legal : IsLegalTrace setup events
   pub commands_are : commands ≡ commands_of setup events

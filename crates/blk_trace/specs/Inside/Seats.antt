@@ -23,7 +23,7 @@ abbrev pub issued_by : ℕ → Happened → Option ℕ
 issued_by tag e = option_and_then (λ p. cond (p.1 == tag) (Some p.0) None) (issues e)
 
 -- a tag of the round: the direction of its command, and whether the command is in flight
-pub record Seat : Type 0 where
+pub record RoundSeat : Type 0 where
   pub dir : Dir
   pub in_flight : Bool
 
@@ -32,13 +32,13 @@ first_id [] = None
 first_id (id ∷ _) = Some id
 
 -- how the tag is taken in the round that is on, if it is
-unfoldable pub seat_at : List Happened → ℕ → Option Seat
+unfoldable pub seat_at : List Happened → ℕ → Option RoundSeat
 seat_at events tag =
     option_map (λ id. record { dir = dir_of (request_of events id); in_flight = not (list_any (is_done_of tag) (this_round events)) })
     (first_id (filter_map (issued_by tag) (this_round events)))
 
 -- whether a seat's command is of the direction and in flight
-abbrev pub is_flying : Dir → Option Seat → Bool
+abbrev pub is_flying : Dir → Option RoundSeat → Bool
 is_flying dir None = false
 is_flying dir (Some seat) = same_dir dir seat.dir && seat.in_flight
 
@@ -47,5 +47,5 @@ abbrev pub issue_tag : Happened → Option ℕ
 issue_tag e = option_map (λ p. p.1) (issues e)
 
 -- how many commands of the direction are in flight
-unfoldable pub open_of : List Happened → Dir → ℕ
-open_of events dir = count_by (λ tag. is_flying dir (seat_at events tag)) (filter_map issue_tag (this_round events))
+unfoldable pub flying_of : List Happened → Dir → ℕ
+flying_of events dir = count_by (λ tag. is_flying dir (seat_at events tag)) (filter_map issue_tag (this_round events))

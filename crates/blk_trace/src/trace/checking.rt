@@ -5,21 +5,18 @@ ghost use Rattle.blk_bio.specs.Requests.{IsRequest};
 ghost use Rattle.blk_trace.specs.Happened.{Ticked, Released, Joined, Issued, Finished, Returned, DepthSet};
 ghost use Rattle.blk_trace.specs.Legal.{IsLegalTrace};
 ghost use Rattle.blk_trace.specs.Rules.{IsFirstBroken, IsUnbroken};
-ghost use Rattle.blk_trace.specs.Events.{entered, open_count, IsReleased, AreHandedBack, IsOpen, IsUsed, AreOnce};
+ghost use Rattle.blk_trace.specs.Events.{entered, open_count, IsReleased, AreHandedBack, IsOpen, IsUsed, AreOnce, IsFirstRepeatedBio};
 ghost use Rattle.blk_trace.specs.Waits.{Entered, waits_at};
-ghost use Rattle.std.specs.List.{list_any};
-ghost use Rattle.std.specs.HashSet as hash_set;
-ghost use Rattle.blk_trace.specs.Inside.Kept.{known_of, IsTagUse, is_bio, has_bio_id};
+ghost use Rattle.blk_trace.specs.Inside.Kept.{known_of, IsTagUse, has_bio_id};
 ghost use Rattle.blk_trace.specs.Seen.{happened};
 
 use crate::event::Event;
 use crate::known::Known;
 use crate::rule::TraceRule;
 use crate::tags::{TagUse, any_open};
-use crate::trace::{Hashing, MAX_EVENTS, Trace};
+use crate::trace::{MAX_EVENTS, Trace};
 use blk_bio::{Bio, BioId, Request};
 use std::alloc::Allocator;
-use std::collections::HashSet;
 
 impl<A: Allocator + Clone> Trace<A> {
     /// The first rule that the event would break.
@@ -238,8 +235,23 @@ impl<A: Allocator + Clone> Trace<A> {
     fn are_new(&self, request: &Request<A>) -> bool
         ensures { IsTrue result ↔ AreOnce (entered self.now.events ++ request.now) }
     {
-        let bios = request.bios();
-        are_apart(bios) && !any_entered(&self.ids, bios)
+        self.first_repeated(request.bios()).is_none()
+    }
+
+    /// The id of the first of the bios, in their order, that has the id of one that entered or of one before it. None
+    /// exactly where there is no such.
+    pub fn first_repeated(&self, bios: &[Bio]) -> Option<BioId>
+        ensures some { IfSome result (IsFirstRepeatedBio (entered self.now.events) bios.now) }
+        ensures none { IfNone result (AreOnce (entered self.now.events ++ bios.now)) }
+    {
+        let _ = &self.round;
+        for (place, bio) in bios.iter().enumerate() {
+            let id = bio.id();
+            if self.has_bio(id) || has_id(&bios[..place], id) {
+                return Some(id);
+            }
+        }
+        None
     }
 }
 
@@ -250,28 +262,9 @@ fn is_depth(depth: u64, tags: u64) -> bool
     0 < depth && depth <= tags
 }
 
-/// Whether no two of the bios have one id.
-fn are_apart(bios: &[Bio]) -> bool
-    ensures { IsTrue result ↔ AreOnce bios.now }
-{
-    for (i, bio) in bios.iter().enumerate() {
-        if has_id(&bios[..i], bio.id()) {
-            return false;
-        }
-    }
-    true
-}
-
 /// Whether one of the bios has the id.
 fn has_id(bios: &[Bio], id: BioId) -> bool
     ensures { result ≡ has_bio_id bios.now id }
 {
     bios.iter().any(|bio| bio.id() == id)
-}
-
-/// Whether the id of one of the bios is in the set.
-fn any_entered<A: Allocator>(ids: &HashSet<BioId, Hashing, A>, bios: &[Bio]) -> bool
-    ensures { result ≡ list_any (λ b. hash_set.contains is_bio ids.now b.id) bios.now }
-{
-    bios.iter().any(|bio| ids.contains(&bio.id()))
 }

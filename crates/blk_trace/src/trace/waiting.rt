@@ -7,7 +7,7 @@ ghost use Rattle.std.specs.List.{flat_map};
 ghost use Rattle.std.specs.Ordering.{nat_cmp};
 ghost use Rattle.std.specs.BTreeMap.{get, values, IsOrdered};
 ghost use Rattle.blk_trace.specs.Events.{join_up};
-ghost use Rattle.blk_trace.specs.Inside.Gathered.{waiting_bios, with_event, Takes, FitsUnder};
+ghost use Rattle.blk_trace.specs.Inside.Gathered.{waiting_bios, with_event, TakesJoin, FitsUnder};
 ghost use Rattle.blk_trace.specs.Inside.Kept.{known_of, is_gone};
 ghost use Rattle.blk_trace.specs.Kinds.{enters};
 ghost use Rattle.blk_trace.specs.Laws.{IsAccounted};
@@ -107,7 +107,7 @@ fn gather<A: Allocator + Clone>(
     event: &Event<A>,
     limits: &Limits,
 ) -> Result<(), AllocError>
-    requires { Takes limits.now (get nat_cmp requests.old) (happened event.now) }
+    requires { TakesJoin limits.now (get nat_cmp requests.old) (happened event.now) }
     ensures { OnOk result ((id : ℕ) → get nat_cmp requests.new id ≡ with_event (get nat_cmp requests.old) (happened event.now) id) }
 {
     match event {

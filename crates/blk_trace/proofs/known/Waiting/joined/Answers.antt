@@ -17,8 +17,8 @@ are_of old w n newcomer is ra rn hn = record { request = ra; newcomer_too = rn; 
 pub fits-requires-clause-range : goal.fits-requires-clause-range
 fits-requires-clause-range g c = subst (λ (x : Waiting). x.extent.first < x.extent.end) (sym c.requires.1) (range_of c.requires.0.bios c.requires.2).0
 
-pub together-new-requires : goal.together-new-requires
-together-new-requires g c =
+pub joined-new-requires : goal.joined-new-requires
+joined-new-requires g c =
     let w = c.requires.0 in
     let n = c.args.request.now in
     let rn = c.extent-newcomer.ensures.is_request in
@@ -36,4 +36,4 @@ returns-clause-some g c = λ w is request.
     let n = c.args.request.now in
     let rn = c.extent-newcomer.ensures.is_request in
     let f = c.in-Some.ensures.some w.bios n (are_of c.args.self.now w n c.extent-newcomer.result is request rn c.extent-newcomer.ensures.value) in
-    ((c.in-Some.side, f), joined_is c.args.limits.now c.args.self.now w n c.args.round c.in-Some.side c.together-new.result c.extent-newcomer.result is request rn f c.extent-newcomer.ensures.value c.together-new.ensures)
+    ((c.in-Some.side, f), joined_is c.args.limits.now c.args.self.now w n c.args.round c.in-Some.side c.joined-new.result c.extent-newcomer.result is request rn f c.extent-newcomer.ensures.value c.joined-new.ensures)

@@ -1,0 +1,37 @@
+-- What a move leaves of the core.
+use Rattle.std.proofs.Common.{◌≡◌, ◌∙◌, ◌+◌, ℕ, ap, refl, arith, cond, Bool, true, false, List, [], ◌∷◌, ◌++◌, Result, Ok, Err}
+use Rattle.blk_bio.specs.Bios.{Bio}
+use Rattle.blk_soft.specs.Queues.{Queue}
+use Rattle.blk_sched.specs.Meaning.{Waiting}
+use Rattle.blk_trace.specs.Happened.{Happened, Released, Joined}
+use Rattle.blk_trace.proofs.More.{more_of}
+use Rattle.blk_core.specs.declared.Placed.{Placed}
+use Rattle.blk_core.specs.declared.Placed.TheVariants.{New, Joined as JoinedTo}
+use Rattle.blk_core.specs.declared.CoreFault.{CoreFault}
+use Rattle.blk_core.specs.State.{CoreState}
+use Rattle.blk_core.specs.Calls.{Places}
+use Rattle.blk_layer.specs.Served.{done_count, is_done}
+use Rattle.blk_layer.specs.Moves.{IsMoveAnswer}
+
+-- one event more that is no Done
+pub not_done : (es : List Happened) (e : Happened) → is_done e ≡ false → done_count (es ++ e ∷ []) ≡ done_count es
+unfolding done_count
+not_done es e other = more_of is_done es e ∙ ap (λ b. done_count es + cond b 1 0) other ∙ omega arith
+
+-- what stays of a core: what it is set up for, and how many Dones it has
+pub record Stays (old new : CoreState) : Type 0 where
+  pub setup : new.setup ≡ old.setup
+  pub dones : done_count new.events ≡ done_count old.events
+
+placed_stays : (serves : ℕ → Waiting → Bool) (old : CoreState) (bios : List Bio) (hw : ℕ) (placed : Placed) (new : CoreState) → Places serves old bios hw placed new → Stays old new
+placed_stays serves old bios hw (New id) new p = record { setup = p.2.0; dones = ap done_count p.2.1 ∙ not_done old.events (Released id bios) refl }
+placed_stays serves old bios hw (JoinedTo id side) new p = record { setup = p.1.0; dones = ap done_count p.1.1 ∙ not_done old.events (Joined id bios) refl }
+
+same_stays : (old new : CoreState) → new ≡ old → Stays old new
+same_stays old new e = record { setup = ap (λ (c : CoreState). c.setup) e; dones = ap (λ (c : CoreState). done_count c.events) e }
+
+pub move_stays : (serves : ℕ → Waiting → Bool) (queue : Queue) (core : CoreState) (hw : ℕ) (new_queue : Queue) (new_core : CoreState) (r : Result Bool CoreFault)
+    → IsMoveAnswer serves queue core hw new_queue new_core r → Stays core new_core
+move_stays serves queue core hw new_queue new_core (Ok true) m = placed_stays serves core m.first hw m.placed new_core m.places
+move_stays serves queue core hw new_queue new_core (Ok false) m = same_stays core new_core m.2
+move_stays serves queue core hw new_queue new_core (Err why) m = same_stays core new_core m.2

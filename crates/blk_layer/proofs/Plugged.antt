@@ -1,0 +1,81 @@
+-- What flushes add up to.
+use Rattle.std.proofs.Common.{◌≡◌, ◌∙◌, ◌+◌, ◌<◌, ◌≤◌, ℕ, sym, ap, refl, inl, inr, arith, List, [], ◌∷◌, ◌++◌, Some, None, append_assoc, length, get_or}
+use Rattle.std.specs.Prelude.{slice_get}
+use Rattle.std.specs.List.{flat_map}
+use Rattle.std.proofs.lemmas.List.{append-nil}
+use Rattle.std.proofs.lemmas.Grind.{flat_map-append}
+use Rattle.std.proofs.lemmas.Bool.{cases_Bool, ltb-true, ltb-false}
+use Rattle.std.proofs.lemmas.Option.{slice_get-get_or}
+use lib.Dec.{ltb}
+use Rattle.blk_bio.specs.Bios.{Bio}
+use Rattle.blk_plug.specs.Plugs.{Plug, bios_of}
+use Rattle.blk_layer.specs.Seats.{SubmitterSeat, AreOwn}
+use Rattle.blk_layer.specs.Flushes.{Flushes}
+
+-- a flush of nothing
+pub none_flushed : (seat : SubmitterSeat) (plug : Plug) (new : SubmitterSeat) (left : Plug) → new ≡ seat → left ≡ plug → Flushes seat plug new left
+none_flushed seat plug new left e f = rw (e, f) (record { taken = []; stood = refl; limits = refl; added = sym (append-nil seat.accepted); number = refl })
+
+-- one flush after another
+pub flushed_on : (a : SubmitterSeat) (p : Plug) (b : SubmitterSeat) (q : Plug) (c : SubmitterSeat) (r : Plug) → Flushes a p b q → Flushes b q c r → Flushes a p c r
+flushed_on a p b q c r one two = record {
+  taken = one.taken ++ two.taken;
+  stood = one.stood ∙ ap (λ l. one.taken ++ l) two.stood ∙ sym (append_assoc one.taken two.taken r.requests);
+  limits = two.limits ∙ one.limits;
+  added = two.added ∙ ap (λ l. l ++ flat_map (λ (x : List Bio). x) two.taken) one.added
+      ∙ append_assoc a.accepted (flat_map (λ (x : List Bio). x) one.taken) (flat_map (λ (x : List Bio). x) two.taken)
+      ∙ ap (λ l. a.accepted ++ l) (sym (flat_map-append (λ (x : List Bio). x) one.taken two.taken));
+  number = two.number ∙ one.number;
+}
+
+-- one request flushed
+pub one_flushed : (a : SubmitterSeat) (p : Plug) (first : List Bio) (b : SubmitterSeat) (q : Plug) → p ≡ record { limits = q.limits; requests = first ∷ q.requests }
+    → b ≡ record { number = a.number; accepted = a.accepted ++ first } → Flushes a p b q
+one_flushed a p first b q stood added = record {
+  taken = first ∷ [];
+  stood = ap (λ (x : Plug). x.requests) stood;
+  limits = sym (ap (λ (x : Plug). x.limits) stood);
+  added = ap (λ (x : SubmitterSeat). x.accepted) added ∙ ap (λ l. a.accepted ++ l) (sym (append-nil first));
+  number = ap (λ (x : SubmitterSeat). x.number) added;
+}
+
+-- an empty list
+pub none_there : {X : Type 0} (xs : List X) → length xs ≤ 0 → xs ≡ []
+none_there [] h = refl
+none_there (x ∷ xs) h = absurd (omega arith)
+
+-- a plug without requests has no bios
+pub none_held : (plug : Plug) → length plug.requests ≤ 0 → length (bios_of plug) ≡ 0
+none_held plug h = ap (λ (l : List (List Bio)). length (flat_map (λ (x : List Bio). x) l)) (none_there plug.requests h)
+
+-- a list that has an element begins with one
+pub some_there : {X : Type 0} (xs : List X) → 0 < length xs → slice_get xs 0 ≡ None → ⊥
+some_there [] h e = absurd (omega arith)
+some_there (x ∷ xs) h e = let n : Some x ≡ None = e in absurd (cc)
+
+-- the first of a list
+pub first_is : {X : Type 0} (xs : List X) (x : X) (y : X) (ys : List X) → slice_get xs 0 ≡ Some x → xs ≡ y ∷ ys → x ≡ y
+first_is xs x y ys at e = let s : Some y ≡ Some x = ap (λ l. slice_get l 0) (sym e) ∙ at in (let t : x ≡ y = cc in t)
+
+-- how many bios the requests have
+pub counted : (p q : Plug) (first : List Bio) → p ≡ record { limits = q.limits; requests = first ∷ q.requests } → length (bios_of p) ≡ length first + length (bios_of q)
+counted p q first stood = ap (λ (x : Plug). length (bios_of x)) stood ∙ length_both first (bios_of q)
+  where
+    length_both : (xs ys : List Bio) → length (xs ++ ys) ≡ length xs + length ys
+    length_both [] ys = omega arith
+    length_both (x ∷ xs) ys = omega (arith, length_both xs ys)
+
+-- the bios up to a place are the submitter's own
+pub own_more : (number : ℕ) (bios : List Bio) (n : ℕ) (x : Bio) → ((k : ℕ) (b : Bio) → k < n → slice_get bios k ≡ Some b → b.id.submitter ≡ number)
+    → slice_get bios n ≡ Some x → x.id.submitter ≡ number → (k : ℕ) (b : Bio) → k < n + 1 → slice_get bios k ≡ Some b → b.id.submitter ≡ number
+own_more number bios n x own stands is k b less at = elim (cases_Bool (ltb k n)) [
+  | inl y ↦ own k b (ltb-true k n y) at
+  | inr m ↦
+      let here : k ≡ n = omega (arith, less, ltb-false k n m) in
+      let both : Some b ≡ Some x = sym at ∙ ap (slice_get bios) here ∙ stands in
+      let one : b ≡ x = cc in
+      ap (λ (c : Bio). c.id.submitter) one ∙ is
+]
+
+pub own_all : (number : ℕ) (bios : List Bio) (n : ℕ) → length bios ≤ n → ((k : ℕ) (b : Bio) → k < n → slice_get bios k ≡ Some b → b.id.submitter ≡ number) → AreOwn number bios
+own_all number bios n all own = λ k d less. own k (get_or bios k d) (omega (arith, all, less)) (slice_get-get_or bios k d less)

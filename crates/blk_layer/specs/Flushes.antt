@@ -1,0 +1,46 @@
+-- What a flush does, and why it ends.
+use Rattle.std.specs.Prelude.{ℕ, ◌≡◌, ◌≢◌, ◌<◌, ◌++◌, List, Some, slice_get}
+use Rattle.std.specs.List.{flat_map}
+use Rattle.blk_bio.specs.declared.bio.BioId.{BioId}
+use Rattle.blk_bio.specs.Bios.{Bio}
+use Rattle.blk_plug.specs.Plugs.{Plug}
+use Rattle.blk_trace.specs.Events.{AreOnce}
+use Rattle.blk_core.specs.Ids.{IsFirstRepeated}
+use Rattle.blk_layer.specs.declared.flushes.FlushWhy.{FlushWhy}
+use Rattle.blk_layer.specs.declared.flushes.FlushWhy.TheVariants.{Foreign, Repeated, SoftFull, Memory}
+use Rattle.blk_layer.specs.Seats.{SubmitterSeat, AreOwn}
+
+-- the requests that were taken stood first in the plug, and the account has just their bios more, in their order
+pub record Flushes (seat : SubmitterSeat) (plug : Plug) (new_seat : SubmitterSeat) (new_plug : Plug) : Type 0 where
+  pub taken : List (List Bio)
+  pub stood : plug.requests ≡ taken ++ new_plug.requests
+  pub limits : new_plug.limits ≡ plug.limits
+  pub added : new_seat.accepted ≡ seat.accepted ++ flat_map (λ request. request) taken
+  pub number : new_seat.number ≡ seat.number
+
+-- of the bios, the first that another submitter has named has this id
+pub record IsFirstForeign (number : ℕ) (bios : List Bio) (id : BioId) : Type 0 where
+  pub place : ℕ
+  pub bio : Bio
+  pub stands : slice_get bios place ≡ Some bio
+  pub named : bio.id ≡ id
+  pub other : id.submitter ≢ number
+  pub first : (k : ℕ) (earlier : Bio) → k < place → slice_get bios k ≡ Some earlier → earlier.id.submitter ≡ number
+
+-- bios that may be accepted: all of the submitter, and no id stands twice
+pub record CanAccept (seat : SubmitterSeat) (bios : List Bio) : Type 0 where
+  pub own : AreOwn seat.number bios
+  pub once : AreOnce (seat.accepted ++ bios)
+
+-- what each reason says of the request; they come in this order. Whether the software queue has room is known under its lock alone
+abbrev pub IsFlushReason : SubmitterSeat → List Bio → FlushWhy → Type 0
+IsFlushReason seat bios (Foreign id) = IsFirstForeign seat.number bios id
+IsFlushReason seat bios (Repeated id) = AreOwn seat.number bios × IsFirstRepeated seat.accepted bios id
+IsFlushReason seat bios SoftFull = CanAccept seat bios
+IsFlushReason seat bios Memory = CanAccept seat bios
+
+-- the first request that is left in the plug is refused for this reason
+pub record IsLeft (seat : SubmitterSeat) (plug : Plug) (why : FlushWhy) : Type 0 where
+  pub first : List Bio
+  pub stands : slice_get plug.requests 0 ≡ Some first
+  pub reason : IsFlushReason seat first why

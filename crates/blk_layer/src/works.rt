@@ -1,0 +1,101 @@
+//! What threads do with a layer: the calls that wait for a lock.
+
+ghost use Rattle.std.specs.Prelude.{◌≡◌, ◌≢◌, ◌<◌, ◌≤◌, ◌*◌, [], OnOk, IfOk, IfErr, length};
+ghost use Rattle.blk_plug.specs.Plugs.{bios_of};
+ghost use Rattle.blk_layer.specs.Flushes.{Flushes, IsLeft};
+
+use crate::flushes::{FlushFault, Flushed};
+use crate::layer::Layer;
+use crate::names::Named;
+use crate::seats::{Submitter, Worker};
+use blk_core::CoreFault;
+use blk_plug::Plug;
+use blk_sched::Scheduler;
+use std::sync::Wait;
+
+/// The most requests that a drain moves from one software queue.
+pub const MAX_MOVES: u64 = 1024;
+
+/// A drain that ended at a request that the core refused.
+#[derive(Clone, Copy, Debug, PartialEq, Eq)]
+pub struct DrainFault {
+    /// How many requests were moved before it.
+    pub moved: u64,
+    /// Why the core refused it; it is first in its software queue again.
+    pub why: CoreFault,
+}
+
+impl<S: Scheduler, L: Named> Layer<S, L> {
+    /// Moves the requests of a plug, from the first on, into the submitter's software queue, and accepts their bios. Ends at
+    /// the first request that is refused, and says how many requests stay in the plug: what was moved stays moved and is
+    /// accepted. The plug's limits are the layer's.
+    ///
+    /// The first request left is refused, by the first of these that applies: as `Foreign` with its first bio, in tile order,
+    /// that another submitter has named; as `Repeated` with its first bio whose id was accepted before or stands earlier in
+    /// it; as `SoftFull` where the software queue has no room for it; and as `Memory` where the account can't grow.
+    pub fn flush<R: Wait>(
+        &self,
+        rt: &R,
+        submitter: &mut Submitter<L, S::A>,
+        plug: &mut Plug<S::A>,
+    ) -> Result<Flushed, FlushFault>
+        requires seat { submitter.old.number < length self.now.map }
+        requires limits { plug.old.limits ≡ L.setup.limits }
+        ensures moved { Flushes submitter.old plug.old submitter.new plug.new }
+        ensures all { OnOk result (plug.new.requests ≡ []) }
+        ensures requests { IfOk result (λ f. f.requests ≡ length plug.old.requests) }
+        ensures bios { IfOk result (λ f. f.bios ≡ length (bios_of plug.old)) }
+        ensures left { IfErr result (λ e. e.left ≡ length plug.new.requests) }
+        ensures fault { IfErr result (λ e. IsLeft submitter.new plug.new e.why) }
+    {
+        let number = usize::from(submitter.number());
+        let mut staged = self.queues[number].lock(rt);
+        staged.flush(submitter, plug)
+    }
+
+    /// Moves requests from the software queues of the worker's hardware queue, by rising number and at most [`MAX_MOVES`] from
+    /// each, into the core, and answers how many. Each is moved under the locks of its software queue and of the core.
+    /// Where the core refuses one, it is first in its queue again, and the drain ends.
+    pub fn drain<R: Wait>(&self, rt: &R, worker: &mut Worker<L, S::A>) -> Result<u64, DrainFault>
+        ensures worker { worker.new ≡ worker.old }
+        ensures there { IfErr result (λ e. e.why ≢ CoreFault.NoQueue) }
+    {
+        let hw = worker.hw();
+        let mut moved = 0;
+        for soft in 0..self.map.soft_count() {
+            if self.map.hw_of(soft) != hw {
+                continue;
+            }
+            match self.drain_one(rt, soft, hw) {
+                Ok(more) => moved += more,
+                Err(fault) => {
+                    return Err(DrainFault {
+                        moved: moved + fault.moved,
+                        why: fault.why,
+                    });
+                }
+            }
+        }
+        Ok(moved)
+    }
+
+    /// The same of one software queue.
+    fn drain_one<R: Wait>(&self, rt: &R, soft: usize, hw: u8) -> Result<u64, DrainFault>
+        requires soft { soft < length self.now.map }
+        requires hw { hw < L.setup.hw }
+        ensures few { IfOk result (λ moved. moved ≤ MAX_MOVES) }
+        ensures few_err { IfErr result (λ e. e.moved ≤ MAX_MOVES) }
+        ensures there { IfErr result (λ e. e.why ≢ CoreFault.NoQueue) }
+    {
+        for moved in 0..MAX_MOVES {
+            let mut staged = self.queues[soft].lock(rt);
+            let mut kept = self.kept.lock(rt);
+            match staged.move_first(&mut *kept, hw) {
+                Ok(true) => {}
+                Ok(false) => return Ok(moved),
+                Err(why) => return Err(DrainFault { moved, why }),
+            }
+        }
+        Ok(MAX_MOVES)
+    }
+}
