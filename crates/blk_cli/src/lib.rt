@@ -40,6 +40,9 @@ pub const COMMAND_LINE: u8 = 2;
 /// The exit status of want of memory, a read fault or a write fault.
 pub const FAILED: u8 = 3;
 
+/// The line where the words are taken and name no job: no other words than these two flags do so.
+const NO_JOB: &[u8] = b"blk: --trace and --met exclude one another\n";
+
 /// How a run ended.
 #[derive(Clone, Copy, Debug, PartialEq, Eq)]
 pub struct Ended {
@@ -122,7 +125,7 @@ pub fn run<R: Read + Drop, W: Write, F: Write>(
         },
         Err(NoJob::Nothing) => Ended {
             status: COMMAND_LINE,
-            told: true,
+            told: faults.write_all(NO_JOB).is_ok(),
         },
     }
 }

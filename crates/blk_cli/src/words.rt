@@ -67,7 +67,7 @@ pub enum NoJob {
     Memory,
     /// The words are no command line of the program, or ask for its help: what clap says of them.
     Line(Error),
-    /// No subcommand is named.
+    /// No subcommand is named, or its flags exclude one another.
     Nothing,
 }
 
