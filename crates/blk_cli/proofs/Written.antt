@@ -22,7 +22,8 @@ use Rattle.blk_text.specs.Met.{MetClaim, met_rows, SpellsMet}
 use Rattle.blk_text.specs.Proof.{ProofClaim, OfLateness, OfMet, SpellsProof}
 use Rattle.blk_text.specs.Script.{Scripted, SpellsScript}
 use Rattle.blk_text.specs.TraceRecords.{trace_rows}
-use Rattle.blk_text.specs.TraceForm.{SpellsTrace}
+use Rattle.blk_text.specs.TraceForm.{SpellsTrace, SpellsTraceIn}
+use Rattle.blk_text.specs.Versions.{latest}
 use Rattle.blk_sched.specs.declared.SchedFault.{SchedFault}
 use Rattle.blk_sched.specs.declared.SchedFault.TheVariants as setting
 use Rattle.blk_deadline.specs.declared.Tunables.{Tunables}
@@ -47,7 +48,7 @@ text_fault wrong None failed f h = tt
 text_fault wrong (Some rows) failed f h = elim h [ inl o ↦ elim o [ inl r ↦ inl r.0 | inr m ↦ inr (inl m) ] | inr w ↦ inr (inr w) ]
 
 sim_wrote : (sched : Sched) (left : Option (List Row)) (s : Scripted) (t : Traced) (old new : Option (List ℕ)) → IfSome left (λ rows. SpellsScript rows s)
-    → RunsUnder sched s t → t.setup ≡ s.setup → SpellsTrace (trace_rows t) t → IsPermutation (entered t.events) (released_bios s.setup.hw s.lines)
+    → RunsUnder sched s t → t.setup ≡ s.setup → SpellsTraceIn latest (trace_rows t) t → IsPermutation (entered t.events) (released_bios s.setup.hw s.lines)
     → round_of t.events ≡ sum_by ticks_of s.lines → Appends old new (rows_text (trace_rows t)) → IfSome left (λ rows. SimWrote sched rows old new)
 sim_wrote sched None s t old new read ran setup spelled bios ticks wrote = tt
 sim_wrote sched (Some rows) s t old new read ran setup spelled bios ticks wrote =
@@ -66,19 +67,19 @@ setting_fault sched (Some rows) s f read unmade = (s, read, unmade)
 -- what comes of a script that was run, by what became of its trace
 pub sim_came : (sched : Sched) (left : Option (List Row)) (s : Scripted) (t : Traced) (old new : Option (List ℕ)) (r : Result (Unit {0}) Failure) → IfSome left (λ rows. SpellsScript rows s)
     → RunsUnder sched s t → t.setup ≡ s.setup → IsPermutation (entered t.events) (released_bios s.setup.hw s.lines) → round_of t.events ≡ sum_by ticks_of s.lines
-    → OnOk r (SpellsTrace (trace_rows t) t) → OnOk r (Appends old new (rows_text (trace_rows t))) → IfErr r IsOfWriter
+    → OnOk r (SpellsTraceIn latest (trace_rows t) t) → OnOk r (Appends old new (rows_text (trace_rows t))) → IfErr r IsOfWriter
     → MatchResult r (λ _. IfSome left (λ rows. SimWrote sched rows old new)) (SimFails sched left)
 sim_came sched left s t old new (Ok u) read ran setup bios ticks spelled wrote failed = sim_wrote sched left s t old new read ran setup spelled bios ticks wrote
 sim_came sched left s t old new (Err f) read ran setup bios ticks spelled wrote failed = rw failed.1 tt
 
 -- what comes of a trace that was read
-migrated : (left : Option (List Row)) (t : Traced) (old new : Option (List ℕ)) → IfSome left (λ rows. SpellsTrace rows t) → SpellsTrace (trace_rows t) t → Appends old new (rows_text (trace_rows t))
+migrated : (left : Option (List Row)) (t : Traced) (old new : Option (List ℕ)) → IfSome left (λ rows. SpellsTrace rows t) → SpellsTraceIn latest (trace_rows t) t → Appends old new (rows_text (trace_rows t))
     → IfSome left (λ rows. MigrateWrote rows old new)
 migrated None t old new read spelled wrote = tt
 migrated (Some rows) t old new read spelled wrote = record { trace = t; read = read; spelled = spelled; wrote = wrote }
 
 pub migrate_wrote : (left : Option (List Row)) (t : Traced) (old new : Option (List ℕ)) (r : Result (Unit {0}) Failure) → IfSome left (λ rows. SpellsTrace rows t)
-    → OnOk r (SpellsTrace (trace_rows t) t) → OnOk r (Appends old new (rows_text (trace_rows t))) → IfErr r IsOfWriter
+    → OnOk r (SpellsTraceIn latest (trace_rows t) t) → OnOk r (Appends old new (rows_text (trace_rows t))) → IfErr r IsOfWriter
     → MatchResult r (λ _. IfSome left (λ rows. MigrateWrote rows old new)) (MigrateFails left)
 migrate_wrote left t old new (Ok u) read spelled wrote failed = migrated left t old new read spelled wrote
 migrate_wrote left t old new (Err f) read spelled wrote failed = rw failed.1 tt

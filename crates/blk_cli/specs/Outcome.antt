@@ -30,7 +30,8 @@ use Rattle.blk_text.specs.Texts.{rows_text}
 use Rattle.blk_text.specs.Commands.{SpellsCommands, CommandsFault}
 use Rattle.blk_text.specs.Script.{Scripted, SpellsScript, ScriptFault}
 use Rattle.blk_text.specs.TraceRecords.{trace_rows}
-use Rattle.blk_text.specs.TraceForm.{SpellsTrace, TraceFault}
+use Rattle.blk_text.specs.TraceForm.{SpellsTrace, SpellsTraceIn, TraceFault}
+use Rattle.blk_text.specs.Versions.{latest}
 use Rattle.blk_text.specs.Certificate.{Claim, claim_rows, SpellsClaim}
 use Rattle.blk_text.specs.Met.{MetClaim, SpellsMet}
 use Rattle.blk_text.specs.Proof.{ProofClaim, OfLateness, OfMet, SpellsProof, ProofFault}
@@ -111,7 +112,7 @@ pub record SimWrote (s : Sched) (rows : List Row) (old new : Option (List ℕ)) 
   pub trace : Traced
   pub read : SpellsScript rows script
   pub is_trace : IsTraceOf s script trace
-  pub spelled : SpellsTrace (trace_rows trace) trace
+  pub spelled : SpellsTraceIn latest (trace_rows trace) trace
   pub wrote : Appends old new (rows_text (trace_rows trace))
 
 -- what `migrate` wrote: in the latest version, the text of the trace that was read in one of the versions. So its commands, their
@@ -119,7 +120,7 @@ pub record SimWrote (s : Sched) (rows : List Row) (old new : Option (List ℕ)) 
 pub record MigrateWrote (rows : List Row) (old new : Option (List ℕ)) : Type 0 where
   pub trace : Traced
   pub read : SpellsTrace rows trace
-  pub spelled : SpellsTrace (trace_rows trace) trace
+  pub spelled : SpellsTraceIn latest (trace_rows trace) trace
   pub wrote : Appends old new (rows_text (trace_rows trace))
 
 -- the schedule is legal, its greatest lateness is the one stated, the window is crowded at it, and it is least

@@ -13,7 +13,8 @@ ghost use Rattle.blk_text.specs.Certificate.{IsClaim, IsLateness, claimed};
 ghost use Rattle.blk_text.specs.Commands.{AreCommands};
 ghost use Rattle.blk_text.specs.Texts.{rows_text};
 ghost use Rattle.blk_text.specs.TraceRecords.{trace_rows};
-ghost use Rattle.blk_text.specs.TraceForm.{SpellsTrace};
+ghost use Rattle.blk_text.specs.TraceForm.{SpellsTraceIn};
+ghost use Rattle.blk_text.specs.Versions.{latest};
 ghost use Rattle.blk_cli.specs.Outcome.{RunsUnder, IsUnrun, IsUnsolved, IsUnproved, SimWrote, SimFails, MigrateWrote, MigrateFails, OracleWrote, OracleFails, CheckWrote, CheckFails, VersionFails, IsProved, IsGood, IsBad, line_on, verdict_of, version_line};
 ghost use Rattle.blk_text.specs.Proof.{proof_claimed, IsProofClaim};
 
@@ -121,7 +122,7 @@ pub fn traced(alloc: Global, sched: Sched, script: &Script) -> Result<Trace, Fai
 /// Writes a trace.
 fn put_trace<W: Write>(alloc: Global, trace: &Trace, writer: &mut W) -> Result<(), Failure>
     ensures wrote { OnOk result (Appends (W.contents writer.old) (W.contents writer.new) (rows_text (trace_rows trace.now))) }
-    ensures spells { OnOk result (SpellsTrace (trace_rows trace.now) trace.now) }
+    ensures spells { OnOk result (SpellsTraceIn latest (trace_rows trace.now) trace.now) }
     ensures failed { IfErr result IsOfWriter }
 {
     match write_trace(alloc, trace, writer) {

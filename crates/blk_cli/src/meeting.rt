@@ -19,11 +19,7 @@ use std::alloc::{AllocError, Global};
 use std::io::{Read, Write};
 
 /// The certificate of a schedule that meets as many commands as any.
-fn certify_met(
-    alloc: Global,
-    depth: u64,
-    commands: Vec<Command>,
-) -> Result<MetCertificate, Failure>
+fn certify_met(alloc: Global, depth: u64, commands: Vec<Command>) -> Result<MetCertificate, Failure>
     requires { AreCommands depth commands.items }
     ensures depth { IfOk result (λ c. c.depth ≡ depth) }
     ensures commands { IfOk result (λ c. c.commands.items ≡ commands.items) }
@@ -105,8 +101,13 @@ fn met_verdict(
     let count = certificate.commands.len();
     let windows = certificate.cover.len();
     let carries = carried_by(capacity, certificate.cover.as_slice());
-    let rest = outside(certificate.commands.as_slice(), certificate.cover.as_slice());
-    format!(in alloc; "ok met {met} of {count} windows {windows} carry {carries} and {rest} outside\n")
+    let rest = outside(
+        certificate.commands.as_slice(),
+        certificate.cover.as_slice(),
+    );
+    format!(in alloc;
+        "ok met {met} of {count} windows {windows} carry {carries} and {rest} outside\n"
+    )
 }
 
 /// The line on a certificate of what is met, which proves it.

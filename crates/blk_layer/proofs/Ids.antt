@@ -4,10 +4,9 @@ use Rattle.std.specs.Prelude.{◌||◌}
 use Rattle.std.proofs.lemmas.List.Folds.{list_any-append}
 use Rattle.blk_bio.specs.Bios.{Bio}
 use Rattle.blk_bio.specs.declared.bio.BioId.{BioId}
-use Rattle.blk_trace.specs.Events.{AreOnce}
+use Rattle.blk_trace.specs.Events.{AreOnce, HasId}
 use Rattle.blk_trace.specs.Inside.Kept.{is_bio, has_bio_id}
 use Rattle.blk_trace.proofs.Newness.{at_has, has_at}
-use Rattle.blk_core.specs.Ids.{HasId}
 use Rattle.blk_layer.specs.Inside.Kept.{IsAccount}
 
 -- whether an id is among the ids of an account

@@ -8,7 +8,7 @@ use Rattle.std.proofs.lemmas.Bool.{cases_Bool, ltb-true, ltb-false}
 use Rattle.std.proofs.lemmas.Option.{slice_get-get_or}
 use lib.Dec.{ltb}
 use Rattle.blk_bio.specs.Bios.{Bio}
-use Rattle.blk_plug.specs.Plugs.{Plug, bios_of}
+use Rattle.blk_plug.specs.Plugs.{Plug, bios_plugged}
 use Rattle.blk_layer.specs.Seats.{SubmitterSeat, AreOwn}
 use Rattle.blk_layer.specs.Flushes.{Flushes}
 
@@ -45,7 +45,7 @@ none_there [] h = refl
 none_there (x ∷ xs) h = absurd (omega arith)
 
 -- a plug without requests has no bios
-pub none_held : (plug : Plug) → length plug.requests ≤ 0 → length (bios_of plug) ≡ 0
+pub none_held : (plug : Plug) → length plug.requests ≤ 0 → length (bios_plugged plug) ≡ 0
 none_held plug h = ap (λ (l : List (List Bio)). length (flat_map (λ (x : List Bio). x) l)) (none_there plug.requests h)
 
 -- a list that has an element begins with one
@@ -58,8 +58,8 @@ pub first_is : {X : Type 0} (xs : List X) (x : X) (y : X) (ys : List X) → slic
 first_is xs x y ys at e = let s : Some y ≡ Some x = ap (λ l. slice_get l 0) (sym e) ∙ at in (let t : x ≡ y = cc in t)
 
 -- how many bios the requests have
-pub counted : (p q : Plug) (first : List Bio) → p ≡ record { limits = q.limits; requests = first ∷ q.requests } → length (bios_of p) ≡ length first + length (bios_of q)
-counted p q first stood = ap (λ (x : Plug). length (bios_of x)) stood ∙ length_both first (bios_of q)
+pub counted : (p q : Plug) (first : List Bio) → p ≡ record { limits = q.limits; requests = first ∷ q.requests } → length (bios_plugged p) ≡ length first + length (bios_plugged q)
+counted p q first stood = ap (λ (x : Plug). length (bios_plugged x)) stood ∙ length_both first (bios_plugged q)
   where
     length_both : (xs ys : List Bio) → length (xs ++ ys) ≡ length xs + length ys
     length_both [] ys = omega arith

@@ -4,8 +4,7 @@ use Rattle.std.proofs.Math.ListN.{take}
 use Rattle.std.specs.List.{slice_get}
 use Rattle.blk_bio.specs.declared.bio.BioId.{BioId}
 use Rattle.blk_bio.specs.Bios.{Bio}
-use Rattle.blk_trace.specs.Events.{AreOnce}
-use Rattle.blk_core.specs.Ids.{HasId}
+use Rattle.blk_trace.specs.Events.{AreOnce, HasId}
 
 get_more : {X : Type 0} (xs : List X) (y : X) (k : ℕ) (x : X) → slice_get (xs ++ y ∷ []) k ≡ Some x → (slice_get xs k ≡ Some x) ⊎ ((k ≡ length xs) × (y ≡ x))
 get_more [] y zero x h = inr (refl, (let e : y ≡ x = cc in e))

@@ -5,7 +5,7 @@ use Rattle.blk_bio.specs.declared.bio.BioId.{BioId}
 use Rattle.blk_bio.specs.Bios.{Bio}
 use Rattle.blk_plug.specs.Plugs.{Plug}
 use Rattle.blk_trace.specs.Events.{AreOnce}
-use Rattle.blk_core.specs.Ids.{IsFirstRepeated}
+use Rattle.blk_trace.specs.Events.{IsFirstRepeatedBio}
 use Rattle.blk_layer.specs.declared.flushes.FlushWhy.{FlushWhy}
 use Rattle.blk_layer.specs.declared.flushes.FlushWhy.TheVariants.{Foreign, Repeated, SoftFull, Memory}
 use Rattle.blk_layer.specs.Seats.{SubmitterSeat, AreOwn}
@@ -35,7 +35,7 @@ pub record CanAccept (seat : SubmitterSeat) (bios : List Bio) : Type 0 where
 -- what each reason says of the request; they come in this order. Whether the software queue has room is known under its lock alone
 abbrev pub IsFlushReason : SubmitterSeat → List Bio → FlushWhy → Type 0
 IsFlushReason seat bios (Foreign id) = IsFirstForeign seat.number bios id
-IsFlushReason seat bios (Repeated id) = AreOwn seat.number bios × IsFirstRepeated seat.accepted bios id
+IsFlushReason seat bios (Repeated id) = AreOwn seat.number bios × IsFirstRepeatedBio seat.accepted bios id
 IsFlushReason seat bios SoftFull = CanAccept seat bios
 IsFlushReason seat bios Memory = CanAccept seat bios
 

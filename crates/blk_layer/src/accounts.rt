@@ -3,9 +3,8 @@
 ghost use Rattle.std.specs.Prelude.{◌≡◌, ◌≤◌, ◌+◌, ◌++◌, ◌||◌, ◌↔◌, [], IsTrue, IfOk, OnOk, OnErr, IfSome, IfNone, length};
 ghost use Rattle.std.specs.HashSet as hash_set;
 ghost use Rattle.blk_bio.specs.declared.bio.BioId.{BioId as Name};
-ghost use Rattle.blk_trace.specs.Events.{AreOnce};
+ghost use Rattle.blk_trace.specs.Events.{AreOnce, HasId, IsFirstRepeatedBio};
 ghost use Rattle.blk_trace.specs.Inside.Kept.{is_bio, has_bio_id};
-ghost use Rattle.blk_core.specs.Ids.{HasId, IsFirstRepeated};
 
 use blk_bio::{Bio, BioId};
 use std::alloc::{AllocError, Allocator, Global};
@@ -68,7 +67,7 @@ impl<A: Allocator + Clone> Account<A> {
 
     /// The id of the first of the bios that is in the account or earlier among the bios.
     pub fn first_repeated(&self, bios: &[Bio]) -> Option<BioId>
-        ensures some { IfSome result (IsFirstRepeated self.now bios.now) }
+        ensures some { IfSome result (IsFirstRepeatedBio self.now bios.now) }
         ensures none { IfNone result (AreOnce (self.now ++ bios.now)) }
     {
         let _ = self.bios().len();

@@ -2,7 +2,7 @@
 
 ghost use Rattle.std.specs.Prelude.{◌≡◌, ◌≢◌, ◌<◌, ◌≤◌, ◌+◌, ◌++◌, ◌∷◌, [], ◌⊎◌, ◌↔◌, IsTrue, IsErr, IsOk, OnOk, OnErr, IfOk, IfErr, IfSome, IfNone, List, Some, length, slice_get};
 ghost use Rattle.blk_bio.specs.Bios.{Bio as Transfer};
-ghost use Rattle.blk_plug.specs.Plugs.{bios_of};
+ghost use Rattle.blk_plug.specs.Plugs.{bios_plugged};
 ghost use Rattle.blk_soft.specs.Queues.{most_bios};
 ghost use Rattle.blk_layer.specs.Seats.{AreOwn};
 ghost use Rattle.blk_layer.specs.Flushes.{Flushes, IsFirstForeign, IsLeft};
@@ -62,7 +62,7 @@ pub(crate) fn flush<L: Named, A: Allocator + Clone>(
     ensures moved { Flushes submitter.old plug.old submitter.new plug.new }
     ensures all { OnOk result (plug.new.requests ≡ []) }
     ensures requests { IfOk result (λ f. f.requests ≡ length plug.old.requests) }
-    ensures bios { IfOk result (λ f. f.bios ≡ length (bios_of plug.old)) }
+    ensures bios { IfOk result (λ f. f.bios ≡ length (bios_plugged plug.old)) }
     ensures left { IfErr result (λ e. e.left ≡ length plug.new.requests) }
     ensures fault { IfErr result (λ e. IsLeft submitter.new plug.new e.why) }
     ensures limits { queue.new.limits ≡ queue.old.limits }
@@ -92,7 +92,7 @@ fn flush_first<L: Named, A: Allocator + Clone>(
     requires some { 0 < length plug.old.requests }
     ensures moved { Flushes submitter.old plug.old submitter.new plug.new }
     ensures fewer { OnOk result (length plug.new.requests < length plug.old.requests) }
-    ensures counted { queue.new.bios_in + length (bios_of plug.new) ≡ queue.old.bios_in + length (bios_of plug.old) }
+    ensures counted { queue.new.bios_in + length (bios_plugged plug.new) ≡ queue.old.bios_in + length (bios_plugged plug.old) }
     ensures limits { queue.new.limits ≡ queue.old.limits }
     ensures fault { IfErr result (IsLeft submitter.new plug.new) }
     ensures same { OnErr result ((submitter.new ≡ submitter.old) × (plug.new ≡ plug.old) × (queue.new ≡ queue.old)) }

@@ -1,7 +1,7 @@
 //! What lies under the lock of a software queue.
 
 ghost use Rattle.std.specs.Prelude.{◌≡◌, ◌≢◌, ◌≤◌, ◌<◌, [], IfOk, IfErr, OnOk, length, vec_len};
-ghost use Rattle.blk_plug.specs.Plugs.{bios_of};
+ghost use Rattle.blk_plug.specs.Plugs.{bios_plugged};
 ghost use Rattle.blk_layer.specs.Flushes.{Flushes, IsLeft};
 ghost use Rattle.blk_layer.specs.Moves.{IsMoveAnswer};
 ghost use Rattle.blk_soft.specs.Queues.{greatest_depth};
@@ -52,7 +52,7 @@ impl<L: Named, A: Allocator + Clone> Staged<L, A> {
         ensures moved { Flushes submitter.old plug.old submitter.new plug.new }
         ensures all { OnOk result (plug.new.requests ≡ []) }
         ensures requests { IfOk result (λ f. f.requests ≡ length plug.old.requests) }
-        ensures bios { IfOk result (λ f. f.bios ≡ length (bios_of plug.old)) }
+        ensures bios { IfOk result (λ f. f.bios ≡ length (bios_plugged plug.old)) }
         ensures left { IfErr result (λ e. e.left ≡ length plug.new.requests) }
         ensures fault { IfErr result (λ e. IsLeft submitter.new plug.new e.why) }
     {

@@ -1,7 +1,7 @@
 //! What threads do with a layer: the calls that wait for a lock.
 
 ghost use Rattle.std.specs.Prelude.{◌≡◌, ◌≢◌, ◌<◌, ◌≤◌, ◌*◌, [], OnOk, IfOk, IfErr, length};
-ghost use Rattle.blk_plug.specs.Plugs.{bios_of};
+ghost use Rattle.blk_plug.specs.Plugs.{bios_plugged};
 ghost use Rattle.blk_layer.specs.Flushes.{Flushes, IsLeft};
 
 use crate::flushes::{FlushFault, Flushed};
@@ -44,7 +44,7 @@ impl<S: Scheduler, L: Named> Layer<S, L> {
         ensures moved { Flushes submitter.old plug.old submitter.new plug.new }
         ensures all { OnOk result (plug.new.requests ≡ []) }
         ensures requests { IfOk result (λ f. f.requests ≡ length plug.old.requests) }
-        ensures bios { IfOk result (λ f. f.bios ≡ length (bios_of plug.old)) }
+        ensures bios { IfOk result (λ f. f.bios ≡ length (bios_plugged plug.old)) }
         ensures left { IfErr result (λ e. e.left ≡ length plug.new.requests) }
         ensures fault { IfErr result (λ e. IsLeft submitter.new plug.new e.why) }
     {

@@ -1,5 +1,5 @@
 use Rattle.std.proofs.Common.{◌≡◌, ◌+◌, length}
-use Rattle.blk_plug.specs.Plugs.{bios_of}
+use Rattle.blk_plug.specs.Plugs.{bios_plugged}
 use Rattle.blk_layer.specs.Flushes.{Flushes}
 use Rattle.blk_layer.proofs.flushes.flush.Given as goal
 
@@ -9,6 +9,6 @@ decreases-loop-queue g l = length l.plug.requests
 abbrev pub invariant-loop-queue : goal.invariant-loop-queue
 invariant-loop-queue g l = record {
   moved : Flushes l.initial.submitter l.initial.plug l.submitter l.plug;
-  counted : l.queue.bios_in + length (bios_of l.plug) ≡ l.initial.queue.bios_in + length (bios_of l.initial.plug);
+  counted : l.queue.bios_in + length (bios_plugged l.plug) ≡ l.initial.queue.bios_in + length (bios_plugged l.initial.plug);
   limits : l.queue.limits ≡ l.initial.queue.limits;
 }

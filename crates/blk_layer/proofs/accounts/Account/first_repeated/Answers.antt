@@ -3,7 +3,7 @@ use Rattle.std.proofs.Math.ListN.{take}
 use Rattle.std.specs.List.{slice_get}
 use Rattle.std.proofs.lemmas.Option.{slice_get_read}
 use Rattle.blk_trace.specs.Events.{AreOnce}
-use Rattle.blk_core.specs.Ids.{HasId}
+use Rattle.blk_trace.specs.Events.{HasId}
 use Rattle.blk_layer.proofs.Repeats.{has_left, has_right, has_neither, one_taken, take_all}
 use Rattle.blk_layer.proofs.accounts.Account.first_repeated.Goals as goal
 use Rattle.blk_layer.proofs.accounts.Account.first_repeated.Goals.{then-has-via-then-has, then-has-via-else-has+then-stands_in}

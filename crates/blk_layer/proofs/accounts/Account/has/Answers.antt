@@ -1,6 +1,6 @@
 use Rattle.std.proofs.Common.{List, ◌↔◌, IsTrue, subst, ◌∙◌}
 use Rattle.blk_bio.specs.Bios.{Bio}
-use Rattle.blk_core.specs.Ids.{HasId}
+use Rattle.blk_trace.specs.Events.{HasId}
 use Rattle.blk_layer.proofs.Ids.{has_id}
 use Rattle.blk_layer.proofs.accounts.Account.has.Goals as goal
 
