@@ -5,3 +5,5 @@ pub mod Windows
 pub mod Lateness
 pub mod Gathering
 pub mod Requests
+pub mod Halving
+pub mod Waiting

@@ -1,3 +1,5 @@
 -- What proofs alone need.
 pub mod Ranges
 pub mod Placed
+pub mod Below
+pub mod Waited

@@ -3,6 +3,8 @@ pub mod Spread
 pub mod SpreadText
 pub mod Misses
 pub mod MissesText
+pub mod Late
+pub mod LateText
 pub mod Shortfall
 pub mod Comparison
 pub mod Lines

@@ -12,8 +12,11 @@ ghost use Rattle.edd_oracle.specs.Answer.{IsBest};
 ghost use Rattle.blk_trace.specs.Laws.{AreBounded};
 ghost use Rattle.blk_report.specs.Shortfall.{IsReport, HasFigures};
 
+mod below;
 mod comparison;
+mod delays;
 mod figures;
+mod late_text;
 mod lines;
 mod misses_text;
 mod missing;
@@ -23,7 +26,9 @@ mod spreading;
 mod table;
 
 pub use crate::comparison::compare;
+pub use crate::delays::{LateCommand, late};
 pub use crate::figures::Report;
+pub use crate::late_text::write_late;
 pub use crate::lines::write;
 pub use crate::misses_text::write_misses;
 pub use crate::missing::{Crowd, Missed, misses};

@@ -1,0 +1,34 @@
+-- Commands that were issued after they were due, and what the rounds that they waited went to.
+use Rattle.std.specs.Prelude.{ℕ, ◌≡◌, ◌+◌, ◌-◌, ◌&&◌, Bool, List, All, map, filter, count_by, nat_le, nat_lt}
+use Rattle.edd_check.specs.declared.steps.Step.{Step}
+use Rattle.edd_check.specs.Capacity.{carried}
+use Rattle.blk_report.specs.declared.serving.Service.{Service}
+use Rattle.blk_report.specs.declared.delays.LateCommand.{LateCommand}
+
+-- it was issued after it was due
+abbrev pub is_late : Service → Bool
+is_late s = nat_lt s.due s.issue
+
+-- t was issued in one of the rounds from the release of s up to its issue, that one not among them
+abbrev pub goes_before : Service → Service → Bool
+goes_before s t = nat_le s.release t.issue && nat_lt t.issue s.issue
+
+-- of these how many were due no later than s, and how many later
+unfoldable pub sooner_of : List Service → Service → ℕ
+sooner_of services s = count_by (λ t. goes_before s t && nat_le t.due s.due) services
+
+unfoldable pub later_of : List Service → Service → ℕ
+later_of services s = count_by (λ t. goes_before s t && nat_lt s.due t.due) services
+
+-- by how many rounds a command was late, and what the places of the rounds that it waited went to: together they are what these
+-- rounds carry
+pub record IsLateCommand (services : List Service) (steps : List Step) (l : LateCommand) : Type 0 where
+  pub lateness : l.service.due + l.lateness ≡ l.service.issue
+  pub sooner : l.sooner ≡ sooner_of services l.service
+  pub later : l.later ≡ later_of services l.service
+  pub adds_up : l.sooner + l.later + l.idle ≡ carried steps l.service.release (l.service.issue - l.service.release)
+
+-- all that are late, in their order
+pub record AreLate (services : List Service) (steps : List Step) (late : List LateCommand) : Type 0 where
+  pub commands : map (λ l. l.service) late ≡ filter is_late services
+  pub each : All (IsLateCommand services steps) late

@@ -1,0 +1,209 @@
+//! The commands of a trace that were late, and what the rounds that they waited went to.
+
+ghost use Rattle.std.specs.Prelude.{ℕ, ◌≡◌, ◌≤◌, ◌<◌, ◌-◌, IfOk, All, filter, length, map, slice_index_or};
+ghost use Rattle.edd_check.specs.Limits.{round_limit};
+ghost use Rattle.blk_trace.specs.Depths.{capacity_of};
+ghost use Rattle.blk_trace.specs.declared.trace.TheConstants.{MAX_EVENTS};
+ghost use Rattle.blk_report.specs.declared.below.Ask.{Ask as Asked};
+ghost use Rattle.blk_report.specs.declared.serving.Service.{Service as Served};
+ghost use Rattle.blk_report.specs.declared.delays.LateCommand.{LateCommand as Row};
+ghost use Rattle.blk_report.specs.Services.{services_of, AreTimed, AreRising};
+ghost use Rattle.blk_report.specs.Late.{is_late, AreLate};
+ghost use Rattle.blk_report.specs.Inside.Waited.{IsFrom, AsksFor, FitsIn, AreCarried, CanWait, late_command};
+
+use crate::below::{Ask, count_below};
+use crate::serving::{Service, services};
+use blk_trace::Trace;
+use edd_check::Capacity;
+use std::alloc::{AllocError, Allocator};
+
+/// A command that was issued after it was due, and what the places of the rounds from its release up to but not including that of
+/// its Issue went to. Where `later` and `idle` are 0, earliest due first would have let it wait too.
+#[derive(Clone, Copy, Debug, PartialEq, Eq)]
+pub struct LateCommand {
+    /// The command, and its request as it was issued.
+    pub service: Service,
+    /// How many rounds after its due round it was issued.
+    pub lateness: u64,
+    /// How many of these places went to commands due no later than it.
+    pub sooner: u64,
+    /// How many went to commands due later.
+    pub later: u64,
+    /// How many went to none.
+    pub idle: u64,
+}
+
+/// The place of the first command that was issued in a round or later. It is found by halves.
+fn place_from(services: &[Service], round: u64) -> usize
+    requires { AreRising services.now }
+    ensures { IsFrom services.now round result }
+{
+    services.partition_point(|service| service.issue < round)
+}
+
+/// The commands that are late.
+fn late_ones<A: Allocator>(alloc: A, services: &[Service]) -> Result<Vec<Service, A>, AllocError>
+    ensures { IfOk result (λ v. v.items ≡ filter is_late services.now) }
+{
+    services
+        .iter()
+        .copied()
+        .filter(|service| service.due < service.issue)
+        .collect(alloc)
+}
+
+/// Their due rounds.
+fn dues<A: Allocator>(alloc: A, services: &[Service]) -> Result<Vec<u64, A>, AllocError>
+    ensures { IfOk result (λ v. v.items ≡ map (λ s. s.due) services.now) }
+{
+    services.iter().map(|service| service.due).collect(alloc)
+}
+
+/// A round that is later than each of these.
+fn after_all(rounds: &[u64]) -> u64
+    requires { All (λ x. x < round_limit) rounds.now }
+    ensures { All (λ x. x < result) rounds.now }
+{
+    match rounds.iter().copied().max() {
+        Some(last) => last + 1,
+        None => 0,
+    }
+}
+
+/// For each round up to a last one what the rounds before it carry.
+fn sums_upto<A: Allocator, B: Allocator>(
+    alloc: A,
+    capacity: &Capacity<B>,
+    last: u64,
+) -> Result<Vec<u64, A>, AllocError>
+    requires { last ≤ MAX_EVENTS }
+    ensures { IfOk result (λ v. AreCarried capacity.now last v.items) }
+{
+    let mut sums = Vec::new(alloc);
+    let mut sum = 0;
+    for round in 0..last {
+        sums.push(sum)?;
+        sum += capacity.at(round);
+    }
+    sums.push(sum)?;
+    Ok(sums)
+}
+
+/// For each late command how many of those that were issued in the rounds that it waited were due no later, still to be counted.
+fn asks<A: Allocator>(
+    alloc: A,
+    services: &[Service],
+    late: &[Service],
+) -> Result<Vec<Ask, A>, AllocError>
+    requires rising { AreRising services.now }
+    requires in_time { All (λ s. s.due < round_limit) late.now }
+    ensures each { IfOk result (λ v. length v.items ≡ length late.now) }
+    ensures asks { IfOk result (λ v. (k : ℕ) → (d : Served) → (e : Asked) → k < length late.now → AsksFor services.now (slice_index_or late.now k d) (slice_index_or v.items k e)) }
+{
+    let mut asks = Vec::new(alloc);
+    for service in late {
+        asks.push(Ask {
+            start: place_from(services, service.release),
+            end: place_from(services, service.issue),
+            bound: service.due + 1,
+            count: 0,
+        })?;
+    }
+    Ok(asks)
+}
+
+/// The last round in which one was issued, or 0.
+fn last_issue(services: &[Service]) -> u64
+    requires timed { AreTimed services.now }
+    requires rising { AreRising services.now }
+    ensures within { result ≤ MAX_EVENTS }
+    ensures last { All (λ s. s.issue ≤ result) services.now }
+{
+    let count = services.len();
+    if count == 0 {
+        0
+    } else {
+        services[count - 1].issue
+    }
+}
+
+/// A late command with what its places went to.
+fn late_command(service: Service, places: u64, sooner: u64, sums: &[u64]) -> LateCommand
+    requires { CanWait sums.now service places sooner }
+    ensures { result ≡ late_command sums.now service places sooner }
+{
+    let carried = sums[service.issue as usize] - sums[service.release as usize];
+    LateCommand {
+        service,
+        lateness: service.issue - service.due,
+        sooner,
+        later: places - sooner,
+        idle: carried - places,
+    }
+}
+
+/// The late commands with what their places went to.
+fn late_commands<A: Allocator>(
+    alloc: A,
+    late: &[Service],
+    asks: &[Ask],
+    counted: &[Ask],
+    sums: &[u64],
+) -> Result<Vec<LateCommand, A>, AllocError>
+    requires asked { length asks.now ≡ length late.now }
+    requires counted { length counted.now ≡ length late.now }
+    requires forward { All (λ a. a.start ≤ a.end) asks.now }
+    requires each { (k : ℕ) → (d : Served) → (e f : Asked) → k < length late.now → CanWait sums.now (slice_index_or late.now k d) ((slice_index_or asks.now k e).end - (slice_index_or asks.now k e).start) (slice_index_or counted.now k f).count }
+    ensures each { IfOk result (λ v. length v.items ≡ length late.now) }
+    ensures rows { IfOk result (λ v. (k : ℕ) → (d : Served) → (e f : Asked) → (r : Row) → k < length late.now → slice_index_or v.items k r ≡ late_command sums.now (slice_index_or late.now k d) ((slice_index_or asks.now k e).end - (slice_index_or asks.now k e).start) (slice_index_or counted.now k f).count) }
+{
+    let mut rows = Vec::new(alloc);
+    for (place, service) in late.iter().enumerate() {
+        let places = (asks[place].end - asks[place].start) as u64;
+        rows.push(late_command(*service, places, counted[place].count as u64, sums))?;
+    }
+    Ok(rows)
+}
+
+/// The late ones of commands, which no round has more of than it carries.
+fn delays<A: Allocator + Clone, B: Allocator>(
+    alloc: A,
+    services: &[Service],
+    capacity: &Capacity<B>,
+) -> Result<Vec<LateCommand, A>, AllocError>
+    requires timed { AreTimed services.now }
+    requires rising { AreRising services.now }
+    requires fits { FitsIn services.now capacity.now }
+    ensures { IfOk result (λ v. AreLate services.now capacity.now v.items) }
+{
+    let last = last_issue(services);
+    let sums = sums_upto(alloc.clone()?, capacity, last)?;
+    let late = late_ones(alloc.clone()?, services)?;
+    let asks = asks(alloc.clone()?, services, late.as_slice())?;
+    let dues = dues(alloc.clone()?, services)?;
+    let limit = after_all(dues.as_slice());
+    let counted = count_below(dues, asks.as_slice(), limit)?;
+    let rows = late_commands(
+        alloc,
+        late.as_slice(),
+        asks.as_slice(),
+        counted.as_slice(),
+        sums.as_slice(),
+    )?;
+    Ok(rows)
+}
+
+/// The commands of a trace that were issued after they were due, in the order of these Issues. Of the places of the rounds from its
+/// release up to but not including that of its Issue, each says how many went to commands due no later than it, how many to commands
+/// due later, and how many to none: together they are what these rounds carry. Only Issues count that were not handed back. Fails
+/// for want of memory alone. The time grows as n log n in the number of events, times the binary digits of the last due round at
+/// most.
+pub fn late<A: Allocator + Clone>(trace: &Trace<A>) -> Result<Vec<LateCommand, A>, AllocError>
+    ensures { IfOk result (λ v. AreLate (services_of trace.now.setup trace.now.events) (capacity_of trace.now.setup trace.now.events) v.items) }
+{
+    let services = services(trace)?;
+    let rounds = trace.rounds()?;
+    let capacity = trace.capacity()?;
+    let found = delays(rounds.allocator().clone()?, services.as_slice(), &capacity)?;
+    Ok(found)
+}

@@ -1,0 +1,114 @@
+//! The late commands as text.
+
+ghost use Rattle.std.specs.Prelude.{◌≡◌, ◌++◌, IfOk, IfErr, OnOk, decimal};
+ghost use Rattle.std.specs.List.{flat_map};
+ghost use Rattle.std.specs.Io.KnownBytes.{Appends};
+ghost use Rattle.blk_text.specs.BioRecord.{direction_text};
+ghost use Rattle.blk_report.specs.SpreadText.{next_field};
+ghost use Rattle.blk_report.specs.LateText.{request_fields, round_fields, wait_fields, late_line, late_lines};
+
+use crate::{LateCommand, Service};
+use blk_bio::Dir;
+use blk_text::{Draft, WriteFault};
+use std::alloc::{AllocError, Global};
+use std::io::Write;
+
+/// Adds one more field, of a number.
+fn push_number(draft: &mut Draft, number: u64) -> Result<(), AllocError>
+    ensures { OnOk result (draft.new ≡ draft.old ++ next_field (decimal number)) }
+{
+    draft.text(b",")?;
+    draft.number(number)
+}
+
+/// Adds one more field, of a direction.
+fn push_dir(draft: &mut Draft, dir: Dir) -> Result<(), AllocError>
+    ensures { OnOk result (draft.new ≡ draft.old ++ next_field (direction_text dir)) }
+{
+    match dir {
+        Dir::Read => draft.text(b",R"),
+        Dir::Write => draft.text(b",W"),
+    }
+}
+
+/// Adds the fields of a request.
+fn push_request(draft: &mut Draft, service: &Service) -> Result<(), AllocError>
+    ensures { OnOk result (draft.new ≡ draft.old ++ request_fields service.now) }
+{
+    draft.number(service.id)?;
+    push_dir(draft, service.dir)?;
+    push_number(draft, service.first)?;
+    push_number(draft, service.sectors)
+}
+
+/// Adds the fields of its rounds.
+fn push_rounds(draft: &mut Draft, service: &Service) -> Result<(), AllocError>
+    ensures { OnOk result (draft.new ≡ draft.old ++ round_fields service.now) }
+{
+    push_number(draft, service.release)?;
+    push_number(draft, service.due)?;
+    push_number(draft, service.issue)
+}
+
+/// Adds the fields of what it waited for.
+fn push_wait(draft: &mut Draft, late: &LateCommand) -> Result<(), AllocError>
+    ensures { OnOk result (draft.new ≡ draft.old ++ wait_fields late.now) }
+{
+    push_number(draft, late.lateness)?;
+    push_number(draft, late.sooner)?;
+    push_number(draft, late.later)?;
+    push_number(draft, late.idle)
+}
+
+/// Adds the line of a command.
+fn push_late_command(draft: &mut Draft, late: &LateCommand) -> Result<(), AllocError>
+    ensures { OnOk result (draft.new ≡ draft.old ++ late_line late.now) }
+{
+    push_request(draft, &late.service)?;
+    push_rounds(draft, &late.service)?;
+    push_wait(draft, late)?;
+    draft.text(b"\n")
+}
+
+/// Adds the lines of commands.
+fn push_late_commands(draft: &mut Draft, late: &[LateCommand]) -> Result<(), AllocError>
+    ensures { OnOk result (draft.new ≡ draft.old ++ flat_map (λ l. late_line l) late.now) }
+{
+    for command in late {
+        push_late_command(draft, command)?;
+    }
+    Ok(())
+}
+
+/// The head line and the lines of the commands.
+fn drafted(alloc: Global, late: &[LateCommand]) -> Result<Vec<u8>, AllocError>
+    ensures { IfOk result (λ v. v.items ≡ late_lines late.now) }
+{
+    let mut draft = Draft::new(alloc);
+    draft.text(b"id,dir,first,sectors,release,due,issue,lateness,sooner,later,idle\n")?;
+    push_late_commands(&mut draft, late)?;
+    draft.finish()
+}
+
+/// Writes late commands as records of comma-separated fields, at once where all of it could be made: the head line
+/// `id,dir,first,sectors,release,due,issue,lateness,sooner,later,idle`, and a line for each, in their order. The direction is `R`
+/// or `W`; sectors and rounds are as in the trace.
+///
+/// [`WriteFault::Write`]: the writer answered a fault; what it took before is out, and nothing says how much that is.
+/// [`WriteFault::Memory`]: nothing was handed to the writer.
+pub fn write_late<W: Write>(
+    alloc: Global,
+    late: &[LateCommand],
+    writer: &mut W,
+) -> Result<(), WriteFault>
+    ensures ok { OnOk result (Appends (W.contents writer.old) (W.contents writer.new) (late_lines late.now)) }
+    ensures memory { IfErr result (λ f. f ≡ WriteFault.Memory → writer.new ≡ writer.old) }
+{
+    let Ok(text) = drafted(alloc, late) else {
+        return Err(WriteFault::Memory);
+    };
+    match writer.write_all(text.as_slice()) {
+        Ok(()) => Ok(()),
+        Err(_) => Err(WriteFault::Write),
+    }
+}
