@@ -93,6 +93,10 @@ pub commands_line : (name : Text) (p q r s : ℕ × ℕ) → IsReadAs (name ∷ 
 unfolding clap_on_literals
 commands_line name p q r s = (refl, refl)
 
+pub late_line : (name : Text) (p q r s : ℕ × ℕ) → IsReadAs (name ∷ codes "late" ∷ []) job.Late (at_places p q r s)
+unfolding clap_on_literals
+late_line name p q r s = (refl, refl)
+
 pub misses_line : (name : Text) (p q r s : ℕ × ℕ) → IsReadAs (name ∷ codes "misses" ∷ []) job.Misses (at_places p q r s)
 unfolding clap_on_literals
 misses_line name p q r s = (refl, refl)

@@ -64,9 +64,10 @@ abbrev pub plain_job : Text → Option Job
 plain_job name =
     if bytes_eq name (codes "migrate") then Some job.Migrate
     else (if bytes_eq name (codes "commands") then Some job.Commands
+    else (if bytes_eq name (codes "late") then Some job.Late
     else (if bytes_eq name (codes "misses") then Some job.Misses
     else (if bytes_eq name (codes "spread") then Some job.Spread
-    else (if bytes_eq name (codes "check") then Some job.Check else None))))
+    else (if bytes_eq name (codes "check") then Some job.Check else None)))))
 
 -- the job of `oracle` by whether its flags are given, which may not stand together
 abbrev pub oracle_job : Bool → Bool → Option Job

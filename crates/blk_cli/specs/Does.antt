@@ -6,7 +6,7 @@ use Rattle.blk_cli.specs.declared.words.Job.{Job}
 use Rattle.blk_cli.specs.declared.words.Job.TheVariants as job
 use Rattle.blk_cli.specs.declared.failure.Failure.{Failure}
 use Rattle.blk_cli.specs.Outcome.{SimWrote, SimFails, MigrateWrote, MigrateFails, OracleWrote, OracleFails, CheckWrote, CheckFails, VersionFails, version_line}
-use Rattle.blk_cli.specs.OfTraces.{TraceWrote, TraceFails, IsReportText, IsCommandsText, IsMissesText, IsSpreadText, IsUnfixed}
+use Rattle.blk_cli.specs.OfTraces.{TraceWrote, TraceFails, IsReportText, IsCommandsText, IsLateText, IsMissesText, IsSpreadText, IsUnfixed}
 use Rattle.blk_cli.specs.Comparing.{CompareWrote, CompareFails}
 use Rattle.blk_cli.specs.Meeting.{MetWrote}
 
@@ -17,6 +17,7 @@ Does (job.Sim s) input old new r = MatchResult r (λ _. IfSome input (λ rows. S
 Does (job.Compare t g) input old new r = MatchResult r (λ _. IfSome input (λ rows. CompareWrote t g rows old new)) (CompareFails t g input)
 Does job.Migrate input old new r = MatchResult r (λ _. IfSome input (λ rows. MigrateWrote rows old new)) (MigrateFails input)
 Does job.Commands input old new r = MatchResult r (λ _. IfSome input (λ rows. TraceWrote IsCommandsText rows old new)) (TraceFails (IsUnfixed input) input)
+Does job.Late input old new r = MatchResult r (λ _. IfSome input (λ rows. TraceWrote IsLateText rows old new)) (TraceFails ⊥ input)
 Does job.Misses input old new r = MatchResult r (λ _. IfSome input (λ rows. TraceWrote IsMissesText rows old new)) (TraceFails ⊥ input)
 Does job.Spread input old new r = MatchResult r (λ _. IfSome input (λ rows. TraceWrote IsSpreadText rows old new)) (TraceFails ⊥ input)
 Does job.Oracle input old new r = MatchResult r (λ _. IfSome input (λ rows. OracleWrote rows old new)) (OracleFails input)

@@ -62,7 +62,7 @@ abbrev pub over_scripts : Names → App
 over_scripts names = with_subcommand (with_subcommand (topmost (new_app (codes "blk"))) (sim_app names).top) compare_app.top
 
 abbrev pub over_traces : App → App
-over_traces a = with_plain (with_plain (with_plain (with_plain a (codes "migrate")) (codes "commands")) (codes "misses")) (codes "spread")
+over_traces a = with_plain (with_plain (with_plain (with_plain (with_plain a (codes "migrate")) (codes "commands")) (codes "late")) (codes "misses")) (codes "spread")
 
 abbrev pub over_lists : App → App
 over_lists a = with_plain (with_subcommand a oracle_app.top) (codes "check")

@@ -13,6 +13,9 @@ use Rattle.blk_report.specs.declared.figures.Report.{Report}
 use Rattle.blk_report.specs.declared.missing.Crowd.{Crowd}
 use Rattle.blk_report.specs.declared.spreading.Spreads.{Spreads}
 use Rattle.blk_report.specs.Lines.{report_text}
+use Rattle.blk_report.specs.declared.delays.LateCommand.{LateCommand}
+use Rattle.blk_report.specs.Late.{AreLate}
+use Rattle.blk_report.specs.LateText.{late_lines}
 use Rattle.blk_report.specs.Misses.{AreMisses}
 use Rattle.blk_report.specs.MissesText.{misses_text}
 use Rattle.blk_report.specs.Services.{services_of}
@@ -40,6 +43,12 @@ pub record IsSpreadText (trace : Traced) (text : List ℕ) : Type 0 where
   pub spreads : Spreads
   pub are_spreads : AreSpreads (services_of trace.setup trace.events) spreads
   pub is_text : text ≡ spread_text spreads
+
+-- the lines of its commands that were late
+pub record IsLateText (trace : Traced) (text : List ℕ) : Type 0 where
+  pub late : List LateCommand
+  pub are_late : AreLate (services_of trace.setup trace.events) (capacity_of trace.setup trace.events) late
+  pub is_text : text ≡ late_lines late
 
 -- the lines on how many of the trace's commands were late and had to be, and on the windows that prove it
 pub record IsMissesText (trace : Traced) (text : List ℕ) : Type 0 where

@@ -23,6 +23,7 @@ pub fn plain_lines()
         ↔ (j ≡ Job.Compare (record { fifo_batch = 16; writes_starved = 2; front_merges = true }) (record { read = 2; write = 10 })) }
     ensures migrate { (name : Text) → (j : AJob) → Asks (name ∷ codes "migrate" ∷ []) j ↔ (j ≡ Job.Migrate) }
     ensures commands { (name : Text) → (j : AJob) → Asks (name ∷ codes "commands" ∷ []) j ↔ (j ≡ Job.Commands) }
+    ensures late { (name : Text) → (j : AJob) → Asks (name ∷ codes "late" ∷ []) j ↔ (j ≡ Job.Late) }
     ensures misses { (name : Text) → (j : AJob) → Asks (name ∷ codes "misses" ∷ []) j ↔ (j ≡ Job.Misses) }
     ensures spread { (name : Text) → (j : AJob) → Asks (name ∷ codes "spread" ∷ []) j ↔ (j ≡ Job.Spread) }
     ensures oracle { (name : Text) → (j : AJob) → Asks (name ∷ codes "oracle" ∷ []) j ↔ (j ≡ Job.Oracle) }

@@ -21,7 +21,7 @@ use crate::jobs::{
     check_certificate, migrate_trace, simulate_script, solve_commands, write_version,
 };
 use crate::meeting::meet_commands;
-use crate::traces::{count_misses, list_commands, report_trace, spread_trace};
+use crate::traces::{count_misses, list_commands, list_late, report_trace, spread_trace};
 pub use crate::words::{Job, Sched, VERSION};
 use crate::words::{NoJob, choose};
 pub use blk_sim::laws;
@@ -70,6 +70,7 @@ pub fn work<R: Read + Drop, W: Write>(
         }
         Job::Migrate => migrate_trace(alloc, reader, writer),
         Job::Commands => list_commands(alloc, reader, writer),
+        Job::Late => list_late(alloc, reader, writer),
         Job::Misses => count_misses(alloc, reader, writer),
         Job::Spread => spread_trace(alloc, reader, writer),
         Job::Oracle => solve_commands(alloc, reader, writer),

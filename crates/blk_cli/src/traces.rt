@@ -5,10 +5,10 @@ ghost use Rattle.std.specs.Io.KnownBytes.{Appends};
 ghost use Rattle.blk_trace.specs.Depths.{IsFixed};
 ghost use Rattle.blk_text.specs.Sources.{input_of};
 ghost use Rattle.blk_cli.specs.Statuses.{IsOfWriter};
-ghost use Rattle.blk_cli.specs.OfTraces.{IsReportText, IsCommandsText, IsMissesText, IsSpreadText, IsUntold, IsUnfixed, TraceWrote, TraceFails};
+ghost use Rattle.blk_cli.specs.OfTraces.{IsReportText, IsCommandsText, IsLateText, IsMissesText, IsSpreadText, IsUntold, IsUnfixed, TraceWrote, TraceFails};
 
 use crate::failure::Failure;
-use blk_report::{misses, report, services, spread, write_misses, write_spread};
+use blk_report::{late, misses, report, services, spread, write_late, write_misses, write_spread};
 use blk_text::{Records, read_trace, write_commands};
 use blk_trace::Trace;
 use edd_check::Command;
@@ -62,6 +62,21 @@ fn put_commands<W: Write>(alloc: Global, trace: &Trace, writer: &mut W) -> Resul
     };
     each_fits(commands.as_slice());
     match write_commands(alloc, depth, commands.as_slice(), writer) {
+        Ok(()) => Ok(()),
+        Err(fault) => Err(Failure::Write(fault)),
+    }
+}
+
+/// Writes which commands of a trace were late, and what the rounds that they waited went to.
+fn put_late<W: Write>(alloc: Global, trace: &Trace, writer: &mut W) -> Result<(), Failure>
+    ensures wrote { OnOk result ((text : List ℕ) × IsLateText trace.now text × Appends (W.contents writer.old) (W.contents writer.new) text) }
+    ensures untold { IfErr result (IsUntold ⊥) }
+    ensures kept { IfErr result (λ f. IsOfWriter f ⊎ (writer.new ≡ writer.old)) }
+{
+    let Ok(late) = late(trace) else {
+        return Err(Failure::Memory);
+    };
+    match write_late(alloc, late.as_slice(), writer) {
         Ok(()) => Ok(()),
         Err(fault) => Err(Failure::Write(fault)),
     }
@@ -132,6 +147,23 @@ pub fn list_commands<R: Read + Drop, W: Write>(
         Err(fault) => return Err(Failure::Text(fault)),
     };
     put_commands(alloc, &trace, writer)
+}
+
+/// Reads a trace, and writes which of its commands were late, and what the rounds that they waited went to.
+pub fn list_late<R: Read + Drop, W: Write>(
+    alloc: Global,
+    reader: R,
+    writer: &mut W,
+) -> Result<(), Failure>
+    ensures did { MatchResult result (λ _. IfSome (input_of (R.remaining reader)) (λ rows. TraceWrote IsLateText rows (W.contents writer.old) (W.contents writer.new)))
+        (TraceFails ⊥ (input_of (R.remaining reader))) }
+    ensures kept { IfErr result (λ f. IsOfWriter f ⊎ (writer.new ≡ writer.old)) }
+{
+    let trace = match read_trace(alloc, &mut Records::new(alloc, reader)) {
+        Ok(trace) => trace,
+        Err(fault) => return Err(Failure::Text(fault)),
+    };
+    put_late(alloc, &trace, writer)
 }
 
 /// Reads a trace, and writes how many of its commands were late, and how many had to be.

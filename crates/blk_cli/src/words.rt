@@ -46,6 +46,8 @@ pub enum Job {
     Migrate,
     /// Write the command list of a trace.
     Commands,
+    /// Write which commands of a trace were late, and what went before them.
+    Late,
     /// Write how many commands of a trace were late, and how many had to be.
     Misses,
     /// Write how long the commands of a trace waited, and how late they were, by quantiles.
@@ -277,9 +279,15 @@ fn over_traces<'a>(alloc: Global, command: Command<'a>) -> Result<Command<'a>, A
         "commands",
         "Writes the command list of a trace",
     )?;
-    let missing = with_plain(
+    let delaying = with_plain(
         alloc,
         listing,
+        "late",
+        "Writes which commands of a trace were late, and what went before them",
+    )?;
+    let missing = with_plain(
+        alloc,
+        delaying,
         "misses",
         "Writes how many commands of a trace were late, and how many had to be",
     )?;
@@ -394,6 +402,8 @@ fn plain_job(name: &str) -> Option<Job>
         Some(Job::Migrate)
     } else if name == "commands" {
         Some(Job::Commands)
+    } else if name == "late" {
+        Some(Job::Late)
     } else if name == "misses" {
         Some(Job::Misses)
     } else if name == "spread" {

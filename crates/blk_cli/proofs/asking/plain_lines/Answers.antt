@@ -1,7 +1,7 @@
 use Rattle.std.proofs.Common.{[], ◌∷◌, codes, true}
 use Rattle.blk_cli.specs.declared.words.Sched.TheVariants as sched
 use Rattle.blk_cli.specs.declared.words.Job.TheVariants as job
-use Rattle.blk_cli.proofs.Plain.{asks_alone, sim_line, none_line, deadline_line, kyber_line, batch_line, target_line, compare_line, migrate_line, commands_line, misses_line, spread_line, oracle_line, report_line, met_line, asks_nothing, report_and_met_line, check_line, version_line}
+use Rattle.blk_cli.proofs.Plain.{asks_alone, sim_line, none_line, deadline_line, kyber_line, batch_line, target_line, compare_line, migrate_line, commands_line, late_line, misses_line, spread_line, oracle_line, report_line, met_line, asks_nothing, report_and_met_line, check_line, version_line}
 use Rattle.blk_cli.proofs.asking.plain_lines.Goals as goal
 
 pub returns : goal.returns
@@ -18,6 +18,7 @@ returns c = record {
   compare = λ name. asks_alone (name ∷ codes "compare" ∷ []) (job.Compare (record { fifo_batch = 16; writes_starved = 2; front_merges = true }) (record { read = 2; write = 10 })) (compare_line name);
   migrate = λ name. asks_alone (name ∷ codes "migrate" ∷ []) job.Migrate (migrate_line name);
   commands = λ name. asks_alone (name ∷ codes "commands" ∷ []) job.Commands (commands_line name);
+  late = λ name. asks_alone (name ∷ codes "late" ∷ []) job.Late (late_line name);
   misses = λ name. asks_alone (name ∷ codes "misses" ∷ []) job.Misses (misses_line name);
   spread = λ name. asks_alone (name ∷ codes "spread" ∷ []) job.Spread (spread_line name);
   oracle = λ name. asks_alone (name ∷ codes "oracle" ∷ []) job.Oracle (oracle_line name);
