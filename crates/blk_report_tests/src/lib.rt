@@ -4,6 +4,8 @@
 #[cfg(test)]
 mod comparison;
 #[cfg(test)]
+mod delays;
+#[cfg(test)]
 mod given;
 #[cfg(test)]
 mod missing;

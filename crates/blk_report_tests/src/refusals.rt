@@ -2,12 +2,12 @@
 
 use crate::given::{Heap, empty, release, serve, served};
 use blk_bio::Dir;
-use blk_report::{misses, report, services, spread};
+use blk_report::{late, misses, report, services, spread};
 use blk_trace::Trace;
 use refusing::Refusing;
 use std::process::Abort;
 
-/// The commands of the two are listed, and their misses counted, or memory is refused once.
+/// The commands of the two are listed, and their misses and the late ones, or memory is refused once.
 fn asked<'a>(rt: &impl Abort, heap: Heap<'a>, trace: &Trace<Heap<'a>>) {
     let armed = heap.is_armed();
     let Ok(found) = services(trace) else {
@@ -24,6 +24,11 @@ fn asked<'a>(rt: &impl Abort, heap: Heap<'a>, trace: &Trace<Heap<'a>>) {
         return;
     };
     assert_eq!(rt; missed.avoidable, 1);
+    let Ok(found) = late(trace) else {
+        assert!(rt; armed && !heap.is_armed());
+        return;
+    };
+    assert_eq!(rt; found.len(), 1);
 }
 
 /// A trace of two commands is made and reported.
