@@ -5,3 +5,4 @@ mod Held
 mod Each
 mod Plugged
 mod Moving
+mod InHand

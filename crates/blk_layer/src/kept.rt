@@ -1,15 +1,19 @@
 //! What lies under the core's lock.
 
-ghost use Rattle.std.specs.Prelude.{◌≡◌, ◌≢◌, ◌+◌, ◌<◌, [], IfErr};
+ghost use Rattle.std.specs.Prelude.{◌≡◌, ◌≢◌, ◌+◌, ◌<◌, [], IfOk, IfErr, OnErr};
+ghost use Rattle.blk_core.specs.Calls.{Issues};
 ghost use Rattle.blk_layer.specs.Moves.{IsMoveAnswer};
+ghost use Rattle.blk_layer.specs.Works.{IsCoreIssueFault};
 ghost use Rattle.blk_trace.specs.Setups.{Setup};
 ghost use Rattle.blk_layer.specs.Served.{done_count};
 
+use crate::issues::{LayerIssueFault, of_core};
 use crate::moves::move_first;
 use crate::names::Named;
 use blk_core::{Core, CoreFault};
 use blk_sched::Scheduler;
 use blk_soft::SoftQueue;
+use edd_check::Command;
 use std::sync::ledger::{Book, Share};
 
 /// The core, beside the ledger's book of the commands that are done, and the parts of the ledger that no worker has.
@@ -53,5 +57,18 @@ impl<S: Scheduler, L: Named> Kept<S, L> {
         ensures there { IfErr result (λ why. why ≢ CoreFault.NoQueue) }
     {
         move_first(queue, &mut self.core, hw)
+    }
+
+    /// Issues for a hardware queue under a tag.
+    pub(crate) fn issue(&mut self, hw: u8, tag: u16) -> Result<Option<Command>, LayerIssueFault>
+        requires { hw < L.setup.hw }
+        ensures issued { IfOk result (λ found. Issues S.serves S.chooses self.old.core hw tag found self.new.core) }
+        ensures fault { IfErr result (IsCoreIssueFault self.old.core hw tag) }
+        ensures same { OnErr result (self.new.core ≡ self.old.core) }
+    {
+        match self.core.issue(hw, tag) {
+            Ok(found) => Ok(found),
+            Err(why) => Err(of_core(why)),
+        }
     }
 }

@@ -4,15 +4,20 @@ ghost use Rattle.std.specs.Prelude.{◌≡◌, ◌++◌, OnErr, IfSome, IfNone, 
 ghost use Rattle.blk_trace.specs.Events.{AreOnce};
 ghost use Rattle.blk_layer.specs.Flushes.{CanAccept, IsFlushReason};
 ghost use Rattle.blk_layer.specs.Seats.{AreOwn, HoldsItsTags, new_submitter, new_worker};
+ghost use Rattle.blk_layer.specs.Works.{IsIssueAnswer};
 
 use crate::accounts::Account;
 use crate::flushes::{FlushWhy, first_foreign};
+use crate::issues::{Issued, LayerIssueFault};
+use crate::layer::Layer;
 use crate::names::Named;
 use blk_bio::Bio;
+use blk_sched::Scheduler;
 use blk_tags::{TagSeat, TagSet};
 use edd_check::Command;
 use std::alloc::{AllocError, Allocator, Global};
 use std::marker::{Model, PhantomData};
+use std::sync::Wait;
 use std::sync::ledger::Share;
 
 /// A submitter's seat: the software queue that is its own, and the account of its bios that were accepted.
@@ -169,6 +174,39 @@ impl<L: Named, A: Allocator + Clone> Worker<L, A> {
         ensures there { result < L.setup.hw }
     {
         self.hw
+    }
+
+    /// Issues a command to it, as `Layer::issue` says.
+    pub(crate) fn issue<S: Scheduler<A = A>, R: Wait>(
+        &mut self,
+        rt: &R,
+        layer: &Layer<S, L>,
+    ) -> Result<Option<Issued>, LayerIssueFault>
+        requires { self.old.tag_set ≡ layer.now.tag_set }
+        ensures issued { IfOk result (λ found. IsIssueAnswer self.old found self.new) }
+        ensures same { OnErr result (self.new ≡ self.old) }
+    {
+        let Some(tag) = layer.tags.get(&mut self.seat) else {
+            return Err(LayerIssueFault::NoTag);
+        };
+        if self.ran.reserve(self.hands.len()).is_err() {
+            layer.tags.give(&mut self.seat, tag);
+            return Err(LayerIssueFault::Memory);
+        }
+        match layer.ask(rt, self.hw, tag) {
+            Ok(Some(command)) => {
+                self.hands[usize::from(tag)] = Some(command);
+                Ok(Some(Issued { command, tag }))
+            }
+            Ok(None) => {
+                layer.tags.give(&mut self.seat, tag);
+                Ok(None)
+            }
+            Err(why) => {
+                layer.tags.give(&mut self.seat, tag);
+                Err(why)
+            }
+        }
     }
 }
 

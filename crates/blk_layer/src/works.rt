@@ -1,16 +1,19 @@
 //! What threads do with a layer: the calls that wait for a lock.
 
-ghost use Rattle.std.specs.Prelude.{◌≡◌, ◌≢◌, ◌<◌, ◌≤◌, ◌*◌, [], OnOk, IfOk, IfErr, length};
+ghost use Rattle.std.specs.Prelude.{◌≡◌, ◌≢◌, ◌<◌, ◌≤◌, ◌*◌, [], OnOk, OnErr, IfOk, IfErr, length};
 ghost use Rattle.blk_plug.specs.Plugs.{bios_of};
 ghost use Rattle.blk_layer.specs.Flushes.{Flushes, IsLeft};
+ghost use Rattle.blk_layer.specs.Works.{IsIssueAnswer};
 
 use crate::flushes::{FlushFault, Flushed};
+use crate::issues::{Issued, LayerIssueFault};
 use crate::layer::Layer;
 use crate::names::Named;
 use crate::seats::{Submitter, Worker};
 use blk_core::CoreFault;
 use blk_plug::Plug;
 use blk_sched::Scheduler;
+use edd_check::Command;
 use std::sync::Wait;
 
 /// The most requests that a drain moves from one software queue.
@@ -97,5 +100,35 @@ impl<S: Scheduler, L: Named> Layer<S, L> {
             }
         }
         Ok(MAX_MOVES)
+    }
+
+    /// Issues a command to a worker, for its hardware queue: the one that the core gives, or None where that gives none. The
+    /// tag is taken before the core's lock. Without a command it is given back after the lock, and the worker holds what it held;
+    /// but its next try for a tag may begin at another one.
+    ///
+    /// Refused, by the first of these that applies: as `NoTag` where each tag was found taken when it was tried; as `Memory`
+    /// where the worker's account can't be given the room that a completion will need; and then as the core's issue is.
+    pub fn issue<R: Wait>(
+        &self,
+        rt: &R,
+        worker: &mut Worker<L, S::A>,
+    ) -> Result<Option<Issued>, LayerIssueFault>
+        requires { worker.old.tag_set ≡ self.now.tag_set }
+        ensures issued { IfOk result (λ found. IsIssueAnswer worker.old found worker.new) }
+        ensures same { OnErr result (worker.new ≡ worker.old) }
+    {
+        worker.issue(rt, self)
+    }
+
+    /// What the core issues for a hardware queue under a tag.
+    pub(crate) fn ask<R: Wait>(
+        &self,
+        rt: &R,
+        hw: u8,
+        tag: u16,
+    ) -> Result<Option<Command>, LayerIssueFault>
+        requires { hw < L.setup.hw }
+    {
+        self.kept.lock(rt).issue(hw, tag)
     }
 }

@@ -1,0 +1,36 @@
+-- What the calls of a worker do to its seat.
+use Rattle.std.specs.Prelude.{ℕ, ◌≡◌, ◌<◌, ◌++◌, [], ◌∷◌, Option, None, Some, slice_get, slice_set}
+use Rattle.edd_check.specs.declared.Command.{Command}
+use Rattle.blk_core.specs.State.{CoreState}
+use Rattle.blk_core.specs.Faults.{IsIssueFault}
+use Rattle.blk_core.specs.declared.IssueFault.{IssueFault}
+use Rattle.blk_core.specs.declared.IssueFault.TheVariants as core
+use Rattle.blk_layer.specs.declared.issues.Issued.{Issued}
+use Rattle.blk_layer.specs.declared.issues.LayerIssueFault.{LayerIssueFault}
+use Rattle.blk_layer.specs.declared.issues.LayerIssueFault.TheVariants as layer
+use Rattle.blk_layer.specs.Seats.{WorkerSeat}
+
+-- a command comes into the hands of a worker under a tag of the set, where it had none
+pub record TakesInHand (old : WorkerSeat) (tag : ℕ) (command : Command) (new : WorkerSeat) : Type 0 where
+  pub below : tag < old.tag_set.depth
+  pub free : slice_get old.hands tag ≡ Some None
+  pub taken : new ≡ record old { tags = old.tags ++ tag ∷ []; hands = slice_set old.hands tag (Some command) }
+
+-- what each answer of an issue says of the seat
+abbrev pub IsIssueAnswer : WorkerSeat → Option Issued → WorkerSeat → Type 0
+IsIssueAnswer old None new = new ≡ old
+IsIssueAnswer old (Some issued) new = TakesInHand old issued.tag issued.command new
+
+-- the name that the core has for a reason
+abbrev pub core_name : LayerIssueFault → Option IssueFault
+core_name layer.NoTag = None
+core_name layer.TagRange = Some core.TagRange
+core_name layer.SlotUsed = Some core.SlotUsed
+core_name layer.TraceFull = Some core.TraceFull
+core_name layer.Memory = Some core.Memory
+
+-- the core issues nothing for this reason
+pub record IsCoreIssueFault (c : CoreState) (hw tag : ℕ) (why : LayerIssueFault) : Type 0 where
+  pub name : IssueFault
+  pub named : core_name why ≡ Some name
+  pub fault : IsIssueFault c hw tag name
