@@ -8,6 +8,7 @@ use Rattle.blk_core.specs.declared.IssueFault.TheVariants as core
 use Rattle.blk_layer.specs.declared.issues.Issued.{Issued}
 use Rattle.blk_layer.specs.declared.issues.LayerIssueFault.{LayerIssueFault}
 use Rattle.blk_layer.specs.declared.issues.LayerIssueFault.TheVariants as layer
+use Rattle.blk_tags.specs.Tags.{without}
 use Rattle.blk_layer.specs.Seats.{WorkerSeat}
 
 -- a command comes into the hands of a worker under a tag of the set, where it had none
@@ -34,3 +35,13 @@ pub record IsCoreIssueFault (c : CoreState) (hw tag : ℕ) (why : LayerIssueFaul
   pub name : IssueFault
   pub named : core_name why ≡ Some name
   pub fault : IsIssueFault c hw tag name
+
+-- the command in the hands of a worker under a tag leaves them, and the tag with it
+abbrev pub let_go : WorkerSeat → ℕ → WorkerSeat
+let_go seat tag = record seat { tags = without tag seat.tags; hands = slice_set seat.hands tag None }
+
+-- it was done: the account has it more, at its end
+pub record AccountsFor (old : WorkerSeat) (tag : ℕ) (new : WorkerSeat) : Type 0 where
+  pub command : Command
+  pub held : slice_get old.hands tag ≡ Some (Some command)
+  pub gone : new ≡ record (let_go old tag) { ran = old.ran ++ command ∷ [] }

@@ -1,7 +1,7 @@
 //! What lies under the core's lock.
 
-ghost use Rattle.std.specs.Prelude.{◌≡◌, ◌≢◌, ◌+◌, ◌<◌, [], IfOk, IfErr, OnErr};
-ghost use Rattle.blk_core.specs.Calls.{Issues};
+ghost use Rattle.std.specs.Prelude.{◌≡◌, ◌≢◌, ◌+◌, ◌<◌, [], IfOk, IfErr, OnOk, OnErr};
+ghost use Rattle.blk_core.specs.Calls.{Issues, Completes};
 ghost use Rattle.blk_layer.specs.Moves.{IsMoveAnswer};
 ghost use Rattle.blk_layer.specs.Works.{IsCoreIssueFault};
 ghost use Rattle.blk_trace.specs.Setups.{Setup};
@@ -10,7 +10,7 @@ ghost use Rattle.blk_layer.specs.Served.{done_count};
 use crate::issues::{LayerIssueFault, of_core};
 use crate::moves::move_first;
 use crate::names::Named;
-use blk_core::{Core, CoreFault};
+use blk_core::{Core, CoreFault, NotIssued};
 use blk_sched::Scheduler;
 use blk_soft::SoftQueue;
 use edd_check::Command;
@@ -70,5 +70,18 @@ impl<S: Scheduler, L: Named> Kept<S, L> {
             Ok(found) => Ok(found),
             Err(why) => Err(of_core(why)),
         }
+    }
+
+    /// Completes the command in flight under a tag, and counts it in a worker's part of the ledger.
+    pub(crate) fn done(&mut self, share: &mut Share<L>, tag: u16) -> Result<(), NotIssued>
+        requires { 0 < share.old.parts }
+        ensures done { OnOk result (Completes S.told_done self.old.core tag self.new.core) }
+        ensures counted { OnOk result (share.new.amount ≡ share.old.amount + 1) }
+        ensures parts { share.new.parts ≡ share.old.parts }
+        ensures same { OnErr result ((self.new.core ≡ self.old.core) × (share.new.amount ≡ share.old.amount)) }
+    {
+        self.core.done(tag)?;
+        self.book.add(share, 1);
+        Ok(())
     }
 }

@@ -1,10 +1,10 @@
 //! The seats of a layer: what a submitter and a worker have for themselves.
 
-ghost use Rattle.std.specs.Prelude.{◌≡◌, ◌++◌, OnErr, IfSome, IfNone, ◌<◌, ◌≤◌, ◌+◌, ◌∷◌, [], ℕ, IfOk, OnOk, All, length, map, replicate, vec_len, slice_get, Some, None};
+ghost use Rattle.std.specs.Prelude.{◌≡◌, ◌++◌, OnErr, IfSome, IfNone, ◌<◌, ◌≤◌, ◌+◌, ◌∷◌, [], ℕ, IfOk, OnOk, All, length, map, replicate, vec_len, slice_get, Some, None, Contains};
 ghost use Rattle.blk_trace.specs.Events.{AreOnce};
 ghost use Rattle.blk_layer.specs.Flushes.{CanAccept, IsFlushReason};
 ghost use Rattle.blk_layer.specs.Seats.{AreOwn, HoldsItsTags, new_submitter, new_worker};
-ghost use Rattle.blk_layer.specs.Works.{IsIssueAnswer};
+ghost use Rattle.blk_layer.specs.Works.{IsIssueAnswer, AccountsFor};
 
 use crate::accounts::Account;
 use crate::flushes::{FlushWhy, first_foreign};
@@ -12,6 +12,7 @@ use crate::issues::{Issued, LayerIssueFault};
 use crate::layer::Layer;
 use crate::names::Named;
 use blk_bio::Bio;
+use blk_core::NotIssued;
 use blk_sched::Scheduler;
 use blk_tags::{TagSeat, TagSet};
 use edd_check::Command;
@@ -207,6 +208,39 @@ impl<L: Named, A: Allocator + Clone> Worker<L, A> {
                 Err(why)
             }
         }
+    }
+
+    /// The command in its hands under a tag.
+    fn in_hand(&self, tag: u16) -> Option<Command>
+        ensures some { IfSome result (λ command. slice_get self.now.hands tag ≡ Some (Some command)) }
+        ensures none { IfNone result (¬ Contains self.now.tags tag) }
+    {
+        let _ = self.hw;
+        if usize::from(tag) >= self.hands.len() {
+            return None;
+        }
+        self.hands[usize::from(tag)]
+    }
+
+    /// Reports as done the command in its hands under a tag, as `Layer::done` says.
+    pub(crate) fn done<S: Scheduler<A = A>, R: Wait>(
+        &mut self,
+        rt: &R,
+        layer: &Layer<S, L>,
+        tag: u16,
+    ) -> Result<(), NotIssued>
+        requires { self.old.tag_set ≡ layer.now.tag_set }
+        ensures done { OnOk result (AccountsFor self.old tag self.new) }
+        ensures same { OnErr result (self.new ≡ self.old) }
+    {
+        let Some(command) = self.in_hand(tag) else {
+            return Err(NotIssued);
+        };
+        layer.complete(rt, &mut self.share, tag)?;
+        self.hands[usize::from(tag)] = None;
+        self.ran.push_reserved(command);
+        layer.tags.give(&mut self.seat, tag);
+        Ok(())
     }
 }
 

@@ -1,20 +1,21 @@
 //! What threads do with a layer: the calls that wait for a lock.
 
-ghost use Rattle.std.specs.Prelude.{◌≡◌, ◌≢◌, ◌<◌, ◌≤◌, ◌*◌, [], OnOk, OnErr, IfOk, IfErr, length};
+ghost use Rattle.std.specs.Prelude.{◌≡◌, ◌≢◌, ◌<◌, ◌≤◌, ◌*◌, ◌+◌, [], OnOk, OnErr, IfOk, IfErr, length};
 ghost use Rattle.blk_plug.specs.Plugs.{bios_of};
 ghost use Rattle.blk_layer.specs.Flushes.{Flushes, IsLeft};
-ghost use Rattle.blk_layer.specs.Works.{IsIssueAnswer};
+ghost use Rattle.blk_layer.specs.Works.{IsIssueAnswer, AccountsFor};
 
 use crate::flushes::{FlushFault, Flushed};
 use crate::issues::{Issued, LayerIssueFault};
 use crate::layer::Layer;
 use crate::names::Named;
 use crate::seats::{Submitter, Worker};
-use blk_core::CoreFault;
+use blk_core::{CoreFault, NotIssued};
 use blk_plug::Plug;
 use blk_sched::Scheduler;
 use edd_check::Command;
 use std::sync::Wait;
+use std::sync::ledger::Share;
 
 /// The most requests that a drain moves from one software queue.
 pub const MAX_MOVES: u64 = 1024;
@@ -130,5 +131,37 @@ impl<S: Scheduler, L: Named> Layer<S, L> {
         requires { hw < L.setup.hw }
     {
         self.kept.lock(rt).issue(hw, tag)
+    }
+
+    /// Reports as done the command in the worker's hands under a tag: the one that the worker was last issued with it. It goes
+    /// into the worker's account, and the tag is given back, after the core's lock. Takes no memory.
+    ///
+    /// Refused where the worker has no command under the tag, also where another one has; nothing is changed then.
+    pub fn done<R: Wait>(
+        &self,
+        rt: &R,
+        worker: &mut Worker<L, S::A>,
+        tag: u16,
+    ) -> Result<(), NotIssued>
+        requires { worker.old.tag_set ≡ self.now.tag_set }
+        ensures done { OnOk result (AccountsFor worker.old tag worker.new) }
+        ensures same { OnErr result (worker.new ≡ worker.old) }
+    {
+        worker.done(rt, self, tag)
+    }
+
+    /// Completes in the core what is in flight under a tag, and counts it in a worker's part of the ledger.
+    pub(crate) fn complete<R: Wait>(
+        &self,
+        rt: &R,
+        share: &mut Share<L>,
+        tag: u16,
+    ) -> Result<(), NotIssued>
+        requires { 0 < share.old.parts }
+        ensures counted { OnOk result (share.new.amount ≡ share.old.amount + 1) }
+        ensures parts { share.new.parts ≡ share.old.parts }
+        ensures same { OnErr result (share.new.amount ≡ share.old.amount) }
+    {
+        self.kept.lock(rt).done(share, tag)
     }
 }
