@@ -3,14 +3,14 @@ use Rattle.std.proofs.Common.{◌≡◌, ◌∙◌, ◌+◌, ℕ, ap, refl, arit
 use Rattle.blk_bio.specs.Bios.{Bio}
 use Rattle.blk_soft.specs.Queues.{Queue}
 use Rattle.blk_sched.specs.Meaning.{Waiting}
-use Rattle.blk_trace.specs.Happened.{Happened, Released, Joined, Issued, Finished}
+use Rattle.blk_trace.specs.Happened.{Happened, Released, Joined, Issued, Finished, Returned}
 use Rattle.blk_trace.proofs.More.{more_of}
 use Rattle.blk_core.specs.declared.Placed.{Placed}
 use Rattle.blk_core.specs.declared.Placed.TheVariants.{New, Joined as JoinedTo}
 use Rattle.blk_core.specs.declared.CoreFault.{CoreFault}
 use Rattle.blk_core.specs.State.{CoreState}
 use Rattle.edd_check.specs.declared.Command.{Command}
-use Rattle.blk_core.specs.Calls.{Places, Choice, Adds, Issues, OfDone, Completes}
+use Rattle.blk_core.specs.Calls.{Places, Choice, Adds, Issues, OfDone, Completes, TakesBack}
 use Rattle.blk_layer.specs.Served.{done_count, is_done}
 use Rattle.blk_layer.specs.Moves.{IsMoveAnswer}
 
@@ -58,3 +58,6 @@ one_done es tag = more_of is_done es (Finished tag) ∙ omega arith
 
 pub done_more : (told : OfDone) (old : CoreState) (tag : ℕ) (new : CoreState) → Completes told old tag new → done_count new.events ≡ done_count old.events + 1
 done_more told old tag new d = ap done_count d.3.1 ∙ one_done old.events tag
+
+pub back_stays : (old : CoreState) (tag : ℕ) (new : CoreState) (id : ℕ) → TakesBack old tag id new → Stays old new
+back_stays old tag new id b = added_stays old (Returned tag) new refl b.4

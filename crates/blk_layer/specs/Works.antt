@@ -45,3 +45,14 @@ pub record AccountsFor (old : WorkerSeat) (tag : ℕ) (new : WorkerSeat) : Type 
   pub command : Command
   pub held : slice_get old.hands tag ≡ Some (Some command)
   pub gone : new ≡ record (let_go old tag) { ran = old.ran ++ command ∷ [] }
+
+-- a worker has a command in its hands under the tag
+abbrev pub IsInHand : WorkerSeat → ℕ → Type 0
+IsInHand seat tag = (command : Command) × (slice_get seat.hands tag ≡ Some (Some command))
+
+-- it goes back, and has this id; the account stays
+pub record LetsGo (old : WorkerSeat) (tag id : ℕ) (new : WorkerSeat) : Type 0 where
+  pub command : Command
+  pub held : slice_get old.hands tag ≡ Some (Some command)
+  pub named : command.id ≡ id
+  pub gone : new ≡ let_go old tag

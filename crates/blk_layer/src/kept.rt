@@ -1,7 +1,7 @@
 //! What lies under the core's lock.
 
 ghost use Rattle.std.specs.Prelude.{◌≡◌, ◌≢◌, ◌+◌, ◌<◌, [], IfOk, IfErr, OnOk, OnErr};
-ghost use Rattle.blk_core.specs.Calls.{Issues, Completes};
+ghost use Rattle.blk_core.specs.Calls.{Issues, Completes, TakesBack};
 ghost use Rattle.blk_layer.specs.Moves.{IsMoveAnswer};
 ghost use Rattle.blk_layer.specs.Works.{IsCoreIssueFault};
 ghost use Rattle.blk_trace.specs.Setups.{Setup};
@@ -10,7 +10,7 @@ ghost use Rattle.blk_layer.specs.Served.{done_count};
 use crate::issues::{LayerIssueFault, of_core};
 use crate::moves::move_first;
 use crate::names::Named;
-use blk_core::{Core, CoreFault, NotIssued};
+use blk_core::{BackFault, Core, CoreFault, NotIssued};
 use blk_sched::Scheduler;
 use blk_soft::SoftQueue;
 use edd_check::Command;
@@ -83,5 +83,13 @@ impl<S: Scheduler, L: Named> Kept<S, L> {
         self.core.done(tag)?;
         self.book.add(share, 1);
         Ok(())
+    }
+
+    /// Takes the command in flight under a tag back, and answers its id.
+    pub(crate) fn back(&mut self, tag: u16) -> Result<u64, BackFault>
+        ensures back { IfOk result (λ id. TakesBack self.old.core tag id self.new.core) }
+        ensures same { OnErr result (self.new.core ≡ self.old.core) }
+    {
+        self.core.back(tag)
     }
 }

@@ -1,10 +1,10 @@
 //! The seats of a layer: what a submitter and a worker have for themselves.
 
-ghost use Rattle.std.specs.Prelude.{◌≡◌, ◌++◌, OnErr, IfSome, IfNone, ◌<◌, ◌≤◌, ◌+◌, ◌∷◌, [], ℕ, IfOk, OnOk, All, length, map, replicate, vec_len, slice_get, Some, None, Contains};
+ghost use Rattle.std.specs.Prelude.{◌≡◌, ◌++◌, OnErr, IfSome, IfNone, ◌<◌, ◌≤◌, ◌+◌, ◌∷◌, [], ℕ, IfOk, IfErr, OnOk, All, length, map, replicate, vec_len, slice_get, Some, None, Contains};
 ghost use Rattle.blk_trace.specs.Events.{AreOnce};
 ghost use Rattle.blk_layer.specs.Flushes.{CanAccept, IsFlushReason};
 ghost use Rattle.blk_layer.specs.Seats.{AreOwn, HoldsItsTags, new_submitter, new_worker};
-ghost use Rattle.blk_layer.specs.Works.{IsIssueAnswer, AccountsFor};
+ghost use Rattle.blk_layer.specs.Works.{IsIssueAnswer, AccountsFor, LetsGo, IsInHand};
 
 use crate::accounts::Account;
 use crate::flushes::{FlushWhy, first_foreign};
@@ -12,7 +12,7 @@ use crate::issues::{Issued, LayerIssueFault};
 use crate::layer::Layer;
 use crate::names::Named;
 use blk_bio::Bio;
-use blk_core::NotIssued;
+use blk_core::{BackFault, NotIssued};
 use blk_sched::Scheduler;
 use blk_tags::{TagSeat, TagSet};
 use edd_check::Command;
@@ -241,6 +241,27 @@ impl<L: Named, A: Allocator + Clone> Worker<L, A> {
         self.ran.push_reserved(command);
         layer.tags.give(&mut self.seat, tag);
         Ok(())
+    }
+
+    /// Hands the command in its hands under a tag back to the core, as `Layer::back` says.
+    pub(crate) fn back<S: Scheduler<A = A>, R: Wait>(
+        &mut self,
+        rt: &R,
+        layer: &Layer<S, L>,
+        tag: u16,
+    ) -> Result<u64, BackFault>
+        requires { self.old.tag_set ≡ layer.now.tag_set }
+        ensures back { IfOk result (λ id. LetsGo self.old tag id self.new) }
+        ensures fault { IfErr result (λ why. why ≡ BackFault.Memory → IsInHand self.old tag) }
+        ensures same { OnErr result (self.new ≡ self.old) }
+    {
+        let Some(command) = self.in_hand(tag) else {
+            return Err(BackFault::NotIssued);
+        };
+        layer.take_back(rt, tag)?;
+        self.hands[usize::from(tag)] = None;
+        layer.tags.give(&mut self.seat, tag);
+        Ok(command.id)
     }
 }
 

@@ -3,14 +3,14 @@
 ghost use Rattle.std.specs.Prelude.{◌≡◌, ◌≢◌, ◌<◌, ◌≤◌, ◌*◌, ◌+◌, [], OnOk, OnErr, IfOk, IfErr, length};
 ghost use Rattle.blk_plug.specs.Plugs.{bios_of};
 ghost use Rattle.blk_layer.specs.Flushes.{Flushes, IsLeft};
-ghost use Rattle.blk_layer.specs.Works.{IsIssueAnswer, AccountsFor};
+ghost use Rattle.blk_layer.specs.Works.{IsIssueAnswer, AccountsFor, LetsGo, IsInHand};
 
 use crate::flushes::{FlushFault, Flushed};
 use crate::issues::{Issued, LayerIssueFault};
 use crate::layer::Layer;
 use crate::names::Named;
 use crate::seats::{Submitter, Worker};
-use blk_core::{CoreFault, NotIssued};
+use blk_core::{BackFault, CoreFault, NotIssued};
 use blk_plug::Plug;
 use blk_sched::Scheduler;
 use edd_check::Command;
@@ -163,5 +163,29 @@ impl<S: Scheduler, L: Named> Layer<S, L> {
         ensures same { OnErr result (share.new.amount ≡ share.old.amount) }
     {
         self.kept.lock(rt).done(share, tag)
+    }
+
+    /// Hands the command in the worker's hands under a tag back to the core, since the device was busy, and answers its id: the
+    /// core will issue it again. The tag is given back, after the core's lock, and the worker's account stays.
+    ///
+    /// Refused, by the first of these that applies: as `NotIssued` where the worker has no command under the tag, also where
+    /// another one has; and as the core's `back` is. Nothing is changed then.
+    pub fn back<R: Wait>(
+        &self,
+        rt: &R,
+        worker: &mut Worker<L, S::A>,
+        tag: u16,
+    ) -> Result<u64, BackFault>
+        requires { worker.old.tag_set ≡ self.now.tag_set }
+        ensures back { IfOk result (λ id. LetsGo worker.old tag id worker.new) }
+        ensures fault { IfErr result (λ why. why ≡ BackFault.Memory → IsInHand worker.old tag) }
+        ensures same { OnErr result (worker.new ≡ worker.old) }
+    {
+        worker.back(rt, self, tag)
+    }
+
+    /// Takes what is in flight under a tag back into the core.
+    pub(crate) fn take_back<R: Wait>(&self, rt: &R, tag: u16) -> Result<u64, BackFault> {
+        self.kept.lock(rt).back(tag)
     }
 }
