@@ -6,3 +6,4 @@ mod Each
 mod Plugged
 mod Moving
 mod InHand
+mod Answered

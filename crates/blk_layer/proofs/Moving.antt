@@ -3,14 +3,14 @@ use Rattle.std.proofs.Common.{◌≡◌, ◌∙◌, ◌+◌, ℕ, ap, refl, arit
 use Rattle.blk_bio.specs.Bios.{Bio}
 use Rattle.blk_soft.specs.Queues.{Queue}
 use Rattle.blk_sched.specs.Meaning.{Waiting}
-use Rattle.blk_trace.specs.Happened.{Happened, Released, Joined, Issued, Finished, Returned}
+use Rattle.blk_trace.specs.Happened.{Happened, Released, Joined, Issued, Finished, Returned, Ticked, DepthSet}
 use Rattle.blk_trace.proofs.More.{more_of}
 use Rattle.blk_core.specs.declared.Placed.{Placed}
 use Rattle.blk_core.specs.declared.Placed.TheVariants.{New, Joined as JoinedTo}
 use Rattle.blk_core.specs.declared.CoreFault.{CoreFault}
 use Rattle.blk_core.specs.State.{CoreState}
 use Rattle.edd_check.specs.declared.Command.{Command}
-use Rattle.blk_core.specs.Calls.{Places, Choice, Adds, Issues, OfDone, Completes, TakesBack}
+use Rattle.blk_core.specs.Calls.{Places, Choice, Adds, Issues, OfDone, Completes, TakesBack, OfTick, Ends, SetsDepth}
 use Rattle.blk_layer.specs.Served.{done_count, is_done}
 use Rattle.blk_layer.specs.Moves.{IsMoveAnswer}
 
@@ -61,3 +61,9 @@ done_more told old tag new d = ap done_count d.3.1 ∙ one_done old.events tag
 
 pub back_stays : (old : CoreState) (tag : ℕ) (new : CoreState) (id : ℕ) → TakesBack old tag id new → Stays old new
 back_stays old tag new id b = added_stays old (Returned tag) new refl b.4
+
+pub tick_stays : (told : OfTick) (old new : CoreState) → Ends told old new → Stays old new
+tick_stays told old new e = added_stays old Ticked new refl e.0
+
+pub depth_stays : (old : CoreState) (n : ℕ) (new : CoreState) → SetsDepth old n new → Stays old new
+depth_stays old n new s = added_stays old (DepthSet n) new refl s.0

@@ -1,10 +1,14 @@
 -- What the calls of a worker do to its seat.
-use Rattle.std.specs.Prelude.{ℕ, ◌≡◌, ◌<◌, ◌++◌, [], ◌∷◌, Option, None, Some, slice_get, slice_set}
+use Rattle.std.specs.Prelude.{ℕ, ◌≡◌, ◌<◌, ◌≤◌, ◌⊎◌, ◌++◌, [], ◌∷◌, ⊤, Option, None, Some, Result, Ok, Err, slice_get, slice_set}
 use Rattle.edd_check.specs.declared.Command.{Command}
 use Rattle.blk_core.specs.State.{CoreState}
 use Rattle.blk_core.specs.Faults.{IsIssueFault}
 use Rattle.blk_core.specs.declared.IssueFault.{IssueFault}
 use Rattle.blk_core.specs.declared.IssueFault.TheVariants as core
+use Rattle.blk_core.specs.declared.TickFault.{TickFault}
+use Rattle.blk_core.specs.declared.TickFault.TheVariants as tick
+use Rattle.blk_core.specs.declared.DepthFault.{DepthFault}
+use Rattle.blk_core.specs.declared.DepthFault.TheVariants as depth
 use Rattle.blk_layer.specs.declared.issues.Issued.{Issued}
 use Rattle.blk_layer.specs.declared.issues.LayerIssueFault.{LayerIssueFault}
 use Rattle.blk_layer.specs.declared.issues.LayerIssueFault.TheVariants as layer
@@ -56,3 +60,17 @@ pub record LetsGo (old : WorkerSeat) (tag id : ℕ) (new : WorkerSeat) : Type 0 
   pub held : slice_get old.hands tag ≡ Some (Some command)
   pub named : command.id ≡ id
   pub gone : new ≡ let_go old tag
+
+-- what each answer of a tick says by itself; the rest is known under the core's lock alone
+abbrev pub IsTickAnswer : Result ℕ TickFault → Type 0
+IsTickAnswer (Ok round) = 0 < round
+IsTickAnswer (Err (tick.InFlight n)) = 0 < n
+IsTickAnswer (Err tick.TraceFull) = ⊤
+IsTickAnswer (Err tick.Memory) = ⊤
+
+-- what each answer to a depth says of it, by the setup's; whether the trace is full is known under the core's lock alone
+abbrev pub IsDepthAnswer : ℕ → ℕ → Result (Unit {0}) DepthFault → Type 0
+IsDepthAnswer most n (Ok _) = (0 < n) × (n ≤ most)
+IsDepthAnswer most n (Err depth.TraceFull) = ⊤
+IsDepthAnswer most n (Err depth.DepthRange) = (n ≡ 0) ⊎ (most < n)
+IsDepthAnswer most n (Err depth.Memory) = (0 < n) × (n ≤ most)

@@ -1,16 +1,16 @@
 //! What lies under the core's lock.
 
 ghost use Rattle.std.specs.Prelude.{◌≡◌, ◌≢◌, ◌+◌, ◌<◌, [], IfOk, IfErr, OnOk, OnErr};
-ghost use Rattle.blk_core.specs.Calls.{Issues, Completes, TakesBack};
+ghost use Rattle.blk_core.specs.Calls.{Issues, Completes, TakesBack, Ends, SetsDepth};
 ghost use Rattle.blk_layer.specs.Moves.{IsMoveAnswer};
-ghost use Rattle.blk_layer.specs.Works.{IsCoreIssueFault};
+ghost use Rattle.blk_layer.specs.Works.{IsCoreIssueFault, IsTickAnswer, IsDepthAnswer};
 ghost use Rattle.blk_trace.specs.Setups.{Setup};
 ghost use Rattle.blk_layer.specs.Served.{done_count};
 
 use crate::issues::{LayerIssueFault, of_core};
 use crate::moves::move_first;
 use crate::names::Named;
-use blk_core::{BackFault, Core, CoreFault, NotIssued};
+use blk_core::{BackFault, Core, CoreFault, DepthFault, NotIssued, TickFault};
 use blk_sched::Scheduler;
 use blk_soft::SoftQueue;
 use edd_check::Command;
@@ -91,5 +91,23 @@ impl<S: Scheduler, L: Named> Kept<S, L> {
         ensures same { OnErr result (self.new.core ≡ self.old.core) }
     {
         self.core.back(tag)
+    }
+
+    /// Ends the round, and answers the number of the next one.
+    pub(crate) fn tick(&mut self) -> Result<u64, TickFault>
+        ensures ended { OnOk result (Ends S.told_tick self.old.core self.new.core) }
+        ensures answer { IsTickAnswer result }
+        ensures same { OnErr result (self.new.core ≡ self.old.core) }
+    {
+        self.core.tick()
+    }
+
+    /// Sets how many commands the rounds to come carry.
+    pub(crate) fn set_depth(&mut self, depth: u64) -> Result<(), DepthFault>
+        ensures set { OnOk result (SetsDepth self.old.core depth self.new.core) }
+        ensures answer { IsDepthAnswer L.setup.depth depth result }
+        ensures same { OnErr result (self.new.core ≡ self.old.core) }
+    {
+        self.core.set_depth(depth)
     }
 }

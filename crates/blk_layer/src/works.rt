@@ -3,14 +3,14 @@
 ghost use Rattle.std.specs.Prelude.{◌≡◌, ◌≢◌, ◌<◌, ◌≤◌, ◌*◌, ◌+◌, [], OnOk, OnErr, IfOk, IfErr, length};
 ghost use Rattle.blk_plug.specs.Plugs.{bios_of};
 ghost use Rattle.blk_layer.specs.Flushes.{Flushes, IsLeft};
-ghost use Rattle.blk_layer.specs.Works.{IsIssueAnswer, AccountsFor, LetsGo, IsInHand};
+ghost use Rattle.blk_layer.specs.Works.{IsIssueAnswer, AccountsFor, LetsGo, IsInHand, IsTickAnswer, IsDepthAnswer};
 
 use crate::flushes::{FlushFault, Flushed};
 use crate::issues::{Issued, LayerIssueFault};
 use crate::layer::Layer;
 use crate::names::Named;
 use crate::seats::{Submitter, Worker};
-use blk_core::{BackFault, CoreFault, NotIssued};
+use blk_core::{BackFault, CoreFault, DepthFault, NotIssued, TickFault};
 use blk_plug::Plug;
 use blk_sched::Scheduler;
 use edd_check::Command;
@@ -187,5 +187,21 @@ impl<S: Scheduler, L: Named> Layer<S, L> {
     /// Takes what is in flight under a tag back into the core.
     pub(crate) fn take_back<R: Wait>(&self, rt: &R, tag: u16) -> Result<u64, BackFault> {
         self.kept.lock(rt).back(tag)
+    }
+
+    /// Ends the round, and answers the number of the next one: how many Ticks there are then. Refused as the core's `tick` is:
+    /// while a command is in flight, where the trace is full, and for want of memory.
+    pub fn tick<R: Wait>(&self, rt: &R) -> Result<u64, TickFault>
+        ensures { IsTickAnswer result }
+    {
+        self.kept.lock(rt).tick()
+    }
+
+    /// Sets how many commands the rounds after this one carry, until another depth is set. Refused as the core's `set_depth` is:
+    /// where the trace is full, where the depth is 0 or above the setup's, and for want of memory.
+    pub fn set_depth<R: Wait>(&self, rt: &R, depth: u64) -> Result<(), DepthFault>
+        ensures { IsDepthAnswer L.setup.depth depth result }
+    {
+        self.kept.lock(rt).set_depth(depth)
     }
 }
