@@ -5,3 +5,5 @@ mod Held
 mod Each
 mod Plugged
 mod Moving
+mod InHand
+mod Answered

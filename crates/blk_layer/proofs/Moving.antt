@@ -1,15 +1,16 @@
 -- What a move leaves of the core.
-use Rattle.std.proofs.Common.{◌≡◌, ◌∙◌, ◌+◌, ℕ, ap, refl, arith, cond, Bool, true, false, List, [], ◌∷◌, ◌++◌, Result, Ok, Err}
+use Rattle.std.proofs.Common.{◌≡◌, ◌∙◌, ◌+◌, ℕ, ap, refl, arith, cond, Bool, true, false, List, [], ◌∷◌, ◌++◌, Result, Ok, Err, Option, Some, None, IfOk, OnErr}
 use Rattle.blk_bio.specs.Bios.{Bio}
 use Rattle.blk_soft.specs.Queues.{Queue}
 use Rattle.blk_sched.specs.Meaning.{Waiting}
-use Rattle.blk_trace.specs.Happened.{Happened, Released, Joined}
+use Rattle.blk_trace.specs.Happened.{Happened, Released, Joined, Issued, Finished, Returned, Ticked, DepthSet}
 use Rattle.blk_trace.proofs.More.{more_of}
 use Rattle.blk_core.specs.declared.Placed.{Placed}
 use Rattle.blk_core.specs.declared.Placed.TheVariants.{New, Joined as JoinedTo}
 use Rattle.blk_core.specs.declared.CoreFault.{CoreFault}
 use Rattle.blk_core.specs.State.{CoreState}
-use Rattle.blk_core.specs.Calls.{Places}
+use Rattle.edd_check.specs.declared.Command.{Command}
+use Rattle.blk_core.specs.Calls.{Places, Choice, AddsEvent, Issues, OfDone, Completes, TakesBack, OfTick, Ends, SetsDepth}
 use Rattle.blk_layer.specs.Served.{done_count, is_done}
 use Rattle.blk_layer.specs.Moves.{IsMoveAnswer}
 
@@ -35,3 +36,34 @@ pub move_stays : (serves : ℕ → Waiting → Bool) (queue : Queue) (core : Cor
 move_stays serves queue core hw new_queue new_core (Ok true) m = placed_stays serves core m.first hw m.placed new_core m.places
 move_stays serves queue core hw new_queue new_core (Ok false) m = same_stays core new_core m.2
 move_stays serves queue core hw new_queue new_core (Err why) m = same_stays core new_core m.2
+
+-- one event more that is no Done
+pub added_stays : (old : CoreState) (e : Happened) (new : CoreState) → is_done e ≡ false → AddsEvent old e new → Stays old new
+added_stays old e new other added = record { setup = added.0; dones = ap done_count added.1 ∙ not_done old.events e other }
+
+-- a call that succeeded, or changed nothing
+pub stays_either : {A E : Type 0} (P : A → Type 0) (old new : CoreState) (r : Result A E) → ((a : A) → P a → Stays old new) → IfOk r P → OnErr r (new ≡ old) → Stays old new
+stays_either P old new (Ok a) on ok err = on a ok
+stays_either P old new (Err e) on ok err = same_stays old new err
+
+pub issue_stays : (serves : ℕ → Waiting → Bool) (chooses : Choice) (old : CoreState) (hw tag : ℕ) (new : CoreState) (found : Option Command)
+    → Issues serves chooses old hw tag found new → Stays old new
+issue_stays serves chooses old hw tag new None i = same_stays old new i.0
+issue_stays serves chooses old hw tag new (Some command) i = added_stays old (Issued i.0.id tag) new refl i.2
+
+-- a completion is one Done more
+one_done : (es : List Happened) (tag : ℕ) → done_count (es ++ Finished tag ∷ []) ≡ done_count es + 1
+unfolding done_count
+one_done es tag = more_of is_done es (Finished tag) ∙ omega arith
+
+pub done_more : (told : OfDone) (old : CoreState) (tag : ℕ) (new : CoreState) → Completes told old tag new → done_count new.events ≡ done_count old.events + 1
+done_more told old tag new d = ap done_count d.3.1 ∙ one_done old.events tag
+
+pub back_stays : (old : CoreState) (tag : ℕ) (new : CoreState) (id : ℕ) → TakesBack old tag id new → Stays old new
+back_stays old tag new id b = added_stays old (Returned tag) new refl b.4
+
+pub tick_stays : (told : OfTick) (old new : CoreState) → Ends told old new → Stays old new
+tick_stays told old new e = added_stays old Ticked new refl e.0
+
+pub depth_stays : (old : CoreState) (n : ℕ) (new : CoreState) → SetsDepth old n new → Stays old new
+depth_stays old n new s = added_stays old (DepthSet n) new refl s.0

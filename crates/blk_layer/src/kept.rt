@@ -1,15 +1,19 @@
 //! What lies under the core's lock.
 
-ghost use Rattle.std.specs.Prelude.{◌≡◌, ◌≢◌, ◌+◌, ◌<◌, [], IfErr};
+ghost use Rattle.std.specs.Prelude.{◌≡◌, ◌≢◌, ◌+◌, ◌<◌, [], IfOk, IfErr, OnOk, OnErr};
+ghost use Rattle.blk_core.specs.Calls.{Issues, Completes, TakesBack, Ends, SetsDepth};
 ghost use Rattle.blk_layer.specs.Moves.{IsMoveAnswer};
+ghost use Rattle.blk_layer.specs.Works.{IsCoreIssueFault, IsTickAnswer, IsDepthAnswer};
 ghost use Rattle.blk_trace.specs.Setups.{Setup};
 ghost use Rattle.blk_layer.specs.Served.{done_count};
 
+use crate::issues::{LayerIssueFault, of_core};
 use crate::moves::move_first;
 use crate::names::Named;
-use blk_core::{Core, CoreFault};
+use blk_core::{BackFault, Core, CoreFault, DepthFault, NotIssued, TickFault};
 use blk_sched::Scheduler;
 use blk_soft::SoftQueue;
+use edd_check::Command;
 use std::sync::ledger::{Book, Share};
 
 /// The core, beside the ledger's book of the commands that are done, and the parts of the ledger that no worker has.
@@ -53,5 +57,57 @@ impl<S: Scheduler, L: Named> Kept<S, L> {
         ensures there { IfErr result (λ why. why ≢ CoreFault.NoQueue) }
     {
         move_first(queue, &mut self.core, hw)
+    }
+
+    /// Issues for a hardware queue under a tag.
+    pub(crate) fn issue(&mut self, hw: u8, tag: u16) -> Result<Option<Command>, LayerIssueFault>
+        requires { hw < L.setup.hw }
+        ensures issued { IfOk result (λ found. Issues S.serves S.chooses self.old.core hw tag found self.new.core) }
+        ensures fault { IfErr result (IsCoreIssueFault self.old.core hw tag) }
+        ensures same { OnErr result (self.new.core ≡ self.old.core) }
+    {
+        match self.core.issue(hw, tag) {
+            Ok(found) => Ok(found),
+            Err(why) => Err(of_core(why)),
+        }
+    }
+
+    /// Completes the command in flight under a tag, and counts it in a worker's part of the ledger.
+    pub(crate) fn done(&mut self, share: &mut Share<L>, tag: u16) -> Result<(), NotIssued>
+        requires { 0 < share.old.parts }
+        ensures done { OnOk result (Completes S.told_done self.old.core tag self.new.core) }
+        ensures counted { OnOk result (share.new.amount ≡ share.old.amount + 1) }
+        ensures parts { share.new.parts ≡ share.old.parts }
+        ensures same { OnErr result ((self.new.core ≡ self.old.core) × (share.new.amount ≡ share.old.amount)) }
+    {
+        self.core.done(tag)?;
+        self.book.add(share, 1);
+        Ok(())
+    }
+
+    /// Takes the command in flight under a tag back, and answers its id.
+    pub(crate) fn back(&mut self, tag: u16) -> Result<u64, BackFault>
+        ensures back { IfOk result (λ id. TakesBack self.old.core tag id self.new.core) }
+        ensures same { OnErr result (self.new.core ≡ self.old.core) }
+    {
+        self.core.back(tag)
+    }
+
+    /// Ends the round, and answers the number of the next one.
+    pub(crate) fn tick(&mut self) -> Result<u64, TickFault>
+        ensures ended { OnOk result (Ends S.told_tick self.old.core self.new.core) }
+        ensures answer { IsTickAnswer result }
+        ensures same { OnErr result (self.new.core ≡ self.old.core) }
+    {
+        self.core.tick()
+    }
+
+    /// Sets how many commands the rounds to come carry.
+    pub(crate) fn set_depth(&mut self, depth: u64) -> Result<(), DepthFault>
+        ensures set { OnOk result (SetsDepth self.old.core depth self.new.core) }
+        ensures answer { IsDepthAnswer L.setup.depth depth result }
+        ensures same { OnErr result (self.new.core ≡ self.old.core) }
+    {
+        self.core.set_depth(depth)
     }
 }

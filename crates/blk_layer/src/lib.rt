@@ -8,6 +8,7 @@
 
 pub mod accounts;
 pub mod flushes;
+pub mod issues;
 mod kept;
 pub mod layer;
 mod moves;
@@ -17,6 +18,7 @@ mod staged;
 pub mod works;
 
 pub use crate::flushes::{FlushFault, FlushWhy, Flushed};
+pub use crate::issues::{Issued, LayerIssueFault};
 pub use crate::layer::{Layer, LayerFault, MAX_WORKERS};
 pub use crate::names::Named;
 pub use crate::seats::{Submitter, Worker};

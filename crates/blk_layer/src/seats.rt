@@ -1,18 +1,24 @@
 //! The seats of a layer: what a submitter and a worker have for themselves.
 
-ghost use Rattle.std.specs.Prelude.{◌≡◌, ◌++◌, OnErr, IfSome, IfNone, ◌<◌, ◌≤◌, ◌+◌, ◌∷◌, [], ℕ, IfOk, OnOk, All, length, map, replicate, vec_len, slice_get, Some, None};
+ghost use Rattle.std.specs.Prelude.{◌≡◌, ◌++◌, OnErr, IfSome, IfNone, ◌<◌, ◌≤◌, ◌+◌, ◌∷◌, [], ℕ, IfOk, IfErr, OnOk, All, length, map, replicate, vec_len, slice_get, Some, None, Contains};
 ghost use Rattle.blk_trace.specs.Events.{AreOnce};
 ghost use Rattle.blk_layer.specs.Flushes.{CanAccept, IsFlushReason};
 ghost use Rattle.blk_layer.specs.Seats.{AreOwn, HoldsItsTags, new_submitter, new_worker};
+ghost use Rattle.blk_layer.specs.Works.{IsIssueAnswer, AccountsFor, LetsGo, IsInHand};
 
 use crate::accounts::Account;
 use crate::flushes::{FlushWhy, first_foreign};
+use crate::issues::{Issued, LayerIssueFault};
+use crate::layer::Layer;
 use crate::names::Named;
 use blk_bio::Bio;
+use blk_core::{BackFault, NotIssued};
+use blk_sched::Scheduler;
 use blk_tags::{TagSeat, TagSet};
 use edd_check::Command;
 use std::alloc::{AllocError, Allocator, Global};
 use std::marker::{Model, PhantomData};
+use std::sync::Wait;
 use std::sync::ledger::Share;
 
 /// A submitter's seat: the software queue that is its own, and the account of its bios that were accepted.
@@ -169,6 +175,93 @@ impl<L: Named, A: Allocator + Clone> Worker<L, A> {
         ensures there { result < L.setup.hw }
     {
         self.hw
+    }
+
+    /// Issues a command to it, as `Layer::issue` says.
+    pub(crate) fn issue<S: Scheduler<A = A>, R: Wait>(
+        &mut self,
+        rt: &R,
+        layer: &Layer<S, L>,
+    ) -> Result<Option<Issued>, LayerIssueFault>
+        requires { self.old.tag_set ≡ layer.now.tag_set }
+        ensures issued { IfOk result (λ found. IsIssueAnswer self.old found self.new) }
+        ensures same { OnErr result (self.new ≡ self.old) }
+    {
+        let Some(tag) = layer.tags.get(&mut self.seat) else {
+            return Err(LayerIssueFault::NoTag);
+        };
+        if self.ran.reserve(self.hands.len()).is_err() {
+            layer.tags.give(&mut self.seat, tag);
+            return Err(LayerIssueFault::Memory);
+        }
+        match layer.ask(rt, self.hw, tag) {
+            Ok(Some(command)) => {
+                self.hands[usize::from(tag)] = Some(command);
+                Ok(Some(Issued { command, tag }))
+            }
+            Ok(None) => {
+                layer.tags.give(&mut self.seat, tag);
+                Ok(None)
+            }
+            Err(why) => {
+                layer.tags.give(&mut self.seat, tag);
+                Err(why)
+            }
+        }
+    }
+
+    /// The command in its hands under a tag.
+    fn in_hand(&self, tag: u16) -> Option<Command>
+        ensures some { IfSome result (λ command. slice_get self.now.hands tag ≡ Some (Some command)) }
+        ensures none { IfNone result (¬ Contains self.now.tags tag) }
+    {
+        let _ = self.hw;
+        if usize::from(tag) >= self.hands.len() {
+            return None;
+        }
+        self.hands[usize::from(tag)]
+    }
+
+    /// Reports as done the command in its hands under a tag, as `Layer::done` says.
+    pub(crate) fn done<S: Scheduler<A = A>, R: Wait>(
+        &mut self,
+        rt: &R,
+        layer: &Layer<S, L>,
+        tag: u16,
+    ) -> Result<(), NotIssued>
+        requires { self.old.tag_set ≡ layer.now.tag_set }
+        ensures done { OnOk result (AccountsFor self.old tag self.new) }
+        ensures same { OnErr result (self.new ≡ self.old) }
+    {
+        let Some(command) = self.in_hand(tag) else {
+            return Err(NotIssued);
+        };
+        layer.complete(rt, &mut self.share, tag)?;
+        self.hands[usize::from(tag)] = None;
+        self.ran.push_reserved(command);
+        layer.tags.give(&mut self.seat, tag);
+        Ok(())
+    }
+
+    /// Hands the command in its hands under a tag back to the core, as `Layer::back` says.
+    pub(crate) fn back<S: Scheduler<A = A>, R: Wait>(
+        &mut self,
+        rt: &R,
+        layer: &Layer<S, L>,
+        tag: u16,
+    ) -> Result<u64, BackFault>
+        requires { self.old.tag_set ≡ layer.now.tag_set }
+        ensures back { IfOk result (λ id. LetsGo self.old tag id self.new) }
+        ensures fault { IfErr result (λ why. why ≡ BackFault.Memory → IsInHand self.old tag) }
+        ensures same { OnErr result (self.new ≡ self.old) }
+    {
+        let Some(command) = self.in_hand(tag) else {
+            return Err(BackFault::NotIssued);
+        };
+        layer.take_back(rt, tag)?;
+        self.hands[usize::from(tag)] = None;
+        layer.tags.give(&mut self.seat, tag);
+        Ok(command.id)
     }
 }
 

@@ -1,17 +1,21 @@
 //! What threads do with a layer: the calls that wait for a lock.
 
-ghost use Rattle.std.specs.Prelude.{◌≡◌, ◌≢◌, ◌<◌, ◌≤◌, ◌*◌, [], OnOk, IfOk, IfErr, length};
+ghost use Rattle.std.specs.Prelude.{◌≡◌, ◌≢◌, ◌<◌, ◌≤◌, ◌*◌, ◌+◌, [], OnOk, OnErr, IfOk, IfErr, length};
 ghost use Rattle.blk_plug.specs.Plugs.{bios_plugged};
 ghost use Rattle.blk_layer.specs.Flushes.{Flushes, IsLeft};
+ghost use Rattle.blk_layer.specs.Works.{IsIssueAnswer, AccountsFor, LetsGo, IsInHand, IsTickAnswer, IsDepthAnswer};
 
 use crate::flushes::{FlushFault, Flushed};
+use crate::issues::{Issued, LayerIssueFault};
 use crate::layer::Layer;
 use crate::names::Named;
 use crate::seats::{Submitter, Worker};
-use blk_core::CoreFault;
+use blk_core::{BackFault, CoreFault, DepthFault, NotIssued, TickFault};
 use blk_plug::Plug;
 use blk_sched::Scheduler;
+use edd_check::Command;
 use std::sync::Wait;
+use std::sync::ledger::Share;
 
 /// The most requests that a drain moves from one software queue.
 pub const MAX_MOVES: u64 = 1024;
@@ -97,5 +101,107 @@ impl<S: Scheduler, L: Named> Layer<S, L> {
             }
         }
         Ok(MAX_MOVES)
+    }
+
+    /// Issues a command to a worker, for its hardware queue: the one that the core gives, or None where that gives none. The
+    /// tag is taken before the core's lock. Without a command it is given back after the lock, and the worker holds what it held;
+    /// but its next try for a tag may begin at another one.
+    ///
+    /// Refused, by the first of these that applies: as `NoTag` where each tag was found taken when it was tried; as `Memory`
+    /// where the worker's account can't be given the room that a completion will need; and then as the core's issue is.
+    pub fn issue<R: Wait>(
+        &self,
+        rt: &R,
+        worker: &mut Worker<L, S::A>,
+    ) -> Result<Option<Issued>, LayerIssueFault>
+        requires { worker.old.tag_set ≡ self.now.tag_set }
+        ensures issued { IfOk result (λ found. IsIssueAnswer worker.old found worker.new) }
+        ensures same { OnErr result (worker.new ≡ worker.old) }
+    {
+        worker.issue(rt, self)
+    }
+
+    /// What the core issues for a hardware queue under a tag.
+    pub(crate) fn ask<R: Wait>(
+        &self,
+        rt: &R,
+        hw: u8,
+        tag: u16,
+    ) -> Result<Option<Command>, LayerIssueFault>
+        requires { hw < L.setup.hw }
+    {
+        self.kept.lock(rt).issue(hw, tag)
+    }
+
+    /// Reports as done the command in the worker's hands under a tag: the one that the worker was last issued with it. It goes
+    /// into the worker's account, and the tag is given back, after the core's lock. Takes no memory.
+    ///
+    /// Refused where the worker has no command under the tag, also where another one has; nothing is changed then.
+    pub fn done<R: Wait>(
+        &self,
+        rt: &R,
+        worker: &mut Worker<L, S::A>,
+        tag: u16,
+    ) -> Result<(), NotIssued>
+        requires { worker.old.tag_set ≡ self.now.tag_set }
+        ensures done { OnOk result (AccountsFor worker.old tag worker.new) }
+        ensures same { OnErr result (worker.new ≡ worker.old) }
+    {
+        worker.done(rt, self, tag)
+    }
+
+    /// Completes in the core what is in flight under a tag, and counts it in a worker's part of the ledger.
+    pub(crate) fn complete<R: Wait>(
+        &self,
+        rt: &R,
+        share: &mut Share<L>,
+        tag: u16,
+    ) -> Result<(), NotIssued>
+        requires { 0 < share.old.parts }
+        ensures counted { OnOk result (share.new.amount ≡ share.old.amount + 1) }
+        ensures parts { share.new.parts ≡ share.old.parts }
+        ensures same { OnErr result (share.new.amount ≡ share.old.amount) }
+    {
+        self.kept.lock(rt).done(share, tag)
+    }
+
+    /// Hands the command in the worker's hands under a tag back to the core, since the device was busy, and answers its id: the
+    /// core will issue it again. The tag is given back, after the core's lock, and the worker's account stays.
+    ///
+    /// Refused, by the first of these that applies: as `NotIssued` where the worker has no command under the tag, also where
+    /// another one has; and as the core's `back` is. Nothing is changed then.
+    pub fn back<R: Wait>(
+        &self,
+        rt: &R,
+        worker: &mut Worker<L, S::A>,
+        tag: u16,
+    ) -> Result<u64, BackFault>
+        requires { worker.old.tag_set ≡ self.now.tag_set }
+        ensures back { IfOk result (λ id. LetsGo worker.old tag id worker.new) }
+        ensures fault { IfErr result (λ why. why ≡ BackFault.Memory → IsInHand worker.old tag) }
+        ensures same { OnErr result (worker.new ≡ worker.old) }
+    {
+        worker.back(rt, self, tag)
+    }
+
+    /// Takes what is in flight under a tag back into the core.
+    pub(crate) fn take_back<R: Wait>(&self, rt: &R, tag: u16) -> Result<u64, BackFault> {
+        self.kept.lock(rt).back(tag)
+    }
+
+    /// Ends the round, and answers the number of the next one: how many Ticks there are then. Refused as the core's `tick` is:
+    /// while a command is in flight, where the trace is full, and for want of memory.
+    pub fn tick<R: Wait>(&self, rt: &R) -> Result<u64, TickFault>
+        ensures { IsTickAnswer result }
+    {
+        self.kept.lock(rt).tick()
+    }
+
+    /// Sets how many commands the rounds after this one carry, until another depth is set. Refused as the core's `set_depth` is:
+    /// where the trace is full, where the depth is 0 or above the setup's, and for want of memory.
+    pub fn set_depth<R: Wait>(&self, rt: &R, depth: u64) -> Result<(), DepthFault>
+        ensures { IsDepthAnswer L.setup.depth depth result }
+    {
+        self.kept.lock(rt).set_depth(depth)
     }
 }

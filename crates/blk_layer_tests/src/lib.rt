@@ -9,3 +9,5 @@ mod given;
 mod made;
 #[cfg(test)]
 mod moved;
+#[cfg(test)]
+mod served;

@@ -1,0 +1,23 @@
+use Rattle.std.proofs.Common.{◌∙◌, sym, ap}
+use Rattle.blk_core.specs.Calls.{SetsDepth}
+use Rattle.blk_trace.specs.Setups.{Setup}
+use Rattle.blk_layer.proofs.Moving.{depth_stays, stays_either}
+use Rattle.blk_layer.proofs.Answered.{depth_answer}
+use Rattle.blk_layer.proofs.kept.Kept.set_depth.Goals as goal
+
+pub invariant_of-self : goal.invariant_of-self
+invariant_of-self g c =
+    let kept = c.args.self.now in
+    let new = c.set_depth.new.self in
+    let stays = stays_either (λ _. SetsDepth kept.core c.args.depth new) kept.core new c.set_depth.result (λ _. depth_stays kept.core c.args.depth new) c.set_depth.ensures.set c.set_depth.ensures.same in
+    record {
+      named = stays.setup ∙ kept.named;
+      counted = kept.counted ∙ sym stays.dones;
+      all_out = kept.all_out;
+      none = kept.none;
+    }
+
+pub returns-clause-answer : goal.returns-clause-answer
+returns-clause-answer g c =
+    let kept = c.args.self.now in
+    depth_answer kept.core g.L.Named.setup.depth c.args.depth c.set_depth.result (ap (λ (s : Setup). s.depth) kept.named) c.set_depth.ensures.no_fault c.set_depth.ensures.fault

@@ -1,0 +1,22 @@
+use Rattle.std.proofs.Common.{◌∙◌, sym}
+use Rattle.blk_core.specs.Calls.{Ends}
+use Rattle.blk_layer.proofs.Moving.{tick_stays, stays_either}
+use Rattle.blk_layer.proofs.Answered.{tick_answer}
+use Rattle.blk_layer.proofs.kept.Kept.tick.Goals as goal
+
+pub invariant_of-self : goal.invariant_of-self
+invariant_of-self g c =
+    let kept = c.args.self.now in
+    let new = c.tick.new.self in
+    let stays = stays_either (λ _. Ends g.S.Scheduler.told_tick kept.core new) kept.core new c.tick.result (λ _. tick_stays g.S.Scheduler.told_tick kept.core new) c.tick.ensures.ended c.tick.ensures.same in
+    record {
+      named = stays.setup ∙ kept.named;
+      counted = kept.counted ∙ sym stays.dones;
+      all_out = kept.all_out;
+      none = kept.none;
+    }
+
+pub returns-clause-answer : goal.returns-clause-answer
+returns-clause-answer g c =
+    let kept = c.args.self.now in
+    tick_answer g.S.Scheduler.told_tick kept.core c.tick.new.self c.tick.result c.tick.ensures.ended c.tick.ensures.round c.tick.ensures.fault

@@ -1,0 +1,29 @@
+use Rattle.std.proofs.Common.{◌≡◌, ◌+◌, Some, length, sym, ap, subst, arith}
+use Rattle.std.specs.Prelude.{slice_get}
+use Rattle.std.specs.Vec.{vec_capacity}
+use Rattle.blk_tags.specs.Tags.{Seat as TagSeat}
+use Rattle.blk_layer.specs.Seats.{WorkerSeat}
+use Rattle.blk_layer.proofs.InHand.{one_less, tag_held, one_fewer}
+use Rattle.blk_layer.proofs.seats.Worker.done.Goals as goal
+
+pub push_reserved-requires : goal.push_reserved-requires
+push_reserved-requires g c =
+    let own = c.self.inside in
+    let held : slice_get own.hands.items c.args.tag ≡ Some (Some c.in-Some.command) = subst (λ (s : WorkerSeat). slice_get s.hands c.args.tag ≡ Some (Some c.in-Some.command)) (sym c.self.view_is) c.in-Some.ensures.some in
+    omega (arith, one_less own.hands.items c.args.tag c.in-Some.command held, c.self.invariant.room_left, own.ran.ok.0)
+
+pub give-requires-clause-holds : goal.give-requires-clause-holds
+give-requires-clause-holds g c =
+    let own = c.self.inside in
+    let held : slice_get own.hands.items c.args.tag ≡ Some (Some c.in-Some.command) = subst (λ (s : WorkerSeat). slice_get s.hands c.args.tag ≡ Some (Some c.in-Some.command)) (sym c.self.view_is) c.in-Some.ensures.some in
+    tag_held own.hands.items own.seat.tags c.args.tag c.in-Some.command c.self.invariant.marks held
+
+pub invariant_of-self-2 : goal.invariant_of-self-2
+invariant_of-self-2 g c =
+    let own = c.self.inside in
+    let held : slice_get own.hands.items c.args.tag ≡ Some (Some c.in-Some.command) = subst (λ (s : WorkerSeat). slice_get s.hands c.args.tag ≡ Some (Some c.in-Some.command)) (sym c.self.view_is) c.in-Some.ensures.some in
+    let gave = c.give.ensures in
+    let put = c.push_reserved in
+    let more : length put.new.self.items ≡ length own.ran.items + 1 = omega (arith, put.ensures.len, own.ran.ok.0, put.new.self.ok.0) in
+    let sum : c.complete.new.share.amount ≡ length put.new.self.items = omega (arith, c.in_ok-complete.ensures.counted, c.self.invariant.counted, more) in
+    one_fewer g.L.Named.setup own.hw own.seat.of_set.depth c.give.new.seat.of_set.depth own.seat.tags c.give.new.seat.tags own.hands.items (length own.ran.items) (length put.new.self.items) (vec_capacity own.ran) (vec_capacity put.new.self) own.share.parts c.complete.new.share.parts own.share.amount c.complete.new.share.amount c.from.result c.args.tag c.in-Some.command c.self.invariant (ap (λ (s : TagSeat). s.of_set.depth) gave) held (ap (λ (s : TagSeat). s.tags) gave) c.from.ensures (omega (arith, more)) put.ensures.capacity c.in_ok-complete.ensures.parts sum

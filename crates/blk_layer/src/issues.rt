@@ -1,0 +1,52 @@
+//! What a worker is told when it asks for a command.
+
+ghost use Rattle.std.specs.Prelude.{◌≡◌, ◌≢◌, Some};
+ghost use Rattle.blk_layer.specs.Works.{core_name};
+
+use blk_core::IssueFault;
+use edd_check::Command;
+use thiserror::Error;
+
+/// A command that was issued to a worker.
+#[derive(Clone, Copy, Debug, PartialEq, Eq)]
+pub struct Issued {
+    /// The command.
+    pub command: Command,
+    /// The tag under which it is in flight.
+    pub tag: u16,
+}
+
+/// Why nothing is issued to a worker, in the order in which the reasons are looked for; but `Memory` for the worker's account
+/// comes right after `NoTag`.
+#[derive(Clone, Copy, Debug, PartialEq, Eq, Error)]
+pub enum LayerIssueFault {
+    /// Each tag that was tried is taken.
+    #[error("NoTag")]
+    NoTag,
+    /// The tag is not below the depth of this round.
+    #[error("TagRange")]
+    TagRange,
+    /// The tag was issued in this round.
+    #[error("SlotUsed")]
+    SlotUsed,
+    /// The trace has no places for an Issue and its end.
+    #[error("TraceFull")]
+    TraceFull,
+    /// Memory ran out.
+    #[error("Memory")]
+    Memory,
+}
+
+/// The core's reason, which isn't that the hardware queue is not there.
+pub(crate) fn of_core(why: IssueFault) -> LayerIssueFault
+    requires { why ≢ IssueFault.NoQueue }
+    ensures { core_name result ≡ Some why }
+{
+    match why {
+        IssueFault::NoQueue => unreachable!(),
+        IssueFault::TagRange => LayerIssueFault::TagRange,
+        IssueFault::SlotUsed => LayerIssueFault::SlotUsed,
+        IssueFault::TraceFull => LayerIssueFault::TraceFull,
+        IssueFault::Memory => LayerIssueFault::Memory,
+    }
+}
