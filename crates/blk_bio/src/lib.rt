@@ -13,5 +13,7 @@ pub mod request;
 
 pub use crate::bio::{Bio, BioFault, BioId, Dir, SECTOR_LIMIT};
 pub use crate::extent::Extent;
-pub use crate::limits::{Limits, LimitsFault, MAX_QUEUES, MAX_SECTORS, MAX_SEGMENTS};
+pub use crate::limits::{
+    Limits, LimitsFault, MAX_QUEUES, MAX_SECTORS, MAX_SEGMENTS, MAX_SOFT_DEPTH, MAX_SOFT_QUEUES,
+};
 pub use crate::request::{JoinFault, Request, Side};

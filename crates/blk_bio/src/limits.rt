@@ -1,5 +1,5 @@
 //! How large a request of several bios may be, after `max_sectors` and `max_segments` of Linux's request queue, and how many
-//! hardware queues a device has at most.
+//! hardware queues a device has at most, how many software queues stand before them, and how deep those are.
 
 ghost use Rattle.std.specs.Prelude.{◌≡◌};
 ghost use Rattle.blk_bio.specs.Limits.{IsLimits, IsLimitsAnswer};
@@ -15,6 +15,12 @@ pub const MAX_SEGMENTS: u64 = 128;
 
 /// The most hardware queues of a device, at each of which requests enter; they are numbered from 0 on.
 pub const MAX_QUEUES: u8 = 16;
+
+/// The most software queues, each of which is one submitter's; they are numbered from 0 on.
+pub const MAX_SOFT_QUEUES: u64 = 64;
+
+/// The greatest depth of a software queue, in requests.
+pub const MAX_SOFT_DEPTH: u64 = 1024;
 
 /// Why limits are not made, in the order in which the reasons are looked for.
 #[derive(Clone, Copy, Debug, PartialEq, Eq, Error)]

@@ -3,6 +3,7 @@ use Rattle.std.proofs.Common.{◌≡◌, ℕ, ◌<◌, ◌≤◌, inl, inr, List
 use Rattle.std.specs.Prelude.{All, Any, Contains}
 use Rattle.std.proofs.lemmas.Bool.{cases_lt}
 use Rattle.std.proofs.lemmas.List.Elements.{All-contains, Contains-get_or}
+use Rattle.blk_bio.specs.declared.limits.TheConstants.{MAX_SOFT_QUEUES}
 use Rattle.blk_hw.specs.Maps.{IsCountedMap, IsLeastUnserved}
 
 -- where no entry is above the least number that is none, an entry is below that number
@@ -19,7 +20,7 @@ below_count entries count few in_range unnamed most hw named =
     ]
 
 -- the least number that is no entry is the count, where no entry is above it
-pub counted : (entries : List ℕ) (count : ℕ) → 0 < length entries → length entries ≤ 64 → count ≤ 16 → All (λ hw. hw ≤ 15) entries → ((hw : ℕ) → hw < count → Contains entries hw) → (count < 16 → ¬ Contains entries count) → All (λ hw. hw ≤ count) entries → IsCountedMap entries count
+pub counted : (entries : List ℕ) (count : ℕ) → 0 < length entries → length entries ≤ MAX_SOFT_QUEUES → count ≤ 16 → All (λ hw. hw ≤ 15) entries → ((hw : ℕ) → hw < count → Contains entries hw) → (count < 16 → ¬ Contains entries count) → All (λ hw. hw ≤ count) entries → IsCountedMap entries count
 counted entries count some few_entries few in_range named unnamed most =
     let below : (hw : ℕ) → Contains entries hw → hw < count = below_count entries count few in_range unnamed most in
     let first : get_or entries 0 0 < count = below (get_or entries 0 0) (Contains-get_or entries 0 0 some) in
@@ -36,7 +37,7 @@ counted entries count some few_entries few in_range named unnamed most =
     }
 
 -- the same, of entries that were read three times
-pub made : (entries first second third : List ℕ) (count : ℕ) → first ≡ entries → second ≡ entries → third ≡ entries → 0 < length entries → length entries ≤ 64 → count ≤ 16 → All (λ hw. hw ≤ 15) first → ((hw : ℕ) → hw < count → Contains second hw) → (count < 16 → ¬ Contains second count) → All (λ hw. hw ≤ count) third → IsCountedMap entries count
+pub made : (entries first second third : List ℕ) (count : ℕ) → first ≡ entries → second ≡ entries → third ≡ entries → 0 < length entries → length entries ≤ MAX_SOFT_QUEUES → count ≤ 16 → All (λ hw. hw ≤ 15) first → ((hw : ℕ) → hw < count → Contains second hw) → (count < 16 → ¬ Contains second count) → All (λ hw. hw ≤ count) third → IsCountedMap entries count
 made entries first second third count e f h some few_entries few in_range named unnamed most =
     counted entries count some few_entries few
     (subst (λ xs. All (λ hw. hw ≤ 15) xs) e in_range)

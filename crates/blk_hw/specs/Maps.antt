@@ -1,7 +1,6 @@
 -- Maps of software queues to the hardware queues that serve them: the list of the hardware queues, by software queue.
 use Rattle.std.specs.Prelude.{ℕ, ◌≡◌, ◌<◌, ◌≤◌, ◌-◌, ◌⊎◌, ◌↔◌, List, [], length, All, Any, Contains, Result, Ok, Err}
-use Rattle.blk_bio.specs.declared.limits.TheConstants.{MAX_QUEUES}
-use Rattle.blk_hw.specs.declared.TheConstants.{MAX_SOFT_QUEUES}
+use Rattle.blk_bio.specs.declared.limits.TheConstants.{MAX_QUEUES, MAX_SOFT_QUEUES}
 use Rattle.blk_hw.specs.declared.MapFault.{MapFault}
 use Rattle.blk_hw.specs.declared.MapFault.TheVariants.{Empty, TooMany, Unserved}
 

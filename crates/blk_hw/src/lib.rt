@@ -9,15 +9,12 @@ ghost use Rattle.std.specs.Bool.{OnTrue, OnFalse};
 ghost use Rattle.blk_hw.specs.Maps.{greatest_hw, IsMap, IsHwCount, IsCountedMap, IsMapAnswer};
 ghost use Rattle.blk_hw.specs.Held.{held_in, TakesFirst};
 
-use blk_bio::MAX_QUEUES;
+use blk_bio::{MAX_QUEUES, MAX_SOFT_QUEUES};
 use blk_sched::Queued;
 use std::alloc::{AllocError, Allocator, Global};
 use std::collections::VecDeque;
 use std::marker::Model;
 use thiserror::Error;
-
-/// The most software queues of a map.
-pub const MAX_SOFT_QUEUES: usize = 64;
 
 /// Why a map is not made, in the order in which the reasons are looked for.
 #[derive(Clone, Copy, Debug, PartialEq, Eq, Error)]
@@ -63,7 +60,9 @@ impl<A: Allocator> Map<A> {
         if entries.is_empty() {
             return Err(MapFault::Empty);
         }
-        if entries.len() > MAX_SOFT_QUEUES || names_above(entries.as_slice(), MAX_QUEUES - 1) {
+        if entries.len() as u64 > MAX_SOFT_QUEUES
+            || names_above(entries.as_slice(), MAX_QUEUES - 1)
+        {
             return Err(MapFault::TooMany);
         }
         let hw_count = least_unnamed(entries.as_slice());

@@ -2,6 +2,7 @@
 use Rattle.std.proofs.Common.{arith, ◌≡◌, ◌<◌, ◌≤◌, ◌%◌, ◌∙◌, ℕ, List, length, get_or, sym, ap, subst, inl, inr}
 use Rattle.std.specs.Prelude.{Contains}
 use Rattle.std.proofs.Math.Nat.{mod-lt, mod-eq_of_lt}
+use Rattle.blk_bio.specs.declared.limits.TheConstants.{MAX_QUEUES, MAX_SOFT_QUEUES}
 use Rattle.blk_hw.specs.Maps.{IsMapFault}
 use Rattle.blk_hw.specs.declared.MapFault.{MapFault}
 use Rattle.blk_hw.specs.declared.MapFault.TheVariants.{Empty, TooMany, Unserved}
@@ -13,8 +14,8 @@ below hw count entries k x some h lt is =
     let within : k < count = let n = h.counts in omega arith in
     subst (λ y. y < hw) (sym (h.spread k x within) ∙ is) (mod-lt k some)
 
--- the map is made: at least as many software queues as hardware queues, 1 to 16 of these and at most 64 of those
-pub no_map_fault : (hw count : ℕ) (entries : List ℕ) (fault : MapFault) → 0 < hw → hw ≤ 16 → hw ≤ count → count ≤ 64 → IsSpread hw count entries → IsMapFault entries fault → ⊥
+-- the map is made: at least as many software queues as hardware queues, at least one of these, and no more of either than there may be
+pub no_map_fault : (hw count : ℕ) (entries : List ℕ) (fault : MapFault) → 0 < hw → hw ≤ MAX_QUEUES → hw ≤ count → count ≤ MAX_SOFT_QUEUES → IsSpread hw count entries → IsMapFault entries fault → ⊥
 no_map_fault hw count entries Empty some few enough most h e =
     let none : length entries ≡ 0 = ap length e in
     let n = h.counts in

@@ -1,6 +1,7 @@
 //! A script's steps, run one after the other over plugs, software queues and the core.
 
 ghost use Rattle.std.specs.Prelude.{◌≡◌, ◌<◌, ◌≤◌, ◌%◌, ◌^◌, ℕ, List, [], replicate, IfOk, OnOk, IfErr, length, sum_by, IsPermutation};
+ghost use Rattle.blk_bio.specs.declared.limits.TheConstants.{MAX_QUEUES, MAX_SOFT_DEPTH, MAX_SOFT_QUEUES};
 ghost use Rattle.blk_sched.specs.Meaning.{at_start};
 ghost use Rattle.blk_trace.specs.Events.{entered, round_of};
 ghost use Rattle.blk_trace.specs.Legal.{IsLegalTrace};
@@ -75,7 +76,7 @@ fn new_queues<A: Allocator + Clone>(
     depth: u64,
     limits: Limits,
 ) -> Result<Vec<SoftQueue<A>, A>, AllocError>
-    requires { (1 ≤ depth) × (depth ≤ 1024) }
+    requires { (1 ≤ depth) × (depth ≤ MAX_SOFT_DEPTH) }
     ensures { IfOk result (λ queues. queues.items ≡ replicate count (record { depth = depth; limits = limits; requests = []; bios_in = 0; bios_out = 0 })) }
 {
     let mut queues = Vec::new(alloc.clone()?);
@@ -105,9 +106,9 @@ fn spread<A: Allocator>(alloc: A, count: u64, hw: u8) -> Result<Vec<u8, A>, Allo
 /// The map of so many software queues to so many hardware queues.
 fn new_map<A: Allocator>(alloc: A, count: u64, hw: u8) -> Result<Map<A>, AllocError>
     requires some { 0 < hw }
-    requires few { hw ≤ 16 }
+    requires few { hw ≤ MAX_QUEUES }
     requires enough { hw ≤ count }
-    requires submitters { count ≤ 64 }
+    requires submitters { count ≤ MAX_SOFT_QUEUES }
     ensures { IfOk result (λ map. IsSpread hw count map) }
 {
     let entries = spread(alloc, count, hw)?;

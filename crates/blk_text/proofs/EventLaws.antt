@@ -1,12 +1,11 @@
 -- The laws of the events of a trace, and of whole traces.
-use Rattle.std.proofs.Common.{◌≡◌, ◌==◌, ◌+◌, ◌<◌, ◌≤◌, ◌∙◌, ℕ, List, [], ◌∷◌, length, refl, sym, ap, subst, inl, inr, arith, codes, Bool, true, false, Option, Some, None}
-use Rattle.std.specs.Prelude.{◌⊎◌, IfSome, Err, if◌then◌else◌}
+use Rattle.std.proofs.Common.{◌≡◌, ◌+◌, ◌<◌, ◌≤◌, ◌∙◌, ℕ, List, [], ◌∷◌, length, refl, sym, ap, subst, inl, inr, arith, codes, Bool, true, false, Option, Some, None}
+use Rattle.std.specs.Prelude.{◌⊎◌, IfSome, Err}
 use Rattle.blk_bio.specs.Bios.{Bio}
 use Rattle.blk_bio.specs.Limits.{Limits}
 use Rattle.blk_trace.specs.Happened.{Happened, Ticked, Released, Joined, Issued, Finished, Returned, DepthSet}
 use Rattle.blk_trace.specs.Rules.{IsFirstBroken, IsUnbroken, rank}
 use Rattle.blk_trace.specs.declared.rule.TraceRule.{TraceRule}
-use Rattle.blk_trace.specs.declared.rule.TraceRule.TheVariants as rule
 use Rattle.blk_trace.specs.declared.setup.TheConstants.{MAX_DEPTH}
 use Rattle.blk_trace.specs.Setups.{Setup}
 use Rattle.blk_trace.specs.Traces.{Traced, IsPushAnswer}
@@ -27,14 +26,15 @@ use Rattle.blk_text.specs.declared.heads.TraceTitle.{TraceTitle}
 use Rattle.parts.specs.declared.Repeats.TheVariants as repeats
 use Rattle.parts.specs.Parts.{Part, Begins}
 use Rattle.parts.specs.Parts.{then as in_turn}
-use Rattle.parts.specs.Laws.{Tells, IsPlain}
-use Rattle.parts.proofs.Then.{seen_tells, then_tells, tested_tells, both_begin}
-use Rattle.parts.proofs.Many.{HasRows, ended_tells}
+use Rattle.parts.specs.Laws.{Tells, Decides, IsPlain}
+use Rattle.parts.proofs.Then.{seen_tells, seen_decides, then_tells, then_decides, tested_tells, tested_decides, both_begin}
+use Rattle.parts.proofs.Many.{HasRows, ended_tells, ended_decides}
 use Rattle.blk_text.proofs.Reading.{outside_fails, many_fails, many_ends, full_ends, past_wrong, full_stopped}
-use Rattle.blk_text.proofs.TableLaws.{IsTable, title_part}
-use Rattle.blk_text.proofs.ScriptLaws.{fewer_tags, setup_one}
-use Rattle.blk_text.proofs.HeadLaws.{head_tells, head_gone}
-use Rattle.blk_text.proofs.GroupLaws.{group_tells, group_size}
+use Rattle.blk_text.proofs.TableLaws.{IsTable, title_part, title_decides}
+use Rattle.blk_text.proofs.ScriptLaws.{fewer_tags, setup_one, setup_decides}
+use Rattle.blk_text.proofs.HeadLaws.{head_tells, head_decides, head_gone}
+use Rattle.blk_text.proofs.GroupLaws.{group_tells, group_decides, group_size}
+use Rattle.blk_text.proofs.RuleLaws.{rule_at, rule_is, unbroken_or_first}
 use Rattle.blk_trace.specs.declared.trace.TheConstants.{MAX_EVENTS}
 use Rattle.blk_bio.specs.declared.limits.TheConstants.{MAX_QUEUES, MAX_SEGMENTS}
 
@@ -51,45 +51,32 @@ back (head.Depth depth, bios) = DepthSet depth
 back_is : (e : Happened) → back (told e) ≡ e
 unfolding back
 back_is Ticked = refl
-back_is (Released id bios) = refl
-back_is (Joined id bios) = refl
-back_is (Issued id tag) = refl
-back_is (Finished tag) = refl
-back_is (Returned tag) = refl
-back_is (DepthSet depth) = refl
+back_is e = refl
+
+none : (bios : List Bio) → length bios ≡ 0 → [] ≡ bios
+none [] e = refl
+none (b ∷ bs) e = absurd (omega (arith, e))
 
 pub plain_tells : (version : ℕ) (limits : Limits) → Tells (plain_event version limits)
 plain_tells version limits = seen_tells told (in_turn (first_record version) (λ h. group version limits (bios_after h))) (λ e f same. sym (back_is e) ∙ ap back same ∙ back_is f)
     (then_tells (first_record version) (λ h. group version limits (bios_after h)) (head_tells version) (λ h fit. group_tells version limits (bios_after h)))
 
+-- the first record and the bios of what was told
+told_back : (h : Head) (bios : List Bio) → length bios ≡ bios_after h → told (back (h, bios)) ≡ (h, bios)
+unfolding back
+told_back head.Tick bios e = ap (λ l. (head.Tick, l)) (none bios e)
+told_back (head.Release id count) bios e = ap (λ n. (head.Release id n, bios)) e
+told_back (head.Join id count) bios e = ap (λ n. (head.Join id n, bios)) e
+told_back (head.Issue id tag) bios e = ap (λ l. (head.Issue id tag, l)) (none bios e)
+told_back (head.Done tag) bios e = ap (λ l. (head.Done tag, l)) (none bios e)
+told_back (head.Back tag) bios e = ap (λ l. (head.Back tag, l)) (none bios e)
+told_back (head.Depth depth) bios e = ap (λ l. (head.Depth depth, l)) (none bios e)
+
+plain_decides : (version : ℕ) (limits : Limits) → Decides (plain_event version limits)
+plain_decides version limits = seen_decides told (in_turn (first_record version) (λ h. group version limits (bios_after h))) (λ v f. (back v, told_back v.0 v.1 f.1.1))
+    (then_decides (first_record version) (λ h. group version limits (bios_after h)) (head_decides version) (λ h fit. group_decides version limits (bios_after h)))
+
 -- rules
-
-abbrev rule_at : ℕ → TraceRule
-rule_at n =
-    if n == 1 then rule.ReleasedTwice
-    else if n == 2 then rule.Unknown
-    else if n == 3 then rule.AlreadyIssued
-    else if n == 4 then rule.BioTwice
-    else if n == 5 then rule.Fit
-    else if n == 6 then rule.TagRange
-    else if n == 7 then rule.TagUsed
-    else if n == 8 then rule.NotIssued
-    else if n == 9 then rule.InFlight
-    else if n == 10 then rule.TooLong
-    else rule.DepthRange
-
-rule_is : (r : TraceRule) → rule_at (rank r) ≡ r
-rule_is rule.ReleasedTwice = refl
-rule_is rule.Unknown = refl
-rule_is rule.AlreadyIssued = refl
-rule_is rule.BioTwice = refl
-rule_is rule.Fit = refl
-rule_is rule.TagRange = refl
-rule_is rule.TagUsed = refl
-rule_is rule.NotIssued = refl
-rule_is rule.InFlight = refl
-rule_is rule.TooLong = refl
-rule_is rule.DepthRange = refl
 
 three : (a b : ℕ) → (a < b) ⊎ (a ≡ b) ⊎ (b < a)
 three a b = grind arith
@@ -110,6 +97,15 @@ event_tells version setup before = tested_tells (plain_event version setup.limit
     (λ e k j w x fit f g. breaks_once setup before e k j w x f g)
     (λ e k w good f. f.1.2.broken (good f.1.0))
     (λ e k w f. (let is = f.0 in (omega (arith, is), omega (arith, is))))
+
+event_decides : (version : ℕ) (setup : Setup) (before : List Happened) → Decides (event version setup before)
+event_decides version setup before = tested_decides (plain_event version setup.limits) (IsUnbroken setup before) (BreaksRule setup before) (plain_decides version setup.limits) (λ e fit. broken_or_not setup before e)
+  where
+    broken_or_not : (setup : Setup) (before : List Happened) (e : Happened) → IsUnbroken setup before e ⊎ ((k : ℕ) × (w : Why) × BreaksRule setup before e k w)
+    broken_or_not setup before e = elim (unbroken_or_first setup before e) [
+      | inl u ↦ inl u
+      | inr b ↦ inr (1, why.Rule b.0, (refl, (b.0, refl, b.1)))
+    ]
 
 pub event_plain : (version : ℕ) (setup : Setup) (before : List Happened) → IsPlain (event version setup before)
 event_plain version setup before e rest fit = (tt, fit.0.1.1)
@@ -132,9 +128,23 @@ more_tells version setup before =
     (λ h k w good f. f.2.1.2.broken (alone_good setup before (alone h) f.0 good f.1 f.2.1.0))
     (λ h k w f. (let is = f.2.0 in (omega (arith, is), omega (arith, is))))
 
+more_decides : (version : ℕ) (setup : Setup) (before : List Happened) → Decides (one_more version setup before)
+more_decides version setup before =
+    tested_decides (first_record version) (λ h. IfSome (alone h) (IsUnbroken setup before)) (λ h k w. (e : Happened) × (alone h ≡ Some e) × BreaksRule setup before e k w) (head_decides version) (λ h fit. decided (alone h))
+  where
+    decided : (o : Option Happened) → IfSome o (IsUnbroken setup before) ⊎ ((k : ℕ) × (w : Why) × ((e : Happened) × (o ≡ Some e) × BreaksRule setup before e k w))
+    decided None = inl tt
+    decided (Some e) = elim (unbroken_or_first setup before e) [
+      | inl u ↦ inl u
+      | inr b ↦ inr (1, why.Rule b.0, (e, refl, (refl, (b.0, refl, b.1))))
+    ]
+
 pub events_tell : (version : ℕ) (setup : Setup) (count : ℕ) → Tells (events_of version setup count)
 events_tell version setup count =
     ended_tells (repeats.Exactly count) why.Count (event version setup) (one_more version setup) with_next (event_tells version setup) (event_plain version setup) (event_rows version setup) (more_tells version setup) []
+
+events_decide : (version : ℕ) (setup : Setup) (count : ℕ) → Decides (events_of version setup count)
+events_decide version setup count = ended_decides (repeats.Exactly count) why.Count (event version setup) (one_more version setup) with_next (event_decides version setup) (more_decides version setup) []
 
 pub event_gone : (version : ℕ) (setup : Setup) (before : List Happened) → (event version setup before).Wrong [] 1 why.Count
 event_gone version setup before = inl (inl (head_gone version))
@@ -172,6 +182,10 @@ body_tells t i = then_tells (setup t.1.depth t.1.hw) (λ s. events_of t.0 s t.1.
 pub trace_tells : Tells trace_form
 trace_tells = then_tells title trace_body title_one.tells (λ t fit. body_tells t fit.1)
 
+pub trace_decides : Decides trace_form
+trace_decides = then_decides title trace_body (title_decides (codes "blk-trace") latest trace_cells IsTraceTitle (omega arith) title_table) (λ t fit. (let i = fit.1 in
+    then_decides (setup t.1.depth t.1.hw) (λ s. events_of t.0 s t.1.count) (setup_decides t.1.depth t.1.hw (setup_depth t i) i.hw) (λ s fit. events_decide t.0 s t.1.count)))
+
 -- what was read of an event
 
 pub head_fails : (version : ℕ) (limits : Limits) (failed : Bool) (left : Option (List Row)) (row : Row) (start at : ℕ) (w : Why) → IsWrongLine (first_record version) row w → at ≡ start
@@ -181,22 +195,14 @@ head_fails version limits failed (Some rows) row start at w h e = inr (1, omega 
 
 -- of one record
 pub alone_line : (version : ℕ) (limits : Limits) (h : Head) (e : Happened) (row : Row) → alone h ≡ Some e → IsLine (first_record version) row h → IsLine (plain_event version limits) row e
-alone_line version limits head.Tick e row is l = subst (λ z. IsLine (plain_event version limits) row z) (some_same _ _ is) (λ rest. record { fits = ((l rest).fits, (tt, refl)); made = (l rest).made; follows = (tt, refl) })
 alone_line version limits (head.Release id bios) e row is l = absurd (cc is)
 alone_line version limits (head.Join id bios) e row is l = absurd (cc is)
-alone_line version limits (head.Issue id tag) e row is l = subst (λ z. IsLine (plain_event version limits) row z) (some_same _ _ is) (λ rest. record { fits = ((l rest).fits, (tt, refl)); made = (l rest).made; follows = (tt, refl) })
-alone_line version limits (head.Done tag) e row is l = subst (λ z. IsLine (plain_event version limits) row z) (some_same _ _ is) (λ rest. record { fits = ((l rest).fits, (tt, refl)); made = (l rest).made; follows = (tt, refl) })
-alone_line version limits (head.Back tag) e row is l = subst (λ z. IsLine (plain_event version limits) row z) (some_same _ _ is) (λ rest. record { fits = ((l rest).fits, (tt, refl)); made = (l rest).made; follows = (tt, refl) })
-alone_line version limits (head.Depth depth) e row is l = subst (λ z. IsLine (plain_event version limits) row z) (some_same _ _ is) (λ rest. record { fits = ((l rest).fits, (tt, refl)); made = (l rest).made; follows = (tt, refl) })
+alone_line version limits h e row is l = subst (λ z. IsLine (plain_event version limits) row z) (some_same _ _ is) (λ rest. record { fits = ((l rest).fits, (tt, refl)); made = (l rest).made; follows = (tt, refl) })
 
 pub alone_size : (version : ℕ) (limits : Limits) (h : Head) (e : Happened) → alone h ≡ Some e → length ((plain_event version limits).rows_of e) ≡ 1
-alone_size version limits head.Tick e is = subst (λ z. length ((plain_event version limits).rows_of z) ≡ 1) (some_same _ _ is) refl
 alone_size version limits (head.Release id bios) e is = absurd (cc is)
 alone_size version limits (head.Join id bios) e is = absurd (cc is)
-alone_size version limits (head.Issue id tag) e is = subst (λ z. length ((plain_event version limits).rows_of z) ≡ 1) (some_same _ _ is) refl
-alone_size version limits (head.Done tag) e is = subst (λ z. length ((plain_event version limits).rows_of z) ≡ 1) (some_same _ _ is) refl
-alone_size version limits (head.Back tag) e is = subst (λ z. length ((plain_event version limits).rows_of z) ≡ 1) (some_same _ _ is) refl
-alone_size version limits (head.Depth depth) e is = subst (λ z. length ((plain_event version limits).rows_of z) ≡ 1) (some_same _ _ is) refl
+alone_size version limits h e is = subst (λ z. length ((plain_event version limits).rows_of z) ≡ 1) (some_same _ _ is) refl
 
 -- of a group: its first record and its bios
 abbrev grouped : ℕ → Limits → Part Row Why (Head × List Bio)

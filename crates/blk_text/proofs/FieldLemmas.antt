@@ -21,12 +21,8 @@ titled name one (f ∷ []) h a b = absurd (omega arith)
 titled name one (f ∷ g ∷ more) h a b = (more, rw (a, b) refl)
 
 pub four : (cells : Row) (a b c d : List ℕ) → length cells ≡ 4 → get_or cells 0 [] ≡ a → get_or cells 1 [] ≡ b → get_or cells 2 [] ≡ c → get_or cells 3 [] ≡ d → cells ≡ a ∷ b ∷ c ∷ d ∷ []
-four [] a b c d h p q r s = absurd (omega (arith, h))
-four (x ∷ []) a b c d h p q r s = absurd (omega (arith, h))
-four (x ∷ y ∷ []) a b c d h p q r s = absurd (omega (arith, h))
-four (x ∷ y ∷ z ∷ []) a b c d h p q r s = absurd (omega (arith, h))
 four (x ∷ y ∷ z ∷ v ∷ []) a b c d h p q r s = rw (p, q, r, s) refl
-four (x ∷ y ∷ z ∷ v ∷ w ∷ more) a b c d h p q r s = absurd (omega (arith, h))
+four cells a b c d h p q r s = absurd (omega (arith, h))
 
 pub not_titled : (name one : List ℕ) (cells : Row) → ((more : Row) × (cells ≡ name ∷ one ∷ more)) → (2 ≤ length cells) × (get_or cells 0 [] ≡ name) × (get_or cells 1 [] ≡ one)
 not_titled name one cells h = rw h.1 (omega arith, refl, refl)

@@ -1,6 +1,6 @@
 -- The laws of the bios of a group.
-use Rattle.std.proofs.Common.{◌≡◌, ◌^◌, ◌≤◌, ◌<◌, ◌∙◌, ℕ, suc, List, [], ◌∷◌, ◌++◌, length, refl, sym, ap, inl, inr, arith, get_or, codes, Bool, Option, Some, None}
-use Rattle.std.specs.Prelude.{Err}
+use Rattle.std.proofs.Common.{◌≡◌, ◌^◌, ◌≤◌, ◌<◌, ◌∙◌, ℕ, suc, List, [], ◌∷◌, ◌++◌, length, refl, sym, ap, subst, inl, inr, arith, get_or, codes, Bool, Option, Some, None}
+use Rattle.std.specs.Prelude.{◌⊎◌, Err}
 use Rattle.blk_bio.specs.Bios.{Bio, IsBio, IsBioAnswer}
 use Rattle.blk_bio.specs.Limits.{Limits}
 use Rattle.blk_bio.specs.Requests.{Fits}
@@ -21,13 +21,15 @@ use Rattle.blk_text.specs.declared.fields.Slot.TheVariants as slot
 use Rattle.blk_text.specs.declared.heads.Head.{Head}
 use Rattle.parts.specs.declared.Repeats.TheVariants as repeats
 use Rattle.parts.specs.Parts.{Part, by_word, all_rows}
-use Rattle.parts.specs.Laws.{Tells, IsPlain}
-use Rattle.parts.proofs.Then.{record_tells, by_word_tells, seen_tells, tested_tells, over_tells}
-use Rattle.parts.proofs.Many.{HasRows, many_tells, many_plain}
-use Rattle.blk_text.proofs.TableLaws.{IsTable, word_line, next_starts, word_tells}
-use Rattle.blk_text.proofs.ScriptLaws.{bio_with, no_bio_is, one_bio_fault}
+use Rattle.parts.specs.Laws.{Tells, Decides, IsPlain}
+use Rattle.parts.proofs.Then.{record_tells, record_decides, by_word_tells, by_word_decides, seen_tells, seen_decides, tested_tells, tested_decides, over_tells}
+use Rattle.parts.proofs.Many.{HasRows, many_tells, many_decides, many_plain}
+use Rattle.blk_text.proofs.Lacking.{Dec, word_decided}
+use Rattle.blk_text.proofs.TableLaws.{IsTable, word_line, next_starts, word_tells, word_decides}
+use Rattle.blk_text.proofs.ScriptLaws.{bio_with, no_bio_is, one_bio_fault, bio_or_none}
 use Rattle.blk_text.proofs.Reading.{hand_reads}
-use Rattle.blk_text.proofs.HeadLaws.{head_tells}
+use Rattle.blk_text.proofs.HeadLaws.{head_tells, head_decides}
+use Rattle.blk_text.proofs.RuleLaws.{fits as fits_decided}
 
 bio_table : (submitters : ℕ) → submitters ≤ 2 ^ 8 → IsTable (bio_cells submitters) (FitsBy (bio_cells submitters))
 bio_table submitters s = record {
@@ -55,6 +57,30 @@ plain_tells version = seen_tells (λ b. (tt, b)) (only_bios version) (λ u z e. 
     (λ _. record_tells (λ b. codes "bio" ∷ row_by (bio_cells (2 ^ 8)) b) (FitsBy (bio_cells (2 ^ 8))) why.Count (WordLacks (codes "bio") (slots_by (bio_cells (2 ^ 8)))) (word_tells (codes "bio") (bio_cells (2 ^ 8)) (FitsBy (bio_cells (2 ^ 8))) (bio_table 256 (omega arith))))
     (λ i j rows s t. refl) (λ i rows v a h. next_starts (codes "bio") (row_by (bio_cells (2 ^ 8)) v) rows a h.made) (no_bio_once version))
 
+-- what is wrong with a record that does not begin as a bio's
+no_bio : (version : ℕ) (row : Row) → (w : Why) × IsNoBio version (row ∷ []) w
+no_bio version row = elim (head_decides version (row ∷ [])) [
+  | inl h ↦ (why.Count, ((λ e. (cc e)), inr (refl, refl, h)))
+  | inr f ↦ (f.1, ((λ e. (cc e)), inl (subst (λ k. (first_record version).Wrong (row ∷ []) k f.1) (at_one f.0 f.1 f.2) f.2)))
+]
+  where
+    at_one : (k : ℕ) (w : Why) → (first_record version).Wrong (row ∷ []) k w → k ≡ 1
+    at_one k w (inl f) = f.2.0
+    at_one k w (inr f) = f.0
+
+plain_decides : (version : ℕ) → Decides (plain_bio version)
+plain_decides version = seen_decides (λ b. (tt, b)) (only_bios version) (λ v f. (v.1, refl))
+    (by_word_decides {K = Unit {0}} (λ _. Bio) (λ _. NextStarts (codes "bio")) (λ _. bio_record) (IsNoBio version)
+    (λ _ rows s. record_decides (λ b. codes "bio" ∷ row_by (bio_cells (2 ^ 8)) b) (FitsBy (bio_cells (2 ^ 8))) why.Count (WordLacks (codes "bio") (slots_by (bio_cells (2 ^ 8)))) (word_decides (codes "bio") (bio_cells (2 ^ 8)) (FitsBy (bio_cells (2 ^ 8))) (bio_table 256 (omega arith))) rows)
+    find)
+  where
+    find : (rows : List Row) → ((i : Unit {0}) × NextStarts (codes "bio") rows) ⊎ (((i : Unit {0}) → ¬ NextStarts (codes "bio") rows) × ((w : Why) × IsNoBio version rows w))
+    find [] = inr ((λ i s. s), (why.Count, refl))
+    find (row ∷ rows) = elim (word_decided (codes "bio") row) [
+      | inl s ↦ inl (tt, s)
+      | inr n ↦ inr ((λ i s. n s), no_bio version row)
+    ]
+
 whole_tells : (version : ℕ) → Tells (whole_bio version)
 whole_tells version = tested_tells (plain_bio version) IsBio IsNoSuchBio (plain_tells version)
     (λ b k j w x fit f g. (f.1 ∙ sym g.1, f.2 ∙ ap why.Bio (one_bio_fault b f.0 g.0 f.3 g.3) ∙ sym g.2))
@@ -67,11 +93,30 @@ bio_tells version limits before = tested_tells (whole_bio version) (Tiles limits
     (λ b k w good f. f.2 good)
     (λ b k w f. (let is = f.0 in (omega (arith, is), omega (arith, is))))
 
+whole_decides : (version : ℕ) → Decides (whole_bio version)
+whole_decides version = tested_decides (plain_bio version) IsBio IsNoSuchBio (plain_decides version) (λ b fit. elim (bio_or_none b) [
+  | inl i ↦ inl i
+  | inr f ↦ inr (1, why.Bio f.0, (f.0, refl, refl, f.1))
+])
+
+tiles_decided : (limits : Limits) (before : List Bio) (b : Bio) → Dec (Tiles limits before b)
+tiles_decided limits [] b = inl tt
+tiles_decided limits (a ∷ before) b = fits_decided limits (a ∷ before) (b ∷ []) side.Back
+
+bio_decides : (version : ℕ) (limits : Limits) (before : List Bio) → Decides (group_bio version limits before)
+bio_decides version limits before = tested_decides (whole_bio version) (Tiles limits before) (IsAstray limits before) (whole_decides version) (λ b fit. elim (tiles_decided limits before b) [
+  | inl t ↦ inl t
+  | inr n ↦ inr (1, why.Tile, (refl, refl, n))
+])
+
 bio_rows : (version : ℕ) (limits : Limits) → HasRows {S = List Bio} (group_bio version limits)
 bio_rows version limits s v fit e = cc e
 
 pub group_tells : (version : ℕ) (limits : Limits) (count : ℕ) → Tells (group version limits count)
 group_tells version limits count = many_tells (repeats.Exactly count) (group_bio version limits) with_next (bio_tells version limits) (λ s v rest fit. tt) (bio_rows version limits) []
+
+pub group_decides : (version : ℕ) (limits : Limits) (count : ℕ) → Decides (group version limits count)
+group_decides version limits count = many_decides (repeats.Exactly count) (group_bio version limits) with_next (bio_decides version limits) []
 
 pub group_plain : (version : ℕ) (limits : Limits) (count : ℕ) → IsPlain (group version limits count)
 group_plain version limits count = many_plain count (group_bio version limits) with_next []

@@ -1,6 +1,6 @@
 -- The laws of the first record of an event.
 use Rattle.std.proofs.Common.{◌≡◌, ◌==◌, ◌<◌, ◌∙◌, ℕ, suc, List, [], ◌∷◌, length, refl, sym, ap, subst, inl, inr, arith, get_or}
-use Rattle.std.specs.Prelude.{◌⊎◌, if◌then◌else◌}
+use Rattle.std.specs.Prelude.{if◌then◌else◌}
 use Rattle.blk_text.specs.Sources.{Row}
 use Rattle.blk_text.specs.Words.{StartsWith, HasNoWord}
 use Rattle.blk_text.specs.Fields.{Lacks, FieldsSpell}
@@ -17,8 +17,8 @@ use Rattle.blk_text.specs.declared.heads.EventWord.TheVariants as word
 use Rattle.parts.specs.Parts.{Part}
 use Rattle.parts.specs.Laws.{Tells, Decides}
 use Rattle.parts.proofs.Then.{seen_tells, seen_decides}
-use Rattle.blk_text.proofs.Lacking.{Dec, both, same_text, at_most}
-use Rattle.blk_text.proofs.TableLaws.{IsTable, IsBy, word_line, first_is, kinds_tell, kinds_decide}
+use Rattle.blk_text.proofs.Lacking.{Dec, at_most}
+use Rattle.blk_text.proofs.TableLaws.{IsTable, IsBy, word_line, first_is, kinds_tell, kinds_decide, words_tell, word_picked}
 
 -- the word of a field, whatever stands there
 abbrev word_at : List ℕ → EventWord
@@ -33,30 +33,11 @@ word_at f =
 
 word_is : (k : EventWord) → word_at (word_of k) ≡ k
 word_is word.Tick = refl
-word_is word.Release = refl
-word_is word.Join = refl
-word_is word.Issue = refl
-word_is word.Done = refl
-word_is word.Back = refl
-word_is word.Depth = refl
-
-words_tell : (j k : EventWord) → word_of j ≡ word_of k → j ≡ k
-words_tell j k e = sym (word_is j) ∙ ap word_at e ∙ word_is k
+word_is k = refl
 
 stands_decided : (version : ℕ) (k : EventWord) → Dec (StandsIn version k)
-stands_decided version word.Tick = inl tt
-stands_decided version word.Release = inl tt
-stands_decided version word.Join = inl tt
-stands_decided version word.Issue = inl tt
-stands_decided version word.Done = inl tt
-stands_decided version word.Back = inl tt
 stands_decided version word.Depth = at_most 2 version
-
-word_picked : (version : ℕ) (f : List ℕ) → ((k : EventWord) × StandsIn version k × (f ≡ word_of k)) ⊎ ((k : EventWord) → StandsIn version k → ¬ (f ≡ word_of k))
-word_picked version f = elim (both (stands_decided version (word_at f)) (same_text f (word_of (word_at f)))) [
-  | inl e ↦ inl (word_at f, e.0, e.1)
-  | inr n ↦ inr (λ k s e. (let is : k ≡ word_at f = sym (ap word_at e ∙ word_is k) in n (subst (StandsIn version) is s, e ∙ ap word_of is)))
-]
+stands_decided version k = inl tt
 
 head_table : (k : EventWord) → IsTable (head_cells k) (FitsBy (head_cells k))
 head_table word.Tick = record { sized = (tt, (tt, (tt, (tt, (tt, tt))))); within = λ v f. f; made = λ x. tt; back = λ v f. refl; forth = λ x. refl; fits = λ x f. f }
@@ -80,44 +61,29 @@ head_with word.Depth d = head.Depth d
 head_back : (h : Head) → head_with (said h).0 (said h).1 ≡ h
 unfolding head_with
 head_back head.Tick = refl
-head_back (head.Release id bios) = refl
-head_back (head.Join id bios) = refl
-head_back (head.Issue id tag) = refl
-head_back (head.Done tag) = refl
-head_back (head.Back tag) = refl
-head_back (head.Depth depth) = refl
+head_back h = refl
 
 said_back : (k : EventWord) (v : Says k) → said (head_with k v) ≡ (k, v)
 unfolding head_with
 said_back word.Tick v = refl
-said_back word.Release v = refl
-said_back word.Join v = refl
-said_back word.Issue v = refl
-said_back word.Done v = refl
-said_back word.Back v = refl
-said_back word.Depth v = refl
+said_back k v = refl
 
 abbrev kinds : ℕ → Part Row Why ((k : EventWord) × Says k)
 kinds version = kinds_record Says why.Count 6 (StandsIn version) word_of head_cells
 
 pub head_tells : (version : ℕ) → Tells (first_record version)
 head_tells version = seen_tells said (kinds version) (λ l m e. sym (head_back l) ∙ ap (λ (h : (k : EventWord) × Says k). head_with h.0 h.1) e ∙ head_back m)
-    (kinds_tell Says why.Count 6 (StandsIn version) word_of head_cells words_tell head_table)
+    (kinds_tell Says why.Count 6 (StandsIn version) word_of head_cells (words_tell word_of word_at word_is) head_table)
 
 pub head_one : (version : ℕ) → IsOne (first_record version)
 head_one version = record { tells = head_tells version; plain = λ h rest f. tt; one = λ h. refl }
 
 pub head_decides : (version : ℕ) → Decides (first_record version)
-head_decides version = seen_decides said (kinds version) (λ v f. (head_with v.0 v.1, said_back v.0 v.1)) (kinds_decide Says why.Count 6 (StandsIn version) word_of head_cells (word_picked version) head_table)
+head_decides version = seen_decides said (kinds version) (λ v f. (head_with v.0 v.1, said_back v.0 v.1)) (kinds_decide Says why.Count 6 (StandsIn version) word_of head_cells (word_picked word_of word_at (StandsIn version) word_is (stands_decided version)) head_table)
 
 pub word_long : (k : EventWord) → 0 < length (word_of k)
 word_long word.Tick = omega arith
-word_long word.Release = omega arith
-word_long word.Join = omega arith
-word_long word.Issue = omega arith
-word_long word.Done = omega arith
-word_long word.Back = omega arith
-word_long word.Depth = omega arith
+word_long k = omega arith
 
 -- what was read of a first record
 

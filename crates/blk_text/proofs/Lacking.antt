@@ -123,24 +123,16 @@ sized_once f n m h k (inr a) (inr b) = decimal_injective n m h k (let q : 45 ∷
 
 blank_decided : (s : Slot) (f : List ℕ) → Dec (IsBlank s f)
 blank_decided slot.Blank f = same_text f []
-blank_decided slot.Given f = inl tt
-blank_decided slot.Direction f = inl tt
-blank_decided (slot.Number least most) f = inl tt
-blank_decided (slot.Lateness most) f = inl tt
+blank_decided s f = inl tt
 
 direction_decided : (s : Slot) (f : List ℕ) → Dec (IsDirection s f)
 direction_decided slot.Direction f = either (same_text f (codes "R")) (same_text f (codes "W"))
-direction_decided slot.Given f = inl tt
-direction_decided slot.Blank f = inl tt
-direction_decided (slot.Number least most) f = inl tt
-direction_decided (slot.Lateness most) f = inl tt
+direction_decided s f = inl tt
 
 slot_number_decided : (s : Slot) (f : List ℕ) → Dec (IsNumber s f)
 slot_number_decided (slot.Number least most) f = number_decided f
 slot_number_decided (slot.Lateness most) f = sized_decided f
-slot_number_decided slot.Given f = inl tt
-slot_number_decided slot.Blank f = inl tt
-slot_number_decided slot.Direction f = inl tt
+slot_number_decided s f = inl tt
 
 range_decided : (s : Slot) (f : List ℕ) → Dec (IsInRange s f)
 range_decided (slot.Number least most) f = elim (number_decided f) [
@@ -151,9 +143,7 @@ range_decided (slot.Lateness most) f = elim (sized_decided f) [
   | inl n ↦ same_as (λ p m k e. (let same : m ≡ n.0 = sized_once f m n.0 k n.1 e n.2 in omega (arith, same, p))) (λ h. h n.0 n.1 n.2) (at_most n.0 most)
   | inr none ↦ inl (λ m k e. absurd (none (m, k, e)))
 ]
-range_decided slot.Given f = inl tt
-range_decided slot.Blank f = inl tt
-range_decided slot.Direction f = inl tt
+range_decided s f = inl tt
 
 -- so is what slots want of the fields of a record
 each_decided : (P : Slot → List ℕ → Type 0) → ((s : Slot) (f : List ℕ) → Dec (P s f)) → (slots : List Slot) (row : Row) → length row ≡ length slots → Dec (EachField P slots row)

@@ -8,6 +8,7 @@ pub mod TableLaws
 pub mod Reading
 pub mod Each
 pub mod Texts
+pub mod Written
 pub mod PlainRows
 pub mod Rows
 pub mod DraftLemmas
@@ -16,6 +17,7 @@ pub mod ClaimLaws
 pub mod ScriptLaws
 pub mod TraceLemmas
 pub mod HeadLaws
+pub mod RuleLaws
 pub mod GroupLaws
 pub mod EventLaws
 pub mod TraceLaws

@@ -6,11 +6,11 @@ use Rattle.blk_text.specs.Sources.{Row, Takes}
 use Rattle.blk_text.specs.declared.fault.Why.{Why}
 use Rattle.parts.specs.declared.Repeats.{Repeats}
 use Rattle.parts.specs.declared.Repeats.TheVariants as repeats
-use Rattle.parts.specs.Parts.{then, over, Part, Begins, all_rows, AllFit, after, GoesOn, Stops, IsCount, most_of}
+use Rattle.parts.specs.Parts.{then, over, Part, Begins, IsReached, all_rows, AllFit, after, GoesOn, Stops, IsCount, most_of}
 use Rattle.parts.specs.Laws.{Tells, IsPlain}
 use Rattle.parts.proofs.Many.{all_more, fit_more, ended_reached, many_reached, HasRows}
 use Rattle.parts.proofs.Then.{both_begin, reached_first, reached_second, after_all_reached}
-use Rattle.blk_text.specs.Reads.{IsOutside, Reads, HandReads, HandFails, Fails, Halts, Reaches, IsLine, IsStopped, with_next, repeated, ended_of, items_of, size_of, beyond_of}
+use Rattle.blk_text.specs.Reads.{IsOutside, Reads, HandReads, HandFails, Fails, Halts, Reaches, IsLine, IsStopped, ItemsBefore, with_next, repeated, ended_of, items_of, size_of, beyond_of}
 
 takes_some : (rest : List Row) (after : Option (List Row)) (f : Row) → Takes (Some rest) after f true → (more : List Row) × (rest ≡ f ∷ more) × (after ≡ Some more)
 takes_some [] after f t = cc t
@@ -211,40 +211,34 @@ second_fails failed p q (Some rows) mid v start middle at w h e f = elim (rw h.1
 
 -- lines, where reading stops
 
-pub lines_halt : {V : Type 0} (failed : Bool) (q : List V → Part Row Why V) (x : Repeats) (left : Option (List Row)) (start at last : ℕ) (w : Why) → ((s : List V) → Tells (q s)) → ((s : List V) → IsPlain (q s)) → HasRows q
-    → IsStopped x q left start 0 at last → Fails failed (items_of x q) left start at w → Halts failed (items_of x q) left start at w
-lines_halt failed q x None start at last w t plain some s f = tt
-lines_halt failed q x (Some rows) start at last w t plain some s f =
+-- of a part that is reached where an item begins after good ones
+stopped_halts : {V : Type 0} (failed : Bool) (q : List V → Part Row Why V) (x : Repeats) (p : Part Row Why (List V)) → ((rows : List Row) (place : ℕ) → ItemsBefore x q rows place → IsReached p rows place)
+    → (left : Option (List Row)) (start at last : ℕ) (w : Why) → IsStopped x q left start 0 at last → Fails failed p left start at w → Halts failed p left start at w
+stopped_halts failed q x p reached None start at last w s f = tt
+stopped_halts failed q x p reached (Some rows) start at last w s f =
     let low = s.1 in
     let middle = s.2 in
     let high = s.3 in
     let is : at ≡ start + s.0 = omega (arith, low, middle, high) in (
       s.0,
       is,
-      ended_reached x (beyond_of x) q q with_next t plain some t [] rows s.0 s.4,
+      reached rows s.0 s.4,
       elim f [
         | inl o ↦ inl o
         | inr k ↦ (let other = k.1 in let same : k.0 ≡ s.0 = omega (arith, is, other) in inr (rw same at k.2))
       ],
     )
 
+pub lines_halt : {V : Type 0} (failed : Bool) (q : List V → Part Row Why V) (x : Repeats) (left : Option (List Row)) (start at last : ℕ) (w : Why) → ((s : List V) → Tells (q s)) → ((s : List V) → IsPlain (q s)) → HasRows q
+    → IsStopped x q left start 0 at last → Fails failed (items_of x q) left start at w → Halts failed (items_of x q) left start at w
+lines_halt failed q x left start at last w t plain some =
+    stopped_halts failed q x (items_of x q) (λ rows place good. ended_reached x (beyond_of x) q q with_next t plain some t [] rows place good) left start at last w
+
 -- the same of items that something else may follow
 pub many_halt : {V : Type 0} (failed : Bool) (q : List V → Part Row Why V) (x : Repeats) (left : Option (List Row)) (start at last : ℕ) (w : Why) → ((s : List V) → Tells (q s)) → ((s : List V) → IsPlain (q s)) → HasRows q
     → IsStopped x q left start 0 at last → Fails failed (repeated x q) left start at w → Halts failed (repeated x q) left start at w
-many_halt failed q x None start at last w t plain some s f = tt
-many_halt failed q x (Some rows) start at last w t plain some s f =
-    let low = s.1 in
-    let middle = s.2 in
-    let high = s.3 in
-    let is : at ≡ start + s.0 = omega (arith, low, middle, high) in (
-      s.0,
-      is,
-      many_reached x q with_next t plain some [] rows s.0 s.4,
-      elim f [
-        | inl o ↦ inl o
-        | inr k ↦ (let other = k.1 in let same : k.0 ≡ s.0 = omega (arith, is, other) in inr (rw same at k.2))
-      ],
-    )
+many_halt failed q x left start at last w t plain some =
+    stopped_halts failed q x (repeated x q) (λ rows place good. many_reached x q with_next t plain some [] rows place good) left start at last w
 
 -- past the last record of a part that is spelled
 pub ends_halt : {V : Type 0} (failed : Bool) (p : Part Row Why V) (left : Option (List Row)) (v : V) (start at : ℕ) (w : Why) → Tells p → IfSome left (λ rows. Begins p rows v [])

@@ -31,13 +31,13 @@ use Rattle.blk_text.specs.declared.script.Line.TheVariants as line
 use Rattle.blk_text.specs.declared.script.Title.{Title}
 use Rattle.blk_text.specs.declared.script.Word.{Word}
 use Rattle.blk_text.specs.declared.script.Word.TheVariants as word
-use Rattle.blk_text.proofs.Lacking.{Dec, both, same_text, at_most}
-use Rattle.blk_text.proofs.TableLaws.{IsTable, IsBy, word_line, first_is, kinds_tell, kinds_decide, word_tells, word_decides, title_part, title_decides}
+use Rattle.blk_text.proofs.Lacking.{Dec, at_most}
+use Rattle.blk_text.proofs.TableLaws.{IsTable, IsBy, word_line, first_is, kinds_tell, kinds_decide, word_tells, word_decides, title_part, title_decides, words_tell, word_picked}
 use Rattle.blk_text.proofs.Each.{all_fit, each_tells, each_decides, one_record}
 use Rattle.blk_text.proofs.Reading.{then_reads, first_halts, second_halts}
 use Rattle.blk_text.proofs.Texts.{text_back, parts_back, begins_itself}
-use Rattle.blk_bio.specs.declared.limits.TheConstants.{MAX_QUEUES}
-use Rattle.blk_text.specs.declared.script.TheConstants.{MOST_STEPS, MAX_SUBMITTERS, MAX_SOFT_DEPTH}
+use Rattle.blk_bio.specs.declared.limits.TheConstants.{MAX_QUEUES, MAX_SOFT_QUEUES, MAX_SOFT_DEPTH}
+use Rattle.blk_text.specs.declared.script.TheConstants.{MOST_STEPS}
 
 -- the word of a field, whatever stands there
 abbrev word_at : List ℕ → Word
@@ -53,38 +53,15 @@ word_at f =
 
 word_is : (k : Word) → word_at (word_of k) ≡ k
 word_is word.Bio = refl
-word_is word.Flush = refl
-word_is word.Drain = refl
-word_is word.Issue = refl
-word_is word.Done = refl
-word_is word.Back = refl
-word_is word.Depth = refl
-word_is word.Tick = refl
-word_is word.Run = refl
-
-words_tell : (j k : Word) → word_of j ≡ word_of k → j ≡ k
-words_tell j k e = sym (word_is j) ∙ ap word_at e ∙ word_is k
+word_is k = refl
 
 stands_decided : (version : ℕ) (k : Word) → Dec (StandsIn version k)
-stands_decided version word.Bio = inl tt
-stands_decided version word.Flush = inl tt
-stands_decided version word.Drain = inl tt
-stands_decided version word.Issue = inl tt
-stands_decided version word.Done = inl tt
-stands_decided version word.Back = inl tt
 stands_decided version word.Depth = at_most 2 version
-stands_decided version word.Tick = inl tt
-stands_decided version word.Run = inl tt
-
-word_picked : (version : ℕ) (f : List ℕ) → ((k : Word) × StandsIn version k × (f ≡ word_of k)) ⊎ ((k : Word) → StandsIn version k → ¬ (f ≡ word_of k))
-word_picked version f = elim (both (stands_decided version (word_at f)) (same_text f (word_of (word_at f)))) [
-  | inl e ↦ inl (word_at f, e.0, e.1)
-  | inr n ↦ inr (λ k s e. (let is : k ≡ word_at f = sym (ap word_at e ∙ word_is k) in n (subst (StandsIn version) is s, e ∙ ap word_of is)))
-]
+stands_decided version k = inl tt
 
 -- steps
 
-step_table : (hw submitters : ℕ) → hw ≤ MAX_QUEUES → submitters ≤ MAX_SUBMITTERS → (k : Word) → IsTable (step_cells hw submitters k) (FitsBy (step_cells hw submitters k))
+step_table : (hw submitters : ℕ) → hw ≤ MAX_QUEUES → submitters ≤ MAX_SOFT_QUEUES → (k : Word) → IsTable (step_cells hw submitters k) (FitsBy (step_cells hw submitters k))
 step_table hw submitters g s word.Bio = record {
   sized = (omega (arith, s), (omega arith, (tt, (omega arith, (omega arith, tt)))));
   within = λ b f. f;
@@ -117,26 +94,12 @@ line_of word.Run n = line.Run n
 line_back : (l : Line) → line_of (held l).0 (held l).1 ≡ l
 unfolding line_of
 line_back (line.Bio b) = refl
-line_back (line.Flush s) = refl
-line_back (line.Drain h) = refl
-line_back (line.Issue h t) = refl
-line_back (line.Done t) = refl
-line_back (line.Back t) = refl
-line_back (line.Depth d) = refl
-line_back line.Tick = refl
-line_back (line.Run n) = refl
+line_back l = refl
 
 held_back : (k : Word) (v : Held k) → held (line_of k v) ≡ (k, v)
 unfolding line_of
 held_back word.Bio v = refl
-held_back word.Flush v = refl
-held_back word.Drain v = refl
-held_back word.Issue v = refl
-held_back word.Done v = refl
-held_back word.Back v = refl
-held_back word.Depth v = refl
-held_back word.Tick v = refl
-held_back word.Run v = refl
+held_back k v = refl
 
 abbrev kinds : ℕ → ℕ → ℕ → Rattle.parts.specs.Parts.Part Row Why ((k : Word) × Held k)
 kinds version hw submitters = kinds_record Held why.Count 6 (StandsIn version) word_of (step_cells hw submitters)
@@ -161,13 +124,13 @@ no_bio_once l k j w x n m =
     (n.3 ∙ sym m.3, n.4 ∙ ap why.Bio fault ∙ sym m.4)
 
 -- a bio is one, or there is none
-right_or_no_bio : (l : Line) → IsRight l ⊎ ((k : ℕ) × (w : Why) × IsNoBio l k w)
-right_or_no_bio (line.Bio b) = elim (at_most 1 b.sectors) [
+pub bio_or_none : (b : Bio) → IsBio b ⊎ ((f : BioFault) × IsBioAnswer b.id b.dir b.first b.sectors (Err f))
+bio_or_none b = elim (at_most 1 b.sectors) [
   | inl some ↦ elim (at_most (b.first + b.sectors) sector_limit) [
-    | inl l ↦ inl (λ c e. subst IsBio (one_bio b c e) (record { not_empty = some; in_range = l }))
-    | inr n ↦ inr (1, why.Bio bio_fault.Range, (b, bio_fault.Range, refl, refl, refl, (some, out (b.first + b.sectors) n)))
+    | inl l ↦ inl (record { not_empty = some; in_range = l })
+    | inr n ↦ inr (bio_fault.Range, (some, out (b.first + b.sectors) n))
   ]
-  | inr n ↦ inr (1, why.Bio bio_fault.Empty, (b, bio_fault.Empty, refl, refl, refl, none b.sectors n))
+  | inr n ↦ inr (bio_fault.Empty, none b.sectors n)
 ]
   where
     none : (n : ℕ) → ¬ (1 ≤ n) → n ≡ 0
@@ -175,26 +138,25 @@ right_or_no_bio (line.Bio b) = elim (at_most 1 b.sectors) [
 
     out : (n : ℕ) → ¬ (n ≤ sector_limit) → sector_limit < n
     out n h = grind (arith, h)
-right_or_no_bio (line.Flush s) = inl (λ b e. absurd (cc e))
-right_or_no_bio (line.Drain h) = inl (λ b e. absurd (cc e))
-right_or_no_bio (line.Issue h t) = inl (λ b e. absurd (cc e))
-right_or_no_bio (line.Done t) = inl (λ b e. absurd (cc e))
-right_or_no_bio (line.Back t) = inl (λ b e. absurd (cc e))
-right_or_no_bio (line.Depth d) = inl (λ b e. absurd (cc e))
-right_or_no_bio line.Tick = inl (λ b e. absurd (cc e))
-right_or_no_bio (line.Run n) = inl (λ b e. absurd (cc e))
 
-step_tells : (version hw submitters : ℕ) → hw ≤ MAX_QUEUES → submitters ≤ MAX_SUBMITTERS → Tells (step version hw submitters)
+right_or_no_bio : (l : Line) → IsRight l ⊎ ((k : ℕ) × (w : Why) × IsNoBio l k w)
+right_or_no_bio (line.Bio b) = elim (bio_or_none b) [
+  | inl i ↦ inl (λ c e. subst IsBio (one_bio b c e) i)
+  | inr f ↦ inr (1, why.Bio f.0, (b, f.0, refl, refl, refl, f.1))
+]
+right_or_no_bio l = inl (λ b e. absurd (cc e))
+
+step_tells : (version hw submitters : ℕ) → hw ≤ MAX_QUEUES → submitters ≤ MAX_SOFT_QUEUES → Tells (step version hw submitters)
 step_tells version hw submitters g s = tested_tells (plain_step version hw submitters) IsRight IsNoBio
-    (seen_tells held (kinds version hw submitters) (λ l m e. sym (line_back l) ∙ ap (λ (h : (k : Word) × Held k). line_of h.0 h.1) e ∙ line_back m) (kinds_tell Held why.Count 6 (StandsIn version) word_of (step_cells hw submitters) words_tell (step_table hw submitters g s)))
+    (seen_tells held (kinds version hw submitters) (λ l m e. sym (line_back l) ∙ ap (λ (h : (k : Word) × Held k). line_of h.0 h.1) e ∙ line_back m) (kinds_tell Held why.Count 6 (StandsIn version) word_of (step_cells hw submitters) (words_tell word_of word_at word_is) (step_table hw submitters g s)))
     (λ l k j w x fit. no_bio_once l k j w x) (λ l k w good n. no_bio_is n.0 n.1 (good n.0 n.2) n.5) (λ l k w n. (let is = n.3 in (omega (arith, is), omega (arith, is))))
 
-pub step_one : (version hw submitters : ℕ) → hw ≤ MAX_QUEUES → submitters ≤ MAX_SUBMITTERS → IsOne (step version hw submitters)
+pub step_one : (version hw submitters : ℕ) → hw ≤ MAX_QUEUES → submitters ≤ MAX_SOFT_QUEUES → IsOne (step version hw submitters)
 step_one version hw submitters g s = record { tells = step_tells version hw submitters g s; plain = λ l rest f. tt; one = λ l. refl }
 
-step_decides : (version hw submitters : ℕ) → hw ≤ MAX_QUEUES → submitters ≤ MAX_SUBMITTERS → Decides (step version hw submitters)
+step_decides : (version hw submitters : ℕ) → hw ≤ MAX_QUEUES → submitters ≤ MAX_SOFT_QUEUES → Decides (step version hw submitters)
 step_decides version hw submitters g s = tested_decides (plain_step version hw submitters) IsRight IsNoBio
-    (seen_decides held (kinds version hw submitters) (λ v f. (line_of v.0 v.1, held_back v.0 v.1)) (kinds_decide Held why.Count 6 (StandsIn version) word_of (step_cells hw submitters) (word_picked version) (step_table hw submitters g s)))
+    (seen_decides held (kinds version hw submitters) (λ v f. (line_of v.0 v.1, held_back v.0 v.1)) (kinds_decide Held why.Count 6 (StandsIn version) word_of (step_cells hw submitters) (word_picked word_of word_at (StandsIn version) word_is (stands_decided version)) (step_table hw submitters g s)))
     (λ l fit. right_or_no_bio l)
 
 -- the numbers of a step, as its table and as the script say
@@ -282,8 +244,8 @@ title_table version = record {
 
 -- the slots of a title, by its greatest depth
 pub title_slots : (version depth : ℕ) → depth ≡ most_tags version
-    → slot.Given ∷ slot.Given ∷ slot.Number 1 depth ∷ slot.Number 1 MAX_QUEUES ∷ slot.Number 1 MAX_SOFT_DEPTH ∷ slot.Number 1 MAX_SUBMITTERS ∷ [] ≡ slot.Given ∷ slot.Given ∷ slots_by (script_cells version)
-title_slots version depth e = ap (λ n. slot.Given ∷ slot.Given ∷ slot.Number 1 n ∷ slot.Number 1 MAX_QUEUES ∷ slot.Number 1 MAX_SOFT_DEPTH ∷ slot.Number 1 MAX_SUBMITTERS ∷ []) e
+    → slot.Given ∷ slot.Given ∷ slot.Number 1 depth ∷ slot.Number 1 MAX_QUEUES ∷ slot.Number 1 MAX_SOFT_DEPTH ∷ slot.Number 1 MAX_SOFT_QUEUES ∷ [] ≡ slot.Given ∷ slot.Given ∷ slots_by (script_cells version)
+title_slots version depth e = ap (λ n. slot.Given ∷ slot.Given ∷ slot.Number 1 n ∷ slot.Number 1 MAX_QUEUES ∷ slot.Number 1 MAX_SOFT_DEPTH ∷ slot.Number 1 MAX_SOFT_QUEUES ∷ []) e
 
 pub title_one : IsOne title
 title_one = record {
@@ -348,6 +310,9 @@ setup_word s = codes "setup" ∷ row_by setup_cells s
 pub setup_one : (depth hw : ℕ) → (0 < depth) × (depth ≤ MAX_DEPTH) → (0 < hw) × (hw ≤ MAX_QUEUES) → IsOne (setup depth hw)
 setup_one depth hw d q = one_record setup_word (FitsSetup depth hw) why.Word (WordLacks (codes "setup") (slots_by setup_cells)) (word_tells (codes "setup") setup_cells (FitsSetup depth hw) (setup_table depth hw d q))
 
+pub setup_decides : (depth hw : ℕ) → (0 < depth) × (depth ≤ MAX_DEPTH) → (0 < hw) × (hw ≤ MAX_QUEUES) → Decides (setup depth hw)
+setup_decides depth hw d q = record_decides setup_word (FitsSetup depth hw) why.Word (WordLacks (codes "setup") (slots_by setup_cells)) (word_decides (codes "setup") setup_cells (FitsSetup depth hw) (setup_table depth hw d q))
+
 -- whole scripts
 
 -- the depth of a title is one of a setup
@@ -366,8 +331,7 @@ script_tells = then_tells title script_body title_one.tells (λ t fit. body_tell
 script_decides : Decides script_form
 script_decides = then_decides title script_body title_decided (λ t fit. (let i = fit.0.1 in
     then_decides (setup t.1.depth t.1.hw) (λ s. items_of (repeats.AtMost MOST_STEPS) (λ _. step t.0 t.1.hw t.1.submitters))
-    (record_decides setup_word (FitsSetup t.1.depth t.1.hw) why.Word (WordLacks (codes "setup") (slots_by setup_cells)) (word_decides (codes "setup") setup_cells (FitsSetup t.1.depth t.1.hw) (setup_table t.1.depth t.1.hw (setup_depth t i) i.hw)))
-    (λ s fit. each_decides (step t.0 t.1.hw t.1.submitters) (step_decides t.0 t.1.hw t.1.submitters i.hw.1 i.submitters.1) (repeats.AtMost MOST_STEPS))))
+    (setup_decides t.1.depth t.1.hw (setup_depth t i) i.hw) (λ s fit. each_decides (step t.0 t.1.hw t.1.submitters) (step_decides t.0 t.1.hw t.1.submitters i.hw.1 i.submitters.1) (repeats.AtMost MOST_STEPS))))
 
 same_script : (s t : Scripted) → s.setup ≡ t.setup → s.soft_depth ≡ t.soft_depth → s.submitters ≡ t.submitters → s.lines ≡ t.lines → s ≡ t
 same_script s t a b c d i = record { setup = a i; soft_depth = b i; submitters = c i; lines = d i }
@@ -399,14 +363,7 @@ rows_spell version s h v = begins_itself script_form (script_value version s) (
 
 step_back : (version hw submitters : ℕ) (l : Line) → map read_back ((step version hw submitters).rows_of l) ≡ (step version hw submitters).rows_of l
 step_back version hw submitters (line.Bio b) = refl
-step_back version hw submitters (line.Flush n) = refl
-step_back version hw submitters (line.Drain n) = refl
-step_back version hw submitters (line.Issue n tag) = refl
-step_back version hw submitters (line.Done tag) = refl
-step_back version hw submitters (line.Back tag) = refl
-step_back version hw submitters (line.Depth d) = refl
-step_back version hw submitters line.Tick = refl
-step_back version hw submitters (line.Run n) = refl
+step_back version hw submitters l = refl
 
 pub read_back_is : (version : ℕ) (s : Scripted) → IsScript s → IsScriptOf version s → SpellsVersion version (records default_config (strip_bom (rows_text (script_rows version s)))) s
 unfolding rows_text

@@ -1,5 +1,5 @@
 -- The laws of a record by its table.
-use Rattle.std.proofs.Common.{◌≡◌, ◌-◌, ◌+◌, ◌<◌, ◌≤◌, ◌^◌, ◌∙◌, ℕ, ℤ, pos, negsuc, suc, List, [], ◌∷◌, length, get_or, refl, sym, ap, inl, inr, arith, decimal, codes}
+use Rattle.std.proofs.Common.{◌≡◌, ◌-◌, ◌+◌, ◌<◌, ◌≤◌, ◌^◌, ◌∙◌, ℕ, ℤ, pos, negsuc, suc, List, [], ◌∷◌, length, get_or, refl, sym, ap, subst, inl, inr, arith, decimal, codes}
 use Rattle.std.specs.Prelude.{◌⊎◌}
 use Rattle.std.specs.Fmt.{signed_decimal}
 use Rattle.std.specs.Int.Signed.{mag}
@@ -243,6 +243,17 @@ next_same a b (row ∷ rows) h k = starts_same a b row h k
 pub next_once : (gone : Why) (width : ℕ) (rows : List Row) (w x : Why) → NextWrong gone (HasNoWord width) rows w → NextWrong gone (HasNoWord width) rows x → w ≡ x
 next_once gone width [] w x a b = a ∙ sym b
 next_once gone width (row ∷ rows) w x a b = no_word_once width row w x a b
+
+-- kinds that are told by their words, where `named` is the kind of a word
+pub words_tell : {K : Type 0} (word_of : K → List ℕ) (named : List ℕ → K) → ((k : K) → named (word_of k) ≡ k) → (j k : K) → word_of j ≡ word_of k → j ≡ k
+words_tell word_of named is j k e = sym (is j) ∙ ap named e ∙ is k
+
+pub word_picked : {K : Type 0} (word_of : K → List ℕ) (named : List ℕ → K) (Stands : K → Type 0) → ((k : K) → named (word_of k) ≡ k) → ((k : K) → Dec (Stands k)) → (f : List ℕ)
+    → ((k : K) × Stands k × (f ≡ word_of k)) ⊎ ((k : K) → Stands k → ¬ (f ≡ word_of k))
+word_picked word_of named Stands is d f = elim (both (d (named f)) (same_text f (word_of (named f)))) [
+  | inl e ↦ inl (named f, e.0, e.1)
+  | inr n ↦ inr (λ k s e. (let same : k ≡ named f = sym (ap named e ∙ is k) in n (subst Stands same s, e ∙ ap word_of same)))
+]
 
 -- a record of a kind
 abbrev kind_record : {V : Type 0} → Type 0 → Why → List ℕ → List (Cell V) → Part Row Why V

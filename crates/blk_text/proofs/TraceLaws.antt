@@ -18,6 +18,7 @@ use Rattle.blk_bio.proofs.Tiles.{last_at, joins}
 use Rattle.blk_trace.specs.Happened.{Happened, Ticked, Released, Joined, Issued, Finished, Returned, DepthSet}
 use Rattle.blk_trace.specs.Setups.{Setup}
 use Rattle.blk_trace.specs.Traces.{Traced}
+use Rattle.blk_trace.specs.declared.trace.Prepared.TheVariants.{Nothing}
 use Rattle.blk_trace.specs.Events.{At, EntersRequest}
 use Rattle.blk_trace.specs.Legal.{IsLegalTrace}
 use Rattle.blk_trace.proofs.Ids.{by_legal}
@@ -36,14 +37,14 @@ use Rattle.blk_text.specs.declared.fault.Why.{Why}
 use Rattle.blk_text.specs.declared.fault.Why.TheVariants as why
 use Rattle.blk_text.specs.declared.heads.TraceTitle.{TraceTitle}
 use Rattle.parts.specs.declared.Repeats.TheVariants as repeats
-use Rattle.parts.specs.Parts.{Begins, AllFit, all_rows}
+use Rattle.parts.specs.Parts.{Begins, AllFit, Spells, all_rows}
 use Rattle.parts.proofs.Many.{fit_more, ended_reached}
 use Rattle.parts.proofs.Then.{reached_second, at_first}
 use Rattle.blk_text.proofs.Lists.{head_of, tail_of, all_cons}
 use Rattle.blk_text.proofs.Reading.{after_all, then_reads, first_halts, second_halts, second_fails}
 use Rattle.blk_text.proofs.Texts.{text_back, begins_itself}
 use Rattle.blk_text.proofs.ScriptLaws.{setup_one}
-use Rattle.blk_text.proofs.EventLaws.{event_tells, event_plain, event_rows as some_rows, more_tells, events_tell, title_one, setup_depth, body_tells, trace_tells}
+use Rattle.blk_text.proofs.EventLaws.{event_tells, event_plain, event_rows as some_rows, more_tells, events_tell, title_one, setup_depth, body_tells, trace_tells, trace_decides}
 use Rattle.blk_bio.specs.declared.limits.TheConstants.{MAX_SEGMENTS}
 
 -- the records of a trace's events, one after the other
@@ -53,13 +54,9 @@ bios_rows version limits before [] = refl
 bios_rows version limits before (b ∷ bs) = ap (λ (t : List Row). bio_row b ∷ t) (bios_rows version limits (before ++ b ∷ []) bs)
 
 event_same : (version : ℕ) (setup : Setup) (before : List Happened) (e : Happened) → (event version setup before).rows_of e ≡ event_rows e
-event_same version setup before Ticked = refl
 event_same version setup before (Released id bios) = ap (λ (t : List Row). word_row (codes "release") (decimal id) (decimal (length bios)) ∷ t) (bios_rows version setup.limits [] bios)
 event_same version setup before (Joined id bios) = ap (λ (t : List Row). word_row (codes "join") (decimal id) (decimal (length bios)) ∷ t) (bios_rows version setup.limits [] bios)
-event_same version setup before (Issued id tag) = refl
-event_same version setup before (Finished tag) = refl
-event_same version setup before (Returned tag) = refl
-event_same version setup before (DepthSet depth) = refl
+event_same version setup before e = refl
 
 events_same : (version : ℕ) (setup : Setup) (before es : List Happened) → all_rows (event version setup) with_next before es ≡ flat_map event_rows es
 events_same version setup before [] = refl
@@ -183,13 +180,8 @@ spells_in version t h v =
 
 -- the latest version has all
 latest_kind : (e : Happened) → IsEventOf latest e
-latest_kind Ticked = tt
-latest_kind (Released id bios) = tt
-latest_kind (Joined id bios) = tt
-latest_kind (Issued id tag) = tt
-latest_kind (Finished tag) = tt
-latest_kind (Returned tag) = tt
 latest_kind (DepthSet depth) = omega arith
+latest_kind e = tt
 
 pub rows_spell : (t : Traced) → IsTrace t → SpellsTraceIn latest (trace_rows t) t
 rows_spell t h = subst (λ rows. SpellsTraceIn latest rows t) (sym (rows_are t)) (spells_in latest t h (record { is_version = (omega arith, omega arith); tags = h.setup.is_setup.few_tags; kinds = λ k d l. latest_kind _ }))
@@ -201,13 +193,9 @@ bios_back [] = refl
 bios_back (b ∷ bs) = ap (λ (t : List Row). bio_row b ∷ t) (bios_back bs)
 
 event_back : (h : Happened) → map read_back (event_rows h) ≡ event_rows h
-event_back Ticked = refl
 event_back (Released id bios) = rw (bios_back bios) refl
 event_back (Joined id bios) = rw (bios_back bios) refl
-event_back (Issued id tag) = refl
-event_back (Finished tag) = refl
-event_back (Returned tag) = refl
-event_back (DepthSet depth) = refl
+event_back h = refl
 
 events_back : (hs : List Happened) → map read_back (flat_map event_rows hs) ≡ flat_map event_rows hs
 events_back [] = refl
@@ -289,13 +277,9 @@ some_request version limits [] l f = absurd (omega (arith, l))
 some_request version limits (b ∷ bs) l f = group_request version limits (b ∷ []) bs (grown_request version limits [] b (inl refl) f.0) f.1
 
 enters_request : (version : ℕ) (limits : Limits) (e : Happened) → (plain_event version limits).Fits e → EntersRequest e
-enters_request version limits Ticked f = tt
 enters_request version limits (Released id bios) f = some_request version limits bios f.0.1.1.0.0 f.1.0
 enters_request version limits (Joined id bios) f = some_request version limits bios f.0.1.1.0.0 f.1.0
-enters_request version limits (Issued id tag) f = tt
-enters_request version limits (Finished tag) f = tt
-enters_request version limits (Returned tag) f = tt
-enters_request version limits (DepthSet depth) f = tt
+enters_request version limits e f = tt
 
 events_legal : (version : ℕ) (setup : Setup) (before es : List Happened) → IsLegalTrace setup before → AllFit (event version setup) with_next before es → IsLegalTrace setup (before ++ es)
 events_legal version setup before [] l f = rw (append-nil before) l
@@ -314,6 +298,15 @@ trace_in t version depth hw count n s d e f a l = record { setup = subst IsWhole
 -- the value that was read, as that of a trace
 value_is : (t : Traced) (v : ℕ × TraceTitle) (s : Setup) → t.setup ≡ s → FitsSetup v.1.depth v.1.hw s → length t.events ≡ v.1.count → (v, (s, t.events)) ≡ trace_value v.0 t
 value_is t v s e f c = λ i. ((v.0, record { depth = (sym f.0 ∙ ap (λ (x : Setup). x.depth) (sym e)) i; hw = (sym f.1 ∙ ap (λ (x : Setup). x.hw) (sym e)) i; count = sym c i }), (sym e i, t.events))
+
+pub spelled_or_wrong : (rows : List Row) → ((t : Traced) × SpellsTrace rows t) ⊎ ((at : ℕ) × (w : Why) × TraceFault rows at w)
+spelled_or_wrong rows = elim (trace_decides rows) [
+  | inl h ↦ (let f = h.2.fits.1 in
+      let t : Traced = record { setup = h.0.1.0; events = h.0.1.1; prepared = Nothing } in
+      let whole : Spells trace_form rows h.0 = rw h.2.follows.1.1.1 at h.2 in
+      inl (t, (h.0.0.0, subst (Spells trace_form rows) (value_is t h.0.0 t.setup refl f.0 f.1.0.1) whole)))
+  | inr f ↦ inr f
+]
 
 pub trace_read : (left mid next : Option (List Row)) (t : Traced) (v : ℕ × TraceTitle) (s : Setup) → Reads title left mid v → Reads (setup v.1.depth v.1.hw) mid next s
     → IfSome next (λ rows. Begins (events_of v.0 s v.1.count) rows t.events []) → t.setup ≡ s → FitsSetup v.1.depth v.1.hw s → length t.events ≡ v.1.count → IfSome left (λ rows. SpellsTrace rows t)

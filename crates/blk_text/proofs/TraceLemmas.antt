@@ -12,7 +12,7 @@ use Rattle.blk_bio.specs.declared.request.Side.{Side}
 use Rattle.blk_bio.specs.declared.request.Side.TheVariants.{Back, Front}
 use Rattle.blk_trace.specs.declared.event.Event.{Event}
 use Rattle.blk_trace.specs.Events.{At, bios_of, request_of}
-use Rattle.blk_trace.specs.Happened.{Happened, Ticked, Released, Joined, Issued, Finished, Returned, DepthSet}
+use Rattle.blk_trace.specs.Happened.{Happened, Released, Joined}
 use Rattle.blk_trace.specs.Legal.{IsLegalTrace}
 use Rattle.blk_trace.specs.Setups.{Setup}
 use Rattle.blk_trace.specs.Seen.{happened}
@@ -35,7 +35,6 @@ within l bios i w = ⊎_elim (λ e. omega (arith, e)) (λ h. omega (arith, h.1, 
 
 -- each group of a legal list of events has at most 128 bios
 pub few_bios : (setup : Setup) (events : List Happened) (k : ℕ) (e : Happened) → IsLimits setup.limits → IsLegalTrace setup events → At events k e → length (bios_of e) ≤ MAX_SEGMENTS
-few_bios setup events k Ticked i l at = omega arith
 few_bios setup events k (Released id bios) i l at = within setup.limits bios i (l.release_within k id bios at)
 few_bios setup events k (Joined id bios) i l at =
     let f = l.join_fits k id bios at in
@@ -44,10 +43,7 @@ few_bios setup events k (Joined id bios) i l at =
     both : (old more : List Bio) (s : Side) → length more ≤ length (joined old more s)
     both old more Back = omega (arith, length-append old more)
     both old more Front = omega (arith, length-append more old)
-few_bios setup events k (Issued id tag) i l at = omega arith
-few_bios setup events k (Finished tag) i l at = omega arith
-few_bios setup events k (Returned tag) i l at = omega arith
-few_bios setup events k (DepthSet depth) i l at = omega arith
+few_bios setup events k e i l at = omega arith
 
 -- the same of an event that was looked up
 pub few_at : {A : Type 0} (t : Traced) (events : List (Event A)) (k : ℕ) (e : Event A) → IsLimits t.setup.limits → IsLegalTrace t.setup t.events → map happened events ≡ t.events

@@ -3,7 +3,7 @@ use Rattle.std.specs.Prelude.{◌≡◌, ◌-◌, ◌≤◌, ◌<◌, ◌^◌, �
 use Rattle.std.specs.Prelude.{Err}
 use Rattle.blk_bio.specs.Bios.{Bio, IsBio, IsBioAnswer}
 use Rattle.blk_bio.specs.declared.bio.BioFault.{BioFault}
-use Rattle.blk_bio.specs.declared.limits.TheConstants.{MAX_QUEUES}
+use Rattle.blk_bio.specs.declared.limits.TheConstants.{MAX_QUEUES, MAX_SOFT_QUEUES, MAX_SOFT_DEPTH}
 use Rattle.blk_trace.specs.Setups.{Setup}
 use Rattle.blk_text.specs.Sources.{Row}
 use Rattle.blk_text.specs.Reads.{items_of}
@@ -16,7 +16,7 @@ use Rattle.blk_text.specs.declared.fault.Why.TheVariants as why
 use Rattle.parts.specs.declared.Repeats.TheVariants as repeats
 use Rattle.parts.specs.Parts.{Part, then, tested, seen_as, Spells}
 use Rattle.blk_text.specs.declared.fields.TheConstants.{TAG_LIMIT}
-use Rattle.blk_text.specs.declared.script.TheConstants.{MAX_SOFT_DEPTH, MAX_SUBMITTERS, MAX_ROUNDS, MOST_STEPS}
+use Rattle.blk_text.specs.declared.script.TheConstants.{MAX_ROUNDS, MOST_STEPS}
 use Rattle.blk_text.specs.declared.script.Line.{Line}
 use Rattle.blk_text.specs.declared.script.Line.TheVariants as line
 use Rattle.blk_text.specs.declared.script.Script.{Script}
@@ -26,7 +26,7 @@ use Rattle.blk_text.specs.declared.script.Word.TheVariants as word
 
 -- title: blk-script, version, depth, hardware queues, soft depth, submitters
 abbrev pub script_cells : ℕ → List (Cell Title)
-script_cells version = Number 1 (most_tags version) (λ t. t.depth) ∷ Number 1 MAX_QUEUES (λ t. t.hw) ∷ Number 1 MAX_SOFT_DEPTH (λ t. t.soft_depth) ∷ Number 1 MAX_SUBMITTERS (λ t. t.submitters) ∷ []
+script_cells version = Number 1 (most_tags version) (λ t. t.depth) ∷ Number 1 MAX_QUEUES (λ t. t.hw) ∷ Number 1 MAX_SOFT_DEPTH (λ t. t.soft_depth) ∷ Number 1 MAX_SOFT_QUEUES (λ t. t.submitters) ∷ []
 
 -- the words of the steps
 abbrev pub word_of : Word → List ℕ
@@ -117,7 +117,7 @@ pub record IsTitle (version : ℕ) (t : Title) : Type 0 where
   pub depth : (1 ≤ t.depth) × (t.depth ≤ most_tags version)
   pub hw : (1 ≤ t.hw) × (t.hw ≤ MAX_QUEUES)
   pub soft_depth : (1 ≤ t.soft_depth) × (t.soft_depth ≤ MAX_SOFT_DEPTH)
-  pub submitters : (1 ≤ t.submitters) × (t.submitters ≤ MAX_SUBMITTERS)
+  pub submitters : (1 ≤ t.submitters) × (t.submitters ≤ MAX_SOFT_QUEUES)
 
 -- a script: its setup, its soft depth and submitters, and its steps
 pub record Scripted : Type 0 where

@@ -2,11 +2,12 @@
 
 ghost use Rattle.std.specs.Prelude.{◌≡◌, ◌+◌, ◌++◌, ◌≤◌, OnOk, IfOk, IfErr, decimal};
 ghost use Rattle.std.specs.Io.KnownBytes.{Appends};
+ghost use Rattle.blk_text.specs.Texts.{AppendsPart};
 
 use crate::fault::WriteFault;
 use crate::pieces::{put, put_number};
 use std::alloc::{AllocError, Global};
-use std::io::Write;
+use std::io::{ErrorKind, Write};
 
 /// How many bytes are gathered before they join the text.
 const BLOCK: usize = 4096;
@@ -95,13 +96,26 @@ impl Block {
     }
 }
 
-/// Writes a text that is whole.
+/// Writes a text that is whole. `write_all` of std says nothing of what was taken before a fault; so the writer is asked here.
 pub(crate) fn write_whole<W: Write>(writer: &mut W, text: &[u8]) -> Result<(), WriteFault>
     ensures ok { OnOk result (Appends (W.contents writer.old) (W.contents writer.new) text.now) }
     ensures err { IfErr result (λ f. f ≡ WriteFault.Write) }
+    ensures part { AppendsPart (W.contents writer.old) (W.contents writer.new) text.now }
 {
-    match writer.write_all(text) {
-        Ok(()) => Ok(()),
-        Err(_) => Err(WriteFault::Write),
+    let mut rest = text;
+    for _ in 0..u64::MAX {
+        if rest.is_empty() {
+            return Ok(());
+        }
+        match writer.write(rest) {
+            Ok(0) => return Err(WriteFault::Write),
+            Ok(count) => rest = &rest[count..],
+            Err(fault) => {
+                if fault.kind() != ErrorKind::Interrupted {
+                    return Err(WriteFault::Write);
+                }
+            }
+        }
     }
+    Err(WriteFault::Write)
 }

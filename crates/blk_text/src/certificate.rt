@@ -11,7 +11,7 @@ ghost use Rattle.blk_text.specs.Tables.{IsUpTo, FitsBy, row_by, slots_by, title_
 ghost use Rattle.blk_text.specs.Fields.{IsSized, FieldsSpell};
 ghost use Rattle.blk_text.specs.declared.fields.Slot.TheVariants as slot;
 ghost use Rattle.blk_text.specs.Words.{StartsWith};
-ghost use Rattle.blk_text.specs.Texts.{rows_text};
+ghost use Rattle.blk_text.specs.Texts.{rows_text, AppendsPart};
 ghost use Rattle.blk_text.specs.Drafts.{drafted};
 ghost use Rattle.blk_text.specs.Titles.{counted_cells, IsCounted};
 ghost use Rattle.blk_text.specs.Certificate.{claimed, claim_form, IsClaim, SpellsClaim, ClaimFault, claim_rows, claim_body, claim_told, bound as bound_part, bound_cells, no_bound_row, bound_row, served_cells};
@@ -53,6 +53,7 @@ impl LineForm for TitleForm {
 
     ghost part = { λ _. title };
 
+    #[tactic(auto, using(crate::proofs::ClaimLaws::title_one))]
     fn gone(&self) -> Why {
         Why::Title
     }
@@ -98,6 +99,7 @@ impl LineForm for ServedForm {
 
     ghost part = { λ _. served };
 
+    #[tactic(auto, using(crate::proofs::ClaimLaws::served_one))]
     fn gone(&self) -> Why {
         Why::Count
     }
@@ -400,8 +402,8 @@ fn certificate_text(alloc: Global, certificate: &Certificate) -> Result<Vec<u8>,
 /// There are at most 1,000,000 commands with a round each, the numbers lie in the ranges of the
 /// form, and there is no bound exactly where there are no commands.
 ///
-/// [`WriteFault::Write`]: the writer answered a fault; what it took before is out, and nothing says
-/// how much that is. [`WriteFault::Memory`]: nothing was handed to the writer.
+/// [`WriteFault::Write`]: the writer answered a fault; what it took before, a first part of the text, is out, and
+/// nothing says how much that is. [`WriteFault::Memory`]: nothing was handed to the writer.
 pub fn write_certificate<W: Write>(
     alloc: Global,
     certificate: &Certificate,
@@ -412,6 +414,8 @@ pub fn write_certificate<W: Write>(
     // the records of that text spell it
     ensures spells { SpellsClaim (claim_rows (claimed certificate.now)) (claimed certificate.now) }
     ensures memory { IfErr result (λ f. f ≡ WriteFault.Memory → writer.new ≡ writer.old) }
+    // whatever the answer
+    ensures part { AppendsPart (W.contents writer.old) (W.contents writer.new) (rows_text (claim_rows (claimed certificate.now))) }
 {
     match certificate_text(alloc, certificate) {
         Ok(text) => write_whole(writer, text.as_slice()),

@@ -4,7 +4,7 @@ ghost use Rattle.std.specs.Prelude.{◌≡◌, ◌⊎◌, ◌+◌, ◌≤◌, �
 ghost use Rattle.std.specs.Io.KnownBytes.{Appends};
 ghost use Rattle.csv.specs.Records.{fields_of};
 ghost use Rattle.blk_text.specs.Tables.{row_by, title_by};
-ghost use Rattle.blk_text.specs.Texts.{rows_text};
+ghost use Rattle.blk_text.specs.Texts.{rows_text, AppendsPart};
 ghost use Rattle.blk_text.specs.Drafts.{drafted};
 ghost use Rattle.parts.specs.Parts.{Begins};
 ghost use Rattle.blk_text.specs.Reads.{IsOutside, Reaches};
@@ -33,6 +33,7 @@ impl LineForm for TitleForm {
 
     ghost part = { λ _. title };
 
+    #[tactic(auto, using(crate::proofs::CommandLaws::title_one))]
     fn gone(&self) -> Why {
         Why::Title
     }
@@ -67,6 +68,7 @@ impl LineForm for CommandForm {
 
     ghost part = { λ _. command };
 
+    #[tactic(auto, using(crate::proofs::CommandLaws::command_one))]
     fn gone(&self) -> Why {
         Why::Count
     }
@@ -174,8 +176,8 @@ fn commands_text(alloc: Global, depth: u64, commands: &[Command]) -> Result<Vec<
 /// There are at most 1,000,000 commands, and the numbers lie in the ranges of the form: a depth of
 /// 1 to 256, releases below round 2^40, dues below round 2^41.
 ///
-/// [`WriteFault::Write`]: the writer answered a fault; what it took before is out, and nothing says
-/// how much that is. [`WriteFault::Memory`]: nothing was handed to the writer.
+/// [`WriteFault::Write`]: the writer answered a fault; what it took before, a first part of the text, is out, and
+/// nothing says how much that is. [`WriteFault::Memory`]: nothing was handed to the writer.
 pub fn write_commands<W: Write>(
     alloc: Global,
     depth: u64,
@@ -187,6 +189,8 @@ pub fn write_commands<W: Write>(
     // the records of that text spell them
     ensures spells { SpellsCommands (commands_rows depth commands.now) depth commands.now }
     ensures memory { IfErr result (λ f. f ≡ WriteFault.Memory → writer.new ≡ writer.old) }
+    // whatever the answer
+    ensures part { AppendsPart (W.contents writer.old) (W.contents writer.new) (rows_text (commands_rows depth commands.now)) }
 {
     match commands_text(alloc, depth, commands) {
         Ok(text) => write_whole(writer, text.as_slice()),

@@ -121,6 +121,7 @@ impl ItemForm for EventForm {
 
     ghost more = { MAX_SEGMENTS };
 
+    #[tactic(auto, using(crate::proofs::EventLaws::event_gone))]
     fn gone(&self, items: &Trace) -> Why {
         let _ = items.len();
         Why::Count
@@ -176,6 +177,7 @@ impl LineForm for TraceTitleForm {
 
     ghost part = { λ _. title_part };
 
+    #[tactic(auto, using(crate::proofs::EventLaws::title_one))]
     fn gone(&self) -> Why {
         Why::Title
     }

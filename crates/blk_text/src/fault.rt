@@ -59,7 +59,7 @@ pub struct TextFault {
 /// Why a text was not written.
 #[derive(Debug, Clone, Copy, PartialEq, Eq, Error)]
 pub enum WriteFault {
-    /// The writer answered a fault: what it took before is out, and nothing says how much that is.
+    /// The writer answered a fault: what it took before, a first part of the text, is out, and nothing says how much that is.
     #[error("Write")]
     Write,
     /// Memory ran out: nothing was handed to the writer.

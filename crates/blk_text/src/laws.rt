@@ -178,6 +178,11 @@ pub fn spelled_traces_are_legal()
     ensures { (rows : List Row) → (t : Traced) → SpellsTrace rows t → IsTrace t }
 {}
 
+/// Records either spell a trace, in one of the versions, or have a fault as one.
+pub fn a_trace_is_spelled_or_has_a_fault()
+    ensures { (rows : List Row) → ((t : Traced) × SpellsTrace rows t) ⊎ ((at : ℕ) × (w : AWhy) × TraceFault rows at w) }
+{}
+
 /// Records that spell a trace have no fault.
 pub fn spelled_traces_have_no_fault()
     ensures { (rows : List Row) → (t : Traced) → (at : ℕ) → (w : AWhy) → SpellsTrace rows t → TraceFault rows at w → ⊥ }

@@ -28,8 +28,6 @@ pub use crate::events::read_trace;
 pub use crate::fault::{TextFault, Why, WriteFault};
 pub use crate::met::{MetCertificate, read_met, write_met};
 pub use crate::proof::{Proof, read_proof};
-pub use crate::script::{
-    Line, MAX_ROUNDS, MAX_SOFT_DEPTH, MAX_SUBMITTERS, MOST_STEPS, Script, read_script,
-};
+pub use crate::script::{Line, MAX_ROUNDS, MOST_STEPS, Script, read_script};
 pub use crate::source::Records;
 pub use crate::trace::write_trace;

@@ -8,7 +8,7 @@ ghost use Rattle.edd_check.specs.Window.{WindowInRange};
 ghost use Rattle.parts.specs.Parts.{Begins};
 ghost use Rattle.blk_text.specs.Reads.{IsOutside, IsLine, IsWrongLine, Reads, Halts, Reaches};
 ghost use Rattle.blk_text.specs.Tables.{row_by, title_by};
-ghost use Rattle.blk_text.specs.Texts.{rows_text};
+ghost use Rattle.blk_text.specs.Texts.{rows_text, AppendsPart};
 ghost use Rattle.blk_text.specs.Drafts.{drafted};
 ghost use Rattle.blk_text.specs.Certificate.{served_cells};
 ghost use Rattle.blk_text.specs.Titles.{counted_cells, IsCounted};
@@ -74,6 +74,7 @@ impl LineForm for NumbersForm {
 
     ghost part = { λ _. met_numbers };
 
+    #[tactic(auto, using(crate::proofs::MetLaws::numbers_one))]
     fn gone(&self) -> Why {
         Why::Word
     }
@@ -105,6 +106,7 @@ impl LineForm for WindowForm {
 
     ghost part = { λ _. window_part };
 
+    #[tactic(auto, using(crate::proofs::MetLaws::window_one))]
     fn gone(&self) -> Why {
         Why::Count
     }
@@ -308,8 +310,8 @@ fn met_text(alloc: Global, certificate: &MetCertificate) -> Result<Vec<u8>, Allo
 /// There are at most 1,000,000 commands with a round each and at most 1,000,000 windows, and the numbers lie in the ranges
 /// of the form.
 ///
-/// [`WriteFault::Write`]: the writer answered a fault; what it took before is out, and nothing says
-/// how much that is. [`WriteFault::Memory`]: nothing was handed to the writer.
+/// [`WriteFault::Write`]: the writer answered a fault; what it took before, a first part of the text, is out, and
+/// nothing says how much that is. [`WriteFault::Memory`]: nothing was handed to the writer.
 pub fn write_met<W: Write>(
     alloc: Global,
     certificate: &MetCertificate,
@@ -320,6 +322,8 @@ pub fn write_met<W: Write>(
     // the records of that text spell it
     ensures spells { SpellsMet (met_rows (met_claimed certificate.now)) (met_claimed certificate.now) }
     ensures memory { IfErr result (λ f. f ≡ WriteFault.Memory → writer.new ≡ writer.old) }
+    // whatever the answer
+    ensures part { AppendsPart (W.contents writer.old) (W.contents writer.new) (rows_text (met_rows (met_claimed certificate.now))) }
 {
     match met_text(alloc, certificate) {
         Ok(text) => write_whole(writer, text.as_slice()),

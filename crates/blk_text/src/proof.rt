@@ -43,6 +43,7 @@ impl LineForm for ProofTitleForm {
 
     ghost part = { λ _. proof_title };
 
+    #[tactic(auto, using(crate::proofs::ProofLaws::title_one, crate::proofs::ProofLaws::title_gone))]
     fn gone(&self) -> Why {
         Why::Title
     }

@@ -8,8 +8,7 @@ ghost use Rattle.blk_text.specs.Words.{StartsWith};
 ghost use Rattle.blk_text.specs.Fields.{FieldsSpell};
 ghost use Rattle.blk_text.specs.BioRecord.{bio_row, direction_text};
 ghost use Rattle.blk_text.specs.Script.{StandsIn, word_of, step_cells, step, LineFits, IsScript, SpellsScript, ScriptFault, scripted, script_form};
-ghost use Rattle.blk_bio.specs.declared.limits.TheConstants.{MAX_QUEUES as MOST_QUEUES};
-ghost use Rattle.blk_text.specs.declared.script.TheConstants.{MAX_SUBMITTERS as MOST_SUBMITTERS};
+ghost use Rattle.blk_bio.specs.declared.limits.TheConstants.{MAX_QUEUES as MOST_QUEUES, MAX_SOFT_QUEUES as MOST_SUBMITTERS};
 ghost use Rattle.blk_text.specs.declared.fields.Slot.TheVariants as slot;
 ghost use Rattle.blk_text.specs.declared.script.Word.{Word as AWord};
 
@@ -20,7 +19,7 @@ use crate::fields::{
 use crate::items::{LineForm, read_line, read_lines};
 use crate::setup::{LATEST, SetupForm, most_tags};
 use crate::source::Records;
-use blk_bio::{Bio, BioId, Dir, MAX_QUEUES};
+use blk_bio::{Bio, BioId, Dir, MAX_QUEUES, MAX_SOFT_DEPTH, MAX_SOFT_QUEUES};
 use blk_trace::{MAX_EVENTS, Setup};
 use csv::ByteRecord;
 use parts::Repeats;
@@ -29,12 +28,6 @@ use std::io::Read;
 
 /// The most steps of a script.
 pub const MOST_STEPS: u64 = 999_998;
-
-/// The most requests of a software queue.
-pub const MAX_SOFT_DEPTH: u64 = 1024;
-
-/// The most submitters.
-pub const MAX_SUBMITTERS: u64 = 64;
 
 /// The most rounds of a run: each is an event of the trace.
 pub const MAX_ROUNDS: u64 = MAX_EVENTS;
@@ -69,7 +62,7 @@ pub struct Script {
     pub setup: Setup,
     /// How many requests a software queue has room for, 1 to [`MAX_SOFT_DEPTH`].
     pub soft_depth: u64,
-    /// How many submitters there are, 1 to [`MAX_SUBMITTERS`] and at least as many as hardware queues.
+    /// How many submitters there are, 1 to [`MAX_SOFT_QUEUES`] and at least as many as hardware queues.
     pub submitters: u64,
     /// The steps in the order in which they are done, at most [`MOST_STEPS`].
     pub lines: Vec<Line>,
@@ -294,6 +287,7 @@ impl LineForm for TitleForm {
 
     ghost part = { λ _. script_title };
 
+    #[tactic(auto, using(crate::proofs::ScriptLaws::title_one))]
     fn gone(&self) -> Why {
         Why::Title
     }
@@ -319,7 +313,7 @@ impl LineForm for TitleForm {
             },
             Slot::Number {
                 least: 1,
-                most: MAX_SUBMITTERS,
+                most: MAX_SOFT_QUEUES,
             },
         ];
         match read_fields(row, &slots) {

@@ -102,6 +102,7 @@ impl LineForm for SetupForm {
 
     ghost part = { λ f. setup_part f.depth f.hw };
 
+    #[tactic(auto, using(crate::proofs::ScriptLaws::setup_one))]
     fn gone(&self) -> Why {
         Why::Word
     }

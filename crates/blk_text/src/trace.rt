@@ -4,7 +4,7 @@ ghost use Rattle.std.specs.Prelude.{◌≡◌, ◌++◌, ◌∷◌, ◌≤◌, [
 ghost use Rattle.std.specs.Io.KnownBytes.{Appends};
 ghost use Rattle.blk_trace.specs.Events.{bios_of};
 ghost use Rattle.blk_trace.specs.Seen.{happened};
-ghost use Rattle.blk_text.specs.Texts.{rows_text};
+ghost use Rattle.blk_text.specs.Texts.{rows_text, AppendsPart};
 ghost use Rattle.blk_text.specs.BioRecord.{bio_row, direction_text};
 ghost use Rattle.blk_text.specs.Cells.{IsPlainWord};
 ghost use Rattle.blk_text.specs.Drafts.{drafted};
@@ -193,8 +193,8 @@ fn trace_text<A: Allocator + Clone>(alloc: Global, trace: &Trace<A>) -> Result<V
 /// Writes the text of a trace, in the latest version, at once where all of it could be made: records of six fields, a title,
 /// a setup, and the records of each event, those of a group's bios after its own in tile order.
 ///
-/// [`WriteFault::Write`]: the writer answered a fault; what it took before is out, and nothing says
-/// how much that is. [`WriteFault::Memory`]: nothing was handed to the writer.
+/// [`WriteFault::Write`]: the writer answered a fault; what it took before, a first part of the text, is out, and
+/// nothing says how much that is. [`WriteFault::Memory`]: nothing was handed to the writer.
 pub fn write_trace<A: Allocator + Clone, W: Write>(
     alloc: Global,
     trace: &Trace<A>,
@@ -205,6 +205,8 @@ pub fn write_trace<A: Allocator + Clone, W: Write>(
     ensures spells { OnOk result (SpellsTrace (trace_rows trace.now) trace.now) }
     ensures version { OnOk result (SpellsTraceIn latest (trace_rows trace.now) trace.now) }
     ensures memory { IfErr result (λ f. f ≡ WriteFault.Memory → writer.new ≡ writer.old) }
+    // whatever the answer
+    ensures part { AppendsPart (W.contents writer.old) (W.contents writer.new) (rows_text (trace_rows trace.now)) }
 {
     match trace_text(alloc, trace) {
         Ok(text) => write_whole(writer, text.as_slice()),

@@ -1,4 +1,6 @@
 use Rattle.blk_text.proofs.CommandLaws.{rows_spell}
+use Rattle.std.proofs.Common.{refl}
+use Rattle.blk_text.proofs.Written.{nothing_taken}
 use Rattle.blk_text.proofs.commands.write_commands.Goals as goal
 
 pub returns-in-Ok-clause-spells : goal.returns-in-Ok-clause-spells
@@ -6,3 +8,6 @@ returns-in-Ok-clause-spells g c = rows_spell c.args.depth c.args.commands.now c.
 
 pub returns-in-Err-clause-spells : goal.returns-in-Err-clause-spells
 returns-in-Err-clause-spells g c = rows_spell c.args.depth c.args.commands.now c.requires
+
+pub returns-in-Err-clause-part : goal.returns-in-Err-clause-part
+returns-in-Err-clause-part g c = nothing_taken _ _ _ refl

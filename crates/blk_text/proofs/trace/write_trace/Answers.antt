@@ -1,6 +1,8 @@
 use Rattle.blk_text.specs.Versions.{latest}
 use Rattle.blk_text.proofs.TraceLaws.{rows_spell}
 use Rattle.blk_text.proofs.TraceLemmas.{if_ok}
+use Rattle.std.proofs.Common.{refl}
+use Rattle.blk_text.proofs.Written.{nothing_taken}
 use Rattle.blk_text.proofs.trace.write_trace.Goals as goal
 
 pub returns-in-Ok-clause-spells : goal.returns-in-Ok-clause-spells
@@ -8,3 +10,6 @@ returns-in-Ok-clause-spells g c = if_ok c.write_whole.result (latest, rows_spell
 
 pub returns-in-Ok-clause-version : goal.returns-in-Ok-clause-version
 returns-in-Ok-clause-version g c = if_ok c.write_whole.result (rows_spell c.args.trace.now c.in-Ok.ensures.fits)
+
+pub returns-in-Err-clause-part : goal.returns-in-Err-clause-part
+returns-in-Err-clause-part g c = nothing_taken _ _ _ refl

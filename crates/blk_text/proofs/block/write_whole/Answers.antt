@@ -1,0 +1,29 @@
+use Rattle.std.proofs.Common.{◌∙◌, ◌++◌, ap, sym, take}
+use Rattle.std.proofs.lemmas.List.{take_rest}
+use Rattle.std.proofs.KnownBytes.{Appends-trans}
+use Rattle.blk_text.proofs.Written.{appends_still, part_taken, more_taken, split_at}
+use Rattle.blk_text.proofs.block.write_whole.Goals.{in-Ok, in-Err+else-ne}
+use Rattle.blk_text.proofs.block.write_whole.Goals as goal
+
+pub returns-then-is_empty-clause-part : goal.returns-then-is_empty-clause-part
+returns-then-is_empty-clause-part g c = let (done, split, appended) = c.loop.invariant in part_taken _ _ _ done c.loop.rest.now split appended
+
+pub returns-in-Ok-eq0-clause-part : goal.returns-in-Ok-eq0-clause-part
+returns-in-Ok-eq0-clause-part g c = let (done, split, appended) = c.loop.invariant in more_taken _ _ _ _ done c.loop.rest.now c.in-Ok-eq0.field-0 split appended c.in-Ok-eq0.ensures.bytes
+
+pub returns-then-ne-clause-part : goal.returns-then-ne-clause-part
+returns-then-ne-clause-part g c =
+    let (done, split, appended) = c.loop.invariant in
+    part_taken _ _ _ done c.loop.rest.now split (appends_still _ _ _ done appended c.in-Err.ensures.bytes)
+
+pub loop-preserved : goal.loop-preserved
+loop-preserved g c =
+    let (done, split, appended) = c.loop.invariant in
+    let rest = c.loop.rest.now in
+    elim c.match-write.branch [
+      | in-Ok w ↦ (done ++ take w.in-Ok.count rest, rw w.rest-is (split_at _ done rest w.in-Ok.count split ∙ ap (λ l. (done ++ take w.in-Ok.count rest) ++ l) (sym (take_rest rest w.in-Ok.count))), Appends-trans _ _ _ _ _ appended w.in-Ok.ensures.bytes)
+      | in-Err+else-ne w ↦ (done, rw w.rest-is split, appends_still _ _ _ done appended w.in-Err.ensures.bytes)
+    ]
+
+pub returns-clause-part : goal.returns-clause-part
+returns-clause-part g c = let (done, split, appended) = c.loop.invariant in part_taken _ _ _ done c.loop.rest.now split appended
