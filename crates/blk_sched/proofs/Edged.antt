@@ -10,14 +10,14 @@ use Rattle.blk_bio.specs.Extents.{extent_of}
 use Rattle.blk_sched.specs.Meaning.{Waiting}
 use Rattle.blk_sched.specs.Maps.{same_number}
 use Rattle.blk_sched.specs.declared.spots.Head.{Head}
-use Rattle.blk_sched.specs.Inside.Spots.{Place, Spot, Adds, Takes, Keeps, AreSpots, is_placed, first_at, end_at}
+use Rattle.blk_sched.specs.Inside.Spots.{Place, Spot, Adds, TakesOne, Keeps, AreSpots, is_placed, first_at, end_at}
 use Rattle.blk_sched.specs.Inside.Heads.{Becomes, is_head, spots_of, HasHeads, Lowers, KeepsLeast, IsEdge}
 use Rattle.blk_sched.specs.declared.spots.Edges.{Edges}
 use Rattle.blk_sched.specs.Inside.Edges.{heads_in, others_in, IsEdges}
 use Rattle.blk_sched.proofs.Listed.{undone}
 use Rattle.blk_sched.proofs.Indexed.{Found, entered, taken, stayed, kept}
 use Rattle.blk_sched.proofs.Order.{standing}
-use Rattle.blk_sched.proofs.Spotted.{Heads, Others, head_there, nothing}
+use Rattle.blk_sched.proofs.Spotted.{Heads, Others, head_there, nothing, added_there}
 
 -- the head at the sector of a request
 pub head_at : (at : Extent → Place) (found : Found) (heads : Heads) (others : Others) (k : ℕ) (w : Waiting) → IsEdge at found heads others → found k ≡ Some w → IsSome (heads (at (extent_of w.bios)).1)
@@ -64,9 +64,9 @@ module _ (at : Extent → Place) (old new : Found) (id : ℕ) (heads now : Heads
   }
 
   -- a request less
-  pub edge_taken : (w : Waiting) (spot : Spot) → IsEdge at old heads others → old id ≡ Some w → spot ≡ (at (extent_of w.bios), id) → Takes (spots_of heads others) spot (spots_of now after) → (HasHeads heads others → HasHeads now after) → KeepsLeast heads now → Becomes old id None new → IsEdge at new now after
+  pub edge_taken : (w : Waiting) (spot : Spot) → IsEdge at old heads others → old id ≡ Some w → spot ≡ (at (extent_of w.bios), id) → TakesOne (spots_of heads others) spot (spots_of now after) → (HasHeads heads others → HasHeads now after) → KeepsLeast heads now → Becomes old id None new → IsEdge at new now after
   edge_taken w spot edge found is takes headed keeps becomes = record {
-    spots = taken at old new id (spots_of heads others) (spots_of now after) w edge.spots found (subst (λ (q : Spot). Takes (spots_of heads others) q (spots_of now after)) is takes) becomes;
+    spots = taken at old new id (spots_of heads others) (spots_of now after) w edge.spots found (subst (λ (q : Spot). TakesOne (spots_of heads others) q (spots_of now after)) is takes (standing at old (spots_of heads others) id w edge.spots found)) becomes;
     headed = headed edge.headed;
     least = λ k v h there said.
         let g = keeps (at (extent_of v.bios)).1 h said in
@@ -128,9 +128,9 @@ module _ (at : Extent → Place) (old new : Found) (id : ℕ) (heads mid now : H
   }
 
   -- the same spot is taken out again
-  pub edge_undone : Adds (spots_of heads others) spot (spots_of mid more) → Takes (spots_of mid more) spot (spots_of now after) → spots_of heads others spot ≡ false → ((k : ℕ) → new k ≡ old k) → IsEdge at new now after
+  pub edge_undone : Adds (spots_of heads others) spot (spots_of mid more) → TakesOne (spots_of mid more) spot (spots_of now after) → spots_of heads others spot ≡ false → ((k : ℕ) → new k ≡ old k) → IsEdge at new now after
   edge_undone adds takes none same = record {
-    spots = kept at old new (spots_of heads others) (spots_of now after) edge.spots same (undone (spots_of heads others) (spots_of mid more) (spots_of now after) spot adds takes none);
+    spots = kept at old new (spots_of heads others) (spots_of now after) edge.spots same (undone (spots_of heads others) (spots_of mid more) (spots_of now after) spot adds (takes (added_there (spots_of heads others) (spots_of mid more) spot adds)) none);
     headed = headed_then (headed edge.headed);
     least = λ k v h there said. others_least k v h (sym (same k) ∙ there) said;
   }

@@ -1,5 +1,5 @@
 -- An index, and the edges of its requests, once one of these is joined.
-use Rattle.std.proofs.Common.{◌≡◌, ◌<◌, ◌+◌, ◌++◌, ℕ, [], ◌∷◌, length, sym, ap, subst, ◌∙◌, refl, arith, Some, List}
+use Rattle.std.proofs.Common.{◌≡◌, ◌<◌, ◌+◌, ◌++◌, ℕ, true, [], ◌∷◌, length, sym, ap, subst, ◌∙◌, refl, arith, Some, List}
 use Rattle.std.specs.Prelude.{Result, Ok, Err, OnOk, OnErr}
 use Rattle.std.specs.FinMap as map
 use Rattle.std.proofs.lemmas.List.Sums.{sum_by-append}
@@ -11,7 +11,7 @@ use Rattle.blk_bio.specs.Requests.{Fits, first_of, last_of, sectors_of, joined}
 use Rattle.blk_bio.specs.Extents.{extent_of}
 use Rattle.blk_sched.specs.Meaning.{Waiting, Pending, joined_waiting}
 use Rattle.blk_sched.specs.Fits.{HasFit}
-use Rattle.blk_sched.specs.Inside.Spots.{Spot, Adds, Takes, first_at, end_at}
+use Rattle.blk_sched.specs.Inside.Spots.{Spot, Adds, TakesOne, first_at, end_at}
 use Rattle.blk_sched.specs.Inside.Heads.{Becomes, spots_of, HasHeads, Lowers, KeepsLeast, IsEdge}
 use Rattle.blk_sched.specs.Index.{at_of, joined_extent, IsNamed, IsJoined}
 use Rattle.blk_sched.proofs.Indexed.{Found, named_then, named_same, becomes_given}
@@ -19,7 +19,8 @@ use Rattle.blk_sched.proofs.Join.{fits_it, first_place, end_place, dir_stays, at
 use Rattle.blk_sched.specs.Inside.Ages.{AreAges}
 use Rattle.blk_sched.specs.declared.ages.Ages.{Ages}
 use Rattle.blk_sched.proofs.Aged.{ages_stayed, ages_same}
-use Rattle.blk_sched.proofs.Spotted.{Heads, Others}
+use Rattle.blk_sched.proofs.Order.{standing}
+use Rattle.blk_sched.proofs.Spotted.{Heads, Others, there_still}
 use Rattle.blk_sched.proofs.Edged.{edge_stayed, edge_kept, edge_moved, edge_undone}
 
 -- the sectors of both
@@ -85,23 +86,28 @@ module _ {T E : Type 0} (limits : Limits) (m n : Pending) (id at : ℕ) (side : 
 module _ (limits : Limits) (old new : Found) (heads mid now : Heads) (others more after : Others) (id s held at : ℕ) (side : Side) (newcomer : List Bio) (v : Waiting) (spot : Spot) (edge : IsEdge (at_of side) old heads others) (found : old id ≡ Some v) (fit : HasFit limits old newcomer id side)
     (some : 0 < s) (range : first_of newcomer + s ≡ last_of newcomer) (is : spot ≡ (at_of side (joined_extent side (extent_of v.bios) (extent_of newcomer)), id)) (adds : Adds (spots_of heads others) spot (spots_of mid more)) (headed : HasHeads heads others → HasHeads mid more) (lowers : Lowers heads spot.0.1 (held + s) mid)
     (headed_then : HasHeads mid more → HasHeads now after) (keeps : KeepsLeast mid now) where
-  pub edge_join : (w : Waiting) (last : Spot) → s ≡ sectors_of newcomer → held ≡ sectors_of v.bios → last ≡ (at_of side (extent_of v.bios), id) → w ≡ joined_waiting side at newcomer v → Takes (spots_of mid more) last (spots_of now after) → Becomes old id (Some w) new → IsEdge (at_of side) new now after
+  -- where the request lay it lies still
+  was_there : (last : Spot) → last ≡ (at_of side (extent_of v.bios), id) → spots_of mid more last ≡ true
+  was_there last last_is = there_still (spots_of heads others) (spots_of mid more) spot last adds
+      (ap (spots_of heads others) last_is ∙ standing (at_of side) old (spots_of heads others) id v edge.spots found)
+
+  pub edge_join : (w : Waiting) (last : Spot) → s ≡ sectors_of newcomer → held ≡ sectors_of v.bios → last ≡ (at_of side (extent_of v.bios), id) → w ≡ joined_waiting side at newcomer v → TakesOne (spots_of mid more) last (spots_of now after) → Becomes old id (Some w) new → IsEdge (at_of side) new now after
   edge_join w last s_is held_is last_is w_is takes becomes =
       let fits = fits_it limits old id side newcomer v found fit in
       let both : sectors_of (joined v.bios newcomer side) ≡ sectors_of v.bios + sectors_of newcomer = sectors_both v.bios newcomer side in
       let size : sectors_of w.bios ≡ sectors_of (joined v.bios newcomer side) = ap (λ (x : Waiting). sectors_of x.bios) w_is in
       edge_moved (at_of side) old new id heads mid now others more after spot (held + s) edge headed lowers headed_then keeps w
-      (spots_moved limits old new (spots_of heads others) (spots_of mid more) (spots_of now after) id s at side newcomer v w spot last edge.spots found fit some range is last_is w_is adds takes becomes)
+      (spots_moved limits old new (spots_of heads others) (spots_of mid more) (spots_of now after) id s at side newcomer v w spot last edge.spots found fit some range is last_is w_is adds (takes (was_there last last_is)) becomes)
       (ap (λ (q : Spot). q.0) is ∙ sym (at_joined limits v.bios newcomer s side fits some range) ∙ ap (λ (x : Waiting). at_of side (extent_of x.bios)) (sym w_is))
       (omega (arith, s_is, held_is, both, size))
       becomes
 
   -- the same where the join says its side
-  pub edge_joined : (other : Side) (w : Waiting) (last : Spot) → s ≡ sectors_of newcomer → held ≡ sectors_of v.bios → last ≡ (at_of side (extent_of v.bios), id) → ((t : Side) → Fits limits v.bios newcomer t → t ≡ other) → w ≡ joined_waiting other at newcomer v → Takes (spots_of mid more) last (spots_of now after) → Becomes old id (Some w) new → IsEdge (at_of side) new now after
+  pub edge_joined : (other : Side) (w : Waiting) (last : Spot) → s ≡ sectors_of newcomer → held ≡ sectors_of v.bios → last ≡ (at_of side (extent_of v.bios), id) → ((t : Side) → Fits limits v.bios newcomer t → t ≡ other) → w ≡ joined_waiting other at newcomer v → TakesOne (spots_of mid more) last (spots_of now after) → Becomes old id (Some w) new → IsEdge (at_of side) new now after
   edge_joined other w last s_is held_is last_is only join takes becomes =
       edge_join w last s_is held_is last_is (join ∙ ap (λ (t : Side). joined_waiting t at newcomer v) (sym (only side (fits_it limits old id side newcomer v found fit)))) takes becomes
 
-  pub edge_unjoined : Takes (spots_of mid more) spot (spots_of now after) → ((k : ℕ) → new k ≡ old k) → IsEdge (at_of side) new now after
+  pub edge_unjoined : TakesOne (spots_of mid more) spot (spots_of now after) → ((k : ℕ) → new k ≡ old k) → IsEdge (at_of side) new now after
   edge_unjoined takes same =
       edge_undone (at_of side) old new id heads mid now others more after spot (held + s) edge headed lowers headed_then keeps adds takes
       (new_spot limits old (spots_of heads others) id s side newcomer v spot edge.spots found fit some range is) same

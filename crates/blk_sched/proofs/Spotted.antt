@@ -6,7 +6,7 @@ use Rattle.std.specs.Cmp.{nat_cmp_total, tied_itself}
 use Rattle.std.proofs.lemmas.Bool.{eqb-true, eq-eqb}
 use borrow.Author.Tests.{ltb-true, ltb-false}
 use Rattle.blk_sched.specs.declared.spots.Head.{Head}
-use Rattle.blk_sched.specs.Inside.Spots.{Place, Spot, spot_cmp, Adds, Takes, IsBelow, IsNewestSpot, NoSpot, greater_of}
+use Rattle.blk_sched.specs.Inside.Spots.{Place, Spot, spot_cmp, Adds, Takes, TakesOne, IsBelow, IsNewestSpot, NoSpot, greater_of}
 use Rattle.blk_sched.specs.Inside.Heads.{is_head, spots_of, HasHeads, Lowers, KeepsLeast, Sets}
 use Rattle.blk_sched.proofs.Listed.{same_spot, place_itself}
 
@@ -220,6 +220,36 @@ module _ (heads : Heads) (others less : Others) (s : Spot) (takes : Takes others
           | true ↦ λ e own_now. (record { spot = s; least = least }, ap heads (sym (eqb-true s.0.1 k e)) ∙ own, kept_by h own_now)
           | false ↦ λ e own_now. (h, own_now, refl)
         ] refl (sym (sets k) ∙ is)
+
+-- where there are no others, one that is there is the head
+module _ (heads now : Heads) (others : Others) (s : Spot) (empty : (q : Spot) → others q ≡ false) (sets : Sets heads s.0.1 None now) where
+  by_head : (h : Head) → heads s.0.1 ≡ Some h → (b : Bool) → eq_by_cmp spot_cmp h.spot s ≡ b → cond b true (others s) ≡ true → Takes (spots_of heads others) s (spots_of now others)
+  by_head h own true is there =
+      let same : h.spot ≡ s = same_spot h.spot s is in
+      head_takes heads others others s (taken_none others s empty) now h.least None (own ∙ ap (λ (q : Spot). let x : Option Head = Some (record { spot = q; least = h.least }) in x) same) sets (λ q at. refl) (λ q at. empty q) tt
+  by_head h own false is there = absurd (let a : true ≡ false = sym there ∙ empty s in cc)
+
+  pub only_takes : TakesOne (spots_of heads others) s (spots_of now others)
+  only_takes = elim (heads s.0.1) as (λ o. heads s.0.1 ≡ o → cond (is_head o s) true (others s) ≡ true → Takes (spots_of heads others) s (spots_of now others)) [
+    | Some h ↦ λ own there. by_head h own (eq_by_cmp spot_cmp h.spot s) refl there
+    | None ↦ λ _ there. absurd (let a : true ≡ false = sym there ∙ empty s in cc)
+  ] refl
+
+  pub only_heads : HasHeads heads others → HasHeads now others
+  only_heads headed q there = absurd (let a : true ≡ false = sym there ∙ empty q in cc)
+
+  pub only_keeps : KeepsLeast heads now
+  only_keeps k h is = elim (nat_eq s.0.1 k) as (λ b. cond b None (heads k) ≡ Some h → (g : Head) × (heads k ≡ Some g) × (h.least ≡ g.least)) [
+    | true ↦ λ e. absurd (cc)
+    | false ↦ λ e. (h, e, refl)
+  ] (sym (sets k) ∙ is)
+
+-- a spot that was put in is there, and so are those that were there before
+pub added_there : (has more : Others) (s : Spot) → Adds has s more → more s ≡ true
+added_there has more s adds = adds s ∙ ap (λ b. cond b true (has s)) (itself s.0 s.1)
+
+pub there_still : (has more : Others) (s q : Spot) → Adds has s more → has q ≡ true → more q ≡ true
+there_still has more s q adds there = adds q ∙ ap (cond (eq_by_cmp spot_cmp s q) true) there ∙ or_true (eq_by_cmp spot_cmp s q)
 
 -- another spot of the sector that is there follows as the head
 pub follows_other : (less : Others) (other : Spot) (least : ℕ) → less other ≡ true → (q : Spot) → cond (is_head (Some (record { spot = other; least = least })) q) true (less q) ≡ less q

@@ -6,7 +6,7 @@ ghost use Rattle.std.specs.Bool.{OnFalse};
 ghost use Rattle.std.specs.Ordering.{is_lt, is_gt, eq_by_cmp};
 ghost use Rattle.std.specs.BTreeSet.{contains};
 ghost use Rattle.std.specs.declared.cmp.Ordering.TheVariants.{Less};
-ghost use Rattle.blk_sched.specs.Inside.Spots.{Place, Spot, place_cmp, spot_cmp, is_write, first_at, end_at, Adds, Takes, Keeps, IsBelow, IsNewestSpot, NoSpot, upper_of, greater_of};
+ghost use Rattle.blk_sched.specs.Inside.Spots.{Place, Spot, place_cmp, spot_cmp, is_write, first_at, end_at, Adds, Takes, TakesOne, Keeps, IsBelow, IsNewestSpot, NoSpot, upper_of, greater_of};
 ghost use Rattle.blk_sched.specs.Inside.Heads.{is_head, Becomes, HasHeads, HasNone, Lowers, KeepsLeast, Sets};
 ghost use Rattle.blk_sched.specs.Inside.Edges.{heads_in, others_in, spots_in, IsEdges};
 ghost use Rattle.blk_sched.specs.Meaning.{Waiting};
@@ -48,13 +48,9 @@ pub fn put<A: Allocator + Clone>(
 }
 
 /// Takes a spot out.
-#[inline(always)]
 pub fn take<A: Allocator + Clone>(spots: &mut BTreeSet<Spot, A>, spot: Spot)
     ensures { Takes (contains spot_cmp spots.old) spot (contains spot_cmp spots.new) }
 {
-    if spots.is_empty() {
-        return;
-    }
     let _ = spots.remove(&spot);
 }
 
@@ -170,9 +166,26 @@ impl<A: Allocator + Clone> Spots<A> {
         Ok(())
     }
 
-    /// Takes a spot out. It takes no memory.
+    /// Takes out a spot, which must be there. It takes no memory.
     #[inline(always)]
     pub fn take(&mut self, spot: Spot)
+        ensures takes { TakesOne (spots_in self.old) spot (spots_in self.new) }
+        ensures heads { HasHeads (heads_in self.old) (others_in self.old) → HasHeads (heads_in self.new) (others_in self.new) }
+        ensures least { KeepsLeast (heads_in self.old) (heads_in self.new) }
+    {
+        if self.others.is_empty() {
+            // so it is the one that stands in the hash table
+            let ((_, sector), _) = spot;
+            let _ = self.heads.remove(&sector);
+            return;
+        }
+        self.take_among(spot);
+    }
+
+    /// The same, where a sector may have several.
+    #[cold]
+    #[inline(never)]
+    fn take_among(&mut self, spot: Spot)
         ensures takes { Takes (spots_in self.old) spot (spots_in self.new) }
         ensures heads { HasHeads (heads_in self.old) (others_in self.old) → HasHeads (heads_in self.new) (others_in self.new) }
         ensures least { KeepsLeast (heads_in self.old) (heads_in self.new) }

@@ -1,15 +1,13 @@
-use Rattle.std.proofs.Common.{refl, Some, Option}
+use Rattle.std.proofs.Common.{arith}
 use Rattle.std.specs.Prelude.{nat_eq}
 use Rattle.std.specs.HashMap as hash
-use Rattle.std.specs.BTreeSet.{contains}
-use Rattle.blk_sched.specs.declared.spots.Head.{Head}
-use Rattle.blk_sched.specs.Inside.Spots.{spot_cmp}
+use Rattle.std.proofs.lemmas.List.{nil_from_length}
 use Rattle.blk_sched.specs.Inside.Edges.{heads_in, others_in}
-use Rattle.blk_sched.proofs.Spotted.{head_takes, follows_other}
+use Rattle.blk_sched.proofs.Indexed.{no_spot}
+use Rattle.blk_sched.proofs.Spotted.{only_takes}
 use Rattle.blk_sched.proofs.spots.Spots.take.Goals as goal
 
-pub returns-in-Some-spot_at-clause-takes : goal.returns-in-Some-spot_at-clause-takes
-returns-in-Some-spot_at-clause-takes g c =
-    let x : Option Head = Some (record { spot = c.in-Some-spot_at.other; least = c.in-Some.least }) in
-    head_takes (heads_in c.args.self.now) (others_in c.args.self.now) (contains spot_cmp c.take.new.spots) c.args.spot c.take.ensures (hash.get nat_eq c.set_head.new.heads) c.in-Some.least x c.in-Some.ensures.some c.set_head.ensures
-    (λ q at. follows_other (contains spot_cmp c.take.new.spots) c.in-Some-spot_at.other c.in-Some.least c.in-Some-spot_at.ensures.there q) tt refl
+pub returns-then-is_empty-clause-takes : goal.returns-then-is_empty-clause-takes
+returns-then-is_empty-clause-takes g c =
+    only_takes (heads_in c.args.self.now) (hash.get nat_eq c.remove.new.self) (others_in c.args.self.now) c.args.spot
+    (no_spot c.args.self.now.others (nil_from_length c.args.self.now.others.keys (c.is_empty.ensures.0 c.if-is_empty.true))) c.remove.ensures.updates.0
