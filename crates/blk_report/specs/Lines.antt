@@ -18,9 +18,9 @@ window_text None = codes "none"
 window_text (Some w) = decimal w.from ++ 32 ∷ decimal w.due
 
 -- a word, a space, its value and a line's end
-abbrev pub line_of : List ℕ → List ℕ → List ℕ
-line_of word value = ((word ++ 32 ∷ []) ++ value) ++ 10 ∷ []
+abbrev pub figure_line : List ℕ → List ℕ → List ℕ
+figure_line word value = ((word ++ 32 ∷ []) ++ value) ++ 10 ∷ []
 
 -- the eight lines of a report
 abbrev pub report_text : Report → List ℕ
-report_text r = ((((((line_of (codes "commands") (decimal r.commands) ++ line_of (codes "waiting") (decimal r.waiting)) ++ line_of (codes "depth") (decimal r.depth)) ++ line_of (codes "greatest") (late_text r.greatest)) ++ line_of (codes "least") (late_text r.least)) ++ line_of (codes "shortfall") (late_text r.shortfall)) ++ line_of (codes "window") (window_text r.window)) ++ line_of (codes "load") (count_text r.load)
+report_text r = ((((((figure_line (codes "commands") (decimal r.commands) ++ figure_line (codes "waiting") (decimal r.waiting)) ++ figure_line (codes "depth") (decimal r.depth)) ++ figure_line (codes "greatest") (late_text r.greatest)) ++ figure_line (codes "least") (late_text r.least)) ++ figure_line (codes "shortfall") (late_text r.shortfall)) ++ figure_line (codes "window") (window_text r.window)) ++ figure_line (codes "load") (count_text r.load)

@@ -5,6 +5,7 @@ use Rattle.edd_check.specs.declared.Window.{Window}
 use Rattle.edd_check.specs.declared.steps.Step.{Step}
 use Rattle.edd_check.specs.Schedule.{IsLegal}
 use Rattle.edd_check.specs.Met.{inside_of, carried_in, bound_of, IsCover}
+use Rattle.edd_oracle.specs.Met.{IsMetFirst, IsPassedCover}
 use Rattle.blk_report.specs.declared.missing.Crowd.{Crowd}
 
 -- how many commands a schedule has after they are due
@@ -23,7 +24,7 @@ abbrev pub crowd_of : List Command → List Step → Window → Crowd
 crowd_of commands steps w = record { window = w; commands = inside_of commands w; carries = carried_in steps w }
 
 -- how many commands there are, how many of them the schedule has late, the fewest that any has late, how many more these are, and
--- disjoint windows whose bound on what is met leaves so many late
+-- the windows of those that earliest due first passes over: disjoint, and their bound on what is met leaves so many late
 pub record AreMisses (commands : List Command) (rounds : List ℕ) (steps : List Step) (count late unavoidable avoidable : ℕ) (windows : List Crowd) : Type 0 where
   pub count_is : count ≡ length commands
   pub late_is : late ≡ number_late commands rounds
@@ -31,5 +32,8 @@ pub record AreMisses (commands : List Command) (rounds : List ℕ) (steps : List
   pub rest : unavoidable + avoidable ≡ late
   pub cover : List Window
   pub disjoint : IsCover cover
+  pub best : List ℕ
+  pub first : IsMetFirst commands best steps
+  pub passed : IsPassedCover commands best steps cover
   pub windows_are : windows ≡ map (crowd_of commands steps) cover
   pub bound : bound_of commands steps cover + unavoidable ≡ length commands

@@ -33,7 +33,7 @@ pub record HasFigures (commands : List Command) (rounds : List ℕ) (steps : Lis
   pub not_negative : pos 0 ≤ℤ shortfall_of greatest least
 
 -- without commands there are no figures
-pub record HasNone (r : Report) : Type 0 where
+pub record HasNoFigures (r : Report) : Type 0 where
   pub greatest : r.greatest ≡ None
   pub least : r.least ≡ None
   pub shortfall : r.shortfall ≡ None
@@ -45,4 +45,4 @@ pub record IsReport (setup : Setup) (events : List Happened) (r : Report) : Type
   pub commands : r.commands ≡ length (commands_of setup events)
   pub waiting : r.waiting ≡ length (waiting_of events)
   pub depth : r.depth ≡ setup.depth
-  pub figures : ((commands_of setup events ≡ []) × HasNone r) ⊎ HasFigures (commands_of setup events) (rounds_of events) (capacity_of setup events) r
+  pub figures : ((commands_of setup events ≡ []) × HasNoFigures r) ⊎ HasFigures (commands_of setup events) (rounds_of events) (capacity_of setup events) r

@@ -196,8 +196,8 @@ fn delays<A: Allocator + Clone, B: Allocator>(
 /// The commands of a trace that were issued after they were due, in the order of these Issues. Of the places of the rounds from its
 /// release up to but not including that of its Issue, each says how many went to commands due no later than it, how many to commands
 /// due later, and how many to none: together they are what these rounds carry. Only Issues count that were not handed back. Fails
-/// for want of memory alone. The time grows as n log n in the number of events, times the binary digits of the last due round at
-/// most.
+/// for want of memory alone. The time grows as the number of events times its binary digits, or times those of the last due round
+/// where these are more.
 pub fn late<A: Allocator + Clone>(trace: &Trace<A>) -> Result<Vec<LateCommand, A>, AllocError>
     ensures { IfOk result (λ v. AreLate (services_of trace.now.setup trace.now.events) (capacity_of trace.now.setup trace.now.events) v.items) }
 {

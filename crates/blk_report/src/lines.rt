@@ -2,7 +2,7 @@
 
 ghost use Rattle.std.specs.Prelude.{◌≡◌, ◌++◌, IfOk, IfErr, OnOk, decimal, codes};
 ghost use Rattle.std.specs.Io.KnownBytes.{Appends};
-ghost use Rattle.blk_report.specs.Lines.{late_text, count_text, window_text, line_of, report_text};
+ghost use Rattle.blk_report.specs.Lines.{late_text, count_text, window_text, figure_line, report_text};
 
 use crate::Report;
 use blk_text::{Draft, WriteFault};
@@ -54,7 +54,7 @@ pub(crate) fn push_number_line(
     word: &[u8],
     number: u64,
 ) -> Result<(), AllocError>
-    ensures { OnOk result (draft.new ≡ draft.old ++ line_of word.now (decimal number)) }
+    ensures { OnOk result (draft.new ≡ draft.old ++ figure_line word.now (decimal number)) }
 {
     draft.text(word)?;
     draft.text(b" ")?;
@@ -69,7 +69,7 @@ fn push_late_line(
     word: &[u8],
     late: Option<i64>,
 ) -> Result<(), AllocError>
-    ensures { OnOk result (draft.new ≡ draft.old ++ line_of word.now (late_text late)) }
+    ensures { OnOk result (draft.new ≡ draft.old ++ figure_line word.now (late_text late)) }
 {
     draft.text(word)?;
     draft.text(b" ")?;
@@ -79,7 +79,7 @@ fn push_late_line(
 
 /// Adds the lines of the window and of its load.
 fn push_window_lines(draft: &mut Draft, report: &Report) -> Result<(), AllocError>
-    ensures { OnOk result (draft.new ≡ (draft.old ++ line_of (codes "window") (window_text report.now.window)) ++ line_of (codes "load") (count_text report.now.load)) }
+    ensures { OnOk result (draft.new ≡ (draft.old ++ figure_line (codes "window") (window_text report.now.window)) ++ figure_line (codes "load") (count_text report.now.load)) }
 {
     draft.text(b"window ")?;
     push_window(draft, report.window)?;

@@ -5,14 +5,14 @@ ghost use Rattle.edd_check.specs.declared.Window.{Window as Span};
 ghost use Rattle.edd_check.specs.Limits.{most_commands};
 ghost use Rattle.edd_check.specs.Schedule.{IsLegal};
 ghost use Rattle.edd_check.specs.Met.{can_be_met, lies_in, inside_of, IsCover, CoverInRange};
-ghost use Rattle.edd_oracle.specs.Met.{IsMostAnswer};
+ghost use Rattle.edd_oracle.specs.Met.{IsMostAnswer, IsMetFirst, IsPassedCover};
 ghost use Rattle.blk_trace.specs.Depths.{capacity_of};
 ghost use Rattle.blk_trace.specs.Meaning.{commands_of, rounds_of};
-ghost use Rattle.blk_report.specs.Misses.{number_late, crowd_of, AreMisses};
+ghost use Rattle.blk_report.specs.Misses.{crowd_of, AreMisses};
 ghost use Rattle.blk_report.specs.Inside.Placed.{is_place};
 
 use blk_trace::Trace;
-use edd_check::{Capacity, Command, Window, carried_in};
+use edd_check::{Capacity, Command, Window, carried_in, number_met};
 use edd_oracle::{MostMet, most_met};
 use std::alloc::{AllocError, Allocator, Global};
 
@@ -41,18 +41,6 @@ pub struct Missed<A: Allocator = Global> {
     /// Disjoint windows by rising rounds which prove that no schedule has fewer late: of the commands in a window no more are on
     /// time than it carries.
     pub windows: Vec<Crowd, A>,
-}
-
-/// How many commands run after they are due.
-#[tactic(auto, unfolding(crate::specs::Misses::number_late))]
-fn number_late(commands: &[Command], rounds: &[u64]) -> u64
-    ensures { result ≡ number_late commands.now rounds.now }
-{
-    commands
-        .iter()
-        .zip(rounds)
-        .filter(|(command, round)| command.due < **round)
-        .count() as u64
 }
 
 /// The place of the window in which a command lies that is released by its due round, if there is one. It is found by halves.
@@ -126,10 +114,12 @@ fn counted<A: Allocator + Clone, B: Allocator, C: Allocator>(
     requires legal { IsLegal commands.now rounds.now capacity.now }
     requires few { length commands.now ≤ most_commands }
     requires most { IsMostAnswer commands.now capacity.now answer.now.rounds.items answer.now.met answer.now.cover.items }
+    requires first { IsMetFirst commands.now answer.now.rounds.items capacity.now }
+    requires passed { IsPassedCover commands.now answer.now.rounds.items capacity.now answer.now.cover.items }
     ensures { IfOk result (λ m. AreMisses commands.now rounds.now capacity.now m.commands m.late m.unavoidable m.avoidable m.windows.items) }
 {
     let count = commands.len() as u64;
-    let late = number_late(commands, rounds);
+    let late = count - number_met(commands, rounds);
     let unavoidable = count - answer.met;
     let windows = crowds(alloc, commands, capacity, answer.cover.as_slice())?;
     Ok(Missed {

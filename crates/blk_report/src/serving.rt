@@ -142,6 +142,7 @@ fn served<A: Allocator + Clone>(
     requires ranges { (id : ℕ) → get nat_cmp ranges.now id ≡ range_of (request_of trace.now.events id) }
     ensures { IfOk result (λ v. v.items ≡ services_of trace.now.setup trace.now.events) }
 {
+    // a trace's length is within the limit on events, and so are the rounds of its commands
     let _ = trace.len();
     let mut services = Vec::new(alloc);
     for place in 0..commands.len() {

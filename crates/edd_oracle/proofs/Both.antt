@@ -8,9 +8,9 @@ use Rattle.edd_check.specs.declared.steps.Step.{Step}
 use Rattle.edd_check.specs.Capacity.{depth_at}
 use Rattle.edd_check.specs.Schedule.{IsLegal, RoundsInRange}
 use Rattle.edd_oracle.specs.Met.{IsMetFirst, IsMetUntil, IsDelayed, IsLeftOver}
-use Rattle.edd_oracle.specs.Inside.Leave.{has_round, placed_at, CouldRun, IsBegun, IsLeft, IsAfter}
+use Rattle.edd_oracle.specs.Inside.Leave.{has_round, placed_at, CouldRun, IsBegun, HaveLeft, IsAfter}
 use Rattle.edd_oracle.proofs.Counting.{count_along}
-use Rattle.edd_oracle.proofs.Partial.{IsSettled, settled_all, could_run, legal_left, in_range_left, none_placed, has_round_true, waiting_count-le}
+use Rattle.edd_oracle.proofs.Partial.{IsSettled, settled_all, could_run, legal_left, in_range_left, none_placed, has_round_true, unplaced_count-le}
 
 abbrev no_command : Command
 no_command = record { id = 0; release = 0; due = 0 }
@@ -30,7 +30,7 @@ none_begun commands rounds steps same none =
       one_each = same;
       before = λ k x d there. absurd (never x k there);
       within = λ x. omega (arith, none_placed rounds x (never x));
-      room = omega (arith, waiting_count-le rounds);
+      room = omega (arith, unplaced_count-le rounds);
     }
 
 pub nones_begun : (commands : List Command) (rounds : List (Option ℕ)) (steps : List Step) → rounds ≡ replicate (length commands) None → IsBegun commands rounds steps 0
@@ -38,24 +38,24 @@ nones_begun commands rounds steps is =
     none_begun commands rounds steps (ap (λ xs. length xs) is ∙ length-replicate (length commands) None) (no_round commands rounds is)
 
 -- the rounds that are given lie far below the numbers' end
-pub left_small : (passes : Bool) (commands : List Command) (begun rounds : List (Option ℕ)) (steps : List Step) (start : ℕ) → IsLeft passes commands begun rounds steps start → length commands ≤ 1000000 → (k x : ℕ) → get_or rounds k None ≡ Some x → x < 2 ^ 63
+pub left_small : (passes : Bool) (commands : List Command) (begun rounds : List (Option ℕ)) (steps : List Step) (start : ℕ) → HaveLeft passes commands begun rounds steps start → length commands ≤ 1000000 → (k x : ℕ) → get_or rounds k None ≡ Some x → x < 2 ^ 63
 left_small passes commands begun rounds steps start left few k x there = omega (arith, left.room k x there)
 
 -- the rest begins after the last one that is met
-pub rest_begun : (passes : Bool) (commands : List Command) (begun rounds : List (Option ℕ)) (steps : List Step) (start end : ℕ) → IsLeft passes commands begun rounds steps start → IsAfter rounds end → IsBegun commands rounds steps end
+pub rest_begun : (passes : Bool) (commands : List Command) (begun rounds : List (Option ℕ)) (steps : List Step) (start end : ℕ) → HaveLeft passes commands begun rounds steps start → IsAfter rounds end → IsBegun commands rounds steps end
 rest_begun passes commands begun rounds steps start end left after =
     record {
       one_each = left.one_each;
       before = λ k x d there. (left.released k x d there, after.before k x there);
       within = left.within;
       room = elim after.last [
-        | inl none ↦ omega (arith, none, waiting_count-le rounds, left.one_each)
+        | inl none ↦ omega (arith, none, unplaced_count-le rounds, left.one_each)
         | inr there ↦ omega (arith, left.room there.0 (end - 1) there.1, after.before there.0 (end - 1) there.1)
       ];
     }
 
 -- what leaves first keeps its round
-kept_places : (passes : Bool) (commands : List Command) (begun rounds : List (Option ℕ)) (steps : List Step) (start x : ℕ) → IsLeft passes commands begun rounds steps start → length begun ≡ length commands → placed_at begun x ≤ placed_at rounds x
+kept_places : (passes : Bool) (commands : List Command) (begun rounds : List (Option ℕ)) (steps : List Step) (start x : ℕ) → HaveLeft passes commands begun rounds steps start → length begun ≡ length commands → placed_at begun x ≤ placed_at rounds x
 unfolding placed_at
 kept_places passes commands begun rounds steps start x left same =
     count_along (has_round x) (has_round x) begun rounds (left.one_each ∙ sym same)
@@ -67,9 +67,9 @@ kept_places passes commands begun rounds steps start x left same =
 -- what leaves first, passing over what is late, and then what was passed over
 pub record IsBoth (commands : List Command) (none met rounds : List (Option ℕ)) (steps : List Step) (end : ℕ) (all : List ℕ) : Type 0 where
   pub nothing : (k : ℕ) → get_or none k None ≡ None
-  pub first : IsLeft true commands none met steps 0
+  pub first : HaveLeft true commands none met steps 0
   pub after : IsAfter met end
-  pub then : IsLeft false commands met rounds steps end
+  pub then : HaveLeft false commands met rounds steps end
   pub settled : IsSettled rounds all
 
 -- a command that is met has its round, by its due round
@@ -185,7 +185,7 @@ pub record IsMetFinished (commands : List Command) (rounds : List ℕ) (steps : 
   pub in_range : RoundsInRange rounds
   pub first : IsMetFirst commands rounds steps
 
-pub met_finished : (commands : List Command) (none met rounds : List (Option ℕ)) (steps : List Step) (end : ℕ) (all : List ℕ) → none ≡ replicate (length commands) None → IsLeft true commands none met steps 0 → IsAfter met end → IsLeft false commands met rounds steps end → length commands ≤ 1000000 → map (λ x. Some x) all ≡ rounds → IsMetFinished commands all steps
+pub met_finished : (commands : List Command) (none met rounds : List (Option ℕ)) (steps : List Step) (end : ℕ) (all : List ℕ) → none ≡ replicate (length commands) None → HaveLeft true commands none met steps 0 → IsAfter met end → HaveLeft false commands met rounds steps end → length commands ≤ 1000000 → map (λ x. Some x) all ≡ rounds → IsMetFinished commands all steps
 met_finished commands none met rounds steps end all nones first after rest few is_all =
     let settled : IsSettled rounds all = settled_all rounds all is_all in
     record {

@@ -12,7 +12,7 @@ use Rattle.edd_check.specs.Met.{CoverInRange}
 use Rattle.edd_check.specs.Schedule.{places_at, CommandsInRange}
 use Rattle.edd_oracle.specs.declared.cover.Served.{Served}
 use Rattle.edd_oracle.specs.Plan.{due_at, IsWindowStart}
-use Rattle.edd_oracle.specs.Met.{IsMetFirst, IsDelayed, IsPassed, IsPassedWindow, IsPassedCover}
+use Rattle.edd_oracle.specs.Met.{IsMetFirst, IsDelayed, IsPassedOver, IsPassedWindow, IsPassedCover}
 use Rattle.edd_oracle.specs.Inside.Cover.{served_at, IsPassedDue, IsServedStart, AreWindows}
 use Rattle.edd_oracle.proofs.Counting.{count_along}
 use Rattle.edd_oracle.proofs.Crowded.{due_from_first}
@@ -49,7 +49,7 @@ released_after commands rounds steps past due start k d same first is_start with
     ]
 
 -- so a command that is passed over lies in a window that it reaches
-pub passed_lies : (commands : List Command) (rounds : List ℕ) (steps : List Step) (past due start k : ℕ) (d : Command) → length rounds ≡ length commands → IsMetFirst commands rounds steps → IsWindowStart commands rounds steps past due start → IsPassed commands rounds k d → (get_or commands k d).due ≤ due → start ≤ (get_or commands k d).due + 1 → start ≤ (get_or commands k d).release
+pub passed_lies : (commands : List Command) (rounds : List ℕ) (steps : List Step) (past due start k : ℕ) (d : Command) → length rounds ≡ length commands → IsMetFirst commands rounds steps → IsWindowStart commands rounds steps past due start → IsPassedOver commands rounds k d → (get_or commands k d).due ≤ due → start ≤ (get_or commands k d).due + 1 → start ≤ (get_or commands k d).release
 passed_lies commands rounds steps past due start k d same first is_start passed by_then could =
     released_after commands rounds steps past due start k d same first is_start passed.in_list by_then could (omega (arith, passed.late))
 
@@ -73,7 +73,7 @@ served_start commands rounds steps served past due start same within is =
 pub record IsFound (commands : List Command) (rounds : List ℕ) (steps : List Step) (passed : List ℕ) (served : List Served) (past : ℕ) : Type 0 where
   pub one_each : length rounds ≡ length commands
   pub first : IsMetFirst commands rounds steps
-  pub each : (k : ℕ) (d : Command) → IsPassed commands rounds k d → (j : ℕ) × (j < length passed) × (get_or passed j 0 ≡ (get_or commands k d).due)
+  pub each : (k : ℕ) (d : Command) → IsPassedOver commands rounds k d → (j : ℕ) × (j < length passed) × (get_or passed j 0 ≡ (get_or commands k d).due)
   pub some : All (IsPassedDue commands rounds) passed
   pub within : (j : ℕ) → j < length passed → get_or passed j 0 < past
   pub same : (y due : ℕ) → y < past → served_at served y due ≡ due_at commands rounds y due

@@ -7,12 +7,12 @@ use Rattle.std.proofs.lemmas.List.{get_or_default}
 use Rattle.std.proofs.lemmas.List.Elements.{All-nil, All-push, Contains-push, Contains-append_left}
 use Rattle.std.proofs.lemmas.List.Sorted.{All-permutation, Contains-permutation}
 use Rattle.edd_check.specs.declared.Command.{Command}
-use Rattle.edd_oracle.specs.Met.{IsPassed}
+use Rattle.edd_oracle.specs.Met.{IsPassedOver}
 use Rattle.edd_oracle.specs.Inside.Cover.{IsPassedDue}
 
 -- those of the first n
 pub record AreLate (commands : List Command) (rounds : List ℕ) (n : ℕ) (found : List ℕ) : Type 0 where
-  pub each : (k : ℕ) (d : Command) → k < n → IsPassed commands rounds k d → Contains found (get_or commands k d).due
+  pub each : (k : ℕ) (d : Command) → k < n → IsPassedOver commands rounds k d → Contains found (get_or commands k d).due
   pub some : All (IsPassedDue commands rounds) found
 
 pub no_late : (commands : List Command) (rounds found : List ℕ) → found ≡ [] → AreLate commands rounds 0 found

@@ -12,7 +12,7 @@ use Rattle.std.specs.Bool.{IsTrue}
 use Rattle.edd_oracle.specs.Input.{IsSolvable}
 use Rattle.edd_oracle.specs.Plan.{IsWaiting}
 use Rattle.edd_oracle.specs.Priority.{IsEarliestDueFirst, ComesFirst}
-use Rattle.edd_oracle.specs.Inside.Leave.{IsFirstReleased, IsEarliestDue, has_round, placed_at, has_none, waiting_count, IsInTime, CouldRun, IsBegun, IsKept, IsLeft}
+use Rattle.edd_oracle.specs.Inside.Leave.{IsFirstReleased, IsEarliestDue, has_round, placed_at, has_none, unplaced_count, IsInTime, CouldRun, IsBegun, IsKept, HaveLeft}
 use Rattle.edd_oracle.proofs.Counting.{count_none, count_map, count_some}
 
 -- the rounds from `start` up to `round` are as earliest due date first has them, late commands passed over or not, and
@@ -27,7 +27,7 @@ pub record IsPartial (passes : Bool) (commands : List Command) (begun rounds : L
   pub full : (x k : ℕ) (d : Command) → start ≤ x → x < round → CouldRun passes commands rounds x k d → placed_at rounds x ≡ depth_at steps x
   pub due_first : (x k p : ℕ) (d : Command) → start ≤ x → x < round → CouldRun passes commands rounds x k d → get_or rounds p None ≡ Some x → ComesFirst (get_or commands p d) (get_or commands k d)
   pub due_now : (k p : ℕ) (d : Command) → IsWaiting rounds k → (get_or commands k d).release ≤ round → IsInTime passes (get_or commands k d) round → get_or rounds p None ≡ Some round → ComesFirst (get_or commands p d) (get_or commands k d)
-  pub room : round + used + waiting_count rounds ≤ 2 ^ 40 + length commands
+  pub room : round + used + unplaced_count rounds ≤ 2 ^ 40 + length commands
 
 pub has_round_true : (x : ℕ) (o : Option ℕ) → has_round x o ≡ true → o ≡ Some x
 has_round_true x None e = absurd (cc)
@@ -84,16 +84,16 @@ placed_elsewhere rounds k x y waits other =
     omega (arith, was, now, sum_by-set f rounds k (Some x) None waits.in_list)
 
 -- one command less waits
-pub one_less_waits : (rounds : List (Option ℕ)) (k x : ℕ) → IsWaiting rounds k → waiting_count (set rounds k (Some x)) + 1 ≡ waiting_count rounds
-unfolding waiting_count
+pub one_less_waits : (rounds : List (Option ℕ)) (k x : ℕ) → IsWaiting rounds k → unplaced_count (set rounds k (Some x)) + 1 ≡ unplaced_count rounds
+unfolding unplaced_count
 one_less_waits rounds k x waits =
     let f : Option ℕ → ℕ = λ o. cond (has_none o) 1 0 in
     let was : f (get_or rounds k None) ≡ 1 = ap f waits.none in
     omega (arith, was, sum_by-set f rounds k (Some x) None waits.in_list)
 
-pub waiting_count-le : (rounds : List (Option ℕ)) → waiting_count rounds ≤ length rounds
-unfolding waiting_count
-waiting_count-le rounds = count_by-le-length has_none rounds
+pub unplaced_count-le : (rounds : List (Option ℕ)) → unplaced_count rounds ≤ length rounds
+unfolding unplaced_count
+unplaced_count-le rounds = count_by-le-length has_none rounds
 
 -- before the first command
 pub start_partial : (passes : Bool) (commands : List Command) (begun : List (Option ℕ)) (steps : List Step) (start : ℕ) → IsBegun commands begun steps start → IsPartial passes commands begun begun steps start start 0
@@ -144,7 +144,7 @@ jump_partial passes commands begun rounds steps start round used next so_far up 
             | inr after ↦ absurd (idle x k d after lt runs)
           ];
       due_now = λ k p d waits released in_time there. absurd (omega (arith, (so_far.timely p next d there).1));
-      room = omega (arith, waiting_count-le rounds, so_far.one_each);
+      room = omega (arith, unplaced_count-le rounds, so_far.one_each);
     }
 
 -- after a full round comes the next one
@@ -268,7 +268,7 @@ put_partial passes commands begun rounds steps start round used place so_far fit
     }
 
 -- once all have left
-pub left_partial : (passes : Bool) (commands : List Command) (begun rounds : List (Option ℕ)) (steps : List Step) (start round used : ℕ) → IsPartial passes commands begun rounds steps start round used → ((k : ℕ) (d : Command) → IsWaiting rounds k → IsTrue passes × ((get_or commands k d).due < round)) → ((x : ℕ) → 0 < depth_at steps x) → IsLeft passes commands begun rounds steps start
+pub left_partial : (passes : Bool) (commands : List Command) (begun rounds : List (Option ℕ)) (steps : List Step) (start round used : ℕ) → IsPartial passes commands begun rounds steps start round used → ((k : ℕ) (d : Command) → IsWaiting rounds k → IsTrue passes × ((get_or commands k d).due < round)) → ((x : ℕ) → 0 < depth_at steps x) → HaveLeft passes commands begun rounds steps start
 left_partial passes commands begun rounds steps start round used so_far gone some =
     let before : (x k : ℕ) (d : Command) → CouldRun passes commands rounds x k d → x < round =
     λ x k d runs.
@@ -334,7 +334,7 @@ could_run passes commands rounds all x k d same settled h released in_time lt =
     }
 
 -- whatever leaves with a round of its own is legal
-pub legal_left : (passes : Bool) (commands : List Command) (begun rounds : List (Option ℕ)) (steps : List Step) (start : ℕ) (all : List ℕ) → IsLeft passes commands begun rounds steps start → IsSettled rounds all → IsLegal commands all steps
+pub legal_left : (passes : Bool) (commands : List Command) (begun rounds : List (Option ℕ)) (steps : List Step) (start : ℕ) (all : List ℕ) → HaveLeft passes commands begun rounds steps start → IsSettled rounds all → IsLegal commands all steps
 legal_left passes commands begun rounds steps start all left settled =
     record {
       one_each = settled.same ∙ left.one_each;
@@ -342,14 +342,14 @@ legal_left passes commands begun rounds steps start all left settled =
       within_depth = λ x. omega (arith, settled.count x, left.within x);
     }
 
-pub in_range_left : (passes : Bool) (commands : List Command) (begun rounds : List (Option ℕ)) (steps : List Step) (start : ℕ) (all : List ℕ) → IsLeft passes commands begun rounds steps start → length commands ≤ 1000000 → IsSettled rounds all → RoundsInRange all
+pub in_range_left : (passes : Bool) (commands : List Command) (begun rounds : List (Option ℕ)) (steps : List Step) (start : ℕ) (all : List ℕ) → HaveLeft passes commands begun rounds steps start → length commands ≤ 1000000 → IsSettled rounds all → RoundsInRange all
 in_range_left passes commands begun rounds steps start all left few settled =
     λ k d h.
     let value : get_or all k d ≡ get_or all k 0 = get_or_default all k d 0 h in
     let low = left.room k (get_or all k 0) (settled.at k (omega (arith, settled.same))) in
     omega arith
 
-pub finish_left : (commands : List Command) (begun rounds : List (Option ℕ)) (steps : List Step) (all : List ℕ) → IsLeft false commands begun rounds steps 0 → length commands ≤ 1000000 → map (λ x. Some x) all ≡ rounds → IsFinished commands all steps
+pub finish_left : (commands : List Command) (begun rounds : List (Option ℕ)) (steps : List Step) (all : List ℕ) → HaveLeft false commands begun rounds steps 0 → length commands ≤ 1000000 → map (λ x. Some x) all ≡ rounds → IsFinished commands all steps
 finish_left commands begun rounds steps all left few is_all =
     let settled : IsSettled rounds all = settled_all rounds all is_all in
     let could : (x k : ℕ) (d : Command) → k < length commands → (get_or commands k d).release ≤ x → x < get_or all k 0 → CouldRun false commands rounds x k d =

@@ -40,7 +40,7 @@ pub record IsMetFirst (commands : List Command) (rounds : List ℕ) (steps : Lis
   pub rest_first : (x k p : ℕ) (d : Command) → IsLeftOver commands rounds end x k d → p < length commands → slice_index rounds p ≡ x → ComesFirst (slice_index_or commands p d) (slice_index_or commands k d)
 
 -- the command at place k is passed over: it is released by its due round, and runs after it
-pub record IsPassed (commands : List Command) (rounds : List ℕ) (k : ℕ) (d : Command) : Type 0 where
+pub record IsPassedOver (commands : List Command) (rounds : List ℕ) (k : ℕ) (d : Command) : Type 0 where
   pub in_list : k < length commands
   pub some : (slice_index_or commands k d).release ≤ (slice_index_or commands k d).due
   pub late : (slice_index_or commands k d).due < slice_index rounds k
@@ -49,7 +49,7 @@ pub record IsPassed (commands : List Command) (rounds : List ℕ) (k : ℕ) (d :
 -- which fewer commands due by then run than it carries
 pub record IsPassedWindow (commands : List Command) (rounds : List ℕ) (steps : List Step) (w : Window) : Type 0 where
   pub place : ℕ
-  pub passed : (d : Command) → IsPassed commands rounds place d
+  pub passed : (d : Command) → IsPassedOver commands rounds place d
   pub is_due : (d : Command) → w.due ≡ (slice_index_or commands place d).due
   pub is_start : IsWindowStart commands rounds steps (w.due + 1) w.due w.from
 
@@ -57,7 +57,7 @@ pub record IsPassedWindow (commands : List Command) (rounds : List ℕ) (steps :
 pub record IsPassedCover (commands : List Command) (rounds : List ℕ) (steps : List Step) (cover : List Window) : Type 0 where
   pub each : (i : ℕ) (e : Window) → i < length cover → IsPassedWindow commands rounds steps (slice_index_or cover i e)
   pub apart : (i : ℕ) (e : Window) → i + 1 < length cover → (slice_index_or cover i e).due + 1 < (slice_index_or cover (i + 1) e).from
-  pub all : (k : ℕ) (d : Command) → IsPassed commands rounds k d → (i : ℕ) × (i < length cover) × ((e : Window) → ((slice_index_or cover i e).from ≤ (slice_index_or commands k d).release) × ((slice_index_or commands k d).due ≤ (slice_index_or cover i e).due))
+  pub all : (k : ℕ) (d : Command) → IsPassedOver commands rounds k d → (i : ℕ) × (i < length cover) × ((e : Window) → ((slice_index_or cover i e).from ≤ (slice_index_or commands k d).release) × ((slice_index_or commands k d).due ≤ (slice_index_or cover i e).due))
 
 -- a legal schedule, how many it meets, and a cover of that bound, so that no legal schedule meets more
 pub record IsMostAnswer (commands : List Command) (steps : List Step) (rounds : List ℕ) (met : ℕ) (cover : List Window) : Type 0 where

@@ -10,7 +10,7 @@ ghost use Rattle.edd_check.specs.Limits.{round_limit};
 ghost use Rattle.edd_check.specs.Met.{CoverInRange};
 ghost use Rattle.edd_check.specs.Schedule.{IsLegal, CommandsInRange, places_at};
 ghost use Rattle.edd_oracle.specs.Plan.{due_at};
-ghost use Rattle.edd_oracle.specs.Met.{IsMetFirst, IsPassed, IsPassedCover};
+ghost use Rattle.edd_oracle.specs.Met.{IsMetFirst, IsPassedOver, IsPassedCover};
 ghost use Rattle.edd_oracle.specs.Inside.Cover.{served_at, running_at, IsPassedDue, IsServedStart, AreDue, IsOneOff, AreWindows};
 
 use edd_check::{Capacity, Command, Window};
@@ -32,7 +32,7 @@ fn passed_over<A: Allocator>(
     rounds: &[u64],
 ) -> Result<Vec<u64, A>, AllocError>
     requires { length rounds.now ≡ length commands.now }
-    ensures each { IfOk result (λ found. (k : ℕ) (d : Command) → IsPassed commands.now rounds.now k d → Contains found.items (slice_index_or commands.now k d).due) }
+    ensures each { IfOk result (λ found. (k : ℕ) (d : Command) → IsPassedOver commands.now rounds.now k d → Contains found.items (slice_index_or commands.now k d).due) }
     ensures some { IfOk result (λ found. All (IsPassedDue commands.now rounds.now) found.items) }
     ensures rising { IfOk result (λ found. IsNonDecreasingBy (λ x. x) found.items) }
 {

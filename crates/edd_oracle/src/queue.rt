@@ -9,8 +9,8 @@ ghost use Rattle.edd_check.specs.Schedule.{IsLegal, RoundsInRange};
 ghost use Rattle.edd_check.specs.declared.Command.{Command};
 ghost use Rattle.edd_oracle.specs.Input.{IsSolvable, HasDistinctIds};
 ghost use Rattle.edd_oracle.specs.Plan.{IsWaiting};
-ghost use Rattle.edd_oracle.specs.Queue.{IsArrival, IsReleased, arrivals_of, held_of, waiting_cmp, IsRest};
-ghost use Rattle.edd_oracle.specs.Inside.Leave.{waits_at, IsTakenOut, IsBegun, IsLeft, IsAfter};
+ghost use Rattle.edd_oracle.specs.Queue.{IsArrival, IsReleasedBy, arrivals_of, held_of, waiting_cmp, IsRest};
+ghost use Rattle.edd_oracle.specs.Inside.Leave.{unplaced_at, IsTakenOut, IsBegun, HaveLeft, IsAfter};
 ghost use Rattle.edd_oracle.specs.Met.{IsMetFirst};
 ghost use Rattle.edd_oracle.specs.Priority.{IsEarliestDueFirst};
 
@@ -46,7 +46,7 @@ fn arrivals<A: Allocator>(
     rounds: &[Option<u64>],
 ) -> Result<Vec<Arrival, A>, AllocError>
     requires { length rounds.now ≡ length commands.now }
-    ensures once { IfOk result (λ found. (k : ℕ) → k < length commands.now → arrivals_of found.items k ≡ waits_at rounds.now k) }
+    ensures once { IfOk result (λ found. (k : ℕ) → k < length commands.now → arrivals_of found.items k ≡ unplaced_at rounds.now k) }
     ensures placed { IfOk result (λ found. All (IsArrival commands.now) found.items) }
     ensures rising { IfOk result (λ found. IsNonDecreasingBy (λ a. a.release) found.items) }
 {
@@ -77,12 +77,12 @@ fn release<A: Allocator>(
     requires rising { IsNonDecreasingBy (λ a. a.release) arrivals.now }
     requires within { start ≤ length arrivals.now }
     requires ordered { IsHeap waiting_cmp (heap_items waiting.old) }
-    requires released { All (IsReleased commands.now round) (heap_items waiting.old) }
+    requires released { All (IsReleasedBy commands.now round) (heap_items waiting.old) }
     ensures within { IfOk result (λ next. next ≤ length arrivals.now) }
     ensures kept { IfOk result (λ next. (k : ℕ) → held_of (heap_items waiting.new) k + arrivals_of (drop next arrivals.now) k ≡ held_of (heap_items waiting.old) k + arrivals_of (drop start arrivals.now) k) }
     ensures rest { IfOk result (λ next. IsRest arrivals.now next round) }
     ensures ordered { OnOk result (IsHeap waiting_cmp (heap_items waiting.new)) }
-    ensures released { OnOk result (All (IsReleased commands.now round) (heap_items waiting.new)) }
+    ensures released { OnOk result (All (IsReleasedBy commands.now round) (heap_items waiting.new)) }
     ensures some { OnOk result (length (heap_items waiting.old) ≤ length (heap_items waiting.new)) }
     ensures more { IfOk result (λ next. start < next → 0 < length (heap_items waiting.new)) }
     ensures after { IfOk result (λ next. start ≤ next) }
@@ -150,7 +150,7 @@ fn leave<A: Allocator + Clone, B: Allocator>(
     requires few { length commands.now ≤ most_commands }
     requires in_range { All IsSolvable commands.now }
     requires begun { IsBegun commands.now rounds.old.items capacity.now start }
-    ensures { OnOk result (IsLeft passes commands.now rounds.old.items rounds.new.items capacity.now start) }
+    ensures { OnOk result (HaveLeft passes commands.now rounds.old.items rounds.new.items capacity.now start) }
 {
     let arrivals = arrivals(alloc.clone()?, commands, rounds.as_slice())?;
     let mut waiting = BinaryHeap::new(alloc);

@@ -5,7 +5,7 @@ use Rattle.edd_check.specs.declared.Window.{Window}
 use Rattle.edd_check.specs.declared.steps.Step.{Step}
 use Rattle.edd_check.specs.Capacity.{depth_at}
 use Rattle.edd_oracle.specs.declared.cover.Served.{Served}
-use Rattle.edd_oracle.specs.Met.{IsPassed}
+use Rattle.edd_oracle.specs.Met.{IsPassedOver}
 
 -- how many of them due by `due` run in the round y
 unfoldable pub served_at : List Served → ℕ → ℕ → ℕ
@@ -30,7 +30,7 @@ pub record IsOneOff (served : List Served) (first past x due : ℕ) : Type 0 whe
 -- x is the due round of a command that is passed over
 pub record IsPassedDue (commands : List Command) (rounds : List ℕ) (x : ℕ) : Type 0 where
   pub place : ℕ
-  pub passed : (d : Command) → IsPassed commands rounds place d
+  pub passed : (d : Command) → IsPassedOver commands rounds place d
   pub is_due : (d : Command) → x ≡ (slice_index_or commands place d).due
 
 -- from `start` up to `due` the rounds are full of those due by then, and the one before `start` is not

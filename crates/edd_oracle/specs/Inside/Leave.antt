@@ -23,12 +23,12 @@ has_none None = true
 has_none (Some y) = false
 
 -- one where the command at place k has no round
-abbrev pub waits_at : List (Option ℕ) → ℕ → ℕ
-waits_at rounds k = cond (has_none (slice_index_or rounds k None)) 1 0
+abbrev pub unplaced_at : List (Option ℕ) → ℕ → ℕ
+unplaced_at rounds k = cond (has_none (slice_index_or rounds k None)) 1 0
 
 -- how many commands have no round yet
-unfoldable pub waiting_count : List (Option ℕ) → ℕ
-waiting_count rounds = count_by has_none rounds
+unfoldable pub unplaced_count : List (Option ℕ) → ℕ
+unplaced_count rounds = count_by has_none rounds
 
 -- the command may still have the round x: where late ones are passed over, only one up to its due round
 abbrev pub IsInTime : Bool → Command → ℕ → Type 0
@@ -62,7 +62,7 @@ pub record IsBegun (commands : List Command) (rounds : List (Option ℕ)) (steps
   pub one_each : length rounds ≡ length commands
   pub before : (k x : ℕ) (d : Command) → slice_index_or rounds k None ≡ Some x → ((slice_index_or commands k d).release ≤ x) × (x < start)
   pub within : (x : ℕ) → placed_at rounds x ≤ depth_at steps x
-  pub room : start + waiting_count rounds ≤ release_limit + length commands
+  pub room : start + unplaced_count rounds ≤ release_limit + length commands
 
 -- a round that was given already is kept, and a new one lies from `start` on, where the command may have it
 abbrev pub IsKept : Bool → List Command → List (Option ℕ) → List (Option ℕ) → ℕ → Type 0
@@ -71,7 +71,7 @@ IsKept passes commands begun rounds start =
 
 -- once all have left: from `start` on, a round in which a command could run that has none up to it is full, of commands
 -- that come first
-pub record IsLeft (passes : Bool) (commands : List Command) (begun rounds : List (Option ℕ)) (steps : List Step) (start : ℕ) : Type 0 where
+pub record HaveLeft (passes : Bool) (commands : List Command) (begun rounds : List (Option ℕ)) (steps : List Step) (start : ℕ) : Type 0 where
   pub one_each : length rounds ≡ length commands
   pub kept : IsKept passes commands begun rounds start
   pub released : (k x : ℕ) (d : Command) → slice_index_or rounds k None ≡ Some x → (slice_index_or commands k d).release ≤ x
@@ -80,7 +80,7 @@ pub record IsLeft (passes : Bool) (commands : List Command) (begun rounds : List
   pub due_first : (x k p : ℕ) (d : Command) → start ≤ x → CouldRun passes commands rounds x k d → slice_index_or rounds p None ≡ Some x → ComesFirst (slice_index_or commands p d) (slice_index_or commands k d)
   pub all : (k : ℕ) → IsWaiting rounds k → IsTrue passes
   pub some : (x : ℕ) → 0 < depth_at steps x
-  pub room : (k x : ℕ) → slice_index_or rounds k None ≡ Some x → x + 1 + waiting_count rounds ≤ release_limit + length commands
+  pub room : (k x : ℕ) → slice_index_or rounds k None ≡ Some x → x + 1 + unplaced_count rounds ≤ release_limit + length commands
 
 -- one more than the last of the rounds, or 0 where there is none
 pub record IsAfter (rounds : List (Option ℕ)) (end : ℕ) : Type 0 where

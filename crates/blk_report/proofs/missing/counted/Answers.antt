@@ -8,11 +8,14 @@ overflow_sub-unavoidable g c =
     let m = c.requires.most in
     omega (arith, all_commands c.args.commands.now c.args.answer.now.rounds.items m.legal.one_each, m.number)
 
+pub overflow_sub-late : goal.overflow_sub-late
+overflow_sub-late g c = omega (arith, all_commands c.args.commands.now c.args.rounds.now c.requires.legal.one_each, c.number_met.ensures)
+
 pub overflow_sub-result : goal.overflow_sub-result
 overflow_sub-result g c =
     let m = c.requires.most in
     let legal = c.requires.legal in
-    omega (arith, all_commands c.args.commands.now c.args.rounds.now legal.one_each, m.most.most c.args.rounds.now legal, c.number_late-late.ensures)
+    omega (arith, all_commands c.args.commands.now c.args.rounds.now legal.one_each, m.most.most c.args.rounds.now legal, c.number_met.ensures)
 
 pub returns : goal.returns
 returns g c =
@@ -22,11 +25,14 @@ returns g c =
     let all = all_commands c.args.commands.now c.args.rounds.now legal.one_each in
     record {
       count_is = refl;
-      late_is = c.number_late-late.ensures;
+      late_is = omega (arith, all, c.number_met.ensures);
       least = least_late c.args.commands.now c.args.capacity.now c.args.answer.now.met _ m.most (omega (arith, met, m.number));
-      rest = omega (arith, all, m.most.most c.args.rounds.now legal, c.number_late-late.ensures);
+      rest = omega (arith, all, m.most.most c.args.rounds.now legal, c.number_met.ensures);
       cover = c.args.answer.now.cover.items;
       disjoint = m.disjoint;
+      best = c.args.answer.now.rounds.items;
+      first = c.requires.first;
+      passed = c.requires.passed;
       windows_are = c.in_ok-windows.ensures ∙ ap (λ l. map (crowd_of c.args.commands.now c.args.capacity.now) l) c.as_slice.ensures.value;
       bound = omega (arith, m.bound, met, m.number);
     }

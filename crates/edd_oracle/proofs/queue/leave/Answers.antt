@@ -9,8 +9,8 @@ use Rattle.edd_check.specs.Capacity.{depth_at}
 use Rattle.edd_check.proofs.InForce.{depth_bounds}
 use Rattle.edd_oracle.specs.declared.queue.Arrival.{Arrival}
 use Rattle.edd_oracle.specs.declared.queue.Released.{Released}
-use Rattle.edd_oracle.specs.Inside.Leave.{IsFirstReleased, waits_at}
-use Rattle.edd_oracle.specs.Queue.{IsArrival, IsReleased, held_of, arrivals_of}
+use Rattle.edd_oracle.specs.Inside.Leave.{IsFirstReleased, unplaced_at}
+use Rattle.edd_oracle.specs.Queue.{IsArrival, IsReleasedBy, held_of, arrivals_of}
 use Rattle.edd_oracle.proofs.Partial.{IsPartial, IsReady, start_partial, ready_jumped, ready_next, ready_still, put_partial, left_partial}
 use Rattle.edd_oracle.proofs.Turn.{IsHeld, IsTurn, held_at_start, first_of_arrivals, held_taken_in, popped_earliest, held_popped, held_passed, gone_at_end, empty_heap}
 use Rattle.edd_oracle.proofs.queue.leave.Given.{Over}
@@ -22,7 +22,7 @@ places-init g c =
     record {
       so_far = start_partial c.args.passes c.args.commands.now c.args.rounds.now.items c.args.capacity.now c.args.start c.requires.begun;
       held = held_at_start c.args.passes c.args.commands.now c.args.rounds.now.items c.in_ok-arrivals.arrivals.items (heap_items c.new-waiting.result) c.args.start c.requires.begun.one_each
-          (λ k h. subst (λ xs. arrivals_of c.in_ok-arrivals.arrivals.items k ≡ waits_at xs k) c.as_slice.ensures.value (c.in_ok-arrivals.ensures.once k h)) c.new-waiting.ensures.items;
+          (λ k h. subst (λ xs. arrivals_of c.in_ok-arrivals.arrivals.items k ≡ unplaced_at xs k) c.as_slice.ensures.value (c.in_ok-arrivals.ensures.once k h)) c.new-waiting.ensures.items;
       ordered = c.new-waiting.ensures.heap_order;
       depth = c.at-depth.ensures.value;
     }
@@ -87,7 +87,7 @@ places-preserved g c =
     let at = ready g c in
     let heap' : List (Reverse Released) = heap_items c.release.new.waiting in
     let popped = c.in-Some.ensures.heap_order c.in_ok-next.ensures.ordered in
-    let is : IsReleased c.args.commands.now c.if-is_empty.round w = All-head (IsReleased c.args.commands.now c.if-is_empty.round) w (heap_items c.pop.new.self) (All-permutation (IsReleased c.args.commands.now c.if-is_empty.round) heap' (w ∷ heap_items c.pop.new.self) c.in-Some.ensures.permutation now.held.released) in
+    let is : IsReleasedBy c.args.commands.now c.if-is_empty.round w = All-head (IsReleasedBy c.args.commands.now c.if-is_empty.round) w (heap_items c.pop.new.self) (All-permutation (IsReleasedBy c.args.commands.now c.if-is_empty.round) heap' (w ∷ heap_items c.pop.new.self) c.in-Some.ensures.permutation now.held.released) in
     elim c.take.ensures [
       | inl given ↦
           let so_far : IsPartial c.args.passes c.args.commands.now c.args.rounds.now.items (set c.places.rounds.items w.0.place (Some c.if-is_empty.round)) c.args.capacity.now c.args.start c.if-is_empty.round (c.if-is_empty.used + 1) =

@@ -2,7 +2,7 @@ use Rattle.std.proofs.Common.{◌≡◌, false, Some, None, length, replicate, m
 use Rattle.std.specs.Result.{IfOk}
 use Rattle.std.proofs.lemmas.Result.{IfOk-weaker}
 use Rattle.edd_check.specs.Schedule.{IsLegal, RoundsInRange}
-use Rattle.edd_oracle.specs.Inside.Leave.{IsLeft}
+use Rattle.edd_oracle.specs.Inside.Leave.{HaveLeft}
 use Rattle.edd_oracle.specs.Priority.{IsEarliestDueFirst}
 use Rattle.edd_oracle.proofs.Partial.{IsFinished, finish_left}
 use Rattle.edd_oracle.proofs.Both.{nones_begun}
@@ -17,8 +17,8 @@ leave-requires-clause-begun g c =
 finished : (g : Over) (c : goal.After-drop-rounds-2 g) → IfOk c.settled.result (λ rounds. IsFinished c.args.commands.now rounds.items c.args.capacity.now)
 finished g c =
     let same : c.leave.new.rounds.items ≡ c.as_slice.result.now = search rules in
-    let left : IsLeft false c.args.commands.now c.in_ok-rounds.rounds.items c.as_slice.result.now c.args.capacity.now 0 =
-    subst (λ xs. IsLeft false c.args.commands.now c.in_ok-rounds.rounds.items xs c.args.capacity.now 0) same c.in_ok-leave.ensures in
+    let left : HaveLeft false c.args.commands.now c.in_ok-rounds.rounds.items c.as_slice.result.now c.args.capacity.now 0 =
+    subst (λ xs. HaveLeft false c.args.commands.now c.in_ok-rounds.rounds.items xs c.args.capacity.now 0) same c.in_ok-leave.ensures in
     IfOk-weaker c.settled.result (λ rounds. map (λ x. Some x) rounds.items ≡ c.as_slice.result.now) (λ rounds. IsFinished c.args.commands.now rounds.items c.args.capacity.now)
     (λ rounds settled. finish_left c.args.commands.now c.in_ok-rounds.rounds.items c.as_slice.result.now c.args.capacity.now rounds.items left c.requires.few settled)
     c.settled.ensures

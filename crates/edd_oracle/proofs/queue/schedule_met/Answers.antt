@@ -3,7 +3,7 @@ use Rattle.std.specs.Result.{IfOk}
 use Rattle.std.proofs.lemmas.Result.{IfOk-weaker}
 use Rattle.edd_check.specs.Capacity.{depth_at}
 use Rattle.edd_check.specs.Schedule.{IsLegal, RoundsInRange}
-use Rattle.edd_oracle.specs.Inside.Leave.{IsLeft, IsAfter}
+use Rattle.edd_oracle.specs.Inside.Leave.{HaveLeft, IsAfter}
 use Rattle.edd_oracle.specs.Met.{IsMetFirst}
 use Rattle.edd_oracle.proofs.Both.{IsMetFinished, met_finished, nones_begun, left_small, rest_begun}
 use Rattle.edd_oracle.proofs.queue.schedule_met.Given.{Over}
@@ -17,13 +17,13 @@ leave-requires-clause-begun g c =
 pub after-end-requires : goal.after-end-requires
 after-end-requires g c =
     let same : c.leave.new.rounds.items ≡ c.as_slice.result.now = search rules in
-    let left : IsLeft true c.args.commands.now c.in_ok-rounds.rounds.items c.as_slice.result.now c.args.capacity.now 0 =
-    subst (λ xs. IsLeft true c.args.commands.now c.in_ok-rounds.rounds.items xs c.args.capacity.now 0) same c.in_ok-leave.ensures in
+    let left : HaveLeft true c.args.commands.now c.in_ok-rounds.rounds.items c.as_slice.result.now c.args.capacity.now 0 =
+    subst (λ xs. HaveLeft true c.args.commands.now c.in_ok-rounds.rounds.items xs c.args.capacity.now 0) same c.in_ok-leave.ensures in
     left_small true c.args.commands.now c.in_ok-rounds.rounds.items c.as_slice.result.now c.args.capacity.now 0 left c.requires.few
 
 pub leave-requires-2-clause-begun : goal.leave-requires-2-clause-begun
 leave-requires-2-clause-begun g c =
-    let left : IsLeft true c.args.commands.now c.in_ok-rounds.rounds.items c.leave.new.rounds.items c.args.capacity.now 0 =
+    let left : HaveLeft true c.args.commands.now c.in_ok-rounds.rounds.items c.leave.new.rounds.items c.args.capacity.now 0 =
     c.in_ok-leave.ensures in
     let here : c.as_slice.result.now ≡ c.leave.new.rounds.items = search rules in
     let after : IsAfter c.leave.new.rounds.items c.after-end.result = subst (λ xs. IsAfter xs c.after-end.result) here c.after-end.ensures in
@@ -32,13 +32,13 @@ leave-requires-2-clause-begun g c =
 finished : (g : Over) (c : goal.After-drop-rounds-2 g) → IfOk c.settled.result (λ rounds. IsMetFinished c.args.commands.now rounds.items c.args.capacity.now)
 finished g c =
     let nones : c.in_ok-rounds.rounds.items ≡ replicate (length c.args.commands.now) None = search rules in
-    let first : IsLeft true c.args.commands.now c.in_ok-rounds.rounds.items c.leave.new.rounds.items c.args.capacity.now 0 =
+    let first : HaveLeft true c.args.commands.now c.in_ok-rounds.rounds.items c.leave.new.rounds.items c.args.capacity.now 0 =
     c.in_ok-leave.ensures in
     let here : c.as_slice.result.now ≡ c.leave.new.rounds.items = search rules in
     let after : IsAfter c.leave.new.rounds.items c.after-end.result = subst (λ xs. IsAfter xs c.after-end.result) here c.after-end.ensures in
     let same-2 : c.leave-2.new.rounds.items ≡ c.as_slice-2.result.now = search rules in
-    let rest : IsLeft false c.args.commands.now c.leave.new.rounds.items c.as_slice-2.result.now c.args.capacity.now c.after-end.result =
-    subst (λ xs. IsLeft false c.args.commands.now c.leave.new.rounds.items xs c.args.capacity.now c.after-end.result) same-2 c.in_ok-leave-2.ensures in
+    let rest : HaveLeft false c.args.commands.now c.leave.new.rounds.items c.as_slice-2.result.now c.args.capacity.now c.after-end.result =
+    subst (λ xs. HaveLeft false c.args.commands.now c.leave.new.rounds.items xs c.args.capacity.now c.after-end.result) same-2 c.in_ok-leave-2.ensures in
     IfOk-weaker c.settled.result (λ rounds. map (λ x. Some x) rounds.items ≡ c.as_slice-2.result.now) (λ rounds. IsMetFinished c.args.commands.now rounds.items c.args.capacity.now)
     (λ rounds settled. met_finished c.args.commands.now c.in_ok-rounds.rounds.items c.leave.new.rounds.items c.as_slice-2.result.now c.args.capacity.now c.after-end.result rounds.items nones first after rest c.requires.few settled)
     c.settled.ensures
