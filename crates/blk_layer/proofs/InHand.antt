@@ -90,6 +90,7 @@ pub takes : (set same : Set) (hw : ℕ) (v w : List ℕ) (hands : List (Option C
 takes set same hw v w hands ran all at t command e f g a marks long less free = rw (e, f, g, a) (record {
   below = less;
   free = free_at hands v t marks (omega (arith, long, less)) (none_count v t free);
+  unheld = free;
   taken = refl;
 })
 

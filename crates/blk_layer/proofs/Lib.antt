@@ -7,3 +7,9 @@ mod Plugged
 mod Moving
 mod InHand
 mod Answered
+mod Running
+mod Times
+mod Same
+mod Dones
+mod Gathered
+mod Agreed

@@ -4,8 +4,7 @@ use Rattle.std.specs.List.{flat_map}
 use Rattle.blk_bio.specs.declared.bio.BioId.{BioId}
 use Rattle.blk_bio.specs.Bios.{Bio}
 use Rattle.blk_plug.specs.Plugs.{Plug}
-use Rattle.blk_trace.specs.Events.{AreOnce}
-use Rattle.blk_trace.specs.Events.{IsFirstRepeatedBio}
+use Rattle.blk_trace.specs.Events.{AreOnce, IsFirstRepeatedBio}
 use Rattle.blk_layer.specs.declared.flushes.FlushWhy.{FlushWhy}
 use Rattle.blk_layer.specs.declared.flushes.FlushWhy.TheVariants.{Foreign, Repeated, SoftFull, Memory}
 use Rattle.blk_layer.specs.Seats.{SubmitterSeat, AreOwn}

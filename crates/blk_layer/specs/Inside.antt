@@ -1,2 +1,3 @@
 -- What invariants and proofs need, and no promise names.
 pub mod Kept
+pub mod Lines

@@ -4,4 +4,7 @@ pub mod Faults
 pub mod Moves
 pub mod Flushes
 pub mod Works
+pub mod Passes
+pub mod Ways
+pub mod Closes
 pub mod Inside

@@ -1,5 +1,5 @@
 -- What the calls of a worker do to its seat.
-use Rattle.std.specs.Prelude.{ℕ, ◌≡◌, ◌<◌, ◌≤◌, ◌⊎◌, ◌++◌, [], ◌∷◌, ⊤, Option, None, Some, Result, Ok, Err, slice_get, slice_set}
+use Rattle.std.specs.Prelude.{ℕ, ◌≡◌, ◌<◌, ◌≤◌, ◌⊎◌, ◌++◌, [], ◌∷◌, ⊤, Option, None, Some, Result, Ok, Err, Contains, slice_get, slice_set}
 use Rattle.edd_check.specs.declared.Command.{Command}
 use Rattle.blk_core.specs.State.{CoreState}
 use Rattle.blk_core.specs.Faults.{IsIssueFault}
@@ -15,10 +15,11 @@ use Rattle.blk_layer.specs.declared.issues.LayerIssueFault.TheVariants as layer
 use Rattle.blk_tags.specs.Tags.{without}
 use Rattle.blk_layer.specs.Seats.{WorkerSeat}
 
--- a command comes into the hands of a worker under a tag of the set, where it had none
+-- a command comes into the hands of a worker under a tag of the set, where it had none, and which it didn't hold
 pub record TakesInHand (old : WorkerSeat) (tag : ℕ) (command : Command) (new : WorkerSeat) : Type 0 where
   pub below : tag < old.tag_set.depth
   pub free : slice_get old.hands tag ≡ Some None
+  pub unheld : ¬ Contains old.tags tag
   pub taken : new ≡ record old { tags = old.tags ++ tag ∷ []; hands = slice_set old.hands tag (Some command) }
 
 -- what each answer of an issue says of the seat

@@ -1,22 +1,29 @@
 //! What lies under the core's lock.
 
-ghost use Rattle.std.specs.Prelude.{◌≡◌, ◌≢◌, ◌+◌, ◌<◌, [], IfOk, IfErr, OnOk, OnErr};
+ghost use Rattle.std.specs.Prelude.{◌≡◌, ◌≢◌, ◌+◌, ◌<◌, [], IfOk, IfErr, OnOk, OnErr, true, false, length};
+ghost use Rattle.blk_trace.specs.Waits.{waiting_count};
+ghost use Rattle.blk_core.specs.Faults.{IsTickFault};
 ghost use Rattle.blk_core.specs.Calls.{Issues, Completes, TakesBack, Ends, SetsDepth};
 ghost use Rattle.blk_layer.specs.Moves.{IsMoveAnswer};
 ghost use Rattle.blk_layer.specs.Works.{IsCoreIssueFault, IsTickAnswer, IsDepthAnswer};
+ghost use Rattle.blk_layer.specs.Passes.{IsUsedUp, IsRoundsEnd, IsLastIssueFault};
 ghost use Rattle.blk_trace.specs.Setups.{Setup};
 ghost use Rattle.blk_layer.specs.Served.{done_count};
+ghost use Rattle.blk_layer.specs.Closes.{all_ran};
 
 use crate::issues::{LayerIssueFault, of_core};
 use crate::moves::move_first;
 use crate::names::Named;
+use crate::seats::{Worker, audit};
 use blk_core::{BackFault, Core, CoreFault, DepthFault, NotIssued, TickFault};
 use blk_sched::Scheduler;
 use blk_soft::SoftQueue;
+use blk_trace::Trace;
 use edd_check::Command;
 use std::sync::ledger::{Book, Share};
 
-/// The core, beside the ledger's book of the commands that are done, and the parts of the ledger that no worker has.
+/// The core, beside the ledger's book of the commands that are done, the parts of the ledger that no worker has, and whether
+/// the workers are to finish.
 #[derive(Drop)]
 pub(crate) struct Kept<S: Scheduler, L: Named> {
     /// The core.
@@ -25,6 +32,8 @@ pub(crate) struct Kept<S: Scheduler, L: Named> {
     book: Book<L>,
     /// The parts of the ledger that no worker has.
     rest: Share<L>,
+    /// Whether nothing more will be flushed, so that workers end once nothing waits.
+    pub(crate) finishing: bool,
     ghost named: { core.setup ≡ L.setup },
     ghost counted: { book.total ≡ done_count core.events },
     ghost all_out: { rest.parts + L.workers ≡ 64 },
@@ -39,9 +48,30 @@ impl<S: Scheduler, L: Named> Kept<S, L> {
         requires total { book.total ≡ 0 }
         requires parts { rest.parts + L.workers ≡ 64 }
         requires amount { rest.amount ≡ 0 }
-        ensures { result.core ≡ core }
+        ensures core { result.core ≡ core }
+        ensures open { result.finishing ≡ false }
     {
-        Kept { core, book, rest }
+        Kept {
+            core,
+            book,
+            rest,
+            finishing: false,
+        }
+    }
+
+    /// From now on nothing more will be flushed.
+    pub(crate) fn finish(&mut self)
+        ensures set { self.new.finishing ≡ true }
+        ensures core { self.new.core ≡ self.old.core }
+    {
+        self.finishing = true;
+    }
+
+    /// How many requests wait in the core.
+    pub(crate) fn pending(&self) -> u64
+        ensures { result ≡ waiting_count self.now.core.events }
+    {
+        self.core.pending()
     }
 
     /// Moves the first request of a software queue into the core, as `Layer::move_first` does.
@@ -72,6 +102,38 @@ impl<S: Scheduler, L: Named> Kept<S, L> {
         }
     }
 
+    /// Issues as `issue` does. Where the core refuses the tag because it was issued in this round, or isn't below the depth of
+    /// this round, the round is ended, unless a command is in flight: so a round that ends here has an Issue under that tag, or
+    /// is one of a smaller depth.
+    pub(crate) fn issue_or_end(
+        &mut self,
+        hw: u8,
+        tag: u16,
+    ) -> Result<Option<Command>, LayerIssueFault>
+        requires { hw < L.setup.hw }
+        ensures issued { IfOk result (λ found. Issues S.serves S.chooses self.old.core hw tag found self.new.core) }
+        ensures fault { IfErr result (λ why. IsLastIssueFault S.told_tick self.old.core hw tag why self.new.core) }
+    {
+        match self.issue(hw, tag) {
+            Ok(found) => Ok(found),
+            Err(why) => Err(self.end_used(why)),
+        }
+    }
+
+    /// Ends the round where a tag was refused because it is used up in it, and answers the reason for which nothing is issued.
+    fn end_used(&mut self, why: LayerIssueFault) -> LayerIssueFault
+        ensures { IsRoundsEnd S.told_tick self.old.core why result self.new.core }
+    {
+        if !matches!(why, LayerIssueFault::SlotUsed | LayerIssueFault::TagRange) {
+            return why;
+        }
+        match self.tick() {
+            Ok(_) | Err(TickFault::InFlight(_)) => why,
+            Err(TickFault::TraceFull) => LayerIssueFault::TraceFull,
+            Err(TickFault::Memory) => LayerIssueFault::Memory,
+        }
+    }
+
     /// Completes the command in flight under a tag, and counts it in a worker's part of the ledger.
     pub(crate) fn done(&mut self, share: &mut Share<L>, tag: u16) -> Result<(), NotIssued>
         requires { 0 < share.old.parts }
@@ -97,6 +159,7 @@ impl<S: Scheduler, L: Named> Kept<S, L> {
     pub(crate) fn tick(&mut self) -> Result<u64, TickFault>
         ensures ended { OnOk result (Ends S.told_tick self.old.core self.new.core) }
         ensures answer { IsTickAnswer result }
+        ensures fault { IfErr result (IsTickFault self.old.core) }
         ensures same { OnErr result (self.new.core ≡ self.old.core) }
     {
         self.core.tick()
@@ -109,5 +172,25 @@ impl<S: Scheduler, L: Named> Kept<S, L> {
         ensures same { OnErr result (self.new.core ≡ self.old.core) }
     {
         self.core.set_depth(depth)
+    }
+
+    /// Audits the ledger: all the workers' accounts together have as many commands as the trace has Dones.
+    pub(crate) fn audit(&mut self, workers: &mut [Worker<L, S::A>])
+        requires parts { L.parts ≡ 64 }
+        requires all { length workers.old ≡ L.workers }
+        ensures counted { length (all_ran workers.old) ≡ done_count self.old.core.events }
+        ensures core { self.new.core ≡ self.old.core }
+        ensures workers { workers.new ≡ workers.old }
+    {
+        audit(&mut self.book, &mut self.rest, workers);
+    }
+
+    /// The trace, which the core leaves.
+    pub(crate) fn into_trace(self) -> Trace<S::A>
+        ensures setup { result.setup ≡ self.core.setup }
+        ensures events { result.events ≡ self.core.events }
+    {
+        let Kept { core, .. } = self;
+        core.into_trace()
     }
 }

@@ -51,7 +51,7 @@ pub struct Layer<S: Scheduler, L: Named> {
     pub(crate) queues: Vec<Mutex<Staged<L, S::A>>, S::A>,
     pub(crate) map: Map<S::A>,
     pub(crate) tags: TagSet<S::A>,
-    workers: usize,
+    pub(crate) workers: usize,
 }
 
 impl<S: Scheduler, L: Named> Model for Layer<S, L> {

@@ -7,19 +7,28 @@
 #![tactic(auto)]
 
 pub mod accounts;
+pub mod closes;
+mod compares;
+pub mod devices;
 pub mod flushes;
+mod gathers;
 pub mod issues;
 mod kept;
 pub mod layer;
+mod lines;
 mod moves;
 pub mod names;
+pub mod passes;
 pub mod seats;
 mod staged;
 pub mod works;
 
+pub use crate::closes::{CloseFault, CloseRefused, Closed};
+pub use crate::devices::{Device, Ran};
 pub use crate::flushes::{FlushFault, FlushWhy, Flushed};
 pub use crate::issues::{Issued, LayerIssueFault};
 pub use crate::layer::{Layer, LayerFault, MAX_WORKERS};
 pub use crate::names::Named;
+pub use crate::passes::{WorkFault, Worked};
 pub use crate::seats::{Submitter, Worker};
 pub use crate::works::{DrainFault, MAX_MOVES};

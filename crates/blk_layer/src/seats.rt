@@ -4,6 +4,7 @@ ghost use Rattle.std.specs.Prelude.{◌≡◌, ◌++◌, OnErr, IfSome, IfNone, 
 ghost use Rattle.blk_trace.specs.Events.{AreOnce};
 ghost use Rattle.blk_layer.specs.Flushes.{CanAccept, IsFlushReason};
 ghost use Rattle.blk_layer.specs.Seats.{AreOwn, HoldsItsTags, new_submitter, new_worker};
+ghost use Rattle.blk_layer.specs.Closes.{all_ran};
 ghost use Rattle.blk_layer.specs.Works.{IsIssueAnswer, AccountsFor, LetsGo, IsInHand};
 
 use crate::accounts::Account;
@@ -19,7 +20,7 @@ use edd_check::Command;
 use std::alloc::{AllocError, Allocator, Global};
 use std::marker::{Model, PhantomData};
 use std::sync::Wait;
-use std::sync::ledger::Share;
+use std::sync::ledger::{Book, Share};
 
 /// A submitter's seat: the software queue that is its own, and the account of its bios that were accepted.
 #[derive(Drop)]
@@ -177,11 +178,12 @@ impl<L: Named, A: Allocator + Clone> Worker<L, A> {
         self.hw
     }
 
-    /// Issues a command to it, as `Layer::issue` says.
+    /// Issues a command to it, as `Layer::issue` says. On a last try the round is ended where the tag is used up in it.
     pub(crate) fn issue<S: Scheduler<A = A>, R: Wait>(
         &mut self,
         rt: &R,
         layer: &Layer<S, L>,
+        is_last: bool,
     ) -> Result<Option<Issued>, LayerIssueFault>
         requires { self.old.tag_set ≡ layer.now.tag_set }
         ensures issued { IfOk result (λ found. IsIssueAnswer self.old found self.new) }
@@ -194,7 +196,7 @@ impl<L: Named, A: Allocator + Clone> Worker<L, A> {
             layer.tags.give(&mut self.seat, tag);
             return Err(LayerIssueFault::Memory);
         }
-        match layer.ask(rt, self.hw, tag) {
+        match layer.ask(rt, self.hw, tag, is_last) {
             Ok(Some(command)) => {
                 self.hands[usize::from(tag)] = Some(command);
                 Ok(Some(Issued { command, tag }))
@@ -302,4 +304,30 @@ pub(crate) fn seat_workers<L: Named, A: Allocator + Clone>(
         all.push(worker)?;
     }
     Ok(all)
+}
+
+/// Audits a ledger of which the workers have a part each and `all` has the other parts: the amounts are the book's total. Each
+/// worker's part is lent for it.
+pub(crate) fn audit<L: Named, A: Allocator + Clone>(
+    book: &mut Book<L>,
+    all: &mut Share<L>,
+    workers: &mut [Worker<L, A>],
+)
+    requires parts { all.old.parts + length workers.old ≡ L.parts }
+    requires backed { all.old.parts ≡ 0 → all.old.amount ≡ 0 }
+    ensures amounts { all.old.amount + length (all_ran workers.old) ≡ book.old.total }
+    ensures total { book.new.total ≡ book.old.total }
+    ensures parts { all.new.parts ≡ all.old.parts }
+    ensures amount { all.new.amount ≡ all.old.amount }
+    ensures workers { workers.new ≡ workers.old }
+{
+    let Some((worker, others)) = workers.split_first_mut() else {
+        book.audit(all);
+        return;
+    };
+    let Worker { share, ran, .. } = worker;
+    let count = ran.len() as u64;
+    share.give(all, 1, count);
+    audit(book, all, others);
+    all.give(share, 1, count);
 }

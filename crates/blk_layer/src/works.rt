@@ -118,19 +118,26 @@ impl<S: Scheduler, L: Named> Layer<S, L> {
         ensures issued { IfOk result (λ found. IsIssueAnswer worker.old found worker.new) }
         ensures same { OnErr result (worker.new ≡ worker.old) }
     {
-        worker.issue(rt, self)
+        worker.issue(rt, self, false)
     }
 
-    /// What the core issues for a hardware queue under a tag.
+    /// What the core issues for a hardware queue under a tag. On a last try the round is ended, under the same lock, where the
+    /// tag is used up in it.
     pub(crate) fn ask<R: Wait>(
         &self,
         rt: &R,
         hw: u8,
         tag: u16,
+        is_last: bool,
     ) -> Result<Option<Command>, LayerIssueFault>
         requires { hw < L.setup.hw }
     {
-        self.kept.lock(rt).issue(hw, tag)
+        let mut kept = self.kept.lock(rt);
+        if is_last {
+            kept.issue_or_end(hw, tag)
+        } else {
+            kept.issue(hw, tag)
+        }
     }
 
     /// Reports as done the command in the worker's hands under a tag: the one that the worker was last issued with it. It goes

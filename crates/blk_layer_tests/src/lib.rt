@@ -2,7 +2,11 @@
 #![tactic(auto)]
 
 #[cfg(test)]
+mod asked;
+#[cfg(test)]
 mod flushed;
+#[cfg(test)]
+mod gates;
 #[cfg(test)]
 mod given;
 #[cfg(test)]
@@ -11,3 +15,5 @@ mod made;
 mod moved;
 #[cfg(test)]
 mod served;
+#[cfg(test)]
+mod worked;

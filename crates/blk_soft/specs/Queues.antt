@@ -2,11 +2,12 @@
 use Rattle.std.specs.Prelude.{ℕ, ◌≡◌, ◌+◌, ◌≤◌, ◌^◌, List, length, sum_by, All}
 use Rattle.blk_bio.specs.Bios.{Bio}
 use Rattle.blk_bio.specs.Limits.{Limits}
+use Rattle.blk_bio.specs.declared.limits.TheConstants.{MAX_SOFT_DEPTH}
 use Rattle.blk_bio.specs.Requests.{IsWithin}
 
 -- the greatest depth of a queue, in requests
 abbrev pub greatest_depth : ℕ
-greatest_depth = 1024
+greatest_depth = MAX_SOFT_DEPTH
 
 -- the most bios that a queue takes in over its life
 abbrev pub most_bios : ℕ

@@ -4,17 +4,18 @@
 //! stand in it after they left a plug and before they enter the scheduler of a hardware queue.
 #![tactic(auto)]
 
-ghost use Rattle.std.specs.Prelude.{◌≡◌, ◌++◌, ◌∷◌, [], ◌+◌, ◌≤◌, ◌<◌, ◌^◌, ◌⊎◌, ◌↔◌, IsErr, IfOk, IfErr, OnOk, OnErr, IfSome, IfNone, length};
+ghost use Rattle.std.specs.Prelude.{◌≡◌, ◌++◌, ◌∷◌, [], ◌+◌, ◌≤◌, ◌<◌, ◌^◌, ◌⊎◌, ◌↔◌, IsErr, IfOk, IfErr, OnOk, OnErr, IfSome, IfNone, length, slice_get};
+ghost use Rattle.std.specs.Option.{option_copied};
 ghost use Rattle.blk_bio.specs.Requests.{IsWithin};
 ghost use Rattle.blk_soft.specs.Queues.{greatest_depth, most_bios, Queue, IsQueue};
 
-use blk_bio::{Limits, Request};
+use blk_bio::{Limits, MAX_SOFT_DEPTH, Request};
 use circular_buffer::HeapCircularBuffer;
 use std::alloc::{AllocError, Allocator, Global};
 use std::marker::Model;
 
 /// The greatest depth of a software queue, in requests.
-pub const MAX_DEPTH: u64 = 1024;
+pub const MAX_DEPTH: u64 = MAX_SOFT_DEPTH;
 
 /// The most bios that a software queue takes in over its life: 2^40.
 pub const MAX_BIOS: u64 = 1 << 40;
@@ -109,6 +110,15 @@ impl<A: Allocator + Clone> SoftQueue<A> {
         ensures is_queue { IsQueue self.now }
     {
         self.ring.len()
+    }
+
+    /// The request at a place, counted from 0 at the front. There is none exactly where there are no more requests than the
+    /// place says.
+    pub fn get(&self, place: usize) -> Option<&Request<A>>
+        ensures { option_copied result ≡ slice_get self.now.requests place }
+    {
+        let _ = self.bios_in;
+        self.ring.get(place)
     }
 
     /// How many bios came since it was made, 0 to [`MAX_BIOS`]; those that went or that it holds.

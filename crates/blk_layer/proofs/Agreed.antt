@@ -1,0 +1,191 @@
+-- What lines say of the bios and the commands whose lines they are.
+use Rattle.std.proofs.Common.{◌≡◌, ◌∙◌, ◌+◌, ◌<◌, ◌≤◌, ◌≢◌, cond, ℕ, zero, suc, sym, ap, refl, subst, arith, inl, Bool, true, List, [], ◌∷◌, ◌++◌, Option, Some, None, length, take, drop, get_or, count_by, map, IsPermutation, append_assoc, Contains}
+use Rattle.std.specs.Prelude.{slice_get, IfNone, IfSome}
+use Rattle.std.specs.List.{flat_map}
+use Rattle.std.proofs.lemmas.List.{take-append-le, take_all}
+use Rattle.std.proofs.lemmas.List.Sorted.{IsPermutation-refl, IsPermutation-sym, IsPermutation-trans, IsPermutation-append, IsPermutation-append_comm}
+use Rattle.edd_check.specs.declared.Command.{Command}
+use Rattle.blk_bio.specs.Bios.{Bio}
+use Rattle.blk_bio.specs.declared.bio.Dir.{Dir}
+use Rattle.blk_bio.specs.declared.bio.Dir.TheVariants.{Read, Write}
+use Rattle.blk_trace.specs.Happened.{Happened}
+use Rattle.blk_trace.specs.Setups.{Setup}
+use Rattle.blk_trace.specs.Events.{entered, request_of}
+use Rattle.blk_trace.specs.Laws.{IsAccounted}
+use Rattle.blk_trace.specs.Meaning.{command_of, waiting_of}
+use Rattle.blk_trace.specs.Waits.{has_id}
+use Rattle.blk_layer.specs.Ways.{way_of}
+use Rattle.blk_layer.specs.declared.lines.Line.{Line}
+use Rattle.blk_layer.specs.Inside.Lines.{is_line, times, bio_line, command_line, IsExtra}
+use Rattle.blk_bio.specs.declared.bio.BioId.{BioId}
+use Rattle.blk_layer.specs.Seats.{SubmitterSeat, WorkerSeat}
+use Rattle.blk_layer.specs.Closes.{is_bio_of, is_command, issued_bios, done_ids, done_commands, all_accepted, all_ran, AreSettled, AreCounted, Disagrees}
+use Rattle.blk_layer.proofs.Times.{line_is, line_self}
+use Rattle.blk_layer.proofs.Same.{no_rest, each_as_many, count_moved, count_cons}
+use Rattle.blk_layer.proofs.Gathered.{done_map, mapped_at, mapped_length, id_there, own_default}
+
+way_is : (x y : Dir) → way_of x ≡ way_of y → x ≡ y
+way_is Read Read e = refl
+way_is Read Write e = absurd (omega (arith, e))
+way_is Write Read e = absurd (omega (arith, e))
+way_is Write Write e = refl
+
+pub bio_is : (x y : Bio) → is_bio_of x y ≡ true → x ≡ y
+bio_is x y e =
+    let l : bio_line x ≡ bio_line y = line_is (bio_line x) (bio_line y) e in
+    let o : x.id.submitter ≡ y.id.submitter = ap (λ (z : Line). z.owner) l in
+    let n : x.id.serial ≡ y.id.serial = ap (λ (z : Line). z.number) l in
+    let w : x.dir ≡ y.dir = way_is x.dir y.dir (ap (λ (z : Line). z.way) l) in
+    let f : x.first ≡ y.first = ap (λ (z : Line). z.from) l in
+    let t : x.sectors ≡ y.sectors = ap (λ (z : Line). z.to) l in
+    λ i. record { id = record { submitter = o i; serial = n i }; dir = w i; first = f i; sectors = t i }
+
+pub bio_self : (x : Bio) → is_bio_of x x ≡ true
+bio_self x = line_self (bio_line x)
+
+pub command_is : (x y : Command) → is_command x y ≡ true → x ≡ y
+command_is x y e =
+    let l : command_line x ≡ command_line y = line_is (command_line x) (command_line y) e in
+    let n : x.id ≡ y.id = ap (λ (z : Line). z.number) l in
+    let f : x.release ≡ y.release = ap (λ (z : Line). z.from) l in
+    let t : x.due ≡ y.due = ap (λ (z : Line). z.to) l in
+    λ i. record { id = n i; release = f i; due = t i }
+
+pub command_self : (x : Command) → is_command x x ≡ true
+command_self x = line_self (command_line x)
+
+-- a line stands as many times as what it is the line of
+times_bios : (b : Bio) (bios : List Bio) → times (bio_line b) (map bio_line bios) ≡ count_by (is_bio_of b) bios
+unfolding times
+times_bios b [] = refl
+times_bios b (c ∷ bios) = count_cons (is_line (bio_line b)) (bio_line c) (map bio_line bios) ∙ ap (λ n. cond (is_bio_of b c) 1 0 + n) (times_bios b bios) ∙ sym (count_cons (is_bio_of b) c bios)
+
+times_commands : (b : Command) (commands : List Command) → times (command_line b) (map command_line commands) ≡ count_by (is_command b) commands
+unfolding times
+times_commands b [] = refl
+times_commands b (c ∷ commands) = count_cons (is_line (command_line b)) (command_line c) (map command_line commands) ∙ ap (λ n. cond (is_command b c) 1 0 + n) (times_commands b commands) ∙ sym (count_cons (is_command b) c commands)
+
+-- the element of a mapped list that stands at a place
+picked : {X Y : Type 0} (f : X → Y) (xs : List X) (place : ℕ) (y : Y) → slice_get (map f xs) place ≡ Some y → (place < length xs) × ((d : X) → f (get_or xs place d) ≡ y)
+picked f [] place y at = absurd (cc)
+picked f (x ∷ xs) zero y at = (omega arith, λ d. cc)
+picked f (x ∷ xs) (suc place) y at = let r = picked f xs place y at in (omega (arith, r.0), r.1)
+
+-- the bio at the place stands more times in the one list
+pub bio_extra : (xs ys : List Bio) (ls ms : List Line) (place : ℕ) → ls ≡ map bio_line xs → ms ≡ map bio_line ys → IsExtra ls ms place
+    → (place < length xs) × ((d : Bio) → count_by (is_bio_of (get_or xs place d)) ys < count_by (is_bio_of (get_or xs place d)) xs)
+bio_extra xs ys ls ms place one two extra =
+    let p = picked bio_line xs place extra.0 (ap (λ l. slice_get l place) (sym one) ∙ extra.1) in (
+      p.0,
+      λ d.
+          let b : Bio = get_or xs place d in
+          let here : times (bio_line b) ls ≡ count_by (is_bio_of b) xs = ap (times (bio_line b)) one ∙ times_bios b xs in
+          let there : times (bio_line b) ms ≡ count_by (is_bio_of b) ys = ap (times (bio_line b)) two ∙ times_bios b ys in
+          let more : times (bio_line b) ms < times (bio_line b) ls = subst (λ (l : Line). times l ms < times l ls) (sym (p.1 d)) extra.2 in
+          omega (arith, here, there, more),
+    )
+
+-- the command at the place stands more times in the one list
+pub command_extra : (xs ys : List Command) (ls ms : List Line) (place : ℕ) → ls ≡ map command_line xs → ms ≡ map command_line ys → IsExtra ls ms place
+    → (place < length xs) × ((d : Command) → count_by (is_command (get_or xs place d)) ys < count_by (is_command (get_or xs place d)) xs)
+command_extra xs ys ls ms place one two extra =
+    let p = picked command_line xs place extra.0 (ap (λ l. slice_get l place) (sym one) ∙ extra.1) in (
+      p.0,
+      λ d.
+          let b : Command = get_or xs place d in
+          let here : times (command_line b) ls ≡ count_by (is_command b) xs = ap (times (command_line b)) one ∙ times_commands b xs in
+          let there : times (command_line b) ms ≡ count_by (is_command b) ys = ap (times (command_line b)) two ∙ times_commands b ys in
+          let more : times (command_line b) ms < times (command_line b) ls = subst (λ (l : Line). times l ms < times l ls) (sym (p.1 d)) extra.2 in
+          omega (arith, here, there, more),
+    )
+
+-- lists of bios whose lines stand as many times
+pub bios_agree : (xs ys : List Bio) (ls ms : List Line) → ls ≡ map bio_line xs → ms ≡ map bio_line ys → ((l : Line) → times l ls ≤ times l ms) → ((l : Line) → times l ms ≤ times l ls) → IsPermutation xs ys
+bios_agree xs ys ls ms one two le ge =
+    let here : (b : Bio) → times (bio_line b) ls ≡ count_by (is_bio_of b) xs = λ b. ap (times (bio_line b)) one ∙ times_bios b xs in
+    let there : (b : Bio) → times (bio_line b) ms ≡ count_by (is_bio_of b) ys = λ b. ap (times (bio_line b)) two ∙ times_bios b ys in
+    each_as_many is_bio_of bio_is bio_self xs ys (λ b. omega (arith, here b, there b, le (bio_line b))) (λ b. omega (arith, here b, there b, ge (bio_line b)))
+
+-- lists of as many commands, of which the one has each line at least as many times
+pub commands_agree : (done ran : List Command) (ls ms : List Line) → ls ≡ map command_line done → ms ≡ map command_line ran → ((l : Line) → times l ls ≤ times l ms) → length ran ≡ length done → IsPermutation ran done
+commands_agree done ran ls ms one two le as_many =
+    let here : (b : Command) → times (command_line b) ls ≡ count_by (is_command b) done = λ b. ap (times (command_line b)) one ∙ times_commands b done in
+    let there : (b : Command) → times (command_line b) ms ≡ count_by (is_command b) ran = λ b. ap (times (command_line b)) two ∙ times_commands b ran in
+    IsPermutation-sym done ran (no_rest is_command command_is command_self done ran (λ b. omega (arith, here b, there b, le (command_line b))) (omega (arith, as_many)))
+
+-- the bios that entered and those of the queues are those that were issued and those left
+pub stored_is : (es : List Happened) (queued : List Bio) → IsAccounted es → IsPermutation (entered es ++ queued) (issued_bios es ++ (queued ++ waiting_of es))
+unfolding issued_bios
+stored_is es queued accounted =
+    let issued : List Bio = issued_bios es in
+    let waiting : List Bio = waiting_of es in
+    let out : IsPermutation (entered es ++ queued) ((issued ++ waiting) ++ queued) = IsPermutation-append (entered es) (issued ++ waiting) queued queued (IsPermutation-sym (issued ++ waiting) (entered es) accounted) (IsPermutation-refl queued) in
+    let turned : IsPermutation (issued ++ (waiting ++ queued)) (issued ++ (queued ++ waiting)) = IsPermutation-append issued issued (waiting ++ queued) (queued ++ waiting) (IsPermutation-refl issued) (IsPermutation-append_comm waiting queued) in
+    IsPermutation-trans (entered es ++ queued) ((issued ++ waiting) ++ queued) (issued ++ (queued ++ waiting)) out (subst (λ l. IsPermutation l (issued ++ (queued ++ waiting))) (sym (append_assoc issued waiting queued)) turned)
+
+pub settled_bios : (es : List Happened) (queued accepted : List Bio) → IsAccounted es → IsPermutation accepted (entered es ++ queued) → IsPermutation accepted (issued_bios es ++ (queued ++ waiting_of es))
+settled_bios es queued accepted accounted same = IsPermutation-trans accepted (entered es ++ queued) (issued_bios es ++ (queued ++ waiting_of es)) same (stored_is es queued accounted)
+
+pub differing_bios : (es : List Happened) (queued accepted : List Bio) (b : Bio) → IsAccounted es → count_by (is_bio_of b) accepted ≢ count_by (is_bio_of b) (entered es ++ queued) → count_by (is_bio_of b) accepted ≢ count_by (is_bio_of b) (issued_bios es ++ (queued ++ waiting_of es))
+differing_bios es queued accepted b accounted other same = other (same ∙ count_moved (is_bio_of b) (entered es ++ queued) (issued_bios es ++ (queued ++ waiting_of es)) (stored_is es queued accounted))
+
+-- the id of a command that is done
+pub done_has : (setup : Setup) (es : List Happened) (c : Command) → Contains (done_commands setup es) c → has_id (done_ids es) c.id ≡ true
+done_has setup es c at =
+    let list : done_commands setup es ≡ map (command_of setup es) (done_ids es) = done_map setup es in
+    let low : at.0 < length (map (command_of setup es) (done_ids es)) = omega (arith, at.1, ap length list) in
+    let short : at.0 < length (done_ids es) = omega (arith, low, mapped_length (command_of setup es) (done_ids es)) in
+    let is : c ≡ command_of setup es (get_or (done_ids es) at.0 0) = sym at.2 ∙ ap (λ l. get_or l at.0 c) list ∙ mapped_at (command_of setup es) (done_ids es) at.0 c 0 low in
+    let named : c.id ≡ get_or (done_ids es) at.0 0 = ap (λ (x : Command). x.id) is in
+    id_there (done_ids es) at.0 c.id short (own_default (done_ids es) at.0 c.id 0 short named)
+
+-- a value that is there or not
+pub none_of : {X : Type 0} (o : Option X) (Q : Type 0) → o ≡ None → IfNone o Q → Q
+none_of None Q e h = h
+none_of (Some x) Q e h = absurd (cc)
+
+-- the bio and the command that stand at the place
+pub bio_extra_at : (xs ys : List Bio) (ls ms : List Line) (place : ℕ) (x : Bio) → ls ≡ map bio_line xs → ms ≡ map bio_line ys → IsExtra ls ms place → x ≡ get_or xs place x → count_by (is_bio_of x) ys < count_by (is_bio_of x) xs
+bio_extra_at xs ys ls ms place x one two extra is = subst (λ (b : Bio). count_by (is_bio_of b) ys < count_by (is_bio_of b) xs) (sym is) ((bio_extra xs ys ls ms place one two extra).1 x)
+
+-- what is said of a value that is there
+pub some_map : {X : Type 0} (o : Option X) (P Q : X → Type 0) → ((x : X) → P x → Q x) → IfSome o P → IfSome o Q
+some_map None P Q on h = h
+some_map (Some x) P Q on h = on x h
+
+pub none_map : {X : Type 0} (o : Option X) (A B : Type 0) → (A → B) → IfNone o A → IfNone o B
+none_map None A B on h = on h
+none_map (Some x) A B on h = h
+
+-- what the accounts say of the bios and of the commands, as the layer's
+pub disagree_bio : (setup : Setup) (es : List Happened) (queued left accepted stored : List Bio) (submitters : List SubmitterSeat) (workers : List WorkerSeat) (id : BioId) → IsAccounted es
+    → left ≡ queued ++ waiting_of es → accepted ≡ all_accepted submitters → stored ≡ entered es ++ queued
+    → ((bio : Bio) × (bio.id ≡ id) × (count_by (is_bio_of bio) accepted ≢ count_by (is_bio_of bio) stored)) → Disagrees setup es left submitters workers id
+disagree_bio setup es queued left accepted stored submitters workers id accounted left_is accepted_is stored_is' found =
+    let b : Bio = found.0 in
+    let count : List Bio → ℕ = count_by (is_bio_of b) in
+    let other : count (all_accepted submitters) ≢ count (entered es ++ queued) = λ same. found.2 (ap count accepted_is ∙ same ∙ sym (ap count stored_is')) in
+    let told = differing_bios es queued (all_accepted submitters) b accounted other in
+    inl (record { bio = b; named = found.1; counted = λ same. told (same ∙ ap (λ l. count (issued_bios es ++ l)) left_is) })
+
+pub agree_all : (setup : Setup) (es : List Happened) (queued left accepted stored : List Bio) (submitters : List SubmitterSeat) (workers : List WorkerSeat) → IsAccounted es
+    → left ≡ queued ++ waiting_of es → accepted ≡ all_accepted submitters → stored ≡ entered es ++ queued → IsPermutation accepted stored → IsPermutation (all_ran workers) (done_commands setup es) → AreSettled setup es left submitters workers
+agree_all setup es queued left accepted stored submitters workers accounted left_is accepted_is stored_is' same commands =
+    let there : IsPermutation (all_accepted submitters) stored = subst (λ l. IsPermutation l stored) accepted_is same in
+    let here : IsPermutation (all_accepted submitters) (entered es ++ queued) = subst (IsPermutation (all_accepted submitters)) stored_is' there in
+    record {
+      bios = subst (λ l. IsPermutation (all_accepted submitters) (issued_bios es ++ l)) (sym left_is) (settled_bios es queued (all_accepted submitters) accounted here);
+      commands = commands;
+    }
+
+-- the same of equal setups, events and seats
+pub same_settled : (s t : Setup) (es fs : List Happened) (left : List Bio) (a b : List SubmitterSeat) (v w : List WorkerSeat) → t ≡ s → fs ≡ es → a ≡ b → v ≡ w → AreSettled s es left a v → AreSettled t fs left b w
+same_settled s t es fs left a b v w setup events submitters workers h =
+    subst (λ (x : Setup). AreSettled x fs left b w) (sym setup) (subst (λ (l : List Happened). AreSettled s l left b w) (sym events) (subst (λ (l : List SubmitterSeat). AreSettled s es left l w) submitters (subst (AreSettled s es left a) workers h)))
+
+pub same_counted : (es fs : List Happened) (left : List Bio) (v w : List WorkerSeat) → fs ≡ es → v ≡ w → AreCounted es left v → AreCounted fs left w
+same_counted es fs left v w events workers h = subst (λ (l : List Happened). AreCounted l left w) (sym events) (subst (AreCounted es left) workers h)
+
+-- a list that was lent whole and came back as it was
+pub written_back : {X : Type 0} (n : ℕ) (xs new : List X) → new ≡ xs → length new ≡ n → take n (new ++ drop (length new) xs) ≡ xs
+written_back n xs new same long = take-append-le n new (drop (length new) xs) (omega (arith, long)) ∙ take_all n new (omega (arith, long)) ∙ same

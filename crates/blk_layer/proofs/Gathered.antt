@@ -1,0 +1,198 @@
+-- Lists that are gathered, one element after the other.
+use Rattle.std.proofs.Common.{◌≡◌, ◌∙◌, ◌+◌, ◌<◌, ℕ, sym, ap, refl, subst, arith, inl, inr, Bool, true, false, cond, List, [], ◌∷◌, ◌++◌, Option, Some, None, zero, suc, ◌==◌, length, length-append, take, get_or, map}
+use Rattle.std.specs.Prelude.{◌||◌, slice_get}
+use Rattle.std.specs.Option.{option_or}
+use Rattle.std.specs.List.{flat_map, cons_option, list_any}
+use Rattle.std.proofs.lemmas.List.{take_more, append-nil, map-append}
+use Rattle.std.proofs.lemmas.List.Folds.{list_any-append}
+use Rattle.std.proofs.lemmas.Grind.{flat_map-append}
+use Rattle.std.proofs.lemmas.Bool.{cases_Bool, or_cases, eqb-true, eq-eqb, or_right, ltb-true, ltb-false}
+use lib.Dec.{ltb}
+use Rattle.edd_check.specs.declared.Command.{Command}
+use Rattle.blk_bio.specs.Bios.{Bio}
+use Rattle.blk_trace.specs.declared.event.Event.{Event}
+use Rattle.blk_trace.specs.Happened.{Happened, Ticked, Released, Joined, Issued, Finished, Returned, DepthSet}
+use Rattle.blk_trace.specs.Events.{entered, bios_of}
+use Rattle.blk_trace.specs.Setups.{Setup}
+use Rattle.blk_trace.specs.Meaning.{commands_of, command_of, issued_ids}
+use Rattle.blk_trace.specs.Seen.{happened}
+use Rattle.blk_trace.specs.Waits.{has_id}
+use Rattle.blk_trace.specs.Inside.Seats.{issued_by}
+use Rattle.blk_layer.specs.Seats.{SubmitterSeat, WorkerSeat}
+use Rattle.blk_layer.specs.Closes.{all_accepted, all_ran, done_by, done_after, done_ids, done_commands, last_under}
+use Rattle.blk_trace.specs.Legal.{IsLegalTrace}
+use Rattle.blk_layer.specs.Served.{done_count}
+use Rattle.blk_layer.proofs.Dones.{ids_more, last_more, as_many}
+
+-- the elements of lists, with one list more
+flat_more : {X Y : Type 0} (f : X → List Y) (xs : List X) (i : ℕ) (x : X) → i < length xs → x ≡ get_or xs i x → flat_map f (take (i + 1) xs) ≡ flat_map f (take i xs) ++ f x
+flat_more f xs i x low is =
+    ap (flat_map f) (take_more xs i x low ∙ ap (λ y. take i xs ++ y ∷ []) (sym is)) ∙ flat_map-append f (take i xs) (x ∷ []) ∙ ap (λ l. flat_map f (take i xs) ++ l) (append-nil (f x))
+
+pub accepted_more : (seats : List SubmitterSeat) (i : ℕ) (s : SubmitterSeat) → i < length seats → s ≡ get_or seats i s → all_accepted (take (i + 1) seats) ≡ all_accepted (take i seats) ++ s.accepted
+unfolding all_accepted
+accepted_more seats i s low is = flat_more (λ (x : SubmitterSeat). x.accepted) seats i s low is
+
+pub ran_more : (seats : List WorkerSeat) (i : ℕ) (w : WorkerSeat) → i < length seats → w ≡ get_or seats i w → all_ran (take (i + 1) seats) ≡ all_ran (take i seats) ++ w.ran
+unfolding all_ran
+ran_more seats i w low is = flat_more (λ (x : WorkerSeat). x.ran) seats i w low is
+
+pub no_accepted : all_accepted [] ≡ []
+unfolding all_accepted
+no_accepted = refl
+
+pub no_ran : all_ran [] ≡ []
+unfolding all_ran
+no_ran = refl
+
+-- the events, with one more
+pub events_more : {A : Type 0} (es : List (Event A)) (i : ℕ) (e : Event A) → i < length es → e ≡ get_or es i e → map happened (take (i + 1) es) ≡ map happened (take i es) ++ happened e ∷ []
+events_more es i e low is = ap (map happened) (take_more es i e low ∙ ap (λ x. take i es ++ x ∷ []) (sym is)) ∙ map-append happened (take i es) (e ∷ [])
+
+pub entered_more : {A : Type 0} (es : List (Event A)) (i : ℕ) (e : Event A) → i < length es → e ≡ get_or es i e → entered (map happened (take (i + 1) es)) ≡ entered (map happened (take i es)) ++ bios_of (happened e)
+unfolding entered
+entered_more es i e low is =
+    ap (flat_map bios_of) (events_more es i e low is) ∙ flat_map-append bios_of (map happened (take i es)) (happened e ∷ []) ∙ ap (λ l. flat_map bios_of (map happened (take i es)) ++ l) (append-nil (bios_of (happened e)))
+
+pub none_entered : entered [] ≡ []
+unfolding entered
+none_entered = refl
+
+-- what an event says is done, by what is known of each tag
+same_done : (f g : ℕ → Option ℕ) (e : Happened) → ((tag : ℕ) → f tag ≡ g tag) → done_by f e ≡ done_by g e
+same_done f g Ticked h = refl
+same_done f g (Released id bios) h = refl
+same_done f g (Joined id bios) h = refl
+same_done f g (Issued id tag) h = refl
+same_done f g (Finished tag) h = h tag
+same_done f g (Returned tag) h = refl
+same_done f g (DepthSet depth) h = refl
+
+-- the ids of what is done, and the last id of each tag, with one more event
+pub done_noted : {A : Type 0} (es : List (Event A)) (i : ℕ) (e : Event A) (ids new : List ℕ) (known : ℕ → Option ℕ) → i < length es → e ≡ get_or es i e
+    → ids ≡ done_ids (map happened (take i es)) → ((tag : ℕ) → known tag ≡ last_under tag (map happened (take i es))) → new ≡ ids ++ cons_option (done_by known (happened e)) []
+    → new ≡ done_ids (map happened (take (i + 1) es))
+done_noted es i e ids new known low is were last now =
+    now ∙ ap (λ l. l ++ cons_option (done_by known (happened e)) []) were
+    ∙ ap (λ o. done_ids (map happened (take i es)) ++ cons_option o []) (same_done known (λ tag. last_under tag (map happened (take i es))) (happened e) last)
+    ∙ sym (ap done_ids (events_more es i e low is) ∙ ids_more (map happened (take i es)) (happened e))
+
+pub last_noted : {A : Type 0} (es : List (Event A)) (i : ℕ) (e : Event A) (known new : ℕ → Option ℕ) → i < length es → e ≡ get_or es i e
+    → ((tag : ℕ) → known tag ≡ last_under tag (map happened (take i es))) → ((tag : ℕ) → new tag ≡ option_or (issued_by tag (happened e)) (known tag))
+    → (tag : ℕ) → new tag ≡ last_under tag (map happened (take (i + 1) es))
+last_noted es i e known new low is last now tag =
+    now tag ∙ ap (option_or (issued_by tag (happened e))) (last tag) ∙ sym (ap (last_under tag) (events_more es i e low is) ∙ last_more tag (map happened (take i es)) (happened e))
+
+pub none_done : done_ids [] ≡ []
+unfolding done_ids done_after
+none_done = refl
+
+pub none_last : (tag : ℕ) → last_under tag [] ≡ None
+unfolding last_under
+none_last tag = refl
+
+-- the ids up to a place, with one more
+pub ids_up : (ids : List ℕ) (i n q : ℕ) → i < length ids → n ≡ get_or ids i n → has_id (take (i + 1) ids) q ≡ (has_id (take i ids) q || (n == q))
+ids_up ids i n q low is =
+    ap (λ l. has_id l q) (take_more ids i n low ∙ ap (λ x. take i ids ++ x ∷ []) (sym is)) ∙ list_any-append (λ x. x == q) (take i ids) (n ∷ []) ∙ ap (λ b. has_id (take i ids) q || b) (plain (n == q))
+  where
+    plain : (b : Bool) → (b || false) ≡ b
+    plain true = refl
+    plain false = refl
+
+-- an id at a place of a list is in it
+pub id_there : (ids : List ℕ) (i n : ℕ) → i < length ids → n ≡ get_or ids i n → has_id ids n ≡ true
+id_there [] i n low is = absurd (omega arith)
+id_there (x ∷ ids) zero n low is = let same : n ≡ x = is in let t : (x == n) ≡ true = eq-eqb x n (sym same) in rw t refl
+id_there (x ∷ ids) (suc i) n low is = or_right (x == n) (has_id ids n) (id_there ids i n (omega arith) is)
+
+-- an element at a place of a list, whatever stands in for one that isn't there
+pub own_default : {X : Type 0} (xs : List X) (i : ℕ) (x d : X) → i < length xs → x ≡ get_or xs i d → x ≡ get_or xs i x
+own_default [] i x d low is = absurd (omega arith)
+own_default (y ∷ xs) zero x d low is = is
+own_default (y ∷ xs) (suc i) x d low is = own_default xs i x d (omega arith) is
+
+-- the element of a mapped list
+pub mapped_at : {X Y : Type 0} (f : X → Y) (xs : List X) (i : ℕ) (d : Y) (x : X) → i < length (map f xs) → get_or (map f xs) i d ≡ f (get_or xs i x)
+mapped_at f [] i d x low = absurd (omega arith)
+mapped_at f (y ∷ xs) zero d x low = refl
+mapped_at f (y ∷ xs) (suc i) d x low = mapped_at f xs i d x (omega arith)
+
+pub mapped_length : {X Y : Type 0} (f : X → Y) (xs : List X) → length (map f xs) ≡ length xs
+mapped_length f [] = refl
+mapped_length f (x ∷ xs) = let r = mapped_length f xs in omega (arith, r)
+
+-- the commands of issued ids by their ids, with one more
+pub known_more : (ids : List ℕ) (f : ℕ → Command) (cs : List Command) (old new : ℕ → Option Command) (i : ℕ) (c d : Command) → cs ≡ map f ids → ((id : ℕ) → (f id).id ≡ id) → i < length cs → c ≡ get_or cs i d
+    → ((q : ℕ) → new q ≡ cond (c.id == q) (Some c) (old q)) → ((id : ℕ) → has_id (take i ids) id ≡ true → old id ≡ Some (f id)) → (id : ℕ) → has_id (take (i + 1) ids) id ≡ true → new id ≡ Some (f id)
+known_more ids f cs old new i c d list own low is put were id has =
+    let low' : i < length (map f ids) = omega (arith, low, ap length list) in
+    let short : i < length ids = omega (arith, low', mapped_length f ids) in
+    let at : c ≡ f (get_or ids i 0) = is ∙ ap (λ l. get_or l i d) list ∙ mapped_at f ids i d 0 low' in
+    let named : c.id ≡ get_or ids i 0 = ap (λ (x : Command). x.id) at ∙ own (get_or ids i 0) in
+    let same : c ≡ f c.id = at ∙ ap f (sym named) in
+    let there : c.id ≡ get_or ids i c.id = own_default ids i c.id 0 short named in
+    elim (cases_Bool (c.id == id)) [
+      | inl here ↦ put id ∙ ap (λ b. cond b (Some c) (old id)) here ∙ ap Some (same ∙ ap f (eqb-true c.id id here))
+      | inr other ↦
+          let parts : (has_id (take i ids) id || (c.id == id)) ≡ true = sym (ids_up ids i c.id id short there) ∙ has in
+          elim (or_cases (has_id (take i ids) id) (c.id == id) parts) [
+            | inl before ↦ put id ∙ ap (λ b. cond b (Some c) (old id)) other ∙ were id before
+            | inr now ↦ let clash : true ≡ false = sym now ∙ other in absurd (cc)
+          ]
+    ]
+
+-- the commands of a trace, and those that are done, by their ids
+pub commands_map : (setup : Setup) (events : List Happened) → commands_of setup events ≡ map (command_of setup events) (issued_ids events)
+unfolding commands_of
+commands_map setup events = refl
+
+pub done_map : (setup : Setup) (events : List Happened) → done_commands setup events ≡ map (command_of setup events) (done_ids events)
+unfolding done_commands
+done_map setup events = refl
+
+-- no id is among none
+pub none_among : (id : ℕ) → has_id [] id ≡ true → ⊥
+none_among id h = let n : false ≡ true = h in absurd (cc)
+
+-- the commands of ids, with one more
+pub map_up : (f : ℕ → Command) (ids : List ℕ) (i n : ℕ) → i < length ids → n ≡ get_or ids i n → map f (take (i + 1) ids) ≡ map f (take i ids) ++ f n ∷ []
+map_up f ids i n low is = ap (map f) (take_more ids i n low ∙ ap (λ x. take i ids ++ x ∷ []) (sym is)) ∙ map-append f (take i ids) (n ∷ [])
+
+-- an event at its place
+pub event_at : {A : Type 0} (es : List (Event A)) (i : ℕ) (e : Event A) → i < length es → e ≡ get_or es i e → slice_get (map happened es) i ≡ Some (happened e)
+event_at [] i e low is = absurd (omega arith)
+event_at (x ∷ es) zero e low is = ap (λ (y : Event _). Some (happened y)) (sym is)
+event_at (x ∷ es) (suc i) e low is = event_at es i e (omega arith) is
+
+-- no place of the events so far releases the id
+pub none_yet : {A : Type 0} (es : List (Event A)) (i id : ℕ) (e : Event A) → i < length es → e ≡ get_or es i e → ((q : List Bio) → happened e ≡ Released id q → ⊥)
+    → ((k : ℕ) (q : List Bio) → k < i → slice_get (map happened es) k ≡ Some (Released id q) → ⊥) → (k : ℕ) (q : List Bio) → k < i + 1 → slice_get (map happened es) k ≡ Some (Released id q) → ⊥
+none_yet es i id e low is here before k q less at = elim (cases_Bool (ltb k i)) [
+  | inl y ↦ before k q (ltb-true k i y) at
+  | inr n ↦
+      let same : k ≡ i = omega (arith, less, ltb-false k i n) in
+      let both : Some (happened e) ≡ Some (Released id q) = sym (event_at es i e low is) ∙ ap (slice_get (map happened es)) (sym same) ∙ at in
+      let one : happened e ≡ Released id q = cc in
+      here q one
+]
+
+-- a place of the events is one
+pub within_events : {A : Type 0} (es : List (Event A)) (k : ℕ) (e : Happened) → slice_get (map happened es) k ≡ Some e → k < length es
+within_events [] k e at = absurd (cc)
+within_events (x ∷ es) zero e at = omega arith
+within_events (x ∷ es) (suc k) e at = let r = within_events es k e at in omega (arith, r)
+
+-- the commands of no workers, and of a first one and others
+pub none_ran : (seats : List WorkerSeat) → length seats ≡ 0 → length (all_ran seats) ≡ 0
+unfolding all_ran
+none_ran [] h = refl
+none_ran (w ∷ seats) h = absurd (omega (arith, h))
+
+pub first_ran : (seats rest : List WorkerSeat) (w : WorkerSeat) → seats ≡ w ∷ rest → length (all_ran seats) ≡ length w.ran + length (all_ran rest)
+unfolding all_ran
+first_ran seats rest w e = ap (λ (l : List WorkerSeat). length (flat_map (λ (x : WorkerSeat). x.ran) l)) e ∙ length-append w.ran (flat_map (λ (x : WorkerSeat). x.ran) rest)
+
+-- as many commands are done as there are Dones
+pub done_length : (setup : Setup) (es : List Happened) → IsLegalTrace setup es → length (done_commands setup es) ≡ done_count es
+done_length setup es legal = ap length (done_map setup es) ∙ mapped_length (command_of setup es) (done_ids es) ∙ as_many setup es legal

@@ -1,0 +1,101 @@
+-- What closing a layer says.
+use Rattle.std.specs.Prelude.{ℕ, ◌≡◌, ◌≢◌, ◌<◌, ◌⊎◌, ◌++◌, ◌==◌, ◌&&◌, Bool, List, [], ◌∷◌, Option, None, Some, fold, map, length, count_by, slice_get, Contains, IsPermutation}
+use Rattle.std.specs.Option.{option_or}
+use Rattle.std.specs.List.{flat_map, cons_option}
+use Rattle.edd_check.specs.declared.Command.{Command}
+use Rattle.blk_bio.specs.Bios.{Bio}
+use Rattle.blk_bio.specs.declared.bio.BioId.{BioId}
+use Rattle.blk_trace.specs.Happened.{Happened, Released, Finished}
+use Rattle.blk_trace.specs.Setups.{Setup}
+use Rattle.blk_trace.specs.Events.{At, HasId, request_of}
+use Rattle.blk_trace.specs.Meaning.{command_of, issued_ids, waiting_of}
+use Rattle.blk_trace.specs.Inside.Seats.{issued_by}
+use Rattle.blk_layer.specs.Ways.{way_of}
+use Rattle.blk_layer.specs.Served.{done_count}
+use Rattle.blk_layer.specs.Seats.{SubmitterSeat, WorkerSeat}
+
+-- one of the submitters has the number
+abbrev pub HasNumber : List SubmitterSeat → ℕ → Type 0
+HasNumber submitters number = (k : ℕ) × ((s : SubmitterSeat) × (slice_get submitters k ≡ Some s) × (s.number ≡ number))
+
+-- all seats of a layer are there: as many submitters as there are software queues and one for each of these by number, and as
+-- many workers as the layer has
+pub record AreAllThere (map_of : List ℕ) (workers : ℕ) (submitters : List SubmitterSeat) (seated : List WorkerSeat) : Type 0 where
+  pub submitter_count : length submitters ≡ length map_of
+  pub each_submitter : (k : ℕ) → k < length map_of → HasNumber submitters k
+  pub worker_count : length seated ≡ workers
+
+-- the bios that the submitters were told were accepted, and the commands that were accepted from the workers as done
+unfoldable pub all_accepted : List SubmitterSeat → List Bio
+all_accepted submitters = flat_map (λ s. s.accepted) submitters
+
+unfoldable pub all_ran : List WorkerSeat → List Command
+all_ran workers = flat_map (λ w. w.ran) workers
+
+-- the bios of the requests that were issued, and not handed back since
+unfoldable pub issued_bios : List Happened → List Bio
+issued_bios events = flat_map (request_of events) (issued_ids events)
+
+-- the id that was last issued under the tag, if one was
+unfoldable pub last_under : ℕ → List Happened → Option ℕ
+last_under tag events = fold (λ found e. option_or (issued_by tag e) found) None events
+
+-- the id whose command an event says is done, by the id that was last issued under each tag before it
+abbrev pub done_by : (ℕ → Option ℕ) → Happened → Option ℕ
+done_by last (Finished tag) = last tag
+done_by last _ = None
+
+-- the ids of the commands that events say are done, where those given stand before them
+unfoldable pub done_after : List Happened → List Happened → List ℕ
+done_after before [] = []
+done_after before (e ∷ es) = cons_option (done_by (λ tag. last_under tag before) e) (done_after (before ++ e ∷ []) es)
+
+-- the ids of the commands that are done, in the order of the Dones
+unfoldable pub done_ids : List Happened → List ℕ
+done_ids events = done_after [] events
+
+-- the commands of the Dones, in their order
+unfoldable pub done_commands : Setup → List Happened → List Command
+done_commands setup events = map (command_of setup events) (done_ids events)
+
+-- the accounts agree with a trace and the bios that are left: the bios that were accepted are those that were issued and those
+-- left, and the commands that the workers ran are those that are done, each as many times
+pub record AreSettled (setup : Setup) (events : List Happened) (left : List Bio) (submitters : List SubmitterSeat) (workers : List WorkerSeat) : Type 0 where
+  pub bios : IsPermutation (all_accepted submitters) (issued_bios events ++ left)
+  pub commands : IsPermutation (all_ran workers) (done_commands setup events)
+
+-- whether a bio is the one, and whether a command is, in all that they say
+abbrev pub is_bio_of : Bio → Bio → Bool
+is_bio_of b c = (b.id.submitter == c.id.submitter) && ((b.id.serial == c.id.serial) && ((way_of b.dir == way_of c.dir) && ((b.first == c.first) && (b.sectors == c.sectors))))
+
+abbrev pub is_command : Command → Command → Bool
+is_command c d = (c.id == d.id) && ((c.release == d.release) && (c.due == d.due))
+
+-- a bio of this id stands another number of times in the accounts than it was issued and is left
+pub record DiffersAsBio (events : List Happened) (left : List Bio) (submitters : List SubmitterSeat) (id : BioId) : Type 0 where
+  pub bio : Bio
+  pub named : bio.id ≡ id
+  pub counted : count_by (is_bio_of bio) (all_accepted submitters) ≢ count_by (is_bio_of bio) (issued_bios events ++ left)
+
+-- a bio of this id was released under the id of a command
+pub record IsBioOf (events : List Happened) (command : ℕ) (id : BioId) : Type 0 where
+  pub place : ℕ
+  pub request : List Bio
+  pub released : At events place (Released command request)
+  pub named : HasId request id
+
+-- the command of the request that was released with a bio of this id stands another number of times in the accounts than it is done
+pub record DiffersAsCommand (setup : Setup) (events : List Happened) (workers : List WorkerSeat) (id : BioId) : Type 0 where
+  pub command : Command
+  pub is_its : IsBioOf events command.id id
+  pub counted : count_by (is_command command) (all_ran workers) ≢ count_by (is_command command) (done_commands setup events)
+
+-- the accounts disagree on the bio
+abbrev pub Disagrees : Setup → List Happened → List Bio → List SubmitterSeat → List WorkerSeat → BioId → Type 0
+Disagrees setup events left submitters workers id = DiffersAsBio events left submitters id ⊎ DiffersAsCommand setup events workers id
+
+-- the workers' commands are as many as the Dones, and what is left ends with the bios that wait in the trace
+pub record AreCounted (events : List Happened) (left : List Bio) (workers : List WorkerSeat) : Type 0 where
+  pub as_many : length (all_ran workers) ≡ done_count events
+  pub queued : List Bio
+  pub left_is : left ≡ queued ++ waiting_of events

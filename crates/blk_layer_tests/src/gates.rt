@@ -1,0 +1,124 @@
+//! Two workers that work at once.
+
+ghost use Rattle.std.specs.Prelude.{◌≡◌, [], vec_len};
+
+use crate::asked::{flush_one, last};
+use crate::given::{core, limits, setup};
+use blk_bio::Limits;
+use blk_core::Core;
+use blk_hw::Map;
+use blk_layer::{Device, Layer, MAX_WORKERS, Named, Ran, Worker};
+use blk_none::NoneSched;
+use edd_check::Command;
+use std::alloc::Global;
+use std::marker::Brand;
+use std::process::Abort;
+use std::sync::Wait;
+use std::sync::atomic::{AtomicU64, Ordering};
+use std::sync::ledger::Blank;
+use std::thread;
+use std::thread::Threads;
+
+/// How often a run looks whether another has begun.
+const LOOKS: u64 = 10_000_000;
+
+/// A device whose first run returns only once a second has begun.
+#[derive(Drop)]
+struct Gate<'a> {
+    begun: &'a AtomicU64,
+    alone: &'a AtomicU64,
+}
+
+impl<'a> Device for Gate<'a> {
+    fn run(&mut self, command: &Command) -> Ran {
+        let _ = command.id;
+        self.begun.fetch_add(1, Ordering::SeqCst);
+        for _ in 0..LOOKS {
+            if self.begun.load(Ordering::SeqCst) >= 2 {
+                return Ran::Done;
+            }
+            thread::yield_now();
+        }
+        self.alone.fetch_add(1, Ordering::SeqCst);
+        Ran::Done
+    }
+}
+
+/// A worker works to the end behind a gate; how many commands it ran, or none where it isn't finished.
+fn ran<R: Wait, L: Named>(
+    rt: &R,
+    layer: &Layer<NoneSched, L>,
+    worker: Worker<L>,
+    begun: &AtomicU64,
+    alone: &AtomicU64,
+) -> u64
+    requires { worker.tag_set ≡ layer.now.tag_set }
+{
+    let mut worker = worker;
+    let mut gate = Gate { begun, alone };
+    match layer.work(rt, &mut worker, &mut gate, 1_000_000) {
+        Ok(worked) if worked.finished => worked.ran,
+        _ => 0,
+    }
+}
+
+#[tactic(auto, using(crate::proofs::Seated::all_of))]
+fn at_once<R: Abort + Wait + Threads + Sync, L: Named + Send + Sync>(
+    rt: &R,
+    alloc: Global,
+    blank: Blank,
+    core: Core<NoneSched>,
+    map: Map,
+    worker_queues: Vec<u8>,
+    limits: Limits,
+)
+    requires name { blank.name ≡ L.name }
+    requires parts { (blank.parts ≡ MAX_WORKERS) × (L.parts ≡ MAX_WORKERS) }
+    requires setup { core.setup ≡ L.setup }
+    requires limits { L.setup.limits ≡ limits }
+    requires workers { L.workers ≡ vec_len worker_queues }
+    requires empty { core.events ≡ [] }
+{
+    let made = Layer::<NoneSched, L>::new(alloc, blank, core, map, 4, worker_queues);
+    let Ok((layer, mut submitters, mut workers)) = made else {
+        panic!(rt; "a layer");
+    };
+    let one = last(rt, &layer, &mut workers);
+    let zero = last(rt, &layer, &mut workers);
+    let count = submitters.len();
+    let mut submitter = submitters.pop().expect(rt, "a submitter");
+    assert!(rt; usize::from(submitter.number()) < count);
+    flush_one(rt, alloc, &layer, &mut submitter, limits, 0);
+    flush_one(rt, alloc, &layer, &mut submitter, limits, 1);
+    layer.finish(rt);
+    let (begun, alone) = (AtomicU64::new(0), AtomicU64::new(0));
+    let shared = &layer;
+    let both = thread::join(
+        rt,
+        || ran(rt, shared, zero, &begun, &alone),
+        || ran(rt, shared, one, &begun, &alone),
+    );
+    assert!(rt; both == (1, 1));
+    assert_eq!(rt; begun.load(Ordering::SeqCst), 2);
+    assert_eq!(rt; alone.load(Ordering::SeqCst), 0);
+}
+
+// The run that begins first returns only after the second has begun, so all work under one lock, or on one thread, fails.
+#[test]
+fn gate_device(rt: HostRuntime) {
+    let alloc = rt.alloc();
+    let limits = limits(&rt);
+    let core = core(&rt, alloc, setup(&rt, 2, 1, limits));
+    let entries = Vec::from_slice(alloc, &[0]).expect(&rt, "memory");
+    let map = Map::new(entries).expect(&rt, "a map");
+    let queues = Vec::from_slice(alloc, &[0, 0]).expect(&rt, "memory");
+    at_once::<HostRuntime, Brand>(
+        &rt,
+        alloc,
+        Blank::new(MAX_WORKERS),
+        core,
+        map,
+        queues,
+        limits,
+    );
+}
