@@ -25,6 +25,7 @@ fn main(rt: HostRuntime) -> ExitCode {
         return ExitCode::from(blk_cli::FAILED);
     };
     let ended = blk_cli::run(
+        &rt,
         alloc,
         words.as_slice(),
         rt.reader(),

@@ -51,6 +51,7 @@ unrun t g s sched (failure.Solve f) unmade refused h = absurd h
 unrun t g s sched (failure.Check f) unmade refused h = absurd h
 unrun t g s sched (failure.Met f) unmade refused h = absurd h
 unrun t g s sched failure.NotFixed unmade refused h = absurd h
+unrun t g s sched (failure.Load f) unmade refused h = absurd h
 unrun t g s sched (failure.Write f) unmade refused h = absurd h
 unrun t g s sched failure.Memory unmade refused h = tt
 
@@ -99,5 +100,6 @@ compare_fails t g left s (failure.Solve f) read h = absurd h
 compare_fails t g left s (failure.Check f) read h = absurd h
 compare_fails t g left s (failure.Met f) read h = absurd h
 compare_fails t g left s failure.NotFixed read h = absurd h
+compare_fails t g left s (failure.Load f) read h = absurd h
 compare_fails t g left s (failure.Write f) read h = absurd h
 compare_fails t g left s failure.Memory read h = tt

@@ -172,7 +172,3 @@ adds_rule x a b p q e f g = e ∙ ap (λ (y : App). with_rule y p) f ∙ ap (λ 
 -- a command that a call made of another one, of which more is known; and with the names of the schedulers
 pub of_known : {E : Type 0} (r : Result Command E) (f : App → App) (a b : App) → a ≡ b → IfOk r (λ c. app_of c ≡ f a) → IfOk r (λ c. app_of c ≡ f b)
 of_known r f a b e h = subst (λ (x : App). IfOk r (λ c. app_of c ≡ f x)) e h
-
-pub with_names : {E : Type 0} (r : Result Command E) (f : Names → App) (names : Names) → AreSchedulers names → IfOk r (λ c. app_of c ≡ f names) → IfOk r (λ c. (n : Names) × AreSchedulers n × (app_of c ≡ f n))
-with_names (Ok c) f names are h = (names, are, h)
-with_names (Err e) f names are h = tt

@@ -55,6 +55,14 @@ asks_nothing words h j a =
     let g = any_names (IsReadAsNothing words) h a.0 a.1 in
     elim a.2 [ inl x ↦ let e : Some j ≡ None = sym x.1 ∙ g.1 in cc e | inr x ↦ absurd (rw g.0 at x.0) ]
 
+pub load_line : (name : Text) (p q r s : ℕ × ℕ) → IsReadAs (name ∷ codes "load" ∷ []) (job.Load sched.None (record { submitters = 2; workers = 2; bios = 1000; depth = 8; busy = None })) (at_places p q r s)
+unfolding clap_on_literals
+load_line name p q r s = (refl, refl)
+
+pub busy_line : (name : Text) (p q r s : ℕ × ℕ) → IsReadAs (name ∷ codes "load" ∷ codes "--busy" ∷ codes "3" ∷ []) (job.Load sched.None (record { submitters = 2; workers = 2; bios = 1000; depth = 8; busy = Some 3 })) (at_places p q r s)
+unfolding clap_on_literals
+busy_line name p q r s = (refl, refl)
+
 pub sim_line : (name : Text) (p q r s : ℕ × ℕ) → IsReadAs (name ∷ codes "sim" ∷ []) (job.Sim sched.None) (at_places p q r s)
 unfolding clap_on_literals
 sim_line name p q r s = (refl, refl)

@@ -29,6 +29,7 @@ trace_fails SetsDepth Refused left (failure.Solve f) so h = absurd h
 trace_fails SetsDepth Refused left (failure.Check f) so h = absurd h
 trace_fails SetsDepth Refused left (failure.Met f) so h = absurd h
 trace_fails SetsDepth Refused left failure.NotFixed so h = so h
+trace_fails SetsDepth Refused left (failure.Load f) so h = absurd h
 trace_fails SetsDepth Refused left (failure.Write f) so h = tt
 trace_fails SetsDepth Refused left failure.Memory so h = tt
 

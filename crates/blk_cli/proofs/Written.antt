@@ -93,6 +93,7 @@ sim_fails sched left s (failure.Solve f) read h = absurd h
 sim_fails sched left s (failure.Check f) read h = absurd h
 sim_fails sched left s (failure.Met f) read h = absurd h
 sim_fails sched left s failure.NotFixed read h = absurd h
+sim_fails sched left s (failure.Load f) read h = absurd h
 sim_fails sched left s (failure.Write f) read h = absurd h
 sim_fails sched left s failure.Memory read h = tt
 
@@ -131,6 +132,7 @@ oracle_fails left depth commands (failure.Solve f) read h = solve_fault left dep
 oracle_fails left depth commands (failure.Check f) read h = absurd h
 oracle_fails left depth commands (failure.Met f) read h = absurd h
 oracle_fails left depth commands failure.NotFixed read h = absurd h
+oracle_fails left depth commands (failure.Load f) read h = absurd h
 oracle_fails left depth commands (failure.Write f) read h = absurd h
 oracle_fails left depth commands failure.Memory read h = tt
 
@@ -164,6 +166,7 @@ unproved_fails left claim (failure.Solve f) read h = absurd h
 unproved_fails left claim (failure.Check f) read h = check_fault left claim f read h
 unproved_fails left claim (failure.Met f) read h = absurd h
 unproved_fails left claim failure.NotFixed read h = absurd h
+unproved_fails left claim (failure.Load f) read h = absurd h
 unproved_fails left claim (failure.Write f) read h = absurd h
 unproved_fails left claim failure.Memory read h = tt
 
@@ -175,6 +178,7 @@ unmet_fails left claim (failure.Solve f) read h = absurd h
 unmet_fails left claim (failure.Check f) read h = absurd h
 unmet_fails left claim (failure.Met f) read h = met_fault left claim f read h
 unmet_fails left claim failure.NotFixed read h = absurd h
+unmet_fails left claim (failure.Load f) read h = absurd h
 unmet_fails left claim (failure.Write f) read h = absurd h
 unmet_fails left claim failure.Memory read h = tt
 

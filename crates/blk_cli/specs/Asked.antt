@@ -6,6 +6,7 @@ use Rattle.std.specs.Str.Parse.{digits_value, without_leading_plus}
 use Rattle.clap.specs.ValueTests.{accepts}
 use Rattle.clap.specs.declared.builder.value_parser.ValueParser.TheVariants as vp
 use Rattle.blk_deadline.specs.declared.Tunables.{Tunables}
+use Rattle.blk_load.specs.declared.numbers.Load.{Load}
 use Rattle.blk_kyber.specs.declared.Targets.{Targets}
 use Rattle.clap.specs.Words.{App, Row, Text, IsAmong, fault_of, first_of, one_of, subcommand_of}
 use Rattle.clap.specs.declared.error.kind.ErrorKind.{ErrorKind}
@@ -59,6 +60,18 @@ sched_of rows = option_and_then (sched_named rows) (first_of (codes "sched") row
 abbrev pub compared : Option Tunables → Option Targets → Option Job
 compared tunables targets = option_and_then (λ t. option_map (λ g. job.Compare t g) targets) tunables
 
+-- a load of these numbers, whose devices may be busy, under this scheduler
+abbrev pub amounts : Option ℕ → Option ℕ → Option ℕ → Option ℕ → Option ℕ → Option Load
+amounts submitters workers bios depth busy = option_and_then (λ s. option_and_then (λ w. option_and_then (λ b. option_map (λ d.
+    record { submitters = s; workers = w; bios = b; depth = d; busy = busy }) depth) bios) workers) submitters
+
+abbrev pub amounts_of : List Row → Option Load
+amounts_of rows = amounts (number_given (codes "submitters") rows) (number_given (codes "workers") rows) (number_given (codes "bios") rows) (number_given (codes "depth") rows)
+    (number_given (codes "busy") rows)
+
+abbrev pub loaded : Option Sched → Option Load → Option Job
+loaded s l = option_and_then (λ s. option_map (λ l. job.Load s l) l) s
+
 -- the job of a subcommand without options
 abbrev pub plain_job : Text → Option Job
 plain_job name =
@@ -82,7 +95,8 @@ job_of p =
     if bytes_eq p.0 (codes "sim") then option_map job.Sim (sched_of p.1)
     else (if bytes_eq p.0 (codes "compare") then compared (tunables_of p.1) (targets_of p.1)
     else (if bytes_eq p.0 (codes "oracle") then oracle_job (is_flagged (codes "trace") p.1) (is_flagged (codes "met") p.1)
-    else plain_job p.0))
+    else (if bytes_eq p.0 (codes "load") then loaded (sched_of p.1) (amounts_of p.1)
+    else plain_job p.0)))
 
 -- the job that the command line reads in words
 abbrev pub job_read : App → List Text → Option Job

@@ -81,6 +81,7 @@ IsUncompared t g script (failure.Solve f) = ⊥
 IsUncompared t g script (failure.Check f) = ⊥
 IsUncompared t g script (failure.Met f) = ⊥
 IsUncompared t g script failure.NotFixed = ⊥
+IsUncompared t g script (failure.Load f) = ⊥
 IsUncompared t g script (failure.Write f) = ⊥
 IsUncompared t g script failure.Memory = ⊤
 
@@ -93,5 +94,6 @@ CompareFails t g input (failure.Solve f) = ⊥
 CompareFails t g input (failure.Check f) = ⊥
 CompareFails t g input (failure.Met f) = ⊥
 CompareFails t g input failure.NotFixed = ⊥
+CompareFails t g input (failure.Load f) = ⊥
 CompareFails t g input (failure.Write f) = ⊤
 CompareFails t g input failure.Memory = ⊤

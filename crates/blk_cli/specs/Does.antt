@@ -1,5 +1,5 @@
 -- What a job does.
-use Rattle.std.specs.Prelude.{ℕ, List, Option, Result, MatchResult, IfSome}
+use Rattle.std.specs.Prelude.{⊤, ℕ, List, Option, Result, MatchResult, IfSome}
 use Rattle.std.specs.Io.KnownBytes.{Appends}
 use Rattle.blk_text.specs.Sources.{Row}
 use Rattle.blk_cli.specs.declared.words.Job.{Job}
@@ -9,6 +9,12 @@ use Rattle.blk_cli.specs.Outcome.{SimWrote, SimFails, MigrateWrote, MigrateFails
 use Rattle.blk_cli.specs.OfTraces.{TraceWrote, TraceFails, IsReportText, IsCommandsText, IsLateText, IsMissesText, IsSpreadText, IsUnfixed}
 use Rattle.blk_cli.specs.Comparing.{CompareWrote, CompareFails}
 use Rattle.blk_cli.specs.Meeting.{MetWrote}
+use Rattle.blk_cli.specs.Loading.{LoadWrote, LoadFails}
+
+-- a job that is no load
+abbrev pub IsPlain : Job → Type 0
+IsPlain (job.Load s l) = ⊥
+IsPlain j = ⊤
 
 -- what a job does with the records of its input: what it wrote where it ends well, and why it fails
 abbrev pub Does : Job → Option (List Row) → Option (List ℕ) → Option (List ℕ) → Result (Unit {0}) Failure → Type 0
@@ -24,3 +30,4 @@ Does job.Oracle input old new r = MatchResult r (λ _. IfSome input (λ rows. Or
 Does job.Met input old new r = MatchResult r (λ _. IfSome input (λ rows. MetWrote rows old new)) (OracleFails input)
 Does job.Report input old new r = MatchResult r (λ _. IfSome input (λ rows. TraceWrote IsReportText rows old new)) (TraceFails ⊥ input)
 Does job.Check input old new r = MatchResult r (λ _. IfSome input (λ rows. CheckWrote rows old new)) (CheckFails input)
+Does (job.Load s l) input old new r = MatchResult r (λ _. LoadWrote old new) (LoadFails s)

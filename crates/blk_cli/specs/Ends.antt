@@ -14,6 +14,8 @@ use Rattle.blk_trace.specs.declared.rule.TraceRule.{TraceRule}
 use Rattle.blk_trace.specs.declared.rule.TraceRule.TheVariants as rule
 use Rattle.blk_sched.specs.declared.SchedFault.{SchedFault}
 use Rattle.blk_sched.specs.declared.SchedFault.TheVariants as setting
+use Rattle.blk_load.specs.declared.fault.LoadFault.{LoadFault}
+use Rattle.blk_load.specs.declared.fault.LoadFault.TheVariants as load
 use Rattle.blk_text.specs.declared.fault.Why.{Why}
 use Rattle.blk_text.specs.declared.fault.Why.TheVariants as why
 use Rattle.blk_text.specs.declared.fault.WriteFault.TheVariants as write
@@ -129,6 +131,15 @@ sched_line setting.ZeroBatch = line (codes "ZeroBatch")
 sched_line setting.ZeroTarget = line (codes "ZeroTarget")
 sched_line setting.Memory = want_of_memory
 
+abbrev pub load_line : LoadFault → List ℕ
+load_line load.Range = line (codes "Range")
+load_line load.Memory = want_of_memory
+load_line load.TraceFull = line (codes "TraceFull")
+load_line load.Repeated = line (codes "Repeated")
+load_line load.Stalled = line (codes "stalled")
+load_line load.SeatMissing = line (codes "SeatMissing")
+load_line load.Differs = line (codes "Differs")
+
 -- the line on a failure
 abbrev pub line_of : Failure → List ℕ
 line_of (failure.Text f) = text_line f.at f.why
@@ -138,6 +149,7 @@ line_of (failure.Solve f) = oracle_line f
 line_of (failure.Check f) = check_line f
 line_of (failure.Met f) = met_check_line f
 line_of failure.NotFixed = line (codes "NotFixed")
+line_of (failure.Load f) = load_line f
 line_of (failure.Write write.Write) = write_fault
 line_of (failure.Write write.Memory) = want_of_memory
 line_of failure.Memory = want_of_memory
@@ -168,6 +180,10 @@ abbrev pub met_check_status : MetFault → ℕ
 met_check_status met.Memory = 3
 met_check_status f = 1
 
+abbrev pub load_status : LoadFault → ℕ
+load_status load.Memory = 3
+load_status f = 1
+
 abbrev pub status_of : Failure → ℕ
 status_of (failure.Text f) = text_status f.why
 status_of (failure.Sched f) = sched_status f
@@ -176,6 +192,7 @@ status_of (failure.Solve f) = oracle_status f
 status_of (failure.Check f) = check_status f
 status_of (failure.Met f) = met_check_status f
 status_of failure.NotFixed = 1
+status_of (failure.Load f) = load_status f
 status_of (failure.Write f) = 3
 status_of failure.Memory = 3
 

@@ -7,3 +7,4 @@ pub mod Meeting
 pub mod OfTraces
 pub mod Outcome
 pub mod Statuses
+pub mod Loading

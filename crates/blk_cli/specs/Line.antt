@@ -1,5 +1,5 @@
 -- The command line, as data.
-use Rattle.std.specs.Prelude.{◌≡◌, pos, true, List, Some, [], ◌∷◌, codes, map}
+use Rattle.std.specs.Prelude.{ℕ, ◌≡◌, pos, true, List, Some, [], ◌∷◌, codes, map}
 use Rattle.std.specs.Borrow.{Bor}
 use Rattle.clap.specs.Words.{App, Rule, Text, new_app, new_rule, with_rule, with_subcommand}
 use Rattle.clap.specs.declared.builder.ArgAction.TheVariants.{Set, SetTrue}
@@ -29,6 +29,13 @@ short = vp.Signed (pos 0) (pos 65535)
 abbrev pub target : ValueParser
 target = vp.Unsigned 0 1_000_000
 
+-- a number from 1 on, or from 2 on, up to the most
+abbrev pub amount : ℕ → ValueParser
+amount most = vp.Unsigned 1 most
+
+abbrev pub busy_rule : Rule
+busy_rule = record (new_rule (codes "busy")) { long = Some (codes "busy"); action = Some Set; parser = Some (vp.Unsigned 2 1_000_000) }
+
 -- a flag
 abbrev pub flag_rule : Text → Rule
 flag_rule name = record (new_rule name) { long = Some name; action = Some SetTrue }
@@ -49,6 +56,15 @@ compare_app = tuning (new_app (codes "compare"))
 abbrev pub oracle_app : App
 oracle_app = with_rule (with_rule (new_app (codes "oracle")) (flag_rule (codes "trace"))) (flag_rule (codes "met"))
 
+-- with the numbers of a load, and `load` with its options
+abbrev pub loaded : App → App
+loaded a =
+    with_rule (with_rule (with_rule (with_rule (with_rule a (number_rule (codes "submitters") (amount 64) (codes "2"))) (number_rule (codes "workers") (amount 16) (codes "2")))
+    (number_rule (codes "bios") (amount 2000) (codes "1000"))) (number_rule (codes "depth") (amount 256) (codes "8"))) busy_rule
+
+abbrev pub load_app : Names → App
+load_app names = tuning (loaded (with_rule (new_app (codes "load")) (sched_rule names)))
+
 -- a command with a version, which wants a subcommand
 abbrev pub topmost : App → App
 topmost a = record a { top = record a.top { has_version = true; subcommand_required = true } }
@@ -57,7 +73,8 @@ topmost a = record a { top = record a.top { has_version = true; subcommand_requi
 abbrev pub with_plain : App → Text → App
 with_plain a name = with_subcommand a (new_app name).top
 
--- the command with its subcommands over scripts, then those over traces, and those over command lists and certificates
+-- the command with its subcommands over scripts, then those over traces, those over command lists and certificates, and the one over
+-- the running layer
 abbrev pub over_scripts : Names → App
 over_scripts names = with_subcommand (with_subcommand (topmost (new_app (codes "blk"))) (sim_app names).top) compare_app.top
 
@@ -67,6 +84,9 @@ over_traces a = with_plain (with_plain (with_plain (with_plain (with_plain a (co
 abbrev pub over_lists : App → App
 over_lists a = with_plain (with_subcommand a oracle_app.top) (codes "check")
 
+abbrev pub over_layers : Names → App → App
+over_layers names a = with_subcommand a (load_app names).top
+
 -- the command and its subcommands
 abbrev pub blk_app : Names → App
-blk_app names = over_lists (over_traces (over_scripts names))
+blk_app names = over_layers names (over_lists (over_traces (over_scripts names)))

@@ -81,6 +81,7 @@ TraceFails SetsDepth input (failure.Solve f) = ⊥
 TraceFails SetsDepth input (failure.Check f) = ⊥
 TraceFails SetsDepth input (failure.Met f) = ⊥
 TraceFails SetsDepth input failure.NotFixed = SetsDepth
+TraceFails SetsDepth input (failure.Load f) = ⊥
 TraceFails SetsDepth input (failure.Write f) = ⊤
 TraceFails SetsDepth input failure.Memory = ⊤
 
@@ -93,5 +94,6 @@ IsUntold SetsDepth (failure.Solve f) = ⊥
 IsUntold SetsDepth (failure.Check f) = ⊥
 IsUntold SetsDepth (failure.Met f) = ⊥
 IsUntold SetsDepth failure.NotFixed = SetsDepth
+IsUntold SetsDepth (failure.Load f) = ⊥
 IsUntold SetsDepth (failure.Write f) = ⊤
 IsUntold SetsDepth failure.Memory = ⊤

@@ -208,6 +208,7 @@ IsUnrun s script (failure.Solve f) = ⊥
 IsUnrun s script (failure.Check f) = ⊥
 IsUnrun s script (failure.Met f) = ⊥
 IsUnrun s script failure.NotFixed = ⊥
+IsUnrun s script (failure.Load f) = ⊥
 IsUnrun s script (failure.Write f) = ⊥
 IsUnrun s script failure.Memory = ⊤
 
@@ -219,6 +220,7 @@ IsUnsolved commands (failure.Solve f) = IsRefusal commands f
 IsUnsolved commands (failure.Check f) = ⊥
 IsUnsolved commands (failure.Met f) = ⊥
 IsUnsolved commands failure.NotFixed = ⊥
+IsUnsolved commands (failure.Load f) = ⊥
 IsUnsolved commands (failure.Write f) = ⊥
 IsUnsolved commands failure.Memory = ⊤
 
@@ -230,6 +232,7 @@ IsUnproved claim (failure.Solve f) = ⊥
 IsUnproved claim (failure.Check f) = IsRefusedBound claim f claim.bound
 IsUnproved claim (failure.Met f) = ⊥
 IsUnproved claim failure.NotFixed = ⊥
+IsUnproved claim (failure.Load f) = ⊥
 IsUnproved claim (failure.Write f) = ⊥
 IsUnproved claim failure.Memory = ⊤
 
@@ -241,6 +244,7 @@ IsUnmet claim (failure.Solve f) = ⊥
 IsUnmet claim (failure.Check f) = ⊥
 IsUnmet claim (failure.Met f) = IsRefusedMet claim f
 IsUnmet claim failure.NotFixed = ⊥
+IsUnmet claim (failure.Load f) = ⊥
 IsUnmet claim (failure.Write f) = ⊥
 IsUnmet claim failure.Memory = ⊤
 
@@ -258,6 +262,7 @@ SimFails s input (failure.Solve f) = ⊥
 SimFails s input (failure.Check f) = ⊥
 SimFails s input (failure.Met f) = ⊥
 SimFails s input failure.NotFixed = ⊥
+SimFails s input (failure.Load f) = ⊥
 SimFails s input (failure.Write f) = ⊤
 SimFails s input failure.Memory = ⊤
 
@@ -269,6 +274,7 @@ MigrateFails input (failure.Solve f) = ⊥
 MigrateFails input (failure.Check f) = ⊥
 MigrateFails input (failure.Met f) = ⊥
 MigrateFails input failure.NotFixed = ⊥
+MigrateFails input (failure.Load f) = ⊥
 MigrateFails input (failure.Write f) = ⊤
 MigrateFails input failure.Memory = ⊥
 
@@ -280,6 +286,7 @@ OracleFails input (failure.Solve f) = IsSolveFault input f
 OracleFails input (failure.Check f) = ⊥
 OracleFails input (failure.Met f) = ⊥
 OracleFails input failure.NotFixed = ⊥
+OracleFails input (failure.Load f) = ⊥
 OracleFails input (failure.Write f) = ⊤
 OracleFails input failure.Memory = ⊤
 
@@ -291,6 +298,7 @@ CheckFails input (failure.Solve f) = ⊥
 CheckFails input (failure.Check f) = IsCheckFault input f
 CheckFails input (failure.Met f) = IsMetCheckFault input f
 CheckFails input failure.NotFixed = ⊥
+CheckFails input (failure.Load f) = ⊥
 CheckFails input (failure.Write f) = ⊤
 CheckFails input failure.Memory = ⊤
 
@@ -303,6 +311,7 @@ VersionFails (failure.Solve f) = ⊥
 VersionFails (failure.Check f) = ⊥
 VersionFails (failure.Met f) = ⊥
 VersionFails failure.NotFixed = ⊥
+VersionFails (failure.Load f) = ⊥
 VersionFails (failure.Write f) = ⊤
 VersionFails failure.Memory = ⊥
 

@@ -1,6 +1,6 @@
 //! Laws of the command line: which jobs plain lines ask for, whatever the program's name.
 
-ghost use Rattle.std.specs.Prelude.{◌≡◌, ◌↔◌, ◌∷◌, [], true, codes};
+ghost use Rattle.std.specs.Prelude.{◌≡◌, ◌↔◌, ◌∷◌, [], true, None, Some, codes};
 ghost use Rattle.clap.specs.Words.{Text};
 ghost use Rattle.blk_cli.specs.declared.words.Job.{Job as AJob};
 ghost use Rattle.blk_cli.specs.Asked.{Asks};
@@ -31,5 +31,9 @@ pub fn plain_lines()
     ensures met { (name : Text) → (j : AJob) → Asks (name ∷ codes "oracle" ∷ codes "--met" ∷ []) j ↔ (j ≡ Job.Met) }
     ensures report_and_met { (name : Text) → (j : AJob) → Asks (name ∷ codes "oracle" ∷ codes "--trace" ∷ codes "--met" ∷ []) j → ⊥ }
     ensures check { (name : Text) → (j : AJob) → Asks (name ∷ codes "check" ∷ []) j ↔ (j ≡ Job.Check) }
+    ensures load { (name : Text) → (j : AJob) → Asks (name ∷ codes "load" ∷ []) j
+        ↔ (j ≡ Job.Load Sched.None (record { submitters = 2; workers = 2; bios = 1000; depth = 8; busy = None })) }
+    ensures busy { (name : Text) → (j : AJob) → Asks (name ∷ codes "load" ∷ codes "--busy" ∷ codes "3" ∷ []) j
+        ↔ (j ≡ Job.Load Sched.None (record { submitters = 2; workers = 2; bios = 1000; depth = 8; busy = Some 3 })) }
     ensures version { (name : Text) → Asks (name ∷ codes "--version" ∷ []) Job.Version }
 {}

@@ -1,12 +1,13 @@
 //! Why the program ends without its output, as a line and an exit status.
 
-ghost use Rattle.std.specs.Prelude.{◌≡◌, ◌++◌, OnOk, IsTrue, decimal};
+ghost use Rattle.std.specs.Prelude.{◌≤◌, ◌≡◌, ◌++◌, OnOk, IsTrue, decimal};
 ghost use Rattle.std.specs.Fmt.{signed_decimal};
 ghost use Rattle.std.specs.Io.KnownBytes.{Appends};
-ghost use Rattle.blk_cli.specs.Ends.{line, numbered, at_record, text_name, bio_name, rule_name, step_name, text_line, step_line, sched_line, oracle_line, check_line, met_check_line, line_of, text_status, step_status, oracle_status, check_status, met_check_status, status_of};
+ghost use Rattle.blk_cli.specs.Ends.{line, numbered, at_record, text_name, bio_name, rule_name, step_name, text_line, step_line, sched_line, oracle_line, check_line, met_check_line, load_line, line_of, text_status, step_status, oracle_status, check_status, met_check_status, status_of};
 
 use crate::{Ended, FAILED, REFUSED};
 use blk_bio::BioFault;
+use blk_load::LoadFault;
 use blk_sched::SchedFault;
 use blk_sim::{SimFault, SimWhy};
 use blk_text::{TextFault, Why, WriteFault};
@@ -42,6 +43,8 @@ pub enum Failure {
     Met(MetFault),
     /// The trace sets a depth, so that no command list has its commands.
     NotFixed,
+    /// The load fails.
+    Load(LoadFault),
     /// The writer failed.
     Write(WriteFault),
     /// Memory ran out.
@@ -51,7 +54,8 @@ pub enum Failure {
 impl Failure {
     /// The exit status: 1 for refused input, 3 for want of memory, a read fault or a write fault.
     pub fn status(&self) -> u8
-        ensures { result ≡ status_of self.now }
+        ensures value { result ≡ status_of self.now }
+        ensures range { result ≤ 3 }
     {
         match self {
             Failure::Text(fault) => match fault.why {
@@ -69,6 +73,8 @@ impl Failure {
             Failure::Check(CheckFault::Memory) => FAILED,
             Failure::Met(MetFault::Memory) => FAILED,
             Failure::Check(_) | Failure::Met(_) | Failure::NotFixed => REFUSED,
+            Failure::Load(LoadFault::Memory) => FAILED,
+            Failure::Load(_) => REFUSED,
             Failure::Write(_) | Failure::Memory => FAILED,
         }
     }
@@ -85,6 +91,7 @@ impl Failure {
             Failure::Check(fault) => tell_check(faults, *fault),
             Failure::Met(fault) => tell_met(faults, *fault),
             Failure::NotFixed => tell_name(faults, "NotFixed"),
+            Failure::Load(fault) => tell_load(faults, *fault),
             Failure::Write(WriteFault::Write) => faults.write_all(WRITE_FAULT),
             Failure::Write(WriteFault::Memory) | Failure::Memory => faults.write_all(
                 WANT_OF_MEMORY,
@@ -95,6 +102,7 @@ impl Failure {
     /// Writes the failure's line and ends with its status, which stays where the line can't be written.
     pub fn report<F: Write>(&self, faults: &mut F) -> Ended
         ensures status { result.status ≡ status_of self.now }
+        ensures range { result.status ≤ 3 }
         ensures told { IsTrue result.told → Appends (F.contents faults.old) (F.contents faults.new) (line_of self.now) }
     {
         let told = self.tell(faults).is_ok();
@@ -270,5 +278,20 @@ fn tell_met<F: Write>(faults: &mut F, fault: MetFault) -> io::Result<()>
         MetFault::WrongMet(own) => tell_number(faults, "WrongMet", own),
         MetFault::Windows(place) => tell_number(faults, "Windows", place as u64),
         MetFault::Loose(bound) => tell_number(faults, "Loose", bound),
+    }
+}
+
+/// Writes the line on a load.
+fn tell_load<F: Write>(faults: &mut F, fault: LoadFault) -> io::Result<()>
+    ensures { OnOk result (Appends (F.contents faults.old) (F.contents faults.new) (load_line fault)) }
+{
+    match fault {
+        LoadFault::Range => tell_name(faults, "Range"),
+        LoadFault::Memory => faults.write_all(WANT_OF_MEMORY),
+        LoadFault::TraceFull => tell_name(faults, "TraceFull"),
+        LoadFault::Repeated => tell_name(faults, "Repeated"),
+        LoadFault::Stalled => tell_name(faults, "stalled"),
+        LoadFault::SeatMissing => tell_name(faults, "SeatMissing"),
+        LoadFault::Differs => tell_name(faults, "Differs"),
     }
 }

@@ -2,15 +2,17 @@
 #![tactic(auto)]
 
 ghost use Rattle.std.specs.Prelude.{◌≡◌, ◌≢◌, ◌≤◌, ◌⊎◌, IfErr, map, string_bytes};
-ghost use Rattle.blk_text.specs.Sources.{input_of};
+ghost use Rattle.std.specs.Prelude.{List, Option};
+ghost use Rattle.blk_text.specs.Sources.{Row, input_of};
 ghost use Rattle.blk_cli.specs.Ends.{JobEnds, LineEnds, MemoryEnds, RunEnds};
-ghost use Rattle.blk_cli.specs.Does.{Does};
+ghost use Rattle.blk_cli.specs.Does.{Does, IsPlain};
 ghost use Rattle.blk_cli.specs.Statuses.{IsOfWriter};
 
 pub mod asking;
 mod comparing;
 mod failure;
 mod jobs;
+mod loading;
 mod meeting;
 mod traces;
 mod words;
@@ -20,13 +22,17 @@ pub use crate::failure::Failure;
 use crate::jobs::{
     check_certificate, migrate_trace, simulate_script, solve_commands, write_version,
 };
+use crate::loading::run_load;
 use crate::meeting::meet_commands;
 use crate::traces::{count_misses, list_commands, list_late, report_trace, spread_trace};
 pub use crate::words::{Job, Sched, VERSION};
 use crate::words::{NoJob, choose};
+use blk_load::Load;
 pub use blk_sim::laws;
 use std::alloc::Global;
 use std::io::{Read, Write};
+use std::sync::Wait;
+use std::thread::Threads;
 
 /// The exit status of a run that did what it was asked.
 pub const GOOD: u8 = 0;
@@ -52,13 +58,14 @@ pub struct Ended {
     pub told: bool,
 }
 
-/// Does a job: reads the input from the reader, and writes the output to the writer once it is whole.
+/// Does a job that is no load: reads the input from the reader, and writes the output to the writer once it is whole.
 pub fn work<R: Read + Drop, W: Write>(
     alloc: Global,
     job: Job,
     reader: R,
     writer: &mut W,
 ) -> Result<(), Failure>
+    requires { IsPlain job }
     ensures did { Does job (input_of (R.remaining reader)) (W.contents writer.old) (W.contents writer.new) result }
     ensures kept { IfErr result (λ f. IsOfWriter f ⊎ (writer.new ≡ writer.old)) }
 {
@@ -77,10 +84,11 @@ pub fn work<R: Read + Drop, W: Write>(
         Job::Met => meet_commands(alloc, reader, writer),
         Job::Report => report_trace(alloc, reader, writer),
         Job::Check => check_certificate(alloc, reader, writer),
+        Job::Load(..) => unreachable!(),
     }
 }
 
-/// Does a job, and says to `faults` why it failed.
+/// Does a job that is no load, and says to `faults` why it failed.
 pub fn perform<R: Read + Drop, W: Write, F: Write>(
     alloc: Global,
     job: Job,
@@ -88,6 +96,7 @@ pub fn perform<R: Read + Drop, W: Write, F: Write>(
     writer: &mut W,
     faults: &mut F,
 ) -> Ended
+    requires { IsPlain job }
     ensures ended { JobEnds job (input_of (R.remaining reader)) (W.contents writer.old) (W.contents writer.new) (F.contents faults.old) (F.contents faults.new) result }
     ensures kept { result.status ≢ 0 → result.status ≢ 3 → writer.new ≡ writer.old }
     ensures quiet { result.status ≡ 0 → faults.new ≡ faults.old }
@@ -101,9 +110,33 @@ pub fn perform<R: Read + Drop, W: Write, F: Write>(
     }
 }
 
+/// Runs a load, and says to `faults` why it failed.
+fn perform_load<R: Threads + Wait + Sync, W: Write, F: Write>(
+    rt: &R,
+    alloc: Global,
+    sched: Sched,
+    amounts: Load,
+    writer: &mut W,
+    faults: &mut F,
+) -> Ended
+    ensures ended { (input : Option (List Row)) → JobEnds (Job.Load sched amounts) input (W.contents writer.old) (W.contents writer.new) (F.contents faults.old) (F.contents faults.new) result }
+    ensures kept { result.status ≢ 0 → result.status ≢ 3 → writer.new ≡ writer.old }
+    ensures quiet { result.status ≡ 0 → faults.new ≡ faults.old }
+    ensures range { result.status ≤ 3 }
+{
+    match run_load(rt, alloc, sched, amounts, writer) {
+        Ok(()) => Ended {
+            status: GOOD,
+            told: true,
+        },
+        Err(failure) => failure.report(faults),
+    }
+}
+
 /// Runs the program on the words of its command line, the first of which is its name: reads the input from the reader,
 /// writes the output to the writer, and where there is none, a line on why to `faults`. Answers how it ended.
-pub fn run<R: Read + Drop, W: Write, F: Write>(
+pub fn run<T: Threads + Wait + Sync, R: Read + Drop, W: Write, F: Write>(
+    rt: &T,
     alloc: Global,
     words: &[String],
     reader: R,
@@ -118,6 +151,7 @@ pub fn run<R: Read + Drop, W: Write, F: Write>(
     ensures range { result.status ≤ 3 }
 {
     match choose(alloc, words) {
+        Ok(Job::Load(sched, amounts)) => perform_load(rt, alloc, sched, amounts, writer, faults),
         Ok(job) => perform(alloc, job, reader, writer, faults),
         Err(NoJob::Memory) => Failure::Memory.report(faults),
         Err(NoJob::Line(error)) => Ended {

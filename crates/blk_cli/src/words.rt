@@ -3,11 +3,13 @@
 ghost use Rattle.std.specs.Prelude.{◌≡◌, ◌⊎◌, false, IfOk, IfErr, map, option_and_then, codes, string_bytes};
 ghost use Rattle.clap.specs.Words.{app_of, new_app, rule_of, rows_of, found_of, subcommand_rows_of, with_subcommand};
 ghost use Rattle.clap.specs.declared.builder.command.Command.TheViews.{out-Command as fields_of};
-ghost use Rattle.blk_cli.specs.Line.{Names, AreSchedulers, sched_rule, number_rule, target, flag_rule, tuning, sim_app, compare_app, oracle_app, with_plain, over_scripts, over_traces, over_lists, blk_app};
-ghost use Rattle.blk_cli.specs.Asked.{Asks, AreRefused, short_given, number_given, is_flagged, tunables_of, targets_of, sched_of, compared, oracle_job, plain_job, job_of};
+ghost use Rattle.blk_cli.specs.Line.{Names, AreSchedulers, sched_rule, number_rule, target, amount, busy_rule, flag_rule, tuning, loaded as with_amounts, sim_app, compare_app, oracle_app, load_app, with_plain, over_scripts, over_traces, over_lists, over_layers, blk_app};
+ghost use Rattle.blk_cli.specs.Asked.{Asks, AreRefused, short_given, number_given, is_flagged, tunables_of, targets_of, sched_of, compared, amounts_of, loaded, oracle_job, plain_job, job_of};
 
 use blk_deadline::Tunables;
 use blk_kyber::Targets;
+use blk_load::Load;
+use blk_load::numbers::{MOST_BIOS, MOST_DEPTH, MOST_SUBMITTERS, MOST_WORKERS};
 use clap::builder::ValueParser;
 use clap::error::ErrorKind;
 use clap::{Arg, ArgAction, ArgMatches, Command, Error, value_parser};
@@ -18,6 +20,9 @@ static SCHEDULERS: [&str; 3] = ["none", "deadline", "kyber"];
 
 /// The greatest target of `kyber`, in rounds.
 const MOST_TARGET: u64 = 1_000_000;
+
+/// The greatest number of `--busy`.
+const MOST_BUSY: u64 = 1_000_000;
 
 /// The version of the program.
 pub const VERSION: &str = "1.0.0";
@@ -60,6 +65,8 @@ pub enum Job {
     Report,
     /// Check a certificate.
     Check,
+    /// Run a load on a layer under a scheduler, and write its account.
+    Load(Sched, Load),
 }
 
 /// Why there is no job.
@@ -73,15 +80,15 @@ pub enum NoJob {
     Nothing,
 }
 
-/// The argument that names the scheduler.
-fn sched_arg<'a>(alloc: Global) -> Arg<'a>
-    ensures rule { (names : Names) × AreSchedulers names × (rule_of result ≡ sched_rule names) }
+/// The argument that names the scheduler, one of these.
+fn sched_arg<'a>(alloc: Global, names: &'a [&'a str]) -> Arg<'a>
+    ensures rule { rule_of result ≡ sched_rule names.entry }
     ensures local { result.global ≡ false }
 {
     Arg::new(alloc, "sched")
         .long("sched")
         .action(ArgAction::Set)
-        .value_parser(SCHEDULERS.as_slice())
+        .value_parser(names)
         .default_value("none")
         .help("The scheduler")
 }
@@ -172,14 +179,91 @@ fn with_tuning<'a>(alloc: Global, command: Command<'a>) -> Result<Command<'a>, A
 }
 
 /// The subcommand that runs a script.
-fn sim_command<'a>(alloc: Global) -> Result<Command<'a>, AllocError>
-    ensures app { IfOk result (λ c. (names : Names) × AreSchedulers names × (app_of c ≡ sim_app names)) }
+fn sim_command<'a>(alloc: Global, names: &'a [&'a str]) -> Result<Command<'a>, AllocError>
+    ensures app { IfOk result (λ c. app_of c ≡ sim_app names.entry) }
     ensures local { IfOk result (λ c. (fields_of c).has_globals ≡ false) }
 {
     let sim = Command::new(alloc, "sim")
         .about("Runs a script and writes its trace")
-        .arg(sched_arg(alloc))?;
+        .arg(sched_arg(alloc, names))?;
     with_tuning(alloc, sim)
+}
+
+/// An argument that takes a number from 1 on, up to the most.
+fn amount_arg<'a>(
+    alloc: Global,
+    name: &'a str,
+    most: u64,
+    default: &'a str,
+    help: &'a str,
+) -> Arg<'a>
+    ensures rule { rule_of result ≡ number_rule name.entry.now (amount most) default.entry.now }
+    ensures local { result.global ≡ false }
+{
+    number_arg(alloc, name, ValueParser::unsigned(1, most), default, help)
+}
+
+/// The argument that makes the devices of a load busy.
+fn busy_arg<'a>(alloc: Global) -> Arg<'a>
+    ensures rule { rule_of result ≡ busy_rule }
+    ensures local { result.global ≡ false }
+{
+    Arg::new(alloc, "busy")
+        .long("busy")
+        .action(ArgAction::Set)
+        .value_parser(ValueParser::unsigned(2, MOST_BUSY))
+        .help("Lets each worker's device hand every so many-th command back; without it, none")
+}
+
+/// A command with the options that say how much load there is.
+fn with_amounts<'a>(alloc: Global, command: Command<'a>) -> Result<Command<'a>, AllocError>
+    requires { (fields_of command).has_globals ≡ false }
+    ensures app { IfOk result (λ c. app_of c ≡ with_amounts (app_of command.entry)) }
+    ensures local { IfOk result (λ c. (fields_of c).has_globals ≡ false) }
+{
+    let submitters = amount_arg(
+        alloc,
+        "submitters",
+        MOST_SUBMITTERS,
+        "2",
+        "How many threads submit",
+    );
+    let workers = amount_arg(
+        alloc,
+        "workers",
+        MOST_WORKERS,
+        "2",
+        "How many threads issue commands and run them",
+    );
+    let bios = amount_arg(
+        alloc,
+        "bios",
+        MOST_BIOS,
+        "1000",
+        "How many bios each submitter has",
+    );
+    let depth = amount_arg(alloc, "depth", MOST_DEPTH, "8", "How many tags there are");
+    let loaded = command
+        .arg(submitters)?
+        .arg(workers)?
+        .arg(bios)?
+        .arg(depth)?
+        .arg(busy_arg(alloc))?;
+    Ok(loaded)
+}
+
+/// The subcommand that runs a load.
+fn load_command<'a>(alloc: Global, names: &'a [&'a str]) -> Result<Command<'a>, AllocError>
+    ensures app { IfOk result (λ c. app_of c ≡ load_app names.entry) }
+    ensures local { IfOk result (λ c. (fields_of c).has_globals ≡ false) }
+{
+    let load = Command::new(alloc, "load")
+        .about(
+            "Runs a load of threads on a layer, and writes how many bios were accepted, served and left",
+        )
+        .arg(sched_arg(alloc, names))?;
+    let amounts = with_amounts(alloc, load)?;
+    with_tuning(alloc, amounts)
 }
 
 /// A subcommand without options.
@@ -249,10 +333,10 @@ fn with_plain<'a>(
 }
 
 /// The command line with the subcommands over scripts.
-fn over_scripts<'a>(alloc: Global) -> Result<Command<'a>, AllocError>
-    ensures { IfOk result (λ c. (names : Names) × AreSchedulers names × (app_of c ≡ over_scripts names)) }
+fn over_scripts<'a>(alloc: Global, names: &'a [&'a str]) -> Result<Command<'a>, AllocError>
+    ensures { IfOk result (λ c. app_of c ≡ over_scripts names.entry) }
 {
-    let sim = sim_command(alloc)?;
+    let sim = sim_command(alloc, names)?;
     let compare = compare_command(alloc)?;
     let blk = Command::new(alloc, "blk")
         .version(VERSION)
@@ -310,14 +394,29 @@ fn over_lists<'a>(alloc: Global, command: Command<'a>) -> Result<Command<'a>, Al
     Ok(checking)
 }
 
+/// The command line with the subcommand over the running layer.
+fn over_layers<'a>(
+    alloc: Global,
+    command: Command<'a>,
+    names: &'a [&'a str],
+) -> Result<Command<'a>, AllocError>
+    ensures { IfOk result (λ c. app_of c ≡ over_layers names.entry (app_of command.entry)) }
+{
+    let load = load_command(alloc, names)?;
+    let loading = with_command(command, load)?;
+    Ok(loading)
+}
+
 /// The command line of the program.
 fn blk_command<'a>(alloc: Global) -> Result<Command<'a>, AllocError>
     ensures { IfOk result (λ c. (names : Names) × AreSchedulers names × (app_of c ≡ blk_app names)) }
 {
-    let scripts = over_scripts(alloc)?;
+    let names = SCHEDULERS.as_slice();
+    let scripts = over_scripts(alloc, names)?;
     let traces = over_traces(alloc, scripts)?;
     let lists = over_lists(alloc, traces)?;
-    Ok(lists)
+    let layers = over_layers(alloc, lists, names)?;
+    Ok(layers)
 }
 
 /// The number of 16 bits that an option is given.
@@ -394,6 +493,33 @@ fn compare_of(options: &ArgMatches<'_>) -> Option<Job>
     Some(Job::Compare(tunables, targets))
 }
 
+/// How much load the options of `load` say there is.
+fn amounts_of(options: &ArgMatches<'_>) -> Option<Load>
+    ensures { result ≡ amounts_of (rows_of (found_of options.now)) }
+{
+    let submitters = number_of(options, "submitters")?;
+    let workers = number_of(options, "workers")?;
+    let bios = number_of(options, "bios")?;
+    let depth = number_of(options, "depth")?;
+    let busy = number_of(options, "busy");
+    Some(Load {
+        submitters,
+        workers,
+        bios,
+        depth,
+        busy,
+    })
+}
+
+/// The load that the options of `load` ask for.
+fn load_of(options: &ArgMatches<'_>) -> Option<Job>
+    ensures { result ≡ loaded (sched_of (rows_of (found_of options.now))) (amounts_of (rows_of (found_of options.now))) }
+{
+    let sched = sched_of(options)?;
+    let load = amounts_of(options)?;
+    Some(Job::Load(sched, load))
+}
+
 /// The job of a subcommand without options.
 fn plain_job(name: &str) -> Option<Job>
     ensures { result ≡ plain_job name.now }
@@ -443,6 +569,8 @@ fn job_named(name: &str, options: &ArgMatches<'_>) -> Option<Job>
         compare_of(options)
     } else if name == "oracle" {
         oracle_job(options)
+    } else if name == "load" {
+        load_of(options)
     } else {
         plain_job(name)
     }

@@ -126,7 +126,7 @@ fn lost_lines(rt: HostRuntime) {
         (&["check"], late, 1),
         (&["check", "--bad"], CERTIFICATE, 2),
         (&["--help"], "", 2),
-        (&["load"], "", 2),
+        (&["serve"], "", 2),
     ];
     for (words, input, wanted) in cases {
         for writes_left in 0..3u64 {

@@ -5,6 +5,8 @@ use std::alloc::Global;
 use std::io;
 use std::io::{ErrorKind, Read, Write};
 use std::process::Abort;
+use std::sync::Wait;
+use std::thread::Threads;
 
 /// A reader that gives its text byte by byte, and fails in this way after so many reads.
 #[derive(Drop)]
@@ -71,8 +73,8 @@ fn words_of(rt: &impl Abort, alloc: Global, words: &[&str]) -> Vec<String> {
 }
 
 /// Runs the program with words after its name, and gives its status.
-pub fn status_of<R: Read + Drop, W: Write, F: Write>(
-    rt: &impl Abort,
+pub fn status_of<T: Abort + Threads + Wait + Sync, R: Read + Drop, W: Write, F: Write>(
+    rt: &T,
     alloc: Global,
     words: &[&str],
     reader: R,
@@ -80,5 +82,5 @@ pub fn status_of<R: Read + Drop, W: Write, F: Write>(
     faults: &mut F,
 ) -> u8 {
     let words = words_of(rt, alloc, words);
-    run(alloc, words.as_slice(), reader, out, faults).status
+    run(rt, alloc, words.as_slice(), reader, out, faults).status
 }

@@ -1,0 +1,18 @@
+//! A load on a running block layer: submitters and workers in threads of their own, whose accounts are settled once all have ended.
+//!
+//! As fio loads a block device of Linux, but over a device of no medium, which answers at once: what is measured and settled is
+//! the layer.
+#![tactic(auto)]
+
+mod counts;
+mod device;
+pub mod fault;
+pub mod numbers;
+pub mod running;
+mod serving;
+mod site;
+mod submitting;
+
+pub use crate::fault::LoadFault;
+pub use crate::numbers::Load;
+pub use crate::running::{Settled, load};

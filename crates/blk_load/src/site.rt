@@ -1,0 +1,85 @@
+//! What the threads of a load share.
+
+ghost use Rattle.std.specs.Prelude.{◌≡◌, ◌≤◌};
+
+use crate::fault::{LoadFault, first_of};
+use crate::numbers::Load;
+use blk_bio::Limits;
+use blk_layer::{Layer, Named};
+use blk_sched::Scheduler;
+use std::alloc::Global;
+use std::sync::atomic::{AtomicBool, Ordering};
+use std::sync::{Mutex, Wait};
+
+/// The faults that threads meet, of which the first by their order is kept.
+#[derive(Drop)]
+pub(crate) struct Noted {
+    /// Whether there is one.
+    any: AtomicBool,
+    /// The first of them.
+    first: Mutex<Option<LoadFault>>,
+}
+
+impl Noted {
+    /// None so far.
+    pub(crate) fn none() -> Noted {
+        Noted {
+            any: AtomicBool::new(false),
+            first: Mutex::new(None),
+        }
+    }
+
+    /// Whether a thread has met a fault.
+    pub(crate) fn is_any(&self) -> bool {
+        self.any.load(Ordering::SeqCst)
+    }
+
+    /// Notes a fault.
+    pub(crate) fn note<R: Wait>(&self, rt: &R, fault: LoadFault) {
+        let mut first = self.first.lock(rt);
+        *first = first_of(*first, Some(fault));
+        self.any.store(true, Ordering::SeqCst);
+    }
+
+    /// The first of the faults.
+    pub(crate) fn into_first(self) -> Option<LoadFault> {
+        let Noted { any: _, first } = self;
+        first.into_inner()
+    }
+}
+
+/// What the threads of a load share: the layer, the faults that they meet, and the numbers of the load.
+#[derive(Drop)]
+pub(crate) struct Site<S: Scheduler<A = Global>, L: Named> {
+    /// The layer.
+    pub(crate) layer: Layer<S, L>,
+    /// The faults that the threads have met.
+    pub(crate) noted: Noted,
+    /// What the threads allocate by.
+    pub(crate) alloc: Global,
+    /// The limits of the layer, within which the bios of a plug join.
+    pub(crate) limits: Limits,
+    /// How much load there is.
+    pub(crate) load: Load,
+    ghost named: { limits ≡ L.setup.limits },
+    ghost few_submitters: { load.submitters ≤ 64 },
+    ghost few_bios: { load.bios ≤ 2000 },
+}
+
+impl<S: Scheduler<A = Global>, L: Named> Site<S, L> {
+    /// What threads share over a layer, none of which has met a fault.
+    pub(crate) fn new(layer: Layer<S, L>, alloc: Global, limits: Limits, load: Load) -> Site<S, L>
+        requires named { limits ≡ L.setup.limits }
+        requires few_submitters { load.submitters ≤ 64 }
+        requires few_bios { load.bios ≤ 2000 }
+        ensures { result.layer ≡ layer }
+    {
+        Site {
+            layer,
+            noted: Noted::none(),
+            alloc,
+            limits,
+            load,
+        }
+    }
+}

@@ -1,0 +1,144 @@
+//! What submitters do.
+
+ghost use Rattle.std.specs.Prelude.{◌≡◌, ◌<◌, ◌≤◌, All, IfOk, length};
+
+use crate::fault::LoadFault;
+use crate::numbers::Load;
+use crate::site::Site;
+use blk_bio::{Bio, BioId, Dir};
+use blk_layer::{FlushWhy, Named, Submitter};
+use blk_plug::{PLUG_REQUESTS, Plug, PlugFault};
+use blk_sched::Scheduler;
+use std::alloc::Global;
+use std::sync::Wait;
+use std::thread::{Threads, for_each_mut, yield_now};
+
+/// How often a submitter flushes its plug at most.
+const MOST_FLUSHES: u64 = 10_000_000;
+
+/// How many sectors a bio has.
+const SECTORS: u64 = 8;
+
+/// How many sectors from the beginning of one bio to that of the next: no bio touches another.
+const STRIDE: u64 = 16;
+
+/// The bio of this number of a submitter, of so many submitters: they write in turn, and every other bio of each is a write.
+fn nth_bio(submitters: u64, submitter: u8, serial: u64) -> Bio
+    requires submitters { submitters ≤ 64 }
+    requires serial { serial < 2000 }
+{
+    let id = BioId { submitter, serial };
+    let dir = if serial % 2 == 0 {
+        Dir::Read
+    } else {
+        Dir::Write
+    };
+    let first = STRIDE * (serial * submitters + u64::from(submitter));
+    match Bio::new(id, dir, first, SECTORS) {
+        Ok(bio) => bio,
+        Err(_) => unreachable!(),
+    }
+}
+
+/// Adds bios from this number on to a plug, until it is full or there are no more, and answers the number of the next one.
+fn fill(plug: &mut Plug, load: &Load, submitter: u8, from: u64) -> Result<u64, LoadFault>
+    requires submitters { load.now.submitters ≤ 64 }
+    requires bios { load.now.bios ≤ 2000 }
+    ensures limits { plug.new.limits ≡ plug.old.limits }
+{
+    for serial in from..load.bios {
+        match plug.add(nth_bio(load.submitters, submitter, serial)) {
+            Ok(_) => {}
+            Err((_, PlugFault::Full)) => return Ok(serial),
+            Err((_, PlugFault::Memory)) => return Err(LoadFault::Memory),
+        }
+    }
+    Ok(load.bios)
+}
+
+/// A submitter's turns: it fills its plug, flushes it, and tries again where the software queue has no room for all of it. It ends
+/// with no fault once all of its bios are flushed, or once another thread has met a fault.
+fn submit<R: Wait, S: Scheduler<A = Global>, L: Named>(
+    rt: &R,
+    site: &Site<S, L>,
+    seat: &mut Submitter<L>,
+) -> Result<(), LoadFault>
+    requires seat { seat.old.number < length site.now.layer.map }
+    ensures number { seat.new.number ≡ seat.old.number }
+{
+    let Ok(mut plug) = Plug::new(site.alloc, site.limits) else {
+        return Err(LoadFault::Memory);
+    };
+    let number = seat.number();
+    let mut next = 0;
+    for _ in 0..MOST_FLUSHES {
+        if site.noted.is_any() {
+            return Ok(());
+        }
+        if plug.len() == 0 {
+            if next >= site.load.bios {
+                return Ok(());
+            }
+            next = fill(&mut plug, &site.load, number, next)?;
+        }
+        flush(rt, site, seat, &mut plug)?;
+    }
+    Err(LoadFault::Stalled)
+}
+
+/// Flushes a plug, as far as there is room for it; where there isn't, lets another thread run.
+fn flush<R: Wait, S: Scheduler<A = Global>, L: Named>(
+    rt: &R,
+    site: &Site<S, L>,
+    seat: &mut Submitter<L>,
+    plug: &mut Plug,
+) -> Result<(), LoadFault>
+    requires seat { seat.old.number < length site.now.layer.map }
+    requires limits { plug.old.limits ≡ site.now.limits }
+    ensures number { seat.new.number ≡ seat.old.number }
+    ensures limits { plug.new.limits ≡ plug.old.limits }
+{
+    match site.layer.flush(rt, seat, plug) {
+        Ok(_) => Ok(()),
+        Err(fault) => match fault.why {
+            FlushWhy::SoftFull => {
+                yield_now();
+                Ok(())
+            }
+            FlushWhy::Memory => Err(LoadFault::Memory),
+            FlushWhy::Foreign(_) | FlushWhy::Repeated(_) => Err(LoadFault::Repeated),
+        },
+    }
+}
+
+/// A submitter's turns, whose fault is noted for the other threads.
+fn submit_noted<R: Wait, S: Scheduler<A = Global>, L: Named>(
+    rt: &R,
+    site: &Site<S, L>,
+    seat: &mut Submitter<L>,
+)
+    requires seat { seat.old.number < length site.now.layer.map }
+    ensures number { seat.new.number ≡ seat.old.number }
+{
+    if let Err(fault) = submit(rt, site, seat) {
+        site.noted.note(rt, fault);
+    }
+}
+
+/// The turns of submitters, each in a thread of its own: the list is halved down to one seat. The layer is finished once all of them
+/// have ended.
+pub(crate) fn submit_all<
+    R: Threads + Wait + Sync,
+    S: Scheduler<A = Global> + Send,
+    L: Named + Send + Sync,
+>(rt: &R, site: &Site<S, L>, seats: &mut [Submitter<L>])
+    requires seats { All (λ s. s.number < length site.now.layer.map) seats.old }
+{
+    let threads = seats.len().max(1);
+    let turns = |_: usize, seat: &mut Submitter<L>|
+        requires { seat.now.number < length site.now.layer.map }
+        ensures { seat.exit.now.number ≡ seat.entry.now.number }
+    { submit_noted(rt, site, seat) };
+    for_each_mut(rt, seats, threads, &turns);
+    site.layer.finish(rt);
+}
