@@ -1,6 +1,6 @@
 -- What lines say of the bios and the commands whose lines they are.
 use Rattle.std.proofs.Common.{◌≡◌, ◌∙◌, ◌+◌, ◌<◌, ◌≤◌, ◌≢◌, cond, ℕ, zero, suc, sym, ap, refl, subst, arith, inl, Bool, true, List, [], ◌∷◌, ◌++◌, Option, Some, None, length, take, drop, get_or, count_by, map, IsPermutation, append_assoc, Contains}
-use Rattle.std.specs.Prelude.{slice_get, IfNone, IfSome}
+use Rattle.std.specs.Prelude.{slice_get, IfNone, IfSome, OnOk, Result, Ok, Err}
 use Rattle.std.specs.List.{flat_map}
 use Rattle.std.proofs.lemmas.List.{take-append-le, take_all}
 use Rattle.std.proofs.lemmas.List.Sorted.{IsPermutation-refl, IsPermutation-sym, IsPermutation-trans, IsPermutation-append, IsPermutation-append_comm}
@@ -19,7 +19,7 @@ use Rattle.blk_layer.specs.declared.lines.Line.{Line}
 use Rattle.blk_layer.specs.Inside.Lines.{is_line, times, bio_line, command_line, IsExtra}
 use Rattle.blk_bio.specs.declared.bio.BioId.{BioId}
 use Rattle.blk_layer.specs.Seats.{SubmitterSeat, WorkerSeat}
-use Rattle.blk_layer.specs.Closes.{is_bio_of, is_command, issued_bios, done_ids, done_commands, all_accepted, all_ran, AreSettled, AreCounted, Disagrees}
+use Rattle.blk_layer.specs.Closes.{is_bio_of, is_command, issued_bios, done_ids, done_commands, all_accepted, all_ran, AreAllThere, AreSettled, AreCounted, Disagrees}
 use Rattle.blk_layer.proofs.Times.{line_is, line_self}
 use Rattle.blk_layer.proofs.Same.{no_rest, each_as_many, count_moved, count_cons}
 use Rattle.blk_layer.proofs.Gathered.{done_map, mapped_at, mapped_length, id_there, own_default}
@@ -144,6 +144,12 @@ pub none_of : {X : Type 0} (o : Option X) (Q : Type 0) → o ≡ None → IfNone
 none_of None Q e h = h
 none_of (Some x) Q e h = absurd (cc)
 
+pub some_of : {X : Type 0} (o : Option X) (P : X → Type 0) (x : X) → o ≡ Some x → IfSome o P → P x
+some_of None P x e h = absurd (cc)
+some_of (Some y) P x e h =
+    let is : y ≡ x = cc in
+    subst P is h
+
 -- the bio and the command that stand at the place
 pub bio_extra_at : (xs ys : List Bio) (ls ms : List Line) (place : ℕ) (x : Bio) → ls ≡ map bio_line xs → ms ≡ map bio_line ys → IsExtra ls ms place → x ≡ get_or xs place x → count_by (is_bio_of x) ys < count_by (is_bio_of x) xs
 bio_extra_at xs ys ls ms place x one two extra is = subst (λ (b : Bio). count_by (is_bio_of b) ys < count_by (is_bio_of b) xs) (sym is) ((bio_extra xs ys ls ms place one two extra).1 x)
@@ -185,6 +191,18 @@ same_settled s t es fs left a b v w setup events submitters workers h =
 
 pub same_counted : (es fs : List Happened) (left : List Bio) (v w : List WorkerSeat) → fs ≡ es → v ≡ w → AreCounted es left v → AreCounted fs left w
 same_counted es fs left v w events workers h = subst (λ (l : List Happened). AreCounted l left w) (sym events) (subst (AreCounted es left) workers h)
+
+pub same_disagrees : (s t : Setup) (es fs : List Happened) (left : List Bio) (a b : List SubmitterSeat) (v w : List WorkerSeat) (id : BioId) → t ≡ s → fs ≡ es → a ≡ b → v ≡ w → Disagrees s es left a v id → Disagrees t fs left b w id
+same_disagrees s t es fs left a b v w id setup events submitters workers h =
+    subst (λ (x : Setup). Disagrees x fs left b w id) (sym setup) (subst (λ (l : List Happened). Disagrees s l left b w id) (sym events) (subst (λ (l : List SubmitterSeat). Disagrees s es left l w id) submitters (subst (λ (l : List WorkerSeat). Disagrees s es left a l id) workers h)))
+
+pub same_there : (m : List ℕ) (n : ℕ) (a b : List SubmitterSeat) (v w : List WorkerSeat) → a ≡ b → v ≡ w → AreAllThere m n a v → AreAllThere m n b w
+same_there m n a b v w submitters workers h = subst (λ (l : List SubmitterSeat). AreAllThere m n l w) submitters (subst (AreAllThere m n a) workers h)
+
+-- what holds anyhow holds of a value too
+pub on_ok : {X E : Type 0} (r : Result X E) (P : Type 0) → P → OnOk r P
+on_ok (Ok x) P h = h
+on_ok (Err e) P h = tt
 
 -- a list that was lent whole and came back as it was
 pub written_back : {X : Type 0} (n : ℕ) (xs new : List X) → new ≡ xs → length new ≡ n → take n (new ++ drop (length new) xs) ≡ xs

@@ -12,7 +12,11 @@ use Rattle.blk_trace.specs.Meaning.{command_of, issued_ids, waiting_of}
 use Rattle.blk_trace.specs.Inside.Seats.{issued_by}
 use Rattle.blk_layer.specs.Ways.{way_of}
 use Rattle.blk_layer.specs.Served.{done_count}
-use Rattle.blk_layer.specs.Seats.{SubmitterSeat, WorkerSeat}
+use Rattle.blk_layer.specs.Seats.{LayerShape, SubmitterSeat, WorkerSeat}
+use Rattle.blk_layer.specs.declared.closes.CloseRefused.{CloseRefused}
+use Rattle.blk_layer.specs.declared.closes.CloseRefused.TheVariants.{Whole, Differs}
+use Rattle.blk_layer.specs.declared.closes.CloseFault.{CloseFault}
+use Rattle.blk_layer.specs.declared.closes.CloseFault.TheVariants.{SeatMissing, Memory}
 
 -- one of the submitters has the number
 abbrev pub HasNumber : List SubmitterSeat → ℕ → Type 0
@@ -99,3 +103,26 @@ pub record AreCounted (events : List Happened) (left : List Bio) (workers : List
   pub as_many : length (all_ran workers) ≡ done_count events
   pub queued : List Bio
   pub left_is : left ≡ queued ++ waiting_of events
+
+-- why a layer comes back whole: a seat isn't there, or all are and memory ran out
+abbrev pub IsCloseFault : LayerShape → List SubmitterSeat → List WorkerSeat → CloseFault → Type 0
+IsCloseFault layer submitters workers SeatMissing = ¬ AreAllThere layer.map layer.workers submitters workers
+IsCloseFault layer submitters workers Memory = AreAllThere layer.map layer.workers submitters workers
+
+-- the layer and its seats as they come back are those that were handed in
+pub record AreBack (layer : LayerShape) (submitters : List SubmitterSeat) (workers : List WorkerSeat) (layer_back : LayerShape) (submitters_back : List SubmitterSeat) (workers_back : List WorkerSeat) : Type 0 where
+  pub same_layer : layer_back ≡ layer
+  pub same_submitters : submitters_back ≡ submitters
+  pub same_workers : workers_back ≡ workers
+
+-- all seats are there, and their accounts disagree with the trace and what is left on the bio, though the workers' commands are as
+-- many as the Dones
+pub record AreAtOdds (layer : LayerShape) (submitters : List SubmitterSeat) (workers : List WorkerSeat) (setup : Setup) (events : List Happened) (left : List Bio) (bio : BioId) : Type 0 where
+  pub there : AreAllThere layer.map layer.workers submitters workers
+  pub counted : AreCounted events left workers
+  pub disagree : Disagrees setup events left submitters workers bio
+
+-- what each refusal says; the seats come back in both, the layer where it isn't spent
+abbrev pub IsCloseRefusal : {S L A : Type 0} → LayerShape → List SubmitterSeat → List WorkerSeat → CloseRefused S L A → Type 0
+IsCloseRefusal layer submitters workers (Whole fault layer_back submitters_back workers_back) = IsCloseFault layer submitters workers fault × AreBack layer submitters workers layer_back submitters_back.items workers_back.items
+IsCloseRefusal layer submitters workers (Differs bio closed submitters_back workers_back) = AreAtOdds layer submitters workers closed.trace.setup closed.trace.events closed.left.items bio × (submitters_back.items ≡ submitters) × (workers_back.items ≡ workers)

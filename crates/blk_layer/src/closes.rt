@@ -1,7 +1,7 @@
 //! How a layer is closed: its accounts are settled, once and for all.
 
 ghost use Rattle.std.specs.Prelude.{ℕ, ◌≡◌, ◌<◌, ◌↔◌, IsTrue, IfOk, IfErr, OnOk, IfSome, IfNone, IsPermutation, length};
-ghost use Rattle.blk_layer.specs.Closes.{AreAllThere, HasNumber, AreSettled, AreCounted, Disagrees, DiffersAsCommand, all_ran, done_commands};
+ghost use Rattle.blk_layer.specs.Closes.{AreAllThere, HasNumber, AreSettled, AreCounted, IsCloseRefusal, Disagrees, DiffersAsCommand, all_ran, done_commands};
 ghost use Rattle.blk_layer.specs.Served.{done_count};
 
 use crate::compares::{differing_bio, differing_command};
@@ -91,6 +91,7 @@ impl<S: Scheduler, L: Named> Layer<S, L> {
         ensures there { OnOk result (AreAllThere self.map self.workers submitters.items workers.items) }
         ensures settled { IfOk result (λ c. AreSettled c.trace.setup c.trace.events c.left.items submitters.items workers.items) }
         ensures counted { IfOk result (λ c. AreCounted c.trace.events c.left.items workers.items) }
+        ensures refused { IfErr result (IsCloseRefusal self submitters.items workers.items) }
     {
         if !self.are_all_there(submitters.as_slice(), workers.as_slice()) {
             return Err(CloseRefused::Whole {
@@ -100,6 +101,22 @@ impl<S: Scheduler, L: Named> Layer<S, L> {
                 workers,
             });
         }
+        self.close_all(alloc, submitters, workers)
+    }
+
+    /// Closes a layer whose seats are all there.
+    fn close_all(
+        self,
+        alloc: S::A,
+        submitters: Vec<Submitter<L, S::A>, S::A>,
+        workers: Vec<Worker<L, S::A>, S::A>,
+    ) -> Result<Closed<S::A>, CloseRefused<S, L>>
+        requires parts { L.parts ≡ MAX_WORKERS }
+        requires there { AreAllThere self.map self.workers submitters.items workers.items }
+        ensures settled { IfOk result (λ c. AreSettled c.trace.setup c.trace.events c.left.items submitters.items workers.items) }
+        ensures counted { IfOk result (λ c. AreCounted c.trace.events c.left.items workers.items) }
+        ensures refused { IfErr result (IsCloseRefusal self submitters.items workers.items) }
+    {
         let Layer {
             kept,
             mut queues,

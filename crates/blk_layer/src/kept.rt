@@ -10,6 +10,7 @@ ghost use Rattle.blk_layer.specs.Passes.{IsUsedUp, IsRoundsEnd, IsLastIssueFault
 ghost use Rattle.blk_trace.specs.Setups.{Setup};
 ghost use Rattle.blk_layer.specs.Served.{done_count};
 ghost use Rattle.blk_layer.specs.Closes.{all_ran};
+ghost use Rattle.blk_layer.specs.declared.layer.TheConstants.{MAX_WORKERS};
 
 use crate::issues::{LayerIssueFault, of_core};
 use crate::moves::move_first;
@@ -36,7 +37,7 @@ pub(crate) struct Kept<S: Scheduler, L: Named> {
     pub(crate) finishing: bool,
     ghost named: { core.setup ≡ L.setup },
     ghost counted: { book.total ≡ done_count core.events },
-    ghost all_out: { rest.parts + L.workers ≡ 64 },
+    ghost all_out: { rest.parts + L.workers ≡ MAX_WORKERS },
     ghost none: { rest.amount ≡ 0 },
 }
 
@@ -46,7 +47,7 @@ impl<S: Scheduler, L: Named> Kept<S, L> {
         requires named { core.setup ≡ L.setup }
         requires empty { core.events ≡ [] }
         requires total { book.total ≡ 0 }
-        requires parts { rest.parts + L.workers ≡ 64 }
+        requires parts { rest.parts + L.workers ≡ MAX_WORKERS }
         requires amount { rest.amount ≡ 0 }
         ensures core { result.core ≡ core }
         ensures open { result.finishing ≡ false }
@@ -176,7 +177,7 @@ impl<S: Scheduler, L: Named> Kept<S, L> {
 
     /// Audits the ledger: all the workers' accounts together have as many commands as the trace has Dones.
     pub(crate) fn audit(&mut self, workers: &mut [Worker<L, S::A>])
-        requires parts { L.parts ≡ 64 }
+        requires parts { L.parts ≡ MAX_WORKERS }
         requires all { length workers.old ≡ L.workers }
         ensures counted { length (all_ran workers.old) ≡ done_count self.old.core.events }
         ensures core { self.new.core ≡ self.old.core }

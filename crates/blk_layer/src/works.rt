@@ -13,12 +13,13 @@ use crate::seats::{Submitter, Worker};
 use blk_core::{BackFault, CoreFault, DepthFault, NotIssued, TickFault};
 use blk_plug::Plug;
 use blk_sched::Scheduler;
+use blk_soft::MAX_DEPTH;
 use edd_check::Command;
 use std::sync::Wait;
 use std::sync::ledger::Share;
 
-/// The most requests that a drain moves from one software queue.
-pub const MAX_MOVES: u64 = 1024;
+/// The most requests that a drain moves from one software queue: as many as one can hold.
+pub const MAX_MOVES: u64 = MAX_DEPTH;
 
 /// A drain that ended at a request that the core refused.
 #[derive(Clone, Copy, Debug, PartialEq, Eq)]

@@ -3,8 +3,11 @@
 ghost use Rattle.std.specs.Prelude.{◌↔◌, IsTrue};
 ghost use Rattle.blk_load.specs.Numbers.{IsLoad};
 
-/// The most submitters.
-pub const MOST_SUBMITTERS: u64 = 64;
+use blk_bio::MAX_SOFT_QUEUES;
+use blk_trace::MAX_DEPTH;
+
+/// The most submitters: as many as software queues.
+pub const MOST_SUBMITTERS: u64 = MAX_SOFT_QUEUES;
 
 /// The most workers.
 pub const MOST_WORKERS: u64 = 16;
@@ -13,7 +16,7 @@ pub const MOST_WORKERS: u64 = 16;
 pub const MOST_BIOS: u64 = 2000;
 
 /// The most tags.
-pub const MOST_DEPTH: u64 = 256;
+pub const MOST_DEPTH: u64 = MAX_DEPTH;
 
 /// How much load there is, and on what.
 #[derive(Clone, Copy, Debug, PartialEq, Eq)]

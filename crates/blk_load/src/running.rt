@@ -2,6 +2,7 @@
 
 ghost use Rattle.std.specs.Prelude.{◌≡◌, ◌<◌, ◌≤◌, ◌+◌, [], All, IfOk, OnOk, IfErr, length, vec_len, Ok};
 ghost use Rattle.blk_sched.specs.Meaning.{at_start};
+ghost use Rattle.blk_load.specs.declared.numbers.TheConstants.{MOST_BIOS, MOST_DEPTH, MOST_SUBMITTERS};
 
 use crate::counts::{accepted, served};
 use crate::fault::{LoadFault, first_of};
@@ -104,7 +105,7 @@ fn in_turn(alloc: Global, count: u64, below: u64) -> Result<Vec<u8>, AllocError>
 /// What the core is set up for.
 fn setup_of(depth: u64, hw: u8) -> Setup
     requires some_tags { 1 ≤ depth }
-    requires few_tags { depth ≤ 256 }
+    requires few_tags { depth ≤ MOST_DEPTH }
     requires some_queues { 1 ≤ hw }
     requires few_queues { hw ≤ 16 }
     ensures depth { result.depth ≡ depth }
@@ -134,8 +135,8 @@ fn on_layer<R: Threads + Wait + Sync, S: Scheduler<A = Global> + Send, L: Named 
     requires setup { core.setup ≡ L.setup }
     requires workers { L.workers ≡ vec_len queues }
     requires empty { core.events ≡ [] }
-    requires few_submitters { load.submitters ≤ 64 }
-    requires few_bios { load.bios ≤ 2000 }
+    requires few_submitters { load.submitters ≤ MOST_SUBMITTERS }
+    requires few_bios { load.bios ≤ MOST_BIOS }
     ensures settled { IfOk result (λ s. s.accepted ≡ s.served + s.left) }
 {
     let limits = core.trace().setup().limits();

@@ -1,6 +1,7 @@
 //! What the threads of a load share.
 
 ghost use Rattle.std.specs.Prelude.{◌≡◌, ◌≤◌};
+ghost use Rattle.blk_load.specs.declared.numbers.TheConstants.{MOST_BIOS, MOST_SUBMITTERS};
 
 use crate::fault::{LoadFault, first_of};
 use crate::numbers::Load;
@@ -62,16 +63,16 @@ pub(crate) struct Site<S: Scheduler<A = Global>, L: Named> {
     /// How much load there is.
     pub(crate) load: Load,
     ghost named: { limits ≡ L.setup.limits },
-    ghost few_submitters: { load.submitters ≤ 64 },
-    ghost few_bios: { load.bios ≤ 2000 },
+    ghost few_submitters: { load.submitters ≤ MOST_SUBMITTERS },
+    ghost few_bios: { load.bios ≤ MOST_BIOS },
 }
 
 impl<S: Scheduler<A = Global>, L: Named> Site<S, L> {
     /// What threads share over a layer, none of which has met a fault.
     pub(crate) fn new(layer: Layer<S, L>, alloc: Global, limits: Limits, load: Load) -> Site<S, L>
         requires named { limits ≡ L.setup.limits }
-        requires few_submitters { load.submitters ≤ 64 }
-        requires few_bios { load.bios ≤ 2000 }
+        requires few_submitters { load.submitters ≤ MOST_SUBMITTERS }
+        requires few_bios { load.bios ≤ MOST_BIOS }
         ensures { result.layer ≡ layer }
     {
         Site {

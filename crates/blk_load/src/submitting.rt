@@ -1,6 +1,7 @@
 //! What submitters do.
 
 ghost use Rattle.std.specs.Prelude.{◌≡◌, ◌<◌, ◌≤◌, All, IfOk, length};
+ghost use Rattle.blk_load.specs.declared.numbers.TheConstants.{MOST_BIOS, MOST_SUBMITTERS};
 
 use crate::fault::LoadFault;
 use crate::numbers::Load;
@@ -24,8 +25,8 @@ const STRIDE: u64 = 16;
 
 /// The bio of this number of a submitter, of so many submitters: they write in turn, and every other bio of each is a write.
 fn nth_bio(submitters: u64, submitter: u8, serial: u64) -> Bio
-    requires submitters { submitters ≤ 64 }
-    requires serial { serial < 2000 }
+    requires submitters { submitters ≤ MOST_SUBMITTERS }
+    requires serial { serial < MOST_BIOS }
 {
     let id = BioId { submitter, serial };
     let dir = if serial % 2 == 0 {
@@ -42,8 +43,8 @@ fn nth_bio(submitters: u64, submitter: u8, serial: u64) -> Bio
 
 /// Adds bios from this number on to a plug, until it is full or there are no more, and answers the number of the next one.
 fn fill(plug: &mut Plug, load: &Load, submitter: u8, from: u64) -> Result<u64, LoadFault>
-    requires submitters { load.now.submitters ≤ 64 }
-    requires bios { load.now.bios ≤ 2000 }
+    requires submitters { load.now.submitters ≤ MOST_SUBMITTERS }
+    requires bios { load.now.bios ≤ MOST_BIOS }
     ensures limits { plug.new.limits ≡ plug.old.limits }
 {
     for serial in from..load.bios {

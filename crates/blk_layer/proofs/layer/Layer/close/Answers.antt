@@ -1,44 +1,20 @@
-use Rattle.std.proofs.Common.{◌≡◌, ◌∙◌, sym, ap, subst, rules, arith, length, List, None}
-use Rattle.blk_layer.specs.Seats.{LayerShape, SubmitterSeat, WorkerSeat}
-use Rattle.blk_layer.specs.Served.{done_count}
-use Rattle.blk_layer.specs.Closes.{AreAllThere, AreSettled, AreCounted, all_ran}
-use Rattle.blk_layer.proofs.Agreed.{none_of, same_settled, same_counted, written_back}
-use Rattle.blk_core.specs.State.{CoreState}
+use Rattle.std.proofs.Common.{◌≡◌, sym, refl, rules, IsTrue, cond}
+use Rattle.blk_layer.specs.Closes.{AreAllThere}
+use Rattle.blk_layer.proofs.Agreed.{same_there, on_ok}
 use Rattle.blk_layer.proofs.layer.Layer.close.Goals as goal
 
-pub audit-requires-clause-all : goal.audit-requires-clause-all
-audit-requires-clause-all g c =
-    let there : AreAllThere c.args.self.map c.args.self.workers c.as_slice.result.now c.as_slice-2.result.now = c.are_all_there.ensures.0 c.if-not-are_all_there.false in
-    let count : c.self.inside.workers ≡ c.args.self.workers = ap (λ (l : LayerShape). l.workers) c.self.view_is in
-    omega (arith, ap length c.as_mut_slice.ensures.value, ap length c.as_slice-2.ensures.value, there.worker_count, count, c.self.invariant.3)
+pub returns-then-not-are_all_there-clause-refused : goal.returns-then-not-are_all_there-clause-refused
+returns-then-not-are_all_there-clause-refused g c = (
+  λ there. let seen = same_there c.args.self.map c.args.self.workers c.args.submitters.items c.as_slice.result.now c.args.workers.items c.as_slice-2.result.now (sym c.as_slice.ensures.value) (sym c.as_slice-2.ensures.value) there in
+      let yes : IsTrue c.are_all_there.result = c.are_all_there.ensures.1 seen in
+      search (rules, yes),
+  record { same_layer = refl; same_submitters = refl; same_workers = refl },
+)
 
-pub settle-settled-requires : goal.settle-settled-requires
-settle-settled-requires g c =
-    let same : c.as_slice-4.result.now ≡ c.args.workers.items =
-    c.as_slice-4.ensures.value ∙ written_back c.args.workers.len c.args.workers.items c.audit.new.workers (c.audit.ensures.workers ∙ c.as_mut_slice.ensures.value) (omega (arith, ap length c.audit.ensures.workers, ap length c.as_mut_slice.ensures.value, c.as_mut_slice.ensures.len)) in
-    let mine : c.as_mut_slice.result.now ≡ c.args.workers.items = c.as_mut_slice.ensures.value in
-    record {
-      counted = ap (λ (l : List WorkerSeat). length (all_ran l)) (same ∙ sym mine) ∙ c.audit.ensures.counted ∙ sym (ap (λ (s : CoreState). done_count s.events) c.audit.ensures.core);
-    }
+pub close_all-requires-clause-there : goal.close_all-requires-clause-there
+close_all-requires-clause-there g c = same_there c.args.self.map c.args.self.workers c.as_slice.result.now c.args.submitters.items c.as_slice-2.result.now c.args.workers.items c.as_slice.ensures.value c.as_slice-2.ensures.value (c.are_all_there.ensures.0 c.if-not-are_all_there.false)
 
-pub returns-in-None-clause-there : goal.returns-in-None-clause-there
-returns-in-None-clause-there g c =
-    let there : AreAllThere c.args.self.map c.args.self.workers c.as_slice.result.now c.as_slice-2.result.now = c.are_all_there.ensures.0 c.if-not-are_all_there.false in
-    subst (AreAllThere c.args.self.map c.args.self.workers c.args.submitters.items) c.as_slice-2.ensures.value
-    (subst (λ (l : List SubmitterSeat). AreAllThere c.args.self.map c.args.self.workers l c.as_slice-2.result.now) c.as_slice.ensures.value there)
-
-pub returns-in-None-clause-settled : goal.returns-in-None-clause-settled
-returns-in-None-clause-settled g c =
-    let workers : c.as_slice-4.result.now ≡ c.args.workers.items =
-    c.as_slice-4.ensures.value ∙ written_back c.args.workers.len c.args.workers.items c.audit.new.workers (c.audit.ensures.workers ∙ c.as_mut_slice.ensures.value) (omega (arith, ap length c.audit.ensures.workers, ap length c.as_mut_slice.ensures.value, c.as_mut_slice.ensures.len)) in
-    let submitters : c.as_slice-3.result.now ≡ c.args.submitters.items = search rules in
-    let none : c.in-Ok.field-0.differs ≡ None = search rules in
-    same_settled c.audit.new.self.core.setup c.into_trace.result.setup c.audit.new.self.core.events c.into_trace.result.events c.in-Ok.field-0.left.items c.as_slice-3.result.now c.args.submitters.items c.as_slice-4.result.now c.args.workers.items
-    c.into_trace.ensures.setup c.into_trace.ensures.events submitters workers
-    (none_of c.in-Ok.field-0.differs (AreSettled c.audit.new.self.core.setup c.audit.new.self.core.events c.in-Ok.field-0.left.items c.as_slice-3.result.now c.as_slice-4.result.now) none c.in-Ok.ensures.none)
-
-pub returns-in-None-clause-counted : goal.returns-in-None-clause-counted
-returns-in-None-clause-counted g c =
-    let workers : c.as_slice-4.result.now ≡ c.args.workers.items =
-    c.as_slice-4.ensures.value ∙ written_back c.args.workers.len c.args.workers.items c.audit.new.workers (c.audit.ensures.workers ∙ c.as_mut_slice.ensures.value) (omega (arith, ap length c.audit.ensures.workers, ap length c.as_mut_slice.ensures.value, c.as_mut_slice.ensures.len)) in
-    same_counted c.audit.new.self.core.events c.into_trace.result.events c.in-Ok.field-0.left.items c.as_slice-4.result.now c.args.workers.items c.into_trace.ensures.events workers c.in-Ok.ensures.counted
+pub returns-clause-there : goal.returns-clause-there
+returns-clause-there g c =
+    let there : AreAllThere c.args.self.map c.args.self.workers c.args.submitters.items c.args.workers.items = same_there c.args.self.map c.args.self.workers c.as_slice.result.now c.args.submitters.items c.as_slice-2.result.now c.args.workers.items c.as_slice.ensures.value c.as_slice-2.ensures.value (c.are_all_there.ensures.0 c.if-not-are_all_there.false) in
+    on_ok c.close_all.result (AreAllThere c.args.self.map c.args.self.workers c.args.submitters.items c.args.workers.items) there
