@@ -1,7 +1,6 @@
 -- What the index says is said of the scheduler.
-use Rattle.std.proofs.Common.{◌≡◌, ◌<◌, ◌≤◌, ◌+◌, ℕ, Bool, true, false, cond, sym, ap, ◌∙◌, refl, arith, Some, None, Option, List}
-use Rattle.std.specs.Prelude.{nat_le}
-use Rattle.std.proofs.lemmas.Bool.{leb-true, leb-false}
+use Rattle.std.proofs.Common.{◌≡◌, ℕ, Bool, true, false, sym, ap, ◌∙◌, refl, Some, None, Option, List}
+use Rattle.std.specs.Prelude.{IfNone}
 use Rattle.std.specs.FinMap as map
 use Rattle.blk_bio.specs.declared.bio.Dir.{Dir}
 use Rattle.blk_bio.specs.declared.bio.Dir.TheVariants.{Read, Write}
@@ -14,10 +13,8 @@ use Rattle.blk_sched.specs.Meaning.{Waiting, Pending, Meaning, HasCandidate, Joi
 use Rattle.blk_sched.specs.Fits.{IsNewestFit}
 use Rattle.blk_sched.specs.Maps.{first_found, none_found}
 use Rattle.blk_sched.specs.Index.{IsOldest, NoneOf, IsJoined}
-use Rattle.blk_deadline.specs.Choice.{serves_all, is_same, is_of, oldest_of, next_of, in_batch, batch_or, new_batch, taken, deadline_choice, meaning_with}
+use Rattle.blk_deadline.specs.Choice.{serves_all, is_same, is_of, oldest_of, meaning_with}
 use Rattle.blk_sched.specs.Meaning.{Picks, OpenPicks, opened}
-use Rattle.blk_deadline.specs.declared.Turn.{Turn}
-use Rattle.blk_deadline.specs.declared.Tunables.{Tunables}
 
 pub candidate_of : (m : Meaning) (hw : ℕ) (limits : Limits) (newcomer : List Bio) (id : ℕ) (side : Side) → IsNewestFit limits m.front (map.get m.pending) newcomer id side → HasCandidate serves_all hw limits newcomer m id side
 candidate_of m hw limits newcomer id side best = (
@@ -76,39 +73,11 @@ none_waits found reads writes k w there = elim (dir_of w.bios) as (λ d. dir_of 
   | Write ↦ λ e. writes k w there e
 ] refl
 
--- ---- the choice
+-- ---- the next one
 
-module _ (tunables : Tunables) (turn : Turn) (now : ℕ) (ws : List Waiting) where
-  nexts : Dir → Option Waiting
-  nexts dir = next_of dir turn.last ws
-
-  pub goes_on : (w : Waiting) → Some w ≡ in_batch tunables.fifo_batch turn (λ dir. next_of dir turn.last ws) → deadline_choice tunables turn now ws ≡ Some (taken w (turn.batching + 1) turn.starved)
-  goes_on w is = ap (batch_or tunables turn now (λ dir. oldest_of dir ws) (λ dir. next_of dir turn.last ws)) (sym is)
-
-  pub begins : (reads writes : Option Waiting) → None ≡ in_batch tunables.fifo_batch turn (λ dir. next_of dir turn.last ws) → reads ≡ oldest_of Read ws → writes ≡ oldest_of Write ws → deadline_choice tunables turn now ws ≡ new_batch tunables.writes_starved turn.starved now reads writes (λ dir. next_of dir turn.last ws)
-  begins reads writes is r w =
-      ap (batch_or tunables turn now (λ dir. oldest_of dir ws) (λ dir. next_of dir turn.last ws)) (sym is)
-      ∙ ap (λ o. new_batch tunables.writes_starved turn.starved now o (oldest_of Write ws) (λ dir. next_of dir turn.last ws)) (sym r)
-      ∙ ap (λ o. new_batch tunables.writes_starved turn.starved now reads o (λ dir. next_of dir turn.last ws)) (sym w)
-
-pub turned : (m : Pending) (q : Waiting) (b s : ℕ) (r : ℕ × Turn) (x : Option (Waiting × Turn)) → r ≡ (q.id, (taken q b s).1) → map.get m q.id ≡ Some q → x ≡ Some (taken q b s) → (w : Waiting) × (map.get m r.0 ≡ Some w) × (x ≡ Some (w, r.1))
-turned m q b s r x is there choice = (
-  q,
-  ap (λ (y : ℕ × Turn). map.get m y.0) is ∙ there,
-  choice ∙ ap (λ (y : ℕ × Turn). let z : Option (Waiting × Turn) = Some (q, y.1) in z) (sym is),
-)
-
-pub le_holds : (a b : ℕ) → a ≤ b → nat_le a b ≡ true
-le_holds a b h = elim (nat_le a b) as (λ t. nat_le a b ≡ t → t ≡ true) [
-  | true ↦ λ _. refl
-  | false ↦ λ e. let more = leb-false a b e in absurd (omega arith)
-] refl
-
-pub le_fails : (a b : ℕ) → b < a → nat_le a b ≡ false
-le_fails a b h = elim (nat_le a b) as (λ t. nat_le a b ≡ t → t ≡ false) [
-  | true ↦ λ e. let less = leb-true a b e in absurd (omega arith)
-  | false ↦ λ _. refl
-] refl
+pub if_none : {X : Type 0} (r : Option X) {P Q : Type 0} → IfNone r P → (P → Q) → IfNone r Q
+if_none None h f = f h
+if_none (Some x) h f = tt
 
 -- ---- the pick
 

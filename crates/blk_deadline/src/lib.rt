@@ -97,10 +97,10 @@ impl<A: Allocator + Clone> Deadline<A> {
         self.index.get(id)
     }
 
-    /// The next request of a direction.
-    fn next(&self, dir: Dir) -> Option<&Queued<A>>
-        ensures value { option_copied result ≡ next_of dir self.now.turn.last (map.values self.now.index) }
-        ensures there { IfSome result (λ q. map.get self.now.index q.now.id ≡ Some q.now) }
+    /// The id of the next request of a direction.
+    fn next(&self, dir: Dir) -> Option<u64>
+        ensures some { IfSome result (λ id. (w : Waiting) × (map.get self.now.index id ≡ Some w) × (next_of dir self.now.turn.last (map.values self.now.index) ≡ Some w)) }
+        ensures none { IfNone result (next_of dir self.now.turn.last (map.values self.now.index) ≡ None) }
     {
         let Some(last) = self.turn.last else {
             return None;
@@ -108,16 +108,13 @@ impl<A: Allocator + Clone> Deadline<A> {
         if last.dir != dir {
             return None;
         }
-        let Some(id) = self.index.next(dir, last.first, last.id) else {
-            return None;
-        };
-        self.index.get(id)
+        self.index.next(dir, last.first, last.id)
     }
 
-    /// The next request of the batch, if it goes on.
-    fn in_batch(&self) -> Option<&Queued<A>>
-        ensures value { option_copied result ≡ in_batch self.now.tunables.fifo_batch self.now.turn (λ dir. next_of dir self.now.turn.last (map.values self.now.index)) }
-        ensures there { IfSome result (λ q. map.get self.now.index q.now.id ≡ Some q.now) }
+    /// The id of the next request of the batch, if it goes on.
+    fn in_batch(&self) -> Option<u64>
+        ensures some { IfSome result (λ id. (w : Waiting) × (map.get self.now.index id ≡ Some w) × (in_batch self.now.tunables.fifo_batch self.now.turn (λ dir. next_of dir self.now.turn.last (map.values self.now.index)) ≡ Some w)) }
+        ensures none { IfNone result (in_batch self.now.tunables.fifo_batch self.now.turn (λ dir. next_of dir self.now.turn.last (map.values self.now.index)) ≡ None) }
         ensures room { OnSome result (self.now.turn.batching < self.now.tunables.fifo_batch) }
     {
         let Some(last) = self.turn.last else {
@@ -129,24 +126,23 @@ impl<A: Allocator + Clone> Deadline<A> {
         self.next(last.dir)
     }
 
-    /// The oldest of a direction where it is due or there is no next one, and otherwise the next one.
-    fn due_or_next<'a>(&'a self, now: u64, oldest: &'a Queued<A>, dir: Dir) -> &'a Queued<A>
+    /// The id of the oldest of a direction where it is due or there is no next one, and otherwise of the next one.
+    fn due_or_next(&self, now: u64, oldest: &Queued<A>, dir: Dir) -> u64
         requires { map.get self.now.index oldest.now.id ≡ Some oldest.now }
-        ensures value { result.now ≡ due_or_next now oldest.now (next_of dir self.now.turn.last (map.values self.now.index)) }
-        ensures there { map.get self.now.index result.now.id ≡ Some result.now }
+        ensures { map.get self.now.index result ≡ Some (due_or_next now oldest.now (next_of dir self.now.turn.last (map.values self.now.index))) }
     {
         if oldest.due <= now {
-            return oldest;
+            return oldest.id;
         }
         match self.next(dir) {
             Some(next) => next,
-            None => oldest,
+            None => oldest.id,
         }
     }
 
-    /// The choice, by its id, and where the scheduler stands then.
-    fn choose(&self, now: u64) -> Option<(u64, Turn)>
-        ensures some { IfSome result (λ r. (w : Waiting) × (map.get self.now.index r.0 ≡ Some w) × (deadline_choice self.now.tunables self.now.turn now (map.values self.now.index) ≡ Some (w, r.1))) }
+    /// The choice, by its id, how many went in the batch then, and how often reads went first.
+    fn choose(&self, now: u64) -> Option<(u64, u16, u16)>
+        ensures some { IfSome result (λ r. (w : Waiting) × (map.get self.now.index r.0 ≡ Some w) × (deadline_choice self.now.tunables self.now.turn now (map.values self.now.index) ≡ Some (taken w r.1 r.2))) }
         ensures none { IfNone result (deadline_choice self.now.tunables self.now.turn now (map.values self.now.index) ≡ None) }
         ensures all { IfNone result ((k : ℕ) (w : Waiting) → map.get self.now.index k ≡ Some w → ⊥) }
     {
@@ -154,42 +150,39 @@ impl<A: Allocator + Clone> Deadline<A> {
         let batching = self.turn.batching;
         let limit = self.tunables.fifo_batch;
         let patience = self.tunables.writes_starved;
-        if let Some(queued) = self.in_batch() {
+        if let Some(id) = self.in_batch() {
             prove!(batching < limit);
-            return Some(turn_of(queued, batching + 1, starved));
+            return Some((id, batching + 1, starved));
         }
         match (self.oldest(Dir::Read), self.oldest(Dir::Write)) {
             (None, None) => None,
-            (Some(read), None) => Some(turn_of(self.due_or_next(now, read, Dir::Read), 1, starved)),
-            (None, Some(write)) => Some(turn_of(self.due_or_next(now, write, Dir::Write), 1, 0)),
+            (Some(read), None) => Some((self.due_or_next(now, read, Dir::Read), 1, starved)),
+            (None, Some(write)) => Some((self.due_or_next(now, write, Dir::Write), 1, 0)),
             (Some(read), Some(write)) => {
                 if starved >= patience {
-                    Some(turn_of(self.due_or_next(now, write, Dir::Write), 1, 0))
+                    Some((self.due_or_next(now, write, Dir::Write), 1, 0))
                 } else {
-                    Some(turn_of(self.due_or_next(now, read, Dir::Read), 1, starved + 1))
+                    Some((self.due_or_next(now, read, Dir::Read), 1, starved + 1))
                 }
             }
         }
     }
 }
 
-/// Where the scheduler stands after a pick, and the id of what is picked.
-fn turn_of<A: Allocator + Clone>(queued: &Queued<A>, batching: u16, starved: u16) -> (u64, Turn)
-    ensures { result ≡ (queued.now.id, (taken queued.now batching starved).1) }
+/// Where the scheduler stands after a pick.
+fn turn_of<A: Allocator + Clone>(queued: &Queued<A>, batching: u16, starved: u16) -> Turn
+    ensures { result ≡ (taken queued.now batching starved).1 }
 {
     let last = Last {
         dir: queued.request.dir(),
         first: queued.request.first(),
         id: queued.id,
     };
-    (
-        queued.id,
-        Turn {
-            last: Some(last),
-            batching,
-            starved,
-        },
-    )
+    Turn {
+        last: Some(last),
+        batching,
+        starved,
+    }
 }
 
 impl<A: Allocator + Clone> Scheduler for Deadline<A> {
@@ -259,14 +252,14 @@ impl<A: Allocator + Clone> Scheduler for Deadline<A> {
         ensures own { (w : Waiting) → IsTrue (serves_all w.hw w) }
     {
         let _ = hw;
-        let Some((id, turn)) = self.choose(now) else {
+        let Some((id, batching, starved)) = self.choose(now) else {
             return None;
         };
         let Some(queued) = self.index.remove(id) else {
             unreachable!()
         };
         self.open_picks.open(queued.request.dir());
-        self.turn = turn;
+        self.turn = turn_of(&queued, batching, starved);
         Some(queued)
     }
 
