@@ -1,7 +1,11 @@
 //! A list of events that is legal, with a setup.
 
-ghost use Rattle.std.specs.Prelude.{ℕ, ◌≡◌, ◌≢◌, ◌↔◌, ◌++◌, ◌+◌, ◌≤◌, ◌<◌, ◌∷◌, [], IsTrue, IfOk, IfErr, OnOk, OnErr, length, map};
+ghost use Rattle.std.specs.Prelude.{ℕ, ◌≡◌, ◌≢◌, ◌↔◌, ◌++◌, ◌+◌, ◌≤◌, ◌<◌, ◌∷◌, [], IsTrue, IfOk, IfErr, OnOk, OnErr, length, map, nat_eq};
 ghost use Rattle.std.specs.Option.{option_copied};
+ghost use Rattle.std.specs.HashMap as hash;
+ghost use Rattle.std.specs.HashSet as hash_set;
+ghost use Rattle.blk_bio.specs.declared.bio.BioId.{BioId as Name};
+ghost use Rattle.blk_trace.specs.Inside.Kept.{is_bio};
 ghost use Rattle.blk_trace.specs.Legal.{IsLegalTrace};
 ghost use Rattle.blk_trace.specs.Rules.{IsUnbroken};
 ghost use Rattle.blk_trace.specs.Events.{round_of, open_count};
@@ -207,8 +211,8 @@ impl<A: Allocator + Clone> Trace<A> {
         ensures err { OnErr result (self.new ≡ self.old) }
     {
         self.events.reserve(self.open as usize + 1)?;
-        self.known.reserve(1)?;
-        self.ids.reserve(bios as usize)?;
+        make_room_in_known(&mut self.known)?;
+        make_room_in_ids(&mut self.ids, bios as usize)?;
         self.prepared = Prepared::Bios(bios);
         Ok(())
     }
@@ -270,4 +274,37 @@ impl<A: Allocator + Clone> Trace<A> {
     {
         self.open
     }
+}
+
+/// Makes room for one request more. A full table grows to four times as many, since each growth puts in anew all that it has.
+#[inline(always)]
+fn make_room_in_known<A: Allocator + Clone>(
+    known: &mut HashMap<u64, Known, Hashing, A>,
+) -> Result<(), AllocError>
+    ensures same { (k : ℕ) → hash.get nat_eq known.new k ≡ hash.get nat_eq known.old k }
+    ensures ok { OnOk result (1 ≤ hash.spare known.new) }
+    ensures spare { hash.spare known.old ≤ hash.spare known.new }
+{
+    let len = known.len();
+    if len < known.capacity() {
+        return Ok(());
+    }
+    known.reserve(len.saturating_mul(3).max(1))
+}
+
+/// Makes room for the ids of as many bios more, in the same way.
+#[inline(always)]
+fn make_room_in_ids<A: Allocator + Clone>(
+    ids: &mut HashSet<BioId, Hashing, A>,
+    bios: usize,
+) -> Result<(), AllocError>
+    ensures same { (id : Name) → hash_set.contains is_bio ids.new id ≡ hash_set.contains is_bio ids.old id }
+    ensures ok { OnOk result (bios ≤ hash_set.spare ids.new) }
+    ensures spare { hash_set.spare ids.old ≤ hash_set.spare ids.new }
+{
+    let len = ids.len();
+    if bios <= ids.capacity().saturating_sub(len) {
+        return Ok(());
+    }
+    ids.reserve(len.saturating_mul(3).max(bios))
 }
