@@ -98,6 +98,7 @@ impl<A: Allocator + Clone> Deadline<A> {
     }
 
     /// The id of the next request of a direction.
+    #[inline(always)]
     fn next(&self, dir: Dir) -> Option<u64>
         ensures some { IfSome result (λ id. (w : Waiting) × (map.get self.now.index id ≡ Some w) × (next_of dir self.now.turn.last (map.values self.now.index) ≡ Some w)) }
         ensures none { IfNone result (next_of dir self.now.turn.last (map.values self.now.index) ≡ None) }
@@ -112,6 +113,7 @@ impl<A: Allocator + Clone> Deadline<A> {
     }
 
     /// The id of the next request of the batch, if it goes on.
+    #[inline(always)]
     fn in_batch(&self) -> Option<u64>
         ensures some { IfSome result (λ id. (w : Waiting) × (map.get self.now.index id ≡ Some w) × (in_batch self.now.tunables.fifo_batch self.now.turn (λ dir. next_of dir self.now.turn.last (map.values self.now.index)) ≡ Some w)) }
         ensures none { IfNone result (in_batch self.now.tunables.fifo_batch self.now.turn (λ dir. next_of dir self.now.turn.last (map.values self.now.index)) ≡ None) }
@@ -141,6 +143,7 @@ impl<A: Allocator + Clone> Deadline<A> {
     }
 
     /// The choice, by its id, how many went in the batch then, and how often reads went first.
+    #[inline(always)]
     fn choose(&self, now: u64) -> Option<(u64, u16, u16)>
         ensures some { IfSome result (λ r. (w : Waiting) × (map.get self.now.index r.0 ≡ Some w) × (deadline_choice self.now.tunables self.now.turn now (map.values self.now.index) ≡ Some (taken w r.1 r.2))) }
         ensures none { IfNone result (deadline_choice self.now.tunables self.now.turn now (map.values self.now.index) ≡ None) }
@@ -196,6 +199,7 @@ impl<A: Allocator + Clone> Scheduler for Deadline<A> {
 
     ghost chooses = { deadline_chooses };
 
+    #[inline(always)]
     fn enter(&mut self, slot: &mut Option<Queued<A>>) -> Result<(), AllocError> {
         let Some(queued) = slot.take() else {
             unreachable!()
@@ -209,6 +213,7 @@ impl<A: Allocator + Clone> Scheduler for Deadline<A> {
         }
     }
 
+    #[inline(always)]
     fn candidate(&self, hw: u8, limits: &Limits, newcomer: &Request<A>) -> Option<(u64, Side)> {
         let _ = hw;
         self.index
@@ -238,6 +243,7 @@ impl<A: Allocator + Clone> Scheduler for Deadline<A> {
     }
 
     /// Hands out the request that the three rules choose, and stands then as they say.
+    #[inline(always)]
     fn pick(&mut self, hw: u8, now: u64) -> Option<Queued<A>>
         requires hw { hw < MAX_QUEUES }
         requires round { now ≡ (meaning_of self.old).round }

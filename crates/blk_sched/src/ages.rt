@@ -82,6 +82,7 @@ fn first_of<A: Allocator + Clone>(ids: &VecDeque<u64, A>) -> Option<u64>
 }
 
 /// Puts an id into a list in rising order. On a refusal nothing is changed.
+#[inline(always)]
 fn put_id<A: Allocator + Clone>(ids: &mut VecDeque<u64, A>, id: u64) -> Result<(), AllocError>
     ensures ok { OnOk result (GoUp ids.old.items → IsPut ids.old.items id ids.new.items) }
     ensures same { OnErr result (ids.new.items ≡ ids.old.items) }
@@ -148,6 +149,7 @@ fn place_after<A: Allocator + Clone>(ids: &VecDeque<u64, A>, id: u64) -> usize
 }
 
 /// Puts an id in at a place; the last place costs least. On a refusal nothing is changed.
+#[inline(always)]
 fn put_at<A: Allocator + Clone>(
     ids: &mut VecDeque<u64, A>,
     place: usize,

@@ -63,6 +63,7 @@ impl<A: Allocator + Clone> Order<A> {
     }
 
     /// Of a direction's requests with their first sectors and ids the least that is above `first` and `last`.
+    #[inline(always)]
     pub fn next(&self, dir: Dir, first: u64, last: u64) -> Option<u64>
         ensures some { IfSome result (λ id. (found : ℕ → Option Waiting) → AreSpots first_at found (order_in self.now) → IsNext dir first last found id) }
         ensures none { IfNone result ((found : ℕ → Option Waiting) → AreSpots first_at found (order_in self.now) → NoNext dir first last found) }
@@ -75,6 +76,7 @@ impl<A: Allocator + Clone> Order<A> {
 }
 
 /// Puts a pair in. On a refusal nothing is changed.
+#[inline(always)]
 fn put_pair<A: Allocator + Clone>(
     pairs: &mut BTreeSet<(u64, u64), A>,
     pair: (u64, u64),

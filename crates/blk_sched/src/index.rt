@@ -78,6 +78,7 @@ impl<A: Allocator + Clone> Index<A> {
 
     /// Adds a request whose id isn't there. Refused for want of memory alone: nothing is changed then, and the
     /// request comes back.
+    #[inline(always)]
     pub fn insert(&mut self, queued: Queued<A>) -> Result<(), Queued<A>>
         requires { map.get self.old queued.id ≡ None }
         ensures ok { OnOk result (self.new ≡ map.insert self.old queued.id queued) }
@@ -105,6 +106,7 @@ impl<A: Allocator + Clone> Index<A> {
     }
 
     /// Takes out the request of an id. It takes no memory.
+    #[inline(always)]
     pub fn remove(&mut self, id: u64) -> Option<Queued<A>>
         ensures value { result ≡ map.get self.old id }
         ensures named { (k : ℕ) (w : Waiting) → map.get self.old k ≡ Some w → w.id ≡ k }
@@ -121,6 +123,7 @@ impl<A: Allocator + Clone> Index<A> {
 
     /// The newest request that a newcomer fits, by its id, and the side. The front is tried only where `front` allows
     /// it. Only requests that the newcomer touches are looked at, and none of these where each has too many sectors.
+    #[inline(always)]
     pub fn candidate(
         &self,
         newcomer: &Request<A>,

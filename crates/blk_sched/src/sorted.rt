@@ -69,6 +69,7 @@ impl<A: Allocator + Clone> Sorted<A> {
 
     /// Adds a request whose id isn't there. Refused for want of memory alone: nothing is changed then, and the
     /// request comes back.
+    #[inline(always)]
     pub fn insert(&mut self, queued: Queued<A>) -> Result<(), Queued<A>>
         requires { map.get self.old queued.id ≡ None }
         ensures ok { OnOk result (self.new ≡ map.insert self.old queued.id queued) }
@@ -89,6 +90,7 @@ impl<A: Allocator + Clone> Sorted<A> {
     }
 
     /// Takes out the request of an id. It takes no memory.
+    #[inline(always)]
     pub fn remove(&mut self, id: u64) -> Option<Queued<A>>
         ensures value { result ≡ map.get self.old id }
         ensures named { (k : ℕ) (w : Waiting) → map.get self.old k ≡ Some w → w.id ≡ k }
@@ -103,6 +105,7 @@ impl<A: Allocator + Clone> Sorted<A> {
 
     /// The newest request that a newcomer fits, by its id, and the side. The front is tried only where `front` allows
     /// it. Only requests that the newcomer touches are looked at.
+    #[inline(always)]
     pub fn candidate(
         &self,
         newcomer: &Request<A>,
@@ -124,6 +127,7 @@ impl<A: Allocator + Clone> Sorted<A> {
     }
 
     /// Of a direction's requests with their first sectors and ids the least that is above `first` and `last`.
+    #[inline(always)]
     pub fn next(&self, dir: Dir, first: u64, last: u64) -> Option<u64>
         ensures some { IfSome result (IsNext dir first last (map.get self.now)) }
         ensures none { IfNone result (NoNext dir first last (map.get self.now)) }

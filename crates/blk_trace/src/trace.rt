@@ -206,6 +206,7 @@ impl<A: Allocator + Clone> Trace<A> {
     }
 
     /// Makes room for a Release or a Join of as many bios.
+    #[inline(always)]
     fn make_room_for_bios(&mut self, bios: u64) -> Result<(), AllocError>
         ensures ok { OnOk result (self.new ≡ record { setup = self.old.setup; events = self.old.events; prepared = Prepared.Bios bios }) }
         ensures err { OnErr result (self.new ≡ self.old) }

@@ -111,6 +111,7 @@ impl<A: Allocator + Clone> Trace<A> {
     }
 
     /// Adds an Issue: the request waits no more, and its command, of this round, is the last one.
+    #[inline(always)]
     fn add_issue(&mut self, id: u64, tag: u16)
         requires unbroken { IsUnbroken self.old.setup self.old.events (Issued id tag) }
         requires prepared { IsPreparedFor self.old.prepared (Issued id tag) }

@@ -240,6 +240,7 @@ impl<A: Allocator + Clone> Trace<A> {
 
     /// The id of the first of the bios, in their order, that has the id of one that entered or of one before it. None
     /// exactly where there is no such.
+    #[inline(always)]
     pub fn first_repeated(&self, bios: &[Bio]) -> Option<BioId>
         ensures some { IfSome result (IsFirstRepeatedBio (entered self.now.events) bios.now) }
         ensures none { IfNone result (AreOnce (entered self.now.events ++ bios.now)) }
