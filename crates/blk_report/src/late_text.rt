@@ -3,13 +3,14 @@
 ghost use Rattle.std.specs.Prelude.{◌≡◌, ◌++◌, IfOk, IfErr, OnOk, decimal};
 ghost use Rattle.std.specs.List.{flat_map};
 ghost use Rattle.std.specs.Io.KnownBytes.{Appends};
+ghost use Rattle.blk_text.specs.Texts.{AppendsPart};
 ghost use Rattle.blk_text.specs.BioRecord.{direction_text};
 ghost use Rattle.blk_report.specs.SpreadText.{next_field};
 ghost use Rattle.blk_report.specs.LateText.{request_fields, round_fields, wait_fields, late_line, late_lines};
 
 use crate::{LateCommand, Service};
 use blk_bio::Dir;
-use blk_text::{Draft, WriteFault};
+use blk_text::{Draft, WriteFault, write_whole};
 use std::alloc::{AllocError, Global};
 use std::io::Write;
 
@@ -94,8 +95,8 @@ fn drafted(alloc: Global, late: &[LateCommand]) -> Result<Vec<u8>, AllocError>
 /// `id,dir,first,sectors,release,due,issue,lateness,sooner,later,idle`, and a line for each, in their order. The direction is `R`
 /// or `W`; sectors and rounds are as in the trace.
 ///
-/// [`WriteFault::Write`]: the writer answered a fault; what it took before is out, and nothing says how much that is.
-/// [`WriteFault::Memory`]: nothing was handed to the writer.
+/// [`WriteFault::Write`]: the writer answered a fault; what it took before, a first part of the text, is out, and nothing says how
+/// much that is. [`WriteFault::Memory`]: nothing was handed to the writer.
 pub fn write_late<W: Write>(
     alloc: Global,
     late: &[LateCommand],
@@ -103,12 +104,11 @@ pub fn write_late<W: Write>(
 ) -> Result<(), WriteFault>
     ensures ok { OnOk result (Appends (W.contents writer.old) (W.contents writer.new) (late_lines late.now)) }
     ensures memory { IfErr result (λ f. f ≡ WriteFault.Memory → writer.new ≡ writer.old) }
+    // whatever the answer
+    ensures part { AppendsPart (W.contents writer.old) (W.contents writer.new) (late_lines late.now) }
 {
     let Ok(text) = drafted(alloc, late) else {
         return Err(WriteFault::Memory);
     };
-    match writer.write_all(text.as_slice()) {
-        Ok(()) => Ok(()),
-        Err(_) => Err(WriteFault::Write),
-    }
+    write_whole(writer, text.as_slice())
 }

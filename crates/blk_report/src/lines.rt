@@ -2,10 +2,11 @@
 
 ghost use Rattle.std.specs.Prelude.{◌≡◌, ◌++◌, IfOk, IfErr, OnOk, decimal, codes};
 ghost use Rattle.std.specs.Io.KnownBytes.{Appends};
+ghost use Rattle.blk_text.specs.Texts.{AppendsPart};
 ghost use Rattle.blk_report.specs.Lines.{late_text, count_text, window_text, figure_line, report_text};
 
 use crate::Report;
-use blk_text::{Draft, WriteFault};
+use blk_text::{Draft, WriteFault, write_whole};
 use edd_check::Window;
 use std::alloc::{AllocError, Global};
 use std::io::Write;
@@ -107,17 +108,16 @@ fn drafted(alloc: Global, report: &Report) -> Result<Vec<u8>, AllocError>
 /// (bios), `depth`, `greatest`, `least`, `shortfall`, `window` (two rounds with a space between) and `load`. Without commands the
 /// last five have the value `none`.
 ///
-/// [`WriteFault::Write`]: the writer answered a fault; what it took before is out, and nothing says how much that is.
-/// [`WriteFault::Memory`]: nothing was handed to the writer.
+/// [`WriteFault::Write`]: the writer answered a fault; what it took before, a first part of the text, is out, and nothing says how
+/// much that is. [`WriteFault::Memory`]: nothing was handed to the writer.
 pub fn write<W: Write>(alloc: Global, report: &Report, writer: &mut W) -> Result<(), WriteFault>
     ensures ok { OnOk result (Appends (W.contents writer.old) (W.contents writer.new) (report_text report.now)) }
     ensures memory { IfErr result (λ f. f ≡ WriteFault.Memory → writer.new ≡ writer.old) }
+    // whatever the answer
+    ensures part { AppendsPart (W.contents writer.old) (W.contents writer.new) (report_text report.now) }
 {
     let Ok(text) = drafted(alloc, report) else {
         return Err(WriteFault::Memory);
     };
-    match writer.write_all(text.as_slice()) {
-        Ok(()) => Ok(()),
-        Err(_) => Err(WriteFault::Write),
-    }
+    write_whole(writer, text.as_slice())
 }

@@ -3,11 +3,12 @@
 ghost use Rattle.std.specs.Prelude.{◌≡◌, ◌++◌, IfOk, IfErr, OnOk};
 ghost use Rattle.std.specs.List.{flat_map};
 ghost use Rattle.std.specs.Io.KnownBytes.{Appends};
+ghost use Rattle.blk_text.specs.Texts.{AppendsPart};
 ghost use Rattle.blk_report.specs.MissesText.{crowd_line, misses_text};
 
 use crate::lines::push_number_line;
 use crate::{Crowd, Missed};
-use blk_text::{Draft, WriteFault};
+use blk_text::{Draft, WriteFault, write_whole};
 use std::alloc::{AllocError, Allocator, Global};
 use std::io::Write;
 
@@ -53,8 +54,8 @@ fn drafted<A: Allocator>(alloc: Global, missed: &Missed<A>) -> Result<Vec<u8>, A
 /// `avoidable A`, and one for each window, `window FROM UNTIL commands C carries K`: C commands are released and due in the rounds
 /// FROM to UNTIL, and these carry K.
 ///
-/// [`WriteFault::Write`]: the writer answered a fault; what it took before is out, and nothing says how much that is.
-/// [`WriteFault::Memory`]: nothing was handed to the writer.
+/// [`WriteFault::Write`]: the writer answered a fault; what it took before, a first part of the text, is out, and nothing says how
+/// much that is. [`WriteFault::Memory`]: nothing was handed to the writer.
 pub fn write_misses<A: Allocator, W: Write>(
     alloc: Global,
     missed: &Missed<A>,
@@ -62,12 +63,11 @@ pub fn write_misses<A: Allocator, W: Write>(
 ) -> Result<(), WriteFault>
     ensures ok { OnOk result (Appends (W.contents writer.old) (W.contents writer.new) (misses_text missed.now.commands missed.now.late missed.now.unavoidable missed.now.avoidable missed.now.windows.items)) }
     ensures memory { IfErr result (λ f. f ≡ WriteFault.Memory → writer.new ≡ writer.old) }
+    // whatever the answer
+    ensures part { AppendsPart (W.contents writer.old) (W.contents writer.new) (misses_text missed.now.commands missed.now.late missed.now.unavoidable missed.now.avoidable missed.now.windows.items) }
 {
     let Ok(text) = drafted(alloc, missed) else {
         return Err(WriteFault::Memory);
     };
-    match writer.write_all(text.as_slice()) {
-        Ok(()) => Ok(()),
-        Err(_) => Err(WriteFault::Write),
-    }
+    write_whole(writer, text.as_slice())
 }

@@ -2,12 +2,13 @@
 
 ghost use Rattle.std.specs.Prelude.{◌≡◌, ◌++◌, IfOk, IfErr, OnOk, decimal};
 ghost use Rattle.std.specs.Io.KnownBytes.{Appends};
+ghost use Rattle.blk_text.specs.Texts.{AppendsPart};
 ghost use Rattle.blk_report.specs.Lines.{late_text};
 ghost use Rattle.blk_report.specs.SpreadText.{next_field, quantiles_row, quantiles_rows, spread_text};
 
 use crate::lines::push_late;
 use crate::{ByDir, Quantiles, Spreads};
-use blk_text::{Draft, WriteFault};
+use blk_text::{Draft, WriteFault, write_whole};
 use std::alloc::{AllocError, Global};
 use std::io::Write;
 
@@ -78,8 +79,8 @@ fn drafted(alloc: Global, spread: &Spreads) -> Result<Vec<u8>, AllocError>
 /// `what,dir,count,p50,p90,p99,p999,max`, and a line for the waits of the reads (`wait,R`), of the writes (`wait,W`) and of both
 /// (`wait,all`), and for their latenesses (`lateness`) the same three. A quantile of no commands is `none`.
 ///
-/// [`WriteFault::Write`]: the writer answered a fault; what it took before is out, and nothing says how much that is.
-/// [`WriteFault::Memory`]: nothing was handed to the writer.
+/// [`WriteFault::Write`]: the writer answered a fault; what it took before, a first part of the text, is out, and nothing says how
+/// much that is. [`WriteFault::Memory`]: nothing was handed to the writer.
 pub fn write_spread<W: Write>(
     alloc: Global,
     spread: &Spreads,
@@ -87,12 +88,11 @@ pub fn write_spread<W: Write>(
 ) -> Result<(), WriteFault>
     ensures ok { OnOk result (Appends (W.contents writer.old) (W.contents writer.new) (spread_text spread.now)) }
     ensures memory { IfErr result (λ f. f ≡ WriteFault.Memory → writer.new ≡ writer.old) }
+    // whatever the answer
+    ensures part { AppendsPart (W.contents writer.old) (W.contents writer.new) (spread_text spread.now) }
 {
     let Ok(text) = drafted(alloc, spread) else {
         return Err(WriteFault::Memory);
     };
-    match writer.write_all(text.as_slice()) {
-        Ok(()) => Ok(()),
-        Err(_) => Err(WriteFault::Write),
-    }
+    write_whole(writer, text.as_slice())
 }

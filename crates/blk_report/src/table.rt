@@ -1,12 +1,13 @@
 //! A table of reports as text.
 
-ghost use Rattle.std.specs.Prelude.{◌≡◌, ◌++◌, IfOk, IfErr, IfSome, OnOk, ◌<◌, decimal, length, map, List, ℕ};
+ghost use Rattle.std.specs.Prelude.{◌≡◌, ◌⊎◌, ◌++◌, IfOk, IfErr, IfSome, OnOk, ◌<◌, decimal, length, map, List, ℕ};
 ghost use Rattle.std.specs.Io.KnownBytes.{Appends};
+ghost use Rattle.blk_text.specs.Texts.{AppendsPart};
 ghost use Rattle.blk_report.specs.Lines.{late_text};
 ghost use Rattle.blk_report.specs.Table.{right_in, row_line, lines_upto, best_line, IsTable};
 
 use crate::{Report, compare};
-use blk_text::{Draft, WriteFault};
+use blk_text::{Draft, WriteFault, write_whole};
 use std::alloc::{AllocError, Global};
 use std::io::Write;
 
@@ -103,8 +104,8 @@ fn drafted(alloc: Global, names: &[&[u8]], reports: &[Report]) -> Result<Vec<u8>
 /// shortfall, each at the right of 10 places (`none` where there is no number), and a last line `best NAME` that names the report
 /// that [`compare`] picks, or `best none-served`. What needs more places is not cut.
 ///
-/// [`WriteFault::Write`]: the writer answered a fault; what it took before is out, and nothing says how much that is.
-/// [`WriteFault::Memory`]: nothing was handed to the writer.
+/// [`WriteFault::Write`]: the writer answered a fault; what it took before, a first part of the text, is out, and nothing says how
+/// much that is. [`WriteFault::Memory`]: nothing was handed to the writer.
 pub fn write_table<W: Write>(
     alloc: Global,
     names: &[&[u8]],
@@ -114,12 +115,11 @@ pub fn write_table<W: Write>(
     requires { length names.now ≡ length reports.now }
     ensures ok { OnOk result ((text : List ℕ) × IsTable (map (λ name. name.now) names.now) reports.now text × Appends (W.contents writer.old) (W.contents writer.new) text) }
     ensures memory { IfErr result (λ f. f ≡ WriteFault.Memory → writer.new ≡ writer.old) }
+    // whatever the answer
+    ensures part { (writer.new ≡ writer.old) ⊎ ((text : List ℕ) × IsTable (map (λ name. name.now) names.now) reports.now text × AppendsPart (W.contents writer.old) (W.contents writer.new) text) }
 {
     let Ok(text) = drafted(alloc, names, reports) else {
         return Err(WriteFault::Memory);
     };
-    match writer.write_all(text.as_slice()) {
-        Ok(()) => Ok(()),
-        Err(_) => Err(WriteFault::Write),
-    }
+    write_whole(writer, text.as_slice())
 }

@@ -18,7 +18,7 @@ use Rattle.blk_text.specs.Commands.{IsCommandInRange}
 use Rattle.blk_text.specs.Reads.{IsOutside, Reads, Halts, IsWrongLine, IsOne, items_of, with_next}
 use Rattle.blk_text.specs.Tables.{IsUpTo, IsVersion, FitsBy, row_by, slots_by, title_by}
 use Rattle.blk_text.specs.Titles.{counted_cells, IsCounted}
-use Rattle.blk_text.specs.Certificate.{Claim, claim_rows, title, Bounded, NoBound, SomeBound, Bound, TellsBound, bound_kind, kind_of, bound_cells, no_bound_row, last_round, bound, bound_row, served_cells, served, IsServed, IsLateness, IsBound, IsClaim, claim_body, claim_told, claim_form, claim_value, SpellsClaim, ClaimFault}
+use Rattle.blk_text.specs.Certificate.{Claim, claim_rows, title, Bounded, NoBound, SomeBound, Bound, TellsBound, bound_kind, kind_of, bound_cells, no_bound_row, last_round, bound, bound_row, served_cells, served_record, IsServed, IsLateness, IsBound, IsClaim, claim_body, claim_told, claim_form, claim_value, SpellsClaim, ClaimFault}
 use Rattle.blk_text.specs.declared.fault.Why.{Why}
 use Rattle.blk_text.specs.declared.fault.Why.TheVariants as why
 use Rattle.blk_text.specs.declared.fields.Slot.TheVariants as slot
@@ -69,7 +69,7 @@ bound_table count = record {
 pub title_one : IsOne title
 title_one = counted_one (codes "blk-certificate")
 
-pub served_one : IsOne served
+pub served_one : IsOne served_record
 served_one = one_record (row_by served_cells) IsServed why.Count (Lacks (slots_by served_cells)) (table_tells served_cells IsServed served_table)
 
 -- the bound
@@ -173,21 +173,21 @@ bound_in (suc n) (Some b) f = let from = f.1.0.1 in let due = f.1.1.0.1 in (omeg
 
 -- whole certificates
 
-pub items_tell : (count : ℕ) → Tells (items_of (repeats.Exactly count) (λ _. served))
-items_tell count = each_tells served served_one (repeats.Exactly count)
+pub items_tell : (count : ℕ) → Tells (items_of (repeats.Exactly count) (λ _. served_record))
+items_tell count = each_tells served_record served_one (repeats.Exactly count)
 
 pub body_tells : (count : ℕ) → Tells (claim_body count)
-body_tells count = then_tells (bound count) (λ b. items_of (repeats.Exactly count) (λ _. served)) (bound_one count).tells (λ b fit. items_tell count)
+body_tells count = then_tells (bound count) (λ b. items_of (repeats.Exactly count) (λ _. served_record)) (bound_one count).tells (λ b fit. items_tell count)
 
 pub claim_tells : Tells claim_form
 claim_tells = then_tells title (λ t. claim_body t.1.1) title_one.tells (λ t fit. body_tells t.1.1)
 
-pub served_decides : (count : ℕ) → Decides (items_of (repeats.Exactly count) (λ _. served))
-served_decides count = each_decides served (record_decides (row_by served_cells) IsServed why.Count (Lacks (slots_by served_cells)) (table_decides served_cells IsServed served_table)) (repeats.Exactly count)
+pub served_decides : (count : ℕ) → Decides (items_of (repeats.Exactly count) (λ _. served_record))
+served_decides count = each_decides served_record (record_decides (row_by served_cells) IsServed why.Count (Lacks (slots_by served_cells)) (table_decides served_cells IsServed served_table)) (repeats.Exactly count)
 
 pub claim_decides : Decides claim_form
 claim_decides = then_decides title (λ t. claim_body t.1.1) (counted_decides (codes "blk-certificate"))
-    (λ t fit. then_decides (bound t.1.1) (λ b. items_of (repeats.Exactly t.1.1) (λ _. served)) (bound_decides t.1.1) (λ b fit. served_decides t.1.1))
+    (λ t fit. then_decides (bound t.1.1) (λ b. items_of (repeats.Exactly t.1.1) (λ _. served_record)) (bound_decides t.1.1) (λ b fit. served_decides t.1.1))
 
 pub all_zip : (cs : List Command) (rs : List ℕ) → All IsCommandInRange cs → All (λ x. x < ROUND_LIMIT) rs → All IsServed (zip cs rs)
 all_zip [] rs p q = λ k d l. absurd (omega arith)
@@ -231,7 +231,7 @@ rows_spell c h = (
     ((omega arith, omega arith), (h.depth.0, h.depth.1, h.few)),
     (
       bound_fits (length c.commands) c.bound h.bound,
-      ((all_fit served [] (zip c.commands c.rounds) (all_zip c.commands c.rounds h.commands h.rounds), length_zip c.commands c.rounds h.one_each), tt),
+      ((all_fit served_record [] (zip c.commands c.rounds) (all_zip c.commands c.rounds h.commands h.rounds), length_zip c.commands c.rounds h.one_each), tt),
     ),
   )
       (tt, ((bound_one (length c.commands)).plain c.bound _ (bound_fits (length c.commands) c.bound h.bound), (length_zip c.commands c.rounds h.one_each, refl))),
@@ -243,7 +243,7 @@ bound_rows count None = refl
 bound_rows count (Some b) = refl
 
 pub rows_are : (c : Claim) → claim_rows c ≡ (title_by (codes "blk-certificate") counted_cells (1, (c.depth, length c.commands)) ∷ bound_row c.bound ∷ []) ++ map (row_by served_cells) (zip c.commands c.rounds)
-rows_are c = rw (bound_rows (length c.commands) c.bound, append-nil (all_rows (λ _. served) with_next [] (zip c.commands c.rounds)), rows_map served (row_by served_cells) (λ v. refl) [] (zip c.commands c.rounds)) refl
+rows_are c = rw (bound_rows (length c.commands) c.bound, append-nil (all_rows (λ _. served_record) with_next [] (zip c.commands c.rounds)), rows_map served_record (row_by served_cells) (λ v. refl) [] (zip c.commands c.rounds)) refl
 
 bound_back_is : (count : ℕ) (b : Option (ℤ × Window)) → map read_back ((bound count).rows_of b) ≡ (bound count).rows_of b
 bound_back_is count None = refl
@@ -253,8 +253,8 @@ pub read_back_is : (c : Claim) → IsClaim c → SpellsClaim (records default_co
 unfolding rows_text
 read_back_is c h =
     let body = (bound (length c.commands)).rows_of c.bound in
-    let lines = (items_of (repeats.Exactly (length c.commands)) (λ _. served)).rows_of (zip c.commands c.rounds) in
-    let same : map read_back (body ++ lines) ≡ body ++ lines = rw (map-append read_back body lines, bound_back_is (length c.commands) c.bound, parts_back served (λ s. refl) (zip c.commands c.rounds)) refl in
+    let lines = (items_of (repeats.Exactly (length c.commands)) (λ _. served_record)).rows_of (zip c.commands c.rounds) in
+    let same : map read_back (body ++ lines) ≡ body ++ lines = rw (map-append read_back body lines, bound_back_is (length c.commands) c.bound, parts_back served_record (λ s. refl) (zip c.commands c.rounds)) refl in
     let back : map read_back (claim_rows c) ≡ claim_rows c = ap (λ (t : List Row). title_by (codes "blk-certificate") counted_cells (1, (c.depth, length c.commands)) ∷ t) same in
     rw (text_back (claim_rows c) _ refl back) (rows_spell c h)
 
@@ -308,10 +308,10 @@ claim_in depth count b lines cs rs r f fit n p q =
     rw (p, q) (record { depth = (r.0, r.1); few = omega (arith, few, same); one_each = d ∙ sym c; bound = rw same at (bound_in count b f); commands = all_first lines fit; rounds = all_second lines fit })
 
 pub body_read : (left mid : Option (List Row)) (count : ℕ) (b : Option (ℤ × Window)) (lines : List (Command × ℕ)) (cs : List Command) (rs : List ℕ) → Reads (bound count) left mid b
-    → IfSome mid (λ rows. Begins (items_of (repeats.Exactly count) (λ _. served)) rows lines []) → cs ≡ map (λ s. s.0) lines → rs ≡ map (λ s. s.1) lines
+    → IfSome mid (λ rows. Begins (items_of (repeats.Exactly count) (λ _. served_record)) rows lines []) → cs ≡ map (λ s. s.0) lines → rs ≡ map (λ s. s.1) lines
     → IfSome left (λ rows. Begins (claim_body count) rows (b, zip cs rs) [])
 body_read left mid count b lines cs rs k e p q =
-    rw (p, q) (subst (λ l. IfSome left (λ rows. Begins (claim_body count) rows (b, l) [])) (sym (zipped lines)) (then_reads (bound count) (λ b. items_of (repeats.Exactly count) (λ _. served)) left mid b lines k e))
+    rw (p, q) (subst (λ l. IfSome left (λ rows. Begins (claim_body count) rows (b, l) [])) (sym (zipped lines)) (then_reads (bound count) (λ b. items_of (repeats.Exactly count) (λ _. served_record)) left mid b lines k e))
 
 -- a title and what comes after it
 pub claim_whole : (left mid : Option (List Row)) (version depth count : ℕ) (c : Claim) → Reads title left mid (version, (depth, count)) → IsVersion 1 version
@@ -349,21 +349,21 @@ pub body_halts : (failed : Bool) (left mid : Option (List Row)) (t : ℕ × (ℕ
 body_halts failed left mid t at w r h = second_halts failed title (λ t. claim_body t.1.1) left mid t 0 1 at w title_one.tells r refl h
 
 pub bound_halts : (failed : Bool) (left : Option (List Row)) (count start at : ℕ) (w : Why) → start ≡ 1 → Halts failed (bound count) left start at w → Halts failed (claim_body count) left 1 at w
-bound_halts failed left count start at w e h = first_halts failed (bound count) (λ b. items_of (repeats.Exactly count) (λ _. served)) left 1 at w (λ b fit. items_tell count) (rw e at h)
+bound_halts failed left count start at w e h = first_halts failed (bound count) (λ b. items_of (repeats.Exactly count) (λ _. served_record)) left 1 at w (λ b fit. items_tell count) (rw e at h)
 
 pub served_halts : (failed : Bool) (left mid : Option (List Row)) (count : ℕ) (b : Option (ℤ × Window)) (start at : ℕ) (w : Why) → start ≡ 2 → Reads (bound count) left mid b
-    → Halts failed (items_of (repeats.Exactly count) (λ _. served)) mid start at w → Halts failed (claim_body count) left 1 at w
+    → Halts failed (items_of (repeats.Exactly count) (λ _. served_record)) mid start at w → Halts failed (claim_body count) left 1 at w
 served_halts failed left mid count b start at w e k h =
-    second_halts failed (bound count) (λ b. items_of (repeats.Exactly count) (λ _. served)) left mid b 1 start at w (bound_one count).tells k (omega (arith, e, (bound_one count).one b)) h
+    second_halts failed (bound count) (λ b. items_of (repeats.Exactly count) (λ _. served_record)) left mid b 1 start at w (bound_one count).tells k (omega (arith, e, (bound_one count).one b)) h
 
 -- past the last record
 pub whole_halts : (failed : Bool) (left mid : Option (List Row)) (count : ℕ) (b : Option (ℤ × Window)) (lines : List (Command × ℕ)) (at : ℕ) (w : Why) → Reads (bound count) left mid b
-    → IfSome mid (λ rows. Begins (items_of (repeats.Exactly count) (λ _. served)) rows lines []) → at ≡ length lines + 3 → IsOutside failed w → Halts failed (claim_body count) left 1 at w
+    → IfSome mid (λ rows. Begins (items_of (repeats.Exactly count) (λ _. served_record)) rows lines []) → at ≡ length lines + 3 → IsOutside failed w → Halts failed (claim_body count) left 1 at w
 whole_halts failed left mid count b lines at w k e a o =
-    ends_halt failed (claim_body count) left (b, lines) 1 at w (body_tells count) (then_reads (bound count) (λ b. items_of (repeats.Exactly count) (λ _. served)) left mid b lines k e) long o
+    ends_halt failed (claim_body count) left (b, lines) 1 at w (body_tells count) (then_reads (bound count) (λ b. items_of (repeats.Exactly count) (λ _. served_record)) left mid b lines k e) long o
   where
     long : at ≡ 1 + (length ((claim_body count).rows_of (b, lines)) + 1)
     long =
-        let all : length ((items_of (repeats.Exactly count) (λ _. served)).rows_of lines) ≡ length lines = ap length (append-nil _) ∙ size_is served served_one lines in
-        let two = length-append ((bound count).rows_of b) ((items_of (repeats.Exactly count) (λ _. served)).rows_of lines) in
+        let all : length ((items_of (repeats.Exactly count) (λ _. served_record)).rows_of lines) ≡ length lines = ap length (append-nil _) ∙ size_is served_record served_one lines in
+        let two = length-append ((bound count).rows_of b) ((items_of (repeats.Exactly count) (λ _. served_record)).rows_of lines) in
         omega (arith, a, all, two, (bound_one count).one b)

@@ -11,11 +11,11 @@ use Rattle.blk_trace.specs.Setups.{Setup}
 use Rattle.blk_trace.specs.Traces.{Traced, IsPushAnswer}
 use Rattle.blk_trace.specs.declared.rule.PushFault.{PushFault}
 use Rattle.blk_trace.specs.declared.rule.PushFault.TheVariants as push_fault
-use Rattle.blk_text.specs.Sources.{Row, Takes}
+use Rattle.blk_text.specs.Sources.{Row, TakesRecord}
 use Rattle.blk_text.specs.Reads.{IsOutside, IsOne, IsLine, IsWrongLine, Reads, HandReads, HandFails, Fails, AreGathered, IsStopped, repeated, size_of, with_next}
 use Rattle.blk_text.specs.SetupRecord.{setup}
 use Rattle.blk_text.specs.Tables.{FitsBy, slots_by}
-use Rattle.blk_text.specs.TraceForm.{first_record, bios_after, group, told, plain_event, BreaksRule, event, alone, one_more, IsPast, refusal_of, IsRefused, events_of, trace_cells, IsTraceTitle, title, trace_body, trace_form}
+use Rattle.blk_text.specs.TraceForm.{first_record, bios_after, group, event_told, plain_event, BreaksRule, event, alone, one_more, IsPast, refusal_of, IsRefused, events_of, trace_cells, IsTraceTitle, title, trace_body, trace_form}
 use Rattle.blk_text.specs.Versions.{latest, most_tags}
 use Rattle.blk_text.specs.declared.fault.Why.{Why}
 use Rattle.blk_text.specs.declared.fault.Why.TheVariants as why
@@ -48,7 +48,7 @@ back (head.Done tag, bios) = Finished tag
 back (head.Back tag, bios) = Returned tag
 back (head.Depth depth, bios) = DepthSet depth
 
-back_is : (e : Happened) → back (told e) ≡ e
+back_is : (e : Happened) → back (event_told e) ≡ e
 unfolding back
 back_is Ticked = refl
 back_is e = refl
@@ -58,11 +58,11 @@ none [] e = refl
 none (b ∷ bs) e = absurd (omega (arith, e))
 
 pub plain_tells : (version : ℕ) (limits : Limits) → Tells (plain_event version limits)
-plain_tells version limits = seen_tells told (in_turn (first_record version) (λ h. group version limits (bios_after h))) (λ e f same. sym (back_is e) ∙ ap back same ∙ back_is f)
+plain_tells version limits = seen_tells event_told (in_turn (first_record version) (λ h. group version limits (bios_after h))) (λ e f same. sym (back_is e) ∙ ap back same ∙ back_is f)
     (then_tells (first_record version) (λ h. group version limits (bios_after h)) (head_tells version) (λ h fit. group_tells version limits (bios_after h)))
 
 -- the first record and the bios of what was told
-told_back : (h : Head) (bios : List Bio) → length bios ≡ bios_after h → told (back (h, bios)) ≡ (h, bios)
+told_back : (h : Head) (bios : List Bio) → length bios ≡ bios_after h → event_told (back (h, bios)) ≡ (h, bios)
 unfolding back
 told_back head.Tick bios e = ap (λ l. (head.Tick, l)) (none bios e)
 told_back (head.Release id count) bios e = ap (λ n. (head.Release id n, bios)) e
@@ -73,7 +73,7 @@ told_back (head.Back tag) bios e = ap (λ l. (head.Back tag, l)) (none bios e)
 told_back (head.Depth depth) bios e = ap (λ l. (head.Depth depth, l)) (none bios e)
 
 plain_decides : (version : ℕ) (limits : Limits) → Decides (plain_event version limits)
-plain_decides version limits = seen_decides told (in_turn (first_record version) (λ h. group version limits (bios_after h))) (λ v f. (back v, told_back v.0 v.1 f.1.1))
+plain_decides version limits = seen_decides event_told (in_turn (first_record version) (λ h. group version limits (bios_after h))) (λ v f. (back v, told_back v.0 v.1 f.1.1))
     (then_decides (first_record version) (λ h. group version limits (bios_after h)) (head_decides version) (λ h fit. group_decides version limits (bios_after h)))
 
 -- rules
@@ -339,11 +339,11 @@ pub past_stopped : (version count : ℕ) (s : Setup) (left mid : Option (List Ro
     → IsStopped (repeats.Exactly count) (event version s) left 2 MAX_SEGMENTS at last
 past_stopped version count s left mid es at last h l e is = subst (λ z. IsStopped (repeats.Exactly count) (event version s) left 2 MAX_SEGMENTS z last) (sym e) (full_stopped (event version s) (repeats.Exactly count) left mid es 2 128 last h l is)
 
-pub events_end : (version count : ℕ) (s : Setup) (left mid new : Option (List Row)) (es : List Happened) (row : Row) → Reads (repeated (repeats.Exactly count) (event version s)) left mid es → Takes mid new row false
+pub events_end : (version count : ℕ) (s : Setup) (left mid new : Option (List Row)) (es : List Happened) (row : Row) → Reads (repeated (repeats.Exactly count) (event version s)) left mid es → TakesRecord mid new row false
     → IfSome left (λ rows. Begins (events_of version s count) rows es [])
 events_end version count s left mid new es row h t = many_ends (event version s) (one_more version s) (repeats.Exactly count) left es (full_ends (event version s) (repeats.Exactly count) left mid new es row h t)
 
 pub events_past : (version count : ℕ) (s own : Setup) (failed : Bool) (left mid new : Option (List Row)) (es : List Happened) (row cells : Row) (at : ℕ) (w : Why) → own ≡ s → cells ≡ row → Reads (repeated (repeats.Exactly count) (event version s)) left mid es
-    → Takes mid new row true → at ≡ 2 + size_of (event version s) es + 1 → (w ≡ why.Memory) ⊎ IsPast version own es cells w → Fails failed (events_of version s count) left 2 at w
+    → TakesRecord mid new row true → at ≡ 2 + size_of (event version s) es + 1 → (w ≡ why.Memory) ⊎ IsPast version own es cells w → Fails failed (events_of version s count) left 2 at w
 events_past version count s own failed left mid new es row cells at w e r h t is (inl m) = outside_fails failed (events_of version s count) left 2 at w (inr m)
 events_past version count s own failed left mid new es row cells at w e r h t is (inr p) = past_wrong failed (event version s) (one_more version s) (repeats.Exactly count) left mid new es row (2) at w h t is (rw (e, r) at p)

@@ -14,7 +14,7 @@ use Rattle.blk_text.specs.Words.{StartsWith, NextStarts, WordLacks}
 use Rattle.blk_text.specs.Fields.{Lacks, FieldsSpell}
 use Rattle.blk_text.specs.Reads.{IsLine, IsWrongLine, HandFails, Gathers, with_next}
 use Rattle.blk_text.specs.Tables.{FitsBy, row_by, slots_by, word_record}
-use Rattle.blk_text.specs.TraceForm.{Tiles, held, IsAstray, IsNoBio, first_record, plain_bio, whole_bio, group_bio, group}
+use Rattle.blk_text.specs.TraceForm.{Tiles, gathered_bios, IsAstray, IsNoBio, first_record, plain_bio, whole_bio, group_bio, group}
 use Rattle.blk_text.specs.declared.fault.Why.{Why}
 use Rattle.blk_text.specs.declared.fault.Why.TheVariants as why
 use Rattle.blk_text.specs.declared.fields.Slot.TheVariants as slot
@@ -172,7 +172,7 @@ bio_gathers version limits old b left row at l t =
 
 -- the first bio of a group
 pub first_gathers : (version : ℕ) (limits : Limits) (o : Option (List Bio)) (new : List Bio) (b : Bio) (left : Option (List Row)) (row : Row) (at : ℕ) → o ≡ None → new ≡ b ∷ [] → IsLine (whole_bio version) row b
-    → Gathers (group_bio version limits) (held o) new left row left at at
+    → Gathers (group_bio version limits) (gathered_bios o) new left row left at at
 first_gathers version limits None new b left row at e n l = rw n (bio_gathers version limits [] b left row at l tt)
 first_gathers version limits (Some old) new b left row at e n l = absurd (cc e)
 
@@ -186,14 +186,14 @@ fits_tiles limits (a ∷ old) b some t = t
 
 -- one more
 pub next_gathers : (version : ℕ) (limits : Limits) (o : Option (List Bio)) (old new : List Bio) (b : Bio) (left : Option (List Row)) (row : Row) (at : ℕ) → o ≡ Some old → new ≡ old ++ b ∷ [] → Fits limits old (b ∷ []) side.Back
-    → IsLine (whole_bio version) row b → Gathers (group_bio version limits) (held o) new left row left at at
+    → IsLine (whole_bio version) row b → Gathers (group_bio version limits) (gathered_bios o) new left row left at at
 next_gathers version limits None old new b left row at e n f l = absurd (cc e)
 next_gathers version limits (Some x) old new b left row at e n f l =
     let same : x ≡ old = cc e in
     rw (same, n) (bio_gathers version limits old b left row at l (tiles_after limits old b f))
 
 pub astray_fails : (version : ℕ) (limits : Limits) (failed : Bool) (o : Option (List Bio)) (old : List Bio) (b : Bio) (left : Option (List Row)) (row : Row) (start at : ℕ) → o ≡ Some old → 0 < length old → ¬ Fits limits old (b ∷ []) side.Back
-    → IsLine (whole_bio version) row b → at ≡ start → HandFails failed (group_bio version limits (held o)) left row start at why.Tile
+    → IsLine (whole_bio version) row b → at ≡ start → HandFails failed (group_bio version limits (gathered_bios o)) left row start at why.Tile
 astray_fails version limits failed None old b left row start at e some n l is = absurd (cc e)
 astray_fails version limits failed (Some x) old b left row start at e some n l is =
     let same : x ≡ old = cc e in

@@ -6,7 +6,7 @@ use Rattle.blk_text.specs.Words.{StartsWith, HasNoWord}
 use Rattle.blk_text.specs.Fields.{Lacks, FieldsSpell}
 use Rattle.blk_text.specs.Reads.{IsLine, IsWrongLine, IsOne}
 use Rattle.blk_text.specs.Tables.{FitsBy, slots_by, kinds_record}
-use Rattle.blk_text.specs.TraceForm.{word_of, StandsIn, Says, head_cells, said, first_record}
+use Rattle.blk_text.specs.TraceForm.{word_of, EventStandsIn, Says, head_cells, said, first_record}
 use Rattle.blk_text.specs.declared.fault.Why.{Why}
 use Rattle.blk_text.specs.declared.fault.Why.TheVariants as why
 use Rattle.blk_text.specs.declared.fields.Slot.TheVariants as slot
@@ -35,7 +35,7 @@ word_is : (k : EventWord) → word_at (word_of k) ≡ k
 word_is word.Tick = refl
 word_is k = refl
 
-stands_decided : (version : ℕ) (k : EventWord) → Dec (StandsIn version k)
+stands_decided : (version : ℕ) (k : EventWord) → Dec (EventStandsIn version k)
 stands_decided version word.Depth = at_most 2 version
 stands_decided version k = inl tt
 
@@ -69,17 +69,17 @@ said_back word.Tick v = refl
 said_back k v = refl
 
 abbrev kinds : ℕ → Part Row Why ((k : EventWord) × Says k)
-kinds version = kinds_record Says why.Count 6 (StandsIn version) word_of head_cells
+kinds version = kinds_record Says why.Count 6 (EventStandsIn version) word_of head_cells
 
 pub head_tells : (version : ℕ) → Tells (first_record version)
 head_tells version = seen_tells said (kinds version) (λ l m e. sym (head_back l) ∙ ap (λ (h : (k : EventWord) × Says k). head_with h.0 h.1) e ∙ head_back m)
-    (kinds_tell Says why.Count 6 (StandsIn version) word_of head_cells (words_tell word_of word_at word_is) head_table)
+    (kinds_tell Says why.Count 6 (EventStandsIn version) word_of head_cells (words_tell word_of word_at word_is) head_table)
 
 pub head_one : (version : ℕ) → IsOne (first_record version)
 head_one version = record { tells = head_tells version; plain = λ h rest f. tt; one = λ h. refl }
 
 pub head_decides : (version : ℕ) → Decides (first_record version)
-head_decides version = seen_decides said (kinds version) (λ v f. (head_with v.0 v.1, said_back v.0 v.1)) (kinds_decide Says why.Count 6 (StandsIn version) word_of head_cells (word_picked word_of word_at (StandsIn version) word_is (stands_decided version)) head_table)
+head_decides version = seen_decides said (kinds version) (λ v f. (head_with v.0 v.1, said_back v.0 v.1)) (kinds_decide Says why.Count 6 (EventStandsIn version) word_of head_cells (word_picked word_of word_at (EventStandsIn version) word_is (stands_decided version)) head_table)
 
 pub word_long : (k : EventWord) → 0 < length (word_of k)
 word_long word.Tick = omega arith
@@ -91,18 +91,18 @@ pub head_spells : (k j : EventWord) (row : Row) (ns : List ℕ) → k ≡ j → 
 head_spells k j row ns e s = subst (λ (z : EventWord). FieldsSpell (slot.Given ∷ slots_by (head_cells z)) row ns) e s
 
 -- of a kind that was told by its word
-pub head_line : (version : ℕ) (k : EventWord) (h : Head) (row : Row) (ns : List ℕ) → k ≡ (said h).0 → StandsIn version k → StartsWith (word_of k) row → FieldsSpell (slot.Given ∷ slots_by (head_cells k)) row ns
+pub head_line : (version : ℕ) (k : EventWord) (h : Head) (row : Row) (ns : List ℕ) → k ≡ (said h).0 → EventStandsIn version k → StartsWith (word_of k) row → FieldsSpell (slot.Given ∷ slots_by (head_cells k)) row ns
     → IsBy (head_cells (said h).0) (said h).1 (λ i. get_or row (suc i) []) (λ i. get_or ns (suc i) 0) → IsLine (first_record version) row h
 head_line version k h row ns e a t s b =
     let j = (said h).0 in
-    let line = word_line why.Count (word_of j) (head_cells j) (λ v. StandsIn version j × FitsBy (head_cells j) v) (said h).1 row ns (subst (λ (z : EventWord). StartsWith (word_of z) row) e t) (head_spells k j row ns e s) b
-    (λ f. (subst (StandsIn version) e a, f)) in
+    let line = word_line why.Count (word_of j) (head_cells j) (λ v. EventStandsIn version j × FitsBy (head_cells j) v) (said h).1 row ns (subst (λ (z : EventWord). StartsWith (word_of z) row) e t) (head_spells k j row ns e s) b
+    (λ f. (subst (EventStandsIn version) e a, f)) in
     λ rest. record { fits = (line rest).fits; made = (line rest).made; follows = tt }
 
-pub head_lacks : (version : ℕ) (k : EventWord) (row : Row) (w : Why) → StandsIn version k → StartsWith (word_of k) row → Lacks (slot.Given ∷ slots_by (head_cells k)) row w → IsWrongLine (first_record version) row w
+pub head_lacks : (version : ℕ) (k : EventWord) (row : Row) (w : Why) → EventStandsIn version k → StartsWith (word_of k) row → Lacks (slot.Given ∷ slots_by (head_cells k)) row w → IsWrongLine (first_record version) row w
 head_lacks version k row w a t l = λ rest. inl (k, (a, t), (refl, inl (t, l)))
 
-pub no_head : (version : ℕ) (cells : Row) (w : Why) → ((k : EventWord) → StandsIn version k → ¬ (get_or cells 0 [] ≡ word_of k)) → HasNoWord 6 cells w → IsWrongLine (first_record version) cells w
+pub no_head : (version : ℕ) (cells : Row) (w : Why) → ((k : EventWord) → EventStandsIn version k → ¬ (get_or cells 0 [] ≡ word_of k)) → HasNoWord 6 cells w → IsWrongLine (first_record version) cells w
 no_head version cells w n h = λ rest. inr (refl, (λ k s. n k s.0 (first_is cells (word_of k) s.1)), h)
 
 pub head_gone : (version : ℕ) → (first_record version).Wrong [] 1 why.Count

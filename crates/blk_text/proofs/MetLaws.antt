@@ -14,7 +14,7 @@ use Rattle.blk_text.specs.Words.{WordLacks}
 use Rattle.blk_text.specs.Reads.{IsOutside, Reads, Halts, IsOne, items_of, with_next}
 use Rattle.blk_text.specs.Tables.{IsVersion, FitsBy, row_by, slots_by, title_by}
 use Rattle.blk_text.specs.Titles.{counted_cells, IsCounted}
-use Rattle.blk_text.specs.Certificate.{served_cells, served, IsServed}
+use Rattle.blk_text.specs.Certificate.{served_cells, served_record, IsServed}
 use Rattle.blk_text.specs.Met.{MetClaim, IsMetClaim, AreFew, met_cells, window_cells, met_title, met_numbers, window, windows, cover_body, met_body, met_form, met_told, met_value, met_rows, SpellsMet, MetClaimFault}
 use Rattle.blk_text.specs.declared.fault.Why.{Why}
 use Rattle.blk_text.specs.declared.fault.Why.TheVariants as why
@@ -72,7 +72,7 @@ windows_tell : (most : ℕ) → Tells (windows most)
 windows_tell most = repeated_tells window window_one (repeats.Exactly most)
 
 cover_tells : (most count : ℕ) → Tells (cover_body most count)
-cover_tells most count = then_tells (windows most) (λ _. items_of (repeats.Exactly count) (λ _. served)) (windows_tell most) (λ ws fit. items_tell count)
+cover_tells most count = then_tells (windows most) (λ _. items_of (repeats.Exactly count) (λ _. served_record)) (windows_tell most) (λ ws fit. items_tell count)
 
 pub body_tells : (count : ℕ) → Tells (met_body count)
 body_tells count = then_tells met_numbers (λ n. cover_body n.1 count) numbers_one.tells (λ n fit. cover_tells n.1 count)
@@ -83,7 +83,7 @@ met_tells = then_tells met_title (λ t. met_body t.1.1) (counted_one (codes "blk
 pub met_decides : Decides met_form
 met_decides = then_decides met_title (λ t. met_body t.1.1) (counted_decides (codes "blk-met"))
     (λ t fit. then_decides met_numbers (λ n. cover_body n.1 t.1.1) (record_decides numbers_row AreFew why.Word (WordLacks (codes "met") (slots_by met_cells)) (word_decides (codes "met") met_cells AreFew met_table))
-    (λ n fits. then_decides (windows n.1) (λ _. items_of (repeats.Exactly t.1.1) (λ _. served))
+    (λ n fits. then_decides (windows n.1) (λ _. items_of (repeats.Exactly t.1.1) (λ _. served_record))
     (repeated_decides window (record_decides window_row WindowInRange why.Count (WordLacks (codes "window") (slots_by window_cells)) (word_decides (codes "window") window_cells WindowInRange window_table)) (repeats.Exactly n.1))
     (λ ws all. served_decides t.1.1)))
 
@@ -110,7 +110,7 @@ rows_spell c h = (
       h.numbers,
       (
         (all_fit window [] c.cover h.cover, refl),
-        ((all_fit served [] (zip c.commands c.rounds) (all_zip c.commands c.rounds h.commands h.rounds), length_zip c.commands c.rounds h.one_each), tt),
+        ((all_fit served_record [] (zip c.commands c.rounds) (all_zip c.commands c.rounds h.commands h.rounds), length_zip c.commands c.rounds h.one_each), tt),
       ),
     ),
   )
@@ -121,14 +121,14 @@ rows_spell c h = (
 pub rows_are : (c : MetClaim)
     → met_rows c ≡ title_by (codes "blk-met") counted_cells (1, (c.depth, length c.commands)) ∷ numbers_row (c.met, length c.cover) ∷ (map window_row c.cover ++ map (row_by served_cells) (zip c.commands c.rounds))
 rows_are c =
-    rw (append-nil (all_rows (λ _. served) with_next [] (zip c.commands c.rounds)), rows_map served (row_by served_cells) (λ v. refl) [] (zip c.commands c.rounds), rows_map window window_row (λ v. refl) [] c.cover) refl
+    rw (append-nil (all_rows (λ _. served_record) with_next [] (zip c.commands c.rounds)), rows_map served_record (row_by served_cells) (λ v. refl) [] (zip c.commands c.rounds), rows_map window window_row (λ v. refl) [] c.cover) refl
 
 pub read_back_is : (c : MetClaim) → IsMetClaim c → SpellsMet (records default_config (strip_bom (rows_text (met_rows c)))) c
 unfolding rows_text
 read_back_is c h =
     let body = all_rows (λ _. window) with_next [] c.cover in
-    let lines = (items_of (repeats.Exactly (length c.commands)) (λ _. served)).rows_of (zip c.commands c.rounds) in
-    let same : map read_back (body ++ lines) ≡ body ++ lines = rw (map-append read_back body lines, items_back window (λ w. refl) [] c.cover, parts_back served (λ s. refl) (zip c.commands c.rounds)) refl in
+    let lines = (items_of (repeats.Exactly (length c.commands)) (λ _. served_record)).rows_of (zip c.commands c.rounds) in
+    let same : map read_back (body ++ lines) ≡ body ++ lines = rw (map-append read_back body lines, items_back window (λ w. refl) [] c.cover, parts_back served_record (λ s. refl) (zip c.commands c.rounds)) refl in
     let back : map read_back (met_rows c) ≡ met_rows c = ap (λ (t : List Row). title_by (codes "blk-met") counted_cells (1, (c.depth, length c.commands)) ∷ numbers_row (c.met, length c.cover) ∷ t) same in
     rw (text_back (met_rows c) _ refl back) (rows_spell c h)
 
@@ -166,12 +166,12 @@ met_in depth count met many ws lines cs rs r f all m fit n p q =
     rw (p, q) (record { depth = (r.0, r.1); few = omega (arith, few, c, n); one_each = d ∙ sym c; numbers = (f.0, omega (arith, fewer, m)); cover = all; commands = all_first lines fit; rounds = all_second lines fit })
 
 pub body_read : (left mid after : Option (List Row)) (count met many : ℕ) (ws : List Window) (lines : List (Command × ℕ)) (cs : List Command) (rs : List ℕ) → Reads met_numbers left mid (met, many) → Reads (windows many) mid after ws
-    → IfSome after (λ rows. Begins (items_of (repeats.Exactly count) (λ _. served)) rows lines []) → length ws ≡ many → cs ≡ map (λ s. s.0) lines → rs ≡ map (λ s. s.1) lines
+    → IfSome after (λ rows. Begins (items_of (repeats.Exactly count) (λ _. served_record)) rows lines []) → length ws ≡ many → cs ≡ map (λ s. s.0) lines → rs ≡ map (λ s. s.1) lines
     → IfSome left (λ rows. Begins (met_body count) rows ((met, length ws), (ws, zip cs rs)) [])
 body_read left mid after count met many ws lines cs rs a b e m p q =
     rw (p, q) (subst (λ v. IfSome left (λ rows. Begins (met_body count) rows v [])) (λ i. ((met, sym m i), (ws, sym (zipped lines) i)))
     (then_reads met_numbers (λ n. cover_body n.1 count) left mid (met, many) (ws, lines) a
-    (then_reads (windows many) (λ _. items_of (repeats.Exactly count) (λ _. served)) mid after ws lines b e)))
+    (then_reads (windows many) (λ _. items_of (repeats.Exactly count) (λ _. served_record)) mid after ws lines b e)))
 
 -- a title and what comes after it
 pub met_whole : (left mid : Option (List Row)) (version depth count : ℕ) (c : MetClaim) → Reads met_title left mid (version, (depth, count)) → IsVersion 1 version
@@ -190,25 +190,25 @@ pub windows_halt : (failed : Bool) (left mid : Option (List Row)) (count : ℕ) 
     → Halts failed (met_body count) left 1 at w
 windows_halt failed left mid count n start at w e r h =
     second_halts failed met_numbers (λ n. cover_body n.1 count) left mid n 1 start at w numbers_one.tells r (omega (arith, e))
-    (first_halts failed (windows n.1) (λ _. items_of (repeats.Exactly count) (λ _. served)) mid start at w (λ ws fit. items_tell count) h)
+    (first_halts failed (windows n.1) (λ _. items_of (repeats.Exactly count) (λ _. served_record)) mid start at w (λ ws fit. items_tell count) h)
 
 pub served_halt : (failed : Bool) (left mid after : Option (List Row)) (count : ℕ) (n : ℕ × ℕ) (ws : List Window) (middle start at : ℕ) (w : Why) → middle ≡ 2 → start ≡ middle + length ws → Reads met_numbers left mid n
-    → Reads (windows n.1) mid after ws → Halts failed (items_of (repeats.Exactly count) (λ _. served)) after start at w → Halts failed (met_body count) left 1 at w
+    → Reads (windows n.1) mid after ws → Halts failed (items_of (repeats.Exactly count) (λ _. served_record)) after start at w → Halts failed (met_body count) left 1 at w
 served_halt failed left mid after count n ws middle start at w e f r k h =
     second_halts failed met_numbers (λ n. cover_body n.1 count) left mid n 1 middle at w numbers_one.tells r (omega (arith, e))
-    (second_halts failed (windows n.1) (λ _. items_of (repeats.Exactly count) (λ _. served)) mid after ws middle start at w (windows_tell n.1) k (omega (arith, f, size_is window window_one ws)) h)
+    (second_halts failed (windows n.1) (λ _. items_of (repeats.Exactly count) (λ _. served_record)) mid after ws middle start at w (windows_tell n.1) k (omega (arith, f, size_is window window_one ws)) h)
 
 -- past the last record
 pub whole_halt : (failed : Bool) (left mid after : Option (List Row)) (count : ℕ) (n : ℕ × ℕ) (ws : List Window) (lines : List (Command × ℕ)) (at : ℕ) (w : Why) → Reads met_numbers left mid n → Reads (windows n.1) mid after ws
-    → IfSome after (λ rows. Begins (items_of (repeats.Exactly count) (λ _. served)) rows lines []) → at ≡ length ws + length lines + 3 → IsOutside failed w → Halts failed (met_body count) left 1 at w
+    → IfSome after (λ rows. Begins (items_of (repeats.Exactly count) (λ _. served_record)) rows lines []) → at ≡ length ws + length lines + 3 → IsOutside failed w → Halts failed (met_body count) left 1 at w
 whole_halt failed left mid after count n ws lines at w a b c e o =
     ends_halt failed (met_body count) left (n, (ws, lines)) 1 at w (body_tells count)
-    (then_reads met_numbers (λ n. cover_body n.1 count) left mid n (ws, lines) a (then_reads (windows n.1) (λ _. items_of (repeats.Exactly count) (λ _. served)) mid after ws lines b c)) long o
+    (then_reads met_numbers (λ n. cover_body n.1 count) left mid n (ws, lines) a (then_reads (windows n.1) (λ _. items_of (repeats.Exactly count) (λ _. served_record)) mid after ws lines b c)) long o
   where
     long : at ≡ 1 + (length ((met_body count).rows_of (n, (ws, lines))) + 1)
     long =
-        let all : length ((items_of (repeats.Exactly count) (λ _. served)).rows_of lines) ≡ length lines = ap length (append-nil _) ∙ size_is served served_one lines in
-        let two = length-append ((windows n.1).rows_of ws) ((items_of (repeats.Exactly count) (λ _. served)).rows_of lines) in
+        let all : length ((items_of (repeats.Exactly count) (λ _. served_record)).rows_of lines) ≡ length lines = ap length (append-nil _) ∙ size_is served_record served_one lines in
+        let two = length-append ((windows n.1).rows_of ws) ((items_of (repeats.Exactly count) (λ _. served_record)).rows_of lines) in
         omega (arith, e, all, two, size_is window window_one ws)
 
 pub title_halts : (failed : Bool) (left : Option (List Row)) (start at : ℕ) (w : Why) → start ≡ 0 → Halts failed met_title left start at w → Halts failed met_form left 0 at w

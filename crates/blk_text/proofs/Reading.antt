@@ -2,7 +2,7 @@
 use Rattle.std.proofs.Common.{◌≡◌, ◌+◌, ◌*◌, ◌≤◌, ◌<◌, ◌∙◌, ℕ, List, [], ◌∷◌, ◌++◌, length, mul-le-mul_right, Bool, true, false, Option, Some, None, refl, sym, ap, subst, inl, inr, arith, append_assoc, append-nil}
 use Rattle.std.specs.Prelude.{IfSome, ◌⊎◌}
 use Rattle.std.proofs.lemmas.List.{length-append}
-use Rattle.blk_text.specs.Sources.{Row, Takes}
+use Rattle.blk_text.specs.Sources.{Row, TakesRecord}
 use Rattle.blk_text.specs.declared.fault.Why.{Why}
 use Rattle.parts.specs.declared.Repeats.{Repeats}
 use Rattle.parts.specs.declared.Repeats.TheVariants as repeats
@@ -12,11 +12,11 @@ use Rattle.parts.proofs.Many.{all_more, fit_more, ended_reached, many_reached, H
 use Rattle.parts.proofs.Then.{both_begin, reached_first, reached_second, after_all_reached}
 use Rattle.blk_text.specs.Reads.{IsOutside, Reads, HandReads, HandFails, Fails, Halts, Reaches, IsLine, IsStopped, ItemsBefore, with_next, repeated, ended_of, items_of, size_of, beyond_of}
 
-takes_some : (rest : List Row) (after : Option (List Row)) (f : Row) → Takes (Some rest) after f true → (more : List Row) × (rest ≡ f ∷ more) × (after ≡ Some more)
+takes_some : (rest : List Row) (after : Option (List Row)) (f : Row) → TakesRecord (Some rest) after f true → (more : List Row) × (rest ≡ f ∷ more) × (after ≡ Some more)
 takes_some [] after f t = cc t
 takes_some (r ∷ rs) after f t = (rs, rw t.1 refl, t.2)
 
-takes_none : (rest : List Row) (after : Option (List Row)) (f : Row) → Takes (Some rest) after f false → rest ≡ []
+takes_none : (rest : List Row) (after : Option (List Row)) (f : Row) → TakesRecord (Some rest) after f false → rest ≡ []
 takes_none [] after f t = refl
 takes_none (r ∷ rs) after f t = cc t.0
 
@@ -33,7 +33,7 @@ abbrev pub Fitting : {V : Type 0} → (List V → Part Row Why V) → List V →
 Fitting q vs = AllFit q with_next [] vs
 
 pub made_more : {V : Type 0} (q : List V → Part Row Why V) (input left mid new : Option (List Row)) (vs : List V) (row : Row) (v : V)
-    → MadeOf q input vs left → Takes left mid row true → HandReads (q vs) mid row new v → MadeOf q input (vs ++ v ∷ []) new
+    → MadeOf q input vs left → TakesRecord left mid row true → HandReads (q vs) mid row new v → MadeOf q input (vs ++ v ∷ []) new
 made_more q None left mid new vs row v m t h = tt
 made_more q (Some rows) left mid new vs row v m t h =
     let (more, first, then) = takes_some m.0 mid row (rw m.1 at t) in
@@ -67,7 +67,7 @@ full_stops (repeats.Exactly n) c e rest = e
 
 -- an item is wrong
 pub items_wrong : {V : Type 0} (failed : Bool) (q : List V → Part Row Why V) (x : Repeats) (input left mid : Option (List Row)) (vs : List V) (row : Row) (start now at : ℕ) (w : Why)
-    → MadeOf q input vs left → Takes left mid row true → Fitting q vs → length vs < most_of x → now ≡ start + size_of q vs + 1
+    → MadeOf q input vs left → TakesRecord left mid row true → Fitting q vs → length vs < most_of x → now ≡ start + size_of q vs + 1
     → HandFails failed (q vs) mid row now at w → Fails failed (repeated x q) input start at w
 items_wrong failed q x None left mid vs row start now at w m t f l e h = tt
 items_wrong failed q x (Some rows) left mid vs row start now at w m t f l e h =
@@ -83,7 +83,7 @@ items_wrong failed q x (Some rows) left mid vs row start now at w m t f l e h =
 
 -- an item never came
 pub items_few : {V : Type 0} (failed : Bool) (q : List V → Part Row Why V) (x : Repeats) (n : ℕ) (input left mid : Option (List Row)) (vs : List V) (row : Row) (start at : ℕ) (w : Why)
-    → x ≡ repeats.Exactly n → MadeOf q input vs left → Takes left mid row false → Fitting q vs → length vs < most_of x → at ≡ start + size_of q vs + 1
+    → x ≡ repeats.Exactly n → MadeOf q input vs left → TakesRecord left mid row false → Fitting q vs → length vs < most_of x → at ≡ start + size_of q vs + 1
     → (q vs).Wrong [] 1 w → Fails failed (repeated x q) input start at w
 items_few failed q x n None left mid vs row start at w g m t f l e h = tt
 items_few failed q x n (Some rows) left mid vs row start at w g m t f l e h =
@@ -92,7 +92,7 @@ items_few failed q x n (Some rows) left mid vs row start at w g m t f l e h =
 
 -- the text is over where there may be fewer
 pub items_over : {V : Type 0} (q : List V → Part Row Why V) (x : Repeats) (n : ℕ) (input left mid : Option (List Row)) (vs : List V) (row : Row)
-    → x ≡ repeats.AtMost n → MadeOf q input vs left → Takes left mid row false → Fitting q vs → length vs < most_of x → IfSome input (λ rows. Begins (repeated x q) rows vs [])
+    → x ≡ repeats.AtMost n → MadeOf q input vs left → TakesRecord left mid row false → Fitting q vs → length vs < most_of x → IfSome input (λ rows. Begins (repeated x q) rows vs [])
 items_over q x n None left mid vs row g m t f l = tt
 items_over q x n (Some rows) left mid vs row g m t f l =
     let none = takes_none m.0 mid row (rw m.1 at t) in
@@ -137,13 +137,13 @@ pub many_ends : {V W : Type 0} (q : List V → Part Row Why V) (past : List V �
 many_ends q past x None vs h = tt
 many_ends q past x (Some rows) vs h = record { fits = (h.fits, tt); made = h.made ∙ ap (λ z. z ++ []) (sym (append-nil (all_rows q with_next [] vs))); follows = (h.follows, refl) }
 
-pub full_ends : {V : Type 0} (q : List V → Part Row Why V) (x : Repeats) (left mid new : Option (List Row)) (vs : List V) (row : Row) → Reads (repeated x q) left mid vs → Takes mid new row false
+pub full_ends : {V : Type 0} (q : List V → Part Row Why V) (x : Repeats) (left mid new : Option (List Row)) (vs : List V) (row : Row) → Reads (repeated x q) left mid vs → TakesRecord mid new row false
     → IfSome left (λ rows. Begins (repeated x q) rows vs [])
 full_ends q x None mid new vs row h t = tt
 full_ends q x (Some rows) mid new vs row h t = let none = takes_none h.0 new row (rw h.1 at t) in rw none at h.2
 
 pub past_wrong : {V W : Type 0} (failed : Bool) (q : List V → Part Row Why V) (past : List V → Part Row Why W) (x : Repeats) (left mid new : Option (List Row)) (vs : List V) (row : Row) (start at : ℕ) (w : Why)
-    → Reads (repeated x q) left mid vs → Takes mid new row true → at ≡ start + size_of q vs + 1 → ((rest : List Row) → (over (beyond_of x) (past vs)).Wrong (row ∷ rest) 1 w) → Fails failed (ended_of x q past) left start at w
+    → Reads (repeated x q) left mid vs → TakesRecord mid new row true → at ≡ start + size_of q vs + 1 → ((rest : List Row) → (over (beyond_of x) (past vs)).Wrong (row ∷ rest) 1 w) → Fails failed (ended_of x q past) left start at w
 past_wrong failed q past x None mid new vs row start at w h t e bad = tt
 past_wrong failed q past x (Some rows) mid new vs row start at w h t e bad =
     let (more, first, then) = takes_some h.0 new row (rw h.1 at t) in
@@ -163,7 +163,7 @@ then_reads p q (Some rows) mid v w h k = both_begin p q rows h.0 v w [] h.2 (rw 
 
 -- one record
 
-pub line_reads : {V : Type 0} (p : Part Row Why V) (left new : Option (List Row)) (row : Row) (v : V) → Takes left new row true → IsLine p row v → Reads p left new v
+pub line_reads : {V : Type 0} (p : Part Row Why V) (left new : Option (List Row)) (row : Row) (v : V) → TakesRecord left new row true → IsLine p row v → Reads p left new v
 line_reads p None new row v t h = tt
 line_reads p (Some rows) new row v t h = let (more, first, then) = takes_some rows new row t in (more, then, subst (λ r. Begins p r v more) (sym first) (h more))
 

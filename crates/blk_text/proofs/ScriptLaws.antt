@@ -17,7 +17,7 @@ use Rattle.blk_text.specs.Words.{StartsWith, HasNoWord, WordLacks}
 use Rattle.blk_text.specs.Fields.{Lacks, FieldsSpell}
 use Rattle.blk_text.specs.Reads.{Reads, Halts, IsLine, IsWrongLine, IsOne, items_of}
 use Rattle.blk_text.specs.Tables.{FitsBy, row_by, slots_by, kinds_record}
-use Rattle.blk_text.specs.Script.{word_of, StandsIn, Held, step_cells, held, LineFits, IsLineOf, IsRight, IsNoBio, script_cells, IsTitle, IsEnough, TooFew, plain_title, title, plain_step, step, script_body, script_form, script_value, Scripted, title_of, script_rows, IsScript, IsScriptOf, SpellsVersion, SpellsScript, ScriptFault}
+use Rattle.blk_text.specs.Script.{word_of, StepStandsIn, Held, step_cells, step_said, LineFits, IsLineOf, IsRight, HasNoSuchBio, script_cells, IsTitle, IsEnough, TooFew, plain_title, title, plain_step, step, script_body, script_form, script_value, Scripted, title_of, script_rows, IsScript, IsScriptOf, SpellsVersion, SpellsScript, ScriptFault}
 use Rattle.blk_text.specs.Versions.{latest, most_tags}
 use Rattle.blk_text.specs.declared.fault.Why.{Why}
 use Rattle.blk_text.specs.declared.fault.Why.TheVariants as why
@@ -55,7 +55,7 @@ word_is : (k : Word) → word_at (word_of k) ≡ k
 word_is word.Bio = refl
 word_is k = refl
 
-stands_decided : (version : ℕ) (k : Word) → Dec (StandsIn version k)
+stands_decided : (version : ℕ) (k : Word) → Dec (StepStandsIn version k)
 stands_decided version word.Depth = at_most 2 version
 stands_decided version k = inl tt
 
@@ -80,29 +80,29 @@ step_table hw submitters g s word.Tick = record { sized = (tt, (tt, (tt, (tt, (t
 step_table hw submitters g s word.Run = record { sized = (omega arith, (tt, (tt, (tt, (tt, tt))))); within = λ v f. f; made = λ x. x.0; back = λ v f. refl; forth = λ x. refl; fits = λ x f. f }
 
 -- the step of a kind
-line_of : (k : Word) → Held k → Line
-line_of word.Bio b = line.Bio b
-line_of word.Flush s = line.Flush s
-line_of word.Drain h = line.Drain h
-line_of word.Issue i = line.Issue i.0 i.1
-line_of word.Done t = line.Done t
-line_of word.Back t = line.Back t
-line_of word.Depth d = line.Depth d
-line_of word.Tick t = line.Tick
-line_of word.Run n = line.Run n
+line_with : (k : Word) → Held k → Line
+line_with word.Bio b = line.Bio b
+line_with word.Flush s = line.Flush s
+line_with word.Drain h = line.Drain h
+line_with word.Issue i = line.Issue i.0 i.1
+line_with word.Done t = line.Done t
+line_with word.Back t = line.Back t
+line_with word.Depth d = line.Depth d
+line_with word.Tick t = line.Tick
+line_with word.Run n = line.Run n
 
-line_back : (l : Line) → line_of (held l).0 (held l).1 ≡ l
-unfolding line_of
+line_back : (l : Line) → line_with (step_said l).0 (step_said l).1 ≡ l
+unfolding line_with
 line_back (line.Bio b) = refl
 line_back l = refl
 
-held_back : (k : Word) (v : Held k) → held (line_of k v) ≡ (k, v)
-unfolding line_of
+held_back : (k : Word) (v : Held k) → step_said (line_with k v) ≡ (k, v)
+unfolding line_with
 held_back word.Bio v = refl
 held_back k v = refl
 
 abbrev kinds : ℕ → ℕ → ℕ → Rattle.parts.specs.Parts.Part Row Why ((k : Word) × Held k)
-kinds version hw submitters = kinds_record Held why.Count 6 (StandsIn version) word_of (step_cells hw submitters)
+kinds version hw submitters = kinds_record Held why.Count 6 (StepStandsIn version) word_of (step_cells hw submitters)
 
 one_bio : (b c : Bio) → line.Bio b ≡ line.Bio c → b ≡ c
 one_bio b c e = cc e
@@ -117,7 +117,7 @@ one_bio_fault b bio_fault.Empty bio_fault.Range p q = absurd (omega (arith, p, q
 one_bio_fault b bio_fault.Range bio_fault.Empty p q = absurd (omega (arith, q, p.0))
 one_bio_fault b bio_fault.Range bio_fault.Range p q = refl
 
-no_bio_once : (l : Line) (k j : ℕ) (w x : Why) → IsNoBio l k w → IsNoBio l j x → (k ≡ j) × (w ≡ x)
+no_bio_once : (l : Line) (k j : ℕ) (w x : Why) → HasNoSuchBio l k w → HasNoSuchBio l j x → (k ≡ j) × (w ≡ x)
 no_bio_once l k j w x n m =
     let same : n.0 ≡ m.0 = one_bio n.0 m.0 (sym n.2 ∙ m.2) in
     let fault = one_bio_fault m.0 n.1 m.1 (subst (λ (b : Bio). IsBioAnswer b.id b.dir b.first b.sectors (Err n.1)) same n.5) m.5 in
@@ -139,7 +139,7 @@ bio_or_none b = elim (at_most 1 b.sectors) [
     out : (n : ℕ) → ¬ (n ≤ sector_limit) → sector_limit < n
     out n h = grind (arith, h)
 
-right_or_no_bio : (l : Line) → IsRight l ⊎ ((k : ℕ) × (w : Why) × IsNoBio l k w)
+right_or_no_bio : (l : Line) → IsRight l ⊎ ((k : ℕ) × (w : Why) × HasNoSuchBio l k w)
 right_or_no_bio (line.Bio b) = elim (bio_or_none b) [
   | inl i ↦ inl (λ c e. subst IsBio (one_bio b c e) i)
   | inr f ↦ inr (1, why.Bio f.0, (b, f.0, refl, refl, refl, f.1))
@@ -147,16 +147,16 @@ right_or_no_bio (line.Bio b) = elim (bio_or_none b) [
 right_or_no_bio l = inl (λ b e. absurd (cc e))
 
 step_tells : (version hw submitters : ℕ) → hw ≤ MAX_QUEUES → submitters ≤ MAX_SOFT_QUEUES → Tells (step version hw submitters)
-step_tells version hw submitters g s = tested_tells (plain_step version hw submitters) IsRight IsNoBio
-    (seen_tells held (kinds version hw submitters) (λ l m e. sym (line_back l) ∙ ap (λ (h : (k : Word) × Held k). line_of h.0 h.1) e ∙ line_back m) (kinds_tell Held why.Count 6 (StandsIn version) word_of (step_cells hw submitters) (words_tell word_of word_at word_is) (step_table hw submitters g s)))
+step_tells version hw submitters g s = tested_tells (plain_step version hw submitters) IsRight HasNoSuchBio
+    (seen_tells step_said (kinds version hw submitters) (λ l m e. sym (line_back l) ∙ ap (λ (h : (k : Word) × Held k). line_with h.0 h.1) e ∙ line_back m) (kinds_tell Held why.Count 6 (StepStandsIn version) word_of (step_cells hw submitters) (words_tell word_of word_at word_is) (step_table hw submitters g s)))
     (λ l k j w x fit. no_bio_once l k j w x) (λ l k w good n. no_bio_is n.0 n.1 (good n.0 n.2) n.5) (λ l k w n. (let is = n.3 in (omega (arith, is), omega (arith, is))))
 
 pub step_one : (version hw submitters : ℕ) → hw ≤ MAX_QUEUES → submitters ≤ MAX_SOFT_QUEUES → IsOne (step version hw submitters)
 step_one version hw submitters g s = record { tells = step_tells version hw submitters g s; plain = λ l rest f. tt; one = λ l. refl }
 
 step_decides : (version hw submitters : ℕ) → hw ≤ MAX_QUEUES → submitters ≤ MAX_SOFT_QUEUES → Decides (step version hw submitters)
-step_decides version hw submitters g s = tested_decides (plain_step version hw submitters) IsRight IsNoBio
-    (seen_decides held (kinds version hw submitters) (λ v f. (line_of v.0 v.1, held_back v.0 v.1)) (kinds_decide Held why.Count 6 (StandsIn version) word_of (step_cells hw submitters) (word_picked word_of word_at (StandsIn version) word_is (stands_decided version)) (step_table hw submitters g s)))
+step_decides version hw submitters g s = tested_decides (plain_step version hw submitters) IsRight HasNoSuchBio
+    (seen_decides step_said (kinds version hw submitters) (λ v f. (line_with v.0 v.1, held_back v.0 v.1)) (kinds_decide Held why.Count 6 (StepStandsIn version) word_of (step_cells hw submitters) (word_picked word_of word_at (StepStandsIn version) word_is (stands_decided version)) (step_table hw submitters g s)))
     (λ l fit. right_or_no_bio l)
 
 -- the numbers of a step, as its table and as the script say
@@ -190,15 +190,15 @@ pub kind_spells : (hw submitters : ℕ) (k j : Word) (row : Row) (ns : List ℕ)
 kind_spells hw submitters k j row ns e s = subst (λ (z : Word). FieldsSpell (slot.Given ∷ slots_by (step_cells hw submitters z)) row ns) e s
 
 -- of a kind that was told by its word
-pub kind_line : (version hw submitters : ℕ) (k j : Word) (v : Held j) (row : Row) (ns : List ℕ) → k ≡ j → StandsIn version k → StartsWith (word_of k) row → FieldsSpell (slot.Given ∷ slots_by (step_cells hw submitters k)) row ns
+pub kind_line : (version hw submitters : ℕ) (k j : Word) (v : Held j) (row : Row) (ns : List ℕ) → k ≡ j → StepStandsIn version k → StartsWith (word_of k) row → FieldsSpell (slot.Given ∷ slots_by (step_cells hw submitters k)) row ns
     → IsBy (step_cells hw submitters j) v (λ i. get_or row (suc i) []) (λ i. get_or ns (suc i) 0) → IsLine (kinds version hw submitters) row (j, v)
 kind_line version hw submitters k j v row ns e a t s b =
-    let h = word_line why.Count (word_of j) (step_cells hw submitters j) (λ v. StandsIn version j × FitsBy (step_cells hw submitters j) v) v row ns (subst (λ (z : Word). StartsWith (word_of z) row) e t) (kind_spells hw submitters k j row ns e s) b
-    (λ f. (subst (StandsIn version) e a, f)) in
+    let h = word_line why.Count (word_of j) (step_cells hw submitters j) (λ v. StepStandsIn version j × FitsBy (step_cells hw submitters j) v) v row ns (subst (λ (z : Word). StartsWith (word_of z) row) e t) (kind_spells hw submitters k j row ns e s) b
+    (λ f. (subst (StepStandsIn version) e a, f)) in
     λ rest. record { fits = (h rest).fits; made = (h rest).made; follows = tt }
 
 -- and whose bio is one
-pub plain_line : (version hw submitters : ℕ) (l : Line) (row : Row) → IsLine (kinds version hw submitters) row (held l) → IsRight l → IsLine (step version hw submitters) row l
+pub plain_line : (version hw submitters : ℕ) (l : Line) (row : Row) → IsLine (kinds version hw submitters) row (step_said l) → IsRight l → IsLine (step version hw submitters) row l
 plain_line version hw submitters l row h r = λ rest. record { fits = ((h rest).fits, r); made = (h rest).made; follows = tt }
 
 pub bio_right : (b : Bio) → IsBio b → IsRight (line.Bio b)
@@ -208,10 +208,10 @@ bio_right b i = λ c e. subst IsBio (one_bio b c e) i
 abbrev pub bio_with : List ℕ → Dir → Bio
 bio_with ns dir = record { id = record { submitter = get_or ns 1 0; serial = get_or ns 2 0 }; dir = dir; first = get_or ns 4 0; sectors = get_or ns 5 0 }
 
-pub kind_lacks : (version hw submitters : ℕ) (k : Word) (row : Row) (w : Why) → StandsIn version k → StartsWith (word_of k) row → Lacks (slot.Given ∷ slots_by (step_cells hw submitters k)) row w → IsWrongLine (step version hw submitters) row w
+pub kind_lacks : (version hw submitters : ℕ) (k : Word) (row : Row) (w : Why) → StepStandsIn version k → StartsWith (word_of k) row → Lacks (slot.Given ∷ slots_by (step_cells hw submitters k)) row w → IsWrongLine (step version hw submitters) row w
 kind_lacks version hw submitters k row w a t l = λ rest. inl (inl (k, (a, t), (refl, inl (t, l))))
 
-pub no_kind : (version hw submitters : ℕ) (cells : Row) (w : Why) → ((k : Word) → StandsIn version k → ¬ (get_or cells 0 [] ≡ word_of k)) → HasNoWord 6 cells w → IsWrongLine (step version hw submitters) cells w
+pub no_kind : (version hw submitters : ℕ) (cells : Row) (w : Why) → ((k : Word) → StepStandsIn version k → ¬ (get_or cells 0 [] ≡ word_of k)) → HasNoWord 6 cells w → IsWrongLine (step version hw submitters) cells w
 no_kind version hw submitters cells w n h = λ rest. inl (inr (refl, (λ k s. n k s.0 (first_is cells (word_of k) s.1)), h))
 
 pub step_gone : (version hw submitters : ℕ) → (step version hw submitters).Wrong [] 1 why.Count

@@ -7,7 +7,7 @@ use Rattle.csv.specs.Machine.{Read, fields_after, field_after, ends_at_end, is_e
 use Rattle.csv.specs.Reading.{default_config, records_from, records_next, source_of, pending_of, has_failed, ReadsNext, NextIs, ReadRecord}
 use Rattle.csv.specs.declared.reader.Reader.{Reader}
 use Rattle.csv.specs.declared.parser.State.TheVariants as st
-use Rattle.blk_text.specs.Sources.{Row, records_after, left_of, Takes}
+use Rattle.blk_text.specs.Sources.{Row, records_after, left_of, TakesRecord}
 
 -- a byte of a plain field that ends a record leaves the machine between two records
 field_rests : (c : ℕ) → is_end (in_field default_config c).1 ≡ true → ends_at_end (in_field default_config c).0 ≡ false
@@ -103,14 +103,14 @@ one_more n s xs = rw (add-one n) refl
 taken : (n : ℕ) (s2 : State) (o : Option Read) (found : Bool) (f : Row) (ys : List ℕ)
     → ((p : Read) → o ≡ Some p → (ends_at_end p.1 ≡ false) × (records_from default_config n p.1 p.2 ≡ records_after p.1 p.2))
     → NextIs o found f s2 ys
-    → Takes (Some (records_next (records_from default_config n) o)) (if ends_at_end s2 then None else Some (records_after s2 ys)) f found
+    → TakesRecord (Some (records_next (records_from default_config n) o)) (if ends_at_end s2 then None else Some (records_after s2 ys)) f found
 taken n s2 None found f ys h r = r
 taken n s2 (Some p) found f ys h r =
     let k = h p refl in
     (r.0, r.1, rw (r.2, r.3, k.0) (ap Some (sym k.1)))
 
 reads : (s s2 : State) (o k : Option (List ℕ)) (found : Bool) (f : Row) → ends_at_end s ≡ false → ReadsNext default_config s o k found f s2
-    → Takes (option_map (records_after s) o) (if ends_at_end s2 then None else option_map (records_after s2) k) f found
+    → TakesRecord (option_map (records_after s) o) (if ends_at_end s2 then None else option_map (records_after s2) k) f found
 reads s s2 None k found f e r = tt
 reads s s2 (Some xs) None found f e r = absurd r
 reads s s2 (Some xs) (Some ys) found f e r =
@@ -127,7 +127,7 @@ reads s s2 (Some xs) (Some ys) found f e r =
 
 -- a read takes the first record that is left
 pub takes_read : {R : Type 0} (rem : R → Option (List ℕ)) (a b : Reader R) (f : Row) (found : Bool) → a.config ≡ default_config → ReadRecord rem a b found f
-    → Takes (left_of rem a) (left_of rem b) f found
+    → TakesRecord (left_of rem a) (left_of rem b) f found
 takes_read rem a b f found ec r = elim (cases_Bool (ends_at_end a.state)) [
   | inl t ↦ rw t tt
   | inr n ↦ let e : source_of rem b ≡ pending_of (rem b.rdr) b = rw r.1 refl in rw (n, e) (reads a.state b.state (source_of rem a) (pending_of (rem b.rdr) b) found f n (rw ec at r.0))
@@ -135,7 +135,7 @@ takes_read rem a b f found ec r = elim (cases_Bool (ends_at_end a.state)) [
 
 -- of a reader that has failed nothing is known
 pub takes_failed : {R : Type 0} (rem : R → Option (List ℕ)) (a : Reader R) (after : Option (List Row)) (f : Row) (found : Bool) → has_failed a ≡ true
-    → Takes (left_of rem a) after f found
+    → TakesRecord (left_of rem a) after f found
 takes_failed rem a after f found h = elim (cases_Bool (ends_at_end a.state)) [
   | inl t ↦ rw t tt
   | inr n ↦ rw (n, h) tt

@@ -112,12 +112,12 @@ title = counted_title (codes "blk-certificate")
 abbrev pub bound : ℕ → Part Row Why (Option (ℤ × Window))
 bound count = seen_as kind_of (by_word Bound (TellsBound count) (bound_kind count) (NextWrong why.Word (HasNoWord 4)))
 
-abbrev pub served : Part Row Why (Command × ℕ)
-served = table_record why.Count served_cells IsServed
+abbrev pub served_record : Part Row Why (Command × ℕ)
+served_record = table_record why.Count served_cells IsServed
 
 -- a bound and so many commands
 abbrev pub claim_body : ℕ → Part Row Why (Option (ℤ × Window) × List (Command × ℕ))
-claim_body count = then (bound count) (λ b. items_of (repeats.Exactly count) (λ _. served))
+claim_body count = then (bound count) (λ b. items_of (repeats.Exactly count) (λ _. served_record))
 
 -- a title with the depth and the number of commands, a bound, and just so many commands with their rounds
 abbrev pub claim_form : Part Row Why ((ℕ × (ℕ × ℕ)) × (Option (ℤ × Window) × List (Command × ℕ)))

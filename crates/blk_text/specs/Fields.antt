@@ -79,12 +79,12 @@ NumberOf (slot.Number least most) f n = f ≡ decimal n
 NumberOf (slot.Lateness most) f n = IsSized f n
 
 -- a number lies in a slot's range
-abbrev pub IsWithin : Slot → ℕ → Type 0
-IsWithin slot.Given n = Unit {0}
-IsWithin slot.Blank n = Unit {0}
-IsWithin slot.Direction n = Unit {0}
-IsWithin (slot.Number least most) n = (least ≤ n) × (n ≤ most)
-IsWithin (slot.Lateness most) n = n ≤ most
+abbrev pub IsWithinSlot : Slot → ℕ → Type 0
+IsWithinSlot slot.Given n = Unit {0}
+IsWithinSlot slot.Blank n = Unit {0}
+IsWithinSlot slot.Direction n = Unit {0}
+IsWithinSlot (slot.Number least most) n = (least ≤ n) × (n ≤ most)
+IsWithinSlot (slot.Lateness most) n = n ≤ most
 
 -- each field of a record has this, beside the slot and the number at its place
 abbrev pub EachNumber : (Slot → List ℕ → ℕ → Type 0) → List Slot → Row → List ℕ → Type 0
@@ -92,7 +92,7 @@ EachNumber P slots row ns = (k : ℕ) → k < length slots → P (get_or slots k
 
 -- a field is what its slot wants, and spells this number where the slot has one
 abbrev pub FieldSpells : Slot → List ℕ → ℕ → Type 0
-FieldSpells s f n = IsBlank s f × IsDirection s f × NumberOf s f n × IsWithin s n
+FieldSpells s f n = IsBlank s f × IsDirection s f × NumberOf s f n × IsWithinSlot s n
 
 -- a record's fields spell these numbers, by place
 abbrev pub FieldsSpell : List Slot → Row → List ℕ → Type 0

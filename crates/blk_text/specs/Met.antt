@@ -9,7 +9,7 @@ use Rattle.edd_check.specs.declared.Window.{Window}
 use Rattle.edd_check.specs.Window.{WindowInRange}
 use Rattle.blk_text.specs.Sources.{Row}
 use Rattle.blk_text.specs.Commands.{IsCommandInRange}
-use Rattle.blk_text.specs.Certificate.{served}
+use Rattle.blk_text.specs.Certificate.{served_record}
 use Rattle.blk_text.specs.Reads.{items_of, repeated}
 use Rattle.blk_text.specs.Tables.{Cell, Number, Blank, word_record}
 use Rattle.blk_text.specs.Titles.{counted_title}
@@ -68,7 +68,7 @@ windows count = repeated (repeats.Exactly count) (λ _. window)
 
 -- so many windows and then so many commands
 abbrev pub cover_body : ℕ → ℕ → Part Row Why (List Window × List (Command × ℕ))
-cover_body most count = then (windows most) (λ _. items_of (repeats.Exactly count) (λ _. served))
+cover_body most count = then (windows most) (λ _. items_of (repeats.Exactly count) (λ _. served_record))
 
 -- how many are met and how many windows there are, the windows, and so many commands
 abbrev pub met_body : ℕ → Part Row Why ((ℕ × ℕ) × (List Window × List (Command × ℕ)))

@@ -41,16 +41,16 @@ word_of word.Tick = codes "tick"
 word_of word.Run = codes "run"
 
 -- a depth is set from version 2 on, and the other steps stand in each version
-abbrev pub StandsIn : ℕ → Word → Type 0
-StandsIn version word.Bio = Unit {0}
-StandsIn version word.Flush = Unit {0}
-StandsIn version word.Drain = Unit {0}
-StandsIn version word.Issue = Unit {0}
-StandsIn version word.Done = Unit {0}
-StandsIn version word.Back = Unit {0}
-StandsIn version word.Depth = 2 ≤ version
-StandsIn version word.Tick = Unit {0}
-StandsIn version word.Run = Unit {0}
+abbrev pub StepStandsIn : ℕ → Word → Type 0
+StepStandsIn version word.Bio = Unit {0}
+StepStandsIn version word.Flush = Unit {0}
+StepStandsIn version word.Drain = Unit {0}
+StepStandsIn version word.Issue = Unit {0}
+StepStandsIn version word.Done = Unit {0}
+StepStandsIn version word.Back = Unit {0}
+StepStandsIn version word.Depth = 2 ≤ version
+StepStandsIn version word.Tick = Unit {0}
+StepStandsIn version word.Run = Unit {0}
 
 -- what each kind of step says beside its word
 abbrev pub Held : Word → Type 0
@@ -77,24 +77,24 @@ step_cells hw submitters word.Tick = Blank ∷ Blank ∷ Blank ∷ Blank ∷ Bla
 step_cells hw submitters word.Run = Number 1 MAX_ROUNDS (λ n. n) ∷ Blank ∷ Blank ∷ Blank ∷ Blank ∷ []
 
 -- the kind of a step, and what it says
-abbrev pub held : Line → (k : Word) × Held k
-held (line.Bio b) = (word.Bio, b)
-held (line.Flush submitter) = (word.Flush, submitter)
-held (line.Drain hw) = (word.Drain, hw)
-held (line.Issue hw tag) = (word.Issue, (hw, tag))
-held (line.Done tag) = (word.Done, tag)
-held (line.Back tag) = (word.Back, tag)
-held (line.Depth depth) = (word.Depth, depth)
-held line.Tick = (word.Tick, tt)
-held (line.Run n) = (word.Run, n)
+abbrev pub step_said : Line → (k : Word) × Held k
+step_said (line.Bio b) = (word.Bio, b)
+step_said (line.Flush submitter) = (word.Flush, submitter)
+step_said (line.Drain hw) = (word.Drain, hw)
+step_said (line.Issue hw tag) = (word.Issue, (hw, tag))
+step_said (line.Done tag) = (word.Done, tag)
+step_said (line.Back tag) = (word.Back, tag)
+step_said (line.Depth depth) = (word.Depth, depth)
+step_said line.Tick = (word.Tick, tt)
+step_said (line.Run n) = (word.Run, n)
 
 -- the bio of a step, if it has one, is a bio
 abbrev pub IsRight : Line → Type 0
 IsRight l = (b : Bio) → l ≡ line.Bio b → IsBio b
 
 -- there is no such bio, for this reason
-abbrev pub IsNoBio : Line → ℕ → Why → Type 0
-IsNoBio l k w = (b : Bio) × (f : BioFault) × (l ≡ line.Bio b) × (k ≡ 1) × (w ≡ why.Bio f) × IsBioAnswer b.id b.dir b.first b.sectors (Err f)
+abbrev pub HasNoSuchBio : Line → ℕ → Why → Type 0
+HasNoSuchBio l k w = (b : Bio) × (f : BioFault) × (l ≡ line.Bio b) × (k ≡ 1) × (w ≡ why.Bio f) × IsBioAnswer b.id b.dir b.first b.sectors (Err f)
 
 -- the numbers of a step lie in their ranges, for so many hardware queues and submitters
 abbrev pub LineFits : ℕ → ℕ → Line → Type 0
@@ -110,7 +110,7 @@ LineFits hw submitters (line.Run n) = (1 ≤ n) × (n ≤ MAX_ROUNDS)
 
 -- a step stands in a version
 abbrev pub IsLineOf : ℕ → Line → Type 0
-IsLineOf version l = StandsIn version (held l).0
+IsLineOf version l = StepStandsIn version (step_said l).0
 
 -- a title's numbers lie in their ranges, but for the least number of submitters
 pub record IsTitle (version : ℕ) (t : Title) : Type 0 where
@@ -165,11 +165,11 @@ title = tested plain_title IsEnough TooFew
 
 -- a step by its table
 abbrev pub plain_step : ℕ → ℕ → ℕ → Part Row Why Line
-plain_step version hw submitters = seen_as held (kinds_record Held why.Count 6 (StandsIn version) word_of (step_cells hw submitters))
+plain_step version hw submitters = seen_as step_said (kinds_record Held why.Count 6 (StepStandsIn version) word_of (step_cells hw submitters))
 
 -- a step of a version, for so many hardware queues and submitters
 abbrev pub step : ℕ → ℕ → ℕ → Part Row Why Line
-step version hw submitters = tested (plain_step version hw submitters) IsRight IsNoBio
+step version hw submitters = tested (plain_step version hw submitters) IsRight HasNoSuchBio
 
 -- a setup and steps, at most so many
 abbrev pub script_body : ℕ × Title → Part Row Why (Setup × List Line)

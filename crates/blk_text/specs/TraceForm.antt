@@ -55,14 +55,14 @@ word_of word.Back = codes "back"
 word_of word.Depth = codes "depth"
 
 -- a depth is set from version 2 on, and the other events stand in each version
-abbrev pub StandsIn : ℕ → EventWord → Type 0
-StandsIn version word.Tick = Unit {0}
-StandsIn version word.Release = Unit {0}
-StandsIn version word.Join = Unit {0}
-StandsIn version word.Issue = Unit {0}
-StandsIn version word.Done = Unit {0}
-StandsIn version word.Back = Unit {0}
-StandsIn version word.Depth = 2 ≤ version
+abbrev pub EventStandsIn : ℕ → EventWord → Type 0
+EventStandsIn version word.Tick = Unit {0}
+EventStandsIn version word.Release = Unit {0}
+EventStandsIn version word.Join = Unit {0}
+EventStandsIn version word.Issue = Unit {0}
+EventStandsIn version word.Done = Unit {0}
+EventStandsIn version word.Back = Unit {0}
+EventStandsIn version word.Depth = 2 ≤ version
 
 -- what the first record of each kind of event says beside its word; of a group its id, and how many bios follow
 abbrev pub Says : EventWord → Type 0
@@ -100,7 +100,7 @@ said (head.Depth depth) = (word.Depth, depth)
 
 -- the first record of an event
 abbrev pub first_record : ℕ → Part Row Why Head
-first_record version = seen_as said (kinds_record Says why.Count 6 (StandsIn version) word_of head_cells)
+first_record version = seen_as said (kinds_record Says why.Count 6 (EventStandsIn version) word_of head_cells)
 
 -- what is wrong with a record of a group that does not begin as a bio's: what is wrong with it as the first record of an
 -- event, and else that it came too soon
@@ -130,9 +130,9 @@ abbrev pub group_bio : ℕ → Limits → List Bio → Part Row Why Bio
 group_bio version limits before = tested (whole_bio version) (Tiles limits before) (IsAstray limits before)
 
 -- the bios of the request that is made of a group so far
-abbrev pub held : Option (List Bio) → List Bio
-held None = []
-held (Some bios) = bios
+abbrev pub gathered_bios : Option (List Bio) → List Bio
+gathered_bios None = []
+gathered_bios (Some bios) = bios
 
 -- how many bios follow a first record
 abbrev pub bios_after : Head → ℕ
@@ -149,18 +149,18 @@ abbrev pub group : ℕ → Limits → ℕ → Part Row Why (List Bio)
 group version limits count = many (repeats.Exactly count) (group_bio version limits) with_next []
 
 -- the first record of an event, and its bios
-abbrev pub told : Happened → Head × List Bio
-told Ticked = (head.Tick, [])
-told (Released id bios) = (head.Release id (length bios), bios)
-told (Joined id bios) = (head.Join id (length bios), bios)
-told (Issued id tag) = (head.Issue id tag, [])
-told (Finished tag) = (head.Done tag, [])
-told (Returned tag) = (head.Back tag, [])
-told (DepthSet depth) = (head.Depth depth, [])
+abbrev pub event_told : Happened → Head × List Bio
+event_told Ticked = (head.Tick, [])
+event_told (Released id bios) = (head.Release id (length bios), bios)
+event_told (Joined id bios) = (head.Join id (length bios), bios)
+event_told (Issued id tag) = (head.Issue id tag, [])
+event_told (Finished tag) = (head.Done tag, [])
+event_told (Returned tag) = (head.Back tag, [])
+event_told (DepthSet depth) = (head.Depth depth, [])
 
 -- an event by its records
 abbrev pub plain_event : ℕ → Limits → Part Row Why Happened
-plain_event version limits = seen_as told (then (first_record version) (λ h. group version limits (bios_after h)))
+plain_event version limits = seen_as event_told (then (first_record version) (λ h. group version limits (bios_after h)))
 
 -- the first rule that an event breaks after those before it, told of the event's first record
 abbrev pub BreaksRule : Setup → List Happened → Happened → ℕ → Why → Type 0
@@ -227,7 +227,7 @@ SpellsTrace rows t = (version : ℕ) × SpellsTraceIn version rows t
 
 -- an event stands in a version
 abbrev pub IsEventOf : ℕ → Happened → Type 0
-IsEventOf version e = StandsIn version (said (told e).0).0
+IsEventOf version e = EventStandsIn version (said (event_told e).0).0
 
 -- a trace can be spelled in a version: it has no more tags than that, and no other events
 pub record IsTraceOf (version : ℕ) (t : Traced) : Type 0 where

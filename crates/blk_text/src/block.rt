@@ -1,8 +1,8 @@
 //! The bytes of a text that is being made, of which the last ones stand in a block.
 
-ghost use Rattle.std.specs.Prelude.{◌≡◌, ◌+◌, ◌++◌, ◌≤◌, OnOk, IfOk, IfErr, decimal};
+ghost use Rattle.std.specs.Prelude.{◌≡◌, ◌+◌, ◌++◌, ◌≤◌, OnOk, OnErr, IfOk, IfErr, decimal};
 ghost use Rattle.std.specs.Io.KnownBytes.{Appends};
-ghost use Rattle.blk_text.specs.Texts.{AppendsPart};
+ghost use Rattle.blk_text.specs.Texts.{AppendsLess, AppendsPart};
 
 use crate::fault::WriteFault;
 use crate::pieces::{put, put_number};
@@ -96,10 +96,17 @@ impl Block {
     }
 }
 
-/// Writes a text that is whole. `write_all` of std says nothing of what was taken before a fault; so the writer is asked here.
-pub(crate) fn write_whole<W: Write>(writer: &mut W, text: &[u8]) -> Result<(), WriteFault>
+/// Writes a text that is whole, by as many calls of the writer as it takes; one that is interrupted is made again.
+///
+/// [`WriteFault::Write`], the only fault: the writer answered another fault, or took nothing of what was left; what it took before,
+/// a first part of the text and never the whole, is out. `write_all` of std says nothing of what was taken before a fault; so the
+/// writer is asked here.
+pub fn write_whole<W: Write>(writer: &mut W, text: &[u8]) -> Result<(), WriteFault>
     ensures ok { OnOk result (Appends (W.contents writer.old) (W.contents writer.new) text.now) }
     ensures err { IfErr result (λ f. f ≡ WriteFault.Write) }
+    // a fault comes only where some of the text was not taken
+    ensures less { OnErr result (AppendsLess (W.contents writer.old) (W.contents writer.new) text.now) }
+    // whatever the answer
     ensures part { AppendsPart (W.contents writer.old) (W.contents writer.new) text.now }
 {
     let mut rest = text;
@@ -116,6 +123,9 @@ pub(crate) fn write_whole<W: Write>(writer: &mut W, text: &[u8]) -> Result<(), W
                 }
             }
         }
+    }
+    if rest.is_empty() {
+        return Ok(());
     }
     Err(WriteFault::Write)
 }

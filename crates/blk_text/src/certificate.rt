@@ -93,11 +93,11 @@ impl LineForm for BoundForm {
 pub(crate) struct ServedForm;
 
 impl LineForm for ServedForm {
-    ghost use Rattle.blk_text.specs.Certificate.{served};
+    ghost use Rattle.blk_text.specs.Certificate.{served_record};
 
     type Line = (Command, u64);
 
-    ghost part = { λ _. served };
+    ghost part = { λ _. served_record };
 
     #[tactic(auto, using(crate::proofs::ClaimLaws::served_one))]
     fn gone(&self) -> Why {

@@ -3,7 +3,7 @@
 ghost use Rattle.std.specs.Prelude.{◌≡◌, ◌≢◌, ◌⊎◌, ◌+◌, ◌*◌, ◌<◌, ◌≤◌, ◌^◌, ◌↔◌, ℕ, List, [], ◌∷◌, length, get_or, IsTrue, IfOk, IfErr, IfSome, MatchOption, decimal, codes};
 ghost use Rattle.std.specs.Str.Parse.{AllDigits, digits_value};
 ghost use Rattle.csv.specs.Records.{fields_of};
-ghost use Rattle.blk_text.specs.Fields.{EachField, IsBlank, IsDirection, IsNumber, IsInRange, IsShaped, IsSized, Lacks, NumberOf, IsWithin, EachNumber, FieldSpells, FieldsSpell, WritesNumber, canonical};
+ghost use Rattle.blk_text.specs.Fields.{EachField, IsBlank, IsDirection, IsNumber, IsInRange, IsShaped, IsSized, Lacks, NumberOf, IsWithinSlot, EachNumber, FieldSpells, FieldsSpell, WritesNumber, canonical};
 ghost use Rattle.blk_text.specs.BioRecord.{direction_text};
 ghost use Rattle.blk_text.specs.Tables.{IsTitled, IsVersion};
 ghost use Rattle.blk_text.specs.Words.{StartsWith, HasNoWord};
@@ -205,7 +205,7 @@ fn number(slot: Slot, field: &[u8]) -> Option<u64>
 
 /// Whether a number lies in the range of its slot.
 fn is_within(slot: Slot, number: u64) -> bool
-    ensures { IsTrue result ↔ IsWithin slot number }
+    ensures { IsTrue result ↔ IsWithinSlot slot number }
 {
     match slot {
         Slot::Number { least, most } => least <= number && number <= most,
@@ -259,7 +259,7 @@ fn numbers_of(row: &ByteRecord, slots: &[Slot]) -> Option<[u64; WIDTH]>
 /// Whether each number lies in the range of its slot.
 fn are_within(slots: &[Slot], numbers: &[u64; WIDTH]) -> bool
     requires { length slots.now ≤ 6 }
-    ensures { IsTrue result ↔ ((k : ℕ) → k < length slots.now → IsWithin (get_or slots.now k Slot.Given) (get_or numbers.now k 0)) }
+    ensures { IsTrue result ↔ ((k : ℕ) → k < length slots.now → IsWithinSlot (get_or slots.now k Slot.Given) (get_or numbers.now k 0)) }
 {
     for i in 0..slots.len() {
         if !is_within(slots[i], numbers[i]) {

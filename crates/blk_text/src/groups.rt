@@ -95,13 +95,13 @@ struct GroupForm {
 
 impl ItemForm for GroupForm {
     ghost use Rattle.blk_bio.specs.Bios.{Bio as BioFields};
-    ghost use Rattle.blk_text.specs.TraceForm.{group_bio, held};
+    ghost use Rattle.blk_text.specs.TraceForm.{group_bio, gathered_bios};
 
     type Items = Option<Request>;
 
     ghost View = { BioFields };
 
-    ghost seen = { held };
+    ghost seen = { gathered_bios };
 
     ghost part = { λ f before. group_bio f.head.version f.limits before };
 

@@ -6,7 +6,7 @@ ghost use Rattle.blk_text.specs.Fields.{FieldsSpell};
 ghost use Rattle.blk_text.specs.Reads.{IsLine, IsWrongLine};
 ghost use Rattle.blk_text.specs.Tables.{slots_by};
 ghost use Rattle.blk_text.specs.Words.{StartsWith};
-ghost use Rattle.blk_text.specs.TraceForm.{StandsIn, word_of, head_cells, first_record};
+ghost use Rattle.blk_text.specs.TraceForm.{EventStandsIn, word_of, head_cells, first_record};
 ghost use Rattle.blk_text.specs.declared.fields.Slot.TheVariants as slot;
 ghost use Rattle.blk_text.specs.declared.heads.EventWord.{EventWord as AWord};
 
@@ -56,7 +56,7 @@ pub(crate) struct HeadForm {
 
 /// The word of a field that stands in a version.
 fn word_named(version: u64, field: &[u8]) -> Option<EventWord>
-    ensures { MatchOption result ((k : AWord) → StandsIn version k → ¬ (field.now ≡ word_of k)) (λ k. StandsIn version k × (field.now ≡ word_of k)) }
+    ensures { MatchOption result ((k : AWord) → EventStandsIn version k → ¬ (field.now ≡ word_of k)) (λ k. EventStandsIn version k × (field.now ≡ word_of k)) }
 {
     if field == b"tick".as_slice() {
         Some(EventWord::Tick)
@@ -99,7 +99,7 @@ fn head_slots(word: EventWord) -> [Slot; WIDTH]
 
 /// What a first record says whose fields are right for its word.
 fn head_of(form: &HeadForm, word: EventWord, row: &ByteRecord, numbers: &[u64; WIDTH]) -> Head
-    requires stands { StandsIn form.now.version word }
+    requires stands { EventStandsIn form.now.version word }
     requires starts { StartsWith (word_of word) (fields_of row.now) }
     requires spells { FieldsSpell (slot.Given ∷ slots_by (head_cells word)) (fields_of row.now) numbers.now }
     ensures { IsLine (first_record form.now.version) (fields_of row.now) result }

@@ -21,6 +21,7 @@ pub mod source;
 mod titles;
 pub mod trace;
 
+pub use crate::block::write_whole;
 pub use crate::certificate::{Certificate, read_certificate, write_certificate};
 pub use crate::commands::{read_commands, write_commands};
 pub use crate::draft::Draft;

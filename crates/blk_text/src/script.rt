@@ -7,7 +7,7 @@ ghost use Rattle.blk_text.specs.Tables.{slots_by};
 ghost use Rattle.blk_text.specs.Words.{StartsWith};
 ghost use Rattle.blk_text.specs.Fields.{FieldsSpell};
 ghost use Rattle.blk_text.specs.BioRecord.{bio_row, direction_text};
-ghost use Rattle.blk_text.specs.Script.{StandsIn, word_of, step_cells, step, LineFits, IsScript, SpellsScript, ScriptFault, scripted, script_form};
+ghost use Rattle.blk_text.specs.Script.{StepStandsIn, word_of, step_cells, step, LineFits, IsScript, SpellsScript, ScriptFault, scripted, script_form};
 ghost use Rattle.blk_bio.specs.declared.limits.TheConstants.{MAX_QUEUES as MOST_QUEUES, MAX_SOFT_QUEUES as MOST_SUBMITTERS};
 ghost use Rattle.blk_text.specs.declared.fields.Slot.TheVariants as slot;
 ghost use Rattle.blk_text.specs.declared.script.Word.{Word as AWord};
@@ -84,7 +84,7 @@ pub(crate) enum Word {
 
 /// The word of a field that stands in a version.
 fn word_named(version: u64, field: &[u8]) -> Option<Word>
-    ensures { MatchOption result ((k : AWord) → StandsIn version k → ¬ (field.now ≡ word_of k)) (λ k. StandsIn version k × (field.now ≡ word_of k)) }
+    ensures { MatchOption result ((k : AWord) → StepStandsIn version k → ¬ (field.now ≡ word_of k)) (λ k. StepStandsIn version k × (field.now ≡ word_of k)) }
 {
     if field == b"bio".as_slice() {
         Some(Word::Bio)
@@ -165,7 +165,7 @@ fn step_of(
     row: &ByteRecord,
     numbers: &[u64; WIDTH],
 ) -> Result<Line, Why>
-    requires stands { StandsIn form.now.version word }
+    requires stands { StepStandsIn form.now.version word }
     requires starts { StartsWith (word_of word) (fields_of row.now) }
     requires spells { FieldsSpell (slot.Given ∷ slots_by (step_cells form.now.hw form.now.submitters word)) (fields_of row.now) numbers.now }
     ensures ok { IfOk result (IsLine (step form.now.version form.now.hw form.now.submitters) (fields_of row.now)) }
@@ -239,7 +239,7 @@ fn bio_of(form: &StepForm, row: &ByteRecord) -> Option<Bio>
 /// The step of a record that begins with a word, by the slots of the word.
 #[inline(never)]
 fn slotted_line(form: &StepForm, word: Word, row: &ByteRecord) -> Result<Line, Why>
-    requires stands { StandsIn form.now.version word }
+    requires stands { StepStandsIn form.now.version word }
     requires starts { StartsWith (word_of word) (fields_of row.now) }
     ensures ok { IfOk result (IsLine (step form.now.version form.now.hw form.now.submitters) (fields_of row.now)) }
     ensures err { IfErr result (IsWrongLine (step form.now.version form.now.hw form.now.submitters) (fields_of row.now)) }

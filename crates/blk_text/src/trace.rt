@@ -1,6 +1,6 @@
 //! Traces.
 
-ghost use Rattle.std.specs.Prelude.{◌≡◌, ◌++◌, ◌∷◌, ◌≤◌, [], All, OnOk, IfOk, IfErr, map, decimal, length, codes};
+ghost use Rattle.std.specs.Prelude.{◌≡◌, ◌⊎◌, ◌++◌, ◌∷◌, ◌≤◌, [], All, OnOk, IfOk, IfErr, map, decimal, length, codes};
 ghost use Rattle.std.specs.Io.KnownBytes.{Appends};
 ghost use Rattle.blk_trace.specs.Events.{bios_of};
 ghost use Rattle.blk_trace.specs.Seen.{happened};
@@ -204,6 +204,8 @@ pub fn write_trace<A: Allocator + Clone, W: Write>(
     // the records of that text spell it: its numbers lie in the ranges of the form
     ensures spells { OnOk result (SpellsTrace (trace_rows trace.now) trace.now) }
     ensures version { OnOk result (SpellsTraceIn latest (trace_rows trace.now) trace.now) }
+    // the writer is asked only for such a text
+    ensures asked { (writer.new ≡ writer.old) ⊎ SpellsTraceIn latest (trace_rows trace.now) trace.now }
     ensures memory { IfErr result (λ f. f ≡ WriteFault.Memory → writer.new ≡ writer.old) }
     // whatever the answer
     ensures part { AppendsPart (W.contents writer.old) (W.contents writer.new) (rows_text (trace_rows trace.now)) }

@@ -1,6 +1,6 @@
 use Rattle.std.proofs.Common.{rules, ◌≡◌, ◌+◌, true, false, arith}
 use Rattle.csv.specs.Records.{fields_of}
-use Rattle.blk_text.specs.Sources.{Takes}
+use Rattle.blk_text.specs.Sources.{TakesRecord}
 use Rattle.blk_text.specs.Reads.{size_of}
 use Rattle.blk_text.specs.TraceForm.{event}
 use Rattle.blk_text.proofs.EventLaws.{gathered_at, events_err, stopped_at, past_stopped, events_end, events_past}
@@ -17,7 +17,7 @@ returns-in-Err-clause-before g c =
 pub returns-in-Ok-false-advance-clause-ok : goal.returns-in-Ok-false-advance-clause-ok
 returns-in-Ok-false-advance-clause-ok g c =
     let got = gathered_at c.args.version c.args.count c.args.trace.setup c.setup.result c.args.records.now.left c.gather.new.records.left c.args.records.now.at c.gather.new.records.at c.gather.new.items.events c.setup.ensures c.requires.at (search rules) in
-    let taken : Takes c.gather.new.records.left c.advance.new.self.left c.advance.new.self.fields false = search rules in
+    let taken : TakesRecord c.gather.new.records.left c.advance.new.self.left c.advance.new.self.fields false = search rules in
     events_end c.args.version c.args.count c.args.trace.setup c.args.records.now.left c.gather.new.records.left c.advance.new.self.left c.gather.new.items.events c.advance.new.self.fields got.0 taken
 
 pub returns-in-Ok-false-advance-clause-fit : goal.returns-in-Ok-false-advance-clause-fit
@@ -34,7 +34,7 @@ returns-in-Err-advance-clause-before g c =
 pub returns-clause-err : goal.returns-clause-err
 returns-clause-err g c =
     let got = gathered_at c.args.version c.args.count c.args.trace.setup c.setup.result c.args.records.now.left c.gather.new.records.left c.args.records.now.at c.gather.new.records.at c.gather.new.items.events c.setup.ensures c.requires.at (search rules) in
-    let taken : Takes c.gather.new.records.left c.advance.new.self.left c.advance.new.self.fields true = search rules in
+    let taken : TakesRecord c.gather.new.records.left c.advance.new.self.left c.advance.new.self.fields true = search rules in
     let before = got.3 in
     let at : c.fault.result.at ≡ 2 + size_of (event c.args.version c.args.trace.setup) c.gather.new.items.events + 1 = omega (arith, before) in
     rw c.fault.ensures.why

@@ -1,6 +1,6 @@
 use Rattle.std.proofs.Common.{rules, ◌≡◌, ◌≤◌, ◌+◌, ◌<◌, ◌∷◌, [], ◌++◌, length, true, false, arith}
 use Rattle.std.proofs.lemmas.List.{length-append}
-use Rattle.blk_text.specs.Sources.{Takes}
+use Rattle.blk_text.specs.Sources.{TakesRecord}
 use Rattle.parts.specs.Parts.{most_of}
 use Rattle.blk_text.specs.Reads.{size_of}
 use Rattle.blk_text.proofs.Reading.{made_more, stopped, fit_next, size_next, room, items_wrong, items_few}
@@ -9,7 +9,7 @@ use Rattle.blk_text.proofs.items.gather.Goals as goal
 pub returns-in-Exactly-clause-err : goal.returns-in-Exactly-clause-err
 returns-in-Exactly-clause-err g c =
     let vs = g.F.ItemForm.seen c.loop.items in
-    let taken : Takes c.loop.records.left c.advance.new.self.left c.advance.new.self.fields false = search rules in
+    let taken : TakesRecord c.loop.records.left c.advance.new.self.left c.advance.new.self.fields false = search rules in
     let less : length vs < most_of c.args.repeats = omega arith in
     let at : c.fault.result.at ≡ c.args.records.now.at + size_of (g.F.ItemForm.part c.args.form.now) vs + 1 = omega arith in
     rw c.fault.ensures.why
@@ -19,7 +19,7 @@ returns-in-Exactly-clause-err g c =
 pub returns-in-Err-read-clause-err : goal.returns-in-Err-read-clause-err
 returns-in-Err-read-clause-err g c =
     let vs = g.F.ItemForm.seen c.loop.items in
-    let taken : Takes c.loop.records.left c.advance.new.self.left c.advance.new.self.fields true = search rules in
+    let taken : TakesRecord c.loop.records.left c.advance.new.self.left c.advance.new.self.fields true = search rules in
     let less : length vs < most_of c.args.repeats = omega arith in
     let now : c.advance.new.self.at ≡ c.args.records.now.at + size_of (g.F.ItemForm.part c.args.form.now) vs + 1 = omega arith in
     items_wrong _ (g.F.ItemForm.part c.args.form.now) c.args.repeats c.args.records.now.left c.loop.records.left c.advance.new.self.left vs c.advance.new.self.fields
@@ -30,7 +30,7 @@ loop-preserved g c =
     let q = g.F.ItemForm.part c.args.form.now in
     let vs = g.F.ItemForm.seen c.loop.items in
     let got = c.in-Ok.ensures.ok in
-    let taken : Takes c.loop.records.left c.advance.new.self.left c.advance.new.self.fields true = search rules in
+    let taken : TakesRecord c.loop.records.left c.advance.new.self.left c.advance.new.self.fields true = search rules in
     let end = got.end in
     let more = size_next q vs got.item in
     let at : c.read.new.records.at ≡ c.args.records.now.at + size_of q (vs ++ got.item ∷ []) = omega (arith, more, end) in

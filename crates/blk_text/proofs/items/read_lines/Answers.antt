@@ -1,5 +1,5 @@
 use Rattle.std.proofs.Common.{rules, ◌≡◌, ◌+◌, [], true, false, arith, refl, inl, inr}
-use Rattle.blk_text.specs.Sources.{Takes}
+use Rattle.blk_text.specs.Sources.{TakesRecord}
 use Rattle.blk_text.specs.Reads.{AreGathered, items_of, size_of}
 use Rattle.blk_text.proofs.Reading.{many_fails, outside_fails, past_wrong, full_stopped}
 use Rattle.blk_text.proofs.Each.{size_is, fit_all, each_halts}
@@ -52,7 +52,7 @@ pub returns-in-Ok-clause-err : goal.returns-in-Ok-clause-err
 returns-in-Ok-clause-err g c =
     let p = g.F.LineForm.part c.args.form in
     let got : AreGathered c.args.repeats (λ _. p) c.args.records.now.left c.gather.new.records.left c.args.records.now.at c.gather.new.records.at c.gather.new.items.items false = search rules in
-    let taken : Takes c.gather.new.records.left c.advance.new.self.left c.advance.new.self.fields true = search rules in
+    let taken : TakesRecord c.gather.new.records.left c.advance.new.self.left c.advance.new.self.fields true = search rules in
     let before = got.3 in
     let at : c.fault.result.at ≡ c.args.records.now.at + size_of (λ _. p) c.gather.new.items.items + 1 = omega (arith, before) in
     let line = rw c.row.ensures at c.in-Ok.ensures.ok in
@@ -66,7 +66,7 @@ pub returns-clause-err : goal.returns-clause-err
 returns-clause-err g c =
     let p = g.F.LineForm.part c.args.form in
     let got : AreGathered c.args.repeats (λ _. p) c.args.records.now.left c.gather.new.records.left c.args.records.now.at c.gather.new.records.at c.gather.new.items.items false = search rules in
-    let taken : Takes c.gather.new.records.left c.advance.new.self.left c.advance.new.self.fields true = search rules in
+    let taken : TakesRecord c.gather.new.records.left c.advance.new.self.left c.advance.new.self.fields true = search rules in
     let before = got.3 in
     let at : c.fault-in-Err-line.result.at ≡ c.args.records.now.at + size_of (λ _. p) c.gather.new.items.items + 1 = omega (arith, before) in
     let wrong = rw c.row.ensures at c.in-Err-line.ensures.err in

@@ -1,7 +1,7 @@
 use Rattle.blk_text.specs.Versions.{latest}
 use Rattle.blk_text.proofs.TraceLaws.{rows_spell}
 use Rattle.blk_text.proofs.TraceLemmas.{if_ok}
-use Rattle.std.proofs.Common.{refl}
+use Rattle.std.proofs.Common.{refl, inr}
 use Rattle.blk_text.proofs.Written.{nothing_taken}
 use Rattle.blk_text.proofs.trace.write_trace.Goals as goal
 
@@ -13,3 +13,6 @@ returns-in-Ok-clause-version g c = if_ok c.write_whole.result (rows_spell c.args
 
 pub returns-in-Err-clause-part : goal.returns-in-Err-clause-part
 returns-in-Err-clause-part g c = nothing_taken _ _ _ refl
+
+pub returns-in-Ok-clause-asked : goal.returns-in-Ok-clause-asked
+returns-in-Ok-clause-asked g c = inr (rows_spell c.args.trace.now c.in-Ok.ensures.fits)

@@ -1,13 +1,13 @@
 use Rattle.std.proofs.Common.{rules}
 use Rattle.std.specs.Prelude.{IsTrue}
-use Rattle.blk_text.specs.TraceForm.{group_bio, held}
+use Rattle.blk_text.specs.TraceForm.{group_bio, gathered_bios}
 use Rattle.blk_text.proofs.GroupLaws.{line_fails, wrong_line, first_gathers, next_gathers, astray_fails}
 use Rattle.blk_text.proofs.groups.GroupFormItemForm.read.Goals as goal
 
 pub returns-in-Err-clause-err : goal.returns-in-Err-clause-err
 returns-in-Err-clause-err g c =
-    rw c.fault.ensures.why (line_fails _ (group_bio c.args.self.now.head.version c.args.self.now.limits (held c.args.items.now)) c.args.records.now.left c.args.records.now.fields c.args.records.now.at c.fault.result.at c.in-Err.why
-    (wrong_line c.args.self.now.head.version c.args.self.now.limits (held c.args.items.now) c.args.records.now.fields c.in-Err.why (rw c.row.ensures at c.in-Err.ensures.err)) c.fault.ensures.at)
+    rw c.fault.ensures.why (line_fails _ (group_bio c.args.self.now.head.version c.args.self.now.limits (gathered_bios c.args.items.now)) c.args.records.now.left c.args.records.now.fields c.args.records.now.at c.fault.result.at c.in-Err.why
+    (wrong_line c.args.self.now.head.version c.args.self.now.limits (gathered_bios c.args.items.now) c.args.records.now.fields c.in-Err.why (rw c.row.ensures at c.in-Err.ensures.err)) c.fault.ensures.at)
 
 pub returns-then-not-tiles-clause-err : goal.returns-then-not-tiles-clause-err
 returns-then-not-tiles-clause-err g c =
