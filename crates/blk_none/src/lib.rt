@@ -59,6 +59,7 @@ impl<A: Allocator + Clone> NoneSched<A> {
     }
 
     /// Adds a request, and hands it back where memory runs out.
+    #[inline(always)]
     fn add(&mut self, queued: Queued<A>) -> Result<(), Queued<A>>
         requires new { map.get self.old.pending queued.id ≡ None }
         requires hw { queued.hw < MAX_QUEUES }
@@ -76,6 +77,7 @@ impl<A: Allocator + Clone> NoneSched<A> {
     }
 
     /// The newest request of the hardware queue that a newcomer fits, at either side.
+    #[inline(always)]
     fn find(&self, hw: u8, limits: &Limits, newcomer: &Request<A>) -> Option<(u64, Side)>
         requires { hw < MAX_QUEUES }
         ensures some { IfSome result (λ r. HasCandidate serves_own hw limits.now newcomer.now self.now r.0 r.1) }
@@ -127,6 +129,7 @@ impl<A: Allocator + Clone> Scheduler for NoneSched<A> {
 
     ghost chooses = { none_chooses };
 
+    #[inline(always)]
     fn enter(&mut self, slot: &mut Option<Queued<A>>) -> Result<(), AllocError> {
         let Some(queued) = slot.take() else {
             unreachable!()
@@ -140,6 +143,7 @@ impl<A: Allocator + Clone> Scheduler for NoneSched<A> {
         }
     }
 
+    #[inline(always)]
     fn candidate(&self, hw: u8, limits: &Limits, newcomer: &Request<A>) -> Option<(u64, Side)> {
         self.find(hw, limits, newcomer)
     }
@@ -166,6 +170,7 @@ impl<A: Allocator + Clone> Scheduler for NoneSched<A> {
     }
 
     /// Hands out the request of the hardware queue that has waited longest: the one with the least id.
+    #[inline(always)]
     fn pick(&mut self, hw: u8, now: u64) -> Option<Queued<A>>
         requires hw { hw < MAX_QUEUES }
         requires round { now ≡ self.old.round }

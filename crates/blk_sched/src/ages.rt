@@ -73,6 +73,7 @@ impl<A: Allocator + Clone> Ages<A> {
 }
 
 /// The first id.
+#[inline(always)]
 fn first_of<A: Allocator + Clone>(ids: &VecDeque<u64, A>) -> Option<u64>
     ensures some { IfSome result (λ id. slice_get ids.now.items 0 ≡ Some id) }
     ensures none { IfNone result (length ids.now.items ≡ 0) }
@@ -94,6 +95,7 @@ fn put_id<A: Allocator + Clone>(ids: &mut VecDeque<u64, A>, id: u64) -> Result<(
 }
 
 /// Whether an id is greater than all.
+#[inline(always)]
 fn is_past<A: Allocator + Clone>(ids: &VecDeque<u64, A>, id: u64) -> bool
     ensures { OnTrue result (GoUp ids.now.items → (k n : ℕ) → slice_get ids.now.items k ≡ Some n → n < id) }
 {
@@ -171,6 +173,7 @@ fn put_at<A: Allocator + Clone>(
 }
 
 /// Takes an id out where it is the first, with those after it that went before.
+#[inline(always)]
 fn take_id<A: Allocator + Clone>(ids: &mut VecDeque<u64, A>, waiting: &Shelf<A>, dir: Dir, id: u64)
     ensures cut { IsCut dir (map.get waiting.now) ids.old.items ids.new.items }
     ensures first { ((k : ℕ) → slice_get ids.old.items 0 ≡ Some k → (k ≡ id → ⊥) → WaitsAs dir (map.get waiting.now) k) → FirstWaits dir (map.get waiting.now) ids.new.items }
@@ -198,6 +201,7 @@ fn drop_gone<A: Allocator + Clone>(ids: &mut VecDeque<u64, A>, waiting: &Shelf<A
 }
 
 /// Whether a request of the direction waits by an id.
+#[inline(always)]
 fn waits<A: Allocator + Clone>(waiting: &Shelf<A>, dir: Dir, id: u64) -> bool
     ensures yes { OnTrue result (WaitsAs dir (map.get waiting.now) id) }
     ensures no { OnFalse result (WaitsAs dir (map.get waiting.now) id → ⊥) }

@@ -56,6 +56,7 @@ impl<A: Allocator + Clone> Shelf<A> {
     }
 
     /// The request of an id.
+    #[inline(always)]
     pub fn get(&self, id: u64) -> Option<&Queued<A>>
         ensures value { option_copied result ≡ map.get self.now id }
         ensures named { (k : ℕ) (w : Waiting) → map.get self.now k ≡ Some w → w.id ≡ k }
@@ -68,6 +69,7 @@ impl<A: Allocator + Clone> Shelf<A> {
 
     /// Adds a request whose id isn't there. Refused for want of memory alone: nothing is changed then, and the
     /// request comes back.
+    #[inline(always)]
     pub fn insert(&mut self, queued: Queued<A>) -> Result<(), Queued<A>>
         requires { map.get self.old queued.id ≡ None }
         ensures ok { OnOk result (self.new ≡ map.insert self.old queued.id queued) }
@@ -87,6 +89,7 @@ impl<A: Allocator + Clone> Shelf<A> {
     }
 
     /// Takes out the request of an id. It takes no memory.
+    #[inline(always)]
     pub fn remove(&mut self, id: u64) -> Option<Queued<A>>
         ensures value { result ≡ map.get self.old id }
         ensures named { (k : ℕ) (w : Waiting) → map.get self.old k ≡ Some w → w.id ≡ k }
