@@ -4,8 +4,7 @@ use Rattle.std.specs.Prelude.{nat_eq}
 use Rattle.std.specs.Ordering.{nat_cmp, is_eq}
 use Rattle.std.specs.Cmp.{nat_cmp_is}
 use Rattle.std.specs.BTreeMap.{is_at}
-use Rattle.std.specs.Map.{lookup, keys_of}
-use Rattle.std.specs.List.{AllByRecursion}
+use Rattle.std.specs.Map.{lookup}
 use Rattle.std.specs.declared.cmp.Ordering.TheVariants.{Equal}
 use Rattle.std.proofs.lemmas.Bool.{eqb-true, eq-eqb}
 use Rattle.blk_sched.specs.Maps.{same_number}
@@ -30,8 +29,3 @@ same_update es fs id x is q = sym (same_lookup fs q) ∙ is q ∙ ap (λ b. cond
 
 pub same_read : {X : Type 0} (es : List (ℕ × X)) (q : ℕ) (o : Option X) → o ≡ lookup (nat_eq q) es → lookup (is_at (nat_cmp q)) es ≡ o
 same_read es q o is = sym (same_lookup es q) ∙ sym is
-
--- an id that differs from all others is not there
-pub absent : {X : Type 0} (id : ℕ) (es : List (ℕ × X)) → AllByRecursion (λ k. nat_eq id k ≡ false) (keys_of es) → lookup (is_at (nat_cmp id)) es ≡ None
-absent id [] differ = refl
-absent id (e ∷ es) differ = ap (λ b. cond b (Some e.1) (lookup (is_at (nat_cmp id)) es)) (sym (test_of id e.0) ∙ differ.0) ∙ absent id es differ.1

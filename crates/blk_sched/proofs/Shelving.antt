@@ -1,16 +1,15 @@
 -- What lies at places, found by ids.
-use Rattle.std.proofs.Common.{◌≡◌, ◌≢◌, ◌<◌, ◌∙◌, sym, ap, subst, refl, true, false, cond, ℕ, Some, None, Option, List, [], ◌∷◌, zero, suc, get_or, length, arith}
-use Rattle.std.specs.Prelude.{IsSome, is_some, nat_eq, ◌+◌}
+use Rattle.std.proofs.Common.{◌≡◌, ◌≢◌, ◌<◌, ◌∙◌, sym, ap, subst, refl, true, false, cond, ℕ, Some, None, Option, List, [], ◌∷◌, zero, suc, get_or, set, length, arith}
+use Rattle.std.specs.Prelude.{IsSome, is_some, ◌+◌, ◌-◌, count_by, sum_by}
+use Rattle.std.proofs.lemmas.List.Sums.{sum_by-set}
 use Rattle.std.specs.Ordering.{nat_cmp, is_eq}
 use Rattle.std.specs.Cmp.{nat_cmp_total, tied_itself}
 use Rattle.std.specs.BTreeMap.{is_at}
-use Rattle.std.specs.Map.{lookup, keys_of}
-use Rattle.std.specs.List.{IsDistinct}
+use Rattle.std.specs.Map.{lookup}
 use Rattle.std.specs.FinMap.{get, insert, remove, from_entries, len}
 use Rattle.std.specs.FinMap as map
 use Rattle.blk_sched.specs.Meaning.{Waiting, Pending}
-use Rattle.blk_sched.specs.Maps.{same_number, get_waiting, one_given, one_taken, at_front}
-use Rattle.blk_sched.proofs.Hashed.{absent}
+use Rattle.blk_sched.specs.Maps.{same_number, get_waiting, one_given, one_taken}
 use Rattle.blk_sched.specs.Inside.Shelves.{beside, held, IsShelf}
 
 abbrev pub Laid : Type 0
@@ -126,14 +125,32 @@ module _ (es fs : Places) (at now : Laid) (id place : ℕ) (shelf : IsShelf es a
         | false ↦ λ e. stays at now place others (place_in q es) (λ p is. ids_apart es at id q place p shelf own e is) ∙ sym (found_by es at shelf q)
       ] refl)
 
--- nothing is taken where the id has no place
-pub none_left : (es fs : Places) (at : Laid) (id : ℕ) → IsShelf es at → place_in id es ≡ None → fs ≡ es → from_entries {R = nat_cmp} (held at fs) ≡ remove (from_entries (held at es)) id
-none_left es fs at id shelf none same = one_taken (held at es) (held at fs) id (λ q.
-    ap (λ l. lookup (is_at (nat_cmp q)) (held at l)) same
-    ∙ elim (is_at (nat_cmp id) q) as (λ b. is_at (nat_cmp id) q ≡ b → lookup (is_at (nat_cmp q)) (held at es) ≡ cond b None (lookup (is_at (nat_cmp q)) (held at es))) [
-      | true ↦ λ e. found_by es at shelf q ∙ ap (λ k. lies at (place_in k es)) (same_number id q e) ∙ ap (lies at) none
-      | false ↦ λ _. refl
-    ] refl)
+-- an id without a place loses nothing
+module _ (es fs : Places) (at : Laid) (id : ℕ) (shelf : IsShelf es at) (taken : (q : ℕ) → place_in q fs ≡ cond (is_at (nat_cmp id) q) None (place_in q es)) where
+  pub kept_shelf : IsShelf fs at
+  kept_shelf q p is =
+      elim (is_at (nat_cmp id) q) as (λ b. cond b None (place_in q es) ≡ Some p → (v : Waiting) × (at p ≡ Some v) × (v.id ≡ q)) [
+        | true ↦ λ h. absurd (cc)
+        | false ↦ λ h. shelf q p h
+      ] (sym (taken q) ∙ is)
+
+  pub kept_held : from_entries {R = nat_cmp} (held at fs) ≡ remove (from_entries (held at es)) id
+  kept_held = one_taken (held at es) (held at fs) id (λ q.
+      found_by fs at kept_shelf q ∙ ap (lies at) (taken q)
+      ∙ elim (is_at (nat_cmp id) q) as (λ b. lies at (cond b None (place_in q es)) ≡ cond b None (lookup (is_at (nat_cmp q)) (held at es))) [
+        | true ↦ refl
+        | false ↦ sym (found_by es at shelf q)
+      ])
+
+-- an id that isn't found has no place
+pub no_place : (es : Places) (at : Laid) (self : Pending) → IsShelf es at → from_entries (held at es) ≡ self → (id : ℕ) → get self id ≡ None → place_in id es ≡ None
+no_place es at self shelf view id none =
+    elim (place_in id es) as (λ o. place_in id es ≡ o → o ≡ None) [
+      | None ↦ λ _. refl
+      | Some p ↦ λ is.
+          let there = shelf id p is in
+          let e : Some there.0 ≡ None = sym there.1 ∙ sym (got_by es at self shelf view id ∙ ap (lies at) is) ∙ none in cc
+    ] refl
 
 -- ---- one changed
 
@@ -175,30 +192,39 @@ none_held at es none = ap (λ l. from_entries {R = nat_cmp} (held at l)) none
 pub none_shelf : (at : Laid) (es : Places) → es ≡ [] → IsShelf es at
 none_shelf at es none q p h = absurd (let e : None ≡ Some p = ap (place_in q) (sym none) ∙ h in cc)
 
--- the others of a place whose id is not among them
-tail_shelf : (e : ℕ × ℕ) (es : Places) (at : Laid) → place_in e.0 es ≡ None → IsShelf (e ∷ es) at → IsShelf es at
-tail_shelf e es at none shelf q p h =
-    shelf q p (elim (is_at (nat_cmp q) e.0) as (λ b. is_at (nat_cmp q) e.0 ≡ b → cond b (Some e.1) (place_in q es) ≡ Some p) [
-      | true ↦ λ t. absurd (let a : None ≡ Some p = sym none ∙ ap (λ k. place_in k es) (same_number q e.0 t) ∙ h in cc)
-      | false ↦ λ _. h
-    ] refl)
+-- ---- how many there are
 
-one_more : (es : List (ℕ × Waiting)) (id : ℕ) (w : Waiting) → lookup (is_at (nat_cmp id)) es ≡ None → len (from_entries {R = nat_cmp} ((id, w) ∷ es)) ≡ suc (len (from_entries {R = nat_cmp} es))
-one_more es id w none =
-    let m = from_entries {R = nat_cmp} es in
-    let absent : get m id ≡ None = get_waiting es id ∙ none in
-    map.len-insert nat_cmp_total m id w ∙ ap (λ o. cond (is_some o) (len m) (len m + 1)) absent ∙ omega arith
+pub one_more : (m now : Pending) (id : ℕ) (w : Waiting) (was is : ℕ) → was ≡ len m → is ≡ was + 1 → get m id ≡ None → now ≡ insert m id w → is ≡ len now
+one_more m now id w was is counted more none new =
+    let e : len now ≡ len m + 1 = ap (λ (n : Pending). len n) new ∙ map.len-insert nat_cmp_total m id w ∙ ap (λ o. cond (is_some o) (len m) (len m + 1)) none in
+    omega arith
 
-len_held : (es : Places) (at : Laid) → IsDistinct nat_eq (keys_of es) → IsShelf es at → length es ≡ len (from_entries {R = nat_cmp} (held at es))
-unfolding held IsDistinct
-len_held [] at distinct shelf = sym (map.len-empty nat_cmp Waiting)
-len_held (e ∷ es) at distinct shelf =
-    let there = (shelf e.0 e.1 (at_front e es)).1 in
-    let none : place_in e.0 es ≡ None = absent e.0 es distinct.0 in
-    let tail = tail_shelf e es at none shelf in
-    let rest : length es ≡ len (from_entries {R = nat_cmp} (held at es)) = len_held es at distinct.1 tail in
-    ap suc rest ∙ sym (one_more (held at es) e.0 (shelf e.0 e.1 (at_front e es)).0 (found_by es at tail e.0 ∙ ap (lies at) none))
-    ∙ ap (λ o. len (from_entries {R = nat_cmp} (beside e.0 o (held at es)))) (sym there)
+pub one_less : (m now : Pending) (id : ℕ) (w : Waiting) (was is : ℕ) → was ≡ len m → is + 1 ≡ was → get m id ≡ Some w → now ≡ remove m id → is ≡ len now
+one_less m now id w was is counted less there new =
+    let e : len now ≡ len m - 1 = ap (λ (n : Pending). len n) new ∙ map.len-remove nat_cmp_total m id ∙ ap (λ o. cond (is_some o) (len m - 1) (len m)) there in
+    omega arith
 
-pub len_by : (es : Places) (at : Laid) (self : Pending) → IsDistinct nat_eq (keys_of es) → IsShelf es at → from_entries (held at es) ≡ self → length es ≡ len self
-len_by es at self distinct shelf view = len_held es at distinct shelf ∙ ap (λ (m : Pending). len m) view
+pub none_less : (m now : Pending) (id : ℕ) (was : ℕ) → was ≡ len m → get m id ≡ None → now ≡ remove m id → was ≡ len now
+none_less m now id was counted none new =
+    let e : len now ≡ len m = ap (λ (n : Pending). len n) new ∙ map.len-remove nat_cmp_total m id ∙ ap (λ o. cond (is_some o) (len m - 1) (len m)) none in
+    omega arith
+
+pub as_many : (m now : Pending) (id : ℕ) (v w : Waiting) (was is : ℕ) → was ≡ len m → is ≡ was → get m id ≡ Some v → now ≡ insert m id w → is ≡ len now
+as_many m now id v w was is counted same there new =
+    let e : len now ≡ len m = ap (λ (n : Pending). len n) new ∙ map.len-insert nat_cmp_total m id w ∙ ap (λ o. cond (is_some o) (len m) (len m + 1)) there in
+    omega arith
+
+abbrev one_at : Option Waiting → ℕ
+one_at o = cond (is_some o) 1 0
+
+-- a slot that is set again stays one
+pub set_again : (slots : List (Option Waiting)) (k : ℕ) (v w : Waiting) → get_or slots k None ≡ Some v → count_by is_some (set slots k (Some w)) ≡ count_by is_some slots
+set_again slots k v w is =
+    let one : one_at (get_or slots k None) ≡ 1 = ap one_at is in
+    let e : count_by is_some (set slots k (Some w)) + one_at (get_or slots k None) ≡ count_by is_some slots + 1 = sum_by-set one_at slots k (Some w) None (within_by slots k v is) in
+    omega arith
+
+pub none_counted : (at : Laid) (es : Places) (slots : List (Option Waiting)) → slots ≡ [] → es ≡ [] → count_by is_some slots ≡ len (from_entries {R = nat_cmp} (held at es))
+unfolding held
+none_counted at es slots empty none =
+    ap (λ (l : List (Option Waiting)). count_by is_some l) empty ∙ sym (map.len-empty nat_cmp Waiting) ∙ sym (ap (λ l. len (from_entries {R = nat_cmp} (held at l))) none)

@@ -1,4 +1,4 @@
--- What invariants and proofs alone need: the spots of requests, and the requests in a slab.
+-- What invariants and proofs alone need: the spots of requests, the places of ids, and the requests in a slab.
 pub mod Spots
 pub mod Heads
 pub mod Edges
@@ -6,3 +6,4 @@ pub mod Shelves
 pub mod Lists
 pub mod Ages
 pub mod Orders
+pub mod Places

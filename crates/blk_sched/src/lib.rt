@@ -15,6 +15,7 @@ pub mod fits;
 pub mod index;
 pub mod lane;
 pub mod picks;
+pub mod places;
 pub mod shelf;
 pub mod sorted;
 pub mod spots;

@@ -7,18 +7,17 @@ ghost use Rattle.blk_sched.specs.Meaning.{Waiting};
 ghost use Rattle.blk_sched.specs.Inside.Shelves.{JoinsOne};
 
 use crate::Queued;
-use crate::spots::Hashing;
+use crate::places::Places;
 use blk_bio::{Limits, Request, Side};
 use slab::Slab;
 use std::alloc::{AllocError, Allocator, Global};
-use std::collections::HashMap;
 use std::marker::Model;
 
-/// Requests that wait, in a slab, and in a hash table the place that each id has there. Seen as the map from ids to requests.
+/// Requests that wait, in a slab, and the place that each id has there. Seen as the map from ids to requests.
 #[derive(Drop)]
 pub struct Shelf<A: Allocator = Global> {
     requests: Slab<Queued<A>, A>,
-    places: HashMap<u64, usize, Hashing, A>,
+    places: Places<A>,
 }
 
 impl<A: Allocator> Model for Shelf<A> {
@@ -26,15 +25,16 @@ impl<A: Allocator> Model for Shelf<A> {
     ghost use Rattle.std.specs.FinMap.{from_entries, code};
     ghost use Rattle.slab.specs.Slab.{get};
     ghost use Rattle.blk_sched.specs.Meaning.{Pending, waiting_code};
-    ghost use Rattle.blk_sched.specs.Inside.Shelves.{held, IsShelf};
+    ghost use Rattle.blk_sched.specs.Inside.Shelves.{held, IsShelf, Counts};
+    ghost use Rattle.blk_sched.specs.Inside.Places.{entries_of};
 
     ghost Value = { Pending };
 
     ghost coded = { code coded_ℕ waiting_code };
 
-    ghost view = { λ s. from_entries (held (get s.requests) s.places.entries) };
+    ghost view = { λ s. from_entries (held (get s.requests) (entries_of s.places)) };
 
-    ghost invariant = { λ s. IsShelf s.places.entries (get s.requests) };
+    ghost invariant = { λ s. IsShelf (entries_of s.places) (get s.requests) × Counts (entries_of s.places) s.requests };
 }
 
 impl<A: Allocator + Clone> Shelf<A> {
@@ -44,7 +44,7 @@ impl<A: Allocator + Clone> Shelf<A> {
     {
         Ok(Shelf {
             requests: Slab::new(alloc.clone()?),
-            places: HashMap::new(alloc),
+            places: Places::new(alloc)?,
         })
     }
 
@@ -52,7 +52,7 @@ impl<A: Allocator + Clone> Shelf<A> {
     pub fn len(&self) -> usize
         ensures { result ≡ map.len self.now }
     {
-        self.places.len()
+        self.requests.len()
     }
 
     /// The request of an id.
@@ -61,10 +61,10 @@ impl<A: Allocator + Clone> Shelf<A> {
         ensures value { option_copied result ≡ map.get self.now id }
         ensures named { (k : ℕ) (w : Waiting) → map.get self.now k ≡ Some w → w.id ≡ k }
     {
-        let Some(place) = self.places.get(&id) else {
+        let Some(place) = self.places.get(id) else {
             return None;
         };
-        self.requests.get(*place)
+        self.requests.get(place)
     }
 
     /// Adds a request whose id isn't there. Refused for want of memory alone: nothing is changed then, and the
@@ -81,7 +81,7 @@ impl<A: Allocator + Clone> Shelf<A> {
         };
         let id = queued.id;
         let place = self.requests.vacant_key();
-        let Ok(_) = self.places.insert(id, place) else {
+        let Ok(()) = self.places.insert(id, place) else {
             return Err(queued);
         };
         self.requests.insert_reserved(queued);
@@ -95,7 +95,7 @@ impl<A: Allocator + Clone> Shelf<A> {
         ensures named { (k : ℕ) (w : Waiting) → map.get self.old k ≡ Some w → w.id ≡ k }
         ensures removed { self.new ≡ map.remove self.old id }
     {
-        let Some(place) = self.places.remove(&id) else {
+        let Some(place) = self.places.remove(id) else {
             return None;
         };
         self.requests.try_remove(place)
@@ -115,10 +115,10 @@ impl<A: Allocator + Clone> Shelf<A> {
         ensures err { IfErr result (λ e. e ≡ newcomer) }
         ensures same { OnErr result (self.new ≡ self.old) }
     {
-        let Some(place) = self.places.get(&id) else {
+        let Some(place) = self.places.get(id) else {
             unreachable!()
         };
-        let Some(queued) = self.requests.get_mut(*place) else {
+        let Some(queued) = self.requests.get_mut(place) else {
             unreachable!()
         };
         match queued.join(newcomer, now, limits) {

@@ -4,6 +4,8 @@ use Rattle.std.specs.Ordering.{nat_cmp}
 use Rattle.std.specs.BTreeMap.{is_at}
 use Rattle.std.specs.Map.{lookup}
 use Rattle.std.specs.FinMap as map
+use Rattle.slab.specs.Slab as slab
+use Rattle.slab.specs.Slab.{Slab, slab_len}
 use Rattle.blk_bio.specs.declared.request.Side.{Side}
 use Rattle.blk_bio.specs.Bios.{Bio}
 use Rattle.blk_bio.specs.Limits.{Limits}
@@ -24,6 +26,10 @@ held at (e ∷ es) = beside e.0 (at e.1) (held at es)
 abbrev pub IsShelf : List (ℕ × ℕ) → (ℕ → Option Waiting) → Type 0
 IsShelf places at =
     (id place : ℕ) → lookup (is_at (nat_cmp id)) places ≡ Some place → (w : Waiting) × (at place ≡ Some w) × (w.id ≡ id)
+
+-- and so many lie there as are found
+abbrev pub Counts : List (ℕ × ℕ) → Slab Waiting → Type 0
+Counts places s = slab_len s ≡ map.len (map.from_entries {R = nat_cmp} (held (slab.get s) places))
 
 -- the request of an id is joined by a newcomer at the side at which it fits, and the others stay
 pub record JoinsOne (limits : Limits) (now : ℕ) (newcomer : List Bio) (old : Pending) (id : ℕ) (side : Side) (new : Pending) : Type 0 where
