@@ -5,7 +5,7 @@ ghost use Rattle.std.specs.Prelude.{◌≡◌, ◌<◌, All, length};
 use crate::given::bio;
 use blk_bio::Limits;
 use blk_core::{BackFault, NotIssued};
-use blk_layer::{Flushed, Layer, LayerIssueFault, Named, Submitter, Worker};
+use blk_layer::{Closed, Flushed, Layer, LayerIssueFault, MAX_WORKERS, Named, Submitter, Worker};
 use blk_none::NoneSched;
 use blk_plug::{Added, Plug};
 use std::alloc::Global;
@@ -93,4 +93,20 @@ pub fn back<R: Abort + Wait, L: Named>(
     ensures { worker.new.tag_set ≡ worker.old.tag_set }
 {
     layer.back(rt, worker, tag)
+}
+
+/// What is left of a layer that is closed with all of its seats.
+pub fn close<L: Named>(
+    rt: &impl Abort,
+    alloc: Global,
+    layer: Layer<NoneSched, L>,
+    submitters: Vec<Submitter<L>>,
+    workers: Vec<Worker<L>>,
+) -> Closed
+    requires parts { L.parts ≡ MAX_WORKERS }
+{
+    match layer.close(alloc, submitters, workers) {
+        Ok(closed) => closed,
+        Err(_) => panic!(rt; "the accounts agree"),
+    }
 }

@@ -1,12 +1,16 @@
-//! Flushes into a software queue of one request, and drains of it.
+//! Flushes into a software queue of one request, drains of it, and what is left in both at a close.
 
-ghost use Rattle.std.specs.Prelude.{◌≡◌, [], vec_len};
+ghost use Rattle.std.specs.Prelude.{◌≡◌, ◌<◌, [], length, vec_len};
 
+use crate::asked::close;
 use crate::given::{bio, core, limits, setup};
-use blk_bio::Limits;
+use blk_bio::{Bio, BioId, Limits};
 use blk_core::Core;
 use blk_hw::Map;
-use blk_layer::{FlushFault, FlushWhy, Flushed, Layer, MAX_WORKERS, Named};
+use blk_layer::{
+    CloseFault, CloseRefused, FlushFault, FlushWhy, Flushed, Layer, MAX_WORKERS, Named, Submitter,
+    Worker,
+};
 use blk_none::NoneSched;
 use blk_plug::{Added, Plug};
 use std::alloc::Global;
@@ -29,6 +33,71 @@ fn two(rt: &impl Abort, alloc: Global, limits: Limits, serial: u64) -> Plug
     plug
 }
 
+/// The first of two requests fills the software queue; once it is drained, the second one does. The first bio's id is refused
+/// from then on.
+fn fill<R: Abort + Wait, L: Named>(
+    rt: &R,
+    alloc: Global,
+    layer: &Layer<NoneSched, L>,
+    submitter: &mut Submitter<L>,
+    worker: &mut Worker<L>,
+    limits: Limits,
+)
+    requires seat { submitter.old.number < length layer.now.map }
+    requires limits { L.setup.limits ≡ limits }
+{
+    let mut plug = two(rt, alloc, limits, 0);
+    let full = FlushFault {
+        left: 1,
+        why: FlushWhy::SoftFull,
+    };
+    assert!(rt; layer.flush(rt, submitter, &mut plug) == Err(full));
+    assert_eq!(rt; submitter.accepted().len(), 1);
+    assert!(rt; layer.drain(rt, worker) == Ok(1));
+    let rest = Flushed {
+        requests: 1,
+        bios: 1,
+    };
+    assert!(rt; layer.flush(rt, submitter, &mut plug) == Ok(rest));
+    assert_eq!(rt; submitter.accepted().len(), 2);
+    let mut plug = two(rt, alloc, limits, 0);
+    let first = BioId {
+        submitter: 0,
+        serial: 0,
+    };
+    let again = FlushFault {
+        left: 2,
+        why: FlushWhy::Repeated(first),
+    };
+    assert!(rt; layer.flush(rt, submitter, &mut plug) == Err(again));
+}
+
+/// The bios that are left where a layer of one worker is closed with all of its seats, after a close without the worker.
+fn left<R: Abort + Wait, L: Named>(
+    rt: &R,
+    alloc: Global,
+    layer: Layer<NoneSched, L>,
+    submitters: Vec<Submitter<L>>,
+    worker: Worker<L>,
+) -> Vec<Bio>
+    requires parts { L.parts ≡ MAX_WORKERS }
+{
+    let Err(
+        CloseRefused::Whole {
+            fault: CloseFault::SeatMissing,
+            layer,
+            submitters,
+            mut workers,
+        },
+    ) = layer.close(alloc, submitters, Vec::new(alloc))
+    else {
+        panic!(rt; "a seat is missing");
+    };
+    assert!(rt; submitters.len() == 1 && workers.is_empty());
+    workers.push(worker).expect(rt, "memory");
+    close(rt, alloc, layer, submitters, workers).left
+}
+
 fn fills<R: Abort + Wait, L: Named>(
     rt: &R,
     alloc: Global,
@@ -45,36 +114,21 @@ fn fills<R: Abort + Wait, L: Named>(
     requires workers { L.workers ≡ vec_len worker_queues }
     requires empty { core.events ≡ [] }
 {
-    let Ok((layer, mut submitters, mut workers)) = Layer::<NoneSched, L>::new(
-        alloc,
-        blank,
-        core,
-        map,
-        1,
-        worker_queues,
-    ) else {
+    let made = Layer::<NoneSched, L>::new(alloc, blank, core, map, 1, worker_queues);
+    let Ok((layer, mut submitters, mut workers)) = made else {
         panic!(rt; "a layer");
     };
     let count = submitters.len();
     let mut submitter = submitters.pop().expect(rt, "a submitter");
     let mut worker = workers.pop().expect(rt, "a worker");
     assert!(rt; usize::from(submitter.number()) < count);
-    let mut plug = two(rt, alloc, limits, 0);
-    let full = FlushFault {
-        left: 1,
-        why: FlushWhy::SoftFull,
-    };
-    assert!(rt; layer.flush(rt, &mut submitter, &mut plug) == Err(full));
-    assert_eq!(rt; submitter.accepted().len(), 1);
-    assert!(rt; layer.drain(rt, &mut worker) == Ok(1));
-    let rest = Flushed {
-        requests: 1,
-        bios: 1,
-    };
-    assert!(rt; layer.flush(rt, &mut submitter, &mut plug) == Ok(rest));
-    assert_eq!(rt; submitter.accepted().len(), 2);
+    fill(rt, alloc, &layer, &mut submitter, &mut worker, limits);
+    submitters.push(submitter).expect(rt, "memory");
+    let left = left(rt, alloc, layer, submitters, worker);
+    assert!(rt; left.as_slice() == [bio(rt, 0, 1, 100), bio(rt, 0, 0, 0)].as_slice());
 }
 
+// The bio in the software queue is left first, and then the one that waits in the core.
 #[test]
 fn layer_soft_queue_full(rt: HostRuntime) {
     let alloc = rt.alloc();

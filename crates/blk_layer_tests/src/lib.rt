@@ -4,7 +4,15 @@
 #[cfg(test)]
 mod asked;
 #[cfg(test)]
+mod calls;
+#[cfg(test)]
+mod dice;
+#[cfg(test)]
+mod drawn;
+#[cfg(test)]
 mod flushed;
+#[cfg(test)]
+mod full;
 #[cfg(test)]
 mod gates;
 #[cfg(test)]
@@ -13,6 +21,10 @@ mod given;
 mod made;
 #[cfg(test)]
 mod moved;
+#[cfg(test)]
+mod plain;
+#[cfg(test)]
+mod seen;
 #[cfg(test)]
 mod served;
 #[cfg(test)]
