@@ -6,4 +6,5 @@ pub mod Shelves
 pub mod Lists
 pub mod Ages
 pub mod Orders
+pub mod Pairs
 pub mod Places

@@ -10,6 +10,7 @@ ghost use Rattle.blk_sched.specs.Inside.Spots.{Spot, AreSpots, Adds, Takes, Keep
 ghost use Rattle.blk_sched.specs.Inside.Orders.{pair_cmp, PairAdded, PairTaken, PairsKept, IsNextPair, NoPair, order_in};
 
 use crate::spots::Spot;
+use crate::starts::Start;
 use blk_bio::Dir;
 use std::alloc::{AllocError, Allocator, Global};
 use std::collections::BTreeSet;
@@ -19,9 +20,9 @@ use std::ops::Bound;
 #[derive(Drop)]
 pub struct Order<A: Allocator = Global> {
     /// Those of reads.
-    pub reads: BTreeSet<(u64, u64), A>,
+    pub reads: BTreeSet<Start, A>,
     /// Those of writes.
-    pub writes: BTreeSet<(u64, u64), A>,
+    pub writes: BTreeSet<Start, A>,
 }
 
 impl<A: Allocator + Clone> Order<A> {
@@ -78,30 +79,28 @@ impl<A: Allocator + Clone> Order<A> {
 /// Puts a pair in. On a refusal nothing is changed.
 #[inline(always)]
 fn put_pair<A: Allocator + Clone>(
-    pairs: &mut BTreeSet<(u64, u64), A>,
+    pairs: &mut BTreeSet<Start, A>,
     pair: (u64, u64),
 ) -> Result<(), AllocError>
     ensures ok { OnOk result (PairAdded (contains pair_cmp pairs.old) pair (contains pair_cmp pairs.new)) }
     ensures same { OnErr result (PairsKept (contains pair_cmp pairs.old) (contains pair_cmp pairs.new)) }
 {
-    pairs.insert(pair)?;
+    let (first, id) = pair;
+    pairs.insert(Start { first, id })?;
     Ok(())
 }
 
 /// Takes a pair out.
 #[inline(always)]
-fn take_pair<A: Allocator + Clone>(pairs: &mut BTreeSet<(u64, u64), A>, pair: (u64, u64))
+fn take_pair<A: Allocator + Clone>(pairs: &mut BTreeSet<Start, A>, pair: (u64, u64))
     ensures { PairTaken (contains pair_cmp pairs.old) pair (contains pair_cmp pairs.new) }
 {
-    let _ = pairs.remove(&pair);
+    let (first, id) = pair;
+    let _ = pairs.remove(&Start { first, id });
 }
 
 /// The id of the least pair above another.
-fn next_id<A: Allocator + Clone>(
-    pairs: &BTreeSet<(u64, u64), A>,
-    first: u64,
-    last: u64,
-) -> Option<u64>
+fn next_id<A: Allocator + Clone>(pairs: &BTreeSet<Start, A>, first: u64, last: u64) -> Option<u64>
     ensures some { IfSome result (IsNextPair (contains pair_cmp pairs.now) (first, last)) }
     ensures none { IfNone result (NoPair (contains pair_cmp pairs.now) (first, last)) }
 {
@@ -111,7 +110,7 @@ fn next_id<A: Allocator + Clone>(
 
 /// The least pair above another.
 fn next_pair<A: Allocator + Clone>(
-    pairs: &BTreeSet<(u64, u64), A>,
+    pairs: &BTreeSet<Start, A>,
     lower: (u64, u64),
 ) -> Option<(u64, u64)>
     ensures there { IfSome result (λ p. contains pair_cmp pairs.now p ≡ true) }
@@ -119,8 +118,9 @@ fn next_pair<A: Allocator + Clone>(
     ensures least { IfSome result (λ p. (q : ℕ × ℕ) → pair_cmp lower q ≡ Less → contains pair_cmp pairs.now q ≡ true → is_gt (pair_cmp p q) ≡ false) }
     ensures none { IfNone result ((q : ℕ × ℕ) → pair_cmp lower q ≡ Less → contains pair_cmp pairs.now q ≡ false) }
 {
+    let (first, id) = lower;
     let found = pairs
-        .range((Bound::Excluded(lower), Bound::Unbounded))
+        .range((Bound::Excluded(Start { first, id }), Bound::Unbounded))
         .next()?;
-    Some(*found)
+    Some((found.first, found.id))
 }

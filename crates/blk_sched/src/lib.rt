@@ -19,6 +19,7 @@ pub mod places;
 pub mod shelf;
 pub mod sorted;
 pub mod spots;
+pub mod starts;
 
 pub use crate::fits::side_of_fit;
 pub use crate::index::Index;

@@ -75,18 +75,21 @@ impl<A: Allocator + Clone> Places<A> {
     {
         let found = take_place(&mut self.run, self.from, id);
         let other = take_other(&mut self.others, id);
-        self.drop_gone();
+        self.drop_gone(id);
         match found {
             Some(place) => Some(place),
             None => other,
         }
     }
 
-    /// Lets the run begin with an id that has a place.
+    /// Lets the run begin with an id that has a place, where it began with this one, which has none.
     #[inline(always)]
-    fn drop_gone(&mut self)
+    fn drop_gone(&mut self, id: u64)
         ensures { entries_of self.new ≡ entries_of self.old }
     {
+        if id != self.from {
+            return;
+        }
         while let Some(next) = after_gone(&self.run, self.from) {
             let _ = self.run.pop_front();
             self.from = next;

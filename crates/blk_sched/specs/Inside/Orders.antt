@@ -1,15 +1,11 @@
 -- The order of first sectors.
 use Rattle.std.specs.Prelude.{ℕ, ◌≡◌, Bool, true, false, cond}
-use Rattle.std.specs.Ordering.{nat_cmp, ordering_then, eq_by_cmp, is_gt}
+use Rattle.std.specs.Ordering.{eq_by_cmp, is_gt}
 use Rattle.std.specs.BTreeSet.{contains}
-use Rattle.std.specs.declared.cmp.Ordering.{Ordering}
 use Rattle.std.specs.declared.cmp.Ordering.TheVariants.{Less}
+pub use Rattle.blk_sched.specs.Inside.Pairs.{pair_cmp}
 use Rattle.blk_sched.specs.Inside.Spots.{Spot}
 use Rattle.blk_sched.specs.declared.firsts.Order.{Order}
-
--- a first sector and an id, in order
-abbrev pub pair_cmp : ℕ × ℕ → ℕ × ℕ → Ordering
-pair_cmp x y = ordering_then (nat_cmp x.0 y.0) (nat_cmp x.1 y.1)
 
 -- a pair more, a pair less, and none
 abbrev pub PairAdded : (ℕ × ℕ → Bool) → ℕ × ℕ → (ℕ × ℕ → Bool) → Type 0
