@@ -108,7 +108,49 @@ fn are_same(ones: &[Event], others: &[Event]) -> bool {
             .all(|(one, other)| is_same(one, other))
 }
 
-/// Each call of a list, by either submitter and worker.
+/// A drawn call, by the one submitter and worker or by the other.
+fn call<R: Abort + Wait, L: Named>(
+    rt: &R,
+    alloc: Global,
+    layer: &Layer<NoneSched, L>,
+    first: &mut Submitter<L>,
+    second: &mut Submitter<L>,
+    zero: &mut Worker<L>,
+    one: &mut Worker<L>,
+    parts: &mut Parts,
+    dice: &mut Dice,
+    limits: Limits,
+) -> Seen
+    requires first { first.old.number < length layer.now.map }
+    requires second { second.old.number < length layer.now.map }
+    requires limits { L.setup.limits ≡ limits }
+    requires zero { zero.old.tag_set ≡ layer.now.tag_set }
+    requires one { one.old.tag_set ≡ layer.now.tag_set }
+    ensures first { first.new.number ≡ first.old.number }
+    ensures second { second.new.number ≡ second.old.number }
+    ensures zero { zero.new.tag_set ≡ zero.old.tag_set }
+    ensures one { one.new.tag_set ≡ one.old.tag_set }
+{
+    dice.calls = dice.calls.wrapping_add(1);
+    let Parts {
+        core,
+        zero: store_zero,
+        one: store_one,
+        tags_zero,
+        tags_one,
+    } = parts;
+    if dice.below(2) == 0 {
+        by_either(
+            rt, alloc, layer, first, zero, store_zero, tags_zero, core, dice, limits,
+        )
+    } else {
+        by_either(
+            rt, alloc, layer, second, one, store_one, tags_one, core, dice, limits,
+        )
+    }
+}
+
+/// All calls of a list.
 fn play<R: Abort + Wait, L: Named>(
     rt: &R,
     alloc: Global,
@@ -128,24 +170,10 @@ fn play<R: Abort + Wait, L: Named>(
     requires zero { zero.old.tag_set ≡ layer.now.tag_set }
     requires one { one.old.tag_set ≡ layer.now.tag_set }
 {
-    let Parts {
-        core,
-        zero: store_zero,
-        one: store_one,
-        tags_zero,
-        tags_one,
-    } = parts;
     for _ in 0..CALLS {
-        dice.calls = dice.calls.wrapping_add(1);
-        let seen = if dice.below(2) == 0 {
-            by_either(
-                rt, alloc, layer, first, zero, store_zero, tags_zero, core, dice, limits,
-            )
-        } else {
-            by_either(
-                rt, alloc, layer, second, one, store_one, tags_one, core, dice, limits,
-            )
-        };
+        let seen = call(
+            rt, alloc, layer, first, second, zero, one, parts, dice, limits,
+        );
         log.push(seen).expect(rt, "memory");
     }
 }

@@ -20,8 +20,8 @@ const TICKS: u64 = 1_000_000;
 
 /// A layer is ticked until its trace is full.
 fn tick_on<R: Abort + Wait, L: Named>(rt: &R, layer: &Layer<NoneSched, L>) {
-    for round in 1..=TICKS {
-        assert!(rt; layer.tick(rt) == Ok(round));
+    for round in 0..TICKS {
+        assert!(rt; layer.tick(rt) == Ok(round + 1));
     }
     assert!(rt; layer.tick(rt) == Err(TickFault::TraceFull));
 }

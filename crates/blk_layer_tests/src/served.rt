@@ -1,19 +1,45 @@
 //! Commands that workers are issued, report done and hand back.
 
-ghost use Rattle.std.specs.Prelude.{◌≡◌, [], vec_len};
+ghost use Rattle.std.specs.Prelude.{◌≡◌, ◌<◌, [], length, vec_len};
 
 use crate::asked::{back, done, flush_one, issued, last};
 use crate::given::{core, limits, setup};
 use blk_bio::Limits;
 use blk_core::{BackFault, Core, DepthFault};
 use blk_hw::Map;
-use blk_layer::{Layer, LayerIssueFault, MAX_WORKERS, Named};
+use blk_layer::{Layer, LayerIssueFault, MAX_WORKERS, Named, Submitter, Worker};
 use blk_none::NoneSched;
 use std::alloc::Global;
 use std::marker::Brand;
 use std::process::Abort;
 use std::sync::Wait;
 use std::sync::ledger::Blank;
+
+/// Two workers take turns at one tag.
+fn take_turns<R: Abort + Wait, L: Named>(
+    rt: &R,
+    alloc: Global,
+    layer: &Layer<NoneSched, L>,
+    submitter: &mut Submitter<L>,
+    zero: &mut Worker<L>,
+    one: &mut Worker<L>,
+    limits: Limits,
+)
+    requires seat { submitter.old.number < length layer.now.map }
+    requires limits { L.setup.limits ≡ limits }
+    requires zero { zero.old.tag_set ≡ layer.now.tag_set }
+    requires one { one.old.tag_set ≡ layer.now.tag_set }
+{
+    flush_one(rt, alloc, layer, submitter, limits, 0);
+    flush_one(rt, alloc, layer, submitter, limits, 1);
+    assert!(rt; layer.drain(rt, one) == Ok(2));
+    assert!(rt; issued(rt, layer, zero) == Ok(Some((0, 0))));
+    assert!(rt; issued(rt, layer, one) == Err(LayerIssueFault::NoTag));
+    assert!(rt; done(rt, layer, zero, 0));
+    assert!(rt; issued(rt, layer, one) == Err(LayerIssueFault::SlotUsed));
+    assert!(rt; layer.tick(rt) == Ok(1));
+    assert!(rt; issued(rt, layer, one) == Ok(Some((1, 0))));
+}
 
 #[tactic(auto, using(crate::proofs::Seated::all_of))]
 fn one_tag<R: Abort + Wait, L: Named>(
@@ -41,15 +67,15 @@ fn one_tag<R: Abort + Wait, L: Named>(
     let count = submitters.len();
     let mut submitter = submitters.pop().expect(rt, "a submitter");
     assert!(rt; usize::from(submitter.number()) < count);
-    flush_one(rt, alloc, &layer, &mut submitter, limits, 0);
-    flush_one(rt, alloc, &layer, &mut submitter, limits, 1);
-    assert!(rt; layer.drain(rt, &mut one) == Ok(2));
-    assert!(rt; issued(rt, &layer, &mut zero) == Ok(Some((0, 0))));
-    assert!(rt; issued(rt, &layer, &mut one) == Err(LayerIssueFault::NoTag));
-    assert!(rt; done(rt, &layer, &mut zero, 0));
-    assert!(rt; issued(rt, &layer, &mut one) == Err(LayerIssueFault::SlotUsed));
-    assert!(rt; layer.tick(rt) == Ok(1));
-    assert!(rt; issued(rt, &layer, &mut one) == Ok(Some((1, 0))));
+    take_turns(
+        rt,
+        alloc,
+        &layer,
+        &mut submitter,
+        &mut zero,
+        &mut one,
+        limits,
+    );
 }
 
 #[test]
@@ -69,6 +95,33 @@ fn layer_two_workers_one_tag(rt: HostRuntime) {
         queues,
         limits,
     );
+}
+
+/// Each of two workers is given what is on its own hardware queue.
+fn serve_both<R: Abort + Wait, L: Named>(
+    rt: &R,
+    alloc: Global,
+    layer: &Layer<NoneSched, L>,
+    first: &mut Submitter<L>,
+    second: &mut Submitter<L>,
+    zero: &mut Worker<L>,
+    one: &mut Worker<L>,
+    limits: Limits,
+)
+    requires first { first.old.number < length layer.now.map }
+    requires second { second.old.number < length layer.now.map }
+    requires limits { L.setup.limits ≡ limits }
+    requires zero { zero.old.tag_set ≡ layer.now.tag_set }
+    requires one { one.old.tag_set ≡ layer.now.tag_set }
+{
+    flush_one(rt, alloc, layer, first, limits, 0);
+    flush_one(rt, alloc, layer, second, limits, 0);
+    assert!(rt; layer.drain(rt, one) == Ok(1));
+    assert!(rt; issued(rt, layer, zero) == Ok(None));
+    assert!(rt; issued(rt, layer, one) == Ok(Some((0, 0))));
+    assert!(rt; layer.drain(rt, zero) == Ok(1));
+    assert!(rt; !done(rt, layer, zero, 0));
+    assert!(rt; issued(rt, layer, zero) == Ok(Some((1, 1))));
 }
 
 #[tactic(auto, using(crate::proofs::Seated::all_of))]
@@ -99,14 +152,16 @@ fn by_queue<R: Abort + Wait, L: Named>(
     let mut first = submitters.pop().expect(rt, "a submitter");
     assert!(rt; usize::from(first.number()) < count);
     assert!(rt; usize::from(second.number()) < count);
-    flush_one(rt, alloc, &layer, &mut first, limits, 0);
-    flush_one(rt, alloc, &layer, &mut second, limits, 0);
-    assert!(rt; layer.drain(rt, &mut one) == Ok(1));
-    assert!(rt; issued(rt, &layer, &mut zero) == Ok(None));
-    assert!(rt; issued(rt, &layer, &mut one) == Ok(Some((0, 0))));
-    assert!(rt; layer.drain(rt, &mut zero) == Ok(1));
-    assert!(rt; !done(rt, &layer, &mut zero, 0));
-    assert!(rt; issued(rt, &layer, &mut zero) == Ok(Some((1, 1))));
+    serve_both(
+        rt,
+        alloc,
+        &layer,
+        &mut first,
+        &mut second,
+        &mut zero,
+        &mut one,
+        limits,
+    );
 }
 
 // Each worker is given what was flushed for its own hardware queue.
@@ -127,6 +182,47 @@ fn layer_two_workers_two_queues(rt: HostRuntime) {
         queues,
         limits,
     );
+}
+
+/// A worker hands a command back, which goes out first again.
+fn hand_back<R: Abort + Wait, L: Named>(
+    rt: &R,
+    alloc: Global,
+    layer: &Layer<NoneSched, L>,
+    submitter: &mut Submitter<L>,
+    worker: &mut Worker<L>,
+    limits: Limits,
+)
+    requires seat { submitter.old.number < length layer.now.map }
+    requires limits { L.setup.limits ≡ limits }
+    requires tags { worker.old.tag_set ≡ layer.now.tag_set }
+    ensures { worker.new.tag_set ≡ worker.old.tag_set }
+{
+    flush_one(rt, alloc, layer, submitter, limits, 0);
+    flush_one(rt, alloc, layer, submitter, limits, 1);
+    assert!(rt; layer.drain(rt, worker) == Ok(2));
+    assert!(rt; issued(rt, layer, worker) == Ok(Some((0, 0))));
+    assert!(rt; back(rt, layer, worker, 0) == Ok(0));
+    assert!(rt; back(rt, layer, worker, 0) == Err(BackFault::NotIssued));
+    assert!(rt; issued(rt, layer, worker) == Ok(Some((0, 1))));
+    assert!(rt; done(rt, layer, worker, 1));
+}
+
+/// A depth of 1 is set in place of 2, and the next round carries one command.
+fn lower_depth<R: Abort + Wait, L: Named>(
+    rt: &R,
+    layer: &Layer<NoneSched, L>,
+    worker: &mut Worker<L>,
+)
+    requires { worker.old.tag_set ≡ layer.now.tag_set }
+{
+    assert!(rt; layer.set_depth(rt, 0) == Err(DepthFault::DepthRange));
+    assert!(rt; layer.set_depth(rt, 3) == Err(DepthFault::DepthRange));
+    assert!(rt; layer.set_depth(rt, 1) == Ok(()));
+    assert!(rt; layer.tick(rt) == Ok(1));
+    assert!(rt; issued(rt, layer, worker) == Ok(Some((1, 0))));
+    assert!(rt; done(rt, layer, worker, 0));
+    assert!(rt; issued(rt, layer, worker) == Err(LayerIssueFault::TagRange));
 }
 
 #[tactic(auto, using(crate::proofs::Seated::all_of))]
@@ -154,21 +250,8 @@ fn handed_back<R: Abort + Wait, L: Named>(
     let count = submitters.len();
     let mut submitter = submitters.pop().expect(rt, "a submitter");
     assert!(rt; usize::from(submitter.number()) < count);
-    flush_one(rt, alloc, &layer, &mut submitter, limits, 0);
-    flush_one(rt, alloc, &layer, &mut submitter, limits, 1);
-    assert!(rt; layer.drain(rt, &mut worker) == Ok(2));
-    assert!(rt; issued(rt, &layer, &mut worker) == Ok(Some((0, 0))));
-    assert!(rt; back(rt, &layer, &mut worker, 0) == Ok(0));
-    assert!(rt; back(rt, &layer, &mut worker, 0) == Err(BackFault::NotIssued));
-    assert!(rt; issued(rt, &layer, &mut worker) == Ok(Some((0, 1))));
-    assert!(rt; done(rt, &layer, &mut worker, 1));
-    assert!(rt; layer.set_depth(rt, 0) == Err(DepthFault::DepthRange));
-    assert!(rt; layer.set_depth(rt, 3) == Err(DepthFault::DepthRange));
-    assert!(rt; layer.set_depth(rt, 1) == Ok(()));
-    assert!(rt; layer.tick(rt) == Ok(1));
-    assert!(rt; issued(rt, &layer, &mut worker) == Ok(Some((1, 0))));
-    assert!(rt; done(rt, &layer, &mut worker, 0));
-    assert!(rt; issued(rt, &layer, &mut worker) == Err(LayerIssueFault::TagRange));
+    hand_back(rt, alloc, &layer, &mut submitter, &mut worker, limits);
+    lower_depth(rt, &layer, &mut worker);
 }
 
 // A command that the device hands back goes out first; a depth is in force from the next round on.

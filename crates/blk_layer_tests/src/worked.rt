@@ -1,13 +1,13 @@
 //! Workers that work to the end.
 
-ghost use Rattle.std.specs.Prelude.{◌≡◌, [], vec_len};
+ghost use Rattle.std.specs.Prelude.{◌≡◌, ◌<◌, [], length, vec_len};
 
 use crate::asked::{flush_one, last};
 use crate::given::{core, limits, setup};
 use blk_bio::Limits;
 use blk_core::Core;
 use blk_hw::Map;
-use blk_layer::{Device, Layer, MAX_WORKERS, Named, Ran, WorkFault, Worked, Worker};
+use blk_layer::{Device, Layer, MAX_WORKERS, Named, Ran, Submitter, WorkFault, Worked, Worker};
 use blk_none::NoneSched;
 use edd_check::Command;
 use std::alloc::Global;
@@ -57,6 +57,36 @@ fn worked<R: Wait, L: Named>(
     }
 }
 
+/// A worker works to the end of three requests.
+fn work_on<R: Abort + Wait, L: Named>(
+    rt: &R,
+    alloc: Global,
+    layer: &Layer<NoneSched, L>,
+    submitter: &mut Submitter<L>,
+    worker: &mut Worker<L>,
+    limits: Limits,
+)
+    requires seat { submitter.old.number < length layer.now.map }
+    requires limits { L.setup.limits ≡ limits }
+    requires tags { worker.old.tag_set ≡ layer.now.tag_set }
+{
+    flush_one(rt, alloc, layer, submitter, limits, 0);
+    flush_one(rt, alloc, layer, submitter, limits, 1);
+    flush_one(rt, alloc, layer, submitter, limits, 2);
+    let mut device = Counting {
+        runs: 0,
+        busy_at: 2,
+    };
+    assert!(rt; worked(rt, layer, worker, &mut device, 0) == Ok((0, 0, false)));
+    assert!(rt; worked(rt, layer, worker, &mut device, 1) == Ok((1, 1, false)));
+    layer.finish(rt);
+    assert!(rt; worked(rt, layer, worker, &mut device, 10) == Ok((1, 2, true)));
+    assert!(rt; worked(rt, layer, worker, &mut device, 10) == Ok((1, 0, true)));
+    assert_eq!(rt; device.runs, 4);
+    assert_eq!(rt; worker.ran().len(), 3);
+    assert!(rt; layer.tick(rt) == Ok(3));
+}
+
 #[tactic(auto, using(crate::proofs::Seated::all_of))]
 fn works<R: Abort + Wait, L: Named>(
     rt: &R,
@@ -82,21 +112,7 @@ fn works<R: Abort + Wait, L: Named>(
     let count = submitters.len();
     let mut submitter = submitters.pop().expect(rt, "a submitter");
     assert!(rt; usize::from(submitter.number()) < count);
-    flush_one(rt, alloc, &layer, &mut submitter, limits, 0);
-    flush_one(rt, alloc, &layer, &mut submitter, limits, 1);
-    flush_one(rt, alloc, &layer, &mut submitter, limits, 2);
-    let mut device = Counting {
-        runs: 0,
-        busy_at: 2,
-    };
-    assert!(rt; worked(rt, &layer, &mut worker, &mut device, 0) == Ok((0, 0, false)));
-    assert!(rt; worked(rt, &layer, &mut worker, &mut device, 1) == Ok((1, 1, false)));
-    layer.finish(rt);
-    assert!(rt; worked(rt, &layer, &mut worker, &mut device, 10) == Ok((1, 2, true)));
-    assert!(rt; worked(rt, &layer, &mut worker, &mut device, 10) == Ok((1, 0, true)));
-    assert_eq!(rt; device.runs, 4);
-    assert_eq!(rt; worker.ran().len(), 3);
-    assert!(rt; layer.tick(rt) == Ok(3));
+    work_on(rt, alloc, &layer, &mut submitter, &mut worker, limits);
 }
 
 // Three requests at depth 2, the second of which the device is too busy for at first: two rounds are used up and end.
