@@ -1,5 +1,5 @@
 -- The places of ids, in a run and beside it.
-use Rattle.std.proofs.Common.{◌≡◌, ◌<◌, ◌≤◌, ◌+◌, ◌-◌, ◌++◌, ◌∙◌, ◌⊎◌, inl, inr, ℕ, zero, suc, true, false, cond, List, [], ◌∷◌, Option, None, Some, length, get_or, set, sym, ap, refl, arith, get_or-set_same, get_or-set_other}
+use Rattle.std.proofs.Common.{◌≡◌, ◌<◌, ◌≤◌, ◌+◌, ◌-◌, ◌++◌, ◌∙◌, inl, inr, ℕ, zero, suc, true, false, cond, List, [], ◌∷◌, Option, None, Some, length, get_or, set, sym, ap, refl, arith, get_or-set_same, get_or-set_other}
 use Rattle.std.specs.Prelude.{drop, slice_get, OnOk, OnErr, Result, Ok, Err}
 use Rattle.std.specs.Ordering.{nat_cmp, is_eq}
 use Rattle.std.specs.Cmp.{nat_cmp_total, tied_itself}
@@ -7,7 +7,7 @@ use Rattle.std.specs.BTreeMap.{is_at}
 use Rattle.std.proofs.lemmas.Bool.{cases_lt}
 use Rattle.std.proofs.lemmas.List.{get_or_push}
 use Rattle.blk_sched.specs.Maps.{same_number}
-use Rattle.blk_sched.specs.Inside.Places.{under, run_of, place_in, run_at, Gives}
+use Rattle.blk_sched.specs.Inside.Places.{run_of, place_in, run_at, Gives}
 
 abbrev pub Run : Type 0
 Run = List (Option ℕ)

@@ -1,6 +1,6 @@
 -- What lies at places, found by ids.
 use Rattle.std.proofs.Common.{◌≡◌, ◌≢◌, ◌<◌, ◌∙◌, sym, ap, subst, refl, true, false, cond, ℕ, Some, None, Option, List, [], ◌∷◌, zero, suc, get_or, set, length, arith}
-use Rattle.std.specs.Prelude.{IsSome, is_some, ◌+◌, ◌-◌, count_by, sum_by}
+use Rattle.std.specs.Prelude.{IsSome, is_some, ◌+◌, ◌-◌, count_by}
 use Rattle.std.proofs.lemmas.List.Sums.{sum_by-set}
 use Rattle.std.specs.Ordering.{nat_cmp, is_eq}
 use Rattle.std.specs.Cmp.{nat_cmp_total, tied_itself}

@@ -1,4 +1,4 @@
-use Rattle.std.proofs.Common.{◌≡◌, ◌∙◌, ap, sym, List, Option, ℕ, Some}
+use Rattle.std.proofs.Common.{◌∙◌, ap, List, Option, ℕ, Some}
 use Rattle.std.specs.Prelude.{◌++◌}
 use Rattle.blk_sched.specs.Inside.Places.{run_of, entries_of, place_in}
 use Rattle.blk_sched.proofs.Placing.{one_put, first_given, then_given, given_of, on_ok, on_err}

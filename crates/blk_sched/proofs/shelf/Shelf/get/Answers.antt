@@ -1,4 +1,4 @@
-use Rattle.std.proofs.Common.{sym, ap, ◌∙◌, Some, None}
+use Rattle.std.proofs.Common.{sym, ap, ◌∙◌}
 use Rattle.slab.specs.Slab as slab
 use Rattle.blk_sched.specs.Inside.Places.{entries_of}
 use Rattle.blk_sched.proofs.Shelving.{got_by, lies, named_by}
