@@ -51,7 +51,7 @@ pub fn last<L: Named>(
 }
 
 /// The command that the layer issues to a worker: its id, and its tag.
-pub fn issued<R: Abort + Wait, L: Named>(
+fn issued<R: Abort + Wait, L: Named>(
     rt: &R,
     layer: &Layer<NoneSched, L>,
     worker: &mut Worker<L>,
@@ -64,6 +64,19 @@ pub fn issued<R: Abort + Wait, L: Named>(
         Ok(None) => Ok(None),
         Err(why) => Err(why),
     }
+}
+
+/// Whether this is what the layer issues to a worker.
+pub fn issues<R: Abort + Wait, L: Named>(
+    rt: &R,
+    layer: &Layer<NoneSched, L>,
+    worker: &mut Worker<L>,
+    wanted: Result<Option<(u64, u16)>, LayerIssueFault>,
+) -> bool
+    requires { worker.old.tag_set ≡ layer.now.tag_set }
+    ensures { worker.new.tag_set ≡ worker.old.tag_set }
+{
+    issued(rt, layer, worker) == wanted
 }
 
 /// What the layer answers where a worker reports a tag done.

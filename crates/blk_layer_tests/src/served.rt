@@ -2,7 +2,7 @@
 
 ghost use Rattle.std.specs.Prelude.{◌≡◌, ◌<◌, [], length, vec_len};
 
-use crate::asked::{back, done, flush_one, issued, last};
+use crate::asked::{back, done, flush_one, issues, last};
 use crate::given::{core, limits, setup};
 use blk_bio::Limits;
 use blk_core::{BackFault, Core, DepthFault};
@@ -33,12 +33,12 @@ fn take_turns<R: Abort + Wait, L: Named>(
     flush_one(rt, alloc, layer, submitter, limits, 0);
     flush_one(rt, alloc, layer, submitter, limits, 1);
     assert!(rt; layer.drain(rt, one) == Ok(2));
-    assert!(rt; issued(rt, layer, zero) == Ok(Some((0, 0))));
-    assert!(rt; issued(rt, layer, one) == Err(LayerIssueFault::NoTag));
+    assert!(rt; issues(rt, layer, zero, Ok(Some((0, 0)))));
+    assert!(rt; issues(rt, layer, one, Err(LayerIssueFault::NoTag)));
     assert!(rt; done(rt, layer, zero, 0));
-    assert!(rt; issued(rt, layer, one) == Err(LayerIssueFault::SlotUsed));
+    assert!(rt; issues(rt, layer, one, Err(LayerIssueFault::SlotUsed)));
     assert!(rt; layer.tick(rt) == Ok(1));
-    assert!(rt; issued(rt, layer, one) == Ok(Some((1, 0))));
+    assert!(rt; issues(rt, layer, one, Ok(Some((1, 0)))));
 }
 
 #[tactic(auto, using(crate::proofs::Seated::all_of))]
@@ -117,11 +117,11 @@ fn serve_both<R: Abort + Wait, L: Named>(
     flush_one(rt, alloc, layer, first, limits, 0);
     flush_one(rt, alloc, layer, second, limits, 0);
     assert!(rt; layer.drain(rt, one) == Ok(1));
-    assert!(rt; issued(rt, layer, zero) == Ok(None));
-    assert!(rt; issued(rt, layer, one) == Ok(Some((0, 0))));
+    assert!(rt; issues(rt, layer, zero, Ok(None)));
+    assert!(rt; issues(rt, layer, one, Ok(Some((0, 0)))));
     assert!(rt; layer.drain(rt, zero) == Ok(1));
     assert!(rt; !done(rt, layer, zero, 0));
-    assert!(rt; issued(rt, layer, zero) == Ok(Some((1, 1))));
+    assert!(rt; issues(rt, layer, zero, Ok(Some((1, 1)))));
 }
 
 #[tactic(auto, using(crate::proofs::Seated::all_of))]
@@ -201,10 +201,10 @@ fn hand_back<R: Abort + Wait, L: Named>(
     flush_one(rt, alloc, layer, submitter, limits, 0);
     flush_one(rt, alloc, layer, submitter, limits, 1);
     assert!(rt; layer.drain(rt, worker) == Ok(2));
-    assert!(rt; issued(rt, layer, worker) == Ok(Some((0, 0))));
+    assert!(rt; issues(rt, layer, worker, Ok(Some((0, 0)))));
     assert!(rt; back(rt, layer, worker, 0) == Ok(0));
     assert!(rt; back(rt, layer, worker, 0) == Err(BackFault::NotIssued));
-    assert!(rt; issued(rt, layer, worker) == Ok(Some((0, 1))));
+    assert!(rt; issues(rt, layer, worker, Ok(Some((0, 1)))));
     assert!(rt; done(rt, layer, worker, 1));
 }
 
@@ -220,9 +220,9 @@ fn lower_depth<R: Abort + Wait, L: Named>(
     assert!(rt; layer.set_depth(rt, 3) == Err(DepthFault::DepthRange));
     assert!(rt; layer.set_depth(rt, 1) == Ok(()));
     assert!(rt; layer.tick(rt) == Ok(1));
-    assert!(rt; issued(rt, layer, worker) == Ok(Some((1, 0))));
+    assert!(rt; issues(rt, layer, worker, Ok(Some((1, 0)))));
     assert!(rt; done(rt, layer, worker, 0));
-    assert!(rt; issued(rt, layer, worker) == Err(LayerIssueFault::TagRange));
+    assert!(rt; issues(rt, layer, worker, Err(LayerIssueFault::TagRange)));
 }
 
 #[tactic(auto, using(crate::proofs::Seated::all_of))]
