@@ -18,12 +18,12 @@ use Rattle.blk_cli.specs.declared.words.Sched.TheVariants as under
 use Rattle.blk_cli.specs.declared.failure.Failure.{Failure}
 use Rattle.blk_cli.specs.declared.failure.Failure.TheVariants as failure
 use Rattle.blk_cli.specs.declared.comparing.Reports.{Reports}
-use Rattle.blk_cli.specs.Outcome.{IsTraceOf, IsUnmade, IsUnrun, IsRefusedUnder}
+use Rattle.blk_cli.specs.Outcome.{IsTraceOfScript, IsUnmade, IsUnrun, IsRefusedUnder}
 use Rattle.blk_cli.specs.Comparing.{IsReportUnder, AreReports, IsTableOf, AreMade, AreUnmade, IsFirstRefused, IsUncompared, CompareWrote, CompareFails}
 
 -- a script that a scheduler runs whole
 abbrev pub RunsWhole : Scripted → Sched → Type 0
-RunsWhole s sched = (trace : Traced) × IsTraceOf sched s trace
+RunsWhole s sched = (trace : Traced) × IsTraceOfScript sched s trace
 
 -- a scheduler that isn't made, of settings that all are made of
 none_unmade : (t : Tunables) (g : Targets) (f : SchedFault) → IsUnmade under.None f → AreUnmade t g f

@@ -17,7 +17,7 @@ use Rattle.blk_cli.specs.declared.words.Sched.TheVariants as sched
 use Rattle.blk_cli.specs.declared.failure.Failure.{Failure}
 use Rattle.blk_cli.specs.declared.failure.Failure.TheVariants as failure
 use Rattle.blk_cli.specs.declared.comparing.Reports.{Reports}
-use Rattle.blk_cli.specs.Outcome.{IsMade, IsTraceOf, IsRefusedUnder, IsTextFault}
+use Rattle.blk_cli.specs.Outcome.{IsMade, IsTraceOfScript, IsRefusedUnder, IsTextFault}
 
 -- the schedulers in the order in which they run, and their names
 abbrev pub in_turn : Tunables → Targets → List Sched
@@ -29,7 +29,7 @@ names_in_turn = codes "none" ∷ codes "deadline" ∷ codes "kyber" ∷ []
 -- the report of the trace of the script under a scheduler
 pub record IsReportUnder (s : Sched) (script : Scripted) (report : Report) : Type 0 where
   pub trace : Traced
-  pub is_trace : IsTraceOf s script trace
+  pub is_trace : IsTraceOfScript s script trace
   pub is_report : IsReport trace.setup trace.events report
 
 -- under each of them
@@ -69,7 +69,7 @@ pub record IsFirstRefused (t : Tunables) (g : Targets) (script : Scripted) (f : 
   pub after : List Sched
   pub turn : in_turn t g ≡ before ++ under ∷ after
   pub made : AreMade t g
-  pub whole : All (λ s. (trace : Traced) × IsTraceOf s script trace) before
+  pub whole : All (λ s. (trace : Traced) × IsTraceOfScript s script trace) before
   pub refused : IsRefusedUnder under script f
 
 -- a script that was read is not compared: for what it is refused, or for want of memory

@@ -12,9 +12,9 @@ use Rattle.blk_cli.specs.Meeting.{MetWrote}
 use Rattle.blk_cli.specs.Loading.{LoadWrote, LoadFails}
 
 -- a job that is no load
-abbrev pub IsPlain : Job → Type 0
-IsPlain (job.Load s l) = ⊥
-IsPlain j = ⊤
+abbrev pub IsNoLoad : Job → Type 0
+IsNoLoad (job.Load s l) = ⊥
+IsNoLoad j = ⊤
 
 -- what a job does with the records of its input: what it wrote where it ends well, and why it fails
 abbrev pub Does : Job → Option (List Row) → Option (List ℕ) → Option (List ℕ) → Result (Unit {0}) Failure → Type 0

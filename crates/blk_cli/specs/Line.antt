@@ -57,13 +57,13 @@ abbrev pub oracle_app : App
 oracle_app = with_rule (with_rule (new_app (codes "oracle")) (flag_rule (codes "trace"))) (flag_rule (codes "met"))
 
 -- with the numbers of a load, and `load` with its options
-abbrev pub loaded : App → App
-loaded a =
+abbrev pub with_amounts : App → App
+with_amounts a =
     with_rule (with_rule (with_rule (with_rule (with_rule a (number_rule (codes "submitters") (amount 64) (codes "2"))) (number_rule (codes "workers") (amount 16) (codes "2")))
     (number_rule (codes "bios") (amount 2000) (codes "1000"))) (number_rule (codes "depth") (amount 256) (codes "8"))) busy_rule
 
 abbrev pub load_app : Names → App
-load_app names = tuning (loaded (with_rule (new_app (codes "load")) (sched_rule names)))
+load_app names = tuning (with_amounts (with_rule (new_app (codes "load")) (sched_rule names)))
 
 -- a command with a version, which wants a subcommand
 abbrev pub topmost : App → App

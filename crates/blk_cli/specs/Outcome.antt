@@ -58,10 +58,10 @@ meaning_of sched.None = at_start true
 meaning_of (sched.Deadline t) = at_start t.front_merges
 meaning_of (sched.Kyber t) = at_start true
 
-abbrev pub kept_of : Sched → ℕ → List ℕ
-kept_of sched.None depth = []
-kept_of (sched.Deadline t) depth = deadline_kept (record { last = None; batching = 0; starved = 0 }) t
-kept_of (sched.Kyber t) depth = numbers_of (kept_at_first t depth)
+abbrev pub numbers_at_first : Sched → ℕ → List ℕ
+numbers_at_first sched.None depth = []
+numbers_at_first (sched.Deadline t) depth = deadline_kept (record { last = None; batching = 0; starved = 0 }) t
+numbers_at_first (sched.Kyber t) depth = numbers_of (kept_at_first t depth)
 
 -- a scheduler is made of these settings: a batch is of some request, a target of some round
 abbrev pub IsMade : Sched → Type 0
@@ -92,15 +92,15 @@ RunsFrom policy script meaning kept trace = (end : SimState) × Runs policy scri
 
 -- they do so under a scheduler, and one of them is refused under it
 abbrev pub RunsUnder : Sched → Scripted → Traced → Type 0
-RunsUnder s script trace = IsMade s × RunsFrom (policy_under s) script (meaning_of s) (kept_of s script.setup.depth) trace
+RunsUnder s script trace = IsMade s × RunsFrom (policy_under s) script (meaning_of s) (numbers_at_first s script.setup.depth) trace
 
 abbrev pub IsRefusedUnder : Sched → Scripted → SimFault → Type 0
-IsRefusedUnder s script f = IsMade s × IsSimFault (policy_under s) script (meaning_of s) (kept_of s script.setup.depth) f
+IsRefusedUnder s script f = IsMade s × IsSimFault (policy_under s) script (meaning_of s) (numbers_at_first s script.setup.depth) f
 
 -- the trace to which a script's steps lead under a scheduler, with the script's setup. Its bios are, each once, the `bio` lines that
 -- are followed by a flush of their submitter, and after it by a drain of its hardware queue or a run; its Ticks are as many as the
 -- `tick` lines and the n of the `run` lines together
-pub record IsTraceOf (s : Sched) (script : Scripted) (trace : Traced) : Type 0 where
+pub record IsTraceOfScript (s : Sched) (script : Scripted) (trace : Traced) : Type 0 where
   pub ran : RunsUnder s script trace
   pub setup : trace.setup ≡ script.setup
   pub bios : IsPermutation (entered trace.events) (released_bios script.setup.hw script.lines)
@@ -111,7 +111,7 @@ pub record SimWrote (s : Sched) (rows : List Row) (old new : Option (List ℕ)) 
   pub script : Scripted
   pub trace : Traced
   pub read : SpellsScript rows script
-  pub is_trace : IsTraceOf s script trace
+  pub is_trace : IsTraceOfScript s script trace
   pub spelled : SpellsTraceIn latest (trace_rows trace) trace
   pub wrote : Appends old new (rows_text (trace_rows trace))
 

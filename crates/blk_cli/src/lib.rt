@@ -5,7 +5,7 @@ ghost use Rattle.std.specs.Prelude.{◌≡◌, ◌≢◌, ◌≤◌, ◌⊎◌, 
 ghost use Rattle.std.specs.Prelude.{List, Option};
 ghost use Rattle.blk_text.specs.Sources.{Row, input_of};
 ghost use Rattle.blk_cli.specs.Ends.{JobEnds, LineEnds, MemoryEnds, RunEnds};
-ghost use Rattle.blk_cli.specs.Does.{Does, IsPlain};
+ghost use Rattle.blk_cli.specs.Does.{Does, IsNoLoad};
 ghost use Rattle.blk_cli.specs.Statuses.{IsOfWriter};
 
 pub mod asking;
@@ -65,7 +65,7 @@ pub fn work<R: Read + Drop, W: Write>(
     reader: R,
     writer: &mut W,
 ) -> Result<(), Failure>
-    requires { IsPlain job }
+    requires { IsNoLoad job }
     ensures did { Does job (input_of (R.remaining reader)) (W.contents writer.old) (W.contents writer.new) result }
     ensures kept { IfErr result (λ f. IsOfWriter f ⊎ (writer.new ≡ writer.old)) }
 {
@@ -96,7 +96,7 @@ pub fn perform<R: Read + Drop, W: Write, F: Write>(
     writer: &mut W,
     faults: &mut F,
 ) -> Ended
-    requires { IsPlain job }
+    requires { IsNoLoad job }
     ensures ended { JobEnds job (input_of (R.remaining reader)) (W.contents writer.old) (W.contents writer.new) (F.contents faults.old) (F.contents faults.new) result }
     ensures kept { result.status ≢ 0 → result.status ≢ 3 → writer.new ≡ writer.old }
     ensures quiet { result.status ≡ 0 → faults.new ≡ faults.old }

@@ -3,7 +3,7 @@
 ghost use Rattle.std.specs.Prelude.{◌≡◌, ◌⊎◌, false, IfOk, IfErr, map, option_and_then, codes, string_bytes};
 ghost use Rattle.clap.specs.Words.{app_of, new_app, rule_of, rows_of, found_of, subcommand_rows_of, with_subcommand};
 ghost use Rattle.clap.specs.declared.builder.command.Command.TheViews.{out-Command as fields_of};
-ghost use Rattle.blk_cli.specs.Line.{Names, AreSchedulers, sched_rule, number_rule, target, amount, busy_rule, flag_rule, tuning, loaded as with_amounts, sim_app, compare_app, oracle_app, load_app, with_plain, over_scripts, over_traces, over_lists, over_layers, blk_app};
+ghost use Rattle.blk_cli.specs.Line.{Names, AreSchedulers, sched_rule, number_rule, target, amount, busy_rule, flag_rule, tuning, with_amounts, sim_app, compare_app, oracle_app, load_app, with_plain, over_scripts, over_traces, over_lists, over_layers, blk_app};
 ghost use Rattle.blk_cli.specs.Asked.{Asks, AreRefused, short_given, number_given, is_flagged, tunables_of, targets_of, sched_of, compared, amounts_of, loaded, oracle_job, plain_job, job_of};
 
 use blk_deadline::Tunables;

@@ -8,13 +8,13 @@ use Rattle.blk_bio.specs.declared.bio.Dir.TheVariants.{Read, Write}
 use Rattle.blk_bio.specs.declared.request.Side.{Side}
 use Rattle.blk_bio.specs.declared.request.Side.TheVariants.{Back}
 use Rattle.blk_bio.specs.Bios.{Bio}
-use Rattle.blk_bio.specs.Limits.{Limits as RequestLimits}
+use Rattle.blk_bio.specs.Limits.{Limits}
 use Rattle.blk_bio.specs.Requests.{dir_of}
 use Rattle.blk_sched.specs.Meaning.{Waiting, Pending, Meaning, OpenPicks, HasCandidate, HasNoCandidate, ServesNothing, unfinished}
 use Rattle.blk_sched.specs.Fits.{IsNewestFit, FitsNone}
 use Rattle.blk_sched.specs.Maps.{first_found, none_found}
 use Rattle.blk_sched.specs.Index.{IsOldest, NoneOf}
-use Rattle.blk_kyber.specs.Limits.{Limits, Report, limit_of}
+use Rattle.blk_kyber.specs.Limits.{DirLimits, Report, limit_of}
 use Rattle.blk_kyber.specs.Choice.{serves_own, is_same, other_of, oldest_of, in_flight, head_of, chosen}
 use Rattle.blk_kyber.specs.Kept.{Kept, choice_for, after_pick, told, numbers_of, Chooses, Told}
 use Rattle.blk_kyber.specs.Inside.Queues.{served_of}
@@ -25,7 +25,7 @@ use Rattle.blk_kyber.proofs.Splits.{serves_it, served_there}
 abbrev pub meaning_with : Pending → OpenPicks → ℕ → Meaning
 meaning_with pending picks round = record { pending = pending; open_picks = picks; front = true; round = round }
 
-module _ (m : Pending) (picks : OpenPicks) (round hw : ℕ) (limits : RequestLimits) (newcomer : List Bio) where
+module _ (m : Pending) (picks : OpenPicks) (round hw : ℕ) (limits : Limits) (newcomer : List Bio) where
   pub candidate_of : (id : ℕ) (side : Side) → IsNewestFit limits true (served_of hw m) newcomer id side → HasCandidate serves_own hw limits newcomer (meaning_with m picks round) id side
   candidate_of id side best =
       let f = serves_it hw (map.get m id) best.waiting best.is_found in (
@@ -76,7 +76,7 @@ fails hw dir w none = elim (serves_own hw w) as (λ b. serves_own hw w ≡ b →
   | false ↦ λ _. refl
 ] refl
 
-module _ (m : Pending) (hw : ℕ) (limits : Limits) (picks : OpenPicks) (dir : Dir) (low : in_flight dir picks < limit_of dir limits) where
+module _ (m : Pending) (hw : ℕ) (limits : DirLimits) (picks : OpenPicks) (dir : Dir) (low : in_flight dir picks < limit_of dir limits) where
   room : (o : Option Waiting) → oldest_of hw dir (map.values m) ≡ o → head_of hw limits picks (map.values m) dir ≡ o
   room o is = ap (λ b. if b then oldest_of hw dir (map.values m) else None) (lt_holds (in_flight dir picks) (limit_of dir limits) low) ∙ is
 

@@ -7,7 +7,7 @@ use Rattle.blk_bio.specs.declared.bio.Dir.TheVariants.{Read, Write}
 use Rattle.blk_bio.specs.Requests.{dir_of}
 use Rattle.blk_sched.specs.Meaning.{Waiting, OpenPicks, open_of, handed_of}
 use Rattle.blk_kyber.specs.declared.turn.Turn.{Turn}
-use Rattle.blk_kyber.specs.Limits.{Limits, limit_of}
+use Rattle.blk_kyber.specs.Limits.{DirLimits, limit_of}
 
 -- the other direction, and how many requests of a direction go in one turn
 abbrev pub other_of : Dir → Dir
@@ -40,7 +40,7 @@ abbrev pub in_flight : Dir → OpenPicks → ℕ
 in_flight dir picks = open_of dir picks + handed_of dir picks
 
 -- what a pick takes of a direction: its oldest request, while fewer than its limit are in flight
-abbrev pub head_of : ℕ → Limits → OpenPicks → List Waiting → Dir → Option Waiting
+abbrev pub head_of : ℕ → DirLimits → OpenPicks → List Waiting → Dir → Option Waiting
 head_of hw limits picks ws dir = if nat_lt (in_flight dir picks) (limit_of dir limits) then oldest_of hw dir ws else None
 
 -- a request with the turn in which it goes
@@ -57,7 +57,7 @@ abbrev pub choice_by : Turn → (Dir → Option Waiting) → Option (Waiting × 
 choice_by turn head = taken_by (turn_by turn (is_some (head turn.dir)) (is_some (head (other_of turn.dir)))) head
 
 -- the choice: a function of the turn of the hardware queue, the limits, what is in flight and what waits
-abbrev pub kyber_choice : ℕ → Turn → Limits → OpenPicks → List Waiting → Option (Waiting × Turn)
+abbrev pub kyber_choice : ℕ → Turn → DirLimits → OpenPicks → List Waiting → Option (Waiting × Turn)
 kyber_choice hw turn limits picks ws = choice_by turn (head_of hw limits picks ws)
 
 -- what is handed out

@@ -7,13 +7,13 @@ use Rattle.blk_bio.specs.declared.bio.Dir.TheVariants.{Read, Write}
 use Rattle.blk_sched.specs.Meaning.{Waiting, Meaning}
 use Rattle.blk_kyber.specs.declared.Targets.{Targets}
 use Rattle.blk_kyber.specs.declared.turn.Turn.{Turn}
-use Rattle.blk_kyber.specs.Limits.{Limits, Report, after_report, kyber_limits}
+use Rattle.blk_kyber.specs.Limits.{DirLimits, Report, after_report, kyber_limits}
 use Rattle.blk_kyber.specs.Choice.{first_turn, kyber_choice, chosen}
 
 -- the targets, the limits, and the turn of each hardware queue
 pub record Kept : Type 0 where
   pub targets : Targets
-  pub limits : Limits
+  pub limits : DirLimits
   pub turns : List Turn
 
 -- at first, with a turn for each of 16 hardware queues

@@ -5,7 +5,7 @@ use Rattle.blk_bio.specs.declared.bio.Dir.TheVariants.{Read, Write}
 use Rattle.blk_kyber.specs.declared.Targets.{Targets}
 
 -- the depth up to which both limits rise, the limits, and whether a direction had a miss since they were last set
-pub record Limits : Type 0 where
+pub record DirLimits : Type 0 where
   pub depth : ℕ
   pub reads : ℕ
   pub writes : ℕ
@@ -13,11 +13,11 @@ pub record Limits : Type 0 where
   pub missed_writes : Bool
 
 -- at first both limits are the depth, and nothing was missed
-abbrev pub first_limits : ℕ → Limits
+abbrev pub first_limits : ℕ → DirLimits
 first_limits depth = record { depth = depth; reads = depth; writes = depth; missed_reads = false; missed_writes = false }
 
 -- how many requests of a direction may be in flight
-abbrev pub limit_of : Dir → Limits → ℕ
+abbrev pub limit_of : Dir → DirLimits → ℕ
 limit_of Read limits = limits.reads
 limit_of Write limits = limits.writes
 
@@ -27,7 +27,7 @@ target_of Read targets = targets.read
 target_of Write targets = targets.write
 
 -- a request of a direction waited longer
-abbrev pub missed : Dir → Limits → Limits
+abbrev pub missed : Dir → DirLimits → DirLimits
 missed Read limits = record limits { missed_reads = true }
 missed Write limits = record limits { missed_writes = true }
 
@@ -45,7 +45,7 @@ limit_then true false depth limit = limit
 limit_then _ true depth limit = halved limit
 
 -- the limits are set anew, and the misses are forgotten
-abbrev pub set_anew : Limits → Limits
+abbrev pub set_anew : DirLimits → DirLimits
 set_anew limits = record {
   depth = limits.depth;
   reads = limit_then limits.missed_reads limits.missed_writes limits.depth limits.reads;
@@ -60,11 +60,11 @@ pub data Report : Type 0 where
   Tick : (round : ℕ) → Report
 
 -- the limits are set anew in each eighth round
-abbrev pub after_report : Targets → Report → Limits → Limits
+abbrev pub after_report : Targets → Report → DirLimits → DirLimits
 after_report targets (Done dir wait) limits = if nat_lt (target_of dir targets) wait then missed dir limits else limits
 after_report targets (Tick round) limits = if round % 8 == 0 then set_anew limits else limits
 
 -- the limits after all that was reported, the latest first
-abbrev pub kyber_limits : Targets → ℕ → List Report → Limits
+abbrev pub kyber_limits : Targets → ℕ → List Report → DirLimits
 kyber_limits targets depth [] = first_limits depth
 kyber_limits targets depth (report ∷ earlier) = after_report targets report (kyber_limits targets depth earlier)

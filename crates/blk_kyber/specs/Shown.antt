@@ -10,5 +10,5 @@ module _ {A : Type 0} where
   meaning_of s = record { pending = s.lines; open_picks = s.open_picks; front = true; round = s.round }
 
   -- what it keeps beside that
-  abbrev pub kept_of : Kyber A → Kept
-  kept_of s = record { targets = s.targets; limits = s.limits; turns = s.turns }
+  abbrev pub kyber_kept : Kyber A → Kept
+  kyber_kept s = record { targets = s.targets; limits = s.limits; turns = s.turns }

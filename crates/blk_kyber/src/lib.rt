@@ -7,10 +7,10 @@ ghost use Rattle.blk_bio.specs.declared.bio.Dir.{Dir};
 ghost use Rattle.blk_bio.specs.Requests.{dir_of};
 ghost use Rattle.blk_sched.specs.Meaning.{Waiting, Meaning, HasCandidate, HasNoCandidate, Joins, ServesNothing, Picks, HandsBack, at_start, opened, open_of, handed_of, unfinished};
 ghost use Rattle.blk_sched.specs.Index.{NoneOf};
-ghost use Rattle.blk_kyber.specs.Limits.{Limits, Report, Done, Tick, limit_of, target_of, after_report, kyber_limits};
+ghost use Rattle.blk_kyber.specs.Limits.{Report, Done, Tick, limit_of, target_of, after_report, kyber_limits};
 ghost use Rattle.blk_kyber.specs.Choice.{serves_own, first_turn, in_flight, head_of, chosen};
 ghost use Rattle.blk_kyber.specs.Kept.{Kept, kept_at_first, choice_for, after_pick, told, numbers_of, Chooses, Told};
-ghost use Rattle.blk_kyber.specs.Shown.{meaning_of, kept_of};
+ghost use Rattle.blk_kyber.specs.Shown.{meaning_of, kyber_kept};
 ghost use Rattle.blk_kyber.specs.Inside.Queues.{served_of};
 
 pub mod limits;
@@ -64,7 +64,7 @@ impl<A: Allocator + Clone> Kyber<A> {
         requires most { depth ≤ MAX_OPEN }
         ensures zero { ((targets.read ≡ 0) ⊎ (targets.write ≡ 0)) ↔ (result ≡ Err SchedFault.ZeroTarget) }
         ensures ok { IfOk result (λ s. meaning_of s ≡ at_start true) }
-        ensures kept { IfOk result (λ s. kept_of s ≡ kept_at_first targets depth) }
+        ensures kept { IfOk result (λ s. kyber_kept s ≡ kept_at_first targets depth) }
         ensures memory { IfErr result (λ e. 0 < targets.read → 0 < targets.write → e ≡ SchedFault.Memory) }
     {
         if targets.read == 0 || targets.write == 0 {
@@ -85,9 +85,9 @@ impl<A: Allocator + Clone> Kyber<A> {
 
     /// How many requests of a direction may be in flight, 1 to the depth.
     pub fn limit(&self, dir: Dir) -> u64
-        ensures value { result ≡ limit_of dir (kept_of self.now).limits }
+        ensures value { result ≡ limit_of dir (kyber_kept self.now).limits }
         ensures least { 1 ≤ result }
-        ensures most { result ≤ (kept_of self.now).limits.depth }
+        ensures most { result ≤ (kyber_kept self.now).limits.depth }
         // what is kept is known by the numbers that the trait speaks of
         ensures known { (kept other : Kept) → numbers_of kept ≡ numbers_of other → kept ≡ other }
     {
@@ -112,8 +112,8 @@ impl<A: Allocator + Clone> Kyber<A> {
     /// The choice, by its id, and the turn in which it goes.
     fn choose(&self, hw: u8) -> Option<(u64, Turn)>
         requires { hw < MAX_QUEUES }
-        ensures some { IfSome result (λ r. (w : Waiting) × (served_of hw self.now.lines r.0 ≡ Some w) × (choice_for hw (kept_of self.now) (meaning_of self.now) ≡ Some (w, r.1))) }
-        ensures none { IfNone result (choice_for hw (kept_of self.now) (meaning_of self.now) ≡ None) }
+        ensures some { IfSome result (λ r. (w : Waiting) × (served_of hw self.now.lines r.0 ≡ Some w) × (choice_for hw (kyber_kept self.now) (meaning_of self.now) ≡ Some (w, r.1))) }
+        ensures none { IfNone result (choice_for hw (kyber_kept self.now) (meaning_of self.now) ≡ None) }
         ensures idle { IfNone result ((0 < unfinished self.now.open_picks) ⊎ ServesNothing serves_own hw (meaning_of self.now)) }
     {
         let turn = self.turns[hw as usize];
@@ -140,7 +140,7 @@ impl<A: Allocator + Clone> Scheduler for Kyber<A> {
 
     ghost serves = { serves_own };
 
-    ghost kept = { λ s. numbers_of (kept_of s) };
+    ghost kept = { λ s. numbers_of (kyber_kept s) };
 
     ghost chooses = { Chooses };
 
@@ -191,13 +191,13 @@ impl<A: Allocator + Clone> Scheduler for Kyber<A> {
         requires hw { hw < MAX_QUEUES }
         requires round { now ≡ (meaning_of self.old).round }
         requires few { (meaning_of self.old).open_picks.reads + (meaning_of self.old).open_picks.writes < MAX_OPEN }
-        ensures choice { result ≡ chosen (choice_for hw (kept_of self.old) (meaning_of self.old)) }
-        ensures turn { kept_of self.new ≡ after_pick hw (kept_of self.old) (choice_for hw (kept_of self.old) (meaning_of self.old)) }
-        ensures chosen { Chooses (numbers_of (kept_of self.old)) (meaning_of self.old) hw now result (numbers_of (kept_of self.new)) }
+        ensures choice { result ≡ chosen (choice_for hw (kyber_kept self.old) (meaning_of self.old)) }
+        ensures turn { kyber_kept self.new ≡ after_pick hw (kyber_kept self.old) (choice_for hw (kyber_kept self.old) (meaning_of self.old)) }
+        ensures chosen { Chooses (numbers_of (kyber_kept self.old)) (meaning_of self.old) hw now result (numbers_of (kyber_kept self.new)) }
         ensures picked { IfSome result (λ w. Picks serves_own hw (meaning_of self.old) w (meaning_of self.new)) }
         ensures none { IfNone result ((0 < unfinished (meaning_of self.old).open_picks) ⊎ ServesNothing serves_own hw (meaning_of self.old)) }
         ensures same { IfNone result (meaning_of self.new ≡ meaning_of self.old) }
-        ensures kept { IfNone result (numbers_of (kept_of self.new) ≡ numbers_of (kept_of self.old)) }
+        ensures kept { IfNone result (numbers_of (kyber_kept self.new) ≡ numbers_of (kyber_kept self.old)) }
         ensures own { (w : Waiting) → IsTrue (serves_own w.hw w) }
     {
         let _ = now;
@@ -216,10 +216,10 @@ impl<A: Allocator + Clone> Scheduler for Kyber<A> {
     fn on_done(&mut self, hw: u8, dir: Dir, wait: u64)
         requires hw { hw < MAX_QUEUES }
         requires is_open { 0 < open_of dir (meaning_of self.old).open_picks }
-        ensures limits { kept_of self.new ≡ told (Done dir wait) (kept_of self.old) }
-        ensures reported { (depth : ℕ) (earlier : List Report) → (kept_of self.old).limits ≡ kyber_limits (kept_of self.old).targets depth earlier → (kept_of self.new).limits ≡ kyber_limits (kept_of self.old).targets depth (Done dir wait ∷ earlier) }
+        ensures limits { kyber_kept self.new ≡ told (Done dir wait) (kyber_kept self.old) }
+        ensures reported { (depth : ℕ) (earlier : List Report) → (kyber_kept self.old).limits ≡ kyber_limits (kyber_kept self.old).targets depth earlier → (kyber_kept self.new).limits ≡ kyber_limits (kyber_kept self.old).targets depth (Done dir wait ∷ earlier) }
         ensures done { meaning_of self.old ≡ record (meaning_of self.new) { open_picks = opened dir (meaning_of self.new).open_picks } }
-        ensures told { Told (Done dir wait) (numbers_of (kept_of self.old)) (numbers_of (kept_of self.new)) }
+        ensures told { Told (Done dir wait) (numbers_of (kyber_kept self.old)) (numbers_of (kyber_kept self.new)) }
     {
         let _ = hw;
         self.open_picks.close(dir);
@@ -233,9 +233,9 @@ impl<A: Allocator + Clone> Scheduler for Kyber<A> {
         requires hw { hw < MAX_QUEUES }
         requires is_open { 0 < open_of dir (meaning_of self.old).open_picks }
         requires few { (meaning_of self.old).open_picks.handed_reads + (meaning_of self.old).open_picks.handed_writes < MAX_HANDED }
-        ensures stays { kept_of self.new ≡ kept_of self.old }
+        ensures stays { kyber_kept self.new ≡ kyber_kept self.old }
         ensures back { HandsBack dir (meaning_of self.old) (meaning_of self.new) }
-        ensures kept { numbers_of (kept_of self.new) ≡ numbers_of (kept_of self.old) }
+        ensures kept { numbers_of (kyber_kept self.new) ≡ numbers_of (kyber_kept self.old) }
     {
         let _ = hw;
         self.open_picks.hand_back(dir);
@@ -246,9 +246,9 @@ impl<A: Allocator + Clone> Scheduler for Kyber<A> {
         requires hw { hw < MAX_QUEUES }
         requires is_handed { 0 < handed_of dir (meaning_of self.old).open_picks }
         requires few { (meaning_of self.old).open_picks.reads + (meaning_of self.old).open_picks.writes < MAX_OPEN }
-        ensures stays { kept_of self.new ≡ kept_of self.old }
+        ensures stays { kyber_kept self.new ≡ kyber_kept self.old }
         ensures again { HandsBack dir (meaning_of self.new) (meaning_of self.old) }
-        ensures kept { numbers_of (kept_of self.new) ≡ numbers_of (kept_of self.old) }
+        ensures kept { numbers_of (kyber_kept self.new) ≡ numbers_of (kyber_kept self.old) }
     {
         let _ = hw;
         self.open_picks.open_again(dir);
@@ -257,10 +257,10 @@ impl<A: Allocator + Clone> Scheduler for Kyber<A> {
     /// Begins a round. In each eighth one the limits are set anew.
     fn on_tick(&mut self, now: u64)
         requires { (meaning_of self.old).round < now }
-        ensures limits { kept_of self.new ≡ told (Tick now) (kept_of self.old) }
-        ensures reported { (depth : ℕ) (earlier : List Report) → (kept_of self.old).limits ≡ kyber_limits (kept_of self.old).targets depth earlier → (kept_of self.new).limits ≡ kyber_limits (kept_of self.old).targets depth (Tick now ∷ earlier) }
+        ensures limits { kyber_kept self.new ≡ told (Tick now) (kyber_kept self.old) }
+        ensures reported { (depth : ℕ) (earlier : List Report) → (kyber_kept self.old).limits ≡ kyber_limits (kyber_kept self.old).targets depth earlier → (kyber_kept self.new).limits ≡ kyber_limits (kyber_kept self.old).targets depth (Tick now ∷ earlier) }
         ensures round { meaning_of self.new ≡ record (meaning_of self.old) { round = now } }
-        ensures told { Told (Tick now) (numbers_of (kept_of self.old)) (numbers_of (kept_of self.new)) }
+        ensures told { Told (Tick now) (numbers_of (kyber_kept self.old)) (numbers_of (kyber_kept self.new)) }
     {
         self.round = now;
         if now % 8 == 0 {

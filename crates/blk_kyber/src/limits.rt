@@ -19,9 +19,9 @@ pub struct DomainLimits {
 
 impl Model for DomainLimits {
     ghost use Rattle.std.specs.Prelude.{◌≤◌};
-    ghost use Rattle.blk_kyber.specs.Limits.{Limits};
+    ghost use Rattle.blk_kyber.specs.Limits.{DirLimits};
 
-    ghost Value = { Limits };
+    ghost Value = { DirLimits };
 
     ghost view = { λ s. record {
       depth = s.depth;

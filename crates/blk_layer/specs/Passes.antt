@@ -54,8 +54,8 @@ abbrev pub IsEnded : WorkerSeat → ℕ → WorkerSeat → Type 0
 IsEnded old tag new = AccountsFor old tag new ⊎ ((id : ℕ) × LetsGo old tag id new)
 
 -- a fault that leaves nothing in the hands of a worker
-abbrev pub IsRefusal : WorkFault → Type 0
-IsRefusal why = (why ≡ TraceFull) ⊎ (why ≡ Memory)
+abbrev pub IsPassRefusal : WorkFault → Type 0
+IsPassRefusal why = (why ≡ TraceFull) ⊎ (why ≡ Memory)
 
 -- what work says that it did: at most so many passes, and fewer only where it was finished; as many commands as the account has more;
 -- else the seat is as it was

@@ -2,7 +2,7 @@
 
 ghost use Rattle.std.specs.Prelude.{◌≡◌, ◌≢◌, IfOk, IfErr};
 ghost use Rattle.blk_layer.specs.Works.{IsIssueAnswer};
-ghost use Rattle.blk_layer.specs.Passes.{Runs, IsWorked, IsWorkFault, IsRefusal, IsEnded};
+ghost use Rattle.blk_layer.specs.Passes.{Runs, IsWorked, IsWorkFault, IsPassRefusal, IsEnded};
 
 use crate::devices::{Device, Ran};
 use crate::issues::{Issued, LayerIssueFault};
@@ -157,7 +157,7 @@ impl<S: Scheduler, L: Named> Layer<S, L> {
     ) -> Result<Option<Issued>, WorkFault>
         requires { worker.old.tag_set ≡ self.now.tag_set }
         ensures issued { IfOk result (λ found. IsIssueAnswer worker.old found worker.new) }
-        ensures fault { IfErr result (λ why. IsRefusal why × (worker.new ≡ worker.old)) }
+        ensures fault { IfErr result (λ why. IsPassRefusal why × (worker.new ≡ worker.old)) }
     {
         let depth = self.tags.depth();
         for tried in 0..depth {

@@ -1,2 +1,2 @@
 -- What the invariant and proofs alone need: how what waits and the requests of each hardware queue go together.
-pub mod Kept
+pub mod Laned

@@ -24,7 +24,7 @@ pub struct NoneSched<A: Allocator = Global> {
 impl<A: Allocator> Model for NoneSched<A> {
     ghost use Rattle.std.specs.Prelude.{true};
     ghost use Rattle.blk_sched.specs.Meaning.{Meaning, meaning_code};
-    ghost use Rattle.blk_none.specs.Inside.Kept.{Kept, pending_of};
+    ghost use Rattle.blk_none.specs.Inside.Laned.{AreLaned, pending_of};
 
     ghost Value = { Meaning };
 
@@ -37,7 +37,7 @@ impl<A: Allocator> Model for NoneSched<A> {
       round = s.round;
     } };
 
-    ghost invariant = { λ s. Kept s.lanes.items s.waiting };
+    ghost invariant = { λ s. AreLaned s.lanes.items s.waiting };
 }
 
 impl<A: Allocator + Clone> NoneSched<A> {

@@ -45,7 +45,7 @@ with_requests queue requests = record {
 }
 
 -- a submitter's plug is emptied into its software queue, which has room, in the order of its requests, and the others stay
-pub record Flushes (plugs : List Plug) (queues : List Queue) (s : ℕ) (new_plugs : List Plug) (new_queues : List Queue) : Type 0 where
+pub record EmptiesPlug (plugs : List Plug) (queues : List Queue) (s : ℕ) (new_plugs : List Plug) (new_queues : List Queue) : Type 0 where
   pub own : Plug
   pub to : Queue
   pub own_stands : slice_get plugs s ≡ Some own

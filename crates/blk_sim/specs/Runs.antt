@@ -6,14 +6,14 @@ use Rattle.blk_core.specs.Faults.{CanSetDepth}
 use Rattle.blk_text.specs.declared.script.Line.{Line}
 use Rattle.blk_text.specs.declared.script.Line.TheVariants as line
 use Rattle.blk_sim.specs.State.{SimState}
-use Rattle.blk_sim.specs.Moves.{AddsBio, Flushes, Drains}
+use Rattle.blk_sim.specs.Moves.{AddsBio, EmptiesPlug, Drains}
 use Rattle.blk_sim.specs.Policies.{Policy}
 use Rattle.blk_sim.specs.Rounds.{AsksQueue, Ticks, Rounds}
 
 -- what an accepted step does
 abbrev pub Steps : Policy → SimState → Line → SimState → Type 0
 Steps policy old (line.Bio b) new = AddsBio old.plugs b new.plugs × (new.queues ≡ old.queues) × (new.core ≡ old.core)
-Steps policy old (line.Flush s) new = Flushes old.plugs old.queues s new.plugs new.queues × (new.core ≡ old.core)
+Steps policy old (line.Flush s) new = EmptiesPlug old.plugs old.queues s new.plugs new.queues × (new.core ≡ old.core)
 Steps policy old (line.Drain hw) new = Drains policy old.core.setup.hw hw old.queues old.core new.queues new.core × (new.plugs ≡ old.plugs)
 Steps policy old (line.Issue hw tag) new =
     (found : Option Command) × AsksQueue policy hw tag old.core found new.core × (new.plugs ≡ old.plugs) × (new.queues ≡ old.queues)

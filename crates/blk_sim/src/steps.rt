@@ -8,7 +8,7 @@ ghost use Rattle.blk_soft.specs.Queues.{Queue as QueueFields};
 ghost use Rattle.blk_core.specs.Calls.{Completes, TakesBack, SetsDepth};
 ghost use Rattle.blk_core.specs.Faults.{IsInFlight, CanSetDepth};
 ghost use Rattle.blk_sim.specs.Policies.{policy_of};
-ghost use Rattle.blk_sim.specs.Moves.{AddsBio, Flushes, HasSoftRoom, flushed_plug, with_requests, bios_in, Enters, EnterInTurn, drained, Drains};
+ghost use Rattle.blk_sim.specs.Moves.{AddsBio, EmptiesPlug, HasSoftRoom, flushed_plug, with_requests, bios_in, Enters, EnterInTurn, drained, Drains};
 ghost use Rattle.blk_sim.specs.Rounds.{AsksQueue, Ticks};
 ghost use Rattle.blk_sim.specs.Refusals.{IsBioRefused, IsFlushRefused, IsOverfull, IsReleaseRefused, IsIssueRefused, IsBackRefused, IsDepthRefused, IsTickRefused, IsMoveRefused, IsDrainRefused};
 ghost use Rattle.blk_sim.specs.Simulated.{HaveCome, IsSpread};
@@ -187,7 +187,7 @@ pub(crate) fn flush<A: Allocator + Clone>(
     requires counts { length queues.old.items ≡ length plugs.old.items }
     requires limits { (s : ℕ) (plug : PlugFields) (queue : QueueFields) → slice_get plugs.old.items s ≡ Some plug → slice_get queues.old.items s ≡ Some queue → plug.limits ≡ queue.limits }
     requires few { HaveCome (2 ^ 40) plugs.old.items queues.old.items }
-    ensures flushed { OnOk result (Flushes plugs.old.items queues.old.items submitter plugs.new.items queues.new.items) }
+    ensures flushed { OnOk result (EmptiesPlug plugs.old.items queues.old.items submitter plugs.new.items queues.new.items) }
     ensures refused { IfErr result (λ w. IsFlushRefused plugs.old.items queues.old.items submitter w) }
 {
     let s = submitter as usize;

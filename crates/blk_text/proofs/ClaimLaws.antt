@@ -16,7 +16,7 @@ use Rattle.blk_text.specs.Fields.{Lacks, IsSized}
 use Rattle.blk_text.specs.Words.{StartsWith, HasNoWord, WordLacks}
 use Rattle.blk_text.specs.Commands.{IsCommandInRange}
 use Rattle.blk_text.specs.Reads.{IsOutside, Reads, Halts, IsWrongLine, IsOne, items_of, with_next}
-use Rattle.blk_text.specs.Tables.{IsUpTo, IsVersion, FitsBy, row_by, slots_by, title_by}
+use Rattle.blk_text.specs.Tables.{IsUpTo, IsVersion, FitsCells, row_by, slots_by, title_by}
 use Rattle.blk_text.specs.Titles.{counted_cells, IsCounted}
 use Rattle.blk_text.specs.Certificate.{Claim, claim_rows, title, Bounded, NoBound, SomeBound, Bound, TellsBound, bound_kind, kind_of, bound_cells, no_bound_row, last_round, bound, bound_row, served_cells, served_record, IsServed, IsLateness, IsBound, IsClaim, claim_body, claim_told, claim_form, claim_value, SpellsClaim, ClaimFault}
 use Rattle.blk_text.specs.declared.fault.Why.{Why}
@@ -38,7 +38,7 @@ use Rattle.edd_check.specs.declared.TheConstants.{ROUND_LIMIT}
 
 -- the tables
 
-pub served_fits : (s : Command × ℕ) → FitsBy served_cells s → IsServed s
+pub served_fits : (s : Command × ℕ) → FitsCells served_cells s → IsServed s
 served_fits s f = let id = f.0.1 in let release = f.1.0.1 in let due = f.1.1.0.1 in let round = f.1.1.1.0.1 in ((omega (arith, id), omega (arith, release), omega (arith, due)), omega (arith, round))
 
 pub served_table : IsTable served_cells IsServed
@@ -56,7 +56,7 @@ last_small : (count : ℕ) → last_round count < 2 ^ 64
 last_small zero = omega arith
 last_small (suc n) = omega arith
 
-bound_table : (count : ℕ) → IsTable (bound_cells count) (FitsBy (bound_cells count))
+bound_table : (count : ℕ) → IsTable (bound_cells count) (FitsCells (bound_cells count))
 bound_table count = record {
   sized = (omega arith, (last_small count, (last_small count, tt)));
   within = λ b f. f;
@@ -76,8 +76,8 @@ served_one = one_record (row_by served_cells) IsServed why.Count (Lacks (slots_b
 
 kind_table : (count : ℕ) (k : Bounded) → Tells (bound_kind count k)
 kind_table count NoBound = record_tells (λ _. no_bound_row) (λ _. count ≡ 0) why.Word (λ _ _. ⊥) (record { once = λ v u f g e. refl; apart = λ v w f bad. bad; first = λ row w x a b. absurd a })
-kind_table count SomeBound = record_tells (λ b. codes "bound" ∷ row_by (bound_cells count) b) (FitsBy (bound_cells count)) why.Word (WordLacks (codes "bound") (slots_by (bound_cells count)))
-    (word_tells (codes "bound") (bound_cells count) (FitsBy (bound_cells count)) (bound_table count))
+kind_table count SomeBound = record_tells (λ b. codes "bound" ∷ row_by (bound_cells count) b) (FitsCells (bound_cells count)) why.Word (WordLacks (codes "bound") (slots_by (bound_cells count)))
+    (word_tells (codes "bound") (bound_cells count) (FitsCells (bound_cells count)) (bound_table count))
 
 one_kind : (count : ℕ) (j k : Bounded) (rows : List Row) → TellsBound count j rows → TellsBound count k rows → j ≡ k
 one_kind count NoBound NoBound rows s t = refl
@@ -86,7 +86,7 @@ one_kind count SomeBound NoBound rows s t = absurd (s.1 t)
 one_kind count SomeBound SomeBound rows s t = refl
 
 -- beside no commands no window is in range
-no_window : (count : ℕ) (b : ℤ × Window) → count ≡ 0 → FitsBy (bound_cells count) b → ⊥
+no_window : (count : ℕ) (b : ℤ × Window) → count ≡ 0 → FitsCells (bound_cells count) b → ⊥
 no_window zero b e f = let low = f.1.0.0 in let high = f.1.0.1 in omega (arith, low, high)
 no_window (suc n) b e f = omega (arith, e)
 
@@ -96,8 +96,8 @@ kind_starts count SomeBound rows v a h = (next_starts (codes "bound") (row_by (b
 
 kind_decided : (count : ℕ) (k : Bounded) (rows : List Row) → TellsBound count k rows → Either (bound_kind count k) rows
 kind_decided count NoBound rows s = inl (tt, s.1.0, record { fits = s.0; made = s.1.1; follows = tt })
-kind_decided count SomeBound rows s = record_decides (λ b. codes "bound" ∷ row_by (bound_cells count) b) (FitsBy (bound_cells count)) why.Word (WordLacks (codes "bound") (slots_by (bound_cells count)))
-    (word_decides (codes "bound") (bound_cells count) (FitsBy (bound_cells count)) (bound_table count)) rows
+kind_decided count SomeBound rows s = record_decides (λ b. codes "bound" ∷ row_by (bound_cells count) b) (FitsCells (bound_cells count)) why.Word (WordLacks (codes "bound") (slots_by (bound_cells count)))
+    (word_decides (codes "bound") (bound_cells count) (FitsCells (bound_cells count)) (bound_table count)) rows
 
 -- a record that does not begin with its word is of no kind
 pub no_kind : (count : ℕ) (row : Row) (rows : List Row) → ¬ StartsWith (codes "bound") row → (k : Bounded) → ¬ TellsBound count k (row ∷ rows)

@@ -8,7 +8,7 @@ use Rattle.blk_text.specs.Sources.{Row}
 use Rattle.blk_text.specs.Texts.{rows_text}
 use Rattle.blk_text.specs.Fields.{Lacks}
 use Rattle.blk_text.specs.Reads.{Reads, Halts, IsOne, items_of}
-use Rattle.blk_text.specs.Tables.{IsVersion, FitsBy, row_by, slots_by, title_by}
+use Rattle.blk_text.specs.Tables.{IsVersion, FitsCells, row_by, slots_by, title_by}
 use Rattle.blk_text.specs.Commands.{depth_cells, IsDepth, title, command_cells, command, command_list, IsCommandInRange, SpellsCommands, CommandsFault, AreCommands, commands_rows}
 use Rattle.blk_text.specs.declared.fault.Why.{Why}
 use Rattle.blk_text.specs.declared.fault.Why.TheVariants as why
@@ -25,7 +25,7 @@ use Rattle.edd_check.specs.declared.TheConstants.{MOST_COMMANDS}
 pub title_table : (version : ℕ) → IsTable (depth_cells version) IsDepth
 title_table version = record { sized = (omega arith, tt); within = λ v f. (f, tt); made = λ x. x.0; back = λ v f. refl; forth = λ x. refl; fits = λ x f. f.0 }
 
-pub command_fits : (c : Command) → FitsBy command_cells c → IsCommandInRange c
+pub command_fits : (c : Command) → FitsCells command_cells c → IsCommandInRange c
 command_fits c f = let id = f.0.1 in let release = f.1.0.1 in let due = f.1.1.0.1 in (omega (arith, id), omega (arith, release), omega (arith, due))
 
 command_table : IsTable command_cells IsCommandInRange

@@ -12,9 +12,9 @@ use Rattle.blk_trace.specs.Traces.{Traced, IsPushAnswer}
 use Rattle.blk_trace.specs.declared.rule.PushFault.{PushFault}
 use Rattle.blk_trace.specs.declared.rule.PushFault.TheVariants as push_fault
 use Rattle.blk_text.specs.Sources.{Row, TakesRecord}
-use Rattle.blk_text.specs.Reads.{IsOutside, IsOne, IsLine, IsWrongLine, Reads, HandReads, HandFails, Fails, AreGathered, IsStopped, repeated, size_of, with_next}
+use Rattle.blk_text.specs.Reads.{IsOutside, IsOne, IsRowOf, IsWrongLine, Reads, HandReads, HandFails, Fails, AreGathered, IsStopped, repeated, size_of, with_next}
 use Rattle.blk_text.specs.SetupRecord.{setup}
-use Rattle.blk_text.specs.Tables.{FitsBy, slots_by}
+use Rattle.blk_text.specs.Tables.{FitsCells, slots_by}
 use Rattle.blk_text.specs.TraceForm.{first_record, bios_after, group, event_told, plain_event, BreaksRule, event, alone, one_more, IsPast, refusal_of, IsRefused, events_of, trace_cells, IsTraceTitle, title, trace_body, trace_form}
 use Rattle.blk_text.specs.Versions.{latest, most_tags}
 use Rattle.blk_text.specs.declared.fault.Why.{Why}
@@ -151,7 +151,7 @@ event_gone version setup before = inl (inl (head_gone version))
 
 -- whole traces
 
-pub title_fits : (version : ℕ) (t : TraceTitle) → FitsBy (trace_cells version) t → IsTraceTitle version t
+pub title_fits : (version : ℕ) (t : TraceTitle) → FitsCells (trace_cells version) t → IsTraceTitle version t
 title_fits version t f = record { depth = f.0; hw = f.1.0; count = f.1.1.0.1 }
 
 pub title_table : (version : ℕ) → IsTable (trace_cells version) (IsTraceTitle version)
@@ -194,10 +194,10 @@ head_fails version limits failed None row start at w h e = tt
 head_fails version limits failed (Some rows) row start at w h e = inr (1, omega (arith, e), inl (h rows))
 
 -- of one record
-pub alone_line : (version : ℕ) (limits : Limits) (h : Head) (e : Happened) (row : Row) → alone h ≡ Some e → IsLine (first_record version) row h → IsLine (plain_event version limits) row e
+pub alone_line : (version : ℕ) (limits : Limits) (h : Head) (e : Happened) (row : Row) → alone h ≡ Some e → IsRowOf (first_record version) row h → IsRowOf (plain_event version limits) row e
 alone_line version limits (head.Release id bios) e row is l = absurd (cc is)
 alone_line version limits (head.Join id bios) e row is l = absurd (cc is)
-alone_line version limits h e row is l = subst (λ z. IsLine (plain_event version limits) row z) (some_same _ _ is) (λ rest. record { fits = ((l rest).fits, (tt, refl)); made = (l rest).made; follows = (tt, refl) })
+alone_line version limits h e row is l = subst (λ z. IsRowOf (plain_event version limits) row z) (some_same _ _ is) (λ rest. record { fits = ((l rest).fits, (tt, refl)); made = (l rest).made; follows = (tt, refl) })
 
 pub alone_size : (version : ℕ) (limits : Limits) (h : Head) (e : Happened) → alone h ≡ Some e → length ((plain_event version limits).rows_of e) ≡ 1
 alone_size version limits (head.Release id bios) e is = absurd (cc is)
@@ -208,36 +208,36 @@ alone_size version limits h e is = subst (λ z. length ((plain_event version lim
 abbrev grouped : ℕ → Limits → Part Row Why (Head × List Bio)
 grouped version limits = in_turn (first_record version) (λ h. group version limits (bios_after h))
 
-group_begins : (version : ℕ) (limits : Limits) (h : Head) (bios : List Bio) (row : Row) (rows rest : List Row) → IsLine (first_record version) row h → Begins (group version limits (bios_after h)) rows bios rest
+group_begins : (version : ℕ) (limits : Limits) (h : Head) (bios : List Bio) (row : Row) (rows rest : List Row) → IsRowOf (first_record version) row h → Begins (group version limits (bios_after h)) rows bios rest
     → Begins (grouped version limits) (row ∷ rows) (h, bios) rest
 group_begins version limits h bios row rows rest l b = both_begin (first_record version) (λ h. group version limits (bios_after h)) (row ∷ rows) rows h bios rest (l rows) b
 
-pub release_reads : (version : ℕ) (limits : Limits) (id n : ℕ) (bios : List Bio) (left new : Option (List Row)) (row : Row) → length bios ≡ n → IsLine (first_record version) row (head.Release id n)
+pub release_reads : (version : ℕ) (limits : Limits) (id n : ℕ) (bios : List Bio) (left new : Option (List Row)) (row : Row) → length bios ≡ n → IsRowOf (first_record version) row (head.Release id n)
     → Reads (group version limits n) left new bios → HandReads (plain_event version limits) left row new (Released id bios)
 release_reads version limits id n bios None new row e l b = tt
 release_reads version limits id n bios (Some rows) new row e l b =
-    let line : IsLine (first_record version) row (head.Release id (length bios)) = subst (λ m. IsLine (first_record version) row (head.Release id m)) (sym e) l in
+    let line : IsRowOf (first_record version) row (head.Release id (length bios)) = subst (λ m. IsRowOf (first_record version) row (head.Release id m)) (sym e) l in
     let bs : Begins (group version limits (length bios)) rows bios b.0 = subst (λ m. Begins (group version limits m) rows bios b.0) (sym e) b.2 in
     let k = group_begins version limits (head.Release id (length bios)) bios row rows b.0 line bs in
     (b.0, b.1, record { fits = k.fits; made = k.made; follows = k.follows })
 
-pub join_reads : (version : ℕ) (limits : Limits) (id n : ℕ) (bios : List Bio) (left new : Option (List Row)) (row : Row) → length bios ≡ n → IsLine (first_record version) row (head.Join id n)
+pub join_reads : (version : ℕ) (limits : Limits) (id n : ℕ) (bios : List Bio) (left new : Option (List Row)) (row : Row) → length bios ≡ n → IsRowOf (first_record version) row (head.Join id n)
     → Reads (group version limits n) left new bios → HandReads (plain_event version limits) left row new (Joined id bios)
 join_reads version limits id n bios None new row e l b = tt
 join_reads version limits id n bios (Some rows) new row e l b =
-    let line : IsLine (first_record version) row (head.Join id (length bios)) = subst (λ m. IsLine (first_record version) row (head.Join id m)) (sym e) l in
+    let line : IsRowOf (first_record version) row (head.Join id (length bios)) = subst (λ m. IsRowOf (first_record version) row (head.Join id m)) (sym e) l in
     let bs : Begins (group version limits (length bios)) rows bios b.0 = subst (λ m. Begins (group version limits m) rows bios b.0) (sym e) b.2 in
     let k = group_begins version limits (head.Join id (length bios)) bios row rows b.0 line bs in
     (b.0, b.1, record { fits = k.fits; made = k.made; follows = k.follows })
 
-pub release_fits : (version : ℕ) (limits : Limits) (id n : ℕ) (bios : List Bio) (row : Row) → IsLine (first_record version) row (head.Release id n) → (group version limits n).Fits bios → (plain_event version limits).Fits (Released id bios)
+pub release_fits : (version : ℕ) (limits : Limits) (id n : ℕ) (bios : List Bio) (row : Row) → IsRowOf (first_record version) row (head.Release id n) → (group version limits n).Fits bios → (plain_event version limits).Fits (Released id bios)
 release_fits version limits id n bios row l f =
-    let line : IsLine (first_record version) row (head.Release id (length bios)) = subst (λ m. IsLine (first_record version) row (head.Release id m)) (sym f.1) l in
+    let line : IsRowOf (first_record version) row (head.Release id (length bios)) = subst (λ m. IsRowOf (first_record version) row (head.Release id m)) (sym f.1) l in
     ((line []).fits, (f.0, refl))
 
-pub join_fits : (version : ℕ) (limits : Limits) (id n : ℕ) (bios : List Bio) (row : Row) → IsLine (first_record version) row (head.Join id n) → (group version limits n).Fits bios → (plain_event version limits).Fits (Joined id bios)
+pub join_fits : (version : ℕ) (limits : Limits) (id n : ℕ) (bios : List Bio) (row : Row) → IsRowOf (first_record version) row (head.Join id n) → (group version limits n).Fits bios → (plain_event version limits).Fits (Joined id bios)
 join_fits version limits id n bios row l f =
-    let line : IsLine (first_record version) row (head.Join id (length bios)) = subst (λ m. IsLine (first_record version) row (head.Join id m)) (sym f.1) l in
+    let line : IsRowOf (first_record version) row (head.Join id (length bios)) = subst (λ m. IsRowOf (first_record version) row (head.Join id m)) (sym f.1) l in
     ((line []).fits, (f.0, refl))
 
 pub release_size : (version : ℕ) (limits : Limits) (id : ℕ) (bios : List Bio) → length ((plain_event version limits).rows_of (Released id bios)) ≡ length bios + 1
@@ -247,7 +247,7 @@ pub join_size : (version : ℕ) (limits : Limits) (id : ℕ) (bios : List Bio) �
 join_size version limits id bios = let size = group_size version limits (length bios) bios in omega (arith, size)
 
 -- where a group is wrong
-pub group_fails : (version : ℕ) (limits : Limits) (h : Head) (failed : Bool) (left : Option (List Row)) (row : Row) (start middle at : ℕ) (w : Why) → middle ≡ start → IsLine (first_record version) row h
+pub group_fails : (version : ℕ) (limits : Limits) (h : Head) (failed : Bool) (left : Option (List Row)) (row : Row) (start middle at : ℕ) (w : Why) → middle ≡ start → IsRowOf (first_record version) row h
     → Fails failed (group version limits (bios_after h)) left middle at w → HandFails failed (plain_event version limits) left row start at w
 group_fails version limits h failed None row start middle at w e l f = tt
 group_fails version limits h failed (Some rows) row start middle at w e l f = elim f [
@@ -284,22 +284,22 @@ hand_outside failed p (Some rows) row start at w o = inl o
 pub past_head : (version : ℕ) (setup : Setup) (before : List Happened) (row : Row) (w : Why) → IsWrongLine (first_record version) row w → IsPast version setup before row w
 past_head version setup before row w l = λ rest. ((λ z. (cc z)), inl (inl (l rest)))
 
-pub past_group : (version : ℕ) (setup : Setup) (before : List Happened) (row : Row) (h : Head) → alone h ≡ None → IsLine (first_record version) row h → IsPast version setup before row why.Count
+pub past_group : (version : ℕ) (setup : Setup) (before : List Happened) (row : Row) (h : Head) → alone h ≡ None → IsRowOf (first_record version) row h → IsPast version setup before row why.Count
 past_group version setup before row h n l = λ rest. ((λ z. (cc z)), inr (refl, refl, (h, rest, record { fits = ((l rest).fits, rw n tt); made = (l rest).made; follows = tt })))
 
-pub past_event : (version : ℕ) (setup : Setup) (before : List Happened) (row : Row) (h : Head) (e : Happened) → alone h ≡ Some e → IsLine (first_record version) row h → IsUnbroken setup before e → IsPast version setup before row why.Count
+pub past_event : (version : ℕ) (setup : Setup) (before : List Happened) (row : Row) (h : Head) (e : Happened) → alone h ≡ Some e → IsRowOf (first_record version) row h → IsUnbroken setup before e → IsPast version setup before row why.Count
 past_event version setup before row h e is l u = λ rest. ((λ z. (cc z)), inr (refl, refl, (h, rest, record { fits = ((l rest).fits, rw is u); made = (l rest).made; follows = tt })))
 
-pub past_rule : (version : ℕ) (setup : Setup) (before : List Happened) (row : Row) (h : Head) (e : Happened) (r : TraceRule) → alone h ≡ Some e → IsLine (first_record version) row h → IsFirstBroken setup before e r
+pub past_rule : (version : ℕ) (setup : Setup) (before : List Happened) (row : Row) (h : Head) (e : Happened) (r : TraceRule) → alone h ≡ Some e → IsRowOf (first_record version) row h → IsFirstBroken setup before e r
     → IsPast version setup before row (why.Rule r)
 past_rule version setup before row h e r is l b = λ rest. ((λ z. (cc z)), inl (inr (h, rest, l rest, (e, is, (refl, (r, refl, b))))))
 
 -- how many bios a first record announces
-pub release_count : (version id n : ℕ) (row : Row) (h : Head) → h ≡ head.Release id n → IsLine (first_record version) row h → (1 ≤ n) × (n ≤ MAX_SEGMENTS)
-release_count version id n row h e l = let line : IsLine (first_record version) row (head.Release id n) = subst (λ z. IsLine (first_record version) row z) e l in (line []).fits.1.1.0
+pub release_count : (version id n : ℕ) (row : Row) (h : Head) → h ≡ head.Release id n → IsRowOf (first_record version) row h → (1 ≤ n) × (n ≤ MAX_SEGMENTS)
+release_count version id n row h e l = let line : IsRowOf (first_record version) row (head.Release id n) = subst (λ z. IsRowOf (first_record version) row z) e l in (line []).fits.1.1.0
 
-pub join_count : (version id n : ℕ) (row : Row) (h : Head) → h ≡ head.Join id n → IsLine (first_record version) row h → (1 ≤ n) × (n ≤ MAX_SEGMENTS)
-join_count version id n row h e l = let line : IsLine (first_record version) row (head.Join id n) = subst (λ z. IsLine (first_record version) row z) e l in (line []).fits.1.1.0
+pub join_count : (version id n : ℕ) (row : Row) (h : Head) → h ≡ head.Join id n → IsRowOf (first_record version) row h → (1 ≤ n) × (n ≤ MAX_SEGMENTS)
+join_count version id n row h e l = let line : IsRowOf (first_record version) row (head.Join id n) = subst (λ z. IsRowOf (first_record version) row z) e l in (line []).fits.1.1.0
 
 -- what a trace answers to an event
 
@@ -316,7 +316,7 @@ refused_fails version setup own before failed left new row e start at w same h (
 pub memory_fails : (version : ℕ) (setup : Setup) (before : List Happened) (failed : Bool) (left : Option (List Row)) (row : Row) (start at : ℕ) (w : Why) → w ≡ why.Memory → HandFails failed (event version setup before) left row start at w
 memory_fails version setup before failed left row start at w m = hand_outside failed (event version setup before) left row start at w (inr m)
 
-pub past_refused : (version : ℕ) (setup own : Setup) (before : List Happened) (row : Row) (h : Head) (e : Happened) (w : Why) → own ≡ setup → alone h ≡ Some e → IsLine (first_record version) row h → IsRefused own before e w
+pub past_refused : (version : ℕ) (setup own : Setup) (before : List Happened) (row : Row) (h : Head) (e : Happened) (w : Why) → own ≡ setup → alone h ≡ Some e → IsRowOf (first_record version) row h → IsRefused own before e w
     → (w ≡ why.Memory) ⊎ IsPast version setup before row w
 past_refused version setup own before row h e w same is l (inl m) = inl m
 past_refused version setup own before row h e w same is l (inr b) = inr (rw b.1 (past_rule version setup before row h e b.0 is l (rw same at b.2)))

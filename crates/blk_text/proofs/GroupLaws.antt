@@ -12,8 +12,8 @@ use Rattle.blk_text.specs.BioTable.{bio_cells, IsNoSuchBio}
 use Rattle.blk_text.specs.BioRecord.{direction_text}
 use Rattle.blk_text.specs.Words.{StartsWith, NextStarts, WordLacks}
 use Rattle.blk_text.specs.Fields.{Lacks, FieldsSpell}
-use Rattle.blk_text.specs.Reads.{IsLine, IsWrongLine, HandFails, Gathers, with_next}
-use Rattle.blk_text.specs.Tables.{FitsBy, row_by, slots_by, word_record}
+use Rattle.blk_text.specs.Reads.{IsRowOf, IsWrongLine, HandFails, Gathers, with_next}
+use Rattle.blk_text.specs.Tables.{FitsCells, row_by, slots_by, word_record}
 use Rattle.blk_text.specs.TraceForm.{Tiles, gathered_bios, IsAstray, IsNoBio, first_record, plain_bio, whole_bio, group_bio, group}
 use Rattle.blk_text.specs.declared.fault.Why.{Why}
 use Rattle.blk_text.specs.declared.fault.Why.TheVariants as why
@@ -31,7 +31,7 @@ use Rattle.blk_text.proofs.Reading.{hand_reads}
 use Rattle.blk_text.proofs.HeadLaws.{head_tells, head_decides}
 use Rattle.blk_text.proofs.RuleLaws.{fits as fits_decided}
 
-bio_table : (submitters : ℕ) → submitters ≤ 2 ^ 8 → IsTable (bio_cells submitters) (FitsBy (bio_cells submitters))
+bio_table : (submitters : ℕ) → submitters ≤ 2 ^ 8 → IsTable (bio_cells submitters) (FitsCells (bio_cells submitters))
 bio_table submitters s = record {
   sized = (omega (arith, s), (omega arith, (tt, (omega arith, (omega arith, tt)))));
   within = λ b f. f;
@@ -46,7 +46,7 @@ no_bio_once version [] w x a b = a ∙ sym b
 no_bio_once version (row ∷ rows) w x a b = ((over_tells why.Count (first_record version) (head_tells version)).first (row ∷ []) 1 1 w x a b).1
 
 abbrev bio_record : Part Row Why Bio
-bio_record = word_record why.Count (codes "bio") (bio_cells (2 ^ 8)) (FitsBy (bio_cells (2 ^ 8)))
+bio_record = word_record why.Count (codes "bio") (bio_cells (2 ^ 8)) (FitsCells (bio_cells (2 ^ 8)))
 
 abbrev only_bios : ℕ → Part Row Why ((i : Unit {0}) × Bio)
 only_bios version = by_word {K = Unit {0}} (λ _. Bio) (λ _. NextStarts (codes "bio")) (λ _. bio_record) (IsNoBio version)
@@ -54,7 +54,7 @@ only_bios version = by_word {K = Unit {0}} (λ _. Bio) (λ _. NextStarts (codes 
 plain_tells : (version : ℕ) → Tells (plain_bio version)
 plain_tells version = seen_tells (λ b. (tt, b)) (only_bios version) (λ u z e. (let r : u ≡ z = (λ i. (e i).1) in r))
     (by_word_tells {K = Unit {0}} (λ _. Bio) (λ _. NextStarts (codes "bio")) (λ _. bio_record) (IsNoBio version)
-    (λ _. record_tells (λ b. codes "bio" ∷ row_by (bio_cells (2 ^ 8)) b) (FitsBy (bio_cells (2 ^ 8))) why.Count (WordLacks (codes "bio") (slots_by (bio_cells (2 ^ 8)))) (word_tells (codes "bio") (bio_cells (2 ^ 8)) (FitsBy (bio_cells (2 ^ 8))) (bio_table 256 (omega arith))))
+    (λ _. record_tells (λ b. codes "bio" ∷ row_by (bio_cells (2 ^ 8)) b) (FitsCells (bio_cells (2 ^ 8))) why.Count (WordLacks (codes "bio") (slots_by (bio_cells (2 ^ 8)))) (word_tells (codes "bio") (bio_cells (2 ^ 8)) (FitsCells (bio_cells (2 ^ 8))) (bio_table 256 (omega arith))))
     (λ i j rows s t. refl) (λ i rows v a h. next_starts (codes "bio") (row_by (bio_cells (2 ^ 8)) v) rows a h.made) (no_bio_once version))
 
 -- what is wrong with a record that does not begin as a bio's
@@ -71,7 +71,7 @@ no_bio version row = elim (head_decides version (row ∷ [])) [
 plain_decides : (version : ℕ) → Decides (plain_bio version)
 plain_decides version = seen_decides (λ b. (tt, b)) (only_bios version) (λ v f. (v.1, refl))
     (by_word_decides {K = Unit {0}} (λ _. Bio) (λ _. NextStarts (codes "bio")) (λ _. bio_record) (IsNoBio version)
-    (λ _ rows s. record_decides (λ b. codes "bio" ∷ row_by (bio_cells (2 ^ 8)) b) (FitsBy (bio_cells (2 ^ 8))) why.Count (WordLacks (codes "bio") (slots_by (bio_cells (2 ^ 8)))) (word_decides (codes "bio") (bio_cells (2 ^ 8)) (FitsBy (bio_cells (2 ^ 8))) (bio_table 256 (omega arith))) rows)
+    (λ _ rows s. record_decides (λ b. codes "bio" ∷ row_by (bio_cells (2 ^ 8)) b) (FitsCells (bio_cells (2 ^ 8))) why.Count (WordLacks (codes "bio") (slots_by (bio_cells (2 ^ 8)))) (word_decides (codes "bio") (bio_cells (2 ^ 8)) (FitsCells (bio_cells (2 ^ 8))) (bio_table 256 (omega arith))) rows)
     find)
   where
     find : (rows : List Row) → ((i : Unit {0}) × NextStarts (codes "bio") rows) ⊎ (((i : Unit {0}) → ¬ NextStarts (codes "bio") rows) × ((w : Why) × IsNoBio version rows w))
@@ -140,21 +140,21 @@ bio_lacks version row w t l = λ rest. inl (inl (tt, t, (refl, inl (t, l))))
 pub no_such_bio : (version : ℕ) (f : BioFault) (dir : Dir) (row : Row) (ns : List ℕ) → StartsWith (codes "bio") row → FieldsSpell (slot.Given ∷ slots_by (bio_cells (2 ^ 8))) row ns → get_or row (3) [] ≡ direction_text dir
     → IsBioAnswer (bio_with ns dir).id dir (bio_with ns dir).first (bio_with ns dir).sectors (Err f) → IsWrongLine (whole_bio version) row (why.Bio f)
 no_such_bio version f dir row ns t s d a =
-    let line = word_line why.Count (codes "bio") (bio_cells (2 ^ 8)) (FitsBy (bio_cells (2 ^ 8))) (bio_with ns dir) row ns t s (refl, (refl, (d, (refl, (refl, tt))))) (λ f. f) in
+    let line = word_line why.Count (codes "bio") (bio_cells (2 ^ 8)) (FitsCells (bio_cells (2 ^ 8))) (bio_with ns dir) row ns t s (refl, (refl, (d, (refl, (refl, tt))))) (λ f. f) in
     λ rest. inr (bio_with ns dir, rest, record { fits = (line rest).fits; made = (line rest).made; follows = tt }, (f, refl, refl, a))
 
 -- a record that is another event's, or no event's
-pub event_too_soon : (version : ℕ) (h : Head) (row : Row) → ¬ StartsWith (codes "bio") row → IsLine (first_record version) row h → IsWrongLine (whole_bio version) row why.Count
+pub event_too_soon : (version : ℕ) (h : Head) (row : Row) → ¬ StartsWith (codes "bio") row → IsRowOf (first_record version) row h → IsWrongLine (whole_bio version) row why.Count
 event_too_soon version h row n l = λ rest. inl (inr (refl, (λ i s. n s), ((λ z. (cc z)), inr (refl, refl, (h, [], l [])))))
 
 pub no_event_there : (version : ℕ) (row : Row) (w : Why) → ¬ StartsWith (codes "bio") row → IsWrongLine (first_record version) row w → IsWrongLine (whole_bio version) row w
 no_event_there version row w n l = λ rest. inl (inr (refl, (λ i s. n s), ((λ z. (cc z)), inl (l []))))
 
 -- a bio that tiles, and one that does not
-pub tiles_line : (version : ℕ) (limits : Limits) (before : List Bio) (b : Bio) (row : Row) → IsLine (whole_bio version) row b → Tiles limits before b → IsLine (group_bio version limits before) row b
+pub tiles_line : (version : ℕ) (limits : Limits) (before : List Bio) (b : Bio) (row : Row) → IsRowOf (whole_bio version) row b → Tiles limits before b → IsRowOf (group_bio version limits before) row b
 tiles_line version limits before b row l t = λ rest. record { fits = ((l rest).fits, t); made = (l rest).made; follows = tt }
 
-pub astray_line : (version : ℕ) (limits : Limits) (before : List Bio) (b : Bio) (row : Row) → IsLine (whole_bio version) row b → ¬ Tiles limits before b → IsWrongLine (group_bio version limits before) row why.Tile
+pub astray_line : (version : ℕ) (limits : Limits) (before : List Bio) (b : Bio) (row : Row) → IsRowOf (whole_bio version) row b → ¬ Tiles limits before b → IsWrongLine (group_bio version limits before) row why.Tile
 astray_line version limits before b row l n = λ rest. inr (b, rest, l rest, (refl, refl, n))
 
 pub wrong_line : (version : ℕ) (limits : Limits) (before : List Bio) (row : Row) (w : Why) → IsWrongLine (whole_bio version) row w → IsWrongLine (group_bio version limits before) row w
@@ -164,14 +164,14 @@ pub line_fails : {V : Type 0} (failed : Bool) (p : Part Row Why V) (left : Optio
 line_fails failed p None row start at w h e = tt
 line_fails failed p (Some rows) row start at w h e = inr (1, omega (arith, e), h rows)
 
-bio_gathers : (version : ℕ) (limits : Limits) (old : List Bio) (b : Bio) (left : Option (List Row)) (row : Row) (at : ℕ) → IsLine (whole_bio version) row b → Tiles limits old b
+bio_gathers : (version : ℕ) (limits : Limits) (old : List Bio) (b : Bio) (left : Option (List Row)) (row : Row) (at : ℕ) → IsRowOf (whole_bio version) row b → Tiles limits old b
     → Gathers (group_bio version limits) old (old ++ b ∷ []) left row left at at
 bio_gathers version limits old b left row at l t =
     let line = tiles_line version limits old b row l t in
     record { item = b; gathered = refl; fits = (line []).fits; read = hand_reads (group_bio version limits old) left row b line; end = omega arith }
 
 -- the first bio of a group
-pub first_gathers : (version : ℕ) (limits : Limits) (o : Option (List Bio)) (new : List Bio) (b : Bio) (left : Option (List Row)) (row : Row) (at : ℕ) → o ≡ None → new ≡ b ∷ [] → IsLine (whole_bio version) row b
+pub first_gathers : (version : ℕ) (limits : Limits) (o : Option (List Bio)) (new : List Bio) (b : Bio) (left : Option (List Row)) (row : Row) (at : ℕ) → o ≡ None → new ≡ b ∷ [] → IsRowOf (whole_bio version) row b
     → Gathers (group_bio version limits) (gathered_bios o) new left row left at at
 first_gathers version limits None new b left row at e n l = rw n (bio_gathers version limits [] b left row at l tt)
 first_gathers version limits (Some old) new b left row at e n l = absurd (cc e)
@@ -186,14 +186,14 @@ fits_tiles limits (a ∷ old) b some t = t
 
 -- one more
 pub next_gathers : (version : ℕ) (limits : Limits) (o : Option (List Bio)) (old new : List Bio) (b : Bio) (left : Option (List Row)) (row : Row) (at : ℕ) → o ≡ Some old → new ≡ old ++ b ∷ [] → Fits limits old (b ∷ []) side.Back
-    → IsLine (whole_bio version) row b → Gathers (group_bio version limits) (gathered_bios o) new left row left at at
+    → IsRowOf (whole_bio version) row b → Gathers (group_bio version limits) (gathered_bios o) new left row left at at
 next_gathers version limits None old new b left row at e n f l = absurd (cc e)
 next_gathers version limits (Some x) old new b left row at e n f l =
     let same : x ≡ old = cc e in
     rw (same, n) (bio_gathers version limits old b left row at l (tiles_after limits old b f))
 
 pub astray_fails : (version : ℕ) (limits : Limits) (failed : Bool) (o : Option (List Bio)) (old : List Bio) (b : Bio) (left : Option (List Row)) (row : Row) (start at : ℕ) → o ≡ Some old → 0 < length old → ¬ Fits limits old (b ∷ []) side.Back
-    → IsLine (whole_bio version) row b → at ≡ start → HandFails failed (group_bio version limits (gathered_bios o)) left row start at why.Tile
+    → IsRowOf (whole_bio version) row b → at ≡ start → HandFails failed (group_bio version limits (gathered_bios o)) left row start at why.Tile
 astray_fails version limits failed None old b left row start at e some n l is = absurd (cc e)
 astray_fails version limits failed (Some x) old b left row start at e some n l is =
     let same : x ≡ old = cc e in

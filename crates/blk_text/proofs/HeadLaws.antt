@@ -4,8 +4,8 @@ use Rattle.std.specs.Prelude.{if◌then◌else◌}
 use Rattle.blk_text.specs.Sources.{Row}
 use Rattle.blk_text.specs.Words.{StartsWith, HasNoWord}
 use Rattle.blk_text.specs.Fields.{Lacks, FieldsSpell}
-use Rattle.blk_text.specs.Reads.{IsLine, IsWrongLine, IsOne}
-use Rattle.blk_text.specs.Tables.{FitsBy, slots_by, kinds_record}
+use Rattle.blk_text.specs.Reads.{IsRowOf, IsWrongLine, IsOne}
+use Rattle.blk_text.specs.Tables.{FitsCells, slots_by, kinds_record}
 use Rattle.blk_text.specs.TraceForm.{word_of, EventStandsIn, Says, head_cells, said, first_record}
 use Rattle.blk_text.specs.declared.fault.Why.{Why}
 use Rattle.blk_text.specs.declared.fault.Why.TheVariants as why
@@ -39,7 +39,7 @@ stands_decided : (version : ℕ) (k : EventWord) → Dec (EventStandsIn version 
 stands_decided version word.Depth = at_most 2 version
 stands_decided version k = inl tt
 
-head_table : (k : EventWord) → IsTable (head_cells k) (FitsBy (head_cells k))
+head_table : (k : EventWord) → IsTable (head_cells k) (FitsCells (head_cells k))
 head_table word.Tick = record { sized = (tt, (tt, (tt, (tt, (tt, tt))))); within = λ v f. f; made = λ x. tt; back = λ v f. refl; forth = λ x. refl; fits = λ x f. f }
 head_table word.Release = record { sized = (omega arith, (omega arith, (tt, (tt, (tt, tt))))); within = λ v f. f; made = λ x. (x.0, x.1.0); back = λ v f. refl; forth = λ x. refl; fits = λ x f. f }
 head_table word.Join = record { sized = (omega arith, (omega arith, (tt, (tt, (tt, tt))))); within = λ v f. f; made = λ x. (x.0, x.1.0); back = λ v f. refl; forth = λ x. refl; fits = λ x f. f }
@@ -92,10 +92,10 @@ head_spells k j row ns e s = subst (λ (z : EventWord). FieldsSpell (slot.Given 
 
 -- of a kind that was told by its word
 pub head_line : (version : ℕ) (k : EventWord) (h : Head) (row : Row) (ns : List ℕ) → k ≡ (said h).0 → EventStandsIn version k → StartsWith (word_of k) row → FieldsSpell (slot.Given ∷ slots_by (head_cells k)) row ns
-    → IsBy (head_cells (said h).0) (said h).1 (λ i. get_or row (suc i) []) (λ i. get_or ns (suc i) 0) → IsLine (first_record version) row h
+    → IsBy (head_cells (said h).0) (said h).1 (λ i. get_or row (suc i) []) (λ i. get_or ns (suc i) 0) → IsRowOf (first_record version) row h
 head_line version k h row ns e a t s b =
     let j = (said h).0 in
-    let line = word_line why.Count (word_of j) (head_cells j) (λ v. EventStandsIn version j × FitsBy (head_cells j) v) (said h).1 row ns (subst (λ (z : EventWord). StartsWith (word_of z) row) e t) (head_spells k j row ns e s) b
+    let line = word_line why.Count (word_of j) (head_cells j) (λ v. EventStandsIn version j × FitsCells (head_cells j) v) (said h).1 row ns (subst (λ (z : EventWord). StartsWith (word_of z) row) e t) (head_spells k j row ns e s) b
     (λ f. (subst (EventStandsIn version) e a, f)) in
     λ rest. record { fits = (line rest).fits; made = (line rest).made; follows = tt }
 

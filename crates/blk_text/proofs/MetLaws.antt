@@ -12,7 +12,7 @@ use Rattle.blk_text.specs.Sources.{Row}
 use Rattle.blk_text.specs.Texts.{rows_text}
 use Rattle.blk_text.specs.Words.{WordLacks}
 use Rattle.blk_text.specs.Reads.{IsOutside, Reads, Halts, IsOne, items_of, with_next}
-use Rattle.blk_text.specs.Tables.{IsVersion, FitsBy, row_by, slots_by, title_by}
+use Rattle.blk_text.specs.Tables.{IsVersion, FitsCells, row_by, slots_by, title_by}
 use Rattle.blk_text.specs.Titles.{counted_cells, IsCounted}
 use Rattle.blk_text.specs.Certificate.{served_cells, served_record, IsServed}
 use Rattle.blk_text.specs.Met.{MetClaim, IsMetClaim, AreFew, met_cells, window_cells, met_title, met_numbers, window, windows, cover_body, met_body, met_form, met_told, met_value, met_rows, SpellsMet, MetClaimFault}
@@ -41,7 +41,7 @@ met_table = record {
   fits = λ x f. (f.0.1, f.1.0.1);
 }
 
-pub window_fits : (w : Window) → FitsBy window_cells w → WindowInRange w
+pub window_fits : (w : Window) → FitsCells window_cells w → WindowInRange w
 window_fits w f = let from = f.0.1 in let due = f.1.0.1 in (omega (arith, from), omega (arith, due))
 
 window_table : IsTable window_cells WindowInRange

@@ -6,11 +6,11 @@ use Rattle.blk_text.specs.Sources.{Row, TakesRecord}
 use Rattle.blk_text.specs.declared.fault.Why.{Why}
 use Rattle.parts.specs.declared.Repeats.{Repeats}
 use Rattle.parts.specs.declared.Repeats.TheVariants as repeats
-use Rattle.parts.specs.Parts.{then, over, Part, Begins, IsReached, all_rows, AllFit, after, GoesOn, Stops, IsCount, most_of}
+use Rattle.parts.specs.Parts.{then, over, Part, Begins, GetsTo, all_rows, AllFit, after, GoesOn, Stops, IsCount, most_of}
 use Rattle.parts.specs.Laws.{Tells, IsPlain}
 use Rattle.parts.proofs.Many.{all_more, fit_more, ended_reached, many_reached, HasRows}
 use Rattle.parts.proofs.Then.{both_begin, reached_first, reached_second, after_all_reached}
-use Rattle.blk_text.specs.Reads.{IsOutside, Reads, HandReads, HandFails, Fails, Halts, Reaches, IsLine, IsStopped, ItemsBefore, with_next, repeated, ended_of, items_of, size_of, beyond_of}
+use Rattle.blk_text.specs.Reads.{IsOutside, Reads, HandReads, HandFails, Fails, Halts, Reaches, IsRowOf, IsStopped, ItemsBefore, with_next, repeated, ended_of, items_of, size_of, beyond_of}
 
 takes_some : (rest : List Row) (after : Option (List Row)) (f : Row) → TakesRecord (Some rest) after f true → (more : List Row) × (rest ≡ f ∷ more) × (after ≡ Some more)
 takes_some [] after f t = cc t
@@ -163,11 +163,11 @@ then_reads p q (Some rows) mid v w h k = both_begin p q rows h.0 v w [] h.2 (rw 
 
 -- one record
 
-pub line_reads : {V : Type 0} (p : Part Row Why V) (left new : Option (List Row)) (row : Row) (v : V) → TakesRecord left new row true → IsLine p row v → Reads p left new v
+pub line_reads : {V : Type 0} (p : Part Row Why V) (left new : Option (List Row)) (row : Row) (v : V) → TakesRecord left new row true → IsRowOf p row v → Reads p left new v
 line_reads p None new row v t h = tt
 line_reads p (Some rows) new row v t h = let (more, first, then) = takes_some rows new row t in (more, then, subst (λ r. Begins p r v more) (sym first) (h more))
 
-pub hand_reads : {V : Type 0} (p : Part Row Why V) (left : Option (List Row)) (row : Row) (v : V) → IsLine p row v → HandReads p left row left v
+pub hand_reads : {V : Type 0} (p : Part Row Why V) (left : Option (List Row)) (row : Row) (v : V) → IsRowOf p row v → HandReads p left row left v
 hand_reads p None row v h = tt
 hand_reads p (Some rows) row v h = (rows, refl, h rows)
 
@@ -212,7 +212,7 @@ second_fails failed p q (Some rows) mid v start middle at w h e f = elim (rw h.1
 -- lines, where reading stops
 
 -- of a part that is reached where an item begins after good ones
-stopped_halts : {V : Type 0} (failed : Bool) (q : List V → Part Row Why V) (x : Repeats) (p : Part Row Why (List V)) → ((rows : List Row) (place : ℕ) → ItemsBefore x q rows place → IsReached p rows place)
+stopped_halts : {V : Type 0} (failed : Bool) (q : List V → Part Row Why V) (x : Repeats) (p : Part Row Why (List V)) → ((rows : List Row) (place : ℕ) → ItemsBefore x q rows place → GetsTo p rows place)
     → (left : Option (List Row)) (start at last : ℕ) (w : Why) → IsStopped x q left start 0 at last → Fails failed p left start at w → Halts failed p left start at w
 stopped_halts failed q x p reached None start at last w s f = tt
 stopped_halts failed q x p reached (Some rows) start at last w s f =

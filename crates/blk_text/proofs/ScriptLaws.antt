@@ -15,8 +15,8 @@ use Rattle.blk_trace.specs.declared.setup.TheConstants.{MAX_DEPTH}
 use Rattle.blk_text.specs.SetupRecord.{setup_cells, setup, FitsSetup}
 use Rattle.blk_text.specs.Words.{StartsWith, HasNoWord, WordLacks}
 use Rattle.blk_text.specs.Fields.{Lacks, FieldsSpell}
-use Rattle.blk_text.specs.Reads.{Reads, Halts, IsLine, IsWrongLine, IsOne, items_of}
-use Rattle.blk_text.specs.Tables.{FitsBy, row_by, slots_by, kinds_record}
+use Rattle.blk_text.specs.Reads.{Reads, Halts, IsRowOf, IsWrongLine, IsOne, items_of}
+use Rattle.blk_text.specs.Tables.{FitsCells, row_by, slots_by, kinds_record}
 use Rattle.blk_text.specs.Script.{word_of, StepStandsIn, Held, step_cells, step_said, LineFits, IsLineOf, IsRight, HasNoSuchBio, script_cells, IsTitle, IsEnough, TooFew, plain_title, title, plain_step, step, script_body, script_form, script_value, Scripted, title_of, script_rows, IsScript, IsScriptOf, SpellsVersion, SpellsScript, ScriptFault}
 use Rattle.blk_text.specs.Versions.{latest, most_tags}
 use Rattle.blk_text.specs.declared.fault.Why.{Why}
@@ -61,7 +61,7 @@ stands_decided version k = inl tt
 
 -- steps
 
-step_table : (hw submitters : ℕ) → hw ≤ MAX_QUEUES → submitters ≤ MAX_SOFT_QUEUES → (k : Word) → IsTable (step_cells hw submitters k) (FitsBy (step_cells hw submitters k))
+step_table : (hw submitters : ℕ) → hw ≤ MAX_QUEUES → submitters ≤ MAX_SOFT_QUEUES → (k : Word) → IsTable (step_cells hw submitters k) (FitsCells (step_cells hw submitters k))
 step_table hw submitters g s word.Bio = record {
   sized = (omega (arith, s), (omega arith, (tt, (omega arith, (omega arith, tt)))));
   within = λ b f. f;
@@ -191,14 +191,14 @@ kind_spells hw submitters k j row ns e s = subst (λ (z : Word). FieldsSpell (sl
 
 -- of a kind that was told by its word
 pub kind_line : (version hw submitters : ℕ) (k j : Word) (v : Held j) (row : Row) (ns : List ℕ) → k ≡ j → StepStandsIn version k → StartsWith (word_of k) row → FieldsSpell (slot.Given ∷ slots_by (step_cells hw submitters k)) row ns
-    → IsBy (step_cells hw submitters j) v (λ i. get_or row (suc i) []) (λ i. get_or ns (suc i) 0) → IsLine (kinds version hw submitters) row (j, v)
+    → IsBy (step_cells hw submitters j) v (λ i. get_or row (suc i) []) (λ i. get_or ns (suc i) 0) → IsRowOf (kinds version hw submitters) row (j, v)
 kind_line version hw submitters k j v row ns e a t s b =
-    let h = word_line why.Count (word_of j) (step_cells hw submitters j) (λ v. StepStandsIn version j × FitsBy (step_cells hw submitters j) v) v row ns (subst (λ (z : Word). StartsWith (word_of z) row) e t) (kind_spells hw submitters k j row ns e s) b
+    let h = word_line why.Count (word_of j) (step_cells hw submitters j) (λ v. StepStandsIn version j × FitsCells (step_cells hw submitters j) v) v row ns (subst (λ (z : Word). StartsWith (word_of z) row) e t) (kind_spells hw submitters k j row ns e s) b
     (λ f. (subst (StepStandsIn version) e a, f)) in
     λ rest. record { fits = (h rest).fits; made = (h rest).made; follows = tt }
 
 -- and whose bio is one
-pub plain_line : (version hw submitters : ℕ) (l : Line) (row : Row) → IsLine (kinds version hw submitters) row (step_said l) → IsRight l → IsLine (step version hw submitters) row l
+pub plain_line : (version hw submitters : ℕ) (l : Line) (row : Row) → IsRowOf (kinds version hw submitters) row (step_said l) → IsRight l → IsRowOf (step version hw submitters) row l
 plain_line version hw submitters l row h r = λ rest. record { fits = ((h rest).fits, r); made = (h rest).made; follows = tt }
 
 pub bio_right : (b : Bio) → IsBio b → IsRight (line.Bio b)
@@ -218,12 +218,12 @@ pub step_gone : (version hw submitters : ℕ) → (step version hw submitters).W
 step_gone version hw submitters = inl (inr (refl, (λ k s. s.1), refl))
 
 -- of a bio that there is not
-pub no_bio_line : (version hw submitters : ℕ) (b : Bio) (f : BioFault) (row : Row) → IsLine (kinds version hw submitters) row (word.Bio, b) → IsBioAnswer b.id b.dir b.first b.sectors (Err f) → IsWrongLine (step version hw submitters) row (why.Bio f)
+pub no_bio_line : (version hw submitters : ℕ) (b : Bio) (f : BioFault) (row : Row) → IsRowOf (kinds version hw submitters) row (word.Bio, b) → IsBioAnswer b.id b.dir b.first b.sectors (Err f) → IsWrongLine (step version hw submitters) row (why.Bio f)
 no_bio_line version hw submitters b f row h a = λ rest. inr (line.Bio b, rest, record { fits = (h rest).fits; made = (h rest).made; follows = tt }, (b, f, refl, refl, refl, a))
 
 -- titles and setups
 
-pub title_fits : (version : ℕ) (t : Title) → FitsBy (script_cells version) t → IsTitle version t
+pub title_fits : (version : ℕ) (t : Title) → FitsCells (script_cells version) t → IsTitle version t
 title_fits version t f = record { depth = f.0; hw = f.1.0; soft_depth = f.1.1.0; submitters = f.1.1.1.0 }
 
 -- a version has no more tags than the latest

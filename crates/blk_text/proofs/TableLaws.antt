@@ -10,7 +10,7 @@ use Rattle.blk_text.specs.Sources.{Row}
 use Rattle.blk_text.specs.BioRecord.{direction_text}
 use Rattle.blk_text.specs.Fields.{Lacks, FieldSpells, FieldsSpell, IsSized}
 use Rattle.blk_text.specs.Words.{StartsWith, NextStarts, HasNoWord, WordLacks}
-use Rattle.blk_text.specs.Reads.{IsLine}
+use Rattle.blk_text.specs.Reads.{IsRowOf}
 use Rattle.blk_text.specs.declared.fields.Slot.TheVariants as slot
 use Rattle.blk_text.specs.declared.fault.Why.{Why}
 use Rattle.blk_text.specs.declared.fault.Why.TheVariants as why
@@ -19,7 +19,7 @@ use Rattle.blk_text.proofs.Lacking.{Good, Goods, Dec, both, same_as, at_most, sa
 use Rattle.parts.specs.Parts.{Part, NextWrong}
 use Rattle.parts.specs.Laws.{Tells, TellsRecord, Decides, DecidesRecord}
 use Rattle.parts.proofs.Then.{record_tells, record_decides, by_word_tells, by_word_decides}
-use Rattle.blk_text.specs.Tables.{Cell, Blank, Direction, Number, Signed, slot_of, field_of, row_by, slots_by, FitsCell, FitsBy, IsUpTo, IsTitled, IsVersion, title_by, TitleLacks, title_record, table_record, word_record, kinds_record}
+use Rattle.blk_text.specs.Tables.{Cell, Blank, Direction, Number, Signed, slot_of, field_of, row_by, slots_by, FitsCell, FitsCells, IsUpTo, IsTitled, IsVersion, title_by, TitleLacks, title_record, table_record, word_record, kinds_record}
 
 -- what a field tells of a value
 abbrev pub Told : {V : Type 0} → Cell V → Type 0
@@ -57,11 +57,11 @@ Sized (c ∷ cs) = IsSizedCell c × Sized cs
 -- a table whose numbers fit their width, and whose fields tell the value
 pub record IsTable {V : Type 0} (cells : List (Cell V)) (Fits : V → Type 0) : Type 0 where
   pub sized : Sized cells
-  pub within : (v : V) → Fits v → FitsBy cells v
+  pub within : (v : V) → Fits v → FitsCells cells v
   pub made : AllTold cells → V
   pub back : (v : V) → Fits v → made (all_told cells v) ≡ v
   pub forth : (x : AllTold cells) → all_told cells (made x) ≡ x
-  pub fits : (x : AllTold cells) → FitsBy cells (made x) → Fits (made x)
+  pub fits : (x : AllTold cells) → FitsCells cells (made x) → Fits (made x)
 
 -- one field
 
@@ -127,18 +127,18 @@ cell_told (Signed most z) f g = late_told most z f g.2.0 (g.3 g.2.0 g.2.1 g.2.2)
 
 -- all fields
 
-pub goods_by : {V : Type 0} (cells : List (Cell V)) (v : V) → Sized cells → FitsBy cells v → Goods (slots_by cells) (row_by cells v)
+pub goods_by : {V : Type 0} (cells : List (Cell V)) (v : V) → Sized cells → FitsCells cells v → Goods (slots_by cells) (row_by cells v)
 goods_by [] v s f = tt
 goods_by (c ∷ cs) v s f = (cell_good c v s.0 f.0, goods_by cs v s.1 f.1)
 
-same_by : {V : Type 0} (cells : List (Cell V)) (v u : V) → Sized cells → FitsBy cells v → FitsBy cells u → row_by cells v ≡ row_by cells u → all_told cells v ≡ all_told cells u
+same_by : {V : Type 0} (cells : List (Cell V)) (v u : V) → Sized cells → FitsCells cells v → FitsCells cells u → row_by cells v ≡ row_by cells u → all_told cells v ≡ all_told cells u
 same_by [] v u s f g e = refl
 same_by (c ∷ cs) v u s f g e =
     let first = cell_same c v u s.0 f.0 g.0 (cons_same _ _ _ _ e).0 in
     let others = same_by cs v u s.1 f.1 g.1 (cons_same _ _ _ _ e).1 in
     λ i. (first i, others i)
 
-told_by : {V : Type 0} (cells : List (Cell V)) (row : Row) → Goods (slots_by cells) row → (x : AllTold cells) × ((v : V) → all_told cells v ≡ x → (row ≡ row_by cells v) × FitsBy cells v)
+told_by : {V : Type 0} (cells : List (Cell V)) (row : Row) → Goods (slots_by cells) row → (x : AllTold cells) × ((v : V) → all_told cells v ≡ x → (row ≡ row_by cells v) × FitsCells cells v)
 told_by [] [] g = (tt, λ v k. (refl, tt))
 told_by [] (f ∷ fs) g = absurd g
 told_by (c ∷ cs) [] g = absurd g
@@ -187,7 +187,7 @@ pub begins : (cells : Row) (word : List ℕ) → 0 < length word → get_or cell
 begins [] word l h = absurd (let none : 0 ≡ length word = ap length h in omega (arith, none, l))
 begins (f ∷ more) word l h = (more, ap (λ (g : List ℕ). g ∷ more) h)
 
-given_goods : {V : Type 0} (f : List ℕ) (cells : List (Cell V)) (v : V) → Sized cells → FitsBy cells v → Goods (slot.Given ∷ slots_by cells) (f ∷ row_by cells v)
+given_goods : {V : Type 0} (f : List ℕ) (cells : List (Cell V)) (v : V) → Sized cells → FitsCells cells v → Goods (slot.Given ∷ slots_by cells) (f ∷ row_by cells v)
 given_goods f cells v s k = ((tt, tt, tt, tt), goods_by cells v s k)
 
 pub word_tells : {V : Type 0} (word : List ℕ) (cells : List (Cell V)) (Fits : V → Type 0) → IsTable cells Fits → TellsRecord (λ v. word ∷ row_by cells v) Fits (WordLacks word (slots_by cells))
@@ -220,7 +220,7 @@ word_decides {V} word cells Fits t row = elim (word_decided word row) [
 -- kinds
 
 abbrev Kinds : {K : Type 0} → (V : K → Type 0) → ((k : K) → List (Cell (V k))) → Type 0
-Kinds {K} V cells = (k : K) → IsTable (cells k) (FitsBy (cells k))
+Kinds {K} V cells = (k : K) → IsTable (cells k) (FitsCells (cells k))
 
 -- a record that stands in the form
 pub standing_tells : {V : Type 0} (A : Type 0) (row_of : V → Row) (Fits : V → Type 0) (Bad : Row → Why → Type 0) → TellsRecord row_of Fits Bad → TellsRecord row_of (λ v. A × Fits v) Bad
@@ -257,14 +257,14 @@ word_picked word_of named Stands is d f = elim (both (d (named f)) (same_text f 
 
 -- a record of a kind
 abbrev kind_record : {V : Type 0} → Type 0 → Why → List ℕ → List (Cell V) → Part Row Why V
-kind_record Stands gone word cells = word_record gone word cells (λ v. Stands × FitsBy cells v)
+kind_record Stands gone word cells = word_record gone word cells (λ v. Stands × FitsCells cells v)
 
 pub kinds_tell : {K : Type 0} (V : K → Type 0) (gone : Why) (width : ℕ) (Stands : K → Type 0) (word_of : K → List ℕ) (cells : (k : K) → List (Cell (V k))) → ((j k : K) → word_of j ≡ word_of k → j ≡ k)
     → Kinds V cells → Tells (kinds_record V gone width Stands word_of cells)
 kinds_tell {K} V gone width Stands word_of cells one tables =
     by_word_tells V (λ k rows. Stands k × NextStarts (word_of k) rows) (λ k. kind_record (Stands k) gone (word_of k) (cells k)) (NextWrong gone (HasNoWord width))
-    (λ k. record_tells (λ v. word_of k ∷ row_by (cells k) v) (λ v. Stands k × FitsBy (cells k) v) gone (WordLacks (word_of k) (slots_by (cells k)))
-    (standing_tells (Stands k) (λ v. word_of k ∷ row_by (cells k) v) (FitsBy (cells k)) (WordLacks (word_of k) (slots_by (cells k))) (word_tells (word_of k) (cells k) (FitsBy (cells k)) (tables k))))
+    (λ k. record_tells (λ v. word_of k ∷ row_by (cells k) v) (λ v. Stands k × FitsCells (cells k) v) gone (WordLacks (word_of k) (slots_by (cells k)))
+    (standing_tells (Stands k) (λ v. word_of k ∷ row_by (cells k) v) (FitsCells (cells k)) (WordLacks (word_of k) (slots_by (cells k))) (word_tells (word_of k) (cells k) (FitsCells (cells k)) (tables k))))
     (λ j k rows s t. one j k (next_same (word_of j) (word_of k) rows s.1 t.1)) (λ k rows v a h. (h.fits.0, next_starts (word_of k) (row_by (cells k) v) rows a h.made)) (next_once gone width)
 
 pub kinds_decide : {K : Type 0} (V : K → Type 0) (gone : Why) (width : ℕ) (Stands : K → Type 0) (word_of : K → List ℕ) (cells : (k : K) → List (Cell (V k)))
@@ -272,8 +272,8 @@ pub kinds_decide : {K : Type 0} (V : K → Type 0) (gone : Why) (width : ℕ) (S
     → Kinds V cells → Decides (kinds_record V gone width Stands word_of cells)
 kinds_decide {K} V gone width Stands word_of cells pick tables =
     by_word_decides V (λ k rows. Stands k × NextStarts (word_of k) rows) (λ k. kind_record (Stands k) gone (word_of k) (cells k)) (NextWrong gone (HasNoWord width))
-    (λ k rows s. record_decides (λ v. word_of k ∷ row_by (cells k) v) (λ v. Stands k × FitsBy (cells k) v) gone (WordLacks (word_of k) (slots_by (cells k)))
-    (standing_decides (Stands k) (λ v. word_of k ∷ row_by (cells k) v) (FitsBy (cells k)) (WordLacks (word_of k) (slots_by (cells k))) s.0 (word_decides (word_of k) (cells k) (FitsBy (cells k)) (tables k))) rows) find
+    (λ k rows s. record_decides (λ v. word_of k ∷ row_by (cells k) v) (λ v. Stands k × FitsCells (cells k) v) gone (WordLacks (word_of k) (slots_by (cells k)))
+    (standing_decides (Stands k) (λ v. word_of k ∷ row_by (cells k) v) (FitsCells (cells k)) (WordLacks (word_of k) (slots_by (cells k))) s.0 (word_decides (word_of k) (cells k) (FitsCells (cells k)) (tables k))) rows) find
   where
     find : (rows : List Row) → ((k : K) × (Stands k × NextStarts (word_of k) rows)) ⊎ (((k : K) → ¬ (Stands k × NextStarts (word_of k) rows)) × ((w : Why) × NextWrong gone (HasNoWord width) rows w))
     find [] = inr ((λ k s. s.1), (gone, refl))
@@ -377,7 +377,7 @@ cell_by (Signed most z) v f m s b = b
 
 -- a record whose fields spell the numbers of a value is its record
 fields_by : {V : Type 0} (cells : List (Cell V)) (v : V) (row : Row) (number : ℕ → ℕ) → length row ≡ length (slots_by cells)
-    → ((k : ℕ) → k < length (slots_by cells) → FieldSpells (get_or (slots_by cells) k slot.Given) (get_or row k []) (number k)) → IsBy cells v (λ k. get_or row k []) number → (row ≡ row_by cells v) × FitsBy cells v
+    → ((k : ℕ) → k < length (slots_by cells) → FieldSpells (get_or (slots_by cells) k slot.Given) (get_or row k []) (number k)) → IsBy cells v (λ k. get_or row k []) number → (row ≡ row_by cells v) × FitsCells cells v
 fields_by [] v [] number l s b = (refl, tt)
 fields_by [] v (f ∷ fs) number l s b = absurd (omega (arith, l))
 fields_by (c ∷ cs) v [] number l s b = absurd (omega (arith, l))
@@ -389,14 +389,14 @@ fields_by (c ∷ cs) v (f ∷ fs) number l s b =
     (cc (x, y), (first.1, others.1))
 
 pub table_line : {V : Type 0} (gone : Why) (cells : List (Cell V)) (Fits : V → Type 0) (v : V) (row : Row) (ns : List ℕ) → FieldsSpell (slots_by cells) row ns → IsBy cells v (λ k. get_or row k []) (λ k. get_or ns k 0)
-    → (FitsBy cells v → Fits v) → IsLine (table_record gone cells Fits) row v
+    → (FitsCells cells v → Fits v) → IsRowOf (table_record gone cells Fits) row v
 table_line gone cells Fits v row ns s b f =
     let r = fields_by cells v row (λ k. get_or ns k 0) s.0 s.1 b in
     λ rest. record { fits = f r.1; made = ap (λ (x : Row). x ∷ rest) r.0; follows = tt }
 
 -- what comes after some fields that were looked at before
 given_by : {V : Type 0} (cells : List (Cell V)) (v : V) (row : Row) (ns : List ℕ) → FieldsSpell (slot.Given ∷ slots_by cells) row ns → IsBy cells v (λ k. get_or row (suc k) []) (λ k. get_or ns (suc k) 0) → (word : List ℕ) → StartsWith word row
-    → (row ≡ word ∷ row_by cells v) × FitsBy cells v
+    → (row ≡ word ∷ row_by cells v) × FitsCells cells v
 given_by cells v [] ns s b word t = absurd (let long = s.0 in omega (arith, long))
 given_by cells v (f ∷ fs) ns s b word t =
     let long = s.0 in
@@ -406,14 +406,14 @@ given_by cells v (f ∷ fs) ns s b word t =
     (cc (first, others), r.1)
 
 pub word_line : {V : Type 0} (gone : Why) (word : List ℕ) (cells : List (Cell V)) (Fits : V → Type 0) (v : V) (row : Row) (ns : List ℕ) → StartsWith word row → FieldsSpell (slot.Given ∷ slots_by cells) row ns
-    → IsBy cells v (λ k. get_or row (suc k) []) (λ k. get_or ns (suc k) 0) → (FitsBy cells v → Fits v) → IsLine (word_record gone word cells Fits) row v
+    → IsBy cells v (λ k. get_or row (suc k) []) (λ k. get_or ns (suc k) 0) → (FitsCells cells v → Fits v) → IsRowOf (word_record gone word cells Fits) row v
 word_line gone word cells Fits v row ns t s b f =
     let r = given_by cells v row ns s b word t in
     λ rest. record { fits = f r.1; made = ap (λ (x : Row). x ∷ rest) r.0; follows = tt }
 
 pub title_line : {V : Type 0} (name : List ℕ) (latest : ℕ) (cells : ℕ → List (Cell V)) (Fits : ℕ → V → Type 0) (version : ℕ) (v : V) (row : Row) (ns : List ℕ) → IsVersion latest version → IsTitled name version row
-    → FieldsSpell (slot.Given ∷ slot.Given ∷ slots_by (cells version)) row ns → IsBy (cells version) v (λ k. get_or row (suc (suc k)) []) (λ k. get_or ns (suc (suc k)) 0) → (FitsBy (cells version) v → Fits version v)
-    → IsLine (title_record name latest cells Fits) row (version, v)
+    → FieldsSpell (slot.Given ∷ slot.Given ∷ slots_by (cells version)) row ns → IsBy (cells version) v (λ k. get_or row (suc (suc k)) []) (λ k. get_or ns (suc (suc k)) 0) → (FitsCells (cells version) v → Fits version v)
+    → IsRowOf (title_record name latest cells Fits) row (version, v)
 title_line name latest cells Fits version v [] ns i t s b f = absurd (let long = s.0 in omega (arith, long))
 title_line name latest cells Fits version v (g ∷ []) ns i t s b f = absurd (let long = s.0 in omega (arith, long))
 title_line name latest cells Fits version v (g ∷ h ∷ fs) ns i t s b f =

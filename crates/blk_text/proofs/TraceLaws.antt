@@ -31,7 +31,7 @@ use Rattle.blk_text.specs.Reads.{IsOutside, Reads, Fails, Halts, AreItems, IsSto
 use Rattle.blk_text.specs.TraceRecords.{word_row, event_rows, title_row, trace_rows, BioFits, EventFits, IsTrace}
 use Rattle.blk_text.specs.TraceForm.{Tiles, group_bio, plain_event, event, one_more, events_of, IsTraceTitle, title, trace_body, trace_form, trace_value, IsEventOf, IsTraceOf, SpellsTraceIn, SpellsTrace, TraceFault}
 use Rattle.blk_text.specs.BioTable.{bio_cells}
-use Rattle.blk_text.specs.Tables.{FitsBy}
+use Rattle.blk_text.specs.Tables.{FitsCells}
 use Rattle.blk_text.specs.Versions.{latest}
 use Rattle.blk_text.specs.declared.fault.Why.{Why}
 use Rattle.blk_text.specs.declared.fault.Why.TheVariants as why
@@ -72,7 +72,7 @@ size_is version setup es = ap length (events_same version setup [] es)
 
 -- a legal trace spells
 
-fits_bio : (b : Bio) → BioFits b → FitsBy (bio_cells (2 ^ 8)) b
+fits_bio : (b : Bio) → BioFits b → FitsCells (bio_cells (2 ^ 8)) b
 fits_bio b h =
     let in_range = h.2.in_range in
     ((omega arith, omega (arith, h.0)), ((omega arith, omega (arith, h.1)), (tt, ((omega arith, omega (arith, in_range)), ((omega arith, omega (arith, in_range)), tt)))))

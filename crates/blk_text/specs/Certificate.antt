@@ -8,7 +8,7 @@ use Rattle.edd_check.specs.declared.Window.{Window}
 use Rattle.blk_text.specs.Sources.{Row}
 use Rattle.blk_text.specs.Commands.{IsCommandInRange}
 use Rattle.blk_text.specs.Reads.{items_of}
-use Rattle.blk_text.specs.Tables.{Cell, Number, Signed, FitsBy, row_by, table_record, word_record}
+use Rattle.blk_text.specs.Tables.{Cell, Number, Signed, FitsCells, row_by, table_record, word_record}
 use Rattle.blk_text.specs.Titles.{counted_title}
 use Rattle.blk_text.specs.Words.{NextStarts, HasNoWord}
 use Rattle.blk_text.specs.declared.certificate.Certificate.{Certificate}
@@ -98,7 +98,7 @@ TellsBound count SomeBound rows = NextStarts (codes "bound") rows × ¬ SaysNone
 -- the record of each kind
 abbrev pub bound_kind : ℕ → (k : Bounded) → Part Row Why (Bound k)
 bound_kind count NoBound = record_of (λ _. no_bound_row) (λ _. count ≡ 0) why.Word (λ _ _. ⊥)
-bound_kind count SomeBound = word_record why.Word (codes "bound") (bound_cells count) (FitsBy (bound_cells count))
+bound_kind count SomeBound = word_record why.Word (codes "bound") (bound_cells count) (FitsCells (bound_cells count))
 
 -- the kind of a bound
 abbrev pub kind_of : Option (ℤ × Window) → (k : Bounded) × Bound k

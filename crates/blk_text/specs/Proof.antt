@@ -52,8 +52,8 @@ form_of kind.Lateness = claim_form
 form_of kind.Met = met_form
 
 -- the records begin with the name of this kind
-abbrev pub IsNamed : ProofKind → List Row → Type 0
-IsNamed k = NextStarts (proof_name k)
+abbrev pub StartsAs : ProofKind → List Row → Type 0
+StartsAs k = NextStarts (proof_name k)
 
 -- what is wrong with a first record of another name, or where there is none
 abbrev pub IsUnnamed : List Row → Why → Type 0
@@ -61,11 +61,11 @@ IsUnnamed rows w = w ≡ why.Title
 
 -- the title of either kind
 abbrev pub proof_title : Part Row Why (ProofKind × (ℕ × (ℕ × ℕ)))
-proof_title = by_word (λ _. ℕ × (ℕ × ℕ)) IsNamed (λ k. counted_title (proof_name k)) IsUnnamed
+proof_title = by_word (λ _. ℕ × (ℕ × ℕ)) StartsAs (λ k. counted_title (proof_name k)) IsUnnamed
 
 -- either form
 abbrev pub proof_form : Part Row Why ((k : ProofKind) × Shown k)
-proof_form = by_word Shown IsNamed form_of IsUnnamed
+proof_form = by_word Shown StartsAs form_of IsUnnamed
 
 -- the records spell this certificate
 abbrev pub SpellsProof : List Row → ProofClaim → Type 0

@@ -3,7 +3,7 @@ use Rattle.std.specs.Prelude.{◌≡◌, ◌⊎◌, ◌+◌, ◌≤◌, ℕ, Boo
 use Rattle.blk_text.specs.Sources.{Row}
 use Rattle.blk_text.specs.declared.fault.Why.{Why}
 use Rattle.blk_text.specs.declared.fault.Why.TheVariants as why
-use Rattle.parts.specs.Parts.{Part, Begins, IsReached, AllFit, IsCount, GoodBefore, all_rows, many, most_of, ended}
+use Rattle.parts.specs.Parts.{Part, Begins, GetsTo, AllFit, IsCount, GoodBefore, all_rows, many, most_of, ended}
 use Rattle.parts.specs.Laws.{Tells, IsPlain}
 use Rattle.parts.specs.declared.Repeats.{Repeats}
 use Rattle.parts.specs.declared.Repeats.TheVariants as repeats
@@ -30,15 +30,15 @@ HandFails failed p left row start at w = IfSome left (λ rows. IsOutside failed 
 
 -- the record of this number was come to: it is at most one past the last, and no record before it has a fault
 abbrev pub Reaches : {V : Type 0} → Part Row Why V → Option (List Row) → ℕ → ℕ → Type 0
-Reaches p left start at = IfSome left (λ rows. (k : ℕ) × (at ≡ start + k) × IsReached p rows k)
+Reaches p left start at = IfSome left (λ rows. (k : ℕ) × (at ≡ start + k) × GetsTo p rows k)
 
 -- reading stopped at this record, which was come to: no record before it is wrong; its fault is the first one, or came from outside
 abbrev pub Halts : {V : Type 0} → Bool → Part Row Why V → Option (List Row) → ℕ → ℕ → Why → Type 0
-Halts failed p left start at w = IfSome left (λ rows. (k : ℕ) × (at ≡ start + k) × IsReached p rows k × (IsOutside failed w ⊎ p.Wrong rows k w))
+Halts failed p left start at w = IfSome left (λ rows. (k : ℕ) × (at ≡ start + k) × GetsTo p rows k × (IsOutside failed w ⊎ p.Wrong rows k w))
 
 -- a record by itself is a value's, whatever follows
-abbrev pub IsLine : {V : Type 0} → Part Row Why V → Row → V → Type 0
-IsLine p row v = (rest : List Row) → Begins p (row ∷ rest) v rest
+abbrev pub IsRowOf : {V : Type 0} → Part Row Why V → Row → V → Type 0
+IsRowOf p row v = (rest : List Row) → Begins p (row ∷ rest) v rest
 
 -- an item that begins with the record in hand was read, and is gathered after those before it; the record in hand has the number `start`
 pub record Gathers {V : Type 0} (q : List V → Part Row Why V) (old new : List V) (left : Option (List Row)) (row : Row) (after : Option (List Row)) (start at : ℕ) : Type 0 where
@@ -109,4 +109,4 @@ AreGathered x q left new start at vs false = Reads (repeated x q) left new vs ×
 -- reading stopped at the record `at`, and `last` was asked for last: no record before that with which the item begins that
 -- was being read is wrong, and no record past that one and the next `more` was asked for
 abbrev pub IsHeldAt : {V : Type 0} → Part Row Why V → Option (List Row) → ℕ → ℕ → ℕ → Type 0
-IsHeldAt p left more at last = (place : ℕ) × (place ≤ at) × (at ≤ last) × (last ≤ place + more) × IfSome left (λ rows. IsReached p rows place)
+IsHeldAt p left more at last = (place : ℕ) × (place ≤ at) × (at ≤ last) × (last ≤ place + more) × IfSome left (λ rows. GetsTo p rows place)

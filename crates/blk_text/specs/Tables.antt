@@ -56,9 +56,9 @@ FitsCell v (Number least most f) = (least ≤ f v) × (f v ≤ most)
 FitsCell v (Signed most f) = IsUpTo most (f v)
 
 -- all of them do
-abbrev pub FitsBy : {V : Type 0} → List (Cell V) → V → Type 0
-FitsBy [] v = Unit {0}
-FitsBy (c ∷ cs) v = FitsCell v c × FitsBy cs v
+abbrev pub FitsCells : {V : Type 0} → List (Cell V) → V → Type 0
+FitsCells [] v = Unit {0}
+FitsCells (c ∷ cs) v = FitsCell v c × FitsCells cs v
 
 -- a record all of whose fields are looked at
 abbrev pub table_record : {V : Type 0} → Why → List (Cell V) → (V → Type 0) → Part Row Why V
@@ -71,7 +71,7 @@ word_record gone word cells Fits = record_of (λ v. word ∷ row_by cells v) Fit
 -- a record of one of some kinds, each with a word and a table of its own, and all of one width; only some of the kinds may stand there
 abbrev pub kinds_record : {K : Type 0} (V : K → Type 0) → Why → ℕ → (K → Type 0) → (K → List ℕ) → ((k : K) → List (Cell (V k))) → Part Row Why ((k : K) × V k)
 kinds_record V gone width Stands word_of cells =
-    by_word V (λ k rows. Stands k × NextStarts (word_of k) rows) (λ k. word_record gone (word_of k) (cells k) (λ v. Stands k × FitsBy (cells k) v)) (NextWrong gone (HasNoWord width))
+    by_word V (λ k rows. Stands k × NextStarts (word_of k) rows) (λ k. word_record gone (word_of k) (cells k) (λ v. Stands k × FitsCells (cells k) v)) (NextWrong gone (HasNoWord width))
 
 -- a title begins with the name of its form and a version of it
 abbrev pub IsTitled : List ℕ → ℕ → Row → Type 0

@@ -16,7 +16,7 @@ use Rattle.blk_trace.specs.Traces.{Traced}
 use Rattle.blk_text.specs.Sources.{Row}
 use Rattle.blk_text.specs.Reads.{ended_of, with_next}
 use Rattle.blk_text.specs.Words.{NextStarts}
-use Rattle.blk_text.specs.Tables.{Cell, Blank, Number, FitsBy, IsVersion, title_record, kinds_record, word_record}
+use Rattle.blk_text.specs.Tables.{Cell, Blank, Number, FitsCells, IsVersion, title_record, kinds_record, word_record}
 use Rattle.blk_text.specs.BioTable.{bio_cells, IsNoSuchBio}
 use Rattle.blk_text.specs.SetupRecord.{setup}
 use Rattle.blk_text.specs.Versions.{latest, most_tags}
@@ -110,7 +110,7 @@ IsNoBio version = NextWrong why.Count (λ row w. (over why.Count (first_record v
 -- the record of a bio of a group, by its table
 abbrev pub plain_bio : ℕ → Part Row Why Bio
 plain_bio version =
-    seen_as (λ b. (tt, b)) (by_word {K = Unit {0}} (λ _. Bio) (λ _. NextStarts (codes "bio")) (λ _. word_record why.Count (codes "bio") (bio_cells (2 ^ 8)) (FitsBy (bio_cells (2 ^ 8)))) (IsNoBio version))
+    seen_as (λ b. (tt, b)) (by_word {K = Unit {0}} (λ _. Bio) (λ _. NextStarts (codes "bio")) (λ _. word_record why.Count (codes "bio") (bio_cells (2 ^ 8)) (FitsCells (bio_cells (2 ^ 8)))) (IsNoBio version))
 
 -- the record of a bio that there is
 abbrev pub whole_bio : ℕ → Part Row Why Bio

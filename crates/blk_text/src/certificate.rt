@@ -6,8 +6,8 @@ ghost use Rattle.std.specs.Io.KnownBytes.{Appends};
 ghost use Rattle.csv.specs.Records.{fields_of};
 ghost use Rattle.blk_text.specs.Sources.{Took};
 ghost use Rattle.parts.specs.Parts.{Begins};
-ghost use Rattle.blk_text.specs.Reads.{IsOutside, IsLine, IsWrongLine, Halts, Reaches};
-ghost use Rattle.blk_text.specs.Tables.{IsUpTo, FitsBy, row_by, slots_by, title_by};
+ghost use Rattle.blk_text.specs.Reads.{IsOutside, IsRowOf, IsWrongLine, Halts, Reaches};
+ghost use Rattle.blk_text.specs.Tables.{IsUpTo, FitsCells, row_by, slots_by, title_by};
 ghost use Rattle.blk_text.specs.Fields.{IsSized, FieldsSpell};
 ghost use Rattle.blk_text.specs.declared.fields.Slot.TheVariants as slot;
 ghost use Rattle.blk_text.specs.Words.{StartsWith};
@@ -167,7 +167,7 @@ fn bound_with(row: &ByteRecord, numbers: &[u64; WIDTH], count: u64) -> (i64, Win
     requires starts { StartsWith (codes "bound") (fields_of row.now) }
     requires spells { FieldsSpell (slot.Given ∷ slots_by (bound_cells count)) (fields_of row.now) numbers.now }
     ensures row { fields_of row.now ≡ codes "bound" ∷ row_by (bound_cells count) result }
-    ensures fits { FitsBy (bound_cells count) result }
+    ensures fits { FitsCells (bound_cells count) result }
 {
     let window = Window {
         from: numbers[2],
@@ -197,7 +197,7 @@ fn bound_slots(count: u64) -> [Slot; 4]
 /// The bound of a record that begins with its word, for so many commands.
 fn bound_of(row: &ByteRecord, count: u64) -> Result<Option<(i64, Window)>, Why>
     requires { StartsWith (codes "bound") (fields_of row.now) }
-    ensures ok { IfOk result (IsLine (bound_part count) (fields_of row.now)) }
+    ensures ok { IfOk result (IsRowOf (bound_part count) (fields_of row.now)) }
     ensures err { IfErr result (IsWrongLine (bound_part count) (fields_of row.now)) }
 {
     if is_no_bound(row, count) {

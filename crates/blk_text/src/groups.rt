@@ -3,7 +3,7 @@
 ghost use Rattle.std.specs.Prelude.{◌≡◌, ◌≤◌, ◌<◌, ◌^◌, ◌-◌, ◌+◌, ◌++◌, ◌∷◌, [], codes, length, IsTrue, OnOk, IfOk, IfErr};
 ghost use Rattle.csv.specs.Records.{fields_of};
 ghost use Rattle.blk_bio.specs.Requests.{Fits};
-ghost use Rattle.blk_text.specs.Reads.{IsLine, IsWrongLine, Reads, Fails};
+ghost use Rattle.blk_text.specs.Reads.{IsRowOf, IsWrongLine, Reads, Fails};
 ghost use Rattle.blk_text.specs.Words.{StartsWith};
 ghost use Rattle.blk_text.specs.TraceForm.{whole_bio, group};
 
@@ -21,7 +21,7 @@ use std::io::Read;
 /// The bio of a record that begins with its word.
 fn bio_of(form: &HeadForm, row: &ByteRecord) -> Result<Bio, Why>
     requires { StartsWith (codes "bio") (fields_of row.now) }
-    ensures ok { IfOk result (IsLine (whole_bio form.now.version) (fields_of row.now)) }
+    ensures ok { IfOk result (IsRowOf (whole_bio form.now.version) (fields_of row.now)) }
     ensures err { IfErr result (IsWrongLine (whole_bio form.now.version) (fields_of row.now)) }
 {
     let _ = form.version;
@@ -46,7 +46,7 @@ fn bio_of(form: &HeadForm, row: &ByteRecord) -> Result<Bio, Why>
 
 /// The bio of a record of a group. Another event's record comes too soon there.
 fn bio_line(form: &HeadForm, row: &ByteRecord) -> Result<Bio, Why>
-    ensures ok { IfOk result (IsLine (whole_bio form.now.version) (fields_of row.now)) }
+    ensures ok { IfOk result (IsRowOf (whole_bio form.now.version) (fields_of row.now)) }
     ensures err { IfErr result (IsWrongLine (whole_bio form.now.version) (fields_of row.now)) }
 {
     if begins_with(row, b"bio") {

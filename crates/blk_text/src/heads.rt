@@ -3,7 +3,7 @@
 ghost use Rattle.std.specs.Prelude.{◌≡◌, ◌∷◌, MatchOption, IfOk, IfErr};
 ghost use Rattle.csv.specs.Records.{fields_of};
 ghost use Rattle.blk_text.specs.Fields.{FieldsSpell};
-ghost use Rattle.blk_text.specs.Reads.{IsLine, IsWrongLine};
+ghost use Rattle.blk_text.specs.Reads.{IsRowOf, IsWrongLine};
 ghost use Rattle.blk_text.specs.Tables.{slots_by};
 ghost use Rattle.blk_text.specs.Words.{StartsWith};
 ghost use Rattle.blk_text.specs.TraceForm.{EventStandsIn, word_of, head_cells, first_record};
@@ -102,7 +102,7 @@ fn head_of(form: &HeadForm, word: EventWord, row: &ByteRecord, numbers: &[u64; W
     requires stands { EventStandsIn form.now.version word }
     requires starts { StartsWith (word_of word) (fields_of row.now) }
     requires spells { FieldsSpell (slot.Given ∷ slots_by (head_cells word)) (fields_of row.now) numbers.now }
-    ensures { IsLine (first_record form.now.version) (fields_of row.now) result }
+    ensures { IsRowOf (first_record form.now.version) (fields_of row.now) result }
 {
     match word {
         EventWord::Tick => Head::Tick,

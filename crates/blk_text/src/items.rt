@@ -5,7 +5,7 @@ ghost use Rattle.csv.specs.Records.{fields_of};
 ghost use Rattle.blk_text.specs.Sources.{Row};
 ghost use Rattle.blk_text.specs.declared.fault.Why.{Why as AWhy};
 ghost use Rattle.parts.specs.Parts.{Part, Begins, IsCount, most_of};
-ghost use Rattle.blk_text.specs.Reads.{Reads, HandFails, Fails, Halts, Gathers, AreGathered, IsLine, IsWrongLine, IsOne, IsStopped, beyond_of, items_of, repeated};
+ghost use Rattle.blk_text.specs.Reads.{Reads, HandFails, Fails, Halts, Gathers, AreGathered, IsRowOf, IsWrongLine, IsOne, IsStopped, beyond_of, items_of, repeated};
 
 use crate::fault::{TextFault, Why};
 use crate::source::Records;
@@ -27,7 +27,7 @@ pub trait LineForm {
 
     /// The line that a record spells, or the first thing that is wrong with it.
     fn line(&self, row: &ByteRecord) -> Result<Self::Line, Why>
-        ensures ok { IfOk result (IsLine (part self.now) (fields_of row.now)) }
+        ensures ok { IfOk result (IsRowOf (part self.now) (fields_of row.now)) }
         ensures err { IfErr result (IsWrongLine (part self.now) (fields_of row.now)) };
 }
 

@@ -6,7 +6,7 @@ ghost use Rattle.std.specs.Io.KnownBytes.{Appends};
 ghost use Rattle.csv.specs.Records.{fields_of};
 ghost use Rattle.edd_check.specs.Window.{WindowInRange};
 ghost use Rattle.parts.specs.Parts.{Begins};
-ghost use Rattle.blk_text.specs.Reads.{IsOutside, IsLine, IsWrongLine, Reads, Halts, Reaches};
+ghost use Rattle.blk_text.specs.Reads.{IsOutside, IsRowOf, IsWrongLine, Reads, Halts, Reaches};
 ghost use Rattle.blk_text.specs.Tables.{row_by, title_by};
 ghost use Rattle.blk_text.specs.Texts.{rows_text, AppendsPart};
 ghost use Rattle.blk_text.specs.Drafts.{drafted};

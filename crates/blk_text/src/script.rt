@@ -2,7 +2,7 @@
 
 ghost use Rattle.std.specs.Prelude.{◌≡◌, ◌⊎◌, ◌+◌, ◌≤◌, ◌<◌, ◌∷◌, ℕ, IfOk, IfErr, IfSome, MatchOption, codes, length};
 ghost use Rattle.csv.specs.Records.{fields_of};
-ghost use Rattle.blk_text.specs.Reads.{IsOutside, IsLine, IsWrongLine, Reaches};
+ghost use Rattle.blk_text.specs.Reads.{IsOutside, IsRowOf, IsWrongLine, Reaches};
 ghost use Rattle.blk_text.specs.Tables.{slots_by};
 ghost use Rattle.blk_text.specs.Words.{StartsWith};
 ghost use Rattle.blk_text.specs.Fields.{FieldsSpell};
@@ -168,7 +168,7 @@ fn step_of(
     requires stands { StepStandsIn form.now.version word }
     requires starts { StartsWith (word_of word) (fields_of row.now) }
     requires spells { FieldsSpell (slot.Given ∷ slots_by (step_cells form.now.hw form.now.submitters word)) (fields_of row.now) numbers.now }
-    ensures ok { IfOk result (IsLine (step form.now.version form.now.hw form.now.submitters) (fields_of row.now)) }
+    ensures ok { IfOk result (IsRowOf (step form.now.version form.now.hw form.now.submitters) (fields_of row.now)) }
     ensures err { IfErr result (IsWrongLine (step form.now.version form.now.hw form.now.submitters) (fields_of row.now)) }
 {
     match word {
@@ -241,7 +241,7 @@ fn bio_of(form: &StepForm, row: &ByteRecord) -> Option<Bio>
 fn slotted_line(form: &StepForm, word: Word, row: &ByteRecord) -> Result<Line, Why>
     requires stands { StepStandsIn form.now.version word }
     requires starts { StartsWith (word_of word) (fields_of row.now) }
-    ensures ok { IfOk result (IsLine (step form.now.version form.now.hw form.now.submitters) (fields_of row.now)) }
+    ensures ok { IfOk result (IsRowOf (step form.now.version form.now.hw form.now.submitters) (fields_of row.now)) }
     ensures err { IfErr result (IsWrongLine (step form.now.version form.now.hw form.now.submitters) (fields_of row.now)) }
 {
     let slots = step_slots(form, word);

@@ -3,7 +3,7 @@
 ghost use Rattle.std.specs.Prelude.{◌≡◌, ◌≤◌, ◌<◌, ◌∷◌, IfOk, IfErr, codes};
 ghost use Rattle.csv.specs.Records.{fields_of};
 ghost use Rattle.blk_text.specs.Fields.{FieldsSpell};
-ghost use Rattle.blk_text.specs.Reads.{IsLine, IsWrongLine};
+ghost use Rattle.blk_text.specs.Reads.{IsRowOf, IsWrongLine};
 ghost use Rattle.blk_text.specs.Words.{StartsWith};
 ghost use Rattle.blk_text.specs.SetupRecord.{setup_cells, setup as setup_part};
 ghost use Rattle.blk_text.specs.Versions.{most_tags};
@@ -41,7 +41,7 @@ fn setup_with(row: &ByteRecord, depth: u64, hw: u8, numbers: &[u64; WIDTH]) -> S
     requires hw { (0 < hw) × (hw ≤ MAX_QUEUES) }
     requires starts { StartsWith (codes "setup") (fields_of row.now) }
     requires spells { FieldsSpell (slot.Given ∷ slots_by setup_cells) (fields_of row.now) numbers.now }
-    ensures { IsLine (setup_part depth hw) (fields_of row.now) result }
+    ensures { IsRowOf (setup_part depth hw) (fields_of row.now) result }
 {
     match Limits::new(numbers[3], numbers[4]) {
         Ok(limits) => match Setup::new(depth, hw, numbers[1], numbers[2], limits) {
@@ -56,7 +56,7 @@ fn setup_with(row: &ByteRecord, depth: u64, hw: u8, numbers: &[u64; WIDTH]) -> S
 fn setup_at(row: &ByteRecord, depth: u64, hw: u8) -> Result<Setup, Why>
     requires depth { (0 < depth) × (depth ≤ MAX_DEPTH) }
     requires hw { (0 < hw) × (hw ≤ MAX_QUEUES) }
-    ensures ok { IfOk result (IsLine (setup_part depth hw) (fields_of row.now)) }
+    ensures ok { IfOk result (IsRowOf (setup_part depth hw) (fields_of row.now)) }
     ensures err { IfErr result (IsWrongLine (setup_part depth hw) (fields_of row.now)) }
 {
     if !begins_with(row, b"setup") {

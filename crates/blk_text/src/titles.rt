@@ -2,7 +2,7 @@
 
 ghost use Rattle.std.specs.Prelude.{◌<◌, ◌^◌, length, IfOk, IfErr};
 ghost use Rattle.csv.specs.Records.{fields_of};
-ghost use Rattle.blk_text.specs.Reads.{IsLine, IsWrongLine};
+ghost use Rattle.blk_text.specs.Reads.{IsRowOf, IsWrongLine};
 ghost use Rattle.blk_text.specs.Titles.{counted_title as title_part};
 
 use crate::fault::Why;
@@ -12,7 +12,7 @@ use edd_check::{MOST_COMMANDS, MOST_DEPTH};
 
 /// The version, the depth and the number of commands of a title record of the form of this name.
 pub(crate) fn counted_title(row: &ByteRecord, name: &[u8]) -> Result<(u64, (u64, u64)), Why>
-    ensures ok { IfOk result (IsLine (title_part name.now) (fields_of row.now)) }
+    ensures ok { IfOk result (IsRowOf (title_part name.now) (fields_of row.now)) }
     ensures err { IfErr result (IsWrongLine (title_part name.now) (fields_of row.now)) }
 {
     let Some(version) = version_of(row, name, 1) else {

@@ -4,7 +4,7 @@ use Rattle.std.specs.Prelude.{◌⊎◌}
 use Rattle.std.proofs.lemmas.List.{length-append}
 use Rattle.parts.specs.declared.Repeats.{Repeats}
 use Rattle.parts.specs.declared.Repeats.TheVariants as repeats
-use Rattle.parts.specs.Parts.{Part, Begins, IsReached, after, all_rows, AllFit, IsCount, Stops, GoesOn, GoodBefore, most_of, many, over, ended}
+use Rattle.parts.specs.Parts.{Part, Begins, GetsTo, after, all_rows, AllFit, IsCount, Stops, GoesOn, GoodBefore, most_of, many, over, ended}
 use Rattle.parts.specs.Laws.{Tells, Either, Decides, IsPlain}
 use Rattle.parts.proofs.Then.{then_tells, then_decides, over_tells, over_decides, seen_tells, seen_decides, at_first, seen_reached, reached_first, reached_second, after_all_reached}
 
@@ -192,8 +192,8 @@ many_decides (repeats.Exactly n) q next d s rows = decide (repeats.Exactly n) q 
 
 -- no record before the one at a place in an item is wrong
 pub reached_many : {R E S V : Type 0} (x : Repeats) (q : S → Part R E V) (next : S → V → S) → ((s : S) → Tells (q s)) → ((s : S) → IsPlain (q s)) → HasRows q → (s : S)
-    → (rows rest : List R) (vs : List V) (at : ℕ) → AllFit q next s vs → rows ≡ all_rows q next s vs ++ rest → GoesOn x (length vs) rest → IsReached (q (after next s vs)) rest at
-    → IsReached (many x q next s) rows (length (all_rows q next s vs) + at)
+    → (rows rest : List R) (vs : List V) (at : ℕ) → AllFit q next s vs → rows ≡ all_rows q next s vs ++ rest → GoesOn x (length vs) rest → GetsTo (q (after next s vs)) rest at
+    → GetsTo (many x q next s) rows (length (all_rows q next s vs) + at)
 reached_many {R} {E} {S} {V} x q next t plain some s rows rest vs at f e on r = record { far = far; good = good; within = within }
   where
     far : length (all_rows q next s vs) + at ≤ length rows + 1
@@ -274,7 +274,7 @@ over_or_on (repeats.Exactly n) c rest l = elim (less c n l) [
 
 -- the record at which an item begins after good ones is reached
 pub ended_reached : {R E S V W : Type 0} (x : Repeats) (why : E) (q : S → Part R E V) (past : S → Part R E W) (next : S → V → S) → ((s : S) → Tells (q s)) → ((s : S) → IsPlain (q s)) → HasRows q → ((s : S) → Tells (past s)) → (s : S)
-    → (rows : List R) (at : ℕ) → GoodBefore x q next s rows at → IsReached (ended x why q past next s) rows at
+    → (rows : List R) (at : ℕ) → GoodBefore x q next s rows at → GetsTo (ended x why q past next s) rows at
 ended_reached {R} {E} {S} {V} x why q past next t plain some u s rows at b = rw b.5 (elim (over_or_on x (length b.0) b.1 b.4) [
   | inl o ↦ seen_reached (λ vs. (vs, tt)) _ rows _ (reached_second (many x q next s) (λ vs. over why (past (after next s vs))) (many_tells x q next t plain some s) rows b.1 b.0 1
       (record { fits = (b.2, o.0); made = b.3; follows = o.1 }) (at_first _ (over_tells why (past (after next s b.0)) (u (after next s b.0))) b.1))
@@ -284,7 +284,7 @@ ended_reached {R} {E} {S} {V} x why q past next t plain some u s rows at b = rw 
 
 -- the same of items that something else may follow
 pub many_reached : {R E S V : Type 0} (x : Repeats) (q : S → Part R E V) (next : S → V → S) → ((s : S) → Tells (q s)) → ((s : S) → IsPlain (q s)) → HasRows q → (s : S)
-    → (rows : List R) (at : ℕ) → GoodBefore x q next s rows at → IsReached (many x q next s) rows at
+    → (rows : List R) (at : ℕ) → GoodBefore x q next s rows at → GetsTo (many x q next s) rows at
 many_reached {R} {E} {S} {V} x q next t plain some s rows at b = rw b.5 (elim (over_or_on x (length b.0) b.1 b.4) [
   | inl o ↦ after_all_reached (many x q next s) (many_tells x q next t plain some s) rows b.0 b.1 (record { fits = (b.2, o.0); made = b.3; follows = o.1 })
   | inr on ↦ reached_many x q next t plain some s rows b.1 b.0 1 b.2 b.3 on (at_first _ (t (after next s b.0)) b.1)

@@ -3,7 +3,7 @@ use Rattle.std.proofs.Common.{◌≡◌, ◌+◌, ◌≤◌, ◌∙◌, ℕ, Lis
 use Rattle.std.specs.Prelude.{◌⊎◌}
 use mathlib.Core.Path.{path_j}
 use Rattle.std.proofs.lemmas.List.{length-append}
-use Rattle.parts.specs.Parts.{Part, Begins, IsReached, NextWrong, record_of, then, over, seen_as, tested, by_word, told_as}
+use Rattle.parts.specs.Parts.{Part, Begins, GetsTo, NextWrong, record_of, then, over, seen_as, tested, by_word, told_as}
 use Rattle.parts.specs.Laws.{Tells, TellsRecord, Either, Decides, DecidesRecord, IsPlain}
 
 abbrev Same : {K : Type 0} → (V : K → Type 0) → (i : K) × V i → (i : K) × V i → Type 0
@@ -119,7 +119,7 @@ then_decides {R} {E} {V} {W} p q d s rows = elim (d rows) [
 
 -- no fault before a record of the first part
 pub reached_first : {R E V W : Type 0} (p : Part R E V) (q : V → Part R E W) → ((v : V) → p.Fits v → Tells (q v)) → (rows : List R) (at : ℕ)
-    → IsReached p rows at → IsReached (then p q) rows at
+    → GetsTo p rows at → GetsTo (then p q) rows at
 reached_first {R} {E} {V} {W} p q s rows at r = record {
   far = r.far;
   good = good;
@@ -139,7 +139,7 @@ reached_first {R} {E} {V} {W} p q s rows at r = record {
 
 -- nor before one of the second part
 pub reached_second : {R E V W : Type 0} (p : Part R E V) (q : V → Part R E W) → Tells p → (rows mid : List R) (v : V) (at : ℕ)
-    → Begins p rows v mid → IsReached (q v) mid at → IsReached (then p q) rows (length (p.rows_of v) + at)
+    → Begins p rows v mid → GetsTo (q v) mid at → GetsTo (then p q) rows (length (p.rows_of v) + at)
 reached_second {R} {E} {V} {W} p q t rows mid v at h r = record {
   far = (
       let all : length rows ≡ length (p.rows_of v ++ mid) = ap length h.made in
@@ -169,14 +169,14 @@ reached_second {R} {E} {V} {W} p q t rows mid v at h r = record {
         omega (arith, inside, same, second, length-append (p.rows_of u.0) ((q u.0).rows_of u.1))
 
 -- the first record is always reached
-pub at_first : {R E V : Type 0} (p : Part R E V) → Tells p → (rows : List R) → IsReached p rows 1
+pub at_first : {R E V : Type 0} (p : Part R E V) → Tells p → (rows : List R) → GetsTo p rows 1
 at_first p t rows = record { far = omega arith; good = λ k w f. (t.near rows k w f).0; within = λ v rest h. omega arith }
 
-pub seen_reached : {R E V U : Type 0} (g : U → V) (p : Part R E V) (rows : List R) (at : ℕ) → IsReached p rows at → IsReached (seen_as g p) rows at
+pub seen_reached : {R E V U : Type 0} (g : U → V) (p : Part R E V) (rows : List R) (at : ℕ) → GetsTo p rows at → GetsTo (seen_as g p) rows at
 seen_reached g p rows at r = record { far = r.far; good = r.good; within = λ u rest h. r.within (g u) rest (record { fits = h.fits; made = h.made; follows = h.follows }) }
 
 -- the record of a fault is reached
-pub wrong_reached : {R E V : Type 0} (p : Part R E V) → Tells p → (rows : List R) (at : ℕ) (w : E) → p.Wrong rows at w → IsReached p rows at
+pub wrong_reached : {R E V : Type 0} (p : Part R E V) → Tells p → (rows : List R) (at : ℕ) (w : E) → p.Wrong rows at w → GetsTo p rows at
 wrong_reached p t rows at w f = record {
   far = (t.near rows at w f).1;
   good = λ k x g. (let e = (t.first rows at k w x f g).0 in omega (arith, e));
@@ -184,7 +184,7 @@ wrong_reached p t rows at w f = record {
 }
 
 -- the record after those of a value is reached
-pub after_all_reached : {R E V : Type 0} (p : Part R E V) → Tells p → (rows : List R) (v : V) (rest : List R) → Begins p rows v rest → IsReached p rows (length (p.rows_of v) + 1)
+pub after_all_reached : {R E V : Type 0} (p : Part R E V) → Tells p → (rows : List R) (v : V) (rest : List R) → Begins p rows v rest → GetsTo p rows (length (p.rows_of v) + 1)
 after_all_reached p t rows v rest h = record {
   far = (let all : length rows ≡ length (p.rows_of v ++ rest) = ap length h.made in omega (arith, all, length-append (p.rows_of v) rest));
   good = λ k w f. absurd (t.apart rows v rest k w h f);
@@ -344,26 +344,26 @@ by_word_plain V StartsWith q NoKind t v rest fit = t v.0 v.1 rest fit
 pub kind_reached : {R E K : Type 0} (V : K → Type 0) (StartsWith : K → List R → Type 0) (q : (i : K) → Part R E (V i)) (NoKind : List R → E → Type 0)
     → ((i j : K) (rows : List R) → StartsWith i rows → StartsWith j rows → i ≡ j)
     → ((i : K) (rows : List R) (v : V i) (a : List R) → Begins (q i) rows v a → StartsWith i rows)
-    → (i : K) (rows : List R) (at : ℕ) → StartsWith i rows → IsReached (q i) rows at → IsReached (by_word V StartsWith q NoKind) rows at
+    → (i : K) (rows : List R) (at : ℕ) → StartsWith i rows → GetsTo (q i) rows at → GetsTo (by_word V StartsWith q NoKind) rows at
 kind_reached {R} {E} {K} V StartsWith q NoKind kind starts i rows at s r = record { far = r.far; good = good; within = within }
   where
     good : (k : ℕ) (w : E) → (by_word V StartsWith q NoKind).Wrong rows k w → at ≤ k
-    good k w (inl f) = (subst (λ z. IsReached (q z) rows at) (kind i f.0 rows s f.1) r).good k w f.2
+    good k w (inl f) = (subst (λ z. GetsTo (q z) rows at) (kind i f.0 rows s f.1) r).good k w f.2
     good k w (inr f) = absurd (f.1 i s)
 
     within : (v : (i : K) × V i) (rest : List R) → Begins (by_word V StartsWith q NoKind) rows v rest → at ≤ length ((q v.0).rows_of v.1) + 1
     within v rest h =
         let this : Begins (q v.0) rows v.1 rest = record { fits = h.fits; made = h.made; follows = h.follows } in
-        (subst (λ z. IsReached (q z) rows at) (kind i v.0 rows s (starts v.0 rows v.1 rest this)) r).within v.1 rest this
+        (subst (λ z. GetsTo (q z) rows at) (kind i v.0 rows s (starts v.0 rows v.1 rest this)) r).within v.1 rest this
 
 -- what is reached in parts that those of each kind begin with is reached
 pub kinds_reached : {R E K : Type 0} (V W : K → Type 0) (StartsWith : K → List R → Type 0) (p : (i : K) → Part R E (V i)) (q : (i : K) → Part R E (W i)) (NoKind : List R → E → Type 0)
     → ((i : K) (rows : List R) (v : W i) (a : List R) → Begins (q i) rows v a → StartsWith i rows)
-    → ((i : K) (rows : List R) (at : ℕ) → IsReached (p i) rows at → IsReached (q i) rows at)
-    → (rows : List R) (at : ℕ) → IsReached (by_word V StartsWith p NoKind) rows at → IsReached (by_word W StartsWith q NoKind) rows at
+    → ((i : K) (rows : List R) (at : ℕ) → GetsTo (p i) rows at → GetsTo (q i) rows at)
+    → (rows : List R) (at : ℕ) → GetsTo (by_word V StartsWith p NoKind) rows at → GetsTo (by_word W StartsWith q NoKind) rows at
 kinds_reached {R} {E} {K} V W StartsWith p q NoKind starts lift rows at r = record { far = r.far; good = good; within = within }
   where
-    this : (i : K) → StartsWith i rows → IsReached (p i) rows at
+    this : (i : K) → StartsWith i rows → GetsTo (p i) rows at
     this i s = record { far = r.far; good = λ k w f. r.good k w (inl (i, s, f)); within = λ v rest h. r.within (i, v) rest (record { fits = h.fits; made = h.made; follows = h.follows }) }
 
     good : (k : ℕ) (w : E) → (by_word W StartsWith q NoKind).Wrong rows k w → at ≤ k

@@ -18,7 +18,7 @@ pub record Begins {R E V : Type 0} (p : Part R E V) (rows : List R) (v : V) (res
   pub follows : p.Follows v rest
 
 -- no record before the one at this place is wrong, the part is not over before it, and it is at most one past the last
-pub record IsReached {R E V : Type 0} (p : Part R E V) (rows : List R) (at : ℕ) : Type 0 where
+pub record GetsTo {R E V : Type 0} (p : Part R E V) (rows : List R) (at : ℕ) : Type 0 where
   pub far : at ≤ length rows + 1
   pub good : (k : ℕ) → (w : E) → p.Wrong rows k w → at ≤ k
   pub within : (v : V) → (rest : List R) → Begins p rows v rest → at ≤ length (p.rows_of v) + 1

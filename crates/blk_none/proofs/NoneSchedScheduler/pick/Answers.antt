@@ -1,7 +1,7 @@
 use Rattle.std.proofs.Common.{◌≡◌, ◌∙◌, ◌-◌, set, refl, ap, true}
 use Rattle.blk_bio.specs.Requests.{dir_of}
 use Rattle.blk_sched.specs.Meaning.{Waiting, Meaning, OpenPicks, opened}
-use Rattle.blk_none.specs.Inside.Kept.{pending_of}
+use Rattle.blk_none.specs.Inside.Laned.{pending_of}
 use Rattle.blk_none.proofs.Turns.{lane_is, some_wait, picked_kept, chosen, none_served, none_chosen, picked}
 use Rattle.blk_none.proofs.NoneSchedScheduler.pick.Goals as goal
 

@@ -1,7 +1,7 @@
 use Rattle.std.proofs.Common.{[], refl, sym, subst, arith}
 use Rattle.csv.specs.Records.{fields_of}
 use Rattle.blk_trace.specs.Seen.{happened}
-use Rattle.blk_text.specs.Reads.{IsLine}
+use Rattle.blk_text.specs.Reads.{IsRowOf}
 use Rattle.blk_text.specs.TraceForm.{first_record, plain_event}
 use Rattle.blk_text.specs.declared.heads.Head.TheVariants as head
 use Rattle.blk_text.proofs.Reading.{hand_reads}
@@ -26,12 +26,12 @@ read_group-requires-clause-some g c = release_count c.args.form.version c.in-Rel
 
 pub returns-in-Ok-read_group-clause-ok : goal.returns-in-Ok-read_group-clause-ok
 returns-in-Ok-read_group-clause-ok g c =
-    let line = subst (λ h. IsLine (first_record c.args.form.version) c.args.records.now.fields h) c.in-Release.is (rw c.row.ensures at c.in-Ok.ensures.ok) in
+    let line = subst (λ h. IsRowOf (first_record c.args.form.version) c.args.records.now.fields h) c.in-Release.is (rw c.row.ensures at c.in-Ok.ensures.ok) in
     release_reads c.args.form.version c.args.limits c.in-Release.id c.in-Release.bios c.in-Ok-read_group.request c.args.records.now.left _ c.args.records.now.fields c.in-Ok-read_group.ensures.fits.1 line c.in-Ok-read_group.ensures.ok
 
 pub returns-in-Ok-read_group-clause-fits : goal.returns-in-Ok-read_group-clause-fits
 returns-in-Ok-read_group-clause-fits g c =
-    let line = subst (λ h. IsLine (first_record c.args.form.version) c.args.records.now.fields h) c.in-Release.is (rw c.row.ensures at c.in-Ok.ensures.ok) in
+    let line = subst (λ h. IsRowOf (first_record c.args.form.version) c.args.records.now.fields h) c.in-Release.is (rw c.row.ensures at c.in-Ok.ensures.ok) in
     release_fits c.args.form.version c.args.limits c.in-Release.id c.in-Release.bios c.in-Ok-read_group.request c.args.records.now.fields line c.in-Ok-read_group.ensures.fits
 
 pub returns-in-Ok-read_group-clause-end : goal.returns-in-Ok-read_group-clause-end
@@ -47,7 +47,7 @@ returns-in-Ok-read_group-clause-reads g c =
 
 pub returns-in-Err-read_group-clause-err : goal.returns-in-Err-read_group-clause-err
 returns-in-Err-read_group-clause-err g c =
-    let line = subst (λ h. IsLine (first_record c.args.form.version) c.args.records.now.fields h) c.in-Release.is (rw c.row.ensures at c.in-Ok.ensures.ok) in
+    let line = subst (λ h. IsRowOf (first_record c.args.form.version) c.args.records.now.fields h) c.in-Release.is (rw c.row.ensures at c.in-Ok.ensures.ok) in
     group_fails c.args.form.version c.args.limits (head.Release c.in-Release.id c.in-Release.bios) _ c.args.records.now.left c.args.records.now.fields c.args.records.now.at c.args.records.now.at c.in-Err-read_group.fault.at c.in-Err-read_group.fault.why refl line c.in-Err-read_group.ensures.err
 
 pub returns-in-Err-read_group-clause-reads : goal.returns-in-Err-read_group-clause-reads
@@ -61,12 +61,12 @@ read_group-requires-in-Join-clause-some g c = join_count c.args.form.version c.i
 
 pub returns-in-Ok-read_group-2-clause-ok : goal.returns-in-Ok-read_group-2-clause-ok
 returns-in-Ok-read_group-2-clause-ok g c =
-    let line = subst (λ h. IsLine (first_record c.args.form.version) c.args.records.now.fields h) c.in-Join.is (rw c.row.ensures at c.in-Ok.ensures.ok) in
+    let line = subst (λ h. IsRowOf (first_record c.args.form.version) c.args.records.now.fields h) c.in-Join.is (rw c.row.ensures at c.in-Ok.ensures.ok) in
     join_reads c.args.form.version c.args.limits c.in-Join.id c.in-Join.bios c.in-Ok-read_group-2.request c.args.records.now.left _ c.args.records.now.fields c.in-Ok-read_group-2.ensures.fits.1 line c.in-Ok-read_group-2.ensures.ok
 
 pub returns-in-Ok-read_group-2-clause-fits : goal.returns-in-Ok-read_group-2-clause-fits
 returns-in-Ok-read_group-2-clause-fits g c =
-    let line = subst (λ h. IsLine (first_record c.args.form.version) c.args.records.now.fields h) c.in-Join.is (rw c.row.ensures at c.in-Ok.ensures.ok) in
+    let line = subst (λ h. IsRowOf (first_record c.args.form.version) c.args.records.now.fields h) c.in-Join.is (rw c.row.ensures at c.in-Ok.ensures.ok) in
     join_fits c.args.form.version c.args.limits c.in-Join.id c.in-Join.bios c.in-Ok-read_group-2.request c.args.records.now.fields line c.in-Ok-read_group-2.ensures.fits
 
 pub returns-in-Ok-read_group-2-clause-end : goal.returns-in-Ok-read_group-2-clause-end
@@ -82,7 +82,7 @@ returns-in-Ok-read_group-2-clause-reads g c =
 
 pub returns-in-Err-read_group-2-clause-err : goal.returns-in-Err-read_group-2-clause-err
 returns-in-Err-read_group-2-clause-err g c =
-    let line = subst (λ h. IsLine (first_record c.args.form.version) c.args.records.now.fields h) c.in-Join.is (rw c.row.ensures at c.in-Ok.ensures.ok) in
+    let line = subst (λ h. IsRowOf (first_record c.args.form.version) c.args.records.now.fields h) c.in-Join.is (rw c.row.ensures at c.in-Ok.ensures.ok) in
     group_fails c.args.form.version c.args.limits (head.Join c.in-Join.id c.in-Join.bios) _ c.args.records.now.left c.args.records.now.fields c.args.records.now.at c.args.records.now.at c.in-Err-read_group-2.fault.at c.in-Err-read_group-2.fault.why refl line c.in-Err-read_group-2.ensures.err
 
 pub returns-in-Err-read_group-2-clause-reads : goal.returns-in-Err-read_group-2-clause-reads
