@@ -15,7 +15,7 @@ use Rattle.blk_sched.specs.Fits.{HasFit}
 use Rattle.blk_sched.specs.Inside.Shelves.{JoinsOne}
 use Rattle.blk_sched.specs.Inside.Spots.{Place, Spot, place_cmp, is_write, is_placed, AreSpots, Adds, Takes, first_at, end_at}
 use Rattle.blk_sched.specs.Inside.Heads.{Becomes}
-use Rattle.blk_sched.specs.Index.{at_of, joined_extent, IsJoined}
+use Rattle.blk_sched.specs.Index.{at_of, IsJoined}
 use Rattle.blk_sched.proofs.Listed.{same_place, is_equal}
 use Rattle.blk_sched.proofs.Indexed.{Found, Has, moved, stayed, kept, becomes_given}
 
@@ -61,16 +61,16 @@ last_stays limits [] newcomer fits = ap last_of (append_none newcomer) ∙ fits.
 last_stays limits (x ∷ xs) newcomer fits = last_both newcomer x xs
 
 -- where it lies at the side then
-pub at_joined : (limits : Limits) (bios newcomer : List Bio) (s : ℕ) (side : Side) → Fits limits bios newcomer side → 0 < s → first_of newcomer + s ≡ last_of newcomer → at_of side (extent_of (joined bios newcomer side)) ≡ at_of side (joined_extent side (extent_of bios) (extent_of newcomer))
+pub at_joined : (limits : Limits) (bios newcomer : List Bio) (s : ℕ) (side : Side) → Fits limits bios newcomer side → 0 < s → first_of newcomer + s ≡ last_of newcomer → at_of side (extent_of (joined bios newcomer side)) ≡ at_of side (extent_of newcomer)
 at_joined limits bios newcomer s Back fits some range =
-    ap (λ (d : Dir). let p : Place = (is_write d, last_of (bios ++ newcomer)) in p) (dir_stays limits bios newcomer Back fits)
-    ∙ ap (λ (n : ℕ). let p : Place = (is_write (dir_of bios), n) in p) (last_joined bios newcomer s some range)
+    ap (λ (d : Dir). let p : Place = (is_write d, last_of (bios ++ newcomer)) in p) (dir_stays limits bios newcomer Back fits ∙ sym fits.same_direction)
+    ∙ ap (λ (n : ℕ). let p : Place = (is_write (dir_of newcomer), n) in p) (last_joined bios newcomer s some range)
 at_joined limits bios newcomer s Front fits some range =
-    ap (λ (d : Dir). let p : Place = (is_write d, first_of (newcomer ++ bios)) in p) (dir_stays limits bios newcomer Front fits)
-    ∙ ap (λ (n : ℕ). let p : Place = (is_write (dir_of bios), n) in p) (first_joined bios newcomer s some range)
+    ap (λ (d : Dir). let p : Place = (is_write d, first_of (newcomer ++ bios)) in p) (dir_stays limits bios newcomer Front fits ∙ sym fits.same_direction)
+    ∙ ap (λ (n : ℕ). let p : Place = (is_write (dir_of newcomer), n) in p) (first_joined bios newcomer s some range)
 
 -- it lies elsewhere than before
-apart_at : (limits : Limits) (bios newcomer : List Bio) (s : ℕ) (side : Side) → Fits limits bios newcomer side → 0 < s → first_of newcomer + s ≡ last_of newcomer → at_of side (extent_of bios) ≡ at_of side (joined_extent side (extent_of bios) (extent_of newcomer)) → ⊥
+apart_at : (limits : Limits) (bios newcomer : List Bio) (s : ℕ) (side : Side) → Fits limits bios newcomer side → 0 < s → first_of newcomer + s ≡ last_of newcomer → at_of side (extent_of bios) ≡ at_of side (extent_of newcomer) → ⊥
 apart_at limits bios newcomer s Back fits some range same = let e : last_of bios ≡ last_of newcomer = ap (λ (p : Place). p.1) same in let b : first_of newcomer ≡ last_of bios = fits.abuts in omega arith
 apart_at limits bios newcomer s Front fits some range same = let e : first_of bios ≡ first_of newcomer = ap (λ (p : Place). p.1) same in let b : last_of newcomer ≡ first_of bios = fits.abuts in omega arith
 
@@ -94,10 +94,10 @@ fits_it limits old id side newcomer v found fit =
     subst (λ (x : Waiting). Fits limits x.bios newcomer side) same fit.2
 
 -- no request is at the new place under this id
-pub new_spot : (limits : Limits) (old : Found) (has : Has) (id s : ℕ) (side : Side) (newcomer : List Bio) (v : Waiting) (spot : Spot) → AreSpots (at_of side) old has → old id ≡ Some v → HasFit limits old newcomer id side → 0 < s → first_of newcomer + s ≡ last_of newcomer → spot ≡ (at_of side (joined_extent side (extent_of v.bios) (extent_of newcomer)), id) → has spot ≡ false
+pub new_spot : (limits : Limits) (old : Found) (has : Has) (id s : ℕ) (side : Side) (newcomer : List Bio) (v : Waiting) (spot : Spot) → AreSpots (at_of side) old has → old id ≡ Some v → HasFit limits old newcomer id side → 0 < s → first_of newcomer + s ≡ last_of newcomer → spot ≡ (at_of side (extent_of newcomer), id) → has spot ≡ false
 new_spot limits old has id s side newcomer v spot spots found fit some range is =
     let there = at_of side (extent_of v.bios) in
-    let then = at_of side (joined_extent side (extent_of v.bios) (extent_of newcomer)) in
+    let then = at_of side (extent_of newcomer) in
     let fits = fits_it limits old id side newcomer v found fit in
     ap has is ∙ spots then id ∙ ap (is_placed (at_of side) then) found
     ∙ elim (eq_by_cmp place_cmp there then) as (λ b. eq_by_cmp place_cmp there then ≡ b → b ≡ false) [
@@ -105,10 +105,10 @@ new_spot limits old has id s side newcomer v spot spots found fit some range is 
       | false ↦ λ _. refl
     ] refl
 
-pub spots_moved : (limits : Limits) (old new : Found) (has mid now : Has) (id s at : ℕ) (side : Side) (newcomer : List Bio) (v w : Waiting) (spot last : Spot) → AreSpots (at_of side) old has → old id ≡ Some v → HasFit limits old newcomer id side → 0 < s → first_of newcomer + s ≡ last_of newcomer → spot ≡ (at_of side (joined_extent side (extent_of v.bios) (extent_of newcomer)), id) → last ≡ (at_of side (extent_of v.bios), id) → w ≡ joined_waiting side at newcomer v → Adds has spot mid → Takes mid last now → Becomes old id (Some w) new → AreSpots (at_of side) new now
+pub spots_moved : (limits : Limits) (old new : Found) (has mid now : Has) (id s at : ℕ) (side : Side) (newcomer : List Bio) (v w : Waiting) (spot last : Spot) → AreSpots (at_of side) old has → old id ≡ Some v → HasFit limits old newcomer id side → 0 < s → first_of newcomer + s ≡ last_of newcomer → spot ≡ (at_of side (extent_of newcomer), id) → last ≡ (at_of side (extent_of v.bios), id) → w ≡ joined_waiting side at newcomer v → Adds has spot mid → Takes mid last now → Becomes old id (Some w) new → AreSpots (at_of side) new now
 spots_moved limits old new has mid now id s at side newcomer v w spot last spots found fit some range is was w_is adds takes becomes =
     let fits = fits_it limits old id side newcomer v found fit in
-    let place : at_of side (joined_extent side (extent_of v.bios) (extent_of newcomer)) ≡ at_of side (extent_of w.bios) = sym (at_joined limits v.bios newcomer s side fits some range) ∙ ap (λ (x : Waiting). at_of side (extent_of x.bios)) (sym w_is) in
+    let place : at_of side (extent_of newcomer) ≡ at_of side (extent_of w.bios) = sym (at_joined limits v.bios newcomer s side fits some range) ∙ ap (λ (x : Waiting). at_of side (extent_of x.bios)) (sym w_is) in
     moved (at_of side) old new id has mid now v w spots found
     (subst (λ (q : Spot). Adds has q mid) (is ∙ ap (λ (p : Place). let q : Spot = (p, id) in q) place) adds)
     (subst (λ (q : Spot). Takes mid q now) was takes)
@@ -116,7 +116,7 @@ spots_moved limits old new has mid now id s at side newcomer v w spot last spots
     becomes
 
 -- the same where the join says its side
-pub spots_joined : (limits : Limits) (old new : Found) (has mid now : Has) (id s at : ℕ) (side other : Side) (newcomer : List Bio) (v w : Waiting) (spot last : Spot) → AreSpots (at_of side) old has → old id ≡ Some v → HasFit limits old newcomer id side → 0 < s → first_of newcomer + s ≡ last_of newcomer → spot ≡ (at_of side (joined_extent side (extent_of v.bios) (extent_of newcomer)), id) → last ≡ (at_of side (extent_of v.bios), id) → ((t : Side) → Fits limits v.bios newcomer t → t ≡ other) → w ≡ joined_waiting other at newcomer v → Adds has spot mid → Takes mid last now → Becomes old id (Some w) new → AreSpots (at_of side) new now
+pub spots_joined : (limits : Limits) (old new : Found) (has mid now : Has) (id s at : ℕ) (side other : Side) (newcomer : List Bio) (v w : Waiting) (spot last : Spot) → AreSpots (at_of side) old has → old id ≡ Some v → HasFit limits old newcomer id side → 0 < s → first_of newcomer + s ≡ last_of newcomer → spot ≡ (at_of side (extent_of newcomer), id) → last ≡ (at_of side (extent_of v.bios), id) → ((t : Side) → Fits limits v.bios newcomer t → t ≡ other) → w ≡ joined_waiting other at newcomer v → Adds has spot mid → Takes mid last now → Becomes old id (Some w) new → AreSpots (at_of side) new now
 spots_joined limits old new has mid now id s at side other newcomer v w spot last spots found fit some range is was only join adds takes becomes =
     spots_moved limits old new has mid now id s at side newcomer v w spot last spots found fit some range is was
     (join ∙ ap (λ (t : Side). joined_waiting t at newcomer v) (sym (only side (fits_it limits old id side newcomer v found fit)))) adds takes becomes

@@ -13,7 +13,7 @@ use Rattle.blk_sched.specs.Meaning.{Waiting, Pending, joined_waiting}
 use Rattle.blk_sched.specs.Fits.{HasFit}
 use Rattle.blk_sched.specs.Inside.Spots.{Spot, Adds, TakesOne, first_at, end_at}
 use Rattle.blk_sched.specs.Inside.Heads.{Becomes, spots_of, HasHeads, Lowers, KeepsLeast, IsEdge}
-use Rattle.blk_sched.specs.Index.{at_of, joined_extent, IsNamed, IsJoined}
+use Rattle.blk_sched.specs.Index.{at_of, IsNamed, IsJoined}
 use Rattle.blk_sched.proofs.Indexed.{Found, named_then, named_same, becomes_given}
 use Rattle.blk_sched.proofs.Join.{fits_it, first_place, end_place, dir_stays, at_joined, spots_moved, new_spot}
 use Rattle.blk_sched.specs.Inside.Ages.{AreAges}
@@ -84,7 +84,7 @@ module _ {T E : Type 0} (limits : Limits) (m n : Pending) (id at : ℕ) (side : 
 -- ---- the edge at the side of the join
 
 module _ (limits : Limits) (old new : Found) (heads mid now : Heads) (others more after : Others) (id s held at : ℕ) (side : Side) (newcomer : List Bio) (v : Waiting) (spot : Spot) (edge : IsEdge (at_of side) old heads others) (found : old id ≡ Some v) (fit : HasFit limits old newcomer id side)
-    (some : 0 < s) (range : first_of newcomer + s ≡ last_of newcomer) (is : spot ≡ (at_of side (joined_extent side (extent_of v.bios) (extent_of newcomer)), id)) (adds : Adds (spots_of heads others) spot (spots_of mid more)) (headed : HasHeads heads others → HasHeads mid more) (lowers : Lowers heads spot.0.1 (held + s) mid)
+    (some : 0 < s) (range : first_of newcomer + s ≡ last_of newcomer) (is : spot ≡ (at_of side (extent_of newcomer), id)) (adds : Adds (spots_of heads others) spot (spots_of mid more)) (headed : HasHeads heads others → HasHeads mid more) (lowers : Lowers heads spot.0.1 (held + s) mid)
     (headed_then : HasHeads mid more → HasHeads now after) (keeps : KeepsLeast mid now) where
   -- where the request lay it lies still
   was_there : (last : Spot) → last ≡ (at_of side (extent_of v.bios), id) → spots_of mid more last ≡ true

@@ -8,8 +8,6 @@ use Rattle.blk_bio.specs.declared.request.Side.TheVariants.{Back, Front}
 use Rattle.blk_bio.specs.Bios.{Bio}
 use Rattle.blk_bio.specs.Limits.{Limits}
 use Rattle.blk_bio.specs.Requests.{Fits}
-use Rattle.blk_bio.specs.Extents.{extent_of}
-use Rattle.blk_sched.specs.Index.{at_of, joined_extent}
 use Rattle.blk_sched.specs.Meaning.{Waiting, joined_waiting}
 use Rattle.blk_sched.specs.Maps.{one_test}
 use Rattle.blk_sched.specs.Fits.{HasFit, JoinsAt}
@@ -65,11 +63,6 @@ pub set_back : (ws : List Waiting) (place : ℕ) (r v : Waiting) → r ≡ get_o
 set_back ws place r v read same = ap (set ws place) (same ∙ read) ∙ set-get_or ws place r
 
 -- ---- a join
-
--- where the joined request lies at its side
-pub spot_then : (side : Side) (before added whole : Extent) (x : Waiting) (newcomer : List Bio) (id : ℕ) (spot : Spot) → before ≡ extent_of x.bios → added ≡ extent_of newcomer → whole ≡ joined_extent side before added → spot ≡ (at_of side whole, id) → spot ≡ (at_of side (joined_extent side (extent_of x.bios) (extent_of newcomer)), id)
-spot_then side before added whole x newcomer id spot before_is added_is whole_is is =
-    is ∙ ap (λ (e : Extent). let q : Spot = (at_of side e, id) in q) (whole_is ∙ ap (λ (e : Extent). joined_extent side e added) before_is ∙ ap (λ (e : Extent). joined_extent side (extent_of x.bios) e) added_is)
 
 pub becomes_joined : (limits : Limits) (ws new : List Waiting) (id at : ℕ) (side : Side) (newcomer : List Bio) → (join : JoinsAt limits at newcomer (waiting_at ws) id side (waiting_at new)) → Becomes (waiting_at ws) id (Some (joined_waiting side at newcomer join.waiting)) (waiting_at new)
 becomes_joined limits ws new id at side newcomer join = becomes_at (waiting_at ws) (waiting_at new) id (Some (joined_waiting side at newcomer join.waiting)) join.is

@@ -10,7 +10,7 @@ use Rattle.blk_bio.specs.Extents.{extent_of}
 use Rattle.blk_sched.specs.Meaning.{Waiting, Pending, joined_waiting}
 use Rattle.blk_sched.specs.Fits.{HasFit}
 use Rattle.blk_sched.specs.Inside.Spots.{Spot, AreSpots, Adds, Takes, first_at}
-use Rattle.blk_sched.specs.Index.{joined_extent, IsJoined}
+use Rattle.blk_sched.specs.Index.{IsJoined}
 use Rattle.blk_sched.proofs.Listed.{undone}
 use Rattle.blk_sched.proofs.Indexed.{Has, absent, entered, taken, kept, becomes_given, becomes_taken, same_without}
 use Rattle.blk_sched.proofs.Join.{spots_moved, new_spot}
@@ -39,10 +39,10 @@ absent_first m n id has spots none out = kept first_at (map.get m) (map.get n) h
 
 -- ---- a join at the front
 
-module _ (limits : Limits) (m n : Pending) (id s at : ℕ) (newcomer : List Bio) (v : Waiting) (before added joined : Extent) (spot last : Spot) (has mid now : Has) (spots : AreSpots first_at (map.get m) has) (found : Some v ≡ map.get m id) (fit : HasFit limits (map.get m) newcomer id Front)
-    (some : 0 < s) (range : first_of newcomer + s ≡ last_of newcomer) (before_is : before ≡ extent_of v.bios) (added_is : added ≡ extent_of newcomer) (joined_is : joined ≡ joined_extent Front before added) (spot_is : spot ≡ (first_at joined, id)) (adds : Adds has spot mid) where
-  spot_then : spot ≡ (first_at (joined_extent Front (extent_of v.bios) (extent_of newcomer)), id)
-  spot_then = spot_is ∙ ap (λ (e : Extent). let q : Spot = (first_at e, id) in q) (joined_is ∙ ap (λ (e : Extent). joined_extent Front e added) before_is ∙ ap (λ (e : Extent). joined_extent Front (extent_of v.bios) e) added_is)
+module _ (limits : Limits) (m n : Pending) (id s at : ℕ) (newcomer : List Bio) (v : Waiting) (before added : Extent) (spot last : Spot) (has mid now : Has) (spots : AreSpots first_at (map.get m) has) (found : Some v ≡ map.get m id) (fit : HasFit limits (map.get m) newcomer id Front)
+    (some : 0 < s) (range : first_of newcomer + s ≡ last_of newcomer) (before_is : before ≡ extent_of v.bios) (added_is : added ≡ extent_of newcomer) (spot_is : spot ≡ (first_at added, id)) (adds : Adds has spot mid) where
+  spot_then : spot ≡ (first_at (extent_of newcomer), id)
+  spot_then = spot_is ∙ ap (λ (e : Extent). let q : Spot = (first_at e, id) in q) added_is
 
   pub joined_ahead : IsJoined at newcomer m id Front n → last ≡ (first_at before, id) → Takes mid last now → AreSpots first_at (map.get n) now
   joined_ahead join last_is takes =

@@ -36,11 +36,6 @@ abbrev pub touch_of : Side → Extent → Place
 touch_of Back e = first_at e
 touch_of Front e = end_at e
 
--- the range of a request and a newcomer together
-abbrev pub joined_extent : Side → Extent → Extent → Extent
-joined_extent Back e n = record e { end = n.end }
-joined_extent Front e n = record e { first = n.first }
-
 -- one request fits at a side, and at no other
 pub record FitsBy (limits : Limits) (found : Option Waiting) (newcomer : List Bio) (side : Side) : Type 0 where
   pub waiting : Waiting

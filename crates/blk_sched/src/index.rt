@@ -13,7 +13,7 @@ ghost use Rattle.std.specs.Prelude.{nat_lt};
 ghost use Rattle.std.specs.Bool.{OnTrue, OnFalse};
 ghost use Rattle.blk_sched.specs.Inside.Heads.{IsEdge};
 ghost use Rattle.blk_sched.specs.Inside.Edges.{heads_in, others_in};
-ghost use Rattle.blk_sched.specs.Index.{IsNewestBy, FitsNoneBy, FitsBy, IsJoined, at_of, touch_of, joined_extent, newer_of, IsOldest, NoneOf};
+ghost use Rattle.blk_sched.specs.Index.{IsNewestBy, FitsNoneBy, FitsBy, IsJoined, at_of, touch_of, newer_of, IsOldest, NoneOf};
 
 use crate::Queued;
 use crate::ages::Ages;
@@ -282,22 +282,6 @@ pub fn newer(back: Option<u64>, ahead: Option<u64>) -> Option<(u64, Side)>
     }
 }
 
-/// The range of a request and a newcomer together.
-pub fn joined_extent(side: Side, request: Extent, newcomer: Extent) -> Extent
-    ensures { result ≡ joined_extent side request newcomer }
-{
-    match side {
-        Side::Back => Extent {
-            end: newcomer.end,
-            ..request
-        },
-        Side::Front => Extent {
-            first: newcomer.first,
-            ..request
-        },
-    }
-}
-
 /// Where a request lies at a side.
 pub fn spot_at(side: Side, extent: Extent, id: u64) -> Spot
     ensures { result ≡ (at_of side extent, id) }
@@ -331,7 +315,7 @@ fn join_in<A: Allocator + Clone>(
         unreachable!()
     };
     let before = extent_of(queued);
-    let spot = spot_at(side, joined_extent(side, before, added), id);
+    let spot = spot_at(side, added, id);
     let Ok(()) = spots.put(spot, sectors_of(queued) + sectors) else {
         return Err(newcomer);
     };

@@ -11,7 +11,7 @@ ghost use Rattle.blk_sched.specs.Index.{IsJoined, IsOldest, IsNext, NoneOf, NoNe
 
 use crate::Queued;
 use crate::firsts::Order;
-use crate::index::{Index, extent_of, id_of, joined_extent};
+use crate::index::{Index, extent_of, id_of};
 use crate::spots::first_spot;
 use blk_bio::{Dir, Limits, Request, Side};
 use std::alloc::{AllocError, Allocator, Global};
@@ -182,7 +182,7 @@ fn join_ahead<A: Allocator + Clone>(
         unreachable!()
     };
     let before = extent_of(queued);
-    let spot = first_spot(joined_extent(Side::Front, before, added), id);
+    let spot = first_spot(added, id);
     let Ok(()) = firsts.put(spot) else {
         return Err(newcomer);
     };

@@ -7,7 +7,7 @@ use Rattle.blk_bio.specs.Extents.{extent_of}
 use Rattle.blk_bio.specs.Requests.{Fits}
 use Rattle.blk_sched.specs.Inside.Spots.{Spot}
 use Rattle.blk_sched.specs.Inside.Edges.{heads_in, others_in}
-use Rattle.blk_sched.specs.Index.{at_of, joined_extent}
+use Rattle.blk_sched.specs.Index.{at_of}
 use Rattle.blk_sched.proofs.Indexed.{becomes_given}
 use Rattle.blk_sched.proofs.Join.{joined_at}
 use Rattle.blk_sched.proofs.Joining.{edge_joined, edge_unjoined}
@@ -22,8 +22,8 @@ returns-in-Ok-join-clause-spots g c =
     let v = c.in-Some.queued.now in
     let one : Some j.waiting ≡ Some v = sym j.was ∙ sym c.in-Some.ensures.value in
     let same : j.waiting ≡ v = cc in
-    let spot : c.spot_at-spot.result ≡ (at_of c.args.side (joined_extent c.args.side (extent_of v.bios) (extent_of c.args.newcomer)), c.args.id) =
-    c.spot_at-spot.ensures ∙ ap (λ (x : Extent). let q : Spot = (at_of c.args.side x, c.args.id) in q) (c.joined_extent.ensures ∙ ap (λ (x : Extent). joined_extent c.args.side x c.extent-added.result) c.extent_of-before.ensures ∙ ap (λ (x : Extent). joined_extent c.args.side (extent_of v.bios) x) c.extent-added.ensures.value) in
+    let spot : c.spot_at-spot.result ≡ (at_of c.args.side (extent_of c.args.newcomer), c.args.id) =
+    c.spot_at-spot.ensures ∙ ap (λ (x : Extent). let q : Spot = (at_of c.args.side x, c.args.id) in q) c.extent-added.ensures.value in
     edge_joined c.args.limits.now (map.get c.args.waiting.now) (map.get c.join.new.self) (heads_in c.args.spots.now) (heads_in c.put.new.self) (heads_in c.take.new.self) (others_in c.args.spots.now) (others_in c.put.new.self) (others_in c.take.new.self)
     c.args.id c.sectors-sectors.result c.sectors_of.result c.args.now c.args.side c.args.newcomer v c.spot_at-spot.result
     c.requires.spots (sym c.in-Some.ensures.value) c.requires.fit c.sectors-sectors.ensures.some c.sectors-sectors.ensures.range spot
@@ -43,8 +43,8 @@ returns-in-Ok-join-clause-joined g c =
 pub returns-in-Err-clause-spots : goal.returns-in-Err-clause-spots
 returns-in-Err-clause-spots g c =
     let v = c.in-Some.queued.now in
-    let spot : c.spot_at-spot.result ≡ (at_of c.args.side (joined_extent c.args.side (extent_of v.bios) (extent_of c.args.newcomer)), c.args.id) =
-    c.spot_at-spot.ensures ∙ ap (λ (x : Extent). let q : Spot = (at_of c.args.side x, c.args.id) in q) (c.joined_extent.ensures ∙ ap (λ (x : Extent). joined_extent c.args.side x c.extent-added.result) c.extent_of-before.ensures ∙ ap (λ (x : Extent). joined_extent c.args.side (extent_of v.bios) x) c.extent-added.ensures.value) in
+    let spot : c.spot_at-spot.result ≡ (at_of c.args.side (extent_of c.args.newcomer), c.args.id) =
+    c.spot_at-spot.ensures ∙ ap (λ (x : Extent). let q : Spot = (at_of c.args.side x, c.args.id) in q) c.extent-added.ensures.value in
     edge_unjoined c.args.limits.now (map.get c.args.waiting.now) (map.get c.join.new.self) (heads_in c.args.spots.now) (heads_in c.put.new.self) (heads_in c.take-in-Err.new.self) (others_in c.args.spots.now) (others_in c.put.new.self) (others_in c.take-in-Err.new.self)
     c.args.id c.sectors-sectors.result c.sectors_of.result c.args.now c.args.side c.args.newcomer v c.spot_at-spot.result
     c.requires.spots (sym c.in-Some.ensures.value) c.requires.fit c.sectors-sectors.ensures.some c.sectors-sectors.ensures.range spot

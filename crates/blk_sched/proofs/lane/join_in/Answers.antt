@@ -9,7 +9,7 @@ use Rattle.blk_sched.specs.Inside.Spots.{Spot}
 use Rattle.blk_sched.specs.Lanes.{waiting_at}
 use Rattle.blk_sched.specs.Meaning.{Waiting, joined_waiting}
 use Rattle.blk_sched.proofs.Joining.{edge_join, edge_unjoined}
-use Rattle.blk_sched.proofs.Laned.{becomes_joined, same_waits, set_back, there_by_fit, spot_then}
+use Rattle.blk_sched.proofs.Laned.{becomes_joined, same_waits, set_back, there_by_fit}
 use Rattle.blk_sched.proofs.Rising.{joined_rising, joined_there, read_there}
 use Rattle.blk_sched.proofs.lane.join_in.Goals as goal
 
@@ -40,7 +40,7 @@ returns-in-Ok-join-clause-spots g c =
     edge_join c.args.limits.now (waiting_at ws) (waiting_at (set ws place c.join.new.self)) (heads_in c.args.spots.now) (heads_in c.put.new.self) (heads_in c.take.new.self) (others_in c.args.spots.now) (others_in c.put.new.self) (others_in c.take.new.self)
     c.args.id c.sectors-sectors.result c.sectors_of-held.result c.args.now c.args.side c.args.newcomer x c.spot_at-spot.result
     c.requires.spots jt.was c.requires.fit c.sectors-sectors.ensures.some c.sectors-sectors.ensures.range
-    (spot_then c.args.side c.extent_of-before.result c.extent-added.result c.joined_extent.result x c.args.newcomer c.args.id c.spot_at-spot.result before c.extent-added.ensures.value c.joined_extent.ensures c.spot_at-spot.ensures)
+    (c.spot_at-spot.ensures ∙ ap (λ (e : Extent). let q : Spot = (at_of c.args.side e, c.args.id) in q) c.extent-added.ensures.value)
     c.in-Ok.ensures.ok c.in-Ok.ensures.heads c.in-Ok.ensures.least c.take.ensures.heads c.take.ensures.least
     (joined_waiting c.args.side c.args.now c.args.newcomer x) c.spot_at.result
     c.sectors-sectors.ensures.value (c.sectors_of-held.ensures.value ∙ ap (λ (w : Waiting). sectors_of w.bios) two)
@@ -52,11 +52,9 @@ returns-in-Err-clause-spots g c =
     let ws = c.args.entries.now.items in
     let place = c.place_at-place.result in
     let x = c.requires.fit.0 in
-    let one = read_there ws place c.args.id c.index.result.now x c.place_at-place.ensures c.requires.fit.1 c.index.ensures in
-    let before : c.extent_of-before.result ≡ extent_of x.bios = c.extent_of-before.ensures ∙ ap (λ (w : Waiting). extent_of w.bios) one in
     edge_unjoined c.args.limits.now (waiting_at ws) (waiting_at (set ws place c.join.new.self)) (heads_in c.args.spots.now) (heads_in c.put.new.self) (heads_in c.take-in-Err.new.self) (others_in c.args.spots.now) (others_in c.put.new.self) (others_in c.take-in-Err.new.self)
     c.args.id c.sectors-sectors.result c.sectors_of-held.result c.args.now c.args.side c.args.newcomer x c.spot_at-spot.result
     c.requires.spots c.requires.fit.1 c.requires.fit c.sectors-sectors.ensures.some c.sectors-sectors.ensures.range
-    (spot_then c.args.side c.extent_of-before.result c.extent-added.result c.joined_extent.result x c.args.newcomer c.args.id c.spot_at-spot.result before c.extent-added.ensures.value c.joined_extent.ensures c.spot_at-spot.ensures)
+    (c.spot_at-spot.ensures ∙ ap (λ (e : Extent). let q : Spot = (at_of c.args.side e, c.args.id) in q) c.extent-added.ensures.value)
     c.in-Ok.ensures.ok c.in-Ok.ensures.heads c.in-Ok.ensures.least c.take-in-Err.ensures.heads c.take-in-Err.ensures.least
     c.take-in-Err.ensures.takes (same_waits (set ws place c.join.new.self) ws (set_back ws place c.index_mut-entry.result.now c.join.new.self c.index_mut-entry.ensures.value c.in-Err.ensures.same))

@@ -8,16 +8,16 @@ use Rattle.blk_sched.proofs.sorted.join_ahead.Goals as goal
 
 pub returns-in-Ok-join_at-clause-spots : goal.returns-in-Ok-join_at-clause-spots
 returns-in-Ok-join_at-clause-spots g c =
-    joined_ahead c.args.limits.now c.args.index.now c.join_at.new.self c.args.id c.sectors-sectors.result c.args.now c.args.newcomer c.in-Some.queued.now c.extent_of-before.result c.extent-added.result c.joined_extent.result c.first_spot-spot.result c.first_spot.result
+    joined_ahead c.args.limits.now c.args.index.now c.join_at.new.self c.args.id c.sectors-sectors.result c.args.now c.args.newcomer c.in-Some.queued.now c.extent_of-before.result c.extent-added.result c.first_spot-spot.result c.first_spot.result
     (order_in c.args.firsts.now) (order_in c.put.new.self) (order_in c.take.new.self)
-    c.requires.spots c.in-Some.ensures.value c.requires.fit c.sectors-sectors.ensures.some c.sectors-sectors.ensures.range c.extent_of-before.ensures c.extent-added.ensures.value c.joined_extent.ensures c.first_spot-spot.ensures c.in-Ok.ensures.ok
+    c.requires.spots c.in-Some.ensures.value c.requires.fit c.sectors-sectors.ensures.some c.sectors-sectors.ensures.range c.extent_of-before.ensures c.extent-added.ensures.value c.first_spot-spot.ensures c.in-Ok.ensures.ok
     c.in-Ok-join_at.ensures.joined c.first_spot.ensures c.take.ensures
 
 pub returns-in-Err-clause-spots : goal.returns-in-Err-clause-spots
 returns-in-Err-clause-spots g c =
-    refused_ahead c.args.limits.now c.args.index.now c.join_at.new.self c.args.id c.sectors-sectors.result c.args.now c.args.newcomer c.in-Some.queued.now c.extent_of-before.result c.extent-added.result c.joined_extent.result c.first_spot-spot.result c.first_spot-spot.result
+    refused_ahead c.args.limits.now c.args.index.now c.join_at.new.self c.args.id c.sectors-sectors.result c.args.now c.args.newcomer c.in-Some.queued.now c.extent_of-before.result c.extent-added.result c.first_spot-spot.result c.first_spot-spot.result
     (order_in c.args.firsts.now) (order_in c.put.new.self) (order_in c.take-in-Err.new.self)
-    c.requires.spots c.in-Some.ensures.value c.requires.fit c.sectors-sectors.ensures.some c.sectors-sectors.ensures.range c.extent_of-before.ensures c.extent-added.ensures.value c.joined_extent.ensures c.first_spot-spot.ensures c.in-Ok.ensures.ok
+    c.requires.spots c.in-Some.ensures.value c.requires.fit c.sectors-sectors.ensures.some c.sectors-sectors.ensures.range c.extent_of-before.ensures c.extent-added.ensures.value c.first_spot-spot.ensures c.in-Ok.ensures.ok
     c.in-Err.ensures.same c.take-in-Err.ensures
 
 pub returns-in_default-put-clause-spots : goal.returns-in_default-put-clause-spots
