@@ -9,12 +9,14 @@ use std::alloc::{AllocError, Global};
 use std::cell::Cell;
 use std::process::Abort;
 
-/// The last pick's hardware queue and round, the last done's hardware queue, direction and wait, and the last tick's
-/// round.
+/// The last pick's hardware queue and round, the last done's hardware queue, direction and wait, the hardware queue and
+/// direction that was last handed back, and those that last went out again, and the last tick's round.
 #[derive(Drop)]
 struct Told {
     pick: Cell<Option<(u8, u64)>>,
     done: Cell<Option<(u8, Dir, u64)>>,
+    back: Cell<Option<(u8, Dir)>>,
+    again: Cell<Option<(u8, Dir)>>,
     tick: Cell<Option<u64>>,
 }
 
@@ -24,6 +26,8 @@ impl Told {
         Told {
             pick: Cell::new(None),
             done: Cell::new(None),
+            back: Cell::new(None),
+            again: Cell::new(None),
             tick: Cell::new(None),
         }
     }
@@ -82,10 +86,12 @@ impl<'a, S: Scheduler> Scheduler for Noting<'a, S> {
     }
 
     fn on_back(&mut self, hw: u8, dir: Dir) {
+        self.told.back.set(Some((hw, dir)));
         self.scheduler.on_back(hw, dir);
     }
 
     fn on_again(&mut self, hw: u8, dir: Dir) {
+        self.told.again.set(Some((hw, dir)));
         self.scheduler.on_again(hw, dir);
     }
 
@@ -144,6 +150,7 @@ fn write_goes_out(rt: &impl Abort, alloc: Global, core: &mut Heard<'_>) {
 }
 
 /// A read of round 5 is handed back then, and issued again in round 6, so its wait is 1; the scheduler isn't asked for it.
+/// It entered at queue 0 and goes out for queue 1.
 fn read_comes_back(rt: &impl Abort, alloc: Global, core: &mut Heard<'_>) {
     let calls = [
         Call::Release(3, 200, 4, 0, Ok(Placed::New(2))),
@@ -176,4 +183,6 @@ fn told_the_scheduler(rt: HostRuntime) {
     read_comes_back(&rt, alloc, &mut core);
     let again = (Some((1, 5)), Some((1, Dir::Read, 1)), Some(6));
     assert!(rt; heard(&told) == again);
+    let handed = Some((1, Dir::Read));
+    assert!(rt; told.back.get() == handed && told.again.get() == handed);
 }

@@ -49,7 +49,7 @@ fn batches_and_expiry(rt: HostRuntime) {
     issues(&rt, &mut early, &[0, 2, 3, 1]);
 }
 
-/// A newcomer joins at the front where that is allowed.
+/// A newcomer joins at the front where that is allowed, and another at the front of that.
 #[test]
 fn front_merge(rt: HostRuntime) {
     let alloc = rt.alloc();
@@ -65,6 +65,7 @@ fn front_merge(rt: HostRuntime) {
     );
     let joined = Placed::Joined(0, Side::Front);
     assert_eq!(rt; release(&rt, &alloc, &mut on, 1, Dir::Read, 8, 2), joined);
+    assert_eq!(rt; release(&rt, &alloc, &mut on, 2, Dir::Read, 6, 2), joined);
     assert_eq!(rt; on.pending(), 1);
     assert_eq!(rt;
         release(&rt, &alloc, &mut off, 1, Dir::Read, 8, 2),

@@ -114,8 +114,9 @@ fn serve_both<R: Abort + Wait, L: Named>(
     requires zero { zero.old.tag_set ≡ layer.now.tag_set }
     requires one { one.old.tag_set ≡ layer.now.tag_set }
 {
-    flush_one(rt, alloc, layer, first, limits, 0);
     flush_one(rt, alloc, layer, second, limits, 0);
+    assert!(rt; layer.drain(rt, zero) == Ok(0));
+    flush_one(rt, alloc, layer, first, limits, 0);
     assert!(rt; layer.drain(rt, one) == Ok(1));
     assert!(rt; issues(rt, layer, zero, Ok(None)));
     assert!(rt; issues(rt, layer, one, Ok(Some((0, 0)))));

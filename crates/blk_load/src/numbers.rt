@@ -29,12 +29,12 @@ pub struct Load {
     pub bios: u64,
     /// How many tags there are, 1 to [`MOST_DEPTH`]: as many commands as a round may carry.
     pub depth: u64,
-    /// Each worker's device is busy at every run whose number, counted from 1, this divides; None for never.
+    /// Each worker's device is busy at every run whose number, counted from 1, this divides, at every run for 0, never for None.
     pub busy: Option<u64>,
 }
 
 impl Load {
-    /// Whether its numbers are in their ranges.
+    /// Whether its numbers are in their ranges. Any way to be busy is.
     pub fn is_in_range(&self) -> bool
         ensures { IsTrue result ↔ IsLoad self.now }
     {
