@@ -235,7 +235,7 @@ build() {
     was=$hashed
     if [ "$try" = 1 ]; then
       say "the program isn't built from these sources: proving and compiling it. That takes 3 GB of disk, a gigabyte of" \
-        "memory for each processor and, from nothing, some 40 minutes on 4 processors"
+        "memory for each processor and, from nothing, over half an hour on 4 processors"
     else
       say "the sources changed while the program was built: once more"
     fi
