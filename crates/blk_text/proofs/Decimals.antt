@@ -7,7 +7,7 @@ use Rattle.std.proofs.lemmas.List.{drop_more}
 use Rattle.std.proofs.lemmas.Str.{digit_value_digit}
 use Rattle.std.specs.Str.Parse.{digits_value, digits_value_after, AllDigits}
 use Rattle.std.proofs.lemmas.Bool.{ne_eqb}
-use Rattle.std.proofs.lemmas.Str.Parse.{IsNumeralModel, numerals_by_value, tells_digits}
+use Rattle.std.proofs.lemmas.Str.Parse.{IsNumeralModel, numerals_by_value, tells_digits, digit_from_value}
 use Rattle.std.proofs.lemmas.Fmt.{decimal_digit, decimal_injective, first_decimal, decimal-digits_value, digits_decimal, digits_value-decimal}
 use Rattle.blk_text.specs.Fields.{canonical, IsSized, WritesNumber}
 
@@ -88,3 +88,13 @@ sized_after f ds e none n h (inr b) = none n h (let q : 45 ∷ ds ≡ 45 ∷ dec
 
 pub zero_only : (ds : List ℕ) (m : ℕ) → m ≡ 0 → ds ≡ decimal m → (n : ℕ) → n < 2 ^ 64 → ds ≡ decimal n → 0 < n → ⊥
 zero_only ds m z e n h a p = let same : m ≡ n = decimal_injective m n (omega arith) h (sym e ∙ a) in omega arith
+
+pub one_decimal : (b d : ℕ) → d < 10 → 48 + d ≡ b → b ∷ [] ≡ decimal d
+one_decimal b d small same = rw (decimal_digit d small, same) refl
+
+-- what is no digit writes no number
+pub no_digit : (b : ℕ) → (48 ≤ b → b ≤ 57 → ⊥) → (n : ℕ) → n < 2 ^ 64 → b ∷ [] ≢ decimal n
+no_digit b out n small e =
+    let w : WritesNumber (b ∷ []) = writes (b ∷ []) n small e in
+    let d = digit_from_value b w.0.0 in
+    out d.0 d.1

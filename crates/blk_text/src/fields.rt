@@ -128,8 +128,31 @@ fn short_number(field: &[u8]) -> Option<u64>
     Some(number)
 }
 
-/// The number that a field writes, in decimal digits with no leading zero.
+/// The number that one digit writes.
+#[inline(always)]
+fn one_digit(byte: u8) -> Option<u64>
+    ensures { MatchOption result ((n : ℕ) → n < 2 ^ 64 → byte ∷ [] ≢ decimal n) (λ n. byte ∷ [] ≡ decimal n) }
+{
+    let digit = (byte as u64).wrapping_sub(b'0' as u64);
+    if digit > 9 {
+        return None;
+    }
+    Some(digit)
+}
+
+/// The number that a field writes, in decimal digits with no leading zero. Many fields have one digit.
+#[inline(always)]
 pub fn parse_number(field: &[u8]) -> Option<u64>
+    ensures { MatchOption result ((n : ℕ) → n < 2 ^ 64 → field.now ≢ decimal n) (λ n. field.now ≡ decimal n) }
+{
+    match field {
+        [only] => one_digit(*only),
+        _ => parse_digits(field),
+    }
+}
+
+/// The same for digits of any number.
+fn parse_digits(field: &[u8]) -> Option<u64>
     ensures { MatchOption result ((n : ℕ) → n < 2 ^ 64 → field.now ≢ decimal n) (λ n. field.now ≡ decimal n) }
 {
     if !is_canonical(field) {

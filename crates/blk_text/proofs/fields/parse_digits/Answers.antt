@@ -1,6 +1,6 @@
 use Rattle.std.proofs.Common.{rules}
 use Rattle.blk_text.proofs.Decimals.{by_value, no_number}
-use Rattle.blk_text.proofs.fields.parse_number.Goals as goal
+use Rattle.blk_text.proofs.fields.parse_digits.Goals as goal
 
 pub returns-then-not-is_canonical : goal.returns-then-not-is_canonical
 returns-then-not-is_canonical c = no_number c.args.field.now c.is_canonical.result (search rules) c.is_canonical.ensures
