@@ -85,6 +85,33 @@ fn work_on<R: Abort + Wait, L: Named>(
     assert_eq!(rt; device.runs, 4);
     assert_eq!(rt; worker.ran().len(), 3);
     assert!(rt; layer.tick(rt) == Ok(3));
+    work_less(rt, alloc, layer, submitter, worker, limits);
+}
+
+/// At a depth of 1 in place of 2 the worker runs two more requests in two rounds, and ends both.
+fn work_less<R: Abort + Wait, L: Named>(
+    rt: &R,
+    alloc: Global,
+    layer: &Layer<NoneSched, L>,
+    submitter: &mut Submitter<L>,
+    worker: &mut Worker<L>,
+    limits: Limits,
+)
+    requires seat { submitter.old.number < length layer.now.map }
+    requires limits { L.setup.limits ≡ limits }
+    requires tags { worker.old.tag_set ≡ layer.now.tag_set }
+{
+    assert!(rt; layer.set_depth(rt, 1) == Ok(()));
+    assert!(rt; layer.tick(rt) == Ok(4));
+    flush_one(rt, alloc, layer, submitter, limits, 3);
+    flush_one(rt, alloc, layer, submitter, limits, 4);
+    let mut device = Counting {
+        runs: 0,
+        busy_at: 0,
+    };
+    assert!(rt; worked(rt, layer, worker, &mut device, 10) == Ok((2, 2, true)));
+    assert_eq!(rt; device.runs, 2);
+    assert!(rt; layer.tick(rt) == Ok(7));
 }
 
 #[tactic(auto, using(crate::proofs::Seated::all_of))]
@@ -115,7 +142,8 @@ fn works<R: Abort + Wait, L: Named>(
     work_on(rt, alloc, &layer, &mut submitter, &mut worker, limits);
 }
 
-// Three requests at depth 2, the second of which the device is too busy for at first: two rounds are used up and end.
+// Three requests at depth 2, the second of which the device is too busy for at first: two rounds are used up and end. Two more at
+// depth 1, of which each round carries one.
 #[test]
 fn work_to_the_end(rt: HostRuntime) {
     let alloc = rt.alloc();
