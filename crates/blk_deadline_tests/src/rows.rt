@@ -5,6 +5,8 @@ use blk_bio::{Dir, Side};
 use blk_core::Placed;
 use blk_deadline::Deadline;
 use blk_sched::SchedFault;
+use std::alloc::Global;
+use std::process::Abort;
 
 /// A batch goes on upwards; where nothing lies further on, the oldest begins the next one.
 #[test]
@@ -35,43 +37,39 @@ fn write_goes_first(rt: HostRuntime) {
     issues(&rt, &mut core, &[1, 0]);
 }
 
+/// Four reads enter, so many rounds end, and then these go out in this order.
+fn four_go_out(rt: &impl Abort, alloc: &Global, rounds: u64, ids: &[u64]) {
+    let mut core = under(rt, alloc, 8, 5, tuned(2, 2, true));
+    reads(rt, alloc, &mut core, &[500, 100, 600, 700]);
+    ticks(rt, &mut core, rounds);
+    issues(rt, &mut core, ids);
+}
+
 /// Between batches what is due goes first, and nothing in a batch.
 #[test]
 fn batches_and_expiry(rt: HostRuntime) {
     let alloc = rt.alloc();
-    let entered = [500, 100, 600, 700];
-    let mut due = under(&rt, &alloc, 8, 5, tuned(2, 2, true));
-    reads(&rt, &alloc, &mut due, &entered);
-    ticks(&rt, &mut due, 9);
-    issues(&rt, &mut due, &[0, 2, 1, 3]);
-    let mut early = under(&rt, &alloc, 8, 5, tuned(2, 2, true));
-    reads(&rt, &alloc, &mut early, &entered);
-    issues(&rt, &mut early, &[0, 2, 3, 1]);
+    four_go_out(&rt, &alloc, 9, &[0, 2, 1, 3]);
+    four_go_out(&rt, &alloc, 0, &[0, 2, 3, 1]);
+}
+
+/// Where three reads go that enter downwards, each right before the one above it, and how many requests wait then.
+fn downwards(rt: &impl Abort, alloc: &Global, front_merges: bool) -> (Placed, Placed, Placed, u64) {
+    let mut core = under(rt, alloc, 1, 0, tuned(16, 2, front_merges));
+    let above = release(rt, alloc, &mut core, 0, Dir::Read, 10, 2);
+    let middle = release(rt, alloc, &mut core, 1, Dir::Read, 8, 2);
+    let below = release(rt, alloc, &mut core, 2, Dir::Read, 6, 2);
+    (above, middle, below, core.pending())
 }
 
 /// A newcomer joins at the front where that is allowed, and another at the front of that.
 #[test]
 fn front_merge(rt: HostRuntime) {
     let alloc = rt.alloc();
-    let mut on = under(&rt, &alloc, 1, 0, tuned(16, 2, true));
-    let mut off = under(&rt, &alloc, 1, 0, tuned(16, 2, false));
-    assert_eq!(rt;
-        release(&rt, &alloc, &mut on, 0, Dir::Read, 10, 2),
-        Placed::New(0)
-    );
-    assert_eq!(rt;
-        release(&rt, &alloc, &mut off, 0, Dir::Read, 10, 2),
-        Placed::New(0)
-    );
     let joined = Placed::Joined(0, Side::Front);
-    assert_eq!(rt; release(&rt, &alloc, &mut on, 1, Dir::Read, 8, 2), joined);
-    assert_eq!(rt; release(&rt, &alloc, &mut on, 2, Dir::Read, 6, 2), joined);
-    assert_eq!(rt; on.pending(), 1);
-    assert_eq!(rt;
-        release(&rt, &alloc, &mut off, 1, Dir::Read, 8, 2),
-        Placed::New(1)
-    );
-    assert_eq!(rt; off.pending(), 2);
+    assert!(rt; downwards(&rt, &alloc, true) == (Placed::New(0), joined, joined, 1));
+    let apart = (Placed::New(0), Placed::New(1), Placed::New(2), 3);
+    assert!(rt; downwards(&rt, &alloc, false) == apart);
 }
 
 /// A batch of no request is refused.
