@@ -151,7 +151,7 @@ pub fn parse_number(field: &[u8]) -> Option<u64>
     }
 }
 
-/// The same for digits of any number.
+/// The same for a field of any length.
 fn parse_digits(field: &[u8]) -> Option<u64>
     ensures { MatchOption result ((n : ℕ) → n < 2 ^ 64 → field.now ≢ decimal n) (λ n. field.now ≡ decimal n) }
 {
