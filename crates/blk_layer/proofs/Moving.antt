@@ -1,5 +1,5 @@
 -- What a move leaves of the core.
-use Rattle.std.proofs.Common.{◌≡◌, ◌∙◌, ◌+◌, ℕ, ap, refl, arith, cond, Bool, true, false, List, [], ◌∷◌, ◌++◌, Result, Ok, Err, Option, Some, None, IfOk, OnErr}
+use Rattle.std.proofs.Common.{◌≡◌, ◌∙◌, ◌+◌, ℕ, ap, refl, arith, cond, Bool, true, false, List, [], ◌∷◌, ◌++◌, Result, Ok, Err, Option, Some, None, IfOk, IfErr, OnErr, inl, inr}
 use Rattle.blk_bio.specs.Bios.{Bio}
 use Rattle.blk_soft.specs.Queues.{Queue}
 use Rattle.blk_sched.specs.Meaning.{Waiting}
@@ -13,6 +13,9 @@ use Rattle.edd_check.specs.declared.Command.{Command}
 use Rattle.blk_core.specs.Calls.{Places, Choice, AddsEvent, Issues, OfDone, Completes, TakesBack, OfTick, Ends, SetsDepth}
 use Rattle.blk_layer.specs.Served.{done_count, is_done}
 use Rattle.blk_layer.specs.Moves.{IsMoveAnswer}
+use Rattle.blk_layer.specs.Passes.{EndsOrWaits, IsLastTryFault}
+use Rattle.blk_core.specs.declared.IssueFault.{IssueFault}
+use Rattle.blk_core.specs.declared.IssueFault.TheVariants as issue
 
 -- one event more that is no Done
 pub not_done : (es : List Happened) (e : Happened) → is_done e ≡ false → done_count (es ++ e ∷ []) ≡ done_count es
@@ -67,3 +70,20 @@ tick_stays told old new e = added_stays old Ticked new refl e.0
 
 pub depth_stays : (old : CoreState) (n : ℕ) (new : CoreState) → SetsDepth old n new → Stays old new
 depth_stays old n new s = added_stays old (DepthSet n) new refl s.0
+
+-- a last try that was refused, and one
+ends_stays : (told : OfTick) (old new : CoreState) → EndsOrWaits told old new → Stays old new
+ends_stays told old new (inl ended) = tick_stays told old new ended
+ends_stays told old new (inr waits) = same_stays old new waits.1
+
+refused_stays : (told : OfTick) (old : CoreState) (hw tag : ℕ) (why : IssueFault) (new : CoreState) → IsLastTryFault told old hw tag why new → Stays old new
+refused_stays told old hw tag issue.NoQueue new f = same_stays old new f.1
+refused_stays told old hw tag issue.TagRange new f = ends_stays told old new f.1
+refused_stays told old hw tag issue.SlotUsed new f = ends_stays told old new f.1
+refused_stays told old hw tag issue.TraceFull new f = same_stays old new f.1
+refused_stays told old hw tag issue.Memory new f = same_stays old new f.1
+
+pub try_stays : (serves : ℕ → Waiting → Bool) (chooses : Choice) (told : OfTick) (old : CoreState) (hw tag : ℕ) (new : CoreState) (r : Result (Option Command) IssueFault)
+    → IfOk r (λ found. Issues serves chooses old hw tag found new) → IfErr r (λ why. IsLastTryFault told old hw tag why new) → Stays old new
+try_stays serves chooses told old hw tag new (Ok found) issued fault = issue_stays serves chooses old hw tag new found issued
+try_stays serves chooses told old hw tag new (Err why) issued fault = refused_stays told old hw tag why new fault

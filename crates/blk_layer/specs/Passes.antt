@@ -1,42 +1,44 @@
 -- What a worker's passes do to its seat, and when they end a round.
-use Rattle.std.specs.Prelude.{ℕ, ◌≡◌, ◌<◌, ◌≤◌, ◌⊎◌, ◌++◌, false, List, length}
+use Rattle.std.specs.Prelude.{ℕ, ◌≡◌, ◌<◌, ◌≤◌, ◌⊎◌, ◌++◌, false, List, Some, length}
 use Rattle.edd_check.specs.declared.Command.{Command}
 use Rattle.blk_trace.specs.Events.{open_count}
 use Rattle.blk_core.specs.State.{CoreState}
 use Rattle.blk_core.specs.Calls.{OfTick, Ends}
-use Rattle.blk_core.specs.Faults.{IsTickFault}
+use Rattle.blk_core.specs.Faults.{IsIssueFault, IsTickFault}
+use Rattle.blk_core.specs.declared.IssueFault.{IssueFault}
+use Rattle.blk_core.specs.declared.IssueFault.TheVariants as issue
 use Rattle.blk_core.specs.declared.TickFault.TheVariants as tick
 use Rattle.blk_layer.specs.declared.issues.LayerIssueFault.{LayerIssueFault}
-use Rattle.blk_layer.specs.declared.issues.LayerIssueFault.TheVariants as layer
 use Rattle.blk_layer.specs.declared.passes.Worked.{Worked}
 use Rattle.blk_layer.specs.declared.passes.WorkFault.{WorkFault}
 use Rattle.blk_layer.specs.declared.passes.WorkFault.TheVariants.{TraceFull, Memory, Repeated}
 use Rattle.blk_layer.specs.Seats.{WorkerSeat}
-use Rattle.blk_layer.specs.Works.{IsCoreIssueFault, TakesInHand, AccountsFor, LetsGo}
+use Rattle.blk_layer.specs.Works.{core_name, TakesInHand, AccountsFor, LetsGo}
 
--- a tag that is used up in its round: it was issued in it, or it isn't below the round's depth
-abbrev pub IsUsedUp : LayerIssueFault → Type 0
-IsUsedUp why = (why ≡ layer.SlotUsed) ⊎ (why ≡ layer.TagRange)
+-- the tag is used up in the round that is on: it was issued in it, or it isn't below the round's depth
+abbrev pub IsUsedUp : CoreState → ℕ → ℕ → Type 0
+IsUsedUp c hw tag = IsIssueFault c hw tag issue.SlotUsed ⊎ IsIssueFault c hw tag issue.TagRange
 
 -- the round ends, exactly where no command is in flight
 abbrev pub EndsOrWaits : OfTick → CoreState → CoreState → Type 0
 EndsOrWaits told old new = Ends told old new ⊎ ((0 < open_count old.events) × (new ≡ old))
 
--- what becomes of the round where an issue was refused for one reason, and for which one it is refused then: the round ends only where the
--- tag was used up in it, and where it can't end for want of room or memory, that is the reason
-abbrev pub IsRoundsEnd : OfTick → CoreState → LayerIssueFault → LayerIssueFault → CoreState → Type 0
-IsRoundsEnd told old first why new =
-    ((why ≡ first) × IsUsedUp first × EndsOrWaits told old new)
-    ⊎ ((why ≡ first) × (¬ IsUsedUp first) × (new ≡ old))
-    ⊎ ((why ≡ layer.TraceFull) × IsUsedUp first × IsTickFault old tick.TraceFull × (new ≡ old))
-    ⊎ ((why ≡ layer.Memory) × IsUsedUp first × IsTickFault old tick.Memory × (new ≡ old))
+-- what each fault of a last try says, and does: the round ends only where the tag is used up in it, so under SlotUsed it has an Issue with
+-- the tag; where it can't end for want of room or memory, that is the fault; and nothing else is changed
+abbrev pub IsLastTryFault : OfTick → CoreState → ℕ → ℕ → IssueFault → CoreState → Type 0
+IsLastTryFault told old hw tag issue.NoQueue new = IsIssueFault old hw tag issue.NoQueue × (new ≡ old)
+IsLastTryFault told old hw tag issue.TagRange new = IsIssueFault old hw tag issue.TagRange × EndsOrWaits told old new
+IsLastTryFault told old hw tag issue.SlotUsed new = IsIssueFault old hw tag issue.SlotUsed × EndsOrWaits told old new
+IsLastTryFault told old hw tag issue.TraceFull new =
+    (IsIssueFault old hw tag issue.TraceFull ⊎ (IsUsedUp old hw tag × IsTickFault old tick.TraceFull)) × (new ≡ old)
+IsLastTryFault told old hw tag issue.Memory new =
+    (IsIssueFault old hw tag issue.Memory ⊎ (IsUsedUp old hw tag × IsTickFault old tick.Memory)) × (new ≡ old)
 
--- what a refused last try says and does: the core issues nothing for a reason, after which the round may end. Where the round ends
--- and the reason is SlotUsed, an Issue of that round has the tag
+-- the same of the name that a worker is told
 pub record IsLastIssueFault (told : OfTick) (old : CoreState) (hw tag : ℕ) (why : LayerIssueFault) (new : CoreState) : Type 0 where
-  pub first : LayerIssueFault
-  pub refused : IsCoreIssueFault old hw tag first
-  pub ended : IsRoundsEnd told old first why new
+  pub name : IssueFault
+  pub named : core_name why ≡ Some name
+  pub fault : IsLastTryFault told old hw tag name new
 
 -- a worker whose account has commands more, at its end, and which is else as it was
 pub record Runs (old new : WorkerSeat) : Type 0 where

@@ -6,7 +6,7 @@ ghost use Rattle.blk_core.specs.Faults.{IsTickFault};
 ghost use Rattle.blk_core.specs.Calls.{Issues, Completes, TakesBack, Ends, SetsDepth};
 ghost use Rattle.blk_layer.specs.Moves.{IsMoveAnswer};
 ghost use Rattle.blk_layer.specs.Works.{IsCoreIssueFault, IsTickAnswer, IsDepthAnswer};
-ghost use Rattle.blk_layer.specs.Passes.{IsUsedUp, IsRoundsEnd, IsLastIssueFault};
+ghost use Rattle.blk_layer.specs.Passes.{IsLastIssueFault};
 ghost use Rattle.blk_trace.specs.Setups.{Setup};
 ghost use Rattle.blk_layer.specs.Served.{done_count};
 ghost use Rattle.blk_layer.specs.Closes.{all_ran};
@@ -16,6 +16,7 @@ use crate::issues::{LayerIssueFault, of_core};
 use crate::moves::move_first;
 use crate::names::Named;
 use crate::seats::{Worker, audit};
+use crate::tries::issue_or_end;
 use blk_core::{BackFault, Core, CoreFault, DepthFault, NotIssued, TickFault};
 use blk_sched::Scheduler;
 use blk_soft::SoftQueue;
@@ -103,35 +104,20 @@ impl<S: Scheduler, L: Named> Kept<S, L> {
         }
     }
 
-    /// Issues as `issue` does. Where the core refuses the tag because it was issued in this round, or isn't below the depth of
-    /// this round, the round is ended, unless a command is in flight: so a round that ends here has an Issue under that tag, or
-    /// is one of a smaller depth.
+    /// Issues for a hardware queue under a tag, or ends the round, as `Layer::issue_or_end` does.
     pub(crate) fn issue_or_end(
         &mut self,
         hw: u8,
         tag: u16,
     ) -> Result<Option<Command>, LayerIssueFault>
-        requires { hw < L.setup.hw }
+        requires queue { hw < L.setup.hw }
+        requires range { tag < L.setup.depth }
         ensures issued { IfOk result (λ found. Issues S.serves S.chooses self.old.core hw tag found self.new.core) }
         ensures fault { IfErr result (λ why. IsLastIssueFault S.told_tick self.old.core hw tag why self.new.core) }
     {
-        match self.issue(hw, tag) {
+        match issue_or_end(&mut self.core, hw, tag) {
             Ok(found) => Ok(found),
-            Err(why) => Err(self.end_used(why)),
-        }
-    }
-
-    /// Ends the round where a tag was refused because it is used up in it, and answers the reason for which nothing is issued.
-    fn end_used(&mut self, why: LayerIssueFault) -> LayerIssueFault
-        ensures { IsRoundsEnd S.told_tick self.old.core why result self.new.core }
-    {
-        if !matches!(why, LayerIssueFault::SlotUsed | LayerIssueFault::TagRange) {
-            return why;
-        }
-        match self.tick() {
-            Ok(_) | Err(TickFault::InFlight(_)) => why,
-            Err(TickFault::TraceFull) => LayerIssueFault::TraceFull,
-            Err(TickFault::Memory) => LayerIssueFault::Memory,
+            Err(why) => Err(of_core(why)),
         }
     }
 

@@ -4,17 +4,21 @@ ghost use Rattle.std.specs.Prelude.{◌≡◌, ◌<◌, ◌+◌, [], All, IfOk, 
 ghost use Rattle.blk_layer.specs.Seats.{IsNewLayer};
 ghost use Rattle.blk_layer.specs.Faults.{CanMake, IsFirstOutside, IsLayerFault};
 ghost use Rattle.blk_layer.specs.Moves.{IsMoveAnswer};
+ghost use Rattle.blk_layer.specs.Passes.{IsLastTryFault};
+ghost use Rattle.blk_core.specs.Calls.{Issues};
 
 use crate::kept::Kept;
 use crate::moves::move_first;
 use crate::names::Named;
 use crate::seats::{Submitter, Worker, seat_submitters, seat_workers};
 use crate::staged::{Staged, empty_queues};
-use blk_core::{Core, CoreFault};
+use crate::tries::issue_or_end;
+use blk_core::{Core, CoreFault, IssueFault};
 use blk_hw::Map;
 use blk_sched::Scheduler;
 use blk_soft::{MAX_DEPTH, SoftQueue};
 use blk_tags::TagSet;
+use edd_check::Command;
 use std::alloc::Allocator;
 use std::marker::Model;
 use std::sync::Mutex;
@@ -175,6 +179,23 @@ impl<S: Scheduler, L: Named> Layer<S, L> {
         ensures { IsMoveAnswer S.serves queue.old core.old hw queue.new core.new result }
     {
         move_first(queue, core, hw)
+    }
+
+    /// Issues for a hardware queue under a tag, as `Core::issue` does, and ends the round where that is refused because the tag is
+    /// used up in it: it was issued in this round, or isn't below this round's depth, which is smaller than the setup's then. While a
+    /// command is in flight the round goes on. The tag is below the setup's depth.
+    ///
+    /// It waits for nobody: `work` calls it, with the core's lock held, at the last of as many tries as there are tags, and ends
+    /// no round otherwise. So where no smaller depth was set, each Tick of `work` follows an Issue of its round.
+    ///
+    /// Refused as the core's issue is, and as `TraceFull` or `Memory` where the round can't be ended for want of a place in the
+    /// trace or of memory. Only under `SlotUsed` and `TagRange` the round may have ended; else nothing is changed.
+    pub fn issue_or_end(core: &mut Core<S>, hw: u8, tag: u16) -> Result<Option<Command>, IssueFault>
+        requires { tag < core.old.setup.depth }
+        ensures issued { IfOk result (λ found. Issues S.serves S.chooses core.old hw tag found core.new) }
+        ensures fault { IfErr result (λ why. IsLastTryFault S.told_tick core.old hw tag why core.new) }
+    {
+        issue_or_end(core, hw, tag)
     }
 }
 

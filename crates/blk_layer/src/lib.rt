@@ -21,6 +21,7 @@ pub mod names;
 pub mod passes;
 pub mod seats;
 mod staged;
+mod tries;
 pub mod works;
 
 pub use crate::closes::{CloseFault, CloseRefused, Closed};

@@ -131,7 +131,8 @@ impl<S: Scheduler, L: Named> Layer<S, L> {
         tag: u16,
         is_last: bool,
     ) -> Result<Option<Command>, LayerIssueFault>
-        requires { hw < L.setup.hw }
+        requires queue { hw < L.setup.hw }
+        requires range { tag < L.setup.depth }
     {
         let mut kept = self.kept.lock(rt);
         if is_last {

@@ -28,4 +28,6 @@ mod seen;
 #[cfg(test)]
 mod served;
 #[cfg(test)]
+mod tried;
+#[cfg(test)]
 mod worked;

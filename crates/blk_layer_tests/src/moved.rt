@@ -1,8 +1,6 @@
 //! Moves from a software queue into the core.
 
 use crate::given::{alone, bio, core, limits, setup};
-use blk_bio::BioId;
-use blk_core::CoreFault;
 use blk_layer::Layer;
 use blk_none::NoneSched;
 use blk_soft::SoftQueue;

@@ -1,50 +1,53 @@
 //! What one thread sees, and what is refused.
 
-use crate::player::Player;
+use crate::player::{Player, give, take};
 use blk_tags::{TagFault, TagSet};
 use refusing::Refusing;
 
 #[test]
 fn tag_set_of_two(rt: HostRuntime) {
-    let (set, mut seat) = TagSet::new(rt.alloc(), 2).expect(&rt, "a set");
+    let (set, seat) = TagSet::new(rt.alloc(), 2).expect(&rt, "a set");
+    let mut player = Player::new(&set, seat);
+    let taken = [player.get(), player.get(), player.get()];
+    let held = [player.holds(1), player.holds(2)];
+    let given = [player.give(1), player.holds(1)];
+    let again = player.get();
     assert_eq!(rt; set.depth(), 2);
-    assert_eq!(rt; set.get(&mut seat), Some(0));
-    assert_eq!(rt; set.get(&mut seat), Some(1));
-    assert_eq!(rt; set.get(&mut seat), None);
-    assert!(rt; seat.holds(1) && !seat.holds(2));
-    set.give(&mut seat, 1);
-    assert!(rt; !seat.holds(1));
-    assert_eq!(rt; set.get(&mut seat), Some(1));
+    assert_eq!(rt; taken, [Some(0), Some(1), None]);
+    assert_eq!(rt; held, [true, false]);
+    assert_eq!(rt; given, [true, false]);
+    assert_eq!(rt; again, Some(1));
 }
 
 #[test]
 fn two_seats_of_a_set_of_one(rt: HostRuntime) {
     let (set, mut a) = TagSet::new(rt.alloc(), 1).expect(&rt, "a set");
     let mut b = set.split(&mut a).expect(&rt, "a seat");
-    assert_eq!(rt; set.get(&mut a), Some(0));
-    assert_eq!(rt; set.get(&mut b), None);
-    assert!(rt; a.holds(0));
-    set.give(&mut a, 0);
-    assert_eq!(rt; set.get(&mut b), Some(0));
-    assert_eq!(rt; set.get(&mut a), None);
+    let first = [take(&set, &mut a), take(&set, &mut b)];
+    let given = give(&set, &mut a, 0);
+    let second = [take(&set, &mut b), take(&set, &mut a)];
     set.join(&mut a, b);
-    assert_eq!(rt; set.get(&mut a), Some(0));
+    let third = take(&set, &mut a);
+    assert!(rt; given);
+    assert!(rt; (first, second, third) == ([Some(0), None], [Some(0), None], Some(0)));
 }
 
 // A take begins one after the seat's last tag, also where lower ones are free, and goes round.
 #[test]
 fn upward_and_round(rt: HostRuntime) {
-    let (set, mut seat) = TagSet::new(rt.alloc(), 3).expect(&rt, "a set");
-    assert_eq!(rt; set.get(&mut seat), Some(0));
-    assert_eq!(rt; set.get(&mut seat), Some(1));
-    assert!(rt; seat.holds(0));
-    set.give(&mut seat, 0);
-    assert_eq!(rt; set.get(&mut seat), Some(2));
-    assert_eq!(rt; set.get(&mut seat), Some(0));
-    assert!(rt; seat.holds(1));
-    set.give(&mut seat, 1);
-    let mut other = set.split(&mut seat).expect(&rt, "a seat");
-    assert_eq!(rt; set.get(&mut other), Some(1));
+    let (set, seat) = TagSet::new(rt.alloc(), 3).expect(&rt, "a set");
+    let mut player = Player::new(&set, seat);
+    let first = [player.get(), player.get()];
+    let given = player.give(0);
+    let second = [player.get(), player.get()];
+    let again = player.give(1);
+    let mut other = player.another().expect(&rt, "a seat");
+    let third = other.get();
+    assert!(rt; given && again);
+    assert_eq!(rt;
+        (first, second, third),
+        ([Some(0), Some(1)], [Some(2), Some(0)], Some(1))
+    );
 }
 
 #[test]
@@ -86,11 +89,10 @@ fn memory_refused(rt: HostRuntime) {
     let mut b = set.split(&mut a).expect(&rt, "a seat");
     // no other call takes memory
     heap.refuse(1);
-    assert_eq!(rt; set.get(&mut a), Some(0));
-    assert_eq!(rt; set.get(&mut b), Some(1));
-    assert!(rt; a.holds(0));
-    set.give(&mut a, 0);
+    let taken = [take(&set, &mut a), take(&set, &mut b)];
+    let given = give(&set, &mut a, 0);
     set.join(&mut a, b);
-    assert_eq!(rt; set.get(&mut a), Some(1));
-    assert!(rt; heap.is_armed());
+    let last = take(&set, &mut a);
+    assert!(rt; given && heap.is_armed());
+    assert!(rt; (taken, last) == ([Some(0), Some(1)], Some(1)));
 }

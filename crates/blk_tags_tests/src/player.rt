@@ -1,8 +1,9 @@
-//! A set and a seat of it, side by side.
+//! A set and a seat of it, side by side, and calls that say no more than what they answer.
 
 ghost use Rattle.std.specs.Prelude.{◌≡◌};
 
 use blk_tags::{TagSeat, TagSet};
+use std::alloc::Allocator;
 
 /// A seat beside its set.
 #[derive(Drop)]
@@ -42,4 +43,29 @@ impl<'a> Player<'a> {
         self.set.give(&mut self.seat, tag);
         true
     }
+
+    /// Whether it holds a tag.
+    pub fn holds(&self, tag: u16) -> bool {
+        self.seat.holds(tag)
+    }
+}
+
+/// Takes a tag for a seat of the set.
+pub fn take<A: Allocator>(set: &TagSet<A>, seat: &mut TagSeat<A>) -> Option<u16>
+    requires { seat.old.of_set ≡ set.now }
+    ensures { seat.new.of_set ≡ seat.old.of_set }
+{
+    set.get(seat)
+}
+
+/// Gives a tag of a seat back where it is held, and says whether it is.
+pub fn give<A: Allocator>(set: &TagSet<A>, seat: &mut TagSeat<A>, tag: u16) -> bool
+    requires { seat.old.of_set ≡ set.now }
+    ensures { seat.new.of_set ≡ seat.old.of_set }
+{
+    if !seat.holds(tag) {
+        return false;
+    }
+    set.give(seat, tag);
+    true
 }

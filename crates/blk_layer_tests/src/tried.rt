@@ -1,0 +1,61 @@
+//! Tries for a command that end the round where they come too late in it.
+
+use crate::given::{alone, bio, core, limits, setup};
+use blk_core::{Core, IssueFault};
+use blk_layer::Layer;
+use blk_none::NoneSched;
+use std::alloc::Global;
+use std::marker::Brand;
+use std::process::Abort;
+
+type Plain = Layer<NoneSched, Brand>;
+
+/// The id that a try issues, or why it issues none, and the round after it.
+type Tried = (Result<Option<u64>, IssueFault>, u64);
+
+/// A core of so many tags, in which two requests wait.
+fn two_wait(rt: &impl Abort, alloc: Global, depth: u64) -> Core<NoneSched> {
+    let limits = limits(rt);
+    let mut core = core(rt, alloc, setup(rt, depth, 1, limits));
+    for serial in [0, 1] {
+        let request = alone(rt, alloc, bio(rt, 0, serial, 100 * serial));
+        assert!(rt; request.within(&limits));
+        assert!(rt; core.release(request, 0).is_ok());
+    }
+    core
+}
+
+/// A try under a tag that the setup has.
+fn tried(rt: &impl Abort, core: &mut Core<NoneSched>, tag: u16) -> Tried {
+    assert!(rt; u64::from(tag) < core.trace().setup().depth());
+    let answer = match Plain::issue_or_end(core, 0, tag) {
+        Ok(Some(command)) => Ok(Some(command.id)),
+        Ok(None) => Ok(None),
+        Err(why) => Err(why),
+    };
+    (answer, core.trace().round())
+}
+
+/// A tag that was issued in its round ends it, but not while a command is in flight; and a try that finds nothing doesn't.
+#[test]
+fn used_up_by_an_issue(rt: HostRuntime) {
+    let mut core = two_wait(&rt, rt.alloc(), 1);
+    assert!(rt; tried(&rt, &mut core, 0) == (Ok(Some(0)), 0));
+    assert!(rt; tried(&rt, &mut core, 0) == (Err(IssueFault::SlotUsed), 0));
+    assert!(rt; core.done(0).is_ok());
+    assert!(rt; tried(&rt, &mut core, 0) == (Err(IssueFault::SlotUsed), 1));
+    assert!(rt; tried(&rt, &mut core, 0) == (Ok(Some(1)), 1));
+    assert!(rt; core.done(0).is_ok());
+    assert!(rt; tried(&rt, &mut core, 0) == (Err(IssueFault::SlotUsed), 2));
+    assert!(rt; tried(&rt, &mut core, 0) == (Ok(None), 2));
+}
+
+/// A tag that isn't below the depth of a round ends it too.
+#[test]
+fn used_up_by_a_smaller_depth(rt: HostRuntime) {
+    let mut core = two_wait(&rt, rt.alloc(), 2);
+    assert!(rt; core.set_depth(1).is_ok() && core.tick() == Ok(1));
+    assert!(rt; tried(&rt, &mut core, 1) == (Err(IssueFault::TagRange), 2));
+    assert!(rt; tried(&rt, &mut core, 0) == (Ok(Some(0)), 2));
+    assert!(rt; tried(&rt, &mut core, 1) == (Err(IssueFault::TagRange), 2));
+}
