@@ -1,16 +1,18 @@
 //! The core in the order of entry: lists of calls, each with the answer that it has to give.
 
-use crate::given::{Call, alone, bio, command, follow, id_of, in_order, limits, release, setup};
-use blk_bio::{Dir, Side};
+use crate::given::{alone, bio, command, follow, follows, id_of, in_order, limits, setup};
+use blk_bio::{Dir, Request, Side};
+use blk_calls::{Call, release};
 use blk_core::{CoreFault, DepthFault, IssueFault, NotIssued, Placed, TickFault};
+use std::alloc::Global;
+use std::process::Abort;
 
 #[test]
 fn core_refusals(rt: HostRuntime) {
-    let alloc = rt.alloc();
-    let mut core = in_order(&rt, &alloc, setup(&rt, 1, 1, 0));
+    let commands = [command(0, 0, 0), command(1, 0, 0)];
     let calls = [
-        Call::Release(0, 0, 8, 0, Ok(Placed::New(0))),
-        Call::Release(1, 100, 8, 0, Ok(Placed::New(1))),
+        Call::Read(0, 0, 8, 0, Ok(Placed::New(0))),
+        Call::Read(1, 100, 8, 0, Ok(Placed::New(1))),
         Call::Pending(2),
         Call::Issue(0, 0, Ok(Some(command(0, 0, 0)))),
         Call::Pending(1),
@@ -28,130 +30,127 @@ fn core_refusals(rt: HostRuntime) {
         Call::Tick(Ok(2)),
         Call::Issue(0, 0, Ok(None)),
         Call::Pending(0),
+        Call::Len(8),
+        Call::Commands(&commands),
+        Call::Rounds(&[0, 1]),
     ];
-    follow(&rt, &alloc, &mut core, &calls);
-    assert_eq!(rt; core.trace().len(), 8);
-    let trace = core.into_trace();
-    let commands = trace.commands().expect(&rt, "memory");
-    let rounds = trace.rounds().expect(&rt, "memory");
-    assert_eq!(rt;
-        commands.as_slice(),
-        [command(0, 0, 0), command(1, 0, 0)].as_slice()
-    );
-    assert_eq!(rt; rounds.as_slice(), [0, 1].as_slice());
+    follows(&rt, rt.alloc(), setup(&rt, 1, 1, 0), &calls);
 }
 
 #[test]
 fn repeated_bio(rt: HostRuntime) {
-    let alloc = rt.alloc();
-    let limits = limits(&rt, 256);
-    let mut core = in_order(&rt, &alloc, setup(&rt, 1, 1, 0));
     let calls = [
-        Call::Release(7, 0, 8, 0, Ok(Placed::New(0))),
-        Call::Release(7, 100, 8, 0, Err(CoreFault::Repeated(id_of(7)))),
-        Call::Release(7, 100, 8, 1, Err(CoreFault::NoQueue)),
-        Call::Release(8, 100, 8, 0, Ok(Placed::New(1))),
+        Call::Read(7, 0, 8, 0, Ok(Placed::New(0))),
+        Call::Read(7, 100, 8, 0, Err(CoreFault::Repeated(id_of(7)))),
+        Call::Read(7, 100, 8, 1, Err(CoreFault::NoQueue)),
+        Call::Read(8, 100, 8, 0, Ok(Placed::New(1))),
+        Call::Pending(2),
     ];
-    follow(&rt, &alloc, &mut core, &calls);
-    let mut twice = alone(&rt, &alloc, bio(&rt, 9, Dir::Read, 200, 8));
+    follows(&rt, rt.alloc(), setup(&rt, 1, 1, 0), &calls);
+}
+
+/// A read of the bios 9, 10, 10 and 7, of 8 sectors each.
+fn twice_named(rt: &impl Abort, alloc: Global) -> Request {
+    let limits = limits(rt, 256);
+    let mut request = alone(rt, alloc, bio(rt, 9, Dir::Read, 200, 8));
     for (serial, first) in [(10, 208), (10, 216), (7, 224)] {
-        let next = alone(&rt, &alloc, bio(&rt, serial, Dir::Read, first, 8));
-        assert!(rt; twice.join(next, &limits).is_ok());
+        let next = alone(rt, alloc, bio(rt, serial, Dir::Read, first, 8));
+        assert!(rt; request.join(next, &limits).is_ok());
     }
+    request
+}
+
+/// What a core in which bio 7 waits answers to such a read.
+fn refused(rt: &impl Abort, alloc: Global) -> Option<Result<Placed, CoreFault>> {
+    let mut core = in_order(rt, &alloc, setup(rt, 1, 1, 0));
+    let enters = [Call::Read(7, 0, 8, 0, Ok(Placed::New(0)))];
+    follow(rt, &alloc, &mut core, &enters);
+    release(&mut core, twice_named(rt, alloc), 0)
+}
+
+/// The first bio in the order of the request that stands in it already, or in the trace: 10, and not 7.
+#[test]
+fn repeated_in_the_request(rt: HostRuntime) {
     let second = Err(CoreFault::Repeated(id_of(10)));
-    assert_eq!(rt; release(&rt, &mut core, twice, 0), second);
-    follow(&rt, &alloc, &mut core, &[Call::Pending(2)]);
+    assert_eq!(rt; refused(&rt, rt.alloc()), Some(second));
 }
 
 #[test]
 fn joined_on_entry(rt: HostRuntime) {
-    let alloc = rt.alloc();
-    let mut core = in_order(&rt, &alloc, setup(&rt, 1, 1, 5));
     let calls = [
-        Call::Release(0, 0, 4, 0, Ok(Placed::New(0))),
+        Call::Read(0, 0, 4, 0, Ok(Placed::New(0))),
         Call::Tick(Ok(1)),
         Call::Tick(Ok(2)),
         Call::Tick(Ok(3)),
-        Call::Release(1, 4, 4, 0, Ok(Placed::Joined(0, Side::Back))),
+        Call::Read(1, 4, 4, 0, Ok(Placed::Joined(0, Side::Back))),
         Call::Pending(1),
         Call::Issue(0, 0, Ok(Some(command(0, 3, 5)))),
     ];
-    follow(&rt, &alloc, &mut core, &calls);
+    follows(&rt, rt.alloc(), setup(&rt, 1, 1, 5), &calls);
 }
 
 #[test]
 fn front_merge(rt: HostRuntime) {
-    let alloc = rt.alloc();
-    let mut core = in_order(&rt, &alloc, setup(&rt, 1, 1, 0));
-    let calls = [
-        Call::Release(0, 10, 2, 0, Ok(Placed::New(0))),
-        Call::Release(1, 8, 2, 0, Ok(Placed::Joined(0, Side::Front))),
-        Call::Pending(1),
-    ];
-    follow(&rt, &alloc, &mut core, &calls);
     // the bios of the one request, in the order of their sectors: it is (8, 4)
     let tiles = [bio(&rt, 1, Dir::Read, 8, 2), bio(&rt, 0, Dir::Read, 10, 2)];
-    let waiting = core.trace().waiting().expect(&rt, "memory");
-    assert_eq!(rt; waiting.as_slice(), tiles.as_slice());
+    let calls = [
+        Call::Read(0, 10, 2, 0, Ok(Placed::New(0))),
+        Call::Read(1, 8, 2, 0, Ok(Placed::Joined(0, Side::Front))),
+        Call::Pending(1),
+        Call::Waiting(&tiles),
+    ];
+    follows(&rt, rt.alloc(), setup(&rt, 1, 1, 0), &calls);
 }
 
 /// A newcomer between two requests joins the newer one, and where that is full the older one.
 #[test]
 fn newest_is_joined(rt: HostRuntime) {
-    let alloc = rt.alloc();
-    let mut core = in_order(&rt, &alloc, setup(&rt, 1, 1, 0));
     let calls = [
-        Call::Release(0, 0, 4, 0, Ok(Placed::New(0))),
-        Call::Release(1, 8, 4, 0, Ok(Placed::New(1))),
-        Call::Release(2, 300, 4, 0, Ok(Placed::New(2))),
-        Call::Release(3, 6, 2, 0, Ok(Placed::Joined(1, Side::Front))),
-        Call::Release(4, 4, 2, 0, Ok(Placed::Joined(1, Side::Front))),
+        Call::Read(0, 0, 4, 0, Ok(Placed::New(0))),
+        Call::Read(1, 8, 4, 0, Ok(Placed::New(1))),
+        Call::Read(2, 300, 4, 0, Ok(Placed::New(2))),
+        Call::Read(3, 6, 2, 0, Ok(Placed::Joined(1, Side::Front))),
+        Call::Read(4, 4, 2, 0, Ok(Placed::Joined(1, Side::Front))),
         // request 1 begins at sector 4 and ends at 12: it grows to 256 sectors, and can't take one more
-        Call::Release(5, 12, 248, 0, Ok(Placed::Joined(1, Side::Back))),
-        Call::Release(6, 260, 4, 0, Ok(Placed::New(3))),
-        Call::Release(7, 304, 4, 0, Ok(Placed::Joined(2, Side::Back))),
+        Call::Read(5, 12, 248, 0, Ok(Placed::Joined(1, Side::Back))),
+        Call::Read(6, 260, 4, 0, Ok(Placed::New(3))),
+        Call::Read(7, 304, 4, 0, Ok(Placed::Joined(2, Side::Back))),
         Call::Pending(4),
     ];
-    follow(&rt, &alloc, &mut core, &calls);
+    follows(&rt, rt.alloc(), setup(&rt, 1, 1, 0), &calls);
 }
 
 #[test]
 fn older_is_joined_where_the_newer_is_full(rt: HostRuntime) {
-    let alloc = rt.alloc();
-    let mut core = in_order(&rt, &alloc, setup(&rt, 1, 1, 0));
     let calls = [
-        Call::Release(0, 0, 4, 0, Ok(Placed::New(0))),
-        Call::Release(1, 8, 256, 0, Ok(Placed::New(1))),
-        Call::Release(2, 4, 4, 0, Ok(Placed::Joined(0, Side::Back))),
+        Call::Read(0, 0, 4, 0, Ok(Placed::New(0))),
+        Call::Read(1, 8, 256, 0, Ok(Placed::New(1))),
+        Call::Read(2, 4, 4, 0, Ok(Placed::Joined(0, Side::Back))),
         Call::Pending(2),
     ];
-    follow(&rt, &alloc, &mut core, &calls);
+    follows(&rt, rt.alloc(), setup(&rt, 1, 1, 0), &calls);
 }
 
 #[test]
 fn picked_by_queue(rt: HostRuntime) {
-    let alloc = rt.alloc();
-    let mut core = in_order(&rt, &alloc, setup(&rt, 2, 2, 0));
     let calls = [
-        Call::Release(0, 0, 8, 1, Ok(Placed::New(0))),
-        Call::Release(1, 100, 8, 0, Ok(Placed::New(1))),
+        Call::Read(0, 0, 8, 1, Ok(Placed::New(0))),
+        Call::Read(1, 100, 8, 0, Ok(Placed::New(1))),
         Call::Issue(0, 0, Ok(Some(command(1, 0, 0)))),
         Call::Issue(0, 1, Ok(None)),
         Call::Issue(1, 1, Ok(Some(command(0, 0, 0)))),
     ];
-    follow(&rt, &alloc, &mut core, &calls);
+    follows(&rt, rt.alloc(), setup(&rt, 2, 2, 0), &calls);
 }
 
 /// The requests of two hardware queues lie between one another: each queue gives its own by rising id.
 #[test]
 fn two_queues_in_turn(rt: HostRuntime) {
-    let alloc = rt.alloc();
-    let mut core = in_order(&rt, &alloc, setup(&rt, 4, 2, 0));
     let calls = [
-        Call::Release(0, 0, 8, 0, Ok(Placed::New(0))),
-        Call::Release(1, 100, 8, 1, Ok(Placed::New(1))),
-        Call::Release(2, 200, 8, 0, Ok(Placed::New(2))),
-        Call::Release(3, 300, 8, 1, Ok(Placed::New(3))),
+        Call::Read(0, 0, 8, 0, Ok(Placed::New(0))),
+        Call::Read(1, 100, 8, 1, Ok(Placed::New(1))),
+        Call::Read(2, 200, 8, 0, Ok(Placed::New(2))),
+        Call::Read(3, 300, 8, 1, Ok(Placed::New(3))),
         Call::Issue(0, 0, Ok(Some(command(0, 0, 0)))),
         Call::Issue(1, 1, Ok(Some(command(1, 0, 0)))),
         Call::Issue(0, 2, Ok(Some(command(2, 0, 0)))),
@@ -159,54 +158,41 @@ fn two_queues_in_turn(rt: HostRuntime) {
         Call::Issue(0, 3, Ok(None)),
         Call::Issue(1, 3, Ok(Some(command(3, 0, 0)))),
     ];
-    follow(&rt, &alloc, &mut core, &calls);
+    follows(&rt, rt.alloc(), setup(&rt, 4, 2, 0), &calls);
 }
 
 #[test]
 fn no_join_across_queues(rt: HostRuntime) {
-    let alloc = rt.alloc();
-    let mut core = in_order(&rt, &alloc, setup(&rt, 2, 2, 0));
     let calls = [
-        Call::Release(0, 0, 4, 0, Ok(Placed::New(0))),
-        Call::Release(1, 4, 4, 1, Ok(Placed::New(1))),
+        Call::Read(0, 0, 4, 0, Ok(Placed::New(0))),
+        Call::Read(1, 4, 4, 1, Ok(Placed::New(1))),
         Call::Pending(2),
     ];
-    follow(&rt, &alloc, &mut core, &calls);
+    follows(&rt, rt.alloc(), setup(&rt, 2, 2, 0), &calls);
 }
 
 #[test]
 fn full_trace(rt: HostRuntime) {
-    let alloc = rt.alloc();
-    let mut core = in_order(&rt, &alloc, setup(&rt, 1, 1, 0));
-    follow(
-        &rt,
-        &alloc,
-        &mut core,
-        &[Call::Release(0, 0, 8, 0, Ok(Placed::New(0)))],
-    );
-    for round in 1..999_999u64 {
-        follow(&rt, &alloc, &mut core, &[Call::Tick(Ok(round))]);
-    }
     let calls = [
+        Call::Read(0, 0, 8, 0, Ok(Placed::New(0))),
+        Call::Ticks(999_998),
         Call::Issue(0, 0, Err(IssueFault::TraceFull)),
         Call::Tick(Ok(999_999)),
         Call::Tick(Err(TickFault::TraceFull)),
-        Call::Release(1, 100, 8, 0, Err(CoreFault::TraceFull)),
+        Call::Read(1, 100, 8, 0, Err(CoreFault::TraceFull)),
         Call::Depth(0, Err(DepthFault::TraceFull)),
         Call::Pending(1),
+        Call::Len(1_000_000),
     ];
-    follow(&rt, &alloc, &mut core, &calls);
-    assert_eq!(rt; core.trace().len(), 1_000_000);
+    follows(&rt, rt.alloc(), setup(&rt, 1, 1, 0), &calls);
 }
 
 #[test]
 fn a_tick_counts_what_is_in_flight(rt: HostRuntime) {
-    let alloc = rt.alloc();
-    let mut core = in_order(&rt, &alloc, setup(&rt, 3, 1, 0));
     let calls = [
-        Call::Release(0, 0, 8, 0, Ok(Placed::New(0))),
-        Call::Release(1, 100, 8, 0, Ok(Placed::New(1))),
-        Call::Release(2, 200, 8, 0, Ok(Placed::New(2))),
+        Call::Read(0, 0, 8, 0, Ok(Placed::New(0))),
+        Call::Read(1, 100, 8, 0, Ok(Placed::New(1))),
+        Call::Read(2, 200, 8, 0, Ok(Placed::New(2))),
         Call::Issue(0, 2, Ok(Some(command(0, 0, 0)))),
         Call::Issue(0, 0, Ok(Some(command(1, 0, 0)))),
         Call::Tick(Err(TickFault::InFlight(2))),
@@ -218,5 +204,5 @@ fn a_tick_counts_what_is_in_flight(rt: HostRuntime) {
         Call::Done(1, Ok(())),
         Call::Tick(Ok(1)),
     ];
-    follow(&rt, &alloc, &mut core, &calls);
+    follows(&rt, rt.alloc(), setup(&rt, 3, 1, 0), &calls);
 }

@@ -1,35 +1,18 @@
-//! What the tests are given: calls of a core as plain values, which are made once more where memory was refused.
+//! What the tests are given: cores, and lists of calls that they follow.
 
 ghost use Rattle.std.specs.Prelude.{◌≡◌, true};
 ghost use Rattle.blk_sched.specs.Meaning.{at_start};
 
 use blk_bio::{Bio, BioId, Dir, Limits, Request};
-use blk_core::{BackFault, Core, CoreFault, DepthFault, IssueFault, NotIssued, Placed, TickFault};
+use blk_calls::{Call, first_other};
+use blk_core::Core;
+use blk_lifo::Lifo;
 use blk_none::NoneSched;
 use blk_sched::Scheduler;
 use blk_trace::Setup;
 use edd_check::Command;
-use std::alloc::Allocator;
+use std::alloc::{Allocator, Global};
 use std::process::Abort;
-
-/// A call of a core, and its answer.
-#[derive(Clone, Copy)]
-pub enum Call {
-    /// Releases a read of a serial number, a first sector and so many sectors for a hardware queue.
-    Release(u64, u64, u64, u8, Result<Placed, CoreFault>),
-    /// Issues for a hardware queue under a tag.
-    Issue(u8, u16, Result<Option<Command>, IssueFault>),
-    /// Completes what is in flight under a tag.
-    Done(u16, Result<(), NotIssued>),
-    /// Takes what is in flight under a tag back.
-    Back(u16, Result<u64, BackFault>),
-    /// Sets the depth of the rounds to come.
-    Depth(u64, Result<(), DepthFault>),
-    /// Ends the round.
-    Tick(Result<u64, TickFault>),
-    /// Counts what waits.
-    Pending(u64),
-}
 
 /// A name of submitter 0.
 pub fn id_of(serial: u64) -> BioId {
@@ -58,14 +41,8 @@ fn again<A: Allocator + Clone>(rt: &impl Abort, alloc: &A) -> A {
 }
 
 /// A request of one bio.
-pub fn alone<A: Allocator + Clone>(rt: &impl Abort, alloc: &A, bio: Bio) -> Request<A> {
-    match Request::of(again(rt, alloc), bio) {
-        Ok(request) => request,
-        Err((back, _)) => match Request::of(again(rt, alloc), back) {
-            Ok(request) => request,
-            Err(_) => panic!(rt; "want of memory"),
-        },
-    }
+pub fn alone(rt: &impl Abort, alloc: Global, bio: Bio) -> Request {
+    blk_calls::alone(&alloc, bio).expect(rt, "memory")
 }
 
 /// A setup of 256 sectors and 128 segments, under which reads are due after so many rounds and writes at once.
@@ -101,88 +78,23 @@ pub fn in_order<A: Allocator + Clone>(
     }
 }
 
-/// Releases a request, which comes back where it is refused.
-pub fn release<S: Scheduler>(
-    rt: &impl Abort,
-    core: &mut Core<S>,
-    request: Request<S::A>,
-    hw: u8,
-) -> Result<Placed, CoreFault> {
-    let limits = core.trace().setup().limits();
-    assert!(rt; request.within(&limits));
-    let first = request.first();
-    match core.release(request, hw) {
-        Ok(placed) => Ok(placed),
-        Err((back, why)) => {
-            assert_eq!(rt; back.first(), first);
-            if why != CoreFault::Memory {
-                return Err(why);
-            }
-            match core.release(back, hw) {
-                Ok(placed) => Ok(placed),
-                Err((_, why)) => Err(why),
-            }
-        }
-    }
+/// Makes the calls one after the other, each of which has its answer.
+pub fn follow<S: Scheduler>(rt: &impl Abort, alloc: &S::A, core: &mut Core<S>, calls: &[Call<'_>]) {
+    assert_eq!(rt; first_other(alloc, core, calls), None);
 }
 
-/// Issues for a hardware queue under a tag.
-fn issue<S: Scheduler>(
-    core: &mut Core<S>,
-    hw: u8,
-    tag: u16,
-) -> Result<Option<Command>, IssueFault> {
-    match core.issue(hw, tag) {
-        Err(IssueFault::Memory) => core.issue(hw, tag),
-        answer => answer,
-    }
+/// Makes the calls of a core in the order of entry.
+pub fn follows(rt: &impl Abort, alloc: Global, setup: Setup, calls: &[Call<'_>]) {
+    let mut core = in_order(rt, &alloc, setup);
+    follow(rt, &alloc, &mut core, calls);
 }
 
-/// Takes what is in flight under a tag back.
-fn back<S: Scheduler>(core: &mut Core<S>, tag: u16) -> Result<u64, BackFault> {
-    match core.back(tag) {
-        Err(BackFault::Memory) => core.back(tag),
-        answer => answer,
-    }
-}
-
-/// Sets the depth of the rounds to come.
-fn set_depth<S: Scheduler>(core: &mut Core<S>, depth: u64) -> Result<(), DepthFault> {
-    match core.set_depth(depth) {
-        Err(DepthFault::Memory) => core.set_depth(depth),
-        answer => answer,
-    }
-}
-
-/// Ends the round.
-fn tick<S: Scheduler>(core: &mut Core<S>) -> Result<u64, TickFault> {
-    match core.tick() {
-        Err(TickFault::Memory) => core.tick(),
-        answer => answer,
-    }
-}
-
-/// Makes a call and compares its answer.
-fn make<S: Scheduler>(rt: &impl Abort, alloc: &S::A, core: &mut Core<S>, call: Call) {
-    match call {
-        Call::Release(serial, first, sectors, hw, answer) => {
-            let request = alone(rt, alloc, bio(rt, serial, Dir::Read, first, sectors));
-            assert_eq!(rt; release(rt, core, request, hw), answer);
-        }
-        Call::Issue(hw, tag, answer) => assert_eq!(rt; issue(core, hw, tag), answer),
-        Call::Done(tag, answer) => assert_eq!(rt; core.done(tag), answer),
-        Call::Back(tag, answer) => assert_eq!(rt; back(core, tag), answer),
-        Call::Depth(depth, answer) => assert_eq!(rt; set_depth(core, depth), answer),
-        Call::Tick(answer) => assert_eq!(rt; tick(core), answer),
-        Call::Pending(count) => assert_eq!(rt; core.pending(), count),
-    }
-}
-
-/// Makes the calls one after the other.
-pub fn follow<S: Scheduler>(rt: &impl Abort, alloc: &S::A, core: &mut Core<S>, calls: &[Call]) {
-    for call in calls {
-        make(rt, alloc, core, *call);
-    }
+/// Makes the calls of a core over the scheduler that is last in, first out.
+pub fn lifo_follows(rt: &impl Abort, alloc: Global, setup: Setup, calls: &[Call<'_>]) {
+    let Ok(mut core) = Core::new(alloc, setup, Lifo::new(alloc)) else {
+        panic!(rt; "want of memory");
+    };
+    follow(rt, &alloc, &mut core, calls);
 }
 
 /// A command of an id, a release and a due round.

@@ -1,22 +1,19 @@
 //! The core over a scheduler of one's own.
 
-use crate::given::{Call, command, follow, setup};
+use crate::given::{command, follow, in_order, lifo_follows, setup};
 use blk_bio::Side;
-use blk_core::{Core, Placed, TickFault};
-use blk_lifo::Lifo;
+use blk_calls::Call;
+use blk_core::{Placed, TickFault};
 
 #[test]
 fn newest_first(rt: HostRuntime) {
-    let alloc = rt.alloc();
-    let Ok(mut core) = Core::new(alloc, setup(&rt, 2, 2, 5), Lifo::new(alloc)) else {
-        panic!(rt; "want of memory");
-    };
+    let commands = [command(2, 0, 5), command(1, 1, 5), command(0, 0, 5)];
     let calls = [
-        Call::Release(0, 100, 8, 0, Ok(Placed::New(0))),
-        Call::Release(1, 200, 8, 1, Ok(Placed::New(1))),
-        Call::Release(2, 300, 8, 0, Ok(Placed::New(2))),
+        Call::Read(0, 100, 8, 0, Ok(Placed::New(0))),
+        Call::Read(1, 200, 8, 1, Ok(Placed::New(1))),
+        Call::Read(2, 300, 8, 0, Ok(Placed::New(2))),
         Call::Tick(Ok(1)),
-        Call::Release(3, 192, 8, 0, Ok(Placed::Joined(1, Side::Front))),
+        Call::Read(3, 192, 8, 0, Ok(Placed::Joined(1, Side::Front))),
         Call::Pending(3),
         Call::Issue(0, 0, Ok(Some(command(2, 0, 5)))),
         Call::Issue(0, 1, Ok(Some(command(1, 1, 5)))),
@@ -28,12 +25,16 @@ fn newest_first(rt: HostRuntime) {
         Call::Issue(1, 0, Ok(None)),
         Call::Done(1, Ok(())),
         Call::Pending(0),
+        Call::Commands(&commands),
+        Call::Rounds(&[1, 1, 2]),
     ];
-    follow(&rt, &alloc, &mut core, &calls);
-    let trace = core.into_trace();
-    let commands = trace.commands().expect(&rt, "memory");
-    let rounds = trace.rounds().expect(&rt, "memory");
-    let wanted = [command(2, 0, 5), command(1, 1, 5), command(0, 0, 5)];
-    assert_eq!(rt; commands.as_slice(), wanted.as_slice());
-    assert_eq!(rt; rounds.as_slice(), [1, 1, 2].as_slice());
+    lifo_follows(&rt, rt.alloc(), setup(&rt, 2, 2, 5), &calls);
+}
+
+/// The trace that a core leaves, in which a round ended.
+#[test]
+fn a_core_leaves_its_trace(rt: HostRuntime) {
+    let mut core = in_order(&rt, &rt.alloc(), setup(&rt, 1, 1, 0));
+    follow(&rt, &rt.alloc(), &mut core, &[Call::Tick(Ok(1))]);
+    assert_eq!(rt; core.into_trace().len(), 1);
 }

@@ -1,7 +1,8 @@
 //! The core where allocations are refused.
 
-use crate::given::{Call, command, follow, in_order, setup};
+use crate::given::{command, follow, in_order, setup};
 use blk_bio::Side;
+use blk_calls::Call;
 use blk_core::{Core, Placed};
 use blk_none::NoneSched;
 use refusing::Refusing;
@@ -16,8 +17,8 @@ fn enters<'a>(rt: &impl Abort, heap: &'a Refusing<Global>, core: &mut Under<'a>,
     assert!(rt; id < 1000);
     let (bio, sector) = (2 * id, 100 * id);
     let calls = [
-        Call::Release(bio, sector, 1, 0, Ok(Placed::New(id))),
-        Call::Release(
+        Call::Read(bio, sector, 1, 0, Ok(Placed::New(id))),
+        Call::Read(
             bio + 1,
             sector + 1,
             1,

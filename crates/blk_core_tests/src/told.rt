@@ -1,7 +1,8 @@
 //! What the core tells its scheduler.
 
-use crate::given::{Call, alone, bio, command, follow, release, setup};
+use crate::given::{command, follow, setup};
 use blk_bio::{Dir, Limits, Request, Side};
+use blk_calls::Call;
 use blk_core::{Core, Placed};
 use blk_lifo::Lifo;
 use blk_sched::{Queued, Scheduler};
@@ -125,11 +126,11 @@ fn heard(told: &Told) -> (Option<(u8, u64)>, Option<(u8, Dir, u64)>, Option<u64>
 /// queue 1, so its wait is 1.
 fn read_goes_out(rt: &impl Abort, alloc: Global, core: &mut Heard<'_>) {
     let calls = [
-        Call::Release(0, 0, 4, 0, Ok(Placed::New(0))),
+        Call::Read(0, 0, 4, 0, Ok(Placed::New(0))),
         Call::Tick(Ok(1)),
         Call::Tick(Ok(2)),
         Call::Tick(Ok(3)),
-        Call::Release(1, 4, 4, 0, Ok(Placed::Joined(0, Side::Back))),
+        Call::Read(1, 4, 4, 0, Ok(Placed::Joined(0, Side::Back))),
         Call::Tick(Ok(4)),
         Call::Issue(1, 1, Ok(Some(command(0, 3, 5)))),
         Call::Done(1, Ok(())),
@@ -140,9 +141,8 @@ fn read_goes_out(rt: &impl Abort, alloc: Global, core: &mut Heard<'_>) {
 
 /// Then a write of round 5 is issued at once, so its wait is 0.
 fn write_goes_out(rt: &impl Abort, alloc: Global, core: &mut Heard<'_>) {
-    let write = alone(rt, &alloc, bio(rt, 2, Dir::Write, 100, 8));
-    assert_eq!(rt; release(rt, core, write, 1), Ok(Placed::New(1)));
     let calls = [
+        Call::Write(2, 100, 8, 1, Ok(Placed::New(1))),
         Call::Issue(0, 0, Ok(Some(command(1, 5, 5)))),
         Call::Done(0, Ok(())),
     ];
@@ -153,7 +153,7 @@ fn write_goes_out(rt: &impl Abort, alloc: Global, core: &mut Heard<'_>) {
 /// It entered at queue 0 and goes out for queue 1.
 fn read_comes_back(rt: &impl Abort, alloc: Global, core: &mut Heard<'_>) {
     let calls = [
-        Call::Release(3, 200, 4, 0, Ok(Placed::New(2))),
+        Call::Read(3, 200, 4, 0, Ok(Placed::New(2))),
         Call::Issue(1, 1, Ok(Some(command(2, 5, 10)))),
         Call::Back(1, Ok(2)),
         Call::Tick(Ok(6)),

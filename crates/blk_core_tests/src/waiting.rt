@@ -11,7 +11,7 @@ use std::process::Abort;
 
 /// A request of four sectors, whose bio has its first sector as its serial number.
 fn four(rt: &impl Abort, alloc: Global, dir: Dir, first: u64) -> Request {
-    alone(rt, &alloc, bio(rt, first, dir, first, 4))
+    alone(rt, alloc, bio(rt, first, dir, first, 4))
 }
 
 /// A request of an id at hardware queue 0, of four sectors, released in round 0 and due in round 6.

@@ -1,11 +1,11 @@
-//! What the tests are given: cores over the deadline scheduler, and calls that are made once more where memory was
-//! refused.
+//! What the tests are given: cores over the deadline scheduler.
 
-use blk_bio::{Bio, BioId, Dir, Limits, Request};
-use blk_core::{Core, CoreFault, Placed};
+use blk_bio::Limits;
+use blk_calls::{Call, first_other};
+use blk_core::Core;
 use blk_deadline::{Deadline, Tunables};
 use blk_trace::Setup;
-use std::alloc::Allocator;
+use std::alloc::{Allocator, Global};
 use std::process::Abort;
 
 /// A core over the deadline scheduler.
@@ -48,92 +48,15 @@ pub fn under<A: Allocator + Clone>(
     }
 }
 
-/// A request of one bio.
-fn alone<A: Allocator + Clone>(rt: &impl Abort, alloc: &A, bio: Bio) -> Request<A> {
-    match Request::of(again(rt, alloc), bio) {
-        Ok(request) => request,
-        Err((back, _)) => match Request::of(again(rt, alloc), back) {
-            Ok(request) => request,
-            Err(_) => panic!(rt; "want of memory"),
-        },
-    }
-}
-
-/// Releases a bio of a serial number, and answers where it went.
-pub fn release<A: Allocator + Clone>(
+/// Makes the calls of a core of so many tags under these settings, under which requests are due after so many rounds.
+pub fn follows(
     rt: &impl Abort,
-    alloc: &A,
-    core: &mut Under<A>,
-    serial: u64,
-    dir: Dir,
-    first: u64,
-    sectors: u64,
-) -> Placed {
-    let id = BioId {
-        submitter: 0,
-        serial,
-    };
-    let bio = Bio::new(id, dir, first, sectors).expect(rt, "a bio");
-    let request = alone(rt, alloc, bio);
-    let limits = core.trace().setup().limits();
-    assert!(rt; request.within(&limits));
-    match core.release(request, 0) {
-        Ok(placed) => placed,
-        Err((back, CoreFault::Memory)) => match core.release(back, 0) {
-            Ok(placed) => placed,
-            Err(_) => panic!(rt; "refused again"),
-        },
-        Err(_) => panic!(rt; "refused"),
-    }
-}
-
-/// Releases reads of 8 sectors that begin at these.
-pub fn reads<A: Allocator + Clone>(
-    rt: &impl Abort,
-    alloc: &A,
-    core: &mut Under<A>,
-    firsts: &[u64],
+    alloc: Global,
+    depth: u64,
+    expire: u64,
+    tunables: Tunables,
+    calls: &[Call<'_>],
 ) {
-    for first in firsts {
-        let _ = release(rt, alloc, core, *first, Dir::Read, *first, 8);
-    }
-}
-
-/// Issues under a tag, and answers the id of the command, if there is one.
-pub fn issue<A: Allocator + Clone>(rt: &impl Abort, core: &mut Under<A>, tag: u16) -> Option<u64> {
-    let issued = match core.issue(0, tag) {
-        Ok(issued) => issued,
-        Err(_) => core.issue(0, tag).expect(rt, "an issue"),
-    };
-    let Some(command) = issued else {
-        return None;
-    };
-    Some(command.id)
-}
-
-/// Takes what is in flight under a tag back, and answers its id.
-pub fn back<A: Allocator + Clone>(rt: &impl Abort, core: &mut Under<A>, tag: u16) -> u64 {
-    match core.back(tag) {
-        Ok(id) => id,
-        Err(_) => core.back(tag).expect(rt, "a Back"),
-    }
-}
-
-/// Issues under one tag after the other, and compares the ids.
-pub fn issues<A: Allocator + Clone>(rt: &impl Abort, core: &mut Under<A>, ids: &[u64]) {
-    let mut tag = 0;
-    for id in ids {
-        assert_eq!(rt; issue(rt, core, tag), Some(*id));
-        assert!(rt; tag < 64);
-        tag += 1;
-    }
-}
-
-/// Ends so many rounds.
-pub fn ticks<A: Allocator + Clone>(rt: &impl Abort, core: &mut Under<A>, count: u64) {
-    for _ in 0..count {
-        if core.tick().is_err() {
-            let _ = core.tick().expect(rt, "a tick");
-        }
-    }
+    let mut core = under(rt, &alloc, depth, expire, tunables);
+    assert_eq!(rt; first_other(&alloc, &mut core, calls), None);
 }

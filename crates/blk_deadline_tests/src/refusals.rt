@@ -1,55 +1,52 @@
 //! The deadline scheduler where allocations are refused: each allocation of a scenario in turn, after which the
 //! call is made once more.
 
-ghost use Rattle.std.specs.Prelude.{◌<◌, ◌≤◌, ◌^◌};
-
-use crate::given::{Under, issue, release, ticks, tuned, under};
-use blk_bio::{Dir, Side};
+use crate::given::{Under, tuned, under};
+use blk_bio::Side;
+use blk_calls::{Call, first_other};
 use blk_core::Placed;
 use refusing::Refusing;
-use std::alloc::{Allocator, Global};
+use std::alloc::Global;
 use std::process::Abort;
 
 /// How many requests enter, each of two bios, one joined at the front.
 const REQUESTS: u64 = 12;
 
-/// A request of two bios enters, the second at the front of the first: where both went.
-fn enter<A: Allocator + Clone>(
-    rt: &impl Abort,
-    alloc: &A,
-    core: &mut Under<A>,
-    serial: u64,
-    first: u64,
-) -> (Placed, Placed)
-    requires first { 8 ≤ first }
-    requires serial { serial < 2 ^ 40 }
-{
-    let new = release(rt, alloc, core, serial, Dir::Read, first, 8);
-    let joined = release(rt, alloc, core, serial + 1, Dir::Read, first - 8, 8);
-    (new, joined)
+/// The core of this test.
+type Refused<'a> = Under<&'a Refusing<Global>>;
+
+/// A request of two bios enters, the second at the front of the first, 20 sectors below the one before.
+fn enters<'a>(heap: &'a Refusing<Global>, core: &mut Refused<'a>, id: u64) -> bool {
+    let (serial, first) = (
+        id.wrapping_mul(2),
+        1000u64.wrapping_sub(id.wrapping_mul(20)),
+    );
+    let joined = Ok(Placed::Joined(id, Side::Front));
+    let calls = [
+        Call::Read(serial, first, 8, 0, Ok(Placed::New(id))),
+        Call::Read(serial.wrapping_add(1), first.wrapping_sub(8), 8, 0, joined),
+    ];
+    first_other(&heap, core, &calls) == None
 }
 
-/// What goes out, if anything does; its round ends.
-fn go<A: Allocator + Clone>(rt: &impl Abort, core: &mut Under<A>) -> Option<u64> {
-    let id = issue(rt, core, 0);
-    assert!(rt; core.done(0).is_ok());
-    ticks(rt, core, 1);
-    id
+/// A request goes out, and its round ends.
+fn goes<'a>(heap: &'a Refusing<Global>, core: &mut Refused<'a>, id: u64) -> bool {
+    let calls = [Call::Send(0, 0, &[id]), Call::AllDone(1), Call::Ticks(1)];
+    first_other(&heap, core, &calls) == None
 }
 
-/// Requests enter from above downwards, and go out upwards after the first.
-fn come_and_go(rt: &impl Abort, heap: &Refusing<Global>) {
+/// Requests enter from above downwards, and go out upwards after the first: nothing lies above it; the oldest that is left
+/// begins a batch, and so on downwards.
+fn come_and_go<'a>(rt: &impl Abort, heap: &'a Refusing<Global>) {
     let mut core = under(rt, &heap, 1, 1000, tuned(16, 2, true));
     for id in 0..REQUESTS {
-        let placed = enter(rt, &heap, &mut core, 2 * id, 1000 - 20 * id);
-        assert!(rt; placed == (Placed::New(id), Placed::Joined(id, Side::Front)));
+        assert!(rt; enters(heap, &mut core, id));
     }
-    // nothing lies above the first; the oldest that is left begins a batch, and so on downwards
     for id in 0..REQUESTS {
-        assert!(rt; go(rt, &mut core) == Some(id));
+        assert!(rt; goes(heap, &mut core, id));
     }
-    assert!(rt; issue(rt, &mut core, 0) == None);
-    assert_eq!(rt; core.pending(), 0);
+    let none = [Call::Issue(0, 0, Ok(None)), Call::Pending(0)];
+    assert!(rt; first_other(&heap, &mut core, &none) == None);
 }
 
 #[test]

@@ -1,75 +1,82 @@
 //! The rows of the rule. Requests are named by the order in which they enter.
 
-use crate::given::{back, issue, issues, reads, release, ticks, tuned, under};
-use blk_bio::{Dir, Side};
+use crate::given::{follows, tuned};
+use blk_bio::Side;
+use blk_calls::Call;
 use blk_core::Placed;
 use blk_deadline::Deadline;
 use blk_sched::SchedFault;
-use std::alloc::Global;
-use std::process::Abort;
 
 /// A batch goes on upwards; where nothing lies further on, the oldest begins the next one.
 #[test]
 fn deadline_batch(rt: HostRuntime) {
-    let alloc = rt.alloc();
-    let mut core = under(&rt, &alloc, 8, 100, tuned(2, 2, true));
-    reads(&rt, &alloc, &mut core, &[300, 100, 200]);
-    issues(&rt, &mut core, &[0, 1, 2]);
+    let calls = [
+        Call::Read(0, 300, 8, 0, Ok(Placed::New(0))),
+        Call::Read(1, 100, 8, 0, Ok(Placed::New(1))),
+        Call::Read(2, 200, 8, 0, Ok(Placed::New(2))),
+        Call::Send(0, 0, &[0, 1, 2]),
+    ];
+    follows(&rt, rt.alloc(), 8, 100, tuned(2, 2, true), &calls);
 }
 
 /// Reads go first twice while a write waits, and then the write.
 #[test]
 fn writes_starved(rt: HostRuntime) {
-    let alloc = rt.alloc();
-    let mut core = under(&rt, &alloc, 8, 100, tuned(1, 2, true));
-    reads(&rt, &alloc, &mut core, &[100, 200, 300, 400]);
-    let _ = release(&rt, &alloc, &mut core, 0, Dir::Write, 50, 8);
-    issues(&rt, &mut core, &[0, 1, 4, 2, 3]);
+    let calls = [
+        Call::Read(0, 100, 8, 0, Ok(Placed::New(0))),
+        Call::Read(1, 200, 8, 0, Ok(Placed::New(1))),
+        Call::Read(2, 300, 8, 0, Ok(Placed::New(2))),
+        Call::Read(3, 400, 8, 0, Ok(Placed::New(3))),
+        Call::Write(4, 50, 8, 0, Ok(Placed::New(4))),
+        Call::Send(0, 0, &[0, 1, 4, 2, 3]),
+    ];
+    follows(&rt, rt.alloc(), 8, 100, tuned(1, 2, true), &calls);
 }
 
 /// Reads that don't go first at all: the write does.
 #[test]
 fn write_goes_first(rt: HostRuntime) {
-    let alloc = rt.alloc();
-    let mut core = under(&rt, &alloc, 8, 100, tuned(1, 0, true));
-    reads(&rt, &alloc, &mut core, &[100]);
-    let _ = release(&rt, &alloc, &mut core, 0, Dir::Write, 50, 8);
-    issues(&rt, &mut core, &[1, 0]);
+    let calls = [
+        Call::Read(0, 100, 8, 0, Ok(Placed::New(0))),
+        Call::Write(1, 50, 8, 0, Ok(Placed::New(1))),
+        Call::Send(0, 0, &[1, 0]),
+    ];
+    follows(&rt, rt.alloc(), 8, 100, tuned(1, 0, true), &calls);
 }
 
-/// Four reads enter, so many rounds end, and then these go out in this order.
-fn four_go_out(rt: &impl Abort, alloc: &Global, rounds: u64, ids: &[u64]) {
-    let mut core = under(rt, alloc, 8, 5, tuned(2, 2, true));
-    reads(rt, alloc, &mut core, &[500, 100, 600, 700]);
-    ticks(rt, &mut core, rounds);
-    issues(rt, &mut core, ids);
-}
-
-/// Between batches what is due goes first, and nothing in a batch.
+/// Between batches what is due goes first, and nothing in a batch: four reads that are due in round 5 go out in round 9,
+/// and in round 0.
 #[test]
 fn batches_and_expiry(rt: HostRuntime) {
-    let alloc = rt.alloc();
-    four_go_out(&rt, &alloc, 9, &[0, 2, 1, 3]);
-    four_go_out(&rt, &alloc, 0, &[0, 2, 3, 1]);
-}
-
-/// Where three reads go that enter downwards, each right before the one above it, and how many requests wait then.
-fn downwards(rt: &impl Abort, alloc: &Global, front_merges: bool) -> (Placed, Placed, Placed, u64) {
-    let mut core = under(rt, alloc, 1, 0, tuned(16, 2, front_merges));
-    let above = release(rt, alloc, &mut core, 0, Dir::Read, 10, 2);
-    let middle = release(rt, alloc, &mut core, 1, Dir::Read, 8, 2);
-    let below = release(rt, alloc, &mut core, 2, Dir::Read, 6, 2);
-    (above, middle, below, core.pending())
+    for (rounds, ids) in [(9, [0, 2, 1, 3]), (0, [0, 2, 3, 1])] {
+        let calls = [
+            Call::Read(0, 500, 8, 0, Ok(Placed::New(0))),
+            Call::Read(1, 100, 8, 0, Ok(Placed::New(1))),
+            Call::Read(2, 600, 8, 0, Ok(Placed::New(2))),
+            Call::Read(3, 700, 8, 0, Ok(Placed::New(3))),
+            Call::Ticks(rounds),
+            Call::Send(0, 0, &ids),
+        ];
+        follows(&rt, rt.alloc(), 8, 5, tuned(2, 2, true), &calls);
+    }
 }
 
 /// A newcomer joins at the front where that is allowed, and another at the front of that.
 #[test]
 fn front_merge(rt: HostRuntime) {
-    let alloc = rt.alloc();
     let joined = Placed::Joined(0, Side::Front);
-    assert!(rt; downwards(&rt, &alloc, true) == (Placed::New(0), joined, joined, 1));
-    let apart = (Placed::New(0), Placed::New(1), Placed::New(2), 3);
-    assert!(rt; downwards(&rt, &alloc, false) == apart);
+    for (allowed, second, third, left) in [
+        (true, joined, joined, 1),
+        (false, Placed::New(1), Placed::New(2), 3),
+    ] {
+        let calls = [
+            Call::Read(0, 10, 2, 0, Ok(Placed::New(0))),
+            Call::Read(1, 8, 2, 0, Ok(second)),
+            Call::Read(2, 6, 2, 0, Ok(third)),
+            Call::Pending(left),
+        ];
+        follows(&rt, rt.alloc(), 1, 0, tuned(16, 2, allowed), &calls);
+    }
 }
 
 /// A batch of no request is refused.
@@ -86,38 +93,51 @@ fn constructors_refuse(rt: HostRuntime) {
 /// Two commands go out in one round after two ticks: what is due, the oldest first.
 #[test]
 fn two_in_one_round(rt: HostRuntime) {
-    let alloc = rt.alloc();
-    let mut core = under(&rt, &alloc, 2, 2, tuned(1, 2, true));
-    reads(&rt, &alloc, &mut core, &[50, 10, 60]);
-    ticks(&rt, &mut core, 2);
-    issues(&rt, &mut core, &[0, 1]);
+    let calls = [
+        Call::Read(0, 50, 8, 0, Ok(Placed::New(0))),
+        Call::Read(1, 10, 8, 0, Ok(Placed::New(1))),
+        Call::Read(2, 60, 8, 0, Ok(Placed::New(2))),
+        Call::Ticks(2),
+        Call::Send(0, 0, &[0, 1]),
+    ];
+    follows(&rt, rt.alloc(), 2, 2, tuned(1, 2, true), &calls);
 }
 
 /// A batch goes past a request that is due: the read at 50 is issued three rounds late, where the order of entry would
 /// be two rounds late at most.
 #[test]
 fn later_than_none(rt: HostRuntime) {
-    let alloc = rt.alloc();
-    let mut core = under(&rt, &alloc, 1, 0, tuned(16, 2, true));
-    reads(&rt, &alloc, &mut core, &[100, 50, 200]);
-    for id in [0, 2, 3, 1] {
-        assert_eq!(rt; issue(&rt, &mut core, 0), Some(id));
-        assert!(rt; core.done(0).is_ok());
-        ticks(&rt, &mut core, 1);
-        if id == 0 {
-            reads(&rt, &alloc, &mut core, &[300]);
-        }
-    }
+    let calls = [
+        Call::Read(0, 100, 8, 0, Ok(Placed::New(0))),
+        Call::Read(1, 50, 8, 0, Ok(Placed::New(1))),
+        Call::Read(2, 200, 8, 0, Ok(Placed::New(2))),
+        Call::Send(0, 0, &[0]),
+        Call::AllDone(1),
+        Call::Ticks(1),
+        Call::Read(3, 300, 8, 0, Ok(Placed::New(3))),
+        Call::Send(0, 0, &[2]),
+        Call::AllDone(1),
+        Call::Ticks(1),
+        Call::Send(0, 0, &[3]),
+        Call::AllDone(1),
+        Call::Ticks(1),
+        Call::Send(0, 0, &[1]),
+    ];
+    follows(&rt, rt.alloc(), 1, 0, tuned(16, 2, true), &calls);
 }
 
 /// What is handed back goes out first, and the batch goes on from where it was.
 #[test]
 fn handed_back_in_a_batch(rt: HostRuntime) {
-    let alloc = rt.alloc();
-    let mut core = under(&rt, &alloc, 4, 100, tuned(3, 2, true));
-    reads(&rt, &alloc, &mut core, &[300, 100, 400, 500]);
-    issues(&rt, &mut core, &[0]);
-    assert_eq!(rt; back(&rt, &mut core, 0), 0);
-    ticks(&rt, &mut core, 1);
-    issues(&rt, &mut core, &[0, 2, 3, 1]);
+    let calls = [
+        Call::Read(0, 300, 8, 0, Ok(Placed::New(0))),
+        Call::Read(1, 100, 8, 0, Ok(Placed::New(1))),
+        Call::Read(2, 400, 8, 0, Ok(Placed::New(2))),
+        Call::Read(3, 500, 8, 0, Ok(Placed::New(3))),
+        Call::Send(0, 0, &[0]),
+        Call::Back(0, Ok(0)),
+        Call::Ticks(1),
+        Call::Send(0, 0, &[0, 2, 3, 1]),
+    ];
+    follows(&rt, rt.alloc(), 4, 100, tuned(3, 2, true), &calls);
 }

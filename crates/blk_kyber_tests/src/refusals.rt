@@ -1,54 +1,49 @@
 //! The kyber scheduler where allocations are refused: each allocation of a scenario in turn, after which the call is made
 //! once more.
 
-ghost use Rattle.std.specs.Prelude.{◌<◌, ◌≤◌, ◌^◌};
-
-use crate::given::{Under, issue, release, targets, ticks, under};
-use blk_bio::{Dir, Side};
+use crate::given::{Under, targets, under};
+use blk_bio::Side;
+use blk_calls::{Call, first_other};
 use blk_core::Placed;
 use refusing::Refusing;
-use std::alloc::{Allocator, Global};
+use std::alloc::Global;
 use std::process::Abort;
 
 /// How many requests enter, each of two bios, one joined at the front.
 const REQUESTS: u64 = 10;
 
-/// A request of two bios enters at a hardware queue, the second at the front of the first: where both went.
-fn enter<A: Allocator + Clone>(
-    rt: &impl Abort,
-    alloc: &A,
-    core: &mut Under<A>,
-    serial: u64,
-    first: u64,
-) -> (Placed, Placed)
-    requires first { 8 ≤ first }
-    requires serial { serial < 2 ^ 40 }
-{
-    let new = release(rt, alloc, core, 1, serial, Dir::Read, first);
-    let joined = release(rt, alloc, core, 1, serial + 1, Dir::Read, first - 8);
-    (new, joined)
+/// The core of this test.
+type Refused<'a> = Under<&'a Refusing<Global>>;
+
+/// A request of two bios enters at hardware queue 1, the second at the front of the first, 32 sectors above the one before.
+fn enters<'a>(heap: &'a Refusing<Global>, core: &mut Refused<'a>, id: u64) -> bool {
+    let (serial, below) = (id.wrapping_mul(2), id.wrapping_mul(32).wrapping_add(8));
+    let joined = Ok(Placed::Joined(id, Side::Front));
+    let calls = [
+        Call::Read(serial, below.wrapping_add(8), 8, 1, Ok(Placed::New(id))),
+        Call::Read(serial.wrapping_add(1), below, 8, 1, joined),
+    ];
+    first_other(&heap, core, &calls) == None
 }
 
-/// What goes out for that queue, if anything does; its round ends.
-fn go<A: Allocator + Clone>(rt: &impl Abort, core: &mut Under<A>) -> Option<u64> {
-    let id = issue(rt, core, 1, 0);
-    assert!(rt; core.done(0).is_ok());
-    ticks(rt, core, 1);
-    id
+/// A request goes out for that queue, and its round ends.
+fn goes<'a>(heap: &'a Refusing<Global>, core: &mut Refused<'a>, id: u64) -> bool {
+    let calls = [Call::Send(1, 0, &[id]), Call::AllDone(1), Call::Ticks(1)];
+    first_other(&heap, core, &calls) == None
 }
 
-/// Requests enter at one hardware queue and go out in their order.
-fn come_and_go(rt: &impl Abort, heap: &Refusing<Global>) {
+/// Requests enter at one hardware queue and go out in their order; another queue has none.
+fn come_and_go<'a>(rt: &impl Abort, heap: &'a Refusing<Global>) {
     let mut core = under(rt, &heap, 1, 2, targets(2, 10));
     for id in 0..REQUESTS {
-        let placed = enter(rt, &heap, &mut core, 2 * id, 16 + 32 * id);
-        assert!(rt; placed == (Placed::New(id), Placed::Joined(id, Side::Front)));
+        assert!(rt; enters(heap, &mut core, id));
     }
-    assert!(rt; issue(rt, &mut core, 0, 0) == None);
+    let none = [Call::Issue(0, 0, Ok(None))];
+    assert!(rt; first_other(&heap, &mut core, &none) == None);
     for id in 0..REQUESTS {
-        assert!(rt; go(rt, &mut core) == Some(id));
+        assert!(rt; goes(heap, &mut core, id));
     }
-    assert_eq!(rt; core.pending(), 0);
+    assert!(rt; first_other(&heap, &mut core, &[Call::Pending(0)]) == None);
 }
 
 #[test]
