@@ -4,6 +4,7 @@ use crate::given::{Heap, bio, limits};
 use blk_bio::{Dir, Side};
 use blk_plug::{Added, Plug, PlugFault};
 use refusing::Refusing;
+use std::alloc::Global;
 use std::process::Abort;
 
 /// A plug without requests, within limits of 128 segments.
@@ -39,52 +40,99 @@ fn add<'a>(
     }
 }
 
+/// What is done with a plug, or seen in it.
+#[derive(Clone, Copy)]
+enum Step {
+    /// A read of a first sector and so many sectors is added.
+    Add(u64, u64, Added),
+    /// There is no room for such a read, which comes back.
+    Full(u64, u64),
+    /// The first request is taken, which has this range.
+    Take(u64, u64),
+    /// The first request has so many bios.
+    Bios(usize),
+    /// There are so many requests, and a first one unless there is none.
+    Len(usize),
+}
+
 /// The range of the plug's first request, which is taken.
-fn take(rt: &impl Abort, plug: &mut Plug<Heap<'_>>) -> (u64, u64) {
-    let request = plug.take_first().expect(rt, "a request");
-    (request.first(), request.sectors())
+fn take(plug: &mut Plug<Heap<'_>>) -> Option<(u64, u64)> {
+    let request = plug.take_first()?;
+    Some((request.first(), request.sectors()))
+}
+
+/// How many bios the plug's first request has.
+fn bios_of_first(plug: &Plug<Heap<'_>>) -> Option<usize> {
+    Some(plug.first()?.bios().len())
+}
+
+/// Does what is done, and looks at what is seen.
+fn make<'a>(rt: &impl Abort, heap: Heap<'a>, plug: &mut Plug<Heap<'a>>, step: Step) {
+    match step {
+        Step::Add(first, sectors, added) => {
+            assert_eq!(rt; add(rt, heap, plug, first, sectors), added, "{first}");
+        }
+        Step::Full(first, sectors) => {
+            let read = bio(rt, Dir::Read, first, sectors);
+            assert_eq!(rt; plug.add(read), Err((read, PlugFault::Full)));
+        }
+        Step::Take(first, sectors) => assert_eq!(rt; take(plug), Some((first, sectors))),
+        Step::Bios(count) => assert_eq!(rt; bios_of_first(plug), Some(count)),
+        Step::Len(count) => {
+            assert_eq!(rt; plug.len(), count);
+            assert_eq!(rt; plug.first().is_none(), count == 0);
+        }
+    }
+}
+
+/// Does and sees one after the other.
+fn follow<'a>(rt: &impl Abort, heap: Heap<'a>, plug: &mut Plug<Heap<'a>>, steps: &[Step]) {
+    for step in steps {
+        make(rt, heap, plug, *step);
+    }
+}
+
+/// Does and sees one after the other with a new plug.
+fn follows(rt: &impl Abort, alloc: Global, max_sectors: u64, steps: &[Step]) {
+    let heap = Refusing::new(alloc);
+    let mut plug = plug(rt, &heap, max_sectors);
+    assert_eq!(rt; plug.limits(), limits(rt, max_sectors, 128));
+    follow(rt, &heap, &mut plug, steps);
 }
 
 #[test]
 fn three_reads_become_one(rt: HostRuntime) {
-    let heap = Refusing::new(rt.alloc());
-    let mut plug = plug(&rt, &heap, 256);
-    assert_eq!(rt; plug.limits(), limits(&rt, 256, 128));
-    assert!(rt; plug.first().is_none());
-    for (first, sectors, added) in [
-        (3, 3, Added::New),
-        (6, 1, Added::Joined(Side::Back)),
-        (7, 2, Added::Joined(Side::Back)),
-    ] {
-        assert_eq!(rt; add(&rt, &heap, &mut plug, first, sectors), added);
-    }
-    assert_eq!(rt; plug.len(), 1);
-    let request = plug.first().expect(&rt, "a request");
-    assert_eq!(rt; request.bios().len(), 3);
-    assert_eq!(rt; take(&rt, &mut plug), (3, 6));
-    assert!(rt; plug.take_first().is_none());
+    let steps = [
+        Step::Len(0),
+        Step::Add(3, 3, Added::New),
+        Step::Add(6, 1, Added::Joined(Side::Back)),
+        Step::Add(7, 2, Added::Joined(Side::Back)),
+        Step::Len(1),
+        Step::Bios(3),
+        Step::Take(3, 6),
+        Step::Len(0),
+    ];
+    follows(&rt, rt.alloc(), 256, &steps);
 }
 
 #[test]
 fn limits_refuse_a_join(rt: HostRuntime) {
-    let heap = Refusing::new(rt.alloc());
-    let mut plug = plug(&rt, &heap, 8);
-    for (first, sectors, added) in [
-        (0, 4, Added::New),
-        (4, 4, Added::Joined(Side::Back)),
-        (8, 1, Added::New),
-    ] {
-        assert_eq!(rt; add(&rt, &heap, &mut plug, first, sectors), added);
-    }
-    assert_eq!(rt; take(&rt, &mut plug), (0, 8));
-    assert_eq!(rt; take(&rt, &mut plug), (8, 1));
+    let steps = [
+        Step::Add(0, 4, Added::New),
+        Step::Add(4, 4, Added::Joined(Side::Back)),
+        Step::Add(8, 1, Added::New),
+        Step::Take(0, 8),
+        Step::Take(8, 1),
+        Step::Len(0),
+    ];
+    follows(&rt, rt.alloc(), 8, &steps);
 }
 
 /// A plug of 32 reads of 8 sectors, 8 sectors apart.
 fn full<'a>(rt: &impl Abort, heap: Heap<'a>) -> Plug<Heap<'a>> {
     let mut plug = plug(rt, heap, 256);
     for k in 0..32u64 {
-        assert_eq!(rt; add(rt, heap, &mut plug, 16 * k, 8), Added::New);
+        follow(rt, heap, &mut plug, &[Step::Add(16 * k, 8, Added::New)]);
     }
     plug
 }
@@ -93,38 +141,38 @@ fn full<'a>(rt: &impl Abort, heap: Heap<'a>) -> Plug<Heap<'a>> {
 fn full_plug(rt: HostRuntime) {
     let heap = Refusing::new(rt.alloc());
     let mut plug = full(&rt, &heap);
-    let last = bio(&rt, Dir::Read, 600, 8);
-    assert_eq!(rt; plug.add(last), Err((last, PlugFault::Full)));
-    let added = add(&rt, &heap, &mut plug, 8, 8);
-    assert_eq!(rt; (added, plug.len()), (Added::Joined(Side::Front), 32));
-    assert_eq!(rt; take(&rt, &mut plug), (0, 8));
-    assert_eq!(rt; take(&rt, &mut plug), (8, 16));
+    let steps = [
+        Step::Full(600, 8),
+        Step::Add(8, 8, Added::Joined(Side::Front)),
+        Step::Len(32),
+        Step::Take(0, 8),
+        Step::Take(8, 16),
+    ];
+    follow(&rt, &heap, &mut plug, &steps);
 }
 
 /// Where requests have left, the newest that a bio fits is joined all the same.
 fn joins_after_some_left(rt: &impl Abort, heap: Heap<'_>) {
     let mut plug = full(rt, heap);
     for k in 0..20u64 {
-        assert_eq!(rt; take(rt, &mut plug), (16 * k, 8));
+        follow(rt, heap, &mut plug, &[Step::Take(16 * k, 8)]);
     }
     // sectors at which requests began that have left
     for k in 0..20u64 {
-        assert_eq!(rt; add(rt, heap, &mut plug, 16 * k, 8), Added::New);
+        follow(rt, heap, &mut plug, &[Step::Add(16 * k, 8, Added::New)]);
     }
-    for (first, sectors, side) in [
+    let steps = [
         // the newest, an older one, and one of two, the newer of which is joined
-        (312, 4, Side::Back),
-        (504, 8, Side::Back),
-        (328, 8, Side::Front),
+        Step::Add(312, 4, Added::Joined(Side::Back)),
+        Step::Add(504, 8, Added::Joined(Side::Back)),
+        Step::Add(328, 8, Added::Joined(Side::Front)),
         // where the newest ends by now
-        (316, 2, Side::Back),
-    ] {
-        let added = add(rt, heap, &mut plug, first, sectors);
-        assert_eq!(rt; added, Added::Joined(side), "{first}");
-    }
-    assert_eq!(rt; plug.len(), 32);
-    assert_eq!(rt; take(rt, &mut plug), (320, 8));
-    assert_eq!(rt; take(rt, &mut plug), (328, 16));
+        Step::Add(316, 2, Added::Joined(Side::Back)),
+        Step::Len(32),
+        Step::Take(320, 8),
+        Step::Take(328, 16),
+    ];
+    follow(rt, heap, &mut plug, &steps);
 }
 
 #[test]
