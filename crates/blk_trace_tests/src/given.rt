@@ -1,8 +1,7 @@
-//! What the tests are given: events as plain values, lists of what is done with a trace and seen in it, and calls that are made once
-//! more where an allocation was refused.
+//! What the tests are given: events as plain values, and calls that are made once more where an allocation was refused.
 
 use blk_bio::{Bio, BioId, Dir, Limits, Request};
-use blk_trace::{Event, PushFault, Setup, Trace, TraceFault, TraceRule};
+use blk_trace::{Event, PushFault, Setup, Trace, TraceFault};
 use edd_check::Command;
 use refusing::Refusing;
 use std::alloc::Global;
@@ -223,95 +222,6 @@ pub fn carries<'a>(
         .iter()
         .enumerate()
         .all(|(round, depth)| capacity.at(round as u64) == *depth)
-}
-
-/// What is done with a trace, or seen in it.
-#[derive(Clone, Copy)]
-pub enum Look<'a> {
-    /// Pushes the event of a step that breaks no rule.
-    Push(Step),
-    /// Pushes the events of steps that break no rule.
-    PushAll(&'a [Step]),
-    /// Pushes so many Ticks.
-    Ticks(u64),
-    /// Pushes the event of a step that breaks the rule: it comes back, and the trace stays.
-    Breaks(Step, TraceRule),
-    /// How many events there are, the round, and how many issues are not done.
-    Standing(u64, u64, u64),
-    /// The depth of the round that is on, and whether none was ever set.
-    Depth(u64, bool),
-    /// How many commands the rounds carry, from round 0 on.
-    Carries(&'a [u64]),
-    /// The commands, and the rounds in which they went out.
-    Commands(&'a [Command], &'a [u64]),
-    /// The bios that wait.
-    Waiting(&'a [Bio]),
-    /// The events.
-    Events(&'a [Step]),
-}
-
-/// Pushes an event that breaks the rule, which has to come back and to leave the trace.
-pub fn breaks<'a>(
-    rt: &impl Abort,
-    trace: &mut Trace<Heap<'a>>,
-    event: Event<Heap<'a>>,
-    rule: TraceRule,
-) -> Event<Heap<'a>> {
-    let before = standing(trace);
-    match trace.push(event) {
-        Ok(()) => panic!(rt; "pushed"),
-        Err((back, why)) => {
-            assert_eq!(rt; why, PushFault::Rule(rule));
-            assert_eq!(rt; standing(trace), before);
-            back
-        }
-    }
-}
-
-/// Pushes so many Ticks.
-fn push_ticks<'a>(rt: &impl Abort, heap: Heap<'a>, trace: &mut Trace<Heap<'a>>, count: u64) {
-    for _ in 0..count {
-        push(rt, heap, trace, Step::Tick);
-    }
-}
-
-/// Does what is done, and looks at what is seen.
-fn see<'a>(rt: &impl Abort, heap: Heap<'a>, trace: &mut Trace<Heap<'a>>, look: Look<'_>) {
-    match look {
-        Look::Push(step) => push(rt, heap, trace, step),
-        Look::PushAll(steps) => push_all(rt, heap, trace, steps),
-        Look::Ticks(count) => push_ticks(rt, heap, trace, count),
-        Look::Breaks(step, rule) => {
-            let back = breaks(rt, trace, event(rt, heap, step), rule);
-            assert!(rt; is_event(&back, &step));
-        }
-        Look::Standing(len, round, open) => {
-            assert_eq!(rt; standing(trace), (len, round, open));
-        }
-        Look::Depth(depth, fixed) => {
-            assert!(rt; trace.depth_now() == depth && trace.fixed() == fixed);
-        }
-        Look::Carries(depths) => assert!(rt; carries(rt, heap, trace, depths)),
-        Look::Commands(commands, rounds) => {
-            assert!(rt; has_commands(rt, heap, trace, commands, rounds));
-        }
-        Look::Waiting(bios) => assert!(rt; has_waiting(rt, heap, trace, bios)),
-        Look::Events(steps) => assert!(rt; has_events(trace, steps)),
-    }
-}
-
-/// Does and sees one after the other with a new trace.
-pub fn follows(rt: &impl Abort, alloc: Global, setup: Setup, looks: &[Look<'_>]) {
-    let heap = Refusing::new(alloc);
-    let mut trace = empty(rt, &heap, setup);
-    for one in looks {
-        see(rt, &heap, &mut trace, *one);
-    }
-}
-
-/// Why no trace is made of a list of the events of the steps, if none is.
-pub fn refusal(rt: &impl Abort, alloc: Global, setup: Setup, steps: &[Step]) -> Option<TraceFault> {
-    made(rt, &Refusing::new(alloc), setup, steps).err()
 }
 
 /// A command of an id, a release and a due round.

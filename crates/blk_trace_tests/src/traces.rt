@@ -1,8 +1,8 @@
 //! What traces of a few events say: the worked rows.
 
 use crate::given::{
-    Heap, Look, Step, bio, command, empty, follows, has_commands, has_events, has_waiting, limits,
-    made, push_all, refusal, setup, standing,
+    Heap, Step, bio, command, empty, has_commands, has_events, has_waiting, limits, made, push,
+    push_all, setup, standing,
 };
 use blk_bio::Dir;
 use blk_trace::laws::{depths_by_places, timed_by_the_ticks_before};
@@ -83,59 +83,51 @@ fn write_before_read(rt: HostRuntime) {
 /// Without its first Tick the second Issue has the tag of the first one's round.
 #[test]
 fn trace_cut_short(rt: HostRuntime) {
+    let heap = Refusing::new(rt.alloc());
     let [a, b, c, d, _, e, f, g] = write_then_read(&rt);
     let setup = setup(&rt, 0, 9, limits(&rt, 256, 128));
-    let answer = refusal(&rt, rt.alloc(), setup, &[a, b, c, d, e, f, g]);
+    let answer = made(&rt, &heap, setup, &[a, b, c, d, e, f, g]);
     let rule = TraceRule::TagUsed;
-    assert_eq!(rt; answer, Some(TraceFault::Rule { at: 4, rule }));
+    assert_eq!(rt; answer.err(), Some(TraceFault::Rule { at: 4, rule }));
 }
 
 #[test]
 fn joined_on_entry(rt: HostRuntime) {
+    let heap = Refusing::new(rt.alloc());
     let first = bio(&rt, Dir::Read, 0, 4);
     let second = bio(&rt, Dir::Read, 4, 4);
-    let (waiting, commands) = ([first, second], [command(0, 3, 5)]);
-    let looks = [
-        Look::Push(Step::Release(0, first)),
-        Look::Ticks(3),
-        Look::Push(Step::Join(0, second)),
-        Look::Waiting(&waiting),
-        Look::Push(Step::Issue(0, 0)),
-        Look::Commands(&commands, &[3]),
-    ];
-    follows(
+    let mut trace = empty(&rt, &heap, setup(&rt, 5, 50, limits(&rt, 256, 128)));
+    push(&rt, &heap, &mut trace, Step::Release(0, first));
+    push_all(
         &rt,
-        rt.alloc(),
-        setup(&rt, 5, 50, limits(&rt, 256, 128)),
-        &looks,
+        &heap,
+        &mut trace,
+        &[Step::Tick, Step::Tick, Step::Tick],
     );
+    push(&rt, &heap, &mut trace, Step::Join(0, second));
+    assert!(rt; has_waiting(&rt, &heap, &trace, &[first, second]));
+    push(&rt, &heap, &mut trace, Step::Issue(0, 0));
+    assert!(rt; has_commands(&rt, &heap, &trace, &[command(0, 3, 5)], &[3]));
 }
 
 /// Waiting bios go by the ids of their requests, whatever the order of release, and then by their sectors.
 #[test]
 fn waiting_by_id_and_sector(rt: HostRuntime) {
+    let heap = Refusing::new(rt.alloc());
     let first = bio(&rt, Dir::Read, 100, 4);
     let (a, b, c) = (
         bio(&rt, Dir::Read, 6, 2),
         bio(&rt, Dir::Read, 8, 2),
         bio(&rt, Dir::Read, 10, 2),
     );
-    let (all, left) = ([first, a, b, c], [a, b, c]);
-    let looks = [
-        Look::Push(Step::Release(5, b)),
-        Look::Push(Step::Release(3, first)),
-        Look::Push(Step::Join(5, a)),
-        Look::Push(Step::Join(5, c)),
-        Look::Waiting(&all),
-        Look::Push(Step::Issue(3, 0)),
-        Look::Waiting(&left),
-    ];
-    follows(
-        &rt,
-        rt.alloc(),
-        setup(&rt, 5, 50, limits(&rt, 256, 128)),
-        &looks,
-    );
+    let mut trace = empty(&rt, &heap, setup(&rt, 5, 50, limits(&rt, 256, 128)));
+    push(&rt, &heap, &mut trace, Step::Release(5, b));
+    push(&rt, &heap, &mut trace, Step::Release(3, first));
+    push(&rt, &heap, &mut trace, Step::Join(5, a));
+    push(&rt, &heap, &mut trace, Step::Join(5, c));
+    assert!(rt; has_waiting(&rt, &heap, &trace, &[first, a, b, c]));
+    push(&rt, &heap, &mut trace, Step::Issue(3, 0));
+    assert!(rt; has_waiting(&rt, &heap, &trace, &[a, b, c]));
 }
 
 /// The laws say nothing that runs: they can be called.
