@@ -13,15 +13,19 @@ type Plain = Layer<NoneSched, Brand>;
 /// The id that a try issues, or why it issues none, and the round after it.
 type Tried = (Result<Option<u64>, IssueFault>, u64);
 
+/// A read enters, of a serial number and a first sector.
+fn enters(rt: &impl Abort, alloc: Global, core: &mut Core<NoneSched>, serial: u64, first: u64) {
+    let limits = core.trace().setup().limits();
+    let request = alone(rt, alloc, bio(rt, 0, serial, first));
+    assert!(rt; request.within(&limits));
+    assert!(rt; core.release(request, 0).is_ok());
+}
+
 /// A core of so many tags, in which two requests wait.
 fn two_wait(rt: &impl Abort, alloc: Global, depth: u64) -> Core<NoneSched> {
-    let limits = limits(rt);
-    let mut core = core(rt, alloc, setup(rt, depth, 1, limits));
-    for serial in [0, 1] {
-        let request = alone(rt, alloc, bio(rt, 0, serial, 100 * serial));
-        assert!(rt; request.within(&limits));
-        assert!(rt; core.release(request, 0).is_ok());
-    }
+    let mut core = core(rt, alloc, setup(rt, depth, 1, limits(rt)));
+    enters(rt, alloc, &mut core, 0, 0);
+    enters(rt, alloc, &mut core, 1, 100);
     core
 }
 
