@@ -7,7 +7,7 @@ ghost use Rattle.blk_cli.specs.Asked.{Asks};
 
 use crate::words::{Job, Sched};
 
-/// Each of these lines asks for its job and for no other.
+/// Each of these lines asks for its job and, all but `--version`, for no other; `oracle --trace --met` asks for none.
 pub fn plain_lines()
     ensures sim { (name : Text) → (j : AJob) → Asks (name ∷ codes "sim" ∷ []) j ↔ (j ≡ Job.Sim Sched.None) }
     ensures none { (name : Text) → (j : AJob) → Asks (name ∷ codes "sim" ∷ codes "--sched" ∷ codes "none" ∷ []) j ↔ (j ≡ Job.Sim Sched.None) }

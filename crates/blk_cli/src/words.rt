@@ -76,7 +76,7 @@ pub enum NoJob {
     Memory,
     /// The words are no command line of the program, or ask for its help: what clap says of them.
     Line(Error),
-    /// No subcommand is named, or its flags exclude one another.
+    /// Its flags exclude one another: `oracle --trace --met`.
     Nothing,
 }
 

@@ -19,7 +19,7 @@ use Rattle.blk_layer.specs.declared.lines.Line.{Line}
 use Rattle.blk_layer.specs.Inside.Lines.{is_line, times, bio_line, command_line, IsExtra}
 use Rattle.blk_bio.specs.declared.bio.BioId.{BioId}
 use Rattle.blk_layer.specs.Seats.{SubmitterSeat, WorkerSeat}
-use Rattle.blk_layer.specs.Closes.{is_bio_of, is_command, issued_bios, done_ids, done_commands, all_accepted, all_ran, AreAllThere, AreSettled, AreCounted, Disagrees}
+use Rattle.blk_layer.specs.Closes.{is_bio_of, is_command, issued_bios, done_ids, done_commands, all_accepted, all_ran, AreAllThere, AreSettled, AreCounted, IsBioOf, DiffersAsCommand, Disagrees}
 use Rattle.blk_layer.proofs.Times.{line_is, line_self}
 use Rattle.blk_layer.proofs.Same.{no_rest, each_as_many, count_moved, count_cons}
 use Rattle.blk_layer.proofs.Gathered.{done_map, mapped_at, mapped_length, id_there, own_default}
@@ -129,15 +129,38 @@ settled_bios es queued accepted accounted same = IsPermutation-trans accepted (e
 pub differing_bios : (es : List Happened) (queued accepted : List Bio) (b : Bio) → IsAccounted es → count_by (is_bio_of b) accepted ≢ count_by (is_bio_of b) (entered es ++ queued) → count_by (is_bio_of b) accepted ≢ count_by (is_bio_of b) (issued_bios es ++ (queued ++ waiting_of es))
 differing_bios es queued accepted b accounted other same = other (same ∙ count_moved (is_bio_of b) (entered es ++ queued) (issued_bios es ++ (queued ++ waiting_of es)) (stored_is es queued accounted))
 
--- the id of a command that is done
-pub done_has : (setup : Setup) (es : List Happened) (c : Command) → Contains (done_commands setup es) c → has_id (done_ids es) c.id ≡ true
-done_has setup es c at =
+-- a command that is done: the id where it stands
+done_at : (setup : Setup) (es : List Happened) (c : Command) (at : Contains (done_commands setup es) c) → (at.0 < length (done_ids es)) × (c ≡ command_of setup es (get_or (done_ids es) at.0 0))
+done_at setup es c at =
     let list : done_commands setup es ≡ map (command_of setup es) (done_ids es) = done_map setup es in
     let low : at.0 < length (map (command_of setup es) (done_ids es)) = omega (arith, at.1, ap length list) in
-    let short : at.0 < length (done_ids es) = omega (arith, low, mapped_length (command_of setup es) (done_ids es)) in
-    let is : c ≡ command_of setup es (get_or (done_ids es) at.0 0) = sym at.2 ∙ ap (λ l. get_or l at.0 c) list ∙ mapped_at (command_of setup es) (done_ids es) at.0 c 0 low in
-    let named : c.id ≡ get_or (done_ids es) at.0 0 = ap (λ (x : Command). x.id) is in
-    id_there (done_ids es) at.0 c.id short (own_default (done_ids es) at.0 c.id 0 short named)
+    (omega (arith, low, mapped_length (command_of setup es) (done_ids es)), sym at.2 ∙ ap (λ l. get_or l at.0 c) list ∙ mapped_at (command_of setup es) (done_ids es) at.0 c 0 low)
+
+-- its id
+pub done_has : (setup : Setup) (es : List Happened) (c : Command) → Contains (done_commands setup es) c → has_id (done_ids es) c.id ≡ true
+done_has setup es c at =
+    let is = done_at setup es c at in
+    let named : c.id ≡ get_or (done_ids es) at.0 0 = ap (λ (x : Command). x.id) is.1 in
+    id_there (done_ids es) at.0 c.id is.0 (own_default (done_ids es) at.0 c.id 0 is.0 named)
+
+-- and that it is the command of its id
+pub done_is : (setup : Setup) (es : List Happened) (c : Command) → Contains (done_commands setup es) c → c ≡ command_of setup es c.id
+done_is setup es c at =
+    let is = (done_at setup es c at).1 in
+    is ∙ ap (command_of setup es) (sym (ap (λ (x : Command). x.id) is))
+
+-- a command that is done and stands another number of times in the accounts
+pub differs_as : (setup : Setup) (es : List Happened) (workers : List WorkerSeat) (c : Command) (done ran : List Command) (id : BioId) → done ≡ done_commands setup es → ran ≡ all_ran workers
+    → Contains done c × (count_by (is_command c) ran ≢ count_by (is_command c) done) → IsBioOf es c.id id → DiffersAsCommand setup es workers id
+differs_as setup es workers c done ran id d r found its =
+    let is = done_is setup es c (subst (λ (l : List Command). Contains l c) d found.0) in
+    record {
+      command = c.id;
+      is_its = its;
+      counted = subst (λ (x : Command). count_by (is_command x) (all_ran workers) ≢ count_by (is_command x) (done_commands setup es)) is
+          (subst (λ (l : List Command). count_by (is_command c) l ≢ count_by (is_command c) (done_commands setup es)) r
+          (subst (λ (l : List Command). count_by (is_command c) ran ≢ count_by (is_command c) l) d found.1));
+    }
 
 -- a value that is there or not
 pub none_of : {X : Type 0} (o : Option X) (Q : Type 0) → o ≡ None → IfNone o Q → Q

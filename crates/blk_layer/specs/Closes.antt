@@ -90,9 +90,9 @@ pub record IsBioOf (events : List Happened) (command : ℕ) (id : BioId) : Type 
 
 -- the command of the request that was released with a bio of this id stands another number of times in the accounts than it is done
 pub record DiffersAsCommand (setup : Setup) (events : List Happened) (workers : List WorkerSeat) (id : BioId) : Type 0 where
-  pub command : Command
-  pub is_its : IsBioOf events command.id id
-  pub counted : count_by (is_command command) (all_ran workers) ≢ count_by (is_command command) (done_commands setup events)
+  pub command : ℕ
+  pub is_its : IsBioOf events command id
+  pub counted : count_by (is_command (command_of setup events command)) (all_ran workers) ≢ count_by (is_command (command_of setup events command)) (done_commands setup events)
 
 -- the accounts disagree on the bio
 abbrev pub Disagrees : Setup → List Happened → List Bio → List SubmitterSeat → List WorkerSeat → BioId → Type 0
@@ -122,7 +122,8 @@ pub record AreAtOdds (layer : LayerShape) (submitters : List SubmitterSeat) (wor
   pub counted : AreCounted events left workers
   pub disagree : Disagrees setup events left submitters workers bio
 
--- what each refusal says; the seats come back in both, the layer where it isn't spent
-abbrev pub IsCloseRefusal : {S L A : Type 0} → LayerShape → List SubmitterSeat → List WorkerSeat → CloseRefused S L A → Type 0
-IsCloseRefusal layer submitters workers (Whole fault layer_back submitters_back workers_back) = IsCloseFault layer submitters workers fault × AreBack layer submitters workers layer_back submitters_back.items workers_back.items
-IsCloseRefusal layer submitters workers (Differs bio closed submitters_back workers_back) = AreAtOdds layer submitters workers closed.trace.setup closed.trace.events closed.left.items bio × (submitters_back.items ≡ submitters) × (workers_back.items ≡ workers)
+-- what each refusal says of a layer of this setup; the seats come back in both, the layer where it isn't spent
+abbrev pub IsCloseRefusal : {S L A : Type 0} → Setup → LayerShape → List SubmitterSeat → List WorkerSeat → CloseRefused S L A → Type 0
+IsCloseRefusal setup layer submitters workers (Whole fault layer_back submitters_back workers_back) = IsCloseFault layer submitters workers fault × AreBack layer submitters workers layer_back submitters_back.items workers_back.items
+IsCloseRefusal setup layer submitters workers (Differs bio closed submitters_back workers_back) =
+    (closed.trace.setup ≡ setup) × AreAtOdds layer submitters workers setup closed.trace.events closed.left.items bio × (submitters_back.items ≡ submitters) × (workers_back.items ≡ workers)

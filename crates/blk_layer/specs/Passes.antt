@@ -1,5 +1,5 @@
 -- What a worker's passes do to its seat, and when they end a round.
-use Rattle.std.specs.Prelude.{ℕ, ◌≡◌, ◌<◌, ◌≤◌, ◌⊎◌, ◌++◌, false, List, Some, length}
+use Rattle.std.specs.Prelude.{ℕ, ◌≡◌, ◌<◌, ◌≤◌, ◌⊎◌, ◌++◌, false, List, Option, None, Some, length}
 use Rattle.edd_check.specs.declared.Command.{Command}
 use Rattle.blk_trace.specs.Events.{open_count}
 use Rattle.blk_core.specs.State.{CoreState}
@@ -8,6 +8,8 @@ use Rattle.blk_core.specs.Faults.{IsIssueFault, IsTickFault}
 use Rattle.blk_core.specs.declared.IssueFault.{IssueFault}
 use Rattle.blk_core.specs.declared.IssueFault.TheVariants as issue
 use Rattle.blk_core.specs.declared.TickFault.TheVariants as tick
+use Rattle.blk_core.specs.declared.CoreFault.{CoreFault}
+use Rattle.blk_core.specs.declared.CoreFault.TheVariants as core
 use Rattle.blk_layer.specs.declared.issues.LayerIssueFault.{LayerIssueFault}
 use Rattle.blk_layer.specs.declared.passes.Worked.{Worked}
 use Rattle.blk_layer.specs.declared.passes.WorkFault.{WorkFault}
@@ -54,6 +56,13 @@ pub record IsLeftInHand (old new : WorkerSeat) : Type 0 where
 -- the command in the hands of a worker under a tag was done, or went back
 abbrev pub IsEnded : WorkerSeat → ℕ → WorkerSeat → Type 0
 IsEnded old tag new = AccountsFor old tag new ⊎ ((id : ℕ) × LetsGo old tag id new)
+
+-- the name that work has for the core's reason to refuse a request of a drain
+abbrev pub work_name : CoreFault → Option WorkFault
+work_name core.NoQueue = None
+work_name (core.Repeated id) = Some (Repeated id)
+work_name core.TraceFull = Some TraceFull
+work_name core.Memory = Some Memory
 
 -- a fault that leaves nothing in the hands of a worker
 abbrev pub IsPassRefusal : WorkFault → Type 0

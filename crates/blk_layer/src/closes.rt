@@ -34,8 +34,8 @@ pub enum CloseFault {
 pub struct Closed<A: Allocator = Global> {
     /// What the layer did.
     pub trace: Trace<A>,
-    /// The bios that were accepted and not served: those of the software queues by rising number, and then those that wait
-    /// in the trace.
+    /// The bios that were accepted and are neither served nor in flight: those of the software queues by rising number, and then
+    /// those that wait in the trace.
     pub left: Vec<Bio, A>,
 }
 
@@ -89,9 +89,10 @@ impl<S: Scheduler, L: Named> Layer<S, L> {
     ) -> Result<Closed<S::A>, CloseRefused<S, L>>
         requires parts { L.parts ≡ MAX_WORKERS }
         ensures there { OnOk result (AreAllThere self.map self.workers submitters.items workers.items) }
-        ensures settled { IfOk result (λ c. AreSettled c.trace.setup c.trace.events c.left.items submitters.items workers.items) }
+        ensures setup { IfOk result (λ c. c.trace.setup ≡ L.setup) }
+        ensures settled { IfOk result (λ c. AreSettled L.setup c.trace.events c.left.items submitters.items workers.items) }
         ensures counted { IfOk result (λ c. AreCounted c.trace.events c.left.items workers.items) }
-        ensures refused { IfErr result (IsCloseRefusal self submitters.items workers.items) }
+        ensures refused { IfErr result (IsCloseRefusal L.setup self submitters.items workers.items) }
     {
         if !self.are_all_there(submitters.as_slice(), workers.as_slice()) {
             return Err(CloseRefused::Whole {
@@ -113,9 +114,10 @@ impl<S: Scheduler, L: Named> Layer<S, L> {
     ) -> Result<Closed<S::A>, CloseRefused<S, L>>
         requires parts { L.parts ≡ MAX_WORKERS }
         requires there { AreAllThere self.map self.workers submitters.items workers.items }
-        ensures settled { IfOk result (λ c. AreSettled c.trace.setup c.trace.events c.left.items submitters.items workers.items) }
+        ensures setup { IfOk result (λ c. c.trace.setup ≡ L.setup) }
+        ensures settled { IfOk result (λ c. AreSettled L.setup c.trace.events c.left.items submitters.items workers.items) }
         ensures counted { IfOk result (λ c. AreCounted c.trace.events c.left.items workers.items) }
-        ensures refused { IfErr result (IsCloseRefusal self submitters.items workers.items) }
+        ensures refused { IfErr result (IsCloseRefusal L.setup self submitters.items workers.items) }
     {
         let Layer {
             kept,

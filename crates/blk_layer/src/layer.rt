@@ -167,9 +167,12 @@ impl<S: Scheduler, L: Named> Layer<S, L> {
     }
 
     /// Moves the first request of a software queue into the core, for a hardware queue: it is released there and leaves
-    /// the queue. False exactly where the queue is empty. Where the core refuses it, it is first in the queue again, and
-    /// both are as they were. The queue's limits are the core's. It waits for nobody: a drain calls it with both locks
-    /// held.
+    /// the queue. False exactly where the queue is empty. The queue's limits are the core's. It waits for nobody: a drain calls
+    /// it with both locks held.
+    ///
+    /// Refused as the core's release is: as `NoQueue` where the core has no such hardware queue, as `Repeated` with the first bio
+    /// whose id stands in the trace or twice in the request, as `TraceFull` and as `Memory`. The request is first in the queue
+    /// again then, and both are as they were.
     pub fn move_first(
         queue: &mut SoftQueue<S::A>,
         core: &mut Core<S>,

@@ -1,8 +1,8 @@
 //! What a worker does all day: passes of a drain and of the commands that it is issued then.
 
-ghost use Rattle.std.specs.Prelude.{◌≡◌, ◌≢◌, IfOk, IfErr};
+ghost use Rattle.std.specs.Prelude.{◌≡◌, ◌≢◌, IfOk, IfErr, Some};
 ghost use Rattle.blk_layer.specs.Works.{IsIssueAnswer};
-ghost use Rattle.blk_layer.specs.Passes.{Runs, IsWorked, IsWorkFault, IsPassRefusal, IsEnded};
+ghost use Rattle.blk_layer.specs.Passes.{Runs, IsWorked, IsWorkFault, IsPassRefusal, IsEnded, work_name};
 
 use crate::devices::{Device, Ran};
 use crate::issues::{Issued, LayerIssueFault};
@@ -49,9 +49,9 @@ impl<S: Scheduler, L: Named> Layer<S, L> {
 
     /// Works for the worker's hardware queue, in at most `turns` passes. A pass drains; then it issues commands, lets the device
     /// run them and reports them done, or back where the device was busy, one after the other, until an issue finds no command
-    /// or no tag, or as many in a row as there are tags meet a tag that is used up in the round. The last of these ends the
-    /// round, under the same lock of the core, unless a command is in flight. A pass has no other bound than the trace, which
-    /// has places for fewer Issues than [`MAX_EVENTS`].
+    /// or no tag, or as many in a row as there are tags each meet a tag that is used up in its round. The last of these ends the
+    /// round in which its own tag is used up, under the same lock of the core, unless a command is in flight. A pass has no other
+    /// bound than the trace, which has places for fewer Issues than [`MAX_EVENTS`].
     ///
     /// Finished at a pass that began after [`Layer::finish`], moved no request and left none waiting in the core. The worker's
     /// account grows at its end by the commands that ran; else its seat is as it was.
@@ -199,6 +199,7 @@ impl<S: Scheduler, L: Named> Layer<S, L> {
 /// The reason for which a drain ended, which isn't that the hardware queue is not there.
 fn of_release(why: CoreFault) -> WorkFault
     requires { why ≢ CoreFault.NoQueue }
+    ensures { work_name why ≡ Some result }
 {
     match why {
         CoreFault::NoQueue => unreachable!(),

@@ -64,7 +64,7 @@ impl<L: Named, A: Allocator + Clone> Submitter<L, A> {
         self.account.bios()
     }
 
-    /// The number of its software queue.
+    /// The number of its software queue, below the number of software queues.
     pub fn number(&self) -> u8
         ensures { result ≡ self.now.number }
     {
@@ -111,7 +111,7 @@ pub(crate) fn seat_submitters<L: Named, A: Allocator + Clone>(
 }
 
 /// A worker's seat: the hardware queue that it works for, the commands in its hands with their tags, the account of the
-/// commands that it ran, and its part of the ledger.
+/// commands that it ran, and its part of the ledger. Where it is dropped its tags stay taken, and no close is Ok any more.
 #[derive(Drop)]
 pub struct Worker<L: Named, A: Allocator = Global> {
     hw: u8,
@@ -170,7 +170,7 @@ impl<L: Named, A: Allocator + Clone> Worker<L, A> {
         self.ran.as_slice()
     }
 
-    /// The hardware queue that it works for.
+    /// The hardware queue that it works for, below the number of hardware queues.
     pub fn hw(&self) -> u8
         ensures value { result ≡ self.now.hw }
         ensures there { result < L.setup.hw }

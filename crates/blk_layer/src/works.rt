@@ -60,7 +60,9 @@ impl<S: Scheduler, L: Named> Layer<S, L> {
 
     /// Moves requests from the software queues of the worker's hardware queue, by rising number and at most [`MAX_MOVES`] from
     /// each, into the core, and answers how many. Each is moved under the locks of its software queue and of the core.
-    /// Where the core refuses one, it is first in its queue again, and the drain ends.
+    ///
+    /// Where the core refuses one it is first in its queue again, and the drain ends: with how many were moved before, and as
+    /// `Repeated`, `TraceFull` or `Memory` as [`Layer::move_first`] is, never as `NoQueue`. The worker's seat stays as it was.
     pub fn drain<R: Wait>(&self, rt: &R, worker: &mut Worker<L, S::A>) -> Result<u64, DrainFault>
         ensures worker { worker.new ≡ worker.old }
         ensures there { IfErr result (λ e. e.why ≢ CoreFault.NoQueue) }

@@ -1,5 +1,8 @@
 //! The device of a worker.
 
+ghost use Rattle.std.specs.Prelude.{◌≡◌, None};
+ghost use Rattle.blk_load.specs.Loads.{ran_after, runs_after};
+
 use blk_layer::{Device, Ran};
 use edd_check::Command;
 
@@ -14,21 +17,33 @@ pub(crate) struct Disk {
 
 impl Disk {
     /// A device that is busy at every run whose number, counted from 1, the given one divides.
-    pub(crate) fn new(busy: Option<u64>) -> Disk {
+    pub(crate) fn new(busy: Option<u64>) -> Disk
+        ensures busy { result.busy ≡ busy }
+        ensures runs { result.runs ≡ 0 }
+    {
         Disk { busy, runs: 0 }
+    }
+
+    /// What it answers to its next run.
+    fn next(&mut self) -> Ran
+        ensures answer { result ≡ ran_after self.old.busy self.old.runs }
+        ensures runs { self.new.runs ≡ runs_after self.old.busy self.old.runs }
+        ensures busy { self.new.busy ≡ self.old.busy }
+    {
+        let Some(every) = self.busy else {
+            return Ran::Done;
+        };
+        if self.runs < every.saturating_sub(1) {
+            self.runs += 1;
+            return Ran::Done;
+        }
+        self.runs = 0;
+        Ran::Busy
     }
 }
 
 impl Device for Disk {
     fn run(&mut self, _command: &Command) -> Ran {
-        let Some(every) = self.busy else {
-            return Ran::Done;
-        };
-        self.runs = self.runs.saturating_add(1);
-        if self.runs < every {
-            return Ran::Done;
-        }
-        self.runs = 0;
-        Ran::Busy
+        self.next()
     }
 }

@@ -3,6 +3,9 @@
 ghost use Rattle.std.specs.Prelude.{◌≡◌, ◌<◌, ◌≤◌, ◌+◌, [], All, IfOk, OnOk, IfErr, length, vec_len, Ok};
 ghost use Rattle.blk_sched.specs.Meaning.{at_start};
 ghost use Rattle.blk_load.specs.declared.numbers.TheConstants.{MOST_BIOS, MOST_DEPTH, MOST_SUBMITTERS};
+ghost use Rattle.blk_load.specs.Faults.{IsTold};
+ghost use Rattle.blk_load.specs.Loads.{AreInTurn};
+ghost use Rattle.blk_load.specs.Numbers.{IsLoad};
 
 use crate::counts::{accepted, served};
 use crate::fault::{LoadFault, first_of};
@@ -54,7 +57,7 @@ pub struct Settled {
 /// whichever are fewer; software queue s and worker w are mapped to the queues of numbers s and w modulo as many.
 ///
 /// Refused, by the first of these that applies: as `Range` where a number of the load is out of its range; as `Memory`; as
-/// `TraceFull` or `Repeated` where a worker is refused so; as `Stalled` where a submitter or a worker used up its turns;
+/// `TraceFull` where a worker is refused so; as `Repeated` where a submitter or a worker is; as `Stalled` where one used up its turns;
 /// and as `SeatMissing` or `Differs` where the layer's accounts can't be settled.
 pub fn load<R: Threads + Wait + Sync, S: Scheduler<A = Global> + Send>(
     rt: &R,
@@ -63,6 +66,7 @@ pub fn load<R: Threads + Wait + Sync, S: Scheduler<A = Global> + Send>(
     scheduler: S,
 ) -> Result<Settled, LoadFault>
     requires start { S.meaning scheduler ≡ at_start (S.meaning scheduler).front }
+    ensures range { OnOk result (IsLoad load) }
     ensures settled { IfOk result (λ s. s.accepted ≡ s.served + s.left) }
 {
     if !load.is_in_range() {
@@ -92,7 +96,7 @@ fn in_turn(alloc: Global, count: u64, below: u64) -> Result<Vec<u8>, AllocError>
     requires count { count ≤ 64 }
     requires some { 1 ≤ below }
     requires few { below ≤ 16 }
-    ensures count { IfOk result (λ all. vec_len all ≡ count) }
+    ensures turn { IfOk result (λ all. AreInTurn count below all.items) }
     ensures below { IfOk result (λ all. All (λ n. n < below) all.items) }
 {
     let mut all = Vec::with_capacity(alloc, count as usize)?;
@@ -155,7 +159,7 @@ fn on_layer<R: Threads + Wait + Sync, S: Scheduler<A = Global> + Send, L: Named 
 
 /// What is told of a load: the first of the faults that its threads met and of that of its settling, where there are some.
 fn told(fault: Option<LoadFault>, settled: Result<Settled, LoadFault>) -> Result<Settled, LoadFault>
-    ensures { IfOk result (λ s. settled ≡ Ok s) }
+    ensures { IsTold fault settled result }
 {
     match (fault, settled) {
         (None, _) => settled,

@@ -2,6 +2,7 @@
 
 ghost use Rattle.std.specs.Prelude.{◌≡◌, ◌<◌, ◌≤◌, All, IfOk, length};
 ghost use Rattle.blk_load.specs.declared.numbers.TheConstants.{MOST_BIOS, MOST_SUBMITTERS};
+ghost use Rattle.blk_load.specs.Loads.{nth_bio};
 
 use crate::fault::LoadFault;
 use crate::numbers::Load;
@@ -27,6 +28,7 @@ const STRIDE: u64 = 16;
 fn nth_bio(submitters: u64, submitter: u8, serial: u64) -> Bio
     requires submitters { submitters ≤ MOST_SUBMITTERS }
     requires serial { serial < MOST_BIOS }
+    ensures { result ≡ nth_bio submitters submitter serial }
 {
     let id = BioId { submitter, serial };
     let dir = if serial % 2 == 0 {

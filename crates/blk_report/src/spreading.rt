@@ -136,7 +136,8 @@ fn latenesses<A: Allocator>(alloc: A, services: &[Service]) -> Result<Quantiles,
 }
 
 /// How long the commands waited and how late they were: of the reads, of the writes and of both how many there are, and the
-/// quantiles by nearest rank, in rounds. Fails for want of memory alone. The time grows as n log n in the number of commands.
+/// quantiles by nearest rank, in rounds. The commands are as [`crate::services`] gives them. Fails for want of memory alone. The time
+/// grows as n log n in the number of commands.
 pub fn spread<A: Allocator + Clone>(alloc: A, services: &[Service]) -> Result<Spreads, AllocError>
     requires { AreTimed services.now }
     ensures { IfOk result (AreSpreads services.now) }

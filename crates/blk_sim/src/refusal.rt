@@ -16,7 +16,7 @@ pub enum SimWhy {
     /// The software queue has no room for a request of the plug.
     #[error("SoftFull")]
     SoftFull,
-    /// A bio of this name was released before.
+    /// A bio of this name was released before, or stands earlier in the same request.
     #[error("Repeated")]
     Repeated,
     /// The trace has as many events as it may.

@@ -26,8 +26,9 @@ returns-in-None-clause-settled g c =
     c.as_slice-2.ensures.value ∙ written_back c.args.workers.len c.args.workers.items c.audit.new.workers (c.audit.ensures.workers ∙ c.as_mut_slice.ensures.value) (omega (arith, ap length c.audit.ensures.workers, ap length c.as_mut_slice.ensures.value, c.as_mut_slice.ensures.len)) in
     let submitters : c.as_slice.result.now ≡ c.args.submitters.items = search rules in
     let none : c.in-Ok.field-0.differs ≡ None = search rules in
-    same_settled c.audit.new.self.core.setup c.into_trace.result.setup c.audit.new.self.core.events c.into_trace.result.events c.in-Ok.field-0.left.items c.as_slice.result.now c.args.submitters.items c.as_slice-2.result.now c.args.workers.items
-    c.into_trace.ensures.setup c.into_trace.ensures.events submitters workers
+    let named : c.audit.new.self.core.setup ≡ g.L.Named.setup = c.audit.new.self.named in
+    same_settled c.audit.new.self.core.setup g.L.Named.setup c.audit.new.self.core.events c.into_trace.result.events c.in-Ok.field-0.left.items c.as_slice.result.now c.args.submitters.items c.as_slice-2.result.now c.args.workers.items
+    (sym named) c.into_trace.ensures.events submitters workers
     (none_of c.in-Ok.field-0.differs (AreSettled c.audit.new.self.core.setup c.audit.new.self.core.events c.in-Ok.field-0.left.items c.as_slice.result.now c.as_slice-2.result.now) none c.in-Ok.ensures.none)
 
 pub returns-in-None-clause-counted : goal.returns-in-None-clause-counted
@@ -47,13 +48,18 @@ returns-clause-refused g c =
     let workers : c.as_slice-2.result.now ≡ c.args.workers.items = c.as_slice-2.ensures.value ∙ back in
     let submitters : c.as_slice.result.now ≡ c.args.submitters.items = search rules in
     let some : c.in-Ok.field-0.differs ≡ Some c.in-Some.bio = search rules in
+    let named : c.audit.new.self.core.setup ≡ g.L.Named.setup = c.audit.new.self.named in
     let disagree = some_of c.in-Ok.field-0.differs (Disagrees c.audit.new.self.core.setup c.audit.new.self.core.events c.in-Ok.field-0.left.items c.as_slice.result.now c.as_slice-2.result.now) c.in-Some.bio some c.in-Ok.ensures.some in (
+      c.into_trace.ensures.setup ∙ named,
       record {
         there = c.requires.there;
         counted = same_counted c.audit.new.self.core.events c.into_trace.result.events c.in-Ok.field-0.left.items c.as_slice-2.result.now c.args.workers.items c.into_trace.ensures.events workers c.in-Ok.ensures.counted;
-        disagree = same_disagrees c.audit.new.self.core.setup c.into_trace.result.setup c.audit.new.self.core.events c.into_trace.result.events c.in-Ok.field-0.left.items c.as_slice.result.now c.args.submitters.items c.as_slice-2.result.now c.args.workers.items c.in-Some.bio
-            c.into_trace.ensures.setup c.into_trace.ensures.events submitters workers disagree;
+        disagree = same_disagrees c.audit.new.self.core.setup g.L.Named.setup c.audit.new.self.core.events c.into_trace.result.events c.in-Ok.field-0.left.items c.as_slice.result.now c.args.submitters.items c.as_slice-2.result.now c.args.workers.items c.in-Some.bio
+            (sym named) c.into_trace.ensures.events submitters workers disagree;
       },
       refl,
       back,
     )
+
+pub returns-in-None-clause-setup : goal.returns-in-None-clause-setup
+returns-in-None-clause-setup g c = c.into_trace.ensures.setup ∙ c.audit.new.self.named
