@@ -4,10 +4,10 @@ ghost use Rattle.std.specs.Prelude.{◌≡◌, ◌<◌, All, length};
 
 use crate::given::bio;
 use blk_bio::Limits;
-use blk_core::{BackFault, NotIssued};
-use blk_layer::{Closed, Flushed, Layer, LayerIssueFault, MAX_WORKERS, Named, Submitter, Worker};
+use blk_layer::{Closed, Flushed, Layer, MAX_WORKERS, Named, Submitter, Worker};
 use blk_none::NoneSched;
 use blk_plug::{Added, Plug};
+use blk_sched::Scheduler;
 use std::alloc::Global;
 use std::process::Abort;
 use std::sync::Wait;
@@ -38,74 +38,16 @@ pub fn flush_one<R: Abort + Wait, L: Named>(
 }
 
 /// The last of a layer's workers leaves the list.
-pub fn last<L: Named>(
+pub fn last<S: Scheduler, L: Named>(
     rt: &impl Abort,
-    layer: &Layer<NoneSched, L>,
-    workers: &mut Vec<Worker<L>>,
-) -> Worker<L>
+    layer: &Layer<S, L>,
+    workers: &mut Vec<Worker<L, S::A>, S::A>,
+) -> Worker<L, S::A>
     requires { All (λ w. w.tag_set ≡ layer.now.tag_set) workers.old.items }
     ensures rest { All (λ w. w.tag_set ≡ layer.now.tag_set) workers.new.items }
     ensures last { result.tag_set ≡ layer.now.tag_set }
 {
     workers.pop().expect(rt, "a worker")
-}
-
-/// The command that the layer issues to a worker: its id, and its tag.
-fn issued<R: Abort + Wait, L: Named>(
-    rt: &R,
-    layer: &Layer<NoneSched, L>,
-    worker: &mut Worker<L>,
-) -> Result<Option<(u64, u16)>, LayerIssueFault>
-    requires { worker.old.tag_set ≡ layer.now.tag_set }
-    ensures { worker.new.tag_set ≡ worker.old.tag_set }
-{
-    match layer.issue(rt, worker) {
-        Ok(Some(issued)) => Ok(Some((issued.command.id, issued.tag))),
-        Ok(None) => Ok(None),
-        Err(why) => Err(why),
-    }
-}
-
-/// Whether this is what the layer issues to a worker.
-pub fn issues<R: Abort + Wait, L: Named>(
-    rt: &R,
-    layer: &Layer<NoneSched, L>,
-    worker: &mut Worker<L>,
-    wanted: Result<Option<(u64, u16)>, LayerIssueFault>,
-) -> bool
-    requires { worker.old.tag_set ≡ layer.now.tag_set }
-    ensures { worker.new.tag_set ≡ worker.old.tag_set }
-{
-    issued(rt, layer, worker) == wanted
-}
-
-/// What the layer answers where a worker reports a tag done.
-pub fn done<R: Abort + Wait, L: Named>(
-    rt: &R,
-    layer: &Layer<NoneSched, L>,
-    worker: &mut Worker<L>,
-    tag: u16,
-) -> bool
-    requires { worker.old.tag_set ≡ layer.now.tag_set }
-    ensures { worker.new.tag_set ≡ worker.old.tag_set }
-{
-    match layer.done(rt, worker, tag) {
-        Ok(()) => true,
-        Err(NotIssued) => false,
-    }
-}
-
-/// What the layer answers where a worker hands a tag's command back: the command's id.
-pub fn back<R: Abort + Wait, L: Named>(
-    rt: &R,
-    layer: &Layer<NoneSched, L>,
-    worker: &mut Worker<L>,
-    tag: u16,
-) -> Result<u64, BackFault>
-    requires { worker.old.tag_set ≡ layer.now.tag_set }
-    ensures { worker.new.tag_set ≡ worker.old.tag_set }
-{
-    layer.back(rt, worker, tag)
 }
 
 /// What is left of a layer that is closed with all of its seats.

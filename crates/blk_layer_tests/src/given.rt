@@ -8,7 +8,7 @@ use blk_bio::{Bio, BioId, Dir, Limits, Request};
 use blk_core::Core;
 use blk_none::NoneSched;
 use blk_trace::Setup;
-use std::alloc::Global;
+use std::alloc::{Allocator, Global};
 use std::process::Abort;
 
 /// Requests of up to 256 sectors and of 128 bios.
@@ -24,7 +24,7 @@ pub fn setup(rt: &impl Abort, depth: u64, hw: u8, limits: Limits) -> Setup
 }
 
 /// A scheduler in the order of entry.
-fn scheduler(rt: &impl Abort, alloc: Global) -> NoneSched
+fn scheduler<A: Allocator + Clone>(rt: &impl Abort, alloc: A) -> NoneSched<A>
     ensures { result ≡ at_start true }
 {
     match NoneSched::new(alloc) {
@@ -34,11 +34,14 @@ fn scheduler(rt: &impl Abort, alloc: Global) -> NoneSched
 }
 
 /// A core in the order of entry, without events.
-pub fn core(rt: &impl Abort, alloc: Global, setup: Setup) -> Core<NoneSched>
+pub fn core<A: Allocator + Clone>(rt: &impl Abort, alloc: A, setup: Setup) -> Core<NoneSched<A>>
     ensures setup { result.setup ≡ setup }
     ensures empty { result.events ≡ [] }
 {
-    match Core::new(alloc, setup, scheduler(rt, alloc)) {
+    let Ok(other) = alloc.clone() else {
+        panic!(rt; "want of memory");
+    };
+    match Core::new(alloc, setup, scheduler(rt, other)) {
         Ok(core) => core,
         Err(_) => panic!(rt; "want of memory"),
     }

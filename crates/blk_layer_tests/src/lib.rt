@@ -6,6 +6,8 @@ mod asked;
 #[cfg(test)]
 mod calls;
 #[cfg(test)]
+mod closed;
+#[cfg(test)]
 mod dice;
 #[cfg(test)]
 mod drawn;
@@ -18,11 +20,15 @@ mod gates;
 #[cfg(test)]
 mod given;
 #[cfg(test)]
+mod listed;
+#[cfg(test)]
 mod made;
 #[cfg(test)]
 mod moved;
 #[cfg(test)]
 mod plain;
+#[cfg(test)]
+mod refused;
 #[cfg(test)]
 mod seen;
 #[cfg(test)]

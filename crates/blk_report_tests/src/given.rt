@@ -12,12 +12,7 @@ use std::process::Abort;
 pub type Heap<'a> = &'a Refusing<Global>;
 
 /// A trace without events, of one hardware queue.
-pub fn empty<'a>(
-    rt: &impl Abort,
-    heap: Heap<'a>,
-    depth: u64,
-    write_expire: u64,
-) -> Trace<Heap<'a>> {
+fn empty<'a>(rt: &impl Abort, heap: Heap<'a>, depth: u64, write_expire: u64) -> Trace<Heap<'a>> {
     let limits = Limits::new(256, 128).expect(rt, "limits");
     let setup = Setup::new(depth, 1, 0, write_expire, limits).expect(rt, "a setup");
     let armed = heap.is_armed();
@@ -34,12 +29,7 @@ pub fn empty<'a>(
 }
 
 /// Adds an event that breaks no rule.
-pub fn push<'a>(
-    rt: &impl Abort,
-    heap: Heap<'a>,
-    trace: &mut Trace<Heap<'a>>,
-    event: Event<Heap<'a>>,
-) {
+fn push<'a>(rt: &impl Abort, heap: Heap<'a>, trace: &mut Trace<Heap<'a>>, event: Event<Heap<'a>>) {
     let armed = heap.is_armed();
     if let Err((back, why)) = trace.push(event) {
         assert!(rt; armed && !heap.is_armed());
@@ -49,13 +39,7 @@ pub fn push<'a>(
 }
 
 /// A bio of 8 sectors enters under an id, which is its serial number as well.
-pub fn release<'a>(
-    rt: &impl Abort,
-    heap: Heap<'a>,
-    trace: &mut Trace<Heap<'a>>,
-    id: u64,
-    dir: Dir,
-) {
+fn enter<'a>(rt: &impl Abort, heap: Heap<'a>, trace: &mut Trace<Heap<'a>>, id: u64, dir: Dir) {
     let name = BioId {
         submitter: 0,
         serial: id,
@@ -72,35 +56,97 @@ pub fn release<'a>(
     push(rt, heap, trace, Event::Release { id, request });
 }
 
-/// A bio of a range, first sector and number of sectors, joins the request of an id.
-pub fn join<'a>(
+/// A write of a first sector and a number of sectors joins the request of an id.
+fn join<'a>(
     rt: &impl Abort,
     heap: Heap<'a>,
     trace: &mut Trace<Heap<'a>>,
     id: u64,
-    dir: Dir,
-    range: (u64, u64),
+    first: u64,
+    sectors: u64,
 ) {
     let name = BioId {
         submitter: 1,
         serial: id,
     };
-    let bio = Bio::new(name, dir, range.0, range.1).expect(rt, "a bio");
+    let bio = Bio::new(name, Dir::Write, first, sectors).expect(rt, "a bio");
     let Ok(request) = Request::of(heap, bio) else {
         panic!(rt; "want of memory");
     };
     push(rt, heap, trace, Event::Join { id, request });
 }
 
-/// Some requests go out in one round, under tags from 0 on, and come back done; then the round ends.
-pub fn serve<'a>(rt: &impl Abort, heap: Heap<'a>, trace: &mut Trace<Heap<'a>>, ids: &[u64]) {
-    let mut tag = 0u16;
-    for id in ids {
-        push(rt, heap, trace, Event::Issue { id: *id, tag });
-        push(rt, heap, trace, Event::Done { tag });
-        tag = tag.wrapping_add(1);
+/// A request goes out and comes back done.
+fn serve<'a>(rt: &impl Abort, heap: Heap<'a>, trace: &mut Trace<Heap<'a>>, id: u64, tag: u16) {
+    push(rt, heap, trace, Event::Issue { id, tag });
+    push(rt, heap, trace, Event::Done { tag });
+}
+
+/// What happens in a trace.
+#[derive(Clone, Copy)]
+pub enum Step {
+    /// A read of 8 sectors enters under an id, which is its serial number as well and, times 100, its first sector.
+    Read(u64),
+    /// Such a write enters.
+    Write(u64),
+    /// Such reads enter, of the ids below a number.
+    Reads(u64),
+    /// A write of a first sector and a number of sectors joins the request of an id.
+    Join(u64, u64, u64),
+    /// A request goes out under a tag.
+    Issue(u64, u16),
+    /// What went out under a tag is handed back.
+    Back(u16),
+    /// A request goes out and comes back done, and the round ends.
+    Serve(u64),
+    /// Two requests go out and come back done, one after the other, and the round ends.
+    Both(u64, u64),
+    /// The rounds to come have another depth.
+    Depth(u64),
+    /// The round ends.
+    Tick,
+}
+
+/// A step's events are added.
+fn take<'a>(rt: &impl Abort, heap: Heap<'a>, trace: &mut Trace<Heap<'a>>, step: Step) {
+    match step {
+        Step::Read(id) => enter(rt, heap, trace, id, Dir::Read),
+        Step::Write(id) => enter(rt, heap, trace, id, Dir::Write),
+        Step::Reads(count) => {
+            for id in 0..count {
+                enter(rt, heap, trace, id, Dir::Read);
+            }
+        }
+        Step::Join(id, first, sectors) => join(rt, heap, trace, id, first, sectors),
+        Step::Issue(id, tag) => push(rt, heap, trace, Event::Issue { id, tag }),
+        Step::Back(tag) => push(rt, heap, trace, Event::Back { tag }),
+        Step::Serve(id) => {
+            serve(rt, heap, trace, id, 0);
+            push(rt, heap, trace, Event::Tick);
+        }
+        Step::Both(first, second) => {
+            serve(rt, heap, trace, first, 0);
+            serve(rt, heap, trace, second, 1);
+            push(rt, heap, trace, Event::Tick);
+        }
+        Step::Depth(depth) => push(rt, heap, trace, Event::Depth { depth }),
+        Step::Tick => push(rt, heap, trace, Event::Tick),
     }
-    push(rt, heap, trace, Event::Tick);
+}
+
+/// A trace of one hardware queue with the events of these steps. Reads are due at once, writes after so many rounds.
+pub fn trace_of<'a>(
+    rt: &impl Abort,
+    heap: Heap<'a>,
+    depth: u64,
+    write_expire: u64,
+    steps: &[Step],
+) -> Trace<Heap<'a>> {
+    let mut trace = empty(rt, heap, depth, write_expire);
+    for step in steps {
+        take(rt, heap, &mut trace, *step);
+    }
+    trace
 }
 
 /// A report with commands.

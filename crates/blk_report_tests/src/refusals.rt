@@ -1,7 +1,6 @@
 //! Reports where allocations are refused.
 
-use crate::given::{Heap, empty, release, serve, served};
-use blk_bio::Dir;
+use crate::given::{Heap, Step, served, trace_of};
 use blk_report::{late, misses, report, services, spread};
 use blk_trace::Trace;
 use refusing::Refusing;
@@ -33,11 +32,13 @@ fn asked<'a>(rt: &impl Abort, heap: Heap<'a>, trace: &Trace<Heap<'a>>) {
 
 /// A trace of two commands is made and reported.
 fn all_of_it(rt: &impl Abort, heap: Heap<'_>) {
-    let mut trace = empty(rt, heap, 1, 9);
-    release(rt, heap, &mut trace, 0, Dir::Write);
-    release(rt, heap, &mut trace, 1, Dir::Read);
-    serve(rt, heap, &mut trace, &[0]);
-    serve(rt, heap, &mut trace, &[1]);
+    let steps = [
+        Step::Write(0),
+        Step::Read(1),
+        Step::Serve(0),
+        Step::Serve(1),
+    ];
+    let trace = trace_of(rt, heap, 1, 9, &steps);
     let armed = heap.is_armed();
     let whole = served((2, 0, 1), 1, 0, 1, (0, 0), 1);
     match report(&trace) {

@@ -1,21 +1,35 @@
 //! The commands of traces with their requests, worked by hand.
 
-use crate::given::{empty, join, push, release, serve};
+use crate::given::{Step, trace_of};
 use blk_bio::Dir;
 use blk_report::{Service, services};
-use blk_trace::Event;
 use refusing::Refusing;
+use std::alloc::Global;
+use std::process::Abort;
+
+/// Whether these are the commands of a trace of one place a round, in which writes are due after so many rounds.
+fn are_served(
+    rt: &impl Abort,
+    alloc: Global,
+    write_expire: u64,
+    steps: &[Step],
+    wanted: &[Service],
+) -> bool {
+    let heap = Refusing::new(alloc);
+    let trace = trace_of(rt, &heap, 1, write_expire, steps);
+    let found = services(&trace).expect(rt, "memory");
+    found.as_slice() == wanted
+}
 
 /// The read, released after the write, goes out after it.
 #[test]
 fn write_before_read(rt: HostRuntime) {
-    let heap = Refusing::new(rt.alloc());
-    let mut trace = empty(&rt, &heap, 1, 9);
-    release(&rt, &heap, &mut trace, 0, Dir::Write);
-    release(&rt, &heap, &mut trace, 1, Dir::Read);
-    assert!(rt; services(&trace).expect(&rt, "memory").is_empty());
-    serve(&rt, &heap, &mut trace, &[0]);
-    serve(&rt, &heap, &mut trace, &[1]);
+    let steps = [
+        Step::Write(0),
+        Step::Read(1),
+        Step::Serve(0),
+        Step::Serve(1),
+    ];
     let write = Service {
         id: 0,
         dir: Dir::Write,
@@ -34,23 +48,22 @@ fn write_before_read(rt: HostRuntime) {
         due: 0,
         issue: 1,
     };
-    let found = services(&trace).expect(&rt, "memory");
-    assert!(rt; found.as_slice() == [write, read].as_slice());
+    assert!(rt; are_served(&rt, rt.alloc(), 9, &steps[..2], &[]));
+    assert!(rt; are_served(&rt, rt.alloc(), 9, &steps, &[write, read]));
 }
 
 /// A write that another joined at the front, in the round after its release, is handed back and served a round later.
 #[test]
 fn joined_and_handed_back(rt: HostRuntime) {
-    let heap = Refusing::new(rt.alloc());
-    let mut trace = empty(&rt, &heap, 1, 3);
-    release(&rt, &heap, &mut trace, 1, Dir::Write);
-    push(&rt, &heap, &mut trace, Event::Tick);
-    join(&rt, &heap, &mut trace, 1, Dir::Write, (90, 10));
-    push(&rt, &heap, &mut trace, Event::Issue { id: 1, tag: 0 });
-    push(&rt, &heap, &mut trace, Event::Back { tag: 0 });
-    assert!(rt; services(&trace).expect(&rt, "memory").is_empty());
-    push(&rt, &heap, &mut trace, Event::Tick);
-    serve(&rt, &heap, &mut trace, &[1]);
+    let steps = [
+        Step::Write(1),
+        Step::Tick,
+        Step::Join(1, 90, 10),
+        Step::Issue(1, 0),
+        Step::Back(0),
+        Step::Tick,
+        Step::Serve(1),
+    ];
     let whole = Service {
         id: 1,
         dir: Dir::Write,
@@ -60,6 +73,6 @@ fn joined_and_handed_back(rt: HostRuntime) {
         due: 3,
         issue: 2,
     };
-    let found = services(&trace).expect(&rt, "memory");
-    assert!(rt; found.as_slice() == [whole].as_slice());
+    assert!(rt; are_served(&rt, rt.alloc(), 3, &steps[..5], &[]));
+    assert!(rt; are_served(&rt, rt.alloc(), 3, &steps, &[whole]));
 }

@@ -1,21 +1,29 @@
 //! Waits and latenesses by quantiles, worked by hand.
 
-use crate::given::{empty, release, serve};
-use blk_bio::Dir;
-use blk_report::{services, spread, write_spread};
+use crate::given::{Step, trace_of};
+use blk_report::{Spreads, services, spread, write_spread};
 use refusing::Refusing;
+use std::alloc::Global;
+use std::process::Abort;
+
+/// The waits and latenesses of the commands of a trace of one place a round.
+fn spread_of(rt: &impl Abort, alloc: Global, steps: &[Step]) -> Spreads {
+    let heap = Refusing::new(alloc);
+    let trace = trace_of(rt, &heap, 1, 9, steps);
+    let served = services(&trace).expect(rt, "memory");
+    spread(alloc, served.as_slice()).expect(rt, "memory")
+}
 
 /// The read waits a round and is late by one, the write goes out nine rounds early.
 #[test]
 fn write_before_read(rt: HostRuntime) {
-    let heap = Refusing::new(rt.alloc());
-    let mut trace = empty(&rt, &heap, 1, 9);
-    release(&rt, &heap, &mut trace, 0, Dir::Write);
-    release(&rt, &heap, &mut trace, 1, Dir::Read);
-    serve(&rt, &heap, &mut trace, &[0]);
-    serve(&rt, &heap, &mut trace, &[1]);
-    let served = services(&trace).expect(&rt, "memory");
-    let found = spread(rt.alloc(), served.as_slice()).expect(&rt, "memory");
+    let steps = [
+        Step::Write(0),
+        Step::Read(1),
+        Step::Serve(0),
+        Step::Serve(1),
+    ];
+    let found = spread_of(&rt, rt.alloc(), &steps);
     let mut text = Vec::new(rt.alloc());
     assert!(rt; write_spread(rt.alloc(), &found, &mut text).is_ok());
     let told =
@@ -26,16 +34,21 @@ fn write_before_read(rt: HostRuntime) {
 /// Eleven reads at once wait 0 to 10 rounds: the middle one is the sixth, the tenth is the 90th of a hundred.
 #[test]
 fn eleven_reads(rt: HostRuntime) {
-    let heap = Refusing::new(rt.alloc());
-    let mut trace = empty(&rt, &heap, 1, 0);
-    for id in 0..11u64 {
-        release(&rt, &heap, &mut trace, id, Dir::Read);
-    }
-    for id in 0..11u64 {
-        serve(&rt, &heap, &mut trace, &[id]);
-    }
-    let served = services(&trace).expect(&rt, "memory");
-    let found = spread(rt.alloc(), served.as_slice()).expect(&rt, "memory");
+    let steps = [
+        Step::Reads(11),
+        Step::Serve(0),
+        Step::Serve(1),
+        Step::Serve(2),
+        Step::Serve(3),
+        Step::Serve(4),
+        Step::Serve(5),
+        Step::Serve(6),
+        Step::Serve(7),
+        Step::Serve(8),
+        Step::Serve(9),
+        Step::Serve(10),
+    ];
+    let found = spread_of(&rt, rt.alloc(), &steps);
     let reads = found.wait.reads;
     assert_eq!(rt; reads.count, 11);
     assert_eq!(rt;

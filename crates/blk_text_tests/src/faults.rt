@@ -1,12 +1,13 @@
 //! The faults of texts, each by its record and name. What a user meets of them, and in which order, is shown by the cases
 //! of the program.
 
+use crate::forms::{Form, first_other};
 use blk_bio::BioFault;
-use blk_text::{Records, TextFault, Why, WriteFault, read_certificate, read_commands, read_script};
+use blk_text::{TextFault, Why, WriteFault};
 
 #[test]
 fn faults_of_a_command_list(rt: HostRuntime) {
-    for (text, at, why) in [
+    let texts = [
         ("", 1, Why::Title),
         ("blk-commands,1\n", 1, Why::Fields),
         ("blk-commands,1,01\n", 1, Why::Number),
@@ -22,15 +23,13 @@ fn faults_of_a_command_list(rt: HostRuntime) {
             3,
             Why::Range,
         ),
-    ] {
-        let answer = read_commands(rt.alloc(), &mut Records::new(rt.alloc(), text.as_bytes()));
-        assert!(rt; answer.err() == Some(TextFault { at, why }), "{text}");
-    }
+    ];
+    assert_eq!(rt; first_other(rt.alloc(), Form::Commands, &texts), None);
 }
 
 #[test]
 fn faults_of_a_script(rt: HostRuntime) {
-    for (text, at, why) in [
+    let texts = [
         ("blk-scripts,1,1,1,4,1\n", 1, Why::Title),
         ("blk-script,1,1,1,4\n", 1, Why::Fields),
         ("blk-script,1,1,x,4,1\n", 1, Why::Number),
@@ -58,15 +57,13 @@ fn faults_of_a_script(rt: HostRuntime) {
             3,
             Why::Range,
         ),
-    ] {
-        let answer = read_script(rt.alloc(), &mut Records::new(rt.alloc(), text.as_bytes()));
-        assert!(rt; answer.err() == Some(TextFault { at, why }), "{text}");
-    }
+    ];
+    assert_eq!(rt; first_other(rt.alloc(), Form::Script, &texts), None);
 }
 
 #[test]
 fn faults_of_versions(rt: HostRuntime) {
-    for (text, at, why) in [
+    let texts = [
         ("blk-script,3,1,1,4,1\n", 1, Why::Title),
         ("blk-script,01,1,1,4,1\n", 1, Why::Title),
         ("blk-script,1,65,1,4,1\n", 1, Why::Range),
@@ -96,33 +93,30 @@ fn faults_of_versions(rt: HostRuntime) {
             3,
             Why::Range,
         ),
-    ] {
-        let answer = read_script(rt.alloc(), &mut Records::new(rt.alloc(), text.as_bytes()));
-        assert!(rt; answer.err() == Some(TextFault { at, why }), "{text}");
-    }
+    ];
+    assert_eq!(rt; first_other(rt.alloc(), Form::Script, &texts), None);
 }
 
 #[test]
 fn faults_of_a_bio(rt: HostRuntime) {
-    for (text, fault) in [
+    let texts = [
         (
             "blk-script,1,1,1,4,1\nsetup,0,9,256,128,\nbio,0,0,R,100,0",
-            BioFault::Empty,
+            3,
+            Why::Bio(BioFault::Empty),
         ),
         (
             "blk-script,1,1,1,4,1\nsetup,0,9,256,128,\nbio,0,0,R,281474976710656,1",
-            BioFault::Range,
+            3,
+            Why::Bio(BioFault::Range),
         ),
-    ] {
-        let answer = read_script(rt.alloc(), &mut Records::new(rt.alloc(), text.as_bytes()));
-        let why = Why::Bio(fault);
-        assert!(rt; answer.err() == Some(TextFault { at: 3, why }), "{text}");
-    }
+    ];
+    assert_eq!(rt; first_other(rt.alloc(), Form::Script, &texts), None);
 }
 
 #[test]
 fn faults_of_a_certificate(rt: HostRuntime) {
-    for (text, at, why) in [
+    let texts = [
         ("blk-commands,1,1,0\n", 1, Why::Title),
         ("blk-certificate,1,1\n", 1, Why::Fields),
         ("blk-certificate,1,1,-1\n", 1, Why::Number),
@@ -140,10 +134,8 @@ fn faults_of_a_certificate(rt: HostRuntime) {
             4,
             Why::Count,
         ),
-    ] {
-        let answer = read_certificate(rt.alloc(), &mut Records::new(rt.alloc(), text.as_bytes()));
-        assert!(rt; answer.err() == Some(TextFault { at, why }), "{text}");
-    }
+    ];
+    assert_eq!(rt; first_other(rt.alloc(), Form::Certificate, &texts), None);
 }
 
 #[test]

@@ -1,12 +1,11 @@
 //! Texts whose reader fails after so many bytes, and whose writer does.
 
-use crate::texts::{JOINED, joined_trace};
-use blk_text::{
-    Records, TextFault, Why, WriteFault, read_certificate, read_commands, read_script,
-    write_certificate, write_commands, write_trace,
-};
+use crate::forms::{Form, fault_of, needs_its_room};
+use crate::texts::JOINED;
+use blk_text::{TextFault, Why};
+use std::alloc::Global;
 use std::io;
-use std::io::{ErrorKind, Read, Write};
+use std::io::{ErrorKind, Read};
 
 /// A reader that gives its text byte by byte, and fails at a read.
 #[derive(Drop)]
@@ -35,27 +34,6 @@ impl<'a> Read for Failing<'a> {
     }
 }
 
-/// A writer that takes so many bytes, and then fails.
-#[derive(Drop)]
-pub struct Narrow {
-    pub room: usize,
-}
-
-impl Write for Narrow {
-    fn write(&mut self, buf: &[u8]) -> io::Result<usize> {
-        if self.room == 0 {
-            return Err(io::Error::from(ErrorKind::Other));
-        }
-        let count = self.room.min(buf.len());
-        self.room -= count;
-        Ok(count)
-    }
-
-    fn flush(&mut self) -> io::Result<()> {
-        Ok(())
-    }
-}
-
 /// A reader of a text that fails after so many bytes.
 fn cut(text: &str, count: usize) -> Failing<'_> {
     Failing {
@@ -75,106 +53,49 @@ fn fault_after(text: &str, count: usize) -> Option<TextFault> {
     Some(TextFault { at, why: Why::Read })
 }
 
-#[test]
-fn a_read_that_fails_in_a_command_list(rt: HostRuntime) {
-    let text = "blk-commands,1,1\n1,0,0\n\"2\",0,0\n";
+/// Whether a text whose reader fails after so many bytes has the fault of that read in a form, for each number of its bytes, and
+/// none where the reader fails later.
+fn is_cut_everywhere(alloc: Global, form: Form, text: &str) -> bool {
     for count in 0..text.len() + 1 {
-        let answer = read_commands(rt.alloc(), &mut Records::new(rt.alloc(), cut(text, count)));
-        assert!(rt; answer.err() == fault_after(text, count));
+        if fault_of(alloc, form, cut(text, count)) != fault_after(text, count) {
+            return false;
+        }
     }
-    assert!(rt; read_commands(rt.alloc(), &mut Records::new(rt.alloc(), cut(text, 100))).is_ok());
+    fault_of(alloc, form, cut(text, 1000)).is_none()
 }
 
 #[test]
-fn a_read_that_fails_in_a_script(rt: HostRuntime) {
+fn a_read_that_fails(rt: HostRuntime) {
+    let text = "blk-commands,1,1\n1,0,0\n\"2\",0,0\n";
+    assert!(rt; is_cut_everywhere(rt.alloc(), Form::Commands, text));
     let text =
         "blk-script,1,1,1,4,1\nsetup,0,9,256,128,\nbio,0,0,W,100,8\nflush,0,,,,\nrun,2,,,,\n";
-    for count in 0..text.len() + 1 {
-        let answer = read_script(rt.alloc(), &mut Records::new(rt.alloc(), cut(text, count)));
-        assert!(rt; answer.err() == fault_after(text, count));
-    }
-    assert!(rt; read_script(rt.alloc(), &mut Records::new(rt.alloc(), cut(text, 1000))).is_ok());
+    assert!(rt; is_cut_everywhere(rt.alloc(), Form::Script, text));
+    let text = "blk-certificate,1,1,2\nbound,1,0,0\n1,0,0,0\n2,0,0,1\n";
+    assert!(rt; is_cut_everywhere(rt.alloc(), Form::Certificate, text));
 }
 
-#[test]
-fn a_read_that_fails_in_a_certificate(rt: HostRuntime) {
-    let text = "blk-certificate,1,1,2\nbound,1,0,0\n1,0,0,0\n2,0,0,1\n";
-    for count in 0..text.len() + 1 {
-        let answer = read_certificate(rt.alloc(), &mut Records::new(rt.alloc(), cut(text, count)));
-        assert!(rt; answer.err() == fault_after(text, count));
-    }
-    assert!(rt;
-        read_certificate(rt.alloc(), &mut Records::new(rt.alloc(), cut(text, 1000))).is_ok()
-    );
+/// Whether a text whose reader fails after so many bytes has this fault of its second record in a form.
+fn is_before(alloc: Global, form: Form, text: &str, count: usize, why: Why) -> bool {
+    fault_of(alloc, form, cut(text, count)) == Some(TextFault { at: 2, why })
 }
 
 #[test]
 fn a_fault_before_the_read_that_fails(rt: HostRuntime) {
+    let alloc = rt.alloc();
     let text = "blk-commands,1,1\n1,0,x\n2,0,0\n";
-    let answer = read_commands(rt.alloc(), &mut Records::new(rt.alloc(), cut(text, 24)));
-    assert!(rt;
-        answer.err()
-            == Some(TextFault {
-                at: 2,
-                why: Why::Number
-            })
-    );
+    assert!(rt; is_before(alloc, Form::Commands, text, 24, Why::Number));
     let text = "blk-script,1,1,1,4,1\nsetup,0,9,256,129,\ntick,,,,,\n";
-    let answer = read_script(rt.alloc(), &mut Records::new(rt.alloc(), cut(text, 42)));
-    assert!(rt;
-        answer.err()
-            == Some(TextFault {
-                at: 2,
-                why: Why::Range
-            })
-    );
+    assert!(rt; is_before(alloc, Form::Script, text, 42, Why::Range));
     let text = "blk-certificate,1,1,1\nbond,1,0,0\n1,0,0,0\n";
-    let answer = read_certificate(rt.alloc(), &mut Records::new(rt.alloc(), cut(text, 35)));
-    assert!(rt;
-        answer.err()
-            == Some(TextFault {
-                at: 2,
-                why: Why::Word
-            })
-    );
+    assert!(rt; is_before(alloc, Form::Certificate, text, 35, Why::Word));
 }
 
 #[test]
-fn commands_that_cannot_be_written(rt: HostRuntime) {
-    let text = "blk-commands,1,1\n1,0,0\n";
-    let records = &mut Records::new(rt.alloc(), text.as_bytes());
-    let (depth, commands) = read_commands(rt.alloc(), records).expect(&rt, "commands");
-    for room in 0..text.len() {
-        let answer = write_commands(rt.alloc(), depth, commands.as_slice(), &mut Narrow { room });
-        assert!(rt; answer.err() == Some(WriteFault::Write));
-    }
-    let room = text.len();
-    let answer = write_commands(rt.alloc(), depth, commands.as_slice(), &mut Narrow { room });
-    assert!(rt; answer.is_ok());
-}
-
-#[test]
-fn a_certificate_that_cannot_be_written(rt: HostRuntime) {
-    let text = "blk-certificate,1,1,0\nbound,none,none,none\n";
-    let records = &mut Records::new(rt.alloc(), text.as_bytes());
-    let Ok(none) = read_certificate(rt.alloc(), records) else {
-        panic!(rt; "refused");
-    };
-    for room in 0..text.len() {
-        let answer = write_certificate(rt.alloc(), &none, &mut Narrow { room });
-        assert!(rt; answer.err() == Some(WriteFault::Write));
-    }
-    let room = text.len();
-    assert!(rt; write_certificate(rt.alloc(), &none, &mut Narrow { room }).is_ok());
-}
-
-#[test]
-fn a_trace_that_cannot_be_written(rt: HostRuntime) {
-    let trace = joined_trace(&rt, rt.alloc());
-    for room in 0..JOINED.len() {
-        let answer = write_trace(rt.alloc(), &trace, &mut Narrow { room });
-        assert!(rt; answer.err() == Some(WriteFault::Write));
-    }
-    let room = JOINED.len();
-    assert!(rt; write_trace(rt.alloc(), &trace, &mut Narrow { room }).is_ok());
+fn what_cannot_be_written(rt: HostRuntime) {
+    let commands = "blk-commands,1,1\n1,0,0\n";
+    let certificate = "blk-certificate,1,1,0\nbound,none,none,none\n";
+    assert!(rt; needs_its_room(rt.alloc(), Form::Commands, commands));
+    assert!(rt; needs_its_room(rt.alloc(), Form::Certificate, certificate));
+    assert!(rt; needs_its_room(rt.alloc(), Form::Trace, JOINED));
 }

@@ -1,82 +1,68 @@
 //! What is read of texts, in all their spellings, and written again.
 
+use crate::forms::{Form, first_not_itself, first_unlike};
 use blk_bio::{Bio, BioId, Dir, Limits, Request};
-use blk_text::{
-    Line, Records, read_certificate, read_commands, read_script, write_certificate, write_commands,
-    write_trace,
-};
+use blk_text::{Line, Records, read_certificate, read_script, write_trace};
 use blk_trace::{Event, Setup, Trace};
 use edd_check::Window;
 use std::alloc::Global;
 use std::process::Abort;
 
-/// The commands of a text, written again.
-fn commands_again(rt: &impl Abort, alloc: Global, text: &str) -> Vec<u8> {
-    let mut out = Vec::new(alloc);
-    let records = &mut Records::new(alloc, text.as_bytes());
-    let (depth, commands) = read_commands(alloc, records).expect(rt, "commands");
-    assert!(rt; write_commands(alloc, depth, commands.as_slice(), &mut out).is_ok());
-    out
-}
-
-/// The certificate of a text, written again.
-fn certificate_again(rt: &impl Abort, alloc: Global, text: &str) -> Vec<u8> {
-    let mut out = Vec::new(alloc);
-    let records = &mut Records::new(alloc, text.as_bytes());
-    let Ok(certificate) = read_certificate(alloc, records) else {
-        panic!(rt; "{text}");
-    };
-    assert!(rt; write_certificate(alloc, &certificate, &mut out).is_ok());
-    out
-}
-
 #[test]
 fn three_at_once(rt: HostRuntime) {
     let text = "blk-commands,1,1\n1,0,0\n2,0,0\n3,0,0\n";
-    for input in [
-        text,
-        "\u{feff}blk-commands,1,1\r\n\n1,0,0\r\n\"2\",0,\"0\"\n\n3,0,0",
-        "blk-commands,1,1\r1,0,0\r2,0,0\r\"\"3,0,0",
-        "\"blk-commands\",1,\"1\"\n1,\"0\",0\n2,0,0\n3,0,\"0",
-    ] {
-        assert!(rt; commands_again(&rt, rt.alloc(), input).as_slice() == text.as_bytes());
-    }
+    let texts = [
+        (text, text),
+        (
+            "\u{feff}blk-commands,1,1\r\n\n1,0,0\r\n\"2\",0,\"0\"\n\n3,0,0",
+            text,
+        ),
+        ("blk-commands,1,1\r1,0,0\r2,0,0\r\"\"3,0,0", text),
+        ("\"blk-commands\",1,\"1\"\n1,\"0\",0\n2,0,0\n3,0,\"0", text),
+    ];
+    assert_eq!(rt; first_unlike(rt.alloc(), Form::Commands, &texts), None);
 }
 
 #[test]
 fn numbers_of_every_length(rt: HostRuntime) {
-    for text in [
+    let texts = [
         "blk-commands,1,64\n0,9,10\n99,100,101\n999,1000,1099511627775\n",
         "blk-commands,1,9\n9999,10000,10001\n99999,100000,2199023255551\n",
         "blk-commands,1,10\n9999999,10000000,99999999\n100000000,12345678,0\n",
         "blk-commands,1,1\n18446744073709551615,1099511627775,2199023255551\n",
         "blk-commands,1,1\n10000000000000000000,1,1\n9999999999999999999,1,1\n",
-    ] {
-        assert!(rt; commands_again(&rt, rt.alloc(), text).as_slice() == text.as_bytes());
-    }
+    ];
+    assert_eq!(rt; first_not_itself(rt.alloc(), Form::Commands, &texts), None);
 }
 
 #[test]
 fn certificates_come_back(rt: HostRuntime) {
-    for text in [
+    let texts = [
         "blk-certificate,1,1,3\nbound,2,0,0\n1,0,0,0\n2,0,0,1\n3,0,0,2\n",
         "blk-certificate,1,1,0\nbound,none,none,none\n",
         "blk-certificate,1,64,1\nbound,-5,0,9\n18446744073709551615,0,9,4\n",
         "blk-certificate,1,1,1\nbound,-2199023255551,0,2199023255551\n1,0,2199023255551,0\n",
-    ] {
-        assert!(rt; certificate_again(&rt, rt.alloc(), text).as_slice() == text.as_bytes());
-    }
+    ];
+    assert_eq!(rt;
+        first_not_itself(rt.alloc(), Form::Certificate, &texts),
+        None
+    );
 }
 
 #[test]
 fn a_certificate_in_other_spellings(rt: HostRuntime) {
     let text = "blk-certificate,1,1,3\nbound,-2,0,4\n1,0,4,0\n2,0,4,1\n3,0,4,2\n";
-    for input in [
-        "\u{feff}blk-certificate,1,1,3\r\n\nbound,\"-2\",0,4\r\n1,0,4,0\r\n\n2,0,\"4\",1\n3,0,4,2",
-        "\"blk-certificate\",1,1,\"3\"\r\"bound\",-2,0,4\r1,0,4,0\r\"\"2,0,4,1\r3,0,4,\"2",
-    ] {
-        assert!(rt; certificate_again(&rt, rt.alloc(), input).as_slice() == text.as_bytes());
-    }
+    let texts = [
+        (
+            "\u{feff}blk-certificate,1,1,3\r\n\nbound,\"-2\",0,4\r\n1,0,4,0\r\n\n2,0,\"4\",1\n3,0,4,2",
+            text,
+        ),
+        (
+            "\"blk-certificate\",1,1,\"3\"\r\"bound\",-2,0,4\r1,0,4,0\r\"\"2,0,4,1\r3,0,4,\"2",
+            text,
+        ),
+    ];
+    assert_eq!(rt; first_unlike(rt.alloc(), Form::Certificate, &texts), None);
 }
 
 #[test]

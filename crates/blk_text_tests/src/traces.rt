@@ -1,13 +1,14 @@
 //! Traces read: what comes back, and their faults. The program's cases show more of them.
 
+use crate::forms::{Form, first_other, first_unlike};
 use crate::texts::JOINED;
 use blk_bio::BioFault;
-use blk_text::{Records, TextFault, Why, read_trace, write_trace};
+use blk_text::Why;
 use blk_trace::TraceRule;
 
 #[test]
 fn both_versions_come_back(rt: HostRuntime) {
-    for (text, written) in [
+    let texts = [
         (JOINED, JOINED),
         (
             "blk-trace,1,1,1,2,\nsetup,0,9,256,128,\nrelease,0,1,,,\nbio,0,0,W,100,8\ntick,,,,,\n",
@@ -17,20 +18,13 @@ fn both_versions_come_back(rt: HostRuntime) {
             "blk-trace,2,256,1,3,\r\nsetup,0,9,256,128,\r\ndepth,7,,,,\r\ntick,,,,,\r\ndepth,256,,,,",
             "blk-trace,2,256,1,3,\nsetup,0,9,256,128,\ndepth,7,,,,\ntick,,,,,\ndepth,256,,,,\n",
         ),
-    ] {
-        let records = &mut Records::new(rt.alloc(), text.as_bytes());
-        let Ok(trace) = read_trace(rt.alloc(), records) else {
-            panic!(rt; "{text}");
-        };
-        let mut out = Vec::new(rt.alloc());
-        assert!(rt; write_trace(rt.alloc(), &trace, &mut out).is_ok());
-        assert!(rt; out.as_slice() == written.as_bytes(), "{text}");
-    }
+    ];
+    assert_eq!(rt; first_unlike(rt.alloc(), Form::Trace, &texts), None);
 }
 
 #[test]
 fn faults_of_a_trace(rt: HostRuntime) {
-    for (text, at, why) in [
+    let texts = [
         ("", 1, Why::Title),
         ("blk-trace,3,1,1,8,\n", 1, Why::Title),
         ("blk-trace,1,65,1,0,\n", 1, Why::Range),
@@ -68,15 +62,13 @@ fn faults_of_a_trace(rt: HostRuntime) {
             3,
             Why::Rule(TraceRule::Unknown),
         ),
-    ] {
-        let answer = read_trace(rt.alloc(), &mut Records::new(rt.alloc(), text.as_bytes()));
-        assert!(rt; answer.err() == Some(TextFault { at, why }), "{text}");
-    }
+    ];
+    assert_eq!(rt; first_other(rt.alloc(), Form::Trace, &texts), None);
 }
 
 #[test]
 fn faults_of_a_group(rt: HostRuntime) {
-    for (text, at, why) in [
+    let texts = [
         (
             "blk-trace,1,1,1,1,\nsetup,0,9,256,128,\nrelease,0,129,,,\n",
             3,
@@ -127,37 +119,38 @@ fn faults_of_a_group(rt: HostRuntime) {
             3,
             Why::Rule(TraceRule::Unknown),
         ),
-    ] {
-        let answer = read_trace(rt.alloc(), &mut Records::new(rt.alloc(), text.as_bytes()));
-        assert!(rt; answer.err() == Some(TextFault { at, why }), "{text}");
-    }
+    ];
+    assert_eq!(rt; first_other(rt.alloc(), Form::Trace, &texts), None);
 }
 
 #[test]
 fn events_past_the_announced_number(rt: HostRuntime) {
-    for (text, why) in [
+    let texts = [
         (
             "blk-trace,1,1,1,0,\nsetup,0,9,256,128,\ntick,,,,,\n",
+            3,
             Why::Count,
         ),
         (
             "blk-trace,1,1,1,0,\nsetup,0,9,256,128,\ndone,0,,,,\n",
+            3,
             Why::Rule(TraceRule::NotIssued),
         ),
         (
             "blk-trace,1,1,1,0,\nsetup,0,9,256,128,\nback,0,,,,\n",
+            3,
             Why::Rule(TraceRule::NotIssued),
         ),
         (
             "blk-trace,1,1,1,0,\nsetup,0,9,256,128,\njoin,0,1,,,\nbio,x\n",
+            3,
             Why::Count,
         ),
         (
             "blk-trace,1,1,1,0,\nsetup,0,9,256,128,\njoin,0,0,,,\n",
+            3,
             Why::Range,
         ),
-    ] {
-        let answer = read_trace(rt.alloc(), &mut Records::new(rt.alloc(), text.as_bytes()));
-        assert!(rt; answer.err() == Some(TextFault { at: 3, why }), "{text}");
-    }
+    ];
+    assert_eq!(rt; first_other(rt.alloc(), Form::Trace, &texts), None);
 }

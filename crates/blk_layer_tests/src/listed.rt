@@ -1,0 +1,369 @@
+//! Calls of a layer as plain values, each with the answer that it has to give. A call that is refused for want of memory is made once
+//! more.
+
+ghost use Rattle.std.specs.Prelude.{◌≡◌, ◌<◌, length};
+
+use crate::given::bio;
+use blk_core::{BackFault, CoreFault, DepthFault, NotIssued, TickFault};
+use blk_layer::{
+    Device, DrainFault, FlushFault, FlushWhy, Flushed, Layer, LayerIssueFault, Named, Ran,
+    Submitter, WorkFault, Worked, Worker,
+};
+use blk_plug::{Added, Plug, PlugFault};
+use blk_sched::Scheduler;
+use edd_check::Command;
+use std::alloc::Allocator;
+use std::process::Abort;
+use std::sync::Wait;
+
+/// A call of a layer of two submitters and two workers, and its answer. Submitters and workers go by their numbers, 0 and 1.
+#[derive(Clone, Copy)]
+pub enum Call {
+    /// A read of a serial number and a first sector becomes a request of its own in a submitter's plug.
+    Add(u8, u64, u64),
+    /// A submitter flushes its plug.
+    Flush(u8, Result<Flushed, FlushFault>),
+    /// So many bios of a submitter are accepted.
+    Accepted(u8, usize),
+    /// A worker drains.
+    Drain(u8, Result<u64, DrainFault>),
+    /// A worker is issued a command: its id, and its tag.
+    Issue(u8, Result<Option<(u64, u16)>, LayerIssueFault>),
+    /// A worker reports a tag done.
+    Done(u8, u16, Result<(), NotIssued>),
+    /// A worker hands a tag's command back: its id.
+    Back(u8, u16, Result<u64, BackFault>),
+    /// A worker works for at most so many turns, with a device that is busy at one of its runs: how many passes it makes, how many
+    /// commands it runs, and whether it is finished; and how often the device runs.
+    Work(u8, u64, u64, Result<(u64, u64, bool), WorkFault>, u64),
+    /// So many commands are in a worker's account.
+    Ran(u8, usize),
+    /// Nothing more will be flushed.
+    Finish,
+    /// The depth of the rounds to come is set.
+    Depth(u64, Result<(), DepthFault>),
+    /// The round ends.
+    Tick(Result<u64, TickFault>),
+    /// So many rounds end, the first of a layer.
+    Ticks(u64),
+}
+
+/// What a flush of requests of one bio answers where all of them go.
+pub fn flushed(requests: u64) -> Result<Flushed, FlushFault> {
+    Ok(Flushed {
+        requests,
+        bios: requests,
+    })
+}
+
+/// A device that is busy at one of its runs.
+#[derive(Drop)]
+struct Counting {
+    runs: u64,
+    busy_at: u64,
+}
+
+impl Device for Counting {
+    fn run(&mut self, command: &Command) -> Ran {
+        let _ = command.id;
+        self.runs = self.runs.saturating_add(1);
+        if self.runs == self.busy_at {
+            return Ran::Busy;
+        }
+        Ran::Done
+    }
+}
+
+/// Whether a read becomes a request of its own in a plug.
+fn adds<A: Allocator + Clone>(
+    rt: &impl Abort,
+    plug: &mut Plug<A>,
+    submitter: u8,
+    serial: u64,
+    first: u64,
+) -> bool
+    ensures { plug.new.limits ≡ plug.old.limits }
+{
+    match plug.add(bio(rt, submitter, serial, first)) {
+        Err((bio, PlugFault::Memory)) => matches!(plug.add(bio), Ok(Added::New)),
+        answer => matches!(answer, Ok(Added::New)),
+    }
+}
+
+/// What a submitter's flush answers, once more where memory was refused.
+fn flush<R: Wait, S: Scheduler, L: Named>(
+    rt: &R,
+    layer: &Layer<S, L>,
+    submitter: &mut Submitter<L, S::A>,
+    plug: &mut Plug<S::A>,
+) -> Result<Flushed, FlushFault>
+    requires seat { submitter.old.number < length layer.now.map }
+    requires limits { plug.old.limits ≡ L.setup.limits }
+    ensures seat { submitter.new.number ≡ submitter.old.number }
+    ensures limits { plug.new.limits ≡ plug.old.limits }
+{
+    match layer.flush(rt, submitter, plug) {
+        Err(
+            FlushFault {
+                why: FlushWhy::Memory,
+                ..
+            },
+        ) => layer.flush(rt, submitter, plug),
+        answer => answer,
+    }
+}
+
+/// Whether a submitter's call has the wanted answer.
+fn by_submitter<R: Abort + Wait, S: Scheduler, L: Named>(
+    rt: &R,
+    layer: &Layer<S, L>,
+    submitter: &mut Submitter<L, S::A>,
+    plug: &mut Plug<S::A>,
+    call: Call,
+) -> bool
+    requires seat { submitter.old.number < length layer.now.map }
+    requires limits { plug.old.limits ≡ L.setup.limits }
+    ensures seat { submitter.new.number ≡ submitter.old.number }
+    ensures limits { plug.new.limits ≡ plug.old.limits }
+{
+    match call {
+        Call::Add(_, serial, first) => adds(rt, plug, submitter.number(), serial, first),
+        Call::Flush(_, answer) => flush(rt, layer, submitter, plug) == answer,
+        Call::Accepted(_, count) => submitter.accepted().len() == count,
+        _ => false,
+    }
+}
+
+/// What a worker's drain answers, and the rest of it where memory was refused.
+fn drain<R: Wait, S: Scheduler, L: Named>(
+    rt: &R,
+    layer: &Layer<S, L>,
+    worker: &mut Worker<L, S::A>,
+) -> Result<u64, DrainFault>
+    ensures { worker.new.tag_set ≡ worker.old.tag_set }
+{
+    match layer.drain(rt, worker) {
+        Err(
+            DrainFault {
+                moved,
+                why: CoreFault::Memory,
+            },
+        ) => match layer.drain(rt, worker) {
+            Ok(more) => Ok(moved.saturating_add(more)),
+            Err(fault) => Err(fault),
+        },
+        answer => answer,
+    }
+}
+
+/// What a worker is issued, its id and its tag, once more where memory was refused.
+fn issued<R: Wait, S: Scheduler, L: Named>(
+    rt: &R,
+    layer: &Layer<S, L>,
+    worker: &mut Worker<L, S::A>,
+) -> Result<Option<(u64, u16)>, LayerIssueFault>
+    requires { worker.old.tag_set ≡ layer.now.tag_set }
+    ensures { worker.new.tag_set ≡ worker.old.tag_set }
+{
+    let found = match layer.issue(rt, worker) {
+        Err(LayerIssueFault::Memory) => layer.issue(rt, worker),
+        answer => answer,
+    };
+    match found {
+        Ok(Some(issued)) => Ok(Some((issued.command.id, issued.tag))),
+        Ok(None) => Ok(None),
+        Err(why) => Err(why),
+    }
+}
+
+/// What a worker's hand-back answers, once more where memory was refused.
+fn back<R: Wait, S: Scheduler, L: Named>(
+    rt: &R,
+    layer: &Layer<S, L>,
+    worker: &mut Worker<L, S::A>,
+    tag: u16,
+) -> Result<u64, BackFault>
+    requires { worker.old.tag_set ≡ layer.now.tag_set }
+    ensures { worker.new.tag_set ≡ worker.old.tag_set }
+{
+    match layer.back(rt, worker, tag) {
+        Err(BackFault::Memory) => layer.back(rt, worker, tag),
+        answer => answer,
+    }
+}
+
+/// Whether a worker does what is wanted in as many turns, and its device too.
+fn works<R: Wait, S: Scheduler, L: Named>(
+    rt: &R,
+    layer: &Layer<S, L>,
+    worker: &mut Worker<L, S::A>,
+    turns: u64,
+    busy_at: u64,
+    wanted: Result<(u64, u64, bool), WorkFault>,
+    runs: u64,
+) -> bool
+    requires { worker.old.tag_set ≡ layer.now.tag_set }
+    ensures { worker.new.tag_set ≡ worker.old.tag_set }
+{
+    let mut device = Counting { runs: 0, busy_at };
+    let did = match layer.work(rt, worker, &mut device, turns) {
+        Ok(
+            Worked {
+                passes,
+                ran,
+                finished,
+            },
+        ) => Ok((passes, ran, finished)),
+        Err(why) => Err(why),
+    };
+    did == wanted && device.runs == runs
+}
+
+/// Whether a worker's call has the wanted answer.
+fn by_worker<R: Wait, S: Scheduler, L: Named>(
+    rt: &R,
+    layer: &Layer<S, L>,
+    worker: &mut Worker<L, S::A>,
+    call: Call,
+) -> bool
+    requires { worker.old.tag_set ≡ layer.now.tag_set }
+    ensures { worker.new.tag_set ≡ worker.old.tag_set }
+{
+    match call {
+        Call::Drain(_, answer) => drain(rt, layer, worker) == answer,
+        Call::Issue(_, answer) => issued(rt, layer, worker) == answer,
+        Call::Done(_, tag, answer) => layer.done(rt, worker, tag) == answer,
+        Call::Back(_, tag, answer) => back(rt, layer, worker, tag) == answer,
+        Call::Work(_, turns, busy_at, answer, runs) => {
+            works(rt, layer, worker, turns, busy_at, answer, runs)
+        }
+        Call::Ran(_, count) => worker.ran().len() == count,
+        _ => false,
+    }
+}
+
+/// Whether so many rounds end, the first of a layer.
+fn end_all<R: Wait, S: Scheduler, L: Named>(rt: &R, layer: &Layer<S, L>, count: u64) -> bool {
+    for round in 0..count {
+        if layer.tick(rt) != Ok(round + 1) {
+            return false;
+        }
+    }
+    true
+}
+
+/// What a tick answers, once more where memory was refused.
+fn tick<R: Wait, S: Scheduler, L: Named>(rt: &R, layer: &Layer<S, L>) -> Result<u64, TickFault> {
+    match layer.tick(rt) {
+        Err(TickFault::Memory) => layer.tick(rt),
+        answer => answer,
+    }
+}
+
+/// What a new depth is answered, once more where memory was refused.
+fn set_depth<R: Wait, S: Scheduler, L: Named>(
+    rt: &R,
+    layer: &Layer<S, L>,
+    depth: u64,
+) -> Result<(), DepthFault> {
+    match layer.set_depth(rt, depth) {
+        Err(DepthFault::Memory) => layer.set_depth(rt, depth),
+        answer => answer,
+    }
+}
+
+/// Whether a call of the layer itself has the wanted answer.
+fn by_layer<R: Wait, S: Scheduler, L: Named>(rt: &R, layer: &Layer<S, L>, call: Call) -> bool {
+    match call {
+        Call::Finish => {
+            layer.finish(rt);
+            true
+        }
+        Call::Depth(depth, answer) => set_depth(rt, layer, depth) == answer,
+        Call::Tick(answer) => tick(rt, layer) == answer,
+        Call::Ticks(count) => end_all(rt, layer, count),
+        _ => false,
+    }
+}
+
+/// Makes a call, and says whether its answer is the wanted one.
+fn is_answered<R: Abort + Wait, S: Scheduler, L: Named>(
+    rt: &R,
+    layer: &Layer<S, L>,
+    first: &mut Submitter<L, S::A>,
+    second: &mut Submitter<L, S::A>,
+    plug_first: &mut Plug<S::A>,
+    plug_second: &mut Plug<S::A>,
+    zero: &mut Worker<L, S::A>,
+    one: &mut Worker<L, S::A>,
+    call: Call,
+) -> bool
+    requires first { first.old.number < length layer.now.map }
+    requires second { second.old.number < length layer.now.map }
+    requires plug_first { plug_first.old.limits ≡ L.setup.limits }
+    requires plug_second { plug_second.old.limits ≡ L.setup.limits }
+    requires zero { zero.old.tag_set ≡ layer.now.tag_set }
+    requires one { one.old.tag_set ≡ layer.now.tag_set }
+    ensures first { first.new.number ≡ first.old.number }
+    ensures second { second.new.number ≡ second.old.number }
+    ensures plug_first { plug_first.new.limits ≡ plug_first.old.limits }
+    ensures plug_second { plug_second.new.limits ≡ plug_second.old.limits }
+    ensures zero { zero.new.tag_set ≡ zero.old.tag_set }
+    ensures one { one.new.tag_set ≡ one.old.tag_set }
+{
+    match call {
+        Call::Add(0, _, _) | Call::Flush(0, _) | Call::Accepted(0, _) => {
+            by_submitter(rt, layer, first, plug_first, call)
+        }
+        Call::Add(_, _, _) | Call::Flush(_, _) | Call::Accepted(_, _) => {
+            by_submitter(rt, layer, second, plug_second, call)
+        }
+        Call::Finish | Call::Depth(_, _) | Call::Tick(_) | Call::Ticks(_) => {
+            by_layer(rt, layer, call)
+        }
+        Call::Drain(0, _)
+        | Call::Issue(0, _)
+        | Call::Done(0, _, _)
+        | Call::Back(0, _, _)
+        | Call::Work(0, _, _, _, _)
+        | Call::Ran(0, _) => by_worker(rt, layer, zero, call),
+        _ => by_worker(rt, layer, one, call),
+    }
+}
+
+/// Makes the calls one after the other, up to the first one whose answer is another: its place, if there is one.
+pub fn first_other<R: Abort + Wait, S: Scheduler, L: Named>(
+    rt: &R,
+    layer: &Layer<S, L>,
+    first: &mut Submitter<L, S::A>,
+    second: &mut Submitter<L, S::A>,
+    plug_first: &mut Plug<S::A>,
+    plug_second: &mut Plug<S::A>,
+    zero: &mut Worker<L, S::A>,
+    one: &mut Worker<L, S::A>,
+    calls: &[Call],
+) -> Option<usize>
+    requires first { first.old.number < length layer.now.map }
+    requires second { second.old.number < length layer.now.map }
+    requires plug_first { plug_first.old.limits ≡ L.setup.limits }
+    requires plug_second { plug_second.old.limits ≡ L.setup.limits }
+    requires zero { zero.old.tag_set ≡ layer.now.tag_set }
+    requires one { one.old.tag_set ≡ layer.now.tag_set }
+{
+    for (place, call) in calls.iter().enumerate() {
+        if !is_answered(
+            rt,
+            layer,
+            first,
+            second,
+            plug_first,
+            plug_second,
+            zero,
+            one,
+            *call,
+        ) {
+            return Some(place);
+        }
+    }
+    None
+}
