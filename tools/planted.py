@@ -15,20 +15,17 @@ An edit is a file crates/CRATE_tests/planted/NAME.edit with these lines, beside 
 The tests run as Rattle's own compiler builds them, without a proof, on a copy of the repository. Prints a line for each edit, and as
 the last line 'N passed, M failed'. Ends with 0 where none failed, 1 where one did, 2 where a word names none, and 3 where rt isn't there.
 """
+import argparse
 import re
 import shutil
+import signal
 import subprocess
 import sys
 import tempfile
 from pathlib import Path
 
 sys.dont_write_bytecode = True
-TOP = Path(__file__).resolve().parent.parent
-SECONDS = 120
-
-
-class Fault(Exception):
-    """Why an edit can't be planted, or the tests can't be run over it."""
+from cases import SECONDS, TOP, Fault, ended
 
 
 def read_edit(path):
@@ -88,19 +85,8 @@ def chosen(words):
     return picked if words else every
 
 
-def main(words):
-    """The command; its exit status."""
-    if any(it in ("-h", "--help") for it in words):
-        print(__doc__, end="")
-        return 0
-    try:
-        picked = chosen(words)
-    except Fault as fault:
-        print(f"tools/planted.py: {fault}", file=sys.stderr)
-        return 2
-    if not shutil.which("rt"):
-        print("tools/planted.py: rt is not on the path", file=sys.stderr)
-        return 3
+def plant_all(picked):
+    """Plants edits one after the other, says what came of each, and how many passed and failed."""
     failed = 0
     with tempfile.TemporaryDirectory(prefix="blk-planted-") as scratch:
         top = Path(scratch) / "copy"
@@ -115,8 +101,22 @@ def main(words):
             failed += told != ""
             print(f"planted {path.stem}: {told or 'the tests fail over it, as they must'}", flush=True)
     print(f"{len(picked) - failed} passed, {failed} failed", flush=True)
-    return 1 if failed else 0
+    return failed
+
+
+def main():
+    """The command; its exit status."""
+    parser = argparse.ArgumentParser("planted", description=__doc__, formatter_class=argparse.RawDescriptionHelpFormatter)
+    parser.add_argument("names", nargs="*", metavar="NAME")
+    try:
+        picked = chosen(parser.parse_args().names)
+    except Fault as fault:
+        parser.error(str(fault))
+    if not shutil.which("rt"):
+        parser.exit(3, "planted: rt is not on the path\n")
+    return 1 if plant_all(picked) else 0
 
 
 if __name__ == "__main__":
-    sys.exit(main(sys.argv[1:]))
+    signal.signal(signal.SIGTERM, ended)
+    sys.exit(main())
