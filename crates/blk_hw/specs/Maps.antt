@@ -1,8 +1,9 @@
 -- Maps of software queues to the hardware queues that serve them: the list of the hardware queues, by software queue.
-use Rattle.std.specs.Prelude.{ℕ, ◌≡◌, ◌<◌, ◌≤◌, ◌-◌, ◌⊎◌, ◌↔◌, List, [], length, All, Any, Contains, Result, Ok, Err}
+use Rattle.std.specs.Prelude.{ℕ, ◌≡◌, ◌<◌, ◌≤◌, ◌-◌, ◌⊎◌, ◌↔◌, List, [], length, All, Any, Contains, Result, Ok, Err, ◌∷◌}
 use Rattle.blk_bio.specs.declared.limits.TheConstants.{MAX_QUEUES, MAX_SOFT_QUEUES}
 use Rattle.blk_hw.specs.declared.MapFault.{MapFault}
 use Rattle.blk_hw.specs.declared.MapFault.TheVariants.{Empty, TooMany, Unserved}
+use Rattle.faults.specs.Order.{BreaksFirst}
 
 -- the greatest number of a hardware queue
 abbrev pub greatest_hw : ℕ
@@ -32,12 +33,18 @@ pub record IsLeastUnserved (entries : List ℕ) (hw : ℕ) : Type 0 where
   pub unserved : ¬ Contains entries hw
   pub least : (less : ℕ) → less < hw → Contains entries less
 
--- what each fault says of the entries; they come in this order
+-- the rules of a map, in the order in which they are looked at
+abbrev pub map_rules : List ℕ → List (Type 0)
+map_rules entries =
+    (0 < length entries)
+    ∷ ((length entries ≤ MAX_SOFT_QUEUES) × All (λ hw. hw ≤ greatest_hw) entries)
+    ∷ ((hw : ℕ) → Any (λ greater. hw < greater) entries → Contains entries hw) ∷ []
+
+-- what each fault says of the entries
 abbrev pub IsMapFault : List ℕ → MapFault → Type 0
-IsMapFault entries Empty = entries ≡ []
-IsMapFault entries TooMany = (0 < length entries) × ((MAX_SOFT_QUEUES < length entries) ⊎ Any (λ hw. greatest_hw < hw) entries)
-IsMapFault entries (Unserved hw) =
-    (0 < length entries) × (length entries ≤ MAX_SOFT_QUEUES) × All (λ named. named ≤ greatest_hw) entries × IsLeastUnserved entries hw
+IsMapFault entries Empty = BreaksFirst (map_rules entries) 0 (entries ≡ [])
+IsMapFault entries TooMany = BreaksFirst (map_rules entries) 1 ((MAX_SOFT_QUEUES < length entries) ⊎ Any (λ hw. greatest_hw < hw) entries)
+IsMapFault entries (Unserved hw) = BreaksFirst (map_rules entries) 2 (IsLeastUnserved entries hw)
 
 -- what is made of entries
 abbrev pub IsMapAnswer : List ℕ → Result (List ℕ) MapFault → Type 0

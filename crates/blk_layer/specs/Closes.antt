@@ -10,6 +10,7 @@ use Rattle.blk_trace.specs.Setups.{Setup}
 use Rattle.blk_trace.specs.Events.{At, HasId, request_of}
 use Rattle.blk_trace.specs.Meaning.{command_of, issued_ids, waiting_of}
 use Rattle.blk_trace.specs.Inside.Seats.{issued_by}
+use Rattle.faults.specs.Order.{BreaksFirst, AreKept}
 use Rattle.blk_layer.specs.Ways.{way_of}
 use Rattle.blk_layer.specs.Served.{done_count}
 use Rattle.blk_layer.specs.Seats.{LayerShape, SubmitterSeat, WorkerSeat}
@@ -104,10 +105,15 @@ pub record AreCounted (events : List Happened) (left : List Bio) (workers : List
   pub queued : List Bio
   pub left_is : left ≡ queued ++ waiting_of events
 
+-- the rule of a layer that is closed
+abbrev pub close_rules : LayerShape → List SubmitterSeat → List WorkerSeat → List (Type 0)
+close_rules layer submitters workers = AreAllThere layer.map layer.workers submitters workers ∷ []
+
 -- why a layer comes back whole: a seat isn't there, or all are and memory ran out
 abbrev pub IsCloseFault : LayerShape → List SubmitterSeat → List WorkerSeat → CloseFault → Type 0
-IsCloseFault layer submitters workers SeatMissing = ¬ AreAllThere layer.map layer.workers submitters workers
-IsCloseFault layer submitters workers Memory = AreAllThere layer.map layer.workers submitters workers
+IsCloseFault layer submitters workers SeatMissing =
+    BreaksFirst (close_rules layer submitters workers) 0 (¬ AreAllThere layer.map layer.workers submitters workers)
+IsCloseFault layer submitters workers Memory = AreKept (close_rules layer submitters workers)
 
 -- the layer and its seats as they come back are those that were handed in
 pub record AreBack (layer : LayerShape) (submitters : List SubmitterSeat) (workers : List WorkerSeat) (layer_back : LayerShape) (submitters_back : List SubmitterSeat) (workers_back : List WorkerSeat) : Type 0 where

@@ -1,5 +1,5 @@
 -- What a flush does, and why it ends.
-use Rattle.std.specs.Prelude.{ℕ, ◌≡◌, ◌≢◌, ◌<◌, ◌++◌, List, Some, slice_get}
+use Rattle.std.specs.Prelude.{ℕ, ◌≡◌, ◌≢◌, ◌<◌, ◌++◌, List, Some, slice_get, [], ◌∷◌}
 use Rattle.std.specs.List.{flat_map}
 use Rattle.blk_bio.specs.declared.bio.BioId.{BioId}
 use Rattle.blk_bio.specs.Bios.{Bio}
@@ -8,6 +8,7 @@ use Rattle.blk_trace.specs.Events.{AreOnce, IsFirstRepeatedBio}
 use Rattle.blk_layer.specs.declared.flushes.FlushWhy.{FlushWhy}
 use Rattle.blk_layer.specs.declared.flushes.FlushWhy.TheVariants.{Foreign, Repeated, SoftFull, Memory}
 use Rattle.blk_layer.specs.Seats.{SubmitterSeat, AreOwn}
+use Rattle.faults.specs.Order.{BreaksFirst}
 
 -- the requests that were taken stood first in the plug, and the account has just their bios more, in their order
 pub record Flushes (seat : SubmitterSeat) (plug : Plug) (new_seat : SubmitterSeat) (new_plug : Plug) : Type 0 where
@@ -31,10 +32,14 @@ pub record CanAccept (seat : SubmitterSeat) (bios : List Bio) : Type 0 where
   pub own : AreOwn seat.number bios
   pub once : AreOnce (seat.accepted ++ bios)
 
--- what each reason says of the request; they come in this order. Whether the software queue has room is known under its lock alone
+-- the rules of a request that is flushed, in the order in which they are looked at, before that there is room in the software queue
+abbrev pub flush_rules : SubmitterSeat → List Bio → List (Type 0)
+flush_rules seat bios = AreOwn seat.number bios ∷ AreOnce (seat.accepted ++ bios) ∷ []
+
+-- what each reason says of the request. Whether the software queue has room is known under its lock alone
 abbrev pub IsFlushReason : SubmitterSeat → List Bio → FlushWhy → Type 0
-IsFlushReason seat bios (Foreign id) = IsFirstForeign seat.number bios id
-IsFlushReason seat bios (Repeated id) = AreOwn seat.number bios × IsFirstRepeatedBio seat.accepted bios id
+IsFlushReason seat bios (Foreign id) = BreaksFirst (flush_rules seat bios) 0 (IsFirstForeign seat.number bios id)
+IsFlushReason seat bios (Repeated id) = BreaksFirst (flush_rules seat bios) 1 (IsFirstRepeatedBio seat.accepted bios id)
 IsFlushReason seat bios SoftFull = CanAccept seat bios
 IsFlushReason seat bios Memory = CanAccept seat bios
 

@@ -1,5 +1,5 @@
 -- What the calls on plugs answer.
-use Rattle.std.specs.Prelude.{ℕ, ◌≡◌, ◌<◌, ◌⊎◌, ◌++◌, [], ◌∷◌, true, length, Result, Ok, Err}
+use Rattle.std.specs.Prelude.{ℕ, ◌≡◌, ◌<◌, ◌⊎◌, ◌++◌, [], ◌∷◌, true, length, Result, Ok, Err, List}
 use Rattle.blk_bio.specs.Bios.{Bio}
 use Rattle.blk_bio.specs.Requests.{IsJoinCandidate}
 use Rattle.blk_plug.specs.declared.plug.Added.{Added}
@@ -7,13 +7,18 @@ use Rattle.blk_plug.specs.declared.plug.Added.TheVariants.{New, Joined}
 use Rattle.blk_plug.specs.declared.plug.PlugFault.{PlugFault}
 use Rattle.blk_plug.specs.declared.plug.PlugFault.TheVariants.{Full, Memory}
 use Rattle.blk_plug.specs.Plugs.{most_requests, Plug, HasPlugCandidate, HasNoPlugCandidate, IsJoinedAt}
+use Rattle.faults.specs.Order.{BreaksFirst, AreKept}
+
+-- the rule of an addition: the bio joins a request, or there is a place for one more
+abbrev pub add_rules : Plug → Bio → List (Type 0)
+add_rules plug bio =
+    (HasPlugCandidate plug.limits plug.requests (bio ∷ [])
+    ⊎ (HasNoPlugCandidate plug.limits plug.requests (bio ∷ []) × (length plug.requests < most_requests))) ∷ []
 
 -- what each fault says of the plug and the bio
 abbrev pub IsPlugFault : Plug → Bio → PlugFault → Type 0
-IsPlugFault plug bio Full = HasNoPlugCandidate plug.limits plug.requests (bio ∷ []) × (length plug.requests ≡ most_requests)
-IsPlugFault plug bio Memory =
-    HasPlugCandidate plug.limits plug.requests (bio ∷ [])
-    ⊎ (HasNoPlugCandidate plug.limits plug.requests (bio ∷ []) × (length plug.requests < most_requests))
+IsPlugFault plug bio Full = BreaksFirst (add_rules plug bio) 0 (HasNoPlugCandidate plug.limits plug.requests (bio ∷ []) × (length plug.requests ≡ most_requests))
+IsPlugFault plug bio Memory = AreKept (add_rules plug bio)
 
 -- what each answer of an addition says of the plug before and after it
 abbrev pub IsAddAnswer : Plug → Bio → Plug → Result Added (Bio × PlugFault) → Type 0

@@ -3,7 +3,7 @@ use Rattle.std.proofs.Common.{arith, ◌≡◌, ◌<◌, ◌≤◌, ◌%◌, ◌
 use Rattle.std.specs.Prelude.{Contains}
 use Rattle.std.proofs.Math.Nat.{mod-lt, mod-eq_of_lt}
 use Rattle.blk_bio.specs.declared.limits.TheConstants.{MAX_QUEUES, MAX_SOFT_QUEUES}
-use Rattle.blk_hw.specs.Maps.{IsMapFault}
+use Rattle.blk_hw.specs.Maps.{IsLeastUnserved, IsMapFault}
 use Rattle.blk_hw.specs.declared.MapFault.{MapFault}
 use Rattle.blk_hw.specs.declared.MapFault.TheVariants.{Empty, TooMany, Unserved}
 use Rattle.blk_sim.specs.Simulated.{IsSpread}
@@ -27,14 +27,15 @@ no_map_fault hw count entries TooMany some few enough most h e =
       | inr above ↦ let less : above.1 < hw = below hw count entries above.0 above.1 some h above.2 above.3 in let more : 15 < above.1 = above.4 in absurd (omega arith)
     ]
 no_map_fault hw count entries (Unserved k) some few enough most h e =
-    let above = e.3.below in
+    let gap : IsLeastUnserved entries k = e.1.1 in
+    let above = gap.below in
     let less : above.1 < hw = below hw count entries above.0 above.1 some h above.2 above.3 in
     let more : k < above.1 = above.4 in
     let in_hw : k < hw = omega arith in
     let in_count : k < count = omega arith in
     let within : k < length entries = let n = h.counts in omega arith in
     let here : Contains entries k = (k, within, h.spread k k in_count ∙ mod-eq_of_lt in_hw) in
-    e.3.unserved here
+    gap.unserved here
 
 -- the same for numbers that are equal
 pub spread_along : (hw hw' count count' : ℕ) (entries : List ℕ) → hw' ≡ hw → count' ≡ count → IsSpread hw count entries → IsSpread hw' count' entries

@@ -7,7 +7,8 @@ use Rattle.std.proofs.lemmas.Bool.{cases_Bool}
 use Rattle.std.proofs.lemmas.Slice.Eq.{bytes_eq-Decides}
 use Rattle.std.proofs.lemmas.Fmt.{digits_value-decimal, decimal_injective}
 use Rattle.blk_text.specs.Sources.{Row}
-use Rattle.blk_text.specs.Fields.{EachField, IsBlank, IsDirection, IsNumber, IsInRange, IsSized, IsShaped, Unless, Lacks}
+use Rattle.blk_text.specs.Fields.{EachField, IsBlank, IsDirection, IsNumber, IsInRange, IsSized, IsShaped, record_rules, Lacks}
+use Rattle.faults.specs.Order.{IsFirstFault}
 use Rattle.blk_text.specs.Words.{StartsWith, HasNoWord, WordLacks}
 use Rattle.blk_text.specs.declared.fault.Why.{Why}
 use Rattle.blk_text.specs.declared.fault.Why.TheVariants as why
@@ -190,24 +191,25 @@ goods_of (s ∷ ss) (f ∷ fs) l a b c d = (
   goods_of ss fs (omega (arith, l)) (λ k h. a (suc k) (omega (arith, h))) (λ k h. b (suc k) (omega (arith, h))) (λ k h. c (suc k) (omega (arith, h))) (λ k h. d (suc k) (omega (arith, h))),
 )
 
--- one thing that is looked for, and those after it
+-- rules, each with its fault
 
-unless_once : {A : Type 0} {x : Why} {Later : Why → Type 0} → ((w v : Why) → Later w → Later v → w ≡ v) → (w v : Why) → Unless A x Later w → Unless A x Later v → w ≡ v
-unless_once later w v (inl a) (inl b) = a.0 ∙ sym b.0
-unless_once later w v (inl a) (inr b) = absurd (a.1 b.0)
-unless_once later w v (inr a) (inl b) = absurd (b.1 a.0)
-unless_once later w v (inr a) (inr b) = later w v a.1 b.1
+first_once : (rules : List (Type 0 × Why)) (w v : Why) → IsFirstFault rules w → IsFirstFault rules v → w ≡ v
+first_once [] w v a b = absurd a
+first_once ((rule, fault) ∷ rules) w v (inl a) (inl b) = a.0 ∙ sym b.0
+first_once ((rule, fault) ∷ rules) w v (inl a) (inr b) = absurd (a.1 b.0)
+first_once ((rule, fault) ∷ rules) w v (inr a) (inl b) = absurd (b.1 a.0)
+first_once ((rule, fault) ∷ rules) w v (inr a) (inr b) = first_once rules w v a.1 b.1
 
-unless_decided : {A G : Type 0} {x : Why} {Later : Why → Type 0} → Dec A → (A → G ⊎ ((w : Why) × Later w)) → G ⊎ ((w : Why) × Unless A x Later w)
-unless_decided {A} {G} {x} {Later} (inr n) later = inr (x, inl (refl, n))
-unless_decided {A} {G} {x} {Later} (inl a) later = elim (later a) [
+first_decided : {A G : Type 0} {x : Why} (rules : List (Type 0 × Why)) → Dec A → (A → G ⊎ ((w : Why) × IsFirstFault rules w)) → G ⊎ ((w : Why) × IsFirstFault ((A, x) ∷ rules) w)
+first_decided {A} {G} {x} rules (inr n) later = inr (x, inl (refl, n))
+first_decided {A} {G} {x} rules (inl a) later = elim (later a) [
   | inl g ↦ inl g
   | inr f ↦ inr (f.0, inr (a, f.1))
 ]
 
 -- a record lacks one thing first
 pub lacks_once : (slots : List Slot) (row : Row) (w v : Why) → Lacks slots row w → Lacks slots row v → w ≡ v
-lacks_once slots row = unless_once (unless_once (unless_once (unless_once (λ w v a b. absurd a))))
+lacks_once slots row = first_once (record_rules slots row)
 
 -- a record whose fields are good lacks nothing
 pub goods_lack : (slots : List Slot) (row : Row) (w : Why) → Goods slots row → Lacks slots row w → ⊥
@@ -227,8 +229,12 @@ goods_lack slots row w g bad = let all = goods_all slots row g in elim bad [
 
 -- one of both is so
 pub goods_or_lacks : (slots : List Slot) (row : Row) → Goods slots row ⊎ ((w : Why) × Lacks slots row w)
-goods_or_lacks slots row = unless_decided shaped (λ s. unless_decided (each_decided IsDirection direction_decided slots row s.0) (λ a. unless_decided (each_decided IsNumber slot_number_decided slots row s.0)
-    (λ b. unless_decided (each_decided IsInRange range_decided slots row s.0) (λ c. inl (goods_of slots row s.0 s.1 a b c)))))
+goods_or_lacks slots row =
+    let ranged : List (Type 0 × Why) = (EachField IsInRange slots row, why.Range) ∷ [] in
+    let numbered : List (Type 0 × Why) = (EachField IsNumber slots row, why.Number) ∷ ranged in
+    let directed : List (Type 0 × Why) = (EachField IsDirection slots row, why.Word) ∷ numbered in
+    first_decided directed shaped (λ s. first_decided numbered (each_decided IsDirection direction_decided slots row s.0) (λ a. first_decided ranged (each_decided IsNumber slot_number_decided slots row s.0)
+    (λ b. first_decided [] (each_decided IsInRange range_decided slots row s.0) (λ c. inl (goods_of slots row s.0 s.1 a b c)))))
   where
     shaped : Dec (IsShaped slots row)
     shaped = elim (same_number (length row) (length slots)) [
@@ -239,7 +245,10 @@ goods_or_lacks slots row = unless_decided shaped (λ s. unless_decided (each_dec
 -- words
 
 pub no_word_once : (width : ℕ) (row : Row) (w v : Why) → HasNoWord width row w → HasNoWord width row v → w ≡ v
-no_word_once width row = unless_once (λ w v a b. a ∙ sym b)
+no_word_once width row w v (inl a) (inl b) = a.0 ∙ sym b.0
+no_word_once width row w v (inl a) (inr b) = absurd (a.1 b.0)
+no_word_once width row w v (inr a) (inl b) = absurd (b.1 a.0)
+no_word_once width row w v (inr a) (inr b) = a.1 ∙ sym b.1
 
 pub no_word_lacks : (width : ℕ) (row : Row) → (w : Why) × HasNoWord width row w
 no_word_lacks width row = elim (same_number (length row) width) [

@@ -1,6 +1,7 @@
 -- What may stand in the fields of a record, and what a record lacks.
 use Rattle.std.specs.Prelude.{◌≡◌, ◌⊎◌, ◌<◌, ◌≤◌, ◌^◌, ◌==◌, ◌&&◌, not, Bool, false, ℕ, List, [], ◌∷◌, length, get_or, decimal, codes}
 use Rattle.std.specs.Str.Parse.{AllDigits, digits_value}
+use Rattle.faults.specs.Order.{IsFirstFault}
 use Rattle.blk_text.specs.Sources.{Row}
 use Rattle.blk_text.specs.declared.fault.Why.{Why}
 use Rattle.blk_text.specs.declared.fault.Why.TheVariants as why
@@ -61,14 +62,17 @@ IsInRange (slot.Lateness most) f = (n : ℕ) → n < 2 ^ 64 → IsSized f n → 
 abbrev pub IsShaped : List Slot → Row → Type 0
 IsShaped slots row = (length row ≡ length slots) × EachField IsBlank slots row
 
--- this fault where this does not hold, and else what is looked for after it
-abbrev pub Unless : Type 0 → Why → (Why → Type 0) → Why → Type 0
-Unless A fault Later w = ((w ≡ fault) × ¬ A) ⊎ (A × Later w)
+-- the rules of a record, in the order in which they are looked at, each with its fault
+abbrev pub record_rules : List Slot → Row → List (Type 0 × Why)
+record_rules slots row =
+    (IsShaped slots row, why.Fields)
+    ∷ (EachField IsDirection slots row, why.Word)
+    ∷ (EachField IsNumber slots row, why.Number)
+    ∷ (EachField IsInRange slots row, why.Range) ∷ []
 
 -- the first thing that a record lacks of its slots
 abbrev pub Lacks : List Slot → Row → Why → Type 0
-Lacks slots row = Unless (IsShaped slots row) why.Fields (Unless (EachField IsDirection slots row) why.Word
-    (Unless (EachField IsNumber slots row) why.Number (Unless (EachField IsInRange slots row) why.Range (λ _. ⊥))))
+Lacks slots row = IsFirstFault (record_rules slots row)
 
 -- this number is written in a field
 abbrev pub NumberOf : Slot → List ℕ → ℕ → Type 0

@@ -1,7 +1,7 @@
 -- Records that begin with a word.
 use Rattle.std.specs.Prelude.{◌≡◌, ◌⊎◌, ◌+◌, ℕ, List, [], ◌∷◌, length}
 use Rattle.blk_text.specs.Sources.{Row}
-use Rattle.blk_text.specs.Fields.{Lacks, Unless}
+use Rattle.blk_text.specs.Fields.{Lacks}
 use Rattle.blk_text.specs.declared.fault.Why.{Why}
 use Rattle.blk_text.specs.declared.fault.Why.TheVariants as why
 use Rattle.blk_text.specs.declared.fields.Slot.{Slot}
@@ -18,7 +18,7 @@ NextStarts word (row ∷ rows) = StartsWith word row
 
 -- where no word may stand that a record begins with, only its number of fields is looked at before
 abbrev pub HasNoWord : ℕ → Row → Why → Type 0
-HasNoWord width row = Unless (length row ≡ width) why.Fields (λ w. w ≡ why.Word)
+HasNoWord width row w = ((w ≡ why.Fields) × ¬ (length row ≡ width)) ⊎ ((length row ≡ width) × (w ≡ why.Word))
 
 -- what is wrong with a record that ought to begin with this word, and then have these slots
 abbrev pub WordLacks : List ℕ → List Slot → Row → Why → Type 0

@@ -2,7 +2,7 @@
 #![tactic(auto)]
 
 #[cfg(test)]
-mod faults;
+mod first_faults;
 #[cfg(test)]
 mod forms;
 #[cfg(test)]

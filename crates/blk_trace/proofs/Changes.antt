@@ -153,12 +153,12 @@ some_step = record { from = 0; depth = 0 }
 pub no_fault : (steps : List Step) (f : CapacityFault) → IsCapacity steps → IsFault steps f → ⊥
 no_fault steps Start is (inl h) = absurd (omega (arith, h, is.some))
 no_fault steps Start is (inr h) = absurd (omega (arith, h some_step, is.start some_step))
-no_fault steps (Rising p) is h = absurd (omega (arith, h.2 some_step, (is.each p h.0.in_list).rising some_step h.1))
-no_fault steps (Depth p) is h = elim (h.2 some_step) [
+no_fault steps (Rising p) is h = absurd (omega (arith, h.1.1 some_step, (is.each p h.0.in_list).rising some_step h.1.0))
+no_fault steps (Depth p) is h = elim (h.1.1 some_step) [
   | inl n ↦ absurd (omega (arith, n, ((is.each p h.0.in_list).some_depth some_step).0))
   | inr n ↦ absurd (omega (arith, n, ((is.each p h.0.in_list).some_depth some_step).1))
 ]
-no_fault steps (Round p) is h = absurd (omega (arith, h.3 some_step, (is.each p h.0.in_list).round some_step))
+no_fault steps (Round p) is h = absurd (omega (arith, h.1.1.1 some_step, (is.each p h.0.in_list).round some_step))
 
 -- the steps with one more change
 some_last : (s : Step) (steps : List Step) → (t : Step) × ((ts : List Step) × (last_of_each (s ∷ steps) ≡ t ∷ ts))

@@ -3,6 +3,7 @@ use Rattle.edd_check.specs.declared.steps.Step.{Step}
 use Rattle.edd_check.specs.declared.steps.CapacityFault.{CapacityFault}
 use Rattle.edd_check.specs.declared.steps.CapacityFault.TheVariants.{Start, Rising, Depth, Round}
 use Rattle.edd_check.specs.Limits.{most_depth, round_limit}
+use Rattle.faults.specs.Order.{BreaksFirst}
 
 -- the depth of the last of these steps that begins in the round x or before, or `depth` where none does
 abbrev pub depth_after : ℕ → List Step → ℕ → ℕ
@@ -52,15 +53,19 @@ pub record IsReached (steps : List Step) (p : ℕ) : Type 0 where
   pub start : (d : Step) → (slice_index_or steps 0 d).from ≡ 0
   pub before : (k : ℕ) → k < p → IsStepAt steps k
 
--- the first fault by place, and at a place in this order
+-- the rules of the step at the place p, in the order in which they are looked at
+abbrev pub step_rules : List Step → ℕ → List (Type 0)
+step_rules steps p = IsReached steps p ∷ IsRising steps p ∷ HasDepth steps p ∷ HasRound steps p ∷ []
+
+-- the first fault by place, and at a place by these rules
 abbrev pub IsFault : List Step → CapacityFault → Type 0
-IsFault steps Start = (length steps ≡ 0) ⊎ ((d : Step) → 0 < (slice_index_or steps 0 d).from)
+IsFault steps Start = BreaksFirst (step_rules steps 0) 0 ((length steps ≡ 0) ⊎ ((d : Step) → 0 < (slice_index_or steps 0 d).from))
 IsFault steps (Rising p) =
-    IsReached steps p × (0 < p) × ((d : Step) → (slice_index_or steps p d).from ≤ (slice_index_or steps (p - 1) d).from)
+    BreaksFirst (step_rules steps p) 1 ((0 < p) × ((d : Step) → (slice_index_or steps p d).from ≤ (slice_index_or steps (p - 1) d).from))
 IsFault steps (Depth p) =
-    IsReached steps p × IsRising steps p × ((d : Step) → ((slice_index_or steps p d).depth ≡ 0) ⊎ (most_depth < (slice_index_or steps p d).depth))
+    BreaksFirst (step_rules steps p) 2 ((d : Step) → ((slice_index_or steps p d).depth ≡ 0) ⊎ (most_depth < (slice_index_or steps p d).depth))
 IsFault steps (Round p) =
-    IsReached steps p × IsRising steps p × HasDepth steps p × ((d : Step) → round_limit ≤ (slice_index_or steps p d).from)
+    BreaksFirst (step_rules steps p) 3 ((d : Step) → round_limit ≤ (slice_index_or steps p d).from)
 
 -- the step at place i is the last that begins in the round x or before
 pub record IsInForce (steps : List Step) (i x : ℕ) : Type 0 where

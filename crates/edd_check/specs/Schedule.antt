@@ -1,4 +1,4 @@
-use Rattle.std.specs.Prelude.{ℕ, ◌≡◌, ◌≤◌, ◌<◌, ◌==◌, List, length, count_by, slice_index, slice_index_or, ℤ, pos, ◌-ℤ◌, ◌≤ℤ◌, All}
+use Rattle.std.specs.Prelude.{ℕ, ◌≡◌, ◌≤◌, ◌<◌, ◌==◌, List, length, count_by, slice_index, slice_index_or, ℤ, pos, ◌-ℤ◌, ◌≤ℤ◌, All, [], ◌∷◌}
 use Rattle.edd_check.specs.declared.Command.{Command}
 use Rattle.edd_check.specs.declared.steps.Step.{Step}
 use Rattle.edd_check.specs.Limits.{round_limit}
@@ -18,6 +18,13 @@ pub record IsLegal (commands : List Command) (rounds : List ℕ) (steps : List S
   pub one_each : length rounds ≡ length commands
   pub released : StartsReleased commands rounds
   pub within_depth : (x : ℕ) → places_at rounds x ≤ depth_at steps x
+
+-- the rules of a schedule, in the order in which they are looked at
+abbrev pub round_rules : List Command → List Step → List ℕ → List (Type 0)
+round_rules commands steps rounds =
+    (length rounds ≡ length commands)
+    ∷ StartsReleased commands rounds
+    ∷ ((x : ℕ) → places_at rounds x ≤ depth_at steps x) ∷ []
 
 -- how late the command at place k is: its round less its due round
 abbrev pub lateness_at : List Command → List ℕ → ℕ → Command → ℤ

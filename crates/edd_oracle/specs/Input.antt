@@ -1,8 +1,9 @@
-use Rattle.std.specs.Prelude.{ℕ, ◌≡◌, ◌≢◌, ◌≤◌, ◌<◌, ◌⊎◌, List, length, slice_index_or, All}
+use Rattle.std.specs.Prelude.{take, ℕ, ◌≡◌, ◌≢◌, ◌≤◌, ◌<◌, ◌⊎◌, List, length, slice_index_or, All, [], ◌∷◌}
 use Rattle.edd_check.specs.declared.Command.{Command}
 use Rattle.edd_check.specs.Limits.{release_limit, round_limit, most_commands}
 use Rattle.edd_oracle.specs.declared.OracleFault.{OracleFault}
 use Rattle.edd_oracle.specs.declared.OracleFault.TheVariants.{TooMany, RoundRange, RepeatedId, Memory}
+use Rattle.faults.specs.Order.{BreaksFirst, AreKept}
 
 -- the release and the due round are within their limits
 abbrev pub IsSolvable : Command → Type 0
@@ -37,10 +38,14 @@ pub record IsTaken (commands : List Command) : Type 0 where
   pub in_range : All IsSolvable commands
   pub distinct : HasDistinctIds commands (length commands)
 
--- why the oracle refuses a list: the first reason that holds, or want of memory after the first two
+-- the rules of a list, in the order in which they are looked at
+abbrev pub list_rules : List Command → List (Type 0)
+list_rules commands =
+    (length commands ≤ most_commands) ∷ All IsSolvable commands ∷ HasDistinctIds commands (length commands) ∷ []
+
+-- why the oracle refuses a list: the first rule that is broken, or want of memory after the first two
 abbrev pub IsRefusal : List Command → OracleFault → Type 0
-IsRefusal commands TooMany = most_commands < length commands
-IsRefusal commands (RoundRange id) = (length commands ≤ most_commands) × IsFirstOutOfRange commands id
-IsRefusal commands (RepeatedId id) =
-    (length commands ≤ most_commands) × All IsSolvable commands × IsFirstRepeated commands id
-IsRefusal commands Memory = (length commands ≤ most_commands) × All IsSolvable commands
+IsRefusal commands TooMany = BreaksFirst (list_rules commands) 0 (most_commands < length commands)
+IsRefusal commands (RoundRange id) = BreaksFirst (list_rules commands) 1 (IsFirstOutOfRange commands id)
+IsRefusal commands (RepeatedId id) = BreaksFirst (list_rules commands) 2 (IsFirstRepeated commands id)
+IsRefusal commands Memory = AreKept (take 2 (list_rules commands))

@@ -8,7 +8,7 @@ pub returns-then-names_above-2-clause-answer : goal.returns-then-names_above-2-c
 returns-then-names_above-2-clause-answer g c =
     let some : 0 < length c.args.entries.items = first_of (omega arith, search rules, grind (arith, common_steps)) in
     let few : length c.args.entries.items ≤ MAX_SOFT_QUEUES = first_of (omega arith, search rules, grind (arith, common_steps)) in
-    (some, few, (λ k d l. rw (← c.as_slice.ensures.value) (c.if-names_above.ensures.none k d (rw c.as_slice.ensures.value l))), unserved _ _ _ _ _ c.as_slice.ensures.value c.as_slice-2.ensures.value c.as_slice-3.ensures.value c.if-names_above.ensures.none c.least_unnamed-hw_count.ensures.named c.least_unnamed-hw_count.ensures.unnamed c.if-names_above-2.ensures.some)
+    (some, ((few, (λ k d l. rw (← c.as_slice.ensures.value) (c.if-names_above.ensures.none k d (rw c.as_slice.ensures.value l)))), unserved _ _ _ _ _ c.as_slice.ensures.value c.as_slice-2.ensures.value c.as_slice-3.ensures.value c.if-names_above.ensures.none c.least_unnamed-hw_count.ensures.named c.least_unnamed-hw_count.ensures.unnamed c.if-names_above-2.ensures.some))
 
 pub invariant_of-result : goal.invariant_of-result
 invariant_of-result g c =

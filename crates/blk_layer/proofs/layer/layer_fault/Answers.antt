@@ -29,7 +29,7 @@ returns-then-is_empty-clause-some g c =
       | then-is_empty-via-then-is_empty w ↦ inl (search rules)
       | then-is_empty-via-else-is_empty+then-worker_queues-gt-MAX_WORKERS w ↦ inr (search rules)
     ] in
-    (subst (IsHwCount c.args.map.now) same c.hw_count.ensures.value, some, few, outside)
+    (subst (IsHwCount c.args.map.now) same c.hw_count.ensures.value, ((some, few), outside))
 
 pub returns-in-Some-clause-some : goal.returns-in-Some-clause-some
 returns-in-Some-clause-some g c =
@@ -38,7 +38,7 @@ returns-in-Some-clause-some g c =
     let few : c.args.soft_depth ≤ greatest_depth = omega arith in
     let workers : 0 < length c.args.worker_queues.now = search rules in
     let most : length c.args.worker_queues.now ≤ MAX_WORKERS = search rules in
-    (subst (IsHwCount c.args.map.now) same c.hw_count.ensures.value, some, few, workers, most, c.in-Some.ensures.some)
+    (subst (IsHwCount c.args.map.now) same c.hw_count.ensures.value, ((some, few), ((workers, most), c.in-Some.ensures.some)))
 
 pub returns-in-None-clause-none : goal.returns-in-None-clause-none
 returns-in-None-clause-none g c =

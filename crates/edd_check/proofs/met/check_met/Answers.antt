@@ -35,7 +35,7 @@ returns-then-bound-met-clause-answer g c =
     let is : IsCover c.args.cover.now = c.in_default-first_astray.ensures.none in
     let bound : bound_of c.args.commands.now c.args.capacity.now c.args.cover.now ≡ c.carried_by.result + c.outside.result = omega (arith, c.carried_by.ensures.value, c.outside.ensures.value) in
     let above : number_met c.args.commands.now c.args.rounds.now ≤ bound_of c.args.commands.now c.args.capacity.now c.args.cover.now = covers_bound c.args.commands.now c.args.capacity.now c.args.cover.now c.args.rounds.now legal in
-    (legal, met, is, bound, omega (arith, c.if-bound-met.true))
+    (legal, (met, (is, (bound, omega (arith, c.if-bound-met.true)))))
 
 pub returns-clause-most : goal.returns-clause-most
 returns-clause-most g c =

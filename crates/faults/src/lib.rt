@@ -1,0 +1,3 @@
+//! The order of faults: which of several rules that are broken is told. What it is stands in `specs/`, its law in `proofs/`; there is
+//! no code.
+#![tactic(auto)]
