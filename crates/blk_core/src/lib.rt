@@ -43,7 +43,7 @@ pub enum CoreFault {
     /// There is no such hardware queue.
     #[error("NoQueue")]
     NoQueue,
-    /// The first bio, in tile order, whose id stands in the trace or earlier in the request.
+    /// The first bio, in the order of their sectors, whose id stands in the trace or earlier in the request.
     #[error("Repeated")]
     Repeated(BioId),
     /// The trace has no place for the event.
@@ -214,13 +214,12 @@ impl<S: Scheduler> Core<S> {
     }
 
     /// Releases a request for a hardware queue, as Linux's blk-mq inserts into an elevator: it joins the newest
-    /// request served for the queue that it fits, at the back where it fits both sides, or waits by itself under the
-    /// next id, due when its direction's expiry has passed from this round. The request must be within the setup's
+    /// request served for the queue that it fits, or waits by itself under the next id, due when its direction's expiry has passed from this round. The request must be within the setup's
     /// limits: one bio, or no more sectors and bios than they allow.
     ///
     /// Refused, by the first of these that applies: as `NoQueue` where `hw` is not below the number of hardware queues;
-    /// as `Repeated` with the id of the first bio, in tile order, whose id stands in the trace or earlier in the
-    /// request; as `TraceFull` where the events, with a Done counted for each command in flight, are [`MAX_EVENTS`]
+    /// as `Repeated` with the id of the first bio, in the order of their sectors, whose id stands in the trace or
+    /// earlier in the request; as `TraceFull` where the events, with a Done counted for each command in flight, are [`MAX_EVENTS`]
     /// already; and as `Memory`. The request comes back then, and nothing is changed.
     pub fn release(
         &mut self,
@@ -443,8 +442,10 @@ impl<S: Scheduler> Core<S> {
         Ok(id)
     }
 
-    /// Ends the round, and answers the number of the next one: how many Ticks there are then. Refused while a command
-    /// is in flight, where the trace is full, and for want of memory; nothing is changed then.
+    /// Ends the round, and answers the number of the next one: how many Ticks there are then.
+    ///
+    /// Refused, by the first of these that applies: as `InFlight` with how many commands are in flight, where some are;
+    /// as `TraceFull` where the events are [`MAX_EVENTS`] already; and as `Memory`. Nothing is changed then.
     pub fn tick(&mut self) -> Result<u64, TickFault>
         ensures ended { OnOk result (Ends S.told_tick self.old self.new) }
         ensures round { IfOk result (λ round. round ≡ round_of self.new.events) }

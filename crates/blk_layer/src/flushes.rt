@@ -27,10 +27,10 @@ pub struct Flushed {
 /// Why a flush ended before the plug was empty, in the order in which the reasons are looked for.
 #[derive(Clone, Copy, Debug, PartialEq, Eq, Error)]
 pub enum FlushWhy {
-    /// The first bio, in tile order, of another submitter.
+    /// The first bio, in the order of their sectors, of another submitter.
     #[error("Foreign")]
     Foreign(BioId),
-    /// The first bio, in tile order, whose id was accepted before or stands earlier in the request.
+    /// The first bio, in the order of their sectors, whose id was accepted before or stands earlier in the request.
     #[error("Repeated")]
     Repeated(BioId),
     /// The software queue has no room for the request.
@@ -138,7 +138,7 @@ fn has_room<A: Allocator + Clone>(queue: &SoftQueue<A>, request: &Request<A>) ->
     (queue.len() as u64) < queue.depth() && count <= MAX_BIOS - queue.bios_in()
 }
 
-/// The id of the first of the bios, in tile order, that another submitter has named.
+/// The id of the first of the bios, in the order of their sectors, that another submitter has named.
 pub(crate) fn first_foreign(number: u8, bios: &[Bio]) -> Option<BioId>
     ensures some { IfSome result (IsFirstForeign number bios.now) }
     ensures none { IfNone result (AreOwn number bios.now) }

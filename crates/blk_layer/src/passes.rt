@@ -36,7 +36,7 @@ pub enum WorkFault {
     /// Memory ran out.
     #[error("Memory")]
     Memory,
-    /// A request in a software queue has a bio whose id stands in the trace, or twice in it: the first such, in tile order.
+    /// A request in a software queue has a bio whose id stands in the trace, or twice in it: the first such, by sector.
     #[error("Repeated")]
     Repeated(BioId),
 }
@@ -47,7 +47,7 @@ impl<S: Scheduler, L: Named> Layer<S, L> {
         self.kept.lock(rt).finish();
     }
 
-    /// Works for the worker's hardware queue, in at most `turns` passes. A pass drains; then it issues commands, lets the device
+    /// Works for the hardware queue of the worker, whose seat is one of this layer, in at most `turns` passes. A pass drains; then it issues commands, lets the device
     /// run them and reports them done, or back where the device was busy, one after the other, until an issue finds no command
     /// or no tag, or as many in a row as there are tags each meet a tag that is used up in its round. The last of these ends the
     /// round in which its own tag is used up, under the same lock of the core, unless a command is in flight. A pass has no other

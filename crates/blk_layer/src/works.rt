@@ -33,9 +33,9 @@ pub struct DrainFault {
 impl<S: Scheduler, L: Named> Layer<S, L> {
     /// Moves the requests of a plug, from the first on, into the submitter's software queue, and accepts their bios. Ends at
     /// the first request that is refused, and says how many requests stay in the plug: what was moved stays moved and is
-    /// accepted. The plug's limits are the layer's.
+    /// accepted. The seat is one of this layer, and the plug's limits are the layer's.
     ///
-    /// The first request left is refused, by the first of these that applies: as `Foreign` with its first bio, in tile order,
+    /// The first request left is refused, by the first of these that applies: as `Foreign` with its first bio, by sector,
     /// that another submitter has named; as `Repeated` with its first bio whose id was accepted before or stands earlier in
     /// it; as `SoftFull` where the software queue has no room for it; and as `Memory` where the account can't grow.
     pub fn flush<R: Wait>(
@@ -108,7 +108,7 @@ impl<S: Scheduler, L: Named> Layer<S, L> {
 
     /// Issues a command to a worker, for its hardware queue: the one that the core gives, or None where that gives none. The
     /// tag is taken before the core's lock. Without a command it is given back after the lock, and the worker holds what it held;
-    /// but its next try for a tag may begin at another one.
+    /// but its next try for a tag may begin at another one. The seat is one of this layer.
     ///
     /// Refused, by the first of these that applies: as `NoTag` where each tag was found taken when it was tried; as `Memory`
     /// where the worker's account can't be given the room that a completion will need; and then as the core's issue is.
@@ -145,7 +145,7 @@ impl<S: Scheduler, L: Named> Layer<S, L> {
     }
 
     /// Reports as done the command in the worker's hands under a tag: the one that the worker was last issued with it. It goes
-    /// into the worker's account, and the tag is given back, after the core's lock. Takes no memory.
+    /// into the worker's account, and the tag is given back, after the core's lock. The seat is one of this layer. Takes no memory.
     ///
     /// Refused where the worker has no command under the tag, also where another one has; nothing is changed then.
     pub fn done<R: Wait>(
@@ -177,7 +177,8 @@ impl<S: Scheduler, L: Named> Layer<S, L> {
     }
 
     /// Hands the command in the worker's hands under a tag back to the core, since the device was busy, and answers its id: the
-    /// core will issue it again. The tag is given back, after the core's lock, and the worker's account stays.
+    /// core will issue it again. The tag is given back, after the core's lock, and the worker's account stays. The seat is one
+    /// of this layer.
     ///
     /// Refused, by the first of these that applies: as `NotIssued` where the worker has no command under the tag, also where
     /// another one has; and as the core's `back` is. Nothing is changed then.
@@ -200,16 +201,16 @@ impl<S: Scheduler, L: Named> Layer<S, L> {
         self.kept.lock(rt).back(tag)
     }
 
-    /// Ends the round, and answers the number of the next one: how many Ticks there are then. Refused as the core's `tick` is:
-    /// while a command is in flight, where the trace is full, and for want of memory.
+    /// Ends the round, and answers the number of the next one: how many Ticks there are then. Refused as the core's `tick` is,
+    /// by the first of these that applies: as `InFlight` with how many commands are in flight, as `TraceFull`, and as `Memory`.
     pub fn tick<R: Wait>(&self, rt: &R) -> Result<u64, TickFault>
         ensures { IsTickAnswer result }
     {
         self.kept.lock(rt).tick()
     }
 
-    /// Sets how many commands the rounds after this one carry, until another depth is set. Refused as the core's `set_depth` is:
-    /// where the trace is full, where the depth is 0 or above the setup's, and for want of memory.
+    /// Sets how many commands the rounds after this one carry, until another depth is set. Refused as the core's `set_depth` is,
+    /// by the first of these that applies: as `TraceFull`, as `DepthRange` where the depth is 0 or above the setup's, and as `Memory`.
     pub fn set_depth<R: Wait>(&self, rt: &R, depth: u64) -> Result<(), DepthFault>
         ensures { IsDepthAnswer L.setup.depth depth result }
     {

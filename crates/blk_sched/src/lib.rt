@@ -160,8 +160,7 @@ pub trait Scheduler: Drop {
         }
     }
 
-    /// The request that a newcomer joins: the newest served for the hardware queue that it fits, with the side, which
-    /// is the back where it fits both. None exactly where it fits none of them, at the back or, where the scheduler
+    /// The request that a newcomer joins: the newest served for the hardware queue that it fits, with the side. None exactly where it fits none of them, at the back or, where the scheduler
     /// allows it, at the front.
     fn candidate(&self, hw: u8, limits: &Limits, newcomer: &Request<Self::A>) -> Option<(u64, Side)>
         requires { hw < MAX_QUEUES }
@@ -214,9 +213,8 @@ pub trait Scheduler: Drop {
         }
     }
 
-    /// Joins a newcomer to the newest request served for the hardware queue that it fits, at the back where it fits
-    /// both sides: `now`, which is the round, becomes that request's release; its id, hardware queue and due round
-    /// stay. Answers the request's id and the side.
+    /// Joins a newcomer to the newest request served for the hardware queue that it fits: `now`, which is the round,
+    /// becomes that request's release; its id, hardware queue and due round stay. Answers the request's id and the side.
     ///
     /// Refused as `NoFit` exactly where it fits none of them, at the back or, where the scheduler allows it, at the
     /// front; and as `Memory` where it fits one and memory ran out. A refusal changes nothing and hands the newcomer
@@ -247,7 +245,8 @@ pub trait Scheduler: Drop {
 
     /// Takes out one request that is served for the hardware queue and opens one pick of its direction: the one that the
     /// scheduler chooses. None only where a pick is open or handed back, of either direction, or no served request waits.
-    /// Each request is served for the hardware queue that it entered at, at least. `now` must be the round.
+    /// Each request is served for the hardware queue that it entered at, at least. `now` must be the round, and
+    /// fewer than [`MAX_OPEN`] picks be open.
     fn pick(&mut self, hw: u8, now: u64) -> Option<Queued<Self::A>>
         requires hw { hw < MAX_QUEUES }
         requires round { now ≡ (meaning self.old).round }
@@ -259,7 +258,7 @@ pub trait Scheduler: Drop {
         ensures kept { IfNone result (Self.kept self.new ≡ Self.kept self.old) }
         ensures own { (w : Waiting) → IsTrue (serves w.hw w) };
 
-    /// Closes an open pick of a direction; `wait` is the number of rounds from the release of the request that was picked
+    /// Closes an open pick of a direction, of which one must be open; `wait` is the number of rounds from the release of the request that was picked
     /// to its last issue, and `hw` the hardware queue that it was picked for.
     fn on_done(&mut self, hw: u8, dir: Dir, wait: u64)
         requires hw { hw < MAX_QUEUES }
@@ -267,8 +266,8 @@ pub trait Scheduler: Drop {
         ensures done { meaning self.old ≡ record (meaning self.new) { open_picks = opened dir (meaning self.new).open_picks } }
         ensures told { told_done hw dir wait (Self.kept self.old) (Self.kept self.new) };
 
-    /// Hands back an open pick of a direction, which was picked for the hardware queue: the device was busy. It is no
-    /// completion. Fewer than `MAX_HANDED` may be handed back.
+    /// Hands back an open pick of a direction, of which one must be open and which was picked for the hardware queue: the
+    /// device was busy. It is no completion. Fewer than `MAX_HANDED` may be handed back.
     fn on_back(&mut self, hw: u8, dir: Dir)
         requires hw { hw < MAX_QUEUES }
         requires is_open { 0 < open_of dir (meaning self.old).open_picks }

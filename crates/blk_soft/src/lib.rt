@@ -55,7 +55,7 @@ impl<A: Allocator + Clone> SoftQueue<A> {
         })
     }
 
-    /// Puts a request at the back. Refused exactly where the queue is full, or where more than [`MAX_BIOS`] bios would
+    /// Puts a request, which must be within the queue's limits, at the back. Refused exactly where the queue is full, or where more than [`MAX_BIOS`] bios would
     /// have come; the queue is then as it was and the request comes back. It takes no memory.
     pub fn put(&mut self, request: Request<A>) -> Result<(), Request<A>>
         requires within { IsWithin self.old.limits request }

@@ -139,7 +139,7 @@ impl<A: Allocator + Clone> TagSet<A> {
         Ok((TagSet { table, depth }, seat))
     }
 
-    /// A new seat, which holds no tag; the seat that is handed in stays as it is. Fails for want of memory alone.
+    /// A new seat, which holds no tag; the seat that is handed in must be one of this set, and stays as it is. Fails for want of memory alone.
     pub fn split(&self, seat: &mut TagSeat<A>) -> Result<TagSeat<A>, AllocError>
         requires { seat.old.of_set ≡ self.now }
         ensures ok { IfOk result (λ s. s ≡ record { of_set = self.now; tags = []; last = None }) }
@@ -162,7 +162,8 @@ fn no_marks<A: Allocator + Clone>(alloc: &A, count: usize) -> Result<Vec<bool, A
 }
 
 impl<A: Allocator> TagSet<A> {
-    /// Gives back each tag that a seat still holds, and lets the seat go; the other seat stays as it is. It takes no memory.
+    /// Gives back each tag that a seat still holds, and lets the seat go; the seat that stays is as it was. Both must be seats of
+    /// this set. It takes no memory.
     pub fn join(&self, seat: &mut TagSeat<A>, other: TagSeat<A>)
         requires of_set { seat.old.of_set ≡ self.now }
         requires other_of_set { other.of_set ≡ self.now }
@@ -192,8 +193,8 @@ impl<A: Allocator> TagSet<A> {
         self.table.shared.join_seat::<Whole>(&mut seat.seat, gone);
     }
 
-    /// Takes a tag that no seat holds. Tries each tag at most once, upward and round from the one after the seat's last, 0
-    /// first. There is none where each try found its tag taken. It neither waits nor takes memory.
+    /// Takes a tag that no seat holds, for a seat of this set. Tries each tag at most once, upward and round from the one after
+    /// the seat's last, 0 first. There is none where each try found its tag taken. It neither waits nor takes memory.
     pub fn get(&self, seat: &mut TagSeat<A>) -> Option<u16>
         requires { seat.old.of_set ≡ self.now }
         ensures some { IfSome result (λ t. seat.new ≡ record seat.old { tags = seat.old.tags ++ t ∷ []; last = Some t }) }
@@ -247,7 +248,7 @@ impl<A: Allocator> TagSet<A> {
         found & bit == 0
     }
 
-    /// Gives back a tag that the seat holds. It neither waits nor takes memory.
+    /// Gives back a tag that the seat, which is one of this set, holds. It neither waits nor takes memory.
     pub fn give(&self, seat: &mut TagSeat<A>, tag: u16)
         requires of_set { seat.old.of_set ≡ self.now }
         requires holds { Contains seat.old.tags tag }

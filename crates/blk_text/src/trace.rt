@@ -191,7 +191,7 @@ fn trace_text<A: Allocator + Clone>(alloc: Global, trace: &Trace<A>) -> Result<V
 }
 
 /// Writes the text of a trace, in the latest version, at once where all of it could be made: records of six fields, a title,
-/// a setup, and the records of each event, those of a group's bios after its own in tile order.
+/// a setup, and the records of each event, those of a group's bios after its own in the order of their sectors.
 ///
 /// [`WriteFault::Write`]: the writer answered a fault; what it took before, a first part of the text, is out, and
 /// nothing says how much that is. [`WriteFault::Memory`]: nothing was handed to the writer.

@@ -181,7 +181,8 @@ pub fn is_legal<A: Allocator>(commands: &[Command], rounds: &[u64], capacity: &C
 }
 
 /// The greatest of the commands' latenesses (Pinedo's Lmax), each its round less its due round: negative where all
-/// run before they are due. There is none exactly where there are no commands.
+/// run before they are due. There is none exactly where there are no commands. There must be as many rounds as commands, and
+/// each round, release and due round lie below [`ROUND_LIMIT`].
 pub fn greatest_lateness(commands: &[Command], rounds: &[u64]) -> Option<i64>
     requires equal { length commands.now ≡ length rounds.now }
     requires commands_in { CommandsInRange commands.now }

@@ -51,7 +51,8 @@ pub fn cover_in_range(cover: &[Window]) -> bool
         .all(|w| w.from < ROUND_LIMIT && w.due < ROUND_LIMIT)
 }
 
-/// How many commands run no later than they are due.
+/// How many commands run no later than they are due; of two lists that are not equally long the places past the shorter
+/// one's end don't count.
 #[tactic(auto, unfolding(crate::specs::Met::number_met))]
 pub fn number_met(commands: &[Command], rounds: &[u64]) -> u64
     ensures { result ≡ number_met commands.now rounds.now }
@@ -91,7 +92,7 @@ fn is_outside(command: Command, cover: &[Window]) -> bool
     command.release <= command.due && (place == 0 || cover[place - 1].due < command.due)
 }
 
-/// How many commands are released by their due round and lie in none of the windows.
+/// How many commands are released by their due round and lie in none of the windows, which must be disjoint and rise.
 #[tactic(auto, unfolding(crate::specs::Met::outside_of))]
 pub fn outside(commands: &[Command], cover: &[Window]) -> u64
     requires { IsCover cover.now }
@@ -101,7 +102,7 @@ pub fn outside(commands: &[Command], cover: &[Window]) -> u64
     commands.iter().filter(|c| is_outside(**c, cover)).count() as u64
 }
 
-/// How many commands the window's rounds, `from` to `due`, carry.
+/// How many commands the window's rounds, `from` to `due`, carry; `due` must lie below [`ROUND_LIMIT`].
 #[tactic(auto, unfolding(crate::specs::Met::carried_in))]
 pub fn carried_in<A: Allocator>(capacity: &Capacity<A>, window: Window) -> u64
     requires { window.due < round_limit }
@@ -111,7 +112,7 @@ pub fn carried_in<A: Allocator>(capacity: &Capacity<A>, window: Window) -> u64
     capacity.sum(window.from, window.due + 1)
 }
 
-/// How many commands the windows' rounds carry.
+/// How many commands the windows' rounds carry. The windows must be disjoint and rise, and lie below [`ROUND_LIMIT`].
 pub fn carried_by<A: Allocator>(capacity: &Capacity<A>, cover: &[Window]) -> u64
     requires disjoint { IsCover cover.now }
     requires in_range { CoverInRange cover.now }

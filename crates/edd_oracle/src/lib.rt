@@ -29,7 +29,7 @@ use thiserror::Error;
 /// Why a list is refused, in the order in which the reasons are looked for.
 #[derive(Clone, Copy, Debug, PartialEq, Eq, Error)]
 pub enum OracleFault {
-    /// There are more than [`MOST_COMMANDS`] commands.
+    /// There are more than [`MOST_COMMANDS`](edd_check::MOST_COMMANDS) commands.
     #[error("TooMany")]
     TooMany,
     /// The id of the first command by place that is released at [`RELEASE_LIMIT`](edd_check::RELEASE_LIMIT) or later or
