@@ -1,11 +1,8 @@
 //! Traces whose depth changes from round to round.
 
-use crate::given::{
-    Heap, Step, bio, carries, command, empty, has_commands, is_event, limits, made, push_all,
-    standing,
-};
-use blk_bio::Dir;
-use blk_trace::{PushFault, Setup, Trace, TraceFault, TraceRule};
+use crate::given::{Heap, Step, empty, limits, made};
+use crate::looks::{Look, command, first_other};
+use blk_trace::{Setup, Trace, TraceFault, TraceRule};
 use refusing::Refusing;
 use std::process::Abort;
 
@@ -14,38 +11,15 @@ fn of_depth(rt: &impl Abort, depth: u64) -> Setup {
     Setup::new(depth, 1, 0, 0, limits(rt, 256, 128)).expect(rt, "a setup")
 }
 
-/// The entry of a read that touches no other.
-fn enters(rt: &impl Abort, id: u8) -> Step {
-    let id = id as u64;
-    Step::Release(id, bio(rt, Dir::Read, 100 * id, 8))
-}
-
-/// A trace in which so many reads wait.
+/// A trace in which so many reads that don't touch wait, under the ids from 0 on.
 fn of_reads<'a>(rt: &impl Abort, heap: Heap<'a>, depth: u64, reads: u8) -> Trace<Heap<'a>> {
     let mut trace = empty(rt, heap, of_depth(rt, depth));
-    for id in 0..reads {
-        push_all(rt, heap, &mut trace, &[enters(rt, id)]);
+    for read in 0..reads {
+        let id = read as u64;
+        let enters = [Look::Push(Step::Read(id, 100 * id, 8))];
+        assert_eq!(rt; first_other(heap, &mut trace, &enters), None);
     }
     trace
-}
-
-/// Pushes the event of a step that breaks the rule.
-fn breaks<'a>(
-    rt: &impl Abort,
-    heap: Heap<'a>,
-    trace: &mut Trace<Heap<'a>>,
-    step: Step,
-    rule: TraceRule,
-) {
-    let before = standing(trace);
-    match trace.push(crate::given::event(rt, heap, step)) {
-        Ok(()) => panic!(rt; "pushed"),
-        Err((back, why)) => {
-            assert_eq!(rt; why, PushFault::Rule(rule));
-            assert!(rt; is_event(&back, &step));
-            assert_eq!(rt; standing(trace), before);
-        }
-    }
 }
 
 /// A depth is in force from the round after the one in which it is set.
@@ -53,41 +27,36 @@ fn breaks<'a>(
 fn in_force_from_the_next_round(rt: HostRuntime) {
     let heap = Refusing::new(rt.alloc());
     let mut trace = of_reads(&rt, &heap, 2, 4);
-    assert!(rt; trace.fixed());
-    assert!(rt; carries(&rt, &heap, &trace, &[2, 2, 2]));
-    let first = [
-        Step::Depth(1),
-        Step::Issue(0, 0),
-        Step::Issue(1, 1),
-        Step::Done(0),
-        Step::Done(1),
+    let looks = [
+        Look::Fixed(true),
+        Look::Carries(0, 2),
+        Look::Carries(1, 2),
+        Look::Carries(2, 2),
+        Look::Push(Step::Depth(1)),
+        Look::Push(Step::Issue(0, 0)),
+        Look::Push(Step::Issue(1, 1)),
+        Look::Push(Step::Done(0)),
+        Look::Push(Step::Done(1)),
+        Look::DepthNow(2),
+        Look::Push(Step::Tick),
+        Look::DepthNow(1),
+        Look::Breaks(Step::Issue(2, 1), TraceRule::TagRange),
+        Look::Push(Step::Depth(2)),
+        Look::Breaks(Step::Issue(2, 1), TraceRule::TagRange),
+        Look::Push(Step::Tick),
+        Look::Push(Step::Issue(2, 1)),
+        Look::DepthNow(2),
+        Look::Fixed(false),
+        Look::Carries(0, 2),
+        Look::Carries(1, 1),
+        Look::Carries(2, 2),
+        Look::Carries(3, 2),
+        Look::Commands(3),
+        Look::Ran(0, command(0, 0, 0), 0),
+        Look::Ran(1, command(1, 0, 0), 0),
+        Look::Ran(2, command(2, 0, 0), 2),
     ];
-    push_all(&rt, &heap, &mut trace, &first);
-    assert_eq!(rt; trace.depth_now(), 2);
-    push_all(&rt, &heap, &mut trace, &[Step::Tick]);
-    assert_eq!(rt; trace.depth_now(), 1);
-    breaks(
-        &rt,
-        &heap,
-        &mut trace,
-        Step::Issue(2, 1),
-        TraceRule::TagRange,
-    );
-    push_all(&rt, &heap, &mut trace, &[Step::Depth(2)]);
-    breaks(
-        &rt,
-        &heap,
-        &mut trace,
-        Step::Issue(2, 1),
-        TraceRule::TagRange,
-    );
-    let second = [Step::Tick, Step::Issue(2, 1)];
-    push_all(&rt, &heap, &mut trace, &second);
-    assert_eq!(rt; trace.depth_now(), 2);
-    assert!(rt; !trace.fixed());
-    assert!(rt; carries(&rt, &heap, &trace, &[2, 1, 2, 2]));
-    let commands = [command(0, 0, 0), command(1, 0, 0), command(2, 0, 0)];
-    assert!(rt; has_commands(&rt, &heap, &trace, &commands, &[0, 0, 2]));
+    assert_eq!(rt; first_other(&heap, &mut trace, &looks), None);
 }
 
 /// A tag is in its range by the depth of the round, on both sides, and after the rules that are looked for before.
@@ -95,48 +64,27 @@ fn in_force_from_the_next_round(rt: HostRuntime) {
 fn tags_by_the_depth_of_the_round(rt: HostRuntime) {
     let heap = Refusing::new(rt.alloc());
     let mut trace = of_reads(&rt, &heap, 4, 4);
-    push_all(&rt, &heap, &mut trace, &[Step::Depth(2), Step::Tick]);
-    breaks(
-        &rt,
-        &heap,
-        &mut trace,
-        Step::Issue(0, 3),
-        TraceRule::TagRange,
-    );
-    breaks(
-        &rt,
-        &heap,
-        &mut trace,
-        Step::Issue(0, 2),
-        TraceRule::TagRange,
-    );
-    push_all(&rt, &heap, &mut trace, &[Step::Issue(0, 1)]);
-    breaks(
-        &rt,
-        &heap,
-        &mut trace,
-        Step::Issue(0, 3),
-        TraceRule::AlreadyIssued,
-    );
-    breaks(
-        &rt,
-        &heap,
-        &mut trace,
-        Step::Issue(1, 1),
-        TraceRule::TagUsed,
-    );
-    breaks(&rt, &heap, &mut trace, Step::Done(3), TraceRule::NotIssued);
-    breaks(&rt, &heap, &mut trace, Step::Back(2), TraceRule::NotIssued);
-    let more = [Step::Depth(3), Step::Done(1), Step::Tick, Step::Issue(1, 2)];
-    push_all(&rt, &heap, &mut trace, &more);
-    breaks(
-        &rt,
-        &heap,
-        &mut trace,
-        Step::Issue(2, 3),
-        TraceRule::TagRange,
-    );
-    assert!(rt; carries(&rt, &heap, &trace, &[4, 2, 3, 3]));
+    let looks = [
+        Look::Push(Step::Depth(2)),
+        Look::Push(Step::Tick),
+        Look::Breaks(Step::Issue(0, 3), TraceRule::TagRange),
+        Look::Breaks(Step::Issue(0, 2), TraceRule::TagRange),
+        Look::Push(Step::Issue(0, 1)),
+        Look::Breaks(Step::Issue(0, 3), TraceRule::AlreadyIssued),
+        Look::Breaks(Step::Issue(1, 1), TraceRule::TagUsed),
+        Look::Breaks(Step::Done(3), TraceRule::NotIssued),
+        Look::Breaks(Step::Back(2), TraceRule::NotIssued),
+        Look::Push(Step::Depth(3)),
+        Look::Push(Step::Done(1)),
+        Look::Push(Step::Tick),
+        Look::Push(Step::Issue(1, 2)),
+        Look::Breaks(Step::Issue(2, 3), TraceRule::TagRange),
+        Look::Carries(0, 4),
+        Look::Carries(1, 2),
+        Look::Carries(2, 3),
+        Look::Carries(3, 3),
+    ];
+    assert_eq!(rt; first_other(&heap, &mut trace, &looks), None);
 }
 
 /// A depth that is set while commands run leaves the tags of the round used, and the commands under way.
@@ -144,20 +92,21 @@ fn tags_by_the_depth_of_the_round(rt: HostRuntime) {
 fn set_under_way(rt: HostRuntime) {
     let heap = Refusing::new(rt.alloc());
     let mut trace = of_reads(&rt, &heap, 2, 2);
-    push_all(&rt, &heap, &mut trace, &[Step::Issue(0, 0), Step::Depth(1)]);
-    assert_eq!(rt; standing(&trace), (4, 0, 1));
-    breaks(
-        &rt,
-        &heap,
-        &mut trace,
-        Step::Issue(1, 0),
-        TraceRule::TagUsed,
-    );
-    breaks(&rt, &heap, &mut trace, Step::Tick, TraceRule::InFlight);
-    let more = [Step::Issue(1, 1), Step::Done(1), Step::Done(0), Step::Tick];
-    push_all(&rt, &heap, &mut trace, &more);
-    let commands = [command(0, 0, 0), command(1, 0, 0)];
-    assert!(rt; has_commands(&rt, &heap, &trace, &commands, &[0, 0]));
+    let looks = [
+        Look::Push(Step::Issue(0, 0)),
+        Look::Push(Step::Depth(1)),
+        Look::Stands(4, 0, 1),
+        Look::Breaks(Step::Issue(1, 0), TraceRule::TagUsed),
+        Look::Breaks(Step::Tick, TraceRule::InFlight),
+        Look::Push(Step::Issue(1, 1)),
+        Look::Push(Step::Done(1)),
+        Look::Push(Step::Done(0)),
+        Look::Push(Step::Tick),
+        Look::Commands(2),
+        Look::Ran(0, command(0, 0, 0), 0),
+        Look::Ran(1, command(1, 0, 0), 0),
+    ];
+    assert_eq!(rt; first_other(&heap, &mut trace, &looks), None);
 }
 
 /// Of several depths in one round the last stands; where it is the setup's, some were set all the same.
@@ -165,23 +114,28 @@ fn set_under_way(rt: HostRuntime) {
 fn the_last_of_a_round(rt: HostRuntime) {
     let heap = Refusing::new(rt.alloc());
     let mut trace = empty(&rt, &heap, of_depth(&rt, 256));
-    let steps = [
-        Step::Depth(3),
-        Step::Depth(256),
-        Step::Tick,
-        Step::Tick,
-        Step::Depth(7),
-        Step::Depth(1),
-        Step::Depth(5),
-        Step::Tick,
-        Step::Depth(4),
+    let looks = [
+        Look::Push(Step::Depth(3)),
+        Look::Push(Step::Depth(256)),
+        Look::Fixed(false),
+        Look::Carries(0, 256),
+        Look::Carries(1, 256),
+        Look::Carries(2, 256),
+        Look::Push(Step::Tick),
+        Look::Push(Step::Tick),
+        Look::Push(Step::Depth(7)),
+        Look::Push(Step::Depth(1)),
+        Look::Push(Step::Depth(5)),
+        Look::Push(Step::Tick),
+        Look::Push(Step::Depth(4)),
+        Look::Carries(0, 256),
+        Look::Carries(1, 256),
+        Look::Carries(2, 256),
+        Look::Carries(3, 5),
+        Look::Carries(4, 4),
+        Look::Carries(5, 4),
     ];
-    let (first, rest) = steps.split_at(2);
-    push_all(&rt, &heap, &mut trace, first);
-    assert!(rt; !trace.fixed());
-    assert!(rt; carries(&rt, &heap, &trace, &[256, 256, 256]));
-    push_all(&rt, &heap, &mut trace, rest);
-    assert!(rt; carries(&rt, &heap, &trace, &[256, 256, 256, 5, 4, 4]));
+    assert_eq!(rt; first_other(&heap, &mut trace, &looks), None);
     let capacity = trace.capacity().expect(&rt, "memory");
     assert_eq!(rt; capacity.sum(2, 6), 269);
 }
@@ -192,53 +146,64 @@ fn out_of_range(rt: HostRuntime) {
     let heap = Refusing::new(rt.alloc());
     for depth in [1, 2, 256] {
         let mut trace = empty(&rt, &heap, of_depth(&rt, depth));
-        for wrong in [0, depth + 1, 257, u64::MAX] {
-            breaks(
-                &rt,
-                &heap,
-                &mut trace,
-                Step::Depth(wrong),
-                TraceRule::DepthRange,
-            );
-        }
-        push_all(
-            &rt,
-            &heap,
-            &mut trace,
-            &[Step::Depth(1), Step::Depth(depth)],
-        );
-        assert!(rt; carries(&rt, &heap, &trace, &[depth, depth]));
+        let looks = [
+            Look::Breaks(Step::Depth(0), TraceRule::DepthRange),
+            Look::Breaks(Step::Depth(depth + 1), TraceRule::DepthRange),
+            Look::Breaks(Step::Depth(257), TraceRule::DepthRange),
+            Look::Breaks(Step::Depth(u64::MAX), TraceRule::DepthRange),
+            Look::Push(Step::Depth(1)),
+            Look::Push(Step::Depth(depth)),
+            Look::Carries(0, depth),
+            Look::Carries(1, depth),
+        ];
+        assert_eq!(rt; first_other(&heap, &mut trace, &looks), None);
     }
 }
 
-/// The first event of a list that breaks a rule, by its place.
+/// A list that breaks no rule, and its capacity.
 #[test]
 fn of_a_list(rt: HostRuntime) {
     let heap = Refusing::new(rt.alloc());
     let steps = [
-        enters(&rt, 0),
+        Step::Read(0, 0, 8),
+        Step::Depth(1),
+        Step::Issue(0, 1),
+        Step::Done(1),
+        Step::Tick,
+    ];
+    let Ok(mut trace) = made(&rt, &heap, of_depth(&rt, 2), &steps) else {
+        panic!(rt; "refused");
+    };
+    let looks = [
+        Look::Carries(0, 2),
+        Look::Carries(1, 1),
+        Look::Carries(2, 1),
+    ];
+    assert_eq!(rt; first_other(&heap, &mut trace, &looks), None);
+}
+
+/// The first event of a list that breaks a rule, by its place.
+#[test]
+fn of_a_list_that_breaks_a_rule(rt: HostRuntime) {
+    let heap = Refusing::new(rt.alloc());
+    let above = [
+        Step::Read(0, 0, 8),
         Step::Depth(1),
         Step::Issue(0, 1),
         Step::Done(1),
         Step::Tick,
         Step::Depth(3),
     ];
-    let (good, _) = steps.split_at(5);
-    let setup = of_depth(&rt, 2);
-    let Ok(trace) = made(&rt, &heap, setup, good) else {
-        panic!(rt; "refused");
-    };
-    assert!(rt; carries(&rt, &heap, &trace, &[2, 1, 1]));
     let rule = TraceRule::DepthRange;
-    let answer = made(&rt, &heap, setup, &steps);
+    let answer = made(&rt, &heap, of_depth(&rt, 2), &above);
     assert_eq!(rt; answer.err(), Some(TraceFault::Rule { at: 5, rule }));
     let late = [
-        enters(&rt, 0),
+        Step::Read(0, 0, 8),
         Step::Depth(1),
         Step::Tick,
         Step::Issue(0, 1),
     ];
     let rule = TraceRule::TagRange;
-    let answer = made(&rt, &heap, setup, &late);
+    let answer = made(&rt, &heap, of_depth(&rt, 2), &late);
     assert_eq!(rt; answer.err(), Some(TraceFault::Rule { at: 3, rule }));
 }

@@ -2,7 +2,6 @@
 
 use blk_bio::{Bio, BioId, Dir, Limits, Request};
 use blk_trace::{Event, PushFault, Setup, Trace, TraceFault};
-use edd_check::Command;
 use refusing::Refusing;
 use std::alloc::Global;
 use std::process::Abort;
@@ -10,15 +9,19 @@ use std::process::Abort;
 /// The allocator of all these tests. A refusal counts from the call that arms it.
 pub type Heap<'a> = &'a Refusing<Global>;
 
-/// An event, whose request is of one bio.
+/// An event, whose request is of one bio: of submitter 0, and its serial number is its first sector.
 #[derive(Clone, Copy)]
 pub enum Step {
     /// A round ends.
     Tick,
-    /// A bio enters under an id.
-    Release(u64, Bio),
-    /// A bio joins the request of an id.
-    Join(u64, Bio),
+    /// A read of a first sector and so many sectors enters under an id.
+    Read(u64, u64, u64),
+    /// Such a write does.
+    Write(u64, u64, u64),
+    /// Such a read joins the request of an id.
+    JoinRead(u64, u64, u64),
+    /// Such a write does.
+    JoinWrite(u64, u64, u64),
     /// The request of an id goes out under a tag.
     Issue(u64, u16),
     /// The command under a tag is done.
@@ -29,13 +32,13 @@ pub enum Step {
     Depth(u64),
 }
 
-/// A bio of submitter 0, whose serial number is its first sector.
-pub fn bio(rt: &impl Abort, dir: Dir, first: u64, sectors: u64) -> Bio {
+/// A bio of submitter 0, whose serial number is its first sector, if there may be such a one.
+pub fn bio(dir: Dir, first: u64, sectors: u64) -> Option<Bio> {
     let id = BioId {
         submitter: 0,
         serial: first,
     };
-    Bio::new(id, dir, first, sectors).expect(rt, "a bio")
+    Bio::new(id, dir, first, sectors).ok()
 }
 
 /// Requests of up to so many sectors and bios.
@@ -48,46 +51,66 @@ pub fn setup(rt: &impl Abort, read_expire: u64, write_expire: u64, limits: Limit
     Setup::new(1, 1, read_expire, write_expire, limits).expect(rt, "a setup")
 }
 
-/// A request of one bio.
-pub fn request<'a>(rt: &impl Abort, heap: Heap<'a>, bio: Bio) -> Request<Heap<'a>> {
-    let armed = heap.is_armed();
-    match Request::of(heap, bio) {
-        Ok(request) => request,
-        Err((back, _)) => {
-            assert!(rt; armed && !heap.is_armed());
-            Request::of(heap, back).expect(rt, "memory")
-        }
+/// A request of one bio. There is none where memory was refused twice.
+pub fn request<'a>(
+    heap: Heap<'a>,
+    dir: Dir,
+    first: u64,
+    sectors: u64,
+) -> Option<Request<Heap<'a>>> {
+    match Request::of(heap, bio(dir, first, sectors)?) {
+        Ok(request) => Some(request),
+        Err((back, _)) => Request::of(heap, back).ok(),
     }
 }
 
 /// The event of a step.
-pub fn event<'a>(rt: &impl Abort, heap: Heap<'a>, step: Step) -> Event<Heap<'a>> {
+pub fn event<'a>(heap: Heap<'a>, step: Step) -> Option<Event<Heap<'a>>> {
     match step {
-        Step::Tick => Event::Tick,
-        Step::Release(id, bio) => Event::Release {
+        Step::Tick => Some(Event::Tick),
+        Step::Read(id, first, sectors) => Some(Event::Release {
             id,
-            request: request(rt, heap, bio),
-        },
-        Step::Join(id, bio) => Event::Join {
+            request: request(heap, Dir::Read, first, sectors)?,
+        }),
+        Step::Write(id, first, sectors) => Some(Event::Release {
             id,
-            request: request(rt, heap, bio),
-        },
-        Step::Issue(id, tag) => Event::Issue { id, tag },
-        Step::Done(tag) => Event::Done { tag },
-        Step::Back(tag) => Event::Back { tag },
-        Step::Depth(depth) => Event::Depth { depth },
+            request: request(heap, Dir::Write, first, sectors)?,
+        }),
+        Step::JoinRead(id, first, sectors) => Some(Event::Join {
+            id,
+            request: request(heap, Dir::Read, first, sectors)?,
+        }),
+        Step::JoinWrite(id, first, sectors) => Some(Event::Join {
+            id,
+            request: request(heap, Dir::Write, first, sectors)?,
+        }),
+        Step::Issue(id, tag) => Some(Event::Issue { id, tag }),
+        Step::Done(tag) => Some(Event::Done { tag }),
+        Step::Back(tag) => Some(Event::Back { tag }),
+        Step::Depth(depth) => Some(Event::Depth { depth }),
     }
+}
+
+/// Whether the request is of just one bio, and this one.
+fn is_of(request: &Request<Heap<'_>>, dir: Dir, first: u64, sectors: u64) -> bool {
+    request.bios().len() == 1 && bio(dir, first, sectors) == Some(request.bios()[0])
 }
 
 /// Whether the event is the one of the step.
 pub fn is_event(event: &Event<Heap<'_>>, step: &Step) -> bool {
     match (event, step) {
         (Event::Tick, Step::Tick) => true,
-        (Event::Release { id, request }, Step::Release(i, bio)) => {
-            *id == *i && request.bios() == [*bio].as_slice()
+        (Event::Release { id, request }, Step::Read(i, first, sectors)) => {
+            *id == *i && is_of(request, Dir::Read, *first, *sectors)
         }
-        (Event::Join { id, request }, Step::Join(i, bio)) => {
-            *id == *i && request.bios() == [*bio].as_slice()
+        (Event::Release { id, request }, Step::Write(i, first, sectors)) => {
+            *id == *i && is_of(request, Dir::Write, *first, *sectors)
+        }
+        (Event::Join { id, request }, Step::JoinRead(i, first, sectors)) => {
+            *id == *i && is_of(request, Dir::Read, *first, *sectors)
+        }
+        (Event::Join { id, request }, Step::JoinWrite(i, first, sectors)) => {
+            *id == *i && is_of(request, Dir::Write, *first, *sectors)
         }
         (Event::Issue { id, tag }, Step::Issue(i, t)) => *id == *i && *tag == *t,
         (Event::Done { tag }, Step::Done(t)) => *tag == *t,
@@ -115,11 +138,10 @@ pub fn standing(trace: &Trace<Heap<'_>>) -> (u64, u64, u64) {
 
 /// A trace without events.
 pub fn empty<'a>(rt: &impl Abort, heap: Heap<'a>, setup: Setup) -> Trace<Heap<'a>> {
-    let armed = heap.is_armed();
     match Trace::empty(heap, setup) {
         Ok(trace) => trace,
         Err(_) => {
-            assert!(rt; armed && !heap.is_armed());
+            assert!(rt; !heap.is_armed());
             let Ok(trace) = Trace::empty(heap, setup) else {
                 panic!(rt; "want of memory");
             };
@@ -128,24 +150,23 @@ pub fn empty<'a>(rt: &impl Abort, heap: Heap<'a>, setup: Setup) -> Trace<Heap<'a
     }
 }
 
-/// Pushes the event of a step that breaks no rule.
-pub fn push<'a>(rt: &impl Abort, heap: Heap<'a>, trace: &mut Trace<Heap<'a>>, step: Step) {
-    let event = event(rt, heap, step);
+/// Pushes the event of a step that breaks no rule; where memory is refused it comes back, nothing is changed, and it is pushed again.
+pub fn is_pushed<'a>(heap: Heap<'a>, trace: &mut Trace<Heap<'a>>, step: Step) -> bool {
+    let Some(event) = event(heap, step) else {
+        return false;
+    };
     let armed = heap.is_armed();
     let before = standing(trace);
-    if let Err((back, why)) = trace.push(event) {
-        assert!(rt; armed && !heap.is_armed());
-        assert_eq!(rt; why, PushFault::Memory);
-        assert!(rt; is_event(&back, &step));
-        assert_eq!(rt; standing(trace), before);
-        assert!(rt; trace.push(back).is_ok());
-    }
-}
-
-/// Pushes the events of the steps, which break no rule.
-pub fn push_all<'a>(rt: &impl Abort, heap: Heap<'a>, trace: &mut Trace<Heap<'a>>, steps: &[Step]) {
-    for step in steps {
-        push(rt, heap, trace, *step);
+    match trace.push(event) {
+        Ok(()) => true,
+        Err((back, PushFault::Memory)) => {
+            armed
+                && !heap.is_armed()
+                && is_event(&back, &step)
+                && standing(trace) == before
+                && trace.push(back).is_ok()
+        }
+        Err((_, PushFault::Rule(_))) => false,
     }
 }
 
@@ -158,73 +179,12 @@ pub fn made<'a>(
 ) -> Result<Trace<Heap<'a>>, TraceFault> {
     let mut events = Vec::new(heap);
     for step in steps {
-        let event = event(rt, heap, *step);
+        let Some(event) = event(heap, *step) else {
+            panic!(rt; "no such event");
+        };
         if let Err(refused) = events.push(event) {
             assert!(rt; events.push(refused.value).is_ok());
         }
     }
     Trace::from_events(heap, setup, events)
-}
-
-/// Whether the trace's commands are these, and the rounds in which they went out.
-pub fn has_commands<'a>(
-    rt: &impl Abort,
-    heap: Heap<'a>,
-    trace: &Trace<Heap<'a>>,
-    commands: &[Command],
-    rounds: &[u64],
-) -> bool {
-    let armed = heap.is_armed();
-    match (trace.commands(), trace.rounds()) {
-        (Ok(found), Ok(taken)) => found.as_slice() == commands && taken.as_slice() == rounds,
-        _ => {
-            assert!(rt; armed && !heap.is_armed());
-            let found = trace.commands().expect(rt, "memory");
-            let taken = trace.rounds().expect(rt, "memory");
-            found.as_slice() == commands && taken.as_slice() == rounds
-        }
-    }
-}
-
-/// Whether the bios that wait are these.
-pub fn has_waiting<'a>(
-    rt: &impl Abort,
-    heap: Heap<'a>,
-    trace: &Trace<Heap<'a>>,
-    bios: &[Bio],
-) -> bool {
-    let armed = heap.is_armed();
-    match trace.waiting() {
-        Ok(found) => found.as_slice() == bios,
-        Err(_) => {
-            assert!(rt; armed && !heap.is_armed());
-            trace.waiting().expect(rt, "memory").as_slice() == bios
-        }
-    }
-}
-
-/// Whether the trace's rounds carry so many commands, from round 0 on.
-pub fn carries<'a>(
-    rt: &impl Abort,
-    heap: Heap<'a>,
-    trace: &Trace<Heap<'a>>,
-    depths: &[u64],
-) -> bool {
-    let armed = heap.is_armed();
-    let capacity = match trace.capacity() {
-        Ok(capacity) => capacity,
-        Err(_) => {
-            assert!(rt; armed && !heap.is_armed());
-            trace.capacity().expect(rt, "memory")
-        }
-    };
-    depths
-        .iter()
-        .enumerate()
-        .all(|(round, depth)| capacity.at(round as u64) == *depth)
-}
-
-/// A command of an id, a release and a due round.
-pub fn command(id: u64, release: u64, due: u64) -> Command {
-    Command { id, release, due }
 }

@@ -6,6 +6,8 @@ mod depths;
 #[cfg(test)]
 mod given;
 #[cfg(test)]
+mod looks;
+#[cfg(test)]
 mod refusals;
 #[cfg(test)]
 mod rules;

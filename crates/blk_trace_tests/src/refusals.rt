@@ -1,10 +1,8 @@
 //! Traces where allocations are refused.
 
-use crate::given::{
-    Heap, Step, bio, carries, command, empty, event, has_commands, has_events, has_waiting, limits,
-    made, push, setup, standing,
-};
-use blk_bio::{Bio, Dir};
+use crate::given::{Heap, Step, empty, event, has_events, is_pushed, limits, made, setup};
+use crate::looks::{Look, command, first_other};
+use blk_bio::Dir;
 use blk_trace::{Event, Trace, TraceFault};
 use refusing::Refusing;
 use std::process::Abort;
@@ -13,23 +11,15 @@ use std::process::Abort;
 const REQUESTS: u64 = 4;
 
 /// Makes room for the event of a step, which then takes no memory.
-fn push_prepared<'a>(rt: &impl Abort, heap: Heap<'a>, trace: &mut Trace<Heap<'a>>, step: Step) {
-    let event = event(rt, heap, step);
+fn is_prepared_and_pushed<'a>(heap: Heap<'a>, trace: &mut Trace<Heap<'a>>, step: Step) -> bool {
+    let Some(event) = event(heap, step) else {
+        return false;
+    };
     let request = match &event {
         Event::Release { request, .. } | Event::Join { request, .. } => Some(request),
         _ => None,
     };
-    let armed = heap.is_armed();
-    if trace.prepare(request).is_err() {
-        assert!(rt; armed && !heap.is_armed());
-        assert!(rt; trace.prepare(request).is_ok());
-    }
-    assert!(rt; trace.push(event).is_ok());
-}
-
-/// A read of one sector.
-fn read(rt: &impl Abort, first: u64) -> Bio {
-    bio(rt, Dir::Read, first, 1)
+    (trace.prepare(request).is_ok() || trace.prepare(request).is_ok()) && trace.push(event).is_ok()
 }
 
 /// Requests of two bios enter and go out, each in a round of its own and every other one of them after room was made, and
@@ -38,21 +28,19 @@ fn come_and_go<'a>(rt: &impl Abort, heap: Heap<'a>) -> Trace<Heap<'a>> {
     let mut trace = empty(rt, heap, setup(rt, 5, 50, limits(rt, 256, 128)));
     for id in 0..REQUESTS {
         for step in [
-            Step::Release(id, read(rt, 4 * id)),
-            Step::Join(id, read(rt, 4 * id + 1)),
+            Step::Read(id, 4 * id, 1),
+            Step::JoinRead(id, 4 * id + 1, 1),
             Step::Issue(id, 0),
             Step::Done(0),
             Step::Tick,
         ] {
             if id % 2 == 0 {
-                push(rt, heap, &mut trace, step);
+                assert!(rt; is_pushed(heap, &mut trace, step));
             } else {
-                push_prepared(rt, heap, &mut trace, step);
+                assert!(rt; is_prepared_and_pushed(heap, &mut trace, step));
             }
         }
     }
-    push(rt, heap, &mut trace, Step::Depth(1));
-    push(rt, heap, &mut trace, Step::Release(4, read(rt, 16)));
     trace
 }
 
@@ -75,22 +63,27 @@ fn remade<'a>(rt: &impl Abort, heap: Heap<'a>, steps: &[Step]) -> Trace<Heap<'a>
 
 /// A trace is built event by event and read, and another is made of a list.
 fn all_of_it(rt: &impl Abort, heap: Heap<'_>) {
-    let trace = come_and_go(rt, heap);
-    assert_eq!(rt; standing(&trace), (22, 4, 0));
-    let commands = [
-        command(0, 0, 5),
-        command(1, 1, 6),
-        command(2, 2, 7),
-        command(3, 3, 8),
+    let mut trace = come_and_go(rt, heap);
+    let looks = [
+        Look::Push(Step::Depth(1)),
+        Look::Push(Step::Read(4, 16, 1)),
+        Look::Stands(22, 4, 0),
+        Look::Commands(4),
+        Look::Ran(0, command(0, 0, 5), 0),
+        Look::Ran(1, command(1, 1, 6), 1),
+        Look::Ran(2, command(2, 2, 7), 2),
+        Look::Ran(3, command(3, 3, 8), 3),
+        Look::Carries(0, 1),
+        Look::Carries(5, 1),
+        Look::Waiting(1),
+        Look::Waits(0, Dir::Read, 16, 1),
+        Look::HasBio(16, true),
+        Look::HasBio(17, false),
     ];
-    assert!(rt; has_commands(rt, heap, &trace, &commands, &[0, 1, 2, 3]));
-    assert!(rt; carries(rt, heap, &trace, &[1, 1, 1, 1, 1, 1]));
-    let (last, end) = (read(rt, 16), read(rt, 17));
-    assert!(rt; has_waiting(rt, heap, &trace, &[last]));
-    assert!(rt; trace.has_bio(last.id()) && !trace.has_bio(end.id()));
+    assert_eq!(rt; first_other(heap, &mut trace, &looks), None);
     let steps = [
-        Step::Release(0, last),
-        Step::Join(0, end),
+        Step::Read(0, 16, 1),
+        Step::JoinRead(0, 17, 1),
         Step::Issue(0, 0),
     ];
     assert!(rt; has_events(&remade(rt, heap, &steps), &steps));

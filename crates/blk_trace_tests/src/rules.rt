@@ -1,121 +1,94 @@
 //! The rules that an event may break.
 
 use crate::given::{
-    Heap, Step, bio, command, empty, event, has_commands, has_events, has_waiting, is_event,
-    limits, push, push_all, request, setup, standing,
+    Heap, Step, empty, event, has_events, is_pushed, limits, request, setup, standing,
 };
+use crate::looks::{Look, command, first_other};
 use blk_bio::Dir;
 use blk_trace::{Event, MAX_EVENTS, PushFault, Setup, Trace, TraceRule};
 use refusing::Refusing;
 use std::process::Abort;
 
-/// Pushes an event that breaks the rule, which has to come back and to leave the trace.
-fn breaks<'a>(
-    rt: &impl Abort,
-    trace: &mut Trace<Heap<'a>>,
-    event: Event<Heap<'a>>,
-    rule: TraceRule,
-) -> Event<Heap<'a>> {
-    let before = standing(trace);
-    match trace.push(event) {
-        Ok(()) => panic!(rt; "pushed"),
-        Err((back, why)) => {
-            assert_eq!(rt; why, PushFault::Rule(rule));
-            assert_eq!(rt; standing(trace), before);
-            back
-        }
-    }
+/// A read that went out and one that waits.
+fn one_of_two_issued() -> [Step; 3] {
+    [
+        Step::Read(0, 0, 4),
+        Step::Read(1, 100, 4),
+        Step::Issue(0, 0),
+    ]
 }
 
-/// Pushes the events of steps, each of which breaks a rule.
-fn break_all<'a>(
-    rt: &impl Abort,
-    heap: Heap<'a>,
-    trace: &mut Trace<Heap<'a>>,
-    steps: &[(Step, TraceRule)],
-) {
-    for (step, rule) in steps {
-        let back = breaks(rt, trace, event(rt, heap, *step), *rule);
-        assert!(rt; is_event(&back, step));
-    }
+/// Each rule but those that need a list of their own, with the rules after it broken too.
+fn one_broken_each() -> [Look; 17] {
+    [
+        Look::Breaks(Step::Read(0, 104, 4), TraceRule::ReleasedTwice),
+        Look::Breaks(Step::Read(1, 100, 4), TraceRule::ReleasedTwice),
+        Look::Breaks(Step::JoinRead(2, 104, 4), TraceRule::Unknown),
+        Look::Breaks(Step::Issue(2, 9), TraceRule::Unknown),
+        Look::Breaks(Step::JoinRead(0, 104, 4), TraceRule::AlreadyIssued),
+        Look::Breaks(Step::Issue(0, 9), TraceRule::AlreadyIssued),
+        Look::Breaks(Step::Read(2, 0, 4), TraceRule::BioTwice),
+        Look::Breaks(Step::JoinRead(1, 0, 4), TraceRule::BioTwice),
+        Look::Breaks(Step::JoinWrite(1, 104, 4), TraceRule::Fit),
+        Look::Breaks(Step::JoinRead(1, 105, 4), TraceRule::Fit),
+        Look::Breaks(Step::JoinRead(1, 104, 5), TraceRule::Fit),
+        Look::Breaks(Step::Issue(1, 1), TraceRule::TagRange),
+        Look::Breaks(Step::Issue(1, 0), TraceRule::TagUsed),
+        Look::Breaks(Step::Done(1), TraceRule::NotIssued),
+        Look::Breaks(Step::Tick, TraceRule::InFlight),
+        Look::Stands(3, 0, 1),
+        Look::Fixed(true),
+    ]
 }
 
 #[test]
 fn each_rule_refuses(rt: HostRuntime) {
     let heap = Refusing::new(rt.alloc());
-    let (issued, waits) = (bio(&rt, Dir::Read, 0, 4), bio(&rt, Dir::Read, 100, 4));
-    let new = bio(&rt, Dir::Read, 104, 4);
-    let steps = [
-        Step::Release(0, issued),
-        Step::Release(1, waits),
-        Step::Issue(0, 0),
-    ];
     let mut trace = empty(&rt, &heap, setup(&rt, 5, 50, limits(&rt, 8, 2)));
-    push_all(&rt, &heap, &mut trace, &steps);
-    let refused = [
-        (Step::Release(0, new), TraceRule::ReleasedTwice),
-        (Step::Release(1, waits), TraceRule::ReleasedTwice),
-        (Step::Join(2, new), TraceRule::Unknown),
-        (Step::Issue(2, 9), TraceRule::Unknown),
-        (Step::Join(0, new), TraceRule::AlreadyIssued),
-        (Step::Issue(0, 9), TraceRule::AlreadyIssued),
-        (Step::Release(2, issued), TraceRule::BioTwice),
-        (Step::Join(1, issued), TraceRule::BioTwice),
-        (Step::Join(1, bio(&rt, Dir::Write, 104, 4)), TraceRule::Fit),
-        (Step::Join(1, bio(&rt, Dir::Read, 105, 4)), TraceRule::Fit),
-        (Step::Join(1, bio(&rt, Dir::Read, 104, 5)), TraceRule::Fit),
-        (Step::Issue(1, 1), TraceRule::TagRange),
-        (Step::Issue(1, 0), TraceRule::TagUsed),
-        (Step::Done(1), TraceRule::NotIssued),
-        (Step::Tick, TraceRule::InFlight),
-    ];
-    break_all(&rt, &heap, &mut trace, &refused);
+    let steps = one_of_two_issued();
+    for step in steps {
+        assert!(rt; is_pushed(&heap, &mut trace, step));
+    }
+    assert_eq!(rt; first_other(&heap, &mut trace, &one_broken_each()), None);
     assert!(rt; has_events(&trace, &steps));
-    push(&rt, &heap, &mut trace, Step::Done(0));
-    let refused = [
-        (Step::Done(0), TraceRule::NotIssued),
-        (Step::Issue(1, 0), TraceRule::TagUsed),
+    let done = [
+        Look::Push(Step::Done(0)),
+        Look::Breaks(Step::Done(0), TraceRule::NotIssued),
+        Look::Breaks(Step::Issue(1, 0), TraceRule::TagUsed),
     ];
-    break_all(&rt, &heap, &mut trace, &refused);
+    assert_eq!(rt; first_other(&heap, &mut trace, &done), None);
 }
 
 /// A request that is handed back waits, nothing joins it, and it goes out again under another tag.
 #[test]
 fn handed_back_and_issued_again(rt: HostRuntime) {
     let heap = Refusing::new(rt.alloc());
-    let (first, second) = (bio(&rt, Dir::Read, 0, 8), bio(&rt, Dir::Read, 100, 8));
     let made = Setup::new(2, 1, 0, 0, limits(&rt, 256, 128)).expect(&rt, "a setup");
     let mut trace = empty(&rt, &heap, made);
-    let steps = [
-        Step::Release(0, first),
-        Step::Release(1, second),
-        Step::Issue(0, 0),
-        Step::Back(0),
+    let looks = [
+        Look::Push(Step::Read(0, 0, 8)),
+        Look::Push(Step::Read(1, 100, 8)),
+        Look::Push(Step::Issue(0, 0)),
+        Look::Push(Step::Back(0)),
+        Look::Stands(4, 0, 0),
+        Look::Waiting(2),
+        Look::Waits(0, Dir::Read, 0, 8),
+        Look::Waits(1, Dir::Read, 100, 8),
+        Look::Commands(0),
+        Look::Breaks(Step::JoinRead(0, 8, 8), TraceRule::AlreadyIssued),
+        Look::Breaks(Step::Issue(0, 0), TraceRule::TagUsed),
+        Look::Breaks(Step::Back(0), TraceRule::NotIssued),
+        Look::Breaks(Step::Back(1), TraceRule::NotIssued),
+        Look::Push(Step::Issue(0, 1)),
+        Look::Push(Step::Done(1)),
+        Look::Push(Step::Tick),
+        Look::Push(Step::Issue(1, 0)),
+        Look::Commands(2),
+        Look::Ran(0, command(0, 0, 0), 0),
+        Look::Ran(1, command(1, 0, 0), 1),
+        Look::Waiting(0),
     ];
-    push_all(&rt, &heap, &mut trace, &steps);
-    assert_eq!(rt; standing(&trace), (4, 0, 0));
-    assert!(rt; has_waiting(&rt, &heap, &trace, &[first, second]));
-    assert!(rt; has_commands(&rt, &heap, &trace, &[], &[]));
-    let refused = [
-        (
-            Step::Join(0, bio(&rt, Dir::Read, 8, 8)),
-            TraceRule::AlreadyIssued,
-        ),
-        (Step::Issue(0, 0), TraceRule::TagUsed),
-        (Step::Back(0), TraceRule::NotIssued),
-        (Step::Back(1), TraceRule::NotIssued),
-    ];
-    break_all(&rt, &heap, &mut trace, &refused);
-    let more = [
-        Step::Issue(0, 1),
-        Step::Done(1),
-        Step::Tick,
-        Step::Issue(1, 0),
-    ];
-    push_all(&rt, &heap, &mut trace, &more);
-    let commands = [command(0, 0, 0), command(1, 0, 0)];
-    assert!(rt; has_commands(&rt, &heap, &trace, &commands, &[0, 1]));
-    assert!(rt; has_waiting(&rt, &heap, &trace, &[]));
+    assert_eq!(rt; first_other(&heap, &mut trace, &looks), None);
 }
 
 /// The command of a request that is handed back has the round of its last Issue.
@@ -123,17 +96,18 @@ fn handed_back_and_issued_again(rt: HostRuntime) {
 fn handed_back_in_a_round_before(rt: HostRuntime) {
     let heap = Refusing::new(rt.alloc());
     let mut trace = empty(&rt, &heap, setup(&rt, 0, 0, limits(&rt, 256, 128)));
-    let steps = [
-        Step::Release(0, bio(&rt, Dir::Read, 0, 8)),
-        Step::Issue(0, 0),
-        Step::Back(0),
-        Step::Tick,
-        Step::Issue(0, 0),
-        Step::Done(0),
-        Step::Tick,
+    let looks = [
+        Look::Push(Step::Read(0, 0, 8)),
+        Look::Push(Step::Issue(0, 0)),
+        Look::Push(Step::Back(0)),
+        Look::Push(Step::Tick),
+        Look::Push(Step::Issue(0, 0)),
+        Look::Push(Step::Done(0)),
+        Look::Push(Step::Tick),
+        Look::Commands(1),
+        Look::Ran(0, command(0, 0, 0), 1),
     ];
-    push_all(&rt, &heap, &mut trace, &steps);
-    assert!(rt; has_commands(&rt, &heap, &trace, &[command(0, 0, 0)], &[1]));
+    assert_eq!(rt; first_other(&heap, &mut trace, &looks), None);
 }
 
 /// A request of two bios that has a sector more than the limits of the trace allow.
@@ -141,14 +115,18 @@ fn handed_back_in_a_round_before(rt: HostRuntime) {
 fn longer_than_the_limits(rt: HostRuntime) {
     let heap = Refusing::new(rt.alloc());
     let mut trace = empty(&rt, &heap, setup(&rt, 5, 50, limits(&rt, 8, 2)));
-    let mut long = request(&rt, &heap, bio(&rt, Dir::Read, 200, 8));
-    let end = request(&rt, &heap, bio(&rt, Dir::Read, 208, 1));
+    let mut long = request(&heap, Dir::Read, 200, 8).expect(&rt, "a request");
+    let end = request(&heap, Dir::Read, 208, 1).expect(&rt, "a request");
     assert!(rt; long.join(end, &limits(&rt, 9, 2)).is_ok());
     let release = Event::Release {
         id: 2,
         request: long,
     };
-    breaks(&rt, &mut trace, release, TraceRule::Fit);
+    let Err((_, why)) = trace.push(release) else {
+        panic!(rt; "pushed");
+    };
+    assert_eq!(rt; why, PushFault::Rule(TraceRule::Fit));
+    assert_eq!(rt; standing(&trace), (0, 0, 0));
 }
 
 /// An Issue needs a place for its Done too, and a Depth one, which is asked for before its range.
@@ -156,26 +134,21 @@ fn longer_than_the_limits(rt: HostRuntime) {
 fn too_long(rt: HostRuntime) {
     let heap = Refusing::new(rt.alloc());
     let mut trace = empty(&rt, &heap, setup(&rt, 0, 0, limits(&rt, 256, 128)));
-    let read = bio(&rt, Dir::Read, 0, 1);
-    push(&rt, &heap, &mut trace, Step::Release(0, read));
+    assert!(rt; is_pushed(&heap, &mut trace, Step::Read(0, 0, 1)));
     for _ in 2..MAX_EVENTS {
-        push(&rt, &heap, &mut trace, Step::Tick);
+        assert!(rt; is_pushed(&heap, &mut trace, Step::Tick));
     }
-    assert_eq!(rt; standing(&trace), (999_999, 999_998, 0));
-    let refused = [
-        (Step::Issue(0, 0), TraceRule::TooLong),
-        (Step::Depth(0), TraceRule::DepthRange),
+    let looks = [
+        Look::Stands(999_999, 999_998, 0),
+        Look::Breaks(Step::Issue(0, 0), TraceRule::TooLong),
+        Look::Breaks(Step::Depth(0), TraceRule::DepthRange),
+        Look::Push(Step::Depth(1)),
+        Look::Stands(1_000_000, 999_998, 0),
+        Look::Breaks(Step::Tick, TraceRule::TooLong),
+        Look::Breaks(Step::Read(1, 1, 1), TraceRule::TooLong),
+        Look::Breaks(Step::JoinRead(0, 1, 1), TraceRule::TooLong),
+        Look::Breaks(Step::Depth(1), TraceRule::TooLong),
+        Look::Breaks(Step::Depth(0), TraceRule::TooLong),
     ];
-    break_all(&rt, &heap, &mut trace, &refused);
-    push(&rt, &heap, &mut trace, Step::Depth(1));
-    assert_eq!(rt; standing(&trace), (1_000_000, 999_998, 0));
-    let next = bio(&rt, Dir::Read, 1, 1);
-    let refused = [
-        (Step::Tick, TraceRule::TooLong),
-        (Step::Release(1, next), TraceRule::TooLong),
-        (Step::Join(0, next), TraceRule::TooLong),
-        (Step::Depth(1), TraceRule::TooLong),
-        (Step::Depth(0), TraceRule::TooLong),
-    ];
-    break_all(&rt, &heap, &mut trace, &refused);
+    assert_eq!(rt; first_other(&heap, &mut trace, &looks), None);
 }

@@ -1,9 +1,7 @@
 //! What traces of a few events say: the worked rows.
 
-use crate::given::{
-    Heap, Step, bio, command, empty, has_commands, has_events, has_waiting, limits, made, push,
-    push_all, setup, standing,
-};
+use crate::given::{Heap, Step, empty, has_events, limits, made, setup, standing};
+use crate::looks::{Look, command, first_other};
 use blk_bio::Dir;
 use blk_trace::laws::{depths_by_places, timed_by_the_ticks_before};
 use blk_trace::{Setup, SetupFault, Trace, TraceFault, TraceRule};
@@ -36,10 +34,10 @@ fn constructors_refuse(rt: HostRuntime) {
 }
 
 /// A write released before a read, and issued before it at depth 1.
-fn write_then_read(rt: &impl Abort) -> [Step; 8] {
+fn write_then_read() -> [Step; 8] {
     [
-        Step::Release(0, bio(rt, Dir::Write, 100, 8)),
-        Step::Release(1, bio(rt, Dir::Read, 200, 8)),
+        Step::Write(0, 100, 8),
+        Step::Read(1, 200, 8),
         Step::Issue(0, 0),
         Step::Done(0),
         Step::Tick,
@@ -49,42 +47,59 @@ fn write_then_read(rt: &impl Abort) -> [Step; 8] {
     ]
 }
 
-/// Whether the trace is that of all of `write_then_read`.
-fn is_whole<'a>(rt: &impl Abort, heap: Heap<'a>, trace: &Trace<Heap<'a>>) {
-    assert!(rt; has_events(trace, &write_then_read(rt)));
-    assert_eq!(rt; standing(trace), (8, 2, 0));
-    for (first, there) in [(100, true), (200, true), (0, false)] {
-        let id = bio(rt, Dir::Read, first, 1).id();
-        assert_eq!(rt; trace.has_bio(id), there);
-    }
-    let commands = [command(0, 0, 9), command(1, 0, 0)];
-    assert!(rt; has_commands(rt, heap, trace, &commands, &[0, 1]));
-    assert!(rt; has_waiting(rt, heap, trace, &[]));
+/// What is seen of all of `write_then_read`.
+fn seen_of_it() -> [Look; 8] {
+    [
+        Look::Stands(8, 2, 0),
+        Look::HasBio(100, true),
+        Look::HasBio(200, true),
+        Look::HasBio(0, false),
+        Look::Commands(2),
+        Look::Ran(0, command(0, 0, 9), 0),
+        Look::Ran(1, command(1, 0, 0), 1),
+        Look::Waiting(0),
+    ]
 }
 
 #[test]
 fn write_before_read(rt: HostRuntime) {
     let heap = Refusing::new(rt.alloc());
     let setup = setup(&rt, 0, 9, limits(&rt, 256, 128));
-    let steps = write_then_read(&rt);
-    let mut trace = empty(&rt, &heap, setup);
-    let (released, issued) = steps.split_at(2);
-    push_all(&rt, &heap, &mut trace, released);
-    let bios = [bio(&rt, Dir::Write, 100, 8), bio(&rt, Dir::Read, 200, 8)];
-    assert!(rt; has_waiting(&rt, &heap, &trace, &bios));
-    push_all(&rt, &heap, &mut trace, issued);
-    is_whole(&rt, &heap, &trace);
-    let Ok(trace) = made(&rt, &heap, setup, &steps) else {
+    let steps = write_then_read();
+    let Ok(mut trace) = made(&rt, &heap, setup, &steps) else {
         panic!(rt; "refused");
     };
-    is_whole(&rt, &heap, &trace);
+    assert!(rt; has_events(&trace, &steps));
+    assert_eq!(rt; first_other(&heap, &mut trace, &seen_of_it()), None);
+}
+
+/// The same, event by event.
+#[test]
+fn write_before_read_in_turn(rt: HostRuntime) {
+    let heap = Refusing::new(rt.alloc());
+    let mut trace = empty(&rt, &heap, setup(&rt, 0, 9, limits(&rt, 256, 128)));
+    let looks = [
+        Look::Push(Step::Write(0, 100, 8)),
+        Look::Push(Step::Read(1, 200, 8)),
+        Look::Waiting(2),
+        Look::Waits(0, Dir::Write, 100, 8),
+        Look::Waits(1, Dir::Read, 200, 8),
+        Look::Push(Step::Issue(0, 0)),
+        Look::Push(Step::Done(0)),
+        Look::Push(Step::Tick),
+        Look::Push(Step::Issue(1, 0)),
+        Look::Push(Step::Done(0)),
+        Look::Push(Step::Tick),
+    ];
+    assert_eq!(rt; first_other(&heap, &mut trace, &looks), None);
+    assert_eq!(rt; first_other(&heap, &mut trace, &seen_of_it()), None);
 }
 
 /// Without its first Tick the second Issue has the tag of the first one's round.
 #[test]
 fn trace_cut_short(rt: HostRuntime) {
     let heap = Refusing::new(rt.alloc());
-    let [a, b, c, d, _, e, f, g] = write_then_read(&rt);
+    let [a, b, c, d, _, e, f, g] = write_then_read();
     let setup = setup(&rt, 0, 9, limits(&rt, 256, 128));
     let answer = made(&rt, &heap, setup, &[a, b, c, d, e, f, g]);
     let rule = TraceRule::TagUsed;
@@ -94,40 +109,45 @@ fn trace_cut_short(rt: HostRuntime) {
 #[test]
 fn joined_on_entry(rt: HostRuntime) {
     let heap = Refusing::new(rt.alloc());
-    let first = bio(&rt, Dir::Read, 0, 4);
-    let second = bio(&rt, Dir::Read, 4, 4);
     let mut trace = empty(&rt, &heap, setup(&rt, 5, 50, limits(&rt, 256, 128)));
-    push(&rt, &heap, &mut trace, Step::Release(0, first));
-    push_all(
-        &rt,
-        &heap,
-        &mut trace,
-        &[Step::Tick, Step::Tick, Step::Tick],
-    );
-    push(&rt, &heap, &mut trace, Step::Join(0, second));
-    assert!(rt; has_waiting(&rt, &heap, &trace, &[first, second]));
-    push(&rt, &heap, &mut trace, Step::Issue(0, 0));
-    assert!(rt; has_commands(&rt, &heap, &trace, &[command(0, 3, 5)], &[3]));
+    let looks = [
+        Look::Push(Step::Read(0, 0, 4)),
+        Look::Push(Step::Tick),
+        Look::Push(Step::Tick),
+        Look::Push(Step::Tick),
+        Look::Push(Step::JoinRead(0, 4, 4)),
+        Look::Waiting(2),
+        Look::Waits(0, Dir::Read, 0, 4),
+        Look::Waits(1, Dir::Read, 4, 4),
+        Look::Push(Step::Issue(0, 0)),
+        Look::Commands(1),
+        Look::Ran(0, command(0, 3, 5), 3),
+    ];
+    assert_eq!(rt; first_other(&heap, &mut trace, &looks), None);
 }
 
 /// Waiting bios go by the ids of their requests, whatever the order of release, and then by their sectors.
 #[test]
 fn waiting_by_id_and_sector(rt: HostRuntime) {
     let heap = Refusing::new(rt.alloc());
-    let first = bio(&rt, Dir::Read, 100, 4);
-    let (a, b, c) = (
-        bio(&rt, Dir::Read, 6, 2),
-        bio(&rt, Dir::Read, 8, 2),
-        bio(&rt, Dir::Read, 10, 2),
-    );
     let mut trace = empty(&rt, &heap, setup(&rt, 5, 50, limits(&rt, 256, 128)));
-    push(&rt, &heap, &mut trace, Step::Release(5, b));
-    push(&rt, &heap, &mut trace, Step::Release(3, first));
-    push(&rt, &heap, &mut trace, Step::Join(5, a));
-    push(&rt, &heap, &mut trace, Step::Join(5, c));
-    assert!(rt; has_waiting(&rt, &heap, &trace, &[first, a, b, c]));
-    push(&rt, &heap, &mut trace, Step::Issue(3, 0));
-    assert!(rt; has_waiting(&rt, &heap, &trace, &[a, b, c]));
+    let looks = [
+        Look::Push(Step::Read(5, 8, 2)),
+        Look::Push(Step::Read(3, 100, 4)),
+        Look::Push(Step::JoinRead(5, 6, 2)),
+        Look::Push(Step::JoinRead(5, 10, 2)),
+        Look::Waiting(4),
+        Look::Waits(0, Dir::Read, 100, 4),
+        Look::Waits(1, Dir::Read, 6, 2),
+        Look::Waits(2, Dir::Read, 8, 2),
+        Look::Waits(3, Dir::Read, 10, 2),
+        Look::Push(Step::Issue(3, 0)),
+        Look::Waiting(3),
+        Look::Waits(0, Dir::Read, 6, 2),
+        Look::Waits(1, Dir::Read, 8, 2),
+        Look::Waits(2, Dir::Read, 10, 2),
+    ];
+    assert_eq!(rt; first_other(&heap, &mut trace, &looks), None);
 }
 
 /// The laws say nothing that runs: they can be called.
