@@ -1,8 +1,8 @@
 //! A busy device: commands that are handed back, and issued again from the queue that issued them.
 
 use crate::given::{command, follows, lifo_follows, setup};
+use crate::listed::Call;
 use blk_bio::Side;
-use blk_calls::Call;
 use blk_core::{BackFault, IssueFault, NotIssued, Placed, TickFault};
 
 /// What was handed back goes out before what never went, under another tag; a tag stays used in its round, and the round

@@ -1,8 +1,8 @@
 //! The core in the order of entry: lists of calls, each with the answer that it has to give.
 
 use crate::given::{alone, bio, command, follow, follows, id_of, in_order, limits, setup};
+use crate::listed::{Call, release};
 use blk_bio::{Dir, Request, Side};
-use blk_calls::{Call, release};
 use blk_core::{CoreFault, DepthFault, IssueFault, NotIssued, Placed, TickFault};
 use std::alloc::Global;
 use std::process::Abort;

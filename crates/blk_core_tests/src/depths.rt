@@ -1,8 +1,8 @@
 //! A depth that changes from round to round.
 
 use crate::given::{command, follow, follows, in_order, setup};
+use crate::listed::Call;
 use blk_bio::Dir;
-use blk_calls::Call;
 use blk_core::{DepthFault, IssueFault, Placed};
 
 /// A new depth is in force from the next round on, and no deeper than the setup's.

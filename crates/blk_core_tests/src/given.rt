@@ -3,8 +3,8 @@
 ghost use Rattle.std.specs.Prelude.{◌≡◌, true};
 ghost use Rattle.blk_sched.specs.Meaning.{at_start};
 
+use crate::listed::{Call, first_other};
 use blk_bio::{Bio, BioId, Dir, Limits, Request};
-use blk_calls::{Call, first_other};
 use blk_core::Core;
 use blk_lifo::Lifo;
 use blk_none::NoneSched;
@@ -33,7 +33,7 @@ pub fn limits(rt: &impl Abort, max_sectors: u64) -> Limits {
 }
 
 /// An allocator once more.
-fn again<A: Allocator + Clone>(rt: &impl Abort, alloc: &A) -> A {
+pub fn again<A: Allocator + Clone>(rt: &impl Abort, alloc: &A) -> A {
     let Ok(alloc) = alloc.clone() else {
         panic!(rt; "want of memory");
     };
@@ -42,7 +42,7 @@ fn again<A: Allocator + Clone>(rt: &impl Abort, alloc: &A) -> A {
 
 /// A request of one bio.
 pub fn alone(rt: &impl Abort, alloc: Global, bio: Bio) -> Request {
-    blk_calls::alone(&alloc, bio).expect(rt, "memory")
+    crate::listed::alone(&alloc, bio).expect(rt, "memory")
 }
 
 /// A setup of 256 sectors and 128 segments, under which reads are due after so many rounds and writes at once.
@@ -63,19 +63,26 @@ fn scheduler<A: Allocator + Clone>(rt: &impl Abort, alloc: &A) -> NoneSched<A>
     }
 }
 
-/// A core in the order of entry.
-pub fn in_order<A: Allocator + Clone>(
-    rt: &impl Abort,
-    alloc: &A,
-    setup: Setup,
-) -> Core<NoneSched<A>> {
-    match Core::new(again(rt, alloc), setup, scheduler(rt, alloc)) {
+/// A core over a scheduler in which nothing waits.
+pub fn core_over<S: Scheduler>(rt: &impl Abort, alloc: &S::A, setup: Setup, scheduler: S) -> Core<S>
+    requires start { S.meaning scheduler ≡ at_start (S.meaning scheduler).front }
+{
+    match Core::new(again(rt, alloc), setup, scheduler) {
         Ok(core) => core,
         Err((scheduler, _)) => match Core::new(again(rt, alloc), setup, scheduler) {
             Ok(core) => core,
             Err(_) => panic!(rt; "want of memory"),
         },
     }
+}
+
+/// A core in the order of entry.
+pub fn in_order<A: Allocator + Clone>(
+    rt: &impl Abort,
+    alloc: &A,
+    setup: Setup,
+) -> Core<NoneSched<A>> {
+    core_over(rt, alloc, setup, scheduler(rt, alloc))
 }
 
 /// Makes the calls one after the other, each of which has its answer.
@@ -91,9 +98,7 @@ pub fn follows(rt: &impl Abort, alloc: Global, setup: Setup, calls: &[Call<'_>])
 
 /// Makes the calls of a core over the scheduler that is last in, first out.
 pub fn lifo_follows(rt: &impl Abort, alloc: Global, setup: Setup, calls: &[Call<'_>]) {
-    let Ok(mut core) = Core::new(alloc, setup, Lifo::new(alloc)) else {
-        panic!(rt; "want of memory");
-    };
+    let mut core = core_over(rt, &alloc, setup, Lifo::new(alloc));
     follow(rt, &alloc, &mut core, calls);
 }
 

@@ -6,11 +6,17 @@ mod busy;
 #[cfg(test)]
 mod calls;
 #[cfg(test)]
+mod deadline;
+#[cfg(test)]
 mod depths;
 #[cfg(test)]
 mod given;
 #[cfg(test)]
+mod kyber;
+#[cfg(test)]
 mod laws;
+#[cfg(test)]
+mod listed;
 #[cfg(test)]
 mod own;
 #[cfg(test)]

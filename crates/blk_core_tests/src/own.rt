@@ -1,8 +1,8 @@
 //! The core over a scheduler of one's own.
 
 use crate::given::{command, follow, in_order, lifo_follows, setup};
+use crate::listed::Call;
 use blk_bio::Side;
-use blk_calls::Call;
 use blk_core::{Placed, TickFault};
 
 #[test]

@@ -1,8 +1,8 @@
 //! The core where allocations are refused.
 
 use crate::given::{command, follow, in_order, setup};
+use crate::listed::Call;
 use blk_bio::Side;
-use blk_calls::Call;
 use blk_core::{Core, Placed};
 use blk_none::NoneSched;
 use refusing::Refusing;

@@ -1,8 +1,8 @@
 //! What the core tells its scheduler.
 
 use crate::given::{command, follow, setup};
+use crate::listed::Call;
 use blk_bio::{Dir, Limits, Request, Side};
-use blk_calls::Call;
 use blk_core::{Core, Placed};
 use blk_lifo::Lifo;
 use blk_sched::{Queued, Scheduler};

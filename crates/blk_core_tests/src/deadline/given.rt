@@ -1,7 +1,8 @@
 //! What the tests are given: cores over the deadline scheduler.
 
+use crate::given::{again, core_over, follow};
+use crate::listed::Call;
 use blk_bio::Limits;
-use blk_calls::{Call, first_other};
 use blk_core::Core;
 use blk_deadline::{Deadline, Tunables};
 use blk_trace::Setup;
@@ -10,14 +11,6 @@ use std::process::Abort;
 
 /// A core over the deadline scheduler.
 pub type Under<A> = Core<Deadline<A>>;
-
-/// An allocator once more.
-fn again<A: Allocator + Clone>(rt: &impl Abort, alloc: &A) -> A {
-    let Ok(alloc) = alloc.clone() else {
-        panic!(rt; "want of memory");
-    };
-    alloc
-}
 
 /// The settings: the batch, how often reads go first, and whether a newcomer may join at the front.
 pub fn tuned(fifo_batch: u16, writes_starved: u16, front_merges: bool) -> Tunables {
@@ -39,13 +32,7 @@ pub fn under<A: Allocator + Clone>(
     let limits = Limits::new(256, 128).expect(rt, "limits");
     let setup = Setup::new(depth, 1, expire, expire, limits).expect(rt, "a setup");
     let scheduler = Deadline::new(again(rt, alloc), tunables).expect(rt, "a scheduler");
-    match Core::new(again(rt, alloc), setup, scheduler) {
-        Ok(core) => core,
-        Err((scheduler, _)) => match Core::new(again(rt, alloc), setup, scheduler) {
-            Ok(core) => core,
-            Err(_) => panic!(rt; "want of memory"),
-        },
-    }
+    core_over(rt, alloc, setup, scheduler)
 }
 
 /// Makes the calls of a core of so many tags under these settings, under which requests are due after so many rounds.
@@ -58,5 +45,5 @@ pub fn follows(
     calls: &[Call<'_>],
 ) {
     let mut core = under(rt, &alloc, depth, expire, tunables);
-    assert_eq!(rt; first_other(&alloc, &mut core, calls), None);
+    follow(rt, &alloc, &mut core, calls);
 }

@@ -1,8 +1,8 @@
 //! The rows of the rule. Requests are of 8 sectors, 16 apart, and named by the order in which they enter.
 
-use crate::given::{follows, targets};
+use crate::kyber::given::{follows, targets};
+use crate::listed::Call;
 use blk_bio::Dir;
-use blk_calls::Call;
 use blk_kyber::Kyber;
 use blk_sched::SchedFault;
 

@@ -1,6 +1,5 @@
-//! Calls of a core as plain values, each with the answer that it has to give. The tests of the core and of the schedulers are lists of
-//! them. A call that is refused for want of memory is made once more.
-#![tactic(auto)]
+//! Calls of a core as plain values, each with the answer that it has to give: these tests are lists of them. A call that is refused
+//! for want of memory is made once more.
 
 use blk_bio::{Bio, BioId, Dir, Request};
 use blk_core::{BackFault, Core, CoreFault, DepthFault, IssueFault, NotIssued, Placed, TickFault};

@@ -1,8 +1,8 @@
 //! The rows of the rule. Requests are named by the order in which they enter.
 
-use crate::given::{follows, tuned};
+use crate::deadline::given::{follows, tuned};
+use crate::listed::Call;
 use blk_bio::Side;
-use blk_calls::Call;
 use blk_core::Placed;
 use blk_deadline::Deadline;
 use blk_sched::SchedFault;

@@ -1,49 +1,52 @@
-//! The kyber scheduler where allocations are refused: each allocation of a scenario in turn, after which the call is made
-//! once more.
+//! The deadline scheduler where allocations are refused: each allocation of a scenario in turn, after which the
+//! call is made once more.
 
-use crate::given::{Under, targets, under};
+use crate::deadline::given::{Under, tuned, under};
+use crate::listed::{Call, first_other};
 use blk_bio::Side;
-use blk_calls::{Call, first_other};
 use blk_core::Placed;
 use refusing::Refusing;
 use std::alloc::Global;
 use std::process::Abort;
 
 /// How many requests enter, each of two bios, one joined at the front.
-const REQUESTS: u64 = 10;
+const REQUESTS: u64 = 12;
 
 /// The core of this test.
 type Refused<'a> = Under<&'a Refusing<Global>>;
 
-/// A request of two bios enters at hardware queue 1, the second at the front of the first, 32 sectors above the one before.
+/// A request of two bios enters, the second at the front of the first, 20 sectors below the one before.
 fn enters<'a>(heap: &'a Refusing<Global>, core: &mut Refused<'a>, id: u64) -> bool {
-    let (serial, below) = (id.wrapping_mul(2), id.wrapping_mul(32).wrapping_add(8));
+    let (serial, first) = (
+        id.wrapping_mul(2),
+        1000u64.wrapping_sub(id.wrapping_mul(20)),
+    );
     let joined = Ok(Placed::Joined(id, Side::Front));
     let calls = [
-        Call::Read(serial, below.wrapping_add(8), 8, 1, Ok(Placed::New(id))),
-        Call::Read(serial.wrapping_add(1), below, 8, 1, joined),
+        Call::Read(serial, first, 8, 0, Ok(Placed::New(id))),
+        Call::Read(serial.wrapping_add(1), first.wrapping_sub(8), 8, 0, joined),
     ];
     first_other(&heap, core, &calls) == None
 }
 
-/// A request goes out for that queue, and its round ends.
+/// A request goes out, and its round ends.
 fn goes<'a>(heap: &'a Refusing<Global>, core: &mut Refused<'a>, id: u64) -> bool {
-    let calls = [Call::Send(1, 0, &[id]), Call::AllDone(1), Call::Ticks(1)];
+    let calls = [Call::Send(0, 0, &[id]), Call::AllDone(1), Call::Ticks(1)];
     first_other(&heap, core, &calls) == None
 }
 
-/// Requests enter at one hardware queue and go out in their order; another queue has none.
+/// Requests enter from above downwards, and go out upwards after the first: nothing lies above it; the oldest that is left
+/// begins a batch, and so on downwards.
 fn come_and_go<'a>(rt: &impl Abort, heap: &'a Refusing<Global>) {
-    let mut core = under(rt, &heap, 1, 2, targets(2, 10));
+    let mut core = under(rt, &heap, 1, 1000, tuned(16, 2, true));
     for id in 0..REQUESTS {
         assert!(rt; enters(heap, &mut core, id));
     }
-    let none = [Call::Issue(0, 0, Ok(None))];
-    assert!(rt; first_other(&heap, &mut core, &none) == None);
     for id in 0..REQUESTS {
         assert!(rt; goes(heap, &mut core, id));
     }
-    assert!(rt; first_other(&heap, &mut core, &[Call::Pending(0)]) == None);
+    let none = [Call::Issue(0, 0, Ok(None)), Call::Pending(0)];
+    assert!(rt; first_other(&heap, &mut core, &none) == None);
 }
 
 #[test]

@@ -1,7 +1,8 @@
 //! What the tests are given: cores over the kyber scheduler.
 
+use crate::given::{again, core_over, follow};
+use crate::listed::Call;
 use blk_bio::Limits;
-use blk_calls::{Call, first_other};
 use blk_core::Core;
 use blk_kyber::{Kyber, Targets};
 use blk_trace::Setup;
@@ -10,14 +11,6 @@ use std::process::Abort;
 
 /// A core over the kyber scheduler.
 pub type Under<A> = Core<Kyber<A>>;
-
-/// An allocator once more.
-fn again<A: Allocator + Clone>(rt: &impl Abort, alloc: &A) -> A {
-    let Ok(alloc) = alloc.clone() else {
-        panic!(rt; "want of memory");
-    };
-    alloc
-}
 
 /// The targets of reads and of writes.
 pub fn targets(read: u64, write: u64) -> Targets {
@@ -39,13 +32,7 @@ pub fn under<A: Allocator + Clone>(
         Ok(scheduler) => scheduler,
         Err(_) => Kyber::new(again(rt, alloc), targets, depth).expect(rt, "a scheduler"),
     };
-    match Core::new(again(rt, alloc), setup, scheduler) {
-        Ok(core) => core,
-        Err((scheduler, _)) => match Core::new(again(rt, alloc), setup, scheduler) {
-            Ok(core) => core,
-            Err(_) => panic!(rt; "want of memory"),
-        },
-    }
+    core_over(rt, alloc, setup, scheduler)
 }
 
 /// Makes the calls of a core of so many tags and hardware queues.
@@ -58,5 +45,5 @@ pub fn follows(
     calls: &[Call<'_>],
 ) {
     let mut core = under(rt, &alloc, depth, queues, targets);
-    assert_eq!(rt; first_other(&alloc, &mut core, calls), None);
+    follow(rt, &alloc, &mut core, calls);
 }
