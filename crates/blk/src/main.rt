@@ -1,6 +1,7 @@
-//! The program `blk`: the standard streams and the words of the command line, handed to `blk_cli::run`.
+//! The program `blk`: the standard streams and the words of the command line, handed to `blk_cli::run`, and loads run on its threads.
 #![tactic(auto)]
 
+use blk_load::OnThreads;
 use std::io::{ErrorKind, Write};
 use std::process::ExitCode;
 use std::{env, io};
@@ -25,6 +26,7 @@ fn main(rt: HostRuntime) -> ExitCode {
         return ExitCode::from(blk_cli::FAILED);
     };
     let ended = blk_cli::run(
+        &OnThreads,
         &rt,
         alloc,
         words.as_slice(),

@@ -4,3 +4,4 @@ pub mod Requests
 pub mod Extents
 pub mod Answers
 pub mod Codes
+pub mod Letters

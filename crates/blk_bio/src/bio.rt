@@ -1,9 +1,11 @@
 //! A bio: one transfer of a range of sectors, after `struct bio` of Linux.
 
-ghost use Rattle.std.specs.Prelude.{◌≡◌, ◌+◌, ◌<◌, ◌≤◌, ◌^◌, ◌∷◌, [], IfOk, MatchResult};
+ghost use Rattle.std.specs.Prelude.{◌≡◌, ◌≢◌, ◌+◌, ◌<◌, ◌≤◌, ◌^◌, ◌∷◌, [], IfOk, IfSome, IfNone, MatchResult};
 ghost use Rattle.blk_bio.specs.Bios.{Bio as BioFields, IsBio, end_of, IsBioAnswer};
 ghost use Rattle.blk_bio.specs.Requests.{IsRequest};
 ghost use Rattle.blk_bio.specs.Extents.{extent_of};
+ghost use Rattle.blk_bio.specs.Letters.{direction_text};
+ghost use Rattle.blk_bio.specs.declared.bio.Dir.{Dir as Direction};
 
 use crate::extent::Extent;
 use std::marker::Model;
@@ -19,6 +21,32 @@ pub enum Dir {
     Read,
     /// To the device.
     Write,
+}
+
+impl Dir {
+    /// Its letter in a text, as blkparse has it: R or W.
+    #[inline]
+    pub fn letter(self) -> u8
+        ensures { result ∷ [] ≡ direction_text self }
+    {
+        match self {
+            Dir::Read => b'R',
+            Dir::Write => b'W',
+        }
+    }
+
+    /// The direction that a field of a text names; None for any other field than R and W.
+    #[inline]
+    pub fn of_letter(field: &[u8]) -> Option<Dir>
+        ensures some { IfSome result (λ dir. field.now ≡ direction_text dir) }
+        ensures none { IfNone result ((dir : Direction) → field.now ≢ direction_text dir) }
+    {
+        match field {
+            [b'R'] => Some(Dir::Read),
+            [b'W'] => Some(Dir::Write),
+            _ => None,
+        }
+    }
 }
 
 /// A bio's name: who submitted it, and its number among that submitter's. Any two numbers make a name; that no name

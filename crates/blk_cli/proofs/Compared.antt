@@ -13,12 +13,13 @@ use Rattle.blk_trace.specs.Traces.{Traced}
 use Rattle.blk_report.specs.declared.figures.Report.{Report}
 use Rattle.blk_sim.specs.declared.refusal.SimFault.{SimFault}
 use Rattle.blk_cli.specs.Statuses.{IsOfWriter}
-use Rattle.blk_cli.specs.declared.words.Sched.{Sched}
-use Rattle.blk_cli.specs.declared.words.Sched.TheVariants as under
+use Rattle.blk_settings.specs.declared.sched.Sched.{Sched}
+use Rattle.blk_settings.specs.declared.sched.Sched.TheVariants as under
 use Rattle.blk_cli.specs.declared.failure.Failure.{Failure}
 use Rattle.blk_cli.specs.declared.failure.Failure.TheVariants as failure
 use Rattle.blk_cli.specs.declared.comparing.Reports.{Reports}
-use Rattle.blk_cli.specs.Outcome.{IsTraceOfScript, IsUnmade, IsUnrun, IsRefusedUnder}
+use Rattle.blk_cli.specs.Outcome.{IsTraceOfScript, IsUnrun, IsRefusedUnder}
+use Rattle.blk_settings.specs.Made.{IsUnmade}
 use Rattle.blk_cli.specs.Comparing.{IsReportUnder, AreReports, IsTableOf, AreMade, AreUnmade, IsFirstRefused, IsUncompared, CompareWrote, CompareFails}
 
 -- a script that a scheduler runs whole

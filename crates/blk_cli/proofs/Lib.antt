@@ -1,5 +1,3 @@
-pub mod Lines
-pub mod Plain
 pub mod Claims
 pub mod Written
 pub mod TraceJobs

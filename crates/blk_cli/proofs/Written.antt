@@ -33,13 +33,14 @@ use Rattle.blk_sim.specs.Policies.{Policy}
 use Rattle.blk_sim.specs.declared.refusal.SimFault.{SimFault}
 use Rattle.blk_sim.specs.Simulation.{released_bios, ticks_of}
 use Rattle.blk_sim.specs.Refusals.{IsSimFault}
-use Rattle.blk_cli.specs.declared.words.Sched.{Sched}
-use Rattle.blk_cli.specs.declared.words.Sched.TheVariants as under
+use Rattle.blk_settings.specs.declared.sched.Sched.{Sched}
+use Rattle.blk_settings.specs.declared.sched.Sched.TheVariants as under
 use Rattle.blk_cli.specs.Statuses.{IsOfWriter}
 use Rattle.blk_cli.specs.declared.failure.Failure.{Failure}
 use Rattle.blk_cli.specs.declared.failure.Failure.TheVariants as failure
 use Rattle.blk_cli.specs.Meeting.{IsMetProved, IsRefusedMet, MetWrote, met_line, met_verdict_of}
-use Rattle.blk_cli.specs.Outcome.{RunsUnder, RunsFrom, IsMade, IsRefusedUnder, IsUnmade, IsSettingFault, IsProved, OracleWrote, SimWrote, MigrateWrote, MigrateFails, CheckWrote, bound_line, verdict_of, IsTextFault, IsStepFault, IsSolveFault, IsCheckFault, IsRefusedBound, IsMetCheckFault, IsGood, IsBad, IsUnmet, line_on, IsUnrun, IsUnsolved, IsUnproved, SimFails, OracleFails, CheckFails}
+use Rattle.blk_cli.specs.Outcome.{RunsUnder, RunsFrom, IsRefusedUnder, IsSettingFault, IsProved, OracleWrote, SimWrote, MigrateWrote, MigrateFails, CheckWrote, bound_line, verdict_of, IsTextFault, IsStepFault, IsSolveFault, IsCheckFault, IsRefusedBound, IsMetCheckFault, IsGood, IsBad, IsUnmet, line_on, IsUnrun, IsUnsolved, IsUnproved, SimFails, OracleFails, CheckFails}
+use Rattle.blk_settings.specs.Made.{IsMade, IsUnmade}
 
 -- a text's first fault, or one from outside
 pub text_fault : (wrong : List Row → ℕ → Why → Type 0) (input : Option (List Row)) (failed : Bool) (f : TextFault)

@@ -12,12 +12,13 @@ use Rattle.blk_report.specs.declared.figures.Report.{Report}
 use Rattle.blk_report.specs.Shortfall.{IsReport}
 use Rattle.blk_report.specs.Table.{IsTable}
 use Rattle.blk_sim.specs.declared.refusal.SimFault.{SimFault}
-use Rattle.blk_cli.specs.declared.words.Sched.{Sched}
-use Rattle.blk_cli.specs.declared.words.Sched.TheVariants as sched
+use Rattle.blk_settings.specs.declared.sched.Sched.{Sched}
+use Rattle.blk_settings.specs.declared.sched.Sched.TheVariants as sched
 use Rattle.blk_cli.specs.declared.failure.Failure.{Failure}
 use Rattle.blk_cli.specs.declared.failure.Failure.TheVariants as failure
 use Rattle.blk_cli.specs.declared.comparing.Reports.{Reports}
-use Rattle.blk_cli.specs.Outcome.{IsMade, IsTraceOfScript, IsRefusedUnder, IsTextFault}
+use Rattle.blk_cli.specs.Outcome.{IsTraceOfScript, IsRefusedUnder, IsTextFault}
+use Rattle.blk_settings.specs.Made.{IsMade}
 
 -- the schedulers in the order in which they run, and their names
 abbrev pub in_turn : Tunables → Targets → List Sched

@@ -2,8 +2,8 @@
 use Rattle.std.specs.Prelude.{⊤, ℕ, List, Option, Result, MatchResult, IfSome}
 use Rattle.std.specs.Io.KnownBytes.{Appends}
 use Rattle.blk_text.specs.Sources.{Row}
-use Rattle.blk_cli.specs.declared.words.Job.{Job}
-use Rattle.blk_cli.specs.declared.words.Job.TheVariants as job
+use Rattle.blk_words.specs.declared.words.Job.{Job}
+use Rattle.blk_words.specs.declared.words.Job.TheVariants as job
 use Rattle.blk_cli.specs.declared.failure.Failure.{Failure}
 use Rattle.blk_cli.specs.Outcome.{SimWrote, SimFails, MigrateWrote, MigrateFails, OracleWrote, OracleFails, CheckWrote, CheckFails, VersionFails, version_line}
 use Rattle.blk_cli.specs.OfTraces.{TraceWrote, TraceFails, IsReportText, IsCommandsText, IsLateText, IsMissesText, IsSpreadText, IsUnfixed}

@@ -14,18 +14,17 @@ use Rattle.blk_trace.specs.declared.rule.TraceRule.{TraceRule}
 use Rattle.blk_trace.specs.declared.rule.TraceRule.TheVariants as rule
 use Rattle.blk_sched.specs.declared.SchedFault.{SchedFault}
 use Rattle.blk_sched.specs.declared.SchedFault.TheVariants as setting
-use Rattle.blk_load.specs.declared.fault.LoadFault.{LoadFault}
-use Rattle.blk_load.specs.declared.fault.LoadFault.TheVariants as load
+use Rattle.blk_settings.specs.declared.fault.LoadFault.{LoadFault}
+use Rattle.blk_settings.specs.declared.fault.LoadFault.TheVariants as load
 use Rattle.blk_text.specs.declared.fault.Why.{Why}
 use Rattle.blk_text.specs.declared.fault.Why.TheVariants as why
-use Rattle.blk_text.specs.declared.fault.WriteFault.TheVariants as write
+use Rattle.drafts.specs.declared.fault.WriteFault.TheVariants as write
 use Rattle.blk_text.specs.Sources.{Row}
 use Rattle.blk_sim.specs.declared.refusal.SimWhy.{SimWhy}
 use Rattle.blk_sim.specs.declared.refusal.SimWhy.TheVariants as step
-use Rattle.clap.specs.Words.{Text}
 use Rattle.blk_cli.specs.declared.Ended.{Ended}
-use Rattle.blk_cli.specs.declared.words.Job.{Job}
-use Rattle.blk_cli.specs.Asked.{Asks, AreRefused}
+use Rattle.blk_words.specs.declared.words.Job.{Job}
+use Rattle.blk_words.specs.Asked.{Asks, AreRefused}
 use Rattle.blk_cli.specs.Does.{Does}
 use Rattle.blk_cli.specs.declared.failure.Failure.{Failure}
 use Rattle.blk_cli.specs.declared.failure.Failure.TheVariants as failure
@@ -213,7 +212,7 @@ pub record JobEnds (j : Job) (input : Option (List Row)) (old new faults_old fau
   pub told : IsTrue ended.told → Appends faults_old faults_new (line_at came)
 
 -- words that ask for nothing ended with status 2
-abbrev pub LineEnds : List Text → Ended → Type 0
+abbrev pub LineEnds : List (List ℕ) → Ended → Type 0
 LineEnds words ended = AreRefused words × (ended.status ≡ 2)
 
 -- memory ran out before the words were read
@@ -221,7 +220,7 @@ abbrev pub MemoryEnds : Option (List ℕ) → Option (List ℕ) → Ended → Ty
 MemoryEnds faults_old faults_new ended = (ended.status ≡ 3) × (IsTrue ended.told → Appends faults_old faults_new want_of_memory)
 
 -- how a run of the program ended
-abbrev pub RunEnds : List Text → Option (List Row) → Option (List ℕ) → Option (List ℕ) → Option (List ℕ) → Option (List ℕ) → Ended → Type 0
+abbrev pub RunEnds : List (List ℕ) → Option (List Row) → Option (List ℕ) → Option (List ℕ) → Option (List ℕ) → Option (List ℕ) → Ended → Type 0
 RunEnds words input old new faults_old faults_new ended =
     ((j : Job) × Asks words j × JobEnds j input old new faults_old faults_new ended)
     ⊎ (LineEnds words ended ⊎ MemoryEnds faults_old faults_new ended)

@@ -1,8 +1,6 @@
-pub mod Asked
 pub mod Comparing
 pub mod Does
 pub mod Ends
-pub mod Line
 pub mod Meeting
 pub mod OfTraces
 pub mod Outcome

@@ -1,10 +1,10 @@
 -- What a load comes to.
 use Rattle.std.specs.Prelude.{◌≡◌, ◌+◌, ◌++◌, ◌∷◌, ⊤, ℕ, List, [], Option, codes, decimal}
 use Rattle.std.specs.Io.KnownBytes.{Appends}
-use Rattle.blk_cli.specs.declared.words.Sched.{Sched}
+use Rattle.blk_settings.specs.declared.sched.Sched.{Sched}
 use Rattle.blk_cli.specs.declared.failure.Failure.{Failure}
 use Rattle.blk_cli.specs.declared.failure.Failure.TheVariants as failure
-use Rattle.blk_cli.specs.Outcome.{IsUnmade}
+use Rattle.blk_settings.specs.Made.{IsUnmade}
 
 -- the lines on what came of a load: how many bios were accepted, served and left
 abbrev pub load_lines : ℕ → ℕ → ℕ → List ℕ

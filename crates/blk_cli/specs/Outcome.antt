@@ -42,8 +42,9 @@ use Rattle.blk_sim.specs.State.{SimState, start_of}
 use Rattle.blk_sim.specs.Runs.{Runs}
 use Rattle.blk_sim.specs.Refusals.{IsSimFault}
 use Rattle.blk_cli.specs.Meeting.{IsMetProved, IsRefusedMet, met_verdict_of}
-use Rattle.blk_cli.specs.declared.words.Sched.{Sched}
-use Rattle.blk_cli.specs.declared.words.Sched.TheVariants as sched
+use Rattle.blk_settings.specs.Made.{IsMade, IsUnmade}
+use Rattle.blk_settings.specs.declared.sched.Sched.{Sched}
+use Rattle.blk_settings.specs.declared.sched.Sched.TheVariants as sched
 use Rattle.blk_cli.specs.declared.failure.Failure.{Failure}
 use Rattle.blk_cli.specs.declared.failure.Failure.TheVariants as failure
 
@@ -62,28 +63,6 @@ abbrev pub numbers_at_first : Sched → ℕ → List ℕ
 numbers_at_first sched.None depth = []
 numbers_at_first (sched.Deadline t) depth = deadline_kept (record { last = None; batching = 0; starved = 0 }) t
 numbers_at_first (sched.Kyber t) depth = numbers_of (kept_at_first t depth)
-
--- a scheduler is made of these settings: a batch is of some request, a target of some round
-abbrev pub IsMade : Sched → Type 0
-IsMade sched.None = ⊤
-IsMade (sched.Deadline t) = 0 < t.fifo_batch
-IsMade (sched.Kyber t) = (0 < t.read) × (0 < t.write)
-
--- it isn't made: for a batch of no request, for a target of no round, or for want of memory
-abbrev pub HasZeroBatch : Sched → Type 0
-HasZeroBatch sched.None = ⊥
-HasZeroBatch (sched.Deadline t) = t.fifo_batch ≡ 0
-HasZeroBatch (sched.Kyber t) = ⊥
-
-abbrev pub HasZeroTarget : Sched → Type 0
-HasZeroTarget sched.None = ⊥
-HasZeroTarget (sched.Deadline t) = ⊥
-HasZeroTarget (sched.Kyber t) = (t.read ≡ 0) ⊎ (t.write ≡ 0)
-
-abbrev pub IsUnmade : Sched → SchedFault → Type 0
-IsUnmade s setting.ZeroBatch = HasZeroBatch s
-IsUnmade s setting.ZeroTarget = HasZeroTarget s
-IsUnmade s setting.Memory = ⊤
 
 -- the steps of a script lead from the start to this trace
 abbrev pub RunsFrom : Policy → Scripted → Meaning → List ℕ → Traced → Type 0

@@ -1,5 +1,5 @@
 -- Which failures come of the writer.
-use Rattle.blk_text.specs.declared.fault.WriteFault.{WriteFault}
+use Rattle.drafts.specs.declared.fault.WriteFault.{WriteFault}
 use Rattle.blk_cli.specs.declared.failure.Failure.{Failure}
 use Rattle.blk_cli.specs.declared.failure.Failure.TheVariants as failure
 use Rattle.std.specs.Prelude.{◌≡◌}

@@ -10,11 +10,11 @@ ghost use Rattle.blk_cli.specs.Comparing.{IsReportUnder, AreReports, IsTableOf, 
 
 use crate::failure::Failure;
 use crate::jobs::traced;
-use crate::words::Sched;
 use blk_deadline::Tunables;
 use blk_kyber::Targets;
 use blk_report::{Report, report, write_table};
 use blk_sched::SchedFault;
+use blk_settings::Sched;
 use blk_text::{Records, Script, read_script};
 use std::alloc::Global;
 use std::io::{Read, Write};

@@ -7,11 +7,12 @@ ghost use Rattle.blk_cli.specs.Ends.{line, numbered, at_record, text_name, bio_n
 
 use crate::{Ended, FAILED, REFUSED};
 use blk_bio::BioFault;
-use blk_load::LoadFault;
 use blk_sched::SchedFault;
+use blk_settings::LoadFault;
 use blk_sim::{SimFault, SimWhy};
-use blk_text::{TextFault, Why, WriteFault};
+use blk_text::{TextFault, Why};
 use blk_trace::TraceRule;
+use drafts::WriteFault;
 use edd_check::{CheckFault, MetFault};
 use edd_oracle::OracleFault;
 use std::io;

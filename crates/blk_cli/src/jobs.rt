@@ -20,16 +20,18 @@ ghost use Rattle.blk_text.specs.Proof.{proof_claimed, IsProofClaim};
 
 use crate::failure::Failure;
 use crate::meeting::judge_met;
-use crate::words::{Sched, VERSION};
 use blk_deadline::{Deadline, Tunables};
 use blk_kyber::{Kyber, Targets};
 use blk_none::NoneSched;
+use blk_settings::Sched;
 use blk_sim::simulate;
 use blk_text::{
-    Certificate, Proof, Records, Script, WriteFault, read_commands, read_proof, read_script,
-    read_trace, write_certificate, write_trace,
+    Certificate, Proof, Records, Script, read_commands, read_proof, read_script, read_trace,
+    write_certificate, write_trace,
 };
 use blk_trace::Trace;
+use blk_words::VERSION;
+use drafts::WriteFault;
 use edd_check::{Capacity, Command, Window, check, load};
 use edd_oracle::solve;
 use std::alloc::{AllocError, Global};

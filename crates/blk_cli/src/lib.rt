@@ -8,14 +8,12 @@ ghost use Rattle.blk_cli.specs.Ends.{JobEnds, LineEnds, MemoryEnds, RunEnds};
 ghost use Rattle.blk_cli.specs.Does.{Does, IsNoLoad};
 ghost use Rattle.blk_cli.specs.Statuses.{IsOfWriter};
 
-pub mod asking;
 mod comparing;
 mod failure;
 mod jobs;
 mod loading;
 mod meeting;
 mod traces;
-mod words;
 
 use crate::comparing::compare_schedulers;
 pub use crate::failure::Failure;
@@ -25,10 +23,9 @@ use crate::jobs::{
 use crate::loading::run_load;
 use crate::meeting::meet_commands;
 use crate::traces::{count_misses, list_commands, list_late, report_trace, spread_trace};
-pub use crate::words::{Job, Sched, VERSION};
-use crate::words::{NoJob, choose};
-use blk_load::Load;
+use blk_settings::{Load, Loads, Sched};
 pub use blk_sim::laws;
+use blk_words::{Job, NoJob, choose};
 use std::alloc::Global;
 use std::io::{Read, Write};
 use std::sync::Wait;
@@ -111,7 +108,8 @@ pub fn perform<R: Read + Drop, W: Write, F: Write>(
 }
 
 /// Runs a load, and says to `faults` why it failed.
-fn perform_load<R: Threads + Wait + Sync, W: Write, F: Write>(
+fn perform_load<L: Loads, R: Threads + Wait + Sync, W: Write, F: Write>(
+    loads: &L,
     rt: &R,
     alloc: Global,
     sched: Sched,
@@ -124,7 +122,7 @@ fn perform_load<R: Threads + Wait + Sync, W: Write, F: Write>(
     ensures quiet { result.status ≡ 0 → faults.new ≡ faults.old }
     ensures range { result.status ≤ 3 }
 {
-    match run_load(rt, alloc, sched, amounts, writer) {
+    match run_load(loads, rt, alloc, sched, amounts, writer) {
         Ok(()) => Ended {
             status: GOOD,
             told: true,
@@ -134,8 +132,10 @@ fn perform_load<R: Threads + Wait + Sync, W: Write, F: Write>(
 }
 
 /// Runs the program on the words of its command line, the first of which is its name: reads the input from the reader,
-/// writes the output to the writer, and where there is none, a line on why to `faults`. Answers how it ended.
-pub fn run<T: Threads + Wait + Sync, R: Read + Drop, W: Write, F: Write>(
+/// writes the output to the writer, and where there is none, a line on why to `faults`. Loads are run by `loads`, on the
+/// threads of `rt`. Answers how it ended.
+pub fn run<L: Loads, T: Threads + Wait + Sync, R: Read + Drop, W: Write, F: Write>(
+    loads: &L,
     rt: &T,
     alloc: Global,
     words: &[String],
@@ -151,12 +151,14 @@ pub fn run<T: Threads + Wait + Sync, R: Read + Drop, W: Write, F: Write>(
     ensures range { result.status ≤ 3 }
 {
     match choose(alloc, words) {
-        Ok(Job::Load(sched, amounts)) => perform_load(rt, alloc, sched, amounts, writer, faults),
+        Ok(Job::Load(sched, amounts)) => {
+            perform_load(loads, rt, alloc, sched, amounts, writer, faults)
+        }
         Ok(job) => perform(alloc, job, reader, writer, faults),
         Err(NoJob::Memory) => Failure::Memory.report(faults),
-        Err(NoJob::Line(error)) => Ended {
+        Err(NoJob::Line(text)) => Ended {
             status: COMMAND_LINE,
-            told: write!(faults, "{error}").is_ok(),
+            told: faults.write_all(text.as_bytes()).is_ok(),
         },
         Err(NoJob::Nothing) => Ended {
             status: COMMAND_LINE,

@@ -1,6 +1,7 @@
 //! What the tests are given: runs of the program over readers and writers that fail.
 
 use blk_cli::run;
+use blk_settings::{Load, LoadFault, Loads, Sched, Settled, Unsettled};
 use std::alloc::Global;
 use std::io;
 use std::io::{ErrorKind, Read, Write};
@@ -72,6 +73,30 @@ fn words_of(rt: &impl Abort, alloc: Global, words: &[&str]) -> Vec<String> {
     all
 }
 
+/// Loads of which every bio is served, without a layer and without threads.
+struct AllServed;
+
+impl Loads for AllServed {
+    fn run<R: Threads + Wait + Sync>(
+        &self,
+        rt: &R,
+        alloc: Global,
+        sched: Sched,
+        load: Load,
+    ) -> Result<Settled, Unsettled> {
+        let _ = (rt, alloc, sched);
+        if !load.is_in_range() {
+            return Err(Unsettled::Load(LoadFault::Range));
+        }
+        let bios = load.submitters * load.bios;
+        Ok(Settled {
+            accepted: bios,
+            served: bios,
+            left: 0,
+        })
+    }
+}
+
 /// Runs the program with words after its name, and gives its status.
 pub fn status_of<T: Abort + Threads + Wait + Sync, R: Read + Drop, W: Write, F: Write>(
     rt: &T,
@@ -82,5 +107,5 @@ pub fn status_of<T: Abort + Threads + Wait + Sync, R: Read + Drop, W: Write, F: 
     faults: &mut F,
 ) -> u8 {
     let words = words_of(rt, alloc, words);
-    run(rt, alloc, words.as_slice(), reader, out, faults).status
+    run(&AllServed, rt, alloc, words.as_slice(), reader, out, faults).status
 }

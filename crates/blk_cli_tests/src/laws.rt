@@ -1,8 +1,8 @@
 //! The laws of the program: each can be called.
 
-use blk_cli::asking::plain_lines;
 use blk_cli::laws::{each_step_keeps, one_more_step, released_by_flush_and_move};
 use blk_none::NoneSched;
+use blk_words::asking::plain_lines;
 
 #[test]
 fn laws_hold() {

@@ -6,13 +6,11 @@
 
 mod counts;
 mod device;
-pub mod fault;
-pub mod numbers;
 pub mod running;
 mod serving;
 mod site;
 mod submitting;
+pub mod under;
 
-pub use crate::fault::LoadFault;
-pub use crate::numbers::Load;
-pub use crate::running::{Settled, load};
+pub use crate::running::load;
+pub use crate::under::{OnThreads, load_under};

@@ -2,14 +2,12 @@
 
 ghost use Rattle.std.specs.Prelude.{◌≡◌, ◌<◌, ◌≤◌, ◌+◌, [], All, IfOk, OnOk, IfErr, length, vec_len, Ok};
 ghost use Rattle.blk_sched.specs.Meaning.{at_start};
-ghost use Rattle.blk_load.specs.declared.numbers.TheConstants.{MOST_BIOS, MOST_DEPTH, MOST_SUBMITTERS};
-ghost use Rattle.blk_load.specs.Faults.{IsTold};
+ghost use Rattle.blk_settings.specs.declared.numbers.TheConstants.{MOST_BIOS, MOST_DEPTH, MOST_SUBMITTERS};
+ghost use Rattle.blk_settings.specs.Faults.{IsTold};
 ghost use Rattle.blk_load.specs.Loads.{AreInTurn};
-ghost use Rattle.blk_load.specs.Numbers.{IsLoad};
+ghost use Rattle.blk_settings.specs.Numbers.{IsLoad};
 
 use crate::counts::{accepted, served};
-use crate::fault::{LoadFault, first_of};
-use crate::numbers::Load;
 use crate::serving::serve_all;
 use crate::site::Site;
 use crate::submitting::submit_all;
@@ -20,6 +18,8 @@ use blk_layer::{
     CloseFault, CloseRefused, Closed, Layer, LayerFault, MAX_WORKERS, Named, Submitter, Worker,
 };
 use blk_sched::Scheduler;
+use blk_settings::fault::first_of;
+use blk_settings::{Load, LoadFault, Settled};
 use blk_trace::Setup;
 use std::alloc::{AllocError, Global};
 use std::marker::Brand;
@@ -41,17 +41,6 @@ const MAX_SECTORS: u64 = 256;
 
 /// How many bios a request may have.
 const MAX_SEGMENTS: u64 = 128;
-
-/// What came of a load, in bios.
-#[derive(Clone, Copy, Debug, PartialEq, Eq)]
-pub struct Settled {
-    /// How many bios were accepted.
-    pub accepted: u64,
-    /// How many bios the commands have that are done.
-    pub served: u64,
-    /// How many bios still wait.
-    pub left: u64,
-}
 
 /// Runs a load over a layer of a scheduler in which nothing waits. There is a hardware queue for each submitter or each worker,
 /// whichever are fewer; software queue s and worker w are mapped to the queues of numbers s and w modulo as many.

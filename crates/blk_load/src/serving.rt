@@ -3,10 +3,10 @@
 ghost use Rattle.std.specs.Prelude.{◌≡◌, All};
 
 use crate::device::Disk;
-use crate::fault::LoadFault;
 use crate::site::Site;
 use blk_layer::{Named, WorkFault, Worker};
 use blk_sched::Scheduler;
+use blk_settings::LoadFault;
 use std::alloc::Global;
 use std::sync::Wait;
 use std::thread::{Threads, for_each_mut};

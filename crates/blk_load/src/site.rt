@@ -1,13 +1,13 @@
 //! What the threads of a load share.
 
 ghost use Rattle.std.specs.Prelude.{◌≡◌, ◌≤◌};
-ghost use Rattle.blk_load.specs.declared.numbers.TheConstants.{MOST_BIOS, MOST_SUBMITTERS};
+ghost use Rattle.blk_settings.specs.declared.numbers.TheConstants.{MOST_BIOS, MOST_SUBMITTERS};
 
-use crate::fault::{LoadFault, first_of};
-use crate::numbers::Load;
 use blk_bio::Limits;
 use blk_layer::{Layer, Named};
 use blk_sched::Scheduler;
+use blk_settings::fault::first_of;
+use blk_settings::{Load, LoadFault};
 use std::alloc::Global;
 use std::sync::atomic::{AtomicBool, Ordering};
 use std::sync::{Mutex, Wait};

@@ -1,16 +1,15 @@
 //! What submitters do.
 
 ghost use Rattle.std.specs.Prelude.{◌≡◌, ◌<◌, ◌≤◌, All, IfOk, length};
-ghost use Rattle.blk_load.specs.declared.numbers.TheConstants.{MOST_BIOS, MOST_SUBMITTERS};
+ghost use Rattle.blk_settings.specs.declared.numbers.TheConstants.{MOST_BIOS, MOST_SUBMITTERS};
 ghost use Rattle.blk_load.specs.Loads.{nth_bio};
 
-use crate::fault::LoadFault;
-use crate::numbers::Load;
 use crate::site::Site;
 use blk_bio::{Bio, BioId, Dir};
 use blk_layer::{FlushWhy, Named, Submitter};
 use blk_plug::{PLUG_REQUESTS, Plug, PlugFault};
 use blk_sched::Scheduler;
+use blk_settings::{Load, LoadFault};
 use std::alloc::Global;
 use std::sync::Wait;
 use std::thread::{Threads, for_each_mut, yield_now};

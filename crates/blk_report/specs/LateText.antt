@@ -1,7 +1,7 @@
 -- The late commands as text.
 use Rattle.std.specs.Prelude.{ℕ, ◌++◌, ◌∷◌, [], List, decimal, codes}
 use Rattle.std.specs.List.{flat_map}
-use Rattle.blk_text.specs.BioRecord.{direction_text}
+use Rattle.blk_bio.specs.Letters.{direction_text}
 use Rattle.blk_report.specs.declared.serving.Service.{Service}
 use Rattle.blk_report.specs.declared.delays.LateCommand.{LateCommand}
 use Rattle.blk_report.specs.SpreadText.{next_field}

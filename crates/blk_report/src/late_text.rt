@@ -3,14 +3,14 @@
 ghost use Rattle.std.specs.Prelude.{◌≡◌, ◌++◌, IfOk, IfErr, OnOk, decimal};
 ghost use Rattle.std.specs.List.{flat_map};
 ghost use Rattle.std.specs.Io.KnownBytes.{Appends};
-ghost use Rattle.blk_text.specs.Texts.{AppendsPart};
-ghost use Rattle.blk_text.specs.BioRecord.{direction_text};
+ghost use Rattle.drafts.specs.Parts.{AppendsPart};
+ghost use Rattle.blk_bio.specs.Letters.{direction_text};
 ghost use Rattle.blk_report.specs.SpreadText.{next_field};
 ghost use Rattle.blk_report.specs.LateText.{request_fields, round_fields, wait_fields, late_line, late_lines};
 
 use crate::{LateCommand, Service};
 use blk_bio::Dir;
-use blk_text::{Draft, WriteFault, write_whole};
+use drafts::{Draft, WriteFault, write_whole};
 use std::alloc::{AllocError, Global};
 use std::io::Write;
 
@@ -26,10 +26,7 @@ fn push_number(draft: &mut Draft, number: u64) -> Result<(), AllocError>
 fn push_dir(draft: &mut Draft, dir: Dir) -> Result<(), AllocError>
     ensures { OnOk result (draft.new ≡ draft.old ++ next_field (direction_text dir)) }
 {
-    match dir {
-        Dir::Read => draft.text(b",R"),
-        Dir::Write => draft.text(b",W"),
-    }
+    draft.text(&[b',', dir.letter()])
 }
 
 /// Adds the fields of a request.

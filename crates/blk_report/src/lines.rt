@@ -2,11 +2,11 @@
 
 ghost use Rattle.std.specs.Prelude.{◌≡◌, ◌++◌, IfOk, IfErr, OnOk, decimal, codes};
 ghost use Rattle.std.specs.Io.KnownBytes.{Appends};
-ghost use Rattle.blk_text.specs.Texts.{AppendsPart};
+ghost use Rattle.drafts.specs.Parts.{AppendsPart};
 ghost use Rattle.blk_report.specs.Lines.{late_text, count_text, window_text, figure_line, report_text};
 
 use crate::Report;
-use blk_text::{Draft, WriteFault, write_whole};
+use drafts::{Draft, WriteFault, write_whole};
 use edd_check::Window;
 use std::alloc::{AllocError, Global};
 use std::io::Write;

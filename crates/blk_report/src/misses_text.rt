@@ -3,12 +3,12 @@
 ghost use Rattle.std.specs.Prelude.{◌≡◌, ◌++◌, IfOk, IfErr, OnOk};
 ghost use Rattle.std.specs.List.{flat_map};
 ghost use Rattle.std.specs.Io.KnownBytes.{Appends};
-ghost use Rattle.blk_text.specs.Texts.{AppendsPart};
+ghost use Rattle.drafts.specs.Parts.{AppendsPart};
 ghost use Rattle.blk_report.specs.MissesText.{crowd_line, misses_text};
 
 use crate::lines::push_number_line;
 use crate::{Crowd, Missed};
-use blk_text::{Draft, WriteFault, write_whole};
+use drafts::{Draft, WriteFault, write_whole};
 use std::alloc::{AllocError, Allocator, Global};
 use std::io::Write;
 

@@ -2,13 +2,13 @@
 
 ghost use Rattle.std.specs.Prelude.{◌≡◌, ◌++◌, IfOk, IfErr, OnOk, decimal};
 ghost use Rattle.std.specs.Io.KnownBytes.{Appends};
-ghost use Rattle.blk_text.specs.Texts.{AppendsPart};
+ghost use Rattle.drafts.specs.Parts.{AppendsPart};
 ghost use Rattle.blk_report.specs.Lines.{late_text};
 ghost use Rattle.blk_report.specs.SpreadText.{next_field, quantiles_row, quantiles_rows, spread_text};
 
 use crate::lines::push_late;
 use crate::{ByDir, Quantiles, Spreads};
-use blk_text::{Draft, WriteFault, write_whole};
+use drafts::{Draft, WriteFault, write_whole};
 use std::alloc::{AllocError, Global};
 use std::io::Write;
 

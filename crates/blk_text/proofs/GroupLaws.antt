@@ -9,7 +9,7 @@ use Rattle.blk_bio.specs.declared.bio.BioFault.{BioFault}
 use Rattle.blk_bio.specs.declared.bio.Dir.{Dir}
 use Rattle.blk_text.specs.Sources.{Row}
 use Rattle.blk_text.specs.BioTable.{bio_cells, IsNoSuchBio}
-use Rattle.blk_text.specs.BioRecord.{direction_text}
+use Rattle.blk_bio.specs.Letters.{direction_text}
 use Rattle.blk_text.specs.Words.{StartsWith, NextStarts, WordLacks}
 use Rattle.blk_text.specs.Fields.{Lacks, FieldsSpell}
 use Rattle.blk_text.specs.Reads.{IsRowOf, IsWrongLine, HandFails, Gathers, with_next}

@@ -1,14 +1,12 @@
 pub mod Lists
 pub mod Steps
 pub mod Decimals
-pub mod Digits
 pub mod FieldLemmas
 pub mod Lacking
 pub mod TableLaws
 pub mod Reading
 pub mod Each
 pub mod Texts
-pub mod Written
 pub mod PlainRows
 pub mod Rows
 pub mod DraftLemmas

@@ -10,7 +10,8 @@ use Rattle.blk_bio.specs.Bios.{Bio}
 use Rattle.blk_bio.specs.declared.bio.Dir.{Dir}
 use Rattle.blk_bio.specs.declared.bio.Dir.TheVariants as dir
 use Rattle.blk_trace.specs.Setups.{Setup}
-use Rattle.blk_text.specs.BioRecord.{bio_row, direction_text}
+use Rattle.blk_text.specs.BioRecord.{bio_row}
+use Rattle.blk_bio.specs.Letters.{direction_text}
 use Rattle.blk_text.specs.Cells.{line_of}
 use Rattle.blk_text.specs.SetupRecord.{setup_row}
 use Rattle.blk_text.specs.Texts.{rows_text}
@@ -140,9 +141,3 @@ word_is start word comma a b plain e =
 -- a lateness is short
 pub late_long : (bytes : List ℕ) (z : ℤ) → bytes ≡ signed_decimal z → mag z < 2 ^ 63 → length bytes ≤ 20
 late_long bytes z is small = rw is (length_signed_le 19 z (omega (arith, small)) small)
-
--- a record after what was there
-pub added : (text block had now row : List ℕ) (at start : ℕ) → start ≡ at → text ++ take at block ≡ had → now ≡ take start block ++ row → text ++ now ≡ had ++ row
-added text block had now row at start e p q =
-    let here : now ≡ take at block ++ row = rw (← e) q in
-    rw (here, ← append_assoc, p)

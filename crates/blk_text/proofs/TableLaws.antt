@@ -7,7 +7,7 @@ use Rattle.std.proofs.lemmas.Fmt.{decimal_injective, signed_decimal_injective}
 use Rattle.blk_bio.specs.declared.bio.Dir.{Dir}
 use Rattle.blk_bio.specs.declared.bio.Dir.TheVariants as dir
 use Rattle.blk_text.specs.Sources.{Row}
-use Rattle.blk_text.specs.BioRecord.{direction_text}
+use Rattle.blk_bio.specs.Letters.{direction_text}
 use Rattle.blk_text.specs.Fields.{Lacks, FieldSpells, FieldsSpell, IsSized}
 use Rattle.blk_text.specs.Words.{StartsWith, NextStarts, HasNoWord, WordLacks}
 use Rattle.blk_text.specs.Reads.{IsRowOf}

@@ -8,7 +8,6 @@ pub mod Script
 pub mod Texts
 pub mod TraceRecords
 pub mod Cells
-pub mod Drafts
 pub mod Certificate
 pub mod Tables
 pub mod Reads

@@ -3,7 +3,7 @@ use Rattle.std.specs.Prelude.{◌≡◌, ◌⊎◌, ◌≤◌, ℕ, suc, ℤ, po
 use Rattle.std.specs.Fmt.{signed_decimal}
 use Rattle.blk_bio.specs.declared.bio.Dir.{Dir}
 use Rattle.blk_text.specs.Sources.{Row}
-use Rattle.blk_text.specs.BioRecord.{direction_text}
+use Rattle.blk_bio.specs.Letters.{direction_text}
 use Rattle.blk_text.specs.Fields.{Lacks}
 use Rattle.blk_text.specs.Words.{NextStarts, HasNoWord, WordLacks}
 use Rattle.blk_text.specs.declared.fault.Why.{Why}

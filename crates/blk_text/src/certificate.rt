@@ -11,19 +11,20 @@ ghost use Rattle.blk_text.specs.Tables.{IsUpTo, FitsCells, row_by, slots_by, tit
 ghost use Rattle.blk_text.specs.Fields.{IsSized, FieldsSpell};
 ghost use Rattle.blk_text.specs.declared.fields.Slot.TheVariants as slot;
 ghost use Rattle.blk_text.specs.Words.{StartsWith};
-ghost use Rattle.blk_text.specs.Texts.{rows_text, AppendsPart};
-ghost use Rattle.blk_text.specs.Drafts.{drafted};
+ghost use Rattle.blk_text.specs.Texts.{rows_text};
+ghost use Rattle.drafts.specs.Parts.{AppendsPart};
+ghost use Rattle.drafts.specs.Drafts.{drafted};
 ghost use Rattle.blk_text.specs.Titles.{counted_cells, IsCounted};
 ghost use Rattle.blk_text.specs.Certificate.{claimed, claim_form, IsClaim, SpellsClaim, ClaimFault, claim_rows, claim_body, claim_told, bound as bound_part, bound_cells, no_bound_row, bound_row, served_cells};
 
-use crate::block::{Block, write_whole};
-use crate::fault::{TextFault, Why, WriteFault};
+use crate::fault::{TextFault, Why};
 use crate::fields::{Slot, WIDTH, after_minus, begins_with, field, read_fields, without_word};
 use crate::items::{LineForm, read_line, read_lines};
-use crate::pieces::{put, put_two};
 use crate::source::Records;
 use crate::titles::counted_title;
 use csv::ByteRecord;
+use drafts::pieces::{put, put_two};
+use drafts::{Block, WriteFault, write_whole};
 use edd_check::{Command, MOST_COMMANDS, RELEASE_LIMIT, ROUND_LIMIT, Window};
 use parts::Repeats;
 use std::alloc::{AllocError, Global};

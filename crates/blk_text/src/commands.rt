@@ -4,19 +4,20 @@ ghost use Rattle.std.specs.Prelude.{◌≡◌, ◌⊎◌, ◌+◌, ◌≤◌, �
 ghost use Rattle.std.specs.Io.KnownBytes.{Appends};
 ghost use Rattle.csv.specs.Records.{fields_of};
 ghost use Rattle.blk_text.specs.Tables.{row_by, title_by};
-ghost use Rattle.blk_text.specs.Texts.{rows_text, AppendsPart};
-ghost use Rattle.blk_text.specs.Drafts.{drafted};
+ghost use Rattle.blk_text.specs.Texts.{rows_text};
+ghost use Rattle.drafts.specs.Parts.{AppendsPart};
+ghost use Rattle.drafts.specs.Drafts.{drafted};
 ghost use Rattle.parts.specs.Parts.{Begins};
 ghost use Rattle.blk_text.specs.Reads.{IsOutside, Reaches};
 ghost use Rattle.blk_text.specs.Commands.{AreCommands, SpellsCommands, CommandsFault, command_cells, command_list, commands_rows, depth_cells};
 
-use crate::block::{Block, write_whole};
-use crate::fault::{TextFault, Why, WriteFault};
+use crate::fault::{TextFault, Why};
 use crate::fields::{Slot, read_fields, version_of};
 use crate::items::{LineForm, read_line, read_lines};
-use crate::pieces::{put, put_number, put_two};
 use crate::source::Records;
 use csv::ByteRecord;
+use drafts::pieces::{put, put_number, put_two};
+use drafts::{Block, WriteFault, write_whole};
 use edd_check::{Command, MOST_COMMANDS, MOST_DEPTH, RELEASE_LIMIT, ROUND_LIMIT};
 use parts::Repeats;
 use std::alloc::{AllocError, Global};

@@ -4,7 +4,7 @@ ghost use Rattle.std.specs.Prelude.{◌≡◌, ◌≢◌, ◌⊎◌, ◌+◌, �
 ghost use Rattle.std.specs.Str.Parse.{AllDigits, digits_value};
 ghost use Rattle.csv.specs.Records.{fields_of};
 ghost use Rattle.blk_text.specs.Fields.{EachField, IsBlank, IsDirection, IsNumber, IsInRange, IsShaped, IsSized, Lacks, NumberOf, IsWithinSlot, EachNumber, FieldSpells, FieldsSpell, WritesNumber, canonical};
-ghost use Rattle.blk_text.specs.BioRecord.{direction_text};
+ghost use Rattle.blk_bio.specs.Letters.{direction_text};
 ghost use Rattle.blk_text.specs.Tables.{IsTitled, IsVersion};
 ghost use Rattle.blk_text.specs.Words.{StartsWith, HasNoWord};
 

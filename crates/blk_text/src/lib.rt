@@ -1,10 +1,8 @@
 //! The text forms, their readers and writers.
 #![tactic(auto)]
 
-mod block;
 pub mod certificate;
 pub mod commands;
-pub mod draft;
 mod events;
 pub mod fault;
 mod fields;
@@ -13,7 +11,6 @@ mod heads;
 mod items;
 pub mod laws;
 pub mod met;
-mod pieces;
 pub mod proof;
 pub mod script;
 mod setup;
@@ -21,12 +18,10 @@ pub mod source;
 mod titles;
 pub mod trace;
 
-pub use crate::block::write_whole;
 pub use crate::certificate::{Certificate, read_certificate, write_certificate};
 pub use crate::commands::{read_commands, write_commands};
-pub use crate::draft::Draft;
 pub use crate::events::read_trace;
-pub use crate::fault::{TextFault, Why, WriteFault};
+pub use crate::fault::{TextFault, Why};
 pub use crate::met::{MetCertificate, read_met, write_met};
 pub use crate::proof::{Proof, read_proof};
 pub use crate::script::{Line, MAX_ROUNDS, MOST_STEPS, Script, read_script};

@@ -6,7 +6,8 @@ ghost use Rattle.blk_text.specs.Reads.{IsOutside, IsRowOf, IsWrongLine, Reaches}
 ghost use Rattle.blk_text.specs.Tables.{slots_by};
 ghost use Rattle.blk_text.specs.Words.{StartsWith};
 ghost use Rattle.blk_text.specs.Fields.{FieldsSpell};
-ghost use Rattle.blk_text.specs.BioRecord.{bio_row, direction_text};
+ghost use Rattle.blk_text.specs.BioRecord.{bio_row};
+ghost use Rattle.blk_bio.specs.Letters.{direction_text};
 ghost use Rattle.blk_text.specs.Script.{StepStandsIn, word_of, step_cells, step, LineFits, IsScript, SpellsScript, ScriptFault, scripted, script_form};
 ghost use Rattle.blk_bio.specs.declared.limits.TheConstants.{MAX_QUEUES as MOST_QUEUES, MAX_SOFT_QUEUES as MOST_SUBMITTERS};
 ghost use Rattle.blk_text.specs.declared.fields.Slot.TheVariants as slot;
@@ -198,17 +199,6 @@ fn step_of(
     }
 }
 
-/// The direction that a field spells.
-fn parse_direction(field: &[u8]) -> Option<Dir>
-    ensures { IfSome result (λ dir. field.now ≡ direction_text dir) }
-{
-    match field {
-        [b'R'] => Some(Dir::Read),
-        [b'W'] => Some(Dir::Write),
-        _ => None,
-    }
-}
-
 /// The bio of a record that begins with its word, where the record has no fault. Most records of a script spell a
 /// bio, so its fields are read without their slots.
 fn bio_of(form: &StepForm, row: &ByteRecord) -> Option<Bio>
@@ -220,7 +210,7 @@ fn bio_of(form: &StepForm, row: &ByteRecord) -> Option<Bio>
     }
     let submitter = parse_number(field(row, 1))?;
     let serial = parse_number(field(row, 2))?;
-    let dir = parse_direction(field(row, 3))?;
+    let dir = Dir::of_letter(field(row, 3))?;
     let first = parse_number(field(row, 4))?;
     let sectors = parse_number(field(row, 5))?;
     if submitter >= form.submitters {

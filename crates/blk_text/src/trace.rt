@@ -4,33 +4,23 @@ ghost use Rattle.std.specs.Prelude.{◌≡◌, ◌⊎◌, ◌++◌, ◌∷◌, �
 ghost use Rattle.std.specs.Io.KnownBytes.{Appends};
 ghost use Rattle.blk_trace.specs.Events.{bios_of};
 ghost use Rattle.blk_trace.specs.Seen.{happened};
-ghost use Rattle.blk_text.specs.Texts.{rows_text, AppendsPart};
-ghost use Rattle.blk_text.specs.BioRecord.{bio_row, direction_text};
+ghost use Rattle.blk_text.specs.Texts.{rows_text};
+ghost use Rattle.drafts.specs.Parts.{AppendsPart};
+ghost use Rattle.blk_text.specs.BioRecord.{bio_row};
 ghost use Rattle.blk_text.specs.Cells.{IsPlainWord};
-ghost use Rattle.blk_text.specs.Drafts.{drafted};
+ghost use Rattle.drafts.specs.Drafts.{drafted};
 ghost use Rattle.blk_text.specs.SetupRecord.{setup_row, IsWholeSetup};
 ghost use Rattle.blk_text.specs.TraceRecords.{word_row, group_rows, event_rows, title_row, trace_rows, BioFits, EventFits, IsTrace};
 ghost use Rattle.blk_text.specs.TraceForm.{SpellsTrace, SpellsTraceIn};
 ghost use Rattle.blk_text.specs.Versions.{latest};
 
-use crate::block::{Block, write_whole};
-use crate::fault::WriteFault;
-use crate::pieces::{put, put_number, put_two};
 use crate::setup::LATEST;
-use blk_bio::{Bio, Dir, MAX_SEGMENTS};
+use blk_bio::{Bio, MAX_SEGMENTS};
 use blk_trace::{Event, Setup, Trace};
+use drafts::pieces::{put, put_number, put_two};
+use drafts::{Block, WriteFault, write_whole};
 use std::alloc::{AllocError, Allocator, Global};
 use std::io::Write;
-
-/// The letter of a direction.
-fn letter(dir: Dir) -> u8
-    ensures { result ∷ [] ≡ direction_text dir }
-{
-    match dir {
-        Dir::Read => b'R',
-        Dir::Write => b'W',
-    }
-}
 
 /// Adds the record of a bio.
 #[inline]
@@ -43,7 +33,7 @@ fn push_bio(draft: &mut Block, bio: &Bio) -> Result<(), AllocError>
     let buf = &mut draft.block;
     let head = put(b"bio,", buf, start);
     let named = put_two(id.submitter as u64, id.serial, buf, head);
-    let way = put(&[b',', letter(bio.dir()), b','], buf, named);
+    let way = put(&[b',', bio.dir().letter(), b','], buf, named);
     let placed = put_two(bio.first(), bio.sectors(), buf, way);
     draft.at = put(b"\n", buf, placed);
     Ok(())

@@ -3,7 +3,8 @@
 
 use crate::forms::{Form, first_other};
 use blk_bio::BioFault;
-use blk_text::{TextFault, Why, WriteFault};
+use blk_text::{TextFault, Why};
+use drafts::WriteFault;
 
 #[test]
 fn faults_of_a_command_list(rt: HostRuntime) {

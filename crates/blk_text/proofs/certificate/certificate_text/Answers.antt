@@ -6,7 +6,7 @@ use Rattle.blk_text.specs.Tables.{row_by, title_by}
 use Rattle.blk_text.specs.Texts.{rows_text}
 use Rattle.blk_text.proofs.DraftLemmas.{two_first, one_more_at, whole}
 use Rattle.blk_text.proofs.ClaimLaws.{length_zip, paired, rows_are}
-use Rattle.blk_text.specs.Drafts.{drafted}
+use Rattle.drafts.specs.Drafts.{drafted}
 use Rattle.blk_text.proofs.certificate.certificate_text.Goals as goal
 
 pub loop-i-init : goal.loop-i-init

@@ -4,7 +4,7 @@ use Rattle.blk_text.specs.Titles.{counted_cells}
 use Rattle.blk_text.specs.Certificate.{bound_row, served_cells}
 use Rattle.blk_text.specs.Tables.{row_by, title_by}
 use Rattle.blk_text.proofs.DraftLemmas.{IsSoFar}
-use Rattle.blk_text.specs.Drafts.{drafted}
+use Rattle.drafts.specs.Drafts.{drafted}
 use Rattle.blk_text.proofs.certificate.certificate_text.Given as goal
 
 abbrev pub invariant-loop-i : goal.invariant-loop-i

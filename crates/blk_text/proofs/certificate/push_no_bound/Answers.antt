@@ -1,5 +1,6 @@
 use Rattle.std.proofs.Common.{◌∙◌}
-use Rattle.blk_text.proofs.Rows.{added, no_bound_is}
+use Rattle.blk_text.proofs.Rows.{no_bound_is}
+use Rattle.drafts.proofs.Drafts.{added}
 use Rattle.blk_text.proofs.certificate.push_no_bound.Goals as goal
 
 pub returns : goal.returns

@@ -1,5 +1,6 @@
 use Rattle.std.proofs.Common.{◌∙◌}
-use Rattle.blk_text.proofs.Rows.{added, served_is}
+use Rattle.blk_text.proofs.Rows.{served_is}
+use Rattle.drafts.proofs.Drafts.{added}
 use Rattle.blk_text.proofs.certificate.push_served.Goals as goal
 
 pub returns : goal.returns

@@ -1,7 +1,8 @@
 use Rattle.std.proofs.Common.{◌∙◌, ap, arith, w64}
 use Rattle.std.specs.Fmt.{signed_decimal}
 use Rattle.std.proofs.lemmas.Int.{to_z-of_z}
-use Rattle.blk_text.proofs.Rows.{added, bound_is, late_long}
+use Rattle.blk_text.proofs.Rows.{bound_is, late_long}
+use Rattle.drafts.proofs.Drafts.{added}
 use Rattle.blk_text.proofs.certificate.push_some_bound.Goals as goal
 
 pub put-named-requires : goal.put-named-requires

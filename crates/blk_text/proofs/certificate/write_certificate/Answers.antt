@@ -1,7 +1,7 @@
 use Rattle.blk_text.specs.Certificate.{claimed}
 use Rattle.blk_text.proofs.ClaimLaws.{rows_spell}
 use Rattle.std.proofs.Common.{refl}
-use Rattle.blk_text.proofs.Written.{nothing_taken}
+use Rattle.drafts.proofs.Written.{nothing_taken}
 use Rattle.blk_text.proofs.certificate.write_certificate.Goals as goal
 
 pub returns-in-Ok-clause-spells : goal.returns-in-Ok-clause-spells

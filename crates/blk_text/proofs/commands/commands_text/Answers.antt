@@ -4,7 +4,7 @@ use Rattle.blk_text.specs.Tables.{row_by, title_by}
 use Rattle.blk_text.specs.Texts.{rows_text}
 use Rattle.blk_text.proofs.CommandLaws.{rows_are}
 use Rattle.blk_text.proofs.DraftLemmas.{one_first, one_more_at, whole}
-use Rattle.blk_text.specs.Drafts.{drafted}
+use Rattle.drafts.specs.Drafts.{drafted}
 use Rattle.blk_text.proofs.commands.commands_text.Goals as goal
 
 pub loop-i-init : goal.loop-i-init

@@ -2,7 +2,7 @@ use Rattle.std.proofs.Common.{[], ◌∷◌, codes}
 use Rattle.blk_text.specs.Commands.{command_cells, depth_cells}
 use Rattle.blk_text.specs.Tables.{row_by, title_by}
 use Rattle.blk_text.proofs.DraftLemmas.{IsSoFar}
-use Rattle.blk_text.specs.Drafts.{drafted}
+use Rattle.drafts.specs.Drafts.{drafted}
 use Rattle.blk_text.proofs.commands.commands_text.Given as goal
 
 abbrev pub invariant-loop-i : goal.invariant-loop-i

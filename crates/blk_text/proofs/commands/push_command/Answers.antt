@@ -1,5 +1,6 @@
 use Rattle.std.proofs.Common.{◌∙◌}
-use Rattle.blk_text.proofs.Rows.{added, command_is}
+use Rattle.blk_text.proofs.Rows.{command_is}
+use Rattle.drafts.proofs.Drafts.{added}
 use Rattle.blk_text.proofs.commands.push_command.Goals as goal
 
 pub returns : goal.returns

@@ -1,6 +1,6 @@
 use Rattle.blk_text.proofs.CommandLaws.{rows_spell}
 use Rattle.std.proofs.Common.{refl}
-use Rattle.blk_text.proofs.Written.{nothing_taken}
+use Rattle.drafts.proofs.Written.{nothing_taken}
 use Rattle.blk_text.proofs.commands.write_commands.Goals as goal
 
 pub returns-in-Ok-clause-spells : goal.returns-in-Ok-clause-spells

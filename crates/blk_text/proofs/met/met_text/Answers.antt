@@ -1,7 +1,7 @@
 use Rattle.std.proofs.Common.{◌≡◌, ◌∙◌, ◌∷◌, ◌++◌, [], List, ℕ, codes, length, map, ap, sym}
 use Rattle.std.specs.List.{zip}
 use Rattle.blk_text.specs.Certificate.{served_cells}
-use Rattle.blk_text.specs.Drafts.{drafted}
+use Rattle.drafts.specs.Drafts.{drafted}
 use Rattle.blk_text.specs.Met.{met_claimed}
 use Rattle.blk_text.specs.Tables.{row_by, title_by}
 use Rattle.blk_text.specs.Texts.{rows_text}

@@ -1,5 +1,5 @@
 use Rattle.std.proofs.Common.{[], ◌∷◌}
-use Rattle.blk_text.specs.Drafts.{drafted}
+use Rattle.drafts.specs.Drafts.{drafted}
 use Rattle.blk_text.proofs.MetLaws.{window_row}
 use Rattle.blk_text.proofs.DraftLemmas.{IsSoFar}
 use Rattle.blk_text.proofs.met.push_cover.Given as goal

@@ -1,5 +1,6 @@
 use Rattle.std.proofs.Common.{◌∙◌, codes, refl}
-use Rattle.blk_text.proofs.Rows.{added, word_is}
+use Rattle.blk_text.proofs.Rows.{word_is}
+use Rattle.drafts.proofs.Drafts.{added}
 use Rattle.blk_text.proofs.met.push_numbers.Goals as goal
 
 pub returns : goal.returns

@@ -1,6 +1,6 @@
 use Rattle.std.proofs.Common.{◌<◌, [], ◌∷◌, length, arith}
 use Rattle.std.specs.List.{zip}
-use Rattle.blk_text.specs.Drafts.{drafted}
+use Rattle.drafts.specs.Drafts.{drafted}
 use Rattle.blk_text.specs.Certificate.{served_cells}
 use Rattle.blk_text.specs.Tables.{row_by}
 use Rattle.blk_text.proofs.ClaimLaws.{length_zip, paired}

@@ -1,5 +1,6 @@
 use Rattle.std.proofs.Common.{◌∙◌}
-use Rattle.blk_text.proofs.Rows.{added, met_title_is}
+use Rattle.blk_text.proofs.Rows.{met_title_is}
+use Rattle.drafts.proofs.Drafts.{added}
 use Rattle.blk_text.proofs.met.push_title.Goals as goal
 
 pub returns : goal.returns

@@ -1,7 +1,7 @@
 use Rattle.blk_text.specs.Met.{met_claimed}
 use Rattle.blk_text.proofs.MetLaws.{rows_spell}
 use Rattle.std.proofs.Common.{refl}
-use Rattle.blk_text.proofs.Written.{nothing_taken}
+use Rattle.drafts.proofs.Written.{nothing_taken}
 use Rattle.blk_text.proofs.met.write_met.Goals as goal
 
 pub returns-in-Ok-clause-spells : goal.returns-in-Ok-clause-spells

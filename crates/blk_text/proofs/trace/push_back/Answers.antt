@@ -1,5 +1,6 @@
 use Rattle.std.proofs.Common.{◌∙◌}
-use Rattle.blk_text.proofs.Rows.{added, back_is}
+use Rattle.blk_text.proofs.Rows.{back_is}
+use Rattle.drafts.proofs.Drafts.{added}
 use Rattle.blk_text.proofs.trace.push_back.Goals as goal
 
 pub returns : goal.returns

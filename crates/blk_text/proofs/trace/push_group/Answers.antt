@@ -4,7 +4,7 @@ use Rattle.blk_text.specs.TraceRecords.{word_row, BioFits}
 use Rattle.std.proofs.lemmas.List.{take_all}
 use Rattle.blk_text.proofs.TraceLemmas.{one_fits}
 use Rattle.blk_text.proofs.DraftLemmas.{one_more, whole}
-use Rattle.blk_text.specs.Drafts.{drafted}
+use Rattle.drafts.specs.Drafts.{drafted}
 use Rattle.blk_text.proofs.trace.push_group.Goals as goal
 
 pub loop-i-preserved : goal.loop-i-preserved

@@ -3,7 +3,7 @@ use Rattle.std.specs.Prelude.{All}
 use Rattle.blk_text.specs.BioRecord.{bio_row}
 use Rattle.blk_text.specs.TraceRecords.{word_row, BioFits}
 use Rattle.blk_text.proofs.DraftLemmas.{IsSoFar}
-use Rattle.blk_text.specs.Drafts.{drafted}
+use Rattle.drafts.specs.Drafts.{drafted}
 use Rattle.blk_text.proofs.trace.push_group.Given as goal
 
 abbrev pub invariant-loop-i : goal.invariant-loop-i

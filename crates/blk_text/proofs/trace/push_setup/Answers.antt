@@ -1,5 +1,6 @@
 use Rattle.std.proofs.Common.{◌∙◌}
-use Rattle.blk_text.proofs.Rows.{added, setup_is}
+use Rattle.blk_text.proofs.Rows.{setup_is}
+use Rattle.drafts.proofs.Drafts.{added}
 use Rattle.blk_text.proofs.trace.push_setup.Goals as goal
 
 pub returns-clause-text : goal.returns-clause-text

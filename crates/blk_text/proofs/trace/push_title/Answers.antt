@@ -1,5 +1,6 @@
 use Rattle.std.proofs.Common.{◌∙◌}
-use Rattle.blk_text.proofs.Rows.{added, trace_title_is}
+use Rattle.blk_text.proofs.Rows.{trace_title_is}
+use Rattle.drafts.proofs.Drafts.{added}
 use Rattle.blk_text.proofs.trace.push_title.Goals as goal
 
 pub returns : goal.returns

@@ -5,7 +5,7 @@ use Rattle.blk_text.specs.TraceRecords.{event_rows, title_row, EventFits}
 use Rattle.blk_text.proofs.DraftLemmas.{one_more, two_first}
 use Rattle.std.proofs.lemmas.List.Elements.{All-nil}
 use Rattle.blk_text.proofs.TraceLemmas.{all_events, few_at, one_fits, all_fit, if_ok}
-use Rattle.blk_text.specs.Drafts.{drafted}
+use Rattle.drafts.specs.Drafts.{drafted}
 use Rattle.blk_text.proofs.trace.trace_text.Goals as goal
 
 pub loop-i-init : goal.loop-i-init

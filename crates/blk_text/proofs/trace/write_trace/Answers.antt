@@ -2,7 +2,7 @@ use Rattle.blk_text.specs.Versions.{latest}
 use Rattle.blk_text.proofs.TraceLaws.{rows_spell}
 use Rattle.blk_text.proofs.TraceLemmas.{if_ok}
 use Rattle.std.proofs.Common.{refl, inr}
-use Rattle.blk_text.proofs.Written.{nothing_taken}
+use Rattle.drafts.proofs.Written.{nothing_taken}
 use Rattle.blk_text.proofs.trace.write_trace.Goals as goal
 
 pub returns-in-Ok-clause-spells : goal.returns-in-Ok-clause-spells

@@ -1,6 +1,0 @@
-use Rattle.blk_cli.specs.Line.{tuning}
-use Rattle.blk_cli.proofs.Lines.{of_known}
-use Rattle.blk_cli.proofs.words.compare_command.Goals as goal
-
-pub returns-clause-app : goal.returns-clause-app
-returns-clause-app c = of_known _ tuning _ _ c.plain_command-compare.ensures.app c.with_tuning.ensures.app

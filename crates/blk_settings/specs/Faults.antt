@@ -1,0 +1,27 @@
+-- Why a load fails, and which of several reasons is told.
+use Rattle.std.specs.Prelude.{ℕ, ◌≡◌, ◌≤◌, ◌⊎◌, Option, None, Some, IfSome, Result, Ok, Err}
+use Rattle.blk_settings.specs.declared.fault.LoadFault.{LoadFault}
+use Rattle.blk_settings.specs.declared.fault.LoadFault.TheVariants as fault
+
+-- the place of a fault in their order
+abbrev pub rank : LoadFault → ℕ
+rank fault.Range = 0
+rank fault.Memory = 1
+rank fault.TraceFull = 2
+rank fault.Repeated = 3
+rank fault.Stalled = 4
+rank fault.SeatMissing = 5
+rank fault.Differs = 6
+
+-- the first of two, where there are some: it is one of them, and neither comes before it
+pub record IsFirstOf (one other found : Option LoadFault) : Type 0 where
+  pub among : (found ≡ one) ⊎ (found ≡ other)
+  pub none : found ≡ None → (one ≡ None) × (other ≡ None)
+  pub before_one : IfSome found (λ f. IfSome one (λ a. rank f ≤ rank a))
+  pub before_other : IfSome found (λ f. IfSome other (λ b. rank f ≤ rank b))
+
+-- what is told of a load: what it came to where its threads met no fault and it could be settled, and else the first of the faults
+abbrev pub IsTold : {V : Type 0} → Option LoadFault → Result V LoadFault → Result V LoadFault → Type 0
+IsTold fault settled (Ok v) = (fault ≡ None) × (settled ≡ Ok v)
+IsTold fault (Ok v) (Err told) = fault ≡ Some told
+IsTold fault (Err why) (Err told) = IsFirstOf fault (Some why) (Some told)

@@ -1,0 +1,35 @@
+-- Of which settings a scheduler is made, and why it isn't.
+use Rattle.std.specs.Prelude.{◌≡◌, ◌<◌, ◌⊎◌, ⊤}
+use Rattle.blk_sched.specs.declared.SchedFault.{SchedFault}
+use Rattle.blk_sched.specs.declared.SchedFault.TheVariants as setting
+use Rattle.blk_settings.specs.declared.sched.Sched.{Sched}
+use Rattle.blk_settings.specs.declared.sched.Sched.TheVariants as sched
+use Rattle.blk_settings.specs.declared.Unsettled.{Unsettled}
+use Rattle.blk_settings.specs.declared.Unsettled.TheVariants as un
+
+-- a scheduler is made of these settings: a batch is of some request, a target of some round
+abbrev pub IsMade : Sched → Type 0
+IsMade sched.None = ⊤
+IsMade (sched.Deadline t) = 0 < t.fifo_batch
+IsMade (sched.Kyber t) = (0 < t.read) × (0 < t.write)
+
+-- it isn't made: for a batch of no request, for a target of no round, or for want of memory
+abbrev pub HasZeroBatch : Sched → Type 0
+HasZeroBatch sched.None = ⊥
+HasZeroBatch (sched.Deadline t) = t.fifo_batch ≡ 0
+HasZeroBatch (sched.Kyber t) = ⊥
+
+abbrev pub HasZeroTarget : Sched → Type 0
+HasZeroTarget sched.None = ⊥
+HasZeroTarget (sched.Deadline t) = ⊥
+HasZeroTarget (sched.Kyber t) = (t.read ≡ 0) ⊎ (t.write ≡ 0)
+
+abbrev pub IsUnmade : Sched → SchedFault → Type 0
+IsUnmade s setting.ZeroBatch = HasZeroBatch s
+IsUnmade s setting.ZeroTarget = HasZeroTarget s
+IsUnmade s setting.Memory = ⊤
+
+-- why a load under a scheduler came to nothing: it isn't made, or the load failed
+abbrev pub IsUnsettled : Sched → Unsettled → Type 0
+IsUnsettled s (un.Sched f) = IsUnmade s f
+IsUnsettled s (un.Load f) = ⊤

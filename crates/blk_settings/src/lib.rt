@@ -1,0 +1,62 @@
+//! What a person sets: a scheduler with its settings, and how much load there is on a running layer; beside it what came of a load, why
+//! it fails, and the trait of whoever runs one. Who asks for a load so stands on no layer and no threads.
+#![tactic(auto)]
+
+ghost use Rattle.std.specs.Prelude.{◌≡◌, ◌+◌, IfOk, OnOk, IfErr};
+ghost use denote.Param.Send.{IsSync};
+ghost use Rattle.blk_settings.specs.Numbers.{IsLoad};
+ghost use Rattle.blk_settings.specs.Made.{IsUnsettled};
+
+pub mod fault;
+pub mod numbers;
+pub mod sched;
+
+pub use crate::fault::LoadFault;
+pub use crate::numbers::Load;
+pub use crate::sched::Sched;
+use blk_sched::SchedFault;
+use std::alloc::Global;
+use std::sync::Wait;
+use std::thread::Threads;
+
+/// What came of a load, in bios.
+#[derive(Clone, Copy, Debug, PartialEq, Eq)]
+pub struct Settled {
+    /// How many bios were accepted.
+    pub accepted: u64,
+    /// How many bios the commands have that are done.
+    pub served: u64,
+    /// How many bios still wait.
+    pub left: u64,
+}
+
+/// Why a load came to nothing.
+#[derive(Clone, Copy, Debug, PartialEq, Eq)]
+pub enum Unsettled {
+    /// The scheduler is not made of its settings.
+    Sched(SchedFault),
+    /// The load fails.
+    Load(LoadFault),
+}
+
+/// Whoever runs loads.
+pub trait Loads {
+    /// Runs a load over a layer of this scheduler, and settles its account.
+    ///
+    /// Refused, by the first of these that applies: as `Range` where a number of the load is out of its range; as the scheduler is
+    /// where it isn't made of its settings; as `Memory`; as `TraceFull` where a worker is refused so; as `Repeated` where a submitter
+    /// or a worker is; as `Stalled` where one used up its turns; and as `SeatMissing` or `Differs` where the layer's accounts can't be
+    /// settled.
+    fn run<R: Threads + Wait + Sync>(
+        &self,
+        rt: &R,
+        alloc: Global,
+        sched: Sched,
+        load: Load,
+    ) -> Result<Settled, Unsettled>
+        // any thread may use the runtime
+        requires shared { IsSync R.row }
+        ensures range { OnOk result (IsLoad load) }
+        ensures settled { IfOk result (λ s. s.accepted ≡ s.served + s.left) }
+        ensures unsettled { IfErr result (IsUnsettled sched) };
+}

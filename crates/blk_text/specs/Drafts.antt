@@ -1,7 +1,0 @@
--- The bytes of a text that is being made.
-use Rattle.std.specs.Prelude.{ℕ, List, ◌++◌, take}
-use Rattle.blk_text.specs.declared.block.Block.{Block}
-
--- those that have joined the text, and those of the block up to its place
-abbrev pub drafted : Block → List ℕ
-drafted d = d.text.items ++ take d.at d.block

@@ -1,0 +1,174 @@
+-- What the command line reads of words.
+use Rattle.std.proofs.Common.{◌≡◌, ◌∙◌, List, [], Some, None, Option, box_value, option_map, ap, sym, subst, refl, codes, true, false, inl, inr, ℕ, suc, ◌<◌, ◌^◌, arith}
+use Rattle.std.specs.Prelude.{◌≢◌, Bool, Result, Ok, Err, IfOk, option_and_then, if◌then◌else◌}
+use Rattle.std.specs.Option.{option_map_or}
+use Rattle.std.specs.Str.{bytes_eq}
+use Rattle.std.specs.Str.Parse.{IsNumeral, ParsesUnsigned, digits_value, without_leading_plus}
+use Rattle.clap.specs.ValueTests.{accepts}
+use Rattle.clap.proofs.ValueTestLemmas.{accepts-Accepts, Accepts-accepts}
+use Rattle.clap.specs.declared.builder.value_parser.ValueParser.TheVariants as vp
+use Rattle.clap.proofs.WalkLemmas.{first_value-rows, one_text-rows}
+use Rattle.clap.specs.declared.parser.matches.Found.{Found}
+use Rattle.clap.specs.Words.{App, Rule, Row, Text, with_rule, with_subcommand, ReadsOne, one_of, one_text, first_value, IsAmong, HasKind, subcommand_rows_of, subcommand_of, subcommand_name_of, is_simple, is_simple_and_free, fault_of, kind_of, rows_of, found_of, HasMatchesOf, app_of}
+use Rattle.clap.specs.declared.builder.command.Command.{Command}
+use Rattle.clap.specs.declared.parser.matches.ArgMatches.{ArgMatches}
+use Rattle.clap.specs.declared.parser.matches.ArgMatches.TheViews.{out-ArgMatches, out-SubCommand}
+use Rattle.clap.specs.declared.error.Error.{Error}
+use Rattle.clap.specs.declared.error.kind.ErrorKind.{ErrorKind}
+use Rattle.clap.specs.declared.error.kind.ErrorKind.TheVariants as kind
+use Rattle.blk_deadline.specs.declared.Tunables.{Tunables}
+use Rattle.blk_kyber.specs.declared.Targets.{Targets}
+use Rattle.blk_settings.specs.declared.sched.Sched.{Sched}
+use Rattle.blk_settings.specs.declared.sched.Sched.TheVariants as sched
+use Rattle.blk_words.specs.Line.{Names, AreSchedulers, blk_app}
+use Rattle.blk_words.specs.declared.words.Job.{Job}
+use Rattle.blk_words.specs.declared.words.Job.TheVariants as job
+use Rattle.blk_words.specs.Asked.{Asks, AreRefused, number_in, is_flagged, tunables_of, targets_of, sched_named, sched_of, job_of, job_read}
+
+simple : (names : Names) → is_simple (blk_app names) ≡ true
+simple names = refl
+
+free : (names : Names) → is_simple_and_free (blk_app names) ≡ true
+free names = refl
+
+go : {X : Type 0} (f : X → Text) (g : X → List Row) (o : Option X) → option_map f o ≡ option_map (λ (p : Text × List Row). p.0) (option_map (λ x. (f x, g x)) o)
+go f g None = refl
+go f g (Some x) = refl
+
+named : (m : ArgMatches) → subcommand_name_of m ≡ option_map (λ p. p.0) (subcommand_rows_of m)
+named m = go (λ b. (out-SubCommand (box_value b)).name.now) (λ b. rows_of (found_of (out-SubCommand (box_value b)).matches)) (out-ArgMatches m).subcommand
+
+both : (o : Option (Text × List Row)) (name : Text) (rows : List Row) → Some name ≡ option_map (λ p. p.0) o → Some rows ≡ option_map (λ p. p.1) o → o ≡ Some (name, rows)
+both None name rows e f = cc e
+both (Some p) name rows e f = let a : name ≡ p.0 = cc e in let b : rows ≡ p.1 = cc f in rw (a, b) refl
+
+neither : (o : Option (Text × List Row)) → None ≡ option_map (λ p. p.0) o → o ≡ None
+neither None e = refl
+neither (Some p) e = cc e
+
+-- the subcommand that was read, by its name and its rows; and where there is none
+pub subcommand_read : (m : ArgMatches) (name : Text) (rows : List Row) → Some name ≡ subcommand_name_of m → Some rows ≡ option_map (λ p. p.1) (subcommand_rows_of m) → subcommand_rows_of m ≡ Some (name, rows)
+subcommand_read m name rows e f = both (subcommand_rows_of m) name rows (e ∙ named m) f
+
+pub nothing_read : (m : ArgMatches) → None ≡ subcommand_name_of m → subcommand_rows_of m ≡ None
+nothing_read m e = neither (subcommand_rows_of m) (e ∙ named m)
+
+-- words that were parsed ask for the job that they name, and are refused where they name none
+pub asks_by : (names : Names) (a : App) (words : List Text) (m : ArgMatches) (j : Job) → AreSchedulers names → a ≡ blk_app names → HasMatchesOf a words m
+    → (is_simple_and_free a ≡ true → fault_of a words ≡ []) → Some j ≡ option_and_then job_of (subcommand_rows_of m) → Asks words j
+asks_by names a words m j are e has kinds is =
+    let h = (rw e at has) (simple names) in
+    let f : fault_of (blk_app names) words ≡ [] = (rw e at kinds) (free names) in
+    let read : option_and_then job_of (subcommand_rows_of m) ≡ job_read (blk_app names) words = ap (option_and_then job_of) {y = subcommand_of (blk_app names) words} h.1 in
+    (names, are, inl (f, sym (is ∙ read)))
+
+pub refused_by : (names : Names) (a : App) (words : List Text) (m : ArgMatches) → AreSchedulers names → a ≡ blk_app names → HasMatchesOf a words m
+    → (is_simple_and_free a ≡ true → fault_of a words ≡ []) → None ≡ option_and_then job_of (subcommand_rows_of m) → AreRefused words
+refused_by names a words m are e has kinds is =
+    let h = (rw e at has) (simple names) in
+    let f : fault_of (blk_app names) words ≡ [] = (rw e at kinds) (free names) in
+    let read : option_and_then job_of (subcommand_rows_of m) ≡ job_read (blk_app names) words = ap (option_and_then job_of) {y = subcommand_of (blk_app names) words} h.1 in
+    (names, are, inr (f, sym (is ∙ read)))
+
+among : (names : Names) (a : App) (words : List Text) (error : Error) (k : ErrorKind) → a ≡ blk_app names → (is_simple_and_free a ≡ true → HasKind (fault_of a words) error)
+    → k ≡ kind_of error → k ≢ kind.OutOfMemory → IsAmong k (fault_of (blk_app names) words)
+among names a words error k e kinds is not =
+    let h = (rw e at kinds) (free names) in
+    elim h [ inl m ↦ absurd (not (is ∙ m)) | inr m ↦ rw is m ]
+
+-- words that were not parsed, since they ask for the version
+pub version_by : (names : Names) (a : App) (words : List Text) (error : Error) → AreSchedulers names → a ≡ blk_app names
+    → (is_simple_and_free a ≡ true → HasKind (fault_of a words) error) → kind.DisplayVersion ≡ kind_of error → Asks words job.Version
+version_by names a words error are e kinds is = (names, are, inr (among names a words error kind.DisplayVersion e kinds is (λ x. cc x), refl))
+
+-- words that were not parsed, for another kind of error than want of memory and no question for the version, are refused
+pub line_by : (names : Names) (a : App) (words : List Text) (error : Error) (k : ErrorKind) → AreSchedulers names → a ≡ blk_app names
+    → (is_simple_and_free a ≡ true → HasKind (fault_of a words) error) → k ≡ kind_of error → k ≢ kind.OutOfMemory → k ≢ kind.DisplayVersion → AreRefused words
+line_by names a words error k are e kinds is not other = (names, are, inl (k, among names a words error k e kinds is not, other))
+
+-- the scheduler by the text that its option is given; and where it is given none
+pub sched_by : (f : Found) (name : Text) (s : Option Sched) → Some name ≡ first_value f (codes "sched") → sched_named (rows_of f) name ≡ s → s ≡ sched_of (rows_of f)
+sched_by f name s e is = sym is ∙ ap (option_and_then (sched_named (rows_of f))) (e ∙ first_value-rows f (codes "sched"))
+
+pub no_sched_by : (f : Found) → None ≡ first_value f (codes "sched") → None ≡ sched_of (rows_of f)
+no_sched_by f e = ap (option_and_then (sched_named (rows_of f))) (e ∙ first_value-rows f (codes "sched"))
+
+-- the flag by the text that is given
+pub flagged_by : (f : Found) (id text : Text) (b : Bool) → Some text ≡ first_value f id → b ≡ bytes_eq text (codes "true") → b ≡ is_flagged id (rows_of f)
+flagged_by f id text b e is = is ∙ ap (λ (o : Option Text). option_map_or (λ t. bytes_eq t (codes "true")) o false) (e ∙ first_value-rows f id)
+
+pub not_flagged_by : (f : Found) (id : Text) → None ≡ first_value f id → false ≡ is_flagged id (rows_of f)
+not_flagged_by f id e = ap (λ (o : Option Text). option_map_or (λ t. bytes_eq t (codes "true")) o false) (e ∙ first_value-rows f id)
+
+-- the greatest number of so many bits
+abbrev IsGreatest : ℕ → ℕ → Type 0
+IsGreatest bits most = (suc most ≡ 2 ^ bits) × (most < 2 ^ 64)
+
+-- a text that parses as a number of so many bits, and one that does not
+abbrev Parses : ℕ → Text → Type 0
+Parses bits text = IsNumeral 10 (without_leading_plus text) × (digits_value 10 (without_leading_plus text) < 2 ^ bits)
+
+number_parsed : (bits most : ℕ) → IsGreatest bits most → (text : Text) (n : ℕ) → Parses bits text → n ≡ digits_value 10 (without_leading_plus text) → number_in most text ≡ Some n
+number_parsed bits most g text n p is =
+    let below : digits_value 10 (without_leading_plus text) < suc most = subst (λ x. digits_value 10 (without_leading_plus text) < x) (sym g.0) p.1 in
+    let t : accepts false (vp.Unsigned 0 most) text ≡ true = Accepts-accepts false (vp.Unsigned 0 most) text (p.0, omega (arith, g.1), omega arith, omega arith) in
+    ap (λ (b : Bool). if b then Some (digits_value 10 (without_leading_plus text)) else None) t ∙ ap (λ (m : ℕ). Some m) (sym is)
+
+not_accepted : (bits most : ℕ) → IsGreatest bits most → (text : Text) (b : Bool) → accepts false (vp.Unsigned 0 most) text ≡ b → (Parses bits text → ⊥) → b ≡ false
+not_accepted bits most g text false e wrong = refl
+not_accepted bits most g text true e wrong =
+    let a = accepts-Accepts false (vp.Unsigned 0 most) text e in
+    let below : digits_value 10 (without_leading_plus text) < suc most = omega (arith, a.3) in
+    absurd (wrong (a.0, subst (λ x. digits_value 10 (without_leading_plus text) < x) g.0 below))
+
+number_unparsed : (bits most : ℕ) → IsGreatest bits most → (text : Text) → (Parses bits text → ⊥) → number_in most text ≡ None
+number_unparsed bits most g text wrong =
+    ap (λ (b : Bool). if b then Some (digits_value 10 (without_leading_plus text)) else None) (not_accepted bits most g text _ refl wrong)
+
+-- what a reader of numbers of so many bits gives for the text of an option
+read_number : (bits most : ℕ) → IsGreatest bits most → {E : Type 0} (gives : Text → Result ℕ E → Type 0) → ((t : Text) (q : Result ℕ E) → gives t q → ParsesUnsigned bits 10 t q) → (o : Option Text) (r : Option ℕ)
+    → (o ≡ None → r ≡ None) → ((t : Text) → o ≡ Some t → ReadsOne gives t r) → r ≡ option_and_then (number_in most) o
+read_number bits most g gives w None r none value = none refl
+read_number bits most g gives w (Some t) None none value = let h = value t refl in sym (number_unparsed bits most g t (w t (Err h.0) h.1))
+read_number bits most g gives w (Some t) (Some n) none value = let h = w t (Ok n) (value t refl) in sym (number_parsed bits most g t n h.0 h.1)
+
+pub number_by : (bits most : ℕ) → IsGreatest bits most → {E : Type 0} (gives : Text → Result ℕ E → Type 0) → ((t : Text) (q : Result ℕ E) → gives t q → ParsesUnsigned bits 10 t q) → (f : Found) (id : Text) (r : Option ℕ)
+    → (one_text f id ≡ None → r ≡ None) → ((t : Text) → one_text f id ≡ Some t → ReadsOne gives t r) → r ≡ option_and_then (number_in most) (one_of id (rows_of f))
+number_by bits most g gives w f id r none value = read_number bits most g gives w (one_text f id) r none value ∙ ap (option_and_then (number_in most)) (one_text-rows f id)
+
+-- the scheduler of a name, by which of the names it is
+abbrev none_or : Bool → Option Sched → Option Sched
+none_or is other = if is then Some sched.None else other
+
+abbrev deadline_or : Bool → Option Tunables → Option Sched → Option Sched
+deadline_or is o other = if is then option_map sched.Deadline o else other
+
+abbrev kyber_or : Bool → Option Targets → Option Sched
+kyber_or is o = if is then option_map sched.Kyber o else None
+
+by_name : (rows : List Row) (name : Text) (a b d : Bool) → bytes_eq name (codes "none") ≡ a → bytes_eq name (codes "deadline") ≡ b → bytes_eq name (codes "kyber") ≡ d
+    → sched_named rows name ≡ none_or a (deadline_or b (tunables_of rows) (kyber_or d (targets_of rows)))
+by_name rows name a b d e f g = rw (e, f, g) refl
+
+pub deadline_named : (rows : List Row) (name : Text) (o : Option Tunables) → bytes_eq name (codes "none") ≡ false → bytes_eq name (codes "deadline") ≡ true
+    → o ≡ tunables_of rows → sched_named rows name ≡ option_map sched.Deadline o
+deadline_named rows name o other is given = by_name rows name _ _ _ other is refl ∙ ap (option_map sched.Deadline) (sym given)
+
+pub kyber_named : (rows : List Row) (name : Text) (o : Option Targets) → bytes_eq name (codes "none") ≡ false → bytes_eq name (codes "deadline") ≡ false → bytes_eq name (codes "kyber") ≡ true
+    → o ≡ targets_of rows → sched_named rows name ≡ option_map sched.Kyber o
+kyber_named rows name o other another is given = by_name rows name _ _ _ other another is ∙ ap (option_map sched.Kyber) (sym given)
+
+pub unnamed : (rows : List Row) (name : Text) → bytes_eq name (codes "none") ≡ false → bytes_eq name (codes "deadline") ≡ false → bytes_eq name (codes "kyber") ≡ false → sched_named rows name ≡ None
+unnamed rows name other another third = by_name rows name _ _ _ other another third
+
+-- a command with one subcommand more
+pub adds_command : (x a b p q : App) → x ≡ with_subcommand a p.top → a ≡ b → p ≡ q → x ≡ with_subcommand b q.top
+adds_command x a b p q e f g = e ∙ ap (λ (y : App). with_subcommand y p.top) f ∙ ap (λ (r : App). with_subcommand b r.top) g
+
+-- a command with one rule more
+pub adds_rule : (x a b : App) (p q : Rule) → x ≡ with_rule a p → a ≡ b → p ≡ q → x ≡ with_rule b q
+adds_rule x a b p q e f g = e ∙ ap (λ (y : App). with_rule y p) f ∙ ap (λ (r : Rule). with_rule b r) g
+
+-- a command that a call made of another one, of which more is known; and with the names of the schedulers
+pub of_known : {E : Type 0} (r : Result Command E) (f : App → App) (a b : App) → a ≡ b → IfOk r (λ c. app_of c ≡ f a) → IfOk r (λ c. app_of c ≡ f b)
+of_known r f a b e h = subst (λ (x : App). IfOk r (λ c. app_of c ≡ f x)) e h

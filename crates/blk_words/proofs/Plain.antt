@@ -1,0 +1,138 @@
+-- What the command line reads of words that are written out.
+use Rattle.std.proofs.Common.{◌≡◌, ◌∙◌, ◌∷◌, [], ℕ, List, Some, None, map, sym, refl, subst, codes, true, inl, inr}
+use Rattle.std.specs.Prelude.{◌↔◌}
+use Rattle.std.specs.Borrow.{Bor}
+use Rattle.clap.specs.Words.{Text, fault_of}
+use Rattle.clap.proofs.OnLiterals.{clap_on_literals}
+use Rattle.blk_settings.specs.declared.sched.Sched.TheVariants as sched
+use Rattle.blk_words.specs.declared.words.Job.{Job}
+use Rattle.blk_words.specs.declared.words.Job.TheVariants as job
+use Rattle.blk_words.specs.Line.{Names, AreSchedulers, blk_app}
+use Rattle.blk_words.specs.Asked.{Asks, job_read}
+
+-- the names of the schedulers, at some places
+abbrev at_places : ℕ × ℕ → ℕ × ℕ → ℕ × ℕ → ℕ × ℕ → Names
+at_places p q r s =
+    record { ref_ptr = p; now = record { ref_ptr = q; now = codes "none" } ∷ record { ref_ptr = r; now = codes "deadline" } ∷ record { ref_ptr = s; now = codes "kyber" } ∷ [] }
+
+go : (P : Names → Type 0) → ((p q r s : ℕ × ℕ) → P (at_places p q r s)) → (p : ℕ × ℕ) (xs : List (Bor Text)) → map (λ (x : Bor Text). x.now) xs ≡ codes "none" ∷ codes "deadline" ∷ codes "kyber" ∷ []
+    → P (record { ref_ptr = p; now = xs })
+go P h p [] e = cc e
+go P h p (a ∷ []) e = cc e
+go P h p (a ∷ b ∷ []) e = cc e
+go P h p (a ∷ b ∷ c ∷ d ∷ xs) e = cc e
+go P h p (a ∷ b ∷ c ∷ []) e =
+    let ea : a.now ≡ codes "none" = cc e in
+    let eb : b.now ≡ codes "deadline" = cc e in
+    let ec : c.now ≡ codes "kyber" = cc e in
+    let A : Text → Type 0 = λ t. P (record { ref_ptr = p; now = record { ref_ptr = a.ref_ptr; now = t } ∷ b ∷ c ∷ [] }) in
+    let B : Text → Type 0 = λ t. P (record { ref_ptr = p; now = record { ref_ptr = a.ref_ptr; now = codes "none" } ∷ record { ref_ptr = b.ref_ptr; now = t } ∷ c ∷ [] }) in
+    let C : Text → Type 0 = λ t. P (record { ref_ptr = p; now = record { ref_ptr = a.ref_ptr; now = codes "none" } ∷ record { ref_ptr = b.ref_ptr; now = codes "deadline" } ∷ record { ref_ptr = c.ref_ptr; now = t } ∷ [] }) in
+    subst A (sym ea) (subst B (sym eb) (subst C (sym ec) (h p a.ref_ptr b.ref_ptr c.ref_ptr)))
+
+-- what holds of them there holds of them all
+any_names : (P : Names → Type 0) → ((p q r s : ℕ × ℕ) → P (at_places p q r s)) → (names : Names) → AreSchedulers names → P names
+any_names P h names are = go P h names.ref_ptr names.now are
+
+-- a line is read as a job, whatever the places
+abbrev pub IsReadAs : List Text → Job → Names → Type 0
+IsReadAs words j names = (fault_of (blk_app names) words ≡ []) × (job_read (blk_app names) words ≡ Some j)
+
+-- then it asks for that job alone
+pub asks_alone : (words : List Text) (k : Job) → ((p q r s : ℕ × ℕ) → IsReadAs words k (at_places p q r s)) → (j : Job) → Asks words j ↔ (j ≡ k)
+asks_alone words k h j = (
+  λ a. let g = any_names (IsReadAs words k) h a.0 a.1 in
+      elim a.2 [ inl x ↦ let e : Some j ≡ Some k = sym x.1 ∙ g.1 in cc e | inr x ↦ absurd (rw g.0 at x.0) ],
+  λ e. let z : ℕ × ℕ = (0, 0) in let g = h z z z z in (at_places z z z z, refl, inl (g.0, rw e g.1)),
+)
+
+-- a line is read as no job, whatever the places; then it asks for none
+abbrev pub IsReadAsNothing : List Text → Names → Type 0
+IsReadAsNothing words names = (fault_of (blk_app names) words ≡ []) × (job_read (blk_app names) words ≡ None)
+
+pub asks_nothing : (words : List Text) → ((p q r s : ℕ × ℕ) → IsReadAsNothing words (at_places p q r s)) → (j : Job) → Asks words j → ⊥
+asks_nothing words h j a =
+    let g = any_names (IsReadAsNothing words) h a.0 a.1 in
+    elim a.2 [ inl x ↦ let e : Some j ≡ None = sym x.1 ∙ g.1 in cc e | inr x ↦ absurd (rw g.0 at x.0) ]
+
+pub load_line : (name : Text) (p q r s : ℕ × ℕ) → IsReadAs (name ∷ codes "load" ∷ []) (job.Load sched.None (record { submitters = 2; workers = 2; bios = 1000; depth = 8; busy = None })) (at_places p q r s)
+unfolding clap_on_literals
+load_line name p q r s = (refl, refl)
+
+pub busy_line : (name : Text) (p q r s : ℕ × ℕ) → IsReadAs (name ∷ codes "load" ∷ codes "--busy" ∷ codes "3" ∷ []) (job.Load sched.None (record { submitters = 2; workers = 2; bios = 1000; depth = 8; busy = Some 3 })) (at_places p q r s)
+unfolding clap_on_literals
+busy_line name p q r s = (refl, refl)
+
+pub sim_line : (name : Text) (p q r s : ℕ × ℕ) → IsReadAs (name ∷ codes "sim" ∷ []) (job.Sim sched.None) (at_places p q r s)
+unfolding clap_on_literals
+sim_line name p q r s = (refl, refl)
+
+pub none_line : (name : Text) (p q r s : ℕ × ℕ) → IsReadAs (name ∷ codes "sim" ∷ codes "--sched" ∷ codes "none" ∷ []) (job.Sim sched.None) (at_places p q r s)
+unfolding clap_on_literals
+none_line name p q r s = (refl, refl)
+
+pub deadline_line : (name : Text) (p q r s : ℕ × ℕ) → IsReadAs (name ∷ codes "sim" ∷ codes "--sched" ∷ codes "deadline" ∷ []) (job.Sim (sched.Deadline (record { fifo_batch = 16; writes_starved = 2; front_merges = true }))) (at_places p q r s)
+unfolding clap_on_literals
+deadline_line name p q r s = (refl, refl)
+
+pub kyber_line : (name : Text) (p q r s : ℕ × ℕ) → IsReadAs (name ∷ codes "sim" ∷ codes "--sched" ∷ codes "kyber" ∷ []) (job.Sim (sched.Kyber (record { read = 2; write = 10 }))) (at_places p q r s)
+unfolding clap_on_literals
+kyber_line name p q r s = (refl, refl)
+
+pub batch_line : (name : Text) (p q r s : ℕ × ℕ) → IsReadAs (name ∷ codes "sim" ∷ codes "--sched" ∷ codes "deadline" ∷ codes "--fifo-batch" ∷ codes "1" ∷ []) (job.Sim (sched.Deadline (record { fifo_batch = 1; writes_starved = 2; front_merges = true })))
+    (at_places p q r s)
+unfolding clap_on_literals
+batch_line name p q r s = (refl, refl)
+
+pub target_line : (name : Text) (p q r s : ℕ × ℕ) → IsReadAs (name ∷ codes "sim" ∷ codes "--sched" ∷ codes "kyber" ∷ codes "--read-target" ∷ codes "1000000" ∷ []) (job.Sim (sched.Kyber (record { read = 1_000_000; write = 10 })))
+    (at_places p q r s)
+unfolding clap_on_literals
+target_line name p q r s = (refl, refl)
+
+pub compare_line : (name : Text) (p q r s : ℕ × ℕ) → IsReadAs (name ∷ codes "compare" ∷ []) (job.Compare (record { fifo_batch = 16; writes_starved = 2; front_merges = true }) (record { read = 2; write = 10 })) (at_places p q r s)
+unfolding clap_on_literals
+compare_line name p q r s = (refl, refl)
+
+pub migrate_line : (name : Text) (p q r s : ℕ × ℕ) → IsReadAs (name ∷ codes "migrate" ∷ []) job.Migrate (at_places p q r s)
+unfolding clap_on_literals
+migrate_line name p q r s = (refl, refl)
+
+pub commands_line : (name : Text) (p q r s : ℕ × ℕ) → IsReadAs (name ∷ codes "commands" ∷ []) job.Commands (at_places p q r s)
+unfolding clap_on_literals
+commands_line name p q r s = (refl, refl)
+
+pub late_line : (name : Text) (p q r s : ℕ × ℕ) → IsReadAs (name ∷ codes "late" ∷ []) job.Late (at_places p q r s)
+unfolding clap_on_literals
+late_line name p q r s = (refl, refl)
+
+pub misses_line : (name : Text) (p q r s : ℕ × ℕ) → IsReadAs (name ∷ codes "misses" ∷ []) job.Misses (at_places p q r s)
+unfolding clap_on_literals
+misses_line name p q r s = (refl, refl)
+
+pub spread_line : (name : Text) (p q r s : ℕ × ℕ) → IsReadAs (name ∷ codes "spread" ∷ []) job.Spread (at_places p q r s)
+unfolding clap_on_literals
+spread_line name p q r s = (refl, refl)
+
+pub oracle_line : (name : Text) (p q r s : ℕ × ℕ) → IsReadAs (name ∷ codes "oracle" ∷ []) job.Oracle (at_places p q r s)
+unfolding clap_on_literals
+oracle_line name p q r s = (refl, refl)
+
+pub report_line : (name : Text) (p q r s : ℕ × ℕ) → IsReadAs (name ∷ codes "oracle" ∷ codes "--trace" ∷ []) job.Report (at_places p q r s)
+unfolding clap_on_literals
+report_line name p q r s = (refl, refl)
+
+pub met_line : (name : Text) (p q r s : ℕ × ℕ) → IsReadAs (name ∷ codes "oracle" ∷ codes "--met" ∷ []) job.Met (at_places p q r s)
+unfolding clap_on_literals
+met_line name p q r s = (refl, refl)
+
+pub report_and_met_line : (name : Text) (p q r s : ℕ × ℕ) → IsReadAsNothing (name ∷ codes "oracle" ∷ codes "--trace" ∷ codes "--met" ∷ []) (at_places p q r s)
+unfolding clap_on_literals
+report_and_met_line name p q r s = (refl, refl)
+
+pub check_line : (name : Text) (p q r s : ℕ × ℕ) → IsReadAs (name ∷ codes "check" ∷ []) job.Check (at_places p q r s)
+unfolding clap_on_literals
+check_line name p q r s = (refl, refl)
+
+pub version_line : (name : Text) → Asks (name ∷ codes "--version" ∷ []) job.Version
+unfolding clap_on_literals
+version_line name = let z : ℕ × ℕ = (0, 0) in (at_places z z z z, refl, inr (inl refl, refl))

@@ -1,0 +1,32 @@
+use Rattle.std.proofs.Common.{[], ◌∷◌, None, Some, codes, true}
+use Rattle.blk_settings.specs.declared.sched.Sched.TheVariants as sched
+use Rattle.blk_words.specs.declared.words.Job.TheVariants as job
+use Rattle.blk_words.proofs.Plain.{asks_alone, sim_line, none_line, deadline_line, kyber_line, batch_line, target_line, compare_line, migrate_line, commands_line, late_line, misses_line, spread_line, oracle_line, report_line, met_line, asks_nothing, report_and_met_line, check_line, load_line, busy_line, version_line}
+use Rattle.blk_words.proofs.asking.plain_lines.Goals as goal
+
+pub returns : goal.returns
+returns c = record {
+  sim = λ name. asks_alone (name ∷ codes "sim" ∷ []) (job.Sim sched.None) (sim_line name);
+  none = λ name. asks_alone (name ∷ codes "sim" ∷ codes "--sched" ∷ codes "none" ∷ []) (job.Sim sched.None) (none_line name);
+  deadline = λ name. asks_alone (name ∷ codes "sim" ∷ codes "--sched" ∷ codes "deadline" ∷ [])
+      (job.Sim (sched.Deadline (record { fifo_batch = 16; writes_starved = 2; front_merges = true }))) (deadline_line name);
+  kyber = λ name. asks_alone (name ∷ codes "sim" ∷ codes "--sched" ∷ codes "kyber" ∷ []) (job.Sim (sched.Kyber (record { read = 2; write = 10 }))) (kyber_line name);
+  batch = λ name. asks_alone (name ∷ codes "sim" ∷ codes "--sched" ∷ codes "deadline" ∷ codes "--fifo-batch" ∷ codes "1" ∷ [])
+      (job.Sim (sched.Deadline (record { fifo_batch = 1; writes_starved = 2; front_merges = true }))) (batch_line name);
+  target = λ name. asks_alone (name ∷ codes "sim" ∷ codes "--sched" ∷ codes "kyber" ∷ codes "--read-target" ∷ codes "1000000" ∷ [])
+      (job.Sim (sched.Kyber (record { read = 1_000_000; write = 10 }))) (target_line name);
+  compare = λ name. asks_alone (name ∷ codes "compare" ∷ []) (job.Compare (record { fifo_batch = 16; writes_starved = 2; front_merges = true }) (record { read = 2; write = 10 })) (compare_line name);
+  migrate = λ name. asks_alone (name ∷ codes "migrate" ∷ []) job.Migrate (migrate_line name);
+  commands = λ name. asks_alone (name ∷ codes "commands" ∷ []) job.Commands (commands_line name);
+  late = λ name. asks_alone (name ∷ codes "late" ∷ []) job.Late (late_line name);
+  misses = λ name. asks_alone (name ∷ codes "misses" ∷ []) job.Misses (misses_line name);
+  spread = λ name. asks_alone (name ∷ codes "spread" ∷ []) job.Spread (spread_line name);
+  oracle = λ name. asks_alone (name ∷ codes "oracle" ∷ []) job.Oracle (oracle_line name);
+  report = λ name. asks_alone (name ∷ codes "oracle" ∷ codes "--trace" ∷ []) job.Report (report_line name);
+  met = λ name. asks_alone (name ∷ codes "oracle" ∷ codes "--met" ∷ []) job.Met (met_line name);
+  report_and_met = λ name. asks_nothing (name ∷ codes "oracle" ∷ codes "--trace" ∷ codes "--met" ∷ []) (report_and_met_line name);
+  check = λ name. asks_alone (name ∷ codes "check" ∷ []) job.Check (check_line name);
+  load = λ name. asks_alone (name ∷ codes "load" ∷ []) (job.Load sched.None (record { submitters = 2; workers = 2; bios = 1000; depth = 8; busy = None })) (load_line name);
+  busy = λ name. asks_alone (name ∷ codes "load" ∷ codes "--busy" ∷ codes "3" ∷ []) (job.Load sched.None (record { submitters = 2; workers = 2; bios = 1000; depth = 8; busy = Some 3 })) (busy_line name);
+  version = version_line;
+}

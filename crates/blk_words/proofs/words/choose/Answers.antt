@@ -1,0 +1,30 @@
+use Rattle.std.proofs.Common.{inr}
+use Rattle.blk_words.proofs.Lines.{asks_by, refused_by, line_by, version_by}
+use Rattle.blk_words.proofs.words.choose.Goals as goal
+
+pub returns-in-Ok-try_get_matches_from-clause-refused : goal.returns-in-Ok-try_get_matches_from-clause-refused
+returns-in-Ok-try_get_matches_from-clause-refused c =
+    let e = c.in-Ok.ensures in
+    let m = c.in-Ok-try_get_matches_from in
+    let none = c.in-None.ensures in
+    inr (refused_by e.0 _ _ m.matches e.1 e.2 m.ensures.matches m.ensures.kinds none)
+
+pub returns-in-Some-clause-asked : goal.returns-in-Some-clause-asked
+returns-in-Some-clause-asked c =
+    let e = c.in-Ok.ensures in
+    let m = c.in-Ok-try_get_matches_from in
+    asks_by e.0 _ _ m.matches c.in-Some.job e.1 e.2 m.ensures.matches m.ensures.kinds c.in-Some.ensures
+
+pub returns-in-DisplayVersion-clause-asked : goal.returns-in-DisplayVersion-clause-asked
+returns-in-DisplayVersion-clause-asked c =
+    let e = c.in-Ok.ensures in
+    version_by e.0 _ _ c.in-Err.error e.1 e.2 c.in-Err.ensures.kinds c.in-DisplayVersion.ensures
+
+pub returns-in-Ok-format : goal.returns-in-Ok-format
+returns-in-Ok-format c =
+    let e = c.in-Ok.ensures in
+    let m = c.in-Err.ensures in
+    record {
+      asked = tt;
+      refused = inr (line_by e.0 _ _ c.in-Err.error c.kind.result e.1 e.2 m.kinds c.kind.ensures c.in_default-kind.not-OutOfMemory c.in_default-kind.not-DisplayVersion);
+    }

@@ -1,0 +1,40 @@
+//! Laws of the command line: which jobs plain lines ask for, whatever the program's name.
+
+ghost use Rattle.std.specs.Prelude.{◌≡◌, ◌↔◌, ◌∷◌, [], true, None, Some, codes};
+ghost use Rattle.clap.specs.Words.{Text};
+ghost use Rattle.blk_words.specs.declared.words.Job.{Job as AJob};
+ghost use Rattle.blk_words.specs.Asked.{Asks};
+
+use crate::words::Job;
+use blk_settings::Sched;
+
+/// Each of these lines asks for its job and, all but `--version`, for no other; `oracle --trace --met` asks for none.
+pub fn plain_lines()
+    ensures sim { (name : Text) → (j : AJob) → Asks (name ∷ codes "sim" ∷ []) j ↔ (j ≡ Job.Sim Sched.None) }
+    ensures none { (name : Text) → (j : AJob) → Asks (name ∷ codes "sim" ∷ codes "--sched" ∷ codes "none" ∷ []) j ↔ (j ≡ Job.Sim Sched.None) }
+    ensures deadline { (name : Text) → (j : AJob) → Asks (name ∷ codes "sim" ∷ codes "--sched" ∷ codes "deadline" ∷ []) j
+        ↔ (j ≡ Job.Sim (Sched.Deadline (record { fifo_batch = 16; writes_starved = 2; front_merges = true }))) }
+    ensures kyber { (name : Text) → (j : AJob) → Asks (name ∷ codes "sim" ∷ codes "--sched" ∷ codes "kyber" ∷ []) j
+        ↔ (j ≡ Job.Sim (Sched.Kyber (record { read = 2; write = 10 }))) }
+    ensures batch { (name : Text) → (j : AJob) → Asks (name ∷ codes "sim" ∷ codes "--sched" ∷ codes "deadline" ∷ codes "--fifo-batch" ∷ codes "1" ∷ []) j
+        ↔ (j ≡ Job.Sim (Sched.Deadline (record { fifo_batch = 1; writes_starved = 2; front_merges = true }))) }
+    ensures target { (name : Text) → (j : AJob) → Asks (name ∷ codes "sim" ∷ codes "--sched" ∷ codes "kyber" ∷ codes "--read-target" ∷ codes "1000000" ∷ []) j
+        ↔ (j ≡ Job.Sim (Sched.Kyber (record { read = 1_000_000; write = 10 }))) }
+    ensures compare { (name : Text) → (j : AJob) → Asks (name ∷ codes "compare" ∷ []) j
+        ↔ (j ≡ Job.Compare (record { fifo_batch = 16; writes_starved = 2; front_merges = true }) (record { read = 2; write = 10 })) }
+    ensures migrate { (name : Text) → (j : AJob) → Asks (name ∷ codes "migrate" ∷ []) j ↔ (j ≡ Job.Migrate) }
+    ensures commands { (name : Text) → (j : AJob) → Asks (name ∷ codes "commands" ∷ []) j ↔ (j ≡ Job.Commands) }
+    ensures late { (name : Text) → (j : AJob) → Asks (name ∷ codes "late" ∷ []) j ↔ (j ≡ Job.Late) }
+    ensures misses { (name : Text) → (j : AJob) → Asks (name ∷ codes "misses" ∷ []) j ↔ (j ≡ Job.Misses) }
+    ensures spread { (name : Text) → (j : AJob) → Asks (name ∷ codes "spread" ∷ []) j ↔ (j ≡ Job.Spread) }
+    ensures oracle { (name : Text) → (j : AJob) → Asks (name ∷ codes "oracle" ∷ []) j ↔ (j ≡ Job.Oracle) }
+    ensures report { (name : Text) → (j : AJob) → Asks (name ∷ codes "oracle" ∷ codes "--trace" ∷ []) j ↔ (j ≡ Job.Report) }
+    ensures met { (name : Text) → (j : AJob) → Asks (name ∷ codes "oracle" ∷ codes "--met" ∷ []) j ↔ (j ≡ Job.Met) }
+    ensures report_and_met { (name : Text) → (j : AJob) → Asks (name ∷ codes "oracle" ∷ codes "--trace" ∷ codes "--met" ∷ []) j → ⊥ }
+    ensures check { (name : Text) → (j : AJob) → Asks (name ∷ codes "check" ∷ []) j ↔ (j ≡ Job.Check) }
+    ensures load { (name : Text) → (j : AJob) → Asks (name ∷ codes "load" ∷ []) j
+        ↔ (j ≡ Job.Load Sched.None (record { submitters = 2; workers = 2; bios = 1000; depth = 8; busy = None })) }
+    ensures busy { (name : Text) → (j : AJob) → Asks (name ∷ codes "load" ∷ codes "--busy" ∷ codes "3" ∷ []) j
+        ↔ (j ≡ Job.Load Sched.None (record { submitters = 2; workers = 2; bios = 1000; depth = 8; busy = Some 3 })) }
+    ensures version { (name : Text) → Asks (name ∷ codes "--version" ∷ []) Job.Version }
+{}

@@ -1,0 +1,8 @@
+//! The words of the command line, and what they ask for. It stands on clap and on plain settings alone, so that what the program does
+//! and what its words are can be proved side by side.
+#![tactic(auto)]
+
+pub mod asking;
+pub mod words;
+
+pub use crate::words::{Job, NoJob, VERSION, choose};

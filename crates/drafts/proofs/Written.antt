@@ -1,0 +1,48 @@
+-- What a writer took of a text.
+use Rattle.std.proofs.Common.{◌≡◌, ◌∙◌, ◌<◌, ◌==◌, false, ℕ, List, [], ◌∷◌, ◌++◌, length, take, drop, sym, ap, subst, arith, append_assoc, append-nil, take-append-drop, Option, Some, None}
+use Rattle.std.proofs.Math.Seq.{take-append_seam}
+use Rattle.std.proofs.lemmas.List.{length-append}
+use Rattle.std.proofs.KnownBytes.{Appends-trans}
+use Rattle.std.specs.Io.KnownBytes.{Appends, Keeps}
+use Rattle.drafts.specs.Parts.{AppendsLess, AppendsPart}
+
+-- nothing more was taken
+pub appends_still : (a b c : Option (List ℕ)) (bs : List ℕ) → Appends a b bs → Keeps b c → Appends a c bs
+appends_still None b c bs p q = tt
+appends_still (Some x) None c bs p q = absurd p
+appends_still (Some x) (Some y) None bs p q = absurd q
+appends_still (Some x) (Some y) (Some z) bs p q = q ∙ p
+
+-- what was taken is a first part
+pub part_taken : (a b : Option (List ℕ)) (all done rest : List ℕ) → all ≡ done ++ rest → Appends a b done → AppendsPart a b all
+part_taken a b all done rest e p = (length done, subst (Appends a b) (sym (ap (take (length done)) e ∙ take-append_seam done rest)) p)
+
+none_taken : (a : Option (List ℕ)) → Appends a a []
+none_taken None = tt
+none_taken (Some x) = sym (append-nil x)
+
+-- nothing was taken
+pub nothing_taken : (a b : Option (List ℕ)) (all : List ℕ) → b ≡ a → AppendsPart a b all
+nothing_taken a b all e = (0, subst (λ z. Appends a z []) (sym e) (none_taken a))
+
+-- the rest is what comes first of it and what is left then
+pub split_at : (all done rest : List ℕ) (n : ℕ) → all ≡ done ++ rest → all ≡ (done ++ take n rest) ++ drop n rest
+split_at all done rest n e = e ∙ ap (λ l. done ++ l) (sym (take-append-drop n rest)) ∙ sym (append_assoc done (take n rest) (drop n rest))
+
+-- a first part of what was left was taken
+pub more_taken : (a b c : Option (List ℕ)) (all done rest : List ℕ) (n : ℕ) → all ≡ done ++ rest → Appends a b done → Appends b c (take n rest) → AppendsPart a c all
+more_taken a b c all done rest n e p q = part_taken a c all (done ++ take n rest) (drop n rest) (split_at all done rest n e) (Appends-trans a b c done (take n rest) p q)
+
+-- a list that is not empty has something
+pub some_left : (rest : List ℕ) → (length rest == 0) ≡ false → 0 < length rest
+some_left [] e = absurd (cc e)
+some_left (x ∷ rest) e = omega arith
+
+-- what was taken is a first part, and something is left
+pub less_taken : (a b : Option (List ℕ)) (all done rest : List ℕ) → all ≡ done ++ rest → 0 < length rest → Appends a b done → AppendsLess a b all
+less_taken a b all done rest e more p =
+    (length done, omega (arith, ap length e, length-append done rest, more), subst (Appends a b) (sym (ap (take (length done)) e ∙ take-append_seam done rest)) p)
+
+-- nothing of what was left was taken
+pub none_more : (a b c : Option (List ℕ)) (done rest : List ℕ) (n : ℕ) → n ≡ 0 → Appends a b done → Appends b c (take n rest) → Appends a c done
+none_more a b c done rest n none p q = subst (Appends a c) (append-nil done) (Appends-trans a b c done [] p (subst (λ k. Appends b c (take k rest)) none q))
