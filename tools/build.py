@@ -1,10 +1,10 @@
 #!/usr/bin/env python3
-"""Proves and compiles the program by rt ci in a copy of its sources. Says before what that takes, and then how far it is.
+"""Proves and compiles the program by rt ci in a copy of its sources. Says before what that takes, then how far it is.
 
-    tools/build.py NAME TREE      NAME stands before each line; TREE is the copy, the top of a repository of the program's crates
+    tools/build.py NAME TREE      NAME stands before each line; TREE is the copy, as tools/program.sh makes it
 
-Ends with 0 where the program was proved, compiled and tried, and lies in the copy; with 3 and a line where it doesn't, or where the
-disk or the memory is too small. What it takes stands in tools/prices.txt.
+Ends with 0 where the program was proved, compiled and tried, and lies in the copy; with 3 and a line where it doesn't,
+or where the disk or the memory is too small. What a build takes stands in tools/prices.txt.
 """
 import os
 import re
@@ -34,8 +34,8 @@ class Fault(Exception):
 def commands(lanes):
     """The commands that build the program, one after the other, each with what it gets beside the environment.
 
-    With RT_JOBS rt takes so many crates side by side, each by one process. Without, it gives a crate up to four where processors
-    are idle, which is sooner over but takes two to three times the processors' time.
+    With RT_JOBS rt takes so many crates side by side, each by one process. Without, it gives a crate up to four where
+    processors are idle, and then a crate is sooner over but takes two to three times the processor time.
     """
     return [(["rt", "ci"], {"RT_JOBS": str(lanes)})]
 
@@ -75,10 +75,10 @@ class Costs:
 
 
 def steps(left, below, lanes, begun=()):
-    """How the crates follow one another that so many seconds are left of, as pairs of a time and those that ran until then.
+    """How crates follow one another of which so many seconds are left: pairs of a time and those that ran until then.
 
-    As many are taken side by side as there are lanes: first those that have begun, and then those with the longest chain of others
-    above them, as rt takes them.
+    As many are taken side by side as there are lanes: first those that have begun, and then those with the longest
+    chain of others above them, as rt takes them.
     """
     behind = dict(left)
     for it in reversed([it for it in below if it in left]):
@@ -131,7 +131,8 @@ def processors():
 def free_memory():
     """The megabytes of memory that can be had, also by the control group's limit."""
     found = [number_in("/proc/meminfo", r"^MemAvailable:\s+(\d+)") // 1024]
-    limit, held = number_in("/sys/fs/cgroup/memory.max", r"^(\d+)"), number_in("/sys/fs/cgroup/memory.stat", r"^anon (\d+)")
+    limit = number_in("/sys/fs/cgroup/memory.max", r"^(\d+)")
+    held = number_in("/sys/fs/cgroup/memory.stat", r"^anon (\d+)")
     if limit and held is not None:
         found.append((limit - held) // 2**20)
     return min(found)
@@ -143,7 +144,7 @@ def free_disk(place):
 
 
 def kept_in():
-    """The folder beside the toolchain in which rt keeps what it proved, and whether it can, which is looked at as rt does."""
+    """The folder beside the toolchain in which rt keeps what it proved, and whether it can; looked at as rt does."""
     page = subprocess.run(["rt", "doc"], stdin=subprocess.DEVNULL, capture_output=True, text=True).stdout.strip()
     store = Path(page).parent.parent / "rattle-kept"
     try:
@@ -176,7 +177,7 @@ def span(seconds):
 
 
 class Progress:
-    """How far a build is: which crates have begun and when, how long those took that were proved, and which were kept."""
+    """How far a build is: which crates have begun and when, how long each took that was proved, and which were kept."""
 
     def __init__(self, costs, lanes):
         self.costs, self.lanes = costs, lanes
@@ -194,8 +195,9 @@ class Progress:
         return (sum(self.took.values()) + TRUSTED) / (priced + TRUSTED)
 
     def left(self, now):
-        """The seconds that each crate will still take that isn't done; one that takes longer than was thought is nearly done."""
-        whole = {it: self.pace() * seconds for it, seconds in self.costs.seconds.items() if not self.is_done(it)}
+        """The seconds that each crate will still take that isn't done."""
+        whole = {it: self.pace() * much for it, much in self.costs.seconds.items() if not self.is_done(it)}
+        # one that takes longer than was thought is nearly done
         return {it: max(much - (now - self.begun.get(it, now)), much / 20) for it, much in whole.items()}
 
     def told(self, now):
@@ -203,7 +205,8 @@ class Progress:
         left = self.left(now)
         share = 1 - sum(left.values()) / self.pace() / sum(self.costs.seconds.values())
         until = time_of(left, self.costs.below, self.lanes, self.begun)
-        return f"{len(self.took) + len(self.kept)} of {len(left) + len(self.took) + len(self.kept)}, {share:.0%} done, {minutes(until)} left"
+        whole = len(self.costs.below)
+        return f"{whole - len(left)} of {whole}, {share:.0%} done, {minutes(until)} left"
 
 
 class Run:
@@ -256,7 +259,7 @@ class Run:
             self.tell(f"proved {crate}")
         elif how == "NOT PROVED":
             self.fail(f"{crate} could not be built")
-        elif line.endswith("; waiting for it"):
+        elif line.endswith("; waiting for it") or re.match("rt: note: .*not kept", line):
             say(line[len("rt: ") :])
 
     def fail(self, why):
@@ -284,15 +287,17 @@ class Run:
 
 def announce(costs, lanes, tree):
     """Says what the build takes, and ends where the disk or the memory is too small for it."""
-    place, memory = tree.parent.parent, free_memory()
-    if free_disk(place) < costs.disk:
-        raise Fault(f"a build takes {costs.disk:,} MB of disk, and {place} has {free_disk(place):,}: TMPDIR can name another folder")
+    place, room, memory = tree.parent.parent, free_disk(tree), free_memory()
+    if room < costs.disk:
+        why = f"a build takes {costs.disk:,} MB of disk, and {place} has {room:,}"
+        raise Fault(f"{why}: TMPDIR can name another folder")
     if memory < costs.largest:
-        raise Fault(f"a build takes {costs.largest:,} MB of memory, and {memory:,} are free")
+        raise Fault(f"a build takes {costs.largest:,} MB of memory for one process, and {memory:,} are free")
+    until = time_of(costs.seconds, costs.below, lanes)
     say("the program isn't built from these sources: proving and compiling it")
     say(
-        f"from nothing that takes {minutes(time_of(costs.seconds, costs.below, lanes))} on {several(lanes, 'processor')},"
-        f" {costs.disk:,} MB of disk in {place} and {costs.peak(lanes):,} MB of memory, {costs.largest:,} of them for one process"
+        f"from nothing that takes {minutes(until)} on {several(lanes, 'processor')}, {costs.disk:,} MB of disk in"
+        f" {place}, and {costs.peak(lanes):,} MB of memory, of which the largest process takes {costs.largest:,}"
     )
 
 
@@ -300,10 +305,10 @@ def look_at_store(costs):
     """Says whether a start that is ended is lost, and returns what is to be said when it is ended."""
     (store, is_usable), wanted = kept_in(), RT_LEAVES + costs.disk
     if not is_usable:
-        say(f"nothing is kept in {store}, where this user can't write: after ^C the next start begins anew")
+        say(f"^C ends it: nothing is kept in {store}, where this user can't write, and the next start begins anew")
         return "ended: nothing of it is kept, and the next start begins anew"
     if free_disk(store if store.is_dir() else store.parent) < wanted:
-        say(f"what is proved may not be kept in {store}, whose disk has less than {wanted:,} MB left: after ^C the next start may begin anew")
+        say(f"^C ends it: {store} keeps less or nothing, since its disk has less than {wanted:,} MB left")
         return "ended: the next start goes on with what could be kept"
     say(f"^C ends it: what was proved until then is kept in {store}, and the next start goes on there")
     return "ended: what was proved until now is kept, and the next start goes on there"

@@ -1,6 +1,6 @@
 # shellcheck shell=bash
-# What ./blk, ./test, ./install and bench/ share: from which sources the program is built, whether it is, how it is built, and how
-# what was started ends. Read by bash with `top`, the repository, and `name`, the command's own name, set.
+# What ./blk, ./test, ./install and bench/ share: from which sources the program is built, whether it is, how it is built,
+# and how what was started ends. Read by bash with `top`, the repository, and `name`, the command's own name, set.
 : "${top:?}" "${name:?}"
 unset CDPATH
 
@@ -62,24 +62,25 @@ end_by() {
   exit 3
 }
 
-# Makes the temporary folder, in which all that is started keeps its files. It gets gigabytes, so it isn't in /tmp by itself, which
-# often lies in memory.
+# Makes the temporary folder, in which all that is started keeps its files. A build writes gigabytes there, so where
+# TMPDIR names no folder it isn't in /tmp, which often lies in memory.
 make_scratch() {
-  local signal place=${TMPDIR:-}
+  local signal place=${TMPDIR:-/var/tmp}
   trap clean EXIT
   for signal in HUP INT QUIT PIPE TERM; do
     # shellcheck disable=SC2064 # the signal's name is to stand in the trap
     trap "end_by $signal" "$signal"
   done
-  if [ -z "$place" ]; then place=/var/tmp; fi
   if [ -z "${TMPDIR:-}" ] && [ ! -w "$place" ]; then place=/tmp; fi
-  scratch=$(cd "$place" 2>/dev/null && mktemp -d "$PWD/blk.XXXXXX" 2>/dev/null) || fail "the temporary folder $place can't be used"
+  scratch=$(cd "$place" 2>/dev/null && mktemp -d "$PWD/blk.XXXXXX" 2>/dev/null) ||
+    fail "the temporary folder $place can't be used"
   # the gate runs programs as nobody, in folders below this one
   chmod 711 "$scratch"
   { printf 'x' >"$scratch/log"; } 2>/dev/null || fail "the temporary folder $place can't be used"
 }
 
-# start FOLDER COMMAND..: runs it there, in a process group of its own, so that all of it can be ended; answers its status.
+# start FOLDER COMMAND..: runs it there, in a process group of its own, so that all of it can be ended; ends with its
+# status.
 start() {
   local status=0
   set -m
@@ -93,8 +94,8 @@ start() {
 
 # --- sources ---
 
-# crates_of NAME: into `crates`, the crates of the repository that it stands on, each after those below it, and then itself; into
-# `lines` what crates.txt says of each.
+# crates_of NAME: into `crates`, the crates of the repository that it stands on, each after those below it, and then
+# itself; into `lines` what crates.txt says of each.
 crates_of() {
   local line word
   local -A needs=() seen=() said=()
@@ -122,32 +123,38 @@ take_crate() {
   lines+=("${said[$1]}")
 }
 
-# find_sources FOLDER [WHAT..] -- HOW..: what find says of each of these and of each source of the program in that folder, a
-# repository or a copy of one: of the program's crates all but what is made of them, the edits that must be refused, and pages. What
-# crates.txt says of the crates is in `lines`. Ends the subshell in which it runs.
+# find_sources [WHAT..] -- HOW..: what find says of each of these and of each source of the program in the folder where
+# this is called, the repository or a copy. Its sources are HANDLES and, of the program's crates, all but what is made
+# of them, the edits that must be refused, and pages. Ends the subshell in which it runs.
 find_sources() {
-  local folder=$1 others=()
-  shift
+  local others=()
   while [ "$1" != -- ]; do
     others+=("$1")
     shift
   done
   shift
   export LC_ALL=C
-  cd -- "$folder" && exec find "${others[@]}" "${crates[@]/#/crates/}" HANDLES -regextype posix-extended \
+  exec find "${others[@]}" "${crates[@]/#/crates/}" HANDLES -regextype posix-extended \
     -regex 'crates/[^/]+/(out|must-fail|wrong)' -prune -o -type f ! -name '*.md' "$@"
 }
 
 # The sources as they lie on the disk: a change of one, also one that is undone, changes the time that is listed.
-list_sources() { find_sources "$top" crates.txt -- -printf '%p %i %s %C@\n' 2>/dev/null; }
+list_sources() (cd -- "$top" && find_sources crates.txt -- -printf '%p %i %s %C@\n' 2>/dev/null)
 
 # The same, after the program itself.
-list_all() { find_sources "$top" crates/blk/out/blk crates.txt -- -printf '%p %i %s %C@ %m\n' 2>/dev/null; }
+list_all() (cd -- "$top" && find_sources crates/blk/out/blk crates.txt -- -printf '%p %i %s %C@ %m\n' 2>/dev/null)
 
-# sums FOLDER: a hash of each source there, by name. The names are those within that folder, so they are read there.
-sums() { find_sources "$1" -- -print0 | LC_ALL=C sort -z | (cd -- "$1" && LC_ALL=C exec xargs -0 sha256sum --); }
+# Whether a source was written within the last two seconds, or that can't be told.
+is_fresh() (
+  cd -- "$top" || exit 0
+  found=$(find_sources crates.txt -- -newerct '2 seconds ago' -print -quit 2>/dev/null) || exit 0
+  [ -n "$found" ]
+)
 
-# hash_sources FOLDER: into `hashed` a hash of all sources there, of their names, of what is in them, and of the lines of crates.txt.
+# sums FOLDER: a hash of each source there, beside its name as it is seen from there.
+sums() (cd -- "$1" && find_sources -- -print0 | LC_ALL=C sort -z | LC_ALL=C xargs -0 sha256sum --)
+
+# hash_sources FOLDER: into `hashed` a hash of all sources there, of their names and of what is in them, and of `lines`.
 hash_sources() {
   local why
   hashed=$({ printf '%s\n' "${lines[@]}" && sums "$1"; } 2>/dev/null | sha256sum) || {
@@ -164,7 +171,8 @@ copy_sources() {
   rm -rf "$1"
   mkdir -p "$1/.git"
   printf '%s\n' "${lines[@]}" >"$1/crates.txt"
-  find_sources "$top" -- -print0 2>/dev/null | (cd -- "$top" && exec xargs -0 cp --parents -t "$1" --) 2>"$scratch/log" || {
+  (cd -- "$top" && find_sources -- -print0 | xargs -0 cp --parents -t "$1" --) 2>"$scratch/log" || {
+    # says which source can't be read, if that is why
     hash_sources "$top"
     fail "the sources can't be copied to ${scratch%/*}: $(head -n 1 "$scratch/log")"
   }
@@ -190,13 +198,13 @@ is_current() {
   keep_stamp "$made" "$listed"
 }
 
-# keep_stamp MADE LISTED: notes that the program with this hash is built from the sources whose hash is in `hashed`. LISTED is what
-# list_all said before they were hashed; what was written just now may be written again within the same tick of the disk's clock, and
-# then no list is noted. Without it, and where nothing can be noted, the next start hashes again.
+# keep_stamp MADE LISTED: notes that the program with this hash is built from the sources whose hash is in `hashed`.
+# LISTED is what list_all said before they were hashed. A source that was written just now may be written again within
+# the same tick of the disk's clock, so then no list is noted. Without one, and where nothing can be noted, the next
+# start hashes again.
 keep_stamp() {
-  local listed=$2 new
-  new=$(find_sources "$top" crates.txt -- -newerct '2 seconds ago' -print -quit 2>/dev/null) || new=some
-  if [ -n "$new" ] || [ "$listed" != "$(list_all)" ]; then listed=; fi
+  local listed=$2
+  if is_fresh || [ "$listed" != "$(list_all)" ]; then listed=; fi
   { printf '%s %s\n%s\n' "$hashed" "$1" "$listed" >"$stamp.$$" && mv -f "$stamp.$$" "$stamp"; } 2>/dev/null ||
     rm -f "$stamp.$$" 2>/dev/null || true
 }
@@ -206,16 +214,19 @@ keep_stamp() {
 # The time since the build began.
 so_far() {
   local seconds=$((SECONDS - began))
-  if [ "$seconds" -lt 60 ]; then printf '%d s' "$seconds"; else printf '%d min %d s' $((seconds / 60)) $((seconds % 60)); fi
+  if [ "$seconds" -ge 60 ]; then printf '%d min ' $((seconds / 60)); fi
+  printf '%d s' $((seconds % 60))
 }
 
-# Ends here, before anything is proved, where the program can't be put into its folder, or python3 or rt isn't there or doesn't work.
+# Ends here, before anything is proved, where the program can't be put into its folder, a crate is missing, or python3
+# or rt isn't there or doesn't work.
 look_at_needs() {
   local crate last
   for crate in "${crates[@]}"; do
     [ -d "$top/crates/$crate" ] || fail "crates.txt lists $crate, and there is no folder crates/$crate"
   done
-  { mkdir -p "${program%/*}" && : >"$program.$$" && rm -f "$program.$$"; } 2>/dev/null || fail "crates/blk/out can't be written"
+  { mkdir -p "${program%/*}" && : >"$program.$$" && rm -f "$program.$$"; } 2>/dev/null ||
+    fail "crates/blk/out can't be written"
   command -v python3 >/dev/null || fail "python3 is not on the path, and rt, which builds the program, needs it"
   command -v rt >/dev/null || fail "rt is not on the path, and it has to build the program"
   start "$top" rt version >"$scratch/log" 2>&1 || {

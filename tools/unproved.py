@@ -3,9 +3,9 @@
 
     tools/unproved.py WORDS..
 
-Nothing is kept, so nothing of it is ever taken for proved. What the program writes comes once it has ended. Ends with status 3 and a
-line where rt fails, where the program stops at what a proof rules out, or at a limit: 60 seconds, 1 MiB of output on each stream,
-64 MiB of input. The program has no environment and sees no files.
+Nothing is kept, so nothing of it is ever taken for proved. What the program writes comes once it has ended. Ends with
+status 3 and a line where rt fails, where the program stops at what a proof rules out, or at a limit: 60 seconds, 1 MiB
+of output on each stream, 64 MiB of input. The program has no environment and sees no files.
 """
 import os
 import re
@@ -53,9 +53,9 @@ def given_input():
 
 def run(words):
     """What rt try said, once it has ended; a signal ends it too."""
-    given = given_input() if reads_input(words) else subprocess.DEVNULL
-    environment = {**os.environ, "RT_SECONDS": str(SECONDS)}
-    started = subprocess.Popen(["rt", "try", "--", *words], cwd=CRATE, stdin=given, stderr=subprocess.PIPE, env=environment)
+    how = {"cwd": CRATE, "stderr": subprocess.PIPE, "env": {**os.environ, "RT_SECONDS": str(SECONDS)}}
+    how["stdin"] = given_input() if reads_input(words) else subprocess.DEVNULL
+    started = subprocess.Popen(["rt", "try", "--", *words], **how)
 
     def ended(number, _):
         started.terminate()
@@ -85,17 +85,21 @@ def outcome(said):
         show(said[: tool.start()].replace(b"\nUsage: program", b"\nUsage: blk"))
         return int(tool[2])
     why = re.search(r"checked: (?:no-answer: |fault )(.*)", lines)
-    show(b"".join(said.splitlines(keepends=True)[-SHOWN:]) if not why else said[: tool.start()] if how == b"fault" else b"")
     if how == b"no-answer" and why:
         raise Fault(f"a limit of runs without a proof: {why[1]}")
     if how == b"fault" and why:
+        show(said[: tool.start()])
         raise Fault(f"the program stopped at what a proof rules out: {why[1]}")
+    show(b"".join(said.splitlines(keepends=True)[-SHOWN:]))
     raise Fault("the program could not be compiled; above stands the end of what rt said")
 
 
 def main(words):
     """The run as a command; its exit status."""
-    say(f"nothing of this run is proved: the program is only compiled, in a minute or two, and has {SECONDS} seconds and 1 MiB of output")
+    say(
+        "nothing of this run is proved: the program is only compiled, which takes a minute or two,"
+        f" and has {SECONDS} seconds and 1 MiB of output"
+    )
     try:
         return outcome(run(words))
     except (Fault, OSError, command_line.Fault) as fault:

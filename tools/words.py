@@ -1,17 +1,17 @@
 #!/usr/bin/env python3
-"""The words of the command line: makes the man page and the completions of shells, and holds what tells of them to one another.
+"""The words of the command line: makes the man page and completions, and holds what tells of them to one another.
 
     tools/words.py man|bash|zsh|fish      writes the man page, or the completions of that shell
-    tools/words.py check                  compares the table of docs/FORMATS.md with the help texts, and these with the cases
+    tools/words.py check                  compares the table of docs/FORMATS.md, the help texts and the cases
     tools/words.py keep                   keeps the help texts of the program that is built
 
-The subcommands, with their options and what each may be, are those of the table in docs/FORMATS.md under 'Program'; what each does
-is told by the program's own help texts, which are kept in tools/help/: `blk` is the program's, `blk-sim` that of `sim`, `version`
-what `--version` writes and `no-words` what is said where there are no words. The cases that have a file stdout.as or stderr.as
-run the program and compare. The rest of the man page is tools/man.roff.
+The subcommands, their options and what each may be are those of the table in docs/FORMATS.md under 'Program'. What each
+does is told by the program's own help texts, which are kept in tools/help/: `blk` is the program's, `blk-sim` that of
+`sim`, `version` what `--version` writes, and `no-words` what is said where there are no words. The cases with a file
+stdout.as or stderr.as hold the program to them. The rest of the man page is tools/man.roff.
 
-`check` prints what differs, and as the last line 'N passed, M failed'. Ends with 0, with 1 where something differs, 2 for other
-words, and 3 where there is no program, or no table that can be read.
+`check` prints what differs, and as the last line 'N passed, M failed'. Ends with 0, with 1 where something differs, 2 for
+other words, and 3 where there is no program, or no table that can be read.
 """
 import re
 import subprocess
@@ -44,7 +44,7 @@ class Option:
 
 
 class Command:
-    """A subcommand: what it reads and writes, by the flag that says so ('' without one), its options, and what it does."""
+    """A subcommand: what it does, its options, and what it reads and writes, by the flag that asks for that or ''."""
 
     def __init__(self):
         self.flows, self.options, self.does = {}, {}, ""
@@ -53,12 +53,17 @@ class Command:
 # --- the table of docs/FORMATS.md ---
 
 
+# An option in a cell: its name, its values by name or as a range or as a word for them, the default, and anything else.
+OWN = re.compile(r"`(--[\w-]+)`(?: (\w+(?:, \w+)* or \w+|\d+\.\.=\d+|[A-Z]+))?(?: \((\S+)\))?(?:, .*)?")
+# The options of a subcommand above it, or all but one of them.
+THOSE = re.compile(r"those of `(\w+)`(?: but `(--[\w-]+)`)?")
+
+
 def read_cell(cell, commands):
     """The options that a cell of the table tells."""
     options = {}
     for item in filter(None, cell.split("; ")):
-        those = re.fullmatch(r"those of `(\w+)`(?: but `(--[\w-]+)`)?", item)
-        own = re.fullmatch(r"`(--[\w-]+)`(?: ([\w.=]+(?:, \w+)* or \w+|\d[\d.=]*|[A-Z]+))?(?: \((\S+)\))?(?:, .*)?", item)
+        those, own = THOSE.fullmatch(item), OWN.fullmatch(item)
         if those and those[1] in commands:
             options.update({name: it for name, it in commands[those[1]].options.items() if name != those[2]})
         elif own:
@@ -90,7 +95,7 @@ def read_table():
 
 
 def read_help(name):
-    """What a kept help text tells: its first line, and the subcommands and options that it lists, each with its line."""
+    """What a kept help text tells: its first line, and of each name listed whether it takes a value, and its line."""
     about, _, rest = (HELP / name).read_text().partition("\n\nUsage: ")
     listed, last = {}, None
     for line in rest.splitlines()[1:]:
@@ -146,7 +151,8 @@ def compare_options(name, options):
 
 def forms(commands):
     """The words that ./blk answers from the kept texts, without the program: each with its text."""
-    texts = {("--help",): "blk", ("-h",): "blk", ("help",): "blk", (): "no-words", ("--version",): "version", ("-V",): "version"}
+    texts = {(): "no-words", ("--version",): "version", ("-V",): "version"}
+    texts.update({(it,): "blk" for it in ("--help", "-h", "help")})
     for it in commands:
         texts.update({(it, "--help"): f"blk-{it}", (it, "-h"): f"blk-{it}", ("help", it): f"blk-{it}"})
     return texts
@@ -190,8 +196,7 @@ def check():
 
 def keep():
     """Keeps the texts of the program that is built; the exit status."""
-    texts = {"blk": ["--help"], "no-words": [], "version": ["--version"], **{f"blk-{it}": [it, "--help"] for it in read_table()}}
-    for name, words in texts.items():
+    for words, name in forms(read_table()).items():
         ran = subprocess.run([PROGRAM, *words], stdin=subprocess.DEVNULL, capture_output=True)
         (HELP / name).write_bytes(ran.stdout if name == "version" else ran.stderr)
     return 0
@@ -281,7 +286,7 @@ def bash():
     for name, command in commands.items():
         for option, it in command.options.items():
             if it.values:
-                yield f"  *,{name},{option}) words={quoted(' '.join(it.names()))} ;;"
+                yield f"  *,{name},{option}) {'words=' + quoted(' '.join(it.names())) + ' ' if it.names() else ''};;"
         yield f"  *,{name},*) words={quoted(' '.join([*command.options, '--help']))} ;;"
     yield "  esac"
     yield "  mapfile -t COMPREPLY < <(compgen -W \"$words\" -- \"$word\")"
@@ -313,8 +318,8 @@ def zsh():
         yield f"  {name})"
         yield "    _arguments '(-h --help)'{-h,--help}'[Print help]'" + " \\" * bool(command.options)
         for at, (option, it) in enumerate(command.options.items(), 1):
-            values = f":{option[2:]}:({' '.join(it.names())})" if it.names() else f":{told(it.values)}: " if it.values else ""
-            one = f"{option}{'=' if it.values else ''}[{told(it.does)}]{values}"
+            values = f":{option[2:]}:({' '.join(it.names())})" if it.names() else f":{told(it.values or '')}: "
+            one = f"{option}=[{told(it.does)}]{values}" if it.values else f"{option}[{told(it.does)}]"
             yield "      " + quoted(one) + " \\" * (at < len(command.options))
         yield "    ;;"
     yield "  esac"
