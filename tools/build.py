@@ -40,12 +40,17 @@ def commands(lanes):
     return [(["rt", "ci"], {"RT_JOBS": str(lanes)})]
 
 
-def say(what):
-    """A line on standard error; where that is lost, the status still tells. Also called while a signal is handled."""
+def show(text):
+    """Writes to standard error; where that is lost, the status still tells. Also called while a signal is handled."""
     try:
-        os.write(2, f"{sys.argv[1]}: {what}\n".encode())
+        os.write(2, text.encode(errors="replace"))
     except OSError:
         pass
+
+
+def say(what):
+    """A line on standard error, after the command's name."""
+    show(f"{sys.argv[1]}: {what}\n")
 
 
 # --- what it takes ---
@@ -177,17 +182,20 @@ def span(seconds):
 
 
 class Progress:
-    """How far a build is: which crates have begun and when, how long each took that was proved, and which were kept."""
+    """How far a build is: when each crate began, as far as that is known, how long each took that was proved, and which
+    are done, proved or kept from an earlier start."""
 
     def __init__(self, costs, lanes):
         self.costs, self.lanes = costs, lanes
-        self.begun, self.took, self.kept = {}, {}, []
+        self.begun, self.took, self.done = {}, {}, set()
 
-    def is_done(self, crate):
-        return crate in self.took or crate in self.kept
+    def proved(self, crate, now):
+        self.done.add(crate)
+        if crate in self.begun:
+            self.took[crate] = now - self.begun[crate]
 
     def running(self):
-        return [it for it in self.begun if not self.is_done(it)]
+        return [it for it in self.begun if it not in self.done]
 
     def pace(self):
         """How many seconds one of the table takes here, as the crates that were proved have shown."""
@@ -196,7 +204,7 @@ class Progress:
 
     def left(self, now):
         """The seconds that each crate will still take that isn't done."""
-        whole = {it: self.pace() * much for it, much in self.costs.seconds.items() if not self.is_done(it)}
+        whole = {it: self.pace() * much for it, much in self.costs.seconds.items() if it not in self.done}
         # one that takes longer than was thought is nearly done
         return {it: max(much - (now - self.begun.get(it, now)), much / 20) for it, much in whole.items()}
 
@@ -247,15 +255,17 @@ class Run:
         self.take_kept(kept)
 
     def take_kept(self, names):
-        self.progress.kept += names
-        if names:
-            self.tell(f"kept from an earlier start: {listed(names)}")
+        # a second command finds what the first one kept
+        new = [it for it in names if it not in self.progress.done]
+        self.progress.done.update(new)
+        if new:
+            self.tell(f"kept from an earlier start: {listed(new)}")
 
     def take(self, line, crate, how, now):
         """Takes a line of rt, which may tell how it went with a crate."""
         self.block = [line] if line.startswith("== ") else [*self.block, line]
         if how == "proved":
-            self.progress.took[crate] = now - self.progress.begun.get(crate, now)
+            self.progress.proved(crate, now)
             self.tell(f"proved {crate}")
         elif how == "NOT PROVED":
             self.fail(f"{crate} could not be built")
@@ -266,7 +276,7 @@ class Run:
         """Ends rt, shows the end of what it said, and why there is no program."""
         self.started.terminate()
         self.started.wait()
-        os.write(2, "".join(f"{it}\n" for it in self.block[-SHOWN:]).encode(errors="replace"))
+        show("".join(f"{it}\n" for it in self.block[-SHOWN:]))
         raise Fault(f"{why}; above stands the end of what rt said")
 
     def watch(self, began):

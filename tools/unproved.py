@@ -96,6 +96,7 @@ def outcome(said):
 
 def main(words):
     """The run as a command; its exit status."""
+    signal.signal(signal.SIGINT, signal.SIG_DFL)
     say(
         "nothing of this run is proved: the program is only compiled, which takes a minute or two,"
         f" and has {SECONDS} seconds and 1 MiB of output"
