@@ -218,8 +218,8 @@ so_far() {
   printf '%d s' $((seconds % 60))
 }
 
-# Ends here, before anything is proved, where the program can't be put into its folder, a crate is missing, or python3
-# or rt isn't there or doesn't work.
+# Ends here, before anything is proved, where the program can't be put into its folder, a crate is missing, python3 or rt
+# isn't there or doesn't work, or rt could not run the program.
 look_at_needs() {
   local crate last
   for crate in "${crates[@]}"; do
@@ -233,6 +233,10 @@ look_at_needs() {
     last=$(tail -n 1 "$scratch/log")
     fail "rt fails: ${last:-it says nothing}"
   }
+  # as root it runs what it built as nobody, in the temporary folder
+  if [ "$EUID" = 0 ] && ! setpriv --reuid=65534 --regid=65534 --clear-groups test -x "$scratch" 2>/dev/null; then
+    fail "nobody, as whom rt runs the program, can't use ${scratch%/*}: TMPDIR can name another folder"
+  fi
 }
 
 # take_program: puts the program that was built in the copy into its place, at once, and its hash into `made`.
