@@ -320,8 +320,8 @@ def look_at_store(costs):
     if free_disk(store if store.is_dir() else store.parent) < wanted:
         say(f"^C ends it: {store} keeps less or nothing, since its disk has less than {wanted:,} MB left")
         return "ended: the next start goes on with what could be kept"
-    say(f"^C ends it: what was proved until then is kept in {store}, and the next start goes on there")
-    return "ended: what was proved until now is kept, and the next start goes on there"
+    say(f"^C ends it: what is proved by then is kept in {store}, and the next start goes on from there")
+    return "ended: what was proved is kept, and the next start goes on from there"
 
 
 def main(tree):

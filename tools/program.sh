@@ -268,7 +268,7 @@ build() {
     # another start may have put there what it built of older sources
     if [ "$was" = "$hashed" ] && [ "$made" = "$(hash_of "$program")" ]; then
       keep_stamp "$made" "$listed"
-      say "built after $(so_far)"
+      say "built after $(so_far): crates/blk/out/blk"
       clean
       trap - EXIT HUP INT QUIT PIPE TERM
       return 0
