@@ -34,8 +34,11 @@ def say(what):
 
 
 def reads_input(words):
-    """Whether the program reads standard input for these words."""
-    command = command_line.read_table().get(words[0]) if words else None
+    """Whether the program reads standard input for these words, by the table of docs/FORMATS.md."""
+    try:
+        command = command_line.read_table().get(words[0]) if words else None
+    except command_line.Fault:
+        return True
     return command is not None and any(reads != "nothing" for reads, _ in command.flows.values())
 
 
@@ -103,7 +106,7 @@ def main(words):
     )
     try:
         return outcome(run(words))
-    except (Fault, OSError, command_line.Fault) as fault:
+    except (Fault, OSError) as fault:
         say(fault)
         return 3
 
