@@ -14,10 +14,12 @@ A case is a folder of cases/, named by what it shows, with these files, each of 
     stderr    what has to be said (nothing); at status 2 its first line is compared, since the rest is clap's own
     status    the exit status (0)
 
-In place of stdin or stdout a case may have stdin.gen or stdout.gen, a python3 program that writes that text: for texts that
-are long, and for inputs that don't end. In place of stdin, stdout or stderr it may have stdin.path, stdout.path or
-stderr.path, one line that names what stands there instead, seen from the case's folder: a folder can't be read, and a full
-device can't be written.
+In place of stdin or stdout a case may have stdin.gen or stdout.gen, a python3 program that writes that text: for texts
+that are long, and for inputs that don't end. In place of stdout or stderr it may have stdout.as or stderr.as, one line
+that names the file with that text, seen from the case's folder: for texts that are kept elsewhere. Such a text is
+compared whole, at status 2 too. In place of stdin, stdout or stderr it may have stdin.path, stdout.path or stderr.path,
+one line that names what stands there instead, seen from the case's folder: a folder can't be read, and a full device
+can't be written.
 
 Prints a difference as one, and as the last line 'N passed, M failed'. Ends with 0 where none failed, 1 where one did, 2
 where a word names no case, and 3 where the program isn't there.
@@ -37,7 +39,8 @@ SECONDS = 120
 SHOWN = 40
 COMMAND_LINE = 2
 STREAMS = ("stdin", "stdout", "stderr")
-FILES = {"args", "status", *STREAMS, *(f"{it}.path" for it in STREAMS), "stdin.gen", "stdout.gen"}
+MADE = {"stdin.gen", "stdout.gen", "stdout.as", "stderr.as"}
+FILES = {"args", "status", *STREAMS, *(f"{it}.path" for it in STREAMS), *MADE}
 
 
 class Fault(Exception):
@@ -47,8 +50,9 @@ class Fault(Exception):
 class Case:
     """A case: its words, its input, and what has to come of it.
 
-    `stdin` is a file or None for an empty input, `generator` a program that writes it, and `places` what stands in place
-    of a stream. What has to come is made when it is asked for, since it may be long.
+    `stdin` is a file or None for an empty input, `generator` a program that writes it, and `places` what stands in
+    place of a stream. What has to come is made when it is asked for, since it may be long. `is_whole` tells whether all
+    that is said is compared, at status 2 too.
     """
 
     def __init__(self, name, folder, args, stdin=None):
@@ -60,6 +64,7 @@ class Case:
         self.places = {}
         self.wanted = {"stdout": None, "stderr": None}
         self.status = 0
+        self.is_whole = False
 
     def bytes_wanted(self, stream):
         """What has to be written to that stream."""
@@ -105,6 +110,9 @@ def read_case(folder):
         for file in (stream, f"{stream}.gen"):
             if file in found:
                 case.wanted[stream] = folder / file
+        if f"{stream}.as" in found:
+            case.wanted[stream] = folder / (folder / f"{stream}.as").read_text().rstrip("\n")
+    case.is_whole = "stderr.as" in found
     if "status" in found:
         try:
             case.status = int((folder / "status").read_text())
@@ -249,7 +257,7 @@ def judge(program, case):
         told += f"    {how}, and not with status {case.status}\n"
     if wrote != wanted:
         told += difference("stdout", wanted, wrote)
-    if case.status == COMMAND_LINE:
+    if case.status == COMMAND_LINE and not case.is_whole:
         said = said.splitlines(keepends=True)[:1]
         said = said[0] if said else b""
     if said != line:

@@ -1,6 +1,6 @@
 # shellcheck shell=bash
-# What ./blk, ./test and bench/run share: from which sources the program is built, whether it is, how it is built, and how what was
-# started ends. Read by bash with `top`, the repository, and `name`, the command's own name, set.
+# What ./blk, ./test, ./install and bench/ share: from which sources the program is built, whether it is, how it is built,
+# and how what was started ends. Read by bash with `top`, the repository, and `name`, the command's own name, set.
 : "${top:?}" "${name:?}"
 unset CDPATH
 
@@ -9,6 +9,7 @@ program=$top/crates/blk/out/blk
 stamp=$top/crates/blk/out/built-from
 
 crates=()
+lines=()
 hashed=
 scratch=
 child=
@@ -27,7 +28,7 @@ fail() {
 # Leaves no file.
 clean() {
   local try
-  rm -f "$stamp.$$" "$top"/crates/*/out/writable.$$ 2>/dev/null || true
+  rm -f "$stamp.$$" "$program.$$" 2>/dev/null || true
   [ -n "$scratch" ] || return 0
   # what was ended a moment ago may still write
   for try in 1 2 3 4 5 6 7 8 9 10; do
@@ -61,21 +62,25 @@ end_by() {
   exit 3
 }
 
-# Makes the temporary folder, in which all that is started keeps its files.
+# Makes the temporary folder, in which all that is started keeps its files. A build writes gigabytes there, so where
+# TMPDIR names no folder it isn't in /tmp, which often lies in memory.
 make_scratch() {
-  local signal
+  local signal place=${TMPDIR:-/var/tmp}
   trap clean EXIT
   for signal in HUP INT QUIT PIPE TERM; do
     # shellcheck disable=SC2064 # the signal's name is to stand in the trap
     trap "end_by $signal" "$signal"
   done
-  scratch=$(mktemp -d 2>/dev/null) || fail "the temporary folder ${TMPDIR:-/tmp} can't be used"
+  if [ -z "${TMPDIR:-}" ] && [ ! -w "$place" ]; then place=/tmp; fi
+  scratch=$(cd "$place" 2>/dev/null && mktemp -d "$PWD/blk.XXXXXX" 2>/dev/null) ||
+    fail "the temporary folder $place can't be used"
   # the gate runs programs as nobody, in folders below this one
   chmod 711 "$scratch"
-  { printf 'x' >"$scratch/log"; } 2>/dev/null || fail "the temporary folder ${TMPDIR:-/tmp} can't be used"
+  { printf 'x' >"$scratch/log"; } 2>/dev/null || fail "the temporary folder $place can't be used"
 }
 
-# start FOLDER COMMAND..: runs it there, in a process group of its own, so that all of it can be ended; answers its status.
+# start FOLDER COMMAND..: runs it there, in a process group of its own, so that all of it can be ended; ends with its
+# status.
 start() {
   local status=0
   set -m
@@ -89,33 +94,38 @@ start() {
 
 # --- sources ---
 
-# crates_of NAME: into `crates`, the crates of the repository that it stands on, each after those below it, and then itself.
+# crates_of NAME: into `crates`, the crates of the repository that it stands on, each after those below it, and then
+# itself; into `lines` what crates.txt says of each.
 crates_of() {
   local line word
-  local -A needs=() seen=()
+  local -A needs=() seen=() said=()
   crates=()
+  lines=()
   [ -r "$top/crates.txt" ] || fail "a source can't be read: crates.txt"
   while IFS= read -r line || [ -n "$line" ]; do
     line=${line%%#*}
     [[ $line =~ ^[[:space:]]*([A-Za-z0-9_]+)[^:]*:(.*)$ ]] || continue
     word=${BASH_REMATCH[1]}
     needs[$word]=${BASH_REMATCH[2]}
+    said[$word]=$line
   done <"$top/crates.txt"
   take_crate "$1"
   [ "${#crates[@]}" != 0 ] || fail "crates.txt lists no $1"
 }
 
-# Takes a crate into `crates`, after those below it, by the `needs` and `seen` of crates_of.
+# Takes a crate into `crates` and `lines`, after those below it, by the `needs`, `said` and `seen` of crates_of.
 take_crate() {
   local below
   if [ -n "${seen[$1]:-}" ] || [ -z "${needs[$1]+listed}" ]; then return 0; fi
   seen[$1]=1
   for below in ${needs[$1]}; do take_crate "$below"; done
   crates+=("$1")
+  lines+=("${said[$1]}")
 }
 
-# find_sources [WHAT..] -- HOW..: what find says of each of these and of each source of the program: of its crates all but what
-# is made of them, the edits that must be refused, and pages. Ends the subshell in which it runs.
+# find_sources [WHAT..] -- HOW..: what find says of each of these and of each source of the program in the folder where
+# this is called, the repository or a copy. Its sources are HANDLES and, of the program's crates, all but what is made
+# of them, the edits that must be refused, and pages. Ends the subshell in which it runs.
 find_sources() {
   local others=()
   while [ "$1" != -- ]; do
@@ -124,53 +134,78 @@ find_sources() {
   done
   shift
   export LC_ALL=C
-  cd "$top" && exec find "${others[@]}" "${crates[@]/#/crates/}" crates.txt HANDLES \
-    \( -name out -o -name must-fail -o -name wrong \) -prune -o -type f ! -name '*.md' "$@"
+  exec find "${others[@]}" "${crates[@]/#/crates/}" HANDLES -regextype posix-extended \
+    -regex 'crates/[^/]+/(out|must-fail|wrong)' -prune -o -type f ! -name '*.md' "$@"
 }
 
 # The sources as they lie on the disk: a change of one, also one that is undone, changes the time that is listed.
-list_sources() { find_sources -- -printf '%p %i %s %C@\n' 2>/dev/null; }
+list_sources() (cd -- "$top" && find_sources crates.txt -- -printf '%p %i %s %C@\n' 2>/dev/null)
 
 # The same, after the program itself.
-list_all() { find_sources crates/blk/out/blk -- -printf '%p %i %s %C@ %m\n' 2>/dev/null; }
+list_all() (cd -- "$top" && find_sources crates/blk/out/blk crates.txt -- -printf '%p %i %s %C@ %m\n' 2>/dev/null)
 
-# Into `hashed` a hash of all sources, of their names and of what is in them.
+# Whether a source was written within the last two seconds, or that can't be told.
+is_fresh() (
+  cd -- "$top" || exit 0
+  found=$(find_sources crates.txt -- -newerct '2 seconds ago' -print -quit 2>/dev/null) || exit 0
+  [ -n "$found" ]
+)
+
+# sums FOLDER: a hash of each source there, beside its name as it is seen from there.
+sums() (cd -- "$1" && find_sources -- -print0 | LC_ALL=C sort -z | LC_ALL=C xargs -0 sha256sum --)
+
+# hash_sources FOLDER: into `hashed` a hash of all sources there, of their names and of what is in them, and of `lines`.
 hash_sources() {
   local why
-  hashed=$( (find_sources -- -print0 | LC_ALL=C sort -z | LC_ALL=C xargs -0 sha256sum -- | sha256sum) 2>/dev/null) || {
+  hashed=$({ printf '%s\n' "${lines[@]}" && sums "$1"; } 2>/dev/null | sha256sum) || {
     # find or sha256sum names itself, the file and the reason
-    why=$( (find_sources -- -print0 | LC_ALL=C xargs -0 sha256sum -- >/dev/null) 2>&1 | head -n 1) || true
+    why=$(sums "$1" 2>&1 >/dev/null | head -n 1) || true
     why=${why#*: }
     fail "a source can't be read: ${why:-no reason is given}"
   }
   hashed=${hashed%% *}
 }
 
-hash_program() {
+# copy_sources TO: copies the sources there, as the top of a repository of the program's crates alone.
+copy_sources() {
+  rm -rf "$1"
+  mkdir -p "$1/.git"
+  printf '%s\n' "${lines[@]}" >"$1/crates.txt"
+  (cd -- "$top" && find_sources -- -print0 | xargs -0 cp --parents -t "$1" --) 2>"$scratch/log" || {
+    # says which source can't be read, if that is why
+    hash_sources "$top"
+    fail "the sources can't be copied to ${scratch%/*}: $(head -n 1 "$scratch/log")"
+  }
+}
+
+# hash_of FILE
+hash_of() {
   local it
-  it=$(sha256sum 2>/dev/null <"$program") && printf '%s' "${it%% *}"
+  it=$(sha256sum 2>/dev/null <"$1") && printf '%s' "${it%% *}"
 }
 
 # Whether the program is built from the sources as they are.
 is_current() {
-  local kept='' listed
+  local kept='' listed made
   if [ ! -x "$program" ] || [ ! -s "$program" ] || [ ! -r "$stamp" ]; then return 1; fi
   IFS= read -r -d '' kept <"$stamp" || true
   listed=$(list_all) || listed=
   if [ -n "$listed" ] && [ "${kept#*$'\n'}" = "$listed"$'\n' ]; then return 0; fi
   # a copied repository, or a file that was written again as it was
-  hash_sources
-  if [ "$hashed $(hash_program)" != "${kept%%$'\n'*}" ]; then return 1; fi
-  # what was written just now may be written again within the same tick of the disk's clock, and is looked at again then
-  if [ -z "$(find_sources -- -newerct '2 seconds ago' -print -quit 2>/dev/null)" ] && [ "$listed" = "$(list_all)" ]; then
-    keep_stamp "$listed"
-  fi
+  hash_sources "$top"
+  made=$(hash_of "$program")
+  if [ "$hashed $made" != "${kept%%$'\n'*}" ]; then return 1; fi
+  keep_stamp "$made" "$listed"
 }
 
-# keep_stamp LISTED: notes what the program is built from, by `hashed` and what list_all said. Where that can't be written, the
-# next start hashes again.
+# keep_stamp MADE LISTED: notes that the program with this hash is built from the sources whose hash is in `hashed`.
+# LISTED is what list_all said before they were hashed. A source that was written just now may be written again within
+# the same tick of the disk's clock, so then no list is noted. Without one, and where nothing can be noted, the next
+# start hashes again.
 keep_stamp() {
-  { printf '%s %s\n%s\n' "$hashed" "$(hash_program)" "$1" >"$stamp.$$" && mv -f "$stamp.$$" "$stamp"; } 2>/dev/null ||
+  local listed=$2
+  if is_fresh || [ "$listed" != "$(list_all)" ]; then listed=; fi
+  { printf '%s %s\n%s\n' "$hashed" "$1" "$listed" >"$stamp.$$" && mv -f "$stamp.$$" "$stamp"; } 2>/dev/null ||
     rm -f "$stamp.$$" 2>/dev/null || true
 }
 
@@ -179,71 +214,61 @@ keep_stamp() {
 # The time since the build began.
 so_far() {
   local seconds=$((SECONDS - began))
-  if [ "$seconds" -lt 60 ]; then printf '%d s' "$seconds"; else printf '%d min %d s' $((seconds / 60)) $((seconds % 60)); fi
+  if [ "$seconds" -ge 60 ]; then printf '%d min ' $((seconds / 60)); fi
+  printf '%d s' $((seconds % 60))
 }
 
-# Ends here, before anything is proved, where a folder out/ can't be written, or python3 or rt isn't there or doesn't work.
+# Ends here, before anything is proved, where the program can't be put into its folder, a crate is missing, python3 or rt
+# isn't there or doesn't work, or rt could not run the program.
 look_at_needs() {
-  local crate out last
+  local crate last
   for crate in "${crates[@]}"; do
     [ -d "$top/crates/$crate" ] || fail "crates.txt lists $crate, and there is no folder crates/$crate"
-    out=$top/crates/$crate/out
-    if ! { mkdir -p "$out" && : >"$out/writable.$$" && rm -f "$out/writable.$$"; } 2>/dev/null ||
-      [ -n "$(find "$out" -maxdepth 1 ! -writable -print -quit 2>&1)" ]; then
-      fail "crates/$crate/out can't be written"
-    fi
   done
+  { mkdir -p "${program%/*}" && : >"$program.$$" && rm -f "$program.$$"; } 2>/dev/null ||
+    fail "crates/blk/out can't be written"
   command -v python3 >/dev/null || fail "python3 is not on the path, and rt, which builds the program, needs it"
   command -v rt >/dev/null || fail "rt is not on the path, and it has to build the program"
   start "$top" rt version >"$scratch/log" 2>&1 || {
     last=$(tail -n 1 "$scratch/log")
     fail "rt fails: ${last:-it says nothing}"
   }
+  # as root it runs what it built as nobody, in the temporary folder
+  if [ "$EUID" = 0 ] && ! setpriv --reuid=65534 --regid=65534 --clear-groups test -x "$scratch" 2>/dev/null; then
+    fail "nobody, as whom rt runs the program, can't use ${scratch%/*}: TMPDIR can name another folder"
+  fi
 }
 
-# fail_at WHY..: shows the end of what rt said, and ends.
-fail_at() {
-  tail -n 40 "$scratch/log" >&2 2>/dev/null || true
-  fail "$*; above stands the end of what rt said"
+# take_program: puts the program that was built in the copy into its place, at once, and its hash into `made`.
+take_program() {
+  local from=$scratch/tree/crates/blk/out/blk
+  made=$(hash_of "$from") || fail "the program that was built can't be read"
+  { cp "$from" "$program.$$" && chmod 755 "$program.$$" && mv -f "$program.$$" "$program"; } 2>/dev/null ||
+    fail "the program was built, but crates/blk/out can't be written"
 }
 
-# Proves each crate of the program, those below it first, and compiles it.
-build_once() {
-  local crate at=0
-  for crate in "${crates[@]}"; do
-    at=$((at + 1))
-    say "proving $crate, $at of ${#crates[@]}, after $(so_far)"
-    if [ "$crate" != blk ]; then
-      start "$top/crates/$crate" rt lib >"$scratch/log" 2>&1 || fail_at "$crate could not be built"
-    else
-      # rt builds a program by running it; asking for the help text ends with status 2
-      start "$top/crates/blk" rt run -- --help >"$scratch/log" 2>&1 || true
-      if [ ! -x "$program" ] || ! grep -q '^Usage: blk' "$scratch/log"; then fail_at "the program could not be built"; fi
-    fi
-  done
-}
-
-# Builds the program, and again where its sources changed meanwhile.
+# Builds the program from a copy of its sources, and again where they changed meanwhile.
 build() {
-  local try listed was began=$SECONDS
+  local try listed was made began=$SECONDS
+  top=$(cd -- "$top" && pwd)
   make_scratch
-  look_at_needs
-  rm -f "$stamp"
   for try in 1 2 3; do
-    listed=$(list_sources) || true
-    hash_sources
+    if [ "$try" != 1 ]; then say "the sources changed while the program was built: once more"; fi
+    crates_of blk
+    look_at_needs
+    rm -f "$stamp"
+    copy_sources "$scratch/tree"
+    hash_sources "$scratch/tree"
     was=$hashed
-    if [ "$try" = 1 ]; then
-      say "the program isn't built from these sources: proving and compiling it. That takes 3 GB of disk, a gigabyte of" \
-        "memory for each processor and, from nothing, over half an hour on 4 processors"
-    else
-      say "the sources changed while the program was built: once more"
-    fi
-    build_once
-    hash_sources
-    if [ "$was" = "$hashed" ] && [ "$listed" = "$(list_sources)" ]; then
-      keep_stamp "$(list_all)"
-      say "built after $(so_far)"
+    start "$scratch" python3 "$top/tools/build.py" "$name" "$scratch/tree" || exit 3
+    take_program
+    crates_of blk
+    listed=$(list_all) || listed=
+    hash_sources "$top"
+    # another start may have put there what it built of older sources
+    if [ "$was" = "$hashed" ] && [ "$made" = "$(hash_of "$program")" ]; then
+      keep_stamp "$made" "$listed"
+      say "built after $(so_far): crates/blk/out/blk"
       clean
       trap - EXIT HUP INT QUIT PIPE TERM
       return 0
