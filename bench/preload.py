@@ -1,5 +1,5 @@
-"""What bench/memory and bench/calls share: runs of the program over the short cases, each with a C library loaded before the C
-library's, which spoils something of the run."""
+"""What bench/memory and bench/calls share: runs of the program over the short cases, each with a C library loaded before the
+C library's, which spoils something of the run."""
 import os
 import shutil
 import subprocess
@@ -80,8 +80,8 @@ def make(source, library):
 
 
 def spoil(name, source, work, picked, always):
-    """Runs `work`, which answers what went wrong and some sums, over the picked cases with the library of that source, and says of
-    each what went wrong. The names `always` have to be among them. Answers how many passed and failed, and the sums."""
+    """Runs `work`, which answers what went wrong and some sums, over the picked cases with the library of that source, and says
+    of each what went wrong. The names `always` have to be among them. Answers how many passed and failed, and the sums."""
     failed, sums = 0, None
     with tempfile.TemporaryDirectory() as room:
         library = f"{room}/spoil.so"
