@@ -1,15 +1,16 @@
 #!/usr/bin/env python3
 """Writes the worst inputs that are known, for `bench/run growth`: worst.py KIND N > FILE.
 
-Each kind is made to take long in one of the ways that the program's structures leave open, and N is how many bios, commands
-or rounds it has. Scripts: joins and fronts (each bio joins a request that waits, at its back or its front), no_room (all
-touch the newcomer, and none has room for a segment more), other_way (half of them touch it and are too long for it, and a
-short one of the other direction lies there too), bio_ids and sectors (made for the hash tables), handed (each command is
-handed back once), idle (rounds in which nothing waits for any of 16 queues). Traces: trace_bio_ids and trace_requests (ids
-made for the hash tables), trace_steps (another depth in each round, all late), trace_groups (groups of 128 bios). Command
-lists: scattered (rounds up to the limits), falling (by falling release and due), nested (each released later and due sooner
-than the one before), alone (each passed over in a window of its own) and repeated (the last id is the first). Certificates:
-cert_scattered and met_windows (as many windows as commands)."""
+Each kind is made to take long in one of the ways that the program's structures leave open, and N is how many bios, commands or
+rounds it has. Scripts: joins and fronts (each bio joins a request that waits, at its back or its front), plugs (each bio touches
+half of those that its plug holds, and fits none), no_room (the same in the core, where all wait), other_way (half of what waits
+touches the newcomer and is too long for it, and a short request of the other direction lies there too), bio_ids and sectors (made
+for the hash tables), handed (each command is handed back once), idle (rounds in which nothing waits for any of 16 queues).
+Traces: trace_bio_ids and trace_requests (ids made for the hash tables), trace_steps (another depth in each round, all late),
+trace_joins (requests that grow to 128 bios), trace_groups (groups of 128 bios). Command lists: scattered (rounds up to the
+limits), falling (by falling release and due), nested (each released later and due sooner than the one before), alone (each passed
+over in a window of its own) and repeated (the last id is the first). Certificates: cert_scattered and met_windows (as many
+windows as commands)."""
 import random
 import sys
 
@@ -118,6 +119,15 @@ def other_way(count, out):
     script(one_by_one(["0,W,5,3", *long], 32), out, "setup,5,50,8,128,")
 
 
+def plugs(count, out):
+    lines = []
+    for n, it in enumerate(one_by_one([f"{n},R,{8 * (n % 2)},8" for n in range(count)], 32)):
+        lines.append(it)
+        if n % 34 == 33:
+            lines.append("run,1,,,,")
+    script(lines, out, "setup,5,50,65535,1,")
+
+
 def bio_ids(count, out):
     serials = colliding(count, table_of(count, 4), after_submitter(0))
     lines = [*one_by_one([f"{it},R,{100 * n},8" for n, it in enumerate(serials)], 32), f"run,{count // 32 + 1},,,,"]
@@ -175,6 +185,18 @@ def trace_steps(count, out):
     for n in range(count):
         events[count + 4 * n : count + 4 * n] = [[f"depth,{1 + n % 2},,,,"]]
     trace(2, events, out)
+
+
+def trace_joins(count, out):
+    """Requests that each grow to 128 bios, one bio a time, and are served then."""
+    events = []
+    for n in range(count):
+        name = n // 128
+        word = "join" if n % 128 else "release"
+        events.append([f"{word},{name},1,,,", f"bio,0,{n},R,{8 * n},8"])
+        if n % 128 == 127:
+            events += [[f"issue,{name},0,,,"], ["done,0,,,,"], ["tick,,,,,"]]
+    trace(1, events, out)
 
 
 def trace_groups(count, out):
@@ -243,8 +265,8 @@ def met_windows(count, out):
         out(f"{n},{release},{release},{release + n % 2}")
 
 
-KINDS = [joins, fronts, no_room, other_way, bio_ids, sectors, handed, idle, trace_bio_ids, trace_requests, trace_steps]
-KINDS += [trace_groups, scattered, falling, nested, alone, repeated, cert_scattered, met_windows]
+KINDS = [joins, fronts, plugs, no_room, other_way, bio_ids, sectors, handed, idle, trace_bio_ids, trace_requests, trace_steps]
+KINDS += [trace_joins, trace_groups, scattered, falling, nested, alone, repeated, cert_scattered, met_windows]
 
 
 def main():
