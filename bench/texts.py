@@ -35,6 +35,11 @@ def extent(rng):
 def script_steps(rng, version, queues, submitters, depth):
     """Steps as somebody writes them by hand, most of whom no rule refuses."""
     serials = [0] * submitters
+    if rng.random() < 0.03:
+        # as many as a plug holds, or one more
+        serials[0] = rng.choice([32, 33])
+        for serial in range(serials[0]):
+            yield "bio", 0, serial, "R", 100 * serial, 8
     for _ in range(rng.randrange(30)):
         who, hw, tag = rng.randrange(submitters), rng.randrange(queues), rng.randrange(min(depth, 4))
         kind = rng.random()
