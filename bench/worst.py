@@ -1,0 +1,279 @@
+#!/usr/bin/env python3
+"""Writes the worst inputs that are known, for `bench/run growth`: worst.py KIND N > FILE.
+
+Each kind is made to take long in one of the ways that the program's structures leave open, and N is how many bios, commands or
+rounds it has. Scripts: joins and fronts (each bio joins a request that waits, at its back or its front), plugs (each bio touches
+half of those that its plug holds, and fits none), no_room (the same in the core, where all wait), other_way (half of what waits
+touches the newcomer and is too long for it, and a short request of the other direction lies there too), bio_ids and sectors (made
+for the hash tables), handed (each command is handed back once), idle (rounds in which nothing waits for any of 16 queues).
+Traces: trace_bio_ids and trace_requests (ids made for the hash tables), trace_steps (another depth in each round, all late),
+trace_joins (requests that grow to 128 bios), trace_groups (groups of 128 bios). Command lists: scattered (rounds up to the
+limits), falling (by falling release and due), nested (each released later and due sooner than the one before), alone (each passed
+over in a window of its own) and repeated (the last id is the first). Certificates: cert_scattered and met_windows (as many
+windows as commands)."""
+import random
+import sys
+
+WORD = (1 << 64) - 1
+
+# --- the hash of std's tables, whose seed is fixed: keys are made for it whose hashes lie in one group of a table of so many ---
+
+SEED = 0x243F_6A88_85A3_08D3
+MULTIPLIER = 0x9E37_79B9_7F4A_7C15
+FACTOR = MULTIPLIER ^ 16
+
+
+def folded(one, other):
+    product = one * other
+    return (product & WORD) ^ (product >> 64)
+
+
+def bits_of(key, state, mask):
+    """The group of a number of 64 bits, by the lowest bits of its hash."""
+    found = folded(state ^ key, FACTOR)
+    return (found ^ found >> 32) & mask
+
+
+def after_submitter(number):
+    """The hash's state once the submitter of a bio's id went into it."""
+    return folded(SEED ^ (number | number << 8 | number << 16), MULTIPLIER ^ 2)
+
+
+def colliding(count, groups, state):
+    """Numbers of 64 bits that all fall into the first of so many groups, a power of two up to 4,096.
+
+    The product of FACTOR and (i << 44 | j) has four words, whose low bits are joined by xor. Those of the two low words come of j
+    alone, and for an i whose product has few bits set at its low end those of the others come of j and of i, each by itself: so
+    the two are matched by a table."""
+    mask = groups - 1
+    table = [[] for _ in range(groups)]
+    for j in range(1 << 20):
+        product = j * FACTOR
+        table[(product ^ product >> 32 ^ product >> 64) & mask].append(j)
+    found = []
+    for i in range(1 << 20):
+        product = i * FACTOR
+        if product & 0xFFFF_FFFF < 1 << 20:
+            for j in table[product >> 52 & mask]:
+                key = state ^ (i << 44 | j)
+                if bits_of(key, state, mask) == 0:
+                    found.append(key)
+        if len(found) >= count:
+            return found[:count]
+    raise ValueError(f"{len(found)} keys were found")
+
+
+def colliding_sectors(count, groups):
+    """Sectors below 2^48 that all fall into the first of so many groups, found by trying."""
+    mask = groups - 1
+    found = []
+    key = 0
+    while len(found) < count:
+        if bits_of(key, SEED, mask) == 0:
+            found.append(key)
+        key += 1
+    return found
+
+
+def table_of(entries, factor):
+    """How many groups a table has that grows by this factor and holds so many entries, nine a group."""
+    groups = 1
+    while 9 * groups < entries:
+        groups *= factor
+    return groups
+
+
+# --- scripts ---
+
+
+def script(lines, out, setup="setup,5,50,65535,128,", queues=1, depth=32):
+    out(f"blk-script,2,{depth},{queues},1024,16")
+    out(setup)
+    for it in lines:
+        out(it)
+
+
+def one_by_one(bios, every=1):
+    """Bios that come into the core one by one, or so many at once."""
+    for n, it in enumerate(bios):
+        yield f"bio,0,{it}"
+        if n % every == every - 1 or n == len(bios) - 1:
+            yield "flush,0,,,,"
+            yield "drain,0,,,,"
+
+
+def joins(count, out):
+    script(one_by_one([f"{n},R,{8 * n},8" for n in range(count)]), out)
+
+
+def fronts(count, out):
+    script(one_by_one([f"{n},R,{8 * (count - n)},8" for n in range(count)]), out)
+
+
+def no_room(count, out):
+    script(one_by_one([f"{n},R,{8 * (n % 2)},8" for n in range(count)], 32), out, "setup,5,50,65535,1,")
+
+
+def other_way(count, out):
+    long = [f"{n + 1},R,{3 + 5 * (n % 2)},5" for n in range(count)]
+    script(one_by_one(["0,W,5,3", *long], 32), out, "setup,5,50,8,128,")
+
+
+def plugs(count, out):
+    lines = []
+    for n, it in enumerate(one_by_one([f"{n},R,{8 * (n % 2)},8" for n in range(count)], 32)):
+        lines.append(it)
+        if n % 34 == 33:
+            lines.append("run,1,,,,")
+    script(lines, out, "setup,5,50,65535,1,")
+
+
+def bio_ids(count, out):
+    serials = colliding(count, table_of(count, 4), after_submitter(0))
+    lines = [*one_by_one([f"{it},R,{100 * n},8" for n, it in enumerate(serials)], 32), f"run,{count // 32 + 1},,,,"]
+    script(lines, out)
+
+
+def sectors(count, out):
+    firsts = colliding_sectors(count, table_of(count, 2))
+    lines = [*one_by_one([f"{n},R,{it},1" for n, it in enumerate(firsts)], 32), f"run,{count // 32 + 1},,,,"]
+    script(lines, out)
+
+
+def handed(count, out):
+    lines = []
+    for n in range(count):
+        lines += [f"bio,0,{n},R,{100 * n},8", "flush,0,,,,", "drain,0,,,,", "issue,0,0,,,", "back,0,,,,", "tick,,,,,"]
+        lines += ["issue,0,0,,,", "done,0,,,,", "tick,,,,,"]
+    script(lines, out)
+
+
+def idle(count, out):
+    script(["run,1,,,,"] * count, out, queues=16, depth=256)
+
+
+# --- traces ---
+
+
+def trace(depth, events, out, setup="setup,0,0,65535,128,"):
+    """A trace of these events, each a list of records."""
+    out(f"blk-trace,2,{depth},1,{len(events)},")
+    out(setup)
+    for event in events:
+        for it in event:
+            out(it)
+
+
+def served(ids, serials):
+    """The events of requests of a bio each, one served in each round."""
+    events = [[f"release,{it},1,,,", f"bio,0,{serials[n]},R,{100 * n},8"] for n, it in enumerate(ids)]
+    for it in ids:
+        events += [[f"issue,{it},0,,,"], ["done,0,,,,"], ["tick,,,,,"]]
+    return events
+
+
+def trace_bio_ids(count, out):
+    trace(1, served(range(count), colliding(count, table_of(count, 4), after_submitter(0))), out)
+
+
+def trace_requests(count, out):
+    trace(1, served(colliding(count, table_of(count, 4), SEED), range(count)), out)
+
+
+def trace_steps(count, out):
+    events = served(range(count), range(count))
+    for n in range(count):
+        events[count + 4 * n : count + 4 * n] = [[f"depth,{1 + n % 2},,,,"]]
+    trace(2, events, out)
+
+
+def trace_joins(count, out):
+    """Requests that each grow to 128 bios, one bio a time, and are served then."""
+    events = []
+    for n in range(count):
+        name = n // 128
+        word = "join" if n % 128 else "release"
+        events.append([f"{word},{name},1,,,", f"bio,0,{n},R,{8 * n},8"])
+        if n % 128 == 127:
+            events += [[f"issue,{name},0,,,"], ["done,0,,,,"], ["tick,,,,,"]]
+    trace(1, events, out)
+
+
+def trace_groups(count, out):
+    events = []
+    for first in range(0, count, 128):
+        bios = range(first, min(first + 128, count))
+        events.append([f"release,{first},{len(bios)},,,", *[f"bio,0,{n},R,{8 * n},8" for n in bios]])
+    trace(1, events, out)
+
+
+# --- command lists and certificates ---
+
+
+def listed(commands, out):
+    out("blk-commands,1,1")
+    for n, (release, due) in enumerate(commands):
+        out(f"{n},{release},{due}")
+
+
+def far_rounds(count):
+    rng = random.Random(7)
+    releases = [rng.randrange(1 << 40) for _ in range(count)]
+    return [(it, rng.randrange(1 << 41)) for it in releases]
+
+
+def scattered(count, out):
+    listed(far_rounds(count), out)
+
+
+def falling(count, out):
+    listed([(count - n, 2 * (count - n)) for n in range(count)], out)
+
+
+def nested(count, out):
+    listed([(n, 3 * count - n) for n in range(count)], out)
+
+
+def alone(count, out):
+    listed([(4 * (n // 2), 4 * (n // 2)) for n in range(count)], out)
+
+
+def repeated(count, out):
+    out("blk-commands,1,1")
+    for n in range(count):
+        out(f"{n % (count - 1)},{n},{n}")
+
+
+def cert_scattered(count, out):
+    """Each runs in its release round and is due there, so a window of that round proves the lateness 0."""
+    releases = sorted({it for it, _ in far_rounds(count)})
+    random.Random(8).shuffle(releases)
+    out(f"blk-certificate,1,1,{len(releases)}")
+    out(f"bound,0,{releases[0]},{releases[0]}")
+    for n, it in enumerate(releases):
+        out(f"{n},{it},{it},{it}")
+
+
+def met_windows(count, out):
+    """Two commands for every fourth round, of which one is met: a window of that round proves it."""
+    out(f"blk-met,1,1,{count}")
+    out(f"met,{(count + 1) // 2},{(count + 1) // 2},")
+    for n in range(0, count, 2):
+        out(f"window,{2 * n},{2 * n},")
+    for n in range(count):
+        release = 4 * (n // 2)
+        out(f"{n},{release},{release},{release + n % 2}")
+
+
+KINDS = [joins, fronts, plugs, no_room, other_way, bio_ids, sectors, handed, idle, trace_bio_ids, trace_requests, trace_steps]
+KINDS += [trace_joins, trace_groups, scattered, falling, nested, alone, repeated, cert_scattered, met_windows]
+
+
+def main():
+    lines = []
+    {it.__name__: it for it in KINDS}[sys.argv[1]](int(sys.argv[2]), lines.append)
+    sys.stdout.write("\n".join(lines) + "\n")
+
+
+if __name__ == "__main__":
+    main()
