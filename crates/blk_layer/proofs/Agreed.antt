@@ -1,7 +1,6 @@
 -- What lines say of the bios and the commands whose lines they are.
-use Rattle.std.proofs.Common.{◌≡◌, ◌∙◌, ◌+◌, ◌<◌, ◌≤◌, ◌≢◌, cond, ℕ, zero, suc, sym, ap, refl, subst, arith, inl, Bool, true, List, [], ◌∷◌, ◌++◌, Option, Some, None, length, take, drop, get_or, count_by, map, IsPermutation, append_assoc, Contains}
+use Rattle.std.proofs.Common.{◌≡◌, ◌∙◌, ◌+◌, ◌<◌, ◌≤◌, ◌≢◌, cond, ℕ, zero, suc, sym, ap, refl, subst, arith, inl, true, List, [], ◌∷◌, ◌++◌, Option, Some, None, length, take, drop, get_or, count_by, map, IsPermutation, append_assoc, Contains}
 use Rattle.std.specs.Prelude.{slice_get, IfNone, IfSome, OnOk, Result, Ok, Err}
-use Rattle.std.specs.List.{flat_map}
 use Rattle.std.proofs.lemmas.List.{take-append-le, take_all}
 use Rattle.std.proofs.lemmas.List.Sorted.{IsPermutation-refl, IsPermutation-sym, IsPermutation-trans, IsPermutation-append, IsPermutation-append_comm}
 use Rattle.edd_check.specs.declared.Command.{Command}
@@ -10,7 +9,7 @@ use Rattle.blk_bio.specs.declared.bio.Dir.{Dir}
 use Rattle.blk_bio.specs.declared.bio.Dir.TheVariants.{Read, Write}
 use Rattle.blk_trace.specs.Happened.{Happened}
 use Rattle.blk_trace.specs.Setups.{Setup}
-use Rattle.blk_trace.specs.Events.{entered, request_of}
+use Rattle.blk_trace.specs.Events.{entered}
 use Rattle.blk_trace.specs.Laws.{IsAccounted}
 use Rattle.blk_trace.specs.Meaning.{command_of, waiting_of}
 use Rattle.blk_trace.specs.Waits.{has_id}

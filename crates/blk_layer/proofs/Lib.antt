@@ -13,3 +13,7 @@ mod Same
 mod Dones
 mod Gathered
 mod Agreed
+mod Moved
+mod Trying
+mod Turning
+mod Onces

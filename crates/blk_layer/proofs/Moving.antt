@@ -1,5 +1,5 @@
 -- What a move leaves of the core.
-use Rattle.std.proofs.Common.{◌≡◌, ◌∙◌, ◌+◌, ℕ, ap, refl, arith, cond, Bool, true, false, List, [], ◌∷◌, ◌++◌, Result, Ok, Err, Option, Some, None, IfOk, IfErr, OnErr, inl, inr}
+use Rattle.std.proofs.Common.{◌≡◌, ◌∙◌, ◌+◌, ℕ, ap, refl, arith, cond, Bool, true, false, List, [], ◌∷◌, ◌++◌, Result, Ok, Err, Option, Some, None, IfOk, IfErr, OnErr}
 use Rattle.blk_bio.specs.Bios.{Bio}
 use Rattle.blk_soft.specs.Queues.{Queue}
 use Rattle.blk_sched.specs.Meaning.{Waiting}
@@ -13,9 +13,9 @@ use Rattle.edd_check.specs.declared.Command.{Command}
 use Rattle.blk_core.specs.Calls.{Places, Choice, AddsEvent, Issues, OfDone, Completes, TakesBack, OfTick, Ends, SetsDepth}
 use Rattle.blk_layer.specs.Served.{done_count, is_done}
 use Rattle.blk_layer.specs.Moves.{IsMoveAnswer}
-use Rattle.blk_layer.specs.Passes.{EndsOrWaits, IsLastTryFault}
-use Rattle.blk_core.specs.declared.IssueFault.{IssueFault}
-use Rattle.blk_core.specs.declared.IssueFault.TheVariants as issue
+use Rattle.blk_layer.specs.declared.tries.NoneIssued.{NoneIssued}
+use Rattle.blk_layer.specs.declared.tries.NoneIssued.TheVariants as none
+use Rattle.blk_layer.specs.Tries.{IsNoneIssued}
 
 -- one event more that is no Done
 pub not_done : (es : List Happened) (e : Happened) → is_done e ≡ false → done_count (es ++ e ∷ []) ≡ done_count es
@@ -31,7 +31,7 @@ placed_stays : (serves : ℕ → Waiting → Bool) (old : CoreState) (bios : Lis
 placed_stays serves old bios hw (New id) new p = record { setup = p.2.0; dones = ap done_count p.2.1 ∙ not_done old.events (Released id bios) refl }
 placed_stays serves old bios hw (JoinedTo id side) new p = record { setup = p.1.0; dones = ap done_count p.1.1 ∙ not_done old.events (Joined id bios) refl }
 
-same_stays : (old new : CoreState) → new ≡ old → Stays old new
+pub same_stays : (old new : CoreState) → new ≡ old → Stays old new
 same_stays old new e = record { setup = ap (λ (c : CoreState). c.setup) e; dones = ap (λ (c : CoreState). done_count c.events) e }
 
 pub move_stays : (serves : ℕ → Waiting → Bool) (queue : Queue) (core : CoreState) (hw : ℕ) (new_queue : Queue) (new_core : CoreState) (r : Result Bool CoreFault)
@@ -71,19 +71,18 @@ tick_stays told old new e = added_stays old Ticked new refl e.0
 pub depth_stays : (old : CoreState) (n : ℕ) (new : CoreState) → SetsDepth old n new → Stays old new
 depth_stays old n new s = added_stays old (DepthSet n) new refl s.0
 
--- a last try that was refused, and one
-ends_stays : (told : OfTick) (old new : CoreState) → EndsOrWaits told old new → Stays old new
-ends_stays told old new (inl ended) = tick_stays told old new ended
-ends_stays told old new (inr waits) = same_stays old new waits.1
+-- a try that ends only a round that is full
+none_stays : (serves : ℕ → Waiting → Bool) (chooses : Choice) (told : OfTick) (old : CoreState) (hw tag : ℕ) (why : NoneIssued) (new : CoreState)
+    → IsNoneIssued serves chooses told old hw tag why new → Stays old new
+none_stays serves chooses told old hw tag none.Nothing new f = issue_stays serves chooses old hw tag new None f
+none_stays serves chooses told old hw tag none.TagRange new f = same_stays old new f.2
+none_stays serves chooses told old hw tag none.SlotUsed new f = same_stays old new f.2
+none_stays serves chooses told old hw tag none.Full new f = same_stays old new f.3
+none_stays serves chooses told old hw tag none.Ended new f = tick_stays told old new f.2
+none_stays serves chooses told old hw tag none.TraceFull new f = same_stays old new f.1
+none_stays serves chooses told old hw tag none.Memory new f = same_stays old new f.1
 
-refused_stays : (told : OfTick) (old : CoreState) (hw tag : ℕ) (why : IssueFault) (new : CoreState) → IsLastTryFault told old hw tag why new → Stays old new
-refused_stays told old hw tag issue.NoQueue new f = same_stays old new f.1
-refused_stays told old hw tag issue.TagRange new f = ends_stays told old new f.1
-refused_stays told old hw tag issue.SlotUsed new f = ends_stays told old new f.1
-refused_stays told old hw tag issue.TraceFull new f = same_stays old new f.1
-refused_stays told old hw tag issue.Memory new f = same_stays old new f.1
-
-pub try_stays : (serves : ℕ → Waiting → Bool) (chooses : Choice) (told : OfTick) (old : CoreState) (hw tag : ℕ) (new : CoreState) (r : Result (Option Command) IssueFault)
-    → IfOk r (λ found. Issues serves chooses old hw tag found new) → IfErr r (λ why. IsLastTryFault told old hw tag why new) → Stays old new
-try_stays serves chooses told old hw tag new (Ok found) issued fault = issue_stays serves chooses old hw tag new found issued
-try_stays serves chooses told old hw tag new (Err why) issued fault = refused_stays told old hw tag why new fault
+pub tried_stays : (serves : ℕ → Waiting → Bool) (chooses : Choice) (told : OfTick) (old : CoreState) (hw tag : ℕ) (new : CoreState) (r : Result Command NoneIssued)
+    → IfOk r (λ command. Issues serves chooses old hw tag (Some command) new) → IfErr r (λ why. IsNoneIssued serves chooses told old hw tag why new) → Stays old new
+tried_stays serves chooses told old hw tag new (Ok command) issued fault = issue_stays serves chooses old hw tag new (Some command) issued
+tried_stays serves chooses told old hw tag new (Err why) issued fault = none_stays serves chooses told old hw tag why new fault

@@ -1,5 +1,5 @@
 -- What flushes add up to.
-use Rattle.std.proofs.Common.{◌≡◌, ◌∙◌, ◌+◌, ◌<◌, ◌≤◌, ℕ, sym, ap, refl, inl, inr, arith, List, [], ◌∷◌, ◌++◌, Some, None, append_assoc, length, get_or}
+use Rattle.std.proofs.Common.{◌≡◌, ◌∙◌, ◌+◌, ◌<◌, ◌≤◌, ℕ, sym, ap, refl, inl, inr, arith, add-zero, List, [], ◌∷◌, ◌++◌, Some, None, append_assoc, length, get_or}
 use Rattle.std.specs.Prelude.{slice_get}
 use Rattle.std.specs.List.{flat_map}
 use Rattle.std.proofs.lemmas.List.{append-nil}
@@ -9,8 +9,11 @@ use Rattle.std.proofs.lemmas.Option.{slice_get-get_or}
 use lib.Dec.{ltb}
 use Rattle.blk_bio.specs.Bios.{Bio}
 use Rattle.blk_plug.specs.Plugs.{Plug, bios_plugged}
+use Rattle.blk_soft.specs.Queues.{Queue}
 use Rattle.blk_layer.specs.Seats.{SubmitterSeat, AreOwn}
-use Rattle.blk_layer.specs.Flushes.{Flushes}
+use Rattle.blk_layer.specs.declared.flushes.FlushWhy.{FlushWhy}
+use Rattle.blk_layer.specs.declared.flushes.FlushWhy.TheVariants.{Foreign, Repeated, SoftFull, Memory}
+use Rattle.blk_layer.specs.Flushes.{Flushes, FlushesInto, IsOfBios, IsRoomReason}
 
 -- a flush of nothing
 pub none_flushed : (seat : SubmitterSeat) (plug : Plug) (new : SubmitterSeat) (left : Plug) → new ≡ seat → left ≡ plug → Flushes seat plug new left
@@ -39,6 +42,43 @@ one_flushed a p first b q stood added = record {
   number = ap (λ (x : SubmitterSeat). x.number) added;
 }
 
+length_both : (xs ys : List Bio) → length (xs ++ ys) ≡ length xs + length ys
+length_both [] ys = omega arith
+length_both (x ∷ xs) ys = omega (arith, length_both xs ys)
+
+-- the same of the software queue: of nothing, of one flush after another, and of one request
+pub none_put : (queue : Queue) (seat : SubmitterSeat) (plug : Plug) → FlushesInto queue seat plug queue seat plug
+unfolding none_flushed
+none_put queue seat plug = record {
+  flushes = none_flushed seat plug seat plug refl refl;
+  put = sym (rw (append-nil queue.requests, add-zero) refl);
+}
+
+pub put_on : (x : Queue) (a : SubmitterSeat) (p : Plug) (y : Queue) (b : SubmitterSeat) (q : Plug) (z : Queue) (c : SubmitterSeat) (r : Plug)
+    → FlushesInto x a p y b q → FlushesInto y b q z c r → FlushesInto x a p z c r
+unfolding flushed_on
+put_on x a p y b q z c r one two =
+    let first = one.flushes.taken in
+    let second = two.flushes.taken in
+    let bios : List (List Bio) → List Bio = λ l. flat_map (λ (request : List Bio). request) l in
+    let count : x.bios_in + length (bios first) + length (bios second) ≡ x.bios_in + length (bios (first ++ second)) =
+    omega (arith, ap length (flat_map-append (λ (request : List Bio). request) first second), length_both (bios first) (bios second)) in
+    let list : (x.requests ++ first) ++ second ≡ x.requests ++ (first ++ second) = append_assoc x.requests first second in
+    record {
+      flushes = flushed_on a p b q c r one.flushes two.flushes;
+      put = two.put ∙ ap (λ (w : Queue). record w { requests = w.requests ++ second; bios_in = w.bios_in + length (bios second) }) one.put
+          ∙ ap (λ n. record x { requests = (x.requests ++ first) ++ second; bios_in = n }) count
+          ∙ ap (λ l. record x { requests = l; bios_in = x.bios_in + length (bios (first ++ second)) }) list;
+    }
+
+pub one_put : (x : Queue) (a : SubmitterSeat) (p : Plug) (first : List Bio) (y : Queue) (b : SubmitterSeat) (q : Plug) → p ≡ record { limits = q.limits; requests = first ∷ q.requests }
+    → b ≡ record { number = a.number; accepted = a.accepted ++ first } → y ≡ record x { requests = x.requests ++ first ∷ []; bios_in = x.bios_in + length first } → FlushesInto x a p y b q
+unfolding one_flushed
+one_put x a p first y b q stood added put = record {
+  flushes = one_flushed a p first b q stood added;
+  put = put ∙ ap (λ l. record x { requests = x.requests ++ first ∷ []; bios_in = x.bios_in + length l }) (sym (append-nil first));
+}
+
 -- an empty list
 pub none_there : {X : Type 0} (xs : List X) → length xs ≤ 0 → xs ≡ []
 none_there [] h = refl
@@ -60,10 +100,6 @@ first_is xs x y ys at e = let s : Some y ≡ Some x = ap (λ l. slice_get l 0) (
 -- how many bios the requests have
 pub counted : (p q : Plug) (first : List Bio) → p ≡ record { limits = q.limits; requests = first ∷ q.requests } → length (bios_plugged p) ≡ length first + length (bios_plugged q)
 counted p q first stood = ap (λ (x : Plug). length (bios_plugged x)) stood ∙ length_both first (bios_plugged q)
-  where
-    length_both : (xs ys : List Bio) → length (xs ++ ys) ≡ length xs + length ys
-    length_both [] ys = omega arith
-    length_both (x ∷ xs) ys = omega (arith, length_both xs ys)
 
 -- the bios up to a place are the submitter's own
 pub own_more : (number : ℕ) (bios : List Bio) (n : ℕ) (x : Bio) → ((k : ℕ) (b : Bio) → k < n → slice_get bios k ≡ Some b → b.id.submitter ≡ number)
@@ -79,3 +115,10 @@ own_more number bios n x own stands is k b less at = elim (cases_Bool (ltb k n))
 
 pub own_all : (number : ℕ) (bios : List Bio) (n : ℕ) → length bios ≤ n → ((k : ℕ) (b : Bio) → k < n → slice_get bios k ≡ Some b → b.id.submitter ≡ number) → AreOwn number bios
 own_all number bios n all own = λ k d less. own k (get_or bios k d) (omega (arith, all, less)) (slice_get-get_or bios k d less)
+
+-- what the bios themselves refuse says nothing of the room
+pub room_of : (queue : Queue) (bios : List Bio) (why : FlushWhy) → IsOfBios why → IsRoomReason queue bios why
+room_of queue bios (Foreign id) h = tt
+room_of queue bios (Repeated id) h = tt
+room_of queue bios SoftFull h = absurd h
+room_of queue bios Memory h = absurd h

@@ -1,5 +1,5 @@
 -- What closing a layer says.
-use Rattle.std.specs.Prelude.{ℕ, ◌≡◌, ◌≢◌, ◌<◌, ◌⊎◌, ◌++◌, ◌==◌, ◌&&◌, Bool, List, [], ◌∷◌, Option, None, Some, fold, map, length, count_by, slice_get, Contains, IsPermutation}
+use Rattle.std.specs.Prelude.{ℕ, ◌≡◌, ◌≢◌, ◌<◌, ◌⊎◌, ◌++◌, ◌==◌, ◌&&◌, Bool, List, [], ◌∷◌, Option, None, Some, fold, map, length, count_by, slice_get, IsPermutation}
 use Rattle.std.specs.Option.{option_or}
 use Rattle.std.specs.List.{flat_map, cons_option}
 use Rattle.edd_check.specs.declared.Command.{Command}
@@ -7,13 +7,13 @@ use Rattle.blk_bio.specs.Bios.{Bio}
 use Rattle.blk_bio.specs.declared.bio.BioId.{BioId}
 use Rattle.blk_trace.specs.Happened.{Happened, Released, Finished}
 use Rattle.blk_trace.specs.Setups.{Setup}
-use Rattle.blk_trace.specs.Events.{At, HasId, request_of}
+use Rattle.blk_trace.specs.Events.{At, AreOnce, HasId, request_of}
 use Rattle.blk_trace.specs.Meaning.{command_of, issued_ids, waiting_of}
 use Rattle.blk_trace.specs.Inside.Seats.{issued_by}
 use Rattle.faults.specs.Order.{BreaksFirst, AreKept}
 use Rattle.blk_layer.specs.Ways.{way_of}
 use Rattle.blk_layer.specs.Served.{done_count}
-use Rattle.blk_layer.specs.Seats.{LayerShape, SubmitterSeat, WorkerSeat}
+use Rattle.blk_layer.specs.Seats.{LayerShape, SubmitterSeat, WorkerSeat, AreOwn}
 use Rattle.blk_layer.specs.declared.closes.CloseRefused.{CloseRefused}
 use Rattle.blk_layer.specs.declared.closes.CloseRefused.TheVariants.{Whole, Differs}
 use Rattle.blk_layer.specs.declared.closes.CloseFault.{CloseFault}
@@ -29,6 +29,14 @@ pub record AreAllThere (map_of : List ℕ) (workers : ℕ) (submitters : List Su
   pub submitter_count : length submitters ≡ length map_of
   pub each_submitter : (k : ℕ) → k < length map_of → HasNumber submitters k
   pub worker_count : length seated ≡ workers
+
+-- no two of the submitters have one number
+abbrev pub AreDistinct : List SubmitterSeat → Type 0
+AreDistinct submitters = (j k : ℕ) (s t : SubmitterSeat) → slice_get submitters j ≡ Some s → slice_get submitters k ≡ Some t → s.number ≡ t.number → j ≡ k
+
+-- what a submitter accepted is its own, and no two of one id
+abbrev pub IsAccountOf : SubmitterSeat → Type 0
+IsAccountOf s = AreOwn s.number s.accepted × AreOnce s.accepted
 
 -- the bios that the submitters were told were accepted, and the commands that were accepted from the workers as done
 unfoldable pub all_accepted : List SubmitterSeat → List Bio

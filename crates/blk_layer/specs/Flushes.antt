@@ -1,9 +1,10 @@
 -- What a flush does, and why it ends.
-use Rattle.std.specs.Prelude.{ℕ, ◌≡◌, ◌≢◌, ◌<◌, ◌++◌, List, Some, slice_get, [], ◌∷◌}
+use Rattle.std.specs.Prelude.{ℕ, ◌≡◌, ◌≢◌, ◌<◌, ◌≤◌, ◌+◌, ◌⊎◌, ◌++◌, ⊤, List, Some, length, slice_get, [], ◌∷◌}
 use Rattle.std.specs.List.{flat_map}
 use Rattle.blk_bio.specs.declared.bio.BioId.{BioId}
 use Rattle.blk_bio.specs.Bios.{Bio}
 use Rattle.blk_plug.specs.Plugs.{Plug}
+use Rattle.blk_soft.specs.Queues.{Queue, most_bios}
 use Rattle.blk_trace.specs.Events.{AreOnce, IsFirstRepeatedBio}
 use Rattle.blk_layer.specs.declared.flushes.FlushWhy.{FlushWhy}
 use Rattle.blk_layer.specs.declared.flushes.FlushWhy.TheVariants.{Foreign, Repeated, SoftFull, Memory}
@@ -48,3 +49,26 @@ pub record IsLeft (seat : SubmitterSeat) (plug : Plug) (why : FlushWhy) : Type 0
   pub first : List Bio
   pub stands : slice_get plug.requests 0 ≡ Some first
   pub reason : IsFlushReason seat first why
+
+-- the requests that were taken stand at the back of the software queue, in their order, and it counts their bios
+pub record FlushesInto (queue : Queue) (seat : SubmitterSeat) (plug : Plug) (new_queue : Queue) (new_seat : SubmitterSeat) (new_plug : Plug) : Type 0 where
+  pub flushes : Flushes seat plug new_seat new_plug
+  pub put : new_queue ≡ record queue { requests = queue.requests ++ flushes.taken; bios_in = queue.bios_in + length (flat_map (λ request. request) flushes.taken) }
+
+-- the software queue has room for a request: for one more, and it takes in no more bios over its life than it may
+abbrev pub HasRoom : Queue → List Bio → Type 0
+HasRoom queue bios = (length queue.requests < queue.depth) × (queue.bios_in + length bios ≤ most_bios)
+
+-- a reason that the bios themselves give, whatever room there is
+abbrev pub IsOfBios : FlushWhy → Type 0
+IsOfBios (Foreign id) = ⊤
+IsOfBios (Repeated id) = ⊤
+IsOfBios SoftFull = ⊥
+IsOfBios Memory = ⊥
+
+-- what each reason says of the room for the request: it is looked for before memory is
+abbrev pub IsRoomReason : Queue → List Bio → FlushWhy → Type 0
+IsRoomReason queue bios (Foreign id) = ⊤
+IsRoomReason queue bios (Repeated id) = ⊤
+IsRoomReason queue bios SoftFull = (queue.depth ≤ length queue.requests) ⊎ (most_bios < queue.bios_in + length bios)
+IsRoomReason queue bios Memory = HasRoom queue bios

@@ -5,6 +5,7 @@ pub mod Moves
 pub mod Flushes
 pub mod Works
 pub mod Passes
+pub mod Tries
 pub mod Ways
 pub mod Closes
 pub mod Inside

@@ -1,5 +1,5 @@
 -- What a worker's passes do to its seat, and when they end a round.
-use Rattle.std.specs.Prelude.{ℕ, ◌≡◌, ◌<◌, ◌≤◌, ◌⊎◌, ◌++◌, false, List, Option, None, Some, length}
+use Rattle.std.specs.Prelude.{ℕ, ◌≡◌, ◌<◌, ◌≤◌, ◌⊎◌, ◌++◌, true, false, List, Option, None, Some, length}
 use Rattle.edd_check.specs.declared.Command.{Command}
 use Rattle.blk_trace.specs.Events.{open_count}
 use Rattle.blk_core.specs.State.{CoreState}
@@ -10,12 +10,17 @@ use Rattle.blk_core.specs.declared.IssueFault.TheVariants as issue
 use Rattle.blk_core.specs.declared.TickFault.TheVariants as tick
 use Rattle.blk_core.specs.declared.CoreFault.{CoreFault}
 use Rattle.blk_core.specs.declared.CoreFault.TheVariants as core
-use Rattle.blk_layer.specs.declared.issues.LayerIssueFault.{LayerIssueFault}
 use Rattle.blk_layer.specs.declared.passes.Worked.{Worked}
 use Rattle.blk_layer.specs.declared.passes.WorkFault.{WorkFault}
 use Rattle.blk_layer.specs.declared.passes.WorkFault.TheVariants.{TraceFull, Memory, Repeated}
 use Rattle.blk_layer.specs.Seats.{WorkerSeat}
-use Rattle.blk_layer.specs.Works.{core_name, TakesInHand, AccountsFor, LetsGo}
+use Rattle.blk_layer.specs.declared.devices.Ran.{Ran}
+use Rattle.blk_layer.specs.declared.devices.Ran.TheVariants.{Done, Busy}
+use Rattle.blk_layer.specs.declared.issues.Issued.{Issued}
+use Rattle.blk_layer.specs.declared.passes.Passed.{Passed}
+use Rattle.blk_layer.specs.declared.passes.After.{After}
+use Rattle.blk_layer.specs.declared.passes.After.TheVariants.{Finish, Again, Yield}
+use Rattle.blk_layer.specs.Works.{TakesInHand, AccountsFor, LetsGo, IsIssueAnswer}
 
 -- the tag is used up in the round that is on: it was issued in it, or it isn't below the round's depth
 abbrev pub IsUsedUp : CoreState → ℕ → ℕ → Type 0
@@ -36,12 +41,6 @@ IsLastTryFault told old hw tag issue.TraceFull new =
 IsLastTryFault told old hw tag issue.Memory new =
     (IsIssueFault old hw tag issue.Memory ⊎ (IsUsedUp old hw tag × IsTickFault old tick.Memory)) × (new ≡ old)
 
--- the same of the name that a worker is told
-pub record IsLastIssueFault (told : OfTick) (old : CoreState) (hw tag : ℕ) (why : LayerIssueFault) (new : CoreState) : Type 0 where
-  pub name : IssueFault
-  pub named : core_name why ≡ Some name
-  pub fault : IsLastTryFault told old hw tag name new
-
 -- a worker whose account has commands more, at its end, and which is else as it was
 pub record Runs (old new : WorkerSeat) : Type 0 where
   pub added : List Command
@@ -57,6 +56,17 @@ pub record IsLeftInHand (old new : WorkerSeat) : Type 0 where
 abbrev pub IsEnded : WorkerSeat → ℕ → WorkerSeat → Type 0
 IsEnded old tag new = AccountsFor old tag new ⊎ ((id : ℕ) × LetsGo old tag id new)
 
+-- the same by what the device answered: a command that it ran is done, and one for which it was busy goes back
+abbrev pub IsEndedAs : Ran → WorkerSeat → ℕ → WorkerSeat → Type 0
+IsEndedAs Done old tag new = AccountsFor old tag new
+IsEndedAs Busy old tag new = (id : ℕ) × LetsGo old tag id new
+
+-- the command in the hands of a worker under a tag was ended, and then the worker was issued the next one, or none
+pub record IsTurned (old : WorkerSeat) (tag : ℕ) (ran : Ran) (found : Option Issued) (new : WorkerSeat) : Type 0 where
+  pub between : WorkerSeat
+  pub ended : IsEndedAs ran old tag between
+  pub answer : IsIssueAnswer between found new
+
 -- the name that work has for the core's reason to refuse a request of a drain
 abbrev pub work_name : CoreFault → Option WorkFault
 work_name core.NoQueue = None
@@ -67,6 +77,22 @@ work_name core.Memory = Some Memory
 -- a fault that leaves nothing in the hands of a worker
 abbrev pub IsPassRefusal : WorkFault → Type 0
 IsPassRefusal why = (why ≡ TraceFull) ⊎ (why ≡ Memory)
+
+-- the command wasn't ended, for want of memory, or it was and there is no next one for this reason
+abbrev pub IsTurnFault : WorkerSeat → ℕ → Ran → WorkFault → WorkerSeat → Type 0
+IsTurnFault old tag ran why new = ((why ≡ Memory) × (new ≡ old)) ⊎ (IsPassRefusal why × IsEndedAs ran old tag new)
+
+-- what is done after a pass, by what it found. It is over where it was to finish, moved nothing and left nothing waiting
+abbrev pub IsOver : Passed → Type 0
+IsOver p = (p.finishing ≡ true) × (p.moved ≡ 0) × (p.pending ≡ 0)
+
+abbrev pub GoesOn : Passed → Type 0
+GoesOn p = (p.finishing ≡ false) ⊎ (0 < p.pending)
+
+abbrev pub IsAfter : Passed → After → Type 0
+IsAfter p Finish = IsOver p
+IsAfter p Again = (0 < p.moved) ⊎ (GoesOn p × (0 < p.served))
+IsAfter p Yield = GoesOn p × (p.moved ≡ 0) × (p.served ≡ 0)
 
 -- what work says that it did: at most so many passes, and fewer only where it was finished; as many commands as the account has more;
 -- else the seat is as it was

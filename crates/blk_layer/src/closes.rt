@@ -1,8 +1,9 @@
 //! How a layer is closed: its accounts are settled, once and for all.
 
-ghost use Rattle.std.specs.Prelude.{ℕ, ◌≡◌, ◌<◌, ◌↔◌, IsTrue, IfOk, IfErr, OnOk, IfSome, IfNone, IsPermutation, length};
-ghost use Rattle.blk_layer.specs.Closes.{AreAllThere, HasNumber, AreSettled, AreCounted, IsCloseRefusal, Disagrees, DiffersAsCommand, all_ran, done_commands};
+ghost use Rattle.std.specs.Prelude.{ℕ, ◌≡◌, ◌<◌, ◌++◌, ◌↔◌, IsTrue, IfOk, IfErr, OnOk, IfSome, IfNone, IsPermutation, length};
+ghost use Rattle.blk_layer.specs.Closes.{AreAllThere, AreDistinct, HasNumber, issued_bios, AreSettled, AreCounted, IsCloseRefusal, Disagrees, DiffersAsCommand, all_ran, done_commands};
 ghost use Rattle.blk_layer.specs.Served.{done_count};
+ghost use Rattle.blk_trace.specs.Events.{AreOnce};
 
 use crate::compares::{differing_bio, differing_command};
 use crate::gathers::{accepted, bio_of, done, entered, queued, ran};
@@ -77,7 +78,7 @@ struct Settled<A: Allocator> {
 impl<S: Scheduler, L: Named> Layer<S, L> {
     /// Closes the layer, and settles the accounts of its seats, which all come back to it, in any order.
     ///
-    /// Ok where they agree: the bios that were accepted are those of the issued requests and those that are left, and the
+    /// Ok where they agree: the bios that were accepted are those of the issued requests and those that are left, each once, and the
     /// commands that the workers ran are those that are done. Refused as `Whole`, and all comes back: as `SeatMissing` where
     /// a seat of the layer isn't there, and as `Memory`. Refused as `Differs` where the accounts disagree on a bio; the layer
     /// is spent then.
@@ -91,6 +92,7 @@ impl<S: Scheduler, L: Named> Layer<S, L> {
         ensures there { OnOk result (AreAllThere self.map self.workers submitters.items workers.items) }
         ensures setup { IfOk result (λ c. c.trace.setup ≡ L.setup) }
         ensures settled { IfOk result (λ c. AreSettled L.setup c.trace.events c.left.items submitters.items workers.items) }
+        ensures once { IfOk result (λ c. AreOnce (issued_bios c.trace.events ++ c.left.items)) }
         ensures counted { IfOk result (λ c. AreCounted c.trace.events c.left.items workers.items) }
         ensures refused { IfErr result (IsCloseRefusal L.setup self submitters.items workers.items) }
     {
@@ -116,6 +118,7 @@ impl<S: Scheduler, L: Named> Layer<S, L> {
         requires there { AreAllThere self.map self.workers submitters.items workers.items }
         ensures setup { IfOk result (λ c. c.trace.setup ≡ L.setup) }
         ensures settled { IfOk result (λ c. AreSettled L.setup c.trace.events c.left.items submitters.items workers.items) }
+        ensures once { IfOk result (λ c. AreOnce (issued_bios c.trace.events ++ c.left.items)) }
         ensures counted { IfOk result (λ c. AreCounted c.trace.events c.left.items workers.items) }
         ensures refused { IfErr result (IsCloseRefusal L.setup self submitters.items workers.items) }
     {
@@ -125,6 +128,7 @@ impl<S: Scheduler, L: Named> Layer<S, L> {
             map,
             tags,
             workers: count,
+            finishing,
         } = self;
         let mut kept = kept.into_inner();
         let mut workers = workers;
@@ -137,16 +141,16 @@ impl<S: Scheduler, L: Named> Layer<S, L> {
             workers.as_slice(),
         );
         let Ok(Settled { left, differs }) = settled else {
-            let layer = Layer {
-                kept: Mutex::new(kept),
-                queues,
-                map,
-                tags,
-                workers: count,
-            };
             return Err(CloseRefused::Whole {
                 fault: CloseFault::Memory,
-                layer,
+                layer: Layer {
+                    kept: Mutex::new(kept),
+                    queues,
+                    map,
+                    tags,
+                    workers: count,
+                    finishing,
+                },
                 submitters,
                 workers,
             });
@@ -216,6 +220,7 @@ fn settle<S: Scheduler, L: Named>(
     requires counted { length (all_ran workers.now) ≡ done_count kept.now.core.events }
     ensures counted { IfOk result (λ s. AreCounted kept.now.core.events s.left.items workers.now) }
     ensures none { IfOk result (λ s. IfNone s.differs (AreSettled kept.now.core.setup kept.now.core.events s.left.items submitters.now workers.now)) }
+    ensures once { IfOk result (λ s. IfNone s.differs (AreDistinct submitters.now → AreOnce (issued_bios kept.now.core.events ++ s.left.items))) }
     ensures some { IfOk result (λ s. IfSome s.differs (Disagrees kept.now.core.setup kept.now.core.events s.left.items submitters.now workers.now)) }
 {
     let trace = kept.core.trace();

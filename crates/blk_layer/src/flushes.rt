@@ -3,9 +3,8 @@
 ghost use Rattle.std.specs.Prelude.{◌≡◌, ◌≢◌, ◌<◌, ◌≤◌, ◌+◌, ◌++◌, ◌∷◌, [], ◌⊎◌, ◌↔◌, IsTrue, IsErr, IsOk, OnOk, OnErr, IfOk, IfErr, IfSome, IfNone, List, Some, length, slice_get};
 ghost use Rattle.blk_bio.specs.Bios.{Bio as Transfer};
 ghost use Rattle.blk_plug.specs.Plugs.{bios_plugged};
-ghost use Rattle.blk_soft.specs.Queues.{most_bios};
 ghost use Rattle.blk_layer.specs.Seats.{AreOwn};
-ghost use Rattle.blk_layer.specs.Flushes.{Flushes, IsFirstForeign, IsLeft};
+ghost use Rattle.blk_layer.specs.Flushes.{FlushesInto, HasRoom, IsFirstForeign, IsLeft, IsRoomReason};
 
 use crate::names::Named;
 use crate::seats::Submitter;
@@ -50,21 +49,21 @@ pub struct FlushFault {
     pub why: FlushWhy,
 }
 
-/// Moves the requests of a plug, from the first on, into a software queue and their bios into the submitter's account, up to
-/// the first that is refused.
-#[tactic(auto, using(crate::proofs::Plugged::none_there, crate::proofs::Plugged::none_held, crate::proofs::Plugged::flushed_on))]
+/// Moves the requests of a plug into a software queue, as `Layer::flush_into` says.
+#[tactic(auto, using(crate::proofs::Plugged::none_there, crate::proofs::Plugged::none_held, crate::proofs::Plugged::put_on))]
 pub(crate) fn flush<L: Named, A: Allocator + Clone>(
     queue: &mut SoftQueue<A>,
     submitter: &mut Submitter<L, A>,
     plug: &mut Plug<A>,
 ) -> Result<Flushed, FlushFault>
     requires { plug.old.limits ≡ queue.old.limits }
-    ensures moved { Flushes submitter.old plug.old submitter.new plug.new }
+    ensures moved { FlushesInto queue.old submitter.old plug.old queue.new submitter.new plug.new }
     ensures all { OnOk result (plug.new.requests ≡ []) }
     ensures requests { IfOk result (λ f. f.requests ≡ length plug.old.requests) }
     ensures bios { IfOk result (λ f. f.bios ≡ length (bios_plugged plug.old)) }
     ensures left { IfErr result (λ e. e.left ≡ length plug.new.requests) }
     ensures fault { IfErr result (λ e. IsLeft submitter.new plug.new e.why) }
+    ensures room { IfErr result (λ e. (first : List Transfer) → slice_get plug.new.requests 0 ≡ Some first → IsRoomReason queue.new first e.why) }
     ensures limits { queue.new.limits ≡ queue.old.limits }
 {
     let (requests, bios_in) = (plug.len(), queue.bios_in());
@@ -83,6 +82,7 @@ pub(crate) fn flush<L: Named, A: Allocator + Clone>(
 }
 
 /// Moves the first request of a plug, which has one, or says why it is refused; nothing is changed then.
+#[tactic(auto, using(crate::proofs::Plugged::room_of))]
 fn flush_first<L: Named, A: Allocator + Clone>(
     queue: &mut SoftQueue<A>,
     submitter: &mut Submitter<L, A>,
@@ -90,11 +90,12 @@ fn flush_first<L: Named, A: Allocator + Clone>(
 ) -> Result<(), FlushWhy>
     requires limits { plug.old.limits ≡ queue.old.limits }
     requires some { 0 < length plug.old.requests }
-    ensures moved { Flushes submitter.old plug.old submitter.new plug.new }
+    ensures moved { FlushesInto queue.old submitter.old plug.old queue.new submitter.new plug.new }
     ensures fewer { OnOk result (length plug.new.requests < length plug.old.requests) }
     ensures counted { queue.new.bios_in + length (bios_plugged plug.new) ≡ queue.old.bios_in + length (bios_plugged plug.old) }
     ensures limits { queue.new.limits ≡ queue.old.limits }
     ensures fault { IfErr result (IsLeft submitter.new plug.new) }
+    ensures room { IfErr result (λ why. (first : List Transfer) → slice_get plug.new.requests 0 ≡ Some first → IsRoomReason queue.new first why) }
     ensures same { OnErr result ((submitter.new ≡ submitter.old) × (plug.new ≡ plug.old) × (queue.new ≡ queue.old)) }
 {
     let Some(request) = plug.first() else {
@@ -116,10 +117,10 @@ fn flush_first<L: Named, A: Allocator + Clone>(
 /// Moves the first request of a plug into a software queue, which has room for it.
 fn take_over<A: Allocator + Clone>(queue: &mut SoftQueue<A>, plug: &mut Plug<A>)
     requires limits { plug.old.limits ≡ queue.old.limits }
-    requires room { (first : List Transfer) → slice_get plug.old.requests 0 ≡ Some first → (length queue.old.requests < queue.old.depth) × (queue.old.bios_in + length first ≤ most_bios) }
+    requires room { (first : List Transfer) → slice_get plug.old.requests 0 ≡ Some first → HasRoom queue.old first }
     requires some { 0 < length plug.old.requests }
     ensures moved { (first : List Transfer) → slice_get plug.old.requests 0 ≡ Some first → plug.old ≡ record { limits = plug.new.limits; requests = first ∷ plug.new.requests } }
-    ensures counted { (first : List Transfer) → slice_get plug.old.requests 0 ≡ Some first → queue.new.bios_in ≡ queue.old.bios_in + length first }
+    ensures put { (first : List Transfer) → slice_get plug.old.requests 0 ≡ Some first → queue.new ≡ record queue.old { requests = queue.old.requests ++ first ∷ []; bios_in = queue.old.bios_in + length first } }
     ensures limits { queue.new.limits ≡ queue.old.limits }
 {
     let Some(request) = plug.take_first() else {
@@ -132,7 +133,7 @@ fn take_over<A: Allocator + Clone>(queue: &mut SoftQueue<A>, plug: &mut Plug<A>)
 
 /// Whether a software queue has room for a request.
 fn has_room<A: Allocator + Clone>(queue: &SoftQueue<A>, request: &Request<A>) -> bool
-    ensures { IsTrue result ↔ ((length queue.now.requests < queue.now.depth) × (queue.now.bios_in + length request.now ≤ most_bios)) }
+    ensures { IsTrue result ↔ HasRoom queue.now request.now }
 {
     let count = request.bios().len() as u64;
     (queue.len() as u64) < queue.depth() && count <= MAX_BIOS - queue.bios_in()

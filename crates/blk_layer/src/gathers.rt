@@ -1,6 +1,6 @@
 //! What a layer and its seats have, gathered in lists.
 
-ghost use Rattle.std.specs.Prelude.{ℕ, ◌≡◌, ◌++◌, [], true, Some, List, IfOk, OnOk, IfSome, IfNone, map, nat_eq};
+ghost use Rattle.std.specs.Prelude.{ℕ, ◌≡◌, ◌++◌, [], true, Some, List, IfOk, OnOk, IfSome, IfNone, map, nat_eq, slice_get};
 ghost use Rattle.std.specs.List.{cons_option};
 ghost use Rattle.std.specs.Option.{option_or};
 ghost use Rattle.std.specs.HashMap as hash;
@@ -11,7 +11,8 @@ ghost use Rattle.blk_trace.specs.Happened.{Released};
 ghost use Rattle.blk_trace.specs.Meaning.{issued_ids, command_of};
 ghost use Rattle.blk_trace.specs.Seen.{happened};
 ghost use Rattle.blk_trace.specs.Waits.{has_id};
-ghost use Rattle.blk_layer.specs.Closes.{all_accepted, all_ran, done_by, done_ids, done_commands, IsBioOf};
+ghost use Rattle.blk_layer.specs.Seats.{SubmitterSeat};
+ghost use Rattle.blk_layer.specs.Closes.{IsAccountOf, all_accepted, all_ran, done_by, done_ids, done_commands, IsBioOf};
 
 use crate::names::Named;
 use crate::seats::{Submitter, Worker};
@@ -34,7 +35,8 @@ pub(crate) fn accepted<L: Named, A: Allocator + Clone>(
     alloc: A,
     submitters: &[Submitter<L, A>],
 ) -> Result<Vec<Bio, A>, AllocError>
-    ensures { IfOk result (λ v. v.items ≡ all_accepted submitters.now) }
+    ensures list { IfOk result (λ v. v.items ≡ all_accepted submitters.now) }
+    ensures each { OnOk result ((k : ℕ) (s : SubmitterSeat) → slice_get submitters.now k ≡ Some s → IsAccountOf s) }
 {
     let mut bios = Vec::new(alloc);
     for submitter in submitters {

@@ -1,8 +1,9 @@
 //! What a worker is told when it asks for a command.
 
-ghost use Rattle.std.specs.Prelude.{◌≡◌, ◌≢◌, Some};
+ghost use Rattle.std.specs.Prelude.{◌≡◌, ◌≢◌, IfOk, None, Some};
 ghost use Rattle.blk_layer.specs.Works.{core_name};
 
+use crate::tries::NoneIssued;
 use blk_core::IssueFault;
 use edd_check::Command;
 use thiserror::Error;
@@ -48,5 +49,30 @@ pub(crate) fn of_core(why: IssueFault) -> LayerIssueFault
         IssueFault::SlotUsed => LayerIssueFault::SlotUsed,
         IssueFault::TraceFull => LayerIssueFault::TraceFull,
         IssueFault::Memory => LayerIssueFault::Memory,
+    }
+}
+
+/// Why a worker has no command more in its hands.
+#[derive(Clone, Copy, Debug, PartialEq, Eq)]
+pub(crate) enum Unasked {
+    /// Each tag that was tried is taken.
+    NoTag,
+    /// What came of the try under its tag.
+    Told(NoneIssued),
+}
+
+/// What a worker is told that was issued nothing, where no round is ended.
+pub(crate) fn of_unasked(why: Unasked) -> Result<Option<Issued>, LayerIssueFault>
+    ensures { IfOk result (λ found. found ≡ None) }
+{
+    match why {
+        Unasked::Told(NoneIssued::Nothing) => Ok(None),
+        Unasked::NoTag => Err(LayerIssueFault::NoTag),
+        Unasked::Told(NoneIssued::TagRange) => Err(LayerIssueFault::TagRange),
+        Unasked::Told(NoneIssued::SlotUsed | NoneIssued::Full | NoneIssued::Ended) => {
+            Err(LayerIssueFault::SlotUsed)
+        }
+        Unasked::Told(NoneIssued::TraceFull) => Err(LayerIssueFault::TraceFull),
+        Unasked::Told(NoneIssued::Memory) => Err(LayerIssueFault::Memory),
     }
 }

@@ -1,22 +1,22 @@
 //! What lies under the core's lock.
 
-ghost use Rattle.std.specs.Prelude.{◌≡◌, ◌≢◌, ◌+◌, ◌<◌, [], IfOk, IfErr, OnOk, OnErr, true, false, length};
+ghost use Rattle.std.specs.Prelude.{◌≡◌, ◌≢◌, ◌+◌, ◌<◌, [], IfOk, IfErr, OnOk, OnErr, Ok, Some, length};
 ghost use Rattle.blk_trace.specs.Waits.{waiting_count};
 ghost use Rattle.blk_core.specs.Faults.{IsTickFault};
 ghost use Rattle.blk_core.specs.Calls.{Issues, Completes, TakesBack, Ends, SetsDepth};
-ghost use Rattle.blk_layer.specs.Moves.{IsMoveAnswer};
+ghost use Rattle.blk_layer.specs.Moves.{IsMoveAllAnswer};
 ghost use Rattle.blk_layer.specs.Works.{IsCoreIssueFault, IsTickAnswer, IsDepthAnswer};
-ghost use Rattle.blk_layer.specs.Passes.{IsLastIssueFault};
+ghost use Rattle.blk_layer.specs.Tries.{IsNoneIssued};
 ghost use Rattle.blk_trace.specs.Setups.{Setup};
 ghost use Rattle.blk_layer.specs.Served.{done_count};
 ghost use Rattle.blk_layer.specs.Closes.{all_ran};
 ghost use Rattle.blk_layer.specs.declared.layer.TheConstants.{MAX_WORKERS};
 
 use crate::issues::{LayerIssueFault, of_core};
-use crate::moves::move_first;
+use crate::moves::{DrainFault, move_all};
 use crate::names::Named;
 use crate::seats::{Worker, audit};
-use crate::tries::issue_or_end;
+use crate::tries::{NoneIssued, try_issue};
 use blk_core::{BackFault, Core, CoreFault, DepthFault, NotIssued, TickFault};
 use blk_sched::Scheduler;
 use blk_soft::SoftQueue;
@@ -24,8 +24,8 @@ use blk_trace::Trace;
 use edd_check::Command;
 use std::sync::ledger::{Book, Share};
 
-/// The core, beside the ledger's book of the commands that are done, the parts of the ledger that no worker has, and whether
-/// the workers are to finish.
+/// The core, beside the ledger's book of the commands that are done, the parts of the ledger that no worker has, and the tag with which
+/// the next try for a command begins.
 #[derive(Drop)]
 pub(crate) struct Kept<S: Scheduler, L: Named> {
     /// The core.
@@ -34,8 +34,8 @@ pub(crate) struct Kept<S: Scheduler, L: Named> {
     book: Book<L>,
     /// The parts of the ledger that no worker has.
     rest: Share<L>,
-    /// Whether nothing more will be flushed, so that workers end once nothing waits.
-    pub(crate) finishing: bool,
+    /// The tag after the last one that was issued: those before it are used up in the round, mostly.
+    next_tag: u16,
     ghost named: { core.setup ≡ L.setup },
     ghost counted: { book.total ≡ done_count core.events },
     ghost all_out: { rest.parts + L.workers ≡ MAX_WORKERS },
@@ -50,23 +50,19 @@ impl<S: Scheduler, L: Named> Kept<S, L> {
         requires total { book.total ≡ 0 }
         requires parts { rest.parts + L.workers ≡ MAX_WORKERS }
         requires amount { rest.amount ≡ 0 }
-        ensures core { result.core ≡ core }
-        ensures open { result.finishing ≡ false }
+        ensures { result.core ≡ core }
     {
         Kept {
             core,
             book,
             rest,
-            finishing: false,
+            next_tag: 0,
         }
     }
 
-    /// From now on nothing more will be flushed.
-    pub(crate) fn finish(&mut self)
-        ensures set { self.new.finishing ≡ true }
-        ensures core { self.new.core ≡ self.old.core }
-    {
-        self.finishing = true;
+    /// The tag with which the next try for a command begins.
+    pub(crate) fn next_tag(&self) -> u16 {
+        self.next_tag
     }
 
     /// How many requests wait in the core.
@@ -76,19 +72,19 @@ impl<S: Scheduler, L: Named> Kept<S, L> {
         self.core.pending()
     }
 
-    /// Moves the first request of a software queue into the core, as `Layer::move_first` does.
-    pub(crate) fn move_first(
+    /// Moves all requests of a software queue into the core, as `Layer::move_all` does.
+    pub(crate) fn move_all(
         &mut self,
         queue: &mut SoftQueue<S::A>,
         hw: u8,
-    ) -> Result<bool, CoreFault>
+    ) -> Result<u64, DrainFault>
         requires limits { queue.old.limits ≡ L.setup.limits }
         requires queue { hw < L.setup.hw }
-        ensures moved { IsMoveAnswer S.serves queue.old self.old.core hw queue.new self.new.core result }
+        ensures moved { IsMoveAllAnswer S.serves queue.old self.old.core hw queue.new self.new.core result }
         ensures limits { queue.new.limits ≡ L.setup.limits }
-        ensures there { IfErr result (λ why. why ≢ CoreFault.NoQueue) }
+        ensures there { IfErr result (λ e. e.why ≢ CoreFault.NoQueue) }
     {
-        move_first(queue, &mut self.core, hw)
+        move_all(queue, &mut self.core, hw)
     }
 
     /// Issues for a hardware queue under a tag.
@@ -104,20 +100,32 @@ impl<S: Scheduler, L: Named> Kept<S, L> {
         }
     }
 
-    /// Issues for a hardware queue under a tag, or ends the round, as `Layer::issue_or_end` does.
-    pub(crate) fn issue_or_end(
-        &mut self,
-        hw: u8,
-        tag: u16,
-    ) -> Result<Option<Command>, LayerIssueFault>
+    /// Issues for a hardware queue under a tag, or ends a round that is full, as `Layer::try_issue` does.
+    pub(crate) fn try_issue(&mut self, hw: u8, tag: u16) -> Result<Command, NoneIssued>
         requires queue { hw < L.setup.hw }
         requires range { tag < L.setup.depth }
-        ensures issued { IfOk result (λ found. Issues S.serves S.chooses self.old.core hw tag found self.new.core) }
-        ensures fault { IfErr result (λ why. IsLastIssueFault S.told_tick self.old.core hw tag why self.new.core) }
+        ensures issued { IfOk result (λ command. Issues S.serves S.chooses self.old.core hw tag (Some command) self.new.core) }
+        ensures fault { IfErr result (λ why. IsNoneIssued S.serves S.chooses S.told_tick self.old.core hw tag why self.new.core) }
     {
-        match issue_or_end(&mut self.core, hw, tag) {
-            Ok(found) => Ok(found),
-            Err(why) => Err(of_core(why)),
+        match try_issue(&mut self.core, hw, tag) {
+            Ok(command) => {
+                self.next_tag = tag.saturating_add(1);
+                Ok(command)
+            }
+            Err(why) => Err(why),
+        }
+    }
+
+    /// Issues for a hardware queue under a tag; where the round is full it is ended, if it may be.
+    pub(crate) fn ask(&mut self, hw: u8, tag: u16, may_end: bool) -> Result<Command, NoneIssued>
+        requires queue { hw < L.setup.hw }
+        requires range { tag < L.setup.depth }
+        ensures { IfOk result (λ command. Issues S.serves S.chooses self.old.core hw tag (Some command) self.new.core) }
+    {
+        if may_end {
+            self.try_issue(hw, tag)
+        } else {
+            of_issue(self.issue(hw, tag))
         }
     }
 
@@ -179,5 +187,19 @@ impl<S: Scheduler, L: Named> Kept<S, L> {
     {
         let Kept { core, .. } = self;
         core.into_trace()
+    }
+}
+
+/// The answer of an issue as that of a try.
+fn of_issue(answer: Result<Option<Command>, LayerIssueFault>) -> Result<Command, NoneIssued>
+    ensures { IfOk result (λ command. answer ≡ Ok (Some command)) }
+{
+    match answer {
+        Ok(Some(command)) => Ok(command),
+        Ok(None) => Err(NoneIssued::Nothing),
+        Err(LayerIssueFault::TagRange) => Err(NoneIssued::TagRange),
+        Err(LayerIssueFault::NoTag | LayerIssueFault::SlotUsed) => Err(NoneIssued::SlotUsed),
+        Err(LayerIssueFault::TraceFull) => Err(NoneIssued::TraceFull),
+        Err(LayerIssueFault::Memory) => Err(NoneIssued::Memory),
     }
 }

@@ -1,20 +1,26 @@
 //! The layer.
 
-ghost use Rattle.std.specs.Prelude.{◌≡◌, ◌<◌, ◌+◌, [], All, IfOk, IfErr, OnOk, IfSome, IfNone, length, vec_len};
+ghost use Rattle.std.specs.Prelude.{◌≡◌, ◌<◌, ◌+◌, [], All, List, IfOk, IfErr, OnOk, IfSome, IfNone, Some, length, slice_get, vec_len};
+ghost use Rattle.blk_bio.specs.Bios.{Bio as Transfer};
+ghost use Rattle.blk_plug.specs.Plugs.{bios_plugged};
+ghost use Rattle.blk_layer.specs.Flushes.{FlushesInto, IsLeft, IsRoomReason};
 ghost use Rattle.blk_layer.specs.Seats.{IsNewLayer};
 ghost use Rattle.blk_layer.specs.Faults.{CanMake, IsFirstOutside, IsLayerFault};
-ghost use Rattle.blk_layer.specs.Moves.{IsMoveAnswer};
+ghost use Rattle.blk_layer.specs.Moves.{IsMoveAnswer, IsMoveAllAnswer};
 ghost use Rattle.blk_layer.specs.Passes.{IsLastTryFault};
+ghost use Rattle.blk_layer.specs.Tries.{IsNoneIssued};
 ghost use Rattle.blk_core.specs.Calls.{Issues};
 
+use crate::flushes::{FlushFault, Flushed, flush};
 use crate::kept::Kept;
-use crate::moves::move_first;
+use crate::moves::{DrainFault, move_all, move_first};
 use crate::names::Named;
 use crate::seats::{Submitter, Worker, seat_submitters, seat_workers};
 use crate::staged::{Staged, empty_queues};
-use crate::tries::issue_or_end;
+use crate::tries::{NoneIssued, issue_or_end, try_issue};
 use blk_core::{Core, CoreFault, IssueFault};
 use blk_hw::Map;
+use blk_plug::Plug;
 use blk_sched::Scheduler;
 use blk_soft::{MAX_DEPTH, SoftQueue};
 use blk_tags::TagSet;
@@ -22,6 +28,7 @@ use edd_check::Command;
 use std::alloc::Allocator;
 use std::marker::Model;
 use std::sync::Mutex;
+use std::sync::atomic::AtomicBool;
 use std::sync::ledger::Blank;
 use thiserror::Error;
 
@@ -56,6 +63,8 @@ pub struct Layer<S: Scheduler, L: Named> {
     pub(crate) map: Map<S::A>,
     pub(crate) tags: TagSet<S::A>,
     pub(crate) workers: usize,
+    /// Whether nothing more will be flushed.
+    pub(crate) finishing: AtomicBool,
 }
 
 impl<S: Scheduler, L: Named> Model for Layer<S, L> {
@@ -162,13 +171,36 @@ impl<S: Scheduler, L: Named> Layer<S, L> {
             map,
             tags,
             workers: workers.len(),
+            finishing: AtomicBool::new(false),
         };
         Ok((layer, submitters, workers))
     }
 
+    /// Moves the requests of a plug, from the first on, to the back of a software queue, and their bios into the submitter's account, up
+    /// to the first that is refused. The plug's limits are the queue's. It waits for nobody: a flush calls it with the lock of the
+    /// submitter's software queue held.
+    ///
+    /// The first request left is refused as a flush says: as `SoftFull` exactly where it may be accepted and the queue has no room
+    /// for it, and as `Memory` only where there is room.
+    pub fn flush_into(
+        queue: &mut SoftQueue<S::A>,
+        submitter: &mut Submitter<L, S::A>,
+        plug: &mut Plug<S::A>,
+    ) -> Result<Flushed, FlushFault>
+        requires { plug.old.limits ≡ queue.old.limits }
+        ensures moved { FlushesInto queue.old submitter.old plug.old queue.new submitter.new plug.new }
+        ensures all { OnOk result (plug.new.requests ≡ []) }
+        ensures requests { IfOk result (λ f. f.requests ≡ length plug.old.requests) }
+        ensures bios { IfOk result (λ f. f.bios ≡ length (bios_plugged plug.old)) }
+        ensures left { IfErr result (λ e. e.left ≡ length plug.new.requests) }
+        ensures fault { IfErr result (λ e. IsLeft submitter.new plug.new e.why) }
+        ensures room { IfErr result (λ e. (first : List Transfer) → slice_get plug.new.requests 0 ≡ Some first → IsRoomReason queue.new first e.why) }
+    {
+        flush(queue, submitter, plug)
+    }
+
     /// Moves the first request of a software queue into the core, for a hardware queue: it is released there and leaves
-    /// the queue. False exactly where the queue is empty. The queue's limits are the core's. It waits for nobody: a drain calls
-    /// it with both locks held.
+    /// the queue. False exactly where the queue is empty. The queue's limits are the core's. It waits for nobody.
     ///
     /// Refused as the core's release is: as `NoQueue` where the core has no such hardware queue, as `Repeated` with the first bio
     /// whose id stands in the trace or twice in the request, as `TraceFull` and as `Memory`. The request is first in the queue
@@ -184,12 +216,45 @@ impl<S: Scheduler, L: Named> Layer<S, L> {
         move_first(queue, core, hw)
     }
 
+    /// Moves all requests of a software queue into the core, each as [`Layer::move_first`] does and the first first, up to the first
+    /// that is refused, and answers how many. It waits for nobody: a drain calls it for each of its software queues, with the lock of
+    /// that queue and the core's held.
+    ///
+    /// Refused with how many were moved before, and why the first of those that are left was refused.
+    pub fn move_all(
+        queue: &mut SoftQueue<S::A>,
+        core: &mut Core<S>,
+        hw: u8,
+    ) -> Result<u64, DrainFault>
+        requires { queue.old.limits ≡ core.old.setup.limits }
+        ensures { IsMoveAllAnswer S.serves queue.old core.old hw queue.new core.new result }
+    {
+        move_all(queue, core, hw)
+    }
+
+    /// Issues for a hardware queue under a tag, as `Core::issue` does; but where the tag is used up in its round and that is full,
+    /// ends the round unless a command is in flight in it. A round is full where as many commands were issued in it as it carries.
+    /// The hardware queue and the tag are the setup's.
+    ///
+    /// It waits for nobody: each try of `work` for a command is this one, with the core's lock held, and `work` ends no round
+    /// otherwise.
+    ///
+    /// Nothing is issued, by the first of these that applies: as `TagRange` or `SlotUsed` where the tag is used up in the round, which
+    /// carries more commands; as `Full` or `Ended` where it is used up and the round is full; as `TraceFull` and `Memory` where the core
+    /// issues nothing so, or where the round can't be ended for want of a place or of memory; and as `Nothing` where the core
+    /// gives no command.
+    pub fn try_issue(core: &mut Core<S>, hw: u8, tag: u16) -> Result<Command, NoneIssued>
+        requires queue { hw < core.old.setup.hw }
+        requires range { tag < core.old.setup.depth }
+        ensures issued { IfOk result (λ command. Issues S.serves S.chooses core.old hw tag (Some command) core.new) }
+        ensures fault { IfErr result (λ why. IsNoneIssued S.serves S.chooses S.told_tick core.old hw tag why core.new) }
+    {
+        try_issue(core, hw, tag)
+    }
+
     /// Issues for a hardware queue under a tag, as `Core::issue` does, and ends the round where that is refused because the tag is
     /// used up in it: it was issued in this round, or isn't below this round's depth, which is smaller than the setup's then. While a
-    /// command is in flight the round goes on. The tag is below the setup's depth.
-    ///
-    /// It waits for nobody: `work` calls it, with the core's lock held, at the last of as many tries as there are tags, and ends
-    /// no round otherwise. So where no smaller depth was set, each Tick of `work` follows an Issue of its round.
+    /// command is in flight the round goes on. The tag is below the setup's depth. It waits for nobody.
     ///
     /// Refused as the core's issue is, and as `TraceFull` or `Memory` where the round can't be ended for want of a place in the
     /// trace or of memory. Only under `SlotUsed` and `TagRange` the round may have ended; else nothing is changed.

@@ -2,10 +2,10 @@
 
 ghost use Rattle.std.specs.Prelude.{◌≡◌, ◌≢◌, IfOk, IfErr, Some};
 ghost use Rattle.blk_layer.specs.Works.{IsIssueAnswer};
-ghost use Rattle.blk_layer.specs.Passes.{Runs, IsWorked, IsWorkFault, IsPassRefusal, IsEnded, work_name};
+ghost use Rattle.blk_layer.specs.Passes.{Runs, IsWorked, IsWorkFault, IsPassRefusal, IsEnded, IsTurned, IsTurnFault, IsAfter, work_name};
 
 use crate::devices::{Device, Ran};
-use crate::issues::{Issued, LayerIssueFault};
+use crate::issues::Issued;
 use crate::layer::Layer;
 use crate::names::Named;
 use crate::seats::Worker;
@@ -14,6 +14,8 @@ use blk_core::CoreFault;
 use blk_sched::Scheduler;
 use blk_trace::MAX_EVENTS;
 use std::sync::Wait;
+use std::sync::atomic::Ordering;
+use std::thread::yield_now;
 use thiserror::Error;
 
 /// What a worker did in a call of `Layer::work`.
@@ -41,20 +43,62 @@ pub enum WorkFault {
     Repeated(BioId),
 }
 
+/// What a pass found.
+#[derive(Clone, Copy, Debug, PartialEq, Eq)]
+pub struct Passed {
+    /// Whether it began after [`Layer::finish`].
+    pub finishing: bool,
+    /// How many requests it moved.
+    pub moved: u64,
+    /// How many commands it served.
+    pub served: u64,
+    /// How many requests waited in the core at its end, where it is finishing.
+    pub pending: u64,
+}
+
+/// What a worker does after a pass.
+#[derive(Clone, Copy, Debug, PartialEq, Eq)]
+pub enum After {
+    /// It is finished.
+    Finish,
+    /// It makes the next pass.
+    Again,
+    /// It lets other threads run first, since it found nothing to do.
+    Yield,
+}
+
+/// What a worker does after a pass, by what that found: it is finished where the pass was to finish, moved nothing and left nothing
+/// waiting, and lets others run first where the pass neither moved nor served anything.
+pub fn after_pass(passed: Passed) -> After
+    ensures { IsAfter passed result }
+{
+    if passed.moved > 0 {
+        return After::Again;
+    }
+    if passed.finishing && passed.pending == 0 {
+        return After::Finish;
+    }
+    if passed.served > 0 {
+        After::Again
+    } else {
+        After::Yield
+    }
+}
+
 impl<S: Scheduler, L: Named> Layer<S, L> {
     /// Says that nothing more will be flushed: workers finish once nothing waits.
-    pub fn finish<R: Wait>(&self, rt: &R) {
-        self.kept.lock(rt).finish();
+    pub fn finish(&self) {
+        self.finishing.store(true, Ordering::SeqCst);
     }
 
-    /// Works for the hardware queue of the worker, whose seat is one of this layer, in at most `turns` passes. A pass drains; then it issues commands, lets the device
-    /// run them and reports them done, or back where the device was busy, one after the other, until an issue finds no command
-    /// or no tag, or as many in a row as there are tags each meet a tag that is used up in its round. The last of these ends the
-    /// round in which its own tag is used up, under the same lock of the core, unless a command is in flight. A pass has no other
-    /// bound than the trace, which has places for fewer Issues than [`MAX_EVENTS`].
+    /// Works for the hardware queue of the worker, whose seat is one of this layer, in at most `turns` passes. A pass drains; then it is
+    /// issued commands, one after the other, lets the device run each and reports it done, or back where the device was busy, under the
+    /// same hold of the core's lock under which it is issued the next one. A pass ends where an issue finds no command or no tag, and where
+    /// the round is full, which it ends unless a command is in flight ([`Layer::try_issue`]). It has no other bound than the trace, which
+    /// has places for fewer Issues than [`MAX_EVENTS`]. After a pass that found nothing to do it lets another thread run.
     ///
-    /// Finished at a pass that began after [`Layer::finish`], moved no request and left none waiting in the core. The worker's
-    /// account grows at its end by the commands that ran; else its seat is as it was.
+    /// Finished at a pass that began after [`Layer::finish`], moved no request and left none waiting in the core ([`after_pass`]). The
+    /// worker's account grows at its end by the commands that ran; else its seat is as it was.
     ///
     /// Refused as `Repeated` where a drain is, and as `TraceFull` and `Memory` where a drain, an issue or the end of a round is, or
     /// as `Memory` where a busy device's command can't be taken back, which alone leaves one command in the worker's hands. What was
@@ -73,12 +117,16 @@ impl<S: Scheduler, L: Named> Layer<S, L> {
     {
         let before = worker.ran().len();
         for passed in 0..turns {
-            if self.pass(rt, worker, device)? {
-                return Ok(Worked {
-                    passes: passed + 1,
-                    ran: (worker.ran().len() - before) as u64,
-                    finished: true,
-                });
+            match self.pass(rt, worker, device)? {
+                After::Finish => {
+                    return Ok(Worked {
+                        passes: passed + 1,
+                        ran: (worker.ran().len() - before) as u64,
+                        finished: true,
+                    });
+                }
+                After::Yield => yield_now(),
+                After::Again => {}
             }
         }
         Ok(Worked {
@@ -88,69 +136,66 @@ impl<S: Scheduler, L: Named> Layer<S, L> {
         })
     }
 
-    /// One pass of `work`, which says whether that is finished.
+    /// One pass of `work`, which says what is to be done after it.
     #[tactic(auto, using(crate::proofs::Running::none_ran, crate::proofs::Running::ran_on, crate::proofs::Running::faulted_on, crate::proofs::Running::refused))]
     fn pass<R: Wait, D: Device>(
         &self,
         rt: &R,
         worker: &mut Worker<L, S::A>,
         device: &mut D,
-    ) -> Result<bool, WorkFault>
+    ) -> Result<After, WorkFault>
         requires { worker.old.tag_set ≡ self.now.tag_set }
         ensures runs { IfOk result (λ _. Runs worker.old worker.new) }
         ensures fault { IfErr result (λ why. IsWorkFault worker.old why worker.new) }
     {
-        let finishing = self.kept.lock(rt).finishing;
+        let finishing = self.finishing.load(Ordering::SeqCst);
         let moved = match self.drain(rt, worker) {
             Ok(moved) => moved,
             Err(fault) => return Err(of_release(fault.why)),
         };
-        self.serve(rt, worker, device)?;
-        Ok(finishing && moved == 0 && self.kept.lock(rt).pending() == 0)
+        let served = self.serve(rt, worker, device)?;
+        let pending = if finishing {
+            self.kept.lock(rt).pending()
+        } else {
+            0
+        };
+        Ok(after_pass(Passed {
+            finishing,
+            moved,
+            served,
+            pending,
+        }))
     }
 
-    /// Serves commands until there is none for the worker. There are fewer than [`MAX_EVENTS`], since each is an event.
-    #[tactic(auto, using(crate::proofs::Running::none_ran, crate::proofs::Running::ran_on, crate::proofs::Running::faulted_on))]
+    /// Serves commands until there is none for the worker, and answers how many. There are fewer than [`MAX_EVENTS`], since each is an
+    /// event.
     fn serve<R: Wait, D: Device>(
         &self,
         rt: &R,
         worker: &mut Worker<L, S::A>,
         device: &mut D,
-    ) -> Result<(), WorkFault>
+    ) -> Result<u64, WorkFault>
         requires { worker.old.tag_set ≡ self.now.tag_set }
         ensures runs { IfOk result (λ _. Runs worker.old worker.new) }
         ensures fault { IfErr result (λ why. IsWorkFault worker.old why worker.new) }
     {
-        for _ in 0..MAX_EVENTS {
-            if !self.serve_one(rt, worker, device)? {
-                break;
+        let Some(first) = self.begin(rt, worker)? else {
+            return Ok(0);
+        };
+        let mut issued = first;
+        for served in 1..MAX_EVENTS {
+            let ran = device.run(&issued.command);
+            match self.turn(rt, worker, issued.tag, ran)? {
+                Some(next) => issued = next,
+                None => return Ok(served),
             }
         }
-        Ok(())
-    }
-
-    /// Serves one command, if there is one for the worker.
-    #[tactic(auto, using(crate::proofs::Running::none_ran, crate::proofs::Running::ended_runs, crate::proofs::Running::left_in_hand, crate::proofs::Running::refused))]
-    fn serve_one<R: Wait, D: Device>(
-        &self,
-        rt: &R,
-        worker: &mut Worker<L, S::A>,
-        device: &mut D,
-    ) -> Result<bool, WorkFault>
-        requires { worker.old.tag_set ≡ self.now.tag_set }
-        ensures runs { IfOk result (λ _. Runs worker.old worker.new) }
-        ensures fault { IfErr result (λ why. IsWorkFault worker.old why worker.new) }
-    {
-        let Some(issued) = self.next(rt, worker)? else {
-            return Ok(false);
-        };
         self.run(rt, worker, device, issued)?;
-        Ok(true)
+        Ok(MAX_EVENTS)
     }
 
-    /// The next command for the worker. There is none where the core gives none, where no tag is free, and where as many tries in a
-    /// row as there are tags met one that is used up in its round; the last of these ends the round.
-    fn next<R: Wait>(
+    /// The first command of a pass, if there is one for the worker.
+    fn begin<R: Wait>(
         &self,
         rt: &R,
         worker: &mut Worker<L, S::A>,
@@ -159,17 +204,29 @@ impl<S: Scheduler, L: Named> Layer<S, L> {
         ensures issued { IfOk result (λ found. IsIssueAnswer worker.old found worker.new) }
         ensures fault { IfErr result (λ why. IsPassRefusal why × (worker.new ≡ worker.old)) }
     {
-        let depth = self.tags.depth();
-        for tried in 0..depth {
-            match worker.issue(rt, self, tried + 1 == depth) {
-                Ok(found) => return Ok(found),
-                Err(LayerIssueFault::NoTag) => return Ok(None),
-                Err(LayerIssueFault::TagRange | LayerIssueFault::SlotUsed) => {}
-                Err(LayerIssueFault::TraceFull) => return Err(WorkFault::TraceFull),
-                Err(LayerIssueFault::Memory) => return Err(WorkFault::Memory),
-            }
+        if worker.make_room().is_err() {
+            return Err(WorkFault::Memory);
         }
-        Ok(None)
+        let mut kept = self.kept.lock(rt);
+        worker.next(&mut *kept, &self.tags)
+    }
+
+    /// Reports what became of the command in the worker's hands under a tag, and answers the next one: both under one hold of the core's
+    /// lock.
+    fn turn<R: Wait>(
+        &self,
+        rt: &R,
+        worker: &mut Worker<L, S::A>,
+        tag: u16,
+        ran: Ran,
+    ) -> Result<Option<Issued>, WorkFault>
+        requires { worker.old.tag_set ≡ self.now.tag_set }
+        ensures turned { IfOk result (λ found. IsTurned worker.old tag ran found worker.new) }
+        ensures fault { IfErr result (λ why. IsTurnFault worker.old tag ran why worker.new) }
+    {
+        let has_room = worker.make_room().is_ok();
+        let mut kept = self.kept.lock(rt);
+        worker.turn(&mut *kept, &self.tags, tag, ran, has_room)
     }
 
     /// Lets the device run a command in the worker's hands, and reports what became of it.
@@ -184,11 +241,9 @@ impl<S: Scheduler, L: Named> Layer<S, L> {
         ensures ended { IfOk result (λ _. IsEnded worker.old issued.tag worker.new) }
         ensures fault { IfErr result (λ why. (why ≡ WorkFault.Memory) × (worker.new ≡ worker.old)) }
     {
-        let ended = match device.run(&issued.command) {
-            Ran::Done => self.done(rt, worker, issued.tag).is_ok(),
-            Ran::Busy => self.back(rt, worker, issued.tag).is_ok(),
-        };
-        if ended {
+        let ran = device.run(&issued.command);
+        let mut kept = self.kept.lock(rt);
+        if worker.end(&mut *kept, &self.tags, issued.tag, ran) {
             Ok(())
         } else {
             Err(WorkFault::Memory)

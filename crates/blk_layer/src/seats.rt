@@ -2,16 +2,18 @@
 
 ghost use Rattle.std.specs.Prelude.{◌≡◌, ◌++◌, OnErr, IfSome, IfNone, ◌<◌, ◌≤◌, ◌+◌, ◌∷◌, [], ℕ, IfOk, IfErr, OnOk, All, length, map, replicate, vec_len, slice_get, Some, None, Contains};
 ghost use Rattle.blk_trace.specs.Events.{AreOnce};
-ghost use Rattle.blk_layer.specs.Flushes.{CanAccept, IsFlushReason};
+ghost use Rattle.blk_layer.specs.Flushes.{CanAccept, IsFlushReason, IsOfBios};
 ghost use Rattle.blk_layer.specs.Seats.{AreOwn, HoldsItsTags, new_submitter, new_worker};
 ghost use Rattle.blk_layer.specs.Closes.{all_ran};
-ghost use Rattle.blk_layer.specs.Works.{IsIssueAnswer, AccountsFor, LetsGo, IsInHand};
+ghost use Rattle.blk_layer.specs.Works.{TakesInHand, AccountsFor, LetsGo, IsInHand};
+ghost use Rattle.blk_core.specs.Calls.{Issues, Completes, TakesBack};
 
 use crate::accounts::Account;
 use crate::flushes::{FlushWhy, first_foreign};
-use crate::issues::{Issued, LayerIssueFault};
-use crate::layer::Layer;
+use crate::issues::{Issued, Unasked};
+use crate::kept::Kept;
 use crate::names::Named;
+use crate::tries::NoneIssued;
 use blk_bio::Bio;
 use blk_core::{BackFault, NotIssued};
 use blk_sched::Scheduler;
@@ -19,7 +21,6 @@ use blk_tags::{TagSeat, TagSet};
 use edd_check::Command;
 use std::alloc::{AllocError, Allocator, Global};
 use std::marker::{Model, PhantomData};
-use std::sync::Wait;
 use std::sync::ledger::{Book, Share};
 
 /// A submitter's seat: the software queue that is its own, and the account of its bios that were accepted.
@@ -74,6 +75,7 @@ impl<L: Named, A: Allocator + Clone> Submitter<L, A> {
     /// The first reason not to accept bios, memory and the software queue aside.
     pub(crate) fn refusal(&self, bios: &[Bio]) -> Option<FlushWhy>
         ensures some { IfSome result (IsFlushReason self.now bios.now) }
+        ensures kind { IfSome result IsOfBios }
         ensures none { IfNone result (CanAccept self.now bios.now) }
     {
         if let Some(id) = first_foreign(self.number, bios) {
@@ -178,36 +180,48 @@ impl<L: Named, A: Allocator + Clone> Worker<L, A> {
         self.hw
     }
 
-    /// Issues a command to it, as `Layer::issue` says. On a last try the round is ended where the tag is used up in it.
-    pub(crate) fn issue<S: Scheduler<A = A>, R: Wait>(
+    /// The tag after the last one that it took.
+    pub(crate) fn after_last(&self) -> u16 {
+        let _ = self.hw;
+        self.seat.next()
+    }
+
+    /// Makes room in its account for the commands that it may have in its hands. Fails for want of memory alone.
+    pub(crate) fn make_room(&mut self) -> Result<(), AllocError>
+        ensures { self.new ≡ self.old }
+    {
+        self.ran.reserve(self.hands.len())
+    }
+
+    /// Issues a command to it out of the core, under the first tag from the given one on that is free, upward and round. Without a
+    /// command the tag goes back. Where the round is full it is ended, if it may be.
+    pub(crate) fn ask<S: Scheduler<A = A>>(
         &mut self,
-        rt: &R,
-        layer: &Layer<S, L>,
-        is_last: bool,
-    ) -> Result<Option<Issued>, LayerIssueFault>
-        requires { self.old.tag_set ≡ layer.now.tag_set }
-        ensures issued { IfOk result (λ found. IsIssueAnswer self.old found self.new) }
+        kept: &mut Kept<S, L>,
+        tags: &TagSet<A>,
+        from: u16,
+        may_end: bool,
+    ) -> Result<Issued, Unasked>
+        requires { self.old.tag_set ≡ tags.now }
+        ensures issued { IfOk result (λ issued. TakesInHand self.old issued.tag issued.command self.new) }
+        ensures core { IfOk result (λ issued. Issues S.serves S.chooses kept.old.core self.old.hw issued.tag (Some issued.command) kept.new.core) }
         ensures same { OnErr result (self.new ≡ self.old) }
     {
-        let Some(tag) = layer.tags.get(&mut self.seat) else {
-            return Err(LayerIssueFault::NoTag);
+        let Some(tag) = tags.get_from(&mut self.seat, from) else {
+            return Err(Unasked::NoTag);
         };
         if self.ran.reserve(self.hands.len()).is_err() {
-            layer.tags.give(&mut self.seat, tag);
-            return Err(LayerIssueFault::Memory);
+            tags.give(&mut self.seat, tag);
+            return Err(Unasked::Told(NoneIssued::Memory));
         }
-        match layer.ask(rt, self.hw, tag, is_last) {
-            Ok(Some(command)) => {
+        match kept.ask(self.hw, tag, may_end) {
+            Ok(command) => {
                 self.hands[usize::from(tag)] = Some(command);
-                Ok(Some(Issued { command, tag }))
-            }
-            Ok(None) => {
-                layer.tags.give(&mut self.seat, tag);
-                Ok(None)
+                Ok(Issued { command, tag })
             }
             Err(why) => {
-                layer.tags.give(&mut self.seat, tag);
-                Err(why)
+                tags.give(&mut self.seat, tag);
+                Err(Unasked::Told(why))
             }
         }
     }
@@ -224,45 +238,47 @@ impl<L: Named, A: Allocator + Clone> Worker<L, A> {
         self.hands[usize::from(tag)]
     }
 
-    /// Reports as done the command in its hands under a tag, as `Layer::done` says.
-    pub(crate) fn done<S: Scheduler<A = A>, R: Wait>(
+    /// Reports to the core as done the command in its hands under a tag, as `Layer::done` says.
+    pub(crate) fn done<S: Scheduler<A = A>>(
         &mut self,
-        rt: &R,
-        layer: &Layer<S, L>,
+        kept: &mut Kept<S, L>,
+        tags: &TagSet<A>,
         tag: u16,
     ) -> Result<(), NotIssued>
-        requires { self.old.tag_set ≡ layer.now.tag_set }
+        requires { self.old.tag_set ≡ tags.now }
         ensures done { OnOk result (AccountsFor self.old tag self.new) }
+        ensures core { OnOk result (Completes S.told_done kept.old.core tag kept.new.core) }
         ensures same { OnErr result (self.new ≡ self.old) }
     {
         let Some(command) = self.in_hand(tag) else {
             return Err(NotIssued);
         };
-        layer.complete(rt, &mut self.share, tag)?;
+        kept.done(&mut self.share, tag)?;
         self.hands[usize::from(tag)] = None;
         self.ran.push_reserved(command);
-        layer.tags.give(&mut self.seat, tag);
+        tags.give(&mut self.seat, tag);
         Ok(())
     }
 
     /// Hands the command in its hands under a tag back to the core, as `Layer::back` says.
-    pub(crate) fn back<S: Scheduler<A = A>, R: Wait>(
+    pub(crate) fn back<S: Scheduler<A = A>>(
         &mut self,
-        rt: &R,
-        layer: &Layer<S, L>,
+        kept: &mut Kept<S, L>,
+        tags: &TagSet<A>,
         tag: u16,
     ) -> Result<u64, BackFault>
-        requires { self.old.tag_set ≡ layer.now.tag_set }
+        requires { self.old.tag_set ≡ tags.now }
         ensures back { IfOk result (λ id. LetsGo self.old tag id self.new) }
+        ensures core { IfOk result (λ _. (id : ℕ) × TakesBack kept.old.core tag id kept.new.core) }
         ensures fault { IfErr result (λ why. why ≡ BackFault.Memory → IsInHand self.old tag) }
         ensures same { OnErr result (self.new ≡ self.old) }
     {
         let Some(command) = self.in_hand(tag) else {
             return Err(BackFault::NotIssued);
         };
-        layer.take_back(rt, tag)?;
+        kept.back(tag)?;
         self.hands[usize::from(tag)] = None;
-        layer.tags.give(&mut self.seat, tag);
+        tags.give(&mut self.seat, tag);
         Ok(command.id)
     }
 }

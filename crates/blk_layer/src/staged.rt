@@ -3,11 +3,12 @@
 ghost use Rattle.std.specs.Prelude.{◌≡◌, ◌≢◌, ◌≤◌, ◌<◌, [], IfOk, IfErr, OnOk, length, vec_len};
 ghost use Rattle.blk_plug.specs.Plugs.{bios_plugged};
 ghost use Rattle.blk_layer.specs.Flushes.{Flushes, IsLeft};
-ghost use Rattle.blk_layer.specs.Moves.{IsMoveAnswer};
+ghost use Rattle.blk_layer.specs.Moves.{IsMoveAllAnswer};
 ghost use Rattle.blk_soft.specs.Queues.{greatest_depth};
 
 use crate::flushes::{FlushFault, Flushed, flush};
 use crate::kept::Kept;
+use crate::moves::DrainFault;
 use crate::names::Named;
 use crate::seats::Submitter;
 use blk_bio::Limits;
@@ -59,17 +60,17 @@ impl<L: Named, A: Allocator + Clone> Staged<L, A> {
         flush(&mut self.queue, submitter, plug)
     }
 
-    /// Moves the first request of the queue into the core, as `Layer::move_first` says.
-    pub(crate) fn move_first<S: Scheduler<A = A>>(
+    /// Moves all requests of the queue into the core, as `Layer::move_all` says.
+    pub(crate) fn move_all<S: Scheduler<A = A>>(
         &mut self,
         kept: &mut Kept<S, L>,
         hw: u8,
-    ) -> Result<bool, CoreFault>
+    ) -> Result<u64, DrainFault>
         requires { hw < L.setup.hw }
-        ensures moved { IsMoveAnswer S.serves self.old.queue kept.old.core hw self.new.queue kept.new.core result }
-        ensures there { IfErr result (λ why. why ≢ CoreFault.NoQueue) }
+        ensures moved { IsMoveAllAnswer S.serves self.old.queue kept.old.core hw self.new.queue kept.new.core result }
+        ensures there { IfErr result (λ e. e.why ≢ CoreFault.NoQueue) }
     {
-        kept.move_first(&mut self.queue, hw)
+        kept.move_all(&mut self.queue, hw)
     }
 }
 

@@ -1,34 +1,20 @@
 //! What threads do with a layer: the calls that wait for a lock.
 
-ghost use Rattle.std.specs.Prelude.{◌≡◌, ◌≢◌, ◌<◌, ◌≤◌, ◌*◌, ◌+◌, [], OnOk, OnErr, IfOk, IfErr, length};
+ghost use Rattle.std.specs.Prelude.{◌≡◌, ◌≢◌, ◌<◌, ◌≤◌, [], OnOk, OnErr, IfOk, IfErr, length};
 ghost use Rattle.blk_plug.specs.Plugs.{bios_plugged};
 ghost use Rattle.blk_layer.specs.Flushes.{Flushes, IsLeft};
 ghost use Rattle.blk_layer.specs.Works.{IsIssueAnswer, AccountsFor, LetsGo, IsInHand, IsTickAnswer, IsDepthAnswer};
 
 use crate::flushes::{FlushFault, Flushed};
-use crate::issues::{Issued, LayerIssueFault};
+use crate::issues::{Issued, LayerIssueFault, of_unasked};
 use crate::layer::Layer;
+use crate::moves::{DrainFault, MAX_MOVES};
 use crate::names::Named;
 use crate::seats::{Submitter, Worker};
 use blk_core::{BackFault, CoreFault, DepthFault, NotIssued, TickFault};
 use blk_plug::Plug;
 use blk_sched::Scheduler;
-use blk_soft::MAX_DEPTH;
-use edd_check::Command;
 use std::sync::Wait;
-use std::sync::ledger::Share;
-
-/// The most requests that a drain moves from one software queue: as many as one can hold.
-pub const MAX_MOVES: u64 = MAX_DEPTH;
-
-/// A drain that ended at a request that the core refused.
-#[derive(Clone, Copy, Debug, PartialEq, Eq)]
-pub struct DrainFault {
-    /// How many requests were moved before it.
-    pub moved: u64,
-    /// Why the core refused it; it is first in its software queue again.
-    pub why: CoreFault,
-}
 
 impl<S: Scheduler, L: Named> Layer<S, L> {
     /// Moves the requests of a plug, from the first on, into the submitter's software queue, and accepts their bios. Ends at
@@ -58,8 +44,9 @@ impl<S: Scheduler, L: Named> Layer<S, L> {
         staged.flush(submitter, plug)
     }
 
-    /// Moves requests from the software queues of the worker's hardware queue, by rising number and at most [`MAX_MOVES`] from
-    /// each, into the core, and answers how many. Each is moved under the locks of its software queue and of the core.
+    /// Moves the requests of the software queues of the worker's hardware queue, by rising number, into the core, and answers how many.
+    /// Those of a software queue, [`MAX_MOVES`] at most, are moved under its lock and one hold of the core's; the core's is not taken
+    /// where the queue has none.
     ///
     /// Where the core refuses one it is first in its queue again, and the drain ends: with how many were moved before, and as
     /// `Repeated`, `TraceFull` or `Memory` as [`Layer::move_first`] is, never as `NoQueue`. The worker's seat stays as it was.
@@ -94,21 +81,17 @@ impl<S: Scheduler, L: Named> Layer<S, L> {
         ensures few_err { IfErr result (λ e. e.moved ≤ MAX_MOVES) }
         ensures there { IfErr result (λ e. e.why ≢ CoreFault.NoQueue) }
     {
-        for moved in 0..MAX_MOVES {
-            let mut staged = self.queues[soft].lock(rt);
-            let mut kept = self.kept.lock(rt);
-            match staged.move_first(&mut *kept, hw) {
-                Ok(true) => {}
-                Ok(false) => return Ok(moved),
-                Err(why) => return Err(DrainFault { moved, why }),
-            }
+        let mut staged = self.queues[soft].lock(rt);
+        if staged.queue.len() == 0 {
+            return Ok(0);
         }
-        Ok(MAX_MOVES)
+        let mut kept = self.kept.lock(rt);
+        staged.move_all(&mut *kept, hw)
     }
 
-    /// Issues a command to a worker, for its hardware queue: the one that the core gives, or None where that gives none. The
-    /// tag is taken before the core's lock. Without a command it is given back after the lock, and the worker holds what it held;
-    /// but its next try for a tag may begin at another one. The seat is one of this layer.
+    /// Issues a command to a worker, for its hardware queue: the one that the core gives, or None where that gives none. Without a
+    /// command the tag that was taken is given back, and the worker holds what it held; but its next try for a tag may begin at
+    /// another one. The seat is one of this layer.
     ///
     /// Refused, by the first of these that applies: as `NoTag` where each tag was found taken when it was tried; as `Memory`
     /// where the worker's account can't be given the room that a completion will need; and then as the core's issue is.
@@ -121,31 +104,16 @@ impl<S: Scheduler, L: Named> Layer<S, L> {
         ensures issued { IfOk result (λ found. IsIssueAnswer worker.old found worker.new) }
         ensures same { OnErr result (worker.new ≡ worker.old) }
     {
-        worker.issue(rt, self, false)
-    }
-
-    /// What the core issues for a hardware queue under a tag. On a last try the round is ended, under the same lock, where the
-    /// tag is used up in it.
-    pub(crate) fn ask<R: Wait>(
-        &self,
-        rt: &R,
-        hw: u8,
-        tag: u16,
-        is_last: bool,
-    ) -> Result<Option<Command>, LayerIssueFault>
-        requires queue { hw < L.setup.hw }
-        requires range { tag < L.setup.depth }
-    {
         let mut kept = self.kept.lock(rt);
-        if is_last {
-            kept.issue_or_end(hw, tag)
-        } else {
-            kept.issue(hw, tag)
+        let from = worker.after_last();
+        match worker.ask(&mut *kept, &self.tags, from, false) {
+            Ok(issued) => Ok(Some(issued)),
+            Err(why) => of_unasked(why),
         }
     }
 
     /// Reports as done the command in the worker's hands under a tag: the one that the worker was last issued with it. It goes
-    /// into the worker's account, and the tag is given back, after the core's lock. The seat is one of this layer. Takes no memory.
+    /// into the worker's account, and the tag is given back. The seat is one of this layer. Takes no memory.
     ///
     /// Refused where the worker has no command under the tag, also where another one has; nothing is changed then.
     pub fn done<R: Wait>(
@@ -158,27 +126,12 @@ impl<S: Scheduler, L: Named> Layer<S, L> {
         ensures done { OnOk result (AccountsFor worker.old tag worker.new) }
         ensures same { OnErr result (worker.new ≡ worker.old) }
     {
-        worker.done(rt, self, tag)
-    }
-
-    /// Completes in the core what is in flight under a tag, and counts it in a worker's part of the ledger.
-    pub(crate) fn complete<R: Wait>(
-        &self,
-        rt: &R,
-        share: &mut Share<L>,
-        tag: u16,
-    ) -> Result<(), NotIssued>
-        requires { 0 < share.old.parts }
-        ensures counted { OnOk result (share.new.amount ≡ share.old.amount + 1) }
-        ensures parts { share.new.parts ≡ share.old.parts }
-        ensures same { OnErr result (share.new.amount ≡ share.old.amount) }
-    {
-        self.kept.lock(rt).done(share, tag)
+        let mut kept = self.kept.lock(rt);
+        worker.done(&mut *kept, &self.tags, tag)
     }
 
     /// Hands the command in the worker's hands under a tag back to the core, since the device was busy, and answers its id: the
-    /// core will issue it again. The tag is given back, after the core's lock, and the worker's account stays. The seat is one
-    /// of this layer.
+    /// core will issue it again. The tag is given back, and the worker's account stays. The seat is one of this layer.
     ///
     /// Refused, by the first of these that applies: as `NotIssued` where the worker has no command under the tag, also where
     /// another one has; and as the core's `back` is. Nothing is changed then.
@@ -193,12 +146,8 @@ impl<S: Scheduler, L: Named> Layer<S, L> {
         ensures fault { IfErr result (λ why. why ≡ BackFault.Memory → IsInHand worker.old tag) }
         ensures same { OnErr result (worker.new ≡ worker.old) }
     {
-        worker.back(rt, self, tag)
-    }
-
-    /// Takes what is in flight under a tag back into the core.
-    pub(crate) fn take_back<R: Wait>(&self, rt: &R, tag: u16) -> Result<u64, BackFault> {
-        self.kept.lock(rt).back(tag)
+        let mut kept = self.kept.lock(rt);
+        worker.back(&mut *kept, &self.tags, tag)
     }
 
     /// Ends the round, and answers the number of the next one: how many Ticks there are then. Refused as the core's `tick` is,

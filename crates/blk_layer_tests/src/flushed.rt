@@ -4,7 +4,7 @@ use crate::closed::other_than;
 use crate::given::bio;
 use crate::listed::{Call, flushed};
 use blk_bio::BioId;
-use blk_layer::{FlushFault, FlushWhy};
+use blk_layer::{FlushFault, FlushWhy, MAX_MOVES};
 
 // The first of two requests fills the software queue; once it is drained, the second one does. The first bio's id is refused from
 // then on. The bio in the software queue is left first, and then the one that waits in the core.
@@ -69,6 +69,37 @@ fn layer_drains_by_rising_number(rt: HostRuntime) {
         &calls,
         &left,
         3,
+    );
+    assert_eq!(rt; other, None);
+}
+
+// The deepest software queue is filled and drained at once; one request more had no room before.
+#[test]
+fn layer_soft_queue_of_the_greatest_depth(rt: HostRuntime) {
+    let full = FlushFault {
+        left: 1,
+        why: FlushWhy::SoftFull,
+    };
+    let calls = [
+        Call::Fill(0, 0, MAX_MOVES),
+        Call::Add(0, MAX_MOVES, 900_000),
+        Call::Flush(0, Err(full)),
+        Call::Drain(0, Ok(MAX_MOVES)),
+        Call::Flush(0, flushed(1)),
+        Call::Drain(1, Ok(1)),
+        Call::Finish,
+        Call::Work(0, 1000, 0, Ok((513, 1025, true)), 1025),
+        Call::Ran(0, 1025),
+    ];
+    let other = other_than(
+        &rt,
+        rt.alloc(),
+        (2, 1, 1024),
+        &[0, 0],
+        &[0, 0],
+        &calls,
+        &[],
+        3587,
     );
     assert_eq!(rt; other, None);
 }

@@ -90,7 +90,7 @@ fn at_once<R: Abort + Wait + Threads + Sync, L: Named + Send + Sync>(
     assert!(rt; usize::from(submitter.number()) < count);
     flush_one(rt, alloc, &layer, &mut submitter, limits, 0);
     flush_one(rt, alloc, &layer, &mut submitter, limits, 1);
-    layer.finish(rt);
+    layer.finish();
     let (begun, alone) = (AtomicU64::new(0), AtomicU64::new(0));
     let shared = &layer;
     let both = thread::join(

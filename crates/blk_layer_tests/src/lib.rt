@@ -24,7 +24,11 @@ mod listed;
 #[cfg(test)]
 mod made;
 #[cfg(test)]
+mod many;
+#[cfg(test)]
 mod moved;
+#[cfg(test)]
+mod passed;
 #[cfg(test)]
 mod plain;
 #[cfg(test)]
@@ -33,6 +37,8 @@ mod refused;
 mod seen;
 #[cfg(test)]
 mod served;
+#[cfg(test)]
+mod told;
 #[cfg(test)]
 mod tried;
 #[cfg(test)]

@@ -9,7 +9,7 @@ use blk_layer::{
     Device, DrainFault, FlushFault, FlushWhy, Flushed, Layer, LayerIssueFault, Named, Ran,
     Submitter, WorkFault, Worked, Worker,
 };
-use blk_plug::{Added, Plug, PlugFault};
+use blk_plug::{Added, PLUG_REQUESTS, Plug, PlugFault};
 use blk_sched::Scheduler;
 use edd_check::Command;
 use std::alloc::Allocator;
@@ -21,6 +21,8 @@ use std::sync::Wait;
 pub enum Call {
     /// A read of a serial number and a first sector becomes a request of its own in a submitter's plug.
     Add(u8, u64, u64),
+    /// Reads from a serial number on, so many, each a request of its own, go through a submitter's plug into its software queue.
+    Fill(u8, u64, u64),
     /// A submitter flushes its plug.
     Flush(u8, Result<Flushed, FlushFault>),
     /// So many bios of a submitter are accepted.
@@ -90,6 +92,32 @@ fn adds<A: Allocator + Clone>(
     }
 }
 
+/// Whether so many reads go through a plug into the software queue, as many at a time as the plug holds.
+fn fills<R: Abort + Wait, S: Scheduler, L: Named>(
+    rt: &R,
+    layer: &Layer<S, L>,
+    submitter: &mut Submitter<L, S::A>,
+    plug: &mut Plug<S::A>,
+    from: u64,
+    count: u64,
+) -> bool
+    requires seat { submitter.old.number < length layer.now.map }
+    requires limits { plug.old.limits ≡ L.setup.limits }
+    ensures seat { submitter.new.number ≡ submitter.old.number }
+    ensures limits { plug.new.limits ≡ plug.old.limits }
+{
+    for place in 0..count {
+        let serial = from.saturating_add(place);
+        let first = serial.saturating_mul(100) % 1_000_000;
+        let added = adds(rt, plug, submitter.number(), serial, first);
+        let full = plug.len() == PLUG_REQUESTS || place.saturating_add(1) == count;
+        if !added || (full && flush(rt, layer, submitter, plug).is_err()) {
+            return false;
+        }
+    }
+    true
+}
+
 /// What a submitter's flush answers, once more where memory was refused.
 fn flush<R: Wait, S: Scheduler, L: Named>(
     rt: &R,
@@ -128,6 +156,7 @@ fn by_submitter<R: Abort + Wait, S: Scheduler, L: Named>(
 {
     match call {
         Call::Add(_, serial, first) => adds(rt, plug, submitter.number(), serial, first),
+        Call::Fill(_, from, count) => fills(rt, layer, submitter, plug, from, count),
         Call::Flush(_, answer) => flush(rt, layer, submitter, plug) == answer,
         Call::Accepted(_, count) => submitter.accepted().len() == count,
         _ => false,
@@ -276,7 +305,7 @@ fn set_depth<R: Wait, S: Scheduler, L: Named>(
 fn by_layer<R: Wait, S: Scheduler, L: Named>(rt: &R, layer: &Layer<S, L>, call: Call) -> bool {
     match call {
         Call::Finish => {
-            layer.finish(rt);
+            layer.finish();
             true
         }
         Call::Depth(depth, answer) => set_depth(rt, layer, depth) == answer,
@@ -312,10 +341,10 @@ fn is_answered<R: Abort + Wait, S: Scheduler, L: Named>(
     ensures one { one.new.tag_set ≡ one.old.tag_set }
 {
     match call {
-        Call::Add(0, _, _) | Call::Flush(0, _) | Call::Accepted(0, _) => {
+        Call::Add(0, _, _) | Call::Fill(0, _, _) | Call::Flush(0, _) | Call::Accepted(0, _) => {
             by_submitter(rt, layer, first, plug_first, call)
         }
-        Call::Add(_, _, _) | Call::Flush(_, _) | Call::Accepted(_, _) => {
+        Call::Add(_, _, _) | Call::Fill(_, _, _) | Call::Flush(_, _) | Call::Accepted(_, _) => {
             by_submitter(rt, layer, second, plug_second, call)
         }
         Call::Finish | Call::Depth(_, _) | Call::Tick(_) | Call::Ticks(_) => {

@@ -2,7 +2,7 @@
 
 use crate::given::{alone, bio, core, limits, setup};
 use blk_core::{Core, IssueFault};
-use blk_layer::Layer;
+use blk_layer::{Layer, NoneIssued};
 use blk_none::NoneSched;
 use std::alloc::Global;
 use std::marker::Brand;
@@ -62,4 +62,44 @@ fn used_up_by_a_smaller_depth(rt: HostRuntime) {
     assert!(rt; tried(&rt, &mut core, 1) == (Err(IssueFault::TagRange), 2));
     assert!(rt; tried(&rt, &mut core, 0) == (Ok(Some(0)), 2));
     assert!(rt; tried(&rt, &mut core, 1) == (Err(IssueFault::TagRange), 2));
+}
+
+/// What a try of a worker's turn issues under a tag that the setup has, or why nothing, and the round after it.
+fn taken(rt: &impl Abort, core: &mut Core<NoneSched>, tag: u16) -> (Result<u64, NoneIssued>, u64) {
+    assert!(rt; u64::from(tag) < core.trace().setup().depth());
+    assert!(rt; core.trace().setup().hw() > 0);
+    let answer = match Plain::try_issue(core, 0, tag) {
+        Ok(command) => Ok(command.id),
+        Err(why) => Err(why),
+    };
+    (answer, core.trace().round())
+}
+
+/// A round is full where as many commands were issued in it as there are tags: a used tag ends it then, but not while a command is in
+/// flight, and not before.
+#[test]
+fn full_by_issues(rt: HostRuntime) {
+    let mut core = two_wait(&rt, rt.alloc(), 2);
+    assert!(rt; taken(&rt, &mut core, 1) == (Ok(0), 0));
+    assert!(rt; taken(&rt, &mut core, 1) == (Err(NoneIssued::SlotUsed), 0));
+    assert!(rt; core.done(1).is_ok());
+    assert!(rt; taken(&rt, &mut core, 1) == (Err(NoneIssued::SlotUsed), 0));
+    assert!(rt; taken(&rt, &mut core, 0) == (Ok(1), 0));
+    assert!(rt; taken(&rt, &mut core, 0) == (Err(NoneIssued::Full), 0));
+    assert!(rt; core.done(0).is_ok());
+    assert!(rt; taken(&rt, &mut core, 1) == (Err(NoneIssued::Ended), 1));
+    assert!(rt; taken(&rt, &mut core, 1) == (Err(NoneIssued::Nothing), 1));
+}
+
+/// A round of a smaller depth is full sooner, and none of the tags from the depth on is issued in it.
+#[test]
+fn full_at_a_smaller_depth(rt: HostRuntime) {
+    let mut core = two_wait(&rt, rt.alloc(), 2);
+    assert!(rt; core.set_depth(1).is_ok() && core.tick() == Ok(1));
+    assert!(rt; taken(&rt, &mut core, 1) == (Err(NoneIssued::TagRange), 1));
+    assert!(rt; taken(&rt, &mut core, 0) == (Ok(0), 1));
+    assert!(rt; taken(&rt, &mut core, 1) == (Err(NoneIssued::Full), 1));
+    assert!(rt; core.done(0).is_ok());
+    assert!(rt; taken(&rt, &mut core, 1) == (Err(NoneIssued::Ended), 2));
+    assert!(rt; taken(&rt, &mut core, 0) == (Ok(1), 2));
 }

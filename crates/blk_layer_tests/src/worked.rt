@@ -39,3 +39,50 @@ fn work_to_the_end(rt: HostRuntime) {
     );
     assert_eq!(rt; other, None);
 }
+
+// At depth 1 a pass serves one command and ends the round. Turns that are used up are no end, though nothing more is flushed.
+#[test]
+fn turns_used_up_twice(rt: HostRuntime) {
+    let calls = [
+        Call::Add(0, 0, 0),
+        Call::Add(0, 1, 100),
+        Call::Add(0, 2, 200),
+        Call::Add(0, 3, 300),
+        Call::Flush(0, flushed(4)),
+        Call::Work(0, 1, 0, Ok((1, 1, false)), 1),
+        Call::Finish,
+        Call::Work(0, 2, 0, Ok((2, 2, false)), 2),
+        Call::Work(0, 1, 0, Ok((1, 1, true)), 1),
+        Call::Ran(0, 4),
+        Call::Tick(Ok(5)),
+    ];
+    let other = other_than(
+        &rt,
+        rt.alloc(),
+        (1, 1, 4),
+        &[0, 0],
+        &[0, 0],
+        &calls,
+        &[],
+        17,
+    );
+    assert_eq!(rt; other, None);
+}
+
+// The request of one submitter joins that of the other in the core: one command runs for both. A worker of a hardware queue that nothing
+// was flushed for finds nothing.
+#[test]
+fn joined_and_served_once(rt: HostRuntime) {
+    let calls = [
+        Call::Add(0, 0, 0),
+        Call::Flush(0, flushed(1)),
+        Call::Add(1, 0, 8),
+        Call::Flush(1, flushed(1)),
+        Call::Drain(0, Ok(2)),
+        Call::Finish,
+        Call::Work(0, 5, 0, Ok((1, 1, true)), 1),
+        Call::Ran(0, 1),
+    ];
+    let other = other_than(&rt, rt.alloc(), (2, 1, 4), &[0, 0], &[0, 0], &calls, &[], 4);
+    assert_eq!(rt; other, None);
+}

@@ -17,6 +17,9 @@ use std::thread::{Threads, for_each_mut, yield_now};
 /// How often a submitter flushes its plug at most.
 const MOST_FLUSHES: u64 = 10_000_000;
 
+/// How often other threads may run before the next flush, where the software queue has no room.
+const RESTS: u64 = 16;
+
 /// How many sectors a bio has.
 const SECTORS: u64 = 8;
 
@@ -88,7 +91,14 @@ fn submit<R: Wait, S: Scheduler<A = Global>, L: Named>(
     Err(LoadFault::Stalled)
 }
 
-/// Flushes a plug, as far as there is room for it; where there isn't, lets another thread run.
+/// Lets other threads run, more than once, since each flush that finds no room takes a lock that a worker wants.
+fn rest() {
+    for _ in 0..RESTS {
+        yield_now();
+    }
+}
+
+/// Flushes a plug, as far as there is room for it; where there isn't, lets other threads run.
 fn flush<R: Wait, S: Scheduler<A = Global>, L: Named>(
     rt: &R,
     site: &Site<S, L>,
@@ -104,7 +114,7 @@ fn flush<R: Wait, S: Scheduler<A = Global>, L: Named>(
         Ok(_) => Ok(()),
         Err(fault) => match fault.why {
             FlushWhy::SoftFull => {
-                yield_now();
+                rest();
                 Ok(())
             }
             FlushWhy::Memory => Err(LoadFault::Memory),
@@ -142,5 +152,5 @@ pub(crate) fn submit_all<
         ensures { seat.exit.now.number ≡ seat.entry.now.number }
     { submit_noted(rt, site, seat) };
     for_each_mut(rt, seats, threads, &turns);
-    site.layer.finish(rt);
+    site.layer.finish();
 }

@@ -162,12 +162,10 @@ fn no_marks<A: Allocator + Clone>(alloc: &A, count: usize) -> Result<Vec<bool, A
 }
 
 impl<A: Allocator> TagSet<A> {
-    /// Gives back each tag that a seat still holds, and lets the seat go; the seat that stays is as it was. Both must be seats of
-    /// this set. It takes no memory.
-    pub fn join(&self, seat: &mut TagSeat<A>, other: TagSeat<A>)
-        requires of_set { seat.old.of_set ≡ self.now }
-        requires other_of_set { other.of_set ≡ self.now }
-        ensures { seat.new ≡ seat.old }
+    /// Gives back each tag that a seat of this set still holds, and answers the emptied seat. It takes no memory.
+    pub fn join(&self, other: TagSeat<A>) -> TagSeat<A>
+        requires { other.of_set ≡ self.now }
+        ensures { result ≡ record other { tags = [] } }
     {
         let mut other = other;
         for tag in 0..self.depth {
@@ -175,14 +173,15 @@ impl<A: Allocator> TagSet<A> {
                 self.give(&mut other, tag);
             }
         }
-        self.join_empty(seat, other);
+        let _ = other.holds(0);
+        other
     }
 
-    /// Lets a seat that holds no tag go.
-    fn join_empty(&self, seat: &mut TagSeat<A>, other: TagSeat<A>)
+    /// Lets a seat go that holds no tag, into one that stays as it is; both are seats of this set.
+    pub fn let_go(&self, seat: &mut TagSeat<A>, other: TagSeat<A>)
         requires of_set { seat.old.of_set ≡ self.now }
         requires other_of_set { other.of_set ≡ self.now }
-        requires none { (tag : ℕ) → tag < self.now.depth → ¬ Contains other.tags tag }
+        requires none { other.tags ≡ [] }
         ensures { seat.new ≡ seat.old }
     {
         let TagSeat {
@@ -203,7 +202,20 @@ impl<A: Allocator> TagSet<A> {
         ensures below { IfSome result (λ t. t < self.now.depth) }
         ensures none { IfNone result (seat.new ≡ seat.old) }
     {
-        let mut tag = seat.next();
+        let from = seat.next();
+        self.get_from(seat, from)
+    }
+
+    /// Takes a tag in the same way, but tries upward and round from the given one on, or from 0 where that is none of the set's.
+    pub fn get_from(&self, seat: &mut TagSeat<A>, from: u16) -> Option<u16>
+        requires { seat.old.of_set ≡ self.now }
+        ensures some { IfSome result (λ t. seat.new ≡ record seat.old { tags = seat.old.tags ++ t ∷ []; last = Some t }) }
+        ensures free { IfSome result (λ t. ¬ Contains seat.old.tags t) }
+        ensures held { IfSome result (Contains seat.new.tags) }
+        ensures below { IfSome result (λ t. t < self.now.depth) }
+        ensures none { IfNone result (seat.new ≡ seat.old) }
+    {
+        let mut tag = from;
         for _ in 0..self.depth {
             if tag >= self.depth {
                 tag = 0;
@@ -291,8 +303,8 @@ impl<A: Allocator> TagSeat<A> {
         usize::from(tag) < self.marks.len() && self.marks[usize::from(tag)]
     }
 
-    /// The tag that a take tries first, or the depth where the seat took the last one.
-    fn next(&self) -> u16
+    /// The tag that its next take tries first, or the depth where it took the last one.
+    pub fn next(&self) -> u16
         ensures { result ≤ self.now.of_set.depth }
     {
         match self.last {

@@ -26,9 +26,11 @@ fn two_seats_of_a_set_of_one(rt: HostRuntime) {
     let first = [take(&set, &mut a), take(&set, &mut b)];
     let given = give(&set, &mut a, 0);
     let second = [take(&set, &mut b), take(&set, &mut a)];
-    set.join(&mut a, b);
+    let emptied = set.join(b);
+    let held = emptied.holds(0);
+    set.let_go(&mut a, emptied);
     let third = take(&set, &mut a);
-    assert!(rt; given);
+    assert!(rt; given && !held);
     assert!(rt; (first, second, third) == ([Some(0), None], [Some(0), None], Some(0)));
 }
 
@@ -48,6 +50,17 @@ fn upward_and_round(rt: HostRuntime) {
         (first, second, third),
         ([Some(0), Some(1)], [Some(2), Some(0)], Some(1))
     );
+}
+
+// A take may begin elsewhere: upward and round from the given tag on, or from 0 where there is none of that number.
+#[test]
+fn from_a_tag(rt: HostRuntime) {
+    let (set, seat) = TagSet::new(rt.alloc(), 3).expect(&rt, "a set");
+    let mut player = Player::new(&set, seat);
+    let taken = [player.get_from(2), player.get_from(2), player.get_from(9)];
+    let none = player.get_from(0);
+    assert_eq!(rt; taken, [Some(2), Some(0), Some(1)]);
+    assert_eq!(rt; none, None);
 }
 
 #[test]
@@ -91,7 +104,8 @@ fn memory_refused(rt: HostRuntime) {
     heap.refuse(1);
     let taken = [take(&set, &mut a), take(&set, &mut b)];
     let given = give(&set, &mut a, 0);
-    set.join(&mut a, b);
+    let emptied = set.join(b);
+    set.let_go(&mut a, emptied);
     let last = take(&set, &mut a);
     assert!(rt; given && heap.is_armed());
     assert!(rt; (taken, last) == ([Some(0), Some(1)], Some(1)));

@@ -35,6 +35,11 @@ impl<'a> Player<'a> {
         self.set.get(&mut self.seat)
     }
 
+    /// Takes a tag, from the given one on.
+    pub fn get_from(&mut self, from: u16) -> Option<u16> {
+        self.set.get_from(&mut self.seat, from)
+    }
+
     /// Gives a tag back where it is held, and says whether it is.
     pub fn give(&mut self, tag: u16) -> bool {
         if !self.seat.holds(tag) {

@@ -2,30 +2,51 @@
 
 use crate::player::Player;
 use blk_tags::TagSet;
-use std::alloc::AllocError;
+use std::alloc::{AllocError, Global};
+use std::process::Abort;
 use std::sync::atomic::{AtomicU64, Ordering};
 use std::thread;
 use std::thread::Threads;
 
-/// How many tags there are, fewer than threads, so that takes lose.
-const DEPTH: usize = 3;
+/// How many tags each thread takes.
+const TAKES: u64 = 10_000;
 
-/// What one thread saw: how many tags it took, and how often a tag that it held was another's too or was not its own.
+/// How often it tries at most.
+const TRIES: u64 = 1_000_000_000;
+
+/// What one thread saw: how many tags it took of each word, and how often a tag that it held was another's too or was not its own.
 #[derive(Clone, Copy, Debug, PartialEq, Eq)]
 struct Seen {
-    taken: u64,
+    words: [u64; 4],
     wrong: u64,
 }
 
-/// Takes and gives 10,000 times, and marks each tag as owned while it holds it.
-fn take_and_give(player: Player, owners: &[AtomicU64; DEPTH]) -> Seen {
+impl Seen {
+    /// How many tags it took.
+    fn taken(&self) -> u64 {
+        self.words
+            .iter()
+            .fold(0, |sum: u64, word| sum.wrapping_add(*word))
+    }
+}
+
+/// Takes and gives as many tags as it is to, and marks each tag as owned while it holds it.
+fn take_and_give(player: Player, owners: &[AtomicU64]) -> Seen {
     let mut player = player;
-    let mut seen = Seen { taken: 0, wrong: 0 };
-    for _ in 0..10_000 {
+    let mut seen = Seen {
+        words: [0; 4],
+        wrong: 0,
+    };
+    for _ in 0..TRIES {
+        if seen.taken() >= TAKES {
+            break;
+        }
         let Some(tag) = player.get() else {
             continue;
         };
-        seen.taken = seen.taken.wrapping_add(1);
+        if let Some(word) = seen.words.get_mut(usize::from(tag / 64)) {
+            *word = word.wrapping_add(1);
+        }
         if !is_owned_alone(owners, tag) || !player.give(tag) {
             seen.wrong = seen.wrong.wrapping_add(1);
         }
@@ -34,7 +55,7 @@ fn take_and_give(player: Player, owners: &[AtomicU64; DEPTH]) -> Seen {
 }
 
 /// Marks a tag and takes the mark off again. It is false where another mark stood there meanwhile, or there is no such tag.
-fn is_owned_alone(owners: &[AtomicU64; DEPTH], tag: u16) -> bool {
+fn is_owned_alone(owners: &[AtomicU64], tag: u16) -> bool {
     let Some(owner) = owners.get(usize::from(tag)) else {
         return false;
     };
@@ -47,30 +68,55 @@ fn is_owned_alone(owners: &[AtomicU64; DEPTH], tag: u16) -> bool {
 fn in_threads<R: Threads + Sync>(
     rt: &R,
     players: Vec<Player>,
-    owners: &[AtomicU64; DEPTH],
+    owners: &[AtomicU64],
 ) -> Result<Vec<Seen>, AllocError> {
     thread::map_vec(rt, players, &|player| take_and_give(player, owners))
 }
 
-#[test]
-fn four_threads_never_share_a_tag(rt: HostRuntime) {
-    let (set, seat) = TagSet::new(rt.alloc(), DEPTH as u64).expect(&rt, "a set");
-    let mut spare = Player::new(&set, seat);
-    let mut players = Vec::new(rt.alloc());
-    for _ in 0..4 {
-        let player = spare.another().expect(&rt, "a seat");
-        players.push(player).expect(&rt, "room");
+/// As many counters as there are tags, all 0.
+fn counters(rt: &impl Abort, alloc: Global, depth: u16) -> Vec<AtomicU64> {
+    let mut all = Vec::new(alloc);
+    for _ in 0..depth {
+        all.push(AtomicU64::new(0)).expect(rt, "room");
     }
-    let owners = [AtomicU64::new(0), AtomicU64::new(0), AtomicU64::new(0)];
-    let all = in_threads(&rt, players, &owners).expect(&rt, "four threads");
+    all
+}
+
+/// What four threads see that take tags of a set of this depth. Each takes as many as it is to and none that another holds, and all
+/// tags are back then.
+fn four_threads<R: Abort + Threads + Sync>(rt: &R, alloc: Global, depth: u16) -> Vec<Seen> {
+    let (set, seat) = TagSet::new(alloc, u64::from(depth)).expect(rt, "a set");
+    let mut spare = Player::new(&set, seat);
+    let mut players = Vec::new(alloc);
+    for _ in 0..4 {
+        let player = spare.another().expect(rt, "a seat");
+        players.push(player).expect(rt, "room");
+    }
+    let owners = counters(rt, alloc, depth);
+    let all = in_threads(rt, players, owners.as_slice()).expect(rt, "four threads");
     assert_eq!(rt; all.len(), 4);
     for seen in &all {
-        assert!(rt; seen.taken > 0);
-        assert_eq!(rt; seen.wrong, 0);
+        assert_eq!(rt; (seen.taken(), seen.wrong), (TAKES, 0));
     }
-    // all was given back
-    for tag in 0..3 {
+    for tag in 0..depth {
         assert_eq!(rt; spare.get(), Some(tag));
     }
     assert_eq!(rt; spare.get(), None);
+    all
+}
+
+// Fewer tags than threads, so that takes lose.
+#[test]
+fn four_threads_never_share_a_tag(rt: HostRuntime) {
+    let all = four_threads(&rt, rt.alloc(), 3);
+    assert!(rt; all.iter().all(|seen| seen.words == [TAKES, 0, 0, 0]));
+}
+
+// As many tags as there are, of all four words.
+#[test]
+fn four_threads_take_from_all_words(rt: HostRuntime) {
+    let all = four_threads(&rt, rt.alloc(), 256);
+    for seen in &all {
+        assert!(rt; seen.words.iter().all(|taken| *taken > TAKES / 8));
+    }
 }

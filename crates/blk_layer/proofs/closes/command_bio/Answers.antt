@@ -1,4 +1,4 @@
-use Rattle.std.proofs.Common.{◌≡◌, ◌∙◌, ◌≢◌, sym, ap, subst, arith, length, count_by, Contains, List}
+use Rattle.std.proofs.Common.{◌∙◌, ◌≢◌, sym, ap, subst, arith, length, count_by, Contains, List}
 use Rattle.edd_check.specs.declared.Command.{Command}
 use Rattle.blk_trace.specs.Happened.{Happened}
 use Rattle.blk_trace.specs.Events.{IsReleased}
@@ -6,7 +6,7 @@ use Rattle.blk_trace.proofs.Words.{some_of}
 use Rattle.blk_layer.specs.Closes.{is_command, done_commands, IsBioOf}
 use Rattle.blk_layer.proofs.Dones.{done_released}
 use Rattle.blk_layer.proofs.Gathered.{done_length}
-use Rattle.blk_layer.proofs.Agreed.{done_has, done_is, differs_as}
+use Rattle.blk_layer.proofs.Agreed.{done_has, differs_as}
 use Rattle.blk_layer.proofs.closes.command_bio.Goals as goal
 
 pub differing_command-requires : goal.differing_command-requires

@@ -1,4 +1,4 @@
-use Rattle.std.proofs.Common.{ℕ, ◌≡◌, ◌+◌, ◌<◌, refl, subst, arith, inl, inr, true, false}
+use Rattle.std.proofs.Common.{◌≡◌, refl, subst, arith, inl, inr, true, false}
 use Rattle.std.proofs.lemmas.Bool.{cases_Bool, ltb-true, ltb-false}
 use lib.Dec.{ltb}
 use Rattle.blk_layer.specs.Closes.{HasNumber}

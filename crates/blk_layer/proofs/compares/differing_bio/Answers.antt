@@ -1,8 +1,7 @@
-use Rattle.std.proofs.Common.{◌≡◌, ◌∙◌, ◌<◌, ◌≤◌, sym, ap, arith, map, length, count_by}
+use Rattle.std.proofs.Common.{◌≡◌, ◌∙◌, ◌≤◌, sym, ap, arith, map}
 use Rattle.blk_trace.proofs.Words.{some_of}
 use Rattle.blk_layer.specs.declared.lines.Line.{Line}
 use Rattle.blk_layer.specs.Inside.Lines.{bio_line, times, IsExtra}
-use Rattle.blk_layer.specs.Closes.{is_bio_of}
 use Rattle.blk_layer.proofs.Agreed.{bio_extra, bio_extra_at, bios_agree, none_of}
 use Rattle.blk_layer.proofs.compares.differing_bio.Goals as goal
 

@@ -1,9 +1,8 @@
-use Rattle.std.proofs.Common.{◌≡◌, ◌∙◌, ◌<◌, ◌≤◌, sym, refl, arith, map, length, get_or, count_by}
+use Rattle.std.proofs.Common.{◌≡◌, ◌∙◌, ◌≤◌, sym, refl, arith, map, get_or}
 use Rattle.edd_check.specs.declared.Command.{Command}
 use Rattle.blk_trace.proofs.Words.{some_of}
 use Rattle.blk_layer.specs.declared.lines.Line.{Line}
 use Rattle.blk_layer.specs.Inside.Lines.{command_line, times, IsExtra}
-use Rattle.blk_layer.specs.Closes.{is_command}
 use Rattle.blk_layer.proofs.Gathered.{own_default}
 use Rattle.blk_layer.proofs.Agreed.{command_extra, commands_agree, none_of}
 use Rattle.blk_layer.proofs.compares.differing_command.Goals as goal

@@ -1,6 +1,6 @@
 use Rattle.std.proofs.Common.{◌≡◌, ◌+◌, length}
 use Rattle.blk_plug.specs.Plugs.{bios_plugged}
-use Rattle.blk_layer.specs.Flushes.{Flushes}
+use Rattle.blk_layer.specs.Flushes.{FlushesInto}
 use Rattle.blk_layer.proofs.flushes.flush.Given as goal
 
 abbrev pub decreases-loop-queue : goal.decreases-loop-queue
@@ -8,7 +8,7 @@ decreases-loop-queue g l = length l.plug.requests
 
 abbrev pub invariant-loop-queue : goal.invariant-loop-queue
 invariant-loop-queue g l = record {
-  moved : Flushes l.initial.submitter l.initial.plug l.submitter l.plug;
+  moved : FlushesInto l.initial.queue l.initial.submitter l.initial.plug l.queue l.submitter l.plug;
   counted : l.queue.bios_in + length (bios_plugged l.plug) ≡ l.initial.queue.bios_in + length (bios_plugged l.initial.plug);
   limits : l.queue.limits ≡ l.initial.queue.limits;
 }

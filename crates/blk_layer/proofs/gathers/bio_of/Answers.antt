@@ -1,4 +1,4 @@
-use Rattle.std.proofs.Common.{◌≡◌, ◌∙◌, ap, arith, map}
+use Rattle.std.proofs.Common.{◌∙◌, ap, arith}
 use Rattle.std.specs.Prelude.{Some}
 use Rattle.blk_layer.proofs.Gathered.{event_at, none_yet, within_events}
 use Rattle.blk_trace.specs.Happened.{Released}

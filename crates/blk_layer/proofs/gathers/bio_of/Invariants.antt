@@ -1,4 +1,4 @@
-use Rattle.std.proofs.Common.{ℕ, ◌≡◌, ◌<◌, List, map}
+use Rattle.std.proofs.Common.{ℕ, ◌<◌, List, map}
 use Rattle.blk_bio.specs.Bios.{Bio}
 use Rattle.blk_trace.specs.Happened.{Released}
 use Rattle.blk_trace.specs.Events.{At}

@@ -1,4 +1,4 @@
-use Rattle.std.proofs.Common.{ℕ, ◌≡◌, true, take, map}
+use Rattle.std.proofs.Common.{ℕ, ◌≡◌, true, take}
 use Rattle.std.specs.Prelude.{nat_eq, Some}
 use Rattle.std.specs.HashMap as hash
 use Rattle.blk_trace.specs.Meaning.{issued_ids, command_of}

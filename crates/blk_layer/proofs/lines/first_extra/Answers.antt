@@ -1,8 +1,8 @@
-use Rattle.std.proofs.Common.{◌≡◌, ◌∙◌, ◌+◌, ◌≤◌, ◌<◌, ℕ, sym, refl, arith, take, length, get_or, unwrap_or}
+use Rattle.std.proofs.Common.{◌∙◌, ℕ, sym, refl, arith, get_or, unwrap_or}
 use Rattle.std.specs.HashMap as hash
 use Rattle.std.proofs.lemmas.Option.{slice_get-get_or}
 use Rattle.blk_layer.specs.declared.lines.Line.{Line}
-use Rattle.blk_layer.specs.Inside.Lines.{is_line, times}
+use Rattle.blk_layer.specs.Inside.Lines.{is_line}
 use Rattle.blk_layer.proofs.Times.{goes_down, none_taken, one_too_many, all_taken, no_line}
 use Rattle.blk_layer.proofs.lines.first_extra.Goals as goal
 

@@ -1,4 +1,4 @@
-use Rattle.std.proofs.Common.{◌≡◌, ◌≤◌, ◌<◌, [], refl, rules, arith, take, length, get_or, unwrap_or}
+use Rattle.std.proofs.Common.{◌≡◌, [], refl, rules, arith, get_or}
 use Rattle.std.specs.HashMap as hash
 use Rattle.blk_layer.specs.declared.lines.Line.{Line}
 use Rattle.blk_layer.specs.Inside.Lines.{is_line, times}

@@ -1,6 +1,5 @@
-use Rattle.std.proofs.Common.{◌≡◌, ◌∙◌, ◌+◌, ap, arith, length}
+use Rattle.std.proofs.Common.{ap, arith, length}
 use Rattle.blk_layer.specs.Seats.{WorkerSeat}
-use Rattle.blk_layer.specs.Closes.{all_ran}
 use Rattle.blk_layer.proofs.Gathered.{none_ran, first_ran}
 use Rattle.blk_layer.proofs.seats.+audit.Goals as goal
 

@@ -1,8 +1,9 @@
-use Rattle.std.proofs.Common.{◌≢◌, ◌<◌, ◌+◌, ◌==◌, ◌∙◌, ℕ, sym, ap, subst, arith, inl, inr}
+use Rattle.std.proofs.Common.{◌≡◌, ◌≢◌, ◌<◌, ◌+◌, ◌==◌, ◌∙◌, ℕ, [], refl, sym, ap, subst, arith, inl, inr}
 use Rattle.std.specs.Prelude.{Contains}
 use Rattle.std.proofs.lemmas.Bool.{cases_Bool, eqb-true, eq-eqb, ltb-true, ltb-false}
 use lib.Dec.{ltb}
-use Rattle.blk_tags.proofs.Marked.{gave_other}
+use Rattle.blk_tags.specs.Tags.{Seat}
+use Rattle.blk_tags.proofs.Marked.{gave_other, holds_none}
 use Rattle.blk_tags.proofs.TagSet.join.Goals as goal
 use Rattle.blk_tags.proofs.TagSet.join.Goals.{then-holds, else-holds}
 
@@ -19,6 +20,7 @@ loop-tag-preserved g c = elim c.if-holds.branch [
     λ t a has.
         let kept = gave_other c.loop-tag.tag t c.loop-tag.other.tags (subst (λ tags. Contains tags t) (ap (λ o. o.tags) w.other-is ∙ ap (λ o. o.tags) w.give.ensures) has) in
         c.loop-tag.invariant.1 t (less t c.loop-tag.tag a kept.0) kept.1,
+    ap (λ o. o.last) w.other-is ∙ ap (λ o. o.last) w.give.ensures ∙ c.loop-tag.invariant.2,
   )
   | else-holds w ↦ (
     ap (λ o. o.of_set) w.other-is ∙ c.loop-tag.invariant.0,
@@ -28,8 +30,13 @@ loop-tag-preserved g c = elim c.if-holds.branch [
           | inl y ↦ cc (sym (c.holds.ensures.value.1 (subst (λ k. Contains c.loop-tag.other.tags k) (eqb-true t c.loop-tag.tag y) was)) ∙ w.if-holds.false)
           | inr n ↦ c.loop-tag.invariant.1 t (less t c.loop-tag.tag a (λ q. cc (sym (eq-eqb t c.loop-tag.tag q) ∙ n))) was
         ],
+    ap (λ o. o.last) w.other-is ∙ c.loop-tag.invariant.2,
   )
 ]
 
-pub join_empty-requires-clause-none : goal.join_empty-requires-clause-none
-join_empty-requires-clause-none g c = λ t a has. c.loop-tag.invariant.1 t (omega (arith, a, c.loop-tag-test.false, ap (λ s. s.depth) c.self.view_is)) has
+pub returns : goal.returns
+returns g c =
+    let other : Seat = c.loop-tag.other in
+    let depth : other.of_set.depth ≡ c.self.inside.depth = ap (λ s. s.depth) (c.loop-tag.invariant.0 ∙ c.requires) ∙ sym (ap (λ s. s.depth) c.self.view_is) in
+    let none : other.tags ≡ [] = holds_none other c.holds-2.ensures.is_seat (λ t a has. c.loop-tag.invariant.1 t (omega (arith, a, c.loop-tag-test.false, depth)) has) in
+    rw (c.loop-tag.invariant.0, none, c.loop-tag.invariant.2) refl

@@ -1,4 +1,4 @@
-use Rattle.std.proofs.Common.{ℕ, ◌≡◌, ◌∙◌, ◌<◌, sym, ap, arith, true, false, length, List, eq-eqb, eqb-true}
+use Rattle.std.proofs.Common.{◌≡◌, ◌∙◌, sym, ap, arith, true, false, length, eq-eqb, eqb-true}
 use Rattle.blk_layer.specs.Seats.{LayerShape}
 use Rattle.blk_layer.proofs.layer.Layer.are_all_there.Goals as goal
 

@@ -1,7 +1,10 @@
-use Rattle.std.proofs.Common.{◌≡◌, ◌∙◌, sym, ap, subst, refl, rules, arith, length, List, Some, None}
-use Rattle.blk_layer.specs.Seats.{LayerShape, SubmitterSeat, WorkerSeat}
+use Rattle.std.proofs.Common.{◌≡◌, ◌∙◌, sym, ap, subst, refl, rules, arith, length, List, ◌++◌, Some, None}
+use Rattle.blk_layer.specs.Seats.{LayerShape, WorkerSeat}
 use Rattle.blk_layer.specs.Served.{done_count}
-use Rattle.blk_layer.specs.Closes.{AreSettled, Disagrees, all_ran}
+use Rattle.blk_trace.specs.Happened.{Happened}
+use Rattle.blk_trace.specs.Events.{AreOnce}
+use Rattle.blk_layer.specs.Closes.{AreAllThere, AreDistinct, AreSettled, Disagrees, all_ran, issued_bios}
+use Rattle.blk_layer.proofs.Onces.{are_distinct}
 use Rattle.blk_layer.proofs.Agreed.{none_of, some_of, same_settled, same_counted, same_disagrees, written_back}
 use Rattle.blk_core.specs.State.{CoreState}
 use Rattle.blk_layer.proofs.layer.Layer.close_all.Goals as goal
@@ -63,3 +66,13 @@ returns-clause-refused g c =
 
 pub returns-in-None-clause-setup : goal.returns-in-None-clause-setup
 returns-in-None-clause-setup g c = c.into_trace.ensures.setup ∙ c.audit.new.self.named
+
+pub returns-in-None-clause-once : goal.returns-in-None-clause-once
+returns-in-None-clause-once g c =
+    let submitters : c.as_slice.result.now ≡ c.args.submitters.items = search rules in
+    let none : c.in-Ok.field-0.differs ≡ None = search rules in
+    let there : AreAllThere c.args.self.map c.args.self.workers c.args.submitters.items c.args.workers.items = c.requires.there in
+    let apart : AreDistinct c.args.submitters.items = are_distinct (length c.args.self.map) c.args.submitters.items there.submitter_count there.each_submitter in
+    let once : AreDistinct c.as_slice.result.now → AreOnce (issued_bios c.audit.new.self.core.events ++ c.in-Ok.field-0.left.items) =
+    none_of c.in-Ok.field-0.differs (AreDistinct c.as_slice.result.now → AreOnce (issued_bios c.audit.new.self.core.events ++ c.in-Ok.field-0.left.items)) none c.in-Ok.ensures.once in
+    subst (λ (es : List Happened). AreOnce (issued_bios es ++ c.in-Ok.field-0.left.items)) (sym c.into_trace.ensures.events) (once (subst AreDistinct (sym submitters) apart))

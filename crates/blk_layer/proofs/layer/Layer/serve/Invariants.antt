@@ -1,5 +1,5 @@
-use Rattle.blk_layer.specs.Passes.{Runs}
+use Rattle.blk_layer.proofs.Turning.{IsServing}
 use Rattle.blk_layer.proofs.layer.Layer.serve.Given as goal
 
-abbrev pub invariant-loop : goal.invariant-loop
-invariant-loop g l = Runs l.initial.worker l.worker
+abbrev pub invariant-loop-served : goal.invariant-loop-served
+invariant-loop-served g l = IsServing l.fn.worker l.issued.tag l.issued.command l.worker

@@ -9,8 +9,8 @@ returns-in_err-pass-clause-fault g c =
     let p = err_from_is_err_and c.from_residual.result c.from_residual.ensures.1 in
     rw (p.1, p.2) (faulted_on c.args.worker.now c.loop-passed.worker c.in_err-pass.field-0.0 c.pass.new.worker c.loop-passed.invariant c.in_err-pass.ensures.fault)
 
-pub returns-then-branch-clause-worked : goal.returns-then-branch-clause-worked
-returns-then-branch-clause-worked g c =
+pub returns-in-Finish-clause-worked : goal.returns-in-Finish-clause-worked
+returns-in-Finish-clause-worked g c =
     let runs : Runs c.args.worker.now c.pass.new.worker = ran_on c.args.worker.now c.loop-passed.worker c.pass.new.worker c.loop-passed.invariant c.in_ok-pass.ensures.runs in
     record {
       few = omega (arith, c.loop-passed-test.true);

@@ -1,0 +1,17 @@
+use Rattle.std.proofs.Common.{◌∙◌, sym}
+use Rattle.blk_layer.proofs.Moved.{all_stay, all_limits}
+use Rattle.blk_layer.proofs.kept.Kept.move_all.Goals as goal
+
+pub invariant_of-self : goal.invariant_of-self
+invariant_of-self g c =
+    let kept = c.args.self.now in
+    let stays = all_stay g.S.Scheduler.serves c.args.queue.now kept.core c.args.hw c.move_all.new.queue c.move_all.new.core c.move_all.result c.move_all.ensures in
+    record {
+      named = stays.setup ∙ kept.named;
+      counted = kept.counted ∙ sym stays.dones;
+      all_out = kept.all_out;
+      none = kept.none;
+    }
+
+pub returns-clause-limits : goal.returns-clause-limits
+returns-clause-limits g c = all_limits g.S.Scheduler.serves c.args.queue.now c.args.self.now.core c.args.hw c.move_all.new.queue c.move_all.new.core c.move_all.result c.move_all.ensures ∙ c.requires.limits

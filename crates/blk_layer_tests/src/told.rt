@@ -1,0 +1,189 @@
+//! Want of memory inside a call is told: each allocation of a drain, of an issue and of a worker's work is refused in turn.
+
+ghost use Rattle.std.specs.Prelude.{◌≡◌, ◌<◌, [], length, vec_len};
+
+use crate::asked::last;
+use crate::given::{bio, core, limits, setup};
+use blk_bio::Limits;
+use blk_core::{Core, CoreFault};
+use blk_hw::Map;
+use blk_layer::{
+    Device, DrainFault, Layer, LayerIssueFault, MAX_WORKERS, Named, Ran, Submitter, WorkFault,
+    Worker,
+};
+use blk_none::NoneSched;
+use blk_plug::Plug;
+use edd_check::Command;
+use refusing::Refusing;
+use std::alloc::Global;
+use std::marker::Brand;
+use std::process::Abort;
+use std::sync::Wait;
+use std::sync::ledger::Blank;
+
+/// The allocator of these tests.
+type Heap<'a> = &'a Refusing<Global>;
+
+/// A device that is busy at each second run.
+#[derive(Drop)]
+struct Each {
+    runs: u64,
+}
+
+impl Device for Each {
+    fn run(&mut self, command: &Command) -> Ran {
+        let _ = command.id;
+        self.runs = self.runs.wrapping_add(1);
+        if self.runs % 2 == 0 {
+            return Ran::Busy;
+        }
+        Ran::Done
+    }
+}
+
+/// Which call is made.
+#[derive(Clone, Copy, PartialEq, Eq)]
+enum Made {
+    /// A drain.
+    Drain,
+    /// An issue after a drain.
+    Issue,
+    /// A worker's work, to the end.
+    Work,
+}
+
+/// What a call says of memory.
+#[derive(Clone, Copy, PartialEq, Eq)]
+enum Told {
+    /// There was enough.
+    Enough,
+    /// There wasn't.
+    Wanting,
+    /// Something else.
+    Other,
+}
+
+/// Three requests go through a submitter's plug into its software queue.
+fn flush_three<'a, R: Abort + Wait, L: Named>(
+    rt: &R,
+    heap: Heap<'a>,
+    layer: &Layer<NoneSched<Heap<'a>>, L>,
+    submitter: &mut Submitter<L, Heap<'a>>,
+    limits: Limits,
+)
+    requires seat { submitter.old.number < length layer.now.map }
+    requires limits { L.setup.limits ≡ limits }
+{
+    let mut plug = Plug::new(heap, limits).expect(rt, "memory");
+    let number = submitter.number();
+    let first = plug.add(bio(rt, number, 0, 0)).is_ok();
+    let second = plug.add(bio(rt, number, 1, 100)).is_ok();
+    let third = plug.add(bio(rt, number, 2, 200)).is_ok();
+    assert!(rt; first && second && third);
+    assert!(rt; layer.flush(rt, submitter, &mut plug).is_ok());
+}
+
+/// What a worker's call says.
+fn answer_of<'a, R: Wait, L: Named>(
+    rt: &R,
+    layer: &Layer<NoneSched<Heap<'a>>, L>,
+    worker: &mut Worker<L, Heap<'a>>,
+    made: Made,
+) -> Told
+    requires { worker.old.tag_set ≡ layer.now.tag_set }
+{
+    match made {
+        Made::Drain => match layer.drain(rt, worker) {
+            Ok(_) => Told::Enough,
+            Err(
+                DrainFault {
+                    why: CoreFault::Memory,
+                    ..
+                },
+            ) => Told::Wanting,
+            Err(_) => Told::Other,
+        },
+        Made::Issue => match layer.issue(rt, worker) {
+            Ok(_) => Told::Enough,
+            Err(LayerIssueFault::Memory) => Told::Wanting,
+            Err(_) => Told::Other,
+        },
+        Made::Work => match layer.work(rt, worker, &mut Each { runs: 0 }, 1000) {
+            Ok(worked) if worked.finished => Told::Enough,
+            Err(WorkFault::Memory) => Told::Wanting,
+            _ => Told::Other,
+        },
+    }
+}
+
+/// Makes a layer, and a call in it whose allocation of this number is refused: whether there was one, and what was told.
+#[tactic(auto, using(crate::proofs::Seated::all_of))]
+fn refused<'a, R: Abort + Wait, L: Named>(
+    rt: &R,
+    heap: Heap<'a>,
+    blank: Blank,
+    core: Core<NoneSched<Heap<'a>>>,
+    map: Map<Heap<'a>>,
+    worker_queues: Vec<u8, Heap<'a>>,
+    limits: Limits,
+    made: Made,
+    n: u64,
+) -> (bool, Told)
+    requires name { blank.name ≡ L.name }
+    requires parts { (blank.parts ≡ MAX_WORKERS) × (L.parts ≡ MAX_WORKERS) }
+    requires setup { core.setup ≡ L.setup }
+    requires limits { L.setup.limits ≡ limits }
+    requires workers { L.workers ≡ vec_len worker_queues }
+    requires empty { core.events ≡ [] }
+{
+    let new = Layer::<NoneSched<Heap<'a>>, L>::new(heap, blank, core, map, 4, worker_queues);
+    let Ok((layer, mut submitters, mut workers)) = new else {
+        panic!(rt; "a layer");
+    };
+    let mut worker = last(rt, &layer, &mut workers);
+    let count = submitters.len();
+    let mut submitter = submitters.pop().expect(rt, "a submitter");
+    assert!(rt; usize::from(submitter.number()) < count);
+    flush_three(rt, heap, &layer, &mut submitter, limits);
+    if made == Made::Issue {
+        assert!(rt; layer.drain(rt, &mut worker).is_ok());
+    }
+    layer.finish();
+    heap.refuse(n);
+    let said = answer_of(rt, &layer, &mut worker, made);
+    let refused = !heap.is_armed();
+    heap.refuse(0);
+    (refused, said)
+}
+
+/// The same of a layer under a name of its own.
+fn refused_at<R: Abort + Wait>(rt: &R, heap: Heap<'_>, made: Made, n: u64) -> (bool, Told) {
+    let limits = limits(rt);
+    let core = core(rt, heap, setup(rt, 2, 1, limits));
+    let map = Map::new(Vec::from_slice(heap, &[0]).expect(rt, "memory")).expect(rt, "a map");
+    let queues = Vec::from_slice(heap, &[0]).expect(rt, "memory");
+    let blank = Blank::new(MAX_WORKERS);
+    refused::<R, Brand>(rt, heap, blank, core, map, queues, limits, made, n)
+}
+
+/// How many allocations of a call were refused in turn, each of which was told.
+fn all_told<R: Abort + Wait>(rt: &R, alloc: Global, made: Made) -> u64 {
+    let heap = Refusing::new(alloc);
+    for n in 1..1000u64 {
+        let (was_refused, said) = refused_at(rt, &heap, made, n);
+        if !was_refused {
+            assert!(rt; said == Told::Enough);
+            return n - 1;
+        }
+        assert!(rt; said == Told::Wanting, "{n}");
+    }
+    0
+}
+
+#[test]
+fn want_of_memory_is_told(rt: HostRuntime) {
+    let alloc = rt.alloc();
+    assert!(rt; all_told(&rt, alloc, Made::Drain) > 3);
+    assert!(rt; all_told(&rt, alloc, Made::Issue) > 0);
+    assert!(rt; all_told(&rt, alloc, Made::Work) > 5);
+}

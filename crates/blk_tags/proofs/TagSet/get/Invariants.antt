@@ -1,5 +1,0 @@
-use Rattle.std.proofs.Common.{◌≡◌, ◌≤◌}
-use Rattle.blk_tags.proofs.TagSet.get.Given as goal
-
-abbrev pub invariant-loop : goal.invariant-loop
-invariant-loop g l = (l.seat ≡ l.initial.seat) × (l.tag ≤ l.self.depth)
