@@ -1,0 +1,7 @@
+mod Least
+mod Tight
+mod Most
+mod Splitting
+mod Staying
+mod Ticking
+mod Laws
