@@ -1,7 +1,7 @@
 mod Least
 mod Tight
 mod Most
-mod Splitting
+pub mod Splitting
 mod Staying
 mod Ticking
-mod Laws
+pub mod Laws

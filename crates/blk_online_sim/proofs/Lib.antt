@@ -1,0 +1,6 @@
+mod Growing
+mod Agreeing
+mod Quiet
+mod Issuing
+mod Working
+mod Running
