@@ -4,3 +4,4 @@ mod Quiet
 mod Issuing
 mod Working
 mod Running
+mod Telling

@@ -4,7 +4,10 @@
 
 ghost use Rattle.std.specs.Prelude.{◌≡◌, ℕ, Bool, true, false, List, IfOk, All};
 ghost use Rattle.blk_sched.specs.Meaning.{at_start};
-ghost use Rattle.blk_trace.specs.Setups.{IsSetup};
+ghost use Rattle.blk_trace.specs.Happened.{Happened};
+ghost use Rattle.blk_trace.specs.Setups.{Setup, IsSetup};
+ghost use Rattle.blk_trace.specs.Depths.{capacity_of};
+ghost use Rattle.blk_trace.specs.Meaning.{commands_of, rounds_of};
 ghost use Rattle.blk_trace.specs.Legal.{IsLegalTrace};
 ghost use Rattle.blk_text.specs.declared.script.Line.{Line};
 ghost use Rattle.blk_text.specs.Script.{Scripted, IsScript, scripted};
@@ -12,6 +15,11 @@ ghost use Rattle.blk_sim.specs.State.{SimState, start_of};
 ghost use Rattle.blk_sim.specs.Runs.{Runs};
 ghost use Rattle.blk_earliest.specs.Choice.{kept_of};
 ghost use Rattle.blk_online.specs.Ticks.{AtTicks};
+ghost use Rattle.blk_report.specs.declared.figures.Report.{Report};
+ghost use Rattle.blk_report.specs.declared.missing.Crowd.{Crowd};
+ghost use Rattle.blk_report.specs.Shortfall.{IsReport};
+ghost use Rattle.blk_report.specs.Misses.{AreMisses};
+ghost use Rattle.blk_online_sim.specs.Told.{HasNoShortfall};
 ghost use Rattle.blk_online_sim.specs.ByRounds.{earliest_policy, IsByRounds, HoldsNow, IsLeastLate, IsOneSchedule, MeetsMost};
 
 use blk_earliest::Earliest;
@@ -33,6 +41,25 @@ pub fn law_of_rounds_under_earliest()
         → Runs earliest_policy steps (start_of script (at_start true) (kept_of late_last)) end
         → IsLegalTrace script.setup end.core.events
         → AtTicks (HoldsNow late_last script.setup) end.core.events }
+{}
+
+/// The report of a trace that is least late has the shortfall 0, or there are no commands.
+///
+/// A law: it does nothing when it runs, and a caller has its clause.
+pub fn law_of_no_shortfall()
+    ensures { (setup : Setup) → (events : List Happened) → (r : Report)
+        → IsLeastLate setup events → IsReport setup events r → HasNoShortfall setup events r }
+{}
+
+/// None of the misses of a legal trace that meets the most is avoidable.
+///
+/// A law: it does nothing when it runs, and a caller has its clause.
+pub fn law_of_none_avoidable()
+    ensures { (setup : Setup) → (events : List Happened)
+        → (count late unavoidable avoidable : ℕ) → (windows : List Crowd)
+        → IsLegalTrace setup events → MeetsMost setup events
+        → AreMisses (commands_of setup events) (rounds_of events) (capacity_of setup events) count late unavoidable avoidable windows
+        → avoidable ≡ 0 }
 {}
 
 /// The trace of a script under [`Earliest`], as [`simulate`] runs it. Where the script has bios, flushes, drains, depths and runs
