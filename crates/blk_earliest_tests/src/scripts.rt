@@ -1,9 +1,9 @@
-//! Scripts: the order of their commands, and how many of these run no later than they are due.
+//! Scripts: the order of their commands, and how far they fall short.
 
 use blk_online_sim::simulate_earliest;
+use blk_report::{misses, report};
 use blk_text::{Records, read_script};
 use blk_trace::Trace;
-use edd_check::number_met;
 use std::alloc::Global;
 use std::process::Abort;
 
@@ -29,14 +29,34 @@ fn order(rt: &impl Abort, alloc: Global, late_last: bool, text: &str) -> Vec<u64
     ids
 }
 
-/// How many commands of a script run no later than they are due.
-fn met(rt: &impl Abort, alloc: Global, late_last: bool, text: &str) -> u64 {
-    let trace = run(rt, alloc, late_last, text);
-    let commands = trace.commands().expect(rt, "memory");
-    let rounds = trace.rounds().expect(rt, "memory");
-    number_met(commands.as_slice(), rounds.as_slice())
+/// What is told of a script: by how much it falls short, how many are late, and how many of these are avoidable.
+#[derive(Clone, Copy, Debug, PartialEq, Eq)]
+struct Told {
+    shortfall: i64,
+    late: u64,
+    avoidable: u64,
 }
 
+const fn figures(shortfall: i64, late: u64, avoidable: u64) -> Told {
+    Told {
+        shortfall,
+        late,
+        avoidable,
+    }
+}
+
+fn telling(rt: &impl Abort, alloc: Global, late_last: bool, text: &str) -> Told {
+    let trace = run(rt, alloc, late_last, text);
+    let report = report(&trace).expect(rt, "memory");
+    let missed = misses(&trace).expect(rt, "memory");
+    Told {
+        shortfall: report.shortfall.expect(rt, "commands"),
+        late: missed.late,
+        avoidable: missed.avoidable,
+    }
+}
+
+/// One script of three bios shows both what due first misses and what late last makes later.
 const AB: &str = "blk-script,2,1,1,3,1
 setup,0,1,256,128,
 bio,0,0,R,0,8
@@ -46,6 +66,7 @@ flush,0,,,,
 run,3,,,,
 ";
 
+/// One late request makes all later ones late, or waits until the end.
 const DOMINO: &str = "blk-script,2,1,1,8,1
 setup,0,0,256,128,
 bio,0,0,R,0,8
@@ -70,6 +91,7 @@ run,1,,,,
 run,1,,,,
 ";
 
+/// A scheduler that joins less has other commands, of which it is less late.
 const BEATEN: &str = "blk-script,2,1,1,2,1
 setup,1,1,256,128,
 bio,0,0,W,0,8
@@ -82,6 +104,7 @@ flush,0,,,,
 run,3,,,,
 ";
 
+/// A join that comes after the request that it joins is due.
 const ARRIVAL: &str = "blk-script,2,1,1,3,1
 setup,0,0,256,128,
 bio,0,0,R,100,8
@@ -93,6 +116,7 @@ flush,0,,,,
 run,1,,,,
 ";
 
+/// The second of two hardware queues has what is due first.
 const QUEUES: &str = "blk-script,2,1,2,8,2
 setup,0,1,256,128,
 bio,0,0,W,0,8
@@ -102,25 +126,65 @@ flush,1,,,,
 run,2,,,,
 ";
 
+/// A tick while something waits and a place is free.
+const TICK: &str = "blk-script,2,1,1,1,1
+setup,0,0,256,128,
+bio,0,0,R,0,8
+flush,0,,,,
+drain,0,,,,
+tick,,,,,
+run,1,,,,
+";
+
+/// An issue, after which something more urgent comes in.
+const ISSUE: &str = "blk-script,2,1,1,1,1
+setup,0,9,256,128,
+bio,0,0,W,0,8
+flush,0,,,,
+drain,0,,,,
+issue,0,0,,,
+bio,0,1,R,100,8
+flush,0,,,,
+run,2,,,,
+";
+
+/// A request that is handed back goes out again before a more urgent one.
+const BACK: &str = "blk-script,2,1,1,1,1
+setup,0,9,256,128,
+bio,0,0,W,0,8
+flush,0,,,,
+drain,0,,,,
+issue,0,0,,,
+back,0,,,,
+run,1,,,,
+bio,0,1,R,100,8
+flush,0,,,,
+run,2,,,,
+";
+
 #[test]
-fn due_first_or_late_last(rt: HostRuntime) {
+fn orders(rt: HostRuntime) {
     assert!(rt; order(&rt, rt.alloc(), false, AB).as_slice() == [0, 1, 2].as_slice());
     assert!(rt; order(&rt, rt.alloc(), true, AB).as_slice() == [0, 2, 1].as_slice());
-    assert_eq!(rt; met(&rt, rt.alloc(), false, AB), 1);
-    assert_eq!(rt; met(&rt, rt.alloc(), true, AB), 2);
-}
-
-#[test]
-fn one_late_makes_all_late(rt: HostRuntime) {
-    assert_eq!(rt; met(&rt, rt.alloc(), false, DOMINO), 1);
-    assert_eq!(rt; met(&rt, rt.alloc(), true, DOMINO), 6);
-}
-
-#[test]
-fn joins_and_queues(rt: HostRuntime) {
     assert!(rt; order(&rt, rt.alloc(), false, QUEUES).as_slice() == [1, 0].as_slice());
-    assert_eq!(rt; met(&rt, rt.alloc(), false, BEATEN), 3);
-    assert_eq!(rt; met(&rt, rt.alloc(), true, BEATEN), 3);
     assert!(rt; order(&rt, rt.alloc(), false, ARRIVAL).as_slice() == [0, 1].as_slice());
-    assert_eq!(rt; met(&rt, rt.alloc(), false, ARRIVAL), 1);
+}
+
+#[test]
+fn never_short_by_rounds(rt: HostRuntime) {
+    assert_eq!(rt; telling(&rt, rt.alloc(), false, AB), figures(0, 2, 1));
+    assert_eq!(rt; telling(&rt, rt.alloc(), true, AB), figures(1, 1, 0));
+    assert_eq!(rt; telling(&rt, rt.alloc(), false, DOMINO), figures(0, 6, 5));
+    assert_eq!(rt; telling(&rt, rt.alloc(), true, DOMINO), figures(5, 1, 0));
+    assert_eq!(rt; telling(&rt, rt.alloc(), false, BEATEN), figures(0, 1, 0));
+    assert_eq!(rt; telling(&rt, rt.alloc(), false, ARRIVAL), figures(0, 1, 0));
+    assert_eq!(rt; telling(&rt, rt.alloc(), false, QUEUES), figures(0, 0, 0));
+}
+
+#[test]
+fn short_by_hand(rt: HostRuntime) {
+    for text in [TICK, ISSUE, BACK] {
+        assert_eq!(rt; telling(&rt, rt.alloc(), false, text), figures(1, 1, 1));
+        assert_eq!(rt; telling(&rt, rt.alloc(), true, text), figures(1, 1, 1));
+    }
 }
