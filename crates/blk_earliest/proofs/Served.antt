@@ -1,0 +1,46 @@
+-- What the index says is said of the scheduler.
+use Rattle.std.proofs.Common.{◌≡◌, ℕ, true, sym, ap, ◌∙◌, refl, Some, List}
+use Rattle.std.specs.FinMap as map
+use Rattle.blk_bio.specs.declared.request.Side.{Side}
+use Rattle.blk_bio.specs.declared.request.Side.TheVariants.{Back}
+use Rattle.blk_bio.specs.Bios.{Bio}
+use Rattle.blk_bio.specs.Limits.{Limits}
+use Rattle.blk_bio.specs.Requests.{dir_of}
+use Rattle.blk_sched.specs.Meaning.{Waiting, Pending, Meaning, OpenPicks, HasCandidate, Joins, Picks, joined_waiting, opened}
+use Rattle.blk_sched.specs.Fits.{IsNewestFit}
+use Rattle.blk_sched.specs.Index.{IsJoined}
+use Rattle.blk_earliest.specs.Choice.{serves_all, meaning_with}
+
+pub candidate_of : (m : Meaning) (hw : ℕ) (limits : Limits) (newcomer : List Bio) (id : ℕ) (side : Side) → IsNewestFit limits m.front (map.get m.pending) newcomer id side → HasCandidate serves_all hw limits newcomer m id side
+candidate_of m hw limits newcomer id side best = (
+  best.waiting,
+  record {
+    pending = best.is_found;
+    served = refl;
+    tried = best.fits.tried;
+    fits = best.fits.fits;
+    back_first = λ is_front back. let e : Back ≡ side = best.fits.only Back back in cc;
+    newest = λ other v s after there own tried fits. best.newest other v after there s tried fits;
+  },
+)
+
+pub joins : (m : Meaning) (new : Pending) (hw now : ℕ) (limits : Limits) (newcomer : List Bio) (id : ℕ) (side : Side) → HasCandidate serves_all hw limits newcomer m id side → IsJoined now newcomer m.pending id side new → Joins serves_all hw now limits newcomer m id side (record m { pending = new })
+joins m new hw now limits newcomer id side candidate join =
+    let w = candidate.0 in
+    let one : Some join.waiting ≡ Some w = sym join.was ∙ candidate.1.pending in
+    let same : join.waiting ≡ w = cc in (
+      w,
+      candidate.1,
+      ap (λ (x : Pending). let n : Meaning = record m { pending = x } in n) (join.is ∙ ap (λ (x : Waiting). map.insert m.pending id (joined_waiting side now newcomer x)) same),
+    )
+
+-- ---- the pick
+
+pub picks : (m new : Pending) (round hw id : ℕ) (p q : OpenPicks) (w : Waiting) → ((k : ℕ) (v : Waiting) → map.get m k ≡ Some v → v.id ≡ k) → map.get m id ≡ Some w → new ≡ map.remove m id → q ≡ opened (dir_of w.bios) p → Picks serves_all hw (meaning_with m p round) w (meaning_with new q round)
+picks m new round hw id p q w named there removed opens =
+    let own : w.id ≡ id = named id w there in (
+      ap (map.get m) own ∙ there,
+      refl,
+      ap (λ (x : Pending). meaning_with x q round) (removed ∙ ap (map.remove m) (sym own))
+          ∙ ap (λ (y : OpenPicks). let n : Meaning = record { pending = map.remove m w.id; open_picks = y; front = true; round = round } in n) opens,
+    )

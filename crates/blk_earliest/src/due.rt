@@ -1,0 +1,74 @@
+//! When a request is due, with its id.
+
+ghost use Rattle.std.specs.Prelude.{Some, refl};
+ghost use Rattle.std.specs.Ordering.{eq_by_cmp};
+ghost use Rattle.std.specs.Cmp.{eq_by_cmp_equiv, partial_equiv_from_equiv, partial_order_from_agreeing_total};
+ghost use Rattle.blk_sched.specs.Inside.Pairs.{pair_cmp, pair_total};
+
+use std::cmp::Ordering;
+use std::marker::Model;
+
+/// The due round of a request and its id, in the order of due rounds and then of ids. Seen as the pair of them. The order is
+/// that of pairs, with the greater one told first, which is what a set asks for at most of its keys.
+#[derive(Clone, Copy)]
+pub struct Due {
+    /// The due round.
+    pub due: u64,
+    /// The id.
+    pub id: u64,
+}
+
+impl Model for Due {
+    ghost use Rattle.std.specs.Prelude.{ℕ};
+
+    ghost Value = { ℕ × ℕ };
+
+    ghost view = { λ s. (s.due, s.id) };
+
+    ghost inverse = { λ p. record { due = p.0; id = p.1 } };
+}
+
+impl PartialEq for Due {
+    ghost eq = { eq_by_cmp pair_cmp };
+
+    ghost laws = { partial_equiv_from_equiv (eq_by_cmp_equiv pair_total) };
+
+    fn eq(&self, other: &Due) -> bool {
+        self.cmp(other).is_eq()
+    }
+}
+
+impl Eq for Due {
+    ghost laws = { eq_by_cmp_equiv pair_total };
+}
+
+impl PartialOrd for Due {
+    ghost partial_cmp = { λ x y. Some (pair_cmp x y) };
+
+    ghost laws = { partial_order_from_agreeing_total pair_cmp pair_total (λ x y. refl) (λ x y. refl) };
+
+    fn partial_cmp(&self, other: &Due) -> Option<Ordering> {
+        Some(self.cmp(other))
+    }
+}
+
+impl Ord for Due {
+    ghost cmp = { pair_cmp };
+
+    ghost total = { pair_total };
+
+    ghost matches_partial_cmp = { λ x y. refl };
+
+    ghost matches_eq = { λ x y. refl };
+
+    #[inline(always)]
+    fn cmp(&self, other: &Due) -> Ordering {
+        if self.due > other.due {
+            return Ordering::Greater;
+        }
+        if self.due < other.due {
+            return Ordering::Less;
+        }
+        self.id.cmp(&other.id)
+    }
+}

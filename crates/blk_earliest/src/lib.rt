@@ -1,0 +1,198 @@
+//! The scheduler that hands out the request that is due first: earliest due date first, decided round by round.
+#![tactic(auto)]
+
+ghost use Rattle.std.specs.Prelude.{◌≡◌, ◌<◌, ◌+◌, ℕ, Bool, true, false, List, [], None, Some, IfOk, IfSome, IfNone, IsTrue};
+ghost use Rattle.std.specs.FinMap as map;
+ghost use Rattle.blk_sched.specs.Meaning.{Waiting, Picks, ServesNothing, at_start};
+ghost use Rattle.blk_earliest.specs.Choice.{serves_all, first_due, on_time, earliest_choice, earliest_chooses, kept_of, IsFirst, IsFirstMeetable};
+ghost use Rattle.blk_earliest.specs.Shown.{pending_of, late_last_of, meaning_of};
+
+pub mod by_due;
+pub mod due;
+
+use crate::by_due::ByDue;
+use blk_bio::{Dir, Limits, MAX_QUEUES, Request, Side};
+use blk_sched::{MAX_OPEN, OpenPicks, Queued, Scheduler};
+use std::alloc::{AllocError, Allocator, Global};
+
+/// Requests by their due rounds, and of one due round by their ids. All hardware queues share them.
+#[derive(Drop)]
+pub struct Earliest<A: Allocator = Global> {
+    waiting: ByDue<A>,
+    late_last: bool,
+    open_picks: OpenPicks,
+    round: u64,
+}
+
+impl<A: Allocator + Clone> Earliest<A> {
+    /// A scheduler in which nothing waits and no pick is open, in round 0. With `late_last` a request whose due round is
+    /// past waits until none is there that can still be met. Refused for want of memory alone.
+    pub fn new(alloc: A, late_last: bool) -> Result<Earliest<A>, AllocError>
+        ensures ok { IfOk result (λ s. meaning_of s ≡ at_start true) }
+        ensures setting { IfOk result (λ s. late_last_of s ≡ late_last) }
+    {
+        Ok(Earliest {
+            waiting: ByDue::new(alloc)?,
+            late_last,
+            open_picks: OpenPicks::none(),
+            round: 0,
+        })
+    }
+
+    /// The id of the request that is due first.
+    #[inline(always)]
+    fn first(&self) -> Option<u64>
+        ensures some { IfSome result (λ id. (w : Waiting) × (map.get self.now.waiting id ≡ Some w) × (first_due (map.values self.now.waiting) ≡ Some w)) }
+        ensures none { IfNone result (first_due (map.values self.now.waiting) ≡ None) }
+        ensures all { IfNone result ((k : ℕ) (w : Waiting) → map.get self.now.waiting k ≡ Some w → ⊥) }
+    {
+        self.waiting.first_from(0)
+    }
+
+    /// The id of the request that is due first of those that are due in the round or later.
+    #[inline(always)]
+    fn first_on_time(&self, now: u64) -> Option<u64>
+        ensures some { IfSome result (λ id. (w : Waiting) × (map.get self.now.waiting id ≡ Some w) × (first_due (on_time now (map.values self.now.waiting)) ≡ Some w)) }
+        ensures none { IfNone result (first_due (on_time now (map.values self.now.waiting)) ≡ None) }
+    {
+        self.waiting.first_from(now)
+    }
+
+    /// The id of the choice.
+    #[inline(always)]
+    fn choose(&self, now: u64) -> Option<u64>
+        ensures some { IfSome result (λ id. (w : Waiting) × (map.get self.now.waiting id ≡ Some w) × (earliest_choice self.now.late_last now (map.values self.now.waiting) ≡ Some w)) }
+        ensures none { IfNone result (earliest_choice self.now.late_last now (map.values self.now.waiting) ≡ None) }
+        ensures all { IfNone result ((k : ℕ) (w : Waiting) → map.get self.now.waiting k ≡ Some w → ⊥) }
+    {
+        if !self.late_last {
+            return self.first();
+        }
+        match self.first_on_time(now) {
+            Some(id) => Some(id),
+            None => self.first(),
+        }
+    }
+}
+
+/// What the choice is among what waits: the request that comes first by due round and id; with `late_last` the first of those
+/// that are due in the round or later, and where there is none of these the first of all. There is none only where nothing
+/// waits.
+///
+/// A law: it does nothing when it runs, and a caller has its clauses.
+pub fn law_of_choices()
+    ensures first { (now : ℕ) → (ws : List Waiting) → (w : Waiting) → earliest_choice false now ws ≡ Some w → IsFirst ws w }
+    ensures meetable { (now : ℕ) → (ws : List Waiting) → (w : Waiting) → earliest_choice true now ws ≡ Some w → IsFirstMeetable now ws w }
+    ensures none { (late_last : Bool) → (now : ℕ) → (ws : List Waiting) → earliest_choice late_last now ws ≡ None → ws ≡ [] }
+{}
+
+impl<A: Allocator + Clone> Scheduler for Earliest<A> {
+    type A = A;
+
+    ghost meaning = { meaning_of };
+
+    ghost serves = { serves_all };
+
+    ghost kept = { λ s. kept_of s.late_last };
+
+    ghost chooses = { earliest_chooses };
+
+    #[inline(always)]
+    fn enter(&mut self, slot: &mut Option<Queued<A>>) -> Result<(), AllocError> {
+        let Some(queued) = slot.take() else {
+            unreachable!()
+        };
+        match self.waiting.insert(queued) {
+            Ok(()) => Ok(()),
+            Err(queued) => {
+                *slot = Some(queued);
+                Err(AllocError)
+            }
+        }
+    }
+
+    #[inline(always)]
+    fn candidate(&self, hw: u8, limits: &Limits, newcomer: &Request<A>) -> Option<(u64, Side)> {
+        let _ = hw;
+        self.waiting.candidate(newcomer, limits)
+    }
+
+    fn join_at(
+        &mut self,
+        hw: u8,
+        id: u64,
+        side: Side,
+        now: u64,
+        limits: &Limits,
+        slot: &mut Option<Request<A>>,
+    ) -> Result<(), AllocError> {
+        let _ = hw;
+        let Some(newcomer) = slot.take() else {
+            unreachable!()
+        };
+        match self.waiting.join_at(id, side, now, limits, newcomer) {
+            Ok(()) => Ok(()),
+            Err(newcomer) => {
+                *slot = Some(newcomer);
+                Err(AllocError)
+            }
+        }
+    }
+
+    /// Hands out the request that is due first, of several the one with the least id; with `late_last` that of those due
+    /// in the round or later, and only where there is none of these the first of all.
+    #[inline(always)]
+    fn pick(&mut self, hw: u8, now: u64) -> Option<Queued<A>>
+        requires hw { hw < MAX_QUEUES }
+        requires round { now ≡ (meaning_of self.old).round }
+        requires few { (meaning_of self.old).open_picks.reads + (meaning_of self.old).open_picks.writes < MAX_OPEN }
+        ensures chosen { earliest_chooses (kept_of (late_last_of self.old)) (meaning_of self.old) hw now result (kept_of (late_last_of self.new)) }
+        ensures choice { result ≡ earliest_choice (late_last_of self.old) now (map.values (pending_of self.old)) }
+        ensures setting { late_last_of self.new ≡ late_last_of self.old }
+        ensures picked { IfSome result (λ w. Picks serves_all hw (meaning_of self.old) w (meaning_of self.new)) }
+        ensures none { IfNone result (ServesNothing serves_all hw (meaning_of self.old)) }
+        ensures same { IfNone result (self.new ≡ self.old) }
+        ensures own { (w : Waiting) → IsTrue (serves_all w.hw w) }
+    {
+        let _ = hw;
+        let Some(id) = self.choose(now) else {
+            return None;
+        };
+        let Some(queued) = self.waiting.remove(id) else {
+            unreachable!()
+        };
+        self.open_picks.open(queued.request.dir());
+        Some(queued)
+    }
+
+    fn on_done(&mut self, hw: u8, dir: Dir, wait: u64) {
+        let _ = (hw, wait);
+        self.open_picks.close(dir);
+    }
+
+    fn on_back(&mut self, hw: u8, dir: Dir) {
+        let _ = hw;
+        self.open_picks.hand_back(dir);
+    }
+
+    fn on_again(&mut self, hw: u8, dir: Dir) {
+        let _ = hw;
+        self.open_picks.open_again(dir);
+    }
+
+    fn on_tick(&mut self, now: u64) {
+        self.round = now;
+    }
+
+    fn pending(&self) -> u64 {
+        self.waiting.len() as u64
+    }
+
+    fn picked(&self, dir: Dir) -> u64 {
+        self.open_picks.of(dir)
+    }
+
+    fn handed(&self, dir: Dir) -> u64 {
+        self.open_picks.handed(dir)
+    }
+}

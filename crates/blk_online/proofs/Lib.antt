@@ -1,0 +1,7 @@
+mod Least
+mod Tight
+mod Most
+pub mod Splitting
+mod Staying
+mod Ticking
+pub mod Laws

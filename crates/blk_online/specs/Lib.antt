@@ -1,0 +1,2 @@
+pub mod Meetable
+pub mod Ticks

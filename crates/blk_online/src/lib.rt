@@ -1,0 +1,76 @@
+//! Laws of schedules that are decided online: round by round, by what is there, with nothing known of what is to come.
+//!
+//! A scheduler that serves what is due first is never later than it has to be, and one that first serves what can still be
+//! met meets as much as can be met. The rules are Jackson's and Horn's for the greatest lateness and Glover's for the number
+//! of due rounds that are met (Pinedo, Scheduling, on Lmax and on the number of tardy jobs), here for unit commands with
+//! release rounds on equal places whose number may change from round to round.
+#![tactic(auto)]
+
+ghost use Rattle.std.specs.Prelude.{◌≡◌, ℕ, ℤ, List};
+ghost use Rattle.edd_check.specs.declared.Command.{Command};
+ghost use Rattle.edd_check.specs.declared.steps.Step.{Step};
+ghost use Rattle.edd_check.specs.Schedule.{IsLegal, IsGreatestLateness, IsLeastLateness};
+ghost use Rattle.edd_check.specs.Met.{number_met, IsMostMet};
+ghost use Rattle.edd_oracle.specs.Priority.{IsEarliestDueFirst};
+ghost use Rattle.blk_trace.specs.Happened.{Happened};
+ghost use Rattle.blk_trace.specs.Setups.{Setup, IsSetup};
+ghost use Rattle.blk_trace.specs.Depths.{capacity_of};
+ghost use Rattle.blk_trace.specs.Legal.{IsLegalTrace};
+ghost use Rattle.blk_trace.specs.Meaning.{commands_of, rounds_of};
+ghost use Rattle.blk_online.specs.Meetable.{IsMeetableFirst};
+ghost use Rattle.blk_online.specs.Ticks.{IsEarliestNow, IsMeetableNow, AtTicks};
+
+/// A legal schedule by earliest due date first is least late.
+///
+/// A law: it does nothing when it runs, and a caller has its clause.
+pub fn law_of_earliest_due_first()
+    ensures { (commands : List Command) → (steps : List Step) → (rounds : List ℕ) → (late : ℤ)
+        → IsLegal commands rounds steps → IsEarliestDueFirst commands rounds steps
+        → IsGreatestLateness commands rounds late → IsLeastLateness commands steps late }
+{}
+
+/// A legal schedule that first serves what can still be met meets the most, in whatever order it serves the rest.
+///
+/// A law: it does nothing when it runs, and a caller has its clause.
+pub fn law_of_meetable_first()
+    ensures { (commands : List Command) → (steps : List Step) → (rounds : List ℕ)
+        → IsLegal commands rounds steps → IsMeetableFirst commands rounds steps
+        → IsMostMet commands steps (number_met commands rounds) }
+{}
+
+/// Where, as each round of a legal trace ends, what went out in it comes before all that waits, and the round is full if
+/// anything waits, the trace's rounds are those of the one schedule of its commands by earliest due date first, and so are
+/// least late. What waits is read as the round ends: what came in after an Issue of the round counts too. The last round, which
+/// no Tick ends, is free.
+///
+/// A law: it does nothing when it runs, and a caller has its clauses.
+pub fn law_of_earliest_traces()
+    ensures first { (setup : Setup) → (events : List Happened)
+        → IsLegalTrace setup events → AtTicks (IsEarliestNow setup) events
+        → IsEarliestDueFirst (commands_of setup events) (rounds_of events) (capacity_of setup events) }
+    // the oracle's schedule is such a one
+    ensures one { (setup : Setup) → (events : List Happened)
+        → IsSetup setup → IsLegalTrace setup events → AtTicks (IsEarliestNow setup) events
+        → (solved : List ℕ)
+        → IsLegal (commands_of setup events) solved (capacity_of setup events)
+        → IsEarliestDueFirst (commands_of setup events) solved (capacity_of setup events)
+        → rounds_of events ≡ solved }
+    ensures least { (setup : Setup) → (events : List Happened)
+        → IsLegalTrace setup events → AtTicks (IsEarliestNow setup) events
+        → (late : ℤ)
+        → IsGreatestLateness (commands_of setup events) (rounds_of events) late
+        → IsLeastLateness (commands_of setup events) (capacity_of setup events) late }
+{}
+
+/// Where that holds of what waits and is due in the round or later, with what went out due then too, the trace meets as many
+/// due rounds as any legal schedule of its commands.
+///
+/// A law: it does nothing when it runs, and a caller has its clauses.
+pub fn law_of_late_last_traces()
+    ensures first { (setup : Setup) → (events : List Happened)
+        → IsLegalTrace setup events → AtTicks (IsMeetableNow setup) events
+        → IsMeetableFirst (commands_of setup events) (rounds_of events) (capacity_of setup events) }
+    ensures most { (setup : Setup) → (events : List Happened)
+        → IsLegalTrace setup events → AtTicks (IsMeetableNow setup) events
+        → IsMostMet (commands_of setup events) (capacity_of setup events) (number_met (commands_of setup events) (rounds_of events)) }
+{}

@@ -1,0 +1,7 @@
+mod Growing
+mod Agreeing
+mod Quiet
+mod Issuing
+mod Working
+mod Running
+mod Telling

@@ -1,0 +1,2 @@
+pub mod ByRounds
+pub mod Told
