@@ -1,9 +1,10 @@
 //! What comes of texts, form by form: what is read of them and written again, and their faults, each by its record and name.
 
 use blk_text::{
-    Proof, Records, TextFault, Why, WriteFault, read_certificate, read_commands, read_met,
-    read_proof, read_script, read_trace, write_certificate, write_commands, write_met, write_trace,
+    Proof, Records, TextFault, Why, read_certificate, read_commands, read_met, read_proof,
+    read_script, read_trace, write_certificate, write_commands, write_met, write_trace,
 };
+use drafts::WriteFault;
 use std::alloc::Global;
 use std::io;
 use std::io::{ErrorKind, Read, Write};
