@@ -84,7 +84,8 @@ impl Loads for AllServed {
         sched: Sched,
         load: Load,
     ) -> Result<Settled, Unsettled> {
-        let _ = (rt, alloc, sched);
+        let _ = rt;
+        let _ = (alloc, sched);
         if !load.is_in_range() {
             return Err(Unsettled::Load(LoadFault::Range));
         }
