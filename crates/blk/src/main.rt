@@ -2,9 +2,27 @@
 #![tactic(auto)]
 
 use blk_load::OnThreads;
-use std::io::{ErrorKind, Write};
+use std::io::{ErrorKind, Read, Write};
 use std::process::ExitCode;
 use std::{env, io};
+
+/// A reader of which a read that a signal interrupts is made again; the CSV reader takes it for one that failed.
+#[derive(Drop)]
+struct Resumed<R> {
+    inner: R,
+}
+
+impl<R: Read> Read for Resumed<R> {
+    fn read(&mut self, buf: &mut [u8]) -> io::Result<usize> {
+        for _ in 0..u64::MAX {
+            match self.inner.read(buf) {
+                Err(error) if error.kind() == ErrorKind::Interrupted => {}
+                ended => return ended,
+            }
+        }
+        self.inner.read(buf)
+    }
+}
 
 fn main(rt: HostRuntime) -> ExitCode {
     let alloc = rt.alloc();
@@ -30,7 +48,7 @@ fn main(rt: HostRuntime) -> ExitCode {
         &rt,
         alloc,
         words.as_slice(),
-        rt.reader(),
+        Resumed { inner: rt.reader() },
         &mut io::writer(&rt),
         &mut faults,
     );
