@@ -6,7 +6,7 @@ ghost use Rattle.std.specs.FinMap as map;
 ghost use Rattle.blk_bio.specs.declared.bio.Dir.{Dir};
 ghost use Rattle.blk_bio.specs.Requests.{dir_of};
 ghost use Rattle.blk_sched.specs.Meaning.{Waiting, Meaning, HasCandidate, HasNoCandidate, Joins, ServesNothing, Picks, HandsBack, at_start, opened, open_of, handed_of, unfinished};
-ghost use Rattle.blk_sched.specs.Index.{NoneOf};
+ghost use Rattle.blk_index.specs.Index.{NoneOf};
 ghost use Rattle.blk_kyber.specs.Limits.{Report, Done, Tick, limit_of, target_of, after_report, kyber_limits};
 ghost use Rattle.blk_kyber.specs.Choice.{serves_own, first_turn, in_flight, head_of, chosen};
 ghost use Rattle.blk_kyber.specs.Kept.{Kept, kept_at_first, choice_for, after_pick, told, numbers_of, Chooses, Told};

@@ -9,23 +9,11 @@ ghost use Rattle.blk_bio.specs.declared.bio.Dir.{Dir};
 ghost use Rattle.blk_bio.specs.declared.request.Side.{Side};
 ghost use Rattle.blk_sched.specs.Meaning.{Waiting, Meaning, HasCandidate, HasNoCandidate, Joins, ServesNothing, Picks, HandsBack, joined_waiting, opened, open_of, handed_of, unfinished};
 
-pub mod ages;
-pub mod firsts;
 pub mod fits;
-pub mod index;
-pub mod lane;
 pub mod picks;
-pub mod places;
-pub mod shelf;
-pub mod sorted;
-pub mod spots;
-pub mod starts;
 
 pub use crate::fits::side_of_fit;
-pub use crate::index::Index;
-pub use crate::lane::Lane;
 pub use crate::picks::{MAX_HANDED, MAX_OPEN, OpenPicks};
-pub use crate::sorted::Sorted;
 use blk_bio::{Dir, JoinFault, Limits, MAX_QUEUES, Request, Side};
 use std::alloc::{AllocError, Allocator, Global};
 use std::marker::Model;
