@@ -10,16 +10,16 @@ use Rattle.edd_oracle.specs.declared.OracleFault.{OracleFault}
 use Rattle.edd_oracle.specs.declared.OracleFault.TheVariants as oracle
 use Rattle.blk_bio.specs.declared.bio.BioFault.{BioFault}
 use Rattle.blk_bio.specs.declared.bio.BioFault.TheVariants as bio
-use Rattle.blk_trace.specs.declared.rule.TraceRule.{TraceRule}
-use Rattle.blk_trace.specs.declared.rule.TraceRule.TheVariants as rule
+use Rattle.blk_bio.specs.declared.rule.TraceRule.{TraceRule}
+use Rattle.blk_bio.specs.declared.rule.TraceRule.TheVariants as rule
 use Rattle.blk_sched.specs.declared.SchedFault.{SchedFault}
 use Rattle.blk_sched.specs.declared.SchedFault.TheVariants as setting
 use Rattle.blk_settings.specs.declared.fault.LoadFault.{LoadFault}
 use Rattle.blk_settings.specs.declared.fault.LoadFault.TheVariants as load
-use Rattle.blk_text.specs.declared.fault.Why.{Why}
-use Rattle.blk_text.specs.declared.fault.Why.TheVariants as why
+use Rattle.blk_lists.specs.declared.fault.Why.{Why}
+use Rattle.blk_lists.specs.declared.fault.Why.TheVariants as why
 use Rattle.drafts.specs.declared.fault.WriteFault.TheVariants as write
-use Rattle.blk_text.specs.Sources.{Row}
+use Rattle.blk_lists.specs.Sources.{Row}
 use Rattle.blk_sim.specs.declared.refusal.SimWhy.{SimWhy}
 use Rattle.blk_sim.specs.declared.refusal.SimWhy.TheVariants as step
 use Rattle.blk_cli.specs.declared.Ended.{Ended}

@@ -10,7 +10,7 @@ use blk_bio::BioFault;
 use blk_sched::SchedFault;
 use blk_settings::LoadFault;
 use blk_sim::{SimFault, SimWhy};
-use blk_text::{TextFault, Why};
+use blk_lists::{TextFault, Why};
 use blk_trace::TraceRule;
 use drafts::WriteFault;
 use edd_check::{CheckFault, MetFault};
