@@ -8,8 +8,8 @@ ghost use Rattle.blk_cli.specs.Statuses.{IsOfWriter};
 ghost use Rattle.blk_cli.specs.OfTraces.{IsReportText, IsCommandsText, IsLateText, IsMissesText, IsSpreadText, IsUntold, IsUnfixed, TraceWrote, TraceFails};
 
 use crate::failure::Failure;
-use blk_report::{late, misses, report, services, spread, write_late, write_misses, write_spread};
 use blk_lists::{Records, write_commands};
+use blk_report::{late, misses, report, services, spread, write_late, write_misses, write_spread};
 use blk_text::read_trace;
 use blk_trace::Trace;
 use edd_check::Command;

@@ -15,11 +15,11 @@ ghost use Rattle.blk_index.specs.Inside.Heads.{IsEdge};
 ghost use Rattle.blk_index.specs.Inside.Edges.{heads_in, others_in};
 ghost use Rattle.blk_index.specs.Index.{IsNewestBy, FitsNoneBy, FitsBy, IsJoined, at_of, touch_of, newer_of, IsOldest, NoneOf};
 
-use blk_sched::Queued;
 use crate::ages::Ages;
 use crate::shelf::Shelf;
 use crate::spots::{Edges, Spot, Spots, end_spot, first_spot, is_write};
 use blk_bio::{Dir, Extent, Limits, Request, Side};
+use blk_sched::Queued;
 use std::alloc::{AllocError, Allocator, Global};
 use std::marker::Model;
 

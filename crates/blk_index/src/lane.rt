@@ -13,10 +13,10 @@ ghost use Rattle.blk_index.specs.Inside.Heads.{IsEdge};
 ghost use Rattle.blk_index.specs.Lanes.{waiting_at, IsRising};
 ghost use Rattle.blk_sched.specs.Meaning.{Waiting};
 
-use blk_sched::Queued;
 use crate::index::{extent_of, id_of, newer, room_beside, sectors_of, spot_at, touched};
 use crate::spots::{Edges, Spots};
 use blk_bio::{Limits, Request, Side};
+use blk_sched::Queued;
 use std::alloc::{AllocError, AllocFailed, Allocator, Global};
 use std::collections::VecDeque;
 use std::marker::Model;

@@ -6,9 +6,9 @@ ghost use Rattle.std.specs.FinMap as map;
 ghost use Rattle.blk_sched.specs.Meaning.{Waiting};
 ghost use Rattle.blk_index.specs.Inside.Shelves.{JoinsOne};
 
-use blk_sched::Queued;
 use crate::places::Places;
 use blk_bio::{Limits, Request, Side};
+use blk_sched::Queued;
 use slab::Slab;
 use std::alloc::{AllocError, Allocator, Global};
 use std::marker::Model;

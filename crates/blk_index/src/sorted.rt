@@ -9,11 +9,11 @@ ghost use Rattle.blk_index.specs.Inside.Spots.{AreSpots, first_at};
 ghost use Rattle.blk_index.specs.Inside.Orders.{order_in};
 ghost use Rattle.blk_index.specs.Index.{IsJoined, IsOldest, IsNext, NoneOf, NoNext};
 
-use blk_sched::Queued;
 use crate::firsts::Order;
 use crate::index::{Index, extent_of, id_of};
 use crate::spots::first_spot;
 use blk_bio::{Dir, Limits, Request, Side};
+use blk_sched::Queued;
 use std::alloc::{AllocError, Allocator, Global};
 use std::marker::Model;
 

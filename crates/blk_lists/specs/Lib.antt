@@ -10,3 +10,4 @@ pub mod Reads
 pub mod Titles
 pub mod Met
 pub mod Proof
+pub mod Names

@@ -125,4 +125,3 @@ pub fn a_proof_has_one_fault()
     ensures { (rows : List Row) → (at other : ℕ) → (w v : AWhy)
         → ProofFault rows at w → ProofFault rows other v → (at ≡ other) × (w ≡ v) }
 {}
-
