@@ -2,7 +2,7 @@
 """The words of the command line: makes the man page and completions, and holds what tells of them to one another.
 
     tools/words.py man|bash|zsh|fish      writes the man page, or the completions of that shell
-    tools/words.py check                  compares the table of docs/FORMATS.md, the help texts and the cases
+    tools/words.py check                  compares the tables of docs/FORMATS.md, the help texts, the cases and the names of faults
     tools/words.py keep                   keeps the help texts of the program that is built
 
 The subcommands, their options and what each may be are those of the table in docs/FORMATS.md under 'Program'. What each
@@ -168,11 +168,28 @@ def held_by_cases():
     return held
 
 
+def names_of_faults():
+    """Where the names that the program prints and the list in docs/FORMATS.md differ."""
+    printed = set()
+    for it in TOP.glob("crates/*/src/**/*.rt"):
+        text = it.read_text()
+        for block in re.findall(r"fn name\(self\) -> &'static str.*?\n    }\n", text, re.S):
+            printed.update(re.findall(r'=> "(\w+)"', block))
+        printed.update(re.findall(r'tell_name\(faults, "(\w+)"\)', text))
+    listed = set()
+    for row in FORMATS.read_text().split("\n## Names of faults\n")[-1].splitlines():
+        listed.update(re.findall(r"`(\w+)`", row.split("|")[1] if row.startswith("|") else ""))
+    apart = printed - {"Memory", "Read"}
+    yield from (f"docs/FORMATS.md names no fault {it}" for it in sorted(apart - listed))
+    yield from (f"no fault has the name {it}, which docs/FORMATS.md lists" for it in sorted(listed - apart))
+
+
 def faults():
     """What is compared, each with what differs, if anything does."""
     commands, kept, held = read_table(), {it.name for it in HELP.iterdir()}, held_by_cases()
     texts = forms(commands)
     wanted = {*texts.values()}
+    yield list(names_of_faults())
     yield [f"tools/help/{it} is missing: tools/words.py keep writes it" for it in sorted(wanted - kept)]
     yield [f"tools/help/{it} is the text of no subcommand" for it in sorted(kept - wanted)]
     for words, name in texts.items():

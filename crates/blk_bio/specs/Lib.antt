@@ -5,3 +5,4 @@ pub mod Extents
 pub mod Answers
 pub mod Codes
 pub mod Letters
+pub mod Names

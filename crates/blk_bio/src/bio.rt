@@ -1,6 +1,7 @@
 //! A bio: one transfer of a range of sectors, after `struct bio` of Linux.
 
 ghost use Rattle.std.specs.Prelude.{◌≡◌, ◌≢◌, ◌+◌, ◌<◌, ◌≤◌, ◌^◌, ◌∷◌, [], IfOk, IfSome, IfNone, MatchResult};
+ghost use Rattle.blk_bio.specs.Names.{bio_fault_name};
 ghost use Rattle.blk_bio.specs.Bios.{Bio as BioFields, IsBio, end_of, IsBioAnswer};
 ghost use Rattle.blk_bio.specs.Requests.{IsRequest};
 ghost use Rattle.blk_bio.specs.Extents.{extent_of};
@@ -9,7 +10,6 @@ ghost use Rattle.blk_bio.specs.declared.bio.Dir.{Dir as Direction};
 
 use crate::extent::Extent;
 use std::marker::Model;
-use thiserror::Error;
 
 /// No bio reaches past this sector: 2^48, in sectors from the device's beginning.
 pub const SECTOR_LIMIT: u64 = 1 << 48;
@@ -60,14 +60,24 @@ pub struct BioId {
 }
 
 /// Why a bio is not made, in the order in which the reasons are looked for.
-#[derive(Clone, Copy, Debug, PartialEq, Eq, Error)]
+#[derive(Clone, Copy, Debug, PartialEq, Eq)]
 pub enum BioFault {
     /// It has 0 sectors.
-    #[error("Empty")]
     Empty,
     /// It ends past [`SECTOR_LIMIT`].
-    #[error("Range")]
     Range,
+}
+
+impl BioFault {
+    /// Its name, which the program prints.
+    pub fn name(self) -> &'static str
+        ensures { result.now ≡ bio_fault_name self }
+    {
+        match self {
+            BioFault::Empty => "Empty",
+            BioFault::Range => "Range",
+        }
+    }
 }
 
 /// A transfer of `sectors` sectors from sector `first` on, at least one, that ends at most at [`SECTOR_LIMIT`].

@@ -10,6 +10,7 @@ pub mod bio;
 pub mod extent;
 pub mod limits;
 pub mod request;
+pub mod rule;
 
 pub use crate::bio::{Bio, BioFault, BioId, Dir, SECTOR_LIMIT};
 pub use crate::extent::Extent;
@@ -17,3 +18,4 @@ pub use crate::limits::{
     Limits, LimitsFault, MAX_QUEUES, MAX_SECTORS, MAX_SEGMENTS, MAX_SOFT_DEPTH, MAX_SOFT_QUEUES,
 };
 pub use crate::request::{JoinFault, Request, Side};
+pub use crate::rule::TraceRule;

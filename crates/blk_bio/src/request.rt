@@ -13,7 +13,6 @@ use crate::extent::Extent;
 use crate::limits::Limits;
 use std::alloc::{AllocError, Allocator, Global};
 use std::marker::Model;
-use thiserror::Error;
 
 /// The end of a request at which another joins it: `ELEVATOR_BACK_MERGE` and `ELEVATOR_FRONT_MERGE` of Linux.
 #[derive(Clone, Copy, Debug, PartialEq, Eq)]
@@ -25,22 +24,17 @@ pub enum Side {
 }
 
 /// Why two requests are not joined, in the order in which the reasons are looked for.
-#[derive(Clone, Copy, Debug, PartialEq, Eq, Error)]
+#[derive(Clone, Copy, Debug, PartialEq, Eq)]
 pub enum JoinFault {
     /// One reads and the other writes.
-    #[error("Direction")]
     Direction,
     /// Neither begins where the other ends.
-    #[error("Apart")]
     Apart,
     /// Together they have more sectors than [`Limits::max_sectors`].
-    #[error("Sectors")]
     Sectors,
     /// Together they have more bios than [`Limits::max_segments`].
-    #[error("Segments")]
     Segments,
     /// Memory ran out.
-    #[error("Memory")]
     Memory,
 }
 

@@ -13,8 +13,8 @@ use Rattle.edd_check.specs.declared.CheckFault.{CheckFault}
 use Rattle.edd_check.specs.Check.{IsAnswer}
 use Rattle.blk_cli.specs.Outcome.{IsProof, IsRefusedBound}
 use Rattle.edd_oracle.specs.Answer.{IsBest}
-use Rattle.blk_text.specs.Commands.{IsCommandInRange, AreCommands}
-use Rattle.blk_text.specs.Certificate.{Claim, IsBound, IsClaim, IsLateness}
+use Rattle.blk_lists.specs.Commands.{IsCommandInRange, AreCommands}
+use Rattle.blk_lists.specs.Certificate.{Claim, IsBound, IsClaim, IsLateness}
 
 difference_in : (late : ℤ) (r d : ℕ) → pos r -ℤ pos d ≡ late → r < 2 ^ 41 → d < 2 ^ 41 → IsLateness late
 difference_in (pos n) r d e h k = omega (arith, ints, e)

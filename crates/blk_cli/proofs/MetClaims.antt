@@ -14,8 +14,8 @@ use Rattle.edd_check.specs.CheckMet.{IsMetAnswer}
 use Rattle.edd_check.proofs.Covers.{length_pairs}
 use Rattle.edd_check.proofs.InForce.{carried_fixed}
 use Rattle.edd_oracle.specs.Met.{IsMostAnswer}
-use Rattle.blk_text.specs.Commands.{AreCommands}
-use Rattle.blk_text.specs.Met.{MetClaim, IsMetClaim}
+use Rattle.blk_lists.specs.Commands.{AreCommands}
+use Rattle.blk_lists.specs.Met.{MetClaim, IsMetClaim}
 use Rattle.blk_cli.specs.Meeting.{IsMetProved, IsRefusedMet, met_line, met_verdict_of}
 
 number_most : (commands : List Command) (rounds : List ℕ) → length rounds ≡ length commands → number_met commands rounds ≤ length commands

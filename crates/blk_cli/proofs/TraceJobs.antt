@@ -7,8 +7,8 @@ use Rattle.blk_trace.specs.Depths.{IsFixed}
 use Rattle.blk_trace.specs.Laws.{AreBounded}
 use Rattle.blk_trace.specs.Setups.{Setup, IsSetup}
 use Rattle.blk_trace.specs.Traces.{Traced}
-use Rattle.blk_text.specs.Commands.{AreCommands, IsCommandInRange}
-use Rattle.blk_text.specs.Sources.{Row}
+use Rattle.blk_lists.specs.Commands.{AreCommands, IsCommandInRange}
+use Rattle.blk_lists.specs.Sources.{Row}
 use Rattle.blk_text.specs.TraceForm.{SpellsTrace}
 use Rattle.blk_cli.specs.declared.failure.Failure.{Failure}
 use Rattle.blk_cli.specs.declared.failure.Failure.TheVariants as failure

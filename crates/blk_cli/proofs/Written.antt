@@ -11,15 +11,15 @@ use Rattle.edd_oracle.specs.declared.OracleFault.{OracleFault}
 use Rattle.edd_oracle.specs.Input.{IsRefusal}
 use Rattle.blk_trace.specs.Events.{entered, round_of}
 use Rattle.blk_trace.specs.Traces.{Traced}
-use Rattle.blk_text.specs.declared.fault.TextFault.{TextFault}
-use Rattle.blk_text.specs.declared.fault.Why.{Why}
-use Rattle.blk_text.specs.Reads.{IsOutside}
-use Rattle.blk_text.specs.Sources.{Row}
-use Rattle.blk_text.specs.Texts.{rows_text}
-use Rattle.blk_text.specs.Commands.{SpellsCommands}
-use Rattle.blk_text.specs.Certificate.{Claim, claim_rows, SpellsClaim}
-use Rattle.blk_text.specs.Met.{MetClaim, met_rows, SpellsMet}
-use Rattle.blk_text.specs.Proof.{ProofClaim, OfLateness, OfMet, SpellsProof}
+use Rattle.blk_lists.specs.declared.fault.TextFault.{TextFault}
+use Rattle.blk_lists.specs.declared.fault.Why.{Why}
+use Rattle.blk_lists.specs.Reads.{IsOutside}
+use Rattle.blk_lists.specs.Sources.{Row}
+use Rattle.blk_lists.specs.Texts.{rows_text}
+use Rattle.blk_lists.specs.Commands.{SpellsCommands}
+use Rattle.blk_lists.specs.Certificate.{Claim, claim_rows, SpellsClaim}
+use Rattle.blk_lists.specs.Met.{MetClaim, met_rows, SpellsMet}
+use Rattle.blk_lists.specs.Proof.{ProofClaim, OfLateness, OfMet, SpellsProof}
 use Rattle.blk_text.specs.Script.{Scripted, SpellsScript}
 use Rattle.blk_text.specs.TraceRecords.{trace_rows}
 use Rattle.blk_text.specs.TraceForm.{SpellsTrace, SpellsTraceIn}

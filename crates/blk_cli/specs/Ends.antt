@@ -8,18 +8,20 @@ use Rattle.edd_check.specs.declared.met.MetFault.{MetFault}
 use Rattle.edd_check.specs.declared.met.MetFault.TheVariants as met
 use Rattle.edd_oracle.specs.declared.OracleFault.{OracleFault}
 use Rattle.edd_oracle.specs.declared.OracleFault.TheVariants as oracle
-use Rattle.blk_bio.specs.declared.bio.BioFault.{BioFault}
-use Rattle.blk_bio.specs.declared.bio.BioFault.TheVariants as bio
-use Rattle.blk_trace.specs.declared.rule.TraceRule.{TraceRule}
-use Rattle.blk_trace.specs.declared.rule.TraceRule.TheVariants as rule
+use Rattle.edd_check.specs.Names.{check_fault_name, met_fault_name}
+use Rattle.edd_oracle.specs.Names.{oracle_fault_name}
+use Rattle.blk_sched.specs.Names.{sched_fault_name}
+use Rattle.blk_settings.specs.Names.{load_fault_name}
+use Rattle.blk_lists.specs.Names.{why_name}
+use Rattle.blk_sim.specs.Names.{step_name}
 use Rattle.blk_sched.specs.declared.SchedFault.{SchedFault}
 use Rattle.blk_sched.specs.declared.SchedFault.TheVariants as setting
 use Rattle.blk_settings.specs.declared.fault.LoadFault.{LoadFault}
 use Rattle.blk_settings.specs.declared.fault.LoadFault.TheVariants as load
-use Rattle.blk_text.specs.declared.fault.Why.{Why}
-use Rattle.blk_text.specs.declared.fault.Why.TheVariants as why
+use Rattle.blk_lists.specs.declared.fault.Why.{Why}
+use Rattle.blk_lists.specs.declared.fault.Why.TheVariants as why
 use Rattle.drafts.specs.declared.fault.WriteFault.TheVariants as write
-use Rattle.blk_text.specs.Sources.{Row}
+use Rattle.blk_lists.specs.Sources.{Row}
 use Rattle.blk_sim.specs.declared.refusal.SimWhy.{SimWhy}
 use Rattle.blk_sim.specs.declared.refusal.SimWhy.TheVariants as step
 use Rattle.blk_cli.specs.declared.Ended.{Ended}
@@ -48,96 +50,46 @@ write_fault = line (codes "write fault")
 abbrev pub want_of_memory : List ℕ
 want_of_memory = line (codes "want of memory")
 
--- the names of what a text and a step are refused for
-abbrev pub bio_name : BioFault → List ℕ
-bio_name bio.Empty = codes "Empty"
-bio_name bio.Range = codes "Range"
-
-abbrev pub rule_name : TraceRule → List ℕ
-rule_name rule.ReleasedTwice = codes "ReleasedTwice"
-rule_name rule.Unknown = codes "Unknown"
-rule_name rule.AlreadyIssued = codes "AlreadyIssued"
-rule_name rule.BioTwice = codes "BioTwice"
-rule_name rule.Fit = codes "Fit"
-rule_name rule.TagRange = codes "TagRange"
-rule_name rule.TagUsed = codes "TagUsed"
-rule_name rule.NotIssued = codes "NotIssued"
-rule_name rule.InFlight = codes "InFlight"
-rule_name rule.TooLong = codes "TooLong"
-rule_name rule.DepthRange = codes "DepthRange"
-
-abbrev pub text_name : Why → List ℕ
-text_name why.Title = codes "Title"
-text_name why.Fields = codes "Fields"
-text_name why.Word = codes "Word"
-text_name why.Number = codes "Number"
-text_name why.Range = codes "Range"
-text_name (why.Bio fault) = bio_name fault
-text_name why.Tile = codes "Tile"
-text_name (why.Rule r) = rule_name r
-text_name why.Count = codes "Count"
-text_name why.TooLong = codes "TooLong"
-text_name why.Read = codes "Read"
-text_name why.Memory = codes "Memory"
-
-abbrev pub step_name : SimWhy → List ℕ
-step_name step.Full = codes "Full"
-step_name step.SoftFull = codes "SoftFull"
-step_name step.Repeated = codes "Repeated"
-step_name step.TraceFull = codes "TraceFull"
-step_name step.TagRange = codes "TagRange"
-step_name step.SlotUsed = codes "SlotUsed"
-step_name step.NotIssued = codes "NotIssued"
-step_name step.InFlight = codes "InFlight"
-step_name step.DepthRange = codes "DepthRange"
-step_name step.Memory = codes "Memory"
-
 -- the line on a fault of a text, of a step, of the oracle and of the check
 abbrev pub text_line : ℕ → Why → List ℕ
 text_line at why.Read = read_fault
 text_line at why.Memory = want_of_memory
-text_line at w = at_record at (text_name w)
+text_line at w = at_record at (why_name w)
 
 abbrev pub step_line : ℕ → SimWhy → List ℕ
 step_line at step.Memory = want_of_memory
 step_line at w = at_record at (step_name w)
 
 abbrev pub oracle_line : OracleFault → List ℕ
-oracle_line oracle.TooMany = line (codes "TooMany")
-oracle_line (oracle.RoundRange id) = numbered (codes "RoundRange") (decimal id)
-oracle_line (oracle.RepeatedId id) = numbered (codes "RepeatedId") (decimal id)
+oracle_line oracle.TooMany = line (oracle_fault_name oracle.TooMany)
+oracle_line (oracle.RoundRange id) = numbered (oracle_fault_name (oracle.RoundRange id)) (decimal id)
+oracle_line (oracle.RepeatedId id) = numbered (oracle_fault_name (oracle.RepeatedId id)) (decimal id)
 oracle_line oracle.Memory = want_of_memory
 
 abbrev pub check_line : CheckFault → List ℕ
-check_line check.Length = line (codes "Length")
-check_line (check.BeforeRelease id) = numbered (codes "BeforeRelease") (decimal id)
+check_line check.Length = line (check_fault_name check.Length)
+check_line (check.BeforeRelease id) = numbered (check_fault_name (check.BeforeRelease id)) (decimal id)
 check_line check.Memory = want_of_memory
-check_line (check.OverDepth round) = numbered (codes "OverDepth") (decimal round)
-check_line (check.WrongLateness own) = numbered (codes "WrongLateness") (signed_decimal own)
-check_line (check.NotCrowded load) = numbered (codes "NotCrowded") (decimal load)
+check_line (check.OverDepth round) = numbered (check_fault_name (check.OverDepth round)) (decimal round)
+check_line (check.WrongLateness own) = numbered (check_fault_name (check.WrongLateness own)) (signed_decimal own)
+check_line (check.NotCrowded load) = numbered (check_fault_name (check.NotCrowded load)) (decimal load)
 
 abbrev pub met_check_line : MetFault → List ℕ
-met_check_line met.Length = line (codes "Length")
-met_check_line (met.BeforeRelease id) = numbered (codes "BeforeRelease") (decimal id)
+met_check_line met.Length = line (met_fault_name met.Length)
+met_check_line (met.BeforeRelease id) = numbered (met_fault_name (met.BeforeRelease id)) (decimal id)
 met_check_line met.Memory = want_of_memory
-met_check_line (met.OverDepth round) = numbered (codes "OverDepth") (decimal round)
-met_check_line (met.WrongMet own) = numbered (codes "WrongMet") (decimal own)
-met_check_line (met.Windows place) = numbered (codes "Windows") (decimal place)
-met_check_line (met.Loose bound) = numbered (codes "Loose") (decimal bound)
+met_check_line (met.OverDepth round) = numbered (met_fault_name (met.OverDepth round)) (decimal round)
+met_check_line (met.WrongMet own) = numbered (met_fault_name (met.WrongMet own)) (decimal own)
+met_check_line (met.Windows place) = numbered (met_fault_name (met.Windows place)) (decimal place)
+met_check_line (met.Loose bound) = numbered (met_fault_name (met.Loose bound)) (decimal bound)
 
 abbrev pub sched_line : SchedFault → List ℕ
-sched_line setting.ZeroBatch = line (codes "ZeroBatch")
-sched_line setting.ZeroTarget = line (codes "ZeroTarget")
 sched_line setting.Memory = want_of_memory
+sched_line fault = line (sched_fault_name fault)
 
 abbrev pub load_line : LoadFault → List ℕ
-load_line load.Range = line (codes "Range")
 load_line load.Memory = want_of_memory
-load_line load.TraceFull = line (codes "TraceFull")
-load_line load.Repeated = line (codes "Repeated")
-load_line load.Stalled = line (codes "stalled")
-load_line load.SeatMissing = line (codes "SeatMissing")
-load_line load.Differs = line (codes "Differs")
+load_line fault = line (load_fault_name fault)
 
 -- the line on a failure
 abbrev pub line_of : Failure → List ℕ

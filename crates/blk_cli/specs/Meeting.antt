@@ -6,10 +6,10 @@ use Rattle.edd_check.specs.Met.{carried_by, outside_of}
 use Rattle.edd_check.specs.CheckMet.{IsMetAnswer}
 use Rattle.edd_check.specs.declared.met.MetFault.{MetFault}
 use Rattle.edd_oracle.specs.Met.{IsMostAnswer}
-use Rattle.blk_text.specs.Sources.{Row}
-use Rattle.blk_text.specs.Texts.{rows_text}
-use Rattle.blk_text.specs.Commands.{SpellsCommands}
-use Rattle.blk_text.specs.Met.{MetClaim, met_rows, SpellsMet}
+use Rattle.blk_lists.specs.Sources.{Row}
+use Rattle.blk_lists.specs.Texts.{rows_text}
+use Rattle.blk_lists.specs.Commands.{SpellsCommands}
+use Rattle.blk_lists.specs.Met.{MetClaim, met_rows, SpellsMet}
 
 -- the schedule is legal and meets the number stated, the windows are disjoint, and their bound is that number, so that no legal
 -- schedule meets more

@@ -5,9 +5,9 @@ use Rattle.edd_check.specs.Capacity.{fixed}
 use Rattle.blk_trace.specs.Depths.{IsFixed, capacity_of}
 use Rattle.blk_trace.specs.Meaning.{commands_of, rounds_of}
 use Rattle.blk_trace.specs.Traces.{Traced}
-use Rattle.blk_text.specs.Commands.{SpellsCommands, commands_rows}
-use Rattle.blk_text.specs.Sources.{Row}
-use Rattle.blk_text.specs.Texts.{rows_text}
+use Rattle.blk_lists.specs.Commands.{SpellsCommands, commands_rows}
+use Rattle.blk_lists.specs.Sources.{Row}
+use Rattle.blk_lists.specs.Texts.{rows_text}
 use Rattle.blk_text.specs.TraceForm.{SpellsTrace, TraceFault}
 use Rattle.blk_report.specs.declared.figures.Report.{Report}
 use Rattle.blk_report.specs.declared.missing.Crowd.{Crowd}

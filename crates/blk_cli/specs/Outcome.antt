@@ -22,19 +22,19 @@ use Rattle.blk_deadline.specs.Choice.{serves_all, deadline_chooses, kept_of as d
 use Rattle.blk_kyber.specs.Choice.{serves_own as kyber_serves}
 use Rattle.blk_kyber.specs.Kept.{kept_at_first, numbers_of, Chooses, Told}
 use Rattle.blk_kyber.specs.Limits.{Done, Tick}
-use Rattle.blk_text.specs.declared.fault.Why.{Why}
-use Rattle.blk_text.specs.declared.fault.Why.TheVariants as why
-use Rattle.blk_text.specs.declared.fault.TextFault.{TextFault}
-use Rattle.blk_text.specs.Sources.{Row}
-use Rattle.blk_text.specs.Texts.{rows_text}
-use Rattle.blk_text.specs.Commands.{SpellsCommands, CommandsFault}
+use Rattle.blk_lists.specs.declared.fault.Why.{Why}
+use Rattle.blk_lists.specs.declared.fault.Why.TheVariants as why
+use Rattle.blk_lists.specs.declared.fault.TextFault.{TextFault}
+use Rattle.blk_lists.specs.Sources.{Row}
+use Rattle.blk_lists.specs.Texts.{rows_text}
+use Rattle.blk_lists.specs.Commands.{SpellsCommands, CommandsFault}
 use Rattle.blk_text.specs.Script.{Scripted, SpellsScript, ScriptFault}
 use Rattle.blk_text.specs.TraceRecords.{trace_rows}
 use Rattle.blk_text.specs.TraceForm.{SpellsTrace, SpellsTraceIn, TraceFault}
 use Rattle.blk_text.specs.Versions.{latest}
-use Rattle.blk_text.specs.Certificate.{Claim, claim_rows, SpellsClaim}
-use Rattle.blk_text.specs.Met.{MetClaim, SpellsMet}
-use Rattle.blk_text.specs.Proof.{ProofClaim, OfLateness, OfMet, SpellsProof, ProofFault}
+use Rattle.blk_lists.specs.Certificate.{Claim, claim_rows, SpellsClaim}
+use Rattle.blk_lists.specs.Met.{MetClaim, SpellsMet}
+use Rattle.blk_lists.specs.Proof.{ProofClaim, OfLateness, OfMet, SpellsProof, ProofFault}
 use Rattle.blk_sim.specs.declared.refusal.SimFault.{SimFault}
 use Rattle.blk_sim.specs.Policies.{Policy, policy_of}
 use Rattle.blk_sim.specs.Simulation.{released_bios, ticks_of}

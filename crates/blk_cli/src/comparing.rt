@@ -3,7 +3,7 @@
 ghost use Rattle.std.specs.Prelude.{ℕ, ◌≡◌, ◌⊎◌, OnOk, IfOk, IfErr, IfSome, MatchResult, List, None};
 ghost use Rattle.std.specs.Io.KnownBytes.{Appends};
 ghost use Rattle.blk_text.specs.Script.{IsScript, scripted};
-ghost use Rattle.blk_text.specs.Sources.{input_of};
+ghost use Rattle.blk_lists.specs.Sources.{input_of};
 ghost use Rattle.blk_cli.specs.Statuses.{IsOfWriter};
 ghost use Rattle.blk_cli.specs.Outcome.{IsUnrun};
 ghost use Rattle.blk_cli.specs.Comparing.{IsReportUnder, AreReports, IsTableOf, AreMade, AreUnmade, IsUncompared, CompareWrote, CompareFails};
@@ -12,10 +12,11 @@ use crate::failure::Failure;
 use crate::jobs::traced;
 use blk_deadline::Tunables;
 use blk_kyber::Targets;
+use blk_lists::Records;
 use blk_report::{Report, report, write_table};
 use blk_sched::SchedFault;
 use blk_settings::Sched;
-use blk_text::{Records, Script, read_script};
+use blk_text::{Script, read_script};
 use std::alloc::Global;
 use std::io::{Read, Write};
 

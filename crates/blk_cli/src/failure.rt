@@ -3,15 +3,13 @@
 ghost use Rattle.std.specs.Prelude.{◌≤◌, ◌≡◌, ◌++◌, OnOk, IsTrue, decimal};
 ghost use Rattle.std.specs.Fmt.{signed_decimal};
 ghost use Rattle.std.specs.Io.KnownBytes.{Appends};
-ghost use Rattle.blk_cli.specs.Ends.{line, numbered, at_record, text_name, bio_name, rule_name, step_name, text_line, step_line, sched_line, oracle_line, check_line, met_check_line, load_line, line_of, text_status, step_status, oracle_status, check_status, met_check_status, status_of};
+ghost use Rattle.blk_cli.specs.Ends.{line, numbered, at_record, text_line, step_line, sched_line, oracle_line, check_line, met_check_line, load_line, line_of, text_status, step_status, oracle_status, check_status, met_check_status, status_of};
 
 use crate::{Ended, FAILED, REFUSED};
-use blk_bio::BioFault;
+use blk_lists::{TextFault, Why};
 use blk_sched::SchedFault;
 use blk_settings::LoadFault;
 use blk_sim::{SimFault, SimWhy};
-use blk_text::{TextFault, Why};
-use blk_trace::TraceRule;
 use drafts::WriteFault;
 use edd_check::{CheckFault, MetFault};
 use edd_oracle::OracleFault;
@@ -114,73 +112,6 @@ impl Failure {
     }
 }
 
-/// The name of a bio's fault.
-fn bio_name(fault: BioFault) -> &'static str
-    ensures { result.now ≡ bio_name fault }
-{
-    match fault {
-        BioFault::Empty => "Empty",
-        BioFault::Range => "Range",
-    }
-}
-
-/// The name of a rule of a trace.
-fn rule_name(rule: TraceRule) -> &'static str
-    ensures { result.now ≡ rule_name rule }
-{
-    match rule {
-        TraceRule::ReleasedTwice => "ReleasedTwice",
-        TraceRule::Unknown => "Unknown",
-        TraceRule::AlreadyIssued => "AlreadyIssued",
-        TraceRule::BioTwice => "BioTwice",
-        TraceRule::Fit => "Fit",
-        TraceRule::TagRange => "TagRange",
-        TraceRule::TagUsed => "TagUsed",
-        TraceRule::NotIssued => "NotIssued",
-        TraceRule::InFlight => "InFlight",
-        TraceRule::TooLong => "TooLong",
-        TraceRule::DepthRange => "DepthRange",
-    }
-}
-
-/// The name of what is wrong with a record.
-fn text_name(why: Why) -> &'static str
-    ensures { result.now ≡ text_name why }
-{
-    match why {
-        Why::Title => "Title",
-        Why::Fields => "Fields",
-        Why::Word => "Word",
-        Why::Number => "Number",
-        Why::Range => "Range",
-        Why::Bio(fault) => bio_name(fault),
-        Why::Tile => "Tile",
-        Why::Rule(rule) => rule_name(rule),
-        Why::Count => "Count",
-        Why::TooLong => "TooLong",
-        Why::Read => "Read",
-        Why::Memory => "Memory",
-    }
-}
-
-/// The name of why a step is refused.
-fn step_name(why: SimWhy) -> &'static str
-    ensures { result.now ≡ step_name why }
-{
-    match why {
-        SimWhy::Full => "Full",
-        SimWhy::SoftFull => "SoftFull",
-        SimWhy::Repeated => "Repeated",
-        SimWhy::TraceFull => "TraceFull",
-        SimWhy::TagRange => "TagRange",
-        SimWhy::SlotUsed => "SlotUsed",
-        SimWhy::NotIssued => "NotIssued",
-        SimWhy::InFlight => "InFlight",
-        SimWhy::DepthRange => "DepthRange",
-        SimWhy::Memory => "Memory",
-    }
-}
-
 /// Writes the line of what is refused at a record.
 fn tell_record<F: Write>(faults: &mut F, at: u64, name: &str) -> io::Result<()>
     ensures { OnOk result (Appends (F.contents faults.old) (F.contents faults.new) (at_record at name.now)) }
@@ -216,7 +147,7 @@ fn tell_text<F: Write>(faults: &mut F, at: u64, why: Why) -> io::Result<()>
     match why {
         Why::Read => faults.write_all(READ_FAULT),
         Why::Memory => faults.write_all(WANT_OF_MEMORY),
-        _ => tell_record(faults, at, text_name(why)),
+        _ => tell_record(faults, at, why.name()),
     }
 }
 
@@ -226,7 +157,7 @@ fn tell_step<F: Write>(faults: &mut F, at: u64, why: SimWhy) -> io::Result<()>
 {
     match why {
         SimWhy::Memory => faults.write_all(WANT_OF_MEMORY),
-        _ => tell_record(faults, at, step_name(why)),
+        _ => tell_record(faults, at, why.name()),
     }
 }
 
@@ -235,9 +166,8 @@ fn tell_sched<F: Write>(faults: &mut F, fault: SchedFault) -> io::Result<()>
     ensures { OnOk result (Appends (F.contents faults.old) (F.contents faults.new) (sched_line fault)) }
 {
     match fault {
-        SchedFault::ZeroBatch => tell_name(faults, "ZeroBatch"),
-        SchedFault::ZeroTarget => tell_name(faults, "ZeroTarget"),
         SchedFault::Memory => faults.write_all(WANT_OF_MEMORY),
+        _ => tell_name(faults, fault.name()),
     }
 }
 
@@ -246,9 +176,12 @@ fn tell_solve<F: Write>(faults: &mut F, fault: OracleFault) -> io::Result<()>
     ensures { OnOk result (Appends (F.contents faults.old) (F.contents faults.new) (oracle_line fault)) }
 {
     match fault {
-        OracleFault::TooMany => tell_name(faults, "TooMany"),
-        OracleFault::RoundRange(id) => tell_number(faults, "RoundRange", id),
-        OracleFault::RepeatedId(id) => tell_number(faults, "RepeatedId", id),
+        OracleFault::TooMany => tell_name(faults, fault.name()),
+        OracleFault::RoundRange(id) | OracleFault::RepeatedId(id) => tell_number(
+            faults,
+            fault.name(),
+            id,
+        ),
         OracleFault::Memory => faults.write_all(WANT_OF_MEMORY),
     }
 }
@@ -258,12 +191,11 @@ fn tell_check<F: Write>(faults: &mut F, fault: CheckFault) -> io::Result<()>
     ensures { OnOk result (Appends (F.contents faults.old) (F.contents faults.new) (check_line fault)) }
 {
     match fault {
-        CheckFault::Length => tell_name(faults, "Length"),
-        CheckFault::BeforeRelease(id) => tell_number(faults, "BeforeRelease", id),
+        CheckFault::Length => tell_name(faults, fault.name()),
+        CheckFault::BeforeRelease(of) | CheckFault::OverDepth(of) | CheckFault::NotCrowded(of) =>
+            tell_number(faults, fault.name(), of),
         CheckFault::Memory => faults.write_all(WANT_OF_MEMORY),
-        CheckFault::OverDepth(round) => tell_number(faults, "OverDepth", round),
-        CheckFault::WrongLateness(own) => tell_signed(faults, "WrongLateness", own),
-        CheckFault::NotCrowded(load) => tell_number(faults, "NotCrowded", load),
+        CheckFault::WrongLateness(own) => tell_signed(faults, fault.name(), own),
     }
 }
 
@@ -272,13 +204,13 @@ fn tell_met<F: Write>(faults: &mut F, fault: MetFault) -> io::Result<()>
     ensures { OnOk result (Appends (F.contents faults.old) (F.contents faults.new) (met_check_line fault)) }
 {
     match fault {
-        MetFault::Length => tell_name(faults, "Length"),
-        MetFault::BeforeRelease(id) => tell_number(faults, "BeforeRelease", id),
+        MetFault::Length => tell_name(faults, fault.name()),
+        MetFault::BeforeRelease(of)
+        | MetFault::OverDepth(of)
+        | MetFault::WrongMet(of)
+        | MetFault::Loose(of) => tell_number(faults, fault.name(), of),
         MetFault::Memory => faults.write_all(WANT_OF_MEMORY),
-        MetFault::OverDepth(round) => tell_number(faults, "OverDepth", round),
-        MetFault::WrongMet(own) => tell_number(faults, "WrongMet", own),
-        MetFault::Windows(place) => tell_number(faults, "Windows", place as u64),
-        MetFault::Loose(bound) => tell_number(faults, "Loose", bound),
+        MetFault::Windows(place) => tell_number(faults, fault.name(), place as u64),
     }
 }
 
@@ -287,12 +219,7 @@ fn tell_load<F: Write>(faults: &mut F, fault: LoadFault) -> io::Result<()>
     ensures { OnOk result (Appends (F.contents faults.old) (F.contents faults.new) (load_line fault)) }
 {
     match fault {
-        LoadFault::Range => tell_name(faults, "Range"),
         LoadFault::Memory => faults.write_all(WANT_OF_MEMORY),
-        LoadFault::TraceFull => tell_name(faults, "TraceFull"),
-        LoadFault::Repeated => tell_name(faults, "Repeated"),
-        LoadFault::Stalled => tell_name(faults, "stalled"),
-        LoadFault::SeatMissing => tell_name(faults, "SeatMissing"),
-        LoadFault::Differs => tell_name(faults, "Differs"),
+        _ => tell_name(faults, fault.name()),
     }
 }

@@ -8,27 +8,25 @@ ghost use Rattle.blk_sim.specs.Simulation.{released_bios, ticks_of};
 ghost use Rattle.blk_cli.specs.Statuses.{IsOfWriter};
 ghost use Rattle.std.specs.Prelude.{ℤ, pos, negsuc, ◌+ℤ◌, ◌≤ℤ◌, ◌≤◌, ◌<◌, ◌^◌};
 ghost use Rattle.edd_check.specs.Window.{rounds_between, WindowInRange};
-ghost use Rattle.blk_text.specs.Sources.{input_of};
-ghost use Rattle.blk_text.specs.Certificate.{IsClaim, IsLateness, claimed};
-ghost use Rattle.blk_text.specs.Commands.{AreCommands};
-ghost use Rattle.blk_text.specs.Texts.{rows_text};
+ghost use Rattle.blk_lists.specs.Sources.{input_of};
+ghost use Rattle.blk_lists.specs.Certificate.{IsClaim, IsLateness, claimed};
+ghost use Rattle.blk_lists.specs.Commands.{AreCommands};
+ghost use Rattle.blk_lists.specs.Texts.{rows_text};
 ghost use Rattle.blk_text.specs.TraceRecords.{trace_rows};
 ghost use Rattle.blk_text.specs.TraceForm.{SpellsTraceIn};
 ghost use Rattle.blk_text.specs.Versions.{latest};
 ghost use Rattle.blk_cli.specs.Outcome.{RunsUnder, IsUnrun, IsUnsolved, IsUnproved, SimWrote, SimFails, MigrateWrote, MigrateFails, OracleWrote, OracleFails, CheckWrote, CheckFails, VersionFails, IsProved, IsGood, IsBad, line_on, verdict_of, version_line};
-ghost use Rattle.blk_text.specs.Proof.{proof_claimed, IsProofClaim};
+ghost use Rattle.blk_lists.specs.Proof.{proof_claimed, IsProofClaim};
 
 use crate::failure::Failure;
 use crate::meeting::judge_met;
 use blk_deadline::{Deadline, Tunables};
 use blk_kyber::{Kyber, Targets};
+use blk_lists::{Certificate, Proof, Records, read_commands, read_proof, write_certificate};
 use blk_none::NoneSched;
 use blk_settings::Sched;
 use blk_sim::simulate;
-use blk_text::{
-    Certificate, Proof, Records, Script, read_commands, read_proof, read_script, read_trace,
-    write_certificate, write_trace,
-};
+use blk_text::{Script, read_script, read_trace, write_trace};
 use blk_trace::Trace;
 use blk_words::VERSION;
 use drafts::WriteFault;

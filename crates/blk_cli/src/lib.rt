@@ -3,7 +3,7 @@
 
 ghost use Rattle.std.specs.Prelude.{◌≡◌, ◌≢◌, ◌≤◌, ◌⊎◌, IfErr, map, string_bytes};
 ghost use Rattle.std.specs.Prelude.{List, Option};
-ghost use Rattle.blk_text.specs.Sources.{Row, input_of};
+ghost use Rattle.blk_lists.specs.Sources.{Row, input_of};
 ghost use Rattle.blk_cli.specs.Ends.{JobEnds, LineEnds, MemoryEnds, RunEnds};
 ghost use Rattle.blk_cli.specs.Does.{Does, IsNoLoad};
 ghost use Rattle.blk_cli.specs.Statuses.{IsOfWriter};

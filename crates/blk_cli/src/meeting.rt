@@ -4,15 +4,15 @@ ghost use Rattle.std.specs.Prelude.{◌≡◌, ◌⊎◌, OnOk, IfOk, IfErr, IfS
 ghost use Rattle.std.specs.Io.KnownBytes.{Appends};
 ghost use Rattle.edd_check.specs.Capacity.{fixed};
 ghost use Rattle.edd_check.specs.Met.{IsCover};
-ghost use Rattle.blk_text.specs.Sources.{input_of};
-ghost use Rattle.blk_text.specs.Commands.{AreCommands};
-ghost use Rattle.blk_text.specs.Met.{met_claimed, IsMetClaim};
+ghost use Rattle.blk_lists.specs.Sources.{input_of};
+ghost use Rattle.blk_lists.specs.Commands.{AreCommands};
+ghost use Rattle.blk_lists.specs.Met.{met_claimed, IsMetClaim};
 ghost use Rattle.blk_cli.specs.Statuses.{IsOfWriter};
 ghost use Rattle.blk_cli.specs.Outcome.{IsUnsolved, IsUnmet, OracleFails};
 ghost use Rattle.blk_cli.specs.Meeting.{IsMetProved, MetWrote, met_verdict_of};
 
 use crate::failure::Failure;
-use blk_text::{MetCertificate, Records, read_commands, write_met};
+use blk_lists::{MetCertificate, Records, read_commands, write_met};
 use edd_check::{Capacity, Command, carried_by, check_met, outside};
 use edd_oracle::most_met;
 use std::alloc::{AllocError, Global};

@@ -3,13 +3,14 @@
 ghost use Rattle.std.specs.Prelude.{ℕ, ◌≡◌, ◌⊎◌, ◌<◌, ◌^◌, All, OnOk, IfErr, IfSome, MatchResult, List};
 ghost use Rattle.std.specs.Io.KnownBytes.{Appends};
 ghost use Rattle.blk_trace.specs.Depths.{IsFixed};
-ghost use Rattle.blk_text.specs.Sources.{input_of};
+ghost use Rattle.blk_lists.specs.Sources.{input_of};
 ghost use Rattle.blk_cli.specs.Statuses.{IsOfWriter};
 ghost use Rattle.blk_cli.specs.OfTraces.{IsReportText, IsCommandsText, IsLateText, IsMissesText, IsSpreadText, IsUntold, IsUnfixed, TraceWrote, TraceFails};
 
 use crate::failure::Failure;
+use blk_lists::{Records, write_commands};
 use blk_report::{late, misses, report, services, spread, write_late, write_misses, write_spread};
-use blk_text::{Records, read_trace, write_commands};
+use blk_text::read_trace;
 use blk_trace::Trace;
 use edd_check::Command;
 use std::alloc::Global;

@@ -26,7 +26,6 @@ use edd_check::Command;
 use std::alloc::{AllocError, Allocator};
 use std::marker::Model;
 use std::mem;
-use thiserror::Error;
 
 /// Where a released request went.
 #[derive(Clone, Copy, Debug, PartialEq, Eq)]
@@ -38,83 +37,65 @@ pub enum Placed {
 }
 
 /// Why a request is not released, in the order in which the reasons are looked for.
-#[derive(Clone, Copy, Debug, PartialEq, Eq, Error)]
+#[derive(Clone, Copy, Debug, PartialEq, Eq)]
 pub enum CoreFault {
     /// There is no such hardware queue.
-    #[error("NoQueue")]
     NoQueue,
     /// The first bio, in the order of their sectors, whose id stands in the trace or earlier in the request.
-    #[error("Repeated")]
     Repeated(BioId),
     /// The trace has no place for the event.
-    #[error("TraceFull")]
     TraceFull,
     /// Memory ran out.
-    #[error("Memory")]
     Memory,
 }
 
 /// Why nothing is issued, in the order in which the reasons are looked for.
-#[derive(Clone, Copy, Debug, PartialEq, Eq, Error)]
+#[derive(Clone, Copy, Debug, PartialEq, Eq)]
 pub enum IssueFault {
     /// There is no such hardware queue.
-    #[error("NoQueue")]
     NoQueue,
     /// The tag is not below the depth of this round.
-    #[error("TagRange")]
     TagRange,
     /// The tag was issued in this round.
-    #[error("SlotUsed")]
     SlotUsed,
     /// The trace has no places for an Issue and its Done.
-    #[error("TraceFull")]
     TraceFull,
     /// Memory ran out.
-    #[error("Memory")]
     Memory,
 }
 
 /// No command is in flight under the tag.
-#[derive(Clone, Copy, Debug, PartialEq, Eq, Error)]
-#[error("NotIssued")]
+#[derive(Clone, Copy, Debug, PartialEq, Eq)]
 pub struct NotIssued;
 
 /// Why a command does not go back, in the order in which the reasons are looked for.
-#[derive(Clone, Copy, Debug, PartialEq, Eq, Error)]
+#[derive(Clone, Copy, Debug, PartialEq, Eq)]
 pub enum BackFault {
     /// No command is in flight under the tag.
-    #[error("NotIssued")]
     NotIssued,
     /// Memory ran out.
-    #[error("Memory")]
     Memory,
 }
 
 /// Why a round does not end, in the order in which the reasons are looked for.
-#[derive(Clone, Copy, Debug, PartialEq, Eq, Error)]
+#[derive(Clone, Copy, Debug, PartialEq, Eq)]
 pub enum TickFault {
     /// So many commands are in flight.
-    #[error("InFlight")]
     InFlight(u64),
     /// The trace has no place for the event.
-    #[error("TraceFull")]
     TraceFull,
     /// Memory ran out.
-    #[error("Memory")]
     Memory,
 }
 
 /// Why no depth is set, in the order in which the reasons are looked for.
-#[derive(Clone, Copy, Debug, PartialEq, Eq, Error)]
+#[derive(Clone, Copy, Debug, PartialEq, Eq)]
 pub enum DepthFault {
     /// The trace has no place for the event.
-    #[error("TraceFull")]
     TraceFull,
     /// The depth is 0 or above the setup's.
-    #[error("DepthRange")]
     DepthRange,
     /// Memory ran out.
-    #[error("Memory")]
     Memory,
 }
 

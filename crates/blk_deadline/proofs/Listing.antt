@@ -14,7 +14,7 @@ use Rattle.blk_bio.specs.declared.bio.Dir.{Dir}
 use Rattle.blk_bio.specs.Requests.{dir_of, first_of}
 use Rattle.blk_sched.specs.Meaning.{Waiting, Pending}
 use Rattle.blk_sched.specs.Maps.{behind, at_front, in_order, looked_up}
-use Rattle.blk_sched.specs.Index.{IsNext, NoNext, IsBefore}
+use Rattle.blk_index.specs.Index.{IsNext, NoNext, IsBefore}
 use Rattle.blk_deadline.specs.declared.Last.{Last}
 use Rattle.blk_deadline.specs.Choice.{is_of, comes_before, first_of_two, first_by, next_of}
 use Rattle.blk_deadline.proofs.Served.{same_is, is_same_dir}

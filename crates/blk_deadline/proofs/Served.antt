@@ -12,7 +12,7 @@ use Rattle.blk_bio.specs.Requests.{dir_of}
 use Rattle.blk_sched.specs.Meaning.{Waiting, Pending, Meaning, HasCandidate, Joins, joined_waiting}
 use Rattle.blk_sched.specs.Fits.{IsNewestFit}
 use Rattle.blk_sched.specs.Maps.{first_found, none_found}
-use Rattle.blk_sched.specs.Index.{IsOldest, NoneOf, IsJoined}
+use Rattle.blk_index.specs.Index.{IsOldest, NoneOf, IsJoined}
 use Rattle.blk_deadline.specs.Choice.{serves_all, is_same, is_of, oldest_of, meaning_with}
 use Rattle.blk_sched.specs.Meaning.{Picks, OpenPicks, opened}
 

@@ -5,12 +5,13 @@ ghost use Rattle.std.specs.Prelude.{◌≡◌, ◌≤◌, ◌<◌, ◌+◌, ◌�
 ghost use Rattle.std.specs.Option.{OnSome, option_copied};
 ghost use Rattle.std.specs.FinMap as map;
 ghost use Rattle.blk_sched.specs.Meaning.{Waiting, Meaning, HasCandidate, HasNoCandidate, Joins, ServesNothing, Picks, HandsBack, opened, open_of, handed_of, at_start};
-ghost use Rattle.blk_sched.specs.Index.{NoneOf};
+ghost use Rattle.blk_index.specs.Index.{NoneOf};
 ghost use Rattle.blk_deadline.specs.Choice.{serves_all, oldest_of, next_of, in_batch, due_or_next, taken, chosen, turn_after, kept_of, deadline_choice, deadline_chooses};
 ghost use Rattle.blk_deadline.specs.Shown.{pending_of, turn_of, tunables_of, meaning_of};
 
 use blk_bio::{Dir, Limits, MAX_QUEUES, Request, Side};
-use blk_sched::{MAX_HANDED, MAX_OPEN, OpenPicks, Queued, SchedFault, Scheduler, Sorted};
+use blk_index::Sorted;
+use blk_sched::{MAX_HANDED, MAX_OPEN, OpenPicks, Queued, SchedFault, Scheduler};
 use std::alloc::{AllocError, Allocator, Global};
 
 /// What the scheduler is tuned by, by the names of Linux's deadline-iosched.

@@ -2,8 +2,8 @@
 use Rattle.std.specs.Prelude.{ℕ, ◌≡◌, ◌≤◌, ◌==◌, Bool, true, false, Option, Some, None}
 use Rattle.blk_sched.specs.Meaning.{Waiting}
 use Rattle.std.specs.Ordering.{is_gt}
-use Rattle.blk_sched.specs.Index.{IsBefore}
-use Rattle.blk_sched.specs.Inside.Pairs.{pair_cmp}
+use Rattle.blk_index.specs.Index.{IsBefore}
+use Rattle.blk_index.specs.Inside.Pairs.{pair_cmp}
 
 -- whether a request, if there is one, is due in the round
 abbrev pub is_due : ℕ → Option Waiting → Bool

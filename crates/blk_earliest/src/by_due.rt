@@ -6,13 +6,14 @@ ghost use Rattle.std.specs.FinMap as map;
 ghost use Rattle.std.specs.BTreeSet.{contains};
 ghost use Rattle.blk_sched.specs.Meaning.{Waiting};
 ghost use Rattle.blk_sched.specs.Fits.{IsNewestFit, FitsNone, HasFit};
-ghost use Rattle.blk_sched.specs.Index.{IsJoined};
-ghost use Rattle.blk_sched.specs.Inside.Orders.{pair_cmp, PairAdded, PairTaken, PairsKept};
+ghost use Rattle.blk_index.specs.Index.{IsJoined};
+ghost use Rattle.blk_index.specs.Inside.Orders.{pair_cmp, PairAdded, PairTaken, PairsKept};
 ghost use Rattle.blk_earliest.specs.Dues.{IsFirstFrom, NoneFrom, IsFirstPair, NoPairFrom};
 
 use crate::due::Due;
 use blk_bio::{Limits, Request, Side};
-use blk_sched::{Index, Queued};
+use blk_index::Index;
+use blk_sched::Queued;
 use std::alloc::{AllocError, Allocator, Global};
 use std::collections::BTreeSet;
 use std::marker::Model;
@@ -30,7 +31,7 @@ impl<A: Allocator> Model for ByDue<A> {
     ghost use Rattle.std.specs.FinMap.{get, code};
     ghost use Rattle.std.specs.BTreeSet.{contains};
     ghost use Rattle.blk_sched.specs.Meaning.{Pending, waiting_code};
-    ghost use Rattle.blk_sched.specs.Inside.Pairs.{pair_cmp};
+    ghost use Rattle.blk_index.specs.Inside.Pairs.{pair_cmp};
     ghost use Rattle.blk_earliest.specs.Dues.{AreDues};
 
     ghost Value = { Pending };

@@ -3,7 +3,7 @@
 ghost use Rattle.std.specs.Prelude.{Some, refl};
 ghost use Rattle.std.specs.Ordering.{eq_by_cmp};
 ghost use Rattle.std.specs.Cmp.{eq_by_cmp_equiv, partial_equiv_from_equiv, partial_order_from_agreeing_total};
-ghost use Rattle.blk_sched.specs.Inside.Pairs.{pair_cmp, pair_total};
+ghost use Rattle.blk_index.specs.Inside.Pairs.{pair_cmp, pair_total};
 
 use std::cmp::Ordering;
 use std::marker::Model;

@@ -2,7 +2,8 @@
 
 use blk_online_sim::simulate_earliest;
 use blk_report::{misses, report};
-use blk_text::{Records, read_script};
+use blk_lists::Records;
+use blk_text::read_script;
 use blk_trace::Trace;
 use std::alloc::Global;
 use std::process::Abort;

@@ -13,7 +13,7 @@ use Rattle.blk_bio.specs.Requests.{dir_of}
 use Rattle.blk_sched.specs.Meaning.{Waiting, Pending, Meaning, OpenPicks, HasCandidate, HasNoCandidate, ServesNothing, unfinished}
 use Rattle.blk_sched.specs.Fits.{IsNewestFit, FitsNone}
 use Rattle.blk_sched.specs.Maps.{first_found, none_found}
-use Rattle.blk_sched.specs.Index.{IsOldest, NoneOf}
+use Rattle.blk_index.specs.Index.{IsOldest, NoneOf}
 use Rattle.blk_kyber.specs.Limits.{DirLimits, Report, limit_of}
 use Rattle.blk_kyber.specs.Choice.{serves_own, is_same, other_of, oldest_of, in_flight, head_of, chosen}
 use Rattle.blk_kyber.specs.Kept.{Kept, choice_for, after_pick, told, numbers_of, Chooses, Told}

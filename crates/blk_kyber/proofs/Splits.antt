@@ -13,7 +13,7 @@ use Rattle.blk_bio.specs.Bios.{Bio}
 use Rattle.blk_bio.specs.Limits.{Limits}
 use Rattle.blk_sched.specs.Meaning.{Waiting, Pending, joined_waiting}
 use Rattle.blk_sched.specs.Fits.{IsNewestFit, FitsNone, HasFit}
-use Rattle.blk_sched.specs.Index.{IsJoined, IsOldest, NoneOf}
+use Rattle.blk_index.specs.Index.{IsJoined, IsOldest, NoneOf}
 use Rattle.blk_kyber.specs.Choice.{serves_own}
 use Rattle.blk_kyber.specs.Inside.Queues.{AreSplit, pending_of, queue_at, served, served_of}
 use Rattle.blk_kyber.proofs.Found.{Queues, swapped, found_in, waiting_in, found_changed, none_pending, got_inserted, got_removed, is_inserted, is_removed, stays_removed}

@@ -7,6 +7,7 @@ use Rattle.blk_bio.specs.declared.bio.Dir.TheVariants.{Read, Write}
 use Rattle.blk_bio.specs.Requests.{dir_of}
 use Rattle.blk_sched.specs.Meaning.{Waiting, OpenPicks, open_of, handed_of}
 use Rattle.blk_kyber.specs.declared.turn.Turn.{Turn}
+use Rattle.blk_kyber.specs.declared.turn.TheConstants.{READ_BATCH, WRITE_BATCH}
 use Rattle.blk_kyber.specs.Limits.{DirLimits, limit_of}
 
 -- the other direction, and how many requests of a direction go in one turn
@@ -15,8 +16,8 @@ other_of Read = Write
 other_of Write = Read
 
 abbrev pub cap_of : Dir → ℕ
-cap_of Read = 16
-cap_of Write = 8
+cap_of Read = READ_BATCH
+cap_of Write = WRITE_BATCH
 
 -- at first it is the turn of reads, and none went
 abbrev pub first_turn : Turn

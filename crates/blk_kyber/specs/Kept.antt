@@ -1,4 +1,5 @@
 -- What kyber keeps beside what waits, and how each call changes it.
+use Rattle.blk_bio.specs.declared.limits.TheConstants.{MAX_QUEUES}
 use Rattle.std.specs.Prelude.{ℕ, ◌≡◌, Bool, true, false, List, [], ◌∷◌, Option, None, Some, slice_index_or, slice_set, replicate}
 use Rattle.std.specs.List.{flat_map}
 use Rattle.std.specs.FinMap as map
@@ -16,9 +17,9 @@ pub record Kept : Type 0 where
   pub limits : DirLimits
   pub turns : List Turn
 
--- at first, with a turn for each of 16 hardware queues
+-- at first, with a turn for each hardware queue that there may be
 abbrev pub kept_at_first : Targets → ℕ → Kept
-kept_at_first targets depth = record { targets = targets; limits = kyber_limits targets depth []; turns = replicate 16 first_turn }
+kept_at_first targets depth = record { targets = targets; limits = kyber_limits targets depth []; turns = replicate MAX_QUEUES first_turn }
 
 -- what it chooses for a hardware queue
 abbrev pub choice_for : ℕ → Kept → Meaning → Option (Waiting × Turn)

@@ -1,4 +1,5 @@
 -- Kyber's limits: how many requests of each direction may be in flight, as a function of what was reported so far.
+use Rattle.blk_kyber.specs.declared.limits.TheConstants.{ROUNDS_BETWEEN}
 use Rattle.std.specs.Prelude.{ℕ, ◌+◌, ◌/◌, ◌%◌, ◌==◌, nat_lt, min, max, Bool, true, false, List, [], ◌∷◌, if◌then◌else◌}
 use Rattle.blk_bio.specs.declared.bio.Dir.{Dir}
 use Rattle.blk_bio.specs.declared.bio.Dir.TheVariants.{Read, Write}
@@ -59,10 +60,10 @@ pub data Report : Type 0 where
   Done : (dir : Dir) → (wait : ℕ) → Report
   Tick : (round : ℕ) → Report
 
--- the limits are set anew in each eighth round
+-- the limits are set anew every so many rounds
 abbrev pub after_report : Targets → Report → DirLimits → DirLimits
 after_report targets (Done dir wait) limits = if nat_lt (target_of dir targets) wait then missed dir limits else limits
-after_report targets (Tick round) limits = if round % 8 == 0 then set_anew limits else limits
+after_report targets (Tick round) limits = if round % ROUNDS_BETWEEN == 0 then set_anew limits else limits
 
 -- the limits after all that was reported, the latest first
 abbrev pub kyber_limits : Targets → ℕ → List Report → DirLimits

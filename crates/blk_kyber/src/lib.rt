@@ -6,7 +6,7 @@ ghost use Rattle.std.specs.FinMap as map;
 ghost use Rattle.blk_bio.specs.declared.bio.Dir.{Dir};
 ghost use Rattle.blk_bio.specs.Requests.{dir_of};
 ghost use Rattle.blk_sched.specs.Meaning.{Waiting, Meaning, HasCandidate, HasNoCandidate, Joins, ServesNothing, Picks, HandsBack, at_start, opened, open_of, handed_of, unfinished};
-ghost use Rattle.blk_sched.specs.Index.{NoneOf};
+ghost use Rattle.blk_index.specs.Index.{NoneOf};
 ghost use Rattle.blk_kyber.specs.Limits.{Report, Done, Tick, limit_of, target_of, after_report, kyber_limits};
 ghost use Rattle.blk_kyber.specs.Choice.{serves_own, first_turn, in_flight, head_of, chosen};
 ghost use Rattle.blk_kyber.specs.Kept.{Kept, kept_at_first, choice_for, after_pick, told, numbers_of, Chooses, Told};
@@ -17,7 +17,7 @@ pub mod limits;
 pub mod lines;
 pub mod turn;
 
-use crate::limits::DomainLimits;
+use crate::limits::{DomainLimits, ROUNDS_BETWEEN};
 use crate::lines::Lines;
 use crate::turn::{Turn, cap, other};
 use blk_bio::{Dir, Limits, MAX_QUEUES, Request, Side};
@@ -51,7 +51,7 @@ pub struct Kyber<A: Allocator = Global> {
     lines: Lines<A>,
     targets: Targets,
     limits: DomainLimits,
-    turns: [Turn; 16],
+    turns: [Turn; MAX_QUEUES as usize],
     open_picks: OpenPicks,
     round: u64,
 }
@@ -77,7 +77,7 @@ impl<A: Allocator + Clone> Kyber<A> {
             lines,
             targets,
             limits: DomainLimits::new(depth),
-            turns: [Turn::first(); 16],
+            turns: [Turn::first(); MAX_QUEUES as usize],
             open_picks: OpenPicks::none(),
             round: 0,
         })
@@ -254,7 +254,7 @@ impl<A: Allocator + Clone> Scheduler for Kyber<A> {
         self.open_picks.open_again(dir);
     }
 
-    /// Begins a round. In each eighth one the limits are set anew.
+    /// Begins a round. Every [`ROUNDS_BETWEEN`] rounds the limits are set anew.
     fn on_tick(&mut self, now: u64)
         requires { (meaning_of self.old).round < now }
         ensures limits { kyber_kept self.new ≡ told (Tick now) (kyber_kept self.old) }
@@ -263,7 +263,7 @@ impl<A: Allocator + Clone> Scheduler for Kyber<A> {
         ensures told { Told (Tick now) (numbers_of (kyber_kept self.old)) (numbers_of (kyber_kept self.new)) }
     {
         self.round = now;
-        if now % 8 == 0 {
+        if now % ROUNDS_BETWEEN == 0 {
             self.limits.set_anew();
         }
     }

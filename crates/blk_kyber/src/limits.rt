@@ -7,6 +7,9 @@ use blk_bio::Dir;
 use blk_sched::MAX_OPEN;
 use std::marker::Model;
 
+/// After how many rounds the limits are set anew.
+pub const ROUNDS_BETWEEN: u64 = 8;
+
 /// The limits of both directions, and which of them had a miss since they were last set.
 #[derive(Drop)]
 pub struct DomainLimits {
@@ -20,6 +23,7 @@ pub struct DomainLimits {
 impl Model for DomainLimits {
     ghost use Rattle.std.specs.Prelude.{◌≤◌};
     ghost use Rattle.blk_kyber.specs.Limits.{DirLimits};
+    ghost use Rattle.blk_sched.specs.declared.picks.TheConstants.{MAX_OPEN};
 
     ghost Value = { DirLimits };
 
@@ -31,7 +35,7 @@ impl Model for DomainLimits {
       missed_writes = s.missed_writes;
     } };
 
-    ghost invariant = { λ s. (s.depth ≤ 256) × (1 ≤ s.reads) × (s.reads ≤ s.depth) × (1 ≤ s.writes) × (s.writes ≤ s.depth) };
+    ghost invariant = { λ s. (s.depth ≤ MAX_OPEN) × (1 ≤ s.reads) × (s.reads ≤ s.depth) × (1 ≤ s.writes) × (s.writes ≤ s.depth) };
 }
 
 impl DomainLimits {

@@ -5,11 +5,12 @@ ghost use Rattle.std.specs.FinMap as map;
 ghost use Rattle.blk_bio.specs.Requests.{dir_of};
 ghost use Rattle.blk_sched.specs.Meaning.{Waiting};
 ghost use Rattle.blk_sched.specs.Fits.{IsNewestFit, FitsNone, HasFit};
-ghost use Rattle.blk_sched.specs.Index.{IsJoined, IsOldest, NoneOf};
+ghost use Rattle.blk_index.specs.Index.{IsJoined, IsOldest, NoneOf};
 ghost use Rattle.blk_kyber.specs.Inside.Queues.{served_of};
 
 use blk_bio::{Dir, Limits, MAX_QUEUES, Request, Side};
-use blk_sched::{Index, Queued};
+use blk_index::Index;
+use blk_sched::Queued;
 use std::alloc::{AllocError, Allocator, Global};
 use std::marker::Model;
 

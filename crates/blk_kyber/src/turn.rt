@@ -5,6 +5,12 @@ ghost use Rattle.blk_kyber.specs.Choice.{first_turn, turn_by, other_of, cap_of};
 
 use blk_bio::Dir;
 
+/// How many reads go in one turn, as in a batch of kyber's.
+pub const READ_BATCH: u8 = 16;
+
+/// How many writes go in one turn.
+pub const WRITE_BATCH: u8 = 8;
+
 /// The direction whose turn it is at a hardware queue, and how many of its requests went in this turn.
 #[derive(Clone, Copy, Debug, PartialEq, Eq)]
 pub struct Turn {
@@ -62,7 +68,7 @@ pub fn cap(dir: Dir) -> u8
     ensures { result ≡ cap_of dir }
 {
     match dir {
-        Dir::Read => 16,
-        Dir::Write => 8,
+        Dir::Read => READ_BATCH,
+        Dir::Write => WRITE_BATCH,
     }
 }

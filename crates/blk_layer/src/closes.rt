@@ -17,16 +17,13 @@ use blk_sched::Scheduler;
 use blk_trace::Trace;
 use std::alloc::{AllocError, Allocator, Global};
 use std::sync::Mutex;
-use thiserror::Error;
 
 /// Why a layer is not closed, in the order in which the reasons are looked for.
-#[derive(Clone, Copy, Debug, PartialEq, Eq, Error)]
+#[derive(Clone, Copy, Debug, PartialEq, Eq)]
 pub enum CloseFault {
     /// A submitter or a worker of the layer isn't there.
-    #[error("SeatMissing")]
     SeatMissing,
     /// Memory ran out.
-    #[error("Memory")]
     Memory,
 }
 

@@ -12,7 +12,6 @@ use blk_bio::{Bio, BioId, Request};
 use blk_plug::Plug;
 use blk_soft::{MAX_BIOS, SoftQueue};
 use std::alloc::Allocator;
-use thiserror::Error;
 
 /// What a flush moved.
 #[derive(Clone, Copy, Debug, PartialEq, Eq)]
@@ -24,19 +23,15 @@ pub struct Flushed {
 }
 
 /// Why a flush ended before the plug was empty, in the order in which the reasons are looked for.
-#[derive(Clone, Copy, Debug, PartialEq, Eq, Error)]
+#[derive(Clone, Copy, Debug, PartialEq, Eq)]
 pub enum FlushWhy {
     /// The first bio, in the order of their sectors, of another submitter.
-    #[error("Foreign")]
     Foreign(BioId),
     /// The first bio, in the order of their sectors, whose id was accepted before or stands earlier in the request.
-    #[error("Repeated")]
     Repeated(BioId),
     /// The software queue has no room for the request.
-    #[error("SoftFull")]
     SoftFull,
     /// Memory ran out.
-    #[error("Memory")]
     Memory,
 }
 

@@ -6,7 +6,6 @@ ghost use Rattle.blk_layer.specs.Works.{core_name};
 use crate::tries::NoneIssued;
 use blk_core::IssueFault;
 use edd_check::Command;
-use thiserror::Error;
 
 /// A command that was issued to a worker.
 #[derive(Clone, Copy, Debug, PartialEq, Eq)]
@@ -19,22 +18,17 @@ pub struct Issued {
 
 /// Why nothing is issued to a worker, in the order in which the reasons are looked for; but `Memory` for the worker's account
 /// comes right after `NoTag`.
-#[derive(Clone, Copy, Debug, PartialEq, Eq, Error)]
+#[derive(Clone, Copy, Debug, PartialEq, Eq)]
 pub enum LayerIssueFault {
     /// Each tag that was tried is taken.
-    #[error("NoTag")]
     NoTag,
     /// The tag is not below the depth of this round.
-    #[error("TagRange")]
     TagRange,
     /// The tag was issued in this round.
-    #[error("SlotUsed")]
     SlotUsed,
     /// The trace has no places for an Issue and its end.
-    #[error("TraceFull")]
     TraceFull,
     /// Memory ran out.
-    #[error("Memory")]
     Memory,
 }
 

@@ -30,28 +30,22 @@ use std::marker::Model;
 use std::sync::Mutex;
 use std::sync::atomic::AtomicBool;
 use std::sync::ledger::Blank;
-use thiserror::Error;
 
 /// The most workers of a layer, and the parts of its ledger.
 pub const MAX_WORKERS: u64 = 64;
 
 /// Why a layer is not made, in the order in which the reasons are looked for.
-#[derive(Clone, Copy, Debug, PartialEq, Eq, Error)]
+#[derive(Clone, Copy, Debug, PartialEq, Eq)]
 pub enum LayerFault {
     /// The map has another number of hardware queues than the core.
-    #[error("Queues")]
     Queues,
     /// The depth of the software queues is 0 or above [`MAX_DEPTH`] of `blk_soft`.
-    #[error("SoftDepth")]
     SoftDepth,
     /// There is no worker, or there are more than [`MAX_WORKERS`].
-    #[error("Workers")]
     Workers,
     /// The first worker, counted from 0, whose hardware queue the core doesn't have.
-    #[error("WorkerQueue")]
     WorkerQueue(usize),
     /// Memory ran out.
-    #[error("Memory")]
     Memory,
 }
 

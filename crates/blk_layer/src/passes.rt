@@ -16,7 +16,6 @@ use blk_trace::MAX_EVENTS;
 use std::sync::Wait;
 use std::sync::atomic::Ordering;
 use std::thread::yield_now;
-use thiserror::Error;
 
 /// What a worker did in a call of `Layer::work`.
 #[derive(Clone, Copy, Debug, PartialEq, Eq)]
@@ -30,16 +29,13 @@ pub struct Worked {
 }
 
 /// Why a worker's work ended before its time. Of the core's refusals it is the first that it met.
-#[derive(Clone, Copy, Debug, PartialEq, Eq, Error)]
+#[derive(Clone, Copy, Debug, PartialEq, Eq)]
 pub enum WorkFault {
     /// The trace has no places for an event.
-    #[error("TraceFull")]
     TraceFull,
     /// Memory ran out.
-    #[error("Memory")]
     Memory,
     /// A request in a software queue has a bio whose id stands in the trace, or twice in it: the first such, by sector.
-    #[error("Repeated")]
     Repeated(BioId),
 }
 

@@ -7,7 +7,8 @@ ghost use Rattle.blk_sched.specs.Meaning.{Waiting, Meaning, HasCandidate, HasNoC
 ghost use Rattle.blk_none.specs.Choice.{serves_own, none_choice, none_chooses};
 
 use blk_bio::{Dir, Limits, MAX_QUEUES, Request, Side};
-use blk_sched::{Lane, MAX_OPEN, OpenPicks, Queued, SchedFault, Scheduler};
+use blk_index::Lane;
+use blk_sched::{MAX_OPEN, OpenPicks, Queued, SchedFault, Scheduler};
 use std::alloc::{AllocError, Allocator, Global};
 use std::marker::Model;
 

@@ -12,7 +12,6 @@ use blk_bio::{Bio, Limits, Request, Side};
 use std::alloc::{AllocError, Allocator, Global};
 use std::collections::VecDeque;
 use std::marker::Model;
-use thiserror::Error;
 
 /// The most requests that a plug holds.
 pub const PLUG_REQUESTS: usize = 32;
@@ -27,13 +26,11 @@ pub enum Added {
 }
 
 /// Why a bio is not added, in the order in which the reasons are looked for.
-#[derive(Clone, Copy, Debug, PartialEq, Eq, Error)]
+#[derive(Clone, Copy, Debug, PartialEq, Eq)]
 pub enum PlugFault {
     /// The plug has [`PLUG_REQUESTS`] requests, and the bio fits none of them.
-    #[error("Full")]
     Full,
     /// Memory ran out.
-    #[error("Memory")]
     Memory,
 }
 

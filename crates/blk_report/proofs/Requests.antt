@@ -13,7 +13,7 @@ use Rattle.blk_bio.specs.declared.bio.Dir.{Dir}
 use Rattle.blk_bio.specs.declared.request.Side.{Side}
 use Rattle.blk_bio.specs.Requests.{IsRequest, Fits, dir_of, first_of, last_of, sectors_of}
 use Rattle.blk_bio.proofs.Tiles.{fills}
-use Rattle.blk_trace.specs.declared.rule.TraceRule.TheVariants.{Fit}
+use Rattle.blk_bio.specs.declared.rule.TraceRule.TheVariants.{Fit}
 use Rattle.blk_trace.specs.Happened.{Happened, Released, Joined}
 use Rattle.blk_trace.specs.Kinds.{is_tick, issues}
 use Rattle.blk_trace.specs.Setups.{Setup}

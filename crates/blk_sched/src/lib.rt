@@ -2,6 +2,7 @@
 #![tactic(auto)]
 
 ghost use Rattle.std.specs.Prelude.{◌≡◌, ◌<◌, ◌+◌, ◌↔◌, ℕ, Bool, List, [], ◌⊎◌, IfOk, OnOk, IfErr, OnErr, IfSome, IfNone, IsSome, IsTrue, Option, None};
+ghost use Rattle.blk_sched.specs.Names.{sched_fault_name};
 ghost use Rattle.std.specs.FinMap as map;
 ghost use Rattle.blk_bio.specs.Requests.{Fits};
 ghost use Rattle.blk_bio.specs.Answers.{IsJoinAnswer};
@@ -9,27 +10,14 @@ ghost use Rattle.blk_bio.specs.declared.bio.Dir.{Dir};
 ghost use Rattle.blk_bio.specs.declared.request.Side.{Side};
 ghost use Rattle.blk_sched.specs.Meaning.{Waiting, Meaning, HasCandidate, HasNoCandidate, Joins, ServesNothing, Picks, HandsBack, joined_waiting, opened, open_of, handed_of, unfinished};
 
-pub mod ages;
-pub mod firsts;
 pub mod fits;
-pub mod index;
-pub mod lane;
 pub mod picks;
-pub mod places;
-pub mod shelf;
-pub mod sorted;
-pub mod spots;
-pub mod starts;
 
 pub use crate::fits::side_of_fit;
-pub use crate::index::Index;
-pub use crate::lane::Lane;
 pub use crate::picks::{MAX_HANDED, MAX_OPEN, OpenPicks};
-pub use crate::sorted::Sorted;
 use blk_bio::{Dir, JoinFault, Limits, MAX_QUEUES, Request, Side};
 use std::alloc::{AllocError, Allocator, Global};
 use std::marker::Model;
-use thiserror::Error;
 
 /// A request as it enters a scheduler and leaves it: its id, the hardware queue (below `MAX_QUEUES`) that it entered at, the
 /// round of its release, the round in which it is due, and its bios.
@@ -81,28 +69,36 @@ impl<A: Allocator + Clone> Queued<A> {
 }
 
 /// Why a newcomer joined no request, in the order in which the reasons are looked for.
-#[derive(Clone, Copy, Debug, PartialEq, Eq, Error)]
+#[derive(Clone, Copy, Debug, PartialEq, Eq)]
 pub enum JoinRefusal {
     /// It fits none of the requests that may be tried.
-    #[error("NoFit")]
     NoFit,
     /// Memory ran out.
-    #[error("Memory")]
     Memory,
 }
 
 /// Why a scheduler is not made, in the order in which the reasons are looked for.
-#[derive(Clone, Copy, Debug, PartialEq, Eq, Error)]
+#[derive(Clone, Copy, Debug, PartialEq, Eq)]
 pub enum SchedFault {
     /// A batch of no request.
-    #[error("ZeroBatch")]
     ZeroBatch,
     /// A target of no round.
-    #[error("ZeroTarget")]
     ZeroTarget,
     /// Memory ran out.
-    #[error("Memory")]
     Memory,
+}
+
+impl SchedFault {
+    /// Its name, which the program prints.
+    pub fn name(self) -> &'static str
+        ensures { result.now ≡ sched_fault_name self }
+    {
+        match self {
+            SchedFault::ZeroBatch => "ZeroBatch",
+            SchedFault::ZeroTarget => "ZeroTarget",
+            SchedFault::Memory => "Memory",
+        }
+    }
 }
 
 /// A scheduler: requests that wait, which it hands out one by one, in the way of Linux blk-mq's elevators.

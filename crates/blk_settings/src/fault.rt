@@ -1,34 +1,43 @@
 //! Why a load fails.
 
 ghost use Rattle.std.specs.Prelude.{◌≡◌};
+ghost use Rattle.blk_settings.specs.Names.{load_fault_name};
 ghost use Rattle.blk_settings.specs.Faults.{rank, IsFirstOf};
 
-use thiserror::Error;
-
 /// Why a load fails. Of several reasons the first is told.
-#[derive(Clone, Copy, Debug, PartialEq, Eq, Error)]
+#[derive(Clone, Copy, Debug, PartialEq, Eq)]
 pub enum LoadFault {
     /// A number is out of its range.
-    #[error("Range")]
     Range,
     /// Memory ran out.
-    #[error("Memory")]
     Memory,
     /// The trace is full.
-    #[error("TraceFull")]
     TraceFull,
     /// The id of a bio was used before.
-    #[error("Repeated")]
     Repeated,
     /// A submitter or a worker used up its turns.
-    #[error("stalled")]
     Stalled,
     /// A seat wasn't there when the layer was closed.
-    #[error("SeatMissing")]
     SeatMissing,
     /// The accounts differ from the trace.
-    #[error("Differs")]
     Differs,
+}
+
+impl LoadFault {
+    /// Its name, which the program prints.
+    pub fn name(self) -> &'static str
+        ensures { result.now ≡ load_fault_name self }
+    {
+        match self {
+            LoadFault::Range => "Range",
+            LoadFault::Memory => "Memory",
+            LoadFault::TraceFull => "TraceFull",
+            LoadFault::Repeated => "Repeated",
+            LoadFault::Stalled => "stalled",
+            LoadFault::SeatMissing => "SeatMissing",
+            LoadFault::Differs => "Differs",
+        }
+    }
 }
 
 impl LoadFault {

@@ -7,3 +7,4 @@ pub mod Runs
 pub mod Simulated
 pub mod Refusals
 pub mod Working
+pub mod Names

@@ -1,45 +1,55 @@
 //! Why a step of a script is refused.
 
 ghost use Rattle.std.specs.Prelude.{◌≡◌, ◌≢◌, Some};
+ghost use Rattle.blk_sim.specs.Names.{step_name};
 ghost use Rattle.blk_sim.specs.Refusals.{added_why, released_why, issued_why, back_why, depth_why, ticked_why};
 
 use blk_core::{BackFault, CoreFault, DepthFault, IssueFault, TickFault};
 use blk_plug::PlugFault;
-use thiserror::Error;
 
 /// Why a step of a script is refused.
-#[derive(Clone, Copy, Debug, PartialEq, Eq, Error)]
+#[derive(Clone, Copy, Debug, PartialEq, Eq)]
 pub enum SimWhy {
     /// The plug has as many requests as it may, and the bio joins none of them.
-    #[error("Full")]
     Full,
     /// The software queue has no room for a request of the plug.
-    #[error("SoftFull")]
     SoftFull,
     /// A bio of this name was released before, or stands earlier in the same request.
-    #[error("Repeated")]
     Repeated,
     /// The trace has as many events as it may.
-    #[error("TraceFull")]
     TraceFull,
     /// There is no such tag in this round.
-    #[error("TagRange")]
     TagRange,
     /// The tag was used in this round.
-    #[error("SlotUsed")]
     SlotUsed,
     /// Nothing is in flight under the tag.
-    #[error("NotIssued")]
     NotIssued,
     /// A command is in flight, so the round can't end.
-    #[error("InFlight")]
     InFlight,
     /// The depth is 0 or above the setup's.
-    #[error("DepthRange")]
     DepthRange,
     /// Memory ran out.
-    #[error("Memory")]
     Memory,
+}
+
+impl SimWhy {
+    /// Its name, which the program prints.
+    pub fn name(self) -> &'static str
+        ensures { result.now ≡ step_name self }
+    {
+        match self {
+            SimWhy::Full => "Full",
+            SimWhy::SoftFull => "SoftFull",
+            SimWhy::Repeated => "Repeated",
+            SimWhy::TraceFull => "TraceFull",
+            SimWhy::TagRange => "TagRange",
+            SimWhy::SlotUsed => "SlotUsed",
+            SimWhy::NotIssued => "NotIssued",
+            SimWhy::InFlight => "InFlight",
+            SimWhy::DepthRange => "DepthRange",
+            SimWhy::Memory => "Memory",
+        }
+    }
 }
 
 /// A refused step.

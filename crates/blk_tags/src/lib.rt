@@ -18,19 +18,16 @@ use crate::held::Held;
 use atomic_table::{Join, Play, Seat, Split, Table, TableRule};
 use std::alloc::{AllocError, Allocator, Global};
 use std::marker::Model;
-use thiserror::Error;
 
 /// The most tags of a set.
 pub const MAX_DEPTH: u64 = 256;
 
 /// Why a set is not made, in the order in which the reasons are looked for.
-#[derive(Clone, Copy, Debug, PartialEq, Eq, Error)]
+#[derive(Clone, Copy, Debug, PartialEq, Eq)]
 pub enum TagFault {
     /// The depth is 0 or above [`MAX_DEPTH`].
-    #[error("Depth")]
     Depth,
     /// Want of memory.
-    #[error("Memory")]
     Memory,
 }
 

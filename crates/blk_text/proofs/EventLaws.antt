@@ -5,21 +5,21 @@ use Rattle.blk_bio.specs.Bios.{Bio}
 use Rattle.blk_bio.specs.Limits.{Limits}
 use Rattle.blk_trace.specs.Happened.{Happened, Ticked, Released, Joined, Issued, Finished, Returned, DepthSet}
 use Rattle.blk_trace.specs.Rules.{IsFirstBroken, IsUnbroken, rank}
-use Rattle.blk_trace.specs.declared.rule.TraceRule.{TraceRule}
+use Rattle.blk_bio.specs.declared.rule.TraceRule.{TraceRule}
 use Rattle.blk_trace.specs.declared.setup.TheConstants.{MAX_DEPTH}
 use Rattle.blk_trace.specs.Setups.{Setup}
 use Rattle.blk_trace.specs.Traces.{Traced, IsPushAnswer}
 use Rattle.blk_trace.specs.declared.rule.PushFault.{PushFault}
 use Rattle.blk_trace.specs.declared.rule.PushFault.TheVariants as push_fault
-use Rattle.blk_text.specs.Sources.{Row, TakesRecord}
-use Rattle.blk_text.specs.Reads.{IsOutside, IsOne, IsRowOf, IsWrongLine, Reads, HandReads, HandFails, Fails, AreGathered, IsStopped, repeated, size_of, with_next}
+use Rattle.blk_lists.specs.Sources.{Row, TakesRecord}
+use Rattle.blk_lists.specs.Reads.{IsOutside, IsOne, IsRowOf, IsWrongLine, Reads, HandReads, HandFails, Fails, AreGathered, IsStopped, repeated, size_of, with_next}
 use Rattle.blk_text.specs.SetupRecord.{setup}
-use Rattle.blk_text.specs.Tables.{FitsCells, slots_by}
+use Rattle.blk_lists.specs.Tables.{FitsCells, slots_by}
 use Rattle.blk_text.specs.TraceForm.{first_record, bios_after, group, event_told, plain_event, BreaksRule, event, alone, one_more, IsPast, refusal_of, IsRefused, events_of, trace_cells, IsTraceTitle, title, trace_body, trace_form}
 use Rattle.blk_text.specs.Versions.{latest, most_tags}
-use Rattle.blk_text.specs.declared.fault.Why.{Why}
-use Rattle.blk_text.specs.declared.fault.Why.TheVariants as why
-use Rattle.blk_text.specs.declared.fields.Slot.TheVariants as slot
+use Rattle.blk_lists.specs.declared.fault.Why.{Why}
+use Rattle.blk_lists.specs.declared.fault.Why.TheVariants as why
+use Rattle.blk_lists.specs.declared.fields.Slot.TheVariants as slot
 use Rattle.blk_text.specs.declared.heads.Head.{Head}
 use Rattle.blk_text.specs.declared.heads.Head.TheVariants as head
 use Rattle.blk_text.specs.declared.heads.TraceTitle.{TraceTitle}
@@ -29,8 +29,8 @@ use Rattle.parts.specs.Parts.{then as in_turn}
 use Rattle.parts.specs.Laws.{Tells, Decides, IsPlain}
 use Rattle.parts.proofs.Then.{seen_tells, seen_decides, then_tells, then_decides, tested_tells, tested_decides, both_begin}
 use Rattle.parts.proofs.Many.{HasRows, ended_tells, ended_decides}
-use Rattle.blk_text.proofs.Reading.{outside_fails, many_fails, many_ends, full_ends, past_wrong, full_stopped}
-use Rattle.blk_text.proofs.TableLaws.{IsTable, title_part, title_decides}
+use Rattle.blk_lists.proofs.Reading.{outside_fails, many_fails, many_ends, full_ends, past_wrong, full_stopped}
+use Rattle.blk_lists.proofs.TableLaws.{IsTable, title_part, title_decides}
 use Rattle.blk_text.proofs.ScriptLaws.{fewer_tags, setup_one, setup_decides}
 use Rattle.blk_text.proofs.HeadLaws.{head_tells, head_decides, head_gone}
 use Rattle.blk_text.proofs.GroupLaws.{group_tells, group_decides, group_size}

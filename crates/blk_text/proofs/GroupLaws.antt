@@ -7,27 +7,27 @@ use Rattle.blk_bio.specs.Requests.{Fits}
 use Rattle.blk_bio.specs.declared.request.Side.TheVariants as side
 use Rattle.blk_bio.specs.declared.bio.BioFault.{BioFault}
 use Rattle.blk_bio.specs.declared.bio.Dir.{Dir}
-use Rattle.blk_text.specs.Sources.{Row}
+use Rattle.blk_lists.specs.Sources.{Row}
 use Rattle.blk_text.specs.BioTable.{bio_cells, IsNoSuchBio}
 use Rattle.blk_bio.specs.Letters.{direction_text}
-use Rattle.blk_text.specs.Words.{StartsWith, NextStarts, WordLacks}
-use Rattle.blk_text.specs.Fields.{Lacks, FieldsSpell}
-use Rattle.blk_text.specs.Reads.{IsRowOf, IsWrongLine, HandFails, Gathers, with_next}
-use Rattle.blk_text.specs.Tables.{FitsCells, row_by, slots_by, word_record}
+use Rattle.blk_lists.specs.Words.{StartsWith, NextStarts, WordLacks}
+use Rattle.blk_lists.specs.Fields.{Lacks, FieldsSpell}
+use Rattle.blk_lists.specs.Reads.{IsRowOf, IsWrongLine, HandFails, Gathers, with_next}
+use Rattle.blk_lists.specs.Tables.{FitsCells, row_by, slots_by, word_record}
 use Rattle.blk_text.specs.TraceForm.{Tiles, gathered_bios, IsAstray, IsNoBio, first_record, plain_bio, whole_bio, group_bio, group}
-use Rattle.blk_text.specs.declared.fault.Why.{Why}
-use Rattle.blk_text.specs.declared.fault.Why.TheVariants as why
-use Rattle.blk_text.specs.declared.fields.Slot.TheVariants as slot
+use Rattle.blk_lists.specs.declared.fault.Why.{Why}
+use Rattle.blk_lists.specs.declared.fault.Why.TheVariants as why
+use Rattle.blk_lists.specs.declared.fields.Slot.TheVariants as slot
 use Rattle.blk_text.specs.declared.heads.Head.{Head}
 use Rattle.parts.specs.declared.Repeats.TheVariants as repeats
 use Rattle.parts.specs.Parts.{Part, by_word, all_rows}
 use Rattle.parts.specs.Laws.{Tells, Decides, IsPlain}
 use Rattle.parts.proofs.Then.{record_tells, record_decides, by_word_tells, by_word_decides, seen_tells, seen_decides, tested_tells, tested_decides, over_tells}
 use Rattle.parts.proofs.Many.{HasRows, many_tells, many_decides, many_plain}
-use Rattle.blk_text.proofs.Lacking.{Dec, word_decided}
-use Rattle.blk_text.proofs.TableLaws.{IsTable, word_line, next_starts, word_tells, word_decides}
+use Rattle.blk_lists.proofs.Lacking.{Dec, word_decided}
+use Rattle.blk_lists.proofs.TableLaws.{IsTable, word_line, next_starts, word_tells, word_decides}
 use Rattle.blk_text.proofs.ScriptLaws.{bio_with, no_bio_is, one_bio_fault, bio_or_none}
-use Rattle.blk_text.proofs.Reading.{hand_reads}
+use Rattle.blk_lists.proofs.Reading.{hand_reads}
 use Rattle.blk_text.proofs.HeadLaws.{head_tells, head_decides}
 use Rattle.blk_text.proofs.RuleLaws.{fits as fits_decided}
 

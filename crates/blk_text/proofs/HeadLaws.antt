@@ -1,15 +1,15 @@
 -- The laws of the first record of an event.
 use Rattle.std.proofs.Common.{◌≡◌, ◌==◌, ◌<◌, ◌∙◌, ℕ, suc, List, [], ◌∷◌, length, refl, sym, ap, subst, inl, inr, arith, get_or}
 use Rattle.std.specs.Prelude.{if◌then◌else◌}
-use Rattle.blk_text.specs.Sources.{Row}
-use Rattle.blk_text.specs.Words.{StartsWith, HasNoWord}
-use Rattle.blk_text.specs.Fields.{Lacks, FieldsSpell}
-use Rattle.blk_text.specs.Reads.{IsRowOf, IsWrongLine, IsOne}
-use Rattle.blk_text.specs.Tables.{FitsCells, slots_by, kinds_record}
+use Rattle.blk_lists.specs.Sources.{Row}
+use Rattle.blk_lists.specs.Words.{StartsWith, HasNoWord}
+use Rattle.blk_lists.specs.Fields.{Lacks, FieldsSpell}
+use Rattle.blk_lists.specs.Reads.{IsRowOf, IsWrongLine, IsOne}
+use Rattle.blk_lists.specs.Tables.{FitsCells, slots_by, kinds_record}
 use Rattle.blk_text.specs.TraceForm.{word_of, EventStandsIn, Says, head_cells, said, first_record}
-use Rattle.blk_text.specs.declared.fault.Why.{Why}
-use Rattle.blk_text.specs.declared.fault.Why.TheVariants as why
-use Rattle.blk_text.specs.declared.fields.Slot.TheVariants as slot
+use Rattle.blk_lists.specs.declared.fault.Why.{Why}
+use Rattle.blk_lists.specs.declared.fault.Why.TheVariants as why
+use Rattle.blk_lists.specs.declared.fields.Slot.TheVariants as slot
 use Rattle.blk_text.specs.declared.heads.Head.{Head}
 use Rattle.blk_text.specs.declared.heads.Head.TheVariants as head
 use Rattle.blk_text.specs.declared.heads.EventWord.{EventWord}
@@ -17,8 +17,8 @@ use Rattle.blk_text.specs.declared.heads.EventWord.TheVariants as word
 use Rattle.parts.specs.Parts.{Part}
 use Rattle.parts.specs.Laws.{Tells, Decides}
 use Rattle.parts.proofs.Then.{seen_tells, seen_decides}
-use Rattle.blk_text.proofs.Lacking.{Dec, at_most}
-use Rattle.blk_text.proofs.TableLaws.{IsTable, IsBy, word_line, first_is, kinds_tell, kinds_decide, words_tell, word_picked}
+use Rattle.blk_lists.proofs.Lacking.{Dec, at_most}
+use Rattle.blk_lists.proofs.TableLaws.{IsTable, IsBy, word_line, first_is, kinds_tell, kinds_decide, words_tell, word_picked}
 
 -- the word of a field, whatever stands there
 abbrev word_at : List ℕ → EventWord

@@ -1,17 +1,4 @@
-pub mod Lists
-pub mod Steps
-pub mod Decimals
-pub mod FieldLemmas
-pub mod Lacking
-pub mod TableLaws
-pub mod Reading
-pub mod Each
-pub mod Texts
-pub mod PlainRows
 pub mod Rows
-pub mod DraftLemmas
-pub mod CommandLaws
-pub mod ClaimLaws
 pub mod ScriptLaws
 pub mod TraceLemmas
 pub mod HeadLaws
@@ -19,6 +6,3 @@ pub mod RuleLaws
 pub mod GroupLaws
 pub mod EventLaws
 pub mod TraceLaws
-pub mod Counted
-pub mod MetLaws
-pub mod ProofLaws

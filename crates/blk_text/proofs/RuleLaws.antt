@@ -19,9 +19,9 @@ use Rattle.blk_trace.specs.Setups.{Setup}
 use Rattle.blk_trace.specs.Events.{entered, request_of, goes_back, round_at, round_of, EndsAt, IsReleased, IsIssued, IsHandedBack, AreHandedBack, IsOpen, IsUsed, open_count, AreOnce}
 use Rattle.blk_trace.specs.Depths.{depth_now}
 use Rattle.blk_trace.specs.Rules.{asks_for, Obeys, rank, IsFirstBroken, IsUnbroken}
-use Rattle.blk_trace.specs.declared.rule.TraceRule.{TraceRule}
-use Rattle.blk_trace.specs.declared.rule.TraceRule.TheVariants as rule
-use Rattle.blk_text.proofs.Lacking.{Dec, both, either, same_as, at_most, same_number}
+use Rattle.blk_bio.specs.declared.rule.TraceRule.{TraceRule}
+use Rattle.blk_bio.specs.declared.rule.TraceRule.TheVariants as rule
+use Rattle.blk_lists.proofs.Lacking.{Dec, both, either, same_as, at_most, same_number}
 
 -- of decided things
 

@@ -9,19 +9,19 @@ use Rattle.blk_bio.specs.declared.bio.BioFault.TheVariants as bio_fault
 use Rattle.blk_bio.specs.declared.bio.Dir.{Dir}
 use Rattle.blk_bio.specs.Limits.{Limits, IsLimits}
 use Rattle.blk_trace.specs.Setups.{Setup, IsSetup}
-use Rattle.blk_text.specs.Sources.{Row}
-use Rattle.blk_text.specs.Texts.{rows_text}
+use Rattle.blk_lists.specs.Sources.{Row}
+use Rattle.blk_lists.specs.Texts.{rows_text}
 use Rattle.blk_trace.specs.declared.setup.TheConstants.{MAX_DEPTH}
 use Rattle.blk_text.specs.SetupRecord.{setup_cells, setup, FitsSetup}
-use Rattle.blk_text.specs.Words.{StartsWith, HasNoWord, WordLacks}
-use Rattle.blk_text.specs.Fields.{Lacks, FieldsSpell}
-use Rattle.blk_text.specs.Reads.{Reads, Halts, IsRowOf, IsWrongLine, IsOne, items_of}
-use Rattle.blk_text.specs.Tables.{FitsCells, row_by, slots_by, kinds_record}
+use Rattle.blk_lists.specs.Words.{StartsWith, HasNoWord, WordLacks}
+use Rattle.blk_lists.specs.Fields.{Lacks, FieldsSpell}
+use Rattle.blk_lists.specs.Reads.{Reads, Halts, IsRowOf, IsWrongLine, IsOne, items_of}
+use Rattle.blk_lists.specs.Tables.{FitsCells, row_by, slots_by, kinds_record}
 use Rattle.blk_text.specs.Script.{word_of, StepStandsIn, Held, step_cells, step_said, LineFits, IsLineOf, IsRight, HasNoSuchBio, script_cells, IsTitle, IsEnough, TooFew, plain_title, title, plain_step, step, script_body, script_form, script_value, Scripted, title_of, script_rows, IsScript, IsScriptOf, SpellsVersion, SpellsScript, ScriptFault}
 use Rattle.blk_text.specs.Versions.{latest, most_tags}
-use Rattle.blk_text.specs.declared.fault.Why.{Why}
-use Rattle.blk_text.specs.declared.fault.Why.TheVariants as why
-use Rattle.blk_text.specs.declared.fields.Slot.TheVariants as slot
+use Rattle.blk_lists.specs.declared.fault.Why.{Why}
+use Rattle.blk_lists.specs.declared.fault.Why.TheVariants as why
+use Rattle.blk_lists.specs.declared.fields.Slot.TheVariants as slot
 use Rattle.parts.specs.declared.Repeats.TheVariants as repeats
 use Rattle.parts.specs.Parts.{Begins, Spells}
 use Rattle.parts.specs.Laws.{Tells, Decides}
@@ -31,11 +31,11 @@ use Rattle.blk_text.specs.declared.script.Line.TheVariants as line
 use Rattle.blk_text.specs.declared.script.Title.{Title}
 use Rattle.blk_text.specs.declared.script.Word.{Word}
 use Rattle.blk_text.specs.declared.script.Word.TheVariants as word
-use Rattle.blk_text.proofs.Lacking.{Dec, at_most}
-use Rattle.blk_text.proofs.TableLaws.{IsTable, IsBy, word_line, first_is, kinds_tell, kinds_decide, word_tells, word_decides, title_part, title_decides, words_tell, word_picked}
-use Rattle.blk_text.proofs.Each.{all_fit, each_tells, each_decides, one_record}
-use Rattle.blk_text.proofs.Reading.{then_reads, first_halts, second_halts}
-use Rattle.blk_text.proofs.Texts.{text_back, parts_back, begins_itself}
+use Rattle.blk_lists.proofs.Lacking.{Dec, at_most}
+use Rattle.blk_lists.proofs.TableLaws.{IsTable, IsBy, word_line, first_is, kinds_tell, kinds_decide, word_tells, word_decides, title_part, title_decides, words_tell, word_picked}
+use Rattle.blk_lists.proofs.Each.{all_fit, each_tells, each_decides, one_record}
+use Rattle.blk_lists.proofs.Reading.{then_reads, first_halts, second_halts}
+use Rattle.blk_lists.proofs.Texts.{text_back, parts_back, begins_itself}
 use Rattle.blk_bio.specs.declared.limits.TheConstants.{MAX_QUEUES, MAX_SOFT_QUEUES, MAX_SOFT_DEPTH}
 use Rattle.blk_text.specs.declared.script.TheConstants.{MOST_STEPS}
 

@@ -18,9 +18,9 @@ use Rattle.blk_trace.specs.Setups.{Setup}
 use Rattle.blk_trace.specs.Seen.{happened}
 use Rattle.blk_trace.specs.Traces.{Traced}
 use Rattle.blk_text.specs.SetupRecord.{setup_row}
-use Rattle.blk_text.specs.Texts.{rows_text}
+use Rattle.blk_lists.specs.Texts.{rows_text}
 use Rattle.blk_text.specs.TraceRecords.{event_rows, title_row, trace_rows, EventFits}
-use Rattle.blk_text.proofs.DraftLemmas.{IsSoFar}
+use Rattle.blk_lists.proofs.DraftLemmas.{IsSoFar}
 use Rattle.blk_bio.specs.declared.limits.TheConstants.{MAX_SEGMENTS}
 
 pub all_events : {A : Type 0} (has : List ℕ) (t : Traced) (events : List (Event A)) (i : ℕ) → length events ≤ i

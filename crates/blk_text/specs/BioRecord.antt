@@ -2,7 +2,7 @@
 use Rattle.std.specs.Prelude.{ℕ, List, [], ◌∷◌, decimal, codes}
 use Rattle.blk_bio.specs.Bios.{Bio}
 use Rattle.blk_bio.specs.Letters.{direction_text}
-use Rattle.blk_text.specs.Sources.{Row}
+use Rattle.blk_lists.specs.Sources.{Row}
 
 -- bio: bio, submitter, serial, direction, first, sectors
 abbrev pub bio_row : Bio → Row

@@ -2,9 +2,9 @@
 use Rattle.std.specs.Prelude.{◌≡◌, ◌-◌, ◌^◌, ℕ, List, [], ◌∷◌, Err}
 use Rattle.blk_bio.specs.Bios.{Bio, IsBioAnswer}
 use Rattle.blk_bio.specs.declared.bio.BioFault.{BioFault}
-use Rattle.blk_text.specs.Tables.{Cell, Number, Direction}
-use Rattle.blk_text.specs.declared.fault.Why.{Why}
-use Rattle.blk_text.specs.declared.fault.Why.TheVariants as why
+use Rattle.blk_lists.specs.Tables.{Cell, Number, Direction}
+use Rattle.blk_lists.specs.declared.fault.Why.{Why}
+use Rattle.blk_lists.specs.declared.fault.Why.TheVariants as why
 
 -- submitter, of so many, serial, direction, first, sectors
 abbrev pub bio_cells : ℕ → List (Cell Bio)

@@ -5,17 +5,17 @@ use Rattle.blk_bio.specs.Bios.{Bio, IsBio, IsBioAnswer}
 use Rattle.blk_bio.specs.declared.bio.BioFault.{BioFault}
 use Rattle.blk_bio.specs.declared.limits.TheConstants.{MAX_QUEUES, MAX_SOFT_QUEUES, MAX_SOFT_DEPTH}
 use Rattle.blk_trace.specs.Setups.{Setup}
-use Rattle.blk_text.specs.Sources.{Row}
-use Rattle.blk_text.specs.Reads.{items_of}
-use Rattle.blk_text.specs.Tables.{Cell, Blank, Number, IsVersion, title_record, kinds_record}
+use Rattle.blk_lists.specs.Sources.{Row}
+use Rattle.blk_lists.specs.Reads.{items_of}
+use Rattle.blk_lists.specs.Tables.{Cell, Blank, Number, IsVersion, title_record, kinds_record}
 use Rattle.blk_text.specs.BioTable.{bio_cells}
 use Rattle.blk_text.specs.SetupRecord.{IsWholeSetup, setup}
 use Rattle.blk_text.specs.Versions.{latest, most_tags}
-use Rattle.blk_text.specs.declared.fault.Why.{Why}
-use Rattle.blk_text.specs.declared.fault.Why.TheVariants as why
+use Rattle.blk_lists.specs.declared.fault.Why.{Why}
+use Rattle.blk_lists.specs.declared.fault.Why.TheVariants as why
 use Rattle.parts.specs.declared.Repeats.TheVariants as repeats
 use Rattle.parts.specs.Parts.{Part, then, tested, seen_as, Spells}
-use Rattle.blk_text.specs.declared.fields.TheConstants.{TAG_LIMIT}
+use Rattle.blk_lists.specs.declared.fields.TheConstants.{TAG_LIMIT}
 use Rattle.blk_text.specs.declared.script.TheConstants.{MAX_ROUNDS, MOST_STEPS}
 use Rattle.blk_text.specs.declared.script.Line.{Line}
 use Rattle.blk_text.specs.declared.script.Line.TheVariants as line

@@ -4,10 +4,10 @@ use Rattle.blk_bio.specs.Limits.{IsLimits}
 use Rattle.blk_trace.specs.Setups.{Setup, IsSetup}
 use Rattle.blk_bio.specs.declared.limits.TheConstants.{MAX_SECTORS, MAX_SEGMENTS}
 use Rattle.blk_trace.specs.declared.setup.TheConstants.{EXPIRE_LIMIT}
-use Rattle.blk_text.specs.Sources.{Row}
-use Rattle.blk_text.specs.Tables.{Cell, Number, Blank, row_by, word_record}
-use Rattle.blk_text.specs.declared.fault.Why.{Why}
-use Rattle.blk_text.specs.declared.fault.Why.TheVariants as why
+use Rattle.blk_lists.specs.Sources.{Row}
+use Rattle.blk_lists.specs.Tables.{Cell, Number, Blank, row_by, word_record}
+use Rattle.blk_lists.specs.declared.fault.Why.{Why}
+use Rattle.blk_lists.specs.declared.fault.Why.TheVariants as why
 use Rattle.parts.specs.Parts.{Part}
 
 -- setup, read_expire, write_expire, max_sectors, max_segments, empty

@@ -6,23 +6,23 @@ use Rattle.blk_bio.specs.Requests.{Fits}
 use Rattle.blk_bio.specs.declared.request.Side.TheVariants as side
 use Rattle.blk_bio.specs.declared.limits.TheConstants.{MAX_QUEUES, MAX_SEGMENTS}
 use Rattle.blk_trace.specs.declared.trace.TheConstants.{MAX_EVENTS}
-use Rattle.blk_trace.specs.declared.rule.TraceRule.{TraceRule}
+use Rattle.blk_bio.specs.declared.rule.TraceRule.{TraceRule}
 use Rattle.blk_trace.specs.declared.rule.PushFault.{PushFault}
 use Rattle.blk_trace.specs.declared.rule.PushFault.TheVariants as push_fault
 use Rattle.blk_trace.specs.Happened.{Happened, Ticked, Released, Joined, Issued, Finished, Returned, DepthSet}
 use Rattle.blk_trace.specs.Rules.{IsFirstBroken, IsUnbroken}
 use Rattle.blk_trace.specs.Setups.{Setup}
 use Rattle.blk_trace.specs.Traces.{Traced}
-use Rattle.blk_text.specs.Sources.{Row}
-use Rattle.blk_text.specs.Reads.{ended_of, with_next}
-use Rattle.blk_text.specs.Words.{NextStarts}
-use Rattle.blk_text.specs.Tables.{Cell, Blank, Number, FitsCells, IsVersion, title_record, kinds_record, word_record}
+use Rattle.blk_lists.specs.Sources.{Row}
+use Rattle.blk_lists.specs.Reads.{ended_of, with_next}
+use Rattle.blk_lists.specs.Words.{NextStarts}
+use Rattle.blk_lists.specs.Tables.{Cell, Blank, Number, FitsCells, IsVersion, title_record, kinds_record, word_record}
 use Rattle.blk_text.specs.BioTable.{bio_cells, IsNoSuchBio}
 use Rattle.blk_text.specs.SetupRecord.{setup}
 use Rattle.blk_text.specs.Versions.{latest, most_tags}
-use Rattle.blk_text.specs.declared.fields.TheConstants.{TAG_LIMIT}
-use Rattle.blk_text.specs.declared.fault.Why.{Why}
-use Rattle.blk_text.specs.declared.fault.Why.TheVariants as why
+use Rattle.blk_lists.specs.declared.fields.TheConstants.{TAG_LIMIT}
+use Rattle.blk_lists.specs.declared.fault.Why.{Why}
+use Rattle.blk_lists.specs.declared.fault.Why.TheVariants as why
 use Rattle.blk_text.specs.declared.heads.Head.{Head}
 use Rattle.blk_text.specs.declared.heads.Head.TheVariants as head
 use Rattle.blk_text.specs.declared.heads.EventWord.{EventWord}

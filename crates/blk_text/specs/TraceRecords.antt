@@ -7,11 +7,11 @@ use Rattle.blk_trace.specs.Setups.{Setup}
 use Rattle.blk_trace.specs.Happened.{Happened, Ticked, Released, Joined, Issued, Finished, Returned, DepthSet}
 use Rattle.blk_trace.specs.Traces.{Traced}
 use Rattle.blk_trace.specs.Legal.{IsLegalTrace}
-use Rattle.blk_text.specs.Sources.{Row}
+use Rattle.blk_lists.specs.Sources.{Row}
 use Rattle.blk_text.specs.BioRecord.{bio_row}
 use Rattle.blk_text.specs.SetupRecord.{setup_row, IsWholeSetup}
 use Rattle.blk_text.specs.Versions.{latest}
-use Rattle.blk_text.specs.declared.fields.TheConstants.{TAG_LIMIT}
+use Rattle.blk_lists.specs.declared.fields.TheConstants.{TAG_LIMIT}
 
 -- a record of a word and two fields; the other three are empty
 abbrev pub word_row : List ℕ → List ℕ → List ℕ → Row

@@ -3,15 +3,15 @@
 ghost use Rattle.std.specs.Prelude.{◌≡◌, ◌≤◌, ◌<◌, ◌^◌, ◌-◌, ◌+◌, ◌++◌, ◌∷◌, [], codes, length, IsTrue, OnOk, IfOk, IfErr};
 ghost use Rattle.csv.specs.Records.{fields_of};
 ghost use Rattle.blk_bio.specs.Requests.{Fits};
-ghost use Rattle.blk_text.specs.Reads.{IsRowOf, IsWrongLine, Reads, Fails};
-ghost use Rattle.blk_text.specs.Words.{StartsWith};
+ghost use Rattle.blk_lists.specs.Reads.{IsRowOf, IsWrongLine, Reads, Fails};
+ghost use Rattle.blk_lists.specs.Words.{StartsWith};
 ghost use Rattle.blk_text.specs.TraceForm.{whole_bio, group};
 
-use crate::fault::{TextFault, Why};
-use crate::fields::{ANY, Slot, begins_with, direction_of, field, read_fields};
+use blk_lists::fault::{TextFault, Why};
+use blk_lists::fields::{ANY, Slot, begins_with, direction_of, field, read_fields};
 use crate::heads::HeadForm;
-use crate::items::{ItemForm, LineForm, gather};
-use crate::source::Records;
+use blk_lists::items::{ItemForm, LineForm, gather};
+use blk_lists::source::Records;
 use blk_bio::{Bio, BioId, Limits, MAX_SEGMENTS, Request, Side};
 use csv::ByteRecord;
 use parts::Repeats;

@@ -2,17 +2,17 @@
 
 ghost use Rattle.std.specs.Prelude.{◌≡◌, ◌∷◌, MatchOption, IfOk, IfErr};
 ghost use Rattle.csv.specs.Records.{fields_of};
-ghost use Rattle.blk_text.specs.Fields.{FieldsSpell};
-ghost use Rattle.blk_text.specs.Reads.{IsRowOf, IsWrongLine};
-ghost use Rattle.blk_text.specs.Tables.{slots_by};
-ghost use Rattle.blk_text.specs.Words.{StartsWith};
+ghost use Rattle.blk_lists.specs.Fields.{FieldsSpell};
+ghost use Rattle.blk_lists.specs.Reads.{IsRowOf, IsWrongLine};
+ghost use Rattle.blk_lists.specs.Tables.{slots_by};
+ghost use Rattle.blk_lists.specs.Words.{StartsWith};
 ghost use Rattle.blk_text.specs.TraceForm.{EventStandsIn, word_of, head_cells, first_record};
-ghost use Rattle.blk_text.specs.declared.fields.Slot.TheVariants as slot;
+ghost use Rattle.blk_lists.specs.declared.fields.Slot.TheVariants as slot;
 ghost use Rattle.blk_text.specs.declared.heads.EventWord.{EventWord as AWord};
 
-use crate::fault::Why;
-use crate::fields::{ANY, Slot, TAG, WIDTH, field, read_fields, without_word};
-use crate::items::LineForm;
+use blk_lists::fault::Why;
+use blk_lists::fields::{ANY, Slot, TAG, WIDTH, field, read_fields, without_word};
+use blk_lists::items::LineForm;
 use blk_bio::MAX_SEGMENTS;
 use csv::ByteRecord;
 

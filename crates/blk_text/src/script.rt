@@ -2,24 +2,24 @@
 
 ghost use Rattle.std.specs.Prelude.{◌≡◌, ◌⊎◌, ◌+◌, ◌≤◌, ◌<◌, ◌∷◌, ℕ, IfOk, IfErr, IfSome, MatchOption, codes, length};
 ghost use Rattle.csv.specs.Records.{fields_of};
-ghost use Rattle.blk_text.specs.Reads.{IsOutside, IsRowOf, IsWrongLine, Reaches};
-ghost use Rattle.blk_text.specs.Tables.{slots_by};
-ghost use Rattle.blk_text.specs.Words.{StartsWith};
-ghost use Rattle.blk_text.specs.Fields.{FieldsSpell};
+ghost use Rattle.blk_lists.specs.Reads.{IsOutside, IsRowOf, IsWrongLine, Reaches};
+ghost use Rattle.blk_lists.specs.Tables.{slots_by};
+ghost use Rattle.blk_lists.specs.Words.{StartsWith};
+ghost use Rattle.blk_lists.specs.Fields.{FieldsSpell};
 ghost use Rattle.blk_text.specs.BioRecord.{bio_row};
 ghost use Rattle.blk_bio.specs.Letters.{direction_text};
 ghost use Rattle.blk_text.specs.Script.{StepStandsIn, word_of, step_cells, step, LineFits, IsScript, SpellsScript, ScriptFault, scripted, script_form};
 ghost use Rattle.blk_bio.specs.declared.limits.TheConstants.{MAX_QUEUES as MOST_QUEUES, MAX_SOFT_QUEUES as MOST_SUBMITTERS};
-ghost use Rattle.blk_text.specs.declared.fields.Slot.TheVariants as slot;
+ghost use Rattle.blk_lists.specs.declared.fields.Slot.TheVariants as slot;
 ghost use Rattle.blk_text.specs.declared.script.Word.{Word as AWord};
 
-use crate::fault::{TextFault, Why};
-use crate::fields::{
+use blk_lists::fault::{TextFault, Why};
+use blk_lists::fields::{
     ANY, Slot, TAG, WIDTH, direction_of, field, parse_number, read_fields, version_of, without_word,
 };
-use crate::items::{LineForm, read_line, read_lines};
+use blk_lists::items::{LineForm, read_line, read_lines};
 use crate::setup::{LATEST, SetupForm, most_tags};
-use crate::source::Records;
+use blk_lists::source::Records;
 use blk_bio::{Bio, BioId, Dir, MAX_QUEUES, MAX_SOFT_DEPTH, MAX_SOFT_QUEUES};
 use blk_trace::{MAX_EVENTS, Setup};
 use csv::ByteRecord;

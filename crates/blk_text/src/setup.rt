@@ -2,19 +2,19 @@
 
 ghost use Rattle.std.specs.Prelude.{◌≡◌, ◌≤◌, ◌<◌, ◌∷◌, IfOk, IfErr, codes};
 ghost use Rattle.csv.specs.Records.{fields_of};
-ghost use Rattle.blk_text.specs.Fields.{FieldsSpell};
-ghost use Rattle.blk_text.specs.Reads.{IsRowOf, IsWrongLine};
-ghost use Rattle.blk_text.specs.Words.{StartsWith};
+ghost use Rattle.blk_lists.specs.Fields.{FieldsSpell};
+ghost use Rattle.blk_lists.specs.Reads.{IsRowOf, IsWrongLine};
+ghost use Rattle.blk_lists.specs.Words.{StartsWith};
 ghost use Rattle.blk_text.specs.SetupRecord.{setup_cells, setup as setup_part};
 ghost use Rattle.blk_text.specs.Versions.{most_tags};
 ghost use Rattle.blk_bio.specs.declared.limits.TheConstants.{MAX_QUEUES as MOST_QUEUES};
 ghost use Rattle.blk_trace.specs.declared.setup.TheConstants.{MAX_DEPTH as MOST_DEPTH};
-ghost use Rattle.blk_text.specs.Tables.{slots_by};
-ghost use Rattle.blk_text.specs.declared.fields.Slot.TheVariants as slot;
+ghost use Rattle.blk_lists.specs.Tables.{slots_by};
+ghost use Rattle.blk_lists.specs.declared.fields.Slot.TheVariants as slot;
 
-use crate::fault::Why;
-use crate::fields::{Slot, WIDTH, begins_with, read_fields, without_word};
-use crate::items::LineForm;
+use blk_lists::fault::Why;
+use blk_lists::fields::{Slot, WIDTH, begins_with, read_fields, without_word};
+use blk_lists::items::LineForm;
 use blk_bio::{Limits, MAX_QUEUES, MAX_SECTORS, MAX_SEGMENTS};
 use blk_trace::{EXPIRE_LIMIT, MAX_DEPTH, Setup};
 use csv::ByteRecord;

@@ -3,7 +3,7 @@
 
 use crate::forms::{Form, first_other};
 use blk_bio::BioFault;
-use blk_text::{TextFault, Why};
+use blk_lists::{TextFault, Why};
 use drafts::WriteFault;
 
 #[test]

@@ -1,7 +1,7 @@
 //! Certificates of the greatest number met, and certificates of either form.
 
 use crate::forms::{Form, first_not_itself, first_other, needs_its_room};
-use blk_text::{Records, Why, read_met};
+use blk_lists::{Records, Why, read_met};
 use edd_check::Window;
 
 /// Three commands of one round, of which two are due in round 0: one runs in time there, and one later.

@@ -2,7 +2,7 @@
 
 use crate::forms::{Form, fault_of, needs_its_room};
 use crate::texts::JOINED;
-use blk_text::{TextFault, Why};
+use blk_lists::{TextFault, Why};
 use std::alloc::Global;
 use std::io;
 use std::io::{ErrorKind, Read};

@@ -2,7 +2,8 @@
 
 use crate::forms::{Form, first_not_itself, first_unlike};
 use blk_bio::{Bio, BioId, Dir, Limits, Request};
-use blk_text::{Line, Records, read_certificate, read_script, write_trace};
+use blk_lists::{Records, read_certificate};
+use blk_text::{Line, read_script, write_trace};
 use blk_trace::{Event, Setup, Trace};
 use edd_check::Window;
 use std::alloc::Global;

@@ -3,7 +3,7 @@
 use crate::forms::{Form, first_other, first_unlike};
 use crate::texts::JOINED;
 use blk_bio::BioFault;
-use blk_text::Why;
+use blk_lists::Why;
 use blk_trace::TraceRule;
 
 #[test]

@@ -3,7 +3,7 @@ use Rattle.std.proofs.Common.{◌≡◌, ◌≤◌, ◌<◌, ◌+◌, ◌++◌, 
 use Rattle.std.specs.Prelude.{Option}
 use Rattle.std.proofs.lemmas.Bool.{cond-true, le-leb, cases_lt}
 use Rattle.edd_check.specs.Capacity.{depth_at}
-use Rattle.blk_trace.specs.declared.rule.TraceRule.TheVariants.{DepthRange}
+use Rattle.blk_bio.specs.declared.rule.TraceRule.TheVariants.{DepthRange}
 use Rattle.blk_trace.specs.Happened.{Happened, Ticked, Issued, DepthSet}
 use Rattle.blk_trace.specs.Kinds.{sets_depth, is_tick}
 use Rattle.blk_trace.specs.Setups.{Setup}

@@ -2,8 +2,8 @@
 use Rattle.std.proofs.Common.{◌<◌, ◌+◌, ℕ, List, arith}
 use Rattle.blk_bio.specs.Bios.{Bio}
 use Rattle.blk_trace.specs.Happened.{Happened, Ticked, Released, Joined, Issued, Finished, Returned, DepthSet}
-use Rattle.blk_trace.specs.declared.rule.TraceRule.{TraceRule}
-use Rattle.blk_trace.specs.declared.rule.TraceRule.TheVariants.{ReleasedTwice, Unknown, AlreadyIssued, BioTwice, Fit, TagRange, TagUsed, NotIssued, InFlight, TooLong, DepthRange}
+use Rattle.blk_bio.specs.declared.rule.TraceRule.{TraceRule}
+use Rattle.blk_bio.specs.declared.rule.TraceRule.TheVariants.{ReleasedTwice, Unknown, AlreadyIssued, BioTwice, Fit, TagRange, TagUsed, NotIssued, InFlight, TooLong, DepthRange}
 use Rattle.blk_trace.specs.Setups.{Setup}
 use Rattle.blk_trace.specs.Rules.{Obeys, rank, IsFirstBroken, IsUnbroken}
 

@@ -16,7 +16,7 @@ use Rattle.blk_trace.specs.declared.tags.TagUse.{TagUse}
 use Rattle.blk_trace.specs.declared.tags.TagUse.TheVariants.{Free, Open, Ended}
 use Rattle.blk_trace.specs.declared.trace.Prepared.{Prepared}
 use Rattle.blk_trace.specs.declared.trace.Prepared.TheVariants.{Nothing, AnIssue, Bios}
-use Rattle.blk_trace.specs.declared.rule.TraceRule.TheVariants.{InFlight, NotIssued, Fit}
+use Rattle.blk_bio.specs.declared.rule.TraceRule.TheVariants.{InFlight, NotIssued, Fit}
 use Rattle.blk_trace.specs.Happened.{Happened, Ticked, Released, Joined, Issued, Finished, Returned, DepthSet}
 use Rattle.blk_trace.specs.Kinds.{releases, joins}
 use Rattle.blk_trace.specs.Setups.{Setup, IsSetup, expire_of}

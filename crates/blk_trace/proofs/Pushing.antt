@@ -7,8 +7,8 @@ use Rattle.std.proofs.lemmas.Option.{slice_get_within}
 use Rattle.blk_bio.specs.Bios.{Bio}
 use Rattle.blk_trace.specs.Happened.{Happened, Ticked, Released, Joined, Issued, DepthSet}
 use Rattle.blk_trace.specs.Kinds.{enters, ends, is_issue, is_end}
-use Rattle.blk_trace.specs.declared.rule.TraceRule.{TraceRule}
-use Rattle.blk_trace.specs.declared.rule.TraceRule.TheVariants.{ReleasedTwice, Unknown, AlreadyIssued, BioTwice, Fit, TagRange, TagUsed, NotIssued, InFlight, TooLong, DepthRange}
+use Rattle.blk_bio.specs.declared.rule.TraceRule.{TraceRule}
+use Rattle.blk_bio.specs.declared.rule.TraceRule.TheVariants.{ReleasedTwice, Unknown, AlreadyIssued, BioTwice, Fit, TagRange, TagUsed, NotIssued, InFlight, TooLong, DepthRange}
 use Rattle.blk_trace.specs.Setups.{Setup}
 use Rattle.blk_trace.specs.Events.{At, EntersRequest, round_of, round_at, bios_of, entered, open_count, AreOnce, IsOpen}
 use Rattle.blk_trace.specs.Depths.{depth_in, depth_now}

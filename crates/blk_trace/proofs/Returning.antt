@@ -7,7 +7,7 @@ use Rattle.std.proofs.lemmas.List.{map-append}
 use Rattle.std.proofs.lemmas.List.Sums.{sum_by-append}
 use Rattle.std.proofs.lemmas.List.Folds.{list_any-append}
 use Rattle.std.proofs.lemmas.Bool.{cases_Bool, or_left, or_right, or_cases, or_parts, false_from_ne_true}
-use Rattle.blk_trace.specs.declared.rule.TraceRule.TheVariants.{TagUsed, AlreadyIssued, NotIssued}
+use Rattle.blk_bio.specs.declared.rule.TraceRule.TheVariants.{TagUsed, AlreadyIssued, NotIssued}
 use Rattle.blk_trace.specs.Happened.{Happened, Issued, Returned}
 use Rattle.blk_trace.specs.Kinds.{issues, ends, hands_back, is_done_of, is_tick}
 use Rattle.blk_trace.specs.Setups.{Setup}

@@ -6,7 +6,7 @@ use Rattle.blk_trace.specs.Kinds.{issues, ends, is_issue, is_end}
 use Rattle.blk_trace.specs.Setups.{Setup}
 use Rattle.blk_trace.specs.Events.{open_count, IsOpen}
 use Rattle.blk_trace.specs.Legal.{IsLegalTrace}
-use Rattle.blk_trace.specs.declared.rule.TraceRule.TheVariants.{TooLong}
+use Rattle.blk_bio.specs.declared.rule.TraceRule.TheVariants.{TooLong}
 use Rattle.blk_trace.specs.Rules.{Obeys}
 use Rattle.blk_trace.proofs.Words.{only_ends}
 use Rattle.blk_trace.proofs.More.{more_of}

@@ -4,7 +4,7 @@ use Rattle.std.specs.Prelude.{IsSome, not}
 use Rattle.std.specs.Option.{is_some}
 use Rattle.blk_bio.specs.declared.bio.Dir.{Dir}
 use Rattle.blk_bio.specs.Requests.{dir_of}
-use Rattle.blk_trace.specs.declared.rule.TraceRule.TheVariants.{TagUsed, InFlight}
+use Rattle.blk_bio.specs.declared.rule.TraceRule.TheVariants.{TagUsed, InFlight}
 use Rattle.blk_trace.specs.Happened.{Happened, Ticked, Issued}
 use Rattle.blk_trace.specs.Kinds.{is_tick, issues}
 use Rattle.blk_trace.specs.Setups.{Setup}

@@ -10,6 +10,7 @@ mod tags;
 pub mod trace;
 
 pub use event::Event;
-pub use rule::{PushFault, TraceFault, TraceRule};
+pub use blk_bio::TraceRule;
+pub use rule::{PushFault, TraceFault};
 pub use setup::{EXPIRE_LIMIT, MAX_DEPTH, Setup, SetupFault};
 pub use trace::{MAX_EVENTS, Prepared, Trace};

@@ -6,7 +6,6 @@ ghost use Rattle.blk_trace.specs.Setups.{IsSetup, IsSetupAnswer, expire_of};
 use blk_bio::{Dir, Limits, MAX_QUEUES};
 use edd_check::MOST_DEPTH;
 use std::marker::Model;
-use thiserror::Error;
 
 /// The most tags: as many commands as a round may carry.
 pub const MAX_DEPTH: u64 = MOST_DEPTH;
@@ -15,16 +14,13 @@ pub const MAX_DEPTH: u64 = MOST_DEPTH;
 pub const EXPIRE_LIMIT: u64 = 1 << 40;
 
 /// Why a setup is not made, in the order in which the reasons are looked for.
-#[derive(Clone, Copy, Debug, PartialEq, Eq, Error)]
+#[derive(Clone, Copy, Debug, PartialEq, Eq)]
 pub enum SetupFault {
     /// The depth is 0 or above `MAX_DEPTH`.
-    #[error("Depth")]
     Depth,
     /// The number of hardware queues is 0 or above `MAX_QUEUES`.
-    #[error("Queues")]
     Queues,
     /// An expiry is not below `EXPIRE_LIMIT`.
-    #[error("Expire")]
     Expire,
 }
 

@@ -1,14 +1,11 @@
 //! Why a text was not written.
 
-use thiserror::Error;
 
 /// Why a text was not written.
-#[derive(Debug, Clone, Copy, PartialEq, Eq, Error)]
+#[derive(Debug, Clone, Copy, PartialEq, Eq)]
 pub enum WriteFault {
     /// The writer answered a fault: what it took before, a first part of the text, is out, and nothing says how much that is.
-    #[error("Write")]
     Write,
     /// Memory ran out: nothing was handed to the writer.
-    #[error("Memory")]
     Memory,
 }

@@ -7,6 +7,7 @@
 #![tactic(auto)]
 
 ghost use Rattle.std.specs.Prelude.{◌+◌, ◌*◌, ℕ, ℤ, pos, negsuc, ◌+ℤ◌, ◌≤ℤ◌, ◌<ℤ◌, ◌-◌, IfNone, IfOk, OnOk, IsOkUnless, ◌≡◌, ◌<◌, ◌^◌, ◌↔◌, [], List, length, IsTrue, IsNone, IfSome, ◌≤◌, All};
+ghost use Rattle.edd_check.specs.Names.{check_fault_name};
 ghost use Rattle.edd_check.specs.Capacity.{depth_at, carried, fixed};
 ghost use Rattle.edd_check.specs.Schedule.{IsLegal, IsGreatestLateness, StartsReleased, IsFirstEarly, IsLeastOverDeep, IsLeastLateness, IsLeastFrom, IsLowerBound, places_at, CommandsInRange, RoundsInRange};
 ghost use Rattle.edd_check.specs.Window.{load_of, rounds_between, IsCrowded, WindowInRange};
@@ -21,7 +22,6 @@ pub use met::{
 };
 use std::alloc::{AllocError, Allocator};
 pub use steps::{Capacity, CapacityFault, MOST_DEPTH, Step};
-use thiserror::Error;
 
 /// Every due, scheduled and window round lies below this.
 pub const ROUND_LIMIT: u64 = 1 << 41;
@@ -58,26 +58,36 @@ pub struct Window {
 }
 
 /// Why a claim is refused, in the order in which the reasons are looked for.
-#[derive(Clone, Copy, Debug, PartialEq, Eq, Error)]
+#[derive(Clone, Copy, Debug, PartialEq, Eq)]
 pub enum CheckFault {
     /// There are more rounds than commands, or fewer.
-    #[error("Length")]
     Length,
     /// The first command by place that runs before its release, by its id.
-    #[error("BeforeRelease")]
     BeforeRelease(u64),
     /// Memory ran out.
-    #[error("Memory")]
     Memory,
     /// The least round with more commands than it carries.
-    #[error("OverDepth")]
     OverDepth(u64),
     /// The schedule's own greatest lateness, which is not the claimed one.
-    #[error("WrongLateness")]
     WrongLateness(i64),
     /// The window's load, which its rounds can carry.
-    #[error("NotCrowded")]
     NotCrowded(u64),
+}
+
+impl CheckFault {
+    /// Its name, which the program prints.
+    pub fn name(self) -> &'static str
+        ensures { result.now ≡ check_fault_name self }
+    {
+        match self {
+            CheckFault::Length => "Length",
+            CheckFault::BeforeRelease(_) => "BeforeRelease",
+            CheckFault::Memory => "Memory",
+            CheckFault::OverDepth(_) => "OverDepth",
+            CheckFault::WrongLateness(_) => "WrongLateness",
+            CheckFault::NotCrowded(_) => "NotCrowded",
+        }
+    }
 }
 
 /// Whether every release, due, scheduled and window round lies below [`ROUND_LIMIT`], as [`check`] requires.

@@ -6,6 +6,7 @@
 //! bipartite graph of commands and rounds).
 
 ghost use Rattle.std.specs.Prelude.{◌≡◌, ◌≤◌, ◌<◌, ◌+◌, ◌-◌, ◌*◌, ◌&&◌, ◌↔◌, not, length, IsTrue, IfOk, IfNone, IfSome, OnOk, IsOkUnless};
+ghost use Rattle.edd_check.specs.Names.{met_fault_name};
 ghost use Rattle.std.specs.List.{list_any};
 ghost use Rattle.edd_check.specs.Limits.{round_limit};
 ghost use Rattle.edd_check.specs.Schedule.{IsLegal};
@@ -14,32 +15,41 @@ ghost use Rattle.edd_check.specs.CheckMet.{IsMetAnswer};
 
 use crate::{Capacity, Command, ROUND_LIMIT, Window, first_early, least_over_deep};
 use std::alloc::Allocator;
-use thiserror::Error;
 
 /// Why a claim of a greatest number is refused, in the order in which the reasons are looked for.
-#[derive(Clone, Copy, Debug, PartialEq, Eq, Error)]
+#[derive(Clone, Copy, Debug, PartialEq, Eq)]
 pub enum MetFault {
     /// There are more rounds than commands, or fewer.
-    #[error("Length")]
     Length,
     /// The first command by place that runs before its release, by its id.
-    #[error("BeforeRelease")]
     BeforeRelease(u64),
     /// Memory ran out.
-    #[error("Memory")]
     Memory,
     /// The least round with more commands than it carries.
-    #[error("OverDepth")]
     OverDepth(u64),
     /// The schedule's own number of met commands, which is not the claimed one.
-    #[error("WrongMet")]
     WrongMet(u64),
     /// The first window by place that has no round, or doesn't begin after the one before it ends.
-    #[error("Windows")]
     Windows(usize),
     /// The windows' bound, which is more than the claimed number.
-    #[error("Loose")]
     Loose(u64),
+}
+
+impl MetFault {
+    /// Its name, which the program prints.
+    pub fn name(self) -> &'static str
+        ensures { result.now ≡ met_fault_name self }
+    {
+        match self {
+            MetFault::Length => "Length",
+            MetFault::BeforeRelease(_) => "BeforeRelease",
+            MetFault::Memory => "Memory",
+            MetFault::OverDepth(_) => "OverDepth",
+            MetFault::WrongMet(_) => "WrongMet",
+            MetFault::Windows(_) => "Windows",
+            MetFault::Loose(_) => "Loose",
+        }
+    }
 }
 
 /// Whether both numbers of each window lie below [`ROUND_LIMIT`], as [`check_met`] requires.

@@ -7,7 +7,6 @@ ghost use Rattle.edd_check.specs.Capacity.{depth_at, carried, fixed, IsCapacity,
 use crate::ROUND_LIMIT;
 use std::alloc::{AllocError, Allocator, Global};
 use std::marker::Model;
-use thiserror::Error;
 
 /// A round carries at most so many commands, as a device's tags are at most so many.
 pub const MOST_DEPTH: u64 = 256;
@@ -22,19 +21,15 @@ pub struct Step {
 }
 
 /// Why steps are no capacity: the first reason by place, and at a place in this order.
-#[derive(Clone, Copy, Debug, PartialEq, Eq, Error)]
+#[derive(Clone, Copy, Debug, PartialEq, Eq)]
 pub enum CapacityFault {
     /// There is no step, or the first doesn't begin in round 0.
-    #[error("Start")]
     Start,
     /// The step at this place doesn't begin after the one before it.
-    #[error("Rising")]
     Rising(usize),
     /// The depth at this place is 0 or above [`MOST_DEPTH`].
-    #[error("Depth")]
     Depth(usize),
     /// The step at this place begins at [`ROUND_LIMIT`] or later.
-    #[error("Round")]
     Round(usize),
 }
 

@@ -7,6 +7,7 @@
 #![tactic(auto)]
 
 ghost use Rattle.std.specs.Prelude.{◌≡◌, ◌≤◌, ◌<◌, ◌↔◌, [], length, IfOk, IfErr, IfSome, IsNone, OnOk, IsOkUnless};
+ghost use Rattle.edd_oracle.specs.Names.{oracle_fault_name};
 ghost use Rattle.edd_check.specs.Schedule.{IsLegal};
 ghost use Rattle.edd_oracle.specs.Input.{IsTaken, IsRefusal, HasDistinctIds};
 ghost use Rattle.edd_oracle.specs.Answer.{IsBest};
@@ -24,24 +25,33 @@ use edd_check::{
     law_of_crowded_windows, number_met,
 };
 use std::alloc::{Allocator, Global};
-use thiserror::Error;
 
 /// Why a list is refused, in the order in which the reasons are looked for.
-#[derive(Clone, Copy, Debug, PartialEq, Eq, Error)]
+#[derive(Clone, Copy, Debug, PartialEq, Eq)]
 pub enum OracleFault {
     /// There are more than [`MOST_COMMANDS`](edd_check::MOST_COMMANDS) commands.
-    #[error("TooMany")]
     TooMany,
     /// The id of the first command by place that is released at [`RELEASE_LIMIT`](edd_check::RELEASE_LIMIT) or later or
     /// due at [`ROUND_LIMIT`](edd_check::ROUND_LIMIT) or later.
-    #[error("RoundRange")]
     RoundRange(u64),
     /// The id of the first command by place whose id stood before.
-    #[error("RepeatedId")]
     RepeatedId(u64),
     /// Memory ran out.
-    #[error("Memory")]
     Memory,
+}
+
+impl OracleFault {
+    /// Its name, which the program prints.
+    pub fn name(self) -> &'static str
+        ensures { result.now ≡ oracle_fault_name self }
+    {
+        match self {
+            OracleFault::TooMany => "TooMany",
+            OracleFault::RoundRange(_) => "RoundRange",
+            OracleFault::RepeatedId(_) => "RepeatedId",
+            OracleFault::Memory => "Memory",
+        }
+    }
 }
 
 /// A schedule of least greatest lateness.

@@ -12,7 +12,7 @@ ghost use Rattle.blk_trace.specs.Seen.{happened};
 
 use crate::event::Event;
 use crate::known::Known;
-use crate::rule::TraceRule;
+use blk_bio::TraceRule;
 use crate::tags::{TagUse, any_open};
 use crate::trace::{MAX_EVENTS, Trace};
 use blk_bio::{Bio, BioId, Request};

@@ -1,5 +1,5 @@
 use Rattle.std.proofs.Common.{◌∙◌}
-use Rattle.blk_text.specs.Proof.{ProofFault, proof_claimed}
+use Rattle.blk_lists.specs.Proof.{ProofFault, proof_claimed}
 use Rattle.blk_cli.proofs.Written.{text_fault, check_wrote, check_fails}
 use Rattle.blk_cli.proofs.jobs.check_certificate.Goals as goal
 

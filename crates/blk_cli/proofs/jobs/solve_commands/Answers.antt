@@ -1,5 +1,5 @@
-use Rattle.blk_text.specs.Certificate.{claimed}
-use Rattle.blk_text.specs.Commands.{CommandsFault}
+use Rattle.blk_lists.specs.Certificate.{claimed}
+use Rattle.blk_lists.specs.Commands.{CommandsFault}
 use Rattle.blk_cli.proofs.Written.{text_fault, oracle_wrote}
 use Rattle.blk_cli.proofs.jobs.solve_commands.Goals as goal
 

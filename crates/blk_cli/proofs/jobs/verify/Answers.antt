@@ -1,7 +1,7 @@
 use Rattle.std.proofs.Common.{rules, ◌≡◌, List, ℕ, IfSome, refl, subst, w64, of_z, to_z}
 use Rattle.std.proofs.lemmas.Int.{to_z-of_z}
 use Rattle.edd_check.specs.declared.Command.{Command}
-use Rattle.blk_text.specs.Certificate.{claimed}
+use Rattle.blk_lists.specs.Certificate.{claimed}
 use Rattle.blk_cli.specs.Outcome.{IsProof}
 use Rattle.blk_cli.proofs.Claims.{bound_beside, proof_of, refused_of}
 use Rattle.blk_cli.proofs.jobs.verify.Goals as goal

@@ -1,5 +1,5 @@
-use Rattle.blk_text.specs.Met.{met_claimed}
-use Rattle.blk_text.specs.Commands.{CommandsFault}
+use Rattle.blk_lists.specs.Met.{met_claimed}
+use Rattle.blk_lists.specs.Commands.{CommandsFault}
 use Rattle.blk_cli.proofs.Written.{text_fault, met_wrote, oracle_fails}
 use Rattle.blk_cli.proofs.meeting.meet_commands.Goals as goal
 

@@ -1,7 +1,7 @@
 use Rattle.std.proofs.Common.{rules, ◌≡◌, refl, length, string_bytes}
 use Rattle.edd_check.specs.Capacity.{fixed}
 use Rattle.edd_check.specs.Met.{carried_by, outside_of}
-use Rattle.blk_text.specs.Met.{met_claimed}
+use Rattle.blk_lists.specs.Met.{met_claimed}
 use Rattle.blk_cli.proofs.MetClaims.{met_line_is}
 use Rattle.blk_cli.proofs.meeting.met_verdict.Goals as goal
 

@@ -1,5 +1,5 @@
 use Rattle.std.proofs.Common.{rules, ◌≡◌}
-use Rattle.blk_text.specs.Met.{met_claimed}
+use Rattle.blk_lists.specs.Met.{met_claimed}
 use Rattle.blk_cli.proofs.MetClaims.{met_proved, met_refused}
 use Rattle.blk_cli.proofs.meeting.verify_met.Goals as goal
 

@@ -1,6 +1,6 @@
 use Rattle.std.proofs.Common.{rules, codes}
 use Rattle.csv.specs.Records.{fields_of}
-use Rattle.blk_text.specs.Words.{StartsWith}
+use Rattle.blk_lists.specs.Words.{StartsWith}
 use Rattle.blk_text.proofs.GroupLaws.{event_too_soon, no_event_there}
 use Rattle.blk_text.proofs.groups.bio_line.Goals as goal
 

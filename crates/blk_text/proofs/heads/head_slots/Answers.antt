@@ -1,7 +1,7 @@
 use Rattle.std.proofs.Common.{◌∷◌, ap, sym}
 use Rattle.blk_text.specs.TraceForm.{head_cells}
-use Rattle.blk_text.specs.Tables.{slots_by}
-use Rattle.blk_text.specs.declared.fields.Slot.TheVariants as slot
+use Rattle.blk_lists.specs.Tables.{slots_by}
+use Rattle.blk_lists.specs.declared.fields.Slot.TheVariants as slot
 use Rattle.blk_text.specs.declared.heads.EventWord.{EventWord}
 use Rattle.blk_text.proofs.heads.head_slots.Goals as goal
 

@@ -1,7 +1,7 @@
 use Rattle.std.proofs.Common.{◌∷◌, ap, sym}
 use Rattle.blk_text.specs.Script.{step_cells}
-use Rattle.blk_text.specs.Tables.{slots_by}
-use Rattle.blk_text.specs.declared.fields.Slot.TheVariants as slot
+use Rattle.blk_lists.specs.Tables.{slots_by}
+use Rattle.blk_lists.specs.declared.fields.Slot.TheVariants as slot
 use Rattle.blk_text.specs.declared.script.Word.{Word}
 use Rattle.blk_text.proofs.script.step_slots.Goals as goal
 

@@ -3,7 +3,7 @@ use Rattle.blk_text.specs.BioRecord.{bio_row}
 use Rattle.blk_text.specs.TraceRecords.{word_row, BioFits}
 use Rattle.std.proofs.lemmas.List.{take_all}
 use Rattle.blk_text.proofs.TraceLemmas.{one_fits}
-use Rattle.blk_text.proofs.DraftLemmas.{one_more, whole}
+use Rattle.blk_lists.proofs.DraftLemmas.{one_more, whole}
 use Rattle.drafts.specs.Drafts.{drafted}
 use Rattle.blk_text.proofs.trace.push_group.Goals as goal
 

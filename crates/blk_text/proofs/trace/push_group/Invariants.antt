@@ -2,7 +2,7 @@ use Rattle.std.proofs.Common.{[], ◌∷◌, decimal, length, take}
 use Rattle.std.specs.Prelude.{All}
 use Rattle.blk_text.specs.BioRecord.{bio_row}
 use Rattle.blk_text.specs.TraceRecords.{word_row, BioFits}
-use Rattle.blk_text.proofs.DraftLemmas.{IsSoFar}
+use Rattle.blk_lists.proofs.DraftLemmas.{IsSoFar}
 use Rattle.drafts.specs.Drafts.{drafted}
 use Rattle.blk_text.proofs.trace.push_group.Given as goal
 

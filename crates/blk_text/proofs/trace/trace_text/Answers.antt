@@ -2,7 +2,7 @@ use Rattle.std.proofs.Common.{◌∷◌, [], length, arith}
 use Rattle.blk_trace.specs.Seen.{happened}
 use Rattle.blk_text.specs.SetupRecord.{setup_row}
 use Rattle.blk_text.specs.TraceRecords.{event_rows, title_row, EventFits}
-use Rattle.blk_text.proofs.DraftLemmas.{one_more, two_first}
+use Rattle.blk_lists.proofs.DraftLemmas.{one_more, two_first}
 use Rattle.std.proofs.lemmas.List.Elements.{All-nil}
 use Rattle.blk_text.proofs.TraceLemmas.{all_events, few_at, one_fits, all_fit, if_ok}
 use Rattle.drafts.specs.Drafts.{drafted}

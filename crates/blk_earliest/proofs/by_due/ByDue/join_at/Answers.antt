@@ -1,5 +1,5 @@
 use Rattle.std.specs.BTreeSet.{contains}
-use Rattle.blk_sched.specs.Inside.Pairs.{pair_cmp}
+use Rattle.blk_index.specs.Inside.Pairs.{pair_cmp}
 use Rattle.blk_earliest.proofs.Dues.{joined_due}
 use Rattle.blk_earliest.proofs.by_due.ByDue.join_at.Goals as goal
 

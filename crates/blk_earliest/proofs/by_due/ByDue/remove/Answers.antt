@@ -1,7 +1,7 @@
 use Rattle.std.proofs.Common.{◌≡◌, Some, sym, ◌∙◌}
 use Rattle.std.specs.BTreeSet.{contains}
 use Rattle.std.specs.FinMap as map
-use Rattle.blk_sched.specs.Inside.Pairs.{pair_cmp}
+use Rattle.blk_index.specs.Inside.Pairs.{pair_cmp}
 use Rattle.blk_earliest.proofs.Dues.{absent_due, left_due}
 use Rattle.blk_earliest.proofs.by_due.ByDue.remove.Goals as goal
 

@@ -1,10 +1,10 @@
 use Rattle.std.proofs.Common.{refl, inl, inr, codes, subst}
 use Rattle.csv.specs.Records.{fields_of}
-use Rattle.blk_text.specs.Fields.{FieldsSpell, Lacks}
+use Rattle.blk_lists.specs.Fields.{FieldsSpell, Lacks}
 use Rattle.blk_text.specs.TraceForm.{trace_cells, IsTraceTitle}
 use Rattle.blk_text.specs.Versions.{latest}
 use Rattle.blk_text.proofs.EventLaws.{title_fits, title_slots}
-use Rattle.blk_text.proofs.TableLaws.{title_line}
+use Rattle.blk_lists.proofs.TableLaws.{title_line}
 use Rattle.blk_text.proofs.events.TraceTitleFormLineForm.line.Goals as goal
 
 pub returns-in-Ok-clause-ok : goal.returns-in-Ok-clause-ok

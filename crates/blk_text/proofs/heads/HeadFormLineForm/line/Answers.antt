@@ -2,7 +2,7 @@ use Rattle.std.proofs.Common.{◌∙◌, sym}
 use Rattle.csv.specs.Records.{fields_of}
 use Rattle.blk_text.specs.TraceForm.{word_of}
 use Rattle.blk_text.proofs.HeadLaws.{no_head, head_lacks, word_long}
-use Rattle.blk_text.proofs.TableLaws.{begins}
+use Rattle.blk_lists.proofs.TableLaws.{begins}
 use Rattle.blk_text.proofs.heads.HeadFormLineForm.line.Goals as goal
 
 pub returns-in_default-clause-err : goal.returns-in_default-clause-err

@@ -1,10 +1,10 @@
 use Rattle.std.proofs.Common.{arith, refl, inl, inr, codes, subst}
 use Rattle.csv.specs.Records.{fields_of}
-use Rattle.blk_text.specs.Fields.{FieldsSpell, Lacks}
+use Rattle.blk_lists.specs.Fields.{FieldsSpell, Lacks}
 use Rattle.blk_text.specs.Script.{script_cells, IsTitle}
 use Rattle.blk_text.specs.Versions.{latest}
 use Rattle.blk_text.proofs.ScriptLaws.{title_fits, title_slots}
-use Rattle.blk_text.proofs.TableLaws.{title_line}
+use Rattle.blk_lists.proofs.TableLaws.{title_line}
 use Rattle.blk_text.proofs.script.TitleFormLineForm.line.Goals as goal
 
 pub returns-then-title-clause-err : goal.returns-then-title-clause-err

@@ -4,7 +4,7 @@ use Rattle.std.proofs.lemmas.List.{map-append}
 use Rattle.std.specs.HashMap as hash
 use Rattle.edd_check.specs.declared.Command.{Command}
 use Rattle.blk_trace.specs.declared.event.Event.TheVariants.{Issue}
-use Rattle.blk_trace.specs.declared.rule.TraceRule.TheVariants as rule
+use Rattle.blk_bio.specs.declared.rule.TraceRule.TheVariants as rule
 use Rattle.blk_trace.specs.Happened.{Happened, Issued}
 use Rattle.blk_trace.specs.Events.{round_of}
 use Rattle.blk_trace.specs.Depths.{depth_now}

@@ -8,7 +8,7 @@ use Rattle.blk_bio.specs.Requests.{Fits}
 use Rattle.blk_bio.specs.declared.request.Side.{Side}
 use Rattle.blk_trace.specs.declared.known.Known.TheVariants.{Waits}
 use Rattle.blk_trace.specs.declared.event.Event.TheVariants.{Join}
-use Rattle.blk_trace.specs.declared.rule.TraceRule.TheVariants as rule
+use Rattle.blk_bio.specs.declared.rule.TraceRule.TheVariants as rule
 use Rattle.blk_trace.specs.Happened.{Happened, Joined}
 use Rattle.blk_trace.specs.Events.{request_of}
 use Rattle.blk_trace.specs.Legal.{IsLegalTrace}

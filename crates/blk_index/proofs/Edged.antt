@@ -1,0 +1,164 @@
+-- The edges of requests, as these come, go and are joined.
+use Rattle.std.proofs.Common.{◌≡◌, ◌≤◌, ℕ, true, false, cond, sym, ap, subst, ◌∙◌, refl, arith, Some, None, Option}
+use Rattle.std.specs.Prelude.{IsSome}
+use Rattle.std.specs.Ordering.{nat_cmp, is_eq}
+use Rattle.std.specs.Cmp.{nat_cmp_total, tied_itself}
+use Rattle.std.specs.BTreeMap.{is_at}
+use Rattle.blk_bio.specs.declared.extent.Extent.{Extent}
+use Rattle.blk_bio.specs.Requests.{sectors_of}
+use Rattle.blk_bio.specs.Extents.{extent_of}
+use Rattle.blk_sched.specs.Meaning.{Waiting}
+use Rattle.blk_sched.specs.Maps.{same_number}
+use Rattle.blk_index.specs.declared.spots.Head.{Head}
+use Rattle.blk_index.specs.Inside.Spots.{Place, Spot, Adds, TakesOne, Keeps, AreSpots, is_placed, first_at, end_at}
+use Rattle.blk_index.specs.Inside.Heads.{Becomes, is_head, spots_of, HasHeads, Lowers, KeepsLeast, IsEdge}
+use Rattle.blk_index.specs.declared.spots.Edges.{Edges}
+use Rattle.blk_index.specs.Inside.Edges.{heads_in, others_in, IsEdges}
+use Rattle.blk_index.proofs.Listed.{undone}
+use Rattle.blk_index.proofs.Indexed.{Found, entered, taken, stayed, kept}
+use Rattle.blk_index.proofs.Order.{standing}
+use Rattle.blk_index.proofs.Spotted.{Heads, Others, head_there, nothing, added_there}
+
+-- the head at the sector of a request
+pub head_at : (at : Extent → Place) (found : Found) (heads : Heads) (others : Others) (k : ℕ) (w : Waiting) → IsEdge at found heads others → found k ≡ Some w → IsSome (heads (at (extent_of w.bios)).1)
+head_at at found heads others k w edge there = head_there heads others (at (extent_of w.bios), k) edge.headed (standing at found (spots_of heads others) k w edge.spots there)
+
+pub some_head : (o : Option Head) → IsSome o → (h : Head) × (o ≡ Some h)
+some_head None s = cc
+some_head (Some h) s = (h, refl)
+
+-- what was said of the fewest sectors is so still, where a spot was put in
+still_least : (at : Extent → Place) (found : Found) (heads mid : Heads) (others : Others) (sector sectors k : ℕ) (w : Waiting) (h : Head) → IsEdge at found heads others → Lowers heads sector sectors mid → found k ≡ Some w → mid (at (extent_of w.bios)).1 ≡ Some h → h.least ≤ sectors_of w.bios
+still_least at found heads mid others sector sectors k w h edge lowers there is =
+    let g = some_head (heads (at (extent_of w.bios)).1) (head_at at found heads others k w edge there) in
+    let low : h.least ≤ g.0.least = (lowers (at (extent_of w.bios)).1 h is).1 g.0 g.1 in
+    let before : g.0.least ≤ sectors_of w.bios = edge.least k w g.0 there g.1 in
+    omega arith
+
+-- at one id, and at the others
+by_id : (P : Waiting → Type 0) (old new : Found) (id : ℕ) (x : Option Waiting) (k : ℕ) (w : Waiting) → Becomes old id x new → new k ≡ Some w → (x ≡ Some w → P w) → (old k ≡ Some w → P w) → P w
+by_id P old new id x k w becomes there one other =
+    elim (is_at (nat_cmp id) k) as (λ b. cond b x (old k) ≡ Some w → P w) [
+      | true ↦ λ h. one h
+      | false ↦ λ h. other h
+    ] (sym (becomes k) ∙ there)
+
+-- the one of the id, which is not the id's
+apart : (old new : Found) (id : ℕ) (k : ℕ) (w : Waiting) → Becomes old id None new → new k ≡ Some w → old k ≡ Some w
+apart old new id k w becomes there = by_id (λ v. old k ≡ Some v) old new id None k w becomes there (λ h. absurd (cc)) (λ h. h)
+
+module _ (at : Extent → Place) (old new : Found) (id : ℕ) (heads now : Heads) (others after : Others) where
+  -- a request more
+  pub edge_entered : (w : Waiting) (spot : Spot) (sectors : ℕ) → IsEdge at old heads others → old id ≡ None → spot ≡ (at (extent_of w.bios), id) → sectors ≡ sectors_of w.bios → Adds (spots_of heads others) spot (spots_of now after) → (HasHeads heads others → HasHeads now after) → Lowers heads spot.0.1 sectors now → Becomes old id (Some w) new → IsEdge at new now after
+  edge_entered w spot sectors edge none is has adds headed lowers becomes = record {
+    spots = entered at old new id (spots_of heads others) (spots_of now after) w edge.spots none (subst (λ (q : Spot). Adds (spots_of heads others) q (spots_of now after)) is adds) becomes;
+    headed = headed edge.headed;
+    least = λ k v h there said. by_id (λ u. now (at (extent_of u.bios)).1 ≡ Some h → h.least ≤ sectors_of u.bios) old new id (Some w) k v becomes there
+        (λ own here.
+        let same : w ≡ v = cc in
+        let place : (at (extent_of v.bios)).1 ≡ spot.0.1 = ap (λ (u : Waiting). (at (extent_of u.bios)).1) (sym same) ∙ ap (λ (q : Spot). q.0.1) (sym is) in
+        let low : h.least ≤ sectors = (lowers (at (extent_of v.bios)).1 h here).0 place in
+        let size : sectors ≡ sectors_of v.bios = has ∙ ap (λ (u : Waiting). sectors_of u.bios) same in
+        omega (arith, low, size))
+        (λ was here. still_least at old heads now others spot.0.1 sectors k v h edge lowers was here) said;
+  }
+
+  -- a request less
+  pub edge_taken : (w : Waiting) (spot : Spot) → IsEdge at old heads others → old id ≡ Some w → spot ≡ (at (extent_of w.bios), id) → TakesOne (spots_of heads others) spot (spots_of now after) → (HasHeads heads others → HasHeads now after) → KeepsLeast heads now → Becomes old id None new → IsEdge at new now after
+  edge_taken w spot edge found is takes headed keeps becomes = record {
+    spots = taken at old new id (spots_of heads others) (spots_of now after) w edge.spots found (subst (λ (q : Spot). TakesOne (spots_of heads others) q (spots_of now after)) is takes (standing at old (spots_of heads others) id w edge.spots found)) becomes;
+    headed = headed edge.headed;
+    least = λ k v h there said.
+        let g = keeps (at (extent_of v.bios)).1 h said in
+        let before : g.0.least ≤ sectors_of v.bios = edge.least k v g.0 (apart old new id k v becomes there) g.1 in
+        let same : h.least ≡ g.0.least = g.2 in
+        omega (arith, before, same);
+  }
+
+  -- nothing is changed
+  pub edge_kept : IsEdge at old heads others → ((k : ℕ) → new k ≡ old k) → ((k : ℕ) → now k ≡ heads k) → Keeps others after → IsEdge at new now after
+  edge_kept edge same heads_same others_same = record {
+    spots = kept at old new (spots_of heads others) (spots_of now after) edge.spots same
+        (λ q. ap (λ o. cond (is_head o q) true (after q)) (heads_same q.0.1) ∙ ap (cond (is_head (heads q.0.1) q) true) (others_same q));
+    headed = λ q there. subst IsSome (sym (heads_same q.0.1)) (edge.headed q (sym (others_same q) ∙ there));
+    least = λ k w h there said. edge.least k w h (sym (same k) ∙ there) (sym (heads_same (at (extent_of w.bios)).1) ∙ said);
+  }
+
+-- a request grows at its other side
+pub edge_stayed : (at : Extent → Place) (old new : Found) (id : ℕ) (heads : Heads) (others : Others) (v w : Waiting) → IsEdge at old heads others → old id ≡ Some v → at (extent_of v.bios) ≡ at (extent_of w.bios) → sectors_of v.bios ≤ sectors_of w.bios → Becomes old id (Some w) new → IsEdge at new heads others
+edge_stayed at old new id heads others v w edge found same grows becomes = record {
+  spots = stayed at old new id (spots_of heads others) v w edge.spots found same becomes;
+  headed = edge.headed;
+  least = λ k u h there said. by_id (λ x. heads (at (extent_of x.bios)).1 ≡ Some h → h.least ≤ sectors_of x.bios) old new id (Some w) k u becomes there
+      (λ own here.
+      let one : w ≡ u = cc in
+      let before : h.least ≤ sectors_of v.bios = edge.least id v h found (ap (λ (p : Place). heads p.1) same ∙ ap (λ (x : Waiting). heads (at (extent_of x.bios)).1) one ∙ here) in
+      let size : sectors_of w.bios ≡ sectors_of u.bios = ap (λ (x : Waiting). sectors_of x.bios) one in
+      omega (arith, before, size, grows))
+      (λ was here. edge.least k u h was here) said;
+}
+
+-- ---- a spot is put in and another taken out
+
+module _ (at : Extent → Place) (old new : Found) (id : ℕ) (heads mid now : Heads) (others more after : Others) (spot : Spot) (sectors : ℕ) (edge : IsEdge at old heads others)
+    (headed : HasHeads heads others → HasHeads mid more) (lowers : Lowers heads spot.0.1 sectors mid) (headed_then : HasHeads mid more → HasHeads now after) (keeps : KeepsLeast mid now) where
+  -- those of the other requests are as before
+  others_least : (k : ℕ) (v : Waiting) (h : Head) → old k ≡ Some v → now (at (extent_of v.bios)).1 ≡ Some h → h.least ≤ sectors_of v.bios
+  others_least k v h there said =
+      let g = keeps (at (extent_of v.bios)).1 h said in
+      let before : g.0.least ≤ sectors_of v.bios = still_least at old heads mid others spot.0.1 sectors k v g.0 edge lowers there g.1 in
+      let same : h.least ≡ g.0.least = g.2 in
+      omega (arith, before, same)
+
+  -- the request of the id lies at the spot after
+  pub edge_moved : (w : Waiting) → AreSpots at new (spots_of now after) → spot.0 ≡ at (extent_of w.bios) → sectors ≡ sectors_of w.bios → Becomes old id (Some w) new → IsEdge at new now after
+  edge_moved w spots place has becomes = record {
+    spots = spots;
+    headed = headed_then (headed edge.headed);
+    least = λ k v h there said. by_id (λ u. now (at (extent_of u.bios)).1 ≡ Some h → h.least ≤ sectors_of u.bios) old new id (Some w) k v becomes there
+        (λ own here.
+        let one : w ≡ v = cc in
+        let g = keeps (at (extent_of v.bios)).1 h here in
+        let at_spot : (at (extent_of v.bios)).1 ≡ spot.0.1 = ap (λ (u : Waiting). (at (extent_of u.bios)).1) (sym one) ∙ ap (λ (p : Place). p.1) (sym place) in
+        let low : g.0.least ≤ sectors = (lowers (at (extent_of v.bios)).1 g.0 g.1).0 at_spot in
+        let same : h.least ≡ g.0.least = g.2 in
+        let size : sectors ≡ sectors_of v.bios = has ∙ ap (λ (u : Waiting). sectors_of u.bios) one in
+        omega (arith, low, same, size))
+        (λ was here. others_least k v h was here) said;
+  }
+
+  -- the same spot is taken out again
+  pub edge_undone : Adds (spots_of heads others) spot (spots_of mid more) → TakesOne (spots_of mid more) spot (spots_of now after) → spots_of heads others spot ≡ false → ((k : ℕ) → new k ≡ old k) → IsEdge at new now after
+  edge_undone adds takes none same = record {
+    spots = kept at old new (spots_of heads others) (spots_of now after) edge.spots same (undone (spots_of heads others) (spots_of mid more) (spots_of now after) spot adds (takes (added_there (spots_of heads others) (spots_of mid more) spot adds)) none);
+    headed = headed_then (headed edge.headed);
+    least = λ k v h there said. others_least k v h (sym (same k) ∙ there) said;
+  }
+
+-- no requests
+pub edge_empty : (at : Extent → Place) (found : Found) (heads : Heads) (others : Others) → ((k : ℕ) → found k ≡ None) → ((k : ℕ) → heads k ≡ None) → ((q : Spot) → others q ≡ false) → IsEdge at found heads others
+edge_empty at found heads others none no_head no_other = record {
+  spots = λ p id. nothing heads others no_head no_other (p, id) ∙ ap (is_placed at p) (sym (none id));
+  headed = λ q there. absurd (let a : true ≡ false = sym there ∙ no_other q in cc);
+  least = λ k w h there said. absurd (let a : None ≡ Some w = sym (none k) ∙ there in cc);
+}
+
+pub edges_kept : {A : Type 0} (old new : Found) (e : Edges A) → IsEdges old e → ((k : ℕ) → new k ≡ old k) → IsEdges new e
+edges_kept old new e edges same = record {
+  firsts = edge_kept first_at old new 0 (heads_in e.firsts) (heads_in e.firsts) (others_in e.firsts) (others_in e.firsts) edges.firsts same (λ k. refl) (λ q. refl);
+  ends = edge_kept end_at old new 0 (heads_in e.ends) (heads_in e.ends) (others_in e.ends) (others_in e.ends) edges.ends same (λ k. refl) (λ q. refl);
+}
+
+-- ---- found for a while, and after no more
+
+abbrev pub with_one : Found → ℕ → Waiting → Found
+with_one found id w k = cond (is_at (nat_cmp id) k) (Some w) (found k)
+
+pub here : (found : Found) (id : ℕ) (w : Waiting) → with_one found id w id ≡ Some w
+here found id w = ap (λ b. cond b (Some w) (found id)) (ap is_eq (tied_itself nat_cmp_total id))
+
+pub becomes_back : (found : Found) (id : ℕ) (w : Waiting) → found id ≡ None → Becomes (with_one found id w) id None found
+becomes_back found id w none k = elim (is_at (nat_cmp id) k) as (λ b. is_at (nat_cmp id) k ≡ b → found k ≡ cond b None (cond b (Some w) (found k))) [
+  | true ↦ λ e. ap found (same_number id k e) ∙ none
+  | false ↦ λ _. refl
+] refl

@@ -1,0 +1,13 @@
+use Rattle.std.proofs.Common.{◌≡◌, ℕ, Some}
+use Rattle.blk_bio.specs.Requests.{Fits}
+use Rattle.blk_sched.specs.Meaning.{Waiting}
+use Rattle.blk_index.specs.Index.{IsPassed, count_below}
+use Rattle.blk_index.specs.Lanes.{waiting_at}
+use Rattle.blk_index.proofs.lane.newest_of.Given as goal
+
+-- the newcomer fits none of the requests that were passed
+abbrev pub invariant-loop-id : goal.invariant-loop-id
+invariant-loop-id g l = (k : ℕ) (w : Waiting) → IsPassed l.below k → waiting_at l.entries.items k ≡ Some w → Fits l.limits w.bios l.newcomer l.side → ⊥
+
+abbrev pub decreases-loop-id : goal.decreases-loop-id
+decreases-loop-id g l = count_below l.below

@@ -1,0 +1,126 @@
+//! Requests in the order of their first sectors.
+
+ghost use Rattle.std.specs.Prelude.{◌≡◌, ◌<◌, ℕ, Option, None, Some, true, false, IfOk, OnOk, OnErr, IfSome, IfNone};
+ghost use Rattle.std.specs.Ordering.{is_gt};
+ghost use Rattle.std.specs.BTreeSet.{contains};
+ghost use Rattle.std.specs.declared.cmp.Ordering.TheVariants.{Less};
+ghost use Rattle.blk_sched.specs.Meaning.{Waiting};
+ghost use Rattle.blk_index.specs.Index.{IsNext, NoNext};
+ghost use Rattle.blk_index.specs.Inside.Spots.{Spot, AreSpots, Adds, Takes, Keeps, first_at};
+ghost use Rattle.blk_index.specs.Inside.Orders.{pair_cmp, PairAdded, PairTaken, PairsKept, IsNextPair, NoPair, order_in};
+
+use crate::spots::Spot;
+use crate::starts::Start;
+use blk_bio::Dir;
+use std::alloc::{AllocError, Allocator, Global};
+use std::collections::BTreeSet;
+use std::ops::Bound;
+
+/// The first sectors of the requests of each direction, with their ids, in order.
+#[derive(Drop)]
+pub struct Order<A: Allocator = Global> {
+    /// Those of reads.
+    pub reads: BTreeSet<Start, A>,
+    /// Those of writes.
+    pub writes: BTreeSet<Start, A>,
+}
+
+impl<A: Allocator + Clone> Order<A> {
+    /// No requests. It takes no memory but for the allocators.
+    pub fn new(alloc: A) -> Result<Order<A>, AllocError>
+        ensures { IfOk result (λ order. (q : Spot) → order_in order q ≡ false) }
+    {
+        Ok(Order {
+            reads: BTreeSet::new(alloc.clone()?),
+            writes: BTreeSet::new(alloc),
+        })
+    }
+
+    /// Puts a spot in. On a refusal nothing is changed.
+    #[inline(always)]
+    pub fn put(&mut self, spot: Spot) -> Result<(), AllocError>
+        ensures ok { OnOk result (Adds (order_in self.old) spot (order_in self.new)) }
+        ensures same { OnErr result (Keeps (order_in self.old) (order_in self.new)) }
+    {
+        let ((write, first), id) = spot;
+        if write {
+            put_pair(&mut self.writes, (first, id))
+        } else {
+            put_pair(&mut self.reads, (first, id))
+        }
+    }
+
+    /// Takes a spot out. It takes no memory.
+    #[inline(always)]
+    pub fn take(&mut self, spot: Spot)
+        ensures { Takes (order_in self.old) spot (order_in self.new) }
+    {
+        let ((write, first), id) = spot;
+        if write {
+            take_pair(&mut self.writes, (first, id));
+        } else {
+            take_pair(&mut self.reads, (first, id));
+        }
+    }
+
+    /// Of a direction's requests with their first sectors and ids the least that is above `first` and `last`.
+    #[inline(always)]
+    pub fn next(&self, dir: Dir, first: u64, last: u64) -> Option<u64>
+        ensures some { IfSome result (λ id. (found : ℕ → Option Waiting) → AreSpots first_at found (order_in self.now) → IsNext dir first last found id) }
+        ensures none { IfNone result ((found : ℕ → Option Waiting) → AreSpots first_at found (order_in self.now) → NoNext dir first last found) }
+    {
+        match dir {
+            Dir::Read => next_id(&self.reads, first, last),
+            Dir::Write => next_id(&self.writes, first, last),
+        }
+    }
+}
+
+/// Puts a pair in. On a refusal nothing is changed.
+#[inline(always)]
+fn put_pair<A: Allocator + Clone>(
+    pairs: &mut BTreeSet<Start, A>,
+    pair: (u64, u64),
+) -> Result<(), AllocError>
+    ensures ok { OnOk result (PairAdded (contains pair_cmp pairs.old) pair (contains pair_cmp pairs.new)) }
+    ensures same { OnErr result (PairsKept (contains pair_cmp pairs.old) (contains pair_cmp pairs.new)) }
+{
+    let (first, id) = pair;
+    pairs.insert(Start { first, id })?;
+    Ok(())
+}
+
+/// Takes a pair out.
+#[inline(always)]
+fn take_pair<A: Allocator + Clone>(pairs: &mut BTreeSet<Start, A>, pair: (u64, u64))
+    ensures { PairTaken (contains pair_cmp pairs.old) pair (contains pair_cmp pairs.new) }
+{
+    let (first, id) = pair;
+    let _ = pairs.remove(&Start { first, id });
+}
+
+/// The id of the least pair above another.
+fn next_id<A: Allocator + Clone>(pairs: &BTreeSet<Start, A>, first: u64, last: u64) -> Option<u64>
+    ensures some { IfSome result (IsNextPair (contains pair_cmp pairs.now) (first, last)) }
+    ensures none { IfNone result (NoPair (contains pair_cmp pairs.now) (first, last)) }
+{
+    let (_, id) = next_pair(pairs, (first, last))?;
+    Some(id)
+}
+
+/// The least pair above another.
+fn next_pair<A: Allocator + Clone>(
+    pairs: &BTreeSet<Start, A>,
+    lower: (u64, u64),
+) -> Option<(u64, u64)>
+    ensures there { IfSome result (λ p. contains pair_cmp pairs.now p ≡ true) }
+    ensures high { IfSome result (λ p. pair_cmp lower p ≡ Less) }
+    ensures least { IfSome result (λ p. (q : ℕ × ℕ) → pair_cmp lower q ≡ Less → contains pair_cmp pairs.now q ≡ true → is_gt (pair_cmp p q) ≡ false) }
+    ensures none { IfNone result ((q : ℕ × ℕ) → pair_cmp lower q ≡ Less → contains pair_cmp pairs.now q ≡ false) }
+{
+    let (first, id) = lower;
+    let found = pairs
+        .range((Bound::Excluded(Start { first, id }), Bound::Unbounded))
+        .next()?;
+    Some((found.first, found.id))
+}

@@ -1,0 +1,354 @@
+//! Requests that wait, by their ids and by where they begin and end.
+
+ghost use Rattle.std.specs.Prelude.{◌≡◌, ◌<◌, ◌≤◌, ◌^◌, ◌+◌, ◌↔◌, ℕ, Option, None, Some, true, false, IfOk, OnOk, IfErr, OnErr, IfSome, IfNone, IsSome, IsTrue};
+ghost use Rattle.std.specs.Option.{OnSome, option_copied};
+ghost use Rattle.std.specs.FinMap as map;
+ghost use Rattle.blk_bio.specs.declared.request.Side.{Side};
+ghost use Rattle.blk_sched.specs.Meaning.{Waiting, joined_waiting};
+ghost use Rattle.blk_sched.specs.Fits.{IsNewestFit, FitsNone, HasFit, FitsAt, FitsNowhere};
+ghost use Rattle.blk_bio.specs.Bios.{sector_limit};
+ghost use Rattle.blk_bio.specs.Extents.{extent_of};
+ghost use Rattle.blk_bio.specs.Requests.{Fits, sectors_of};
+ghost use Rattle.std.specs.Prelude.{nat_lt};
+ghost use Rattle.std.specs.Bool.{OnTrue, OnFalse};
+ghost use Rattle.blk_index.specs.Inside.Heads.{IsEdge};
+ghost use Rattle.blk_index.specs.Inside.Edges.{heads_in, others_in};
+ghost use Rattle.blk_index.specs.Index.{IsNewestBy, FitsNoneBy, FitsBy, IsJoined, at_of, touch_of, newer_of, IsOldest, NoneOf};
+
+use crate::ages::Ages;
+use crate::shelf::Shelf;
+use crate::spots::{Edges, Spot, Spots, end_spot, first_spot, is_write};
+use blk_bio::{Dir, Extent, Limits, Request, Side};
+use blk_sched::Queued;
+use std::alloc::{AllocError, Allocator, Global};
+use std::marker::Model;
+
+/// Requests that wait, found by their ids, by where they begin and by where they end, and the ids of each direction in order.
+#[derive(Drop)]
+pub struct Index<A: Allocator = Global> {
+    waiting: Shelf<A>,
+    edges: Edges<A>,
+    ages: Ages<A>,
+}
+
+impl<A: Allocator> Model for Index<A> {
+    ghost use Rattle.std.specs.Coded.{coded_ℕ};
+    ghost use Rattle.std.specs.FinMap.{get, code};
+    ghost use Rattle.blk_sched.specs.Meaning.{Pending, waiting_code};
+    ghost use Rattle.blk_index.specs.Inside.Ages.{AreAges};
+    ghost use Rattle.blk_index.specs.Inside.Edges.{IsEdges};
+    ghost use Rattle.blk_index.specs.Index.{IsNamed};
+
+    ghost Value = { Pending };
+
+    ghost coded = { code coded_ℕ waiting_code };
+
+    ghost view = { λ s. s.waiting };
+
+    ghost invariant = { λ s. IsNamed (get s.waiting) × IsEdges (get s.waiting) s.edges × AreAges (get s.waiting) s.ages };
+}
+
+impl<A: Allocator + Clone> Index<A> {
+    /// No requests.
+    pub fn new(alloc: A) -> Result<Index<A>, AllocError>
+        ensures { IfOk result (λ s. s ≡ map.empty) }
+    {
+        Ok(Index {
+            waiting: Shelf::new(alloc.clone()?)?,
+            edges: Edges::new(alloc.clone()?)?,
+            ages: Ages::new(alloc)?,
+        })
+    }
+
+    /// How many requests wait.
+    pub fn len(&self) -> usize
+        ensures len { result ≡ map.len self.now }
+        ensures named { (k : ℕ) (w : Waiting) → map.get self.now k ≡ Some w → w.id ≡ k }
+    {
+        self.waiting.len()
+    }
+
+    /// The request of an id.
+    pub fn get(&self, id: u64) -> Option<&Queued<A>>
+        ensures value { option_copied result ≡ map.get self.now id }
+        ensures named { (k : ℕ) (w : Waiting) → map.get self.now k ≡ Some w → w.id ≡ k }
+    {
+        self.waiting.get(id)
+    }
+
+    /// Adds a request whose id isn't there. Refused for want of memory alone: nothing is changed then, and the
+    /// request comes back.
+    #[inline(always)]
+    pub fn insert(&mut self, queued: Queued<A>) -> Result<(), Queued<A>>
+        requires { map.get self.old queued.id ≡ None }
+        ensures ok { OnOk result (self.new ≡ map.insert self.old queued.id queued) }
+        ensures err { IfErr result (λ q. q ≡ queued) }
+        ensures same { OnErr result (self.new ≡ self.old) }
+    {
+        let id = id_of(&queued);
+        let extent = extent_of(&queued);
+        let sectors = sectors_of(&queued);
+        let Ok(()) = self.ages.enter(extent.dir, id) else {
+            return Err(queued);
+        };
+        let Ok(()) = self.edges.enter(extent, sectors, id) else {
+            self.ages.leave(&self.waiting, extent.dir, id);
+            return Err(queued);
+        };
+        match self.waiting.insert(queued) {
+            Ok(()) => Ok(()),
+            Err(queued) => {
+                self.edges.leave(extent, id);
+                self.ages.leave(&self.waiting, extent.dir, id);
+                Err(queued)
+            }
+        }
+    }
+
+    /// Takes out the request of an id. It takes no memory.
+    #[inline(always)]
+    pub fn remove(&mut self, id: u64) -> Option<Queued<A>>
+        ensures value { result ≡ map.get self.old id }
+        ensures named { (k : ℕ) (w : Waiting) → map.get self.old k ≡ Some w → w.id ≡ k }
+        ensures removed { self.new ≡ map.remove self.old id }
+    {
+        let Some(queued) = self.waiting.remove(id) else {
+            return None;
+        };
+        let extent = extent_of(&queued);
+        self.edges.leave(extent, id);
+        self.ages.leave(&self.waiting, extent.dir, id);
+        Some(queued)
+    }
+
+    /// The newest request that a newcomer fits, by its id, and the side. The front is tried only where `front` allows
+    /// it. Only requests that the newcomer touches are looked at, and none of these where each has too many sectors.
+    #[inline(always)]
+    pub fn candidate(
+        &self,
+        newcomer: &Request<A>,
+        limits: &Limits,
+        front: bool,
+    ) -> Option<(u64, Side)>
+        ensures some { IfSome result (λ r. IsNewestFit limits.now front (map.get self.now) newcomer.now r.0 r.1) }
+        ensures none { IfNone result (FitsNone limits.now front (map.get self.now) newcomer.now) }
+    {
+        let back = newest_of(
+            &self.waiting,
+            &self.edges.ends,
+            Side::Back,
+            newcomer,
+            limits,
+        );
+        let ahead = newest_ahead(&self.waiting, &self.edges.firsts, front, newcomer, limits);
+        newer(back, ahead)
+    }
+
+    /// The least id of a direction.
+    pub fn oldest(&self, dir: Dir) -> Option<u64>
+        ensures some { IfSome result (IsOldest dir (map.get self.now)) }
+        ensures none { IfNone result (NoneOf dir (map.get self.now)) }
+    {
+        self.ages.first(dir)
+    }
+
+    /// Joins a newcomer to the request of an id, which it fits at the side, in the round `now`. Refused for want of
+    /// memory alone: nothing is changed then, and the newcomer comes back.
+    pub fn join_at(
+        &mut self,
+        id: u64,
+        side: Side,
+        now: u64,
+        limits: &Limits,
+        newcomer: Request<A>,
+    ) -> Result<(), Request<A>>
+        requires { HasFit limits.now (map.get self.old) newcomer id side }
+        ensures joined { OnOk result (IsJoined now newcomer self.old id side self.new) }
+        ensures err { IfErr result (λ e. e ≡ newcomer) }
+        ensures same { OnErr result (self.new ≡ self.old) }
+    {
+        let Edges { firsts, ends } = &mut self.edges;
+        match side {
+            Side::Back => join_in(&mut self.waiting, ends, id, side, now, limits, newcomer),
+            Side::Front => join_in(&mut self.waiting, firsts, id, side, now, limits, newcomer),
+        }
+    }
+}
+
+/// Where a newcomer touches the requests that it may join at a side.
+pub fn touched<A: Allocator + Clone>(side: Side, newcomer: &Request<A>) -> (bool, u64)
+    ensures value { result ≡ touch_of side (extent_of newcomer.now) }
+    ensures low { result.1 < 2 ^ 63 }
+{
+    let first = newcomer.first();
+    let end = first + newcomer.sectors();
+    let write = is_write(newcomer.dir());
+    match side {
+        Side::Back => (write, first),
+        Side::Front => (write, end),
+    }
+}
+
+/// How many sectors a request may have at most for a newcomer to fit it.
+pub fn room_beside<A: Allocator + Clone>(newcomer: &Request<A>, limits: &Limits) -> u64
+    ensures wide { limits.now.max_sectors ≤ result + sectors_of newcomer.now }
+    ensures some { 0 < sectors_of newcomer.now }
+{
+    limits.max_sectors().saturating_sub(newcomer.sectors())
+}
+
+/// Whether a newcomer fits the request of an id at a side.
+fn fits_by<A: Allocator + Clone>(
+    waiting: &Shelf<A>,
+    id: u64,
+    side: Side,
+    newcomer: &Request<A>,
+    limits: &Limits,
+) -> bool
+    ensures yes { OnTrue result (FitsBy limits.now (map.get waiting.now id) newcomer.now side) }
+    ensures no { OnFalse result ((w : Waiting) → map.get waiting.now id ≡ Some w → Fits limits.now w.bios newcomer.now side → ⊥) }
+{
+    let Some(queued) = waiting.get(id) else {
+        return false;
+    };
+    match queued.request.fits(newcomer, limits) {
+        Some(found) => found == side,
+        None => false,
+    }
+}
+
+/// The newest request that a newcomer fits at a side, where `spots` are the requests' ends at that side.
+#[inline(always)]
+fn newest_of<A: Allocator + Clone>(
+    waiting: &Shelf<A>,
+    spots: &Spots<A>,
+    side: Side,
+    newcomer: &Request<A>,
+    limits: &Limits,
+) -> Option<u64>
+    requires { IsEdge (at_of side) (map.get waiting.now) (heads_in spots.now) (others_in spots.now) }
+    ensures some { IfSome result (IsNewestBy limits.now (map.get waiting.now) newcomer.now side) }
+    ensures none { IfNone result (FitsNoneBy limits.now (map.get waiting.now) newcomer.now side) }
+{
+    let place = touched(side, newcomer);
+    if !spots.may_have(place.1, room_beside(newcomer, limits)) {
+        return None;
+    }
+    let mut below = None;
+    while let Some(id) = spots.newest_at(place, below) {
+        if fits_by(waiting, id, side, newcomer, limits) {
+            return Some(id);
+        }
+        below = Some(id);
+    }
+    None
+}
+
+/// The same at the front, where that is allowed.
+#[inline(always)]
+fn newest_ahead<A: Allocator + Clone>(
+    waiting: &Shelf<A>,
+    firsts: &Spots<A>,
+    front: bool,
+    newcomer: &Request<A>,
+    limits: &Limits,
+) -> Option<u64>
+    requires { IsEdge (at_of Side.Front) (map.get waiting.now) (heads_in firsts.now) (others_in firsts.now) }
+    ensures some { IfSome result (IsNewestBy limits.now (map.get waiting.now) newcomer.now Side.Front) }
+    ensures tried { OnSome result (IsTrue front) }
+    ensures none { IfNone result (IsTrue front → FitsNoneBy limits.now (map.get waiting.now) newcomer.now Side.Front) }
+{
+    if !front {
+        return None;
+    }
+    newest_of(waiting, firsts, Side::Front, newcomer, limits)
+}
+
+/// Of a fit at the back and one at the front the newer.
+pub fn newer(back: Option<u64>, ahead: Option<u64>) -> Option<(u64, Side)>
+    ensures { result ≡ newer_of back ahead }
+{
+    match (back, ahead) {
+        (None, None) => None,
+        (Some(id), None) => Some((id, Side::Back)),
+        (None, Some(id)) => Some((id, Side::Front)),
+        (Some(older), Some(id)) => {
+            if older < id {
+                Some((id, Side::Front))
+            } else {
+                Some((older, Side::Back))
+            }
+        }
+    }
+}
+
+/// Where a request lies at a side.
+pub fn spot_at(side: Side, extent: Extent, id: u64) -> Spot
+    ensures { result ≡ (at_of side extent, id) }
+{
+    match side {
+        Side::Back => end_spot(extent, id),
+        Side::Front => first_spot(extent, id),
+    }
+}
+
+/// Joins a newcomer to the request of an id, where `spots` are the requests' ends at the side.
+fn join_in<A: Allocator + Clone>(
+    waiting: &mut Shelf<A>,
+    spots: &mut Spots<A>,
+    id: u64,
+    side: Side,
+    now: u64,
+    limits: &Limits,
+    newcomer: Request<A>,
+) -> Result<(), Request<A>>
+    requires fit { HasFit limits.now (map.get waiting.old) newcomer id side }
+    requires spots { IsEdge (at_of side) (map.get waiting.old) (heads_in spots.old) (others_in spots.old) }
+    ensures spots { IsEdge (at_of side) (map.get waiting.new) (heads_in spots.new) (others_in spots.new) }
+    ensures joined { OnOk result (IsJoined now newcomer waiting.old id side waiting.new) }
+    ensures err { IfErr result (λ e. e ≡ newcomer) }
+    ensures same { OnErr result (waiting.new ≡ waiting.old) }
+{
+    let sectors = newcomer.sectors();
+    let added = newcomer.extent();
+    let Some(queued) = waiting.get(id) else {
+        unreachable!()
+    };
+    let before = extent_of(queued);
+    let spot = spot_at(side, added, id);
+    let Ok(()) = spots.put(spot, sectors_of(queued) + sectors) else {
+        return Err(newcomer);
+    };
+    match waiting.join(id, newcomer, now, limits) {
+        Ok(_) => {
+            spots.take(spot_at(side, before, id));
+            Ok(())
+        }
+        Err(newcomer) => {
+            spots.take(spot);
+            Err(newcomer)
+        }
+    }
+}
+
+/// The id of a request.
+pub fn id_of<A: Allocator + Clone>(queued: &Queued<A>) -> u64
+    ensures { result ≡ queued.now.id }
+{
+    queued.id
+}
+
+/// How many sectors it has.
+pub fn sectors_of<A: Allocator + Clone>(queued: &Queued<A>) -> u64
+    ensures value { result ≡ sectors_of queued.now.bios }
+    ensures in_range { result ≤ sector_limit }
+{
+    queued.request.sectors()
+}
+
+/// Its extent.
+pub fn extent_of<A: Allocator + Clone>(queued: &Queued<A>) -> Extent
+    ensures { result ≡ extent_of queued.now.bios }
+{
+    queued.request.extent()
+}

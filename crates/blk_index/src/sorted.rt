@@ -1,0 +1,199 @@
+//! Requests that wait, in the order of their first sectors.
+
+ghost use Rattle.std.specs.Prelude.{◌≡◌, ◌<◌, ◌↔◌, ℕ, Option, None, Some, true, false, IfOk, OnOk, IfErr, OnErr, IfSome, IfNone};
+ghost use Rattle.std.specs.Option.{option_copied};
+ghost use Rattle.std.specs.FinMap as map;
+ghost use Rattle.blk_sched.specs.Meaning.{Waiting};
+ghost use Rattle.blk_sched.specs.Fits.{IsNewestFit, FitsNone, HasFit};
+ghost use Rattle.blk_index.specs.Inside.Spots.{AreSpots, first_at};
+ghost use Rattle.blk_index.specs.Inside.Orders.{order_in};
+ghost use Rattle.blk_index.specs.Index.{IsJoined, IsOldest, IsNext, NoneOf, NoNext};
+
+use crate::firsts::Order;
+use crate::index::{Index, extent_of, id_of};
+use crate::spots::first_spot;
+use blk_bio::{Dir, Limits, Request, Side};
+use blk_sched::Queued;
+use std::alloc::{AllocError, Allocator, Global};
+use std::marker::Model;
+
+/// Requests that wait, in an index, and in the order of their directions, first sectors and ids. Seen as the map from ids to
+/// requests.
+#[derive(Drop)]
+pub struct Sorted<A: Allocator = Global> {
+    index: Index<A>,
+    firsts: Order<A>,
+}
+
+impl<A: Allocator> Model for Sorted<A> {
+    ghost use Rattle.std.specs.Coded.{coded_ℕ};
+    ghost use Rattle.std.specs.FinMap.{get, code};
+    ghost use Rattle.blk_sched.specs.Meaning.{Pending, waiting_code};
+    ghost use Rattle.blk_index.specs.Inside.Orders.{order_in};
+    ghost use Rattle.blk_index.specs.Inside.Spots.{AreSpots, first_at};
+
+    ghost Value = { Pending };
+
+    ghost coded = { code coded_ℕ waiting_code };
+
+    ghost view = { λ s. s.index };
+
+    ghost invariant = { λ s. AreSpots first_at (get s.index) (order_in s.firsts) };
+}
+
+impl<A: Allocator + Clone> Sorted<A> {
+    /// No requests.
+    pub fn new(alloc: A) -> Result<Sorted<A>, AllocError>
+        ensures { IfOk result (λ s. s ≡ map.empty) }
+    {
+        Ok(Sorted {
+            index: Index::new(alloc.clone()?)?,
+            firsts: Order::new(alloc)?,
+        })
+    }
+
+    /// How many requests wait.
+    pub fn len(&self) -> usize
+        ensures { result ≡ map.len self.now }
+    {
+        self.index.len()
+    }
+
+    /// The request of an id.
+    pub fn get(&self, id: u64) -> Option<&Queued<A>>
+        ensures value { option_copied result ≡ map.get self.now id }
+        ensures named { (k : ℕ) (w : Waiting) → map.get self.now k ≡ Some w → w.id ≡ k }
+    {
+        self.index.get(id)
+    }
+
+    /// Adds a request whose id isn't there. Refused for want of memory alone: nothing is changed then, and the
+    /// request comes back.
+    #[inline(always)]
+    pub fn insert(&mut self, queued: Queued<A>) -> Result<(), Queued<A>>
+        requires { map.get self.old queued.id ≡ None }
+        ensures ok { OnOk result (self.new ≡ map.insert self.old queued.id queued) }
+        ensures err { IfErr result (λ q. q ≡ queued) }
+        ensures same { OnErr result (self.new ≡ self.old) }
+    {
+        let spot = first_spot(extent_of(&queued), id_of(&queued));
+        let Ok(()) = self.firsts.put(spot) else {
+            return Err(queued);
+        };
+        match self.index.insert(queued) {
+            Ok(()) => Ok(()),
+            Err(queued) => {
+                self.firsts.take(spot);
+                Err(queued)
+            }
+        }
+    }
+
+    /// Takes out the request of an id. It takes no memory.
+    #[inline(always)]
+    pub fn remove(&mut self, id: u64) -> Option<Queued<A>>
+        ensures value { result ≡ map.get self.old id }
+        ensures named { (k : ℕ) (w : Waiting) → map.get self.old k ≡ Some w → w.id ≡ k }
+        ensures removed { self.new ≡ map.remove self.old id }
+    {
+        let Some(queued) = self.index.remove(id) else {
+            return None;
+        };
+        self.firsts.take(first_spot(extent_of(&queued), id));
+        Some(queued)
+    }
+
+    /// The newest request that a newcomer fits, by its id, and the side. The front is tried only where `front` allows
+    /// it. Only requests that the newcomer touches are looked at.
+    #[inline(always)]
+    pub fn candidate(
+        &self,
+        newcomer: &Request<A>,
+        limits: &Limits,
+        front: bool,
+    ) -> Option<(u64, Side)>
+        ensures some { IfSome result (λ r. IsNewestFit limits.now front (map.get self.now) newcomer.now r.0 r.1) }
+        ensures none { IfNone result (FitsNone limits.now front (map.get self.now) newcomer.now) }
+    {
+        self.index.candidate(newcomer, limits, front)
+    }
+
+    /// The least id of a direction.
+    pub fn oldest(&self, dir: Dir) -> Option<u64>
+        ensures some { IfSome result (IsOldest dir (map.get self.now)) }
+        ensures none { IfNone result (NoneOf dir (map.get self.now)) }
+    {
+        self.index.oldest(dir)
+    }
+
+    /// Of a direction's requests with their first sectors and ids the least that is above `first` and `last`.
+    #[inline(always)]
+    pub fn next(&self, dir: Dir, first: u64, last: u64) -> Option<u64>
+        ensures some { IfSome result (IsNext dir first last (map.get self.now)) }
+        ensures none { IfNone result (NoNext dir first last (map.get self.now)) }
+        ensures named { (k : ℕ) (w : Waiting) → map.get self.now k ≡ Some w → w.id ≡ k }
+    {
+        let _ = self.index.len();
+        self.firsts.next(dir, first, last)
+    }
+
+    /// Joins a newcomer to the request of an id, which it fits at the side, in the round `now`. Refused for want of
+    /// memory alone: nothing is changed then, and the newcomer comes back.
+    pub fn join_at(
+        &mut self,
+        id: u64,
+        side: Side,
+        now: u64,
+        limits: &Limits,
+        newcomer: Request<A>,
+    ) -> Result<(), Request<A>>
+        requires { HasFit limits.now (map.get self.old) newcomer id side }
+        ensures joined { OnOk result (IsJoined now newcomer self.old id side self.new) }
+        ensures err { IfErr result (λ e. e ≡ newcomer) }
+        ensures same { OnErr result (self.new ≡ self.old) }
+    {
+        match side {
+            Side::Back => self.index.join_at(id, side, now, limits, newcomer),
+            Side::Front => join_ahead(&mut self.index, &mut self.firsts, id, now, limits, newcomer),
+        }
+    }
+}
+
+/// Joins a newcomer at the front of the request of an id, where `firsts` are where the requests begin.
+fn join_ahead<A: Allocator + Clone>(
+    index: &mut Index<A>,
+    firsts: &mut Order<A>,
+    id: u64,
+    now: u64,
+    limits: &Limits,
+    newcomer: Request<A>,
+) -> Result<(), Request<A>>
+    requires fit { HasFit limits.now (map.get index.old) newcomer id Side.Front }
+    requires spots { AreSpots first_at (map.get index.old) (order_in firsts.old) }
+    ensures spots { AreSpots first_at (map.get index.new) (order_in firsts.new) }
+    ensures joined { OnOk result (IsJoined now newcomer index.old id Side.Front index.new) }
+    ensures err { IfErr result (λ e. e ≡ newcomer) }
+    ensures same { OnErr result (index.new ≡ index.old) }
+{
+    let sectors = newcomer.sectors();
+    let _ = sectors;
+    let added = newcomer.extent();
+    let Some(queued) = index.get(id) else {
+        unreachable!()
+    };
+    let before = extent_of(queued);
+    let spot = first_spot(added, id);
+    let Ok(()) = firsts.put(spot) else {
+        return Err(newcomer);
+    };
+    match index.join_at(id, Side::Front, now, limits, newcomer) {
+        Ok(()) => {
+            firsts.take(first_spot(before, id));
+            Ok(())
+        }
+        Err(newcomer) => {
+            firsts.take(spot);
+            Err(newcomer)
+        }
+    }
+}

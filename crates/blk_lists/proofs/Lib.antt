@@ -1,0 +1,17 @@
+pub mod Lists
+pub mod Steps
+pub mod Decimals
+pub mod FieldLemmas
+pub mod Lacking
+pub mod TableLaws
+pub mod Reading
+pub mod Each
+pub mod Texts
+pub mod PlainRows
+pub mod Rows
+pub mod DraftLemmas
+pub mod CommandLaws
+pub mod ClaimLaws
+pub mod Counted
+pub mod MetLaws
+pub mod ProofLaws

@@ -1,0 +1,205 @@
+-- The laws of certificates of either form.
+use Rattle.std.proofs.Common.{◌≡◌, ◌==◌, ◌∙◌, ℕ, List, [], ◌∷◌, Option, Some, None, refl, sym, ap, subst, inl, inr, arith, get_or, codes}
+use Rattle.std.specs.Prelude.{IfSome, ◌⊎◌, Bool, if◌then◌else◌}
+use Rattle.blk_lists.specs.Sources.{Row}
+use Rattle.blk_lists.specs.Words.{StartsWith, NextStarts}
+use Rattle.blk_lists.specs.Reads.{Reads, Halts, IsOne, IsRowOf, IsWrongLine}
+use Rattle.blk_lists.specs.Certificate.{Claim, title, claim_body, SpellsClaim}
+use Rattle.blk_lists.specs.Titles.{counted_title}
+use Rattle.blk_lists.specs.Met.{MetClaim, met_title, met_body, SpellsMet}
+use Rattle.blk_lists.specs.Proof.{ProofClaim, OfLateness, OfMet, proof_name, Shown, form_of, StartsAs, IsUnnamed, proof_title, proof_form, SpellsProof, ProofFault}
+use Rattle.blk_lists.specs.declared.proof.ProofKind.{ProofKind}
+use Rattle.blk_lists.specs.declared.proof.ProofKind.TheVariants as kind
+use Rattle.blk_lists.specs.declared.fault.Why.{Why}
+use Rattle.blk_lists.specs.declared.fault.Why.TheVariants as why
+use Rattle.parts.specs.Parts.{Begins, GetsTo}
+use Rattle.parts.specs.Laws.{Tells, Decides}
+use Rattle.parts.proofs.Then.{reached_first, by_word_tells, kind_reached, kinds_reached}
+use Rattle.blk_lists.proofs.Lacking.{word_decided}
+use Rattle.blk_lists.proofs.TableLaws.{next_starts, next_same}
+use Rattle.blk_lists.proofs.Counted.{counted_one}
+use Rattle.blk_lists.proofs.ClaimLaws as claim
+use Rattle.blk_lists.proofs.MetLaws as met
+
+-- the names
+
+-- the kind of a name, whatever stands there
+abbrev kind_at : List ℕ → ProofKind
+kind_at f = if get_or f 4 0 == 99 then kind.Lateness else kind.Met
+
+kind_is : (k : ProofKind) → kind_at (proof_name k) ≡ k
+kind_is kind.Lateness = refl
+kind_is kind.Met = refl
+
+pub one_name : (j k : ProofKind) (rows : List Row) → StartsAs j rows → StartsAs k rows → j ≡ k
+one_name j k rows s t = sym (kind_is j) ∙ ap kind_at (next_same (proof_name j) (proof_name k) rows s t) ∙ kind_is k
+
+pub titles_start : (k : ProofKind) (rows : List Row) (v : ℕ × (ℕ × ℕ)) (a : List Row) → Begins (counted_title (proof_name k)) rows v a → StartsAs k rows
+titles_start k rows v a h = next_starts (proof_name k) _ rows a h.made
+
+forms_start : (k : ProofKind) (rows : List Row) (v : Shown k) (a : List Row) → Begins (form_of k) rows v a → StartsAs k rows
+forms_start kind.Lateness rows v a h = next_starts (codes "blk-certificate") _ rows _ h.made
+forms_start kind.Met rows v a h = next_starts (codes "blk-met") _ rows _ h.made
+
+neither : (row : Row) (rows : List Row) → ¬ StartsWith (codes "blk-certificate") row → ¬ StartsWith (codes "blk-met") row → (k : ProofKind) → ¬ StartsAs k (row ∷ rows)
+neither row rows n m kind.Lateness s = n s
+neither row rows n m kind.Met s = m s
+
+name_found : (rows : List Row) → ((k : ProofKind) × StartsAs k rows) ⊎ (((k : ProofKind) → ¬ StartsAs k rows) × ((w : Why) × IsUnnamed rows w))
+name_found [] = inr ((λ k s. s), (why.Title, refl))
+name_found (row ∷ rows) = elim (word_decided (codes "blk-certificate") row) [
+  | inl s ↦ inl (kind.Lateness, s)
+  | inr n ↦ elim (word_decided (codes "blk-met") row) [
+    | inl s ↦ inl (kind.Met, s)
+    | inr m ↦ inr (neither row rows n m, (why.Title, refl))
+  ]
+]
+
+-- titles
+
+pub title_one : IsOne proof_title
+title_one = record {
+  tells = by_word_tells (λ _. ℕ × (ℕ × ℕ)) StartsAs (λ k. counted_title (proof_name k)) IsUnnamed (λ k. (counted_one (proof_name k)).tells) one_name titles_start (λ rows w x a b. a ∙ sym b);
+  plain = λ t rest fit. tt;
+  one = λ t. refl;
+}
+
+pub title_gone : proof_title.Wrong [] 1 why.Title
+title_gone = inr (refl, (λ k s. s), refl)
+
+-- a record of one of the names
+pub title_line : (k : ProofKind) (row : Row) (t : ℕ × (ℕ × ℕ)) → IsRowOf (counted_title (proof_name k)) row t → IsRowOf proof_title row (k, t)
+title_line k row t h = λ rest. record { fits = (h rest).fits; made = (h rest).made; follows = tt }
+
+pub title_wrong : (k : ProofKind) (row : Row) (w : Why) → StartsWith (proof_name k) row → IsWrongLine (counted_title (proof_name k)) row w → IsWrongLine proof_title row w
+title_wrong k row w s h = λ rest. inl (k, s, h rest)
+
+pub title_unnamed : (row : Row) → ¬ StartsWith (codes "blk-certificate") row → ¬ StartsWith (codes "blk-met") row → IsWrongLine proof_title row why.Title
+title_unnamed row n m = λ rest. inr (refl, neither row rest n m, refl)
+
+-- both forms
+
+forms_tell : (k : ProofKind) → Tells (form_of k)
+forms_tell kind.Lateness = claim.claim_tells
+forms_tell kind.Met = met.met_tells
+
+forms_decide : (k : ProofKind) → Decides (form_of k)
+forms_decide kind.Lateness = claim.claim_decides
+forms_decide kind.Met = met.met_decides
+
+pub proof_tells : Tells proof_form
+proof_tells = by_word_tells Shown StartsAs form_of IsUnnamed forms_tell one_name forms_start (λ rows w x a b. a ∙ sym b)
+
+-- what is wrong with the records of a kind is wrong
+pub wrong_of : (k : ProofKind) (rows : List Row) (at : ℕ) (w : Why) → StartsAs k rows → (form_of k).Wrong rows at w → ProofFault rows at w
+wrong_of k rows at w s f = inl (k, s, f)
+
+pub of_wrong : (k : ProofKind) (rows : List Row) (at : ℕ) (w : Why) → StartsAs k rows → ProofFault rows at w → (form_of k).Wrong rows at w
+of_wrong k rows at w s (inl f) = subst (λ z. (form_of z).Wrong rows at w) (one_name f.0 k rows f.1 s) f.2
+of_wrong k rows at w s (inr f) = absurd (f.1 k s)
+
+pub unnamed_wrong : (rows : List Row) → ((k : ProofKind) → ¬ StartsAs k rows) → ProofFault rows 1 why.Title
+unnamed_wrong rows n = inr (refl, n, refl)
+
+unnamed : (rows : List Row) → ¬ NextStarts (codes "blk-certificate") rows → ¬ NextStarts (codes "blk-met") rows → (k : ProofKind) → ¬ StartsAs k rows
+unnamed rows n m kind.Lateness s = n s
+unnamed rows n m kind.Met s = m s
+
+pub neither_wrong : (rows : List Row) → ¬ NextStarts (codes "blk-certificate") rows → ¬ NextStarts (codes "blk-met") rows → ProofFault rows 1 why.Title
+neither_wrong rows n m = unnamed_wrong rows (unnamed rows n m)
+
+pub claim_named : (rows : List Row) (c : Claim) → SpellsClaim rows c → NextStarts (codes "blk-certificate") rows
+claim_named rows c s = next_starts (codes "blk-certificate") _ rows _ s.1.made
+
+pub met_named : (rows : List Row) (c : MetClaim) → SpellsMet rows c → NextStarts (codes "blk-met") rows
+met_named rows c s = next_starts (codes "blk-met") _ rows _ s.1.made
+
+pub spelled_or_wrong : (rows : List Row) → ((c : ProofClaim) × SpellsProof rows c) ⊎ ((at : ℕ) × (w : Why) × ProofFault rows at w)
+spelled_or_wrong rows = elim (name_found rows) [
+  | inl s ↦ of_kind s.0 s.1
+  | inr n ↦ inr (1, why.Title, unnamed_wrong rows n.0)
+]
+  where
+    of_kind : (k : ProofKind) → StartsAs k rows → ((c : ProofClaim) × SpellsProof rows c) ⊎ ((at : ℕ) × (w : Why) × ProofFault rows at w)
+    of_kind kind.Lateness s = elim (claim.spelled_or_wrong rows) [
+      | inl c ↦ inl (OfLateness c.0, c.1)
+      | inr f ↦ inr (f.0, f.1, wrong_of kind.Lateness rows f.0 f.1 s f.2)
+    ]
+    of_kind kind.Met s = elim (met.spelled_or_wrong rows) [
+      | inl c ↦ inl (OfMet c.0, c.1)
+      | inr f ↦ inr (f.0, f.1, wrong_of kind.Met rows f.0 f.1 s f.2)
+    ]
+
+pub spelled_apart : (rows : List Row) (c : ProofClaim) (at : ℕ) (w : Why) → SpellsProof rows c → ProofFault rows at w → ⊥
+spelled_apart rows (OfLateness c) at w s f = claim.claim_tells.apart rows _ _ at w s.1 (of_wrong kind.Lateness rows at w (claim_named rows c s) f)
+spelled_apart rows (OfMet c) at w s f = met.met_tells.apart rows _ _ at w s.1 (of_wrong kind.Met rows at w (met_named rows c s) f)
+
+two_names : (rows : List Row) → NextStarts (codes "blk-certificate") rows → NextStarts (codes "blk-met") rows → ⊥
+two_names rows s t = let e = one_name kind.Lateness kind.Met rows s t in cc e
+
+pub spelled_once : (rows : List Row) (c d : ProofClaim) → SpellsProof rows c → SpellsProof rows d → c ≡ d
+spelled_once rows (OfLateness c) (OfLateness d) s t = ap (λ z. OfLateness z) (claim.spelled_once rows c d s t)
+spelled_once rows (OfLateness c) (OfMet d) s t = absurd (two_names rows (claim_named rows c s) (met_named rows d t))
+spelled_once rows (OfMet c) (OfLateness d) s t = absurd (two_names rows (claim_named rows d t) (met_named rows c s))
+spelled_once rows (OfMet c) (OfMet d) s t = ap (λ z. OfMet z) (met.spelled_once rows c d s t)
+
+-- reading
+
+-- a title of either kind, as one of its own
+pub title_reads : (left mid : Option (List Row)) (k : ProofKind) (t : ℕ × (ℕ × ℕ)) → Reads proof_title left mid (k, t) → Reads (counted_title (proof_name k)) left mid t
+title_reads None mid k t h = tt
+title_reads (Some rows) mid k t h = (h.0, h.1, record { fits = h.2.fits; made = h.2.made; follows = tt })
+
+named : (left mid : Option (List Row)) (k : ProofKind) (t : ℕ × (ℕ × ℕ)) → Reads (counted_title (proof_name k)) left mid t → IfSome left (StartsAs k)
+named None mid k t h = tt
+named (Some rows) mid k t h = titles_start k rows t h.0 h.2
+
+-- where reading halts
+
+title_lifts : (k : ProofKind) (rows : List Row) (at : ℕ) → GetsTo (counted_title (proof_name k)) rows at → GetsTo (form_of k) rows at
+title_lifts kind.Lateness rows at r = reached_first title (λ t. claim_body t.1.1) (λ t fit. claim.body_tells t.1.1) rows at r
+title_lifts kind.Met rows at r = reached_first met_title (λ t. met_body t.1.1) (λ t fit. met.body_tells t.1.1) rows at r
+
+wrong_lifts : (k : ProofKind) (rows : List Row) (at : ℕ) (w : Why) → (counted_title (proof_name k)).Wrong rows at w → (form_of k).Wrong rows at w
+wrong_lifts kind.Lateness rows at w f = inl f
+wrong_lifts kind.Met rows at w f = inl f
+
+fault_lifts : (rows : List Row) (at : ℕ) (w : Why) → proof_title.Wrong rows at w → proof_form.Wrong rows at w
+fault_lifts rows at w (inl f) = inl (f.0, f.1, wrong_lifts f.0 rows at w f.2)
+fault_lifts rows at w (inr f) = inr f
+
+pub title_halts : (failed : Bool) (left : Option (List Row)) (start at : ℕ) (w : Why) → start ≡ 0 → Halts failed proof_title left start at w → Halts failed proof_form left 0 at w
+title_halts failed None start at w e h = tt
+title_halts failed (Some rows) start at w e h = (
+  h.0,
+  (let is = h.1 in omega (arith, is, e)),
+  kinds_reached (λ _. ℕ × (ℕ × ℕ)) Shown StartsAs (λ k. counted_title (proof_name k)) form_of IsUnnamed forms_start title_lifts rows h.0 h.2,
+  elim h.3 [
+    | inl o ↦ inl o
+    | inr f ↦ inr (fault_lifts rows h.0 w f)
+  ],
+)
+
+kind_halts : (failed : Bool) (left : Option (List Row)) (k : ProofKind) (start at : ℕ) (w : Why) → IfSome left (StartsAs k) → Halts failed (form_of k) left start at w → Halts failed proof_form left start at w
+kind_halts failed None k start at w s h = tt
+kind_halts failed (Some rows) k start at w s h = (
+  h.0,
+  h.1,
+  kind_reached Shown StartsAs form_of IsUnnamed one_name forms_start k rows h.0 s h.2,
+  elim h.3 [
+    | inl o ↦ inl o
+    | inr f ↦ inr (wrong_of k rows h.0 w s f)
+  ],
+)
+
+pub lateness_halts : (failed : Bool) (left mid : Option (List Row)) (k : ProofKind) (t : ℕ × (ℕ × ℕ)) (at : ℕ) (w : Why) → k ≡ kind.Lateness → Reads proof_title left mid (k, t) → Halts failed (claim_body t.1.1) mid 1 at w
+    → Halts failed proof_form left 0 at w
+lateness_halts failed left mid k t at w e r h =
+    let own = title_reads left mid kind.Lateness t (rw e at r) in
+    kind_halts failed left kind.Lateness 0 at w (named left mid kind.Lateness t own) (claim.body_halts failed left mid t at w own h)
+
+pub met_halts : (failed : Bool) (left mid : Option (List Row)) (k : ProofKind) (t : ℕ × (ℕ × ℕ)) (at : ℕ) (w : Why) → k ≡ kind.Met → Reads proof_title left mid (k, t) → Halts failed (met_body t.1.1) mid 1 at w
+    → Halts failed proof_form left 0 at w
+met_halts failed left mid k t at w e r h =
+    let own = title_reads left mid kind.Met t (rw e at r) in
+    kind_halts failed left kind.Met 0 at w (named left mid kind.Met t own) (met.body_halts failed left mid t at w own h)

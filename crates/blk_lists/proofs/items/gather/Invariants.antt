@@ -1,0 +1,14 @@
+use Rattle.std.proofs.Common.{◌≡◌, ◌+◌, ◌*◌, ◌≤◌, length}
+use Rattle.blk_lists.specs.Reads.{size_of}
+use Rattle.blk_lists.proofs.Reading.{MadeOf, Fitting}
+use Rattle.blk_lists.proofs.items.gather.Given as goal
+
+abbrev pub invariant-loop : goal.invariant-loop
+invariant-loop g l = record {
+  count : length (g.F.ItemForm.seen l.items) ≡ l.counter;
+  suits : g.F.ItemForm.suits l.form l.items;
+  fit : Fitting (g.F.ItemForm.part l.form) (g.F.ItemForm.seen l.items);
+  made : MadeOf (g.F.ItemForm.part l.form) l.initial.records.left (g.F.ItemForm.seen l.items) l.records.left;
+  at : l.records.at ≡ l.initial.records.at + size_of (g.F.ItemForm.part l.form) (g.F.ItemForm.seen l.items);
+  room : l.records.at ≤ l.initial.records.at + l.counter * (g.F.ItemForm.more + 1);
+}

@@ -1,0 +1,54 @@
+-- A command list: a title, and a record for each command.
+use Rattle.std.specs.Prelude.{◌≤◌, ◌<◌, ◌-◌, ◌^◌, ℕ, List, [], ◌∷◌, length, codes, All}
+use Rattle.edd_check.specs.declared.TheConstants.{MOST_COMMANDS, ROUND_LIMIT, RELEASE_LIMIT}
+use Rattle.edd_check.specs.declared.steps.TheConstants.{MOST_DEPTH}
+use Rattle.edd_check.specs.declared.Command.{Command}
+use Rattle.blk_lists.specs.Sources.{Row}
+use Rattle.blk_lists.specs.Reads.{items_of}
+use Rattle.blk_lists.specs.Tables.{Cell, Number, table_record, title_record}
+use Rattle.blk_lists.specs.declared.fault.Why.{Why}
+use Rattle.blk_lists.specs.declared.fault.Why.TheVariants as why
+use Rattle.parts.specs.declared.Repeats.TheVariants as repeats
+use Rattle.parts.specs.Parts.{Part, then, Spells}
+
+-- title: blk-commands, 1, depth
+abbrev pub depth_cells : ℕ → List (Cell ℕ)
+depth_cells version = Number 1 MOST_DEPTH (λ depth. depth) ∷ []
+
+-- each command: id, release, due
+abbrev pub command_cells : List (Cell Command)
+command_cells = Number 0 (2 ^ 64 - 1) (λ c. c.id) ∷ Number 0 (RELEASE_LIMIT - 1) (λ c. c.release) ∷ Number 0 (ROUND_LIMIT - 1) (λ c. c.due) ∷ []
+
+-- a depth of a command list
+abbrev pub IsDepth : ℕ → Type 0
+IsDepth depth = (1 ≤ depth) × (depth ≤ MOST_DEPTH)
+
+-- the numbers of a command lie in their ranges
+abbrev pub IsCommandInRange : Command → Type 0
+IsCommandInRange c = (c.id < 2 ^ 64) × (c.release < RELEASE_LIMIT) × (c.due < ROUND_LIMIT)
+
+abbrev pub title : Part Row Why (ℕ × ℕ)
+title = title_record (codes "blk-commands") 1 depth_cells (λ _. IsDepth)
+
+abbrev pub command : Part Row Why Command
+command = table_record why.Count command_cells IsCommandInRange
+
+-- a title with the depth, and commands, at most so many
+abbrev pub command_list : Part Row Why ((ℕ × ℕ) × List Command)
+command_list = then title (λ t. items_of (repeats.AtMost MOST_COMMANDS) (λ _. command))
+
+-- a depth and commands that a command list can spell
+abbrev pub AreCommands : ℕ → List Command → Type 0
+AreCommands depth commands = (1 ≤ depth) × (depth ≤ MOST_DEPTH) × (length commands ≤ MOST_COMMANDS) × All IsCommandInRange commands
+
+-- the records of a depth and a list of commands
+abbrev pub commands_rows : ℕ → List Command → List Row
+commands_rows depth commands = command_list.rows_of ((1, depth), commands)
+
+-- the records spell this depth and these commands
+abbrev pub SpellsCommands : List Row → ℕ → List Command → Type 0
+SpellsCommands rows depth commands = Spells command_list rows ((1, depth), commands)
+
+-- the first fault of a command list
+abbrev pub CommandsFault : List Row → ℕ → Why → Type 0
+CommandsFault = command_list.Wrong

@@ -1,0 +1,103 @@
+-- What may stand in the fields of a record, and what a record lacks.
+use Rattle.std.specs.Prelude.{◌≡◌, ◌⊎◌, ◌<◌, ◌≤◌, ◌^◌, ◌==◌, ◌&&◌, not, Bool, false, ℕ, List, [], ◌∷◌, length, get_or, decimal, codes}
+use Rattle.std.specs.Str.Parse.{AllDigits, digits_value}
+use Rattle.faults.specs.Order.{IsFirstFault}
+use Rattle.blk_lists.specs.Sources.{Row}
+use Rattle.blk_lists.specs.declared.fault.Why.{Why}
+use Rattle.blk_lists.specs.declared.fault.Why.TheVariants as why
+use Rattle.blk_lists.specs.declared.fields.Slot.{Slot}
+use Rattle.blk_lists.specs.declared.fields.Slot.TheVariants as slot
+
+-- whether a field begins with no sign and with no zero before another byte
+abbrev pub canonical : List ℕ → Bool
+canonical [] = false
+canonical (c ∷ []) = not (c == 43)
+canonical (c ∷ d ∷ ds) = not (c == 43) && not (c == 48)
+
+-- decimal digits that write a number which fits a u64, perhaps with zeros before it
+abbrev pub WritesNumber : List ℕ → Type 0
+WritesNumber f = AllDigits 10 f × (digits_value 10 f < 2 ^ 64)
+
+-- each field of a record has this, beside the slot at its place
+abbrev pub EachField : (Slot → List ℕ → Type 0) → List Slot → Row → Type 0
+EachField P slots row = (k : ℕ) → k < length slots → P (get_or slots k slot.Given) (get_or row k [])
+
+-- a blank field is empty
+abbrev pub IsBlank : Slot → List ℕ → Type 0
+IsBlank slot.Given f = Unit {0}
+IsBlank slot.Blank f = f ≡ []
+IsBlank slot.Direction f = Unit {0}
+IsBlank (slot.Number least most) f = Unit {0}
+IsBlank (slot.Lateness most) f = Unit {0}
+
+-- a direction is R or W
+abbrev pub IsDirection : Slot → List ℕ → Type 0
+IsDirection slot.Given f = Unit {0}
+IsDirection slot.Blank f = Unit {0}
+IsDirection slot.Direction f = (f ≡ codes "R") ⊎ (f ≡ codes "W")
+IsDirection (slot.Number least most) f = Unit {0}
+IsDirection (slot.Lateness most) f = Unit {0}
+
+-- a signed number of this size: with one minus before it, if it is not 0
+abbrev pub IsSized : List ℕ → ℕ → Type 0
+IsSized f n = (f ≡ decimal n) ⊎ ((0 < n) × (f ≡ 45 ∷ decimal n))
+
+-- a number is written in decimal digits without leading zeros, and fits a u64
+abbrev pub IsNumber : Slot → List ℕ → Type 0
+IsNumber slot.Given f = Unit {0}
+IsNumber slot.Blank f = Unit {0}
+IsNumber slot.Direction f = Unit {0}
+IsNumber (slot.Number least most) f = (n : ℕ) × (n < 2 ^ 64) × (f ≡ decimal n)
+IsNumber (slot.Lateness most) f = (n : ℕ) × (n < 2 ^ 64) × IsSized f n
+
+-- a number lies in its slot's range
+abbrev pub IsInRange : Slot → List ℕ → Type 0
+IsInRange slot.Given f = Unit {0}
+IsInRange slot.Blank f = Unit {0}
+IsInRange slot.Direction f = Unit {0}
+IsInRange (slot.Number least most) f = (n : ℕ) → n < 2 ^ 64 → f ≡ decimal n → (least ≤ n) × (n ≤ most)
+IsInRange (slot.Lateness most) f = (n : ℕ) → n < 2 ^ 64 → IsSized f n → n ≤ most
+
+-- as many fields as slots, and the blank ones empty
+abbrev pub IsShaped : List Slot → Row → Type 0
+IsShaped slots row = (length row ≡ length slots) × EachField IsBlank slots row
+
+-- the rules of a record, in the order in which they are looked at, each with its fault
+abbrev pub record_rules : List Slot → Row → List (Type 0 × Why)
+record_rules slots row =
+    (IsShaped slots row, why.Fields)
+    ∷ (EachField IsDirection slots row, why.Word)
+    ∷ (EachField IsNumber slots row, why.Number)
+    ∷ (EachField IsInRange slots row, why.Range) ∷ []
+
+-- the first thing that a record lacks of its slots
+abbrev pub Lacks : List Slot → Row → Why → Type 0
+Lacks slots row = IsFirstFault (record_rules slots row)
+
+-- this number is written in a field
+abbrev pub NumberOf : Slot → List ℕ → ℕ → Type 0
+NumberOf slot.Given f n = Unit {0}
+NumberOf slot.Blank f n = Unit {0}
+NumberOf slot.Direction f n = Unit {0}
+NumberOf (slot.Number least most) f n = f ≡ decimal n
+NumberOf (slot.Lateness most) f n = IsSized f n
+
+-- a number lies in a slot's range
+abbrev pub IsWithinSlot : Slot → ℕ → Type 0
+IsWithinSlot slot.Given n = Unit {0}
+IsWithinSlot slot.Blank n = Unit {0}
+IsWithinSlot slot.Direction n = Unit {0}
+IsWithinSlot (slot.Number least most) n = (least ≤ n) × (n ≤ most)
+IsWithinSlot (slot.Lateness most) n = n ≤ most
+
+-- each field of a record has this, beside the slot and the number at its place
+abbrev pub EachNumber : (Slot → List ℕ → ℕ → Type 0) → List Slot → Row → List ℕ → Type 0
+EachNumber P slots row ns = (k : ℕ) → k < length slots → P (get_or slots k slot.Given) (get_or row k []) (get_or ns k 0)
+
+-- a field is what its slot wants, and spells this number where the slot has one
+abbrev pub FieldSpells : Slot → List ℕ → ℕ → Type 0
+FieldSpells s f n = IsBlank s f × IsDirection s f × NumberOf s f n × IsWithinSlot s n
+
+-- a record's fields spell these numbers, by place
+abbrev pub FieldsSpell : List Slot → Row → List ℕ → Type 0
+FieldsSpell slots row ns = (length row ≡ length slots) × EachNumber FieldSpells slots row ns

@@ -1,0 +1,13 @@
+pub mod Sources
+pub mod Fields
+pub mod Words
+pub mod Commands
+pub mod Texts
+pub mod Cells
+pub mod Certificate
+pub mod Tables
+pub mod Reads
+pub mod Titles
+pub mod Met
+pub mod Proof
+pub mod Names

@@ -1,0 +1,99 @@
+-- A certificate of the greatest number of commands that are met: a title, how many are met, a record for each window, and a
+-- record for each command with its round.
+use Rattle.std.specs.Prelude.{◌≡◌, ◌≤◌, ◌<◌, ◌-◌, ℕ, List, [], ◌∷◌, length, codes, All}
+use Rattle.std.specs.List.{zip}
+use Rattle.edd_check.specs.declared.TheConstants.{MOST_COMMANDS, ROUND_LIMIT}
+use Rattle.edd_check.specs.declared.steps.TheConstants.{MOST_DEPTH}
+use Rattle.edd_check.specs.declared.Command.{Command}
+use Rattle.edd_check.specs.declared.Window.{Window}
+use Rattle.edd_check.specs.Window.{WindowInRange}
+use Rattle.blk_lists.specs.Sources.{Row}
+use Rattle.blk_lists.specs.Commands.{IsCommandInRange}
+use Rattle.blk_lists.specs.Certificate.{served_record}
+use Rattle.blk_lists.specs.Reads.{items_of, repeated}
+use Rattle.blk_lists.specs.Tables.{Cell, Number, Blank, word_record}
+use Rattle.blk_lists.specs.Titles.{counted_title}
+use Rattle.blk_lists.specs.declared.met.MetCertificate.{MetCertificate}
+use Rattle.blk_lists.specs.declared.fault.Why.{Why}
+use Rattle.blk_lists.specs.declared.fault.Why.TheVariants as why
+use Rattle.parts.specs.declared.Repeats.TheVariants as repeats
+use Rattle.parts.specs.Parts.{Part, then, Spells}
+
+-- such a certificate: the depth, the commands and their rounds by place, how many are met, and the windows
+pub record MetClaim : Type 0 where
+  pub depth : ℕ
+  pub commands : List Command
+  pub rounds : List ℕ
+  pub met : ℕ
+  pub cover : List Window
+
+-- what it claims
+abbrev pub met_claimed : MetCertificate → MetClaim
+met_claimed c = record { depth = c.depth; commands = c.commands.items; rounds = c.rounds.items; met = c.met; cover = c.cover.items }
+
+-- met, number of commands met, number of windows, empty
+abbrev pub met_cells : List (Cell (ℕ × ℕ))
+met_cells = Number 0 MOST_COMMANDS (λ n. n.0) ∷ Number 0 MOST_COMMANDS (λ n. n.1) ∷ Blank ∷ []
+
+-- window, from, until, empty
+abbrev pub window_cells : List (Cell Window)
+window_cells = Number 0 (ROUND_LIMIT - 1) (λ w. w.from) ∷ Number 0 (ROUND_LIMIT - 1) (λ w. w.due) ∷ Blank ∷ []
+
+-- a number of commands met and a number of windows
+abbrev pub AreFew : ℕ × ℕ → Type 0
+AreFew n = (n.0 ≤ MOST_COMMANDS) × (n.1 ≤ MOST_COMMANDS)
+
+-- a round for each command, and each number in its range; whether the windows are a cover is not looked at
+pub record IsMetClaim (c : MetClaim) : Type 0 where
+  pub depth : (1 ≤ c.depth) × (c.depth ≤ MOST_DEPTH)
+  pub few : length c.commands ≤ MOST_COMMANDS
+  pub one_each : length c.rounds ≡ length c.commands
+  pub numbers : AreFew (c.met, length c.cover)
+  pub cover : All WindowInRange c.cover
+  pub commands : All IsCommandInRange c.commands
+  pub rounds : All (λ x. x < ROUND_LIMIT) c.rounds
+
+abbrev pub met_title : Part Row Why (ℕ × (ℕ × ℕ))
+met_title = counted_title (codes "blk-met")
+
+abbrev pub met_numbers : Part Row Why (ℕ × ℕ)
+met_numbers = word_record why.Word (codes "met") met_cells AreFew
+
+abbrev pub window : Part Row Why Window
+window = word_record why.Count (codes "window") window_cells WindowInRange
+
+-- so many windows
+abbrev pub windows : ℕ → Part Row Why (List Window)
+windows count = repeated (repeats.Exactly count) (λ _. window)
+
+-- so many windows and then so many commands
+abbrev pub cover_body : ℕ → ℕ → Part Row Why (List Window × List (Command × ℕ))
+cover_body most count = then (windows most) (λ _. items_of (repeats.Exactly count) (λ _. served_record))
+
+-- how many are met and how many windows there are, the windows, and so many commands
+abbrev pub met_body : ℕ → Part Row Why ((ℕ × ℕ) × (List Window × List (Command × ℕ)))
+met_body count = then met_numbers (λ n. cover_body n.1 count)
+
+-- a title with the depth and the number of commands, and what comes after it
+abbrev pub met_form : Part Row Why ((ℕ × (ℕ × ℕ)) × ((ℕ × ℕ) × (List Window × List (Command × ℕ))))
+met_form = then met_title (λ t. met_body t.1.1)
+
+-- what the records of such a certificate tell after the title
+abbrev pub met_told : MetClaim → (ℕ × ℕ) × (List Window × List (Command × ℕ))
+met_told c = ((c.met, length c.cover), (c.cover, zip c.commands c.rounds))
+
+-- and with it
+abbrev pub met_value : MetClaim → (ℕ × (ℕ × ℕ)) × ((ℕ × ℕ) × (List Window × List (Command × ℕ)))
+met_value c = ((1, (c.depth, length c.commands)), met_told c)
+
+-- the records of such a certificate
+abbrev pub met_rows : MetClaim → List Row
+met_rows c = met_form.rows_of (met_value c)
+
+-- the records spell this one
+abbrev pub SpellsMet : List Row → MetClaim → Type 0
+SpellsMet rows c = (length c.rounds ≡ length c.commands) × Spells met_form rows (met_value c)
+
+-- the first fault of such a certificate
+abbrev pub MetClaimFault : List Row → ℕ → Why → Type 0
+MetClaimFault = met_form.Wrong

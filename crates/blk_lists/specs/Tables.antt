@@ -1,0 +1,95 @@
+-- A record by a table of its fields.
+use Rattle.std.specs.Prelude.{◌≡◌, ◌⊎◌, ◌≤◌, ℕ, suc, ℤ, pos, negsuc, List, [], ◌∷◌, decimal}
+use Rattle.std.specs.Fmt.{signed_decimal}
+use Rattle.blk_bio.specs.declared.bio.Dir.{Dir}
+use Rattle.blk_lists.specs.Sources.{Row}
+use Rattle.blk_bio.specs.Letters.{direction_text}
+use Rattle.blk_lists.specs.Fields.{Lacks}
+use Rattle.blk_lists.specs.Words.{NextStarts, HasNoWord, WordLacks}
+use Rattle.blk_lists.specs.declared.fault.Why.{Why}
+use Rattle.blk_lists.specs.declared.fault.Why.TheVariants as why
+use Rattle.blk_lists.specs.declared.fields.Slot.{Slot}
+use Rattle.blk_lists.specs.declared.fields.Slot.TheVariants as slot
+use Rattle.parts.specs.Parts.{Part, NextWrong, record_of, by_word}
+
+-- what stands in a field of the record of a value: nothing, a direction, a number from `least` to `most`, or a signed
+-- number of a size up to `most`
+pub data Cell (V : Type 0) : Type 0 where
+  Blank : Cell V
+  Direction : (V → Dir) → Cell V
+  Number : ℕ → ℕ → (V → ℕ) → Cell V
+  Signed : ℕ → (V → ℤ) → Cell V
+
+-- the slot of a field
+abbrev pub slot_of : {V : Type 0} → Cell V → Slot
+slot_of Blank = slot.Blank
+slot_of (Direction f) = slot.Direction
+slot_of (Number least most f) = slot.Number least most
+slot_of (Signed most f) = slot.Lateness most
+
+-- the text of a field
+abbrev pub field_of : {V : Type 0} → V → Cell V → List ℕ
+field_of v Blank = []
+field_of v (Direction f) = direction_text (f v)
+field_of v (Number least most f) = decimal (f v)
+field_of v (Signed most f) = signed_decimal (f v)
+
+-- the record of a value
+abbrev pub row_by : {V : Type 0} → List (Cell V) → V → Row
+row_by [] v = []
+row_by (c ∷ cs) v = field_of v c ∷ row_by cs v
+
+abbrev pub slots_by : {V : Type 0} → List (Cell V) → List Slot
+slots_by [] = []
+slots_by (c ∷ cs) = slot_of c ∷ slots_by cs
+
+-- a signed number of a size up to `most`
+abbrev pub IsUpTo : ℕ → ℤ → Type 0
+IsUpTo most (pos n) = n ≤ most
+IsUpTo most (negsuc n) = suc n ≤ most
+
+-- the number of a field lies in its range
+abbrev pub FitsCell : {V : Type 0} → V → Cell V → Type 0
+FitsCell v Blank = Unit {0}
+FitsCell v (Direction f) = Unit {0}
+FitsCell v (Number least most f) = (least ≤ f v) × (f v ≤ most)
+FitsCell v (Signed most f) = IsUpTo most (f v)
+
+-- all of them do
+abbrev pub FitsCells : {V : Type 0} → List (Cell V) → V → Type 0
+FitsCells [] v = Unit {0}
+FitsCells (c ∷ cs) v = FitsCell v c × FitsCells cs v
+
+-- a record all of whose fields are looked at
+abbrev pub table_record : {V : Type 0} → Why → List (Cell V) → (V → Type 0) → Part Row Why V
+table_record gone cells Fits = record_of (row_by cells) Fits gone (Lacks (slots_by cells))
+
+-- a word, and then the fields of a table
+abbrev pub word_record : {V : Type 0} → Why → List ℕ → List (Cell V) → (V → Type 0) → Part Row Why V
+word_record gone word cells Fits = record_of (λ v. word ∷ row_by cells v) Fits gone (WordLacks word (slots_by cells))
+
+-- a record of one of some kinds, each with a word and a table of its own, and all of one width; only some of the kinds may stand there
+abbrev pub kinds_record : {K : Type 0} (V : K → Type 0) → Why → ℕ → (K → Type 0) → (K → List ℕ) → ((k : K) → List (Cell (V k))) → Part Row Why ((k : K) × V k)
+kinds_record V gone width Stands word_of cells =
+    by_word V (λ k rows. Stands k × NextStarts (word_of k) rows) (λ k. word_record gone (word_of k) (cells k) (λ v. Stands k × FitsCells (cells k) v)) (NextWrong gone (HasNoWord width))
+
+-- a title begins with the name of its form and a version of it
+abbrev pub IsTitled : List ℕ → ℕ → Row → Type 0
+IsTitled name version row = (more : Row) × (row ≡ name ∷ decimal version ∷ more)
+
+-- a form has versions from 1 on
+abbrev pub IsVersion : ℕ → ℕ → Type 0
+IsVersion latest version = (1 ≤ version) × (version ≤ latest)
+
+-- the title record of a version and what it tells
+abbrev pub title_by : {V : Type 0} → List ℕ → (ℕ → List (Cell V)) → ℕ × V → Row
+title_by name cells t = name ∷ decimal t.0 ∷ row_by (cells t.0) t.1
+
+-- what is wrong with a title record: first its name and version
+abbrev pub TitleLacks : {V : Type 0} → List ℕ → ℕ → (ℕ → List (Cell V)) → Row → Why → Type 0
+TitleLacks name latest cells row w = ((w ≡ why.Title) × ((version : ℕ) → IsVersion latest version → ¬ IsTitled name version row))
+    ⊎ ((version : ℕ) × IsVersion latest version × IsTitled name version row × Lacks (slot.Given ∷ slot.Given ∷ slots_by (cells version)) row w)
+
+-- a title record, whose value has the version
+abbrev pub title_record : {V : Type 0} → List ℕ → ℕ → (ℕ → List (Cell V)) → (ℕ → V → Type 0) → Part Row Why (ℕ × V)
+title_record name latest cells Fits = record_of (title_by name cells) (λ t. IsVersion latest t.0 × Fits t.0 t.1) why.Title (TitleLacks name latest cells)

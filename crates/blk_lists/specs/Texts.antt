@@ -1,0 +1,9 @@
+-- The text of records.
+use Rattle.std.specs.Prelude.{ℕ, List, [], ◌∷◌, ◌++◌}
+use Rattle.csv.specs.Writing.{row_text, default_writer}
+use Rattle.blk_lists.specs.Sources.{Row}
+
+-- the text of some records, as the usual writer writes them
+unfoldable pub rows_text : List Row → List ℕ
+rows_text [] = []
+rows_text (row ∷ rows) = row_text default_writer row ++ rows_text rows

@@ -1,0 +1,425 @@
+//! Certificates.
+
+ghost use Rattle.std.specs.Prelude.{◌≡◌, ◌⊎◌, ◌+◌, ◌++◌, ◌≤◌, ◌<◌, ◌-◌, ◌^◌, ◌∷◌, [], IfOk, IfErr, IfSome, OnOk, map, length, codes, None, Some, IsTrue, ◌↔◌};
+ghost use Rattle.std.specs.Fmt.{signed_decimal};
+ghost use Rattle.std.specs.Io.KnownBytes.{Appends};
+ghost use Rattle.csv.specs.Records.{fields_of};
+ghost use Rattle.blk_lists.specs.Sources.{Took};
+ghost use Rattle.parts.specs.Parts.{Begins};
+ghost use Rattle.blk_lists.specs.Reads.{IsOutside, IsRowOf, IsWrongLine, Halts, Reaches};
+ghost use Rattle.blk_lists.specs.Tables.{IsUpTo, FitsCells, row_by, slots_by, title_by};
+ghost use Rattle.blk_lists.specs.Fields.{IsSized, FieldsSpell};
+ghost use Rattle.blk_lists.specs.declared.fields.Slot.TheVariants as slot;
+ghost use Rattle.blk_lists.specs.Words.{StartsWith};
+ghost use Rattle.blk_lists.specs.Texts.{rows_text};
+ghost use Rattle.drafts.specs.Parts.{AppendsPart};
+ghost use Rattle.drafts.specs.Drafts.{drafted};
+ghost use Rattle.blk_lists.specs.Titles.{counted_cells, IsCounted};
+ghost use Rattle.blk_lists.specs.Certificate.{claimed, claim_form, IsClaim, SpellsClaim, ClaimFault, claim_rows, claim_body, claim_told, bound as bound_part, bound_cells, no_bound_row, bound_row, served_cells};
+
+use crate::fault::{TextFault, Why};
+use crate::fields::{Slot, WIDTH, after_minus, begins_with, field, read_fields, without_word};
+use crate::items::{LineForm, read_line, read_lines};
+use crate::source::Records;
+use crate::titles::counted_title;
+use csv::ByteRecord;
+use drafts::pieces::{put, put_two};
+use drafts::{Block, WriteFault, write_whole};
+use edd_check::{Command, MOST_COMMANDS, RELEASE_LIMIT, ROUND_LIMIT, Window};
+use parts::Repeats;
+use std::alloc::{AllocError, Global};
+use std::io::{Read, Write};
+
+/// A schedule of commands, with the claim that it is least late.
+#[derive(Debug, Drop)]
+pub struct Certificate {
+    /// How many commands a round has room for.
+    pub depth: u64,
+    /// The commands, each by its id and its release and due rounds.
+    pub commands: Vec<Command>,
+    /// The round of each command, by its place.
+    pub rounds: Vec<u64>,
+    /// The greatest lateness in rounds, and a window that asks for it; none without commands.
+    pub bound: Option<(i64, Window)>,
+}
+
+/// The title record: the version, and with it the depth and the number of commands.
+#[derive(Clone, Copy, Drop)]
+pub(crate) struct TitleForm;
+
+impl LineForm for TitleForm {
+    ghost use Rattle.blk_lists.specs.Certificate.{title};
+
+    type Line = (u64, (u64, u64));
+
+    ghost part = { λ _. title };
+
+    #[tactic(auto, using(crate::proofs::ClaimLaws::title_one))]
+    fn gone(&self) -> Why {
+        Why::Title
+    }
+
+    fn line(&self, row: &ByteRecord) -> Result<(u64, (u64, u64)), Why> {
+        counted_title(row, b"blk-certificate")
+    }
+}
+
+/// The bound for so many commands.
+#[derive(Clone, Copy, Drop)]
+pub(crate) struct BoundForm {
+    count: u64,
+}
+
+impl LineForm for BoundForm {
+    ghost use Rattle.blk_lists.specs.Certificate.{bound as bound_part};
+
+    type Line = Option<(i64, Window)>;
+
+    ghost part = { λ f. bound_part f.count };
+
+    fn gone(&self) -> Why {
+        Why::Word
+    }
+
+    fn line(&self, row: &ByteRecord) -> Result<Option<(i64, Window)>, Why> {
+        if !begins_with(row, b"bound") {
+            return Err(without_word(row, 4));
+        }
+        bound_of(row, self.count)
+    }
+}
+
+/// A record of a certificate: id, release, due, round.
+#[derive(Clone, Copy, Drop)]
+pub(crate) struct ServedForm;
+
+impl LineForm for ServedForm {
+    ghost use Rattle.blk_lists.specs.Certificate.{served_record};
+
+    type Line = (Command, u64);
+
+    ghost part = { λ _. served_record };
+
+    #[tactic(auto, using(crate::proofs::ClaimLaws::served_one))]
+    fn gone(&self) -> Why {
+        Why::Count
+    }
+
+    fn line(&self, row: &ByteRecord) -> Result<(Command, u64), Why> {
+        let round = Slot::Number {
+            least: 0,
+            most: ROUND_LIMIT - 1,
+        };
+        let slots = [
+            Slot::Number {
+                least: 0,
+                most: u64::MAX,
+            },
+            Slot::Number {
+                least: 0,
+                most: RELEASE_LIMIT - 1,
+            },
+            round,
+            round,
+        ];
+        match read_fields(row, &slots) {
+            Ok(numbers) => {
+                let command = Command {
+                    id: numbers[0],
+                    release: numbers[1],
+                    due: numbers[2],
+                };
+                Ok((command, numbers[3]))
+            }
+            Err(why) => Err(why),
+        }
+    }
+}
+
+/// The lateness of a field, by its size.
+fn lateness_of(field: &[u8], size: u64) -> i64
+    requires sized { IsSized field.now size }
+    requires small { size < ROUND_LIMIT }
+    ensures text { field.now ≡ signed_decimal result }
+    ensures range { IsUpTo (ROUND_LIMIT - 1) result }
+{
+    match after_minus(field) {
+        Some(_) => -(size as i64),
+        None => size as i64,
+    }
+}
+
+/// Whether a record says that there is no bound, beside no commands.
+fn is_no_bound(row: &ByteRecord, count: u64) -> bool
+    ensures { IsTrue result ↔ ((count ≡ 0) × (fields_of row.now ≡ no_bound_row)) }
+{
+    let none = b"none".as_slice();
+    if count != 0 || row.len() != 4 || field(row, 0) != b"bound".as_slice() {
+        return false;
+    }
+    if field(row, 1) != none || field(row, 2) != none {
+        return false;
+    }
+    field(row, 3) == none
+}
+
+/// The bound of the numbers of a record.
+fn bound_with(row: &ByteRecord, numbers: &[u64; WIDTH], count: u64) -> (i64, Window)
+    requires starts { StartsWith (codes "bound") (fields_of row.now) }
+    requires spells { FieldsSpell (slot.Given ∷ slots_by (bound_cells count)) (fields_of row.now) numbers.now }
+    ensures row { fields_of row.now ≡ codes "bound" ∷ row_by (bound_cells count) result }
+    ensures fits { FitsCells (bound_cells count) result }
+{
+    let window = Window {
+        from: numbers[2],
+        due: numbers[3],
+    };
+    (lateness_of(field(row, 1), numbers[1]), window)
+}
+
+/// The slots of a bound, beside so many commands.
+fn bound_slots(count: u64) -> [Slot; 4]
+    ensures { result ≡ slot.Given ∷ slots_by (bound_cells count) }
+{
+    let late = Slot::Lateness {
+        most: ROUND_LIMIT - 1,
+    };
+    if count == 0 {
+        let none = Slot::Number { least: 1, most: 0 };
+        return [Slot::Given, late, none, none];
+    }
+    let round = Slot::Number {
+        least: 0,
+        most: ROUND_LIMIT - 1,
+    };
+    [Slot::Given, late, round, round]
+}
+
+/// The bound of a record that begins with its word, for so many commands.
+fn bound_of(row: &ByteRecord, count: u64) -> Result<Option<(i64, Window)>, Why>
+    requires { StartsWith (codes "bound") (fields_of row.now) }
+    ensures ok { IfOk result (IsRowOf (bound_part count) (fields_of row.now)) }
+    ensures err { IfErr result (IsWrongLine (bound_part count) (fields_of row.now)) }
+{
+    if is_no_bound(row, count) {
+        return Ok(None);
+    }
+    let slots = bound_slots(count);
+    match read_fields(row, &slots) {
+        Ok(numbers) => Ok(Some(bound_with(row, &numbers, count))),
+        Err(why) => Err(why),
+    }
+}
+
+/// The commands of lines.
+fn commands_of(alloc: Global, served: &[(Command, u64)]) -> Result<Vec<Command>, AllocError>
+    ensures { IfOk result (λ v. v.items ≡ map (λ s. s.0) served.now) }
+{
+    served.iter().map(|(command, _)| *command).collect(alloc)
+}
+
+/// The rounds of lines.
+fn rounds_of(alloc: Global, served: &[(Command, u64)]) -> Result<Vec<u64>, AllocError>
+    ensures { IfOk result (λ v. v.items ≡ map (λ s. s.1) served.now) }
+{
+    served.iter().map(|(_, round)| *round).collect(alloc)
+}
+
+/// The commands and the rounds of lines.
+pub(crate) fn split(
+    alloc: Global,
+    served: &[(Command, u64)],
+) -> Result<(Vec<Command>, Vec<u64>), AllocError>
+    ensures commands { IfOk result (λ p. p.0.items ≡ map (λ s. s.0) served.now) }
+    ensures rounds { IfOk result (λ p. p.1.items ≡ map (λ s. s.1) served.now) }
+{
+    let commands = commands_of(alloc, served)?;
+    let rounds = rounds_of(alloc, served)?;
+    Ok((commands, rounds))
+}
+
+/// The rest of a certificate after its title.
+pub(crate) fn read_claim_body<R: Read + Drop>(
+    alloc: Global,
+    records: &mut Records<R>,
+    depth: u64,
+    count: u64,
+) -> Result<Certificate, TextFault>
+    requires at { records.old.at ≡ 1 }
+    requires counted { IsCounted (depth, count) }
+    ensures ok { IfOk result (λ c. IfSome records.old.left (λ rows. Begins (claim_body count) rows (claim_told (claimed c)) [])) }
+    ensures told { IfOk result (λ c. (c.depth ≡ depth) × (length c.commands.items ≡ count)) }
+    ensures in_range { IfOk result (λ c. IsClaim (claimed c)) }
+    ensures last { IfErr result (λ f. f.at ≡ records.new.at) }
+    ensures err { IfErr result (λ f. Halts records.new.failed (claim_body count) records.old.left 1 f.at f.why) }
+    ensures reads { (2 ≤ records.new.at) × (records.new.at ≤ MOST_COMMANDS + 3) }
+    ensures end { IfOk result (λ c. records.new.at ≡ length c.commands.items + 3) }
+{
+    let bound = match read_line(records, &BoundForm { count }) {
+        Ok(bound) => bound,
+        Err(fault) => return Err(fault),
+    };
+    let served = match read_lines(alloc, records, ServedForm, Repeats::Exactly(count)) {
+        Ok(served) => served,
+        Err(fault) => return Err(fault),
+    };
+    match split(alloc, served.as_slice()) {
+        Ok((commands, rounds)) => Ok(Certificate {
+            depth,
+            commands,
+            rounds,
+            bound,
+        }),
+        Err(AllocError) => Err(records.fault(Why::Memory)),
+    }
+}
+
+/// The certificate of a text of records of four fields: a title with the depth and the number of
+/// commands, a bound, and each command with its round. No record was read before.
+///
+/// The fault is the first one: of the least record, and in it the first in the order of [`Why`].
+/// [`Why::Read`] and [`Why::Memory`] come at the record that is being read.
+/// Fewer commands than announced is a fault one past the last record. No record is asked for past
+/// that of the fault, and never more than 1,000,003.
+pub fn read_certificate<R: Read + Drop>(
+    alloc: Global,
+    records: &mut Records<R>,
+) -> Result<Certificate, TextFault>
+    requires { records.old.at ≡ 0 }
+    ensures ok { IfOk result (λ c. IfSome records.old.left (λ rows. SpellsClaim rows (claimed c))) }
+    // also where the reader's bytes are not known
+    ensures in_range { IfOk result (λ c. IsClaim (claimed c)) }
+    // at the record that was asked for last: none was read past it
+    ensures last { IfErr result (λ f. f.at ≡ records.new.at) }
+    ensures err { IfErr result (λ f. IfSome records.old.left (λ rows.
+        IsOutside records.new.failed f.why ⊎ ClaimFault rows f.at f.why)) }
+    // also where it came from outside: at most one past the last record, and no record before it is wrong
+    ensures reached { IfErr result (λ f. Reaches claim_form records.old.left 0 f.at) }
+    ensures reads { (1 ≤ records.new.at) × (records.new.at ≤ MOST_COMMANDS + 3) }
+    // the last thing that was asked for is the record after the commands, which there is not
+    ensures end { IfOk result (λ c. records.new.at ≡ length c.commands.items + 3) }
+{
+    let (_, (depth, count)) = match read_line(records, &TitleForm) {
+        Ok(title) => title,
+        Err(fault) => return Err(fault),
+    };
+    match read_claim_body(alloc, records, depth, count) {
+        Ok(certificate) => Ok(certificate),
+        Err(fault) => Err(fault),
+    }
+}
+
+/// Adds the title record.
+fn push_title(draft: &mut Block, depth: u64, count: u64) -> Result<(), AllocError>
+    ensures text { OnOk result (drafted draft.new ≡ drafted draft.old ++ rows_text (title_by (codes "blk-certificate") counted_cells (1, (depth, count)) ∷ [])) }
+{
+    let start = draft.room()?;
+    let buf = &mut draft.block;
+    let head = put(b"blk-certificate,1,", buf, start);
+    let end = put_two(depth, count, buf, head);
+    draft.at = put(b"\n", buf, end);
+    Ok(())
+}
+
+/// Adds the record that says that there is no bound.
+fn push_no_bound(draft: &mut Block) -> Result<(), AllocError>
+    ensures text { OnOk result (drafted draft.new ≡ drafted draft.old ++ rows_text (bound_row None ∷ [])) }
+{
+    let start = draft.room()?;
+    draft.at = put(b"bound,none,none,none\n", &mut draft.block, start);
+    Ok(())
+}
+
+/// Adds the record of a lateness and its window.
+fn push_some_bound(
+    alloc: Global,
+    draft: &mut Block,
+    lateness: i64,
+    window: Window,
+) -> Result<(), AllocError>
+    ensures text { OnOk result (drafted draft.new ≡ drafted draft.old ++ rows_text (bound_row (Some (lateness, window)) ∷ [])) }
+{
+    let late = lateness.to_string(alloc)?;
+    let start = draft.room()?;
+    let buf = &mut draft.block;
+    let head = put(b"bound,", buf, start);
+    let named = put(late.as_bytes(), buf, head);
+    let mark = put(b",", buf, named);
+    let end = put_two(window.from, window.due, buf, mark);
+    draft.at = put(b"\n", buf, end);
+    Ok(())
+}
+
+/// Adds the record of a bound.
+fn push_bound(
+    alloc: Global,
+    draft: &mut Block,
+    bound: Option<(i64, Window)>,
+) -> Result<(), AllocError>
+    ensures text { OnOk result (drafted draft.new ≡ drafted draft.old ++ rows_text (bound_row bound ∷ [])) }
+{
+    match bound {
+        None => push_no_bound(draft),
+        Some((lateness, window)) => push_some_bound(alloc, draft, lateness, window),
+    }
+}
+
+/// Adds the record of a command and its round.
+#[inline]
+pub(crate) fn push_served(
+    draft: &mut Block,
+    command: &Command,
+    round: u64,
+) -> Result<(), AllocError>
+    ensures text { OnOk result (drafted draft.new ≡ drafted draft.old ++ rows_text (row_by served_cells (command.now, round) ∷ [])) }
+{
+    let start = draft.room()?;
+    let buf = &mut draft.block;
+    let named = put_two(command.id, command.release, buf, start);
+    let mark = put(b",", buf, named);
+    let end = put_two(command.due, round, buf, mark);
+    draft.at = put(b"\n", buf, end);
+    Ok(())
+}
+
+/// The text of a certificate.
+fn certificate_text(alloc: Global, certificate: &Certificate) -> Result<Vec<u8>, AllocError>
+    requires { IsClaim (claimed certificate.now) }
+    ensures { IfOk result (λ v. v.items ≡ rows_text (claim_rows (claimed certificate.now))) }
+{
+    let mut draft = Block::new(alloc);
+    let commands = certificate.commands.as_slice();
+    let rounds = certificate.rounds.as_slice();
+    push_title(&mut draft, certificate.depth, commands.len() as u64)?;
+    push_bound(alloc, &mut draft, certificate.bound)?;
+    for i in 0..commands.len() {
+        push_served(&mut draft, &commands[i], rounds[i])?;
+    }
+    draft.finish()
+}
+
+/// Writes the text of a certificate, at once where all of it could be made.
+///
+/// There are at most 1,000,000 commands with a round each, the numbers lie in the ranges of the
+/// form, and there is no bound exactly where there are no commands.
+///
+/// [`WriteFault::Write`]: the writer answered a fault; what it took before, a first part of the text, is out, and
+/// nothing says how much that is. [`WriteFault::Memory`]: nothing was handed to the writer.
+pub fn write_certificate<W: Write>(
+    alloc: Global,
+    certificate: &Certificate,
+    writer: &mut W,
+) -> Result<(), WriteFault>
+    requires { IsClaim (claimed certificate.now) }
+    ensures ok { OnOk result (Appends (W.contents writer.old) (W.contents writer.new) (rows_text (claim_rows (claimed certificate.now)))) }
+    // the records of that text spell it
+    ensures spells { SpellsClaim (claim_rows (claimed certificate.now)) (claimed certificate.now) }
+    ensures memory { IfErr result (λ f. f ≡ WriteFault.Memory → writer.new ≡ writer.old) }
+    // whatever the answer
+    ensures part { AppendsPart (W.contents writer.old) (W.contents writer.new) (rows_text (claim_rows (claimed certificate.now))) }
+{
+    match certificate_text(alloc, certificate) {
+        Ok(text) => write_whole(writer, text.as_slice()),
+        Err(AllocError) => Err(WriteFault::Memory),
+    }
+}

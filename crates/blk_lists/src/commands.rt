@@ -1,0 +1,200 @@
+//! Command lists.
+
+ghost use Rattle.std.specs.Prelude.{◌≡◌, ◌⊎◌, ◌+◌, ◌≤◌, ◌<◌, ◌^◌, ◌++◌, ◌∷◌, [], IfOk, IfErr, IfSome, OnOk, length, codes};
+ghost use Rattle.std.specs.Io.KnownBytes.{Appends};
+ghost use Rattle.csv.specs.Records.{fields_of};
+ghost use Rattle.blk_lists.specs.Tables.{row_by, title_by};
+ghost use Rattle.blk_lists.specs.Texts.{rows_text};
+ghost use Rattle.drafts.specs.Parts.{AppendsPart};
+ghost use Rattle.drafts.specs.Drafts.{drafted};
+ghost use Rattle.parts.specs.Parts.{Begins};
+ghost use Rattle.blk_lists.specs.Reads.{IsOutside, Reaches};
+ghost use Rattle.blk_lists.specs.Commands.{AreCommands, SpellsCommands, CommandsFault, command_cells, command_list, commands_rows, depth_cells};
+
+use crate::fault::{TextFault, Why};
+use crate::fields::{Slot, read_fields, version_of};
+use crate::items::{LineForm, read_line, read_lines};
+use crate::source::Records;
+use csv::ByteRecord;
+use drafts::pieces::{put, put_number, put_two};
+use drafts::{Block, WriteFault, write_whole};
+use edd_check::{Command, MOST_COMMANDS, MOST_DEPTH, RELEASE_LIMIT, ROUND_LIMIT};
+use parts::Repeats;
+use std::alloc::{AllocError, Global};
+use std::io::{Read, Write};
+
+/// The title record: the version and the depth.
+#[derive(Clone, Copy, Drop)]
+pub(crate) struct TitleForm;
+
+impl LineForm for TitleForm {
+    ghost use Rattle.blk_lists.specs.Commands.{title};
+
+    type Line = (u64, u64);
+
+    ghost part = { λ _. title };
+
+    #[tactic(auto, using(crate::proofs::CommandLaws::title_one))]
+    fn gone(&self) -> Why {
+        Why::Title
+    }
+
+    fn line(&self, row: &ByteRecord) -> Result<(u64, u64), Why> {
+        let Some(version) = version_of(row, b"blk-commands", 1) else {
+            return Err(Why::Title);
+        };
+        let slots = [
+            Slot::Given,
+            Slot::Given,
+            Slot::Number {
+                least: 1,
+                most: MOST_DEPTH,
+            },
+        ];
+        match read_fields(row, &slots) {
+            Ok(numbers) => Ok((version, numbers[2])),
+            Err(why) => Err(why),
+        }
+    }
+}
+
+/// A record of a command list: id, release, due.
+#[derive(Clone, Copy, Drop)]
+pub(crate) struct CommandForm;
+
+impl LineForm for CommandForm {
+    ghost use Rattle.blk_lists.specs.Commands.{command};
+
+    type Line = Command;
+
+    ghost part = { λ _. command };
+
+    #[tactic(auto, using(crate::proofs::CommandLaws::command_one))]
+    fn gone(&self) -> Why {
+        Why::Count
+    }
+
+    fn line(&self, row: &ByteRecord) -> Result<Command, Why> {
+        let slots = [
+            Slot::Number {
+                least: 0,
+                most: u64::MAX,
+            },
+            Slot::Number {
+                least: 0,
+                most: RELEASE_LIMIT - 1,
+            },
+            Slot::Number {
+                least: 0,
+                most: ROUND_LIMIT - 1,
+            },
+        ];
+        match read_fields(row, &slots) {
+            Ok(numbers) => Ok(Command {
+                id: numbers[0],
+                release: numbers[1],
+                due: numbers[2],
+            }),
+            Err(why) => Err(why),
+        }
+    }
+}
+
+/// The depth and the commands of a text of records of three fields: a title with the depth, 1 to 256,
+/// and at most 1,000,000 commands by id, release round and due round. No record was read before.
+///
+/// The fault is the first one: of the least record, and in it the first in the order of [`Why`].
+/// [`Why::Read`] and [`Why::Memory`] come at the record that is being read. No record is asked for past
+/// that of the fault, and never more than 1,000,002.
+pub fn read_commands<R: Read + Drop>(
+    alloc: Global,
+    records: &mut Records<R>,
+) -> Result<(u64, Vec<Command>), TextFault>
+    requires { records.old.at ≡ 0 }
+    ensures ok { IfOk result (λ v. IfSome records.old.left (λ rows. SpellsCommands rows v.0 v.1.items)) }
+    // also where the reader's bytes are not known
+    ensures in_range { IfOk result (λ v. AreCommands v.0 v.1.items) }
+    // at the record that was asked for last: none was read past it
+    ensures last { IfErr result (λ f. f.at ≡ records.new.at) }
+    ensures err { IfErr result (λ f. IfSome records.old.left (λ rows.
+        IsOutside records.new.failed f.why ⊎ CommandsFault rows f.at f.why)) }
+    // also where it came from outside: at most one past the last record, and no record before it is wrong
+    ensures reached { IfErr result (λ f. Reaches command_list records.old.left 0 f.at) }
+    ensures reads { (1 ≤ records.new.at) × (records.new.at ≤ MOST_COMMANDS + 2) }
+    // the last thing that was asked for is the record after the commands, which there is not
+    ensures end { IfOk result (λ v. records.new.at ≡ length v.1.items + 2) }
+{
+    let (_, depth) = match read_line(records, &TitleForm) {
+        Ok(title) => title,
+        Err(fault) => return Err(fault),
+    };
+    match read_lines(alloc, records, CommandForm, Repeats::AtMost(MOST_COMMANDS)) {
+        Ok(commands) => Ok((depth, commands)),
+        Err(fault) => Err(fault),
+    }
+}
+
+/// Adds the record of a command.
+#[inline]
+fn push_command(draft: &mut Block, command: &Command) -> Result<(), AllocError>
+    ensures text { OnOk result (drafted draft.new ≡ drafted draft.old ++ rows_text (row_by command_cells command.now ∷ [])) }
+{
+    let start = draft.room()?;
+    let buf = &mut draft.block;
+    let named = put_two(command.id, command.release, buf, start);
+    let mark = put(b",", buf, named);
+    let end = put_number(command.due, buf, mark);
+    draft.at = put(b"\n", buf, end);
+    Ok(())
+}
+
+/// Adds the title record.
+fn push_title(draft: &mut Block, depth: u64) -> Result<(), AllocError>
+    ensures text { OnOk result (drafted draft.new ≡ drafted draft.old ++ rows_text (title_by (codes "blk-commands") depth_cells (1, depth) ∷ [])) }
+{
+    let start = draft.room()?;
+    let buf = &mut draft.block;
+    let head = put(b"blk-commands,1,", buf, start);
+    let end = put_number(depth, buf, head);
+    draft.at = put(b"\n", buf, end);
+    Ok(())
+}
+
+/// The text of a depth and a list of commands.
+fn commands_text(alloc: Global, depth: u64, commands: &[Command]) -> Result<Vec<u8>, AllocError>
+    ensures { IfOk result (λ v. v.items ≡ rows_text (commands_rows depth commands.now)) }
+{
+    let mut draft = Block::new(alloc);
+    push_title(&mut draft, depth)?;
+    for i in 0..commands.len() {
+        push_command(&mut draft, &commands[i])?;
+    }
+    draft.finish()
+}
+
+/// Writes the text of a depth and a list of commands, at once where all of it could be made.
+///
+/// There are at most 1,000,000 commands, and the numbers lie in the ranges of the form: a depth of
+/// 1 to 256, releases below round 2^40, dues below round 2^41.
+///
+/// [`WriteFault::Write`]: the writer answered a fault; what it took before, a first part of the text, is out, and
+/// nothing says how much that is. [`WriteFault::Memory`]: nothing was handed to the writer.
+pub fn write_commands<W: Write>(
+    alloc: Global,
+    depth: u64,
+    commands: &[Command],
+    writer: &mut W,
+) -> Result<(), WriteFault>
+    requires { AreCommands depth commands.now }
+    ensures ok { OnOk result (Appends (W.contents writer.old) (W.contents writer.new) (rows_text (commands_rows depth commands.now))) }
+    // the records of that text spell them
+    ensures spells { SpellsCommands (commands_rows depth commands.now) depth commands.now }
+    ensures memory { IfErr result (λ f. f ≡ WriteFault.Memory → writer.new ≡ writer.old) }
+    // whatever the answer
+    ensures part { AppendsPart (W.contents writer.old) (W.contents writer.new) (rows_text (commands_rows depth commands.now)) }
+{
+    match commands_text(alloc, depth, commands) {
+        Ok(text) => write_whole(writer, text.as_slice()),
+        Err(AllocError) => Err(WriteFault::Memory),
+    }
+}

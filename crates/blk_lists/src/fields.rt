@@ -1,0 +1,412 @@
+//! The fields of a record by what may stand in them.
+
+ghost use Rattle.std.specs.Prelude.{◌≡◌, ◌≢◌, ◌⊎◌, ◌+◌, ◌*◌, ◌<◌, ◌≤◌, ◌^◌, ◌↔◌, ℕ, List, [], ◌∷◌, length, get_or, IsTrue, IfOk, IfErr, IfSome, MatchOption, decimal, codes};
+ghost use Rattle.std.specs.Str.Parse.{AllDigits, digits_value};
+ghost use Rattle.csv.specs.Records.{fields_of};
+ghost use Rattle.blk_lists.specs.Fields.{EachField, IsBlank, IsDirection, IsNumber, IsInRange, IsShaped, IsSized, Lacks, NumberOf, IsWithinSlot, EachNumber, FieldSpells, FieldsSpell, WritesNumber, canonical};
+ghost use Rattle.blk_bio.specs.Letters.{direction_text};
+ghost use Rattle.blk_lists.specs.Tables.{IsTitled, IsVersion};
+ghost use Rattle.blk_lists.specs.Words.{StartsWith, HasNoWord};
+
+use crate::fault::Why;
+use blk_bio::Dir;
+use csv::ByteRecord;
+
+/// The most fields that a record has.
+pub const WIDTH: usize = 6;
+
+/// What may stand in a field of a record.
+#[derive(Debug, Clone, Copy, PartialEq, Eq)]
+pub enum Slot {
+    /// What was looked at before: a word, or the name and version of a form.
+    Given,
+    /// Nothing.
+    Blank,
+    /// R or W.
+    Direction,
+    /// A number from `least` to `most`.
+    Number { least: u64, most: u64 },
+    /// A number up to `most`, one other than 0 perhaps with a minus before it.
+    Lateness { most: u64 },
+}
+
+/// Any number.
+pub const ANY: Slot = Slot::Number {
+    least: 0,
+    most: u64::MAX,
+};
+
+/// Every tag of a record lies below this.
+pub const TAG_LIMIT: u64 = 1 << 16;
+
+/// A tag.
+pub const TAG: Slot = Slot::Number {
+    least: 0,
+    most: TAG_LIMIT - 1,
+};
+
+/// The direction of a field that is R or W.
+pub fn direction_of(field: &[u8]) -> Dir
+    requires { (field.now ≡ codes "R") ⊎ (field.now ≡ codes "W") }
+    ensures { field.now ≡ direction_text result }
+{
+    if field == b"R".as_slice() {
+        Dir::Read
+    } else {
+        Dir::Write
+    }
+}
+
+/// The field at a place, empty where the record has none.
+pub fn field(row: &ByteRecord, place: usize) -> &[u8]
+    ensures { result.now ≡ get_or (fields_of row.now) place [] }
+{
+    match row.get(place) {
+        Some(field) => field,
+        None => &[],
+    }
+}
+
+/// Whether digits begin as those of a number do: with no zero before another digit.
+fn is_canonical(field: &[u8]) -> bool
+    ensures { AllDigits 10 field.now → result ≡ canonical field.now }
+{
+    match field {
+        [] => false,
+        [first, rest @ ..] => *first != b'0' || rest.is_empty(),
+    }
+}
+
+/// The greatest number that a digit can follow.
+const LAST: u64 = u64::MAX / 10;
+
+/// Whether a number does not fit once one more digit follows it.
+fn is_past(number: u64, digit: u64) -> bool
+    requires { digit < 10 }
+    ensures { IsTrue result ↔ (2 ^ 64 ≤ number * 10 + digit) }
+{
+    number > LAST || (number == LAST && digit > u64::MAX % 10)
+}
+
+/// The same for digits of any number. Seldom asked, so apart from the others.
+#[cold]
+#[inline(never)]
+fn long_number(field: &[u8]) -> Option<u64>
+    ensures { MatchOption result (¬ WritesNumber field.now) (λ n. WritesNumber field.now × (n ≡ digits_value 10 field.now)) }
+{
+    let mut number: u64 = 0;
+    for i in 0..field.len() {
+        let byte = field[i];
+        if byte < b'0' || byte > b'9' {
+            return None;
+        }
+        let digit = byte as u64 - b'0' as u64;
+        if is_past(number, digit) {
+            return None;
+        }
+        number = number * 10 + digit;
+    }
+    Some(number)
+}
+
+/// The most digits of which every number fits.
+const SAFE: usize = 19;
+
+/// The number that so few digits write that it fits, if they are digits.
+fn short_number(field: &[u8]) -> Option<u64>
+    requires { length field.now ≤ 19 }
+    ensures { MatchOption result (¬ WritesNumber field.now) (λ n. WritesNumber field.now × (n ≡ digits_value 10 field.now)) }
+{
+    let mut number: u64 = 0;
+    for byte in field {
+        let digit = (*byte as u64).wrapping_sub(b'0' as u64);
+        if digit > 9 {
+            return None;
+        }
+        number = number * 10 + digit;
+    }
+    Some(number)
+}
+
+/// The number that one digit writes.
+#[inline(always)]
+fn one_digit(byte: u8) -> Option<u64>
+    ensures { MatchOption result ((n : ℕ) → n < 2 ^ 64 → byte ∷ [] ≢ decimal n) (λ n. byte ∷ [] ≡ decimal n) }
+{
+    let digit = (byte as u64).wrapping_sub(b'0' as u64);
+    if digit > 9 {
+        return None;
+    }
+    Some(digit)
+}
+
+/// The number that a field writes, in decimal digits with no leading zero. Many fields have one digit.
+#[inline(always)]
+pub fn parse_number(field: &[u8]) -> Option<u64>
+    ensures { MatchOption result ((n : ℕ) → n < 2 ^ 64 → field.now ≢ decimal n) (λ n. field.now ≡ decimal n) }
+{
+    match field {
+        [only] => one_digit(*only),
+        _ => parse_digits(field),
+    }
+}
+
+/// The same for a field of any length.
+fn parse_digits(field: &[u8]) -> Option<u64>
+    ensures { MatchOption result ((n : ℕ) → n < 2 ^ 64 → field.now ≢ decimal n) (λ n. field.now ≡ decimal n) }
+{
+    if !is_canonical(field) {
+        None
+    } else if field.len() <= SAFE {
+        short_number(field)
+    } else {
+        long_number(field)
+    }
+}
+
+/// What stands after a minus.
+pub fn after_minus(field: &[u8]) -> Option<&[u8]>
+    ensures { MatchOption result (get_or field.now 0 0 ≢ 45) (λ digits. field.now ≡ 45 ∷ digits.now) }
+{
+    match field {
+        [b'-', digits @ ..] => Some(digits),
+        _ => None,
+    }
+}
+
+/// The size of a signed number.
+fn parse_sized(field: &[u8]) -> Option<u64>
+    ensures { MatchOption result ((n : ℕ) → n < 2 ^ 64 → ¬ IsSized field.now n) (IsSized field.now) }
+{
+    match after_minus(field) {
+        Some(digits) => match parse_number(digits) {
+            Some(n) => {
+                if n == 0 {
+                    return None;
+                }
+                Some(n)
+            }
+            None => None,
+        },
+        None => parse_number(field),
+    }
+}
+
+/// Whether a field is empty where its slot is blank.
+fn is_blank(slot: Slot, field: &[u8]) -> bool
+    ensures { IsTrue result ↔ IsBlank slot field.now }
+{
+    match slot {
+        Slot::Blank => field.is_empty(),
+        Slot::Given | Slot::Direction | Slot::Number { .. } | Slot::Lateness { .. } => true,
+    }
+}
+
+/// Whether a field is R or W where its slot is a direction.
+fn is_direction(slot: Slot, field: &[u8]) -> bool
+    ensures { IsTrue result ↔ IsDirection slot field.now }
+{
+    match slot {
+        Slot::Direction => match field {
+            [only] => *only == b'R' || *only == b'W',
+            _ => false,
+        },
+        Slot::Given | Slot::Blank | Slot::Number { .. } | Slot::Lateness { .. } => true,
+    }
+}
+
+/// The number of a field, or 0 where its slot has none.
+fn number(slot: Slot, field: &[u8]) -> Option<u64>
+    ensures { MatchOption result (¬ IsNumber slot field.now) (NumberOf slot field.now) }
+{
+    match slot {
+        Slot::Number { .. } => parse_number(field),
+        Slot::Lateness { .. } => parse_sized(field),
+        Slot::Given | Slot::Blank | Slot::Direction => Some(0),
+    }
+}
+
+/// Whether a number lies in the range of its slot.
+fn is_within(slot: Slot, number: u64) -> bool
+    ensures { IsTrue result ↔ IsWithinSlot slot number }
+{
+    match slot {
+        Slot::Number { least, most } => least <= number && number <= most,
+        Slot::Lateness { most } => number <= most,
+        Slot::Given | Slot::Blank | Slot::Direction => true,
+    }
+}
+
+/// Whether a record has a field for each slot, the blank ones empty.
+fn is_shaped(row: &ByteRecord, slots: &[Slot]) -> bool
+    ensures { IsTrue result ↔ IsShaped slots.now (fields_of row.now) }
+{
+    if row.len() != slots.len() {
+        return false;
+    }
+    for i in 0..slots.len() {
+        if !is_blank(slots[i], field(row, i)) {
+            return false;
+        }
+    }
+    true
+}
+
+/// Whether each direction of a record is one.
+fn has_directions(row: &ByteRecord, slots: &[Slot]) -> bool
+    ensures { IsTrue result ↔ EachField IsDirection slots.now (fields_of row.now) }
+{
+    for i in 0..slots.len() {
+        if !is_direction(slots[i], field(row, i)) {
+            return false;
+        }
+    }
+    true
+}
+
+/// The numbers of a record's fields by place, if each is one.
+fn numbers_of(row: &ByteRecord, slots: &[Slot]) -> Option<[u64; WIDTH]>
+    requires { length slots.now ≤ 6 }
+    ensures { MatchOption result (¬ EachField IsNumber slots.now (fields_of row.now)) (EachNumber NumberOf slots.now (fields_of row.now)) }
+{
+    let mut numbers = [0; WIDTH];
+    for i in 0..slots.len() {
+        match number(slots[i], field(row, i)) {
+            Some(n) => numbers[i] = n,
+            None => return None,
+        }
+    }
+    Some(numbers)
+}
+
+/// Whether each number lies in the range of its slot.
+fn are_within(slots: &[Slot], numbers: &[u64; WIDTH]) -> bool
+    requires { length slots.now ≤ 6 }
+    ensures { IsTrue result ↔ ((k : ℕ) → k < length slots.now → IsWithinSlot (get_or slots.now k Slot.Given) (get_or numbers.now k 0)) }
+{
+    for i in 0..slots.len() {
+        if !is_within(slots[i], numbers[i]) {
+            return false;
+        }
+    }
+    true
+}
+
+/// The number of a field that is what its slot wants, 0 where the slot has none.
+fn spelled(slot: Slot, field: &[u8]) -> Option<u64>
+    ensures { IfSome result (FieldSpells slot field.now) }
+{
+    match slot {
+        Slot::Given => Some(0),
+        Slot::Blank => { if field.is_empty() { Some(0) } else { None } }
+        Slot::Direction => match field {
+            [b'R'] | [b'W'] => Some(0),
+            _ => None,
+        },
+        Slot::Number { least, most } => match parse_number(field) {
+            Some(n) if least <= n && n <= most => Some(n),
+            _ => None,
+        },
+        Slot::Lateness { most } => match parse_sized(field) {
+            Some(n) if n <= most => Some(n),
+            _ => None,
+        },
+    }
+}
+
+/// The numbers of a record's fields by place, where the record is what its slots want; in one pass, so that
+/// a record without a fault is looked at once.
+fn spelled_numbers(row: &ByteRecord, slots: &[Slot]) -> Option<[u64; WIDTH]>
+    requires { length slots.now ≤ 6 }
+    ensures { IfSome result (FieldsSpell slots.now (fields_of row.now)) }
+{
+    if row.len() != slots.len() {
+        return None;
+    }
+    let mut numbers = [0; WIDTH];
+    for i in 0..slots.len() {
+        match spelled(slots[i], field(row, i)) {
+            Some(n) => numbers[i] = n,
+            None => return None,
+        }
+    }
+    Some(numbers)
+}
+
+/// The numbers of a record's fields by place, or the first thing that it lacks: each kind of fault is looked for
+/// in all fields before the next kind.
+#[cold]
+#[inline(never)]
+fn check_fields(row: &ByteRecord, slots: &[Slot]) -> Result<[u64; WIDTH], Why>
+    requires { length slots.now ≤ 6 }
+    ensures ok { IfOk result (FieldsSpell slots.now (fields_of row.now)) }
+    ensures err { IfErr result (Lacks slots.now (fields_of row.now)) }
+{
+    if !is_shaped(row, slots) {
+        return Err(Why::Fields);
+    }
+    if !has_directions(row, slots) {
+        return Err(Why::Word);
+    }
+    match numbers_of(row, slots) {
+        None => Err(Why::Number),
+        Some(numbers) => {
+            if are_within(slots, &numbers) {
+                Ok(numbers)
+            } else {
+                Err(Why::Range)
+            }
+        }
+    }
+}
+
+/// The numbers of a record's fields by place, 0 where a slot has none, or the first thing that it lacks.
+pub fn read_fields(row: &ByteRecord, slots: &[Slot]) -> Result<[u64; WIDTH], Why>
+    requires { length slots.now ≤ 6 }
+    ensures ok { IfOk result (FieldsSpell slots.now (fields_of row.now)) }
+    ensures err { IfErr result (Lacks slots.now (fields_of row.now)) }
+{
+    match spelled_numbers(row, slots) {
+        Some(numbers) => Ok(numbers),
+        None => check_fields(row, slots),
+    }
+}
+
+/// The fault of a record that begins with no word of its form.
+pub fn without_word(row: &ByteRecord, width: usize) -> Why
+    ensures { HasNoWord width (fields_of row.now) result }
+{
+    if row.len() == width {
+        Why::Word
+    } else {
+        Why::Fields
+    }
+}
+
+/// Whether a record begins with a word.
+pub fn begins_with(row: &ByteRecord, word: &[u8]) -> bool
+    requires { 0 < length word.now }
+    ensures { IsTrue result ↔ StartsWith word.now (fields_of row.now) }
+{
+    field(row, 0) == word
+}
+
+/// The version of a title record of the form of this name, if the form has one like it.
+pub fn version_of(row: &ByteRecord, name: &[u8], latest: u64) -> Option<u64>
+    ensures { MatchOption result ((version : ℕ) → IsVersion latest version → ¬ IsTitled name.now version (fields_of row.now))
+        (λ version. IsVersion latest version × IsTitled name.now version (fields_of row.now)) }
+{
+    if row.len() < 2 || field(row, 0) != name {
+        return None;
+    }
+    let Some(version) = parse_number(field(row, 1)) else {
+        return None;
+    };
+    if version < 1 {
+        return None;
+    }
+    if latest < version {
+        return None;
+    }
+    Some(version)
+}

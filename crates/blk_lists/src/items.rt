@@ -1,0 +1,230 @@
+//! Items of a text, each of which may have some records and depend on those before it.
+
+ghost use Rattle.std.specs.Prelude.{◌≡◌, ◌+◌, ◌-◌, ◌*◌, ◌<◌, ◌≤◌, ◌^◌, ℕ, List, [], length, All, OnOk, OnErr, IfOk, IfErr, IfSome};
+ghost use Rattle.csv.specs.Records.{fields_of};
+ghost use Rattle.blk_lists.specs.Sources.{Row};
+ghost use Rattle.blk_lists.specs.declared.fault.Why.{Why as AWhy};
+ghost use Rattle.parts.specs.Parts.{Part, Begins, IsCount, most_of};
+ghost use Rattle.blk_lists.specs.Reads.{Reads, HandFails, Fails, Halts, Gathers, AreGathered, IsRowOf, IsWrongLine, IsOne, IsStopped, beyond_of, items_of, repeated};
+
+use crate::fault::{TextFault, Why};
+use crate::source::Records;
+use csv::ByteRecord;
+use parts::Repeats;
+use std::alloc::Global;
+use std::io::Read;
+
+/// A kind of record by itself.
+pub trait LineForm {
+    type Line;
+
+    ghost part: { Self → Part Row AWhy Self.Line };
+
+    /// The fault where the record never came.
+    fn gone(&self) -> Why
+        ensures wrong { (part self.now).Wrong [] 1 result }
+        ensures one { IsOne (part self.now) };
+
+    /// The line that a record spells, or the first thing that is wrong with it.
+    fn line(&self, row: &ByteRecord) -> Result<Self::Line, Why>
+        ensures ok { IfOk result (IsRowOf (part self.now) (fields_of row.now)) }
+        ensures err { IfErr result (IsWrongLine (part self.now) (fields_of row.now)) };
+}
+
+/// The line of the next record.
+pub fn read_line<R: Read + Drop, F: LineForm>(
+    records: &mut Records<R>,
+    form: &F,
+) -> Result<F::Line, TextFault>
+    requires { records.old.at < 2 ^ 64 - 1 }
+    ensures at { records.new.at ≡ records.old.at + 1 }
+    ensures ok { IfOk result (Reads (F.part form.now) records.old.left records.new.left) }
+    // also where the reader's bytes are not known
+    ensures fits { IfOk result (F.part form.now).Fits }
+    // at the record that was asked for last: none was read past it
+    ensures last { IfErr result (λ f. f.at ≡ records.new.at) }
+    ensures err { IfErr result (λ f. Halts records.new.failed (F.part form.now) records.old.left records.old.at f.at f.why) }
+{
+    let gone = form.gone();
+    if !records.advance()? {
+        return Err(records.fault(gone));
+    }
+    match form.line(records.row()) {
+        Ok(line) => Ok(line),
+        Err(why) => Err(records.fault(why)),
+    }
+}
+
+/// A kind of item, which has a record at least and may depend on the items before it.
+pub trait ItemForm {
+    /// What the items are gathered in.
+    type Items;
+
+    ghost View: { Type 0 };
+
+    ghost seen: { Self.Items → List View };
+
+    ghost part: { Self → List View → Part Row AWhy View };
+
+    // these items may be gathered by this form
+    ghost suits: { Self → Self.Items → Type 0 };
+
+    // the most records past the first
+    ghost more: { ℕ };
+
+    /// The fault where the first record never came.
+    fn gone(&self, items: &Self::Items) -> Why
+        ensures { (part self.now (seen items.now)).Wrong [] 1 result };
+
+    /// Reads the item of the record that was read last and those after it, and adds it to those before it.
+    fn read<R: Read + Drop>(
+        &self,
+        alloc: Global,
+        records: &mut Records<R>,
+        items: &mut Self::Items,
+    ) -> Result<(), TextFault>
+        requires room { records.old.at + more < 2 ^ 64 - 1 }
+        requires suits { suits self.now items.old }
+        ensures suits { OnOk result (suits self.now items.new) }
+        ensures ok { OnOk result (Gathers (part self.now) (seen items.old) (seen items.new) records.old.left records.old.fields records.new.left records.old.at records.new.at) }
+        ensures last { IfErr result (λ f. (records.old.at ≤ f.at) × (f.at ≤ records.new.at)) }
+        ensures err { IfErr result (λ f. HandFails records.new.failed (part self.now (seen items.old)) records.old.left records.old.fields records.old.at f.at f.why) }
+        ensures reads { (records.old.at ≤ records.new.at) × (records.new.at ≤ records.old.at + more) };
+}
+
+/// Reads items until there are as many as there may be, or until the text is over where there may be fewer, and says
+/// whether it is over.
+pub fn gather<R: Read + Drop, F: ItemForm>(
+    alloc: Global,
+    records: &mut Records<R>,
+    form: &F,
+    repeats: Repeats,
+    items: &mut F::Items,
+) -> Result<bool, TextFault>
+    requires room { records.old.at + most_of repeats * (F.more + 1) < 2 ^ 64 - 1 }
+    requires none { F.seen items.old ≡ [] }
+    requires suits { F.suits form.now items.old }
+    ensures suits { OnOk result (F.suits form.now items.new) }
+    ensures ok { IfOk result (AreGathered repeats (F.part form.now) records.old.left records.new.left records.old.at records.new.at (F.seen items.new)) }
+    ensures err { IfErr result (λ f. Fails records.new.failed (repeated repeats (F.part form.now)) records.old.left records.old.at f.at f.why) }
+    // all items before the one that is being read are good, and no record past that one is asked for
+    ensures before { IfErr result (λ f. IsStopped repeats (F.part form.now) records.old.left records.old.at F.more f.at records.new.at) }
+    ensures asked { OnErr result (records.old.at < records.new.at) }
+    ensures reads { (records.old.at ≤ records.new.at) × (records.new.at ≤ records.old.at + most_of repeats * (F.more + 1)) }
+{
+    for _ in 0..repeats.most() {
+        match records.advance() {
+            Ok(true) => {}
+            Ok(false) => {
+                return match repeats {
+                    Repeats::AtMost(_) => Ok(true),
+                    Repeats::Exactly(_) => Err(records.fault(form.gone(items))),
+                };
+            }
+            Err(fault) => return Err(fault),
+        }
+        match form.read(alloc, records, items) {
+            Ok(()) => {}
+            Err(fault) => return Err(fault),
+        }
+    }
+    Ok(false)
+}
+
+/// Items that have one record each.
+#[derive(Clone, Copy, Drop)]
+pub struct Each<F> {
+    pub form: F,
+}
+
+impl<F: LineForm> ItemForm for Each<F>
+where
+    F::Line: Drop,
+{
+    ghost use Rattle.std.specs.Prelude.{List};
+
+    type Items = Vec<F::Line>;
+
+    ghost View = { F.Line };
+
+    ghost seen = { λ v. v.items };
+
+    ghost part = { λ e _. F.part e.form };
+
+    ghost suits = { λ _ _. Unit {0} };
+
+    ghost more = { 0 };
+
+    fn gone(&self, items: &Vec<F::Line>) -> Why {
+        let _ = items;
+        self.form.gone()
+    }
+
+    fn read<R: Read + Drop>(
+        &self,
+        alloc: Global,
+        records: &mut Records<R>,
+        items: &mut Vec<F::Line>,
+    ) -> Result<(), TextFault> {
+        let _ = (alloc, self.form.gone());
+        match self.form.line(records.row()) {
+            Ok(line) => {
+                if items.push(line).is_err() {
+                    return Err(records.fault(Why::Memory));
+                }
+                Ok(())
+            }
+            Err(why) => Err(records.fault(why)),
+        }
+    }
+}
+
+/// The fault of one item more.
+pub fn beyond(repeats: Repeats) -> Why
+    ensures { result ≡ beyond_of repeats }
+{
+    match repeats {
+        Repeats::AtMost(_) => Why::TooLong,
+        Repeats::Exactly(_) => Why::Count,
+    }
+}
+
+/// The lines that are left, to the end of the text.
+pub fn read_lines<R: Read + Drop, F: LineForm>(
+    alloc: Global,
+    records: &mut Records<R>,
+    form: F,
+    repeats: Repeats,
+) -> Result<Vec<F::Line>, TextFault>
+where
+    F::Line: Drop,
+    F: Drop,
+    requires { records.old.at + most_of repeats + 1 < 2 ^ 64 - 1 }
+    ensures ok { IfOk result (λ v. IfSome records.old.left (λ rows. Begins (items_of repeats (λ _. F.part form)) rows v.items [])) }
+    ensures err { IfErr result (λ f. Halts records.new.failed (items_of repeats (λ _. F.part form)) records.old.left records.old.at f.at f.why) }
+    // at the record that was asked for last: none was read past it
+    ensures last { IfErr result (λ f. f.at ≡ records.new.at) }
+    // also where the reader's bytes are not known
+    ensures fit { IfOk result (λ v. All (F.part form).Fits v.items × IsCount repeats (length v.items)) }
+    ensures reads { (records.old.at < records.new.at) × (records.new.at ≤ records.old.at + most_of repeats + 1) }
+    // the last thing that was asked for is the record after the lines, which there is not
+    ensures end { IfOk result (λ v. records.new.at ≡ records.old.at + length v.items + 1) }
+{
+    let each = Each { form };
+    let mut lines = Vec::new(alloc);
+    let _ = each.form.gone();
+    match gather(alloc, records, &each, repeats, &mut lines) {
+        Ok(true) => return Ok(lines),
+        Ok(false) => {}
+        Err(fault) => return Err(fault),
+    }
+    match records.advance() {
+        Ok(true) => {}
+        Ok(false) => return Ok(lines),
+        Err(fault) => return Err(fault),
+    }
+    match each.form.line(records.row()) {
+        Ok(_) => Err(records.fault(beyond(repeats))),
+        Err(why) => Err(records.fault(why)),
+    }
+}

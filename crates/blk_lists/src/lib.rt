@@ -1,0 +1,20 @@
+//! Texts that are read by tables, and the forms of lists: command lists and certificates.
+#![tactic(auto)]
+
+pub mod certificate;
+pub mod commands;
+pub mod fault;
+pub mod fields;
+pub mod items;
+pub mod laws;
+pub mod met;
+pub mod proof;
+pub mod source;
+mod titles;
+
+pub use crate::certificate::{Certificate, read_certificate, write_certificate};
+pub use crate::commands::{read_commands, write_commands};
+pub use crate::fault::{TextFault, Why};
+pub use crate::met::{MetCertificate, read_met, write_met};
+pub use crate::proof::{Proof, read_proof};
+pub use crate::source::Records;

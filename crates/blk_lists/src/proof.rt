@@ -1,0 +1,105 @@
+//! Certificates of either form, told by their titles.
+
+ghost use Rattle.std.specs.Prelude.{◌≡◌, ◌⊎◌, ◌+◌, ◌*◌, ◌≤◌, IfOk, IfErr, IfSome};
+ghost use Rattle.blk_lists.specs.Reads.{IsOutside, Reaches};
+ghost use Rattle.blk_lists.specs.Proof.{proof_claimed, proof_form, proof_size, IsProofClaim, SpellsProof, ProofFault};
+
+use crate::certificate::{Certificate, read_claim_body};
+use crate::fault::{TextFault, Why};
+use crate::fields::begins_with;
+use crate::items::{LineForm, read_line};
+use crate::met::{MetCertificate, read_met_body};
+use crate::source::Records;
+use crate::titles::counted_title;
+use csv::ByteRecord;
+use edd_check::MOST_COMMANDS;
+use std::alloc::Global;
+use std::io::Read;
+
+/// A certificate of either form.
+#[derive(Debug, Drop)]
+pub enum Proof {
+    /// That no schedule has a smaller greatest lateness.
+    Lateness(Certificate),
+    /// That no schedule meets more commands.
+    Met(MetCertificate),
+}
+
+/// Which of the two a title names.
+#[derive(Clone, Copy, Debug, PartialEq, Eq)]
+pub(crate) enum ProofKind {
+    Lateness,
+    Met,
+}
+
+/// The title record of either form: which it is, the version, and with it the depth and the number of commands.
+#[derive(Clone, Copy, Drop)]
+struct ProofTitleForm;
+
+impl LineForm for ProofTitleForm {
+    ghost use Rattle.blk_lists.specs.Proof.{proof_title};
+
+    type Line = (ProofKind, (u64, (u64, u64)));
+
+    ghost part = { λ _. proof_title };
+
+    #[tactic(auto, using(crate::proofs::ProofLaws::title_one, crate::proofs::ProofLaws::title_gone))]
+    fn gone(&self) -> Why {
+        Why::Title
+    }
+
+    fn line(&self, row: &ByteRecord) -> Result<(ProofKind, (u64, (u64, u64))), Why> {
+        if begins_with(row, b"blk-certificate") {
+            return match counted_title(row, b"blk-certificate") {
+                Ok(title) => Ok((ProofKind::Lateness, title)),
+                Err(why) => Err(why),
+            };
+        }
+        if begins_with(row, b"blk-met") {
+            return match counted_title(row, b"blk-met") {
+                Ok(title) => Ok((ProofKind::Met, title)),
+                Err(why) => Err(why),
+            };
+        }
+        Err(Why::Title)
+    }
+}
+
+/// The certificate of a text of either form: by its title that of [`read_certificate`](crate::read_certificate) or that of
+/// [`read_met`](crate::read_met), with the faults of that form. No record was read before.
+///
+/// A text that begins with neither name is [`Why::Title`] at record 1. No record is asked for past that of the fault, and
+/// never more than 2,000,003.
+pub fn read_proof<R: Read + Drop>(
+    alloc: Global,
+    records: &mut Records<R>,
+) -> Result<Proof, TextFault>
+    requires { records.old.at ≡ 0 }
+    ensures ok { IfOk result (λ p. IfSome records.old.left (λ rows. SpellsProof rows (proof_claimed p))) }
+    // also where the reader's bytes are not known
+    ensures in_range { IfOk result (λ p. IsProofClaim (proof_claimed p)) }
+    // at the record that was asked for last: none was read past it
+    ensures last { IfErr result (λ f. f.at ≡ records.new.at) }
+    ensures err { IfErr result (λ f. IfSome records.old.left (λ rows.
+        IsOutside records.new.failed f.why ⊎ ProofFault rows f.at f.why)) }
+    // also where it came from outside: at most one past the last record, and no record before it is wrong
+    ensures reached { IfErr result (λ f. Reaches proof_form records.old.left 0 f.at) }
+    ensures reads { (1 ≤ records.new.at) × (records.new.at ≤ 2 * MOST_COMMANDS + 3) }
+    // the last thing that was asked for is the record after the commands, which there is not
+    ensures end { IfOk result (λ p. records.new.at ≡ proof_size (proof_claimed p) + 1) }
+{
+    let (kind, (_, (depth, count))) = match read_line(records, &ProofTitleForm) {
+        Ok(title) => title,
+        Err(fault) => return Err(fault),
+    };
+    match kind {
+        ProofKind::Lateness => match read_claim_body(alloc, records, depth, count) {
+            Ok(certificate) => Ok(Proof::Lateness(certificate)),
+            Err(fault) => Err(fault),
+        },
+        ProofKind::Met => match read_met_body(alloc, records, depth, count) {
+            Ok(certificate) => Ok(Proof::Met(certificate)),
+            Err(fault) => Err(fault),
+        },
+    }
+}

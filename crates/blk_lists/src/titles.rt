@@ -1,0 +1,37 @@
+//! The titles of forms that give a depth and a number of commands.
+
+ghost use Rattle.std.specs.Prelude.{◌<◌, ◌^◌, length, IfOk, IfErr};
+ghost use Rattle.csv.specs.Records.{fields_of};
+ghost use Rattle.blk_lists.specs.Reads.{IsRowOf, IsWrongLine};
+ghost use Rattle.blk_lists.specs.Titles.{counted_title as title_part};
+
+use crate::fault::Why;
+use crate::fields::{Slot, read_fields, version_of};
+use csv::ByteRecord;
+use edd_check::{MOST_COMMANDS, MOST_DEPTH};
+
+/// The version, the depth and the number of commands of a title record of the form of this name.
+pub fn counted_title(row: &ByteRecord, name: &[u8]) -> Result<(u64, (u64, u64)), Why>
+    ensures ok { IfOk result (IsRowOf (title_part name.now) (fields_of row.now)) }
+    ensures err { IfErr result (IsWrongLine (title_part name.now) (fields_of row.now)) }
+{
+    let Some(version) = version_of(row, name, 1) else {
+        return Err(Why::Title);
+    };
+    let slots = [
+        Slot::Given,
+        Slot::Given,
+        Slot::Number {
+            least: 1,
+            most: MOST_DEPTH,
+        },
+        Slot::Number {
+            least: 0,
+            most: MOST_COMMANDS,
+        },
+    ];
+    match read_fields(row, &slots) {
+        Ok(numbers) => Ok((version, (numbers[2], numbers[3]))),
+        Err(why) => Err(why),
+    }
+}
