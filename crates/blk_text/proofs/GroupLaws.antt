@@ -18,7 +18,7 @@ use Rattle.blk_text.specs.TraceForm.{Tiles, gathered_bios, IsAstray, IsNoBio, fi
 use Rattle.blk_text.specs.declared.fault.Why.{Why}
 use Rattle.blk_text.specs.declared.fault.Why.TheVariants as why
 use Rattle.blk_text.specs.declared.fields.Slot.TheVariants as slot
-use Rattle.blk_text.specs.declared.heads.Head.{Head}
+use Rattle.blk_text.specs.TraceForm.{Head}
 use Rattle.parts.specs.declared.Repeats.TheVariants as repeats
 use Rattle.parts.specs.Parts.{Part, by_word, all_rows}
 use Rattle.parts.specs.Laws.{Tells, Decides, IsPlain}

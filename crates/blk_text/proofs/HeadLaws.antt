@@ -10,8 +10,8 @@ use Rattle.blk_text.specs.TraceForm.{word_of, EventStandsIn, Says, head_cells, s
 use Rattle.blk_text.specs.declared.fault.Why.{Why}
 use Rattle.blk_text.specs.declared.fault.Why.TheVariants as why
 use Rattle.blk_text.specs.declared.fields.Slot.TheVariants as slot
-use Rattle.blk_text.specs.declared.heads.Head.{Head}
-use Rattle.blk_text.specs.declared.heads.Head.TheVariants as head
+use Rattle.blk_text.specs.TraceForm.{Head}
+use Rattle.blk_trace.specs.declared.event.Event.TheVariants as head
 use Rattle.blk_text.specs.declared.heads.EventWord.{EventWord}
 use Rattle.blk_text.specs.declared.heads.EventWord.TheVariants as word
 use Rattle.parts.specs.Parts.{Part}
