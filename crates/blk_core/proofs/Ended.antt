@@ -9,7 +9,8 @@ use Rattle.blk_bio.specs.declared.bio.Dir.TheVariants.{Read, Write}
 use Rattle.blk_bio.specs.Bios.{Bio}
 use Rattle.blk_bio.specs.Requests.{dir_of}
 use Rattle.blk_trace.specs.Setups.{Setup}
-use Rattle.blk_trace.specs.Happened.{Happened, Released, Finished, Returned}
+use Rattle.blk_trace.specs.Happened.{Happened}
+use Rattle.blk_trace.specs.declared.event.Event.TheVariants.{Release, Done, Back}
 use Rattle.blk_trace.specs.Kinds.{ends}
 use Rattle.blk_trace.specs.Rules.{IsUnbroken}
 use Rattle.blk_trace.specs.Inside.Seats.{RoundSeat, seat_at}
@@ -57,7 +58,7 @@ record IsLeft (setup : Setup) (fs : List Happened) (m' : Meaning) (held' : List 
   handed : (d : Dir) → handed_of d m'.open_picks ≡ held_count (is_of d) held'
   lists : length held' ≡ setup.hw
 
-tied_end : {A : Type 0} (setup setup' : Setup) (es es' : List Happened) (e : Happened) (m m' : Meaning) (fl : List (TagState A)) (held held' : List (List Waiting)) (rel tag hw : ℕ) (w : Waiting) → IsPushed setup es e setup' es' → ends e ≡ Some tag → released_count (es ++ e ∷ []) ≡ released_count es → ((id : ℕ) (bios : List Bio) → e ≡ Released id bios → ⊥) → IsTied setup es m fl held rel → tag < length fl → get_or fl tag Free ≡ Flying hw w → IsClosed m m' (dir_of w.bios) → IsLeft setup (es ++ e ∷ []) m' held' → IsTied setup' es' m' (set fl tag (Spent (dir_of w.bios))) held' rel
+tied_end : {A : Type 0} (setup setup' : Setup) (es es' : List Happened) (e : Happened) (m m' : Meaning) (fl : List (TagState A)) (held held' : List (List Waiting)) (rel tag hw : ℕ) (w : Waiting) → IsPushed setup es e setup' es' → ends e ≡ Some tag → released_count (es ++ e ∷ []) ≡ released_count es → ((id : ℕ) (bios : List Bio) → e ≡ Release id bios → ⊥) → IsTied setup es m fl held rel → tag < length fl → get_or fl tag Free ≡ Flying hw w → IsClosed m m' (dir_of w.bios) → IsLeft setup (es ++ e ∷ []) m' held' → IsTied setup' es' m' (set fl tag (Spent (dir_of w.bios))) held' rel
 tied_end {A} setup setup' es es' e m m' fl held held' rel tag hw w p end more other t lt at o s =
     let fs : List Happened = es ++ e ∷ [] in
     let g : TagState A = Spent (dir_of w.bios) in
@@ -112,13 +113,13 @@ tied_end {A} setup setup' es es' e m m' fl held held' rel tag hw w p end more ot
     })
 
 -- after a completion the core is tied
-tied_done : {A : Type 0} (setup setup' : Setup) (es es' : List Happened) (m m' : Meaning) (fl : List (TagState A)) (held : List (List Waiting)) (rel tag hw : ℕ) (w : Waiting) → IsPushed setup es (Finished tag) setup' es' → IsTied setup es m fl held rel → tag < length fl → get_or fl tag Free ≡ Flying hw w → m ≡ record m' { open_picks = opened (dir_of w.bios) m'.open_picks } → IsTied setup' es' m' (set fl tag (Spent (dir_of w.bios))) held rel
+tied_done : {A : Type 0} (setup setup' : Setup) (es es' : List Happened) (m m' : Meaning) (fl : List (TagState A)) (held : List (List Waiting)) (rel tag hw : ℕ) (w : Waiting) → IsPushed setup es (Done tag) setup' es' → IsTied setup es m fl held rel → tag < length fl → get_or fl tag Free ≡ Flying hw w → m ≡ record m' { open_picks = opened (dir_of w.bios) m'.open_picks } → IsTied setup' es' m' (set fl tag (Spent (dir_of w.bios))) held rel
 tied_done setup setup' es es' m m' fl held rel tag hw w p t lt at m_is =
-    let fs : List Happened = es ++ Finished tag ∷ [] in
+    let fs : List Happened = es ++ Done tag ∷ [] in
     let mp : m'.pending ≡ m.pending = sym (ap (λ (x : Meaning). x.pending) m_is) in
     let same : (q : ℕ) → returned_at setup fs q ≡ returned_at setup es q = λ q. returned-finished setup es tag q in
     let count = step.count-finished setup es tag p.legal in
-    tied_end setup setup' es es' (Finished tag) m m' fl held held rel tag hw w p refl (released-finished es tag) (λ i b e. cc) t lt at
+    tied_end setup setup' es es' (Done tag) m m' fl held held rel tag hw w p refl (released-finished es tag) (λ i b e. cc) t lt at
     (record {
       reads = ap (λ (x : Meaning). x.open_picks.reads) m_is ∙ opened_reads (dir_of w.bios) m'.open_picks;
       writes = ap (λ (x : Meaning). x.open_picks.writes) m_is ∙ opened_writes (dir_of w.bios) m'.open_picks;
@@ -135,14 +136,14 @@ tied_done setup setup' es es' m m' fl held rel tag hw w p t lt at m_is =
     })
 
 -- the same of what the code calls its direction
-pub tied_done_at : {A : Type 0} (setup setup' : Setup) (es es' : List Happened) (m m' : Meaning) (fl : List (TagState A)) (held : List (List Waiting)) (rel tag hw : ℕ) (w : Waiting) (dir : Dir) → IsPushed setup es (Finished tag) setup' es' → IsTied setup es m fl held rel → tag < length fl → get_or fl tag Free ≡ Flying hw w → dir ≡ dir_of w.bios → m ≡ record m' { open_picks = opened dir m'.open_picks } → IsTied setup' es' m' (set fl tag (Spent dir)) held rel
+pub tied_done_at : {A : Type 0} (setup setup' : Setup) (es es' : List Happened) (m m' : Meaning) (fl : List (TagState A)) (held : List (List Waiting)) (rel tag hw : ℕ) (w : Waiting) (dir : Dir) → IsPushed setup es (Done tag) setup' es' → IsTied setup es m fl held rel → tag < length fl → get_or fl tag Free ≡ Flying hw w → dir ≡ dir_of w.bios → m ≡ record m' { open_picks = opened dir m'.open_picks } → IsTied setup' es' m' (set fl tag (Spent dir)) held rel
 tied_done_at setup setup' es es' m m' fl held rel tag hw w dir p t lt at is m_is =
     subst (λ d. m ≡ record m' { open_picks = opened d m'.open_picks } → IsTied setup' es' m' (set fl tag (Spent d)) held rel) (sym is) (λ h. tied_done setup setup' es es' m m' fl held rel tag hw w p t lt at h) m_is
 
 -- after a Back the core is tied: the request is held
-pub tied_back : {A : Type 0} (setup setup' : Setup) (es es' : List Happened) (m m' : Meaning) (fl : List (TagState A)) (held held' : List (List Waiting)) (rel tag hw : ℕ) (w : Waiting) (dir : Dir) → IsPushed setup es (Returned tag) setup' es' → IsTied setup es m fl held rel → tag < length fl → get_or fl tag Free ≡ Flying hw w → dir ≡ dir_of w.bios → HandsBack dir m m' → held' ≡ with_one held hw w → hw < setup.hw → IsTied setup' es' m' (set fl tag (Spent (dir_of w.bios))) held' rel
+pub tied_back : {A : Type 0} (setup setup' : Setup) (es es' : List Happened) (m m' : Meaning) (fl : List (TagState A)) (held held' : List (List Waiting)) (rel tag hw : ℕ) (w : Waiting) (dir : Dir) → IsPushed setup es (Back tag) setup' es' → IsTied setup es m fl held rel → tag < length fl → get_or fl tag Free ≡ Flying hw w → dir ≡ dir_of w.bios → HandsBack dir m m' → held' ≡ with_one held hw w → hw < setup.hw → IsTied setup' es' m' (set fl tag (Spent (dir_of w.bios))) held' rel
 tied_back setup setup' es es' m m' fl held held' rel tag hw w dir p t lt at dir_is hands held_is small =
-    let fs : List Happened = es ++ Returned tag ∷ [] in
+    let fs : List Happened = es ++ Back tag ∷ [] in
     let back : HandsBack (dir_of w.bios) m m' = subst (λ d. HandsBack d m m') dir_is hands in
     let f : IsFlown setup es tag w = t.flown tag hw w at in
     let in_lists : hw < length held = (let x = t.lists in omega arith) in
@@ -155,7 +156,7 @@ tied_back setup setup' es es' m m' fl held held' rel tag hw w dir p t lt at dir_
     let more = total_with held hw w in_lists in
     let count = step.count_returned setup es tag w.id t.legal f.by in
     subst (λ x. IsTied setup' es' m' (set fl tag (Spent (dir_of w.bios))) x rel) (sym held_is)
-    (tied_end setup setup' es es' (Returned tag) m m' fl held (with_one held hw w) rel tag hw w p refl (released-returned es tag) (λ i b e. cc) t lt at
+    (tied_end setup setup' es es' (Back tag) m m' fl held (with_one held hw w) rel tag hw w p refl (released-returned es tag) (λ i b e. cc) t lt at
     (record {
       reads = sym (handed_reads (dir_of w.bios) m.open_picks) ∙ sym (ap (λ (x : Meaning). x.open_picks.reads) back) ∙ opened_reads (dir_of w.bios) m'.open_picks;
       writes = sym (handed_writes (dir_of w.bios) m.open_picks) ∙ sym (ap (λ (x : Meaning). x.open_picks.writes) back) ∙ opened_writes (dir_of w.bios) m'.open_picks;

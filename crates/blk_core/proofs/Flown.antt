@@ -1,6 +1,7 @@
 -- A command in flight is known to the trace, after one more event.
 use Rattle.std.proofs.Common.{◌≡◌, ◌∙◌, sym, refl, ℕ, List, [], ◌∷◌, ◌++◌, Some}
-use Rattle.blk_trace.specs.Happened.{Happened, Issued}
+use Rattle.blk_trace.specs.Happened.{Happened}
+use Rattle.blk_trace.specs.declared.event.Event.TheVariants.{Issue}
 use Rattle.blk_trace.specs.Kinds.{ends}
 use Rattle.blk_trace.specs.Setups.{Setup}
 use Rattle.blk_trace.specs.Legal.{IsLegalTrace}
@@ -22,10 +23,10 @@ flown_kept setup es e tag w legal other f =
     record { by = still_by es e tag w.id other f.by; known = f.known ∙ sym entry }
 
 -- its Issue
-pub flown_issued : (setup : Setup) (es : List Happened) (tag : ℕ) (w : Waiting) → IsLegalTrace setup (es ++ Issued w.id tag ∷ []) → waits_at setup es w.id ≡ Some (entered_of w) → IsFlown setup (es ++ Issued w.id tag ∷ []) tag w
+pub flown_issued : (setup : Setup) (es : List Happened) (tag : ℕ) (w : Waiting) → IsLegalTrace setup (es ++ Issue w.id tag ∷ []) → waits_at setup es w.id ≡ Some (entered_of w) → IsFlown setup (es ++ Issue w.id tag ∷ []) tag w
 flown_issued setup es tag w legal waits =
     let was : IsWaiting setup es w.id (entered_of w) = waiting_from setup es w.id (entered_of w) waits in
-    let same : IsSame setup es (es ++ Issued w.id tag ∷ []) w.id = same_entered setup es (Issued w.id tag) w.id refl in
-    let entry : entry_of setup (es ++ Issued w.id tag ∷ []) w.id ≡ entry_of setup es w.id = rw (same.release, same.due, same.request) refl in
+    let same : IsSame setup es (es ++ Issue w.id tag ∷ []) w.id = same_entered setup es (Issue w.id tag) w.id refl in
+    let entry : entry_of setup (es ++ Issue w.id tag ∷ []) w.id ≡ entry_of setup es w.id = rw (same.release, same.due, same.request) refl in
     let here : entered_of w ≡ entry_of setup es w.id = rw (← was.release_is, ← was.due_is, ← was.bios_is) refl in
     record { by = now_by es w.id tag; known = here ∙ sym entry }

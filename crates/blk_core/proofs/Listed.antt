@@ -5,7 +5,8 @@ use Rattle.std.specs.List.{list_any}
 use Rattle.std.specs.Option.{option_map_or}
 use Rattle.std.proofs.lemmas.Bool.{false_from_ne_true, or_cases, both_ways}
 use Rattle.std.proofs.lemmas.Map.Keys.{any_passes_from_place}
-use Rattle.blk_trace.specs.Happened.{Happened, Issued}
+use Rattle.blk_trace.specs.Happened.{Happened}
+use Rattle.blk_trace.specs.declared.event.Event.TheVariants.{Issue}
 use Rattle.blk_trace.specs.Kinds.{ends}
 use Rattle.blk_trace.specs.Events.{At, EndsAt, IsOpen}
 use Rattle.blk_trace.specs.Kinds.{is_done_of}
@@ -49,30 +50,30 @@ later e es id tag p = (
     not_before e es tag o zero h at = absurd (omega arith)
     not_before e es tag o (suc j) h at = o.not_done j (omega arith) at
 
-first_open : (i t : ℕ) (es : List Happened) → list_any (is_done_of t) es ≡ false → HasOpen (Issued i t ∷ es) i t
+first_open : (i t : ℕ) (es : List Happened) → list_any (is_done_of t) es ≡ false → HasOpen (Issue i t ∷ es) i t
 first_open i t es none = (record { place = 0; id = i; issued = refl; not_done = never i t es none }, refl)
   where
-    never : (i t : ℕ) (es : List Happened) → list_any (is_done_of t) es ≡ false → (j : ℕ) → 0 < j → EndsAt (Issued i t ∷ es) j t → ⊥
+    never : (i t : ℕ) (es : List Happened) → list_any (is_done_of t) es ≡ false → (j : ℕ) → 0 < j → EndsAt (Issue i t ∷ es) j t → ⊥
     never i t es none zero h at = absurd (omega arith)
     never i t es none (suc j) h at = both_ways _ none (found_done t es j at)
 
 same_pair : (x y : ℕ × ℕ) → Some x ≡ Some y → x ≡ y
 same_pair x y h = cc
 
-by_case : (i t id tag : ℕ) (es : List Happened) (b : Bool) → list_any (is_done_of t) es ≡ b → ((k : ℕ) → slice_get (open_issues es) k ≡ Some (id, tag) → HasOpen es id tag) → (k : ℕ) → slice_get (cond b (open_issues es) ((i, t) ∷ open_issues es)) k ≡ Some (id, tag) → HasOpen (Issued i t ∷ es) id tag
-by_case i t id tag es true is ih k h = later (Issued i t) es id tag (ih k h)
+by_case : (i t id tag : ℕ) (es : List Happened) (b : Bool) → list_any (is_done_of t) es ≡ b → ((k : ℕ) → slice_get (open_issues es) k ≡ Some (id, tag) → HasOpen es id tag) → (k : ℕ) → slice_get (cond b (open_issues es) ((i, t) ∷ open_issues es)) k ≡ Some (id, tag) → HasOpen (Issue i t ∷ es) id tag
+by_case i t id tag es true is ih k h = later (Issue i t) es id tag (ih k h)
 by_case i t id tag es false is ih zero h =
     let pair : (i, t) ≡ (id, tag) = same_pair (i, t) (id, tag) h in
     let a : i ≡ id = ap (λ x. x.0) pair in
     let b : t ≡ tag = ap (λ x. x.1) pair in
-    subst (λ x. HasOpen (Issued i t ∷ es) x tag) a (subst (λ x. HasOpen (Issued i t ∷ es) i x) b (first_open i t es is))
-by_case i t id tag es false is ih (suc k) h = later (Issued i t) es id tag (ih k h)
+    subst (λ x. HasOpen (Issue i t ∷ es) x tag) a (subst (λ x. HasOpen (Issue i t ∷ es) i x) b (first_open i t es is))
+by_case i t id tag es false is ih (suc k) h = later (Issue i t) es id tag (ih k h)
 
 -- a listed Issue is open
 pub listed_open : (es : List Happened) (id tag k : ℕ) → slice_get (open_issues es) k ≡ Some (id, tag) → HasOpen es id tag
 unfolding open_issues
 listed_open [] id tag k h = absurd (cc)
-listed_open (Issued i t ∷ es) id tag k h = by_case i t id tag es (list_any (is_done_of t) es) refl (λ k h. listed_open es id tag k h) k h
+listed_open (Issue i t ∷ es) id tag k h = by_case i t id tag es (list_any (is_done_of t) es) refl (λ k h. listed_open es id tag k h) k h
 listed_open (e ∷ es) id tag k h = later e es id tag (listed_open es id tag k h)
 
 -- an open Issue is listed
@@ -84,16 +85,16 @@ at_head : (xs : List (ℕ × ℕ)) (id tag : ℕ) (b : Bool) → b ≡ false →
 at_head xs id tag true h = absurd (cc)
 at_head xs id tag false h = (0, refl)
 
-listed_at : (es : List Happened) (place id tag : ℕ) → At es place (Issued id tag) → ((j : ℕ) → place < j → EndsAt es j tag → ⊥) → IsListed (open_issues es) id tag
+listed_at : (es : List Happened) (place id tag : ℕ) → At es place (Issue id tag) → ((j : ℕ) → place < j → EndsAt es j tag → ⊥) → IsListed (open_issues es) id tag
 unfolding open_issues
 listed_at [] place id tag at never = absurd (cc)
-listed_at (Issued i t ∷ es) zero id tag at never =
+listed_at (Issue i t ∷ es) zero id tag at never =
     let a : i ≡ id = cc in
     let b : t ≡ tag = cc in
     let none : list_any (is_done_of tag) es ≡ false = false_from_ne_true _ (λ some. let p = done_found tag es some in never (suc p.0) (omega arith) p.1) in
-    subst (λ x. IsListed (open_issues (Issued x t ∷ es)) id tag) (sym a) (subst (λ x. IsListed (open_issues (Issued id x ∷ es)) id tag) (sym b)
+    subst (λ x. IsListed (open_issues (Issue x t ∷ es)) id tag) (sym a) (subst (λ x. IsListed (open_issues (Issue id x ∷ es)) id tag) (sym b)
     (at_head (open_issues es) id tag (list_any (is_done_of tag) es) none))
-listed_at (Issued i t ∷ es) (suc place) id tag at never =
+listed_at (Issue i t ∷ es) (suc place) id tag at never =
     one_more (i, t) (open_issues es) id tag (list_any (is_done_of t) es) (listed_at es place id tag at (λ j h d. never (suc j) (omega arith) d))
 listed_at (e ∷ es) zero id tag at never = absurd (cc)
 listed_at (e ∷ es) (suc place) id tag at never = listed_at es place id tag at (λ j h d. never (suc j) (omega arith) d)

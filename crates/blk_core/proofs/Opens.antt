@@ -9,8 +9,14 @@ use Rattle.blk_bio.specs.Bios.{Bio}
 use Rattle.blk_bio.specs.declared.bio.Dir.{Dir}
 use Rattle.blk_bio.specs.declared.bio.Dir.TheVariants.{Read, Write}
 use Rattle.blk_bio.specs.Requests.{dir_of}
+<<<<<<< HEAD
 use Rattle.blk_bio.specs.declared.rule.TraceRule.TheVariants.{TagUsed, InFlight, Unknown, AlreadyIssued}
 use Rattle.blk_trace.specs.Happened.{Happened, Ticked, Released, Joined, Issued, Finished, Returned, DepthSet}
+=======
+use Rattle.blk_trace.specs.declared.rule.TraceRule.TheVariants.{TagUsed, InFlight, Unknown, AlreadyIssued}
+use Rattle.blk_trace.specs.Happened.{Happened}
+use Rattle.blk_trace.specs.declared.event.Event.TheVariants.{Tick, Release, Join, Issue as Issued, Done, Back, Depth}
+>>>>>>> events-b
 use Rattle.blk_trace.specs.Kinds.{issues, ends}
 use Rattle.blk_trace.specs.Setups.{Setup}
 use Rattle.blk_trace.specs.Events.{At, is_tick, open_count, request_of}
@@ -87,33 +93,33 @@ cond_push false x xs ys = refl
 opens_more : (e : Happened) → ((t : ℕ) → is_done_of t e ≡ false) → (es : List Happened) → open_issues (es ++ e ∷ []) ≡ open_issues es ++ open_issues (e ∷ [])
 unfolding open_issues
 opens_more e h [] = refl
-opens_more e h (Ticked ∷ es) = opens_more e h es
-opens_more e h (Released i q ∷ es) = opens_more e h es
-opens_more e h (Joined i q ∷ es) = opens_more e h es
-opens_more e h (Finished t ∷ es) = opens_more e h es
-opens_more e h (Returned t ∷ es) = opens_more e h es
-opens_more e h (DepthSet n ∷ es) = opens_more e h es
+opens_more e h (Tick ∷ es) = opens_more e h es
+opens_more e h (Release i q ∷ es) = opens_more e h es
+opens_more e h (Join i q ∷ es) = opens_more e h es
+opens_more e h (Done t ∷ es) = opens_more e h es
+opens_more e h (Back t ∷ es) = opens_more e h es
+opens_more e h (Depth n ∷ es) = opens_more e h es
 opens_more e h (Issued i t ∷ es) =
     let same : list_any (is_done_of t) (es ++ e ∷ []) ≡ list_any (is_done_of t) es = any_more t es e ∙ ap (λ b. list_any (is_done_of t) es || b) (h t) ∙ or_false _ in
     ap (λ b. cond b (open_issues (es ++ e ∷ [])) ((i, t) ∷ open_issues (es ++ e ∷ []))) same
     ∙ ap (λ l. cond (list_any (is_done_of t) es) l ((i, t) ∷ l)) (opens_more e h es)
     ∙ cond_push (list_any (is_done_of t) es) (i, t) (open_issues es) (open_issues (e ∷ []))
 
-opens_ticked : (es : List Happened) → open_issues (es ++ Ticked ∷ []) ≡ open_issues es
+opens_ticked : (es : List Happened) → open_issues (es ++ Tick ∷ []) ≡ open_issues es
 unfolding open_issues
-opens_ticked es = opens_more Ticked (λ t. refl) es ∙ append-nil _
+opens_ticked es = opens_more Tick (λ t. refl) es ∙ append-nil _
 
-opens_released : (es : List Happened) (i : ℕ) (q : List Bio) → open_issues (es ++ Released i q ∷ []) ≡ open_issues es
+opens_released : (es : List Happened) (i : ℕ) (q : List Bio) → open_issues (es ++ Release i q ∷ []) ≡ open_issues es
 unfolding open_issues
-opens_released es i q = opens_more (Released i q) (λ t. refl) es ∙ append-nil _
+opens_released es i q = opens_more (Release i q) (λ t. refl) es ∙ append-nil _
 
-opens_joined : (es : List Happened) (i : ℕ) (q : List Bio) → open_issues (es ++ Joined i q ∷ []) ≡ open_issues es
+opens_joined : (es : List Happened) (i : ℕ) (q : List Bio) → open_issues (es ++ Join i q ∷ []) ≡ open_issues es
 unfolding open_issues
-opens_joined es i q = opens_more (Joined i q) (λ t. refl) es ∙ append-nil _
+opens_joined es i q = opens_more (Join i q) (λ t. refl) es ∙ append-nil _
 
-opens_set : (es : List Happened) (n : ℕ) → open_issues (es ++ DepthSet n ∷ []) ≡ open_issues es
+opens_set : (es : List Happened) (n : ℕ) → open_issues (es ++ Depth n ∷ []) ≡ open_issues es
 unfolding open_issues
-opens_set es n = opens_more (DepthSet n) (λ t. refl) es ∙ append-nil _
+opens_set es n = opens_more (Depth n) (λ t. refl) es ∙ append-nil _
 
 opens_issued : (es : List Happened) (i t : ℕ) → open_issues (es ++ Issued i t ∷ []) ≡ open_issues es ++ (i, t) ∷ []
 unfolding open_issues
@@ -154,12 +160,12 @@ none_of e h = refl
 opens_ended : (p : Issue → Bool) (u : ℕ) (e : Happened) → ((t : ℕ) → is_done_of t e ≡ (u == t)) → open_issues (e ∷ []) ≡ [] → (es : List Happened) → count_by p (open_issues (es ++ e ∷ [])) ≡ count_by (λ x. p x && not (u == x.1)) (open_issues es)
 unfolding open_issues
 opens_ended p u e h n [] = ap (count_by p) n
-opens_ended p u e h n (Ticked ∷ es) = opens_ended p u e h n es
-opens_ended p u e h n (Released i q ∷ es) = opens_ended p u e h n es
-opens_ended p u e h n (Joined i q ∷ es) = opens_ended p u e h n es
-opens_ended p u e h n (Finished t ∷ es) = opens_ended p u e h n es
-opens_ended p u e h n (Returned t ∷ es) = opens_ended p u e h n es
-opens_ended p u e h n (DepthSet m ∷ es) = opens_ended p u e h n es
+opens_ended p u e h n (Tick ∷ es) = opens_ended p u e h n es
+opens_ended p u e h n (Release i q ∷ es) = opens_ended p u e h n es
+opens_ended p u e h n (Join i q ∷ es) = opens_ended p u e h n es
+opens_ended p u e h n (Done t ∷ es) = opens_ended p u e h n es
+opens_ended p u e h n (Back t ∷ es) = opens_ended p u e h n es
+opens_ended p u e h n (Depth m ∷ es) = opens_ended p u e h n es
 opens_ended p u e h n (Issued i t ∷ es) =
     ap (λ b. count_by p (cond b (open_issues (es ++ e ∷ [])) ((i, t) ∷ open_issues (es ++ e ∷ [])))) (any_more t es e ∙ ap (λ b. list_any (is_done_of t) es || b) (h t))
     ∙ at_done p i t u (list_any (is_done_of t) es) (open_issues (es ++ e ∷ [])) (open_issues es) (opens_ended p u e h n es)
@@ -192,7 +198,7 @@ counted_kept p u es e h n d same ih =
     ∙ ap (λ c. unless c (number p u (taken es u))) (sym (ended_kept es e u h d))
     ∙ ap (λ o. unless (ended (es ++ e ∷ []) u) (number p u o)) (sym (taken_kept es e u h n))
 
-counted_ticked : (setup : Setup) (p : Issue → Bool) (u : ℕ) (es : List Happened) → IsLegalTrace setup es → IsUnbroken setup es Ticked → IsCounted p u es → IsCounted p u (es ++ Ticked ∷ [])
+counted_ticked : (setup : Setup) (p : Issue → Bool) (u : ℕ) (es : List Happened) → IsLegalTrace setup es → IsUnbroken setup es Tick → IsCounted p u es → IsCounted p u (es ++ Tick ∷ [])
 counted_ticked setup p u es old all ih =
     let was : unless (ended es u) (number p u (taken es u)) ≡ 0 = elim (cases_Bool (ended es u)) [
       | inl b ↦ ap (λ c. unless c (number p u (taken es u))) b
@@ -201,8 +207,8 @@ counted_ticked setup p u es old all ih =
         | inr q ↦ absurd (all InFlight u ((steady setup es old).opens u q.0 q.1 b))
       ]
     ] in
-    let now : unless (ended (es ++ Ticked ∷ []) u) (number p u (taken (es ++ Ticked ∷ []) u)) ≡ 0 =
-    ap (λ o. unless (ended (es ++ Ticked ∷ []) u) (number p u o)) (taken_tick es u) ∙ unless_none (ended (es ++ Ticked ∷ []) u) in
+    let now : unless (ended (es ++ Tick ∷ []) u) (number p u (taken (es ++ Tick ∷ []) u)) ≡ 0 =
+    ap (λ o. unless (ended (es ++ Tick ∷ []) u) (number p u o)) (taken_tick es u) ∙ unless_none (ended (es ++ Tick ∷ []) u) in
     ap (count_by (λ x. p x && (u == x.1))) (opens_ticked es) ∙ ih ∙ was ∙ sym now
 
 counted_issued : (setup : Setup) (p : Issue → Bool) (u : ℕ) (es : List Happened) (i v : ℕ) → IsLegalTrace setup es → IsUnbroken setup es (Issued i v) → IsCounted p u es → IsCounted p u (es ++ Issued i v ∷ [])
@@ -263,13 +269,13 @@ counted_ended p u es e v end ih =
     or_true false = refl
 
 counted_step : (setup : Setup) (p : Issue → Bool) (u : ℕ) (es : List Happened) (e : Happened) → IsLegalTrace setup es → IsUnbroken setup es e → IsCounted p u es → IsCounted p u (es ++ e ∷ [])
-counted_step setup p u es Ticked old all ih = counted_ticked setup p u es old all ih
-counted_step setup p u es (Released i q) old all ih = counted_kept p u es (Released i q) refl refl refl (opens_released es i q) ih
-counted_step setup p u es (Joined i q) old all ih = counted_kept p u es (Joined i q) refl refl refl (opens_joined es i q) ih
+counted_step setup p u es Tick old all ih = counted_ticked setup p u es old all ih
+counted_step setup p u es (Release i q) old all ih = counted_kept p u es (Release i q) refl refl refl (opens_released es i q) ih
+counted_step setup p u es (Join i q) old all ih = counted_kept p u es (Join i q) refl refl refl (opens_joined es i q) ih
 counted_step setup p u es (Issued i v) old all ih = counted_issued setup p u es i v old all ih
-counted_step setup p u es (Finished v) old all ih = counted_ended p u es (Finished v) v refl ih
-counted_step setup p u es (Returned v) old all ih = counted_ended p u es (Returned v) v refl ih
-counted_step setup p u es (DepthSet n) old all ih = counted_kept p u es (DepthSet n) refl refl refl (opens_set es n) ih
+counted_step setup p u es (Done v) old all ih = counted_ended p u es (Done v) v refl ih
+counted_step setup p u es (Back v) old all ih = counted_ended p u es (Back v) v refl ih
+counted_step setup p u es (Depth n) old all ih = counted_kept p u es (Depth n) refl refl refl (opens_set es n) ih
 
 counted : (setup : Setup) (p : Issue → Bool) (u : ℕ) (es : List Happened) → IsLegalTrace setup es → IsCounted p u es
 unfolding open_issues ended taken this_round
@@ -285,12 +291,12 @@ one_more p q x xs false here more =
 agree : (p q : Issue → Bool) (es : List Happened) → ((k i t : ℕ) → At es k (Issued i t) → p (i, t) ≡ q (i, t)) → count_by p (open_issues es) ≡ count_by q (open_issues es)
 unfolding open_issues
 agree p q [] h = refl
-agree p q (Ticked ∷ es) h = agree p q es (λ k i t at. h (suc k) i t at)
-agree p q (Released j r ∷ es) h = agree p q es (λ k i t at. h (suc k) i t at)
-agree p q (Joined j r ∷ es) h = agree p q es (λ k i t at. h (suc k) i t at)
-agree p q (Finished v ∷ es) h = agree p q es (λ k i t at. h (suc k) i t at)
-agree p q (Returned v ∷ es) h = agree p q es (λ k i t at. h (suc k) i t at)
-agree p q (DepthSet n ∷ es) h = agree p q es (λ k i t at. h (suc k) i t at)
+agree p q (Tick ∷ es) h = agree p q es (λ k i t at. h (suc k) i t at)
+agree p q (Release j r ∷ es) h = agree p q es (λ k i t at. h (suc k) i t at)
+agree p q (Join j r ∷ es) h = agree p q es (λ k i t at. h (suc k) i t at)
+agree p q (Done v ∷ es) h = agree p q es (λ k i t at. h (suc k) i t at)
+agree p q (Back v ∷ es) h = agree p q es (λ k i t at. h (suc k) i t at)
+agree p q (Depth n ∷ es) h = agree p q es (λ k i t at. h (suc k) i t at)
 agree p q (Issued j v ∷ es) h = one_more p q (j, v) (open_issues es) (list_any (is_done_of v) es) (h 0 j v refl) (agree p q es (λ k i t at. h (suc k) i t at))
 
 -- whether an Issue is of a request of the direction
@@ -335,17 +341,17 @@ of_ended setup d es e u end new old all ih =
     omega arith
 
 of_step : (setup : Setup) (d : Dir) (es : List Happened) (e : Happened) → IsLegalTrace setup (es ++ e ∷ []) → IsLegalTrace setup es → IsUnbroken setup es e → flying_of es d ≡ open_issues_of es d → flying_of (es ++ e ∷ []) d ≡ open_issues_of (es ++ e ∷ []) d
-of_step setup d es Ticked new old all ih =
-    open-ticked setup es new d ∙ sym (open-before_tick setup es new d) ∙ ih ∙ sym (still_of setup es Ticked d old all) ∙ ap (count_by (is_of (es ++ Ticked ∷ []) d)) (sym (opens_ticked es))
-of_step setup d es (Released i q) new old all ih =
-    open-released setup es i q new d ∙ ih ∙ sym (still_of setup es (Released i q) d old all) ∙ ap (count_by (is_of (es ++ Released i q ∷ []) d)) (sym (opens_released es i q))
-of_step setup d es (Joined i q) new old all ih =
-    open-joined setup es i q new d ∙ ih ∙ sym (still_of setup es (Joined i q) d old all) ∙ ap (count_by (is_of (es ++ Joined i q ∷ []) d)) (sym (opens_joined es i q))
+of_step setup d es Tick new old all ih =
+    open-ticked setup es new d ∙ sym (open-before_tick setup es new d) ∙ ih ∙ sym (still_of setup es Tick d old all) ∙ ap (count_by (is_of (es ++ Tick ∷ []) d)) (sym (opens_ticked es))
+of_step setup d es (Release i q) new old all ih =
+    open-released setup es i q new d ∙ ih ∙ sym (still_of setup es (Release i q) d old all) ∙ ap (count_by (is_of (es ++ Release i q ∷ []) d)) (sym (opens_released es i q))
+of_step setup d es (Join i q) new old all ih =
+    open-joined setup es i q new d ∙ ih ∙ sym (still_of setup es (Join i q) d old all) ∙ ap (count_by (is_of (es ++ Join i q ∷ []) d)) (sym (opens_joined es i q))
 of_step setup d es (Issued i t) new old all ih = of_issued setup d es i t new old all ih
-of_step setup d es (Finished u) new old all ih = of_ended setup d es (Finished u) u refl new old all ih
-of_step setup d es (Returned u) new old all ih = of_ended setup d es (Returned u) u refl new old all ih
-of_step setup d es (DepthSet n) new old all ih =
-    open_kept setup es (DepthSet n) new refl refl refl d ∙ ih ∙ sym (still_of setup es (DepthSet n) d old all) ∙ ap (count_by (is_of (es ++ DepthSet n ∷ []) d)) (sym (opens_set es n))
+of_step setup d es (Done u) new old all ih = of_ended setup d es (Done u) u refl new old all ih
+of_step setup d es (Back u) new old all ih = of_ended setup d es (Back u) u refl new old all ih
+of_step setup d es (Depth n) new old all ih =
+    open_kept setup es (Depth n) new refl refl refl d ∙ ih ∙ sym (still_of setup es (Depth n) d old all) ∙ ap (count_by (is_of (es ++ Depth n ∷ []) d)) (sym (opens_set es n))
 
 -- the commands in flight of a direction are the open Issues of its requests
 pub open_by_dir : (setup : Setup) (events : List Happened) (d : Dir) → IsLegalTrace setup events → flying_of events d ≡ open_issues_of events d

@@ -5,7 +5,8 @@ use Rattle.std.specs.List.{slice_get}
 use Rattle.blk_bio.specs.Bios.{Bio}
 use Rattle.blk_trace.specs.declared.trace.Prepared.{Prepared}
 use Rattle.blk_trace.specs.Setups.{Setup}
-use Rattle.blk_trace.specs.Happened.{Happened, Ticked, Released, Joined, Issued, Finished, Returned, DepthSet}
+use Rattle.blk_trace.specs.Happened.{Happened}
+use Rattle.blk_trace.specs.declared.event.Event.TheVariants.{Tick, Release, Join, Issue, Done, Back, Depth}
 use Rattle.blk_trace.specs.declared.trace.TheConstants.{MAX_EVENTS}
 use Rattle.blk_trace.specs.Rules.{IsUnbroken}
 use Rattle.blk_trace.specs.Events.{open_count, round_of, is_tick}
@@ -64,33 +65,33 @@ same_round es e other = round_more es e ∙ ap (λ b. round_of es + cond b 1 0) 
 pub released_more : (es : List Happened) (e : Happened) → released_count (es ++ e ∷ []) ≡ released_count es + released_count (e ∷ [])
 unfolding released_ids
 released_more [] e = omega arith
-released_more (Released id bios ∷ es) e = let h = released_more es e in omega arith
+released_more (Release id bios ∷ es) e = let h = released_more es e in omega arith
 released_more (x ∷ es) e = released_more es e
 
-pub released-released : (es : List Happened) (id : ℕ) (bios : List Bio) → released_count (es ++ Released id bios ∷ []) ≡ released_count es + 1
+pub released-released : (es : List Happened) (id : ℕ) (bios : List Bio) → released_count (es ++ Release id bios ∷ []) ≡ released_count es + 1
 unfolding released_ids
-released-released es id bios = released_more es (Released id bios)
+released-released es id bios = released_more es (Release id bios)
 
-pub released-joined : (es : List Happened) (id : ℕ) (bios : List Bio) → released_count (es ++ Joined id bios ∷ []) ≡ released_count es
+pub released-joined : (es : List Happened) (id : ℕ) (bios : List Bio) → released_count (es ++ Join id bios ∷ []) ≡ released_count es
 unfolding released_ids
-released-joined es id bios = let h = released_more es (Joined id bios) in omega arith
+released-joined es id bios = let h = released_more es (Join id bios) in omega arith
 
-pub released-issued : (es : List Happened) (id tag : ℕ) → released_count (es ++ Issued id tag ∷ []) ≡ released_count es
+pub released-issued : (es : List Happened) (id tag : ℕ) → released_count (es ++ Issue id tag ∷ []) ≡ released_count es
 unfolding released_ids
-released-issued es id tag = let h = released_more es (Issued id tag) in omega arith
+released-issued es id tag = let h = released_more es (Issue id tag) in omega arith
 
-pub released-finished : (es : List Happened) (tag : ℕ) → released_count (es ++ Finished tag ∷ []) ≡ released_count es
+pub released-finished : (es : List Happened) (tag : ℕ) → released_count (es ++ Done tag ∷ []) ≡ released_count es
 unfolding released_ids
-released-finished es tag = let h = released_more es (Finished tag) in omega arith
+released-finished es tag = let h = released_more es (Done tag) in omega arith
 
-pub released-returned : (es : List Happened) (tag : ℕ) → released_count (es ++ Returned tag ∷ []) ≡ released_count es
+pub released-returned : (es : List Happened) (tag : ℕ) → released_count (es ++ Back tag ∷ []) ≡ released_count es
 unfolding released_ids
-released-returned es tag = let h = released_more es (Returned tag) in omega arith
+released-returned es tag = let h = released_more es (Back tag) in omega arith
 
-pub released-set : (es : List Happened) (depth : ℕ) → released_count (es ++ DepthSet depth ∷ []) ≡ released_count es
+pub released-set : (es : List Happened) (depth : ℕ) → released_count (es ++ Depth depth ∷ []) ≡ released_count es
 unfolding released_ids
-released-set es depth = let h = released_more es (DepthSet depth) in omega arith
+released-set es depth = let h = released_more es (Depth depth) in omega arith
 
-pub released-ticked : (es : List Happened) → released_count (es ++ Ticked ∷ []) ≡ released_count es
+pub released-ticked : (es : List Happened) → released_count (es ++ Tick ∷ []) ≡ released_count es
 unfolding released_ids
-released-ticked es = let h = released_more es Ticked in omega arith
+released-ticked es = let h = released_more es Tick in omega arith

@@ -2,8 +2,14 @@
 use Rattle.std.proofs.Common.{◌≡◌, ◌∙◌, sym, ap, subst, refl, ℕ, Bool, true, false, cond, List, [], ◌∷◌, ◌++◌, Option, Some, None, ◌==◌, eqb-true}
 use Rattle.std.specs.Prelude.{◌||◌, ◌&&◌, not}
 use Rattle.blk_bio.specs.Bios.{Bio}
+<<<<<<< HEAD
 use Rattle.blk_bio.specs.declared.rule.TraceRule.TheVariants.{ReleasedTwice, AlreadyIssued}
 use Rattle.blk_trace.specs.Happened.{Happened, Ticked, Released, Joined, Issued, Finished, Returned, DepthSet}
+=======
+use Rattle.blk_trace.specs.declared.rule.TraceRule.TheVariants.{ReleasedTwice, AlreadyIssued}
+use Rattle.blk_trace.specs.Happened.{Happened}
+use Rattle.blk_trace.specs.declared.event.Event.TheVariants.{Tick, Release, Join, Issue, Done, Back, Depth}
+>>>>>>> events-b
 use Rattle.blk_trace.specs.Kinds.{releases, joins, issues, hands_back}
 use Rattle.blk_trace.specs.Setups.{Setup}
 use Rattle.blk_trace.specs.Events.{IsIssued, request_of}
@@ -57,31 +63,31 @@ pub returned_kept : (setup : Setup) (es : List Happened) (e : Happened) → rele
 returned_kept setup es e r j i n q =
     returned_is setup (es ++ e ∷ []) q _ _ (was_kept es e q i) (waits_kept setup es e r j i n q) ∙ sym (returned_is setup es q _ _ refl refl)
 
-pub returned-ticked : (setup : Setup) (es : List Happened) (q : ℕ) → returned_at setup (es ++ Ticked ∷ []) q ≡ returned_at setup es q
-returned-ticked setup es q = returned_kept setup es Ticked refl refl refl refl q
+pub returned-ticked : (setup : Setup) (es : List Happened) (q : ℕ) → returned_at setup (es ++ Tick ∷ []) q ≡ returned_at setup es q
+returned-ticked setup es q = returned_kept setup es Tick refl refl refl refl q
 
-pub returned-finished : (setup : Setup) (es : List Happened) (tag q : ℕ) → returned_at setup (es ++ Finished tag ∷ []) q ≡ returned_at setup es q
-returned-finished setup es tag q = returned_kept setup es (Finished tag) refl refl refl refl q
+pub returned-finished : (setup : Setup) (es : List Happened) (tag q : ℕ) → returned_at setup (es ++ Done tag ∷ []) q ≡ returned_at setup es q
+returned-finished setup es tag q = returned_kept setup es (Done tag) refl refl refl refl q
 
-pub returned-set : (setup : Setup) (es : List Happened) (depth q : ℕ) → returned_at setup (es ++ DepthSet depth ∷ []) q ≡ returned_at setup es q
-returned-set setup es depth q = returned_kept setup es (DepthSet depth) refl refl refl refl q
+pub returned-set : (setup : Setup) (es : List Happened) (depth q : ℕ) → returned_at setup (es ++ Depth depth ∷ []) q ≡ returned_at setup es q
+returned-set setup es depth q = returned_kept setup es (Depth depth) refl refl refl refl q
 
 drops : (b was : Bool) (x : Entered) (y : Option Entered) → (b ≡ true → was ≡ false) → cond was (cond b (Some x) y) None ≡ cond was y None
 drops true was x y h = ap (λ w. cond w (Some x) None) (h refl) ∙ sym (ap (λ w. cond w y None) (h refl))
 drops false was x y h = refl
 
-pub returned-released : (setup : Setup) (es : List Happened) (id : ℕ) (bios : List Bio) → IsLegalTrace setup (es ++ Released id bios ∷ []) → (q : ℕ) → returned_at setup (es ++ Released id bios ∷ []) q ≡ returned_at setup es q
+pub returned-released : (setup : Setup) (es : List Happened) (id : ℕ) (bios : List Bio) → IsLegalTrace setup (es ++ Release id bios ∷ []) → (q : ℕ) → returned_at setup (es ++ Release id bios ∷ []) q ≡ returned_at setup es q
 returned-released setup es id bios legal q =
-    let e : Happened = Released id bios in
+    let e : Happened = Release id bios in
     let old = shorter_legal setup es e legal in
     let fresh : was_issued es id ≡ false = never_was es id (λ p. obeys setup es e legal ReleasedTwice (released_first setup es id old p)) in
     returned_is setup (es ++ e ∷ []) q _ _ (was_kept es e q refl) (waits-released setup es id bios legal q)
     ∙ drops (id == q) (was_issued es q) _ (waits_at setup es q) (λ t. subst (λ n. was_issued es n ≡ false) (eqb-true id q t) fresh)
     ∙ sym (returned_is setup es q _ _ refl refl)
 
-pub returned-joined : (setup : Setup) (es : List Happened) (id : ℕ) (bios : List Bio) → IsLegalTrace setup (es ++ Joined id bios ∷ []) → (w : Entered) → waits_at setup es id ≡ Some w → (q : ℕ) → returned_at setup (es ++ Joined id bios ∷ []) q ≡ returned_at setup es q
+pub returned-joined : (setup : Setup) (es : List Happened) (id : ℕ) (bios : List Bio) → IsLegalTrace setup (es ++ Join id bios ∷ []) → (w : Entered) → waits_at setup es id ≡ Some w → (q : ℕ) → returned_at setup (es ++ Join id bios ∷ []) q ≡ returned_at setup es q
 returned-joined setup es id bios legal w waits q =
-    let e : Happened = Joined id bios in
+    let e : Happened = Join id bios in
     let fresh : was_issued es id ≡ false = never_was es id (obeys setup es e legal AlreadyIssued) in
     returned_is setup (es ++ e ∷ []) q _ _ (was_kept es e q refl) (waits-joined setup es id bios legal w waits q)
     ∙ drops (id == q) (was_issued es q) _ (waits_at setup es q) (λ t. subst (λ n. was_issued es n ≡ false) (eqb-true id q t) fresh)
@@ -93,9 +99,9 @@ goes true false y = refl
 goes false true y = refl
 goes false false y = refl
 
-pub returned-issued : (setup : Setup) (es : List Happened) (id tag : ℕ) → IsLegalTrace setup (es ++ Issued id tag ∷ []) → (q : ℕ) → returned_at setup (es ++ Issued id tag ∷ []) q ≡ cond (id == q) None (returned_at setup es q)
+pub returned-issued : (setup : Setup) (es : List Happened) (id tag : ℕ) → IsLegalTrace setup (es ++ Issue id tag ∷ []) → (q : ℕ) → returned_at setup (es ++ Issue id tag ∷ []) q ≡ cond (id == q) None (returned_at setup es q)
 returned-issued setup es id tag legal q =
-    returned_is setup (es ++ Issued id tag ∷ []) q _ _ (was_issued_more es (Issued id tag) q) (waits-issued setup es id tag legal q)
+    returned_is setup (es ++ Issue id tag ∷ []) q _ _ (was_issued_more es (Issue id tag) q) (waits-issued setup es id tag legal q)
     ∙ goes (id == q) (was_issued es q) (waits_at setup es q)
     ∙ ap (λ o. cond (id == q) None o) (sym (returned_is setup es q _ _ refl refl))
 
@@ -103,8 +109,8 @@ comes : (b was : Bool) (x : Entered) (y : Option Entered) → (b ≡ true → wa
 comes true was x y h = ap (λ w. cond w (Some x) None) (h refl)
 comes false was x y h = refl
 
-pub returned-returned : (setup : Setup) (es : List Happened) (tag id : ℕ) → IsLegalTrace setup es → IsOpenBy es tag id → (q : ℕ) → returned_at setup (es ++ Returned tag ∷ []) q ≡ cond (id == q) (Some (entry_of setup es id)) (returned_at setup es q)
+pub returned-returned : (setup : Setup) (es : List Happened) (tag id : ℕ) → IsLegalTrace setup es → IsOpenBy es tag id → (q : ℕ) → returned_at setup (es ++ Back tag ∷ []) q ≡ cond (id == q) (Some (entry_of setup es id)) (returned_at setup es q)
 returned-returned setup es tag id legal o q =
-    returned_is setup (es ++ Returned tag ∷ []) q _ _ (was_kept es (Returned tag) q refl) (waits_returned setup es tag id legal o q)
+    returned_is setup (es ++ Back tag ∷ []) q _ _ (was_kept es (Back tag) q refl) (waits_returned setup es tag id legal o q)
     ∙ comes (id == q) (was_issued es q) (entry_of setup es id) (waits_at setup es q) (λ b. issued_was es q (subst (IsIssued es) (eqb-true id q b) (open_issued es tag id o)))
     ∙ ap (λ y. cond (id == q) (Some (entry_of setup es id)) y) (sym (returned_is setup es q _ _ refl refl))

@@ -9,7 +9,8 @@ use Rattle.blk_bio.specs.declared.bio.Dir.TheVariants.{Read, Write}
 use Rattle.blk_bio.specs.Requests.{dir_of}
 use Rattle.blk_trace.specs.Setups.{Setup}
 use Rattle.blk_trace.specs.Depths.{depth_now}
-use Rattle.blk_trace.specs.Happened.{Happened, Issued}
+use Rattle.blk_trace.specs.Happened.{Happened}
+use Rattle.blk_trace.specs.declared.event.Event.TheVariants.{Issue}
 use Rattle.blk_trace.specs.Meaning.{commands_of}
 use Rattle.blk_trace.specs.Inside.Allowed.{IsAllowed}
 use Rattle.blk_trace.specs.Waits.{waits_at, unissued_at, waiting_count}
@@ -48,9 +49,9 @@ record IsSent (setup : Setup) (es fs : List Happened) (m' : Meaning) (held' : Li
   handed : (d : Dir) → handed_of d m'.open_picks ≡ held_count (is_of d) held'
   lists : length held' ≡ setup.hw
 
-tied_sent : {A : Type 0} (setup setup' : Setup) (es es' : List Happened) (m m' : Meaning) (fl : List (TagState A)) (held held' : List (List Waiting)) (rel hw tag : ℕ) (w : Waiting) → IsPushed setup es (Issued w.id tag) setup' es' → IsTied setup es m fl held rel → waits_at setup es w.id ≡ Some (entered_of w) → IsOpened m m' (dir_of w.bios) → IsSent setup es (es ++ Issued w.id tag ∷ []) m' held' rel → tag < length fl → get_or fl tag Free ≡ Free → hw < setup.hw → IsTied setup' es' m' (set fl tag (Flying hw w)) held' rel
+tied_sent : {A : Type 0} (setup setup' : Setup) (es es' : List Happened) (m m' : Meaning) (fl : List (TagState A)) (held held' : List (List Waiting)) (rel hw tag : ℕ) (w : Waiting) → IsPushed setup es (Issue w.id tag) setup' es' → IsTied setup es m fl held rel → waits_at setup es w.id ≡ Some (entered_of w) → IsOpened m m' (dir_of w.bios) → IsSent setup es (es ++ Issue w.id tag ∷ []) m' held' rel → tag < length fl → get_or fl tag Free ≡ Free → hw < setup.hw → IsTied setup' es' m' (set fl tag (Flying hw w)) held' rel
 tied_sent {A} setup setup' es es' m m' fl held held' rel hw tag w p t waits o s lt none small =
-    let fs : List Happened = es ++ Issued w.id tag ∷ [] in
+    let fs : List Happened = es ++ Issue w.id tag ∷ [] in
     let f : TagState A = Flying hw w in
     let r0 : flying Read (get_or fl tag Free) ≡ 0 = ap (flying Read) none in
     let s0 : flying Write (get_or fl tag Free) ≡ 0 = ap (flying Write) none in
@@ -64,13 +65,13 @@ tied_sent {A} setup setup' es es' m m' fl held held' rel hw tag w p t waits o s 
     let br = open_by_dir setup es Read t.legal in let bs = open_by_dir setup es Write t.legal in
     let ar = open_by_dir setup fs Read p.legal in let aw = open_by_dir setup fs Write p.legal in
     let l : length (set fl tag f) ≡ length fl = length-set fl tag f in
-    let longer = one_longer es (Issued w.id tag) in
+    let longer = one_longer es (Issue w.id tag) in
     let count = step.count-issued setup es w.id tag p.legal in
     let sent = s.count in
     let more = released-issued es w.id tag in
     let next = t.next in
     let few = t.few in
-    tied_at setup setup' es es' (Issued w.id tag) m' (set fl tag f) held' rel p
+    tied_at setup setup' es es' (Issue w.id tag) m' (set fl tag f) held' rel p
     (record {
       legal = p.legal;
       ranges = t.ranges;
@@ -82,17 +83,17 @@ tied_sent {A} setup setup' es es' m m' fl held held' rel hw tag w p t waits o s 
         reads = omega arith;
         writes = omega arith;
         handed = s.handed;
-        round = o.round ∙ t.holds.round ∙ sym (same_round es (Issued w.id tag) refl);
+        round = o.round ∙ t.holds.round ∙ sym (same_round es (Issue w.id tag) refl);
       };
       next = omega arith;
       few = omega arith;
-      known = old_known es (Issued w.id tag) rel (λ i b e. cc) t.known;
+      known = old_known es (Issue w.id tag) rel (λ i b e. cc) t.known;
       fresh = λ q h. s.fresh q (omega arith);
       room = l ∙ t.room;
       lists = s.lists;
       seats = λ q h. seats_set (seat_at es) (seat_at fs) fl tag f lt t.seats (step.seat-issued setup es w.id tag p.legal (entered_of w) waits) q (omega arith);
       flown = flown_set (IsFlown setup es) (IsFlown setup fs) fl tag f lt
-          (λ u v ne was. flown_kept setup es (Issued w.id tag) u v p.legal (λ e. absurd (cc)) was)
+          (λ u v ne was. flown_kept setup es (Issue w.id tag) u v p.legal (λ e. absurd (cc)) was)
           (λ h v e. subst (λ x. IsFlown setup fs tag x) (same_request h v e) (flown_issued setup es tag w p.legal waits))
           t.flown;
       reads = omega arith;
@@ -104,9 +105,9 @@ tied_sent {A} setup setup' es es' m m' fl held held' rel hw tag w p t waits o s 
     same_request h v e = cc
 
 -- the scheduler's choice goes
-picked_goes : {A : Type 0} (setup : Setup) (es : List Happened) (m m' : Meaning) (fl : List (TagState A)) (held : List (List Waiting)) (rel hw tag : ℕ) (serves : ℕ → Waiting → Bool) (w : Waiting) → (let fs : List Happened = es ++ Issued w.id tag ∷ [] in (q : ℕ) → unissued_at setup fs q ≡ cond (w.id == q) None (unissued_at setup es q)) → (let fs : List Happened = es ++ Issued w.id tag ∷ [] in (q : ℕ) → returned_at setup fs q ≡ cond (w.id == q) None (returned_at setup es q)) → IsTied setup es m fl held rel → Picks serves hw m w m' → IsSent setup es (es ++ Issued w.id tag ∷ []) m' held rel
+picked_goes : {A : Type 0} (setup : Setup) (es : List Happened) (m m' : Meaning) (fl : List (TagState A)) (held : List (List Waiting)) (rel hw tag : ℕ) (serves : ℕ → Waiting → Bool) (w : Waiting) → (let fs : List Happened = es ++ Issue w.id tag ∷ [] in (q : ℕ) → unissued_at setup fs q ≡ cond (w.id == q) None (unissued_at setup es q)) → (let fs : List Happened = es ++ Issue w.id tag ∷ [] in (q : ℕ) → returned_at setup fs q ≡ cond (w.id == q) None (returned_at setup es q)) → IsTied setup es m fl held rel → Picks serves hw m w m' → IsSent setup es (es ++ Issue w.id tag ∷ []) m' held rel
 picked_goes setup es m m' fl held rel hw tag serves w unissued returned t picks =
-    let fs : List Happened = es ++ Issued w.id tag ∷ [] in
+    let fs : List Happened = es ++ Issue w.id tag ∷ [] in
     let mp : m'.pending ≡ map.remove m.pending w.id = ap (λ (x : Meaning). x.pending) picks.2 in
     let mo : m'.open_picks ≡ opened (dir_of w.bios) m.open_picks = ap (λ (x : Meaning). x.open_picks) picks.2 in
     let none : returned_at setup es w.id ≡ None = unissued_not_returned setup es w.id (entered_of w) (never_issued setup es m fl held rel w.id w t picks.0) in
@@ -132,9 +133,9 @@ picked_opened serves hw m m' w picks = record {
 }
 
 -- the first of a held list goes
-again_goes : {A : Type 0} (setup : Setup) (es : List Happened) (m m' : Meaning) (fl : List (TagState A)) (held : List (List Waiting)) (rel hw tag : ℕ) (w : Waiting) (rest : List Waiting) → (let fs : List Happened = es ++ Issued w.id tag ∷ [] in (q : ℕ) → unissued_at setup fs q ≡ cond (w.id == q) None (unissued_at setup es q)) → (let fs : List Happened = es ++ Issued w.id tag ∷ [] in (q : ℕ) → returned_at setup fs q ≡ cond (w.id == q) None (returned_at setup es q)) → IsTied setup es m fl held rel → hw < length held → get_or held hw [] ≡ w ∷ rest → HandsBack (dir_of w.bios) m' m → IsSent setup es (es ++ Issued w.id tag ∷ []) m' (set held hw rest) rel
+again_goes : {A : Type 0} (setup : Setup) (es : List Happened) (m m' : Meaning) (fl : List (TagState A)) (held : List (List Waiting)) (rel hw tag : ℕ) (w : Waiting) (rest : List Waiting) → (let fs : List Happened = es ++ Issue w.id tag ∷ [] in (q : ℕ) → unissued_at setup fs q ≡ cond (w.id == q) None (unissued_at setup es q)) → (let fs : List Happened = es ++ Issue w.id tag ∷ [] in (q : ℕ) → returned_at setup fs q ≡ cond (w.id == q) None (returned_at setup es q)) → IsTied setup es m fl held rel → hw < length held → get_or held hw [] ≡ w ∷ rest → HandsBack (dir_of w.bios) m' m → IsSent setup es (es ++ Issue w.id tag ∷ []) m' (set held hw rest) rel
 again_goes setup es m m' fl held rel hw tag w rest unissued returned t lt is back =
-    let fs : List Happened = es ++ Issued w.id tag ∷ [] in
+    let fs : List Happened = es ++ Issue w.id tag ∷ [] in
     let mp : m'.pending ≡ m.pending = sym (ap (λ (x : Meaning). x.pending) back) in
     let stands : returned_at setup es w.id ≡ Some (entered_of w) = t.holds.returned hw 0 w (first_stands held hw w rest is) in
     let same : (q : ℕ) → unissued_at setup fs q ≡ unissued_at setup es q = none_gone (unissued_at setup es) (unissued_at setup fs) w.id (returned_not_unissued setup es w.id (entered_of w) stands) unissued in
@@ -171,7 +172,7 @@ sent_waits setup es m m' fl held held' rel serves chooses kept kept' hw round w 
     (returned_from setup es w.id (entered_of w) (t.holds.returned hw 0 w (first_stands held hw w rest (is ∙ ap (λ x. x ∷ rest) sends.0)))).1
 
 -- after an issue the core is tied
-pub tied_issue : {A : Type 0} (setup setup' : Setup) (es es' : List Happened) (m m' : Meaning) (fl : List (TagState A)) (held held' : List (List Waiting)) (rel : ℕ) (serves : ℕ → Waiting → Bool) (chooses : Choice) (kept kept' : List ℕ) (hw round tag : ℕ) (w : Waiting) (own : List Waiting) → IsPushed setup es (Issued w.id tag) setup' es' → IsTied setup es m fl held rel → get_or held hw [] ≡ own → SendsFrom serves chooses hw round own m kept held w m' kept' held' → tag < length fl → get_or fl tag Free ≡ Free → hw < setup.hw → IsTied setup' es' m' (set fl tag (Flying hw w)) held' rel
+pub tied_issue : {A : Type 0} (setup setup' : Setup) (es es' : List Happened) (m m' : Meaning) (fl : List (TagState A)) (held held' : List (List Waiting)) (rel : ℕ) (serves : ℕ → Waiting → Bool) (chooses : Choice) (kept kept' : List ℕ) (hw round tag : ℕ) (w : Waiting) (own : List Waiting) → IsPushed setup es (Issue w.id tag) setup' es' → IsTied setup es m fl held rel → get_or held hw [] ≡ own → SendsFrom serves chooses hw round own m kept held w m' kept' held' → tag < length fl → get_or fl tag Free ≡ Free → hw < setup.hw → IsTied setup' es' m' (set fl tag (Flying hw w)) held' rel
 tied_issue {A} setup setup' es es' m m' fl held held' rel serves chooses kept kept' hw round tag w [] p t is sends lt none small =
     let waits = sent_waits setup es m m' fl held held' rel serves chooses kept kept' hw round w [] t is sends in
     subst (λ x. IsTied setup' es' m' (set fl tag (Flying hw w)) x rel) (sym sends.2)
@@ -185,12 +186,12 @@ tied_issue {A} setup setup' es es' m m' fl held held' rel serves chooses kept ke
     (again_goes setup es m m' fl held rel hw tag w rest (step.unissued-issued setup es w.id tag p.legal) (returned-issued setup es w.id tag p.legal) t (omega arith) (is ∙ ap (λ x. x ∷ rest) sends.0) sends.1) lt none small)
 
 -- what goes is an Issue that the trace allows
-pub issue_allowed : {A : Type 0} (setup : Setup) (es : List Happened) (m : Meaning) (fl : List (TagState A)) (held : List (List Waiting)) (rel tag : ℕ) (w : Waiting) → IsTied setup es m fl held rel → waits_at setup es w.id ≡ Some (entered_of w) → tag < depth_now setup es → tag < length fl → get_or fl tag Free ≡ Free → IsAllowed setup es (Issued w.id tag)
+pub issue_allowed : {A : Type 0} (setup : Setup) (es : List Happened) (m : Meaning) (fl : List (TagState A)) (held : List (List Waiting)) (rel tag : ℕ) (w : Waiting) → IsTied setup es m fl held rel → waits_at setup es w.id ≡ Some (entered_of w) → tag < depth_now setup es → tag < length fl → get_or fl tag Free ≡ Free → IsAllowed setup es (Issue w.id tag)
 issue_allowed setup es m fl held rel tag w t waits below lt none =
     (entered_of w, waits, below, sym (t.seats tag lt) ∙ ap seat_of none)
 
 -- its command is the last one
-pub last_command : (setup setup' : Setup) (es es' : List Happened) (tag : ℕ) (w : Waiting) → IsPushed setup es (Issued w.id tag) setup' es' → waits_at setup es w.id ≡ Some (entered_of w) → commands_of setup' es' ≡ commands_of setup es ++ record { id = w.id; release = w.release; due = w.due } ∷ []
+pub last_command : (setup setup' : Setup) (es es' : List Happened) (tag : ℕ) (w : Waiting) → IsPushed setup es (Issue w.id tag) setup' es' → waits_at setup es w.id ≡ Some (entered_of w) → commands_of setup' es' ≡ commands_of setup es ++ record { id = w.id; release = w.release; due = w.due } ∷ []
 last_command setup setup' es es' tag w p waits =
     ap (λ s. commands_of s es') p.same ∙ ap (commands_of setup) p.added
     ∙ step.commands-issued setup es w.id tag p.legal (entered_of w) waits

@@ -16,7 +16,8 @@ use Rattle.blk_bio.specs.Bios.{Bio}
 use Rattle.blk_bio.specs.Limits.{Limits}
 use Rattle.blk_bio.specs.Requests.{dir_of}
 use Rattle.blk_trace.specs.Setups.{Setup, IsSetup, expire_of}
-use Rattle.blk_trace.specs.Happened.{Happened, Released, Joined, Ticked, DepthSet}
+use Rattle.blk_trace.specs.Happened.{Happened}
+use Rattle.blk_trace.specs.declared.event.Event.TheVariants.{Release, Join, Tick, Depth}
 use Rattle.blk_trace.specs.Depths.{depth_now}
 use Rattle.blk_trace.specs.Legal.{IsLegalTrace}
 use Rattle.blk_trace.proofs.Depths.{depth_now_is}
@@ -52,12 +53,12 @@ use Rattle.blk_trace.proofs.Unissued.{unissued_from, unissued_kept}
 use Rattle.blk_trace.proofs.Steps as step
 
 -- no Release is added: those that stand are known
-pub old_known : (es : List Happened) (e : Happened) (rel : ℕ) → ((id : ℕ) (bios : List Bio) → e ≡ Released id bios → ⊥) → ((k id : ℕ) (bios : List Bio) → At es k (Released id bios) → id < rel) → (k id : ℕ) (bios : List Bio) → At (es ++ e ∷ []) k (Released id bios) → id < rel
-old_known es e rel other h k id bios at = elim (get_more es e k (Released id bios) at) [ inl a ↦ h k id bios a | inr b ↦ absurd (other id bios b.1) ]
+pub old_known : (es : List Happened) (e : Happened) (rel : ℕ) → ((id : ℕ) (bios : List Bio) → e ≡ Release id bios → ⊥) → ((k id : ℕ) (bios : List Bio) → At es k (Release id bios) → id < rel) → (k id : ℕ) (bios : List Bio) → At (es ++ e ∷ []) k (Release id bios) → id < rel
+old_known es e rel other h k id bios at = elim (get_more es e k (Release id bios) at) [ inl a ↦ h k id bios a | inr b ↦ absurd (other id bios b.1) ]
 
 -- the newest Release is known
-new_known : (es : List Happened) (rel : ℕ) (q : List Bio) → ((k id : ℕ) (bios : List Bio) → At es k (Released id bios) → id < rel) → (k id : ℕ) (bios : List Bio) → At (es ++ Released rel q ∷ []) k (Released id bios) → id < rel + 1
-new_known es rel q h k id bios at = elim (get_more es (Released rel q) k (Released id bios) at) [
+new_known : (es : List Happened) (rel : ℕ) (q : List Bio) → ((k id : ℕ) (bios : List Bio) → At es k (Release id bios) → id < rel) → (k id : ℕ) (bios : List Bio) → At (es ++ Release rel q ∷ []) k (Release id bios) → id < rel + 1
+new_known es rel q h k id bios at = elim (get_more es (Release rel q) k (Release id bios) at) [
   | inl a ↦ (let l = h k id bios a in omega arith)
   | inr b ↦ (let e : rel ≡ id = (let p = b.1 in cc) in omega arith)
 ]
@@ -82,11 +83,11 @@ pub waits_there : {A : Type 0} (setup : Setup) (es : List Happened) (m : Meaning
 waits_there setup es m fl held rel id w t there = (unissued_from setup es id (entered_of w) (never_issued setup es m fl held rel id w t there)).1
 
 -- after a release the core is tied
-pub tied_release : {A : Type 0} (setup setup' : Setup) (es es' : List Happened) (m m' : Meaning) (fl : List (TagState A)) (held : List (List Waiting)) (rel : ℕ) (bios : List Bio) (w : Waiting) → IsPushed setup es (Released rel bios) setup' es' → IsTied setup es m fl held rel → entered_of w ≡ record { release = round_of es; due = round_of es + expire_of setup (dir_of bios); bios = bios } → m' ≡ record m { pending = map.insert m.pending rel w } → IsTied setup' es' m' fl held (rel + 1)
+pub tied_release : {A : Type 0} (setup setup' : Setup) (es es' : List Happened) (m m' : Meaning) (fl : List (TagState A)) (held : List (List Waiting)) (rel : ℕ) (bios : List Bio) (w : Waiting) → IsPushed setup es (Release rel bios) setup' es' → IsTied setup es m fl held rel → entered_of w ≡ record { release = round_of es; due = round_of es + expire_of setup (dir_of bios); bios = bios } → m' ≡ record m { pending = map.insert m.pending rel w } → IsTied setup' es' m' fl held (rel + 1)
 tied_release setup setup' es es' m m' fl held rel bios w p t is m_is =
-    let fs : List Happened = es ++ Released rel bios ∷ [] in
+    let fs : List Happened = es ++ Release rel bios ∷ [] in
     let absent : map.get m.pending rel ≡ None = t.fresh rel (omega arith) in
-    let longer = one_longer es (Released rel bios) in
+    let longer = one_longer es (Release rel bios) in
     let count = step.count-released setup es rel bios p.legal in
     let had = t.holds.count in
     let len = len_new m.pending rel w absent in
@@ -94,7 +95,7 @@ tied_release setup setup' es es' m m' fl held rel bios w p t is m_is =
     let next = t.next in
     let few = t.few in
     let same : (q : ℕ) → returned_at setup fs q ≡ returned_at setup es q = λ q. returned-released setup es rel bios p.legal q in
-    tied_at setup setup' es es' (Released rel bios) m' fl held (rel + 1) p
+    tied_at setup setup' es es' (Release rel bios) m' fl held (rel + 1) p
     (subst (λ x. IsTied setup fs x fl held (rel + 1)) (sym m_is)
     (record {
       legal = p.legal;
@@ -108,7 +109,7 @@ tied_release setup setup' es es' m m' fl held rel bios w p t is m_is =
         reads = opens_same setup es fs Read m.open_picks.reads t.legal p.legal (step.open-released setup es rel bios p.legal Read) t.holds.reads;
         writes = opens_same setup es fs Write m.open_picks.writes t.legal p.legal (step.open-released setup es rel bios p.legal Write) t.holds.writes;
         handed = t.holds.handed;
-        round = t.holds.round ∙ sym (same_round es (Released rel bios) refl);
+        round = t.holds.round ∙ sym (same_round es (Release rel bios) refl);
       };
       next = omega arith;
       few = omega arith;
@@ -117,23 +118,23 @@ tied_release setup setup' es es' m m' fl held rel bios w p t is m_is =
       room = t.room;
       lists = t.lists;
       seats = λ tag h. t.seats tag h ∙ sym (step.seat-released setup es rel bios p.legal tag);
-      flown = λ tag hw v at. flown_kept setup es (Released rel bios) tag v p.legal (λ e. absurd (cc)) (t.flown tag hw v at);
+      flown = λ tag hw v at. flown_kept setup es (Release rel bios) tag v p.legal (λ e. absurd (cc)) (t.flown tag hw v at);
       reads = t.reads;
       writes = t.writes;
       queues = t.queues;
     }))
 
 -- after a join the core is tied
-pub tied_join : {A : Type 0} (setup setup' : Setup) (es es' : List Happened) (m m' : Meaning) (fl : List (TagState A)) (held : List (List Waiting)) (rel : ℕ) (serves : ℕ → Waiting → Bool) (hw now : ℕ) (bios : List Bio) (id : ℕ) (side : Side) → IsPushed setup es (Joined id bios) setup' es' → IsTied setup es m fl held rel → now ≡ round_of es → Joins serves hw now setup.limits bios m id side m' → IsTied setup' es' m' fl held rel
+pub tied_join : {A : Type 0} (setup setup' : Setup) (es es' : List Happened) (m m' : Meaning) (fl : List (TagState A)) (held : List (List Waiting)) (rel : ℕ) (serves : ℕ → Waiting → Bool) (hw now : ℕ) (bios : List Bio) (id : ℕ) (side : Side) → IsPushed setup es (Join id bios) setup' es' → IsTied setup es m fl held rel → now ≡ round_of es → Joins serves hw now setup.limits bios m id side m' → IsTied setup' es' m' fl held rel
 tied_join setup setup' es es' m m' fl held rel serves hw now bios id side p t now_is joins =
-    let fs : List Happened = es ++ Joined id bios ∷ [] in
+    let fs : List Happened = es ++ Join id bios ∷ [] in
     let w = joins.0 in
     let candidate = joins.1 in
     let new : Waiting = joined_waiting side now bios w in
     let waits : waits_at setup es id ≡ Some (entered_of w) = waits_there setup es m fl held rel id w t candidate.pending in
     let up : join_up w.bios bios ≡ new.bios = joined_up setup.limits w.bios bios side candidate.fits candidate.back_first in
     let is : entered_of new ≡ record { release = round_of es; due = w.due; bios = join_up w.bios bios } = cc in
-    let longer = one_longer es (Joined id bios) in
+    let longer = one_longer es (Join id bios) in
     let count = step.count-joined setup es id bios p.legal in
     let had = t.holds.count in
     let len = len_given m.pending id w new candidate.pending in
@@ -141,7 +142,7 @@ tied_join setup setup' es es' m m' fl held rel serves hw now bios id side p t no
     let next = t.next in
     let few = t.few in
     let same : (q : ℕ) → returned_at setup fs q ≡ returned_at setup es q = λ q. returned-joined setup es id bios p.legal (entered_of w) waits q in
-    tied_at setup setup' es es' (Joined id bios) m' fl held rel p
+    tied_at setup setup' es es' (Join id bios) m' fl held rel p
     (subst (λ x. IsTied setup fs x fl held rel) (sym joins.2)
     (record {
       legal = p.legal;
@@ -155,16 +156,16 @@ tied_join setup setup' es es' m m' fl held rel serves hw now bios id side p t no
         reads = opens_same setup es fs Read m.open_picks.reads t.legal p.legal (step.open-joined setup es id bios p.legal Read) t.holds.reads;
         writes = opens_same setup es fs Write m.open_picks.writes t.legal p.legal (step.open-joined setup es id bios p.legal Write) t.holds.writes;
         handed = t.holds.handed;
-        round = t.holds.round ∙ sym (same_round es (Joined id bios) refl);
+        round = t.holds.round ∙ sym (same_round es (Join id bios) refl);
       };
       next = omega arith;
       few = omega arith;
-      known = old_known es (Joined id bios) rel (λ i b e. cc) t.known;
+      known = old_known es (Join id bios) rel (λ i b e. cc) t.known;
       fresh = λ q h. still_absent m.pending id new q (elsewhere q h) (t.fresh q h);
       room = t.room;
       lists = t.lists;
       seats = λ tag h. t.seats tag h ∙ sym (step.seat-joined setup es id bios p.legal tag);
-      flown = λ tag h v at. flown_kept setup es (Joined id bios) tag v p.legal (λ e. absurd (cc)) (t.flown tag h v at);
+      flown = λ tag h v at. flown_kept setup es (Join id bios) tag v p.legal (λ e. absurd (cc)) (t.flown tag h v at);
       reads = t.reads;
       writes = t.writes;
       queues = t.queues;
@@ -203,9 +204,9 @@ none_flown : {A : Type 0} (P : Type 0) (s : TagState A) (hw : ℕ) (w : Waiting)
 none_flown P s hw w is at = absurd (cc)
 
 -- after a tick the core is tied
-pub tied_tick : {A : Type 0} (setup setup' : Setup) (es es' : List Happened) (m m' : Meaning) (fl fl' : List (TagState A)) (held : List (List Waiting)) (rel now : ℕ) → IsPushed setup es Ticked setup' es' → IsTied setup es m fl held rel → m' ≡ record m { round = now } → now ≡ round_of es' → fl' ≡ replicate (length fl) Free → IsTied setup' es' m' fl' held rel
+pub tied_tick : {A : Type 0} (setup setup' : Setup) (es es' : List Happened) (m m' : Meaning) (fl fl' : List (TagState A)) (held : List (List Waiting)) (rel now : ℕ) → IsPushed setup es Tick setup' es' → IsTied setup es m fl held rel → m' ≡ record m { round = now } → now ≡ round_of es' → fl' ≡ replicate (length fl) Free → IsTied setup' es' m' fl' held rel
 tied_tick {A} setup setup' es es' m m' fl fl' held rel now p t m_is now_is fl_is =
-    let fs : List Happened = es ++ Ticked ∷ [] in
+    let fs : List Happened = es ++ Tick ∷ [] in
     let n : ℕ = length fl in
     let l : length (replicate n (unused {A = A})) ≡ n = length-replicate n (unused {A = A}) in
     let r : sum_by (flying Read) (replicate n (unused {A = A})) ≡ n * 0 = sum_by-replicate (flying Read) n (unused {A = A}) in
@@ -217,13 +218,13 @@ tied_tick {A} setup setup' es es' m m' fl fl' held rel now p t m_is now_is fl_is
     let hr = t.holds.reads in let hs = t.holds.writes in
     let br = open_by_dir setup es Read t.legal in let bs = open_by_dir setup es Write t.legal in
     let ar = open_by_dir setup fs Read p.legal in let aw = open_by_dir setup fs Write p.legal in
-    let longer = one_longer es Ticked in
+    let longer = one_longer es Tick in
     let count = step.count-ticked setup es p.legal in
     let more = released-ticked es in
     let next = t.next in
     let few = t.few in
     let same : (q : ℕ) → returned_at setup fs q ≡ returned_at setup es q = λ q. returned-ticked setup es q in
-    tied_at setup setup' es es' Ticked m' fl' held rel p
+    tied_at setup setup' es es' Tick m' fl' held rel p
     (subst (λ x. IsTied setup fs x fl' held rel) (sym m_is)
     (subst (λ x. IsTied setup fs (record m { round = now }) x held rel) (sym fl_is)
     (record {
@@ -241,7 +242,7 @@ tied_tick {A} setup setup' es es' m m' fl fl' held rel now p t m_is now_is fl_is
       };
       next = omega arith;
       few = omega arith;
-      known = old_known es Ticked rel (λ i b e. cc) t.known;
+      known = old_known es Tick rel (λ i b e. cc) t.known;
       fresh = t.fresh;
       room = l ∙ t.room;
       lists = t.lists;
@@ -253,9 +254,9 @@ tied_tick {A} setup setup' es es' m m' fl fl' held rel now p t m_is now_is fl_is
     })))
 
 -- after a Depth the core is tied
-pub tied_set : {A : Type 0} (setup setup' : Setup) (es es' : List Happened) (m : Meaning) (fl : List (TagState A)) (held : List (List Waiting)) (rel depth : ℕ) → IsPushed setup es (DepthSet depth) setup' es' → IsTied setup es m fl held rel → IsTied setup' es' m fl held rel
+pub tied_set : {A : Type 0} (setup setup' : Setup) (es es' : List Happened) (m : Meaning) (fl : List (TagState A)) (held : List (List Waiting)) (rel depth : ℕ) → IsPushed setup es (Depth depth) setup' es' → IsTied setup es m fl held rel → IsTied setup' es' m fl held rel
 tied_set setup setup' es es' m fl held rel depth p t =
-    let e : Happened = DepthSet depth in
+    let e : Happened = Depth depth in
     let fs : List Happened = es ++ e ∷ [] in
     let longer = one_longer es e in
     let count = count_kept es e refl refl refl in
@@ -355,7 +356,7 @@ at_first {A} setup m n k start ranges d h_is =
       };
       next = sym none_released;
       few = omega arith;
-      known = λ k id bios at. absurd (let x : None ≡ Some (Released id bios) = at in cc);
+      known = λ k id bios at. absurd (let x : None ≡ Some (Release id bios) = at in cc);
       fresh = λ q h. ap (λ (x : Pending). map.get x q) parts.0 ∙ map.get-empty nat_cmp q;
       room = length-replicate n (unused {A = A}) ∙ d;
       lists = length-replicate k nothing ∙ h_is;
@@ -376,12 +377,12 @@ pub at_start_of : (s s' : Setup) (es : List Happened) (m : Meaning) (kept : List
 at_start_of s s' es m kept flights now held then p q r h = cc
 
 -- a scheduler's join is one that the trace allows
-pub join_allowed : {A : Type 0} (setup : Setup) (es : List Happened) (m m' : Meaning) (fl : List (TagState A)) (held : List (List Waiting)) (rel : ℕ) (serves : ℕ → Waiting → Bool) (hw now : ℕ) (bios : List Bio) (id : ℕ) (side : Side) → IsTied setup es m fl held rel → Joins serves hw now setup.limits bios m id side m' → AreOnce (entered es ++ bios) → IsAllowed setup es (Joined id bios)
+pub join_allowed : {A : Type 0} (setup : Setup) (es : List Happened) (m m' : Meaning) (fl : List (TagState A)) (held : List (List Waiting)) (rel : ℕ) (serves : ℕ → Waiting → Bool) (hw now : ℕ) (bios : List Bio) (id : ℕ) (side : Side) → IsTied setup es m fl held rel → Joins serves hw now setup.limits bios m id side m' → AreOnce (entered es ++ bios) → IsAllowed setup es (Join id bios)
 join_allowed setup es m m' fl held rel serves hw now bios id side t joins once =
     (entered_of joins.0, side, never_issued setup es m fl held rel id joins.0 t joins.1.pending, joins.1.fits, once)
 
 -- a Tick is allowed where nothing is in flight
-pub tick_allowed : {A : Type 0} (setup : Setup) (es : List Happened) (m : Meaning) (fl : List (TagState A)) (held : List (List Waiting)) (rel : ℕ) → IsTied setup es m fl held rel → open_count es ≡ 0 → IsAllowed setup es Ticked
+pub tick_allowed : {A : Type 0} (setup : Setup) (es : List Happened) (m : Meaning) (fl : List (TagState A)) (held : List (List Waiting)) (rel : ℕ) → IsTied setup es m fl held rel → open_count es ≡ 0 → IsAllowed setup es Tick
 tick_allowed setup es m fl held rel t none = let both = step.open-both setup es t.legal in ((let r : flying_of es Read ≡ 0 = omega arith in r), (let w : flying_of es Write ≡ 0 = omega arith in w))
 
 -- a tag below the depth of the round that is on is one of the core's
@@ -397,8 +398,8 @@ few_open setup es m fl held rel tag t lt none = let a = free_flies fl tag lt non
 pub round_is : {A : Type 0} (setup : Setup) (es : List Happened) (m : Meaning) (fl : List (TagState A)) (held : List (List Waiting)) (rel now : ℕ) → IsTied setup es m fl held rel → now ≡ round_of es → now ≡ m.round
 round_is setup es m fl held rel now t is = is ∙ sym t.holds.round
 
-pub round_next : {A : Type 0} (setup setup' : Setup) (es es' : List Happened) (m : Meaning) (fl : List (TagState A)) (held : List (List Waiting)) (rel now : ℕ) → IsTied setup es m fl held rel → IsPushed setup es Ticked setup' es' → now ≡ round_of es' → m.round < now
-round_next setup setup' es es' m fl held rel now t p is = let was = t.holds.round in let one = ap round_of p.added ∙ round_more es Ticked in omega arith
+pub round_next : {A : Type 0} (setup setup' : Setup) (es es' : List Happened) (m : Meaning) (fl : List (TagState A)) (held : List (List Waiting)) (rel now : ℕ) → IsTied setup es m fl held rel → IsPushed setup es Tick setup' es' → now ≡ round_of es' → m.round < now
+round_next setup setup' es es' m fl held rel now t p is = let was = t.holds.round in let one = ap round_of p.added ∙ round_more es Tick in omega arith
 
 -- a tag that wasn't issued in the round is free
 pub free_slot : {A : Type 0} (setup : Setup) (es : List Happened) (m : Meaning) (fl : List (TagState A)) (held : List (List Waiting)) (rel tag : ℕ) → IsTied setup es m fl held rel → tag < length fl → (IsUsed es tag → ⊥) → get_or fl tag Free ≡ Free

@@ -6,7 +6,8 @@ use Rattle.blk_bio.specs.Bios.{Bio}
 use Rattle.blk_bio.specs.Requests.{dir_of}
 use Rattle.edd_check.specs.declared.Command.{Command}
 use Rattle.blk_trace.specs.Setups.{expire_of}
-use Rattle.blk_trace.specs.Happened.{Happened, Ticked, Released, Joined, Issued, Finished, Returned, DepthSet}
+use Rattle.blk_trace.specs.Happened.{Happened}
+use Rattle.blk_trace.specs.declared.event.Event.TheVariants.{Tick, Release, Join, Issue, Done, Back, Depth}
 use Rattle.blk_trace.specs.Events.{round_of, open_count}
 use Rattle.blk_trace.specs.Meaning.{commands_of}
 use Rattle.blk_trace.specs.Waits.{released_count}
@@ -35,14 +36,14 @@ abbrev pub Places : (ℕ → Waiting → Bool) → CoreState → List Bio → �
 Places serves old bios hw (New id) new =
     HasNoCandidate serves hw old.setup.limits bios old.meaning
     × (id ≡ released_count old.events)
-    × AddsEvent old (Released id bios) new
+    × AddsEvent old (Release id bios) new
     × (new.meaning ≡ record old.meaning { pending = map.insert old.meaning.pending id (newcomer old bios hw) })
     × (new.kept ≡ old.kept)
     × (new.flights ≡ old.flights)
     × (new.held ≡ old.held)
 Places serves old bios hw (JoinedTo id side) new =
     Joins serves hw (round_of old.events) old.setup.limits bios old.meaning id side new.meaning
-    × AddsEvent old (Joined id bios) new
+    × AddsEvent old (Join id bios) new
     × (new.kept ≡ old.kept)
     × (new.flights ≡ old.flights)
     × (new.held ≡ old.held)
@@ -73,7 +74,7 @@ Issues serves chooses old hw tag None new =
     × ((0 < open_count old.events) ⊎ (0 < held_total old.held) ⊎ ServesNothing serves hw old.meaning)
 Issues serves chooses old hw tag (Some command) new =
     (w : Waiting) × Sends serves chooses old hw w new
-    × AddsEvent old (Issued w.id tag) new
+    × AddsEvent old (Issue w.id tag) new
     × (command ≡ record { id = w.id; release = w.release; due = w.due })
     × (commands_of new.setup new.events ≡ commands_of old.setup old.events ++ command ∷ [])
     × (new.flights ≡ slice_set old.flights tag (Some (record { hw = hw; request = w })))
@@ -91,7 +92,7 @@ abbrev pub Completes : OfDone → CoreState → ℕ → CoreState → Type 0
 Completes told old tag new =
     (f : Flight) × (slice_get old.flights tag ≡ Some (Some f))
     × IsFlown old.setup old.events tag f.request
-    × AddsEvent old (Finished tag) new
+    × AddsEvent old (Done tag) new
     × (old.meaning ≡ record new.meaning { open_picks = opened (dir_of f.request.bios) new.meaning.open_picks })
     × told f.hw (dir_of f.request.bios) (round_of old.events - f.request.release) old.kept new.kept
     × (new.flights ≡ slice_set old.flights tag None)
@@ -104,7 +105,7 @@ TakesBack old tag id new =
     (f : Flight) × (slice_get old.flights tag ≡ Some (Some f))
     × IsFlown old.setup old.events tag f.request
     × (id ≡ f.request.id)
-    × AddsEvent old (Returned tag) new
+    × AddsEvent old (Back tag) new
     × HandsBack (dir_of f.request.bios) old.meaning new.meaning
     × (new.kept ≡ old.kept)
     × (new.flights ≡ slice_set old.flights tag None)
@@ -113,7 +114,7 @@ TakesBack old tag id new =
 -- what the end of a round does: a Tick, of which the scheduler is told, once
 abbrev pub Ends : OfTick → CoreState → CoreState → Type 0
 Ends told old new =
-    AddsEvent old Ticked new
+    AddsEvent old Tick new
     × (new.meaning ≡ record old.meaning { round = round_of new.events })
     × told (round_of new.events) old.kept new.kept
     × (new.flights ≡ old.flights)
@@ -122,7 +123,7 @@ Ends told old new =
 -- what a new depth does: a Depth, and nothing else; it is in force from the next round on
 abbrev pub SetsDepth : CoreState → ℕ → CoreState → Type 0
 SetsDepth old depth new =
-    AddsEvent old (DepthSet depth) new
+    AddsEvent old (Depth depth) new
     × (new.meaning ≡ old.meaning)
     × (new.kept ≡ old.kept)
     × (new.flights ≡ old.flights)

@@ -3,7 +3,8 @@ use Rattle.std.specs.Prelude.{ℕ, cond, List, [], ◌∷◌, count_by}
 use Rattle.std.specs.List.{list_any}
 use Rattle.blk_bio.specs.declared.bio.Dir.{Dir}
 use Rattle.blk_bio.specs.Requests.{dir_of}
-use Rattle.blk_trace.specs.Happened.{Happened, Issued}
+use Rattle.blk_trace.specs.Happened.{Happened}
+use Rattle.blk_trace.specs.declared.event.Event.TheVariants.{Issue}
 use Rattle.blk_trace.specs.Events.{request_of}
 use Rattle.blk_trace.specs.Kinds.{is_done_of}
 use Rattle.blk_trace.specs.Setups.{same_dir}
@@ -11,7 +12,7 @@ use Rattle.blk_trace.specs.Setups.{same_dir}
 -- the id and the tag of each Issue whose tag no event after it ends, in their order
 unfoldable pub open_issues : List Happened → List (ℕ × ℕ)
 open_issues [] = []
-open_issues (Issued id tag ∷ es) = cond (list_any (is_done_of tag) es) (open_issues es) ((id, tag) ∷ open_issues es)
+open_issues (Issue id tag ∷ es) = cond (list_any (is_done_of tag) es) (open_issues es) ((id, tag) ∷ open_issues es)
 open_issues (_ ∷ es) = open_issues es
 
 -- how many of them are of requests of the direction

@@ -1,6 +1,6 @@
 -- What answers say by themselves.
 use Rattle.std.proofs.Common.{◌≡◌, ◌∙◌, ◌+◌, ◌<◌, ◌≤◌, ◌⊎◌, ℕ, Result, Ok, Err, OnOk, IfOk, IfErr, ap, subst, arith}
-use Rattle.blk_trace.specs.Happened.{Ticked}
+use Rattle.blk_trace.specs.declared.event.Event.TheVariants.{Tick}
 use Rattle.blk_trace.specs.Events.{round_of}
 use Rattle.blk_trace.proofs.More.{round_more}
 use Rattle.blk_core.specs.State.{CoreState}
@@ -15,7 +15,7 @@ use Rattle.blk_layer.specs.Works.{IsTickAnswer, IsDepthAnswer}
 pub tick_answer : (told : OfTick) (old new : CoreState) (r : Result ℕ TickFault) → OnOk r (Ends told old new) → IfOk r (λ round. round ≡ round_of new.events)
     → IfErr r (IsTickFault old) → IsTickAnswer r
 tick_answer told old new (Ok round) ends is fault =
-    let more : round_of new.events ≡ round_of old.events + 1 = ap round_of ends.0.1 ∙ round_more old.events Ticked in
+    let more : round_of new.events ≡ round_of old.events + 1 = ap round_of ends.0.1 ∙ round_more old.events Tick in
     omega (arith, is, more)
 tick_answer told old new (Err (tick.InFlight n)) ends is fault = fault.1
 tick_answer told old new (Err tick.TraceFull) ends is fault = tt

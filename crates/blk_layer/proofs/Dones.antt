@@ -8,7 +8,8 @@ use Rattle.std.proofs.lemmas.List.{append-nil, drop-append-le}
 use Rattle.std.proofs.lemmas.List.Folds.{list_any-append}
 use Rattle.std.proofs.lemmas.Grind.{fold-append}
 use Rattle.std.proofs.lemmas.Option.{slice_get_within}
-use Rattle.blk_trace.specs.Happened.{Happened, Ticked, Released, Joined, Issued, Finished, Returned, DepthSet}
+use Rattle.blk_trace.specs.Happened.{Happened}
+use Rattle.blk_trace.specs.declared.event.Event.TheVariants.{Tick, Release, Join, Issue, Done, Back, Depth}
 use Rattle.blk_trace.specs.Kinds.{ends, hands_back, is_done_of}
 use Rattle.blk_trace.specs.Setups.{Setup}
 use Rattle.blk_trace.specs.Events.{At, EndsAt, IsOpen, IsReleased, goes_back}
@@ -51,38 +52,38 @@ ids_more es e = after_more [] es e
 pub record IsLast (es : List Happened) (tag place : ℕ) : Type 0 where
   pub last : ℕ
   pub id : ℕ
-  pub issued : At es last (Issued id tag)
+  pub issued : At es last (Issue id tag)
   pub is : last_under tag es ≡ Some id
   pub later : place ≤ last
 
-pub last_place : (tag : ℕ) (es : List Happened) (place id : ℕ) → At es place (Issued id tag) → IsLast es tag place
-last_place tag es = by_events (λ l. (place id : ℕ) → At l place (Issued id tag) → IsLast l tag place) (λ place id at. absurd (cc)) step es
+pub last_place : (tag : ℕ) (es : List Happened) (place id : ℕ) → At es place (Issue id tag) → IsLast es tag place
+last_place tag es = by_events (λ l. (place id : ℕ) → At l place (Issue id tag) → IsLast l tag place) (λ place id at. absurd (cc)) step es
   where
-    found : (es : List Happened) (e : Happened) (o : Option ℕ) → issued_by tag e ≡ o → ((place id : ℕ) → At es place (Issued id tag) → IsLast es tag place) → (place id : ℕ) → At (es ++ e ∷ []) place (Issued id tag) → IsLast (es ++ e ∷ []) tag place
+    found : (es : List Happened) (e : Happened) (o : Option ℕ) → issued_by tag e ≡ o → ((place id : ℕ) → At es place (Issue id tag) → IsLast es tag place) → (place id : ℕ) → At (es ++ e ∷ []) place (Issue id tag) → IsLast (es ++ e ∷ []) tag place
     found es e (Some i) is h place id at = record {
       last = length es;
       id = i;
       issued = last es e ∙ ap Some (issued_by_is tag e i is);
       is = last_more tag es e ∙ ap (λ o. option_or o (last_under tag es)) is;
-      later = let low = slice_get_within (es ++ e ∷ []) place (Issued id tag) at in omega (arith, low, length-append es (e ∷ []));
+      later = let low = slice_get_within (es ++ e ∷ []) place (Issue id tag) at in omega (arith, low, length-append es (e ∷ []));
     }
-    found es e None is h place id at = elim (split es e place (Issued id tag) at) [
+    found es e None is h place id at = elim (split es e place (Issue id tag) at) [
       | inl there ↦
           let r = h place id there in
           record {
             last = r.last;
             id = r.id;
-            issued = keep es (e ∷ []) r.last (Issued r.id tag) r.issued;
+            issued = keep es (e ∷ []) r.last (Issue r.id tag) r.issued;
             is = last_more tag es e ∙ ap (λ o. option_or o (last_under tag es)) is ∙ r.is;
             later = r.later;
           }
       | inr here ↦
-          let self : issued_by tag (Issued id tag) ≡ Some id = ap (λ b. cond b (Some id) None) (eq-eqb tag tag refl) in
+          let self : issued_by tag (Issue id tag) ≡ Some id = ap (λ b. cond b (Some id) None) (eq-eqb tag tag refl) in
           let none : Some id ≡ None = sym self ∙ ap (issued_by tag) (sym here.1) ∙ is in
           absurd (cc)
     ]
 
-    step : (es : List Happened) (e : Happened) → ((place id : ℕ) → At es place (Issued id tag) → IsLast es tag place) → (place id : ℕ) → At (es ++ e ∷ []) place (Issued id tag) → IsLast (es ++ e ∷ []) tag place
+    step : (es : List Happened) (e : Happened) → ((place id : ℕ) → At es place (Issue id tag) → IsLast es tag place) → (place id : ℕ) → At (es ++ e ∷ []) place (Issue id tag) → IsLast (es ++ e ∷ []) tag place
     step es e h = found es e (issued_by tag e) refl h
 
 -- whether the first event that ends the tag's Issue is a Done
@@ -111,16 +112,16 @@ ended_stays_gone tag (e ∷ es) h = elim (cases_Bool (is_done_of tag e)) [
 
 -- what ends the tag's Issue
 done_of_ends : (tag : ℕ) (e : Happened) → is_done_of tag e ≡ true → ends e ≡ Some tag
-done_of_ends tag Ticked h = let n : false ≡ true = h in absurd (cc)
-done_of_ends tag (Released id bios) h = let n : false ≡ true = h in absurd (cc)
-done_of_ends tag (Joined id bios) h = let n : false ≡ true = h in absurd (cc)
-done_of_ends tag (Issued id t) h = let n : false ≡ true = h in absurd (cc)
-done_of_ends tag (Finished t) h = ap Some (eqb-true t tag h)
-done_of_ends tag (Returned t) h = ap Some (eqb-true t tag h)
-done_of_ends tag (DepthSet depth) h = let n : false ≡ true = h in absurd (cc)
+done_of_ends tag Tick h = let n : false ≡ true = h in absurd (cc)
+done_of_ends tag (Release id bios) h = let n : false ≡ true = h in absurd (cc)
+done_of_ends tag (Join id bios) h = let n : false ≡ true = h in absurd (cc)
+done_of_ends tag (Issue id t) h = let n : false ≡ true = h in absurd (cc)
+done_of_ends tag (Done t) h = ap Some (eqb-true t tag h)
+done_of_ends tag (Back t) h = ap Some (eqb-true t tag h)
+done_of_ends tag (Depth depth) h = let n : false ≡ true = h in absurd (cc)
 
 -- a Done after events that don't end the tag's Issue
-ended_now : (tag : ℕ) (es : List Happened) → ((j : ℕ) → EndsAt es j tag → ⊥) → ended tag (es ++ Finished tag ∷ []) ≡ true
+ended_now : (tag : ℕ) (es : List Happened) → ((j : ℕ) → EndsAt es j tag → ⊥) → ended tag (es ++ Done tag ∷ []) ≡ true
 ended_now tag [] none = rw (eq-eqb tag tag refl) refl
 ended_now tag (e ∷ es) none = elim (cases_Bool (is_done_of tag e)) [
   | inl y ↦ absurd (none 0 (e, refl, done_of_ends tag e y))
@@ -138,37 +139,37 @@ after_place (suc n) (y ∷ xs) k (suc m) x e h = after_place n xs k m x (omega (
 pub record IsEnded (es : List Happened) (id : ℕ) : Type 0 where
   pub place : ℕ
   pub tag : ℕ
-  pub issued : At es place (Issued id tag)
+  pub issued : At es place (Issue id tag)
   pub done : ended tag (drop (suc place) es) ≡ true
 
 ended_kept : (es : List Happened) (e : Happened) (id : ℕ) → IsEnded es id → IsEnded (es ++ e ∷ []) id
 ended_kept es e id p = record {
   place = p.place;
   tag = p.tag;
-  issued = keep es (e ∷ []) p.place (Issued id p.tag) p.issued;
+  issued = keep es (e ∷ []) p.place (Issue id p.tag) p.issued;
   done =
-      let low = slice_get_within es p.place (Issued id p.tag) p.issued in
+      let low = slice_get_within es p.place (Issue id p.tag) p.issued in
       ap (ended p.tag) (drop-append-le (suc p.place) es (e ∷ []) (omega (arith, low))) ∙ ended_stays p.tag (drop (suc p.place) es) (e ∷ []) p.done;
 }
 
 -- the Issue that a Done ends
-pub done_ends : (es : List Happened) (tag id : ℕ) → IsOpen es tag → last_under tag es ≡ Some id → IsEnded (es ++ Finished tag ∷ []) id
+pub done_ends : (es : List Happened) (tag id : ℕ) → IsOpen es tag → last_under tag es ≡ Some id → IsEnded (es ++ Done tag ∷ []) id
 done_ends es tag id on is =
     let l = last_place tag es on.place on.id on.issued in
     let both : Some id ≡ Some l.id = sym is ∙ l.is in
     let same : id ≡ l.id = cc in
-    let low = slice_get_within es l.last (Issued l.id tag) l.issued in
+    let low = slice_get_within es l.last (Issue l.id tag) l.issued in
     let none : (j : ℕ) → EndsAt (drop (suc l.last) es) j tag → ⊥ = λ j at. on.not_done (suc l.last + j) (omega (arith, l.later)) (at.0, after_place (suc l.last) es j (suc l.last + j) at.0 refl at.1, at.2) in
     record {
       place = l.last;
       tag = tag;
-      issued = keep es (Finished tag ∷ []) l.last (Issued id tag) (l.issued ∙ ap (λ n. Some (Issued n tag)) (sym same));
-      done = ap (ended tag) (drop-append-le (suc l.last) es (Finished tag ∷ []) (omega (arith, low))) ∙ ended_now tag (drop (suc l.last) es) none;
+      issued = keep es (Done tag ∷ []) l.last (Issue id tag) (l.issued ∙ ap (λ n. Some (Issue n tag)) (sym same));
+      done = ap (ended tag) (drop-append-le (suc l.last) es (Done tag ∷ []) (omega (arith, low))) ∙ ended_now tag (drop (suc l.last) es) none;
     }
 
 -- a Done ends an open Issue
-pub was_open : (setup : Setup) (es : List Happened) (tag : ℕ) → IsLegalTrace setup (es ++ Finished tag ∷ []) → IsOpen es tag
-was_open setup es tag legal = subst (λ l. IsOpen l tag) (before_last es (Finished tag) (length es) refl) (legal.done_open (length es) tag (Finished tag, last es (Finished tag), refl))
+pub was_open : (setup : Setup) (es : List Happened) (tag : ℕ) → IsLegalTrace setup (es ++ Done tag ∷ []) → IsOpen es tag
+was_open setup es tag legal = subst (λ l. IsOpen l tag) (before_last es (Done tag) (length es) refl) (legal.done_open (length es) tag (Done tag, last es (Done tag), refl))
 
 pub open_last : (es : List Happened) (tag : ℕ) → IsOpen es tag → (id : ℕ) × (last_under tag es ≡ Some id)
 open_last es tag on = let l = last_place tag es on.place on.id on.issued in (l.id, l.is)
@@ -177,9 +178,9 @@ none_counted : length (done_ids []) ≡ done_count []
 unfolding done_ids done_after done_count
 none_counted = refl
 
-one_done : (es : List Happened) (tag : ℕ) → done_count (es ++ Finished tag ∷ []) ≡ done_count es + 1
+one_done : (es : List Happened) (tag : ℕ) → done_count (es ++ Done tag ∷ []) ≡ done_count es + 1
 unfolding done_count
-one_done es tag = more_of is_done es (Finished tag) ∙ omega arith
+one_done es tag = more_of is_done es (Done tag) ∙ omega arith
 
 -- as many are done as there are Dones
 pub as_many : (setup : Setup) (es : List Happened) → IsLegalTrace setup es → length (done_ids es) ≡ done_count es
@@ -189,20 +190,20 @@ as_many setup es legal = by_legal setup (λ l. length (done_ids l) ≡ done_coun
     other es e kind by h =
         ap length (ids_more es e ∙ ap (λ o. done_ids es ++ cons_option o []) by ∙ append-nil (done_ids es)) ∙ h ∙ sym (not_done es e kind)
 
-    one : (es : List Happened) (tag id : ℕ) → last_under tag es ≡ Some id → length (done_ids es) ≡ done_count es → length (done_ids (es ++ Finished tag ∷ [])) ≡ done_count (es ++ Finished tag ∷ [])
+    one : (es : List Happened) (tag id : ℕ) → last_under tag es ≡ Some id → length (done_ids es) ≡ done_count es → length (done_ids (es ++ Done tag ∷ [])) ≡ done_count (es ++ Done tag ∷ [])
     one es tag id is h =
-        let list : done_ids (es ++ Finished tag ∷ []) ≡ done_ids es ++ id ∷ [] = ids_more es (Finished tag) ∙ ap (λ o. done_ids es ++ cons_option o []) is in
-        let long : length (done_ids (es ++ Finished tag ∷ [])) ≡ length (done_ids es ++ id ∷ []) = ap length list in
+        let list : done_ids (es ++ Done tag ∷ []) ≡ done_ids es ++ id ∷ [] = ids_more es (Done tag) ∙ ap (λ o. done_ids es ++ cons_option o []) is in
+        let long : length (done_ids (es ++ Done tag ∷ [])) ≡ length (done_ids es ++ id ∷ []) = ap length list in
         omega (arith, long, length-append (done_ids es) (id ∷ []), one_done es tag, h)
 
     step : (es : List Happened) (e : Happened) → IsLegalTrace setup (es ++ e ∷ []) → IsLegalTrace setup es → IsUnbroken setup es e → length (done_ids es) ≡ done_count es → length (done_ids (es ++ e ∷ [])) ≡ done_count (es ++ e ∷ [])
-    step es Ticked new old obeys h = other es Ticked refl refl h
-    step es (Released id bios) new old obeys h = other es (Released id bios) refl refl h
-    step es (Joined id bios) new old obeys h = other es (Joined id bios) refl refl h
-    step es (Issued id tag) new old obeys h = other es (Issued id tag) refl refl h
-    step es (Finished tag) new old obeys h = let l = open_last es tag (was_open setup es tag new) in one es tag l.0 l.1 h
-    step es (Returned tag) new old obeys h = other es (Returned tag) refl refl h
-    step es (DepthSet depth) new old obeys h = other es (DepthSet depth) refl refl h
+    step es Tick new old obeys h = other es Tick refl refl h
+    step es (Release id bios) new old obeys h = other es (Release id bios) refl refl h
+    step es (Join id bios) new old obeys h = other es (Join id bios) refl refl h
+    step es (Issue id tag) new old obeys h = other es (Issue id tag) refl refl h
+    step es (Done tag) new old obeys h = let l = open_last es tag (was_open setup es tag new) in one es tag l.0 l.1 h
+    step es (Back tag) new old obeys h = other es (Back tag) refl refl h
+    step es (Depth depth) new old obeys h = other es (Depth depth) refl refl h
 
 none_ended : (id : ℕ) → has_id (done_ids []) id ≡ true → IsEnded [] id
 unfolding done_ids done_after
@@ -217,26 +218,26 @@ all_ended setup es legal = by_legal setup (λ l. (id : ℕ) → has_id (done_ids
         let list : done_ids (es ++ e ∷ []) ≡ done_ids es = ids_more es e ∙ ap (λ o. done_ids es ++ cons_option o []) by ∙ append-nil (done_ids es) in
         ended_kept es e id (h id (ap (λ l. has_id l id) (sym list) ∙ has))
 
-    one : (es : List Happened) (tag i : ℕ) → IsOpen es tag → last_under tag es ≡ Some i → ((id : ℕ) → has_id (done_ids es) id ≡ true → IsEnded es id) → (id : ℕ) → has_id (done_ids (es ++ Finished tag ∷ [])) id ≡ true → IsEnded (es ++ Finished tag ∷ []) id
+    one : (es : List Happened) (tag i : ℕ) → IsOpen es tag → last_under tag es ≡ Some i → ((id : ℕ) → has_id (done_ids es) id ≡ true → IsEnded es id) → (id : ℕ) → has_id (done_ids (es ++ Done tag ∷ [])) id ≡ true → IsEnded (es ++ Done tag ∷ []) id
     one es tag i on is h id has =
-        let list : done_ids (es ++ Finished tag ∷ []) ≡ done_ids es ++ i ∷ [] = ids_more es (Finished tag) ∙ ap (λ o. done_ids es ++ cons_option o []) is in
+        let list : done_ids (es ++ Done tag ∷ []) ≡ done_ids es ++ i ∷ [] = ids_more es (Done tag) ∙ ap (λ o. done_ids es ++ cons_option o []) is in
         let parts : (has_id (done_ids es) id || has_id (i ∷ []) id) ≡ true = sym (ap (λ l. has_id l id) list ∙ list_any-append (λ n. n == id) (done_ids es) (i ∷ [])) ∙ has in
         elim (or_cases (has_id (done_ids es) id) (has_id (i ∷ []) id) parts) [
-          | inl before ↦ ended_kept es (Finished tag) id (h id before)
+          | inl before ↦ ended_kept es (Done tag) id (h id before)
           | inr now ↦ elim (or_cases (i == id) false now) [
-            | inl same ↦ subst (IsEnded (es ++ Finished tag ∷ [])) (eqb-true i id same) (done_ends es tag i on is)
+            | inl same ↦ subst (IsEnded (es ++ Done tag ∷ [])) (eqb-true i id same) (done_ends es tag i on is)
             | inr never ↦ absurd (cc)
           ]
         ]
 
     step : (es : List Happened) (e : Happened) → IsLegalTrace setup (es ++ e ∷ []) → IsLegalTrace setup es → IsUnbroken setup es e → ((id : ℕ) → has_id (done_ids es) id ≡ true → IsEnded es id) → (id : ℕ) → has_id (done_ids (es ++ e ∷ [])) id ≡ true → IsEnded (es ++ e ∷ []) id
-    step es Ticked new old obeys h = other es Ticked refl h
-    step es (Released id bios) new old obeys h = other es (Released id bios) refl h
-    step es (Joined id bios) new old obeys h = other es (Joined id bios) refl h
-    step es (Issued id tag) new old obeys h = other es (Issued id tag) refl h
-    step es (Finished tag) new old obeys h = let on = was_open setup es tag new in let l = open_last es tag on in one es tag l.0 on l.1 h
-    step es (Returned tag) new old obeys h = other es (Returned tag) refl h
-    step es (DepthSet depth) new old obeys h = other es (DepthSet depth) refl h
+    step es Tick new old obeys h = other es Tick refl h
+    step es (Release id bios) new old obeys h = other es (Release id bios) refl h
+    step es (Join id bios) new old obeys h = other es (Join id bios) refl h
+    step es (Issue id tag) new old obeys h = other es (Issue id tag) refl h
+    step es (Done tag) new old obeys h = let on = was_open setup es tag new in let l = open_last es tag on in one es tag l.0 on l.1 h
+    step es (Back tag) new old obeys h = other es (Back tag) refl h
+    step es (Depth depth) new old obeys h = other es (Depth depth) refl h
 
 -- each of them is issued, and was released
 pub done_issued : (setup : Setup) (es : List Happened) → IsLegalTrace setup es → (id : ℕ) → has_id (done_ids es) id ≡ true → has_id (issued_ids es) id ≡ true

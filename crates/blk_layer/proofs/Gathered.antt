@@ -10,12 +10,11 @@ use Rattle.std.proofs.lemmas.Bool.{cases_Bool, or_cases, eqb-true, eq-eqb, or_ri
 use lib.Dec.{ltb}
 use Rattle.edd_check.specs.declared.Command.{Command}
 use Rattle.blk_bio.specs.Bios.{Bio}
-use Rattle.blk_trace.specs.declared.event.Event.{Event}
-use Rattle.blk_trace.specs.Happened.{Happened, Ticked, Released, Joined, Issued, Finished, Returned, DepthSet}
+use Rattle.blk_trace.specs.Happened.{Happened}
+use Rattle.blk_trace.specs.declared.event.Event.TheVariants.{Tick, Release, Join, Issue, Done, Back, Depth}
 use Rattle.blk_trace.specs.Events.{entered, bios_of}
 use Rattle.blk_trace.specs.Setups.{Setup}
 use Rattle.blk_trace.specs.Meaning.{commands_of, command_of, issued_ids}
-use Rattle.blk_trace.specs.Seen.{happened}
 use Rattle.blk_trace.specs.Waits.{has_id}
 use Rattle.blk_trace.specs.Inside.Seats.{issued_by}
 use Rattle.blk_layer.specs.Seats.{SubmitterSeat, WorkerSeat}
@@ -46,13 +45,13 @@ unfolding all_ran
 no_ran = refl
 
 -- the events, with one more
-pub events_more : {A : Type 0} (es : List (Event A)) (i : ℕ) (e : Event A) → i < length es → e ≡ get_or es i e → map happened (take (i + 1) es) ≡ map happened (take i es) ++ happened e ∷ []
-events_more es i e low is = ap (map happened) (take_more es i e low ∙ ap (λ x. take i es ++ x ∷ []) (sym is)) ∙ map-append happened (take i es) (e ∷ [])
+pub events_more : (es : List Happened) (i : ℕ) (e : Happened) → i < length es → e ≡ get_or es i e → take (i + 1) es ≡ take i es ++ e ∷ []
+events_more es i e low is = take_more es i e low ∙ ap (λ x. take i es ++ x ∷ []) (sym is)
 
-pub entered_more : {A : Type 0} (es : List (Event A)) (i : ℕ) (e : Event A) → i < length es → e ≡ get_or es i e → entered (map happened (take (i + 1) es)) ≡ entered (map happened (take i es)) ++ bios_of (happened e)
+pub entered_more : (es : List Happened) (i : ℕ) (e : Happened) → i < length es → e ≡ get_or es i e → entered (take (i + 1) es) ≡ entered (take i es) ++ bios_of e
 unfolding entered
 entered_more es i e low is =
-    ap (flat_map bios_of) (events_more es i e low is) ∙ flat_map-append bios_of (map happened (take i es)) (happened e ∷ []) ∙ ap (λ l. flat_map bios_of (map happened (take i es)) ++ l) (append-nil (bios_of (happened e)))
+    ap (flat_map bios_of) (events_more es i e low is) ∙ flat_map-append bios_of (take i es) (e ∷ []) ∙ ap (λ l. flat_map bios_of (take i es) ++ l) (append-nil (bios_of e))
 
 pub none_entered : entered [] ≡ []
 unfolding entered
@@ -60,28 +59,28 @@ none_entered = refl
 
 -- what an event says is done, by what is known of each tag
 same_done : (f g : ℕ → Option ℕ) (e : Happened) → ((tag : ℕ) → f tag ≡ g tag) → done_by f e ≡ done_by g e
-same_done f g Ticked h = refl
-same_done f g (Released id bios) h = refl
-same_done f g (Joined id bios) h = refl
-same_done f g (Issued id tag) h = refl
-same_done f g (Finished tag) h = h tag
-same_done f g (Returned tag) h = refl
-same_done f g (DepthSet depth) h = refl
+same_done f g Tick h = refl
+same_done f g (Release id bios) h = refl
+same_done f g (Join id bios) h = refl
+same_done f g (Issue id tag) h = refl
+same_done f g (Done tag) h = h tag
+same_done f g (Back tag) h = refl
+same_done f g (Depth depth) h = refl
 
 -- the ids of what is done, and the last id of each tag, with one more event
-pub done_noted : {A : Type 0} (es : List (Event A)) (i : ℕ) (e : Event A) (ids new : List ℕ) (known : ℕ → Option ℕ) → i < length es → e ≡ get_or es i e
-    → ids ≡ done_ids (map happened (take i es)) → ((tag : ℕ) → known tag ≡ last_under tag (map happened (take i es))) → new ≡ ids ++ cons_option (done_by known (happened e)) []
-    → new ≡ done_ids (map happened (take (i + 1) es))
+pub done_noted : (es : List Happened) (i : ℕ) (e : Happened) (ids new : List ℕ) (known : ℕ → Option ℕ) → i < length es → e ≡ get_or es i e
+    → ids ≡ done_ids (take i es) → ((tag : ℕ) → known tag ≡ last_under tag (take i es)) → new ≡ ids ++ cons_option (done_by known e) []
+    → new ≡ done_ids (take (i + 1) es)
 done_noted es i e ids new known low is were last now =
-    now ∙ ap (λ l. l ++ cons_option (done_by known (happened e)) []) were
-    ∙ ap (λ o. done_ids (map happened (take i es)) ++ cons_option o []) (same_done known (λ tag. last_under tag (map happened (take i es))) (happened e) last)
-    ∙ sym (ap done_ids (events_more es i e low is) ∙ ids_more (map happened (take i es)) (happened e))
+    now ∙ ap (λ l. l ++ cons_option (done_by known e) []) were
+    ∙ ap (λ o. done_ids (take i es) ++ cons_option o []) (same_done known (λ tag. last_under tag (take i es)) e last)
+    ∙ sym (ap done_ids (events_more es i e low is) ∙ ids_more (take i es) e)
 
-pub last_noted : {A : Type 0} (es : List (Event A)) (i : ℕ) (e : Event A) (known new : ℕ → Option ℕ) → i < length es → e ≡ get_or es i e
-    → ((tag : ℕ) → known tag ≡ last_under tag (map happened (take i es))) → ((tag : ℕ) → new tag ≡ option_or (issued_by tag (happened e)) (known tag))
-    → (tag : ℕ) → new tag ≡ last_under tag (map happened (take (i + 1) es))
+pub last_noted : (es : List Happened) (i : ℕ) (e : Happened) (known new : ℕ → Option ℕ) → i < length es → e ≡ get_or es i e
+    → ((tag : ℕ) → known tag ≡ last_under tag (take i es)) → ((tag : ℕ) → new tag ≡ option_or (issued_by tag e) (known tag))
+    → (tag : ℕ) → new tag ≡ last_under tag (take (i + 1) es)
 last_noted es i e known new low is last now tag =
-    now tag ∙ ap (option_or (issued_by tag (happened e))) (last tag) ∙ sym (ap (last_under tag) (events_more es i e low is) ∙ last_more tag (map happened (take i es)) (happened e))
+    now tag ∙ ap (option_or (issued_by tag e)) (last tag) ∙ sym (ap (last_under tag) (events_more es i e low is) ∙ last_more tag (take i es) e)
 
 pub none_done : done_ids [] ≡ []
 unfolding done_ids done_after
@@ -160,25 +159,25 @@ pub map_up : (f : ℕ → Command) (ids : List ℕ) (i n : ℕ) → i < length i
 map_up f ids i n low is = ap (map f) (take_more ids i n low ∙ ap (λ x. take i ids ++ x ∷ []) (sym is)) ∙ map-append f (take i ids) (n ∷ [])
 
 -- an event at its place
-pub event_at : {A : Type 0} (es : List (Event A)) (i : ℕ) (e : Event A) → i < length es → e ≡ get_or es i e → slice_get (map happened es) i ≡ Some (happened e)
+pub event_at : (es : List Happened) (i : ℕ) (e : Happened) → i < length es → e ≡ get_or es i e → slice_get es i ≡ Some e
 event_at [] i e low is = absurd (omega arith)
-event_at (x ∷ es) zero e low is = ap (λ (y : Event _). Some (happened y)) (sym is)
+event_at (x ∷ es) zero e low is = ap Some (sym is)
 event_at (x ∷ es) (suc i) e low is = event_at es i e (omega arith) is
 
 -- no place of the events so far releases the id
-pub none_yet : {A : Type 0} (es : List (Event A)) (i id : ℕ) (e : Event A) → i < length es → e ≡ get_or es i e → ((q : List Bio) → happened e ≡ Released id q → ⊥)
-    → ((k : ℕ) (q : List Bio) → k < i → slice_get (map happened es) k ≡ Some (Released id q) → ⊥) → (k : ℕ) (q : List Bio) → k < i + 1 → slice_get (map happened es) k ≡ Some (Released id q) → ⊥
+pub none_yet : (es : List Happened) (i id : ℕ) (e : Happened) → i < length es → e ≡ get_or es i e → ((q : List Bio) → e ≡ Release id q → ⊥)
+    → ((k : ℕ) (q : List Bio) → k < i → slice_get es k ≡ Some (Release id q) → ⊥) → (k : ℕ) (q : List Bio) → k < i + 1 → slice_get es k ≡ Some (Release id q) → ⊥
 none_yet es i id e low is here before k q less at = elim (cases_Bool (ltb k i)) [
   | inl y ↦ before k q (ltb-true k i y) at
   | inr n ↦
       let same : k ≡ i = omega (arith, less, ltb-false k i n) in
-      let both : Some (happened e) ≡ Some (Released id q) = sym (event_at es i e low is) ∙ ap (slice_get (map happened es)) (sym same) ∙ at in
-      let one : happened e ≡ Released id q = cc in
+      let both : Some e ≡ Some (Release id q) = sym (event_at es i e low is) ∙ ap (slice_get es) (sym same) ∙ at in
+      let one : e ≡ Release id q = cc in
       here q one
 ]
 
 -- a place of the events is one
-pub within_events : {A : Type 0} (es : List (Event A)) (k : ℕ) (e : Happened) → slice_get (map happened es) k ≡ Some e → k < length es
+pub within_events : (es : List Happened) (k : ℕ) (e : Happened) → slice_get es k ≡ Some e → k < length es
 within_events [] k e at = absurd (cc)
 within_events (x ∷ es) zero e at = omega arith
 within_events (x ∷ es) (suc k) e at = let r = within_events es k e at in omega (arith, r)

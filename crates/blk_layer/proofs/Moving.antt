@@ -3,7 +3,8 @@ use Rattle.std.proofs.Common.{◌≡◌, ◌∙◌, ◌+◌, ℕ, ap, refl, arit
 use Rattle.blk_bio.specs.Bios.{Bio}
 use Rattle.blk_soft.specs.Queues.{Queue}
 use Rattle.blk_sched.specs.Meaning.{Waiting}
-use Rattle.blk_trace.specs.Happened.{Happened, Released, Joined, Issued, Finished, Returned, Ticked, DepthSet}
+use Rattle.blk_trace.specs.Happened.{Happened}
+use Rattle.blk_trace.specs.declared.event.Event.TheVariants.{Release, Join, Issue, Done, Back, Tick, Depth}
 use Rattle.blk_trace.proofs.More.{more_of}
 use Rattle.blk_core.specs.declared.Placed.{Placed}
 use Rattle.blk_core.specs.declared.Placed.TheVariants.{New, Joined as JoinedTo}
@@ -28,8 +29,8 @@ pub record Stays (old new : CoreState) : Type 0 where
   pub dones : done_count new.events ≡ done_count old.events
 
 placed_stays : (serves : ℕ → Waiting → Bool) (old : CoreState) (bios : List Bio) (hw : ℕ) (placed : Placed) (new : CoreState) → Places serves old bios hw placed new → Stays old new
-placed_stays serves old bios hw (New id) new p = record { setup = p.2.0; dones = ap done_count p.2.1 ∙ not_done old.events (Released id bios) refl }
-placed_stays serves old bios hw (JoinedTo id side) new p = record { setup = p.1.0; dones = ap done_count p.1.1 ∙ not_done old.events (Joined id bios) refl }
+placed_stays serves old bios hw (New id) new p = record { setup = p.2.0; dones = ap done_count p.2.1 ∙ not_done old.events (Release id bios) refl }
+placed_stays serves old bios hw (JoinedTo id side) new p = record { setup = p.1.0; dones = ap done_count p.1.1 ∙ not_done old.events (Join id bios) refl }
 
 pub same_stays : (old new : CoreState) → new ≡ old → Stays old new
 same_stays old new e = record { setup = ap (λ (c : CoreState). c.setup) e; dones = ap (λ (c : CoreState). done_count c.events) e }
@@ -52,24 +53,24 @@ stays_either P old new (Err e) on ok err = same_stays old new err
 pub issue_stays : (serves : ℕ → Waiting → Bool) (chooses : Choice) (old : CoreState) (hw tag : ℕ) (new : CoreState) (found : Option Command)
     → Issues serves chooses old hw tag found new → Stays old new
 issue_stays serves chooses old hw tag new None i = same_stays old new i.0
-issue_stays serves chooses old hw tag new (Some command) i = added_stays old (Issued i.0.id tag) new refl i.2
+issue_stays serves chooses old hw tag new (Some command) i = added_stays old (Issue i.0.id tag) new refl i.2
 
 -- a completion is one Done more
-one_done : (es : List Happened) (tag : ℕ) → done_count (es ++ Finished tag ∷ []) ≡ done_count es + 1
+one_done : (es : List Happened) (tag : ℕ) → done_count (es ++ Done tag ∷ []) ≡ done_count es + 1
 unfolding done_count
-one_done es tag = more_of is_done es (Finished tag) ∙ omega arith
+one_done es tag = more_of is_done es (Done tag) ∙ omega arith
 
 pub done_more : (told : OfDone) (old : CoreState) (tag : ℕ) (new : CoreState) → Completes told old tag new → done_count new.events ≡ done_count old.events + 1
 done_more told old tag new d = ap done_count d.3.1 ∙ one_done old.events tag
 
 pub back_stays : (old : CoreState) (tag : ℕ) (new : CoreState) (id : ℕ) → TakesBack old tag id new → Stays old new
-back_stays old tag new id b = added_stays old (Returned tag) new refl b.4
+back_stays old tag new id b = added_stays old (Back tag) new refl b.4
 
 pub tick_stays : (told : OfTick) (old new : CoreState) → Ends told old new → Stays old new
-tick_stays told old new e = added_stays old Ticked new refl e.0
+tick_stays told old new e = added_stays old Tick new refl e.0
 
 pub depth_stays : (old : CoreState) (n : ℕ) (new : CoreState) → SetsDepth old n new → Stays old new
-depth_stays old n new s = added_stays old (DepthSet n) new refl s.0
+depth_stays old n new s = added_stays old (Depth n) new refl s.0
 
 -- a try that ends only a round that is full
 none_stays : (serves : ℕ → Waiting → Bool) (chooses : Choice) (told : OfTick) (old : CoreState) (hw tag : ℕ) (why : NoneIssued) (new : CoreState)

@@ -5,7 +5,8 @@ use Rattle.std.specs.List.{flat_map, cons_option}
 use Rattle.edd_check.specs.declared.Command.{Command}
 use Rattle.blk_bio.specs.Bios.{Bio}
 use Rattle.blk_bio.specs.declared.bio.BioId.{BioId}
-use Rattle.blk_trace.specs.Happened.{Happened, Released, Finished}
+use Rattle.blk_trace.specs.Happened.{Happened}
+use Rattle.blk_trace.specs.declared.event.Event.TheVariants.{Release, Done}
 use Rattle.blk_trace.specs.Setups.{Setup}
 use Rattle.blk_trace.specs.Events.{At, AreOnce, HasId, request_of}
 use Rattle.blk_trace.specs.Meaning.{command_of, issued_ids, waiting_of}
@@ -55,7 +56,7 @@ last_under tag events = fold (λ found e. option_or (issued_by tag e) found) Non
 
 -- the id whose command an event says is done, by the id that was last issued under each tag before it
 abbrev pub done_by : (ℕ → Option ℕ) → Happened → Option ℕ
-done_by last (Finished tag) = last tag
+done_by last (Done tag) = last tag
 done_by last _ = None
 
 -- the ids of the commands that events say are done, where those given stand before them
@@ -94,7 +95,7 @@ pub record DiffersAsBio (events : List Happened) (left : List Bio) (submitters :
 pub record IsBioOf (events : List Happened) (command : ℕ) (id : BioId) : Type 0 where
   pub place : ℕ
   pub request : List Bio
-  pub released : At events place (Released command request)
+  pub released : At events place (Release command request)
   pub named : HasId request id
 
 -- the command of the request that was released with a bio of this id stands another number of times in the accounts than it is done

@@ -1,10 +1,11 @@
 -- The commands of a trace that are done.
 use Rattle.std.specs.Prelude.{ℕ, Bool, true, false, List, count_by}
-use Rattle.blk_trace.specs.Happened.{Happened, Finished}
+use Rattle.blk_trace.specs.Happened.{Happened}
+use Rattle.blk_trace.specs.declared.event.Event.TheVariants.{Done}
 
 -- whether an event is a Done
 abbrev pub is_done : Happened → Bool
-is_done (Finished tag) = true
+is_done (Done tag) = true
 is_done _ = false
 
 -- how many Dones there are

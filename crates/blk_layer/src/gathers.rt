@@ -1,15 +1,14 @@
 //! What a layer and its seats have, gathered in lists.
 
-ghost use Rattle.std.specs.Prelude.{ℕ, ◌≡◌, ◌++◌, [], true, Some, List, IfOk, OnOk, IfSome, IfNone, map, nat_eq, slice_get};
+ghost use Rattle.std.specs.Prelude.{ℕ, ◌≡◌, ◌++◌, [], true, Some, List, IfOk, OnOk, IfSome, IfNone, nat_eq, slice_get};
 ghost use Rattle.std.specs.List.{cons_option};
 ghost use Rattle.std.specs.Option.{option_or};
 ghost use Rattle.std.specs.HashMap as hash;
 ghost use Rattle.blk_bio.specs.Bios.{Bio as Transfer};
 ghost use Rattle.blk_trace.specs.Events.{entered, HasId, IsReleased, bios_of};
 ghost use Rattle.blk_trace.specs.Inside.Seats.{issued_by};
-ghost use Rattle.blk_trace.specs.Happened.{Released};
+ghost use Rattle.blk_trace.specs.declared.event.Event.TheVariants.{Release};
 ghost use Rattle.blk_trace.specs.Meaning.{issued_ids, command_of};
-ghost use Rattle.blk_trace.specs.Seen.{happened};
 ghost use Rattle.blk_trace.specs.Waits.{has_id};
 ghost use Rattle.blk_layer.specs.Seats.{SubmitterSeat};
 ghost use Rattle.blk_layer.specs.Closes.{IsAccountOf, all_accepted, all_ran, done_by, done_ids, done_commands, IsBioOf};
@@ -17,7 +16,7 @@ ghost use Rattle.blk_layer.specs.Closes.{IsAccountOf, all_accepted, all_ran, don
 use crate::names::Named;
 use crate::seats::{Submitter, Worker};
 use crate::staged::Staged;
-use blk_bio::{Bio, BioId};
+use blk_bio::{Bio, BioId, Request};
 use blk_soft::SoftQueue;
 use blk_trace::{Event, Trace};
 use edd_check::Command;
@@ -89,9 +88,9 @@ fn add_queued<A: Allocator + Clone>(
 #[tactic(auto, using(crate::proofs::Gathered::entered_more, crate::proofs::Gathered::none_entered))]
 pub(crate) fn entered<A: Allocator + Clone>(
     alloc: A,
-    events: &[Event<A>],
+    events: &[Event<Request<A>>],
 ) -> Result<Vec<Bio, A>, AllocError>
-    ensures { IfOk result (λ v. v.items ≡ entered (map happened events.now)) }
+    ensures { IfOk result (λ v. v.items ≡ entered events.now) }
 {
     let mut bios = Vec::new(alloc);
     for event in events {
@@ -101,17 +100,12 @@ pub(crate) fn entered<A: Allocator + Clone>(
 }
 
 /// The bios that enter by an event.
-fn bios_of<A: Allocator + Clone>(event: &Event<A>) -> &[Bio]
-    ensures { result.now ≡ bios_of (happened event.now) }
+fn bios_of<A: Allocator + Clone>(event: &Event<Request<A>>) -> &[Bio]
+    ensures { result.now ≡ bios_of event.now }
 {
-    match event {
-        Event::Release { request, .. } => request.bios(),
-        Event::Join { request, .. } => request.bios(),
-        Event::Tick => &[],
-        Event::Issue { .. } => &[],
-        Event::Done { .. } => &[],
-        Event::Back { .. } => &[],
-        Event::Depth { .. } => &[],
+    match event.enters() {
+        Some((_, request)) => request.bios(),
+        None => &[],
     }
 }
 
@@ -153,8 +147,11 @@ fn by_id<A: Allocator + Clone>(
 
 /// The ids of the commands that are done.
 #[tactic(auto, using(crate::proofs::Gathered::done_noted, crate::proofs::Gathered::last_noted, crate::proofs::Gathered::none_done, crate::proofs::Gathered::none_last))]
-fn done_ids<A: Allocator + Clone>(alloc: &A, events: &[Event<A>]) -> Result<Vec<u64, A>, AllocError>
-    ensures { IfOk result (λ v. v.items ≡ done_ids (map happened events.now)) }
+fn done_ids<A: Allocator + Clone>(
+    alloc: &A,
+    events: &[Event<Request<A>>],
+) -> Result<Vec<u64, A>, AllocError>
+    ensures { IfOk result (λ v. v.items ≡ done_ids events.now) }
 {
     let mut ids = Vec::new(alloc.clone()?);
     let mut last = HashMap::new(alloc.clone()?);
@@ -168,10 +165,10 @@ fn done_ids<A: Allocator + Clone>(alloc: &A, events: &[Event<A>]) -> Result<Vec<
 fn note<A: Allocator + Clone>(
     ids: &mut Vec<u64, A>,
     last: &mut HashMap<u16, u64, Hashing, A>,
-    event: &Event<A>,
+    event: &Event<Request<A>>,
 ) -> Result<(), AllocError>
-    ensures ids { OnOk result (ids.new.items ≡ ids.old.items ++ cons_option (done_by (hash.get nat_eq last.old) (happened event.now)) []) }
-    ensures last { OnOk result ((tag : ℕ) → hash.get nat_eq last.new tag ≡ option_or (issued_by tag (happened event.now)) (hash.get nat_eq last.old tag)) }
+    ensures ids { OnOk result (ids.new.items ≡ ids.old.items ++ cons_option (done_by (hash.get nat_eq last.old) event.now) []) }
+    ensures last { OnOk result ((tag : ℕ) → hash.get nat_eq last.new tag ≡ option_or (issued_by tag event.now) (hash.get nat_eq last.old tag)) }
 {
     match event {
         Event::Issue { id, tag } => match last.insert(*tag, *id) {
@@ -184,18 +181,14 @@ fn note<A: Allocator + Clone>(
             }
             Ok(())
         }
-        Event::Tick => Ok(()),
-        Event::Release { .. } => Ok(()),
-        Event::Join { .. } => Ok(()),
-        Event::Back { .. } => Ok(()),
-        Event::Depth { .. } => Ok(()),
+        _ => Ok(()),
     }
 }
 
 /// A bio of the request that was released under an id.
-pub(crate) fn bio_of<A: Allocator + Clone>(events: &[Event<A>], id: u64) -> BioId
-    requires { IsReleased (map happened events.now) id }
-    ensures { IsBioOf (map happened events.now) id result }
+pub(crate) fn bio_of<A: Allocator + Clone>(events: &[Event<Request<A>>], id: u64) -> BioId
+    requires { IsReleased events.now id }
+    ensures { IsBioOf events.now id result }
 {
     for event in events {
         if let Some(bio) = released_as(event, id) {
@@ -206,25 +199,15 @@ pub(crate) fn bio_of<A: Allocator + Clone>(events: &[Event<A>], id: u64) -> BioI
 }
 
 /// The first bio that an event releases under an id.
-fn released_as<A: Allocator + Clone>(event: &Event<A>, id: u64) -> Option<BioId>
-    ensures some { IfSome result (λ bio. (q : List Transfer) × (happened event.now ≡ Released id q) × HasId q bio) }
-    ensures none { IfNone result ((q : List Transfer) → happened event.now ≡ Released id q → ⊥) }
+fn released_as<A: Allocator + Clone>(event: &Event<Request<A>>, id: u64) -> Option<BioId>
+    ensures some { IfSome result (λ bio. (q : List Transfer) × (event.now ≡ Release id q) × HasId q bio) }
+    ensures none { IfNone result ((q : List Transfer) → event.now ≡ Release id q → ⊥) }
 {
-    match event {
-        Event::Release {
-            id: released,
-            request,
-        } => {
-            if *released != id {
-                return None;
-            }
-            Some(request.bios()[0].id())
-        }
-        Event::Join { .. } => None,
-        Event::Tick => None,
-        Event::Issue { .. } => None,
-        Event::Done { .. } => None,
-        Event::Back { .. } => None,
-        Event::Depth { .. } => None,
+    let Some((released, request)) = event.releases() else {
+        return None;
+    };
+    if released != id {
+        return None;
     }
+    Some(request.bios()[0].id())
 }

@@ -1,13 +1,12 @@
 //! Tries for a command that end the round where they come too late in it.
 
-ghost use Rattle.std.specs.Prelude.{◌≡◌, ◌<◌, ◌≤◌, ◌↔◌, IsTrue, IfOk, IfErr, Some, map};
-ghost use Rattle.blk_trace.specs.Kinds.{is_tick, is_issue};
-ghost use Rattle.blk_trace.specs.Seen.{happened};
+ghost use Rattle.std.specs.Prelude.{◌≡◌, ◌<◌, ◌≤◌, ◌↔◌, IsTrue, IfOk, IfErr, Some};
 ghost use Rattle.blk_core.specs.Calls.{Issues};
 ghost use Rattle.blk_layer.specs.Passes.{IsLastTryFault};
 ghost use Rattle.blk_layer.specs.Tries.{issued_now, IsFull, IsNoneIssued};
 ghost use Rattle.blk_layer.specs.Inside.Ends.{IsRoundsEnd, IsFullsEnd};
 
+use blk_bio::Request;
 use blk_core::{Core, IssueFault, TickFault};
 use blk_sched::Scheduler;
 use blk_trace::Event;
@@ -79,50 +78,20 @@ fn is_full<S: Scheduler>(core: &Core<S>) -> bool
 }
 
 /// How many commands were issued in the round that is on: it looks back to where that began.
-fn issued_now<A: Allocator + Clone>(events: &[Event<A>]) -> u64
-    ensures { result ≡ issued_now (map happened events.now) }
+fn issued_now<A: Allocator + Clone>(events: &[Event<Request<A>>]) -> u64
+    ensures { result ≡ issued_now events.now }
 {
     let mut count = 0;
     for place in 0..events.len() {
         let event = &events[events.len() - 1 - place];
-        if is_tick(event) {
+        if event.is_tick() {
             return count;
         }
-        if is_issue(event) {
+        if event.issues().is_some() {
             count += 1;
         }
     }
     count
-}
-
-/// Whether an event is a Tick.
-fn is_tick<A: Allocator + Clone>(event: &Event<A>) -> bool
-    ensures { result ≡ is_tick (happened event.now) }
-{
-    match event {
-        Event::Tick => true,
-        Event::Release { .. } => false,
-        Event::Join { .. } => false,
-        Event::Issue { .. } => false,
-        Event::Done { .. } => false,
-        Event::Back { .. } => false,
-        Event::Depth { .. } => false,
-    }
-}
-
-/// Whether an event is an Issue.
-fn is_issue<A: Allocator + Clone>(event: &Event<A>) -> bool
-    ensures { result ≡ is_issue (happened event.now) }
-{
-    match event {
-        Event::Issue { .. } => true,
-        Event::Tick => false,
-        Event::Release { .. } => false,
-        Event::Join { .. } => false,
-        Event::Done { .. } => false,
-        Event::Back { .. } => false,
-        Event::Depth { .. } => false,
-    }
 }
 
 /// Issues, or ends the round, as `Layer::issue_or_end` says.

@@ -8,7 +8,7 @@ use crate::dice::Dice;
 use crate::given::{core, limits, setup};
 use crate::plain::{SOFT_DEPTH, Store, Tags};
 use crate::seen::{ALL, Seen, times};
-use blk_bio::{Bio, Limits};
+use blk_bio::{Bio, Limits, Request};
 use blk_core::Core;
 use blk_hw::Map;
 use blk_layer::{Closed, Layer, MAX_WORKERS, Named, Submitter, Worker};
@@ -69,7 +69,7 @@ impl<'a> Parts<'a> {
 }
 
 /// Whether two events are the same.
-fn is_same(one: &Event, other: &Event) -> bool {
+fn is_same(one: &Event<Request>, other: &Event<Request>) -> bool {
     match one {
         Event::Tick => matches!(other, Event::Tick),
         Event::Release { id, request } => match other {
@@ -100,7 +100,7 @@ fn is_same(one: &Event, other: &Event) -> bool {
 }
 
 /// Whether two lists of events are the same.
-fn are_same(ones: &[Event], others: &[Event]) -> bool {
+fn are_same(ones: &[Event<Request>], others: &[Event<Request>]) -> bool {
     ones.len() == others.len()
         && ones
             .iter()

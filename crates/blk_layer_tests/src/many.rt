@@ -129,10 +129,10 @@ fn serve_all<R: Threads + Wait + Sync, L: Named + Send + Sync>(
 fn ends(closed: &Closed) -> (u64, u64) {
     let mut counts = (0u64, 0u64);
     for event in closed.trace.events() {
-        match event {
-            Event::Back { .. } => counts.0 = counts.0.saturating_add(1),
-            Event::Done { .. } => counts.1 = counts.1.saturating_add(1),
-            _ => {}
+        if event.hands_back().is_some() {
+            counts.0 = counts.0.saturating_add(1);
+        } else if event.ends().is_some() {
+            counts.1 = counts.1.saturating_add(1);
         }
     }
     counts

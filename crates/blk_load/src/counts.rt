@@ -20,24 +20,20 @@ pub(crate) fn served(alloc: Global, trace: &Trace) -> Result<u64, AllocError> {
     flying.resize(trace.setup().depth() as usize, 0u64)?;
     let mut count = 0u64;
     for event in trace.events() {
-        match event {
-            Event::Release { id: _, request } => bios.push(request.bios().len() as u64)?,
-            Event::Join { id, request } => {
-                if let Some(own) = bios.get_mut(*id as usize) {
-                    *own = own.saturating_add(request.bios().len() as u64);
-                }
+        if let Some((_, request)) = event.releases() {
+            bios.push(request.bios().len() as u64)?;
+        } else if let Some((id, request)) = event.joins() {
+            if let Some(own) = bios.get_mut(id as usize) {
+                *own = own.saturating_add(request.bios().len() as u64);
             }
-            Event::Issue { id, tag } => {
-                let own = bios.get(*id as usize).copied().unwrap_or(0);
-                if let Some(place) = flying.get_mut(usize::from(*tag)) {
-                    *place = own;
-                }
+        } else if let Some((id, tag)) = event.issues() {
+            let own = bios.get(id as usize).copied().unwrap_or(0);
+            if let Some(place) = flying.get_mut(usize::from(tag)) {
+                *place = own;
             }
-            Event::Done { tag } => {
-                let own = flying.get(usize::from(*tag)).copied().unwrap_or(0);
-                count = count.saturating_add(own);
-            }
-            Event::Tick | Event::Back { tag: _ } | Event::Depth { depth: _ } => {}
+        } else if let Event::Done { tag } = event {
+            let own = flying.get(usize::from(*tag)).copied().unwrap_or(0);
+            count = count.saturating_add(own);
         }
     }
     Ok(count)

@@ -5,7 +5,8 @@ use Rattle.std.specs.Option.{option_map_or, option_and_then}
 use Rattle.std.specs.List.{cons_option}
 use Rattle.std.proofs.lemmas.List.{take-append-le, take_all}
 use Rattle.std.proofs.lemmas.Bool.{cases_Bool}
-use Rattle.blk_trace.specs.Happened.{Happened, Ticked, Issued}
+use Rattle.blk_trace.specs.Happened.{Happened}
+use Rattle.blk_trace.specs.declared.event.Event.TheVariants.{Tick, Issue}
 use Rattle.blk_trace.specs.Kinds.{issues, ends, hands_back, is_done_of}
 use Rattle.blk_trace.specs.Setups.{Setup}
 use Rattle.blk_trace.specs.Events.{At, EndsAt, IsOpen, is_tick, round_of, goes_back}
@@ -17,13 +18,13 @@ use Rattle.blk_trace.proofs.Words.{done_by}
 -- ---- a Tick and what stands about it
 
 -- some Tick ends each round before the last
-pub tick_at : (es : List Happened) (x : ℕ) → x < round_of es → (t : ℕ) × At es t Ticked × (round_of (take t es) ≡ x)
+pub tick_at : (es : List Happened) (x : ℕ) → x < round_of es → (t : ℕ) × At es t Tick × (round_of (take t es) ≡ x)
 unfolding round_of
 tick_at [] x h = absurd (omega arith)
-tick_at (Ticked ∷ es) zero h = (0, refl, refl)
-tick_at (Ticked ∷ es) (suc x) h =
-    let r = tick_at es x (omega (arith, round_cons Ticked es 0)) in
-    (suc r.0, r.1, omega (arith, round_cons Ticked (take r.0 es) 0, r.2))
+tick_at (Tick ∷ es) zero h = (0, refl, refl)
+tick_at (Tick ∷ es) (suc x) h =
+    let r = tick_at es x (omega (arith, round_cons Tick es 0)) in
+    (suc r.0, r.1, omega (arith, round_cons Tick (take r.0 es) 0, r.2))
 tick_at (e ∷ es) x h =
     let r = tick_at es x (omega (arith, round_cons e es 0)) in
     (suc r.0, r.1, omega (arith, round_cons e (take r.0 es) 0, r.2))
@@ -76,16 +77,16 @@ find_end tag (suc k) (e ∷ es) =
 
 -- each Issue has its end after it
 abbrev pub AreEnded : List Happened → Type 0
-AreEnded es = (k id tag : ℕ) → At es k (Issued id tag) → (j : ℕ) × EndsAt (drop (suc k) es) j tag
+AreEnded es = (k id tag : ℕ) → At es k (Issue id tag) → (j : ℕ) × EndsAt (drop (suc k) es) j tag
 
-pub ended_before : (setup : Setup) (before after : List Happened) → IsLegalTrace setup (before ++ Ticked ∷ after) → AreEnded before
+pub ended_before : (setup : Setup) (before after : List Happened) → IsLegalTrace setup (before ++ Tick ∷ after) → AreEnded before
 ended_before setup before after legal k id tag at =
     elim (find_end tag (suc k) before) [
       | inl p ↦ p
       | inr none ↦ absurd (
-          let is : take (length before) (before ++ Ticked ∷ after) ≡ before = take_first before (Ticked ∷ after) in
+          let is : take (length before) (before ++ Tick ∷ after) ≡ before = take_first before (Tick ∷ after) in
           let still : IsOpen before tag = record { place = k; id = id; issued = at; not_done = λ j lt d. none j (omega arith) d } in
-          legal.tick_closed (length before) tag (at_length before Ticked after) (subst (λ l. IsOpen l tag) (sym is) still))
+          legal.tick_closed (length before) tag (at_length before Tick after) (subst (λ l. IsOpen l tag) (sym is) still))
     ]
 
 -- ---- the services before it are those of the events before it
@@ -105,8 +106,8 @@ goes_back_kept tag (e ∷ es) fs j d =
       ]) d
     ] refl
 
-service_kept : (r : ℕ) (e : Happened) (es fs : List Happened) → ((id tag : ℕ) → e ≡ Issued id tag → (j : ℕ) × EndsAt es j tag) → service r e (es ++ fs) ≡ service r e es
-service_kept r (Issued id tag) es fs ended =
+service_kept : (r : ℕ) (e : Happened) (es fs : List Happened) → ((id tag : ℕ) → e ≡ Issue id tag → (j : ℕ) × EndsAt es j tag) → service r e (es ++ fs) ≡ service r e es
+service_kept r (Issue id tag) es fs ended =
     let p = ended id tag refl in
     ap (λ b. cond b None (Some (r, id))) (goes_back_kept tag es fs p.0 p.1)
 service_kept r e es fs ended = refl

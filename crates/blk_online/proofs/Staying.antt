@@ -5,7 +5,8 @@ use Rattle.std.specs.Option.{option_map_or, option_and_then}
 use Rattle.std.specs.List.{cons_option}
 use Rattle.std.proofs.lemmas.Bool.{cases_Bool, or_from}
 use Rattle.blk_bio.specs.Bios.{Bio}
-use Rattle.blk_trace.specs.Happened.{Happened, Released}
+use Rattle.blk_trace.specs.Happened.{Happened}
+use Rattle.blk_trace.specs.declared.event.Event.TheVariants.{Release}
 use Rattle.blk_trace.specs.Kinds.{enters}
 use Rattle.blk_trace.specs.Setups.{Setup}
 use Rattle.blk_trace.specs.Events.{round_of, IsIssued}
@@ -53,7 +54,7 @@ entered_then es e id h =
 
 released_none : (e : Happened) (id : ℕ) → enters_as id e ≡ false → has_id (released_ids (e ∷ [])) id ≡ false
 unfolding released_ids
-released_none (Released i q) id h = or_from (i == id) false h refl
+released_none (Release i q) id h = or_from (i == id) false h refl
 released_none e id h = refl
 
 pub record IsStill (setup : Setup) (es fs : List Happened) (id : ℕ) : Type 0 where

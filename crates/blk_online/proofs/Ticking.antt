@@ -7,7 +7,8 @@ use Rattle.std.proofs.lemmas.Bool.{or_left, or_right}
 use Rattle.edd_check.specs.Capacity.{depth_at}
 use Rattle.edd_check.specs.Schedule.{places_at}
 use Rattle.edd_oracle.proofs.Counting.{count_map, count_none}
-use Rattle.blk_trace.specs.Happened.{Happened, Ticked}
+use Rattle.blk_trace.specs.Happened.{Happened}
+use Rattle.blk_trace.specs.declared.event.Event.TheVariants.{Tick}
 use Rattle.blk_trace.specs.Setups.{Setup}
 use Rattle.blk_trace.specs.Events.{At, round_of, request_of, IsReleased}
 use Rattle.blk_trace.specs.Depths.{depth_now, capacity_of}
@@ -67,9 +68,9 @@ pub record IsHeldBack (setup : Setup) (before all : List Happened) (x id : ℕ) 
   pub depth : depth_at (capacity_of setup all) x ≡ depth_now setup before
   pub went_out : (p : ℕ) (q : ℕ × ℕ) → slice_get (served 0 all) p ≡ Some q → q.0 ≡ x → WentOut before x q.1 × (command_of setup all q.1 ≡ command_of setup before q.1)
 
-module _ (setup : Setup) (before after : List Happened) (legal : IsLegalTrace setup (before ++ Ticked ∷ after)) where
+module _ (setup : Setup) (before after : List Happened) (legal : IsLegalTrace setup (before ++ Tick ∷ after)) where
   abbrev whole : List Happened
-  whole = before ++ Ticked ∷ after
+  whole = before ++ Tick ∷ after
 
   abbrev now : ℕ
   now = round_of before
@@ -77,7 +78,7 @@ module _ (setup : Setup) (before after : List Happened) (legal : IsLegalTrace se
   -- the services before the Tick, and those after it
   split : served 0 whole ≡ served 0 before ++ served (now + 1) after
   unfolding served
-  split = served_split 0 before (Ticked ∷ after) (ended_before setup before after legal) ∙ ap (λ n. served 0 before ++ served (n + 1) after) (let e : 0 + now ≡ now = omega arith in e)
+  split = served_split 0 before (Tick ∷ after) (ended_before setup before after legal) ∙ ap (λ n. served 0 before ++ served (n + 1) after) (let e : 0 + now ≡ now = omega arith in e)
 
   places_same : places_at (rounds_of whole) now ≡ places_at (rounds_of before) now
   unfolding rounds_of places_at
@@ -88,7 +89,7 @@ module _ (setup : Setup) (before after : List Happened) (legal : IsLegalTrace se
       ∙ omega (arith, none_later (now + 1) after now (omega arith))
 
   depth_same : depth_at (capacity_of setup whole) now ≡ depth_now setup before
-  depth_same = capacity_depth setup whole now ∙ still_deep setup (Ticked ∷ after) before now (omega arith) ∙ sym (depth_now_is setup before)
+  depth_same = capacity_depth setup whole now ∙ still_deep setup (Tick ∷ after) before now (omega arith) ∙ sym (depth_now_is setup before)
 
   -- a service of that round stands before the Tick
   out_now : (p : ℕ) (q : ℕ × ℕ) → slice_get (served 0 whole) p ≡ Some q → q.0 ≡ now → WentOut before now q.1 × (command_of setup whole q.1 ≡ command_of setup before q.1)
@@ -97,7 +98,7 @@ module _ (setup : Setup) (before after : List Happened) (legal : IsLegalTrace se
       elim (in_either (served 0 before) (served (now + 1) after) p q (ap (λ l. slice_get l p) (sym split) ∙ h)) [
         | inl first ↦
             let there : slice_get (served 0 before) p ≡ Some (now, q.1) = first ∙ ap (λ n. Some (n, q.1)) at in
-            ((p, there), still_issued setup (Ticked ∷ after) before q.1 legal (has_issued before q.1 (has_here (served 0 before) p q first)))
+            ((p, there), still_issued setup (Tick ∷ after) before q.1 legal (has_issued before q.1 (has_here (served 0 before) p q first)))
         | inr second ↦
             let low = rounds_between (now + 1) after second.0 q second.1.1 in
             absurd (omega (arith, low.0))
@@ -108,9 +109,9 @@ module _ (setup : Setup) (before after : List Happened) (legal : IsLegalTrace se
   unfolding issued_ids released_ids
   held_back k s h released later =
       let id : ℕ = s.1 in
-      let more : List Happened = before ++ Ticked ∷ [] in
-      let same : more ++ after ≡ whole = append_assoc before (Ticked ∷ []) after in
-      let up : round_of more ≡ now + 1 = round_more before Ticked in
+      let more : List Happened = before ++ Tick ∷ [] in
+      let same : more ++ after ≡ whole = append_assoc before (Tick ∷ []) after in
+      let up : round_of more ≡ now + 1 = round_more before Tick in
       let still : IsStill setup more after id = still_after setup after more id now (omega arith) (omega (arith, released, ap (λ l. release_of l id) same)) in
       let second : (j : ℕ) × (slice_get (served (now + 1) after) j ≡ Some s) =
       elim (in_either (served 0 before) (served (now + 1) after) k s (ap (λ l. slice_get l k) (sym split) ∙ h)) [
@@ -120,7 +121,7 @@ module _ (setup : Setup) (before after : List Happened) (legal : IsLegalTrace se
       let issued : has_id (issued_ids whole) id ≡ true = has_here (served 0 whole) k s h in
       let release : IsReleased whole id = released_first setup whole id legal (has_issued whole id issued) in
       let released_is : has_id (released_ids before) id ≡ true =
-      sym (has_released_same before Ticked id refl) ∙ sym still.released ∙ ap (λ l. has_id (released_ids l) id) same ∙ released_has whole release.0 id release.1.0 release.1.1 in
+      sym (has_released_same before Tick id refl) ∙ sym still.released ∙ ap (λ l. has_id (released_ids l) id) same ∙ released_has whole release.0 id release.1.0 release.1.1 in
       let ids : issued_ids whole ≡ issued_ids before ++ map (λ (t : ℕ × ℕ). t.1) (served (now + 1) after) =
       ap (map (λ (t : ℕ × ℕ). t.1)) split ∙ map-append (λ (t : ℕ × ℕ). t.1) (served 0 before) (served (now + 1) after) in
       let few : count_by (λ u. id == u) (issued_ids before) + count_by (λ u. id == u) (map (λ (t : ℕ × ℕ). t.1) (served (now + 1) after)) ≤ 1 =
@@ -128,7 +129,7 @@ module _ (setup : Setup) (before after : List Happened) (legal : IsLegalTrace se
       let none : has_id (issued_ids before) id ≡ false = absent id (issued_ids before) (omega (arith, few, counted_once (served (now + 1) after) second.0 s second.1)) in
       record {
         waits = waits_from setup before id released_is none;
-        same = ap (λ l. command_of setup l id) (sym same) ∙ still.command ∙ same_command setup before more id (same_entered setup before Ticked id refl);
+        same = ap (λ l. command_of setup l id) (sym same) ∙ still.command ∙ same_command setup before more id (same_entered setup before Tick id refl);
         places = places_same;
         depth = depth_same;
         went_out = out_now;
@@ -138,7 +139,7 @@ module _ (setup : Setup) (before after : List Happened) (legal : IsLegalTrace se
 
 pub record IsTick (setup : Setup) (all : List Happened) (x id : ℕ) : Type 0 where
   pub place : ℕ
-  pub ticked : At all place Ticked
+  pub ticked : At all place Tick
   pub round : round_of (take place all) ≡ x
   pub held : IsHeldBack setup (take place all) all x id
 
@@ -148,7 +149,7 @@ tick_of setup all legal x k s h released later =
     let t = tick_at all x (omega (arith, last.1)) in
     let before : List Happened = take t.0 all in
     let after : List Happened = drop (suc t.0) all in
-    let is : all ≡ before ++ Ticked ∷ after = split_at all t.0 Ticked t.1 in
+    let is : all ≡ before ++ Tick ∷ after = split_at all t.0 Tick t.1 in
     let P : List Happened → Type 0 = λ l. IsLegalTrace setup l → slice_get (served 0 l) k ≡ Some s → release_of l s.1 ≤ round_of before → round_of before < s.0 → IsHeldBack setup before l (round_of before) s.1 in
     let held : IsHeldBack setup before all (round_of before) s.1 =
     (subst P (sym is) (λ g. held_back setup before after g k s)) legal h (omega (arith, t.2)) (omega (arith, t.2)) in

@@ -2,7 +2,8 @@
 use Rattle.std.specs.Prelude.{ℕ, ◌≡◌, ◌≤◌, List, Some, slice_get, take}
 use Rattle.edd_check.specs.Schedule.{places_at}
 use Rattle.edd_oracle.specs.Priority.{ComesFirst}
-use Rattle.blk_trace.specs.Happened.{Happened, Ticked}
+use Rattle.blk_trace.specs.Happened.{Happened}
+use Rattle.blk_trace.specs.declared.event.Event.TheVariants.{Tick}
 use Rattle.blk_trace.specs.Setups.{Setup}
 use Rattle.blk_trace.specs.Events.{At, round_of}
 use Rattle.blk_trace.specs.Depths.{depth_now}
@@ -29,4 +30,4 @@ pub record IsMeetableNow (setup : Setup) (events : List Happened) : Type 0 where
 
 -- it holds as each round ends: of the events before each Tick
 abbrev pub AtTicks : (List Happened → Type 0) → List Happened → Type 0
-AtTicks P events = (k : ℕ) → At events k Ticked → P (take k events)
+AtTicks P events = (k : ℕ) → At events k Tick → P (take k events)

@@ -9,7 +9,8 @@ use Rattle.blk_sched.specs.Meaning.{Waiting, Pending, Meaning, Picks, joined_wai
 use Rattle.blk_sched.specs.Maps.{one_test}
 use Rattle.blk_index.proofs.Indexed.{becomes_given, becomes_taken}
 use Rattle.blk_hw.specs.Held.{held_in}
-use Rattle.blk_trace.specs.Happened.{Happened, Ticked, Released, Joined, Issued, Finished, DepthSet}
+use Rattle.blk_trace.specs.Happened.{Happened}
+use Rattle.blk_trace.specs.declared.event.Event.TheVariants.{Tick, Release, Join, Issue, Done, Depth}
 use Rattle.blk_trace.specs.Setups.{Setup, expire_of}
 use Rattle.blk_trace.specs.Events.{round_of}
 use Rattle.blk_trace.specs.Legal.{IsLegalTrace}
@@ -126,42 +127,42 @@ module _ (setup : Setup) (kept : List ℕ) (old new : CoreState) (booked : IsBoo
 
   pub placed_booked : (bios : List Bio) (hw : ℕ) (placed : Placed) → IsLegalTrace setup new.events → Places serves_all old bios hw placed new → IsBooked setup kept new
   placed_booked bios hw (New id) legal p =
-      let legal' : IsLegalTrace setup (old.events ++ Released id bios ∷ []) = subst (λ l. IsLegalTrace setup l) p.2.1 legal in
+      let legal' : IsLegalTrace setup (old.events ++ Release id bios ∷ []) = subst (λ l. IsLegalTrace setup l) p.2.1 legal in
       let w : Waiting = record { id = id; hw = hw; release = round_of old.events; due = round_of old.events + expire_of setup (dir_of bios); bios = bios } in
       let is : new.meaning.pending ≡ map.insert old.meaning.pending id w =
       ap (λ (m : Meaning). m.pending) p.3
       ∙ ap (λ (n : ℕ). map.insert old.meaning.pending id (record { id = n; hw = hw; release = round_of old.events; due = round_of old.events + expire_of old.setup (dir_of bios); bios = bios })) (sym p.1)
       ∙ ap (λ (s : Setup). map.insert old.meaning.pending id (record { id = id; hw = hw; release = round_of old.events; due = round_of old.events + expire_of s (dir_of bios); bios = bios })) booked.setup_is in
-      after (Released id bios) p.2.0 p.4 p.6 p.2.1
+      after (Release id bios) p.2.0 p.4 p.6 p.2.1
       (subst AreNamed (sym is) (named_given old.meaning.pending id w refl booked.named))
-      (λ q. ap (λ P. due_in P q) is ∙ agree_given old.meaning.pending (waits_at setup old.events) (waits_at setup (old.events ++ Released id bios ∷ [])) id w _ refl booked.dues (waits-released setup old.events id bios legal') q)
+      (λ q. ap (λ P. due_in P q) is ∙ agree_given old.meaning.pending (waits_at setup old.events) (waits_at setup (old.events ++ Release id bios ∷ [])) id w _ refl booked.dues (waits-released setup old.events id bios legal') q)
   placed_booked bios hw (JoinedTo id side) legal p =
-      let legal' : IsLegalTrace setup (old.events ++ Joined id bios ∷ []) = subst (λ l. IsLegalTrace setup l) p.1.1 legal in
+      let legal' : IsLegalTrace setup (old.events ++ Join id bios ∷ []) = subst (λ l. IsLegalTrace setup l) p.1.1 legal in
       let w : Waiting = p.0.0 in
       let there : map.get old.meaning.pending id ≡ Some w = p.0.1.pending in
       let waits = waits_then setup kept old id w booked there in
       let joined : Waiting = joined_waiting side (round_of old.events) bios w in
       let is : new.meaning.pending ≡ map.insert old.meaning.pending id joined = ap (λ (m : Meaning). m.pending) p.0.2 in
-      after (Joined id bios) p.1.0 p.2 p.4 p.1.1
+      after (Join id bios) p.1.0 p.2 p.4 p.1.1
       (subst AreNamed (sym is) (named_given old.meaning.pending id joined (booked.named id w there) booked.named))
-      (λ q. ap (λ P. due_in P q) is ∙ agree_given old.meaning.pending (waits_at setup old.events) (waits_at setup (old.events ++ Joined id bios ∷ [])) id joined _ waits.2 booked.dues (waits-joined setup old.events id bios legal' waits.0 waits.1) q)
+      (λ q. ap (λ P. due_in P q) is ∙ agree_given old.meaning.pending (waits_at setup old.events) (waits_at setup (old.events ++ Join id bios ∷ [])) id joined _ waits.2 booked.dues (waits-joined setup old.events id bios legal' waits.0 waits.1) q)
 
-  pub sent_booked : (w : Waiting) (hw tag : ℕ) (new_meaning : Meaning) → new_meaning ≡ new.meaning → new.setup ≡ old.setup → new.kept ≡ old.kept → new.held ≡ old.held → new.events ≡ old.events ++ Issued w.id tag ∷ [] → IsLegalTrace setup new.events → Picks serves_all hw old.meaning w new_meaning → IsBooked setup kept new
+  pub sent_booked : (w : Waiting) (hw tag : ℕ) (new_meaning : Meaning) → new_meaning ≡ new.meaning → new.setup ≡ old.setup → new.kept ≡ old.kept → new.held ≡ old.held → new.events ≡ old.events ++ Issue w.id tag ∷ [] → IsLegalTrace setup new.events → Picks serves_all hw old.meaning w new_meaning → IsBooked setup kept new
   sent_booked w hw tag new_meaning own setup_same kept_same held_same more legal picks =
-      let legal' : IsLegalTrace setup (old.events ++ Issued w.id tag ∷ []) = subst (λ l. IsLegalTrace setup l) more legal in
+      let legal' : IsLegalTrace setup (old.events ++ Issue w.id tag ∷ []) = subst (λ l. IsLegalTrace setup l) more legal in
       let is : new.meaning.pending ≡ map.remove old.meaning.pending w.id = ap (λ (m : Meaning). m.pending) (sym own ∙ picks.2) in
-      after (Issued w.id tag) setup_same kept_same held_same more
+      after (Issue w.id tag) setup_same kept_same held_same more
       (subst AreNamed (sym is) (named_taken old.meaning.pending w.id booked.named))
-      (λ q. ap (λ P. due_in P q) is ∙ agree_taken old.meaning.pending (waits_at setup old.events) (waits_at setup (old.events ++ Issued w.id tag ∷ [])) w.id booked.dues (waits-issued setup old.events w.id tag legal') q)
+      (λ q. ap (λ P. due_in P q) is ∙ agree_taken old.meaning.pending (waits_at setup old.events) (waits_at setup (old.events ++ Issue w.id tag ∷ [])) w.id booked.dues (waits-issued setup old.events w.id tag legal') q)
 
   pub done_booked : (tag : ℕ) → Completes earliest_policy.told_done old tag new → IsBooked setup kept new
   done_booked tag p =
-      unchanged (Finished tag) p.3.0 p.5 p.7 p.3.1 (ap (λ (m : Meaning). m.pending) (sym p.4)) (waits_kept setup old.events (Finished tag) refl refl refl refl)
+      unchanged (Done tag) p.3.0 p.5 p.7 p.3.1 (ap (λ (m : Meaning). m.pending) (sym p.4)) (waits_kept setup old.events (Done tag) refl refl refl refl)
 
   pub ticked_booked : Ends earliest_policy.told_tick old new → IsBooked setup kept new
   ticked_booked p =
-      unchanged Ticked p.0.0 p.2 p.4 p.0.1 (ap (λ (m : Meaning). m.pending) p.1) (waits_kept setup old.events Ticked refl refl refl refl)
+      unchanged Tick p.0.0 p.2 p.4 p.0.1 (ap (λ (m : Meaning). m.pending) p.1) (waits_kept setup old.events Tick refl refl refl refl)
 
   pub deep_booked : (depth : ℕ) → SetsDepth old depth new → IsBooked setup kept new
   deep_booked depth p =
-      unchanged (DepthSet depth) p.0.0 p.2 p.4 p.0.1 (ap (λ (m : Meaning). m.pending) p.1) (waits_kept setup old.events (DepthSet depth) refl refl refl refl)
+      unchanged (Depth depth) p.0.0 p.2 p.4 p.0.1 (ap (λ (m : Meaning). m.pending) p.1) (waits_kept setup old.events (Depth depth) refl refl refl refl)

@@ -11,7 +11,8 @@ use Rattle.std.proofs.lemmas.List.Sums.{sum_by-append}
 use Rattle.edd_check.specs.Schedule.{places_at}
 use Rattle.blk_sched.specs.Meaning.{Waiting, Pending, Meaning, Picks}
 use Rattle.blk_sched.specs.Maps.{looked_up}
-use Rattle.blk_trace.specs.Happened.{Happened, Issued}
+use Rattle.blk_trace.specs.Happened.{Happened}
+use Rattle.blk_trace.specs.declared.event.Event.TheVariants.{Issue}
 use Rattle.blk_trace.specs.Setups.{Setup}
 use Rattle.blk_trace.specs.Events.{round_of, IsUsed}
 use Rattle.blk_trace.specs.Depths.{depth_now, depth_in}
@@ -89,12 +90,12 @@ places_push xs r =
     let here : count_by (λ y. y == r) (r ∷ []) ≡ 1 = (let z : 0 + cond {A = ℕ} (r == r) 1 0 ≡ 1 = omega arith in z) in
     ap (λ n. count_by (λ y. y == r) xs + n) here)
 
-due_kept : (setup : Setup) (es : List Happened) (id tag i : ℕ) → due_of setup (es ++ Issued id tag ∷ []) i ≡ due_of setup es i
-due_kept setup es id tag i = (same_entered setup es (Issued id tag) i refl).due
+due_kept : (setup : Setup) (es : List Happened) (id tag i : ℕ) → due_of setup (es ++ Issue id tag ∷ []) i ≡ due_of setup es i
+due_kept setup es id tag i = (same_entered setup es (Issue id tag) i refl).due
 
 -- one more goes out
 module _ (late_last : Bool) (setup : Setup) (round depth : ℕ) (old new : CoreState) where
-  sent : (hw n : ℕ) (w : Waiting) → IsIssuing late_last setup round depth n old → IsLegalTrace setup new.events → new.setup ≡ old.setup → new.events ≡ old.events ++ Issued w.id n ∷ [] → SendsFrom serves_all earliest_chooses hw (round_of old.events) [] old.meaning old.kept old.held w new.meaning new.kept new.held → IsIssuing late_last setup round depth (suc n) new
+  sent : (hw n : ℕ) (w : Waiting) → IsIssuing late_last setup round depth n old → IsLegalTrace setup new.events → new.setup ≡ old.setup → new.events ≡ old.events ++ Issue w.id n ∷ [] → SendsFrom serves_all earliest_chooses hw (round_of old.events) [] old.meaning old.kept old.held w new.meaning new.kept new.held → IsIssuing late_last setup round depth (suc n) new
   sent hw n w so_far legal setup_same more sends =
       let es : List Happened = old.events in
       let picks : Picks serves_all hw old.meaning w new.meaning = sends.0 in
@@ -103,15 +104,15 @@ module _ (late_last : Bool) (setup : Setup) (round depth : ℕ) (old new : CoreS
       let choice : earliest_choice late_last round (values old.meaning.pending) ≡ Some w =
       sym (ap (λ b. earliest_choice b round (values old.meaning.pending)) own) ∙ sym (ap (λ r. earliest_choice chooses.0 r (values old.meaning.pending)) so_far.round_is) ∙ sym chooses.2 in
       let is : new.meaning.pending ≡ map.remove old.meaning.pending w.id = ap (λ (m : Meaning). m.pending) picks.2 in
-      let pushed : served 0 (es ++ Issued w.id n ∷ []) ≡ served 0 es ++ (round_of es, w.id) ∷ [] = served_push es (Issued w.id n) refl in
+      let pushed : served 0 (es ++ Issue w.id n ∷ []) ≡ served 0 es ++ (round_of es, w.id) ∷ [] = served_push es (Issue w.id n) refl in
       let waits = waits_then setup (kept_of late_last) old w.id w so_far.booked picks.0 in
       let due : w.due ≡ due_of setup es w.id = waits.2 ∙ (waiting_from setup es w.id waits.0 waits.1).due_is in
-      let still : round_of (es ++ Issued w.id n ∷ []) ≡ round_of es = round_more es (Issued w.id n) ∙ (let z : round_of es + 0 ≡ round_of es = omega arith in z) in
+      let still : round_of (es ++ Issue w.id n ∷ []) ≡ round_of es = round_more es (Issue w.id n) ∙ (let z : round_of es + 0 ≡ round_of es = omega arith in z) in
       record {
         booked = sent_booked setup (kept_of late_last) old new so_far.booked w hw n new.meaning refl setup_same chooses.3 sends.2 more legal picks;
-        ticks = subst (AtTicks (HoldsNow late_last setup)) (sym more) (ticks_kept (HoldsNow late_last setup) es (Issued w.id n) refl so_far.ticks);
+        ticks = subst (AtTicks (HoldsNow late_last setup)) (sym more) (ticks_kept (HoldsNow late_last setup) es (Issue w.id n) refl so_far.ticks);
         round_is = ap round_of more ∙ still ∙ so_far.round_is;
-        depth_is = ap (depth_now setup) more ∙ depth_now_is setup (es ++ Issued w.id n ∷ []) ∙ ap (depth_in setup (es ++ Issued w.id n ∷ [])) still ∙ depth_kept setup es (Issued w.id n) (round_of es) refl ∙ sym (depth_now_is setup es) ∙ so_far.depth_is;
+        depth_is = ap (depth_now setup) more ∙ depth_now_is setup (es ++ Issue w.id n ∷ []) ∙ ap (depth_in setup (es ++ Issue w.id n ∷ [])) still ∙ depth_kept setup es (Issue w.id n) (round_of es) refl ∙ sym (depth_now_is setup es) ∙ so_far.depth_is;
         count =
             ap (λ l. places_at (rounds_of l) round) more ∙ ap (λ l. places_at l round) (rounds-issued es w.id n ∙ ap (λ r. rounds_of es ++ r ∷ []) so_far.round_is) ∙ places_push (rounds_of es) round
             ∙ (let z : places_at (rounds_of es) round + 1 ≡ suc n = omega (arith, so_far.count) in z);

@@ -4,7 +4,8 @@ use Rattle.std.specs.Prelude.{slice_get, option_map, cond}
 use Rattle.std.specs.List.{cons_option}
 use Rattle.edd_check.specs.Schedule.{places_at}
 use Rattle.edd_oracle.proofs.Counting.{count_map, count_none}
-use Rattle.blk_trace.specs.Happened.{Happened, Ticked, Issued}
+use Rattle.blk_trace.specs.Happened.{Happened}
+use Rattle.blk_trace.specs.declared.event.Event.TheVariants.{Tick, Issue}
 use Rattle.blk_trace.specs.Kinds.{issues, hands_back}
 use Rattle.blk_trace.specs.Events.{At, is_tick, round_of, round_at, IsUsed}
 use Rattle.blk_trace.specs.Meaning.{served, rounds_of}
@@ -18,21 +19,21 @@ use Rattle.blk_online.proofs.Splitting.{rounds_between}
 
 -- ---- Ticks
 
-ticks_old : (P : List Happened → Type 0) (es : List Happened) (e : Happened) (k : ℕ) → AtTicks P es → At es k Ticked → P (take k (es ++ e ∷ []))
-ticks_old P es e k each at = subst P (sym (before es (e ∷ []) k Ticked at)) (each k at)
+ticks_old : (P : List Happened → Type 0) (es : List Happened) (e : Happened) (k : ℕ) → AtTicks P es → At es k Tick → P (take k (es ++ e ∷ []))
+ticks_old P es e k each at = subst P (sym (before es (e ∷ []) k Tick at)) (each k at)
 
 pub ticks_kept : (P : List Happened → Type 0) (es : List Happened) (e : Happened) → is_tick e ≡ false → AtTicks P es → AtTicks P (es ++ e ∷ [])
 ticks_kept P es e none each k at =
-    elim (split es e k Ticked at) [
+    elim (split es e k Tick at) [
       | inl old ↦ ticks_old P es e k each old
       | inr last ↦ absurd (let clash : true ≡ false = ap is_tick (sym last.1) ∙ none in cc)
     ]
 
-pub ticks_more : (P : List Happened → Type 0) (es : List Happened) → P es → AtTicks P es → AtTicks P (es ++ Ticked ∷ [])
+pub ticks_more : (P : List Happened → Type 0) (es : List Happened) → P es → AtTicks P es → AtTicks P (es ++ Tick ∷ [])
 ticks_more P es now each k at =
-    elim (split es Ticked k Ticked at) [
-      | inl old ↦ ticks_old P es Ticked k each old
-      | inr last ↦ subst P (sym (before_last es Ticked k last.0)) now
+    elim (split es Tick k Tick at) [
+      | inl old ↦ ticks_old P es Tick k each old
+      | inr last ↦ subst P (sym (before_last es Tick k last.0)) now
     ]
 
 -- ---- tags used in the round that is on
@@ -46,24 +47,24 @@ same_round es e none = round_more es e ∙ ap (λ b. round_of es + cond b 1 0) n
 -- of an event that issues nothing
 pub used_before : (es : List Happened) (e : Happened) (tag : ℕ) → is_tick e ≡ false → issues e ≡ None → IsUsed (es ++ e ∷ []) tag → IsUsed es tag
 used_before es e tag none quiet used =
-    elim (split es e used.place (Issued used.id tag) used.issued) [
-      | inl old ↦ record { place = used.place; id = used.id; issued = old; now = sym (round_old es e (Issued used.id tag) used.place old) ∙ used.now ∙ same_round es e none }
+    elim (split es e used.place (Issue used.id tag) used.issued) [
+      | inl old ↦ record { place = used.place; id = used.id; issued = old; now = sym (round_old es e (Issue used.id tag) used.place old) ∙ used.now ∙ same_round es e none }
       | inr last ↦ absurd (issues_not e quiet used.id tag last.1)
     ]
 
 -- of an Issue
-pub used_then : (es : List Happened) (id tag t : ℕ) → IsUsed (es ++ Issued id tag ∷ []) t → (IsUsed es t → ⊥) → t ≡ tag
+pub used_then : (es : List Happened) (id tag t : ℕ) → IsUsed (es ++ Issue id tag ∷ []) t → (IsUsed es t → ⊥) → t ≡ tag
 used_then es id tag t used fresh =
-    elim (split es (Issued id tag) used.place (Issued used.id t) used.issued) [
-      | inl old ↦ absurd (fresh (record { place = used.place; id = used.id; issued = old; now = sym (round_old es (Issued id tag) (Issued used.id t) used.place old) ∙ used.now ∙ same_round es (Issued id tag) refl }))
-      | inr last ↦ let same : Issued id tag ≡ Issued used.id t = last.1 in cc
+    elim (split es (Issue id tag) used.place (Issue used.id t) used.issued) [
+      | inl old ↦ absurd (fresh (record { place = used.place; id = used.id; issued = old; now = sym (round_old es (Issue id tag) (Issue used.id t) used.place old) ∙ used.now ∙ same_round es (Issue id tag) refl }))
+      | inr last ↦ let same : Issue id tag ≡ Issue used.id t = last.1 in cc
     ]
 
-pub used_or : (es : List Happened) (id tag t n : ℕ) → ((u : ℕ) → IsUsed es u → u < n) → tag < n → IsUsed (es ++ Issued id tag ∷ []) t → t < n
+pub used_or : (es : List Happened) (id tag t n : ℕ) → ((u : ℕ) → IsUsed es u → u < n) → tag < n → IsUsed (es ++ Issue id tag ∷ []) t → t < n
 used_or es id tag t n below low used =
-    elim (split es (Issued id tag) used.place (Issued used.id t) used.issued) [
-      | inl old ↦ below t (record { place = used.place; id = used.id; issued = old; now = sym (round_old es (Issued id tag) (Issued used.id t) used.place old) ∙ used.now ∙ same_round es (Issued id tag) refl })
-      | inr last ↦ let is : Issued id tag ≡ Issued used.id t = last.1 in let same : tag ≡ t = cc in omega arith
+    elim (split es (Issue id tag) used.place (Issue used.id t) used.issued) [
+      | inl old ↦ below t (record { place = used.place; id = used.id; issued = old; now = sym (round_old es (Issue id tag) (Issue used.id t) used.place old) ∙ used.now ∙ same_round es (Issue id tag) refl })
+      | inr last ↦ let is : Issue id tag ≡ Issue used.id t = last.1 in let same : tag ≡ t = cc in omega arith
     ]
 
 -- ---- services
@@ -82,7 +83,7 @@ pub record IsFresh (es : List Happened) : Type 0 where
 pub fresh_start : (es : List Happened) → es ≡ [] → IsFresh es
 unfolding served rounds_of places_at
 fresh_start es none = subst IsFresh (sym none) (record {
-  unused = λ tag used. let e : None ≡ Some (Issued used.id tag) = used.issued in cc;
+  unused = λ tag used. let e : None ≡ Some (Issue used.id tag) = used.issued in cc;
   none_out = λ id out. let e : None ≡ Some (round_of [], id) = out.1 in cc;
   empty = refl;
 })
@@ -106,17 +107,17 @@ none_past es x past =
     let at = rounds_between 0 es k (get_or (served 0 es) k d) (get_at (served 0 es) k d h) in
     ne_eqb (get_or (served 0 es) k d).0 x (λ same. absurd (omega (arith, at.1))))
 
-pub fresh_ticked : (es : List Happened) → IsFresh (es ++ Ticked ∷ [])
+pub fresh_ticked : (es : List Happened) → IsFresh (es ++ Tick ∷ [])
 fresh_ticked es =
-    let up : round_of (es ++ Ticked ∷ []) ≡ round_of es + 1 = round_more es Ticked in
-    let kept : served 0 (es ++ Ticked ∷ []) ≡ served 0 es = served_same es Ticked refl refl in
+    let up : round_of (es ++ Tick ∷ []) ≡ round_of es + 1 = round_more es Tick in
+    let kept : served 0 (es ++ Tick ∷ []) ≡ served 0 es = served_same es Tick refl refl in
     record {
-      unused = λ tag used. elim (split es Ticked used.place (Issued used.id tag) used.issued) [
-        | inl old ↦ let early : round_at es used.place ≤ round_of es = round_within used.place es in omega (arith, up, used.now, round_old es Ticked (Issued used.id tag) used.place old)
-        | inr last ↦ let clash : Ticked ≡ Issued used.id tag = last.1 in cc
+      unused = λ tag used. elim (split es Tick used.place (Issue used.id tag) used.issued) [
+        | inl old ↦ let early : round_at es used.place ≤ round_of es = round_within used.place es in omega (arith, up, used.now, round_old es Tick (Issue used.id tag) used.place old)
+        | inr last ↦ let clash : Tick ≡ Issue used.id tag = last.1 in cc
       ];
       none_out = λ id out.
-          let at = rounds_between 0 es out.0 (round_of (es ++ Ticked ∷ []), id) (sym (ap (λ l. slice_get l out.0) kept) ∙ out.1) in
+          let at = rounds_between 0 es out.0 (round_of (es ++ Tick ∷ []), id) (sym (ap (λ l. slice_get l out.0) kept) ∙ out.1) in
           omega (arith, at.1, up);
-      empty = ap (λ l. places_at l (round_of (es ++ Ticked ∷ []))) (rounds_kept es Ticked refl refl) ∙ none_past es (round_of (es ++ Ticked ∷ [])) (omega arith);
+      empty = ap (λ l. places_at l (round_of (es ++ Tick ∷ []))) (rounds_kept es Tick refl refl) ∙ none_past es (round_of (es ++ Tick ∷ [])) (omega arith);
     }

@@ -4,7 +4,8 @@ use Rattle.std.specs.Prelude.{All, option_map, IfOk, Result, Ok, Err}
 use Rattle.std.specs.Ordering.{nat_cmp}
 use Rattle.std.specs.FinMap as map
 use Rattle.blk_sched.specs.Meaning.{Waiting, Meaning, at_start}
-use Rattle.blk_trace.specs.Happened.{Happened, Ticked}
+use Rattle.blk_trace.specs.Happened.{Happened}
+use Rattle.blk_trace.specs.declared.event.Event.TheVariants.{Tick}
 use Rattle.blk_trace.specs.Setups.{Setup, IsSetup}
 use Rattle.blk_trace.specs.Legal.{IsLegalTrace}
 use Rattle.blk_trace.specs.Meaning.{released_ids}
@@ -40,7 +41,7 @@ start_track late_last script = record {
     named = λ id w h. let e : None ≡ Some w = sym (map.get-empty nat_cmp id) ∙ h in cc;
     none_held = λ hw. nobody_held script.setup.hw hw;
   };
-  ticks = λ k at. let e : None ≡ Some Ticked = at in cc;
+  ticks = λ k at. let e : None ≡ Some Tick = at in cc;
   fresh = fresh_start [] refl;
 }
 

@@ -6,7 +6,8 @@ use Rattle.edd_check.specs.Schedule.{places_at}
 use Rattle.blk_bio.specs.Bios.{Bio}
 use Rattle.blk_sched.specs.Meaning.{Waiting, Meaning}
 use Rattle.blk_soft.specs.Queues.{Queue}
-use Rattle.blk_trace.specs.Happened.{Happened, Ticked, Released, Joined, Finished, DepthSet}
+use Rattle.blk_trace.specs.Happened.{Happened}
+use Rattle.blk_trace.specs.declared.event.Event.TheVariants.{Tick, Release, Join, Done, Depth}
 use Rattle.blk_trace.specs.Setups.{Setup}
 use Rattle.blk_trace.specs.Events.{round_of}
 use Rattle.blk_trace.specs.Depths.{depth_now, depth_in}
@@ -80,19 +81,19 @@ module _ (late_last : Bool) (setup : Setup) (round depth : ℕ) where
   completed : (tag : ℕ) (old new : CoreState) → IsRoundDone late_last setup round depth old → Completes earliest_policy.told_done old tag new → IsRoundDone late_last setup round depth new
   completed tag old new done p =
       let es : List Happened = old.events in
-      let more : new.events ≡ es ++ Finished tag ∷ [] = p.3.1 in
+      let more : new.events ≡ es ++ Done tag ∷ [] = p.3.1 in
       let same : new.meaning.pending ≡ old.meaning.pending = ap (λ (m : Meaning). m.pending) (sym p.4) in
-      let still : round_of (es ++ Finished tag ∷ []) ≡ round_of es = round_more es (Finished tag) ∙ (let z : round_of es + 0 ≡ round_of es = omega arith in z) in
+      let still : round_of (es ++ Done tag ∷ []) ≡ round_of es = round_more es (Done tag) ∙ (let z : round_of es + 0 ≡ round_of es = omega arith in z) in
       record {
         booked = done_booked setup (kept_of late_last) old new done.booked tag p;
-        ticks = subst (AtTicks (HoldsNow late_last setup)) (sym more) (ticks_kept (HoldsNow late_last setup) es (Finished tag) refl done.ticks);
+        ticks = subst (AtTicks (HoldsNow late_last setup)) (sym more) (ticks_kept (HoldsNow late_last setup) es (Done tag) refl done.ticks);
         round_is = ap round_of more ∙ still ∙ done.round_is;
-        depth_is = ap (depth_now setup) more ∙ depth_now_is setup (es ++ Finished tag ∷ []) ∙ ap (depth_in setup (es ++ Finished tag ∷ [])) still ∙ depth_kept setup es (Finished tag) (round_of es) refl ∙ sym (depth_now_is setup es) ∙ done.depth_is;
-        full = λ id v there. ap (λ l. places_at (rounds_of l) round) more ∙ ap (λ l. places_at l round) (rounds_kept es (Finished tag) refl refl) ∙ done.full id v (sym (ap (λ P. map.get P id) same) ∙ there);
+        depth_is = ap (depth_now setup) more ∙ depth_now_is setup (es ++ Done tag ∷ []) ∙ ap (depth_in setup (es ++ Done tag ∷ [])) still ∙ depth_kept setup es (Done tag) (round_of es) refl ∙ sym (depth_now_is setup es) ∙ done.depth_is;
+        full = λ id v there. ap (λ l. places_at (rounds_of l) round) more ∙ ap (λ l. places_at l round) (rounds_kept es (Done tag) refl refl) ∙ done.full id v (sym (ap (λ P. map.get P id) same) ∙ there);
         order = λ id i v there out.
-            let dues : due_of setup new.events i ≡ due_of setup es i = ap (λ l. due_of setup l i) more ∙ (same_entered setup es (Finished tag) i refl).due in
+            let dues : due_of setup new.events i ≡ due_of setup es i = ap (λ l. due_of setup l i) more ∙ (same_entered setup es (Done tag) i refl).due in
             subst (λ d. Goes late_last round d i v.due id) (sym dues)
-            (done.order id i v (sym (ap (λ P. map.get P id) same) ∙ there) (out.0, sym (ap (λ l. slice_get (served 0 l) out.0) more ∙ ap (λ l. slice_get l out.0) (served_same es (Finished tag) refl refl)) ∙ out.1));
+            (done.order id i v (sym (ap (λ P. map.get P id) same) ∙ there) (out.0, sym (ap (λ l. slice_get (served 0 l) out.0) more ∙ ap (λ l. slice_get l out.0) (served_same es (Done tag) refl refl)) ∙ out.1));
       }
 
   all_completed : (n : ℕ) (old new : CoreState) → IsRoundDone late_last setup round depth old → CompleteInTurn earliest_policy n old new → IsRoundDone late_last setup round depth new
@@ -111,7 +112,7 @@ module _ (late_last : Bool) (setup : Setup) (some : 0 < setup.hw) where
   -- the round ends
   ended : (round depth : ℕ) (old new : CoreState) → IsRoundDone late_last setup round depth old → Ends earliest_policy.told_tick old new → IsOnTrack late_last setup new
   ended round depth old new done p =
-      let more : new.events ≡ old.events ++ Ticked ∷ [] = p.0.1 in
+      let more : new.events ≡ old.events ++ Tick ∷ [] = p.0.1 in
       record {
         booked = ticked_booked setup (kept_of late_last) old new done.booked p;
         ticks = subst (AtTicks (HoldsNow late_last setup)) (sym more) (ticks_more (HoldsNow late_last setup) old.events (holds_now setup round depth old late_last done) done.ticks);
@@ -147,13 +148,13 @@ module _ (late_last : Bool) (setup : Setup) (some : 0 < setup.hw) where
   entered : (old new : CoreState) (bios : List Bio) (hw : ℕ) (placed : Placed) → IsOnTrack late_last setup old → IsLegalTrace setup new.events → Places serves_all old bios hw placed new → IsOnTrack late_last setup new
   entered old new bios hw (New id) track legal p = record {
     booked = placed_booked setup (kept_of late_last) old new track.booked bios hw (New id) legal p;
-    ticks = subst (AtTicks (HoldsNow late_last setup)) (sym p.2.1) (ticks_kept (HoldsNow late_last setup) old.events (Released id bios) refl track.ticks);
-    fresh = subst IsFresh (sym p.2.1) (fresh_kept old.events (Released id bios) refl refl refl track.fresh);
+    ticks = subst (AtTicks (HoldsNow late_last setup)) (sym p.2.1) (ticks_kept (HoldsNow late_last setup) old.events (Release id bios) refl track.ticks);
+    fresh = subst IsFresh (sym p.2.1) (fresh_kept old.events (Release id bios) refl refl refl track.fresh);
   }
   entered old new bios hw (JoinedTo id side) track legal p = record {
     booked = placed_booked setup (kept_of late_last) old new track.booked bios hw (JoinedTo id side) legal p;
-    ticks = subst (AtTicks (HoldsNow late_last setup)) (sym p.1.1) (ticks_kept (HoldsNow late_last setup) old.events (Joined id bios) refl track.ticks);
-    fresh = subst IsFresh (sym p.1.1) (fresh_kept old.events (Joined id bios) refl refl refl track.fresh);
+    ticks = subst (AtTicks (HoldsNow late_last setup)) (sym p.1.1) (ticks_kept (HoldsNow late_last setup) old.events (Join id bios) refl track.ticks);
+    fresh = subst IsFresh (sym p.1.1) (fresh_kept old.events (Join id bios) refl refl refl track.fresh);
   }
 
   pub all_entered : (hw : ℕ) (requests : List (List Bio)) (old new : CoreState) → IsOnTrack late_last setup old → IsLegalTrace setup new.events → EnterInTurn earliest_policy hw requests old new → IsOnTrack late_last setup new
@@ -183,6 +184,6 @@ module _ (late_last : Bool) (setup : Setup) (some : 0 < setup.hw) where
   pub deepened : (depth : ℕ) (old new : CoreState) → IsOnTrack late_last setup old → SetsDepth old depth new → IsOnTrack late_last setup new
   deepened depth old new track p = record {
     booked = deep_booked setup (kept_of late_last) old new track.booked depth p;
-    ticks = subst (AtTicks (HoldsNow late_last setup)) (sym p.0.1) (ticks_kept (HoldsNow late_last setup) old.events (DepthSet depth) refl track.ticks);
-    fresh = subst IsFresh (sym p.0.1) (fresh_kept old.events (DepthSet depth) refl refl refl track.fresh);
+    ticks = subst (AtTicks (HoldsNow late_last setup)) (sym p.0.1) (ticks_kept (HoldsNow late_last setup) old.events (Depth depth) refl track.ticks);
+    fresh = subst IsFresh (sym p.0.1) (fresh_kept old.events (Depth depth) refl refl refl track.fresh);
   }

@@ -13,8 +13,14 @@ use Rattle.blk_bio.specs.declared.bio.Dir.{Dir}
 use Rattle.blk_bio.specs.declared.request.Side.{Side}
 use Rattle.blk_bio.specs.Requests.{IsRequest, Fits, dir_of, first_of, last_of, sectors_of}
 use Rattle.blk_bio.proofs.Tiles.{fills}
+<<<<<<< HEAD
 use Rattle.blk_bio.specs.declared.rule.TraceRule.TheVariants.{Fit}
 use Rattle.blk_trace.specs.Happened.{Happened, Released, Joined}
+=======
+use Rattle.blk_trace.specs.declared.rule.TraceRule.TheVariants.{Fit}
+use Rattle.blk_trace.specs.Happened.{Happened}
+use Rattle.blk_trace.specs.declared.event.Event.TheVariants.{Release, Join}
+>>>>>>> events-b
 use Rattle.blk_trace.specs.Kinds.{is_tick, issues}
 use Rattle.blk_trace.specs.Setups.{Setup}
 use Rattle.blk_trace.specs.Events.{join_up, request_of, goes_back, EntersRequest}
@@ -39,26 +45,26 @@ AreRequests es = (id : ℕ) → has_id (released_ids es) id ≡ true → IsReque
 
 requests_more : (setup : Setup) (es : List Happened) (e : Happened) → IsLegalTrace setup es → IsUnbroken setup es e → EntersRequest e → AreRequests es → AreRequests (es ++ e ∷ [])
 unfolding released_ids
-requests_more setup es (Released i bios) legal all some old id h =
+requests_more setup es (Release i bios) legal all some old id h =
     elim (cases_Bool (i == id)) [
       | inl b ↦
           let none : HasNothing setup es id = nothing_before setup es i id bios legal all b in
-          let new : IsEntered setup es (es ++ Released i bios ∷ []) id bios = entered_released setup es i id bios b in
+          let new : IsEntered setup es (es ++ Release i bios ∷ []) id bios = entered_released setup es i id bios b in
           subst IsRequest (sym (new.request ∙ ap (λ l. join_up l bios) none.request)) some
       | inr b ↦
-          let same : IsSame setup es (es ++ Released i bios ∷ []) id = same_entered setup es (Released i bios) id b in
-          let was : has_id (released_ids es) id ≡ true = sym (has_released_same es (Released i bios) id (rw b refl)) ∙ h in
+          let same : IsSame setup es (es ++ Release i bios ∷ []) id = same_entered setup es (Release i bios) id b in
+          let was : has_id (released_ids es) id ≡ true = sym (has_released_same es (Release i bios) id (rw b refl)) ∙ h in
           subst IsRequest (sym same.request) (old id was)
     ]
-requests_more setup es (Joined i bios) legal all some old id h =
-    let was : has_id (released_ids es) id ≡ true = sym (has_released_same es (Joined i bios) id refl) ∙ h in
+requests_more setup es (Join i bios) legal all some old id h =
+    let was : has_id (released_ids es) id ≡ true = sym (has_released_same es (Join i bios) id refl) ∙ h in
     elim (cases_Bool (i == id)) [
       | inl b ↦
-          let new : IsEntered setup es (es ++ Joined i bios ∷ []) id bios = entered_joined setup es i id bios b in
+          let new : IsEntered setup es (es ++ Join i bios ∷ []) id bios = entered_joined setup es i id bios b in
           let f : (x : Side) × Fits setup.limits (request_of es id) bios x = subst (λ (n : ℕ). (x : Side) × Fits setup.limits (request_of es n) bios x) (eqb-true i id b) (all Fit) in
           subst IsRequest (sym new.request) (join_request setup.limits (request_of es id) bios f.0 (old id was) some f.1)
       | inr b ↦
-          let same : IsSame setup es (es ++ Joined i bios ∷ []) id = same_entered setup es (Joined i bios) id b in
+          let same : IsSame setup es (es ++ Join i bios ∷ []) id = same_entered setup es (Join i bios) id b in
           subst IsRequest (sym same.request) (old id was)
     ]
 requests_more setup es e legal all some old id h =

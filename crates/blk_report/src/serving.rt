@@ -1,13 +1,12 @@
 //! The commands of a trace, each with its request and the round in which it was issued.
 
-ghost use Rattle.std.specs.Prelude.{ℕ, ◌≡◌, ◌==◌, cond, IfOk, OnOk, Some, map};
+ghost use Rattle.std.specs.Prelude.{ℕ, ◌≡◌, ◌==◌, cond, IfOk, OnOk, Some};
 ghost use Rattle.std.specs.Ordering.{nat_cmp};
 ghost use Rattle.std.specs.BTreeMap.{get};
 ghost use Rattle.blk_trace.specs.Events.{request_of};
 ghost use Rattle.blk_trace.specs.Kinds.{enters};
 ghost use Rattle.blk_trace.specs.Legal.{IsLegalTrace};
 ghost use Rattle.blk_trace.specs.Meaning.{commands_of, rounds_of};
-ghost use Rattle.blk_trace.specs.Seen.{happened};
 ghost use Rattle.blk_report.specs.Services.{services_of, command_in, AreTimed, AreRising};
 ghost use Rattle.blk_report.specs.Inside.Ranges.{range_of, joined_range, joined_to, with_entry};
 
@@ -99,27 +98,22 @@ fn enter<A: Allocator + Clone>(
 /// Takes account of one more event.
 fn gather<A: Allocator + Clone>(
     ranges: &mut BTreeMap<u64, Range, A>,
-    event: &Event<A>,
+    event: &Event<Request<A>>,
 ) -> Result<(), AllocError>
-    ensures { OnOk result ((i : ℕ) → get nat_cmp ranges.new i ≡ with_entry (get nat_cmp ranges.old) (enters (happened event.now)) i) }
+    ensures { OnOk result ((i : ℕ) → get nat_cmp ranges.new i ≡ with_entry (get nat_cmp ranges.old) (enters event.now) i) }
 {
-    match event {
-        Event::Release { id, request } => enter(ranges, *id, Range::of(request)),
-        Event::Join { id, request } => enter(ranges, *id, Range::of(request)),
-        Event::Tick => Ok(()),
-        Event::Issue { .. } => Ok(()),
-        Event::Done { .. } => Ok(()),
-        Event::Back { .. } => Ok(()),
-        Event::Depth { .. } => Ok(()),
+    match event.enters() {
+        Some((id, request)) => enter(ranges, id, Range::of(request)),
+        None => Ok(()),
     }
 }
 
 /// The ranges of all requests, by their ids.
 fn ranges<A: Allocator + Clone>(
     alloc: A,
-    events: &[Event<A>],
+    events: &[Event<Request<A>>],
 ) -> Result<BTreeMap<u64, Range, A>, AllocError>
-    ensures { IfOk result (λ m. (id : ℕ) → get nat_cmp m id ≡ range_of (request_of (map happened events.now) id)) }
+    ensures { IfOk result (λ m. (id : ℕ) → get nat_cmp m id ≡ range_of (request_of events.now id)) }
 {
     let mut ranges = BTreeMap::new(alloc);
     for event in events {

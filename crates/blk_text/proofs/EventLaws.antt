@@ -3,7 +3,8 @@ use Rattle.std.proofs.Common.{◌≡◌, ◌+◌, ◌<◌, ◌≤◌, ◌∙◌,
 use Rattle.std.specs.Prelude.{◌⊎◌, IfSome, Err}
 use Rattle.blk_bio.specs.Bios.{Bio}
 use Rattle.blk_bio.specs.Limits.{Limits}
-use Rattle.blk_trace.specs.Happened.{Happened, Ticked, Released, Joined, Issued, Finished, Returned, DepthSet}
+use Rattle.blk_trace.specs.Happened.{Happened}
+use Rattle.blk_trace.specs.declared.event.Event.TheVariants.{Tick, Release, Join, Issue, Done, Back, Depth}
 use Rattle.blk_trace.specs.Rules.{IsFirstBroken, IsUnbroken, rank}
 use Rattle.blk_bio.specs.declared.rule.TraceRule.{TraceRule}
 use Rattle.blk_trace.specs.declared.setup.TheConstants.{MAX_DEPTH}
@@ -17,11 +18,19 @@ use Rattle.blk_text.specs.SetupRecord.{setup}
 use Rattle.blk_lists.specs.Tables.{FitsCells, slots_by}
 use Rattle.blk_text.specs.TraceForm.{first_record, bios_after, group, event_told, plain_event, BreaksRule, event, alone, one_more, IsPast, refusal_of, IsRefused, events_of, trace_cells, IsTraceTitle, title, trace_body, trace_form}
 use Rattle.blk_text.specs.Versions.{latest, most_tags}
+<<<<<<< HEAD
 use Rattle.blk_lists.specs.declared.fault.Why.{Why}
 use Rattle.blk_lists.specs.declared.fault.Why.TheVariants as why
 use Rattle.blk_lists.specs.declared.fields.Slot.TheVariants as slot
 use Rattle.blk_text.specs.declared.heads.Head.{Head}
 use Rattle.blk_text.specs.declared.heads.Head.TheVariants as head
+=======
+use Rattle.blk_text.specs.declared.fault.Why.{Why}
+use Rattle.blk_text.specs.declared.fault.Why.TheVariants as why
+use Rattle.blk_text.specs.declared.fields.Slot.TheVariants as slot
+use Rattle.blk_text.specs.TraceForm.{Head}
+use Rattle.blk_trace.specs.declared.event.Event.TheVariants as head
+>>>>>>> events-b
 use Rattle.blk_text.specs.declared.heads.TraceTitle.{TraceTitle}
 use Rattle.parts.specs.declared.Repeats.TheVariants as repeats
 use Rattle.parts.specs.Parts.{Part, Begins}
@@ -40,17 +49,17 @@ use Rattle.blk_bio.specs.declared.limits.TheConstants.{MAX_QUEUES, MAX_SEGMENTS}
 
 -- the event of a first record and bios
 back : Head × List Bio → Happened
-back (head.Tick, bios) = Ticked
-back (head.Release id count, bios) = Released id bios
-back (head.Join id count, bios) = Joined id bios
-back (head.Issue id tag, bios) = Issued id tag
-back (head.Done tag, bios) = Finished tag
-back (head.Back tag, bios) = Returned tag
-back (head.Depth depth, bios) = DepthSet depth
+back (head.Tick, bios) = Tick
+back (head.Release id count, bios) = Release id bios
+back (head.Join id count, bios) = Join id bios
+back (head.Issue id tag, bios) = Issue id tag
+back (head.Done tag, bios) = Done tag
+back (head.Back tag, bios) = Back tag
+back (head.Depth depth, bios) = Depth depth
 
 back_is : (e : Happened) → back (event_told e) ≡ e
 unfolding back
-back_is Ticked = refl
+back_is Tick = refl
 back_is e = refl
 
 none : (bios : List Bio) → length bios ≡ 0 → [] ≡ bios
@@ -213,7 +222,7 @@ group_begins : (version : ℕ) (limits : Limits) (h : Head) (bios : List Bio) (r
 group_begins version limits h bios row rows rest l b = both_begin (first_record version) (λ h. group version limits (bios_after h)) (row ∷ rows) rows h bios rest (l rows) b
 
 pub release_reads : (version : ℕ) (limits : Limits) (id n : ℕ) (bios : List Bio) (left new : Option (List Row)) (row : Row) → length bios ≡ n → IsRowOf (first_record version) row (head.Release id n)
-    → Reads (group version limits n) left new bios → HandReads (plain_event version limits) left row new (Released id bios)
+    → Reads (group version limits n) left new bios → HandReads (plain_event version limits) left row new (Release id bios)
 release_reads version limits id n bios None new row e l b = tt
 release_reads version limits id n bios (Some rows) new row e l b =
     let line : IsRowOf (first_record version) row (head.Release id (length bios)) = subst (λ m. IsRowOf (first_record version) row (head.Release id m)) (sym e) l in
@@ -222,7 +231,7 @@ release_reads version limits id n bios (Some rows) new row e l b =
     (b.0, b.1, record { fits = k.fits; made = k.made; follows = k.follows })
 
 pub join_reads : (version : ℕ) (limits : Limits) (id n : ℕ) (bios : List Bio) (left new : Option (List Row)) (row : Row) → length bios ≡ n → IsRowOf (first_record version) row (head.Join id n)
-    → Reads (group version limits n) left new bios → HandReads (plain_event version limits) left row new (Joined id bios)
+    → Reads (group version limits n) left new bios → HandReads (plain_event version limits) left row new (Join id bios)
 join_reads version limits id n bios None new row e l b = tt
 join_reads version limits id n bios (Some rows) new row e l b =
     let line : IsRowOf (first_record version) row (head.Join id (length bios)) = subst (λ m. IsRowOf (first_record version) row (head.Join id m)) (sym e) l in
@@ -230,20 +239,20 @@ join_reads version limits id n bios (Some rows) new row e l b =
     let k = group_begins version limits (head.Join id (length bios)) bios row rows b.0 line bs in
     (b.0, b.1, record { fits = k.fits; made = k.made; follows = k.follows })
 
-pub release_fits : (version : ℕ) (limits : Limits) (id n : ℕ) (bios : List Bio) (row : Row) → IsRowOf (first_record version) row (head.Release id n) → (group version limits n).Fits bios → (plain_event version limits).Fits (Released id bios)
+pub release_fits : (version : ℕ) (limits : Limits) (id n : ℕ) (bios : List Bio) (row : Row) → IsRowOf (first_record version) row (head.Release id n) → (group version limits n).Fits bios → (plain_event version limits).Fits (Release id bios)
 release_fits version limits id n bios row l f =
     let line : IsRowOf (first_record version) row (head.Release id (length bios)) = subst (λ m. IsRowOf (first_record version) row (head.Release id m)) (sym f.1) l in
     ((line []).fits, (f.0, refl))
 
-pub join_fits : (version : ℕ) (limits : Limits) (id n : ℕ) (bios : List Bio) (row : Row) → IsRowOf (first_record version) row (head.Join id n) → (group version limits n).Fits bios → (plain_event version limits).Fits (Joined id bios)
+pub join_fits : (version : ℕ) (limits : Limits) (id n : ℕ) (bios : List Bio) (row : Row) → IsRowOf (first_record version) row (head.Join id n) → (group version limits n).Fits bios → (plain_event version limits).Fits (Join id bios)
 join_fits version limits id n bios row l f =
     let line : IsRowOf (first_record version) row (head.Join id (length bios)) = subst (λ m. IsRowOf (first_record version) row (head.Join id m)) (sym f.1) l in
     ((line []).fits, (f.0, refl))
 
-pub release_size : (version : ℕ) (limits : Limits) (id : ℕ) (bios : List Bio) → length ((plain_event version limits).rows_of (Released id bios)) ≡ length bios + 1
+pub release_size : (version : ℕ) (limits : Limits) (id : ℕ) (bios : List Bio) → length ((plain_event version limits).rows_of (Release id bios)) ≡ length bios + 1
 release_size version limits id bios = let size = group_size version limits (length bios) bios in omega (arith, size)
 
-pub join_size : (version : ℕ) (limits : Limits) (id : ℕ) (bios : List Bio) → length ((plain_event version limits).rows_of (Joined id bios)) ≡ length bios + 1
+pub join_size : (version : ℕ) (limits : Limits) (id : ℕ) (bios : List Bio) → length ((plain_event version limits).rows_of (Join id bios)) ≡ length bios + 1
 join_size version limits id bios = let size = group_size version limits (length bios) bios in omega (arith, size)
 
 -- where a group is wrong

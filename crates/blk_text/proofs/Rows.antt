@@ -34,23 +34,12 @@ numbers_is start word a b plain =
     let all : all_plain (word_row word (decimal a) (decimal b)) ≡ true = rw (plain, decimal_plain a, decimal_plain b) refl in
     rw (line_is (word_row word (decimal a) (decimal b)) (omega arith) all) (simp append_assoc)
 
-pub done_is : (start : List ℕ) (a : ℕ) → ((start ++ codes "done,") ++ decimal a) ++ (44 ∷ 44 ∷ 44 ∷ 44 ∷ 10 ∷ []) ≡ start ++ rows_text (word_row (codes "done") (decimal a) [] ∷ [])
+pub number_is : (start word : List ℕ) (a : ℕ) → needs_quotes default_writer word ≡ false
+    → (((start ++ word) ++ (44 ∷ [])) ++ decimal a) ++ (44 ∷ 44 ∷ 44 ∷ 44 ∷ 10 ∷ []) ≡ start ++ rows_text (word_row word (decimal a) [] ∷ [])
 unfolding line_of
-done_is start a =
-    let all : all_plain (word_row (codes "done") (decimal a) []) ≡ true = rw (decimal_plain a) refl in
-    rw (line_is (word_row (codes "done") (decimal a) []) (omega arith) all) (simp append_assoc)
-
-pub back_is : (start : List ℕ) (a : ℕ) → ((start ++ codes "back,") ++ decimal a) ++ (44 ∷ 44 ∷ 44 ∷ 44 ∷ 10 ∷ []) ≡ start ++ rows_text (word_row (codes "back") (decimal a) [] ∷ [])
-unfolding line_of
-back_is start a =
-    let all : all_plain (word_row (codes "back") (decimal a) []) ≡ true = rw (decimal_plain a) refl in
-    rw (line_is (word_row (codes "back") (decimal a) []) (omega arith) all) (simp append_assoc)
-
-pub depth_is : (start : List ℕ) (a : ℕ) → ((start ++ codes "depth,") ++ decimal a) ++ (44 ∷ 44 ∷ 44 ∷ 44 ∷ 10 ∷ []) ≡ start ++ rows_text (word_row (codes "depth") (decimal a) [] ∷ [])
-unfolding line_of
-depth_is start a =
-    let all : all_plain (word_row (codes "depth") (decimal a) []) ≡ true = rw (decimal_plain a) refl in
-    rw (line_is (word_row (codes "depth") (decimal a) []) (omega arith) all) (simp append_assoc)
+number_is start word a plain =
+    let all : all_plain (word_row word (decimal a) []) ≡ true = rw (plain, decimal_plain a) refl in
+    rw (line_is (word_row word (decimal a) []) (omega arith) all) (simp append_assoc)
 
 pub tick_is : (start : List ℕ) → start ++ (codes "tick,,,,," ++ 10 ∷ []) ≡ start ++ rows_text (word_row (codes "tick") [] [] ∷ [])
 unfolding line_of

@@ -13,7 +13,8 @@ use Rattle.blk_bio.specs.declared.bio.Dir.TheVariants as dir
 use Rattle.blk_bio.specs.declared.request.Side.{Side}
 use Rattle.blk_bio.specs.declared.request.Side.TheVariants as side
 use Rattle.blk_trace.specs.declared.trace.TheConstants.{MAX_EVENTS}
-use Rattle.blk_trace.specs.Happened.{Happened, Released, Issued}
+use Rattle.blk_trace.specs.Happened.{Happened}
+use Rattle.blk_trace.specs.declared.event.Event.TheVariants.{Release, Issue}
 use Rattle.blk_trace.specs.Kinds.{releases, joins, issues, ends, is_tick, sets_depth, enters}
 use Rattle.blk_trace.specs.Setups.{Setup}
 use Rattle.blk_trace.specs.Events.{entered, request_of, goes_back, round_at, round_of, EndsAt, IsReleased, IsIssued, IsHandedBack, AreHandedBack, IsOpen, IsUsed, open_count, AreOnce}
@@ -92,29 +93,29 @@ each_at {E} es P d = elim (some_at es (λ k e. ¬ P k e) (λ k e. opposite (d k 
 
 -- what an event is
 
-releases_id : (id : ℕ) (e : Happened) → Dec ((bios : List Bio) × (e ≡ Released id bios))
-releases_id id (Released i bios) = same_as (λ s. (bios, ap (λ n. Released n bios) s)) (λ h. (let is = h.1 in cc is)) (same_number i id)
+releases_id : (id : ℕ) (e : Happened) → Dec ((bios : List Bio) × (e ≡ Release id bios))
+releases_id id (Release i bios) = same_as (λ s. (bios, ap (λ n. Release n bios) s)) (λ h. (let is = h.1 in cc is)) (same_number i id)
 releases_id id e = inr (λ h. (let is = h.1 in cc is))
 
-issues_id : (id : ℕ) (e : Happened) → Dec ((tag : ℕ) × (e ≡ Issued id tag))
-issues_id id (Issued i tag) = same_as (λ s. (tag, ap (λ n. Issued n tag) s)) (λ h. (let is = h.1 in cc is)) (same_number i id)
+issues_id : (id : ℕ) (e : Happened) → Dec ((tag : ℕ) × (e ≡ Issue id tag))
+issues_id id (Issue i tag) = same_as (λ s. (tag, ap (λ n. Issue n tag) s)) (λ h. (let is = h.1 in cc is)) (same_number i id)
 issues_id id e = inr (λ h. (let is = h.1 in cc is))
 
-issues_tag : (tag : ℕ) (e : Happened) → Dec ((id : ℕ) × (e ≡ Issued id tag))
-issues_tag tag (Issued id t) = same_as (λ s. (id, ap (λ n. Issued id n) s)) (λ h. (let is = h.1 in cc is)) (same_number t tag)
+issues_tag : (tag : ℕ) (e : Happened) → Dec ((id : ℕ) × (e ≡ Issue id tag))
+issues_tag tag (Issue id t) = same_as (λ s. (id, ap (λ n. Issue id n) s)) (λ h. (let is = h.1 in cc is)) (same_number t tag)
 issues_tag tag e = inr (λ h. (let is = h.1 in cc is))
 
 -- of the events before
 
 released : (events : List Happened) (id : ℕ) → Dec (IsReleased events id)
-released events id = same_as (λ h. (h.0, (h.3.0, h.2 ∙ ap Some h.3.1))) (λ h. (h.0, Released id h.1.0, h.1.1, (h.1.0, refl))) (some_at events (λ k e. (bios : List Bio) × (e ≡ Released id bios)) (λ k e. releases_id id e))
+released events id = same_as (λ h. (h.0, (h.3.0, h.2 ∙ ap Some h.3.1))) (λ h. (h.0, Release id h.1.0, h.1.1, (h.1.0, refl))) (some_at events (λ k e. (bios : List Bio) × (e ≡ Release id bios)) (λ k e. releases_id id e))
 
 issued : (events : List Happened) (id : ℕ) → Dec (IsIssued events id)
-issued events id = same_as (λ h. (h.0, (h.3.0, h.2 ∙ ap Some h.3.1))) (λ h. (h.0, Issued id h.1.0, h.1.1, (h.1.0, refl))) (some_at events (λ k e. (tag : ℕ) × (e ≡ Issued id tag)) (λ k e. issues_id id e))
+issued events id = same_as (λ h. (h.0, (h.3.0, h.2 ∙ ap Some h.3.1))) (λ h. (h.0, Issue id h.1.0, h.1.1, (h.1.0, refl))) (some_at events (λ k e. (tag : ℕ) × (e ≡ Issue id tag)) (λ k e. issues_id id e))
 
 used : (events : List Happened) (tag : ℕ) → Dec (IsUsed events tag)
-used events tag = same_as (λ h. record { place = h.0; id = h.3.0.0; issued = h.2 ∙ ap Some h.3.0.1; now = h.3.1 }) (λ u. (u.place, Issued u.id tag, u.issued, ((u.id, refl), u.now)))
-    (some_at events (λ k e. ((id : ℕ) × (e ≡ Issued id tag)) × (round_at events k ≡ round_of events)) (λ k e. both (issues_tag tag e) (same_number (round_at events k) (round_of events))))
+used events tag = same_as (λ h. record { place = h.0; id = h.3.0.0; issued = h.2 ∙ ap Some h.3.0.1; now = h.3.1 }) (λ u. (u.place, Issue u.id tag, u.issued, ((u.id, refl), u.now)))
+    (some_at events (λ k e. ((id : ℕ) × (e ≡ Issue id tag)) × (round_at events k ≡ round_of events)) (λ k e. both (issues_tag tag e) (same_number (round_at events k) (round_of events))))
 
 -- no event after the place ends the tag's Issue
 abbrev NotDone : List Happened → ℕ → ℕ → Type 0
@@ -125,32 +126,32 @@ not_done events k tag = same_as (λ f j l h. f j h.0 h.1 l h.2) (λ f j e is l m
     (each_at events (λ j e. k < j → ¬ (ends e ≡ Some tag)) (λ j e. implied (less k j) (opposite (same_some (ends e) tag))))
 
 is_open : (events : List Happened) (tag : ℕ) → Dec (IsOpen events tag)
-is_open events tag = same_as (λ h. record { place = h.0; id = h.3.0.0; issued = h.2 ∙ ap Some h.3.0.1; not_done = h.3.1 }) (λ o. (o.place, Issued o.id tag, o.issued, ((o.id, refl), o.not_done)))
-    (some_at events (λ k e. ((id : ℕ) × (e ≡ Issued id tag)) × NotDone events k tag) (λ k e. both (issues_tag tag e) (not_done events k tag)))
+is_open events tag = same_as (λ h. record { place = h.0; id = h.3.0.0; issued = h.2 ∙ ap Some h.3.0.1; not_done = h.3.1 }) (λ o. (o.place, Issue o.id tag, o.issued, ((o.id, refl), o.not_done)))
+    (some_at events (λ k e. ((id : ℕ) × (e ≡ Issue id tag)) × NotDone events k tag) (λ k e. both (issues_tag tag e) (not_done events k tag)))
 
 -- an Issue that stands at a place is not open there
 abbrev IsClosed : List Happened → ℕ → Happened → Type 0
-IsClosed events k e = (tag id : ℕ) → e ≡ Issued id tag → ¬ NotDone events k tag
+IsClosed events k e = (tag id : ℕ) → e ≡ Issue id tag → ¬ NotDone events k tag
 
 is_closed : (events : List Happened) (k : ℕ) (e : Happened) → Dec (IsClosed events k e)
-is_closed events k (Issued i t) = same_as (λ n tag id is. subst (λ u. ¬ NotDone events k u) (let same : t ≡ tag = cc is in same) n) (λ f. f t i refl) (opposite (not_done events k t))
+is_closed events k (Issue i t) = same_as (λ n tag id is. subst (λ u. ¬ NotDone events k u) (let same : t ≡ tag = cc is in same) n) (λ f. f t i refl) (opposite (not_done events k t))
 is_closed events k e = inl (λ tag id is. absurd (cc is))
 
 none_open : (events : List Happened) → Dec ((tag : ℕ) → IsOpen events tag → ⊥)
-none_open events = same_as (λ f tag o. f o.place (Issued o.id tag) o.issued tag o.id refl o.not_done)
+none_open events = same_as (λ f tag o. f o.place (Issue o.id tag) o.issued tag o.id refl o.not_done)
     (λ f k e at tag id is n. f tag (record { place = k; id = id; issued = at ∙ ap Some is; not_done = n })) (each_at events (IsClosed events) (is_closed events))
 
 -- an Issue of the id that stands at a place was handed back
 abbrev IsBackAt : List Happened → ℕ → ℕ → Happened → Type 0
-IsBackAt events id k e = (tag : ℕ) → e ≡ Issued id tag → IsHandedBack events k tag
+IsBackAt events id k e = (tag : ℕ) → e ≡ Issue id tag → IsHandedBack events k tag
 
 is_back : (events : List Happened) (id k : ℕ) (e : Happened) → Dec (IsBackAt events id k e)
-is_back events id k (Issued i t) = same_as (λ f tag is. (let same : i ≡ id = cc is in let tags : t ≡ tag = cc is in subst (IsHandedBack events k) tags (f same))) (λ f s. f t (ap (λ n. Issued n t) s))
+is_back events id k (Issue i t) = same_as (λ f tag is. (let same : i ≡ id = cc is in let tags : t ≡ tag = cc is in subst (IsHandedBack events k) tags (f same))) (λ f s. f t (ap (λ n. Issue n t) s))
     (implied (same_number i id) (is_true (goes_back t (drop (suc k) events))))
 is_back events id k e = inl (λ tag is. absurd (cc is))
 
 handed_back : (events : List Happened) (id : ℕ) → Dec (AreHandedBack events id)
-handed_back events id = same_as (λ f k tag at. f k (Issued id tag) at tag refl) (λ f k e at tag is. f k tag (at ∙ ap Some is)) (each_at events (IsBackAt events id) (is_back events id))
+handed_back events id = same_as (λ f k tag at. f k (Issue id tag) at tag refl) (λ f k e at tag is. f k tag (at ∙ ap Some is)) (each_at events (IsBackAt events id) (is_back events id))
 
 -- of bios
 

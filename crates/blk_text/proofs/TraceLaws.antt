@@ -15,7 +15,8 @@ use Rattle.blk_bio.specs.Requests.{IsRequest, IsWithin, last_of, sectors_of, joi
 use Rattle.blk_bio.specs.declared.request.Side.{Side}
 use Rattle.blk_bio.specs.declared.request.Side.TheVariants as side
 use Rattle.blk_bio.proofs.Tiles.{last_at, joins}
-use Rattle.blk_trace.specs.Happened.{Happened, Ticked, Released, Joined, Issued, Finished, Returned, DepthSet}
+use Rattle.blk_trace.specs.Happened.{Happened}
+use Rattle.blk_trace.specs.declared.event.Event.TheVariants.{Tick, Release, Join, Issue, Done, Back, Depth}
 use Rattle.blk_trace.specs.Setups.{Setup}
 use Rattle.blk_trace.specs.Traces.{Traced}
 use Rattle.blk_trace.specs.declared.trace.Prepared.TheVariants.{Nothing}
@@ -54,8 +55,8 @@ bios_rows version limits before [] = refl
 bios_rows version limits before (b ∷ bs) = ap (λ (t : List Row). bio_row b ∷ t) (bios_rows version limits (before ++ b ∷ []) bs)
 
 event_same : (version : ℕ) (setup : Setup) (before : List Happened) (e : Happened) → (event version setup before).rows_of e ≡ event_rows e
-event_same version setup before (Released id bios) = ap (λ (t : List Row). word_row (codes "release") (decimal id) (decimal (length bios)) ∷ t) (bios_rows version setup.limits [] bios)
-event_same version setup before (Joined id bios) = ap (λ (t : List Row). word_row (codes "join") (decimal id) (decimal (length bios)) ∷ t) (bios_rows version setup.limits [] bios)
+event_same version setup before (Release id bios) = ap (λ (t : List Row). word_row (codes "release") (decimal id) (decimal (length bios)) ∷ t) (bios_rows version setup.limits [] bios)
+event_same version setup before (Join id bios) = ap (λ (t : List Row). word_row (codes "join") (decimal id) (decimal (length bios)) ∷ t) (bios_rows version setup.limits [] bios)
 event_same version setup before e = refl
 
 events_same : (version : ℕ) (setup : Setup) (before es : List Happened) → all_rows (event version setup) with_next before es ≡ flat_map event_rows es
@@ -140,19 +141,19 @@ last_event [] e = refl
 last_event (x ∷ es) e = last_event es e
 
 event_fits : (version : ℕ) (setup : Setup) (es : List Happened) (e : Happened) → IsLegalTrace setup (es ++ e ∷ []) → IsEventOf version e → EventFits e → (plain_event version setup.limits).Fits e
-event_fits version setup es Ticked legal v h = ((v, (tt, (tt, (tt, (tt, (tt, tt)))))), (tt, refl))
-event_fits version setup es (Released id bios) legal v h =
-    let at = last_event es (Released id bios) in
+event_fits version setup es Tick legal v h = ((v, (tt, (tt, (tt, (tt, (tt, tt)))))), (tt, refl))
+event_fits version setup es (Release id bios) legal v h =
+    let at = last_event es (Release id bios) in
     ((v, ((omega arith, omega (arith, h.0)), ((h.1, h.2), (tt, (tt, (tt, tt)))))), (group_fits version setup.limits [] bios (legal.are_requests _ _ at) (legal.release_within _ id bios at) h.3, refl))
-event_fits version setup es (Joined id bios) legal v h =
-    let at = last_event es (Joined id bios) in
+event_fits version setup es (Join id bios) legal v h =
+    let at = last_event es (Join id bios) in
     let fit = legal.join_fits _ id bios at in
     let some = h.1 in
     ((v, ((omega arith, omega (arith, h.0)), ((h.1, h.2), (tt, (tt, (tt, tt)))))), (group_fits version setup.limits [] bios (legal.are_requests _ _ at) (newcomer_within setup.limits _ bios fit.0 (omega (arith, some)) fit.1.within) h.3, refl))
-event_fits version setup es (Issued id tag) legal v h = ((v, ((omega arith, omega (arith, h.0)), ((omega arith, omega (arith, h.1)), (tt, (tt, (tt, tt)))))), (tt, refl))
-event_fits version setup es (Finished tag) legal v h = ((v, ((omega arith, omega (arith, h)), (tt, (tt, (tt, (tt, tt)))))), (tt, refl))
-event_fits version setup es (Returned tag) legal v h = ((v, ((omega arith, omega (arith, h)), (tt, (tt, (tt, (tt, tt)))))), (tt, refl))
-event_fits version setup es (DepthSet depth) legal v h = ((v, ((omega arith, omega (arith, h)), (tt, (tt, (tt, (tt, tt)))))), (tt, refl))
+event_fits version setup es (Issue id tag) legal v h = ((v, ((omega arith, omega (arith, h.0)), ((omega arith, omega (arith, h.1)), (tt, (tt, (tt, tt)))))), (tt, refl))
+event_fits version setup es (Done tag) legal v h = ((v, ((omega arith, omega (arith, h)), (tt, (tt, (tt, (tt, tt)))))), (tt, refl))
+event_fits version setup es (Back tag) legal v h = ((v, ((omega arith, omega (arith, h)), (tt, (tt, (tt, (tt, tt)))))), (tt, refl))
+event_fits version setup es (Depth depth) legal v h = ((v, ((omega arith, omega (arith, h)), (tt, (tt, (tt, (tt, tt)))))), (tt, refl))
 
 -- of a list with one more, the others have it, and so has the last
 all_before : (P : Happened → Type 0) (es : List Happened) (e : Happened) → All P (es ++ e ∷ []) → All P es × P e
@@ -180,7 +181,7 @@ spells_in version t h v =
 
 -- the latest version has all
 latest_kind : (e : Happened) → IsEventOf latest e
-latest_kind (DepthSet depth) = omega arith
+latest_kind (Depth depth) = omega arith
 latest_kind e = tt
 
 pub rows_spell : (t : Traced) → IsTrace t → SpellsTraceIn latest (trace_rows t) t
@@ -193,8 +194,8 @@ bios_back [] = refl
 bios_back (b ∷ bs) = ap (λ (t : List Row). bio_row b ∷ t) (bios_back bs)
 
 event_back : (h : Happened) → map read_back (event_rows h) ≡ event_rows h
-event_back (Released id bios) = rw (bios_back bios) refl
-event_back (Joined id bios) = rw (bios_back bios) refl
+event_back (Release id bios) = rw (bios_back bios) refl
+event_back (Join id bios) = rw (bios_back bios) refl
 event_back h = refl
 
 events_back : (hs : List Happened) → map read_back (flat_map event_rows hs) ≡ flat_map event_rows hs
@@ -235,13 +236,13 @@ bios_fit version limits before [] f = All-nil BioFits
 bios_fit version limits before (b ∷ bs) f = all_cons BioFits b bs (bio_fits b version limits before f.0) (bios_fit version limits (before ++ b ∷ []) bs f.1)
 
 fits_event : (version : ℕ) (limits : Limits) (e : Happened) → (plain_event version limits).Fits e → EventFits e
-fits_event version limits Ticked f = tt
-fits_event version limits (Released id bios) f = let id_in = f.0.1.0.1 in (omega (arith, id_in), f.0.1.1.0.0, f.0.1.1.0.1, bios_fit version limits [] bios f.1.0)
-fits_event version limits (Joined id bios) f = let id_in = f.0.1.0.1 in (omega (arith, id_in), f.0.1.1.0.0, f.0.1.1.0.1, bios_fit version limits [] bios f.1.0)
-fits_event version limits (Issued id tag) f = let id_in = f.0.1.0.1 in let tag_in = f.0.1.1.0.1 in (omega (arith, id_in), omega (arith, tag_in))
-fits_event version limits (Finished tag) f = let tag_in = f.0.1.0.1 in omega (arith, tag_in)
-fits_event version limits (Returned tag) f = let tag_in = f.0.1.0.1 in omega (arith, tag_in)
-fits_event version limits (DepthSet depth) f = let depth_in = f.0.1.0.1 in omega (arith, depth_in)
+fits_event version limits Tick f = tt
+fits_event version limits (Release id bios) f = let id_in = f.0.1.0.1 in (omega (arith, id_in), f.0.1.1.0.0, f.0.1.1.0.1, bios_fit version limits [] bios f.1.0)
+fits_event version limits (Join id bios) f = let id_in = f.0.1.0.1 in (omega (arith, id_in), f.0.1.1.0.0, f.0.1.1.0.1, bios_fit version limits [] bios f.1.0)
+fits_event version limits (Issue id tag) f = let id_in = f.0.1.0.1 in let tag_in = f.0.1.1.0.1 in (omega (arith, id_in), omega (arith, tag_in))
+fits_event version limits (Done tag) f = let tag_in = f.0.1.0.1 in omega (arith, tag_in)
+fits_event version limits (Back tag) f = let tag_in = f.0.1.0.1 in omega (arith, tag_in)
+fits_event version limits (Depth depth) f = let depth_in = f.0.1.0.1 in omega (arith, depth_in)
 
 events_fit : (version : ℕ) (setup : Setup) (before es : List Happened) → AllFit (event version setup) with_next before es → All EventFits es
 events_fit version setup before [] f = All-nil EventFits
@@ -277,8 +278,8 @@ some_request version limits [] l f = absurd (omega (arith, l))
 some_request version limits (b ∷ bs) l f = group_request version limits (b ∷ []) bs (grown_request version limits [] b (inl refl) f.0) f.1
 
 enters_request : (version : ℕ) (limits : Limits) (e : Happened) → (plain_event version limits).Fits e → EntersRequest e
-enters_request version limits (Released id bios) f = some_request version limits bios f.0.1.1.0.0 f.1.0
-enters_request version limits (Joined id bios) f = some_request version limits bios f.0.1.1.0.0 f.1.0
+enters_request version limits (Release id bios) f = some_request version limits bios f.0.1.1.0.0 f.1.0
+enters_request version limits (Join id bios) f = some_request version limits bios f.0.1.1.0.0 f.1.0
 enters_request version limits e f = tt
 
 events_legal : (version : ℕ) (setup : Setup) (before es : List Happened) → IsLegalTrace setup before → AllFit (event version setup) with_next before es → IsLegalTrace setup (before ++ es)

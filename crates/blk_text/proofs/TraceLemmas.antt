@@ -1,21 +1,19 @@
 -- The records of all events make the text of a trace.
-use Rattle.std.proofs.Common.{◌≡◌, ◌<◌, ◌≤◌, ◌+◌, ◌∷◌, ◌∙◌, [], ℕ, Result, Ok, Err, length, map, take, List, get_or, refl, sym, ap, arith, subst, ⊎_elim}
-use Rattle.std.specs.Prelude.{slice_get, All, IfOk, option_map}
-use Rattle.std.proofs.lemmas.List.{length-map, length-append, take_all}
-use Rattle.std.proofs.lemmas.List.Elements.{All-more, All-map}
-use Rattle.std.proofs.lemmas.Option.{slice_get-map, slice_get_read}
-use Rattle.std.proofs.lemmas.List.Folds.{flat_map-map}
+use Rattle.std.proofs.Common.{◌≡◌, ◌<◌, ◌≤◌, ◌+◌, ◌∷◌, ◌∙◌, [], ℕ, Result, Ok, Err, length, take, List, get_or, refl, sym, ap, arith, subst, ⊎_elim}
+use Rattle.std.specs.Prelude.{slice_get, All, IfOk}
+use Rattle.std.proofs.lemmas.List.{length-append, take_all}
+use Rattle.std.proofs.lemmas.List.Elements.{All-more}
+use Rattle.std.proofs.lemmas.Option.{slice_get_read}
 use Rattle.blk_bio.specs.Bios.{Bio}
 use Rattle.blk_bio.specs.Limits.{Limits, IsLimits}
 use Rattle.blk_bio.specs.Requests.{IsWithin, joined}
 use Rattle.blk_bio.specs.declared.request.Side.{Side}
 use Rattle.blk_bio.specs.declared.request.Side.TheVariants.{Back, Front}
-use Rattle.blk_trace.specs.declared.event.Event.{Event}
 use Rattle.blk_trace.specs.Events.{At, bios_of, request_of}
-use Rattle.blk_trace.specs.Happened.{Happened, Released, Joined}
+use Rattle.blk_trace.specs.Happened.{Happened}
+use Rattle.blk_trace.specs.declared.event.Event.TheVariants.{Release, Join}
 use Rattle.blk_trace.specs.Legal.{IsLegalTrace}
 use Rattle.blk_trace.specs.Setups.{Setup}
-use Rattle.blk_trace.specs.Seen.{happened}
 use Rattle.blk_trace.specs.Traces.{Traced}
 use Rattle.blk_text.specs.SetupRecord.{setup_row}
 use Rattle.blk_lists.specs.Texts.{rows_text}
@@ -23,20 +21,20 @@ use Rattle.blk_text.specs.TraceRecords.{event_rows, title_row, trace_rows, Event
 use Rattle.blk_lists.proofs.DraftLemmas.{IsSoFar}
 use Rattle.blk_bio.specs.declared.limits.TheConstants.{MAX_SEGMENTS}
 
-pub all_events : {A : Type 0} (has : List ℕ) (t : Traced) (events : List (Event A)) (i : ℕ) → length events ≤ i
-    → map happened events ≡ t.events
-    → IsSoFar (λ e. event_rows (happened e)) [] (title_row t.setup (length events) ∷ setup_row t.setup ∷ []) events i has
+pub all_events : (has : List ℕ) (t : Traced) (events : List Happened) (i : ℕ) → length events ≤ i
+    → events ≡ t.events
+    → IsSoFar event_rows [] (title_row t.setup (length events) ∷ setup_row t.setup ∷ []) events i has
     → has ≡ rows_text (trace_rows t)
 all_events has t events i l m a =
-    rw (← m, length-map events happened, flat_map-map event_rows happened events) (rw (take_all i events l) at a)
+    rw (← m) (rw (take_all i events l) at a)
 
 within : (l : Limits) (bios : List Bio) → IsLimits l → IsWithin l bios → length bios ≤ MAX_SEGMENTS
 within l bios i w = ⊎_elim (λ e. omega (arith, e)) (λ h. omega (arith, h.1, i.few_segments)) w
 
 -- each group of a legal list of events has at most 128 bios
 pub few_bios : (setup : Setup) (events : List Happened) (k : ℕ) (e : Happened) → IsLimits setup.limits → IsLegalTrace setup events → At events k e → length (bios_of e) ≤ MAX_SEGMENTS
-few_bios setup events k (Released id bios) i l at = within setup.limits bios i (l.release_within k id bios at)
-few_bios setup events k (Joined id bios) i l at =
+few_bios setup events k (Release id bios) i l at = within setup.limits bios i (l.release_within k id bios at)
+few_bios setup events k (Join id bios) i l at =
     let f = l.join_fits k id bios at in
     omega (arith, within setup.limits (joined (request_of (take k events) id) bios f.0) i f.1.within, both (request_of (take k events) id) bios f.0)
   where
@@ -46,18 +44,18 @@ few_bios setup events k (Joined id bios) i l at =
 few_bios setup events k e i l at = omega arith
 
 -- the same of an event that was looked up
-pub few_at : {A : Type 0} (t : Traced) (events : List (Event A)) (k : ℕ) (e : Event A) → IsLimits t.setup.limits → IsLegalTrace t.setup t.events → map happened events ≡ t.events
-    → k < length events → e ≡ get_or events k e → length (bios_of (happened e)) ≤ MAX_SEGMENTS
+pub few_at : (t : Traced) (events : List Happened) (k : ℕ) (e : Happened) → IsLimits t.setup.limits → IsLegalTrace t.setup t.events → events ≡ t.events
+    → k < length events → e ≡ get_or events k e → length (bios_of e) ≤ MAX_SEGMENTS
 few_at t events k e i l m lt is =
-    few_bios t.setup t.events k (happened e) i l (ap (λ h. slice_get h k) (sym m) ∙ slice_get-map happened events k ∙ ap (option_map happened) (slice_get_read events (length events) k e refl lt is))
+    few_bios t.setup t.events k e i l (ap (λ h. slice_get h k) (sym m) ∙ slice_get_read events (length events) k e refl lt is)
 
 -- one more event whose numbers lie in their ranges
 pub one_fits : {X : Type 0} (P : X → Type 0) (xs : List X) (i : ℕ) (x : X) → i < length xs → x ≡ get_or xs i x → All P (take i xs) → P x → All P (take (i + 1) xs)
 one_fits P xs i x lt is h p = All-more P xs i x lt h (subst P is p)
 
 -- then all do
-pub all_fit : {A : Type 0} (t : Traced) (events : List (Event A)) (i : ℕ) → length events ≤ i → map happened events ≡ t.events → All (λ e. EventFits (happened e)) (take i events) → All EventFits t.events
-all_fit t events i l m h = rw (← m) (All-map EventFits happened events (rw (take_all i events l) at h))
+pub all_fit : (t : Traced) (events : List Happened) (i : ℕ) → length events ≤ i → events ≡ t.events → All EventFits (take i events) → All EventFits t.events
+all_fit t events i l m h = rw (← m) (rw (take_all i events l) at h)
 
 -- what holds anyhow holds where the answer is Ok
 pub if_ok : {T E H : Type 0} (r : Result T E) → H → IfOk r (λ _. H)

@@ -1,5 +1,6 @@
 -- A trace: a title, a setup, and events, each of which has one record, or one and those of its bios.
 use Rattle.std.specs.Prelude.{◌≡◌, ◌⊎◌, ◌≤◌, ◌-◌, ◌^◌, ℕ, List, [], ◌∷◌, length, codes, All, Option, Some, None, IfSome}
+use Rattle.std.specs.Option.{option_map_or}
 use Rattle.blk_bio.specs.Bios.{Bio, IsBio}
 use Rattle.blk_bio.specs.Limits.{Limits}
 use Rattle.blk_bio.specs.Requests.{Fits}
@@ -9,7 +10,10 @@ use Rattle.blk_trace.specs.declared.trace.TheConstants.{MAX_EVENTS}
 use Rattle.blk_bio.specs.declared.rule.TraceRule.{TraceRule}
 use Rattle.blk_trace.specs.declared.rule.PushFault.{PushFault}
 use Rattle.blk_trace.specs.declared.rule.PushFault.TheVariants as push_fault
-use Rattle.blk_trace.specs.Happened.{Happened, Ticked, Released, Joined, Issued, Finished, Returned, DepthSet}
+use Rattle.blk_trace.specs.declared.event.Event.{Event}
+use Rattle.blk_trace.specs.Kinds.{enters, bare}
+use Rattle.blk_trace.specs.Happened.{Happened}
+use Rattle.blk_trace.specs.declared.event.Event.TheVariants.{Tick, Release, Join, Issue, Done, Back, Depth}
 use Rattle.blk_trace.specs.Rules.{IsFirstBroken, IsUnbroken}
 use Rattle.blk_trace.specs.Setups.{Setup}
 use Rattle.blk_trace.specs.Traces.{Traced}
@@ -20,11 +24,17 @@ use Rattle.blk_lists.specs.Tables.{Cell, Blank, Number, FitsCells, IsVersion, ti
 use Rattle.blk_text.specs.BioTable.{bio_cells, IsNoSuchBio}
 use Rattle.blk_text.specs.SetupRecord.{setup}
 use Rattle.blk_text.specs.Versions.{latest, most_tags}
+<<<<<<< HEAD
 use Rattle.blk_lists.specs.declared.fields.TheConstants.{TAG_LIMIT}
 use Rattle.blk_lists.specs.declared.fault.Why.{Why}
 use Rattle.blk_lists.specs.declared.fault.Why.TheVariants as why
 use Rattle.blk_text.specs.declared.heads.Head.{Head}
 use Rattle.blk_text.specs.declared.heads.Head.TheVariants as head
+=======
+use Rattle.blk_text.specs.declared.fields.TheConstants.{TAG_LIMIT}
+use Rattle.blk_text.specs.declared.fault.Why.{Why}
+use Rattle.blk_text.specs.declared.fault.Why.TheVariants as why
+>>>>>>> events-b
 use Rattle.blk_text.specs.declared.heads.EventWord.{EventWord}
 use Rattle.blk_text.specs.declared.heads.EventWord.TheVariants as word
 use Rattle.blk_text.specs.declared.heads.TraceTitle.{TraceTitle}
@@ -88,15 +98,19 @@ head_cells word.Done = Number 0 (TAG_LIMIT - 1) (λ t. t) ∷ Blank ∷ Blank �
 head_cells word.Back = Number 0 (TAG_LIMIT - 1) (λ t. t) ∷ Blank ∷ Blank ∷ Blank ∷ Blank ∷ []
 head_cells word.Depth = any (λ d. d) ∷ Blank ∷ Blank ∷ Blank ∷ Blank ∷ []
 
+-- the first record of an event tells it with the number of its bios in place of these
+abbrev pub Head : Type 0
+Head = Event ℕ
+
 -- the kind of a first record, and what it says
 abbrev pub said : Head → (k : EventWord) × Says k
-said head.Tick = (word.Tick, tt)
-said (head.Release id bios) = (word.Release, (id, bios))
-said (head.Join id bios) = (word.Join, (id, bios))
-said (head.Issue id tag) = (word.Issue, (id, tag))
-said (head.Done tag) = (word.Done, tag)
-said (head.Back tag) = (word.Back, tag)
-said (head.Depth depth) = (word.Depth, depth)
+said Tick = (word.Tick, tt)
+said (Release id bios) = (word.Release, (id, bios))
+said (Join id bios) = (word.Join, (id, bios))
+said (Issue id tag) = (word.Issue, (id, tag))
+said (Done tag) = (word.Done, tag)
+said (Back tag) = (word.Back, tag)
+said (Depth depth) = (word.Depth, depth)
 
 -- the first record of an event
 abbrev pub first_record : ℕ → Part Row Why Head
@@ -136,13 +150,7 @@ gathered_bios (Some bios) = bios
 
 -- how many bios follow a first record
 abbrev pub bios_after : Head → ℕ
-bios_after head.Tick = 0
-bios_after (head.Release id bios) = bios
-bios_after (head.Join id bios) = bios
-bios_after (head.Issue id tag) = 0
-bios_after (head.Done tag) = 0
-bios_after (head.Back tag) = 0
-bios_after (head.Depth depth) = 0
+bios_after h = option_map_or (λ p. p.1) (enters h) 0
 
 -- so many bios of a group
 abbrev pub group : ℕ → Limits → ℕ → Part Row Why (List Bio)
@@ -150,13 +158,13 @@ group version limits count = many (repeats.Exactly count) (group_bio version lim
 
 -- the first record of an event, and its bios
 abbrev pub event_told : Happened → Head × List Bio
-event_told Ticked = (head.Tick, [])
-event_told (Released id bios) = (head.Release id (length bios), bios)
-event_told (Joined id bios) = (head.Join id (length bios), bios)
-event_told (Issued id tag) = (head.Issue id tag, [])
-event_told (Finished tag) = (head.Done tag, [])
-event_told (Returned tag) = (head.Back tag, [])
-event_told (DepthSet depth) = (head.Depth depth, [])
+event_told Tick = (Tick, [])
+event_told (Release id bios) = (Release id (length bios), bios)
+event_told (Join id bios) = (Join id (length bios), bios)
+event_told (Issue id tag) = (Issue id tag, [])
+event_told (Done tag) = (Done tag, [])
+event_told (Back tag) = (Back tag, [])
+event_told (Depth depth) = (Depth depth, [])
 
 -- an event by its records
 abbrev pub plain_event : ℕ → Limits → Part Row Why Happened
@@ -181,13 +189,7 @@ event version setup before = tested (plain_event version setup.limits) (IsUnbrok
 
 -- the event of a first record that no bios follow
 abbrev pub alone : Head → Option Happened
-alone head.Tick = Some Ticked
-alone (head.Release id bios) = None
-alone (head.Join id bios) = None
-alone (head.Issue id tag) = Some (Issued id tag)
-alone (head.Done tag) = Some (Finished tag)
-alone (head.Back tag) = Some (Returned tag)
-alone (head.Depth depth) = Some (DepthSet depth)
+alone h = bare h
 
 -- one event more than announced: its rules are looked for where it has one record, and no bio of it is looked at
 abbrev pub one_more : ℕ → Setup → List Happened → Part Row Why Head

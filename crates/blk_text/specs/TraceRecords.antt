@@ -4,7 +4,8 @@ use Rattle.std.specs.List.{flat_map}
 use Rattle.blk_bio.specs.Bios.{Bio, IsBio}
 use Rattle.blk_bio.specs.declared.limits.TheConstants.{MAX_SEGMENTS}
 use Rattle.blk_trace.specs.Setups.{Setup}
-use Rattle.blk_trace.specs.Happened.{Happened, Ticked, Released, Joined, Issued, Finished, Returned, DepthSet}
+use Rattle.blk_trace.specs.Happened.{Happened}
+use Rattle.blk_trace.specs.declared.event.Event.TheVariants.{Tick, Release, Join, Issue, Done, Back, Depth}
 use Rattle.blk_trace.specs.Traces.{Traced}
 use Rattle.blk_trace.specs.Legal.{IsLegalTrace}
 use Rattle.blk_lists.specs.Sources.{Row}
@@ -23,13 +24,13 @@ group_rows word id bios = word_row word (decimal id) (decimal (length bios)) ∷
 
 -- the records of an event
 abbrev pub event_rows : Happened → List Row
-event_rows Ticked = word_row (codes "tick") [] [] ∷ []
-event_rows (Released id bios) = group_rows (codes "release") id bios
-event_rows (Joined id bios) = group_rows (codes "join") id bios
-event_rows (Issued id tag) = word_row (codes "issue") (decimal id) (decimal tag) ∷ []
-event_rows (Finished tag) = word_row (codes "done") (decimal tag) [] ∷ []
-event_rows (Returned tag) = word_row (codes "back") (decimal tag) [] ∷ []
-event_rows (DepthSet depth) = word_row (codes "depth") (decimal depth) [] ∷ []
+event_rows Tick = word_row (codes "tick") [] [] ∷ []
+event_rows (Release id bios) = group_rows (codes "release") id bios
+event_rows (Join id bios) = group_rows (codes "join") id bios
+event_rows (Issue id tag) = word_row (codes "issue") (decimal id) (decimal tag) ∷ []
+event_rows (Done tag) = word_row (codes "done") (decimal tag) [] ∷ []
+event_rows (Back tag) = word_row (codes "back") (decimal tag) [] ∷ []
+event_rows (Depth depth) = word_row (codes "depth") (decimal depth) [] ∷ []
 
 -- title: blk-trace, the latest version, depth, hardware queues, number of events, empty
 abbrev pub title_row : Setup → ℕ → Row
@@ -49,13 +50,13 @@ GroupFits id bios = (id < 2 ^ 64) × (1 ≤ length bios) × (length bios ≤ MAX
 
 -- the numbers of an event lie in their ranges
 abbrev pub EventFits : Happened → Type 0
-EventFits Ticked = Unit {0}
-EventFits (Released id bios) = GroupFits id bios
-EventFits (Joined id bios) = GroupFits id bios
-EventFits (Issued id tag) = (id < 2 ^ 64) × (tag < TAG_LIMIT)
-EventFits (Finished tag) = tag < TAG_LIMIT
-EventFits (Returned tag) = tag < TAG_LIMIT
-EventFits (DepthSet depth) = depth < 2 ^ 64
+EventFits Tick = Unit {0}
+EventFits (Release id bios) = GroupFits id bios
+EventFits (Join id bios) = GroupFits id bios
+EventFits (Issue id tag) = (id < 2 ^ 64) × (tag < TAG_LIMIT)
+EventFits (Done tag) = tag < TAG_LIMIT
+EventFits (Back tag) = tag < TAG_LIMIT
+EventFits (Depth depth) = depth < 2 ^ 64
 
 -- a trace is legal, and its numbers lie in their ranges
 pub record IsTrace (t : Traced) : Type 0 where

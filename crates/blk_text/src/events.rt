@@ -1,43 +1,42 @@
 //! The events of a trace, each looked at after those before it.
 
-ghost use Rattle.std.specs.Prelude.{◌≡◌, ◌⊎◌, ◌∷◌, ◌++◌, ◌≤◌, ◌<◌, ◌^◌, ◌-◌, ◌+◌, ◌*◌, ℕ, List, [], length, OnOk, IfOk, IfErr, IfSome, option_map};
+ghost use Rattle.std.specs.Prelude.{◌≡◌, ◌⊎◌, ◌∷◌, ◌++◌, ◌≤◌, ◌<◌, ◌^◌, ◌-◌, ◌+◌, ◌*◌, ℕ, [], length, OnOk, IfOk, IfErr, IfSome};
 ghost use Rattle.csv.specs.Records.{fields_of};
 ghost use Rattle.blk_trace.specs.Rules.{IsUnbroken};
-ghost use Rattle.blk_trace.specs.Seen.{happened};
 ghost use Rattle.parts.specs.declared.Repeats.TheVariants as repeats;
 ghost use Rattle.parts.specs.Parts.{Begins};
+<<<<<<< HEAD
 ghost use Rattle.blk_lists.specs.Sources.{Row};
 ghost use Rattle.blk_lists.specs.Reads.{HandReads, HandFails, Fails, IsOutside, AreItems, IsStopped, IsHeldAt, size_of};
 ghost use Rattle.blk_text.specs.TraceForm.{alone as alone_of, refusal_of, IsRefused, plain_event, event as event_part, IsPast, events_of, trace_form, SpellsTrace, TraceFault};
+=======
+ghost use Rattle.blk_text.specs.Sources.{Row};
+ghost use Rattle.blk_text.specs.Reads.{HandReads, HandFails, Fails, IsOutside, AreItems, IsStopped, IsHeldAt, size_of};
+ghost use Rattle.blk_text.specs.TraceForm.{refusal_of, IsRefused, plain_event, event as event_part, IsPast, events_of, trace_form, SpellsTrace, TraceFault};
+>>>>>>> events-b
 ghost use Rattle.blk_text.specs.TraceRecords.{IsTrace, trace_rows};
 
 use blk_lists::fault::{TextFault, Why};
 use blk_lists::fields::{Slot, read_fields, version_of};
 use crate::groups::read_group;
+<<<<<<< HEAD
 use crate::heads::{Head, HeadForm, TraceTitle};
 use blk_lists::items::{ItemForm, LineForm, gather, read_line};
 use crate::setup::{LATEST, SetupForm, most_tags};
 use blk_lists::source::Records;
 use blk_bio::{Limits, MAX_QUEUES, MAX_SEGMENTS};
+=======
+use crate::heads::{HeadForm, TraceTitle};
+use crate::items::{ItemForm, LineForm, gather, read_line};
+use crate::setup::{LATEST, SetupForm, most_tags};
+use crate::source::Records;
+use blk_bio::{Limits, MAX_QUEUES, MAX_SEGMENTS, Request};
+>>>>>>> events-b
 use blk_trace::{Event, MAX_EVENTS, PushFault, Setup, Trace};
 use csv::ByteRecord;
 use parts::Repeats;
 use std::alloc::Global;
 use std::io::Read;
-
-/// The event of a first record that no bios follow.
-fn alone(head: Head) -> Option<Event>
-    ensures { option_map happened result ≡ alone_of head }
-{
-    match head {
-        Head::Tick => Some(Event::Tick),
-        Head::Release { .. } | Head::Join { .. } => None,
-        Head::Issue { id, tag } => Some(Event::Issue { id, tag }),
-        Head::Done(tag) => Some(Event::Done { tag }),
-        Head::Back(tag) => Some(Event::Back { tag }),
-        Head::Depth(depth) => Some(Event::Depth { depth }),
-    }
-}
 
 /// The event of the record that was read last and those of the bios after it.
 fn read_event<R: Read + Drop>(
@@ -45,11 +44,11 @@ fn read_event<R: Read + Drop>(
     records: &mut Records<R>,
     form: HeadForm,
     limits: Limits,
-) -> Result<Event, TextFault>
+) -> Result<Event<Request>, TextFault>
     requires { records.old.at + MAX_SEGMENTS < 2 ^ 64 - 1 }
-    ensures ok { IfOk result (λ e. HandReads (plain_event form.version limits) records.old.left records.old.fields records.new.left (happened e)) }
-    ensures fits { IfOk result (λ e. (plain_event form.version limits).Fits (happened e)) }
-    ensures end { IfOk result (λ e. records.new.at + 1 ≡ records.old.at + length ((plain_event form.version limits).rows_of (happened e))) }
+    ensures ok { IfOk result (λ e. HandReads (plain_event form.version limits) records.old.left records.old.fields records.new.left e) }
+    ensures fits { IfOk result (λ e. (plain_event form.version limits).Fits e) }
+    ensures end { IfOk result (λ e. records.new.at + 1 ≡ records.old.at + length ((plain_event form.version limits).rows_of e)) }
     ensures err { IfErr result (λ f. HandFails records.new.failed (plain_event form.version limits) records.old.left records.old.fields records.old.at f.at f.why) }
     ensures last { IfErr result (λ f. (records.old.at ≤ f.at) × (f.at ≤ records.new.at)) }
     ensures reads { (records.old.at ≤ records.new.at) × (records.new.at ≤ records.old.at + MAX_SEGMENTS) }
@@ -58,15 +57,17 @@ fn read_event<R: Read + Drop>(
         Ok(head) => head,
         Err(why) => return Err(records.fault(why)),
     };
-    if let Some(event) = alone(head) {
+    if let Some(event) = head.bare() {
         return Ok(event);
     }
     match head {
-        Head::Release { id, bios } => match read_group(alloc, records, form, limits, bios) {
+        Event::Release { id, request: bios } => match read_group(
+            alloc, records, form, limits, bios,
+        ) {
             Ok(request) => Ok(Event::Release { id, request }),
             Err(fault) => Err(fault),
         },
-        Head::Join { id, bios } => match read_group(alloc, records, form, limits, bios) {
+        Event::Join { id, request: bios } => match read_group(alloc, records, form, limits, bios) {
             Ok(request) => Ok(Event::Join { id, request }),
             Err(fault) => Err(fault),
         },
@@ -85,9 +86,9 @@ fn refusal(fault: PushFault) -> Why
 }
 
 /// Adds an event to a trace, where it breaks no rule: else the first that it breaks.
-fn add(trace: &mut Trace, event: Event) -> Result<(), Why>
-    ensures ok { OnOk result ((trace.new.setup ≡ trace.old.setup) × (trace.new.events ≡ trace.old.events ++ happened event ∷ []) × IsUnbroken trace.old.setup trace.old.events (happened event)) }
-    ensures err { IfErr result (IsRefused trace.old.setup trace.old.events (happened event)) }
+fn add(trace: &mut Trace, event: Event<Request>) -> Result<(), Why>
+    ensures ok { OnOk result ((trace.new.setup ≡ trace.old.setup) × (trace.new.events ≡ trace.old.events ++ event ∷ []) × IsUnbroken trace.old.setup trace.old.events event) }
+    ensures err { IfErr result (IsRefused trace.old.setup trace.old.events event) }
 {
     let Err((refused, fault)) = trace.push(event) else {
         return Ok(());
@@ -156,7 +157,7 @@ fn past_fault(form: &EventForm, row: &ByteRecord, trace: &mut Trace) -> Why
         Ok(head) => head,
         Err(why) => return why,
     };
-    let event = match alone(head) {
+    let event = match head.bare() {
         Some(event) => event,
         None => return Why::Count,
     };

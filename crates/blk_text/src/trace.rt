@@ -1,10 +1,14 @@
 //! Traces.
 
-ghost use Rattle.std.specs.Prelude.{◌≡◌, ◌⊎◌, ◌++◌, ◌∷◌, ◌≤◌, [], All, OnOk, IfOk, IfErr, map, decimal, length, codes};
+ghost use Rattle.std.specs.Prelude.{◌≡◌, ◌⊎◌, ◌++◌, ◌∷◌, ◌≤◌, [], All, OnOk, IfOk, IfErr, decimal, length, codes};
 ghost use Rattle.std.specs.Io.KnownBytes.{Appends};
 ghost use Rattle.blk_trace.specs.Events.{bios_of};
+<<<<<<< HEAD
 ghost use Rattle.blk_trace.specs.Seen.{happened};
 ghost use Rattle.blk_lists.specs.Texts.{rows_text};
+=======
+ghost use Rattle.blk_text.specs.Texts.{rows_text};
+>>>>>>> events-b
 ghost use Rattle.drafts.specs.Parts.{AppendsPart};
 ghost use Rattle.blk_text.specs.BioRecord.{bio_row};
 ghost use Rattle.blk_lists.specs.Cells.{IsPlainWord};
@@ -15,7 +19,7 @@ ghost use Rattle.blk_text.specs.TraceForm.{SpellsTrace, SpellsTraceIn};
 ghost use Rattle.blk_text.specs.Versions.{latest};
 
 use crate::setup::LATEST;
-use blk_bio::{Bio, MAX_SEGMENTS};
+use blk_bio::{Bio, MAX_SEGMENTS, Request};
 use blk_trace::{Event, Setup, Trace};
 use drafts::pieces::{put, put_number, put_two};
 use drafts::{Block, WriteFault, write_whole};
@@ -54,41 +58,17 @@ fn push_numbers(draft: &mut Block, word: &[u8], first: u64, second: u64) -> Resu
     Ok(())
 }
 
-/// Adds the record of a completion.
-#[inline]
-fn push_done(draft: &mut Block, tag: u16) -> Result<(), AllocError>
-    ensures text { OnOk result (drafted draft.new ≡ drafted draft.old ++ rows_text (word_row (codes "done") (decimal tag) [] ∷ [])) }
+/// Adds a record of a word and a number.
+#[inline(always)]
+fn push_number(draft: &mut Block, word: &[u8], number: u64) -> Result<(), AllocError>
+    requires { IsPlainWord word.now }
+    ensures text { OnOk result (drafted draft.new ≡ drafted draft.old ++ rows_text (word_row word.now (decimal number) [] ∷ [])) }
 {
     let start = draft.room()?;
     let buf = &mut draft.block;
-    let head = put(b"done,", buf, start);
-    let end = put_number(tag as u64, buf, head);
-    draft.at = put(b",,,,\n", buf, end);
-    Ok(())
-}
-
-/// Adds the record of a request that is handed back.
-#[inline]
-fn push_back(draft: &mut Block, tag: u16) -> Result<(), AllocError>
-    ensures text { OnOk result (drafted draft.new ≡ drafted draft.old ++ rows_text (word_row (codes "back") (decimal tag) [] ∷ [])) }
-{
-    let start = draft.room()?;
-    let buf = &mut draft.block;
-    let head = put(b"back,", buf, start);
-    let end = put_number(tag as u64, buf, head);
-    draft.at = put(b",,,,\n", buf, end);
-    Ok(())
-}
-
-/// Adds the record of a depth that is set.
-#[inline]
-fn push_depth(draft: &mut Block, depth: u64) -> Result<(), AllocError>
-    ensures text { OnOk result (drafted draft.new ≡ drafted draft.old ++ rows_text (word_row (codes "depth") (decimal depth) [] ∷ [])) }
-{
-    let start = draft.room()?;
-    let buf = &mut draft.block;
-    let head = put(b"depth,", buf, start);
-    let end = put_number(depth, buf, head);
+    let head = put(word, buf, start);
+    let mark = put(b",", buf, head);
+    let end = put_number(number, buf, mark);
     draft.at = put(b",,,,\n", buf, end);
     Ok(())
 }
@@ -118,19 +98,22 @@ fn push_group(draft: &mut Block, word: &[u8], id: u64, bios: &[Bio]) -> Result<(
 }
 
 /// Adds the records of an event.
-fn push_event<A: Allocator + Clone>(draft: &mut Block, event: &Event<A>) -> Result<(), AllocError>
-    requires { length (bios_of (happened event.now)) ≤ MAX_SEGMENTS }
-    ensures text { OnOk result (drafted draft.new ≡ drafted draft.old ++ rows_text (event_rows (happened event.now))) }
-    ensures fits { OnOk result (EventFits (happened event.now)) }
+fn push_event<A: Allocator + Clone>(
+    draft: &mut Block,
+    event: &Event<Request<A>>,
+) -> Result<(), AllocError>
+    requires { length (bios_of event.now) ≤ MAX_SEGMENTS }
+    ensures text { OnOk result (drafted draft.new ≡ drafted draft.old ++ rows_text (event_rows event.now)) }
+    ensures fits { OnOk result (EventFits event.now) }
 {
     match event {
         Event::Tick => push_tick(draft),
         Event::Release { id, request } => push_group(draft, b"release", *id, request.bios()),
         Event::Join { id, request } => push_group(draft, b"join", *id, request.bios()),
         Event::Issue { id, tag } => push_numbers(draft, b"issue", *id, *tag as u64),
-        Event::Done { tag } => push_done(draft, *tag),
-        Event::Back { tag } => push_back(draft, *tag),
-        Event::Depth { depth } => push_depth(draft, *depth),
+        Event::Done { tag } => push_number(draft, b"done", *tag as u64),
+        Event::Back { tag } => push_number(draft, b"back", *tag as u64),
+        Event::Depth { depth } => push_number(draft, b"depth", *depth),
     }
 }
 

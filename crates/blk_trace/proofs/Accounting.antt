@@ -8,8 +8,13 @@ use Rattle.std.proofs.lemmas.List.Sorted.{IsPermutation-refl, IsPermutation-sym,
 use Rattle.std.proofs.lemmas.Bool.{cases_Bool, or_right, or_left, or_cases, cond_both, not_from_false, both_ways}
 use Rattle.blk_bio.specs.Bios.{Bio}
 use Rattle.blk_bio.specs.Requests.{first_of, last_of}
+<<<<<<< HEAD
 use Rattle.blk_bio.specs.declared.rule.TraceRule.TheVariants.{ReleasedTwice, Unknown, AlreadyIssued, NotIssued}
 use Rattle.blk_trace.specs.Happened.{Happened, Released, Joined, Issued, Returned}
+=======
+use Rattle.blk_trace.specs.declared.rule.TraceRule.TheVariants.{ReleasedTwice, Unknown, AlreadyIssued, NotIssued}
+use Rattle.blk_trace.specs.Happened.{Happened, Release, Join, Issue, Back}
+>>>>>>> events-b
 use Rattle.blk_trace.specs.Kinds.{issues, hands_back}
 use Rattle.blk_trace.specs.Setups.{Setup}
 use Rattle.blk_trace.specs.Events.{join_up, request_of, entered, bios_of, IsReleased, IsOpen, IsOpenBy}
@@ -200,10 +205,10 @@ quiet setup es e a b n c r ih =
 issued_parts : (setup : Setup) (es : List Happened) (e : Happened) → IsLegalTrace setup es → IsUnbroken setup es e → flat_map (request_of (es ++ e ∷ [])) (issued_ids es) ≡ flat_map (request_of es) (issued_ids es)
 issued_parts setup es e old all = parts_same (request_of (es ++ e ∷ [])) (request_of es) (issued_ids es) (λ x h. (same_entered setup es e x (stays_out setup es e x old all (has_issued es x h))).request)
 
-on_released : (setup : Setup) (es : List Happened) (i : ℕ) (q : List Bio) → IsLegalTrace setup es → IsUnbroken setup es (Released i q) → IsPermutation (all_of es) (entered es) → IsPermutation (all_of (es ++ Released i q ∷ [])) (entered (es ++ Released i q ∷ []))
+on_released : (setup : Setup) (es : List Happened) (i : ℕ) (q : List Bio) → IsLegalTrace setup es → IsUnbroken setup es (Release i q) → IsPermutation (all_of es) (entered es) → IsPermutation (all_of (es ++ Release i q ∷ [])) (entered (es ++ Release i q ∷ []))
 unfolding waiting released_ids issued_ids
 on_released setup es i q old all ih =
-    let e : Happened = Released i q in
+    let e : Happened = Release i q in
     let fs : List Happened = es ++ e ∷ [] in
     let f : ℕ → List Bio = request_of fs in
     let g : ℕ → List Bio = request_of es in
@@ -224,10 +229,10 @@ on_released setup es i q old all ih =
     ap (λ l. flat_map f l ++ flat_map f (waiting fs)) issued ∙ ap (λ l. flat_map f (issued_ids es) ++ flat_map f l) waits ∙ ap (λ l. l ++ flat_map f (waiting es ++ i ∷ [])) (issued_parts setup es e old all) ∙ ap (λ l. flat_map g (issued_ids es) ++ l) last ∙ sym (append_assoc (flat_map g (issued_ids es)) (flat_map g (waiting es)) q) in
     subst (λ l. IsPermutation l (entered fs)) (sym is) (subst (IsPermutation (all_of es ++ q)) (sym (entered_more es e)) (IsPermutation-append_left q (all_of es) (entered es) ih))
 
-on_joined : (setup : Setup) (es : List Happened) (i : ℕ) (q : List Bio) → IsLegalTrace setup es → IsUnbroken setup es (Joined i q) → IsPermutation (all_of es) (entered es) → IsPermutation (all_of (es ++ Joined i q ∷ [])) (entered (es ++ Joined i q ∷ []))
+on_joined : (setup : Setup) (es : List Happened) (i : ℕ) (q : List Bio) → IsLegalTrace setup es → IsUnbroken setup es (Join i q) → IsPermutation (all_of es) (entered es) → IsPermutation (all_of (es ++ Join i q ∷ [])) (entered (es ++ Join i q ∷ []))
 unfolding waiting released_ids issued_ids
 on_joined setup es i q old all ih =
-    let e : Happened = Joined i q in
+    let e : Happened = Join i q in
     let fs : List Happened = es ++ e ∷ [] in
     let f : ℕ → List Bio = request_of fs in
     let g : ℕ → List Bio = request_of es in
@@ -247,10 +252,10 @@ on_joined setup es i q old all ih =
     trans _ (flat_map g (issued_ids es) ++ (flat_map g (waiting es) ++ q)) _ (IsPermutation-append_right (flat_map g (issued_ids es)) (flat_map f (waiting es)) (flat_map g (waiting es) ++ q) more) (same _ _ (sym (append_assoc (flat_map g (issued_ids es)) (flat_map g (waiting es)) q))) in
     subst (λ l. IsPermutation l (entered fs)) (sym is) (subst (IsPermutation (flat_map g (issued_ids es) ++ flat_map f (waiting es))) (sym (entered_more es e)) (trans _ (all_of es ++ q) _ moved (IsPermutation-append_left q (all_of es) (entered es) ih)))
 
-on_issued : (setup : Setup) (es : List Happened) (i t : ℕ) → IsLegalTrace setup es → IsUnbroken setup es (Issued i t) → IsPermutation (all_of es) (entered es) → IsPermutation (all_of (es ++ Issued i t ∷ [])) (entered (es ++ Issued i t ∷ []))
+on_issued : (setup : Setup) (es : List Happened) (i t : ℕ) → IsLegalTrace setup es → IsUnbroken setup es (Issue i t) → IsPermutation (all_of es) (entered es) → IsPermutation (all_of (es ++ Issue i t ∷ [])) (entered (es ++ Issue i t ∷ []))
 unfolding waiting released_ids issued_ids
 on_issued setup es i t old all ih =
-    let e : Happened = Issued i t in
+    let e : Happened = Issue i t in
     let fs : List Happened = es ++ e ∷ [] in
     let f : ℕ → List Bio = request_of fs in
     let g : ℕ → List Bio = request_of es in
@@ -290,10 +295,10 @@ moved f i xs ys ws vs h =
     (trans _ (flat_map f xs ++ (flat_map f ys ++ (f i ++ flat_map f ws))) _ (same _ _ (append_assoc (flat_map f xs) (flat_map f ys) (f i ++ flat_map f ws)))
     (trans _ (flat_map f xs ++ ((f i ++ flat_map f ys) ++ flat_map f ws)) _ (IsPermutation-append_right (flat_map f xs) (flat_map f ys ++ (f i ++ flat_map f ws)) ((f i ++ flat_map f ys) ++ flat_map f ws) swap) (same _ _ (sym (append_assoc (flat_map f xs) (f i ++ flat_map f ys) (flat_map f ws)))))))
 
-on_returned : (setup : Setup) (es : List Happened) (t : ℕ) → IsLegalTrace setup es → IsUnbroken setup es (Returned t) → IsPermutation (all_of es) (entered es) → IsPermutation (all_of (es ++ Returned t ∷ [])) (entered (es ++ Returned t ∷ []))
+on_returned : (setup : Setup) (es : List Happened) (t : ℕ) → IsLegalTrace setup es → IsUnbroken setup es (Back t) → IsPermutation (all_of es) (entered es) → IsPermutation (all_of (es ++ Back t ∷ [])) (entered (es ++ Back t ∷ []))
 unfolding waiting released_ids
 on_returned setup es t old all ih =
-    let e : Happened = Returned t in
+    let e : Happened = Back t in
     let fs : List Happened = es ++ e ∷ [] in
     let o : IsOpen es t = all NotIssued in
     let by : IsOpenBy es t o.id = open_by es t o in
@@ -322,10 +327,10 @@ on_returned setup es t old all ih =
 
 account_step : (setup : Setup) (es : List Happened) (e : Happened) → IsLegalTrace setup es → IsUnbroken setup es e → IsPermutation (all_of es) (entered es) → IsPermutation (all_of (es ++ e ∷ [])) (entered (es ++ e ∷ []))
 unfolding released_ids issued_ids
-account_step setup es (Released i q) old all ih = on_released setup es i q old all ih
-account_step setup es (Joined i q) old all ih = on_joined setup es i q old all ih
-account_step setup es (Issued i t) old all ih = on_issued setup es i t old all ih
-account_step setup es (Returned t) old all ih = on_returned setup es t old all ih
+account_step setup es (Release i q) old all ih = on_released setup es i q old all ih
+account_step setup es (Join i q) old all ih = on_joined setup es i q old all ih
+account_step setup es (Issue i t) old all ih = on_issued setup es i t old all ih
+account_step setup es (Back t) old all ih = on_returned setup es t old all ih
 account_step setup es e old all ih = quiet setup es e refl refl refl refl (λ x. (same_entered setup es e x refl).request) ih
 
 accounts : (setup : Setup) (es : List Happened) → IsLegalTrace setup es → IsPermutation (all_of es) (entered es)

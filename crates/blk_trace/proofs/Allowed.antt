@@ -4,7 +4,7 @@ use Rattle.std.proofs.lemmas.Bool.{both_ways}
 use Rattle.blk_bio.specs.Requests.{Fits}
 use Rattle.blk_bio.specs.declared.rule.TraceRule.TheVariants.{ReleasedTwice, Unknown, AlreadyIssued, BioTwice, Fit, TagRange, TagUsed, NotIssued, InFlight, TooLong, DepthRange}
 use Rattle.blk_trace.specs.declared.trace.TheConstants.{MAX_EVENTS}
-use Rattle.blk_trace.specs.Happened.{Happened, Ticked, Released, Joined, Issued, DepthSet}
+use Rattle.blk_trace.specs.Happened.{Happened, Tick, Release, Join, Issue, Depth}
 use Rattle.blk_trace.specs.Kinds.{issues, ends}
 use Rattle.blk_trace.specs.Setups.{Setup}
 use Rattle.blk_trace.specs.Events.{open_count, IsIssued, IsOpen}
@@ -47,20 +47,20 @@ enough setup events e (Some tag) end i legal allowed room =
     room_end setup events e tag end legal (seat_open setup events tag may.0 legal may.1)
 
 pub allowed-unbroken : (setup : Setup) (events : List Happened) (e : Happened) → IsLegalTrace setup events → IsAllowed setup events e → length events + open_count events + places_of e ≤ MAX_EVENTS → IsUnbroken setup events e
-allowed-unbroken setup events (Released id bios) legal allowed room ReleasedTwice = allowed.0
-allowed-unbroken setup events (Joined id bios) legal allowed room Unknown = has_released events id (joinable setup events id allowed.0 allowed.2).released
-allowed-unbroken setup events (Issued id tag) legal allowed room Unknown = has_released events id (waiting_from setup events id allowed.0 allowed.1).released
-allowed-unbroken setup events (Joined id bios) legal allowed room AlreadyIssued = unissued setup events id allowed.0 allowed.2
-allowed-unbroken setup events (Issued id tag) legal allowed room AlreadyIssued = back_all events id (waiting_from setup events id allowed.0 allowed.1).unissued
-allowed-unbroken setup events (Released id bios) legal allowed room BioTwice = allowed.2
-allowed-unbroken setup events (Joined id bios) legal allowed room BioTwice = allowed.4
-allowed-unbroken setup events (Released id bios) legal allowed room Fit = allowed.1
-allowed-unbroken setup events (Joined id bios) legal allowed room Fit = (allowed.1, subst (λ l. Fits setup.limits l bios allowed.1) (joinable setup events id allowed.0 allowed.2).bios_is allowed.3)
-allowed-unbroken setup events (Issued id tag) legal allowed room TagRange = allowed.2
-allowed-unbroken setup events (Issued id tag) legal allowed room TagUsed = seat_unused events tag allowed.3
+allowed-unbroken setup events (Release id bios) legal allowed room ReleasedTwice = allowed.0
+allowed-unbroken setup events (Join id bios) legal allowed room Unknown = has_released events id (joinable setup events id allowed.0 allowed.2).released
+allowed-unbroken setup events (Issue id tag) legal allowed room Unknown = has_released events id (waiting_from setup events id allowed.0 allowed.1).released
+allowed-unbroken setup events (Join id bios) legal allowed room AlreadyIssued = unissued setup events id allowed.0 allowed.2
+allowed-unbroken setup events (Issue id tag) legal allowed room AlreadyIssued = back_all events id (waiting_from setup events id allowed.0 allowed.1).unissued
+allowed-unbroken setup events (Release id bios) legal allowed room BioTwice = allowed.2
+allowed-unbroken setup events (Join id bios) legal allowed room BioTwice = allowed.4
+allowed-unbroken setup events (Release id bios) legal allowed room Fit = allowed.1
+allowed-unbroken setup events (Join id bios) legal allowed room Fit = (allowed.1, subst (λ l. Fits setup.limits l bios allowed.1) (joinable setup events id allowed.0 allowed.2).bios_is allowed.3)
+allowed-unbroken setup events (Issue id tag) legal allowed room TagRange = allowed.2
+allowed-unbroken setup events (Issue id tag) legal allowed room TagUsed = seat_unused events tag allowed.3
 allowed-unbroken setup events e legal allowed room NotIssued = ends_open setup events e legal allowed
-allowed-unbroken setup events Ticked legal allowed room InFlight = λ tag o. absurd (omega (arith, allowed.0, allowed.1, open_positive setup events tag legal o, open-both setup events legal))
-allowed-unbroken setup events (Issued id tag) legal allowed room TooLong = room_issue setup events id tag legal room
+allowed-unbroken setup events Tick legal allowed room InFlight = λ tag o. absurd (omega (arith, allowed.0, allowed.1, open_positive setup events tag legal o, open-both setup events legal))
+allowed-unbroken setup events (Issue id tag) legal allowed room TooLong = room_issue setup events id tag legal room
 allowed-unbroken setup events e legal allowed room TooLong = enough setup events e (ends e) refl refl legal allowed room
-allowed-unbroken setup events (DepthSet depth) legal allowed room DepthRange = allowed
+allowed-unbroken setup events (Depth depth) legal allowed room DepthRange = allowed
 allowed-unbroken setup events e legal allowed room rule = tt

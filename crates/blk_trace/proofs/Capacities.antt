@@ -3,8 +3,13 @@ use Rattle.std.proofs.Common.{◌≡◌, ◌≤◌, ◌<◌, ◌+◌, ◌++◌, 
 use Rattle.std.specs.Prelude.{Option}
 use Rattle.std.proofs.lemmas.Bool.{cond-true, le-leb, cases_lt}
 use Rattle.edd_check.specs.Capacity.{depth_at}
+<<<<<<< HEAD
 use Rattle.blk_bio.specs.declared.rule.TraceRule.TheVariants.{DepthRange}
 use Rattle.blk_trace.specs.Happened.{Happened, Ticked, Issued, DepthSet}
+=======
+use Rattle.blk_trace.specs.declared.rule.TraceRule.TheVariants.{DepthRange}
+use Rattle.blk_trace.specs.Happened.{Happened, Tick, Issue, Depth}
+>>>>>>> events-b
 use Rattle.blk_trace.specs.Kinds.{sets_depth, is_tick}
 use Rattle.blk_trace.specs.Setups.{Setup}
 use Rattle.blk_trace.specs.Events.{At, round_of, round_at}
@@ -54,7 +59,7 @@ pub depth_some : (setup : Setup) (es : List Happened) (x : ℕ) → 0 < setup.de
 depth_some setup es x some legal = depth_all setup (λ n. 0 < n) some (λ d more few. more) es legal x
 
 -- an issued tag is one of the setup's
-pub tag_below : (setup : Setup) (es : List Happened) (k id tag : ℕ) → IsLegalTrace setup es → At es k (Issued id tag) → tag < setup.depth
+pub tag_below : (setup : Setup) (es : List Happened) (k id tag : ℕ) → IsLegalTrace setup es → At es k (Issue id tag) → tag < setup.depth
 tag_below setup es k id tag legal at = omega (arith, legal.tag_range k id tag at, depth_few setup es (round_at es k) legal)
 
 -- all rounds that have not begun have the depth of the next
@@ -97,43 +102,43 @@ depths_kept setup es zs e n m old h s hz = subst (λ l. HasDepths setup l n m) (
   next_is = old.next_is ∙ sym (ap (λ r. depth_in setup (es ++ e ∷ []) (r + 1)) (same_round es e h) ∙ depth_kept setup es e (round_of es + 1) s);
 }
 
-pub depths_ticked : (setup : Setup) (es zs : List Happened) (n m : ℕ) → HasDepths setup es n m → zs ≡ es ++ Ticked ∷ [] → HasDepths setup zs m m
+pub depths_ticked : (setup : Setup) (es zs : List Happened) (n m : ℕ) → HasDepths setup es n m → zs ≡ es ++ Tick ∷ [] → HasDepths setup zs m m
 depths_ticked setup es zs n m old hz =
-    let fs : List Happened = es ++ Ticked ∷ [] in
-    let up : round_of fs ≡ round_of es + 1 = round_more es Ticked in
-    let same : (x : ℕ) → depth_in setup fs x ≡ depth_in setup es x = λ x. depth_kept setup es Ticked x refl in
+    let fs : List Happened = es ++ Tick ∷ [] in
+    let up : round_of fs ≡ round_of es + 1 = round_more es Tick in
+    let same : (x : ℕ) → depth_in setup fs x ≡ depth_in setup es x = λ x. depth_kept setup es Tick x refl in
     subst (λ l. HasDepths setup l m m) (sym hz) record {
       now_is = old.next_is ∙ sym (depth_now_is setup fs ∙ same (round_of fs) ∙ ap (depth_in setup es) up);
       next_is = old.next_is ∙ sym (same (round_of fs + 1) ∙ depth_later setup es (round_of fs + 1) (omega (arith, up)));
     }
 
-pub depths_set : (setup : Setup) (es zs : List Happened) (n m d : ℕ) → HasDepths setup es n m → zs ≡ es ++ DepthSet d ∷ [] → HasDepths setup zs n d
+pub depths_set : (setup : Setup) (es zs : List Happened) (n m d : ℕ) → HasDepths setup es n m → zs ≡ es ++ Depth d ∷ [] → HasDepths setup zs n d
 depths_set setup es zs n m d old hz =
-    let fs : List Happened = es ++ DepthSet d ∷ [] in
+    let fs : List Happened = es ++ Depth d ∷ [] in
     subst (λ l. HasDepths setup l n d) (sym hz) record {
-      now_is = old.now_is ∙ sym (now_kept setup es (DepthSet d) refl);
-      next_is = sym (set_later setup es (DepthSet d) d (round_of fs + 1) refl (omega (arith, round_more es (DepthSet d))));
+      now_is = old.now_is ∙ sym (now_kept setup es (Depth d) refl);
+      next_is = sym (set_later setup es (Depth d) d (round_of fs + 1) refl (omega (arith, round_more es (Depth d))));
     }
 
 pub depths_same : (setup : Setup) (es zs : List Happened) (n m : ℕ) → HasDepths setup es n m → zs ≡ es → HasDepths setup zs n m
 depths_same setup es zs n m old hz = subst (λ l. HasDepths setup l n m) (sym hz) old
 
 -- only a Depth sets a depth
-depth_event : (e : Happened) (n : ℕ) → sets_depth e ≡ Some n → e ≡ DepthSet n
-depth_event (DepthSet m) n h = let same : m ≡ n = cc in ap DepthSet same
+depth_event : (e : Happened) (n : ℕ) → sets_depth e ≡ Some n → e ≡ Depth n
+depth_event (Depth m) n h = let same : m ≡ n = cc in ap Depth same
 depth_event e n h = absurd (cc)
 
 -- a round's depth, by places
 last_step : (setup : Setup) (l : List Happened) (e : Happened) → ((k d x : ℕ) → IsLastBefore l k d x → depth_in setup l x ≡ d) → (k d x : ℕ) → IsLastBefore (l ++ e ∷ []) k d x → depth_in setup (l ++ e ∷ []) x ≡ d
 last_step setup l e ih k d x is = by_set (sets_depth e) refl
   where
-    here : (n : ℕ) → sets_depth e ≡ Some n → At (l ++ e ∷ []) (length l) (DepthSet n)
+    here : (n : ℕ) → sets_depth e ≡ Some n → At (l ++ e ∷ []) (length l) (Depth n)
     here n s = last l e ∙ ap Some (depth_event e n s)
 
     there : round_at (l ++ e ∷ []) (length l) ≡ round_of l
     there = ap round_of (before_last l e (length l) refl)
 
-    was : At l k (DepthSet d) → IsLastBefore l k d x
+    was : At l k (Depth d) → IsLastBefore l k d x
     was at = record {
       stands = at;
       sooner = omega (arith, is.sooner, ap round_of (before l (e ∷ []) k _ at));

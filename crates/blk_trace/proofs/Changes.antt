@@ -1,6 +1,6 @@
 -- The steps of a trace's capacity.
-use Rattle.std.proofs.Common.{◌≡◌, ◌≢◌, ◌≤◌, ◌<◌, ◌+◌, ◌-◌, ◌++◌, ◌==◌, ℕ, zero, suc, List, [], ◌∷◌, length, get_or, set, refl, sym, ◌∙◌, ap, subst, arith, cond, nat_le, inl, inr, Bool, true, false, None, eqb-true, append-nil, map}
-use Rattle.std.specs.Prelude.{◌||◌, ⊤, is_some, option_map}
+use Rattle.std.proofs.Common.{◌≡◌, ◌≢◌, ◌≤◌, ◌<◌, ◌+◌, ◌-◌, ◌++◌, ◌==◌, ℕ, zero, suc, List, [], ◌∷◌, length, get_or, set, refl, sym, ◌∙◌, ap, subst, arith, cond, nat_le, inl, inr, Bool, true, false, Some, None, eqb-true, append-nil}
+use Rattle.std.specs.Prelude.{⊤, is_some, option_map}
 use Rattle.std.specs.List.{filter_map, cons_option, list_any}
 use Rattle.std.proofs.lemmas.Bool.{cases_Bool, eqb-false}
 use Rattle.edd_check.specs.declared.steps.Step.{Step}
@@ -8,7 +8,7 @@ use Rattle.edd_check.specs.declared.steps.CapacityFault.{CapacityFault}
 use Rattle.edd_check.specs.declared.steps.CapacityFault.TheVariants.{Start, Rising, Depth, Round}
 use Rattle.edd_check.specs.Limits.{most_depth, round_limit}
 use Rattle.edd_check.specs.Capacity.{depth_after, depth_at, fixed, IsStepAt, IsCapacity, IsFault}
-use Rattle.blk_trace.specs.Happened.{Happened, Ticked, DepthSet}
+use Rattle.blk_trace.specs.Happened.{Happened, Tick, Depth as DepthSet}
 use Rattle.blk_trace.specs.Kinds.{sets_depth, is_tick}
 use Rattle.blk_trace.specs.Setups.{Setup, IsSetup}
 use Rattle.blk_trace.specs.Events.{At, round_of}
@@ -18,6 +18,7 @@ use Rattle.blk_trace.specs.Legal.{IsLegalTrace}
 use Rattle.blk_trace.specs.Inside.Changing.{with_change}
 use Rattle.blk_trace.proofs.More.{round_more, round_cons, rounds_within}
 use Rattle.blk_trace.proofs.Depths.{changes_more}
+use Rattle.blk_trace.proofs.Words.{tick_is, depth_is}
 
 -- of two changes in one round the first has no effect
 after_both : (a b : Bool) (m n d : ℕ) → a ≡ b → cond a m (cond b d n) ≡ cond a m n
@@ -92,8 +93,8 @@ changes_follow r D (DepthSet d ∷ es) each most soon =
     let good : IsGood (step_after r d) = record { some = here.0; few = omega (arith, here.1, most); soon = omega arith } in
     let rest : Follow (r + 1) (filter_map change (timed r es)) = changes_follow r D es (λ k m h. each (suc k) m h) most (omega (arith, soon, round_cons (DepthSet d) es r)) in
     (omega arith, good, rest)
-changes_follow r D (Ticked ∷ es) each most soon =
-    follow_sooner (r + 1) (r + 1 + 1) (filter_map change (timed (r + 1) es)) (omega arith) (changes_follow (r + 1) D es (λ k m h. each (suc k) m h) most (omega (arith, soon, round_cons Ticked es r)))
+changes_follow r D (Tick ∷ es) each most soon =
+    follow_sooner (r + 1) (r + 1 + 1) (filter_map change (timed (r + 1) es)) (omega arith) (changes_follow (r + 1) D es (λ k m h. each (suc k) m h) most (omega (arith, soon, round_cons Tick es r)))
 changes_follow r D (e ∷ es) each most soon = changes_follow r D es (λ k m h. each (suc k) m h) most (omega (arith, soon, round_cons e es r))
 
 -- steps that rise are a capacity
@@ -231,7 +232,7 @@ changes_none : (r : ℕ) (es : List Happened) → IsFixed es → filter_map chan
 unfolding timed
 changes_none r [] none = refl
 changes_none r (DepthSet d ∷ es) none = absurd (none 0 d refl)
-changes_none r (Ticked ∷ es) none = changes_none (r + 1) es (λ k d h. none (suc k) d h)
+changes_none r (Tick ∷ es) none = changes_none (r + 1) es (λ k d h. none (suc k) d h)
 changes_none r (e ∷ es) none = changes_none r es (λ k d h. none (suc k) d h)
 
 pub capacity_fixed : (setup : Setup) (es : List Happened) → IsFixed es → capacity_of setup es ≡ fixed setup.depth
@@ -251,10 +252,6 @@ fixed_none [] none = refl
 fixed_none (DepthSet d ∷ es) none = absurd (none 0 d refl)
 fixed_none (e ∷ es) none = fixed_none es (λ k d h. none (suc k) d h)
 
-pub any_mapped : {X : Type 0} (f : X → Happened) (xs : List X) → list_any (λ x. is_some (sets_depth (f x))) xs ≡ list_any (λ e. is_some (sets_depth e)) (map f xs)
-any_mapped f [] = refl
-any_mapped f (x ∷ xs) = ap (λ b. is_some (sets_depth (f x)) || b) (any_mapped f xs)
-
 -- the steps and the round after some events
 pub record IsReached (setup : Setup) (es : List Happened) (steps : List Step) (round : ℕ) : Type 0 where
   pub steps_are : steps ≡ capacity_of setup es
@@ -267,14 +264,14 @@ reached_start setup steps depth h is = record {
   round_is = refl;
 }
 
-pub reached_tick : (setup : Setup) (es zs : List Happened) (steps steps' : List Step) (round round' : ℕ) → IsReached setup es steps round → zs ≡ es ++ Ticked ∷ [] → steps' ≡ steps → round' ≡ round + 1 → IsReached setup zs steps' round'
-reached_tick setup es zs steps steps' round round' old hz hs hr = subst (λ l. IsReached setup l steps' round') (sym hz) record {
-  steps_are = hs ∙ old.steps_are ∙ sym (capacity_kept setup es Ticked refl);
-  round_is = omega (arith, hr, old.round_is, round_more es Ticked);
+pub reached_tick : (setup : Setup) (es zs : List Happened) (e : Happened) (steps steps' : List Step) (round round' : ℕ) → IsReached setup es steps round → zs ≡ es ++ e ∷ [] → is_tick e ≡ true → steps' ≡ steps → round' ≡ round + 1 → IsReached setup zs steps' round'
+reached_tick setup es zs e steps steps' round round' old hz tick hs hr = subst (λ l. IsReached setup l steps' round') (sym (hz ∙ ap (λ x. es ++ x ∷ []) (tick_is e tick))) record {
+  steps_are = hs ∙ old.steps_are ∙ sym (capacity_kept setup es Tick refl);
+  round_is = omega (arith, hr, old.round_is, round_more es Tick);
 }
 
-pub reached_set : (setup : Setup) (es zs : List Happened) (depth : ℕ) (steps steps' : List Step) (round round' : ℕ) → IsReached setup es steps round → zs ≡ es ++ DepthSet depth ∷ [] → steps' ≡ with_change steps (step_after round depth) → round' ≡ round → IsReached setup zs steps' round'
-reached_set setup es zs depth steps steps' round round' old hz hs hr = subst (λ l. IsReached setup l steps' round') (sym hz) record {
+pub reached_set : (setup : Setup) (es zs : List Happened) (e : Happened) (depth : ℕ) (steps steps' : List Step) (round round' : ℕ) → IsReached setup es steps round → zs ≡ es ++ e ∷ [] → sets_depth e ≡ Some depth → steps' ≡ with_change steps (step_after round depth) → round' ≡ round → IsReached setup zs steps' round'
+reached_set setup es zs e depth steps steps' round round' old hz sets hs hr = subst (λ l. IsReached setup l steps' round') (sym (hz ∙ ap (λ x. es ++ x ∷ []) (depth_is e depth sets))) record {
   steps_are = hs ∙ ap (λ l. with_change l (step_after round depth)) old.steps_are ∙ ap (λ n. with_change (capacity_of setup es) (step_after n depth)) old.round_is ∙ sym (capacity_set setup es depth);
   round_is = omega (arith, hr, old.round_is, round_more es (DepthSet depth));
 }

@@ -4,7 +4,7 @@ use Rattle.std.specs.List.{cons_option}
 use Rattle.std.proofs.lemmas.List.{map-append}
 use Rattle.std.proofs.lemmas.Bool.{or_left, or_right}
 use Rattle.blk_bio.specs.Bios.{Bio}
-use Rattle.blk_trace.specs.Happened.{Happened, Ticked, Released, Joined, Issued, Finished}
+use Rattle.blk_trace.specs.Happened.{Happened, Tick, Release, Join, Issue, Done}
 use Rattle.blk_trace.specs.Kinds.{issues, hands_back}
 use Rattle.blk_trace.specs.Setups.{Setup}
 use Rattle.blk_trace.specs.Legal.{IsLegalTrace}
@@ -47,31 +47,31 @@ commands_kept setup events e legal none n =
     ∙ ap (λ o. commands_of setup events ++ map (command_of setup (events ++ e ∷ [])) (cons_option (option_map (λ p. p.0) o) [])) none
     ∙ append-nil _
 
-pub commands-ticked : (setup : Setup) (events : List Happened) → IsLegalTrace setup (events ++ Ticked ∷ []) → commands_of setup (events ++ Ticked ∷ []) ≡ commands_of setup events
-commands-ticked setup events legal = commands_kept setup events Ticked legal refl refl
+pub commands-ticked : (setup : Setup) (events : List Happened) → IsLegalTrace setup (events ++ Tick ∷ []) → commands_of setup (events ++ Tick ∷ []) ≡ commands_of setup events
+commands-ticked setup events legal = commands_kept setup events Tick legal refl refl
 
-pub commands-released : (setup : Setup) (events : List Happened) (id : ℕ) (bios : List Bio) → IsLegalTrace setup (events ++ Released id bios ∷ []) → commands_of setup (events ++ Released id bios ∷ []) ≡ commands_of setup events
-commands-released setup events id bios legal = commands_kept setup events (Released id bios) legal refl refl
+pub commands-released : (setup : Setup) (events : List Happened) (id : ℕ) (bios : List Bio) → IsLegalTrace setup (events ++ Release id bios ∷ []) → commands_of setup (events ++ Release id bios ∷ []) ≡ commands_of setup events
+commands-released setup events id bios legal = commands_kept setup events (Release id bios) legal refl refl
 
-pub commands-joined : (setup : Setup) (events : List Happened) (id : ℕ) (bios : List Bio) → IsLegalTrace setup (events ++ Joined id bios ∷ []) → commands_of setup (events ++ Joined id bios ∷ []) ≡ commands_of setup events
-commands-joined setup events id bios legal = commands_kept setup events (Joined id bios) legal refl refl
+pub commands-joined : (setup : Setup) (events : List Happened) (id : ℕ) (bios : List Bio) → IsLegalTrace setup (events ++ Join id bios ∷ []) → commands_of setup (events ++ Join id bios ∷ []) ≡ commands_of setup events
+commands-joined setup events id bios legal = commands_kept setup events (Join id bios) legal refl refl
 
-pub commands-issued : (setup : Setup) (events : List Happened) (id tag : ℕ) → IsLegalTrace setup (events ++ Issued id tag ∷ []) → (w : Entered) → waits_at setup events id ≡ Some w → commands_of setup (events ++ Issued id tag ∷ []) ≡ commands_of setup events ++ record { id = id; release = w.release; due = w.due } ∷ []
+pub commands-issued : (setup : Setup) (events : List Happened) (id tag : ℕ) → IsLegalTrace setup (events ++ Issue id tag ∷ []) → (w : Entered) → waits_at setup events id ≡ Some w → commands_of setup (events ++ Issue id tag ∷ []) ≡ commands_of setup events ++ record { id = id; release = w.release; due = w.due } ∷ []
 unfolding issued_ids
 commands-issued setup events id tag legal w waits =
     let was : IsWaiting setup events id w = waiting_from setup events id w waits in
-    let same : IsSame setup events (events ++ Issued id tag ∷ []) id = same_entered setup events (Issued id tag) id refl in
-    let release : release_of (events ++ Issued id tag ∷ []) id ≡ w.release = same.release ∙ sym was.release_is in
-    let due : due_of setup (events ++ Issued id tag ∷ []) id ≡ w.due = same.due ∙ sym was.due_is in
-    let last : command_of setup (events ++ Issued id tag ∷ []) id ≡ record { id = id; release = w.release; due = w.due } = cc in
-    commands_more setup events (Issued id tag) legal refl ∙ ap (λ x. commands_of setup events ++ x ∷ []) last
+    let same : IsSame setup events (events ++ Issue id tag ∷ []) id = same_entered setup events (Issue id tag) id refl in
+    let release : release_of (events ++ Issue id tag ∷ []) id ≡ w.release = same.release ∙ sym was.release_is in
+    let due : due_of setup (events ++ Issue id tag ∷ []) id ≡ w.due = same.due ∙ sym was.due_is in
+    let last : command_of setup (events ++ Issue id tag ∷ []) id ≡ record { id = id; release = w.release; due = w.due } = cc in
+    commands_more setup events (Issue id tag) legal refl ∙ ap (λ x. commands_of setup events ++ x ∷ []) last
 
-pub commands-finished : (setup : Setup) (events : List Happened) (tag : ℕ) → IsLegalTrace setup (events ++ Finished tag ∷ []) → commands_of setup (events ++ Finished tag ∷ []) ≡ commands_of setup events
-commands-finished setup events tag legal = commands_kept setup events (Finished tag) legal refl refl
+pub commands-finished : (setup : Setup) (events : List Happened) (tag : ℕ) → IsLegalTrace setup (events ++ Done tag ∷ []) → commands_of setup (events ++ Done tag ∷ []) ≡ commands_of setup events
+commands-finished setup events tag legal = commands_kept setup events (Done tag) legal refl refl
 
 -- the rounds
 pub rounds_kept : (events : List Happened) (e : Happened) → issues e ≡ None → hands_back e ≡ None → rounds_of (events ++ e ∷ []) ≡ rounds_of events
 rounds_kept events e none n = rounds_more events e n ∙ ap (λ o. rounds_of events ++ cons_option (option_map (λ _. round_of events) o) []) none ∙ append-nil _
 
-pub rounds-issued : (events : List Happened) (id tag : ℕ) → rounds_of (events ++ Issued id tag ∷ []) ≡ rounds_of events ++ round_of events ∷ []
-rounds-issued events id tag = rounds_more events (Issued id tag) refl
+pub rounds-issued : (events : List Happened) (id tag : ℕ) → rounds_of (events ++ Issue id tag ∷ []) ≡ rounds_of events ++ round_of events ∷ []
+rounds-issued events id tag = rounds_more events (Issue id tag) refl

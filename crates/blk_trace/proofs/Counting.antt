@@ -5,8 +5,13 @@ use Rattle.std.specs.List.{cons_option}
 use Rattle.std.proofs.lemmas.List.Sums.{sum_by-cons, sum_by_push, length-filter}
 use Rattle.std.proofs.lemmas.Bool.{cases_Bool, or_right, or_left, cond_both}
 use Rattle.blk_bio.specs.Bios.{Bio}
+<<<<<<< HEAD
 use Rattle.blk_bio.specs.declared.rule.TraceRule.TheVariants.{ReleasedTwice, Unknown, AlreadyIssued}
 use Rattle.blk_trace.specs.Happened.{Happened, Ticked, Released, Joined, Issued, Finished}
+=======
+use Rattle.blk_trace.specs.declared.rule.TraceRule.TheVariants.{ReleasedTwice, Unknown, AlreadyIssued}
+use Rattle.blk_trace.specs.Happened.{Happened, Tick, Release, Join, Issue, Done}
+>>>>>>> events-b
 use Rattle.blk_trace.specs.Kinds.{releases, issues, hands_back}
 use Rattle.blk_trace.specs.Setups.{Setup}
 use Rattle.blk_trace.specs.Events.{IsReleased}
@@ -77,19 +82,19 @@ count_once p q u c xs h at n =
 -- an id stands once among the released ones
 once_step : (setup : Setup) (u : ℕ) (es : List Happened) (e : Happened) → IsUnbroken setup es e → count_by (λ t. u == t) (released_ids es) ≡ cond (has_id (released_ids es) u) 1 0 → count_by (λ t. u == t) (released_ids (es ++ e ∷ [])) ≡ cond (has_id (released_ids (es ++ e ∷ [])) u) 1 0
 unfolding released_ids
-once_step setup u es (Released i q) all ih =
-    let more : count_by (λ t. u == t) (released_ids (es ++ Released i q ∷ [])) ≡ count_by (λ t. u == t) (released_ids es) + one_if (u == i) = ap (count_by (λ t. u == t)) (released_more es (Released i q ∷ [])) ∙ count_push (λ t. u == t) (released_ids es) i in
+once_step setup u es (Release i q) all ih =
+    let more : count_by (λ t. u == t) (released_ids (es ++ Release i q ∷ [])) ≡ count_by (λ t. u == t) (released_ids es) + one_if (u == i) = ap (count_by (λ t. u == t)) (released_more es (Release i q ∷ [])) ∙ count_push (λ t. u == t) (released_ids es) i in
     elim (cases_Bool (i == u)) [
       | inl b ↦
           let same : i ≡ u = eqb-true i u b in
           let none : has_id (released_ids es) u ≡ false = not_released es u (subst (λ x. IsReleased es x → ⊥) same (all ReleasedTwice)) in
           let zero_before : one_if (has_id (released_ids es) u) ≡ 0 = rw none refl in
           let one : one_if (u == i) ≡ 1 = rw (eq-eqb u i (sym same)) refl in
-          let now : has_id (released_ids (es ++ Released i q ∷ [])) u ≡ true = has_released_more es (Released i q) u ∙ or_right (has_id (released_ids es) u) ((i == u) || false) (or_left (i == u) false b) in
+          let now : has_id (released_ids (es ++ Release i q ∷ [])) u ≡ true = has_released_more es (Release i q) u ∙ or_right (has_id (released_ids es) u) ((i == u) || false) (or_left (i == u) false b) in
           rw now (omega arith)
       | inr b ↦
           let other : one_if (u == i) ≡ 0 = rw (ne_eqb u i (λ e. absurd (let t : (i == u) ≡ true = eq-eqb i u (sym e) in cc))) refl in
-          let kept : has_id (released_ids (es ++ Released i q ∷ [])) u ≡ has_id (released_ids es) u = has_released_same es (Released i q) u (rw b refl) in
+          let kept : has_id (released_ids (es ++ Release i q ∷ [])) u ≡ has_id (released_ids es) u = has_released_same es (Release i q) u (rw b refl) in
           rw kept (omega arith)
     ]
 once_step setup u es e all ih = rw (released_more es (e ∷ []), append-nil (released_ids es)) ih
@@ -128,41 +133,41 @@ count_kept events e r i n =
     (released_more events (e ∷ []) ∙ ap (λ o. released_ids events ++ cons_option (option_map (λ p. p.0) o) []) r ∙ append-nil _)
     (issued_more events e n ∙ ap (λ o. issued_ids events ++ cons_option (option_map (λ p. p.0) o) []) i ∙ append-nil _)
 
-pub count-ticked : (setup : Setup) (events : List Happened) → IsLegalTrace setup (events ++ Ticked ∷ []) → waiting_count (events ++ Ticked ∷ []) ≡ waiting_count events
-count-ticked setup events legal = count_kept events Ticked refl refl refl
+pub count-ticked : (setup : Setup) (events : List Happened) → IsLegalTrace setup (events ++ Tick ∷ []) → waiting_count (events ++ Tick ∷ []) ≡ waiting_count events
+count-ticked setup events legal = count_kept events Tick refl refl refl
 
-pub count-joined : (setup : Setup) (events : List Happened) (id : ℕ) (bios : List Bio) → IsLegalTrace setup (events ++ Joined id bios ∷ []) → waiting_count (events ++ Joined id bios ∷ []) ≡ waiting_count events
-count-joined setup events id bios legal = count_kept events (Joined id bios) refl refl refl
+pub count-joined : (setup : Setup) (events : List Happened) (id : ℕ) (bios : List Bio) → IsLegalTrace setup (events ++ Join id bios ∷ []) → waiting_count (events ++ Join id bios ∷ []) ≡ waiting_count events
+count-joined setup events id bios legal = count_kept events (Join id bios) refl refl refl
 
-pub count-finished : (setup : Setup) (events : List Happened) (tag : ℕ) → IsLegalTrace setup (events ++ Finished tag ∷ []) → waiting_count (events ++ Finished tag ∷ []) ≡ waiting_count events
-count-finished setup events tag legal = count_kept events (Finished tag) refl refl refl
+pub count-finished : (setup : Setup) (events : List Happened) (tag : ℕ) → IsLegalTrace setup (events ++ Done tag ∷ []) → waiting_count (events ++ Done tag ∷ []) ≡ waiting_count events
+count-finished setup events tag legal = count_kept events (Done tag) refl refl refl
 
-pub count-released : (setup : Setup) (events : List Happened) (id : ℕ) (bios : List Bio) → IsLegalTrace setup (events ++ Released id bios ∷ []) → waiting_count (events ++ Released id bios ∷ []) ≡ waiting_count events + 1
+pub count-released : (setup : Setup) (events : List Happened) (id : ℕ) (bios : List Bio) → IsLegalTrace setup (events ++ Release id bios ∷ []) → waiting_count (events ++ Release id bios ∷ []) ≡ waiting_count events + 1
 unfolding released_ids issued_ids
 count-released setup events id bios legal =
     let old = shorter_legal setup events _ legal in
     let all = obeys setup events _ legal in
-    let es : List Happened = events ++ Released id bios ∷ [] in
-    let issued : issued_ids es ≡ issued_ids events = issued_more events (Released id bios) refl ∙ append-nil _ in
-    let released : released_ids es ≡ released_ids events ++ id ∷ [] = released_more events (Released id bios ∷ []) in
+    let es : List Happened = events ++ Release id bios ∷ [] in
+    let issued : issued_ids es ≡ issued_ids events = issued_more events (Release id bios) refl ∙ append-nil _ in
+    let released : released_ids es ≡ released_ids events ++ id ∷ [] = released_more events (Release id bios ∷ []) in
     let unissued : has_id (issued_ids events) id ≡ false = not_issued events id (λ p. all ReleasedTwice (released_first setup events id old p)) in
     let one : one_if (not (has_id (issued_ids events) id)) ≡ 1 = rw unissued refl in
     let now : waiting_count es ≡ count_by (λ x. not (has_id (issued_ids events) x)) (released_ids events ++ id ∷ []) = waiting_is es ∙ ap (λ l. count_by (λ x. not (has_id l x)) (released_ids es)) issued ∙ ap (count_by (λ x. not (has_id (issued_ids events) x))) released in
     let push : count_by (λ x. not (has_id (issued_ids events) x)) (released_ids events ++ id ∷ []) ≡ count_by (λ x. not (has_id (issued_ids events) x)) (released_ids events) + one_if (not (has_id (issued_ids events) id)) = count_push (λ x. not (has_id (issued_ids events) x)) (released_ids events) id in
     omega (arith, waiting_is events)
 
-pub count-issued : (setup : Setup) (events : List Happened) (id tag : ℕ) → IsLegalTrace setup (events ++ Issued id tag ∷ []) → waiting_count (events ++ Issued id tag ∷ []) + 1 ≡ waiting_count events
+pub count-issued : (setup : Setup) (events : List Happened) (id tag : ℕ) → IsLegalTrace setup (events ++ Issue id tag ∷ []) → waiting_count (events ++ Issue id tag ∷ []) + 1 ≡ waiting_count events
 unfolding released_ids issued_ids
 count-issued setup events id tag legal =
     let old = shorter_legal setup events _ legal in
     let all = obeys setup events _ legal in
-    let es : List Happened = events ++ Issued id tag ∷ [] in
-    let released : released_ids es ≡ released_ids events = released_more events (Issued id tag ∷ []) ∙ append-nil _ in
+    let es : List Happened = events ++ Issue id tag ∷ [] in
+    let released : released_ids es ≡ released_ids events = released_more events (Issue id tag ∷ []) ∙ append-nil _ in
     let here : IsReleased events id = all Unknown in
     let once : count_by (λ t. id == t) (released_ids events) ≡ 1 = released_one setup events id old (released_has events here.0 id here.1.0 here.1.1) in
     let unissued : has_id (issued_ids events) id ≡ false = all_back events id (all AlreadyIssued) in
-    let issued : has_id (issued_ids es) id ≡ true = has_issued_more events (Issued id tag) id refl ∙ or_right (has_id (issued_ids events) id) ((id == id) || false) (or_left (id == id) false (eq-eqb id id refl)) in
+    let issued : has_id (issued_ids es) id ≡ true = has_issued_more events (Issue id tag) id refl ∙ or_right (has_id (issued_ids events) id) ((id == id) || false) (or_left (id == id) false (eq-eqb id id refl)) in
     let fewer : count_by (λ x. not (has_id (issued_ids es) x)) (released_ids events) + 1 ≡ count_by (λ x. not (has_id (issued_ids events) x)) (released_ids events) =
-    count_once (λ x. not (has_id (issued_ids es) x)) (λ x. not (has_id (issued_ids events) x)) id 1 (released_ids events) (λ x b. ap not (has_issued_same events (Issued id tag) x refl (rw b refl))) (rw (issued, unissued) refl) once in
+    count_once (λ x. not (has_id (issued_ids es) x)) (λ x. not (has_id (issued_ids events) x)) id 1 (released_ids events) (λ x b. ap not (has_issued_same events (Issue id tag) x refl (rw b refl))) (rw (issued, unissued) refl) once in
     let now : waiting_count es ≡ count_by (λ x. not (has_id (issued_ids es) x)) (released_ids events) = waiting_is es ∙ ap (count_by (λ x. not (has_id (issued_ids es) x))) released in
     omega (arith, waiting_is events)

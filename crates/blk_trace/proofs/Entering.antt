@@ -7,8 +7,13 @@ use Rattle.std.proofs.lemmas.List.Sums.{fold_push}
 use Rattle.std.proofs.lemmas.Bool.{cases_Bool, or_parts, cond_both, both_ways}
 use Rattle.blk_bio.specs.Bios.{Bio}
 use Rattle.blk_bio.specs.Requests.{dir_of, first_of, last_of}
+<<<<<<< HEAD
 use Rattle.blk_bio.specs.declared.rule.TraceRule.TheVariants.{ReleasedTwice, Unknown, AlreadyIssued, Fit}
 use Rattle.blk_trace.specs.Happened.{Happened, Released, Joined}
+=======
+use Rattle.blk_trace.specs.declared.rule.TraceRule.TheVariants.{ReleasedTwice, Unknown, AlreadyIssued, Fit}
+use Rattle.blk_trace.specs.Happened.{Happened, Release, Join}
+>>>>>>> events-b
 use Rattle.blk_trace.specs.Kinds.{enters, hands_back, enters_under}
 use Rattle.blk_trace.specs.Setups.{Setup, expire_of}
 use Rattle.blk_trace.specs.Events.{round_of, join_up, request_of, IsReleased, IsIssued}
@@ -56,8 +61,8 @@ pub record HasNothing (setup : Setup) (es : List Happened) (id : ℕ) : Type 0 w
 -- a request enters under an id that was released, or that is now
 enters_not : (setup : Setup) (es : List Happened) (e : Happened) (id : ℕ) → IsUnbroken setup es e → has_id (released_ids es) id ≡ false → has_id (released_ids (e ∷ [])) id ≡ false → enters_as id e ≡ false
 unfolding released_ids
-enters_not setup es (Released i q) id all a b = (or_parts (i == id) false b).0
-enters_not setup es (Joined i q) id all a b =
+enters_not setup es (Release i q) id all a b = (or_parts (i == id) false b).0
+enters_not setup es (Join i q) id all a b =
     ne_eqb i id (λ same. let p : IsReleased es id = subst (IsReleased es) same (all Unknown) in both_ways _ a (released_has es p.0 id p.1.0 p.1.1))
 enters_not setup es e id all a b = refl
 
@@ -117,11 +122,11 @@ entered_from setup es e id bios here = record {
   dues_are = dues_more setup es e id ∙ ap (λ o. dues setup es id ++ cons_option (option_map (λ bios. round_of es + expire_of setup (dir_of bios)) o) []) here;
 }
 
-pub entered_released : (setup : Setup) (es : List Happened) (i id : ℕ) (q : List Bio) → (i == id) ≡ true → IsEntered setup es (es ++ Released i q ∷ []) id q
-entered_released setup es i id q t = entered_from setup es (Released i q) id q (rw t refl)
+pub entered_released : (setup : Setup) (es : List Happened) (i id : ℕ) (q : List Bio) → (i == id) ≡ true → IsEntered setup es (es ++ Release i q ∷ []) id q
+entered_released setup es i id q t = entered_from setup es (Release i q) id q (rw t refl)
 
-pub entered_joined : (setup : Setup) (es : List Happened) (i id : ℕ) (q : List Bio) → (i == id) ≡ true → IsEntered setup es (es ++ Joined i q ∷ []) id q
-entered_joined setup es i id q t = entered_from setup es (Joined i q) id q (rw t refl)
+pub entered_joined : (setup : Setup) (es : List Happened) (i id : ℕ) (q : List Bio) → (i == id) ≡ true → IsEntered setup es (es ++ Join i q ∷ []) id q
+entered_joined setup es i id q t = entered_from setup es (Join i q) id q (rw t refl)
 
 least_push : (x : ℕ) (xs : List ℕ) (y : ℕ) → least ((x ∷ xs) ++ y ∷ []) ≡ min (least (x ∷ xs)) y
 least_push x xs y = fold_push min x xs y
@@ -177,7 +182,7 @@ pub has_issued_same : (es : List Happened) (e : Happened) (id : ℕ) → hands_b
 has_issued_same es e id n h = has_issued_more es e id n ∙ or_no _ _ h
 
 -- a Release of an id that was not released
-pub nothing_before : (setup : Setup) (es : List Happened) (i id : ℕ) (q : List Bio) → IsLegalTrace setup es → IsUnbroken setup es (Released i q) → (i == id) ≡ true → HasNothing setup es id
+pub nothing_before : (setup : Setup) (es : List Happened) (i id : ℕ) (q : List Bio) → IsLegalTrace setup es → IsUnbroken setup es (Release i q) → (i == id) ≡ true → HasNothing setup es id
 nothing_before setup es i id q old all t =
     let same : i ≡ id = eqb-true i id t in
     nothing setup es id old (not_released es id (subst (λ x. IsReleased es x → ⊥) same (all ReleasedTwice)))
@@ -185,19 +190,19 @@ nothing_before setup es i id q old all t =
 -- one more event
 soon_more : (setup : Setup) (es : List Happened) (e : Happened) (id : ℕ) → IsLegalTrace setup es → IsUnbroken setup es e → (has_id (released_ids es) id ≡ true → IsDueSoon setup es id) → has_id (released_ids (es ++ e ∷ [])) id ≡ true → IsDueSoon setup (es ++ e ∷ []) id
 unfolding released_ids
-soon_more setup es (Released i q) id old all ih h =
+soon_more setup es (Release i q) id old all ih h =
     elim (cases_Bool (i == id)) [
-      | inl t ↦ first_soon setup es _ id q (nothing_before setup es i id q old all t) (entered_released setup es i id q t) (round_rises es (Released i q))
-      | inr t ↦ same_soon setup es _ id (ih (sym (has_released_same es (Released i q) id (rw t refl)) ∙ h)) (same_entered setup es (Released i q) id t) (round_rises es (Released i q))
+      | inl t ↦ first_soon setup es _ id q (nothing_before setup es i id q old all t) (entered_released setup es i id q t) (round_rises es (Release i q))
+      | inr t ↦ same_soon setup es _ id (ih (sym (has_released_same es (Release i q) id (rw t refl)) ∙ h)) (same_entered setup es (Release i q) id t) (round_rises es (Release i q))
     ]
-soon_more setup es (Joined i q) id old all ih h =
-    let was : has_id (released_ids es) id ≡ true = sym (has_released_same es (Joined i q) id refl) ∙ h in
+soon_more setup es (Join i q) id old all ih h =
+    let was : has_id (released_ids es) id ≡ true = sym (has_released_same es (Join i q) id refl) ∙ h in
     elim (cases_Bool (i == id)) [
       | inl t ↦
           let same : i ≡ id = eqb-true i id t in
           let fit = all Fit in
-          (next_soon setup es _ id q (ih was) (entered_joined setup es i id q t) (subst (λ x. dir_of q ≡ dir_of (request_of es x)) same fit.1.same_direction) (round_rises es (Joined i q))).0
-      | inr t ↦ same_soon setup es _ id (ih was) (same_entered setup es (Joined i q) id t) (round_rises es (Joined i q))
+          (next_soon setup es _ id q (ih was) (entered_joined setup es i id q t) (subst (λ x. dir_of q ≡ dir_of (request_of es x)) same fit.1.same_direction) (round_rises es (Join i q))).0
+      | inr t ↦ same_soon setup es _ id (ih was) (same_entered setup es (Join i q) id t) (round_rises es (Join i q))
     ]
 soon_more setup es e id old all ih h = same_soon setup es _ id (ih (sym (has_released_same es e id refl) ∙ h)) (same_entered setup es e id refl) (round_rises es e)
 
@@ -208,6 +213,6 @@ soon setup es id legal h =
 
 -- no event that obeys the rules enters a request under an id that was issued
 pub stays_out : (setup : Setup) (es : List Happened) (e : Happened) (id : ℕ) → IsLegalTrace setup es → IsUnbroken setup es e → IsIssued es id → enters_as id e ≡ false
-stays_out setup es (Released i q) id old all p = ne_eqb i id (λ same. all ReleasedTwice (subst (IsReleased es) (sym same) (released_first setup es id old p)))
-stays_out setup es (Joined i q) id old all p = ne_eqb i id (λ same. all AlreadyIssued (subst (IsIssued es) (sym same) p))
+stays_out setup es (Release i q) id old all p = ne_eqb i id (λ same. all ReleasedTwice (subst (IsReleased es) (sym same) (released_first setup es id old p)))
+stays_out setup es (Join i q) id old all p = ne_eqb i id (λ same. all AlreadyIssued (subst (IsIssued es) (sym same) p))
 stays_out setup es e id old all p = refl

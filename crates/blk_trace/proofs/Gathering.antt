@@ -1,9 +1,9 @@
 -- What waits under each id after one more event.
-use Rattle.std.proofs.Common.{◌≡◌, ◌<◌, ◌+◌, ◌++◌, ◌==◌, ℕ, List, [], ◌∷◌, length, get_or, take, drop, map, refl, sym, ◌∙◌, ap, subst, arith, Some, None, cond, Bool, true, false, inl, inr, append-nil, eq-eqb, eqb-true, ne_eqb, length-append}
+use Rattle.std.proofs.Common.{◌≡◌, ◌<◌, ◌+◌, ◌++◌, ◌==◌, ℕ, List, [], ◌∷◌, length, get_or, take, drop, refl, sym, ◌∙◌, ap, subst, arith, Some, None, cond, Bool, true, false, inl, inr, append-nil, eq-eqb, eqb-true, ne_eqb, length-append}
 use Rattle.std.specs.Prelude.{Option, option_map, ◌||◌, ◌&&◌, not}
 use Rattle.std.specs.Option.{option_map_or}
 use Rattle.std.proofs.lemmas.Bool.{cases_Bool, or_left, or_right}
-use Rattle.std.proofs.lemmas.List.{map-append, take_more, take-append-drop}
+use Rattle.std.proofs.lemmas.List.{take_more, take-append-drop}
 use Rattle.std.proofs.lemmas.List.Sums.{sum_by-append}
 use Rattle.std.specs.Ordering.{nat_cmp}
 use Rattle.std.specs.Cmp.{unsigned_tied}
@@ -13,10 +13,14 @@ use Rattle.blk_bio.specs.declared.request.Side.TheVariants.{Back, Front}
 use Rattle.blk_bio.specs.Bios.{Bio}
 use Rattle.blk_bio.specs.Limits.{Limits}
 use Rattle.blk_bio.specs.Requests.{first_of, last_of, joined, IsWithin, Fits}
+<<<<<<< HEAD
 use Rattle.blk_trace.specs.declared.event.Event.{Event}
 use Rattle.blk_bio.specs.declared.rule.TraceRule.TheVariants.{Unknown, Fit}
+=======
+use Rattle.blk_trace.specs.declared.rule.TraceRule.TheVariants.{Unknown, Fit}
+>>>>>>> events-b
 use Rattle.blk_trace.specs.declared.known.Known.{Known}
-use Rattle.blk_trace.specs.Happened.{Happened, Released, Joined}
+use Rattle.blk_trace.specs.Happened.{Happened, Release, Join}
 use Rattle.blk_trace.specs.Kinds.{enters}
 use Rattle.blk_trace.specs.Setups.{Setup}
 use Rattle.blk_trace.specs.Events.{join_up, request_of, IsReleased}
@@ -26,7 +30,6 @@ use Rattle.blk_trace.specs.Meaning.{issued_ids, released_ids, release_of, due_of
 use Rattle.blk_trace.specs.Waits.{Entered, has_id, waits_at}
 use Rattle.blk_trace.specs.Inside.Gathered.{waiting_bios, bios_unless, enters_to_stay, with_event, TakesJoin}
 use Rattle.blk_trace.specs.Inside.Kept.{is_gone}
-use Rattle.blk_trace.specs.Seen.{happened}
 use Rattle.blk_trace.proofs.Pushing.{shorter_legal, obeys}
 use Rattle.blk_trace.proofs.Reading.{prefix_legal}
 use Rattle.blk_trace.proofs.Ids.{released_has, has_released_more}
@@ -66,20 +69,20 @@ stays_true true h = refl
 stays_true false h = absurd (cc)
 
 -- what is there after one more event whose id isn't gone in the end
-more_released : (setup : Setup) (gone : ℕ → Bool) (es : List Happened) (i : ℕ) (q : List Bio) → IsLegalTrace setup es → IsUnbroken setup es (Released i q) → gone i ≡ false → (id : ℕ) → bios_unless gone (es ++ Released i q ∷ []) id ≡ cond (i == id) (Some q) (bios_unless gone es id)
+more_released : (setup : Setup) (gone : ℕ → Bool) (es : List Happened) (i : ℕ) (q : List Bio) → IsLegalTrace setup es → IsUnbroken setup es (Release i q) → gone i ≡ false → (id : ℕ) → bios_unless gone (es ++ Release i q ∷ []) id ≡ cond (i == id) (Some q) (bios_unless gone es id)
 unfolding released_ids
 more_released setup gone es i q legal all stays id =
     elim (cases_Bool (i == id)) [
       | inl b ↦
           let none : HasNothing setup es id = nothing_before setup es i id q legal all b in
-          let new : IsEntered setup es (es ++ Released i q ∷ []) id q = entered_released setup es i id q b in
-          let is : request_of (es ++ Released i q ∷ []) id ≡ q = new.request ∙ ap (λ l. join_up l q) none.request in
-          let there : has_id (released_ids (es ++ Released i q ∷ [])) id ≡ true = has_released_more es (Released i q) id ∙ or_right (has_id (released_ids es) id) ((i == id) || false) (or_left (i == id) false b) in
-          bios_there gone (es ++ Released i q ∷ []) id there (subst (λ n. gone n ≡ false) (eqb-true i id b) stays) ∙ ap (λ l. Some l) is ∙ sym (rw b refl)
-      | inr b ↦ bios_same gone es (es ++ Released i q ∷ []) id (has_released_same es (Released i q) id (rw b refl)) (same_entered setup es (Released i q) id b).request ∙ sym (rw b refl)
+          let new : IsEntered setup es (es ++ Release i q ∷ []) id q = entered_released setup es i id q b in
+          let is : request_of (es ++ Release i q ∷ []) id ≡ q = new.request ∙ ap (λ l. join_up l q) none.request in
+          let there : has_id (released_ids (es ++ Release i q ∷ [])) id ≡ true = has_released_more es (Release i q) id ∙ or_right (has_id (released_ids es) id) ((i == id) || false) (or_left (i == id) false b) in
+          bios_there gone (es ++ Release i q ∷ []) id there (subst (λ n. gone n ≡ false) (eqb-true i id b) stays) ∙ ap (λ l. Some l) is ∙ sym (rw b refl)
+      | inr b ↦ bios_same gone es (es ++ Release i q ∷ []) id (has_released_same es (Release i q) id (rw b refl)) (same_entered setup es (Release i q) id b).request ∙ sym (rw b refl)
     ]
 
-more_joined : (setup : Setup) (gone : ℕ → Bool) (es : List Happened) (i : ℕ) (q : List Bio) → IsUnbroken setup es (Joined i q) → gone i ≡ false → (id : ℕ) → bios_unless gone (es ++ Joined i q ∷ []) id ≡ cond (i == id) (option_map (λ old. join_up old q) (bios_unless gone es i)) (bios_unless gone es id)
+more_joined : (setup : Setup) (gone : ℕ → Bool) (es : List Happened) (i : ℕ) (q : List Bio) → IsUnbroken setup es (Join i q) → gone i ≡ false → (id : ℕ) → bios_unless gone (es ++ Join i q ∷ []) id ≡ cond (i == id) (option_map (λ old. join_up old q) (bios_unless gone es i)) (bios_unless gone es id)
 unfolding released_ids
 more_joined setup gone es i q all stays id =
     let here : IsReleased es i = all Unknown in
@@ -88,22 +91,22 @@ more_joined setup gone es i q all stays id =
     elim (cases_Bool (i == id)) [
       | inl b ↦
           let same : i ≡ id = eqb-true i id b in
-          let new : IsEntered setup es (es ++ Joined i q ∷ []) id q = entered_joined setup es i id q b in
-          let was : has_id (released_ids (es ++ Joined i q ∷ [])) id ≡ true = has_released_same es (Joined i q) id refl ∙ subst (λ n. has_id (released_ids es) n ≡ true) same there in
-          let is : request_of (es ++ Joined i q ∷ []) id ≡ join_up (request_of es i) q = new.request ∙ ap (λ n. join_up (request_of es n) q) (sym same) in
-          bios_there gone (es ++ Joined i q ∷ []) id was (subst (λ n. gone n ≡ false) same stays) ∙ ap (λ l. Some l) is ∙ ap (option_map (λ old. join_up old q)) (sym before) ∙ sym (rw b refl)
-      | inr b ↦ bios_same gone es (es ++ Joined i q ∷ []) id (has_released_same es (Joined i q) id refl) (same_entered setup es (Joined i q) id b).request ∙ sym (rw b refl)
+          let new : IsEntered setup es (es ++ Join i q ∷ []) id q = entered_joined setup es i id q b in
+          let was : has_id (released_ids (es ++ Join i q ∷ [])) id ≡ true = has_released_same es (Join i q) id refl ∙ subst (λ n. has_id (released_ids es) n ≡ true) same there in
+          let is : request_of (es ++ Join i q ∷ []) id ≡ join_up (request_of es i) q = new.request ∙ ap (λ n. join_up (request_of es n) q) (sym same) in
+          bios_there gone (es ++ Join i q ∷ []) id was (subst (λ n. gone n ≡ false) same stays) ∙ ap (λ l. Some l) is ∙ ap (option_map (λ old. join_up old q)) (sym before) ∙ sym (rw b refl)
+      | inr b ↦ bios_same gone es (es ++ Join i q ∷ []) id (has_released_same es (Join i q) id refl) (same_entered setup es (Join i q) id b).request ∙ sym (rw b refl)
     ]
 
 more : (setup : Setup) (gone : ℕ → Bool) (es : List Happened) (e : Happened) → IsLegalTrace setup (es ++ e ∷ []) → enters_to_stay gone e ≡ true → (id : ℕ) → bios_unless gone (es ++ e ∷ []) id ≡ with_event (bios_unless gone es) e id
-more setup gone es (Released i q) legal stays id = more_released setup gone es i q (shorter_legal setup es _ legal) (obeys setup es _ legal) (stays_false (gone i) stays) id
-more setup gone es (Joined i q) legal stays id = more_joined setup gone es i q (obeys setup es _ legal) (stays_false (gone i) stays) id
+more setup gone es (Release i q) legal stays id = more_released setup gone es i q (shorter_legal setup es _ legal) (obeys setup es _ legal) (stays_false (gone i) stays) id
+more setup gone es (Join i q) legal stays id = more_joined setup gone es i q (obeys setup es _ legal) (stays_false (gone i) stays) id
 more setup gone es e legal stays id = absurd (cc)
 
 -- the same of a function that agrees with what is there
 alike : (f h : ℕ → Option (List Bio)) (e : Happened) → ((i : ℕ) → f i ≡ h i) → (id : ℕ) → with_event f e id ≡ with_event h e id
-alike f h (Released i q) s id = ap (λ o. cond (i == id) (Some q) o) (s id)
-alike f h (Joined i q) s id =
+alike f h (Release i q) s id = ap (λ o. cond (i == id) (Some q) o) (s id)
+alike f h (Join i q) s id =
     ap (λ o. cond (i == id) (option_map (λ old. join_up old q) o) (f id)) (s i)
     ∙ ap (λ o. cond (i == id) (option_map (λ old. join_up old q) (h i)) o) (s id)
 alike f h e s id = s id
@@ -112,31 +115,31 @@ pub gathers : (setup : Setup) (gone : ℕ → Bool) (es : List Happened) (e : Ha
 gathers setup gone es e f legal stays s id = alike f (bios_unless gone es) e s id ∙ sym (more setup gone es e legal stays id)
 
 -- an event that enters nothing, or under an id that is gone in the end
-passed_released : (gone : ℕ → Bool) (setup : Setup) (es : List Happened) (i : ℕ) (q : List Bio) → gone i ≡ true → (id : ℕ) → bios_unless gone (es ++ Released i q ∷ []) id ≡ bios_unless gone es id
+passed_released : (gone : ℕ → Bool) (setup : Setup) (es : List Happened) (i : ℕ) (q : List Bio) → gone i ≡ true → (id : ℕ) → bios_unless gone (es ++ Release i q ∷ []) id ≡ bios_unless gone es id
 unfolding released_ids
 passed_released gone setup es i q goes id =
     elim (cases_Bool (i == id)) [
-      | inl b ↦ let g : gone id ≡ true = subst (λ n. gone n ≡ true) (eqb-true i id b) goes in bios_gone gone (es ++ Released i q ∷ []) id g ∙ sym (bios_gone gone es id g)
-      | inr b ↦ bios_same gone es (es ++ Released i q ∷ []) id (has_released_same es (Released i q) id (rw b refl)) (same_entered setup es (Released i q) id b).request
+      | inl b ↦ let g : gone id ≡ true = subst (λ n. gone n ≡ true) (eqb-true i id b) goes in bios_gone gone (es ++ Release i q ∷ []) id g ∙ sym (bios_gone gone es id g)
+      | inr b ↦ bios_same gone es (es ++ Release i q ∷ []) id (has_released_same es (Release i q) id (rw b refl)) (same_entered setup es (Release i q) id b).request
     ]
 
-passed_joined : (gone : ℕ → Bool) (setup : Setup) (es : List Happened) (i : ℕ) (q : List Bio) → gone i ≡ true → (id : ℕ) → bios_unless gone (es ++ Joined i q ∷ []) id ≡ bios_unless gone es id
+passed_joined : (gone : ℕ → Bool) (setup : Setup) (es : List Happened) (i : ℕ) (q : List Bio) → gone i ≡ true → (id : ℕ) → bios_unless gone (es ++ Join i q ∷ []) id ≡ bios_unless gone es id
 unfolding released_ids
 passed_joined gone setup es i q goes id =
     elim (cases_Bool (i == id)) [
-      | inl b ↦ let g : gone id ≡ true = subst (λ n. gone n ≡ true) (eqb-true i id b) goes in bios_gone gone (es ++ Joined i q ∷ []) id g ∙ sym (bios_gone gone es id g)
-      | inr b ↦ bios_same gone es (es ++ Joined i q ∷ []) id (has_released_same es (Joined i q) id refl) (same_entered setup es (Joined i q) id b).request
+      | inl b ↦ let g : gone id ≡ true = subst (λ n. gone n ≡ true) (eqb-true i id b) goes in bios_gone gone (es ++ Join i q ∷ []) id g ∙ sym (bios_gone gone es id g)
+      | inr b ↦ bios_same gone es (es ++ Join i q ∷ []) id (has_released_same es (Join i q) id refl) (same_entered setup es (Join i q) id b).request
     ]
 
 pub passes : (setup : Setup) (gone : ℕ → Bool) (es : List Happened) (e : Happened) → enters_to_stay gone e ≡ false → (id : ℕ) → bios_unless gone (es ++ e ∷ []) id ≡ bios_unless gone es id
 unfolding released_ids
-passes setup gone es (Released i q) h id = passed_released gone setup es i q (stays_true (gone i) h) id
-passes setup gone es (Joined i q) h id = passed_joined gone setup es i q (stays_true (gone i) h) id
+passes setup gone es (Release i q) h id = passed_released gone setup es i q (stays_true (gone i) h) id
+passes setup gone es (Join i q) h id = passed_joined gone setup es i q (stays_true (gone i) h) id
 passes setup gone es e h id = bios_same gone es (es ++ e ∷ []) id (has_released_same es e id refl) (same_entered setup es e id refl).request
 
 pub takes : (setup : Setup) (gone : ℕ → Bool) (limits : Limits) (es : List Happened) (e : Happened) (f : ℕ → Option (List Bio)) → limits ≡ setup.limits → IsLegalTrace setup (es ++ e ∷ []) → enters_to_stay gone e ≡ true → ((i : ℕ) → f i ≡ bios_unless gone es i) → TakesJoin limits f e
-takes setup gone limits es (Joined i q) f l legal stays s =
-    let all = obeys setup es (Joined i q) legal in
+takes setup gone limits es (Join i q) f l legal stays s =
+    let all = obeys setup es (Join i q) legal in
     let here : IsReleased es i = all Unknown in
     let fit : (x : Side) × Fits setup.limits (request_of es i) q x = all Fit in
     record {
@@ -165,14 +168,12 @@ unfolding bios_unless waits_at
 at_the_end setup es id = with_bios (has_id (released_ids es) id && not (has_id (issued_ids es) id)) (record { release = release_of es id; due = due_of setup es id; bios = request_of es id })
 
 -- the events up to a place and the one there
-pub one_more : {A : Type 0} (setup : Setup) (es : List (Event A)) (i : ℕ) (e : Event A) → i < length es → e ≡ get_or es i e → IsLegalTrace setup (map happened es)
-    → (map happened (take (i + 1) es) ≡ map happened (take i es) ++ happened e ∷ []) × IsLegalTrace setup (map happened (take i es) ++ happened e ∷ [])
+pub one_more : (setup : Setup) (es : List Happened) (i : ℕ) (e : Happened) → i < length es → e ≡ get_or es i e → IsLegalTrace setup es
+    → (take (i + 1) es ≡ take i es ++ e ∷ []) × IsLegalTrace setup (take i es ++ e ∷ [])
 one_more setup es i e low is legal =
-    let up : map happened (take (i + 1) es) ≡ map happened (take i es) ++ happened e ∷ [] =
-    ap (map happened) (take_more es i e low ∙ ap (λ x. take i es ++ x ∷ []) (sym is)) ∙ map-append happened (take i es) (e ∷ []) in
-    let whole : map happened es ≡ map happened (take (i + 1) es) ++ map happened (drop (i + 1) es) =
-    ap (map happened) (sym (take-append-drop (i + 1) es)) ∙ map-append happened (take (i + 1) es) (drop (i + 1) es) in
-    let prefix : IsLegalTrace setup (map happened (take (i + 1) es)) = prefix_legal setup _ (map happened (take (i + 1) es)) (map happened (drop (i + 1) es)) refl (subst (IsLegalTrace setup) whole legal) in
+    let up : take (i + 1) es ≡ take i es ++ e ∷ [] = take_more es i e low ∙ ap (λ x. take i es ++ x ∷ []) (sym is) in
+    let whole : es ≡ take (i + 1) es ++ drop (i + 1) es = sym (take-append-drop (i + 1) es) in
+    let prefix : IsLegalTrace setup (take (i + 1) es) = prefix_legal setup _ (take (i + 1) es) (drop (i + 1) es) refl (subst (IsLegalTrace setup) whole legal) in
     (up, subst (IsLegalTrace setup) up prefix)
 
 -- two lists are within the limits in either order

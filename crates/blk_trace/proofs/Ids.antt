@@ -6,7 +6,7 @@ use Rattle.std.specs.List.{filter_map, cons_option, list_any}
 use Rattle.std.proofs.lemmas.List.Folds.{list_any-append}
 use Rattle.std.proofs.lemmas.Bool.{cases_Bool, false_from_ne_true, or_cases, or_left, or_right}
 use Rattle.blk_bio.specs.Bios.{Bio}
-use Rattle.blk_trace.specs.Happened.{Happened, Released, Joined, Issued}
+use Rattle.blk_trace.specs.Happened.{Happened, Release, Join, Issue}
 use Rattle.blk_trace.specs.Kinds.{releases, issues, hands_back, is_tick}
 use Rattle.blk_trace.specs.Setups.{Setup}
 use Rattle.blk_trace.specs.Events.{At, goes_back, IsReleased, IsIssued, AreHandedBack}
@@ -78,9 +78,9 @@ has_picked f [] id h = absurd (cc)
 has_picked f (x ∷ es) id h = picked_first f x es id (f x) refl (λ r. has_picked f es id r) h
 
 -- the ids in the lists are those of the places
-pub released_has : (es : List Happened) (k id : ℕ) (q : List Bio) → At es k (Released id q) → has_id (released_ids es) id ≡ true
+pub released_has : (es : List Happened) (k id : ℕ) (q : List Bio) → At es k (Release id q) → has_id (released_ids es) id ≡ true
 unfolding released_ids
-released_has es k id q h = picked_has (λ e. option_map (λ p. p.0) (releases e)) es k (Released id q) id h refl
+released_has es k id q h = picked_has (λ e. option_map (λ p. p.0) (releases e)) es k (Release id q) id h refl
 
 pub has_released : (es : List Happened) (id : ℕ) → has_id (released_ids es) id ≡ true → IsReleased es id
 unfolding released_ids
@@ -93,7 +93,7 @@ has_released es id h =
 pub record IsServed (es : List Happened) (id : ℕ) : Type 0 where
   pub place : ℕ
   pub tag : ℕ
-  pub issued : At es place (Issued id tag)
+  pub issued : At es place (Issue id tag)
   pub stays : goes_back tag (drop (suc place) es) ≡ false
 
 served_later : (x : Happened) (es : List Happened) (id : ℕ) → IsServed es id → IsServed (x ∷ es) id
@@ -106,14 +106,14 @@ more_ids : (o : Option (ℕ × ℕ)) (xs : List (ℕ × ℕ)) (id : ℕ) → has
 more_ids None xs id h = h
 more_ids (Some s) xs id h = or_right (s.1 == id) _ h
 
-serves : (r : ℕ) (es : List Happened) (k id tag : ℕ) → At es k (Issued id tag) → goes_back tag (drop (suc k) es) ≡ false → has_id (ids_from r es) id ≡ true
+serves : (r : ℕ) (es : List Happened) (k id tag : ℕ) → At es k (Issue id tag) → goes_back tag (drop (suc k) es) ≡ false → has_id (ids_from r es) id ≡ true
 unfolding served
 serves r [] k id tag h g = absurd (cc)
 serves r (x ∷ es) zero id tag h g =
-    let is : Issued id tag ≡ x = cc in
-    let here : service r (Issued id tag) es ≡ Some (r, id) = ap (λ b. cond b None (Some (r, id))) g in
+    let is : Issue id tag ≡ x = cc in
+    let here : service r (Issue id tag) es ≡ Some (r, id) = ap (λ b. cond b None (Some (r, id))) g in
     let P : Happened → Type 0 = λ e. has_id (map (λ (s : ℕ × ℕ). s.1) (cons_option (service r e es) (served (cond (is_tick e) (r + 1) r) es))) id ≡ true in
-    let there : P (Issued id tag) = ap (λ o. has_id (map (λ (s : ℕ × ℕ). s.1) (cons_option o (served r es))) id) here ∙ or_left (id == id) _ (eq-eqb id id refl) in
+    let there : P (Issue id tag) = ap (λ o. has_id (map (λ (s : ℕ × ℕ). s.1) (cons_option o (served r es))) id) here ∙ or_left (id == id) _ (eq-eqb id id refl) in
     subst P is there
 serves r (x ∷ es) (suc k) id tag h g = more_ids (service r x es) (served (cond (is_tick x) (r + 1) r) es) id (serves (cond (is_tick x) (r + 1) r) es k id tag h g)
 
@@ -128,7 +128,7 @@ serving r x es id xs (Some p) is ih h =
           elim (or_cases (p.0 == id) (has_id (map (λ (s : ℕ × ℕ). s.1) xs) id) found) [
             | inl t ↦
                 let same : p.0 ≡ id = eqb-true p.0 id t in
-                record { place = 0; tag = p.1; issued = ap Some (issue_is x p is ∙ ap (λ (n : ℕ). Issued n p.1) same); stays = b }
+                record { place = 0; tag = p.1; issued = ap Some (issue_is x p is ∙ ap (λ (n : ℕ). Issue n p.1) same); stays = b }
             | inr t ↦ served_later x es id (ih t)
           ]
     ]
@@ -142,7 +142,7 @@ pub has_served : (es : List Happened) (id : ℕ) → has_id (issued_ids es) id �
 unfolding issued_ids
 has_served es id h = has_serving 0 es id h
 
-pub served_has : (es : List Happened) (k id tag : ℕ) → At es k (Issued id tag) → goes_back tag (drop (suc k) es) ≡ false → has_id (issued_ids es) id ≡ true
+pub served_has : (es : List Happened) (k id tag : ℕ) → At es k (Issue id tag) → goes_back tag (drop (suc k) es) ≡ false → has_id (issued_ids es) id ≡ true
 unfolding issued_ids
 served_has es k id tag h g = serves 0 es k id tag h g
 
@@ -165,18 +165,18 @@ pub issued_was : (es : List Happened) (id : ℕ) → IsIssued es id → was_issu
 unfolding was_issued
 issued_was es id p = at_place es p.0 id p.1.0 p.1.1
   where
-    at_place : (es : List Happened) (k id tag : ℕ) → At es k (Issued id tag) → list_any (λ e. option_map_or (λ p. p.0 == id) (issues e) false) es ≡ true
+    at_place : (es : List Happened) (k id tag : ℕ) → At es k (Issue id tag) → list_any (λ e. option_map_or (λ p. p.0 == id) (issues e) false) es ≡ true
     at_place [] k id tag h = absurd (cc)
     at_place (x ∷ es) zero id tag h =
-        let is : Issued id tag ≡ x = cc in
+        let is : Issue id tag ≡ x = cc in
         let P : Happened → Type 0 = λ e. (option_map_or (λ p. p.0 == id) (issues e) false || list_any (λ e. option_map_or (λ p. p.0 == id) (issues e) false) es) ≡ true in
-        let there : P (Issued id tag) = or_left (id == id) _ (eq-eqb id id refl) in
+        let there : P (Issue id tag) = or_left (id == id) _ (eq-eqb id id refl) in
         subst P is there
     at_place (x ∷ es) (suc k) id tag h = or_right (option_map_or (λ p. p.0 == id) (issues x) false) _ (at_place es k id tag h)
 
-test_issue : (x : Happened) (id : ℕ) (o : Option (ℕ × ℕ)) → issues x ≡ o → option_map_or (λ p. p.0 == id) o false ≡ true → (tag : ℕ) × (x ≡ Issued id tag)
+test_issue : (x : Happened) (id : ℕ) (o : Option (ℕ × ℕ)) → issues x ≡ o → option_map_or (λ p. p.0 == id) o false ≡ true → (tag : ℕ) × (x ≡ Issue id tag)
 test_issue x id None none h = absurd (cc)
-test_issue x id (Some p) is h = let same : p.0 ≡ id = eqb-true p.0 id h in (p.1, issue_is x p is ∙ ap (λ (n : ℕ). Issued n p.1) same)
+test_issue x id (Some p) is h = let same : p.0 ≡ id = eqb-true p.0 id h in (p.1, issue_is x p is ∙ ap (λ (n : ℕ). Issue n p.1) same)
 
 pub was_is : (es : List Happened) (id : ℕ) → was_issued es id ≡ true → IsIssued es id
 unfolding was_issued
@@ -210,7 +210,7 @@ released_first setup es id old p =
     (q.0, (q.1.0, of_take p.0 es q.0 _ q.1.1))
 
 -- an id that was joined was released
-pub joined_after : (setup : Setup) (es : List Happened) (k id : ℕ) (n : List Bio) → IsLegalTrace setup es → At es k (Joined id n) → IsReleased es id
+pub joined_after : (setup : Setup) (es : List Happened) (k id : ℕ) (n : List Bio) → IsLegalTrace setup es → At es k (Join id n) → IsReleased es id
 joined_after setup es k id n old h =
     let q = old.join_released k id n h in
     (q.0, (q.1.0, of_take k es q.0 _ q.1.1))

@@ -16,8 +16,13 @@ use Rattle.blk_trace.specs.declared.tags.TagUse.{TagUse}
 use Rattle.blk_trace.specs.declared.tags.TagUse.TheVariants.{Free, Open, Ended}
 use Rattle.blk_trace.specs.declared.trace.Prepared.{Prepared}
 use Rattle.blk_trace.specs.declared.trace.Prepared.TheVariants.{Nothing, AnIssue, Bios}
+<<<<<<< HEAD
 use Rattle.blk_bio.specs.declared.rule.TraceRule.TheVariants.{InFlight, NotIssued, Fit}
 use Rattle.blk_trace.specs.Happened.{Happened, Ticked, Released, Joined, Issued, Finished, Returned, DepthSet}
+=======
+use Rattle.blk_trace.specs.declared.rule.TraceRule.TheVariants.{InFlight, NotIssued, Fit}
+use Rattle.blk_trace.specs.Happened.{Happened, Tick, Release, Join, Issue, Done, Back, Depth}
+>>>>>>> events-b
 use Rattle.blk_trace.specs.Kinds.{releases, joins}
 use Rattle.blk_trace.specs.Setups.{Setup, IsSetup, expire_of}
 use Rattle.blk_trace.specs.Events.{round_of, open_count, entered, bios_of, join_up, request_of, IsOpenBy}
@@ -71,32 +76,32 @@ requests_kept setup es e r j old id h =
     let was : has_id (released_ids es) id ≡ true = sym (has_released_same es e id (ap (λ o. has_id (cons_option (option_map (λ p. p.0) o) []) id) r)) ∙ h in
     subst IsRequest (sym same.request) (old id was)
 
-requests_released : (setup : Setup) (es : List Happened) (i : ℕ) (bios : List Bio) → IsLegalTrace setup es → IsUnbroken setup es (Released i bios) → IsRequest bios → AreRequests es → AreRequests (es ++ Released i bios ∷ [])
+requests_released : (setup : Setup) (es : List Happened) (i : ℕ) (bios : List Bio) → IsLegalTrace setup es → IsUnbroken setup es (Release i bios) → IsRequest bios → AreRequests es → AreRequests (es ++ Release i bios ∷ [])
 unfolding released_ids
 requests_released setup es i bios legal all some old id h =
     elim (cases_Bool (i == id)) [
       | inl b ↦
           let none : HasNothing setup es id = nothing_before setup es i id bios legal all b in
-          let new : IsEntered setup es (es ++ Released i bios ∷ []) id bios = entered_released setup es i id bios b in
-          let is : request_of (es ++ Released i bios ∷ []) id ≡ bios = new.request ∙ ap (λ l. join_up l bios) none.request in
+          let new : IsEntered setup es (es ++ Release i bios ∷ []) id bios = entered_released setup es i id bios b in
+          let is : request_of (es ++ Release i bios ∷ []) id ≡ bios = new.request ∙ ap (λ l. join_up l bios) none.request in
           subst IsRequest (sym is) some
       | inr b ↦
-          let same : IsSame setup es (es ++ Released i bios ∷ []) id = same_entered setup es (Released i bios) id b in
-          let was : has_id (released_ids es) id ≡ true = sym (has_released_same es (Released i bios) id (rw b refl)) ∙ h in
+          let same : IsSame setup es (es ++ Release i bios ∷ []) id = same_entered setup es (Release i bios) id b in
+          let was : has_id (released_ids es) id ≡ true = sym (has_released_same es (Release i bios) id (rw b refl)) ∙ h in
           subst IsRequest (sym same.request) (old id was)
     ]
 
-requests_joined : (setup : Setup) (es : List Happened) (i : ℕ) (bios : List Bio) → IsUnbroken setup es (Joined i bios) → IsRequest bios → AreRequests es → AreRequests (es ++ Joined i bios ∷ [])
+requests_joined : (setup : Setup) (es : List Happened) (i : ℕ) (bios : List Bio) → IsUnbroken setup es (Join i bios) → IsRequest bios → AreRequests es → AreRequests (es ++ Join i bios ∷ [])
 unfolding released_ids
 requests_joined setup es i bios all request old id h =
-    let was : has_id (released_ids es) id ≡ true = sym (has_released_same es (Joined i bios) id refl) ∙ h in
+    let was : has_id (released_ids es) id ≡ true = sym (has_released_same es (Join i bios) id refl) ∙ h in
     elim (cases_Bool (i == id)) [
       | inl b ↦
-          let new : IsEntered setup es (es ++ Joined i bios ∷ []) id bios = entered_joined setup es i id bios b in
+          let new : IsEntered setup es (es ++ Join i bios ∷ []) id bios = entered_joined setup es i id bios b in
           let f : (x : Side) × Fits setup.limits (request_of es id) bios x = subst (λ (n : ℕ). (x : Side) × Fits setup.limits (request_of es n) bios x) (eqb-true i id b) (all Fit) in
           subst IsRequest (sym new.request) (join_request setup.limits (request_of es id) bios f.0 (old id was) request f.1)
       | inr b ↦
-          let same : IsSame setup es (es ++ Joined i bios ∷ []) id = same_entered setup es (Joined i bios) id b in
+          let same : IsSame setup es (es ++ Join i bios ∷ []) id = same_entered setup es (Join i bios) id b in
           subst IsRequest (sym same.request) (old id was)
     ]
 
@@ -107,45 +112,45 @@ waiting_request setup es id w some h =
     subst IsRequest (sym was.bios_is) (some id was.released)
 
 pub kept_tick : (setup : Setup) (es zs : List Happened) (cs : List Command) (rs : List ℕ) (round opened : ℕ) (known : ℕ → Option Known) (ids : BioId → Bool) (tags tags' : List TagUse)
-    → IsKeptTrace setup es cs rs round opened known ids tags → IsUnbroken setup es Ticked → zs ≡ es ++ Ticked ∷ [] → tags' ≡ replicate (length tags) Free
+    → IsKeptTrace setup es cs rs round opened known ids tags → IsUnbroken setup es Tick → zs ≡ es ++ Tick ∷ [] → tags' ≡ replicate (length tags) Free
     → IsKeptTrace setup zs cs rs (round + 1) opened known ids tags'
 kept_tick setup es zs cs rs round opened known ids tags tags' k all hz ht =
-    let new = push_legal setup es Ticked k.legal all tt in
+    let new = push_legal setup es Tick k.legal all tt in
     let P : List Happened → List TagUse → Type 0 = λ l t. IsKeptTrace setup l cs rs (round + 1) opened known ids t in
-    let here : P (es ++ Ticked ∷ []) (replicate (length tags) Free) = record {
+    let here : P (es ++ Tick ∷ []) (replicate (length tags) Free) = record {
       ranges = k.ranges;
       legal = new;
-      commands_are = k.commands_are ∙ sym (commands_kept setup es Ticked new refl refl);
-      rounds_are = k.rounds_are ∙ sym (rounds_kept es Ticked refl refl);
-      round_is = omega (arith, k.round_is, round_more es Ticked);
-      open_is = k.open_is ∙ sym (open_kept es Ticked refl refl);
-      known_are = λ q. k.known_are q ∙ sym (known_kept setup es Ticked refl refl refl refl q);
-      requests_are = requests_kept setup es Ticked refl refl k.requests_are;
-      ids_are = λ id. k.ids_are id ∙ sym (same_ids es Ticked id refl);
+      commands_are = k.commands_are ∙ sym (commands_kept setup es Tick new refl refl);
+      rounds_are = k.rounds_are ∙ sym (rounds_kept es Tick refl refl);
+      round_is = omega (arith, k.round_is, round_more es Tick);
+      open_is = k.open_is ∙ sym (open_kept es Tick refl refl);
+      known_are = λ q. k.known_are q ∙ sym (known_kept setup es Tick refl refl refl refl q);
+      requests_are = requests_kept setup es Tick refl refl k.requests_are;
+      ids_are = λ id. k.ids_are id ∙ sym (same_ids es Tick id refl);
       tags_are = tags_ticked es (length tags) (all InFlight);
       each_tag = replicated (length tags) Free ∙ k.each_tag;
     } in
     subst (λ t. P zs t) (sym ht) (subst (λ l. P l (replicate (length tags) Free)) (sym hz) here)
 
 pub kept_done : (setup : Setup) (es zs : List Happened) (tag : ℕ) (cs : List Command) (rs : List ℕ) (round opened : ℕ) (known : ℕ → Option Known) (ids : BioId → Bool) (tags : List TagUse)
-    → IsKeptTrace setup es cs rs round opened known ids tags → IsUnbroken setup es (Finished tag) → zs ≡ es ++ Finished tag ∷ []
+    → IsKeptTrace setup es cs rs round opened known ids tags → IsUnbroken setup es (Done tag) → zs ≡ es ++ Done tag ∷ []
     → IsKeptTrace setup zs cs rs round (opened - 1) known ids (set tags tag Ended)
 kept_done setup es zs tag cs rs round opened known ids tags k all hz =
-    let new = push_legal setup es (Finished tag) k.legal all tt in
+    let new = push_legal setup es (Done tag) k.legal all tt in
     let P : List Happened → Type 0 = λ l. IsKeptTrace setup l cs rs round (opened - 1) known ids (set tags tag Ended) in
     let found = open_found setup es tags k.legal k.each_tag k.tags_are tag (all NotIssued) in
     let used : IsTagUse es tag (Open found.0) = k.tags_are tag (Open found.0) found.1 in
-    let here : P (es ++ Finished tag ∷ []) = record {
+    let here : P (es ++ Done tag ∷ []) = record {
       ranges = k.ranges;
       legal = new;
-      commands_are = k.commands_are ∙ sym (commands_kept setup es (Finished tag) new refl refl);
-      rounds_are = k.rounds_are ∙ sym (rounds_kept es (Finished tag) refl refl);
-      round_is = omega (arith, k.round_is, round_more es (Finished tag));
-      open_is = omega (arith, k.open_is, open_end es (Finished tag) tag refl);
-      known_are = λ q. k.known_are q ∙ sym (known_kept setup es (Finished tag) refl refl refl refl q);
-      requests_are = requests_kept setup es (Finished tag) refl refl k.requests_are;
-      ids_are = λ id. k.ids_are id ∙ sym (same_ids es (Finished tag) id refl);
-      tags_are = tags_ended es (Finished tag) tags tag refl used.0 k.tags_are;
+      commands_are = k.commands_are ∙ sym (commands_kept setup es (Done tag) new refl refl);
+      rounds_are = k.rounds_are ∙ sym (rounds_kept es (Done tag) refl refl);
+      round_is = omega (arith, k.round_is, round_more es (Done tag));
+      open_is = omega (arith, k.open_is, open_end es (Done tag) tag refl);
+      known_are = λ q. k.known_are q ∙ sym (known_kept setup es (Done tag) refl refl refl refl q);
+      requests_are = requests_kept setup es (Done tag) refl refl k.requests_are;
+      ids_are = λ id. k.ids_are id ∙ sym (same_ids es (Done tag) id refl);
+      tags_are = tags_ended es (Done tag) tags tag refl used.0 k.tags_are;
       each_tag = length_set tags tag Ended ∙ k.each_tag;
     } in
     subst P (sym hz) here
@@ -170,125 +175,125 @@ pub kept_out : (setup : Setup) (es : List Happened) (tag id place : ℕ) (c d : 
     → IsKeptTrace setup es cs rs round opened known ids tags → IsOpenBy es tag id → slice_get cs place ≡ Some c → c.id ≡ id → d ≡ get_or cs place d
     → (d ≡ command_of setup es id) × (known d.id ≡ Some Gone)
 kept_out setup es tag id place c d cs rs round opened known ids tags k by at is taken =
-    let out : IsDropped setup es (es ++ Returned tag ∷ []) id place cs rs = dropped setup es tag id place cs rs c k.legal by k.commands_are k.rounds_are at is in
+    let out : IsDropped setup es (es ++ Back tag ∷ []) id place cs rs = dropped setup es tag id place cs rs c k.legal by k.commands_are k.rounds_are at is in
     let same : d ≡ command_of setup es id = taken_there cs place d (command_of setup es id) (slice_get_within cs place c at) out.there taken in
     let named : d.id ≡ id = ap (λ (x : Command). x.id) same in
     (same, ap known named ∙ k.known_are id ∙ known_open setup es tag id k.legal by)
 
 -- after a Back the command is no longer kept, and its request waits again
 pub kept_back : (setup : Setup) (es zs : List Happened) (tag id : ℕ) (cs ds : List Command) (rs ss : List ℕ) (round opened : ℕ) (known known' : ℕ → Option Known) (ids : BioId → Bool) (tags : List TagUse)
-    → IsKeptTrace setup es cs rs round opened known ids tags → IsUnbroken setup es (Returned tag) → IsOpenBy es tag id → zs ≡ es ++ Returned tag ∷ []
-    → ds ≡ commands_of setup (es ++ Returned tag ∷ []) → ss ≡ rounds_of (es ++ Returned tag ∷ [])
+    → IsKeptTrace setup es cs rs round opened known ids tags → IsUnbroken setup es (Back tag) → IsOpenBy es tag id → zs ≡ es ++ Back tag ∷ []
+    → ds ≡ commands_of setup (es ++ Back tag ∷ []) → ss ≡ rounds_of (es ++ Back tag ∷ [])
     → ((q : ℕ) → known' q ≡ cond (id == q) (Some (Handed (release_of es id) (due_of setup es id))) (known q))
     → IsKeptTrace setup zs ds ss round (opened - 1) known' ids (set tags tag Ended)
 kept_back setup es zs tag id cs ds rs ss round opened known known' ids tags k all by hz hd hs hk =
-    let new = push_legal setup es (Returned tag) k.legal all tt in
+    let new = push_legal setup es (Back tag) k.legal all tt in
     let P : List Happened → Type 0 = λ l. IsKeptTrace setup l ds ss round (opened - 1) known' ids (set tags tag Ended) in
     let found = open_found setup es tags k.legal k.each_tag k.tags_are tag (all NotIssued) in
     let used : IsTagUse es tag (Open found.0) = k.tags_are tag (Open found.0) found.1 in
-    let here : P (es ++ Returned tag ∷ []) = record {
+    let here : P (es ++ Back tag ∷ []) = record {
       ranges = k.ranges;
       legal = new;
       commands_are = hd;
       rounds_are = hs;
-      round_is = omega (arith, k.round_is, round_more es (Returned tag));
-      open_is = omega (arith, k.open_is, open_end es (Returned tag) tag refl);
+      round_is = omega (arith, k.round_is, round_more es (Back tag));
+      open_is = omega (arith, k.open_is, open_end es (Back tag) tag refl);
       known_are = λ q. hk q ∙ ap (λ x. cond (id == q) (Some (Handed (release_of es id) (due_of setup es id))) x) (k.known_are q) ∙ sym (known_returned setup es tag id k.legal by q);
-      requests_are = requests_kept setup es (Returned tag) refl refl k.requests_are;
-      ids_are = λ b. k.ids_are b ∙ sym (same_ids es (Returned tag) b refl);
-      tags_are = tags_ended es (Returned tag) tags tag refl used.0 k.tags_are;
+      requests_are = requests_kept setup es (Back tag) refl refl k.requests_are;
+      ids_are = λ b. k.ids_are b ∙ sym (same_ids es (Back tag) b refl);
+      tags_are = tags_ended es (Back tag) tags tag refl used.0 k.tags_are;
       each_tag = length_set tags tag Ended ∙ k.each_tag;
     } in
     subst P (sym hz) here
 
 pub kept_issue : (setup : Setup) (es zs : List Happened) (id tag : ℕ) (w : Entered) (cs ds : List Command) (rs ss : List ℕ) (round opened : ℕ) (known known' : ℕ → Option Known) (ids : BioId → Bool) (tags : List TagUse)
-    → IsKeptTrace setup es cs rs round opened known ids tags → IsUnbroken setup es (Issued id tag) → zs ≡ es ++ Issued id tag ∷ []
+    → IsKeptTrace setup es cs rs round opened known ids tags → IsUnbroken setup es (Issue id tag) → zs ≡ es ++ Issue id tag ∷ []
     → waits_at setup es id ≡ Some w → ds ≡ cs ++ record { id = id; release = w.release; due = w.due } ∷ [] → ss ≡ rs ++ round ∷ []
     → ((q : ℕ) → known' q ≡ cond (id == q) (Some Gone) (known q))
     → IsKeptTrace setup zs ds ss round (opened + 1) known' ids (set tags tag (Open id))
 kept_issue setup es zs id tag w cs ds rs ss round opened known known' ids tags k all hz waits hd hs hk =
-    let new = push_legal setup es (Issued id tag) k.legal all tt in
+    let new = push_legal setup es (Issue id tag) k.legal all tt in
     let P : List Happened → Type 0 = λ l. IsKeptTrace setup l ds ss round (opened + 1) known' ids (set tags tag (Open id)) in
-    let here : P (es ++ Issued id tag ∷ []) = record {
+    let here : P (es ++ Issue id tag ∷ []) = record {
       ranges = k.ranges;
       legal = new;
       commands_are = hd ∙ ap (λ l. l ++ record { id = id; release = w.release; due = w.due } ∷ []) k.commands_are ∙ sym (commands-issued setup es id tag new w waits);
       rounds_are = hs ∙ ap (λ l. l ++ round ∷ []) k.rounds_are ∙ ap (λ n. rounds_of es ++ n ∷ []) k.round_is ∙ sym (rounds-issued es id tag);
-      round_is = omega (arith, k.round_is, round_more es (Issued id tag));
+      round_is = omega (arith, k.round_is, round_more es (Issue id tag));
       open_is = omega (arith, k.open_is, open_issue setup es id tag k.legal);
       known_are = λ q. hk q ∙ ap (λ x. cond (id == q) (Some Gone) x) (k.known_are q) ∙ sym (known_issued setup es id tag new q);
-      requests_are = requests_kept setup es (Issued id tag) refl refl k.requests_are;
-      ids_are = λ b. k.ids_are b ∙ sym (same_ids es (Issued id tag) b refl);
+      requests_are = requests_kept setup es (Issue id tag) refl refl k.requests_are;
+      ids_are = λ b. k.ids_are b ∙ sym (same_ids es (Issue id tag) b refl);
       tags_are = tags_issued es tags id tag k.tags_are;
       each_tag = length_set tags tag (Open id) ∙ k.each_tag;
     } in
     subst P (sym hz) here
 
 pub kept_release : (setup : Setup) (es zs : List Happened) (id : ℕ) (bios : List Bio) (s : Waiting) (cs : List Command) (rs : List ℕ) (round opened : ℕ) (known known' : ℕ → Option Known) (ids ids' : BioId → Bool) (tags : List TagUse)
-    → IsKeptTrace setup es cs rs round opened known ids tags → IsUnbroken setup es (Released id bios) → zs ≡ es ++ Released id bios ∷ [] → IsRequest bios
+    → IsKeptTrace setup es cs rs round opened known ids tags → IsUnbroken setup es (Release id bios) → zs ≡ es ++ Release id bios ∷ [] → IsRequest bios
     → s ≡ summary record { release = round; due = round + expire_of setup (dir_of bios); bios = bios }
     → ((q : ℕ) → known' q ≡ cond (id == q) (Some (Waits s)) (known q)) → ((b : BioId) → ids' b ≡ (ids b || has_bio_id bios b))
     → IsKeptTrace setup zs cs rs round opened known' ids' tags
 kept_release setup es zs id bios s cs rs round opened known known' ids ids' tags k all hz request hs hk hb =
-    let new = push_legal setup es (Released id bios) k.legal all request in
+    let new = push_legal setup es (Release id bios) k.legal all request in
     let P : List Happened → Type 0 = λ l. IsKeptTrace setup l cs rs round opened known' ids' tags in
     let now : s ≡ summary record { release = round_of es; due = round_of es + expire_of setup (dir_of bios); bios = bios } = hs ∙ ap (λ n. summary record { release = n; due = n + expire_of setup (dir_of bios); bios = bios }) k.round_is in
-    let here : P (es ++ Released id bios ∷ []) = record {
+    let here : P (es ++ Release id bios ∷ []) = record {
       ranges = k.ranges;
       legal = new;
-      commands_are = k.commands_are ∙ sym (commands_kept setup es (Released id bios) new refl refl);
-      rounds_are = k.rounds_are ∙ sym (rounds_kept es (Released id bios) refl refl);
-      round_is = omega (arith, k.round_is, round_more es (Released id bios));
-      open_is = k.open_is ∙ sym (open_kept es (Released id bios) refl refl);
+      commands_are = k.commands_are ∙ sym (commands_kept setup es (Release id bios) new refl refl);
+      rounds_are = k.rounds_are ∙ sym (rounds_kept es (Release id bios) refl refl);
+      round_is = omega (arith, k.round_is, round_more es (Release id bios));
+      open_is = k.open_is ∙ sym (open_kept es (Release id bios) refl refl);
       known_are = λ q. hk q ∙ ap (λ x. cond (id == q) (Some (Waits s)) x) (k.known_are q) ∙ ap (λ x. cond (id == q) (Some (Waits x)) (known_of setup es q)) now ∙ sym (known_released setup es id bios new q);
       requests_are = requests_released setup es id bios k.legal all request k.requests_are;
-      ids_are = λ b. hb b ∙ ap (λ x. x || has_bio_id bios b) (k.ids_are b) ∙ sym (ids_more es (Released id bios) b);
-      tags_are = tags_kept es (Released id bios) tags refl refl refl k.tags_are;
+      ids_are = λ b. hb b ∙ ap (λ x. x || has_bio_id bios b) (k.ids_are b) ∙ sym (ids_more es (Release id bios) b);
+      tags_are = tags_kept es (Release id bios) tags refl refl refl k.tags_are;
       each_tag = k.each_tag;
     } in
     subst P (sym hz) here
 
 pub kept_join : (setup : Setup) (es zs : List Happened) (id : ℕ) (bios : List Bio) (w : Entered) (s : Waiting) (cs : List Command) (rs : List ℕ) (round opened : ℕ) (known known' : ℕ → Option Known) (ids ids' : BioId → Bool) (tags : List TagUse)
-    → IsKeptTrace setup es cs rs round opened known ids tags → IsUnbroken setup es (Joined id bios) → zs ≡ es ++ Joined id bios ∷ [] → IsRequest bios
+    → IsKeptTrace setup es cs rs round opened known ids tags → IsUnbroken setup es (Join id bios) → zs ≡ es ++ Join id bios ∷ [] → IsRequest bios
     → waits_at setup es id ≡ Some w → s ≡ summary record { release = round; due = w.due; bios = join_up w.bios bios }
     → ((q : ℕ) → known' q ≡ cond (id == q) (Some (Waits s)) (known q)) → ((b : BioId) → ids' b ≡ (ids b || has_bio_id bios b))
     → IsKeptTrace setup zs cs rs round opened known' ids' tags
 kept_join setup es zs id bios w s cs rs round opened known known' ids ids' tags k all hz request waits hs hk hb =
-    let new = push_legal setup es (Joined id bios) k.legal all request in
+    let new = push_legal setup es (Join id bios) k.legal all request in
     let P : List Happened → Type 0 = λ l. IsKeptTrace setup l cs rs round opened known' ids' tags in
     let now : s ≡ summary record { release = round_of es; due = w.due; bios = join_up w.bios bios } = hs ∙ ap (λ n. summary record { release = n; due = w.due; bios = join_up w.bios bios }) k.round_is in
-    let here : P (es ++ Joined id bios ∷ []) = record {
+    let here : P (es ++ Join id bios ∷ []) = record {
       ranges = k.ranges;
       legal = new;
-      commands_are = k.commands_are ∙ sym (commands_kept setup es (Joined id bios) new refl refl);
-      rounds_are = k.rounds_are ∙ sym (rounds_kept es (Joined id bios) refl refl);
-      round_is = omega (arith, k.round_is, round_more es (Joined id bios));
-      open_is = k.open_is ∙ sym (open_kept es (Joined id bios) refl refl);
+      commands_are = k.commands_are ∙ sym (commands_kept setup es (Join id bios) new refl refl);
+      rounds_are = k.rounds_are ∙ sym (rounds_kept es (Join id bios) refl refl);
+      round_is = omega (arith, k.round_is, round_more es (Join id bios));
+      open_is = k.open_is ∙ sym (open_kept es (Join id bios) refl refl);
       known_are = λ q. hk q ∙ ap (λ x. cond (id == q) (Some (Waits s)) x) (k.known_are q) ∙ ap (λ x. cond (id == q) (Some (Waits x)) (known_of setup es q)) now ∙ sym (known_joined setup es id bios new w waits q);
       requests_are = requests_joined setup es id bios all request k.requests_are;
-      ids_are = λ b. hb b ∙ ap (λ x. x || has_bio_id bios b) (k.ids_are b) ∙ sym (ids_more es (Joined id bios) b);
-      tags_are = tags_kept es (Joined id bios) tags refl refl refl k.tags_are;
+      ids_are = λ b. hb b ∙ ap (λ x. x || has_bio_id bios b) (k.ids_are b) ∙ sym (ids_more es (Join id bios) b);
+      tags_are = tags_kept es (Join id bios) tags refl refl refl k.tags_are;
       each_tag = k.each_tag;
     } in
     subst P (sym hz) here
 
 pub kept_depth : (setup : Setup) (es zs : List Happened) (depth : ℕ) (cs : List Command) (rs : List ℕ) (round opened : ℕ) (known : ℕ → Option Known) (ids : BioId → Bool) (tags : List TagUse)
-    → IsKeptTrace setup es cs rs round opened known ids tags → IsUnbroken setup es (DepthSet depth) → zs ≡ es ++ DepthSet depth ∷ []
+    → IsKeptTrace setup es cs rs round opened known ids tags → IsUnbroken setup es (Depth depth) → zs ≡ es ++ Depth depth ∷ []
     → IsKeptTrace setup zs cs rs round opened known ids tags
 kept_depth setup es zs depth cs rs round opened known ids tags k all hz =
-    let new = push_legal setup es (DepthSet depth) k.legal all tt in
+    let new = push_legal setup es (Depth depth) k.legal all tt in
     let P : List Happened → Type 0 = λ l. IsKeptTrace setup l cs rs round opened known ids tags in
-    let here : P (es ++ DepthSet depth ∷ []) = record {
+    let here : P (es ++ Depth depth ∷ []) = record {
       ranges = k.ranges;
       legal = new;
-      commands_are = k.commands_are ∙ sym (commands_kept setup es (DepthSet depth) new refl refl);
-      rounds_are = k.rounds_are ∙ sym (rounds_kept es (DepthSet depth) refl refl);
-      round_is = omega (arith, k.round_is, round_more es (DepthSet depth));
-      open_is = k.open_is ∙ sym (open_kept es (DepthSet depth) refl refl);
-      known_are = λ q. k.known_are q ∙ sym (known_kept setup es (DepthSet depth) refl refl refl refl q);
-      requests_are = requests_kept setup es (DepthSet depth) refl refl k.requests_are;
-      ids_are = λ id. k.ids_are id ∙ sym (same_ids es (DepthSet depth) id refl);
-      tags_are = tags_kept es (DepthSet depth) tags refl refl refl k.tags_are;
+      commands_are = k.commands_are ∙ sym (commands_kept setup es (Depth depth) new refl refl);
+      rounds_are = k.rounds_are ∙ sym (rounds_kept es (Depth depth) refl refl);
+      round_is = omega (arith, k.round_is, round_more es (Depth depth));
+      open_is = k.open_is ∙ sym (open_kept es (Depth depth) refl refl);
+      known_are = λ q. k.known_are q ∙ sym (known_kept setup es (Depth depth) refl refl refl refl q);
+      requests_are = requests_kept setup es (Depth depth) refl refl k.requests_are;
+      ids_are = λ id. k.ids_are id ∙ sym (same_ids es (Depth depth) id refl);
+      tags_are = tags_kept es (Depth depth) tags refl refl refl k.tags_are;
       each_tag = k.each_tag;
     } in
     subst P (sym hz) here
@@ -341,15 +346,15 @@ pub kept_tags : (setup : Setup) (es : List Happened) (cs : List Command) (rs : L
 kept_tags setup es cs rs round opened known ids tags tags' k h = let P : List TagUse → Type 0 = λ t. IsKeptTrace setup es cs rs round opened known ids t in subst P (sym h) k
 
 -- the room that is left
-pub room_after_tick : (p : Prepared) (n n' o c r P P' C R K I : ℕ) → IsPreparedFor p Ticked → HasRoom p n o c r P C R K I → n' ≡ n + 1 → P ≤ P' → HasRoom Nothing n' o c r P' C R K I
+pub room_after_tick : (p : Prepared) (n n' o c r P P' C R K I : ℕ) → IsPreparedFor p Tick → HasRoom p n o c r P C R K I → n' ≡ n + 1 → P ≤ P' → HasRoom Nothing n' o c r P' C R K I
 room_after_tick Nothing n n' o c r P P' C R K I h room hn more = absurd h
 room_after_tick AnIssue n n' o c r P P' C R K I h room hn more = record { for_events = omega (arith, room.for_events, hn, more); for_command = omega (arith, room.for_command); for_round = omega (arith, room.for_round); for_request = omega arith; for_bios = omega arith }
 room_after_tick (Bios m) n n' o c r P P' C R K I h room hn more = absurd h
 
-pub room_after_depth : (p : Prepared) (depth n n' o c r P P' C R K I : ℕ) → IsPreparedFor p (DepthSet depth) → HasRoom p n o c r P C R K I → n' ≡ n + 1 → P ≤ P' → HasRoom Nothing n' o c r P' C R K I
+pub room_after_depth : (p : Prepared) (depth n n' o c r P P' C R K I : ℕ) → IsPreparedFor p (Depth depth) → HasRoom p n o c r P C R K I → n' ≡ n + 1 → P ≤ P' → HasRoom Nothing n' o c r P' C R K I
 room_after_depth p depth n n' o c r P P' C R K I h room hn more = room_after_tick p n n' o c r P P' C R K I h room hn more
 
-pub room_after_issue : (p : Prepared) (id tag n n' o c c' r r' P P' C C' R R' K K' I : ℕ) → IsPreparedFor p (Issued id tag) → HasRoom p n o c r P C R K I → n' ≡ n + 1 → c' ≡ c + 1 → r' ≡ r + 1 → P ≤ P' → C ≤ C' → R ≤ R' → HasRoom Nothing n' (o + 1) c' r' P' C' R' K' I
+pub room_after_issue : (p : Prepared) (id tag n n' o c c' r r' P P' C C' R R' K K' I : ℕ) → IsPreparedFor p (Issue id tag) → HasRoom p n o c r P C R K I → n' ≡ n + 1 → c' ≡ c + 1 → r' ≡ r + 1 → P ≤ P' → C ≤ C' → R ≤ R' → HasRoom Nothing n' (o + 1) c' r' P' C' R' K' I
 room_after_issue Nothing id tag n n' o c c' r r' P P' C C' R R' K K' I h room hn hc hr p q s = absurd h
 room_after_issue AnIssue id tag n n' o c c' r r' P P' C C' R R' K K' I h room hn hc hr p q s = record { for_events = omega (arith, room.for_events, hn, p); for_command = omega (arith, room.for_command, hc, q); for_round = omega (arith, room.for_round, hr, s); for_request = omega arith; for_bios = omega arith }
 room_after_issue (Bios m) id tag n n' o c c' r r' P P' C C' R R' K K' I h room hn hc hr p q s = absurd h
@@ -365,12 +370,12 @@ room_after_back p n n' o c c' r r' P P' C C' R R' K K' I h room hn more hc hr kc
 pub room_after_entry : (p : Prepared) (n n' o c r P P' C R K K' I I' : ℕ) → 1 ≤ event_room p → HasRoom p n o c r P C R K I → n' ≡ n + 1 → P ≤ P' → HasRoom Nothing n' o c r P' C R K' I'
 room_after_entry p n n' o c r P P' C R K K' I I' h room hn more = record { for_events = omega (arith, room.for_events, hn, more, h); for_command = omega (arith, room.for_command); for_round = omega (arith, room.for_round); for_request = omega arith; for_bios = omega arith }
 
-pub entry_room : (p : Prepared) (id : ℕ) (bios : List Bio) → IsPreparedFor p (Released id bios) → (1 ≤ event_room p) × (1 ≤ request_room p) × (bio_room p ≡ length bios)
+pub entry_room : (p : Prepared) (id : ℕ) (bios : List Bio) → IsPreparedFor p (Release id bios) → (1 ≤ event_room p) × (1 ≤ request_room p) × (bio_room p ≡ length bios)
 entry_room Nothing id bios h = absurd h
 entry_room AnIssue id bios h = absurd h
 entry_room (Bios n) id bios h = (omega arith, omega arith, sym h)
 
-pub join_room : (p : Prepared) (id : ℕ) (bios : List Bio) → IsPreparedFor p (Joined id bios) → (1 ≤ event_room p) × (1 ≤ request_room p) × (bio_room p ≡ length bios)
+pub join_room : (p : Prepared) (id : ℕ) (bios : List Bio) → IsPreparedFor p (Join id bios) → (1 ≤ event_room p) × (1 ≤ request_room p) × (bio_room p ≡ length bios)
 join_room Nothing id bios h = absurd h
 join_room AnIssue id bios h = absurd h
 join_room (Bios n) id bios h = (omega arith, omega arith, sym h)

@@ -7,8 +7,13 @@ use Rattle.blk_bio.specs.Requests.{dir_of}
 use Rattle.blk_trace.specs.declared.known.Waiting.{Waiting}
 use Rattle.blk_trace.specs.declared.known.Known.{Known}
 use Rattle.blk_trace.specs.declared.known.Known.TheVariants.{Waits, Gone, Handed}
+<<<<<<< HEAD
 use Rattle.blk_bio.specs.declared.rule.TraceRule.TheVariants.{ReleasedTwice, AlreadyIssued}
 use Rattle.blk_trace.specs.Happened.{Happened, Released, Joined, Issued, Returned}
+=======
+use Rattle.blk_trace.specs.declared.rule.TraceRule.TheVariants.{ReleasedTwice, AlreadyIssued}
+use Rattle.blk_trace.specs.Happened.{Happened, Release, Join, Issue, Back}
+>>>>>>> events-b
 use Rattle.blk_trace.specs.Kinds.{releases, joins, issues, hands_back}
 use Rattle.blk_trace.specs.Setups.{Setup, expire_of}
 use Rattle.blk_trace.specs.Events.{round_of, join_up, request_of, IsReleased, IsIssued, AreHandedBack, IsOpenBy}
@@ -46,20 +51,20 @@ put_off : (b gone ever : Bool) (x : Entered) (y : Option Entered) → (b ≡ tru
 put_off true gone ever x y h n = ap (λ g. kept_from g ever (Some x)) (h refl) ∙ ap (λ g. kept_from false g (Some x)) (n refl)
 put_off false gone ever x y h n = refl
 
-pub known_released : (setup : Setup) (es : List Happened) (id : ℕ) (bios : List Bio) → IsLegalTrace setup (es ++ Released id bios ∷ []) → (q : ℕ)
-    → known_of setup (es ++ Released id bios ∷ []) q ≡ cond (id == q) (Some (Waits (summary record { release = round_of es; due = round_of es + expire_of setup (dir_of bios); bios = bios }))) (known_of setup es q)
+pub known_released : (setup : Setup) (es : List Happened) (id : ℕ) (bios : List Bio) → IsLegalTrace setup (es ++ Release id bios ∷ []) → (q : ℕ)
+    → known_of setup (es ++ Release id bios ∷ []) q ≡ cond (id == q) (Some (Waits (summary record { release = round_of es; due = round_of es + expire_of setup (dir_of bios); bios = bios }))) (known_of setup es q)
 known_released setup es id bios legal q =
-    let old = shorter_legal setup es (Released id bios) legal in
-    let never : IsIssued es id → ⊥ = λ p. obeys setup es (Released id bios) legal ReleasedTwice (released_first setup es id old p) in
-    known_by setup _ q _ _ _ (has_issued_same es (Released id bios) q refl refl) (was_kept es (Released id bios) q refl) (waits-released setup es id bios legal q)
+    let old = shorter_legal setup es (Release id bios) legal in
+    let never : IsIssued es id → ⊥ = λ p. obeys setup es (Release id bios) legal ReleasedTwice (released_first setup es id old p) in
+    known_by setup _ q _ _ _ (has_issued_same es (Release id bios) q refl refl) (was_kept es (Release id bios) q refl) (waits-released setup es id bios legal q)
     ∙ put_off (id == q) (has_id (issued_ids es) q) (was_issued es q) _ (waits_at setup es q) (λ t. subst (λ n. has_id (issued_ids es) n ≡ false) (eqb-true id q t) (not_issued es id never)) (λ t. subst (λ n. was_issued es n ≡ false) (eqb-true id q t) (never_was es id never))
     ∙ ap (λ x. cond (id == q) (Some (Waits (summary record { release = round_of es; due = round_of es + expire_of setup (dir_of bios); bios = bios }))) x) (sym (known_is setup es q))
 
-pub known_joined : (setup : Setup) (es : List Happened) (id : ℕ) (bios : List Bio) → IsLegalTrace setup (es ++ Joined id bios ∷ []) → (w : Entered) → waits_at setup es id ≡ Some w → (q : ℕ)
-    → known_of setup (es ++ Joined id bios ∷ []) q ≡ cond (id == q) (Some (Waits (summary record { release = round_of es; due = w.due; bios = join_up w.bios bios }))) (known_of setup es q)
+pub known_joined : (setup : Setup) (es : List Happened) (id : ℕ) (bios : List Bio) → IsLegalTrace setup (es ++ Join id bios ∷ []) → (w : Entered) → waits_at setup es id ≡ Some w → (q : ℕ)
+    → known_of setup (es ++ Join id bios ∷ []) q ≡ cond (id == q) (Some (Waits (summary record { release = round_of es; due = w.due; bios = join_up w.bios bios }))) (known_of setup es q)
 known_joined setup es id bios legal w waits q =
-    let never : IsIssued es id → ⊥ = obeys setup es (Joined id bios) legal AlreadyIssued in
-    known_by setup _ q _ _ _ (has_issued_same es (Joined id bios) q refl refl) (was_kept es (Joined id bios) q refl) (waits-joined setup es id bios legal w waits q)
+    let never : IsIssued es id → ⊥ = obeys setup es (Join id bios) legal AlreadyIssued in
+    known_by setup _ q _ _ _ (has_issued_same es (Join id bios) q refl refl) (was_kept es (Join id bios) q refl) (waits-joined setup es id bios legal w waits q)
     ∙ put_off (id == q) (has_id (issued_ids es) q) (was_issued es q) _ (waits_at setup es q) (λ t. subst (λ n. has_id (issued_ids es) n ≡ false) (eqb-true id q t) (not_issued es id never)) (λ t. subst (λ n. was_issued es n ≡ false) (eqb-true id q t) (never_was es id never))
     ∙ ap (λ x. cond (id == q) (Some (Waits (summary record { release = round_of es; due = w.due; bios = join_up w.bios bios }))) x) (sym (known_is setup es q))
 
@@ -74,10 +79,10 @@ one_more : (b : Bool) → (b || false) ≡ b
 one_more true = refl
 one_more false = refl
 
-pub known_issued : (setup : Setup) (es : List Happened) (id tag : ℕ) → IsLegalTrace setup (es ++ Issued id tag ∷ []) → (q : ℕ)
-    → known_of setup (es ++ Issued id tag ∷ []) q ≡ cond (id == q) (Some Gone) (known_of setup es q)
+pub known_issued : (setup : Setup) (es : List Happened) (id tag : ℕ) → IsLegalTrace setup (es ++ Issue id tag ∷ []) → (q : ℕ)
+    → known_of setup (es ++ Issue id tag ∷ []) q ≡ cond (id == q) (Some Gone) (known_of setup es q)
 known_issued setup es id tag legal q =
-    known_by setup _ q _ _ _ (has_issued_more es (Issued id tag) q refl ∙ ap (λ x. has_id (issued_ids es) q || x) (one_more (id == q))) (was_issued_more es (Issued id tag) q) (waits-issued setup es id tag legal q)
+    known_by setup _ q _ _ _ (has_issued_more es (Issue id tag) q refl ∙ ap (λ x. has_id (issued_ids es) q || x) (one_more (id == q))) (was_issued_more es (Issue id tag) q) (waits-issued setup es id tag legal q)
     ∙ goes (id == q) (has_id (issued_ids es) q) (was_issued es q) (waits_at setup es q)
     ∙ ap (λ x. cond (id == q) (Some Gone) x) (sym (known_is setup es q))
 
@@ -86,11 +91,11 @@ comes_back true gone was ever x y h e n = ap (λ g. kept_from g ever (Some x)) (
 comes_back false gone was ever x y h e n = ap (λ g. kept_from g ever y) (n refl)
 
 pub known_returned : (setup : Setup) (es : List Happened) (t id : ℕ) → IsLegalTrace setup es → IsOpenBy es t id → (q : ℕ)
-    → known_of setup (es ++ Returned t ∷ []) q ≡ cond (id == q) (Some (Handed (release_of es id) (due_of setup es id))) (known_of setup es q)
+    → known_of setup (es ++ Back t ∷ []) q ≡ cond (id == q) (Some (Handed (release_of es id) (due_of setup es id))) (known_of setup es q)
 known_returned setup es t id legal o q =
-    let fs : List Happened = es ++ Returned t ∷ [] in
+    let fs : List Happened = es ++ Back t ∷ [] in
     let out : IsOut (issued_ids es) (issued_ids fs) id = returned_ids setup es t id legal o in
-    known_by setup fs q _ _ _ refl (was_kept es (Returned t) q refl) (waits_returned setup es t id legal o q)
+    known_by setup fs q _ _ _ refl (was_kept es (Back t) q refl) (waits_returned setup es t id legal o q)
     ∙ comes_back (id == q) (has_id (issued_ids fs) q) (has_id (issued_ids es) q) (was_issued es q) (entry_of setup es id) (waits_at setup es q)
     (λ b. subst (λ n. has_id (issued_ids fs) n ≡ false) (eqb-true id q b) out.gone)
     (λ b. issued_was es q (subst (IsIssued es) (eqb-true id q b) (open_issued es t id o)))

@@ -8,8 +8,13 @@ use Rattle.blk_bio.specs.Bios.{Bio}
 use Rattle.blk_bio.specs.declared.bio.Dir.{Dir}
 use Rattle.blk_bio.specs.declared.bio.Dir.TheVariants.{Read, Write}
 use Rattle.blk_bio.specs.Requests.{dir_of}
+<<<<<<< HEAD
 use Rattle.blk_bio.specs.declared.rule.TraceRule.TheVariants.{TagUsed, InFlight, Unknown, AlreadyIssued}
 use Rattle.blk_trace.specs.Happened.{Happened, Ticked, Released, Joined, Issued, Finished}
+=======
+use Rattle.blk_trace.specs.declared.rule.TraceRule.TheVariants.{TagUsed, InFlight, Unknown, AlreadyIssued}
+use Rattle.blk_trace.specs.Happened.{Happened, Tick, Release, Join, Issue, Done}
+>>>>>>> events-b
 use Rattle.blk_trace.specs.Kinds.{issues, ends, is_issue, is_end}
 use Rattle.blk_trace.specs.Setups.{Setup, same_dir}
 use Rattle.blk_trace.specs.Events.{is_tick, open_count, request_of, IsOpen}
@@ -31,7 +36,7 @@ use Rattle.blk_trace.proofs.Counting.{one_if, count_none, count_same, count_push
 unfoldable pub tags : List Happened → List ℕ
 tags es = filter_map issue_tag (this_round es)
 
-pub tags_tick : (es : List Happened) → tags (es ++ Ticked ∷ []) ≡ []
+pub tags_tick : (es : List Happened) → tags (es ++ Tick ∷ []) ≡ []
 unfolding tags
 tags_tick es = ap (filter_map issue_tag) (now_tick es)
 
@@ -51,20 +56,20 @@ once_kept : (u : ℕ) (es : List Happened) (e : Happened) → is_tick e ≡ fals
 once_kept u es e h n i ih = ap (count_by (λ t. u == t)) (tags_kept es e h n) ∙ ih ∙ ap number (sym (taken_kept es e u h i))
 
 once_step : (setup : Setup) (u : ℕ) (es : List Happened) (e : Happened) → IsUnbroken setup es e → count_by (λ t. u == t) (tags es) ≡ number (taken es u) → count_by (λ t. u == t) (tags (es ++ e ∷ [])) ≡ number (taken (es ++ e ∷ []) u)
-once_step setup u es Ticked all ih = ap (count_by (λ t. u == t)) (tags_tick es) ∙ ap number (sym (taken_tick es u))
-once_step setup u es (Issued i v) all ih =
-    let more : count_by (λ t. u == t) (tags (es ++ Issued i v ∷ [])) ≡ count_by (λ t. u == t) (tags es) + one_if (u == v) = ap (count_by (λ t. u == t)) (tags_more es (Issued i v) refl) ∙ count_push (λ t. u == t) (tags es) v in
+once_step setup u es Tick all ih = ap (count_by (λ t. u == t)) (tags_tick es) ∙ ap number (sym (taken_tick es u))
+once_step setup u es (Issue i v) all ih =
+    let more : count_by (λ t. u == t) (tags (es ++ Issue i v ∷ [])) ≡ count_by (λ t. u == t) (tags es) + one_if (u == v) = ap (count_by (λ t. u == t)) (tags_more es (Issue i v) refl) ∙ count_push (λ t. u == t) (tags es) v in
     elim (cases_Bool (v == u)) [
       | inl b ↦
           let same : v ≡ u = eqb-true v u b in
           let none : taken es u ≡ None = subst (λ x. taken es x ≡ None) same (not_taken es v (all TagUsed)) in
           let before : number (taken es u) ≡ 0 = ap number none in
           let one : one_if (u == v) ≡ 1 = rw (eq-eqb u v (sym same)) refl in
-          let now : number (taken (es ++ Issued i v ∷ []) u) ≡ 1 = ap number (taken_new es i v u b none) in
+          let now : number (taken (es ++ Issue i v ∷ []) u) ≡ 1 = ap number (taken_new es i v u b none) in
           omega arith
       | inr b ↦
           let other : one_if (u == v) ≡ 0 = rw (ne_eqb u v (λ e. absurd (let t : (v == u) ≡ true = eq-eqb v u (sym e) in cc))) refl in
-          let kept : number (taken (es ++ Issued i v ∷ []) u) ≡ number (taken es u) = ap number (taken_kept es (Issued i v) u refl (rw b refl)) in
+          let kept : number (taken (es ++ Issue i v ∷ []) u) ≡ number (taken es u) = ap number (taken_kept es (Issue i v) u refl (rw b refl)) in
           omega arith
     ]
 once_step setup u es e all ih = once_kept u es e refl refl refl ih
@@ -81,8 +86,8 @@ open_is : (es : List Happened) (d : Dir) → flying_of es d ≡ count_by (flies 
 unfolding flying_of tags
 open_is es d = refl
 
-pub open-ticked : (setup : Setup) (events : List Happened) → IsLegalTrace setup (events ++ Ticked ∷ []) → (d : Dir) → flying_of (events ++ Ticked ∷ []) d ≡ 0
-open-ticked setup events legal d = open_is (events ++ Ticked ∷ []) d ∙ ap (count_by (flies (events ++ Ticked ∷ []) d)) (tags_tick events)
+pub open-ticked : (setup : Setup) (events : List Happened) → IsLegalTrace setup (events ++ Tick ∷ []) → (d : Dir) → flying_of (events ++ Tick ∷ []) d ≡ 0
+open-ticked setup events legal d = open_is (events ++ Tick ∷ []) d ∙ ap (count_by (flies (events ++ Tick ∷ []) d)) (tags_tick events)
 
 and_no : (x y : Bool) → y ≡ false → (x && y) ≡ false
 and_no true y h = h
@@ -96,7 +101,7 @@ grounded : (d : Dir) (o : Option RoundSeat) → ((seat : RoundSeat) → o ≡ So
 grounded d None h = refl
 grounded d (Some seat) h = and_no (same_dir d seat.dir) seat.in_flight (h seat refl)
 
-pub open-before_tick : (setup : Setup) (events : List Happened) → IsLegalTrace setup (events ++ Ticked ∷ []) → (d : Dir) → flying_of events d ≡ 0
+pub open-before_tick : (setup : Setup) (events : List Happened) → IsLegalTrace setup (events ++ Tick ∷ []) → (d : Dir) → flying_of events d ≡ 0
 open-before_tick setup events legal d =
     let old = shorter_legal setup events _ legal in
     let all = obeys setup events _ legal in
@@ -112,15 +117,15 @@ pub open_kept : (setup : Setup) (events : List Happened) (e : Happened) → IsLe
 open_kept setup events e legal h i n d =
     open_is (events ++ e ∷ []) d ∙ ap (count_by (flies (events ++ e ∷ []) d)) (tags_kept events e h (no_tag e i)) ∙ count_same _ (flies events d) (tags events) (λ t. ap (is_flying d) (seat_quiet setup events e legal h i n t)) ∙ sym (open_is events d)
 
-pub open-released : (setup : Setup) (events : List Happened) (id : ℕ) (bios : List Bio) → IsLegalTrace setup (events ++ Released id bios ∷ []) → (d : Dir) → flying_of (events ++ Released id bios ∷ []) d ≡ flying_of events d
-open-released setup events id bios legal d = open_kept setup events (Released id bios) legal refl refl refl d
+pub open-released : (setup : Setup) (events : List Happened) (id : ℕ) (bios : List Bio) → IsLegalTrace setup (events ++ Release id bios ∷ []) → (d : Dir) → flying_of (events ++ Release id bios ∷ []) d ≡ flying_of events d
+open-released setup events id bios legal d = open_kept setup events (Release id bios) legal refl refl refl d
 
-pub open-joined : (setup : Setup) (events : List Happened) (id : ℕ) (bios : List Bio) → IsLegalTrace setup (events ++ Joined id bios ∷ []) → (d : Dir) → flying_of (events ++ Joined id bios ∷ []) d ≡ flying_of events d
-open-joined setup events id bios legal d = open_kept setup events (Joined id bios) legal refl refl refl d
+pub open-joined : (setup : Setup) (events : List Happened) (id : ℕ) (bios : List Bio) → IsLegalTrace setup (events ++ Join id bios ∷ []) → (d : Dir) → flying_of (events ++ Join id bios ∷ []) d ≡ flying_of events d
+open-joined setup events id bios legal d = open_kept setup events (Join id bios) legal refl refl refl d
 
-pub open-issued : (setup : Setup) (events : List Happened) (id tag : ℕ) → IsLegalTrace setup (events ++ Issued id tag ∷ []) → (w : Entered) → waits_at setup events id ≡ Some w → (d : Dir) → flying_of (events ++ Issued id tag ∷ []) d ≡ flying_of events d + cond (same_dir d (dir_of w.bios)) 1 0
+pub open-issued : (setup : Setup) (events : List Happened) (id tag : ℕ) → IsLegalTrace setup (events ++ Issue id tag ∷ []) → (w : Entered) → waits_at setup events id ≡ Some w → (d : Dir) → flying_of (events ++ Issue id tag ∷ []) d ≡ flying_of events d + cond (same_dir d (dir_of w.bios)) 1 0
 open-issued setup events id tag legal w waits d =
-    let es : List Happened = events ++ Issued id tag ∷ [] in
+    let es : List Happened = events ++ Issue id tag ∷ [] in
     let old = shorter_legal setup events _ legal in
     let all = obeys setup events _ legal in
     let none : taken events tag ≡ None = not_taken events tag (all TagUsed) in
@@ -134,7 +139,7 @@ open-issued setup events id tag legal w waits d =
     let none_before : one_if (flies events d tag) ≡ 0 = ap one_if was in
     let kept : count_by (flies events d) (tags events) ≡ count_by (flies es d) (tags events) = count_without (flies events d) (flies es d) tag (one_if (same_dir d (dir_of w.bios))) (tags events) other (omega arith) zero_before in
     let push : count_by (flies es d) (tags events ++ tag ∷ []) ≡ count_by (flies es d) (tags events) + one_if (flies es d tag) = count_push (flies es d) (tags events) tag in
-    let now : flying_of es d ≡ count_by (flies es d) (tags events ++ tag ∷ []) = open_is es d ∙ ap (count_by (flies es d)) (tags_more events (Issued id tag) refl) in
+    let now : flying_of es d ≡ count_by (flies es d) (tags events ++ tag ∷ []) = open_is es d ∙ ap (count_by (flies es d)) (tags_more events (Issue id tag) refl) in
     omega (arith, open_is events d)
 
 -- one that ends an Issue leaves one command less in flight
@@ -156,8 +161,8 @@ open_ended setup events e tag legal end dir taken_is d =
     let now : flying_of es d ≡ count_by (flies es d) (tags events) = open_is es d ∙ ap (count_by (flies es d)) (tags_kept events e only.no_tick (no_tag e only.no_issue)) in
     omega (arith, open_is events d)
 
-pub open-finished : (setup : Setup) (events : List Happened) (tag : ℕ) → IsLegalTrace setup (events ++ Finished tag ∷ []) → (dir : Dir) → seat_at events tag ≡ Some (record { dir = dir; in_flight = true }) → (d : Dir) → flying_of (events ++ Finished tag ∷ []) d + cond (same_dir d dir) 1 0 ≡ flying_of events d
-open-finished setup events tag legal dir taken_is d = open_ended setup events (Finished tag) tag legal refl dir taken_is d
+pub open-finished : (setup : Setup) (events : List Happened) (tag : ℕ) → IsLegalTrace setup (events ++ Done tag ∷ []) → (dir : Dir) → seat_at events tag ≡ Some (record { dir = dir; in_flight = true }) → (d : Dir) → flying_of (events ++ Done tag ∷ []) d + cond (same_dir d dir) 1 0 ≡ flying_of events d
+open-finished setup events tag legal dir taken_is d = open_ended setup events (Done tag) tag legal refl dir taken_is d
 
 -- both directions, and all commands
 one_dir : (d : Dir) → cond (same_dir Read d) 1 0 + cond (same_dir Write d) 1 0 ≡ 1
@@ -188,14 +193,14 @@ both_rest setup es e None none legal h i ih = both_kept setup es e legal h i non
 both_rest setup es e (Some t) end legal h i ih = both_ended setup es e t legal end ih
 
 both_step : (setup : Setup) (es : List Happened) (e : Happened) → IsLegalTrace setup (es ++ e ∷ []) → AreBoth es → AreBoth (es ++ e ∷ [])
-both_step setup es Ticked legal ih = omega (arith, ih, more_of is_end es Ticked, more_of is_issue es Ticked, open-ticked setup es legal Read, open-ticked setup es legal Write, open-before_tick setup es legal Read, open-before_tick setup es legal Write)
-both_step setup es (Issued i t) legal ih =
+both_step setup es Tick legal ih = omega (arith, ih, more_of is_end es Tick, more_of is_issue es Tick, open-ticked setup es legal Read, open-ticked setup es legal Write, open-before_tick setup es legal Read, open-before_tick setup es legal Write)
+both_step setup es (Issue i t) legal ih =
     let all = obeys setup es _ legal in
     let w : Entered = record { release = release_of es i; due = due_of setup es i; bios = request_of es i } in
     let waits : waits_at setup es i ≡ Some w = waits_for setup es i (all Unknown) (all_back es i (all AlreadyIssued)) in
     let reads = open-issued setup es i t legal w waits Read in
     let writes = open-issued setup es i t legal w waits Write in
-    omega (arith, ih, more_of is_end es (Issued i t), more_of is_issue es (Issued i t), reads, writes, one_dir (dir_of (request_of es i)))
+    omega (arith, ih, more_of is_end es (Issue i t), more_of is_issue es (Issue i t), reads, writes, one_dir (dir_of (request_of es i)))
 both_step setup es e legal ih = both_rest setup es e (ends e) refl legal refl refl ih
 
 pub open_all : (setup : Setup) (events : List Happened) → IsLegalTrace setup events → flying_of events Read + flying_of events Write + count_by is_end events ≡ count_by is_issue events

@@ -5,7 +5,7 @@ use Rattle.std.specs.List.{flat_map}
 use Rattle.std.proofs.lemmas.List.Concat.{flat_map-append}
 use Rattle.std.proofs.lemmas.Option.{slice_get_within}
 use Rattle.blk_bio.specs.Bios.{Bio}
-use Rattle.blk_trace.specs.Happened.{Happened, Ticked, Released, Joined, Issued, DepthSet}
+use Rattle.blk_trace.specs.Happened.{Happened, Tick, Release, Join, Issue, Depth}
 use Rattle.blk_trace.specs.Kinds.{enters, ends, is_issue, is_end}
 use Rattle.blk_bio.specs.declared.rule.TraceRule.{TraceRule}
 use Rattle.blk_bio.specs.declared.rule.TraceRule.TheVariants.{ReleasedTwice, Unknown, AlreadyIssued, BioTwice, Fit, TagRange, TagUsed, NotIssued, InFlight, TooLong, DepthRange}
@@ -92,7 +92,7 @@ push_legal setup es e old all request =
             ]
             | inr a ↦ elim (split es e k _ l) [
               | inl b ↦ absurd (told _ AlreadyIssued a.1 (k, (tag, b)))
-              | inr b ↦ absurd (let c : Joined id n ≡ Issued id tag = sym a.1 ∙ b.1 in cc)
+              | inr b ↦ absurd (let c : Join id n ≡ Issue id tag = sym a.1 ∙ b.1 in cc)
             ]
           ];
       issue_released = λ k id tag h.
@@ -194,27 +194,27 @@ shorter_legal setup es e new =
 
 -- the last event of a legal list obeys each rule after those before it
 pub obeys : (setup : Setup) (es : List Happened) (e : Happened) → IsLegalTrace setup (es ++ e ∷ []) → IsUnbroken setup es e
-obeys setup es (Released id q) new ReleasedTwice =
+obeys setup es (Release id q) new ReleasedTwice =
     λ p. absurd (omega (arith, new.released_once p.0 (length es) id p.1.0 q (keep es _ p.0 _ p.1.1) (last es _), slice_get_within es p.0 _ p.1.1))
-obeys setup es (Joined id n) new Unknown = rw (before_last es (Joined id n) (length es) refl) at (new.join_released (length es) id n (last es _))
-obeys setup es (Issued id tag) new Unknown = rw (before_last es (Issued id tag) (length es) refl) at (new.issue_released (length es) id tag (last es _))
-obeys setup es (Joined id n) new AlreadyIssued =
+obeys setup es (Join id n) new Unknown = rw (before_last es (Join id n) (length es) refl) at (new.join_released (length es) id n (last es _))
+obeys setup es (Issue id tag) new Unknown = rw (before_last es (Issue id tag) (length es) refl) at (new.issue_released (length es) id tag (last es _))
+obeys setup es (Join id n) new AlreadyIssued =
     λ p. absurd (omega (arith, new.join_unissued (length es) p.0 id p.1.0 n (last es _) (keep es _ p.0 _ p.1.1), slice_get_within es p.0 _ p.1.1))
-obeys setup es (Issued id tag) new AlreadyIssued =
-    λ k t at. rw (before_last es (Issued id tag) (length es) refl) at (new.issued_again k (length es) id t tag (keep es _ k _ at) (last es _) (slice_get_within es k _ at))
-obeys setup es (Released id q) new BioTwice = rw (entered_more es (Released id q)) at new.bios_once
-obeys setup es (Joined id n) new BioTwice = rw (entered_more es (Joined id n)) at new.bios_once
-obeys setup es (Released id q) new Fit = new.release_within (length es) id q (last es _)
-obeys setup es (Joined id n) new Fit = rw (before_last es (Joined id n) (length es) refl) at (new.join_fits (length es) id n (last es _))
-obeys setup es (Issued id tag) new TagRange =
-    omega (arith, depth_now_is setup es, was_below setup es (Issued id tag) (round_of es) tag (omega arith) (rw (before_last es (Issued id tag) (length es) refl) at (new.tag_range (length es) id tag (last es _))))
-obeys setup es (Issued id tag) new TagUsed =
+obeys setup es (Issue id tag) new AlreadyIssued =
+    λ k t at. rw (before_last es (Issue id tag) (length es) refl) at (new.issued_again k (length es) id t tag (keep es _ k _ at) (last es _) (slice_get_within es k _ at))
+obeys setup es (Release id q) new BioTwice = rw (entered_more es (Release id q)) at new.bios_once
+obeys setup es (Join id n) new BioTwice = rw (entered_more es (Join id n)) at new.bios_once
+obeys setup es (Release id q) new Fit = new.release_within (length es) id q (last es _)
+obeys setup es (Join id n) new Fit = rw (before_last es (Join id n) (length es) refl) at (new.join_fits (length es) id n (last es _))
+obeys setup es (Issue id tag) new TagRange =
+    omega (arith, depth_now_is setup es, was_below setup es (Issue id tag) (round_of es) tag (omega arith) (rw (before_last es (Issue id tag) (length es) refl) at (new.tag_range (length es) id tag (last es _))))
+obeys setup es (Issue id tag) new TagUsed =
     λ u.
-    let same : round_at (es ++ Issued id tag ∷ []) u.place ≡ round_at (es ++ Issued id tag ∷ []) (length es) =
-    ap round_of (before es (Issued id tag ∷ []) u.place _ u.issued) ∙ u.now ∙ ap round_of (sym (before_last es (Issued id tag) (length es) refl)) in
+    let same : round_at (es ++ Issue id tag ∷ []) u.place ≡ round_at (es ++ Issue id tag ∷ []) (length es) =
+    ap round_of (before es (Issue id tag ∷ []) u.place _ u.issued) ∙ u.now ∙ ap round_of (sym (before_last es (Issue id tag) (length es) refl)) in
     absurd (omega (arith, new.tag_once u.place (length es) u.id id tag (keep es _ u.place _ u.issued) (last es _) same, slice_get_within es u.place _ u.issued))
 obeys setup es e new NotIssued = if_some (ends e) (IsOpen es) (λ tag h. rw (before_last es e (length es) refl) at (new.done_open (length es) tag (e, last es _, h)))
-obeys setup es Ticked new InFlight = λ tag o. new.tick_closed (length es) tag (last es _) (rw (before_last es Ticked (length es) refl) o)
+obeys setup es Tick new InFlight = λ tag o. new.tick_closed (length es) tag (last es _) (rw (before_last es Tick (length es) refl) o)
 obeys setup es e new TooLong = new.not_too_long
-obeys setup es (DepthSet depth) new DepthRange = new.depth_range (length es) depth (last es _)
+obeys setup es (Depth depth) new DepthRange = new.depth_range (length es) depth (last es _)
 obeys setup es e new rule = tt

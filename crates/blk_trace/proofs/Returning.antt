@@ -7,8 +7,13 @@ use Rattle.std.proofs.lemmas.List.{map-append}
 use Rattle.std.proofs.lemmas.List.Sums.{sum_by-append}
 use Rattle.std.proofs.lemmas.List.Folds.{list_any-append}
 use Rattle.std.proofs.lemmas.Bool.{cases_Bool, or_left, or_right, or_cases, or_parts, false_from_ne_true}
+<<<<<<< HEAD
 use Rattle.blk_bio.specs.declared.rule.TraceRule.TheVariants.{TagUsed, AlreadyIssued, NotIssued}
 use Rattle.blk_trace.specs.Happened.{Happened, Issued, Returned}
+=======
+use Rattle.blk_trace.specs.declared.rule.TraceRule.TheVariants.{TagUsed, AlreadyIssued, NotIssued}
+use Rattle.blk_trace.specs.Happened.{Happened, Issue, Back}
+>>>>>>> events-b
 use Rattle.blk_trace.specs.Kinds.{issues, ends, hands_back, is_done_of, is_tick}
 use Rattle.blk_trace.specs.Setups.{Setup}
 use Rattle.blk_trace.specs.Events.{At, EndsAt, goes_back, IsOpen, IsUsed, IsOpenBy}
@@ -79,10 +84,10 @@ first_end : (b e x g n u : Bool) → n ≡ cond e g u → cond b x n ≡ cond (b
 first_end true e x g n u h = refl
 first_end false e x g n u h = h
 
-back_more : (t s : ℕ) (es : List Happened) → goes_back s (es ++ Returned t ∷ []) ≡ cond (ended_in s es) (goes_back s es) (t == s)
+back_more : (t s : ℕ) (es : List Happened) → goes_back s (es ++ Back t ∷ []) ≡ cond (ended_in s es) (goes_back s es) (t == s)
 unfolding goes_back
 back_more t s [] = if_true (t == s)
-back_more t s (x ∷ es) = first_end (is_done_of s x) (ended_in s es) (is_some (hands_back x)) (goes_back s es) (goes_back s (es ++ Returned t ∷ [])) (t == s) (back_more t s es)
+back_more t s (x ∷ es) = first_end (is_done_of s x) (ended_in s es) (is_some (hands_back x)) (goes_back s es) (goes_back s (es ++ Back t ∷ [])) (t == s) (back_more t s es)
 
 not_ended : (s : ℕ) (es : List Happened) → ended_in s es ≡ false → goes_back s es ≡ false
 unfolding goes_back
@@ -91,7 +96,7 @@ not_ended s (x ∷ es) h =
     let parts = or_parts (is_done_of s x) (ended_in s es) h in
     ap (λ b. cond b (is_some (hands_back x)) (goes_back s es)) parts.0 ∙ not_ended s es parts.1
 
-same_back : (t s : ℕ) (es : List Happened) → ((t == s) ≡ true → ended_in s es ≡ true) → goes_back s (es ++ Returned t ∷ []) ≡ goes_back s es
+same_back : (t s : ℕ) (es : List Happened) → ((t == s) ≡ true → ended_in s es ≡ true) → goes_back s (es ++ Back t ∷ []) ≡ goes_back s es
 same_back t s es h =
     elim (cases_Bool (ended_in s es)) [
       | inl b ↦ back_more t s es ∙ ap (λ e. cond e (goes_back s es) (t == s)) b
@@ -101,14 +106,14 @@ same_back t s es h =
     ]
 
 -- an Issue that is over, or that is another tag's, is served as before
-service_back : (r t : ℕ) (x : Happened) (es : List Happened) → cond (ended_in t es) None (issued_by t x) ≡ None → service r x (es ++ Returned t ∷ []) ≡ service r x es
+service_back : (r t : ℕ) (x : Happened) (es : List Happened) → cond (ended_in t es) None (issued_by t x) ≡ None → service r x (es ++ Back t ∷ []) ≡ service r x es
 service_back r t x es h = by_issue (issues x) h
   where
     over : (b : Bool) (i : ℕ) → cond b None (Some i) ≡ None → b ≡ true
     over true i h = refl
     over false i h = absurd (cc)
 
-    by_issue : (o : Option (ℕ × ℕ)) → cond (ended_in t es) None (option_and_then (λ p. cond (p.1 == t) (Some p.0) None) o) ≡ None → option_and_then {U = ℕ × ℕ} (λ p. cond (goes_back p.1 (es ++ Returned t ∷ [])) None (Some (r, p.0))) o ≡ option_and_then {U = ℕ × ℕ} (λ p. cond (goes_back p.1 es) None (Some (r, p.0))) o
+    by_issue : (o : Option (ℕ × ℕ)) → cond (ended_in t es) None (option_and_then (λ p. cond (p.1 == t) (Some p.0) None) o) ≡ None → option_and_then {U = ℕ × ℕ} (λ p. cond (goes_back p.1 (es ++ Back t ∷ [])) None (Some (r, p.0))) o ≡ option_and_then {U = ℕ × ℕ} (λ p. cond (goes_back p.1 es) None (Some (r, p.0))) o
     by_issue None h = refl
     by_issue (Some p) h =
         ap (λ b. cond b None (Some (r, p.0)))
@@ -122,12 +127,12 @@ cons_none : (o : Option ℕ) (xs : List ℕ) → cons_option o xs ≡ [] → (o 
 cons_none None xs h = (refl, h)
 cons_none (Some x) xs h = absurd (cc)
 
-none_out : (r t : ℕ) (es : List Happened) → opens t es ≡ [] → served r (es ++ Returned t ∷ []) ≡ served r es
+none_out : (r t : ℕ) (es : List Happened) → opens t es ≡ [] → served r (es ++ Back t ∷ []) ≡ served r es
 unfolding served opens
 none_out r t [] h = refl
 none_out r t (x ∷ es) h =
     let p = cons_none (cond (ended_in t es) None (issued_by t x)) (opens t es) h in
-    ap (λ o. cons_option o (served (cond (is_tick x) (r + 1) r) (es ++ Returned t ∷ []))) (service_back r t x es p.0) ∙ ap (cons_option (service r x es)) (none_out (cond (is_tick x) (r + 1) r) t es p.1)
+    ap (λ o. cons_option o (served (cond (is_tick x) (r + 1) r) (es ++ Back t ∷ []))) (service_back r t x es p.0) ∙ ap (cons_option (service r x es)) (none_out (cond (is_tick x) (r + 1) r) t es p.1)
 
 -- one list without an entry of the id of the other
 pub record IsTakenOut (id : ℕ) (xs ys : List (ℕ × ℕ)) : Type 0 where
@@ -145,7 +150,7 @@ is_on : (b : Bool) (o : Option ℕ) (id : ℕ) → cond b None o ≡ Some id →
 is_on true o id h = absurd (cc)
 is_on false o id h = (refl, h)
 
-issued_from : (t : ℕ) (x : Happened) (id : ℕ) (o : Option (ℕ × ℕ)) → issues x ≡ o → option_and_then (λ p. cond (p.1 == t) (Some p.0) None) o ≡ Some id → x ≡ Issued id t
+issued_from : (t : ℕ) (x : Happened) (id : ℕ) (o : Option (ℕ × ℕ)) → issues x ≡ o → option_and_then (λ p. cond (p.1 == t) (Some p.0) None) o ≡ Some id → x ≡ Issue id t
 issued_from t x id None is h = absurd (cc)
 issued_from t x id (Some p) is h =
     elim (cases_Bool (p.1 == t)) [
@@ -153,41 +158,41 @@ issued_from t x id (Some p) is h =
           let e : Some p.0 ≡ Some id = ap (λ c. cond c (Some p.0) None) (sym b) ∙ h in
           let same : p.0 ≡ id = cc in
           let tag : p.1 ≡ t = eqb-true p.1 t b in
-          issue_is x p is ∙ ap (λ (n : ℕ). Issued n p.1) same ∙ ap (λ (n : ℕ). Issued id n) tag
+          issue_is x p is ∙ ap (λ (n : ℕ). Issue n p.1) same ∙ ap (λ (n : ℕ). Issue id n) tag
       | inr b ↦ absurd (let e : ◌≡◌ {A = Option ℕ} None (Some id) = ap (λ c. cond c (Some p.0) None) (sym b) ∙ h in cc)
     ]
 
-pub issued_by_is : (t : ℕ) (x : Happened) (id : ℕ) → issued_by t x ≡ Some id → x ≡ Issued id t
+pub issued_by_is : (t : ℕ) (x : Happened) (id : ℕ) → issued_by t x ≡ Some id → x ≡ Issue id t
 issued_by_is t x id h = issued_from t x id (issues x) refl h
 
-one_out : (r t id : ℕ) (es : List Happened) → opens t es ≡ id ∷ [] → IsTakenOut id (served r es) (served r (es ++ Returned t ∷ []))
+one_out : (r t id : ℕ) (es : List Happened) → opens t es ≡ id ∷ [] → IsTakenOut id (served r es) (served r (es ++ Back t ∷ []))
 unfolding served opens
 one_out r t id [] h = absurd (cc)
 one_out r t id (x ∷ es) h =
     let next : ℕ = cond (is_tick x) (r + 1) r in
     elim (cons_one (cond (ended_in t es) None (issued_by t x)) (opens t es) id h) [
       | inl p ↦
-          let rest : IsTakenOut id (served next es) (served next (es ++ Returned t ∷ [])) = one_out next t id es p.1 in
+          let rest : IsTakenOut id (served next es) (served next (es ++ Back t ∷ [])) = one_out next t id es p.1 in
           record {
             before = cons_option (service r x es) rest.before;
             after = rest.after;
             round = rest.round;
             whole = ap (cons_option (service r x es)) rest.whole ∙ prepend (service r x es) rest.before ((rest.round, id) ∷ rest.after);
-            left = ap (λ o. cons_option o (served next (es ++ Returned t ∷ []))) (service_back r t x es p.0) ∙ ap (cons_option (service r x es)) rest.left ∙ prepend (service r x es) rest.before rest.after;
+            left = ap (λ o. cons_option o (served next (es ++ Back t ∷ []))) (service_back r t x es p.0) ∙ ap (cons_option (service r x es)) rest.left ∙ prepend (service r x es) rest.before rest.after;
           }
       | inr p ↦
           let on = is_on (ended_in t es) (issued_by t x) id p.0 in
-          let is : x ≡ Issued id t = issued_by_is t x id on.1 in
+          let is : x ≡ Issue id t = issued_by_is t x id on.1 in
           let stays : goes_back t es ≡ false = not_ended t es on.0 in
-          let goes : goes_back t (es ++ Returned t ∷ []) ≡ true = back_more t t es ∙ ap (λ b. cond b (goes_back t es) (t == t)) on.0 ∙ eq-eqb t t refl in
+          let goes : goes_back t (es ++ Back t ∷ []) ≡ true = back_more t t es ∙ ap (λ b. cond b (goes_back t es) (t == t)) on.0 ∙ eq-eqb t t refl in
           let was : service r x es ≡ Some (r, id) = ap (λ y. service r y es) is ∙ ap (λ b. cond b None (Some (r, id))) stays in
-          let now : service r x (es ++ Returned t ∷ []) ≡ None = ap (λ y. service r y (es ++ Returned t ∷ [])) is ∙ ap (λ b. cond b None (Some (r, id))) goes in
+          let now : service r x (es ++ Back t ∷ []) ≡ None = ap (λ y. service r y (es ++ Back t ∷ [])) is ∙ ap (λ b. cond b None (Some (r, id))) goes in
           record {
             before = [];
             after = served next es;
             round = r;
             whole = ap (λ o. cons_option o (served next es)) was;
-            left = ap (λ o. cons_option o (served next (es ++ Returned t ∷ []))) now ∙ none_out next t es p.1;
+            left = ap (λ o. cons_option o (served next (es ++ Back t ∷ []))) now ∙ none_out next t es p.1;
           }
     ]
 
@@ -205,7 +210,7 @@ not_end : (t : ℕ) (e : Happened) → is_done_of t e ≡ false → ends e ≡ S
 not_end t e h end = let yes : is_done_of t e ≡ true = done_by t e t end ∙ eq-eqb t t refl in absurd (cc)
 
 ends_none : (t : ℕ) (e : Happened) → is_done_of t e ≡ true → issued_by t e ≡ None
-ends_none t (Issued i u) h = absurd (cc)
+ends_none t (Issue i u) h = absurd (cc)
 ends_none t e h = refl
 
 few_step : (setup : Setup) (t : ℕ) (es : List Happened) (e : Happened) → IsLegalTrace setup es → IsUnbroken setup es e → AreFew t es → AreFew t (es ++ e ∷ [])
@@ -255,11 +260,11 @@ more_open : (o : Option ℕ) (xs : List ℕ) (id : ℕ) → has_id xs id ≡ tru
 more_open None xs id h = h
 more_open (Some x) xs id h = or_right (x == id) _ h
 
-has_open : (t id : ℕ) (es : List Happened) (k : ℕ) → At es k (Issued id t) → ended_in t (drop (suc k) es) ≡ false → has_id (opens t es) id ≡ true
+has_open : (t id : ℕ) (es : List Happened) (k : ℕ) → At es k (Issue id t) → ended_in t (drop (suc k) es) ≡ false → has_id (opens t es) id ≡ true
 unfolding opens
 has_open t id [] k h n = absurd (cc)
 has_open t id (x ∷ es) zero h n =
-    let is : x ≡ Issued id t = cc in
+    let is : x ≡ Issue id t = cc in
     let by : issued_by t x ≡ Some id = ap (issued_by t) is ∙ ap (λ b. cond b (Some id) None) (eq-eqb t t refl) in
     ap (λ b. has_id (cons_option (cond b None (issued_by t x)) (opens t es)) id) n
     ∙ ap (λ o. has_id (cons_option o (opens t es)) id) by
@@ -316,8 +321,8 @@ returned_from es fs id p =
       even = map_length (λ (s : ℕ × ℕ). s.0) p.before ∙ sym (map_length (λ (s : ℕ × ℕ). s.1) p.before);
     }
 
-pub returned : (setup : Setup) (es : List Happened) (t id : ℕ) → IsLegalTrace setup es → IsOpenBy es t id → IsReturned es (es ++ Returned t ∷ []) id
-returned setup es t id legal o = returned_from es (es ++ Returned t ∷ []) id (one_out 0 t id es (opens_is setup es t id legal o))
+pub returned : (setup : Setup) (es : List Happened) (t id : ℕ) → IsLegalTrace setup es → IsOpenBy es t id → IsReturned es (es ++ Back t ∷ []) id
+returned setup es t id legal o = returned_from es (es ++ Back t ∷ []) id (one_out 0 t id es (opens_is setup es t id legal o))
 
 -- an open tag's Issue
 pub open_by : (es : List Happened) (t : ℕ) (o : IsOpen es t) → IsOpenBy es t o.id
@@ -372,11 +377,11 @@ unfolding AreDistinct
 distinct_out xs ys i old u = omega (arith, old u, count_append (λ x. u == x) xs (i ∷ ys), count_append (λ x. u == x) xs ys, count-cons (λ x. u == x) i ys)
 
 distinct_step : (setup : Setup) (es : List Happened) (e : Happened) → IsLegalTrace setup es → IsUnbroken setup es e → AreDistinct (issued_ids es) → AreDistinct (issued_ids (es ++ e ∷ []))
-distinct_step setup es (Issued i t) old all ih =
-    subst AreDistinct (sym (issued_more es (Issued i t) refl)) (distinct_push (issued_ids es) i (all_back es i (all AlreadyIssued)) ih)
-distinct_step setup es (Returned t) old all ih =
+distinct_step setup es (Issue i t) old all ih =
+    subst AreDistinct (sym (issued_more es (Issue i t) refl)) (distinct_push (issued_ids es) i (all_back es i (all AlreadyIssued)) ih)
+distinct_step setup es (Back t) old all ih =
     let o : IsOpen es t = all NotIssued in
-    let p : IsReturned es (es ++ Returned t ∷ []) o.id = returned setup es t o.id old (open_by es t o) in
+    let p : IsReturned es (es ++ Back t ∷ []) o.id = returned setup es t o.id old (open_by es t o) in
     subst AreDistinct (sym p.ids_are) (distinct_out p.ids_before p.ids_after o.id (subst AreDistinct p.ids_were ih))
 distinct_step setup es e old all ih = subst AreDistinct (sym (issued_more es e refl ∙ append-nil (issued_ids es))) ih
 
@@ -403,9 +408,9 @@ out_of xs ys id few =
       other = λ q b. has_append xs ys q ∙ ap (λ c. has_id xs q || (c || has_id ys q)) (sym b) ∙ sym (has_append xs (id ∷ ys) q);
     }
 
-pub returned_ids : (setup : Setup) (es : List Happened) (t id : ℕ) → IsLegalTrace setup es → IsOpenBy es t id → IsOut (issued_ids es) (issued_ids (es ++ Returned t ∷ [])) id
+pub returned_ids : (setup : Setup) (es : List Happened) (t id : ℕ) → IsLegalTrace setup es → IsOpenBy es t id → IsOut (issued_ids es) (issued_ids (es ++ Back t ∷ [])) id
 returned_ids setup es t id legal o =
-    let p : IsReturned es (es ++ Returned t ∷ []) id = returned setup es t id legal o in
+    let p : IsReturned es (es ++ Back t ∷ []) id = returned setup es t id legal o in
     let few : count_by (λ x. id == x) (p.ids_before ++ id ∷ p.ids_after) ≤ 1 = subst (λ l. count_by (λ x. id == x) l ≤ 1) p.ids_were (distinct setup es legal id) in
     let out : IsOut (p.ids_before ++ id ∷ p.ids_after) (p.ids_before ++ p.ids_after) id = out_of p.ids_before p.ids_after id few in
-    subst (λ l. IsOut l (issued_ids (es ++ Returned t ∷ [])) id) (sym p.ids_were) (subst (λ l. IsOut (p.ids_before ++ id ∷ p.ids_after) l id) (sym p.ids_are) out)
+    subst (λ l. IsOut l (issued_ids (es ++ Back t ∷ [])) id) (sym p.ids_were) (subst (λ l. IsOut (p.ids_before ++ id ∷ p.ids_after) l id) (sym p.ids_are) out)

@@ -5,7 +5,7 @@ use Rattle.std.proofs.lemmas.List.{map-append}
 use Rattle.std.proofs.lemmas.Bool.{cases_Bool, cases_lt, or_parts}
 use Rattle.std.proofs.lemmas.Option.{slice_get_within}
 use Rattle.edd_check.specs.declared.Command.{Command}
-use Rattle.blk_trace.specs.Happened.{Happened, Returned}
+use Rattle.blk_trace.specs.Happened.{Happened, Back}
 use Rattle.blk_trace.specs.Setups.{Setup}
 use Rattle.blk_trace.specs.Events.{request_of, IsReleased, IsIssued, IsOpenBy}
 use Rattle.blk_trace.specs.Legal.{IsLegalTrace}
@@ -29,21 +29,21 @@ entry_of setup es id = record { release = release_of es id; due = due_of setup e
 pub open_issued : (es : List Happened) (t id : ℕ) → IsOpenBy es t id → IsIssued es id
 open_issued es t id o = (o.place, (t, o.issued))
 
-pub waits_returned : (setup : Setup) (es : List Happened) (t id : ℕ) → IsLegalTrace setup es → IsOpenBy es t id → (q : ℕ) → waits_at setup (es ++ Returned t ∷ []) q ≡ cond (id == q) (Some (entry_of setup es id)) (waits_at setup es q)
+pub waits_returned : (setup : Setup) (es : List Happened) (t id : ℕ) → IsLegalTrace setup es → IsOpenBy es t id → (q : ℕ) → waits_at setup (es ++ Back t ∷ []) q ≡ cond (id == q) (Some (entry_of setup es id)) (waits_at setup es q)
 unfolding released_ids
 waits_returned setup es t id legal o q =
-    let fs : List Happened = es ++ Returned t ∷ [] in
+    let fs : List Happened = es ++ Back t ∷ [] in
     let out : IsOut (issued_ids es) (issued_ids fs) id = returned_ids setup es t id legal o in
     elim (cases_Bool (id == q)) [
       | inl b ↦
           let same : id ≡ q = eqb-true id q b in
           let here : IsReleased es id = released_first setup es id legal (open_issued es t id o) in
-          let there : has_id (released_ids fs) id ≡ true = has_released_same es (Returned t) id refl ∙ released_has es here.0 id here.1.0 here.1.1 in
-          let kept : IsSame setup es fs id = same_entered setup es (Returned t) id refl in
+          let there : has_id (released_ids fs) id ≡ true = has_released_same es (Back t) id refl ∙ released_has es here.0 id here.1.0 here.1.1 in
+          let kept : IsSame setup es fs id = same_entered setup es (Back t) id refl in
           let now : waits_at setup fs id ≡ Some (entry_of setup es id) = waits_is setup fs id true false (release_of es id) (due_of setup es id) (request_of es id) there out.gone kept.release kept.due kept.request in
           subst (λ n. waits_at setup fs n ≡ Some (entry_of setup es id)) same now ∙ sym (ap (λ c. cond c (Some (entry_of setup es id)) (waits_at setup es q)) b)
       | inr b ↦
-          waits_same setup es fs q (has_released_same es (Returned t) q refl) (out.other q b) (same_entered setup es (Returned t) q refl)
+          waits_same setup es fs q (has_released_same es (Back t) q refl) (out.other q b) (same_entered setup es (Back t) q refl)
           ∙ sym (ap (λ c. cond c (Some (entry_of setup es id)) (waits_at setup es q)) b)
     ]
 
@@ -51,9 +51,9 @@ stays_off : (b was : Bool) (x : Entered) (y : Option Entered) → (b ≡ true �
 stays_off true was x y h = ap (λ w. cond w None (Some x)) (h refl) ∙ sym (ap (λ w. cond w None y) (h refl))
 stays_off false was x y h = refl
 
-pub unissued_returned : (setup : Setup) (es : List Happened) (t id : ℕ) → IsLegalTrace setup es → IsOpenBy es t id → (q : ℕ) → unissued_at setup (es ++ Returned t ∷ []) q ≡ unissued_at setup es q
+pub unissued_returned : (setup : Setup) (es : List Happened) (t id : ℕ) → IsLegalTrace setup es → IsOpenBy es t id → (q : ℕ) → unissued_at setup (es ++ Back t ∷ []) q ≡ unissued_at setup es q
 unissued_returned setup es t id legal o q =
-    unissued_is setup (es ++ Returned t ∷ []) q _ _ (was_kept es (Returned t) q refl) (waits_returned setup es t id legal o q)
+    unissued_is setup (es ++ Back t ∷ []) q _ _ (was_kept es (Back t) q refl) (waits_returned setup es t id legal o q)
     ∙ stays_off (id == q) (was_issued es q) (entry_of setup es id) (waits_at setup es q) (λ b. issued_was es q (subst (IsIssued es) (eqb-true id q b) (open_issued es t id o)))
     ∙ sym (unissued_is setup es q _ _ refl refl)
 
@@ -62,10 +62,10 @@ pub commands_were : (setup : Setup) (es fs : List Happened) (id : ℕ) (p : IsRe
 unfolding commands_of
 commands_were setup es fs id p = ap (map (command_of setup es)) p.ids_were ∙ map-append (command_of setup es) p.ids_before (id ∷ p.ids_after)
 
-pub commands_are : (setup : Setup) (es : List Happened) (t id : ℕ) (p : IsReturned es (es ++ Returned t ∷ []) id) → commands_of setup (es ++ Returned t ∷ []) ≡ map (command_of setup es) p.ids_before ++ map (command_of setup es) p.ids_after
+pub commands_are : (setup : Setup) (es : List Happened) (t id : ℕ) (p : IsReturned es (es ++ Back t ∷ []) id) → commands_of setup (es ++ Back t ∷ []) ≡ map (command_of setup es) p.ids_before ++ map (command_of setup es) p.ids_after
 unfolding commands_of
 commands_are setup es t id p =
-    map_same (command_of setup (es ++ Returned t ∷ [])) (command_of setup es) (issued_ids (es ++ Returned t ∷ [])) (λ q h. same_command setup es (es ++ Returned t ∷ []) q (same_entered setup es (Returned t) q refl))
+    map_same (command_of setup (es ++ Back t ∷ [])) (command_of setup es) (issued_ids (es ++ Back t ∷ [])) (λ q h. same_command setup es (es ++ Back t ∷ []) q (same_entered setup es (Back t) q refl))
     ∙ ap (map (command_of setup es)) p.ids_are
     ∙ map-append (command_of setup es) p.ids_before p.ids_after
 
@@ -115,9 +115,9 @@ pub record IsDropped (setup : Setup) (es fs : List Happened) (id k : ℕ) (cs : 
   pub commands_left : take k cs ++ drop (k + 1) cs ≡ commands_of setup fs
   pub rounds_left : take k rs ++ drop (k + 1) rs ≡ rounds_of fs
 
-pub dropped : (setup : Setup) (es : List Happened) (t id k : ℕ) (cs : List Command) (rs : List ℕ) (c : Command) → IsLegalTrace setup es → IsOpenBy es t id → cs ≡ commands_of setup es → rs ≡ rounds_of es → slice_get cs k ≡ Some c → c.id ≡ id → IsDropped setup es (es ++ Returned t ∷ []) id k cs rs
+pub dropped : (setup : Setup) (es : List Happened) (t id k : ℕ) (cs : List Command) (rs : List ℕ) (c : Command) → IsLegalTrace setup es → IsOpenBy es t id → cs ≡ commands_of setup es → rs ≡ rounds_of es → slice_get cs k ≡ Some c → c.id ≡ id → IsDropped setup es (es ++ Back t ∷ []) id k cs rs
 dropped setup es t id k cs rs c legal o hc hr at is =
-    let fs : List Happened = es ++ Returned t ∷ [] in
+    let fs : List Happened = es ++ Back t ∷ [] in
     let p : IsReturned es fs id = returned setup es t id legal o in
     let out : IsOut (issued_ids es) (issued_ids fs) id = returned_ids setup es t id legal o in
     let gone : has_id (p.ids_before ++ p.ids_after) id ≡ false = subst (λ l. has_id l id ≡ false) p.ids_are out.gone in
@@ -147,18 +147,18 @@ taken_there cs k c d h at is = let e : Some (get_or cs k c) ≡ Some d = sym (ge
 -- the id of the open Issue stands in the commands
 pub there_is : (setup : Setup) (es : List Happened) (t id : ℕ) → IsLegalTrace setup es → IsOpenBy es t id → (k : ℕ) × ((c : Command) × (slice_get (commands_of setup es) k ≡ Some c) × (c.id ≡ id))
 there_is setup es t id legal o =
-    let fs : List Happened = es ++ Returned t ∷ [] in
+    let fs : List Happened = es ++ Back t ∷ [] in
     let p : IsReturned es fs id = returned setup es t id legal o in
     (length (map (command_of setup es) p.ids_before), (command_of setup es id, ap (λ l. slice_get l (length (map (command_of setup es) p.ids_before))) (commands_were setup es fs id p) ∙ stands_there (map (command_of setup es) p.ids_before) (command_of setup es id) (map (command_of setup es) p.ids_after), refl))
 
 -- how many wait
-pub count_returned : (setup : Setup) (es : List Happened) (t id : ℕ) → IsLegalTrace setup es → IsOpenBy es t id → waiting_count (es ++ Returned t ∷ []) ≡ waiting_count es + 1
+pub count_returned : (setup : Setup) (es : List Happened) (t id : ℕ) → IsLegalTrace setup es → IsOpenBy es t id → waiting_count (es ++ Back t ∷ []) ≡ waiting_count es + 1
 unfolding released_ids
 count_returned setup es t id legal o =
-    let fs : List Happened = es ++ Returned t ∷ [] in
+    let fs : List Happened = es ++ Back t ∷ [] in
     let out : IsOut (issued_ids es) (issued_ids fs) id = returned_ids setup es t id legal o in
     let here : IsReleased es id = released_first setup es id legal (open_issued es t id o) in
-    let released : released_ids fs ≡ released_ids es = released_more es (Returned t ∷ []) ∙ append-nil _ in
+    let released : released_ids fs ≡ released_ids es = released_more es (Back t ∷ []) ∙ append-nil _ in
     let once : count_by (λ x. id == x) (released_ids es) ≡ 1 = released_one setup es id legal (released_has es here.0 id here.1.0 here.1.1) in
     let was : has_id (issued_ids es) id ≡ true = out.was in
     let gone : has_id (issued_ids fs) id ≡ false = out.gone in

@@ -5,8 +5,13 @@ use Rattle.std.proofs.lemmas.List.{get_or_append_left, get_or_push, length_push}
 use Rattle.std.proofs.lemmas.Bool.{cases_lt, cases_eq, lt-ltb, le-ltb}
 use Rattle.edd_check.specs.declared.Command.{Command}
 use Rattle.edd_check.specs.Schedule.{StartsReleased, places_at}
+<<<<<<< HEAD
 use Rattle.blk_bio.specs.declared.rule.TraceRule.TheVariants.{Unknown, AlreadyIssued, NotIssued}
 use Rattle.blk_trace.specs.Happened.{Happened, Ticked, Issued, Returned}
+=======
+use Rattle.blk_trace.specs.declared.rule.TraceRule.TheVariants.{Unknown, AlreadyIssued, NotIssued}
+use Rattle.blk_trace.specs.Happened.{Happened, Tick, Issue, Back}
+>>>>>>> events-b
 use Rattle.blk_trace.specs.Setups.{Setup}
 use Rattle.blk_trace.specs.Depths.{depth_in, depth_now}
 use Rattle.blk_trace.specs.Legal.{IsLegalTrace}
@@ -72,17 +77,17 @@ starts_out (b ∷ cs) ds c (q ∷ rs) ss r even old =
     record { one_each = omega (arith, rest.one_each); released = starts_first b cs ds q rs ss (old.released 0 b (omega arith)) rest.released }
 
 starts_step : (setup : Setup) (es : List Happened) (e : Happened) → IsLegalTrace setup (es ++ e ∷ []) → IsUnbroken setup es e → StartsWell (commands_of setup es) (rounds_of es) → StartsWell (commands_of setup (es ++ e ∷ [])) (rounds_of (es ++ e ∷ []))
-starts_step setup es (Issued i t) new all ih =
+starts_step setup es (Issue i t) new all ih =
     let w : Entered = record { release = release_of es i; due = due_of setup es i; bios = request_of es i } in
     let waits : waits_at setup es i ≡ Some w = waits_for setup es i (all Unknown) (all_back es i (all AlreadyIssued)) in
     let c : Command = record { id = i; release = w.release; due = w.due } in
     rw (commands-issued setup es i t new w waits, rounds-issued es i t) (starts_push (commands_of setup es) (rounds_of es) c (round_of es) ih (release_within es i))
-starts_step setup es (Returned t) new all ih =
-    let old = shorter_legal setup es (Returned t) new in
+starts_step setup es (Back t) new all ih =
+    let old = shorter_legal setup es (Back t) new in
     let o : IsOpen es t = all NotIssued in
-    let p : IsReturned es (es ++ Returned t ∷ []) o.id = returned setup es t o.id old (open_by es t o) in
+    let p : IsReturned es (es ++ Back t ∷ []) o.id = returned setup es t o.id old (open_by es t o) in
     rw (commands_are setup es t o.id p, p.rounds_are)
-    (starts_out (map (command_of setup es) p.ids_before) (map (command_of setup es) p.ids_after) (command_of setup es o.id) p.rounds_before p.rounds_after p.round (p.even ∙ sym (map_length (command_of setup es) p.ids_before)) (rw (commands_were setup es (es ++ Returned t ∷ []) o.id p, p.rounds_were) at ih))
+    (starts_out (map (command_of setup es) p.ids_before) (map (command_of setup es) p.ids_after) (command_of setup es o.id) p.rounds_before p.rounds_after p.round (p.even ∙ sym (map_length (command_of setup es) p.ids_before)) (rw (commands_were setup es (es ++ Back t ∷ []) o.id p, p.rounds_were) at ih))
 starts_step setup es e new all ih = rw (commands_kept setup es e new refl refl, rounds_kept es e refl refl) ih
 
 starts : (setup : Setup) (es : List Happened) → IsLegalTrace setup es → StartsWell (commands_of setup es) (rounds_of es)
@@ -188,12 +193,12 @@ places_push : (rs : List ℕ) (r x : ℕ) → places_at (rs ++ r ∷ []) x ≡ p
 unfolding places_at
 places_push rs r x = count_push (λ y. y == x) rs r
 
-fills_issued : (setup : Setup) (es : List Happened) (i t : ℕ) → IsLegalTrace setup (es ++ Issued i t ∷ []) → FillsWell setup es → FillsWell setup (es ++ Issued i t ∷ [])
+fills_issued : (setup : Setup) (es : List Happened) (i t : ℕ) → IsLegalTrace setup (es ++ Issue i t ∷ []) → FillsWell setup es → FillsWell setup (es ++ Issue i t ∷ [])
 fills_issued setup es i t new old =
-    let fs : List Happened = es ++ Issued i t ∷ [] in
+    let fs : List Happened = es ++ Issue i t ∷ [] in
     let rounds : (x : ℕ) → places_at (rounds_of fs) x ≡ places_at (rounds_of es) x + one_if (round_of es == x) = λ x. ap (λ l. places_at l x) (rounds-issued es i t) ∙ places_push (rounds_of es) (round_of es) x in
-    let round : round_of fs ≡ round_of es = round_kept es (Issued i t) refl in
-    let long : length (tags fs) ≡ length (tags es) + 1 = ap length (tags_more es (Issued i t) refl) ∙ length_push (tags es) t in
+    let round : round_of fs ≡ round_of es = round_kept es (Issue i t) refl in
+    let long : length (tags fs) ≡ length (tags es) + 1 = ap length (tags_more es (Issue i t) refl) ∙ length_push (tags es) t in
     let one : one_if (round_of es == round_of es) ≡ 1 = ap one_if (eq-eqb (round_of es) (round_of es) refl) in
     let full : places_at (rounds_of fs) (round_of es) ≤ length (tags fs) = omega (arith, rounds (round_of es), old.now) in
     record {
@@ -205,7 +210,7 @@ fills_issued setup es i t new old =
         | inl e ↦ subst (λ y. places_at (rounds_of fs) y ≤ depth_in setup fs y) e (omega (arith, full, few_tags setup fs new, depth_now_is setup fs, ap (depth_in setup fs) round))
         | inr e ↦
             let other : one_if (round_of es == x) ≡ 0 = ap one_if (ne_eqb (round_of es) x e) in
-            omega (arith, rounds x, within_still setup es (Issued i t) old x)
+            omega (arith, rounds x, within_still setup es (Issue i t) old x)
       ];
     }
 
@@ -215,32 +220,32 @@ unfolding places_at
 fewer_places [] ss r x = omega (arith, count-cons (λ y. y == x) r ss)
 fewer_places (q ∷ rs) ss r x = omega (arith, count-cons (λ y. y == x) q (rs ++ ss), count-cons (λ y. y == x) q (rs ++ r ∷ ss), fewer_places rs ss r x)
 
-fills_returned : (setup : Setup) (es : List Happened) (t : ℕ) → IsLegalTrace setup (es ++ Returned t ∷ []) → FillsWell setup es → FillsWell setup (es ++ Returned t ∷ [])
+fills_returned : (setup : Setup) (es : List Happened) (t : ℕ) → IsLegalTrace setup (es ++ Back t ∷ []) → FillsWell setup es → FillsWell setup (es ++ Back t ∷ [])
 fills_returned setup es t new old =
-    let fs : List Happened = es ++ Returned t ∷ [] in
-    let legal = shorter_legal setup es (Returned t) new in
-    let o : IsOpen es t = obeys setup es (Returned t) new NotIssued in
+    let fs : List Happened = es ++ Back t ∷ [] in
+    let legal = shorter_legal setup es (Back t) new in
+    let o : IsOpen es t = obeys setup es (Back t) new NotIssued in
     let p : IsReturned es fs o.id = returned setup es t o.id legal (open_by es t o) in
     let fewer : (x : ℕ) → places_at (rounds_of fs) x ≤ places_at (rounds_of es) x = λ x. rw (p.rounds_are, p.rounds_were) (fewer_places p.rounds_before p.rounds_after p.round x) in
-    let round : round_of fs ≡ round_of es = round_kept es (Returned t) refl in
-    let same : tags fs ≡ tags es = tags_kept es (Returned t) refl refl in
+    let round : round_of fs ≡ round_of es = round_kept es (Back t) refl in
+    let same : tags fs ≡ tags es = tags_kept es (Back t) refl refl in
     record {
       now = rw (round, same) (omega (arith, old.now, fewer (round_of es)));
       later = λ x l. omega (arith, fewer x, old.later x (omega arith));
-      within = λ x. omega (arith, fewer x, within_still setup es (Returned t) old x);
+      within = λ x. omega (arith, fewer x, within_still setup es (Back t) old x);
     }
 
 fills_step : (setup : Setup) (es : List Happened) (e : Happened) → IsLegalTrace setup (es ++ e ∷ []) → FillsWell setup es → FillsWell setup (es ++ e ∷ [])
-fills_step setup es Ticked new old =
-    let up : round_of (es ++ Ticked ∷ []) ≡ round_of es + 1 = round_more es Ticked in
-    let no_tags : length (tags (es ++ Ticked ∷ [])) ≡ 0 = ap length (tags_tick es) in
+fills_step setup es Tick new old =
+    let up : round_of (es ++ Tick ∷ []) ≡ round_of es + 1 = round_more es Tick in
+    let no_tags : length (tags (es ++ Tick ∷ [])) ≡ 0 = ap length (tags_tick es) in
     record {
-      now = rw (rounds_kept es Ticked refl refl, up, no_tags) (omega (arith, old.later (round_of es + 1) (omega arith)));
-      later = λ x l. rw (rounds_kept es Ticked refl refl) (old.later x (omega arith));
-      within = λ x. rw (rounds_kept es Ticked refl refl) (within_still setup es Ticked old x);
+      now = rw (rounds_kept es Tick refl refl, up, no_tags) (omega (arith, old.later (round_of es + 1) (omega arith)));
+      later = λ x l. rw (rounds_kept es Tick refl refl) (old.later x (omega arith));
+      within = λ x. rw (rounds_kept es Tick refl refl) (within_still setup es Tick old x);
     }
-fills_step setup es (Issued i t) new old = fills_issued setup es i t new old
-fills_step setup es (Returned t) new old = fills_returned setup es t new old
+fills_step setup es (Issue i t) new old = fills_issued setup es i t new old
+fills_step setup es (Back t) new old = fills_returned setup es t new old
 fills_step setup es e new old = fills_kept setup es e (rounds_kept es e refl refl) (round_kept es e refl) (tags_kept es e refl refl) old
 
 fills : (setup : Setup) (es : List Happened) → IsLegalTrace setup es → FillsWell setup es

@@ -4,8 +4,13 @@ use Rattle.std.specs.Prelude.{IsSome, not}
 use Rattle.std.specs.Option.{is_some}
 use Rattle.blk_bio.specs.declared.bio.Dir.{Dir}
 use Rattle.blk_bio.specs.Requests.{dir_of}
+<<<<<<< HEAD
 use Rattle.blk_bio.specs.declared.rule.TraceRule.TheVariants.{TagUsed, InFlight}
 use Rattle.blk_trace.specs.Happened.{Happened, Ticked, Issued}
+=======
+use Rattle.blk_trace.specs.declared.rule.TraceRule.TheVariants.{TagUsed, InFlight}
+use Rattle.blk_trace.specs.Happened.{Happened, Tick, Issue}
+>>>>>>> events-b
 use Rattle.blk_trace.specs.Kinds.{is_tick, issues}
 use Rattle.blk_trace.specs.Setups.{Setup}
 use Rattle.blk_trace.specs.Events.{request_of, IsOpen, IsOpenBy, IsUsed}
@@ -48,7 +53,7 @@ free_unused events tag = (
 )
 
 -- an open Issue of the shorter list
-was_by : (es : List Happened) (e : Happened) (t id : ℕ) → (e ≡ Issued id t → ⊥) → IsOpenBy (es ++ e ∷ []) t id → IsOpenBy es t id
+was_by : (es : List Happened) (e : Happened) (t id : ℕ) → (e ≡ Issue id t → ⊥) → IsOpenBy (es ++ e ∷ []) t id → IsOpenBy es t id
 was_by es e t id other o =
     elim (split es e o.place _ o.issued) [
       | inl p ↦ record { place = o.place; issued = p; not_done = λ j h d. o.not_done j h (keep_end es (e ∷ []) j t d) }
@@ -63,15 +68,15 @@ taken_quiet : (es : List Happened) (e : Happened) → is_tick e ≡ false → is
 taken_quiet es e h i ih t id o = taken_kept es e t h (issued_by_none t e i) ∙ ih t id (was_by es e t id (issues_not e i id t) o)
 
 taken_step : (setup : Setup) (es : List Happened) (e : Happened) → IsUnbroken setup es e → TakenBy es → TakenBy (es ++ e ∷ [])
-taken_step setup es Ticked all ih t id o =
-    absurd (all InFlight t (was_open es Ticked t (λ i y. absurd (cc)) (by_open (es ++ Ticked ∷ []) t id o)))
-taken_step setup es (Issued i u) all ih t id o =
-    elim (split es (Issued i u) o.place _ o.issued) [
+taken_step setup es Tick all ih t id o =
+    absurd (all InFlight t (was_open es Tick t (λ i y. absurd (cc)) (by_open (es ++ Tick ∷ []) t id o)))
+taken_step setup es (Issue i u) all ih t id o =
+    elim (split es (Issue i u) o.place _ o.issued) [
       | inl p ↦
-          let was : IsOpenBy es t id = record { place = o.place; issued = p; not_done = λ j h d. o.not_done j h (keep_end es (Issued i u ∷ []) j t d) } in
+          let was : IsOpenBy es t id = record { place = o.place; issued = p; not_done = λ j h d. o.not_done j h (keep_end es (Issue i u ∷ []) j t d) } in
           let here : taken es t ≡ Some id = ih t id was in
           let apart : (u == t) ≡ false = ne_eqb u t (λ same. absurd (let none : taken es t ≡ None = subst (λ x. taken es x ≡ None) same (not_taken es u (all TagUsed)) in cc)) in
-          taken_kept es (Issued i u) t refl (rw apart refl) ∙ here
+          taken_kept es (Issue i u) t refl (rw apart refl) ∙ here
       | inr p ↦
           let a : i ≡ id = let q = p.1 in cc in
           let b : u ≡ t = let q = p.1 in cc in

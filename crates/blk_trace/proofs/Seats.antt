@@ -7,7 +7,7 @@ use Rattle.std.proofs.lemmas.List.Folds.{list_any-append}
 use Rattle.std.proofs.lemmas.List.Sums.{sum_by-take-le}
 use Rattle.std.proofs.lemmas.Bool.{cases_Bool}
 use Rattle.std.proofs.lemmas.Option.{slice_get_within}
-use Rattle.blk_trace.specs.Happened.{Happened, Ticked, Issued}
+use Rattle.blk_trace.specs.Happened.{Happened, Tick, Issue}
 use Rattle.blk_trace.specs.Kinds.{ends}
 use Rattle.blk_trace.specs.Events.{At, is_tick, round_of, round_at, IsOpen, IsUsed}
 use Rattle.blk_trace.specs.Kinds.{is_done_of}
@@ -39,13 +39,13 @@ first_push [] (Some x) = refl
 first_push (y ∷ xs) o = refl
 
 -- the events of the round with one more
-pub now_tick : (es : List Happened) → this_round (es ++ Ticked ∷ []) ≡ []
-now_tick es = now_more es Ticked
+pub now_tick : (es : List Happened) → this_round (es ++ Tick ∷ []) ≡ []
+now_tick es = now_more es Tick
 
 pub now_push : (es : List Happened) (e : Happened) → is_tick e ≡ false → this_round (es ++ e ∷ []) ≡ this_round es ++ e ∷ []
 now_push es e h = now_more es e ∙ rw h refl
 
-pub taken_tick : (es : List Happened) (t : ℕ) → taken (es ++ Ticked ∷ []) t ≡ None
+pub taken_tick : (es : List Happened) (t : ℕ) → taken (es ++ Tick ∷ []) t ≡ None
 unfolding taken
 taken_tick es t = ap (λ l. first_id (filter_map (issued_by t) l)) (now_tick es)
 
@@ -54,7 +54,7 @@ unfolding taken
 taken_more es e t h =
     ap (λ l. first_id (filter_map (issued_by t) l)) (now_push es e h) ∙ ap first_id (filter_map-append (issued_by t) (this_round es) (e ∷ [])) ∙ first_push (filter_map (issued_by t) (this_round es)) (issued_by t e)
 
-pub ended_tick : (es : List Happened) (t : ℕ) → ended (es ++ Ticked ∷ []) t ≡ false
+pub ended_tick : (es : List Happened) (t : ℕ) → ended (es ++ Tick ∷ []) t ≡ false
 unfolding ended
 ended_tick es t = ap (list_any (is_done_of t)) (now_tick es)
 
@@ -92,13 +92,13 @@ taken_before es e t h n =
       | inr p ↦ absurd (let s : taken (es ++ e ∷ []) t ≡ Some p.0 = taken_still es e t p.0 h p.1 in cc)
     ]
 
-pub taken_new : (es : List Happened) (i u t : ℕ) → (u == t) ≡ true → taken es t ≡ None → taken (es ++ Issued i u ∷ []) t ≡ Some i
-taken_new es i u t h n = taken_more es (Issued i u) t refl ∙ ap (λ o. first_or o (issued_by t (Issued i u))) n ∙ rw h refl
+pub taken_new : (es : List Happened) (i u t : ℕ) → (u == t) ≡ true → taken es t ≡ None → taken (es ++ Issue i u ∷ []) t ≡ Some i
+taken_new es i u t h n = taken_more es (Issue i u) t refl ∙ ap (λ o. first_or o (issued_by t (Issue i u))) n ∙ rw h refl
 
 -- the place at which it was taken
 pub record IsTaken (es : List Happened) (t id : ℕ) : Type 0 where
   pub place : ℕ
-  pub issued : At es place (Issued id t)
+  pub issued : At es place (Issue id t)
   pub now : round_at es place ≡ round_of es
 
 round_push : (es : List Happened) (e : Happened) → is_tick e ≡ false → round_of (es ++ e ∷ []) ≡ round_of es
@@ -118,27 +118,27 @@ some_other : (es : List Happened) (e : Happened) (t id : ℕ) → is_tick e ≡ 
 some_other es e t id h n ih s = still_taken es e t id h (ih (sym (taken_kept es e t h n) ∙ s))
 
 taken_step : (t id : ℕ) (es : List Happened) (e : Happened) → (taken es t ≡ Some id → IsTaken es t id) → taken (es ++ e ∷ []) t ≡ Some id → IsTaken (es ++ e ∷ []) t id
-taken_step t id es Ticked ih s = absurd (let n : taken (es ++ Ticked ∷ []) t ≡ None = taken_tick es t in cc)
-taken_step t id es (Issued i u) ih s =
+taken_step t id es Tick ih s = absurd (let n : taken (es ++ Tick ∷ []) t ≡ None = taken_tick es t in cc)
+taken_step t id es (Issue i u) ih s =
     elim (cases_option (taken es t)) [
       | inl n ↦
           elim (cases_Bool (u == t)) [
             | inl b ↦
-                let new : taken (es ++ Issued i u ∷ []) t ≡ Some i = taken_new es i u t b n in
+                let new : taken (es ++ Issue i u ∷ []) t ≡ Some i = taken_new es i u t b n in
                 let same : i ≡ id = cc in
                 let tag : u ≡ t = eqb-true u t b in
-                let event : Issued i u ≡ Issued id t = cc in
+                let event : Issue i u ≡ Issue id t = cc in
                 record {
                   place = length es;
-                  issued = last es (Issued i u) ∙ ap Some event;
-                  now = ap round_of (before_last es (Issued i u) (length es) refl) ∙ sym (round_push es (Issued i u) refl);
+                  issued = last es (Issue i u) ∙ ap Some event;
+                  now = ap round_of (before_last es (Issue i u) (length es) refl) ∙ sym (round_push es (Issue i u) refl);
                 }
-            | inr b ↦ some_other es (Issued i u) t id refl (rw b refl) ih s
+            | inr b ↦ some_other es (Issue i u) t id refl (rw b refl) ih s
           ]
       | inr p ↦
-          let old : taken (es ++ Issued i u ∷ []) t ≡ Some p.0 = taken_still es (Issued i u) t p.0 refl p.1 in
+          let old : taken (es ++ Issue i u ∷ []) t ≡ Some p.0 = taken_still es (Issue i u) t p.0 refl p.1 in
           let same : p.0 ≡ id = cc in
-          still_taken es (Issued i u) t id refl (ih (p.1 ∙ ap Some same))
+          still_taken es (Issue i u) t id refl (ih (p.1 ∙ ap Some same))
     ]
 taken_step t id es e ih s = some_other es e t id refl refl ih s
 
@@ -151,7 +151,7 @@ round_before : (es : List Happened) (k : ℕ) → round_at es k ≤ round_of es
 unfolding round_of
 round_before es k = sum_by-take-le (λ (x : Happened). cond (is_tick x) 1 0) es k
 
-used_step : (id t : ℕ) (es : List Happened) (e : Happened) → ((k : ℕ) → At es k (Issued id t) → round_at es k ≡ round_of es → (i : ℕ) × (taken es t ≡ Some i)) → (k : ℕ) → At (es ++ e ∷ []) k (Issued id t) → round_at (es ++ e ∷ []) k ≡ round_of (es ++ e ∷ []) → (i : ℕ) × (taken (es ++ e ∷ []) t ≡ Some i)
+used_step : (id t : ℕ) (es : List Happened) (e : Happened) → ((k : ℕ) → At es k (Issue id t) → round_at es k ≡ round_of es → (i : ℕ) × (taken es t ≡ Some i)) → (k : ℕ) → At (es ++ e ∷ []) k (Issue id t) → round_at (es ++ e ∷ []) k ≡ round_of (es ++ e ∷ []) → (i : ℕ) × (taken (es ++ e ∷ []) t ≡ Some i)
 used_step id t es e ih k h r =
     elim (split es e k _ h) [
       | inl a ↦
@@ -164,16 +164,16 @@ used_step id t es e ih k h r =
           ]
       | inr b ↦
           let Goal : Happened → Type 0 = λ x. (i : ℕ) × (taken (es ++ x ∷ []) t ≡ Some i) in
-          let here : Goal (Issued id t) = elim (cases_option (taken es t)) [
+          let here : Goal (Issue id t) = elim (cases_option (taken es t)) [
             | inl n ↦ (id, taken_new es id t t (eq-eqb t t refl) n)
-            | inr p ↦ (p.0, taken_still es (Issued id t) t p.0 refl p.1)
+            | inr p ↦ (p.0, taken_still es (Issue id t) t p.0 refl p.1)
           ] in
           subst Goal (sym b.1) here
     ]
 
 pub used_taken : (es : List Happened) (t : ℕ) → IsUsed es t → (i : ℕ) × (taken es t ≡ Some i)
 used_taken es t u =
-    by_events (λ l. (k : ℕ) → At l k (Issued u.id t) → round_at l k ≡ round_of l → (i : ℕ) × (taken l t ≡ Some i)) (λ k h r. absurd (cc)) (λ l e ih. used_step u.id t l e ih) es u.place u.issued u.now
+    by_events (λ l. (k : ℕ) → At l k (Issue u.id t) → round_at l k ≡ round_of l → (i : ℕ) × (taken l t ≡ Some i)) (λ k h r. absurd (cc)) (λ l e ih. used_step u.id t l e ih) es u.place u.issued u.now
 
 -- a tag that isn't used isn't taken
 pub not_taken : (es : List Happened) (t : ℕ) → (IsUsed es t → ⊥) → taken es t ≡ None
@@ -184,7 +184,7 @@ not_taken es t h =
     ]
 
 -- open tags with one more event
-pub was_open : (es : List Happened) (e : Happened) (t : ℕ) → ((id : ℕ) → e ≡ Issued id t → ⊥) → IsOpen (es ++ e ∷ []) t → IsOpen es t
+pub was_open : (es : List Happened) (e : Happened) (t : ℕ) → ((id : ℕ) → e ≡ Issue id t → ⊥) → IsOpen (es ++ e ∷ []) t → IsOpen es t
 was_open es e t other o =
     elim (split es e o.place _ o.issued) [
       | inl p ↦ record { place = o.place; id = o.id; issued = p; not_done = λ j h d. o.not_done j h (keep_end es (e ∷ []) j t d) }
@@ -206,10 +206,10 @@ still_open es e t other o = record {
   not_done = λ j h d. elim (split_end es e j t d) [ inl p ↦ o.not_done j h p | inr p ↦ other p.1 ];
 }
 
-pub now_open : (es : List Happened) (i u t : ℕ) → u ≡ t → IsOpen (es ++ Issued i u ∷ []) t
+pub now_open : (es : List Happened) (i u t : ℕ) → u ≡ t → IsOpen (es ++ Issue i u ∷ []) t
 now_open es i u t same = record {
   place = length es;
   id = i;
-  issued = last es (Issued i u) ∙ ap (λ x. Some (Issued i x)) same;
-  not_done = λ j h d. elim (split_end es (Issued i u) j t d) [ inl p ↦ omega (arith, slice_get_within es j _ p.1) | inr p ↦ absurd (let q = p.1 in cc) ];
+  issued = last es (Issue i u) ∙ ap (λ x. Some (Issue i x)) same;
+  not_done = λ j h d. elim (split_end es (Issue i u) j t d) [ inl p ↦ omega (arith, slice_get_within es j _ p.1) | inr p ↦ absurd (let q = p.1 in cc) ];
 }

@@ -5,8 +5,13 @@ use Rattle.std.proofs.lemmas.Bool.{cases_Bool, or_parts, eqb-false}
 use Rattle.blk_bio.specs.Bios.{Bio}
 use Rattle.blk_bio.specs.declared.bio.Dir.{Dir}
 use Rattle.blk_bio.specs.Requests.{dir_of}
+<<<<<<< HEAD
 use Rattle.blk_bio.specs.declared.rule.TraceRule.TheVariants.{TagUsed, NotIssued, InFlight}
 use Rattle.blk_trace.specs.Happened.{Happened, Ticked, Released, Joined, Issued, Finished}
+=======
+use Rattle.blk_trace.specs.declared.rule.TraceRule.TheVariants.{TagUsed, NotIssued, InFlight}
+use Rattle.blk_trace.specs.Happened.{Happened, Tick, Release, Join, Issue, Done}
+>>>>>>> events-b
 use Rattle.blk_trace.specs.Kinds.{issues, ends}
 use Rattle.blk_trace.specs.Setups.{Setup}
 use Rattle.blk_trace.specs.Events.{is_tick, request_of, IsOpen, IsUsed}
@@ -34,7 +39,7 @@ quiet : (es : List Happened) (e : Happened) → is_tick e ≡ false → issues e
 quiet es e h issues_none ends_none old =
     let n : (t : ℕ) → issued_by t e ≡ None = λ t. issued_by_none t e issues_none in
     let d : (t : ℕ) → is_done_of t e ≡ false = λ t. done_by_none t e ends_none in
-    let no_issue : (t i : ℕ) → e ≡ Issued i t → ⊥ = λ t i x. issues_not e issues_none i t x in
+    let no_issue : (t i : ℕ) → e ≡ Issue i t → ⊥ = λ t i x. issues_not e issues_none i t x in
     let no_end : (t : ℕ) → ends e ≡ Some t → ⊥ = λ t x. ends_not e ends_none t x in
     record {
       runs = λ t o. ended_kept es e t h (d t) ∙ old.runs t (was_open es e t (no_issue t) o);
@@ -43,24 +48,24 @@ quiet es e h issues_none ends_none old =
       fresh = λ t s. ended_kept es e t h (d t) ∙ old.fresh t (sym (taken_kept es e t h (n t)) ∙ s);
     }
 
-steady_issued : (setup : Setup) (es : List Happened) (i u : ℕ) → IsUnbroken setup es (Issued i u) → IsSteady es → IsSteady (es ++ Issued i u ∷ [])
+steady_issued : (setup : Setup) (es : List Happened) (i u : ℕ) → IsUnbroken setup es (Issue i u) → IsSteady es → IsSteady (es ++ Issue i u ∷ [])
 steady_issued setup es i u all old =
     let none : (t : ℕ) → u ≡ t → taken es t ≡ None = λ t same. subst (λ x. taken es x ≡ None) same (not_taken es u (all TagUsed)) in
-    let other : (t : ℕ) → (u == t) ≡ false → (id : ℕ) → Issued i u ≡ Issued id t → ⊥ = λ t b id e. eqb-false u t b (cc) in
+    let other : (t : ℕ) → (u == t) ≡ false → (id : ℕ) → ◌≡◌ {A = Happened} (Issue i u) (Issue id t) → ⊥ = λ t b id e. eqb-false u t b (cc) in
     record {
-      runs = λ t o. ended_kept es (Issued i u) t refl refl ∙ elim (cases_Bool (u == t)) [
+      runs = λ t o. ended_kept es (Issue i u) t refl refl ∙ elim (cases_Bool (u == t)) [
         | inl b ↦ old.fresh t (none t (eqb-true u t b))
-        | inr b ↦ old.runs t (was_open es (Issued i u) t (other t b) o)
+        | inr b ↦ old.runs t (was_open es (Issue i u) t (other t b) o)
       ];
       takes = λ t o. elim (cases_Bool (u == t)) [
         | inl b ↦ (i, taken_new es i u t b (none t (eqb-true u t b)))
-        | inr b ↦ let p = old.takes t (was_open es (Issued i u) t (other t b) o) in (p.0, taken_kept es (Issued i u) t refl (rw b refl) ∙ p.1)
+        | inr b ↦ let p = old.takes t (was_open es (Issue i u) t (other t b) o) in (p.0, taken_kept es (Issue i u) t refl (rw b refl) ∙ p.1)
       ];
       opens = λ t id s r. elim (cases_Bool (u == t)) [
         | inl b ↦ now_open es i u t (eqb-true u t b)
-        | inr b ↦ still_open es (Issued i u) t (λ e. absurd (cc)) (old.opens t id (sym (taken_kept es (Issued i u) t refl (rw b refl)) ∙ s) (sym (ended_kept es (Issued i u) t refl refl) ∙ r))
+        | inr b ↦ still_open es (Issue i u) t (λ e. absurd (cc)) (old.opens t id (sym (taken_kept es (Issue i u) t refl (rw b refl)) ∙ s) (sym (ended_kept es (Issue i u) t refl refl) ∙ r))
       ];
-      fresh = λ t s. ended_kept es (Issued i u) t refl refl ∙ old.fresh t (taken_before es (Issued i u) t refl s);
+      fresh = λ t s. ended_kept es (Issue i u) t refl refl ∙ old.fresh t (taken_before es (Issue i u) t refl s);
     }
 
 -- one that ends the Issue of a tag
@@ -90,13 +95,13 @@ steady_rest setup es e None none h i all old = quiet es e h i none old
 steady_rest setup es e (Some u) end h i all old = steady_ended setup es e u end all old
 
 steady_step : (setup : Setup) (es : List Happened) (e : Happened) → IsUnbroken setup es e → IsSteady es → IsSteady (es ++ e ∷ [])
-steady_step setup es Ticked all old = record {
+steady_step setup es Tick all old = record {
   runs = λ t o. ended_tick es t;
-  takes = λ t o. absurd (all InFlight t (was_open es Ticked t (λ i e. absurd (cc)) o));
-  opens = λ t id s r. absurd (let n : taken (es ++ Ticked ∷ []) t ≡ None = taken_tick es t in cc);
+  takes = λ t o. absurd (all InFlight t (was_open es Tick t (λ i e. absurd (cc)) o));
+  opens = λ t id s r. absurd (let n : taken (es ++ Tick ∷ []) t ≡ None = taken_tick es t in cc);
   fresh = λ t s. ended_tick es t;
 }
-steady_step setup es (Issued i u) all old = steady_issued setup es i u all old
+steady_step setup es (Issue i u) all old = steady_issued setup es i u all old
 steady_step setup es e all old = steady_rest setup es e (ends e) refl refl refl all old
 
 pub steady : (setup : Setup) (es : List Happened) → IsLegalTrace setup es → IsSteady es
@@ -156,33 +161,33 @@ seat_kept setup es e t old all h n d =
           seat_from (es ++ e ∷ []) t p.0 (ended es t) (dir_of (request_of es p.0)) (taken_kept es e t h n ∙ p.1) (ended_kept es e t h d) (ap dir_of same.request) ∙ sym (seat_from es t p.0 (ended es t) (dir_of (request_of es p.0)) p.1 refl refl)
     ]
 
-pub seat-ticked : (setup : Setup) (events : List Happened) → IsLegalTrace setup (events ++ Ticked ∷ []) → (t : ℕ) → seat_at (events ++ Ticked ∷ []) t ≡ None
-seat-ticked setup events legal t = no_seat (events ++ Ticked ∷ []) t (taken_tick events t)
+pub seat-ticked : (setup : Setup) (events : List Happened) → IsLegalTrace setup (events ++ Tick ∷ []) → (t : ℕ) → seat_at (events ++ Tick ∷ []) t ≡ None
+seat-ticked setup events legal t = no_seat (events ++ Tick ∷ []) t (taken_tick events t)
 
 -- an event that issues and ends nothing leaves the seats
 pub seat_quiet : (setup : Setup) (events : List Happened) (e : Happened) → IsLegalTrace setup (events ++ e ∷ []) → is_tick e ≡ false → issues e ≡ None → ends e ≡ None → (t : ℕ) → seat_at (events ++ e ∷ []) t ≡ seat_at events t
 seat_quiet setup events e legal h i n t = seat_kept setup events e t (shorter_legal setup events _ legal) (obeys setup events _ legal) h (issued_by_none t e i) (done_by_none t e n)
 
-pub seat-released : (setup : Setup) (events : List Happened) (id : ℕ) (bios : List Bio) → IsLegalTrace setup (events ++ Released id bios ∷ []) → (t : ℕ) → seat_at (events ++ Released id bios ∷ []) t ≡ seat_at events t
-seat-released setup events id bios legal t = seat_quiet setup events (Released id bios) legal refl refl refl t
+pub seat-released : (setup : Setup) (events : List Happened) (id : ℕ) (bios : List Bio) → IsLegalTrace setup (events ++ Release id bios ∷ []) → (t : ℕ) → seat_at (events ++ Release id bios ∷ []) t ≡ seat_at events t
+seat-released setup events id bios legal t = seat_quiet setup events (Release id bios) legal refl refl refl t
 
-pub seat-joined : (setup : Setup) (events : List Happened) (id : ℕ) (bios : List Bio) → IsLegalTrace setup (events ++ Joined id bios ∷ []) → (t : ℕ) → seat_at (events ++ Joined id bios ∷ []) t ≡ seat_at events t
-seat-joined setup events id bios legal t = seat_quiet setup events (Joined id bios) legal refl refl refl t
+pub seat-joined : (setup : Setup) (events : List Happened) (id : ℕ) (bios : List Bio) → IsLegalTrace setup (events ++ Join id bios ∷ []) → (t : ℕ) → seat_at (events ++ Join id bios ∷ []) t ≡ seat_at events t
+seat-joined setup events id bios legal t = seat_quiet setup events (Join id bios) legal refl refl refl t
 
-seat_new : (setup : Setup) (events : List Happened) (id tag : ℕ) → IsLegalTrace setup events → IsUnbroken setup events (Issued id tag) → (w : Entered) → waits_at setup events id ≡ Some w → (t : ℕ) → (tag == t) ≡ true → seat_at (events ++ Issued id tag ∷ []) t ≡ Some (record { dir = dir_of w.bios; in_flight = true })
+seat_new : (setup : Setup) (events : List Happened) (id tag : ℕ) → IsLegalTrace setup events → IsUnbroken setup events (Issue id tag) → (w : Entered) → waits_at setup events id ≡ Some w → (t : ℕ) → (tag == t) ≡ true → seat_at (events ++ Issue id tag ∷ []) t ≡ Some (record { dir = dir_of w.bios; in_flight = true })
 seat_new setup events id tag old all w waits t b =
     let none : taken events t ≡ None = subst (λ x. taken events x ≡ None) (eqb-true tag t b) (not_taken events tag (all TagUsed)) in
     let was : IsWaiting setup events id w = waiting_from setup events id w waits in
-    let same : IsSame setup events (events ++ Issued id tag ∷ []) id = same_entered setup events (Issued id tag) id refl in
-    seat_from (events ++ Issued id tag ∷ []) t id false (dir_of w.bios) (taken_new events id tag t b none) (ended_kept events (Issued id tag) t refl refl ∙ (steady setup events old).fresh t none) (ap dir_of (same.request ∙ sym was.bios_is))
+    let same : IsSame setup events (events ++ Issue id tag ∷ []) id = same_entered setup events (Issue id tag) id refl in
+    seat_from (events ++ Issue id tag ∷ []) t id false (dir_of w.bios) (taken_new events id tag t b none) (ended_kept events (Issue id tag) t refl refl ∙ (steady setup events old).fresh t none) (ap dir_of (same.request ∙ sym was.bios_is))
 
-pub seat-issued : (setup : Setup) (events : List Happened) (id tag : ℕ) → IsLegalTrace setup (events ++ Issued id tag ∷ []) → (w : Entered) → waits_at setup events id ≡ Some w → (t : ℕ) → seat_at (events ++ Issued id tag ∷ []) t ≡ cond (tag == t) (Some (record { dir = dir_of w.bios; in_flight = true })) (seat_at events t)
+pub seat-issued : (setup : Setup) (events : List Happened) (id tag : ℕ) → IsLegalTrace setup (events ++ Issue id tag ∷ []) → (w : Entered) → waits_at setup events id ≡ Some w → (t : ℕ) → seat_at (events ++ Issue id tag ∷ []) t ≡ cond (tag == t) (Some (record { dir = dir_of w.bios; in_flight = true })) (seat_at events t)
 seat-issued setup events id tag legal w waits t =
     let old = shorter_legal setup events _ legal in
     let all = obeys setup events _ legal in
     elim (cases_Bool (tag == t)) [
       | inl b ↦ seat_new setup events id tag old all w waits t b ∙ sym (rw b refl)
-      | inr b ↦ seat_kept setup events (Issued id tag) t old all refl (rw b refl) refl ∙ sym (rw b refl)
+      | inr b ↦ seat_kept setup events (Issue id tag) t old all refl (rw b refl) refl ∙ sym (rw b refl)
     ]
 
 or_true : (x y : Bool) → y ≡ true → (x || y) ≡ true
@@ -207,8 +212,8 @@ seat_ended setup events e tag legal end seat taken t =
       | inr b ↦ seat_kept setup events e t old all only.no_tick (issued_by_none t e only.no_issue) (done_by t e tag end ∙ b) ∙ sym (rw b refl)
     ]
 
-pub seat-finished : (setup : Setup) (events : List Happened) (tag : ℕ) → IsLegalTrace setup (events ++ Finished tag ∷ []) → (seat : RoundSeat) → seat_at events tag ≡ Some seat → (t : ℕ) → seat_at (events ++ Finished tag ∷ []) t ≡ cond (tag == t) (Some (record { dir = seat.dir; in_flight = false })) (seat_at events t)
-seat-finished setup events tag legal seat taken t = seat_ended setup events (Finished tag) tag legal refl seat taken t
+pub seat-finished : (setup : Setup) (events : List Happened) (tag : ℕ) → IsLegalTrace setup (events ++ Done tag ∷ []) → (seat : RoundSeat) → seat_at events tag ≡ Some seat → (t : ℕ) → seat_at (events ++ Done tag ∷ []) t ≡ cond (tag == t) (Some (record { dir = seat.dir; in_flight = false })) (seat_at events t)
+seat-finished setup events tag legal seat taken t = seat_ended setup events (Done tag) tag legal refl seat taken t
 
 -- a taken tag is below the depth
 pub seat-below : (setup : Setup) (events : List Happened) → IsLegalTrace setup events → (t : ℕ) (seat : RoundSeat) → seat_at events t ≡ Some seat → suc t ≤ setup.depth
@@ -243,5 +248,5 @@ seat_unused events t h u =
 pub ended_open : (setup : Setup) (events : List Happened) (e : Happened) (tag : ℕ) → IsLegalTrace setup (events ++ e ∷ []) → ends e ≡ Some tag → IsOpen events tag
 ended_open setup events e tag legal end = some_of (ends e) (IsOpen events) tag end (obeys setup events _ legal NotIssued)
 
-pub finished-open : (setup : Setup) (events : List Happened) (tag : ℕ) → IsLegalTrace setup (events ++ Finished tag ∷ []) → (dir : Dir) × (seat_at events tag ≡ Some (record { dir = dir; in_flight = true }))
-finished-open setup events tag legal = open_seat setup events tag (shorter_legal setup events _ legal) (ended_open setup events (Finished tag) tag legal refl)
+pub finished-open : (setup : Setup) (events : List Happened) (tag : ℕ) → IsLegalTrace setup (events ++ Done tag ∷ []) → (dir : Dir) × (seat_at events tag ≡ Some (record { dir = dir; in_flight = true }))
+finished-open setup events tag legal = open_seat setup events tag (shorter_legal setup events _ legal) (ended_open setup events (Done tag) tag legal refl)

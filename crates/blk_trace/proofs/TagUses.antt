@@ -4,7 +4,7 @@ use Rattle.std.specs.Prelude.{slice_get, ◌⊎◌, replicate}
 use Rattle.std.proofs.lemmas.Option.{slice_get_within}
 use Rattle.blk_trace.specs.declared.tags.TagUse.{TagUse}
 use Rattle.blk_trace.specs.declared.tags.TagUse.TheVariants.{Free, Open, Ended}
-use Rattle.blk_trace.specs.Happened.{Happened, Ticked, Issued}
+use Rattle.blk_trace.specs.Happened.{Happened, Tick, Issue}
 use Rattle.blk_trace.specs.Kinds.{issues, ends}
 use Rattle.blk_trace.specs.Setups.{Setup}
 use Rattle.blk_trace.specs.Events.{is_tick, round_of, IsOpen, IsUsed, IsOpenBy}
@@ -21,7 +21,7 @@ use Rattle.blk_trace.proofs.Capacities.{tag_below}
 -- the event neither ends the round nor issues or ends the tag
 pub record LeavesTag (e : Happened) (tag : ℕ) : Type 0 where
   pub no_tick : is_tick e ≡ false
-  pub no_issue : (id : ℕ) → e ≡ Issued id tag → ⊥
+  pub no_issue : (id : ℕ) → e ≡ Issue id tag → ⊥
   pub no_end : ends e ≡ Some tag → ⊥
 
 same_round : (es : List Happened) (e : Happened) → is_tick e ≡ false → round_of (es ++ e ∷ []) ≡ round_of es
@@ -35,28 +35,28 @@ used_keep es e tag h u = record {
   now = ap round_of (before es (e ∷ []) u.place _ u.issued) ∙ u.now ∙ sym (same_round es e h);
 }
 
-used_back : (es : List Happened) (e : Happened) (tag : ℕ) → is_tick e ≡ false → ((id : ℕ) → e ≡ Issued id tag → ⊥) → IsUsed (es ++ e ∷ []) tag → IsUsed es tag
+used_back : (es : List Happened) (e : Happened) (tag : ℕ) → is_tick e ≡ false → ((id : ℕ) → e ≡ Issue id tag → ⊥) → IsUsed (es ++ e ∷ []) tag → IsUsed es tag
 used_back es e tag h other u =
     elim (split es e u.place _ u.issued) [
       | inl p ↦ record { place = u.place; id = u.id; issued = p; now = ap round_of (sym (before es (e ∷ []) u.place _ p)) ∙ u.now ∙ same_round es e h }
       | inr p ↦ absurd (other u.id p.1)
     ]
 
-used_tick : (es : List Happened) (tag : ℕ) → IsUsed (es ++ Ticked ∷ []) tag → ⊥
+used_tick : (es : List Happened) (tag : ℕ) → IsUsed (es ++ Tick ∷ []) tag → ⊥
 used_tick es tag u =
-    elim (split es Ticked u.place _ u.issued) [
+    elim (split es Tick u.place _ u.issued) [
       | inl p ↦
-          let here : round_of (take u.place es) ≡ round_of (es ++ Ticked ∷ []) = ap round_of (sym (before es (Ticked ∷ []) u.place _ p)) ∙ u.now in
-          absurd (omega (arith, here, round_within u.place es, round_more es Ticked))
+          let here : round_of (take u.place es) ≡ round_of (es ++ Tick ∷ []) = ap round_of (sym (before es (Tick ∷ []) u.place _ p)) ∙ u.now in
+          absurd (omega (arith, here, round_within u.place es, round_more es Tick))
       | inr p ↦ absurd (let q = p.1 in cc)
     ]
 
-used_here : (es : List Happened) (id tag : ℕ) → IsUsed (es ++ Issued id tag ∷ []) tag
+used_here : (es : List Happened) (id tag : ℕ) → IsUsed (es ++ Issue id tag ∷ []) tag
 used_here es id tag = record {
   place = length es;
   id = id;
-  issued = last es (Issued id tag);
-  now = ap round_of (before_last es (Issued id tag) (length es) refl) ∙ sym (same_round es (Issued id tag) refl);
+  issued = last es (Issue id tag);
+  now = ap round_of (before_last es (Issue id tag) (length es) refl) ∙ sym (same_round es (Issue id tag) refl);
 }
 
 -- the Issue of an open tag
@@ -67,11 +67,11 @@ still_by es e t id other o = record {
   not_done = λ j h d. elim (split_end es e j t d) [ inl p ↦ o.not_done j h p | inr p ↦ other p.1 ];
 }
 
-pub now_by : (es : List Happened) (id t : ℕ) → IsOpenBy (es ++ Issued id t ∷ []) t id
+pub now_by : (es : List Happened) (id t : ℕ) → IsOpenBy (es ++ Issue id t ∷ []) t id
 now_by es id t = record {
   place = length es;
-  issued = last es (Issued id t);
-  not_done = λ j h d. elim (split_end es (Issued id t) j t d) [ inl p ↦ omega (arith, slice_get_within es j _ p.1) | inr p ↦ absurd (let q = p.1 in cc) ];
+  issued = last es (Issue id t);
+  not_done = λ j h d. elim (split_end es (Issue id t) j t d) [ inl p ↦ omega (arith, slice_get_within es j _ p.1) | inr p ↦ absurd (let q = p.1 in cc) ];
 }
 
 pub by_open : (es : List Happened) (t id : ℕ) → IsOpenBy es t id → IsOpen es t
@@ -94,9 +94,9 @@ replicate_at zero x k y h = absurd (cc)
 replicate_at (suc n) x zero y h = cc
 replicate_at (suc n) x (suc k) y h = replicate_at n x k y h
 
-pub tags_ticked : (es : List Happened) (n : ℕ) → ((tag : ℕ) → IsOpen es tag → ⊥) → TagsAre (es ++ Ticked ∷ []) (replicate n Free)
+pub tags_ticked : (es : List Happened) (n : ℕ) → ((tag : ℕ) → IsOpen es tag → ⊥) → TagsAre (es ++ Tick ∷ []) (replicate n Free)
 tags_ticked es n none tag u h =
-    subst (IsTagUse (es ++ Ticked ∷ []) tag) (replicate_at n Free tag u h) (used_tick es tag, λ o. none tag (was_open es Ticked tag (λ i y. absurd (cc)) o))
+    subst (IsTagUse (es ++ Tick ∷ []) tag) (replicate_at n Free tag u h) (used_tick es tag, λ o. none tag (was_open es Tick tag (λ i y. absurd (cc)) o))
 
 -- what stands in a list after a write
 written : {X : Type 0} (xs : List X) (k : ℕ) (x : X) (j : ℕ) (y : X) → slice_get (set xs k x) j ≡ Some y → ((j ≡ k) × (x ≡ y)) ⊎ ((j ≢ k) × (slice_get xs j ≡ Some y))
@@ -106,14 +106,14 @@ written (z ∷ xs) zero x (suc j) y h = inr (λ e. absurd (omega (arith, e)), h)
 written (z ∷ xs) (suc k) x zero y h = inr (λ e. absurd (omega (arith, e)), h)
 written (z ∷ xs) (suc k) x (suc j) y h = elim (written xs k x j y h) [ inl p ↦ inl (omega (arith, p.0), p.1) | inr p ↦ inr (λ e. p.0 (omega (arith, e)), p.1) ]
 
-issue_tag : (i id tag t : ℕ) → Issued i tag ≡ Issued id t → tag ≡ t
+issue_tag : (i id tag t : ℕ) → ◌≡◌ {A = Happened} (Issue i tag) (Issue id t) → tag ≡ t
 issue_tag i id tag t h = cc
 
-pub tags_issued : (es : List Happened) (tags : List TagUse) (id tag : ℕ) → TagsAre es tags → TagsAre (es ++ Issued id tag ∷ []) (set tags tag (Open id))
+pub tags_issued : (es : List Happened) (tags : List TagUse) (id tag : ℕ) → TagsAre es tags → TagsAre (es ++ Issue id tag ∷ []) (set tags tag (Open id))
 tags_issued es tags id tag h t u x =
     elim (written tags tag (Open id) t u x) [
-      | inl p ↦ subst (λ v. IsTagUse (es ++ Issued id tag ∷ []) t v) p.1 (subst (λ n. IsTagUse (es ++ Issued id tag ∷ []) n (Open id)) (sym p.0) (used_here es id tag, now_by es id tag))
-      | inr p ↦ use_keep es (Issued id tag) t u record { no_tick = refl; no_issue = λ i y. p.0 (sym (issue_tag id i tag t y)); no_end = λ y. absurd (cc) } (h t u p.1)
+      | inl p ↦ subst (λ v. IsTagUse (es ++ Issue id tag ∷ []) t v) p.1 (subst (λ n. IsTagUse (es ++ Issue id tag ∷ []) n (Open id)) (sym p.0) (used_here es id tag, now_by es id tag))
+      | inr p ↦ use_keep es (Issue id tag) t u record { no_tick = refl; no_issue = λ i y. p.0 (sym (issue_tag id i tag t y)); no_end = λ y. absurd (cc) } (h t u p.1)
     ]
 
 pub tags_ended : (es : List Happened) (e : Happened) (tags : List TagUse) (tag : ℕ) → ends e ≡ Some tag → IsUsed es tag → TagsAre es tags → TagsAre (es ++ e ∷ []) (set tags tag Ended)

@@ -5,8 +5,13 @@ use Rattle.std.specs.Option.{option_map_or}
 use Rattle.std.proofs.lemmas.Bool.{cases_Bool}
 use Rattle.blk_bio.specs.Bios.{Bio}
 use Rattle.blk_bio.specs.Requests.{dir_of}
+<<<<<<< HEAD
 use Rattle.blk_bio.specs.declared.rule.TraceRule.TheVariants.{ReleasedTwice, AlreadyIssued}
 use Rattle.blk_trace.specs.Happened.{Happened, Ticked, Released, Joined, Issued, Finished, Returned}
+=======
+use Rattle.blk_trace.specs.declared.rule.TraceRule.TheVariants.{ReleasedTwice, AlreadyIssued}
+use Rattle.blk_trace.specs.Happened.{Happened, Tick, Release, Join, Issue, Done, Back}
+>>>>>>> events-b
 use Rattle.blk_trace.specs.Kinds.{releases, joins, issues, hands_back, is_done_of}
 use Rattle.blk_trace.specs.Setups.{Setup, expire_of}
 use Rattle.blk_trace.specs.Events.{At, round_of, goes_back, join_up}
@@ -47,18 +52,18 @@ put_off : (b was : Bool) (x : Entered) (y : Option Entered) → (b ≡ true → 
 put_off true was x y h = ap (λ w. cond w None (Some x)) (h refl)
 put_off false was x y h = refl
 
-pub unissued-released : (setup : Setup) (events : List Happened) (id : ℕ) (bios : List Bio) → IsLegalTrace setup (events ++ Released id bios ∷ []) → (q : ℕ) → unissued_at setup (events ++ Released id bios ∷ []) q ≡ cond (id == q) (Some (record { release = round_of events; due = round_of events + expire_of setup (dir_of bios); bios = bios })) (unissued_at setup events q)
+pub unissued-released : (setup : Setup) (events : List Happened) (id : ℕ) (bios : List Bio) → IsLegalTrace setup (events ++ Release id bios ∷ []) → (q : ℕ) → unissued_at setup (events ++ Release id bios ∷ []) q ≡ cond (id == q) (Some (record { release = round_of events; due = round_of events + expire_of setup (dir_of bios); bios = bios })) (unissued_at setup events q)
 unissued-released setup events id bios legal q =
-    let e : Happened = Released id bios in
+    let e : Happened = Release id bios in
     let old = shorter_legal setup events e legal in
     let fresh : was_issued events id ≡ false = never_was events id (λ p. obeys setup events e legal ReleasedTwice (released_first setup events id old p)) in
     unissued_is setup (events ++ e ∷ []) q _ _ (was_kept events e q refl) (waits-released setup events id bios legal q)
     ∙ put_off (id == q) (was_issued events q) _ (waits_at setup events q) (λ t. subst (λ n. was_issued events n ≡ false) (eqb-true id q t) fresh)
     ∙ ap (λ o. cond (id == q) (Some (record { release = round_of events; due = round_of events + expire_of setup (dir_of bios); bios = bios })) o) (sym (unissued_is setup events q _ _ refl refl))
 
-pub unissued-joined : (setup : Setup) (events : List Happened) (id : ℕ) (bios : List Bio) → IsLegalTrace setup (events ++ Joined id bios ∷ []) → (w : Entered) → waits_at setup events id ≡ Some w → (q : ℕ) → unissued_at setup (events ++ Joined id bios ∷ []) q ≡ cond (id == q) (Some (record { release = round_of events; due = w.due; bios = join_up w.bios bios })) (unissued_at setup events q)
+pub unissued-joined : (setup : Setup) (events : List Happened) (id : ℕ) (bios : List Bio) → IsLegalTrace setup (events ++ Join id bios ∷ []) → (w : Entered) → waits_at setup events id ≡ Some w → (q : ℕ) → unissued_at setup (events ++ Join id bios ∷ []) q ≡ cond (id == q) (Some (record { release = round_of events; due = w.due; bios = join_up w.bios bios })) (unissued_at setup events q)
 unissued-joined setup events id bios legal w waits q =
-    let e : Happened = Joined id bios in
+    let e : Happened = Join id bios in
     let fresh : was_issued events id ≡ false = never_was events id (obeys setup events e legal AlreadyIssued) in
     unissued_is setup (events ++ e ∷ []) q _ _ (was_kept events e q refl) (waits-joined setup events id bios legal w waits q)
     ∙ put_off (id == q) (was_issued events q) _ (waits_at setup events q) (λ t. subst (λ n. was_issued events n ≡ false) (eqb-true id q t) fresh)
@@ -70,25 +75,25 @@ goes true false y = refl
 goes false true y = refl
 goes false false y = refl
 
-pub unissued-issued : (setup : Setup) (events : List Happened) (id tag : ℕ) → IsLegalTrace setup (events ++ Issued id tag ∷ []) → (q : ℕ) → unissued_at setup (events ++ Issued id tag ∷ []) q ≡ cond (id == q) None (unissued_at setup events q)
+pub unissued-issued : (setup : Setup) (events : List Happened) (id tag : ℕ) → IsLegalTrace setup (events ++ Issue id tag ∷ []) → (q : ℕ) → unissued_at setup (events ++ Issue id tag ∷ []) q ≡ cond (id == q) None (unissued_at setup events q)
 unissued-issued setup events id tag legal q =
-    unissued_is setup (events ++ Issued id tag ∷ []) q _ _ (was_issued_more events (Issued id tag) q) (waits-issued setup events id tag legal q)
+    unissued_is setup (events ++ Issue id tag ∷ []) q _ _ (was_issued_more events (Issue id tag) q) (waits-issued setup events id tag legal q)
     ∙ goes (id == q) (was_issued events q) (waits_at setup events q)
     ∙ ap (λ o. cond (id == q) None o) (sym (unissued_is setup events q _ _ refl refl))
 
-pub unissued-ticked : (setup : Setup) (events : List Happened) → IsLegalTrace setup (events ++ Ticked ∷ []) → (q : ℕ) → unissued_at setup (events ++ Ticked ∷ []) q ≡ unissued_at setup events q
-unissued-ticked setup events legal q = unissued_kept setup events Ticked refl refl refl refl q
+pub unissued-ticked : (setup : Setup) (events : List Happened) → IsLegalTrace setup (events ++ Tick ∷ []) → (q : ℕ) → unissued_at setup (events ++ Tick ∷ []) q ≡ unissued_at setup events q
+unissued-ticked setup events legal q = unissued_kept setup events Tick refl refl refl refl q
 
-pub unissued-finished : (setup : Setup) (events : List Happened) (tag : ℕ) → IsLegalTrace setup (events ++ Finished tag ∷ []) → (q : ℕ) → unissued_at setup (events ++ Finished tag ∷ []) q ≡ unissued_at setup events q
-unissued-finished setup events tag legal q = unissued_kept setup events (Finished tag) refl refl refl refl q
+pub unissued-finished : (setup : Setup) (events : List Happened) (tag : ℕ) → IsLegalTrace setup (events ++ Done tag ∷ []) → (q : ℕ) → unissued_at setup (events ++ Done tag ∷ []) q ≡ unissued_at setup events q
+unissued-finished setup events tag legal q = unissued_kept setup events (Done tag) refl refl refl refl q
 
 -- where nothing was handed back, what waits was never issued
-is_back : (x : Happened) (o : Option ℕ) → hands_back x ≡ o → is_some o ≡ true → (tag : ℕ) × (x ≡ Returned tag)
+is_back : (x : Happened) (o : Option ℕ) → hands_back x ≡ o → is_some o ≡ true → (tag : ℕ) × (x ≡ Back tag)
 is_back x None h s = absurd (cc)
-is_back (Returned t) (Some u) h s = (t, refl)
+is_back (Back t) (Some u) h s = (t, refl)
 is_back x (Some u) h s = absurd (cc)
 
-back_found : (t : ℕ) (es : List Happened) → goes_back t es ≡ true → (k : ℕ) × (tag : ℕ) × At es k (Returned tag)
+back_found : (t : ℕ) (es : List Happened) → goes_back t es ≡ true → (k : ℕ) × (tag : ℕ) × At es k (Back tag)
 unfolding goes_back
 back_found t [] h = absurd (cc)
 back_found t (x ∷ es) h =
@@ -102,12 +107,12 @@ at_dropped zero es k e h = (k, h)
 at_dropped (suc n) [] k e h = absurd (cc)
 at_dropped (suc n) (x ∷ es) k e h = let p = at_dropped n es k e h in (suc p.0, p.1)
 
-pub unissued_waiting : (setup : Setup) (es : List Happened) (id : ℕ) (w : Entered) → ((k tag : ℕ) → At es k (Returned tag) → ⊥) → waits_at setup es id ≡ Some w → unissued_at setup es id ≡ Some w
+pub unissued_waiting : (setup : Setup) (es : List Happened) (id : ℕ) (w : Entered) → ((k tag : ℕ) → At es k (Back tag) → ⊥) → waits_at setup es id ≡ Some w → unissued_at setup es id ≡ Some w
 unissued_waiting setup es id w none h =
     let was : IsWaiting setup es id w = waiting_from setup es id w h in
     let never : was_issued es id ≡ false = never_was es id (λ p.
     let back = back_all es id was.unissued p.0 p.1.0 p.1.1 in
     let q = back_found p.1.0 (drop (suc p.0) es) back in
-    let r = at_dropped (suc p.0) es q.0 (Returned q.1) q.2 in
+    let r = at_dropped (suc p.0) es q.0 (Back q.1) q.2 in
     none r.0 q.1 r.1) in
     unissued_is setup es id false (Some w) never h

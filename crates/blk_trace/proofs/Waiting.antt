@@ -6,8 +6,13 @@ use Rattle.std.proofs.lemmas.Bool.{cases_Bool, or_right, or_left, and_parts, not
 use Rattle.std.proofs.lemmas.Option.{cond_some}
 use Rattle.blk_bio.specs.Bios.{Bio}
 use Rattle.blk_bio.specs.Requests.{dir_of}
+<<<<<<< HEAD
 use Rattle.blk_bio.specs.declared.rule.TraceRule.TheVariants.{ReleasedTwice, Fit}
 use Rattle.blk_trace.specs.Happened.{Happened, Ticked, Released, Joined, Issued, Finished}
+=======
+use Rattle.blk_trace.specs.declared.rule.TraceRule.TheVariants.{ReleasedTwice, Fit}
+use Rattle.blk_trace.specs.Happened.{Happened, Tick, Release, Join, Issue, Done}
+>>>>>>> events-b
 use Rattle.blk_trace.specs.Kinds.{releases, joins, issues, hands_back}
 use Rattle.blk_trace.specs.Setups.{Setup, expire_of}
 use Rattle.blk_trace.specs.Events.{round_of, join_up, request_of, IsReleased}
@@ -67,71 +72,71 @@ waits_kept setup events e r j i n q =
     (has_issued_same events e q n (ap (λ o. has_id (cons_option (option_map (λ p. p.0) o) []) q) i))
     (same_entered setup events e q (rw (r, j) refl))
 
-pub waits-ticked : (setup : Setup) (events : List Happened) → IsLegalTrace setup (events ++ Ticked ∷ []) → (q : ℕ) → waits_at setup (events ++ Ticked ∷ []) q ≡ waits_at setup events q
-waits-ticked setup events legal q = waits_kept setup events Ticked refl refl refl refl q
+pub waits-ticked : (setup : Setup) (events : List Happened) → IsLegalTrace setup (events ++ Tick ∷ []) → (q : ℕ) → waits_at setup (events ++ Tick ∷ []) q ≡ waits_at setup events q
+waits-ticked setup events legal q = waits_kept setup events Tick refl refl refl refl q
 
-pub waits-finished : (setup : Setup) (events : List Happened) (tag : ℕ) → IsLegalTrace setup (events ++ Finished tag ∷ []) → (q : ℕ) → waits_at setup (events ++ Finished tag ∷ []) q ≡ waits_at setup events q
-waits-finished setup events tag legal q = waits_kept setup events (Finished tag) refl refl refl refl q
+pub waits-finished : (setup : Setup) (events : List Happened) (tag : ℕ) → IsLegalTrace setup (events ++ Done tag ∷ []) → (q : ℕ) → waits_at setup (events ++ Done tag ∷ []) q ≡ waits_at setup events q
+waits-finished setup events tag legal q = waits_kept setup events (Done tag) refl refl refl refl q
 
-released_now : (setup : Setup) (events : List Happened) (id : ℕ) (bios : List Bio) → IsLegalTrace setup events → IsUnbroken setup events (Released id bios) → (q : ℕ) → (id == q) ≡ true → waits_at setup (events ++ Released id bios ∷ []) q ≡ Some (record { release = round_of events; due = round_of events + expire_of setup (dir_of bios); bios = bios })
+released_now : (setup : Setup) (events : List Happened) (id : ℕ) (bios : List Bio) → IsLegalTrace setup events → IsUnbroken setup events (Release id bios) → (q : ℕ) → (id == q) ≡ true → waits_at setup (events ++ Release id bios ∷ []) q ≡ Some (record { release = round_of events; due = round_of events + expire_of setup (dir_of bios); bios = bios })
 unfolding released_ids issued_ids
 released_now setup events id bios old all q t =
     let none : HasNothing setup events q = nothing_before setup events id q bios old all t in
-    let new : IsEntered setup events (events ++ Released id bios ∷ []) q bios = entered_released setup events id q bios t in
+    let new : IsEntered setup events (events ++ Release id bios ∷ []) q bios = entered_released setup events id q bios t in
     let same : id ≡ q = eqb-true id q t in
     let unissued : has_id (issued_ids events) q ≡ false = not_issued events q (λ p. all ReleasedTwice (subst (IsReleased events) (sym same) (released_first setup events q old p))) in
-    waits_is setup (events ++ Released id bios ∷ []) q true false (round_of events) (round_of events + expire_of setup (dir_of bios)) bios
-    (has_released_more events (Released id bios) q ∙ or_right (has_id (released_ids events) q) ((id == q) || false) (or_left (id == q) false t))
-    (has_issued_same events (Released id bios) q refl refl ∙ unissued)
+    waits_is setup (events ++ Release id bios ∷ []) q true false (round_of events) (round_of events + expire_of setup (dir_of bios)) bios
+    (has_released_more events (Release id bios) q ∙ or_right (has_id (released_ids events) q) ((id == q) || false) (or_left (id == q) false t))
+    (has_issued_same events (Release id bios) q refl refl ∙ unissued)
     (new.release ∙ omega (arith, none.release))
     (due_is setup _ q ∙ ap least (new.dues_are ∙ ap (λ l. l ++ (round_of events + expire_of setup (dir_of bios)) ∷ []) none.dues_are))
     (new.request ∙ ap (λ l. join_up l bios) none.request)
 
-pub waits-released : (setup : Setup) (events : List Happened) (id : ℕ) (bios : List Bio) → IsLegalTrace setup (events ++ Released id bios ∷ []) → (q : ℕ) → waits_at setup (events ++ Released id bios ∷ []) q ≡ cond (id == q) (Some (record { release = round_of events; due = round_of events + expire_of setup (dir_of bios); bios = bios })) (waits_at setup events q)
+pub waits-released : (setup : Setup) (events : List Happened) (id : ℕ) (bios : List Bio) → IsLegalTrace setup (events ++ Release id bios ∷ []) → (q : ℕ) → waits_at setup (events ++ Release id bios ∷ []) q ≡ cond (id == q) (Some (record { release = round_of events; due = round_of events + expire_of setup (dir_of bios); bios = bios })) (waits_at setup events q)
 unfolding released_ids issued_ids
 waits-released setup events id bios legal q =
     elim (cases_Bool (id == q)) [
       | inl t ↦ released_now setup events id bios (shorter_legal setup events _ legal) (obeys setup events _ legal) q t ∙ sym (rw t refl)
-      | inr t ↦ waits_same setup events (events ++ Released id bios ∷ []) q (has_released_same events (Released id bios) q (rw t refl)) (has_issued_same events (Released id bios) q refl refl) (same_entered setup events (Released id bios) q t) ∙ sym (rw t refl)
+      | inr t ↦ waits_same setup events (events ++ Release id bios ∷ []) q (has_released_same events (Release id bios) q (rw t refl)) (has_issued_same events (Release id bios) q refl refl) (same_entered setup events (Release id bios) q t) ∙ sym (rw t refl)
     ]
 
-joined_now : (setup : Setup) (events : List Happened) (id : ℕ) (bios : List Bio) → IsLegalTrace setup events → IsUnbroken setup events (Joined id bios) → (w : Entered) → waits_at setup events id ≡ Some w → (q : ℕ) → id ≡ q → waits_at setup (events ++ Joined id bios ∷ []) q ≡ Some (record { release = round_of events; due = w.due; bios = join_up w.bios bios })
+joined_now : (setup : Setup) (events : List Happened) (id : ℕ) (bios : List Bio) → IsLegalTrace setup events → IsUnbroken setup events (Join id bios) → (w : Entered) → waits_at setup events id ≡ Some w → (q : ℕ) → id ≡ q → waits_at setup (events ++ Join id bios ∷ []) q ≡ Some (record { release = round_of events; due = w.due; bios = join_up w.bios bios })
 unfolding released_ids issued_ids
 joined_now setup events id bios old all w waits q same =
     let t : (id == q) ≡ true = eq-eqb id q same in
     let was : IsWaiting setup events q w = subst (λ x. IsWaiting setup events x w) same (waiting_from setup events id w waits) in
-    let new : IsEntered setup events (events ++ Joined id bios ∷ []) q bios = entered_joined setup events id q bios t in
+    let new : IsEntered setup events (events ++ Join id bios ∷ []) q bios = entered_joined setup events id q bios t in
     let dir : dir_of bios ≡ dir_of (request_of events q) = subst (λ x. dir_of bios ≡ dir_of (request_of events x)) same (all Fit).1.same_direction in
-    let kept : due_of setup (events ++ Joined id bios ∷ []) q ≡ due_of setup events q = (next_soon setup events _ q bios (soon setup events q old was.released) new dir (round_rises events (Joined id bios))).1 in
-    waits_is setup (events ++ Joined id bios ∷ []) q true false (round_of events) w.due (join_up w.bios bios)
-    (has_released_same events (Joined id bios) q refl ∙ was.released)
-    (has_issued_same events (Joined id bios) q refl refl ∙ was.unissued)
+    let kept : due_of setup (events ++ Join id bios ∷ []) q ≡ due_of setup events q = (next_soon setup events _ q bios (soon setup events q old was.released) new dir (round_rises events (Join id bios))).1 in
+    waits_is setup (events ++ Join id bios ∷ []) q true false (round_of events) w.due (join_up w.bios bios)
+    (has_released_same events (Join id bios) q refl ∙ was.released)
+    (has_issued_same events (Join id bios) q refl refl ∙ was.unissued)
     (new.release ∙ omega (arith, release_within events q))
     (kept ∙ sym was.due_is)
     (new.request ∙ ap (λ l. join_up l bios) (sym was.bios_is))
 
-pub waits-joined : (setup : Setup) (events : List Happened) (id : ℕ) (bios : List Bio) → IsLegalTrace setup (events ++ Joined id bios ∷ []) → (w : Entered) → waits_at setup events id ≡ Some w → (q : ℕ) → waits_at setup (events ++ Joined id bios ∷ []) q ≡ cond (id == q) (Some (record { release = round_of events; due = w.due; bios = join_up w.bios bios })) (waits_at setup events q)
+pub waits-joined : (setup : Setup) (events : List Happened) (id : ℕ) (bios : List Bio) → IsLegalTrace setup (events ++ Join id bios ∷ []) → (w : Entered) → waits_at setup events id ≡ Some w → (q : ℕ) → waits_at setup (events ++ Join id bios ∷ []) q ≡ cond (id == q) (Some (record { release = round_of events; due = w.due; bios = join_up w.bios bios })) (waits_at setup events q)
 unfolding released_ids issued_ids
 waits-joined setup events id bios legal w waits q =
     elim (cases_Bool (id == q)) [
       | inl t ↦ joined_now setup events id bios (shorter_legal setup events _ legal) (obeys setup events _ legal) w waits q (eqb-true id q t) ∙ sym (rw t refl)
-      | inr t ↦ waits_same setup events (events ++ Joined id bios ∷ []) q (has_released_same events (Joined id bios) q refl) (has_issued_same events (Joined id bios) q refl refl) (same_entered setup events (Joined id bios) q t) ∙ sym (rw t refl)
+      | inr t ↦ waits_same setup events (events ++ Join id bios ∷ []) q (has_released_same events (Join id bios) q refl) (has_issued_same events (Join id bios) q refl refl) (same_entered setup events (Join id bios) q t) ∙ sym (rw t refl)
     ]
 
 none_issued : {X : Type 0} (b : Bool) (x : X) → cond (b && not true) (Some x) None ≡ None
 none_issued true x = refl
 none_issued false x = refl
 
-issued_now : (setup : Setup) (events : List Happened) (id tag q : ℕ) → (id == q) ≡ true → waits_at setup (events ++ Issued id tag ∷ []) q ≡ None
+issued_now : (setup : Setup) (events : List Happened) (id tag q : ℕ) → (id == q) ≡ true → waits_at setup (events ++ Issue id tag ∷ []) q ≡ None
 unfolding issued_ids
 issued_now setup events id tag q t =
-    let issued : has_id (issued_ids (events ++ Issued id tag ∷ [])) q ≡ true = has_issued_more events (Issued id tag) q refl ∙ or_right (has_id (issued_ids events) q) ((id == q) || false) (or_left (id == q) false t) in
-    waits_is setup (events ++ Issued id tag ∷ []) q (has_id (released_ids (events ++ Issued id tag ∷ [])) q) true (release_of (events ++ Issued id tag ∷ []) q) (due_of setup (events ++ Issued id tag ∷ []) q) (request_of (events ++ Issued id tag ∷ []) q) refl issued refl refl refl ∙ none_issued (has_id (released_ids (events ++ Issued id tag ∷ [])) q) (record { release = release_of (events ++ Issued id tag ∷ []) q; due = due_of setup (events ++ Issued id tag ∷ []) q; bios = request_of (events ++ Issued id tag ∷ []) q })
+    let issued : has_id (issued_ids (events ++ Issue id tag ∷ [])) q ≡ true = has_issued_more events (Issue id tag) q refl ∙ or_right (has_id (issued_ids events) q) ((id == q) || false) (or_left (id == q) false t) in
+    waits_is setup (events ++ Issue id tag ∷ []) q (has_id (released_ids (events ++ Issue id tag ∷ [])) q) true (release_of (events ++ Issue id tag ∷ []) q) (due_of setup (events ++ Issue id tag ∷ []) q) (request_of (events ++ Issue id tag ∷ []) q) refl issued refl refl refl ∙ none_issued (has_id (released_ids (events ++ Issue id tag ∷ [])) q) (record { release = release_of (events ++ Issue id tag ∷ []) q; due = due_of setup (events ++ Issue id tag ∷ []) q; bios = request_of (events ++ Issue id tag ∷ []) q })
 
-pub waits-issued : (setup : Setup) (events : List Happened) (id tag : ℕ) → IsLegalTrace setup (events ++ Issued id tag ∷ []) → (q : ℕ) → waits_at setup (events ++ Issued id tag ∷ []) q ≡ cond (id == q) None (waits_at setup events q)
+pub waits-issued : (setup : Setup) (events : List Happened) (id tag : ℕ) → IsLegalTrace setup (events ++ Issue id tag ∷ []) → (q : ℕ) → waits_at setup (events ++ Issue id tag ∷ []) q ≡ cond (id == q) None (waits_at setup events q)
 unfolding released_ids issued_ids
 waits-issued setup events id tag legal q =
     elim (cases_Bool (id == q)) [
       | inl t ↦ issued_now setup events id tag q t ∙ sym (rw t refl)
-      | inr t ↦ waits_same setup events (events ++ Issued id tag ∷ []) q (has_released_same events (Issued id tag) q refl) (has_issued_same events (Issued id tag) q refl (rw t refl)) (same_entered setup events (Issued id tag) q refl) ∙ sym (rw t refl)
+      | inr t ↦ waits_same setup events (events ++ Issue id tag ∷ []) q (has_released_same events (Issue id tag) q refl) (has_issued_same events (Issue id tag) q refl (rw t refl)) (same_entered setup events (Issue id tag) q refl) ∙ sym (rw t refl)
     ]

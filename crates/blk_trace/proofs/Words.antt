@@ -1,10 +1,10 @@
 -- Laws of the few words that read an event's kind.
-use Rattle.std.proofs.Common.{◌≡◌, ◌++◌, ◌==◌, ℕ, List, [], ◌∷◌, length, refl, ◌∙◌, ap, subst, Option, Some, None, option_map, cond, false, inl, inr}
+use Rattle.std.proofs.Common.{◌≡◌, ◌++◌, ◌==◌, ℕ, List, [], ◌∷◌, length, refl, ◌∙◌, ap, subst, Option, Some, None, option_map, cond, false, inl, inr, true}
 use Rattle.std.specs.Prelude.{◌⊎◌, IfSome}
 use Rattle.std.specs.Option.{option_map_or, option_and_then}
 use Rattle.blk_bio.specs.Bios.{Bio}
-use Rattle.blk_trace.specs.Happened.{Happened, Released, Issued, Finished, Returned}
-use Rattle.blk_trace.specs.Kinds.{releases, joins, issues, ends, hands_back, is_tick}
+use Rattle.blk_trace.specs.Happened.{Happened, Tick, Release, Issue, Done, Back, Depth}
+use Rattle.blk_trace.specs.Kinds.{releases, joins, issues, ends, hands_back, sets_depth, is_tick}
 use Rattle.blk_trace.specs.Events.{EndsAt}
 use Rattle.blk_trace.specs.Kinds.{is_done_of}
 use Rattle.blk_trace.specs.Inside.Seats.{issued_by, issue_tag}
@@ -18,30 +18,43 @@ pub record OnlyEnds (e : Happened) : Type 0 where
   pub no_issue : issues e ≡ None
 
 pub only_ends : (e : Happened) (tag : ℕ) → ends e ≡ Some tag → OnlyEnds e
-only_ends (Finished t) tag h = record { no_tick = refl; no_release = refl; no_join = refl; no_issue = refl }
-only_ends (Returned t) tag h = record { no_tick = refl; no_release = refl; no_join = refl; no_issue = refl }
+only_ends (Done t) tag h = record { no_tick = refl; no_release = refl; no_join = refl; no_issue = refl }
+only_ends (Back t) tag h = record { no_tick = refl; no_release = refl; no_join = refl; no_issue = refl }
 only_ends e tag h = absurd (cc)
 
 -- only a Release releases, and only an Issue issues
-pub release_of_id : (e : Happened) (id : ℕ) → option_map (λ p. p.0) (releases e) ≡ Some id → (bios : List Bio) × (e ≡ Released id bios)
-release_of_id (Released i bios) id h = (bios, let same : i ≡ id = cc in ap (λ n. Released n bios) same)
+pub release_is : (e : Happened) (p : ℕ × List Bio) → releases e ≡ Some p → e ≡ Release p.0 p.1
+release_is (Release i bios) p h = let same : ◌≡◌ {A = ℕ × List Bio} (i, bios) p = cc in ap (λ (x : ℕ × List Bio). Release x.0 x.1) same
+release_is e p h = absurd (cc)
+
+pub release_of_id : (e : Happened) (id : ℕ) → option_map (λ p. p.0) (releases e) ≡ Some id → (bios : List Bio) × (e ≡ Release id bios)
+release_of_id (Release i bios) id h = (bios, let same : i ≡ id = cc in ap (λ n. Release n bios) same)
 release_of_id e id h = absurd (cc)
 
-pub issue_of_id : (e : Happened) (id : ℕ) → option_map (λ p. p.0) (issues e) ≡ Some id → (tag : ℕ) × (e ≡ Issued id tag)
-issue_of_id (Issued i tag) id h = (tag, let same : i ≡ id = cc in ap (λ n. Issued n tag) same)
+pub issue_of_id : (e : Happened) (id : ℕ) → option_map (λ p. p.0) (issues e) ≡ Some id → (tag : ℕ) × (e ≡ Issue id tag)
+issue_of_id (Issue i tag) id h = (tag, let same : i ≡ id = cc in ap (λ n. Issue n tag) same)
 issue_of_id e id h = absurd (cc)
 
-pub issue_is : (e : Happened) (p : ℕ × ℕ) → issues e ≡ Some p → e ≡ Issued p.0 p.1
-issue_is (Issued i tag) p h = let same : ◌≡◌ {A = ℕ × ℕ} (i, tag) p = cc in ap (λ (x : ℕ × ℕ). Issued x.0 x.1) same
+pub issue_is : (e : Happened) (p : ℕ × ℕ) → issues e ≡ Some p → e ≡ Issue p.0 p.1
+issue_is (Issue i tag) p h = let same : ◌≡◌ {A = ℕ × ℕ} (i, tag) p = cc in ap (λ (x : ℕ × ℕ). Issue x.0 x.1) same
 issue_is e p h = absurd (cc)
+
+-- only a Tick is one, and only a Depth sets one
+pub tick_is : (e : Happened) → is_tick e ≡ true → e ≡ Tick
+tick_is Tick h = refl
+tick_is e h = absurd (cc)
+
+pub depth_is : (e : Happened) (depth : ℕ) → sets_depth e ≡ Some depth → e ≡ Depth depth
+depth_is (Depth d) depth h = let same : d ≡ depth = cc in ap (λ n. Depth n) same
+depth_is e depth h = absurd (cc)
 
 -- what ends no Issue hands nothing back
 pub no_back : (e : Happened) → ends e ≡ None → hands_back e ≡ None
-no_back (Returned t) h = absurd (cc)
+no_back (Back t) h = absurd (cc)
 no_back e h = refl
 
 pub back_ends : (e : Happened) (tag : ℕ) → hands_back e ≡ Some tag → ends e ≡ Some tag
-back_ends (Returned t) tag h = h
+back_ends (Back t) tag h = h
 back_ends e tag h = absurd (cc)
 
 -- what an event that issues or ends nothing does to a tag
@@ -57,7 +70,7 @@ done_by t e u h = ap (λ x. option_map_or (λ v. v == t) x false) h
 pub no_tag : (e : Happened) → issues e ≡ None → issue_tag e ≡ None
 no_tag e h = ap (option_map (λ p. p.1)) h
 
-pub issues_not : (e : Happened) → issues e ≡ None → (i t : ℕ) → e ≡ Issued i t → ⊥
+pub issues_not : (e : Happened) → issues e ≡ None → (i t : ℕ) → e ≡ Issue i t → ⊥
 issues_not e none i t h = let some : issues e ≡ Some (i, t) = ap issues h in absurd (cc)
 
 pub ends_not : (e : Happened) → ends e ≡ None → (t : ℕ) → ends e ≡ Some t → ⊥

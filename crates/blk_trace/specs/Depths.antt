@@ -3,7 +3,7 @@ use Rattle.std.specs.Prelude.{ℕ, ◌+◌, ◌<◌, ◌≤◌, ◌==◌, Bool, 
 use Rattle.std.specs.List.{filter_map}
 use Rattle.edd_check.specs.declared.steps.Step.{Step}
 use Rattle.edd_check.specs.Capacity.{depth_at}
-use Rattle.blk_trace.specs.Happened.{Happened, DepthSet}
+use Rattle.blk_trace.specs.Happened.{Happened, Depth}
 use Rattle.blk_trace.specs.Kinds.{sets_depth}
 use Rattle.blk_trace.specs.Setups.{Setup}
 use Rattle.blk_trace.specs.Events.{At, round_of, round_at}
@@ -45,14 +45,14 @@ capacity_of setup events = last_of_each (changes_of setup events)
 
 -- at the place stands a Depth in a round before this one, and after it none
 pub record IsLastBefore (events : List Happened) (place depth round : ℕ) : Type 0 where
-  pub stands : At events place (DepthSet depth)
+  pub stands : At events place (Depth depth)
   pub sooner : round_at events place < round
-  pub last : (k n : ℕ) → place < k → At events k (DepthSet n) → round ≤ round_at events k
+  pub last : (k n : ℕ) → place < k → At events k (Depth n) → round ≤ round_at events k
 
 -- each Depth stands in this round or after it
 abbrev pub HasNoneBefore : List Happened → ℕ → Type 0
-HasNoneBefore events round = (k n : ℕ) → At events k (DepthSet n) → round ≤ round_at events k
+HasNoneBefore events round = (k n : ℕ) → At events k (Depth n) → round ≤ round_at events k
 
 -- no event sets a depth
 abbrev pub IsFixed : List Happened → Type 0
-IsFixed events = (k depth : ℕ) → At events k (DepthSet depth) → ⊥
+IsFixed events = (k depth : ℕ) → At events k (Depth depth) → ⊥

@@ -4,7 +4,7 @@ use Rattle.std.specs.List.{flat_map, filter_map}
 use Rattle.blk_bio.specs.declared.bio.BioId.{BioId}
 use Rattle.blk_bio.specs.Bios.{Bio}
 use Rattle.blk_bio.specs.Requests.{IsRequest, first_of, last_of}
-use Rattle.blk_trace.specs.Happened.{Happened, Released, Issued}
+use Rattle.blk_trace.specs.Happened.{Happened, Release, Issue}
 use Rattle.blk_trace.specs.Kinds.{ends, hands_back, is_done_of, is_issue, is_end, enters, enters_under}
 pub use Rattle.blk_trace.specs.Kinds.{is_tick, bios_of}
 
@@ -40,11 +40,11 @@ EntersRequest e = IfSome (enters e) (λ p. IsRequest p.1)
 
 -- the id has a Release
 abbrev pub IsReleased : List Happened → ℕ → Type 0
-IsReleased events id = (k : ℕ) × ((bios : List Bio) × At events k (Released id bios))
+IsReleased events id = (k : ℕ) × ((bios : List Bio) × At events k (Release id bios))
 
 -- the id has an Issue
 abbrev pub IsIssued : List Happened → ℕ → Type 0
-IsIssued events id = (k : ℕ) × ((tag : ℕ) × At events k (Issued id tag))
+IsIssued events id = (k : ℕ) × ((tag : ℕ) × At events k (Issue id tag))
 
 -- at the place the Issue of the tag ends
 abbrev pub EndsAt : List Happened → ℕ → ℕ → Type 0
@@ -61,26 +61,26 @@ IsHandedBack events k tag = IsTrue (goes_back tag (drop (suc k) events))
 
 -- whenever the id was issued, it was handed back
 abbrev pub AreHandedBack : List Happened → ℕ → Type 0
-AreHandedBack events id = (k tag : ℕ) → At events k (Issued id tag) → IsHandedBack events k tag
+AreHandedBack events id = (k tag : ℕ) → At events k (Issue id tag) → IsHandedBack events k tag
 
 -- the tag has an Issue that no event after it ends
 pub record IsOpen (events : List Happened) (tag : ℕ) : Type 0 where
   pub place : ℕ
   pub id : ℕ
-  pub issued : At events place (Issued id tag)
+  pub issued : At events place (Issue id tag)
   pub not_done : (j : ℕ) → place < j → EndsAt events j tag → ⊥
 
 -- the id has an Issue under the tag that no event after it ends
 pub record IsOpenBy (events : List Happened) (tag id : ℕ) : Type 0 where
   pub place : ℕ
-  pub issued : At events place (Issued id tag)
+  pub issued : At events place (Issue id tag)
   pub not_done : (j : ℕ) → place < j → EndsAt events j tag → ⊥
 
 -- the tag has an Issue in the round that is still on
 pub record IsUsed (events : List Happened) (tag : ℕ) : Type 0 where
   pub place : ℕ
   pub id : ℕ
-  pub issued : At events place (Issued id tag)
+  pub issued : At events place (Issue id tag)
   pub now : round_at events place ≡ round_of events
 
 -- how many Issues have not ended yet

@@ -1,6 +1,5 @@
 pub mod Happened
 pub mod Kinds
-pub mod Seen
 pub mod Setups
 pub mod Events
 pub mod Depths

@@ -1,6 +1,6 @@
 //! A list of events that is legal, with a setup.
 
-ghost use Rattle.std.specs.Prelude.{ℕ, ◌≡◌, ◌≢◌, ◌↔◌, ◌++◌, ◌+◌, ◌≤◌, ◌<◌, ◌∷◌, [], IsTrue, IfOk, IfErr, OnOk, OnErr, length, map, nat_eq};
+ghost use Rattle.std.specs.Prelude.{ℕ, ◌≡◌, ◌≢◌, ◌↔◌, ◌++◌, ◌+◌, ◌≤◌, ◌<◌, ◌∷◌, [], IsTrue, IfOk, IfErr, OnOk, OnErr, length, nat_eq};
 ghost use Rattle.std.specs.Option.{option_copied};
 ghost use Rattle.std.specs.HashMap as hash;
 ghost use Rattle.std.specs.HashSet as hash_set;
@@ -11,7 +11,6 @@ ghost use Rattle.blk_trace.specs.Rules.{IsUnbroken};
 ghost use Rattle.blk_trace.specs.Events.{round_of, open_count};
 ghost use Rattle.blk_trace.specs.Depths.{depth_now};
 ghost use Rattle.blk_trace.specs.Traces.{wanted, IsPreparedFor, IsPushAnswer, HasBio};
-ghost use Rattle.blk_trace.specs.Seen.{happened};
 
 use crate::event::Event;
 use crate::known::Known;
@@ -54,7 +53,7 @@ pub struct Trace<A: Allocator = Global> {
     /// What it is made for.
     setup: Setup,
     /// The events, with places for the ends of the open Issues.
-    events: Vec<Event<A>, A>,
+    events: Vec<Event<Request<A>>, A>,
     /// The command of each Issue that was not handed back.
     commands: Vec<Command, A>,
     /// The round of each of these Issues.
@@ -78,18 +77,17 @@ pub struct Trace<A: Allocator = Global> {
 }
 
 impl<A: Allocator> Model for Trace<A> {
-    ghost use Rattle.std.specs.Prelude.{map, length, nat_eq, vec_capacity};
+    ghost use Rattle.std.specs.Prelude.{length, nat_eq, vec_capacity};
     ghost use Rattle.std.specs.HashMap as hash;
     ghost use Rattle.std.specs.HashSet as hash_set;
-    ghost use Rattle.blk_trace.specs.Seen.{happened};
     ghost use Rattle.blk_trace.specs.Traces.{Traced};
     ghost use Rattle.blk_trace.specs.Inside.Kept.{IsKeptTrace, HasRoom, HasDepths, is_bio};
 
     ghost Value = { Traced };
 
-    ghost view = { λ t. record { setup = t.setup; events = map happened t.events.items; prepared = t.prepared } };
+    ghost view = { λ t. record { setup = t.setup; events = t.events.items; prepared = t.prepared } };
 
-    ghost invariant = { λ t. IsKeptTrace t.setup (map happened t.events.items) t.commands.items t.rounds.items t.round t.«open» (hash.get nat_eq t.known) (hash_set.contains is_bio t.ids) t.tags.items × HasRoom t.prepared (length t.events.items) t.«open» (length t.commands.items) (length t.rounds.items) (vec_capacity t.events) (vec_capacity t.commands) (vec_capacity t.rounds) (hash.spare t.known) (hash_set.spare t.ids) × HasDepths t.setup (map happened t.events.items) t.depth t.next_depth };
+    ghost invariant = { λ t. IsKeptTrace t.setup t.events.items t.commands.items t.rounds.items t.round t.«open» (hash.get nat_eq t.known) (hash_set.contains is_bio t.ids) t.tags.items × HasRoom t.prepared (length t.events.items) t.«open» (length t.commands.items) (length t.rounds.items) (vec_capacity t.events) (vec_capacity t.commands) (vec_capacity t.rounds) (hash.spare t.known) (hash_set.spare t.ids) × HasDepths t.setup t.events.items t.depth t.next_depth };
 }
 
 impl<A: Allocator + Clone> Trace<A> {
@@ -126,13 +124,13 @@ impl<A: Allocator + Clone> Trace<A> {
     ///
     /// Adding a Done or a Back takes no memory, since its Issue reserved the place; nor does adding what was prepared.
     #[inline(always)]
-    pub fn push(&mut self, event: Event<A>) -> Result<(), (Event<A>, PushFault)>
-        ensures answer { IsPushAnswer self.old (happened event) self.new result }
-        ensures ok { OnOk result ((self.new ≡ record { setup = self.old.setup; events = self.old.events ++ happened event ∷ []; prepared = Prepared.Nothing }) × IsLegalTrace self.old.setup (self.old.events ++ happened event ∷ [])) }
+    pub fn push(&mut self, event: Event<Request<A>>) -> Result<(), (Event<Request<A>>, PushFault)>
+        ensures answer { IsPushAnswer self.old event self.new result }
+        ensures ok { OnOk result ((self.new ≡ record { setup = self.old.setup; events = self.old.events ++ event ∷ []; prepared = Prepared.Nothing }) × IsLegalTrace self.old.setup (self.old.events ++ event ∷ [])) }
         ensures err { IfErr result (λ e. (e.0 ≡ event) × (self.new ≡ self.old)) }
-        ensures accepts { IsUnbroken self.old.setup self.old.events (happened event) → IfErr result (λ e. e.1 ≡ PushFault.Memory) }
-        ensures accepts_legal { IsLegalTrace self.old.setup (self.old.events ++ happened event ∷ []) → IfErr result (λ e. e.1 ≡ PushFault.Memory) }
-        ensures prepared { IfErr result (λ e. e.1 ≡ PushFault.Memory → IsPreparedFor self.old.prepared (happened event) → ⊥) }
+        ensures accepts { IsUnbroken self.old.setup self.old.events event → IfErr result (λ e. e.1 ≡ PushFault.Memory) }
+        ensures accepts_legal { IsLegalTrace self.old.setup (self.old.events ++ event ∷ []) → IfErr result (λ e. e.1 ≡ PushFault.Memory) }
+        ensures prepared { IfErr result (λ e. e.1 ≡ PushFault.Memory → IsPreparedFor self.old.prepared event → ⊥) }
     {
         if let Some(rule) = self.first_broken(&event) {
             return Err((event, PushFault::Rule(rule)));
@@ -146,19 +144,17 @@ impl<A: Allocator + Clone> Trace<A> {
 
     /// Makes room for the event, where it was not made before.
     #[inline(always)]
-    fn prepare_for(&mut self, event: &Event<A>) -> Result<(), AllocError>
-        ensures ok { OnOk result (IsPreparedFor self.new.prepared (happened event.now) × (self.new.setup ≡ self.old.setup) × (self.new.events ≡ self.old.events)) }
-        ensures err { OnErr result ((self.new ≡ self.old) × (IsPreparedFor self.old.prepared (happened event.now) → ⊥)) }
+    fn prepare_for(&mut self, event: &Event<Request<A>>) -> Result<(), AllocError>
+        ensures ok { OnOk result (IsPreparedFor self.new.prepared event.now × (self.new.setup ≡ self.old.setup) × (self.new.events ≡ self.old.events)) }
+        ensures err { OnErr result ((self.new ≡ self.old) × (IsPreparedFor self.old.prepared event.now → ⊥)) }
     {
-        match event {
-            Event::Done { .. } | Event::Back { .. } => Ok(()),
-            Event::Tick | Event::Issue { .. } | Event::Depth { .. } => self.make_room(
-                Prepared::AnIssue,
-            ),
-            Event::Release { request, .. } | Event::Join { request, .. } => {
-                self.make_room(Prepared::Bios(request.bios().len() as u64))
-            }
+        if event.ends().is_some() {
+            return Ok(());
         }
+        self.make_room(match event.enters() {
+            None => Prepared::AnIssue,
+            Some((_, request)) => Prepared::Bios(request.bios().len() as u64),
+        })
     }
 
     /// Makes room for the next push: of a Release or a Join of a request of as many bios, or of an Issue (or a
@@ -234,8 +230,8 @@ impl<A: Allocator + Clone> Trace<A> {
     }
 
     /// The events, which are legal.
-    pub fn events(&self) -> &[Event<A>]
-        ensures events { map happened result.now ≡ self.now.events }
+    pub fn events(&self) -> &[Event<Request<A>>]
+        ensures events { result.now ≡ self.now.events }
         ensures legal { IsLegalTrace self.now.setup self.now.events }
     {
         self.events.as_slice()

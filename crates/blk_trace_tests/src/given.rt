@@ -65,7 +65,7 @@ pub fn request<'a>(
 }
 
 /// The event of a step.
-pub fn event<'a>(heap: Heap<'a>, step: Step) -> Option<Event<Heap<'a>>> {
+pub fn event<'a>(heap: Heap<'a>, step: Step) -> Option<Event<Request<Heap<'a>>>> {
     match step {
         Step::Tick => Some(Event::Tick),
         Step::Read(id, first, sectors) => Some(Event::Release {
@@ -97,7 +97,7 @@ fn is_of(request: &Request<Heap<'_>>, dir: Dir, first: u64, sectors: u64) -> boo
 }
 
 /// Whether the event is the one of the step.
-pub fn is_event(event: &Event<Heap<'_>>, step: &Step) -> bool {
+pub fn is_event(event: &Event<Request<Heap<'_>>>, step: &Step) -> bool {
     match (event, step) {
         (Event::Tick, Step::Tick) => true,
         (Event::Release { id, request }, Step::Read(i, first, sectors)) => {

@@ -6,11 +6,10 @@ ghost use Rattle.std.specs.HashSet as hash_set;
 ghost use Rattle.edd_check.specs.declared.Command.{Command as Job};
 ghost use Rattle.blk_trace.specs.declared.known.Known.{Known as Kept};
 ghost use Rattle.blk_bio.specs.declared.bio.BioId.{BioId as Name};
-ghost use Rattle.blk_trace.specs.Happened.{Ticked, Released, Joined, Issued, Finished, Returned, DepthSet};
+ghost use Rattle.blk_trace.specs.Happened.{Tick, Release, Join, Issue, Done, Back, Depth};
 ghost use Rattle.blk_trace.specs.Legal.{IsLegalTrace};
 ghost use Rattle.blk_trace.specs.Rules.{IsUnbroken};
 ghost use Rattle.blk_trace.specs.Traces.{IsPreparedFor};
-ghost use Rattle.blk_trace.specs.Seen.{happened};
 ghost use Rattle.blk_trace.specs.Events.{IsReleased, IsIssued, IsOpen, IsOpenBy};
 ghost use Rattle.blk_trace.specs.Inside.Kept.{known_of, is_bio, has_bio_id, rounds_in};
 
@@ -27,11 +26,11 @@ impl<A: Allocator + Clone> Trace<A> {
     /// Adds an event that breaks no rule, and for which there is room: `prepare` made it, or it is a Done or a Back, for
     /// which its Issue did. It looks for no fault and takes no memory.
     #[inline(always)]
-    pub fn add(&mut self, event: Event<A>)
-        requires unbroken { IsUnbroken self.old.setup self.old.events (happened event) }
-        requires prepared { IsPreparedFor self.old.prepared (happened event) }
-        ensures added { self.new ≡ record { setup = self.old.setup; events = self.old.events ++ happened event ∷ []; prepared = Prepared.Nothing } }
-        ensures legal { IsLegalTrace self.old.setup (self.old.events ++ happened event ∷ []) }
+    pub fn add(&mut self, event: Event<Request<A>>)
+        requires unbroken { IsUnbroken self.old.setup self.old.events event }
+        requires prepared { IsPreparedFor self.old.prepared event }
+        ensures added { self.new ≡ record { setup = self.old.setup; events = self.old.events ++ event ∷ []; prepared = Prepared.Nothing } }
+        ensures legal { IsLegalTrace self.old.setup (self.old.events ++ event ∷ []) }
     {
         let _ = &self.round;
         match event {
@@ -47,10 +46,10 @@ impl<A: Allocator + Clone> Trace<A> {
 
     /// Adds a Tick: every tag is free in the round that begins, and the last depth that was set is in force.
     fn add_tick(&mut self)
-        requires unbroken { IsUnbroken self.old.setup self.old.events Ticked }
-        requires prepared { IsPreparedFor self.old.prepared Ticked }
-        ensures added { self.new ≡ record { setup = self.old.setup; events = self.old.events ++ Ticked ∷ []; prepared = Prepared.Nothing } }
-        ensures legal { IsLegalTrace self.old.setup (self.old.events ++ Ticked ∷ []) }
+        requires unbroken { IsUnbroken self.old.setup self.old.events Tick }
+        requires prepared { IsPreparedFor self.old.prepared Tick }
+        ensures added { self.new ≡ record { setup = self.old.setup; events = self.old.events ++ Tick ∷ []; prepared = Prepared.Nothing } }
+        ensures legal { IsLegalTrace self.old.setup (self.old.events ++ Tick ∷ []) }
     {
         self.round += 1;
         self.depth = self.next_depth;
@@ -62,10 +61,10 @@ impl<A: Allocator + Clone> Trace<A> {
     /// Adds a Release: the request waits under its id.
     #[inline(always)]
     fn add_release(&mut self, id: u64, request: Request<A>)
-        requires unbroken { IsUnbroken self.old.setup self.old.events (Released id request) }
-        requires prepared { IsPreparedFor self.old.prepared (Released id request) }
-        ensures added { self.new ≡ record { setup = self.old.setup; events = self.old.events ++ Released id request ∷ []; prepared = Prepared.Nothing } }
-        ensures legal { IsLegalTrace self.old.setup (self.old.events ++ Released id request ∷ []) }
+        requires unbroken { IsUnbroken self.old.setup self.old.events (Release id request) }
+        requires prepared { IsPreparedFor self.old.prepared (Release id request) }
+        ensures added { self.new ≡ record { setup = self.old.setup; events = self.old.events ++ Release id request ∷ []; prepared = Prepared.Nothing } }
+        ensures legal { IsLegalTrace self.old.setup (self.old.events ++ Release id request ∷ []) }
     {
         let expire = self.setup.expire(request.dir());
         let waiting = Waiting::entered(&request, self.round, expire);
@@ -93,10 +92,10 @@ impl<A: Allocator + Clone> Trace<A> {
 
     /// Adds a Join: the request that waits under the id has these bios too.
     fn add_join(&mut self, id: u64, request: Request<A>)
-        requires unbroken { IsUnbroken self.old.setup self.old.events (Joined id request) }
-        requires prepared { IsPreparedFor self.old.prepared (Joined id request) }
-        ensures added { self.new ≡ record { setup = self.old.setup; events = self.old.events ++ Joined id request ∷ []; prepared = Prepared.Nothing } }
-        ensures legal { IsLegalTrace self.old.setup (self.old.events ++ Joined id request ∷ []) }
+        requires unbroken { IsUnbroken self.old.setup self.old.events (Join id request) }
+        requires prepared { IsPreparedFor self.old.prepared (Join id request) }
+        ensures added { self.new ≡ record { setup = self.old.setup; events = self.old.events ++ Join id request ∷ []; prepared = Prepared.Nothing } }
+        ensures legal { IsLegalTrace self.old.setup (self.old.events ++ Join id request ∷ []) }
     {
         let old = self.waiting_at(id);
         let Some(new) = old.joined(&request, self.round, &self.setup.limits()) else {
@@ -113,10 +112,10 @@ impl<A: Allocator + Clone> Trace<A> {
     /// Adds an Issue: the request waits no more, and its command, of this round, is the last one.
     #[inline(always)]
     fn add_issue(&mut self, id: u64, tag: u16)
-        requires unbroken { IsUnbroken self.old.setup self.old.events (Issued id tag) }
-        requires prepared { IsPreparedFor self.old.prepared (Issued id tag) }
-        ensures added { self.new ≡ record { setup = self.old.setup; events = self.old.events ++ Issued id tag ∷ []; prepared = Prepared.Nothing } }
-        ensures legal { IsLegalTrace self.old.setup (self.old.events ++ Issued id tag ∷ []) }
+        requires unbroken { IsUnbroken self.old.setup self.old.events (Issue id tag) }
+        requires prepared { IsPreparedFor self.old.prepared (Issue id tag) }
+        ensures added { self.new ≡ record { setup = self.old.setup; events = self.old.events ++ Issue id tag ∷ []; prepared = Prepared.Nothing } }
+        ensures legal { IsLegalTrace self.old.setup (self.old.events ++ Issue id tag ∷ []) }
     {
         let command = issued(&mut self.known, id);
         append(&mut self.commands, command);
@@ -129,9 +128,9 @@ impl<A: Allocator + Clone> Trace<A> {
 
     /// Adds a Done: the tag's Issue is no longer open.
     fn add_done(&mut self, tag: u16)
-        requires unbroken { IsUnbroken self.old.setup self.old.events (Finished tag) }
-        ensures added { self.new ≡ record { setup = self.old.setup; events = self.old.events ++ Finished tag ∷ []; prepared = Prepared.Nothing } }
-        ensures legal { IsLegalTrace self.old.setup (self.old.events ++ Finished tag ∷ []) }
+        requires unbroken { IsUnbroken self.old.setup self.old.events (Done tag) }
+        ensures added { self.new ≡ record { setup = self.old.setup; events = self.old.events ++ Done tag ∷ []; prepared = Prepared.Nothing } }
+        ensures legal { IsLegalTrace self.old.setup (self.old.events ++ Done tag ∷ []) }
     {
         self.tags[tag as usize] = TagUse::Ended;
         self.open -= 1;
@@ -154,9 +153,9 @@ impl<A: Allocator + Clone> Trace<A> {
 
     /// Adds a Back: the tag's Issue is no longer open, its request waits again, and it is no command any more.
     fn add_back(&mut self, tag: u16)
-        requires unbroken { IsUnbroken self.old.setup self.old.events (Returned tag) }
-        ensures added { self.new ≡ record { setup = self.old.setup; events = self.old.events ++ Returned tag ∷ []; prepared = Prepared.Nothing } }
-        ensures legal { IsLegalTrace self.old.setup (self.old.events ++ Returned tag ∷ []) }
+        requires unbroken { IsUnbroken self.old.setup self.old.events (Back tag) }
+        ensures added { self.new ≡ record { setup = self.old.setup; events = self.old.events ++ Back tag ∷ []; prepared = Prepared.Nothing } }
+        ensures legal { IsLegalTrace self.old.setup (self.old.events ++ Back tag ∷ []) }
     {
         let id = self.open_id(tag);
         let place = place_of(self.commands.as_slice(), id);
@@ -171,10 +170,10 @@ impl<A: Allocator + Clone> Trace<A> {
 
     /// Adds a Depth: the rounds after the one that is on carry so many commands.
     fn add_depth(&mut self, depth: u64)
-        requires unbroken { IsUnbroken self.old.setup self.old.events (DepthSet depth) }
-        requires prepared { IsPreparedFor self.old.prepared (DepthSet depth) }
-        ensures added { self.new ≡ record { setup = self.old.setup; events = self.old.events ++ DepthSet depth ∷ []; prepared = Prepared.Nothing } }
-        ensures legal { IsLegalTrace self.old.setup (self.old.events ++ DepthSet depth ∷ []) }
+        requires unbroken { IsUnbroken self.old.setup self.old.events (Depth depth) }
+        requires prepared { IsPreparedFor self.old.prepared (Depth depth) }
+        ensures added { self.new ≡ record { setup = self.old.setup; events = self.old.events ++ Depth depth ∷ []; prepared = Prepared.Nothing } }
+        ensures legal { IsLegalTrace self.old.setup (self.old.events ++ Depth depth ∷ []) }
     {
         self.next_depth = depth;
         append(&mut self.events, Event::Depth { depth });

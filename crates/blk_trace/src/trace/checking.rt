@@ -1,14 +1,14 @@
 //! The first rule that an event would break.
 
-ghost use Rattle.std.specs.Prelude.{ℕ, ◌≡◌, ◌<◌, ◌≤◌, ◌+◌, ◌++◌, ◌↔◌, IsTrue, IfSome, IfNone, length};
+ghost use Rattle.std.specs.Prelude.{ℕ, ◌≡◌, ◌<◌, ◌≤◌, ◌+◌, ◌++◌, ◌↔◌, IsTrue, Some, IfSome, IfNone, length};
 ghost use Rattle.blk_bio.specs.Requests.{IsRequest};
-ghost use Rattle.blk_trace.specs.Happened.{Ticked, Released, Joined, Issued, Finished, Returned, DepthSet};
+ghost use Rattle.blk_trace.specs.Happened.{Tick, Release, Join, Issue, Depth};
+ghost use Rattle.blk_trace.specs.Kinds.{ends};
 ghost use Rattle.blk_trace.specs.Legal.{IsLegalTrace};
 ghost use Rattle.blk_trace.specs.Rules.{IsFirstBroken, IsUnbroken};
 ghost use Rattle.blk_trace.specs.Events.{entered, open_count, IsReleased, AreHandedBack, IsOpen, IsUsed, AreOnce, IsFirstRepeatedBio};
 ghost use Rattle.blk_trace.specs.Waits.{Entered, waits_at};
 ghost use Rattle.blk_trace.specs.Inside.Kept.{known_of, IsTagUse, has_bio_id};
-ghost use Rattle.blk_trace.specs.Seen.{happened};
 
 use crate::event::Event;
 use crate::known::Known;
@@ -21,9 +21,9 @@ use std::alloc::Allocator;
 impl<A: Allocator + Clone> Trace<A> {
     /// The first rule that the event would break.
     #[inline(always)]
-    pub(crate) fn first_broken(&self, event: &Event<A>) -> Option<TraceRule>
-        ensures some { IfSome result (IsFirstBroken self.now.setup self.now.events (happened event.now)) }
-        ensures none { IfNone result (IsUnbroken self.now.setup self.now.events (happened event.now)) }
+    pub(crate) fn first_broken(&self, event: &Event<Request<A>>) -> Option<TraceRule>
+        ensures some { IfSome result (IsFirstBroken self.now.setup self.now.events event.now) }
+        ensures none { IfNone result (IsUnbroken self.now.setup self.now.events event.now) }
         ensures legal { IsLegalTrace self.now.setup self.now.events }
     {
         let _ = &self.round;
@@ -32,16 +32,16 @@ impl<A: Allocator + Clone> Trace<A> {
             Event::Release { id, request } => self.broken_release(*id, request),
             Event::Join { id, request } => self.broken_join(*id, request),
             Event::Issue { id, tag } => self.broken_issue(*id, *tag),
-            Event::Done { tag } => self.broken_done(*tag),
-            Event::Back { tag } => self.broken_back(*tag),
+            Event::Done { tag } => self.broken_end(event, *tag),
+            Event::Back { tag } => self.broken_end(event, *tag),
             Event::Depth { depth } => self.broken_depth(*depth),
         }
     }
 
     /// The first rule that a Tick would break.
     fn broken_tick(&self) -> Option<TraceRule>
-        ensures some { IfSome result (IsFirstBroken self.now.setup self.now.events Ticked) }
-        ensures none { IfNone result (IsUnbroken self.now.setup self.now.events Ticked) }
+        ensures some { IfSome result (IsFirstBroken self.now.setup self.now.events Tick) }
+        ensures none { IfNone result (IsUnbroken self.now.setup self.now.events Tick) }
     {
         if self.has_open() {
             Some(TraceRule::InFlight)
@@ -54,8 +54,8 @@ impl<A: Allocator + Clone> Trace<A> {
 
     /// The first rule that a Release of the request under the id would break.
     fn broken_release(&self, id: u64, request: &Request<A>) -> Option<TraceRule>
-        ensures some { IfSome result (IsFirstBroken self.now.setup self.now.events (Released id request.now)) }
-        ensures none { IfNone result (IsUnbroken self.now.setup self.now.events (Released id request.now)) }
+        ensures some { IfSome result (IsFirstBroken self.now.setup self.now.events (Release id request.now)) }
+        ensures none { IfNone result (IsUnbroken self.now.setup self.now.events (Release id request.now)) }
     {
         if self.known_at(id).is_some() {
             Some(TraceRule::ReleasedTwice)
@@ -72,8 +72,8 @@ impl<A: Allocator + Clone> Trace<A> {
 
     /// The first rule that a Join of the request under the id would break.
     fn broken_join(&self, id: u64, request: &Request<A>) -> Option<TraceRule>
-        ensures some { IfSome result (IsFirstBroken self.now.setup self.now.events (Joined id request.now)) }
-        ensures none { IfNone result (IsUnbroken self.now.setup self.now.events (Joined id request.now)) }
+        ensures some { IfSome result (IsFirstBroken self.now.setup self.now.events (Join id request.now)) }
+        ensures none { IfNone result (IsUnbroken self.now.setup self.now.events (Join id request.now)) }
     {
         let waiting = match self.known_at(id) {
             None => return Some(TraceRule::Unknown),
@@ -94,8 +94,8 @@ impl<A: Allocator + Clone> Trace<A> {
 
     /// The first rule that an Issue of the id under the tag would break.
     fn broken_issue(&self, id: u64, tag: u16) -> Option<TraceRule>
-        ensures some { IfSome result (IsFirstBroken self.now.setup self.now.events (Issued id tag)) }
-        ensures none { IfNone result (IsUnbroken self.now.setup self.now.events (Issued id tag)) }
+        ensures some { IfSome result (IsFirstBroken self.now.setup self.now.events (Issue id tag)) }
+        ensures none { IfNone result (IsUnbroken self.now.setup self.now.events (Issue id tag)) }
     {
         match self.known_at(id) {
             None => Some(TraceRule::Unknown),
@@ -109,8 +109,8 @@ impl<A: Allocator + Clone> Trace<A> {
     fn broken_tag(&self, id: u64, tag: u16) -> Option<TraceRule>
         requires released { IsReleased self.now.events id }
         requires waits { AreHandedBack self.now.events id }
-        ensures some { IfSome result (IsFirstBroken self.now.setup self.now.events (Issued id tag)) }
-        ensures none { IfNone result (IsUnbroken self.now.setup self.now.events (Issued id tag)) }
+        ensures some { IfSome result (IsFirstBroken self.now.setup self.now.events (Issue id tag)) }
+        ensures none { IfNone result (IsUnbroken self.now.setup self.now.events (Issue id tag)) }
     {
         if tag as u64 >= self.depth_now() {
             Some(TraceRule::TagRange)
@@ -123,25 +123,14 @@ impl<A: Allocator + Clone> Trace<A> {
         }
     }
 
-    /// The first rule that a Done of the tag would break. It takes the place that its Issue reserved, so there is one.
-    fn broken_done(&self, tag: u16) -> Option<TraceRule>
-        ensures some { IfSome result (IsFirstBroken self.now.setup self.now.events (Finished tag)) }
-        ensures none { IfNone result (IsUnbroken self.now.setup self.now.events (Finished tag)) }
+    /// The first rule that an event would break that ends the Issue of the tag. It takes the place that the Issue reserved,
+    /// so there is one.
+    fn broken_end(&self, event: &Event<Request<A>>, tag: u16) -> Option<TraceRule>
+        requires { ends event.now ≡ Some tag }
+        ensures some { IfSome result (IsFirstBroken self.now.setup self.now.events event.now) }
+        ensures none { IfNone result (IsUnbroken self.now.setup self.now.events event.now) }
     {
-        if tag as u64 >= self.depth() {
-            Some(TraceRule::NotIssued)
-        } else if self.is_open(tag) {
-            None
-        } else {
-            Some(TraceRule::NotIssued)
-        }
-    }
-
-    /// The first rule that a Back of the tag would break: those of a Done.
-    fn broken_back(&self, tag: u16) -> Option<TraceRule>
-        ensures some { IfSome result (IsFirstBroken self.now.setup self.now.events (Returned tag)) }
-        ensures none { IfNone result (IsUnbroken self.now.setup self.now.events (Returned tag)) }
-    {
+        let _ = event;
         if tag as u64 >= self.depth() {
             Some(TraceRule::NotIssued)
         } else if self.is_open(tag) {
@@ -153,8 +142,8 @@ impl<A: Allocator + Clone> Trace<A> {
 
     /// The first rule that a Depth would break.
     fn broken_depth(&self, depth: u64) -> Option<TraceRule>
-        ensures some { IfSome result (IsFirstBroken self.now.setup self.now.events (DepthSet depth)) }
-        ensures none { IfNone result (IsUnbroken self.now.setup self.now.events (DepthSet depth)) }
+        ensures some { IfSome result (IsFirstBroken self.now.setup self.now.events (Depth depth)) }
+        ensures none { IfNone result (IsUnbroken self.now.setup self.now.events (Depth depth)) }
     {
         let tags = self.depth();
         if !self.has_places(1) {

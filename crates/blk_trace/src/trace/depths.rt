@@ -1,17 +1,17 @@
 //! How many commands each round of a trace carries.
 
-ghost use Rattle.std.specs.Prelude.{ℕ, ◌≡◌, ◌<◌, ◌↔◌, is_some, IsTrue, IfOk, OnOk, map, length};
+ghost use Rattle.std.specs.Prelude.{ℕ, ◌≡◌, ◌<◌, ◌↔◌, is_some, IsTrue, IfOk, OnOk, length};
 ghost use Rattle.std.specs.List.{list_any};
 ghost use Rattle.edd_check.specs.Capacity.{depth_at, fixed};
 ghost use Rattle.blk_trace.specs.Kinds.{sets_depth};
 ghost use Rattle.blk_trace.specs.Legal.{IsLegalTrace};
 ghost use Rattle.blk_trace.specs.Depths.{IsFixed, capacity_of, depth_in};
 ghost use Rattle.blk_trace.specs.Inside.Changing.{with_change};
-ghost use Rattle.blk_trace.specs.Seen.{happened};
 
 use crate::event::Event;
 use crate::setup::Setup;
 use crate::trace::Trace;
+use blk_bio::Request;
 use edd_check::{Capacity, Step};
 use std::alloc::{AllocError, Allocator};
 
@@ -41,53 +41,31 @@ impl<A: Allocator + Clone> Trace<A> {
 }
 
 /// Whether one of the events sets a depth.
-fn any_sets<A: Allocator>(events: &[Event<A>]) -> bool
-    ensures { result ≡ list_any (λ e. is_some (sets_depth (happened e))) events.now }
+fn any_sets<A: Allocator>(events: &[Event<Request<A>>]) -> bool
+    ensures { result ≡ list_any (λ e. is_some (sets_depth e)) events.now }
 {
-    events.iter().any(|event| sets(event))
-}
-
-/// Whether the event sets a depth.
-fn sets<A: Allocator>(event: &Event<A>) -> bool
-    ensures { result ≡ is_some (sets_depth (happened event.now)) }
-{
-    match event {
-        Event::Depth { .. } => true,
-        Event::Tick => false,
-        Event::Release { .. } => false,
-        Event::Join { .. } => false,
-        Event::Issue { .. } => false,
-        Event::Done { .. } => false,
-        Event::Back { .. } => false,
-    }
+    events.iter().any(|event| event.sets_depth().is_some())
 }
 
 /// The steps by which the depths of the rounds change.
 fn steps_of<A: Allocator + Clone>(
     alloc: A,
     setup: Setup,
-    events: &[Event<A>],
+    events: &[Event<Request<A>>],
 ) -> Result<Vec<Step, A>, AllocError>
-    requires { IsLegalTrace setup (map happened events.now) }
-    ensures { IfOk result (λ v. v.items ≡ capacity_of setup (map happened events.now)) }
+    requires { IsLegalTrace setup events.now }
+    ensures { IfOk result (λ v. v.items ≡ capacity_of setup events.now) }
 {
     let depth = setup.depth();
     let mut steps = Vec::new(alloc);
     steps.push(Step { from: 0, depth })?;
     let mut round = 0;
     for event in events {
-        match event {
-            Event::Tick => round += 1,
-            Event::Depth { depth } => {
-                let from = round + 1;
-                let depth = *depth;
-                change(&mut steps, Step { from, depth })?;
-            }
-            Event::Release { .. } => {}
-            Event::Join { .. } => {}
-            Event::Issue { .. } => {}
-            Event::Done { .. } => {}
-            Event::Back { .. } => {}
+        if event.is_tick() {
+            round += 1;
+        } else if let Some(depth) = event.sets_depth() {
+            let from = round + 1;
+            change(&mut steps, Step { from, depth })?;
         }
     }
     Ok(steps)

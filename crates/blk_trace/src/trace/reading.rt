@@ -1,16 +1,16 @@
 //! Whole lists of events as traces, and what a trace means.
 
-ghost use Rattle.std.specs.Prelude.{◌≡◌, IfOk, map, IsOkUnless};
+ghost use Rattle.std.specs.Prelude.{◌≡◌, IfOk, IsOkUnless};
 ghost use Rattle.blk_trace.specs.Legal.{IsLegalTrace};
 ghost use Rattle.blk_trace.specs.Meaning.{commands_of, rounds_of};
 ghost use Rattle.blk_trace.specs.Laws.{IsScheduled, AreBounded};
 ghost use Rattle.blk_trace.specs.Traces.{IsFromEventsAnswer};
-ghost use Rattle.blk_trace.specs.Seen.{happened};
 
 use crate::event::Event;
 use crate::rule::{PushFault, TraceFault};
 use crate::setup::Setup;
 use crate::trace::Trace;
+use blk_bio::Request;
 use edd_check::Command;
 use std::alloc::{AllocError, Allocator};
 
@@ -20,10 +20,10 @@ impl<A: Allocator + Clone> Trace<A> {
     pub fn from_events(
         alloc: A,
         setup: Setup,
-        events: Vec<Event<A>, A>,
+        events: Vec<Event<Request<A>>, A>,
     ) -> Result<Trace<A>, TraceFault>
-        ensures answer { IsFromEventsAnswer setup (map happened events.items) result }
-        ensures accepts { IsLegalTrace setup (map happened events.items) → IsOkUnless result TraceFault.Memory }
+        ensures answer { IsFromEventsAnswer setup events.items result }
+        ensures accepts { IsLegalTrace setup events.items → IsOkUnless result TraceFault.Memory }
     {
         let Ok(mut trace) = Trace::empty(alloc, setup) else {
             return Err(TraceFault::Memory);

@@ -1,6 +1,6 @@
 //! The bios that wait, gathered from the events.
 
-ghost use Rattle.std.specs.Prelude.{ℕ, ◌≡◌, ◌==◌, cond, false, not, nat_eq, Some, IfOk, OnOk, map, List};
+ghost use Rattle.std.specs.Prelude.{ℕ, ◌≡◌, ◌==◌, cond, false, not, nat_eq, Some, IfOk, OnOk};
 ghost use Rattle.std.specs.Option.{option_map, option_map_or};
 ghost use Rattle.std.specs.HashMap as hash;
 ghost use Rattle.std.specs.List.{flat_map};
@@ -13,7 +13,6 @@ ghost use Rattle.blk_trace.specs.Kinds.{enters};
 ghost use Rattle.blk_trace.specs.Laws.{IsAccounted};
 ghost use Rattle.blk_trace.specs.Legal.{IsLegalTrace};
 ghost use Rattle.blk_trace.specs.Meaning.{waiting_of};
-ghost use Rattle.blk_trace.specs.Seen.{happened};
 
 use crate::event::Event;
 use crate::known::Known;
@@ -45,11 +44,11 @@ fn all_waiting<A: Allocator + Clone>(
     alloc: &A,
     setup: Setup,
     known: &HashMap<u64, Known, Hashing, A>,
-    events: &[Event<A>],
+    events: &[Event<Request<A>>],
 ) -> Result<Vec<Bio, A>, AllocError>
-    requires legal { IsLegalTrace setup (map happened events.now) }
-    requires kept { (id : ℕ) → hash.get nat_eq known.now id ≡ known_of setup (map happened events.now) id }
-    ensures { IfOk result (λ v. v.items ≡ waiting_of (map happened events.now)) }
+    requires legal { IsLegalTrace setup events.now }
+    requires kept { (id : ℕ) → hash.get nat_eq known.now id ≡ known_of setup events.now id }
+    ensures { IfOk result (λ v. v.items ≡ waiting_of events.now) }
 {
     let requests = gathered(alloc.clone()?, setup, known, events)?;
     in_order(alloc.clone()?, &requests)
@@ -60,11 +59,11 @@ fn gathered<A: Allocator + Clone>(
     alloc: A,
     setup: Setup,
     known: &HashMap<u64, Known, Hashing, A>,
-    events: &[Event<A>],
+    events: &[Event<Request<A>>],
 ) -> Result<BTreeMap<u64, Request<A>, A>, AllocError>
-    requires legal { IsLegalTrace setup (map happened events.now) }
-    requires kept { (id : ℕ) → hash.get nat_eq known.now id ≡ known_of setup (map happened events.now) id }
-    ensures { IfOk result (λ m. (id : ℕ) → get nat_cmp m id ≡ waiting_bios setup (map happened events.now) id) }
+    requires legal { IsLegalTrace setup events.now }
+    requires kept { (id : ℕ) → hash.get nat_eq known.now id ≡ known_of setup events.now id }
+    ensures { IfOk result (λ m. (id : ℕ) → get nat_cmp m id ≡ waiting_bios setup events.now id) }
 {
     let limits = setup.limits();
     let mut requests = BTreeMap::new(alloc);
@@ -77,48 +76,37 @@ fn gathered<A: Allocator + Clone>(
 }
 
 /// Whether bios enter by the event under an id whose request waits in the end.
-fn stays<A: Allocator + Clone>(known: &HashMap<u64, Known, Hashing, A>, event: &Event<A>) -> bool
-    ensures { result ≡ option_map_or (λ p. not (is_gone (hash.get nat_eq known.now p.0))) (enters (happened event.now)) false }
+fn stays<A: Allocator + Clone>(
+    known: &HashMap<u64, Known, Hashing, A>,
+    event: &Event<Request<A>>,
+) -> bool
+    ensures { result ≡ option_map_or (λ p. not (is_gone (hash.get nat_eq known.now p.0))) (enters event.now) false }
 {
-    match event {
-        Event::Release { id, .. } => !gone(known, *id),
-        Event::Join { id, .. } => !gone(known, *id),
-        Event::Tick => false,
-        Event::Issue { .. } => false,
-        Event::Done { .. } => false,
-        Event::Back { .. } => false,
-        Event::Depth { .. } => false,
-    }
-}
-
-/// Whether the request of the id was issued, and not handed back since.
-fn gone<A: Allocator>(known: &HashMap<u64, Known, Hashing, A>, id: u64) -> bool
-    ensures { result ≡ is_gone (hash.get nat_eq known.now id) }
-{
+    let Some((id, _)) = event.enters() else {
+        return false;
+    };
     match known.get(&id) {
-        None => false,
-        Some(kept) => matches!(*kept, Known::Gone),
+        None => true,
+        Some(kept) => !matches!(*kept, Known::Gone),
     }
 }
 
 /// Takes account of one more event.
 fn gather<A: Allocator + Clone>(
     requests: &mut BTreeMap<u64, Request<A>, A>,
-    event: &Event<A>,
+    event: &Event<Request<A>>,
     limits: &Limits,
 ) -> Result<(), AllocError>
-    requires { TakesJoin limits.now (get nat_cmp requests.old) (happened event.now) }
-    ensures { OnOk result ((id : ℕ) → get nat_cmp requests.new id ≡ with_event (get nat_cmp requests.old) (happened event.now) id) }
+    requires { TakesJoin limits.now (get nat_cmp requests.old) event.now }
+    ensures { OnOk result ((id : ℕ) → get nat_cmp requests.new id ≡ with_event (get nat_cmp requests.old) event.now id) }
 {
-    match event {
-        Event::Release { id, request } => put(requests, *id, request.copy()?),
-        Event::Join { id, request } => join(requests, *id, request.copy()?, limits),
-        Event::Tick => Ok(()),
-        Event::Issue { .. } => Ok(()),
-        Event::Done { .. } => Ok(()),
-        Event::Back { .. } => Ok(()),
-        Event::Depth { .. } => Ok(()),
+    if let Some((id, request)) = event.releases() {
+        return put(requests, id, request.copy()?);
     }
+    if let Some((id, request)) = event.joins() {
+        return join(requests, id, request.copy()?, limits);
+    }
+    Ok(())
 }
 
 /// Puts a request under an id.

@@ -7,7 +7,7 @@ use Rattle.blk_hw.specs.Held.{held_in}
 use Rattle.blk_core.specs.declared.TagState.{TagState}
 use Rattle.blk_core.specs.declared.TagState.TheVariants.{Free, Flying, Spent}
 use Rattle.blk_core.specs.Inside.Ties.{flight_of, queue_of, IfFlying, IsTied}
-use Rattle.blk_trace.specs.Happened.{Returned}
+use Rattle.blk_trace.specs.declared.event.Event.TheVariants.{Back}
 use Rattle.blk_core.proofs.Pushed.{pushed_at_once}
 use Rattle.blk_core.proofs.Ties.{open_flight, read_at, beyond, flying_open, not_flying}
 use Rattle.blk_core.proofs.Ended.{end_unbroken, tied_back, few_handed}
@@ -26,7 +26,7 @@ returns-then-slot-len-clause-fault g c =
 pub add-requires-clause-unbroken : goal.add-requires-clause-unbroken
 add-requires-clause-unbroken g c =
     let lt : c.args.tag < length c.self.inside.tags.items = search rules in
-    end_unbroken c.self.inside.trace.setup c.self.inside.trace.events (Returned c.args.tag) _ c.self.inside.tags.items c.self.inside.held c.self.inside.released c.args.tag c.in-Flying.hw c.in-Flying.queued c.self.invariant lt
+    end_unbroken c.self.inside.trace.setup c.self.inside.trace.events (Back c.args.tag) _ c.self.inside.tags.items c.self.inside.held c.self.inside.released c.args.tag c.in-Flying.hw c.in-Flying.queued c.self.invariant lt
     (read_at c.self.inside.tags.items c.args.tag c.in-Flying.hw c.index.result.now c.in-Flying.queued lt c.index.ensures c.in-Flying.is) (λ seat. (dir_of c.in-Flying.queued.bios, seat)) refl
 
 pub on_back-requires-clause-is_open : goal.on_back-requires-clause-is_open
@@ -59,7 +59,7 @@ invariant_of-self-2 g c =
     let held = of_flying (λ hw w. (c.hold.new.tag ≡ Spent (dir_of w.bios)) × (c.hold.new.held ≡ slice_set c.self.inside.held hw (held_in c.self.inside.held hw ++ w ∷ []))) c.self.inside.tags.items c.args.tag c.in-Flying.hw c.index_mut.result.now w lt c.index_mut.ensures.value at c.in-Ok.ensures.ok in
     subst (λ s. IsTied c.add.new.self.setup c.add.new.self.events (g.S.Scheduler.meaning c.on_back.new.self) (set c.self.inside.tags.items c.args.tag s) c.hold.new.held c.self.inside.released) (sym held.0)
     (tied_back c.self.inside.trace.setup c.add.new.self.setup c.self.inside.trace.events c.add.new.self.events (g.S.Scheduler.meaning c.self.inside.scheduler) (g.S.Scheduler.meaning c.on_back.new.self) c.self.inside.tags.items c.self.inside.held c.hold.new.held c.self.inside.released c.args.tag c.in-Flying.hw w c.dir-dir.result
-    (pushed_at_once c.self.inside.trace c.add.new.self (Returned c.args.tag) _ c.add.ensures.added c.add.ensures.legal) c.self.invariant lt at dir_is c.on_back.ensures.back held.1
+    (pushed_at_once c.self.inside.trace c.add.new.self (Back c.args.tag) _ c.add.ensures.added c.add.ensures.legal) c.self.invariant lt at dir_is c.on_back.ensures.back held.1
     (queue_below c.self.inside.trace.setup.hw c.in-Flying.hw (get_or c.self.inside.tags.items c.args.tag Free) w at (c.self.invariant.queues c.args.tag)))
 
 pub returns-clause-back : goal.returns-clause-back
@@ -69,7 +69,7 @@ returns-clause-back g c =
     let at : get_or c.self.inside.tags.items c.args.tag Free ≡ Flying c.in-Flying.hw w = read_at c.self.inside.tags.items c.args.tag c.in-Flying.hw c.index.result.now w lt c.index.ensures c.in-Flying.is in
     let dir_is : c.dir-dir.result ≡ dir_of w.bios = c.dir-dir.ensures ∙ ap (λ (x : Waiting). dir_of x.bios) c.queued.view_is in
     let held = of_flying (λ hw w. (c.hold.new.tag ≡ Spent (dir_of w.bios)) × (c.hold.new.held ≡ slice_set c.self.inside.held hw (held_in c.self.inside.held hw ++ w ∷ []))) c.self.inside.tags.items c.args.tag c.in-Flying.hw c.index_mut.result.now w lt c.index_mut.ensures.value at c.in-Ok.ensures.ok in
-    let p = pushed_at_once c.self.inside.trace c.add.new.self (Returned c.args.tag) _ c.add.ensures.added c.add.ensures.legal in
+    let p = pushed_at_once c.self.inside.trace c.add.new.self (Back c.args.tag) _ c.add.ensures.added c.add.ensures.legal in
     rw (← c.self.view_is) (
       record { hw = c.in-Flying.hw; request = w },
       flight_at c.self.inside.tags.items c.args.tag c.in-Flying.hw w lt at,

@@ -7,7 +7,7 @@ use Rattle.blk_sched.specs.Meaning.{Waiting, Meaning, open_of, opened}
 use Rattle.blk_core.specs.declared.TagState.TheVariants.{Free, Flying, Spent}
 use Rattle.blk_core.specs.Inside.Ties.{flight_of}
 use Rattle.blk_core.specs.Calls.{OfDone}
-use Rattle.blk_trace.specs.Happened.{Finished}
+use Rattle.blk_trace.specs.declared.event.Event.TheVariants.{Done}
 use Rattle.blk_core.proofs.Pushed.{pushed_at_once}
 use Rattle.blk_core.proofs.Ties.{open_flight, read_at, beyond, flying_open, not_flying}
 use Rattle.blk_core.proofs.Ended.{end_unbroken, tied_done_at}
@@ -32,7 +32,7 @@ returns-then-slot-len-clause-accepted g c =
 pub add-requires-clause-unbroken : goal.add-requires-clause-unbroken
 add-requires-clause-unbroken g c =
     let lt : c.args.tag < length c.self.inside.tags.items = search rules in
-    end_unbroken c.self.inside.trace.setup c.self.inside.trace.events (Finished c.args.tag) _ c.self.inside.tags.items c.self.inside.held c.self.inside.released c.args.tag c.in-Flying.hw c.in-Flying.queued c.self.invariant lt
+    end_unbroken c.self.inside.trace.setup c.self.inside.trace.events (Done c.args.tag) _ c.self.inside.tags.items c.self.inside.held c.self.inside.released c.args.tag c.in-Flying.hw c.in-Flying.queued c.self.invariant lt
     (read_at c.self.inside.tags.items c.args.tag c.in-Flying.hw c.index.result.now c.in-Flying.queued lt c.index.ensures c.in-Flying.is) (λ seat. (dir_of c.in-Flying.queued.bios, seat)) refl
 
 pub on_done-requires-clause-is_open : goal.on_done-requires-clause-is_open
@@ -48,7 +48,7 @@ invariant_of-self g c =
     let lt : c.args.tag < length c.self.inside.tags.items = search rules in
     let dir_is : c.dir-dir.result ≡ dir_of c.in-Flying.queued.bios = c.dir-dir.ensures ∙ ap (λ (x : Waiting). dir_of x.bios) c.queued.view_is in
     tied_done_at c.self.inside.trace.setup c.add.new.self.setup c.self.inside.trace.events c.add.new.self.events (g.S.Scheduler.meaning c.self.inside.scheduler) (g.S.Scheduler.meaning c.on_done.new.self) c.self.inside.tags.items c.self.inside.held c.self.inside.released c.args.tag c.in-Flying.hw c.in-Flying.queued c.dir-dir.result
-    (pushed_at_once c.self.inside.trace c.add.new.self (Finished c.args.tag) _ c.add.ensures.added c.add.ensures.legal) c.self.invariant lt
+    (pushed_at_once c.self.inside.trace c.add.new.self (Done c.args.tag) _ c.add.ensures.added c.add.ensures.legal) c.self.invariant lt
     (read_at c.self.inside.tags.items c.args.tag c.in-Flying.hw c.index.result.now c.in-Flying.queued lt c.index.ensures c.in-Flying.is) dir_is c.on_done.ensures.done
 
 pub returns-clause-done : goal.returns-clause-done
@@ -58,7 +58,7 @@ returns-clause-done g c =
     let at : get_or c.self.inside.tags.items c.args.tag Free ≡ Flying c.in-Flying.hw w = read_at c.self.inside.tags.items c.args.tag c.in-Flying.hw c.index.result.now w lt c.index.ensures c.in-Flying.is in
     let dir_is : c.dir-dir.result ≡ dir_of w.bios = c.dir-dir.ensures ∙ ap (λ (x : Waiting). dir_of x.bios) c.queued.view_is in
     let wait_is : c.saturating_sub-wait.result ≡ round_of c.self.inside.trace.events - w.release = c.saturating_sub-wait.ensures ∙ ap (λ n. n - c.queued.inside.release) c.round.ensures.value ∙ ap (λ (x : Waiting). round_of c.self.inside.trace.events - x.release) c.queued.view_is in
-    let p = pushed_at_once c.self.inside.trace c.add.new.self (Finished c.args.tag) _ c.add.ensures.added c.add.ensures.legal in
+    let p = pushed_at_once c.self.inside.trace c.add.new.self (Done c.args.tag) _ c.add.ensures.added c.add.ensures.legal in
     rw (← c.self.view_is) (
       record { hw = c.in-Flying.hw; request = w },
       flight_at c.self.inside.tags.items c.args.tag c.in-Flying.hw w lt at,

@@ -1,7 +1,8 @@
 use Rattle.std.proofs.Common.{ℕ, ◌≡◌, ◌∙◌, ap, List, [], Option, Some, None, sym, subst, refl, ◌<◌, arith, length, map, set, get_or}
 use Rattle.std.proofs.lemmas.List.{map-set}
 use Rattle.blk_trace.specs.Setups.{Setup}
-use Rattle.blk_trace.specs.Happened.{Happened, Issued}
+use Rattle.blk_trace.specs.Happened.{Happened}
+use Rattle.blk_trace.specs.declared.event.Event.TheVariants.{Issue}
 use Rattle.blk_trace.specs.Events.{round_of}
 use Rattle.blk_trace.specs.Waits.{waits_at}
 use Rattle.blk_trace.specs.Traces.{Traced}
@@ -51,13 +52,13 @@ add-requires-clause-unbroken g c =
     let sends = sends_at g.S.Scheduler.serves g.S.Scheduler.chooses c.args.hw c.round-now.result (round_of c.self.inside.trace.events) (get_or c.self.inside.held c.args.hw []) (g.S.Scheduler.meaning c.self.inside.scheduler) (g.S.Scheduler.meaning c.next.new.scheduler) (g.S.Scheduler.kept c.self.inside.scheduler) (g.S.Scheduler.kept c.next.new.scheduler) c.self.inside.held c.next.new.held c.in-Some-next.queued w
     (c.round-now.ensures.value ∙ ap (λ (t : Traced). round_of t.events) c.in-Ok.ensures.ok) (sym c.queued.view_is) c.in-Some-next.ensures.some in
     let waits : waits_at c.self.inside.trace.setup c.self.inside.trace.events w.id ≡ Some (entered_of w) = sent_waits c.self.inside.trace.setup c.self.inside.trace.events _ _ c.self.inside.tags.items c.self.inside.held c.next.new.held c.self.inside.released g.S.Scheduler.serves g.S.Scheduler.chooses _ _ c.args.hw (round_of c.self.inside.trace.events) w (get_or c.self.inside.held c.args.hw []) c.self.invariant refl sends in
-    unbroken c.self.inside.trace.setup c.self.inside.trace.events c.prepare.new.trace _ (Issued c.queued.inside.id c.args.tag) c.in-Ok.ensures.ok c.self.invariant.legal
+    unbroken c.self.inside.trace.setup c.self.inside.trace.events c.prepare.new.trace _ (Issue c.queued.inside.id c.args.tag) c.in-Ok.ensures.ok c.self.invariant.legal
     (issue_allowed c.self.inside.trace.setup c.self.inside.trace.events _ c.self.inside.tags.items c.self.inside.held c.self.inside.released c.args.tag w c.self.invariant waits can.range lt
     (free_slot c.self.inside.trace.setup c.self.inside.trace.events _ c.self.inside.tags.items c.self.inside.held c.self.inside.released c.args.tag c.self.invariant lt can.free))
     (let room = can.room in omega arith)
 
 pub add-requires-clause-prepared : goal.add-requires-clause-prepared
-add-requires-clause-prepared g c = ready_for c.self.inside.trace.setup c.self.inside.trace.events c.prepare.new.trace _ (Issued c.queued.inside.id c.args.tag) c.in-Ok.ensures.ok tt
+add-requires-clause-prepared g c = ready_for c.self.inside.trace.setup c.self.inside.trace.events c.prepare.new.trace _ (Issue c.queued.inside.id c.args.tag) c.in-Ok.ensures.ok tt
 
 pub invariant_of-self-2 : goal.invariant_of-self-2
 invariant_of-self-2 g c =
@@ -68,7 +69,7 @@ invariant_of-self-2 g c =
     (c.round-now.ensures.value ∙ ap (λ (t : Traced). round_of t.events) c.in-Ok.ensures.ok) (sym c.queued.view_is) c.in-Some-next.ensures.some in
     subst (λ x. IsTied c.add.new.self.setup c.add.new.self.events (g.S.Scheduler.meaning c.next.new.scheduler) (set c.self.inside.tags.items c.args.tag (Flying c.args.hw x)) c.next.new.held c.self.inside.released) c.queued.view_is
     (tied_issue c.self.inside.trace.setup c.add.new.self.setup c.self.inside.trace.events c.add.new.self.events (g.S.Scheduler.meaning c.self.inside.scheduler) (g.S.Scheduler.meaning c.next.new.scheduler) c.self.inside.tags.items c.self.inside.held c.next.new.held c.self.inside.released g.S.Scheduler.serves g.S.Scheduler.chooses _ _ c.args.hw (round_of c.self.inside.trace.events) c.args.tag w (get_or c.self.inside.held c.args.hw [])
-    (pushed c.self.inside.trace.setup c.self.inside.trace.events c.prepare.new.trace c.add.new.self (Issued c.queued.inside.id c.args.tag) _ _ c.in-Ok.ensures.ok c.add.ensures.added c.add.ensures.legal)
+    (pushed c.self.inside.trace.setup c.self.inside.trace.events c.prepare.new.trace c.add.new.self (Issue c.queued.inside.id c.args.tag) _ _ c.in-Ok.ensures.ok c.add.ensures.added c.add.ensures.legal)
     c.self.invariant refl sends lt
     (free_slot c.self.inside.trace.setup c.self.inside.trace.events _ c.self.inside.tags.items c.self.inside.held c.self.inside.released c.args.tag c.self.invariant lt can.free)
     can.queue)
@@ -79,7 +80,7 @@ returns-clause-issued g c =
     let sends = sends_at g.S.Scheduler.serves g.S.Scheduler.chooses c.args.hw c.round-now.result (round_of c.self.inside.trace.events) (get_or c.self.inside.held c.args.hw []) (g.S.Scheduler.meaning c.self.inside.scheduler) (g.S.Scheduler.meaning c.next.new.scheduler) (g.S.Scheduler.kept c.self.inside.scheduler) (g.S.Scheduler.kept c.next.new.scheduler) c.self.inside.held c.next.new.held c.in-Some-next.queued w
     (c.round-now.ensures.value ∙ ap (λ (t : Traced). round_of t.events) c.in-Ok.ensures.ok) (sym c.queued.view_is) c.in-Some-next.ensures.some in
     let waits : waits_at c.self.inside.trace.setup c.self.inside.trace.events w.id ≡ Some (entered_of w) = sent_waits c.self.inside.trace.setup c.self.inside.trace.events _ _ c.self.inside.tags.items c.self.inside.held c.next.new.held c.self.inside.released g.S.Scheduler.serves g.S.Scheduler.chooses _ _ c.args.hw (round_of c.self.inside.trace.events) w (get_or c.self.inside.held c.args.hw []) c.self.invariant refl sends in
-    let p : IsPushed c.self.inside.trace.setup c.self.inside.trace.events (Issued c.queued.inside.id c.args.tag) c.add.new.self.setup c.add.new.self.events = pushed c.self.inside.trace.setup c.self.inside.trace.events c.prepare.new.trace c.add.new.self (Issued c.queued.inside.id c.args.tag) _ _ c.in-Ok.ensures.ok c.add.ensures.added c.add.ensures.legal in
+    let p : IsPushed c.self.inside.trace.setup c.self.inside.trace.events (Issue c.queued.inside.id c.args.tag) c.add.new.self.setup c.add.new.self.events = pushed c.self.inside.trace.setup c.self.inside.trace.events c.prepare.new.trace c.add.new.self (Issue c.queued.inside.id c.args.tag) _ _ c.in-Ok.ensures.ok c.add.ensures.added c.add.ensures.legal in
     rw (← c.self.view_is) (
       w,
       sends,

@@ -1,7 +1,7 @@
 use Rattle.std.proofs.Common.{◌≡◌, ◌∙◌, sym, ap, subst, refl, ◌++◌, map, arith}
 use Rattle.blk_sched.specs.Meaning.{Joins}
 use Rattle.blk_trace.specs.Setups.{Setup}
-use Rattle.blk_trace.specs.Happened.{Joined}
+use Rattle.blk_trace.specs.declared.event.Event.TheVariants.{Join}
 use Rattle.blk_trace.specs.Events.{entered, AreOnce, round_of}
 use Rattle.blk_trace.specs.Traces.{Traced}
 use Rattle.blk_core.specs.State.{CoreState}
@@ -18,18 +18,18 @@ add-requires-clause-unbroken g c =
     let room = can.room in
     let lim : c.limits-limits.result ≡ c.self.inside.trace.setup.limits = c.limits-limits.ensures ∙ ap (λ (s : Setup). s.limits) c.setup.ensures ∙ ap (λ (t : Traced). t.setup.limits) c.in-Ok.ensures.ok in
     let joins : Joins g.S.Scheduler.serves c.args.hw c.round-now.result c.self.inside.trace.setup.limits c.in-Ok.copy (g.S.Scheduler.meaning c.self.inside.scheduler) c.args.id c.args.side (g.S.Scheduler.meaning c.join.new.self) = joins_at g.S.Scheduler.serves c.args.hw c.round-now.result c.limits-limits.result c.self.inside.trace.setup.limits c.args.request c.in-Ok.copy (g.S.Scheduler.meaning c.self.inside.scheduler) (g.S.Scheduler.meaning c.join.new.self) c.args.id c.args.side lim (sym c.in-Ok.ensures.copy) c.in_default-join.ensures.joined in
-    unbroken c.self.inside.trace.setup c.self.inside.trace.events c.prepared.new.trace _ (Joined c.args.id c.in-Ok.copy) c.in-Ok.ensures.ok c.self.invariant.legal
+    unbroken c.self.inside.trace.setup c.self.inside.trace.events c.prepared.new.trace _ (Join c.args.id c.in-Ok.copy) c.in-Ok.ensures.ok c.self.invariant.legal
     (join_allowed c.self.inside.trace.setup c.self.inside.trace.events _ _ _ _ _ _ _ _ c.in-Ok.copy c.args.id c.args.side c.self.invariant joins once)
     (omega arith)
 
 pub add-requires-clause-prepared : goal.add-requires-clause-prepared
-add-requires-clause-prepared g c = ready_for c.self.inside.trace.setup c.self.inside.trace.events c.prepared.new.trace _ (Joined c.args.id c.in-Ok.copy) c.in-Ok.ensures.ok refl
+add-requires-clause-prepared g c = ready_for c.self.inside.trace.setup c.self.inside.trace.events c.prepared.new.trace _ (Join c.args.id c.in-Ok.copy) c.in-Ok.ensures.ok refl
 
 pub invariant_of-self-2 : goal.invariant_of-self-2
 invariant_of-self-2 g c =
     let now_is : c.round-now.result ≡ round_of c.self.inside.trace.events = c.round-now.ensures.value ∙ ap (λ (t : Traced). round_of t.events) c.in-Ok.ensures.ok in
     let lim : c.limits-limits.result ≡ c.self.inside.trace.setup.limits = c.limits-limits.ensures ∙ ap (λ (s : Setup). s.limits) c.setup.ensures ∙ ap (λ (t : Traced). t.setup.limits) c.in-Ok.ensures.ok in
     tied_join c.self.inside.trace.setup c.add.new.self.setup c.self.inside.trace.events c.add.new.self.events (g.S.Scheduler.meaning c.self.inside.scheduler) (g.S.Scheduler.meaning c.join.new.self) c.self.inside.tags.items c.self.inside.held c.self.inside.released g.S.Scheduler.serves c.args.hw c.round-now.result c.in-Ok.copy c.args.id c.args.side
-    (pushed c.self.inside.trace.setup c.self.inside.trace.events c.prepared.new.trace c.add.new.self (Joined c.args.id c.in-Ok.copy) _ _ c.in-Ok.ensures.ok c.add.ensures.added c.add.ensures.legal)
+    (pushed c.self.inside.trace.setup c.self.inside.trace.events c.prepared.new.trace c.add.new.self (Join c.args.id c.in-Ok.copy) _ _ c.in-Ok.ensures.ok c.add.ensures.added c.add.ensures.legal)
     c.self.invariant now_is
     (joins_at g.S.Scheduler.serves c.args.hw c.round-now.result c.limits-limits.result c.self.inside.trace.setup.limits c.args.request c.in-Ok.copy (g.S.Scheduler.meaning c.self.inside.scheduler) (g.S.Scheduler.meaning c.join.new.self) c.args.id c.args.side lim (sym c.in-Ok.ensures.copy) c.in_default-join.ensures.joined)

@@ -1,6 +1,6 @@
 use Rattle.std.proofs.Common.{refl, ℕ, ◌≡◌, ◌∙◌, sym, ap, subst, arith, List, length, map}
 use Rattle.std.proofs.Math.ListN.{replicate}
-use Rattle.blk_trace.specs.Happened.{Ticked}
+use Rattle.blk_trace.specs.declared.event.Event.TheVariants.{Tick}
 use Rattle.blk_trace.specs.Events.{open_count, round_of}
 use Rattle.blk_sched.specs.Meaning.{Meaning}
 use Rattle.blk_core.specs.Inside.Ties.{flight_of}
@@ -21,30 +21,30 @@ told_at told now round kept then is h = subst (λ n. told n kept then) is h
 pub add-requires-clause-unbroken : goal.add-requires-clause-unbroken
 add-requires-clause-unbroken g c =
     let none : open_count c.self.inside.trace.events ≡ 0 = omega (arith, c.unfinished-unfinished.ensures.value, c.if-unfinished-gt0.false) in
-    unbroken c.self.inside.trace.setup c.self.inside.trace.events c.prepare.new.trace _ Ticked c.in-Ok.ensures.ok c.self.invariant.legal
+    unbroken c.self.inside.trace.setup c.self.inside.trace.events c.prepare.new.trace _ Tick c.in-Ok.ensures.ok c.self.invariant.legal
     (tick_allowed c.self.inside.trace.setup c.self.inside.trace.events _ _ _ _ c.self.invariant none)
     (omega (arith, c.len.ensures.value, c.if-len-ge-MAX_EVENTS.false))
 
 pub add-requires-clause-prepared : goal.add-requires-clause-prepared
-add-requires-clause-prepared g c = ready_for c.self.inside.trace.setup c.self.inside.trace.events c.prepare.new.trace _ Ticked c.in-Ok.ensures.ok tt
+add-requires-clause-prepared g c = ready_for c.self.inside.trace.setup c.self.inside.trace.events c.prepare.new.trace _ Tick c.in-Ok.ensures.ok tt
 
 pub on_tick-requires : goal.on_tick-requires
 on_tick-requires g c =
     round_next c.self.inside.trace.setup c.add.new.self.setup c.self.inside.trace.events c.add.new.self.events (g.S.Scheduler.meaning c.self.inside.scheduler) c.self.inside.tags.items c.self.inside.held c.self.inside.released c.round-now.result c.self.invariant
-    (pushed c.self.inside.trace.setup c.self.inside.trace.events c.prepare.new.trace c.add.new.self Ticked _ _ c.in-Ok.ensures.ok c.add.ensures.added c.add.ensures.legal)
+    (pushed c.self.inside.trace.setup c.self.inside.trace.events c.prepare.new.trace c.add.new.self Tick _ _ c.in-Ok.ensures.ok c.add.ensures.added c.add.ensures.legal)
     c.round-now.ensures.value
 
 pub invariant_of-self-2 : goal.invariant_of-self-2
 invariant_of-self-2 g c =
     tied_tick c.self.inside.trace.setup c.add.new.self.setup c.self.inside.trace.events c.add.new.self.events (g.S.Scheduler.meaning c.self.inside.scheduler) (g.S.Scheduler.meaning c.on_tick.new.self) c.self.inside.tags.items _ c.self.inside.held c.self.inside.released c.round-now.result
-    (pushed c.self.inside.trace.setup c.self.inside.trace.events c.prepare.new.trace c.add.new.self Ticked _ _ c.in-Ok.ensures.ok c.add.ensures.added c.add.ensures.legal)
+    (pushed c.self.inside.trace.setup c.self.inside.trace.events c.prepare.new.trace c.add.new.self Tick _ _ c.in-Ok.ensures.ok c.add.ensures.added c.add.ensures.legal)
     c.self.invariant c.on_tick.ensures.round c.round-now.ensures.value
     (put_back Free c.clear.new.tags c.self.inside.tags.items c.self.inside.tags.len (length c.self.inside.tags.items) (c.clear.ensures ∙ ap (λ x. replicate (length x) Free) c.deref_mut.ensures.value) (sym c.deref_mut.ensures.len ∙ ap length c.deref_mut.ensures.value))
 
 pub returns-clause-ended : goal.returns-clause-ended
 returns-clause-ended g c =
     let none : open_count c.self.inside.trace.events ≡ 0 = omega (arith, c.unfinished-unfinished.ensures.value, c.if-unfinished-gt0.false) in
-    let p : IsPushed c.self.inside.trace.setup c.self.inside.trace.events Ticked c.add.new.self.setup c.add.new.self.events = pushed c.self.inside.trace.setup c.self.inside.trace.events c.prepare.new.trace c.add.new.self Ticked _ _ c.in-Ok.ensures.ok c.add.ensures.added c.add.ensures.legal in
+    let p : IsPushed c.self.inside.trace.setup c.self.inside.trace.events Tick c.add.new.self.setup c.add.new.self.events = pushed c.self.inside.trace.setup c.self.inside.trace.events c.prepare.new.trace c.add.new.self Tick _ _ c.in-Ok.ensures.ok c.add.ensures.added c.add.ensures.legal in
     rw (← c.self.view_is) (
       (p.same, p.added),
       ticked_at (g.S.Scheduler.meaning c.self.inside.scheduler) (g.S.Scheduler.meaning c.on_tick.new.self) c.round-now.result (round_of c.add.new.self.events) c.round-now.ensures.value c.on_tick.ensures.round,

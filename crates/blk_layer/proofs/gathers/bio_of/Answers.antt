@@ -1,7 +1,7 @@
 use Rattle.std.proofs.Common.{◌∙◌, ap, arith}
 use Rattle.std.specs.Prelude.{Some}
 use Rattle.blk_layer.proofs.Gathered.{event_at, none_yet, within_events}
-use Rattle.blk_trace.specs.Happened.{Released}
+use Rattle.blk_trace.specs.declared.event.Event.TheVariants.{Release}
 use Rattle.blk_layer.proofs.gathers.bio_of.Goals as goal
 
 pub returns-in-Some : goal.returns-in-Some
@@ -20,4 +20,4 @@ loop-event-preserved g c = none_yet c.args.events.now c.loop-event.event-index c
 pub unreachable-requires : goal.unreachable-requires
 unreachable-requires g c =
     let r = c.requires in
-    c.loop-event.invariant r.0 r.1.0 (omega (arith, within_events c.args.events.now r.0 (Released c.args.id r.1.0) r.1.1, c.loop-event-test.false)) r.1.1
+    c.loop-event.invariant r.0 r.1.0 (omega (arith, within_events c.args.events.now r.0 (Release c.args.id r.1.0) r.1.1, c.loop-event-test.false)) r.1.1

@@ -1,11 +1,10 @@
-use Rattle.std.proofs.Common.{◌≡◌, ◌+◌, ◌++◌, [], ◌∷◌, ◌∙◌, List, sym, ap, map, take}
-use Rattle.std.proofs.lemmas.List.{take_all, take_more, map-append}
+use Rattle.std.proofs.Common.{◌≡◌, ◌+◌, ◌++◌, [], ◌∷◌, ◌∙◌, List, sym, ap, take}
+use Rattle.std.proofs.lemmas.List.{take_all, take_more}
 use Rattle.std.specs.Map.{lookup}
 use Rattle.std.specs.Ordering.{nat_cmp}
 use Rattle.std.specs.BTreeMap.{get, is_at}
 use Rattle.blk_trace.specs.Events.{request_of}
 use Rattle.blk_trace.specs.Happened.{Happened}
-use Rattle.blk_trace.specs.Seen.{happened}
 use Rattle.blk_report.specs.Inside.Ranges.{range_of}
 use Rattle.blk_report.proofs.Gathering.{range_more, none_entered}
 use Rattle.blk_report.proofs.serving.ranges.Goals as goal
@@ -16,13 +15,13 @@ loop-event-init g c = λ id. ap (lookup (is_at (nat_cmp id))) c.new-ranges.ensur
 pub loop-event-preserved : goal.loop-event-preserved
 loop-event-preserved g c = λ id.
     let before = take c.loop-event.event-index c.args.events.now in
-    let up : map happened (take (c.loop-event.event-index + 1) c.args.events.now) ≡ map happened before ++ happened c.event-item.result ∷ [] =
-    ap (map happened) (take_more c.args.events.now c.loop-event.event-index c.event-item.result c.loop-event-test.true ∙ ap (λ x. before ++ x ∷ []) (sym c.event-item.is)) ∙ map-append happened before (c.event-item.result ∷ []) in
+    let up : take (c.loop-event.event-index + 1) c.args.events.now ≡ before ++ c.event-item.result ∷ [] =
+    take_more c.args.events.now c.loop-event.event-index c.event-item.result c.loop-event-test.true ∙ ap (λ x. before ++ x ∷ []) (sym c.event-item.is) in
     c.in_ok-gather.ensures id
-    ∙ range_more (map happened before) (happened c.event-item.result) (get nat_cmp c.loop-event.ranges) c.loop-event.invariant id
+    ∙ range_more before c.event-item.result (get nat_cmp c.loop-event.ranges) c.loop-event.invariant id
     ∙ ap (λ (l : List Happened). range_of (request_of l id)) (sym up)
 
 pub returns : goal.returns
 returns g c = λ id.
     c.loop-event.invariant id
-    ∙ ap (λ l. range_of (request_of (map happened l) id)) (take_all c.loop-event.event-index c.args.events.now c.loop-event-test.false)
+    ∙ ap (λ l. range_of (request_of l id)) (take_all c.loop-event.event-index c.args.events.now c.loop-event-test.false)

@@ -1,6 +1,5 @@
 use Rattle.std.proofs.Common.{inr, sym}
 use Rattle.csv.specs.Records.{fields_of}
-use Rattle.blk_trace.specs.Seen.{happened}
 use Rattle.blk_text.proofs.EventLaws.{past_head, past_group, past_event, past_refused}
 use Rattle.blk_text.proofs.events.past_fault.Goals as goal
 
@@ -12,10 +11,10 @@ returns-in-None c = inr (past_group c.args.form.now.head.version c.args.form.now
 
 pub returns-in-Ok-add : goal.returns-in-Ok-add
 returns-in-Ok-add c =
-    inr (past_event c.args.form.now.head.version c.args.form.now.setup c.args.trace.now.events (fields_of c.args.row.now) c.in-Ok.head (happened c.in-Some.event) (sym c.in-Some.ensures) c.in-Ok.ensures.ok
+    inr (past_event c.args.form.now.head.version c.args.form.now.setup c.args.trace.now.events (fields_of c.args.row.now) c.in-Ok.head c.in-Some.event (sym c.in-Some.ensures) c.in-Ok.ensures.ok
     (rw c.requires at c.in-Ok-add.ensures.ok.2))
 
 pub returns-in-Err-add : goal.returns-in-Err-add
 returns-in-Err-add c =
-    past_refused c.args.form.now.head.version c.args.form.now.setup c.args.trace.now.setup c.args.trace.now.events (fields_of c.args.row.now) c.in-Ok.head (happened c.in-Some.event) c.in-Err-add.why
+    past_refused c.args.form.now.head.version c.args.form.now.setup c.args.trace.now.setup c.args.trace.now.events (fields_of c.args.row.now) c.in-Ok.head c.in-Some.event c.in-Err-add.why
     c.requires (sym c.in-Some.ensures) c.in-Ok.ensures.ok c.in-Err-add.ensures.err

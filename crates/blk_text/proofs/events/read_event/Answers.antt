@@ -1,10 +1,17 @@
 use Rattle.std.proofs.Common.{[], refl, sym, subst, arith}
 use Rattle.csv.specs.Records.{fields_of}
+<<<<<<< HEAD
 use Rattle.blk_trace.specs.Seen.{happened}
 use Rattle.blk_lists.specs.Reads.{IsRowOf}
 use Rattle.blk_text.specs.TraceForm.{first_record, plain_event}
 use Rattle.blk_text.specs.declared.heads.Head.TheVariants as head
 use Rattle.blk_lists.proofs.Reading.{hand_reads}
+=======
+use Rattle.blk_text.specs.Reads.{IsRowOf}
+use Rattle.blk_text.specs.TraceForm.{first_record, plain_event}
+use Rattle.blk_trace.specs.declared.event.Event.TheVariants as head
+use Rattle.blk_text.proofs.Reading.{hand_reads}
+>>>>>>> events-b
 use Rattle.blk_text.proofs.EventLaws.{head_fails, alone_line, release_count, join_count, release_reads, join_reads, release_fits, join_fits, release_size, join_size, group_fails}
 use Rattle.blk_text.proofs.events.read_event.Goals as goal
 
@@ -14,12 +21,12 @@ returns-in-Err-clause-err g c =
 
 pub returns-in-Some-clause-ok : goal.returns-in-Some-clause-ok
 returns-in-Some-clause-ok g c =
-    hand_reads (plain_event c.args.form.version c.args.limits) c.args.records.now.left c.args.records.now.fields (happened c.in-Some.event)
-    (alone_line c.args.form.version c.args.limits c.in-Ok.head (happened c.in-Some.event) c.args.records.now.fields (sym c.in-Some.ensures) (rw c.row.ensures at c.in-Ok.ensures.ok))
+    hand_reads (plain_event c.args.form.version c.args.limits) c.args.records.now.left c.args.records.now.fields c.in-Some.event
+    (alone_line c.args.form.version c.args.limits c.in-Ok.head c.in-Some.event c.args.records.now.fields (sym c.in-Some.ensures) (rw c.row.ensures at c.in-Ok.ensures.ok))
 
 pub returns-in-Some-clause-fits : goal.returns-in-Some-clause-fits
 returns-in-Some-clause-fits g c =
-    (alone_line c.args.form.version c.args.limits c.in-Ok.head (happened c.in-Some.event) c.args.records.now.fields (sym c.in-Some.ensures) (rw c.row.ensures at c.in-Ok.ensures.ok) []).fits
+    (alone_line c.args.form.version c.args.limits c.in-Ok.head c.in-Some.event c.args.records.now.fields (sym c.in-Some.ensures) (rw c.row.ensures at c.in-Ok.ensures.ok) []).fits
 
 pub read_group-requires-clause-some : goal.read_group-requires-clause-some
 read_group-requires-clause-some g c = release_count c.args.form.version c.in-Release.id c.in-Release.bios (fields_of c.row.result.now) c.in-Ok.head c.in-Release.is c.in-Ok.ensures.ok

@@ -1,6 +1,6 @@
 use Rattle.std.proofs.Common.{refl, get_or, arith}
 use Rattle.csv.specs.Records.{fields_of}
-use Rattle.blk_text.specs.declared.heads.Head.TheVariants as head
+use Rattle.blk_trace.specs.declared.event.Event.TheVariants as head
 use Rattle.blk_text.specs.declared.heads.EventWord.TheVariants as word
 use Rattle.blk_text.proofs.HeadLaws.{head_line, head_spells}
 use Rattle.blk_text.proofs.heads.head_of.Goals as goal

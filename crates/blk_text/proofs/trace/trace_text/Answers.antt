@@ -1,5 +1,4 @@
 use Rattle.std.proofs.Common.{◌∷◌, [], length, arith}
-use Rattle.blk_trace.specs.Seen.{happened}
 use Rattle.blk_text.specs.SetupRecord.{setup_row}
 use Rattle.blk_text.specs.TraceRecords.{event_rows, title_row, EventFits}
 use Rattle.blk_lists.proofs.DraftLemmas.{one_more, two_first}
@@ -14,14 +13,14 @@ loop-i-init g c =
     record {
       text = two_first (title_row c.args.trace.now.setup (length c.events-events.result.now)) (setup_row c.args.trace.now.setup ∷ []) (drafted c.new-draft.result) (drafted c.push_title.new.draft) (drafted c.push_setup.new.draft)
           c.new-draft.ensures (rw setup at c.in_ok-push_title.ensures.text) (rw setup at c.in_ok-push_setup.ensures.text);
-      fits = All-nil (λ e. EventFits (happened e));
+      fits = All-nil EventFits;
     }
 
 pub loop-i-preserved : goal.loop-i-preserved
 loop-i-preserved g c = record {
-  text = one_more (λ e. event_rows (happened e)) [] (title_row c.args.trace.now.setup (length c.events-events.result.now) ∷ setup_row c.args.trace.now.setup ∷ []) c.events-events.result.now c.loop-i.i c.index-events-i.result
+  text = one_more event_rows [] (title_row c.args.trace.now.setup (length c.events-events.result.now) ∷ setup_row c.args.trace.now.setup ∷ []) c.events-events.result.now c.loop-i.i c.index-events-i.result
       (drafted c.loop-i.draft) (drafted c.push_event.new.draft) c.loop-i-test.true c.index-events-i.is c.loop-i.invariant.text c.in_ok-push_event.ensures.text;
-  fits = one_fits (λ e. EventFits (happened e)) c.events-events.result.now c.loop-i.i c.index-events-i.result c.loop-i-test.true c.index-events-i.is c.loop-i.invariant.fits c.in_ok-push_event.ensures.fits;
+  fits = one_fits EventFits c.events-events.result.now c.loop-i.i c.index-events-i.result c.loop-i-test.true c.index-events-i.is c.loop-i.invariant.fits c.in_ok-push_event.ensures.fits;
 }
 
 pub returns-clause-text : goal.returns-clause-text

@@ -1,6 +1,5 @@
 use Rattle.std.proofs.Common.{[], ◌∷◌, length, take}
 use Rattle.std.specs.Prelude.{All}
-use Rattle.blk_trace.specs.Seen.{happened}
 use Rattle.blk_text.specs.SetupRecord.{setup_row}
 use Rattle.blk_text.specs.TraceRecords.{event_rows, title_row, EventFits}
 use Rattle.blk_lists.proofs.DraftLemmas.{IsSoFar}
@@ -9,6 +8,6 @@ use Rattle.blk_text.proofs.trace.trace_text.Given as goal
 
 abbrev pub invariant-loop-i : goal.invariant-loop-i
 invariant-loop-i g l = record {
-  text : IsSoFar (λ e. event_rows (happened e)) [] (title_row l.fn.trace.setup (length l.events) ∷ setup_row l.fn.trace.setup ∷ []) l.events l.i (drafted l.draft);
-  fits : All (λ e. EventFits (happened e)) (take l.i l.events);
+  text : IsSoFar event_rows [] (title_row l.fn.trace.setup (length l.events) ∷ setup_row l.fn.trace.setup ∷ []) l.events l.i (drafted l.draft);
+  fits : All EventFits (take l.i l.events);
 }

@@ -1,4 +1,3 @@
-use Rattle.blk_trace.specs.Seen.{happened}
 use Rattle.blk_text.proofs.EventLaws.{event_fails, refused_fails}
 use Rattle.blk_text.proofs.events.EventFormItemForm.read.Goals as goal
 
@@ -8,5 +7,5 @@ returns-in-Err-clause-err g c =
 
 pub returns-in-Err-add-clause-err : goal.returns-in-Err-add-clause-err
 returns-in-Err-add-clause-err g c =
-    refused_fails c.args.self.now.head.version c.args.self.now.setup c.args.items.now.setup c.args.items.now.events _ c.args.records.now.left _ c.args.records.now.fields (happened c.in-Ok.event) c.args.records.now.at c.at-at.result c.in-Err-add.why
+    refused_fails c.args.self.now.head.version c.args.self.now.setup c.args.items.now.setup c.args.items.now.events _ c.args.records.now.left _ c.args.records.now.fields c.in-Ok.event c.args.records.now.at c.at-at.result c.in-Err-add.why
     c.requires.suits (rw c.limits.ensures at c.in-Ok.ensures.ok) c.in-Err-add.ensures.err c.at-at.ensures

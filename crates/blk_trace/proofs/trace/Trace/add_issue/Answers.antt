@@ -1,18 +1,21 @@
-use Rattle.std.proofs.Common.{◌≡◌, ◌<◌, ◌+◌, ◌++◌, ◌∙◌, ℕ, List, [], ◌∷◌, map, length, length-append, ap, sym, arith, subst, refl}
+use Rattle.std.proofs.Common.{◌≡◌, ◌<◌, ◌+◌, ◌++◌, ◌∙◌, ℕ, List, [], ◌∷◌, length, length-append, ap, sym, arith, subst, refl}
 use Rattle.std.specs.Prelude.{nat_eq}
-use Rattle.std.proofs.lemmas.List.{map-append}
 use Rattle.std.specs.HashMap as hash
 use Rattle.edd_check.specs.declared.Command.{Command}
+<<<<<<< HEAD
 use Rattle.blk_trace.specs.declared.event.Event.TheVariants.{Issue}
 use Rattle.blk_bio.specs.declared.rule.TraceRule.TheVariants as rule
 use Rattle.blk_trace.specs.Happened.{Happened, Issued}
+=======
+use Rattle.blk_trace.specs.declared.rule.TraceRule.TheVariants as rule
+use Rattle.blk_trace.specs.Happened.{Happened, Issue}
+>>>>>>> events-b
 use Rattle.blk_trace.specs.Events.{round_of}
 use Rattle.blk_trace.specs.Depths.{depth_now}
 use Rattle.blk_trace.specs.Legal.{IsLegalTrace}
 use Rattle.blk_trace.specs.Rules.{IsUnbroken}
 use Rattle.blk_trace.proofs.Pushing.{push_legal}
 use Rattle.blk_trace.specs.Traces.{Traced, IsPreparedFor}
-use Rattle.blk_trace.specs.Seen.{happened}
 use Rattle.blk_trace.proofs.Knowing.{known_when, known_rounds}
 use Rattle.blk_trace.proofs.Depths.{depth_now_is}
 use Rattle.blk_trace.proofs.Capacities.{depth_few, depths_kept}
@@ -22,32 +25,32 @@ use Rattle.blk_trace.proofs.trace.Trace.add_issue.Goals as goal
 pub issued-command-requires : goal.issued-command-requires
 issued-command-requires g c =
     let s = c.self.inside in
-    let es : List Happened = map happened c.self.inside.events.items in
-    let all : IsUnbroken s.setup es (Issued c.args.id c.args.tag) = subst (λ (v : Traced). IsUnbroken v.setup v.events (Issued c.args.id c.args.tag)) (sym c.self.view_is) c.requires.unbroken in
+    let es : List Happened = c.self.inside.events.items in
+    let all : IsUnbroken s.setup es (Issue c.args.id c.args.tag) = subst (λ (v : Traced). IsUnbroken v.setup v.events (Issue c.args.id c.args.tag)) (sym c.self.view_is) c.requires.unbroken in
     let p = known_when s.setup es c.args.id (all rule.Unknown) (all rule.AlreadyIssued) in
     (p.0, (p.1.0, c.self.invariant.0.known_are c.args.id ∙ p.1.1, p.1.2))
 
 pub index_mut-requires : goal.index_mut-requires
 index_mut-requires g c =
     let s = c.self.inside in
-    let es : List Happened = map happened c.self.inside.events.items in
+    let es : List Happened = c.self.inside.events.items in
     let k = c.self.invariant.0 in
     let room = c.self.invariant.1 in
-    let all : IsUnbroken s.setup es (Issued c.args.id c.args.tag) = subst (λ (v : Traced). IsUnbroken v.setup v.events (Issued c.args.id c.args.tag)) (sym c.self.view_is) c.requires.unbroken in
+    let all : IsUnbroken s.setup es (Issue c.args.id c.args.tag) = subst (λ (v : Traced). IsUnbroken v.setup v.events (Issue c.args.id c.args.tag)) (sym c.self.view_is) c.requires.unbroken in
     let below : c.args.tag < depth_now s.setup es = all rule.TagRange in
     omega (arith, below, depth_now_is s.setup es, depth_few s.setup es (round_of es) k.legal, k.each_tag, s.tags.ok.0)
 
 pub invariant_of-self : goal.invariant_of-self
 invariant_of-self g c =
     let s = c.self.inside in
-    let es : List Happened = map happened c.self.inside.events.items in
+    let es : List Happened = c.self.inside.events.items in
     let k = c.self.invariant.0 in
     let room = c.self.invariant.1 in
-    let all : IsUnbroken s.setup es (Issued c.args.id c.args.tag) = subst (λ (v : Traced). IsUnbroken v.setup v.events (Issued c.args.id c.args.tag)) (sym c.self.view_is) c.requires.unbroken in
-    let ready : IsPreparedFor s.prepared (Issued c.args.id c.args.tag) = subst (λ (v : Traced). IsPreparedFor v.prepared (Issued c.args.id c.args.tag)) (sym c.self.view_is) c.requires.prepared in
+    let all : IsUnbroken s.setup es (Issue c.args.id c.args.tag) = subst (λ (v : Traced). IsUnbroken v.setup v.events (Issue c.args.id c.args.tag)) (sym c.self.view_is) c.requires.unbroken in
+    let ready : IsPreparedFor s.prepared (Issue c.args.id c.args.tag) = subst (λ (v : Traced). IsPreparedFor v.prepared (Issue c.args.id c.args.tag)) (sym c.self.view_is) c.requires.prepared in
     let was = c.issued-command.ensures.was in
     let p = known_rounds s.setup es c.args.id was.0 (c.issued-command.result.release, c.issued-command.result.due) (sym (k.known_are c.args.id) ∙ was.1) was.2 in
-    let hz : map happened c.append-3.new.list.items ≡ es ++ (Issued c.args.id c.args.tag) ∷ [] = ap (map happened) c.append-3.ensures.items ∙ map-append happened s.events.items (Issue c.args.id c.args.tag ∷ []) in
+    let hz : c.append-3.new.list.items ≡ es ++ (Issue c.args.id c.args.tag) ∷ [] = c.append-3.ensures.items in
     let n : length c.append-3.new.list.items ≡ length s.events.items + 1 = ap length c.append-3.ensures.items ∙ length-append s.events.items (Issue c.args.id c.args.tag ∷ []) in
     let release : c.issued-command.result.release ≡ p.0.release = ap (λ (x : ℕ × ℕ). x.0) p.2 in
     let due : c.issued-command.result.due ≡ p.0.due = ap (λ (x : ℕ × ℕ). x.1) p.2 in
@@ -56,7 +59,7 @@ invariant_of-self g c =
     let hd : c.append.new.list.items ≡ s.commands.items ++ (let y : Command = record { id = c.args.id; release = p.0.release; due = p.0.due } in y) ∷ [] = c.append.ensures.items ∙ ap (λ (y : Command). s.commands.items ++ y ∷ []) same in
     let hc : length c.append.new.list.items ≡ length s.commands.items + 1 = ap length c.append.ensures.items ∙ length-append s.commands.items _ in
     let hr : length c.append-2.new.list.items ≡ length s.rounds.items + 1 = ap length c.append-2.ensures.items ∙ length-append s.rounds.items _ in
-    (kept_issue _ es _ c.args.id c.args.tag p.0 _ _ _ _ _ _ (hash.get nat_eq s.known) _ _ s.tags.items k all hz p.1 hd c.append-2.ensures.items c.issued-command.ensures.gone, room_after_issue s.prepared c.args.id c.args.tag _ _ _ _ _ _ _ _ _ _ _ _ _ _ _ _ ready room n hc hr c.append-3.ensures.room c.append.ensures.room c.append-2.ensures.room, depths_kept s.setup es _ (Issued c.args.id c.args.tag) s.depth s.next_depth c.self.invariant.2 refl refl hz)
+    (kept_issue _ es _ c.args.id c.args.tag p.0 _ _ _ _ _ _ (hash.get nat_eq s.known) _ _ s.tags.items k all hz p.1 hd c.append-2.ensures.items c.issued-command.ensures.gone, room_after_issue s.prepared c.args.id c.args.tag _ _ _ _ _ _ _ _ _ _ _ _ _ _ _ _ ready room n hc hr c.append-3.ensures.room c.append.ensures.room c.append-2.ensures.room, depths_kept s.setup es _ (Issue c.args.id c.args.tag) s.depth s.next_depth c.self.invariant.2 refl refl hz)
 
 pub returns-clause-legal : goal.returns-clause-legal
 returns-clause-legal g c = push_legal _ _ _ (subst (λ (v : Traced). IsLegalTrace v.setup v.events) c.self.view_is c.self.invariant.0.legal) c.requires.unbroken tt

@@ -1,15 +1,12 @@
-use Rattle.std.proofs.Common.{◌≡◌, ◌+◌, ◌++◌, ◌∙◌, List, [], ◌∷◌, map, length, length-append, ap, sym, arith, subst}
+use Rattle.std.proofs.Common.{◌≡◌, ◌+◌, ◌++◌, ◌∙◌, List, [], ◌∷◌, length, length-append, ap, sym, arith, subst}
 use Rattle.std.specs.Prelude.{replicate}
-use Rattle.std.proofs.lemmas.List.{map-append}
 use Rattle.std.specs.Vec.{vec_len}
 use Rattle.blk_trace.specs.declared.tags.TagUse.TheVariants.{Free}
-use Rattle.blk_trace.specs.declared.event.Event.TheVariants.{Tick}
-use Rattle.blk_trace.specs.Happened.{Happened, Ticked}
+use Rattle.blk_trace.specs.Happened.{Happened, Tick}
 use Rattle.blk_trace.specs.Legal.{IsLegalTrace}
 use Rattle.blk_trace.specs.Rules.{IsUnbroken}
 use Rattle.blk_trace.proofs.Pushing.{push_legal}
 use Rattle.blk_trace.specs.Traces.{Traced, IsPreparedFor}
-use Rattle.blk_trace.specs.Seen.{happened}
 use Rattle.blk_trace.proofs.More.{rounds_within}
 use Rattle.blk_trace.proofs.Capacities.{depths_ticked}
 use Rattle.blk_trace.proofs.Keeping.{kept_tick, room_after_tick}
@@ -17,17 +14,17 @@ use Rattle.blk_trace.proofs.trace.Trace.add_tick.Goals as goal
 
 pub overflow_add-self : goal.overflow_add-self
 overflow_add-self g c =
-    omega (arith, c.self.invariant.0.round_is, rounds_within (map happened c.self.inside.events.items), c.self.invariant.0.legal.not_too_long)
+    omega (arith, c.self.invariant.0.round_is, rounds_within c.self.inside.events.items, c.self.invariant.0.legal.not_too_long)
 
 pub invariant_of-self : goal.invariant_of-self
 invariant_of-self g c =
     let s = c.self.inside in
-    let es : List Happened = map happened c.self.inside.events.items in
+    let es : List Happened = c.self.inside.events.items in
     let k = c.self.invariant.0 in
     let room = c.self.invariant.1 in
-    let all : IsUnbroken s.setup es Ticked = subst (λ (v : Traced). IsUnbroken v.setup v.events Ticked) (sym c.self.view_is) c.requires.unbroken in
-    let ready : IsPreparedFor s.prepared Ticked = subst (λ (v : Traced). IsPreparedFor v.prepared Ticked) (sym c.self.view_is) c.requires.prepared in
-    let hz : map happened c.append.new.list.items ≡ es ++ Ticked ∷ [] = ap (map happened) c.append.ensures.items ∙ map-append happened s.events.items (Tick ∷ []) in
+    let all : IsUnbroken s.setup es Tick = subst (λ (v : Traced). IsUnbroken v.setup v.events Tick) (sym c.self.view_is) c.requires.unbroken in
+    let ready : IsPreparedFor s.prepared Tick = subst (λ (v : Traced). IsPreparedFor v.prepared Tick) (sym c.self.view_is) c.requires.prepared in
+    let hz : c.append.new.list.items ≡ es ++ Tick ∷ [] = c.append.ensures.items in
     let n : length c.append.new.list.items ≡ length s.events.items + 1 = ap length c.append.ensures.items ∙ length-append s.events.items (Tick ∷ []) in
     let ht : c.fill.new.self.items ≡ replicate (length s.tags.items) Free = c.fill.ensures.items (λ y h. h) ∙ ap (λ m. replicate m Free) (let e : vec_len s.tags ≡ length s.tags.items = omega (arith, s.tags.ok.0) in e) in
     (kept_tick _ es _ _ _ _ _ _ _ s.tags.items _ k all hz ht, room_after_tick s.prepared _ _ _ _ _ _ _ _ _ _ _ ready room n c.append.ensures.room, depths_ticked s.setup es _ s.depth s.next_depth c.self.invariant.2 hz)

@@ -2,7 +2,7 @@ use Rattle.std.proofs.Common.{refl, ◌∙◌, ap, sym, subst}
 use Rattle.blk_bio.specs.Requests.{IsWithin}
 use Rattle.blk_trace.proofs.Asked.{holds, fails, no_some, is_there}
 use Rattle.blk_trace.proofs.Knowing.{known_none, known_some}
-use Rattle.blk_trace.specs.Happened.{Released}
+use Rattle.blk_trace.specs.Happened.{Release}
 use Rattle.blk_trace.proofs.Room.{room_kept, full_kept}
 use Rattle.blk_trace.proofs.First.{release_released_twice, release_bio_twice, release_fit, release_too_long, release_unbroken}
 use Rattle.blk_trace.specs.Setups.{Setup}
@@ -23,8 +23,8 @@ returns-then-not-within-clause-some g c =
 
 pub returns-then-not-has_places-clause-some : goal.returns-then-not-has_places-clause-some
 returns-then-not-has_places-clause-some g c =
-    release_too_long c.args.self.now.setup c.args.self.now.events c.args.id c.args.request.now (known_none c.args.self.now.setup c.args.self.now.events c.args.id (sym c.known_at.ensures.value ∙ no_some c.known_at.result (sym c.is_some.ensures ∙ c.if-is_some.false))) (holds c.are_new.result c.if-not-are_new.false c.are_new.ensures) (subst (λ l. IsWithin l c.args.request.now) (c.limits.ensures ∙ ap (λ (s : Setup). s.limits) c.setup.ensures) (holds c.within.result c.if-not-within.false c.within.ensures)) (full_kept c.args.self.now.setup c.args.self.now.events (Released c.args.id c.args.request.now) refl refl (fails c.has_places.result c.if-not-has_places.true c.has_places.ensures))
+    release_too_long c.args.self.now.setup c.args.self.now.events c.args.id c.args.request.now (known_none c.args.self.now.setup c.args.self.now.events c.args.id (sym c.known_at.ensures.value ∙ no_some c.known_at.result (sym c.is_some.ensures ∙ c.if-is_some.false))) (holds c.are_new.result c.if-not-are_new.false c.are_new.ensures) (subst (λ l. IsWithin l c.args.request.now) (c.limits.ensures ∙ ap (λ (s : Setup). s.limits) c.setup.ensures) (holds c.within.result c.if-not-within.false c.within.ensures)) (full_kept c.args.self.now.setup c.args.self.now.events (Release c.args.id c.args.request.now) refl refl (fails c.has_places.result c.if-not-has_places.true c.has_places.ensures))
 
 pub returns-else-not-has_places-clause-none : goal.returns-else-not-has_places-clause-none
 returns-else-not-has_places-clause-none g c =
-    release_unbroken c.args.self.now.setup c.args.self.now.events c.args.id c.args.request.now (known_none c.args.self.now.setup c.args.self.now.events c.args.id (sym c.known_at.ensures.value ∙ no_some c.known_at.result (sym c.is_some.ensures ∙ c.if-is_some.false))) (holds c.are_new.result c.if-not-are_new.false c.are_new.ensures) (subst (λ l. IsWithin l c.args.request.now) (c.limits.ensures ∙ ap (λ (s : Setup). s.limits) c.setup.ensures) (holds c.within.result c.if-not-within.false c.within.ensures)) (room_kept c.args.self.now.setup c.args.self.now.events (Released c.args.id c.args.request.now) refl refl (holds c.has_places.result c.if-not-has_places.false c.has_places.ensures))
+    release_unbroken c.args.self.now.setup c.args.self.now.events c.args.id c.args.request.now (known_none c.args.self.now.setup c.args.self.now.events c.args.id (sym c.known_at.ensures.value ∙ no_some c.known_at.result (sym c.is_some.ensures ∙ c.if-is_some.false))) (holds c.are_new.result c.if-not-are_new.false c.are_new.ensures) (subst (λ l. IsWithin l c.args.request.now) (c.limits.ensures ∙ ap (λ (s : Setup). s.limits) c.setup.ensures) (holds c.within.result c.if-not-within.false c.within.ensures)) (room_kept c.args.self.now.setup c.args.self.now.events (Release c.args.id c.args.request.now) refl refl (holds c.has_places.result c.if-not-has_places.false c.has_places.ensures))

@@ -1,7 +1,6 @@
-use Rattle.std.proofs.Common.{◌≡◌, ◌∙◌, ◌++◌, [], sym, subst, map, take, true}
+use Rattle.std.proofs.Common.{◌≡◌, ◌∙◌, ◌++◌, [], sym, subst, take, true}
 use Rattle.std.specs.Prelude.{◌||◌}
 use Rattle.blk_trace.specs.Events.{entered, AreOnce}
-use Rattle.blk_trace.specs.Seen.{happened}
 use Rattle.blk_trace.specs.Traces.{Traced}
 use Rattle.blk_trace.specs.Inside.Kept.{has_bio_id}
 use Rattle.blk_trace.proofs.Newness.{once_first, once_next, once_whole, first_at, seen_before, seen_earlier, not_before}
@@ -22,7 +21,7 @@ returns-then-has_bio-clause-some g c =
 pub loop-place-init : goal.loop-place-init
 loop-place-init g c =
     let P : Traced → Type 0 = λ v. AreOnce (entered v.events ++ []) in
-    let inner : P record { setup = c.self.inside.setup; events = map happened c.self.inside.events.items; prepared = c.self.inside.prepared } = once_first (entered (map happened c.self.inside.events.items)) c.self.invariant.0.legal.bios_once in
+    let inner : P record { setup = c.self.inside.setup; events = c.self.inside.events.items; prepared = c.self.inside.prepared } = once_first (entered c.self.inside.events.items) c.self.invariant.0.legal.bios_once in
     subst P c.self.view_is inner
 
 pub loop-place-preserved : goal.loop-place-preserved

@@ -1,13 +1,12 @@
-use Rattle.std.proofs.Common.{◌≡◌, ◌↔◌, ◌∙◌, List, IsTrue, Bool, true, false, map, ap, sym, subst, refl}
+use Rattle.std.proofs.Common.{◌≡◌, ◌↔◌, ◌∙◌, List, IsTrue, Bool, true, false, ap, sym, subst, refl}
 use Rattle.std.specs.Prelude.{is_some, not}
 use Rattle.std.specs.List.{list_any}
 use Rattle.edd_check.specs.Capacity.{fixed}
 use Rattle.blk_trace.specs.Happened.{Happened}
 use Rattle.blk_trace.specs.Kinds.{sets_depth}
 use Rattle.blk_trace.specs.Depths.{IsFixed, capacity_of}
-use Rattle.blk_trace.specs.Seen.{happened}
 use Rattle.blk_trace.specs.Traces.{Traced}
-use Rattle.blk_trace.proofs.Changes.{any_mapped, is_fixed, fixed_none, capacity_fixed}
+use Rattle.blk_trace.proofs.Changes.{is_fixed, fixed_none, capacity_fixed}
 use Rattle.blk_trace.proofs.trace.Trace.fixed.Goals as goal
 
 none_set : (b : Bool) → not b ≡ true → b ≡ false
@@ -20,8 +19,8 @@ none_back false h = refl
 
 pub returns-clause-exactly : goal.returns-clause-exactly
 returns-clause-exactly g c =
-    let es : List Happened = map happened c.self.inside.events.items in
-    let told : c.any_sets.result ≡ list_any (λ e. is_some (sets_depth e)) es = c.any_sets.ensures ∙ any_mapped happened c.as_slice.result.now ∙ ap (λ l. list_any (λ e. is_some (sets_depth e)) (map happened l)) c.as_slice.ensures.value in
+    let es : List Happened = c.self.inside.events.items in
+    let told : c.any_sets.result ≡ list_any (λ e. is_some (sets_depth e)) es = c.any_sets.ensures ∙ ap (list_any (λ e. is_some (sets_depth e))) c.as_slice.ensures.value in
     let P : Traced → Type 0 = λ v. IsTrue (not c.any_sets.result) ↔ IsFixed v.events in
     let inner : P record { setup = c.self.inside.setup; events = es; prepared = c.self.inside.prepared } = (
       λ t. is_fixed es (sym told ∙ none_set c.any_sets.result t),
@@ -31,8 +30,8 @@ returns-clause-exactly g c =
 
 pub returns-clause-one_depth : goal.returns-clause-one_depth
 returns-clause-one_depth g c =
-    let es : List Happened = map happened c.self.inside.events.items in
-    let told : c.any_sets.result ≡ list_any (λ e. is_some (sets_depth e)) es = c.any_sets.ensures ∙ any_mapped happened c.as_slice.result.now ∙ ap (λ l. list_any (λ e. is_some (sets_depth e)) (map happened l)) c.as_slice.ensures.value in
+    let es : List Happened = c.self.inside.events.items in
+    let told : c.any_sets.result ≡ list_any (λ e. is_some (sets_depth e)) es = c.any_sets.ensures ∙ ap (list_any (λ e. is_some (sets_depth e))) c.as_slice.ensures.value in
     let P : Traced → Type 0 = λ v. IsTrue (not c.any_sets.result) → capacity_of v.setup v.events ≡ fixed v.setup.depth in
     let inner : P record { setup = c.self.inside.setup; events = es; prepared = c.self.inside.prepared } = λ t. capacity_fixed c.self.inside.setup es (is_fixed es (sym told ∙ none_set c.any_sets.result t)) in
     subst P c.self.view_is inner

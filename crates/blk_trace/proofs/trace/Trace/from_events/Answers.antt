@@ -1,8 +1,6 @@
-use Rattle.std.proofs.Common.{◌≡◌, ◌++◌, ◌∷◌, [], length, List, ap, sym, refl, ◌∙◌, subst, append-nil, arith, map}
-use Rattle.std.proofs.lemmas.List.{map-append}
+use Rattle.std.proofs.Common.{◌≡◌, ◌++◌, ◌∷◌, [], length, List, ap, sym, refl, ◌∙◌, subst, append-nil, arith}
 use Rattle.std.specs.Vec.Iter.{into_iter_items}
 use Rattle.blk_trace.specs.Happened.{Happened}
-use Rattle.blk_trace.specs.Seen.{happened}
 use Rattle.blk_trace.specs.Legal.{IsLegalTrace}
 use Rattle.blk_trace.proofs.Reading.{refused_at, not_legal}
 use Rattle.blk_trace.proofs.trace.Trace.from_events.Goals as goal
@@ -11,14 +9,14 @@ pub returns-in-Err-default-Rule-clause-answer : goal.returns-in-Err-default-Rule
 returns-in-Err-default-Rule-clause-answer g c =
     let i = c.loop-event.invariant in
     let told = rw c.in-Err-default-Rule.field-0-1-is at c.in-Err-default-Rule.ensures.answer in
-    refused_at c.args.setup _ (map happened c.args.events.items) _ (map happened c.loop-event.yielded) _ (happened c.in-Some.event) _ c.in-Err-default-Rule.rule i.setup_same i.events_same i.legal (ap (map happened) (i.rest ∙ ap (λ l. c.loop-event.yielded ++ l) c.in-Some.ensures.steps.0) ∙ map-append happened c.loop-event.yielded _) c.len-at.ensures.value told.1
+    refused_at c.args.setup _ c.args.events.items _ c.loop-event.yielded _ c.in-Some.event _ c.in-Err-default-Rule.rule i.setup_same i.events_same i.legal ((i.rest ∙ ap (λ l. c.loop-event.yielded ++ l) c.in-Some.ensures.steps.0)) c.len-at.ensures.value told.1
 
 pub returns-in-Err-default-Rule-clause-accepts : goal.returns-in-Err-default-Rule-clause-accepts
 returns-in-Err-default-Rule-clause-accepts g c =
     λ legal.
     let i = c.loop-event.invariant in
     let told = rw c.in-Err-default-Rule.field-0-1-is at c.in-Err-default-Rule.ensures.answer in
-    absurd (not_legal c.args.setup _ (map happened c.args.events.items) _ (map happened c.loop-event.yielded) _ (happened c.in-Some.event) c.in-Err-default-Rule.rule i.setup_same i.events_same (ap (map happened) (i.rest ∙ ap (λ l. c.loop-event.yielded ++ l) c.in-Some.ensures.steps.0) ∙ map-append happened c.loop-event.yielded _) told.1 legal)
+    absurd (not_legal c.args.setup _ c.args.events.items _ c.loop-event.yielded _ c.in-Some.event c.in-Err-default-Rule.rule i.setup_same i.events_same ((i.rest ∙ ap (λ l. c.loop-event.yielded ++ l) c.in-Some.ensures.steps.0)) told.1 legal)
 
 nothing : {X : Type 0} (xs : List X) → length xs ≡ 0 → xs ≡ []
 nothing [] h = refl
@@ -30,4 +28,4 @@ returns-clause-answer g c =
     let h = c.in-None.ensures.steps.0 in
     let none : into_iter_items c.loop-event.event-iterator ≡ [] = nothing _ (omega (arith, h, c.loop-event.event-iterator.rest.ok.0)) in
     let whole : c.args.events.items ≡ c.loop-event.yielded = i.rest ∙ ap (λ l. c.loop-event.yielded ++ l) none ∙ append-nil c.loop-event.yielded in
-    (i.setup_same, i.events_same ∙ ap (map happened) (sym whole), subst (λ (l : List Happened). IsLegalTrace c.args.setup l) (ap (map happened) (sym whole)) i.legal)
+    (i.setup_same, i.events_same ∙ (sym whole), subst (λ (l : List Happened). IsLegalTrace c.args.setup l) ((sym whole)) i.legal)
