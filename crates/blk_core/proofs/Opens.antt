@@ -13,7 +13,7 @@ use Rattle.blk_bio.specs.Requests.{dir_of}
 use Rattle.blk_bio.specs.declared.rule.TraceRule.TheVariants.{TagUsed, InFlight, Unknown, AlreadyIssued}
 use Rattle.blk_trace.specs.Happened.{Happened, Ticked, Released, Joined, Issued, Finished, Returned, DepthSet}
 =======
-use Rattle.blk_trace.specs.declared.rule.TraceRule.TheVariants.{TagUsed, InFlight, Unknown, AlreadyIssued}
+use Rattle.blk_bio.specs.declared.rule.TraceRule.TheVariants.{TagUsed, InFlight, Unknown, AlreadyIssued}
 use Rattle.blk_trace.specs.Happened.{Happened}
 use Rattle.blk_trace.specs.declared.event.Event.TheVariants.{Tick, Release, Join, Issue as Issued, Done, Back, Depth}
 >>>>>>> events-b

@@ -6,7 +6,7 @@ use Rattle.blk_bio.specs.Bios.{Bio}
 use Rattle.blk_bio.specs.declared.rule.TraceRule.TheVariants.{ReleasedTwice, AlreadyIssued}
 use Rattle.blk_trace.specs.Happened.{Happened, Ticked, Released, Joined, Issued, Finished, Returned, DepthSet}
 =======
-use Rattle.blk_trace.specs.declared.rule.TraceRule.TheVariants.{ReleasedTwice, AlreadyIssued}
+use Rattle.blk_bio.specs.declared.rule.TraceRule.TheVariants.{ReleasedTwice, AlreadyIssued}
 use Rattle.blk_trace.specs.Happened.{Happened}
 use Rattle.blk_trace.specs.declared.event.Event.TheVariants.{Tick, Release, Join, Issue, Done, Back, Depth}
 >>>>>>> events-b

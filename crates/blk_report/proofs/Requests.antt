@@ -17,7 +17,7 @@ use Rattle.blk_bio.proofs.Tiles.{fills}
 use Rattle.blk_bio.specs.declared.rule.TraceRule.TheVariants.{Fit}
 use Rattle.blk_trace.specs.Happened.{Happened, Released, Joined}
 =======
-use Rattle.blk_trace.specs.declared.rule.TraceRule.TheVariants.{Fit}
+use Rattle.blk_bio.specs.declared.rule.TraceRule.TheVariants.{Fit}
 use Rattle.blk_trace.specs.Happened.{Happened}
 use Rattle.blk_trace.specs.declared.event.Event.TheVariants.{Release, Join}
 >>>>>>> events-b

@@ -25,9 +25,9 @@ use Rattle.blk_lists.specs.declared.fields.Slot.TheVariants as slot
 use Rattle.blk_text.specs.declared.heads.Head.{Head}
 use Rattle.blk_text.specs.declared.heads.Head.TheVariants as head
 =======
-use Rattle.blk_text.specs.declared.fault.Why.{Why}
-use Rattle.blk_text.specs.declared.fault.Why.TheVariants as why
-use Rattle.blk_text.specs.declared.fields.Slot.TheVariants as slot
+use Rattle.blk_lists.specs.declared.fault.Why.{Why}
+use Rattle.blk_lists.specs.declared.fault.Why.TheVariants as why
+use Rattle.blk_lists.specs.declared.fields.Slot.TheVariants as slot
 use Rattle.blk_text.specs.TraceForm.{Head}
 use Rattle.blk_trace.specs.declared.event.Event.TheVariants as head
 >>>>>>> events-b

@@ -31,9 +31,9 @@ use Rattle.blk_lists.specs.declared.fault.Why.TheVariants as why
 use Rattle.blk_text.specs.declared.heads.Head.{Head}
 use Rattle.blk_text.specs.declared.heads.Head.TheVariants as head
 =======
-use Rattle.blk_text.specs.declared.fields.TheConstants.{TAG_LIMIT}
-use Rattle.blk_text.specs.declared.fault.Why.{Why}
-use Rattle.blk_text.specs.declared.fault.Why.TheVariants as why
+use Rattle.blk_lists.specs.declared.fields.TheConstants.{TAG_LIMIT}
+use Rattle.blk_lists.specs.declared.fault.Why.{Why}
+use Rattle.blk_lists.specs.declared.fault.Why.TheVariants as why
 >>>>>>> events-b
 use Rattle.blk_text.specs.declared.heads.EventWord.{EventWord}
 use Rattle.blk_text.specs.declared.heads.EventWord.TheVariants as word

@@ -10,8 +10,8 @@ ghost use Rattle.blk_lists.specs.Sources.{Row};
 ghost use Rattle.blk_lists.specs.Reads.{HandReads, HandFails, Fails, IsOutside, AreItems, IsStopped, IsHeldAt, size_of};
 ghost use Rattle.blk_text.specs.TraceForm.{alone as alone_of, refusal_of, IsRefused, plain_event, event as event_part, IsPast, events_of, trace_form, SpellsTrace, TraceFault};
 =======
-ghost use Rattle.blk_text.specs.Sources.{Row};
-ghost use Rattle.blk_text.specs.Reads.{HandReads, HandFails, Fails, IsOutside, AreItems, IsStopped, IsHeldAt, size_of};
+ghost use Rattle.blk_lists.specs.Sources.{Row};
+ghost use Rattle.blk_lists.specs.Reads.{HandReads, HandFails, Fails, IsOutside, AreItems, IsStopped, IsHeldAt, size_of};
 ghost use Rattle.blk_text.specs.TraceForm.{refusal_of, IsRefused, plain_event, event as event_part, IsPast, events_of, trace_form, SpellsTrace, TraceFault};
 >>>>>>> events-b
 ghost use Rattle.blk_text.specs.TraceRecords.{IsTrace, trace_rows};
@@ -27,9 +27,9 @@ use blk_lists::source::Records;
 use blk_bio::{Limits, MAX_QUEUES, MAX_SEGMENTS};
 =======
 use crate::heads::{HeadForm, TraceTitle};
-use crate::items::{ItemForm, LineForm, gather, read_line};
+use blk_lists::items::{ItemForm, LineForm, gather, read_line};
 use crate::setup::{LATEST, SetupForm, most_tags};
-use crate::source::Records;
+use blk_lists::source::Records;
 use blk_bio::{Limits, MAX_QUEUES, MAX_SEGMENTS, Request};
 >>>>>>> events-b
 use blk_trace::{Event, MAX_EVENTS, PushFault, Setup, Trace};

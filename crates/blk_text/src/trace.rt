@@ -7,7 +7,7 @@ ghost use Rattle.blk_trace.specs.Events.{bios_of};
 ghost use Rattle.blk_trace.specs.Seen.{happened};
 ghost use Rattle.blk_lists.specs.Texts.{rows_text};
 =======
-ghost use Rattle.blk_text.specs.Texts.{rows_text};
+ghost use Rattle.blk_lists.specs.Texts.{rows_text};
 >>>>>>> events-b
 ghost use Rattle.drafts.specs.Parts.{AppendsPart};
 ghost use Rattle.blk_text.specs.BioRecord.{bio_row};

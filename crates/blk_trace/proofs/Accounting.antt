@@ -12,7 +12,7 @@ use Rattle.blk_bio.specs.Requests.{first_of, last_of}
 use Rattle.blk_bio.specs.declared.rule.TraceRule.TheVariants.{ReleasedTwice, Unknown, AlreadyIssued, NotIssued}
 use Rattle.blk_trace.specs.Happened.{Happened, Released, Joined, Issued, Returned}
 =======
-use Rattle.blk_trace.specs.declared.rule.TraceRule.TheVariants.{ReleasedTwice, Unknown, AlreadyIssued, NotIssued}
+use Rattle.blk_bio.specs.declared.rule.TraceRule.TheVariants.{ReleasedTwice, Unknown, AlreadyIssued, NotIssued}
 use Rattle.blk_trace.specs.Happened.{Happened, Release, Join, Issue, Back}
 >>>>>>> events-b
 use Rattle.blk_trace.specs.Kinds.{issues, hands_back}

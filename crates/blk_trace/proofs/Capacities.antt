@@ -7,7 +7,7 @@ use Rattle.edd_check.specs.Capacity.{depth_at}
 use Rattle.blk_bio.specs.declared.rule.TraceRule.TheVariants.{DepthRange}
 use Rattle.blk_trace.specs.Happened.{Happened, Ticked, Issued, DepthSet}
 =======
-use Rattle.blk_trace.specs.declared.rule.TraceRule.TheVariants.{DepthRange}
+use Rattle.blk_bio.specs.declared.rule.TraceRule.TheVariants.{DepthRange}
 use Rattle.blk_trace.specs.Happened.{Happened, Tick, Issue, Depth}
 >>>>>>> events-b
 use Rattle.blk_trace.specs.Kinds.{sets_depth, is_tick}

@@ -11,7 +11,7 @@ use Rattle.blk_bio.specs.Requests.{dir_of, first_of, last_of}
 use Rattle.blk_bio.specs.declared.rule.TraceRule.TheVariants.{ReleasedTwice, Unknown, AlreadyIssued, Fit}
 use Rattle.blk_trace.specs.Happened.{Happened, Released, Joined}
 =======
-use Rattle.blk_trace.specs.declared.rule.TraceRule.TheVariants.{ReleasedTwice, Unknown, AlreadyIssued, Fit}
+use Rattle.blk_bio.specs.declared.rule.TraceRule.TheVariants.{ReleasedTwice, Unknown, AlreadyIssued, Fit}
 use Rattle.blk_trace.specs.Happened.{Happened, Release, Join}
 >>>>>>> events-b
 use Rattle.blk_trace.specs.Kinds.{enters, hands_back, enters_under}

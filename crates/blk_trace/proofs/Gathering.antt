@@ -17,7 +17,7 @@ use Rattle.blk_bio.specs.Requests.{first_of, last_of, joined, IsWithin, Fits}
 use Rattle.blk_trace.specs.declared.event.Event.{Event}
 use Rattle.blk_bio.specs.declared.rule.TraceRule.TheVariants.{Unknown, Fit}
 =======
-use Rattle.blk_trace.specs.declared.rule.TraceRule.TheVariants.{Unknown, Fit}
+use Rattle.blk_bio.specs.declared.rule.TraceRule.TheVariants.{Unknown, Fit}
 >>>>>>> events-b
 use Rattle.blk_trace.specs.declared.known.Known.{Known}
 use Rattle.blk_trace.specs.Happened.{Happened, Release, Join}

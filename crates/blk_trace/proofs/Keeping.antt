@@ -20,7 +20,7 @@ use Rattle.blk_trace.specs.declared.trace.Prepared.TheVariants.{Nothing, AnIssue
 use Rattle.blk_bio.specs.declared.rule.TraceRule.TheVariants.{InFlight, NotIssued, Fit}
 use Rattle.blk_trace.specs.Happened.{Happened, Ticked, Released, Joined, Issued, Finished, Returned, DepthSet}
 =======
-use Rattle.blk_trace.specs.declared.rule.TraceRule.TheVariants.{InFlight, NotIssued, Fit}
+use Rattle.blk_bio.specs.declared.rule.TraceRule.TheVariants.{InFlight, NotIssued, Fit}
 use Rattle.blk_trace.specs.Happened.{Happened, Tick, Release, Join, Issue, Done, Back, Depth}
 >>>>>>> events-b
 use Rattle.blk_trace.specs.Kinds.{releases, joins}

@@ -11,7 +11,7 @@ use Rattle.std.proofs.lemmas.Bool.{cases_Bool, or_left, or_right, or_cases, or_p
 use Rattle.blk_bio.specs.declared.rule.TraceRule.TheVariants.{TagUsed, AlreadyIssued, NotIssued}
 use Rattle.blk_trace.specs.Happened.{Happened, Issued, Returned}
 =======
-use Rattle.blk_trace.specs.declared.rule.TraceRule.TheVariants.{TagUsed, AlreadyIssued, NotIssued}
+use Rattle.blk_bio.specs.declared.rule.TraceRule.TheVariants.{TagUsed, AlreadyIssued, NotIssued}
 use Rattle.blk_trace.specs.Happened.{Happened, Issue, Back}
 >>>>>>> events-b
 use Rattle.blk_trace.specs.Kinds.{issues, ends, hands_back, is_done_of, is_tick}

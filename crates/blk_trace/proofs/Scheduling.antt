@@ -9,7 +9,7 @@ use Rattle.edd_check.specs.Schedule.{StartsReleased, places_at}
 use Rattle.blk_bio.specs.declared.rule.TraceRule.TheVariants.{Unknown, AlreadyIssued, NotIssued}
 use Rattle.blk_trace.specs.Happened.{Happened, Ticked, Issued, Returned}
 =======
-use Rattle.blk_trace.specs.declared.rule.TraceRule.TheVariants.{Unknown, AlreadyIssued, NotIssued}
+use Rattle.blk_bio.specs.declared.rule.TraceRule.TheVariants.{Unknown, AlreadyIssued, NotIssued}
 use Rattle.blk_trace.specs.Happened.{Happened, Tick, Issue, Back}
 >>>>>>> events-b
 use Rattle.blk_trace.specs.Setups.{Setup}

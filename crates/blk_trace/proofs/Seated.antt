@@ -8,7 +8,7 @@ use Rattle.blk_bio.specs.Requests.{dir_of}
 use Rattle.blk_bio.specs.declared.rule.TraceRule.TheVariants.{TagUsed, InFlight}
 use Rattle.blk_trace.specs.Happened.{Happened, Ticked, Issued}
 =======
-use Rattle.blk_trace.specs.declared.rule.TraceRule.TheVariants.{TagUsed, InFlight}
+use Rattle.blk_bio.specs.declared.rule.TraceRule.TheVariants.{TagUsed, InFlight}
 use Rattle.blk_trace.specs.Happened.{Happened, Tick, Issue}
 >>>>>>> events-b
 use Rattle.blk_trace.specs.Kinds.{is_tick, issues}

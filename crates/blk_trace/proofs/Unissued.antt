@@ -9,7 +9,7 @@ use Rattle.blk_bio.specs.Requests.{dir_of}
 use Rattle.blk_bio.specs.declared.rule.TraceRule.TheVariants.{ReleasedTwice, AlreadyIssued}
 use Rattle.blk_trace.specs.Happened.{Happened, Ticked, Released, Joined, Issued, Finished, Returned}
 =======
-use Rattle.blk_trace.specs.declared.rule.TraceRule.TheVariants.{ReleasedTwice, AlreadyIssued}
+use Rattle.blk_bio.specs.declared.rule.TraceRule.TheVariants.{ReleasedTwice, AlreadyIssued}
 use Rattle.blk_trace.specs.Happened.{Happened, Tick, Release, Join, Issue, Done, Back}
 >>>>>>> events-b
 use Rattle.blk_trace.specs.Kinds.{releases, joins, issues, hands_back, is_done_of}

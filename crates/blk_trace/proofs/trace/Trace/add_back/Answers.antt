@@ -8,7 +8,7 @@ use Rattle.blk_trace.specs.declared.event.Event.TheVariants.{Back}
 use Rattle.blk_bio.specs.declared.rule.TraceRule.TheVariants as rule
 use Rattle.blk_trace.specs.Happened.{Happened, Returned}
 =======
-use Rattle.blk_trace.specs.declared.rule.TraceRule.TheVariants as rule
+use Rattle.blk_bio.specs.declared.rule.TraceRule.TheVariants as rule
 use Rattle.blk_trace.specs.Happened.{Happened, Back}
 >>>>>>> events-b
 use Rattle.blk_trace.specs.Events.{IsOpen, IsOpenBy}

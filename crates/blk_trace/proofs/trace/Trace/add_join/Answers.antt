@@ -11,7 +11,7 @@ use Rattle.blk_trace.specs.declared.event.Event.TheVariants.{Join}
 use Rattle.blk_bio.specs.declared.rule.TraceRule.TheVariants as rule
 use Rattle.blk_trace.specs.Happened.{Happened, Joined}
 =======
-use Rattle.blk_trace.specs.declared.rule.TraceRule.TheVariants as rule
+use Rattle.blk_bio.specs.declared.rule.TraceRule.TheVariants as rule
 use Rattle.blk_trace.specs.Happened.{Happened, Join}
 >>>>>>> events-b
 use Rattle.blk_trace.specs.Events.{request_of}
