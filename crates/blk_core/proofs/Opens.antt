@@ -9,14 +9,9 @@ use Rattle.blk_bio.specs.Bios.{Bio}
 use Rattle.blk_bio.specs.declared.bio.Dir.{Dir}
 use Rattle.blk_bio.specs.declared.bio.Dir.TheVariants.{Read, Write}
 use Rattle.blk_bio.specs.Requests.{dir_of}
-<<<<<<< HEAD
-use Rattle.blk_bio.specs.declared.rule.TraceRule.TheVariants.{TagUsed, InFlight, Unknown, AlreadyIssued}
-use Rattle.blk_trace.specs.Happened.{Happened, Ticked, Released, Joined, Issued, Finished, Returned, DepthSet}
-=======
 use Rattle.blk_bio.specs.declared.rule.TraceRule.TheVariants.{TagUsed, InFlight, Unknown, AlreadyIssued}
 use Rattle.blk_trace.specs.Happened.{Happened}
 use Rattle.blk_trace.specs.declared.event.Event.TheVariants.{Tick, Release, Join, Issue as Issued, Done, Back, Depth}
->>>>>>> events-b
 use Rattle.blk_trace.specs.Kinds.{issues, ends}
 use Rattle.blk_trace.specs.Setups.{Setup}
 use Rattle.blk_trace.specs.Events.{At, is_tick, open_count, request_of}

@@ -13,14 +13,9 @@ use Rattle.blk_bio.specs.declared.bio.Dir.{Dir}
 use Rattle.blk_bio.specs.declared.request.Side.{Side}
 use Rattle.blk_bio.specs.Requests.{IsRequest, Fits, dir_of, first_of, last_of, sectors_of}
 use Rattle.blk_bio.proofs.Tiles.{fills}
-<<<<<<< HEAD
-use Rattle.blk_bio.specs.declared.rule.TraceRule.TheVariants.{Fit}
-use Rattle.blk_trace.specs.Happened.{Happened, Released, Joined}
-=======
 use Rattle.blk_bio.specs.declared.rule.TraceRule.TheVariants.{Fit}
 use Rattle.blk_trace.specs.Happened.{Happened}
 use Rattle.blk_trace.specs.declared.event.Event.TheVariants.{Release, Join}
->>>>>>> events-b
 use Rattle.blk_trace.specs.Kinds.{is_tick, issues}
 use Rattle.blk_trace.specs.Setups.{Setup}
 use Rattle.blk_trace.specs.Events.{join_up, request_of, goes_back, EntersRequest}

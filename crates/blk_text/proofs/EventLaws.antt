@@ -18,19 +18,11 @@ use Rattle.blk_text.specs.SetupRecord.{setup}
 use Rattle.blk_lists.specs.Tables.{FitsCells, slots_by}
 use Rattle.blk_text.specs.TraceForm.{first_record, bios_after, group, event_told, plain_event, BreaksRule, event, alone, one_more, IsPast, refusal_of, IsRefused, events_of, trace_cells, IsTraceTitle, title, trace_body, trace_form}
 use Rattle.blk_text.specs.Versions.{latest, most_tags}
-<<<<<<< HEAD
-use Rattle.blk_lists.specs.declared.fault.Why.{Why}
-use Rattle.blk_lists.specs.declared.fault.Why.TheVariants as why
-use Rattle.blk_lists.specs.declared.fields.Slot.TheVariants as slot
-use Rattle.blk_text.specs.declared.heads.Head.{Head}
-use Rattle.blk_text.specs.declared.heads.Head.TheVariants as head
-=======
 use Rattle.blk_lists.specs.declared.fault.Why.{Why}
 use Rattle.blk_lists.specs.declared.fault.Why.TheVariants as why
 use Rattle.blk_lists.specs.declared.fields.Slot.TheVariants as slot
 use Rattle.blk_text.specs.TraceForm.{Head}
 use Rattle.blk_trace.specs.declared.event.Event.TheVariants as head
->>>>>>> events-b
 use Rattle.blk_text.specs.declared.heads.TraceTitle.{TraceTitle}
 use Rattle.parts.specs.declared.Repeats.TheVariants as repeats
 use Rattle.parts.specs.Parts.{Part, Begins}

@@ -15,17 +15,10 @@ use Rattle.blk_lists.specs.Fields.{Lacks, FieldsSpell}
 use Rattle.blk_lists.specs.Reads.{IsRowOf, IsWrongLine, HandFails, Gathers, with_next}
 use Rattle.blk_lists.specs.Tables.{FitsCells, row_by, slots_by, word_record}
 use Rattle.blk_text.specs.TraceForm.{Tiles, gathered_bios, IsAstray, IsNoBio, first_record, plain_bio, whole_bio, group_bio, group}
-<<<<<<< HEAD
-use Rattle.blk_lists.specs.declared.fault.Why.{Why}
-use Rattle.blk_lists.specs.declared.fault.Why.TheVariants as why
-use Rattle.blk_lists.specs.declared.fields.Slot.TheVariants as slot
-use Rattle.blk_text.specs.declared.heads.Head.{Head}
-=======
 use Rattle.blk_lists.specs.declared.fault.Why.{Why}
 use Rattle.blk_lists.specs.declared.fault.Why.TheVariants as why
 use Rattle.blk_lists.specs.declared.fields.Slot.TheVariants as slot
 use Rattle.blk_text.specs.TraceForm.{Head}
->>>>>>> events-b
 use Rattle.parts.specs.declared.Repeats.TheVariants as repeats
 use Rattle.parts.specs.Parts.{Part, by_word, all_rows}
 use Rattle.parts.specs.Laws.{Tells, Decides, IsPlain}

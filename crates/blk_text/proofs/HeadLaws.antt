@@ -7,19 +7,11 @@ use Rattle.blk_lists.specs.Fields.{Lacks, FieldsSpell}
 use Rattle.blk_lists.specs.Reads.{IsRowOf, IsWrongLine, IsOne}
 use Rattle.blk_lists.specs.Tables.{FitsCells, slots_by, kinds_record}
 use Rattle.blk_text.specs.TraceForm.{word_of, EventStandsIn, Says, head_cells, said, first_record}
-<<<<<<< HEAD
-use Rattle.blk_lists.specs.declared.fault.Why.{Why}
-use Rattle.blk_lists.specs.declared.fault.Why.TheVariants as why
-use Rattle.blk_lists.specs.declared.fields.Slot.TheVariants as slot
-use Rattle.blk_text.specs.declared.heads.Head.{Head}
-use Rattle.blk_text.specs.declared.heads.Head.TheVariants as head
-=======
 use Rattle.blk_lists.specs.declared.fault.Why.{Why}
 use Rattle.blk_lists.specs.declared.fault.Why.TheVariants as why
 use Rattle.blk_lists.specs.declared.fields.Slot.TheVariants as slot
 use Rattle.blk_text.specs.TraceForm.{Head}
 use Rattle.blk_trace.specs.declared.event.Event.TheVariants as head
->>>>>>> events-b
 use Rattle.blk_text.specs.declared.heads.EventWord.{EventWord}
 use Rattle.blk_text.specs.declared.heads.EventWord.TheVariants as word
 use Rattle.parts.specs.Parts.{Part}

@@ -24,17 +24,9 @@ use Rattle.blk_lists.specs.Tables.{Cell, Blank, Number, FitsCells, IsVersion, ti
 use Rattle.blk_text.specs.BioTable.{bio_cells, IsNoSuchBio}
 use Rattle.blk_text.specs.SetupRecord.{setup}
 use Rattle.blk_text.specs.Versions.{latest, most_tags}
-<<<<<<< HEAD
 use Rattle.blk_lists.specs.declared.fields.TheConstants.{TAG_LIMIT}
 use Rattle.blk_lists.specs.declared.fault.Why.{Why}
 use Rattle.blk_lists.specs.declared.fault.Why.TheVariants as why
-use Rattle.blk_text.specs.declared.heads.Head.{Head}
-use Rattle.blk_text.specs.declared.heads.Head.TheVariants as head
-=======
-use Rattle.blk_lists.specs.declared.fields.TheConstants.{TAG_LIMIT}
-use Rattle.blk_lists.specs.declared.fault.Why.{Why}
-use Rattle.blk_lists.specs.declared.fault.Why.TheVariants as why
->>>>>>> events-b
 use Rattle.blk_text.specs.declared.heads.EventWord.{EventWord}
 use Rattle.blk_text.specs.declared.heads.EventWord.TheVariants as word
 use Rattle.blk_text.specs.declared.heads.TraceTitle.{TraceTitle}

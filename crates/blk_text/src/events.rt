@@ -5,33 +5,19 @@ ghost use Rattle.csv.specs.Records.{fields_of};
 ghost use Rattle.blk_trace.specs.Rules.{IsUnbroken};
 ghost use Rattle.parts.specs.declared.Repeats.TheVariants as repeats;
 ghost use Rattle.parts.specs.Parts.{Begins};
-<<<<<<< HEAD
-ghost use Rattle.blk_lists.specs.Sources.{Row};
-ghost use Rattle.blk_lists.specs.Reads.{HandReads, HandFails, Fails, IsOutside, AreItems, IsStopped, IsHeldAt, size_of};
-ghost use Rattle.blk_text.specs.TraceForm.{alone as alone_of, refusal_of, IsRefused, plain_event, event as event_part, IsPast, events_of, trace_form, SpellsTrace, TraceFault};
-=======
 ghost use Rattle.blk_lists.specs.Sources.{Row};
 ghost use Rattle.blk_lists.specs.Reads.{HandReads, HandFails, Fails, IsOutside, AreItems, IsStopped, IsHeldAt, size_of};
 ghost use Rattle.blk_text.specs.TraceForm.{refusal_of, IsRefused, plain_event, event as event_part, IsPast, events_of, trace_form, SpellsTrace, TraceFault};
->>>>>>> events-b
 ghost use Rattle.blk_text.specs.TraceRecords.{IsTrace, trace_rows};
 
 use blk_lists::fault::{TextFault, Why};
 use blk_lists::fields::{Slot, read_fields, version_of};
 use crate::groups::read_group;
-<<<<<<< HEAD
-use crate::heads::{Head, HeadForm, TraceTitle};
-use blk_lists::items::{ItemForm, LineForm, gather, read_line};
-use crate::setup::{LATEST, SetupForm, most_tags};
-use blk_lists::source::Records;
-use blk_bio::{Limits, MAX_QUEUES, MAX_SEGMENTS};
-=======
 use crate::heads::{HeadForm, TraceTitle};
 use blk_lists::items::{ItemForm, LineForm, gather, read_line};
 use crate::setup::{LATEST, SetupForm, most_tags};
 use blk_lists::source::Records;
 use blk_bio::{Limits, MAX_QUEUES, MAX_SEGMENTS, Request};
->>>>>>> events-b
 use blk_trace::{Event, MAX_EVENTS, PushFault, Setup, Trace};
 use csv::ByteRecord;
 use parts::Repeats;

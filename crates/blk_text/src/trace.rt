@@ -3,12 +3,7 @@
 ghost use Rattle.std.specs.Prelude.{◌≡◌, ◌⊎◌, ◌++◌, ◌∷◌, ◌≤◌, [], All, OnOk, IfOk, IfErr, decimal, length, codes};
 ghost use Rattle.std.specs.Io.KnownBytes.{Appends};
 ghost use Rattle.blk_trace.specs.Events.{bios_of};
-<<<<<<< HEAD
-ghost use Rattle.blk_trace.specs.Seen.{happened};
 ghost use Rattle.blk_lists.specs.Texts.{rows_text};
-=======
-ghost use Rattle.blk_lists.specs.Texts.{rows_text};
->>>>>>> events-b
 ghost use Rattle.drafts.specs.Parts.{AppendsPart};
 ghost use Rattle.blk_text.specs.BioRecord.{bio_row};
 ghost use Rattle.blk_lists.specs.Cells.{IsPlainWord};

@@ -3,13 +3,8 @@ use Rattle.std.proofs.Common.{◌≡◌, ◌≤◌, ◌<◌, ◌+◌, ◌++◌, 
 use Rattle.std.specs.Prelude.{Option}
 use Rattle.std.proofs.lemmas.Bool.{cond-true, le-leb, cases_lt}
 use Rattle.edd_check.specs.Capacity.{depth_at}
-<<<<<<< HEAD
-use Rattle.blk_bio.specs.declared.rule.TraceRule.TheVariants.{DepthRange}
-use Rattle.blk_trace.specs.Happened.{Happened, Ticked, Issued, DepthSet}
-=======
 use Rattle.blk_bio.specs.declared.rule.TraceRule.TheVariants.{DepthRange}
 use Rattle.blk_trace.specs.Happened.{Happened, Tick, Issue, Depth}
->>>>>>> events-b
 use Rattle.blk_trace.specs.Kinds.{sets_depth, is_tick}
 use Rattle.blk_trace.specs.Setups.{Setup}
 use Rattle.blk_trace.specs.Events.{At, round_of, round_at}

@@ -13,12 +13,7 @@ use Rattle.blk_bio.specs.declared.request.Side.TheVariants.{Back, Front}
 use Rattle.blk_bio.specs.Bios.{Bio}
 use Rattle.blk_bio.specs.Limits.{Limits}
 use Rattle.blk_bio.specs.Requests.{first_of, last_of, joined, IsWithin, Fits}
-<<<<<<< HEAD
-use Rattle.blk_trace.specs.declared.event.Event.{Event}
 use Rattle.blk_bio.specs.declared.rule.TraceRule.TheVariants.{Unknown, Fit}
-=======
-use Rattle.blk_bio.specs.declared.rule.TraceRule.TheVariants.{Unknown, Fit}
->>>>>>> events-b
 use Rattle.blk_trace.specs.declared.known.Known.{Known}
 use Rattle.blk_trace.specs.Happened.{Happened, Release, Join}
 use Rattle.blk_trace.specs.Kinds.{enters}

@@ -7,13 +7,8 @@ use Rattle.blk_bio.specs.Requests.{dir_of}
 use Rattle.blk_trace.specs.declared.known.Waiting.{Waiting}
 use Rattle.blk_trace.specs.declared.known.Known.{Known}
 use Rattle.blk_trace.specs.declared.known.Known.TheVariants.{Waits, Gone, Handed}
-<<<<<<< HEAD
-use Rattle.blk_bio.specs.declared.rule.TraceRule.TheVariants.{ReleasedTwice, AlreadyIssued}
-use Rattle.blk_trace.specs.Happened.{Happened, Released, Joined, Issued, Returned}
-=======
 use Rattle.blk_bio.specs.declared.rule.TraceRule.TheVariants.{ReleasedTwice, AlreadyIssued}
 use Rattle.blk_trace.specs.Happened.{Happened, Release, Join, Issue, Back}
->>>>>>> events-b
 use Rattle.blk_trace.specs.Kinds.{releases, joins, issues, hands_back}
 use Rattle.blk_trace.specs.Setups.{Setup, expire_of}
 use Rattle.blk_trace.specs.Events.{round_of, join_up, request_of, IsReleased, IsIssued, AreHandedBack, IsOpenBy}

@@ -8,13 +8,8 @@ use Rattle.blk_bio.specs.Bios.{Bio}
 use Rattle.blk_bio.specs.declared.bio.Dir.{Dir}
 use Rattle.blk_bio.specs.declared.bio.Dir.TheVariants.{Read, Write}
 use Rattle.blk_bio.specs.Requests.{dir_of}
-<<<<<<< HEAD
-use Rattle.blk_bio.specs.declared.rule.TraceRule.TheVariants.{TagUsed, InFlight, Unknown, AlreadyIssued}
-use Rattle.blk_trace.specs.Happened.{Happened, Ticked, Released, Joined, Issued, Finished}
-=======
 use Rattle.blk_bio.specs.declared.rule.TraceRule.TheVariants.{TagUsed, InFlight, Unknown, AlreadyIssued}
 use Rattle.blk_trace.specs.Happened.{Happened, Tick, Release, Join, Issue, Done}
->>>>>>> events-b
 use Rattle.blk_trace.specs.Kinds.{issues, ends, is_issue, is_end}
 use Rattle.blk_trace.specs.Setups.{Setup, same_dir}
 use Rattle.blk_trace.specs.Events.{is_tick, open_count, request_of, IsOpen}

@@ -7,13 +7,8 @@ use Rattle.std.proofs.lemmas.List.{map-append}
 use Rattle.std.proofs.lemmas.List.Sums.{sum_by-append}
 use Rattle.std.proofs.lemmas.List.Folds.{list_any-append}
 use Rattle.std.proofs.lemmas.Bool.{cases_Bool, or_left, or_right, or_cases, or_parts, false_from_ne_true}
-<<<<<<< HEAD
-use Rattle.blk_bio.specs.declared.rule.TraceRule.TheVariants.{TagUsed, AlreadyIssued, NotIssued}
-use Rattle.blk_trace.specs.Happened.{Happened, Issued, Returned}
-=======
 use Rattle.blk_bio.specs.declared.rule.TraceRule.TheVariants.{TagUsed, AlreadyIssued, NotIssued}
 use Rattle.blk_trace.specs.Happened.{Happened, Issue, Back}
->>>>>>> events-b
 use Rattle.blk_trace.specs.Kinds.{issues, ends, hands_back, is_done_of, is_tick}
 use Rattle.blk_trace.specs.Setups.{Setup}
 use Rattle.blk_trace.specs.Events.{At, EndsAt, goes_back, IsOpen, IsUsed, IsOpenBy}

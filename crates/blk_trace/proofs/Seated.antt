@@ -4,13 +4,8 @@ use Rattle.std.specs.Prelude.{IsSome, not}
 use Rattle.std.specs.Option.{is_some}
 use Rattle.blk_bio.specs.declared.bio.Dir.{Dir}
 use Rattle.blk_bio.specs.Requests.{dir_of}
-<<<<<<< HEAD
-use Rattle.blk_bio.specs.declared.rule.TraceRule.TheVariants.{TagUsed, InFlight}
-use Rattle.blk_trace.specs.Happened.{Happened, Ticked, Issued}
-=======
 use Rattle.blk_bio.specs.declared.rule.TraceRule.TheVariants.{TagUsed, InFlight}
 use Rattle.blk_trace.specs.Happened.{Happened, Tick, Issue}
->>>>>>> events-b
 use Rattle.blk_trace.specs.Kinds.{is_tick, issues}
 use Rattle.blk_trace.specs.Setups.{Setup}
 use Rattle.blk_trace.specs.Events.{request_of, IsOpen, IsOpenBy, IsUsed}

@@ -6,13 +6,8 @@ use Rattle.std.proofs.lemmas.Bool.{cases_Bool, or_right, or_left, and_parts, not
 use Rattle.std.proofs.lemmas.Option.{cond_some}
 use Rattle.blk_bio.specs.Bios.{Bio}
 use Rattle.blk_bio.specs.Requests.{dir_of}
-<<<<<<< HEAD
-use Rattle.blk_bio.specs.declared.rule.TraceRule.TheVariants.{ReleasedTwice, Fit}
-use Rattle.blk_trace.specs.Happened.{Happened, Ticked, Released, Joined, Issued, Finished}
-=======
 use Rattle.blk_bio.specs.declared.rule.TraceRule.TheVariants.{ReleasedTwice, Fit}
 use Rattle.blk_trace.specs.Happened.{Happened, Tick, Release, Join, Issue, Done}
->>>>>>> events-b
 use Rattle.blk_trace.specs.Kinds.{releases, joins, issues, hands_back}
 use Rattle.blk_trace.specs.Setups.{Setup, expire_of}
 use Rattle.blk_trace.specs.Events.{round_of, join_up, request_of, IsReleased}

@@ -1,17 +1,9 @@
 use Rattle.std.proofs.Common.{[], refl, sym, subst, arith}
 use Rattle.csv.specs.Records.{fields_of}
-<<<<<<< HEAD
-use Rattle.blk_trace.specs.Seen.{happened}
-use Rattle.blk_lists.specs.Reads.{IsRowOf}
-use Rattle.blk_text.specs.TraceForm.{first_record, plain_event}
-use Rattle.blk_text.specs.declared.heads.Head.TheVariants as head
-use Rattle.blk_lists.proofs.Reading.{hand_reads}
-=======
 use Rattle.blk_lists.specs.Reads.{IsRowOf}
 use Rattle.blk_text.specs.TraceForm.{first_record, plain_event}
 use Rattle.blk_trace.specs.declared.event.Event.TheVariants as head
 use Rattle.blk_lists.proofs.Reading.{hand_reads}
->>>>>>> events-b
 use Rattle.blk_text.proofs.EventLaws.{head_fails, alone_line, release_count, join_count, release_reads, join_reads, release_fits, join_fits, release_size, join_size, group_fails}
 use Rattle.blk_text.proofs.events.read_event.Goals as goal
 

@@ -3,14 +3,8 @@ use Rattle.std.specs.Prelude.{nat_eq, slice_get}
 use Rattle.std.specs.HashMap as hash
 use Rattle.edd_check.specs.declared.Command.{Command}
 use Rattle.blk_trace.specs.declared.known.Known.TheVariants.{Handed}
-<<<<<<< HEAD
-use Rattle.blk_trace.specs.declared.event.Event.TheVariants.{Back}
-use Rattle.blk_bio.specs.declared.rule.TraceRule.TheVariants as rule
-use Rattle.blk_trace.specs.Happened.{Happened, Returned}
-=======
 use Rattle.blk_bio.specs.declared.rule.TraceRule.TheVariants as rule
 use Rattle.blk_trace.specs.Happened.{Happened, Back}
->>>>>>> events-b
 use Rattle.blk_trace.specs.Events.{IsOpen, IsOpenBy}
 use Rattle.blk_trace.specs.Legal.{IsLegalTrace}
 use Rattle.blk_trace.specs.Rules.{IsUnbroken}

@@ -1,14 +1,6 @@
-<<<<<<< HEAD
-use Rattle.std.proofs.Common.{◌≡◌, ◌<◌, ◌+◌, ◌++◌, ◌∙◌, List, [], ◌∷◌, map, length, length-append, ap, sym, arith, subst, refl}
-use Rattle.std.proofs.lemmas.List.{map-append}
-use Rattle.blk_trace.specs.declared.event.Event.TheVariants.{Done}
-use Rattle.blk_bio.specs.declared.rule.TraceRule.TheVariants as rule
-use Rattle.blk_trace.specs.Happened.{Happened, Finished}
-=======
 use Rattle.std.proofs.Common.{◌≡◌, ◌<◌, ◌+◌, ◌++◌, ◌∙◌, List, [], ◌∷◌, length, length-append, ap, sym, arith, subst, refl}
 use Rattle.blk_bio.specs.declared.rule.TraceRule.TheVariants as rule
 use Rattle.blk_trace.specs.Happened.{Happened, Done}
->>>>>>> events-b
 use Rattle.blk_trace.specs.Events.{IsOpen}
 use Rattle.blk_trace.specs.Legal.{IsLegalTrace}
 use Rattle.blk_trace.specs.Rules.{IsUnbroken}

@@ -2,14 +2,8 @@ use Rattle.std.proofs.Common.{◌≡◌, ◌<◌, ◌+◌, ◌++◌, ◌∙◌, 
 use Rattle.std.specs.Prelude.{nat_eq}
 use Rattle.std.specs.HashMap as hash
 use Rattle.edd_check.specs.declared.Command.{Command}
-<<<<<<< HEAD
-use Rattle.blk_trace.specs.declared.event.Event.TheVariants.{Issue}
-use Rattle.blk_bio.specs.declared.rule.TraceRule.TheVariants as rule
-use Rattle.blk_trace.specs.Happened.{Happened, Issued}
-=======
 use Rattle.blk_bio.specs.declared.rule.TraceRule.TheVariants as rule
 use Rattle.blk_trace.specs.Happened.{Happened, Issue}
->>>>>>> events-b
 use Rattle.blk_trace.specs.Events.{round_of}
 use Rattle.blk_trace.specs.Depths.{depth_now}
 use Rattle.blk_trace.specs.Legal.{IsLegalTrace}

@@ -6,14 +6,8 @@ use Rattle.std.specs.HashSet as hash_set
 use Rattle.blk_bio.specs.Requests.{Fits}
 use Rattle.blk_bio.specs.declared.request.Side.{Side}
 use Rattle.blk_trace.specs.declared.known.Known.TheVariants.{Waits}
-<<<<<<< HEAD
-use Rattle.blk_trace.specs.declared.event.Event.TheVariants.{Join}
-use Rattle.blk_bio.specs.declared.rule.TraceRule.TheVariants as rule
-use Rattle.blk_trace.specs.Happened.{Happened, Joined}
-=======
 use Rattle.blk_bio.specs.declared.rule.TraceRule.TheVariants as rule
 use Rattle.blk_trace.specs.Happened.{Happened, Join}
->>>>>>> events-b
 use Rattle.blk_trace.specs.Events.{request_of}
 use Rattle.blk_trace.specs.Legal.{IsLegalTrace}
 use Rattle.blk_trace.specs.Rules.{IsUnbroken}
