@@ -1,0 +1,104 @@
+//! Requests counted in rounds, each a dispatch that the device took.
+
+ghost use Rattle.std.specs.Prelude.{◌≡◌, ◌≤◌, ◌<◌, ◌+◌, ◌↔◌, IsTrue, IfOk, length, slice_index_or};
+ghost use Rattle.edd_check.specs.Capacity.{fixed};
+ghost use Rattle.edd_check.specs.Limits.{most_commands};
+ghost use Rattle.edd_check.specs.Schedule.{IsLegal, RoundsInRange};
+ghost use Rattle.blk_capture.specs.Counting.{AreServed, AreSolvable, IsCounted, AreLateByClock, dispatched_before, dispatched_by, command_at};
+
+use edd_check::Command;
+use std::alloc::{AllocError, Allocator, Global};
+
+/// A request that the device took, by the clock. The unit and the beginning of the clock don't matter.
+#[derive(Clone, Copy, Debug, PartialEq, Eq)]
+pub struct Served {
+    /// When it came in.
+    pub entry: u64,
+    /// When it ought to have gone out by; it may lie before the entry.
+    pub deadline: u64,
+    /// When it went out to the device.
+    pub dispatch: u64,
+}
+
+/// Commands and the rounds in which they ran, by the same places.
+#[derive(Debug, Drop)]
+pub struct Schedule<A: Allocator = Global> {
+    /// The commands.
+    pub commands: Vec<Command, A>,
+    /// Their rounds.
+    pub rounds: Vec<u64, A>,
+}
+
+/// Whether the requests stand in the order of their dispatches, and none went out before it came in, as [`count_rounds`] requires.
+pub fn are_served(requests: &[Served]) -> bool
+    ensures { IsTrue result ↔ AreServed requests.now }
+{
+    let mut last = 0;
+    for request in requests {
+        if request.dispatch < last || request.dispatch < request.entry {
+            return false;
+        }
+        last = request.dispatch;
+    }
+    true
+}
+
+/// How many of the requests went out before a time. It is found by halves.
+fn dispatched_before(requests: &[Served], time: u64) -> u64
+    requires { AreServed requests.now }
+    ensures value { result ≡ dispatched_before requests.now time }
+    ensures bound { result ≤ length requests.now }
+{
+    requests.partition_point(|request| request.dispatch < time) as u64
+}
+
+/// How many of the requests went out by a time. It is found by halves.
+fn dispatched_by(requests: &[Served], time: u64) -> u64
+    requires { AreServed requests.now }
+    ensures value { result ≡ dispatched_by requests.now time }
+    ensures bound { result ≤ length requests.now }
+{
+    requests.partition_point(|request| request.dispatch <= time) as u64
+}
+
+/// The command of the request at a place.
+fn command_at(requests: &[Served], place: usize, request: Served) -> Command
+    requires served { AreServed requests.now }
+    requires few { length requests.now ≤ most_commands }
+    requires place { place < length requests.now }
+    ensures { result ≡ command_at requests.now place request }
+{
+    Command {
+        id: place as u64 + 1,
+        release: dispatched_before(requests, request.entry) + 1,
+        due: dispatched_by(requests, request.deadline),
+    }
+}
+
+/// Counts requests in rounds, of which each is one dispatch: the requests stand in the order of their dispatches, and the
+/// one at place k, from 0 on, ran in round k + 1, which is its command's id too. It is released in the round after those that went out
+/// before it came in, and due in the last round that went out by its deadline; where none went out between the two, that round
+/// is the one before its release. So it runs after its due round exactly where it went out after its deadline.
+///
+/// At most [`edd_check::MOST_COMMANDS`] requests, as [`are_served`] tells. Fails for want of memory alone. The time grows as n log n.
+pub fn count_rounds<A: Allocator + Clone>(
+    alloc: A,
+    requests: &[Served],
+) -> Result<Schedule<A>, AllocError>
+    requires served { AreServed requests.now }
+    requires few { length requests.now ≤ most_commands }
+    ensures counted { IfOk result (λ s. IsCounted requests.now s.commands.items s.rounds.items) }
+    // at most one dispatch a round, and none before its request came in
+    ensures legal { IfOk result (λ s. IsLegal s.commands.items s.rounds.items (fixed 1)) }
+    ensures late { IfOk result (λ s. AreLateByClock requests.now s.commands.items s.rounds.items) }
+    ensures solvable { IfOk result (λ s. AreSolvable s.commands.items) }
+    ensures in_range { IfOk result (λ s. RoundsInRange s.rounds.items) }
+{
+    let mut commands = Vec::with_capacity(alloc.clone()?, requests.len())?;
+    let mut rounds = Vec::with_capacity(alloc, requests.len())?;
+    for (place, request) in requests.iter().enumerate() {
+        commands.push(command_at(requests, place, *request))?;
+        rounds.push(place as u64 + 1)?;
+    }
+    Ok(Schedule { commands, rounds })
+}

@@ -1,0 +1,19 @@
+//! What a machine's block layer did, read from a capture and counted in rounds.
+//!
+//! [`count_rounds`] counts requests of which it is known when they came in, when they were due and when they went to the
+//! device, all by the clock. A round is a dispatch that the device took: the dispatches are numbered 1, 2, .. in their order, and a
+//! request's round is the number of its own. So a schedule of one command a round is another order of the same dispatches.
+#![tactic(auto)]
+
+mod clock;
+mod counting;
+mod matching;
+mod members;
+mod record;
+mod requests;
+mod spots;
+
+pub use counting::{Schedule, Served, are_served, count_rounds};
+pub use matching::Fate;
+pub use record::{Action, Record};
+pub use requests::{Bio, CaptureFault, Entry, Matched, Options, Request, match_records};

@@ -1,0 +1,395 @@
+//! The requests of a capture, matched from its records, one rule for each action.
+
+use crate::clock::Clock;
+use crate::members::{Members, Queued};
+use crate::record::{Action, Range, Record};
+use crate::spots::{Edges, Spot, Spots};
+use blk_bio::Side;
+use std::alloc::{AllocError, Allocator, Global};
+
+/// What became of a record.
+#[derive(Clone, Copy, Debug, PartialEq, Eq)]
+pub enum Fate {
+    /// It was matched.
+    Matched,
+    /// What it speaks of isn't known, mostly since that began before the capture.
+    Unmatched,
+    /// It was passed over: it moves no data, or its action says nothing of a request.
+    PassedOver,
+}
+
+/// How far a request came.
+#[derive(Clone, Copy, Debug, PartialEq, Eq)]
+pub(crate) enum Stage {
+    /// It was opened, and waits in a plug, or where it was put directly.
+    Opened,
+    /// It waits in the scheduler.
+    Inserted,
+    /// It is at the device, by the dispatch of this number.
+    InFlight(usize),
+    /// It was completed, and went out by the dispatch of this number.
+    Completed(usize),
+    /// It was merged into another.
+    Absorbed,
+}
+
+/// A request, as it was opened and grew.
+#[derive(Clone, Copy, Debug)]
+pub(crate) struct Opened {
+    pub(crate) range: Range,
+    pub(crate) pid: u64,
+    /// When its first bio was queued.
+    pub(crate) queued: u64,
+    /// When it was inserted, if it was.
+    pub(crate) inserted: Option<u64>,
+    /// When it was completed, if it was.
+    pub(crate) completed: Option<u64>,
+    pub(crate) stage: Stage,
+    /// What of it was not completed yet.
+    left: Range,
+    /// The number of the record by which it came to where it waits, or was opened.
+    age: u64,
+}
+
+impl Opened {
+    /// Whether the dispatch of a number is its last one.
+    pub(crate) fn goes_out_by(&self, number: usize) -> bool {
+        match self.stage {
+            Stage::InFlight(last) | Stage::Completed(last) => last == number,
+            Stage::Opened | Stage::Inserted | Stage::Absorbed => false,
+        }
+    }
+}
+
+/// A request that was merged into another.
+#[derive(Clone, Copy, Debug)]
+pub(crate) struct Absorption {
+    /// Its number.
+    pub(crate) request: usize,
+    /// The other's.
+    pub(crate) into: usize,
+}
+
+/// All that is known of a capture's bios and requests so far.
+#[derive(Drop)]
+pub(crate) struct Matching<A: Allocator = Global> {
+    pub(crate) clock: Clock<A>,
+    pub(crate) members: Members<A>,
+    pub(crate) requests: Vec<Opened, A>,
+    pub(crate) absorptions: Vec<Absorption, A>,
+    /// Whether requests go out without being inserted, since the capture has no insertion.
+    direct: bool,
+    /// Bios that were queued and went nowhere yet.
+    waiting: Spots<A>,
+    /// Requests that were opened and not inserted, by who opened them.
+    opened: Edges<A>,
+    /// The same by where they begin, whoever opened them.
+    starts: Spots<A>,
+    /// Requests that were inserted and did not go out, or were handed back.
+    inserted: Edges<A>,
+    /// Requests at the device, by what of them was not completed yet.
+    in_flight: Spots<A>,
+}
+
+impl<A: Allocator + Clone> Matching<A> {
+    /// Nothing yet. `direct` says that requests go out without being inserted.
+    pub(crate) fn new(alloc: A, direct: bool) -> Result<Matching<A>, AllocError> {
+        Ok(Matching {
+            clock: Clock::new(alloc.clone()?),
+            members: Members::new(alloc.clone()?)?,
+            requests: Vec::new(alloc.clone()?),
+            absorptions: Vec::new(alloc.clone()?),
+            direct,
+            waiting: Spots::new(alloc.clone()?),
+            opened: Edges::new(alloc.clone()?)?,
+            starts: Spots::new(alloc.clone()?),
+            inserted: Edges::new(alloc.clone()?)?,
+            in_flight: Spots::new(alloc),
+        })
+    }
+
+    /// Takes in a record, the one of a number, at the time of the clock.
+    pub(crate) fn take(&mut self, number: u64, record: &Record) -> Result<Fate, AllocError> {
+        let Some(range) = Range::of(record) else {
+            return Ok(Fate::PassedOver);
+        };
+        let matched = match record.action {
+            Action::Queue => self.queue(number, record.pid, range)?,
+            Action::Get => self.get(number, record.pid, range)?,
+            Action::BackMerge => self.merge(record.pid, range, Side::Back)?,
+            Action::FrontMerge => self.merge(record.pid, range, Side::Front)?,
+            Action::Insert => self.insert(number, range)?,
+            Action::Issue => self.issue(range)?,
+            Action::Complete => self.complete(range)?,
+            Action::Requeue => self.requeue(range)?,
+            Action::Split => self.split(range)?,
+            Action::Other => return Ok(Fate::PassedOver),
+        };
+        Ok(if matched {
+            Fate::Matched
+        } else {
+            Fate::Unmatched
+        })
+    }
+
+    /// A bio is queued. Of one range the first queued goes first.
+    fn queue(&mut self, number: u64, pid: u64, range: Range) -> Result<bool, AllocError> {
+        let place = self.members.queue(Queued {
+            range,
+            pid,
+            time: self.clock.now,
+            age: number,
+            request: None,
+        })?;
+        self.waiting.put(Spot::whole(range), number, place)?;
+        Ok(true)
+    }
+
+    /// The oldest waiting bio of a range, which waits no more.
+    fn unqueue(&mut self, range: Range) -> Option<usize> {
+        let place = self.waiting.oldest(Spot::whole(range))?;
+        let bio = self.members.bios.get(place).copied()?;
+        self.waiting.take(Spot::whole(range), bio.age);
+        Some(place)
+    }
+
+    /// A request is opened for the oldest waiting bio of the range.
+    fn get(&mut self, number: u64, pid: u64, range: Range) -> Result<bool, AllocError> {
+        let Some(place) = self.unqueue(range) else {
+            return Ok(false);
+        };
+        let Some(bio) = self.members.bios.get(place).copied() else {
+            return Ok(false);
+        };
+        let Some(request) = self.members.open(place)? else {
+            return Ok(false);
+        };
+        self.requests.push(Opened {
+            range,
+            pid,
+            queued: bio.time,
+            inserted: None,
+            completed: None,
+            stage: Stage::Opened,
+            left: range,
+            age: number,
+        })?;
+        self.place(request)?;
+        Ok(true)
+    }
+
+    /// Lists a request where it waits.
+    fn place(&mut self, request: usize) -> Result<(), AllocError> {
+        let Some(opened) = self.requests.get(request).copied() else {
+            return Ok(());
+        };
+        match opened.stage {
+            Stage::Opened => {
+                let start = Spot::edge(opened.left, opened.left.first, 0);
+                self.starts.put(start, opened.age, request)?;
+                self.opened
+                    .enter(opened.left, opened.pid, opened.age, request)
+            }
+            Stage::Inserted => self.inserted.enter(opened.left, 0, opened.age, request),
+            Stage::InFlight(_) => {
+                self.in_flight
+                    .put(Spot::whole(opened.left), opened.age, request)
+            }
+            Stage::Completed(_) | Stage::Absorbed => Ok(()),
+        }
+    }
+
+    /// Takes a request off the list where it waits, and answers it.
+    fn unplace(&mut self, request: usize) -> Option<Opened> {
+        let opened = self.requests.get(request).copied()?;
+        match opened.stage {
+            Stage::Opened => {
+                let start = Spot::edge(opened.left, opened.left.first, 0);
+                self.starts.take(start, opened.age);
+                self.opened.leave(opened.left, opened.pid, opened.age);
+            }
+            Stage::Inserted => self.inserted.leave(opened.left, 0, opened.age),
+            Stage::InFlight(_) => self.in_flight.take(Spot::whole(opened.left), opened.age),
+            Stage::Completed(_) | Stage::Absorbed => {}
+        }
+        Some(opened)
+    }
+
+    /// Puts a request in another state, and lists it where it waits then.
+    fn replace(&mut self, request: usize, opened: Opened) -> Result<bool, AllocError> {
+        let Some(slot) = self.requests.get_mut(request) else {
+            return Ok(false);
+        };
+        *slot = opened;
+        self.place(request)?;
+        Ok(true)
+    }
+
+    /// Of the requests that a newcomer abuts at a side: the newest of the same process that was not inserted, else the oldest that was
+    /// and did not go out.
+    fn abutting(&self, pid: u64, range: Range, side: Side) -> Option<usize> {
+        match self.opened.newest(range, side, pid) {
+            Some(request) => Some(request),
+            None => self.inserted.oldest(range, side, 0),
+        }
+    }
+
+    /// A bio is merged into a request that it abuts, or, where no bio of the range waits, a request into the one that ends where it
+    /// begins. A bio of which that request isn't known waits no more.
+    fn merge(&mut self, pid: u64, range: Range, side: Side) -> Result<bool, AllocError> {
+        let bio = self.unqueue(range);
+        let Some(request) = self.abutting(pid, range, side) else {
+            return Ok(false);
+        };
+        let joined = match (bio, side) {
+            (Some(bio), _) => self.members.join(bio, request),
+            (None, Side::Back) => self.absorb(range, request)?,
+            (None, Side::Front) => false,
+        };
+        if joined {
+            self.grow(request, range, side)
+        } else {
+            Ok(false)
+        }
+    }
+
+    /// A waiting request of a range, inserted or not, goes into another.
+    fn absorb(&mut self, range: Range, into: usize) -> Result<bool, AllocError> {
+        let whole = Spot::whole(range);
+        let found = match self.inserted.wholes.oldest(whole) {
+            Some(request) => Some(request),
+            None => self.opened.wholes.oldest(whole),
+        };
+        let Some(request) = found else {
+            return Ok(false);
+        };
+        let Some(opened) = self.unplace(request) else {
+            return Ok(false);
+        };
+        self.absorptions.push(Absorption { request, into })?;
+        let stage = Stage::Absorbed;
+        self.replace(request, Opened { stage, ..opened })
+    }
+
+    /// A request grows at a side by a range that it abuts.
+    fn grow(&mut self, request: usize, range: Range, side: Side) -> Result<bool, AllocError> {
+        let Some(opened) = self.unplace(request) else {
+            return Ok(false);
+        };
+        let grown = match side {
+            Side::Back => Range::new(range.dir, opened.range.first, range.end),
+            Side::Front => Range::new(range.dir, range.first, opened.range.end),
+        };
+        let range = grown.unwrap_or(opened.range);
+        self.replace(
+            request,
+            Opened {
+                range,
+                left: range,
+                ..opened
+            },
+        )
+    }
+
+    /// The oldest request of the direction and first sector that was not inserted yet, one of equal size first, is inserted.
+    fn insert(&mut self, number: u64, range: Range) -> Result<bool, AllocError> {
+        let found = match self.opened.wholes.oldest(Spot::whole(range)) {
+            Some(request) => Some(request),
+            None => self.starts.oldest(Spot::edge(range, range.first, 0)),
+        };
+        let Some(request) = found else {
+            return Ok(false);
+        };
+        let Some(opened) = self.unplace(request) else {
+            return Ok(false);
+        };
+        self.replace(
+            request,
+            Opened {
+                stage: Stage::Inserted,
+                inserted: Some(self.clock.now),
+                age: number,
+                ..opened
+            },
+        )
+    }
+
+    /// The oldest request of the range that was inserted goes out, or that was opened, where none is inserted in the whole capture.
+    fn issue(&mut self, range: Range) -> Result<bool, AllocError> {
+        let whole = Spot::whole(range);
+        let found = match self.inserted.wholes.oldest(whole) {
+            None if self.direct => self.opened.wholes.oldest(whole),
+            found => found,
+        };
+        let Some(request) = found else {
+            return Ok(false);
+        };
+        let Some(opened) = self.unplace(request) else {
+            return Ok(false);
+        };
+        let stage = Stage::InFlight(self.clock.dispatch(request)?);
+        self.replace(request, Opened { stage, ..opened })
+    }
+
+    /// The oldest request at the device of which just the range is left is completed, or the first part of one.
+    fn complete(&mut self, range: Range) -> Result<bool, AllocError> {
+        let found = match self.in_flight.oldest(Spot::whole(range)) {
+            Some(request) => Some(request),
+            None => self.in_flight.longer(range),
+        };
+        let Some(request) = found else {
+            return Ok(false);
+        };
+        let Some(opened) = self.unplace(request) else {
+            return Ok(false);
+        };
+        let done = match (
+            Range::new(range.dir, range.end, opened.left.end),
+            opened.stage,
+        ) {
+            (Some(left), _) => Opened { left, ..opened },
+            (None, Stage::InFlight(dispatch)) => Opened {
+                stage: Stage::Completed(dispatch),
+                completed: Some(self.clock.now),
+                ..opened
+            },
+            (None, _) => opened,
+        };
+        self.replace(request, done)
+    }
+
+    /// The oldest request at the device of which just the range is left is handed back, to where it waited before.
+    fn requeue(&mut self, range: Range) -> Result<bool, AllocError> {
+        let Some(request) = self.in_flight.oldest(Spot::whole(range)) else {
+            return Ok(false);
+        };
+        let Some(opened) = self.unplace(request) else {
+            return Ok(false);
+        };
+        let stage = if opened.inserted.is_some() {
+            Stage::Inserted
+        } else {
+            Stage::Opened
+        };
+        self.replace(request, Opened { stage, ..opened })
+    }
+
+    /// A waiting bio is cut where the range ends, of which it is the beginning. Both parts wait since the bio was queued.
+    fn split(&mut self, range: Range) -> Result<bool, AllocError> {
+        let Some(place) = self.waiting.longer(range) else {
+            return Ok(false);
+        };
+        let Some(bio) = self.members.bios.get(place).copied() else {
+            return Ok(false);
+        };
+        let Some(rest) = Range::new(range.dir, range.end, bio.range.end) else {
+            return Ok(false);
+        };
+        self.waiting.take(Spot::whole(bio.range), bio.age);
+        self.members.cut(place, range);
+        let second = self.members.queue(Queued { range: rest, ..bio })?;
+        self.waiting.put(Spot::whole(range), bio.age, place)?;
+        self.waiting.put(Spot::whole(rest), bio.age, second)?;
+        Ok(true)
+    }
+}

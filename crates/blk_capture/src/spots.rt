@@ -1,0 +1,147 @@
+//! What waits, found by where it stands on the device, the oldest or the newest there.
+
+use crate::record::Range;
+use blk_bio::Side;
+use std::alloc::{AllocError, Allocator, Global};
+use std::collections::BTreeMap;
+
+/// What something is looked for by; what it is not looked for by is 0.
+#[derive(Clone, Copy, Debug, PartialEq, Eq, PartialOrd, Ord)]
+pub(crate) struct Spot {
+    /// The process that owns it.
+    pid: u64,
+    /// Whether it is written.
+    write: bool,
+    /// A sector, the first one or the one after the last.
+    sector: u64,
+    /// Where it ends.
+    end: u64,
+}
+
+impl Spot {
+    /// By its whole range.
+    pub(crate) fn whole(range: Range) -> Spot {
+        Spot {
+            pid: 0,
+            write: range.is_write(),
+            sector: range.first,
+            end: range.end,
+        }
+    }
+
+    /// By its direction and one sector, and by who owns it, or 0.
+    pub(crate) fn edge(range: Range, sector: u64, pid: u64) -> Spot {
+        Spot {
+            pid,
+            write: range.is_write(),
+            sector,
+            end: 0,
+        }
+    }
+}
+
+/// Places by spots, and of one spot by age: the number of a record, of which no two of one spot are equal.
+#[derive(Drop)]
+pub(crate) struct Spots<A: Allocator = Global> {
+    places: BTreeMap<(Spot, u64), usize, A>,
+}
+
+impl<A: Allocator + Clone> Spots<A> {
+    /// None. It takes no memory.
+    pub(crate) fn new(alloc: A) -> Spots<A> {
+        Spots {
+            places: BTreeMap::new(alloc),
+        }
+    }
+
+    /// Puts a place in.
+    pub(crate) fn put(&mut self, spot: Spot, age: u64, place: usize) -> Result<(), AllocError> {
+        self.places.insert((spot, age), place)?;
+        Ok(())
+    }
+
+    /// Takes a place out.
+    pub(crate) fn take(&mut self, spot: Spot, age: u64) {
+        let _ = self.places.remove(&(spot, age));
+    }
+
+    /// The oldest at a spot.
+    pub(crate) fn oldest(&self, spot: Spot) -> Option<usize> {
+        let ((found, _), place) = self.places.range((spot, 0)..).next()?;
+        if *found == spot { Some(*place) } else { None }
+    }
+
+    /// The newest at a spot.
+    pub(crate) fn newest(&self, spot: Spot) -> Option<usize> {
+        let ((found, _), place) = self.places.range(..=(spot, u64::MAX)).next_back()?;
+        if *found == spot { Some(*place) } else { None }
+    }
+
+    /// What begins where this range does and ends after it: the one that ends first, of several the oldest.
+    pub(crate) fn longer(&self, range: Range) -> Option<usize> {
+        let spot = Spot::whole(range);
+        let ((found, _), place) = self.places.range((spot, u64::MAX)..).next()?;
+        if found.write == spot.write && found.sector == spot.sector && found.end > spot.end {
+            Some(*place)
+        } else {
+            None
+        }
+    }
+}
+
+/// Requests by their whole ranges, and by where they begin and end together with who owns them.
+#[derive(Drop)]
+pub(crate) struct Edges<A: Allocator = Global> {
+    /// By their ranges.
+    pub(crate) wholes: Spots<A>,
+    firsts: Spots<A>,
+    ends: Spots<A>,
+}
+
+impl<A: Allocator + Clone> Edges<A> {
+    /// None.
+    pub(crate) fn new(alloc: A) -> Result<Edges<A>, AllocError> {
+        Ok(Edges {
+            wholes: Spots::new(alloc.clone()?),
+            firsts: Spots::new(alloc.clone()?),
+            ends: Spots::new(alloc),
+        })
+    }
+
+    /// Puts a request in, owned by `pid`, or by none at 0.
+    pub(crate) fn enter(
+        &mut self,
+        range: Range,
+        pid: u64,
+        age: u64,
+        place: usize,
+    ) -> Result<(), AllocError> {
+        self.wholes.put(Spot::whole(range), age, place)?;
+        self.firsts
+            .put(Spot::edge(range, range.first, pid), age, place)?;
+        self.ends.put(Spot::edge(range, range.end, pid), age, place)
+    }
+
+    /// Takes it out.
+    pub(crate) fn leave(&mut self, range: Range, pid: u64, age: u64) {
+        self.wholes.take(Spot::whole(range), age);
+        self.firsts.take(Spot::edge(range, range.first, pid), age);
+        self.ends.take(Spot::edge(range, range.end, pid), age);
+    }
+
+    /// The oldest that a newcomer at a side abuts.
+    pub(crate) fn oldest(&self, newcomer: Range, side: Side, pid: u64) -> Option<usize> {
+        match side {
+            Side::Back => self.ends.oldest(Spot::edge(newcomer, newcomer.first, pid)),
+            Side::Front => self.firsts.oldest(Spot::edge(newcomer, newcomer.end, pid)),
+        }
+    }
+
+    /// The newest that a newcomer at a side abuts.
+    pub(crate) fn newest(&self, newcomer: Range, side: Side, pid: u64) -> Option<usize> {
+        match side {
+            Side::Back => self.ends.newest(Spot::edge(newcomer, newcomer.first, pid)),
+            Side::Front => self.firsts.newest(Spot::edge(newcomer, newcomer.end, pid)),
+        }
+    }
+}
