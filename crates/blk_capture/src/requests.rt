@@ -8,7 +8,6 @@ use crate::record::{Action, Record};
 use blk_bio::Dir;
 use edd_check::MOST_COMMANDS;
 use std::alloc::{AllocError, Allocator, Global};
-use thiserror::Error;
 
 /// From when on a request counts as come in.
 #[derive(Clone, Copy, Debug, PartialEq, Eq)]
@@ -35,16 +34,13 @@ pub struct Options {
 }
 
 /// Why a capture is refused.
-#[derive(Clone, Copy, Debug, PartialEq, Eq, Error)]
+#[derive(Clone, Copy, Debug, PartialEq, Eq)]
 pub enum CaptureFault {
     /// The record at this place, from 0 on, has an earlier time than the one before it.
-    #[error("Order")]
     Order(usize),
     /// More requests are taken than a schedule may have.
-    #[error("TooMany")]
     TooMany,
     /// Memory ran out.
-    #[error("Memory")]
     Memory,
 }
 
