@@ -4,8 +4,8 @@ ghost use Rattle.std.specs.Prelude.{◌≡◌};
 
 use crate::given::{alone, bio, limits};
 use blk_bio::{Dir, Request, Side};
-use blk_none::NoneSched;
 use blk_index::Lane;
+use blk_none::NoneSched;
 use blk_sched::{Queued, Scheduler, side_of_fit};
 use std::alloc::Global;
 use std::process::Abort;

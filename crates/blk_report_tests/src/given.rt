@@ -29,7 +29,12 @@ fn empty<'a>(rt: &impl Abort, heap: Heap<'a>, depth: u64, write_expire: u64) -> 
 }
 
 /// Adds an event that breaks no rule.
-fn push<'a>(rt: &impl Abort, heap: Heap<'a>, trace: &mut Trace<Heap<'a>>, event: Event<Request<Heap<'a>>>) {
+fn push<'a>(
+    rt: &impl Abort,
+    heap: Heap<'a>,
+    trace: &mut Trace<Heap<'a>>,
+    event: Event<Request<Heap<'a>>>,
+) {
     let armed = heap.is_armed();
     if let Err((back, why)) = trace.push(event) {
         assert!(rt; armed && !heap.is_armed());

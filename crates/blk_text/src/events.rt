@@ -10,14 +10,14 @@ ghost use Rattle.blk_lists.specs.Reads.{HandReads, HandFails, Fails, IsOutside, 
 ghost use Rattle.blk_text.specs.TraceForm.{refusal_of, IsRefused, plain_event, event as event_part, IsPast, events_of, trace_form, SpellsTrace, TraceFault};
 ghost use Rattle.blk_text.specs.TraceRecords.{IsTrace, trace_rows};
 
-use blk_lists::fault::{TextFault, Why};
-use blk_lists::fields::{Slot, read_fields, version_of};
 use crate::groups::read_group;
 use crate::heads::{HeadForm, TraceTitle};
-use blk_lists::items::{ItemForm, LineForm, gather, read_line};
 use crate::setup::{LATEST, SetupForm, most_tags};
-use blk_lists::source::Records;
 use blk_bio::{Limits, MAX_QUEUES, MAX_SEGMENTS, Request};
+use blk_lists::fault::{TextFault, Why};
+use blk_lists::fields::{Slot, read_fields, version_of};
+use blk_lists::items::{ItemForm, LineForm, gather, read_line};
+use blk_lists::source::Records;
 use blk_trace::{Event, MAX_EVENTS, PushFault, Setup, Trace};
 use csv::ByteRecord;
 use parts::Repeats;

@@ -7,12 +7,12 @@ ghost use Rattle.blk_lists.specs.Reads.{IsRowOf, IsWrongLine, Reads, Fails};
 ghost use Rattle.blk_lists.specs.Words.{StartsWith};
 ghost use Rattle.blk_text.specs.TraceForm.{whole_bio, group};
 
+use crate::heads::HeadForm;
+use blk_bio::{Bio, BioId, Limits, MAX_SEGMENTS, Request, Side};
 use blk_lists::fault::{TextFault, Why};
 use blk_lists::fields::{ANY, Slot, begins_with, direction_of, field, read_fields};
-use crate::heads::HeadForm;
 use blk_lists::items::{ItemForm, LineForm, gather};
 use blk_lists::source::Records;
-use blk_bio::{Bio, BioId, Limits, MAX_SEGMENTS, Request, Side};
 use csv::ByteRecord;
 use parts::Repeats;
 use std::alloc::{AllocError, Global};

@@ -13,14 +13,14 @@ ghost use Rattle.blk_bio.specs.declared.limits.TheConstants.{MAX_QUEUES as MOST_
 ghost use Rattle.blk_lists.specs.declared.fields.Slot.TheVariants as slot;
 ghost use Rattle.blk_text.specs.declared.script.Word.{Word as AWord};
 
+use crate::setup::{LATEST, SetupForm, most_tags};
+use blk_bio::{Bio, BioId, Dir, MAX_QUEUES, MAX_SOFT_DEPTH, MAX_SOFT_QUEUES};
 use blk_lists::fault::{TextFault, Why};
 use blk_lists::fields::{
     ANY, Slot, TAG, WIDTH, direction_of, field, parse_number, read_fields, version_of, without_word,
 };
 use blk_lists::items::{LineForm, read_line, read_lines};
-use crate::setup::{LATEST, SetupForm, most_tags};
 use blk_lists::source::Records;
-use blk_bio::{Bio, BioId, Dir, MAX_QUEUES, MAX_SOFT_DEPTH, MAX_SOFT_QUEUES};
 use blk_trace::{MAX_EVENTS, Setup};
 use csv::ByteRecord;
 use parts::Repeats;

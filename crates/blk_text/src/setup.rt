@@ -12,10 +12,10 @@ ghost use Rattle.blk_trace.specs.declared.setup.TheConstants.{MAX_DEPTH as MOST_
 ghost use Rattle.blk_lists.specs.Tables.{slots_by};
 ghost use Rattle.blk_lists.specs.declared.fields.Slot.TheVariants as slot;
 
+use blk_bio::{Limits, MAX_QUEUES, MAX_SECTORS, MAX_SEGMENTS};
 use blk_lists::fault::Why;
 use blk_lists::fields::{Slot, WIDTH, begins_with, read_fields, without_word};
 use blk_lists::items::LineForm;
-use blk_bio::{Limits, MAX_QUEUES, MAX_SECTORS, MAX_SEGMENTS};
 use blk_trace::{EXPIRE_LIMIT, MAX_DEPTH, Setup};
 use csv::ByteRecord;
 

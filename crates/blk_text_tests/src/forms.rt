@@ -1,6 +1,9 @@
 //! What comes of texts, form by form: what is read of them and written again, and their faults, each by its record and name.
 
-use blk_lists::{Proof, Records, TextFault, Why, read_certificate, read_commands, read_met, read_proof, write_certificate, write_commands, write_met};
+use blk_lists::{
+    Proof, Records, TextFault, Why, read_certificate, read_commands, read_met, read_proof,
+    write_certificate, write_commands, write_met,
+};
 use blk_text::{read_script, read_trace, write_trace};
 use drafts::WriteFault;
 use std::alloc::Global;

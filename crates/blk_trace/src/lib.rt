@@ -9,8 +9,8 @@ pub mod setup;
 mod tags;
 pub mod trace;
 
-pub use event::Event;
 pub use blk_bio::TraceRule;
+pub use event::Event;
 pub use rule::{PushFault, TraceFault};
 pub use setup::{EXPIRE_LIMIT, MAX_DEPTH, Setup, SetupFault};
 pub use trace::{MAX_EVENTS, Prepared, Trace};

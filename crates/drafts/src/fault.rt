@@ -1,6 +1,5 @@
 //! Why a text was not written.
 
-
 /// Why a text was not written.
 #[derive(Debug, Clone, Copy, PartialEq, Eq)]
 pub enum WriteFault {

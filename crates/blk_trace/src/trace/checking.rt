@@ -12,10 +12,9 @@ ghost use Rattle.blk_trace.specs.Inside.Kept.{known_of, IsTagUse, has_bio_id};
 
 use crate::event::Event;
 use crate::known::Known;
-use blk_bio::TraceRule;
 use crate::tags::{TagUse, any_open};
 use crate::trace::{MAX_EVENTS, Trace};
-use blk_bio::{Bio, BioId, Request};
+use blk_bio::{Bio, BioId, Request, TraceRule};
 use std::alloc::Allocator;
 
 impl<A: Allocator + Clone> Trace<A> {
