@@ -117,11 +117,12 @@ impl LineForm for HeadForm {
     }
 
     fn line(&self, row: &ByteRecord) -> Result<Event<u64>, Why> {
-        let Some((word, slots)) = row_of(self.version, field(row, 0)) else {
+        let Some(found) = row_of(self.version, field(row, 0)) else {
             return Err(without_word(row, WIDTH));
         };
+        let slots = found.1;
         match read_fields(row, &slots) {
-            Ok(numbers) => Ok(head_of(self, word, row, &numbers)),
+            Ok(numbers) => Ok(head_of(self, found.0, row, &numbers)),
             Err(why) => Err(why),
         }
     }

@@ -11,5 +11,5 @@ returns-in_default-clause-err c =
 
 pub returns-in-Err-clause-err : goal.returns-in-Err-clause-err
 returns-in-Err-clause-err c =
-    let starts = begins (fields_of c.args.row.now) (word_of c.in-Some.word) (word_long c.in-Some.word) (sym c.field.ensures ∙ c.in-Some.ensures.1) in
-    head_lacks c.args.self.now.version c.in-Some.word (fields_of c.args.row.now) c.in-Err.why c.in-Some.ensures.0 starts (rw c.in-Some.ensures.2 at c.in-Err.ensures.err)
+    let starts = begins (fields_of c.args.row.now) (word_of c.in-Some.found.0) (word_long c.in-Some.found.0) (sym c.field.ensures ∙ c.in-Some.ensures.1) in
+    head_lacks c.args.self.now.version c.in-Some.found.0 (fields_of c.args.row.now) c.in-Err.why c.in-Some.ensures.0 starts (rw c.in-Some.ensures.2 at c.in-Err.ensures.err)
