@@ -1,6 +1,6 @@
 //! The commands of a trace, each with its request and the round in which it was issued.
 
-ghost use Rattle.std.specs.Prelude.{ℕ, ◌≡◌, ◌==◌, cond, IfOk, OnOk, Some};
+ghost use Rattle.std.specs.Prelude.{ℕ, ◌≡◌, ◌==◌, cond, IfOk, OnOk, Some, map};
 ghost use Rattle.std.specs.Ordering.{nat_cmp};
 ghost use Rattle.std.specs.BTreeMap.{get};
 ghost use Rattle.blk_trace.specs.Events.{request_of};
