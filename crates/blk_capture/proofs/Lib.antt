@@ -1,2 +1,5 @@
 pub mod Rounds
 pub mod Opened
+pub mod Taking
+pub mod Tallying
+pub mod Settling

@@ -1,2 +1,4 @@
 pub mod Counting
 pub mod Members
+pub mod Requests
+pub mod Taken

@@ -16,4 +16,4 @@ mod spots;
 pub use counting::{Schedule, Served, are_served, count_rounds};
 pub use matching::Fate;
 pub use record::{Action, Record};
-pub use requests::{Bio, CaptureFault, Entry, Matched, Options, Request, match_records};
+pub use requests::{Bio, CaptureFault, Entry, Matched, Options, Request, match_records, rounds_of};

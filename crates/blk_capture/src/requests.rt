@@ -1,9 +1,18 @@
 //! The requests of a capture that went out to the device, with their bios.
 
-ghost use Rattle.std.specs.Prelude.{◌≡◌, ◌≤◌, ◌<◌, IfOk, length};
+ghost use Rattle.std.specs.Prelude.{◌≡◌, ◌≤◌, ◌<◌, ℕ, None, Some, All, IfOk, IfErr, IfSome, IfNone, OnOk, length, map, slice_index_or};
+ghost use Rattle.edd_check.specs.Capacity.{fixed};
+ghost use Rattle.edd_check.specs.Limits.{most_commands};
+ghost use Rattle.edd_check.specs.Schedule.{IsLegal, RoundsInRange};
+ghost use Rattle.blk_capture.specs.Counting.{AreServed, AreSolvable, IsCounted};
+ghost use Rattle.blk_capture.specs.Requests.{served_of, AreTimed, HaveBios, AreTallied, AreInOrder, IsFirstFall, AreLate, IsCaptureFault};
+ghost use Rattle.blk_capture.specs.Taken.{IsOwn, IsRequestOf, ArePlaced, PutsAt, ArePlacedBios, IsTalliedFrom};
+ghost use Rattle.blk_capture.specs.declared.members.Queued.{Queued};
 
 use crate::clock::Dispatch;
+use crate::counting::{Schedule, Served, count_rounds};
 use crate::matching::{Fate, Matching, Opened};
+use crate::members::Queued;
 use crate::record::{Action, Record};
 use blk_bio::Dir;
 use edd_check::MOST_COMMANDS;
@@ -156,11 +165,19 @@ fn request_of<A: Allocator + Clone>(
     lives: &[Life],
     number: usize,
     dispatch: Dispatch,
-) -> Option<Request> {
-    let opened = matching.requests.get(dispatch.request).copied()?;
-    let life = lives.get(dispatch.request).copied()?;
-    let bio = matching.members.openers.get(dispatch.request).copied()?;
-    if life.root != dispatch.request || life.entry > dispatch.time || !opened.goes_out_by(number) {
+) -> Option<Request>
+    ensures { IfSome result (IsRequestOf lives.now matching.now.members.openers.items dispatch) }
+{
+    let place = dispatch.request;
+    if place >= lives.len()
+        || place >= matching.requests.len()
+        || place >= matching.members.openers.len()
+    {
+        return None;
+    }
+    let life = lives[place];
+    let opened = matching.requests[place];
+    if life.root != place || life.entry > dispatch.time || !opened.goes_out_by(number) {
         return None;
     }
     Some(Request {
@@ -168,7 +185,7 @@ fn request_of<A: Allocator + Clone>(
         first: opened.range.first,
         sectors: opened.range.sectors(),
         bios: 0,
-        bio,
+        bio: matching.members.openers[place],
         pid: opened.pid,
         queued: opened.queued,
         inserted: opened.inserted,
@@ -179,11 +196,25 @@ fn request_of<A: Allocator + Clone>(
     })
 }
 
-/// The requests that are taken, in the order of their dispatches, and the place of each request among them, if it is.
+/// The requests that are taken, in the order of their dispatches, and by request its place among them, if it is taken.
 #[derive(Drop)]
 struct Taken<A: Allocator = Global> {
     requests: Vec<Request, A>,
     places: Vec<Option<usize>, A>,
+}
+
+impl<A: Allocator + Clone> Taken<A> {
+    /// Takes the request of a number, unless it is taken.
+    fn put(&mut self, number: usize, request: Request) -> Result<(), AllocError>
+        ensures { OnOk result (PutsAt number request self.old.requests.items self.old.places.items self.new.requests.items self.new.places.items) }
+    {
+        let Some(None) = self.places.get(number).copied() else {
+            return Ok(());
+        };
+        self.places[number] = Some(self.requests.len());
+        self.requests.push(request)?;
+        Ok(())
+    }
 }
 
 /// The requests that went out for the last time at `begin` or later, and of them the first ones.
@@ -193,70 +224,91 @@ fn take_requests<A: Allocator + Clone>(
     lives: &[Life],
     begin: u64,
     first: u64,
-) -> Result<Taken<A>, AllocError> {
-    let mut places = vec![in alloc.clone()?; None; lives.len()]?;
-    let mut requests = Vec::new(alloc);
-    for (number, dispatch) in matching.clock.dispatches.iter().enumerate() {
-        if requests.len() as u64 >= first {
-            break;
-        }
-        if dispatch.time < begin {
+) -> Result<Taken<A>, AllocError>
+    ensures placed { IfOk result (λ t. ArePlaced lives.now matching.now.members.openers.items t.places.items t.requests.items) }
+    ensures timed { IfOk result (λ t. AreTimed t.requests.items) }
+    ensures untallied { IfOk result (λ t. All (λ q. q.bios ≡ 0) t.requests.items) }
+{
+    let places = vec![in alloc.clone()?; None; lives.len()]?;
+    let mut taken = Taken {
+        requests: Vec::new(alloc),
+        places,
+    };
+    let dispatches = matching.clock.dispatches.as_slice();
+    for number in 0..dispatches.len() {
+        let dispatch = dispatches[number];
+        if dispatch.time < begin || taken.requests.len() as u64 >= first {
             continue;
         }
-        let Some(request) = request_of(matching, lives, number, *dispatch) else {
-            continue;
-        };
-        let Some(None) = places.get(dispatch.request).copied() else {
-            continue;
-        };
-        places[dispatch.request] = Some(requests.len());
-        requests.push(request)?;
+        if let Some(request) = request_of(matching, lives, number, dispatch) {
+            taken.put(dispatch.request, request)?;
+        }
     }
-    Ok(Taken { requests, places })
+    Ok(taken)
 }
 
-/// The place of the request that a bio of this request went out with.
-fn place_of(lives: &[Life], places: &[Option<usize>], request: Option<usize>) -> Option<usize> {
-    let life = lives.get(request?).copied()?;
-    places.get(life.root).copied()?
+/// The place of the request that a bio went out with, which went into a request at first.
+fn place_of(lives: &[Life], places: &[Option<usize>], request: Option<usize>) -> Option<usize>
+    ensures { (r : ℕ) → request ≡ Some r → IsOwn lives.now r → r < length places.now → result ≡ slice_index_or places.now r None }
+{
+    let request = request?;
+    if request >= lives.len() {
+        return None;
+    }
+    let root = lives[request].root;
+    if root >= places.len() {
+        return None;
+    }
+    places[root]
 }
 
 /// The bios, with the places of the requests that they went out with.
 fn bios_of<A: Allocator + Clone>(
     alloc: A,
-    matching: &Matching<A>,
+    queued: &[Queued],
     lives: &[Life],
     places: &[Option<usize>],
-) -> Result<Vec<Bio, A>, AllocError> {
-    let mut bios = Vec::with_capacity(alloc, matching.members.bios.len())?;
-    for queued in &matching.members.bios {
+) -> Result<Vec<Bio, A>, AllocError>
+    ensures { IfOk result (λ v. ArePlacedBios lives.now places.now queued.now (length queued.now) v.items) }
+{
+    let mut bios = Vec::with_capacity(alloc, queued.len())?;
+    for bio in queued {
         bios.push(Bio {
-            dir: queued.range.dir,
-            first: queued.range.first,
-            sectors: queued.range.sectors(),
-            pid: queued.pid,
-            queued: queued.time,
-            request: place_of(lives, places, queued.request),
+            dir: bio.range.dir,
+            first: bio.range.first,
+            sectors: bio.range.sectors(),
+            pid: bio.pid,
+            queued: bio.time,
+            request: place_of(lives, places, bio.request),
         })?;
     }
     Ok(bios)
 }
 
-/// Counts the bios of each request.
-fn count_bios(requests: &mut [Request], bios: &[Bio]) {
+/// The requests with the numbers of their bios, of which none is counted yet.
+fn count_bios<A: Allocator + Clone>(requests: Vec<Request, A>, bios: &[Bio]) -> Vec<Request, A>
+    requires { All (λ q. q.bios ≡ 0) requests.items }
+    ensures { IsTalliedFrom requests.items result.items bios.now }
+{
+    let mut requests = requests;
     for bio in bios {
         if let Some(place) = bio.request {
-            if let Some(request) = requests.get_mut(place) {
-                request.bios = request.bios.saturating_add(1);
+            if place < requests.len() {
+                let request = requests[place];
+                requests[place] = Request {
+                    bios: request.bios + 1,
+                    ..request
+                };
             }
         }
     }
+    requests
 }
 
 /// What a capture tells of requests.
 #[derive(Drop)]
 pub struct Matched<A: Allocator = Global> {
-    /// The requests that went out, in the order in which they did.
+    /// The requests that are taken, in the order in which they went out.
     pub requests: Vec<Request, A>,
     /// The bios that were queued.
     pub bios: Vec<Bio, A>,
@@ -268,60 +320,145 @@ pub struct Matched<A: Allocator = Global> {
     pub absorbed: u64,
 }
 
-impl From<AllocError> for CaptureFault {
-    fn from(_: AllocError) -> CaptureFault {
-        CaptureFault::Memory
-    }
-}
-
 /// Whether some request is inserted.
 fn has_insertion(records: &[Record]) -> bool {
     records.iter().any(|record| record.action == Action::Insert)
 }
 
-/// Matches the records of a capture, in the order of their times, to bios and requests, and takes those requests that the options
-/// say.
-pub fn match_records<A: Allocator + Clone>(
-    alloc: A,
-    records: &[Record],
-    options: &Options,
-) -> Result<Matched<A>, CaptureFault> {
-    let mut matching = Matching::new(alloc.clone()?, !has_insertion(records))?;
-    let mut fates = Vec::with_capacity(alloc.clone()?, records.len())?;
-    for (place, record) in records.iter().enumerate() {
-        if !matching.clock.set(record.time) {
-            return Err(CaptureFault::Order(place));
+/// The place of the first record that has an earlier time than the one before it.
+fn first_fall(records: &[Record]) -> Option<usize>
+    ensures none { IfNone result (AreInOrder records.now (length records.now)) }
+    ensures some { IfSome result (IsFirstFall records.now) }
+{
+    for place in 1..records.len() {
+        if records[place].time < records[place - 1].time {
+            return Some(place);
         }
-        let fate = matching.take(place as u64, record)?;
-        let Ok(()) = fates.push(fate) else {
-            return Err(CaptureFault::Memory);
-        };
     }
-    let lives = lives(alloc.clone()?, &matching, options)?;
-    let begin = match records.first() {
-        Some(record) => record.time.saturating_add(options.skip),
-        None => 0,
-    };
-    let Taken {
-        mut requests,
-        places,
-    } = take_requests(
+    None
+}
+
+/// The requests of what was matched, with their bios.
+fn settle<A: Allocator + Clone>(
+    alloc: A,
+    matching: &Matching<A>,
+    fates: Vec<Fate, A>,
+    begin: u64,
+    options: &Options,
+) -> Result<Matched<A>, AllocError>
+    ensures timed { IfOk result (λ m. AreTimed m.requests.items) }
+    ensures bios { IfOk result (λ m. HaveBios m.requests.items m.bios.items) }
+    ensures tallied { IfOk result (λ m. AreTallied m.requests.items m.bios.items) }
+    ensures fates { IfOk result (λ m. m.fates.items ≡ fates.items) }
+{
+    let lives = lives(alloc.clone()?, matching, options)?;
+    let taken = take_requests(
         alloc.clone()?,
-        &matching,
+        matching,
         lives.as_slice(),
         begin,
         options.first,
     )?;
-    if requests.len() as u64 > MOST_COMMANDS {
-        return Err(CaptureFault::TooMany);
-    }
-    let bios = bios_of(alloc, &matching, lives.as_slice(), places.as_slice())?;
-    count_bios(requests.as_mut_slice(), bios.as_slice());
+    let Taken { requests, places } = taken;
+    let bios = bios_of(
+        alloc,
+        matching.members.bios.as_slice(),
+        lives.as_slice(),
+        places.as_slice(),
+    )?;
     Ok(Matched {
-        requests,
+        requests: count_bios(requests, bios.as_slice()),
         bios,
         fates,
         opened: matching.members.openers.len() as u64,
         absorbed: matching.absorptions.len() as u64,
     })
+}
+
+/// Matches the records of a capture to bios and requests, and takes those requests that the options say. Which record belongs to which
+/// request is told by the rules of the crate's page; what a record speaks of may be unknown, and stops nothing.
+///
+/// Refused as `Order` where a record has an earlier time than the one before it, as `TooMany` where more than
+/// [`edd_check::MOST_COMMANDS`] requests are taken, and for want of memory. The time grows as n log n in the number of records.
+pub fn match_records<A: Allocator + Clone>(
+    alloc: A,
+    records: &[Record],
+    options: &Options,
+) -> Result<Matched<A>, CaptureFault>
+    // in the order of their dispatches, none before it came in
+    ensures timed { IfOk result (λ m. AreTimed m.requests.items) }
+    ensures few { IfOk result (λ m. length m.requests.items ≤ most_commands) }
+    ensures bios { IfOk result (λ m. HaveBios m.requests.items m.bios.items) }
+    ensures tallied { IfOk result (λ m. AreTallied m.requests.items m.bios.items) }
+    ensures fates { IfOk result (λ m. length m.fates.items ≡ length records.now) }
+    ensures order { OnOk result (AreInOrder records.now (length records.now)) }
+    ensures fault { IfErr result (IsCaptureFault records.now) }
+{
+    if let Some(place) = first_fall(records) {
+        return Err(CaptureFault::Order(place));
+    }
+    let Ok(matched) = match_in_order(alloc, records, options) else {
+        return Err(CaptureFault::Memory);
+    };
+    if matched.requests.len() as u64 > MOST_COMMANDS {
+        return Err(CaptureFault::TooMany);
+    }
+    Ok(matched)
+}
+
+/// The same of records whose times don't fall.
+fn match_in_order<A: Allocator + Clone>(
+    alloc: A,
+    records: &[Record],
+    options: &Options,
+) -> Result<Matched<A>, AllocError>
+    ensures timed { IfOk result (λ m. AreTimed m.requests.items) }
+    ensures bios { IfOk result (λ m. HaveBios m.requests.items m.bios.items) }
+    ensures tallied { IfOk result (λ m. AreTallied m.requests.items m.bios.items) }
+    ensures fates { IfOk result (λ m. length m.fates.items ≡ length records.now) }
+{
+    let mut matching = Matching::new(alloc.clone()?, !has_insertion(records))?;
+    let mut fates = Vec::with_capacity(alloc.clone()?, records.len())?;
+    for (place, record) in records.iter().enumerate() {
+        let _ = matching.clock.set(record.time);
+        let fate = matching.take(place as u64, record)?;
+        fates.push(fate)?;
+    }
+    let begin = match records.first() {
+        Some(record) => record.time.saturating_add(options.skip),
+        None => 0,
+    };
+    settle(alloc, &matching, fates, begin, options)
+}
+
+/// Counts requests in rounds, as [`crate::count_rounds`] does: the one at place k ran in round k + 1, and after its due round
+/// exactly where it went out after its deadline.
+pub fn rounds_of<A: Allocator + Clone>(
+    alloc: A,
+    requests: &[Request],
+) -> Result<Schedule<A>, AllocError>
+    requires timed { AreTimed requests.now }
+    requires few { length requests.now ≤ most_commands }
+    ensures counted { IfOk result (λ s. IsCounted (map served_of requests.now) s.commands.items s.rounds.items) }
+    ensures legal { IfOk result (λ s. IsLegal s.commands.items s.rounds.items (fixed 1)) }
+    ensures late { IfOk result (λ s. AreLate requests.now s.commands.items s.rounds.items) }
+    ensures solvable { IfOk result (λ s. AreSolvable s.commands.items) }
+    ensures in_range { IfOk result (λ s. RoundsInRange s.rounds.items) }
+{
+    let served = served(alloc.clone()?, requests)?;
+    count_rounds(alloc, served.as_slice())
+}
+
+/// What of requests is counted in rounds.
+fn served<A: Allocator>(alloc: A, requests: &[Request]) -> Result<Vec<Served, A>, AllocError>
+    ensures { IfOk result (λ v. v.items ≡ map served_of requests.now) }
+{
+    requests
+        .iter()
+        .map(|request| Served {
+            entry: request.entry,
+            deadline: request.deadline,
+            dispatch: request.dispatched,
+        })
+        .collect(alloc)
 }

@@ -1,4 +1,4 @@
-use Rattle.std.proofs.Common.{◌≡◌, ◌≤◌, ℕ, length, arith}
+use Rattle.std.proofs.Common.{arith}
 use Rattle.blk_capture.specs.Counting.{IsCounted}
 use Rattle.blk_capture.proofs.Rounds.{counted_all, all_legal, all_late_by_clock, all_solvable, all_in_range}
 use Rattle.blk_capture.proofs.counting.count_rounds.Given.{Over}

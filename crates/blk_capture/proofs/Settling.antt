@@ -1,0 +1,124 @@
+use Rattle.std.proofs.Common.{ℕ, ◌≡◌, ◌<◌, ◌≤◌, ◌+◌, ◌++◌, ◌∙◌, List, [], ◌∷◌, length, get_or, map, Option, None, Some, inl, inr, refl, arith, ap, sym, subst, lit<}
+use Rattle.std.proofs.lemmas.Bool.{cases_lt}
+use Rattle.std.proofs.lemmas.List.{get_or_append_left, get_or_push, get_or_past, get_or_default, get_or-map, length_push, length-map}
+use Rattle.edd_check.specs.declared.Command.{Command}
+use Rattle.blk_bio.specs.declared.bio.Dir.TheVariants.{Read}
+use Rattle.blk_capture.specs.Counting.{AreServed, AreLateByClock}
+use Rattle.blk_capture.specs.Members.{AreOpened}
+use Rattle.blk_capture.specs.Requests.{served_of, AreTimed, HaveBios, AreLate}
+use Rattle.blk_capture.specs.Taken.{IsOwn, ArePlaced, ArePlacedBios, IsTalliedFrom}
+use Rattle.blk_capture.specs.declared.counting.Served.{Served}
+use Rattle.blk_capture.specs.declared.members.Queued.{Queued}
+use Rattle.blk_capture.specs.declared.requests.Bio.{Bio}
+use Rattle.blk_capture.specs.declared.requests.Life.{Life}
+use Rattle.blk_capture.specs.declared.requests.Request.{Request}
+use Rattle.blk_capture.proofs.Opened.{opener_there}
+
+abbrev no_bio : Queued
+no_bio = record { range = record { dir = Read; first = 0; end = 1; some = lit< tt }; pid = 0; time = 0; age = 0; request = None }
+
+abbrev no_request : Request
+no_request = record { dir = Read; first = 0; sectors = 0; bios = 0; bio = 0; pid = 0; queued = 0; inserted = None; entry = 0; deadline = 0; dispatched = 0; completed = None }
+
+none_is_some : (r : ℕ) → None ≡ Some r → ⊥
+none_is_some r e = cc
+
+-- a place that stands there is within the list
+there_at : (places : List (Option ℕ)) (r k : ℕ) → get_or places r None ≡ Some k → r < length places
+there_at places r k is =
+    elim (cases_lt r (length places)) [
+      | inl there ↦ there
+      | inr past ↦ absurd (none_is_some k (sym (get_or_past places r None past) ∙ is))
+    ]
+
+-- the bio that a request was opened for went out with it
+pub have_bios : (lives : List Life) (openers : List ℕ) (places : List (Option ℕ)) (old new : List Request) (queued : List Queued) (bios : List Bio)
+    → ArePlaced lives openers places old → IsTalliedFrom old new bios → ArePlacedBios lives places queued (length queued) bios → AreOpened queued openers
+    → HaveBios new bios
+have_bios lives openers places old new queued bios placed tallied are opened k d e here =
+    let in_old : k < length old = omega (arith, here, tallied.each) in
+    let at = placed k in_old in
+    let r : ℕ = at.0 in
+    let b : ℕ = get_or openers r 0 in
+    let is : (get_or new k d).bio ≡ b = tallied.bio k d ∙ at.1.opener d in
+    let there : b < length queued = opener_there queued openers no_bio opened refl r at.1.opened in
+    let went : (get_or queued b no_bio).request ≡ Some r = opened r no_bio at.1.opened in
+    let out : (get_or bios b e).request ≡ get_or places r None = are.place b r no_bio e there went at.1.own (there_at places r k at.1.place) in
+    ap (λ n. (get_or bios n e).request) is ∙ out ∙ at.1.place
+
+pub tallied_timed : (old new : List Request) (bios : List Bio) → AreTimed old → IsTalliedFrom old new bios → AreTimed new
+tallied_timed old new bios timed tallied = record {
+  rising =
+      λ i j d low h.
+      let up : (get_or old i d).dispatched ≤ (get_or old j d).dispatched = timed.rising i j d low (omega (arith, h, tallied.each)) in
+      omega (arith, up, tallied.dispatched i d, tallied.dispatched j d);
+  came_in =
+      λ k d h.
+      let came : (get_or old k d).entry ≤ (get_or old k d).dispatched = timed.came_in k d (omega (arith, h, tallied.each)) in
+      omega (arith, came, tallied.entry k d, tallied.dispatched k d);
+}
+
+-- one more bio with its place
+pub placed_bios_more : (lives : List Life) (places : List (Option ℕ)) (queued : List Queued) (n : ℕ) (bios : List Bio) (x : Queued) (b : Bio)
+    → ArePlacedBios lives places queued n bios → n < length queued → x ≡ get_or queued n x
+    → ((r : ℕ) → x.request ≡ Some r → IsOwn lives r → r < length places → b.request ≡ get_or places r None)
+    → ArePlacedBios lives places queued (n + 1) (bios ++ b ∷ [])
+placed_bios_more lives places queued n bios x b old here is place = record {
+  each = length_push bios b ∙ ap (λ m. m + 1) old.each;
+  place =
+      λ c r d e low went own there.
+      elim (cases_lt c n) [
+        | inl before ↦
+            ap (λ (y : Bio). y.request) (get_or_append_left bios (b ∷ []) e c (omega (arith, before, old.each)))
+            ∙ old.place c r d e before went own there
+        | inr past ↦
+            let last : n ≡ c = omega (arith, low, past) in
+            let same : x.request ≡ (get_or queued n d).request = ap (λ (y : Queued). y.request) (is ∙ get_or_default queued n x d here) in
+            let at : (get_or queued n d).request ≡ (get_or queued c d).request = ap (λ m. (get_or queued m d).request) last in
+            ap (λ (y : Bio). y.request) (get_or_push bios b e c (old.each ∙ last))
+            ∙ place r (same ∙ at ∙ went) own there
+      ];
+}
+
+pub map_served : (requests : List Request) → AreTimed requests → AreServed (map served_of requests)
+map_served requests timed =
+    let n : length (map served_of requests) ≡ length requests = length-map requests served_of in
+    record {
+      rising =
+          λ i j d low h.
+          let some : j < length requests = omega (arith, h, n) in
+          let q : Request = no_request in
+          let at_i = ap (λ (s : Served). s.dispatch) (get_or-map served_of requests i q d (omega (arith, low, some))) in
+          let at_j = ap (λ (s : Served). s.dispatch) (get_or-map served_of requests j q d some) in
+          let up : (get_or requests i q).dispatched ≤ (get_or requests j q).dispatched = timed.rising i j q low some in
+          omega (arith, at_i, at_j, up);
+      came_in =
+          λ k d h.
+          let some : k < length requests = omega (arith, h, n) in
+          let q : Request = no_request in
+          let entry = ap (λ (s : Served). s.entry) (get_or-map served_of requests k q d some) in
+          let dispatch = ap (λ (s : Served). s.dispatch) (get_or-map served_of requests k q d some) in
+          let came : (get_or requests k q).entry ≤ (get_or requests k q).dispatched = timed.came_in k q some in
+          omega (arith, entry, dispatch, came);
+    }
+
+pub late_of_served : (requests : List Request) (commands : List Command) (rounds : List ℕ) → AreLateByClock (map served_of requests) commands rounds → AreLate requests commands rounds
+late_of_served requests commands rounds late k d e here =
+    let n : length (map served_of requests) ≡ length requests = length-map requests served_of in
+    let at = late k (served_of d) e (omega (arith, here, n)) in
+    let same = get_or-map served_of requests k d (served_of d) here in
+    let deadline = ap (λ (s : Served). s.deadline) same in
+    let dispatch = ap (λ (s : Served). s.dispatch) same in
+    (λ x. let y = at.0 x in omega (arith, y, deadline, dispatch), λ x. at.1 (omega (arith, x, deadline, dispatch)))
+
+-- the same of the lists as the code names them
+pub have_bios_of : (lives lives2 : List Life) (openers : List ℕ) (places places2 : List (Option ℕ)) (old new : List Request) (queued queued2 : List Queued) (bios bios2 : List Bio)
+    → lives2 ≡ lives → places2 ≡ places → queued2 ≡ queued → bios2 ≡ bios
+    → ArePlaced lives openers places old → IsTalliedFrom old new bios2 → ArePlacedBios lives2 places2 queued2 (length queued2) bios → AreOpened queued openers
+    → HaveBios new bios
+have_bios_of lives lives2 openers places places2 old new queued queued2 bios bios2 same_lives same_places same_queued same_bios placed tallied are opened =
+    have_bios lives openers places old new queued bios placed (subst (IsTalliedFrom old new) same_bios tallied)
+    (subst (λ ls. ArePlacedBios ls places queued (length queued) bios) same_lives
+    (subst (λ ps. ArePlacedBios lives2 ps queued (length queued) bios) same_places
+    (subst (λ qs. ArePlacedBios lives2 places2 qs (length qs) bios) same_queued are)))
+    opened

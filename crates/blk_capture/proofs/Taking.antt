@@ -1,0 +1,123 @@
+use Rattle.std.proofs.Common.{ℕ, ◌≡◌, ◌≢◌, ◌<◌, ◌≤◌, ◌+◌, ◌-◌, ◌++◌, ◌∙◌, List, [], ◌∷◌, length, get_or, set, Option, None, Some, inl, inr, arith, ap, sym, subst}
+use Rattle.std.specs.List.{All}
+use Rattle.std.specs.List.Sorted.{IsNonDecreasingBy}
+use Rattle.std.proofs.lemmas.Bool.{cases_lt}
+use Rattle.std.proofs.lemmas.List.{get_or_append_left, get_or_push, get_or-set_same, get_or-set_other, get_or_default, length_push}
+use Rattle.std.proofs.lemmas.List.Sorted.{IsNonDecreasingBy-push}
+use Rattle.blk_capture.specs.Taken.{IsRequestOf, ArePlaced, PutsAt}
+use Rattle.blk_capture.specs.declared.clock.Dispatch.{Dispatch}
+use Rattle.blk_capture.specs.declared.requests.Life.{Life}
+use Rattle.blk_capture.specs.declared.requests.Request.{Request}
+
+-- what is taken of the first n dispatches
+pub record IsTakenTo (lives : List Life) (openers : List ℕ) (dispatches : List Dispatch) (places : List (Option ℕ)) (requests : List Request) (n : ℕ) : Type 0 where
+  pub placed : ArePlaced lives openers places requests
+  pub rising : IsNonDecreasingBy (λ q. q.dispatched) requests
+  pub came_in : All (λ q. q.entry ≤ q.dispatched) requests
+  pub untallied : All (λ q. q.bios ≡ 0) requests
+  pub below : (k j : ℕ) (d : Request) (e : Dispatch) → k < length requests → n ≤ j → j < length dispatches → (get_or requests k d).dispatched ≤ (get_or dispatches j e).time
+
+pub taken_none : (lives : List Life) (openers : List ℕ) (dispatches : List Dispatch) (places : List (Option ℕ)) (requests : List Request) → requests ≡ [] → IsTakenTo lives openers dispatches places requests 0
+taken_none lives openers dispatches places requests none =
+    let empty : length requests ≡ 0 = ap length none in
+    record {
+      placed = λ k h. absurd (omega (arith, h, empty));
+      rising = λ i j d low h. absurd (omega (arith, h, empty));
+      came_in = λ k d h. absurd (omega (arith, h, empty));
+      untallied = λ k d h. absurd (omega (arith, h, empty));
+      below = λ k j d e h. absurd (omega (arith, h, empty));
+    }
+
+pub taken_same : (lives : List Life) (openers : List ℕ) (dispatches : List Dispatch) (places : List (Option ℕ)) (requests : List Request) (n : ℕ) → IsTakenTo lives openers dispatches places requests n → IsTakenTo lives openers dispatches places requests (n + 1)
+taken_same lives openers dispatches places requests n old = record {
+  placed = old.placed;
+  rising = old.rising;
+  came_in = old.came_in;
+  untallied = old.untallied;
+  below = λ k j d e h low here. old.below k j d e h (omega (arith, low)) here;
+}
+
+all_more : {X : Type 0} (P : X → Type 0) (xs : List X) (y : X) → All P xs → P y → All P (xs ++ y ∷ [])
+all_more P xs y all one k d h =
+    let n : length (xs ++ y ∷ []) ≡ length xs + 1 = length_push xs y in
+    elim (cases_lt k (length xs)) [
+      | inl before ↦ subst P (sym (get_or_append_left xs (y ∷ []) d k before)) (all k d before)
+      | inr past ↦ subst P (sym (get_or_push xs y d k (omega (arith, past, h, n)))) one
+    ]
+
+some_is_none : (k : ℕ) → Some k ≡ None → ⊥
+some_is_none k e = cc
+
+placed_more : (lives : List Life) (openers : List ℕ) (places : List (Option ℕ)) (requests : List Request) (x : Dispatch) (q : Request)
+    → ArePlaced lives openers places requests → IsRequestOf lives openers x q → x.request < length places → get_or places x.request None ≡ None
+    → ArePlaced lives openers (set places x.request (Some (length requests))) (requests ++ q ∷ [])
+placed_more lives openers places requests x q placed of there free k h =
+    let n : length (requests ++ q ∷ []) ≡ length requests + 1 = length_push requests q in
+    elim (cases_lt k (length requests)) [
+      | inl before ↦
+          let old = placed k before in
+          let other : old.0 ≢ x.request = λ e. some_is_none k (sym old.1.place ∙ ap (λ r. get_or places r None) e ∙ free) in (
+            old.0,
+            record {
+              own = old.1.own;
+              opened = old.1.opened;
+              opener = λ d. ap (λ (p : Request). p.bio) (get_or_append_left requests (q ∷ []) d k before) ∙ old.1.opener d;
+              place = get_or-set_other places x.request old.0 (Some (length requests)) None other ∙ old.1.place;
+            },
+          )
+      | inr past ↦
+          let last : length requests ≡ k = omega (arith, past, h, n) in (
+            x.request,
+            record {
+              own = of.own;
+              opened = of.opened;
+              opener = λ d. ap (λ (p : Request). p.bio) (get_or_push requests q d k last) ∙ of.opener;
+              place = get_or-set_same places x.request (Some (length requests)) None there ∙ ap (λ j. Some j) last;
+            },
+          )
+    ]
+
+-- one more that is put in
+taken_more : (lives : List Life) (openers : List ℕ) (dispatches : List Dispatch) (places : List (Option ℕ)) (requests : List Request) (n : ℕ) (x : Dispatch) (q : Request)
+    → IsTakenTo lives openers dispatches places requests n → IsRequestOf lives openers x q → x.request < length places → get_or places x.request None ≡ None
+    → IsNonDecreasingBy (λ y. y.time) dispatches → n < length dispatches → x.time ≡ (get_or dispatches n x).time
+    → IsTakenTo lives openers dispatches (set places x.request (Some (length requests))) (requests ++ q ∷ []) (n + 1)
+taken_more lives openers dispatches places requests n x q old of there free up here is = record {
+  placed = placed_more lives openers places requests x q old.placed of there free;
+  rising =
+      IsNonDecreasingBy-push (λ (p : Request). p.dispatched) requests q old.rising
+      (λ d some.
+      let low : (get_or requests (length requests - 1) d).dispatched ≤ (get_or dispatches n x).time = old.below (length requests - 1) n d x (omega arith) (omega arith) here in
+      omega (arith, low, is, of.timed));
+  came_in = all_more (λ (p : Request). p.entry ≤ p.dispatched) requests q old.came_in (omega (arith, of.timed, of.came_in));
+  untallied = all_more (λ (p : Request). p.bios ≡ 0) requests q old.untallied of.none;
+  below =
+      λ k j d e h low in_list.
+      let n_more : length (requests ++ q ∷ []) ≡ length requests + 1 = length_push requests q in
+      elim (cases_lt k (length requests)) [
+        | inl before ↦
+            let same : (get_or (requests ++ q ∷ []) k d).dispatched ≡ (get_or requests k d).dispatched = ap (λ (p : Request). p.dispatched) (get_or_append_left requests (q ∷ []) d k before) in
+            let under : (get_or requests k d).dispatched ≤ (get_or dispatches j e).time = old.below k j d e before (omega (arith, low)) in_list in
+            omega (arith, same, under)
+        | inr past ↦
+            let same : (get_or (requests ++ q ∷ []) k d).dispatched ≡ q.dispatched = ap (λ (p : Request). p.dispatched) (get_or_push requests q d k (omega (arith, past, h, n_more))) in
+            let later : (get_or dispatches n e).time ≤ (get_or dispatches j e).time = up n j e (omega (arith, low)) in_list in
+            let at : (get_or dispatches n x).time ≡ (get_or dispatches n e).time = ap (λ (y : Dispatch). y.time) (get_or_default dispatches n x e here) in
+            omega (arith, same, later, at, is, of.timed)
+      ];
+}
+
+pub taken_put : (lives : List Life) (openers : List ℕ) (dispatches : List Dispatch) (places new_places : List (Option ℕ)) (requests new_requests : List Request) (n : ℕ) (x : Dispatch) (q : Request)
+    → IsTakenTo lives openers dispatches places requests n → IsRequestOf lives openers x q → PutsAt x.request q requests places new_requests new_places
+    → IsNonDecreasingBy (λ y. y.time) dispatches → n < length dispatches → x ≡ get_or dispatches n x
+    → IsTakenTo lives openers dispatches new_places new_requests (n + 1)
+taken_put lives openers dispatches places new_places requests new_requests n x q old of put up here is =
+    elim put [
+      | inl same ↦
+          subst (λ ps. IsTakenTo lives openers dispatches ps new_requests (n + 1)) (sym same.1)
+          (subst (λ qs. IsTakenTo lives openers dispatches places qs (n + 1)) (sym same.0) (taken_same lives openers dispatches places requests n old))
+      | inr new ↦
+          subst (λ ps. IsTakenTo lives openers dispatches ps new_requests (n + 1)) (sym new.2)
+          (subst (λ qs. IsTakenTo lives openers dispatches (set places x.request (Some (length requests))) qs (n + 1)) (sym new.3)
+          (taken_more lives openers dispatches places requests n x q old of new.0 new.1 up here (ap (λ (y : Dispatch). y.time) is)))
+    ]

@@ -1,0 +1,5 @@
+use Rattle.blk_capture.specs.Taken.{ArePlacedBios}
+use Rattle.blk_capture.proofs.requests.bios_of.Given as goal
+
+abbrev pub invariant-loop-bio : goal.invariant-loop-bio
+invariant-loop-bio g l = ArePlacedBios l.lives l.places l.queued l.bio-index l.bios.items

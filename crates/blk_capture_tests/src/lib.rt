@@ -1,0 +1,11 @@
+//! Tests of captures, matched and counted.
+#![tactic(auto)]
+
+#[cfg(test)]
+mod counting;
+#[cfg(test)]
+mod given;
+#[cfg(test)]
+mod matching;
+#[cfg(test)]
+mod refusals;
