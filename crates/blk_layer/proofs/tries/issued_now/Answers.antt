@@ -13,12 +13,12 @@ loop-place-preserved g c = elim c.if-is_some.branch [
   | then-is_some w ↦ (
     omega (arith, w.count-is, c.loop-place.invariant.0),
     subst (λ (n : ℕ). Counts c.args.events.now (c.loop-place.place + 1) n) (sym w.count-is)
-        (at_issue c.args.events.now c.loop-place.place c.loop-place.count c.index-events-events.result c.loop-place-test.true c.index-events-events.is (sym c.is_tick.ensures ∙ c.if-is_tick.false) (sym (c.is_some.ensures.value ∙ ap is_some c.issues.ensures) ∙ w.if-is_some.true) c.loop-place.invariant.1),
+        (at_issue c.args.events.now c.loop-place.place c.loop-place.count c.index-events-events.result c.loop-place-test.true c.index-events-events.is (sym c.is_tick.ensures ∙ c.if-is_tick.false) (sym (c.is_some.ensures ∙ ap is_some c.issues.ensures) ∙ w.if-is_some.true) c.loop-place.invariant.1),
   )
   | else-is_some w ↦ (
     omega (arith, w.count-is, c.loop-place.invariant.0),
     subst (λ (n : ℕ). Counts c.args.events.now (c.loop-place.place + 1) n) (sym w.count-is)
-        (at_other c.args.events.now c.loop-place.place c.loop-place.count c.index-events-events.result c.loop-place-test.true c.index-events-events.is (sym c.is_tick.ensures ∙ c.if-is_tick.false) (sym (c.is_some.ensures.value ∙ ap is_some c.issues.ensures) ∙ w.if-is_some.false) c.loop-place.invariant.1),
+        (at_other c.args.events.now c.loop-place.place c.loop-place.count c.index-events-events.result c.loop-place-test.true c.index-events-events.is (sym c.is_tick.ensures ∙ c.if-is_tick.false) (sym (c.is_some.ensures ∙ ap is_some c.issues.ensures) ∙ w.if-is_some.false) c.loop-place.invariant.1),
   )
 ]
 
