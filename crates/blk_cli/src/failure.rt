@@ -7,8 +7,7 @@ ghost use Rattle.blk_cli.specs.Ends.{line, numbered, at_record, text_name, bio_n
 
 use crate::{Ended, FAILED, REFUSED};
 use blk_bio::BioFault;
-use blk_sched::SchedFault;
-use blk_settings::LoadFault;
+use blk_settings::{LoadFault, SchedFault};
 use blk_sim::{SimFault, SimWhy};
 use blk_text::{TextFault, Why};
 use blk_trace::TraceRule;
