@@ -1,106 +1,138 @@
 -- What the comparison comes to, from what was read and what became of each run.
-use Rattle.std.proofs.Common.{ℕ, ◌≡◌, ◌∷◌, [], List, Option, Some, None, Result, Ok, Err, refl}
-use Rattle.std.specs.Prelude.{OnOk, IfErr, IfSome, MatchResult, All}
+use Rattle.std.proofs.Common.{ℕ, suc, ◌≡◌, ◌∙◌, ◌∷◌, ◌++◌, [], List, Option, Some, None, Result, Ok, Err, refl, sym, ap, subst, arith, take, drop, length, get_or, inl, inr, ◌<◌, ◌+◌, map, zero}
+use Rattle.std.specs.Prelude.{OnOk, IfErr, IfSome, MatchResult, All, ◌⊎◌}
 use Rattle.std.specs.Io.KnownBytes.{Appends}
+use Rattle.std.proofs.Math.Seq.{take-suc}
+use Rattle.std.proofs.lemmas.List.{take-append-drop, drop_more, length-map}
 use Rattle.std.proofs.lemmas.List.Elements.{All-nil, All-cons}
-use Rattle.blk_sched.specs.declared.SchedFault.{SchedFault}
-use Rattle.blk_sched.specs.declared.SchedFault.TheVariants as setting
-use Rattle.blk_deadline.specs.declared.Tunables.{Tunables}
-use Rattle.blk_kyber.specs.declared.Targets.{Targets}
+use Rattle.blk_settings.specs.declared.sched.Lineup.{Lineup}
+use Rattle.blk_settings.specs.declared.sched.Sched.{Sched}
+use Rattle.blk_settings.specs.declared.sched.Sched.TheVariants as sched
+use Rattle.blk_settings.specs.declared.sched.SchedFault.{SchedFault}
+use Rattle.blk_settings.specs.declared.sched.SchedFault.TheVariants as setting
+use Rattle.blk_settings.specs.Made.{IsMade, IsUnmade, HasFault}
+use Rattle.blk_settings.specs.Rows.{name_of, in_turn}
 use Rattle.blk_lists.specs.Sources.{Row}
 use Rattle.blk_text.specs.Script.{Scripted, SpellsScript}
 use Rattle.blk_trace.specs.Traces.{Traced}
 use Rattle.blk_report.specs.declared.figures.Report.{Report}
+use Rattle.blk_report.specs.Table.{IsTable}
 use Rattle.blk_sim.specs.declared.refusal.SimFault.{SimFault}
 use Rattle.blk_cli.specs.Statuses.{IsOfWriter}
-use Rattle.blk_settings.specs.declared.sched.Sched.{Sched}
-use Rattle.blk_settings.specs.declared.sched.Sched.TheVariants as under
 use Rattle.blk_cli.specs.declared.failure.Failure.{Failure}
 use Rattle.blk_cli.specs.declared.failure.Failure.TheVariants as failure
-use Rattle.blk_cli.specs.declared.comparing.Reports.{Reports}
-use Rattle.blk_cli.specs.Outcome.{IsTraceOfScript, IsUnrun, IsRefusedUnder}
-use Rattle.blk_settings.specs.Made.{IsUnmade}
-use Rattle.blk_cli.specs.Comparing.{IsReportUnder, AreReports, IsTableOf, AreMade, AreUnmade, IsFirstRefused, IsUncompared, CompareWrote, CompareFails}
+use Rattle.blk_cli.specs.Outcome.{IsTraceOfScript, IsUnrun}
+use Rattle.blk_cli.specs.Comparing.{IsReportUnder, AreReports, IsFirstUnmade, AreUnmade, IsFirstRefused, IsUncompared, CompareWrote, CompareFails}
 
 -- a script that a scheduler runs whole
 abbrev pub RunsWhole : Scripted → Sched → Type 0
 RunsWhole s sched = (trace : Traced) × IsTraceOfScript sched s trace
 
--- a scheduler that isn't made, of settings that all are made of
-none_unmade : (t : Tunables) (g : Targets) (f : SchedFault) → IsUnmade under.None f → AreUnmade t g f
-none_unmade t g setting.ZeroBatch h = absurd h
-none_unmade t g setting.ZeroTarget h = absurd h
-none_unmade t g setting.Memory h = tt
+-- a list, split at a place
+split_at : (xs : List Sched) (i : ℕ) (d : Sched) → i < length xs → xs ≡ take i xs ++ get_or xs i d ∷ drop (i + 1) xs
+split_at xs i d h = sym (take-append-drop i xs) ∙ ap (λ (rest : List Sched). take i xs ++ rest) (drop_more xs i d h)
 
-deadline_unmade : (t : Tunables) (g : Targets) (f : SchedFault) → IsUnmade (under.Deadline t) f → AreUnmade t g f
-deadline_unmade t g setting.ZeroBatch h = h
-deadline_unmade t g setting.ZeroTarget h = absurd h
-deadline_unmade t g setting.Memory h = tt
+-- no report yet, one more, and as many as schedulers
+pub no_reports : (s : Scripted) → AreReports [] s []
+unfolding AreReports
+no_reports s = tt
 
-kyber_unmade : (t : Tunables) (g : Targets) (f : SchedFault) → AreMade t g → IsUnmade (under.Kyber g) f → AreUnmade t g f
-kyber_unmade t g setting.ZeroBatch made h = absurd h
-kyber_unmade t g setting.ZeroTarget made h = (made.0, h)
-kyber_unmade t g setting.Memory made h = tt
+snoc : (ss : List Sched) (s : Scripted) (rs : List Report) (x : Sched) (r : Report) → AreReports ss s rs → IsReportUnder x s r → AreReports (ss ++ x ∷ []) s (rs ++ r ∷ [])
+unfolding AreReports
+snoc [] s [] x r are one = (one, tt)
+snoc [] s (q ∷ rs) x r are one = absurd are
+snoc (y ∷ ss) s [] x r are one = absurd are
+snoc (y ∷ ss) s (q ∷ rs) x r are one = (are.0, snoc ss s rs x r are.1 one)
+
+pub one_more : (ss : List Sched) (i : ℕ) (d : Sched) (s : Scripted) (rs : List Report) (r : Report) → i < length ss → AreReports (take i ss) s rs → IsReportUnder (get_or ss i d) s r
+    → AreReports (take (i + 1) ss) s (rs ++ r ∷ [])
+one_more ss i d s rs r h are one =
+    let next : take (suc i) ss ≡ take i ss ++ get_or ss i d ∷ [] = take-suc ss i d h in
+    let e : i + 1 ≡ suc i = omega arith in
+    let P : List Sched → Type 0 = λ xs. AreReports xs s (rs ++ r ∷ []) in
+    subst P (sym (ap (λ (n : ℕ). take n ss) e ∙ next)) (snoc (take i ss) s rs (get_or ss i d) r are one)
+
+pub as_many : (ss : List Sched) (s : Scripted) (rs : List Report) → AreReports ss s rs → length rs ≡ length ss
+unfolding AreReports
+as_many [] s [] are = refl
+as_many [] s (r ∷ rs) are = absurd are
+as_many (x ∷ ss) s [] are = absurd are
+as_many (x ∷ ss) s (r ∷ rs) are = ap suc (as_many ss s rs are.1)
+
+all_whole : (ss : List Sched) (s : Scripted) (rs : List Report) → AreReports ss s rs → All (RunsWhole s) ss
+unfolding AreReports
+all_whole [] s [] are = All-nil (RunsWhole s)
+all_whole [] s (r ∷ rs) are = absurd are
+all_whole (x ∷ ss) s [] are = absurd are
+all_whole (x ∷ ss) s (r ∷ rs) are = All-cons (RunsWhole s) x ss (are.0.trace, are.0.is_trace) (all_whole ss s rs are.1)
+
+-- the first that isn't made of its settings
+pub first_unmade : (ss : List Sched) (i : ℕ) (d : Sched) (f : SchedFault) → i < length ss → All IsMade (take i ss) → HasFault (get_or ss i d) f → IsFirstUnmade ss f
+first_unmade ss i d f h made fault = record { before = take i ss; unmade = get_or ss i d; after = drop (i + 1) ss; turn = split_at ss i d h; made = made; fault = fault }
+
+-- what is made of its settings is refused for want of memory alone
+made_memory : (x : Sched) (f : SchedFault) → IsMade x → IsUnmade x f → f ≡ setting.Memory
+made_memory sched.None setting.ZeroBatch made h = absurd h
+made_memory sched.None setting.ZeroTarget made h = absurd h
+made_memory (sched.Deadline t) setting.ZeroBatch made h = absurd (omega (arith, made, h))
+made_memory (sched.Deadline t) setting.ZeroTarget made h = absurd h
+made_memory (sched.Kyber t) setting.ZeroBatch made h = absurd h
+made_memory (sched.Kyber t) setting.ZeroTarget made h = elim h [ inl z ↦ absurd (omega (arith, made.0, z)) | inr z ↦ absurd (omega (arith, made.1, z)) ]
+made_memory (sched.Earliest l) setting.ZeroBatch made h = absurd h
+made_memory (sched.Earliest l) setting.ZeroTarget made h = absurd h
+made_memory x setting.Memory made h = refl
 
 -- a script that one of them doesn't run whole
-unrun : (t : Tunables) (g : Targets) (s : Scripted) (sched : Sched) (f : Failure) → ((x : SchedFault) → IsUnmade sched x → AreUnmade t g x) → ((x : SimFault) → IsRefusedUnder sched s x → IsFirstRefused t g s x)
-    → IsUnrun sched s f → IsUncompared t g s f
-unrun t g s sched (failure.Text f) unmade refused h = absurd h
-unrun t g s sched (failure.Sched f) unmade refused h = unmade f h
-unrun t g s sched (failure.Step f) unmade refused h = refused f h
-unrun t g s sched (failure.Solve f) unmade refused h = absurd h
-unrun t g s sched (failure.Check f) unmade refused h = absurd h
-unrun t g s sched (failure.Met f) unmade refused h = absurd h
-unrun t g s sched failure.NotFixed unmade refused h = absurd h
-unrun t g s sched (failure.Load f) unmade refused h = absurd h
-unrun t g s sched (failure.Write f) unmade refused h = absurd h
-unrun t g s sched failure.Memory unmade refused h = tt
-
-pub none_unrun : (t : Tunables) (g : Targets) (s : Scripted) (f : Failure) → AreMade t g → IsUnrun under.None s f → IsUncompared t g s f
-none_unrun t g s f made h =
-    unrun t g s under.None f (none_unmade t g)
-    (λ x r. record { before = []; under = under.None; after = under.Deadline t ∷ under.Kyber g ∷ []; turn = refl; made = made; whole = All-nil (RunsWhole s); refused = r }) h
-
-pub deadline_unrun : (t : Tunables) (g : Targets) (s : Scripted) (f : Failure) (none : Report) → AreMade t g → IsReportUnder under.None s none → IsUnrun (under.Deadline t) s f → IsUncompared t g s f
-deadline_unrun t g s f none made first h =
-    let whole : All (RunsWhole s) (under.None ∷ []) = All-cons (RunsWhole s) under.None [] (first.trace, first.is_trace) (All-nil (RunsWhole s)) in
-    unrun t g s (under.Deadline t) f (deadline_unmade t g)
-    (λ x r. record { before = under.None ∷ []; under = under.Deadline t; after = under.Kyber g ∷ []; turn = refl; made = made; whole = whole; refused = r }) h
-
-pub kyber_unrun : (t : Tunables) (g : Targets) (s : Scripted) (f : Failure) (none deadline : Report) → AreMade t g → IsReportUnder under.None s none → IsReportUnder (under.Deadline t) s deadline
-    → IsUnrun (under.Kyber g) s f → IsUncompared t g s f
-kyber_unrun t g s f none deadline made first second h =
-    let one : All (RunsWhole s) (under.Deadline t ∷ []) = All-cons (RunsWhole s) (under.Deadline t) [] (second.trace, second.is_trace) (All-nil (RunsWhole s)) in
-    let whole : All (RunsWhole s) (under.None ∷ under.Deadline t ∷ []) = All-cons (RunsWhole s) under.None (under.Deadline t ∷ []) (first.trace, first.is_trace) one in
-    unrun t g s (under.Kyber g) f (λ x u. kyber_unmade t g x made u)
-    (λ x r. record { before = under.None ∷ under.Deadline t ∷ []; under = under.Kyber g; after = []; turn = refl; made = made; whole = whole; refused = r }) h
+pub unrun : (ss : List Sched) (i : ℕ) (d : Sched) (s : Scripted) (rs : List Report) (f : Failure) → i < length ss → All IsMade ss → AreReports (take i ss) s rs → IsUnrun (get_or ss i d) s f → IsUncompared ss s f
+unrun ss i d s rs (failure.Text f) h made are r = absurd r
+unrun ss i d s rs (failure.Sched f) h made are r = inr (made_memory (get_or ss i d) f (made i d h) r)
+unrun ss i d s rs (failure.Step f) h made are r =
+    record { before = take i ss; under = get_or ss i d; after = drop (i + 1) ss; turn = split_at ss i d h; made = made; whole = all_whole (take i ss) s rs are; refused = r }
+unrun ss i d s rs (failure.Solve f) h made are r = absurd r
+unrun ss i d s rs (failure.Check f) h made are r = absurd r
+unrun ss i d s rs (failure.Met f) h made are r = absurd r
+unrun ss i d s rs failure.NotFixed h made are r = absurd r
+unrun ss i d s rs (failure.Load f) h made are r = absurd r
+unrun ss i d s rs (failure.Write f) h made are r = absurd r
+unrun ss i d s rs failure.Memory h made are r = tt
 
 -- the table that was put
-compare_wrote : (t : Tunables) (g : Targets) (left : Option (List Row)) (s : Scripted) (r : Reports) (old new : Option (List ℕ)) → IfSome left (λ rows. SpellsScript rows s) → AreReports t g s r
-    → ((text : List ℕ) × IsTableOf r text × Appends old new text) → IfSome left (λ rows. CompareWrote t g rows old new)
-compare_wrote t g None s r old new read are put = tt
-compare_wrote t g (Some rows) s r old new read are put =
-    record { script = s; reports = r; text = put.0; read = read; are_reports = are; is_table = put.1; wrote = put.2 }
+compare_wrote : (l : Lineup) (ss : List Sched) (left : Option (List Row)) (s : Scripted) (rs : List Report) (old new : Option (List ℕ)) → ss ≡ in_turn l → IfSome left (λ rows. SpellsScript rows s) → AreReports ss s rs
+    → ((text : List ℕ) × IsTable (map name_of ss) rs text × Appends old new text) → IfSome left (λ rows. CompareWrote l rows old new)
+compare_wrote l ss None s rs old new e read are put = tt
+compare_wrote l ss (Some rows) s rs old new e read are put =
+    record {
+      script = s;
+      reports = rs;
+      text = put.0;
+      read = read;
+      are_reports = subst (λ (xs : List Sched). AreReports xs s rs) e are;
+      is_table = subst (λ (xs : List Sched). IsTable (map name_of xs) rs put.0) e put.1;
+      wrote = put.2;
+    }
 
-pub compare_came : (t : Tunables) (g : Targets) (left : Option (List Row)) (s : Scripted) (r : Reports) (old new : Option (List ℕ)) (end : Result (Unit {0}) Failure) → IfSome left (λ rows. SpellsScript rows s)
-    → AreReports t g s r → OnOk end ((text : List ℕ) × IsTableOf r text × Appends old new text) → IfErr end IsOfWriter
-    → MatchResult end (λ _. IfSome left (λ rows. CompareWrote t g rows old new)) (CompareFails t g left)
-compare_came t g left s r old new (Ok u) read are put failed = compare_wrote t g left s r old new read are put
-compare_came t g left s r old new (Err f) read are put failed = rw failed.1 tt
+pub compare_came : (l : Lineup) (ss : List Sched) (left : Option (List Row)) (s : Scripted) (rs : List Report) (old new : Option (List ℕ)) (end : Result (Unit {0}) Failure) → ss ≡ in_turn l → IfSome left (λ rows. SpellsScript rows s)
+    → AreReports ss s rs → OnOk end ((text : List ℕ) × IsTable (map name_of ss) rs text × Appends old new text) → IfErr end IsOfWriter
+    → MatchResult end (λ _. IfSome left (λ rows. CompareWrote l rows old new)) (CompareFails l left)
+compare_came l ss left s rs old new (Ok u) e read are put failed = compare_wrote l ss left s rs old new e read are put
+compare_came l ss left s rs old new (Err f) e read are put failed = rw failed.1 tt
 
 -- a script that was read and not compared
 of_script : (P : Scripted → Type 0) (left : Option (List Row)) (s : Scripted) → IfSome left (λ rows. SpellsScript rows s) → P s → IfSome left (λ rows. (script : Scripted) × SpellsScript rows script × P script)
 of_script P None s read h = tt
 of_script P (Some rows) s read h = (s, read, h)
 
-pub compare_fails : (t : Tunables) (g : Targets) (left : Option (List Row)) (s : Scripted) (f : Failure) → IfSome left (λ rows. SpellsScript rows s) → IsUncompared t g s f → CompareFails t g left f
-compare_fails t g left s (failure.Text f) read h = absurd h
-compare_fails t g left s (failure.Sched f) read h = of_script (λ _. AreUnmade t g f) left s read h
-compare_fails t g left s (failure.Step f) read h = of_script (λ script. IsFirstRefused t g script f) left s read h
-compare_fails t g left s (failure.Solve f) read h = absurd h
-compare_fails t g left s (failure.Check f) read h = absurd h
-compare_fails t g left s (failure.Met f) read h = absurd h
-compare_fails t g left s failure.NotFixed read h = absurd h
-compare_fails t g left s (failure.Load f) read h = absurd h
-compare_fails t g left s (failure.Write f) read h = absurd h
-compare_fails t g left s failure.Memory read h = tt
+fails : (l : Lineup) (left : Option (List Row)) (s : Scripted) (f : Failure) → IfSome left (λ rows. SpellsScript rows s) → IsUncompared (in_turn l) s f → CompareFails l left f
+fails l left s (failure.Text f) read h = absurd h
+fails l left s (failure.Sched f) read h = of_script (λ _. AreUnmade (in_turn l) f) left s read h
+fails l left s (failure.Step f) read h = of_script (λ script. IsFirstRefused (in_turn l) script f) left s read h
+fails l left s (failure.Solve f) read h = absurd h
+fails l left s (failure.Check f) read h = absurd h
+fails l left s (failure.Met f) read h = absurd h
+fails l left s failure.NotFixed read h = absurd h
+fails l left s (failure.Load f) read h = absurd h
+fails l left s (failure.Write f) read h = absurd h
+fails l left s failure.Memory read h = tt
+
+pub compare_fails : (l : Lineup) (ss : List Sched) (left : Option (List Row)) (s : Scripted) (f : Failure) → ss ≡ in_turn l → IfSome left (λ rows. SpellsScript rows s) → IsUncompared ss s f → CompareFails l left f
+compare_fails l ss left s f e read h = fails l left s f read (subst (λ (xs : List Sched). IsUncompared xs s f) e h)

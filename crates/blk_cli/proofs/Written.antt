@@ -24,17 +24,13 @@ use Rattle.blk_text.specs.Script.{Scripted, SpellsScript}
 use Rattle.blk_text.specs.TraceRecords.{trace_rows}
 use Rattle.blk_text.specs.TraceForm.{SpellsTrace, SpellsTraceIn}
 use Rattle.blk_text.specs.Versions.{latest}
-use Rattle.blk_sched.specs.declared.SchedFault.{SchedFault}
-use Rattle.blk_sched.specs.declared.SchedFault.TheVariants as setting
-use Rattle.blk_deadline.specs.declared.Tunables.{Tunables}
-use Rattle.blk_kyber.specs.declared.Targets.{Targets}
+use Rattle.blk_settings.specs.declared.sched.SchedFault.{SchedFault}
 use Rattle.blk_sched.specs.Meaning.{Meaning}
 use Rattle.blk_sim.specs.Policies.{Policy}
 use Rattle.blk_sim.specs.declared.refusal.SimFault.{SimFault}
 use Rattle.blk_sim.specs.Simulation.{released_bios, ticks_of}
 use Rattle.blk_sim.specs.Refusals.{IsSimFault}
 use Rattle.blk_settings.specs.declared.sched.Sched.{Sched}
-use Rattle.blk_settings.specs.declared.sched.Sched.TheVariants as under
 use Rattle.blk_cli.specs.Statuses.{IsOfWriter}
 use Rattle.blk_cli.specs.declared.failure.Failure.{Failure}
 use Rattle.blk_cli.specs.declared.failure.Failure.TheVariants as failure
@@ -187,43 +183,10 @@ pub check_fails : (left : Option (List Row)) (claim : ProofClaim) (f : Failure) 
 check_fails left (OfLateness claim) f read h = unproved_fails left claim f read h
 check_fails left (OfMet claim) f read h = unmet_fails left claim f read h
 
--- a scheduler that is not made, by what its making promises
-positive : (n : ℕ) → (n ≡ 0) ⊎ (0 < n)
-positive zero = inl refl
-positive (suc n) = inr (omega arith)
-
-pub none_unmade : (f : SchedFault) → f ≡ setting.Memory → IsUnmade under.None f
-none_unmade setting.ZeroBatch e = cc e
-none_unmade setting.ZeroTarget e = cc e
-none_unmade setting.Memory e = tt
-
-pub deadline_unmade : {X : Type 0} (t : Tunables) (f : SchedFault) (r : Result X SchedFault) → r ≡ Err f → ((t.fifo_batch ≡ 0) ↔ (r ≡ Err setting.ZeroBatch)) → (0 < t.fifo_batch → f ≡ setting.Memory)
-    → IsUnmade (under.Deadline t) f
-deadline_unmade t setting.ZeroBatch r e exact memory = exact.1 e
-deadline_unmade t setting.ZeroTarget r e exact memory =
-    elim (positive t.fifo_batch) [ inl z ↦ let g = sym (exact.0 z) ∙ e in cc g | inr p ↦ let g = memory p in cc g ]
-deadline_unmade t setting.Memory r e exact memory = tt
-
-pub kyber_unmade : {X : Type 0} (t : Targets) (f : SchedFault) (r : Result X SchedFault) → r ≡ Err f → (((t.read ≡ 0) ⊎ (t.write ≡ 0)) ↔ (r ≡ Err setting.ZeroTarget))
-    → (0 < t.read → 0 < t.write → f ≡ setting.Memory) → IsUnmade (under.Kyber t) f
-kyber_unmade t setting.ZeroBatch r e exact memory =
-    elim (positive t.read) [
-      | inl z ↦ let g = sym (exact.0 (inl z)) ∙ e in cc g
-      | inr p ↦ elim (positive t.write) [ inl z ↦ let g = sym (exact.0 (inr z)) ∙ e in cc g | inr q ↦ let g = memory p q in cc g ]
-    ]
-kyber_unmade t setting.ZeroTarget r e exact memory = exact.1 e
-kyber_unmade t setting.Memory r e exact memory = tt
-
--- one that is made
-not_zero : (n : ℕ) → (n ≡ 0 → ⊥) → 0 < n
-not_zero n h = elim (positive n) [ inl z ↦ absurd (h z) | inr p ↦ p ]
-
-pub deadline_made : {X : Type 0} (t : Tunables) (s : X) (r : Result X SchedFault) → r ≡ Ok s → ((t.fifo_batch ≡ 0) ↔ (r ≡ Err setting.ZeroBatch)) → IsMade (under.Deadline t)
-deadline_made t s r e exact = not_zero t.fifo_batch (λ z. let g = sym e ∙ exact.0 z in cc g)
-
-pub kyber_made : {X : Type 0} (t : Targets) (s : X) (r : Result X SchedFault) → r ≡ Ok s → (((t.read ≡ 0) ⊎ (t.write ≡ 0)) ↔ (r ≡ Err setting.ZeroTarget)) → IsMade (under.Kyber t)
-kyber_made t s r e exact =
-    (not_zero t.read (λ z. let g = sym e ∙ exact.0 (inl z) in cc g), not_zero t.write (λ z. let g = sym e ∙ exact.0 (inr z) in cc g))
+-- what is known of a scheduler that was made
+pub made_start : {X : Type 0} (r : Result X SchedFault) (x : X) (P : X → Type 0) → r ≡ Ok x → IfOk r P → P x
+made_start (Ok y) x P e h = let same : y ≡ x = cc e in subst P same h
+made_start (Err f) x P e h = cc e
 
 -- a run from a start that is another's
 pub from_start : (policy : Policy) (script : Scripted) (trace : Traced) (m n : Meaning) (k l : List ℕ) → m ≡ n → k ≡ l → RunsFrom policy script m k trace → RunsFrom policy script n l trace

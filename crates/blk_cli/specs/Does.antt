@@ -20,7 +20,7 @@ IsNoLoad j = ⊤
 abbrev pub Does : Job → Option (List Row) → Option (List ℕ) → Option (List ℕ) → Result (Unit {0}) Failure → Type 0
 Does job.Version input old new r = MatchResult r (λ _. Appends old new version_line) VersionFails
 Does (job.Sim s) input old new r = MatchResult r (λ _. IfSome input (λ rows. SimWrote s rows old new)) (SimFails s input)
-Does (job.Compare t g) input old new r = MatchResult r (λ _. IfSome input (λ rows. CompareWrote t g rows old new)) (CompareFails t g input)
+Does (job.Compare l) input old new r = MatchResult r (λ _. IfSome input (λ rows. CompareWrote l rows old new)) (CompareFails l input)
 Does job.Migrate input old new r = MatchResult r (λ _. IfSome input (λ rows. MigrateWrote rows old new)) (MigrateFails input)
 Does job.Commands input old new r = MatchResult r (λ _. IfSome input (λ rows. TraceWrote IsCommandsText rows old new)) (TraceFails (IsUnfixed input) input)
 Does job.Late input old new r = MatchResult r (λ _. IfSome input (λ rows. TraceWrote IsLateText rows old new)) (TraceFails ⊥ input)

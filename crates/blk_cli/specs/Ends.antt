@@ -10,12 +10,11 @@ use Rattle.edd_oracle.specs.declared.OracleFault.{OracleFault}
 use Rattle.edd_oracle.specs.declared.OracleFault.TheVariants as oracle
 use Rattle.edd_check.specs.Names.{check_fault_name, met_fault_name}
 use Rattle.edd_oracle.specs.Names.{oracle_fault_name}
-use Rattle.blk_sched.specs.Names.{sched_fault_name}
-use Rattle.blk_settings.specs.Names.{load_fault_name}
+use Rattle.blk_settings.specs.Names.{load_fault_name, sched_fault_name}
 use Rattle.blk_lists.specs.Names.{why_name}
 use Rattle.blk_sim.specs.Names.{step_name}
-use Rattle.blk_sched.specs.declared.SchedFault.{SchedFault}
-use Rattle.blk_sched.specs.declared.SchedFault.TheVariants as setting
+use Rattle.blk_settings.specs.declared.sched.SchedFault.{SchedFault}
+use Rattle.blk_settings.specs.declared.sched.SchedFault.TheVariants as setting
 use Rattle.blk_settings.specs.declared.fault.LoadFault.{LoadFault}
 use Rattle.blk_settings.specs.declared.fault.LoadFault.TheVariants as load
 use Rattle.blk_lists.specs.declared.fault.Why.{Why}

@@ -14,14 +14,9 @@ use Rattle.edd_oracle.specs.declared.OracleFault.{OracleFault}
 use Rattle.edd_oracle.specs.Input.{IsRefusal}
 use Rattle.blk_trace.specs.Events.{entered, round_of}
 use Rattle.blk_trace.specs.Traces.{Traced}
-use Rattle.blk_sched.specs.Meaning.{Meaning, at_start}
-use Rattle.blk_sched.specs.declared.SchedFault.{SchedFault}
-use Rattle.blk_sched.specs.declared.SchedFault.TheVariants as setting
-use Rattle.blk_none.specs.Choice.{serves_own, none_chooses}
-use Rattle.blk_deadline.specs.Choice.{serves_all, deadline_chooses, kept_of as deadline_kept}
-use Rattle.blk_kyber.specs.Choice.{serves_own as kyber_serves}
-use Rattle.blk_kyber.specs.Kept.{kept_at_first, numbers_of, Chooses, Told}
-use Rattle.blk_kyber.specs.Limits.{Done, Tick}
+use Rattle.blk_sched.specs.Meaning.{Meaning}
+use Rattle.blk_settings.specs.declared.sched.SchedFault.{SchedFault}
+use Rattle.blk_settings.specs.declared.sched.SchedFault.TheVariants as setting
 use Rattle.blk_lists.specs.declared.fault.Why.{Why}
 use Rattle.blk_lists.specs.declared.fault.Why.TheVariants as why
 use Rattle.blk_lists.specs.declared.fault.TextFault.{TextFault}
@@ -43,38 +38,32 @@ use Rattle.blk_sim.specs.Runs.{Runs}
 use Rattle.blk_sim.specs.Refusals.{IsSimFault}
 use Rattle.blk_cli.specs.Meeting.{IsMetProved, IsRefusedMet, met_verdict_of}
 use Rattle.blk_settings.specs.Made.{IsMade, IsUnmade}
+use Rattle.blk_settings.specs.Rows.{serves_of, chooses_of, told_done_of, told_tick_of, meaning_of, numbers_at_first}
 use Rattle.blk_settings.specs.declared.sched.Sched.{Sched}
-use Rattle.blk_settings.specs.declared.sched.Sched.TheVariants as sched
 use Rattle.blk_cli.specs.declared.failure.Failure.{Failure}
 use Rattle.blk_cli.specs.declared.failure.Failure.TheVariants as failure
 
--- the policy of a scheduler, what it means before it has any request, and what it keeps then at a depth
+-- the policy of a scheduler
 abbrev pub policy_under : Sched → Policy
-policy_under sched.None = policy_of serves_own none_chooses (λ _ _ _ old new. new ≡ old) (λ _ old new. new ≡ old)
-policy_under (sched.Deadline t) = policy_of serves_all deadline_chooses (λ _ _ _ old new. new ≡ old) (λ _ old new. new ≡ old)
-policy_under (sched.Kyber t) = policy_of kyber_serves Chooses (λ _ dir wait old new. Told (Done dir wait) old new) (λ now old new. Told (Tick now) old new)
-
-abbrev pub meaning_of : Sched → Meaning
-meaning_of sched.None = at_start true
-meaning_of (sched.Deadline t) = at_start t.front_merges
-meaning_of (sched.Kyber t) = at_start true
-
-abbrev pub numbers_at_first : Sched → ℕ → List ℕ
-numbers_at_first sched.None depth = []
-numbers_at_first (sched.Deadline t) depth = deadline_kept (record { last = None; batching = 0; starved = 0 }) t
-numbers_at_first (sched.Kyber t) depth = numbers_of (kept_at_first t depth)
+policy_under s = policy_of (serves_of s) (chooses_of s) (told_done_of s) (told_tick_of s)
 
 -- the steps of a script lead from the start to this trace
 abbrev pub RunsFrom : Policy → Scripted → Meaning → List ℕ → Traced → Type 0
 RunsFrom policy script meaning kept trace = (end : SimState) × Runs policy script.lines (start_of script meaning kept) end
     × (trace.setup ≡ end.core.setup) × (trace.events ≡ end.core.events)
 
--- they do so under a scheduler, and one of them is refused under it
+-- they do so from the start of a scheduler of these settings by a policy, and one of them is refused so; and by its own policy
+abbrev pub RunsBy : Policy → Sched → Scripted → Traced → Type 0
+RunsBy policy s script trace = IsMade s × RunsFrom policy script (meaning_of s) (numbers_at_first s script.setup.depth) trace
+
+abbrev pub IsRefusedBy : Policy → Sched → Scripted → SimFault → Type 0
+IsRefusedBy policy s script f = IsMade s × IsSimFault policy script (meaning_of s) (numbers_at_first s script.setup.depth) f
+
 abbrev pub RunsUnder : Sched → Scripted → Traced → Type 0
-RunsUnder s script trace = IsMade s × RunsFrom (policy_under s) script (meaning_of s) (numbers_at_first s script.setup.depth) trace
+RunsUnder s script trace = RunsBy (policy_under s) s script trace
 
 abbrev pub IsRefusedUnder : Sched → Scripted → SimFault → Type 0
-IsRefusedUnder s script f = IsMade s × IsSimFault (policy_under s) script (meaning_of s) (numbers_at_first s script.setup.depth) f
+IsRefusedUnder s script f = IsRefusedBy (policy_under s) s script f
 
 -- the trace to which a script's steps lead under a scheduler, with the script's setup. Its bios are, each once, the `bio` lines that
 -- are followed by a flush of their submitter, and after it by a drain of its hardware queue or a run; its Ticks are as many as the
@@ -179,17 +168,20 @@ IsMetCheckFault input f = IfSome input (λ rows. (claim : MetClaim) × SpellsMet
 
 -- a script that was read is not run, a list not solved and a certificate not proved: for what it is refused, or for want of
 -- memory
+abbrev pub IsUnrunBy : Policy → Sched → Scripted → Failure → Type 0
+IsUnrunBy policy s script (failure.Text f) = ⊥
+IsUnrunBy policy s script (failure.Sched f) = IsUnmade s f
+IsUnrunBy policy s script (failure.Step f) = IsRefusedBy policy s script f
+IsUnrunBy policy s script (failure.Solve f) = ⊥
+IsUnrunBy policy s script (failure.Check f) = ⊥
+IsUnrunBy policy s script (failure.Met f) = ⊥
+IsUnrunBy policy s script failure.NotFixed = ⊥
+IsUnrunBy policy s script (failure.Load f) = ⊥
+IsUnrunBy policy s script (failure.Write f) = ⊥
+IsUnrunBy policy s script failure.Memory = ⊤
+
 abbrev pub IsUnrun : Sched → Scripted → Failure → Type 0
-IsUnrun s script (failure.Text f) = ⊥
-IsUnrun s script (failure.Sched f) = IsUnmade s f
-IsUnrun s script (failure.Step f) = IsRefusedUnder s script f
-IsUnrun s script (failure.Solve f) = ⊥
-IsUnrun s script (failure.Check f) = ⊥
-IsUnrun s script (failure.Met f) = ⊥
-IsUnrun s script failure.NotFixed = ⊥
-IsUnrun s script (failure.Load f) = ⊥
-IsUnrun s script (failure.Write f) = ⊥
-IsUnrun s script failure.Memory = ⊤
+IsUnrun s script f = IsUnrunBy (policy_under s) s script f
 
 abbrev pub IsUnsolved : List Command → Failure → Type 0
 IsUnsolved commands (failure.Text f) = ⊥

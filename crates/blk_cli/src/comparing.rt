@@ -1,46 +1,36 @@
 //! The schedulers beside one another.
 
-ghost use Rattle.std.specs.Prelude.{ℕ, ◌≡◌, ◌⊎◌, OnOk, IfOk, IfErr, IfSome, MatchResult, List, None};
+ghost use Rattle.std.specs.Prelude.{ℕ, ◌≡◌, ◌⊎◌, OnOk, IfOk, IfErr, IfSome, IfNone, MatchResult, List, All, map, length};
 ghost use Rattle.std.specs.Io.KnownBytes.{Appends};
 ghost use Rattle.blk_text.specs.Script.{IsScript, scripted};
 ghost use Rattle.blk_lists.specs.Sources.{input_of};
+ghost use Rattle.blk_report.specs.Table.{IsTable};
+ghost use Rattle.blk_settings.specs.Made.{IsMade};
+ghost use Rattle.blk_settings.specs.Rows.{name_of};
 ghost use Rattle.blk_cli.specs.Statuses.{IsOfWriter};
 ghost use Rattle.blk_cli.specs.Outcome.{IsUnrun};
-ghost use Rattle.blk_cli.specs.Comparing.{IsReportUnder, AreReports, IsTableOf, AreMade, AreUnmade, IsUncompared, CompareWrote, CompareFails};
+ghost use Rattle.blk_cli.specs.Comparing.{IsReportUnder, AreReports, IsFirstUnmade, IsUncompared, CompareWrote, CompareFails};
 
 use crate::failure::Failure;
 use crate::jobs::traced;
-use blk_deadline::Tunables;
-use blk_kyber::Targets;
 use blk_lists::Records;
 use blk_report::{Report, report, write_table};
-use blk_sched::SchedFault;
-use blk_settings::Sched;
+use blk_settings::{Lineup, Sched, SchedFault};
 use blk_text::{Script, read_script};
-use std::alloc::Global;
+use drafts::WriteFault;
+use std::alloc::{AllocError, Global};
 use std::io::{Read, Write};
 
-/// The reports of the traces of one script, under each scheduler.
-#[derive(Clone, Copy, Debug, PartialEq, Eq)]
-pub struct Reports {
-    /// Under `none`.
-    pub none: Report,
-    /// Under `deadline`.
-    pub deadline: Report,
-    /// Under `kyber`.
-    pub kyber: Report,
-}
-
-/// Why not all schedulers are made of these settings.
-fn unmade(tunables: Tunables, targets: Targets) -> Option<SchedFault>
-    ensures unmade { IfSome result (AreUnmade tunables targets) }
-    ensures made { result ≡ None → AreMade tunables targets }
+/// What is wrong with the settings of the first of these schedulers that isn't made of them.
+fn unmade(scheds: &[Sched]) -> Option<SchedFault>
+    ensures unmade { IfSome result (IsFirstUnmade scheds.now) }
+    ensures made { IfNone result (All IsMade scheds.now) }
 {
-    if tunables.fifo_batch == 0 {
-        return Some(SchedFault::ZeroBatch);
-    }
-    if targets.read == 0 || targets.write == 0 {
-        return Some(SchedFault::ZeroTarget);
+    for i in 0..scheds.len() {
+        match scheds[i].fault() {
+            Some(fault) => return Some(fault),
+            None => {}
+        }
     }
     None
 }
@@ -61,86 +51,92 @@ fn report_under(alloc: Global, sched: Sched, script: &Script) -> Result<Report, 
     }
 }
 
-/// The reports of a script under each scheduler, which run it in turn: where a step is refused, the later ones don't.
-fn reports_of(
-    alloc: Global,
-    tunables: Tunables,
-    targets: Targets,
-    script: &Script,
-) -> Result<Reports, Failure>
+/// The reports of a script under each of these schedulers, which run it in turn: where a step is refused, the later ones don't.
+fn reports_of(alloc: Global, scheds: &[Sched], script: &Script) -> Result<Vec<Report>, Failure>
     requires script { IsScript (scripted script.now) }
-    requires made { AreMade tunables targets }
-    ensures reports { IfOk result (AreReports tunables targets (scripted script.now)) }
-    ensures uncompared { IfErr result (IsUncompared tunables targets (scripted script.now)) }
+    requires made { All IsMade scheds.now }
+    ensures reports { IfOk result (λ all. AreReports scheds.now (scripted script.now) all.items) }
+    ensures uncompared { IfErr result (IsUncompared scheds.now (scripted script.now)) }
 {
-    let none = match report_under(alloc, Sched::None, script) {
-        Ok(report) => report,
-        Err(failure) => return Err(failure),
-    };
-    let deadline = match report_under(alloc, Sched::Deadline(tunables), script) {
-        Ok(report) => report,
-        Err(failure) => return Err(failure),
-    };
-    let kyber = match report_under(alloc, Sched::Kyber(targets), script) {
-        Ok(report) => report,
-        Err(failure) => return Err(failure),
-    };
-    Ok(Reports {
-        none,
-        deadline,
-        kyber,
-    })
+    let mut all = Vec::new(alloc);
+    for i in 0..scheds.len() {
+        let report = match report_under(alloc, scheds[i], script) {
+            Ok(report) => report,
+            Err(failure) => return Err(failure),
+        };
+        let Ok(()) = all.push(report) else {
+            return Err(Failure::Memory);
+        };
+    }
+    Ok(all)
 }
 
-/// Writes the table of the reports.
-fn put_table<W: Write>(alloc: Global, reports: Reports, writer: &mut W) -> Result<(), Failure>
-    ensures wrote { OnOk result ((text : List ℕ) × IsTableOf reports text × Appends (W.contents writer.old) (W.contents writer.new) text) }
-    ensures failed { IfErr result IsOfWriter }
+/// The reports of a script under each of these schedulers, once all of them are made of their settings.
+fn compared(alloc: Global, scheds: &[Sched], script: &Script) -> Result<Vec<Report>, Failure>
+    requires { IsScript (scripted script.now) }
+    ensures reports { IfOk result (λ all. AreReports scheds.now (scripted script.now) all.items) }
+    ensures uncompared { IfErr result (IsUncompared scheds.now (scripted script.now)) }
 {
-    let names: [&[u8]; 3] = [b"none", b"deadline", b"kyber"];
-    let in_turn = [reports.none, reports.deadline, reports.kyber];
-    match write_table(alloc, &names, &in_turn, writer) {
-        Ok(()) => Ok(()),
-        Err(fault) => Err(Failure::Write(fault)),
+    match unmade(scheds) {
+        Some(fault) => Err(Failure::Sched(fault)),
+        None => reports_of(alloc, scheds, script),
     }
 }
 
-/// The reports of a script under each scheduler, once all of these are made of the settings.
-fn compared(
-    alloc: Global,
-    tunables: Tunables,
-    targets: Targets,
-    script: &Script,
-) -> Result<Reports, Failure>
-    requires { IsScript (scripted script.now) }
-    ensures reports { IfOk result (AreReports tunables targets (scripted script.now)) }
-    ensures uncompared { IfErr result (IsUncompared tunables targets (scripted script.now)) }
+/// The names of schedulers.
+fn names_of<'a>(alloc: Global, scheds: &[Sched]) -> Result<Vec<&'a [u8]>, AllocError>
+    ensures { IfOk result (λ names. map (λ name. name.now) names.items ≡ map name_of scheds.now) }
 {
-    match unmade(tunables, targets) {
-        Some(fault) => Err(Failure::Sched(fault)),
-        None => reports_of(alloc, tunables, targets, script),
+    let mut names = Vec::new(alloc);
+    for i in 0..scheds.len() {
+        names.push(scheds[i].name().as_bytes())?;
+    }
+    Ok(names)
+}
+
+/// Writes the table of the reports of these schedulers.
+fn put_table<W: Write>(
+    alloc: Global,
+    scheds: &[Sched],
+    reports: &[Report],
+    writer: &mut W,
+) -> Result<(), Failure>
+    requires { length reports.now ≡ length scheds.now }
+    ensures wrote { OnOk result ((text : List ℕ) × IsTable (map name_of scheds.now) reports.now text × Appends (W.contents writer.old) (W.contents writer.new) text) }
+    ensures failed { IfErr result IsOfWriter }
+{
+    let Ok(names) = names_of(alloc, scheds) else {
+        return Err(Failure::Write(WriteFault::Memory));
+    };
+    match write_table(alloc, names.as_slice(), reports, writer) {
+        Ok(()) => Ok(()),
+        Err(fault) => Err(Failure::Write(fault)),
     }
 }
 
 /// Reads a script, runs it under each scheduler, and writes the table of their reports.
 pub fn compare_schedulers<R: Read + Drop, W: Write>(
     alloc: Global,
-    tunables: Tunables,
-    targets: Targets,
+    lineup: Lineup,
     reader: R,
     writer: &mut W,
 ) -> Result<(), Failure>
-    ensures did { MatchResult result (λ _. IfSome (input_of (R.remaining reader)) (λ rows. CompareWrote tunables targets rows (W.contents writer.old) (W.contents writer.new)))
-        (CompareFails tunables targets (input_of (R.remaining reader))) }
+    ensures did { MatchResult result (λ _. IfSome (input_of (R.remaining reader)) (λ rows. CompareWrote lineup rows (W.contents writer.old) (W.contents writer.new)))
+        (CompareFails lineup (input_of (R.remaining reader))) }
     ensures kept { IfErr result (λ f. IsOfWriter f ⊎ (writer.new ≡ writer.old)) }
 {
     let script = match read_script(alloc, &mut Records::new(alloc, reader)) {
         Ok(script) => script,
         Err(fault) => return Err(Failure::Text(fault)),
     };
-    let reports = match compared(alloc, tunables, targets, &script) {
+    let Ok(scheds) = lineup.in_turn(alloc) else {
+        return Err(Failure::Memory);
+    };
+    let rows = scheds.as_slice();
+    let reports = match compared(alloc, rows, &script) {
         Ok(reports) => reports,
         Err(failure) => return Err(failure),
     };
-    put_table(alloc, reports, writer)
+    let told = reports.as_slice();
+    put_table(alloc, rows, told, writer)
 }

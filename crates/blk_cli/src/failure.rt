@@ -7,8 +7,7 @@ ghost use Rattle.blk_cli.specs.Ends.{line, numbered, at_record, text_line, step_
 
 use crate::{Ended, FAILED, REFUSED};
 use blk_lists::{TextFault, Why};
-use blk_sched::SchedFault;
-use blk_settings::LoadFault;
+use blk_settings::{LoadFault, SchedFault};
 use blk_sim::{SimFault, SimWhy};
 use drafts::WriteFault;
 use edd_check::{CheckFault, MetFault};

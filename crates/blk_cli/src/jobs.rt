@@ -4,6 +4,9 @@ ghost use Rattle.std.specs.Prelude.{◌≡◌, ◌*◌, ◌⊎◌, OnOk, IfOk, I
 ghost use Rattle.std.specs.Io.KnownBytes.{Appends};
 ghost use Rattle.blk_trace.specs.Events.{entered, round_of};
 ghost use Rattle.blk_text.specs.Script.{IsScript, scripted};
+ghost use Rattle.blk_settings.specs.Made.{IsUnmade};
+ghost use Rattle.blk_settings.specs.Rows.{IsStart};
+ghost use Rattle.blk_sim.specs.Policies.{policy_of};
 ghost use Rattle.blk_sim.specs.Simulation.{released_bios, ticks_of};
 ghost use Rattle.blk_cli.specs.Statuses.{IsOfWriter};
 ghost use Rattle.std.specs.Prelude.{ℤ, pos, negsuc, ◌+ℤ◌, ◌≤ℤ◌, ◌≤◌, ◌<◌, ◌^◌};
@@ -15,16 +18,13 @@ ghost use Rattle.blk_lists.specs.Texts.{rows_text};
 ghost use Rattle.blk_text.specs.TraceRecords.{trace_rows};
 ghost use Rattle.blk_text.specs.TraceForm.{SpellsTraceIn};
 ghost use Rattle.blk_text.specs.Versions.{latest};
-ghost use Rattle.blk_cli.specs.Outcome.{RunsUnder, IsUnrun, IsUnsolved, IsUnproved, SimWrote, SimFails, MigrateWrote, MigrateFails, OracleWrote, OracleFails, CheckWrote, CheckFails, VersionFails, IsProved, IsGood, IsBad, line_on, verdict_of, version_line};
+ghost use Rattle.blk_cli.specs.Outcome.{RunsBy, RunsUnder, IsUnrunBy, IsUnrun, IsUnsolved, IsUnproved, SimWrote, SimFails, MigrateWrote, MigrateFails, OracleWrote, OracleFails, CheckWrote, CheckFails, VersionFails, IsProved, IsGood, IsBad, line_on, verdict_of, version_line};
 ghost use Rattle.blk_lists.specs.Proof.{proof_claimed, IsProofClaim};
 
 use crate::failure::Failure;
 use crate::meeting::judge_met;
-use blk_deadline::{Deadline, Tunables};
-use blk_kyber::{Kyber, Targets};
-use blk_lists::{Certificate, Proof, Records, read_commands, read_proof, write_certificate};
-use blk_none::NoneSched;
-use blk_settings::Sched;
+use blk_sched::Scheduler;
+use blk_settings::{Sched, SchedFault, with_scheduler};
 use blk_sim::simulate;
 use blk_text::{Script, read_script, read_trace, write_trace};
 use blk_trace::Trace;
@@ -46,54 +46,23 @@ pub fn write_version<W: Write>(writer: &mut W) -> Result<(), Failure>
     }
 }
 
-/// The trace of a script under `none`.
-fn traced_by_none(alloc: Global, script: &Script) -> Result<Trace, Failure>
-    requires { IsScript (scripted script.now) }
-    ensures ran { IfOk result (λ trace. RunsUnder Sched.None (scripted script.now) trace) }
+/// The trace of a script under the scheduler of these settings, where it was made.
+fn traced_by<S: Scheduler<A = Global>>(
+    alloc: Global,
+    sched: Sched,
+    made: Result<S, SchedFault>,
+    script: &Script,
+) -> Result<Trace, Failure>
+    requires script { IsScript (scripted script.now) }
+    requires start { IfOk made (λ s. IsStart sched script.now.setup.depth (S.meaning s) (S.kept s)) }
+    requires unmade { IfErr made (IsUnmade sched) }
+    ensures ran { IfOk result (λ trace. RunsBy (policy_of S.serves S.chooses S.told_done S.told_tick) sched (scripted script.now) trace) }
     ensures setup { IfOk result (λ trace. trace.setup ≡ script.now.setup) }
     ensures bios { IfOk result (λ trace. IsPermutation (entered trace.events) (released_bios script.now.setup.hw script.now.lines.items)) }
     ensures ticks { IfOk result (λ trace. round_of trace.events ≡ sum_by ticks_of script.now.lines.items) }
-    ensures unrun { IfErr result (IsUnrun Sched.None (scripted script.now)) }
+    ensures unrun { IfErr result (IsUnrunBy (policy_of S.serves S.chooses S.told_done S.told_tick) sched (scripted script.now)) }
 {
-    let scheduler = match NoneSched::new(alloc) {
-        Ok(scheduler) => scheduler,
-        Err(fault) => return Err(Failure::Sched(fault)),
-    };
-    match simulate(alloc, script, scheduler) {
-        Ok(trace) => Ok(trace),
-        Err(fault) => Err(Failure::Step(fault)),
-    }
-}
-
-/// The trace of a script under `deadline`.
-fn traced_by_deadline(alloc: Global, tunables: Tunables, script: &Script) -> Result<Trace, Failure>
-    requires { IsScript (scripted script.now) }
-    ensures ran { IfOk result (λ trace. RunsUnder (Sched.Deadline tunables) (scripted script.now) trace) }
-    ensures setup { IfOk result (λ trace. trace.setup ≡ script.now.setup) }
-    ensures bios { IfOk result (λ trace. IsPermutation (entered trace.events) (released_bios script.now.setup.hw script.now.lines.items)) }
-    ensures ticks { IfOk result (λ trace. round_of trace.events ≡ sum_by ticks_of script.now.lines.items) }
-    ensures unrun { IfErr result (IsUnrun (Sched.Deadline tunables) (scripted script.now)) }
-{
-    let scheduler = match Deadline::new(alloc, tunables) {
-        Ok(scheduler) => scheduler,
-        Err(fault) => return Err(Failure::Sched(fault)),
-    };
-    match simulate(alloc, script, scheduler) {
-        Ok(trace) => Ok(trace),
-        Err(fault) => Err(Failure::Step(fault)),
-    }
-}
-
-/// The trace of a script under `kyber`, whose limits begin at the depth of the script's setup.
-fn traced_by_kyber(alloc: Global, targets: Targets, script: &Script) -> Result<Trace, Failure>
-    requires { IsScript (scripted script.now) }
-    ensures ran { IfOk result (λ trace. RunsUnder (Sched.Kyber targets) (scripted script.now) trace) }
-    ensures setup { IfOk result (λ trace. trace.setup ≡ script.now.setup) }
-    ensures bios { IfOk result (λ trace. IsPermutation (entered trace.events) (released_bios script.now.setup.hw script.now.lines.items)) }
-    ensures ticks { IfOk result (λ trace. round_of trace.events ≡ sum_by ticks_of script.now.lines.items) }
-    ensures unrun { IfErr result (IsUnrun (Sched.Kyber targets) (scripted script.now)) }
-{
-    let scheduler = match Kyber::new(alloc, targets, script.setup.depth()) {
+    let scheduler = match made {
         Ok(scheduler) => scheduler,
         Err(fault) => return Err(Failure::Sched(fault)),
     };
@@ -112,11 +81,12 @@ pub fn traced(alloc: Global, sched: Sched, script: &Script) -> Result<Trace, Fai
     ensures ticks { IfOk result (λ trace. round_of trace.events ≡ sum_by ticks_of script.now.lines.items) }
     ensures unrun { IfErr result (IsUnrun sched (scripted script.now)) }
 {
-    match sched {
-        Sched::None => traced_by_none(alloc, script),
-        Sched::Deadline(tunables) => traced_by_deadline(alloc, tunables, script),
-        Sched::Kyber(targets) => traced_by_kyber(alloc, targets, script),
-    }
+    with_scheduler!(
+        alloc,
+        sched,
+        script.setup.depth(),
+        |row, made| traced_by(alloc, row, made, script)
+    )
 }
 
 /// Writes a trace.

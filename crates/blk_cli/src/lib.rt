@@ -69,9 +69,7 @@ pub fn work<R: Read + Drop, W: Write>(
     match job {
         Job::Version => write_version(writer),
         Job::Sim(sched) => simulate_script(alloc, sched, reader, writer),
-        Job::Compare(tunables, targets) => {
-            compare_schedulers(alloc, tunables, targets, reader, writer)
-        }
+        Job::Compare(lineup) => compare_schedulers(alloc, lineup, reader, writer),
         Job::Migrate => migrate_trace(alloc, reader, writer),
         Job::Commands => list_commands(alloc, reader, writer),
         Job::Late => list_late(alloc, reader, writer),

@@ -11,7 +11,7 @@ ghost use Rattle.blk_deadline.specs.Shown.{pending_of, turn_of, tunables_of, mea
 
 use blk_bio::{Dir, Limits, MAX_QUEUES, Request, Side};
 use blk_index::Sorted;
-use blk_sched::{MAX_HANDED, MAX_OPEN, OpenPicks, Queued, SchedFault, Scheduler};
+use blk_sched::{MAX_HANDED, MAX_OPEN, OpenPicks, Queued, Scheduler};
 use std::alloc::{AllocError, Allocator, Global};
 
 /// What the scheduler is tuned by, by the names of Linux's deadline-iosched.
@@ -23,6 +23,24 @@ pub struct Tunables {
     pub writes_starved: u16,
     /// Whether a newcomer may join at the front.
     pub front_merges: bool,
+}
+
+impl Tunables {
+    /// Whether a batch is of no request: there is no scheduler of such tunables.
+    pub fn has_zero_batch(&self) -> bool
+        ensures { IsTrue result ↔ (self.now.fifo_batch ≡ 0) }
+    {
+        self.fifo_batch == 0
+    }
+}
+
+/// Why a scheduler is not made, in the order in which the reasons are looked for.
+#[derive(Clone, Copy, Debug, PartialEq, Eq)]
+pub enum DeadlineFault {
+    /// A batch of no request.
+    ZeroBatch,
+    /// Memory ran out.
+    Memory,
 }
 
 /// What was picked last.
@@ -60,18 +78,18 @@ pub struct Deadline<A: Allocator = Global> {
 impl<A: Allocator + Clone> Deadline<A> {
     /// A scheduler in which nothing waits and no pick is open, in round 0. Refused as `ZeroBatch` for a batch of no
     /// request, and as `Memory` where memory runs out.
-    pub fn new(alloc: A, tunables: Tunables) -> Result<Deadline<A>, SchedFault>
-        ensures zero { (tunables.fifo_batch ≡ 0) ↔ (result ≡ Err SchedFault.ZeroBatch) }
+    pub fn new(alloc: A, tunables: Tunables) -> Result<Deadline<A>, DeadlineFault>
+        ensures zero { (tunables.fifo_batch ≡ 0) ↔ (result ≡ Err DeadlineFault.ZeroBatch) }
         ensures ok { IfOk result (λ s. meaning_of s ≡ at_start tunables.front_merges) }
         ensures turn { IfOk result (λ s. turn_of s ≡ record { last = None; batching = 0; starved = 0 }) }
         ensures tunables { IfOk result (λ s. tunables_of s ≡ tunables) }
-        ensures memory { IfErr result (λ e. 0 < tunables.fifo_batch → e ≡ SchedFault.Memory) }
+        ensures memory { IfErr result (λ e. 0 < tunables.fifo_batch → e ≡ DeadlineFault.Memory) }
     {
-        if tunables.fifo_batch == 0 {
-            return Err(SchedFault::ZeroBatch);
+        if tunables.has_zero_batch() {
+            return Err(DeadlineFault::ZeroBatch);
         }
         let Ok(index) = Sorted::new(alloc) else {
-            return Err(SchedFault::Memory);
+            return Err(DeadlineFault::Memory);
         };
         Ok(Deadline {
             index,

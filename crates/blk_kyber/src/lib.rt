@@ -21,7 +21,7 @@ use crate::limits::{DomainLimits, ROUNDS_BETWEEN};
 use crate::lines::Lines;
 use crate::turn::{Turn, cap, other};
 use blk_bio::{Dir, Limits, MAX_QUEUES, Request, Side};
-use blk_sched::{MAX_HANDED, MAX_OPEN, OpenPicks, Queued, SchedFault, Scheduler};
+use blk_sched::{MAX_HANDED, MAX_OPEN, OpenPicks, Queued, Scheduler};
 use std::alloc::{AllocError, Allocator, Global};
 
 /// How many rounds a request may wait from its release to its issue, 1 at least.
@@ -34,6 +34,13 @@ pub struct Targets {
 }
 
 impl Targets {
+    /// Whether a request may wait for no round: there is no scheduler of such targets.
+    pub fn has_zero_target(&self) -> bool
+        ensures { IsTrue result ↔ ((self.now.read ≡ 0) ⊎ (self.now.write ≡ 0)) }
+    {
+        self.read == 0 || self.write == 0
+    }
+
     /// The target of a direction.
     fn of(&self, dir: Dir) -> u64
         ensures { result ≡ target_of dir self.now }
@@ -43,6 +50,15 @@ impl Targets {
             Dir::Write => self.write,
         }
     }
+}
+
+/// Why a scheduler is not made, in the order in which the reasons are looked for.
+#[derive(Clone, Copy, Debug, PartialEq, Eq)]
+pub enum KyberFault {
+    /// A target of no round.
+    ZeroTarget,
+    /// Memory ran out.
+    Memory,
 }
 
 /// Requests by turns of reads and writes at each hardware queue, while fewer are in flight than the limits.
@@ -59,19 +75,19 @@ pub struct Kyber<A: Allocator = Global> {
 impl<A: Allocator + Clone> Kyber<A> {
     /// A scheduler for the hardware queues 0 to 15, in which nothing waits and no pick is open, in round 0, with both limits
     /// at the depth. Refused as `ZeroTarget` where a target is 0, and as `Memory` where memory runs out.
-    pub fn new(alloc: A, targets: Targets, depth: u64) -> Result<Kyber<A>, SchedFault>
+    pub fn new(alloc: A, targets: Targets, depth: u64) -> Result<Kyber<A>, KyberFault>
         requires least { 1 ≤ depth }
         requires most { depth ≤ MAX_OPEN }
-        ensures zero { ((targets.read ≡ 0) ⊎ (targets.write ≡ 0)) ↔ (result ≡ Err SchedFault.ZeroTarget) }
+        ensures zero { ((targets.read ≡ 0) ⊎ (targets.write ≡ 0)) ↔ (result ≡ Err KyberFault.ZeroTarget) }
         ensures ok { IfOk result (λ s. meaning_of s ≡ at_start true) }
         ensures kept { IfOk result (λ s. kyber_kept s ≡ kept_at_first targets depth) }
-        ensures memory { IfErr result (λ e. 0 < targets.read → 0 < targets.write → e ≡ SchedFault.Memory) }
+        ensures memory { IfErr result (λ e. 0 < targets.read → 0 < targets.write → e ≡ KyberFault.Memory) }
     {
-        if targets.read == 0 || targets.write == 0 {
-            return Err(SchedFault::ZeroTarget);
+        if targets.has_zero_target() {
+            return Err(KyberFault::ZeroTarget);
         }
         let Ok(lines) = Lines::new(alloc) else {
-            return Err(SchedFault::Memory);
+            return Err(KyberFault::Memory);
         };
         Ok(Kyber {
             lines,

@@ -2,68 +2,30 @@
 
 ghost use Rattle.std.specs.Prelude.{◌≡◌, ◌+◌, IfOk, OnOk, IfErr};
 ghost use Rattle.blk_settings.specs.Numbers.{IsLoad};
-ghost use Rattle.blk_settings.specs.Made.{IsUnsettled};
+ghost use Rattle.blk_settings.specs.Made.{IsUnmade, IsUnsettled};
+ghost use Rattle.blk_settings.specs.Rows.{IsStart};
 
 use crate::running::load;
-use blk_deadline::{Deadline, Tunables};
-use blk_kyber::{Kyber, Targets};
-use blk_none::NoneSched;
-use blk_settings::{Load, LoadFault, Loads, Sched, Settled, Unsettled};
+use blk_sched::Scheduler;
+use blk_settings::{Load, LoadFault, Loads, Sched, SchedFault, Settled, Unsettled, with_scheduler};
 use std::alloc::Global;
 use std::sync::Wait;
 use std::thread::Threads;
 
-/// What came of a load under `none`.
-fn load_none<R: Threads + Wait + Sync>(
+/// What came of a load under the scheduler of these settings, where it was made.
+fn load_by<R: Threads + Wait + Sync, S: Scheduler<A = Global> + Send>(
     rt: &R,
     alloc: Global,
+    sched: Sched,
+    made: Result<S, SchedFault>,
     amounts: Load,
 ) -> Result<Settled, Unsettled>
+    requires start { IfOk made (λ s. IsStart sched amounts.depth (S.meaning s) (S.kept s)) }
+    requires unmade { IfErr made (IsUnmade sched) }
     ensures settled { IfOk result (λ s. s.accepted ≡ s.served + s.left) }
-    ensures failed { IfErr result (IsUnsettled Sched.None) }
+    ensures failed { IfErr result (IsUnsettled sched) }
 {
-    let scheduler = match NoneSched::new(alloc) {
-        Ok(scheduler) => scheduler,
-        Err(fault) => return Err(Unsettled::Sched(fault)),
-    };
-    match load(rt, alloc, amounts, scheduler) {
-        Ok(settled) => Ok(settled),
-        Err(fault) => Err(Unsettled::Load(fault)),
-    }
-}
-
-/// What came of a load under `deadline`.
-fn load_deadline<R: Threads + Wait + Sync>(
-    rt: &R,
-    alloc: Global,
-    tunables: Tunables,
-    amounts: Load,
-) -> Result<Settled, Unsettled>
-    ensures settled { IfOk result (λ s. s.accepted ≡ s.served + s.left) }
-    ensures failed { IfErr result (IsUnsettled (Sched.Deadline tunables)) }
-{
-    let scheduler = match Deadline::new(alloc, tunables) {
-        Ok(scheduler) => scheduler,
-        Err(fault) => return Err(Unsettled::Sched(fault)),
-    };
-    match load(rt, alloc, amounts, scheduler) {
-        Ok(settled) => Ok(settled),
-        Err(fault) => Err(Unsettled::Load(fault)),
-    }
-}
-
-/// What came of a load under `kyber`, whose limits begin at the depth of the load.
-fn load_kyber<R: Threads + Wait + Sync>(
-    rt: &R,
-    alloc: Global,
-    targets: Targets,
-    amounts: Load,
-) -> Result<Settled, Unsettled>
-    requires { IsLoad amounts }
-    ensures settled { IfOk result (λ s. s.accepted ≡ s.served + s.left) }
-    ensures failed { IfErr result (IsUnsettled (Sched.Kyber targets)) }
-{
-    let scheduler = match Kyber::new(alloc, targets, amounts.depth) {
+    let scheduler = match made {
         Ok(scheduler) => scheduler,
         Err(fault) => return Err(Unsettled::Sched(fault)),
     };
@@ -87,11 +49,12 @@ pub fn load_under<R: Threads + Wait + Sync>(
     if !amounts.is_in_range() {
         return Err(Unsettled::Load(LoadFault::Range));
     }
-    match sched {
-        Sched::None => load_none(rt, alloc, amounts),
-        Sched::Deadline(tunables) => load_deadline(rt, alloc, tunables, amounts),
-        Sched::Kyber(targets) => load_kyber(rt, alloc, targets, amounts),
-    }
+    with_scheduler!(
+        alloc,
+        sched,
+        amounts.depth,
+        |row, made| load_by(rt, alloc, row, made, amounts)
+    )
 }
 
 /// Loads over a layer whose submitters and workers are threads of the runtime.

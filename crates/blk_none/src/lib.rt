@@ -8,7 +8,7 @@ ghost use Rattle.blk_none.specs.Choice.{serves_own, none_choice, none_chooses};
 
 use blk_bio::{Dir, Limits, MAX_QUEUES, Request, Side};
 use blk_index::Lane;
-use blk_sched::{MAX_OPEN, OpenPicks, Queued, SchedFault, Scheduler};
+use blk_sched::{MAX_OPEN, OpenPicks, Queued, Scheduler};
 use std::alloc::{AllocError, Allocator, Global};
 use std::marker::Model;
 
@@ -42,14 +42,13 @@ impl<A: Allocator> Model for NoneSched<A> {
 }
 
 impl<A: Allocator + Clone> NoneSched<A> {
-    /// A scheduler for all hardware queues, in which nothing waits and no pick is open, in round 0. Its only
-    /// fault is `Memory`.
-    pub fn new(alloc: A) -> Result<NoneSched<A>, SchedFault>
-        ensures ok { IfOk result (λ s. s ≡ at_start true) }
-        ensures err { IfErr result (λ e. e ≡ SchedFault.Memory) }
+    /// A scheduler for all hardware queues, in which nothing waits and no pick is open, in round 0. Refused for want
+    /// of memory alone.
+    pub fn new(alloc: A) -> Result<NoneSched<A>, AllocError>
+        ensures { IfOk result (λ s. s ≡ at_start true) }
     {
         let Ok(lanes) = empty_lanes(alloc) else {
-            return Err(SchedFault::Memory);
+            return Err(AllocError);
         };
         Ok(NoneSched {
             lanes,

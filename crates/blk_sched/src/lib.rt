@@ -2,7 +2,6 @@
 #![tactic(auto)]
 
 ghost use Rattle.std.specs.Prelude.{◌≡◌, ◌<◌, ◌+◌, ◌↔◌, ℕ, Bool, List, [], ◌⊎◌, IfOk, OnOk, IfErr, OnErr, IfSome, IfNone, IsSome, IsTrue, Option, None};
-ghost use Rattle.blk_sched.specs.Names.{sched_fault_name};
 ghost use Rattle.std.specs.FinMap as map;
 ghost use Rattle.blk_bio.specs.Requests.{Fits};
 ghost use Rattle.blk_bio.specs.Answers.{IsJoinAnswer};
@@ -75,30 +74,6 @@ pub enum JoinRefusal {
     NoFit,
     /// Memory ran out.
     Memory,
-}
-
-/// Why a scheduler is not made, in the order in which the reasons are looked for.
-#[derive(Clone, Copy, Debug, PartialEq, Eq)]
-pub enum SchedFault {
-    /// A batch of no request.
-    ZeroBatch,
-    /// A target of no round.
-    ZeroTarget,
-    /// Memory ran out.
-    Memory,
-}
-
-impl SchedFault {
-    /// Its name, which the program prints.
-    pub fn name(self) -> &'static str
-        ensures { result.now ≡ sched_fault_name self }
-    {
-        match self {
-            SchedFault::ZeroBatch => "ZeroBatch",
-            SchedFault::ZeroTarget => "ZeroTarget",
-            SchedFault::Memory => "Memory",
-        }
-    }
 }
 
 /// A scheduler: requests that wait, which it hands out one by one, in the way of Linux blk-mq's elevators.

@@ -2,3 +2,4 @@ pub mod Numbers
 pub mod Faults
 pub mod Made
 pub mod Names
+pub mod Rows

@@ -1,7 +1,7 @@
 -- Of which settings a scheduler is made, and why it isn't.
 use Rattle.std.specs.Prelude.{◌≡◌, ◌<◌, ◌⊎◌, ⊤}
-use Rattle.blk_sched.specs.declared.SchedFault.{SchedFault}
-use Rattle.blk_sched.specs.declared.SchedFault.TheVariants as setting
+use Rattle.blk_settings.specs.declared.sched.SchedFault.{SchedFault}
+use Rattle.blk_settings.specs.declared.sched.SchedFault.TheVariants as setting
 use Rattle.blk_settings.specs.declared.sched.Sched.{Sched}
 use Rattle.blk_settings.specs.declared.sched.Sched.TheVariants as sched
 use Rattle.blk_settings.specs.declared.Unsettled.{Unsettled}
@@ -12,17 +12,26 @@ abbrev pub IsMade : Sched → Type 0
 IsMade sched.None = ⊤
 IsMade (sched.Deadline t) = 0 < t.fifo_batch
 IsMade (sched.Kyber t) = (0 < t.read) × (0 < t.write)
+IsMade (sched.Earliest late_last) = ⊤
 
--- it isn't made: for a batch of no request, for a target of no round, or for want of memory
+-- it isn't: for a batch of no request, or for a target of no round
 abbrev pub HasZeroBatch : Sched → Type 0
 HasZeroBatch sched.None = ⊥
 HasZeroBatch (sched.Deadline t) = t.fifo_batch ≡ 0
 HasZeroBatch (sched.Kyber t) = ⊥
+HasZeroBatch (sched.Earliest late_last) = ⊥
 
 abbrev pub HasZeroTarget : Sched → Type 0
 HasZeroTarget sched.None = ⊥
 HasZeroTarget (sched.Deadline t) = ⊥
 HasZeroTarget (sched.Kyber t) = (t.read ≡ 0) ⊎ (t.write ≡ 0)
+HasZeroTarget (sched.Earliest late_last) = ⊥
+
+-- what is wrong with the settings, and why none is made of them: that, or want of memory
+abbrev pub HasFault : Sched → SchedFault → Type 0
+HasFault s setting.ZeroBatch = HasZeroBatch s
+HasFault s setting.ZeroTarget = HasZeroTarget s
+HasFault s setting.Memory = ⊥
 
 abbrev pub IsUnmade : Sched → SchedFault → Type 0
 IsUnmade s setting.ZeroBatch = HasZeroBatch s

@@ -1,4 +1,4 @@
-//! What a person sets: a scheduler with its settings, and how much load there is on a running layer; beside it what came of a load, why
+//! What a person sets: a scheduler, a row of the table of schedulers, with its settings, and how much load there is on a running layer; beside it what came of a load, why
 //! it fails, and the trait of whoever runs one. Who asks for a load so stands on no layer and no threads.
 #![tactic(auto)]
 
@@ -13,8 +13,7 @@ pub mod sched;
 
 pub use crate::fault::LoadFault;
 pub use crate::numbers::Load;
-pub use crate::sched::Sched;
-use blk_sched::SchedFault;
+pub use crate::sched::{Lineup, Sched, SchedFault};
 use std::alloc::Global;
 use std::sync::Wait;
 use std::thread::Threads;

@@ -143,23 +143,31 @@ none_or is other = if is then Some sched.None else other
 abbrev deadline_or : Bool → Option Tunables → Option Sched → Option Sched
 deadline_or is o other = if is then option_map sched.Deadline o else other
 
-abbrev kyber_or : Bool → Option Targets → Option Sched
-kyber_or is o = if is then option_map sched.Kyber o else None
+abbrev kyber_or : Bool → Option Targets → Option Sched → Option Sched
+kyber_or is o other = if is then option_map sched.Kyber o else other
 
-by_name : (rows : List Row) (name : Text) (a b d : Bool) → bytes_eq name (codes "none") ≡ a → bytes_eq name (codes "deadline") ≡ b → bytes_eq name (codes "kyber") ≡ d
-    → sched_named rows name ≡ none_or a (deadline_or b (tunables_of rows) (kyber_or d (targets_of rows)))
-by_name rows name a b d e f g = rw (e, f, g) refl
+abbrev earliest_or : Bool → Bool → Option Sched
+earliest_or is late_last = if is then Some (sched.Earliest late_last) else None
+
+by_name : (rows : List Row) (name : Text) (a b d f : Bool) → bytes_eq name (codes "none") ≡ a → bytes_eq name (codes "deadline") ≡ b → bytes_eq name (codes "kyber") ≡ d → bytes_eq name (codes "earliest") ≡ f
+    → sched_named rows name ≡ none_or a (deadline_or b (tunables_of rows) (kyber_or d (targets_of rows) (earliest_or f (is_flagged (codes "late-last") rows))))
+by_name rows name a b d f e g h i = rw (e, g, h, i) refl
 
 pub deadline_named : (rows : List Row) (name : Text) (o : Option Tunables) → bytes_eq name (codes "none") ≡ false → bytes_eq name (codes "deadline") ≡ true
     → o ≡ tunables_of rows → sched_named rows name ≡ option_map sched.Deadline o
-deadline_named rows name o other is given = by_name rows name _ _ _ other is refl ∙ ap (option_map sched.Deadline) (sym given)
+deadline_named rows name o other is given = by_name rows name _ _ _ _ other is refl refl ∙ ap (option_map sched.Deadline) (sym given)
 
 pub kyber_named : (rows : List Row) (name : Text) (o : Option Targets) → bytes_eq name (codes "none") ≡ false → bytes_eq name (codes "deadline") ≡ false → bytes_eq name (codes "kyber") ≡ true
     → o ≡ targets_of rows → sched_named rows name ≡ option_map sched.Kyber o
-kyber_named rows name o other another is given = by_name rows name _ _ _ other another is ∙ ap (option_map sched.Kyber) (sym given)
+kyber_named rows name o other another is given = by_name rows name _ _ _ _ other another is refl ∙ ap (option_map sched.Kyber) (sym given)
 
-pub unnamed : (rows : List Row) (name : Text) → bytes_eq name (codes "none") ≡ false → bytes_eq name (codes "deadline") ≡ false → bytes_eq name (codes "kyber") ≡ false → sched_named rows name ≡ None
-unnamed rows name other another third = by_name rows name _ _ _ other another third
+pub earliest_named : (rows : List Row) (name : Text) (late_last : Bool) → bytes_eq name (codes "none") ≡ false → bytes_eq name (codes "deadline") ≡ false → bytes_eq name (codes "kyber") ≡ false
+    → bytes_eq name (codes "earliest") ≡ true → late_last ≡ is_flagged (codes "late-last") rows → sched_named rows name ≡ Some (sched.Earliest late_last)
+earliest_named rows name late_last other another third is given = by_name rows name _ _ _ _ other another third is ∙ ap (λ (b : Bool). Some (sched.Earliest b)) (sym given)
+
+pub unnamed : (rows : List Row) (name : Text) → bytes_eq name (codes "none") ≡ false → bytes_eq name (codes "deadline") ≡ false → bytes_eq name (codes "kyber") ≡ false → bytes_eq name (codes "earliest") ≡ false
+    → sched_named rows name ≡ None
+unnamed rows name other another third fourth = by_name rows name _ _ _ _ other another third fourth
 
 -- a command with one subcommand more
 pub adds_command : (x a b p q : App) → x ≡ with_subcommand a p.top → a ≡ b → p ≡ q → x ≡ with_subcommand b q.top

@@ -1,5 +1,5 @@
 -- What the command line reads of words that are written out.
-use Rattle.std.proofs.Common.{◌≡◌, ◌∙◌, ◌∷◌, [], ℕ, List, Some, None, map, sym, refl, subst, codes, true, inl, inr}
+use Rattle.std.proofs.Common.{◌≡◌, ◌∙◌, ◌∷◌, [], ℕ, List, Some, None, map, sym, refl, subst, codes, true, false, inl, inr}
 use Rattle.std.specs.Prelude.{◌↔◌}
 use Rattle.std.specs.Borrow.{Bor}
 use Rattle.clap.specs.Words.{Text, fault_of}
@@ -11,27 +11,30 @@ use Rattle.blk_words.specs.Line.{Names, AreSchedulers, blk_app}
 use Rattle.blk_words.specs.Asked.{Asks, job_read}
 
 -- the names of the schedulers, at some places
-abbrev at_places : ℕ × ℕ → ℕ × ℕ → ℕ × ℕ → ℕ × ℕ → Names
-at_places p q r s =
-    record { ref_ptr = p; now = record { ref_ptr = q; now = codes "none" } ∷ record { ref_ptr = r; now = codes "deadline" } ∷ record { ref_ptr = s; now = codes "kyber" } ∷ [] }
+abbrev at_places : ℕ × ℕ → ℕ × ℕ → ℕ × ℕ → ℕ × ℕ → ℕ × ℕ → Names
+at_places p q r s t =
+    record { ref_ptr = p; now = record { ref_ptr = q; now = codes "none" } ∷ record { ref_ptr = r; now = codes "deadline" } ∷ record { ref_ptr = s; now = codes "kyber" } ∷ record { ref_ptr = t; now = codes "earliest" } ∷ [] }
 
-go : (P : Names → Type 0) → ((p q r s : ℕ × ℕ) → P (at_places p q r s)) → (p : ℕ × ℕ) (xs : List (Bor Text)) → map (λ (x : Bor Text). x.now) xs ≡ codes "none" ∷ codes "deadline" ∷ codes "kyber" ∷ []
+go : (P : Names → Type 0) → ((p q r s t : ℕ × ℕ) → P (at_places p q r s t)) → (p : ℕ × ℕ) (xs : List (Bor Text)) → map (λ (x : Bor Text). x.now) xs ≡ codes "none" ∷ codes "deadline" ∷ codes "kyber" ∷ codes "earliest" ∷ []
     → P (record { ref_ptr = p; now = xs })
 go P h p [] e = cc e
 go P h p (a ∷ []) e = cc e
 go P h p (a ∷ b ∷ []) e = cc e
-go P h p (a ∷ b ∷ c ∷ d ∷ xs) e = cc e
-go P h p (a ∷ b ∷ c ∷ []) e =
+go P h p (a ∷ b ∷ c ∷ []) e = cc e
+go P h p (a ∷ b ∷ c ∷ d ∷ x ∷ xs) e = cc e
+go P h p (a ∷ b ∷ c ∷ d ∷ []) e =
     let ea : a.now ≡ codes "none" = cc e in
     let eb : b.now ≡ codes "deadline" = cc e in
     let ec : c.now ≡ codes "kyber" = cc e in
-    let A : Text → Type 0 = λ t. P (record { ref_ptr = p; now = record { ref_ptr = a.ref_ptr; now = t } ∷ b ∷ c ∷ [] }) in
-    let B : Text → Type 0 = λ t. P (record { ref_ptr = p; now = record { ref_ptr = a.ref_ptr; now = codes "none" } ∷ record { ref_ptr = b.ref_ptr; now = t } ∷ c ∷ [] }) in
-    let C : Text → Type 0 = λ t. P (record { ref_ptr = p; now = record { ref_ptr = a.ref_ptr; now = codes "none" } ∷ record { ref_ptr = b.ref_ptr; now = codes "deadline" } ∷ record { ref_ptr = c.ref_ptr; now = t } ∷ [] }) in
-    subst A (sym ea) (subst B (sym eb) (subst C (sym ec) (h p a.ref_ptr b.ref_ptr c.ref_ptr)))
+    let ed : d.now ≡ codes "earliest" = cc e in
+    let A : Text → Type 0 = λ t. P (record { ref_ptr = p; now = record { ref_ptr = a.ref_ptr; now = t } ∷ b ∷ c ∷ d ∷ [] }) in
+    let B : Text → Type 0 = λ t. P (record { ref_ptr = p; now = record { ref_ptr = a.ref_ptr; now = codes "none" } ∷ record { ref_ptr = b.ref_ptr; now = t } ∷ c ∷ d ∷ [] }) in
+    let C : Text → Type 0 = λ t. P (record { ref_ptr = p; now = record { ref_ptr = a.ref_ptr; now = codes "none" } ∷ record { ref_ptr = b.ref_ptr; now = codes "deadline" } ∷ record { ref_ptr = c.ref_ptr; now = t } ∷ d ∷ [] }) in
+    let D : Text → Type 0 = λ t. P (record { ref_ptr = p; now = record { ref_ptr = a.ref_ptr; now = codes "none" } ∷ record { ref_ptr = b.ref_ptr; now = codes "deadline" } ∷ record { ref_ptr = c.ref_ptr; now = codes "kyber" } ∷ record { ref_ptr = d.ref_ptr; now = t } ∷ [] }) in
+    subst A (sym ea) (subst B (sym eb) (subst C (sym ec) (subst D (sym ed) (h p a.ref_ptr b.ref_ptr c.ref_ptr d.ref_ptr))))
 
 -- what holds of them there holds of them all
-any_names : (P : Names → Type 0) → ((p q r s : ℕ × ℕ) → P (at_places p q r s)) → (names : Names) → AreSchedulers names → P names
+any_names : (P : Names → Type 0) → ((p q r s t : ℕ × ℕ) → P (at_places p q r s t)) → (names : Names) → AreSchedulers names → P names
 any_names P h names are = go P h names.ref_ptr names.now are
 
 -- a line is read as a job, whatever the places
@@ -39,100 +42,116 @@ abbrev pub IsReadAs : List Text → Job → Names → Type 0
 IsReadAs words j names = (fault_of (blk_app names) words ≡ []) × (job_read (blk_app names) words ≡ Some j)
 
 -- then it asks for that job alone
-pub asks_alone : (words : List Text) (k : Job) → ((p q r s : ℕ × ℕ) → IsReadAs words k (at_places p q r s)) → (j : Job) → Asks words j ↔ (j ≡ k)
+pub asks_alone : (words : List Text) (k : Job) → ((p q r s t : ℕ × ℕ) → IsReadAs words k (at_places p q r s t)) → (j : Job) → Asks words j ↔ (j ≡ k)
 asks_alone words k h j = (
   λ a. let g = any_names (IsReadAs words k) h a.0 a.1 in
       elim a.2 [ inl x ↦ let e : Some j ≡ Some k = sym x.1 ∙ g.1 in cc e | inr x ↦ absurd (rw g.0 at x.0) ],
-  λ e. let z : ℕ × ℕ = (0, 0) in let g = h z z z z in (at_places z z z z, refl, inl (g.0, rw e g.1)),
+  λ e. let z : ℕ × ℕ = (0, 0) in let g = h z z z z z in (at_places z z z z z, refl, inl (g.0, rw e g.1)),
 )
 
 -- a line is read as no job, whatever the places; then it asks for none
 abbrev pub IsReadAsNothing : List Text → Names → Type 0
 IsReadAsNothing words names = (fault_of (blk_app names) words ≡ []) × (job_read (blk_app names) words ≡ None)
 
-pub asks_nothing : (words : List Text) → ((p q r s : ℕ × ℕ) → IsReadAsNothing words (at_places p q r s)) → (j : Job) → Asks words j → ⊥
+pub asks_nothing : (words : List Text) → ((p q r s t : ℕ × ℕ) → IsReadAsNothing words (at_places p q r s t)) → (j : Job) → Asks words j → ⊥
 asks_nothing words h j a =
     let g = any_names (IsReadAsNothing words) h a.0 a.1 in
     elim a.2 [ inl x ↦ let e : Some j ≡ None = sym x.1 ∙ g.1 in cc e | inr x ↦ absurd (rw g.0 at x.0) ]
 
-pub load_line : (name : Text) (p q r s : ℕ × ℕ) → IsReadAs (name ∷ codes "load" ∷ []) (job.Load sched.None (record { submitters = 2; workers = 2; bios = 1000; depth = 8; busy = None })) (at_places p q r s)
+pub load_line : (name : Text) (p q r s t : ℕ × ℕ) → IsReadAs (name ∷ codes "load" ∷ []) (job.Load sched.None (record { submitters = 2; workers = 2; bios = 1000; depth = 8; busy = None })) (at_places p q r s t)
 unfolding clap_on_literals
-load_line name p q r s = (refl, refl)
+load_line name p q r s t = (refl, refl)
 
-pub busy_line : (name : Text) (p q r s : ℕ × ℕ) → IsReadAs (name ∷ codes "load" ∷ codes "--busy" ∷ codes "3" ∷ []) (job.Load sched.None (record { submitters = 2; workers = 2; bios = 1000; depth = 8; busy = Some 3 })) (at_places p q r s)
+pub busy_line : (name : Text) (p q r s t : ℕ × ℕ) → IsReadAs (name ∷ codes "load" ∷ codes "--busy" ∷ codes "3" ∷ []) (job.Load sched.None (record { submitters = 2; workers = 2; bios = 1000; depth = 8; busy = Some 3 })) (at_places p q r s t)
 unfolding clap_on_literals
-busy_line name p q r s = (refl, refl)
+busy_line name p q r s t = (refl, refl)
 
-pub sim_line : (name : Text) (p q r s : ℕ × ℕ) → IsReadAs (name ∷ codes "sim" ∷ []) (job.Sim sched.None) (at_places p q r s)
+pub sim_line : (name : Text) (p q r s t : ℕ × ℕ) → IsReadAs (name ∷ codes "sim" ∷ []) (job.Sim sched.None) (at_places p q r s t)
 unfolding clap_on_literals
-sim_line name p q r s = (refl, refl)
+sim_line name p q r s t = (refl, refl)
 
-pub none_line : (name : Text) (p q r s : ℕ × ℕ) → IsReadAs (name ∷ codes "sim" ∷ codes "--sched" ∷ codes "none" ∷ []) (job.Sim sched.None) (at_places p q r s)
+pub none_line : (name : Text) (p q r s t : ℕ × ℕ) → IsReadAs (name ∷ codes "sim" ∷ codes "--sched" ∷ codes "none" ∷ []) (job.Sim sched.None) (at_places p q r s t)
 unfolding clap_on_literals
-none_line name p q r s = (refl, refl)
+none_line name p q r s t = (refl, refl)
 
-pub deadline_line : (name : Text) (p q r s : ℕ × ℕ) → IsReadAs (name ∷ codes "sim" ∷ codes "--sched" ∷ codes "deadline" ∷ []) (job.Sim (sched.Deadline (record { fifo_batch = 16; writes_starved = 2; front_merges = true }))) (at_places p q r s)
+pub deadline_line : (name : Text) (p q r s t : ℕ × ℕ) → IsReadAs (name ∷ codes "sim" ∷ codes "--sched" ∷ codes "deadline" ∷ []) (job.Sim (sched.Deadline (record { fifo_batch = 16; writes_starved = 2; front_merges = true }))) (at_places p q r s t)
 unfolding clap_on_literals
-deadline_line name p q r s = (refl, refl)
+deadline_line name p q r s t = (refl, refl)
 
-pub kyber_line : (name : Text) (p q r s : ℕ × ℕ) → IsReadAs (name ∷ codes "sim" ∷ codes "--sched" ∷ codes "kyber" ∷ []) (job.Sim (sched.Kyber (record { read = 2; write = 10 }))) (at_places p q r s)
+pub kyber_line : (name : Text) (p q r s t : ℕ × ℕ) → IsReadAs (name ∷ codes "sim" ∷ codes "--sched" ∷ codes "kyber" ∷ []) (job.Sim (sched.Kyber (record { read = 2; write = 10 }))) (at_places p q r s t)
 unfolding clap_on_literals
-kyber_line name p q r s = (refl, refl)
+kyber_line name p q r s t = (refl, refl)
 
-pub batch_line : (name : Text) (p q r s : ℕ × ℕ) → IsReadAs (name ∷ codes "sim" ∷ codes "--sched" ∷ codes "deadline" ∷ codes "--fifo-batch" ∷ codes "1" ∷ []) (job.Sim (sched.Deadline (record { fifo_batch = 1; writes_starved = 2; front_merges = true })))
-    (at_places p q r s)
+pub earliest_line : (name : Text) (p q r s t : ℕ × ℕ) → IsReadAs (name ∷ codes "sim" ∷ codes "--sched" ∷ codes "earliest" ∷ []) (job.Sim (sched.Earliest false)) (at_places p q r s t)
 unfolding clap_on_literals
-batch_line name p q r s = (refl, refl)
+earliest_line name p q r s t = (refl, refl)
 
-pub target_line : (name : Text) (p q r s : ℕ × ℕ) → IsReadAs (name ∷ codes "sim" ∷ codes "--sched" ∷ codes "kyber" ∷ codes "--read-target" ∷ codes "1000000" ∷ []) (job.Sim (sched.Kyber (record { read = 1_000_000; write = 10 })))
-    (at_places p q r s)
+pub late_last_line : (name : Text) (p q r s t : ℕ × ℕ) → IsReadAs (name ∷ codes "sim" ∷ codes "--sched" ∷ codes "earliest" ∷ codes "--late-last" ∷ []) (job.Sim (sched.Earliest true)) (at_places p q r s t)
 unfolding clap_on_literals
-target_line name p q r s = (refl, refl)
+late_last_line name p q r s t = (refl, refl)
 
-pub compare_line : (name : Text) (p q r s : ℕ × ℕ) → IsReadAs (name ∷ codes "compare" ∷ []) (job.Compare (record { fifo_batch = 16; writes_starved = 2; front_merges = true }) (record { read = 2; write = 10 })) (at_places p q r s)
+pub batch_line : (name : Text) (p q r s t : ℕ × ℕ) → IsReadAs (name ∷ codes "sim" ∷ codes "--sched" ∷ codes "deadline" ∷ codes "--fifo-batch" ∷ codes "1" ∷ []) (job.Sim (sched.Deadline (record { fifo_batch = 1; writes_starved = 2; front_merges = true })))
+    (at_places p q r s t)
 unfolding clap_on_literals
-compare_line name p q r s = (refl, refl)
+batch_line name p q r s t = (refl, refl)
 
-pub migrate_line : (name : Text) (p q r s : ℕ × ℕ) → IsReadAs (name ∷ codes "migrate" ∷ []) job.Migrate (at_places p q r s)
+pub target_line : (name : Text) (p q r s t : ℕ × ℕ) → IsReadAs (name ∷ codes "sim" ∷ codes "--sched" ∷ codes "kyber" ∷ codes "--read-target" ∷ codes "1000000" ∷ []) (job.Sim (sched.Kyber (record { read = 1_000_000; write = 10 })))
+    (at_places p q r s t)
 unfolding clap_on_literals
-migrate_line name p q r s = (refl, refl)
+target_line name p q r s t = (refl, refl)
 
-pub commands_line : (name : Text) (p q r s : ℕ × ℕ) → IsReadAs (name ∷ codes "commands" ∷ []) job.Commands (at_places p q r s)
+pub compare_line : (name : Text) (p q r s t : ℕ × ℕ) → IsReadAs (name ∷ codes "compare" ∷ []) (job.Compare (record { deadline = record { fifo_batch = 16; writes_starved = 2; front_merges = true }; kyber = record { read = 2; write = 10 }; earliest = None })) (at_places p q r s t)
 unfolding clap_on_literals
-commands_line name p q r s = (refl, refl)
+compare_line name p q r s t = (refl, refl)
 
-pub late_line : (name : Text) (p q r s : ℕ × ℕ) → IsReadAs (name ∷ codes "late" ∷ []) job.Late (at_places p q r s)
+pub compare_earliest_line : (name : Text) (p q r s t : ℕ × ℕ) → IsReadAs (name ∷ codes "compare" ∷ codes "--earliest" ∷ []) (job.Compare (record { deadline = record { fifo_batch = 16; writes_starved = 2; front_merges = true }; kyber = record { read = 2; write = 10 }; earliest = (Some false) })) (at_places p q r s t)
 unfolding clap_on_literals
-late_line name p q r s = (refl, refl)
+compare_earliest_line name p q r s t = (refl, refl)
 
-pub misses_line : (name : Text) (p q r s : ℕ × ℕ) → IsReadAs (name ∷ codes "misses" ∷ []) job.Misses (at_places p q r s)
+pub compare_late_last_line : (name : Text) (p q r s t : ℕ × ℕ) → IsReadAs (name ∷ codes "compare" ∷ codes "--earliest" ∷ codes "--late-last" ∷ []) (job.Compare (record { deadline = record { fifo_batch = 16; writes_starved = 2; front_merges = true }; kyber = record { read = 2; write = 10 }; earliest = (Some true) })) (at_places p q r s t)
 unfolding clap_on_literals
-misses_line name p q r s = (refl, refl)
+compare_late_last_line name p q r s t = (refl, refl)
 
-pub spread_line : (name : Text) (p q r s : ℕ × ℕ) → IsReadAs (name ∷ codes "spread" ∷ []) job.Spread (at_places p q r s)
+pub migrate_line : (name : Text) (p q r s t : ℕ × ℕ) → IsReadAs (name ∷ codes "migrate" ∷ []) job.Migrate (at_places p q r s t)
 unfolding clap_on_literals
-spread_line name p q r s = (refl, refl)
+migrate_line name p q r s t = (refl, refl)
 
-pub oracle_line : (name : Text) (p q r s : ℕ × ℕ) → IsReadAs (name ∷ codes "oracle" ∷ []) job.Oracle (at_places p q r s)
+pub commands_line : (name : Text) (p q r s t : ℕ × ℕ) → IsReadAs (name ∷ codes "commands" ∷ []) job.Commands (at_places p q r s t)
 unfolding clap_on_literals
-oracle_line name p q r s = (refl, refl)
+commands_line name p q r s t = (refl, refl)
 
-pub report_line : (name : Text) (p q r s : ℕ × ℕ) → IsReadAs (name ∷ codes "oracle" ∷ codes "--trace" ∷ []) job.Report (at_places p q r s)
+pub late_line : (name : Text) (p q r s t : ℕ × ℕ) → IsReadAs (name ∷ codes "late" ∷ []) job.Late (at_places p q r s t)
 unfolding clap_on_literals
-report_line name p q r s = (refl, refl)
+late_line name p q r s t = (refl, refl)
 
-pub met_line : (name : Text) (p q r s : ℕ × ℕ) → IsReadAs (name ∷ codes "oracle" ∷ codes "--met" ∷ []) job.Met (at_places p q r s)
+pub misses_line : (name : Text) (p q r s t : ℕ × ℕ) → IsReadAs (name ∷ codes "misses" ∷ []) job.Misses (at_places p q r s t)
 unfolding clap_on_literals
-met_line name p q r s = (refl, refl)
+misses_line name p q r s t = (refl, refl)
 
-pub report_and_met_line : (name : Text) (p q r s : ℕ × ℕ) → IsReadAsNothing (name ∷ codes "oracle" ∷ codes "--trace" ∷ codes "--met" ∷ []) (at_places p q r s)
+pub spread_line : (name : Text) (p q r s t : ℕ × ℕ) → IsReadAs (name ∷ codes "spread" ∷ []) job.Spread (at_places p q r s t)
 unfolding clap_on_literals
-report_and_met_line name p q r s = (refl, refl)
+spread_line name p q r s t = (refl, refl)
 
-pub check_line : (name : Text) (p q r s : ℕ × ℕ) → IsReadAs (name ∷ codes "check" ∷ []) job.Check (at_places p q r s)
+pub oracle_line : (name : Text) (p q r s t : ℕ × ℕ) → IsReadAs (name ∷ codes "oracle" ∷ []) job.Oracle (at_places p q r s t)
 unfolding clap_on_literals
-check_line name p q r s = (refl, refl)
+oracle_line name p q r s t = (refl, refl)
+
+pub report_line : (name : Text) (p q r s t : ℕ × ℕ) → IsReadAs (name ∷ codes "oracle" ∷ codes "--trace" ∷ []) job.Report (at_places p q r s t)
+unfolding clap_on_literals
+report_line name p q r s t = (refl, refl)
+
+pub met_line : (name : Text) (p q r s t : ℕ × ℕ) → IsReadAs (name ∷ codes "oracle" ∷ codes "--met" ∷ []) job.Met (at_places p q r s t)
+unfolding clap_on_literals
+met_line name p q r s t = (refl, refl)
+
+pub report_and_met_line : (name : Text) (p q r s t : ℕ × ℕ) → IsReadAsNothing (name ∷ codes "oracle" ∷ codes "--trace" ∷ codes "--met" ∷ []) (at_places p q r s t)
+unfolding clap_on_literals
+report_and_met_line name p q r s t = (refl, refl)
+
+pub check_line : (name : Text) (p q r s t : ℕ × ℕ) → IsReadAs (name ∷ codes "check" ∷ []) job.Check (at_places p q r s t)
+unfolding clap_on_literals
+check_line name p q r s t = (refl, refl)
 
 pub version_line : (name : Text) → Asks (name ∷ codes "--version" ∷ []) job.Version
 unfolding clap_on_literals
-version_line name = let z : ℕ × ℕ = (0, 0) in (at_places z z z z, refl, inr (inl refl, refl))
+version_line name = let z : ℕ × ℕ = (0, 0) in (at_places z z z z z, refl, inr (inl refl, refl))

@@ -50,15 +50,19 @@ abbrev pub sched_named : List Row → Text → Option Sched
 sched_named rows name =
     if bytes_eq name (codes "none") then Some sched.None
     else (if bytes_eq name (codes "deadline") then option_map sched.Deadline (tunables_of rows)
-    else (if bytes_eq name (codes "kyber") then option_map sched.Kyber (targets_of rows) else None))
+    else (if bytes_eq name (codes "kyber") then option_map sched.Kyber (targets_of rows)
+    else (if bytes_eq name (codes "earliest") then Some (sched.Earliest (is_flagged (codes "late-last") rows)) else None)))
 
 -- the scheduler that the options of `sim` name
 abbrev pub sched_of : List Row → Option Sched
 sched_of rows = option_and_then (sched_named rows) (first_of (codes "sched") rows)
 
--- the comparison with these settings
-abbrev pub compared : Option Tunables → Option Targets → Option Job
-compared tunables targets = option_and_then (λ t. option_map (λ g. job.Compare t g) targets) tunables
+-- whether earliest is compared too, and then whether late last; and the comparison with these settings
+abbrev pub earliest_of : Bool → Bool → Option Bool
+earliest_of runs late_last = if runs then Some late_last else None
+
+abbrev pub compared : Option Tunables → Option Targets → Option Bool → Option Job
+compared tunables targets earliest = option_and_then (λ t. option_map (λ g. job.Compare (record { deadline = t; kyber = g; earliest = earliest })) targets) tunables
 
 -- a load of these numbers, whose devices may be busy, under this scheduler
 abbrev pub amounts : Option ℕ → Option ℕ → Option ℕ → Option ℕ → Option ℕ → Option Load
@@ -93,7 +97,7 @@ oracle_job trace met =
 abbrev pub job_of : Text × List Row → Option Job
 job_of p =
     if bytes_eq p.0 (codes "sim") then option_map job.Sim (sched_of p.1)
-    else (if bytes_eq p.0 (codes "compare") then compared (tunables_of p.1) (targets_of p.1)
+    else (if bytes_eq p.0 (codes "compare") then compared (tunables_of p.1) (targets_of p.1) (earliest_of (is_flagged (codes "earliest") p.1) (is_flagged (codes "late-last") p.1))
     else (if bytes_eq p.0 (codes "oracle") then oracle_job (is_flagged (codes "trace") p.1) (is_flagged (codes "met") p.1)
     else (if bytes_eq p.0 (codes "load") then loaded (sched_of p.1) (amounts_of p.1)
     else plain_job p.0)))

@@ -12,7 +12,7 @@ Names = Bor (List (Bor Text))
 
 -- they are those of the schedulers
 abbrev pub AreSchedulers : Names → Type 0
-AreSchedulers names = map (λ name. name.now) names.now ≡ codes "none" ∷ codes "deadline" ∷ codes "kyber" ∷ []
+AreSchedulers names = map (λ name. name.now) names.now ≡ codes "none" ∷ codes "deadline" ∷ codes "kyber" ∷ codes "earliest" ∷ []
 
 -- `--sched`, by default none
 abbrev pub sched_rule : Names → Rule
@@ -43,15 +43,15 @@ flag_rule name = record (new_rule name) { long = Some name; action = Some SetTru
 -- with the options that set the schedulers
 abbrev pub tuning : App → App
 tuning a =
-    with_rule (with_rule (with_rule (with_rule (with_rule a (number_rule (codes "fifo-batch") short (codes "16"))) (number_rule (codes "writes-starved") short (codes "2")))
-    (flag_rule (codes "no-front-merges"))) (number_rule (codes "read-target") target (codes "2"))) (number_rule (codes "write-target") target (codes "10"))
+    with_rule (with_rule (with_rule (with_rule (with_rule (with_rule a (number_rule (codes "fifo-batch") short (codes "16"))) (number_rule (codes "writes-starved") short (codes "2")))
+    (flag_rule (codes "no-front-merges"))) (number_rule (codes "read-target") target (codes "2"))) (number_rule (codes "write-target") target (codes "10"))) (flag_rule (codes "late-last"))
 
 -- `sim`, `compare` and `oracle` with their options
 abbrev pub sim_app : Names → App
 sim_app names = tuning (with_rule (new_app (codes "sim")) (sched_rule names))
 
 abbrev pub compare_app : App
-compare_app = tuning (new_app (codes "compare"))
+compare_app = tuning (with_rule (new_app (codes "compare")) (flag_rule (codes "earliest")))
 
 abbrev pub oracle_app : App
 oracle_app = with_rule (with_rule (new_app (codes "oracle")) (flag_rule (codes "trace"))) (flag_rule (codes "met"))

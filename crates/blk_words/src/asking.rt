@@ -1,6 +1,6 @@
 //! Laws of the command line: which jobs plain lines ask for, whatever the program's name.
 
-ghost use Rattle.std.specs.Prelude.{◌≡◌, ◌↔◌, ◌∷◌, [], true, None, Some, codes};
+ghost use Rattle.std.specs.Prelude.{◌≡◌, ◌↔◌, ◌∷◌, [], true, false, None, Some, codes};
 ghost use Rattle.clap.specs.Words.{Text};
 ghost use Rattle.blk_words.specs.declared.words.Job.{Job as AJob};
 ghost use Rattle.blk_words.specs.Asked.{Asks};
@@ -16,12 +16,18 @@ pub fn plain_lines()
         ↔ (j ≡ Job.Sim (Sched.Deadline (record { fifo_batch = 16; writes_starved = 2; front_merges = true }))) }
     ensures kyber { (name : Text) → (j : AJob) → Asks (name ∷ codes "sim" ∷ codes "--sched" ∷ codes "kyber" ∷ []) j
         ↔ (j ≡ Job.Sim (Sched.Kyber (record { read = 2; write = 10 }))) }
+    ensures earliest { (name : Text) → (j : AJob) → Asks (name ∷ codes "sim" ∷ codes "--sched" ∷ codes "earliest" ∷ []) j ↔ (j ≡ Job.Sim (Sched.Earliest false)) }
+    ensures late_last { (name : Text) → (j : AJob) → Asks (name ∷ codes "sim" ∷ codes "--sched" ∷ codes "earliest" ∷ codes "--late-last" ∷ []) j ↔ (j ≡ Job.Sim (Sched.Earliest true)) }
     ensures batch { (name : Text) → (j : AJob) → Asks (name ∷ codes "sim" ∷ codes "--sched" ∷ codes "deadline" ∷ codes "--fifo-batch" ∷ codes "1" ∷ []) j
         ↔ (j ≡ Job.Sim (Sched.Deadline (record { fifo_batch = 1; writes_starved = 2; front_merges = true }))) }
     ensures target { (name : Text) → (j : AJob) → Asks (name ∷ codes "sim" ∷ codes "--sched" ∷ codes "kyber" ∷ codes "--read-target" ∷ codes "1000000" ∷ []) j
         ↔ (j ≡ Job.Sim (Sched.Kyber (record { read = 1_000_000; write = 10 }))) }
     ensures compare { (name : Text) → (j : AJob) → Asks (name ∷ codes "compare" ∷ []) j
-        ↔ (j ≡ Job.Compare (record { fifo_batch = 16; writes_starved = 2; front_merges = true }) (record { read = 2; write = 10 })) }
+        ↔ (j ≡ Job.Compare (record { deadline = record { fifo_batch = 16; writes_starved = 2; front_merges = true }; kyber = record { read = 2; write = 10 }; earliest = None })) }
+    ensures compare_earliest { (name : Text) → (j : AJob) → Asks (name ∷ codes "compare" ∷ codes "--earliest" ∷ []) j
+        ↔ (j ≡ Job.Compare (record { deadline = record { fifo_batch = 16; writes_starved = 2; front_merges = true }; kyber = record { read = 2; write = 10 }; earliest = Some false })) }
+    ensures compare_late_last { (name : Text) → (j : AJob) → Asks (name ∷ codes "compare" ∷ codes "--earliest" ∷ codes "--late-last" ∷ []) j
+        ↔ (j ≡ Job.Compare (record { deadline = record { fifo_batch = 16; writes_starved = 2; front_merges = true }; kyber = record { read = 2; write = 10 }; earliest = Some true })) }
     ensures migrate { (name : Text) → (j : AJob) → Asks (name ∷ codes "migrate" ∷ []) j ↔ (j ≡ Job.Migrate) }
     ensures commands { (name : Text) → (j : AJob) → Asks (name ∷ codes "commands" ∷ []) j ↔ (j ≡ Job.Commands) }
     ensures late { (name : Text) → (j : AJob) → Asks (name ∷ codes "late" ∷ []) j ↔ (j ≡ Job.Late) }

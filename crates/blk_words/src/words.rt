@@ -4,19 +4,19 @@ ghost use Rattle.std.specs.Prelude.{◌≡◌, ◌⊎◌, false, IfOk, IfErr, ma
 ghost use Rattle.clap.specs.Words.{app_of, new_app, rule_of, rows_of, found_of, subcommand_rows_of, with_subcommand};
 ghost use Rattle.clap.specs.declared.builder.command.Command.TheViews.{out-Command as fields_of};
 ghost use Rattle.blk_words.specs.Line.{Names, AreSchedulers, sched_rule, number_rule, target, amount, busy_rule, flag_rule, tuning, with_amounts, sim_app, compare_app, oracle_app, load_app, with_plain, over_scripts, over_traces, over_lists, over_layers, blk_app};
-ghost use Rattle.blk_words.specs.Asked.{Asks, AreRefused, short_given, number_given, is_flagged, tunables_of, targets_of, sched_of, compared, amounts_of, loaded, oracle_job, plain_job, job_of};
+ghost use Rattle.blk_words.specs.Asked.{Asks, AreRefused, short_given, number_given, is_flagged, tunables_of, targets_of, sched_of, earliest_of, compared, amounts_of, loaded, oracle_job, plain_job, job_of};
 
 use blk_deadline::Tunables;
 use blk_kyber::Targets;
 use blk_settings::numbers::{MOST_BIOS, MOST_DEPTH, MOST_SUBMITTERS, MOST_WORKERS};
-use blk_settings::{Load, Sched};
+use blk_settings::{Lineup, Load, Sched};
 use clap::builder::ValueParser;
 use clap::error::ErrorKind;
 use clap::{Arg, ArgAction, ArgMatches, Command, value_parser};
 use std::alloc::{AllocError, Global};
 
 /// The names of the schedulers.
-static SCHEDULERS: [&str; 3] = ["none", "deadline", "kyber"];
+static SCHEDULERS: [&str; 4] = ["none", "deadline", "kyber", "earliest"];
 
 /// The greatest target of `kyber`, in rounds.
 const MOST_TARGET: u64 = 1_000_000;
@@ -34,8 +34,8 @@ pub enum Job {
     Version,
     /// Run a script under a scheduler, and write its trace.
     Sim(Sched),
-    /// Run a script under each scheduler in turn, and write the table of the reports.
-    Compare(Tunables, Targets),
+    /// Run a script under each of these schedulers in turn, and write the table of the reports.
+    Compare(Lineup),
     /// Write a trace in the latest version.
     Migrate,
     /// Write the command list of a trace.
@@ -158,12 +158,18 @@ fn with_tuning<'a>(alloc: Global, command: Command<'a>) -> Result<Command<'a>, A
         "10",
         "Under kyber, how many rounds a write may wait",
     );
+    let last = flag_arg(
+        alloc,
+        "late-last",
+        "Under earliest, lets what is late already wait for what can be on time",
+    );
     let tuned = command
         .arg(batch)?
         .arg(starved)?
         .arg(front)?
         .arg(read)?
-        .arg(write)?;
+        .arg(write)?
+        .arg(last)?;
     Ok(tuned)
 }
 
@@ -273,7 +279,9 @@ fn compare_command<'a>(alloc: Global) -> Result<Command<'a>, AllocError>
         "compare",
         "Runs a script under each scheduler, and writes how late each was and had to be",
     );
-    with_tuning(alloc, compare)
+    let earliest = flag_arg(alloc, "earliest", "Runs it under earliest as well");
+    let flagged = compare.arg(earliest)?;
+    with_tuning(alloc, flagged)
 }
 
 /// The subcommand that knows how late commands have to be.
@@ -468,18 +476,35 @@ fn sched_of(options: &ArgMatches<'_>) -> Option<Sched>
     } else if name == "kyber" {
         let targets = targets_of(options)?;
         Some(Sched::Kyber(targets))
+    } else if name == "earliest" {
+        let late_last = is_flagged(options, "late-last");
+        Some(Sched::Earliest { late_last })
     } else {
         None
     }
 }
 
+/// Whether the options of `compare` ask for earliest, and then whether late last.
+fn earliest_of(options: &ArgMatches<'_>) -> Option<bool>
+    ensures { result ≡ earliest_of (is_flagged (codes "earliest") (rows_of (found_of options.now))) (is_flagged (codes "late-last") (rows_of (found_of options.now))) }
+{
+    let runs = is_flagged(options, "earliest");
+    let late_last = is_flagged(options, "late-last");
+    if runs { Some(late_last) } else { None }
+}
+
 /// The comparison with the settings that the options of `compare` give.
 fn compare_of(options: &ArgMatches<'_>) -> Option<Job>
-    ensures { result ≡ compared (tunables_of (rows_of (found_of options.now))) (targets_of (rows_of (found_of options.now))) }
+    ensures { result ≡ compared (tunables_of (rows_of (found_of options.now))) (targets_of (rows_of (found_of options.now))) (earliest_of (is_flagged (codes "earliest") (rows_of (found_of options.now))) (is_flagged (codes "late-last") (rows_of (found_of options.now)))) }
 {
-    let tunables = tunables_of(options)?;
-    let targets = targets_of(options)?;
-    Some(Job::Compare(tunables, targets))
+    let deadline = tunables_of(options)?;
+    let kyber = targets_of(options)?;
+    let earliest = earliest_of(options);
+    Some(Job::Compare(Lineup {
+        deadline,
+        kyber,
+        earliest,
+    }))
 }
 
 /// How much load the options of `load` say there is.

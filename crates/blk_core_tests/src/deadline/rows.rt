@@ -4,8 +4,7 @@ use crate::deadline::given::{follows, tuned};
 use crate::listed::Call;
 use blk_bio::Side;
 use blk_core::Placed;
-use blk_deadline::Deadline;
-use blk_sched::SchedFault;
+use blk_deadline::{Deadline, DeadlineFault};
 
 /// A batch goes on upwards; where nothing lies further on, the oldest begins the next one.
 #[test]
@@ -86,7 +85,7 @@ fn constructors_refuse(rt: HostRuntime) {
         Ok(_) => None,
         Err(why) => Some(why),
     };
-    assert_eq!(rt; refused, Some(SchedFault::ZeroBatch));
+    assert_eq!(rt; refused, Some(DeadlineFault::ZeroBatch));
     assert!(rt; Deadline::new(rt.alloc(), tuned(1, 0, false)).is_ok());
 }
 

@@ -3,8 +3,7 @@
 use crate::kyber::given::{follows, targets};
 use crate::listed::Call;
 use blk_bio::Dir;
-use blk_kyber::Kyber;
-use blk_sched::SchedFault;
+use blk_kyber::{Kyber, KyberFault};
 
 /// A read that misses its target halves the limit of writes; without a miss it rises; and misses of both halve both. So
 /// many commands of a direction are in flight as its limit says, and no more.
@@ -119,7 +118,7 @@ fn constructors_refuse(rt: HostRuntime) {
             Ok(_) => None,
             Err(why) => Some(why),
         };
-        assert_eq!(rt; refused, Some(SchedFault::ZeroTarget));
+        assert_eq!(rt; refused, Some(KyberFault::ZeroTarget));
     }
     assert!(rt; Kyber::new(rt.alloc(), targets(1, 1), 1).is_ok());
 }

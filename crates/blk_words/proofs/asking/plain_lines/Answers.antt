@@ -1,7 +1,7 @@
-use Rattle.std.proofs.Common.{[], ◌∷◌, None, Some, codes, true}
+use Rattle.std.proofs.Common.{[], ◌∷◌, None, Some, codes, true, false}
 use Rattle.blk_settings.specs.declared.sched.Sched.TheVariants as sched
 use Rattle.blk_words.specs.declared.words.Job.TheVariants as job
-use Rattle.blk_words.proofs.Plain.{asks_alone, sim_line, none_line, deadline_line, kyber_line, batch_line, target_line, compare_line, migrate_line, commands_line, late_line, misses_line, spread_line, oracle_line, report_line, met_line, asks_nothing, report_and_met_line, check_line, load_line, busy_line, version_line}
+use Rattle.blk_words.proofs.Plain.{asks_alone, sim_line, none_line, deadline_line, kyber_line, earliest_line, late_last_line, batch_line, target_line, compare_line, compare_earliest_line, compare_late_last_line, migrate_line, commands_line, late_line, misses_line, spread_line, oracle_line, report_line, met_line, asks_nothing, report_and_met_line, check_line, load_line, busy_line, version_line}
 use Rattle.blk_words.proofs.asking.plain_lines.Goals as goal
 
 pub returns : goal.returns
@@ -11,11 +11,15 @@ returns c = record {
   deadline = λ name. asks_alone (name ∷ codes "sim" ∷ codes "--sched" ∷ codes "deadline" ∷ [])
       (job.Sim (sched.Deadline (record { fifo_batch = 16; writes_starved = 2; front_merges = true }))) (deadline_line name);
   kyber = λ name. asks_alone (name ∷ codes "sim" ∷ codes "--sched" ∷ codes "kyber" ∷ []) (job.Sim (sched.Kyber (record { read = 2; write = 10 }))) (kyber_line name);
+  earliest = λ name. asks_alone (name ∷ codes "sim" ∷ codes "--sched" ∷ codes "earliest" ∷ []) (job.Sim (sched.Earliest false)) (earliest_line name);
+  late_last = λ name. asks_alone (name ∷ codes "sim" ∷ codes "--sched" ∷ codes "earliest" ∷ codes "--late-last" ∷ []) (job.Sim (sched.Earliest true)) (late_last_line name);
   batch = λ name. asks_alone (name ∷ codes "sim" ∷ codes "--sched" ∷ codes "deadline" ∷ codes "--fifo-batch" ∷ codes "1" ∷ [])
       (job.Sim (sched.Deadline (record { fifo_batch = 1; writes_starved = 2; front_merges = true }))) (batch_line name);
   target = λ name. asks_alone (name ∷ codes "sim" ∷ codes "--sched" ∷ codes "kyber" ∷ codes "--read-target" ∷ codes "1000000" ∷ [])
       (job.Sim (sched.Kyber (record { read = 1_000_000; write = 10 }))) (target_line name);
-  compare = λ name. asks_alone (name ∷ codes "compare" ∷ []) (job.Compare (record { fifo_batch = 16; writes_starved = 2; front_merges = true }) (record { read = 2; write = 10 })) (compare_line name);
+  compare = λ name. asks_alone (name ∷ codes "compare" ∷ []) (job.Compare (record { deadline = record { fifo_batch = 16; writes_starved = 2; front_merges = true }; kyber = record { read = 2; write = 10 }; earliest = None })) (compare_line name);
+  compare_earliest = λ name. asks_alone (name ∷ codes "compare" ∷ codes "--earliest" ∷ []) (job.Compare (record { deadline = record { fifo_batch = 16; writes_starved = 2; front_merges = true }; kyber = record { read = 2; write = 10 }; earliest = (Some false) })) (compare_earliest_line name);
+  compare_late_last = λ name. asks_alone (name ∷ codes "compare" ∷ codes "--earliest" ∷ codes "--late-last" ∷ []) (job.Compare (record { deadline = record { fifo_batch = 16; writes_starved = 2; front_merges = true }; kyber = record { read = 2; write = 10 }; earliest = (Some true) })) (compare_late_last_line name);
   migrate = λ name. asks_alone (name ∷ codes "migrate" ∷ []) job.Migrate (migrate_line name);
   commands = λ name. asks_alone (name ∷ codes "commands" ∷ []) job.Commands (commands_line name);
   late = λ name. asks_alone (name ∷ codes "late" ∷ []) job.Late (late_line name);

@@ -2,7 +2,7 @@ use Rattle.std.proofs.Common.{◌≡◌, ◌∙◌, sym, refl, true, false, code
 use Rattle.std.specs.Str.{bytes_eq}
 use Rattle.clap.specs.Words.{found_of, rows_of}
 use Rattle.blk_settings.specs.declared.sched.Sched.TheVariants as sched
-use Rattle.blk_words.proofs.Lines.{sched_by, no_sched_by, deadline_named, kyber_named, unnamed}
+use Rattle.blk_words.proofs.Lines.{sched_by, no_sched_by, deadline_named, kyber_named, earliest_named, unnamed}
 use Rattle.blk_words.proofs.words.sched_of.Goals as goal
 
 pub returns-in_err-name : goal.returns-in_err-name
@@ -49,11 +49,23 @@ returns-in_ok-targets c =
     sched_by f name (Some (sched.Kyber c.in_ok-targets.targets)) c.in_ok-name.ensures
     (kyber_named (rows_of f) name (Some c.in_ok-targets.targets) other another is c.in_ok-targets.ensures)
 
-pub returns-else-eq-3 : goal.returns-else-eq-3
-returns-else-eq-3 c =
+pub returns-then-eq-4 : goal.returns-then-eq-4
+returns-then-eq-4 c =
     let f = found_of c.args.options.now in
     let name = c.in_ok-name.name.now in
     let other : bytes_eq name (codes "none") ≡ false = sym c.eq.ensures ∙ c.if-eq.false in
     let another : bytes_eq name (codes "deadline") ≡ false = sym c.eq-else-eq.ensures ∙ c.if-eq-2.false in
     let third : bytes_eq name (codes "kyber") ≡ false = sym c.eq-else-eq-2.ensures ∙ c.if-eq-3.false in
-    sched_by f name None c.in_ok-name.ensures (unnamed (rows_of f) name other another third)
+    let is : bytes_eq name (codes "earliest") ≡ true = sym c.eq-else-eq-3.ensures ∙ c.if-eq-4.true in
+    sched_by f name (Some (sched.Earliest c.is_flagged.result)) c.in_ok-name.ensures
+    (earliest_named (rows_of f) name c.is_flagged.result other another third is c.is_flagged.ensures)
+
+pub returns-else-eq-4 : goal.returns-else-eq-4
+returns-else-eq-4 c =
+    let f = found_of c.args.options.now in
+    let name = c.in_ok-name.name.now in
+    let other : bytes_eq name (codes "none") ≡ false = sym c.eq.ensures ∙ c.if-eq.false in
+    let another : bytes_eq name (codes "deadline") ≡ false = sym c.eq-else-eq.ensures ∙ c.if-eq-2.false in
+    let third : bytes_eq name (codes "kyber") ≡ false = sym c.eq-else-eq-2.ensures ∙ c.if-eq-3.false in
+    let fourth : bytes_eq name (codes "earliest") ≡ false = sym c.eq-else-eq-3.ensures ∙ c.if-eq-4.false in
+    sched_by f name None c.in_ok-name.ensures (unnamed (rows_of f) name other another third fourth)

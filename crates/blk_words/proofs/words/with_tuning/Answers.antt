@@ -11,4 +11,5 @@ returns-clause-app c =
     let two = adds_rule _ _ _ _ _ (c.in_ok-arg-2.ensures.shape c.number_arg-starved.ensures.local) one starved in
     let three = adds_rule _ _ _ _ _ (c.in_ok-arg-3.ensures.shape c.flag_arg-front.ensures.local) two c.flag_arg-front.ensures.rule in
     let four = adds_rule _ _ _ _ _ (c.in_ok-arg-4.ensures.shape c.target_arg-read.ensures.local) three c.target_arg-read.ensures.rule in
-    adds_rule _ _ _ _ _ (c.in_ok-tuned.ensures.shape c.target_arg-write.ensures.local) four c.target_arg-write.ensures.rule
+    let five = adds_rule _ _ _ _ _ (c.in_ok-arg-5.ensures.shape c.target_arg-write.ensures.local) four c.target_arg-write.ensures.rule in
+    adds_rule _ _ _ _ _ (c.in_ok-tuned.ensures.shape c.flag_arg-last.ensures.local) five c.flag_arg-last.ensures.rule

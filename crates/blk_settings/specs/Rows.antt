@@ -1,0 +1,72 @@
+-- The rows of the table of schedulers: what each is called, what it does, and how it starts.
+use Rattle.std.specs.Prelude.{ℕ, ◌≡◌, Bool, true, List, [], ◌∷◌, Option, None, Some, codes}
+use Rattle.blk_bio.specs.declared.bio.Dir.{Dir}
+use Rattle.blk_sched.specs.Meaning.{Waiting, Meaning, at_start}
+use Rattle.blk_none.specs.Choice.{serves_own as none_serves, none_chooses}
+use Rattle.blk_deadline.specs.Choice.{serves_all as deadline_serves, deadline_chooses, kept_of as deadline_kept}
+use Rattle.blk_kyber.specs.Choice.{serves_own as kyber_serves}
+use Rattle.blk_kyber.specs.Kept.{kept_at_first, numbers_of, Chooses, Told}
+use Rattle.blk_kyber.specs.Limits.{Done, Tick}
+use Rattle.blk_earliest.specs.Choice.{serves_all as earliest_serves, earliest_chooses, kept_of as earliest_kept}
+use Rattle.blk_settings.specs.Made.{IsMade}
+use Rattle.blk_settings.specs.declared.sched.Lineup.{Lineup}
+use Rattle.blk_settings.specs.declared.sched.Sched.{Sched}
+use Rattle.blk_settings.specs.declared.sched.Sched.TheVariants as sched
+
+-- its name
+abbrev pub name_of : Sched → List ℕ
+name_of sched.None = codes "none"
+name_of (sched.Deadline t) = codes "deadline"
+name_of (sched.Kyber t) = codes "kyber"
+name_of (sched.Earliest late_last) = codes "earliest"
+
+-- which requests a pick may take, and which it chooses
+abbrev pub serves_of : Sched → ℕ → Waiting → Bool
+serves_of sched.None = none_serves
+serves_of (sched.Deadline t) = deadline_serves
+serves_of (sched.Kyber t) = kyber_serves
+serves_of (sched.Earliest late_last) = earliest_serves
+
+abbrev pub chooses_of : Sched → List ℕ → Meaning → ℕ → ℕ → Option Waiting → List ℕ → Type 0
+chooses_of sched.None = none_chooses
+chooses_of (sched.Deadline t) = deadline_chooses
+chooses_of (sched.Kyber t) = Chooses
+chooses_of (sched.Earliest late_last) = earliest_chooses
+
+-- what it keeps once it is told of a completion, and of a round: kyber alone learns from them
+abbrev pub told_done_of : Sched → ℕ → Dir → ℕ → List ℕ → List ℕ → Type 0
+told_done_of sched.None hw dir wait old new = new ≡ old
+told_done_of (sched.Deadline t) hw dir wait old new = new ≡ old
+told_done_of (sched.Kyber t) hw dir wait old new = Told (Done dir wait) old new
+told_done_of (sched.Earliest late_last) hw dir wait old new = new ≡ old
+
+abbrev pub told_tick_of : Sched → ℕ → List ℕ → List ℕ → Type 0
+told_tick_of sched.None now old new = new ≡ old
+told_tick_of (sched.Deadline t) now old new = new ≡ old
+told_tick_of (sched.Kyber t) now old new = Told (Tick now) old new
+told_tick_of (sched.Earliest late_last) now old new = new ≡ old
+
+-- what it means before it has any request, and what it keeps then at a depth
+abbrev pub meaning_of : Sched → Meaning
+meaning_of sched.None = at_start true
+meaning_of (sched.Deadline t) = at_start t.front_merges
+meaning_of (sched.Kyber t) = at_start true
+meaning_of (sched.Earliest late_last) = at_start true
+
+abbrev pub numbers_at_first : Sched → ℕ → List ℕ
+numbers_at_first sched.None depth = []
+numbers_at_first (sched.Deadline t) depth = deadline_kept (record { last = None; batching = 0; starved = 0 }) t
+numbers_at_first (sched.Kyber t) depth = numbers_of (kept_at_first t depth)
+numbers_at_first (sched.Earliest late_last) depth = earliest_kept late_last
+
+-- one that is made and has no request yet
+abbrev pub IsStart : Sched → ℕ → Meaning → List ℕ → Type 0
+IsStart s depth meaning kept = IsMade s × (meaning ≡ meaning_of s) × (kept ≡ numbers_at_first s depth)
+
+-- the schedulers that are compared, in the order in which they run
+abbrev pub earliest_row : Option Bool → List Sched
+earliest_row None = []
+earliest_row (Some late_last) = sched.Earliest late_last ∷ []
+
+abbrev pub in_turn : Lineup → List Sched
+in_turn l = sched.None ∷ sched.Deadline l.deadline ∷ sched.Kyber l.kyber ∷ earliest_row l.earliest
