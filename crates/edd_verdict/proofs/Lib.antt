@@ -4,3 +4,10 @@ pub mod Freeing
 pub mod Sparing
 pub mod Judging
 pub mod Saving
+pub mod Sweeping
+pub mod Filling
+pub mod Opening
+pub mod Parting
+pub mod Tightening
+pub mod Subset
+pub mod Answering

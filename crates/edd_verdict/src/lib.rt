@@ -6,18 +6,26 @@
 //! way of one more is a window of rounds that are full (Hall's condition in a convex bipartite graph).
 #![tactic(auto)]
 
-ghost use Rattle.std.specs.Prelude.{ℕ, ◌≡◌, ◌≤◌, ◌<◌, ◌+◌, ◌↔◌, List, Option, length};
+ghost use Rattle.std.specs.Prelude.{ℕ, ◌≡◌, ◌≤◌, ◌<◌, ◌+◌, ◌↔◌, List, Option, IfOk, length};
 ghost use Rattle.edd_check.specs.declared.Command.{Command};
 ghost use Rattle.edd_check.specs.declared.Window.{Window};
 ghost use Rattle.edd_check.specs.declared.steps.Step.{Step};
 ghost use Rattle.edd_check.specs.Capacity.{IsCapacity};
 ghost use Rattle.edd_check.specs.Schedule.{IsLegal};
 ghost use Rattle.edd_check.specs.Met.{number_met, IsMostMet};
+ghost use Rattle.edd_oracle.specs.Input.{IsTaken};
 ghost use Rattle.edd_verdict.specs.declared.Verdict.{Verdict};
+ghost use Rattle.edd_verdict.specs.Inside.Open.{on_time_of, AreFilled};
 ghost use Rattle.edd_verdict.specs.Filled.{IsFilled, IsAround};
 ghost use Rattle.edd_verdict.specs.Verdicts.{IsLate, CanBeOnTime, IsSpare, IsVerdict, AreVerdicts, arrivals_in, fulls_in, spares_in};
 
-use edd_check::Window;
+mod around;
+mod tight;
+
+use around::judge;
+use edd_check::{Capacity, Command, Window};
+use edd_oracle::solve;
+use std::alloc::{AllocError, Allocator};
 
 /// Why a late command was late, beside the commands of its schedule that were on time.
 #[derive(Clone, Copy, Debug, PartialEq, Eq)]
@@ -65,3 +73,73 @@ pub fn law_of_spares()
         → IsLegal commands rounds steps → AreVerdicts commands rounds steps verdicts
         → (most : ℕ) → IsMostMet commands steps most → (number_met commands rounds < most) ↔ (0 < spares_in verdicts) }
 {}
+
+/// A capacity carries some commands in each round.
+///
+/// A law: it does nothing when it runs, and a caller has its clause.
+fn law_of_capacities<A: Allocator>(capacity: &Capacity<A>)
+    ensures { IsCapacity capacity.now }
+{
+    let _ = capacity.at(0);
+}
+
+/// The commands that run no later than they are due.
+fn on_time<A: Allocator>(
+    alloc: A,
+    commands: &[Command],
+    rounds: &[u64],
+) -> Result<Vec<Command, A>, AllocError>
+    ensures { IfOk result (λ v. v.items ≡ on_time_of commands.now rounds.now) }
+{
+    commands
+        .iter()
+        .zip(rounds)
+        .filter(|(command, round)| **round <= command.due)
+        .map(|(command, _)| *command)
+        .collect(alloc)
+}
+
+/// The windows that the commands on time fill, by rising `due`: each filled window ends with one of these, which begins no later.
+/// Whatever schedule has these commands on time, the windows are the same, and so they are found in that by earliest due date first.
+fn filled<A: Allocator + Clone, B: Allocator>(
+    alloc: A,
+    commands: &[Command],
+    rounds: &[u64],
+    capacity: &Capacity<B>,
+) -> Result<Vec<Window, A>, AllocError>
+    requires legal { IsLegal commands.now rounds.now capacity.now }
+    requires capacity { IsCapacity capacity.now }
+    ensures { IfOk result (λ v. AreFilled commands.now rounds.now capacity.now v.items) }
+{
+    let met = on_time(alloc.clone()?, commands, rounds)?;
+    match solve(alloc.clone()?, met.as_slice(), capacity) {
+        Ok(Some(answer)) => {
+            let found = tight::filled(alloc, met.as_slice(), answer.rounds.as_slice(), capacity)?;
+            Ok(found)
+        }
+        Ok(None) => Ok(Vec::new(alloc)),
+        // commands within the limits of the oracle are refused for want of memory alone
+        Err(_) => Err(AllocError),
+    }
+}
+
+/// The verdict of each late command of a legal schedule, by place; a command that is on time has none.
+///
+/// The windows that the commands on time fill are found in their schedule by earliest due date first, in one pass over its full
+/// rounds with a stack, and the first around each late command by halves. So the time grows as n log n in the number of commands.
+/// Fails for want of memory alone.
+pub fn verdicts<A: Allocator + Clone, B: Allocator>(
+    alloc: A,
+    commands: &[Command],
+    rounds: &[u64],
+    capacity: &Capacity<B>,
+) -> Result<Vec<Option<Verdict>, A>, AllocError>
+    requires taken { IsTaken commands.now }
+    requires legal { IsLegal commands.now rounds.now capacity.now }
+    ensures { IfOk result (λ v. AreVerdicts commands.now rounds.now capacity.now v.items) }
+{
+    law_of_capacities(capacity);
+    let windows = filled(alloc.clone()?, commands, rounds, capacity)?;
+    let verdicts = judge(alloc, commands, rounds, windows.as_slice())?;
+    Ok(verdicts)
+}

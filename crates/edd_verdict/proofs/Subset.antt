@@ -1,0 +1,223 @@
+-- The commands that are on time, as a list of their own.
+use Rattle.std.proofs.Common.{◌≡◌, ◌<◌, ◌≤◌, ℕ, ◌+◌, ◌-◌, zero, suc, cond, not, Bool, true, false, ◌==◌, ◌&&◌, List, [], ◌∷◌, length, get_or, map, filter, count_by, ℤ, pos, ◌-ℤ◌, ◌≤ℤ◌, inl, inr, arith, refl, ap, sym, ◌∙◌, subst}
+use Rattle.std.specs.List.{zip, All}
+use Rattle.std.proofs.lemmas.Int.{ints, by_lt_z}
+use Rattle.std.proofs.lemmas.List.{get_or_default, get_or-map, length-map}
+use Rattle.std.proofs.lemmas.List.Sums.{count_by-le-length}
+use Rattle.std.proofs.lemmas.List.Filters.{sum_by-filter_both}
+use Rattle.std.proofs.lemmas.List.Elements.{All-filter, filter_passes}
+use Rattle.std.proofs.lemmas.Bool.{cases_Bool, cases_eq, cond-true, cond-false, and_parts, and_from, leb-true, le-leb}
+use Rattle.edd_check.specs.declared.Command.{Command}
+use Rattle.edd_check.specs.declared.Window.{Window}
+use Rattle.edd_check.specs.declared.steps.Step.{Step}
+use Rattle.edd_check.specs.Capacity.{depth_at}
+use Rattle.edd_check.specs.Schedule.{IsLegal, IsGreatestLateness, IsLowerBound, places_at, lateness_at}
+use Rattle.edd_check.specs.Met.{is_met, lies_in}
+use Rattle.edd_oracle.proofs.Counting.{count_yes, count_no, count_along, count_map, count_wider}
+use Rattle.edd_oracle.proofs.Pairs.{pair_at, length_pairs}
+use Rattle.edd_oracle.specs.Answer.{IsBest}
+use Rattle.edd_verdict.specs.Filled.{held_at, IsFilled}
+use Rattle.edd_verdict.specs.Inside.Open.{on_time_of, AreOnTime, AreFilled}
+use Rattle.edd_verdict.proofs.Holding.{is_held, held_in, tested, untested, filled_holds, holds_filled}
+use Rattle.edd_verdict.proofs.Freeing.{nobody}
+
+-- a count over those that pass a wider test
+count_filter : {X : Type 0} (p q : X → Bool) → ((x : X) → p x ≡ true → q x ≡ true) → (xs : List X) → count_by p (filter q xs) ≡ count_by p xs
+count_filter p q wider [] = refl
+count_filter p q wider (x ∷ xs) =
+    elim (cases_Bool (q x)) [
+      | inl passes ↦
+          let same : filter q (x ∷ xs) ≡ x ∷ filter q xs = cond-true (q x) (x ∷ filter q xs) (filter q xs) passes in
+          let rest : count_by p (filter q xs) ≡ count_by p xs = count_filter p q wider xs in
+          ap (λ l. count_by p l) same ∙ (elim (cases_Bool (p x)) [
+            | inl yes_p ↦ count_yes p x (filter q xs) yes_p ∙ ap (λ n. 1 + n) rest ∙ sym (count_yes p x xs yes_p)
+            | inr no_p ↦ count_no p x (filter q xs) no_p ∙ rest ∙ sym (count_no p x xs no_p)
+          ])
+      | inr fails ↦
+          let same : filter q (x ∷ xs) ≡ filter q xs = cond-false (q x) (x ∷ filter q xs) (filter q xs) fails in
+          let no_p : p x ≡ false = elim (cases_Bool (p x)) [ inl passes ↦ absurd (let clash : true ≡ false = sym (wider x passes) ∙ fails in cc) | inr out ↦ out ] in
+          ap (λ l. count_by p l) same ∙ count_filter p q wider xs ∙ sym (count_no p x xs no_p)
+    ]
+
+count_filtered : {X : Type 0} (p q : X → Bool) → (xs : List X) → count_by p (filter q xs) ≤ count_by p xs
+count_filtered p q xs =
+    let both : count_by p (filter q xs) + count_by p (filter (λ x. not (q x)) xs) ≡ count_by p xs = sum_by-filter_both q (λ x. not (q x)) (λ x. refl) (λ x. cond (p x) 1 0) xs in
+    omega (arith, both)
+
+-- pairs taken apart and put together again
+zip_parts : {X Y : Type 0} (xs : List (X × Y)) → zip (map (λ p. p.0) xs) (map (λ p. p.1) xs) ≡ xs
+zip_parts [] = refl
+zip_parts (x ∷ xs) = ap (λ l. x ∷ l) (zip_parts xs)
+
+module _ (commands : List Command) (rounds : List ℕ) (steps : List Step) (legal : IsLegal commands rounds steps) where
+  -- those that are on time, each with its round
+  abbrev pub pairs : List (Command × ℕ)
+  pairs = filter (λ p. is_met p.0 p.1) (zip commands rounds)
+
+  abbrev pub met : List Command
+  met = on_time_of commands rounds
+
+  abbrev pub met_rounds : List ℕ
+  met_rounds = map (λ p. p.1) pairs
+
+  one_each : length met_rounds ≡ length met
+  one_each = length-map pairs (λ p. p.1) ∙ sym (length-map pairs (λ p. p.0))
+
+  -- each of them is released by its round, and runs by its due round
+  fits : All (λ (p : Command × ℕ). (p.0.release ≤ p.1) × (p.1 ≤ p.0.due)) pairs
+  fits i d h =
+      let released : All (λ (p : Command × ℕ). p.0.release ≤ p.1) pairs =
+      All-filter (λ p. is_met p.0 p.1) (λ (p : Command × ℕ). p.0.release ≤ p.1) (zip commands rounds)
+      (λ k q k_in.
+      let within : k < length commands = omega (arith, length_pairs commands rounds legal.one_each) in
+      subst (λ (p : Command × ℕ). p.0.release ≤ p.1) (sym (pair_at commands rounds k q nobody 0 legal.one_each within)) (legal.released k nobody within)) in
+      (released i d h, leb-true (get_or pairs i d).1 (get_or pairs i d).0.due (filter_passes (λ p. is_met p.0 p.1) (zip commands rounds) i d h))
+
+  met_at : (k : ℕ) (d : Command) → k < length met → (get_or met k d ≡ (get_or pairs k (nobody, 0)).0) × (get_or met_rounds k 0 ≡ (get_or pairs k (nobody, 0)).1)
+  met_at k d h =
+      let within : k < length pairs = omega (arith, length-map pairs (λ p. p.0)) in
+      (get_or-map (λ p. p.0) pairs k (nobody, 0) d within, get_or-map (λ p. p.1) pairs k (nobody, 0) 0 within)
+
+  pub met_legal : IsLegal met met_rounds steps
+  unfolding places_at
+  met_legal =
+      record {
+        one_each = one_each;
+        released = λ k d h.
+            let within : k < length pairs = omega (arith, length-map pairs (λ p. p.0)) in
+            let at = met_at k d h in
+            omega (arith, (fits k (nobody, 0) within).0, ap (λ (c : Command). c.release) at.0, at.1);
+        within_depth = λ x.
+            let long : length (zip commands rounds) ≡ length commands = length_pairs commands rounds legal.one_each in
+            let one : places_at met_rounds x ≡ count_by (λ (p : Command × ℕ). p.1 == x) pairs = count_map (λ (p : Command × ℕ). p.1) (λ z. z == x) pairs in
+            let two : count_by (λ (p : Command × ℕ). p.1 == x) pairs ≤ count_by (λ (p : Command × ℕ). p.1 == x) (zip commands rounds) = count_filtered (λ (p : Command × ℕ). p.1 == x) (λ p. is_met p.0 p.1) (zip commands rounds) in
+            let three : count_by (λ (p : Command × ℕ). p.1 == x) (zip commands rounds) ≤ places_at rounds x =
+            count_along (λ (p : Command × ℕ). p.1 == x) (λ z. z == x) (zip commands rounds) rounds (legal.one_each ∙ sym long)
+            (λ j q e h passes.
+            let here : (get_or rounds j 0 == x) ≡ true = untested commands rounds (λ p. p.1 == x) true j q.0 q legal.one_each (omega (arith, long)) passes in
+            subst (λ n. (n == x) ≡ true) (get_or_default rounds j 0 e (omega (arith, legal.one_each, long))) here) in
+            omega (arith, one, two, three, legal.within_depth x);
+      }
+
+  pub met_on_time : AreOnTime met met_rounds
+  met_on_time k d h =
+      let within : k < length pairs = omega (arith, length-map pairs (λ p. p.0)) in
+      let at = met_at k d h in
+      omega (arith, (fits k (nobody, 0) within).1, ap (λ (c : Command). c.due) at.0, at.1)
+
+  met_held : (w : Window) → held_in met met_rounds w ≡ held_in commands rounds w
+  met_held w =
+      ap (λ l. count_by (is_held w) l) (zip_parts pairs)
+      ∙ count_filter (is_held w) (λ p. is_met p.0 p.1) (λ p passes. (and_parts (is_met p.0 p.1) (lies_in p.0 w) passes).0) (zip commands rounds)
+
+  -- whatever schedule has them on time, a window holds as many
+  held_le : (list : List Command) (one other : List ℕ) (w : Window) → IsLegal list one steps → IsLegal list other steps → AreOnTime list other → held_in list one w ≤ held_in list other w
+  held_le list one other w legal_one legal_other on_time =
+      let long : length (zip list one) ≡ length list = length_pairs list one legal_one.one_each in
+      let long' : length (zip list other) ≡ length list = length_pairs list other legal_other.one_each in
+      count_along (is_held w) (is_held w) (zip list one) (zip list other) (long' ∙ sym long)
+      (λ k q e h passes.
+      let k_in : k < length list = omega (arith, long) in
+      let here : is_held w (get_or list k nobody, get_or one k 0) ≡ true = untested list one (is_held w) true k nobody q legal_one.one_each k_in passes in
+      tested list other (is_held w) true k nobody e legal_other.one_each k_in
+      (and_from (is_met (get_or list k nobody) (get_or other k 0)) (lies_in (get_or list k nobody) w) (le-leb (get_or other k 0) (get_or list k nobody).due (on_time k nobody k_in)) (and_parts (is_met (get_or list k nobody) (get_or one k 0)) (lies_in (get_or list k nobody) w) here).1))
+
+  module _ (other : List ℕ) (legal' : IsLegal met other steps) (on_time' : AreOnTime met other) where
+    same_held : (w : Window) → held_in met other w ≡ held_in commands rounds w
+    same_held w = omega (arith, held_le met other met_rounds w legal' met_legal met_on_time, held_le met met_rounds other w met_legal legal' on_time', met_held w)
+
+    pub filled_there : (w : Window) → w.from ≤ w.due → IsFilled commands rounds steps w → IsFilled met other steps w
+    filled_there w some filled = holds_filled met other steps w legal' (omega (arith, filled_holds commands rounds steps w filled some, same_held w))
+
+    pub filled_here : (w : Window) → w.from ≤ w.due → IsFilled met other steps w → IsFilled commands rounds steps w
+    filled_here w some filled = holds_filled commands rounds steps w legal (omega (arith, filled_holds met other steps w filled some, same_held w))
+
+    pub all_here : (windows : List Window) → AreFilled met other steps windows → AreFilled commands rounds steps windows
+    all_here windows are =
+        record {
+          each = λ i e h x low high. filled_here (get_or windows i e) (omega arith) (are.each i e h) x low high;
+          all = λ v filled some. are.all v (filled_there v some filled) some;
+          rising = are.rising;
+        }
+
+  -- where nothing is on time no window is filled
+  pub none_filled : ((x : ℕ) → 0 < depth_at steps x) → met ≡ [] → (windows : List Window) → windows ≡ [] → AreFilled commands rounds steps windows
+  unfolding held_at
+  none_filled some none windows is =
+      subst (λ xs. AreFilled commands rounds steps xs) (sym is) record {
+        each = λ i e h. absurd (omega arith);
+        all = λ v filled low.
+            let held : held_at commands rounds v v.from ≤ held_in commands rounds v =
+            count_wider (λ p. is_held v p && p.1 == v.from) (is_held v) (λ p passes. (and_parts (is_held v p) (p.1 == v.from) passes).0) (zip commands rounds) in
+            let short : held_in met met_rounds v ≤ length (zip met met_rounds) = count_by-le-length (is_held v) (zip met met_rounds) in
+            let long : length (zip met met_rounds) ≡ length met = length_pairs met met_rounds one_each in
+            let nothing : length met ≡ 0 = ap (λ xs. length xs) none in
+            absurd (omega (arith, held, short, long, nothing, met_held v, filled v.from (omega arith) low, some v.from));
+        rising = λ i j e lt h. absurd (omega arith);
+      }
+
+-- some lateness is the greatest
+greatest_of : (commands : List Command) (rounds : List ℕ) (n : ℕ) → n < length commands → (p : ℕ) × (p ≤ n) × ((k : ℕ) → k ≤ n → lateness_at commands rounds k nobody ≤ℤ lateness_at commands rounds p nobody)
+greatest_of commands rounds zero h = (0, omega arith, λ k le. let same : k ≡ 0 = omega arith in subst (λ i. lateness_at commands rounds i nobody ≤ℤ lateness_at commands rounds 0 nobody) (sym same) (omega (arith, ints)))
+greatest_of commands rounds (suc n) h =
+    let before = greatest_of commands rounds n (omega arith) in
+    by_lt_z (lateness_at commands rounds before.0 nobody) (lateness_at commands rounds (suc n) nobody)
+    (λ later. (
+      suc n,
+      omega arith,
+      λ k le.
+          elim (cases_eq k (suc n)) [
+            | inl last ↦ subst (λ i. lateness_at commands rounds i nobody ≤ℤ lateness_at commands rounds (suc n) nobody) (sym last) (omega (arith, ints))
+            | inr other ↦ let low = before.2 k (omega arith) in omega (arith, ints)
+          ],
+    ))
+    (λ not_later. (
+      before.0,
+      omega (arith, before.1),
+      λ k le.
+          elim (cases_eq k (suc n)) [
+            | inl last ↦ subst (λ i. lateness_at commands rounds i nobody ≤ℤ lateness_at commands rounds before.0 nobody) (sym last) not_later
+            | inr other ↦ before.2 k (omega arith)
+          ],
+    ))
+
+pub greatest_some : (commands : List Command) (rounds : List ℕ) → 0 < length commands → (late : ℤ) × IsGreatestLateness commands rounds late
+greatest_some commands rounds some =
+    let n : ℕ = length commands - 1 in
+    let top = greatest_of commands rounds n (omega arith) in
+    let same : (k : ℕ) (d : Command) → k < length commands → lateness_at commands rounds k d ≡ lateness_at commands rounds k nobody =
+    λ k d h. ap (λ (c : Command). pos (get_or rounds k 0) -ℤ pos c.due) (get_or_default commands k d nobody h) in (
+      lateness_at commands rounds top.0 nobody,
+      record {
+        bound = λ k d h. subst (λ z. z ≤ℤ lateness_at commands rounds top.0 nobody) (sym (same k d h)) (top.2 k (omega arith));
+        place = top.0;
+        in_list = omega (arith, top.1);
+        reached = λ d. same top.0 d (omega (arith, top.1));
+      },
+    )
+
+-- where some schedule has all on time, one of the least greatest lateness has too
+pub least_on_time : (commands : List Command) (rounds best : List ℕ) (steps : List Step) (late : ℤ) → IsLegal commands rounds steps → AreOnTime commands rounds → 0 < length commands → IsLowerBound commands steps late → IsGreatestLateness commands best late → AreOnTime commands best
+least_on_time commands rounds best steps late legal on_time some least greatest k d h =
+    let own = greatest_some commands rounds some in
+    let low : late ≤ℤ own.0 = least rounds own.0 legal own.1 in
+    let reached = own.1.reached d in
+    let timely = on_time own.1.place d own.1.in_list in
+    let bound = greatest.bound k d h in
+    omega (arith, ints)
+
+-- the schedule of those on time that is least late has them on time
+pub best_on_time : (commands : List Command) (rounds : List ℕ) (steps : List Step) (list list' : List Command) (best best' : List ℕ) (late : ℤ) (w : Window) → IsLegal commands rounds steps → list ≡ on_time_of commands rounds → list' ≡ on_time_of commands rounds → best' ≡ best → IsBest list steps best late w → AreOnTime list' best'
+best_on_time commands rounds steps list list' best best' late w legal is is' same answer =
+    let S : List Command = on_time_of commands rounds in
+    let here : IsBest S steps best late w = subst (λ xs. IsBest xs steps best late w) is answer in
+    let timely : AreOnTime S best = least_on_time S (met_rounds commands rounds steps legal) best steps late (met_legal commands rounds steps legal) (met_on_time commands rounds steps legal) (omega (arith, here.greatest.in_list)) here.least.least here.greatest in
+    subst (λ xs. AreOnTime list' xs) (sym same) (subst (λ xs. AreOnTime xs best) (sym is') timely)
+
+pub best_windows : (commands : List Command) (rounds : List ℕ) (steps : List Step) (list list' : List Command) (best best' : List ℕ) (late : ℤ) (w : Window) (windows : List Window) → IsLegal commands rounds steps → list ≡ on_time_of commands rounds → list' ≡ on_time_of commands rounds → best' ≡ best → IsBest list steps best late w → AreFilled list' best' steps windows → AreFilled commands rounds steps windows
+best_windows commands rounds steps list list' best best' late w windows legal is is' same answer filled =
+    let S : List Command = on_time_of commands rounds in
+    let here : IsBest S steps best late w = subst (λ xs. IsBest xs steps best late w) is answer in
+    let timely : AreOnTime S best = best_on_time commands rounds steps list S best best late w legal is refl refl answer in
+    let there : AreFilled S best steps windows = subst (λ xs. AreFilled xs best steps windows) is' (subst (λ xs. AreFilled list' xs steps windows) same filled) in
+    all_here commands rounds steps legal best here.legal timely windows there

@@ -1,0 +1,3 @@
+-- What invariants and proofs alone need.
+pub mod Tight
+pub mod Open
