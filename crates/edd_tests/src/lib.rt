@@ -15,3 +15,5 @@ mod memory;
 mod most;
 #[cfg(test)]
 mod schedules;
+#[cfg(test)]
+mod verdicts;

@@ -1,8 +1,10 @@
 //! Each allocation of a scenario refused in turn.
 
 use crate::made::{checked, command, window};
+use crate::verdicts::says;
 use edd_check::{Capacity, CheckFault, MetFault};
 use edd_oracle::{OracleFault, check_answer, check_most, most_met, solve};
+use edd_verdict::Verdict;
 use refusing::Refusing;
 use std::alloc::Global;
 use std::process::Abort;
@@ -100,5 +102,25 @@ fn of_a_greatest_number(rt: HostRuntime) {
     }
     heap.refuse(12);
     assert!(rt; met(&rt, rt.alloc(), &heap));
+    assert!(rt; heap.is_armed());
+}
+
+/// Tells why one command of three is late; whether memory was not refused.
+fn told(rt: &impl Abort, alloc: Global, heap: &Refusing<Global>) -> bool {
+    let one = Capacity::fixed(alloc, 1).expect(rt, "want of memory");
+    let commands = [command(1, 0, 0), command(2, 0, 0), command(3, 0, 5)];
+    let wanted = [None, Some(Verdict::Full(window(0, 0))), None];
+    says(rt, alloc, heap, &commands, &one, &[0, 2, 1], &wanted)
+}
+
+/// It fails only where a refusal was met, and goes through once none is.
+#[test]
+fn of_verdicts(rt: HostRuntime) {
+    let heap = Refusing::new(rt.alloc());
+    for n in 1..40 {
+        heap.refuse(n);
+        let fine = told(&rt, rt.alloc(), &heap);
+        assert!(rt; fine || !heap.is_armed());
+    }
     assert!(rt; heap.is_armed());
 }
