@@ -57,8 +57,8 @@ returns-then-eq-4 c =
     let another : bytes_eq name (codes "deadline") ≡ false = sym c.eq-else-eq.ensures ∙ c.if-eq-2.false in
     let third : bytes_eq name (codes "kyber") ≡ false = sym c.eq-else-eq-2.ensures ∙ c.if-eq-3.false in
     let is : bytes_eq name (codes "earliest") ≡ true = sym c.eq-else-eq-3.ensures ∙ c.if-eq-4.true in
-    sched_by f name (Some (sched.Earliest c.is_flagged.result)) c.in_ok-name.ensures
-    (earliest_named (rows_of f) name c.is_flagged.result other another third is c.is_flagged.ensures)
+    sched_by f name (Some (sched.Earliest c.is_flagged-late_last.result)) c.in_ok-name.ensures
+    (earliest_named (rows_of f) name c.is_flagged-late_last.result other another third is c.is_flagged-late_last.ensures)
 
 pub returns-else-eq-4 : goal.returns-else-eq-4
 returns-else-eq-4 c =
