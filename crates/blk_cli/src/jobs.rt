@@ -23,8 +23,11 @@ ghost use Rattle.blk_lists.specs.Proof.{proof_claimed, IsProofClaim};
 
 use crate::failure::Failure;
 use crate::meeting::judge_met;
+use blk_deadline::Tunables;
+use blk_kyber::Targets;
 use blk_sched::Scheduler;
-use blk_settings::{Sched, SchedFault, with_scheduler};
+use blk_settings::sched::{deadline, earliest, kyber, none};
+use blk_settings::{Sched, SchedFault};
 use blk_sim::simulate;
 use blk_text::{Script, read_script, read_trace, write_trace};
 use blk_trace::Trace;
@@ -72,6 +75,58 @@ fn traced_by<S: Scheduler<A = Global>>(
     }
 }
 
+/// The trace of a script under `none`.
+fn traced_by_none(alloc: Global, script: &Script) -> Result<Trace, Failure>
+    requires { IsScript (scripted script.now) }
+    ensures ran { IfOk result (λ trace. RunsUnder Sched.None (scripted script.now) trace) }
+    ensures setup { IfOk result (λ trace. trace.setup ≡ script.now.setup) }
+    ensures bios { IfOk result (λ trace. IsPermutation (entered trace.events) (released_bios script.now.setup.hw script.now.lines.items)) }
+    ensures ticks { IfOk result (λ trace. round_of trace.events ≡ sum_by ticks_of script.now.lines.items) }
+    ensures unrun { IfErr result (IsUnrun Sched.None (scripted script.now)) }
+{
+    let made = none(alloc, script.setup.depth());
+    traced_by(alloc, Sched::None, made, script)
+}
+
+/// The trace of a script under `deadline`.
+fn traced_by_deadline(alloc: Global, tunables: Tunables, script: &Script) -> Result<Trace, Failure>
+    requires { IsScript (scripted script.now) }
+    ensures ran { IfOk result (λ trace. RunsUnder (Sched.Deadline tunables) (scripted script.now) trace) }
+    ensures setup { IfOk result (λ trace. trace.setup ≡ script.now.setup) }
+    ensures bios { IfOk result (λ trace. IsPermutation (entered trace.events) (released_bios script.now.setup.hw script.now.lines.items)) }
+    ensures ticks { IfOk result (λ trace. round_of trace.events ≡ sum_by ticks_of script.now.lines.items) }
+    ensures unrun { IfErr result (IsUnrun (Sched.Deadline tunables) (scripted script.now)) }
+{
+    let made = deadline(alloc, tunables, script.setup.depth());
+    traced_by(alloc, Sched::Deadline(tunables), made, script)
+}
+
+/// The trace of a script under `kyber`.
+fn traced_by_kyber(alloc: Global, targets: Targets, script: &Script) -> Result<Trace, Failure>
+    requires { IsScript (scripted script.now) }
+    ensures ran { IfOk result (λ trace. RunsUnder (Sched.Kyber targets) (scripted script.now) trace) }
+    ensures setup { IfOk result (λ trace. trace.setup ≡ script.now.setup) }
+    ensures bios { IfOk result (λ trace. IsPermutation (entered trace.events) (released_bios script.now.setup.hw script.now.lines.items)) }
+    ensures ticks { IfOk result (λ trace. round_of trace.events ≡ sum_by ticks_of script.now.lines.items) }
+    ensures unrun { IfErr result (IsUnrun (Sched.Kyber targets) (scripted script.now)) }
+{
+    let made = kyber(alloc, targets, script.setup.depth());
+    traced_by(alloc, Sched::Kyber(targets), made, script)
+}
+
+/// The trace of a script under `earliest`.
+fn traced_by_earliest(alloc: Global, late_last: bool, script: &Script) -> Result<Trace, Failure>
+    requires { IsScript (scripted script.now) }
+    ensures ran { IfOk result (λ trace. RunsUnder (Sched.Earliest late_last) (scripted script.now) trace) }
+    ensures setup { IfOk result (λ trace. trace.setup ≡ script.now.setup) }
+    ensures bios { IfOk result (λ trace. IsPermutation (entered trace.events) (released_bios script.now.setup.hw script.now.lines.items)) }
+    ensures ticks { IfOk result (λ trace. round_of trace.events ≡ sum_by ticks_of script.now.lines.items) }
+    ensures unrun { IfErr result (IsUnrun (Sched.Earliest late_last) (scripted script.now)) }
+{
+    let made = earliest(alloc, late_last, script.setup.depth());
+    traced_by(alloc, Sched::Earliest { late_last }, made, script)
+}
+
 /// The trace of a script under a scheduler.
 pub fn traced(alloc: Global, sched: Sched, script: &Script) -> Result<Trace, Failure>
     requires { IsScript (scripted script.now) }
@@ -81,12 +136,12 @@ pub fn traced(alloc: Global, sched: Sched, script: &Script) -> Result<Trace, Fai
     ensures ticks { IfOk result (λ trace. round_of trace.events ≡ sum_by ticks_of script.now.lines.items) }
     ensures unrun { IfErr result (IsUnrun sched (scripted script.now)) }
 {
-    with_scheduler!(
-        alloc,
-        sched,
-        script.setup.depth(),
-        |row, made| traced_by(alloc, row, made, script)
-    )
+    match sched {
+        Sched::None => traced_by_none(alloc, script),
+        Sched::Deadline(tunables) => traced_by_deadline(alloc, tunables, script),
+        Sched::Kyber(targets) => traced_by_kyber(alloc, targets, script),
+        Sched::Earliest { late_last } => traced_by_earliest(alloc, late_last, script),
+    }
 }
 
 /// Writes a trace.

@@ -1,2 +1,0 @@
-mod Ended
-mod Wrote
