@@ -1,8 +1,9 @@
-use Rattle.std.proofs.Common.{ℕ, ◌≡◌, ◌≢◌, ◌<◌, ◌≤◌, ◌+◌, ◌-◌, ◌++◌, ◌∙◌, List, [], ◌∷◌, length, get_or, set, Option, None, Some, inl, inr, arith, ap, sym, subst}
+use Rattle.std.proofs.Common.{ℕ, ◌≡◌, ◌≢◌, ◌<◌, ◌≤◌, ◌+◌, ◌-◌, ◌++◌, ◌∙◌, List, [], ◌∷◌, length, get_or, set, replicate, count_by, is_some, cond, zero, suc, refl, Option, None, Some, inl, inr, arith, ap, sym, subst}
 use Rattle.std.specs.List.{All}
 use Rattle.std.specs.List.Sorted.{IsNonDecreasingBy}
 use Rattle.std.proofs.lemmas.Bool.{cases_lt}
-use Rattle.std.proofs.lemmas.List.{get_or_append_left, get_or_push, get_or-set_same, get_or-set_other, get_or_default, length_push}
+use Rattle.std.proofs.lemmas.List.{get_or_append_left, get_or_push, get_or-set_same, get_or-set_other, get_or_default, length_push, length-replicate, length-set}
+use Rattle.std.proofs.lemmas.List.Sums.{sum_by-set, sum_by-cons}
 use Rattle.std.proofs.lemmas.List.Sorted.{IsNonDecreasingBy-push}
 use Rattle.blk_capture.specs.Taken.{IsRequestOf, ArePlaced, PutsAt}
 use Rattle.blk_capture.specs.declared.clock.Dispatch.{Dispatch}
@@ -15,16 +16,27 @@ pub record IsTakenTo (lives : List Life) (openers : List ℕ) (dispatches : List
   pub rising : IsNonDecreasingBy (λ q. q.dispatched) requests
   pub came_in : All (λ q. q.entry ≤ q.dispatched) requests
   pub untallied : All (λ q. q.bios ≡ 0) requests
+  pub each : length places ≡ length lives
+  pub many : count_by is_some places ≡ length requests
   pub below : (k j : ℕ) (d : Request) (e : Dispatch) → k < length requests → n ≤ j → j < length dispatches → (get_or requests k d).dispatched ≤ (get_or dispatches j e).time
 
-pub taken_none : (lives : List Life) (openers : List ℕ) (dispatches : List Dispatch) (places : List (Option ℕ)) (requests : List Request) → requests ≡ [] → IsTakenTo lives openers dispatches places requests 0
-taken_none lives openers dispatches places requests none =
+abbrev one_if : Option ℕ → ℕ
+one_if p = cond (is_some p) 1 0
+
+no_place : (n : ℕ) → count_by is_some (replicate {A = Option ℕ} n None) ≡ 0
+no_place zero = refl
+no_place (suc n) = sum_by-cons one_if None (replicate n None) ∙ omega (arith, no_place n)
+
+pub taken_none : (lives : List Life) (openers : List ℕ) (dispatches : List Dispatch) (places : List (Option ℕ)) (requests : List Request) → requests ≡ [] → places ≡ replicate (length lives) None → IsTakenTo lives openers dispatches places requests 0
+taken_none lives openers dispatches places requests none blank =
     let empty : length requests ≡ 0 = ap length none in
     record {
       placed = λ k h. absurd (omega (arith, h, empty));
       rising = λ i j d low h. absurd (omega (arith, h, empty));
       came_in = λ k d h. absurd (omega (arith, h, empty));
       untallied = λ k d h. absurd (omega (arith, h, empty));
+      each = ap length blank ∙ length-replicate (length lives) None;
+      many = ap (λ ps. count_by is_some ps) blank ∙ no_place (length lives) ∙ sym empty;
       below = λ k j d e h. absurd (omega (arith, h, empty));
     }
 
@@ -34,6 +46,8 @@ taken_same lives openers dispatches places requests n old = record {
   rising = old.rising;
   came_in = old.came_in;
   untallied = old.untallied;
+  each = old.each;
+  many = old.many;
   below = λ k j d e h low here. old.below k j d e h (omega (arith, low)) here;
 }
 
@@ -91,6 +105,11 @@ taken_more lives openers dispatches places requests n x q old of there free up h
       omega (arith, low, is, of.timed));
   came_in = all_more (λ (p : Request). p.entry ≤ p.dispatched) requests q old.came_in (omega (arith, of.timed, of.came_in));
   untallied = all_more (λ (p : Request). p.bios ≡ 0) requests q old.untallied of.none;
+  each = length-set places x.request (Some (length requests)) ∙ old.each;
+  many =
+      let set_one = sum_by-set one_if places x.request (Some (length requests)) None there in
+      let was : one_if (get_or places x.request None) ≡ 0 = ap one_if free in
+      omega (arith, set_one, was, old.many, length_push requests q);
   below =
       λ k j d e h low in_list.
       let n_more : length (requests ++ q ∷ []) ≡ length requests + 1 = length_push requests q in

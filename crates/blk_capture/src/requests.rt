@@ -1,10 +1,11 @@
 //! The requests of a capture that went out to the device, with their bios.
 
-ghost use Rattle.std.specs.Prelude.{◌≡◌, ◌≤◌, ◌<◌, ℕ, None, Some, All, IfOk, IfErr, IfSome, IfNone, OnOk, length, map, slice_index_or};
+ghost use Rattle.std.specs.Prelude.{◌≡◌, ◌≤◌, ◌<◌, ◌+◌, ℕ, count_by, is_some, None, Some, All, IfOk, IfErr, IfSome, IfNone, OnOk, length, map, slice_index_or};
 ghost use Rattle.edd_check.specs.Capacity.{fixed};
 ghost use Rattle.edd_check.specs.Limits.{most_commands};
 ghost use Rattle.edd_check.specs.Schedule.{IsLegal, RoundsInRange};
 ghost use Rattle.blk_capture.specs.Counting.{AreServed, AreSolvable, IsCounted};
+ghost use Rattle.blk_capture.specs.Fates.{opens, told};
 ghost use Rattle.blk_capture.specs.Requests.{served_of, AreTimed, HaveBios, AreTallied, AreInOrder, IsFirstFall, AreLate, IsCaptureFault};
 ghost use Rattle.blk_capture.specs.Taken.{IsOwn, IsRequestOf, ArePlaced, PutsAt, ArePlacedBios, IsTalliedFrom};
 ghost use Rattle.blk_capture.specs.declared.members.Queued.{Queued};
@@ -136,7 +137,9 @@ fn lives<A: Allocator + Clone>(
     alloc: A,
     matching: &Matching<A>,
     options: &Options,
-) -> Result<Vec<Life, A>, AllocError> {
+) -> Result<Vec<Life, A>, AllocError>
+    ensures { IfOk result (λ v. length v.items ≡ length matching.now.requests.items) }
+{
     let mut lives = Vec::with_capacity(alloc, matching.requests.len())?;
     for (place, opened) in matching.requests.iter().enumerate() {
         lives.push(life_of(place, opened, options))?;
@@ -232,6 +235,8 @@ fn take_requests<A: Allocator + Clone>(
     ensures placed { IfOk result (λ t. ArePlaced lives.now matching.now.members.openers.items t.places.items t.requests.items) }
     ensures timed { IfOk result (λ t. AreTimed t.requests.items) }
     ensures untallied { IfOk result (λ t. All (λ q. q.bios ≡ 0) t.requests.items) }
+    ensures each { IfOk result (λ t. length t.places.items ≡ length lives.now) }
+    ensures many { IfOk result (λ t. count_by is_some t.places.items ≡ length t.requests.items) }
 {
     let places = vec![in alloc.clone()?; None; lives.len()]?;
     let mut taken = Taken {
@@ -249,6 +254,26 @@ fn take_requests<A: Allocator + Clone>(
         }
     }
     Ok(taken)
+}
+
+/// Of the requests that are not taken, how many were merged into others, and how many were not.
+fn count_others(lives: &[Life], places: &[Option<usize>]) -> (u64, u64)
+    requires { length places.now ≡ length lives.now }
+    ensures { count_by is_some places.now + result.0 + result.1 ≡ length lives.now }
+{
+    let mut absorbed = 0;
+    let mut left_out = 0;
+    for (request, life) in lives.iter().enumerate() {
+        if places[request].is_some() {
+            continue;
+        }
+        if life.root == request {
+            left_out += 1;
+        } else {
+            absorbed += 1;
+        }
+    }
+    (absorbed, left_out)
 }
 
 /// The place of the request that a bio went out with, which went into a request at first.
@@ -318,10 +343,10 @@ pub struct Matched<A: Allocator = Global> {
     pub bios: Vec<Bio, A>,
     /// By record, what became of it.
     pub fates: Vec<Fate, A>,
-    /// How many requests were opened.
-    pub opened: u64,
-    /// How many of them were merged into others.
+    /// How many requests were opened and then merged into others.
     pub absorbed: u64,
+    /// How many of the others are not taken: they never went out, were handed back, or the options leave them out.
+    pub left_out: u64,
 }
 
 /// Whether some request is inserted.
@@ -354,6 +379,7 @@ fn settle<A: Allocator + Clone>(
     ensures bios { IfOk result (λ m. HaveBios m.requests.items m.bios.items) }
     ensures tallied { IfOk result (λ m. AreTallied m.requests.items m.bios.items) }
     ensures fates { IfOk result (λ m. m.fates.items ≡ fates.items) }
+    ensures opened { IfOk result (λ m. length m.requests.items + m.absorbed + m.left_out ≡ length matching.now.requests.items) }
 {
     let lives = lives(alloc.clone()?, matching, options)?;
     let taken = take_requests(
@@ -370,12 +396,13 @@ fn settle<A: Allocator + Clone>(
         lives.as_slice(),
         places.as_slice(),
     )?;
+    let (absorbed, left_out) = count_others(lives.as_slice(), places.as_slice());
     Ok(Matched {
         requests: count_bios(requests, bios.as_slice()),
         bios,
         fates,
-        opened: matching.members.openers.len() as u64,
-        absorbed: matching.absorptions.len() as u64,
+        absorbed,
+        left_out,
     })
 }
 
@@ -395,6 +422,8 @@ pub fn match_records<A: Allocator + Clone>(
     ensures bios { IfOk result (λ m. HaveBios m.requests.items m.bios.items) }
     ensures tallied { IfOk result (λ m. AreTallied m.requests.items m.bios.items) }
     ensures fates { IfOk result (λ m. length m.fates.items ≡ length records.now) }
+    // each request that a record opened is taken, was merged into another, or is left out
+    ensures opened { IfOk result (λ m. length m.requests.items + m.absorbed + m.left_out ≡ told opens records.now m.fates.items) }
     ensures order { OnOk result (AreInOrder records.now (length records.now)) }
     ensures fault { IfErr result (IsCaptureFault records.now) }
 {
@@ -420,6 +449,7 @@ fn match_in_order<A: Allocator + Clone>(
     ensures bios { IfOk result (λ m. HaveBios m.requests.items m.bios.items) }
     ensures tallied { IfOk result (λ m. AreTallied m.requests.items m.bios.items) }
     ensures fates { IfOk result (λ m. length m.fates.items ≡ length records.now) }
+    ensures opened { IfOk result (λ m. length m.requests.items + m.absorbed + m.left_out ≡ told opens records.now m.fates.items) }
 {
     let mut matching = Matching::new(alloc.clone()?, !has_insertion(records))?;
     let mut fates = Vec::with_capacity(alloc.clone()?, records.len())?;

@@ -1,11 +1,16 @@
-use Rattle.std.proofs.Common.{◌<◌, ◌+◌, ℕ, List, length, Option, sym, ap, subst, arith}
+use Rattle.std.proofs.Common.{◌<◌, ◌+◌, ℕ, List, length, Option, sym, ap, subst, arith, replicate, None, rules, ◌≡◌}
 use Rattle.std.specs.List.Sorted.{IsNonDecreasingBy}
 use Rattle.std.proofs.lemmas.List.{get_or_default}
 use Rattle.blk_capture.specs.declared.clock.Dispatch.{Dispatch}
 use Rattle.blk_capture.specs.declared.requests.Request.{Request}
-use Rattle.blk_capture.proofs.Taking.{IsTakenTo, taken_same, taken_put}
+use Rattle.blk_capture.proofs.Taking.{IsTakenTo, taken_none, taken_same, taken_put}
 use Rattle.blk_capture.proofs.requests.take_requests.Goals as goal
 use Rattle.blk_capture.proofs.requests.take_requests.Goals.{in-Some+in_ok-put, in_default}
+
+pub loop-number-init : goal.loop-number-init
+loop-number-init g c =
+    let blank : c.in_ok-places.places.items ≡ replicate (length c.args.lives.now) None = search rules in
+    taken_none c.args.lives.now c.args.matching.now.members.openers.items c.as_slice-dispatches.result.now c.in_ok-places.places.items c.new.result.items c.new.ensures.items blank
 
 pub loop-number-preserved : goal.loop-number-preserved
 loop-number-preserved g c =
