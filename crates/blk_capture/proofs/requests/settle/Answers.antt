@@ -1,7 +1,7 @@
 use Rattle.std.proofs.Common.{◌∙◌, List, sym, subst}
 use Rattle.blk_capture.specs.Requests.{AreTallied}
 use Rattle.blk_capture.specs.declared.requests.Bio.{Bio}
-use Rattle.blk_capture.proofs.Settling.{have_bios_of, tallied_timed}
+use Rattle.blk_capture.proofs.Settling.{have_bios_of, tallied_timed, tallied_due}
 use Rattle.blk_capture.proofs.requests.settle.Goals as goal
 
 pub returns-clause-timed : goal.returns-clause-timed
@@ -15,3 +15,6 @@ returns-clause-bios g c =
 
 pub returns-clause-tallied : goal.returns-clause-tallied
 returns-clause-tallied g c = subst (λ (bs : List Bio). AreTallied c.count_bios.result.items bs) c.as_slice-7.ensures.value c.count_bios.ensures.tallied
+
+pub returns-clause-due : goal.returns-clause-due
+returns-clause-due g c = tallied_due c.args.options.now c.in_ok-taken.taken.requests.items c.count_bios.result.items c.as_slice-7.result.now c.in_ok-taken.ensures.due c.count_bios.ensures
