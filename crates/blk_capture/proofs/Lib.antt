@@ -3,3 +3,4 @@ pub mod Opened
 pub mod Taking
 pub mod Tallying
 pub mod Settling
+pub mod Telling

@@ -1,16 +1,18 @@
 use Rattle.std.proofs.Common.{ℕ, ◌≡◌, ◌<◌, ◌≤◌, ◌+◌, ◌++◌, ◌∙◌, List, [], ◌∷◌, length, get_or, map, Option, None, Some, inl, inr, refl, arith, ap, sym, subst, lit<}
+use Rattle.std.specs.List.{All}
 use Rattle.std.proofs.lemmas.Bool.{cases_lt}
 use Rattle.std.proofs.lemmas.List.{get_or_append_left, get_or_push, get_or_past, get_or_default, get_or-map, length_push, length-map}
 use Rattle.edd_check.specs.declared.Command.{Command}
 use Rattle.blk_bio.specs.declared.bio.Dir.TheVariants.{Read}
 use Rattle.blk_capture.specs.Counting.{AreServed, AreLateByClock}
 use Rattle.blk_capture.specs.Members.{AreOpened}
-use Rattle.blk_capture.specs.Requests.{served_of, AreTimed, HaveBios, AreLate}
+use Rattle.blk_capture.specs.Requests.{served_of, AreTimed, HaveBios, AreLate, IsDue}
 use Rattle.blk_capture.specs.Taken.{IsOwn, ArePlaced, ArePlacedBios, IsTalliedFrom}
 use Rattle.blk_capture.specs.declared.counting.Served.{Served}
 use Rattle.blk_capture.specs.declared.members.Queued.{Queued}
 use Rattle.blk_capture.specs.declared.requests.Bio.{Bio}
 use Rattle.blk_capture.specs.declared.requests.Life.{Life}
+use Rattle.blk_capture.specs.declared.requests.Options.{Options}
 use Rattle.blk_capture.specs.declared.requests.Request.{Request}
 use Rattle.blk_capture.proofs.Opened.{opener_there}
 
@@ -18,7 +20,7 @@ abbrev no_bio : Queued
 no_bio = record { range = record { dir = Read; first = 0; end = 1; some = lit< tt }; pid = 0; time = 0; age = 0; request = None }
 
 abbrev no_request : Request
-no_request = record { dir = Read; first = 0; sectors = 0; bios = 0; bio = 0; pid = 0; queued = 0; inserted = None; entry = 0; deadline = 0; dispatched = 0; completed = None }
+no_request = record { dir = Read; first = 0; sectors = 0; bios = 0; bio = 0; pid = 0; queued = 0; inserted = None; entry = 0; earlier = None; deadline = 0; dispatched = 0; completed = None }
 
 none_is_some : (r : ℕ) → None ≡ Some r → ⊥
 none_is_some r e = cc
@@ -40,7 +42,7 @@ have_bios lives openers places old new queued bios placed tallied are opened k d
     let at = placed k in_old in
     let r : ℕ = at.0 in
     let b : ℕ = get_or openers r 0 in
-    let is : (get_or new k d).bio ≡ b = tallied.bio k d ∙ at.1.opener d in
+    let is : (get_or new k d).bio ≡ b = ap (λ (q : Request). q.bio) (tallied.rest k d) ∙ at.1.opener d in
     let there : b < length queued = opener_there queued openers no_bio opened refl r at.1.opened in
     let went : (get_or queued b no_bio).request ≡ Some r = opened r no_bio at.1.opened in
     let out : (get_or bios b e).request ≡ get_or places r None = are.place b r no_bio e there went at.1.own (there_at places r k at.1.place) in
@@ -51,11 +53,11 @@ tallied_timed old new bios timed tallied = record {
   rising =
       λ i j d low h.
       let up : (get_or old i d).dispatched ≤ (get_or old j d).dispatched = timed.rising i j d low (omega (arith, h, tallied.each)) in
-      omega (arith, up, tallied.dispatched i d, tallied.dispatched j d);
+      omega (arith, up, ap (λ (q : Request). q.dispatched) (tallied.rest i d), ap (λ (q : Request). q.dispatched) (tallied.rest j d));
   came_in =
       λ k d h.
       let came : (get_or old k d).entry ≤ (get_or old k d).dispatched = timed.came_in k d (omega (arith, h, tallied.each)) in
-      omega (arith, came, tallied.entry k d, tallied.dispatched k d);
+      omega (arith, came, ap (λ (q : Request). q.entry) (tallied.rest k d), ap (λ (q : Request). q.dispatched) (tallied.rest k d));
 }
 
 -- one more bio with its place
@@ -122,3 +124,8 @@ have_bios_of lives lives2 openers places places2 old new queued queued2 bios bio
     (subst (λ ps. ArePlacedBios lives2 ps queued (length queued) bios) same_places
     (subst (λ qs. ArePlacedBios lives2 places2 qs (length qs) bios) same_queued are)))
     opened
+
+pub tallied_due : (options : Options) (old new : List Request) (bios : List Bio) → All (IsDue options) old → IsTalliedFrom old new bios → All (IsDue options) new
+tallied_due options old new bios due tallied k d h =
+    let was : IsDue options (get_or old k d) = due k d (omega (arith, h, tallied.each)) in
+    subst (IsDue options) (sym (tallied.rest k d)) record { entered = was.entered; due = was.due }

@@ -1,39 +1,58 @@
-use Rattle.std.proofs.Common.{ℕ, ◌≡◌, ◌≢◌, ◌<◌, ◌≤◌, ◌+◌, ◌-◌, ◌++◌, ◌∙◌, List, [], ◌∷◌, length, get_or, set, Option, None, Some, inl, inr, arith, ap, sym, subst}
+use Rattle.std.proofs.Common.{ℕ, ◌≡◌, ◌≢◌, ◌<◌, ◌≤◌, ◌+◌, ◌-◌, ◌++◌, ◌∙◌, List, [], ◌∷◌, length, get_or, set, replicate, count_by, is_some, cond, zero, suc, refl, Option, None, Some, inl, inr, arith, ap, sym, subst}
 use Rattle.std.specs.List.{All}
 use Rattle.std.specs.List.Sorted.{IsNonDecreasingBy}
 use Rattle.std.proofs.lemmas.Bool.{cases_lt}
-use Rattle.std.proofs.lemmas.List.{get_or_append_left, get_or_push, get_or-set_same, get_or-set_other, get_or_default, length_push}
+use Rattle.std.proofs.lemmas.List.{get_or_append_left, get_or_push, get_or-set_same, get_or-set_other, get_or_default, length_push, length-replicate, length-set}
+use Rattle.std.proofs.lemmas.List.Sums.{sum_by-set, sum_by-cons}
 use Rattle.std.proofs.lemmas.List.Sorted.{IsNonDecreasingBy-push}
+use Rattle.blk_capture.specs.Requests.{IsDue}
 use Rattle.blk_capture.specs.Taken.{IsRequestOf, ArePlaced, PutsAt}
 use Rattle.blk_capture.specs.declared.clock.Dispatch.{Dispatch}
 use Rattle.blk_capture.specs.declared.requests.Life.{Life}
+use Rattle.blk_capture.specs.declared.requests.Options.{Options}
 use Rattle.blk_capture.specs.declared.requests.Request.{Request}
 
 -- what is taken of the first n dispatches
-pub record IsTakenTo (lives : List Life) (openers : List ℕ) (dispatches : List Dispatch) (places : List (Option ℕ)) (requests : List Request) (n : ℕ) : Type 0 where
+pub record IsTakenTo (options : Options) (lives : List Life) (openers : List ℕ) (dispatches : List Dispatch) (places : List (Option ℕ)) (requests : List Request) (n : ℕ) : Type 0 where
   pub placed : ArePlaced lives openers places requests
   pub rising : IsNonDecreasingBy (λ q. q.dispatched) requests
   pub came_in : All (λ q. q.entry ≤ q.dispatched) requests
   pub untallied : All (λ q. q.bios ≡ 0) requests
+  pub due : All (IsDue options) requests
+  pub each : length places ≡ length lives
+  pub many : count_by is_some places ≡ length requests
   pub below : (k j : ℕ) (d : Request) (e : Dispatch) → k < length requests → n ≤ j → j < length dispatches → (get_or requests k d).dispatched ≤ (get_or dispatches j e).time
 
-pub taken_none : (lives : List Life) (openers : List ℕ) (dispatches : List Dispatch) (places : List (Option ℕ)) (requests : List Request) → requests ≡ [] → IsTakenTo lives openers dispatches places requests 0
-taken_none lives openers dispatches places requests none =
+abbrev one_if : Option ℕ → ℕ
+one_if p = cond (is_some p) 1 0
+
+no_place : (n : ℕ) → count_by is_some (replicate {A = Option ℕ} n None) ≡ 0
+no_place zero = refl
+no_place (suc n) = sum_by-cons one_if None (replicate n None) ∙ omega (arith, no_place n)
+
+pub taken_none : (options : Options) (lives : List Life) (openers : List ℕ) (dispatches : List Dispatch) (places : List (Option ℕ)) (requests : List Request) → requests ≡ [] → places ≡ replicate (length lives) None → IsTakenTo options lives openers dispatches places requests 0
+taken_none options lives openers dispatches places requests none blank =
     let empty : length requests ≡ 0 = ap length none in
     record {
       placed = λ k h. absurd (omega (arith, h, empty));
       rising = λ i j d low h. absurd (omega (arith, h, empty));
       came_in = λ k d h. absurd (omega (arith, h, empty));
       untallied = λ k d h. absurd (omega (arith, h, empty));
+      due = λ k d h. absurd (omega (arith, h, empty));
+      each = ap length blank ∙ length-replicate (length lives) None;
+      many = ap (λ ps. count_by is_some ps) blank ∙ no_place (length lives) ∙ sym empty;
       below = λ k j d e h. absurd (omega (arith, h, empty));
     }
 
-pub taken_same : (lives : List Life) (openers : List ℕ) (dispatches : List Dispatch) (places : List (Option ℕ)) (requests : List Request) (n : ℕ) → IsTakenTo lives openers dispatches places requests n → IsTakenTo lives openers dispatches places requests (n + 1)
-taken_same lives openers dispatches places requests n old = record {
+pub taken_same : (options : Options) (lives : List Life) (openers : List ℕ) (dispatches : List Dispatch) (places : List (Option ℕ)) (requests : List Request) (n : ℕ) → IsTakenTo options lives openers dispatches places requests n → IsTakenTo options lives openers dispatches places requests (n + 1)
+taken_same options lives openers dispatches places requests n old = record {
   placed = old.placed;
   rising = old.rising;
   came_in = old.came_in;
   untallied = old.untallied;
+  due = old.due;
+  each = old.each;
+  many = old.many;
   below = λ k j d e h low here. old.below k j d e h (omega (arith, low)) here;
 }
 
@@ -78,11 +97,11 @@ placed_more lives openers places requests x q placed of there free k h =
     ]
 
 -- one more that is put in
-taken_more : (lives : List Life) (openers : List ℕ) (dispatches : List Dispatch) (places : List (Option ℕ)) (requests : List Request) (n : ℕ) (x : Dispatch) (q : Request)
-    → IsTakenTo lives openers dispatches places requests n → IsRequestOf lives openers x q → x.request < length places → get_or places x.request None ≡ None
+taken_more : (options : Options) (lives : List Life) (openers : List ℕ) (dispatches : List Dispatch) (places : List (Option ℕ)) (requests : List Request) (n : ℕ) (x : Dispatch) (q : Request)
+    → IsTakenTo options lives openers dispatches places requests n → IsRequestOf lives openers x q → IsDue options q → x.request < length places → get_or places x.request None ≡ None
     → IsNonDecreasingBy (λ y. y.time) dispatches → n < length dispatches → x.time ≡ (get_or dispatches n x).time
-    → IsTakenTo lives openers dispatches (set places x.request (Some (length requests))) (requests ++ q ∷ []) (n + 1)
-taken_more lives openers dispatches places requests n x q old of there free up here is = record {
+    → IsTakenTo options lives openers dispatches (set places x.request (Some (length requests))) (requests ++ q ∷ []) (n + 1)
+taken_more options lives openers dispatches places requests n x q old of is_due there free up here is = record {
   placed = placed_more lives openers places requests x q old.placed of there free;
   rising =
       IsNonDecreasingBy-push (λ (p : Request). p.dispatched) requests q old.rising
@@ -91,6 +110,12 @@ taken_more lives openers dispatches places requests n x q old of there free up h
       omega (arith, low, is, of.timed));
   came_in = all_more (λ (p : Request). p.entry ≤ p.dispatched) requests q old.came_in (omega (arith, of.timed, of.came_in));
   untallied = all_more (λ (p : Request). p.bios ≡ 0) requests q old.untallied of.none;
+  due = all_more (IsDue options) requests q old.due is_due;
+  each = length-set places x.request (Some (length requests)) ∙ old.each;
+  many =
+      let set_one = sum_by-set one_if places x.request (Some (length requests)) None there in
+      let was : one_if (get_or places x.request None) ≡ 0 = ap one_if free in
+      omega (arith, set_one, was, old.many, length_push requests q);
   below =
       λ k j d e h low in_list.
       let n_more : length (requests ++ q ∷ []) ≡ length requests + 1 = length_push requests q in
@@ -107,17 +132,17 @@ taken_more lives openers dispatches places requests n x q old of there free up h
       ];
 }
 
-pub taken_put : (lives : List Life) (openers : List ℕ) (dispatches : List Dispatch) (places new_places : List (Option ℕ)) (requests new_requests : List Request) (n : ℕ) (x : Dispatch) (q : Request)
-    → IsTakenTo lives openers dispatches places requests n → IsRequestOf lives openers x q → PutsAt x.request q requests places new_requests new_places
+pub taken_put : (options : Options) (lives : List Life) (openers : List ℕ) (dispatches : List Dispatch) (places new_places : List (Option ℕ)) (requests new_requests : List Request) (n : ℕ) (x : Dispatch) (q : Request)
+    → IsTakenTo options lives openers dispatches places requests n → IsRequestOf lives openers x q → IsDue options q → PutsAt x.request q requests places new_requests new_places
     → IsNonDecreasingBy (λ y. y.time) dispatches → n < length dispatches → x ≡ get_or dispatches n x
-    → IsTakenTo lives openers dispatches new_places new_requests (n + 1)
-taken_put lives openers dispatches places new_places requests new_requests n x q old of put up here is =
+    → IsTakenTo options lives openers dispatches new_places new_requests (n + 1)
+taken_put options lives openers dispatches places new_places requests new_requests n x q old of is_due put up here is =
     elim put [
       | inl same ↦
-          subst (λ ps. IsTakenTo lives openers dispatches ps new_requests (n + 1)) (sym same.1)
-          (subst (λ qs. IsTakenTo lives openers dispatches places qs (n + 1)) (sym same.0) (taken_same lives openers dispatches places requests n old))
+          subst (λ ps. IsTakenTo options lives openers dispatches ps new_requests (n + 1)) (sym same.1)
+          (subst (λ qs. IsTakenTo options lives openers dispatches places qs (n + 1)) (sym same.0) (taken_same options lives openers dispatches places requests n old))
       | inr new ↦
-          subst (λ ps. IsTakenTo lives openers dispatches ps new_requests (n + 1)) (sym new.2)
-          (subst (λ qs. IsTakenTo lives openers dispatches (set places x.request (Some (length requests))) qs (n + 1)) (sym new.3)
-          (taken_more lives openers dispatches places requests n x q old of new.0 new.1 up here (ap (λ (y : Dispatch). y.time) is)))
+          subst (λ ps. IsTakenTo options lives openers dispatches ps new_requests (n + 1)) (sym new.2)
+          (subst (λ qs. IsTakenTo options lives openers dispatches (set places x.request (Some (length requests))) qs (n + 1)) (sym new.3)
+          (taken_more options lives openers dispatches places requests n x q old of is_due new.0 new.1 up here (ap (λ (y : Dispatch). y.time) is)))
     ]

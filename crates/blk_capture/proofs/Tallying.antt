@@ -13,33 +13,39 @@ use Rattle.blk_capture.specs.declared.requests.Request.{Request}
 pub record IsTalliedTo (old new : List Request) (bios : List Bio) (n : ℕ) : Type 0 where
   pub each : length new ≡ length old
   pub tallied : (k : ℕ) (d : Request) → k < length new → (get_or new k d).bios ≡ count_by (λ b. is_at k b.request) (take n bios)
-  pub dispatched : (k : ℕ) (d : Request) → (get_or new k d).dispatched ≡ (get_or old k d).dispatched
-  pub entry : (k : ℕ) (d : Request) → (get_or new k d).entry ≡ (get_or old k d).entry
-  pub bio : (k : ℕ) (d : Request) → (get_or new k d).bio ≡ (get_or old k d).bio
+  pub rest : (k : ℕ) (d : Request) → get_or new k d ≡ record (get_or old k d) { bios = (get_or new k d).bios }
 
 -- a bio that went out with none of them
 pub tallied_other : (old new : List Request) (bios : List Bio) (n : ℕ) (e : Bio) → IsTalliedTo old new bios n → n < length bios → ((k : ℕ) → k < length new → is_at k (get_or bios n e).request ≡ false) → IsTalliedTo old new bios (n + 1)
 tallied_other old new bios n e so_far here none = record {
   each = so_far.each;
   tallied = λ k d h. so_far.tallied k d h ∙ sym (count_by_more_no (λ b. is_at k b.request) bios n e here (none k h));
-  dispatched = so_far.dispatched;
-  entry = so_far.entry;
-  bio = so_far.bio;
+  rest = so_far.rest;
 }
 
--- a field that a write leaves as it is
-kept : (f : Request → ℕ) (xs : List Request) (p : ℕ) (q : Request) → p < length xs → ((d : Request) → f q ≡ f (get_or xs p d)) → (k : ℕ) (d : Request) → f (get_or (set xs p q) k d) ≡ f (get_or xs k d)
-kept f xs p q there same k d =
+-- what a write of the number of bios leaves as it is
+kept : (old new : List Request) (p : ℕ) (q : Request) → p < length new → ((d : Request) → q ≡ record (get_or new p d) { bios = q.bios })
+    → ((k : ℕ) (d : Request) → get_or new k d ≡ record (get_or old k d) { bios = (get_or new k d).bios })
+    → (k : ℕ) (d : Request) → get_or (set new p q) k d ≡ record (get_or old k d) { bios = (get_or (set new p q) k d).bios }
+kept old new p q there same rest k d =
     elim (cases_eq k p) [
-      | inl here ↦ subst (λ j. f (get_or (set xs p q) j d) ≡ f (get_or xs j d)) (sym here) (ap f (get_or-set_same xs p q d there) ∙ same d)
-      | inr other ↦ ap f (get_or-set_other xs p k q d other)
+      | inl here ↦
+          let is : get_or (set new p q) k d ≡ q = subst (λ j. get_or (set new p q) j d ≡ q) (sym here) (get_or-set_same new p q d there) in
+          let was : get_or new p d ≡ record (get_or old k d) { bios = (get_or new p d).bios } = subst (λ j. get_or new p d ≡ record (get_or old j d) { bios = (get_or new p d).bios }) (sym here) (rest p d) in
+          is
+          ∙ same d
+          ∙ ap (λ (r : Request). record r { bios = q.bios }) was
+          ∙ ap (λ n. record (get_or old k d) { bios = n }) (sym (ap (λ (r : Request). r.bios) is))
+      | inr other ↦
+          let is : get_or (set new p q) k d ≡ get_or new k d = get_or-set_other new p k q d other in
+          is ∙ rest k d ∙ ap (λ n. record (get_or old k d) { bios = n }) (sym (ap (λ (r : Request). r.bios) is))
     ]
 
 -- a bio that went out with the one at place p
 pub tallied_at : (old new : List Request) (bios : List Bio) (n p : ℕ) (q : Request) (e : Bio) → IsTalliedTo old new bios n → n < length bios → (get_or bios n e).request ≡ Some p → p < length new
-    → ((d : Request) → q.bios ≡ (get_or new p d).bios + 1) → ((d : Request) → q.dispatched ≡ (get_or new p d).dispatched) → ((d : Request) → q.entry ≡ (get_or new p d).entry) → ((d : Request) → q.bio ≡ (get_or new p d).bio)
+    → ((d : Request) → q.bios ≡ (get_or new p d).bios + 1) → ((d : Request) → q ≡ record (get_or new p d) { bios = q.bios })
     → IsTalliedTo old (set new p q) bios (n + 1)
-tallied_at old new bios n p q e so_far here is there one dispatched entry bio = record {
+tallied_at old new bios n p q e so_far here is there one same = record {
   each = length-set new p q ∙ so_far.each;
   tallied =
       λ k d h.
@@ -57,27 +63,21 @@ tallied_at old new bios n p q e so_far here is there one dispatched entry bio = 
             ∙ so_far.tallied k d in_new
             ∙ sym (count_by_more_no (λ b. is_at k b.request) bios n e here fails)
       ];
-  dispatched = λ k d. kept (λ (r : Request). r.dispatched) new p q there dispatched k d ∙ so_far.dispatched k d;
-  entry = λ k d. kept (λ (r : Request). r.entry) new p q there entry k d ∙ so_far.entry k d;
-  bio = λ k d. kept (λ (r : Request). r.bio) new p q there bio k d ∙ so_far.bio k d;
+  rest = kept old new p q there same so_far.rest;
 }
 
 pub tallied_none : (requests : List Request) (bios : List Bio) → All (λ q. q.bios ≡ 0) requests → IsTalliedTo requests requests bios 0
 tallied_none requests bios none = record {
   each = refl;
   tallied = λ k d h. none k d h;
-  dispatched = λ k d. refl;
-  entry = λ k d. refl;
-  bio = λ k d. refl;
+  rest = λ k d. refl;
 }
 
 pub tallied_all : (old new : List Request) (bios : List Bio) (n : ℕ) → IsTalliedTo old new bios n → length bios ≤ n → IsTalliedFrom old new bios
 tallied_all old new bios n so_far all = record {
   each = so_far.each;
   tallied = λ k d h. so_far.tallied k d h ∙ ap (λ bs. count_by (λ b. is_at k b.request) bs) (take_all n bios all);
-  dispatched = so_far.dispatched;
-  entry = so_far.entry;
-  bio = so_far.bio;
+  rest = so_far.rest;
 }
 
 abbrev pub empty_bio : Bio

@@ -1,9 +1,14 @@
 -- Requests of a capture that went out, and the bios that went with them.
-use Rattle.std.specs.Prelude.{ℕ, ◌≡◌, ◌≤◌, ◌<◌, ◌+◌, ◌-◌, ◌==◌, ◌↔◌, List, length, count_by, Bool, false, Option, Some, None, slice_index, slice_index_or, All}
+use Rattle.std.specs.Prelude.{◌^◌, min, unwrap_or, ℕ, ◌≡◌, ◌≤◌, ◌<◌, ◌+◌, ◌-◌, ◌==◌, ◌↔◌, List, length, count_by, Bool, false, Option, Some, None, slice_index, slice_index_or, All}
 use Rattle.std.specs.List.Sorted.{IsNonDecreasingBy}
 use Rattle.edd_check.specs.declared.Command.{Command}
 use Rattle.blk_capture.specs.declared.counting.Served.{Served}
 use Rattle.blk_capture.specs.declared.record.Record.{Record}
+use Rattle.blk_bio.specs.declared.bio.Dir.{Dir}
+use Rattle.blk_bio.specs.declared.bio.Dir.TheVariants.{Read, Write}
+use Rattle.blk_capture.specs.declared.requests.Entry.{Entry}
+use Rattle.blk_capture.specs.declared.requests.Entry.TheVariants.{Insert, Queue}
+use Rattle.blk_capture.specs.declared.requests.Options.{Options}
 use Rattle.blk_capture.specs.declared.requests.Request.{Request}
 use Rattle.blk_capture.specs.declared.requests.Bio.{Bio}
 use Rattle.blk_capture.specs.declared.requests.CaptureFault.{CaptureFault}
@@ -12,6 +17,30 @@ use Rattle.blk_capture.specs.declared.requests.CaptureFault.TheVariants.{Order, 
 -- what of a request is counted in rounds
 abbrev pub served_of : Request → Served
 served_of q = record { entry = q.entry; deadline = q.deadline; dispatch = q.dispatched }
+
+-- when a request came in that was queued and inserted then
+abbrev pub entry_by : Entry → ℕ → Option ℕ → ℕ
+entry_by Insert queued inserted = unwrap_or inserted queued
+entry_by Queue queued inserted = queued
+
+-- how long after it came in a request of a direction is due
+abbrev pub expire_of : Options → Dir → ℕ
+expire_of options Read = options.read_expire
+expire_of options Write = options.write_expire
+
+-- the sooner of two times
+abbrev pub sooner_of : Option ℕ → ℕ → ℕ
+sooner_of None time = time
+sooner_of (Some earlier) time = min earlier time
+
+-- by when a request was due that came in at `entry`, and into which one was merged that was due by `earlier`
+abbrev pub deadline_of : Options → Dir → ℕ → Option ℕ → ℕ
+deadline_of options dir entry earlier = sooner_of earlier (min (entry + expire_of options dir) (2 ^ 64 - 1))
+
+-- it came in and was due as the options say
+pub record IsDue (options : Options) (q : Request) : Type 0 where
+  pub entered : q.entry ≡ entry_by options.entry q.queued q.inserted
+  pub due : q.deadline ≡ deadline_of options q.dir q.entry q.earlier
 
 -- in the order of their dispatches, and none went out before it came in
 pub record AreTimed (requests : List Request) : Type 0 where

@@ -47,6 +47,4 @@ pub record ArePlacedBios (lives : List Life) (places : List (Option ℕ)) (queue
 pub record IsTalliedFrom (old new : List Request) (bios : List Bio) : Type 0 where
   pub each : length new ≡ length old
   pub tallied : AreTallied new bios
-  pub dispatched : (k : ℕ) (d : Request) → (slice_index_or new k d).dispatched ≡ (slice_index_or old k d).dispatched
-  pub entry : (k : ℕ) (d : Request) → (slice_index_or new k d).entry ≡ (slice_index_or old k d).entry
-  pub bio : (k : ℕ) (d : Request) → (slice_index_or new k d).bio ≡ (slice_index_or old k d).bio
+  pub rest : (k : ℕ) (d : Request) → slice_index_or new k d ≡ record (slice_index_or old k d) { bios = (slice_index_or new k d).bios }

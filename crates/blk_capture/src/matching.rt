@@ -1,5 +1,8 @@
 //! The requests of a capture, matched from its records, one rule for each action.
 
+ghost use Rattle.std.specs.Prelude.{◌≡◌, ◌+◌, IfOk, length, if◌then◌else◌};
+ghost use Rattle.blk_capture.specs.Fates.{opens};
+
 use crate::clock::Clock;
 use crate::members::{Members, Queued};
 use crate::record::{Action, Range, Record};
@@ -16,6 +19,19 @@ pub enum Fate {
     Unmatched,
     /// It was passed over: it moves no data, or its action says nothing of a request.
     PassedOver,
+}
+
+impl Fate {
+    /// Of a record that a rule speaks of.
+    fn of(matched: bool) -> Fate
+        ensures { result ≡ (if matched then Fate.Matched else Fate.Unmatched) }
+    {
+        if matched {
+            Fate::Matched
+        } else {
+            Fate::Unmatched
+        }
+    }
 }
 
 /// How far a request came.
@@ -93,7 +109,9 @@ pub(crate) struct Matching<A: Allocator = Global> {
 
 impl<A: Allocator + Clone> Matching<A> {
     /// Nothing yet. `direct` says that requests go out without being inserted.
-    pub(crate) fn new(alloc: A, direct: bool) -> Result<Matching<A>, AllocError> {
+    pub(crate) fn new(alloc: A, direct: bool) -> Result<Matching<A>, AllocError>
+        ensures { IfOk result (λ m. length m.requests.items ≡ 0) }
+    {
         Ok(Matching {
             clock: Clock::new(alloc.clone()?),
             members: Members::new(alloc.clone()?)?,
@@ -109,31 +127,30 @@ impl<A: Allocator + Clone> Matching<A> {
     }
 
     /// Takes in a record, the one of a number, at the time of the clock.
-    pub(crate) fn take(&mut self, number: u64, record: &Record) -> Result<Fate, AllocError> {
+    pub(crate) fn take(&mut self, number: u64, record: &Record) -> Result<Fate, AllocError>
+        ensures { IfOk result (λ fate. length self.new.requests.items ≡ length self.old.requests.items + (if opens «record».now.action fate then 1 else 0)) }
+    {
         let Some(range) = Range::of(record) else {
             return Ok(Fate::PassedOver);
         };
-        let matched = match record.action {
-            Action::Queue => self.queue(number, record.pid, range)?,
-            Action::Get => self.get(number, record.pid, range)?,
-            Action::BackMerge => self.merge(record.pid, range, Side::Back)?,
-            Action::FrontMerge => self.merge(record.pid, range, Side::Front)?,
-            Action::Insert => self.insert(number, range)?,
-            Action::Issue => self.issue(range)?,
-            Action::Complete => self.complete(range)?,
-            Action::Requeue => self.requeue(range)?,
-            Action::Split => self.split(range)?,
-            Action::Other => return Ok(Fate::PassedOver),
-        };
-        Ok(if matched {
-            Fate::Matched
-        } else {
-            Fate::Unmatched
-        })
+        match record.action {
+            Action::Queue => Ok(Fate::of(self.queue(number, record.pid, range)?)),
+            Action::Get => Ok(Fate::of(self.get(number, record.pid, range)?)),
+            Action::BackMerge => Ok(Fate::of(self.merge(record.pid, range, Side::Back)?)),
+            Action::FrontMerge => Ok(Fate::of(self.merge(record.pid, range, Side::Front)?)),
+            Action::Insert => Ok(Fate::of(self.insert(number, range)?)),
+            Action::Issue => Ok(Fate::of(self.issue(range)?)),
+            Action::Complete => Ok(Fate::of(self.complete(range)?)),
+            Action::Requeue => Ok(Fate::of(self.requeue(range)?)),
+            Action::Split => Ok(Fate::of(self.split(range)?)),
+            Action::Other => Ok(Fate::PassedOver),
+        }
     }
 
     /// A bio is queued. Of one range the first queued goes first.
-    fn queue(&mut self, number: u64, pid: u64, range: Range) -> Result<bool, AllocError> {
+    fn queue(&mut self, number: u64, pid: u64, range: Range) -> Result<bool, AllocError>
+        ensures { length self.new.requests.items ≡ length self.old.requests.items }
+    {
         let place = self.members.queue(Queued {
             range,
             pid,
@@ -146,7 +163,9 @@ impl<A: Allocator + Clone> Matching<A> {
     }
 
     /// The oldest waiting bio of a range, which waits no more.
-    fn unqueue(&mut self, range: Range) -> Option<usize> {
+    fn unqueue(&mut self, range: Range) -> Option<usize>
+        ensures { length self.new.requests.items ≡ length self.old.requests.items }
+    {
         let place = self.waiting.oldest(Spot::whole(range))?;
         let bio = self.members.bios.get(place).copied()?;
         self.waiting.take(Spot::whole(range), bio.age);
@@ -154,7 +173,9 @@ impl<A: Allocator + Clone> Matching<A> {
     }
 
     /// A request is opened for the oldest waiting bio of the range.
-    fn get(&mut self, number: u64, pid: u64, range: Range) -> Result<bool, AllocError> {
+    fn get(&mut self, number: u64, pid: u64, range: Range) -> Result<bool, AllocError>
+        ensures { IfOk result (λ opens. length self.new.requests.items ≡ length self.old.requests.items + (if opens then 1 else 0)) }
+    {
         let Some(place) = self.unqueue(range) else {
             return Ok(false);
         };
@@ -179,7 +200,9 @@ impl<A: Allocator + Clone> Matching<A> {
     }
 
     /// Lists a request where it waits.
-    fn place(&mut self, request: usize) -> Result<(), AllocError> {
+    fn place(&mut self, request: usize) -> Result<(), AllocError>
+        ensures { length self.new.requests.items ≡ length self.old.requests.items }
+    {
         let Some(opened) = self.requests.get(request).copied() else {
             return Ok(());
         };
@@ -200,7 +223,9 @@ impl<A: Allocator + Clone> Matching<A> {
     }
 
     /// Takes a request off the list where it waits, and answers it.
-    fn unplace(&mut self, request: usize) -> Option<Opened> {
+    fn unplace(&mut self, request: usize) -> Option<Opened>
+        ensures { length self.new.requests.items ≡ length self.old.requests.items }
+    {
         let opened = self.requests.get(request).copied()?;
         match opened.stage {
             Stage::Opened => {
@@ -216,7 +241,9 @@ impl<A: Allocator + Clone> Matching<A> {
     }
 
     /// Puts a request in another state, and lists it where it waits then.
-    fn replace(&mut self, request: usize, opened: Opened) -> Result<bool, AllocError> {
+    fn replace(&mut self, request: usize, opened: Opened) -> Result<bool, AllocError>
+        ensures { length self.new.requests.items ≡ length self.old.requests.items }
+    {
         let Some(slot) = self.requests.get_mut(request) else {
             return Ok(false);
         };
@@ -236,7 +263,9 @@ impl<A: Allocator + Clone> Matching<A> {
 
     /// A bio is merged into a request that it abuts, or, where no bio of the range waits, a request into the one that ends where it
     /// begins. A bio of which that request isn't known waits no more.
-    fn merge(&mut self, pid: u64, range: Range, side: Side) -> Result<bool, AllocError> {
+    fn merge(&mut self, pid: u64, range: Range, side: Side) -> Result<bool, AllocError>
+        ensures { length self.new.requests.items ≡ length self.old.requests.items }
+    {
         let bio = self.unqueue(range);
         let Some(request) = self.abutting(pid, range, side) else {
             return Ok(false);
@@ -254,7 +283,9 @@ impl<A: Allocator + Clone> Matching<A> {
     }
 
     /// A waiting request of a range, inserted or not, goes into another.
-    fn absorb(&mut self, range: Range, into: usize) -> Result<bool, AllocError> {
+    fn absorb(&mut self, range: Range, into: usize) -> Result<bool, AllocError>
+        ensures { length self.new.requests.items ≡ length self.old.requests.items }
+    {
         let whole = Spot::whole(range);
         let found = match self.inserted.wholes.oldest(whole) {
             Some(request) => Some(request),
@@ -272,7 +303,9 @@ impl<A: Allocator + Clone> Matching<A> {
     }
 
     /// A request grows at a side by a range that it abuts.
-    fn grow(&mut self, request: usize, range: Range, side: Side) -> Result<bool, AllocError> {
+    fn grow(&mut self, request: usize, range: Range, side: Side) -> Result<bool, AllocError>
+        ensures { length self.new.requests.items ≡ length self.old.requests.items }
+    {
         let Some(opened) = self.unplace(request) else {
             return Ok(false);
         };
@@ -292,7 +325,9 @@ impl<A: Allocator + Clone> Matching<A> {
     }
 
     /// The oldest request of the direction and first sector that was not inserted yet, one of equal size first, is inserted.
-    fn insert(&mut self, number: u64, range: Range) -> Result<bool, AllocError> {
+    fn insert(&mut self, number: u64, range: Range) -> Result<bool, AllocError>
+        ensures { length self.new.requests.items ≡ length self.old.requests.items }
+    {
         let found = match self.opened.wholes.oldest(Spot::whole(range)) {
             Some(request) => Some(request),
             None => self.starts.oldest(Spot::edge(range, range.first, 0)),
@@ -315,7 +350,9 @@ impl<A: Allocator + Clone> Matching<A> {
     }
 
     /// The oldest request of the range that was inserted goes out, or that was opened, where none is inserted in the whole capture.
-    fn issue(&mut self, range: Range) -> Result<bool, AllocError> {
+    fn issue(&mut self, range: Range) -> Result<bool, AllocError>
+        ensures { length self.new.requests.items ≡ length self.old.requests.items }
+    {
         let whole = Spot::whole(range);
         let found = match self.inserted.wholes.oldest(whole) {
             None if self.direct => self.opened.wholes.oldest(whole),
@@ -332,7 +369,9 @@ impl<A: Allocator + Clone> Matching<A> {
     }
 
     /// The oldest request at the device of which just the range is left is completed, or the first part of one.
-    fn complete(&mut self, range: Range) -> Result<bool, AllocError> {
+    fn complete(&mut self, range: Range) -> Result<bool, AllocError>
+        ensures { length self.new.requests.items ≡ length self.old.requests.items }
+    {
         let found = match self.in_flight.oldest(Spot::whole(range)) {
             Some(request) => Some(request),
             None => self.in_flight.longer(range),
@@ -359,7 +398,9 @@ impl<A: Allocator + Clone> Matching<A> {
     }
 
     /// The oldest request at the device of which just the range is left is handed back, to where it waited before.
-    fn requeue(&mut self, range: Range) -> Result<bool, AllocError> {
+    fn requeue(&mut self, range: Range) -> Result<bool, AllocError>
+        ensures { length self.new.requests.items ≡ length self.old.requests.items }
+    {
         let Some(request) = self.in_flight.oldest(Spot::whole(range)) else {
             return Ok(false);
         };
@@ -375,7 +416,9 @@ impl<A: Allocator + Clone> Matching<A> {
     }
 
     /// A waiting bio is cut where the range ends, of which it is the beginning. Both parts wait since the bio was queued.
-    fn split(&mut self, range: Range) -> Result<bool, AllocError> {
+    fn split(&mut self, range: Range) -> Result<bool, AllocError>
+        ensures { length self.new.requests.items ≡ length self.old.requests.items }
+    {
         let Some(place) = self.waiting.longer(range) else {
             return Ok(false);
         };

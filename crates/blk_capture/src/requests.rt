@@ -1,11 +1,12 @@
 //! The requests of a capture that went out to the device, with their bios.
 
-ghost use Rattle.std.specs.Prelude.{◌≡◌, ◌≤◌, ◌<◌, ℕ, None, Some, All, IfOk, IfErr, IfSome, IfNone, OnOk, length, map, slice_index_or};
+ghost use Rattle.std.specs.Prelude.{◌≡◌, ◌≤◌, ◌<◌, ◌+◌, ℕ, count_by, is_some, None, Some, All, IfOk, IfErr, IfSome, IfNone, OnOk, length, map, slice_index_or};
 ghost use Rattle.edd_check.specs.Capacity.{fixed};
 ghost use Rattle.edd_check.specs.Limits.{most_commands};
 ghost use Rattle.edd_check.specs.Schedule.{IsLegal, RoundsInRange};
 ghost use Rattle.blk_capture.specs.Counting.{AreServed, AreSolvable, IsCounted};
-ghost use Rattle.blk_capture.specs.Requests.{served_of, AreTimed, HaveBios, AreTallied, AreInOrder, IsFirstFall, AreLate, IsCaptureFault};
+ghost use Rattle.blk_capture.specs.Fates.{opens, told};
+ghost use Rattle.blk_capture.specs.Requests.{served_of, AreTimed, HaveBios, AreTallied, AreInOrder, IsFirstFall, AreLate, entry_by, expire_of, sooner_of, deadline_of, IsDue, IsCaptureFault};
 ghost use Rattle.blk_capture.specs.Taken.{IsOwn, IsRequestOf, ArePlaced, PutsAt, ArePlacedBios, IsTalliedFrom};
 ghost use Rattle.blk_capture.specs.declared.members.Queued.{Queued};
 
@@ -74,7 +75,9 @@ pub struct Request {
     pub inserted: Option<u64>,
     /// When it counts as come in.
     pub entry: u64,
-    /// By when it was due.
+    /// The earliest deadline of the requests that were merged into it, if any.
+    pub earlier: Option<u64>,
+    /// By when it was due: so long after its entry as its direction's expiry, or by `earlier`; at most 2^64 - 1.
     pub deadline: u64,
     /// When it went out for the last time.
     pub dispatched: u64,
@@ -99,51 +102,71 @@ pub struct Bio {
     pub request: Option<usize>,
 }
 
-/// What is known of a request by itself: whether it was merged into another, and when it came in and was due.
+/// What became of a request beside others.
 #[derive(Clone, Copy, Debug)]
 struct Life {
-    /// The request that it went into in the end, or itself.
+    /// The request that it was merged into in the end, or itself.
     root: usize,
-    /// When it came in.
-    entry: u64,
-    /// By when it was due.
-    deadline: u64,
+    /// The earliest deadline of those that were merged into it, if any.
+    earlier: Option<u64>,
 }
 
-/// When a request came in and was due by itself.
-fn life_of(place: usize, opened: &Opened, options: &Options) -> Life {
-    let entry = match options.entry {
+/// When a request came in.
+fn entry_of(opened: &Opened, options: &Options) -> u64
+    ensures { result ≡ entry_by options.now.entry opened.now.queued opened.now.inserted }
+{
+    match options.entry {
         Entry::Insert => opened.inserted.unwrap_or(opened.queued),
         Entry::Queue => opened.queued,
-    };
-    let expire = match opened.range.dir {
-        Dir::Read => options.read_expire,
-        Dir::Write => options.write_expire,
-    };
-    Life {
-        root: place,
-        entry,
-        deadline: entry.saturating_add(expire),
     }
 }
 
-/// The same of each; one into which others were merged is due when the first of them is.
+/// How long after it came in a request of a direction is due.
+fn expire_of(options: &Options, dir: Dir) -> u64
+    ensures { result ≡ expire_of options.now dir }
+{
+    match dir {
+        Dir::Read => options.read_expire,
+        Dir::Write => options.write_expire,
+    }
+}
+
+/// The sooner of two times, of which one may be unknown.
+fn sooner(earlier: Option<u64>, time: u64) -> u64
+    ensures { result ≡ sooner_of earlier time }
+{
+    match earlier {
+        Some(earlier) => earlier.min(time),
+        None => time,
+    }
+}
+
+/// By when a request was due that came in at a time.
+fn deadline_of(options: &Options, dir: Dir, entry: u64, earlier: Option<u64>) -> u64
+    ensures { result ≡ deadline_of options.now dir entry earlier }
+{
+    sooner(earlier, entry.saturating_add(expire_of(options, dir)))
+}
+
+/// The same of each.
 fn lives<A: Allocator + Clone>(
     alloc: A,
     matching: &Matching<A>,
     options: &Options,
-) -> Result<Vec<Life, A>, AllocError> {
+) -> Result<Vec<Life, A>, AllocError>
+    ensures { IfOk result (λ v. length v.items ≡ length matching.now.requests.items) }
+{
     let mut lives = Vec::with_capacity(alloc, matching.requests.len())?;
-    for (place, opened) in matching.requests.iter().enumerate() {
-        lives.push(life_of(place, opened, options))?;
+    for root in 0..matching.requests.len() {
+        lives.push(Life {
+            root,
+            earlier: None,
+        })?;
     }
     for absorption in &matching.absorptions {
-        let deadline = match lives.get(absorption.request) {
-            Some(life) => life.deadline,
-            None => u64::MAX,
-        };
+        let deadline = deadline_at(matching, lives.as_slice(), absorption.request, options);
         if let Some(life) = lives.get_mut(absorption.into) {
-            life.deadline = life.deadline.min(deadline);
+            life.earlier = Some(sooner(life.earlier, deadline));
         }
     }
     // the last absorption first, so that where the other went is known
@@ -159,14 +182,34 @@ fn lives<A: Allocator + Clone>(
     Ok(lives)
 }
 
+/// By when a request that was merged into another was due.
+fn deadline_at<A: Allocator + Clone>(
+    matching: &Matching<A>,
+    lives: &[Life],
+    request: usize,
+    options: &Options,
+) -> u64 {
+    match (matching.requests.get(request), lives.get(request)) {
+        (Some(opened), Some(life)) => deadline_of(
+            options,
+            opened.range.dir,
+            entry_of(opened, options),
+            life.earlier,
+        ),
+        _ => u64::MAX,
+    }
+}
+
 /// The request of a dispatch, where that is its last one, it wasn't merged into another, and it came in by then.
 fn request_of<A: Allocator + Clone>(
     matching: &Matching<A>,
     lives: &[Life],
+    options: &Options,
     number: usize,
     dispatch: Dispatch,
 ) -> Option<Request>
-    ensures { IfSome result (IsRequestOf lives.now matching.now.members.openers.items dispatch) }
+    ensures of { IfSome result (IsRequestOf lives.now matching.now.members.openers.items dispatch) }
+    ensures due { IfSome result (IsDue options.now) }
 {
     let place = dispatch.request;
     if place >= lives.len()
@@ -177,7 +220,8 @@ fn request_of<A: Allocator + Clone>(
     }
     let life = lives[place];
     let opened = matching.requests[place];
-    if life.root != place || life.entry > dispatch.time || !opened.goes_out_by(number) {
+    let entry = entry_of(&opened, options);
+    if life.root != place || entry > dispatch.time || !opened.goes_out_by(number) {
         return None;
     }
     Some(Request {
@@ -189,8 +233,9 @@ fn request_of<A: Allocator + Clone>(
         pid: opened.pid,
         queued: opened.queued,
         inserted: opened.inserted,
-        entry: life.entry,
-        deadline: life.deadline,
+        entry,
+        earlier: life.earlier,
+        deadline: deadline_of(options, opened.range.dir, entry, life.earlier),
         dispatched: dispatch.time,
         completed: opened.completed,
     })
@@ -223,11 +268,14 @@ fn take_requests<A: Allocator + Clone>(
     matching: &Matching<A>,
     lives: &[Life],
     begin: u64,
-    first: u64,
+    options: &Options,
 ) -> Result<Taken<A>, AllocError>
     ensures placed { IfOk result (λ t. ArePlaced lives.now matching.now.members.openers.items t.places.items t.requests.items) }
     ensures timed { IfOk result (λ t. AreTimed t.requests.items) }
     ensures untallied { IfOk result (λ t. All (λ q. q.bios ≡ 0) t.requests.items) }
+    ensures due { IfOk result (λ t. All (IsDue options.now) t.requests.items) }
+    ensures each { IfOk result (λ t. length t.places.items ≡ length lives.now) }
+    ensures many { IfOk result (λ t. count_by is_some t.places.items ≡ length t.requests.items) }
 {
     let places = vec![in alloc.clone()?; None; lives.len()]?;
     let mut taken = Taken {
@@ -237,14 +285,34 @@ fn take_requests<A: Allocator + Clone>(
     let dispatches = matching.clock.dispatches.as_slice();
     for number in 0..dispatches.len() {
         let dispatch = dispatches[number];
-        if dispatch.time < begin || taken.requests.len() as u64 >= first {
+        if dispatch.time < begin || taken.requests.len() as u64 >= options.first {
             continue;
         }
-        if let Some(request) = request_of(matching, lives, number, dispatch) {
+        if let Some(request) = request_of(matching, lives, options, number, dispatch) {
             taken.put(dispatch.request, request)?;
         }
     }
     Ok(taken)
+}
+
+/// Of the requests that are not taken, how many were merged into others, and how many were not.
+fn count_others(lives: &[Life], places: &[Option<usize>]) -> (u64, u64)
+    requires { length places.now ≡ length lives.now }
+    ensures { count_by is_some places.now + result.0 + result.1 ≡ length lives.now }
+{
+    let mut absorbed = 0;
+    let mut left_out = 0;
+    for (request, life) in lives.iter().enumerate() {
+        if places[request].is_some() {
+            continue;
+        }
+        if life.root == request {
+            left_out += 1;
+        } else {
+            absorbed += 1;
+        }
+    }
+    (absorbed, left_out)
 }
 
 /// The place of the request that a bio went out with, which went into a request at first.
@@ -314,10 +382,10 @@ pub struct Matched<A: Allocator = Global> {
     pub bios: Vec<Bio, A>,
     /// By record, what became of it.
     pub fates: Vec<Fate, A>,
-    /// How many requests were opened.
-    pub opened: u64,
-    /// How many of them were merged into others.
+    /// How many requests were opened and then merged into others.
     pub absorbed: u64,
+    /// How many of the others are not taken: they never went out, were handed back, or the options leave them out.
+    pub left_out: u64,
 }
 
 /// Whether some request is inserted.
@@ -347,18 +415,14 @@ fn settle<A: Allocator + Clone>(
     options: &Options,
 ) -> Result<Matched<A>, AllocError>
     ensures timed { IfOk result (λ m. AreTimed m.requests.items) }
+    ensures due { IfOk result (λ m. All (IsDue options.now) m.requests.items) }
     ensures bios { IfOk result (λ m. HaveBios m.requests.items m.bios.items) }
     ensures tallied { IfOk result (λ m. AreTallied m.requests.items m.bios.items) }
     ensures fates { IfOk result (λ m. m.fates.items ≡ fates.items) }
+    ensures opened { IfOk result (λ m. length m.requests.items + m.absorbed + m.left_out ≡ length matching.now.requests.items) }
 {
     let lives = lives(alloc.clone()?, matching, options)?;
-    let taken = take_requests(
-        alloc.clone()?,
-        matching,
-        lives.as_slice(),
-        begin,
-        options.first,
-    )?;
+    let taken = take_requests(alloc.clone()?, matching, lives.as_slice(), begin, options)?;
     let Taken { requests, places } = taken;
     let bios = bios_of(
         alloc,
@@ -366,12 +430,13 @@ fn settle<A: Allocator + Clone>(
         lives.as_slice(),
         places.as_slice(),
     )?;
+    let (absorbed, left_out) = count_others(lives.as_slice(), places.as_slice());
     Ok(Matched {
         requests: count_bios(requests, bios.as_slice()),
         bios,
         fates,
-        opened: matching.members.openers.len() as u64,
-        absorbed: matching.absorptions.len() as u64,
+        absorbed,
+        left_out,
     })
 }
 
@@ -388,9 +453,12 @@ pub fn match_records<A: Allocator + Clone>(
     // in the order of their dispatches, none before it came in
     ensures timed { IfOk result (λ m. AreTimed m.requests.items) }
     ensures few { IfOk result (λ m. length m.requests.items ≤ most_commands) }
+    ensures due { IfOk result (λ m. All (IsDue options.now) m.requests.items) }
     ensures bios { IfOk result (λ m. HaveBios m.requests.items m.bios.items) }
     ensures tallied { IfOk result (λ m. AreTallied m.requests.items m.bios.items) }
     ensures fates { IfOk result (λ m. length m.fates.items ≡ length records.now) }
+    // each request that a record opened is taken, was merged into another, or is left out
+    ensures opened { IfOk result (λ m. length m.requests.items + m.absorbed + m.left_out ≡ told opens records.now m.fates.items) }
     ensures order { OnOk result (AreInOrder records.now (length records.now)) }
     ensures fault { IfErr result (IsCaptureFault records.now) }
 {
@@ -413,9 +481,11 @@ fn match_in_order<A: Allocator + Clone>(
     options: &Options,
 ) -> Result<Matched<A>, AllocError>
     ensures timed { IfOk result (λ m. AreTimed m.requests.items) }
+    ensures due { IfOk result (λ m. All (IsDue options.now) m.requests.items) }
     ensures bios { IfOk result (λ m. HaveBios m.requests.items m.bios.items) }
     ensures tallied { IfOk result (λ m. AreTallied m.requests.items m.bios.items) }
     ensures fates { IfOk result (λ m. length m.fates.items ≡ length records.now) }
+    ensures opened { IfOk result (λ m. length m.requests.items + m.absorbed + m.left_out ≡ told opens records.now m.fates.items) }
 {
     let mut matching = Matching::new(alloc.clone()?, !has_insertion(records))?;
     let mut fates = Vec::with_capacity(alloc.clone()?, records.len())?;

@@ -27,7 +27,7 @@ loop-bio-preserved g c =
           let read : (d : Request) → r ≡ get_or so_far p d = λ d. w.index-request.ensures ∙ get_or_default so_far p r d there in
           subst (λ (rs : List Request). IsTalliedTo old rs bios (n + 1)) (sym (ap (λ v. v.items) w.requests-is))
           (tallied_at old so_far bios n p _ empty_bio c.loop-bio.invariant here is there
-          (λ d. ap (λ (q : Request). q.bios + 1) (read d)) (λ d. ap (λ (q : Request). q.dispatched) (read d)) (λ d. ap (λ (q : Request). q.entry) (read d)) (λ d. ap (λ (q : Request). q.bio) (read d))))
+          (λ d. ap (λ (q : Request). q.bios + 1) (read d)) (λ d. ap (λ (q : Request). record q { bios = r.bios + 1 }) (read d))))
       | in-Some+else-place-len w ↦
           (let p : ℕ = w.in-Some.place in
           let past : length so_far ≤ p = omega (arith, w.if-place-len.false, w.len.ensures, c.loop-bio.requests.ok.0) in
