@@ -57,14 +57,14 @@ pub used_then : (es : List Happened) (id tag t : ℕ) → IsUsed (es ++ Issue id
 used_then es id tag t used fresh =
     elim (split es (Issue id tag) used.place (Issue used.id t) used.issued) [
       | inl old ↦ absurd (fresh (record { place = used.place; id = used.id; issued = old; now = sym (round_old es (Issue id tag) (Issue used.id t) used.place old) ∙ used.now ∙ same_round es (Issue id tag) refl }))
-      | inr last ↦ let same : Issue id tag ≡ Issue used.id t = last.1 in cc
+      | inr last ↦ let same : ◌≡◌ {A = Happened} (Issue id tag) (Issue used.id t) = last.1 in cc
     ]
 
 pub used_or : (es : List Happened) (id tag t n : ℕ) → ((u : ℕ) → IsUsed es u → u < n) → tag < n → IsUsed (es ++ Issue id tag ∷ []) t → t < n
 used_or es id tag t n below low used =
     elim (split es (Issue id tag) used.place (Issue used.id t) used.issued) [
       | inl old ↦ below t (record { place = used.place; id = used.id; issued = old; now = sym (round_old es (Issue id tag) (Issue used.id t) used.place old) ∙ used.now ∙ same_round es (Issue id tag) refl })
-      | inr last ↦ let is : Issue id tag ≡ Issue used.id t = last.1 in let same : tag ≡ t = cc in omega arith
+      | inr last ↦ let is : ◌≡◌ {A = Happened} (Issue id tag) (Issue used.id t) = last.1 in let same : tag ≡ t = cc in omega arith
     ]
 
 -- ---- services
@@ -114,7 +114,7 @@ fresh_ticked es =
     record {
       unused = λ tag used. elim (split es Tick used.place (Issue used.id tag) used.issued) [
         | inl old ↦ let early : round_at es used.place ≤ round_of es = round_within used.place es in omega (arith, up, used.now, round_old es Tick (Issue used.id tag) used.place old)
-        | inr last ↦ let clash : Tick ≡ Issue used.id tag = last.1 in cc
+        | inr last ↦ let clash : ◌≡◌ {A = Happened} Tick (Issue used.id tag) = last.1 in cc
       ];
       none_out = λ id out.
           let at = rounds_between 0 es out.0 (round_of (es ++ Tick ∷ []), id) (sym (ap (λ l. slice_get l out.0) kept) ∙ out.1) in
