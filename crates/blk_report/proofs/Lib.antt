@@ -7,3 +7,4 @@ pub mod Gathering
 pub mod Requests
 pub mod Halving
 pub mod Waiting
+pub mod Ranks

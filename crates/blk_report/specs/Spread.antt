@@ -1,7 +1,7 @@
 -- How long commands waited and how late they were, by quantiles.
-use Rattle.std.specs.Prelude.{ℕ, ◌≡◌, ◌+◌, ◌-◌, ◌*◌, ◌/◌, List, length, map, filter, slice_get, Option, ℤ, pos, ◌-ℤ◌, IsPermutation}
+use Rattle.std.specs.Prelude.{ℕ, ◌≡◌, ◌+◌, ◌-◌, ◌*◌, ◌/◌, ◌≤◌, ◌<◌, Bool, not, List, [], length, map, filter, count_by, slice_get, Option, None, Some, ℤ, pos, ◌-ℤ◌, IsPermutation}
 use Rattle.std.specs.List.Sorted.{IsSorted}
-use Rattle.std.specs.Ordering.{int_cmp}
+use Rattle.std.specs.Ordering.{int_cmp, is_lt}
 use Rattle.blk_bio.specs.declared.bio.Dir.TheVariants.{Read, Write}
 use Rattle.blk_trace.specs.Setups.{same_dir}
 use Rattle.blk_report.specs.declared.serving.Service.{Service}
@@ -35,12 +35,34 @@ quantiles_of sorted = record {
   max = at_rank 1000 sorted;
 }
 
--- those of the numbers, put in their order
+abbrev pub is_less : ℤ → ℤ → Bool
+is_less x y = is_lt (int_cmp x y)
+
+-- so many thousandths of the numbers, at least, are no greater than q, and fewer are less
+pub record HasShare (thousandths : ℕ) (values : List ℤ) (q : ℤ) : Type 0 where
+  pub within : thousandths * length values ≤ 1000 * count_by (λ x. not (is_less q x)) values
+  pub below : 1000 * count_by (λ x. is_less x q) values < thousandths * length values
+
+-- the one with this share, if there are numbers
+abbrev pub IsShare : ℕ → List ℤ → Option ℤ → Type 0
+IsShare thousandths values None = values ≡ []
+IsShare thousandths values (Some q) = HasShare thousandths values q
+
+-- each quantile has its share of the numbers
+pub record HaveShares (values : List ℤ) (q : Quantiles) : Type 0 where
+  pub p50 : IsShare 500 values q.p50
+  pub p90 : IsShare 900 values q.p90
+  pub p99 : IsShare 990 values q.p99
+  pub p999 : IsShare 999 values q.p999
+  pub max : IsShare 1000 values q.max
+
+-- those of the numbers, put in their order, each with its share
 pub record IsQuantiles (values : List ℤ) (q : Quantiles) : Type 0 where
   pub sorted : List ℤ
   pub same : IsPermutation values sorted
   pub rising : IsSorted int_cmp sorted
   pub are : q ≡ quantiles_of sorted
+  pub shares : HaveShares values q
 
 -- of the reads, of the writes and of all
 pub record AreQuantiles (f : Service → ℤ) (services : List Service) (b : ByDir) : Type 0 where

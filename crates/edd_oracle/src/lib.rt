@@ -6,9 +6,13 @@
 //! change from round to round, is proved in this crate.
 #![tactic(auto)]
 
-ghost use Rattle.std.specs.Prelude.{◌≡◌, ◌≤◌, ◌<◌, ◌↔◌, [], length, IfOk, IfErr, IfSome, IsNone, OnOk, IsOkUnless};
+ghost use Rattle.std.specs.Prelude.{◌≡◌, ◌≤◌, ◌<◌, ◌↔◌, [], length, IfOk, IfErr, IfSome, IsNone, OnOk, IsOkUnless, Result};
+ghost use Rattle.edd_check.specs.Schedule.{IsLegal, CommandsInRange, RoundsInRange};
+ghost use Rattle.edd_check.specs.Window.{WindowInRange};
+ghost use Rattle.edd_check.specs.Check.{IsAnswer};
+ghost use Rattle.edd_check.specs.CheckMet.{IsMetAnswer};
+ghost use Rattle.edd_check.specs.Met.{CoverInRange};
 ghost use Rattle.edd_oracle.specs.Names.{oracle_fault_name};
-ghost use Rattle.edd_check.specs.Schedule.{IsLegal};
 ghost use Rattle.edd_oracle.specs.Input.{IsTaken, IsRefusal, HasDistinctIds};
 ghost use Rattle.edd_oracle.specs.Answer.{IsBest};
 ghost use Rattle.edd_oracle.specs.Priority.{IsEarliestDueFirst};
@@ -21,8 +25,8 @@ mod queue;
 mod window;
 
 use edd_check::{
-    Capacity, CheckFault, Command, MetFault, Window, check, check_met, law_of_covers,
-    law_of_crowded_windows, number_met,
+    Capacity, CheckFault, Command, MetFault, Window, law_of_covers, law_of_crowded_windows,
+    number_met,
 };
 use std::alloc::{Allocator, Global};
 
@@ -120,25 +124,22 @@ pub fn solve<A: Allocator + Clone, B: Allocator>(
     }))
 }
 
-/// Checks an answer of [`solve`] by the separate check, which passes it unless memory runs out.
-pub fn check_answer<A: Allocator, B: Allocator, C: Allocator>(
-    alloc: A,
+/// The separate check may be asked about an answer of [`solve`], and passes it: whatever [`check`](edd_check::check) says of it is Ok,
+/// unless memory ran out.
+///
+/// A law: it does nothing when it runs, and a caller has its clauses.
+pub fn law_of_checks<A: Allocator, B: Allocator>(
     commands: &[Command],
-    capacity: &Capacity<B>,
-    answer: &Answer<C>,
-) -> Result<(), CheckFault>
+    capacity: &Capacity<A>,
+    answer: &Answer<B>,
+)
     requires taken { IsTaken commands.now }
     requires best { IsBest commands.now capacity.now answer.now.rounds.items answer.now.lateness answer.now.window }
-    ensures { IsOkUnless result CheckFault.Memory }
+    ensures asked { CommandsInRange commands.now × RoundsInRange answer.now.rounds.items × WindowInRange answer.now.window }
+    ensures passed { (told : Result (Unit {0}) CheckFault) → IsAnswer commands.now capacity.now answer.now.lateness answer.now.rounds.items answer.now.window told
+        → IsOkUnless told CheckFault.Memory }
 {
-    check(
-        alloc,
-        commands,
-        capacity,
-        answer.lateness,
-        answer.rounds.as_slice(),
-        answer.window,
-    )
+    let _ = (commands.len(), capacity.at(0), answer.lateness);
 }
 
 /// A schedule that meets as many commands as any can, each by its due round.
@@ -201,24 +202,21 @@ pub fn most_met<A: Allocator + Clone, B: Allocator>(
     Ok(MostMet { rounds, met, cover })
 }
 
-/// Checks an answer of [`most_met`] by the separate check, which passes it unless memory runs out.
-pub fn check_most<A: Allocator, B: Allocator, C: Allocator>(
-    alloc: A,
+/// The separate check may be asked about an answer of [`most_met`], and passes it: whatever [`check_met`](edd_check::check_met) says
+/// of it is Ok, unless memory ran out.
+///
+/// A law: it does nothing when it runs, and a caller has its clauses.
+pub fn law_of_met_checks<A: Allocator, B: Allocator>(
     commands: &[Command],
-    capacity: &Capacity<B>,
-    answer: &MostMet<C>,
-) -> Result<(), MetFault>
+    capacity: &Capacity<A>,
+    answer: &MostMet<B>,
+)
     requires { IsMostAnswer commands.now capacity.now answer.now.rounds.items answer.now.met answer.now.cover.items }
-    ensures { IsOkUnless result MetFault.Memory }
+    ensures asked { CoverInRange answer.now.cover.items }
+    ensures passed { (told : Result (Unit {0}) MetFault) → IsMetAnswer commands.now capacity.now answer.now.rounds.items answer.now.met answer.now.cover.items told
+        → IsOkUnless told MetFault.Memory }
 {
-    check_met(
-        alloc,
-        commands,
-        capacity,
-        answer.rounds.as_slice(),
-        answer.met,
-        answer.cover.as_slice(),
-    )
+    let _ = (commands.len(), capacity.at(0), answer.met);
 }
 
 /// There is one legal schedule by earliest due date first with ties by id, where no id stands twice.

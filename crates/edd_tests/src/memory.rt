@@ -2,8 +2,8 @@
 
 use crate::made::{checked, command, window};
 use crate::verdicts::says;
-use edd_check::{Capacity, CheckFault, MetFault};
-use edd_oracle::{OracleFault, check_answer, check_most, most_met, solve};
+use edd_check::{Capacity, CheckFault, MetFault, check, check_met};
+use edd_oracle::{OracleFault, law_of_checks, law_of_met_checks, most_met, solve};
 use edd_verdict::Verdict;
 use refusing::Refusing;
 use std::alloc::Global;
@@ -40,7 +40,16 @@ fn scheduled(rt: &impl Abort, alloc: Global, heap: &Refusing<Global>) -> bool {
         Ok(answer) => {
             let answer = answer.expect(rt, "an answer");
             assert_eq!(rt; answer.rounds.as_slice(), [0, 1, 2].as_slice());
-            match check_answer(heap, &commands, &one, &answer) {
+            law_of_checks(&commands, &one, &answer);
+            let rounds = answer.rounds.as_slice();
+            match check(
+                heap,
+                &commands,
+                &one,
+                answer.lateness,
+                rounds,
+                answer.window,
+            ) {
                 Ok(()) => true,
                 Err(fault) => {
                     assert!(rt; fault == CheckFault::Memory);
@@ -76,7 +85,10 @@ fn met(rt: &impl Abort, alloc: Global, heap: &Refusing<Global>) -> bool {
     match most_met(heap, &commands, &one) {
         Ok(answer) => {
             assert_eq!(rt; answer.rounds.as_slice(), [0, 2, 1].as_slice());
-            match check_most(heap, &commands, &one, &answer) {
+            law_of_met_checks(&commands, &one, &answer);
+            let rounds = answer.rounds.as_slice();
+            let cover = answer.cover.as_slice();
+            match check_met(heap, &commands, &one, rounds, answer.met, cover) {
                 Ok(()) => true,
                 Err(fault) => {
                     assert!(rt; fault == MetFault::Memory);

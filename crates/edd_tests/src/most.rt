@@ -1,8 +1,8 @@
 //! Schedules that meet as many commands as any can.
 
 use crate::made::{command, fixed, steps, window};
-use edd_check::{Capacity, Command, Window, cover_in_range};
-use edd_oracle::{OracleFault, check_most, most_met, solve};
+use edd_check::{Capacity, Command, Window, check_met};
+use edd_oracle::{OracleFault, law_of_met_checks, most_met, solve};
 use std::alloc::Global;
 use std::process::Abort;
 
@@ -20,8 +20,10 @@ fn answers(
     assert_eq!(rt; answer.rounds.as_slice(), rounds);
     assert_eq!(rt; answer.met, met);
     assert_eq!(rt; answer.cover.as_slice(), cover);
-    assert!(rt; cover_in_range(answer.cover.as_slice()));
-    let passed = check_most(alloc, commands, capacity, &answer);
+    law_of_met_checks(commands, capacity, &answer);
+    let rounds = answer.rounds.as_slice();
+    let cover = answer.cover.as_slice();
+    let passed = check_met(alloc, commands, capacity, rounds, answer.met, cover);
     assert!(rt; matches!(passed, Ok(())));
 }
 

@@ -2,9 +2,10 @@
 
 use crate::made::{command, fixed, steps, window};
 use edd_check::{
-    Capacity, Command, Window, greatest_lateness, in_range, is_legal, law_of_crowded_windows, load,
+    Capacity, Command, Window, check, greatest_lateness, in_range, is_legal,
+    law_of_crowded_windows, load,
 };
-use edd_oracle::{Answer, OracleFault, check_answer, law_of_one_schedule, solve};
+use edd_oracle::{Answer, OracleFault, law_of_checks, law_of_one_schedule, solve};
 use std::alloc::Global;
 use std::process::Abort;
 
@@ -13,10 +14,18 @@ fn solved(rt: &impl Abort, alloc: Global, commands: &[Command], capacity: &Capac
     let answer = solve(alloc, commands, capacity)
         .expect(rt, "solved")
         .expect(rt, "an answer");
-    let passed = check_answer(alloc, commands, capacity, &answer);
+    law_of_checks(commands, capacity, &answer);
+    let rounds = answer.rounds.as_slice();
+    let passed = check(
+        alloc,
+        commands,
+        capacity,
+        answer.lateness,
+        rounds,
+        answer.window,
+    );
     assert!(rt; matches!(passed, Ok(())));
     law_of_crowded_windows(commands, capacity, answer.lateness, answer.window);
-    let rounds = answer.rounds.as_slice();
     law_of_one_schedule(commands, capacity, rounds, rounds);
     answer
 }
