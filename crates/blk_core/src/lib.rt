@@ -411,15 +411,15 @@ impl<S: Scheduler> Core<S> {
         if slot >= self.tags.len() {
             return Err(BackFault::NotIssued);
         }
-        let TagState::Flying { hw, queued } = &self.tags[slot] else {
+        let TagState::Flying { queued, .. } = &self.tags[slot] else {
             return Err(BackFault::NotIssued);
         };
-        let (hw, id, dir) = (*hw, queued.id, queued.request.dir());
+        let (id, dir) = (queued.id, queued.request.dir());
         let Ok(()) = hold(&mut self.tags[slot], &mut self.held) else {
             return Err(BackFault::Memory);
         };
         self.trace.add(Event::Back { tag });
-        self.scheduler.on_back(hw, dir);
+        self.scheduler.on_back(dir);
         Ok(id)
     }
 
@@ -499,16 +499,17 @@ impl<S: Scheduler> Core<S> {
         self.scheduler.pending() + held
     }
 
-    /// The events, which are legal, without the scheduler.
+    /// The events, which are legal, without the scheduler; nothing is prepared in the trace.
     pub fn into_trace(self) -> Trace<S::A>
         ensures setup { result.setup ≡ self.setup }
         ensures events { result.events ≡ self.events }
+        ensures unprepared { result.prepared ≡ Prepared.Nothing }
         ensures legal { IsLegalTrace self.setup self.events }
         ensures schedule { IsScheduled self.setup self.events }
         ensures accounted { IsAccounted self.events }
     {
         let Core { trace, .. } = self;
-        trace
+        trace.unprepared()
     }
 }
 
@@ -533,7 +534,7 @@ fn next<S: Scheduler>(
 {
     match held.take_first(hw) {
         Some(queued) => {
-            scheduler.on_again(hw, queued.request.dir());
+            scheduler.on_again(queued.request.dir());
             Some(queued)
         }
         None => scheduler.pick(hw, now),

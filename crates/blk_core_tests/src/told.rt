@@ -10,14 +10,14 @@ use std::alloc::{AllocError, Global};
 use std::cell::Cell;
 use std::process::Abort;
 
-/// The last pick's hardware queue and round, the last done's hardware queue, direction and wait, the hardware queue and
-/// direction that was last handed back, and those that last went out again, and the last tick's round.
+/// The last pick's hardware queue and round, the last done's hardware queue, direction and wait, the direction that
+/// was last handed back, and that which last went out again, and the last tick's round.
 #[derive(Drop)]
 struct Told {
     pick: Cell<Option<(u8, u64)>>,
     done: Cell<Option<(u8, Dir, u64)>>,
-    back: Cell<Option<(u8, Dir)>>,
-    again: Cell<Option<(u8, Dir)>>,
+    back: Cell<Option<Dir>>,
+    again: Cell<Option<Dir>>,
     tick: Cell<Option<u64>>,
 }
 
@@ -86,14 +86,14 @@ impl<'a, S: Scheduler> Scheduler for Noting<'a, S> {
         self.scheduler.on_done(hw, dir, wait);
     }
 
-    fn on_back(&mut self, hw: u8, dir: Dir) {
-        self.told.back.set(Some((hw, dir)));
-        self.scheduler.on_back(hw, dir);
+    fn on_back(&mut self, dir: Dir) {
+        self.told.back.set(Some(dir));
+        self.scheduler.on_back(dir);
     }
 
-    fn on_again(&mut self, hw: u8, dir: Dir) {
-        self.told.again.set(Some((hw, dir)));
-        self.scheduler.on_again(hw, dir);
+    fn on_again(&mut self, dir: Dir) {
+        self.told.again.set(Some(dir));
+        self.scheduler.on_again(dir);
     }
 
     fn on_tick(&mut self, now: u64) {
@@ -183,6 +183,6 @@ fn told_the_scheduler(rt: HostRuntime) {
     read_comes_back(&rt, alloc, &mut core);
     let again = (Some((1, 5)), Some((1, Dir::Read, 1)), Some(6));
     assert!(rt; heard(&told) == again);
-    let handed = Some((1, Dir::Read));
+    let handed = Some(Dir::Read);
     assert!(rt; told.back.get() == handed && told.again.get() == handed);
 }

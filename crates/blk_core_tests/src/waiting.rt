@@ -82,10 +82,10 @@ fn picks_are_counted(rt: HostRuntime) {
     assert!(rt; scheduler.pick(0, 1).is_some());
     assert!(rt; scheduler.pending() == 0 && scheduler.picked(Dir::Read) == 1);
     assert!(rt; scheduler.handed(Dir::Read) == 0);
-    scheduler.on_back(0, Dir::Read);
+    scheduler.on_back(Dir::Read);
     assert!(rt; scheduler.picked(Dir::Read) == 0 && scheduler.handed(Dir::Read) == 1);
     assert!(rt; scheduler.pending() == 0 && scheduler.handed(Dir::Write) == 0);
-    scheduler.on_again(0, Dir::Read);
+    scheduler.on_again(Dir::Read);
     assert!(rt; scheduler.picked(Dir::Read) == 1 && scheduler.handed(Dir::Read) == 0);
     scheduler.on_done(0, Dir::Read, 0);
     assert!(rt; scheduler.picked(Dir::Read) == 0 && scheduler.picked(Dir::Write) == 0);

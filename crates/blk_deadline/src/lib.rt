@@ -6,6 +6,8 @@ ghost use Rattle.std.specs.Option.{OnSome, option_copied};
 ghost use Rattle.std.specs.FinMap as map;
 ghost use Rattle.blk_sched.specs.Meaning.{Waiting, Meaning, HasCandidate, HasNoCandidate, Joins, ServesNothing, Picks, HandsBack, opened, open_of, handed_of, at_start};
 ghost use Rattle.blk_index.specs.Index.{NoneOf};
+ghost use Rattle.blk_deadline.specs.declared.Turn.{Turn as Place};
+ghost use Rattle.blk_deadline.specs.declared.Tunables.{Tunables as Settings};
 ghost use Rattle.blk_deadline.specs.Choice.{serves_all, oldest_of, next_of, in_batch, due_or_next, taken, chosen, turn_after, kept_of, deadline_choice, deadline_chooses};
 ghost use Rattle.blk_deadline.specs.Shown.{pending_of, turn_of, tunables_of, meaning_of};
 
@@ -84,6 +86,8 @@ impl<A: Allocator + Clone> Deadline<A> {
         ensures turn { IfOk result (λ s. turn_of s ≡ record { last = None; batching = 0; starved = 0 }) }
         ensures tunables { IfOk result (λ s. tunables_of s ≡ tunables) }
         ensures memory { IfErr result (λ e. 0 < tunables.fifo_batch → e ≡ DeadlineFault.Memory) }
+        // the turn and the tunables are known by what the trait says is kept
+        ensures known { (turn other : Place) (tuned tuned_so : Settings) → kept_of turn tuned ≡ kept_of other tuned_so → (turn ≡ other) × (tuned ≡ tuned_so) }
     {
         if tunables.has_zero_batch() {
             return Err(DeadlineFault::ZeroBatch);
@@ -301,28 +305,24 @@ impl<A: Allocator + Clone> Scheduler for Deadline<A> {
     }
 
     /// Hands an open pick back; the turn and the tunables stay.
-    fn on_back(&mut self, hw: u8, dir: Dir)
-        requires hw { hw < MAX_QUEUES }
+    fn on_back(&mut self, dir: Dir)
         requires is_open { 0 < open_of dir (meaning_of self.old).open_picks }
         requires few { (meaning_of self.old).open_picks.handed_reads + (meaning_of self.old).open_picks.handed_writes < MAX_HANDED }
         ensures back { HandsBack dir (meaning_of self.old) (meaning_of self.new) }
         ensures turn { turn_of self.new ≡ turn_of self.old }
         ensures tunables { tunables_of self.new ≡ tunables_of self.old }
     {
-        let _ = hw;
         self.open_picks.hand_back(dir);
     }
 
     /// Opens a pick again that was handed back; the turn and the tunables stay.
-    fn on_again(&mut self, hw: u8, dir: Dir)
-        requires hw { hw < MAX_QUEUES }
+    fn on_again(&mut self, dir: Dir)
         requires is_handed { 0 < handed_of dir (meaning_of self.old).open_picks }
         requires few { (meaning_of self.old).open_picks.reads + (meaning_of self.old).open_picks.writes < MAX_OPEN }
         ensures again { HandsBack dir (meaning_of self.new) (meaning_of self.old) }
         ensures turn { turn_of self.new ≡ turn_of self.old }
         ensures tunables { tunables_of self.new ≡ tunables_of self.old }
     {
-        let _ = hw;
         self.open_picks.open_again(dir);
     }
 

@@ -245,28 +245,24 @@ impl<A: Allocator + Clone> Scheduler for Kyber<A> {
     }
 
     /// Hands a pick back, which stays in flight. It is no completion: what is kept stays.
-    fn on_back(&mut self, hw: u8, dir: Dir)
-        requires hw { hw < MAX_QUEUES }
+    fn on_back(&mut self, dir: Dir)
         requires is_open { 0 < open_of dir (meaning_of self.old).open_picks }
         requires few { (meaning_of self.old).open_picks.handed_reads + (meaning_of self.old).open_picks.handed_writes < MAX_HANDED }
         ensures stays { kyber_kept self.new ≡ kyber_kept self.old }
         ensures back { HandsBack dir (meaning_of self.old) (meaning_of self.new) }
         ensures kept { numbers_of (kyber_kept self.new) ≡ numbers_of (kyber_kept self.old) }
     {
-        let _ = hw;
         self.open_picks.hand_back(dir);
     }
 
     /// Opens a pick again that was handed back. What is kept stays.
-    fn on_again(&mut self, hw: u8, dir: Dir)
-        requires hw { hw < MAX_QUEUES }
+    fn on_again(&mut self, dir: Dir)
         requires is_handed { 0 < handed_of dir (meaning_of self.old).open_picks }
         requires few { (meaning_of self.old).open_picks.reads + (meaning_of self.old).open_picks.writes < MAX_OPEN }
         ensures stays { kyber_kept self.new ≡ kyber_kept self.old }
         ensures again { HandsBack dir (meaning_of self.new) (meaning_of self.old) }
         ensures kept { numbers_of (kyber_kept self.new) ≡ numbers_of (kyber_kept self.old) }
     {
-        let _ = hw;
         self.open_picks.open_again(dir);
     }
 

@@ -162,13 +162,11 @@ impl<A: Allocator + Clone> Scheduler for Lifo<A> {
         self.open_picks.close(dir);
     }
 
-    fn on_back(&mut self, hw: u8, dir: Dir) {
-        let _ = hw;
+    fn on_back(&mut self, dir: Dir) {
         self.open_picks.hand_back(dir);
     }
 
-    fn on_again(&mut self, hw: u8, dir: Dir) {
-        let _ = hw;
+    fn on_again(&mut self, dir: Dir) {
         self.open_picks.open_again(dir);
     }
 

@@ -237,19 +237,17 @@ pub trait Scheduler: Drop {
         ensures done { meaning self.old ≡ record (meaning self.new) { open_picks = opened dir (meaning self.new).open_picks } }
         ensures told { told_done hw dir wait (Self.kept self.old) (Self.kept self.new) };
 
-    /// Hands back an open pick of a direction, of which one must be open and which was picked for the hardware queue: the
-    /// device was busy. It is no completion. Fewer than `MAX_HANDED` may be handed back.
-    fn on_back(&mut self, hw: u8, dir: Dir)
-        requires hw { hw < MAX_QUEUES }
+    /// Hands back an open pick of a direction, of which one must be open: the device was busy. It is no completion. Fewer
+    /// than `MAX_HANDED` may be handed back.
+    fn on_back(&mut self, dir: Dir)
         requires is_open { 0 < open_of dir (meaning self.old).open_picks }
         requires few { (meaning self.old).open_picks.handed_reads + (meaning self.old).open_picks.handed_writes < MAX_HANDED }
         ensures back { HandsBack dir (meaning self.old) (meaning self.new) }
         ensures kept { Self.kept self.new ≡ Self.kept self.old };
 
-    /// Opens again a pick of a direction that was handed back, as its request is issued again for the hardware queue. Fewer
-    /// than `MAX_OPEN` picks may be open.
-    fn on_again(&mut self, hw: u8, dir: Dir)
-        requires hw { hw < MAX_QUEUES }
+    /// Opens again a pick of a direction that was handed back, as its request is issued again. Fewer than `MAX_OPEN` picks
+    /// may be open.
+    fn on_again(&mut self, dir: Dir)
         requires is_handed { 0 < handed_of dir (meaning self.old).open_picks }
         requires few { (meaning self.old).open_picks.reads + (meaning self.old).open_picks.writes < MAX_OPEN }
         ensures again { HandsBack dir (meaning self.new) (meaning self.old) }

@@ -53,7 +53,7 @@ IsPushAnswer old e new (Err (_, push_fault.Memory)) =
 
 -- what each answer of `from_events` says of the list
 abbrev pub IsFromEventsAnswer : Setup → List Happened → Result Traced TraceFault → Type 0
-IsFromEventsAnswer setup events (Ok t) = (t.setup ≡ setup) × (t.events ≡ events) × IsLegalTrace setup events
+IsFromEventsAnswer setup events (Ok t) = (t.setup ≡ setup) × (t.events ≡ events) × (t.prepared ≡ Nothing) × IsLegalTrace setup events
 IsFromEventsAnswer setup events (Err (trace_fault.Rule at rule)) =
     IsLegalTrace setup (take at events) × ((e : Happened) × (slice_get events at ≡ Some e) × IsFirstBroken setup (take at events) e rule)
 IsFromEventsAnswer setup events (Err trace_fault.Memory) = ⊤

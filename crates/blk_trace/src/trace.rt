@@ -170,6 +170,14 @@ impl<A: Allocator + Clone> Trace<A> {
         })
     }
 
+    /// The trace with nothing prepared.
+    pub fn unprepared(mut self) -> Trace<A>
+        ensures { result ≡ record { setup = self.setup; events = self.events; prepared = Prepared.Nothing } }
+    {
+        self.prepared = Prepared::Nothing;
+        self
+    }
+
     /// Makes room for what is wanted, where it was not made before.
     #[inline(always)]
     fn make_room(&mut self, wanted: Prepared) -> Result<(), AllocError>

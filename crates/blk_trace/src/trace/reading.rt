@@ -16,7 +16,7 @@ use std::alloc::{AllocError, Allocator};
 
 impl<A: Allocator + Clone> Trace<A> {
     /// The trace of these events, or the first of them that breaks a rule, with its place, counted from 0, and the first
-    /// rule that it breaks; `Memory` where memory ran out before such an event came.
+    /// rule that it breaks; `Memory` where memory ran out before such an event came. Nothing is prepared in it.
     pub fn from_events(
         alloc: A,
         setup: Setup,

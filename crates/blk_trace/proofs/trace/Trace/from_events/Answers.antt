@@ -28,4 +28,4 @@ returns-clause-answer g c =
     let h = c.in-None.ensures.steps.0 in
     let none : into_iter_items c.loop-event.event-iterator ≡ [] = nothing _ (omega (arith, h, c.loop-event.event-iterator.rest.ok.0)) in
     let whole : c.args.events.items ≡ c.loop-event.yielded = i.rest ∙ ap (λ l. c.loop-event.yielded ++ l) none ∙ append-nil c.loop-event.yielded in
-    (i.setup_same, i.events_same ∙ (sym whole), subst (λ (l : List Happened). IsLegalTrace c.args.setup l) ((sym whole)) i.legal)
+    (i.setup_same, i.events_same ∙ (sym whole), i.unprepared, subst (λ (l : List Happened). IsLegalTrace c.args.setup l) ((sym whole)) i.legal)
