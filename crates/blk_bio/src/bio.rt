@@ -12,7 +12,7 @@ use crate::extent::Extent;
 use std::marker::Model;
 
 /// No bio reaches past this sector: 2^48, in sectors from the device's beginning.
-pub const SECTOR_LIMIT: u64 = 1 << 48;
+pub const MAX_END: u64 = 1 << 48;
 
 /// Which way a bio's data goes, as `REQ_OP_READ` and `REQ_OP_WRITE` of Linux say.
 #[derive(Clone, Copy, Debug, PartialEq, Eq)]
@@ -64,7 +64,7 @@ pub struct BioId {
 pub enum BioFault {
     /// It has 0 sectors.
     Empty,
-    /// It ends past [`SECTOR_LIMIT`].
+    /// It ends past [`MAX_END`].
     Range,
 }
 
@@ -80,7 +80,7 @@ impl BioFault {
     }
 }
 
-/// A transfer of `sectors` sectors from sector `first` on, at least one, that ends at most at [`SECTOR_LIMIT`].
+/// A transfer of `sectors` sectors from sector `first` on, at least one, that ends at most at [`MAX_END`].
 #[derive(Clone, Copy, Debug, PartialEq, Eq)]
 pub struct Bio {
     id: BioId,
@@ -104,14 +104,14 @@ impl Model for Bio {
 
 impl Bio {
     /// A bio of the `sectors` sectors from `first` on. Refused as `Empty` for 0 sectors, and then as `Range` where
-    /// `first + sectors` passes [`SECTOR_LIMIT`]; a bio may end just there.
+    /// `first + sectors` passes [`MAX_END`]; a bio may end just there.
     pub fn new(id: BioId, dir: Dir, first: u64, sectors: u64) -> Result<Bio, BioFault>
         ensures { IsBioAnswer id dir first sectors result }
     {
         if sectors == 0 {
             return Err(BioFault::Empty);
         }
-        if first > SECTOR_LIMIT || sectors > SECTOR_LIMIT - first {
+        if first > MAX_END || sectors > MAX_END - first {
             return Err(BioFault::Range);
         }
         Ok(Bio {

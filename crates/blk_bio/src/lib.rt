@@ -12,7 +12,7 @@ pub mod limits;
 pub mod request;
 pub mod rule;
 
-pub use crate::bio::{Bio, BioFault, BioId, Dir, SECTOR_LIMIT};
+pub use crate::bio::{Bio, BioFault, BioId, Dir, MAX_END};
 pub use crate::extent::Extent;
 pub use crate::limits::{
     Limits, LimitsFault, MAX_QUEUES, MAX_SECTORS, MAX_SEGMENTS, MAX_SOFT_DEPTH, MAX_SOFT_QUEUES,

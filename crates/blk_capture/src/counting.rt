@@ -80,7 +80,7 @@ fn command_at(requests: &[Served], place: usize, request: Served) -> Command
 /// before it came in, and due in the last round that went out by its deadline; where none went out between the two, that round
 /// is the one before its release. So it runs after its due round exactly where it went out after its deadline.
 ///
-/// At most [`edd_check::MOST_COMMANDS`] requests, as [`are_served`] tells. Fails for want of memory alone. The time grows as n log n.
+/// At most [`edd_check::MAX_COMMANDS`] requests, as [`are_served`] tells. Fails for want of memory alone. The time grows as n log n.
 pub fn count_rounds<A: Allocator + Clone>(
     alloc: A,
     requests: &[Served],

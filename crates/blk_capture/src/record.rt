@@ -2,7 +2,7 @@
 
 ghost use Rattle.std.specs.Prelude.{◌<◌};
 
-use blk_bio::{Dir, SECTOR_LIMIT};
+use blk_bio::{Dir, MAX_END};
 
 /// What a record says was done, by blktrace's letters.
 #[derive(Clone, Copy, Debug, PartialEq, Eq)]
@@ -70,11 +70,11 @@ impl Range {
         }
     }
 
-    /// The range of a record; None where it moves no data, has no sectors, or ends past [`SECTOR_LIMIT`].
+    /// The range of a record; None where it moves no data, has no sectors, or ends past [`MAX_END`].
     pub(crate) fn of(record: &Record) -> Option<Range> {
         let dir = record.dir?;
         let end = record.first.checked_add(record.sectors)?;
-        if end > SECTOR_LIMIT {
+        if end > MAX_END {
             return None;
         }
         Range::new(dir, record.first, end)

@@ -16,7 +16,7 @@ use crate::matching::{Fate, Matching, Opened};
 use crate::members::Queued;
 use crate::record::{Action, Record};
 use blk_bio::Dir;
-use edd_check::MOST_COMMANDS;
+use edd_check::MAX_COMMANDS;
 use std::alloc::{AllocError, Allocator, Global};
 
 /// From when on a request counts as come in.
@@ -444,7 +444,7 @@ fn settle<A: Allocator + Clone>(
 /// request is told by the rules of the crate's page; what a record speaks of may be unknown, and stops nothing.
 ///
 /// Refused as `Order` where a record has an earlier time than the one before it, as `TooMany` where more than
-/// [`edd_check::MOST_COMMANDS`] requests are taken, and for want of memory. The time grows as n log n in the number of records.
+/// [`edd_check::MAX_COMMANDS`] requests are taken, and for want of memory. The time grows as n log n in the number of records.
 pub fn match_records<A: Allocator + Clone>(
     alloc: A,
     records: &[Record],
@@ -468,7 +468,7 @@ pub fn match_records<A: Allocator + Clone>(
     let Ok(matched) = match_in_order(alloc, records, options) else {
         return Err(CaptureFault::Memory);
     };
-    if matched.requests.len() as u64 > MOST_COMMANDS {
+    if matched.requests.len() as u64 > MAX_COMMANDS {
         return Err(CaptureFault::TooMany);
     }
     Ok(matched)

@@ -9,7 +9,7 @@ use blk_layer::{
     Device, DrainFault, FlushFault, FlushWhy, Flushed, Layer, LayerIssueFault, Named, Ran,
     Submitter, WorkFault, Worked, Worker,
 };
-use blk_plug::{Added, PLUG_REQUESTS, Plug, PlugFault};
+use blk_plug::{Added, MAX_STAGED, Plug, PlugFault};
 use blk_sched::Scheduler;
 use edd_check::Command;
 use std::alloc::Allocator;
@@ -110,7 +110,7 @@ fn fills<R: Abort + Wait, S: Scheduler, L: Named>(
         let serial = from.saturating_add(place);
         let first = serial.saturating_mul(100) % 1_000_000;
         let added = adds(rt, plug, submitter.number(), serial, first);
-        let full = plug.len() == PLUG_REQUESTS || place.saturating_add(1) == count;
+        let full = plug.len() == MAX_STAGED || place.saturating_add(1) == count;
         if !added || (full && flush(rt, layer, submitter, plug).is_err()) {
             return false;
         }

@@ -34,7 +34,7 @@ use Rattle.blk_lists.proofs.Each.{size_is, rows_map, all_fit, each_tells, each_d
 use Rattle.blk_lists.proofs.Reading.{then_reads, ends_halt, first_halts, second_halts}
 use Rattle.blk_lists.proofs.Counted.{counted_one, counted_decides}
 use Rattle.blk_lists.proofs.Texts.{text_back, parts_back, begins_itself}
-use Rattle.edd_check.specs.declared.TheConstants.{ROUND_LIMIT}
+use Rattle.edd_check.specs.declared.TheConstants.{MAX_ROUNDS}
 
 -- the tables
 
@@ -153,11 +153,11 @@ bound_decides : (count : ℕ) → Decides (bound count)
 bound_decides count = seen_decides kind_of (by_word Bound (TellsBound count) (bound_kind count) (NextWrong why.Word (HasNoWord 4))) (λ v f. (bound_of v.0 v.1, bound_back v.0 v.1))
     (by_word_decides Bound (TellsBound count) (bound_kind count) (NextWrong why.Word (HasNoWord 4)) (kind_decided count) (kind_found count))
 
-late_in : (z : ℤ) → IsLateness z → IsUpTo (ROUND_LIMIT - 1) z
+late_in : (z : ℤ) → IsLateness z → IsUpTo (MAX_ROUNDS - 1) z
 late_in (pos n) h = omega (arith, h)
 late_in (negsuc n) h = omega (arith, h)
 
-late_out : (z : ℤ) → IsUpTo (ROUND_LIMIT - 1) z → IsLateness z
+late_out : (z : ℤ) → IsUpTo (MAX_ROUNDS - 1) z → IsLateness z
 late_out (pos n) h = omega (arith, h)
 late_out (negsuc n) h = omega (arith, h)
 
@@ -189,11 +189,11 @@ pub claim_decides : Decides claim_form
 claim_decides = then_decides title (λ t. claim_body t.1.1) (counted_decides (codes "blk-certificate"))
     (λ t fit. then_decides (bound t.1.1) (λ b. items_of (repeats.Exactly t.1.1) (λ _. served_record)) (bound_decides t.1.1) (λ b fit. served_decides t.1.1))
 
-pub all_zip : (cs : List Command) (rs : List ℕ) → All IsCommandInRange cs → All (λ x. x < ROUND_LIMIT) rs → All IsServed (zip cs rs)
+pub all_zip : (cs : List Command) (rs : List ℕ) → All IsCommandInRange cs → All (λ x. x < MAX_ROUNDS) rs → All IsServed (zip cs rs)
 all_zip [] rs p q = λ k d l. absurd (omega arith)
 all_zip (c ∷ cs) [] p q = λ k d l. absurd (omega arith)
 all_zip (c ∷ cs) (r ∷ rs) p q =
-    all_cons IsServed (c, r) (zip cs rs) (head_of IsCommandInRange c cs p, head_of (λ x. x < ROUND_LIMIT) r rs q) (all_zip cs rs (tail_of IsCommandInRange c cs p) (tail_of (λ x. x < ROUND_LIMIT) r rs q))
+    all_cons IsServed (c, r) (zip cs rs) (head_of IsCommandInRange c cs p, head_of (λ x. x < MAX_ROUNDS) r rs q) (all_zip cs rs (tail_of IsCommandInRange c cs p) (tail_of (λ x. x < MAX_ROUNDS) r rs q))
 
 pub firsts_zip : (cs : List Command) (rs : List ℕ) → length rs ≡ length cs → map (λ (s : Command × ℕ). s.0) (zip cs rs) ≡ cs
 firsts_zip [] rs e = refl
@@ -269,8 +269,8 @@ seconds = map (λ s. s.1)
 pub all_first : (served : List (Command × ℕ)) → All IsServed served → All IsCommandInRange (firsts served)
 all_first served h = All-map IsCommandInRange (λ s. s.0) served (λ k d l. (h k d l).0)
 
-pub all_second : (served : List (Command × ℕ)) → All IsServed served → All (λ x. x < ROUND_LIMIT) (seconds served)
-all_second served h = All-map (λ x. x < ROUND_LIMIT) (λ s. s.1) served (λ k d l. (h k d l).1)
+pub all_second : (served : List (Command × ℕ)) → All IsServed served → All (λ x. x < MAX_ROUNDS) (seconds served)
+all_second served h = All-map (λ x. x < MAX_ROUNDS) (λ s. s.1) served (λ k d l. (h k d l).1)
 
 pub zipped : (served : List (Command × ℕ)) → zip (firsts served) (seconds served) ≡ served
 zipped [] = refl
@@ -322,7 +322,7 @@ claim_whole (Some rows) mid version depth count c t v u d n o =
     (o, subst (λ t. Spells claim_form rows (t, claim_told c)) (λ i. (one i, (sym d i, sym n i))) (then_reads title (λ t. claim_body t.1.1) (Some rows) mid (version, (depth, count)) (claim_told c) t u))
 
 -- a size after a minus is that of a number below 0
-pub negative_text : (f ds : List ℕ) (n : ℕ) (z : ℤ) → f ≡ 45 ∷ ds → IsSized f n → n < ROUND_LIMIT → (0 < n → z ≡ negsuc (n - 1)) → f ≡ signed_decimal z
+pub negative_text : (f ds : List ℕ) (n : ℕ) (z : ℤ) → f ≡ 45 ∷ ds → IsSized f n → n < MAX_ROUNDS → (0 < n → z ≡ negsuc (n - 1)) → f ≡ signed_decimal z
 negative_text f ds n z e (inl a) h k = absurd (no_minus n (omega (arith, h)) ds (sym e ∙ a))
 negative_text f ds n z e (inr b) h k =
     let up : n ≡ suc (n - 1) = omega (arith, b.0) in

@@ -20,7 +20,7 @@ use Rattle.blk_lists.proofs.TableLaws.{IsTable, table_tells, table_decides, titl
 use Rattle.blk_lists.proofs.Each.{rows_map, all_fit, each_tells, each_decides, one_record, one_version}
 use Rattle.blk_lists.proofs.Reading.{then_reads, first_halts, second_halts}
 use Rattle.blk_lists.proofs.Texts.{text_back, parts_back, begins_itself}
-use Rattle.edd_check.specs.declared.TheConstants.{MOST_COMMANDS}
+use Rattle.edd_check.specs.declared.TheConstants.{MAX_COMMANDS}
 
 pub title_table : (version : ℕ) → IsTable (depth_cells version) IsDepth
 title_table version = record { sized = (omega arith, tt); within = λ v f. (f, tt); made = λ x. x.0; back = λ v f. refl; forth = λ x. refl; fits = λ x f. f.0 }
@@ -45,11 +45,11 @@ pub command_one : IsOne command
 command_one = one_record (row_by command_cells) IsCommandInRange why.Count (Lacks (slots_by command_cells)) (table_tells command_cells IsCommandInRange command_table)
 
 pub list_tells : Tells command_list
-list_tells = then_tells title (λ t. items_of (repeats.AtMost MOST_COMMANDS) (λ _. command)) title_one.tells (λ t fit. each_tells command command_one (repeats.AtMost MOST_COMMANDS))
+list_tells = then_tells title (λ t. items_of (repeats.AtMost MAX_COMMANDS) (λ _. command)) title_one.tells (λ t fit. each_tells command command_one (repeats.AtMost MAX_COMMANDS))
 
 list_decides : Decides command_list
-list_decides = then_decides title (λ t. items_of (repeats.AtMost MOST_COMMANDS) (λ _. command)) (title_decides (codes "blk-commands") 1 depth_cells (λ _. IsDepth) (omega arith) title_table)
-    (λ t fit. each_decides command (record_decides (row_by command_cells) IsCommandInRange why.Count (Lacks (slots_by command_cells)) (table_decides command_cells IsCommandInRange command_table)) (repeats.AtMost MOST_COMMANDS))
+list_decides = then_decides title (λ t. items_of (repeats.AtMost MAX_COMMANDS) (λ _. command)) (title_decides (codes "blk-commands") 1 depth_cells (λ _. IsDepth) (omega arith) title_table)
+    (λ t fit. each_decides command (record_decides (row_by command_cells) IsCommandInRange why.Count (Lacks (slots_by command_cells)) (table_decides command_cells IsCommandInRange command_table)) (repeats.AtMost MAX_COMMANDS))
 
 -- records that were taken for a title and commands spell them
 list_spelled : (rows : List Row) (version depth : ℕ) (commands : List Command) → IsVersion 1 version → Spells command_list rows ((version, depth), commands) → SpellsCommands rows depth commands
@@ -84,17 +84,17 @@ spelled_once rows depth other commands others s t =
 -- reading
 
 pub list_read : (left mid : Option (List Row)) (version depth : ℕ) (commands : List Command) → Reads title left mid (version, depth) → IsVersion 1 version
-    → IfSome mid (λ rows. Begins (items_of (repeats.AtMost MOST_COMMANDS) (λ _. command)) rows commands []) → IfSome left (λ rows. SpellsCommands rows depth commands)
+    → IfSome mid (λ rows. Begins (items_of (repeats.AtMost MAX_COMMANDS) (λ _. command)) rows commands []) → IfSome left (λ rows. SpellsCommands rows depth commands)
 list_read None mid version depth commands h v k = tt
 list_read (Some rows) mid version depth commands h v k =
-    list_spelled rows version depth commands v (then_reads title (λ t. items_of (repeats.AtMost MOST_COMMANDS) (λ _. command)) (Some rows) mid (version, depth) commands h k)
+    list_spelled rows version depth commands v (then_reads title (λ t. items_of (repeats.AtMost MAX_COMMANDS) (λ _. command)) (Some rows) mid (version, depth) commands h k)
 
 -- where reading halts
 
 pub title_halts : (failed : Bool) (left : Option (List Row)) (start at : ℕ) (w : Why) → start ≡ 0 → Halts failed title left start at w → Halts failed command_list left 0 at w
 title_halts failed left start at w e h =
-    first_halts failed title (λ t. items_of (repeats.AtMost MOST_COMMANDS) (λ _. command)) left 0 at w (λ t fit. each_tells command command_one (repeats.AtMost MOST_COMMANDS)) (rw e at h)
+    first_halts failed title (λ t. items_of (repeats.AtMost MAX_COMMANDS) (λ _. command)) left 0 at w (λ t fit. each_tells command command_one (repeats.AtMost MAX_COMMANDS)) (rw e at h)
 
-pub list_halts : (failed : Bool) (left mid : Option (List Row)) (t : ℕ × ℕ) (middle at : ℕ) (w : Why) → middle ≡ 1 → Reads title left mid t → Halts failed (items_of (repeats.AtMost MOST_COMMANDS) (λ _. command)) mid middle at w
+pub list_halts : (failed : Bool) (left mid : Option (List Row)) (t : ℕ × ℕ) (middle at : ℕ) (w : Why) → middle ≡ 1 → Reads title left mid t → Halts failed (items_of (repeats.AtMost MAX_COMMANDS) (λ _. command)) mid middle at w
     → Halts failed command_list left 0 at w
-list_halts failed left mid t middle at w e r h = second_halts failed title (λ t. items_of (repeats.AtMost MOST_COMMANDS) (λ _. command)) left mid t 0 middle at w title_one.tells r (omega (arith, e)) h
+list_halts failed left mid t middle at w e r h = second_halts failed title (λ t. items_of (repeats.AtMost MAX_COMMANDS) (λ _. command)) left mid t 0 middle at w title_one.tells r (omega (arith, e)) h

@@ -1,8 +1,8 @@
 -- A certificate: a title, a bound, and a record for each command with its round.
 use Rattle.std.specs.Prelude.{◌≡◌, ◌≤◌, ◌<◌, ◌^◌, ◌-◌, ℕ, ℤ, zero, suc, pos, negsuc, List, [], ◌∷◌, length, codes, All, Option, Some, None}
 use Rattle.std.specs.List.{zip}
-use Rattle.edd_check.specs.declared.TheConstants.{MOST_COMMANDS, ROUND_LIMIT, RELEASE_LIMIT}
-use Rattle.edd_check.specs.declared.steps.TheConstants.{MOST_DEPTH}
+use Rattle.edd_check.specs.declared.TheConstants.{MAX_COMMANDS, MAX_ROUNDS, MAX_RELEASES}
+use Rattle.edd_check.specs.declared.steps.TheConstants.{MAX_DEPTH}
 use Rattle.edd_check.specs.declared.Command.{Command}
 use Rattle.edd_check.specs.declared.Window.{Window}
 use Rattle.blk_lists.specs.Sources.{Row}
@@ -35,11 +35,11 @@ first_round (suc count) = 0
 
 abbrev pub last_round : ℕ → ℕ
 last_round zero = 0
-last_round (suc count) = ROUND_LIMIT - 1
+last_round (suc count) = MAX_ROUNDS - 1
 
 -- bound, lateness, window's from, window's due
 abbrev pub bound_cells : ℕ → List (Cell (ℤ × Window))
-bound_cells count = Signed (ROUND_LIMIT - 1) (λ b. b.0) ∷ Number (first_round count) (last_round count) (λ b. b.1.from) ∷ Number (first_round count) (last_round count) (λ b. b.1.due) ∷ []
+bound_cells count = Signed (MAX_ROUNDS - 1) (λ b. b.0) ∷ Number (first_round count) (last_round count) (λ b. b.1.from) ∷ Number (first_round count) (last_round count) (λ b. b.1.due) ∷ []
 
 -- no bound
 abbrev pub no_bound_row : Row
@@ -47,30 +47,30 @@ no_bound_row = codes "bound" ∷ codes "none" ∷ codes "none" ∷ codes "none" 
 
 -- each command: id, release, due, round
 abbrev pub served_cells : List (Cell (Command × ℕ))
-served_cells = Number 0 (2 ^ 64 - 1) (λ s. s.0.id) ∷ Number 0 (RELEASE_LIMIT - 1) (λ s. s.0.release) ∷ Number 0 (ROUND_LIMIT - 1) (λ s. s.0.due) ∷ Number 0 (ROUND_LIMIT - 1) (λ s. s.1) ∷ []
+served_cells = Number 0 (2 ^ 64 - 1) (λ s. s.0.id) ∷ Number 0 (MAX_RELEASES - 1) (λ s. s.0.release) ∷ Number 0 (MAX_ROUNDS - 1) (λ s. s.0.due) ∷ Number 0 (MAX_ROUNDS - 1) (λ s. s.1) ∷ []
 
 -- the numbers of a command and its round lie in their ranges
 abbrev pub IsServed : Command × ℕ → Type 0
-IsServed s = IsCommandInRange s.0 × (s.1 < ROUND_LIMIT)
+IsServed s = IsCommandInRange s.0 × (s.1 < MAX_ROUNDS)
 
 -- a lateness is above -2^41 and below 2^41
 abbrev pub IsLateness : ℤ → Type 0
-IsLateness (pos n) = n < ROUND_LIMIT
-IsLateness (negsuc n) = suc n < ROUND_LIMIT
+IsLateness (pos n) = n < MAX_ROUNDS
+IsLateness (negsuc n) = suc n < MAX_ROUNDS
 
 -- a bound stands exactly beside commands, and its numbers lie in their ranges
 abbrev pub IsBound : ℕ → Option (ℤ × Window) → Type 0
 IsBound count None = count ≡ 0
-IsBound count (Some b) = (0 < count) × IsLateness b.0 × (b.1.from < ROUND_LIMIT) × (b.1.due < ROUND_LIMIT)
+IsBound count (Some b) = (0 < count) × IsLateness b.0 × (b.1.from < MAX_ROUNDS) × (b.1.due < MAX_ROUNDS)
 
 -- a round for each command, and each number in its range
 pub record IsClaim (c : Claim) : Type 0 where
-  pub depth : (1 ≤ c.depth) × (c.depth ≤ MOST_DEPTH)
-  pub few : length c.commands ≤ MOST_COMMANDS
+  pub depth : (1 ≤ c.depth) × (c.depth ≤ MAX_DEPTH)
+  pub few : length c.commands ≤ MAX_COMMANDS
   pub one_each : length c.rounds ≡ length c.commands
   pub bound : IsBound (length c.commands) c.bound
   pub commands : All IsCommandInRange c.commands
-  pub rounds : All (λ x. x < ROUND_LIMIT) c.rounds
+  pub rounds : All (λ x. x < MAX_ROUNDS) c.rounds
 
 -- the record of a bound, or of none
 abbrev pub bound_row : Option (ℤ × Window) → Row

@@ -1,7 +1,7 @@
 -- A command list: a title, and a record for each command.
 use Rattle.std.specs.Prelude.{◌≤◌, ◌<◌, ◌-◌, ◌^◌, ℕ, List, [], ◌∷◌, length, codes, All}
-use Rattle.edd_check.specs.declared.TheConstants.{MOST_COMMANDS, ROUND_LIMIT, RELEASE_LIMIT}
-use Rattle.edd_check.specs.declared.steps.TheConstants.{MOST_DEPTH}
+use Rattle.edd_check.specs.declared.TheConstants.{MAX_COMMANDS, MAX_ROUNDS, MAX_RELEASES}
+use Rattle.edd_check.specs.declared.steps.TheConstants.{MAX_DEPTH}
 use Rattle.edd_check.specs.declared.Command.{Command}
 use Rattle.blk_lists.specs.Sources.{Row}
 use Rattle.blk_lists.specs.Reads.{items_of}
@@ -13,19 +13,19 @@ use Rattle.parts.specs.Parts.{Part, then, Spells}
 
 -- title: blk-commands, 1, depth
 abbrev pub depth_cells : ℕ → List (Cell ℕ)
-depth_cells version = Number 1 MOST_DEPTH (λ depth. depth) ∷ []
+depth_cells version = Number 1 MAX_DEPTH (λ depth. depth) ∷ []
 
 -- each command: id, release, due
 abbrev pub command_cells : List (Cell Command)
-command_cells = Number 0 (2 ^ 64 - 1) (λ c. c.id) ∷ Number 0 (RELEASE_LIMIT - 1) (λ c. c.release) ∷ Number 0 (ROUND_LIMIT - 1) (λ c. c.due) ∷ []
+command_cells = Number 0 (2 ^ 64 - 1) (λ c. c.id) ∷ Number 0 (MAX_RELEASES - 1) (λ c. c.release) ∷ Number 0 (MAX_ROUNDS - 1) (λ c. c.due) ∷ []
 
 -- a depth of a command list
 abbrev pub IsDepth : ℕ → Type 0
-IsDepth depth = (1 ≤ depth) × (depth ≤ MOST_DEPTH)
+IsDepth depth = (1 ≤ depth) × (depth ≤ MAX_DEPTH)
 
 -- the numbers of a command lie in their ranges
 abbrev pub IsCommandInRange : Command → Type 0
-IsCommandInRange c = (c.id < 2 ^ 64) × (c.release < RELEASE_LIMIT) × (c.due < ROUND_LIMIT)
+IsCommandInRange c = (c.id < 2 ^ 64) × (c.release < MAX_RELEASES) × (c.due < MAX_ROUNDS)
 
 abbrev pub title : Part Row Why (ℕ × ℕ)
 title = title_record (codes "blk-commands") 1 depth_cells (λ _. IsDepth)
@@ -35,11 +35,11 @@ command = table_record why.Count command_cells IsCommandInRange
 
 -- a title with the depth, and commands, at most so many
 abbrev pub command_list : Part Row Why ((ℕ × ℕ) × List Command)
-command_list = then title (λ t. items_of (repeats.AtMost MOST_COMMANDS) (λ _. command))
+command_list = then title (λ t. items_of (repeats.AtMost MAX_COMMANDS) (λ _. command))
 
 -- a depth and commands that a command list can spell
 abbrev pub AreCommands : ℕ → List Command → Type 0
-AreCommands depth commands = (1 ≤ depth) × (depth ≤ MOST_DEPTH) × (length commands ≤ MOST_COMMANDS) × All IsCommandInRange commands
+AreCommands depth commands = (1 ≤ depth) × (depth ≤ MAX_DEPTH) × (length commands ≤ MAX_COMMANDS) × All IsCommandInRange commands
 
 -- the records of a depth and a list of commands
 abbrev pub commands_rows : ℕ → List Command → List Row

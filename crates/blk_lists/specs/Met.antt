@@ -2,8 +2,8 @@
 -- record for each command with its round.
 use Rattle.std.specs.Prelude.{◌≡◌, ◌≤◌, ◌<◌, ◌-◌, ℕ, List, [], ◌∷◌, length, codes, All}
 use Rattle.std.specs.List.{zip}
-use Rattle.edd_check.specs.declared.TheConstants.{MOST_COMMANDS, ROUND_LIMIT}
-use Rattle.edd_check.specs.declared.steps.TheConstants.{MOST_DEPTH}
+use Rattle.edd_check.specs.declared.TheConstants.{MAX_COMMANDS, MAX_ROUNDS}
+use Rattle.edd_check.specs.declared.steps.TheConstants.{MAX_DEPTH}
 use Rattle.edd_check.specs.declared.Command.{Command}
 use Rattle.edd_check.specs.declared.Window.{Window}
 use Rattle.edd_check.specs.Window.{WindowInRange}
@@ -33,25 +33,25 @@ met_claimed c = record { depth = c.depth; commands = c.commands.items; rounds = 
 
 -- met, number of commands met, number of windows, empty
 abbrev pub met_cells : List (Cell (ℕ × ℕ))
-met_cells = Number 0 MOST_COMMANDS (λ n. n.0) ∷ Number 0 MOST_COMMANDS (λ n. n.1) ∷ Blank ∷ []
+met_cells = Number 0 MAX_COMMANDS (λ n. n.0) ∷ Number 0 MAX_COMMANDS (λ n. n.1) ∷ Blank ∷ []
 
 -- window, from, until, empty
 abbrev pub window_cells : List (Cell Window)
-window_cells = Number 0 (ROUND_LIMIT - 1) (λ w. w.from) ∷ Number 0 (ROUND_LIMIT - 1) (λ w. w.due) ∷ Blank ∷ []
+window_cells = Number 0 (MAX_ROUNDS - 1) (λ w. w.from) ∷ Number 0 (MAX_ROUNDS - 1) (λ w. w.due) ∷ Blank ∷ []
 
 -- a number of commands met and a number of windows
 abbrev pub AreFew : ℕ × ℕ → Type 0
-AreFew n = (n.0 ≤ MOST_COMMANDS) × (n.1 ≤ MOST_COMMANDS)
+AreFew n = (n.0 ≤ MAX_COMMANDS) × (n.1 ≤ MAX_COMMANDS)
 
 -- a round for each command, and each number in its range; whether the windows are a cover is not looked at
 pub record IsMetClaim (c : MetClaim) : Type 0 where
-  pub depth : (1 ≤ c.depth) × (c.depth ≤ MOST_DEPTH)
-  pub few : length c.commands ≤ MOST_COMMANDS
+  pub depth : (1 ≤ c.depth) × (c.depth ≤ MAX_DEPTH)
+  pub few : length c.commands ≤ MAX_COMMANDS
   pub one_each : length c.rounds ≡ length c.commands
   pub numbers : AreFew (c.met, length c.cover)
   pub cover : All WindowInRange c.cover
   pub commands : All IsCommandInRange c.commands
-  pub rounds : All (λ x. x < ROUND_LIMIT) c.rounds
+  pub rounds : All (λ x. x < MAX_ROUNDS) c.rounds
 
 abbrev pub met_title : Part Row Why (ℕ × (ℕ × ℕ))
 met_title = counted_title (codes "blk-met")

@@ -1,7 +1,7 @@
 -- The titles of forms that give a depth and a number of commands.
 use Rattle.std.specs.Prelude.{◌≤◌, ℕ, List, [], ◌∷◌}
-use Rattle.edd_check.specs.declared.TheConstants.{MOST_COMMANDS}
-use Rattle.edd_check.specs.declared.steps.TheConstants.{MOST_DEPTH}
+use Rattle.edd_check.specs.declared.TheConstants.{MAX_COMMANDS}
+use Rattle.edd_check.specs.declared.steps.TheConstants.{MAX_DEPTH}
 use Rattle.blk_lists.specs.Sources.{Row}
 use Rattle.blk_lists.specs.Tables.{Cell, Number, title_record}
 use Rattle.blk_lists.specs.declared.fault.Why.{Why}
@@ -9,11 +9,11 @@ use Rattle.parts.specs.Parts.{Part}
 
 -- title: the form's name, 1, depth, number of commands
 abbrev pub counted_cells : ℕ → List (Cell (ℕ × ℕ))
-counted_cells version = Number 1 MOST_DEPTH (λ t. t.0) ∷ Number 0 MOST_COMMANDS (λ t. t.1) ∷ []
+counted_cells version = Number 1 MAX_DEPTH (λ t. t.0) ∷ Number 0 MAX_COMMANDS (λ t. t.1) ∷ []
 
 -- a depth and a number of commands
 abbrev pub IsCounted : ℕ × ℕ → Type 0
-IsCounted t = (1 ≤ t.0) × (t.0 ≤ MOST_DEPTH) × (t.1 ≤ MOST_COMMANDS)
+IsCounted t = (1 ≤ t.0) × (t.0 ≤ MAX_DEPTH) × (t.1 ≤ MAX_COMMANDS)
 
 -- the title of a form of this name
 abbrev pub counted_title : List ℕ → Part Row Why (ℕ × (ℕ × ℕ))

@@ -25,7 +25,7 @@ use crate::titles::counted_title;
 use csv::ByteRecord;
 use drafts::pieces::{put, put_two};
 use drafts::{Block, WriteFault, write_whole};
-use edd_check::{Command, MOST_COMMANDS, RELEASE_LIMIT, ROUND_LIMIT, Window};
+use edd_check::{Command, MAX_COMMANDS, MAX_RELEASES, MAX_ROUNDS, Window};
 use parts::Repeats;
 use std::alloc::{AllocError, Global};
 use std::io::{Read, Write};
@@ -108,7 +108,7 @@ impl LineForm for ServedForm {
     fn line(&self, row: &ByteRecord) -> Result<(Command, u64), Why> {
         let round = Slot::Number {
             least: 0,
-            most: ROUND_LIMIT - 1,
+            most: MAX_ROUNDS - 1,
         };
         let slots = [
             Slot::Number {
@@ -117,7 +117,7 @@ impl LineForm for ServedForm {
             },
             Slot::Number {
                 least: 0,
-                most: RELEASE_LIMIT - 1,
+                most: MAX_RELEASES - 1,
             },
             round,
             round,
@@ -139,9 +139,9 @@ impl LineForm for ServedForm {
 /// The lateness of a field, by its size.
 fn lateness_of(field: &[u8], size: u64) -> i64
     requires sized { IsSized field.now size }
-    requires small { size < ROUND_LIMIT }
+    requires small { size < MAX_ROUNDS }
     ensures text { field.now ≡ signed_decimal result }
-    ensures range { IsUpTo (ROUND_LIMIT - 1) result }
+    ensures range { IsUpTo (MAX_ROUNDS - 1) result }
 {
     match after_minus(field) {
         Some(_) => -(size as i64),
@@ -182,7 +182,7 @@ fn bound_slots(count: u64) -> [Slot; 4]
     ensures { result ≡ slot.Given ∷ slots_by (bound_cells count) }
 {
     let late = Slot::Lateness {
-        most: ROUND_LIMIT - 1,
+        most: MAX_ROUNDS - 1,
     };
     if count == 0 {
         let none = Slot::Number { least: 1, most: 0 };
@@ -190,7 +190,7 @@ fn bound_slots(count: u64) -> [Slot; 4]
     }
     let round = Slot::Number {
         least: 0,
-        most: ROUND_LIMIT - 1,
+        most: MAX_ROUNDS - 1,
     };
     [Slot::Given, late, round, round]
 }
@@ -252,7 +252,7 @@ pub(crate) fn read_claim_body<R: Read + Drop>(
     ensures in_range { IfOk result (λ c. IsClaim (claimed c)) }
     ensures last { IfErr result (λ f. f.at ≡ records.new.at) }
     ensures err { IfErr result (λ f. Halts records.new.failed (claim_body count) records.old.left 1 f.at f.why) }
-    ensures reads { (2 ≤ records.new.at) × (records.new.at ≤ MOST_COMMANDS + 3) }
+    ensures reads { (2 ≤ records.new.at) × (records.new.at ≤ MAX_COMMANDS + 3) }
     ensures end { IfOk result (λ c. records.new.at ≡ length c.commands.items + 3) }
 {
     let bound = match read_line(records, &BoundForm { count }) {
@@ -295,7 +295,7 @@ pub fn read_certificate<R: Read + Drop>(
         IsOutside records.new.failed f.why ⊎ ClaimFault rows f.at f.why)) }
     // also where it came from outside: at most one past the last record, and no record before it is wrong
     ensures reached { IfErr result (λ f. Reaches claim_form records.old.left 0 f.at) }
-    ensures reads { (1 ≤ records.new.at) × (records.new.at ≤ MOST_COMMANDS + 3) }
+    ensures reads { (1 ≤ records.new.at) × (records.new.at ≤ MAX_COMMANDS + 3) }
     // the last thing that was asked for is the record after the commands, which there is not
     ensures end { IfOk result (λ c. records.new.at ≡ length c.commands.items + 3) }
 {

@@ -18,7 +18,7 @@ use crate::source::Records;
 use csv::ByteRecord;
 use drafts::pieces::{put, put_number, put_two};
 use drafts::{Block, WriteFault, write_whole};
-use edd_check::{Command, MOST_COMMANDS, MOST_DEPTH, RELEASE_LIMIT, ROUND_LIMIT};
+use edd_check::{Command, MAX_COMMANDS, MAX_DEPTH, MAX_RELEASES, MAX_ROUNDS};
 use parts::Repeats;
 use std::alloc::{AllocError, Global};
 use std::io::{Read, Write};
@@ -48,7 +48,7 @@ impl LineForm for TitleForm {
             Slot::Given,
             Slot::Number {
                 least: 1,
-                most: MOST_DEPTH,
+                most: MAX_DEPTH,
             },
         ];
         match read_fields(row, &slots) {
@@ -82,11 +82,11 @@ impl LineForm for CommandForm {
             },
             Slot::Number {
                 least: 0,
-                most: RELEASE_LIMIT - 1,
+                most: MAX_RELEASES - 1,
             },
             Slot::Number {
                 least: 0,
-                most: ROUND_LIMIT - 1,
+                most: MAX_ROUNDS - 1,
             },
         ];
         match read_fields(row, &slots) {
@@ -120,7 +120,7 @@ pub fn read_commands<R: Read + Drop>(
         IsOutside records.new.failed f.why ⊎ CommandsFault rows f.at f.why)) }
     // also where it came from outside: at most one past the last record, and no record before it is wrong
     ensures reached { IfErr result (λ f. Reaches command_list records.old.left 0 f.at) }
-    ensures reads { (1 ≤ records.new.at) × (records.new.at ≤ MOST_COMMANDS + 2) }
+    ensures reads { (1 ≤ records.new.at) × (records.new.at ≤ MAX_COMMANDS + 2) }
     // the last thing that was asked for is the record after the commands, which there is not
     ensures end { IfOk result (λ v. records.new.at ≡ length v.1.items + 2) }
 {
@@ -128,7 +128,7 @@ pub fn read_commands<R: Read + Drop>(
         Ok(title) => title,
         Err(fault) => return Err(fault),
     };
-    match read_lines(alloc, records, CommandForm, Repeats::AtMost(MOST_COMMANDS)) {
+    match read_lines(alloc, records, CommandForm, Repeats::AtMost(MAX_COMMANDS)) {
         Ok(commands) => Ok((depth, commands)),
         Err(fault) => Err(fault),
     }

@@ -37,12 +37,12 @@ pub const ANY: Slot = Slot::Number {
 };
 
 /// Every tag of a record lies below this.
-pub const TAG_LIMIT: u64 = 1 << 16;
+pub const MAX_TAGS: u64 = 1 << 16;
 
 /// A tag.
 pub const TAG: Slot = Slot::Number {
     least: 0,
-    most: TAG_LIMIT - 1,
+    most: MAX_TAGS - 1,
 };
 
 /// The direction of a field that is R or W.

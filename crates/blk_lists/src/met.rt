@@ -24,7 +24,7 @@ use crate::titles::counted_title;
 use csv::ByteRecord;
 use drafts::pieces::{put, put_two};
 use drafts::{Block, WriteFault, write_whole};
-use edd_check::{Command, MOST_COMMANDS, ROUND_LIMIT, Window};
+use edd_check::{Command, MAX_COMMANDS, MAX_ROUNDS, Window};
 use parts::Repeats;
 use std::alloc::{AllocError, Global};
 use std::io::{Read, Write};
@@ -86,7 +86,7 @@ impl LineForm for NumbersForm {
         }
         let number = Slot::Number {
             least: 0,
-            most: MOST_COMMANDS,
+            most: MAX_COMMANDS,
         };
         let slots = [Slot::Given, number, number, Slot::Blank];
         match read_fields(row, &slots) {
@@ -118,7 +118,7 @@ impl LineForm for WindowForm {
         }
         let round = Slot::Number {
             least: 0,
-            most: ROUND_LIMIT - 1,
+            most: MAX_ROUNDS - 1,
         };
         let slots = [Slot::Given, round, round, Slot::Blank];
         match read_fields(row, &slots) {
@@ -168,7 +168,7 @@ pub(crate) fn read_met_body<R: Read + Drop>(
     ensures in_range { IfOk result (λ c. IsMetClaim (met_claimed c)) }
     ensures last { IfErr result (λ f. f.at ≡ records.new.at) }
     ensures err { IfErr result (λ f. Halts records.new.failed (met_body count) records.old.left 1 f.at f.why) }
-    ensures reads { (2 ≤ records.new.at) × (records.new.at ≤ 2 * MOST_COMMANDS + 3) }
+    ensures reads { (2 ≤ records.new.at) × (records.new.at ≤ 2 * MAX_COMMANDS + 3) }
     ensures end { IfOk result (λ c. records.new.at ≡ length c.cover.items + length c.commands.items + 3) }
 {
     let (met, many) = match read_line(records, &NumbersForm) {
@@ -219,7 +219,7 @@ pub fn read_met<R: Read + Drop>(
         IsOutside records.new.failed f.why ⊎ MetClaimFault rows f.at f.why)) }
     // also where it came from outside: at most one past the last record, and no record before it is wrong
     ensures reached { IfErr result (λ f. Reaches met_form records.old.left 0 f.at) }
-    ensures reads { (1 ≤ records.new.at) × (records.new.at ≤ 2 * MOST_COMMANDS + 3) }
+    ensures reads { (1 ≤ records.new.at) × (records.new.at ≤ 2 * MAX_COMMANDS + 3) }
     // the last thing that was asked for is the record after the commands, which there is not
     ensures end { IfOk result (λ c. records.new.at ≡ length c.cover.items + length c.commands.items + 3) }
 {

@@ -12,7 +12,7 @@ use crate::met::{MetCertificate, read_met_body};
 use crate::source::Records;
 use crate::titles::counted_title;
 use csv::ByteRecord;
-use edd_check::MOST_COMMANDS;
+use edd_check::MAX_COMMANDS;
 use std::alloc::Global;
 use std::io::Read;
 
@@ -84,7 +84,7 @@ pub fn read_proof<R: Read + Drop>(
         IsOutside records.new.failed f.why ⊎ ProofFault rows f.at f.why)) }
     // also where it came from outside: at most one past the last record, and no record before it is wrong
     ensures reached { IfErr result (λ f. Reaches proof_form records.old.left 0 f.at) }
-    ensures reads { (1 ≤ records.new.at) × (records.new.at ≤ 2 * MOST_COMMANDS + 3) }
+    ensures reads { (1 ≤ records.new.at) × (records.new.at ≤ 2 * MAX_COMMANDS + 3) }
     // the last thing that was asked for is the record after the commands, which there is not
     ensures end { IfOk result (λ p. records.new.at ≡ proof_size (proof_claimed p) + 1) }
 {

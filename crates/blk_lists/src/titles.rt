@@ -8,7 +8,7 @@ ghost use Rattle.blk_lists.specs.Titles.{counted_title as title_part};
 use crate::fault::Why;
 use crate::fields::{Slot, read_fields, version_of};
 use csv::ByteRecord;
-use edd_check::{MOST_COMMANDS, MOST_DEPTH};
+use edd_check::{MAX_COMMANDS, MAX_DEPTH};
 
 /// The version, the depth and the number of commands of a title record of the form of this name.
 pub fn counted_title(row: &ByteRecord, name: &[u8]) -> Result<(u64, (u64, u64)), Why>
@@ -23,11 +23,11 @@ pub fn counted_title(row: &ByteRecord, name: &[u8]) -> Result<(u64, (u64, u64)),
         Slot::Given,
         Slot::Number {
             least: 1,
-            most: MOST_DEPTH,
+            most: MAX_DEPTH,
         },
         Slot::Number {
             least: 0,
-            most: MOST_COMMANDS,
+            most: MAX_COMMANDS,
         },
     ];
     match read_fields(row, &slots) {

@@ -2,7 +2,7 @@
 
 ghost use Rattle.std.specs.Prelude.{◌≡◌, ◌<◌, ◌≤◌, ◌+◌, [], All, IfOk, OnOk, IfErr, length, vec_len, Ok};
 ghost use Rattle.blk_sched.specs.Meaning.{at_start};
-ghost use Rattle.blk_settings.specs.declared.numbers.TheConstants.{MOST_BIOS, MOST_DEPTH, MOST_SUBMITTERS};
+ghost use Rattle.blk_settings.specs.declared.numbers.TheConstants.{MAX_LOAD_BIOS, MAX_LOAD_DEPTH, MAX_SUBMITTERS};
 ghost use Rattle.blk_settings.specs.Faults.{IsTold};
 ghost use Rattle.blk_load.specs.Loads.{AreInTurn};
 ghost use Rattle.blk_settings.specs.Numbers.{IsLoad};
@@ -98,7 +98,7 @@ fn in_turn(alloc: Global, count: u64, below: u64) -> Result<Vec<u8>, AllocError>
 /// What the core is set up for.
 fn setup_of(depth: u64, hw: u8) -> Setup
     requires some_tags { 1 ≤ depth }
-    requires few_tags { depth ≤ MOST_DEPTH }
+    requires few_tags { depth ≤ MAX_LOAD_DEPTH }
     requires some_queues { 1 ≤ hw }
     requires few_queues { hw ≤ 16 }
     ensures depth { result.depth ≡ depth }
@@ -128,8 +128,8 @@ fn on_layer<R: Threads + Wait + Sync, S: Scheduler<A = Global> + Send, L: Named 
     requires setup { core.setup ≡ L.setup }
     requires workers { L.workers ≡ vec_len queues }
     requires empty { core.events ≡ [] }
-    requires few_submitters { load.submitters ≤ MOST_SUBMITTERS }
-    requires few_bios { load.bios ≤ MOST_BIOS }
+    requires few_submitters { load.submitters ≤ MAX_SUBMITTERS }
+    requires few_bios { load.bios ≤ MAX_LOAD_BIOS }
     ensures settled { IfOk result (λ s. s.accepted ≡ s.served + s.left) }
 {
     let limits = core.trace().setup().limits();

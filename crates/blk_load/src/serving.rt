@@ -12,7 +12,7 @@ use std::sync::Wait;
 use std::thread::{Threads, for_each_mut};
 
 /// How often a worker works at most.
-const MOST_WORKS: u64 = 1000;
+const MAX_WORKS: u64 = 1000;
 
 /// How many passes it makes each time at most.
 const TURNS: u64 = 10_000;
@@ -28,7 +28,7 @@ fn serve<R: Wait, S: Scheduler<A = Global>, L: Named>(
     ensures seat { seat.new.tag_set ≡ seat.old.tag_set }
 {
     let mut disk = Disk::new(site.load.busy);
-    for _ in 0..MOST_WORKS {
+    for _ in 0..MAX_WORKS {
         if site.noted.is_any() {
             return Ok(());
         }

@@ -1,7 +1,7 @@
 //! What the threads of a load share.
 
 ghost use Rattle.std.specs.Prelude.{◌≡◌, ◌≤◌};
-ghost use Rattle.blk_settings.specs.declared.numbers.TheConstants.{MOST_BIOS, MOST_SUBMITTERS};
+ghost use Rattle.blk_settings.specs.declared.numbers.TheConstants.{MAX_LOAD_BIOS, MAX_SUBMITTERS};
 
 use blk_bio::Limits;
 use blk_layer::{Layer, Named};
@@ -63,16 +63,16 @@ pub(crate) struct Site<S: Scheduler<A = Global>, L: Named> {
     /// How much load there is.
     pub(crate) load: Load,
     ghost named: { limits ≡ L.setup.limits },
-    ghost few_submitters: { load.submitters ≤ MOST_SUBMITTERS },
-    ghost few_bios: { load.bios ≤ MOST_BIOS },
+    ghost few_submitters: { load.submitters ≤ MAX_SUBMITTERS },
+    ghost few_bios: { load.bios ≤ MAX_LOAD_BIOS },
 }
 
 impl<S: Scheduler<A = Global>, L: Named> Site<S, L> {
     /// What threads share over a layer, none of which has met a fault.
     pub(crate) fn new(layer: Layer<S, L>, alloc: Global, limits: Limits, load: Load) -> Site<S, L>
         requires named { limits ≡ L.setup.limits }
-        requires few_submitters { load.submitters ≤ MOST_SUBMITTERS }
-        requires few_bios { load.bios ≤ MOST_BIOS }
+        requires few_submitters { load.submitters ≤ MAX_SUBMITTERS }
+        requires few_bios { load.bios ≤ MAX_LOAD_BIOS }
         ensures { result.layer ≡ layer }
     {
         Site {

@@ -1,13 +1,13 @@
 //! What submitters do.
 
 ghost use Rattle.std.specs.Prelude.{◌≡◌, ◌<◌, ◌≤◌, All, IfOk, length};
-ghost use Rattle.blk_settings.specs.declared.numbers.TheConstants.{MOST_BIOS, MOST_SUBMITTERS};
+ghost use Rattle.blk_settings.specs.declared.numbers.TheConstants.{MAX_LOAD_BIOS, MAX_SUBMITTERS};
 ghost use Rattle.blk_load.specs.Loads.{nth_bio};
 
 use crate::site::Site;
 use blk_bio::{Bio, BioId, Dir};
 use blk_layer::{FlushWhy, Named, Submitter};
-use blk_plug::{PLUG_REQUESTS, Plug, PlugFault};
+use blk_plug::{MAX_STAGED, Plug, PlugFault};
 use blk_sched::Scheduler;
 use blk_settings::{Load, LoadFault};
 use std::alloc::Global;
@@ -15,7 +15,7 @@ use std::sync::Wait;
 use std::thread::{Threads, for_each_mut, yield_now};
 
 /// How often a submitter flushes its plug at most.
-const MOST_FLUSHES: u64 = 10_000_000;
+const MAX_FLUSHES: u64 = 10_000_000;
 
 /// How often other threads may run before the next flush, where the software queue has no room.
 const RESTS: u64 = 16;
@@ -28,8 +28,8 @@ const STRIDE: u64 = 16;
 
 /// The bio of this number of a submitter, of so many submitters: they write in turn, and every other bio of each is a write.
 fn nth_bio(submitters: u64, submitter: u8, serial: u64) -> Bio
-    requires submitters { submitters ≤ MOST_SUBMITTERS }
-    requires serial { serial < MOST_BIOS }
+    requires submitters { submitters ≤ MAX_SUBMITTERS }
+    requires serial { serial < MAX_LOAD_BIOS }
     ensures { result ≡ nth_bio submitters submitter serial }
 {
     let id = BioId { submitter, serial };
@@ -47,8 +47,8 @@ fn nth_bio(submitters: u64, submitter: u8, serial: u64) -> Bio
 
 /// Adds bios from this number on to a plug, until it is full or there are no more, and answers the number of the next one.
 fn fill(plug: &mut Plug, load: &Load, submitter: u8, from: u64) -> Result<u64, LoadFault>
-    requires submitters { load.now.submitters ≤ MOST_SUBMITTERS }
-    requires bios { load.now.bios ≤ MOST_BIOS }
+    requires submitters { load.now.submitters ≤ MAX_SUBMITTERS }
+    requires bios { load.now.bios ≤ MAX_LOAD_BIOS }
     ensures limits { plug.new.limits ≡ plug.old.limits }
 {
     for serial in from..load.bios {
@@ -76,7 +76,7 @@ fn submit<R: Wait, S: Scheduler<A = Global>, L: Named>(
     };
     let number = seat.number();
     let mut next = 0;
-    for _ in 0..MOST_FLUSHES {
+    for _ in 0..MAX_FLUSHES {
         if site.noted.is_any() {
             return Ok(());
         }

@@ -9,4 +9,4 @@
 mod candidate;
 pub mod plug;
 
-pub use crate::plug::{Added, PLUG_REQUESTS, Plug, PlugFault};
+pub use crate::plug::{Added, MAX_STAGED, Plug, PlugFault};

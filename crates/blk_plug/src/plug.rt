@@ -14,7 +14,7 @@ use std::collections::VecDeque;
 use std::marker::Model;
 
 /// The most requests that a plug holds.
-pub const PLUG_REQUESTS: usize = 32;
+pub const MAX_STAGED: usize = 32;
 
 /// What became of a bio that was added.
 #[derive(Clone, Copy, Debug, PartialEq, Eq)]
@@ -28,13 +28,13 @@ pub enum Added {
 /// Why a bio is not added, in the order in which the reasons are looked for.
 #[derive(Clone, Copy, Debug, PartialEq, Eq)]
 pub enum PlugFault {
-    /// The plug has [`PLUG_REQUESTS`] requests, and the bio fits none of them.
+    /// The plug has [`MAX_STAGED`] requests, and the bio fits none of them.
     Full,
     /// Memory ran out.
     Memory,
 }
 
-/// At most [`PLUG_REQUESTS`] requests, in the order in which they were begun, and the limits within which bios join
+/// At most [`MAX_STAGED`] requests, in the order in which they were begun, and the limits within which bios join
 /// them. It keeps its allocator.
 #[derive(Debug, Drop)]
 pub struct Plug<A: Allocator = Global> {
@@ -53,16 +53,16 @@ impl<A: Allocator> Model for Plug<A> {
 }
 
 impl<A: Allocator + Clone> Plug<A> {
-    /// A plug of no requests, with room for [`PLUG_REQUESTS`]. Fails for want of memory alone.
+    /// A plug of no requests, with room for [`MAX_STAGED`]. Fails for want of memory alone.
     pub fn new(alloc: A, limits: Limits) -> Result<Plug<A>, AllocError>
         ensures { IfOk result (λ plug. plug ≡ record { limits = limits; requests = [] }) }
     {
-        let requests = VecDeque::with_capacity(alloc, PLUG_REQUESTS)?;
+        let requests = VecDeque::with_capacity(alloc, MAX_STAGED)?;
         Ok(Plug { limits, requests })
     }
 
     /// Adds a bio: it joins the newest request that it fits, at the back where it can, else at the front; where it fits
-    /// none it becomes a request, the newest. Refused as `Full` where it fits none and the plug has [`PLUG_REQUESTS`]
+    /// none it becomes a request, the newest. Refused as `Full` where it fits none and the plug has [`MAX_STAGED`]
     /// requests, and else as `Memory` where a growth is refused. The plug is then as it was and the bio comes back.
     pub fn add(&mut self, bio: Bio) -> Result<Added, (Bio, PlugFault)>
         // what became of the bio or the fault, and the plug as it stands then
@@ -72,7 +72,7 @@ impl<A: Allocator + Clone> Plug<A> {
     {
         let found = candidate(&self.requests, &bio, &self.limits);
         let Some((place, side)) = found else {
-            if self.requests.len() >= PLUG_REQUESTS {
+            if self.requests.len() >= MAX_STAGED {
                 return Err((bio, PlugFault::Full));
             }
             let Ok(()) = append(&mut self.requests, bio) else {
@@ -93,7 +93,7 @@ impl<A: Allocator + Clone> Plug<A> {
         self.limits
     }
 
-    /// How many requests it has, 0 to [`PLUG_REQUESTS`].
+    /// How many requests it has, 0 to [`MAX_STAGED`].
     pub fn len(&self) -> usize
         ensures value { result ≡ length self.now.requests }
         ensures is_plug { IsPlug self.now }

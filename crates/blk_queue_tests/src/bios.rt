@@ -1,19 +1,19 @@
 //! Bios, limits and requests.
 
 use crate::given::{Heap, bio, id_of, joined, limits, request};
-use blk_bio::{Bio, BioFault, Dir, JoinFault, Limits, LimitsFault, Request, SECTOR_LIMIT, Side};
+use blk_bio::{Bio, BioFault, Dir, JoinFault, Limits, LimitsFault, MAX_END, Request, Side};
 use refusing::Refusing;
 use std::process::Abort;
 
 #[test]
 fn constructors_refuse(rt: HostRuntime) {
-    let last = bio(&rt, Dir::Write, SECTOR_LIMIT - 1, 1);
+    let last = bio(&rt, Dir::Write, MAX_END - 1, 1);
     assert_eq!(rt; last.id(), id_of(281_474_976_710_655));
     assert_eq!(rt; (last.dir(), last.sectors()), (Dir::Write, 1));
     assert_eq!(rt; last.first(), 281_474_976_710_655);
     for (first, sectors, fault) in [
-        (SECTOR_LIMIT - 1, 2, BioFault::Range),
-        (SECTOR_LIMIT, 1, BioFault::Range),
+        (MAX_END - 1, 2, BioFault::Range),
+        (MAX_END, 1, BioFault::Range),
         (0, 0, BioFault::Empty),
     ] {
         assert_eq!(rt; Bio::new(id_of(1), Dir::Read, first, sectors), Err(fault));

@@ -1,15 +1,15 @@
 -- How much load there is.
 use Rattle.std.specs.Prelude.{◌≤◌}
 use Rattle.blk_settings.specs.declared.numbers.Load.{Load}
-use Rattle.blk_settings.specs.declared.numbers.TheConstants.{MOST_SUBMITTERS, MOST_WORKERS, MOST_BIOS, MOST_DEPTH}
+use Rattle.blk_settings.specs.declared.numbers.TheConstants.{MAX_SUBMITTERS, MAX_LOAD_WORKERS, MAX_LOAD_BIOS, MAX_LOAD_DEPTH}
 
 -- its numbers are in their ranges
 pub record IsLoad (l : Load) : Type 0 where
   pub some_submitters : 1 ≤ l.submitters
-  pub few_submitters : l.submitters ≤ MOST_SUBMITTERS
+  pub few_submitters : l.submitters ≤ MAX_SUBMITTERS
   pub some_workers : 1 ≤ l.workers
-  pub few_workers : l.workers ≤ MOST_WORKERS
+  pub few_workers : l.workers ≤ MAX_LOAD_WORKERS
   pub some_bios : 1 ≤ l.bios
-  pub few_bios : l.bios ≤ MOST_BIOS
+  pub few_bios : l.bios ≤ MAX_LOAD_BIOS
   pub some_tags : 1 ≤ l.depth
-  pub few_tags : l.depth ≤ MOST_DEPTH
+  pub few_tags : l.depth ≤ MAX_LOAD_DEPTH

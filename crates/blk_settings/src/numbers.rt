@@ -7,27 +7,27 @@ use blk_bio::MAX_SOFT_QUEUES;
 use blk_trace::MAX_DEPTH;
 
 /// The most submitters: as many as software queues.
-pub const MOST_SUBMITTERS: u64 = MAX_SOFT_QUEUES;
+pub const MAX_SUBMITTERS: u64 = MAX_SOFT_QUEUES;
 
 /// The most workers.
-pub const MOST_WORKERS: u64 = 16;
+pub const MAX_LOAD_WORKERS: u64 = 16;
 
 /// The most bios of a submitter.
-pub const MOST_BIOS: u64 = 2000;
+pub const MAX_LOAD_BIOS: u64 = 2000;
 
 /// The most tags.
-pub const MOST_DEPTH: u64 = MAX_DEPTH;
+pub const MAX_LOAD_DEPTH: u64 = MAX_DEPTH;
 
 /// How much load there is, and on what.
 #[derive(Clone, Copy, Debug, PartialEq, Eq)]
 pub struct Load {
-    /// How many submitters there are, 1 to [`MOST_SUBMITTERS`].
+    /// How many submitters there are, 1 to [`MAX_SUBMITTERS`].
     pub submitters: u64,
-    /// How many workers there are, 1 to [`MOST_WORKERS`].
+    /// How many workers there are, 1 to [`MAX_LOAD_WORKERS`].
     pub workers: u64,
-    /// How many bios each submitter has, 1 to [`MOST_BIOS`].
+    /// How many bios each submitter has, 1 to [`MAX_LOAD_BIOS`].
     pub bios: u64,
-    /// How many tags there are, 1 to [`MOST_DEPTH`]: as many commands as a round may carry.
+    /// How many tags there are, 1 to [`MAX_LOAD_DEPTH`]: as many commands as a round may carry.
     pub depth: u64,
     /// Each worker's device is busy at every run whose number, counted from 1, this divides, at every run for 0, never for None.
     pub busy: Option<u64>,
@@ -39,12 +39,12 @@ impl Load {
         ensures { IsTrue result ↔ IsLoad self.now }
     {
         self.submitters >= 1
-            && self.submitters <= MOST_SUBMITTERS
+            && self.submitters <= MAX_SUBMITTERS
             && self.workers >= 1
-            && self.workers <= MOST_WORKERS
+            && self.workers <= MAX_LOAD_WORKERS
             && self.bios >= 1
-            && self.bios <= MOST_BIOS
+            && self.bios <= MAX_LOAD_BIOS
             && self.depth >= 1
-            && self.depth <= MOST_DEPTH
+            && self.depth <= MAX_LOAD_DEPTH
     }
 }

@@ -37,7 +37,7 @@ use Rattle.blk_lists.proofs.Each.{all_fit, each_tells, each_decides, one_record}
 use Rattle.blk_lists.proofs.Reading.{then_reads, first_halts, second_halts}
 use Rattle.blk_lists.proofs.Texts.{text_back, parts_back, begins_itself}
 use Rattle.blk_bio.specs.declared.limits.TheConstants.{MAX_QUEUES, MAX_SOFT_QUEUES, MAX_SOFT_DEPTH}
-use Rattle.blk_text.specs.declared.script.TheConstants.{MOST_STEPS}
+use Rattle.blk_text.specs.declared.script.TheConstants.{MAX_STEPS}
 
 -- the word of a field, whatever stands there
 abbrev word_at : List ℕ → Word
@@ -319,19 +319,19 @@ setup_decides depth hw d q = record_decides setup_word (FitsSetup depth hw) why.
 setup_depth : (t : ℕ × Title) → IsTitle t.0 t.1 → (0 < t.1.depth) × (t.1.depth ≤ MAX_DEPTH)
 setup_depth t i = let high = i.depth.1 in (i.depth.0, omega (arith, high, fewer_tags t.0))
 
-steps_tell : (t : ℕ × Title) → IsTitle t.0 t.1 → Tells (items_of (repeats.AtMost MOST_STEPS) (λ _. step t.0 t.1.hw t.1.submitters))
-steps_tell t i = each_tells (step t.0 t.1.hw t.1.submitters) (step_one t.0 t.1.hw t.1.submitters i.hw.1 i.submitters.1) (repeats.AtMost MOST_STEPS)
+steps_tell : (t : ℕ × Title) → IsTitle t.0 t.1 → Tells (items_of (repeats.AtMost MAX_STEPS) (λ _. step t.0 t.1.hw t.1.submitters))
+steps_tell t i = each_tells (step t.0 t.1.hw t.1.submitters) (step_one t.0 t.1.hw t.1.submitters i.hw.1 i.submitters.1) (repeats.AtMost MAX_STEPS)
 
 pub body_tells : (t : ℕ × Title) → IsTitle t.0 t.1 → Tells (script_body t)
-body_tells t i = then_tells (setup t.1.depth t.1.hw) (λ s. items_of (repeats.AtMost MOST_STEPS) (λ _. step t.0 t.1.hw t.1.submitters)) (setup_one t.1.depth t.1.hw (setup_depth t i) i.hw).tells (λ s fit. steps_tell t i)
+body_tells t i = then_tells (setup t.1.depth t.1.hw) (λ s. items_of (repeats.AtMost MAX_STEPS) (λ _. step t.0 t.1.hw t.1.submitters)) (setup_one t.1.depth t.1.hw (setup_depth t i) i.hw).tells (λ s fit. steps_tell t i)
 
 script_tells : Tells script_form
 script_tells = then_tells title script_body title_one.tells (λ t fit. body_tells t fit.0.1)
 
 script_decides : Decides script_form
 script_decides = then_decides title script_body title_decided (λ t fit. (let i = fit.0.1 in
-    then_decides (setup t.1.depth t.1.hw) (λ s. items_of (repeats.AtMost MOST_STEPS) (λ _. step t.0 t.1.hw t.1.submitters))
-    (setup_decides t.1.depth t.1.hw (setup_depth t i) i.hw) (λ s fit. each_decides (step t.0 t.1.hw t.1.submitters) (step_decides t.0 t.1.hw t.1.submitters i.hw.1 i.submitters.1) (repeats.AtMost MOST_STEPS))))
+    then_decides (setup t.1.depth t.1.hw) (λ s. items_of (repeats.AtMost MAX_STEPS) (λ _. step t.0 t.1.hw t.1.submitters))
+    (setup_decides t.1.depth t.1.hw (setup_depth t i) i.hw) (λ s fit. each_decides (step t.0 t.1.hw t.1.submitters) (step_decides t.0 t.1.hw t.1.submitters i.hw.1 i.submitters.1) (repeats.AtMost MAX_STEPS))))
 
 same_script : (s t : Scripted) → s.setup ≡ t.setup → s.soft_depth ≡ t.soft_depth → s.submitters ≡ t.submitters → s.lines ≡ t.lines → s ≡ t
 same_script s t a b c d i = record { setup = a i; soft_depth = b i; submitters = c i; lines = d i }
@@ -392,7 +392,7 @@ spelled_or_wrong rows = elim (script_decides rows) [
 latest_title : (version : ℕ) (t : Title) → IsTitle version t → IsTitle latest t
 latest_title version t i = record { depth = (let high = i.depth.1 in (i.depth.0, omega (arith, high, fewer_tags version))); hw = i.hw; soft_depth = i.soft_depth; submitters = i.submitters }
 
-pub script_in : (t : ℕ × Title) (s : Setup) (lines : List Line) → IsTitle t.0 t.1 → t.1.hw ≤ t.1.submitters → FitsSetup t.1.depth t.1.hw s → All (step t.0 t.1.hw t.1.submitters).Fits lines → length lines ≤ MOST_STEPS
+pub script_in : (t : ℕ × Title) (s : Setup) (lines : List Line) → IsTitle t.0 t.1 → t.1.hw ≤ t.1.submitters → FitsSetup t.1.depth t.1.hw s → All (step t.0 t.1.hw t.1.submitters).Fits lines → length lines ≤ MAX_STEPS
     → IsScript record { setup = s; soft_depth = t.1.soft_depth; submitters = t.1.submitters; lines = lines }
 script_in t s lines i enough f a short = record {
   title = subst (IsTitle latest) (sym (title_is t.1 s lines f)) (latest_title t.0 t.1 i);
@@ -403,12 +403,12 @@ script_in t s lines i enough f a short = record {
 }
 
 pub script_read : (left mid after : Option (List Row)) (t : ℕ × Title) (s : Setup) (lines : List Line) → Reads title left mid t → Reads (setup t.1.depth t.1.hw) mid after s
-    → IfSome after (λ rows. Begins (items_of (repeats.AtMost MOST_STEPS) (λ _. step t.0 t.1.hw t.1.submitters)) rows lines []) → FitsSetup t.1.depth t.1.hw s
+    → IfSome after (λ rows. Begins (items_of (repeats.AtMost MAX_STEPS) (λ _. step t.0 t.1.hw t.1.submitters)) rows lines []) → FitsSetup t.1.depth t.1.hw s
     → IfSome left (λ rows. SpellsScript rows record { setup = s; soft_depth = t.1.soft_depth; submitters = t.1.submitters; lines = lines })
 script_read None mid after t s lines h k a f = tt
 script_read (Some rows) mid after t s lines h k a f =
     script_spelled rows t s lines f (then_reads title script_body (Some rows) mid t (s, lines) h
-    (then_reads (setup t.1.depth t.1.hw) (λ s. items_of (repeats.AtMost MOST_STEPS) (λ _. step t.0 t.1.hw t.1.submitters)) mid after s lines k a))
+    (then_reads (setup t.1.depth t.1.hw) (λ s. items_of (repeats.AtMost MAX_STEPS) (λ _. step t.0 t.1.hw t.1.submitters)) mid after s lines k a))
 
 -- where reading halts
 
@@ -418,10 +418,10 @@ title_halts failed left start at w e h = first_halts failed title script_body le
 pub setup_halts : (failed : Bool) (left mid : Option (List Row)) (t : ℕ × Title) (middle at : ℕ) (w : Why) → middle ≡ 1 → IsTitle t.0 t.1 → Reads title left mid t → Halts failed (setup t.1.depth t.1.hw) mid middle at w → Halts failed script_form left 0 at w
 setup_halts failed left mid t middle at w e i r h =
     second_halts failed title script_body left mid t 0 middle at w title_one.tells r (omega (arith, e))
-    (first_halts failed (setup t.1.depth t.1.hw) (λ s. items_of (repeats.AtMost MOST_STEPS) (λ _. step t.0 t.1.hw t.1.submitters)) mid middle at w (λ s fit. steps_tell t i) h)
+    (first_halts failed (setup t.1.depth t.1.hw) (λ s. items_of (repeats.AtMost MAX_STEPS) (λ _. step t.0 t.1.hw t.1.submitters)) mid middle at w (λ s fit. steps_tell t i) h)
 
 pub steps_halt : (failed : Bool) (left mid after : Option (List Row)) (t : ℕ × Title) (s : Setup) (middle start at : ℕ) (w : Why) → middle ≡ 1 → start ≡ 2 → IsTitle t.0 t.1 → Reads title left mid t → Reads (setup t.1.depth t.1.hw) mid after s
-    → Halts failed (items_of (repeats.AtMost MOST_STEPS) (λ _. step t.0 t.1.hw t.1.submitters)) after start at w → Halts failed script_form left 0 at w
+    → Halts failed (items_of (repeats.AtMost MAX_STEPS) (λ _. step t.0 t.1.hw t.1.submitters)) after start at w → Halts failed script_form left 0 at w
 steps_halt failed left mid after t s middle start at w e f i r k h =
     second_halts failed title script_body left mid t 0 middle at w title_one.tells r (omega (arith, e))
-    (second_halts failed (setup t.1.depth t.1.hw) (λ s. items_of (repeats.AtMost MOST_STEPS) (λ _. step t.0 t.1.hw t.1.submitters)) mid after s middle start at w (setup_one t.1.depth t.1.hw (setup_depth t i) i.hw).tells k (omega (arith, e, f)) h)
+    (second_halts failed (setup t.1.depth t.1.hw) (λ s. items_of (repeats.AtMost MAX_STEPS) (λ _. step t.0 t.1.hw t.1.submitters)) mid after s middle start at w (setup_one t.1.depth t.1.hw (setup_depth t i) i.hw).tells k (omega (arith, e, f)) h)

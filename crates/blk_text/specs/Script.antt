@@ -15,8 +15,8 @@ use Rattle.blk_lists.specs.declared.fault.Why.{Why}
 use Rattle.blk_lists.specs.declared.fault.Why.TheVariants as why
 use Rattle.parts.specs.declared.Repeats.TheVariants as repeats
 use Rattle.parts.specs.Parts.{Part, then, tested, seen_as, Spells}
-use Rattle.blk_lists.specs.declared.fields.TheConstants.{TAG_LIMIT}
-use Rattle.blk_text.specs.declared.script.TheConstants.{MAX_ROUNDS, MOST_STEPS}
+use Rattle.blk_lists.specs.declared.fields.TheConstants.{MAX_TAGS}
+use Rattle.blk_text.specs.declared.script.TheConstants.{MAX_RUN, MAX_STEPS}
 use Rattle.blk_text.specs.declared.script.Line.{Line}
 use Rattle.blk_text.specs.declared.script.Line.TheVariants as line
 use Rattle.blk_text.specs.declared.script.Script.{Script}
@@ -69,12 +69,12 @@ abbrev pub step_cells : ℕ → ℕ → (k : Word) → List (Cell (Held k))
 step_cells hw submitters word.Bio = bio_cells submitters
 step_cells hw submitters word.Flush = Number 0 (submitters - 1) (λ s. s) ∷ Blank ∷ Blank ∷ Blank ∷ Blank ∷ []
 step_cells hw submitters word.Drain = Number 0 (hw - 1) (λ h. h) ∷ Blank ∷ Blank ∷ Blank ∷ Blank ∷ []
-step_cells hw submitters word.Issue = Number 0 (hw - 1) (λ i. i.0) ∷ Number 0 (TAG_LIMIT - 1) (λ i. i.1) ∷ Blank ∷ Blank ∷ Blank ∷ []
-step_cells hw submitters word.Done = Number 0 (TAG_LIMIT - 1) (λ t. t) ∷ Blank ∷ Blank ∷ Blank ∷ Blank ∷ []
-step_cells hw submitters word.Back = Number 0 (TAG_LIMIT - 1) (λ t. t) ∷ Blank ∷ Blank ∷ Blank ∷ Blank ∷ []
+step_cells hw submitters word.Issue = Number 0 (hw - 1) (λ i. i.0) ∷ Number 0 (MAX_TAGS - 1) (λ i. i.1) ∷ Blank ∷ Blank ∷ Blank ∷ []
+step_cells hw submitters word.Done = Number 0 (MAX_TAGS - 1) (λ t. t) ∷ Blank ∷ Blank ∷ Blank ∷ Blank ∷ []
+step_cells hw submitters word.Back = Number 0 (MAX_TAGS - 1) (λ t. t) ∷ Blank ∷ Blank ∷ Blank ∷ Blank ∷ []
 step_cells hw submitters word.Depth = Number 0 (2 ^ 64 - 1) (λ d. d) ∷ Blank ∷ Blank ∷ Blank ∷ Blank ∷ []
 step_cells hw submitters word.Tick = Blank ∷ Blank ∷ Blank ∷ Blank ∷ Blank ∷ []
-step_cells hw submitters word.Run = Number 1 MAX_ROUNDS (λ n. n) ∷ Blank ∷ Blank ∷ Blank ∷ Blank ∷ []
+step_cells hw submitters word.Run = Number 1 MAX_RUN (λ n. n) ∷ Blank ∷ Blank ∷ Blank ∷ Blank ∷ []
 
 -- the kind of a step, and what it says
 abbrev pub step_said : Line → (k : Word) × Held k
@@ -101,12 +101,12 @@ abbrev pub LineFits : ℕ → ℕ → Line → Type 0
 LineFits hw submitters (line.Bio b) = (b.id.submitter < submitters) × (b.id.serial < 2 ^ 64) × IsBio b
 LineFits hw submitters (line.Flush submitter) = submitter < submitters
 LineFits hw submitters (line.Drain h) = h < hw
-LineFits hw submitters (line.Issue h tag) = (h < hw) × (tag < TAG_LIMIT)
-LineFits hw submitters (line.Done tag) = tag < TAG_LIMIT
-LineFits hw submitters (line.Back tag) = tag < TAG_LIMIT
+LineFits hw submitters (line.Issue h tag) = (h < hw) × (tag < MAX_TAGS)
+LineFits hw submitters (line.Done tag) = tag < MAX_TAGS
+LineFits hw submitters (line.Back tag) = tag < MAX_TAGS
 LineFits hw submitters (line.Depth depth) = depth < 2 ^ 64
 LineFits hw submitters line.Tick = Unit {0}
-LineFits hw submitters (line.Run n) = (1 ≤ n) × (n ≤ MAX_ROUNDS)
+LineFits hw submitters (line.Run n) = (1 ≤ n) × (n ≤ MAX_RUN)
 
 -- a step stands in a version
 abbrev pub IsLineOf : ℕ → Line → Type 0
@@ -140,7 +140,7 @@ pub record IsScript (s : Scripted) : Type 0 where
   pub enough : s.setup.hw ≤ s.submitters
   pub setup : IsWholeSetup s.setup
   pub lines : All (LineFits s.setup.hw s.submitters) s.lines
-  pub short : length s.lines ≤ MOST_STEPS
+  pub short : length s.lines ≤ MAX_STEPS
 
 -- a script can be spelled in a version: it has no more tags than that, and no other steps
 pub record IsScriptOf (version : ℕ) (s : Scripted) : Type 0 where
@@ -173,7 +173,7 @@ step version hw submitters = tested (plain_step version hw submitters) IsRight H
 
 -- a setup and steps, at most so many
 abbrev pub script_body : ℕ × Title → Part Row Why (Setup × List Line)
-script_body t = then (setup t.1.depth t.1.hw) (λ s. items_of (repeats.AtMost MOST_STEPS) (λ _. step t.0 t.1.hw t.1.submitters))
+script_body t = then (setup t.1.depth t.1.hw) (λ s. items_of (repeats.AtMost MAX_STEPS) (λ _. step t.0 t.1.hw t.1.submitters))
 
 -- a title, a setup and steps
 abbrev pub script_form : Part Row Why ((ℕ × Title) × (Setup × List Line))

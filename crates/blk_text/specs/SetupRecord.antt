@@ -3,7 +3,7 @@ use Rattle.std.specs.Prelude.{◌≡◌, ◌-◌, ℕ, List, [], ◌∷◌, code
 use Rattle.blk_bio.specs.Limits.{IsLimits}
 use Rattle.blk_trace.specs.Setups.{Setup, IsSetup}
 use Rattle.blk_bio.specs.declared.limits.TheConstants.{MAX_SECTORS, MAX_SEGMENTS}
-use Rattle.blk_trace.specs.declared.setup.TheConstants.{EXPIRE_LIMIT}
+use Rattle.blk_trace.specs.declared.setup.TheConstants.{MAX_EXPIRIES}
 use Rattle.blk_lists.specs.Sources.{Row}
 use Rattle.blk_lists.specs.Tables.{Cell, Number, Blank, row_by, word_record}
 use Rattle.blk_lists.specs.declared.fault.Why.{Why}
@@ -12,7 +12,7 @@ use Rattle.parts.specs.Parts.{Part}
 
 -- setup, read_expire, write_expire, max_sectors, max_segments, empty
 abbrev pub setup_cells : List (Cell Setup)
-setup_cells = Number 0 (EXPIRE_LIMIT - 1) (λ s. s.read_expire) ∷ Number 0 (EXPIRE_LIMIT - 1) (λ s. s.write_expire)
+setup_cells = Number 0 (MAX_EXPIRIES - 1) (λ s. s.read_expire) ∷ Number 0 (MAX_EXPIRIES - 1) (λ s. s.write_expire)
     ∷ Number 1 MAX_SECTORS (λ s. s.limits.max_sectors) ∷ Number 1 MAX_SEGMENTS (λ s. s.limits.max_segments) ∷ Blank ∷ []
 
 -- the setup record of a setup; its depth and hardware queues stand in the title

@@ -24,7 +24,7 @@ use Rattle.blk_lists.specs.Tables.{Cell, Blank, Number, FitsCells, IsVersion, ti
 use Rattle.blk_text.specs.BioTable.{bio_cells, IsNoSuchBio}
 use Rattle.blk_text.specs.SetupRecord.{setup}
 use Rattle.blk_text.specs.Versions.{latest, most_tags}
-use Rattle.blk_lists.specs.declared.fields.TheConstants.{TAG_LIMIT}
+use Rattle.blk_lists.specs.declared.fields.TheConstants.{MAX_TAGS}
 use Rattle.blk_lists.specs.declared.fault.Why.{Why}
 use Rattle.blk_lists.specs.declared.fault.Why.TheVariants as why
 use Rattle.blk_text.specs.declared.heads.EventWord.{EventWord}
@@ -85,9 +85,9 @@ abbrev pub head_cells : (k : EventWord) → List (Cell (Says k))
 head_cells word.Tick = Blank ∷ Blank ∷ Blank ∷ Blank ∷ Blank ∷ []
 head_cells word.Release = any (λ g. g.0) ∷ Number 1 MAX_SEGMENTS (λ g. g.1) ∷ Blank ∷ Blank ∷ Blank ∷ []
 head_cells word.Join = any (λ g. g.0) ∷ Number 1 MAX_SEGMENTS (λ g. g.1) ∷ Blank ∷ Blank ∷ Blank ∷ []
-head_cells word.Issue = any (λ i. i.0) ∷ Number 0 (TAG_LIMIT - 1) (λ i. i.1) ∷ Blank ∷ Blank ∷ Blank ∷ []
-head_cells word.Done = Number 0 (TAG_LIMIT - 1) (λ t. t) ∷ Blank ∷ Blank ∷ Blank ∷ Blank ∷ []
-head_cells word.Back = Number 0 (TAG_LIMIT - 1) (λ t. t) ∷ Blank ∷ Blank ∷ Blank ∷ Blank ∷ []
+head_cells word.Issue = any (λ i. i.0) ∷ Number 0 (MAX_TAGS - 1) (λ i. i.1) ∷ Blank ∷ Blank ∷ Blank ∷ []
+head_cells word.Done = Number 0 (MAX_TAGS - 1) (λ t. t) ∷ Blank ∷ Blank ∷ Blank ∷ Blank ∷ []
+head_cells word.Back = Number 0 (MAX_TAGS - 1) (λ t. t) ∷ Blank ∷ Blank ∷ Blank ∷ Blank ∷ []
 head_cells word.Depth = any (λ d. d) ∷ Blank ∷ Blank ∷ Blank ∷ Blank ∷ []
 
 -- the first record of an event tells it with the number of its bios in place of these

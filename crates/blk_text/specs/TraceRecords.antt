@@ -12,7 +12,7 @@ use Rattle.blk_lists.specs.Sources.{Row}
 use Rattle.blk_text.specs.BioRecord.{bio_row}
 use Rattle.blk_text.specs.SetupRecord.{setup_row, IsWholeSetup}
 use Rattle.blk_text.specs.Versions.{latest}
-use Rattle.blk_lists.specs.declared.fields.TheConstants.{TAG_LIMIT}
+use Rattle.blk_lists.specs.declared.fields.TheConstants.{MAX_TAGS}
 
 -- a record of a word and two fields; the other three are empty
 abbrev pub word_row : List ℕ → List ℕ → List ℕ → Row
@@ -53,9 +53,9 @@ abbrev pub EventFits : Happened → Type 0
 EventFits Tick = Unit {0}
 EventFits (Release id bios) = GroupFits id bios
 EventFits (Join id bios) = GroupFits id bios
-EventFits (Issue id tag) = (id < 2 ^ 64) × (tag < TAG_LIMIT)
-EventFits (Done tag) = tag < TAG_LIMIT
-EventFits (Back tag) = tag < TAG_LIMIT
+EventFits (Issue id tag) = (id < 2 ^ 64) × (tag < MAX_TAGS)
+EventFits (Done tag) = tag < MAX_TAGS
+EventFits (Back tag) = tag < MAX_TAGS
 EventFits (Depth depth) = depth < 2 ^ 64
 
 -- a trace is legal, and its numbers lie in their ranges

@@ -10,5 +10,5 @@ mod setup;
 pub mod trace;
 
 pub use crate::events::read_trace;
-pub use crate::script::{Line, MAX_ROUNDS, MOST_STEPS, Script, read_script};
+pub use crate::script::{Line, MAX_RUN, MAX_STEPS, Script, read_script};
 pub use crate::trace::write_trace;

@@ -9,7 +9,7 @@ ghost use Rattle.blk_lists.specs.Fields.{FieldsSpell};
 ghost use Rattle.blk_text.specs.BioRecord.{bio_row};
 ghost use Rattle.blk_bio.specs.Letters.{direction_text};
 ghost use Rattle.blk_text.specs.Script.{StepStandsIn, word_of, step_cells, step, LineFits, IsScript, SpellsScript, ScriptFault, scripted, script_form};
-ghost use Rattle.blk_bio.specs.declared.limits.TheConstants.{MAX_QUEUES as MOST_QUEUES, MAX_SOFT_QUEUES as MOST_SUBMITTERS};
+ghost use Rattle.blk_bio.specs.declared.limits.TheConstants.{MAX_QUEUES as ALL_QUEUES, MAX_SOFT_QUEUES as MAX_SUBMITTERS};
 ghost use Rattle.blk_lists.specs.declared.fields.Slot.TheVariants as slot;
 ghost use Rattle.blk_text.specs.declared.script.Word.{Word as AWord};
 
@@ -28,10 +28,10 @@ use std::alloc::Global;
 use std::io::Read;
 
 /// The most steps of a script.
-pub const MOST_STEPS: u64 = 999_998;
+pub const MAX_STEPS: u64 = 999_998;
 
 /// The most rounds of a run: each is an event of the trace.
-pub const MAX_ROUNDS: u64 = MAX_EVENTS;
+pub const MAX_RUN: u64 = MAX_EVENTS;
 
 /// A step of a script, each one record of it.
 #[derive(Clone, Copy, Debug, PartialEq, Eq)]
@@ -52,7 +52,7 @@ pub enum Line {
     Depth(u64),
     /// A round ends.
     Tick,
-    /// So many rounds of work are done, 1 to [`MAX_ROUNDS`].
+    /// So many rounds of work are done, 1 to [`MAX_RUN`].
     Run(u64),
 }
 
@@ -65,7 +65,7 @@ pub struct Script {
     pub soft_depth: u64,
     /// How many submitters there are, 1 to [`MAX_SOFT_QUEUES`] and at least as many as hardware queues.
     pub submitters: u64,
-    /// The steps in the order in which they are done, at most [`MOST_STEPS`].
+    /// The steps in the order in which they are done, at most [`MAX_STEPS`].
     pub lines: Vec<Line>,
 }
 
@@ -125,8 +125,8 @@ pub(crate) struct StepForm {
     version: u64,
     hw: u8,
     submitters: u64,
-    ghost hw_in: { (1 ≤ hw) × (hw ≤ MOST_QUEUES) },
-    ghost submitters_in: { (1 ≤ submitters) × (submitters ≤ MOST_SUBMITTERS) },
+    ghost hw_in: { (1 ≤ hw) × (hw ≤ ALL_QUEUES) },
+    ghost submitters_in: { (1 ≤ submitters) × (submitters ≤ MAX_SUBMITTERS) },
 }
 
 /// The slots of the steps that begin with a word.
@@ -143,7 +143,7 @@ fn step_slots(form: &StepForm, word: Word) -> [Slot; WIDTH]
     };
     let rounds = Slot::Number {
         least: 1,
-        most: MAX_ROUNDS,
+        most: MAX_RUN,
     };
     let none = Slot::Blank;
     match word {
@@ -345,7 +345,7 @@ pub fn read_script<R: Read + Drop>(
         IsOutside records.new.failed f.why ⊎ ScriptFault rows f.at f.why)) }
     // also where it came from outside: at most one past the last record, and no record before it is wrong
     ensures reached { IfErr result (λ f. Reaches script_form records.old.left 0 f.at) }
-    ensures reads { (1 ≤ records.new.at) × (records.new.at ≤ MOST_STEPS + 3) }
+    ensures reads { (1 ≤ records.new.at) × (records.new.at ≤ MAX_STEPS + 3) }
     // the last thing that was asked for is the record after the steps, which there is not
     ensures end { IfOk result (λ s. records.new.at ≡ length s.lines.items + 3) }
 {
@@ -366,7 +366,7 @@ pub fn read_script<R: Read + Drop>(
         hw: title.hw,
         submitters: title.submitters,
     };
-    match read_lines(alloc, records, form, Repeats::AtMost(MOST_STEPS)) {
+    match read_lines(alloc, records, form, Repeats::AtMost(MAX_STEPS)) {
         Ok(lines) => Ok(Script {
             setup,
             soft_depth: title.soft_depth,

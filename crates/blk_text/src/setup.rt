@@ -7,8 +7,8 @@ ghost use Rattle.blk_lists.specs.Reads.{IsRowOf, IsWrongLine};
 ghost use Rattle.blk_lists.specs.Words.{StartsWith};
 ghost use Rattle.blk_text.specs.SetupRecord.{setup_cells, setup as setup_part};
 ghost use Rattle.blk_text.specs.Versions.{most_tags};
-ghost use Rattle.blk_bio.specs.declared.limits.TheConstants.{MAX_QUEUES as MOST_QUEUES};
-ghost use Rattle.blk_trace.specs.declared.setup.TheConstants.{MAX_DEPTH as MOST_DEPTH};
+ghost use Rattle.blk_bio.specs.declared.limits.TheConstants.{MAX_QUEUES as ALL_QUEUES};
+ghost use Rattle.blk_trace.specs.declared.setup.TheConstants.{MAX_DEPTH as MAX_DEPTH};
 ghost use Rattle.blk_lists.specs.Tables.{slots_by};
 ghost use Rattle.blk_lists.specs.declared.fields.Slot.TheVariants as slot;
 
@@ -16,7 +16,7 @@ use blk_bio::{Limits, MAX_QUEUES, MAX_SECTORS, MAX_SEGMENTS};
 use blk_lists::fault::Why;
 use blk_lists::fields::{Slot, WIDTH, begins_with, read_fields, without_word};
 use blk_lists::items::LineForm;
-use blk_trace::{EXPIRE_LIMIT, MAX_DEPTH, Setup};
+use blk_trace::{MAX_DEPTH, MAX_EXPIRIES, Setup};
 use csv::ByteRecord;
 
 /// The latest version of scripts and of traces, which is written.
@@ -64,7 +64,7 @@ fn setup_at(row: &ByteRecord, depth: u64, hw: u8) -> Result<Setup, Why>
     }
     let expire = Slot::Number {
         least: 0,
-        most: EXPIRE_LIMIT - 1,
+        most: MAX_EXPIRIES - 1,
     };
     let slots = [
         Slot::Given,
@@ -91,8 +91,8 @@ fn setup_at(row: &ByteRecord, depth: u64, hw: u8) -> Result<Setup, Why>
 pub(crate) struct SetupForm {
     pub depth: u64,
     pub hw: u8,
-    ghost depth_in: { (0 < depth) × (depth ≤ MOST_DEPTH) },
-    ghost hw_in: { (0 < hw) × (hw ≤ MOST_QUEUES) },
+    ghost depth_in: { (0 < depth) × (depth ≤ MAX_DEPTH) },
+    ghost hw_in: { (0 < hw) × (hw ≤ ALL_QUEUES) },
 }
 
 impl LineForm for SetupForm {

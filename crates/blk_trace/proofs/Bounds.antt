@@ -11,7 +11,7 @@ use Rattle.blk_bio.specs.declared.bio.Dir.{Dir}
 use Rattle.blk_bio.specs.declared.bio.Dir.TheVariants.{Read, Write}
 use Rattle.blk_bio.specs.Requests.{dir_of}
 use Rattle.blk_trace.specs.declared.trace.TheConstants.{MAX_EVENTS}
-use Rattle.blk_trace.specs.declared.setup.TheConstants.{EXPIRE_LIMIT}
+use Rattle.blk_trace.specs.declared.setup.TheConstants.{MAX_EXPIRIES}
 use Rattle.blk_trace.specs.Happened.{Happened}
 use Rattle.blk_trace.specs.Kinds.{is_tick, issues}
 use Rattle.blk_trace.specs.Setups.{Setup, IsSetup, expire_of}
@@ -110,7 +110,7 @@ commands_apart setup es legal j k d l h e =
     apart (issued_ids es) (distinct setup es legal) j k 0 l (omega arith) (sym first ∙ e ∙ second)
 
 -- releases and dues
-expire_small : (setup : Setup) (dir : Dir) → IsSetup setup → expire_of setup dir < EXPIRE_LIMIT
+expire_small : (setup : Setup) (dir : Dir) → IsSetup setup → expire_of setup dir < MAX_EXPIRIES
 expire_small setup Read is = is.read_in
 expire_small setup Write is = is.write_in
 

@@ -4,14 +4,13 @@ ghost use Rattle.std.specs.Prelude.{◌≡◌, ◌<◌};
 ghost use Rattle.blk_trace.specs.Setups.{IsSetup, IsSetupAnswer, expire_of};
 
 use blk_bio::{Dir, Limits, MAX_QUEUES};
-use edd_check::MOST_DEPTH;
 use std::marker::Model;
 
 /// The most tags: as many commands as a round may carry.
-pub const MAX_DEPTH: u64 = MOST_DEPTH;
+pub const MAX_DEPTH: u64 = edd_check::MAX_DEPTH;
 
 /// Every expiry lies below this number of rounds.
-pub const EXPIRE_LIMIT: u64 = 1 << 40;
+pub const MAX_EXPIRIES: u64 = 1 << 40;
 
 /// Why a setup is not made, in the order in which the reasons are looked for.
 #[derive(Clone, Copy, Debug, PartialEq, Eq)]
@@ -20,7 +19,7 @@ pub enum SetupFault {
     Depth,
     /// The number of hardware queues is 0 or above `MAX_QUEUES`.
     Queues,
-    /// An expiry is not below `EXPIRE_LIMIT`.
+    /// An expiry is not below `MAX_EXPIRIES`.
     Expire,
 }
 
@@ -71,7 +70,7 @@ impl Setup {
         if hw == 0 || hw > MAX_QUEUES {
             return Err(SetupFault::Queues);
         }
-        if read_expire >= EXPIRE_LIMIT || write_expire >= EXPIRE_LIMIT {
+        if read_expire >= MAX_EXPIRIES || write_expire >= MAX_EXPIRIES {
             return Err(SetupFault::Expire);
         }
         Ok(Setup {
@@ -125,7 +124,7 @@ impl Setup {
     /// After how many rounds a bio of the direction is due.
     pub fn expire(&self, dir: Dir) -> u64
         ensures value { result ≡ expire_of self.now dir }
-        ensures small { result < EXPIRE_LIMIT }
+        ensures small { result < MAX_EXPIRIES }
     {
         match dir {
             Dir::Read => self.read_expire,

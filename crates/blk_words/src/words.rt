@@ -8,7 +8,7 @@ ghost use Rattle.blk_words.specs.Asked.{Asks, AreRefused, short_given, number_gi
 
 use blk_deadline::Tunables;
 use blk_kyber::Targets;
-use blk_settings::numbers::{MOST_BIOS, MOST_DEPTH, MOST_SUBMITTERS, MOST_WORKERS};
+use blk_settings::numbers::{MAX_LOAD_BIOS, MAX_LOAD_DEPTH, MAX_LOAD_WORKERS, MAX_SUBMITTERS};
 use blk_settings::{Lineup, Load, Sched};
 use clap::builder::ValueParser;
 use clap::error::ErrorKind;
@@ -19,10 +19,10 @@ use std::alloc::{AllocError, Global};
 static SCHEDULERS: [&str; 4] = ["none", "deadline", "kyber", "earliest"];
 
 /// The greatest target of `kyber`, in rounds.
-const MOST_TARGET: u64 = 1_000_000;
+const MAX_TARGET: u64 = 1_000_000;
 
 /// The greatest number of `--busy`.
-const MOST_BUSY: u64 = 1_000_000;
+const MAX_BUSY: u64 = 1_000_000;
 
 /// The version of the program.
 pub const VERSION: &str = "1.0.0";
@@ -106,7 +106,7 @@ fn target_arg<'a>(alloc: Global, name: &'a str, default: &'a str, help: &'a str)
     ensures rule { rule_of result ≡ number_rule name.entry.now target default.entry.now }
     ensures local { result.global ≡ false }
 {
-    let parser = ValueParser::unsigned(0, MOST_TARGET);
+    let parser = ValueParser::unsigned(0, MAX_TARGET);
     number_arg(alloc, name, parser, default, help)
 }
 
@@ -206,7 +206,7 @@ fn busy_arg<'a>(alloc: Global) -> Arg<'a>
     Arg::new(alloc, "busy")
         .long("busy")
         .action(ArgAction::Set)
-        .value_parser(ValueParser::unsigned(2, MOST_BUSY))
+        .value_parser(ValueParser::unsigned(2, MAX_BUSY))
         .help("Lets each worker's device hand every so many-th command back; without it, none")
 }
 
@@ -219,25 +219,31 @@ fn with_amounts<'a>(alloc: Global, command: Command<'a>) -> Result<Command<'a>, 
     let submitters = amount_arg(
         alloc,
         "submitters",
-        MOST_SUBMITTERS,
+        MAX_SUBMITTERS,
         "2",
         "How many threads submit",
     );
     let workers = amount_arg(
         alloc,
         "workers",
-        MOST_WORKERS,
+        MAX_LOAD_WORKERS,
         "2",
         "How many threads issue commands and run them",
     );
     let bios = amount_arg(
         alloc,
         "bios",
-        MOST_BIOS,
+        MAX_LOAD_BIOS,
         "1000",
         "How many bios each submitter has",
     );
-    let depth = amount_arg(alloc, "depth", MOST_DEPTH, "8", "How many tags there are");
+    let depth = amount_arg(
+        alloc,
+        "depth",
+        MAX_LOAD_DEPTH,
+        "8",
+        "How many tags there are",
+    );
     let loaded = command
         .arg(submitters)?
         .arg(workers)?

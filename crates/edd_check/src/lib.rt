@@ -3,7 +3,7 @@
 //! Commands are unit jobs with release and due rounds, and a schedule gives each a round on one of as many machines as
 //! that round has (Pinedo, Scheduling: identical machines in parallel, unit processing times, release dates, due dates,
 //! and the greatest lateness Lmax as the objective). All calls go by place in the lists, and don't look at whether ids
-//! repeat. Rounds are whole numbers below [`ROUND_LIMIT`].
+//! repeat. Rounds are whole numbers below [`MAX_ROUNDS`].
 #![tactic(auto)]
 
 ghost use Rattle.std.specs.Prelude.{◌+◌, ◌*◌, ℕ, ℤ, pos, negsuc, ◌+ℤ◌, ◌≤ℤ◌, ◌<ℤ◌, ◌-◌, IfNone, IfOk, OnOk, IsOkUnless, ◌≡◌, ◌<◌, ◌^◌, ◌↔◌, [], List, length, IsTrue, IsNone, IfSome, ◌≤◌, All};
@@ -21,17 +21,17 @@ pub use met::{
     outside,
 };
 use std::alloc::{AllocError, Allocator};
-pub use steps::{Capacity, CapacityFault, MOST_DEPTH, Step};
+pub use steps::{Capacity, CapacityFault, MAX_DEPTH, Step};
 
 /// Every due, scheduled and window round lies below this.
-pub const ROUND_LIMIT: u64 = 1 << 41;
+pub const MAX_ROUNDS: u64 = 1 << 41;
 
 /// Every release of a command that a schedule is asked for lies below this. So each command has a round below
-/// [`ROUND_LIMIT`] in the schedule, however many wait for one.
-pub const RELEASE_LIMIT: u64 = 1 << 40;
+/// [`MAX_ROUNDS`] in the schedule, however many wait for one.
+pub const MAX_RELEASES: u64 = 1 << 40;
 
 /// A schedule is asked for at most so many commands.
-pub const MOST_COMMANDS: u64 = 1_000_000;
+pub const MAX_COMMANDS: u64 = 1_000_000;
 
 /// How many rounds one pass of [`is_legal`] counts.
 const BLOCK: u64 = 4096;
@@ -90,17 +90,17 @@ impl CheckFault {
     }
 }
 
-/// Whether every release, due, scheduled and window round lies below [`ROUND_LIMIT`], as [`check`] requires.
+/// Whether every release, due, scheduled and window round lies below [`MAX_ROUNDS`], as [`check`] requires.
 pub fn in_range(commands: &[Command], rounds: &[u64], window: Window) -> bool
     ensures { IsTrue result
         ↔ (CommandsInRange commands.now × RoundsInRange rounds.now × WindowInRange window) }
 {
     commands
         .iter()
-        .all(|c| c.release < ROUND_LIMIT && c.due < ROUND_LIMIT)
-        && rounds.iter().all(|x| *x < ROUND_LIMIT)
-        && window.from < ROUND_LIMIT
-        && window.due < ROUND_LIMIT
+        .all(|c| c.release < MAX_ROUNDS && c.due < MAX_ROUNDS)
+        && rounds.iter().all(|x| *x < MAX_ROUNDS)
+        && window.from < MAX_ROUNDS
+        && window.due < MAX_ROUNDS
 }
 
 /// The window's load: how many commands are released at its `from` or later and due at its `due` or sooner.
@@ -192,7 +192,7 @@ pub fn is_legal<A: Allocator>(commands: &[Command], rounds: &[u64], capacity: &C
 
 /// The greatest of the commands' latenesses (Pinedo's Lmax), each its round less its due round: negative where all
 /// run before they are due. There is none exactly where there are no commands. There must be as many rounds as commands, and
-/// each round, release and due round lie below [`ROUND_LIMIT`].
+/// each round, release and due round lie below [`MAX_ROUNDS`].
 pub fn greatest_lateness(commands: &[Command], rounds: &[u64]) -> Option<i64>
     requires equal { length commands.now ≡ length rounds.now }
     requires commands_in { CommandsInRange commands.now }
@@ -266,7 +266,7 @@ fn end_of(window: Window, lateness: i64) -> u64
 /// to be less late: more than the rounds from the window's `from` to its `due + lateness - 1` carry. Where the
 /// answer is `Ok`, no legal schedule of these commands has a smaller greatest lateness.
 ///
-/// `lateness` is counted in rounds; every release, due, scheduled and window round lies below [`ROUND_LIMIT`], as
+/// `lateness` is counted in rounds; every release, due, scheduled and window round lies below [`MAX_ROUNDS`], as
 /// [`in_range`] tells.
 ///
 /// The answer depends on the claim alone, but for `Memory`, which may come in place of any answer after `BeforeRelease`.

@@ -13,7 +13,7 @@ ghost use Rattle.edd_check.specs.Schedule.{IsLegal};
 ghost use Rattle.edd_check.specs.Met.{number_met, IsMetBound, IsMostMet, holds, lies_in, can_be_met, inside_of, outside_of, carried_in, carried_by, bound_of, IsCover, IsFirstAstray, CoverInRange};
 ghost use Rattle.edd_check.specs.CheckMet.{IsMetAnswer};
 
-use crate::{Capacity, Command, ROUND_LIMIT, Window, first_early, least_over_deep};
+use crate::{Capacity, Command, MAX_ROUNDS, Window, first_early, least_over_deep};
 use std::alloc::Allocator;
 
 /// Why a claim of a greatest number is refused, in the order in which the reasons are looked for.
@@ -52,13 +52,13 @@ impl MetFault {
     }
 }
 
-/// Whether both numbers of each window lie below [`ROUND_LIMIT`], as [`check_met`] requires.
+/// Whether both numbers of each window lie below [`MAX_ROUNDS`], as [`check_met`] requires.
 pub fn cover_in_range(cover: &[Window]) -> bool
     ensures { IsTrue result ↔ CoverInRange cover.now }
 {
     cover
         .iter()
-        .all(|w| w.from < ROUND_LIMIT && w.due < ROUND_LIMIT)
+        .all(|w| w.from < MAX_ROUNDS && w.due < MAX_ROUNDS)
 }
 
 /// How many commands run no later than they are due; of two lists that are not equally long the places past the shorter
@@ -112,7 +112,7 @@ pub fn outside(commands: &[Command], cover: &[Window]) -> u64
     commands.iter().filter(|c| is_outside(**c, cover)).count() as u64
 }
 
-/// How many commands the window's rounds, `from` to `due`, carry; `due` must lie below [`ROUND_LIMIT`].
+/// How many commands the window's rounds, `from` to `due`, carry; `due` must lie below [`MAX_ROUNDS`].
 #[tactic(auto, unfolding(crate::specs::Met::carried_in))]
 pub fn carried_in<A: Allocator>(capacity: &Capacity<A>, window: Window) -> u64
     requires { window.due < round_limit }
@@ -122,7 +122,7 @@ pub fn carried_in<A: Allocator>(capacity: &Capacity<A>, window: Window) -> u64
     capacity.sum(window.from, window.due + 1)
 }
 
-/// How many commands the windows' rounds carry. The windows must be disjoint and rise, and lie below [`ROUND_LIMIT`].
+/// How many commands the windows' rounds carry. The windows must be disjoint and rise, and lie below [`MAX_ROUNDS`].
 pub fn carried_by<A: Allocator>(capacity: &Capacity<A>, cover: &[Window]) -> u64
     requires disjoint { IsCover cover.now }
     requires in_range { CoverInRange cover.now }
@@ -156,7 +156,7 @@ fn first_astray(cover: &[Window]) -> Option<usize>
 /// the commands that are released by their due round and lie in no window, is that number. Where the answer is `Ok`, no
 /// legal schedule of these commands meets more.
 ///
-/// A window's rounds are `from` to `due`. Both are below [`ROUND_LIMIT`], as [`cover_in_range`] tells.
+/// A window's rounds are `from` to `due`. Both are below [`MAX_ROUNDS`], as [`cover_in_range`] tells.
 ///
 /// The answer depends on the claim alone, but for `Memory`, which may come in place of any answer after `BeforeRelease`.
 /// Refused, in this order, as `Length`, `BeforeRelease`, `Memory`, `OverDepth`, `WrongMet`, `Windows` and `Loose`, with the

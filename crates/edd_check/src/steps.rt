@@ -4,12 +4,12 @@ ghost use Rattle.std.specs.Prelude.{◌≡◌, ◌≤◌, ◌<◌, ◌-◌, ◌*
 ghost use Rattle.edd_check.specs.Limits.{most_depth, round_limit};
 ghost use Rattle.edd_check.specs.Capacity.{depth_at, carried, fixed, IsCapacity, IsFault, IsInForce};
 
-use crate::ROUND_LIMIT;
+use crate::MAX_ROUNDS;
 use std::alloc::{AllocError, Allocator, Global};
 use std::marker::Model;
 
 /// A round carries at most so many commands, as a device's tags are at most so many.
-pub const MOST_DEPTH: u64 = 256;
+pub const MAX_DEPTH: u64 = 256;
 
 /// From the round `from` on, until the next step, a round carries `depth` commands.
 #[derive(Clone, Copy, Debug, PartialEq, Eq)]
@@ -27,9 +27,9 @@ pub enum CapacityFault {
     Start,
     /// The step at this place doesn't begin after the one before it.
     Rising(usize),
-    /// The depth at this place is 0 or above [`MOST_DEPTH`].
+    /// The depth at this place is 0 or above [`MAX_DEPTH`].
     Depth(usize),
-    /// The step at this place begins at [`ROUND_LIMIT`] or later.
+    /// The step at this place begins at [`MAX_ROUNDS`] or later.
     Round(usize),
 }
 
@@ -65,10 +65,10 @@ fn first_fault(steps: &[Step]) -> Option<CapacityFault>
         if place > 0 && step.from <= steps[place - 1].from {
             return Some(CapacityFault::Rising(place));
         }
-        if step.depth == 0 || step.depth > MOST_DEPTH {
+        if step.depth == 0 || step.depth > MAX_DEPTH {
             return Some(CapacityFault::Depth(place));
         }
-        if step.from >= ROUND_LIMIT {
+        if step.from >= MAX_ROUNDS {
             return Some(CapacityFault::Round(place));
         }
     }
@@ -129,7 +129,7 @@ impl<A: Allocator> Capacity<A> {
         }
     }
 
-    /// The same depth, 1 to [`MOST_DEPTH`], in every round.
+    /// The same depth, 1 to [`MAX_DEPTH`], in every round.
     pub fn fixed(alloc: A, depth: u64) -> Result<Capacity<A>, AllocError>
         requires some { 0 < depth }
         requires most { depth ≤ most_depth }

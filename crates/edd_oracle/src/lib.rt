@@ -33,10 +33,10 @@ use std::alloc::{Allocator, Global};
 /// Why a list is refused, in the order in which the reasons are looked for.
 #[derive(Clone, Copy, Debug, PartialEq, Eq)]
 pub enum OracleFault {
-    /// There are more than [`MOST_COMMANDS`](edd_check::MOST_COMMANDS) commands.
+    /// There are more than [`MAX_COMMANDS`](edd_check::MAX_COMMANDS) commands.
     TooMany,
-    /// The id of the first command by place that is released at [`RELEASE_LIMIT`](edd_check::RELEASE_LIMIT) or later or
-    /// due at [`ROUND_LIMIT`](edd_check::ROUND_LIMIT) or later.
+    /// The id of the first command by place that is released at [`MAX_RELEASES`](edd_check::MAX_RELEASES) or later or
+    /// due at [`MAX_ROUNDS`](edd_check::MAX_ROUNDS) or later.
     RoundRange(u64),
     /// The id of the first command by place whose id stood before.
     RepeatedId(u64),

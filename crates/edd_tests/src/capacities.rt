@@ -1,7 +1,7 @@
 //! Capacities: what they refuse, and how many commands their rounds carry.
 
 use crate::made::{fixed, steps};
-use edd_check::{Capacity, CapacityFault, ROUND_LIMIT, law_of_one_depth};
+use edd_check::{Capacity, CapacityFault, MAX_ROUNDS, law_of_one_depth};
 use std::alloc::Global;
 use std::process::Abort;
 
@@ -27,26 +27,26 @@ fn constructors_refuse(rt: HostRuntime) {
     refused(
         &rt,
         alloc,
-        &[(0, 1), (ROUND_LIMIT, 257)],
+        &[(0, 1), (MAX_ROUNDS, 257)],
         CapacityFault::Depth(1),
     );
     refused(
         &rt,
         alloc,
-        &[(0, 1), (ROUND_LIMIT, 256)],
+        &[(0, 1), (MAX_ROUNDS, 256)],
         CapacityFault::Round(1),
     );
 }
 
 #[test]
 fn steps_by_round(rt: HostRuntime) {
-    let list = steps(&rt, rt.alloc(), &[(0, 2), (1, 1), (ROUND_LIMIT - 1, 256)]);
+    let list = steps(&rt, rt.alloc(), &[(0, 2), (1, 1), (MAX_ROUNDS - 1, 256)]);
     let capacity = Capacity::new(list).expect(&rt, "a capacity");
     for (round, depth) in [
         (0, 2),
         (1, 1),
-        (ROUND_LIMIT - 2, 1),
-        (ROUND_LIMIT - 1, 256),
+        (MAX_ROUNDS - 2, 1),
+        (MAX_ROUNDS - 1, 256),
         (u64::MAX, 256),
     ] {
         assert_eq!(rt; capacity.at(round), depth);
@@ -57,7 +57,7 @@ fn steps_by_round(rt: HostRuntime) {
         (0, 3, 4),
         (3, 0, 0),
         (1, 5, 4),
-        (ROUND_LIMIT - 3, ROUND_LIMIT + 1, 514),
+        (MAX_ROUNDS - 3, MAX_ROUNDS + 1, 514),
     ] {
         assert_eq!(rt; capacity.sum(from, until), sum);
     }

@@ -1,7 +1,7 @@
 //! Claims of least lateness, good and spoiled.
 
 use crate::made::{checked, command, fixed, steps, window};
-use edd_check::{Capacity, CheckFault, ROUND_LIMIT, greatest_lateness, in_range, is_legal, load};
+use edd_check::{Capacity, CheckFault, MAX_ROUNDS, greatest_lateness, in_range, is_legal, load};
 
 #[test]
 fn spoiled_certificates(rt: HostRuntime) {
@@ -27,7 +27,7 @@ fn late_on_arrival(rt: HostRuntime) {
     let commands = [command(1, 5, 3)];
     let good = window(5, 3);
     assert!(rt; in_range(&commands, &[5], good));
-    assert!(rt; !in_range(&commands, &[ROUND_LIMIT], good));
+    assert!(rt; !in_range(&commands, &[MAX_ROUNDS], good));
     assert!(rt; is_legal(&commands, &[5], &one));
     assert!(rt; !is_legal(&commands, &[4], &one));
     assert_eq!(rt; greatest_lateness(&commands, &[5]), Some(2));
@@ -74,7 +74,7 @@ fn scattered_rounds(rt: HostRuntime) {
     let one = fixed(&rt, rt.alloc(), 1);
     let two = fixed(&rt, rt.alloc(), 2);
     let commands = [command(1, 0, 0); 4];
-    let rounds = [ROUND_LIMIT - 1, 0, ROUND_LIMIT - 1, 4096];
+    let rounds = [MAX_ROUNDS - 1, 0, MAX_ROUNDS - 1, 4096];
     assert!(rt; is_legal(&commands, &rounds, &two));
     assert!(rt; !is_legal(&commands, &rounds, &one));
     assert!(rt; !is_legal(&commands, &[0, 1, 2], &one));
