@@ -23,9 +23,9 @@ ghost use Rattle.blk_lists.specs.Proof.{proof_claimed, IsProofClaim};
 
 use crate::failure::Failure;
 use crate::meeting::judge_met;
-use blk_lists::{Certificate, Proof, Records, read_commands, read_proof, write_certificate};
 use blk_deadline::Tunables;
 use blk_kyber::Targets;
+use blk_lists::{Certificate, Proof, Records, read_commands, read_proof, write_certificate};
 use blk_sched::Scheduler;
 use blk_settings::sched::{deadline, earliest, kyber, none};
 use blk_settings::{Sched, SchedFault};
