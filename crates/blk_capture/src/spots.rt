@@ -8,12 +8,12 @@ use std::collections::BTreeMap;
 /// What something is looked for by; what it is not looked for by is 0.
 #[derive(Clone, Copy, Debug, PartialEq, Eq, PartialOrd, Ord)]
 pub(crate) struct Spot {
-    /// The process that owns it.
-    pid: u64,
+    /// A sector, the first one or the one after the last. It comes first, since it tells most spots apart.
+    sector: u64,
     /// Whether it is written.
     write: bool,
-    /// A sector, the first one or the one after the last.
-    sector: u64,
+    /// The process that owns it.
+    pid: u64,
     /// Where it ends.
     end: u64,
 }
@@ -81,7 +81,7 @@ impl<A: Allocator + Clone> Spots<A> {
     pub(crate) fn longer(&self, range: Range) -> Option<usize> {
         let spot = Spot::whole(range);
         let ((found, _), place) = self.places.range((spot, u64::MAX)..).next()?;
-        if found.write == spot.write && found.sector == spot.sector && found.end > spot.end {
+        if found.sector == spot.sector && found.write == spot.write && found.end > spot.end {
             Some(*place)
         } else {
             None
