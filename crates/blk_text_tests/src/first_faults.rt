@@ -2,9 +2,8 @@
 //! of the program.
 
 use crate::forms::{Form, first_other};
-use blk_bio::BioFault;
-use blk_lists::{TextFault, Why};
-use drafts::WriteFault;
+use blk_bio::{BioFault, TraceRule};
+use blk_lists::Why;
 
 #[test]
 fn faults_of_a_command_list(rt: HostRuntime) {
@@ -140,16 +139,8 @@ fn faults_of_a_certificate(rt: HostRuntime) {
 }
 
 #[test]
-fn faults_are_printed_by_name(rt: HostRuntime) {
-    let alloc = rt.alloc();
-    let fault = TextFault {
-        at: 8,
-        why: Why::Bio(BioFault::Range),
-    };
-    let printed = fault.to_string(alloc).expect(&rt, "memory");
-    assert_eq!(rt; printed.as_str(), "record 8: Range");
-    let printed = Why::TooLong.to_string(alloc).expect(&rt, "memory");
-    assert_eq!(rt; printed.as_str(), "TooLong");
-    let printed = WriteFault::Memory.to_string(alloc).expect(&rt, "memory");
-    assert_eq!(rt; printed.as_str(), "Memory");
+fn faults_have_names(rt: HostRuntime) {
+    assert_eq!(rt; Why::Bio(BioFault::Range).name(), "Range");
+    assert_eq!(rt; Why::Rule(TraceRule::TagUsed).name(), "TagUsed");
+    assert_eq!(rt; Why::TooLong.name(), "TooLong");
 }
