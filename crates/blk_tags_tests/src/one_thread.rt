@@ -81,10 +81,6 @@ fn depths_refused(rt: HostRuntime) {
     for depth in [0, 257, u64::MAX] {
         assert!(rt; matches!(TagSet::new(rt.alloc(), depth), Err(TagFault::Depth)));
     }
-    let names = format!(in rt.alloc(); "{} {}", TagFault::Depth, TagFault::Memory).expect(
-        &rt, "a text",
-    );
-    assert_eq!(rt; names.as_str(), "Depth Memory");
 }
 
 // Each allocation is refused in turn: `new` and `split` fail as long as one was refused, and then answer as ever.
