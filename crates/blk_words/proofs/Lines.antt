@@ -1,6 +1,7 @@
 -- What the command line reads of words.
-use Rattle.std.proofs.Common.{◌≡◌, ◌∙◌, List, [], ◌∷◌, Some, None, Option, box_value, option_map, ap, sym, subst, refl, codes, true, false, cond, inl, inr, ℕ, zero, suc, ◌<◌, ◌^◌, arith, length, take, get_or}
-use Rattle.std.specs.Prelude.{◌≢◌, Bool, Result, Ok, Err, find, option_and_then, if◌then◌else◌}
+use Rattle.std.proofs.Common.{◌≡◌, ◌∙◌, List, [], ◌∷◌, Some, None, Option, box_value, option_map, ap, sym, subst, refl, codes, true, false, cond, inl, inr, ℕ, zero, suc, ◌+◌, ◌<◌, ◌^◌, ◌++◌, arith, length, map, take, get_or}
+use Rattle.std.proofs.lemmas.List.Sums.{fold-append}
+use Rattle.std.specs.Prelude.{◌≢◌, Bool, Result, Ok, Err, IfOk, find, fold, option_and_then, if◌then◌else◌}
 use Rattle.std.specs.Option.{option_map_or}
 use Rattle.std.specs.Str.{bytes_eq}
 use Rattle.std.specs.Str.Parse.{IsNumeral, ParsesUnsigned, digits_value, without_leading_plus}
@@ -9,17 +10,22 @@ use Rattle.clap.proofs.ValueTestLemmas.{accepts-Accepts, Accepts-accepts}
 use Rattle.clap.specs.declared.builder.value_parser.ValueParser.TheVariants as vp
 use Rattle.clap.proofs.WalkLemmas.{first_value-rows, one_text-rows}
 use Rattle.clap.specs.declared.parser.matches.Found.{Found}
-use Rattle.clap.specs.Words.{App, Row, Text, ReadsOne, one_of, one_text, first_value, IsAmong, HasKind, subcommand_rows_of, subcommand_of, subcommand_name_of, is_simple, is_simple_and_free, fault_of, kind_of, rows_of, found_of, HasMatchesOf}
+use Rattle.clap.specs.declared.builder.command.Command.{Command}
+use Rattle.clap.specs.Words.{App, Row, Rule, Text, app_of, with_rule, ReadsOne, one_of, one_text, first_value, IsAmong, HasKind, subcommand_rows_of, subcommand_of, subcommand_name_of, is_simple, is_simple_and_free, fault_of, kind_of, rows_of, found_of, HasMatchesOf}
 use Rattle.clap.specs.declared.parser.matches.ArgMatches.{ArgMatches}
 use Rattle.clap.specs.declared.parser.matches.ArgMatches.TheViews.{out-ArgMatches, out-SubCommand}
 use Rattle.clap.specs.declared.error.Error.{Error}
 use Rattle.clap.specs.declared.error.kind.ErrorKind.{ErrorKind}
 use Rattle.clap.specs.declared.error.kind.ErrorKind.TheVariants as kind
 use Rattle.blk_settings.specs.declared.sched.Sched.{Sched}
-use Rattle.blk_words.specs.Line.{Names, AreSchedulers, blk_app}
+use Rattle.blk_deadline.specs.declared.Tunables.{Tunables}
+use Rattle.blk_kyber.specs.declared.Targets.{Targets}
+use Rattle.blk_settings.specs.Rows.{name_of}
+use Rattle.blk_words.specs.declared.table.Makes.{Makes}
+use Rattle.blk_words.specs.Line.{Names, AreSchedulers, Subcommand, blk_app}
 use Rattle.blk_words.specs.declared.words.Job.{Job}
 use Rattle.blk_words.specs.declared.words.Job.TheVariants as job
-use Rattle.blk_words.specs.Asked.{Asks, AreRefused, number_in, is_flagged, tunables_of, targets_of, sched_named, sched_of, job_of, job_read}
+use Rattle.blk_words.specs.Asked.{Asks, AreRefused, number_in, is_flagged, tunables_of, targets_of, scheds_of, sched_named, sched_of, job_made, job_of, job_read}
 
 simple : (names : Names) → is_simple (blk_app names) ≡ true
 simple names = refl
@@ -132,13 +138,52 @@ pub number_by : (bits most : ℕ) → IsGreatest bits most → {E : Type 0} (giv
     → (one_text f id ≡ None → r ≡ None) → ((t : Text) → one_text f id ≡ Some t → ReadsOne gives t r) → r ≡ option_and_then (number_in most) (one_of id (rows_of f))
 number_by bits most g gives w f id r none value = read_number bits most g gives w (one_text f id) r none value ∙ ap (option_and_then (number_in most)) (one_text-rows f id)
 
--- what is not among the first items is found among all where it is next, and nowhere where there are no more
+-- what is found after an item that is not it
+after : {X : Type 0} (test : X → Bool) (x y : X) (xs front : List X) (b : Bool) → test x ≡ b → cond b (Some x) (find test front) ≡ None → (find test front ≡ None → find test xs ≡ Some y) → find test (x ∷ xs) ≡ Some y
+after test x y xs front true e none rest = cc none
+after test x y xs front false e none rest = rw e (rest none)
+
+still : {X : Type 0} (test : X → Bool) (x : X) (xs front : List X) (b : Bool) → test x ≡ b → cond b (Some x) (find test front) ≡ None → (find test front ≡ None → find test xs ≡ None) → find test (x ∷ xs) ≡ None
+still test x xs front true e none rest = cc none
+still test x xs front false e none rest = rw e (rest none)
+
+-- what is not among the first items is the next one where that is it, and else not among one item more
 pub found_next : {X : Type 0} (test : X → Bool) (xs : List X) (i : ℕ) (d : X) → i < length xs → find test (take i xs) ≡ None → test (get_or xs i d) ≡ true → find test xs ≡ Some (get_or xs i d)
 found_next test [] i d lt none is = absurd (omega (arith, lt))
 found_next test (x ∷ xs) zero d lt none is = rw is refl
-found_next test (x ∷ xs) (suc i) d lt none is = later test x xs i d (omega (arith, lt)) (test x) refl none is
+found_next test (x ∷ xs) (suc i) d lt none is = after test x (get_or xs i d) xs (take i xs) (test x) refl none (λ n. found_next test xs i d (omega (arith, lt)) n is)
 
-later : {X : Type 0} (test : X → Bool) (x : X) (xs : List X) (i : ℕ) (d : X) → i < length xs → (b : Bool) → test x ≡ b → cond b (Some x) (find test (take i xs)) ≡ None → test (get_or xs i d) ≡ true
-    → find test (x ∷ xs) ≡ Some (get_or xs i d)
-later test x xs i d lt true e none is = cc none
-later test x xs i d lt false e none is = rw e (found_next test xs i d lt none is)
+not_yet : {X : Type 0} (test : X → Bool) (xs : List X) (i : ℕ) (d : X) → i < length xs → find test (take i xs) ≡ None → test (get_or xs i d) ≡ false → find test (take (suc i) xs) ≡ None
+not_yet test [] i d lt none is = absurd (omega (arith, lt))
+not_yet test (x ∷ xs) zero d lt none is = rw is refl
+not_yet test (x ∷ xs) (suc i) d lt none is = still test x (take (suc i) xs) (take i xs) (test x) refl none (λ n. not_yet test xs i d (omega (arith, lt)) n is)
+
+pub none_more : {X : Type 0} (test : X → Bool) (xs : List X) (i : ℕ) (d : X) → i < length xs → find test (take i xs) ≡ None → test (get_or xs i d) ≡ false → find test (take (i + 1) xs) ≡ None
+none_more test xs i d lt none is = let on : i + 1 ≡ suc i = omega arith in ap (λ n. find test (take n xs)) on ∙ not_yet test xs i d lt none is
+
+-- what is found among what a function gives
+of_either : {X Y : Type 0} (f : X → Y) (b : Bool) (x : X) (o : Option X) (p : Option Y) → p ≡ option_map f o → cond b (Some (f x)) p ≡ option_map f (cond b (Some x) o)
+of_either f true x o p e = refl
+of_either f false x o p e = e
+
+pub find_map : {X Y : Type 0} (test : Y → Bool) (f : X → Y) (xs : List X) → find test (map f xs) ≡ option_map f (find (λ x. test (f x)) xs)
+find_map test f [] = refl
+find_map test f (x ∷ xs) = of_either f (test (f x)) x (find (λ x. test (f x)) xs) (find test (map f xs)) (find_map test f xs)
+
+-- the job that is made where it is known what makes it, and where nothing does
+pub made : (o : Option Subcommand) (m : Makes) (rows : List Row) → Some m ≡ option_map (λ s. s.makes) o → job_made m rows ≡ option_and_then (λ s. job_made s.makes rows) o
+made None m rows e = cc e
+made (Some s) m rows e = let same : m ≡ s.makes = cc e in ap (λ k. job_made k rows) same
+
+pub not_made : (o : Option Subcommand) (rows : List Row) → None ≡ option_map (λ s. s.makes) o → None ≡ option_and_then (λ s. job_made s.makes rows) o
+not_made None rows e = refl
+not_made (Some s) rows e = cc e
+
+-- the scheduler by settings that are given
+pub named_by : (name : Text) (t : Tunables) (k : Targets) (b : Bool) (ot : Option Tunables) (ok : Option Targets) (ob : Bool) → Some t ≡ ot → Some k ≡ ok → b ≡ ob
+    → find (λ s. bytes_eq name (name_of s)) (scheds_of t k b) ≡ sched_named name ot ok ob
+named_by name t k b ot ok ob e f g = rw (← e, ← f, ← g) refl
+
+-- a command that a call made with these options behind the others
+pub with_both : {E : Type 0} (r : Result Command E) (a : App) (xs ys zs : List Rule) → ys ≡ zs → IfOk r (λ c. app_of c ≡ fold with_rule (fold with_rule a xs) ys) → IfOk r (λ c. app_of c ≡ fold with_rule a (xs ++ zs))
+with_both r a xs ys zs e h = subst (λ x. IfOk r (λ c. app_of c ≡ x)) (ap (fold with_rule (fold with_rule a xs)) e ∙ sym (fold-append with_rule a xs zs)) h
