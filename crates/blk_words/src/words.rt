@@ -62,9 +62,15 @@ pub enum NoJob {
     Nothing,
 }
 
+/// The names that an option may take.
+#[derive(Clone, Copy)]
+struct Among<'a> {
+    names: &'a [&'a str],
+}
+
 /// The argument of an option.
-fn option_arg<'a>(alloc: Global, row: &'a OptionRow, names: &'a [&'a str]) -> Arg<'a>
-    ensures rule { rule_of result ≡ rule_for names.entry row.now }
+fn option_arg<'a>(alloc: Global, row: &'a OptionRow, among: Among<'a>) -> Arg<'a>
+    ensures rule { rule_of result ≡ rule_for among.entry.names row.now }
     ensures local { result.global ≡ false }
 {
     let bare = Arg::new(alloc, row.name).long(row.name).help(row.help);
@@ -72,7 +78,7 @@ fn option_arg<'a>(alloc: Global, row: &'a OptionRow, names: &'a [&'a str]) -> Ar
         Takes::Nothing => bare.action(ArgAction::SetTrue),
         Takes::Sched => bare
             .action(ArgAction::Set)
-            .value_parser(names)
+            .value_parser(among.names)
             .default_value("none"),
         Takes::Short(default) => bare
             .action(ArgAction::Set)
@@ -93,15 +99,15 @@ fn with_options<'a>(
     alloc: Global,
     command: Command<'a>,
     rows: &'a [OptionRow],
-    names: &'a [&'a str],
+    among: Among<'a>,
 ) -> Result<Command<'a>, AllocError>
     requires { (fields_of command).has_globals ≡ false }
-    ensures app { IfOk result (λ c. app_of c ≡ fold with_rule (app_of command.entry) (map (rule_for names.entry) rows.now)) }
+    ensures app { IfOk result (λ c. app_of c ≡ fold with_rule (app_of command.entry) (map (rule_for among.entry.names) rows.now)) }
     ensures local { IfOk result (λ c. (fields_of c).has_globals ≡ false) }
 {
     let mut grown = command;
     for i in 0..rows.len() {
-        grown = grown.arg(option_arg(alloc, &rows[i], names))?;
+        grown = grown.arg(option_arg(alloc, &rows[i], among))?;
     }
     Ok(grown)
 }
@@ -110,15 +116,15 @@ fn with_options<'a>(
 fn command_of<'a>(
     alloc: Global,
     row: &'a CommandRow,
-    names: &'a [&'a str],
+    among: Among<'a>,
 ) -> Result<Command<'a>, AllocError>
-    ensures app { IfOk result (λ c. app_of c ≡ app_for (subcommand_of names.entry row.now)) }
+    ensures app { IfOk result (λ c. app_of c ≡ app_for (subcommand_of among.entry.names row.now)) }
     ensures local { IfOk result (λ c. (fields_of c).has_globals ≡ false) }
 {
     let bare = Command::new(alloc, row.name).about(row.about);
-    let own = with_options(alloc, bare, row.options, names)?;
+    let own = with_options(alloc, bare, row.options, among)?;
     if row.is_tuned {
-        with_options(alloc, own, TUNING.as_slice(), names)
+        with_options(alloc, own, TUNING.as_slice(), among)
     } else {
         Ok(own)
     }
@@ -129,13 +135,13 @@ fn with_commands<'a>(
     alloc: Global,
     command: Command<'a>,
     rows: &'a [CommandRow],
-    names: &'a [&'a str],
+    among: Among<'a>,
 ) -> Result<Command<'a>, AllocError>
-    ensures { IfOk result (λ c. app_of c ≡ fold with_one (app_of command.entry) (map (subcommand_of names.entry) rows.now)) }
+    ensures { IfOk result (λ c. app_of c ≡ fold with_one (app_of command.entry) (map (subcommand_of among.entry.names) rows.now)) }
 {
     let mut grown = command;
     for i in 0..rows.len() {
-        grown = grown.subcommand(command_of(alloc, &rows[i], names)?)?;
+        grown = grown.subcommand(command_of(alloc, &rows[i], among)?)?;
     }
     Ok(grown)
 }
@@ -148,7 +154,10 @@ fn blk_command<'a>(alloc: Global) -> Result<Command<'a>, AllocError>
         .version(VERSION)
         .about("A multiqueue block layer, and how far its schedules fall short of the best")
         .subcommand_required(true);
-    with_commands(alloc, blk, COMMANDS.as_slice(), SCHEDULERS.as_slice())
+    let among = Among {
+        names: SCHEDULERS.as_slice(),
+    };
+    with_commands(alloc, blk, COMMANDS.as_slice(), among)
 }
 
 /// The number of 16 bits that an option is given.

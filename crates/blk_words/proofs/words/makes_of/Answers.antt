@@ -1,4 +1,4 @@
-use Rattle.std.proofs.Common.{◌≡◌, ◌∙◌, ap, sym, arith, [], option_map}
+use Rattle.std.proofs.Common.{◌≡◌, ◌∙◌, ap, sym, false, arith, [], option_map}
 use Rattle.std.proofs.lemmas.List.{take_all}
 use Rattle.std.specs.Str.{bytes_eq}
 use Rattle.blk_words.specs.declared.words.Job.TheVariants as job

@@ -13,6 +13,6 @@ returns-in_err-name c = c.from_residual.ensures ∙ no_sched_by (found_of c.args
 pub returns : goal.returns
 returns c =
     let name = c.in_ok-name.name.now in
-    let all : c.as_slice.result.now ≡ scheds_of c.in_ok-tunables.tunables c.in_ok-targets.targets c.is_flagged.result = search rules in
+    let all : c.as_slice.result.now ≡ scheds_of c.in_ok-tunables.tunables c.in_ok-targets.targets c.is_flagged-late_last.result = search rules in
     sched_by (found_of c.args.options.now) name c.sched_named.result c.in_ok-name.ensures
-    (c.sched_named.ensures ∙ ap (find (λ s. bytes_eq name (name_of s))) all ∙ named_by name _ _ _ _ _ _ c.in_ok-tunables.ensures c.in_ok-targets.ensures c.is_flagged.ensures)
+    (c.sched_named.ensures ∙ ap (find (λ s. bytes_eq name (name_of s))) all ∙ named_by name _ _ _ _ _ _ c.in_ok-tunables.ensures c.in_ok-targets.ensures c.is_flagged-late_last.ensures)

@@ -7,6 +7,6 @@ use Rattle.blk_words.proofs.words.with_options.Given as goal
 
 abbrev pub invariant-loop-i : goal.invariant-loop-i
 invariant-loop-i l = record {
-  app : app_of l.grown ≡ fold (λ a o. with_rule a (rule_for l.fn.names o)) (app_of l.fn.command) (take l.i l.rows);
+  app : app_of l.grown ≡ fold (λ a o. with_rule a (rule_for l.among.names o)) (app_of l.fn.command) (take l.i l.rows);
   local : (fields_of l.grown).has_globals ≡ false;
 }
