@@ -11,7 +11,7 @@ use Rattle.clap.specs.declared.builder.value_parser.ValueParser.TheVariants as v
 use Rattle.clap.proofs.WalkLemmas.{first_value-rows, one_text-rows}
 use Rattle.clap.specs.declared.parser.matches.Found.{Found}
 use Rattle.clap.specs.declared.builder.command.Command.{Command}
-use Rattle.clap.specs.Words.{App, Row, Rule, Text, app_of, with_rule, ReadsOne, one_of, one_text, first_value, IsAmong, HasKind, subcommand_rows_of, subcommand_of, subcommand_name_of, is_simple, is_simple_and_free, fault_of, kind_of, rows_of, found_of, HasMatchesOf}
+use Rattle.clap.specs.Words.{App, Row, Rule, Text, app_of, with_rule, with_subcommand, ReadsOne, one_of, one_text, first_value, IsAmong, HasKind, subcommand_rows_of, subcommand_of, subcommand_name_of, is_simple, is_simple_and_free, fault_of, kind_of, rows_of, found_of, HasMatchesOf}
 use Rattle.clap.specs.declared.parser.matches.ArgMatches.{ArgMatches}
 use Rattle.clap.specs.declared.parser.matches.ArgMatches.TheViews.{out-ArgMatches, out-SubCommand}
 use Rattle.clap.specs.declared.error.Error.{Error}
@@ -187,3 +187,10 @@ named_by name t k b ot ok ob e f g = rw (← e, ← f, ← g) refl
 -- a command that a call made with these options behind the others
 pub with_both : {E : Type 0} (r : Result Command E) (a : App) (xs ys zs : List Rule) → ys ≡ zs → IfOk r (λ c. app_of c ≡ fold with_rule (fold with_rule a xs) ys) → IfOk r (λ c. app_of c ≡ fold with_rule a (xs ++ zs))
 with_both r a xs ys zs e h = subst (λ x. IfOk r (λ c. app_of c ≡ x)) (ap (fold with_rule (fold with_rule a xs)) e ∙ sym (fold-append with_rule a xs zs)) h
+
+-- a command with one subcommand more, and with one rule more
+pub adds_command : (x a b p q : App) → x ≡ with_subcommand a p.top → a ≡ b → p ≡ q → x ≡ with_subcommand b q.top
+adds_command x a b p q e f g = e ∙ ap (λ (y : App). with_subcommand y p.top) f ∙ ap (λ (r : App). with_subcommand b r.top) g
+
+pub adds_rule : (x a b : App) (p q : Rule) → x ≡ with_rule a p → a ≡ b → p ≡ q → x ≡ with_rule b q
+adds_rule x a b p q e f g = e ∙ ap (λ (y : App). with_rule y p) f ∙ ap (λ (r : Rule). with_rule b r) g

@@ -9,7 +9,7 @@ use Rattle.blk_words.proofs.Lines.{found_next, none_more, find_map}
 use Rattle.blk_words.proofs.words.makes_of.Goals as goal
 
 -- the row where there is none
-none : CommandRow
+abbrev none : CommandRow
 none = record { name = record { ref_ptr = (0, 0); now = [] }; about = record { ref_ptr = (0, 0); now = [] }; options = record { ref_ptr = (0, 0); now = [] }; is_tuned = false; makes = makes.Plain job.Version }
 
 pub returns-then-eq : goal.returns-then-eq
