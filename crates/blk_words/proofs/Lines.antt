@@ -1,6 +1,7 @@
 -- What the command line reads of words.
-use Rattle.std.proofs.Common.{◌≡◌, ◌∙◌, List, [], Some, None, Option, box_value, option_map, ap, sym, subst, refl, codes, true, false, inl, inr, ℕ, suc, ◌<◌, ◌^◌, arith}
-use Rattle.std.specs.Prelude.{◌≢◌, Bool, Result, Ok, Err, IfOk, option_and_then, if◌then◌else◌}
+use Rattle.std.proofs.Common.{◌≡◌, ◌∙◌, List, [], ◌∷◌, Some, None, Option, box_value, option_map, ap, sym, subst, refl, codes, true, false, cond, inl, inr, ℕ, zero, suc, ◌+◌, ◌<◌, ◌^◌, ◌++◌, arith, length, map, take, get_or}
+use Rattle.std.proofs.lemmas.List.Sums.{fold-append}
+use Rattle.std.specs.Prelude.{◌≢◌, Bool, Result, Ok, Err, IfOk, find, fold, option_and_then, if◌then◌else◌}
 use Rattle.std.specs.Option.{option_map_or}
 use Rattle.std.specs.Str.{bytes_eq}
 use Rattle.std.specs.Str.Parse.{IsNumeral, ParsesUnsigned, digits_value, without_leading_plus}
@@ -9,21 +10,22 @@ use Rattle.clap.proofs.ValueTestLemmas.{accepts-Accepts, Accepts-accepts}
 use Rattle.clap.specs.declared.builder.value_parser.ValueParser.TheVariants as vp
 use Rattle.clap.proofs.WalkLemmas.{first_value-rows, one_text-rows}
 use Rattle.clap.specs.declared.parser.matches.Found.{Found}
-use Rattle.clap.specs.Words.{App, Rule, Row, Text, with_rule, with_subcommand, ReadsOne, one_of, one_text, first_value, IsAmong, HasKind, subcommand_rows_of, subcommand_of, subcommand_name_of, is_simple, is_simple_and_free, fault_of, kind_of, rows_of, found_of, HasMatchesOf, app_of}
 use Rattle.clap.specs.declared.builder.command.Command.{Command}
+use Rattle.clap.specs.Words.{App, Row, Rule, Text, app_of, with_rule, with_subcommand, ReadsOne, one_of, one_text, first_value, IsAmong, HasKind, subcommand_rows_of, subcommand_of, subcommand_name_of, is_simple, is_simple_and_free, fault_of, kind_of, rows_of, found_of, HasMatchesOf}
 use Rattle.clap.specs.declared.parser.matches.ArgMatches.{ArgMatches}
 use Rattle.clap.specs.declared.parser.matches.ArgMatches.TheViews.{out-ArgMatches, out-SubCommand}
 use Rattle.clap.specs.declared.error.Error.{Error}
 use Rattle.clap.specs.declared.error.kind.ErrorKind.{ErrorKind}
 use Rattle.clap.specs.declared.error.kind.ErrorKind.TheVariants as kind
+use Rattle.blk_settings.specs.declared.sched.Sched.{Sched}
 use Rattle.blk_deadline.specs.declared.Tunables.{Tunables}
 use Rattle.blk_kyber.specs.declared.Targets.{Targets}
-use Rattle.blk_settings.specs.declared.sched.Sched.{Sched}
-use Rattle.blk_settings.specs.declared.sched.Sched.TheVariants as sched
-use Rattle.blk_words.specs.Line.{Names, AreSchedulers, blk_app}
+use Rattle.blk_settings.specs.Rows.{name_of}
+use Rattle.blk_words.specs.declared.table.Makes.{Makes}
+use Rattle.blk_words.specs.Line.{Names, AreSchedulers, Subcommand, blk_app}
 use Rattle.blk_words.specs.declared.words.Job.{Job}
 use Rattle.blk_words.specs.declared.words.Job.TheVariants as job
-use Rattle.blk_words.specs.Asked.{Asks, AreRefused, number_in, is_flagged, tunables_of, targets_of, sched_named, sched_of, job_of, job_read}
+use Rattle.blk_words.specs.Asked.{Asks, AreRefused, number_in, is_flagged, tunables_of, targets_of, scheds_of, sched_named, sched_of, job_made, job_of, job_read}
 
 simple : (names : Names) → is_simple (blk_app names) ≡ true
 simple names = refl
@@ -55,19 +57,19 @@ nothing_read m e = neither (subcommand_rows_of m) (e ∙ named m)
 
 -- words that were parsed ask for the job that they name, and are refused where they name none
 pub asks_by : (names : Names) (a : App) (words : List Text) (m : ArgMatches) (j : Job) → AreSchedulers names → a ≡ blk_app names → HasMatchesOf a words m
-    → (is_simple_and_free a ≡ true → fault_of a words ≡ []) → Some j ≡ option_and_then job_of (subcommand_rows_of m) → Asks words j
+    → (is_simple_and_free a ≡ true → fault_of a words ≡ []) → Some j ≡ option_and_then (job_of names) (subcommand_rows_of m) → Asks words j
 asks_by names a words m j are e has kinds is =
     let h = (rw e at has) (simple names) in
     let f : fault_of (blk_app names) words ≡ [] = (rw e at kinds) (free names) in
-    let read : option_and_then job_of (subcommand_rows_of m) ≡ job_read (blk_app names) words = ap (option_and_then job_of) {y = subcommand_of (blk_app names) words} h.1 in
+    let read : option_and_then (job_of names) (subcommand_rows_of m) ≡ job_read names words = ap (option_and_then (job_of names)) {y = subcommand_of (blk_app names) words} h.1 in
     (names, are, inl (f, sym (is ∙ read)))
 
 pub refused_by : (names : Names) (a : App) (words : List Text) (m : ArgMatches) → AreSchedulers names → a ≡ blk_app names → HasMatchesOf a words m
-    → (is_simple_and_free a ≡ true → fault_of a words ≡ []) → None ≡ option_and_then job_of (subcommand_rows_of m) → AreRefused words
+    → (is_simple_and_free a ≡ true → fault_of a words ≡ []) → None ≡ option_and_then (job_of names) (subcommand_rows_of m) → AreRefused words
 refused_by names a words m are e has kinds is =
     let h = (rw e at has) (simple names) in
     let f : fault_of (blk_app names) words ≡ [] = (rw e at kinds) (free names) in
-    let read : option_and_then job_of (subcommand_rows_of m) ≡ job_read (blk_app names) words = ap (option_and_then job_of) {y = subcommand_of (blk_app names) words} h.1 in
+    let read : option_and_then (job_of names) (subcommand_rows_of m) ≡ job_read names words = ap (option_and_then (job_of names)) {y = subcommand_of (blk_app names) words} h.1 in
     (names, are, inr (f, sym (is ∙ read)))
 
 among : (names : Names) (a : App) (words : List Text) (error : Error) (k : ErrorKind) → a ≡ blk_app names → (is_simple_and_free a ≡ true → HasKind (fault_of a words) error)
@@ -87,11 +89,11 @@ pub line_by : (names : Names) (a : App) (words : List Text) (error : Error) (k :
 line_by names a words error k are e kinds is not other = (names, are, inl (k, among names a words error k e kinds is not, other))
 
 -- the scheduler by the text that its option is given; and where it is given none
-pub sched_by : (f : Found) (name : Text) (s : Option Sched) → Some name ≡ first_value f (codes "sched") → sched_named (rows_of f) name ≡ s → s ≡ sched_of (rows_of f)
-sched_by f name s e is = sym is ∙ ap (option_and_then (sched_named (rows_of f))) (e ∙ first_value-rows f (codes "sched"))
+pub sched_by : (f : Found) (name : Text) (s : Option Sched) → Some name ≡ first_value f (codes "sched") → s ≡ sched_named name (tunables_of (rows_of f)) (targets_of (rows_of f)) (is_flagged (codes "late-last") (rows_of f)) → s ≡ sched_of (rows_of f)
+sched_by f name s e is = is ∙ ap (option_and_then (λ name. sched_named name (tunables_of (rows_of f)) (targets_of (rows_of f)) (is_flagged (codes "late-last") (rows_of f)))) (e ∙ first_value-rows f (codes "sched"))
 
 pub no_sched_by : (f : Found) → None ≡ first_value f (codes "sched") → None ≡ sched_of (rows_of f)
-no_sched_by f e = ap (option_and_then (sched_named (rows_of f))) (e ∙ first_value-rows f (codes "sched"))
+no_sched_by f e = ap (option_and_then (λ name. sched_named name (tunables_of (rows_of f)) (targets_of (rows_of f)) (is_flagged (codes "late-last") (rows_of f)))) (e ∙ first_value-rows f (codes "sched"))
 
 -- the flag by the text that is given
 pub flagged_by : (f : Found) (id text : Text) (b : Bool) → Some text ≡ first_value f id → b ≡ bytes_eq text (codes "true") → b ≡ is_flagged id (rows_of f)
@@ -136,47 +138,59 @@ pub number_by : (bits most : ℕ) → IsGreatest bits most → {E : Type 0} (giv
     → (one_text f id ≡ None → r ≡ None) → ((t : Text) → one_text f id ≡ Some t → ReadsOne gives t r) → r ≡ option_and_then (number_in most) (one_of id (rows_of f))
 number_by bits most g gives w f id r none value = read_number bits most g gives w (one_text f id) r none value ∙ ap (option_and_then (number_in most)) (one_text-rows f id)
 
--- the scheduler of a name, by which of the names it is
-abbrev none_or : Bool → Option Sched → Option Sched
-none_or is other = if is then Some sched.None else other
+-- what is found after an item that is not it
+after : {X : Type 0} (test : X → Bool) (x y : X) (xs front : List X) (b : Bool) → test x ≡ b → cond b (Some x) (find test front) ≡ None → (find test front ≡ None → find test xs ≡ Some y) → find test (x ∷ xs) ≡ Some y
+after test x y xs front true e none rest = cc none
+after test x y xs front false e none rest = rw e (rest none)
 
-abbrev deadline_or : Bool → Option Tunables → Option Sched → Option Sched
-deadline_or is o other = if is then option_map sched.Deadline o else other
+still : {X : Type 0} (test : X → Bool) (x : X) (xs front : List X) (b : Bool) → test x ≡ b → cond b (Some x) (find test front) ≡ None → (find test front ≡ None → find test xs ≡ None) → find test (x ∷ xs) ≡ None
+still test x xs front true e none rest = cc none
+still test x xs front false e none rest = rw e (rest none)
 
-abbrev kyber_or : Bool → Option Targets → Option Sched → Option Sched
-kyber_or is o other = if is then option_map sched.Kyber o else other
+-- what is not among the first items is the next one where that is it, and else not among one item more
+pub found_next : {X : Type 0} (test : X → Bool) (xs : List X) (i : ℕ) (d : X) → i < length xs → find test (take i xs) ≡ None → test (get_or xs i d) ≡ true → find test xs ≡ Some (get_or xs i d)
+found_next test [] i d lt none is = absurd (omega (arith, lt))
+found_next test (x ∷ xs) zero d lt none is = rw is refl
+found_next test (x ∷ xs) (suc i) d lt none is = after test x (get_or xs i d) xs (take i xs) (test x) refl none (λ n. found_next test xs i d (omega (arith, lt)) n is)
 
-abbrev earliest_or : Bool → Bool → Option Sched
-earliest_or is late_last = if is then Some (sched.Earliest late_last) else None
+not_yet : {X : Type 0} (test : X → Bool) (xs : List X) (i : ℕ) (d : X) → i < length xs → find test (take i xs) ≡ None → test (get_or xs i d) ≡ false → find test (take (suc i) xs) ≡ None
+not_yet test [] i d lt none is = absurd (omega (arith, lt))
+not_yet test (x ∷ xs) zero d lt none is = rw is refl
+not_yet test (x ∷ xs) (suc i) d lt none is = still test x (take (suc i) xs) (take i xs) (test x) refl none (λ n. not_yet test xs i d (omega (arith, lt)) n is)
 
-by_name : (rows : List Row) (name : Text) (a b d f : Bool) → bytes_eq name (codes "none") ≡ a → bytes_eq name (codes "deadline") ≡ b → bytes_eq name (codes "kyber") ≡ d → bytes_eq name (codes "earliest") ≡ f
-    → sched_named rows name ≡ none_or a (deadline_or b (tunables_of rows) (kyber_or d (targets_of rows) (earliest_or f (is_flagged (codes "late-last") rows))))
-by_name rows name a b d f e g h i = rw (e, g, h, i) refl
+pub none_more : {X : Type 0} (test : X → Bool) (xs : List X) (i : ℕ) (d : X) → i < length xs → find test (take i xs) ≡ None → test (get_or xs i d) ≡ false → find test (take (i + 1) xs) ≡ None
+none_more test xs i d lt none is = let on : i + 1 ≡ suc i = omega arith in ap (λ n. find test (take n xs)) on ∙ not_yet test xs i d lt none is
 
-pub deadline_named : (rows : List Row) (name : Text) (o : Option Tunables) → bytes_eq name (codes "none") ≡ false → bytes_eq name (codes "deadline") ≡ true
-    → o ≡ tunables_of rows → sched_named rows name ≡ option_map sched.Deadline o
-deadline_named rows name o other is given = by_name rows name _ _ _ _ other is refl refl ∙ ap (option_map sched.Deadline) (sym given)
+-- what is found among what a function gives
+of_either : {X Y : Type 0} (f : X → Y) (b : Bool) (x : X) (o : Option X) (p : Option Y) → p ≡ option_map f o → cond b (Some (f x)) p ≡ option_map f (cond b (Some x) o)
+of_either f true x o p e = refl
+of_either f false x o p e = e
 
-pub kyber_named : (rows : List Row) (name : Text) (o : Option Targets) → bytes_eq name (codes "none") ≡ false → bytes_eq name (codes "deadline") ≡ false → bytes_eq name (codes "kyber") ≡ true
-    → o ≡ targets_of rows → sched_named rows name ≡ option_map sched.Kyber o
-kyber_named rows name o other another is given = by_name rows name _ _ _ _ other another is refl ∙ ap (option_map sched.Kyber) (sym given)
+pub find_map : {X Y : Type 0} (test : Y → Bool) (f : X → Y) (xs : List X) → find test (map f xs) ≡ option_map f (find (λ x. test (f x)) xs)
+find_map test f [] = refl
+find_map test f (x ∷ xs) = of_either f (test (f x)) x (find (λ x. test (f x)) xs) (find test (map f xs)) (find_map test f xs)
 
-pub earliest_named : (rows : List Row) (name : Text) (late_last : Bool) → bytes_eq name (codes "none") ≡ false → bytes_eq name (codes "deadline") ≡ false → bytes_eq name (codes "kyber") ≡ false
-    → bytes_eq name (codes "earliest") ≡ true → late_last ≡ is_flagged (codes "late-last") rows → sched_named rows name ≡ Some (sched.Earliest late_last)
-earliest_named rows name late_last other another third is given = by_name rows name _ _ _ _ other another third is ∙ ap (λ (b : Bool). Some (sched.Earliest b)) (sym given)
+-- the job that is made where it is known what makes it, and where nothing does
+pub made : (o : Option Subcommand) (m : Makes) (rows : List Row) → Some m ≡ option_map (λ s. s.makes) o → job_made m rows ≡ option_and_then (λ s. job_made s.makes rows) o
+made None m rows e = cc e
+made (Some s) m rows e = let same : m ≡ s.makes = cc e in ap (λ k. job_made k rows) same
 
-pub unnamed : (rows : List Row) (name : Text) → bytes_eq name (codes "none") ≡ false → bytes_eq name (codes "deadline") ≡ false → bytes_eq name (codes "kyber") ≡ false → bytes_eq name (codes "earliest") ≡ false
-    → sched_named rows name ≡ None
-unnamed rows name other another third fourth = by_name rows name _ _ _ _ other another third fourth
+pub not_made : (o : Option Subcommand) (rows : List Row) → None ≡ option_map (λ s. s.makes) o → None ≡ option_and_then (λ s. job_made s.makes rows) o
+not_made None rows e = refl
+not_made (Some s) rows e = cc e
 
--- a command with one subcommand more
+-- the scheduler by settings that are given
+pub named_by : (name : Text) (t : Tunables) (k : Targets) (b : Bool) (ot : Option Tunables) (ok : Option Targets) (ob : Bool) → Some t ≡ ot → Some k ≡ ok → b ≡ ob
+    → find (λ s. bytes_eq name (name_of s)) (scheds_of t k b) ≡ sched_named name ot ok ob
+named_by name t k b ot ok ob e f g = rw (← e, ← f, ← g) refl
+
+-- a command that a call made with these options behind the others
+pub with_both : {E : Type 0} (r : Result Command E) (a : App) (xs ys zs : List Rule) → ys ≡ zs → IfOk r (λ c. app_of c ≡ fold with_rule (fold with_rule a xs) ys) → IfOk r (λ c. app_of c ≡ fold with_rule a (xs ++ zs))
+with_both r a xs ys zs e h = subst (λ x. IfOk r (λ c. app_of c ≡ x)) (ap (fold with_rule (fold with_rule a xs)) e ∙ sym (fold-append with_rule a xs zs)) h
+
+-- a command with one subcommand more, and with one rule more
 pub adds_command : (x a b p q : App) → x ≡ with_subcommand a p.top → a ≡ b → p ≡ q → x ≡ with_subcommand b q.top
 adds_command x a b p q e f g = e ∙ ap (λ (y : App). with_subcommand y p.top) f ∙ ap (λ (r : App). with_subcommand b r.top) g
 
--- a command with one rule more
 pub adds_rule : (x a b : App) (p q : Rule) → x ≡ with_rule a p → a ≡ b → p ≡ q → x ≡ with_rule b q
 adds_rule x a b p q e f g = e ∙ ap (λ (y : App). with_rule y p) f ∙ ap (λ (r : Rule). with_rule b r) g
-
--- a command that a call made of another one, of which more is known; and with the names of the schedulers
-pub of_known : {E : Type 0} (r : Result Command E) (f : App → App) (a b : App) → a ≡ b → IfOk r (λ c. app_of c ≡ f a) → IfOk r (λ c. app_of c ≡ f b)
-of_known r f a b e h = subst (λ (x : App). IfOk r (λ c. app_of c ≡ f x)) e h

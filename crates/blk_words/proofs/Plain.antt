@@ -39,7 +39,7 @@ any_names P h names are = go P h names.ref_ptr names.now are
 
 -- a line is read as a job, whatever the places
 abbrev pub IsReadAs : List Text → Job → Names → Type 0
-IsReadAs words j names = (fault_of (blk_app names) words ≡ []) × (job_read (blk_app names) words ≡ Some j)
+IsReadAs words j names = (fault_of (blk_app names) words ≡ []) × (job_read names words ≡ Some j)
 
 -- then it asks for that job alone
 pub asks_alone : (words : List Text) (k : Job) → ((p q r s t : ℕ × ℕ) → IsReadAs words k (at_places p q r s t)) → (j : Job) → Asks words j ↔ (j ≡ k)
@@ -51,7 +51,7 @@ asks_alone words k h j = (
 
 -- a line is read as no job, whatever the places; then it asks for none
 abbrev pub IsReadAsNothing : List Text → Names → Type 0
-IsReadAsNothing words names = (fault_of (blk_app names) words ≡ []) × (job_read (blk_app names) words ≡ None)
+IsReadAsNothing words names = (fault_of (blk_app names) words ≡ []) × (job_read names words ≡ None)
 
 pub asks_nothing : (words : List Text) → ((p q r s t : ℕ × ℕ) → IsReadAsNothing words (at_places p q r s t)) → (j : Job) → Asks words j → ⊥
 asks_nothing words h j a =

@@ -1,5 +1,5 @@
 -- What the words of a command line ask for.
-use Rattle.std.specs.Prelude.{◌≡◌, ◌≢◌, ◌⊎◌, ◌&&◌, ℕ, Bool, false, not, List, [], Option, Some, None, codes, option_map, option_and_then, if◌then◌else◌}
+use Rattle.std.specs.Prelude.{◌≡◌, ◌≢◌, ◌⊎◌, ◌&&◌, ◌∷◌, ℕ, Bool, false, not, List, [], find, Option, Some, None, codes, option_map, option_and_then, if◌then◌else◌}
 use Rattle.std.specs.Option.{option_map_or}
 use Rattle.std.specs.Str.{bytes_eq}
 use Rattle.std.specs.Str.Parse.{digits_value, without_leading_plus}
@@ -8,14 +8,17 @@ use Rattle.clap.specs.declared.builder.value_parser.ValueParser.TheVariants as v
 use Rattle.blk_deadline.specs.declared.Tunables.{Tunables}
 use Rattle.blk_settings.specs.declared.numbers.Load.{Load}
 use Rattle.blk_kyber.specs.declared.Targets.{Targets}
-use Rattle.clap.specs.Words.{App, Row, Text, IsAmong, fault_of, first_of, one_of, subcommand_of}
+use Rattle.clap.specs.Words.{Row, Text, IsAmong, fault_of, first_of, one_of, subcommand_of}
 use Rattle.clap.specs.declared.error.kind.ErrorKind.{ErrorKind}
 use Rattle.clap.specs.declared.error.kind.ErrorKind.TheVariants as kind
 use Rattle.blk_settings.specs.declared.sched.Sched.{Sched}
 use Rattle.blk_settings.specs.declared.sched.Sched.TheVariants as sched
 use Rattle.blk_words.specs.declared.words.Job.{Job}
 use Rattle.blk_words.specs.declared.words.Job.TheVariants as job
-use Rattle.blk_words.specs.Line.{Names, AreSchedulers, blk_app}
+use Rattle.blk_words.specs.declared.table.Makes.{Makes}
+use Rattle.blk_words.specs.declared.table.Makes.TheVariants as makes
+use Rattle.blk_settings.specs.Rows.{name_of}
+use Rattle.blk_words.specs.Line.{Names, AreSchedulers, table, blk_app}
 
 -- a number in decimal digits, up to the most
 abbrev pub number_in : ℕ → Text → Option ℕ
@@ -45,17 +48,16 @@ aimed read write = option_and_then (λ r. option_map (λ w. record { read = r; w
 abbrev pub targets_of : List Row → Option Targets
 targets_of rows = aimed (number_given (codes "read-target") rows) (number_given (codes "write-target") rows)
 
--- the scheduler of a name, with its settings
-abbrev pub sched_named : List Row → Text → Option Sched
-sched_named rows name =
-    if bytes_eq name (codes "none") then Some sched.None
-    else (if bytes_eq name (codes "deadline") then option_map sched.Deadline (tunables_of rows)
-    else (if bytes_eq name (codes "kyber") then option_map sched.Kyber (targets_of rows)
-    else (if bytes_eq name (codes "earliest") then Some (sched.Earliest (is_flagged (codes "late-last") rows)) else None)))
+-- the schedulers of these settings, and the one that has this name
+abbrev pub scheds_of : Tunables → Targets → Bool → List Sched
+scheds_of t k late_last = sched.None ∷ sched.Deadline t ∷ sched.Kyber k ∷ sched.Earliest late_last ∷ []
 
--- the scheduler that the options of `sim` name
+abbrev pub sched_named : Text → Option Tunables → Option Targets → Bool → Option Sched
+sched_named name t k late_last = option_and_then (λ t. option_and_then (λ k. find (λ s. bytes_eq name (name_of s)) (scheds_of t k late_last)) k) t
+
+-- the scheduler that the options name
 abbrev pub sched_of : List Row → Option Sched
-sched_of rows = option_and_then (sched_named rows) (first_of (codes "sched") rows)
+sched_of rows = option_and_then (λ name. sched_named name (tunables_of rows) (targets_of rows) (is_flagged (codes "late-last") rows)) (first_of (codes "sched") rows)
 
 -- whether earliest is compared too, and then whether late last; and the comparison with these settings
 abbrev pub earliest_of : Bool → Bool → Option Bool
@@ -76,16 +78,6 @@ amounts_of rows = amounts (number_given (codes "submitters") rows) (number_given
 abbrev pub loaded : Option Sched → Option Load → Option Job
 loaded s l = option_and_then (λ s. option_map (λ l. job.Load s l) l) s
 
--- the job of a subcommand without options
-abbrev pub plain_job : Text → Option Job
-plain_job name =
-    if bytes_eq name (codes "migrate") then Some job.Migrate
-    else (if bytes_eq name (codes "commands") then Some job.Commands
-    else (if bytes_eq name (codes "late") then Some job.Late
-    else (if bytes_eq name (codes "misses") then Some job.Misses
-    else (if bytes_eq name (codes "spread") then Some job.Spread
-    else (if bytes_eq name (codes "check") then Some job.Check else None)))))
-
 -- the job of `oracle` by whether its flags are given, which may not stand together
 abbrev pub oracle_job : Bool → Bool → Option Job
 oracle_job trace met =
@@ -93,35 +85,38 @@ oracle_job trace met =
     else (if trace then Some job.Report
     else (if met then Some job.Met else Some job.Oracle))
 
--- the job of a subcommand, by its name and what its options are given
-abbrev pub job_of : Text × List Row → Option Job
-job_of p =
-    if bytes_eq p.0 (codes "sim") then option_map job.Sim (sched_of p.1)
-    else (if bytes_eq p.0 (codes "compare") then compared (tunables_of p.1) (targets_of p.1) (earliest_of (is_flagged (codes "earliest") p.1) (is_flagged (codes "late-last") p.1))
-    else (if bytes_eq p.0 (codes "oracle") then oracle_job (is_flagged (codes "trace") p.1) (is_flagged (codes "met") p.1)
-    else (if bytes_eq p.0 (codes "load") then loaded (sched_of p.1) (amounts_of p.1)
-    else plain_job p.0)))
+-- the job that a subcommand makes of what its options are given
+abbrev pub job_made : Makes → List Row → Option Job
+job_made (makes.Plain j) rows = Some j
+job_made makes.Sim rows = option_map job.Sim (sched_of rows)
+job_made makes.Compare rows = compared (tunables_of rows) (targets_of rows) (earliest_of (is_flagged (codes "earliest") rows) (is_flagged (codes "late-last") rows))
+job_made makes.Oracle rows = oracle_job (is_flagged (codes "trace") rows) (is_flagged (codes "met") rows)
+job_made makes.Load rows = loaded (sched_of rows) (amounts_of rows)
+
+-- the job of the subcommand of a name, by what its options are given
+abbrev pub job_of : Names → Text × List Row → Option Job
+job_of names p = option_and_then (λ s. job_made s.makes p.1) (find (λ s. bytes_eq p.0 s.name) (table names))
 
 -- the job that the command line reads in words
-abbrev pub job_read : App → List Text → Option Job
-job_read app words = option_and_then job_of (subcommand_of app words)
+abbrev pub job_read : Names → List Text → Option Job
+job_read names words = option_and_then (job_of names) (subcommand_of (blk_app names) words)
 
 -- the command line takes the words for this job, or they ask for the version
-abbrev pub TakesFor : App → List Text → Job → Type 0
-TakesFor app words j =
-    ((fault_of app words ≡ []) × (job_read app words ≡ Some j))
-    ⊎ (IsAmong kind.DisplayVersion (fault_of app words) × (j ≡ job.Version))
+abbrev pub TakesFor : Names → List Text → Job → Type 0
+TakesFor names words j =
+    ((fault_of (blk_app names) words ≡ []) × (job_read names words ≡ Some j))
+    ⊎ (IsAmong kind.DisplayVersion (fault_of (blk_app names) words) × (j ≡ job.Version))
 
 -- the command line finds a fault in the words, which is no question for the version, or reads no job in them
-abbrev pub Refuses : App → List Text → Type 0
-Refuses app words =
-    ((k : ErrorKind) × IsAmong k (fault_of app words) × (k ≢ kind.DisplayVersion))
-    ⊎ ((fault_of app words ≡ []) × (job_read app words ≡ None))
+abbrev pub Refuses : Names → List Text → Type 0
+Refuses names words =
+    ((k : ErrorKind) × IsAmong k (fault_of (blk_app names) words) × (k ≢ kind.DisplayVersion))
+    ⊎ ((fault_of (blk_app names) words ≡ []) × (job_read names words ≡ None))
 
 -- the words ask for this job
 abbrev pub Asks : List Text → Job → Type 0
-Asks words j = (names : Names) × AreSchedulers names × TakesFor (blk_app names) words j
+Asks words j = (names : Names) × AreSchedulers names × TakesFor names words j
 
 -- the words ask for nothing
 abbrev pub AreRefused : List Text → Type 0
-AreRefused words = (names : Names) × AreSchedulers names × Refuses (blk_app names) words
+AreRefused words = (names : Names) × AreSchedulers names × Refuses names words

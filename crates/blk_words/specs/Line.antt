@@ -1,10 +1,20 @@
 -- The command line, as data.
-use Rattle.std.specs.Prelude.{ℕ, ◌≡◌, pos, true, List, Some, [], ◌∷◌, codes, map}
+use Rattle.std.specs.Prelude.{ℕ, ◌≡◌, ◌++◌, pos, List, Some, [], ◌∷◌, codes, map, fold, true, if◌then◌else◌}
 use Rattle.std.specs.Borrow.{Bor}
 use Rattle.clap.specs.Words.{App, Rule, Text, new_app, new_rule, with_rule, with_subcommand}
 use Rattle.clap.specs.declared.builder.ArgAction.TheVariants.{Set, SetTrue}
 use Rattle.clap.specs.declared.builder.value_parser.ValueParser.{ValueParser}
 use Rattle.clap.specs.declared.builder.value_parser.ValueParser.TheVariants as vp
+use Rattle.blk_settings.specs.declared.numbers.TheConstants.{MAX_SUBMITTERS, MAX_LOAD_WORKERS, MAX_LOAD_BIOS, MAX_LOAD_DEPTH}
+use Rattle.blk_words.specs.declared.words.Job.{Job}
+use Rattle.blk_words.specs.declared.words.Job.TheVariants as job
+use Rattle.blk_words.specs.declared.table.TheConstants.{MAX_TARGET, MAX_BUSY}
+use Rattle.blk_words.specs.declared.table.Takes.{Takes}
+use Rattle.blk_words.specs.declared.table.Takes.TheVariants as takes
+use Rattle.blk_words.specs.declared.table.Makes.{Makes}
+use Rattle.blk_words.specs.declared.table.Makes.TheVariants as makes
+use Rattle.blk_words.specs.declared.table.OptionRow.{OptionRow}
+use Rattle.blk_words.specs.declared.table.CommandRow.{CommandRow}
 
 -- names behind a reference
 abbrev pub Names : Type 0
@@ -14,79 +24,90 @@ Names = Bor (List (Bor Text))
 abbrev pub AreSchedulers : Names → Type 0
 AreSchedulers names = map (λ name. name.now) names.now ≡ codes "none" ∷ codes "deadline" ∷ codes "kyber" ∷ codes "earliest" ∷ []
 
--- `--sched`, by default none
-abbrev pub sched_rule : Names → Rule
-sched_rule names = record (new_rule (codes "sched")) { long = Some (codes "sched"); action = Some Set; parser = Some (vp.Names names); defaults = codes "none" ∷ [] }
+-- an option that takes one of these names, by default none
+abbrev pub sched_rule : Text → Names → Rule
+sched_rule name names = record (new_rule name) { long = Some name; action = Some Set; parser = Some (vp.Names names); defaults = codes "none" ∷ [] }
 
--- an option that takes a number, and its default
+-- an option that takes a number, with a default and without
 abbrev pub number_rule : Text → ValueParser → Text → Rule
 number_rule name parser default = record (new_rule name) { long = Some name; action = Some Set; parser = Some parser; defaults = default ∷ [] }
 
--- a number of 16 bits, and a target in rounds
-abbrev pub short : ValueParser
-short = vp.Signed (pos 0) (pos 65535)
-
-abbrev pub target : ValueParser
-target = vp.Unsigned 0 1_000_000
-
--- a number from 1 on, or from 2 on, up to the most
-abbrev pub amount : ℕ → ValueParser
-amount most = vp.Unsigned 1 most
-
-abbrev pub busy_rule : Rule
-busy_rule = record (new_rule (codes "busy")) { long = Some (codes "busy"); action = Some Set; parser = Some (vp.Unsigned 2 1_000_000) }
+abbrev pub maybe_rule : Text → ValueParser → Rule
+maybe_rule name parser = record (new_rule name) { long = Some name; action = Some Set; parser = Some parser }
 
 -- a flag
 abbrev pub flag_rule : Text → Rule
 flag_rule name = record (new_rule name) { long = Some name; action = Some SetTrue }
 
--- with the options that set the schedulers
-abbrev pub tuning : App → App
-tuning a =
-    with_rule (with_rule (with_rule (with_rule (with_rule (with_rule a (number_rule (codes "fifo-batch") short (codes "16"))) (number_rule (codes "writes-starved") short (codes "2")))
-    (flag_rule (codes "no-front-merges"))) (number_rule (codes "read-target") target (codes "2"))) (number_rule (codes "write-target") target (codes "10"))) (flag_rule (codes "late-last"))
+-- a number of 16 bits
+abbrev pub short : ValueParser
+short = vp.Signed (pos 0) (pos 65535)
 
--- `sim`, `compare` and `oracle` with their options
-abbrev pub sim_app : Names → App
-sim_app names = tuning (with_rule (new_app (codes "sim")) (sched_rule names))
+-- the rule of an option by its name and what it takes
+abbrev pub taking : Names → Text → Takes → Rule
+taking names name takes.Nothing = flag_rule name
+taking names name takes.Sched = sched_rule name names
+taking names name (takes.Short default) = number_rule name short default.now
+taking names name (takes.Number least most default) = number_rule name (vp.Unsigned least most) default.now
+taking names name (takes.Maybe least most) = maybe_rule name (vp.Unsigned least most)
 
-abbrev pub compare_app : App
-compare_app = tuning (with_rule (new_app (codes "compare")) (flag_rule (codes "earliest")))
+abbrev pub rule_for : Names → OptionRow → Rule
+rule_for names o = taking names o.name.now o.takes
 
-abbrev pub oracle_app : App
-oracle_app = with_rule (with_rule (new_app (codes "oracle")) (flag_rule (codes "trace"))) (flag_rule (codes "met"))
+-- the options that set the schedulers
+abbrev pub tuning : List Rule
+tuning =
+    number_rule (codes "fifo-batch") short (codes "16") ∷ number_rule (codes "writes-starved") short (codes "2") ∷ flag_rule (codes "no-front-merges")
+    ∷ number_rule (codes "read-target") (vp.Unsigned 0 MAX_TARGET) (codes "2") ∷ number_rule (codes "write-target") (vp.Unsigned 0 MAX_TARGET) (codes "10")
+    ∷ flag_rule (codes "late-last") ∷ []
 
--- with the numbers of a load, and `load` with its options
-abbrev pub with_amounts : App → App
-with_amounts a =
-    with_rule (with_rule (with_rule (with_rule (with_rule a (number_rule (codes "submitters") (amount 64) (codes "2"))) (number_rule (codes "workers") (amount 16) (codes "2")))
-    (number_rule (codes "bios") (amount 2000) (codes "1000"))) (number_rule (codes "depth") (amount 256) (codes "8"))) busy_rule
+-- a subcommand: its name, its options, and what these make
+pub record Subcommand : Type 0 where
+  pub name : Text
+  pub rules : List Rule
+  pub makes : Makes
 
-abbrev pub load_app : Names → App
-load_app names = tuning (with_amounts (with_rule (new_app (codes "load")) (sched_rule names)))
+-- that of a row
+abbrev pub subcommand_of : Names → CommandRow → Subcommand
+subcommand_of names row = record { name = row.name.now; rules = map (rule_for names) row.options.now ++ (if row.is_tuned then tuning else []); makes = row.makes }
+
+-- one without options
+abbrev pub plain : Text → Job → Subcommand
+plain name j = record { name = name; rules = []; makes = makes.Plain j }
+
+-- the numbers of a load
+abbrev pub amounts : List Rule
+amounts =
+    number_rule (codes "submitters") (vp.Unsigned 1 MAX_SUBMITTERS) (codes "2") ∷ number_rule (codes "workers") (vp.Unsigned 1 MAX_LOAD_WORKERS) (codes "2")
+    ∷ number_rule (codes "bios") (vp.Unsigned 1 MAX_LOAD_BIOS) (codes "1000") ∷ number_rule (codes "depth") (vp.Unsigned 1 MAX_LOAD_DEPTH) (codes "8")
+    ∷ maybe_rule (codes "busy") (vp.Unsigned 2 MAX_BUSY) ∷ []
+
+-- the subcommands: over scripts, over traces, over command lists and certificates, and over the running layer
+abbrev pub table : Names → List Subcommand
+table names =
+    record { name = codes "sim"; rules = sched_rule (codes "sched") names ∷ tuning; makes = makes.Sim }
+    ∷ record { name = codes "compare"; rules = flag_rule (codes "earliest") ∷ tuning; makes = makes.Compare }
+    ∷ plain (codes "migrate") job.Migrate
+    ∷ plain (codes "commands") job.Commands
+    ∷ plain (codes "late") job.Late
+    ∷ plain (codes "misses") job.Misses
+    ∷ plain (codes "spread") job.Spread
+    ∷ record { name = codes "oracle"; rules = flag_rule (codes "trace") ∷ flag_rule (codes "met") ∷ []; makes = makes.Oracle }
+    ∷ plain (codes "check") job.Check
+    ∷ record { name = codes "load"; rules = sched_rule (codes "sched") names ∷ (amounts ++ tuning); makes = makes.Load }
+    ∷ []
 
 -- a command with a version, which wants a subcommand
 abbrev pub topmost : App → App
 topmost a = record a { top = record a.top { has_version = true; subcommand_required = true } }
 
--- with a subcommand that has no options
-abbrev pub with_plain : App → Text → App
-with_plain a name = with_subcommand a (new_app name).top
+-- a subcommand as a command of its own, and a command with it
+abbrev pub app_for : Subcommand → App
+app_for s = fold with_rule (new_app s.name) s.rules
 
--- the command with its subcommands over scripts, then those over traces, those over command lists and certificates, and the one over
--- the running layer
-abbrev pub over_scripts : Names → App
-over_scripts names = with_subcommand (with_subcommand (topmost (new_app (codes "blk"))) (sim_app names).top) compare_app.top
-
-abbrev pub over_traces : App → App
-over_traces a = with_plain (with_plain (with_plain (with_plain (with_plain a (codes "migrate")) (codes "commands")) (codes "late")) (codes "misses")) (codes "spread")
-
-abbrev pub over_lists : App → App
-over_lists a = with_plain (with_subcommand a oracle_app.top) (codes "check")
-
-abbrev pub over_layers : Names → App → App
-over_layers names a = with_subcommand a (load_app names).top
+abbrev pub with_one : App → Subcommand → App
+with_one a s = with_subcommand a (app_for s).top
 
 -- the command and its subcommands
 abbrev pub blk_app : Names → App
-blk_app names = over_layers names (over_lists (over_traces (over_scripts names)))
+blk_app names = fold with_one (topmost (new_app (codes "blk"))) (table names)

@@ -3,6 +3,7 @@
 #![tactic(auto)]
 
 pub mod asking;
+pub mod table;
 pub mod words;
 
 pub use crate::words::{Job, NoJob, VERSION, choose};

@@ -6,14 +6,14 @@ pub returns-in-Ok-try_get_matches_from-clause-refused : goal.returns-in-Ok-try_g
 returns-in-Ok-try_get_matches_from-clause-refused c =
     let e = c.in-Ok.ensures in
     let m = c.in-Ok-try_get_matches_from in
-    let none = c.in-None.ensures in
+    let none = c.in-None.ensures e.0 in
     inr (refused_by e.0 _ _ m.matches e.1 e.2 m.ensures.matches m.ensures.kinds none)
 
 pub returns-in-Some-clause-asked : goal.returns-in-Some-clause-asked
 returns-in-Some-clause-asked c =
     let e = c.in-Ok.ensures in
     let m = c.in-Ok-try_get_matches_from in
-    asks_by e.0 _ _ m.matches c.in-Some.job e.1 e.2 m.ensures.matches m.ensures.kinds c.in-Some.ensures
+    asks_by e.0 _ _ m.matches c.in-Some.job e.1 e.2 m.ensures.matches m.ensures.kinds (c.in-Some.ensures e.0)
 
 pub returns-in-DisplayVersion-clause-asked : goal.returns-in-DisplayVersion-clause-asked
 returns-in-DisplayVersion-clause-asked c =

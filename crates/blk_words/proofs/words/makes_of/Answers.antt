@@ -1,0 +1,27 @@
+use Rattle.std.proofs.Common.{◌≡◌, ◌∙◌, ap, sym, false, arith, [], option_map}
+use Rattle.std.proofs.lemmas.List.{take_all}
+use Rattle.std.specs.Str.{bytes_eq}
+use Rattle.blk_words.specs.declared.words.Job.TheVariants as job
+use Rattle.blk_words.specs.declared.table.CommandRow.{CommandRow}
+use Rattle.blk_words.specs.declared.table.Makes.TheVariants as makes
+use Rattle.blk_words.specs.Line.{subcommand_of}
+use Rattle.blk_words.proofs.Lines.{found_next, none_more, find_map}
+use Rattle.blk_words.proofs.words.makes_of.Goals as goal
+
+-- the row where there is none
+abbrev none : CommandRow
+none = record { name = record { ref_ptr = (0, 0); now = [] }; about = record { ref_ptr = (0, 0); now = [] }; options = record { ref_ptr = (0, 0); now = [] }; is_tuned = false; makes = makes.Plain job.Version }
+
+pub returns-then-eq : goal.returns-then-eq
+returns-then-eq c names =
+    let found = found_next (λ r. bytes_eq c.args.name.now r.name.now) c.args.rows.now c.loop-i.i none c.loop-i-test.true c.loop-i.invariant.none (sym c.eq.ensures ∙ c.if-eq.true) in
+    sym (ap (option_map (λ s. s.makes)) (find_map (λ s. bytes_eq c.args.name.now s.name) (subcommand_of names) c.args.rows.now ∙ ap (option_map (subcommand_of names)) found))
+
+pub loop-i-preserved : goal.loop-i-preserved
+loop-i-preserved c =
+    record { none = none_more (λ r. bytes_eq c.args.name.now r.name.now) c.args.rows.now c.loop-i.i none c.loop-i-test.true c.loop-i.invariant.none (sym c.eq.ensures ∙ c.if-eq.false) }
+
+pub returns : goal.returns
+returns c names =
+    let missing = rw (take_all c.loop-i.i c.args.rows.now (omega arith)) at c.loop-i.invariant.none in
+    sym (ap (option_map (λ s. s.makes)) (find_map (λ s. bytes_eq c.args.name.now s.name) (subcommand_of names) c.args.rows.now ∙ ap (option_map (subcommand_of names)) missing))
