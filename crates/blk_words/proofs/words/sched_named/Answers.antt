@@ -15,5 +15,7 @@ returns-then-eq c =
 pub loop-i-preserved : goal.loop-i-preserved
 loop-i-preserved c =
     let is : bytes_eq c.args.name.now c.name.result.now ≡ false = sym c.eq.ensures ∙ c.if-eq.false in
-    record { none = none_more (λ s. bytes_eq c.args.name.now (name_of s)) c.args.scheds.now c.loop-i.i sched.None c.loop-i-test.true c.loop-i.invariant.none
-        (ap (bytes_eq c.args.name.now) (sym c.name.ensures) ∙ is) }
+    record {
+      none = none_more (λ s. bytes_eq c.args.name.now (name_of s)) c.args.scheds.now c.loop-i.i sched.None c.loop-i-test.true c.loop-i.invariant.none
+          (ap (bytes_eq c.args.name.now) (sym c.name.ensures) ∙ is);
+    }
