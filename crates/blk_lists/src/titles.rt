@@ -7,6 +7,7 @@ ghost use Rattle.blk_lists.specs.Titles.{counted_title as title_part};
 
 use crate::fault::Why;
 use crate::fields::{Slot, read_fields, version_of};
+use crate::items::LineForm;
 use csv::ByteRecord;
 use edd_check::{MAX_COMMANDS, MAX_DEPTH};
 
@@ -33,5 +34,28 @@ pub fn counted_title(row: &ByteRecord, name: &[u8]) -> Result<(u64, (u64, u64)),
     match read_fields(row, &slots) {
         Ok(numbers) => Ok((version, (numbers[2], numbers[3]))),
         Err(why) => Err(why),
+    }
+}
+
+/// The title record of a form of this name: the version, and with it the depth and the number of commands.
+#[derive(Clone, Copy, Drop)]
+pub struct CountedTitle {
+    pub name: &'static [u8],
+}
+
+impl LineForm for CountedTitle {
+    ghost use Rattle.blk_lists.specs.Titles.{counted_title as title_part};
+
+    type Line = (u64, (u64, u64));
+
+    ghost part = { λ f. title_part f.name.now };
+
+    #[tactic(auto, using(crate::proofs::Counted::counted_one))]
+    fn gone(&self) -> Why {
+        Why::Title
+    }
+
+    fn line(&self, row: &ByteRecord) -> Result<(u64, (u64, u64)), Why> {
+        counted_title(row, self.name)
     }
 }

@@ -4,7 +4,7 @@ use Rattle.drafts.specs.Drafts.{drafted}
 use Rattle.blk_lists.specs.Certificate.{served_cells}
 use Rattle.blk_lists.specs.Tables.{row_by}
 use Rattle.blk_lists.proofs.DraftLemmas.{IsSoFar}
-use Rattle.blk_lists.proofs.met.push_schedule.Given as goal
+use Rattle.blk_lists.proofs.certificate.push_schedule.Given as goal
 
 abbrev pub invariant-loop-i : goal.invariant-loop-i
 invariant-loop-i l = record {
