@@ -1,6 +1,8 @@
 -- What may stand in the fields of a record, and what a record lacks.
-use Rattle.std.specs.Prelude.{◌≡◌, ◌⊎◌, ◌<◌, ◌≤◌, ◌^◌, ◌==◌, ◌&&◌, not, Bool, false, ℕ, List, [], ◌∷◌, length, get_or, decimal, codes}
+use Rattle.std.specs.Prelude.{◌≡◌, ◌⊎◌, ◌<◌, ◌≤◌, ◌^◌, ◌==◌, ◌&&◌, not, Bool, false, ℕ, List, [], ◌∷◌, length, get_or, decimal}
 use Rattle.std.specs.Str.Parse.{AllDigits, digits_value}
+use Rattle.blk_bio.specs.declared.bio.Dir.{Dir}
+use Rattle.blk_bio.specs.Letters.{direction_text}
 use Rattle.faults.specs.Order.{IsFirstFault}
 use Rattle.blk_lists.specs.Sources.{Row}
 use Rattle.blk_lists.specs.declared.fault.Why.{Why}
@@ -34,7 +36,7 @@ IsBlank (slot.Lateness most) f = Unit {0}
 abbrev pub IsDirection : Slot → List ℕ → Type 0
 IsDirection slot.Given f = Unit {0}
 IsDirection slot.Blank f = Unit {0}
-IsDirection slot.Direction f = (f ≡ codes "R") ⊎ (f ≡ codes "W")
+IsDirection slot.Direction f = (d : Dir) × (f ≡ direction_text d)
 IsDirection (slot.Number least most) f = Unit {0}
 IsDirection (slot.Lateness most) f = Unit {0}
 

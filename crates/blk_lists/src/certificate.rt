@@ -19,7 +19,7 @@ ghost use Rattle.blk_lists.specs.Titles.{IsCounted};
 ghost use Rattle.blk_lists.specs.Certificate.{claimed, claim_form, IsClaim, SpellsClaim, ClaimFault, claim_rows, claim_body, claim_told, bound as bound_part, bound_cells, no_bound_row, bound_row, served_cells};
 
 use crate::fault::{TextFault, Why};
-use crate::fields::{Slot, WIDTH, after_minus, begins_with, field, read_fields, without_word};
+use crate::fields::{Slot, after_minus, begins_with, field, read_fields, without_word};
 use crate::items::{LineForm, read_line, read_lines};
 use crate::source::Records;
 use crate::titles::CountedTitle;
@@ -150,7 +150,7 @@ fn is_no_bound(row: &ByteRecord, count: u64) -> bool
 }
 
 /// The bound of the numbers of a record.
-fn bound_with(row: &ByteRecord, numbers: &[u64; WIDTH], count: u64) -> (i64, Window)
+fn bound_with(row: &ByteRecord, numbers: &[u64; 4], count: u64) -> (i64, Window)
     requires starts { StartsWith (codes "bound") (fields_of row.now) }
     requires spells { FieldsSpell (slot.Given ∷ slots_by (bound_cells count)) (fields_of row.now) numbers.now }
     ensures row { fields_of row.now ≡ codes "bound" ∷ row_by (bound_cells count) result }

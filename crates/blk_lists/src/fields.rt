@@ -1,19 +1,15 @@
 //! The fields of a record by what may stand in them.
 
-ghost use Rattle.std.specs.Prelude.{◌≡◌, ◌≢◌, ◌⊎◌, ◌+◌, ◌*◌, ◌<◌, ◌≤◌, ◌^◌, ◌↔◌, ℕ, List, [], ◌∷◌, length, get_or, IsTrue, IfOk, IfErr, IfSome, MatchOption, decimal, codes};
+ghost use Rattle.std.specs.Prelude.{◌≡◌, ◌≢◌, ◌+◌, ◌*◌, ◌<◌, ◌≤◌, ◌^◌, ◌↔◌, ℕ, List, [], ◌∷◌, length, get_or, IsTrue, IfOk, IfErr, IfSome, MatchOption, decimal};
 ghost use Rattle.std.specs.Str.Parse.{AllDigits, digits_value};
 ghost use Rattle.csv.specs.Records.{fields_of};
 ghost use Rattle.blk_lists.specs.Fields.{EachField, IsBlank, IsDirection, IsNumber, IsInRange, IsShaped, IsSized, Lacks, NumberOf, IsWithinSlot, EachNumber, FieldSpells, FieldsSpell, WritesNumber, canonical};
-ghost use Rattle.blk_bio.specs.Letters.{direction_text};
 ghost use Rattle.blk_lists.specs.Tables.{IsTitled, IsVersion};
 ghost use Rattle.blk_lists.specs.Words.{StartsWith, HasNoWord};
 
 use crate::fault::Why;
 use blk_bio::Dir;
 use csv::ByteRecord;
-
-/// The most fields that a record has.
-pub const WIDTH: usize = 6;
 
 /// What may stand in a field of a record.
 #[derive(Debug, Clone, Copy, PartialEq, Eq)]
@@ -44,18 +40,6 @@ pub const TAG: Slot = Slot::Number {
     least: 0,
     most: MAX_TAGS - 1,
 };
-
-/// The direction of a field that is R or W.
-pub fn direction_of(field: &[u8]) -> Dir
-    requires { (field.now ≡ codes "R") ⊎ (field.now ≡ codes "W") }
-    ensures { field.now ≡ direction_text result }
-{
-    if field == b"R".as_slice() {
-        Dir::Read
-    } else {
-        Dir::Write
-    }
-}
 
 /// The field at a place, empty where the record has none.
 pub fn field(row: &ByteRecord, place: usize) -> &[u8]
@@ -207,10 +191,7 @@ fn is_direction(slot: Slot, field: &[u8]) -> bool
     ensures { IsTrue result ↔ IsDirection slot field.now }
 {
     match slot {
-        Slot::Direction => match field {
-            [only] => *only == b'R' || *only == b'W',
-            _ => false,
-        },
+        Slot::Direction => Dir::of_letter(field).is_some(),
         Slot::Given | Slot::Blank | Slot::Number { .. } | Slot::Lateness { .. } => true,
     }
 }
@@ -265,11 +246,10 @@ fn has_directions(row: &ByteRecord, slots: &[Slot]) -> bool
 }
 
 /// The numbers of a record's fields by place, if each is one.
-fn numbers_of(row: &ByteRecord, slots: &[Slot]) -> Option<[u64; WIDTH]>
-    requires { length slots.now ≤ 6 }
+fn numbers_of<const N: usize>(row: &ByteRecord, slots: &[Slot; N]) -> Option<[u64; N]>
     ensures { MatchOption result (¬ EachField IsNumber slots.now (fields_of row.now)) (EachNumber NumberOf slots.now (fields_of row.now)) }
 {
-    let mut numbers = [0; WIDTH];
+    let mut numbers = [0; N];
     for i in 0..slots.len() {
         match number(slots[i], field(row, i)) {
             Some(n) => numbers[i] = n,
@@ -280,8 +260,8 @@ fn numbers_of(row: &ByteRecord, slots: &[Slot]) -> Option<[u64; WIDTH]>
 }
 
 /// Whether each number lies in the range of its slot.
-fn are_within(slots: &[Slot], numbers: &[u64; WIDTH]) -> bool
-    requires { length slots.now ≤ 6 }
+fn are_within(slots: &[Slot], numbers: &[u64]) -> bool
+    requires { length numbers.now ≡ length slots.now }
     ensures { IsTrue result ↔ ((k : ℕ) → k < length slots.now → IsWithinSlot (get_or slots.now k Slot.Given) (get_or numbers.now k 0)) }
 {
     for i in 0..slots.len() {
@@ -299,9 +279,9 @@ fn spelled(slot: Slot, field: &[u8]) -> Option<u64>
     match slot {
         Slot::Given => Some(0),
         Slot::Blank => { if field.is_empty() { Some(0) } else { None } }
-        Slot::Direction => match field {
-            [b'R'] | [b'W'] => Some(0),
-            _ => None,
+        Slot::Direction => match Dir::of_letter(field) {
+            Some(_) => Some(0),
+            None => None,
         },
         Slot::Number { least, most } => match parse_number(field) {
             Some(n) if least <= n && n <= most => Some(n),
@@ -316,14 +296,13 @@ fn spelled(slot: Slot, field: &[u8]) -> Option<u64>
 
 /// The numbers of a record's fields by place, where the record is what its slots want; in one pass, so that
 /// a record without a fault is looked at once.
-fn spelled_numbers(row: &ByteRecord, slots: &[Slot]) -> Option<[u64; WIDTH]>
-    requires { length slots.now ≤ 6 }
+fn spelled_numbers<const N: usize>(row: &ByteRecord, slots: &[Slot; N]) -> Option<[u64; N]>
     ensures { IfSome result (FieldsSpell slots.now (fields_of row.now)) }
 {
     if row.len() != slots.len() {
         return None;
     }
-    let mut numbers = [0; WIDTH];
+    let mut numbers = [0; N];
     for i in 0..slots.len() {
         match spelled(slots[i], field(row, i)) {
             Some(n) => numbers[i] = n,
@@ -337,8 +316,7 @@ fn spelled_numbers(row: &ByteRecord, slots: &[Slot]) -> Option<[u64; WIDTH]>
 /// in all fields before the next kind.
 #[cold]
 #[inline(never)]
-fn check_fields(row: &ByteRecord, slots: &[Slot]) -> Result<[u64; WIDTH], Why>
-    requires { length slots.now ≤ 6 }
+fn check_fields<const N: usize>(row: &ByteRecord, slots: &[Slot; N]) -> Result<[u64; N], Why>
     ensures ok { IfOk result (FieldsSpell slots.now (fields_of row.now)) }
     ensures err { IfErr result (Lacks slots.now (fields_of row.now)) }
 {
@@ -361,8 +339,7 @@ fn check_fields(row: &ByteRecord, slots: &[Slot]) -> Result<[u64; WIDTH], Why>
 }
 
 /// The numbers of a record's fields by place, 0 where a slot has none, or the first thing that it lacks.
-pub fn read_fields(row: &ByteRecord, slots: &[Slot]) -> Result<[u64; WIDTH], Why>
-    requires { length slots.now ≤ 6 }
+pub fn read_fields<const N: usize>(row: &ByteRecord, slots: &[Slot; N]) -> Result<[u64; N], Why>
     ensures ok { IfOk result (FieldsSpell slots.now (fields_of row.now)) }
     ensures err { IfErr result (Lacks slots.now (fields_of row.now)) }
 {
