@@ -8,7 +8,7 @@ use Rattle.blk_bio.specs.declared.request.Side.TheVariants as side
 use Rattle.blk_bio.specs.declared.bio.BioFault.{BioFault}
 use Rattle.blk_bio.specs.declared.bio.Dir.{Dir}
 use Rattle.blk_lists.specs.Sources.{Row}
-use Rattle.blk_text.specs.BioTable.{bio_cells, IsNoSuchBio}
+use Rattle.blk_text.specs.BioTable.{bio_cells, bio_record, IsNoSuchBio}
 use Rattle.blk_bio.specs.Letters.{direction_text}
 use Rattle.blk_lists.specs.Words.{StartsWith, NextStarts, WordLacks}
 use Rattle.blk_lists.specs.Fields.{Lacks, FieldsSpell}
@@ -26,7 +26,7 @@ use Rattle.parts.proofs.Then.{record_tells, record_decides, by_word_tells, by_wo
 use Rattle.parts.proofs.Many.{HasRows, many_tells, many_decides, many_plain}
 use Rattle.blk_lists.proofs.Lacking.{Dec, word_decided}
 use Rattle.blk_lists.proofs.TableLaws.{IsTable, word_line, next_starts, word_tells, word_decides}
-use Rattle.blk_text.proofs.ScriptLaws.{bio_with, no_bio_is, one_bio_fault, bio_or_none}
+use Rattle.blk_text.proofs.ScriptLaws.{no_bio_is, one_bio_fault, bio_or_none}
 use Rattle.blk_lists.proofs.Reading.{hand_reads}
 use Rattle.blk_text.proofs.HeadLaws.{head_tells, head_decides}
 use Rattle.blk_text.proofs.RuleLaws.{fits as fits_decided}
@@ -134,14 +134,15 @@ bio_gone version limits before = inl (inl (inr (refl, (λ i s. s), refl)))
 
 -- what was read of a record
 
-pub bio_lacks : (version : ℕ) (row : Row) (w : Why) → StartsWith (codes "bio") row → Lacks (slot.Given ∷ slots_by (bio_cells (2 ^ 8))) row w → IsWrongLine (whole_bio version) row w
-bio_lacks version row w t l = λ rest. inl (inl (tt, t, (refl, inl (t, l))))
+-- a bio by itself
+pub group_line : (version : ℕ) (b : Bio) (row : Row) → IsRowOf (bio_record (2 ^ 8)) row b → IsRowOf (whole_bio version) row b
+group_line version b row h rest = let k = h rest in record { fits = k.fits; made = k.made; follows = tt }
 
-pub no_such_bio : (version : ℕ) (f : BioFault) (dir : Dir) (row : Row) (ns : List ℕ) → StartsWith (codes "bio") row → FieldsSpell (slot.Given ∷ slots_by (bio_cells (2 ^ 8))) row ns → get_or row (3) [] ≡ direction_text dir
-    → IsBioAnswer (bio_with ns dir).id dir (bio_with ns dir).first (bio_with ns dir).sectors (Err f) → IsWrongLine (whole_bio version) row (why.Bio f)
-no_such_bio version f dir row ns t s d a =
-    let line = word_line why.Count (codes "bio") (bio_cells (2 ^ 8)) (FitsCells (bio_cells (2 ^ 8))) (bio_with ns dir) row ns t s (refl, (refl, (d, (refl, (refl, tt))))) (λ f. f) in
-    λ rest. inr (bio_with ns dir, rest, record { fits = (line rest).fits; made = (line rest).made; follows = tt }, (f, refl, refl, a))
+pub group_wrong : (version : ℕ) (row : Row) (w : Why) → StartsWith (codes "bio") row → IsWrongLine (bio_record (2 ^ 8)) row w → IsWrongLine (whole_bio version) row w
+group_wrong version row w t h rest = elim (h rest) [
+  | inl f ↦ inl (inl (tt, t, f))
+  | inr g ↦ inr (g.0, g.1, record { fits = g.2.fits; made = g.2.made; follows = tt }, g.3)
+]
 
 -- a record that is another event's, or no event's
 pub event_too_soon : (version : ℕ) (h : Head) (row : Row) → ¬ StartsWith (codes "bio") row → IsRowOf (first_record version) row h → IsWrongLine (whole_bio version) row why.Count

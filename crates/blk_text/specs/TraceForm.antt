@@ -25,6 +25,7 @@ use Rattle.blk_text.specs.BioTable.{bio_cells, IsNoSuchBio}
 use Rattle.blk_text.specs.SetupRecord.{setup}
 use Rattle.blk_text.specs.Versions.{latest, most_tags}
 use Rattle.blk_lists.specs.declared.fields.TheConstants.{MAX_TAGS}
+use Rattle.blk_text.specs.declared.bios.TheConstants.{MAX_SUBMITTERS}
 use Rattle.blk_lists.specs.declared.fault.Why.{Why}
 use Rattle.blk_lists.specs.declared.fault.Why.TheVariants as why
 use Rattle.blk_text.specs.declared.heads.EventWord.{EventWord}
@@ -116,7 +117,7 @@ IsNoBio version = NextWrong why.Count (λ row w. (over why.Count (first_record v
 -- the record of a bio of a group, by its table
 abbrev pub plain_bio : ℕ → Part Row Why Bio
 plain_bio version =
-    seen_as (λ b. (tt, b)) (by_word {K = Unit {0}} (λ _. Bio) (λ _. NextStarts (codes "bio")) (λ _. word_record why.Count (codes "bio") (bio_cells (2 ^ 8)) (FitsCells (bio_cells (2 ^ 8)))) (IsNoBio version))
+    seen_as (λ b. (tt, b)) (by_word {K = Unit {0}} (λ _. Bio) (λ _. NextStarts (codes "bio")) (λ _. word_record why.Count (codes "bio") (bio_cells MAX_SUBMITTERS) (FitsCells (bio_cells MAX_SUBMITTERS))) (IsNoBio version))
 
 -- the record of a bio that there is
 abbrev pub whole_bio : ℕ → Part Row Why Bio

@@ -10,9 +10,10 @@ ghost use Rattle.blk_text.specs.TraceForm.{EventStandsIn, word_of, head_cells, f
 ghost use Rattle.blk_lists.specs.declared.fields.Slot.TheVariants as slot;
 ghost use Rattle.blk_text.specs.declared.heads.EventWord.{EventWord as AWord};
 
+use crate::setup::WIDTH;
 use blk_bio::MAX_SEGMENTS;
 use blk_lists::fault::Why;
-use blk_lists::fields::{ANY, Slot, TAG, WIDTH, field, read_fields, without_word};
+use blk_lists::fields::{ANY, Slot, TAG, field, read_fields, without_word};
 use blk_lists::items::LineForm;
 use blk_trace::Event;
 use csv::ByteRecord;

@@ -14,10 +14,13 @@ ghost use Rattle.blk_lists.specs.declared.fields.Slot.TheVariants as slot;
 
 use blk_bio::{Limits, MAX_QUEUES, MAX_SECTORS, MAX_SEGMENTS};
 use blk_lists::fault::Why;
-use blk_lists::fields::{Slot, WIDTH, begins_with, read_fields, without_word};
+use blk_lists::fields::{Slot, begins_with, read_fields, without_word};
 use blk_lists::items::LineForm;
 use blk_trace::{MAX_DEPTH, MAX_EXPIRIES, Setup};
 use csv::ByteRecord;
+
+/// How many fields a record of a script and of a trace has.
+pub const WIDTH: usize = 6;
 
 /// The latest version of scripts and of traces, which is written.
 pub const LATEST: u64 = 2;
