@@ -19,7 +19,9 @@ ghost use Rattle.blk_lists.specs.Titles.{IsCounted};
 ghost use Rattle.blk_lists.specs.Certificate.{claimed, claim_form, IsClaim, SpellsClaim, ClaimFault, claim_rows, claim_body, claim_told, bound as bound_part, bound_cells, no_bound_row, bound_row, served_cells};
 
 use crate::fault::{TextFault, Why};
-use crate::fields::{Slot, after_minus, begins_with, field, read_fields, without_word};
+use crate::fields::{
+    ANY, RELEASE, ROUND, Slot, after_minus, begins_with, field, read_fields, without_word,
+};
 use crate::items::{LineForm, read_line, read_lines};
 use crate::source::Records;
 use crate::titles::CountedTitle;
@@ -27,7 +29,7 @@ use crate::writing::{push_numbers, push_row};
 use csv::ByteRecord;
 use drafts::pieces::{put, put_two};
 use drafts::{Block, WriteFault, write_whole};
-use edd_check::{Command, MAX_COMMANDS, MAX_RELEASES, MAX_ROUNDS, Window};
+use edd_check::{Command, MAX_COMMANDS, MAX_ROUNDS, Window};
 use parts::Repeats;
 use std::alloc::{AllocError, Global};
 use std::io::{Read, Write};
@@ -75,7 +77,10 @@ impl LineForm for BoundForm {
     }
 }
 
-/// A record of a certificate: id, release, due, round.
+/// The fields of a command with its round: id, release, due, round.
+pub const SERVED: [Slot; 4] = [ANY, RELEASE, ROUND, ROUND];
+
+/// The record of a command with its round.
 #[derive(Clone, Copy, Drop)]
 pub(crate) struct ServedForm;
 
@@ -92,23 +97,7 @@ impl LineForm for ServedForm {
     }
 
     fn line(&self, row: &ByteRecord) -> Result<(Command, u64), Why> {
-        let round = Slot::Number {
-            least: 0,
-            most: MAX_ROUNDS - 1,
-        };
-        let slots = [
-            Slot::Number {
-                least: 0,
-                most: u64::MAX,
-            },
-            Slot::Number {
-                least: 0,
-                most: MAX_RELEASES - 1,
-            },
-            round,
-            round,
-        ];
-        match read_fields(row, &slots) {
+        match read_fields(row, &SERVED) {
             Ok(numbers) => {
                 let command = Command {
                     id: numbers[0],
@@ -174,11 +163,7 @@ fn bound_slots(count: u64) -> [Slot; 4]
         let none = Slot::Number { least: 1, most: 0 };
         return [Slot::Given, late, none, none];
     }
-    let round = Slot::Number {
-        least: 0,
-        most: MAX_ROUNDS - 1,
-    };
-    [Slot::Given, late, round, round]
+    [Slot::Given, late, ROUND, ROUND]
 }
 
 /// The bound of a record that begins with its word, for so many commands.

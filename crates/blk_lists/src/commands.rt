@@ -10,16 +10,22 @@ ghost use Rattle.blk_lists.specs.Reads.{IsOutside, Reaches};
 ghost use Rattle.blk_lists.specs.Commands.{AreCommands, SpellsCommands, CommandsFault, command_cells, command_list, commands_rows, depth_cells};
 
 use crate::fault::{TextFault, Why};
-use crate::fields::{Slot, read_fields, version_of};
+use crate::fields::{ANY, DEPTH, RELEASE, ROUND, Slot, read_fields, version_of};
 use crate::items::{LineForm, read_line, read_lines};
 use crate::source::Records;
 use crate::writing::{push_numbers, push_row};
 use csv::ByteRecord;
 use drafts::{Block, WriteFault, write_whole};
-use edd_check::{Command, MAX_COMMANDS, MAX_DEPTH, MAX_RELEASES, MAX_ROUNDS};
+use edd_check::{Command, MAX_COMMANDS};
 use parts::Repeats;
 use std::alloc::{AllocError, Global};
 use std::io::{Read, Write};
+
+/// The fields of the title: the name, the version, the depth.
+pub const DEPTH_TITLE: [Slot; 3] = [Slot::Given, Slot::Given, DEPTH];
+
+/// The fields of a command: id, release, due.
+pub const COMMAND: [Slot; 3] = [ANY, RELEASE, ROUND];
 
 /// The title record: the version and the depth.
 #[derive(Clone, Copy, Drop)]
@@ -41,15 +47,7 @@ impl LineForm for TitleForm {
         let Some(version) = version_of(row, b"blk-commands", 1) else {
             return Err(Why::Title);
         };
-        let slots = [
-            Slot::Given,
-            Slot::Given,
-            Slot::Number {
-                least: 1,
-                most: MAX_DEPTH,
-            },
-        ];
-        match read_fields(row, &slots) {
+        match read_fields(row, &DEPTH_TITLE) {
             Ok(numbers) => Ok((version, numbers[2])),
             Err(why) => Err(why),
         }
@@ -73,21 +71,7 @@ impl LineForm for CommandForm {
     }
 
     fn line(&self, row: &ByteRecord) -> Result<Command, Why> {
-        let slots = [
-            Slot::Number {
-                least: 0,
-                most: u64::MAX,
-            },
-            Slot::Number {
-                least: 0,
-                most: MAX_RELEASES - 1,
-            },
-            Slot::Number {
-                least: 0,
-                most: MAX_ROUNDS - 1,
-            },
-        ];
-        match read_fields(row, &slots) {
+        match read_fields(row, &COMMAND) {
             Ok(numbers) => Ok(Command {
                 id: numbers[0],
                 release: numbers[1],

@@ -10,6 +10,7 @@ ghost use Rattle.blk_lists.specs.Words.{StartsWith, HasNoWord};
 use crate::fault::Why;
 use blk_bio::Dir;
 use csv::ByteRecord;
+use edd_check::{MAX_COMMANDS, MAX_DEPTH, MAX_RELEASES, MAX_ROUNDS};
 
 /// What may stand in a field of a record.
 #[derive(Debug, Clone, Copy, PartialEq, Eq)]
@@ -30,6 +31,30 @@ pub enum Slot {
 pub const ANY: Slot = Slot::Number {
     least: 0,
     most: u64::MAX,
+};
+
+/// The depth of a round: how many commands it has room for.
+pub const DEPTH: Slot = Slot::Number {
+    least: 1,
+    most: MAX_DEPTH,
+};
+
+/// A number of commands.
+pub const COUNT: Slot = Slot::Number {
+    least: 0,
+    most: MAX_COMMANDS,
+};
+
+/// The round in which a command is released.
+pub const RELEASE: Slot = Slot::Number {
+    least: 0,
+    most: MAX_RELEASES - 1,
+};
+
+/// Any other round.
+pub const ROUND: Slot = Slot::Number {
+    least: 0,
+    most: MAX_ROUNDS - 1,
 };
 
 /// Every tag of a record lies below this.

@@ -15,14 +15,14 @@ ghost use Rattle.blk_lists.specs.Met.{met_claimed, met_form, IsMetClaim, SpellsM
 
 use crate::certificate::{ServedForm, push_schedule, split};
 use crate::fault::{TextFault, Why};
-use crate::fields::{Slot, begins_with, read_fields, without_word};
+use crate::fields::{COUNT, ROUND, Slot, begins_with, read_fields, without_word};
 use crate::items::{Each, LineForm, gather, read_line, read_lines};
 use crate::source::Records;
 use crate::titles::CountedTitle;
 use crate::writing::push_row;
 use csv::ByteRecord;
 use drafts::{Block, WriteFault, write_whole};
-use edd_check::{Command, MAX_COMMANDS, MAX_ROUNDS, Window};
+use edd_check::{Command, MAX_COMMANDS, Window};
 use parts::Repeats;
 use std::alloc::{AllocError, Global};
 use std::io::{Read, Write};
@@ -45,6 +45,12 @@ pub struct MetCertificate {
     pub cover: Vec<Window>,
 }
 
+/// The fields of the numbers: the word, the number of commands met, the number of windows, and an empty one.
+pub const NUMBERS: [Slot; 4] = [Slot::Given, COUNT, COUNT, Slot::Blank];
+
+/// The fields of a window: the word, its first round, its last round, and an empty one.
+pub const WINDOW: [Slot; 4] = [Slot::Given, ROUND, ROUND, Slot::Blank];
+
 /// The record that says how many commands are met, and how many windows there are.
 #[derive(Clone, Copy, Drop)]
 struct NumbersForm;
@@ -65,12 +71,7 @@ impl LineForm for NumbersForm {
         if !begins_with(row, b"met") {
             return Err(without_word(row, 4));
         }
-        let number = Slot::Number {
-            least: 0,
-            most: MAX_COMMANDS,
-        };
-        let slots = [Slot::Given, number, number, Slot::Blank];
-        match read_fields(row, &slots) {
+        match read_fields(row, &NUMBERS) {
             Ok(numbers) => Ok((numbers[1], numbers[2])),
             Err(why) => Err(why),
         }
@@ -97,12 +98,7 @@ impl LineForm for WindowForm {
         if !begins_with(row, b"window") {
             return Err(without_word(row, 4));
         }
-        let round = Slot::Number {
-            least: 0,
-            most: MAX_ROUNDS - 1,
-        };
-        let slots = [Slot::Given, round, round, Slot::Blank];
-        match read_fields(row, &slots) {
+        match read_fields(row, &WINDOW) {
             Ok(numbers) => Ok(Window {
                 from: numbers[1],
                 due: numbers[2],

@@ -38,6 +38,29 @@ pub fn most_tags(version: u64) -> u64
     }
 }
 
+/// A number of rounds after which a request is due.
+const EXPIRY: Slot = Slot::Number {
+    least: 0,
+    most: MAX_EXPIRIES - 1,
+};
+
+/// The fields of a setup: the word, the expiries of reads and of writes, the most sectors and segments of a request, and an
+/// empty one.
+pub const SETUP: [Slot; WIDTH] = [
+    Slot::Given,
+    EXPIRY,
+    EXPIRY,
+    Slot::Number {
+        least: 1,
+        most: MAX_SECTORS,
+    },
+    Slot::Number {
+        least: 1,
+        most: MAX_SEGMENTS,
+    },
+    Slot::Blank,
+];
+
 /// The setup of the numbers of a record.
 fn setup_with(row: &ByteRecord, depth: u64, hw: u8, numbers: &[u64; WIDTH]) -> Setup
     requires depth { (0 < depth) × (depth ≤ MAX_DEPTH) }
@@ -65,25 +88,7 @@ fn setup_at(row: &ByteRecord, depth: u64, hw: u8) -> Result<Setup, Why>
     if !begins_with(row, b"setup") {
         return Err(without_word(row, WIDTH));
     }
-    let expire = Slot::Number {
-        least: 0,
-        most: MAX_EXPIRIES - 1,
-    };
-    let slots = [
-        Slot::Given,
-        expire,
-        expire,
-        Slot::Number {
-            least: 1,
-            most: MAX_SECTORS,
-        },
-        Slot::Number {
-            least: 1,
-            most: MAX_SEGMENTS,
-        },
-        Slot::Blank,
-    ];
-    match read_fields(row, &slots) {
+    match read_fields(row, &SETUP) {
         Ok(numbers) => Ok(setup_with(row, depth, hw, &numbers)),
         Err(why) => Err(why),
     }
