@@ -21,7 +21,7 @@ pub marked_more : (start ns : List ℕ) (i : ℕ) → i < length ns
 marked_more start ns i l =
     let next : take (i + 1) ns ≡ take i ns ++ get_or ns i 0 ∷ [] = rw (add-one i) (take-suc ns i 0 l) in
     let more : marked (take i ns ++ get_or ns i 0 ∷ []) ≡ marked (take i ns) ++ 44 ∷ decimal (get_or ns i 0) =
-    flat_map-append _ (take i ns) (get_or ns i 0 ∷ []) ∙ ap (λ (t : List ℕ). marked (take i ns) ++ 44 ∷ t) (append-nil (decimal (get_or ns i 0))) in
+    flat_map-append (λ n. 44 ∷ decimal n) (take i ns) (get_or ns i 0 ∷ []) ∙ ap (λ (t : List ℕ). marked (take i ns) ++ 44 ∷ t) (append-nil (decimal (get_or ns i 0))) in
     rw (next, more) (simp append_assoc)
 
 -- the fields of numbers need no quotes
@@ -32,15 +32,15 @@ cells_plain (n ∷ ns) k = rw (decimal_plain n) (cells_plain ns k)
 
 cells_long : (ns : List ℕ) (k : ℕ) → length (number_cells ns k) ≡ length ns + k
 cells_long [] zero = refl
-cells_long [] (suc k) = ap suc (cells_long [] k)
-cells_long (n ∷ ns) k = ap suc (cells_long ns k)
+cells_long [] (suc k) = omega (arith, cells_long [] k)
+cells_long (n ∷ ns) k = omega (arith, cells_long ns k)
 
 -- a field and then numbers
 line_made : (f ns : List ℕ) (k : ℕ) → line_of (f ∷ number_cells ns k) ≡ f ++ rest_of_line ns k
 unfolding line_of
 line_made f [] zero = refl
 line_made f [] (suc k) = ap (λ (t : List ℕ). f ++ 44 ∷ t) (line_made [] [] k)
-line_made f (n ∷ ns) k = ap (λ (t : List ℕ). f ++ 44 ∷ t) (line_made (decimal n) ns k ∙ simp append_assoc)
+line_made f (n ∷ ns) k = ap (λ (t : List ℕ). f ++ 44 ∷ t) (line_made (decimal n) ns k ∙ sym (append_assoc (decimal n) (marked ns ++ replicate k 44) (10 ∷ [])) ∙ ap (λ (t : List ℕ). t ++ 10 ∷ []) (sym (append_assoc (decimal n) (marked ns) (replicate k 44))))
 
 -- the record of a field and of numbers
 pub row_is : (start f ns : List ℕ) (k : ℕ) → needs_quotes default_writer f ≡ false → 1 ≤ length ns + k

@@ -1,5 +1,5 @@
 -- The laws of schedules.
-use Rattle.std.proofs.Common.{◌≡◌, ◌≢◌, ◌+◌, ◌<◌, ◌≤◌, ◌∙◌, ℕ, zero, suc, List, [], ◌∷◌, ◌++◌, length, map, append-nil, append_assoc, Bool, true, false, cond, Option, Some, None, refl, sym, ap, subst, inl, inr, arith, codes, get_or}
+use Rattle.std.proofs.Common.{◌≡◌, ◌≢◌, ◌+◌, ◌-◌, ◌<◌, ◌≤◌, ◌∙◌, ℕ, zero, suc, List, [], ◌∷◌, ◌++◌, length, map, append-nil, append_assoc, Bool, true, false, cond, Option, Some, None, refl, sym, ap, subst, inl, inr, arith, codes, get_or}
 use Rattle.std.specs.Prelude.{IfSome, All, ◌⊎◌, not}
 use Rattle.std.specs.List.{zip}
 use Rattle.std.specs.Ordering.{nat_cmp}
@@ -125,15 +125,15 @@ differ_fits s (v ∷ vs) f h = (
       rw all (h j k d lt (omega (arith, low, length-append s (v ∷ []))) (rw all at top)))),
 )
   where
+    zero_at : (d : Command × ℕ) → get_or (v ∷ vs) (length s - length s) d ≡ v
+    zero_at d = let none : length s - length s ≡ 0 = omega arith in rw none refl
+
     new : IsNew s v
     new j d l =
         let long : length s < length (s ++ v ∷ vs) = omega (arith, length-append s (v ∷ vs)) in
-        let here : get_or (s ++ v ∷ vs) (length s) d ≡ v = get_or-append_right s (v ∷ vs) (length s) (length s) d refl (omega arith) ∙ zero_at in
+        let here : get_or (s ++ v ∷ vs) (length s) d ≡ v = get_or-append_right s (v ∷ vs) (length s) (length s) d refl (omega arith) ∙ zero_at d in
         let there : get_or (s ++ v ∷ vs) j d ≡ get_or s j d = get_or_append_left s (v ∷ vs) d j l in
         rw (here, there) at (h j (length s) d l (omega arith) long)
-
-    zero_at : {d : Command × ℕ} → get_or (v ∷ vs) (length s - length s) d ≡ v
-    zero_at = let none : length s - length s ≡ 0 = omega arith in rw none refl
 
 pub fit_distinct : (vs : List (Command × ℕ)) → AreFit vs → AreDistinct (firsts vs)
 unfolding ids_differ

@@ -40,7 +40,6 @@ impl LineForm for CountedTitle {
 
     ghost part = { λ f. title_part f.name.now };
 
-    #[tactic(auto, using(crate::proofs::Counted::counted_one))]
     fn gone(&self) -> Why {
         Why::Title
     }

@@ -13,6 +13,7 @@ use std::alloc::AllocError;
 #[inline(always)]
 fn put_rest(numbers: &[u64], blanks: usize, buf: &mut [u8], at: usize) -> usize
     requires { at + 21 * length numbers.now + blanks + 1 ≤ length buf.old }
+    ensures end { result ≤ at + 21 * length numbers.now + blanks + 1 }
     ensures written { take result buf.new ≡ take at buf.old ++ rest_of_line numbers.now blanks }
 {
     let mut end = at;

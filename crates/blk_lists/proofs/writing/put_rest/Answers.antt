@@ -21,7 +21,7 @@ loop-init c = record {
 
 pub loop-preserved : goal.loop-preserved
 loop-preserved c = record {
-  end = omega (arith, c.loop.invariant.end, c.put.ensures.end);
-  text = c.put.ensures.written ∙ ap (λ t. t ++ 44 ∷ []) c.loop.invariant.text ∙ append_assoc (take c.args.at c.args.buf.now) (marked c.args.numbers.now ++ replicate c.loop.counter 44) (44 ∷ [])
+  end = omega (arith, c.loop.invariant.end, c.put-end.ensures.end);
+  text = c.put-end.ensures.written ∙ ap (λ t. t ++ 44 ∷ []) c.loop.invariant.text ∙ append_assoc (take c.args.at c.args.buf.now) (marked c.args.numbers.now ++ replicate c.loop.counter 44) (44 ∷ [])
       ∙ ap (λ t. take c.args.at c.args.buf.now ++ t) (append_assoc (marked c.args.numbers.now) (replicate c.loop.counter 44) (44 ∷ []) ∙ ap (λ t. marked c.args.numbers.now ++ t) (sym (replicate_next c.loop.counter 44)));
 }
