@@ -7,7 +7,7 @@ use Rattle.std.proofs.lemmas.Bool.{cases_Bool}
 use Rattle.std.proofs.lemmas.Slice.Eq.{bytes_eq-Decides}
 use Rattle.std.proofs.lemmas.Fmt.{digits_value-decimal, decimal_injective}
 use Rattle.blk_lists.specs.Sources.{Row}
-use Rattle.blk_lists.specs.Fields.{EachField, IsBlank, IsDirection, IsNumber, IsInRange, IsSized, IsShaped, record_rules, Lacks}
+use Rattle.blk_lists.specs.Fields.{EachField, IsBlank, IsDirection, IsNumber, IsInRange, IsGood, IsSized, IsShaped, record_rules, Lacks}
 use Rattle.blk_bio.specs.declared.bio.Dir.{Dir}
 use Rattle.blk_bio.specs.declared.bio.Dir.TheVariants as dir
 use Rattle.blk_bio.specs.Letters.{direction_text}
@@ -171,7 +171,7 @@ each_decided P d (s ∷ ss) (f ∷ fs) l = same_as all (λ h. (h 0 (omega arith)
 
 -- a field is all that its slot wants
 abbrev pub Good : Slot → List ℕ → Type 0
-Good s f = IsBlank s f × IsDirection s f × IsNumber s f × IsInRange s f
+Good = IsGood
 
 -- so is each field of a record
 abbrev pub Goods : List Slot → Row → Type 0
