@@ -202,7 +202,7 @@ fn parse_sized(field: &[u8]) -> Option<u64>
 }
 
 /// What is looked for in all fields of a record, one after another.
-#[derive(Clone, Copy, Debug, PartialEq, Eq)]
+#[derive(Clone, Copy)]
 pub(crate) enum Rule {
     /// What must be empty is.
     Blank,

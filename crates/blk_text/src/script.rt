@@ -12,6 +12,7 @@ ghost use Rattle.blk_lists.specs.declared.fields.Slot.TheVariants as slot;
 ghost use Rattle.blk_text.specs.declared.script.Word.{Word as AWord};
 
 use crate::bios::read_bio;
+use crate::heads::{DEPTH, END, TICK};
 use crate::setup::{LATEST, SetupForm, WIDTH, most_tags};
 use blk_bio::{Bio, MAX_QUEUES, MAX_SOFT_DEPTH, MAX_SOFT_QUEUES};
 use blk_lists::fault::{TextFault, Why};
@@ -148,10 +149,10 @@ fn step_slots(form: &StepForm, word: Word) -> [Slot; WIDTH]
         Word::Flush => [Slot::Given, submitter, none, none, none, none],
         Word::Drain => [Slot::Given, hw, none, none, none, none],
         Word::Issue => [Slot::Given, hw, TAG, none, none, none],
-        Word::Done => [Slot::Given, TAG, none, none, none, none],
-        Word::Back => [Slot::Given, TAG, none, none, none, none],
-        Word::Depth => [Slot::Given, ANY, none, none, none, none],
-        Word::Tick => [Slot::Given, none, none, none, none, none],
+        Word::Done => END,
+        Word::Back => END,
+        Word::Depth => DEPTH,
+        Word::Tick => TICK,
         Word::Run => [Slot::Given, rounds, none, none, none, none],
     }
 }
