@@ -1,6 +1,6 @@
 -- The laws of the bios of a group.
 use Rattle.std.proofs.Common.{◌≡◌, ◌^◌, ◌≤◌, ◌<◌, ◌∙◌, ℕ, suc, List, [], ◌∷◌, ◌++◌, length, refl, sym, ap, subst, inl, inr, arith, get_or, codes, Bool, Option, Some, None}
-use Rattle.std.specs.Prelude.{◌⊎◌, Err}
+use Rattle.std.specs.Prelude.{◌⊎◌, Result, Ok, Err, IfOk, IfErr}
 use Rattle.blk_bio.specs.Bios.{Bio, IsBio, IsBioAnswer}
 use Rattle.blk_bio.specs.Limits.{Limits}
 use Rattle.blk_bio.specs.Requests.{Fits}
@@ -45,15 +45,15 @@ no_bio_once : (version : ℕ) (rows : List Row) (w x : Why) → IsNoBio version 
 no_bio_once version [] w x a b = a ∙ sym b
 no_bio_once version (row ∷ rows) w x a b = ((over_tells why.Count (first_record version) (head_tells version)).first (row ∷ []) 1 1 w x a b).1
 
-abbrev bio_record : Part Row Why Bio
-bio_record = word_record why.Count (codes "bio") (bio_cells (2 ^ 8)) (FitsCells (bio_cells (2 ^ 8)))
+abbrev bio_by_table : Part Row Why Bio
+bio_by_table = word_record why.Count (codes "bio") (bio_cells (2 ^ 8)) (FitsCells (bio_cells (2 ^ 8)))
 
 abbrev only_bios : ℕ → Part Row Why ((i : Unit {0}) × Bio)
-only_bios version = by_word {K = Unit {0}} (λ _. Bio) (λ _. NextStarts (codes "bio")) (λ _. bio_record) (IsNoBio version)
+only_bios version = by_word {K = Unit {0}} (λ _. Bio) (λ _. NextStarts (codes "bio")) (λ _. bio_by_table) (IsNoBio version)
 
 plain_tells : (version : ℕ) → Tells (plain_bio version)
 plain_tells version = seen_tells (λ b. (tt, b)) (only_bios version) (λ u z e. (let r : u ≡ z = (λ i. (e i).1) in r))
-    (by_word_tells {K = Unit {0}} (λ _. Bio) (λ _. NextStarts (codes "bio")) (λ _. bio_record) (IsNoBio version)
+    (by_word_tells {K = Unit {0}} (λ _. Bio) (λ _. NextStarts (codes "bio")) (λ _. bio_by_table) (IsNoBio version)
     (λ _. record_tells (λ b. codes "bio" ∷ row_by (bio_cells (2 ^ 8)) b) (FitsCells (bio_cells (2 ^ 8))) why.Count (WordLacks (codes "bio") (slots_by (bio_cells (2 ^ 8)))) (word_tells (codes "bio") (bio_cells (2 ^ 8)) (FitsCells (bio_cells (2 ^ 8))) (bio_table 256 (omega arith))))
     (λ i j rows s t. refl) (λ i rows v a h. next_starts (codes "bio") (row_by (bio_cells (2 ^ 8)) v) rows a h.made) (no_bio_once version))
 
@@ -70,7 +70,7 @@ no_bio version row = elim (head_decides version (row ∷ [])) [
 
 plain_decides : (version : ℕ) → Decides (plain_bio version)
 plain_decides version = seen_decides (λ b. (tt, b)) (only_bios version) (λ v f. (v.1, refl))
-    (by_word_decides {K = Unit {0}} (λ _. Bio) (λ _. NextStarts (codes "bio")) (λ _. bio_record) (IsNoBio version)
+    (by_word_decides {K = Unit {0}} (λ _. Bio) (λ _. NextStarts (codes "bio")) (λ _. bio_by_table) (IsNoBio version)
     (λ _ rows s. record_decides (λ b. codes "bio" ∷ row_by (bio_cells (2 ^ 8)) b) (FitsCells (bio_cells (2 ^ 8))) why.Count (WordLacks (codes "bio") (slots_by (bio_cells (2 ^ 8)))) (word_decides (codes "bio") (bio_cells (2 ^ 8)) (FitsCells (bio_cells (2 ^ 8))) (bio_table 256 (omega arith))) rows)
     find)
   where
@@ -143,6 +143,15 @@ group_wrong version row w t h rest = elim (h rest) [
   | inl f ↦ inl (inl (tt, t, f))
   | inr g ↦ inr (g.0, g.1, record { fits = g.2.fits; made = g.2.made; follows = tt }, g.3)
 ]
+
+-- what is answered of one
+pub group_ok : (version : ℕ) (row : Row) (r : Result Bio Why) → IfOk r (IsRowOf (bio_record (2 ^ 8)) row) → IfOk r (IsRowOf (whole_bio version) row)
+group_ok version row (Ok b) h = group_line version b row h
+group_ok version row (Err w) h = tt
+
+pub group_err : (version : ℕ) (row : Row) (r : Result Bio Why) → StartsWith (codes "bio") row → IfErr r (IsWrongLine (bio_record (2 ^ 8)) row) → IfErr r (IsWrongLine (whole_bio version) row)
+group_err version row (Ok b) t h = tt
+group_err version row (Err w) t h = group_wrong version row w t h
 
 -- a record that is another event's, or no event's
 pub event_too_soon : (version : ℕ) (h : Head) (row : Row) → ¬ StartsWith (codes "bio") row → IsRowOf (first_record version) row h → IsWrongLine (whole_bio version) row why.Count
