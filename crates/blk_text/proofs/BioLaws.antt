@@ -1,5 +1,5 @@
 -- The record of a bio by itself.
-use Rattle.std.proofs.Common.{◌≡◌, ◌<◌, ◌≤◌, ◌^◌, ℕ, List, [], ◌∷◌, refl, ap, inl, inr, arith, codes, get_or}
+use Rattle.std.proofs.Common.{◌≡◌, ◌<◌, ◌^◌, ℕ, List, [], ◌∷◌, refl, ap, inl, inr, arith, codes, get_or}
 use Rattle.std.specs.Prelude.{Err}
 use Rattle.blk_bio.specs.Bios.{Bio, IsBio, IsBioAnswer}
 use Rattle.blk_bio.specs.declared.bio.BioFault.{BioFault}

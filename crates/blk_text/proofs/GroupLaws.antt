@@ -1,23 +1,18 @@
 -- The laws of the bios of a group.
-use Rattle.std.proofs.Common.{◌≡◌, ◌^◌, ◌≤◌, ◌<◌, ◌∙◌, ℕ, suc, List, [], ◌∷◌, ◌++◌, length, refl, sym, ap, subst, inl, inr, arith, get_or, codes, Bool, Option, Some, None}
+use Rattle.std.proofs.Common.{◌≡◌, ◌^◌, ◌≤◌, ◌<◌, ◌∙◌, ℕ, suc, List, [], ◌∷◌, ◌++◌, length, refl, sym, ap, subst, inl, inr, arith, codes, Bool, Option, Some, None}
 use Rattle.std.specs.Prelude.{◌⊎◌, Result, Ok, Err, IfOk, IfErr}
-use Rattle.blk_bio.specs.Bios.{Bio, IsBio, IsBioAnswer}
+use Rattle.blk_bio.specs.Bios.{Bio, IsBio}
 use Rattle.blk_bio.specs.Limits.{Limits}
 use Rattle.blk_bio.specs.Requests.{Fits}
 use Rattle.blk_bio.specs.declared.request.Side.TheVariants as side
-use Rattle.blk_bio.specs.declared.bio.BioFault.{BioFault}
-use Rattle.blk_bio.specs.declared.bio.Dir.{Dir}
 use Rattle.blk_lists.specs.Sources.{Row}
 use Rattle.blk_text.specs.BioTable.{bio_cells, bio_record, IsNoSuchBio}
-use Rattle.blk_bio.specs.Letters.{direction_text}
 use Rattle.blk_lists.specs.Words.{StartsWith, NextStarts, WordLacks}
-use Rattle.blk_lists.specs.Fields.{Lacks, FieldsSpell}
 use Rattle.blk_lists.specs.Reads.{IsRowOf, IsWrongLine, HandFails, Gathers, with_next}
 use Rattle.blk_lists.specs.Tables.{FitsCells, row_by, slots_by, word_record}
 use Rattle.blk_text.specs.TraceForm.{Tiles, gathered_bios, IsAstray, IsNoBio, first_record, plain_bio, whole_bio, group_bio, group}
 use Rattle.blk_lists.specs.declared.fault.Why.{Why}
 use Rattle.blk_lists.specs.declared.fault.Why.TheVariants as why
-use Rattle.blk_lists.specs.declared.fields.Slot.TheVariants as slot
 use Rattle.blk_text.specs.TraceForm.{Head}
 use Rattle.parts.specs.declared.Repeats.TheVariants as repeats
 use Rattle.parts.specs.Parts.{Part, by_word, all_rows}
@@ -25,7 +20,7 @@ use Rattle.parts.specs.Laws.{Tells, Decides, IsPlain}
 use Rattle.parts.proofs.Then.{record_tells, record_decides, by_word_tells, by_word_decides, seen_tells, seen_decides, tested_tells, tested_decides, over_tells}
 use Rattle.parts.proofs.Many.{HasRows, many_tells, many_decides, many_plain}
 use Rattle.blk_lists.proofs.Lacking.{Dec, word_decided}
-use Rattle.blk_lists.proofs.TableLaws.{IsTable, word_line, next_starts, word_tells, word_decides}
+use Rattle.blk_lists.proofs.TableLaws.{IsTable, next_starts, word_tells, word_decides}
 use Rattle.blk_text.proofs.ScriptLaws.{no_bio_is, one_bio_fault, bio_or_none}
 use Rattle.blk_lists.proofs.Reading.{hand_reads}
 use Rattle.blk_text.proofs.HeadLaws.{head_tells, head_decides}

@@ -6,7 +6,6 @@ use Rattle.csv.specs.Writing.{read_back}
 use Rattle.blk_bio.specs.Bios.{Bio, IsBio, IsBioAnswer, sector_limit}
 use Rattle.blk_bio.specs.declared.bio.BioFault.{BioFault}
 use Rattle.blk_bio.specs.declared.bio.BioFault.TheVariants as bio_fault
-use Rattle.blk_bio.specs.declared.bio.Dir.{Dir}
 use Rattle.blk_bio.specs.Limits.{Limits, IsLimits}
 use Rattle.blk_trace.specs.Setups.{Setup, IsSetup}
 use Rattle.blk_lists.specs.Sources.{Row}

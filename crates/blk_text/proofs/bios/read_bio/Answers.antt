@@ -1,4 +1,4 @@
-use Rattle.std.proofs.Common.{◌∙◌, sym, arith}
+use Rattle.std.proofs.Common.{◌∙◌, sym}
 use Rattle.csv.specs.Records.{fields_of}
 use Rattle.blk_text.proofs.BioLaws.{bio_spelled, bio_of_numbers, no_bio_of_numbers, bio_lacks}
 use Rattle.blk_text.proofs.bios.read_bio.Goals as goal
