@@ -1,5 +1,5 @@
 -- The laws of schedules.
-use Rattle.std.proofs.Common.{◌≡◌, ◌≢◌, ◌+◌, ◌-◌, ◌<◌, ◌≤◌, ◌∙◌, ℕ, zero, suc, List, [], ◌∷◌, ◌++◌, length, map, append-nil, append_assoc, Bool, true, false, cond, Option, Some, None, refl, sym, ap, subst, inl, inr, arith, codes, get_or}
+use Rattle.std.proofs.Common.{◌≡◌, ◌≢◌, ◌+◌, ◌-◌, ◌<◌, ◌≤◌, ◌∙◌, ℕ, List, [], ◌∷◌, ◌++◌, length, map, append-nil, append_assoc, Bool, true, false, cond, Option, Some, None, refl, sym, ap, subst, inl, inr, arith, codes, get_or}
 use Rattle.std.specs.Prelude.{IfSome, All, ◌⊎◌, not}
 use Rattle.std.specs.List.{zip}
 use Rattle.std.specs.Ordering.{nat_cmp}
@@ -11,19 +11,19 @@ use Rattle.std.proofs.lemmas.List.{length-map, length-append, get_or-map, get_or
 use Rattle.csv.specs.Reading.{default_config, records, strip_bom}
 use Rattle.csv.specs.Writing.{read_back}
 use Rattle.edd_check.specs.declared.Command.{Command}
-use Rattle.edd_check.specs.declared.TheConstants.{MAX_COMMANDS, MAX_ROUNDS}
+use Rattle.edd_check.specs.declared.TheConstants.{MAX_ROUNDS}
 use Rattle.blk_lists.specs.Sources.{Row, TakesRecord}
 use Rattle.blk_lists.specs.Texts.{rows_text}
 use Rattle.blk_lists.specs.Commands.{IsCommandInRange}
-use Rattle.blk_lists.specs.Reads.{IsOutside, Reads, Halts, Fails, HandFails, HandReads, IsOne, IsRowOf, IsWrongLine, IsStopped, AreGathered, Gathers, items_of, with_next, size_of, repeated}
+use Rattle.blk_lists.specs.Reads.{IsOutside, Reads, Halts, Fails, HandFails, IsOne, IsRowOf, IsWrongLine, IsStopped, AreGathered, Gathers, with_next, size_of, repeated}
 use Rattle.blk_lists.specs.Tables.{IsVersion, row_by, title_by}
 use Rattle.blk_lists.specs.Titles.{counted_cells, IsCounted}
 use Rattle.blk_lists.specs.Certificate.{served_cells, served_record, IsServed}
-use Rattle.blk_lists.specs.Schedule.{Ran, AreDistinct, IsRan, IsNew, IsRepeated, AreFit, HasIds, new_record, ran_title, ran_body, ran_form, ran_value, ran_rows, SpellsSchedule, ScheduleFault}
+use Rattle.blk_lists.specs.Schedule.{Ran, AreDistinct, IsRan, IsNew, IsRepeated, AreFit, new_record, ran_title, ran_body, ran_form, ran_value, ran_rows, SpellsSchedule, ScheduleFault}
 use Rattle.blk_lists.specs.declared.fault.Why.{Why}
 use Rattle.blk_lists.specs.declared.fault.Why.TheVariants as why
 use Rattle.parts.specs.declared.Repeats.TheVariants as repeats
-use Rattle.parts.specs.Parts.{Begins, Spells, AllFit, all_rows, after, over}
+use Rattle.parts.specs.Parts.{Begins, Spells, AllFit, all_rows, over}
 use Rattle.parts.specs.Laws.{Tells, Decides}
 use Rattle.parts.proofs.Then.{then_tells, then_decides, tested_tells, tested_plain, tested_decides}
 use Rattle.parts.proofs.Many.{HasRows, ended_tells, ended_decides}
@@ -225,9 +225,6 @@ ran_read (Some rows) mid version depth count lines cs rs t v u n p q =
     ran_spelled rows version depth count lines cs rs v n p q (then_reads ran_title (λ t. ran_body t.1.1) (Some rows) mid (version, (depth, count)) lines t u)
 
 -- the ids that are known
-
-none_held : (j n : ℕ) → n ≡ 0 → j < n → ⊥
-none_held j n e l = omega (arith, e, l)
 
 at_same : (a b : ℕ) → is_at (nat_cmp a) b ≡ true → a ≡ b
 at_same a b e = grind (arith, nat_tests)

@@ -1,5 +1,5 @@
 -- The laws of a record by its table.
-use Rattle.std.proofs.Common.{◌≡◌, ◌-◌, ◌+◌, ◌<◌, ◌≤◌, ◌^◌, ◌∙◌, ℕ, ℤ, pos, negsuc, suc, List, [], ◌∷◌, length, get_or, refl, sym, ap, subst, inl, inr, arith, decimal, codes}
+use Rattle.std.proofs.Common.{◌≡◌, ◌-◌, ◌+◌, ◌<◌, ◌≤◌, ◌^◌, ◌∙◌, ℕ, ℤ, pos, negsuc, suc, List, [], ◌∷◌, length, get_or, refl, sym, ap, subst, inl, inr, arith, decimal}
 use Rattle.std.specs.Prelude.{◌⊎◌}
 use Rattle.std.specs.Fmt.{signed_decimal}
 use Rattle.std.specs.Int.Signed.{mag}

@@ -1,4 +1,4 @@
-use Rattle.std.proofs.Common.{rules, ◌≡◌, ◌+◌, length, true, false, arith}
+use Rattle.std.proofs.Common.{rules, ◌≡◌, ◌+◌, true, false, arith}
 use Rattle.blk_lists.specs.Sources.{TakesRecord}
 use Rattle.blk_lists.specs.Reads.{AreGathered}
 use Rattle.blk_lists.specs.Schedule.{new_record}

@@ -1,4 +1,4 @@
-use Rattle.std.proofs.Common.{◌≡◌, ◌++◌, ◌∷◌, ◌∙◌, [], List, ℕ, codes, length, map, ap, sym}
+use Rattle.std.proofs.Common.{◌∙◌, codes, length, map, ap, sym}
 use Rattle.std.specs.List.{zip}
 use Rattle.blk_lists.specs.Titles.{counted_cells}
 use Rattle.blk_lists.specs.Certificate.{served_cells}

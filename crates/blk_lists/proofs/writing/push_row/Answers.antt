@@ -1,4 +1,4 @@
-use Rattle.std.proofs.Common.{◌∙◌, ap, ◌++◌, arith, decimal}
+use Rattle.std.proofs.Common.{◌∙◌, ap, ◌++◌}
 use Rattle.drafts.proofs.Drafts.{added}
 use Rattle.blk_lists.specs.Cells.{rest_of_line}
 use Rattle.blk_lists.proofs.Rows.{row_is}
