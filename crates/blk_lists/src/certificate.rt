@@ -5,7 +5,6 @@ ghost use Rattle.std.specs.Fmt.{signed_decimal};
 ghost use Rattle.std.specs.List.{zip};
 ghost use Rattle.std.specs.Io.KnownBytes.{Appends};
 ghost use Rattle.csv.specs.Records.{fields_of};
-ghost use Rattle.blk_lists.specs.Sources.{Took};
 ghost use Rattle.parts.specs.Parts.{Begins};
 ghost use Rattle.blk_lists.specs.Reads.{IsOutside, IsRowOf, IsWrongLine, Halts, Reaches};
 ghost use Rattle.blk_lists.specs.Tables.{IsUpTo, FitsCells, row_by, slots_by};

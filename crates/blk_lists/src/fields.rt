@@ -1,6 +1,6 @@
 //! The fields of a record by what may stand in them.
 
-ghost use Rattle.std.specs.Prelude.{◌≡◌, ◌≢◌, ◌+◌, ◌*◌, ◌<◌, ◌≤◌, ◌^◌, ◌↔◌, ℕ, List, [], ◌∷◌, length, get_or, IsTrue, IfOk, IfErr, IfSome, MatchOption, decimal};
+ghost use Rattle.std.specs.Prelude.{◌≡◌, ◌≢◌, ◌+◌, ◌*◌, ◌<◌, ◌≤◌, ◌^◌, ◌↔◌, ℕ, [], ◌∷◌, length, get_or, IsTrue, IfOk, IfErr, MatchOption, decimal};
 ghost use Rattle.std.specs.Str.Parse.{AllDigits, digits_value};
 ghost use Rattle.csv.specs.Records.{fields_of};
 ghost use Rattle.blk_lists.specs.Fields.{EachField, IsSized, IsGood, IsWhole, Keeps, Lacks, FieldSpells, FieldsSpell, WritesNumber, canonical};

@@ -2,10 +2,9 @@
 
 ghost use Rattle.std.specs.Prelude.{◌≡◌, ◌⊎◌, ◌+◌, ◌*◌, ◌++◌, ◌≤◌, ◌<◌, ◌-◌, ◌^◌, ◌∷◌, [], All, IfOk, IfErr, IfSome, OnOk, map, length, codes};
 ghost use Rattle.std.specs.Io.KnownBytes.{Appends};
-ghost use Rattle.csv.specs.Records.{fields_of};
 ghost use Rattle.edd_check.specs.Window.{WindowInRange};
 ghost use Rattle.parts.specs.Parts.{Begins};
-ghost use Rattle.blk_lists.specs.Reads.{IsOutside, IsRowOf, IsWrongLine, Reads, Halts, Reaches};
+ghost use Rattle.blk_lists.specs.Reads.{IsOutside, Reads, Halts, Reaches};
 ghost use Rattle.blk_lists.specs.Tables.{row_by};
 ghost use Rattle.blk_lists.specs.Texts.{rows_text};
 ghost use Rattle.drafts.specs.Parts.{AppendsPart};

@@ -1,6 +1,6 @@
 //! Schedules, by whatever scheduler.
 
-ghost use Rattle.std.specs.Prelude.{◌≡◌, ◌⊎◌, ◌+◌, ◌≤◌, ◌<◌, ◌-◌, ◌^◌, ◌++◌, ◌∷◌, [], List, All, IfOk, IfErr, IfSome, OnOk, length};
+ghost use Rattle.std.specs.Prelude.{◌≡◌, ◌⊎◌, ◌+◌, ◌≤◌, ◌<◌, ◌-◌, ◌^◌, ◌++◌, ◌∷◌, [], List, IfOk, IfErr, IfSome, OnOk, length};
 ghost use Rattle.std.specs.Io.KnownBytes.{Appends};
 ghost use Rattle.csv.specs.Records.{fields_of};
 ghost use Rattle.parts.specs.Parts.{Begins, over};
@@ -8,7 +8,6 @@ ghost use Rattle.blk_lists.specs.Sources.{Row};
 ghost use Rattle.blk_lists.specs.Reads.{IsOutside, Halts, Reaches};
 ghost use Rattle.blk_lists.specs.Texts.{rows_text};
 ghost use Rattle.drafts.specs.Parts.{AppendsPart};
-ghost use Rattle.blk_lists.specs.Certificate.{IsServed};
 ghost use Rattle.blk_lists.specs.Schedule.{ran_of, ran_form, ran_body, ran_rows, new_record, AreFit, HasIds, IsNew, IsRan, SpellsSchedule, ScheduleFault};
 
 use crate::certificate::{ServedForm, push_schedule, split};
