@@ -31,19 +31,19 @@ bio_spelled submitters b row e low serial i =
     }
 
 -- the table's own, whether it is one or not
-plain_line : (submitters : ℕ) (dir : Dir) (row : Row) (ns : List ℕ) → StartsWith (codes "bio") row → FieldsSpell (slot.Given ∷ slots_by (bio_cells submitters)) row ns → get_or row 3 [] ≡ direction_text dir → (rest : List Row)
+plain_line : (submitters : ℕ) (dir : Dir) (row : Row) (ns : List ℕ) → StartsWith (codes "bio") row → FieldsSpell (slot.Given ∷ slots_by (bio_cells submitters)) row ns → get_or row (3) [] ≡ direction_text dir → (rest : List Row)
     → FitsCells (bio_cells submitters) (bio_with ns dir) × (row ∷ rest ≡ bio_row (bio_with ns dir) ∷ rest)
 plain_line submitters dir row ns t s d rest =
     let line = word_line why.Count (codes "bio") (bio_cells submitters) (FitsCells (bio_cells submitters)) (bio_with ns dir) row ns t s (refl, (refl, (d, (refl, (refl, tt))))) (λ f. f) rest in
     (line.fits, line.made)
 
-pub bio_of_numbers : (submitters : ℕ) (dir : Dir) (row : Row) (ns : List ℕ) (b : Bio) → StartsWith (codes "bio") row → FieldsSpell (slot.Given ∷ slots_by (bio_cells submitters)) row ns → get_or row 3 [] ≡ direction_text dir
+pub bio_of_numbers : (submitters : ℕ) (dir : Dir) (row : Row) (ns : List ℕ) (b : Bio) → StartsWith (codes "bio") row → FieldsSpell (slot.Given ∷ slots_by (bio_cells submitters)) row ns → get_or row (3) [] ≡ direction_text dir
     → b ≡ bio_with ns dir → IsBio b → IsRowOf (bio_record submitters) row b
 bio_of_numbers submitters dir row ns b t s d e i rest =
     let line = plain_line submitters dir row ns t s d rest in
     rw e (record { fits = (line.0, rw e at i); made = line.1; follows = tt })
 
-pub no_bio_of_numbers : (submitters : ℕ) (dir : Dir) (row : Row) (ns : List ℕ) (f : BioFault) → StartsWith (codes "bio") row → FieldsSpell (slot.Given ∷ slots_by (bio_cells submitters)) row ns → get_or row 3 [] ≡ direction_text dir
+pub no_bio_of_numbers : (submitters : ℕ) (dir : Dir) (row : Row) (ns : List ℕ) (f : BioFault) → StartsWith (codes "bio") row → FieldsSpell (slot.Given ∷ slots_by (bio_cells submitters)) row ns → get_or row (3) [] ≡ direction_text dir
     → IsBioAnswer (bio_with ns dir).id dir (bio_with ns dir).first (bio_with ns dir).sectors (Err f) → IsWrongLine (bio_record submitters) row (why.Bio f)
 no_bio_of_numbers submitters dir row ns f t s d a rest =
     let line = plain_line submitters dir row ns t s d rest in
