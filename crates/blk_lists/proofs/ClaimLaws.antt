@@ -182,8 +182,11 @@ body_tells count = then_tells (bound count) (λ b. items_of (repeats.Exactly cou
 pub claim_tells : Tells claim_form
 claim_tells = then_tells title (λ t. claim_body t.1.1) title_one.tells (λ t fit. body_tells t.1.1)
 
+pub served_record_decides : Decides served_record
+served_record_decides = record_decides (row_by served_cells) IsServed why.Count (Lacks (slots_by served_cells)) (table_decides served_cells IsServed served_table)
+
 pub served_decides : (count : ℕ) → Decides (items_of (repeats.Exactly count) (λ _. served_record))
-served_decides count = each_decides served_record (record_decides (row_by served_cells) IsServed why.Count (Lacks (slots_by served_cells)) (table_decides served_cells IsServed served_table)) (repeats.Exactly count)
+served_decides count = each_decides served_record served_record_decides (repeats.Exactly count)
 
 pub claim_decides : Decides claim_form
 claim_decides = then_decides title (λ t. claim_body t.1.1) (counted_decides (codes "blk-certificate"))

@@ -1,5 +1,5 @@
 -- A record lacks one thing first, or nothing: which of both is decided.
-use Rattle.std.proofs.Common.{◌≡◌, ◌<◌, ◌≤◌, ◌^◌, ◌+◌, ◌-◌, ◌∙◌, ℕ, zero, suc, List, [], ◌∷◌, length, refl, sym, ap, inl, inr, arith, get_or, decimal, true, codes}
+use Rattle.std.proofs.Common.{◌≡◌, ◌<◌, ◌≤◌, ◌^◌, ◌+◌, ◌-◌, ◌∙◌, ℕ, zero, suc, List, [], ◌∷◌, length, refl, sym, ap, inl, inr, arith, get_or, decimal, true}
 use Rattle.std.specs.Prelude.{◌⊎◌}
 use Rattle.std.specs.Str.{bytes_eq}
 use Rattle.std.specs.Str.Parse.{digits_value}
@@ -7,7 +7,10 @@ use Rattle.std.proofs.lemmas.Bool.{cases_Bool}
 use Rattle.std.proofs.lemmas.Slice.Eq.{bytes_eq-Decides}
 use Rattle.std.proofs.lemmas.Fmt.{digits_value-decimal, decimal_injective}
 use Rattle.blk_lists.specs.Sources.{Row}
-use Rattle.blk_lists.specs.Fields.{EachField, IsBlank, IsDirection, IsNumber, IsInRange, IsSized, IsShaped, record_rules, Lacks}
+use Rattle.blk_lists.specs.Fields.{EachField, IsBlank, IsDirection, IsNumber, IsInRange, IsGood, IsSized, IsShaped, record_rules, Lacks}
+use Rattle.blk_bio.specs.declared.bio.Dir.{Dir}
+use Rattle.blk_bio.specs.declared.bio.Dir.TheVariants as dir
+use Rattle.blk_bio.specs.Letters.{direction_text}
 use Rattle.faults.specs.Order.{IsFirstFault}
 use Rattle.blk_lists.specs.Words.{StartsWith, HasNoWord, WordLacks}
 use Rattle.blk_lists.specs.declared.fault.Why.{Why}
@@ -126,8 +129,18 @@ blank_decided : (s : Slot) (f : List ℕ) → Dec (IsBlank s f)
 blank_decided slot.Blank f = same_text f []
 blank_decided s f = inl tt
 
+no_direction : (f : List ℕ) → ¬ (f ≡ direction_text dir.Read) → ¬ (f ≡ direction_text dir.Write) → (d : Dir) → f ≡ direction_text d → ⊥
+no_direction f r w dir.Read e = r e
+no_direction f r w dir.Write e = w e
+
 direction_decided : (s : Slot) (f : List ℕ) → Dec (IsDirection s f)
-direction_decided slot.Direction f = either (same_text f (codes "R")) (same_text f (codes "W"))
+direction_decided slot.Direction f = elim (same_text f (direction_text dir.Read)) [
+  | inl e ↦ inl (dir.Read, e)
+  | inr r ↦ elim (same_text f (direction_text dir.Write)) [
+    | inl e ↦ inl (dir.Write, e)
+    | inr w ↦ inr (λ d. no_direction f r w d.0 d.1)
+  ]
+]
 direction_decided s f = inl tt
 
 slot_number_decided : (s : Slot) (f : List ℕ) → Dec (IsNumber s f)
@@ -158,7 +171,7 @@ each_decided P d (s ∷ ss) (f ∷ fs) l = same_as all (λ h. (h 0 (omega arith)
 
 -- a field is all that its slot wants
 abbrev pub Good : Slot → List ℕ → Type 0
-Good s f = IsBlank s f × IsDirection s f × IsNumber s f × IsInRange s f
+Good = IsGood
 
 -- so is each field of a record
 abbrev pub Goods : List Slot → Row → Type 0

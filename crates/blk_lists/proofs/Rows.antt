@@ -1,40 +1,53 @@
 -- The pieces of each record make its text, after some bytes.
-use Rattle.std.proofs.Common.{◌≡◌, ◌<◌, ◌≤◌, ◌^◌, ℕ, ℤ, List, [], ◌∷◌, ◌++◌, length, codes, decimal, true, false, refl, append_assoc, arith}
+use Rattle.std.proofs.Common.{◌≡◌, ◌+◌, ◌<◌, ◌≤◌, ◌^◌, ◌∙◌, ℕ, zero, suc, ℤ, List, [], ◌∷◌, ◌++◌, length, take, codes, decimal, true, false, refl, sym, ap, add-one, append_assoc, arith, get_or}
+use Rattle.std.proofs.Math.ListN.{replicate}
+use Rattle.std.proofs.Math.Seq.{take-suc}
+use Rattle.std.proofs.lemmas.List.{append-nil}
+use Rattle.std.proofs.lemmas.List.Concat.{flat_map-append}
 use Rattle.csv.specs.Writing.{needs_quotes, default_writer}
 use Rattle.std.specs.Fmt.{signed_decimal}
 use Rattle.std.specs.Int.Signed.{mag}
 use Rattle.std.proofs.lemmas.Fmt.{length_signed_le}
-use Rattle.edd_check.specs.declared.Command.{Command}
 use Rattle.edd_check.specs.declared.Window.{Window}
-use Rattle.blk_lists.specs.Cells.{line_of}
+use Rattle.blk_lists.specs.Cells.{line_of, number_cells, marked, rest_of_line}
 use Rattle.blk_lists.specs.Texts.{rows_text}
 use Rattle.blk_lists.specs.Sources.{Row}
-use Rattle.blk_lists.specs.Commands.{depth_cells, command_cells}
-use Rattle.blk_lists.specs.Titles.{counted_cells}
-use Rattle.blk_lists.specs.Certificate.{no_bound_row, served_cells}
-use Rattle.blk_lists.specs.Tables.{row_by, title_by}
-use Rattle.blk_lists.proofs.Each.{first_version}
+use Rattle.blk_lists.specs.Certificate.{no_bound_row}
 use Rattle.blk_lists.proofs.PlainRows.{all_plain, decimal_plain, signed_plain, line_is}
 
-pub commands_title_is : (start : List ℕ) (depth : ℕ) → ((start ++ codes "blk-commands,1,") ++ decimal depth) ++ (10 ∷ []) ≡ start ++ rows_text (title_by (codes "blk-commands") depth_cells (1, depth) ∷ [])
-unfolding line_of
-commands_title_is start depth =
-    let all : all_plain (codes "blk-commands" ∷ codes "1" ∷ decimal depth ∷ []) ≡ true = rw (decimal_plain depth) refl in
-    rw (first_version, line_is (codes "blk-commands" ∷ codes "1" ∷ decimal depth ∷ []) (omega arith) all) (simp append_assoc)
+-- one number more after a comma
+pub marked_more : (start ns : List ℕ) (i : ℕ) → i < length ns
+    → ((start ++ marked (take i ns)) ++ 44 ∷ []) ++ decimal (get_or ns i 0) ≡ start ++ marked (take (i + 1) ns)
+marked_more start ns i l =
+    let next : take (i + 1) ns ≡ take i ns ++ get_or ns i 0 ∷ [] = rw (add-one i) (take-suc ns i 0 l) in
+    let more : marked (take i ns ++ get_or ns i 0 ∷ []) ≡ marked (take i ns) ++ 44 ∷ decimal (get_or ns i 0) =
+    flat_map-append (λ n. 44 ∷ decimal n) (take i ns) (get_or ns i 0 ∷ []) ∙ ap (λ (t : List ℕ). marked (take i ns) ++ 44 ∷ t) (append-nil (decimal (get_or ns i 0))) in
+    rw (next, more) (simp append_assoc)
 
-pub command_is : (start : List ℕ) (c : Command)
-    → (((start ++ (decimal c.id ++ 44 ∷ decimal c.release)) ++ (44 ∷ [])) ++ decimal c.due) ++ (10 ∷ []) ≡ start ++ rows_text (row_by command_cells c ∷ [])
-unfolding line_of
-command_is start c =
-    let all : all_plain (row_by command_cells c) ≡ true = rw (decimal_plain c.id, decimal_plain c.release, decimal_plain c.due) refl in
-    rw (line_is (row_by command_cells c) (omega arith) all) (simp append_assoc)
+-- the fields of numbers need no quotes
+cells_plain : (ns : List ℕ) (k : ℕ) → all_plain (number_cells ns k) ≡ true
+cells_plain [] zero = refl
+cells_plain [] (suc k) = cells_plain [] k
+cells_plain (n ∷ ns) k = rw (decimal_plain n) (cells_plain ns k)
 
-pub claim_title_is : (start : List ℕ) (depth count : ℕ)
-    → ((start ++ codes "blk-certificate,1,") ++ (decimal depth ++ 44 ∷ decimal count)) ++ (10 ∷ []) ≡ start ++ rows_text (title_by (codes "blk-certificate") counted_cells (1, (depth, count)) ∷ [])
+cells_long : (ns : List ℕ) (k : ℕ) → length (number_cells ns k) ≡ length ns + k
+cells_long [] zero = refl
+cells_long [] (suc k) = omega (arith, cells_long [] k)
+cells_long (n ∷ ns) k = omega (arith, cells_long ns k)
+
+-- a field and then numbers
+line_made : (f ns : List ℕ) (k : ℕ) → line_of (f ∷ number_cells ns k) ≡ f ++ rest_of_line ns k
 unfolding line_of
-claim_title_is start depth count =
-    let all : all_plain (codes "blk-certificate" ∷ codes "1" ∷ decimal depth ∷ decimal count ∷ []) ≡ true = rw (decimal_plain depth, decimal_plain count) refl in
-    rw (first_version, line_is (codes "blk-certificate" ∷ codes "1" ∷ decimal depth ∷ decimal count ∷ []) (omega arith) all) (simp append_assoc)
+line_made f [] zero = refl
+line_made f [] (suc k) = ap (λ (t : List ℕ). f ++ 44 ∷ t) (line_made [] [] k)
+line_made f (n ∷ ns) k = ap (λ (t : List ℕ). f ++ 44 ∷ t) (line_made (decimal n) ns k ∙ sym (append_assoc (decimal n) (marked ns ++ replicate k 44) (10 ∷ [])) ∙ ap (λ (t : List ℕ). t ++ 10 ∷ []) (sym (append_assoc (decimal n) (marked ns) (replicate k 44))))
+
+-- the record of a field and of numbers
+pub row_is : (start f ns : List ℕ) (k : ℕ) → needs_quotes default_writer f ≡ false → 1 ≤ length ns + k
+    → (start ++ f) ++ rest_of_line ns k ≡ start ++ rows_text ((f ∷ number_cells ns k) ∷ [])
+row_is start f ns k plain some =
+    let all : all_plain (f ∷ number_cells ns k) ≡ true = rw plain (cells_plain ns k) in
+    append_assoc start f (rest_of_line ns k) ∙ ap (λ (t : List ℕ). start ++ t) (sym (line_is (f ∷ number_cells ns k) (omega (arith, some, cells_long ns k)) all ∙ line_made f ns k))
 
 pub no_bound_is : (start : List ℕ) → start ++ (codes "bound,none,none,none" ++ 10 ∷ []) ≡ start ++ rows_text (no_bound_row ∷ [])
 unfolding line_of
@@ -49,28 +62,6 @@ unfolding line_of
 bound_is start z w =
     let all : all_plain (bound_row z w) ≡ true = rw (signed_plain z, decimal_plain w.from, decimal_plain w.due) refl in
     rw (line_is (bound_row z w) (omega arith) all) (simp append_assoc)
-
-pub served_is : (start : List ℕ) (c : Command) (round : ℕ)
-    → (((start ++ (decimal c.id ++ 44 ∷ decimal c.release)) ++ (44 ∷ [])) ++ (decimal c.due ++ 44 ∷ decimal round)) ++ (10 ∷ []) ≡ start ++ rows_text (row_by served_cells (c, round) ∷ [])
-unfolding line_of
-served_is start c round =
-    let all : all_plain (row_by served_cells (c, round)) ≡ true = rw (decimal_plain c.id, decimal_plain c.release, decimal_plain c.due, decimal_plain round) refl in
-    rw (line_is (row_by served_cells (c, round)) (omega arith) all) (simp append_assoc)
-
-pub met_title_is : (start : List ℕ) (depth count : ℕ)
-    → ((start ++ codes "blk-met,1,") ++ (decimal depth ++ 44 ∷ decimal count)) ++ (10 ∷ []) ≡ start ++ rows_text (title_by (codes "blk-met") counted_cells (1, (depth, count)) ∷ [])
-unfolding line_of
-met_title_is start depth count =
-    let all : all_plain (codes "blk-met" ∷ codes "1" ∷ decimal depth ∷ decimal count ∷ []) ≡ true = rw (decimal_plain depth, decimal_plain count) refl in
-    rw (first_version, line_is (codes "blk-met" ∷ codes "1" ∷ decimal depth ∷ decimal count ∷ []) (omega arith) all) (simp append_assoc)
-
--- a word and two numbers
-pub word_is : (start word comma : List ℕ) (a b : ℕ) → needs_quotes default_writer word ≡ false → comma ≡ word ++ 44 ∷ []
-    → ((start ++ comma) ++ (decimal a ++ 44 ∷ decimal b)) ++ (44 ∷ 10 ∷ []) ≡ start ++ rows_text ((word ∷ decimal a ∷ decimal b ∷ [] ∷ []) ∷ [])
-unfolding line_of
-word_is start word comma a b plain e =
-    let all : all_plain (word ∷ decimal a ∷ decimal b ∷ [] ∷ []) ≡ true = rw (plain, decimal_plain a, decimal_plain b) refl in
-    rw (e, line_is (word ∷ decimal a ∷ decimal b ∷ [] ∷ []) (omega arith) all) (simp append_assoc)
 
 -- a lateness is short
 pub late_long : (bytes : List ℕ) (z : ℤ) → bytes ≡ signed_decimal z → mag z < 2 ^ 63 → length bytes ≤ 20

@@ -1,5 +1,5 @@
 -- The laws of a record by its table.
-use Rattle.std.proofs.Common.{◌≡◌, ◌-◌, ◌+◌, ◌<◌, ◌≤◌, ◌^◌, ◌∙◌, ℕ, ℤ, pos, negsuc, suc, List, [], ◌∷◌, length, get_or, refl, sym, ap, subst, inl, inr, arith, decimal, codes}
+use Rattle.std.proofs.Common.{◌≡◌, ◌-◌, ◌+◌, ◌<◌, ◌≤◌, ◌^◌, ◌∙◌, ℕ, ℤ, pos, negsuc, suc, List, [], ◌∷◌, length, get_or, refl, sym, ap, subst, inl, inr, arith, decimal}
 use Rattle.std.specs.Prelude.{◌⊎◌}
 use Rattle.std.specs.Fmt.{signed_decimal}
 use Rattle.std.specs.Int.Signed.{mag}
@@ -75,13 +75,9 @@ late_field : (most : ℕ) (z : ℤ) → IsUpTo most z → most < 2 ^ 63 → Good
 late_field most (pos n) h l = late_good most n (decimal n) (omega (arith, h, l)) h (inl refl)
 late_field most (negsuc n) h l = late_good most (suc n) (45 ∷ decimal (suc n)) (omega (arith, h, l)) h (inr (omega arith, refl))
 
-direction_good : (d : Dir) → Good slot.Direction (direction_text d)
-direction_good dir.Read = (tt, inl refl, tt, tt)
-direction_good dir.Write = (tt, inr refl, tt, tt)
-
 cell_good : {V : Type 0} (c : Cell V) (v : V) → IsSizedCell c → FitsCell v c → Good (slot_of c) (field_of v c)
 cell_good Blank v s f = (refl, tt, tt, tt)
-cell_good (Direction d) v s f = direction_good (d v)
+cell_good (Direction d) v s f = (tt, (d v, refl), tt, tt)
 cell_good (Number least most n) v s f = let high = f.1 in number_good least most (n v) (omega (arith, high, s)) f.0 f.1
 cell_good (Signed most z) v s f = late_field most (z v) f s
 
@@ -108,10 +104,6 @@ cell_same (Signed most z) v u s f g e =
 abbrev CellTold : {V : Type 0} → Cell V → List ℕ → Type 0
 CellTold {V} c f = (x : Told c) × ((v : V) → told v c ≡ x → (f ≡ field_of v c) × FitsCell v c)
 
-direction_told : {V : Type 0} (d : V → Dir) (f : List ℕ) → (f ≡ codes "R") ⊎ (f ≡ codes "W") → CellTold (Direction d) f
-direction_told d f (inl e) = (dir.Read, λ v k. (e ∙ ap direction_text (sym k), tt))
-direction_told d f (inr e) = (dir.Write, λ v k. (e ∙ ap direction_text (sym k), tt))
-
 late_told : {V : Type 0} (most : ℕ) (z : V → ℤ) (f : List ℕ) (n : ℕ) → n ≤ most → IsSized f n → CellTold (Signed most z) f
 late_told most z f n l (inl e) = (pos n, λ v k. (e ∙ ap signed_decimal (sym k), rw k l))
 late_told most z f n l (inr m) =
@@ -121,7 +113,7 @@ late_told most z f n l (inr m) =
 
 cell_told : {V : Type 0} (c : Cell V) (f : List ℕ) → Good (slot_of c) f → CellTold c f
 cell_told Blank f g = (tt, λ v k. (g.0, tt))
-cell_told (Direction d) f g = direction_told d f g.1
+cell_told (Direction d) f g = (g.1.0, λ v k. (g.1.1 ∙ ap direction_text (sym k), tt))
 cell_told (Number least most n) f g = (g.2.0, λ v k. (g.2.2 ∙ ap decimal (sym k), rw k (g.3 g.2.0 g.2.1 g.2.2)))
 cell_told (Signed most z) f g = late_told most z f g.2.0 (g.3 g.2.0 g.2.1 g.2.2) g.2.2
 

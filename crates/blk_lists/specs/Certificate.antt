@@ -1,17 +1,18 @@
 -- A certificate: a title, a bound, and a record for each command with its round.
-use Rattle.std.specs.Prelude.{◌≡◌, ◌≤◌, ◌<◌, ◌^◌, ◌-◌, ℕ, ℤ, zero, suc, pos, negsuc, List, [], ◌∷◌, length, codes, All, Option, Some, None}
+use Rattle.std.specs.Prelude.{◌≡◌, ◌≤◌, ◌<◌, ◌-◌, ℕ, ℤ, zero, suc, pos, negsuc, List, [], ◌∷◌, length, codes, All, Option, Some, None}
 use Rattle.std.specs.List.{zip}
-use Rattle.edd_check.specs.declared.TheConstants.{MAX_COMMANDS, MAX_ROUNDS, MAX_RELEASES}
+use Rattle.edd_check.specs.declared.TheConstants.{MAX_COMMANDS, MAX_ROUNDS}
 use Rattle.edd_check.specs.declared.steps.TheConstants.{MAX_DEPTH}
 use Rattle.edd_check.specs.declared.Command.{Command}
 use Rattle.edd_check.specs.declared.Window.{Window}
 use Rattle.blk_lists.specs.Sources.{Row}
 use Rattle.blk_lists.specs.Commands.{IsCommandInRange}
 use Rattle.blk_lists.specs.Reads.{items_of}
-use Rattle.blk_lists.specs.Tables.{Cell, Number, Signed, FitsCells, row_by, table_record, word_record}
+use Rattle.blk_lists.specs.Tables.{Cell, Number, Signed, FitsCells, cells_by, row_by, table_record, word_record}
 use Rattle.blk_lists.specs.Titles.{counted_title}
 use Rattle.blk_lists.specs.Words.{NextStarts, HasNoWord}
 use Rattle.blk_lists.specs.declared.certificate.Certificate.{Certificate}
+use Rattle.blk_lists.specs.declared.certificate.TheConstants.{SERVED}
 use Rattle.blk_lists.specs.declared.fault.Why.{Why}
 use Rattle.blk_lists.specs.declared.fault.Why.TheVariants as why
 use Rattle.parts.specs.declared.Repeats.TheVariants as repeats
@@ -47,7 +48,7 @@ no_bound_row = codes "bound" ∷ codes "none" ∷ codes "none" ∷ codes "none" 
 
 -- each command: id, release, due, round
 abbrev pub served_cells : List (Cell (Command × ℕ))
-served_cells = Number 0 (2 ^ 64 - 1) (λ s. s.0.id) ∷ Number 0 (MAX_RELEASES - 1) (λ s. s.0.release) ∷ Number 0 (MAX_ROUNDS - 1) (λ s. s.0.due) ∷ Number 0 (MAX_ROUNDS - 1) (λ s. s.1) ∷ []
+served_cells = cells_by SERVED ((λ s. s.0.id) ∷ (λ s. s.0.release) ∷ (λ s. s.0.due) ∷ (λ s. s.1) ∷ [])
 
 -- the numbers of a command and its round lie in their ranges
 abbrev pub IsServed : Command × ℕ → Type 0

@@ -1,11 +1,12 @@
 -- A command list: a title, and a record for each command.
-use Rattle.std.specs.Prelude.{◌≤◌, ◌<◌, ◌-◌, ◌^◌, ℕ, List, [], ◌∷◌, length, codes, All}
+use Rattle.std.specs.Prelude.{◌≤◌, ◌<◌, ◌^◌, ℕ, List, [], ◌∷◌, length, codes, All}
 use Rattle.edd_check.specs.declared.TheConstants.{MAX_COMMANDS, MAX_ROUNDS, MAX_RELEASES}
 use Rattle.edd_check.specs.declared.steps.TheConstants.{MAX_DEPTH}
 use Rattle.edd_check.specs.declared.Command.{Command}
 use Rattle.blk_lists.specs.Sources.{Row}
 use Rattle.blk_lists.specs.Reads.{items_of}
-use Rattle.blk_lists.specs.Tables.{Cell, Number, table_record, title_record}
+use Rattle.blk_lists.specs.Tables.{Cell, cells_by, table_record, title_record}
+use Rattle.blk_lists.specs.declared.commands.TheConstants.{COMMAND, DEPTH_TITLE}
 use Rattle.blk_lists.specs.declared.fault.Why.{Why}
 use Rattle.blk_lists.specs.declared.fault.Why.TheVariants as why
 use Rattle.parts.specs.declared.Repeats.TheVariants as repeats
@@ -13,11 +14,11 @@ use Rattle.parts.specs.Parts.{Part, then, Spells}
 
 -- title: blk-commands, 1, depth
 abbrev pub depth_cells : ℕ → List (Cell ℕ)
-depth_cells version = Number 1 MAX_DEPTH (λ depth. depth) ∷ []
+depth_cells version = cells_by DEPTH_TITLE ((λ depth. depth) ∷ [])
 
 -- each command: id, release, due
 abbrev pub command_cells : List (Cell Command)
-command_cells = Number 0 (2 ^ 64 - 1) (λ c. c.id) ∷ Number 0 (MAX_RELEASES - 1) (λ c. c.release) ∷ Number 0 (MAX_ROUNDS - 1) (λ c. c.due) ∷ []
+command_cells = cells_by COMMAND ((λ c. c.id) ∷ (λ c. c.release) ∷ (λ c. c.due) ∷ [])
 
 -- a depth of a command list
 abbrev pub IsDepth : ℕ → Type 0

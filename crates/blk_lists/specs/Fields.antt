@@ -1,10 +1,14 @@
 -- What may stand in the fields of a record, and what a record lacks.
-use Rattle.std.specs.Prelude.{◌≡◌, ◌⊎◌, ◌<◌, ◌≤◌, ◌^◌, ◌==◌, ◌&&◌, not, Bool, false, ℕ, List, [], ◌∷◌, length, get_or, decimal, codes}
+use Rattle.std.specs.Prelude.{◌≡◌, ◌⊎◌, ◌<◌, ◌≤◌, ◌^◌, ◌==◌, ◌&&◌, not, Bool, false, ℕ, List, [], ◌∷◌, length, get_or, decimal}
 use Rattle.std.specs.Str.Parse.{AllDigits, digits_value}
+use Rattle.blk_bio.specs.declared.bio.Dir.{Dir}
+use Rattle.blk_bio.specs.Letters.{direction_text}
 use Rattle.faults.specs.Order.{IsFirstFault}
 use Rattle.blk_lists.specs.Sources.{Row}
 use Rattle.blk_lists.specs.declared.fault.Why.{Why}
 use Rattle.blk_lists.specs.declared.fault.Why.TheVariants as why
+use Rattle.blk_lists.specs.declared.fields.Rule.{Rule}
+use Rattle.blk_lists.specs.declared.fields.Rule.TheVariants as rule
 use Rattle.blk_lists.specs.declared.fields.Slot.{Slot}
 use Rattle.blk_lists.specs.declared.fields.Slot.TheVariants as slot
 
@@ -34,7 +38,7 @@ IsBlank (slot.Lateness most) f = Unit {0}
 abbrev pub IsDirection : Slot → List ℕ → Type 0
 IsDirection slot.Given f = Unit {0}
 IsDirection slot.Blank f = Unit {0}
-IsDirection slot.Direction f = (f ≡ codes "R") ⊎ (f ≡ codes "W")
+IsDirection slot.Direction f = (d : Dir) × (f ≡ direction_text d)
 IsDirection (slot.Number least most) f = Unit {0}
 IsDirection (slot.Lateness most) f = Unit {0}
 
@@ -57,6 +61,20 @@ IsInRange slot.Blank f = Unit {0}
 IsInRange slot.Direction f = Unit {0}
 IsInRange (slot.Number least most) f = (n : ℕ) → n < 2 ^ 64 → f ≡ decimal n → (least ≤ n) × (n ≤ most)
 IsInRange (slot.Lateness most) f = (n : ℕ) → n < 2 ^ 64 → IsSized f n → n ≤ most
+
+-- a field keeps a rule
+abbrev pub Keeps : Rule → Slot → List ℕ → Type 0
+Keeps rule.Blank = IsBlank
+Keeps rule.Direction = IsDirection
+Keeps rule.Number = IsNumber
+
+-- a field is all that its slot wants
+abbrev pub IsGood : Slot → List ℕ → Type 0
+IsGood s f = IsBlank s f × IsDirection s f × IsNumber s f × IsInRange s f
+
+-- and so is each field of a record
+abbrev pub IsWhole : List Slot → Row → Type 0
+IsWhole slots row = (length row ≡ length slots) × EachField IsGood slots row
 
 -- as many fields as slots, and the blank ones empty
 abbrev pub IsShaped : List Slot → Row → Type 0

@@ -10,4 +10,5 @@ pub mod Reads
 pub mod Titles
 pub mod Met
 pub mod Proof
+pub mod Schedule
 pub mod Names

@@ -1,6 +1,6 @@
 -- A certificate of the greatest number of commands that are met: a title, how many are met, a record for each window, and a
 -- record for each command with its round.
-use Rattle.std.specs.Prelude.{◌≡◌, ◌≤◌, ◌<◌, ◌-◌, ℕ, List, [], ◌∷◌, length, codes, All}
+use Rattle.std.specs.Prelude.{◌≡◌, ◌≤◌, ◌<◌, ℕ, List, [], ◌∷◌, length, codes, All}
 use Rattle.std.specs.List.{zip}
 use Rattle.edd_check.specs.declared.TheConstants.{MAX_COMMANDS, MAX_ROUNDS}
 use Rattle.edd_check.specs.declared.steps.TheConstants.{MAX_DEPTH}
@@ -11,9 +11,10 @@ use Rattle.blk_lists.specs.Sources.{Row}
 use Rattle.blk_lists.specs.Commands.{IsCommandInRange}
 use Rattle.blk_lists.specs.Certificate.{served_record}
 use Rattle.blk_lists.specs.Reads.{items_of, repeated}
-use Rattle.blk_lists.specs.Tables.{Cell, Number, Blank, word_record}
+use Rattle.blk_lists.specs.Tables.{Cell, cells_by, word_record}
 use Rattle.blk_lists.specs.Titles.{counted_title}
 use Rattle.blk_lists.specs.declared.met.MetCertificate.{MetCertificate}
+use Rattle.blk_lists.specs.declared.met.TheConstants.{NUMBERS, WINDOW}
 use Rattle.blk_lists.specs.declared.fault.Why.{Why}
 use Rattle.blk_lists.specs.declared.fault.Why.TheVariants as why
 use Rattle.parts.specs.declared.Repeats.TheVariants as repeats
@@ -33,11 +34,11 @@ met_claimed c = record { depth = c.depth; commands = c.commands.items; rounds = 
 
 -- met, number of commands met, number of windows, empty
 abbrev pub met_cells : List (Cell (ℕ × ℕ))
-met_cells = Number 0 MAX_COMMANDS (λ n. n.0) ∷ Number 0 MAX_COMMANDS (λ n. n.1) ∷ Blank ∷ []
+met_cells = cells_by NUMBERS ((λ n. n.0) ∷ (λ n. n.1) ∷ [])
 
 -- window, from, until, empty
 abbrev pub window_cells : List (Cell Window)
-window_cells = Number 0 (MAX_ROUNDS - 1) (λ w. w.from) ∷ Number 0 (MAX_ROUNDS - 1) (λ w. w.due) ∷ Blank ∷ []
+window_cells = cells_by WINDOW ((λ w. w.from) ∷ (λ w. w.due) ∷ [])
 
 -- a number of commands met and a number of windows
 abbrev pub AreFew : ℕ × ℕ → Type 0

@@ -13,6 +13,7 @@ why_name why.Range = codes "Range"
 why_name (why.Bio f) = bio_fault_name f
 why_name why.Tile = codes "Tile"
 why_name (why.Rule r) = rule_name r
+why_name why.RepeatedId = codes "RepeatedId"
 why_name why.Count = codes "Count"
 why_name why.TooLong = codes "TooLong"
 why_name why.Read = codes "Read"

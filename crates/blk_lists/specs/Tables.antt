@@ -43,6 +43,13 @@ abbrev pub slots_by : {V : Type 0} → List (Cell V) → List Slot
 slots_by [] = []
 slots_by (c ∷ cs) = slot_of c ∷ slots_by cs
 
+-- the cells of numbers by the slots of their fields, but for those that are looked at before
+abbrev pub cells_by : {V : Type 0} → List Slot → List (V → ℕ) → List (Cell V)
+cells_by [] fs = []
+cells_by (slot.Given ∷ ss) fs = cells_by ss fs
+cells_by (slot.Number least most ∷ ss) (f ∷ fs) = Number least most f ∷ cells_by ss fs
+cells_by (s ∷ ss) fs = Blank ∷ cells_by ss fs
+
 -- a signed number of a size up to `most`
 abbrev pub IsUpTo : ℕ → ℤ → Type 0
 IsUpTo most (pos n) = n ≤ most

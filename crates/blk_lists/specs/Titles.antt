@@ -3,13 +3,14 @@ use Rattle.std.specs.Prelude.{◌≤◌, ℕ, List, [], ◌∷◌}
 use Rattle.edd_check.specs.declared.TheConstants.{MAX_COMMANDS}
 use Rattle.edd_check.specs.declared.steps.TheConstants.{MAX_DEPTH}
 use Rattle.blk_lists.specs.Sources.{Row}
-use Rattle.blk_lists.specs.Tables.{Cell, Number, title_record}
+use Rattle.blk_lists.specs.Tables.{Cell, cells_by, title_record}
 use Rattle.blk_lists.specs.declared.fault.Why.{Why}
+use Rattle.blk_lists.specs.declared.titles.TheConstants.{COUNTED}
 use Rattle.parts.specs.Parts.{Part}
 
 -- title: the form's name, 1, depth, number of commands
 abbrev pub counted_cells : ℕ → List (Cell (ℕ × ℕ))
-counted_cells version = Number 1 MAX_DEPTH (λ t. t.0) ∷ Number 0 MAX_COMMANDS (λ t. t.1) ∷ []
+counted_cells version = cells_by COUNTED ((λ t. t.0) ∷ (λ t. t.1) ∷ [])
 
 -- a depth and a number of commands
 abbrev pub IsCounted : ℕ × ℕ → Type 0

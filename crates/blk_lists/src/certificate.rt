@@ -2,33 +2,41 @@
 
 ghost use Rattle.std.specs.Prelude.{◌≡◌, ◌⊎◌, ◌+◌, ◌++◌, ◌≤◌, ◌<◌, ◌-◌, ◌^◌, ◌∷◌, [], IfOk, IfErr, IfSome, OnOk, map, length, codes, None, Some, IsTrue, ◌↔◌};
 ghost use Rattle.std.specs.Fmt.{signed_decimal};
+ghost use Rattle.std.specs.List.{zip};
 ghost use Rattle.std.specs.Io.KnownBytes.{Appends};
 ghost use Rattle.csv.specs.Records.{fields_of};
-ghost use Rattle.blk_lists.specs.Sources.{Took};
 ghost use Rattle.parts.specs.Parts.{Begins};
 ghost use Rattle.blk_lists.specs.Reads.{IsOutside, IsRowOf, IsWrongLine, Halts, Reaches};
-ghost use Rattle.blk_lists.specs.Tables.{IsUpTo, FitsCells, row_by, slots_by, title_by};
+ghost use Rattle.blk_lists.specs.Tables.{IsUpTo, FitsCells, row_by, slots_by};
 ghost use Rattle.blk_lists.specs.Fields.{IsSized, FieldsSpell};
 ghost use Rattle.blk_lists.specs.declared.fields.Slot.TheVariants as slot;
 ghost use Rattle.blk_lists.specs.Words.{StartsWith};
 ghost use Rattle.blk_lists.specs.Texts.{rows_text};
 ghost use Rattle.drafts.specs.Parts.{AppendsPart};
 ghost use Rattle.drafts.specs.Drafts.{drafted};
-ghost use Rattle.blk_lists.specs.Titles.{counted_cells, IsCounted};
+ghost use Rattle.blk_lists.specs.Titles.{IsCounted};
 ghost use Rattle.blk_lists.specs.Certificate.{claimed, claim_form, IsClaim, SpellsClaim, ClaimFault, claim_rows, claim_body, claim_told, bound as bound_part, bound_cells, no_bound_row, bound_row, served_cells};
 
 use crate::fault::{TextFault, Why};
-use crate::fields::{Slot, WIDTH, after_minus, begins_with, field, read_fields, without_word};
+use crate::fields::{
+    ANY, RELEASE, ROUND, Slot, after_minus, begins_with, field, read_fields, without_word,
+};
 use crate::items::{LineForm, read_line, read_lines};
 use crate::source::Records;
-use crate::titles::counted_title;
+use crate::titles::CountedTitle;
+use crate::writing::{push_numbers, push_row};
 use csv::ByteRecord;
 use drafts::pieces::{put, put_two};
 use drafts::{Block, WriteFault, write_whole};
-use edd_check::{Command, MAX_COMMANDS, MAX_RELEASES, MAX_ROUNDS, Window};
+use edd_check::{Command, MAX_COMMANDS, MAX_ROUNDS, Window};
 use parts::Repeats;
 use std::alloc::{AllocError, Global};
 use std::io::{Read, Write};
+
+/// The title record.
+pub(crate) const TITLE: CountedTitle = CountedTitle {
+    name: b"blk-certificate",
+};
 
 /// A schedule of commands, with the claim that it is least late.
 #[derive(Debug, Drop)]
@@ -41,27 +49,6 @@ pub struct Certificate {
     pub rounds: Vec<u64>,
     /// The greatest lateness in rounds, and a window that asks for it; none without commands.
     pub bound: Option<(i64, Window)>,
-}
-
-/// The title record: the version, and with it the depth and the number of commands.
-#[derive(Clone, Copy, Drop)]
-pub(crate) struct TitleForm;
-
-impl LineForm for TitleForm {
-    ghost use Rattle.blk_lists.specs.Certificate.{title};
-
-    type Line = (u64, (u64, u64));
-
-    ghost part = { λ _. title };
-
-    #[tactic(auto, using(crate::proofs::ClaimLaws::title_one))]
-    fn gone(&self) -> Why {
-        Why::Title
-    }
-
-    fn line(&self, row: &ByteRecord) -> Result<(u64, (u64, u64)), Why> {
-        counted_title(row, b"blk-certificate")
-    }
 }
 
 /// The bound for so many commands.
@@ -89,7 +76,10 @@ impl LineForm for BoundForm {
     }
 }
 
-/// A record of a certificate: id, release, due, round.
+/// The fields of a command with its round: id, release, due, round.
+pub const SERVED: [Slot; 4] = [ANY, RELEASE, ROUND, ROUND];
+
+/// The record of a command with its round.
 #[derive(Clone, Copy, Drop)]
 pub(crate) struct ServedForm;
 
@@ -106,23 +96,7 @@ impl LineForm for ServedForm {
     }
 
     fn line(&self, row: &ByteRecord) -> Result<(Command, u64), Why> {
-        let round = Slot::Number {
-            least: 0,
-            most: MAX_ROUNDS - 1,
-        };
-        let slots = [
-            Slot::Number {
-                least: 0,
-                most: u64::MAX,
-            },
-            Slot::Number {
-                least: 0,
-                most: MAX_RELEASES - 1,
-            },
-            round,
-            round,
-        ];
-        match read_fields(row, &slots) {
+        match read_fields(row, &SERVED) {
             Ok(numbers) => {
                 let command = Command {
                     id: numbers[0],
@@ -164,7 +138,7 @@ fn is_no_bound(row: &ByteRecord, count: u64) -> bool
 }
 
 /// The bound of the numbers of a record.
-fn bound_with(row: &ByteRecord, numbers: &[u64; WIDTH], count: u64) -> (i64, Window)
+fn bound_with(row: &ByteRecord, numbers: &[u64; 4], count: u64) -> (i64, Window)
     requires starts { StartsWith (codes "bound") (fields_of row.now) }
     requires spells { FieldsSpell (slot.Given ∷ slots_by (bound_cells count)) (fields_of row.now) numbers.now }
     ensures row { fields_of row.now ≡ codes "bound" ∷ row_by (bound_cells count) result }
@@ -188,11 +162,7 @@ fn bound_slots(count: u64) -> [Slot; 4]
         let none = Slot::Number { least: 1, most: 0 };
         return [Slot::Given, late, none, none];
     }
-    let round = Slot::Number {
-        least: 0,
-        most: MAX_ROUNDS - 1,
-    };
-    [Slot::Given, late, round, round]
+    [Slot::Given, late, ROUND, ROUND]
 }
 
 /// The bound of a record that begins with its word, for so many commands.
@@ -299,7 +269,7 @@ pub fn read_certificate<R: Read + Drop>(
     // the last thing that was asked for is the record after the commands, which there is not
     ensures end { IfOk result (λ c. records.new.at ≡ length c.commands.items + 3) }
 {
-    let (_, (depth, count)) = match read_line(records, &TitleForm) {
+    let (_, (depth, count)) = match read_line(records, &TITLE) {
         Ok(title) => title,
         Err(fault) => return Err(fault),
     };
@@ -307,27 +277,6 @@ pub fn read_certificate<R: Read + Drop>(
         Ok(certificate) => Ok(certificate),
         Err(fault) => Err(fault),
     }
-}
-
-/// Adds the title record.
-fn push_title(draft: &mut Block, depth: u64, count: u64) -> Result<(), AllocError>
-    ensures text { OnOk result (drafted draft.new ≡ drafted draft.old ++ rows_text (title_by (codes "blk-certificate") counted_cells (1, (depth, count)) ∷ [])) }
-{
-    let start = draft.room()?;
-    let buf = &mut draft.block;
-    let head = put(b"blk-certificate,1,", buf, start);
-    let end = put_two(depth, count, buf, head);
-    draft.at = put(b"\n", buf, end);
-    Ok(())
-}
-
-/// Adds the record that says that there is no bound.
-fn push_no_bound(draft: &mut Block) -> Result<(), AllocError>
-    ensures text { OnOk result (drafted draft.new ≡ drafted draft.old ++ rows_text (bound_row None ∷ [])) }
-{
-    let start = draft.room()?;
-    draft.at = put(b"bound,none,none,none\n", &mut draft.block, start);
-    Ok(())
 }
 
 /// Adds the record of a lateness and its window.
@@ -359,26 +308,28 @@ fn push_bound(
     ensures text { OnOk result (drafted draft.new ≡ drafted draft.old ++ rows_text (bound_row bound ∷ [])) }
 {
     match bound {
-        None => push_no_bound(draft),
+        None => draft.push(b"bound,none,none,none\n"),
         Some((lateness, window)) => push_some_bound(alloc, draft, lateness, window),
     }
 }
 
-/// Adds the record of a command and its round.
-#[inline]
-pub(crate) fn push_served(
+/// Adds the record of each command and its round.
+pub(crate) fn push_schedule(
     draft: &mut Block,
-    command: &Command,
-    round: u64,
+    commands: &[Command],
+    rounds: &[u64],
 ) -> Result<(), AllocError>
-    ensures text { OnOk result (drafted draft.new ≡ drafted draft.old ++ rows_text (row_by served_cells (command.now, round) ∷ [])) }
+    requires { length rounds.now ≡ length commands.now }
+    ensures text { OnOk result (drafted draft.new ≡ drafted draft.old ++ rows_text (map (row_by served_cells) (zip commands.now rounds.now))) }
 {
-    let start = draft.room()?;
-    let buf = &mut draft.block;
-    let named = put_two(command.id, command.release, buf, start);
-    let mark = put(b",", buf, named);
-    let end = put_two(command.due, round, buf, mark);
-    draft.at = put(b"\n", buf, end);
+    for i in 0..commands.len() {
+        let command = commands[i];
+        push_numbers(
+            draft,
+            command.id,
+            &[command.release, command.due, rounds[i]],
+        )?;
+    }
     Ok(())
 }
 
@@ -390,11 +341,14 @@ fn certificate_text(alloc: Global, certificate: &Certificate) -> Result<Vec<u8>,
     let mut draft = Block::new(alloc);
     let commands = certificate.commands.as_slice();
     let rounds = certificate.rounds.as_slice();
-    push_title(&mut draft, certificate.depth, commands.len() as u64)?;
+    push_row(
+        &mut draft,
+        b"blk-certificate",
+        &[1, certificate.depth, commands.len() as u64],
+        0,
+    )?;
     push_bound(alloc, &mut draft, certificate.bound)?;
-    for i in 0..commands.len() {
-        push_served(&mut draft, &commands[i], rounds[i])?;
-    }
+    push_schedule(&mut draft, commands, rounds)?;
     draft.finish()
 }
 

@@ -1,27 +1,29 @@
 //! Command lists.
 
-ghost use Rattle.std.specs.Prelude.{◌≡◌, ◌⊎◌, ◌+◌, ◌≤◌, ◌<◌, ◌^◌, ◌++◌, ◌∷◌, [], IfOk, IfErr, IfSome, OnOk, length, codes};
+ghost use Rattle.std.specs.Prelude.{◌≡◌, ◌⊎◌, ◌+◌, ◌≤◌, ◌<◌, ◌^◌, IfOk, IfErr, IfSome, OnOk, length};
 ghost use Rattle.std.specs.Io.KnownBytes.{Appends};
-ghost use Rattle.csv.specs.Records.{fields_of};
-ghost use Rattle.blk_lists.specs.Tables.{row_by, title_by};
 ghost use Rattle.blk_lists.specs.Texts.{rows_text};
 ghost use Rattle.drafts.specs.Parts.{AppendsPart};
-ghost use Rattle.drafts.specs.Drafts.{drafted};
-ghost use Rattle.parts.specs.Parts.{Begins};
 ghost use Rattle.blk_lists.specs.Reads.{IsOutside, Reaches};
-ghost use Rattle.blk_lists.specs.Commands.{AreCommands, SpellsCommands, CommandsFault, command_cells, command_list, commands_rows, depth_cells};
+ghost use Rattle.blk_lists.specs.Commands.{AreCommands, SpellsCommands, CommandsFault, command_list, commands_rows};
 
 use crate::fault::{TextFault, Why};
-use crate::fields::{Slot, read_fields, version_of};
+use crate::fields::{ANY, DEPTH, RELEASE, ROUND, Slot, read_fields, version_of};
 use crate::items::{LineForm, read_line, read_lines};
 use crate::source::Records;
+use crate::writing::{push_numbers, push_row};
 use csv::ByteRecord;
-use drafts::pieces::{put, put_number, put_two};
 use drafts::{Block, WriteFault, write_whole};
-use edd_check::{Command, MAX_COMMANDS, MAX_DEPTH, MAX_RELEASES, MAX_ROUNDS};
+use edd_check::{Command, MAX_COMMANDS};
 use parts::Repeats;
 use std::alloc::{AllocError, Global};
 use std::io::{Read, Write};
+
+/// The fields of the title: the name, the version, the depth.
+pub const DEPTH_TITLE: [Slot; 3] = [Slot::Given, Slot::Given, DEPTH];
+
+/// The fields of a command: id, release, due.
+pub const COMMAND: [Slot; 3] = [ANY, RELEASE, ROUND];
 
 /// The title record: the version and the depth.
 #[derive(Clone, Copy, Drop)]
@@ -43,15 +45,7 @@ impl LineForm for TitleForm {
         let Some(version) = version_of(row, b"blk-commands", 1) else {
             return Err(Why::Title);
         };
-        let slots = [
-            Slot::Given,
-            Slot::Given,
-            Slot::Number {
-                least: 1,
-                most: MAX_DEPTH,
-            },
-        ];
-        match read_fields(row, &slots) {
+        match read_fields(row, &DEPTH_TITLE) {
             Ok(numbers) => Ok((version, numbers[2])),
             Err(why) => Err(why),
         }
@@ -75,21 +69,7 @@ impl LineForm for CommandForm {
     }
 
     fn line(&self, row: &ByteRecord) -> Result<Command, Why> {
-        let slots = [
-            Slot::Number {
-                least: 0,
-                most: u64::MAX,
-            },
-            Slot::Number {
-                least: 0,
-                most: MAX_RELEASES - 1,
-            },
-            Slot::Number {
-                least: 0,
-                most: MAX_ROUNDS - 1,
-            },
-        ];
-        match read_fields(row, &slots) {
+        match read_fields(row, &COMMAND) {
             Ok(numbers) => Ok(Command {
                 id: numbers[0],
                 release: numbers[1],
@@ -134,40 +114,15 @@ pub fn read_commands<R: Read + Drop>(
     }
 }
 
-/// Adds the record of a command.
-#[inline]
-fn push_command(draft: &mut Block, command: &Command) -> Result<(), AllocError>
-    ensures text { OnOk result (drafted draft.new ≡ drafted draft.old ++ rows_text (row_by command_cells command.now ∷ [])) }
-{
-    let start = draft.room()?;
-    let buf = &mut draft.block;
-    let named = put_two(command.id, command.release, buf, start);
-    let mark = put(b",", buf, named);
-    let end = put_number(command.due, buf, mark);
-    draft.at = put(b"\n", buf, end);
-    Ok(())
-}
-
-/// Adds the title record.
-fn push_title(draft: &mut Block, depth: u64) -> Result<(), AllocError>
-    ensures text { OnOk result (drafted draft.new ≡ drafted draft.old ++ rows_text (title_by (codes "blk-commands") depth_cells (1, depth) ∷ [])) }
-{
-    let start = draft.room()?;
-    let buf = &mut draft.block;
-    let head = put(b"blk-commands,1,", buf, start);
-    let end = put_number(depth, buf, head);
-    draft.at = put(b"\n", buf, end);
-    Ok(())
-}
-
 /// The text of a depth and a list of commands.
 fn commands_text(alloc: Global, depth: u64, commands: &[Command]) -> Result<Vec<u8>, AllocError>
     ensures { IfOk result (λ v. v.items ≡ rows_text (commands_rows depth commands.now)) }
 {
     let mut draft = Block::new(alloc);
-    push_title(&mut draft, depth)?;
+    push_row(&mut draft, b"blk-commands", &[1, depth], 0)?;
     for i in 0..commands.len() {
-        push_command(&mut draft, &commands[i])?;
+        let command = commands[i];
+        push_numbers(&mut draft, command.id, &[command.release, command.due])?;
     }
     draft.finish()
 }

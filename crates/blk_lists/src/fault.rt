@@ -25,6 +25,8 @@ pub enum Why {
     Tile,
     /// An event breaks this rule of a trace; the record is its first.
     Rule(TraceRule),
+    /// The id of a command of a schedule stood before.
+    RepeatedId,
     /// Fewer or more records than announced.
     Count,
     /// More records than the form may have.
@@ -49,6 +51,7 @@ impl Why {
             Why::Bio(fault) => fault.name(),
             Why::Tile => "Tile",
             Why::Rule(rule) => rule.name(),
+            Why::RepeatedId => "RepeatedId",
             Why::Count => "Count",
             Why::TooLong => "TooLong",
             Why::Read => "Read",

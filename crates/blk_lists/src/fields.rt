@@ -1,19 +1,16 @@
 //! The fields of a record by what may stand in them.
 
-ghost use Rattle.std.specs.Prelude.{◌≡◌, ◌≢◌, ◌⊎◌, ◌+◌, ◌*◌, ◌<◌, ◌≤◌, ◌^◌, ◌↔◌, ℕ, List, [], ◌∷◌, length, get_or, IsTrue, IfOk, IfErr, IfSome, MatchOption, decimal, codes};
+ghost use Rattle.std.specs.Prelude.{◌≡◌, ◌≢◌, ◌+◌, ◌*◌, ◌<◌, ◌≤◌, ◌^◌, ◌↔◌, ℕ, [], ◌∷◌, length, get_or, IsTrue, IfOk, IfErr, MatchOption, decimal};
 ghost use Rattle.std.specs.Str.Parse.{AllDigits, digits_value};
 ghost use Rattle.csv.specs.Records.{fields_of};
-ghost use Rattle.blk_lists.specs.Fields.{EachField, IsBlank, IsDirection, IsNumber, IsInRange, IsShaped, IsSized, Lacks, NumberOf, IsWithinSlot, EachNumber, FieldSpells, FieldsSpell, WritesNumber, canonical};
-ghost use Rattle.blk_bio.specs.Letters.{direction_text};
+ghost use Rattle.blk_lists.specs.Fields.{EachField, IsSized, IsGood, IsWhole, Keeps, Lacks, FieldSpells, FieldsSpell, WritesNumber, canonical};
 ghost use Rattle.blk_lists.specs.Tables.{IsTitled, IsVersion};
 ghost use Rattle.blk_lists.specs.Words.{StartsWith, HasNoWord};
 
 use crate::fault::Why;
 use blk_bio::Dir;
 use csv::ByteRecord;
-
-/// The most fields that a record has.
-pub const WIDTH: usize = 6;
+use edd_check::{MAX_COMMANDS, MAX_DEPTH, MAX_RELEASES, MAX_ROUNDS};
 
 /// What may stand in a field of a record.
 #[derive(Debug, Clone, Copy, PartialEq, Eq)]
@@ -36,6 +33,30 @@ pub const ANY: Slot = Slot::Number {
     most: u64::MAX,
 };
 
+/// The depth of a round: how many commands it has room for.
+pub const DEPTH: Slot = Slot::Number {
+    least: 1,
+    most: MAX_DEPTH,
+};
+
+/// A number of commands.
+pub const COUNT: Slot = Slot::Number {
+    least: 0,
+    most: MAX_COMMANDS,
+};
+
+/// The round in which a command is released.
+pub const RELEASE: Slot = Slot::Number {
+    least: 0,
+    most: MAX_RELEASES - 1,
+};
+
+/// Any other round.
+pub const ROUND: Slot = Slot::Number {
+    least: 0,
+    most: MAX_ROUNDS - 1,
+};
+
 /// Every tag of a record lies below this.
 pub const MAX_TAGS: u64 = 1 << 16;
 
@@ -44,18 +65,6 @@ pub const TAG: Slot = Slot::Number {
     least: 0,
     most: MAX_TAGS - 1,
 };
-
-/// The direction of a field that is R or W.
-pub fn direction_of(field: &[u8]) -> Dir
-    requires { (field.now ≡ codes "R") ⊎ (field.now ≡ codes "W") }
-    ensures { field.now ≡ direction_text result }
-{
-    if field == b"R".as_slice() {
-        Dir::Read
-    } else {
-        Dir::Write
-    }
-}
 
 /// The field at a place, empty where the record has none.
 pub fn field(row: &ByteRecord, place: usize) -> &[u8]
@@ -192,138 +201,106 @@ fn parse_sized(field: &[u8]) -> Option<u64>
     }
 }
 
-/// Whether a field is empty where its slot is blank.
-fn is_blank(slot: Slot, field: &[u8]) -> bool
-    ensures { IsTrue result ↔ IsBlank slot field.now }
-{
-    match slot {
-        Slot::Blank => field.is_empty(),
-        Slot::Given | Slot::Direction | Slot::Number { .. } | Slot::Lateness { .. } => true,
-    }
+/// What is looked for in all fields of a record, one after another.
+#[derive(Clone, Copy)]
+pub(crate) enum Rule {
+    /// What must be empty is.
+    Blank,
+    /// A direction is R or W.
+    Direction,
+    /// A number is one.
+    Number,
 }
 
-/// Whether a field is R or W where its slot is a direction.
-fn is_direction(slot: Slot, field: &[u8]) -> bool
-    ensures { IsTrue result ↔ IsDirection slot field.now }
+/// Whether a field keeps a rule.
+fn keeps(rule: Rule, slot: Slot, field: &[u8]) -> bool
+    ensures { IsTrue result ↔ Keeps rule slot field.now }
 {
-    match slot {
-        Slot::Direction => match field {
-            [only] => *only == b'R' || *only == b'W',
-            _ => false,
+    match rule {
+        Rule::Blank => match slot {
+            Slot::Blank => field.is_empty(),
+            Slot::Given | Slot::Direction | Slot::Number { .. } | Slot::Lateness { .. } => true,
         },
-        Slot::Given | Slot::Blank | Slot::Number { .. } | Slot::Lateness { .. } => true,
+        Rule::Direction => match slot {
+            Slot::Direction => Dir::of_letter(field).is_some(),
+            Slot::Given | Slot::Blank | Slot::Number { .. } | Slot::Lateness { .. } => true,
+        },
+        Rule::Number => match slot {
+            Slot::Number { .. } => parse_number(field).is_some(),
+            Slot::Lateness { .. } => parse_sized(field).is_some(),
+            Slot::Given | Slot::Blank | Slot::Direction => true,
+        },
     }
 }
 
-/// The number of a field, or 0 where its slot has none.
-fn number(slot: Slot, field: &[u8]) -> Option<u64>
-    ensures { MatchOption result (¬ IsNumber slot field.now) (NumberOf slot field.now) }
+/// Whether each field of a record keeps a rule.
+fn all_keep(rule: Rule, row: &ByteRecord, slots: &[Slot]) -> bool
+    ensures { IsTrue result ↔ EachField (Keeps rule) slots.now (fields_of row.now) }
 {
-    match slot {
-        Slot::Number { .. } => parse_number(field),
-        Slot::Lateness { .. } => parse_sized(field),
-        Slot::Given | Slot::Blank | Slot::Direction => Some(0),
-    }
-}
-
-/// Whether a number lies in the range of its slot.
-fn is_within(slot: Slot, number: u64) -> bool
-    ensures { IsTrue result ↔ IsWithinSlot slot number }
-{
-    match slot {
-        Slot::Number { least, most } => least <= number && number <= most,
-        Slot::Lateness { most } => number <= most,
-        Slot::Given | Slot::Blank | Slot::Direction => true,
-    }
-}
-
-/// Whether a record has a field for each slot, the blank ones empty.
-fn is_shaped(row: &ByteRecord, slots: &[Slot]) -> bool
-    ensures { IsTrue result ↔ IsShaped slots.now (fields_of row.now) }
-{
-    if row.len() != slots.len() {
-        return false;
-    }
     for i in 0..slots.len() {
-        if !is_blank(slots[i], field(row, i)) {
+        if !keeps(rule, slots[i], field(row, i)) {
             return false;
         }
     }
     true
 }
 
-/// Whether each direction of a record is one.
-fn has_directions(row: &ByteRecord, slots: &[Slot]) -> bool
-    ensures { IsTrue result ↔ EachField IsDirection slots.now (fields_of row.now) }
+/// The first thing that a record lacks: each kind of fault is looked for in all fields before the next kind.
+#[cold]
+#[inline(never)]
+fn first_lack(row: &ByteRecord, slots: &[Slot]) -> Why
+    requires { ¬ IsWhole slots.now (fields_of row.now) }
+    ensures { Lacks slots.now (fields_of row.now) result }
 {
-    for i in 0..slots.len() {
-        if !is_direction(slots[i], field(row, i)) {
-            return false;
-        }
+    if row.len() != slots.len() || !all_keep(Rule::Blank, row, slots) {
+        return Why::Fields;
     }
-    true
-}
-
-/// The numbers of a record's fields by place, if each is one.
-fn numbers_of(row: &ByteRecord, slots: &[Slot]) -> Option<[u64; WIDTH]>
-    requires { length slots.now ≤ 6 }
-    ensures { MatchOption result (¬ EachField IsNumber slots.now (fields_of row.now)) (EachNumber NumberOf slots.now (fields_of row.now)) }
-{
-    let mut numbers = [0; WIDTH];
-    for i in 0..slots.len() {
-        match number(slots[i], field(row, i)) {
-            Some(n) => numbers[i] = n,
-            None => return None,
-        }
+    if !all_keep(Rule::Direction, row, slots) {
+        return Why::Word;
     }
-    Some(numbers)
-}
-
-/// Whether each number lies in the range of its slot.
-fn are_within(slots: &[Slot], numbers: &[u64; WIDTH]) -> bool
-    requires { length slots.now ≤ 6 }
-    ensures { IsTrue result ↔ ((k : ℕ) → k < length slots.now → IsWithinSlot (get_or slots.now k Slot.Given) (get_or numbers.now k 0)) }
-{
-    for i in 0..slots.len() {
-        if !is_within(slots[i], numbers[i]) {
-            return false;
-        }
+    if !all_keep(Rule::Number, row, slots) {
+        return Why::Number;
     }
-    true
+    Why::Range
 }
 
 /// The number of a field that is what its slot wants, 0 where the slot has none.
 fn spelled(slot: Slot, field: &[u8]) -> Option<u64>
-    ensures { IfSome result (FieldSpells slot field.now) }
+    ensures { MatchOption result (¬ IsGood slot field.now) (FieldSpells slot field.now) }
 {
     match slot {
         Slot::Given => Some(0),
         Slot::Blank => { if field.is_empty() { Some(0) } else { None } }
-        Slot::Direction => match field {
-            [b'R'] | [b'W'] => Some(0),
-            _ => None,
+        Slot::Direction => match Dir::of_letter(field) {
+            Some(_) => Some(0),
+            None => None,
         },
         Slot::Number { least, most } => match parse_number(field) {
-            Some(n) if least <= n && n <= most => Some(n),
-            _ => None,
+            Some(n) => {
+                if least <= n && n <= most {
+                    Some(n)
+                } else {
+                    None
+                }
+            }
+            None => None,
         },
         Slot::Lateness { most } => match parse_sized(field) {
-            Some(n) if n <= most => Some(n),
-            _ => None,
+            Some(n) => { if n <= most { Some(n) } else { None } }
+            None => None,
         },
     }
 }
 
 /// The numbers of a record's fields by place, where the record is what its slots want; in one pass, so that
 /// a record without a fault is looked at once.
-fn spelled_numbers(row: &ByteRecord, slots: &[Slot]) -> Option<[u64; WIDTH]>
-    requires { length slots.now ≤ 6 }
-    ensures { IfSome result (FieldsSpell slots.now (fields_of row.now)) }
+fn spelled_numbers<const N: usize>(row: &ByteRecord, slots: &[Slot; N]) -> Option<[u64; N]>
+    ensures { MatchOption result (¬ IsWhole slots.now (fields_of row.now)) (FieldsSpell slots.now (fields_of row.now)) }
 {
     if row.len() != slots.len() {
         return None;
     }
-    let mut numbers = [0; WIDTH];
+    let mut numbers = [0; N];
     for i in 0..slots.len() {
         match spelled(slots[i], field(row, i)) {
             Some(n) => numbers[i] = n,
@@ -333,42 +310,14 @@ fn spelled_numbers(row: &ByteRecord, slots: &[Slot]) -> Option<[u64; WIDTH]>
     Some(numbers)
 }
 
-/// The numbers of a record's fields by place, or the first thing that it lacks: each kind of fault is looked for
-/// in all fields before the next kind.
-#[cold]
-#[inline(never)]
-fn check_fields(row: &ByteRecord, slots: &[Slot]) -> Result<[u64; WIDTH], Why>
-    requires { length slots.now ≤ 6 }
-    ensures ok { IfOk result (FieldsSpell slots.now (fields_of row.now)) }
-    ensures err { IfErr result (Lacks slots.now (fields_of row.now)) }
-{
-    if !is_shaped(row, slots) {
-        return Err(Why::Fields);
-    }
-    if !has_directions(row, slots) {
-        return Err(Why::Word);
-    }
-    match numbers_of(row, slots) {
-        None => Err(Why::Number),
-        Some(numbers) => {
-            if are_within(slots, &numbers) {
-                Ok(numbers)
-            } else {
-                Err(Why::Range)
-            }
-        }
-    }
-}
-
 /// The numbers of a record's fields by place, 0 where a slot has none, or the first thing that it lacks.
-pub fn read_fields(row: &ByteRecord, slots: &[Slot]) -> Result<[u64; WIDTH], Why>
-    requires { length slots.now ≤ 6 }
+pub fn read_fields<const N: usize>(row: &ByteRecord, slots: &[Slot; N]) -> Result<[u64; N], Why>
     ensures ok { IfOk result (FieldsSpell slots.now (fields_of row.now)) }
     ensures err { IfErr result (Lacks slots.now (fields_of row.now)) }
 {
     match spelled_numbers(row, slots) {
         Some(numbers) => Ok(numbers),
-        None => check_fields(row, slots),
+        None => Err(first_lack(row, slots)),
     }
 }
 

@@ -9,6 +9,7 @@ ghost use Rattle.blk_lists.specs.Commands.{SpellsCommands, AreCommands, Commands
 ghost use Rattle.blk_lists.specs.Certificate.{Claim, IsClaim, SpellsClaim, ClaimFault, claim_rows};
 ghost use Rattle.blk_lists.specs.Met.{MetClaim, IsMetClaim, SpellsMet, MetClaimFault, met_rows};
 ghost use Rattle.blk_lists.specs.Proof.{ProofClaim, OfLateness, OfMet, SpellsProof, ProofFault};
+ghost use Rattle.blk_lists.specs.Schedule.{Ran, IsRan, SpellsSchedule, ScheduleFault, ran_rows};
 ghost use Rattle.blk_lists.specs.Words.{NextStarts};
 ghost use Rattle.blk_lists.specs.declared.fault.Why.TheVariants as why;
 ghost use Rattle.blk_lists.specs.declared.fault.Why.{Why as AWhy};
@@ -124,4 +125,30 @@ pub fn spelled_proofs_have_no_fault()
 pub fn a_proof_has_one_fault()
     ensures { (rows : List Row) → (at other : ℕ) → (w v : AWhy)
         → ProofFault rows at w → ProofFault rows other v → (at ≡ other) × (w ≡ v) }
+{}
+
+/// A list of records spells one schedule at most.
+pub fn schedules_are_spelled_once()
+    ensures { (rows : List Row) → (c d : Ran) → SpellsSchedule rows c → SpellsSchedule rows d → c ≡ d }
+{}
+
+/// The text of a schedule reads back as its records, which spell it.
+pub fn schedules_read_back()
+    ensures { (c : Ran) → IsRan c → SpellsSchedule (records default_config (strip_bom (rows_text (ran_rows c)))) c }
+{}
+
+/// Records either spell a schedule or have a fault as one.
+pub fn a_schedule_is_spelled_or_has_a_fault()
+    ensures { (rows : List Row) → ((c : Ran) × SpellsSchedule rows c) ⊎ ((at : ℕ) × (w : AWhy) × ScheduleFault rows at w) }
+{}
+
+/// Records that spell a schedule have no fault.
+pub fn spelled_schedules_have_no_fault()
+    ensures { (rows : List Row) → (c : Ran) → (at : ℕ) → (w : AWhy) → SpellsSchedule rows c → ScheduleFault rows at w → ⊥ }
+{}
+
+/// Records have one first fault as a schedule at most.
+pub fn a_schedule_has_one_fault()
+    ensures { (rows : List Row) → (at other : ℕ) → (w v : AWhy)
+        → ScheduleFault rows at w → ScheduleFault rows other v → (at ≡ other) × (w ≡ v) }
 {}

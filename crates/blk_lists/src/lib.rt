@@ -9,12 +9,15 @@ pub mod items;
 pub mod laws;
 pub mod met;
 pub mod proof;
+pub mod schedule;
 pub mod source;
 mod titles;
+pub mod writing;
 
 pub use crate::certificate::{Certificate, read_certificate, write_certificate};
 pub use crate::commands::{read_commands, write_commands};
 pub use crate::fault::{TextFault, Why};
 pub use crate::met::{MetCertificate, read_met, write_met};
 pub use crate::proof::{Proof, read_proof};
+pub use crate::schedule::{Schedule, read_schedule, write_schedule};
 pub use crate::source::Records;

@@ -1,33 +1,33 @@
 //! Certificates of the greatest number of commands that a schedule can meet.
 
 ghost use Rattle.std.specs.Prelude.{◌≡◌, ◌⊎◌, ◌+◌, ◌*◌, ◌++◌, ◌≤◌, ◌<◌, ◌-◌, ◌^◌, ◌∷◌, [], All, IfOk, IfErr, IfSome, OnOk, map, length, codes};
-ghost use Rattle.std.specs.List.{zip};
 ghost use Rattle.std.specs.Io.KnownBytes.{Appends};
-ghost use Rattle.csv.specs.Records.{fields_of};
 ghost use Rattle.edd_check.specs.Window.{WindowInRange};
 ghost use Rattle.parts.specs.Parts.{Begins};
-ghost use Rattle.blk_lists.specs.Reads.{IsOutside, IsRowOf, IsWrongLine, Reads, Halts, Reaches};
-ghost use Rattle.blk_lists.specs.Tables.{row_by, title_by};
+ghost use Rattle.blk_lists.specs.Reads.{IsOutside, Reads, Halts, Reaches};
+ghost use Rattle.blk_lists.specs.Tables.{row_by};
 ghost use Rattle.blk_lists.specs.Texts.{rows_text};
 ghost use Rattle.drafts.specs.Parts.{AppendsPart};
 ghost use Rattle.drafts.specs.Drafts.{drafted};
-ghost use Rattle.blk_lists.specs.Certificate.{served_cells};
-ghost use Rattle.blk_lists.specs.Titles.{counted_cells, IsCounted};
-ghost use Rattle.blk_lists.specs.Met.{met_claimed, met_form, IsMetClaim, SpellsMet, MetClaimFault, met_rows, met_cells, window_cells, windows, met_body, met_told};
+ghost use Rattle.blk_lists.specs.Titles.{IsCounted};
+ghost use Rattle.blk_lists.specs.Met.{met_claimed, met_form, IsMetClaim, SpellsMet, MetClaimFault, met_rows, window_cells, windows, met_body, met_told};
 
-use crate::certificate::{ServedForm, push_served, split};
+use crate::certificate::{ServedForm, push_schedule, split};
 use crate::fault::{TextFault, Why};
-use crate::fields::{Slot, begins_with, read_fields, without_word};
+use crate::fields::{COUNT, ROUND, Slot, begins_with, read_fields, without_word};
 use crate::items::{Each, LineForm, gather, read_line, read_lines};
 use crate::source::Records;
-use crate::titles::counted_title;
+use crate::titles::CountedTitle;
+use crate::writing::push_row;
 use csv::ByteRecord;
-use drafts::pieces::{put, put_two};
 use drafts::{Block, WriteFault, write_whole};
-use edd_check::{Command, MAX_COMMANDS, MAX_ROUNDS, Window};
+use edd_check::{Command, MAX_COMMANDS, Window};
 use parts::Repeats;
 use std::alloc::{AllocError, Global};
 use std::io::{Read, Write};
+
+/// The title record.
+const TITLE: CountedTitle = CountedTitle { name: b"blk-met" };
 
 /// A schedule of commands, with the claim that none meets more of them.
 #[derive(Debug, Drop)]
@@ -44,25 +44,11 @@ pub struct MetCertificate {
     pub cover: Vec<Window>,
 }
 
-/// The title record: the version, and with it the depth and the number of commands.
-#[derive(Clone, Copy, Drop)]
-struct MetTitleForm;
+/// The fields of the numbers: the word, the number of commands met, the number of windows, and an empty one.
+pub const NUMBERS: [Slot; 4] = [Slot::Given, COUNT, COUNT, Slot::Blank];
 
-impl LineForm for MetTitleForm {
-    ghost use Rattle.blk_lists.specs.Met.{met_title};
-
-    type Line = (u64, (u64, u64));
-
-    ghost part = { λ _. met_title };
-
-    fn gone(&self) -> Why {
-        Why::Title
-    }
-
-    fn line(&self, row: &ByteRecord) -> Result<(u64, (u64, u64)), Why> {
-        counted_title(row, b"blk-met")
-    }
-}
+/// The fields of a window: the word, its first round, its last round, and an empty one.
+pub const WINDOW: [Slot; 4] = [Slot::Given, ROUND, ROUND, Slot::Blank];
 
 /// The record that says how many commands are met, and how many windows there are.
 #[derive(Clone, Copy, Drop)]
@@ -84,12 +70,7 @@ impl LineForm for NumbersForm {
         if !begins_with(row, b"met") {
             return Err(without_word(row, 4));
         }
-        let number = Slot::Number {
-            least: 0,
-            most: MAX_COMMANDS,
-        };
-        let slots = [Slot::Given, number, number, Slot::Blank];
-        match read_fields(row, &slots) {
+        match read_fields(row, &NUMBERS) {
             Ok(numbers) => Ok((numbers[1], numbers[2])),
             Err(why) => Err(why),
         }
@@ -116,12 +97,7 @@ impl LineForm for WindowForm {
         if !begins_with(row, b"window") {
             return Err(without_word(row, 4));
         }
-        let round = Slot::Number {
-            least: 0,
-            most: MAX_ROUNDS - 1,
-        };
-        let slots = [Slot::Given, round, round, Slot::Blank];
-        match read_fields(row, &slots) {
+        match read_fields(row, &WINDOW) {
             Ok(numbers) => Ok(Window {
                 from: numbers[1],
                 due: numbers[2],
@@ -223,7 +199,7 @@ pub fn read_met<R: Read + Drop>(
     // the last thing that was asked for is the record after the commands, which there is not
     ensures end { IfOk result (λ c. records.new.at ≡ length c.cover.items + length c.commands.items + 3) }
 {
-    let (_, (depth, count)) = match read_line(records, &MetTitleForm) {
+    let (_, (depth, count)) = match read_line(records, &TITLE) {
         Ok(title) => title,
         Err(fault) => return Err(fault),
     };
@@ -233,60 +209,13 @@ pub fn read_met<R: Read + Drop>(
     }
 }
 
-/// Adds the title record.
-fn push_title(draft: &mut Block, depth: u64, count: u64) -> Result<(), AllocError>
-    ensures text { OnOk result (drafted draft.new ≡ drafted draft.old ++ rows_text (title_by (codes "blk-met") counted_cells (1, (depth, count)) ∷ [])) }
-{
-    let start = draft.room()?;
-    let buf = &mut draft.block;
-    let head = put(b"blk-met,1,", buf, start);
-    let end = put_two(depth, count, buf, head);
-    draft.at = put(b"\n", buf, end);
-    Ok(())
-}
-
-/// Adds the record that says how many commands are met, and how many windows there are.
-fn push_numbers(draft: &mut Block, met: u64, count: u64) -> Result<(), AllocError>
-    ensures text { OnOk result (drafted draft.new ≡ drafted draft.old ++ rows_text ((codes "met" ∷ row_by met_cells (met, count)) ∷ [])) }
-{
-    let start = draft.room()?;
-    let buf = &mut draft.block;
-    let head = put(b"met,", buf, start);
-    let end = put_two(met, count, buf, head);
-    draft.at = put(b",\n", buf, end);
-    Ok(())
-}
-
-/// Adds the record of a window.
-#[inline]
-fn push_window(draft: &mut Block, window: &Window) -> Result<(), AllocError>
-    ensures text { OnOk result (drafted draft.new ≡ drafted draft.old ++ rows_text ((codes "window" ∷ row_by window_cells window.now) ∷ [])) }
-{
-    let start = draft.room()?;
-    let buf = &mut draft.block;
-    let head = put(b"window,", buf, start);
-    let end = put_two(window.from, window.due, buf, head);
-    draft.at = put(b",\n", buf, end);
-    Ok(())
-}
-
 /// Adds the record of each window.
 fn push_cover(draft: &mut Block, cover: &[Window]) -> Result<(), AllocError>
     ensures text { OnOk result (drafted draft.new ≡ drafted draft.old ++ rows_text (map (λ w. codes "window" ∷ row_by window_cells w) cover.now)) }
 {
     for i in 0..cover.len() {
-        push_window(draft, &cover[i])?;
-    }
-    Ok(())
-}
-
-/// Adds the record of each command and its round.
-fn push_schedule(draft: &mut Block, commands: &[Command], rounds: &[u64]) -> Result<(), AllocError>
-    requires { length rounds.now ≡ length commands.now }
-    ensures text { OnOk result (drafted draft.new ≡ drafted draft.old ++ rows_text (map (row_by served_cells) (zip commands.now rounds.now))) }
-{
-    for i in 0..commands.len() {
-        push_served(draft, &commands[i], rounds[i])?;
+        let window = cover[i];
+        push_row(draft, b"window", &[window.from, window.due], 1)?;
     }
     Ok(())
 }
@@ -299,8 +228,18 @@ fn met_text(alloc: Global, certificate: &MetCertificate) -> Result<Vec<u8>, Allo
     let mut draft = Block::new(alloc);
     let commands = certificate.commands.as_slice();
     let cover = certificate.cover.as_slice();
-    push_title(&mut draft, certificate.depth, commands.len() as u64)?;
-    push_numbers(&mut draft, certificate.met, cover.len() as u64)?;
+    push_row(
+        &mut draft,
+        b"blk-met",
+        &[1, certificate.depth, commands.len() as u64],
+        0,
+    )?;
+    push_row(
+        &mut draft,
+        b"met",
+        &[certificate.met, cover.len() as u64],
+        1,
+    )?;
     push_cover(&mut draft, cover)?;
     push_schedule(&mut draft, commands, certificate.rounds.as_slice())?;
     draft.finish()

@@ -1,23 +1,18 @@
 -- The laws of the bios of a group.
-use Rattle.std.proofs.Common.{◌≡◌, ◌^◌, ◌≤◌, ◌<◌, ◌∙◌, ℕ, suc, List, [], ◌∷◌, ◌++◌, length, refl, sym, ap, subst, inl, inr, arith, get_or, codes, Bool, Option, Some, None}
-use Rattle.std.specs.Prelude.{◌⊎◌, Err}
-use Rattle.blk_bio.specs.Bios.{Bio, IsBio, IsBioAnswer}
+use Rattle.std.proofs.Common.{◌≡◌, ◌^◌, ◌≤◌, ◌<◌, ◌∙◌, ℕ, suc, List, [], ◌∷◌, ◌++◌, length, refl, sym, ap, subst, inl, inr, arith, codes, Bool, Option, Some, None}
+use Rattle.std.specs.Prelude.{◌⊎◌, Result, Ok, Err, IfOk, IfErr}
+use Rattle.blk_bio.specs.Bios.{Bio, IsBio}
 use Rattle.blk_bio.specs.Limits.{Limits}
 use Rattle.blk_bio.specs.Requests.{Fits}
 use Rattle.blk_bio.specs.declared.request.Side.TheVariants as side
-use Rattle.blk_bio.specs.declared.bio.BioFault.{BioFault}
-use Rattle.blk_bio.specs.declared.bio.Dir.{Dir}
 use Rattle.blk_lists.specs.Sources.{Row}
-use Rattle.blk_text.specs.BioTable.{bio_cells, IsNoSuchBio}
-use Rattle.blk_bio.specs.Letters.{direction_text}
+use Rattle.blk_text.specs.BioTable.{bio_cells, bio_record, IsNoSuchBio}
 use Rattle.blk_lists.specs.Words.{StartsWith, NextStarts, WordLacks}
-use Rattle.blk_lists.specs.Fields.{Lacks, FieldsSpell}
 use Rattle.blk_lists.specs.Reads.{IsRowOf, IsWrongLine, HandFails, Gathers, with_next}
 use Rattle.blk_lists.specs.Tables.{FitsCells, row_by, slots_by, word_record}
 use Rattle.blk_text.specs.TraceForm.{Tiles, gathered_bios, IsAstray, IsNoBio, first_record, plain_bio, whole_bio, group_bio, group}
 use Rattle.blk_lists.specs.declared.fault.Why.{Why}
 use Rattle.blk_lists.specs.declared.fault.Why.TheVariants as why
-use Rattle.blk_lists.specs.declared.fields.Slot.TheVariants as slot
 use Rattle.blk_text.specs.TraceForm.{Head}
 use Rattle.parts.specs.declared.Repeats.TheVariants as repeats
 use Rattle.parts.specs.Parts.{Part, by_word, all_rows}
@@ -25,8 +20,8 @@ use Rattle.parts.specs.Laws.{Tells, Decides, IsPlain}
 use Rattle.parts.proofs.Then.{record_tells, record_decides, by_word_tells, by_word_decides, seen_tells, seen_decides, tested_tells, tested_decides, over_tells}
 use Rattle.parts.proofs.Many.{HasRows, many_tells, many_decides, many_plain}
 use Rattle.blk_lists.proofs.Lacking.{Dec, word_decided}
-use Rattle.blk_lists.proofs.TableLaws.{IsTable, word_line, next_starts, word_tells, word_decides}
-use Rattle.blk_text.proofs.ScriptLaws.{bio_with, no_bio_is, one_bio_fault, bio_or_none}
+use Rattle.blk_lists.proofs.TableLaws.{IsTable, next_starts, word_tells, word_decides}
+use Rattle.blk_text.proofs.ScriptLaws.{no_bio_is, one_bio_fault, bio_or_none}
 use Rattle.blk_lists.proofs.Reading.{hand_reads}
 use Rattle.blk_text.proofs.HeadLaws.{head_tells, head_decides}
 use Rattle.blk_text.proofs.RuleLaws.{fits as fits_decided}
@@ -45,15 +40,15 @@ no_bio_once : (version : ℕ) (rows : List Row) (w x : Why) → IsNoBio version 
 no_bio_once version [] w x a b = a ∙ sym b
 no_bio_once version (row ∷ rows) w x a b = ((over_tells why.Count (first_record version) (head_tells version)).first (row ∷ []) 1 1 w x a b).1
 
-abbrev bio_record : Part Row Why Bio
-bio_record = word_record why.Count (codes "bio") (bio_cells (2 ^ 8)) (FitsCells (bio_cells (2 ^ 8)))
+abbrev bio_by_table : Part Row Why Bio
+bio_by_table = word_record why.Count (codes "bio") (bio_cells (2 ^ 8)) (FitsCells (bio_cells (2 ^ 8)))
 
 abbrev only_bios : ℕ → Part Row Why ((i : Unit {0}) × Bio)
-only_bios version = by_word {K = Unit {0}} (λ _. Bio) (λ _. NextStarts (codes "bio")) (λ _. bio_record) (IsNoBio version)
+only_bios version = by_word {K = Unit {0}} (λ _. Bio) (λ _. NextStarts (codes "bio")) (λ _. bio_by_table) (IsNoBio version)
 
 plain_tells : (version : ℕ) → Tells (plain_bio version)
 plain_tells version = seen_tells (λ b. (tt, b)) (only_bios version) (λ u z e. (let r : u ≡ z = (λ i. (e i).1) in r))
-    (by_word_tells {K = Unit {0}} (λ _. Bio) (λ _. NextStarts (codes "bio")) (λ _. bio_record) (IsNoBio version)
+    (by_word_tells {K = Unit {0}} (λ _. Bio) (λ _. NextStarts (codes "bio")) (λ _. bio_by_table) (IsNoBio version)
     (λ _. record_tells (λ b. codes "bio" ∷ row_by (bio_cells (2 ^ 8)) b) (FitsCells (bio_cells (2 ^ 8))) why.Count (WordLacks (codes "bio") (slots_by (bio_cells (2 ^ 8)))) (word_tells (codes "bio") (bio_cells (2 ^ 8)) (FitsCells (bio_cells (2 ^ 8))) (bio_table 256 (omega arith))))
     (λ i j rows s t. refl) (λ i rows v a h. next_starts (codes "bio") (row_by (bio_cells (2 ^ 8)) v) rows a h.made) (no_bio_once version))
 
@@ -70,7 +65,7 @@ no_bio version row = elim (head_decides version (row ∷ [])) [
 
 plain_decides : (version : ℕ) → Decides (plain_bio version)
 plain_decides version = seen_decides (λ b. (tt, b)) (only_bios version) (λ v f. (v.1, refl))
-    (by_word_decides {K = Unit {0}} (λ _. Bio) (λ _. NextStarts (codes "bio")) (λ _. bio_record) (IsNoBio version)
+    (by_word_decides {K = Unit {0}} (λ _. Bio) (λ _. NextStarts (codes "bio")) (λ _. bio_by_table) (IsNoBio version)
     (λ _ rows s. record_decides (λ b. codes "bio" ∷ row_by (bio_cells (2 ^ 8)) b) (FitsCells (bio_cells (2 ^ 8))) why.Count (WordLacks (codes "bio") (slots_by (bio_cells (2 ^ 8)))) (word_decides (codes "bio") (bio_cells (2 ^ 8)) (FitsCells (bio_cells (2 ^ 8))) (bio_table 256 (omega arith))) rows)
     find)
   where
@@ -134,14 +129,24 @@ bio_gone version limits before = inl (inl (inr (refl, (λ i s. s), refl)))
 
 -- what was read of a record
 
-pub bio_lacks : (version : ℕ) (row : Row) (w : Why) → StartsWith (codes "bio") row → Lacks (slot.Given ∷ slots_by (bio_cells (2 ^ 8))) row w → IsWrongLine (whole_bio version) row w
-bio_lacks version row w t l = λ rest. inl (inl (tt, t, (refl, inl (t, l))))
+-- a bio by itself
+pub group_line : (version : ℕ) (b : Bio) (row : Row) → IsRowOf (bio_record (2 ^ 8)) row b → IsRowOf (whole_bio version) row b
+group_line version b row h rest = let k = h rest in record { fits = k.fits; made = k.made; follows = tt }
 
-pub no_such_bio : (version : ℕ) (f : BioFault) (dir : Dir) (row : Row) (ns : List ℕ) → StartsWith (codes "bio") row → FieldsSpell (slot.Given ∷ slots_by (bio_cells (2 ^ 8))) row ns → get_or row (3) [] ≡ direction_text dir
-    → IsBioAnswer (bio_with ns dir).id dir (bio_with ns dir).first (bio_with ns dir).sectors (Err f) → IsWrongLine (whole_bio version) row (why.Bio f)
-no_such_bio version f dir row ns t s d a =
-    let line = word_line why.Count (codes "bio") (bio_cells (2 ^ 8)) (FitsCells (bio_cells (2 ^ 8))) (bio_with ns dir) row ns t s (refl, (refl, (d, (refl, (refl, tt))))) (λ f. f) in
-    λ rest. inr (bio_with ns dir, rest, record { fits = (line rest).fits; made = (line rest).made; follows = tt }, (f, refl, refl, a))
+pub group_wrong : (version : ℕ) (row : Row) (w : Why) → StartsWith (codes "bio") row → IsWrongLine (bio_record (2 ^ 8)) row w → IsWrongLine (whole_bio version) row w
+group_wrong version row w t h rest = elim (h rest) [
+  | inl f ↦ inl (inl (tt, t, f))
+  | inr g ↦ inr (g.0, g.1, record { fits = g.2.fits; made = g.2.made; follows = tt }, g.3)
+]
+
+-- what is answered of one
+pub group_ok : (version : ℕ) (row : Row) (r : Result Bio Why) → IfOk r (IsRowOf (bio_record (2 ^ 8)) row) → IfOk r (IsRowOf (whole_bio version) row)
+group_ok version row (Ok b) h = group_line version b row h
+group_ok version row (Err w) h = tt
+
+pub group_err : (version : ℕ) (row : Row) (r : Result Bio Why) → StartsWith (codes "bio") row → IfErr r (IsWrongLine (bio_record (2 ^ 8)) row) → IfErr r (IsWrongLine (whole_bio version) row)
+group_err version row (Ok b) t h = tt
+group_err version row (Err w) t h = group_wrong version row w t h
 
 -- a record that is another event's, or no event's
 pub event_too_soon : (version : ℕ) (h : Head) (row : Row) → ¬ StartsWith (codes "bio") row → IsRowOf (first_record version) row h → IsWrongLine (whole_bio version) row why.Count

@@ -1,4 +1,5 @@
 pub mod Rows
+pub mod BioLaws
 pub mod ScriptLaws
 pub mod TraceLemmas
 pub mod HeadLaws

@@ -6,7 +6,6 @@ use Rattle.csv.specs.Writing.{read_back}
 use Rattle.blk_bio.specs.Bios.{Bio, IsBio, IsBioAnswer, sector_limit}
 use Rattle.blk_bio.specs.declared.bio.BioFault.{BioFault}
 use Rattle.blk_bio.specs.declared.bio.BioFault.TheVariants as bio_fault
-use Rattle.blk_bio.specs.declared.bio.Dir.{Dir}
 use Rattle.blk_bio.specs.Limits.{Limits, IsLimits}
 use Rattle.blk_trace.specs.Setups.{Setup, IsSetup}
 use Rattle.blk_lists.specs.Sources.{Row}
@@ -18,6 +17,7 @@ use Rattle.blk_lists.specs.Fields.{Lacks, FieldsSpell}
 use Rattle.blk_lists.specs.Reads.{Reads, Halts, IsRowOf, IsWrongLine, IsOne, items_of}
 use Rattle.blk_lists.specs.Tables.{FitsCells, row_by, slots_by, kinds_record}
 use Rattle.blk_text.specs.Script.{word_of, StepStandsIn, Held, step_cells, step_said, LineFits, IsLineOf, IsRight, HasNoSuchBio, script_cells, IsTitle, IsEnough, TooFew, plain_title, title, plain_step, step, script_body, script_form, script_value, Scripted, title_of, script_rows, IsScript, IsScriptOf, SpellsVersion, SpellsScript, ScriptFault}
+use Rattle.blk_text.specs.BioTable.{bio_record}
 use Rattle.blk_text.specs.Versions.{latest, most_tags}
 use Rattle.blk_lists.specs.declared.fault.Why.{Why}
 use Rattle.blk_lists.specs.declared.fault.Why.TheVariants as why
@@ -204,10 +204,6 @@ plain_line version hw submitters l row h r = λ rest. record { fits = ((h rest).
 pub bio_right : (b : Bio) → IsBio b → IsRight (line.Bio b)
 bio_right b i = λ c e. subst IsBio (one_bio b c e) i
 
--- the bio of the numbers of a record
-abbrev pub bio_with : List ℕ → Dir → Bio
-bio_with ns dir = record { id = record { submitter = get_or ns 1 0; serial = get_or ns 2 0 }; dir = dir; first = get_or ns 4 0; sectors = get_or ns 5 0 }
-
 pub kind_lacks : (version hw submitters : ℕ) (k : Word) (row : Row) (w : Why) → StepStandsIn version k → StartsWith (word_of k) row → Lacks (slot.Given ∷ slots_by (step_cells hw submitters k)) row w → IsWrongLine (step version hw submitters) row w
 kind_lacks version hw submitters k row w a t l = λ rest. inl (inl (k, (a, t), (refl, inl (t, l))))
 
@@ -217,9 +213,15 @@ no_kind version hw submitters cells w n h = λ rest. inl (inr (refl, (λ k s. n 
 pub step_gone : (version hw submitters : ℕ) → (step version hw submitters).Wrong [] 1 why.Count
 step_gone version hw submitters = inl (inr (refl, (λ k s. s.1), refl))
 
--- of a bio that there is not
-pub no_bio_line : (version hw submitters : ℕ) (b : Bio) (f : BioFault) (row : Row) → IsRowOf (kinds version hw submitters) row (word.Bio, b) → IsBioAnswer b.id b.dir b.first b.sectors (Err f) → IsWrongLine (step version hw submitters) row (why.Bio f)
-no_bio_line version hw submitters b f row h a = λ rest. inr (line.Bio b, rest, record { fits = (h rest).fits; made = (h rest).made; follows = tt }, (b, f, refl, refl, refl, a))
+-- the bio of a step
+pub step_bio : (version hw submitters : ℕ) (b : Bio) (row : Row) → IsRowOf (bio_record submitters) row b → IsRowOf (step version hw submitters) row (line.Bio b)
+step_bio version hw submitters b row h rest = let k = h rest in record { fits = ((tt, k.fits.0), bio_right b k.fits.1); made = k.made; follows = tt }
+
+pub step_no_bio : (version hw submitters : ℕ) (row : Row) (w : Why) → StartsWith (codes "bio") row → IsWrongLine (bio_record submitters) row w → IsWrongLine (step version hw submitters) row w
+step_no_bio version hw submitters row w t h rest = elim (h rest) [
+  | inl f ↦ inl (inl (word.Bio, (tt, t), f))
+  | inr g ↦ inr (line.Bio g.0, g.1, record { fits = (tt, g.2.fits); made = g.2.made; follows = tt }, (g.0, g.3.0, refl, g.3.1, g.3.2, g.3.3))
+]
 
 -- titles and setups
 

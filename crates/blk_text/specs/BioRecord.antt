@@ -1,5 +1,5 @@
 -- The record of a bio, in a script and in a group of a trace.
-use Rattle.std.specs.Prelude.{ℕ, List, [], ◌∷◌, decimal, codes}
+use Rattle.std.specs.Prelude.{[], ◌∷◌, decimal, codes}
 use Rattle.blk_bio.specs.Bios.{Bio}
 use Rattle.blk_bio.specs.Letters.{direction_text}
 use Rattle.blk_lists.specs.Sources.{Row}

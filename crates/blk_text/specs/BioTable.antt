@@ -1,10 +1,12 @@
 -- The record of a bio by its table.
-use Rattle.std.specs.Prelude.{◌≡◌, ◌-◌, ◌^◌, ℕ, List, [], ◌∷◌, Err}
-use Rattle.blk_bio.specs.Bios.{Bio, IsBioAnswer}
+use Rattle.std.specs.Prelude.{◌≡◌, ◌-◌, ◌^◌, ℕ, List, [], ◌∷◌, codes, Err}
+use Rattle.blk_bio.specs.Bios.{Bio, IsBio, IsBioAnswer}
 use Rattle.blk_bio.specs.declared.bio.BioFault.{BioFault}
-use Rattle.blk_lists.specs.Tables.{Cell, Number, Direction}
+use Rattle.blk_lists.specs.Sources.{Row}
+use Rattle.blk_lists.specs.Tables.{Cell, Number, Direction, FitsCells, word_record}
 use Rattle.blk_lists.specs.declared.fault.Why.{Why}
 use Rattle.blk_lists.specs.declared.fault.Why.TheVariants as why
+use Rattle.parts.specs.Parts.{Part, tested}
 
 -- submitter, of so many, serial, direction, first, sectors
 abbrev pub bio_cells : ℕ → List (Cell Bio)
@@ -14,3 +16,7 @@ bio_cells submitters = Number 0 (submitters - 1) (λ b. b.id.submitter) ∷ Numb
 -- there is no such bio, for this reason
 abbrev pub IsNoSuchBio : Bio → ℕ → Why → Type 0
 IsNoSuchBio b k w = (f : BioFault) × (k ≡ 1) × (w ≡ why.Bio f) × IsBioAnswer b.id b.dir b.first b.sectors (Err f)
+
+-- the record of a bio of one of so many submitters
+abbrev pub bio_record : ℕ → Part Row Why Bio
+bio_record submitters = tested (word_record why.Count (codes "bio") (bio_cells submitters) (FitsCells (bio_cells submitters))) IsBio IsNoSuchBio

@@ -7,7 +7,7 @@ use Rattle.blk_bio.specs.declared.limits.TheConstants.{MAX_QUEUES, MAX_SOFT_QUEU
 use Rattle.blk_trace.specs.Setups.{Setup}
 use Rattle.blk_lists.specs.Sources.{Row}
 use Rattle.blk_lists.specs.Reads.{items_of}
-use Rattle.blk_lists.specs.Tables.{Cell, Blank, Number, IsVersion, title_record, kinds_record}
+use Rattle.blk_lists.specs.Tables.{Cell, Blank, Number, IsVersion, cells_by, title_record, kinds_record}
 use Rattle.blk_text.specs.BioTable.{bio_cells}
 use Rattle.blk_text.specs.SetupRecord.{IsWholeSetup, setup}
 use Rattle.blk_text.specs.Versions.{latest, most_tags}
@@ -16,6 +16,7 @@ use Rattle.blk_lists.specs.declared.fault.Why.TheVariants as why
 use Rattle.parts.specs.declared.Repeats.TheVariants as repeats
 use Rattle.parts.specs.Parts.{Part, then, tested, seen_as, Spells}
 use Rattle.blk_lists.specs.declared.fields.TheConstants.{MAX_TAGS}
+use Rattle.blk_text.specs.declared.heads.TheConstants.{TICK, END, DEPTH}
 use Rattle.blk_text.specs.declared.script.TheConstants.{MAX_RUN, MAX_STEPS}
 use Rattle.blk_text.specs.declared.script.Line.{Line}
 use Rattle.blk_text.specs.declared.script.Line.TheVariants as line
@@ -42,15 +43,8 @@ word_of word.Run = codes "run"
 
 -- a depth is set from version 2 on, and the other steps stand in each version
 abbrev pub StepStandsIn : ℕ → Word → Type 0
-StepStandsIn version word.Bio = Unit {0}
-StepStandsIn version word.Flush = Unit {0}
-StepStandsIn version word.Drain = Unit {0}
-StepStandsIn version word.Issue = Unit {0}
-StepStandsIn version word.Done = Unit {0}
-StepStandsIn version word.Back = Unit {0}
 StepStandsIn version word.Depth = 2 ≤ version
-StepStandsIn version word.Tick = Unit {0}
-StepStandsIn version word.Run = Unit {0}
+StepStandsIn version _ = Unit {0}
 
 -- what each kind of step says beside its word
 abbrev pub Held : Word → Type 0
@@ -70,10 +64,10 @@ step_cells hw submitters word.Bio = bio_cells submitters
 step_cells hw submitters word.Flush = Number 0 (submitters - 1) (λ s. s) ∷ Blank ∷ Blank ∷ Blank ∷ Blank ∷ []
 step_cells hw submitters word.Drain = Number 0 (hw - 1) (λ h. h) ∷ Blank ∷ Blank ∷ Blank ∷ Blank ∷ []
 step_cells hw submitters word.Issue = Number 0 (hw - 1) (λ i. i.0) ∷ Number 0 (MAX_TAGS - 1) (λ i. i.1) ∷ Blank ∷ Blank ∷ Blank ∷ []
-step_cells hw submitters word.Done = Number 0 (MAX_TAGS - 1) (λ t. t) ∷ Blank ∷ Blank ∷ Blank ∷ Blank ∷ []
-step_cells hw submitters word.Back = Number 0 (MAX_TAGS - 1) (λ t. t) ∷ Blank ∷ Blank ∷ Blank ∷ Blank ∷ []
-step_cells hw submitters word.Depth = Number 0 (2 ^ 64 - 1) (λ d. d) ∷ Blank ∷ Blank ∷ Blank ∷ Blank ∷ []
-step_cells hw submitters word.Tick = Blank ∷ Blank ∷ Blank ∷ Blank ∷ Blank ∷ []
+step_cells hw submitters word.Done = cells_by END ((λ t. t) ∷ [])
+step_cells hw submitters word.Back = cells_by END ((λ t. t) ∷ [])
+step_cells hw submitters word.Depth = cells_by DEPTH ((λ d. d) ∷ [])
+step_cells hw submitters word.Tick = cells_by TICK []
 step_cells hw submitters word.Run = Number 1 MAX_RUN (λ n. n) ∷ Blank ∷ Blank ∷ Blank ∷ Blank ∷ []
 
 -- the kind of a step, and what it says

@@ -1,19 +1,17 @@
 -- The setup record, which is the second one of a script and of a trace.
-use Rattle.std.specs.Prelude.{◌≡◌, ◌-◌, ℕ, List, [], ◌∷◌, codes}
+use Rattle.std.specs.Prelude.{◌≡◌, ℕ, List, [], ◌∷◌, codes}
 use Rattle.blk_bio.specs.Limits.{IsLimits}
 use Rattle.blk_trace.specs.Setups.{Setup, IsSetup}
-use Rattle.blk_bio.specs.declared.limits.TheConstants.{MAX_SECTORS, MAX_SEGMENTS}
-use Rattle.blk_trace.specs.declared.setup.TheConstants.{MAX_EXPIRIES}
 use Rattle.blk_lists.specs.Sources.{Row}
-use Rattle.blk_lists.specs.Tables.{Cell, Number, Blank, row_by, word_record}
+use Rattle.blk_lists.specs.Tables.{Cell, cells_by, row_by, word_record}
 use Rattle.blk_lists.specs.declared.fault.Why.{Why}
 use Rattle.blk_lists.specs.declared.fault.Why.TheVariants as why
+use Rattle.blk_text.specs.declared.setup.TheConstants.{SETUP}
 use Rattle.parts.specs.Parts.{Part}
 
 -- setup, read_expire, write_expire, max_sectors, max_segments, empty
 abbrev pub setup_cells : List (Cell Setup)
-setup_cells = Number 0 (MAX_EXPIRIES - 1) (λ s. s.read_expire) ∷ Number 0 (MAX_EXPIRIES - 1) (λ s. s.write_expire)
-    ∷ Number 1 MAX_SECTORS (λ s. s.limits.max_sectors) ∷ Number 1 MAX_SEGMENTS (λ s. s.limits.max_segments) ∷ Blank ∷ []
+setup_cells = cells_by SETUP ((λ s. s.read_expire) ∷ (λ s. s.write_expire) ∷ (λ s. s.limits.max_sectors) ∷ (λ s. s.limits.max_segments) ∷ [])
 
 -- the setup record of a setup; its depth and hardware queues stand in the title
 abbrev pub setup_row : Setup → Row

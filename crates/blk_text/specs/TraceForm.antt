@@ -1,11 +1,11 @@
 -- A trace: a title, a setup, and events, each of which has one record, or one and those of its bios.
-use Rattle.std.specs.Prelude.{◌≡◌, ◌⊎◌, ◌≤◌, ◌-◌, ◌^◌, ℕ, List, [], ◌∷◌, length, codes, All, Option, Some, None, IfSome}
+use Rattle.std.specs.Prelude.{◌≡◌, ◌⊎◌, ◌≤◌, ℕ, List, [], ◌∷◌, length, codes, All, Option, Some, None, IfSome}
 use Rattle.std.specs.Option.{option_map_or}
 use Rattle.blk_bio.specs.Bios.{Bio, IsBio}
 use Rattle.blk_bio.specs.Limits.{Limits}
 use Rattle.blk_bio.specs.Requests.{Fits}
 use Rattle.blk_bio.specs.declared.request.Side.TheVariants as side
-use Rattle.blk_bio.specs.declared.limits.TheConstants.{MAX_QUEUES, MAX_SEGMENTS}
+use Rattle.blk_bio.specs.declared.limits.TheConstants.{MAX_QUEUES}
 use Rattle.blk_trace.specs.declared.trace.TheConstants.{MAX_EVENTS}
 use Rattle.blk_bio.specs.declared.rule.TraceRule.{TraceRule}
 use Rattle.blk_trace.specs.declared.rule.PushFault.{PushFault}
@@ -20,13 +20,14 @@ use Rattle.blk_trace.specs.Traces.{Traced}
 use Rattle.blk_lists.specs.Sources.{Row}
 use Rattle.blk_lists.specs.Reads.{ended_of, with_next}
 use Rattle.blk_lists.specs.Words.{NextStarts}
-use Rattle.blk_lists.specs.Tables.{Cell, Blank, Number, FitsCells, IsVersion, title_record, kinds_record, word_record}
+use Rattle.blk_lists.specs.Tables.{Cell, Blank, Number, FitsCells, cells_by, IsVersion, title_record, kinds_record, word_record}
 use Rattle.blk_text.specs.BioTable.{bio_cells, IsNoSuchBio}
 use Rattle.blk_text.specs.SetupRecord.{setup}
 use Rattle.blk_text.specs.Versions.{latest, most_tags}
-use Rattle.blk_lists.specs.declared.fields.TheConstants.{MAX_TAGS}
+use Rattle.blk_text.specs.declared.bios.TheConstants.{MAX_SUBMITTERS}
 use Rattle.blk_lists.specs.declared.fault.Why.{Why}
 use Rattle.blk_lists.specs.declared.fault.Why.TheVariants as why
+use Rattle.blk_text.specs.declared.heads.TheConstants.{TICK, GROUP, ISSUE, END, DEPTH}
 use Rattle.blk_text.specs.declared.heads.EventWord.{EventWord}
 use Rattle.blk_text.specs.declared.heads.EventWord.TheVariants as word
 use Rattle.blk_text.specs.declared.heads.TraceTitle.{TraceTitle}
@@ -58,13 +59,8 @@ word_of word.Depth = codes "depth"
 
 -- a depth is set from version 2 on, and the other events stand in each version
 abbrev pub EventStandsIn : ℕ → EventWord → Type 0
-EventStandsIn version word.Tick = Unit {0}
-EventStandsIn version word.Release = Unit {0}
-EventStandsIn version word.Join = Unit {0}
-EventStandsIn version word.Issue = Unit {0}
-EventStandsIn version word.Done = Unit {0}
-EventStandsIn version word.Back = Unit {0}
 EventStandsIn version word.Depth = 2 ≤ version
+EventStandsIn version _ = Unit {0}
 
 -- what the first record of each kind of event says beside its word; of a group its id, and how many bios follow
 abbrev pub Says : EventWord → Type 0
@@ -76,19 +72,15 @@ Says word.Done = ℕ
 Says word.Back = ℕ
 Says word.Depth = ℕ
 
--- any number
-abbrev pub any : {V : Type 0} → (V → ℕ) → Cell V
-any f = Number 0 (2 ^ 64 - 1) f
-
 -- its fields after the word
 abbrev pub head_cells : (k : EventWord) → List (Cell (Says k))
-head_cells word.Tick = Blank ∷ Blank ∷ Blank ∷ Blank ∷ Blank ∷ []
-head_cells word.Release = any (λ g. g.0) ∷ Number 1 MAX_SEGMENTS (λ g. g.1) ∷ Blank ∷ Blank ∷ Blank ∷ []
-head_cells word.Join = any (λ g. g.0) ∷ Number 1 MAX_SEGMENTS (λ g. g.1) ∷ Blank ∷ Blank ∷ Blank ∷ []
-head_cells word.Issue = any (λ i. i.0) ∷ Number 0 (MAX_TAGS - 1) (λ i. i.1) ∷ Blank ∷ Blank ∷ Blank ∷ []
-head_cells word.Done = Number 0 (MAX_TAGS - 1) (λ t. t) ∷ Blank ∷ Blank ∷ Blank ∷ Blank ∷ []
-head_cells word.Back = Number 0 (MAX_TAGS - 1) (λ t. t) ∷ Blank ∷ Blank ∷ Blank ∷ Blank ∷ []
-head_cells word.Depth = any (λ d. d) ∷ Blank ∷ Blank ∷ Blank ∷ Blank ∷ []
+head_cells word.Tick = cells_by TICK []
+head_cells word.Release = cells_by GROUP ((λ g. g.0) ∷ (λ g. g.1) ∷ [])
+head_cells word.Join = cells_by GROUP ((λ g. g.0) ∷ (λ g. g.1) ∷ [])
+head_cells word.Issue = cells_by ISSUE ((λ i. i.0) ∷ (λ i. i.1) ∷ [])
+head_cells word.Done = cells_by END ((λ t. t) ∷ [])
+head_cells word.Back = cells_by END ((λ t. t) ∷ [])
+head_cells word.Depth = cells_by DEPTH ((λ d. d) ∷ [])
 
 -- the first record of an event tells it with the number of its bios in place of these
 abbrev pub Head : Type 0
@@ -116,7 +108,7 @@ IsNoBio version = NextWrong why.Count (λ row w. (over why.Count (first_record v
 -- the record of a bio of a group, by its table
 abbrev pub plain_bio : ℕ → Part Row Why Bio
 plain_bio version =
-    seen_as (λ b. (tt, b)) (by_word {K = Unit {0}} (λ _. Bio) (λ _. NextStarts (codes "bio")) (λ _. word_record why.Count (codes "bio") (bio_cells (2 ^ 8)) (FitsCells (bio_cells (2 ^ 8)))) (IsNoBio version))
+    seen_as (λ b. (tt, b)) (by_word {K = Unit {0}} (λ _. Bio) (λ _. NextStarts (codes "bio")) (λ _. word_record why.Count (codes "bio") (bio_cells MAX_SUBMITTERS) (FitsCells (bio_cells MAX_SUBMITTERS))) (IsNoBio version))
 
 -- the record of a bio that there is
 abbrev pub whole_bio : ℕ → Part Row Why Bio

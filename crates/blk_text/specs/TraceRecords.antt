@@ -13,6 +13,7 @@ use Rattle.blk_text.specs.BioRecord.{bio_row}
 use Rattle.blk_text.specs.SetupRecord.{setup_row, IsWholeSetup}
 use Rattle.blk_text.specs.Versions.{latest}
 use Rattle.blk_lists.specs.declared.fields.TheConstants.{MAX_TAGS}
+use Rattle.blk_text.specs.declared.bios.TheConstants.{MAX_SUBMITTERS}
 
 -- a record of a word and two fields; the other three are empty
 abbrev pub word_row : List ℕ → List ℕ → List ℕ → Row
@@ -42,7 +43,7 @@ trace_rows t = title_row t.setup (length t.events) ∷ setup_row t.setup ∷ fla
 
 -- the numbers of a bio lie in their ranges
 abbrev pub BioFits : Bio → Type 0
-BioFits b = (b.id.submitter < 2 ^ 8) × (b.id.serial < 2 ^ 64) × IsBio b
+BioFits b = (b.id.submitter < MAX_SUBMITTERS) × (b.id.serial < 2 ^ 64) × IsBio b
 
 -- the id of a group lies in its range, as does the number of its bios, and those of each bio
 abbrev pub GroupFits : ℕ → List Bio → Type 0

@@ -1,16 +1,16 @@
 //! The bios of a group of a trace.
 
-ghost use Rattle.std.specs.Prelude.{◌≡◌, ◌≤◌, ◌<◌, ◌^◌, ◌-◌, ◌+◌, ◌++◌, ◌∷◌, [], codes, length, IsTrue, OnOk, IfOk, IfErr};
+ghost use Rattle.std.specs.Prelude.{◌≡◌, ◌≤◌, ◌<◌, ◌^◌, ◌-◌, ◌+◌, ◌++◌, ◌∷◌, [], length, IsTrue, OnOk, IfOk, IfErr};
 ghost use Rattle.csv.specs.Records.{fields_of};
 ghost use Rattle.blk_bio.specs.Requests.{Fits};
 ghost use Rattle.blk_lists.specs.Reads.{IsRowOf, IsWrongLine, Reads, Fails};
-ghost use Rattle.blk_lists.specs.Words.{StartsWith};
 ghost use Rattle.blk_text.specs.TraceForm.{whole_bio, group};
 
+use crate::bios::{MAX_SUBMITTERS, read_bio};
 use crate::heads::HeadForm;
-use blk_bio::{Bio, BioId, Limits, MAX_SEGMENTS, Request, Side};
+use blk_bio::{Bio, Limits, MAX_SEGMENTS, Request, Side};
 use blk_lists::fault::{TextFault, Why};
-use blk_lists::fields::{ANY, Slot, begins_with, direction_of, field, read_fields};
+use blk_lists::fields::begins_with;
 use blk_lists::items::{ItemForm, LineForm, gather};
 use blk_lists::source::Records;
 use csv::ByteRecord;
@@ -18,39 +18,13 @@ use parts::Repeats;
 use std::alloc::{AllocError, Global};
 use std::io::Read;
 
-/// The bio of a record that begins with its word.
-fn bio_of(form: &HeadForm, row: &ByteRecord) -> Result<Bio, Why>
-    requires { StartsWith (codes "bio") (fields_of row.now) }
-    ensures ok { IfOk result (IsRowOf (whole_bio form.now.version) (fields_of row.now)) }
-    ensures err { IfErr result (IsWrongLine (whole_bio form.now.version) (fields_of row.now)) }
-{
-    let _ = form.version;
-    let submitter = Slot::Number {
-        least: 0,
-        most: u8::MAX as u64,
-    };
-    let slots = [Slot::Given, submitter, ANY, Slot::Direction, ANY, ANY];
-    let numbers = match read_fields(row, &slots) {
-        Ok(numbers) => numbers,
-        Err(why) => return Err(why),
-    };
-    let id = BioId {
-        submitter: numbers[1] as u8,
-        serial: numbers[2],
-    };
-    match Bio::new(id, direction_of(field(row, 3)), numbers[4], numbers[5]) {
-        Ok(bio) => Ok(bio),
-        Err(fault) => Err(Why::Bio(fault)),
-    }
-}
-
 /// The bio of a record of a group. Another event's record comes too soon there.
 fn bio_line(form: &HeadForm, row: &ByteRecord) -> Result<Bio, Why>
     ensures ok { IfOk result (IsRowOf (whole_bio form.now.version) (fields_of row.now)) }
     ensures err { IfErr result (IsWrongLine (whole_bio form.now.version) (fields_of row.now)) }
 {
     if begins_with(row, b"bio") {
-        return bio_of(form, row);
+        return read_bio(row, MAX_SUBMITTERS);
     }
     match form.line(row) {
         Ok(_) => Err(Why::Count),

@@ -10,9 +10,10 @@ ghost use Rattle.blk_text.specs.TraceForm.{EventStandsIn, word_of, head_cells, f
 ghost use Rattle.blk_lists.specs.declared.fields.Slot.TheVariants as slot;
 ghost use Rattle.blk_text.specs.declared.heads.EventWord.{EventWord as AWord};
 
+use crate::setup::WIDTH;
 use blk_bio::MAX_SEGMENTS;
 use blk_lists::fault::Why;
-use blk_lists::fields::{ANY, Slot, TAG, WIDTH, field, read_fields, without_word};
+use blk_lists::fields::{ANY, Slot, TAG, field, read_fields, without_word};
 use blk_lists::items::LineForm;
 use blk_trace::Event;
 use csv::ByteRecord;
@@ -37,6 +38,29 @@ pub(crate) enum EventWord {
     Depth,
 }
 
+const BLANK: Slot = Slot::Blank;
+
+/// A tick has its word alone.
+pub const TICK: [Slot; WIDTH] = [Slot::Given, BLANK, BLANK, BLANK, BLANK, BLANK];
+
+/// A release and a join have the id of a request, and how many bios follow.
+pub const GROUP: [Slot; WIDTH] = [Slot::Given, ANY, BIOS, BLANK, BLANK, BLANK];
+
+/// How many bios a group has.
+const BIOS: Slot = Slot::Number {
+    least: 1,
+    most: MAX_SEGMENTS,
+};
+
+/// An issue has the id of a request and the tag that it goes out under.
+pub const ISSUE: [Slot; WIDTH] = [Slot::Given, ANY, TAG, BLANK, BLANK, BLANK];
+
+/// What ends an issue has its tag.
+pub const END: [Slot; WIDTH] = [Slot::Given, TAG, BLANK, BLANK, BLANK, BLANK];
+
+/// What sets a depth has the depth, of any size.
+pub const DEPTH: [Slot; WIDTH] = [Slot::Given, ANY, BLANK, BLANK, BLANK, BLANK];
+
 /// The first records of the events of a version. Each tells the event with the number of the bios that follow, 1 to
 /// [`MAX_SEGMENTS`], in place of a request.
 #[derive(Clone, Copy, Drop)]
@@ -49,26 +73,20 @@ pub(crate) struct HeadForm {
 fn row_of(version: u64, field: &[u8]) -> Option<(EventWord, [Slot; WIDTH])>
     ensures { MatchOption result ((k : AWord) → EventStandsIn version k → ¬ (field.now ≡ word_of k)) (λ r. EventStandsIn version r.0 × (field.now ≡ word_of r.0) × (r.1 ≡ slot.Given ∷ slots_by (head_cells r.0))) }
 {
-    let bios = Slot::Number {
-        least: 1,
-        most: MAX_SEGMENTS,
-    };
-    let none = Slot::Blank;
-    let word = Slot::Given;
     if field == b"tick".as_slice() {
-        Some((EventWord::Tick, [word, none, none, none, none, none]))
+        Some((EventWord::Tick, TICK))
     } else if field == b"release".as_slice() {
-        Some((EventWord::Release, [word, ANY, bios, none, none, none]))
+        Some((EventWord::Release, GROUP))
     } else if field == b"join".as_slice() {
-        Some((EventWord::Join, [word, ANY, bios, none, none, none]))
+        Some((EventWord::Join, GROUP))
     } else if field == b"issue".as_slice() {
-        Some((EventWord::Issue, [word, ANY, TAG, none, none, none]))
+        Some((EventWord::Issue, ISSUE))
     } else if field == b"done".as_slice() {
-        Some((EventWord::Done, [word, TAG, none, none, none, none]))
+        Some((EventWord::Done, END))
     } else if field == b"back".as_slice() {
-        Some((EventWord::Back, [word, TAG, none, none, none, none]))
+        Some((EventWord::Back, END))
     } else if version >= 2 && field == b"depth".as_slice() {
-        Some((EventWord::Depth, [word, ANY, none, none, none, none]))
+        Some((EventWord::Depth, DEPTH))
     } else {
         None
     }

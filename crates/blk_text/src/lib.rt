@@ -1,6 +1,7 @@
 //! The text forms of scripts and traces, their readers, and how a trace is written.
 #![tactic(auto)]
 
+mod bios;
 mod events;
 mod groups;
 mod heads;

@@ -1,24 +1,22 @@
 //! Scripts.
 
-ghost use Rattle.std.specs.Prelude.{◌≡◌, ◌⊎◌, ◌+◌, ◌≤◌, ◌<◌, ◌∷◌, ℕ, IfOk, IfErr, IfSome, MatchOption, codes, length};
+ghost use Rattle.std.specs.Prelude.{◌≡◌, ◌⊎◌, ◌+◌, ◌≤◌, ◌<◌, ◌∷◌, IfOk, IfErr, IfSome, MatchOption, length};
 ghost use Rattle.csv.specs.Records.{fields_of};
 ghost use Rattle.blk_lists.specs.Reads.{IsOutside, IsRowOf, IsWrongLine, Reaches};
 ghost use Rattle.blk_lists.specs.Tables.{slots_by};
 ghost use Rattle.blk_lists.specs.Words.{StartsWith};
 ghost use Rattle.blk_lists.specs.Fields.{FieldsSpell};
-ghost use Rattle.blk_text.specs.BioRecord.{bio_row};
-ghost use Rattle.blk_bio.specs.Letters.{direction_text};
-ghost use Rattle.blk_text.specs.Script.{StepStandsIn, word_of, step_cells, step, LineFits, IsScript, SpellsScript, ScriptFault, scripted, script_form};
+ghost use Rattle.blk_text.specs.Script.{StepStandsIn, word_of, step_cells, step, IsScript, SpellsScript, ScriptFault, scripted, script_form};
 ghost use Rattle.blk_bio.specs.declared.limits.TheConstants.{MAX_QUEUES as ALL_QUEUES, MAX_SOFT_QUEUES as MAX_SUBMITTERS};
 ghost use Rattle.blk_lists.specs.declared.fields.Slot.TheVariants as slot;
 ghost use Rattle.blk_text.specs.declared.script.Word.{Word as AWord};
 
-use crate::setup::{LATEST, SetupForm, most_tags};
-use blk_bio::{Bio, BioId, Dir, MAX_QUEUES, MAX_SOFT_DEPTH, MAX_SOFT_QUEUES};
+use crate::bios::read_bio;
+use crate::heads::{DEPTH, END, TICK};
+use crate::setup::{LATEST, SetupForm, WIDTH, most_tags};
+use blk_bio::{Bio, MAX_QUEUES, MAX_SOFT_DEPTH, MAX_SOFT_QUEUES};
 use blk_lists::fault::{TextFault, Why};
-use blk_lists::fields::{
-    ANY, Slot, TAG, WIDTH, direction_of, field, parse_number, read_fields, version_of, without_word,
-};
+use blk_lists::fields::{ANY, Slot, TAG, field, read_fields, version_of, without_word};
 use blk_lists::items::{LineForm, read_line, read_lines};
 use blk_lists::source::Records;
 use blk_trace::{MAX_EVENTS, Setup};
@@ -151,84 +149,44 @@ fn step_slots(form: &StepForm, word: Word) -> [Slot; WIDTH]
         Word::Flush => [Slot::Given, submitter, none, none, none, none],
         Word::Drain => [Slot::Given, hw, none, none, none, none],
         Word::Issue => [Slot::Given, hw, TAG, none, none, none],
-        Word::Done => [Slot::Given, TAG, none, none, none, none],
-        Word::Back => [Slot::Given, TAG, none, none, none, none],
-        Word::Depth => [Slot::Given, ANY, none, none, none, none],
-        Word::Tick => [Slot::Given, none, none, none, none, none],
+        Word::Done => END,
+        Word::Back => END,
+        Word::Depth => DEPTH,
+        Word::Tick => TICK,
         Word::Run => [Slot::Given, rounds, none, none, none, none],
     }
 }
 
-/// The step of a record whose fields are right for its word.
-fn step_of(
-    form: &StepForm,
-    word: Word,
-    row: &ByteRecord,
-    numbers: &[u64; WIDTH],
-) -> Result<Line, Why>
+/// The step of a record whose fields are right for its word, which is not that of a bio.
+fn step_of(form: &StepForm, word: Word, row: &ByteRecord, numbers: &[u64; WIDTH]) -> Line
+    requires other { ¬ (word ≡ Word.Bio) }
     requires stands { StepStandsIn form.now.version word }
     requires starts { StartsWith (word_of word) (fields_of row.now) }
     requires spells { FieldsSpell (slot.Given ∷ slots_by (step_cells form.now.hw form.now.submitters word)) (fields_of row.now) numbers.now }
-    ensures ok { IfOk result (IsRowOf (step form.now.version form.now.hw form.now.submitters) (fields_of row.now)) }
-    ensures err { IfErr result (IsWrongLine (step form.now.version form.now.hw form.now.submitters) (fields_of row.now)) }
+    ensures { IsRowOf (step form.now.version form.now.hw form.now.submitters) (fields_of row.now) result }
 {
     match word {
-        Word::Bio => {
-            let id = BioId {
-                submitter: numbers[1] as u8,
-                serial: numbers[2],
-            };
-            match Bio::new(id, direction_of(field(row, 3)), numbers[4], numbers[5]) {
-                Ok(bio) => Ok(Line::Bio(bio)),
-                Err(fault) => Err(Why::Bio(fault)),
-            }
-        }
-        Word::Flush => Ok(Line::Flush(numbers[1] as u8)),
-        Word::Drain => Ok(Line::Drain {
+        Word::Bio => unreachable!(),
+        Word::Flush => Line::Flush(numbers[1] as u8),
+        Word::Drain => Line::Drain {
             hw: numbers[1] as u8,
-        }),
-        Word::Issue => Ok(Line::Issue {
+        },
+        Word::Issue => Line::Issue {
             hw: numbers[1] as u8,
             tag: numbers[2] as u16,
-        }),
-        Word::Done => Ok(Line::Done(numbers[1] as u16)),
-        Word::Back => Ok(Line::Back(numbers[1] as u16)),
-        Word::Depth => Ok(Line::Depth(numbers[1])),
-        Word::Tick => Ok(Line::Tick),
-        Word::Run => Ok(Line::Run(numbers[1])),
+        },
+        Word::Done => Line::Done(numbers[1] as u16),
+        Word::Back => Line::Back(numbers[1] as u16),
+        Word::Depth => Line::Depth(numbers[1]),
+        Word::Tick => Line::Tick,
+        Word::Run => Line::Run(numbers[1]),
     }
 }
 
-/// The bio of a record that begins with its word, where the record has no fault. Most records of a script spell a
-/// bio, so its fields are read without their slots.
-fn bio_of(form: &StepForm, row: &ByteRecord) -> Option<Bio>
-    requires { StartsWith (codes "bio") (fields_of row.now) }
-    ensures { IfSome result (λ b. (fields_of row.now ≡ bio_row b) × LineFits form.now.hw form.now.submitters (Line.Bio b)) }
-{
-    if row.len() != WIDTH {
-        return None;
-    }
-    let submitter = parse_number(field(row, 1))?;
-    let serial = parse_number(field(row, 2))?;
-    let dir = Dir::of_letter(field(row, 3))?;
-    let first = parse_number(field(row, 4))?;
-    let sectors = parse_number(field(row, 5))?;
-    if submitter >= form.submitters {
-        return None;
-    }
-    let id = BioId {
-        submitter: submitter as u8,
-        serial,
-    };
-    match Bio::new(id, dir, first, sectors) {
-        Ok(bio) => Some(bio),
-        Err(_) => None,
-    }
-}
-
-/// The step of a record that begins with a word, by the slots of the word.
+/// The step of a record that begins with a word, which is not that of a bio, by the slots of the word.
 #[inline(never)]
 fn slotted_line(form: &StepForm, word: Word, row: &ByteRecord) -> Result<Line, Why>
+    requires other { ¬ (word ≡ Word.Bio) }
     requires stands { StepStandsIn form.now.version word }
     requires starts { StartsWith (word_of word) (fields_of row.now) }
     ensures ok { IfOk result (IsRowOf (step form.now.version form.now.hw form.now.submitters) (fields_of row.now)) }
@@ -236,7 +194,7 @@ fn slotted_line(form: &StepForm, word: Word, row: &ByteRecord) -> Result<Line, W
 {
     let slots = step_slots(form, word);
     match read_fields(row, &slots) {
-        Ok(numbers) => step_of(form, word, row, &numbers),
+        Ok(numbers) => Ok(step_of(form, word, row, &numbers)),
         Err(why) => Err(why),
     }
 }
@@ -257,9 +215,10 @@ impl LineForm for StepForm {
             return Err(without_word(row, WIDTH));
         };
         if word == Word::Bio {
-            if let Some(bio) = bio_of(self, row) {
-                return Ok(Line::Bio(bio));
-            }
+            return match read_bio(row, self.submitters) {
+                Ok(bio) => Ok(Line::Bio(bio)),
+                Err(why) => Err(why),
+            };
         }
         slotted_line(self, word, row)
     }

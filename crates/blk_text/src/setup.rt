@@ -14,10 +14,13 @@ ghost use Rattle.blk_lists.specs.declared.fields.Slot.TheVariants as slot;
 
 use blk_bio::{Limits, MAX_QUEUES, MAX_SECTORS, MAX_SEGMENTS};
 use blk_lists::fault::Why;
-use blk_lists::fields::{Slot, WIDTH, begins_with, read_fields, without_word};
+use blk_lists::fields::{Slot, begins_with, read_fields, without_word};
 use blk_lists::items::LineForm;
 use blk_trace::{MAX_DEPTH, MAX_EXPIRIES, Setup};
 use csv::ByteRecord;
+
+/// How many fields a record of a script and of a trace has.
+pub const WIDTH: usize = 6;
 
 /// The latest version of scripts and of traces, which is written.
 pub const LATEST: u64 = 2;
@@ -34,6 +37,29 @@ pub fn most_tags(version: u64) -> u64
         _ => MAX_DEPTH,
     }
 }
+
+/// A number of rounds after which a request is due.
+const EXPIRY: Slot = Slot::Number {
+    least: 0,
+    most: MAX_EXPIRIES - 1,
+};
+
+/// The fields of a setup: the word, the expiries of reads and of writes, the most sectors and segments of a request, and an
+/// empty one.
+pub const SETUP: [Slot; WIDTH] = [
+    Slot::Given,
+    EXPIRY,
+    EXPIRY,
+    Slot::Number {
+        least: 1,
+        most: MAX_SECTORS,
+    },
+    Slot::Number {
+        least: 1,
+        most: MAX_SEGMENTS,
+    },
+    Slot::Blank,
+];
 
 /// The setup of the numbers of a record.
 fn setup_with(row: &ByteRecord, depth: u64, hw: u8, numbers: &[u64; WIDTH]) -> Setup
@@ -62,25 +88,7 @@ fn setup_at(row: &ByteRecord, depth: u64, hw: u8) -> Result<Setup, Why>
     if !begins_with(row, b"setup") {
         return Err(without_word(row, WIDTH));
     }
-    let expire = Slot::Number {
-        least: 0,
-        most: MAX_EXPIRIES - 1,
-    };
-    let slots = [
-        Slot::Given,
-        expire,
-        expire,
-        Slot::Number {
-            least: 1,
-            most: MAX_SECTORS,
-        },
-        Slot::Number {
-            least: 1,
-            most: MAX_SEGMENTS,
-        },
-        Slot::Blank,
-    ];
-    match read_fields(row, &slots) {
+    match read_fields(row, &SETUP) {
         Ok(numbers) => Ok(setup_with(row, depth, hw, &numbers)),
         Err(why) => Err(why),
     }

@@ -1,6 +1,6 @@
 //! Traces.
 
-ghost use Rattle.std.specs.Prelude.{◌≡◌, ◌⊎◌, ◌++◌, ◌∷◌, ◌≤◌, [], All, OnOk, IfOk, IfErr, decimal, length, codes};
+ghost use Rattle.std.specs.Prelude.{◌≡◌, ◌⊎◌, ◌++◌, ◌∷◌, ◌≤◌, [], All, OnOk, IfOk, IfErr, length};
 ghost use Rattle.std.specs.Io.KnownBytes.{Appends};
 ghost use Rattle.blk_trace.specs.Events.{bios_of};
 ghost use Rattle.blk_lists.specs.Texts.{rows_text};
@@ -9,14 +9,15 @@ ghost use Rattle.blk_text.specs.BioRecord.{bio_row};
 ghost use Rattle.blk_lists.specs.Cells.{IsPlainWord};
 ghost use Rattle.drafts.specs.Drafts.{drafted};
 ghost use Rattle.blk_text.specs.SetupRecord.{setup_row, IsWholeSetup};
-ghost use Rattle.blk_text.specs.TraceRecords.{word_row, group_rows, event_rows, title_row, trace_rows, BioFits, EventFits, IsTrace};
+ghost use Rattle.blk_text.specs.TraceRecords.{group_rows, event_rows, trace_rows, BioFits, EventFits, IsTrace};
 ghost use Rattle.blk_text.specs.TraceForm.{SpellsTrace, SpellsTraceIn};
 ghost use Rattle.blk_text.specs.Versions.{latest};
 
 use crate::setup::LATEST;
 use blk_bio::{Bio, MAX_SEGMENTS, Request};
+use blk_lists::writing::push_row;
 use blk_trace::{Event, Setup, Trace};
-use drafts::pieces::{put, put_number, put_two};
+use drafts::pieces::{put, put_two};
 use drafts::{Block, WriteFault, write_whole};
 use std::alloc::{AllocError, Allocator, Global};
 use std::io::Write;
@@ -38,46 +39,6 @@ fn push_bio(draft: &mut Block, bio: &Bio) -> Result<(), AllocError>
     Ok(())
 }
 
-/// Adds a record of a word and two numbers.
-#[inline(always)]
-fn push_numbers(draft: &mut Block, word: &[u8], first: u64, second: u64) -> Result<(), AllocError>
-    requires { IsPlainWord word.now }
-    ensures text { OnOk result (drafted draft.new ≡ drafted draft.old ++ rows_text (word_row word.now (decimal first) (decimal second) ∷ [])) }
-{
-    let start = draft.room()?;
-    let buf = &mut draft.block;
-    let head = put(word, buf, start);
-    let mark = put(b",", buf, head);
-    let end = put_two(first, second, buf, mark);
-    draft.at = put(b",,,\n", buf, end);
-    Ok(())
-}
-
-/// Adds a record of a word and a number.
-#[inline(always)]
-fn push_number(draft: &mut Block, word: &[u8], number: u64) -> Result<(), AllocError>
-    requires { IsPlainWord word.now }
-    ensures text { OnOk result (drafted draft.new ≡ drafted draft.old ++ rows_text (word_row word.now (decimal number) [] ∷ [])) }
-{
-    let start = draft.room()?;
-    let buf = &mut draft.block;
-    let head = put(word, buf, start);
-    let mark = put(b",", buf, head);
-    let end = put_number(number, buf, mark);
-    draft.at = put(b",,,,\n", buf, end);
-    Ok(())
-}
-
-/// Adds the record of the end of a round.
-#[inline]
-fn push_tick(draft: &mut Block) -> Result<(), AllocError>
-    ensures text { OnOk result (drafted draft.new ≡ drafted draft.old ++ rows_text (word_row (codes "tick") [] [] ∷ [])) }
-{
-    let start = draft.room()?;
-    draft.at = put(b"tick,,,,,\n", &mut draft.block, start);
-    Ok(())
-}
-
 /// Adds the records of a group: its own, and those of its bios.
 #[inline(always)]
 fn push_group(draft: &mut Block, word: &[u8], id: u64, bios: &[Bio]) -> Result<(), AllocError>
@@ -85,7 +46,7 @@ fn push_group(draft: &mut Block, word: &[u8], id: u64, bios: &[Bio]) -> Result<(
     ensures text { OnOk result (drafted draft.new ≡ drafted draft.old ++ rows_text (group_rows word.now id bios.now)) }
     ensures fits { OnOk result (All BioFits bios.now) }
 {
-    push_numbers(draft, word, id, bios.len() as u64)?;
+    push_row(draft, word, &[id, bios.len() as u64], 3)?;
     for i in 0..bios.len() {
         push_bio(draft, &bios[i])?;
     }
@@ -102,28 +63,14 @@ fn push_event<A: Allocator + Clone>(
     ensures fits { OnOk result (EventFits event.now) }
 {
     match event {
-        Event::Tick => push_tick(draft),
+        Event::Tick => push_row(draft, b"tick", &[], 5),
         Event::Release { id, request } => push_group(draft, b"release", *id, request.bios()),
         Event::Join { id, request } => push_group(draft, b"join", *id, request.bios()),
-        Event::Issue { id, tag } => push_numbers(draft, b"issue", *id, *tag as u64),
-        Event::Done { tag } => push_number(draft, b"done", *tag as u64),
-        Event::Back { tag } => push_number(draft, b"back", *tag as u64),
-        Event::Depth { depth } => push_number(draft, b"depth", *depth),
+        Event::Issue { id, tag } => push_row(draft, b"issue", &[*id, *tag as u64], 3),
+        Event::Done { tag } => push_row(draft, b"done", &[*tag as u64], 4),
+        Event::Back { tag } => push_row(draft, b"back", &[*tag as u64], 4),
+        Event::Depth { depth } => push_row(draft, b"depth", &[*depth], 4),
     }
-}
-
-/// Adds the title record.
-fn push_title(draft: &mut Block, setup: &Setup, count: u64) -> Result<(), AllocError>
-    ensures text { OnOk result (drafted draft.new ≡ drafted draft.old ++ rows_text (title_row setup.now count ∷ [])) }
-{
-    let start = draft.room()?;
-    let buf = &mut draft.block;
-    let head = put(b"blk-trace,", buf, start);
-    let tags = put_two(LATEST, setup.depth(), buf, head);
-    let mark = put(b",", buf, tags);
-    let end = put_two(setup.hw() as u64, count, buf, mark);
-    draft.at = put(b",\n", buf, end);
-    Ok(())
 }
 
 /// Adds the setup record.
@@ -131,15 +78,14 @@ fn push_setup(draft: &mut Block, setup: &Setup) -> Result<(), AllocError>
     ensures text { OnOk result (drafted draft.new ≡ drafted draft.old ++ rows_text (setup_row setup.now ∷ [])) }
     ensures whole { OnOk result (IsWholeSetup setup.now) }
 {
-    let start = draft.room()?;
     let limits = setup.limits();
-    let buf = &mut draft.block;
-    let head = put(b"setup,", buf, start);
-    let expiries = put_two(setup.read_expire(), setup.write_expire(), buf, head);
-    let mark = put(b",", buf, expiries);
-    let end = put_two(limits.max_sectors(), limits.max_segments(), buf, mark);
-    draft.at = put(b",\n", buf, end);
-    Ok(())
+    let numbers = [
+        setup.read_expire(),
+        setup.write_expire(),
+        limits.max_sectors(),
+        limits.max_segments(),
+    ];
+    push_row(draft, b"setup", &numbers, 1)
 }
 
 /// The text of a trace.
@@ -150,7 +96,13 @@ fn trace_text<A: Allocator + Clone>(alloc: Global, trace: &Trace<A>) -> Result<V
     let mut draft = Block::new(alloc);
     let setup = trace.setup();
     let events = trace.events();
-    push_title(&mut draft, &setup, events.len() as u64)?;
+    let numbers = [
+        LATEST,
+        setup.depth(),
+        setup.hw() as u64,
+        events.len() as u64,
+    ];
+    push_row(&mut draft, b"blk-trace", &numbers, 1)?;
     push_setup(&mut draft, &setup)?;
     for i in 0..events.len() {
         push_event(&mut draft, &events[i])?;

@@ -2,7 +2,7 @@
 
 use blk_lists::{
     Proof, Records, TextFault, Why, read_certificate, read_commands, read_met, read_proof,
-    write_certificate, write_commands, write_met,
+    read_schedule, write_certificate, write_commands, write_met, write_schedule,
 };
 use blk_text::{read_script, read_trace, write_trace};
 use drafts::WriteFault;
@@ -23,6 +23,8 @@ pub enum Form {
     Met,
     /// A certificate of either form.
     Proof,
+    /// A schedule.
+    Schedule,
     /// A trace.
     Trace,
 }
@@ -36,6 +38,7 @@ pub fn fault_of<R: Read + Drop>(alloc: Global, form: Form, reader: R) -> Option<
         Form::Certificate => read_certificate(alloc, records).err(),
         Form::Met => read_met(alloc, records).err(),
         Form::Proof => read_proof(alloc, records).err(),
+        Form::Schedule => read_schedule(alloc, records).err(),
         Form::Trace => read_trace(alloc, records).err(),
     }
 }
@@ -76,6 +79,10 @@ fn rewrite<W: Write>(
         Form::Proof => match read_proof(alloc, records) {
             Ok(Proof::Lateness(certificate)) => Some(write_certificate(alloc, &certificate, out)),
             Ok(Proof::Met(certificate)) => Some(write_met(alloc, &certificate, out)),
+            Err(_) => None,
+        },
+        Form::Schedule => match read_schedule(alloc, records) {
+            Ok(schedule) => Some(write_schedule(alloc, &schedule, out)),
             Err(_) => None,
         },
         Form::Trace => match read_trace(alloc, records) {

@@ -22,6 +22,11 @@ fn laws_hold() {
     blk_lists::laws::a_proof_is_spelled_or_has_a_fault();
     blk_lists::laws::spelled_proofs_have_no_fault();
     blk_lists::laws::a_proof_has_one_fault();
+    blk_lists::laws::schedules_are_spelled_once();
+    blk_lists::laws::schedules_read_back();
+    blk_lists::laws::a_schedule_is_spelled_or_has_a_fault();
+    blk_lists::laws::spelled_schedules_have_no_fault();
+    blk_lists::laws::a_schedule_has_one_fault();
     blk_text::laws::scripts_are_spelled_once();
     blk_text::laws::scripts_read_back();
     blk_text::laws::a_script_is_spelled_or_has_a_fault();

@@ -10,6 +10,8 @@ mod laws;
 #[cfg(test)]
 mod met;
 #[cfg(test)]
+mod schedules;
+#[cfg(test)]
 mod streams;
 #[cfg(test)]
 mod texts;

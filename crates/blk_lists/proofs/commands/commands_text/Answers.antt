@@ -10,13 +10,13 @@ use Rattle.blk_lists.proofs.commands.commands_text.Goals as goal
 pub loop-i-init : goal.loop-i-init
 loop-i-init c =
     record {
-      text = one_first (title_by (codes "blk-commands") depth_cells (1, c.args.depth)) (drafted c.new-draft.result) (drafted c.push_title.new.draft) c.new-draft.ensures c.in_ok-push_title.ensures.text;
+      text = one_first (title_by (codes "blk-commands") depth_cells (1, c.args.depth)) (drafted c.new-draft.result) (drafted c.push_row.new.draft) c.new-draft.ensures c.in_ok-push_row.ensures.text;
     }
 
 pub loop-i-preserved : goal.loop-i-preserved
 loop-i-preserved c = record {
   text = one_more_at (λ c. row_by command_cells c ∷ []) [] (title_by (codes "blk-commands") depth_cells (1, c.args.depth) ∷ []) c.args.commands.now c.loop-i.i (record { id = 0; release = 0; due = 0 })
-      (drafted c.loop-i.draft) (drafted c.push_command.new.draft) c.loop-i-test.true c.loop-i.invariant.text c.in_ok-push_command.ensures.text;
+      (drafted c.loop-i.draft) (drafted c.push_numbers.new.draft) c.loop-i-test.true c.loop-i.invariant.text c.in_ok-push_numbers.ensures.text;
 }
 
 pub returns : goal.returns

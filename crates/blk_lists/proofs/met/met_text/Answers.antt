@@ -20,7 +20,7 @@ returns c =
     let numbers = numbers_row (certificate.met, length certificate.cover.items) in
     let windows = map window_row certificate.cover.items in
     let lines = map (row_by served_cells) (zip certificate.commands.items certificate.rounds.items) in
-    let first = two_first title (numbers ∷ []) (drafted c.new-draft.result) (drafted c.push_title.new.draft) (drafted c.push_numbers.new.draft) c.new-draft.ensures (rw commands at c.in_ok-push_title.ensures.text) (rw cover at c.in_ok-push_numbers.ensures.text) in
+    let first = two_first title (numbers ∷ []) (drafted c.new-draft.result) (drafted c.push_row.new.draft) (drafted c.push_row-2.new.draft) c.new-draft.ensures (rw commands at c.in_ok-push_row.ensures.text) (rw cover at c.in_ok-push_row-2.ensures.text) in
     let second : drafted c.push_cover.new.draft ≡ rows_text ((title ∷ numbers ∷ []) ++ windows) =
     rw cover at c.in_ok-push_cover.ensures.text ∙ ap (λ (k : List ℕ). k ++ rows_text windows) first ∙ sym (rows_text-append (title ∷ numbers ∷ []) windows) in
     let third : drafted c.push_schedule.new.draft ≡ rows_text (((title ∷ numbers ∷ []) ++ windows) ++ lines) =

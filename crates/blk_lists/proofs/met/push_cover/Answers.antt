@@ -9,8 +9,8 @@ loop-i-init c = record { text = none_first (drafted c.args.draft.now) }
 
 pub loop-i-preserved : goal.loop-i-preserved
 loop-i-preserved c = record {
-  text = one_more_at (λ w. window_row w ∷ []) (drafted c.args.draft.now) [] c.args.cover.now c.loop-i.i (record { from = 0; due = 0 }) (drafted c.loop-i.draft) (drafted c.push_window.new.draft)
-      c.loop-i-test.true c.loop-i.invariant.text c.in_ok-push_window.ensures.text;
+  text = one_more_at (λ w. window_row w ∷ []) (drafted c.args.draft.now) [] c.args.cover.now c.loop-i.i (record { from = 0; due = 0 }) (drafted c.loop-i.draft) (drafted c.push_row.new.draft)
+      c.loop-i-test.true c.loop-i.invariant.text c.in_ok-push_row.ensures.text;
 }
 
 pub returns : goal.returns

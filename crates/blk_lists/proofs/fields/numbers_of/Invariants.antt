@@ -1,8 +1,0 @@
-use Rattle.std.proofs.Common.{◌<◌, ◌≡◌, ℕ, [], get_or, length}
-use Rattle.csv.specs.Records.{fields_of}
-use Rattle.blk_lists.specs.Fields.{NumberOf}
-use Rattle.blk_lists.specs.declared.fields.Slot.TheVariants.{Given}
-use Rattle.blk_lists.proofs.fields.numbers_of.Given as goal
-
-abbrev pub invariant-loop-i : goal.invariant-loop-i
-invariant-loop-i l = (length l.numbers ≡ 6) × ((k : ℕ) → k < l.i → NumberOf (get_or l.slots k Given) (get_or (fields_of l.row) k []) (get_or l.numbers k 0))

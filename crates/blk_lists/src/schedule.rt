@@ -1,0 +1,252 @@
+//! Schedules, by whatever scheduler.
+
+ghost use Rattle.std.specs.Prelude.{◌≡◌, ◌⊎◌, ◌+◌, ◌≤◌, ◌<◌, ◌-◌, ◌^◌, ◌++◌, ◌∷◌, [], List, IfOk, IfErr, IfSome, OnOk, length};
+ghost use Rattle.std.specs.Io.KnownBytes.{Appends};
+ghost use Rattle.csv.specs.Records.{fields_of};
+ghost use Rattle.parts.specs.Parts.{Begins, over};
+ghost use Rattle.blk_lists.specs.Sources.{Row};
+ghost use Rattle.blk_lists.specs.Reads.{IsOutside, Halts, Reaches};
+ghost use Rattle.blk_lists.specs.Texts.{rows_text};
+ghost use Rattle.drafts.specs.Parts.{AppendsPart};
+ghost use Rattle.blk_lists.specs.Schedule.{ran_of, ran_form, ran_body, ran_rows, new_record, AreFit, HasIds, IsNew, IsRan, SpellsSchedule, ScheduleFault};
+
+use crate::certificate::{ServedForm, push_schedule, split};
+use crate::fault::{TextFault, Why};
+use crate::items::{ItemForm, LineForm, gather, read_line};
+use crate::source::Records;
+use crate::titles::CountedTitle;
+use crate::writing::push_row;
+use csv::ByteRecord;
+use drafts::{Block, WriteFault, write_whole};
+use edd_check::{Command, MAX_COMMANDS};
+use parts::Repeats;
+use std::alloc::{AllocError, Global};
+use std::collections::BTreeSet;
+use std::io::{Read, Write};
+
+/// The title record.
+const TITLE: CountedTitle = CountedTitle {
+    name: b"blk-schedule",
+};
+
+/// A schedule of commands, of which nothing is claimed.
+#[derive(Debug, Drop)]
+pub struct Schedule {
+    /// How many commands a round has room for.
+    pub depth: u64,
+    /// The commands by the order of their records, each by its id and its release and due rounds.
+    pub commands: Vec<Command>,
+    /// The round of each command, by its place.
+    pub rounds: Vec<u64>,
+}
+
+/// The commands that were read, each with its round, and their ids.
+#[derive(Drop)]
+pub(crate) struct Known {
+    served: Vec<(Command, u64)>,
+    ids: BTreeSet<u64>,
+}
+
+/// Adds a command, where none before has its id.
+fn add(known: &mut Known, served: (Command, u64)) -> Result<(), Why>
+    requires { HasIds known.old }
+    ensures ok { OnOk result (HasIds known.new × (known.new.served.items ≡ known.old.served.items ++ served ∷ []) × IsNew known.old.served.items served) }
+    ensures err { IfErr result (λ w. (w ≡ Why.Memory) ⊎ ((w ≡ Why.RepeatedId) × ¬ IsNew known.old.served.items served)) }
+{
+    match known.ids.insert(served.0.id) {
+        Ok(true) => {}
+        Ok(false) => return Err(Why::RepeatedId),
+        Err(_) => return Err(Why::Memory),
+    }
+    match known.served.push(served) {
+        Ok(()) => Ok(()),
+        Err(_) => Err(Why::Memory),
+    }
+}
+
+/// The commands of a schedule, each with its round.
+#[derive(Clone, Copy, Drop)]
+struct NewForm;
+
+impl ItemForm for NewForm {
+    ghost use Rattle.std.specs.Prelude.{ℕ};
+    ghost use Rattle.edd_check.specs.declared.Command.{Command as ACommand};
+    ghost use Rattle.blk_lists.specs.Schedule.{new_record, HasIds};
+
+    type Items = Known;
+
+    ghost View = { ACommand × ℕ };
+
+    ghost seen = { λ k. k.served.items };
+
+    ghost part = { λ _ before. new_record before };
+
+    ghost suits = { λ _ k. HasIds k };
+
+    ghost more = { 0 };
+
+    #[tactic(auto, using(crate::proofs::ScheduleLaws::new_gone))]
+    fn gone(&self, items: &Known) -> Why {
+        let _ = items;
+        Why::Count
+    }
+
+    fn read<R: Read + Drop>(
+        &self,
+        alloc: Global,
+        records: &mut Records<R>,
+        items: &mut Known,
+    ) -> Result<(), TextFault> {
+        let _ = alloc;
+        let form = ServedForm;
+        let served = match form.line(records.row()) {
+            Ok(served) => served,
+            Err(why) => return Err(records.fault(why)),
+        };
+        match add(items, served) {
+            Ok(()) => Ok(()),
+            Err(why) => Err(records.fault(why)),
+        }
+    }
+}
+
+/// What is wrong with a record after all commands: its own fault, that its id stood before, and else that it is one
+/// too many.
+fn past_fault(row: &ByteRecord, known: &mut Known) -> Why
+    requires { HasIds known.old }
+    ensures { (result ≡ Why.Memory) ⊎ ((rest : List Row) → (over Why.Count (new_record known.old.served.items)).Wrong (fields_of row.now ∷ rest) 1 result) }
+{
+    let form = ServedForm;
+    let served = match form.line(row) {
+        Ok(served) => served,
+        Err(why) => return why,
+    };
+    match add(known, served) {
+        Ok(()) => Why::Count,
+        Err(why) => why,
+    }
+}
+
+/// So many commands with their rounds, to the end of the text.
+fn read_new<R: Read + Drop>(
+    alloc: Global,
+    records: &mut Records<R>,
+    count: u64,
+) -> Result<Vec<(Command, u64)>, TextFault>
+    requires { records.old.at + count + 1 < 2 ^ 64 - 1 }
+    ensures ok { IfOk result (λ v. IfSome records.old.left (λ rows. Begins (ran_body count) rows v.items [])) }
+    ensures err { IfErr result (λ f. Halts records.new.failed (ran_body count) records.old.left records.old.at f.at f.why) }
+    ensures last { IfErr result (λ f. f.at ≡ records.new.at) }
+    ensures fit { IfOk result (λ v. AreFit v.items × (length v.items ≡ count)) }
+    ensures reads { (records.old.at < records.new.at) × (records.new.at ≤ records.old.at + count + 1) }
+    ensures end { IfOk result (λ v. records.new.at ≡ records.old.at + length v.items + 1) }
+{
+    let mut known = Known {
+        served: Vec::new(alloc),
+        ids: BTreeSet::new(alloc),
+    };
+    match gather(
+        alloc,
+        records,
+        &NewForm,
+        Repeats::Exactly(count),
+        &mut known,
+    ) {
+        Ok(true) => unreachable!(),
+        Ok(false) => {}
+        Err(fault) => return Err(fault),
+    }
+    match records.advance() {
+        Ok(true) => {}
+        Ok(false) => return Ok(known.served),
+        Err(fault) => return Err(fault),
+    }
+    let why = past_fault(records.row(), &mut known);
+    Err(records.fault(why))
+}
+
+/// The schedule of a text of records of four fields: a title with the depth, 1 to 256, and the number of commands, and each
+/// command with its round, by any order. No record was read before.
+///
+/// Whether the schedule is legal isn't looked at. The fault is the first one: of the least record, and in it the first in the
+/// order of [`Why`]; an id that stood before is [`Why::RepeatedId`] at the later record. [`Why::Read`] and [`Why::Memory`]
+/// come at the record that is being read. Fewer commands than announced is a fault one past the last record. No record is
+/// asked for past that of the fault, and never more than 1,000,002.
+pub fn read_schedule<R: Read + Drop>(
+    alloc: Global,
+    records: &mut Records<R>,
+) -> Result<Schedule, TextFault>
+    requires { records.old.at ≡ 0 }
+    ensures ok { IfOk result (λ s. IfSome records.old.left (λ rows. SpellsSchedule rows (ran_of s))) }
+    // also where the reader's bytes are not known
+    ensures in_range { IfOk result (λ s. IsRan (ran_of s)) }
+    // at the record that was asked for last: none was read past it
+    ensures last { IfErr result (λ f. f.at ≡ records.new.at) }
+    ensures err { IfErr result (λ f. IfSome records.old.left (λ rows.
+        IsOutside records.new.failed f.why ⊎ ScheduleFault rows f.at f.why)) }
+    // also where it came from outside: at most one past the last record, and no record before it is wrong
+    ensures reached { IfErr result (λ f. Reaches ran_form records.old.left 0 f.at) }
+    ensures reads { (1 ≤ records.new.at) × (records.new.at ≤ MAX_COMMANDS + 2) }
+    // the last thing that was asked for is the record after the commands, which there is not
+    ensures end { IfOk result (λ s. records.new.at ≡ length s.commands.items + 2) }
+{
+    let (_, (depth, count)) = match read_line(records, &TITLE) {
+        Ok(title) => title,
+        Err(fault) => return Err(fault),
+    };
+    let served = match read_new(alloc, records, count) {
+        Ok(served) => served,
+        Err(fault) => return Err(fault),
+    };
+    match split(alloc, served.as_slice()) {
+        Ok((commands, rounds)) => Ok(Schedule {
+            depth,
+            commands,
+            rounds,
+        }),
+        Err(AllocError) => Err(records.fault(Why::Memory)),
+    }
+}
+
+/// The text of a schedule.
+fn schedule_text(alloc: Global, schedule: &Schedule) -> Result<Vec<u8>, AllocError>
+    requires { IsRan (ran_of schedule.now) }
+    ensures { IfOk result (λ v. v.items ≡ rows_text (ran_rows (ran_of schedule.now))) }
+{
+    let mut draft = Block::new(alloc);
+    let commands = schedule.commands.as_slice();
+    push_row(
+        &mut draft,
+        b"blk-schedule",
+        &[1, schedule.depth, commands.len() as u64],
+        0,
+    )?;
+    push_schedule(&mut draft, commands, schedule.rounds.as_slice())?;
+    draft.finish()
+}
+
+/// Writes the text of a schedule, at once where all of it could be made.
+///
+/// There are at most 1,000,000 commands, no two of one id, with a round each, and the numbers lie in the ranges of the
+/// form: a depth of 1 to 256, releases below round 2^40, dues and rounds below 2^41.
+///
+/// [`WriteFault::Write`]: the writer answered a fault; what it took before, a first part of the text, is out, and
+/// nothing says how much that is. [`WriteFault::Memory`]: nothing was handed to the writer.
+pub fn write_schedule<W: Write>(
+    alloc: Global,
+    schedule: &Schedule,
+    writer: &mut W,
+) -> Result<(), WriteFault>
+    requires { IsRan (ran_of schedule.now) }
+    ensures ok { OnOk result (Appends (W.contents writer.old) (W.contents writer.new) (rows_text (ran_rows (ran_of schedule.now)))) }
+    // the records of that text spell it
+    ensures spells { SpellsSchedule (ran_rows (ran_of schedule.now)) (ran_of schedule.now) }
+    ensures memory { IfErr result (λ f. f ≡ WriteFault.Memory → writer.new ≡ writer.old) }
+    // whatever the answer
+    ensures part { AppendsPart (W.contents writer.old) (W.contents writer.new) (rows_text (ran_rows (ran_of schedule.now))) }
+{
+    match schedule_text(alloc, schedule) {
+        Ok(text) => write_whole(writer, text.as_slice()),
+        Err(AllocError) => Err(WriteFault::Memory),
+    }
+}

@@ -1,0 +1,62 @@
+//! Records that are written.
+
+ghost use Rattle.std.specs.Prelude.{◌≡◌, ◌+◌, ◌*◌, ◌++◌, ◌≤◌, ◌∷◌, [], OnOk, length, take, decimal};
+ghost use Rattle.drafts.specs.Drafts.{drafted};
+ghost use Rattle.blk_lists.specs.Cells.{IsPlainWord, number_cells, rest_of_line};
+ghost use Rattle.blk_lists.specs.Texts.{rows_text};
+
+use drafts::Block;
+use drafts::pieces::{put, put_number};
+use std::alloc::AllocError;
+
+/// Writes numbers and then so many empty fields, each after a comma, and a line end; says where that ends.
+#[inline(always)]
+fn put_rest(numbers: &[u64], blanks: usize, buf: &mut [u8], at: usize) -> usize
+    requires { at + 21 * length numbers.now + blanks + 1 ≤ length buf.old }
+    ensures end { result ≤ at + 21 * length numbers.now + blanks + 1 }
+    ensures written { take result buf.new ≡ take at buf.old ++ rest_of_line numbers.now blanks }
+{
+    let mut end = at;
+    for i in 0..numbers.len() {
+        let mark = put(b",", buf, end);
+        end = put_number(numbers[i], buf, mark);
+    }
+    for _ in 0..blanks {
+        end = put(b",", buf, end);
+    }
+    put(b"\n", buf, end)
+}
+
+/// Adds the record of a word, numbers and so many empty fields, of which there are five at most after the word.
+#[inline(always)]
+pub fn push_row(
+    draft: &mut Block,
+    word: &[u8],
+    numbers: &[u64],
+    blanks: usize,
+) -> Result<(), AllocError>
+    requires word { IsPlainWord word.now }
+    requires some { 1 ≤ length numbers.now + blanks }
+    requires few { length numbers.now + blanks ≤ 5 }
+    ensures text { OnOk result (drafted draft.new ≡ drafted draft.old ++ rows_text ((word.now ∷ number_cells numbers.now blanks) ∷ [])) }
+{
+    let start = draft.room()?;
+    let buf = &mut draft.block;
+    let head = put(word, buf, start);
+    draft.at = put_rest(numbers, blanks, buf, head);
+    Ok(())
+}
+
+/// Adds the record of numbers, of which there are six at most.
+#[inline(always)]
+pub fn push_numbers(draft: &mut Block, first: u64, others: &[u64]) -> Result<(), AllocError>
+    requires some { 1 ≤ length others.now }
+    requires few { length others.now ≤ 5 }
+    ensures text { OnOk result (drafted draft.new ≡ drafted draft.old ++ rows_text ((decimal first ∷ number_cells others.now 0) ∷ [])) }
+{
+    let start = draft.room()?;
+    let buf = &mut draft.block;
+    let head = put_number(first, buf, start);
+    draft.at = put_rest(others, 0, buf, head);
+    Ok(())
+}
