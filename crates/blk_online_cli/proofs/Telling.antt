@@ -2,7 +2,7 @@
 use Rattle.std.proofs.Common.{◌≡◌, ◌∙◌, ◌++◌, ◌⊎◌, ℕ, List, length, Option, Some, Bool, true, false, pos, All, sym, refl, ap, subst, inl, inr}
 use Rattle.std.proofs.lemmas.List.{append_cancel_left}
 use Rattle.csv.specs.Reading.{default_config, records, strip_bom}
-use Rattle.blk_lists.specs.Sources.{Row}
+use Rattle.blk_lists.specs.Sources.{Row, input_of}
 use Rattle.blk_lists.specs.Texts.{rows_text}
 use Rattle.blk_sched.specs.Meaning.{at_start}
 use Rattle.blk_earliest.specs.Choice.{kept_of}
@@ -22,6 +22,8 @@ use Rattle.blk_online_sim.specs.ByRounds.{IsByRounds, HoldsNow}
 use Rattle.blk_online_sim.specs.Told.{HasNoShortfall}
 use Rattle.blk_online_sim.proofs.Running.{trace_holds, least_late, meets_most}
 use Rattle.blk_online_sim.proofs.Telling as telling
+use Rattle.blk_cli.specs.declared.Ended.{Ended}
+use Rattle.blk_cli.specs.Ends.{RunEnds}
 use Rattle.blk_cli.specs.Outcome.{SimWrote}
 use Rattle.blk_cli.specs.OfTraces.{TraceWrote, IsReportText, IsMissesText}
 use Rattle.blk_words.specs.declared.words.Job.TheVariants as job
@@ -48,7 +50,7 @@ read_holds late_last bytes before traced u by w read =
     (subst (λ (es : List Happened). AtTicks (HoldsNow late_last w.trace.setup) es) once.2 (held late_last bytes (Some before) (Some (before ++ traced)) by w))
 
 none_short : (u : Traced) (text : List ℕ) → (t : IsReportText u text) → IsTrace u → AtTicks (HoldsNow false u.setup) u.events → (t.report.commands ≡ 0) ⊎ (t.report.shortfall ≡ Some (pos 0))
-none_short u text t is holds = elim telling.no_shortfall u.setup u.events t.report (least_late false u.setup u.events is.legal refl holds) t.is_report [
+none_short u text t is holds = elim (telling.no_shortfall u.setup u.events t.report (least_late false u.setup u.events is.legal refl holds) t.is_report) [
   | inl none ↦ inl (t.is_report.commands ∙ ap length none)
   | inr zero ↦ inr zero
 ]
@@ -86,3 +88,16 @@ misses words again bytes before traced old new alone alone_again by run second =
       wrote = t.wrote;
       none_avoidable = none_avoidable t.trace t.text t.is_text (traces.spelled_legal (rows_in traced) t.trace t.read) (read_holds true bytes before traced t.trace by w t.read);
     }
+
+-- ---- runs of the program as its callers see them
+
+-- a run that reads known bytes ended well
+pub ends_well : (words own : List (List ℕ)) (bytes : List ℕ) (rem old new faults_old faults_new : Option (List ℕ)) (ended : Ended) → own ≡ words → rem ≡ Some bytes → RunEnds own (input_of rem) old new faults_old faults_new ended → ended.status ≡ 0 → EndsWell words bytes old new
+ends_well words own bytes rem old new faults_old faults_new ended same known runs good = record {
+  faults_old = faults_old;
+  faults_new = faults_new;
+  ended = ended;
+  runs = subst (λ (ws : List (List ℕ)). RunEnds ws (input_of (Some bytes)) old new faults_old faults_new ended) same
+      (subst (λ (r : Option (List ℕ)). RunEnds own (input_of r) old new faults_old faults_new ended) known runs);
+  good = good;
+}

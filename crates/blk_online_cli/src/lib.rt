@@ -90,7 +90,7 @@ pub fn report_of_earliest<L: Loads, T: Threads + Wait + Sync, R: Read + Drop, W:
     plain_lines();
     let first = to_simulate(alloc, false)?;
     let second = to_report(alloc)?;
-    let mut trace = Vec::new(alloc);
+    let mut trace: Vec<u8> = Vec::new(alloc);
     let ended = run(loads, rt, alloc, first.as_slice(), reader, &mut trace, faults);
     if ended.status != 0 {
         return Ok(ended);
@@ -114,7 +114,7 @@ pub fn misses_of_late_last<L: Loads, T: Threads + Wait + Sync, R: Read + Drop, W
     plain_lines();
     let first = to_simulate(alloc, true)?;
     let second = to_count(alloc)?;
-    let mut trace = Vec::new(alloc);
+    let mut trace: Vec<u8> = Vec::new(alloc);
     let ended = run(loads, rt, alloc, first.as_slice(), reader, &mut trace, faults);
     if ended.status != 0 {
         return Ok(ended);
