@@ -25,7 +25,8 @@ fn reports_no_shortfall(rt: HostRuntime) {
         SCRIPT.as_bytes(),
         &mut told,
         &mut faults,
-    ).expect(&rt, "memory");
+    )
+    .expect(&rt, "memory");
     assert!(rt; ended.status == 0);
     assert!(rt; told.as_slice() == REPORT.as_bytes());
 }
@@ -41,7 +42,8 @@ fn counts_none_avoidable(rt: HostRuntime) {
         SCRIPT.as_bytes(),
         &mut told,
         &mut faults,
-    ).expect(&rt, "memory");
+    )
+    .expect(&rt, "memory");
     assert!(rt; ended.status == 0);
     assert!(rt; told.as_slice().starts_with(MISSES.as_bytes()));
 }

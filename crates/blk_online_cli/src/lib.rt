@@ -91,11 +91,27 @@ pub fn report_of_earliest<L: Loads, T: Threads + Wait + Sync, R: Read + Drop, W:
     let first = to_simulate(alloc, false)?;
     let second = to_report(alloc)?;
     let mut trace: Vec<u8> = Vec::new(alloc);
-    let ended = run(loads, rt, alloc, first.as_slice(), reader, &mut trace, faults);
+    let ended = run(
+        loads,
+        rt,
+        alloc,
+        first.as_slice(),
+        reader,
+        &mut trace,
+        faults,
+    );
     if ended.status != 0 {
         return Ok(ended);
     }
-    Ok(run(loads, rt, alloc, second.as_slice(), trace.as_slice(), writer, faults))
+    Ok(run(
+        loads,
+        rt,
+        alloc,
+        second.as_slice(),
+        trace.as_slice(),
+        writer,
+        faults,
+    ))
 }
 
 /// `blk sim --sched earliest --late-last`, and `blk misses` on what that wrote: of a script by rounds none of the misses is
@@ -115,9 +131,25 @@ pub fn misses_of_late_last<L: Loads, T: Threads + Wait + Sync, R: Read + Drop, W
     let first = to_simulate(alloc, true)?;
     let second = to_count(alloc)?;
     let mut trace: Vec<u8> = Vec::new(alloc);
-    let ended = run(loads, rt, alloc, first.as_slice(), reader, &mut trace, faults);
+    let ended = run(
+        loads,
+        rt,
+        alloc,
+        first.as_slice(),
+        reader,
+        &mut trace,
+        faults,
+    );
     if ended.status != 0 {
         return Ok(ended);
     }
-    Ok(run(loads, rt, alloc, second.as_slice(), trace.as_slice(), writer, faults))
+    Ok(run(
+        loads,
+        rt,
+        alloc,
+        second.as_slice(),
+        trace.as_slice(),
+        writer,
+        faults,
+    ))
 }
