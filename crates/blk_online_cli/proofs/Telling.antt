@@ -1,5 +1,5 @@
 -- What is told of the trace that a simulation under earliest wrote.
-use Rattle.std.proofs.Common.{◌≡◌, ◌∙◌, ◌++◌, ◌⊎◌, ℕ, List, length, Option, Some, Bool, true, false, pos, All, sym, refl, ap, subst, inl, inr}
+use Rattle.std.proofs.Common.{◌≡◌, ◌∙◌, ◌++◌, ◌⊎◌, ℕ, List, [], length, Option, Some, Bool, true, false, pos, All, sym, refl, ap, subst, inl, inr}
 use Rattle.std.proofs.lemmas.List.{append_cancel_left}
 use Rattle.csv.specs.Reading.{default_config, records, strip_bom}
 use Rattle.blk_lists.specs.Sources.{Row, input_of}
@@ -101,3 +101,18 @@ ends_well words own bytes rem old new faults_old faults_new ended same known run
       (subst (λ (r : Option (List ℕ)). RunEnds own (input_of r) old new faults_old faults_new ended) known runs);
   good = good;
 }
+
+-- two runs, of which the second reads what the first wrote
+pub piped : (Told : List ℕ → Option (List ℕ) → Option (List ℕ) → Type 0) (words again first second : List (List ℕ)) (script empty trace source : List ℕ) (rem old new one two three : Option (List ℕ)) (ended last : Ended)
+    → ((traced : List ℕ) → EndsWell words script (Some []) (Some traced) → EndsWell again traced old new → Told traced old new)
+    → first ≡ words → second ≡ again → rem ≡ Some script → empty ≡ [] → source ≡ trace
+    → RunEnds first (input_of rem) (Some empty) (Some trace) one two ended → ended.status ≡ 0
+    → RunEnds second (input_of (Some source)) old new two three last → last.status ≡ 0
+    → (traced : List ℕ) × Told traced old new
+piped Told words again first second script empty trace source rem old new one two three ended last law same same_again known none read runs good runs_again good_again =
+    let begun = subst (λ (e : List ℕ). RunEnds first (input_of rem) (Some e) (Some trace) one two ended) none runs in (
+      trace,
+      law trace
+          (ends_well words first script rem (Some []) (Some trace) one two ended same known begun good)
+          (ends_well again second trace (Some source) old new two three last same_again (ap (λ (bs : List ℕ). Some bs) read) runs_again good_again),
+    )
