@@ -1,6 +1,6 @@
 -- What a run comes to that ended with status 0.
-use Rattle.std.proofs.Common.{◌≡◌, ◌∙◌, ◌⊎◌, ℕ, List, Option, Some, Result, Ok, Err, sym, subst, inl, inr}
-use Rattle.blk_lists.specs.Sources.{Row, input_of}
+use Rattle.std.proofs.Common.{◌≡◌, ◌∙◌, ℕ, List, Option, Some, Result, Ok, Err, sym, subst, inl, inr}
+use Rattle.blk_lists.specs.Sources.{Row}
 use Rattle.blk_lists.specs.declared.fault.Why.{Why}
 use Rattle.blk_lists.specs.declared.fault.Why.TheVariants as why
 use Rattle.blk_settings.specs.declared.sched.Sched.{Sched}
@@ -8,14 +8,12 @@ use Rattle.blk_settings.specs.declared.sched.SchedFault.{SchedFault}
 use Rattle.blk_settings.specs.declared.sched.SchedFault.TheVariants as setting
 use Rattle.blk_sim.specs.declared.refusal.SimWhy.{SimWhy}
 use Rattle.blk_sim.specs.declared.refusal.SimWhy.TheVariants as step
-use Rattle.blk_trace.specs.Traces.{Traced}
 use Rattle.blk_words.specs.declared.words.Job.{Job}
 use Rattle.blk_words.specs.declared.words.Job.TheVariants as job
-use Rattle.blk_cli.specs.declared.Ended.{Ended}
 use Rattle.blk_cli.specs.declared.failure.Failure.{Failure}
 use Rattle.blk_cli.specs.declared.failure.Failure.TheVariants as failure
 use Rattle.blk_cli.specs.Does.{Does}
-use Rattle.blk_cli.specs.Ends.{JobEnds, RunEnds, text_status, sched_status, step_status, status_of, status_at}
+use Rattle.blk_cli.specs.Ends.{JobEnds, text_status, sched_status, step_status, status_of, status_at}
 use Rattle.blk_cli.specs.Outcome.{SimWrote, SimFails}
 use Rattle.blk_cli.specs.OfTraces.{TraceWrote, TraceFails, IsReportText, IsMissesText}
 use Rattle.blk_online_cli.specs.Told.{rows_in, AskAlone, EndsWell}

@@ -1,7 +1,6 @@
 -- What is told of the trace that a simulation under earliest wrote.
-use Rattle.std.proofs.Common.{◌≡◌, ◌∙◌, ◌++◌, ◌⊎◌, ℕ, List, [], length, Option, Some, Bool, true, false, pos, All, sym, refl, ap, subst, inl, inr}
+use Rattle.std.proofs.Common.{◌≡◌, ◌∙◌, ◌++◌, ◌⊎◌, ℕ, List, [], length, Option, Some, Bool, true, false, pos, All, refl, ap, subst, inl, inr}
 use Rattle.std.proofs.lemmas.List.{append_cancel_left}
-use Rattle.csv.specs.Reading.{default_config, records, strip_bom}
 use Rattle.blk_lists.specs.Sources.{Row, input_of}
 use Rattle.blk_lists.specs.Texts.{rows_text}
 use Rattle.blk_sched.specs.Meaning.{at_start}
@@ -19,13 +18,12 @@ use Rattle.blk_settings.specs.declared.sched.Sched.TheVariants as sched
 use Rattle.blk_report.specs.declared.figures.Report.{Report}
 use Rattle.blk_online.specs.Ticks.{AtTicks}
 use Rattle.blk_online_sim.specs.ByRounds.{IsByRounds, HoldsNow}
-use Rattle.blk_online_sim.specs.Told.{HasNoShortfall}
 use Rattle.blk_online_sim.proofs.Running.{trace_holds, least_late, meets_most}
 use Rattle.blk_online_sim.proofs.Telling as telling
 use Rattle.blk_cli.specs.declared.Ended.{Ended}
 use Rattle.blk_cli.specs.Ends.{RunEnds}
 use Rattle.blk_cli.specs.Outcome.{SimWrote}
-use Rattle.blk_cli.specs.OfTraces.{TraceWrote, IsReportText, IsMissesText}
+use Rattle.blk_cli.specs.OfTraces.{IsReportText, IsMissesText}
 use Rattle.blk_words.specs.declared.words.Job.TheVariants as job
 use Rattle.blk_online_cli.specs.Told.{rows_in, SpellByRounds, AskAlone, EndsWell, ReportsNoShortfall, CountsNoneAvoidable}
 use Rattle.blk_online_cli.proofs.Ending.{sim_ends, report_ends, misses_end}

@@ -1,5 +1,5 @@
 -- From the bytes of a script to what the program tells of its trace.
-use Rattle.std.specs.Prelude.{ℕ, ◌≡◌, ◌↔◌, ◌⊎◌, ◌++◌, ◌∷◌, List, [], Bool, true, false, Option, Some, ℤ, pos, All, codes}
+use Rattle.std.specs.Prelude.{ℕ, ◌≡◌, ◌↔◌, ◌⊎◌, ◌∷◌, List, [], Bool, true, false, Option, Some, pos, All, codes}
 use Rattle.std.specs.Io.KnownBytes.{Appends}
 use Rattle.csv.specs.Reading.{default_config, records, strip_bom}
 use Rattle.blk_lists.specs.Sources.{Row, input_of}

@@ -2,8 +2,7 @@
 //! shortfall, and with late last no avoidable miss.
 #![tactic(auto)]
 
-ghost use Rattle.std.specs.Prelude.{◌≡◌, ◌++◌, ℕ, Bool, false, true, List, Option, Some, IfOk, map, string_bytes};
-ghost use Rattle.blk_words.specs.declared.words.Job.{Job as AJob};
+ghost use Rattle.std.specs.Prelude.{◌≡◌, ◌++◌, ℕ, false, true, List, Option, Some, IfOk, map, string_bytes};
 ghost use Rattle.blk_online_cli.specs.Told.{SpellByRounds, AskAlone, EndsWell, ReportsNoShortfall, CountsNoneAvoidable, sim_words, report_words, misses_words};
 
 use blk_cli::{Ended, run};
