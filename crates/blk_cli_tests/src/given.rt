@@ -74,7 +74,7 @@ fn words_of(rt: &impl Abort, alloc: Global, words: &[&str]) -> Vec<String> {
 }
 
 /// Loads of which every bio is served, without a layer and without threads.
-struct AllServed;
+pub struct AllServed;
 
 impl Loads for AllServed {
     fn run<R: Threads + Wait + Sync>(

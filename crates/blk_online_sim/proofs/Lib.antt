@@ -3,5 +3,5 @@ mod Agreeing
 mod Quiet
 mod Issuing
 mod Working
-mod Running
-mod Telling
+pub mod Running
+pub mod Telling

@@ -1,0 +1,66 @@
+-- From the bytes of a script to what the program tells of its trace.
+use Rattle.std.specs.Prelude.{ℕ, ◌≡◌, ◌↔◌, ◌⊎◌, ◌∷◌, List, [], Bool, true, false, Option, Some, pos, All, codes}
+use Rattle.std.specs.Io.KnownBytes.{Appends}
+use Rattle.csv.specs.Reading.{default_config, records, strip_bom}
+use Rattle.blk_lists.specs.Sources.{Row, input_of}
+use Rattle.blk_trace.specs.Traces.{Traced}
+use Rattle.blk_text.specs.Script.{Scripted, SpellsScript}
+use Rattle.blk_text.specs.TraceForm.{SpellsTrace}
+use Rattle.blk_words.specs.declared.words.Job.{Job}
+use Rattle.blk_words.specs.Asked.{Asks}
+use Rattle.blk_cli.specs.declared.Ended.{Ended}
+use Rattle.blk_cli.specs.Ends.{RunEnds}
+use Rattle.blk_cli.specs.OfTraces.{IsReportText, IsMissesText}
+use Rattle.blk_online_sim.specs.ByRounds.{IsByRounds}
+
+-- the records of these bytes
+abbrev pub rows_in : List ℕ → List Row
+rows_in bytes = records default_config (strip_bom bytes)
+
+-- the bytes spell a script whose steps are bios, flushes, drains, depths and runs alone
+abbrev pub SpellByRounds : List ℕ → Type 0
+SpellByRounds bytes = (script : Scripted) × SpellsScript (rows_in bytes) script × All IsByRounds script.lines
+
+-- the words ask for this job, and for no other
+abbrev pub AskAlone : List (List ℕ) → Job → Type 0
+AskAlone words job = (j : Job) → Asks words j ↔ (j ≡ job)
+
+-- a run of the program on these words, which reads these bytes, ended with status 0, and left the writer so
+pub record EndsWell (words : List (List ℕ)) (bytes : List ℕ) (old new : Option (List ℕ)) : Type 0 where
+  pub faults_old : Option (List ℕ)
+  pub faults_new : Option (List ℕ)
+  pub ended : Ended
+  pub runs : RunEnds words (input_of (Some bytes)) old new faults_old faults_new ended
+  pub good : ended.status ≡ 0
+
+-- the report of the trace that the bytes spell was written: its shortfall is 0, or there are no commands
+pub record ReportsNoShortfall (bytes : List ℕ) (old new : Option (List ℕ)) : Type 0 where
+  pub trace : Traced
+  pub text : List ℕ
+  pub spelled : SpellsTrace (rows_in bytes) trace
+  pub is_text : IsReportText trace text
+  pub wrote : Appends old new text
+  pub none_short : (is_text.report.commands ≡ 0) ⊎ (is_text.report.shortfall ≡ Some (pos 0))
+
+-- what is said of the misses of that trace was written: none of them is avoidable
+pub record CountsNoneAvoidable (bytes : List ℕ) (old new : Option (List ℕ)) : Type 0 where
+  pub trace : Traced
+  pub text : List ℕ
+  pub spelled : SpellsTrace (rows_in bytes) trace
+  pub is_text : IsMissesText trace text
+  pub wrote : Appends old new text
+  pub none_avoidable : is_text.avoidable ≡ 0
+
+-- the words for a simulation under earliest, for a report and for the misses
+abbrev pub late_last_words : Bool → List (List ℕ)
+late_last_words false = []
+late_last_words true = codes "--late-last" ∷ []
+
+abbrev pub sim_words : Bool → List (List ℕ)
+sim_words late_last = codes "blk" ∷ codes "sim" ∷ codes "--sched" ∷ codes "earliest" ∷ late_last_words late_last
+
+abbrev pub report_words : List (List ℕ)
+report_words = codes "blk" ∷ codes "oracle" ∷ codes "--trace" ∷ []
+
+abbrev pub misses_words : List (List ℕ)
+misses_words = codes "blk" ∷ codes "misses" ∷ []

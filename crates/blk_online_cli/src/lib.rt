@@ -1,0 +1,154 @@
+//! The program under the scheduler that hands out what is due first: of what it writes of a script by rounds it reports no
+//! shortfall, and with late last no avoidable miss.
+#![tactic(auto)]
+
+ghost use Rattle.std.specs.Prelude.{◌≡◌, ◌++◌, ℕ, false, true, List, Option, Some, IfOk, map, string_bytes};
+ghost use Rattle.blk_online_cli.specs.Told.{SpellByRounds, AskAlone, EndsWell, ReportsNoShortfall, CountsNoneAvoidable, sim_words, report_words, misses_words};
+
+use blk_cli::{Ended, run};
+use blk_settings::{Loads, Sched};
+use blk_words::Job;
+use blk_words::asking::plain_lines;
+use std::alloc::{AllocError, Global};
+use std::io::{Read, Write};
+use std::sync::Wait;
+use std::thread::Threads;
+
+/// Where a script's steps are bios, flushes, drains, depths and runs alone, what `sim --sched earliest` writes is a trace of which
+/// `oracle --trace` reports the shortfall 0, or no commands. It says nothing of joins, hardware queues, limits, depths, or of what
+/// waits at the end: these are free.
+///
+/// A law of [`run`]: it does nothing when it runs, and a caller has its clause.
+pub fn law_of_reports()
+    ensures { (words again : List (List ℕ)) → (script before trace : List ℕ) → (old new : Option (List ℕ))
+        → AskAlone words (Job.Sim (Sched.Earliest false)) → AskAlone again Job.Report
+        → SpellByRounds script → EndsWell words script (Some before) (Some (before ++ trace))
+        → EndsWell again trace old new → ReportsNoShortfall trace old new }
+{}
+
+/// What `sim --sched earliest --late-last` writes of such a script is a trace of which `misses` says that none is avoidable.
+///
+/// A law of [`run`]: it does nothing when it runs, and a caller has its clause.
+pub fn law_of_misses()
+    ensures { (words again : List (List ℕ)) → (script before trace : List ℕ) → (old new : Option (List ℕ))
+        → AskAlone words (Job.Sim (Sched.Earliest true)) → AskAlone again Job.Misses
+        → SpellByRounds script → EndsWell words script (Some before) (Some (before ++ trace))
+        → EndsWell again trace old new → CountsNoneAvoidable trace old new }
+{}
+
+/// The words for a simulation under `earliest`, with `--late-last` or without it.
+fn to_simulate(alloc: Global, late_last: bool) -> Result<Vec<String>, AllocError>
+    ensures { IfOk result (λ words. map string_bytes words.items ≡ sim_words late_last) }
+{
+    let mut words = Vec::new(alloc);
+    words.push(String::from_str(alloc, "blk")?)?;
+    words.push(String::from_str(alloc, "sim")?)?;
+    words.push(String::from_str(alloc, "--sched")?)?;
+    words.push(String::from_str(alloc, "earliest")?)?;
+    if late_last {
+        words.push(String::from_str(alloc, "--late-last")?)?;
+    }
+    Ok(words)
+}
+
+/// The words for the report of a trace.
+fn to_report(alloc: Global) -> Result<Vec<String>, AllocError>
+    ensures { IfOk result (λ words. map string_bytes words.items ≡ report_words) }
+{
+    let mut words = Vec::new(alloc);
+    words.push(String::from_str(alloc, "blk")?)?;
+    words.push(String::from_str(alloc, "oracle")?)?;
+    words.push(String::from_str(alloc, "--trace")?)?;
+    Ok(words)
+}
+
+/// The words for the misses of a trace.
+fn to_count(alloc: Global) -> Result<Vec<String>, AllocError>
+    ensures { IfOk result (λ words. map string_bytes words.items ≡ misses_words) }
+{
+    let mut words = Vec::new(alloc);
+    words.push(String::from_str(alloc, "blk")?)?;
+    words.push(String::from_str(alloc, "misses")?)?;
+    Ok(words)
+}
+
+/// `blk sim --sched earliest`, and `blk oracle --trace` on what that wrote: of a script by rounds the report has the shortfall 0, or
+/// there are no commands. Answers how the second run ended, or the first where that did not end with status 0, and refuses for want
+/// of memory for the words.
+pub fn report_of_earliest<L: Loads, T: Threads + Wait + Sync, R: Read + Drop, W: Write, F: Write>(
+    loads: &L,
+    rt: &T,
+    alloc: Global,
+    reader: R,
+    writer: &mut W,
+    faults: &mut F,
+) -> Result<Ended, AllocError>
+    ensures { (script : List ℕ) → R.remaining reader ≡ Some script → SpellByRounds script
+        → IfOk result (λ ended. ended.status ≡ 0 → (trace : List ℕ) × ReportsNoShortfall trace (W.contents writer.old) (W.contents writer.new)) }
+{
+    plain_lines();
+    let first = to_simulate(alloc, false)?;
+    let second = to_report(alloc)?;
+    let mut trace: Vec<u8> = Vec::new(alloc);
+    let ended = run(
+        loads,
+        rt,
+        alloc,
+        first.as_slice(),
+        reader,
+        &mut trace,
+        faults,
+    );
+    if ended.status != 0 {
+        return Ok(ended);
+    }
+    Ok(run(
+        loads,
+        rt,
+        alloc,
+        second.as_slice(),
+        trace.as_slice(),
+        writer,
+        faults,
+    ))
+}
+
+/// `blk sim --sched earliest --late-last`, and `blk misses` on what that wrote: of a script by rounds none of the misses is
+/// avoidable. Answers as [`report_of_earliest`] does.
+pub fn misses_of_late_last<L: Loads, T: Threads + Wait + Sync, R: Read + Drop, W: Write, F: Write>(
+    loads: &L,
+    rt: &T,
+    alloc: Global,
+    reader: R,
+    writer: &mut W,
+    faults: &mut F,
+) -> Result<Ended, AllocError>
+    ensures { (script : List ℕ) → R.remaining reader ≡ Some script → SpellByRounds script
+        → IfOk result (λ ended. ended.status ≡ 0 → (trace : List ℕ) × CountsNoneAvoidable trace (W.contents writer.old) (W.contents writer.new)) }
+{
+    plain_lines();
+    let first = to_simulate(alloc, true)?;
+    let second = to_count(alloc)?;
+    let mut trace: Vec<u8> = Vec::new(alloc);
+    let ended = run(
+        loads,
+        rt,
+        alloc,
+        first.as_slice(),
+        reader,
+        &mut trace,
+        faults,
+    );
+    if ended.status != 0 {
+        return Ok(ended);
+    }
+    Ok(run(
+        loads,
+        rt,
+        alloc,
+        second.as_slice(),
+        trace.as_slice(),
+        writer,
+        faults,
+    ))
+}
