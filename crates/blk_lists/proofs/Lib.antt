@@ -15,3 +15,4 @@ pub mod ClaimLaws
 pub mod Counted
 pub mod MetLaws
 pub mod ProofLaws
+pub mod Watching

@@ -11,3 +11,4 @@ pub mod Titles
 pub mod Met
 pub mod Proof
 pub mod Names
+pub mod Watching

@@ -161,7 +161,7 @@ fn push_title(draft: &mut Block, depth: u64) -> Result<(), AllocError>
 }
 
 /// The text of a depth and a list of commands.
-fn commands_text(alloc: Global, depth: u64, commands: &[Command]) -> Result<Vec<u8>, AllocError>
+pub fn commands_text(alloc: Global, depth: u64, commands: &[Command]) -> Result<Vec<u8>, AllocError>
     ensures { IfOk result (λ v. v.items ≡ rows_text (commands_rows depth commands.now)) }
 {
     let mut draft = Block::new(alloc);

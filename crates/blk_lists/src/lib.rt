@@ -11,10 +11,11 @@ pub mod met;
 pub mod proof;
 pub mod source;
 mod titles;
+mod watched;
 
-pub use crate::certificate::{Certificate, read_certificate, write_certificate};
-pub use crate::commands::{read_commands, write_commands};
+pub use crate::certificate::{Certificate, certificate_text, read_certificate, write_certificate};
+pub use crate::commands::{commands_text, read_commands, write_commands};
 pub use crate::fault::{TextFault, Why};
-pub use crate::met::{MetCertificate, read_met, write_met};
+pub use crate::met::{MetCertificate, met_text, read_met, write_met};
 pub use crate::proof::{Proof, read_proof};
 pub use crate::source::Records;

@@ -292,7 +292,7 @@ fn push_schedule(draft: &mut Block, commands: &[Command], rounds: &[u64]) -> Res
 }
 
 /// The text of a certificate.
-fn met_text(alloc: Global, certificate: &MetCertificate) -> Result<Vec<u8>, AllocError>
+pub fn met_text(alloc: Global, certificate: &MetCertificate) -> Result<Vec<u8>, AllocError>
     requires { IsMetClaim (met_claimed certificate.now) }
     ensures { IfOk result (λ v. v.items ≡ rows_text (met_rows (met_claimed certificate.now))) }
 {
