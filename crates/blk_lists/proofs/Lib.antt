@@ -16,3 +16,4 @@ pub mod Counted
 pub mod MetLaws
 pub mod ProofLaws
 pub mod ScheduleLaws
+pub mod Watching

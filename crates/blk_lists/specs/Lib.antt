@@ -12,3 +12,4 @@ pub mod Met
 pub mod Proof
 pub mod Schedule
 pub mod Names
+pub mod Watching

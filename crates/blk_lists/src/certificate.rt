@@ -334,7 +334,7 @@ pub(crate) fn push_schedule(
 }
 
 /// The text of a certificate.
-fn certificate_text(alloc: Global, certificate: &Certificate) -> Result<Vec<u8>, AllocError>
+pub fn certificate_text(alloc: Global, certificate: &Certificate) -> Result<Vec<u8>, AllocError>
     requires { IsClaim (claimed certificate.now) }
     ensures { IfOk result (λ v. v.items ≡ rows_text (claim_rows (claimed certificate.now))) }
 {

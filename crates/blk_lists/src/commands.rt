@@ -115,7 +115,7 @@ pub fn read_commands<R: Read + Drop>(
 }
 
 /// The text of a depth and a list of commands.
-fn commands_text(alloc: Global, depth: u64, commands: &[Command]) -> Result<Vec<u8>, AllocError>
+pub fn commands_text(alloc: Global, depth: u64, commands: &[Command]) -> Result<Vec<u8>, AllocError>
     ensures { IfOk result (λ v. v.items ≡ rows_text (commands_rows depth commands.now)) }
 {
     let mut draft = Block::new(alloc);

@@ -12,12 +12,13 @@ pub mod proof;
 pub mod schedule;
 pub mod source;
 mod titles;
+mod watched;
 pub mod writing;
 
-pub use crate::certificate::{Certificate, read_certificate, write_certificate};
-pub use crate::commands::{read_commands, write_commands};
+pub use crate::certificate::{Certificate, certificate_text, read_certificate, write_certificate};
+pub use crate::commands::{commands_text, read_commands, write_commands};
 pub use crate::fault::{TextFault, Why};
-pub use crate::met::{MetCertificate, read_met, write_met};
+pub use crate::met::{MetCertificate, met_text, read_met, write_met};
 pub use crate::proof::{Proof, read_proof};
 pub use crate::schedule::{Schedule, read_schedule, write_schedule};
 pub use crate::source::Records;

@@ -221,7 +221,7 @@ fn push_cover(draft: &mut Block, cover: &[Window]) -> Result<(), AllocError>
 }
 
 /// The text of a certificate.
-fn met_text(alloc: Global, certificate: &MetCertificate) -> Result<Vec<u8>, AllocError>
+pub fn met_text(alloc: Global, certificate: &MetCertificate) -> Result<Vec<u8>, AllocError>
     requires { IsMetClaim (met_claimed certificate.now) }
     ensures { IfOk result (λ v. v.items ≡ rows_text (met_rows (met_claimed certificate.now))) }
 {

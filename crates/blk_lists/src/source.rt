@@ -1,12 +1,13 @@
 //! The records of a reader, one at a time.
 
-ghost use Rattle.std.specs.Prelude.{◌≡◌, ◌+◌, ◌-◌, ◌<◌, ◌^◌, ℕ, List, [], Option, Some, None, IfOk, IfErr, option_map};
+ghost use Rattle.std.specs.Prelude.{◌≡◌, ◌+◌, ◌-◌, ◌<◌, ◌^◌, true, false, ℕ, List, [], Option, Some, None, IfOk, IfErr, option_map};
 ghost use Rattle.csv.specs.Reading.{default_config, records, strip_bom};
 ghost use Rattle.csv.specs.Records.{fields_of};
 ghost use Rattle.blk_lists.specs.Sources.{Source, TakesRecord, input_of};
 ghost use Rattle.blk_lists.specs.Reads.{IsOutside};
 
 use crate::fault::{TextFault, Why};
+use crate::watched::Watched;
 use csv::{ByteRecord, ErrorKind, Reader, ReaderBuilder};
 use std::alloc::Global;
 use std::io::Read;
@@ -14,22 +15,23 @@ use std::marker::Model;
 
 /// The records of a reader of bytes, as a CSV reader takes them: commas, quoted fields, line ends of any kind, empty
 /// lines passed over, one byte order mark at the beginning taken off, no header row, and no trimming. They are numbered
-/// from 1.
+/// from 1. A read that a signal interrupts is made again.
 #[derive(Drop)]
 pub struct Records<R: Read> {
-    rdr: Reader<R>,
+    rdr: Reader<Watched<R>>,
     row: ByteRecord,
     at: u64,
 }
 
 impl<R: Read> Model for Records<R> {
     ghost use Rattle.blk_lists.specs.Sources.{Source, left_of, IsPlainReader};
-    ghost use Rattle.csv.specs.Reading.{has_failed};
+    ghost use Rattle.blk_lists.specs.Watching.{remaining_of, read_failed};
+    ghost use Rattle.csv.specs.Reading.{reader_source};
     ghost use Rattle.csv.specs.Records.{fields_of};
 
     ghost Value = { Source };
 
-    ghost view = { λ a. record { left = left_of R.remaining a.rdr; fields = fields_of a.row; at = a.at; failed = has_failed a.rdr } };
+    ghost view = { λ a. record { left = left_of (remaining_of R.remaining) a.rdr; fields = fields_of a.row; at = a.at; failed = read_failed (reader_source a.rdr) } };
 
     ghost invariant = { λ a. IsPlainReader a.rdr };
 }
@@ -39,12 +41,13 @@ impl<R: Read> Records<R> {
     pub fn new(alloc: Global, reader: R) -> Records<R>
         ensures left { result.left ≡ input_of (R.remaining reader) }
         ensures at { result.at ≡ 0 }
+        ensures fresh { result.failed ≡ false }
     {
         Records {
             rdr: ReaderBuilder::new()
                 .has_headers(false)
                 .flexible(true)
-                .from_reader(alloc, reader),
+                .from_reader(alloc, Watched::new(reader)),
             row: ByteRecord::new(alloc),
             at: 0,
         }
@@ -72,19 +75,32 @@ impl<R: Read> Records<R> {
         TextFault { at: self.at, why }
     }
 
+    /// Why the CSV reader stopped: its reader failed, or else a growth was refused.
+    fn outside(&self) -> Why
+        ensures read { self.now.failed ≡ true → result ≡ Why.Read }
+        ensures memory { self.now.failed ≡ false → result ≡ Why.Memory }
+    {
+        if self.rdr.get_ref().has_failed() {
+            Why::Read
+        } else {
+            Why::Memory
+        }
+    }
+
     /// Reads the next record, and says whether there was one.
     pub fn advance(&mut self) -> Result<bool, TextFault>
         requires { self.old.at < 2 ^ 64 - 1 }
         ensures takes { IfOk result (λ found. TakesRecord self.old.left self.new.left self.new.fields found) }
         ensures at { self.new.at ≡ self.old.at + 1 }
         ensures fault { IfErr result (λ f. (f.at ≡ self.new.at) × IsOutside self.new.failed f.why) }
+        // a read that failed is told as nothing else
+        ensures told { IfErr result (λ f. self.new.failed ≡ true → f.why ≡ Why.Read) }
     {
         self.at += 1;
         match self.rdr.read_byte_record(&mut self.row) {
             Ok(found) => Ok(found),
             Err(e) => match e.kind() {
-                ErrorKind::OutOfMemory => Err(self.fault(Why::Memory)),
-                ErrorKind::Io(_) => Err(self.fault(Why::Read)),
+                ErrorKind::Io(_) | ErrorKind::OutOfMemory => Err(self.fault(self.outside())),
                 // records may be of any width, and their bytes need be no text
                 _ => unreachable!(),
             },

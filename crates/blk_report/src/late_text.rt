@@ -79,7 +79,7 @@ fn push_late_commands(draft: &mut Draft, late: &[LateCommand]) -> Result<(), All
 }
 
 /// The head line and the lines of the commands.
-fn drafted(alloc: Global, late: &[LateCommand]) -> Result<Vec<u8>, AllocError>
+pub fn drafted(alloc: Global, late: &[LateCommand]) -> Result<Vec<u8>, AllocError>
     ensures { IfOk result (λ v. v.items ≡ late_lines late.now) }
 {
     let mut draft = Draft::new(alloc);

@@ -90,7 +90,7 @@ fn push_window_lines(draft: &mut Draft, report: &Report) -> Result<(), AllocErro
 }
 
 /// The eight lines of a report.
-fn drafted(alloc: Global, report: &Report) -> Result<Vec<u8>, AllocError>
+pub fn drafted(alloc: Global, report: &Report) -> Result<Vec<u8>, AllocError>
     ensures { IfOk result (λ v. v.items ≡ report_text report.now) }
 {
     let mut draft = Draft::new(alloc);

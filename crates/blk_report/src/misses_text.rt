@@ -38,7 +38,7 @@ fn push_crowds(draft: &mut Draft, crowds: &[Crowd]) -> Result<(), AllocError>
 }
 
 /// All the lines.
-fn drafted<A: Allocator>(alloc: Global, missed: &Missed<A>) -> Result<Vec<u8>, AllocError>
+pub fn drafted<A: Allocator>(alloc: Global, missed: &Missed<A>) -> Result<Vec<u8>, AllocError>
     ensures { IfOk result (λ v. v.items ≡ misses_text missed.now.commands missed.now.late missed.now.unavoidable missed.now.avoidable missed.now.windows.items) }
 {
     let mut draft = Draft::new(alloc);

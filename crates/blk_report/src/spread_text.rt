@@ -65,7 +65,7 @@ fn push_rows(
 }
 
 /// The head line and the six records.
-fn drafted(alloc: Global, spread: &Spreads) -> Result<Vec<u8>, AllocError>
+pub fn drafted(alloc: Global, spread: &Spreads) -> Result<Vec<u8>, AllocError>
     ensures { IfOk result (λ v. v.items ≡ spread_text spread.now) }
 {
     let mut draft = Draft::new(alloc);

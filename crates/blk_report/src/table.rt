@@ -89,7 +89,7 @@ fn push_best(draft: &mut Draft, names: &[&[u8]], best: Option<usize>) -> Result<
 }
 
 /// The lines of a table.
-fn drafted(alloc: Global, names: &[&[u8]], reports: &[Report]) -> Result<Vec<u8>, AllocError>
+pub fn drafted(alloc: Global, names: &[&[u8]], reports: &[Report]) -> Result<Vec<u8>, AllocError>
     requires { length names.now ≡ length reports.now }
     ensures { IfOk result (λ v. IsTable (map (λ name. name.now) names.now) reports.now v.items) }
 {

@@ -56,3 +56,16 @@ fn three_reads_at_once(rt: HostRuntime) {
     let whole = served((3, 0, 2), 1, 1, 0, (0, 0), 3);
     assert_eq!(rt; reported(&rt, rt.alloc(), 2, &steps), whole);
 }
+
+/// Forty reads, each served in the round in which it is due: 160 events, and none is late.
+#[test]
+fn many_events(rt: HostRuntime) {
+    let mut steps = Vec::new(rt.alloc());
+    for id in 0..40u64 {
+        assert!(rt; steps.push(Step::Read(id)).is_ok());
+        assert!(rt; steps.push(Step::Serve(id)).is_ok());
+    }
+    let told = reported(&rt, rt.alloc(), 1, steps.as_slice());
+    assert_eq!(rt; (told.commands, told.waiting), (40, 0));
+    assert_eq!(rt; (told.greatest, told.least), (Some(0), Some(0)));
+}

@@ -12,4 +12,4 @@ pub mod trace;
 
 pub use crate::events::read_trace;
 pub use crate::script::{Line, MAX_RUN, MAX_STEPS, Script, read_script};
-pub use crate::trace::write_trace;
+pub use crate::trace::{trace_text, write_trace};

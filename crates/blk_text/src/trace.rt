@@ -88,8 +88,11 @@ fn push_setup(draft: &mut Block, setup: &Setup) -> Result<(), AllocError>
     push_row(draft, b"setup", &numbers, 1)
 }
 
-/// The text of a trace.
-fn trace_text<A: Allocator + Clone>(alloc: Global, trace: &Trace<A>) -> Result<Vec<u8>, AllocError>
+/// The text of a trace, in the latest version, as [`write_trace`] writes it.
+pub fn trace_text<A: Allocator + Clone>(
+    alloc: Global,
+    trace: &Trace<A>,
+) -> Result<Vec<u8>, AllocError>
     ensures text { IfOk result (λ v. v.items ≡ rows_text (trace_rows trace.now)) }
     ensures fits { IfOk result (λ _. IsTrace trace.now) }
 {

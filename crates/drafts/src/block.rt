@@ -1,13 +1,9 @@
 //! The bytes of a text that is being made, of which the last ones stand in a block.
 
-ghost use Rattle.std.specs.Prelude.{◌≡◌, ◌+◌, ◌++◌, ◌≤◌, OnOk, OnErr, IfOk, IfErr, decimal};
-ghost use Rattle.std.specs.Io.KnownBytes.{Appends};
-ghost use Rattle.drafts.specs.Parts.{AppendsLess, AppendsPart};
+ghost use Rattle.std.specs.Prelude.{◌≡◌, ◌+◌, ◌++◌, ◌≤◌, OnOk, IfOk, decimal};
 
-use crate::fault::WriteFault;
 use crate::pieces::{put, put_number};
 use std::alloc::{AllocError, Global};
-use std::io::{ErrorKind, Write};
 
 /// How many bytes are gathered before they join the text.
 const BLOCK: usize = 4096;
@@ -94,38 +90,4 @@ impl Block {
         self.flush()?;
         Ok(self.text)
     }
-}
-
-/// Writes a text that is whole, by as many calls of the writer as it takes; one that is interrupted is made again.
-///
-/// [`WriteFault::Write`], the only fault: the writer answered another fault, or took nothing of what was left; what it took before,
-/// a first part of the text and never the whole, is out. `write_all` of std says nothing of what was taken before a fault; so the
-/// writer is asked here.
-pub fn write_whole<W: Write>(writer: &mut W, text: &[u8]) -> Result<(), WriteFault>
-    ensures ok { OnOk result (Appends (W.contents writer.old) (W.contents writer.new) text.now) }
-    ensures err { IfErr result (λ f. f ≡ WriteFault.Write) }
-    // a fault comes only where some of the text was not taken
-    ensures less { OnErr result (AppendsLess (W.contents writer.old) (W.contents writer.new) text.now) }
-    // whatever the answer
-    ensures part { AppendsPart (W.contents writer.old) (W.contents writer.new) text.now }
-{
-    let mut rest = text;
-    for _ in 0..u64::MAX {
-        if rest.is_empty() {
-            return Ok(());
-        }
-        match writer.write(rest) {
-            Ok(0) => return Err(WriteFault::Write),
-            Ok(count) => rest = &rest[count..],
-            Err(fault) => {
-                if fault.kind() != ErrorKind::Interrupted {
-                    return Err(WriteFault::Write);
-                }
-            }
-        }
-    }
-    if rest.is_empty() {
-        return Ok(());
-    }
-    Err(WriteFault::Write)
 }

@@ -4,8 +4,11 @@
 pub mod block;
 pub mod draft;
 pub mod fault;
+mod mark;
+pub mod output;
 pub mod pieces;
 
-pub use crate::block::{Block, write_whole};
+pub use crate::block::Block;
 pub use crate::draft::Draft;
 pub use crate::fault::WriteFault;
+pub use crate::output::{Output, write_whole};
