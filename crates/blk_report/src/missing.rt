@@ -7,7 +7,9 @@ ghost use Rattle.edd_check.specs.Schedule.{IsLegal};
 ghost use Rattle.edd_check.specs.Met.{can_be_met, lies_in, inside_of, IsCover, CoverInRange};
 ghost use Rattle.edd_oracle.specs.Met.{IsMostAnswer, IsMetFirst, IsPassedCover};
 ghost use Rattle.edd_verdict.specs.Verdicts.{is_spare, spares_in};
+ghost use Rattle.blk_trace.specs.Meaning.{commands_of, waiting_of};
 ghost use Rattle.blk_report.specs.Misses.{crowd_of, AreMisses, IsTallied};
+ghost use Rattle.blk_report.specs.Overdue.{overdue_of};
 ghost use Rattle.blk_report.specs.Inside.Placed.{is_place};
 
 use crate::outstaying::overdue;
@@ -173,6 +175,30 @@ fn counted<A: Allocator + Clone, B: Allocator, C: Allocator>(
     Ok(Missed { tally, windows })
 }
 
+/// What is counted of the verdicts and of what waits.
+fn beside<A: Allocator + Clone>(
+    trace: &Trace<A>,
+    commands: &Vec<Command, A>,
+    verdicts: &[Option<Verdict>],
+) -> Result<Tally, AllocError>
+    requires { commands.now.items ≡ commands_of trace.now.setup trace.now.events }
+    ensures spare { IfOk result (λ t. t.spare ≡ spares_in verdicts.now) }
+    ensures waiting { IfOk result (λ t. t.waiting ≡ length (waiting_of trace.now.events)) }
+    ensures overdue { IfOk result (λ t. t.overdue ≡ length (overdue_of trace.now.setup trace.now.events)) }
+{
+    let waiting = trace.waiting()?;
+    let overdue = overdue(trace, commands)?;
+    Ok(Tally {
+        commands: 0,
+        late: 0,
+        unavoidable: 0,
+        avoidable: 0,
+        spare: spares(verdicts),
+        waiting: waiting.len() as u64,
+        overdue: overdue.len() as u64,
+    })
+}
+
 /// How many commands of a trace were late, how many of these had to be, under the trace's own capacity, and the windows that prove
 /// it: no schedule of the same commands has fewer late, and some schedule has no more. Of the late ones it counts those that are
 /// spare, and of the bios those that wait, and those that wait past their due round. Fails for want of memory alone. The time
@@ -194,25 +220,18 @@ pub fn misses<A: Allocator + Clone>(trace: &Trace<A>) -> Result<Missed<A>, Alloc
         &capacity,
     )?;
     law_of_spares();
-    let tally = Tally {
-        commands: 0,
-        late: 0,
-        unavoidable: 0,
-        avoidable: 0,
-        spare: spares(verdicts.as_slice()),
-        waiting: trace.waiting()?.len() as u64,
-        overdue: overdue(trace, &commands)?.len() as u64,
+    let tally = beside(trace, &commands, verdicts.as_slice())?;
+    // a trace's commands are within the limits of the oracle, so want of memory is all that it refuses them for
+    let Ok(answer) = most_met(alloc.clone()?, commands.as_slice(), &capacity) else {
+        return Err(AllocError);
     };
-    match most_met(alloc.clone()?, commands.as_slice(), &capacity) {
-        Ok(answer) => counted(
-            alloc,
-            tally,
-            commands.as_slice(),
-            rounds.as_slice(),
-            &capacity,
-            &answer,
-        ),
-        // a trace's commands are within the limits of the oracle, so want of memory is all that it refuses them for
-        Err(_) => Err(AllocError),
-    }
+    let missed = counted(
+        alloc,
+        tally,
+        commands.as_slice(),
+        rounds.as_slice(),
+        &capacity,
+        &answer,
+    )?;
+    Ok(missed)
 }

@@ -17,8 +17,8 @@ overflow_sub-result g c =
     let legal = c.requires.legal in
     omega (arith, all_commands c.args.commands.now c.args.rounds.now legal.one_each, m.most.most c.args.rounds.now legal, c.number_met.ensures)
 
-pub returns : goal.returns
-returns g c =
+pub returns-clause-misses : goal.returns-clause-misses
+returns-clause-misses g c =
     let m = c.requires.most in
     let legal = c.requires.legal in
     let met = all_commands c.args.commands.now c.args.answer.now.rounds.items m.legal.one_each in
