@@ -10,4 +10,4 @@ pub mod Waiting
 pub mod Ranks
 pub mod Verdicts
 pub mod Spares
-pub mod Outstaying
+pub mod Overdue

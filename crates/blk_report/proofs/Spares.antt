@@ -1,5 +1,5 @@
 -- How many late commands are spare, against how many could have been on time.
-use Rattle.std.proofs.Common.{◌≡◌, ◌<◌, ◌≤◌, ◌+◌, ◌-◌, ◌++◌, ◌∙◌, ℕ, List, [], ◌∷◌, length, get_or, take, cond, Bool, true, false, count_by, refl, sym, ap, subst, arith}
+use Rattle.std.proofs.Common.{◌≡◌, ◌<◌, ◌≤◌, ◌+◌, ◌-◌, ◌++◌, ◌∙◌, ℕ, List, [], ◌∷◌, length, get_or, take, cond, Bool, true, false, count_by, Some, None, refl, sym, ap, subst, arith}
 use Rattle.std.specs.Prelude.{Option, ◌↔◌}
 use Rattle.std.proofs.lemmas.List.{take_more, length-take}
 use Rattle.std.proofs.lemmas.List.Sums.{sum_by-append, count_by-le-length}
@@ -13,12 +13,13 @@ use Rattle.blk_report.specs.Misses.{number_late, IsLeastLate, HasSpares}
 use Rattle.blk_report.proofs.Lateness.{all_commands}
 
 -- one verdict more
-pub spares_more : (vs : List (Option Verdict)) (n : ℕ) (v : Option Verdict) → n < length vs → v ≡ get_or vs n v → spares_in (take (n + 1) vs) ≡ spares_in (take n vs) + cond (is_spare v) 1 0
+pub spares_more : (vs : List (Option Verdict)) (n : ℕ) (b : Bool) → n < length vs → b ≡ is_spare (get_or vs n None) → spares_in (take (n + 1) vs) ≡ spares_in (take n vs) + cond b 1 0
 unfolding spares_in
-spares_more vs n v h is =
-    ap (count_by is_spare) (take_more vs n v h ∙ ap (λ x. take n vs ++ x ∷ []) (sym is))
-    ∙ sum_by-append (λ (x : Option Verdict). cond (is_spare x) 1 0) (take n vs) (v ∷ [])
+spares_more vs n b h is =
+    ap (count_by is_spare) (take_more vs n None h)
+    ∙ sum_by-append (λ (x : Option Verdict). cond (is_spare x) 1 0) (take n vs) (get_or vs n None ∷ [])
     ∙ ap (λ m. count_by is_spare (take n vs) + m) (omega arith)
+    ∙ ap (λ a. count_by is_spare (take n vs) + cond a 1 0) (sym is)
 
 pub spares_few : (vs : List (Option Verdict)) (n : ℕ) → n ≤ length vs → spares_in (take n vs) ≤ n
 unfolding spares_in

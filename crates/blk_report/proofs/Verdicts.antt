@@ -6,23 +6,12 @@ use Rattle.std.proofs.lemmas.Bool.{lt-ltb, le-ltb}
 use Rattle.std.proofs.lemmas.List.{get_or-map, length-map}
 use Rattle.edd_check.specs.declared.Command.{Command}
 use Rattle.edd_check.specs.declared.steps.Step.{Step}
-use Rattle.edd_oracle.specs.Input.{IsTaken}
 use Rattle.edd_verdict.specs.declared.Verdict.{Verdict}
 use Rattle.edd_verdict.specs.Verdicts.{IsLate, IsVerdict, IsVerdictAt, AreVerdicts}
-use Rattle.blk_trace.specs.Laws.{AreBounded}
 use Rattle.blk_report.specs.declared.serving.Service.{Service}
 use Rattle.blk_report.specs.declared.delays.LateCommand.{LateCommand}
 use Rattle.blk_report.specs.Services.{command_in}
 use Rattle.blk_report.specs.Late.{is_late, IsJudged, HasVerdict}
-use Rattle.blk_report.proofs.Waiting.{unserved}
-
--- the oracle takes what a trace bounds
-pub taken : (commands : List Command) (rounds : List ℕ) → AreBounded commands rounds → IsTaken commands
-taken commands rounds bounded = record {
-  few = bounded.few;
-  in_range = λ k d h. (let in_range = bounded.in_range k d h in (omega (arith, in_range.0), in_range.1));
-  distinct = bounded.distinct;
-}
 
 -- a command at a place has no verdict where it is on time, and else one of which P holds
 abbrev Stands : (ℕ → Verdict → Type 0) → ℕ → Service → Option Verdict → Type 0
@@ -94,7 +83,7 @@ module _ (xs : List Service) (steps : List Step) where
   stands one k d None h met = omega (arith, met none, due_here k d none h, issued_here k d h)
   stands one k d (Some v) h is =
       let found = one k (omega (arith, length-map xs command_in)) is.0 in
-      let only : (other : Verdict) → IsVerdict commands rounds steps k other → other ≡ v = λ other right. found.1.1 other right ∙ sym (found.1.1 v is.1) in
+      let only : (other : Verdict) → IsVerdict commands rounds steps k other → other ≡ v = λ other right. found.2 other right ∙ sym (found.2 v is.1) in
       (omega (arith, is.0 none, due_here k d none h, issued_here k d h), (is.1, only))
 
   pub verdicts_by : HaveOne → (vs : List (Option Verdict)) (late : List Service) (told : List Verdict) → AreVerdicts commands rounds steps vs → late ≡ filter is_late xs → told ≡ filter_map (λ o. o) vs → AreTold IsOnly xs late told

@@ -72,7 +72,8 @@ fn overdue_ids<A: Allocator + Clone>(
     let last = trace.round();
     let mut ids = Vec::new(alloc);
     let mut round = 0;
-    for event in trace.events() {
+    let events = trace.events();
+    for event in events {
         if event.is_tick() {
             round += 1;
         } else if let Some(id) = outstays(event, setup, gone, round, last) {

@@ -1,6 +1,6 @@
 use Rattle.std.proofs.Common.{◌∙◌}
 use Rattle.std.proofs.lemmas.List.Sorted.{searched}
-use Rattle.blk_report.proofs.Outstaying.{found_among}
+use Rattle.blk_report.proofs.Overdue.{found_among}
 use Rattle.blk_report.proofs.outstaying.is_among.Goals as goal
 
 pub returns : goal.returns

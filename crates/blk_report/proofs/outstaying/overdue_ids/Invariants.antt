@@ -1,6 +1,6 @@
 use Rattle.std.proofs.Common.{◌≡◌, ℕ, take}
 use Rattle.blk_trace.specs.Waits.{has_id}
-use Rattle.blk_report.proofs.Outstaying.{IsReached}
+use Rattle.blk_report.proofs.Overdue.{IsReached}
 use Rattle.blk_report.proofs.outstaying.overdue_ids.Given as goal
 
 -- the round and the ids after the events so far

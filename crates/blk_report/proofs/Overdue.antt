@@ -13,7 +13,8 @@ use Rattle.edd_check.specs.declared.Command.{Command}
 use Rattle.blk_bio.specs.Bios.{Bio}
 use Rattle.blk_bio.specs.Requests.{dir_of}
 use Rattle.blk_bio.specs.declared.rule.TraceRule.TheVariants.{ReleasedTwice, Unknown, Fit}
-use Rattle.blk_trace.specs.Happened.{Happened, Tick, Release, Join}
+use Rattle.blk_trace.specs.Happened.{Happened}
+use Rattle.blk_trace.specs.declared.event.Event.TheVariants.{Tick, Release, Join}
 use Rattle.blk_trace.specs.Kinds.{is_tick, enters}
 use Rattle.blk_trace.specs.Setups.{Setup, expire_of}
 use Rattle.blk_trace.specs.Events.{round_of, request_of, IsReleased}
@@ -173,8 +174,8 @@ found_among ids id (Err i) is =
     (λ k d h. ne_eqb (get_or ids k d) id (λ e.
     let here : get_or ids k d ≡ get_or ids k 0 = get_or_default ids k d 0 h in
     elim (cases_lt k i) [
-      | inl low ↦ absurd (let below = is.1.0 k low in omega (arith, below, here, e))
-      | inr high ↦ absurd (let above = is.1.1 k high h in omega (arith, above, here, e))
+      | inl low ↦ absurd (let below = is.1 k low in omega (arith, below, here, e))
+      | inr high ↦ absurd (let above = is.2 k high h in omega (arith, above, here, e))
     ])))
 
 -- the ids of the commands are those that were issued
