@@ -1,8 +1,8 @@
 -- How many late commands are spare, against how many could have been on time.
 use Rattle.std.proofs.Common.{◌≡◌, ◌<◌, ◌≤◌, ◌+◌, ◌-◌, ◌++◌, ◌∙◌, ℕ, List, [], ◌∷◌, length, get_or, take, cond, Bool, true, false, count_by, Some, None, refl, sym, ap, subst, arith}
 use Rattle.std.specs.Prelude.{Option, ◌↔◌}
-use Rattle.std.proofs.lemmas.List.{take_more, length-take}
-use Rattle.std.proofs.lemmas.List.Sums.{sum_by-append, count_by-le-length}
+use Rattle.std.proofs.lemmas.List.{take_more}
+use Rattle.std.proofs.lemmas.List.Sums.{sum_by-append}
 use Rattle.edd_check.specs.declared.Command.{Command}
 use Rattle.edd_check.specs.declared.steps.Step.{Step}
 use Rattle.edd_check.specs.Schedule.{IsLegal}
@@ -20,10 +20,6 @@ spares_more vs n b h is =
     ∙ sum_by-append (λ (x : Option Verdict). cond (is_spare x) 1 0) (take n vs) (get_or vs n None ∷ [])
     ∙ ap (λ m. count_by is_spare (take n vs) + m) (omega arith)
     ∙ ap (λ a. count_by is_spare (take n vs) + cond a 1 0) (sym is)
-
-pub spares_few : (vs : List (Option Verdict)) (n : ℕ) → n ≤ length vs → spares_in (take n vs) ≤ n
-unfolding spares_in
-spares_few vs n h = omega (arith, count_by-le-length is_spare (take n vs), length-take n vs)
 
 pub no_spares : (vs : List (Option Verdict)) → spares_in (take 0 vs) ≡ 0
 unfolding spares_in
