@@ -11,15 +11,16 @@ use Rattle.edd_verdict.specs.declared.Verdict.{Verdict}
 use Rattle.edd_verdict.specs.Verdicts.{is_spare, AreVerdicts, arrivals_in, fulls_in, spares_in}
 use Rattle.blk_report.specs.Misses.{number_late, IsLeastLate, HasSpares}
 use Rattle.blk_report.proofs.Lateness.{all_commands}
+use Rattle.blk_report.proofs.Halving.{one_if}
 
 -- one verdict more
-pub spares_more : (vs : List (Option Verdict)) (n : ℕ) (b : Bool) → n < length vs → b ≡ is_spare (get_or vs n None) → spares_in (take (n + 1) vs) ≡ spares_in (take n vs) + cond b 1 0
+pub spares_more : (vs : List (Option Verdict)) (n : ℕ) (b : Bool) → n < length vs → b ≡ is_spare (get_or vs n None) → spares_in (take (n + 1) vs) ≡ spares_in (take n vs) + one_if b
 unfolding spares_in
 spares_more vs n b h is =
     ap (count_by is_spare) (take_more vs n None h)
     ∙ sum_by-append (λ (x : Option Verdict). cond (is_spare x) 1 0) (take n vs) (get_or vs n None ∷ [])
     ∙ ap (λ m. count_by is_spare (take n vs) + m) (omega arith)
-    ∙ ap (λ a. count_by is_spare (take n vs) + cond a 1 0) (sym is)
+    ∙ ap (λ a. count_by is_spare (take n vs) + one_if a) (sym is)
 
 pub no_spares : (vs : List (Option Verdict)) → spares_in (take 0 vs) ≡ 0
 unfolding spares_in

@@ -15,12 +15,19 @@ use blk_trace::{Event, Setup, Trace};
 use edd_check::Command;
 use std::alloc::{AllocError, Allocator};
 
-/// The ids of commands, rising.
+/// The ids of commands.
+fn ids_in<A: Allocator>(alloc: A, commands: &[Command]) -> Result<Vec<u64, A>, AllocError>
+    ensures { IfOk result (λ v. v.items ≡ map (λ c. c.id) commands.now) }
+{
+    commands.iter().map(|command| command.id).collect(alloc)
+}
+
+/// The same, rising.
 fn ids_of<A: Allocator>(alloc: A, commands: &[Command]) -> Result<Vec<u64, A>, AllocError>
     ensures ids { IfOk result (λ v. (id : ℕ) → has_id v.items id ≡ has_id (map (λ c. c.id) commands.now) id) }
     ensures rising { IfOk result (λ v. IsNonDecreasing v.items) }
 {
-    let mut ids: Vec<u64, A> = commands.iter().map(|command| command.id).collect(alloc)?;
+    let mut ids = ids_in(alloc, commands)?;
     ids.sort_unstable();
     Ok(ids)
 }

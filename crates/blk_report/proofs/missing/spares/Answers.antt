@@ -1,6 +1,7 @@
-use Rattle.std.proofs.Common.{◌≡◌, ◌∙◌, cond, arith, sym, ap}
+use Rattle.std.proofs.Common.{◌≡◌, ◌∙◌, arith, sym, ap}
 use Rattle.std.proofs.lemmas.List.{take_all}
 use Rattle.edd_verdict.specs.Verdicts.{spares_in}
+use Rattle.blk_report.proofs.Halving.{one_if}
 use Rattle.blk_report.proofs.Spares.{no_spares, spares_more}
 use Rattle.blk_report.proofs.missing.spares.Goals as goal
 use Rattle.blk_report.proofs.missing.spares.Goals.{then-is_spare, else-is_spare}
@@ -13,11 +14,11 @@ loop-verdict-preserved c =
     let old = c.loop-verdict.invariant in
     let more = spares_more c.args.verdicts.now c.loop-verdict.verdict-index c.is_spare.result c.loop-verdict-test.true c.is_spare.ensures in
     elim c.if-is_spare.branch [
-      | then-is_spare w ↦ (let one : cond c.is_spare.result 1 0 ≡ 1 = ap (λ b. cond b 1 0) w.if-is_spare.true in record {
+      | then-is_spare w ↦ (let one : one_if c.is_spare.result ≡ 1 = ap one_if w.if-is_spare.true in record {
         few = omega (arith, w.count-is, old.few);
         so_far = omega (arith, w.count-is, more, one, old.so_far);
       })
-      | else-is_spare w ↦ (let none : cond c.is_spare.result 1 0 ≡ 0 = ap (λ b. cond b 1 0) w.if-is_spare.false in record {
+      | else-is_spare w ↦ (let none : one_if c.is_spare.result ≡ 0 = ap one_if w.if-is_spare.false in record {
         few = omega (arith, w.count-is, old.few);
         so_far = omega (arith, w.count-is, more, none, old.so_far);
       })
