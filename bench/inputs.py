@@ -5,7 +5,9 @@ KIND is script (N bios), certificate (N commands), commands (N commands), backlo
 none touches another and none is issued) or touching (the same, but each touches half of the others and fits none, since
 each is as large as a request may be). Four kinds more are N commands at depth 8 in random order: at_once (all released in
 round 0), carried (as many as the rounds carry), crowded (twice as many) and sparse (one in a hundred rounds); depths is a trace
-of N rounds, in each of which a depth is set. All come from a fixed seed, so that every run has the same bytes."""
+of N rounds, in each of which a depth is set. Two are certificates of N commands at depth 8, a third of which run after all others and
+late: filled, where each lies in a window of 8 rounds that the others fill, in one of 64, and so on up to all rounds; and roomy, where each
+such window has room for one more. All come from a fixed seed, so that every run has the same bytes."""
 import random
 import sys
 
@@ -41,6 +43,39 @@ def certificate(commands, out):
     out(f"bound,{rounds - 1},0,0")
     for k in range(commands):
         out(f"{k},0,0,{k // depth}")
+
+
+def windows(commands, out, room):
+    """In each block of 8 rounds 64 commands are released and due, those of one round in the block of 8 times its size around it, and
+    so on; the first of each block are left out where there is to be room. Half as many more, late, are due in blocks alike."""
+    rng, depth = random.Random(7), 8
+    blocks = commands // (depth * 8 + 32)
+    rows, last = [], 8 * blocks
+    for block in range(blocks):
+        for at in range(room, 64):
+            now = 8 * block + at // 8
+            size = 8 ** rng.choice([1, 1, 1, 1, 1, 2, 3, 9]) if at % 8 == 7 else 8
+            rows.append((now // size * size, min(now // size * size + size, last) - 1, now))
+        for _ in range(32):
+            size = 8 ** rng.choice([1, 1, 1, 2, 3, 9])
+            begin = 8 * block // size * size
+            rows.append((rng.randrange(begin, 8 * block + 8), min(begin + size, last) - 1, None))
+    rng.shuffle(rows)
+    out(f"blk-certificate,1,{depth},{len(rows)}")
+    out("bound,0,0,0")
+    late = 0
+    for k, (release, due, now) in enumerate(rows):
+        if now is None:
+            now, late = last + late // depth, late + 1
+        out(f"{k},{release},{due},{now}")
+
+
+def filled(commands, out):
+    windows(commands, out, 0)
+
+
+def roomy(commands, out):
+    windows(commands, out, 1)
 
 
 def command_list(commands, out):
@@ -110,6 +145,8 @@ def main():
         "script": script,
         "certificate": certificate,
         "commands": command_list,
+        "filled": filled,
+        "roomy": roomy,
         "at_once": at_once,
         "carried": carried,
         "crowded": crowded,

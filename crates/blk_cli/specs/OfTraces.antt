@@ -3,7 +3,7 @@ use Rattle.std.specs.Prelude.{◌≡◌, ⊤, ℕ, List, Option, IfSome}
 use Rattle.std.specs.Io.KnownBytes.{Appends}
 use Rattle.edd_check.specs.Capacity.{fixed}
 use Rattle.blk_trace.specs.Depths.{IsFixed, capacity_of}
-use Rattle.blk_trace.specs.Meaning.{commands_of, rounds_of}
+use Rattle.blk_trace.specs.Meaning.{commands_of}
 use Rattle.blk_trace.specs.Traces.{Traced}
 use Rattle.blk_lists.specs.Commands.{SpellsCommands, commands_rows}
 use Rattle.blk_lists.specs.Sources.{Row}
@@ -11,12 +11,13 @@ use Rattle.blk_lists.specs.Texts.{rows_text}
 use Rattle.blk_text.specs.TraceForm.{SpellsTrace, TraceFault}
 use Rattle.blk_report.specs.declared.figures.Report.{Report}
 use Rattle.blk_report.specs.declared.missing.Crowd.{Crowd}
+use Rattle.blk_report.specs.declared.missing.Tally.{Tally}
 use Rattle.blk_report.specs.declared.spreading.Spreads.{Spreads}
 use Rattle.blk_report.specs.Lines.{report_text}
 use Rattle.blk_report.specs.declared.delays.LateCommand.{LateCommand}
 use Rattle.blk_report.specs.Late.{AreLate}
 use Rattle.blk_report.specs.LateText.{late_lines}
-use Rattle.blk_report.specs.Misses.{AreMisses}
+use Rattle.blk_report.specs.Misses.{IsTallied}
 use Rattle.blk_report.specs.MissesText.{misses_text}
 use Rattle.blk_report.specs.Services.{services_of}
 use Rattle.blk_report.specs.Shortfall.{IsReport}
@@ -50,15 +51,12 @@ pub record IsLateText (trace : Traced) (text : List ℕ) : Type 0 where
   pub are_late : AreLate (services_of trace.setup trace.events) (capacity_of trace.setup trace.events) late
   pub is_text : text ≡ late_lines late
 
--- the lines on how many of the trace's commands were late and had to be, and on the windows that prove it
+-- the lines on how many of the trace's commands were late and had to be, on what waits, and on the windows that prove it
 pub record IsMissesText (trace : Traced) (text : List ℕ) : Type 0 where
-  pub count : ℕ
-  pub late : ℕ
-  pub unavoidable : ℕ
-  pub avoidable : ℕ
+  pub tally : Tally
   pub windows : List Crowd
-  pub are_misses : AreMisses (commands_of trace.setup trace.events) (rounds_of trace.events) (capacity_of trace.setup trace.events) count late unavoidable avoidable windows
-  pub is_text : text ≡ misses_text count late unavoidable avoidable windows
+  pub is_tallied : IsTallied trace.setup trace.events tally windows
+  pub is_text : text ≡ misses_text tally windows
 
 -- what a job over a trace wrote: this text of the trace that was read
 pub record TraceWrote (IsText : Traced → List ℕ → Type 0) (rows : List Row) (old new : Option (List ℕ)) : Type 0 where

@@ -52,8 +52,8 @@ fn telling(rt: &impl Abort, alloc: Global, late_last: bool, text: &str) -> Told 
     let missed = misses(&trace).expect(rt, "memory");
     Told {
         shortfall: report.shortfall.expect(rt, "commands"),
-        late: missed.late,
-        avoidable: missed.avoidable,
+        late: missed.tally.late,
+        avoidable: missed.tally.avoidable,
     }
 }
 

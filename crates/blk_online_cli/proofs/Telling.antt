@@ -53,9 +53,9 @@ none_short u text t is holds = elim (telling.no_shortfall u.setup u.events t.rep
   | inr zero ↦ inr zero
 ]
 
-none_avoidable : (u : Traced) (text : List ℕ) → (t : IsMissesText u text) → IsTrace u → AtTicks (HoldsNow true u.setup) u.events → t.avoidable ≡ 0
+none_avoidable : (u : Traced) (text : List ℕ) → (t : IsMissesText u text) → IsTrace u → AtTicks (HoldsNow true u.setup) u.events → t.tally.avoidable ≡ 0
 none_avoidable u text t is holds =
-    telling.none_avoidable u.setup u.events t.count t.late t.unavoidable t.avoidable t.windows is.legal (meets_most true u.setup u.events is.legal refl holds) t.are_misses
+    telling.none_avoidable u.setup u.events t.tally.commands t.tally.late t.tally.unavoidable t.tally.avoidable t.windows is.legal (meets_most true u.setup u.events is.legal refl holds) t.is_tallied.misses
 
 -- the report, and the misses, of what a simulation wrote
 

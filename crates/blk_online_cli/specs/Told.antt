@@ -49,7 +49,7 @@ pub record CountsNoneAvoidable (bytes : List ℕ) (old new : Option (List ℕ)) 
   pub spelled : SpellsTrace (rows_in bytes) trace
   pub is_text : IsMissesText trace text
   pub wrote : Appends old new text
-  pub none_avoidable : is_text.avoidable ≡ 0
+  pub none_avoidable : is_text.tally.avoidable ≡ 0
 
 -- the words for a simulation under earliest, for a report and for the misses
 abbrev pub late_last_words : Bool → List (List ℕ)

@@ -8,3 +8,6 @@ pub mod Requests
 pub mod Halving
 pub mod Waiting
 pub mod Ranks
+pub mod Verdicts
+pub mod Spares
+pub mod Overdue

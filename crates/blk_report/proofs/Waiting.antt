@@ -10,6 +10,8 @@ use Rattle.edd_check.specs.Limits.{round_limit}
 use Rattle.edd_check.specs.Capacity.{carried, depth_at}
 use Rattle.edd_check.proofs.InForce.{carried_suc, carried_none}
 use Rattle.edd_check.proofs.Counting.{places_among, places_among-le}
+use Rattle.edd_verdict.specs.declared.Verdict.{Verdict}
+use Rattle.edd_verdict.specs.declared.Verdict.TheVariants.{Arrival}
 use Rattle.blk_bio.specs.declared.bio.Dir.TheVariants.{Read}
 use Rattle.blk_report.specs.declared.serving.Service.{Service}
 use Rattle.blk_report.specs.declared.delays.LateCommand.{LateCommand}
@@ -17,7 +19,7 @@ use Rattle.blk_report.specs.declared.below.Ask.{Ask}
 use Rattle.std.specs.List.Sorted.{IsPartitionPoint, IsPartitionedBy}
 use Rattle.std.proofs.lemmas.List.Sorted.{IsPartitionedBy-ltb, IsNonDecreasingBy-from_default}
 use Rattle.blk_report.specs.Services.{AreTimed, AreRising}
-use Rattle.blk_report.specs.Late.{is_late, goes_before, sooner_of, later_of, IsLateCommand, AreLate}
+use Rattle.blk_report.specs.Late.{is_late, goes_before, sooner_of, later_of, IsLateCommand, HasVerdict, AreLate}
 use Rattle.blk_report.specs.Inside.Below.{below, answer_of, IsAsk}
 use Rattle.blk_report.specs.Inside.Waited.{IsFrom, AsksFor, FitsIn, AreCarried, CanWait, late_command}
 use Rattle.blk_report.proofs.Halving.{one_if, count_cons}
@@ -217,9 +219,9 @@ is_waited xs steps s a le is within =
     }
 
 -- one late command: its places are in range, and its row says what is to be said
-pub one_row : (xs : List Service) (steps : List Step) (last : ℕ) (sums : List ℕ) (s : Service) (a : Ask) (n : ℕ) → s.due < s.issue → s.release ≤ s.issue → s.issue ≤ last → AsksFor xs s a → FitsIn xs steps → AreCarried steps last sums → n ≡ answer_of (map (λ s. s.due) xs) a
-    → CanWait sums s (a.end - a.start) n × IsLateCommand xs steps (late_command sums s (a.end - a.start) n)
-one_row xs steps last sums s a n late released in_time asks fits are is =
+pub one_row : (xs : List Service) (steps : List Step) (last : ℕ) (sums : List ℕ) (s : Service) (a : Ask) (n : ℕ) (v : Verdict) → s.due < s.issue → s.release ≤ s.issue → s.issue ≤ last → AsksFor xs s a → FitsIn xs steps → AreCarried steps last sums → n ≡ answer_of (map (λ s. s.due) xs) a
+    → CanWait sums s (a.end - a.start) n × IsLateCommand xs steps (late_command sums s (a.end - a.start) n v)
+one_row xs steps last sums s a n v late released in_time asks fits are is =
     let w = is_waited xs steps s a released asks fits in
     let split = carried_split steps s.release (s.issue - s.release) in
     let end : s.release + (s.issue - s.release) ≡ s.issue = omega (arith, released) in
@@ -287,31 +289,38 @@ counted_many f asks counted is = (counted_each f asks counted is).0
 
 pub each_row : (xs : List Service) (steps : List Step) (last : ℕ) (sums : List ℕ) (late : List Service) (asks counted : List Ask) → AreTimed xs → FitsIn xs steps → All (λ s. s.issue ≤ last) xs → AreCarried steps last sums → late ≡ filter is_late xs → length asks ≡ length late
     → ((k : ℕ) (d : Service) (e : Ask) → k < length late → AsksFor xs (get_or late k d) (get_or asks k e)) → map (λ a. a.count) counted ≡ map (answer_of (map (λ s. s.due) xs)) asks
-    → (k : ℕ) (d : Service) (e c : Ask) → k < length late → CanWait sums (get_or late k d) ((get_or asks k e).end - (get_or asks k e).start) (get_or counted k c).count × IsLateCommand xs steps (late_command sums (get_or late k d) ((get_or asks k e).end - (get_or asks k e).start) (get_or counted k c).count)
-each_row xs steps last sums late asks counted timed fits before sum is long are counts k d e c h =
-    one_row xs steps last sums (get_or late k d) (get_or asks k e) (get_or counted k c).count
+    → (k : ℕ) (d : Service) (e c : Ask) (v : Verdict) → k < length late → CanWait sums (get_or late k d) ((get_or asks k e).end - (get_or asks k e).start) (get_or counted k c).count × IsLateCommand xs steps (late_command sums (get_or late k d) ((get_or asks k e).end - (get_or asks k e).start) (get_or counted k c).count v)
+each_row xs steps last sums late asks counted timed fits before sum is long are counts k d e c v h =
+    one_row xs steps last sums (get_or late k d) (get_or asks k e) (get_or counted k c).count v
     (late_late xs late is k d h)
     (late_all (λ s. s.release ≤ s.issue) xs late is timed.released k d h)
     (late_all (λ s. s.issue ≤ last) xs late is before k d h)
     (are k d e h) fits sum
     ((counted_each (answer_of (map (λ (s : Service). s.due) xs)) asks counted counts).1 k e c (omega (arith, h, long)))
 
+-- what is said of each, by place and whatever its verdict
+abbrev pub AllTold : List Service → List Step → List ℕ → List Service → List Ask → List Ask → Type 0
+AllTold xs steps sums late asks counted =
+    (k : ℕ) (d : Service) (e c : Ask) (v : Verdict) → k < length late → CanWait sums (get_or late k d) ((get_or asks k e).end - (get_or asks k e).start) (get_or counted k c).count × IsLateCommand xs steps (late_command sums (get_or late k d) ((get_or asks k e).end - (get_or asks k e).start) (get_or counted k c).count v)
+
 -- all of them
-pub rows_are : (xs : List Service) (steps : List Step) (sums : List ℕ) (late : List Service) (asks counted : List Ask) (rows : List LateCommand) → late ≡ filter is_late xs → length rows ≡ length late
-    → ((k : ℕ) (d : Service) (e c : Ask) (r : LateCommand) → k < length late → get_or rows k r ≡ late_command sums (get_or late k d) ((get_or asks k e).end - (get_or asks k e).start) (get_or counted k c).count)
-    → ((k : ℕ) (d : Service) (e c : Ask) → k < length late → IsLateCommand xs steps (late_command sums (get_or late k d) ((get_or asks k e).end - (get_or asks k e).start) (get_or counted k c).count))
+pub rows_are : (xs : List Service) (steps : List Step) (sums : List ℕ) (late : List Service) (told : List Verdict) (asks counted : List Ask) (rows : List LateCommand) → late ≡ filter is_late xs → length rows ≡ length late
+    → ((k : ℕ) (d : Service) (e c : Ask) (v : Verdict) (r : LateCommand) → k < length late → get_or rows k r ≡ late_command sums (get_or late k d) ((get_or asks k e).end - (get_or asks k e).start) (get_or counted k c).count (get_or told k v))
+    → AllTold xs steps sums late asks counted
+    → ((k : ℕ) (d : Service) (e c : Ask) (v : Verdict) → k < length late → HasVerdict xs steps (late_command sums (get_or late k d) ((get_or asks k e).end - (get_or asks k e).start) (get_or counted k c).count (get_or told k v)))
     → AreLate xs steps rows
-rows_are xs steps sums late asks counted rows is long are each =
+rows_are xs steps sums late told asks counted rows is long are each judged =
     let no_ask : Ask = record { start = 0; end = 0; bound = 0; count = 0 } in
     let of : LateCommand → Service = λ l. l.service in
-    let no_row : LateCommand = record { service = unserved; lateness = 0; sooner = 0; later = 0; idle = 0 } in
+    let no_row : LateCommand = record { service = unserved; lateness = 0; sooner = 0; later = 0; idle = 0; verdict = Arrival } in
     let many : length (map of rows) ≡ length late = length-map rows of ∙ long in
     record {
       commands =
           same_lists (map of rows) late many
-          (λ k d h. (let low : k < length late = omega (arith, h, many) in get_or-map of rows k no_row d (omega (arith, low, long)) ∙ ap of (are k d no_ask no_ask no_row low)))
+          (λ k d h. (let low : k < length late = omega (arith, h, many) in get_or-map of rows k no_row d (omega (arith, low, long)) ∙ ap of (are k d no_ask no_ask Arrival no_row low)))
           ∙ is;
-      each = λ k r h. (let low : k < length late = omega (arith, h, long) in subst (IsLateCommand xs steps) (sym (are k unserved no_ask no_ask r low)) (each k unserved no_ask no_ask low));
+      each = λ k r h. (let low : k < length late = omega (arith, h, long) in subst (IsLateCommand xs steps) (sym (are k unserved no_ask no_ask Arrival r low)) (each k unserved no_ask no_ask (get_or told k Arrival) low).1);
+      judged = λ k r h. (let low : k < length late = omega (arith, h, long) in subst (HasVerdict xs steps) (sym (are k unserved no_ask no_ask Arrival r low)) (judged k unserved no_ask no_ask Arrival low));
     }
 
 -- a row after the others
@@ -374,11 +383,6 @@ sum_next steps n sum depth is at =
     let more : carried steps 0 (n + 1) ≡ carried steps 0 n + depth_at steps (0 + n) = ap (carried steps 0) (sym next) ∙ carried_suc steps 0 n in
     let deep : depth_at steps (0 + n) ≡ depth_at steps n = ap (depth_at steps) same in
     omega (arith, is, at, more, deep)
-
--- what is said of each, by place
-abbrev pub AllTold : List Service → List Step → List ℕ → List Service → List Ask → List Ask → Type 0
-AllTold xs steps sums late asks counted =
-    (k : ℕ) (d : Service) (e c : Ask) → k < length late → CanWait sums (get_or late k d) ((get_or asks k e).end - (get_or asks k e).start) (get_or counted k c).count × IsLateCommand xs steps (late_command sums (get_or late k d) ((get_or asks k e).end - (get_or asks k e).start) (get_or counted k c).count)
 
 pub told_same : (xs : List Service) (steps : List Step) (sums sums' : List ℕ) (late late' : List Service) (asks asks' counted counted' : List Ask) → sums ≡ sums' → late ≡ late' → asks ≡ asks' → counted ≡ counted' → AllTold xs steps sums' late' asks' counted' → AllTold xs steps sums late asks counted
 told_same xs steps sums sums' late late' asks asks' counted counted' s l a c all =

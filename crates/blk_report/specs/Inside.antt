@@ -3,3 +3,4 @@ pub mod Ranges
 pub mod Placed
 pub mod Below
 pub mod Waited
+pub mod Outstayed

@@ -1,9 +1,12 @@
--- Commands that were issued after they were due, and what the rounds that they waited went to.
-use Rattle.std.specs.Prelude.{ℕ, ◌≡◌, ◌+◌, ◌-◌, ◌&&◌, Bool, List, All, map, filter, count_by, nat_le, nat_lt}
+-- Commands that were issued after they were due, what the rounds that they waited went to, and why they were late.
+use Rattle.std.specs.Prelude.{ℕ, ◌≡◌, ◌<◌, ◌+◌, ◌-◌, ◌&&◌, Bool, List, All, length, map, filter, count_by, nat_le, nat_lt, slice_index_or}
 use Rattle.edd_check.specs.declared.steps.Step.{Step}
 use Rattle.edd_check.specs.Capacity.{carried}
+use Rattle.edd_verdict.specs.declared.Verdict.{Verdict}
+use Rattle.edd_verdict.specs.Verdicts.{IsVerdict}
 use Rattle.blk_report.specs.declared.serving.Service.{Service}
 use Rattle.blk_report.specs.declared.delays.LateCommand.{LateCommand}
+use Rattle.blk_report.specs.Services.{command_in}
 
 -- it was issued after it was due
 abbrev pub is_late : Service → Bool
@@ -28,7 +31,20 @@ pub record IsLateCommand (services : List Service) (steps : List Step) (l : Late
   pub later : l.later ≡ later_of services l.service
   pub adds_up : l.sooner + l.later + l.idle ≡ carried steps l.service.release (l.service.issue - l.service.release)
 
+-- what the verdict says of the command at place k, among the commands of these services in their rounds
+abbrev pub IsJudged : List Service → List Step → ℕ → Verdict → Type 0
+IsJudged services steps k verdict = IsVerdict (map command_in services) (map (λ s. s.issue) services) steps k verdict
+
+-- of the verdicts on a late command its own is right, and no other
+pub record HasVerdict (services : List Service) (steps : List Step) (l : LateCommand) : Type 0 where
+  pub place : ℕ
+  pub within : place < length services
+  pub stands : (d : Service) → slice_index_or services place d ≡ l.service
+  pub right : IsJudged services steps place l.verdict
+  pub only : (other : Verdict) → IsJudged services steps place other → other ≡ l.verdict
+
 -- all that are late, in their order
 pub record AreLate (services : List Service) (steps : List Step) (late : List LateCommand) : Type 0 where
   pub commands : map (λ l. l.service) late ≡ filter is_late services
   pub each : All (IsLateCommand services steps) late
+  pub judged : All (HasVerdict services steps) late

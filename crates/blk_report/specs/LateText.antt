@@ -2,6 +2,8 @@
 use Rattle.std.specs.Prelude.{ℕ, ◌++◌, ◌∷◌, [], List, decimal, codes}
 use Rattle.std.specs.List.{flat_map}
 use Rattle.blk_bio.specs.Letters.{direction_text}
+use Rattle.edd_verdict.specs.declared.Verdict.{Verdict}
+use Rattle.edd_verdict.specs.declared.Verdict.TheVariants.{Arrival, Spare, Full}
 use Rattle.blk_report.specs.declared.serving.Service.{Service}
 use Rattle.blk_report.specs.declared.delays.LateCommand.{LateCommand}
 use Rattle.blk_report.specs.SpreadText.{next_field}
@@ -18,9 +20,15 @@ round_fields s = (next_field (decimal s.release) ++ next_field (decimal s.due)) 
 abbrev pub wait_fields : LateCommand → List ℕ
 wait_fields l = ((next_field (decimal l.lateness) ++ next_field (decimal l.sooner)) ++ next_field (decimal l.later)) ++ next_field (decimal l.idle)
 
+-- why it was late, and the first and the last round of its window, if it has one
+abbrev pub verdict_fields : Verdict → List ℕ
+verdict_fields Arrival = codes ",arrival,,"
+verdict_fields Spare = codes ",spare,,"
+verdict_fields (Full w) = (codes ",full" ++ next_field (decimal w.from)) ++ next_field (decimal w.due)
+
 abbrev pub late_line : LateCommand → List ℕ
-late_line l = ((request_fields l.service ++ round_fields l.service) ++ wait_fields l) ++ 10 ∷ []
+late_line l = (((request_fields l.service ++ round_fields l.service) ++ wait_fields l) ++ verdict_fields l.verdict) ++ 10 ∷ []
 
 -- the head line, and a line for each
 abbrev pub late_lines : List LateCommand → List ℕ
-late_lines rows = (codes "id,dir,first,sectors,release,due,issue,lateness,sooner,later,idle" ++ 10 ∷ []) ++ flat_map late_line rows
+late_lines rows = (codes "id,dir,first,sectors,release,due,issue,lateness,sooner,later,idle,verdict,from,until" ++ 10 ∷ []) ++ flat_map late_line rows

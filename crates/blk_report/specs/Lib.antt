@@ -1,6 +1,7 @@
 pub mod Services
 pub mod Spread
 pub mod SpreadText
+pub mod Overdue
 pub mod Misses
 pub mod MissesText
 pub mod Late

@@ -1,12 +1,20 @@
 -- How many commands a schedule has late, and how many have to be.
-use Rattle.std.specs.Prelude.{ℕ, ◌≡◌, ◌≤◌, ◌+◌, List, length, map, count_by, nat_lt, zip}
+use Rattle.std.specs.Prelude.{ℕ, ◌≡◌, ◌≤◌, ◌+◌, List, Option, length, map, count_by, nat_lt, zip}
 use Rattle.edd_check.specs.declared.Command.{Command}
 use Rattle.edd_check.specs.declared.Window.{Window}
 use Rattle.edd_check.specs.declared.steps.Step.{Step}
 use Rattle.edd_check.specs.Schedule.{IsLegal}
 use Rattle.edd_check.specs.Met.{inside_of, carried_in, bound_of, IsCover}
 use Rattle.edd_oracle.specs.Met.{IsMetFirst, IsPassedCover}
+use Rattle.edd_verdict.specs.declared.Verdict.{Verdict}
+use Rattle.edd_verdict.specs.Verdicts.{AreVerdicts, arrivals_in, fulls_in, spares_in}
+use Rattle.blk_trace.specs.Happened.{Happened}
+use Rattle.blk_trace.specs.Setups.{Setup}
+use Rattle.blk_trace.specs.Depths.{capacity_of}
+use Rattle.blk_trace.specs.Meaning.{commands_of, rounds_of, waiting_of}
 use Rattle.blk_report.specs.declared.missing.Crowd.{Crowd}
+use Rattle.blk_report.specs.declared.missing.Tally.{Tally}
+use Rattle.blk_report.specs.Overdue.{overdue_of}
 
 -- how many commands a schedule has after they are due
 unfoldable pub number_late : List Command → List ℕ → ℕ
@@ -37,3 +45,17 @@ pub record AreMisses (commands : List Command) (rounds : List ℕ) (steps : List
   pub passed : IsPassedCover commands best steps cover
   pub windows_are : windows ≡ map (crowd_of commands steps) cover
   pub bound : bound_of commands steps cover + unavoidable ≡ length commands
+
+-- so many of the late ones were spare; with those that were late on arrival and the full ones they are all that were late
+pub record HasSpares (commands : List Command) (rounds : List ℕ) (steps : List Step) (late spare : ℕ) : Type 0 where
+  pub verdicts : List (Option Verdict)
+  pub are_verdicts : AreVerdicts commands rounds steps verdicts
+  pub spares : spare ≡ spares_in verdicts
+  pub kinds : late ≡ arrivals_in verdicts + fulls_in verdicts + spare
+
+-- what is counted in a trace, and the windows of the fewest
+pub record IsTallied (setup : Setup) (events : List Happened) (t : Tally) (windows : List Crowd) : Type 0 where
+  pub misses : AreMisses (commands_of setup events) (rounds_of events) (capacity_of setup events) t.commands t.late t.unavoidable t.avoidable windows
+  pub spares : HasSpares (commands_of setup events) (rounds_of events) (capacity_of setup events) t.late t.spare
+  pub waiting : t.waiting ≡ length (waiting_of events)
+  pub overdue : t.overdue ≡ length (overdue_of setup events)

@@ -1,20 +1,25 @@
-//! The commands of a trace that were late, and what the rounds that they waited went to.
+//! The commands of a trace that were late, what the rounds that they waited went to, and why they were late.
 
 ghost use Rattle.std.specs.Prelude.{ℕ, ◌≡◌, ◌≤◌, ◌<◌, ◌-◌, IfOk, All, filter, length, map, slice_index_or};
+ghost use Rattle.std.specs.List.{filter_map};
 ghost use Rattle.edd_check.specs.Limits.{round_limit};
+ghost use Rattle.edd_check.specs.Schedule.{IsLegal};
+ghost use Rattle.edd_verdict.specs.declared.Verdict.{Verdict as Why};
+ghost use Rattle.edd_verdict.specs.Verdicts.{AreVerdicts};
 ghost use Rattle.blk_trace.specs.Depths.{capacity_of};
 ghost use Rattle.blk_trace.specs.declared.trace.TheConstants.{MAX_EVENTS};
 ghost use Rattle.blk_report.specs.declared.below.Ask.{Ask as Asked};
 ghost use Rattle.blk_report.specs.declared.serving.Service.{Service as Served};
 ghost use Rattle.blk_report.specs.declared.delays.LateCommand.{LateCommand as Row};
-ghost use Rattle.blk_report.specs.Services.{services_of, AreTimed, AreRising};
+ghost use Rattle.blk_report.specs.Services.{services_of, command_in, AreTimed, AreRising};
 ghost use Rattle.blk_report.specs.Late.{is_late, AreLate};
-ghost use Rattle.blk_report.specs.Inside.Waited.{IsFrom, AsksFor, FitsIn, AreCarried, CanWait, late_command};
+ghost use Rattle.blk_report.specs.Inside.Waited.{IsFrom, AsksFor, AreCarried, CanWait, late_command};
 
 use crate::below::{Ask, count_below};
 use crate::serving::{Service, services};
 use blk_trace::Trace;
 use edd_check::Capacity;
+use edd_verdict::{Verdict, law_of_verdicts, verdicts};
 use std::alloc::{AllocError, Allocator};
 
 /// A command that was issued after it was due, and what the places of the rounds from its release up to but not including that of
@@ -31,6 +36,8 @@ pub struct LateCommand {
     pub later: u64,
     /// How many went to none.
     pub idle: u64,
+    /// Why it was late, beside the commands that were on time.
+    pub verdict: Verdict,
 }
 
 /// The place of the first command that was issued in a round or later. It is found by halves.
@@ -49,6 +56,16 @@ fn late_ones<A: Allocator>(alloc: A, services: &[Service]) -> Result<Vec<Service
         .iter()
         .copied()
         .filter(|service| service.due < service.issue)
+        .collect(alloc)
+}
+
+/// The verdicts of those commands that have one, in their order.
+fn told<A: Allocator>(alloc: A, verdicts: &[Option<Verdict>]) -> Result<Vec<Verdict, A>, AllocError>
+    ensures { IfOk result (λ v. v.items ≡ filter_map (λ o. o) verdicts.now) }
+{
+    verdicts
+        .iter()
+        .filter_map(|verdict| *verdict)
         .collect(alloc)
 }
 
@@ -127,10 +144,16 @@ fn last_issue(services: &[Service]) -> u64
     }
 }
 
-/// A late command with what its places went to.
-fn late_command(service: Service, places: u64, sooner: u64, sums: &[u64]) -> LateCommand
+/// A late command with its verdict and what its places went to.
+fn late_command(
+    service: Service,
+    places: u64,
+    sooner: u64,
+    verdict: Verdict,
+    sums: &[u64],
+) -> LateCommand
     requires { CanWait sums.now service places sooner }
-    ensures { result ≡ late_command sums.now service places sooner }
+    ensures { result ≡ late_command sums.now service places sooner verdict }
 {
     let carried = sums[service.issue as usize] - sums[service.release as usize];
     LateCommand {
@@ -139,46 +162,55 @@ fn late_command(service: Service, places: u64, sooner: u64, sums: &[u64]) -> Lat
         sooner,
         later: places - sooner,
         idle: carried - places,
+        verdict,
     }
 }
 
-/// The late commands with what their places went to.
+/// The late commands with their verdicts and what their places went to.
 fn late_commands<A: Allocator>(
     alloc: A,
     late: &[Service],
+    told: &[Verdict],
     asks: &[Ask],
     counted: &[Ask],
     sums: &[u64],
 ) -> Result<Vec<LateCommand, A>, AllocError>
+    requires told { length told.now ≡ length late.now }
     requires asked { length asks.now ≡ length late.now }
     requires counted { length counted.now ≡ length late.now }
     requires forward { All (λ a. a.start ≤ a.end) asks.now }
     requires each { (k : ℕ) → (d : Served) → (e f : Asked) → k < length late.now → CanWait sums.now (slice_index_or late.now k d) ((slice_index_or asks.now k e).end - (slice_index_or asks.now k e).start) (slice_index_or counted.now k f).count }
     ensures each { IfOk result (λ v. length v.items ≡ length late.now) }
-    ensures rows { IfOk result (λ v. (k : ℕ) → (d : Served) → (e f : Asked) → (r : Row) → k < length late.now → slice_index_or v.items k r ≡ late_command sums.now (slice_index_or late.now k d) ((slice_index_or asks.now k e).end - (slice_index_or asks.now k e).start) (slice_index_or counted.now k f).count) }
+    ensures rows { IfOk result (λ v. (k : ℕ) → (d : Served) → (e f : Asked) → (w : Why) → (r : Row) → k < length late.now → slice_index_or v.items k r ≡ late_command sums.now (slice_index_or late.now k d) ((slice_index_or asks.now k e).end - (slice_index_or asks.now k e).start) (slice_index_or counted.now k f).count (slice_index_or told.now k w)) }
 {
     let mut rows = Vec::new(alloc);
     for (place, service) in late.iter().enumerate() {
         let places = (asks[place].end - asks[place].start) as u64;
-        rows.push(late_command(*service, places, counted[place].count as u64, sums))?;
+        let sooner = counted[place].count as u64;
+        rows.push(late_command(*service, places, sooner, told[place], sums))?;
     }
     Ok(rows)
 }
 
-/// The late ones of commands, which no round has more of than it carries.
+/// The late ones of commands, which have these verdicts.
 fn delays<A: Allocator + Clone, B: Allocator>(
     alloc: A,
     services: &[Service],
+    verdicts: &[Option<Verdict>],
     capacity: &Capacity<B>,
 ) -> Result<Vec<LateCommand, A>, AllocError>
     requires timed { AreTimed services.now }
     requires rising { AreRising services.now }
-    requires fits { FitsIn services.now capacity.now }
+    requires legal { IsLegal (map command_in services.now) (map (λ s. s.issue) services.now) capacity.now }
+    requires judged { AreVerdicts (map command_in services.now) (map (λ s. s.issue) services.now) capacity.now verdicts.now }
     ensures { IfOk result (λ v. AreLate services.now capacity.now v.items) }
 {
+    law_of_verdicts();
+    let _ = capacity.at(0);
     let last = last_issue(services);
     let sums = sums_upto(alloc.clone()?, capacity, last)?;
     let late = late_ones(alloc.clone()?, services)?;
+    let told = told(alloc.clone()?, verdicts)?;
     let asks = asks(alloc.clone()?, services, late.as_slice())?;
     let dues = dues(alloc.clone()?, services)?;
     let limit = after_all(dues.as_slice());
@@ -186,6 +218,7 @@ fn delays<A: Allocator + Clone, B: Allocator>(
     let rows = late_commands(
         alloc,
         late.as_slice(),
+        told.as_slice(),
         asks.as_slice(),
         counted.as_slice(),
         sums.as_slice(),
@@ -195,15 +228,27 @@ fn delays<A: Allocator + Clone, B: Allocator>(
 
 /// The commands of a trace that were issued after they were due, in the order of these Issues. Of the places of the rounds from its
 /// release up to but not including that of its Issue, each says how many went to commands due no later than it, how many to commands
-/// due later, and how many to none: together they are what these rounds carry. Only Issues count that were not handed back. Fails
-/// for want of memory alone. The time grows as the number of events times its binary digits, or times those of the last due round
-/// where these are more.
+/// due later, and how many to none: together they are what these rounds carry. And each has the one verdict that is right of it,
+/// beside the commands that were on time. Only Issues count that were not handed back. Fails for want of memory alone. The time grows
+/// as the number of events times its binary digits, or times those of the last due round where these are more.
 pub fn late<A: Allocator + Clone>(trace: &Trace<A>) -> Result<Vec<LateCommand, A>, AllocError>
     ensures { IfOk result (λ v. AreLate (services_of trace.now.setup trace.now.events) (capacity_of trace.now.setup trace.now.events) v.items) }
 {
     let services = services(trace)?;
+    let commands = trace.commands()?;
     let rounds = trace.rounds()?;
     let capacity = trace.capacity()?;
-    let found = delays(rounds.allocator().clone()?, services.as_slice(), &capacity)?;
+    let verdicts = verdicts(
+        rounds.allocator().clone()?,
+        commands.as_slice(),
+        rounds.as_slice(),
+        &capacity,
+    )?;
+    let found = delays(
+        rounds.allocator().clone()?,
+        services.as_slice(),
+        verdicts.as_slice(),
+        &capacity,
+    )?;
     Ok(found)
 }

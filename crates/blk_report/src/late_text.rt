@@ -6,11 +6,12 @@ ghost use Rattle.std.specs.Io.KnownBytes.{Appends};
 ghost use Rattle.drafts.specs.Parts.{AppendsPart};
 ghost use Rattle.blk_bio.specs.Letters.{direction_text};
 ghost use Rattle.blk_report.specs.SpreadText.{next_field};
-ghost use Rattle.blk_report.specs.LateText.{request_fields, round_fields, wait_fields, late_line, late_lines};
+ghost use Rattle.blk_report.specs.LateText.{request_fields, round_fields, wait_fields, verdict_fields, late_line, late_lines};
 
 use crate::{LateCommand, Service};
 use blk_bio::Dir;
 use drafts::{Draft, WriteFault, write_whole};
+use edd_verdict::Verdict;
 use std::alloc::{AllocError, Global};
 use std::io::Write;
 
@@ -58,6 +59,21 @@ fn push_wait(draft: &mut Draft, late: &LateCommand) -> Result<(), AllocError>
     push_number(draft, late.idle)
 }
 
+/// Adds the fields of its verdict.
+fn push_verdict(draft: &mut Draft, verdict: Verdict) -> Result<(), AllocError>
+    ensures { OnOk result (draft.new ≡ draft.old ++ verdict_fields verdict) }
+{
+    match verdict {
+        Verdict::Arrival => draft.text(b",arrival,,"),
+        Verdict::Spare => draft.text(b",spare,,"),
+        Verdict::Full(window) => {
+            draft.text(b",full")?;
+            push_number(draft, window.from)?;
+            push_number(draft, window.due)
+        }
+    }
+}
+
 /// Adds the line of a command.
 fn push_late_command(draft: &mut Draft, late: &LateCommand) -> Result<(), AllocError>
     ensures { OnOk result (draft.new ≡ draft.old ++ late_line late.now) }
@@ -65,6 +81,7 @@ fn push_late_command(draft: &mut Draft, late: &LateCommand) -> Result<(), AllocE
     push_request(draft, &late.service)?;
     push_rounds(draft, &late.service)?;
     push_wait(draft, late)?;
+    push_verdict(draft, late.verdict)?;
     draft.text(b"\n")
 }
 
@@ -83,14 +100,17 @@ pub fn drafted(alloc: Global, late: &[LateCommand]) -> Result<Vec<u8>, AllocErro
     ensures { IfOk result (λ v. v.items ≡ late_lines late.now) }
 {
     let mut draft = Draft::new(alloc);
-    draft.text(b"id,dir,first,sectors,release,due,issue,lateness,sooner,later,idle\n")?;
+    draft.text(
+        b"id,dir,first,sectors,release,due,issue,lateness,sooner,later,idle,verdict,from,until\n",
+    )?;
     push_late_commands(&mut draft, late)?;
     draft.finish()
 }
 
 /// Writes late commands as records of comma-separated fields, at once where all of it could be made: the head line
-/// `id,dir,first,sectors,release,due,issue,lateness,sooner,later,idle`, and a line for each, in their order. The direction is `R`
-/// or `W`; sectors and rounds are as in the trace.
+/// `id,dir,first,sectors,release,due,issue,lateness,sooner,later,idle,verdict,from,until`, and a line for each, in their order. The
+/// direction is `R` or `W`; sectors and rounds are as in the trace. The verdict is `arrival` or `spare` before two empty fields, or
+/// `full` before the first and the last round of its window.
 ///
 /// [`WriteFault::Write`]: the writer answered a fault; what it took before, a first part of the text, is out, and nothing says how
 /// much that is. [`WriteFault::Memory`]: nothing was handed to the writer.

@@ -4,10 +4,10 @@ ghost use Rattle.std.specs.Prelude.{◌≡◌, ◌++◌, IfOk, IfErr, OnOk};
 ghost use Rattle.std.specs.List.{flat_map};
 ghost use Rattle.std.specs.Io.KnownBytes.{Appends};
 ghost use Rattle.drafts.specs.Parts.{AppendsPart};
-ghost use Rattle.blk_report.specs.MissesText.{crowd_line, misses_text};
+ghost use Rattle.blk_report.specs.MissesText.{crowd_line, tally_text, misses_text};
 
 use crate::lines::push_number_line;
-use crate::{Crowd, Missed};
+use crate::{Crowd, Missed, Tally};
 use drafts::{Draft, WriteFault, write_whole};
 use std::alloc::{AllocError, Allocator, Global};
 use std::io::Write;
@@ -37,22 +37,32 @@ fn push_crowds(draft: &mut Draft, crowds: &[Crowd]) -> Result<(), AllocError>
     Ok(())
 }
 
+/// Adds the lines of the numbers.
+fn push_tally(draft: &mut Draft, tally: &Tally) -> Result<(), AllocError>
+    ensures { OnOk result (draft.new ≡ draft.old ++ tally_text tally.now) }
+{
+    push_number_line(draft, b"commands", tally.commands)?;
+    push_number_line(draft, b"late", tally.late)?;
+    push_number_line(draft, b"unavoidable", tally.unavoidable)?;
+    push_number_line(draft, b"avoidable", tally.avoidable)?;
+    push_number_line(draft, b"spare", tally.spare)?;
+    push_number_line(draft, b"waiting", tally.waiting)?;
+    push_number_line(draft, b"overdue", tally.overdue)
+}
+
 /// All the lines.
 pub fn drafted<A: Allocator>(alloc: Global, missed: &Missed<A>) -> Result<Vec<u8>, AllocError>
-    ensures { IfOk result (λ v. v.items ≡ misses_text missed.now.commands missed.now.late missed.now.unavoidable missed.now.avoidable missed.now.windows.items) }
+    ensures { IfOk result (λ v. v.items ≡ misses_text missed.now.tally missed.now.windows.items) }
 {
     let mut draft = Draft::new(alloc);
-    push_number_line(&mut draft, b"commands", missed.commands)?;
-    push_number_line(&mut draft, b"late", missed.late)?;
-    push_number_line(&mut draft, b"unavoidable", missed.unavoidable)?;
-    push_number_line(&mut draft, b"avoidable", missed.avoidable)?;
+    push_tally(&mut draft, &missed.tally)?;
     push_crowds(&mut draft, missed.windows.as_slice())?;
     draft.finish()
 }
 
-/// Writes how many commands were late, at once where all of it could be made: the lines `commands N`, `late M`, `unavoidable U` and
-/// `avoidable A`, and one for each window, `window FROM UNTIL commands C carries K`: C commands are released and due in the rounds
-/// FROM to UNTIL, and these carry K.
+/// Writes how many commands were late, at once where all of it could be made: the lines `commands N`, `late M`, `unavoidable U`,
+/// `avoidable A`, `spare S`, `waiting W` and `overdue O`, and one for each window, `window FROM UNTIL commands C carries K`: C
+/// commands are released and due in the rounds FROM to UNTIL, and these carry K.
 ///
 /// [`WriteFault::Write`]: the writer answered a fault; what it took before, a first part of the text, is out, and nothing says how
 /// much that is. [`WriteFault::Memory`]: nothing was handed to the writer.
@@ -61,10 +71,10 @@ pub fn write_misses<A: Allocator, W: Write>(
     missed: &Missed<A>,
     writer: &mut W,
 ) -> Result<(), WriteFault>
-    ensures ok { OnOk result (Appends (W.contents writer.old) (W.contents writer.new) (misses_text missed.now.commands missed.now.late missed.now.unavoidable missed.now.avoidable missed.now.windows.items)) }
+    ensures ok { OnOk result (Appends (W.contents writer.old) (W.contents writer.new) (misses_text missed.now.tally missed.now.windows.items)) }
     ensures memory { IfErr result (λ f. f ≡ WriteFault.Memory → writer.new ≡ writer.old) }
     // whatever the answer
-    ensures part { AppendsPart (W.contents writer.old) (W.contents writer.new) (misses_text missed.now.commands missed.now.late missed.now.unavoidable missed.now.avoidable missed.now.windows.items) }
+    ensures part { AppendsPart (W.contents writer.old) (W.contents writer.new) (misses_text missed.now.tally missed.now.windows.items) }
 {
     let Ok(text) = drafted(alloc, missed) else {
         return Err(WriteFault::Memory);

@@ -26,7 +26,7 @@ fn write_before_read(rt: HostRuntime) {
         Step::Serve(1),
     ];
     let told =
-        b"id,dir,first,sectors,release,due,issue,lateness,sooner,later,idle\n1,R,100,8,0,0,1,1,0,1,0\n";
+        b"id,dir,first,sectors,release,due,issue,lateness,sooner,later,idle,verdict,from,until\n1,R,100,8,0,0,1,1,0,1,0,spare,,\n";
     assert_eq!(rt;
         lines(&rt, rt.alloc(), 1, &steps).as_slice(),
         told.as_slice()
@@ -47,7 +47,7 @@ fn sooner_later_and_idle(rt: HostRuntime) {
         Step::Serve(2),
     ];
     let told =
-        b"id,dir,first,sectors,release,due,issue,lateness,sooner,later,idle\n1,R,100,8,0,0,1,1,0,1,1\n2,R,200,8,0,0,2,2,1,2,1\n";
+        b"id,dir,first,sectors,release,due,issue,lateness,sooner,later,idle,verdict,from,until\n1,R,100,8,0,0,1,1,0,1,1,spare,,\n2,R,200,8,0,0,2,2,1,2,1,spare,,\n";
     assert_eq!(rt;
         lines(&rt, rt.alloc(), 2, &steps).as_slice(),
         told.as_slice()
@@ -65,7 +65,7 @@ fn changing_depth(rt: HostRuntime) {
         Step::Serve(1),
     ];
     let told =
-        b"id,dir,first,sectors,release,due,issue,lateness,sooner,later,idle\n1,R,100,8,0,0,2,2,0,0,4\n";
+        b"id,dir,first,sectors,release,due,issue,lateness,sooner,later,idle,verdict,from,until\n1,R,100,8,0,0,2,2,0,0,4,spare,,\n";
     assert_eq!(rt;
         lines(&rt, rt.alloc(), 3, &steps).as_slice(),
         told.as_slice()
@@ -75,7 +75,7 @@ fn changing_depth(rt: HostRuntime) {
 /// A read that goes out in its due round is not late.
 #[test]
 fn none_late(rt: HostRuntime) {
-    let told = b"id,dir,first,sectors,release,due,issue,lateness,sooner,later,idle\n";
+    let told = b"id,dir,first,sectors,release,due,issue,lateness,sooner,later,idle,verdict,from,until\n";
     assert_eq!(rt; lines(&rt, rt.alloc(), 1, &[]).as_slice(), told.as_slice());
     let steps = [Step::Read(1), Step::Serve(1)];
     assert_eq!(rt;

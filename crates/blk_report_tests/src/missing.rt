@@ -25,7 +25,7 @@ fn write_before_read(rt: HostRuntime) {
         Step::Serve(0),
         Step::Serve(1),
     ];
-    let told = b"commands 2\nlate 1\nunavoidable 0\navoidable 1\n";
+    let told = b"commands 2\nlate 1\nunavoidable 0\navoidable 1\nspare 1\nwaiting 0\noverdue 0\n";
     assert_eq!(rt;
         lines(&rt, rt.alloc(), 1, &steps).as_slice(),
         told.as_slice()
@@ -41,7 +41,7 @@ fn three_reads_at_once(rt: HostRuntime) {
         Step::Both(0, 1),
         Step::Serve(2),
     ];
-    let told = b"commands 3\nlate 1\nunavoidable 1\navoidable 0\nwindow 0 0 commands 3 carries 2\n";
+    let told = b"commands 3\nlate 1\nunavoidable 1\navoidable 0\nspare 0\nwaiting 0\noverdue 0\nwindow 0 0 commands 3 carries 2\n";
     assert_eq!(rt;
         lines(&rt, rt.alloc(), 2, &steps).as_slice(),
         told.as_slice()

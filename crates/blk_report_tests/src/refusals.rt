@@ -22,7 +22,7 @@ fn asked<'a>(rt: &impl Abort, heap: Heap<'a>, trace: &Trace<Heap<'a>>) {
         assert!(rt; armed && !heap.is_armed());
         return;
     };
-    assert_eq!(rt; missed.avoidable, 1);
+    assert_eq!(rt; missed.tally.avoidable, 1);
     let Ok(found) = late(trace) else {
         assert!(rt; armed && !heap.is_armed());
         return;

@@ -3,6 +3,7 @@ use Rattle.std.specs.Prelude.{ℕ, ◌≡◌, ◌≤◌, ◌<◌, ◌+◌, ◌-�
 use Rattle.edd_check.specs.declared.steps.Step.{Step}
 use Rattle.edd_check.specs.Capacity.{carried, depth_at}
 use Rattle.edd_check.specs.Schedule.{places_at}
+use Rattle.edd_verdict.specs.declared.Verdict.{Verdict}
 use Rattle.blk_report.specs.declared.serving.Service.{Service}
 use Rattle.blk_report.specs.declared.delays.LateCommand.{LateCommand}
 use Rattle.blk_report.specs.declared.below.Ask.{Ask}
@@ -29,14 +30,15 @@ pub record AreCarried (steps : List Step) (last : ℕ) (sums : List ℕ) : Type 
   pub each : length sums ≡ last + 1
   pub at : (x : ℕ) → x ≤ last → slice_index sums x ≡ carried steps 0 x
 
--- a late command, of whose places so many went to commands, and of these so many to commands due no later
-abbrev pub late_command : List ℕ → Service → ℕ → ℕ → LateCommand
-late_command sums s places sooner = record {
+-- a late command with its verdict, of whose places so many went to commands, and of these so many to commands due no later
+abbrev pub late_command : List ℕ → Service → ℕ → ℕ → Verdict → LateCommand
+late_command sums s places sooner verdict = record {
   service = s;
   lateness = s.issue - s.due;
   sooner = sooner;
   later = places - sooner;
   idle = slice_index sums s.issue - slice_index sums s.release - places;
+  verdict = verdict;
 }
 
 -- the places of a late command are in range, so many of them went to commands due no later, and its rounds carry as many

@@ -1,5 +1,7 @@
 use Rattle.std.proofs.Common.{◌≡◌, ◌-◌, ◌<◌, ◌∙◌, ℕ, get_or, length, ap, arith}
 use Rattle.std.proofs.lemmas.List.{get_or_default}
+use Rattle.edd_verdict.specs.declared.Verdict.{Verdict}
+use Rattle.edd_verdict.specs.declared.Verdict.TheVariants.{Arrival}
 use Rattle.blk_report.specs.declared.below.Ask.{Ask}
 use Rattle.blk_report.specs.declared.serving.Service.{Service}
 use Rattle.blk_report.specs.declared.delays.LateCommand.{LateCommand}
@@ -17,14 +19,15 @@ pub loop-place-preserved : goal.loop-place-preserved
 loop-place-preserved g c =
     let old = c.loop-place.invariant in
     let n : ℕ = c.loop-place.place in
-    let row : Service → Ask → Ask → LateCommand = λ s a f. late_command c.args.sums.now s (a.end - a.start) f.count in
+    let row : Service → Ask → Ask → Verdict → LateCommand = λ s a f v. late_command c.args.sums.now s (a.end - a.start) f.count v in
     let low : n < length c.args.late.now = c.loop-place-test.true in
-    let here : (d : Service) (e f : Ask) → c.late_command.result ≡ row (get_or c.args.late.now n d) (get_or c.args.asks.now n e) (get_or c.args.counted.now n f) =
-    λ d e f.
+    let here : (d : Service) (e f : Ask) (v : Verdict) → c.late_command.result ≡ row (get_or c.args.late.now n d) (get_or c.args.asks.now n e) (get_or c.args.counted.now n f) (get_or c.args.told.now n v) =
+    λ d e f v.
     c.late_command.ensures
-    ∙ ap (λ s. row s (get_or c.args.asks.now n no_ask) (get_or c.args.counted.now n no_ask)) (get_or_default c.args.late.now n unserved d low)
-    ∙ ap (λ a. row (get_or c.args.late.now n d) a (get_or c.args.counted.now n no_ask)) (get_or_default c.args.asks.now n no_ask e (omega (arith, low, c.requires.asked)))
-    ∙ ap (λ a. row (get_or c.args.late.now n d) (get_or c.args.asks.now n e) a) (get_or_default c.args.counted.now n no_ask f (omega (arith, low, c.requires.counted))) in
+    ∙ ap (λ s. row s (get_or c.args.asks.now n no_ask) (get_or c.args.counted.now n no_ask) (get_or c.args.told.now n Arrival)) (get_or_default c.args.late.now n unserved d low)
+    ∙ ap (λ a. row (get_or c.args.late.now n d) a (get_or c.args.counted.now n no_ask) (get_or c.args.told.now n Arrival)) (get_or_default c.args.asks.now n no_ask e (omega (arith, low, c.requires.asked)))
+    ∙ ap (λ a. row (get_or c.args.late.now n d) (get_or c.args.asks.now n e) a (get_or c.args.told.now n Arrival)) (get_or_default c.args.counted.now n no_ask f (omega (arith, low, c.requires.counted)))
+    ∙ ap (row (get_or c.args.late.now n d) (get_or c.args.asks.now n e) (get_or c.args.counted.now n f)) (get_or_default c.args.told.now n Arrival v (omega (arith, low, c.requires.told))) in
     let new =
-    row_push (λ k x. (d : Service) (e f : Ask) → x ≡ row (get_or c.args.late.now k d) (get_or c.args.asks.now k e) (get_or c.args.counted.now k f)) n c.loop-place.rows.items c.late_command.result c.push.new.self.items old.each c.in_ok-push.ensures.items (λ k r h d e f. old.so_far k d e f r h) here in
-    record { each = new.0; so_far = λ k d e f r h. new.1 k r h d e f }
+    row_push (λ k x. (d : Service) (e f : Ask) (v : Verdict) → x ≡ row (get_or c.args.late.now k d) (get_or c.args.asks.now k e) (get_or c.args.counted.now k f) (get_or c.args.told.now k v)) n c.loop-place.rows.items c.late_command.result c.push.new.self.items old.each c.in_ok-push.ensures.items (λ k r h d e f v. old.so_far k d e f v r h) here in
+    record { each = new.0; so_far = λ k d e f v r h. new.1 k r h d e f v }

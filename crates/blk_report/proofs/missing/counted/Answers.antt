@@ -11,14 +11,14 @@ overflow_sub-unavoidable g c =
 pub overflow_sub-late : goal.overflow_sub-late
 overflow_sub-late g c = omega (arith, all_commands c.args.commands.now c.args.rounds.now c.requires.legal.one_each, c.number_met.ensures)
 
-pub overflow_sub-result : goal.overflow_sub-result
-overflow_sub-result g c =
+pub overflow_sub-tally : goal.overflow_sub-tally
+overflow_sub-tally g c =
     let m = c.requires.most in
     let legal = c.requires.legal in
     omega (arith, all_commands c.args.commands.now c.args.rounds.now legal.one_each, m.most.most c.args.rounds.now legal, c.number_met.ensures)
 
-pub returns : goal.returns
-returns g c =
+pub returns-clause-misses : goal.returns-clause-misses
+returns-clause-misses g c =
     let m = c.requires.most in
     let legal = c.requires.legal in
     let met = all_commands c.args.commands.now c.args.answer.now.rounds.items m.legal.one_each in

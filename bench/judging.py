@@ -1,0 +1,169 @@
+"""What `late` and `misses` say of a trace, by its rule said once more without the program: who can be on time beside whom is a
+matching of commands and rounds, and a full window is looked for among all windows."""
+import csv
+import io
+from collections import Counter, namedtuple
+
+Served = namedtuple("Served", "id dir first sectors release due issue")
+
+
+class Trace:
+    """The commands of a good trace, the places of its rounds, and what waits at its end."""
+
+    def __init__(self, text):
+        records = [it for it in csv.reader(io.StringIO(text.decode("latin-1"), newline="")) if it]
+        self.depth, self.depths, self.round = int(records[0][2]), {}, 0
+        self.expire = {"R": int(records[1][1]), "W": int(records[1][2])}
+        self.requests, self.tags, issued = {}, {}, []
+        at = 2
+        while at < len(records):
+            word, *fields = records[at]
+            at += 1
+            if word == "tick":
+                self.round += 1
+            elif word == "depth":
+                self.depths[self.round + 1] = int(fields[0])
+            elif word in ("release", "join"):
+                self.enter(fields[0], [it[3:6] for it in records[at : at + int(fields[1])]])
+                at += int(fields[1])
+            elif word == "issue":
+                self.tags[fields[1]] = len(issued)
+                issued.append((fields[0], self.round))
+            elif word == "back":
+                issued[self.tags[fields[0]]] = None
+        self.served = [self.command(*it) for it in issued if it]
+        gone = {it.id for it in self.served}
+        self.waiting = [it for id, it in self.requests.items() if int(id) not in gone]
+
+    def enter(self, id, bios):
+        """The release and the due round, the direction, the range and the number of bios of a request, with what joins it."""
+        direction, first = bios[0][0], int(bios[0][1])
+        end = int(bios[-1][1]) + int(bios[-1][2])
+        due, count = self.round + self.expire[direction], len(bios)
+        if id in self.requests:
+            _, old_due, _, old_first, old_end, old_count = self.requests[id]
+            first, end = (old_first, end) if first == old_end else (first, old_end)
+            due, count = min(due, old_due), count + old_count
+        self.requests[id] = self.round, due, direction, first, end, count
+
+    def command(self, id, issue):
+        release, due, direction, first, end, _ = self.requests[id]
+        return Served(int(id), direction, first, end - first, release, due, issue)
+
+    def places(self, at):
+        """How many commands the round carries."""
+        return next((self.depths[it] for it in sorted(self.depths, reverse=True) if it <= at), self.depth)
+
+
+def most_met(trace, commands):
+    """How many of the commands can be on time in one schedule, by augmenting paths. No command has to wait for more rounds than
+    there are commands."""
+    held = {}
+
+    def find(command, seen):
+        for at in range(command.release, min(command.due, command.release + len(commands)) + 1):
+            if at in seen:
+                continue
+            seen.add(at)
+            there = held.setdefault(at, [])
+            if len(there) < trace.places(at):
+                there.append(command)
+                return True
+            for place, other in enumerate(there):
+                if find(other, seen):
+                    held[at][place] = command
+                    return True
+        return False
+
+    return sum(find(it, set()) for it in commands)
+
+
+def window(trace, met, command):
+    """Of the windows around the command whose every place went to a command on time that lies in it, the first to end, and of
+    those the first to begin."""
+    for until in sorted({it.due for it in met if it.due >= command.due}):
+        for begin in range(command.release + 1):
+            held = Counter(it.issue for it in met if begin <= it.release and it.due <= until)
+            if until < begin + len(met) and all(held[at] >= trace.places(at) for at in range(begin, until + 1)):
+                return begin, until
+    return None
+
+
+def verdict(trace, command):
+    """The last three fields of a late command. That it is spare or full, and never both, is asserted."""
+    if command.due < command.release:
+        return "arrival", "", ""
+    met = [it for it in trace.served if it.issue <= it.due]
+    full = window(trace, met, command)
+    spare = most_met(trace, [*met, command]) == len(met) + 1
+    assert spare == (full is None), (command, full, spare)
+    return ("spare", "", "") if spare else ("full", *full)
+
+
+def waited(trace, command):
+    """What the places of the rounds went to that a command waited."""
+    held = [it for it in trace.served if command.release <= it.issue < command.issue]
+    sooner = sum(it.due <= command.due for it in held)
+    carried = sum(trace.places(at) for at in range(command.release, command.issue))
+    return command.issue - command.due, sooner, len(held) - sooner, carried - len(held)
+
+
+def late(trace):
+    """What `late` writes."""
+    head = "id,dir,first,sectors,release,due,issue,lateness,sooner,later,idle,verdict,from,until"
+    rows = [(*it, *waited(trace, it), *verdict(trace, it)) for it in trace.served if it.issue > it.due]
+    return "".join(f"{it}\n" for it in [head, *[",".join(map(str, row)) for row in rows]])
+
+
+def passing_over(trace):
+    """The round of each command by earliest due first where what is late is passed over, and then the rest by the same rule."""
+    rounds, left, now, over = {}, set(trace.served), 0, True
+    while left:
+        there = sorted((it.due, it.id, it) for it in left if it.release <= now)
+        there = [it for due, _, it in there if due >= now or not over][: trace.places(now)]
+        if over and not any(it.due >= now and it.due >= it.release for it in left):
+            over, now = False, max(rounds.values(), default=-1) + 1
+            continue
+        for it in there:
+            rounds[it] = now
+            left.remove(it)
+        now += 1
+    return rounds
+
+
+def cover(trace):
+    """The windows of the commands that are passed over, those joined that overlap or touch."""
+    rounds, windows = passing_over(trace), []
+    for until in sorted({it.due for it, at in rounds.items() if it.release <= it.due < at}):
+        begin = until + 1
+        while begin > 0:
+            run = sum(at == begin - 1 and it.due <= until for it, at in rounds.items())
+            if run < trace.places(begin - 1):
+                break
+            begin -= 1
+        while windows and begin <= windows[-1][1] + 1:
+            begin = min(begin, windows.pop()[0])
+        windows.append((begin, until))
+    return windows
+
+
+def misses(trace):
+    """What `misses` writes."""
+    late = [it for it in trace.served if it.issue > it.due]
+    unavoidable = len(trace.served) - most_met(trace, trace.served)
+    overdue = [it for it in trace.waiting if trace.round > it[1]]
+    figures = {
+        "commands": len(trace.served),
+        "late": len(late),
+        "unavoidable": unavoidable,
+        "avoidable": len(late) - unavoidable,
+        "spare": sum(verdict(trace, it)[0] == "spare" for it in late),
+        "waiting": sum(it[5] for it in trace.waiting),
+        "overdue": sum(it[5] for it in overdue),
+    }
+    lines = [f"{word} {number}" for word, number in figures.items()]
+    for begin, until in cover(trace):
+        inside = sum(begin <= it.release <= it.due <= until for it in trace.served)
+        carried = sum(trace.places(at) for at in range(begin, until + 1))
+        lines.append(f"window {begin} {until} commands {inside} carries {carried}")
+    return "".join(f"{it}\n" for it in lines)
