@@ -3,3 +3,5 @@ pub mod Members
 pub mod Requests
 pub mod Taken
 pub mod Fates
+pub mod Passing
+pub mod Parts

@@ -7,6 +7,7 @@
 
 mod clock;
 mod counting;
+mod fates;
 mod matching;
 mod members;
 mod record;
@@ -14,6 +15,6 @@ mod requests;
 mod spots;
 
 pub use counting::{Schedule, Served, are_served, count_rounds};
-pub use matching::Fate;
-pub use record::{Action, Record};
+pub use fates::{Fate, Tally, count_passed, tally};
+pub use record::{Action, Op, Passed, Record};
 pub use requests::{Bio, CaptureFault, Entry, Matched, Options, Request, match_records, rounds_of};

@@ -5,14 +5,17 @@ ghost use Rattle.edd_check.specs.Capacity.{fixed};
 ghost use Rattle.edd_check.specs.Limits.{most_commands};
 ghost use Rattle.edd_check.specs.Schedule.{IsLegal, RoundsInRange};
 ghost use Rattle.blk_capture.specs.Counting.{AreServed, AreSolvable, IsCounted};
-ghost use Rattle.blk_capture.specs.Fates.{opens, told};
-ghost use Rattle.blk_capture.specs.Requests.{served_of, AreTimed, HaveBios, AreTallied, AreInOrder, IsFirstFall, AreLate, entry_by, expire_of, sooner_of, deadline_of, IsDue, IsCaptureFault};
+ghost use Rattle.blk_capture.specs.Fates.{opens, makes, told, is_matched, passed_by, IsBelow, AreOfTaken, ArePassed};
+ghost use Rattle.blk_capture.specs.Parts.{is_known, passed_part, opens_part, makes_part};
+ghost use Rattle.blk_capture.specs.Passing.{passed_over};
+ghost use Rattle.blk_capture.specs.Requests.{served_of, AreTimed, HaveBios, AreTallied, AreWithin, AreGone, AreInOrder, IsFirstFall, AreLate, entry_by, expire_of, sooner_of, deadline_of, IsDue, IsCaptureFault};
 ghost use Rattle.blk_capture.specs.Taken.{IsOwn, IsRequestOf, ArePlaced, PutsAt, ArePlacedBios, IsTalliedFrom};
 ghost use Rattle.blk_capture.specs.declared.members.Queued.{Queued};
 
 use crate::clock::Dispatch;
 use crate::counting::{Schedule, Served, count_rounds};
-use crate::matching::{Fate, Matching, Opened};
+use crate::fates::Fate;
+use crate::matching::{Matching, Opened, Part};
 use crate::members::Queued;
 use crate::record::{Action, Record};
 use blk_bio::Dir;
@@ -276,6 +279,7 @@ fn take_requests<A: Allocator + Clone>(
     ensures due { IfOk result (λ t. All (IsDue options.now) t.requests.items) }
     ensures each { IfOk result (λ t. length t.places.items ≡ length lives.now) }
     ensures many { IfOk result (λ t. count_by is_some t.places.items ≡ length t.requests.items) }
+    ensures within { IfOk result (λ t. AreWithin (length t.requests.items) t.places.items) }
 {
     let places = vec![in alloc.clone()?; None; lives.len()]?;
     let mut taken = Taken {
@@ -317,7 +321,8 @@ fn count_others(lives: &[Life], places: &[Option<usize>]) -> (u64, u64)
 
 /// The place of the request that a bio went out with, which went into a request at first.
 fn place_of(lives: &[Life], places: &[Option<usize>], request: Option<usize>) -> Option<usize>
-    ensures { (r : ℕ) → request ≡ Some r → IsOwn lives.now r → r < length places.now → result ≡ slice_index_or places.now r None }
+    ensures own { (r : ℕ) → request ≡ Some r → IsOwn lives.now r → r < length places.now → result ≡ slice_index_or places.now r None }
+    ensures within { (n : ℕ) → AreWithin n places.now → IfSome result (λ k. k < n) }
 {
     let request = request?;
     if request >= lives.len() {
@@ -337,7 +342,8 @@ fn bios_of<A: Allocator + Clone>(
     lives: &[Life],
     places: &[Option<usize>],
 ) -> Result<Vec<Bio, A>, AllocError>
-    ensures { IfOk result (λ v. ArePlacedBios lives.now places.now queued.now (length queued.now) v.items) }
+    ensures placed { IfOk result (λ v. ArePlacedBios lives.now places.now queued.now (length queued.now) v.items) }
+    ensures within { (n : ℕ) → AreWithin n places.now → IfOk result (λ v. AreGone n v.items) }
 {
     let mut bios = Vec::with_capacity(alloc, queued.len())?;
     for bio in queued {
@@ -351,6 +357,46 @@ fn bios_of<A: Allocator + Clone>(
         })?;
     }
     Ok(bios)
+}
+
+/// What became of a record, as its bio or its request was taken or not.
+fn fate_of(part: Part, bios: &[Bio], lives: &[Life], places: &[Option<usize>]) -> Fate
+    ensures matched { is_matched result ≡ is_known part }
+    ensures passed { passed_by result ≡ passed_part part }
+    ensures below { (n : ℕ) → AreWithin n places.now → AreGone n bios.now → IsBelow n result }
+{
+    let place = match part {
+        Part::Bio(bio) => match bios.get(bio) {
+            Some(bio) => bio.request,
+            None => None,
+        },
+        Part::Request(request) => place_of(lives, places, Some(request)),
+        Part::Unmatched => return Fate::Unmatched,
+        Part::PassedOver(kind) => return Fate::PassedOver(kind),
+    };
+    match place {
+        Some(place) => Fate::Taken(place),
+        None => Fate::LeftOut,
+    }
+}
+
+/// The same of each record.
+fn fates_of<A: Allocator + Clone>(
+    alloc: A,
+    parts: &[Part],
+    bios: &[Bio],
+    lives: &[Life],
+    places: &[Option<usize>],
+) -> Result<Vec<Fate, A>, AllocError>
+    ensures matched { IfOk result (λ v. map is_matched v.items ≡ map is_known parts.now) }
+    ensures passed { IfOk result (λ v. map passed_by v.items ≡ map passed_part parts.now) }
+    ensures below { (n : ℕ) → AreWithin n places.now → AreGone n bios.now → IfOk result (λ v. AreOfTaken n v.items) }
+{
+    let mut fates = Vec::with_capacity(alloc, parts.len())?;
+    for part in parts {
+        fates.push(fate_of(*part, bios, lives, places))?;
+    }
+    Ok(fates)
 }
 
 /// The requests with the numbers of their bios, of which none is counted yet.
@@ -410,7 +456,7 @@ fn first_fall(records: &[Record]) -> Option<usize>
 fn settle<A: Allocator + Clone>(
     alloc: A,
     matching: &Matching<A>,
-    fates: Vec<Fate, A>,
+    parts: &[Part],
     begin: u64,
     options: &Options,
 ) -> Result<Matched<A>, AllocError>
@@ -418,15 +464,26 @@ fn settle<A: Allocator + Clone>(
     ensures due { IfOk result (λ m. All (IsDue options.now) m.requests.items) }
     ensures bios { IfOk result (λ m. HaveBios m.requests.items m.bios.items) }
     ensures tallied { IfOk result (λ m. AreTallied m.requests.items m.bios.items) }
-    ensures fates { IfOk result (λ m. m.fates.items ≡ fates.items) }
+    ensures gone { IfOk result (λ m. AreGone (length m.requests.items) m.bios.items) }
+    ensures matched { IfOk result (λ m. map is_matched m.fates.items ≡ map is_known parts.now) }
+    ensures passed { IfOk result (λ m. map passed_by m.fates.items ≡ map passed_part parts.now) }
+    ensures below { IfOk result (λ m. AreOfTaken (length m.requests.items) m.fates.items) }
     ensures opened { IfOk result (λ m. length m.requests.items + m.absorbed + m.left_out ≡ length matching.now.requests.items) }
+    ensures made { IfOk result (λ m. length m.bios.items ≡ length matching.now.members.bios.items) }
 {
     let lives = lives(alloc.clone()?, matching, options)?;
     let taken = take_requests(alloc.clone()?, matching, lives.as_slice(), begin, options)?;
     let Taken { requests, places } = taken;
     let bios = bios_of(
-        alloc,
+        alloc.clone()?,
         matching.members.bios.as_slice(),
+        lives.as_slice(),
+        places.as_slice(),
+    )?;
+    let fates = fates_of(
+        alloc,
+        parts,
+        bios.as_slice(),
         lives.as_slice(),
         places.as_slice(),
     )?;
@@ -456,9 +513,15 @@ pub fn match_records<A: Allocator + Clone>(
     ensures due { IfOk result (λ m. All (IsDue options.now) m.requests.items) }
     ensures bios { IfOk result (λ m. HaveBios m.requests.items m.bios.items) }
     ensures tallied { IfOk result (λ m. AreTallied m.requests.items m.bios.items) }
+    // a bio that went out did so with a request that is taken
+    ensures gone { IfOk result (λ m. AreGone (length m.requests.items) m.bios.items) }
     ensures fates { IfOk result (λ m. length m.fates.items ≡ length records.now) }
+    ensures passed { IfOk result (λ m. ArePassed records.now m.fates.items) }
+    ensures below { IfOk result (λ m. AreOfTaken (length m.requests.items) m.fates.items) }
     // each request that a record opened is taken, was merged into another, or is left out
     ensures opened { IfOk result (λ m. length m.requests.items + m.absorbed + m.left_out ≡ told opens records.now m.fates.items) }
+    // each bio was made by a record
+    ensures made { IfOk result (λ m. length m.bios.items ≡ told makes records.now m.fates.items) }
     ensures order { OnOk result (AreInOrder records.now (length records.now)) }
     ensures fault { IfErr result (IsCaptureFault records.now) }
 {
@@ -484,21 +547,25 @@ fn match_in_order<A: Allocator + Clone>(
     ensures due { IfOk result (λ m. All (IsDue options.now) m.requests.items) }
     ensures bios { IfOk result (λ m. HaveBios m.requests.items m.bios.items) }
     ensures tallied { IfOk result (λ m. AreTallied m.requests.items m.bios.items) }
+    ensures gone { IfOk result (λ m. AreGone (length m.requests.items) m.bios.items) }
     ensures fates { IfOk result (λ m. length m.fates.items ≡ length records.now) }
+    ensures passed { IfOk result (λ m. ArePassed records.now m.fates.items) }
+    ensures below { IfOk result (λ m. AreOfTaken (length m.requests.items) m.fates.items) }
     ensures opened { IfOk result (λ m. length m.requests.items + m.absorbed + m.left_out ≡ told opens records.now m.fates.items) }
+    ensures made { IfOk result (λ m. length m.bios.items ≡ told makes records.now m.fates.items) }
 {
     let mut matching = Matching::new(alloc.clone()?, !has_insertion(records))?;
-    let mut fates = Vec::with_capacity(alloc.clone()?, records.len())?;
+    let mut parts = Vec::with_capacity(alloc.clone()?, records.len())?;
     for (place, record) in records.iter().enumerate() {
         let _ = matching.clock.set(record.time);
-        let fate = matching.take(place as u64, record)?;
-        fates.push(fate)?;
+        let part = matching.take(place as u64, record)?;
+        parts.push(part)?;
     }
     let begin = match records.first() {
         Some(record) => record.time.saturating_add(options.skip),
         None => 0,
     };
-    settle(alloc, &matching, fates, begin, options)
+    settle(alloc, &matching, parts.as_slice(), begin, options)
 }
 
 /// Counts requests in rounds, as [`crate::count_rounds`] does: the one at place k ran in round k + 1, and after its due round

@@ -9,3 +9,5 @@ mod given;
 mod matching;
 #[cfg(test)]
 mod refusals;
+#[cfg(test)]
+mod tallies;

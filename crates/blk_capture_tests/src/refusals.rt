@@ -15,7 +15,7 @@ fn all_of_it(rt: &impl Abort, heap: Heap<'_>, records: &[Record]) {
         }
         Ok(matched) => {
             let row = (0, 16, 2, 2, 102, 6);
-            assert!(rt; is_matched(&matched, "mmmmmmm", &[row]));
+            assert!(rt; is_matched(&matched, "0000000", &[row]));
             match rounds_of(heap, matched.requests.as_slice()) {
                 Err(_) => assert!(rt; armed && !heap.is_armed()),
                 Ok(schedule) => assert_eq!(rt; schedule.rounds.len(), 1),
