@@ -68,12 +68,12 @@ impl Tally {
 
 /// How many of the records are of an action, and how many of these are of requests that are taken, left out, unmatched and passed over,
 /// which add up to them. `fates` has what became of each record, as [`crate::match_records`] tells it.
-pub fn tally(records: &[Record], fates: &[Fate], action: Action) -> Tally
+pub fn tally_of(records: &[Record], fates: &[Fate], action: Action) -> Tally
     requires { length fates.now ≡ length records.now }
     ensures value { result ≡ tally_of action records.now fates.now }
     ensures sum { AddsUp result }
 {
-    let mut tally = Tally {
+    let mut counts = Tally {
         records: 0,
         taken: 0,
         left_out: 0,
@@ -82,10 +82,10 @@ pub fn tally(records: &[Record], fates: &[Fate], action: Action) -> Tally
     };
     for (place, fate) in fates.iter().enumerate() {
         if records[place].action.place() == action.place() {
-            tally = tally.with(*fate);
+            counts = counts.with(*fate);
         }
     }
-    tally
+    counts
 }
 
 /// How many records were passed over for a reason.

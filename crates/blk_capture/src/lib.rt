@@ -15,6 +15,6 @@ mod requests;
 mod spots;
 
 pub use counting::{Schedule, Served, are_served, count_rounds};
-pub use fates::{Fate, Tally, count_passed, tally};
+pub use fates::{Fate, Tally, count_passed, tally_of};
 pub use record::{Action, Op, Passed, Record};
 pub use requests::{Bio, CaptureFault, Entry, Matched, Options, Request, match_records, rounds_of};

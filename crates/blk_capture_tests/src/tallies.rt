@@ -1,7 +1,7 @@
 //! Records counted by their actions, and the letters of what they do.
 
 use crate::given::{Line, records_of, usual};
-use blk_capture::{Action, Op, Passed, Tally, count_passed, match_records, tally};
+use blk_capture::{Action, Op, Passed, Tally, count_passed, match_records, tally_of};
 
 /// Of each action the records of requests that are taken, those of others, the unmatched and those passed over add up to all.
 #[test]
@@ -23,7 +23,7 @@ fn by_action(rt: HostRuntime) {
     let Ok(matched) = match_records(rt.alloc(), records.as_slice(), &usual()) else {
         panic!(rt; "memory");
     };
-    let queued = tally(records.as_slice(), matched.fates.as_slice(), Action::Queue);
+    let queued = tally_of(records.as_slice(), matched.fates.as_slice(), Action::Queue);
     let wanted = Tally {
         records: 5,
         taken: 1,
@@ -32,7 +32,7 @@ fn by_action(rt: HostRuntime) {
         passed_over: 3,
     };
     assert_eq!(rt; queued, wanted);
-    let completed = tally(records.as_slice(), matched.fates.as_slice(), Action::Complete);
+    let completed = tally_of(records.as_slice(), matched.fates.as_slice(), Action::Complete);
     assert_eq!(rt; completed.taken, 1);
     assert_eq!(rt; completed.unmatched, 1);
     let fates = matched.fates.as_slice();
