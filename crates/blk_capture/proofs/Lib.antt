@@ -4,3 +4,4 @@ pub mod Taking
 pub mod Tallying
 pub mod Settling
 pub mod Telling
+pub mod Counted

@@ -88,16 +88,24 @@ pub fn tally_of(records: &[Record], fates: &[Fate], action: Action) -> Tally
     counts
 }
 
+/// Whether a record was passed over for a reason.
+fn is_of_kind(fate: Fate, kind: Passed) -> bool
+    ensures { result ≡ is_of_kind kind fate }
+{
+    match fate {
+        Fate::PassedOver(found) => found.place() == kind.place(),
+        Fate::Taken(_) | Fate::LeftOut | Fate::Unmatched => false,
+    }
+}
+
 /// How many records were passed over for a reason.
 pub fn count_passed(fates: &[Fate], kind: Passed) -> u64
     ensures { result ≡ count_by (is_of_kind kind) fates.now }
 {
     let mut count = 0;
     for fate in fates {
-        if let Fate::PassedOver(found) = fate {
-            if found.place() == kind.place() {
-                count += 1;
-            }
+        if is_of_kind(*fate, kind) {
+            count += 1;
         }
     }
     count
