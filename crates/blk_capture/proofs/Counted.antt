@@ -49,3 +49,8 @@ pub tally_none : (a : Action) (records : List Record) → (let x : Tally = recor
 tally_none a records =
     same_tally _ _ _ _ _ _ _ _ _ _ (sym (told_none (is_of a (λ f. true)) records)) (sym (told_none (is_of a is_taken) records)) (sym (told_none (is_of a is_left_out) records))
     (sym (told_none (is_of a is_unmatched) records)) (sym (told_none (is_of a is_passed) records))
+
+-- a step of the count
+pub tally_step : (a : Action) (records : List Record) (fates : List Fate) (n : ℕ) (d : Record) (e : Fate) (t t2 : Tally) → n < length fates → length fates ≡ length records → (place_of (get_or records n d).action == place_of a) ≡ true
+    → t ≡ tally_of a records (take n fates) → t2 ≡ tally_with t (get_or fates n e) → t2 ≡ tally_of a records (take (n + 1) fates)
+tally_step a records fates n d e t t2 here same is so_far with_it = with_it ∙ ap (λ x. tally_with x (get_or fates n e)) so_far ∙ tally_more a records fates n d e here same is

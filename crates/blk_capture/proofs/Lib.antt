@@ -5,3 +5,4 @@ pub mod Tallying
 pub mod Settling
 pub mod Telling
 pub mod Counted
+pub mod Flying

@@ -19,6 +19,7 @@ pub record IsTakenTo (options : Options) (lives : List Life) (openers : List ℕ
   pub placed : ArePlaced lives openers places requests
   pub rising : IsNonDecreasingBy (λ q. q.dispatched) requests
   pub came_in : All (λ q. q.entry ≤ q.dispatched) requests
+  pub came_back : All (λ q. IfSome q.completed (λ t. q.dispatched ≤ t)) requests
   pub untallied : All (λ q. q.bios ≡ 0) requests
   pub due : All (IsDue options) requests
   pub each : length places ≡ length lives
@@ -40,6 +41,7 @@ taken_none options lives openers dispatches places requests none blank =
       placed = λ k h. absurd (omega (arith, h, empty));
       rising = λ i j d low h. absurd (omega (arith, h, empty));
       came_in = λ k d h. absurd (omega (arith, h, empty));
+      came_back = λ k d h. absurd (omega (arith, h, empty));
       untallied = λ k d h. absurd (omega (arith, h, empty));
       due = λ k d h. absurd (omega (arith, h, empty));
       each = ap length blank ∙ length-replicate (length lives) None;
@@ -53,6 +55,7 @@ taken_same options lives openers dispatches places requests n old = record {
   placed = old.placed;
   rising = old.rising;
   came_in = old.came_in;
+  came_back = old.came_back;
   untallied = old.untallied;
   due = old.due;
   each = old.each;
@@ -123,6 +126,7 @@ taken_more options lives openers dispatches places requests n x q old of is_due 
       let low : (get_or requests (length requests - 1) d).dispatched ≤ (get_or dispatches n x).time = old.below (length requests - 1) n d x (omega arith) (omega arith) here in
       omega (arith, low, is, of.timed));
   came_in = all_more (λ (p : Request). p.entry ≤ p.dispatched) requests q old.came_in (omega (arith, of.timed, of.came_in));
+  came_back = all_more (λ (p : Request). IfSome p.completed (λ t. p.dispatched ≤ t)) requests q old.came_back (subst (λ n. IfSome q.completed (λ t. n ≤ t)) (sym of.timed) of.came_back);
   untallied = all_more (λ (p : Request). p.bios ≡ 0) requests q old.untallied of.none;
   due = all_more (IsDue options) requests q old.due is_due;
   each = length-set places x.request (Some (length requests)) ∙ old.each;

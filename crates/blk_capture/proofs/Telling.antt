@@ -1,6 +1,8 @@
-use Rattle.std.proofs.Common.{ℕ, ◌≡◌, ◌<◌, ◌≤◌, ◌+◌, ◌-◌, ◌++◌, ◌∙◌, suc, cond, Bool, true, false, List, [], ◌∷◌, length, get_or, map, take, None, Some, refl, arith, ap, sym}
-use Rattle.blk_capture.specs.Fates.{opens, makes, opened_by, made_by, is_matched, told}
-use Rattle.blk_capture.specs.Parts.{is_known, opens_part, makes_part}
+use Rattle.std.proofs.Common.{ℕ, ◌≡◌, ◌<◌, ◌+◌, ◌++◌, ◌∙◌, suc, cond, Bool, true, false, List, [], ◌∷◌, length, get_or, map, take, refl, arith, ap, sym}
+use Rattle.std.specs.Prelude.{Result, Ok, Err, IfOk}
+use Rattle.std.proofs.lemmas.List.{map_push, take_more, length-map}
+use Rattle.blk_capture.specs.Fates.{opened_by, made_by, is_matched, told}
+use Rattle.blk_capture.specs.Parts.{is_known}
 use Rattle.blk_capture.specs.declared.fates.Fate.{Fate}
 use Rattle.blk_capture.specs.declared.matching.Part.{Part}
 use Rattle.blk_capture.specs.declared.record.Action.{Action}
@@ -79,3 +81,22 @@ told_map p h (r ∷ records) (f ∷ fates) = ap (λ n. cond (p r.action (h f)) (
 pub told_alike : (p : Action → Bool → Bool) (records : List Record) (fates : List Fate) (parts : List Part) → map is_matched fates ≡ map is_known parts
     → told (λ a f. p a (is_matched f)) records fates ≡ told (λ a x. p a (is_known x)) records parts
 told_alike p records fates parts same = told_map p is_matched records fates ∙ ap (told p records) same ∙ sym (told_map p is_known records parts)
+
+-- one more, of which the same is told
+pub mapped_more : {F G B : Type 0} (p : F → B) (q : G → B) (fates new : List F) (parts : List G) (n : ℕ) (f : F) (d : G) → map p fates ≡ map q (take n parts) → n < length parts → p f ≡ q (get_or parts n d) → new ≡ fates ++ f ∷ []
+    → map p new ≡ map q (take (n + 1) parts)
+mapped_more p q fates new parts n f d so_far here same is =
+    ap (map p) is
+    ∙ map_push p fates f
+    ∙ ap (λ xs. xs ++ p f ∷ []) so_far
+    ∙ ap (λ b. map q (take n parts) ++ b ∷ []) same
+    ∙ sym (map_push q (take n parts) (get_or parts n d))
+    ∙ ap (map q) (sym (take_more parts n d here))
+
+pub fates_each : (fates : List Fate) (parts : List Part) → map is_matched fates ≡ map is_known parts → length fates ≡ length parts
+fates_each fates parts same = sym (length-map fates is_matched) ∙ ap length same ∙ length-map parts is_known
+
+-- what two clauses of a value say together
+pub both_ok : {X E : Type 0} (r : Result X E) (P Q R : X → Type 0) → ((x : X) → P x → Q x → R x) → IfOk r P → IfOk r Q → IfOk r R
+both_ok (Ok x) P Q R f p q = f x p q
+both_ok (Err e) P Q R f p q = tt

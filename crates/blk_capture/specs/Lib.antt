@@ -5,3 +5,6 @@ pub mod Taken
 pub mod Fates
 pub mod Passing
 pub mod Parts
+pub mod Parting
+pub mod Tables
+pub mod Summaries

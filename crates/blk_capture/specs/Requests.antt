@@ -12,7 +12,7 @@ use Rattle.blk_capture.specs.declared.requests.Options.{Options}
 use Rattle.blk_capture.specs.declared.requests.Request.{Request}
 use Rattle.blk_capture.specs.declared.requests.Bio.{Bio}
 use Rattle.blk_capture.specs.declared.requests.CaptureFault.{CaptureFault}
-use Rattle.blk_capture.specs.declared.requests.CaptureFault.TheVariants.{Order, TooMany, Memory}
+use Rattle.blk_capture.specs.declared.requests.CaptureFault.TheVariants.{Order, Memory}
 
 -- what of a request is counted in rounds
 abbrev pub served_of : Request → Served
@@ -42,10 +42,11 @@ pub record IsDue (options : Options) (q : Request) : Type 0 where
   pub entered : q.entry ≡ entry_by options.entry q.queued q.inserted
   pub due : q.deadline ≡ deadline_of options q.dir q.entry q.earlier
 
--- in the order of their dispatches, and none went out before it came in
+-- in the order of their dispatches; none went out before it came in, nor was completed before it went out
 pub record AreTimed (requests : List Request) : Type 0 where
   pub rising : IsNonDecreasingBy (λ q. q.dispatched) requests
   pub came_in : All (λ q. q.entry ≤ q.dispatched) requests
+  pub came_back : All (λ q. IfSome q.completed (λ t. q.dispatched ≤ t)) requests
 
 -- the bio that each request was opened for is one of the bios, and went out with it
 abbrev pub HaveBios : List Request → List Bio → Type 0
@@ -86,8 +87,7 @@ AreLate requests commands rounds =
     (k : ℕ) (d : Request) (e : Command) → k < length requests
     → ((slice_index_or commands k e).due < slice_index rounds k) ↔ ((slice_index_or requests k d).deadline < (slice_index_or requests k d).dispatched)
 
--- why a capture is refused; Order comes first, and Memory may come in place of TooMany
+-- why a capture is refused; Order comes first
 abbrev pub IsCaptureFault : List Record → CaptureFault → Type 0
 IsCaptureFault records (Order p) = IsFirstFall records p
-IsCaptureFault records TooMany = AreInOrder records (length records)
 IsCaptureFault records Memory = AreInOrder records (length records)

@@ -38,7 +38,9 @@ impl Tally {
     fn with(self, fate: Fate) -> Tally
         requires few { self.records < 2 ^ 63 }
         requires up { AddsUp self }
-        ensures { result ≡ tally_with self fate }
+        ensures value { result ≡ tally_with self fate }
+        ensures up { AddsUp result }
+        ensures records { result.records ≡ self.records + 1 }
     {
         let records = self.records + 1;
         match fate {

@@ -70,6 +70,8 @@ pub(crate) struct Opened {
     pub(crate) pid: u64,
     /// When its first bio was queued.
     pub(crate) queued: u64,
+    /// When it was opened.
+    pub(crate) got: u64,
     /// When it was inserted, if it was.
     pub(crate) inserted: Option<u64>,
     /// When it was completed, if it was.
@@ -212,6 +214,7 @@ impl<A: Allocator + Clone> Matching<A> {
             range,
             pid,
             queued: bio.time,
+            got: self.clock.now,
             inserted: None,
             completed: None,
             stage: Stage::Opened,

@@ -60,14 +60,12 @@ pub fn records_of(rt: &impl Abort, alloc: Global, lines: &[Line]) -> Vec<Record>
         .expect(rt, "memory")
 }
 
-/// Reads are due 100 after they were inserted, writes 1000, and all requests are taken.
+/// Reads are due 100 after they were inserted, writes 1000.
 pub fn usual() -> Options {
     Options {
         read_expire: 100,
         write_expire: 1000,
         entry: Entry::Insert,
-        skip: 0,
-        first: u64::MAX,
     }
 }
 

@@ -1,7 +1,8 @@
 //! Captures of a few records, by each rule of the matching.
 
-use crate::given::{Line, gives, records_of, usual};
-use blk_capture::{CaptureFault, Entry, Options, match_records};
+use crate::given::{Line, gives, is_matched, records_of, usual};
+use blk_capture::{CaptureFault, Entry, Options, match_records, part_of};
+use refusing::Refusing;
 
 /// One read from its queueing to its end, under a scheduler and without one; a bio of no data and other actions are passed over.
 #[test]
@@ -178,13 +179,19 @@ fn skipped_and_first(rt: HostRuntime) {
         (20, 'D', 'R', 0, 8, 8),
         (21, 'D', 'R', 0, 16, 8),
     ];
-    let options = Options {
-        skip: 10,
-        first: 1,
-        ..usual()
+    let heap = Refusing::new(rt.alloc());
+    let records = records_of(&rt, rt.alloc(), &lines);
+    let Ok(matched) = match_records(&heap, records.as_slice(), &usual()) else {
+        panic!(rt; "memory");
+    };
+    assert_eq!(rt; matched.requests.len(), 3);
+    let Ok(part) = part_of(&heap, &matched, 20, 1) else {
+        panic!(rt; "memory");
     };
     let row = (8, 8, 1, 10, 110, 20);
-    assert!(rt; gives(&rt, rt.alloc(), &options, &lines, "l0ll0ll0l", &[row]));
+    assert!(rt; is_matched(&part, "l0ll0ll0l", &[row]));
+    assert_eq!(rt; part.left_out, 2);
+    assert_eq!(rt; part.bios.len(), 3);
 }
 
 /// A time that falls is a fault, at the first record whose time does.

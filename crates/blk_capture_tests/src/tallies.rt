@@ -32,7 +32,11 @@ fn by_action(rt: HostRuntime) {
         passed_over: 3,
     };
     assert_eq!(rt; queued, wanted);
-    let completed = tally_of(records.as_slice(), matched.fates.as_slice(), Action::Complete);
+    let completed = tally_of(
+        records.as_slice(),
+        matched.fates.as_slice(),
+        Action::Complete,
+    );
     assert_eq!(rt; completed.taken, 1);
     assert_eq!(rt; completed.unmatched, 1);
     let fates = matched.fates.as_slice();
