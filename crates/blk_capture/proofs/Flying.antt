@@ -1,8 +1,9 @@
 -- What is at the device at a time.
-use Rattle.std.proofs.Common.{◌≡◌, ◌≤◌, ◌<◌, ◌+◌, ◌-◌, ◌∙◌, ℕ, suc, List, [], ◌∷◌, length, get_or, Bool, true, false, cond, count_by, nat_le, refl, sym, ap, arith, Option, None, Some}
+use Rattle.std.proofs.Common.{◌≡◌, ◌≤◌, ◌<◌, ◌+◌, ◌-◌, ◌∙◌, ℕ, suc, List, [], ◌∷◌, length, get_or, inl, inr, subst, Bool, true, false, cond, count_by, nat_le, refl, sym, ap, arith, Option, None, Some}
 use Rattle.std.specs.Prelude.{not, ◌&&◌, IfSome, IsPermutation}
 use Rattle.std.specs.List.{All, filter_map, cons_option}
-use Rattle.std.proofs.lemmas.Bool.{leb-true, le-leb}
+use Rattle.std.proofs.lemmas.Bool.{cases_lt, leb-true, le-leb}
+use Rattle.std.proofs.lemmas.List.{get_or_default}
 use Rattle.std.proofs.lemmas.List.Sums.{sum_by-cons}
 use Rattle.std.proofs.lemmas.List.Sorted.{sum_by-IsPermutation}
 use Rattle.blk_capture.specs.Summaries.{out_by, known_by, back_by, in_flight_at}
@@ -52,3 +53,16 @@ few_more (Some x) xs = omega arith
 pub few_known : {X Y : Type 0} (h : X → Option Y) (xs : List X) → length (filter_map h xs) ≤ length xs
 few_known h [] = omega arith
 few_known h (x ∷ xs) = omega (arith, few_known h xs, few_more (h x) (filter_map h xs))
+
+-- one more dispatch, at which no more were
+pub bound_more : (requests : List Request) (n most new : ℕ) (e : Request)
+    → ((k : ℕ) (d : Request) → k < n → k < length requests → in_flight_at requests (get_or requests k d).dispatched ≤ most) → most ≤ new → n < length requests → in_flight_at requests (get_or requests n e).dispatched ≤ new
+    → (k : ℕ) (d : Request) → k < n + 1 → k < length requests → in_flight_at requests (get_or requests k d).dispatched ≤ new
+bound_more requests n most new e old rise here last k d low in_list =
+    elim (cases_lt k n) [
+      | inl before ↦ let was : in_flight_at requests (get_or requests k d).dispatched ≤ most = old k d before in_list in omega (arith, was, rise)
+      | inr past ↦
+          let is : n ≡ k = omega (arith, low, past) in
+          let same : get_or requests n e ≡ get_or requests k d = get_or_default requests n e d here ∙ ap (λ m. get_or requests m d) is in
+          subst (λ (q : Request). in_flight_at requests q.dispatched ≤ new) same last
+    ]

@@ -6,3 +6,4 @@ pub mod Settling
 pub mod Telling
 pub mod Counted
 pub mod Flying
+pub mod Parted

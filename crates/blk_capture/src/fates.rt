@@ -74,6 +74,7 @@ pub fn tally_of(records: &[Record], fates: &[Fate], action: Action) -> Tally
     requires { length fates.now ≡ length records.now }
     ensures value { result ≡ tally_of action records.now fates.now }
     ensures sum { AddsUp result }
+    ensures few { result.records < 2 ^ 63 }
 {
     let mut counts = Tally {
         records: 0,

@@ -1,6 +1,6 @@
 //! A part of what was matched.
 
-ghost use Rattle.std.specs.Prelude.{◌≡◌, ◌≤◌, ◌<◌, ◌+◌, ◌^◌, IfOk, length, map};
+ghost use Rattle.std.specs.Prelude.{◌≡◌, ◌≤◌, ◌<◌, ◌+◌, ◌^◌, IfOk, length, map, take, drop};
 ghost use Rattle.blk_capture.specs.Requests.{AreTimed};
 ghost use Rattle.blk_capture.specs.Parting.{before, part, place_in, bio_in, fate_in};
 
@@ -50,6 +50,49 @@ fn fate_in(from: usize, count: usize, fate: Fate) -> Fate
     }
 }
 
+/// So many of the requests, from a place on.
+fn requests_in<A: Allocator>(
+    alloc: A,
+    requests: &[Request],
+    from: usize,
+    count: usize,
+) -> Result<Vec<Request, A>, AllocError>
+    requires { from + count ≤ length requests.now }
+    ensures { IfOk result (λ v. v.items ≡ take count (drop from requests.now)) }
+{
+    let rest = &requests[from..];
+    rest[..count].iter().copied().collect(alloc)
+}
+
+/// The bios, of which the requests are taken or not.
+fn bios_in<A: Allocator>(
+    alloc: A,
+    bios: &[Bio],
+    from: usize,
+    count: usize,
+) -> Result<Vec<Bio, A>, AllocError>
+    ensures { IfOk result (λ v. v.items ≡ map (bio_in from count) bios.now) }
+{
+    bios.iter()
+        .map(|bio| bio_in(from, count, bio))
+        .collect(alloc)
+}
+
+/// The fates, of which the requests are taken or not.
+fn fates_in<A: Allocator>(
+    alloc: A,
+    fates: &[Fate],
+    from: usize,
+    count: usize,
+) -> Result<Vec<Fate, A>, AllocError>
+    ensures { IfOk result (λ v. v.items ≡ map (fate_in from count) fates.now) }
+{
+    fates
+        .iter()
+        .map(|fate| fate_in(from, count, *fate))
+        .collect(alloc)
+}
+
 /// Of the requests those that went out at `begin` or later, and of these at most `first`, those that went out first: what `--skip` and
 /// `--first` leave. The others are left out, with their bios and records. Fails for want of memory alone.
 pub fn part_of<A: Allocator + Clone>(
@@ -67,25 +110,17 @@ pub fn part_of<A: Allocator + Clone>(
     ensures left_out { IfOk result (λ m. m.left_out + length m.requests.items ≡ matched.now.left_out + length matched.now.requests.items) }
     ensures timed { IfOk result (λ m. AreTimed m.requests.items) }
 {
-    let from = count_before(matched.requests.as_slice(), begin);
-    let requests = &matched.requests.as_slice()[from..];
-    let count = requests.len().min(first as usize);
-    let requests = &requests[..count];
-    let bios = matched
-        .bios
-        .iter()
-        .map(|bio| bio_in(from, count, bio))
-        .collect(alloc.clone()?)?;
-    let fates = matched
-        .fates
-        .iter()
-        .map(|fate| fate_in(from, count, *fate))
-        .collect(alloc.clone()?)?;
+    let whole = matched.requests.as_slice();
+    let from = count_before(whole, begin);
+    let count = (whole.len() - from).min(first as usize);
+    let requests = requests_in(alloc.clone()?, whole, from, count)?;
+    let bios = bios_in(alloc.clone()?, matched.bios.as_slice(), from, count)?;
+    let fates = fates_in(alloc, matched.fates.as_slice(), from, count)?;
     Ok(Matched {
-        requests: requests.to_vec(alloc)?,
+        requests,
         bios,
         fates,
         absorbed: matched.absorbed,
-        left_out: matched.left_out + (matched.requests.len() - count) as u64,
+        left_out: matched.left_out + (whole.len() - count) as u64,
     })
 }
