@@ -55,14 +55,17 @@ few_known h [] = omega arith
 few_known h (x ∷ xs) = omega (arith, few_known h xs, few_more (h x) (filter_map h xs))
 
 -- one more dispatch, at which no more were
-pub bound_more : (requests : List Request) (n most new : ℕ) (e : Request)
-    → ((k : ℕ) (d : Request) → k < n → k < length requests → in_flight_at requests (get_or requests k d).dispatched ≤ most) → most ≤ new → n < length requests → in_flight_at requests (get_or requests n e).dispatched ≤ new
+pub bound_more : (requests : List Request) (n most new count : ℕ) (e : Request)
+    → ((k : ℕ) (d : Request) → k < n → k < length requests → in_flight_at requests (get_or requests k d).dispatched ≤ most) → most ≤ new → n < length requests → count ≡ in_flight_at requests (get_or requests n e).dispatched → count ≤ new
     → (k : ℕ) (d : Request) → k < n + 1 → k < length requests → in_flight_at requests (get_or requests k d).dispatched ≤ new
-bound_more requests n most new e old rise here last k d low in_list =
+bound_more requests n most new count e old rise here at last k d low in_list =
     elim (cases_lt k n) [
       | inl before ↦ let was : in_flight_at requests (get_or requests k d).dispatched ≤ most = old k d before in_list in omega (arith, was, rise)
       | inr past ↦
           let is : n ≡ k = omega (arith, low, past) in
           let same : get_or requests n e ≡ get_or requests k d = get_or_default requests n e d here ∙ ap (λ m. get_or requests m d) is in
-          subst (λ (q : Request). in_flight_at requests q.dispatched ≤ new) same last
+          subst (λ (q : Request). in_flight_at requests q.dispatched ≤ new) same (omega (arith, at, last))
     ]
+
+pub at_last : (requests : List Request) (n count : ℕ) (e : Request) → n < length requests → count ≡ in_flight_at requests (get_or requests n e).dispatched → (d : Request) → in_flight_at requests (get_or requests n d).dispatched ≡ count
+at_last requests n count e here at d = ap (λ (q : Request). in_flight_at requests q.dispatched) (get_or_default requests n d e here) ∙ sym at

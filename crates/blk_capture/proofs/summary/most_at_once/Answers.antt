@@ -1,8 +1,5 @@
 use Rattle.std.proofs.Common.{ℕ, ◌≡◌, ◌<◌, ◌≤◌, ◌∙◌, length, get_or, sym, ap, subst, arith}
-use Rattle.std.proofs.lemmas.List.{get_or_default}
-use Rattle.blk_capture.specs.Summaries.{in_flight_at, AreWith}
-use Rattle.blk_capture.specs.declared.requests.Request.{Request}
-use Rattle.blk_capture.proofs.Flying.{bound_more}
+use Rattle.blk_capture.proofs.Flying.{bound_more, at_last}
 use Rattle.blk_capture.proofs.summary.most_at_once.Goals as goal
 use Rattle.blk_capture.proofs.summary.most_at_once.Goals.{then-count-most, else-count-most}
 
@@ -13,21 +10,21 @@ loop-request-preserved c =
     elim c.if-count-most.branch [
       | then-count-most w ↦ record {
         bound =
-            bound_more c.args.requests.now n c.loop-request.most c.if-count-most.most _ c.loop-request.invariant.bound (omega (arith, w.most-is, w.if-count-most.true)) here
-            (omega (arith, w.most-is, c.in_flight_at-count.ensures));
+            bound_more c.args.requests.now n c.loop-request.most c.if-count-most.most c.in_flight_at-count.result _ c.loop-request.invariant.bound (omega (arith, w.most-is, w.if-count-most.true)) here
+            c.in_flight_at-count.ensures (omega (arith, w.most-is));
         reached =
             λ some. (
               n,
               record {
                 in_list = here;
-                at = λ d. ap (λ (q : Request). in_flight_at c.args.requests.now q.dispatched) (get_or_default c.args.requests.now n d _ here) ∙ sym c.in_flight_at-count.ensures ∙ sym w.most-is;
+                at = λ d. at_last c.args.requests.now n c.in_flight_at-count.result _ here c.in_flight_at-count.ensures d ∙ sym w.most-is;
               },
             );
       }
       | else-count-most w ↦ record {
         bound =
-            bound_more c.args.requests.now n c.loop-request.most c.if-count-most.most _ c.loop-request.invariant.bound (omega (arith, w.most-is)) here
-            (omega (arith, w.most-is, w.if-count-most.false, c.in_flight_at-count.ensures));
+            bound_more c.args.requests.now n c.loop-request.most c.if-count-most.most c.in_flight_at-count.result _ c.loop-request.invariant.bound (omega (arith, w.most-is)) here
+            c.in_flight_at-count.ensures (omega (arith, w.most-is, w.if-count-most.false));
         reached =
             λ some.
             let was = c.loop-request.invariant.reached (omega (arith, some, w.most-is)) in (
