@@ -7,3 +7,4 @@ pub mod Telling
 pub mod Counted
 pub mod Flying
 pub mod Parted
+pub mod Spotting

@@ -8,3 +8,5 @@ pub mod Parts
 pub mod Parting
 pub mod Tables
 pub mod Summaries
+pub mod Spots
+pub mod Edges

@@ -1,7 +1,10 @@
 //! The requests of a capture, matched from its records, one rule for each action.
 
-ghost use Rattle.std.specs.Prelude.{◌≡◌, ◌+◌, IfOk, None, length, is_some};
+ghost use Rattle.std.specs.Prelude.{◌≡◌, ◌+◌, IfOk, IfSome, IfNone, None, length, is_some};
+ghost use Rattle.std.specs.BTreeMap.{get};
 ghost use Rattle.blk_capture.specs.Passing.{passed_over};
+ghost use Rattle.blk_capture.specs.Edges.{met_spot, on_side};
+ghost use Rattle.blk_capture.specs.Spots.{key_cmp, IsEmptyAt, IsNewest, IsOldest, TakesAbutting};
 ghost use Rattle.blk_capture.specs.Parts.{is_known, opens_part, makes_part, passed_part, adds};
 
 use crate::clock::Clock;
@@ -283,7 +286,10 @@ impl<A: Allocator + Clone> Matching<A> {
 
     /// Of the requests that a newcomer abuts at a side: the newest of the same process that was not inserted, else the oldest that was
     /// and did not go out.
-    fn abutting(&self, pid: u64, range: Range, side: Side) -> Option<usize> {
+    fn abutting(&self, pid: u64, range: Range, side: Side) -> Option<usize>
+        ensures some { IfSome result (TakesAbutting (on_side side (get key_cmp self.now.opened.firsts.places) (get key_cmp self.now.opened.ends.places)) (on_side side (get key_cmp self.now.inserted.firsts.places) (get key_cmp self.now.inserted.ends.places)) (met_spot range side pid) (met_spot range side 0)) }
+        ensures none { IfNone result (IsEmptyAt (on_side side (get key_cmp self.now.inserted.firsts.places) (get key_cmp self.now.inserted.ends.places)) (met_spot range side 0)) }
+    {
         match self.opened.newest(range, side, pid) {
             Some(request) => Some(request),
             None => self.inserted.oldest(range, side, 0),

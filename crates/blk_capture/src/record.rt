@@ -1,7 +1,7 @@
 //! Records of a capture: one step each that a block layer took, as blktrace and the tracepoints of `block` tell them.
 
 ghost use Rattle.std.specs.Prelude.{◌≡◌, ◌<◌, None, Some, IfErr, IfOk};
-ghost use Rattle.blk_capture.specs.Passing.{place_of, kind_place, passed_action, passed_op, passed_over, dir_of, op_by};
+ghost use Rattle.blk_capture.specs.Passing.{writes, place_of, kind_place, passed_action, passed_op, passed_over, dir_of, op_by};
 
 use blk_bio::{Dir, MAX_END};
 
@@ -258,7 +258,9 @@ impl Range {
     }
 
     /// Whether it is written.
-    pub(crate) fn is_write(&self) -> bool {
+    pub(crate) fn is_write(&self) -> bool
+        ensures { result ≡ writes self.now.dir }
+    {
         match self.dir {
             Dir::Read => false,
             Dir::Write => true,
