@@ -4,3 +4,7 @@ pub mod Taking
 pub mod Tallying
 pub mod Settling
 pub mod Telling
+pub mod Counted
+pub mod Flying
+pub mod Parted
+pub mod Spotting

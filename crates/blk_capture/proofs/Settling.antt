@@ -1,5 +1,6 @@
 use Rattle.std.proofs.Common.{ℕ, ◌≡◌, ◌<◌, ◌≤◌, ◌+◌, ◌++◌, ◌∙◌, List, [], ◌∷◌, length, get_or, map, Option, None, Some, inl, inr, refl, arith, ap, sym, subst, lit<}
 use Rattle.std.specs.List.{All}
+use Rattle.std.specs.Prelude.{IfSome}
 use Rattle.std.proofs.lemmas.Bool.{cases_lt}
 use Rattle.std.proofs.lemmas.List.{get_or_append_left, get_or_push, get_or_past, get_or_default, get_or-map, length_push, length-map}
 use Rattle.edd_check.specs.declared.Command.{Command}
@@ -20,7 +21,7 @@ abbrev no_bio : Queued
 no_bio = record { range = record { dir = Read; first = 0; end = 1; some = lit< tt }; pid = 0; time = 0; age = 0; request = None }
 
 abbrev no_request : Request
-no_request = record { dir = Read; first = 0; sectors = 0; bios = 0; bio = 0; pid = 0; queued = 0; inserted = None; entry = 0; earlier = None; deadline = 0; dispatched = 0; completed = None }
+no_request = record { dir = Read; first = 0; sectors = 0; bios = 0; bio = 0; pid = 0; queued = 0; got = 0; inserted = None; entry = 0; earlier = None; deadline = 0; dispatched = 0; completed = None }
 
 none_is_some : (r : ℕ) → None ≡ Some r → ⊥
 none_is_some r e = cc
@@ -58,6 +59,10 @@ tallied_timed old new bios timed tallied = record {
       λ k d h.
       let came : (get_or old k d).entry ≤ (get_or old k d).dispatched = timed.came_in k d (omega (arith, h, tallied.each)) in
       omega (arith, came, ap (λ (q : Request). q.entry) (tallied.rest k d), ap (λ (q : Request). q.dispatched) (tallied.rest k d));
+  came_back =
+      λ k d h.
+      let back : IfSome (get_or old k d).completed (λ t. (get_or old k d).dispatched ≤ t) = timed.came_back k d (omega (arith, h, tallied.each)) in
+      subst (λ (q : Request). IfSome q.completed (λ t. q.dispatched ≤ t)) (sym (tallied.rest k d)) back;
 }
 
 -- one more bio with its place

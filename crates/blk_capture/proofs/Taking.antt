@@ -5,7 +5,9 @@ use Rattle.std.proofs.lemmas.Bool.{cases_lt}
 use Rattle.std.proofs.lemmas.List.{get_or_append_left, get_or_push, get_or-set_same, get_or-set_other, get_or_default, length_push, length-replicate, length-set}
 use Rattle.std.proofs.lemmas.List.Sums.{sum_by-set, sum_by-cons}
 use Rattle.std.proofs.lemmas.List.Sorted.{IsNonDecreasingBy-push}
-use Rattle.blk_capture.specs.Requests.{IsDue}
+use Rattle.std.proofs.lemmas.List.Elements.{All-replicate, All-set, All-weaker}
+use Rattle.std.specs.Prelude.{IfSome}
+use Rattle.blk_capture.specs.Requests.{IsDue, AreWithin}
 use Rattle.blk_capture.specs.Taken.{IsRequestOf, ArePlaced, PutsAt}
 use Rattle.blk_capture.specs.declared.clock.Dispatch.{Dispatch}
 use Rattle.blk_capture.specs.declared.requests.Life.{Life}
@@ -17,10 +19,12 @@ pub record IsTakenTo (options : Options) (lives : List Life) (openers : List ℕ
   pub placed : ArePlaced lives openers places requests
   pub rising : IsNonDecreasingBy (λ q. q.dispatched) requests
   pub came_in : All (λ q. q.entry ≤ q.dispatched) requests
+  pub came_back : All (λ q. IfSome q.completed (λ t. q.dispatched ≤ t)) requests
   pub untallied : All (λ q. q.bios ≡ 0) requests
   pub due : All (IsDue options) requests
   pub each : length places ≡ length lives
   pub many : count_by is_some places ≡ length requests
+  pub within : AreWithin (length requests) places
   pub below : (k j : ℕ) (d : Request) (e : Dispatch) → k < length requests → n ≤ j → j < length dispatches → (get_or requests k d).dispatched ≤ (get_or dispatches j e).time
 
 abbrev one_if : Option ℕ → ℕ
@@ -37,10 +41,12 @@ taken_none options lives openers dispatches places requests none blank =
       placed = λ k h. absurd (omega (arith, h, empty));
       rising = λ i j d low h. absurd (omega (arith, h, empty));
       came_in = λ k d h. absurd (omega (arith, h, empty));
+      came_back = λ k d h. absurd (omega (arith, h, empty));
       untallied = λ k d h. absurd (omega (arith, h, empty));
       due = λ k d h. absurd (omega (arith, h, empty));
       each = ap length blank ∙ length-replicate (length lives) None;
       many = ap (λ ps. count_by is_some ps) blank ∙ no_place (length lives) ∙ sym empty;
+      within = subst (AreWithin (length requests)) (sym blank) (All-replicate (λ p. IfSome p (λ k. k < length requests)) (length lives) None tt);
       below = λ k j d e h. absurd (omega (arith, h, empty));
     }
 
@@ -49,10 +55,12 @@ taken_same options lives openers dispatches places requests n old = record {
   placed = old.placed;
   rising = old.rising;
   came_in = old.came_in;
+  came_back = old.came_back;
   untallied = old.untallied;
   due = old.due;
   each = old.each;
   many = old.many;
+  within = old.within;
   below = λ k j d e h low here. old.below k j d e h (omega (arith, low)) here;
 }
 
@@ -63,6 +71,15 @@ all_more P xs y all one k d h =
       | inl before ↦ subst P (sym (get_or_append_left xs (y ∷ []) d k before)) (all k d before)
       | inr past ↦ subst P (sym (get_or_push xs y d k (omega (arith, past, h, n)))) one
     ]
+
+-- one more place among one more
+below_more : (n : ℕ) (p : Option ℕ) → IfSome p (λ k. k < n) → IfSome p (λ k. k < n + 1)
+below_more n None h = tt
+below_more n (Some k) h = omega (arith, h)
+
+within_more : (n : ℕ) (places : List (Option ℕ)) (r : ℕ) → AreWithin n places → AreWithin (n + 1) (set places r (Some n))
+within_more n places r old =
+    All-set (λ p. IfSome p (λ k. k < n + 1)) places r (Some n) (omega arith) (All-weaker (λ p. IfSome p (λ k. k < n)) (λ p. IfSome p (λ k. k < n + 1)) (below_more n) places old)
 
 some_is_none : (k : ℕ) → Some k ≡ None → ⊥
 some_is_none k e = cc
@@ -109,6 +126,7 @@ taken_more options lives openers dispatches places requests n x q old of is_due 
       let low : (get_or requests (length requests - 1) d).dispatched ≤ (get_or dispatches n x).time = old.below (length requests - 1) n d x (omega arith) (omega arith) here in
       omega (arith, low, is, of.timed));
   came_in = all_more (λ (p : Request). p.entry ≤ p.dispatched) requests q old.came_in (omega (arith, of.timed, of.came_in));
+  came_back = all_more (λ (p : Request). IfSome p.completed (λ t. p.dispatched ≤ t)) requests q old.came_back (subst (λ n. IfSome q.completed (λ t. n ≤ t)) (sym of.timed) of.came_back);
   untallied = all_more (λ (p : Request). p.bios ≡ 0) requests q old.untallied of.none;
   due = all_more (IsDue options) requests q old.due is_due;
   each = length-set places x.request (Some (length requests)) ∙ old.each;
@@ -116,6 +134,7 @@ taken_more options lives openers dispatches places requests n x q old of is_due 
       let set_one = sum_by-set one_if places x.request (Some (length requests)) None there in
       let was : one_if (get_or places x.request None) ≡ 0 = ap one_if free in
       omega (arith, set_one, was, old.many, length_push requests q);
+  within = subst (λ n. AreWithin n (set places x.request (Some (length requests)))) (sym (length_push requests q)) (within_more (length requests) places x.request old.within);
   below =
       λ k j d e h low in_list.
       let n_more : length (requests ++ q ∷ []) ≡ length requests + 1 = length_push requests q in

@@ -1,10 +1,44 @@
-use Rattle.std.proofs.Common.{ℕ, ◌≡◌, ◌<◌, ◌+◌, ◌++◌, ◌∙◌, suc, cond, Bool, true, false, List, [], ◌∷◌, length, get_or, refl, arith, ap, sym}
-use Rattle.blk_capture.specs.Fates.{opens, told}
-use Rattle.blk_capture.specs.declared.matching.Fate.{Fate}
+use Rattle.std.proofs.Common.{ℕ, ◌≡◌, ◌<◌, ◌+◌, ◌++◌, ◌∙◌, suc, cond, Bool, true, false, List, [], ◌∷◌, length, get_or, map, take, refl, arith, ap, sym}
+use Rattle.std.specs.Prelude.{Result, Ok, Err, IfOk}
+use Rattle.std.proofs.lemmas.List.{map_push, take_more, length-map}
+use Rattle.blk_capture.specs.Fates.{opened_by, made_by, is_matched, told}
+use Rattle.blk_capture.specs.Parts.{is_known}
+use Rattle.blk_capture.specs.declared.fates.Fate.{Fate}
+use Rattle.blk_capture.specs.declared.matching.Part.{Part}
 use Rattle.blk_capture.specs.declared.record.Action.{Action}
+use Rattle.blk_capture.specs.declared.record.Action.TheVariants as action
 use Rattle.blk_capture.specs.declared.record.Record.{Record}
 
-pub told_none : (p : Action → Fate → Bool) (records : List Record) → told p records [] ≡ 0
+-- what is unmatched opened and made nothing
+pub opened_none : (a : Action) → opened_by a false ≡ false
+opened_none action.Queue = refl
+opened_none action.Get = refl
+opened_none action.BackMerge = refl
+opened_none action.FrontMerge = refl
+opened_none action.Insert = refl
+opened_none action.Issue = refl
+opened_none action.Complete = refl
+opened_none action.Requeue = refl
+opened_none action.Split = refl
+opened_none action.Plug = refl
+opened_none action.Unplug = refl
+opened_none action.Other = refl
+
+pub made_none : (a : Action) → made_by a false ≡ false
+made_none action.Queue = refl
+made_none action.Get = refl
+made_none action.BackMerge = refl
+made_none action.FrontMerge = refl
+made_none action.Insert = refl
+made_none action.Issue = refl
+made_none action.Complete = refl
+made_none action.Requeue = refl
+made_none action.Split = refl
+made_none action.Plug = refl
+made_none action.Unplug = refl
+made_none action.Other = refl
+
+pub told_none : {F : Type 0} (p : Action → F → Bool) (records : List Record) → told p records [] ≡ 0
 unfolding told
 told_none p [] = refl
 told_none p (r ∷ records) = refl
@@ -17,21 +51,52 @@ more : (b b2 : Bool) (n m : ℕ) → m ≡ n + cond b2 1 0 → cond b (suc m) m 
 more true b2 n m e = omega (arith, e)
 more false b2 n m e = e
 
--- one more record's fate
-pub told_more : (p : Action → Fate → Bool) (records : List Record) (fates : List Fate) (f : Fate) (d : Record) → length fates < length records → told p records (fates ++ f ∷ []) ≡ told p records fates + cond (p (get_or records (length fates) d).action f) 1 0
+-- one more record's
+pub told_more : {F : Type 0} (p : Action → F → Bool) (records : List Record) (fates : List F) (f : F) (d : Record) → length fates < length records → told p records (fates ++ f ∷ []) ≡ told p records fates + cond (p (get_or records (length fates) d).action f) 1 0
 unfolding told
 told_more p [] fates f d here = absurd (omega (arith, here))
 told_more p (r ∷ records) [] f d here = step (p r.action f) (told p records []) _ (ap (λ n. n + cond (p r.action f) 1 0) (sym (told_none p records)))
 told_more p (r ∷ records) (g ∷ fates) f d here =
     more (p r.action g) (p (get_or records (length fates) d).action f) (told p records fates) (told p records (fates ++ f ∷ [])) (told_more p records fates f d (omega (arith, here)))
 
--- the next record, and what became of it
-pub opened_next : (records : List Record) (fates new : List Fate) (f : Fate) (n m m2 : ℕ) (d : Record) → length fates ≡ n → n < length records → m ≡ told opens records fates
-    → m2 ≡ m + cond (opens (get_or records n d).action f) 1 0 → new ≡ fates ++ f ∷ [] → m2 ≡ told opens records new
-opened_next records fates new f n m m2 d same here so_far next is =
-    let at : told opens records (fates ++ f ∷ []) ≡ told opens records fates + cond (opens (get_or records (length fates) d).action f) 1 0 = told_more opens records fates f d (omega (arith, here, same)) in
+-- the next record, and what is told of it
+pub told_next : {F : Type 0} (p : Action → F → Bool) (records : List Record) (fates new : List F) (f : F) (n m m2 : ℕ) (d : Record) → length fates ≡ n → n < length records → m ≡ told p records fates
+    → m2 ≡ m + cond (p (get_or records n d).action f) 1 0 → new ≡ fates ++ f ∷ [] → m2 ≡ told p records new
+told_next p records fates new f n m m2 d same here so_far next is =
+    let at : told p records (fates ++ f ∷ []) ≡ told p records fates + cond (p (get_or records (length fates) d).action f) 1 0 = told_more p records fates f d (omega (arith, here, same)) in
     next
-    ∙ ap (λ k. k + cond (opens (get_or records n d).action f) 1 0) so_far
-    ∙ ap (λ k. told opens records fates + cond (opens (get_or records k d).action f) 1 0) (sym same)
+    ∙ ap (λ k. k + cond (p (get_or records n d).action f) 1 0) so_far
+    ∙ ap (λ k. told p records fates + cond (p (get_or records k d).action f) 1 0) (sym same)
     ∙ sym at
-    ∙ ap (told opens records) (sym is)
+    ∙ ap (told p records) (sym is)
+
+-- what is told by a part of it
+pub told_map : {F G : Type 0} (p : Action → G → Bool) (h : F → G) (records : List Record) (fates : List F) → told (λ a f. p a (h f)) records fates ≡ told p records (map h fates)
+unfolding told
+told_map p h [] fates = refl
+told_map p h (r ∷ records) [] = refl
+told_map p h (r ∷ records) (f ∷ fates) = ap (λ n. cond (p r.action (h f)) (suc n) n) (told_map p h records fates)
+
+-- records are matched as their parts are known, so both tell the same
+pub told_alike : (p : Action → Bool → Bool) (records : List Record) (fates : List Fate) (parts : List Part) → map is_matched fates ≡ map is_known parts
+    → told (λ a f. p a (is_matched f)) records fates ≡ told (λ a x. p a (is_known x)) records parts
+told_alike p records fates parts same = told_map p is_matched records fates ∙ ap (told p records) same ∙ sym (told_map p is_known records parts)
+
+-- one more, of which the same is told
+pub mapped_more : {F G B : Type 0} (p : F → B) (q : G → B) (fates new : List F) (parts : List G) (n : ℕ) (f : F) (d : G) → map p fates ≡ map q (take n parts) → n < length parts → p f ≡ q (get_or parts n d) → new ≡ fates ++ f ∷ []
+    → map p new ≡ map q (take (n + 1) parts)
+mapped_more p q fates new parts n f d so_far here same is =
+    ap (map p) is
+    ∙ map_push p fates f
+    ∙ ap (λ xs. xs ++ p f ∷ []) so_far
+    ∙ ap (λ b. map q (take n parts) ++ b ∷ []) same
+    ∙ sym (map_push q (take n parts) (get_or parts n d))
+    ∙ ap (map q) (sym (take_more parts n d here))
+
+pub fates_each : (fates : List Fate) (parts : List Part) → map is_matched fates ≡ map is_known parts → length fates ≡ length parts
+fates_each fates parts same = sym (length-map fates is_matched) ∙ ap length same ∙ length-map parts is_known
+
+-- what two clauses of a value say together
+pub both_ok : {X E : Type 0} (r : Result X E) (P Q R : X → Type 0) → ((x : X) → P x → Q x → R x) → IfOk r P → IfOk r Q → IfOk r R
+both_ok (Ok x) P Q R f p q = f x p q
+both_ok (Err e) P Q R f p q = tt

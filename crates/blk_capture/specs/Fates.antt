@@ -1,18 +1,103 @@
 -- What became of the records of a capture.
-use Rattle.std.specs.Prelude.{ℕ, suc, cond, Bool, true, false, List, [], ◌∷◌}
-use Rattle.blk_capture.specs.declared.matching.Fate.{Fate}
-use Rattle.blk_capture.specs.declared.matching.Fate.TheVariants.{Matched}
+use Rattle.std.specs.Prelude.{ℕ, ◌≡◌, ◌+◌, ◌<◌, ◌==◌, ◌&&◌, ⊤, suc, cond, Bool, true, false, List, [], ◌∷◌, map, length, Option, None, Some, All}
+use Rattle.blk_capture.specs.Passing.{place_of, kind_place, passed_over}
+use Rattle.blk_capture.specs.declared.fates.Fate.{Fate}
+use Rattle.blk_capture.specs.declared.fates.Fate.TheVariants as fate
+use Rattle.blk_capture.specs.declared.fates.Tally.{Tally}
 use Rattle.blk_capture.specs.declared.record.Action.{Action}
-use Rattle.blk_capture.specs.declared.record.Action.TheVariants.{Get}
+use Rattle.blk_capture.specs.declared.record.Action.TheVariants as action
+use Rattle.blk_capture.specs.declared.record.Passed.{Passed}
 use Rattle.blk_capture.specs.declared.record.Record.{Record}
 
--- whether a record opened a request
-abbrev pub opens : Action → Fate → Bool
-opens Get Matched = true
-opens _ _ = false
+abbrev pub is_taken : Fate → Bool
+is_taken (fate.Taken k) = true
+is_taken _ = false
 
--- how many of the records, each with its fate, pass a test
-unfoldable pub told : (Action → Fate → Bool) → List Record → List Fate → ℕ
+abbrev pub is_left_out : Fate → Bool
+is_left_out fate.LeftOut = true
+is_left_out _ = false
+
+abbrev pub is_unmatched : Fate → Bool
+is_unmatched fate.Unmatched = true
+is_unmatched _ = false
+
+-- why a record was passed over, if it was
+abbrev pub passed_by : Fate → Option Passed
+passed_by (fate.PassedOver kind) = Some kind
+passed_by _ = None
+
+abbrev pub is_passed : Fate → Bool
+is_passed (fate.PassedOver kind) = true
+is_passed _ = false
+
+abbrev pub is_of_kind : Passed → Fate → Bool
+is_of_kind kind (fate.PassedOver found) = kind_place found == kind_place kind
+is_of_kind kind _ = false
+
+-- whether a record was matched
+abbrev pub is_matched : Fate → Bool
+is_matched (fate.Taken k) = true
+is_matched fate.LeftOut = true
+is_matched fate.Unmatched = false
+is_matched (fate.PassedOver kind) = false
+
+-- whether a record opened a request, or made a bio, if it was matched
+abbrev pub opened_by : Action → Bool → Bool
+opened_by action.Get matched = matched
+opened_by _ matched = false
+
+abbrev pub made_by : Action → Bool → Bool
+made_by action.Queue matched = matched
+made_by action.Split matched = matched
+made_by _ matched = false
+
+abbrev pub opens : Action → Fate → Bool
+opens a f = opened_by a (is_matched f)
+
+abbrev pub makes : Action → Fate → Bool
+makes a f = made_by a (is_matched f)
+
+-- how many of the records, each with what is told of it, pass a test
+unfoldable pub told : {F : Type 0} → (Action → F → Bool) → List Record → List F → ℕ
 told p [] fates = 0
 told p (r ∷ records) [] = 0
 told p (r ∷ records) (f ∷ fates) = cond (p r.action f) (suc (told p records fates)) (told p records fates)
+
+-- of an action, those of which something is told
+abbrev pub is_of : Action → (Fate → Bool) → Action → Fate → Bool
+is_of a p b f = (place_of b == place_of a) && p f
+
+-- how many records of an action there are, and what became of them
+abbrev pub tally_of : Action → List Record → List Fate → Tally
+tally_of a records fates = record {
+  records = told (is_of a (λ f. true)) records fates;
+  taken = told (is_of a is_taken) records fates;
+  left_out = told (is_of a is_left_out) records fates;
+  unmatched = told (is_of a is_unmatched) records fates;
+  passed_over = told (is_of a is_passed) records fates;
+}
+
+-- with one more record
+abbrev pub tally_with : Tally → Fate → Tally
+tally_with t f = record {
+  records = t.records + 1;
+  taken = t.taken + cond (is_taken f) 1 0;
+  left_out = t.left_out + cond (is_left_out f) 1 0;
+  unmatched = t.unmatched + cond (is_unmatched f) 1 0;
+  passed_over = t.passed_over + cond (is_passed f) 1 0;
+}
+
+abbrev pub AddsUp : Tally → Type 0
+AddsUp t = t.taken + t.left_out + t.unmatched + t.passed_over ≡ t.records
+
+-- a record is passed over just where it has a reason, and for that one
+abbrev pub ArePassed : List Record → List Fate → Type 0
+ArePassed records fates = map passed_by fates ≡ map passed_over records
+
+-- the requests that records are said to be of are among so many
+abbrev pub IsBelow : ℕ → Fate → Type 0
+IsBelow n (fate.Taken k) = k < n
+IsBelow n _ = ⊤
+
+abbrev pub AreOfTaken : ℕ → List Fate → Type 0
+AreOfTaken n fates = All (IsBelow n) fates

@@ -1,5 +1,5 @@
 -- Requests of a capture that went out, and the bios that went with them.
-use Rattle.std.specs.Prelude.{◌^◌, min, unwrap_or, ℕ, ◌≡◌, ◌≤◌, ◌<◌, ◌+◌, ◌-◌, ◌==◌, ◌↔◌, List, length, count_by, Bool, false, Option, Some, None, slice_index, slice_index_or, All}
+use Rattle.std.specs.Prelude.{◌^◌, min, unwrap_or, ℕ, ◌≡◌, ◌≤◌, ◌<◌, ◌+◌, ◌-◌, ◌==◌, ◌↔◌, List, length, count_by, Bool, false, Option, Some, None, IfSome, slice_index, slice_index_or, All}
 use Rattle.std.specs.List.Sorted.{IsNonDecreasingBy}
 use Rattle.edd_check.specs.declared.Command.{Command}
 use Rattle.blk_capture.specs.declared.counting.Served.{Served}
@@ -12,7 +12,7 @@ use Rattle.blk_capture.specs.declared.requests.Options.{Options}
 use Rattle.blk_capture.specs.declared.requests.Request.{Request}
 use Rattle.blk_capture.specs.declared.requests.Bio.{Bio}
 use Rattle.blk_capture.specs.declared.requests.CaptureFault.{CaptureFault}
-use Rattle.blk_capture.specs.declared.requests.CaptureFault.TheVariants.{Order, TooMany, Memory}
+use Rattle.blk_capture.specs.declared.requests.CaptureFault.TheVariants.{Order, Memory}
 
 -- what of a request is counted in rounds
 abbrev pub served_of : Request → Served
@@ -42,10 +42,11 @@ pub record IsDue (options : Options) (q : Request) : Type 0 where
   pub entered : q.entry ≡ entry_by options.entry q.queued q.inserted
   pub due : q.deadline ≡ deadline_of options q.dir q.entry q.earlier
 
--- in the order of their dispatches, and none went out before it came in
+-- in the order of their dispatches; none went out before it came in, nor was completed before it went out
 pub record AreTimed (requests : List Request) : Type 0 where
   pub rising : IsNonDecreasingBy (λ q. q.dispatched) requests
   pub came_in : All (λ q. q.entry ≤ q.dispatched) requests
+  pub came_back : All (λ q. IfSome q.completed (λ t. q.dispatched ≤ t)) requests
 
 -- the bio that each request was opened for is one of the bios, and went out with it
 abbrev pub HaveBios : List Request → List Bio → Type 0
@@ -60,6 +61,14 @@ is_at k (Some j) = j == k
 -- each request has as many bios as went out with it
 abbrev pub AreTallied : List Request → List Bio → Type 0
 AreTallied requests bios = (k : ℕ) (d : Request) → k < length requests → (slice_index_or requests k d).bios ≡ count_by (λ b. is_at k b.request) bios
+
+-- places among the first n
+abbrev pub AreWithin : ℕ → List (Option ℕ) → Type 0
+AreWithin n places = All (λ p. IfSome p (λ k. k < n)) places
+
+-- bios that went out with one of n requests, or with none
+abbrev pub AreGone : ℕ → List Bio → Type 0
+AreGone n bios = All (λ b. IfSome b.request (λ k. k < n)) bios
 
 -- no record has an earlier time than the one before it, among the first n
 abbrev pub AreInOrder : List Record → ℕ → Type 0
@@ -78,8 +87,7 @@ AreLate requests commands rounds =
     (k : ℕ) (d : Request) (e : Command) → k < length requests
     → ((slice_index_or commands k e).due < slice_index rounds k) ↔ ((slice_index_or requests k d).deadline < (slice_index_or requests k d).dispatched)
 
--- why a capture is refused; Order comes first, and Memory may come in place of TooMany
+-- why a capture is refused; Order comes first
 abbrev pub IsCaptureFault : List Record → CaptureFault → Type 0
 IsCaptureFault records (Order p) = IsFirstFall records p
-IsCaptureFault records TooMany = AreInOrder records (length records)
 IsCaptureFault records Memory = AreInOrder records (length records)

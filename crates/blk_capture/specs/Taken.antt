@@ -1,5 +1,5 @@
 -- How the requests of a capture that are taken are found among all that were opened.
-use Rattle.std.specs.Prelude.{ℕ, ◌≡◌, ◌≤◌, ◌<◌, ◌⊎◌, ◌++◌, List, [], ◌∷◌, length, Option, Some, None, slice_index, slice_index_or, slice_set}
+use Rattle.std.specs.Prelude.{ℕ, ◌≡◌, ◌≤◌, ◌<◌, ◌⊎◌, ◌++◌, List, [], ◌∷◌, length, Option, Some, None, IfSome, slice_index, slice_index_or, slice_set}
 use Rattle.blk_capture.specs.declared.clock.Dispatch.{Dispatch}
 use Rattle.blk_capture.specs.declared.members.Queued.{Queued}
 use Rattle.blk_capture.specs.declared.requests.Bio.{Bio}
@@ -19,6 +19,7 @@ pub record IsRequestOf (lives : List Life) (openers : List ℕ) (x : Dispatch) (
   pub opener : q.bio ≡ slice_index openers x.request
   pub timed : q.dispatched ≡ x.time
   pub came_in : q.entry ≤ x.time
+  pub came_back : IfSome q.completed (λ t. x.time ≤ t)
   pub none : q.bios ≡ 0
 
 -- the request r stands at place k

@@ -7,13 +7,20 @@
 
 mod clock;
 mod counting;
+mod fates;
 mod matching;
 mod members;
+mod part;
 mod record;
 mod requests;
 mod spots;
+mod summary;
+mod table;
 
 pub use counting::{Schedule, Served, are_served, count_rounds};
-pub use matching::Fate;
-pub use record::{Action, Record};
+pub use fates::{Fate, Tally, count_passed, tally_of};
+pub use part::part_of;
+pub use record::{Action, Op, Passed, Record};
 pub use requests::{Bio, CaptureFault, Entry, Matched, Options, Request, match_records, rounds_of};
+pub use summary::{Spread, Summary, Wait, count_late, most_in_flight, spread_waits, summarize};
+pub use table::{Row, rows_of};

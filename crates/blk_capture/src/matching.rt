@@ -1,35 +1,52 @@
 //! The requests of a capture, matched from its records, one rule for each action.
 
-ghost use Rattle.std.specs.Prelude.{◌≡◌, ◌+◌, IfOk, length, if◌then◌else◌};
-ghost use Rattle.blk_capture.specs.Fates.{opens};
+ghost use Rattle.std.specs.Prelude.{◌≡◌, ◌+◌, IfOk, IfSome, IfNone, None, length, is_some};
+ghost use Rattle.std.specs.BTreeMap.{get};
+ghost use Rattle.blk_capture.specs.Passing.{passed_over};
+ghost use Rattle.blk_capture.specs.Edges.{met_spot, on_side};
+ghost use Rattle.blk_capture.specs.Spots.{key_cmp, IsEmptyAt, IsNewest, IsOldest, TakesAbutting};
+ghost use Rattle.blk_capture.specs.Parts.{is_known, opens_part, makes_part, passed_part, adds};
 
 use crate::clock::Clock;
 use crate::members::{Members, Queued};
-use crate::record::{Action, Range, Record};
+use crate::record::{Action, Passed, Range, Record};
 use crate::spots::{Edges, Spot, Spots};
 use blk_bio::Side;
 use std::alloc::{AllocError, Allocator, Global};
 
-/// What became of a record.
+/// What a record is of.
 #[derive(Clone, Copy, Debug, PartialEq, Eq)]
-pub enum Fate {
-    /// It was matched.
-    Matched,
-    /// What it speaks of isn't known, mostly since that began before the capture.
+pub(crate) enum Part {
+    /// It made the bio of a number.
+    Bio(usize),
+    /// It is of the request of a number.
+    Request(usize),
+    /// What it speaks of isn't known.
     Unmatched,
-    /// It was passed over: it moves no data, or its action says nothing of a request.
-    PassedOver,
+    /// It is passed over.
+    PassedOver(Passed),
 }
 
-impl Fate {
-    /// Of a record that a rule speaks of.
-    fn of(matched: bool) -> Fate
-        ensures { result ≡ (if matched then Fate.Matched else Fate.Unmatched) }
+impl Part {
+    /// Of a record that made a bio, if it did.
+    fn of_bio(bio: Option<usize>) -> Part
+        ensures known { is_known result ≡ is_some bio }
+        ensures passed { passed_part result ≡ None }
     {
-        if matched {
-            Fate::Matched
-        } else {
-            Fate::Unmatched
+        match bio {
+            Some(bio) => Part::Bio(bio),
+            None => Part::Unmatched,
+        }
+    }
+
+    /// Of a record that is of a request, if it is.
+    fn of_request(request: Option<usize>) -> Part
+        ensures known { is_known result ≡ is_some request }
+        ensures passed { passed_part result ≡ None }
+    {
+        match request {
+            Some(request) => Part::Request(request),
+            None => Part::Unmatched,
         }
     }
 }
@@ -56,6 +73,8 @@ pub(crate) struct Opened {
     pub(crate) pid: u64,
     /// When its first bio was queued.
     pub(crate) queued: u64,
+    /// When it was opened.
+    pub(crate) got: u64,
     /// When it was inserted, if it was.
     pub(crate) inserted: Option<u64>,
     /// When it was completed, if it was.
@@ -110,7 +129,8 @@ pub(crate) struct Matching<A: Allocator = Global> {
 impl<A: Allocator + Clone> Matching<A> {
     /// Nothing yet. `direct` says that requests go out without being inserted.
     pub(crate) fn new(alloc: A, direct: bool) -> Result<Matching<A>, AllocError>
-        ensures { IfOk result (λ m. length m.requests.items ≡ 0) }
+        ensures same { IfOk result (λ m. length m.requests.items ≡ 0) }
+        ensures bios { IfOk result (λ m. length m.members.bios.items ≡ 0) }
     {
         Ok(Matching {
             clock: Clock::new(alloc.clone()?),
@@ -127,29 +147,35 @@ impl<A: Allocator + Clone> Matching<A> {
     }
 
     /// Takes in a record, the one of a number, at the time of the clock.
-    pub(crate) fn take(&mut self, number: u64, record: &Record) -> Result<Fate, AllocError>
-        ensures { IfOk result (λ fate. length self.new.requests.items ≡ length self.old.requests.items + (if opens «record».now.action fate then 1 else 0)) }
+    #[tactic(auto, using(crate::proofs::Telling::opened_none, crate::proofs::Telling::made_none))]
+    pub(crate) fn take(&mut self, number: u64, record: &Record) -> Result<Part, AllocError>
+        ensures opens { IfOk result (λ part. length self.new.requests.items ≡ length self.old.requests.items + adds (opens_part «record».now.action part)) }
+        ensures makes { IfOk result (λ part. length self.new.members.bios.items ≡ length self.old.members.bios.items + adds (makes_part «record».now.action part)) }
+        ensures passed { IfOk result (λ part. passed_part part ≡ passed_over «record».now) }
     {
-        let Some(range) = Range::of(record) else {
-            return Ok(Fate::PassedOver);
+        let range = match Range::of(record) {
+            Ok(range) => range,
+            Err(kind) => return Ok(Part::PassedOver(kind)),
         };
         match record.action {
-            Action::Queue => Ok(Fate::of(self.queue(number, record.pid, range)?)),
-            Action::Get => Ok(Fate::of(self.get(number, record.pid, range)?)),
-            Action::BackMerge => Ok(Fate::of(self.merge(record.pid, range, Side::Back)?)),
-            Action::FrontMerge => Ok(Fate::of(self.merge(record.pid, range, Side::Front)?)),
-            Action::Insert => Ok(Fate::of(self.insert(number, range)?)),
-            Action::Issue => Ok(Fate::of(self.issue(range)?)),
-            Action::Complete => Ok(Fate::of(self.complete(range)?)),
-            Action::Requeue => Ok(Fate::of(self.requeue(range)?)),
-            Action::Split => Ok(Fate::of(self.split(range)?)),
-            Action::Other => Ok(Fate::PassedOver),
+            Action::Queue => Ok(Part::of_bio(self.queue(number, record.pid, range)?)),
+            Action::Get => Ok(Part::of_request(self.get(number, record.pid, range)?)),
+            Action::BackMerge => Ok(Part::of_request(self.merge(record.pid, range, Side::Back)?)),
+            Action::FrontMerge => Ok(Part::of_request(self.merge(record.pid, range, Side::Front)?)),
+            Action::Insert => Ok(Part::of_request(self.insert(number, range)?)),
+            Action::Issue => Ok(Part::of_request(self.issue(range)?)),
+            Action::Complete => Ok(Part::of_request(self.complete(range)?)),
+            Action::Requeue => Ok(Part::of_request(self.requeue(range)?)),
+            Action::Split => Ok(Part::of_bio(self.split(range)?)),
+            // passed over before
+            Action::Plug | Action::Unplug | Action::Other => Ok(Part::Unmatched),
         }
     }
 
     /// A bio is queued. Of one range the first queued goes first.
-    fn queue(&mut self, number: u64, pid: u64, range: Range) -> Result<bool, AllocError>
-        ensures { length self.new.requests.items ≡ length self.old.requests.items }
+    fn queue(&mut self, number: u64, pid: u64, range: Range) -> Result<Option<usize>, AllocError>
+        ensures same { length self.new.requests.items ≡ length self.old.requests.items }
+        ensures bios { IfOk result (λ bio. length self.new.members.bios.items ≡ length self.old.members.bios.items + adds (is_some bio)) }
     {
         let place = self.members.queue(Queued {
             range,
@@ -159,12 +185,13 @@ impl<A: Allocator + Clone> Matching<A> {
             request: None,
         })?;
         self.waiting.put(Spot::whole(range), number, place)?;
-        Ok(true)
+        Ok(Some(place))
     }
 
     /// The oldest waiting bio of a range, which waits no more.
     fn unqueue(&mut self, range: Range) -> Option<usize>
-        ensures { length self.new.requests.items ≡ length self.old.requests.items }
+        ensures same { length self.new.requests.items ≡ length self.old.requests.items }
+        ensures bios { length self.new.members.bios.items ≡ length self.old.members.bios.items }
     {
         let place = self.waiting.oldest(Spot::whole(range))?;
         let bio = self.members.bios.get(place).copied()?;
@@ -173,22 +200,24 @@ impl<A: Allocator + Clone> Matching<A> {
     }
 
     /// A request is opened for the oldest waiting bio of the range.
-    fn get(&mut self, number: u64, pid: u64, range: Range) -> Result<bool, AllocError>
-        ensures { IfOk result (λ opens. length self.new.requests.items ≡ length self.old.requests.items + (if opens then 1 else 0)) }
+    fn get(&mut self, number: u64, pid: u64, range: Range) -> Result<Option<usize>, AllocError>
+        ensures same { IfOk result (λ request. length self.new.requests.items ≡ length self.old.requests.items + adds (is_some request)) }
+        ensures bios { length self.new.members.bios.items ≡ length self.old.members.bios.items }
     {
         let Some(place) = self.unqueue(range) else {
-            return Ok(false);
+            return Ok(None);
         };
         let Some(bio) = self.members.bios.get(place).copied() else {
-            return Ok(false);
+            return Ok(None);
         };
         let Some(request) = self.members.open(place)? else {
-            return Ok(false);
+            return Ok(None);
         };
         self.requests.push(Opened {
             range,
             pid,
             queued: bio.time,
+            got: self.clock.now,
             inserted: None,
             completed: None,
             stage: Stage::Opened,
@@ -196,12 +225,13 @@ impl<A: Allocator + Clone> Matching<A> {
             age: number,
         })?;
         self.place(request)?;
-        Ok(true)
+        Ok(Some(request))
     }
 
     /// Lists a request where it waits.
     fn place(&mut self, request: usize) -> Result<(), AllocError>
-        ensures { length self.new.requests.items ≡ length self.old.requests.items }
+        ensures same { length self.new.requests.items ≡ length self.old.requests.items }
+        ensures bios { length self.new.members.bios.items ≡ length self.old.members.bios.items }
     {
         let Some(opened) = self.requests.get(request).copied() else {
             return Ok(());
@@ -224,7 +254,8 @@ impl<A: Allocator + Clone> Matching<A> {
 
     /// Takes a request off the list where it waits, and answers it.
     fn unplace(&mut self, request: usize) -> Option<Opened>
-        ensures { length self.new.requests.items ≡ length self.old.requests.items }
+        ensures same { length self.new.requests.items ≡ length self.old.requests.items }
+        ensures bios { length self.new.members.bios.items ≡ length self.old.members.bios.items }
     {
         let opened = self.requests.get(request).copied()?;
         match opened.stage {
@@ -241,20 +272,24 @@ impl<A: Allocator + Clone> Matching<A> {
     }
 
     /// Puts a request in another state, and lists it where it waits then.
-    fn replace(&mut self, request: usize, opened: Opened) -> Result<bool, AllocError>
-        ensures { length self.new.requests.items ≡ length self.old.requests.items }
+    fn replace(&mut self, request: usize, opened: Opened) -> Result<Option<usize>, AllocError>
+        ensures same { length self.new.requests.items ≡ length self.old.requests.items }
+        ensures bios { length self.new.members.bios.items ≡ length self.old.members.bios.items }
     {
         let Some(slot) = self.requests.get_mut(request) else {
-            return Ok(false);
+            return Ok(None);
         };
         *slot = opened;
         self.place(request)?;
-        Ok(true)
+        Ok(Some(request))
     }
 
     /// Of the requests that a newcomer abuts at a side: the newest of the same process that was not inserted, else the oldest that was
     /// and did not go out.
-    fn abutting(&self, pid: u64, range: Range, side: Side) -> Option<usize> {
+    fn abutting(&self, pid: u64, range: Range, side: Side) -> Option<usize>
+        ensures some { IfSome result (TakesAbutting (on_side side (get key_cmp self.now.opened.firsts.places) (get key_cmp self.now.opened.ends.places)) (on_side side (get key_cmp self.now.inserted.firsts.places) (get key_cmp self.now.inserted.ends.places)) (met_spot range side pid) (met_spot range side 0)) }
+        ensures none { IfNone result (IsEmptyAt (on_side side (get key_cmp self.now.inserted.firsts.places) (get key_cmp self.now.inserted.ends.places)) (met_spot range side 0)) }
+    {
         match self.opened.newest(range, side, pid) {
             Some(request) => Some(request),
             None => self.inserted.oldest(range, side, 0),
@@ -263,12 +298,13 @@ impl<A: Allocator + Clone> Matching<A> {
 
     /// A bio is merged into a request that it abuts, or, where no bio of the range waits, a request into the one that ends where it
     /// begins. A bio of which that request isn't known waits no more.
-    fn merge(&mut self, pid: u64, range: Range, side: Side) -> Result<bool, AllocError>
-        ensures { length self.new.requests.items ≡ length self.old.requests.items }
+    fn merge(&mut self, pid: u64, range: Range, side: Side) -> Result<Option<usize>, AllocError>
+        ensures same { length self.new.requests.items ≡ length self.old.requests.items }
+        ensures bios { length self.new.members.bios.items ≡ length self.old.members.bios.items }
     {
         let bio = self.unqueue(range);
         let Some(request) = self.abutting(pid, range, side) else {
-            return Ok(false);
+            return Ok(None);
         };
         let joined = match (bio, side) {
             (Some(bio), _) => self.members.join(bio, request),
@@ -278,13 +314,14 @@ impl<A: Allocator + Clone> Matching<A> {
         if joined {
             self.grow(request, range, side)
         } else {
-            Ok(false)
+            Ok(None)
         }
     }
 
     /// A waiting request of a range, inserted or not, goes into another.
     fn absorb(&mut self, range: Range, into: usize) -> Result<bool, AllocError>
-        ensures { length self.new.requests.items ≡ length self.old.requests.items }
+        ensures same { length self.new.requests.items ≡ length self.old.requests.items }
+        ensures bios { length self.new.members.bios.items ≡ length self.old.members.bios.items }
     {
         let whole = Spot::whole(range);
         let found = match self.inserted.wholes.oldest(whole) {
@@ -299,15 +336,21 @@ impl<A: Allocator + Clone> Matching<A> {
         };
         self.absorptions.push(Absorption { request, into })?;
         let stage = Stage::Absorbed;
-        self.replace(request, Opened { stage, ..opened })
+        Ok(self.replace(request, Opened { stage, ..opened })?.is_some())
     }
 
     /// A request grows at a side by a range that it abuts.
-    fn grow(&mut self, request: usize, range: Range, side: Side) -> Result<bool, AllocError>
-        ensures { length self.new.requests.items ≡ length self.old.requests.items }
+    fn grow(
+        &mut self,
+        request: usize,
+        range: Range,
+        side: Side,
+    ) -> Result<Option<usize>, AllocError>
+        ensures same { length self.new.requests.items ≡ length self.old.requests.items }
+        ensures bios { length self.new.members.bios.items ≡ length self.old.members.bios.items }
     {
         let Some(opened) = self.unplace(request) else {
-            return Ok(false);
+            return Ok(None);
         };
         let grown = match side {
             Side::Back => Range::new(range.dir, opened.range.first, range.end),
@@ -325,18 +368,19 @@ impl<A: Allocator + Clone> Matching<A> {
     }
 
     /// The oldest request of the direction and first sector that was not inserted yet, one of equal size first, is inserted.
-    fn insert(&mut self, number: u64, range: Range) -> Result<bool, AllocError>
-        ensures { length self.new.requests.items ≡ length self.old.requests.items }
+    fn insert(&mut self, number: u64, range: Range) -> Result<Option<usize>, AllocError>
+        ensures same { length self.new.requests.items ≡ length self.old.requests.items }
+        ensures bios { length self.new.members.bios.items ≡ length self.old.members.bios.items }
     {
         let found = match self.opened.wholes.oldest(Spot::whole(range)) {
             Some(request) => Some(request),
             None => self.starts.oldest(Spot::edge(range, range.first, 0)),
         };
         let Some(request) = found else {
-            return Ok(false);
+            return Ok(None);
         };
         let Some(opened) = self.unplace(request) else {
-            return Ok(false);
+            return Ok(None);
         };
         self.replace(
             request,
@@ -350,8 +394,9 @@ impl<A: Allocator + Clone> Matching<A> {
     }
 
     /// The oldest request of the range that was inserted goes out, or that was opened, where none is inserted in the whole capture.
-    fn issue(&mut self, range: Range) -> Result<bool, AllocError>
-        ensures { length self.new.requests.items ≡ length self.old.requests.items }
+    fn issue(&mut self, range: Range) -> Result<Option<usize>, AllocError>
+        ensures same { length self.new.requests.items ≡ length self.old.requests.items }
+        ensures bios { length self.new.members.bios.items ≡ length self.old.members.bios.items }
     {
         let whole = Spot::whole(range);
         let found = match self.inserted.wholes.oldest(whole) {
@@ -359,28 +404,29 @@ impl<A: Allocator + Clone> Matching<A> {
             found => found,
         };
         let Some(request) = found else {
-            return Ok(false);
+            return Ok(None);
         };
         let Some(opened) = self.unplace(request) else {
-            return Ok(false);
+            return Ok(None);
         };
         let stage = Stage::InFlight(self.clock.dispatch(request)?);
         self.replace(request, Opened { stage, ..opened })
     }
 
     /// The oldest request at the device of which just the range is left is completed, or the first part of one.
-    fn complete(&mut self, range: Range) -> Result<bool, AllocError>
-        ensures { length self.new.requests.items ≡ length self.old.requests.items }
+    fn complete(&mut self, range: Range) -> Result<Option<usize>, AllocError>
+        ensures same { length self.new.requests.items ≡ length self.old.requests.items }
+        ensures bios { length self.new.members.bios.items ≡ length self.old.members.bios.items }
     {
         let found = match self.in_flight.oldest(Spot::whole(range)) {
             Some(request) => Some(request),
             None => self.in_flight.longer(range),
         };
         let Some(request) = found else {
-            return Ok(false);
+            return Ok(None);
         };
         let Some(opened) = self.unplace(request) else {
-            return Ok(false);
+            return Ok(None);
         };
         let done = match (
             Range::new(range.dir, range.end, opened.left.end),
@@ -398,14 +444,15 @@ impl<A: Allocator + Clone> Matching<A> {
     }
 
     /// The oldest request at the device of which just the range is left is handed back, to where it waited before.
-    fn requeue(&mut self, range: Range) -> Result<bool, AllocError>
-        ensures { length self.new.requests.items ≡ length self.old.requests.items }
+    fn requeue(&mut self, range: Range) -> Result<Option<usize>, AllocError>
+        ensures same { length self.new.requests.items ≡ length self.old.requests.items }
+        ensures bios { length self.new.members.bios.items ≡ length self.old.members.bios.items }
     {
         let Some(request) = self.in_flight.oldest(Spot::whole(range)) else {
-            return Ok(false);
+            return Ok(None);
         };
         let Some(opened) = self.unplace(request) else {
-            return Ok(false);
+            return Ok(None);
         };
         let stage = if opened.inserted.is_some() {
             Stage::Inserted
@@ -416,23 +463,24 @@ impl<A: Allocator + Clone> Matching<A> {
     }
 
     /// A waiting bio is cut where the range ends, of which it is the beginning. Both parts wait since the bio was queued.
-    fn split(&mut self, range: Range) -> Result<bool, AllocError>
-        ensures { length self.new.requests.items ≡ length self.old.requests.items }
+    fn split(&mut self, range: Range) -> Result<Option<usize>, AllocError>
+        ensures same { length self.new.requests.items ≡ length self.old.requests.items }
+        ensures bios { IfOk result (λ bio. length self.new.members.bios.items ≡ length self.old.members.bios.items + adds (is_some bio)) }
     {
         let Some(place) = self.waiting.longer(range) else {
-            return Ok(false);
+            return Ok(None);
         };
         let Some(bio) = self.members.bios.get(place).copied() else {
-            return Ok(false);
+            return Ok(None);
         };
         let Some(rest) = Range::new(range.dir, range.end, bio.range.end) else {
-            return Ok(false);
+            return Ok(None);
         };
         self.waiting.take(Spot::whole(bio.range), bio.age);
         self.members.cut(place, range);
         let second = self.members.queue(Queued { range: rest, ..bio })?;
         self.waiting.put(Spot::whole(range), bio.age, place)?;
         self.waiting.put(Spot::whole(rest), bio.age, second)?;
-        Ok(true)
+        Ok(Some(second))
     }
 }

@@ -1,6 +1,6 @@
 //! Bios, and which request each went into.
 
-ghost use Rattle.std.specs.Prelude.{◌≡◌, OnOk, length};
+ghost use Rattle.std.specs.Prelude.{◌≡◌, ◌+◌, OnOk, IfOk, length};
 ghost use Rattle.blk_capture.specs.Members.{AreOpened};
 
 use crate::record::Range;
@@ -34,7 +34,9 @@ pub(crate) struct Members<A: Allocator = Global> {
 
 impl<A: Allocator + Clone> Members<A> {
     /// None.
-    pub(crate) fn new(alloc: A) -> Result<Members<A>, AllocError> {
+    pub(crate) fn new(alloc: A) -> Result<Members<A>, AllocError>
+        ensures { IfOk result (λ m. length m.bios.items ≡ 0) }
+    {
         Ok(Members {
             bios: Vec::new(alloc.clone()?),
             openers: Vec::new(alloc),
@@ -42,7 +44,9 @@ impl<A: Allocator + Clone> Members<A> {
     }
 
     /// One more bio, which went into no request yet. Answers its number.
-    pub(crate) fn queue(&mut self, bio: Queued) -> Result<usize, AllocError> {
+    pub(crate) fn queue(&mut self, bio: Queued) -> Result<usize, AllocError>
+        ensures { OnOk result (length self.new.bios.items ≡ length self.old.bios.items + 1) }
+    {
         let number = self.bios.len();
         self.bios.push(Queued {
             request: None,
@@ -52,7 +56,9 @@ impl<A: Allocator + Clone> Members<A> {
     }
 
     /// A bio keeps a part of its range.
-    pub(crate) fn cut(&mut self, bio: usize, range: Range) {
+    pub(crate) fn cut(&mut self, bio: usize, range: Range)
+        ensures { length self.new.bios.items ≡ length self.old.bios.items }
+    {
         let Some(queued) = self.bios.get(bio).copied() else {
             return;
         };
@@ -60,7 +66,9 @@ impl<A: Allocator + Clone> Members<A> {
     }
 
     /// Opens a request for a bio, which goes into it, and answers its number; None where the bio went into one before.
-    pub(crate) fn open(&mut self, bio: usize) -> Result<Option<usize>, AllocError> {
+    pub(crate) fn open(&mut self, bio: usize) -> Result<Option<usize>, AllocError>
+        ensures { length self.new.bios.items ≡ length self.old.bios.items }
+    {
         let Some(queued) = self.bios.get(bio).copied() else {
             return Ok(None);
         };
@@ -77,7 +85,9 @@ impl<A: Allocator + Clone> Members<A> {
     }
 
     /// Puts a bio into a request; false where it went into one before.
-    pub(crate) fn join(&mut self, bio: usize, request: usize) -> bool {
+    pub(crate) fn join(&mut self, bio: usize, request: usize) -> bool
+        ensures { length self.new.bios.items ≡ length self.old.bios.items }
+    {
         let Some(queued) = self.bios.get(bio).copied() else {
             return false;
         };

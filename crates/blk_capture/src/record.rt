@@ -1,6 +1,7 @@
 //! Records of a capture: one step each that a block layer took, as blktrace and the tracepoints of `block` tell them.
 
-ghost use Rattle.std.specs.Prelude.{◌<◌};
+ghost use Rattle.std.specs.Prelude.{◌≡◌, ◌<◌, None, Some, IfErr, IfOk};
+ghost use Rattle.blk_capture.specs.Passing.{writes, place_of, kind_place, passed_action, passed_op, passed_over, dir_of, op_by};
 
 use blk_bio::{Dir, MAX_END};
 
@@ -25,8 +26,159 @@ pub enum Action {
     Requeue,
     /// X: a bio was cut in two.
     Split,
-    /// Any other, as P and U of plugs, or A of a remap.
+    /// P: a process began to plug.
+    Plug,
+    /// U: a process's plug was flushed.
+    Unplug,
+    /// Any other, as A of a remap.
     Other,
+}
+
+impl Action {
+    /// Its number, from 0 on, in the order in which they stand here.
+    pub fn place(self) -> u64
+        ensures { result ≡ place_of self }
+    {
+        match self {
+            Action::Queue => 0,
+            Action::Get => 1,
+            Action::BackMerge => 2,
+            Action::FrontMerge => 3,
+            Action::Insert => 4,
+            Action::Issue => 5,
+            Action::Complete => 6,
+            Action::Requeue => 7,
+            Action::Split => 8,
+            Action::Plug => 9,
+            Action::Unplug => 10,
+            Action::Other => 11,
+        }
+    }
+
+    /// Why it is passed over, if it always is.
+    fn passed(self) -> Option<Passed>
+        ensures { result ≡ passed_action self }
+    {
+        match self {
+            Action::Plug => Some(Passed::Plug),
+            Action::Unplug => Some(Passed::Unplug),
+            Action::Other => Some(Passed::Action),
+            Action::Queue
+            | Action::Get
+            | Action::BackMerge
+            | Action::FrontMerge
+            | Action::Insert
+            | Action::Issue
+            | Action::Complete
+            | Action::Requeue
+            | Action::Split => None,
+        }
+    }
+}
+
+/// What is done to the sectors of a record, after `REQ_OP_READ` and the others of Linux.
+#[derive(Clone, Copy, Debug, PartialEq, Eq)]
+pub enum Op {
+    /// They are read.
+    Read,
+    /// They are written.
+    Write,
+    /// They are given up.
+    Discard,
+    /// They are erased.
+    Erase,
+    /// The device's cache is flushed, without data.
+    Flush,
+    /// None of these, as in records of plugs.
+    Nothing,
+}
+
+impl Op {
+    /// What the letters of blktrace's rwbs say: a W anywhere is a write, else an R a read; else an E an erase, a D a discard and an F a flush
+    /// without data.
+    pub fn of_letters(rwbs: &[u8]) -> Op
+        ensures { result ≡ op_by rwbs.now }
+    {
+        if rwbs.contains(&b'W') {
+            Op::Write
+        } else if rwbs.contains(&b'R') {
+            Op::Read
+        } else if rwbs.contains(&b'E') {
+            Op::Erase
+        } else if rwbs.contains(&b'D') {
+            Op::Discard
+        } else if rwbs.contains(&b'F') {
+            Op::Flush
+        } else {
+            Op::Nothing
+        }
+    }
+
+    /// Which way its data goes, if it moves any.
+    pub fn dir(self) -> Option<Dir>
+        ensures { result ≡ dir_of self }
+    {
+        match self {
+            Op::Read => Some(Dir::Read),
+            Op::Write => Some(Dir::Write),
+            Op::Discard | Op::Erase | Op::Flush | Op::Nothing => None,
+        }
+    }
+
+    /// Why it is passed over, if it moves no data.
+    fn passed(self) -> Option<Passed>
+        ensures { result ≡ passed_op self }
+    {
+        match self {
+            Op::Read | Op::Write => None,
+            Op::Discard => Some(Passed::Discard),
+            Op::Erase => Some(Passed::Erase),
+            Op::Flush => Some(Passed::Flush),
+            Op::Nothing => Some(Passed::Nothing),
+        }
+    }
+}
+
+/// Why a record is passed over, by the first reason that it has.
+#[derive(Clone, Copy, Debug, PartialEq, Eq)]
+pub enum Passed {
+    /// A process began to plug.
+    Plug,
+    /// A process's plug was flushed.
+    Unplug,
+    /// Its action says nothing of a request.
+    Action,
+    /// It is of a discard.
+    Discard,
+    /// It is of an erase.
+    Erase,
+    /// It is of a flush without data.
+    Flush,
+    /// It is of something else that moves no data.
+    Nothing,
+    /// It has no sectors.
+    Empty,
+    /// It ends past [`MAX_END`].
+    PastEnd,
+}
+
+impl Passed {
+    /// Its number, from 0 on, in the order in which they stand here.
+    pub fn place(self) -> u64
+        ensures { result ≡ kind_place self }
+    {
+        match self {
+            Passed::Plug => 0,
+            Passed::Unplug => 1,
+            Passed::Action => 2,
+            Passed::Discard => 3,
+            Passed::Erase => 4,
+            Passed::Flush => 5,
+            Passed::Nothing => 6,
+            Passed::Empty => 7,
+            Passed::PastEnd => 8,
+        }
+    }
 }
 
 /// A record of a capture.
@@ -40,8 +192,8 @@ pub struct Record {
     pub action: Action,
     /// The process that was running, which for an M, an F and a G is the one that submitted the bio.
     pub pid: u64,
-    /// Which way the data goes; None for a discard, an erase, a flush without data and whatever else moves none.
-    pub dir: Option<Dir>,
+    /// What is done to the sectors.
+    pub op: Op,
     /// The first sector.
     pub first: u64,
     /// How many sectors; 0 where there are none.
@@ -70,14 +222,32 @@ impl Range {
         }
     }
 
-    /// The range of a record; None where it moves no data, has no sectors, or ends past [`MAX_END`].
-    pub(crate) fn of(record: &Record) -> Option<Range> {
-        let dir = record.dir?;
-        let end = record.first.checked_add(record.sectors)?;
-        if end > MAX_END {
-            return None;
+    /// The range of a record, unless it is passed over.
+    pub(crate) fn of(record: &Record) -> Result<Range, Passed>
+        ensures ok { IfOk result (λ _. passed_over record.now ≡ None) }
+        ensures err { IfErr result (λ kind. passed_over record.now ≡ Some kind) }
+    {
+        if let Some(kind) = record.action.passed() {
+            return Err(kind);
         }
-        Range::new(dir, record.first, end)
+        if let Some(kind) = record.op.passed() {
+            return Err(kind);
+        }
+        if record.sectors == 0 {
+            return Err(Passed::Empty);
+        }
+        if record.first > MAX_END || record.sectors > MAX_END - record.first {
+            return Err(Passed::PastEnd);
+        }
+        let dir = match record.op {
+            Op::Write => Dir::Write,
+            _ => Dir::Read,
+        };
+        Ok(Range {
+            dir,
+            first: record.first,
+            end: record.first + record.sectors,
+        })
     }
 
     /// How many sectors it has.
@@ -88,7 +258,9 @@ impl Range {
     }
 
     /// Whether it is written.
-    pub(crate) fn is_write(&self) -> bool {
+    pub(crate) fn is_write(&self) -> bool
+        ensures { result ≡ writes self.now.dir }
+    {
         match self.dir {
             Dir::Read => false,
             Dir::Write => true,

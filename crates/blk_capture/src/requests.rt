@@ -1,22 +1,24 @@
 //! The requests of a capture that went out to the device, with their bios.
 
-ghost use Rattle.std.specs.Prelude.{◌≡◌, ◌≤◌, ◌<◌, ◌+◌, ℕ, count_by, is_some, None, Some, All, IfOk, IfErr, IfSome, IfNone, OnOk, length, map, slice_index_or};
+ghost use Rattle.std.specs.Prelude.{◌≡◌, ◌≤◌, ◌<◌, ◌+◌, ℕ, true, count_by, is_some, None, Some, All, IfOk, IfErr, IfSome, IfNone, OnOk, length, map, slice_index_or};
 ghost use Rattle.edd_check.specs.Capacity.{fixed};
 ghost use Rattle.edd_check.specs.Limits.{most_commands};
 ghost use Rattle.edd_check.specs.Schedule.{IsLegal, RoundsInRange};
 ghost use Rattle.blk_capture.specs.Counting.{AreServed, AreSolvable, IsCounted};
-ghost use Rattle.blk_capture.specs.Fates.{opens, told};
-ghost use Rattle.blk_capture.specs.Requests.{served_of, AreTimed, HaveBios, AreTallied, AreInOrder, IsFirstFall, AreLate, entry_by, expire_of, sooner_of, deadline_of, IsDue, IsCaptureFault};
+ghost use Rattle.blk_capture.specs.Fates.{opens, makes, told, is_matched, passed_by, IsBelow, AreOfTaken, ArePassed};
+ghost use Rattle.blk_capture.specs.Parts.{is_known, passed_part, opens_part, makes_part};
+ghost use Rattle.blk_capture.specs.Passing.{passed_over};
+ghost use Rattle.blk_capture.specs.Requests.{served_of, AreTimed, HaveBios, AreTallied, AreWithin, AreGone, AreInOrder, IsFirstFall, AreLate, entry_by, expire_of, sooner_of, deadline_of, IsDue, IsCaptureFault};
 ghost use Rattle.blk_capture.specs.Taken.{IsOwn, IsRequestOf, ArePlaced, PutsAt, ArePlacedBios, IsTalliedFrom};
 ghost use Rattle.blk_capture.specs.declared.members.Queued.{Queued};
 
 use crate::clock::Dispatch;
 use crate::counting::{Schedule, Served, count_rounds};
-use crate::matching::{Fate, Matching, Opened};
+use crate::fates::Fate;
+use crate::matching::{Matching, Opened, Part};
 use crate::members::Queued;
 use crate::record::{Action, Record};
 use blk_bio::Dir;
-use edd_check::MAX_COMMANDS;
 use std::alloc::{AllocError, Allocator, Global};
 
 /// From when on a request counts as come in.
@@ -28,7 +30,7 @@ pub enum Entry {
     Queue,
 }
 
-/// What is taken of a capture, and how soon requests are due. Times are in nanoseconds.
+/// How soon requests are due. Times are in the unit of the records, which mostly is nanoseconds.
 #[derive(Clone, Copy, Debug, PartialEq, Eq)]
 pub struct Options {
     /// How long after it came in a read is due: `read_expire` of mq-deadline.
@@ -37,10 +39,6 @@ pub struct Options {
     pub write_expire: u64,
     /// From when on a request counts as come in.
     pub entry: Entry,
-    /// Requests that went out sooner than this after the first record are left out.
-    pub skip: u64,
-    /// Of the others at most so many are taken, those that went out first.
-    pub first: u64,
 }
 
 /// Why a capture is refused.
@@ -48,8 +46,6 @@ pub struct Options {
 pub enum CaptureFault {
     /// The record at this place, from 0 on, has an earlier time than the one before it.
     Order(usize),
-    /// More requests are taken than a schedule may have.
-    TooMany,
     /// Memory ran out.
     Memory,
 }
@@ -71,6 +67,8 @@ pub struct Request {
     pub pid: u64,
     /// When its first bio was queued.
     pub queued: u64,
+    /// When it was opened.
+    pub got: u64,
     /// When it was inserted into the scheduler, if it was.
     pub inserted: Option<u64>,
     /// When it counts as come in.
@@ -81,7 +79,7 @@ pub struct Request {
     pub deadline: u64,
     /// When it went out for the last time.
     pub dispatched: u64,
-    /// When it was completed, if it was.
+    /// When it was completed, if it was; no sooner than it went out.
     pub completed: Option<u64>,
 }
 
@@ -200,6 +198,16 @@ fn deadline_at<A: Allocator + Clone>(
     }
 }
 
+/// A time, if it is known and not before another.
+fn not_before(time: Option<u64>, other: u64) -> Option<u64>
+    ensures { IfSome result (λ t. other ≤ t) }
+{
+    match time {
+        Some(time) if time >= other => Some(time),
+        _ => None,
+    }
+}
+
 /// The request of a dispatch, where that is its last one, it wasn't merged into another, and it came in by then.
 fn request_of<A: Allocator + Clone>(
     matching: &Matching<A>,
@@ -232,12 +240,13 @@ fn request_of<A: Allocator + Clone>(
         bio: matching.members.openers[place],
         pid: opened.pid,
         queued: opened.queued,
+        got: opened.got,
         inserted: opened.inserted,
         entry,
         earlier: life.earlier,
         deadline: deadline_of(options, opened.range.dir, entry, life.earlier),
         dispatched: dispatch.time,
-        completed: opened.completed,
+        completed: not_before(opened.completed, dispatch.time),
     })
 }
 
@@ -262,12 +271,11 @@ impl<A: Allocator + Clone> Taken<A> {
     }
 }
 
-/// The requests that went out for the last time at `begin` or later, and of them the first ones.
+/// The requests that went out for the last time.
 fn take_requests<A: Allocator + Clone>(
     alloc: A,
     matching: &Matching<A>,
     lives: &[Life],
-    begin: u64,
     options: &Options,
 ) -> Result<Taken<A>, AllocError>
     ensures placed { IfOk result (λ t. ArePlaced lives.now matching.now.members.openers.items t.places.items t.requests.items) }
@@ -276,6 +284,7 @@ fn take_requests<A: Allocator + Clone>(
     ensures due { IfOk result (λ t. All (IsDue options.now) t.requests.items) }
     ensures each { IfOk result (λ t. length t.places.items ≡ length lives.now) }
     ensures many { IfOk result (λ t. count_by is_some t.places.items ≡ length t.requests.items) }
+    ensures within { IfOk result (λ t. AreWithin (length t.requests.items) t.places.items) }
 {
     let places = vec![in alloc.clone()?; None; lives.len()]?;
     let mut taken = Taken {
@@ -285,9 +294,6 @@ fn take_requests<A: Allocator + Clone>(
     let dispatches = matching.clock.dispatches.as_slice();
     for number in 0..dispatches.len() {
         let dispatch = dispatches[number];
-        if dispatch.time < begin || taken.requests.len() as u64 >= options.first {
-            continue;
-        }
         if let Some(request) = request_of(matching, lives, options, number, dispatch) {
             taken.put(dispatch.request, request)?;
         }
@@ -317,7 +323,8 @@ fn count_others(lives: &[Life], places: &[Option<usize>]) -> (u64, u64)
 
 /// The place of the request that a bio went out with, which went into a request at first.
 fn place_of(lives: &[Life], places: &[Option<usize>], request: Option<usize>) -> Option<usize>
-    ensures { (r : ℕ) → request ≡ Some r → IsOwn lives.now r → r < length places.now → result ≡ slice_index_or places.now r None }
+    ensures own { (r : ℕ) → request ≡ Some r → IsOwn lives.now r → r < length places.now → result ≡ slice_index_or places.now r None }
+    ensures within { (n : ℕ) → AreWithin n places.now → IfSome result (λ k. k < n) }
 {
     let request = request?;
     if request >= lives.len() {
@@ -337,7 +344,8 @@ fn bios_of<A: Allocator + Clone>(
     lives: &[Life],
     places: &[Option<usize>],
 ) -> Result<Vec<Bio, A>, AllocError>
-    ensures { IfOk result (λ v. ArePlacedBios lives.now places.now queued.now (length queued.now) v.items) }
+    ensures placed { IfOk result (λ v. ArePlacedBios lives.now places.now queued.now (length queued.now) v.items) }
+    ensures within { (n : ℕ) → AreWithin n places.now → IfOk result (λ v. AreGone n v.items) }
 {
     let mut bios = Vec::with_capacity(alloc, queued.len())?;
     for bio in queued {
@@ -351,6 +359,61 @@ fn bios_of<A: Allocator + Clone>(
         })?;
     }
     Ok(bios)
+}
+
+/// The place of the request that the bio of a number went out with.
+fn bio_place(bios: &[Bio], bio: usize) -> Option<usize>
+    ensures { (n : ℕ) → AreGone n bios.now → IfSome result (λ k. k < n) }
+{
+    if bio >= bios.len() {
+        return None;
+    }
+    bios[bio].request
+}
+
+/// What became of a record that is of the request at a place, or of one that is not taken.
+fn fate_at(place: Option<usize>) -> Fate
+    ensures matched { is_matched result ≡ true }
+    ensures passed { passed_by result ≡ None }
+    ensures below { (n : ℕ) → IfSome place (λ k. k < n) → IsBelow n result }
+{
+    match place {
+        Some(place) => Fate::Taken(place),
+        None => Fate::LeftOut,
+    }
+}
+
+/// What became of a record, as its bio or its request was taken or not.
+fn fate_of(part: Part, bios: &[Bio], lives: &[Life], places: &[Option<usize>]) -> Fate
+    ensures matched { is_matched result ≡ is_known part }
+    ensures passed { passed_by result ≡ passed_part part }
+    ensures below { (n : ℕ) → AreWithin n places.now → AreGone n bios.now → IsBelow n result }
+{
+    match part {
+        Part::Bio(bio) => fate_at(bio_place(bios, bio)),
+        Part::Request(request) => fate_at(place_of(lives, places, Some(request))),
+        Part::Unmatched => Fate::Unmatched,
+        Part::PassedOver(kind) => Fate::PassedOver(kind),
+    }
+}
+
+/// The same of each record.
+fn fates_of<A: Allocator + Clone>(
+    alloc: A,
+    parts: &[Part],
+    bios: &[Bio],
+    lives: &[Life],
+    places: &[Option<usize>],
+) -> Result<Vec<Fate, A>, AllocError>
+    ensures matched { IfOk result (λ v. map is_matched v.items ≡ map is_known parts.now) }
+    ensures passed { IfOk result (λ v. map passed_by v.items ≡ map passed_part parts.now) }
+    ensures below { (n : ℕ) → AreWithin n places.now → AreGone n bios.now → IfOk result (λ v. AreOfTaken n v.items) }
+{
+    let mut fates = Vec::with_capacity(alloc, parts.len())?;
+    for part in parts {
+        fates.push(fate_of(*part, bios, lives, places))?;
+    }
+    Ok(fates)
 }
 
 /// The requests with the numbers of their bios, of which none is counted yet.
@@ -384,7 +447,7 @@ pub struct Matched<A: Allocator = Global> {
     pub fates: Vec<Fate, A>,
     /// How many requests were opened and then merged into others.
     pub absorbed: u64,
-    /// How many of the others are not taken: they never went out, were handed back, or the options leave them out.
+    /// How many of the others are not taken: they never went out, or were handed back.
     pub left_out: u64,
 }
 
@@ -410,23 +473,33 @@ fn first_fall(records: &[Record]) -> Option<usize>
 fn settle<A: Allocator + Clone>(
     alloc: A,
     matching: &Matching<A>,
-    fates: Vec<Fate, A>,
-    begin: u64,
+    parts: &[Part],
     options: &Options,
 ) -> Result<Matched<A>, AllocError>
     ensures timed { IfOk result (λ m. AreTimed m.requests.items) }
     ensures due { IfOk result (λ m. All (IsDue options.now) m.requests.items) }
     ensures bios { IfOk result (λ m. HaveBios m.requests.items m.bios.items) }
     ensures tallied { IfOk result (λ m. AreTallied m.requests.items m.bios.items) }
-    ensures fates { IfOk result (λ m. m.fates.items ≡ fates.items) }
+    ensures gone { IfOk result (λ m. AreGone (length m.requests.items) m.bios.items) }
+    ensures matched { IfOk result (λ m. map is_matched m.fates.items ≡ map is_known parts.now) }
+    ensures passed { IfOk result (λ m. map passed_by m.fates.items ≡ map passed_part parts.now) }
+    ensures below { IfOk result (λ m. AreOfTaken (length m.requests.items) m.fates.items) }
     ensures opened { IfOk result (λ m. length m.requests.items + m.absorbed + m.left_out ≡ length matching.now.requests.items) }
+    ensures made { IfOk result (λ m. length m.bios.items ≡ length matching.now.members.bios.items) }
 {
     let lives = lives(alloc.clone()?, matching, options)?;
-    let taken = take_requests(alloc.clone()?, matching, lives.as_slice(), begin, options)?;
+    let taken = take_requests(alloc.clone()?, matching, lives.as_slice(), options)?;
     let Taken { requests, places } = taken;
     let bios = bios_of(
-        alloc,
+        alloc.clone()?,
         matching.members.bios.as_slice(),
+        lives.as_slice(),
+        places.as_slice(),
+    )?;
+    let fates = fates_of(
+        alloc,
+        parts,
+        bios.as_slice(),
         lives.as_slice(),
         places.as_slice(),
     )?;
@@ -440,11 +513,10 @@ fn settle<A: Allocator + Clone>(
     })
 }
 
-/// Matches the records of a capture to bios and requests, and takes those requests that the options say. Which record belongs to which
+/// Matches the records of a capture to bios and requests, and takes those that went out. Which record belongs to which
 /// request is told by the rules of the crate's page; what a record speaks of may be unknown, and stops nothing.
 ///
-/// Refused as `Order` where a record has an earlier time than the one before it, as `TooMany` where more than
-/// [`edd_check::MAX_COMMANDS`] requests are taken, and for want of memory. The time grows as n log n in the number of records.
+/// Refused as `Order` where a record has an earlier time than the one before it, and for want of memory. The time grows as n log n in the number of records.
 pub fn match_records<A: Allocator + Clone>(
     alloc: A,
     records: &[Record],
@@ -452,26 +524,28 @@ pub fn match_records<A: Allocator + Clone>(
 ) -> Result<Matched<A>, CaptureFault>
     // in the order of their dispatches, none before it came in
     ensures timed { IfOk result (λ m. AreTimed m.requests.items) }
-    ensures few { IfOk result (λ m. length m.requests.items ≤ most_commands) }
     ensures due { IfOk result (λ m. All (IsDue options.now) m.requests.items) }
     ensures bios { IfOk result (λ m. HaveBios m.requests.items m.bios.items) }
     ensures tallied { IfOk result (λ m. AreTallied m.requests.items m.bios.items) }
+    // a bio that went out did so with a request that is taken
+    ensures gone { IfOk result (λ m. AreGone (length m.requests.items) m.bios.items) }
     ensures fates { IfOk result (λ m. length m.fates.items ≡ length records.now) }
+    ensures passed { IfOk result (λ m. ArePassed records.now m.fates.items) }
+    ensures below { IfOk result (λ m. AreOfTaken (length m.requests.items) m.fates.items) }
     // each request that a record opened is taken, was merged into another, or is left out
     ensures opened { IfOk result (λ m. length m.requests.items + m.absorbed + m.left_out ≡ told opens records.now m.fates.items) }
+    // each bio was made by a record
+    ensures made { IfOk result (λ m. length m.bios.items ≡ told makes records.now m.fates.items) }
     ensures order { OnOk result (AreInOrder records.now (length records.now)) }
     ensures fault { IfErr result (IsCaptureFault records.now) }
 {
     if let Some(place) = first_fall(records) {
         return Err(CaptureFault::Order(place));
     }
-    let Ok(matched) = match_in_order(alloc, records, options) else {
-        return Err(CaptureFault::Memory);
-    };
-    if matched.requests.len() as u64 > MAX_COMMANDS {
-        return Err(CaptureFault::TooMany);
+    match match_in_order(alloc, records, options) {
+        Ok(matched) => Ok(matched),
+        Err(_) => Err(CaptureFault::Memory),
     }
-    Ok(matched)
 }
 
 /// The same of records whose times don't fall.
@@ -484,25 +558,25 @@ fn match_in_order<A: Allocator + Clone>(
     ensures due { IfOk result (λ m. All (IsDue options.now) m.requests.items) }
     ensures bios { IfOk result (λ m. HaveBios m.requests.items m.bios.items) }
     ensures tallied { IfOk result (λ m. AreTallied m.requests.items m.bios.items) }
+    ensures gone { IfOk result (λ m. AreGone (length m.requests.items) m.bios.items) }
     ensures fates { IfOk result (λ m. length m.fates.items ≡ length records.now) }
+    ensures passed { IfOk result (λ m. ArePassed records.now m.fates.items) }
+    ensures below { IfOk result (λ m. AreOfTaken (length m.requests.items) m.fates.items) }
     ensures opened { IfOk result (λ m. length m.requests.items + m.absorbed + m.left_out ≡ told opens records.now m.fates.items) }
+    ensures made { IfOk result (λ m. length m.bios.items ≡ told makes records.now m.fates.items) }
 {
     let mut matching = Matching::new(alloc.clone()?, !has_insertion(records))?;
-    let mut fates = Vec::with_capacity(alloc.clone()?, records.len())?;
+    let mut parts = Vec::with_capacity(alloc.clone()?, records.len())?;
     for (place, record) in records.iter().enumerate() {
         let _ = matching.clock.set(record.time);
-        let fate = matching.take(place as u64, record)?;
-        fates.push(fate)?;
+        let part = matching.take(place as u64, record)?;
+        parts.push(part)?;
     }
-    let begin = match records.first() {
-        Some(record) => record.time.saturating_add(options.skip),
-        None => 0,
-    };
-    settle(alloc, &matching, fates, begin, options)
+    settle(alloc, &matching, parts.as_slice(), options)
 }
 
 /// Counts requests in rounds, as [`crate::count_rounds`] does: the one at place k ran in round k + 1, and after its due round
-/// exactly where it went out after its deadline.
+/// exactly where it went out after its deadline. At most [`edd_check::MAX_COMMANDS`] requests.
 pub fn rounds_of<A: Allocator + Clone>(
     alloc: A,
     requests: &[Request],

@@ -1,5 +1,11 @@
 //! What waits, found by where it stands on the device, the oldest or the newest there.
 
+ghost use Rattle.std.specs.Prelude.{◌≡◌, None, Some, false, IfSome, IfNone, IsSome};
+ghost use Rattle.std.specs.Ordering.{is_eq, is_gt, is_lt};
+ghost use Rattle.std.specs.BTreeMap.{get};
+ghost use Rattle.blk_capture.specs.Spots.{Key, spot_cmp, key_cmp, IsOldest, IsNewest, IsEmptyAt};
+ghost use Rattle.blk_capture.specs.Edges.{whole_spot, edge_spot, met_spot, on_side};
+
 use crate::record::Range;
 use blk_bio::Side;
 use std::alloc::{AllocError, Allocator, Global};
@@ -20,7 +26,9 @@ pub(crate) struct Spot {
 
 impl Spot {
     /// By its whole range.
-    pub(crate) fn whole(range: Range) -> Spot {
+    pub(crate) fn whole(range: Range) -> Spot
+        ensures { result ≡ whole_spot range }
+    {
         Spot {
             pid: 0,
             write: range.is_write(),
@@ -30,7 +38,9 @@ impl Spot {
     }
 
     /// By its direction and one sector, and by who owns it, or 0.
-    pub(crate) fn edge(range: Range, sector: u64, pid: u64) -> Spot {
+    pub(crate) fn edge(range: Range, sector: u64, pid: u64) -> Spot
+        ensures { result ≡ edge_spot range sector pid }
+    {
         Spot {
             pid,
             write: range.is_write(),
@@ -40,10 +50,62 @@ impl Spot {
     }
 }
 
+/// What stands at a spot.
+#[derive(Clone, Copy)]
+struct Standing {
+    spot: Spot,
+    age: u64,
+    place: usize,
+}
+
+/// Whether two spots are one.
+fn is_same(a: Spot, b: Spot) -> bool
+    ensures { result ≡ is_eq (spot_cmp a b) }
+{
+    a.cmp(&b).is_eq()
+}
+
+/// The first that stands at a spot and age or after it.
+fn first_from<A: Allocator + Clone>(
+    places: &BTreeMap<(Spot, u64), usize, A>,
+    lower: (Spot, u64),
+) -> Option<Standing>
+    ensures there { IfSome result (λ e. get key_cmp places.now (e.spot, e.age) ≡ Some e.place) }
+    ensures high { IfSome result (λ e. is_gt (key_cmp lower (e.spot, e.age)) ≡ false) }
+    ensures least { IfSome result (λ e. (q : Key) → is_gt (key_cmp lower q) ≡ false → IsSome (get key_cmp places.now q) → is_gt (key_cmp (e.spot, e.age) q) ≡ false) }
+    ensures none { IfNone result ((q : Key) → is_gt (key_cmp lower q) ≡ false → get key_cmp places.now q ≡ None) }
+{
+    let ((spot, age), place) = places.range(lower..).next()?;
+    Some(Standing {
+        spot: *spot,
+        age: *age,
+        place: *place,
+    })
+}
+
+/// The last that stands at a spot and age or before it.
+fn last_upto<A: Allocator + Clone>(
+    places: &BTreeMap<(Spot, u64), usize, A>,
+    upper: (Spot, u64),
+) -> Option<Standing>
+    ensures there { IfSome result (λ e. get key_cmp places.now (e.spot, e.age) ≡ Some e.place) }
+    ensures low { IfSome result (λ e. is_gt (key_cmp (e.spot, e.age) upper) ≡ false) }
+    ensures greatest { IfSome result (λ e. (q : Key) → is_gt (key_cmp q upper) ≡ false → IsSome (get key_cmp places.now q) → is_lt (key_cmp (e.spot, e.age) q) ≡ false) }
+    ensures none { IfNone result ((q : Key) → is_gt (key_cmp q upper) ≡ false → get key_cmp places.now q ≡ None) }
+{
+    let ((spot, age), place) = places.range(..=upper).next_back()?;
+    Some(Standing {
+        spot: *spot,
+        age: *age,
+        place: *place,
+    })
+}
+
 /// Places by spots, and of one spot by age: the number of a record, of which no two of one spot are equal.
 #[derive(Drop)]
 pub(crate) struct Spots<A: Allocator = Global> {
-    places: BTreeMap<(Spot, u64), usize, A>,
+    /// By spots and ages.
+    pub(crate) places: BTreeMap<(Spot, u64), usize, A>,
 }
 
 impl<A: Allocator + Clone> Spots<A> {
@@ -66,15 +128,23 @@ impl<A: Allocator + Clone> Spots<A> {
     }
 
     /// The oldest at a spot.
-    pub(crate) fn oldest(&self, spot: Spot) -> Option<usize> {
-        let ((found, _), place) = self.places.range((spot, 0)..).next()?;
-        if *found == spot { Some(*place) } else { None }
+    pub(crate) fn oldest(&self, spot: Spot) -> Option<usize>
+        ensures some { IfSome result (IsOldest (get key_cmp self.now.places) spot) }
+        ensures none { IfNone result (IsEmptyAt (get key_cmp self.now.places) spot) }
+    {
+        let found = first_from(&self.places, (spot, 0))?;
+        let same = is_same(found.spot, spot);
+        if same { Some(found.place) } else { None }
     }
 
     /// The newest at a spot.
-    pub(crate) fn newest(&self, spot: Spot) -> Option<usize> {
-        let ((found, _), place) = self.places.range(..=(spot, u64::MAX)).next_back()?;
-        if *found == spot { Some(*place) } else { None }
+    pub(crate) fn newest(&self, spot: Spot) -> Option<usize>
+        ensures some { IfSome result (IsNewest (get key_cmp self.now.places) spot) }
+        ensures none { IfNone result (IsEmptyAt (get key_cmp self.now.places) spot) }
+    {
+        let found = last_upto(&self.places, (spot, u64::MAX))?;
+        let same = is_same(found.spot, spot);
+        if same { Some(found.place) } else { None }
     }
 
     /// What begins where this range does and ends after it: the one that ends first, of several the oldest.
@@ -94,8 +164,10 @@ impl<A: Allocator + Clone> Spots<A> {
 pub(crate) struct Edges<A: Allocator = Global> {
     /// By their ranges.
     pub(crate) wholes: Spots<A>,
-    firsts: Spots<A>,
-    ends: Spots<A>,
+    /// By where they begin.
+    pub(crate) firsts: Spots<A>,
+    /// By where they end.
+    pub(crate) ends: Spots<A>,
 }
 
 impl<A: Allocator + Clone> Edges<A> {
@@ -130,7 +202,10 @@ impl<A: Allocator + Clone> Edges<A> {
     }
 
     /// The oldest that a newcomer at a side abuts.
-    pub(crate) fn oldest(&self, newcomer: Range, side: Side, pid: u64) -> Option<usize> {
+    pub(crate) fn oldest(&self, newcomer: Range, side: Side, pid: u64) -> Option<usize>
+        ensures some { IfSome result (IsOldest (on_side side (get key_cmp self.now.firsts.places) (get key_cmp self.now.ends.places)) (met_spot newcomer side pid)) }
+        ensures none { IfNone result (IsEmptyAt (on_side side (get key_cmp self.now.firsts.places) (get key_cmp self.now.ends.places)) (met_spot newcomer side pid)) }
+    {
         match side {
             Side::Back => self.ends.oldest(Spot::edge(newcomer, newcomer.first, pid)),
             Side::Front => self.firsts.oldest(Spot::edge(newcomer, newcomer.end, pid)),
@@ -138,7 +213,10 @@ impl<A: Allocator + Clone> Edges<A> {
     }
 
     /// The newest that a newcomer at a side abuts.
-    pub(crate) fn newest(&self, newcomer: Range, side: Side, pid: u64) -> Option<usize> {
+    pub(crate) fn newest(&self, newcomer: Range, side: Side, pid: u64) -> Option<usize>
+        ensures some { IfSome result (IsNewest (on_side side (get key_cmp self.now.firsts.places) (get key_cmp self.now.ends.places)) (met_spot newcomer side pid)) }
+        ensures none { IfNone result (IsEmptyAt (on_side side (get key_cmp self.now.firsts.places) (get key_cmp self.now.ends.places)) (met_spot newcomer side pid)) }
+    {
         match side {
             Side::Back => self.ends.newest(Spot::edge(newcomer, newcomer.first, pid)),
             Side::Front => self.firsts.newest(Spot::edge(newcomer, newcomer.end, pid)),

@@ -1,7 +1,6 @@
 //! What the tests are given: records by blktrace's letters, and what is seen of what they are matched to.
 
-use blk_bio::Dir;
-use blk_capture::{Action, Entry, Fate, Matched, Options, Record, Request, match_records};
+use blk_capture::{Action, Entry, Fate, Matched, Op, Options, Record, Request, match_records};
 use refusing::Refusing;
 use std::alloc::Global;
 use std::process::Abort;
@@ -25,6 +24,8 @@ fn action_of(letter: char) -> Action {
         'C' => Action::Complete,
         'R' => Action::Requeue,
         'X' => Action::Split,
+        'P' => Action::Plug,
+        'U' => Action::Unplug,
         _ => Action::Other,
     }
 }
@@ -37,10 +38,13 @@ fn record_of(line: Line) -> Record {
         cpu: 0,
         action: action_of(action),
         pid,
-        dir: match dir {
-            'R' => Some(Dir::Read),
-            'W' => Some(Dir::Write),
-            _ => None,
+        op: match dir {
+            'R' => Op::Read,
+            'W' => Op::Write,
+            'D' => Op::Discard,
+            'E' => Op::Erase,
+            'F' => Op::Flush,
+            _ => Op::Nothing,
         },
         first,
         sectors,
@@ -56,23 +60,22 @@ pub fn records_of(rt: &impl Abort, alloc: Global, lines: &[Line]) -> Vec<Record>
         .expect(rt, "memory")
 }
 
-/// Reads are due 100 after they were inserted, writes 1000, and all requests are taken.
+/// Reads are due 100 after they were inserted, writes 1000.
 pub fn usual() -> Options {
     Options {
         read_expire: 100,
         write_expire: 1000,
         entry: Entry::Insert,
-        skip: 0,
-        first: u64::MAX,
     }
 }
 
-/// The letter of a fate: m for matched, u for unmatched, p for passed over.
+/// The letter of a fate: a digit is the request's place, l is for left out, u for unmatched, p for passed over.
 fn letter_of(fate: Fate) -> u8 {
     match fate {
-        Fate::Matched => b'm',
+        Fate::Taken(place) => b'0' + (place % 10) as u8,
+        Fate::LeftOut => b'l',
         Fate::Unmatched => b'u',
-        Fate::PassedOver => b'p',
+        Fate::PassedOver(_) => b'p',
     }
 }
 

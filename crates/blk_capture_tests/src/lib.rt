@@ -8,4 +8,8 @@ mod given;
 #[cfg(test)]
 mod matching;
 #[cfg(test)]
+mod numbers;
+#[cfg(test)]
 mod refusals;
+#[cfg(test)]
+mod tallies;

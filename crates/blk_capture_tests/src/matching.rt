@@ -1,7 +1,8 @@
 //! Captures of a few records, by each rule of the matching.
 
-use crate::given::{Line, gives, records_of, usual};
-use blk_capture::{CaptureFault, Entry, Options, match_records};
+use crate::given::{Line, gives, is_matched, records_of, usual};
+use blk_capture::{CaptureFault, Entry, Options, match_records, part_of};
+use refusing::Refusing;
 
 /// One read from its queueing to its end, under a scheduler and without one; a bio of no data and other actions are passed over.
 #[test]
@@ -18,15 +19,15 @@ fn one_request(rt: HostRuntime) {
         (40, 'C', 'R', 0, 0, 8),
     ];
     let row = (0, 8, 1, 20, 120, 30);
-    assert!(rt; gives(&rt, rt.alloc(), &usual(), &lines, "mmppppmmm", &[row]));
+    assert!(rt; gives(&rt, rt.alloc(), &usual(), &lines, "00pppp000", &[row]));
     let queued = Options {
         entry: Entry::Queue,
         ..usual()
     };
     let row = (0, 8, 1, 10, 110, 30);
-    assert!(rt; gives(&rt, rt.alloc(), &queued, &lines, "mmppppmmm", &[row]));
+    assert!(rt; gives(&rt, rt.alloc(), &queued, &lines, "00pppp000", &[row]));
     let direct = [lines[0], lines[1], lines[7]];
-    assert!(rt; gives(&rt, rt.alloc(), &usual(), &direct, "mmm", &[row]));
+    assert!(rt; gives(&rt, rt.alloc(), &usual(), &direct, "000", &[row]));
 }
 
 /// Of one range the first queued is opened first, and what was inserted first goes out first. A dispatch of a request that was not inserted is
@@ -47,7 +48,7 @@ fn first_in_first_out(rt: HostRuntime) {
         (11, 'G', 'W', 1, 0, 8),
     ];
     let rows = [(0, 8, 1, 5, 1005, 6), (0, 8, 1, 8, 1008, 9)];
-    assert!(rt; gives(&rt, rt.alloc(), &usual(), &lines, "mmmmmmummuu", &rows));
+    assert!(rt; gives(&rt, rt.alloc(), &usual(), &lines, "010100u11uu", &rows));
 }
 
 /// A bio goes into the newest request of its process that was not inserted and that it abuts, at the back by M and at the front by F.
@@ -69,7 +70,7 @@ fn merges_in_a_plug(rt: HostRuntime) {
         (9, 'M', 'W', 1, 24, 8),
     ];
     let rows = [(0, 16, 2, 6, 1006, 7), (8, 16, 2, 5, 1005, 8)];
-    assert!(rt; gives(&rt, rt.alloc(), &usual(), &lines, "mmmmmmmmmmmmu", &rows));
+    assert!(rt; gives(&rt, rt.alloc(), &usual(), &lines, "110011001001u", &rows));
 }
 
 /// Else it goes into the oldest one that was inserted and did not go out.
@@ -89,7 +90,7 @@ fn merges_into_the_oldest(rt: HostRuntime) {
         (6, 'D', 'W', 0, 4, 4),
     ];
     let rows = [(0, 16, 2, 1, 1001, 4), (4, 4, 1, 2, 1002, 6)];
-    assert!(rt; gives(&rt, rt.alloc(), &usual(), &lines, "mmmmmmmmmum", &rows));
+    assert!(rt; gives(&rt, rt.alloc(), &usual(), &lines, "000111000u1", &rows));
 }
 
 /// An M of a whole waiting request is a merge of two: the bios of both, and the earlier deadline.
@@ -106,7 +107,7 @@ fn two_requests_become_one(rt: HostRuntime) {
         (6, 'D', 'R', 0, 0, 16),
     ];
     let row = (0, 16, 2, 4, 102, 6);
-    assert!(rt; gives(&rt, rt.alloc(), &usual(), &lines, "mmmmmmmm", &[row]));
+    assert!(rt; gives(&rt, rt.alloc(), &usual(), &lines, "00000000", &[row]));
 }
 
 /// An insertion takes a request of equal size first, else the oldest of that first sector.
@@ -124,7 +125,7 @@ fn inserted_by_size(rt: HostRuntime) {
         (7, 'D', 'R', 0, 0, 8),
     ];
     let rows = [(0, 16, 1, 4, 104, 6), (0, 8, 1, 3, 103, 7)];
-    assert!(rt; gives(&rt, rt.alloc(), &usual(), &lines, "mmmmmmumm", &rows));
+    assert!(rt; gives(&rt, rt.alloc(), &usual(), &lines, "001110u01", &rows));
 }
 
 /// Handed back, it counts from its next dispatch; a completion in parts ends it when all are done; what is left goes out and is completed
@@ -145,7 +146,7 @@ fn back_and_in_parts(rt: HostRuntime) {
         (10, 'R', 'R', 0, 2, 6),
     ];
     let row = (0, 8, 1, 2, 102, 6);
-    assert!(rt; gives(&rt, rt.alloc(), &usual(), &lines, "mmmmmummumu", &[row]));
+    assert!(rt; gives(&rt, rt.alloc(), &usual(), &lines, "00000u00u0u", &[row]));
 }
 
 /// A bio that is cut in two is two, each with a request of its own, both queued when it was.
@@ -161,7 +162,7 @@ fn cut_in_two(rt: HostRuntime) {
         (7, 'X', 'W', 1, 0, 8),
     ];
     let rows = [(8, 16, 1, 1, 1001, 5), (0, 8, 1, 1, 1001, 6)];
-    assert!(rt; gives(&rt, rt.alloc(), &usual(), &lines, "mmmmmmu", &rows));
+    assert!(rt; gives(&rt, rt.alloc(), &usual(), &lines, "101001u", &rows));
 }
 
 /// What went out before the time that is skipped, and after the first ones, is left out.
@@ -178,13 +179,19 @@ fn skipped_and_first(rt: HostRuntime) {
         (20, 'D', 'R', 0, 8, 8),
         (21, 'D', 'R', 0, 16, 8),
     ];
-    let options = Options {
-        skip: 10,
-        first: 1,
-        ..usual()
+    let heap = Refusing::new(rt.alloc());
+    let records = records_of(&rt, rt.alloc(), &lines);
+    let Ok(matched) = match_records(&heap, records.as_slice(), &usual()) else {
+        panic!(rt; "memory");
+    };
+    assert_eq!(rt; matched.requests.len(), 3);
+    let Ok(part) = part_of(&heap, &matched, 20, 1) else {
+        panic!(rt; "memory");
     };
     let row = (8, 8, 1, 10, 110, 20);
-    assert!(rt; gives(&rt, rt.alloc(), &options, &lines, "mmmmmmmmm", &[row]));
+    assert!(rt; is_matched(&part, "l0ll0ll0l", &[row]));
+    assert_eq!(rt; part.left_out, 2);
+    assert_eq!(rt; part.bios.len(), 3);
 }
 
 /// A time that falls is a fault, at the first record whose time does.

@@ -1,7 +1,7 @@
 //! A capture where allocations are refused.
 
 use crate::given::{Heap, Line, is_matched, records_of, usual};
-use blk_capture::{CaptureFault, Record, match_records, rounds_of};
+use blk_capture::{CaptureFault, Record, match_records, part_of, rounds_of};
 use refusing::Refusing;
 use std::process::Abort;
 
@@ -15,7 +15,11 @@ fn all_of_it(rt: &impl Abort, heap: Heap<'_>, records: &[Record]) {
         }
         Ok(matched) => {
             let row = (0, 16, 2, 2, 102, 6);
-            assert!(rt; is_matched(&matched, "mmmmmmm", &[row]));
+            assert!(rt; is_matched(&matched, "0000000", &[row]));
+            match part_of(heap, &matched, 0, 1) {
+                Err(_) => assert!(rt; armed && !heap.is_armed()),
+                Ok(part) => assert!(rt; is_matched(&part, "0000000", &[row])),
+            }
             match rounds_of(heap, matched.requests.as_slice()) {
                 Err(_) => assert!(rt; armed && !heap.is_armed()),
                 Ok(schedule) => assert_eq!(rt; schedule.rounds.len(), 1),

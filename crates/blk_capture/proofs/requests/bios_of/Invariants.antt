@@ -1,5 +1,10 @@
+use Rattle.std.proofs.Common.{ℕ}
+use Rattle.blk_capture.specs.Requests.{AreWithin, AreGone}
 use Rattle.blk_capture.specs.Taken.{ArePlacedBios}
 use Rattle.blk_capture.proofs.requests.bios_of.Given as goal
 
 abbrev pub invariant-loop-bio : goal.invariant-loop-bio
-invariant-loop-bio g l = ArePlacedBios l.lives l.places l.queued l.bio-index l.bios.items
+invariant-loop-bio g l = record {
+  placed : ArePlacedBios l.lives l.places l.queued l.bio-index l.bios.items;
+  gone : (n : ℕ) → AreWithin n l.places → AreGone n l.bios.items;
+}

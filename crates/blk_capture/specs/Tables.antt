@@ -1,0 +1,33 @@
+-- Requests as rows of a table.
+use Rattle.std.specs.Prelude.{ℕ, ◌≡◌, ◌<◌, ◌+◌, ◌-◌, List, length, slice_index_or, Option, None, Some}
+use Rattle.blk_capture.specs.declared.requests.Request.{Request}
+use Rattle.blk_capture.specs.declared.table.Row.{Row}
+
+-- how long after the beginning a time is, 0 where it is no later
+abbrev pub since : ℕ → ℕ → ℕ
+since begin time = time - begin
+
+abbrev pub known_since : ℕ → Option ℕ → Option ℕ
+known_since begin None = None
+known_since begin (Some time) = Some (since begin time)
+
+-- the row of the request at place k
+abbrev pub row_at : ℕ → ℕ → Request → Row
+row_at begin k q = record {
+  id = k + 1;
+  dir = q.dir;
+  first = q.first;
+  sectors = q.sectors;
+  bios = q.bios;
+  pid = q.pid;
+  queued = since begin q.queued;
+  inserted = known_since begin q.inserted;
+  dispatched = since begin q.dispatched;
+  completed = known_since begin q.completed;
+  due = since begin q.deadline;
+}
+
+-- each request's row, at its place
+pub record AreRows (begin : ℕ) (requests : List Request) (rows : List Row) : Type 0 where
+  pub each : length rows ≡ length requests
+  pub are : (k : ℕ) (d : Request) (e : Row) → k < length requests → slice_index_or rows k e ≡ row_at begin k (slice_index_or requests k d)

@@ -1,0 +1,284 @@
+//! A capture in numbers.
+
+ghost use Rattle.std.specs.Prelude.{◌≡◌, ◌≤◌, ℕ, IfOk, count_by, length, nat_le};
+ghost use Rattle.std.specs.List.{filter_map};
+ghost use Rattle.std.specs.List.Sorted.{IsNonDecreasingBy};
+ghost use Rattle.edd_check.specs.Limits.{most_commands};
+ghost use Rattle.blk_capture.specs.Requests.{AreTimed};
+ghost use Rattle.blk_capture.specs.Summaries.{is_late, is_gone, wait_by, at_rank, spread_of, IsSpread, IsMostInFlight, IsSummary, in_flight_at, back_by, out_by};
+
+use crate::fates::{Fate, tally_of};
+use crate::record::{Action, Record};
+use crate::requests::{Bio, Matched, Request};
+use blk_bio::Dir;
+use std::alloc::{AllocError, Allocator};
+
+/// What a request waits for.
+#[derive(Clone, Copy, Debug, PartialEq, Eq)]
+pub enum Wait {
+    /// Q to G: from the queueing of its first bio until it was opened, mostly for a tag.
+    Tag,
+    /// I to D: from its insertion until its last dispatch, in the scheduler.
+    Scheduler,
+    /// D to C: from its last dispatch until it was completed, at the device.
+    Device,
+}
+
+/// How many numbers there are, and their quantiles by nearest rank, each one of them. Without numbers there are none.
+#[derive(Clone, Copy, Debug, PartialEq, Eq)]
+pub struct Spread {
+    /// How many numbers there are.
+    pub count: u64,
+    /// The median: half of the numbers are no greater.
+    pub p50: Option<u64>,
+    /// 99 of 100 numbers are no greater.
+    pub p99: Option<u64>,
+    /// The greatest number.
+    pub max: Option<u64>,
+}
+
+/// A capture in numbers: how many records it has, and of the requests that are taken the others.
+#[derive(Clone, Copy, Debug, PartialEq, Eq)]
+pub struct Summary {
+    /// How many records there are.
+    pub records: u64,
+    /// How many bios went out.
+    pub bios: u64,
+    /// How many requests went out.
+    pub requests: u64,
+    /// How many records of a merge, M and F, there are.
+    pub merges: u64,
+    /// How many reads went out after their deadline, by the clock.
+    pub late_reads: u64,
+    /// How many writes did.
+    pub late_writes: u64,
+    /// The waits from Q to G, in the unit of the records' times.
+    pub tag: Spread,
+    /// From I to D, of requests that were inserted.
+    pub scheduler: Spread,
+    /// From D to C, of requests that were completed.
+    pub device: Spread,
+    /// The most that were at the device at once.
+    pub in_flight: u64,
+}
+
+/// Whether a request goes that way, and went out after its deadline.
+fn is_late(request: &Request, dir: Dir) -> bool
+    ensures { result ≡ is_late dir request.now }
+{
+    let goes = match (request.dir, dir) {
+        (Dir::Read, Dir::Read) => true,
+        (Dir::Read, Dir::Write) => false,
+        (Dir::Write, Dir::Read) => false,
+        (Dir::Write, Dir::Write) => true,
+    };
+    goes && request.deadline < request.dispatched
+}
+
+/// How many of the requests of a direction went out after their deadline, by the clock.
+pub fn count_late(requests: &[Request], dir: Dir) -> u64
+    ensures { result ≡ count_by (is_late dir) requests.now }
+{
+    let mut count = 0;
+    for request in requests {
+        if is_late(request, dir) {
+            count += 1;
+        }
+    }
+    count
+}
+
+/// How many of the bios went out with a request that is taken.
+fn count_gone(bios: &[Bio]) -> u64
+    ensures { result ≡ count_by is_gone bios.now }
+{
+    let mut count = 0;
+    for bio in bios {
+        if bio.request.is_some() {
+            count += 1;
+        }
+    }
+    count
+}
+
+/// How long a request waited, if both ends are known.
+fn wait_of(wait: Wait, request: &Request) -> Option<u64>
+    ensures { result ≡ wait_by wait request.now }
+{
+    match wait {
+        Wait::Tag => Some(request.got.saturating_sub(request.queued)),
+        Wait::Scheduler => match request.inserted {
+            Some(inserted) => Some(request.dispatched.saturating_sub(inserted)),
+            None => None,
+        },
+        Wait::Device => match request.completed {
+            Some(completed) => Some(completed.saturating_sub(request.dispatched)),
+            None => None,
+        },
+    }
+}
+
+/// The number at the place of so many hundredths.
+fn at_rank(sorted: &[u64], percent: usize) -> Option<u64>
+    requires few { length sorted.now ≤ most_commands }
+    requires part { percent ≤ 100 }
+    ensures { result ≡ at_rank percent sorted.now }
+{
+    let rank = (percent * sorted.len() + 99) / 100;
+    sorted.get(rank.saturating_sub(1)).copied()
+}
+
+/// The quantiles of numbers in their order.
+fn of_sorted(sorted: &[u64]) -> Spread
+    requires { length sorted.now ≤ most_commands }
+    ensures { result ≡ spread_of sorted.now }
+{
+    Spread {
+        count: sorted.len() as u64,
+        p50: at_rank(sorted, 50),
+        p99: at_rank(sorted, 99),
+        max: at_rank(sorted, 100),
+    }
+}
+
+/// The waits of the requests of which both ends are known.
+fn waits<A: Allocator>(
+    alloc: A,
+    requests: &[Request],
+    wait: Wait,
+) -> Result<Vec<u64, A>, AllocError>
+    ensures { IfOk result (λ v. v.items ≡ filter_map (wait_by wait) requests.now) }
+{
+    requests
+        .iter()
+        .filter_map(|request| wait_of(wait, request))
+        .collect(alloc)
+}
+
+/// The quantiles of numbers, which it puts in order.
+fn spread_of(values: &mut [u64]) -> Spread
+    requires { length values.old ≤ most_commands }
+    ensures { IsSpread values.old result }
+{
+    values.sort_unstable();
+    of_sorted(values)
+}
+
+/// How long the requests waited, of those of which both ends are known. At most [`edd_check::MAX_COMMANDS`] requests. Fails for want of
+/// memory alone. The time grows as n log n.
+#[tactic(auto, using(crate::proofs::Flying::few_known))]
+pub fn spread_waits<A: Allocator>(
+    alloc: A,
+    requests: &[Request],
+    wait: Wait,
+) -> Result<Spread, AllocError>
+    requires { length requests.now ≤ most_commands }
+    ensures { IfOk result (IsSpread (filter_map (wait_by wait) requests.now)) }
+{
+    let mut values = waits(alloc, requests, wait)?;
+    Ok(spread_of(values.as_mut_slice()))
+}
+
+/// Puts the times in order at which requests were completed.
+fn put_in_order(requests: &[Request], times: &mut [u64])
+    requires { times.old ≡ filter_map (λ q. q.completed) requests.now }
+    ensures rising { IsNonDecreasingBy (λ x. x) times.new }
+    ensures counted { (t : ℕ) → count_by (λ x. nat_le x t) times.new ≡ count_by (back_by t) requests.now }
+{
+    let _ = requests;
+    times.sort_unstable();
+}
+
+/// When the requests were completed that were.
+fn completions<A: Allocator>(alloc: A, requests: &[Request]) -> Result<Vec<u64, A>, AllocError>
+    ensures { IfOk result (λ v. v.items ≡ filter_map (λ q. q.completed) requests.now) }
+{
+    requests
+        .iter()
+        .filter_map(|request| request.completed)
+        .collect(alloc)
+}
+
+/// How many of the requests went out by a time. It is found by halves.
+fn count_out(requests: &[Request], time: u64) -> usize
+    requires { AreTimed requests.now }
+    ensures { result ≡ count_by (out_by time) requests.now }
+{
+    requests.partition_point(|request| request.dispatched <= time)
+}
+
+/// How many of the times, in their order, are no later than one. It is found by halves.
+fn count_upto(times: &[u64], time: u64) -> usize
+    requires { IsNonDecreasingBy (λ x. x) times.now }
+    ensures { result ≡ count_by (λ x. nat_le x time) times.now }
+{
+    times.partition_point(|other| *other <= time)
+}
+
+/// How many of the requests were at the device at a time: they went out by then, and weren't completed.
+fn in_flight_at(requests: &[Request], completions: &[u64], time: u64) -> u64
+    requires timed { AreTimed requests.now }
+    requires sorted { IsNonDecreasingBy (λ x. x) completions.now }
+    requires counted { (t : ℕ) → count_by (λ x. nat_le x t) completions.now ≡ count_by (back_by t) requests.now }
+    ensures { result ≡ in_flight_at requests.now time }
+{
+    let out = count_out(requests, time);
+    let back = count_upto(completions, time);
+    (out - back) as u64
+}
+
+/// The most of the requests that were at the device at once, by the times at which requests were completed.
+fn most_at_once(requests: &[Request], completions: &mut [u64]) -> u64
+    requires timed { AreTimed requests.now }
+    requires completed { completions.old ≡ filter_map (λ q. q.completed) requests.now }
+    ensures { IsMostInFlight requests.now result }
+{
+    put_in_order(requests, completions);
+    let mut most = 0;
+    for request in requests {
+        let count = in_flight_at(requests, completions, request.dispatched);
+        if count > most {
+            most = count;
+        }
+    }
+    most
+}
+
+/// The most of the requests that were at the device at once. What was completed at the very time of a dispatch was back by then. The requests
+/// are as [`crate::match_records`] gives them. Fails for want of memory alone. The time grows as n log n.
+pub fn most_in_flight<A: Allocator>(alloc: A, requests: &[Request]) -> Result<u64, AllocError>
+    requires { AreTimed requests.now }
+    ensures { IfOk result (IsMostInFlight requests.now) }
+{
+    let mut completions = completions(alloc, requests)?;
+    Ok(most_at_once(requests, completions.as_mut_slice()))
+}
+
+/// The capture in numbers. Fails for want of memory alone. The time grows as n log n.
+pub fn summarize<A: Allocator + Clone>(
+    alloc: A,
+    records: &[Record],
+    matched: &Matched<A>,
+) -> Result<Summary, AllocError>
+    requires timed { AreTimed matched.now.requests.items }
+    requires few { length matched.now.requests.items ≤ most_commands }
+    requires fates { length matched.now.fates.items ≡ length records.now }
+    ensures { IfOk result (IsSummary records.now matched.now.requests.items matched.now.bios.items matched.now.fates.items) }
+{
+    let requests = matched.requests.as_slice();
+    let fates = matched.fates.as_slice();
+    let back = tally_of(records, fates, Action::BackMerge);
+    let front = tally_of(records, fates, Action::FrontMerge);
+    Ok(Summary {
+        records: records.len() as u64,
+        bios: count_gone(matched.bios.as_slice()),
+        requests: requests.len() as u64,
+        merges: back.taken + front.taken,
+        late_reads: count_late(requests, Dir::Read),
+        late_writes: count_late(requests, Dir::Write),
+        tag: spread_waits(alloc.clone()?, requests, Wait::Tag)?,
+        scheduler: spread_waits(alloc.clone()?, requests, Wait::Scheduler)?,
+        device: spread_waits(alloc.clone()?, requests, Wait::Device)?,
+        in_flight: most_in_flight(alloc, requests)?,
+    })
+}
