@@ -6,7 +6,8 @@ rounds it has. Scripts: joins and fronts (each bio joins a request that waits, a
 half of those that its plug holds, and fits none), no_room (the same in the core, where all wait), other_way (half of what waits
 touches the newcomer and is too long for it, and a short request of the other direction lies there too), bio_ids and sectors (made
 for the hash tables), handed (each command is handed back once), idle (rounds in which nothing waits for any of 16 queues).
-Traces: trace_bio_ids and trace_requests (ids made for the hash tables), trace_steps (another depth in each round, all late),
+Traces: trace_bio_ids and trace_requests (ids made for hash tables that traces had once), trace_falling (both count down),
+trace_steps (another depth in each round, all late),
 trace_joins (requests that grow to 128 bios), trace_groups (groups of 128 bios). Command lists: scattered (rounds up to the
 limits), falling (by falling release and due), nested (each released later and due sooner than the one before), alone (each passed
 over in a window of its own) and repeated (the last id is the first). Certificates: cert_scattered and met_windows (as many
@@ -180,6 +181,11 @@ def trace_requests(count, out):
     trace(1, served(colliding(count, table_of(count, 4), SEED), range(count)), out)
 
 
+def trace_falling(count, out):
+    falling = range(count, 0, -1)
+    trace(1, served(falling, falling), out)
+
+
 def trace_steps(count, out):
     events = served(range(count), range(count))
     for n in range(count):
@@ -265,8 +271,8 @@ def met_windows(count, out):
         out(f"{n},{release},{release},{release + n % 2}")
 
 
-KINDS = [joins, fronts, plugs, no_room, other_way, bio_ids, sectors, handed, idle, trace_bio_ids, trace_requests, trace_steps]
-KINDS += [trace_joins, trace_groups, scattered, falling, nested, alone, repeated, cert_scattered, met_windows]
+KINDS = [joins, fronts, plugs, no_room, other_way, bio_ids, sectors, handed, idle, trace_bio_ids, trace_requests]
+KINDS += [trace_falling, trace_steps, trace_joins, trace_groups, scattered, falling, nested, alone, repeated, cert_scattered, met_windows]
 
 
 def main():

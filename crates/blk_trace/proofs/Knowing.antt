@@ -239,3 +239,10 @@ known_some setup es id k legal h =
       | inl p ↦ released_first setup es id legal (has_issued es id p)
       | inr p ↦ has_released es id (does_wait _ _ _ p.0 (sym (waits_is setup es id) ∙ p.1)).0
     ]
+
+-- nothing is kept under an id that was not released
+pub known_not : (setup : Setup) (es : List Happened) (id : ℕ) → IsLegalTrace setup es → (IsReleased es id → ⊥) → known_of setup es id ≡ None
+known_not setup es id legal fresh = elim (known_of setup es id) as (λ o. known_of setup es id ≡ o → known_of setup es id ≡ None) [
+  | None ↦ λ e. e
+  | Some k ↦ λ e. absurd (fresh (known_some setup es id k legal e))
+] refl

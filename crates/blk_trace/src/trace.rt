@@ -1,11 +1,7 @@
 //! A list of events that is legal, with a setup.
 
-ghost use Rattle.std.specs.Prelude.{ℕ, ◌≡◌, ◌≢◌, ◌↔◌, ◌++◌, ◌+◌, ◌≤◌, ◌<◌, ◌∷◌, [], IsTrue, IfOk, IfErr, OnOk, OnErr, length, nat_eq};
+ghost use Rattle.std.specs.Prelude.{◌≡◌, ◌≢◌, ◌↔◌, ◌++◌, ◌+◌, ◌≤◌, ◌<◌, ◌∷◌, [], IsTrue, IfOk, IfErr, OnOk, OnErr, length};
 ghost use Rattle.std.specs.Option.{option_copied};
-ghost use Rattle.std.specs.HashMap as hash;
-ghost use Rattle.std.specs.HashSet as hash_set;
-ghost use Rattle.blk_bio.specs.declared.bio.BioId.{BioId as Name};
-ghost use Rattle.blk_trace.specs.Inside.Kept.{is_bio};
 ghost use Rattle.blk_trace.specs.Legal.{IsLegalTrace};
 ghost use Rattle.blk_trace.specs.Rules.{IsUnbroken};
 ghost use Rattle.blk_trace.specs.Events.{round_of, open_count};
@@ -18,10 +14,9 @@ use crate::rule::PushFault;
 use crate::setup::Setup;
 use crate::tags::TagUse;
 use blk_bio::{BioId, Request};
+use blk_ids::{ById, IdSet};
 use edd_check::Command;
 use std::alloc::{AllocError, Allocator, Global};
-use std::collections::{HashMap, HashSet};
-use std::hash::{BuildHasherDefault, FoldHasher};
 use std::marker::Model;
 
 mod adding;
@@ -32,9 +27,6 @@ mod waiting;
 
 /// The most events of a trace, with an end counted for each open Issue.
 pub const MAX_EVENTS: u64 = 1_000_000;
-
-/// How the maps of a trace hash: by numbers alone, so that a trace needs no source of randomness.
-type Hashing = BuildHasherDefault<FoldHasher>;
 
 /// What the next push was given room for.
 #[derive(Clone, Copy, Debug, PartialEq, Eq)]
@@ -59,9 +51,9 @@ pub struct Trace<A: Allocator = Global> {
     /// The round of each of these Issues.
     rounds: Vec<u64, A>,
     /// What is kept of each request that was released.
-    known: HashMap<u64, Known, Hashing, A>,
+    known: ById<Known, A>,
     /// The ids of the bios that entered.
-    ids: HashSet<BioId, Hashing, A>,
+    ids: IdSet<A>,
     /// How each tag stands in the round that is on.
     tags: Vec<TagUse, A>,
     /// The round that is on.
@@ -77,17 +69,17 @@ pub struct Trace<A: Allocator = Global> {
 }
 
 impl<A: Allocator> Model for Trace<A> {
-    ghost use Rattle.std.specs.Prelude.{length, nat_eq, vec_capacity};
-    ghost use Rattle.std.specs.HashMap as hash;
-    ghost use Rattle.std.specs.HashSet as hash_set;
+    ghost use Rattle.std.specs.Prelude.{length, vec_capacity};
+    ghost use Rattle.blk_ids.specs.ById as by_id;
+    ghost use Rattle.blk_ids.specs.IdSet as id_set;
     ghost use Rattle.blk_trace.specs.Traces.{Traced};
-    ghost use Rattle.blk_trace.specs.Inside.Kept.{IsKeptTrace, HasRoom, HasDepths, is_bio};
+    ghost use Rattle.blk_trace.specs.Inside.Kept.{IsKeptTrace, HasRoom, HasDepths, has_named};
 
     ghost Value = { Traced };
 
     ghost view = { λ t. record { setup = t.setup; events = t.events.items; prepared = t.prepared } };
 
-    ghost invariant = { λ t. IsKeptTrace t.setup t.events.items t.commands.items t.rounds.items t.round t.«open» (hash.get nat_eq t.known) (hash_set.contains is_bio t.ids) t.tags.items × HasRoom t.prepared (length t.events.items) t.«open» (length t.commands.items) (length t.rounds.items) (vec_capacity t.events) (vec_capacity t.commands) (vec_capacity t.rounds) (hash.spare t.known) (hash_set.spare t.ids) × HasDepths t.setup t.events.items t.depth t.next_depth };
+    ghost invariant = { λ t. IsKeptTrace t.setup t.events.items t.commands.items t.rounds.items t.round t.«open» (by_id.kept_at t.known) (has_named (id_set.has_id t.ids)) t.tags.items × HasRoom t.prepared (length t.events.items) t.«open» (length t.commands.items) (length t.rounds.items) (vec_capacity t.events) (vec_capacity t.commands) (vec_capacity t.rounds) (by_id.spare t.known) (id_set.spare t.ids) × HasDepths t.setup t.events.items t.depth t.next_depth };
 }
 
 impl<A: Allocator + Clone> Trace<A> {
@@ -98,8 +90,8 @@ impl<A: Allocator + Clone> Trace<A> {
         let events = Vec::new(alloc.clone()?);
         let commands = Vec::new(alloc.clone()?);
         let rounds = Vec::new(alloc.clone()?);
-        let known = HashMap::new(alloc.clone()?);
-        let ids = HashSet::new(alloc.clone()?);
+        let known = ById::new(alloc.clone()?)?;
+        let ids = IdSet::new(alloc.clone()?)?;
         let depth = setup.depth();
         let mut tags = Vec::new(alloc);
         tags.resize(depth as usize, TagUse::Free)?;
@@ -216,8 +208,8 @@ impl<A: Allocator + Clone> Trace<A> {
         ensures err { OnErr result (self.new ≡ self.old) }
     {
         self.events.reserve(self.open as usize + 1)?;
-        make_room_in_known(&mut self.known)?;
-        make_room_in_ids(&mut self.ids, bios as usize)?;
+        self.known.make_room()?;
+        self.ids.make_room(bios as usize)?;
         self.prepared = Prepared::Bios(bios);
         Ok(())
     }
@@ -227,7 +219,7 @@ impl<A: Allocator + Clone> Trace<A> {
         ensures { IsTrue result ↔ HasBio self.now.events id }
     {
         let _ = &self.round;
-        self.ids.contains(&id)
+        self.ids.contains(id.submitter, id.serial)
     }
 
     /// What the trace is made for.
@@ -279,37 +271,4 @@ impl<A: Allocator + Clone> Trace<A> {
     {
         self.open
     }
-}
-
-/// Makes room for one request more. A full table grows to four times as many, since each growth puts in anew all that it has.
-#[inline(always)]
-fn make_room_in_known<A: Allocator + Clone>(
-    known: &mut HashMap<u64, Known, Hashing, A>,
-) -> Result<(), AllocError>
-    ensures same { (k : ℕ) → hash.get nat_eq known.new k ≡ hash.get nat_eq known.old k }
-    ensures ok { OnOk result (1 ≤ hash.spare known.new) }
-    ensures spare { hash.spare known.old ≤ hash.spare known.new }
-{
-    let len = known.len();
-    if len < known.capacity() {
-        return Ok(());
-    }
-    known.reserve(len.saturating_mul(3).max(1))
-}
-
-/// Makes room for the ids of as many bios more, in the same way.
-#[inline(always)]
-fn make_room_in_ids<A: Allocator + Clone>(
-    ids: &mut HashSet<BioId, Hashing, A>,
-    bios: usize,
-) -> Result<(), AllocError>
-    ensures same { (id : Name) → hash_set.contains is_bio ids.new id ≡ hash_set.contains is_bio ids.old id }
-    ensures ok { OnOk result (bios ≤ hash_set.spare ids.new) }
-    ensures spare { hash_set.spare ids.old ≤ hash_set.spare ids.new }
-{
-    let len = ids.len();
-    if bios <= ids.capacity().saturating_sub(len) {
-        return Ok(());
-    }
-    ids.reserve(len.saturating_mul(3).max(bios))
 }

@@ -48,6 +48,10 @@ rounds_in Gone = None
 abbrev pub is_bio : BioId → BioId → Bool
 is_bio x y = (x.submitter == y.submitter) && (x.serial == y.serial)
 
+-- a set of ids of two numbers, as one of ids
+abbrev pub has_named : (ℕ → ℕ → Bool) → BioId → Bool
+has_named has id = has id.submitter id.serial
+
 -- whether a bio of the id is among the bios
 abbrev pub has_bio_id : List Bio → BioId → Bool
 has_bio_id bios id = list_any (λ b. is_bio b.id id) bios

@@ -1,8 +1,11 @@
 //! Adding an event that breaks no rule, and for which there is room.
 
-ghost use Rattle.std.specs.Prelude.{ℕ, ◌≡◌, ◌≤◌, ◌<◌, ◌+◌, ◌==◌, Some, cond, nat_eq, vec_capacity, ◌++◌, ◌∷◌, [], length, slice_get, ◌||◌};
-ghost use Rattle.std.specs.HashMap as hash;
-ghost use Rattle.std.specs.HashSet as hash_set;
+ghost use Rattle.std.specs.Prelude.{ℕ, ◌≡◌, ◌≤◌, ◌<◌, ◌+◌, Some, vec_capacity, ◌++◌, ◌∷◌, [], length, slice_get, ◌||◌};
+ghost use Rattle.blk_ids.specs.Given.{Gives};
+ghost use Rattle.blk_ids.specs.ById.{kept_at};
+ghost use Rattle.blk_ids.specs.ById as by_id;
+ghost use Rattle.blk_ids.specs.IdSet.{has_id};
+ghost use Rattle.blk_ids.specs.IdSet as id_set;
 ghost use Rattle.edd_check.specs.declared.Command.{Command as Job};
 ghost use Rattle.blk_trace.specs.declared.known.Known.{Known as Kept};
 ghost use Rattle.blk_bio.specs.declared.bio.BioId.{BioId as Name};
@@ -11,16 +14,16 @@ ghost use Rattle.blk_trace.specs.Legal.{IsLegalTrace};
 ghost use Rattle.blk_trace.specs.Rules.{IsUnbroken};
 ghost use Rattle.blk_trace.specs.Traces.{IsPreparedFor};
 ghost use Rattle.blk_trace.specs.Events.{IsReleased, IsIssued, IsOpen, IsOpenBy};
-ghost use Rattle.blk_trace.specs.Inside.Kept.{known_of, is_bio, has_bio_id, rounds_in};
+ghost use Rattle.blk_trace.specs.Inside.Kept.{known_of, has_named, has_bio_id, rounds_in};
 
 use crate::event::Event;
 use crate::known::{Known, Waiting};
 use crate::tags::TagUse;
-use crate::trace::{Hashing, Prepared, Trace};
-use blk_bio::{Bio, BioId, Request};
+use crate::trace::{Prepared, Trace};
+use blk_bio::{Bio, Request};
+use blk_ids::{ById, IdSet};
 use edd_check::Command;
 use std::alloc::Allocator;
-use std::collections::{HashMap, HashSet};
 
 impl<A: Allocator + Clone> Trace<A> {
     /// Adds an event that breaks no rule, and for which there is room: `prepare` made it, or it is a Done or a Back, for
@@ -68,9 +71,7 @@ impl<A: Allocator + Clone> Trace<A> {
     {
         let expire = self.setup.expire(request.dir());
         let waiting = Waiting::entered(&request, self.round, expire);
-        if self.known.insert(id, Known::Waits(waiting)).is_err() {
-            unreachable!();
-        }
+        self.known.insert(id, Known::Waits(waiting));
         enter(&mut self.ids, request.bios());
         append(&mut self.events, Event::Release { id, request });
         self.prepared = Prepared::Nothing;
@@ -101,9 +102,7 @@ impl<A: Allocator + Clone> Trace<A> {
         let Some(new) = old.joined(&request, self.round, &self.setup.limits()) else {
             unreachable!();
         };
-        if self.known.insert(id, Known::Waits(new)).is_err() {
-            unreachable!();
-        }
+        self.known.set(id, Known::Waits(new));
         enter(&mut self.ids, request.bios());
         append(&mut self.events, Event::Join { id, request });
         self.prepared = Prepared::Nothing;
@@ -182,36 +181,35 @@ impl<A: Allocator + Clone> Trace<A> {
 }
 
 /// Marks the request that waits under an id as issued, and hands out its command.
-fn issued<A: Allocator>(known: &mut HashMap<u64, Known, Hashing, A>, id: u64) -> Command
-    requires { (k : Kept) × ((x : ℕ × ℕ) × (hash.get nat_eq known.old id ≡ Some k) × (rounds_in k ≡ Some x)) }
+fn issued<A: Allocator + Clone>(known: &mut ById<Known, A>, id: u64) -> Command
+    requires { (k : Kept) × ((x : ℕ × ℕ) × (kept_at known.old id ≡ Some k) × (rounds_in k ≡ Some x)) }
     ensures named { result.id ≡ id }
-    ensures was { (k : Kept) × (hash.get nat_eq known.old id ≡ Some k) × (rounds_in k ≡ Some (result.release, result.due)) }
-    ensures gone { (i : ℕ) → hash.get nat_eq known.new i ≡ cond (id == i) (Some Known.Gone) (hash.get nat_eq known.old i) }
+    ensures was { (k : Kept) × (kept_at known.old id ≡ Some k) × (rounds_in k ≡ Some (result.release, result.due)) }
+    ensures gone { Gives (kept_at known.old) id (Some Known.Gone) (kept_at known.new) }
+    ensures room { by_id.spare known.new ≡ by_id.spare known.old }
 {
-    let Some(kept) = known.get_mut(&id) else {
+    let Some(kept) = known.get(id) else {
         unreachable!()
     };
-    let (release, due) = match *kept {
+    let (release, due) = match kept {
         Known::Waits(waiting) => (waiting.release, waiting.due),
         Known::Handed { release, due } => (release, due),
         Known::Gone => unreachable!(),
     };
-    *kept = Known::Gone;
+    known.set(id, Known::Gone);
     Command { id, release, due }
 }
 
 /// Marks the request of a command, which was issued, as handed back.
-fn handed<A: Allocator>(known: &mut HashMap<u64, Known, Hashing, A>, command: &Command)
-    requires { hash.get nat_eq known.old command.now.id ≡ Some Known.Gone }
-    ensures { (i : ℕ) → hash.get nat_eq known.new i ≡ cond (command.now.id == i) (Some (Known.Handed command.now.release command.now.due)) (hash.get nat_eq known.old i) }
+fn handed<A: Allocator + Clone>(known: &mut ById<Known, A>, command: &Command)
+    requires { kept_at known.old command.now.id ≡ Some Known.Gone }
+    ensures { Gives (kept_at known.old) command.now.id (Some (Known.Handed command.now.release command.now.due)) (kept_at known.new) }
 {
-    let Some(kept) = known.get_mut(&command.id) else {
-        unreachable!()
-    };
-    *kept = Known::Handed {
+    let back = Known::Handed {
         release: command.release,
         due: command.due,
     };
+    known.set(command.id, back);
 }
 
 /// The place of the command of an id, which is there. It looks from the end on, since what is in flight was issued in
@@ -241,14 +239,13 @@ fn append<T: Drop, A: Allocator>(list: &mut Vec<T, A>, value: T)
 
 /// Adds the ids of the bios, for which there is room.
 #[inline(always)]
-fn enter<A: Allocator + Clone>(ids: &mut HashSet<BioId, Hashing, A>, bios: &[Bio])
-    requires { length bios.now ≤ hash_set.spare ids.old }
-    ensures ids { (id : Name) → hash_set.contains is_bio ids.new id ≡ hash_set.contains is_bio ids.old id || has_bio_id bios.now id }
-    ensures room { hash_set.spare ids.old ≤ hash_set.spare ids.new + length bios.now }
+fn enter<A: Allocator + Clone>(ids: &mut IdSet<A>, bios: &[Bio])
+    requires { length bios.now ≤ id_set.spare ids.old }
+    ensures ids { (id : Name) → has_named (has_id ids.new) id ≡ has_named (has_id ids.old) id || has_bio_id bios.now id }
+    ensures room { id_set.spare ids.old ≤ id_set.spare ids.new + length bios.now }
 {
     for bio in bios {
-        if ids.insert(bio.id()).is_err() {
-            unreachable!();
-        }
+        let id = bio.id();
+        ids.insert(id.submitter, id.serial);
     }
 }

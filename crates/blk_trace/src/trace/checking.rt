@@ -161,7 +161,7 @@ impl<A: Allocator + Clone> Trace<A> {
         ensures request { (w : Entered) → waits_at self.now.setup self.now.events id ≡ Some w → IsRequest w.bios }
     {
         let _ = &self.round;
-        self.known.get(&id).copied()
+        self.known.get(id)
     }
 
     /// How many tags there are.

@@ -1,8 +1,8 @@
 //! The bios that wait, gathered from the events.
 
-ghost use Rattle.std.specs.Prelude.{ℕ, ◌≡◌, ◌==◌, cond, false, not, nat_eq, Some, IfOk, OnOk};
+ghost use Rattle.std.specs.Prelude.{ℕ, ◌≡◌, ◌==◌, cond, false, not, Some, IfOk, OnOk};
 ghost use Rattle.std.specs.Option.{option_map, option_map_or};
-ghost use Rattle.std.specs.HashMap as hash;
+ghost use Rattle.blk_ids.specs.ById.{kept_at};
 ghost use Rattle.std.specs.List.{flat_map};
 ghost use Rattle.std.specs.Ordering.{nat_cmp};
 ghost use Rattle.std.specs.BTreeMap.{get, values, IsOrdered};
@@ -17,10 +17,11 @@ ghost use Rattle.blk_trace.specs.Meaning.{waiting_of};
 use crate::event::Event;
 use crate::known::Known;
 use crate::setup::Setup;
-use crate::trace::{Hashing, Trace};
+use crate::trace::Trace;
 use blk_bio::{Bio, JoinFault, Limits, Request};
+use blk_ids::ById;
 use std::alloc::{AllocError, Allocator};
-use std::collections::{BTreeMap, HashMap};
+use std::collections::BTreeMap;
 
 impl<A: Allocator + Clone> Trace<A> {
     /// The bios of the released requests that were not issued, or were handed back, by rising id of the requests and then
@@ -43,11 +44,11 @@ impl<A: Allocator + Clone> Trace<A> {
 fn all_waiting<A: Allocator + Clone>(
     alloc: &A,
     setup: Setup,
-    known: &HashMap<u64, Known, Hashing, A>,
+    known: &ById<Known, A>,
     events: &[Event<Request<A>>],
 ) -> Result<Vec<Bio, A>, AllocError>
     requires legal { IsLegalTrace setup events.now }
-    requires kept { (id : ℕ) → hash.get nat_eq known.now id ≡ known_of setup events.now id }
+    requires kept { (id : ℕ) → kept_at known.now id ≡ known_of setup events.now id }
     ensures { IfOk result (λ v. v.items ≡ waiting_of events.now) }
 {
     let requests = gathered(alloc.clone()?, setup, known, events)?;
@@ -58,11 +59,11 @@ fn all_waiting<A: Allocator + Clone>(
 fn gathered<A: Allocator + Clone>(
     alloc: A,
     setup: Setup,
-    known: &HashMap<u64, Known, Hashing, A>,
+    known: &ById<Known, A>,
     events: &[Event<Request<A>>],
 ) -> Result<BTreeMap<u64, Request<A>, A>, AllocError>
     requires legal { IsLegalTrace setup events.now }
-    requires kept { (id : ℕ) → hash.get nat_eq known.now id ≡ known_of setup events.now id }
+    requires kept { (id : ℕ) → kept_at known.now id ≡ known_of setup events.now id }
     ensures { IfOk result (λ m. (id : ℕ) → get nat_cmp m id ≡ waiting_bios setup events.now id) }
 {
     let limits = setup.limits();
@@ -76,18 +77,15 @@ fn gathered<A: Allocator + Clone>(
 }
 
 /// Whether bios enter by the event under an id whose request waits in the end.
-fn stays<A: Allocator + Clone>(
-    known: &HashMap<u64, Known, Hashing, A>,
-    event: &Event<Request<A>>,
-) -> bool
-    ensures { result ≡ option_map_or (λ p. not (is_gone (hash.get nat_eq known.now p.0))) (enters event.now) false }
+fn stays<A: Allocator + Clone>(known: &ById<Known, A>, event: &Event<Request<A>>) -> bool
+    ensures { result ≡ option_map_or (λ p. not (is_gone (kept_at known.now p.0))) (enters event.now) false }
 {
     let Some((id, _)) = event.enters() else {
         return false;
     };
-    match known.get(&id) {
+    match known.get(id) {
         None => true,
-        Some(kept) => !matches!(*kept, Known::Gone),
+        Some(kept) => !matches!(kept, Known::Gone),
     }
 }
 

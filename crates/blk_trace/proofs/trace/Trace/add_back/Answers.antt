@@ -1,6 +1,6 @@
 use Rattle.std.proofs.Common.{◌≡◌, ◌<◌, ◌+◌, ◌++◌, ◌==◌, ◌∙◌, ℕ, List, [], ◌∷◌, Some, cond, length, length-append, ap, sym, arith, subst, refl}
-use Rattle.std.specs.Prelude.{nat_eq, slice_get}
-use Rattle.std.specs.HashMap as hash
+use Rattle.std.specs.Prelude.{slice_get}
+use Rattle.blk_ids.specs.ById as by_id
 use Rattle.edd_check.specs.declared.Command.{Command}
 use Rattle.blk_trace.specs.declared.known.Known.TheVariants.{Handed}
 use Rattle.blk_bio.specs.declared.rule.TraceRule.TheVariants as rule
@@ -48,7 +48,7 @@ handed-requires g c =
     let by : IsOpenBy es c.args.tag c.open_id-id.result = subst (λ (v : Traced). IsOpenBy v.events c.args.tag c.open_id-id.result) (sym c.self.view_is) c.open_id-id.ensures in
     let p = c.place_of-place.ensures in
     let at : slice_get s.commands.items c.place_of-place.result ≡ Some p.0 = ap (λ l. slice_get l c.place_of-place.result) (sym c.as_slice.ensures.value) ∙ p.1 in
-    let out = kept_out s.setup es c.args.tag c.open_id-id.result c.place_of-place.result p.0 c.remove-command.result s.commands.items s.rounds.items _ _ (hash.get nat_eq s.known) _ _ c.self.invariant.0 by at p.2 c.remove-command.ensures.value in
+    let out = kept_out s.setup es c.args.tag c.open_id-id.result c.place_of-place.result p.0 c.remove-command.result s.commands.items s.rounds.items _ _ (by_id.kept_at s.known) _ _ c.self.invariant.0 by at p.2 c.remove-command.ensures.value in
     out.1
 
 pub index_mut-requires : goal.index_mut-requires
@@ -90,15 +90,15 @@ invariant_of-self g c =
     let by : IsOpenBy es c.args.tag c.open_id-id.result = subst (λ (v : Traced). IsOpenBy v.events c.args.tag c.open_id-id.result) (sym c.self.view_is) c.open_id-id.ensures in
     let p = c.place_of-place.ensures in
     let at : slice_get s.commands.items c.place_of-place.result ≡ Some p.0 = ap (λ l. slice_get l c.place_of-place.result) (sym c.as_slice.ensures.value) ∙ p.1 in
-    let out = kept_out s.setup es c.args.tag c.open_id-id.result c.place_of-place.result p.0 c.remove-command.result s.commands.items s.rounds.items _ _ (hash.get nat_eq s.known) _ _ c.self.invariant.0 by at p.2 c.remove-command.ensures.value in
+    let out = kept_out s.setup es c.args.tag c.open_id-id.result c.place_of-place.result p.0 c.remove-command.result s.commands.items s.rounds.items _ _ (by_id.kept_at s.known) _ _ c.self.invariant.0 by at p.2 c.remove-command.ensures.value in
     let left : IsDropped s.setup es (es ++ Back c.args.tag ∷ []) c.open_id-id.result c.place_of-place.result s.commands.items s.rounds.items = dropped s.setup es c.args.tag c.open_id-id.result c.place_of-place.result s.commands.items s.rounds.items p.0 k.legal by k.commands_are k.rounds_are at p.2 in
     let hz : c.append.new.list.items ≡ es ++ (Back c.args.tag) ∷ [] = c.append.ensures.items in
     let n : length c.append.new.list.items ≡ length s.events.items + 1 = ap length c.append.ensures.items ∙ length-append s.events.items (Back c.args.tag ∷ []) in
     let some : 0 < s.«open» = omega (arith, open_positive s.setup es c.args.tag k.legal o, k.open_is) in
     let hc : length c.remove-command.new.self.items + 1 ≡ length s.commands.items = omega (arith, c.remove-command.ensures.len, s.commands.ok.0, c.remove-command.new.self.ok.0) in
     let hr : length c.remove.new.self.items + 1 ≡ length s.rounds.items = omega (arith, c.remove.ensures.len, s.rounds.ok.0, c.remove.new.self.ok.0) in
-    let hk = λ (q : ℕ). c.handed.ensures q ∙ ap (λ (y : Command). cond (y.id == q) (Some (Handed y.release y.due)) (hash.get nat_eq s.known q)) out.0 in
-    (kept_back s.setup es _ c.args.tag c.open_id-id.result s.commands.items _ s.rounds.items _ _ _ (hash.get nat_eq s.known) _ _ s.tags.items k all by hz (c.remove-command.ensures.by_index.2 ∙ left.commands_left) (c.remove.ensures.by_index.2 ∙ left.rounds_left) hk, room_after_back s.prepared _ _ _ _ _ _ _ _ _ _ _ _ _ _ _ _ some room n c.append.ensures.room hc hr c.remove-command.ensures.capacity c.remove.ensures.capacity, depths_kept s.setup es _ (Back c.args.tag) s.depth s.next_depth c.self.invariant.2 refl refl hz)
+    let hk = λ (q : ℕ). c.handed.ensures q ∙ ap (λ (y : Command). cond (y.id == q) (Some (Handed y.release y.due)) (by_id.kept_at s.known q)) out.0 in
+    (kept_back s.setup es _ c.args.tag c.open_id-id.result s.commands.items _ s.rounds.items _ _ _ (by_id.kept_at s.known) _ _ s.tags.items k all by hz (c.remove-command.ensures.by_index.2 ∙ left.commands_left) (c.remove.ensures.by_index.2 ∙ left.rounds_left) hk, room_after_back s.prepared _ _ _ _ _ _ _ _ _ _ _ _ _ _ _ _ some room n c.append.ensures.room hc hr c.remove-command.ensures.capacity c.remove.ensures.capacity, depths_kept s.setup es _ (Back c.args.tag) s.depth s.next_depth c.self.invariant.2 refl refl hz)
 
 pub returns-clause-legal : goal.returns-clause-legal
 returns-clause-legal g c = push_legal _ _ _ (subst (λ (v : Traced). IsLegalTrace v.setup v.events) c.self.view_is c.self.invariant.0.legal) c.requires.unbroken tt

@@ -1,8 +1,8 @@
-use Rattle.std.proofs.Common.{◌≡◌, ◌+◌, ◌++◌, ◌∙◌, List, [], ◌∷◌, Some, None, length, length-append, ap, sym, subst, refl}
-use Rattle.std.specs.Prelude.{nat_eq, ◌||◌}
+use Rattle.std.proofs.Common.{◌≡◌, ◌+◌, ◌++◌, ◌∙◌, List, [], ◌∷◌, Some, length, length-append, ap, sym, subst, refl}
+use Rattle.std.specs.Prelude.{IsSome, ◌||◌}
 use Rattle.blk_bio.specs.Bios.{Bio}
-use Rattle.std.specs.HashMap as hash
-use Rattle.std.specs.HashSet as hash_set
+use Rattle.blk_ids.specs.ById as by_id
+use Rattle.blk_ids.specs.IdSet as id_set
 use Rattle.blk_bio.specs.Requests.{Fits}
 use Rattle.blk_bio.specs.declared.request.Side.{Side}
 use Rattle.blk_trace.specs.declared.known.Known.TheVariants.{Waits}
@@ -13,11 +13,11 @@ use Rattle.blk_trace.specs.Legal.{IsLegalTrace}
 use Rattle.blk_trace.specs.Rules.{IsUnbroken}
 use Rattle.blk_trace.proofs.Pushing.{push_legal}
 use Rattle.blk_trace.specs.Traces.{Traced, IsPreparedFor}
-use Rattle.blk_trace.specs.Inside.Kept.{known_of, is_bio, has_bio_id}
+use Rattle.blk_trace.specs.Inside.Kept.{known_of, has_named, has_bio_id}
 use Rattle.blk_trace.proofs.Joining.{fits_to}
 use Rattle.blk_trace.proofs.Knowing.{known_waits, waiting_is}
 use Rattle.blk_trace.proofs.Capacities.{depths_kept}
-use Rattle.blk_trace.proofs.Keeping.{waiting_request, kept_join, room_after_entry, join_room, on_ok, on_err}
+use Rattle.blk_trace.proofs.Keeping.{waiting_request, kept_join, room_after_entry, join_room}
 use Rattle.blk_trace.proofs.trace.Trace.add_join.Goals as goal
 
 pub waiting_at-old-requires-clause-released : goal.waiting_at-old-requires-clause-released
@@ -42,16 +42,12 @@ unreachable-requires g c =
     let f = fits_to s.setup.limits c.limits.result (request_of es c.args.id) p.0.bios c.args.request (sym c.limits.ensures) i.bios fit in
     c.in_default.ensures.none p.0 p.2 (waiting_request s.setup es c.args.id p.0 k.requests_are p.1) f.0 f.1
 
-pub unreachable-requires-then-is_err : goal.unreachable-requires-then-is_err
-unreachable-requires-then-is_err g c =
+pub set-requires : goal.set-requires
+set-requires g c =
     let s = c.self.inside in
     let es : List Happened = c.self.inside.events.items in
-    let k = c.self.invariant.0 in
-    let room = c.self.invariant.1 in
-    let all : IsUnbroken s.setup es (Join c.args.id c.args.request) = subst (λ (v : Traced). IsUnbroken v.setup v.events (Join c.args.id c.args.request)) (sym c.self.view_is) c.requires.unbroken in
     let e : known_of s.setup es c.args.id ≡ Some (Waits c.waiting_at-old.result) = subst (λ (v : Traced). known_of v.setup v.events c.args.id ≡ Some (Waits c.waiting_at-old.result)) (sym c.self.view_is) c.waiting_at-old.ensures in
-    let p = known_waits s.setup es c.args.id c.waiting_at-old.result e in
-    absurd (let none : hash.get nat_eq s.known c.args.id ≡ None = on_err c.insert.result (hash.get nat_eq s.known c.args.id ≡ None) (sym c.is_err.ensures.value ∙ c.if-is_err.true) c.insert.ensures.absent in let there : hash.get nat_eq s.known c.args.id ≡ Some (Waits c.waiting_at-old.result) = k.known_are c.args.id ∙ e in let both : None ≡ Some (Waits c.waiting_at-old.result) = sym none ∙ there in cc)
+    subst IsSome (sym (c.self.invariant.0.known_are c.args.id ∙ e)) refl
 
 pub invariant_of-self : goal.invariant_of-self
 invariant_of-self g c =
@@ -66,8 +62,7 @@ invariant_of-self g c =
     let hz : c.append.new.list.items ≡ es ++ (Join c.args.id c.args.request) ∷ [] = c.append.ensures.items in
     let n : length c.append.new.list.items ≡ length s.events.items + 1 = ap length c.append.ensures.items ∙ length-append s.events.items (Join c.args.id c.args.request ∷ []) in
     let j = c.in-Some.ensures.some p.0 p.2 (waiting_request s.setup es c.args.id p.0 k.requests_are p.1) in
-    let hk = on_ok c.insert.result (hash.Updates nat_eq s.known c.insert.new.self c.args.id (Some (Waits c.in-Some.new))) (sym c.is_err.ensures.value ∙ c.if-is_err.false) c.insert.ensures.updates in
-    (kept_join _ es _ c.args.id c.args.request p.0 c.in-Some.new _ _ _ _ (hash.get nat_eq s.known) _ (hash_set.contains is_bio s.ids) _ _ k all hz c.bios.ensures.is_request p.1 j.1 hk.0 (λ b. c.enter.ensures.ids b ∙ ap (λ (l : List Bio). hash_set.contains is_bio s.ids b || has_bio_id l b) c.bios.ensures.bios), room_after_entry s.prepared _ _ _ _ _ _ _ _ _ _ _ _ _ (join_room s.prepared c.args.id c.args.request ready).0 room n c.append.ensures.room, depths_kept s.setup es _ (Join c.args.id c.args.request) s.depth s.next_depth c.self.invariant.2 refl refl hz)
+    (kept_join _ es _ c.args.id c.args.request p.0 c.in-Some.new _ _ _ _ (by_id.kept_at s.known) _ (has_named (id_set.has_id s.ids)) _ _ k all hz c.bios.ensures.is_request p.1 j.1 c.set.ensures.value (λ b. c.enter.ensures.ids b ∙ ap (λ (l : List Bio). has_named (id_set.has_id s.ids) b || has_bio_id l b) c.bios.ensures.bios), room_after_entry s.prepared _ _ _ _ _ _ _ _ _ _ _ _ _ (join_room s.prepared c.args.id c.args.request ready).0 room n c.append.ensures.room, depths_kept s.setup es _ (Join c.args.id c.args.request) s.depth s.next_depth c.self.invariant.2 refl refl hz)
 
 pub returns-clause-legal : goal.returns-clause-legal
 returns-clause-legal g c = push_legal _ _ _ (subst (λ (v : Traced). IsLegalTrace v.setup v.events) c.self.view_is c.self.invariant.0.legal) c.requires.unbroken c.bios.ensures.is_request

@@ -1,23 +1,20 @@
-use Rattle.std.proofs.Common.{◌≡◌, ◌∙◌, ℕ, List, [], ap, refl, arith, length}
-use Rattle.std.specs.Prelude.{replicate, nat_eq}
-use Rattle.std.specs.List.{list_any}
-use Rattle.std.specs.Map.{lookup}
-use Rattle.std.specs.HashMap as hash
-use Rattle.std.specs.HashSet as hash_set
+use Rattle.std.proofs.Common.{◌≡◌, ◌∙◌, ℕ, [], ap, refl, arith, length}
+use Rattle.std.specs.Prelude.{replicate}
+use Rattle.blk_ids.specs.ById as by_id
+use Rattle.blk_ids.specs.IdSet as id_set
 use Rattle.blk_trace.specs.declared.tags.TagUse.TheVariants.{Free}
-use Rattle.blk_trace.specs.Inside.Kept.{is_bio}
+use Rattle.blk_trace.specs.Inside.Kept.{has_named}
 use Rattle.blk_bio.specs.declared.bio.BioId.{BioId}
-use Rattle.blk_trace.specs.declared.known.Known.{Known}
 use Rattle.blk_trace.proofs.Capacities.{depths_empty, depths_same}
 use Rattle.blk_trace.proofs.Keeping.{kept_empty, kept_same, kept_tags, filled}
 use Rattle.blk_trace.proofs.trace.Trace.empty.Goals as goal
 
 pub invariant_of-result : goal.invariant_of-result
 invariant_of-result g c =
-    let hk = λ (q : ℕ). ap (λ (l : List (ℕ × Known)). lookup (nat_eq q) l) c.new-known.ensures.empty in
-    let hb = λ (b : BioId). ap (λ (l : List BioId). list_any (is_bio b) l) c.new-ids.ensures.empty in
+    let hk = λ (q : ℕ). c.in_ok-known.ensures q in
+    let hb = λ (b : BioId). c.in_ok-ids.ensures b.submitter b.serial in
     let ht : c.resize.new.self.items ≡ replicate c.depth-depth.result Free = c.in_ok-resize.ensures.items ∙ filled c.depth-depth.result _ _ Free c.new-tags.ensures.items c.new-tags.ensures.len in (
-      kept_tags c.args.setup _ _ _ _ _ (hash.get nat_eq c.new-known.result) (hash_set.contains is_bio c.new-ids.result) (replicate c.depth-depth.result Free) _ (kept_same c.args.setup [] _ [] _ [] _ 0 0 _ (hash.get nat_eq c.new-known.result) _ (hash_set.contains is_bio c.new-ids.result) (replicate c.depth-depth.result Free) (kept_empty c.args.setup (hash.get nat_eq c.new-known.result) (hash_set.contains is_bio c.new-ids.result) c.depth-depth.result hk hb c.depth-depth.ensures.value c.depth-depth.ensures.is_setup) (c.new-events.ensures.items) c.new-commands.ensures.items c.new-rounds.ensures.items (λ q. refl) (λ b. refl)) ht,
+      kept_tags c.args.setup _ _ _ _ _ (by_id.kept_at c.in_ok-known.known) (has_named (id_set.has_id c.in_ok-ids.ids)) (replicate c.depth-depth.result Free) _ (kept_same c.args.setup [] _ [] _ [] _ 0 0 _ (by_id.kept_at c.in_ok-known.known) _ (has_named (id_set.has_id c.in_ok-ids.ids)) (replicate c.depth-depth.result Free) (kept_empty c.args.setup (by_id.kept_at c.in_ok-known.known) (has_named (id_set.has_id c.in_ok-ids.ids)) c.depth-depth.result hk hb c.depth-depth.ensures.value c.depth-depth.ensures.is_setup) (c.new-events.ensures.items) c.new-commands.ensures.items c.new-rounds.ensures.items (λ q. refl) (λ b. refl)) ht,
       record {
         for_events = omega (arith, ap length c.new-events.ensures.items);
         for_command = omega (arith, ap length c.new-commands.ensures.items);

@@ -1,8 +1,7 @@
 use Rattle.std.proofs.Common.{arith, refl}
-use Rattle.std.specs.Prelude.{nat_eq}
-use Rattle.std.specs.HashMap as hash
-use Rattle.std.specs.HashSet as hash_set
-use Rattle.blk_trace.specs.Inside.Kept.{is_bio}
+use Rattle.blk_ids.specs.ById as by_id
+use Rattle.blk_ids.specs.IdSet as id_set
+use Rattle.blk_trace.specs.Inside.Kept.{has_named}
 use Rattle.blk_trace.proofs.Capacities.{depths_same}
 use Rattle.blk_trace.proofs.Keeping.{kept_same}
 use Rattle.blk_trace.proofs.trace.Trace.make_room_to_issue.Goals as goal
@@ -10,7 +9,7 @@ use Rattle.blk_trace.proofs.trace.Trace.make_room_to_issue.Goals as goal
 pub invariant_of-self-2 : goal.invariant_of-self-2
 invariant_of-self-2 g c =
     let s = c.self.inside in (
-      kept_same _ s.events.items _ s.commands.items _ s.rounds.items _ _ _ (hash.get nat_eq s.known) (hash.get nat_eq s.known) (hash_set.contains is_bio s.ids) (hash_set.contains is_bio s.ids) _ c.self.invariant.0 (c.in_ok-reserve.ensures.items) c.in_ok-reserve-2.ensures.items c.in_ok-reserve-3.ensures.items (λ _. refl) (λ _. refl),
+      kept_same _ s.events.items _ s.commands.items _ s.rounds.items _ _ _ (by_id.kept_at s.known) (by_id.kept_at s.known) (has_named (id_set.has_id s.ids)) (has_named (id_set.has_id s.ids)) _ c.self.invariant.0 (c.in_ok-reserve.ensures.items) c.in_ok-reserve-2.ensures.items c.in_ok-reserve-3.ensures.items (λ _. refl) (λ _. refl),
       record {
         for_events = omega (arith, c.in_ok-reserve.ensures.ok, c.reserve.new.self.ok.0);
         for_command = omega (arith, c.in_ok-reserve-2.ensures.ok, c.reserve-2.new.self.ok.0);

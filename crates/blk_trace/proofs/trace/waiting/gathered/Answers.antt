@@ -1,8 +1,7 @@
 use Rattle.std.proofs.Common.{◌≡◌, ◌∙◌, ℕ, sym, ap, take, List, Bool, true}
-use Rattle.std.specs.Prelude.{nat_eq}
 use Rattle.std.proofs.lemmas.List.{take_all}
 use Rattle.std.specs.Map.{lookup}
-use Rattle.std.specs.HashMap as hash
+use Rattle.blk_ids.specs.ById as by_id
 use Rattle.std.specs.Ordering.{nat_cmp}
 use Rattle.std.specs.BTreeMap.{get, is_at}
 use Rattle.blk_trace.specs.Happened.{Happened}
@@ -23,8 +22,8 @@ gather-requires g c =
     let all : List Happened = c.args.events.now in
     let gone : ℕ → Bool = λ i. has_id (issued_ids all) i in
     let p = one_more c.args.setup c.args.events.now c.loop-event.event-index c.event-item.result c.loop-event-test.true c.event-item.is c.requires.legal in
-    let known : (id : ℕ) → is_gone (hash.get nat_eq c.args.known.now id) ≡ gone id = λ id. ap is_gone (c.requires.kept id) ∙ is_out c.args.setup all id in
-    let stays : enters_to_stay gone c.event-item.result ≡ true = sym (c.stays.ensures ∙ stays_by (hash.get nat_eq c.args.known.now) gone c.event-item.result known) ∙ c.if-stays.true in
+    let known : (id : ℕ) → is_gone (by_id.kept_at c.args.known.now id) ≡ gone id = λ id. ap is_gone (c.requires.kept id) ∙ is_out c.args.setup all id in
+    let stays : enters_to_stay gone c.event-item.result ≡ true = sym (c.stays.ensures ∙ stays_by (by_id.kept_at c.args.known.now) gone c.event-item.result known) ∙ c.if-stays.true in
     takes c.args.setup gone c.limits-limits.result (take c.loop-event.event-index c.args.events.now) c.event-item.result (get nat_cmp c.loop-event.requests) c.limits-limits.ensures p.1 stays c.loop-event.invariant
 
 pub loop-event-preserved : goal.loop-event-preserved
@@ -33,8 +32,8 @@ loop-event-preserved g c = λ id.
     let gone : ℕ → Bool = λ i. has_id (issued_ids all) i in
     let es : List Happened = take c.loop-event.event-index c.args.events.now in
     let p = one_more c.args.setup c.args.events.now c.loop-event.event-index c.event-item.result c.loop-event-test.true c.event-item.is c.requires.legal in
-    let known : (id : ℕ) → is_gone (hash.get nat_eq c.args.known.now id) ≡ gone id = λ id. ap is_gone (c.requires.kept id) ∙ is_out c.args.setup all id in
-    let told : enters_to_stay gone c.event-item.result ≡ c.stays.result = sym (c.stays.ensures ∙ stays_by (hash.get nat_eq c.args.known.now) gone c.event-item.result known) in
+    let known : (id : ℕ) → is_gone (by_id.kept_at c.args.known.now id) ≡ gone id = λ id. ap is_gone (c.requires.kept id) ∙ is_out c.args.setup all id in
+    let told : enters_to_stay gone c.event-item.result ≡ c.stays.result = sym (c.stays.ensures ∙ stays_by (by_id.kept_at c.args.known.now) gone c.event-item.result known) in
     elim c.if-stays.branch [
       | then-stays+in_ok-gather w ↦
           ap (λ m. get nat_cmp m id) w.requests-is
