@@ -75,7 +75,8 @@ fn changing_depth(rt: HostRuntime) {
 /// A read that goes out in its due round is not late.
 #[test]
 fn none_late(rt: HostRuntime) {
-    let told = b"id,dir,first,sectors,release,due,issue,lateness,sooner,later,idle,verdict,from,until\n";
+    let told =
+        b"id,dir,first,sectors,release,due,issue,lateness,sooner,later,idle,verdict,from,until\n";
     assert_eq!(rt; lines(&rt, rt.alloc(), 1, &[]).as_slice(), told.as_slice());
     let steps = [Step::Read(1), Step::Serve(1)];
     assert_eq!(rt;

@@ -41,7 +41,8 @@ fn three_reads_at_once(rt: HostRuntime) {
         Step::Both(0, 1),
         Step::Serve(2),
     ];
-    let told = b"commands 3\nlate 1\nunavoidable 1\navoidable 0\nspare 0\nwaiting 0\noverdue 0\nwindow 0 0 commands 3 carries 2\n";
+    let told =
+        b"commands 3\nlate 1\nunavoidable 1\navoidable 0\nspare 0\nwaiting 0\noverdue 0\nwindow 0 0 commands 3 carries 2\n";
     assert_eq!(rt;
         lines(&rt, rt.alloc(), 2, &steps).as_slice(),
         told.as_slice()
