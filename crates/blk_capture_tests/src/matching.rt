@@ -185,6 +185,8 @@ fn skipped_and_first(rt: HostRuntime) {
         panic!(rt; "memory");
     };
     assert_eq!(rt; matched.requests.len(), 3);
+    assert!(rt; matched.requests.len() <= 3);
+    assert!(rt; matched.left_out <= 3);
     let Ok(part) = part_of(&heap, &matched, 20, 1) else {
         panic!(rt; "memory");
     };

@@ -30,6 +30,7 @@ fn in_numbers(rt: HostRuntime) {
     let Ok(matched) = match_records(rt.alloc(), records.as_slice(), &options) else {
         panic!(rt; "memory");
     };
+    assert!(rt; matched.requests.len() <= 2);
     let Ok(summary) = summarize(rt.alloc(), records.as_slice(), &matched) else {
         panic!(rt; "memory");
     };

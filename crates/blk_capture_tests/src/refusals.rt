@@ -16,6 +16,8 @@ fn all_of_it(rt: &impl Abort, heap: Heap<'_>, records: &[Record]) {
         Ok(matched) => {
             let row = (0, 16, 2, 2, 102, 6);
             assert!(rt; is_matched(&matched, "0000000", &[row]));
+            assert!(rt; matched.requests.len() <= 1);
+            assert!(rt; matched.left_out <= 1);
             match part_of(heap, &matched, 0, 1) {
                 Err(_) => assert!(rt; armed && !heap.is_armed()),
                 Ok(part) => assert!(rt; is_matched(&part, "0000000", &[row])),
