@@ -15,6 +15,8 @@ use Rattle.blk_settings.specs.declared.sched.Sched.{Sched}
 use Rattle.blk_settings.specs.declared.sched.Sched.TheVariants as sched
 use Rattle.blk_words.specs.declared.words.Job.{Job}
 use Rattle.blk_words.specs.declared.words.Job.TheVariants as job
+use Rattle.blk_words.specs.declared.words.Shown.{Shown}
+use Rattle.blk_words.specs.declared.words.Shown.TheVariants as shown
 use Rattle.blk_words.specs.Line.{Names, AreSchedulers, blk_app}
 
 -- a number in decimal digits, up to the most
@@ -64,17 +66,20 @@ earliest_of runs late_last = if runs then Some late_last else None
 abbrev pub compared : Option Tunables → Option Targets → Option Bool → Option Job
 compared tunables targets earliest = option_and_then (λ t. option_map (λ g. job.Compare (record { deadline = t; kyber = g; earliest = earliest })) targets) tunables
 
--- a load of these numbers, whose devices may be busy, under this scheduler
-abbrev pub amounts : Option ℕ → Option ℕ → Option ℕ → Option ℕ → Option ℕ → Option Load
-amounts submitters workers bios depth busy = option_and_then (λ s. option_and_then (λ w. option_and_then (λ b. option_map (λ d.
-    record { submitters = s; workers = w; bios = b; depth = d; busy = busy }) depth) bios) workers) submitters
+-- a load of these numbers, whose devices may be busy and take time, under this scheduler, and what is written of it
+abbrev pub amounts : Option ℕ → Option ℕ → Option ℕ → Option ℕ → Option ℕ → Option ℕ → Option Load
+amounts submitters workers bios depth service busy = option_and_then (λ s. option_and_then (λ w. option_and_then (λ b. option_and_then (λ d. option_map (λ t.
+    record { submitters = s; workers = w; bios = b; depth = d; busy = busy; service = t }) service) depth) bios) workers) submitters
 
 abbrev pub amounts_of : List Row → Option Load
 amounts_of rows = amounts (number_given (codes "submitters") rows) (number_given (codes "workers") rows) (number_given (codes "bios") rows) (number_given (codes "depth") rows)
-    (number_given (codes "busy") rows)
+    (number_given (codes "service") rows) (number_given (codes "busy") rows)
 
-abbrev pub loaded : Option Sched → Option Load → Option Job
-loaded s l = option_and_then (λ s. option_map (λ l. job.Load s l) l) s
+abbrev pub shown_of : Bool → Shown
+shown_of traced = if traced then shown.Trace else shown.Account
+
+abbrev pub loaded : Shown → Option Sched → Option Load → Option Job
+loaded w s l = option_and_then (λ s. option_map (λ l. job.Load s l w) l) s
 
 -- the job of a subcommand without options
 abbrev pub plain_job : Text → Option Job
@@ -99,7 +104,7 @@ job_of p =
     if bytes_eq p.0 (codes "sim") then option_map job.Sim (sched_of p.1)
     else (if bytes_eq p.0 (codes "compare") then compared (tunables_of p.1) (targets_of p.1) (earliest_of (is_flagged (codes "earliest") p.1) (is_flagged (codes "late-last") p.1))
     else (if bytes_eq p.0 (codes "oracle") then oracle_job (is_flagged (codes "trace") p.1) (is_flagged (codes "met") p.1)
-    else (if bytes_eq p.0 (codes "load") then loaded (sched_of p.1) (amounts_of p.1)
+    else (if bytes_eq p.0 (codes "load") then loaded (shown_of (is_flagged (codes "trace") p.1)) (sched_of p.1) (amounts_of p.1)
     else plain_job p.0)))
 
 -- the job that the command line reads in words

@@ -36,6 +36,10 @@ amount most = vp.Unsigned 1 most
 abbrev pub busy_rule : Rule
 busy_rule = record (new_rule (codes "busy")) { long = Some (codes "busy"); action = Some Set; parser = Some (vp.Unsigned 2 1_000_000) }
 
+-- a time in microseconds
+abbrev pub service : ValueParser
+service = vp.Unsigned 0 1_000_000
+
 -- a flag
 abbrev pub flag_rule : Text → Rule
 flag_rule name = record (new_rule name) { long = Some name; action = Some SetTrue }
@@ -59,11 +63,11 @@ oracle_app = with_rule (with_rule (new_app (codes "oracle")) (flag_rule (codes "
 -- with the numbers of a load, and `load` with its options
 abbrev pub with_amounts : App → App
 with_amounts a =
-    with_rule (with_rule (with_rule (with_rule (with_rule a (number_rule (codes "submitters") (amount 64) (codes "2"))) (number_rule (codes "workers") (amount 16) (codes "2")))
-    (number_rule (codes "bios") (amount 2000) (codes "1000"))) (number_rule (codes "depth") (amount 256) (codes "8"))) busy_rule
+    with_rule (with_rule (with_rule (with_rule (with_rule (with_rule a (number_rule (codes "submitters") (amount 64) (codes "2"))) (number_rule (codes "workers") (amount 16) (codes "2")))
+    (number_rule (codes "bios") (amount 2000) (codes "1000"))) (number_rule (codes "depth") (amount 256) (codes "8"))) busy_rule) (number_rule (codes "service") service (codes "0"))
 
 abbrev pub load_app : Names → App
-load_app names = tuning (with_amounts (with_rule (new_app (codes "load")) (sched_rule names)))
+load_app names = tuning (with_amounts (with_rule (with_rule (new_app (codes "load")) (sched_rule names)) (flag_rule (codes "trace"))))
 
 -- a command with a version, which wants a subcommand
 abbrev pub topmost : App → App

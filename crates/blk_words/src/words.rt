@@ -3,12 +3,14 @@
 ghost use Rattle.std.specs.Prelude.{◌≡◌, ◌⊎◌, false, IfOk, IfErr, map, option_and_then, codes, string_bytes};
 ghost use Rattle.clap.specs.Words.{app_of, new_app, rule_of, rows_of, found_of, subcommand_rows_of, with_subcommand};
 ghost use Rattle.clap.specs.declared.builder.command.Command.TheViews.{out-Command as fields_of};
-ghost use Rattle.blk_words.specs.Line.{Names, AreSchedulers, sched_rule, number_rule, target, amount, busy_rule, flag_rule, tuning, with_amounts, sim_app, compare_app, oracle_app, load_app, with_plain, over_scripts, over_traces, over_lists, over_layers, blk_app};
-ghost use Rattle.blk_words.specs.Asked.{Asks, AreRefused, short_given, number_given, is_flagged, tunables_of, targets_of, sched_of, earliest_of, compared, amounts_of, loaded, oracle_job, plain_job, job_of};
+ghost use Rattle.blk_words.specs.Line.{Names, AreSchedulers, sched_rule, number_rule, target, amount, busy_rule, service, flag_rule, tuning, with_amounts, sim_app, compare_app, oracle_app, load_app, with_plain, over_scripts, over_traces, over_lists, over_layers, blk_app};
+ghost use Rattle.blk_words.specs.Asked.{Asks, AreRefused, short_given, number_given, is_flagged, tunables_of, targets_of, sched_of, earliest_of, compared, amounts_of, shown_of, loaded, oracle_job, plain_job, job_of};
 
 use blk_deadline::Tunables;
 use blk_kyber::Targets;
-use blk_settings::numbers::{MAX_LOAD_BIOS, MAX_LOAD_DEPTH, MAX_LOAD_WORKERS, MAX_SUBMITTERS};
+use blk_settings::numbers::{
+    MAX_LOAD_BIOS, MAX_LOAD_DEPTH, MAX_LOAD_SERVICE, MAX_LOAD_WORKERS, MAX_SUBMITTERS,
+};
 use blk_settings::{Lineup, Load, Sched};
 use clap::builder::ValueParser;
 use clap::error::ErrorKind;
@@ -54,8 +56,17 @@ pub enum Job {
     Report,
     /// Check a certificate.
     Check,
-    /// Run a load on a layer under a scheduler, and write its account.
-    Load(Sched, Load),
+    /// Run a load on a layer under a scheduler, and write this of it.
+    Load(Sched, Load, Shown),
+}
+
+/// What is written of a load.
+#[derive(Clone, Copy, Debug, PartialEq, Eq)]
+pub enum Shown {
+    /// How many bios were accepted, served and left.
+    Account,
+    /// The trace of what the layer did.
+    Trace,
 }
 
 /// Why there is no job.
@@ -210,6 +221,20 @@ fn busy_arg<'a>(alloc: Global) -> Arg<'a>
         .help("Lets each worker's device hand every so many-th command back; without it, none")
 }
 
+/// The argument that says how long the devices of a load take.
+fn service_arg<'a>(alloc: Global) -> Arg<'a>
+    ensures rule { rule_of result ≡ number_rule (codes "service") service (codes "0") }
+    ensures local { result.global ≡ false }
+{
+    number_arg(
+        alloc,
+        "service",
+        ValueParser::unsigned(0, MAX_LOAD_SERVICE),
+        "0",
+        "How many microseconds each device takes for a command",
+    )
+}
+
 /// A command with the options that say how much load there is.
 fn with_amounts<'a>(alloc: Global, command: Command<'a>) -> Result<Command<'a>, AllocError>
     requires { (fields_of command).has_globals ≡ false }
@@ -249,7 +274,8 @@ fn with_amounts<'a>(alloc: Global, command: Command<'a>) -> Result<Command<'a>, 
         .arg(workers)?
         .arg(bios)?
         .arg(depth)?
-        .arg(busy_arg(alloc))?;
+        .arg(busy_arg(alloc))?
+        .arg(service_arg(alloc))?;
     Ok(loaded)
 }
 
@@ -258,11 +284,17 @@ fn load_command<'a>(alloc: Global, names: &'a [&'a str]) -> Result<Command<'a>, 
     ensures app { IfOk result (λ c. app_of c ≡ load_app names.entry) }
     ensures local { IfOk result (λ c. (fields_of c).has_globals ≡ false) }
 {
+    let trace = flag_arg(
+        alloc,
+        "trace",
+        "Writes the trace of what the layer did instead",
+    );
     let load = Command::new(alloc, "load")
         .about(
             "Runs a load of threads on a layer, and writes how many bios were accepted, served and left",
         )
-        .arg(sched_arg(alloc, names))?;
+        .arg(sched_arg(alloc, names))?
+        .arg(trace)?;
     let amounts = with_amounts(alloc, load)?;
     with_tuning(alloc, amounts)
 }
@@ -521,6 +553,7 @@ fn amounts_of(options: &ArgMatches<'_>) -> Option<Load>
     let workers = number_of(options, "workers")?;
     let bios = number_of(options, "bios")?;
     let depth = number_of(options, "depth")?;
+    let service = number_of(options, "service")?;
     let busy = number_of(options, "busy");
     Some(Load {
         submitters,
@@ -528,16 +561,29 @@ fn amounts_of(options: &ArgMatches<'_>) -> Option<Load>
         bios,
         depth,
         busy,
+        service,
     })
+}
+
+/// What the options of `load` ask to write.
+fn shown_of(options: &ArgMatches<'_>) -> Shown
+    ensures { result ≡ shown_of (is_flagged (codes "trace") (rows_of (found_of options.now))) }
+{
+    if is_flagged(options, "trace") {
+        Shown::Trace
+    } else {
+        Shown::Account
+    }
 }
 
 /// The load that the options of `load` ask for.
 fn load_of(options: &ArgMatches<'_>) -> Option<Job>
-    ensures { result ≡ loaded (sched_of (rows_of (found_of options.now))) (amounts_of (rows_of (found_of options.now))) }
+    ensures { result ≡ loaded (shown_of (is_flagged (codes "trace") (rows_of (found_of options.now)))) (sched_of (rows_of (found_of options.now))) (amounts_of (rows_of (found_of options.now))) }
 {
+    let shown = shown_of(options);
     let sched = sched_of(options)?;
     let load = amounts_of(options)?;
-    Some(Job::Load(sched, load))
+    Some(Job::Load(sched, load, shown))
 }
 
 /// The job of a subcommand without options.

@@ -8,6 +8,7 @@ use Rattle.blk_words.proofs.words.load_command.Goals as goal
 pub returns-clause-app : goal.returns-clause-app
 returns-clause-app c =
     let bare : app_of c.about.result ≡ new_app (codes "load") = ap app_of_fields c.about.ensures ∙ c.new.ensures.app in
-    let one = adds_rule _ _ _ _ _ (c.in_ok-load.ensures.shape c.sched_arg.ensures.local) bare c.sched_arg.ensures.rule in
-    let two = c.in_ok-amounts.ensures.app ∙ ap with_amounts one in
-    of_known _ tuning _ _ two c.with_tuning.ensures.app
+    let one = adds_rule _ _ _ _ _ (c.in_ok-arg.ensures.shape c.sched_arg.ensures.local) bare c.sched_arg.ensures.rule in
+    let two = adds_rule _ _ _ _ _ (c.in_ok-load.ensures.shape c.flag_arg-trace.ensures.local) one c.flag_arg-trace.ensures.rule in
+    let three = c.in_ok-amounts.ensures.app ∙ ap with_amounts two in
+    of_known _ tuning _ _ three c.with_tuning.ensures.app

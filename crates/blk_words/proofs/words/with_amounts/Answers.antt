@@ -8,4 +8,5 @@ returns-clause-app c =
     let two = adds_rule _ _ _ _ _ (c.in_ok-arg-2.ensures.shape c.amount_arg-workers.ensures.local) one c.amount_arg-workers.ensures.rule in
     let three = adds_rule _ _ _ _ _ (c.in_ok-arg-3.ensures.shape c.amount_arg-bios.ensures.local) two c.amount_arg-bios.ensures.rule in
     let four = adds_rule _ _ _ _ _ (c.in_ok-arg-4.ensures.shape c.amount_arg-depth.ensures.local) three c.amount_arg-depth.ensures.rule in
-    adds_rule _ _ _ _ _ (c.in_ok-loaded.ensures.shape c.busy_arg.ensures.local) four c.busy_arg.ensures.rule
+    let five = adds_rule _ _ _ _ _ (c.in_ok-arg-5.ensures.shape c.busy_arg.ensures.local) four c.busy_arg.ensures.rule in
+    adds_rule _ _ _ _ _ (c.in_ok-loaded.ensures.shape c.service_arg.ensures.local) five c.service_arg.ensures.rule
