@@ -74,7 +74,10 @@ impl Load {
         };
         let waits = waiting.len() as u64;
         let served = (entered.len() as u64).saturating_sub(waits);
-        self.balanced(accepted, served, trace.unfinished(), waits, left)
+        match self.balanced(accepted, served, trace.unfinished(), waits, left) {
+            Ok(settled) => Ok(settled),
+            Err(fault) => Err(fault),
+        }
     }
 
     /// The account of these numbers, where they are even.
