@@ -95,12 +95,7 @@ impl Loads for NoMemory {
 }
 
 /// Runs the program with words after its name, and gives its status.
-pub fn status_of<
-    T: Abort + Threads + Wait + Clock + Sync,
-    R: Read + Drop,
-    W: Write,
-    F: Write,
->(
+pub fn status_of<T: Abort + Threads + Wait + Clock + Sync, R: Read + Drop, W: Write, F: Write>(
     rt: &T,
     alloc: Global,
     words: &[&str],

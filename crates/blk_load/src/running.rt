@@ -143,10 +143,12 @@ fn on_layer<
 fn told(fault: Option<LoadFault>, settled: Result<Loaded, LoadFault>) -> Result<Loaded, LoadFault>
     ensures { IsTold fault settled result }
 {
-    match (fault, settled) {
-        (None, _) => settled,
-        (Some(fault), Ok(_)) => Err(fault),
-        (Some(fault), Err(other)) => match first_of(Some(fault), Some(other)) {
+    let Some(fault) = fault else {
+        return settled;
+    };
+    match settled {
+        Ok(_) => Err(fault),
+        Err(other) => match first_of(Some(fault), Some(other)) {
             Some(first) => Err(first),
             None => Err(fault),
         },
@@ -158,12 +160,7 @@ fn run_beside<
     R: Threads + Wait + Clock + Sync,
     S: Scheduler<A = Global> + Send,
     L: Named + Send + Sync,
->(
-    rt: &R,
-    site: &Site<S, L>,
-    submitters: &mut [Submitter<L>],
-    workers: &mut [Worker<L>],
-)
+>(rt: &R, site: &Site<S, L>, submitters: &mut [Submitter<L>], workers: &mut [Worker<L>])
     requires submitters { All (λ s. s.number < length site.now.layer.map) submitters.old }
     requires workers { All (λ s. s.tag_set ≡ site.now.layer.tag_set) workers.old }
 {

@@ -111,7 +111,7 @@ impl Load {
 }
 
 /// The bios that entered by these events.
-#[tactic(auto, using(crate::proofs::Settling::entered_more, crate::proofs::Settling::none_entered))]
+#[tactic(auto, using(crate::proofs::Entered::entered_more, crate::proofs::Entered::none_entered))]
 fn entered(alloc: Global, events: &[Event<Request>]) -> Result<Vec<Bio>, AllocError>
     ensures { IfOk result (λ v. v.items ≡ entered events.now) }
 {
