@@ -61,6 +61,7 @@ fn put_load<W: Write>(
 }
 
 /// Runs a load under a scheduler, and writes this of it.
+#[tactic(auto, using(crate::proofs::Loads::load_wrote, crate::proofs::Loads::load_fails))]
 pub fn run_load<L: Loads, R: Threads + Wait + Clock + Sync, W: Write>(
     loads: &L,
     rt: &R,
@@ -74,7 +75,10 @@ pub fn run_load<L: Loads, R: Threads + Wait + Clock + Sync, W: Write>(
     ensures kept { IfErr result (λ f. IsOfWriter f ⊎ (writer.new ≡ writer.old)) }
 {
     match loads.run(rt, alloc, sched, amounts) {
-        Ok(loaded) => put_load(alloc, shown, &loaded, writer),
+        Ok(loaded) => match put_load(alloc, shown, &loaded, writer) {
+            Ok(()) => Ok(()),
+            Err(failure) => Err(failure),
+        },
         Err(Unsettled::Sched(fault)) => Err(Failure::Sched(fault)),
         Err(Unsettled::Load(fault)) => Err(Failure::Load(fault)),
     }

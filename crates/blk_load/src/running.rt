@@ -40,6 +40,7 @@ const SOFT_DEPTH: u64 = 64;
 /// `TraceFull` where a worker is refused so; as `Repeated` where a submitter or a worker is; as `Stalled` where one used up its turns;
 /// as `SeatMissing` or `Differs` where the layer's accounts can't be settled; and as `Differs` where not all bios were accepted and
 /// served.
+#[tactic(auto, using(crate::proofs::Made::can_make, crate::proofs::Made::no_range))]
 pub fn load<R: Threads + Wait + Clock + Sync, S: Scheduler<A = Global> + Send>(
     rt: &R,
     alloc: Global,
@@ -87,6 +88,7 @@ fn in_turn(alloc: Global, count: u64, below: u64) -> Result<Vec<u8>, AllocError>
 }
 
 /// The hardware queues of the submitters' software queues.
+#[tactic(auto, using(crate::proofs::Made::counts, crate::proofs::Made::no_map_fault))]
 fn map_of(alloc: Global, load: &Load) -> Result<Map, AllocError>
     requires { IsLoad load.now }
     ensures turn { IfOk result (AreInTurn load.now.submitters (min load.now.submitters load.now.workers)) }
@@ -100,6 +102,7 @@ fn map_of(alloc: Global, load: &Load) -> Result<Map, AllocError>
 }
 
 /// Makes a layer, runs the load over it, and settles the accounts.
+#[tactic(auto, using(crate::proofs::Made::no_layer_fault))]
 fn on_layer<
     R: Threads + Wait + Clock + Sync,
     S: Scheduler<A = Global> + Send,
@@ -176,6 +179,7 @@ fn run_beside<
 }
 
 /// Closes a layer, and settles what came of it.
+#[tactic(auto, using(crate::proofs::Counted::served_once, crate::proofs::Counted::served_all))]
 fn settle<S: Scheduler<A = Global>, L: Named>(
     alloc: Global,
     load: Load,
