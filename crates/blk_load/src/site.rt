@@ -1,6 +1,6 @@
 //! What the threads of a load share.
 
-ghost use Rattle.std.specs.Prelude.{◌≡◌, ◌≤◌};
+ghost use Rattle.std.specs.Prelude.{◌≡◌, ◌≢◌, ◌≤◌, Some};
 ghost use Rattle.blk_settings.specs.declared.numbers.TheConstants.{MAX_LOAD_BIOS, MAX_SUBMITTERS};
 
 use blk_bio::Limits;
@@ -12,13 +12,20 @@ use std::alloc::Global;
 use std::sync::atomic::{AtomicBool, Ordering};
 use std::sync::{Mutex, Wait};
 
+/// The first of some faults, by their order, where there are some. No thread meets a number that is out of its range.
+#[derive(Drop)]
+struct First {
+    fault: Option<LoadFault>,
+    ghost met: { fault ≢ Some LoadFault.Range },
+}
+
 /// The faults that threads meet, of which the first by their order is kept.
 #[derive(Drop)]
 pub(crate) struct Noted {
     /// Whether there is one.
     any: AtomicBool,
     /// The first of them.
-    first: Mutex<Option<LoadFault>>,
+    first: Mutex<First>,
 }
 
 impl Noted {
@@ -26,7 +33,7 @@ impl Noted {
     pub(crate) fn none() -> Noted {
         Noted {
             any: AtomicBool::new(false),
-            first: Mutex::new(None),
+            first: Mutex::new(First { fault: None }),
         }
     }
 
@@ -36,16 +43,22 @@ impl Noted {
     }
 
     /// Notes a fault.
-    pub(crate) fn note<R: Wait>(&self, rt: &R, fault: LoadFault) {
+    pub(crate) fn note<R: Wait>(&self, rt: &R, fault: LoadFault)
+        requires { fault ≢ LoadFault.Range }
+    {
         let mut first = self.first.lock(rt);
-        *first = first_of(*first, Some(fault));
+        *first = First {
+            fault: first_of(first.fault, Some(fault)),
+        };
         self.any.store(true, Ordering::SeqCst);
     }
 
     /// The first of the faults.
-    pub(crate) fn into_first(self) -> Option<LoadFault> {
+    pub(crate) fn into_first(self) -> Option<LoadFault>
+        ensures { result ≢ Some LoadFault.Range }
+    {
         let Noted { any: _, first } = self;
-        first.into_inner()
+        first.into_inner().fault
     }
 }
 

@@ -1,50 +1,55 @@
 //! Loads by the name of their scheduler.
 
-ghost use Rattle.std.specs.Prelude.{◌≡◌, ◌+◌, IfOk, OnOk, IfErr};
+ghost use Rattle.std.specs.Prelude.{IfOk, OnOk, IfErr};
 ghost use Rattle.blk_settings.specs.Numbers.{IsLoad};
 ghost use Rattle.blk_settings.specs.Made.{IsUnmade, IsUnsettled};
 ghost use Rattle.blk_settings.specs.Rows.{IsStart};
+ghost use Rattle.blk_settings.specs.Settles.{IsSettled, served_bios};
+ghost use Rattle.blk_trace.specs.Events.{AreOnce};
 
 use crate::running::load;
 use blk_sched::Scheduler;
-use blk_settings::{Load, LoadFault, Loads, Sched, SchedFault, Settled, Unsettled, with_scheduler};
+use blk_settings::{Load, LoadFault, Loaded, Loads, Sched, SchedFault, Unsettled, with_scheduler};
 use std::alloc::Global;
 use std::sync::Wait;
 use std::thread::Threads;
+use std::time::Clock;
 
 /// What came of a load under the scheduler of these settings, where it was made.
-fn load_by<R: Threads + Wait + Sync, S: Scheduler<A = Global> + Send>(
+fn load_by<R: Threads + Wait + Clock + Sync, S: Scheduler<A = Global> + Send>(
     rt: &R,
     alloc: Global,
     sched: Sched,
     made: Result<S, SchedFault>,
     amounts: Load,
-) -> Result<Settled, Unsettled>
+) -> Result<Loaded, Unsettled>
     requires start { IfOk made (λ s. IsStart sched amounts.depth (S.meaning s) (S.kept s)) }
     requires unmade { IfErr made (IsUnmade sched) }
-    ensures settled { IfOk result (λ s. s.accepted ≡ s.served + s.left) }
-    ensures failed { IfErr result (IsUnsettled sched) }
+    ensures settled { IfOk result (λ l. IsSettled amounts l.trace l.settled) }
+    ensures once { IfOk result (λ l. AreOnce (served_bios l.trace.events)) }
+    ensures failed { IfErr result (IsUnsettled sched amounts) }
 {
     let scheduler = match made {
         Ok(scheduler) => scheduler,
         Err(fault) => return Err(Unsettled::Sched(fault)),
     };
     match load(rt, alloc, amounts, scheduler) {
-        Ok(settled) => Ok(settled),
+        Ok(loaded) => Ok(loaded),
         Err(fault) => Err(Unsettled::Load(fault)),
     }
 }
 
 /// Runs a load under a scheduler by its settings. Refused as [`load`] is, after `Range` as the scheduler is where it isn't made.
-pub fn load_under<R: Threads + Wait + Sync>(
+pub fn load_under<R: Threads + Wait + Clock + Sync>(
     rt: &R,
     alloc: Global,
     sched: Sched,
     amounts: Load,
-) -> Result<Settled, Unsettled>
+) -> Result<Loaded, Unsettled>
     ensures range { OnOk result (IsLoad amounts) }
-    ensures settled { IfOk result (λ s. s.accepted ≡ s.served + s.left) }
-    ensures failed { IfErr result (IsUnsettled sched) }
+    ensures settled { IfOk result (λ l. IsSettled amounts l.trace l.settled) }
+    ensures once { IfOk result (λ l. AreOnce (served_bios l.trace.events)) }
+    ensures failed { IfErr result (IsUnsettled sched amounts) }
 {
     if !amounts.is_in_range() {
         return Err(Unsettled::Load(LoadFault::Range));
@@ -62,13 +67,13 @@ pub fn load_under<R: Threads + Wait + Sync>(
 pub struct OnThreads;
 
 impl Loads for OnThreads {
-    fn run<R: Threads + Wait + Sync>(
+    fn run<R: Threads + Wait + Clock + Sync>(
         &self,
         rt: &R,
         alloc: Global,
         sched: Sched,
         load: Load,
-    ) -> Result<Settled, Unsettled> {
+    ) -> Result<Loaded, Unsettled> {
         load_under(rt, alloc, sched, load)
     }
 }

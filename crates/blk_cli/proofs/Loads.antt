@@ -1,0 +1,30 @@
+-- What `load` wrote, or why it failed to.
+use Rattle.std.proofs.Common.{ℕ, ◌≡◌, ◌⊎◌, sym, subst, inl, inr, List, Option}
+use Rattle.std.specs.Io.KnownBytes.{Appends}
+use Rattle.blk_trace.specs.Events.{AreOnce}
+use Rattle.blk_trace.specs.Traces.{Traced}
+use Rattle.blk_settings.specs.Settles.{IsSettled, served_bios}
+use Rattle.blk_settings.specs.declared.Settled.{Settled}
+use Rattle.blk_settings.specs.declared.numbers.Load.{Load}
+use Rattle.blk_settings.specs.declared.sched.Sched.{Sched}
+use Rattle.blk_words.specs.declared.words.Shown.{Shown}
+use Rattle.blk_cli.specs.Loading.{LoadWrote, LoadFails, IsLoadText}
+use Rattle.blk_cli.specs.Statuses.{IsOfWriter}
+use Rattle.blk_cli.specs.declared.failure.Failure.{Failure}
+use Rattle.blk_cli.specs.declared.failure.Failure.TheVariants as failure
+
+-- memory ran out, or the writer failed
+pub load_fails : (s : Sched) (l : Load) (f : Failure) → (f ≡ failure.Memory) ⊎ IsOfWriter f → LoadFails s l f
+load_fails s l f h = elim h [ inl e ↦ subst (LoadFails s l) (sym e) tt | inr w ↦ subst (LoadFails s l) (sym w.1) tt ]
+
+pub load_wrote : (w : Shown) (l : Load) (trace : Traced) (s : Settled) (old new : Option (List ℕ)) → IsSettled l trace s → AreOnce (served_bios trace.events)
+    → (text : List ℕ) × IsLoadText w trace s text × Appends old new text → LoadWrote w l old new
+load_wrote w l trace s old new is once wrote = record {
+  trace = trace;
+  settled = s;
+  is_settled = is;
+  once = once;
+  text = wrote.0;
+  is_text = wrote.1.0;
+  wrote = wrote.1.1;
+}

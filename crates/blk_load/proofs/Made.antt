@@ -1,0 +1,72 @@
+-- The queues of a load: a map that serves each hardware queue, and a layer that can be made.
+use Rattle.std.proofs.Common.{ℕ, ◌≡◌, ◌∙◌, ◌<◌, ◌≤◌, ◌%◌, ◌↔◌, ◌≢◌, sym, ap, refl, arith, inl, inr, List, Some, length, min}
+use native.Mathlib.Nat as nat
+use Rattle.std.specs.Prelude.{All}
+use Rattle.std.proofs.lemmas.Nat.{mod_below}
+use Rattle.std.proofs.lemmas.Option.{slice_get_within, get_or_from_slice_get}
+use Rattle.blk_hw.specs.Maps.{IsHwCount, IsMapFault}
+use Rattle.blk_hw.specs.declared.MapFault.{MapFault}
+use Rattle.blk_hw.specs.declared.MapFault.TheVariants.{Empty, TooMany, Unserved}
+use Rattle.blk_layer.specs.Faults.{CanMake, IsLayerFault}
+use Rattle.blk_layer.specs.declared.layer.LayerFault.{LayerFault}
+use Rattle.blk_layer.specs.declared.layer.LayerFault.TheVariants as layer
+use Rattle.blk_settings.specs.Faults.{IsLoadFault}
+use Rattle.blk_settings.specs.Numbers.{IsLoad}
+use Rattle.blk_settings.specs.declared.fault.LoadFault.{LoadFault}
+use Rattle.blk_settings.specs.declared.fault.LoadFault.TheVariants as fault
+use Rattle.blk_settings.specs.declared.numbers.Load.{Load}
+use Rattle.blk_load.specs.Loads.{AreInTurn}
+
+-- the queues in turn name just the numbers below
+pub counts : (count below : ℕ) (all : List ℕ) → AreInTurn count below all → 1 ≤ below → below ≤ count → IsHwCount all below
+counts count below all t some few hw = (
+  λ h.
+      let low : h.0 < count = omega (arith, h.1.0, t.as_many) in
+      let at = get_or_from_slice_get all h.0 (h.0 % below) hw (t.each h.0 low) in
+      omega (arith, h.1.1, at, mod_below h.0 below some),
+  λ low.
+      let here : hw < count = omega (arith, low, few) in
+      (hw, omega (arith, here, t.as_many), get_or_from_slice_get all hw hw hw (t.each hw here ∙ ap Some (nat.mod-eq_of_lt low))),
+)
+
+pub no_map_fault : (count below : ℕ) (all : List ℕ) → AreInTurn count below all → All (λ n. n < below) all → 1 ≤ below → below ≤ count → below ≤ 16 → count ≤ 64 → (f : MapFault) → IsMapFault all f → ⊥
+no_map_fault count below all t within some few low most Empty b = omega (arith, ap length b, t.as_many, some, few)
+no_map_fault count below all t within some few low most TooMany b = elim b.1 [
+  | inl x ↦ omega (arith, x, t.as_many, most)
+  | inr any ↦ omega (arith, within any.0 any.1.0 any.1.1.0, any.1.1.1.0, any.1.1.1.1, low)
+]
+no_map_fault count below all t within some few low most (Unserved hw) b =
+    let any = b.1.1.below in
+    b.1.1.unserved ((counts count below all t some few hw).1 (omega (arith, within any.0 any.1.0 any.1.1.0, any.1.1.1.0, any.1.1.1.1)))
+
+-- over such a map, and workers for the queues in turn, a layer can be made
+pub can_make : (l : Load) (map queues : List ℕ) → IsLoad l → IsHwCount map (min l.submitters l.workers) → AreInTurn l.workers (min l.submitters l.workers) queues
+    → All (λ n. n < min l.submitters l.workers) queues → CanMake (min l.submitters l.workers) map 64 queues
+can_make l map queues is count t within = record {
+  named = count;
+  some_depth = omega arith;
+  few_depth = omega arith;
+  some_workers = omega (arith, t.as_many, is.some_workers);
+  few_workers = omega (arith, t.as_many, is.few_workers);
+  in_range = within;
+}
+
+pub no_layer_fault : (hw : ℕ) (map : List ℕ) (depth : ℕ) (queues : List ℕ) (f : LayerFault) → CanMake hw map depth queues → IsLayerFault hw map depth queues f → f ≡ layer.Memory
+no_layer_fault hw map depth queues layer.Queues can b = absurd (b can.named)
+no_layer_fault hw map depth queues layer.SoftDepth can b = absurd (elim b.1 [ inl x ↦ omega (arith, x, can.some_depth) | inr x ↦ omega (arith, x, can.few_depth) ])
+no_layer_fault hw map depth queues layer.Workers can b = absurd (elim b.1.1 [ inl x ↦ omega (arith, x, can.some_workers) | inr x ↦ omega (arith, x, can.few_workers) ])
+no_layer_fault hw map depth queues (layer.WorkerQueue w) can b =
+    let o = b.1.1.1 in
+    let within = can.in_range w o.queue (slice_get_within queues w o.queue o.stands) in
+    absurd (omega (arith, within, get_or_from_slice_get queues w o.queue o.queue o.stands, o.outside))
+no_layer_fault hw map depth queues layer.Memory can b = refl
+
+-- what threads and their layer meet is no number that is out of its range
+pub no_range : (l : Load) (f : LoadFault) → IsLoad l → f ≢ fault.Range → IsLoadFault l f
+no_range l fault.Range is ne = absurd (ne refl)
+no_range l fault.Memory is ne = is
+no_range l fault.TraceFull is ne = is
+no_range l fault.Repeated is ne = is
+no_range l fault.Stalled is ne = is
+no_range l fault.SeatMissing is ne = is
+no_range l fault.Differs is ne = is
