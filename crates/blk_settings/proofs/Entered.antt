@@ -47,9 +47,9 @@ settles l t accepted served in_flight waits left s setup is even n o w = record 
 
 pub differs : (l : Load) (es : List Happened) (accepted served in_flight waits left : ℕ) (f : LoadFault) → f ≡ fault.Differs → (AreEven l accepted served in_flight waits left → ⊥)
     → served ≡ length (served_bios es) → in_flight ≡ open_count es → waits ≡ length (waiting_of es) → IsSettleFault l es accepted left f
-differs l es accepted served in_flight waits left f is no n o w = inr (
+differs l es accepted served in_flight waits left f is uneven n o w = inr (
   is,
-  λ h. no (record {
+  λ h. uneven (record {
     all = h.all;
     each_served = n ∙ h.each_served;
     none_in_flight = o ∙ h.none_in_flight;
