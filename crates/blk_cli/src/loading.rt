@@ -44,6 +44,7 @@ fn put_lines<W: Write>(alloc: Global, settled: Settled, writer: &mut W) -> Resul
 }
 
 /// Writes this of a load.
+#[tactic(auto, using(crate::proofs::Loads::lines_put, crate::proofs::Loads::trace_put))]
 fn put_load<W: Write>(
     alloc: Global,
     shown: Shown,

@@ -1,7 +1,7 @@
 -- The queues of a load: a map that serves each hardware queue, and a layer that can be made.
-use Rattle.std.proofs.Common.{ℕ, ◌≡◌, ◌∙◌, ◌<◌, ◌≤◌, ◌%◌, ◌↔◌, ◌≢◌, sym, ap, refl, arith, inl, inr, List, Some, length, min}
+use Rattle.std.proofs.Common.{ℕ, ◌≡◌, ◌∙◌, ◌<◌, ◌≤◌, ◌%◌, ◌↔◌, ◌≢◌, sym, ap, refl, arith, inl, inr, List, Option, Some, length, min, slice_index_or}
 use native.Mathlib.Nat as nat
-use Rattle.std.specs.Prelude.{All}
+use Rattle.std.specs.Prelude.{All, Result, Ok, Err, IfErr}
 use Rattle.std.proofs.lemmas.Nat.{mod_below}
 use Rattle.std.proofs.lemmas.Option.{slice_get_within, get_or_from_slice_get}
 use Rattle.blk_hw.specs.Maps.{IsHwCount, IsMapFault}
@@ -10,7 +10,7 @@ use Rattle.blk_hw.specs.declared.MapFault.TheVariants.{Empty, TooMany, Unserved}
 use Rattle.blk_layer.specs.Faults.{CanMake, IsLayerFault}
 use Rattle.blk_layer.specs.declared.layer.LayerFault.{LayerFault}
 use Rattle.blk_layer.specs.declared.layer.LayerFault.TheVariants as layer
-use Rattle.blk_settings.specs.Faults.{IsLoadFault}
+use Rattle.blk_settings.specs.Faults.{IsLoadFault, IsTold}
 use Rattle.blk_settings.specs.Numbers.{IsLoad}
 use Rattle.blk_settings.specs.declared.fault.LoadFault.{LoadFault}
 use Rattle.blk_settings.specs.declared.fault.LoadFault.TheVariants as fault
@@ -22,7 +22,7 @@ pub counts : (count below : ℕ) (all : List ℕ) → AreInTurn count below all 
 counts count below all t some few hw = (
   λ h.
       let low : h.0 < count = omega (arith, h.1.0, t.as_many) in
-      let at = get_or_from_slice_get all h.0 (h.0 % below) hw (t.each h.0 low) in
+      let at : slice_index_or all h.0 hw ≡ h.0 % below = get_or_from_slice_get all h.0 (h.0 % below) hw (t.each h.0 low) in
       omega (arith, h.1.1, at, mod_below h.0 below some),
   λ low.
       let here : hw < count = omega (arith, low, few) in
@@ -57,8 +57,9 @@ no_layer_fault hw map depth queues layer.SoftDepth can b = absurd (elim b.1 [ in
 no_layer_fault hw map depth queues layer.Workers can b = absurd (elim b.1.1 [ inl x ↦ omega (arith, x, can.some_workers) | inr x ↦ omega (arith, x, can.few_workers) ])
 no_layer_fault hw map depth queues (layer.WorkerQueue w) can b =
     let o = b.1.1.1 in
-    let within = can.in_range w o.queue (slice_get_within queues w o.queue o.stands) in
-    absurd (omega (arith, within, get_or_from_slice_get queues w o.queue o.queue o.stands, o.outside))
+    let within : slice_index_or queues w o.queue < hw = can.in_range w o.queue (slice_get_within queues w o.queue o.stands) in
+    let at : slice_index_or queues w o.queue ≡ o.queue = get_or_from_slice_get queues w o.queue o.queue o.stands in
+    absurd (omega (arith, within, at, o.outside))
 no_layer_fault hw map depth queues layer.Memory can b = refl
 
 -- what threads and their layer meet is no number that is out of its range
@@ -70,3 +71,9 @@ no_range l fault.Repeated is ne = is
 no_range l fault.Stalled is ne = is
 no_range l fault.SeatMissing is ne = is
 no_range l fault.Differs is ne = is
+
+-- nor is what is told of them
+pub told_in_range : {V : Type 0} (f : Option LoadFault) (s r : Result V LoadFault) → IsTold f s r → f ≢ Some fault.Range → IfErr s (λ e. e ≢ fault.Range) → IfErr r (λ e. e ≢ fault.Range)
+told_in_range f s (Ok v) t n h = tt
+told_in_range f (Ok v) (Err e) t n h = λ is. n (t ∙ ap Some is)
+told_in_range f (Err w) (Err e) t n h = λ is. elim t.among [ inl x ↦ n (sym x ∙ ap Some is) | inr x ↦ let same : e ≡ w = cc x in h (sym same ∙ is) ]

@@ -102,7 +102,7 @@ fn map_of(alloc: Global, load: &Load) -> Result<Map, AllocError>
 }
 
 /// Makes a layer, runs the load over it, and settles the accounts.
-#[tactic(auto, using(crate::proofs::Made::no_layer_fault))]
+#[tactic(auto, using(crate::proofs::Made::no_layer_fault, crate::proofs::Made::told_in_range))]
 fn on_layer<
     R: Threads + Wait + Clock + Sync,
     S: Scheduler<A = Global> + Send,
