@@ -30,7 +30,6 @@ use std::alloc::Global;
 use std::io::{Read, Write};
 use std::sync::Wait;
 use std::thread::Threads;
-use std::time::Clock;
 
 /// The exit status of a run that did what it was asked.
 pub const GOOD: u8 = 0;
@@ -107,7 +106,7 @@ pub fn perform<R: Read + Drop, W: Write, F: Write>(
 }
 
 /// Runs a load, and says to `faults` why it failed.
-fn perform_load<L: Loads, R: Threads + Wait + Clock + Sync, W: Write, F: Write>(
+fn perform_load<L: Loads, R: Threads + Wait + Sync, W: Write, F: Write>(
     loads: &L,
     rt: &R,
     alloc: Global,
@@ -134,7 +133,7 @@ fn perform_load<L: Loads, R: Threads + Wait + Clock + Sync, W: Write, F: Write>(
 /// Runs the program on the words of its command line, the first of which is its name: reads the input from the reader,
 /// writes the output to the writer, and where there is none, a line on why to `faults`. Loads are run by `loads`, on the
 /// threads of `rt`. Answers how it ended.
-pub fn run<L: Loads, T: Threads + Wait + Clock + Sync, R: Read + Drop, W: Write, F: Write>(
+pub fn run<L: Loads, T: Threads + Wait + Sync, R: Read + Drop, W: Write, F: Write>(
     loads: &L,
     rt: &T,
     alloc: Global,

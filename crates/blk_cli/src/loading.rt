@@ -14,7 +14,6 @@ use std::alloc::{AllocError, Global};
 use std::io::Write;
 use std::sync::Wait;
 use std::thread::Threads;
-use std::time::Clock;
 
 /// The lines on what came of a load.
 fn lines_on(alloc: Global, settled: Settled) -> Result<String, AllocError>
@@ -63,7 +62,7 @@ fn put_load<W: Write>(
 
 /// Runs a load under a scheduler, and writes this of it.
 #[tactic(auto, using(crate::proofs::Loads::load_wrote, crate::proofs::Loads::load_fails))]
-pub fn run_load<L: Loads, R: Threads + Wait + Clock + Sync, W: Write>(
+pub fn run_load<L: Loads, R: Threads + Wait + Sync, W: Write>(
     loads: &L,
     rt: &R,
     alloc: Global,

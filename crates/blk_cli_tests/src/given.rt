@@ -8,7 +8,6 @@ use std::io::{ErrorKind, Read, Write};
 use std::process::Abort;
 use std::sync::Wait;
 use std::thread::Threads;
-use std::time::Clock;
 
 /// A reader that gives its text byte by byte, and fails in this way after so many reads.
 #[derive(Drop)]
@@ -78,7 +77,7 @@ fn words_of(rt: &impl Abort, alloc: Global, words: &[&str]) -> Vec<String> {
 pub struct NoMemory;
 
 impl Loads for NoMemory {
-    fn run<R: Threads + Wait + Clock + Sync>(
+    fn run<R: Threads + Wait + Sync>(
         &self,
         rt: &R,
         alloc: Global,
@@ -95,7 +94,7 @@ impl Loads for NoMemory {
 }
 
 /// Runs the program with words after its name, and gives its status.
-pub fn status_of<T: Abort + Threads + Wait + Clock + Sync, R: Read + Drop, W: Write, F: Write>(
+pub fn status_of<T: Abort + Threads + Wait + Sync, R: Read + Drop, W: Write, F: Write>(
     rt: &T,
     alloc: Global,
     words: &[&str],

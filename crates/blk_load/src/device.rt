@@ -6,13 +6,13 @@ ghost use Rattle.blk_load.specs.Loads.{ran_after, runs_after};
 use blk_layer::{Device, Ran};
 use edd_check::Command;
 use std::thread::sleep;
-use std::time::{Clock, Duration};
+use std::time::Duration;
 
 /// A device that takes time for a command, and is busy at some runs.
 #[derive(Drop)]
-pub(crate) struct Disk<'a, R: Clock> {
+pub(crate) struct Disk {
     /// What it sleeps by.
-    clock: &'a R,
+    clock: HostRuntime,
     /// How many microseconds it takes for a command; where it is busy, it answers at once.
     service: u64,
     /// It is busy where this many runs were made since it last was, or since the first; never for None.
@@ -21,10 +21,10 @@ pub(crate) struct Disk<'a, R: Clock> {
     runs: u64,
 }
 
-impl<'a, R: Clock> Disk<'a, R> {
+impl Disk {
     /// A device that takes so many microseconds for a command, and is busy at every run whose number, counted from 1, the given one
     /// divides.
-    pub(crate) fn new(clock: &'a R, service: u64, busy: Option<u64>) -> Disk<'a, R>
+    pub(crate) fn new(clock: HostRuntime, service: u64, busy: Option<u64>) -> Disk
         ensures service { result.service ≡ service }
         ensures busy { result.busy ≡ busy }
         ensures runs { result.runs ≡ 0 }
@@ -56,7 +56,7 @@ impl<'a, R: Clock> Disk<'a, R> {
     }
 }
 
-impl<'a, R: Clock> Device for Disk<'a, R> {
+impl Device for Disk {
     fn run(&mut self, _command: &Command) -> Ran
         ensures answer { result ≡ ran_after self.old.busy self.old.runs }
         ensures runs { self.new.runs ≡ runs_after self.old.busy self.old.runs }
@@ -65,7 +65,7 @@ impl<'a, R: Clock> Device for Disk<'a, R> {
     {
         let ran = self.next();
         if self.service > 0 && ran == Ran::Done {
-            sleep(self.clock, Duration::from_micros(self.service));
+            sleep(&self.clock, Duration::from_micros(self.service));
         }
         ran
     }

@@ -28,12 +28,11 @@ use std::marker::Brand;
 use std::sync::Wait;
 use std::sync::ledger::Blank;
 use std::thread::{Threads, join};
-use std::time::Clock;
 
 /// How many requests a software queue has room for.
 const SOFT_DEPTH: u64 = 64;
 
-/// Runs a load over a layer of a scheduler in which nothing waits. There is a hardware queue for each submitter or each worker,
+/// Runs a load over a layer of a scheduler in which nothing waits, whose devices sleep by the clock. There is a hardware queue for each submitter or each worker,
 /// whichever are fewer; software queue s and worker w are mapped to the queues of numbers s and w modulo as many.
 ///
 /// Refused, by the first of these that applies: as `Range` where a number of the load is out of its range; as `Memory`; as
@@ -41,8 +40,9 @@ const SOFT_DEPTH: u64 = 64;
 /// as `SeatMissing` or `Differs` where the layer's accounts can't be settled; and as `Differs` where not all bios were accepted and
 /// served.
 #[tactic(auto, using(crate::proofs::Made::can_make, crate::proofs::Made::no_range))]
-pub fn load<R: Threads + Wait + Clock + Sync, S: Scheduler<A = Global> + Send>(
+pub fn load<R: Threads + Wait + Sync, S: Scheduler<A = Global> + Send>(
     rt: &R,
+    clock: HostRuntime,
     alloc: Global,
     load: Load,
     scheduler: S,
@@ -66,7 +66,7 @@ pub fn load<R: Threads + Wait + Clock + Sync, S: Scheduler<A = Global> + Send>(
         return Err(LoadFault::Memory);
     };
     let blank = Blank::new(MAX_WORKERS);
-    match on_layer::<R, S, Brand>(rt, alloc, blank, core, map, queues, load) {
+    match on_layer::<R, S, Brand>(rt, clock, alloc, blank, core, map, queues, load) {
         Ok(loaded) => Ok(loaded),
         Err(fault) => Err(fault),
     }
@@ -103,12 +103,9 @@ fn map_of(alloc: Global, load: &Load) -> Result<Map, AllocError>
 
 /// Makes a layer, runs the load over it, and settles the accounts.
 #[tactic(auto, using(crate::proofs::Made::no_layer_fault, crate::proofs::Made::told_in_range))]
-fn on_layer<
-    R: Threads + Wait + Clock + Sync,
-    S: Scheduler<A = Global> + Send,
-    L: Named + Send + Sync,
->(
+fn on_layer<R: Threads + Wait + Sync, S: Scheduler<A = Global> + Send, L: Named + Send + Sync>(
     rt: &R,
+    clock: HostRuntime,
     alloc: Global,
     blank: Blank,
     core: Core<S>,
@@ -135,7 +132,7 @@ fn on_layer<
         Err((LayerFault::Memory, _)) => return Err(LoadFault::Memory),
         Err(_) => unreachable!(),
     };
-    let site = Site::new(layer, alloc, limits, load);
+    let site = Site::new(layer, alloc, limits, clock, load);
     run_beside(rt, &site, submitters.as_mut_slice(), workers.as_mut_slice());
     let Site { layer, noted, .. } = site;
     let settled = settle(alloc, load, layer, submitters, workers);
@@ -159,11 +156,12 @@ fn told(fault: Option<LoadFault>, settled: Result<Loaded, LoadFault>) -> Result<
 }
 
 /// Runs submitters beside workers; the layer is finished once the submitters have ended.
-fn run_beside<
-    R: Threads + Wait + Clock + Sync,
-    S: Scheduler<A = Global> + Send,
-    L: Named + Send + Sync,
->(rt: &R, site: &Site<S, L>, submitters: &mut [Submitter<L>], workers: &mut [Worker<L>])
+fn run_beside<R: Threads + Wait + Sync, S: Scheduler<A = Global> + Send, L: Named + Send + Sync>(
+    rt: &R,
+    site: &Site<S, L>,
+    submitters: &mut [Submitter<L>],
+    workers: &mut [Worker<L>],
+)
     requires submitters { All (λ s. s.number < length site.now.layer.map) submitters.old }
     requires workers { All (λ s. s.tag_set ≡ site.now.layer.tag_set) workers.old }
 {

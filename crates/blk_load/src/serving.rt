@@ -10,7 +10,6 @@ use blk_settings::LoadFault;
 use std::alloc::Global;
 use std::sync::Wait;
 use std::thread::{Threads, for_each_mut};
-use std::time::Clock;
 
 /// How often a worker works at most.
 const MAX_WORKS: u64 = 1000;
@@ -20,7 +19,7 @@ const TURNS: u64 = 10_000;
 
 /// A worker's turns: it works until the layer says that all is finished. It ends with no fault then, or once another thread has
 /// met a fault.
-fn serve<R: Wait + Clock, S: Scheduler<A = Global>, L: Named>(
+fn serve<R: Wait, S: Scheduler<A = Global>, L: Named>(
     rt: &R,
     site: &Site<S, L>,
     seat: &mut Worker<L>,
@@ -29,7 +28,7 @@ fn serve<R: Wait + Clock, S: Scheduler<A = Global>, L: Named>(
     ensures seat { seat.new.tag_set ≡ seat.old.tag_set }
     ensures fault { IfErr result (λ f. f ≢ LoadFault.Range) }
 {
-    let mut disk = Disk::new(rt, site.load.service, site.load.busy);
+    let mut disk = Disk::new(site.clock, site.load.service, site.load.busy);
     for _ in 0..MAX_WORKS {
         if site.noted.is_any() {
             return Ok(());
@@ -49,7 +48,7 @@ fn serve<R: Wait + Clock, S: Scheduler<A = Global>, L: Named>(
 }
 
 /// A worker's turns, whose fault is noted for the other threads.
-fn serve_noted<R: Wait + Clock, S: Scheduler<A = Global>, L: Named>(
+fn serve_noted<R: Wait, S: Scheduler<A = Global>, L: Named>(
     rt: &R,
     site: &Site<S, L>,
     seat: &mut Worker<L>,
@@ -64,7 +63,7 @@ fn serve_noted<R: Wait + Clock, S: Scheduler<A = Global>, L: Named>(
 
 /// The turns of workers, each in a thread of its own: the list is halved down to one seat.
 pub(crate) fn serve_all<
-    R: Threads + Wait + Clock + Sync,
+    R: Threads + Wait + Sync,
     S: Scheduler<A = Global> + Send,
     L: Named + Send + Sync,
 >(rt: &R, site: &Site<S, L>, seats: &mut [Worker<L>])

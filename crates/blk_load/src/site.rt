@@ -1,6 +1,7 @@
 //! What the threads of a load share.
 
 ghost use Rattle.std.specs.Prelude.{◌≡◌, ◌≢◌, ◌≤◌, Some};
+ghost use Rattle.blk_settings.specs.declared.fault.LoadFault.TheVariants.{Range};
 ghost use Rattle.blk_settings.specs.declared.numbers.TheConstants.{MAX_LOAD_BIOS, MAX_SUBMITTERS};
 
 use blk_bio::Limits;
@@ -16,7 +17,7 @@ use std::sync::{Mutex, Wait};
 #[derive(Drop)]
 struct First {
     fault: Option<LoadFault>,
-    ghost met: { fault ≢ Some LoadFault.Range },
+    ghost met: { fault ≢ Some Range },
 }
 
 /// The faults that threads meet, of which the first by their order is kept.
@@ -73,6 +74,8 @@ pub(crate) struct Site<S: Scheduler<A = Global>, L: Named> {
     pub(crate) alloc: Global,
     /// The limits of the layer, within which the bios of a plug join.
     pub(crate) limits: Limits,
+    /// What the devices sleep by.
+    pub(crate) clock: HostRuntime,
     /// How much load there is.
     pub(crate) load: Load,
     ghost named: { limits ≡ L.setup.limits },
@@ -82,7 +85,13 @@ pub(crate) struct Site<S: Scheduler<A = Global>, L: Named> {
 
 impl<S: Scheduler<A = Global>, L: Named> Site<S, L> {
     /// What threads share over a layer, none of which has met a fault.
-    pub(crate) fn new(layer: Layer<S, L>, alloc: Global, limits: Limits, load: Load) -> Site<S, L>
+    pub(crate) fn new(
+        layer: Layer<S, L>,
+        alloc: Global,
+        limits: Limits,
+        clock: HostRuntime,
+        load: Load,
+    ) -> Site<S, L>
         requires named { limits ≡ L.setup.limits }
         requires few_submitters { load.submitters ≤ MAX_SUBMITTERS }
         requires few_bios { load.bios ≤ MAX_LOAD_BIOS }
@@ -93,6 +102,7 @@ impl<S: Scheduler<A = Global>, L: Named> Site<S, L> {
             noted: Noted::none(),
             alloc,
             limits,
+            clock,
             load,
         }
     }

@@ -13,11 +13,11 @@ use blk_settings::{Load, LoadFault, Loaded, Loads, Sched, SchedFault, Unsettled,
 use std::alloc::Global;
 use std::sync::Wait;
 use std::thread::Threads;
-use std::time::Clock;
 
 /// What came of a load under the scheduler of these settings, where it was made.
-fn load_by<R: Threads + Wait + Clock + Sync, S: Scheduler<A = Global> + Send>(
+fn load_by<R: Threads + Wait + Sync, S: Scheduler<A = Global> + Send>(
     rt: &R,
+    clock: HostRuntime,
     alloc: Global,
     sched: Sched,
     made: Result<S, SchedFault>,
@@ -33,15 +33,16 @@ fn load_by<R: Threads + Wait + Clock + Sync, S: Scheduler<A = Global> + Send>(
         Ok(scheduler) => scheduler,
         Err(fault) => return Err(Unsettled::Sched(fault)),
     };
-    match load(rt, alloc, amounts, scheduler) {
+    match load(rt, clock, alloc, amounts, scheduler) {
         Ok(loaded) => Ok(loaded),
         Err(fault) => Err(Unsettled::Load(fault)),
     }
 }
 
 /// Runs a load under a scheduler by its settings. Refused as [`load`] is, after `Range` as the scheduler is where it isn't made.
-pub fn load_under<R: Threads + Wait + Clock + Sync>(
+pub fn load_under<R: Threads + Wait + Sync>(
     rt: &R,
+    clock: HostRuntime,
     alloc: Global,
     sched: Sched,
     amounts: Load,
@@ -58,22 +59,25 @@ pub fn load_under<R: Threads + Wait + Clock + Sync>(
         alloc,
         sched,
         amounts.depth,
-        |row, made| load_by(rt, alloc, row, made, amounts)
+        |row, made| load_by(rt, clock, alloc, row, made, amounts)
     )
 }
 
 /// Loads over a layer whose submitters and workers are threads of the runtime.
-#[derive(Clone, Copy, Debug, PartialEq, Eq)]
-pub struct OnThreads;
+#[derive(Clone, Copy)]
+pub struct OnThreads {
+    /// What the devices of a load sleep by.
+    pub clock: HostRuntime,
+}
 
 impl Loads for OnThreads {
-    fn run<R: Threads + Wait + Clock + Sync>(
+    fn run<R: Threads + Wait + Sync>(
         &self,
         rt: &R,
         alloc: Global,
         sched: Sched,
         load: Load,
     ) -> Result<Loaded, Unsettled> {
-        load_under(rt, alloc, sched, load)
+        load_under(rt, self.clock, alloc, sched, load)
     }
 }

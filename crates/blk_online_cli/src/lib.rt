@@ -13,7 +13,6 @@ use std::alloc::{AllocError, Global};
 use std::io::{Read, Write};
 use std::sync::Wait;
 use std::thread::Threads;
-use std::time::Clock;
 
 /// Where a script's steps are bios, flushes, drains, depths and runs alone, what `sim --sched earliest` writes is a trace of which
 /// `oracle --trace` reports the shortfall 0, or no commands. It says nothing of joins, hardware queues, limits, depths, or of what
@@ -76,13 +75,7 @@ fn to_count(alloc: Global) -> Result<Vec<String>, AllocError>
 /// `blk sim --sched earliest`, and `blk oracle --trace` on what that wrote: of a script by rounds the report has the shortfall 0, or
 /// there are no commands. Answers how the second run ended, or the first where that did not end with status 0, and refuses for want
 /// of memory for the words.
-pub fn report_of_earliest<
-    L: Loads,
-    T: Threads + Wait + Clock + Sync,
-    R: Read + Drop,
-    W: Write,
-    F: Write,
->(
+pub fn report_of_earliest<L: Loads, T: Threads + Wait + Sync, R: Read + Drop, W: Write, F: Write>(
     loads: &L,
     rt: &T,
     alloc: Global,
@@ -122,13 +115,7 @@ pub fn report_of_earliest<
 
 /// `blk sim --sched earliest --late-last`, and `blk misses` on what that wrote: of a script by rounds none of the misses is
 /// avoidable. Answers as [`report_of_earliest`] does.
-pub fn misses_of_late_last<
-    L: Loads,
-    T: Threads + Wait + Clock + Sync,
-    R: Read + Drop,
-    W: Write,
-    F: Write,
->(
+pub fn misses_of_late_last<L: Loads, T: Threads + Wait + Sync, R: Read + Drop, W: Write, F: Write>(
     loads: &L,
     rt: &T,
     alloc: Global,

@@ -21,7 +21,6 @@ use blk_trace::Trace;
 use std::alloc::Global;
 use std::sync::Wait;
 use std::thread::Threads;
-use std::time::Clock;
 
 /// What came of a load, in bios.
 #[derive(Clone, Copy, Debug, PartialEq, Eq)]
@@ -60,7 +59,7 @@ pub trait Loads {
     /// where it isn't made of its settings; as `Memory`; as `TraceFull` where a worker is refused so; as `Repeated` where a submitter
     /// or a worker is; as `Stalled` where one used up its turns; as `SeatMissing` or `Differs` where the layer's accounts can't be
     /// settled; and as `Differs` where not all bios were accepted and served.
-    fn run<R: Threads + Wait + Clock + Sync>(
+    fn run<R: Threads + Wait + Sync>(
         &self,
         rt: &R,
         alloc: Global,
