@@ -31,8 +31,8 @@ load_wrote w l trace s old new is once wrote = record {
   is_settled = is;
   once = once;
   text = wrote.0;
-  is_text = wrote.1.0;
-  wrote = wrote.1.1;
+  is_text = wrote.1;
+  wrote = wrote.2;
 }
 
 -- a text on a load was appended: its lines, or that of its trace
