@@ -2,17 +2,18 @@
 """Plants wrong bodies that no clause refuses, one after the other, and looks that the tests fail over each that have to.
 
     tools/planted.py            every edit of a planted/
-    tools/planted.py NAME..     those alone, by their names without .edit, or by the crates of tests that they stand in
+    tools/planted.py NAME..     those alone, by their names without .edit, or by the crates that they stand in
 
-An edit is a file crates/CRATE_tests/planted/NAME.edit with these lines, beside others that say what it does:
+An edit is a file crates/CRATE/planted/NAME.edit with these lines, beside others that say what it does:
 
     crate: NAME     the crate that it changes
     file: PATH      the file, seen from that crate's folder
     old: TEXT       text that stands there once
     new: TEXT       what takes its place
     fails: TEST..   the tests of the crate in whose folder it stands that have to fail
+    loads: NAME..   in place of fails, the loads of tools/loads.py that have to fail: for what only the program shows
 
-The tests run as Rattle's own compiler builds them, without a proof, on a copy of the repository. Prints a line for each edit, and as
+The tests and the program run as Rattle's own compiler builds them, without a proof, on a copy of the repository. Prints a line for each edit, and as
 the last line 'N passed, M failed'. Ends with 0 where none failed, 1 where one did, 2 where a word names none, and 3 where rt isn't there.
 """
 import argparse
@@ -26,14 +27,16 @@ from pathlib import Path
 
 sys.dont_write_bytecode = True
 from cases import SECONDS, TOP, Fault, ended
+import loads
+from unproved import TOOL
 
 
 def read_edit(path):
     """The lines of an edit, by the word before their colon."""
-    lines = re.findall(r"(?m)^(crate|file|old|new|fails): (.*)$", path.read_text(encoding="utf-8"))
+    lines = re.findall(r"(?m)^(crate|file|old|new|fails|loads): (.*)$", path.read_text(encoding="utf-8"))
     edit = dict(lines)
-    if len(lines) != 5 or len(edit) != 5:
-        raise Fault("it wants each of crate, file, old, new and fails once")
+    if len(lines) != 5 or len(edit) != 5 or not edit.keys() >= {"crate", "file", "old", "new"}:
+        raise Fault("it wants each of crate, file, old and new once, and fails or loads")
     return edit
 
 
@@ -57,17 +60,41 @@ def failed_tests(folder):
     return {it for it, how in told.items() if how == "FAILED"}, {it for it, how in told.items() if how == "ok"}
 
 
+def failed_loads(top, names):
+    """The loads of these names whose traces aren't what they have to be, and those that are."""
+    good = set()
+    for name in names:
+        if name not in loads.LOADS:
+            continue
+        words = ["rt", "try", "--seconds", str(SECONDS - 10), "--", "load", "--trace", *loads.LOADS[name].split()]
+        ran = subprocess.run(words, cwd=top / "crates" / "blk", stdin=subprocess.DEVNULL, capture_output=True, check=False)
+        tool = TOOL.search(ran.stderr)
+        if not tool:
+            raise Fault(f"the program could not be compiled: {ran.stderr.decode(errors='replace').strip().splitlines()[-1:]}")
+        if tool[1] != b"ended" or tool[2] != b"0":
+            continue
+        try:
+            loads.look_at(loads.Asked(loads.LOADS[name]), ran.stdout)
+            good.add(name)
+        except (loads.Fault, ValueError, KeyError, IndexError):
+            pass
+    return {it for it in names if it in loads.LOADS} - good, good
+
+
 def judge(top, path):
     """What is wrong with what the tests make of an edit, empty where nothing is."""
     edit = read_edit(path)
     changed, was = plant(top, edit)
     try:
-        failed, passed = failed_tests(top / path.parent.parent.relative_to(TOP))
+        if "loads" in edit:
+            failed, passed = failed_loads(top, edit["loads"].split())
+        else:
+            failed, passed = failed_tests(top / path.parent.parent.relative_to(TOP))
     finally:
         changed.write_text(was, encoding="utf-8")
-    wanted = set(edit["fails"].split())
+    wanted = set(edit.get("fails", edit.get("loads")).split())
     if unknown := wanted - failed - passed:
-        return f"there is no test {', '.join(sorted(unknown))}"
+        return f"there is no test or load {', '.join(sorted(unknown))}"
     if kept := wanted - failed:
         return f"{', '.join(sorted(kept))} passed over it"
     return ""

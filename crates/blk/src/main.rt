@@ -44,7 +44,7 @@ fn main(rt: HostRuntime) -> ExitCode {
         return ExitCode::from(blk_cli::FAILED);
     };
     let ended = blk_cli::run(
-        &OnThreads,
+        &OnThreads { clock: rt },
         &rt,
         alloc,
         words.as_slice(),

@@ -1,4 +1,5 @@
 pub mod Claims
+mod Loads
 pub mod Written
 pub mod TraceJobs
 pub mod Compared

@@ -13,7 +13,7 @@ use Rattle.blk_cli.specs.Loading.{LoadWrote, LoadFails}
 
 -- a job that is no load
 abbrev pub IsNoLoad : Job → Type 0
-IsNoLoad (job.Load s l) = ⊥
+IsNoLoad (job.Load s l w) = ⊥
 IsNoLoad j = ⊤
 
 -- what a job does with the records of its input: what it wrote where it ends well, and why it fails
@@ -30,4 +30,4 @@ Does job.Oracle input old new r = MatchResult r (λ _. IfSome input (λ rows. Or
 Does job.Met input old new r = MatchResult r (λ _. IfSome input (λ rows. MetWrote rows old new)) (OracleFails input)
 Does job.Report input old new r = MatchResult r (λ _. IfSome input (λ rows. TraceWrote IsReportText rows old new)) (TraceFails ⊥ input)
 Does job.Check input old new r = MatchResult r (λ _. IfSome input (λ rows. CheckWrote rows old new)) (CheckFails input)
-Does (job.Load s l) input old new r = MatchResult r (λ _. LoadWrote old new) (LoadFails s)
+Does (job.Load s l w) input old new r = MatchResult r (λ _. LoadWrote w l old new) (LoadFails s l)

@@ -1,33 +1,52 @@
 -- What a load comes to.
-use Rattle.std.specs.Prelude.{◌≡◌, ◌+◌, ◌++◌, ◌∷◌, ⊤, ℕ, List, [], Option, codes, decimal}
+use Rattle.std.specs.Prelude.{◌≡◌, ◌++◌, ◌∷◌, ⊤, ℕ, List, [], Option, codes, decimal}
 use Rattle.std.specs.Io.KnownBytes.{Appends}
 use Rattle.blk_settings.specs.declared.sched.Sched.{Sched}
 use Rattle.blk_cli.specs.declared.failure.Failure.{Failure}
 use Rattle.blk_cli.specs.declared.failure.Failure.TheVariants as failure
 use Rattle.blk_settings.specs.Made.{IsUnmade}
+use Rattle.blk_settings.specs.Faults.{IsLoadFault}
+use Rattle.blk_settings.specs.Settles.{IsSettled, served_bios}
+use Rattle.blk_settings.specs.declared.Settled.{Settled}
+use Rattle.blk_settings.specs.declared.numbers.Load.{Load}
+use Rattle.blk_lists.specs.Texts.{rows_text}
+use Rattle.blk_text.specs.TraceForm.{SpellsTraceIn}
+use Rattle.blk_text.specs.TraceRecords.{trace_rows}
+use Rattle.blk_text.specs.Versions.{latest}
+use Rattle.blk_trace.specs.Events.{AreOnce}
+use Rattle.blk_trace.specs.Traces.{Traced}
+use Rattle.blk_words.specs.declared.words.Shown.{Shown}
+use Rattle.blk_words.specs.declared.words.Shown.TheVariants as shown
 
 -- the lines on what came of a load: how many bios were accepted, served and left
 abbrev pub load_lines : ℕ → ℕ → ℕ → List ℕ
 load_lines accepted served left =
     codes "accepted " ++ (decimal accepted ++ (10 ∷ codes "served " ++ (decimal served ++ (10 ∷ codes "left " ++ (decimal left ++ 10 ∷ [])))))
 
--- what `load` wrote: its lines, by which each accepted bio was served or is left
-pub record LoadWrote (old new : Option (List ℕ)) : Type 0 where
-  pub accepted : ℕ
-  pub served : ℕ
-  pub left : ℕ
-  pub settled : accepted ≡ served + left
-  pub wrote : Appends old new (load_lines accepted served left)
+-- the text on it: the lines of its numbers, or the text that spells its trace
+abbrev pub IsLoadText : Shown → Traced → Settled → List ℕ → Type 0
+IsLoadText shown.Account trace s text = text ≡ load_lines s.accepted s.served s.left
+IsLoadText shown.Trace trace s text = (text ≡ rows_text (trace_rows trace)) × SpellsTraceIn latest (trace_rows trace) trace
+
+-- what `load` wrote, of the trace of its layer and of what it came to by this, where no two bios have one id
+pub record LoadWrote (w : Shown) (l : Load) (old new : Option (List ℕ)) : Type 0 where
+  pub trace : Traced
+  pub settled : Settled
+  pub is_settled : IsSettled l trace settled
+  pub once : AreOnce (served_bios trace.events)
+  pub text : List ℕ
+  pub is_text : IsLoadText w trace settled text
+  pub wrote : Appends old new text
 
 -- why `load` fails: its scheduler isn't made, or the load fails; nothing is read
-abbrev pub LoadFails : Sched → Failure → Type 0
-LoadFails s (failure.Text f) = ⊥
-LoadFails s (failure.Sched f) = IsUnmade s f
-LoadFails s (failure.Step f) = ⊥
-LoadFails s (failure.Solve f) = ⊥
-LoadFails s (failure.Check f) = ⊥
-LoadFails s (failure.Met f) = ⊥
-LoadFails s failure.NotFixed = ⊥
-LoadFails s (failure.Load f) = ⊤
-LoadFails s (failure.Write f) = ⊤
-LoadFails s failure.Memory = ⊤
+abbrev pub LoadFails : Sched → Load → Failure → Type 0
+LoadFails s l (failure.Text f) = ⊥
+LoadFails s l (failure.Sched f) = IsUnmade s f
+LoadFails s l (failure.Step f) = ⊥
+LoadFails s l (failure.Solve f) = ⊥
+LoadFails s l (failure.Check f) = ⊥
+LoadFails s l (failure.Met f) = ⊥
+LoadFails s l failure.NotFixed = ⊥
+LoadFails s l (failure.Load f) = IsLoadFault l f
+LoadFails s l (failure.Write f) = ⊤
+LoadFails s l failure.Memory = ⊤

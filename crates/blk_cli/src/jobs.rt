@@ -146,7 +146,7 @@ pub fn traced(alloc: Global, sched: Sched, script: &Script) -> Result<Trace, Fai
 }
 
 /// Writes a trace.
-fn put_trace<W: Write>(alloc: Global, trace: &Trace, writer: &mut W) -> Result<(), Failure>
+pub fn put_trace<W: Write>(alloc: Global, trace: &Trace, writer: &mut W) -> Result<(), Failure>
     ensures wrote { OnOk result (Appends (W.contents writer.old) (W.contents writer.new) (rows_text (trace_rows trace.now))) }
     ensures spells { OnOk result (SpellsTraceIn latest (trace_rows trace.now) trace.now) }
     ensures failed { IfErr result IsOfWriter }

@@ -25,7 +25,7 @@ use crate::meeting::meet_commands;
 use crate::traces::{count_misses, list_commands, list_late, report_trace, spread_trace};
 use blk_settings::{Load, Loads, Sched};
 pub use blk_sim::laws;
-use blk_words::{Job, NoJob, choose};
+use blk_words::{Job, NoJob, Shown, choose};
 use std::alloc::Global;
 use std::io::{Read, Write};
 use std::sync::Wait;
@@ -112,15 +112,16 @@ fn perform_load<L: Loads, R: Threads + Wait + Sync, W: Write, F: Write>(
     alloc: Global,
     sched: Sched,
     amounts: Load,
+    shown: Shown,
     writer: &mut W,
     faults: &mut F,
 ) -> Ended
-    ensures ended { (input : Option (List Row)) → JobEnds (Job.Load sched amounts) input (W.contents writer.old) (W.contents writer.new) (F.contents faults.old) (F.contents faults.new) result }
+    ensures ended { (input : Option (List Row)) → JobEnds (Job.Load sched amounts shown) input (W.contents writer.old) (W.contents writer.new) (F.contents faults.old) (F.contents faults.new) result }
     ensures kept { result.status ≢ 0 → result.status ≢ 3 → writer.new ≡ writer.old }
     ensures quiet { result.status ≡ 0 → faults.new ≡ faults.old }
     ensures range { result.status ≤ 3 }
 {
-    match run_load(loads, rt, alloc, sched, amounts, writer) {
+    match run_load(loads, rt, alloc, sched, amounts, shown, writer) {
         Ok(()) => Ended {
             status: GOOD,
             told: true,
@@ -149,8 +150,8 @@ pub fn run<L: Loads, T: Threads + Wait + Sync, R: Read + Drop, W: Write, F: Writ
     ensures range { result.status ≤ 3 }
 {
     match choose(alloc, words) {
-        Ok(Job::Load(sched, amounts)) => {
-            perform_load(loads, rt, alloc, sched, amounts, writer, faults)
+        Ok(Job::Load(sched, amounts, shown)) => {
+            perform_load(loads, rt, alloc, sched, amounts, shown, writer, faults)
         }
         Ok(job) => perform(alloc, job, reader, writer, faults),
         Err(NoJob::Memory) => Failure::Memory.report(faults),

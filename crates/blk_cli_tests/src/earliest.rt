@@ -1,6 +1,6 @@
 //! What the program tells of its own simulations under `earliest`.
 
-use crate::given::AllServed;
+use crate::given::NoMemory;
 use blk_online_cli::{misses_of_late_last, report_of_earliest};
 
 /// At depth 1 two reads, due in the round in which they come, and a write, due one round on.
@@ -19,7 +19,7 @@ fn reports_no_shortfall(rt: HostRuntime) {
     let mut told = Vec::new(rt.alloc());
     let mut faults = Vec::new(rt.alloc());
     let ended = report_of_earliest(
-        &AllServed,
+        &NoMemory,
         &rt,
         rt.alloc(),
         SCRIPT.as_bytes(),
@@ -36,7 +36,7 @@ fn counts_none_avoidable(rt: HostRuntime) {
     let mut told = Vec::new(rt.alloc());
     let mut faults = Vec::new(rt.alloc());
     let ended = misses_of_late_last(
-        &AllServed,
+        &NoMemory,
         &rt,
         rt.alloc(),
         SCRIPT.as_bytes(),

@@ -1,7 +1,7 @@
 //! What the tests are given: runs of the program over readers and writers that fail.
 
 use blk_cli::run;
-use blk_settings::{Load, LoadFault, Loads, Sched, Settled, Unsettled};
+use blk_settings::{Load, LoadFault, Loaded, Loads, Sched, Unsettled};
 use std::alloc::Global;
 use std::io;
 use std::io::{ErrorKind, Read, Write};
@@ -73,28 +73,23 @@ fn words_of(rt: &impl Abort, alloc: Global, words: &[&str]) -> Vec<String> {
     all
 }
 
-/// Loads of which every bio is served, without a layer and without threads.
-pub struct AllServed;
+/// Loads that find no memory.
+pub struct NoMemory;
 
-impl Loads for AllServed {
+impl Loads for NoMemory {
     fn run<R: Threads + Wait + Sync>(
         &self,
         rt: &R,
         alloc: Global,
         sched: Sched,
         load: Load,
-    ) -> Result<Settled, Unsettled> {
+    ) -> Result<Loaded, Unsettled> {
         let _ = rt;
         let _ = (alloc, sched);
         if !load.is_in_range() {
             return Err(Unsettled::Load(LoadFault::Range));
         }
-        let bios = load.submitters * load.bios;
-        Ok(Settled {
-            accepted: bios,
-            served: bios,
-            left: 0,
-        })
+        Err(Unsettled::Load(LoadFault::Memory))
     }
 }
 
@@ -108,5 +103,5 @@ pub fn status_of<T: Abort + Threads + Wait + Sync, R: Read + Drop, W: Write, F: 
     faults: &mut F,
 ) -> u8 {
     let words = words_of(rt, alloc, words);
-    run(&AllServed, rt, alloc, words.as_slice(), reader, out, faults).status
+    run(&NoMemory, rt, alloc, words.as_slice(), reader, out, faults).status
 }

@@ -1,17 +1,20 @@
 //! A load, from its threads' start to its account.
 
-ghost use Rattle.std.specs.Prelude.{◌≡◌, ◌<◌, ◌≤◌, ◌+◌, [], All, IfOk, OnOk, IfErr, length, vec_len, Ok};
+ghost use Rattle.std.specs.Prelude.{◌≡◌, ◌≢◌, ◌<◌, ◌≤◌, [], All, IsPermutation, IfOk, OnOk, IfErr, Some, length, min, vec_len};
+ghost use Rattle.blk_hw.specs.Maps.{IsHwCount};
+ghost use Rattle.blk_layer.specs.Closes.{all_accepted};
+ghost use Rattle.blk_layer.specs.Faults.{CanMake};
 ghost use Rattle.blk_sched.specs.Meaning.{at_start};
-ghost use Rattle.blk_settings.specs.declared.numbers.TheConstants.{MAX_LOAD_BIOS, MAX_LOAD_DEPTH, MAX_SUBMITTERS};
-ghost use Rattle.blk_settings.specs.Faults.{IsTold};
-ghost use Rattle.blk_load.specs.Loads.{AreInTurn};
+ghost use Rattle.blk_settings.specs.Faults.{IsLoadFault, IsTold};
 ghost use Rattle.blk_settings.specs.Numbers.{IsLoad};
+ghost use Rattle.blk_settings.specs.Settles.{IsSettled, served_bios, setup_of};
+ghost use Rattle.blk_trace.specs.Events.{AreOnce};
+ghost use Rattle.blk_load.specs.Loads.{AreInTurn};
 
-use crate::counts::{accepted, served};
+use crate::counts::accepted;
 use crate::serving::serve_all;
 use crate::site::Site;
 use crate::submitting::submit_all;
-use blk_bio::Limits;
 use blk_core::Core;
 use blk_hw::Map;
 use blk_layer::{
@@ -19,8 +22,7 @@ use blk_layer::{
 };
 use blk_sched::Scheduler;
 use blk_settings::fault::first_of;
-use blk_settings::{Load, LoadFault, Settled};
-use blk_trace::Setup;
+use blk_settings::{Load, LoadFault, Loaded};
 use std::alloc::{AllocError, Global};
 use std::marker::Brand;
 use std::sync::Wait;
@@ -30,54 +32,44 @@ use std::thread::{Threads, join};
 /// How many requests a software queue has room for.
 const SOFT_DEPTH: u64 = 64;
 
-/// After how many rounds a read is due.
-const READ_EXPIRE: u64 = 5;
-
-/// After how many rounds a write is due.
-const WRITE_EXPIRE: u64 = 50;
-
-/// How many sectors a request of several bios may have.
-const MAX_SECTORS: u64 = 256;
-
-/// How many bios a request may have.
-const MAX_SEGMENTS: u64 = 128;
-
-/// Runs a load over a layer of a scheduler in which nothing waits. There is a hardware queue for each submitter or each worker,
+/// Runs a load over a layer of a scheduler in which nothing waits, whose devices sleep by the clock. There is a hardware queue for each submitter or each worker,
 /// whichever are fewer; software queue s and worker w are mapped to the queues of numbers s and w modulo as many.
 ///
 /// Refused, by the first of these that applies: as `Range` where a number of the load is out of its range; as `Memory`; as
 /// `TraceFull` where a worker is refused so; as `Repeated` where a submitter or a worker is; as `Stalled` where one used up its turns;
-/// and as `SeatMissing` or `Differs` where the layer's accounts can't be settled.
+/// as `SeatMissing` or `Differs` where the layer's accounts can't be settled; and as `Differs` where not all bios were accepted and
+/// served.
+#[tactic(auto, using(crate::proofs::Made::can_make, crate::proofs::Made::no_range))]
 pub fn load<R: Threads + Wait + Sync, S: Scheduler<A = Global> + Send>(
     rt: &R,
+    clock: HostRuntime,
     alloc: Global,
     load: Load,
     scheduler: S,
-) -> Result<Settled, LoadFault>
+) -> Result<Loaded, LoadFault>
     requires start { S.meaning scheduler ≡ at_start (S.meaning scheduler).front }
     ensures range { OnOk result (IsLoad load) }
-    ensures settled { IfOk result (λ s. s.accepted ≡ s.served + s.left) }
+    ensures settled { IfOk result (λ l. IsSettled load l.trace l.settled) }
+    ensures once { IfOk result (λ l. AreOnce (served_bios l.trace.events)) }
+    ensures fault { IfErr result (IsLoadFault load) }
 {
     if !load.is_in_range() {
         return Err(LoadFault::Range);
     }
-    let fewer = load.submitters.min(load.workers);
-    let Ok(entries) = in_turn(alloc, load.submitters, fewer) else {
+    let Ok(map) = map_of(alloc, &load) else {
         return Err(LoadFault::Memory);
     };
-    let Ok(map) = Map::new(entries) else {
-        return Err(LoadFault::Range);
-    };
-    let hw = map.hw_count();
-    let Ok(queues) = in_turn(alloc, load.workers, u64::from(hw)) else {
+    let Ok(queues) = in_turn(alloc, load.workers, load.hw_queues()) else {
         return Err(LoadFault::Memory);
     };
-    let setup = setup_of(load.depth, hw);
-    let Ok(core) = Core::new(alloc, setup, scheduler) else {
+    let Ok(core) = Core::new(alloc, load.setup(), scheduler) else {
         return Err(LoadFault::Memory);
     };
     let blank = Blank::new(MAX_WORKERS);
-    on_layer::<R, S, Brand>(rt, alloc, blank, core, map, queues, load)
+    match on_layer::<R, S, Brand>(rt, clock, alloc, blank, core, map, queues, load) {
+        Ok(loaded) => Ok(loaded),
+        Err(fault) => Err(fault),
+    }
 }
 
 /// The numbers below the second one, in turn and again from 0, as many as the first one says.
@@ -95,65 +87,68 @@ fn in_turn(alloc: Global, count: u64, below: u64) -> Result<Vec<u8>, AllocError>
     Ok(all)
 }
 
-/// What the core is set up for.
-fn setup_of(depth: u64, hw: u8) -> Setup
-    requires some_tags { 1 ≤ depth }
-    requires few_tags { depth ≤ MAX_LOAD_DEPTH }
-    requires some_queues { 1 ≤ hw }
-    requires few_queues { hw ≤ 16 }
-    ensures depth { result.depth ≡ depth }
-    ensures hw { result.hw ≡ hw }
+/// The hardware queues of the submitters' software queues.
+#[tactic(auto, using(crate::proofs::Made::counts, crate::proofs::Made::no_map_fault))]
+fn map_of(alloc: Global, load: &Load) -> Result<Map, AllocError>
+    requires { IsLoad load.now }
+    ensures turn { IfOk result (AreInTurn load.now.submitters (min load.now.submitters load.now.workers)) }
+    ensures count { IfOk result (λ m. IsHwCount m (min load.now.submitters load.now.workers)) }
 {
-    let Ok(limits) = Limits::new(MAX_SECTORS, MAX_SEGMENTS) else {
-        unreachable!()
-    };
-    match Setup::new(depth, hw, READ_EXPIRE, WRITE_EXPIRE, limits) {
-        Ok(setup) => setup,
+    let entries = in_turn(alloc, load.submitters, load.hw_queues())?;
+    match Map::new(entries) {
+        Ok(map) => Ok(map),
         Err(_) => unreachable!(),
     }
 }
 
 /// Makes a layer, runs the load over it, and settles the accounts.
+#[tactic(auto, using(crate::proofs::Made::no_layer_fault, crate::proofs::Made::told_in_range))]
 fn on_layer<R: Threads + Wait + Sync, S: Scheduler<A = Global> + Send, L: Named + Send + Sync>(
     rt: &R,
+    clock: HostRuntime,
     alloc: Global,
     blank: Blank,
     core: Core<S>,
     map: Map,
     queues: Vec<u8>,
     load: Load,
-) -> Result<Settled, LoadFault>
+) -> Result<Loaded, LoadFault>
     requires name { blank.name ≡ L.name }
     requires parts { (blank.parts ≡ MAX_WORKERS) × (L.parts ≡ MAX_WORKERS) }
     requires setup { core.setup ≡ L.setup }
     requires workers { L.workers ≡ vec_len queues }
     requires empty { core.events ≡ [] }
-    requires few_submitters { load.submitters ≤ MAX_SUBMITTERS }
-    requires few_bios { load.bios ≤ MAX_LOAD_BIOS }
-    ensures settled { IfOk result (λ s. s.accepted ≡ s.served + s.left) }
+    requires range { IsLoad load }
+    requires setup_is { L.setup ≡ setup_of load }
+    requires can { CanMake core.setup.hw map SOFT_DEPTH queues.items }
+    ensures settled { IfOk result (λ l. IsSettled load l.trace l.settled) }
+    ensures once { IfOk result (λ l. AreOnce (served_bios l.trace.events)) }
+    ensures fault { IfErr result (λ f. f ≢ LoadFault.Range) }
 {
     let limits = core.trace().setup().limits();
     let made = Layer::<S, L>::new(alloc, blank, core, map, SOFT_DEPTH, queues);
     let (layer, mut submitters, mut workers) = match made {
         Ok(made) => made,
         Err((LayerFault::Memory, _)) => return Err(LoadFault::Memory),
-        Err(_) => return Err(LoadFault::Range),
+        Err(_) => unreachable!(),
     };
-    let site = Site::new(layer, alloc, limits, load);
+    let site = Site::new(layer, alloc, limits, clock, load);
     run_beside(rt, &site, submitters.as_mut_slice(), workers.as_mut_slice());
     let Site { layer, noted, .. } = site;
-    let settled = settle(alloc, layer, submitters, workers);
+    let settled = settle(alloc, load, layer, submitters, workers);
     told(noted.into_first(), settled)
 }
 
 /// What is told of a load: the first of the faults that its threads met and of that of its settling, where there are some.
-fn told(fault: Option<LoadFault>, settled: Result<Settled, LoadFault>) -> Result<Settled, LoadFault>
+fn told(fault: Option<LoadFault>, settled: Result<Loaded, LoadFault>) -> Result<Loaded, LoadFault>
     ensures { IsTold fault settled result }
 {
-    match (fault, settled) {
-        (None, _) => settled,
-        (Some(fault), Ok(_)) => Err(fault),
-        (Some(fault), Err(other)) => match first_of(Some(fault), Some(other)) {
+    let Some(fault) = fault else {
+        return settled;
+    };
+    match settled {
+        Ok(_) => Err(fault),
+        Err(other) => match first_of(Some(fault), Some(other)) {
             Some(first) => Err(first),
             None => Err(fault),
         },
@@ -181,40 +176,38 @@ fn run_beside<R: Threads + Wait + Sync, S: Scheduler<A = Global> + Send, L: Name
     );
 }
 
-/// Closes a layer, and counts what came of it.
+/// Closes a layer, and settles what came of it.
+#[tactic(auto, using(crate::proofs::Counted::served_once, crate::proofs::Counted::served_all))]
 fn settle<S: Scheduler<A = Global>, L: Named>(
     alloc: Global,
+    load: Load,
     layer: Layer<S, L>,
     submitters: Vec<Submitter<L>>,
     workers: Vec<Worker<L>>,
-) -> Result<Settled, LoadFault>
+) -> Result<Loaded, LoadFault>
     requires parts { L.parts ≡ MAX_WORKERS }
-    ensures settled { IfOk result (λ s. s.accepted ≡ s.served + s.left) }
+    requires range { IsLoad load }
+    requires setup { L.setup ≡ setup_of load }
+    ensures settled { IfOk result (λ l. IsSettled load l.trace l.settled) }
+    ensures accepted { IfOk result (λ l. l.settled.accepted ≡ length (all_accepted submitters.items)) }
+    ensures agree { IfOk result (λ l. IsPermutation (all_accepted submitters.items) (served_bios l.trace.events)) }
+    ensures once { IfOk result (λ l. AreOnce (served_bios l.trace.events)) }
+    ensures fault { IfErr result (λ f. f ≢ LoadFault.Range) }
 {
-    let accepted = accepted(submitters.as_slice());
+    let Some(accepted) = accepted(submitters.as_slice()) else {
+        return Err(LoadFault::Differs);
+    };
     match layer.close(alloc, submitters, workers) {
-        Ok(Closed { trace, left }) => match served(alloc, &trace) {
-            Ok(served) => balanced(accepted, served, left.len() as u64),
-            Err(_) => Err(LoadFault::Memory),
-        },
+        Ok(Closed { trace, left }) => {
+            match load.settle(alloc, &trace, accepted, left.len() as u64) {
+                Ok(settled) => Ok(Loaded { trace, settled }),
+                Err(fault) => Err(fault),
+            }
+        }
         Err(CloseRefused::Whole { fault, .. }) => match fault {
             CloseFault::SeatMissing => Err(LoadFault::SeatMissing),
             CloseFault::Memory => Err(LoadFault::Memory),
         },
         Err(CloseRefused::Differs { .. }) => Err(LoadFault::Differs),
     }
-}
-
-/// The account of a load in which each accepted bio was served or is left.
-fn balanced(accepted: u64, served: u64, left: u64) -> Result<Settled, LoadFault>
-    ensures { IfOk result (λ s. s.accepted ≡ s.served + s.left) }
-{
-    if served.checked_add(left) != Some(accepted) {
-        return Err(LoadFault::Differs);
-    }
-    Ok(Settled {
-        accepted,
-        served,
-        left,
-    })
 }

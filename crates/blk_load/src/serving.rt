@@ -1,6 +1,6 @@
 //! What workers do.
 
-ghost use Rattle.std.specs.Prelude.{◌≡◌, All};
+ghost use Rattle.std.specs.Prelude.{◌≡◌, ◌≢◌, All, IfErr};
 
 use crate::device::Disk;
 use crate::site::Site;
@@ -26,8 +26,9 @@ fn serve<R: Wait, S: Scheduler<A = Global>, L: Named>(
 ) -> Result<(), LoadFault>
     requires seat { seat.old.tag_set ≡ site.now.layer.tag_set }
     ensures seat { seat.new.tag_set ≡ seat.old.tag_set }
+    ensures fault { IfErr result (λ f. f ≢ LoadFault.Range) }
 {
-    let mut disk = Disk::new(site.load.busy);
+    let mut disk = Disk::new(site.clock, site.load.service, site.load.busy);
     for _ in 0..MAX_WORKS {
         if site.noted.is_any() {
             return Ok(());

@@ -1,6 +1,7 @@
 //! What the threads of a load share.
 
-ghost use Rattle.std.specs.Prelude.{◌≡◌, ◌≤◌};
+ghost use Rattle.std.specs.Prelude.{◌≡◌, ◌≢◌, ◌≤◌, Some};
+ghost use Rattle.blk_settings.specs.declared.fault.LoadFault.TheVariants.{Range};
 ghost use Rattle.blk_settings.specs.declared.numbers.TheConstants.{MAX_LOAD_BIOS, MAX_SUBMITTERS};
 
 use blk_bio::Limits;
@@ -12,13 +13,20 @@ use std::alloc::Global;
 use std::sync::atomic::{AtomicBool, Ordering};
 use std::sync::{Mutex, Wait};
 
+/// The first of some faults, by their order, where there are some. No thread meets a number that is out of its range.
+#[derive(Drop)]
+struct First {
+    fault: Option<LoadFault>,
+    ghost met: { fault ≢ Some Range },
+}
+
 /// The faults that threads meet, of which the first by their order is kept.
 #[derive(Drop)]
 pub(crate) struct Noted {
     /// Whether there is one.
     any: AtomicBool,
     /// The first of them.
-    first: Mutex<Option<LoadFault>>,
+    first: Mutex<First>,
 }
 
 impl Noted {
@@ -26,7 +34,7 @@ impl Noted {
     pub(crate) fn none() -> Noted {
         Noted {
             any: AtomicBool::new(false),
-            first: Mutex::new(None),
+            first: Mutex::new(First { fault: None }),
         }
     }
 
@@ -36,16 +44,22 @@ impl Noted {
     }
 
     /// Notes a fault.
-    pub(crate) fn note<R: Wait>(&self, rt: &R, fault: LoadFault) {
+    pub(crate) fn note<R: Wait>(&self, rt: &R, fault: LoadFault)
+        requires { fault ≢ LoadFault.Range }
+    {
         let mut first = self.first.lock(rt);
-        *first = first_of(*first, Some(fault));
+        *first = First {
+            fault: first_of(first.fault, Some(fault)),
+        };
         self.any.store(true, Ordering::SeqCst);
     }
 
     /// The first of the faults.
-    pub(crate) fn into_first(self) -> Option<LoadFault> {
+    pub(crate) fn into_first(self) -> Option<LoadFault>
+        ensures { result ≢ Some LoadFault.Range }
+    {
         let Noted { any: _, first } = self;
-        first.into_inner()
+        first.into_inner().fault
     }
 }
 
@@ -60,6 +74,8 @@ pub(crate) struct Site<S: Scheduler<A = Global>, L: Named> {
     pub(crate) alloc: Global,
     /// The limits of the layer, within which the bios of a plug join.
     pub(crate) limits: Limits,
+    /// What the devices sleep by.
+    pub(crate) clock: HostRuntime,
     /// How much load there is.
     pub(crate) load: Load,
     ghost named: { limits ≡ L.setup.limits },
@@ -69,7 +85,13 @@ pub(crate) struct Site<S: Scheduler<A = Global>, L: Named> {
 
 impl<S: Scheduler<A = Global>, L: Named> Site<S, L> {
     /// What threads share over a layer, none of which has met a fault.
-    pub(crate) fn new(layer: Layer<S, L>, alloc: Global, limits: Limits, load: Load) -> Site<S, L>
+    pub(crate) fn new(
+        layer: Layer<S, L>,
+        alloc: Global,
+        limits: Limits,
+        clock: HostRuntime,
+        load: Load,
+    ) -> Site<S, L>
         requires named { limits ≡ L.setup.limits }
         requires few_submitters { load.submitters ≤ MAX_SUBMITTERS }
         requires few_bios { load.bios ≤ MAX_LOAD_BIOS }
@@ -80,6 +102,7 @@ impl<S: Scheduler<A = Global>, L: Named> Site<S, L> {
             noted: Noted::none(),
             alloc,
             limits,
+            clock,
             load,
         }
     }

@@ -1,6 +1,6 @@
 //! What submitters do.
 
-ghost use Rattle.std.specs.Prelude.{◌≡◌, ◌<◌, ◌≤◌, All, IfOk, length};
+ghost use Rattle.std.specs.Prelude.{◌≡◌, ◌≢◌, ◌<◌, ◌≤◌, All, IfErr, length};
 ghost use Rattle.blk_settings.specs.declared.numbers.TheConstants.{MAX_LOAD_BIOS, MAX_SUBMITTERS};
 ghost use Rattle.blk_load.specs.Loads.{nth_bio};
 
@@ -50,6 +50,7 @@ fn fill(plug: &mut Plug, load: &Load, submitter: u8, from: u64) -> Result<u64, L
     requires submitters { load.now.submitters ≤ MAX_SUBMITTERS }
     requires bios { load.now.bios ≤ MAX_LOAD_BIOS }
     ensures limits { plug.new.limits ≡ plug.old.limits }
+    ensures fault { IfErr result (λ f. f ≢ LoadFault.Range) }
 {
     for serial in from..load.bios {
         match plug.add(nth_bio(load.submitters, submitter, serial)) {
@@ -70,6 +71,7 @@ fn submit<R: Wait, S: Scheduler<A = Global>, L: Named>(
 ) -> Result<(), LoadFault>
     requires seat { seat.old.number < length site.now.layer.map }
     ensures number { seat.new.number ≡ seat.old.number }
+    ensures fault { IfErr result (λ f. f ≢ LoadFault.Range) }
 {
     let Ok(mut plug) = Plug::new(site.alloc, site.limits) else {
         return Err(LoadFault::Memory);
@@ -109,6 +111,7 @@ fn flush<R: Wait, S: Scheduler<A = Global>, L: Named>(
     requires limits { plug.old.limits ≡ site.now.limits }
     ensures number { seat.new.number ≡ seat.old.number }
     ensures limits { plug.new.limits ≡ plug.old.limits }
+    ensures fault { IfErr result (λ f. f ≢ LoadFault.Range) }
 {
     match site.layer.flush(rt, seat, plug) {
         Ok(_) => Ok(()),

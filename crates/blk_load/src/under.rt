@@ -1,13 +1,15 @@
 //! Loads by the name of their scheduler.
 
-ghost use Rattle.std.specs.Prelude.{◌≡◌, ◌+◌, IfOk, OnOk, IfErr};
+ghost use Rattle.std.specs.Prelude.{IfOk, OnOk, IfErr};
 ghost use Rattle.blk_settings.specs.Numbers.{IsLoad};
 ghost use Rattle.blk_settings.specs.Made.{IsUnmade, IsUnsettled};
 ghost use Rattle.blk_settings.specs.Rows.{IsStart};
+ghost use Rattle.blk_settings.specs.Settles.{IsSettled, served_bios};
+ghost use Rattle.blk_trace.specs.Events.{AreOnce};
 
 use crate::running::load;
 use blk_sched::Scheduler;
-use blk_settings::{Load, LoadFault, Loads, Sched, SchedFault, Settled, Unsettled, with_scheduler};
+use blk_settings::{Load, LoadFault, Loaded, Loads, Sched, SchedFault, Unsettled, with_scheduler};
 use std::alloc::Global;
 use std::sync::Wait;
 use std::thread::Threads;
@@ -15,22 +17,24 @@ use std::thread::Threads;
 /// What came of a load under the scheduler of these settings, where it was made.
 fn load_by<R: Threads + Wait + Sync, S: Scheduler<A = Global> + Send>(
     rt: &R,
+    clock: HostRuntime,
     alloc: Global,
     sched: Sched,
     made: Result<S, SchedFault>,
     amounts: Load,
-) -> Result<Settled, Unsettled>
+) -> Result<Loaded, Unsettled>
     requires start { IfOk made (λ s. IsStart sched amounts.depth (S.meaning s) (S.kept s)) }
     requires unmade { IfErr made (IsUnmade sched) }
-    ensures settled { IfOk result (λ s. s.accepted ≡ s.served + s.left) }
-    ensures failed { IfErr result (IsUnsettled sched) }
+    ensures settled { IfOk result (λ l. IsSettled amounts l.trace l.settled) }
+    ensures once { IfOk result (λ l. AreOnce (served_bios l.trace.events)) }
+    ensures failed { IfErr result (IsUnsettled sched amounts) }
 {
     let scheduler = match made {
         Ok(scheduler) => scheduler,
         Err(fault) => return Err(Unsettled::Sched(fault)),
     };
-    match load(rt, alloc, amounts, scheduler) {
-        Ok(settled) => Ok(settled),
+    match load(rt, clock, alloc, amounts, scheduler) {
+        Ok(loaded) => Ok(loaded),
         Err(fault) => Err(Unsettled::Load(fault)),
     }
 }
@@ -38,13 +42,15 @@ fn load_by<R: Threads + Wait + Sync, S: Scheduler<A = Global> + Send>(
 /// Runs a load under a scheduler by its settings. Refused as [`load`] is, after `Range` as the scheduler is where it isn't made.
 pub fn load_under<R: Threads + Wait + Sync>(
     rt: &R,
+    clock: HostRuntime,
     alloc: Global,
     sched: Sched,
     amounts: Load,
-) -> Result<Settled, Unsettled>
+) -> Result<Loaded, Unsettled>
     ensures range { OnOk result (IsLoad amounts) }
-    ensures settled { IfOk result (λ s. s.accepted ≡ s.served + s.left) }
-    ensures failed { IfErr result (IsUnsettled sched) }
+    ensures settled { IfOk result (λ l. IsSettled amounts l.trace l.settled) }
+    ensures once { IfOk result (λ l. AreOnce (served_bios l.trace.events)) }
+    ensures failed { IfErr result (IsUnsettled sched amounts) }
 {
     if !amounts.is_in_range() {
         return Err(Unsettled::Load(LoadFault::Range));
@@ -53,13 +59,16 @@ pub fn load_under<R: Threads + Wait + Sync>(
         alloc,
         sched,
         amounts.depth,
-        |row, made| load_by(rt, alloc, row, made, amounts)
+        |row, made| load_by(rt, clock, alloc, row, made, amounts)
     )
 }
 
 /// Loads over a layer whose submitters and workers are threads of the runtime.
-#[derive(Clone, Copy, Debug, PartialEq, Eq)]
-pub struct OnThreads;
+#[derive(Clone, Copy)]
+pub struct OnThreads {
+    /// What the devices of a load sleep by.
+    pub clock: HostRuntime,
+}
 
 impl Loads for OnThreads {
     fn run<R: Threads + Wait + Sync>(
@@ -68,7 +77,7 @@ impl Loads for OnThreads {
         alloc: Global,
         sched: Sched,
         load: Load,
-    ) -> Result<Settled, Unsettled> {
-        load_under(rt, alloc, sched, load)
+    ) -> Result<Loaded, Unsettled> {
+        load_under(rt, self.clock, alloc, sched, load)
     }
 }

@@ -1,7 +1,14 @@
 -- Why a load fails, and which of several reasons is told.
 use Rattle.std.specs.Prelude.{ℕ, ◌≡◌, ◌≤◌, ◌⊎◌, Option, None, Some, IfSome, Result, Ok, Err}
+use Rattle.blk_settings.specs.Numbers.{IsLoad}
+use Rattle.blk_settings.specs.declared.numbers.Load.{Load}
 use Rattle.blk_settings.specs.declared.fault.LoadFault.{LoadFault}
 use Rattle.blk_settings.specs.declared.fault.LoadFault.TheVariants as fault
+
+-- what each fault says of the load: a number is out of its range, or none is
+abbrev pub IsLoadFault : Load → LoadFault → Type 0
+IsLoadFault l fault.Range = ¬ IsLoad l
+IsLoadFault l f = IsLoad l
 
 -- the place of a fault in their order
 abbrev pub rank : LoadFault → ℕ

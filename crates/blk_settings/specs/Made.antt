@@ -4,6 +4,8 @@ use Rattle.blk_settings.specs.declared.sched.SchedFault.{SchedFault}
 use Rattle.blk_settings.specs.declared.sched.SchedFault.TheVariants as setting
 use Rattle.blk_settings.specs.declared.sched.Sched.{Sched}
 use Rattle.blk_settings.specs.declared.sched.Sched.TheVariants as sched
+use Rattle.blk_settings.specs.declared.numbers.Load.{Load}
+use Rattle.blk_settings.specs.Faults.{IsLoadFault}
 use Rattle.blk_settings.specs.declared.Unsettled.{Unsettled}
 use Rattle.blk_settings.specs.declared.Unsettled.TheVariants as un
 
@@ -39,6 +41,6 @@ IsUnmade s setting.ZeroTarget = HasZeroTarget s
 IsUnmade s setting.Memory = ⊤
 
 -- why a load under a scheduler came to nothing: it isn't made, or the load failed
-abbrev pub IsUnsettled : Sched → Unsettled → Type 0
-IsUnsettled s (un.Sched f) = IsUnmade s f
-IsUnsettled s (un.Load f) = ⊤
+abbrev pub IsUnsettled : Sched → Load → Unsettled → Type 0
+IsUnsettled s l (un.Sched f) = IsUnmade s f
+IsUnsettled s l (un.Load f) = IsLoadFault l f

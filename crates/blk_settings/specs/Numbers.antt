@@ -1,7 +1,7 @@
 -- How much load there is.
 use Rattle.std.specs.Prelude.{◌≤◌}
 use Rattle.blk_settings.specs.declared.numbers.Load.{Load}
-use Rattle.blk_settings.specs.declared.numbers.TheConstants.{MAX_SUBMITTERS, MAX_LOAD_WORKERS, MAX_LOAD_BIOS, MAX_LOAD_DEPTH}
+use Rattle.blk_settings.specs.declared.numbers.TheConstants.{MAX_SUBMITTERS, MAX_LOAD_WORKERS, MAX_LOAD_BIOS, MAX_LOAD_DEPTH, MAX_LOAD_SERVICE}
 
 -- its numbers are in their ranges
 pub record IsLoad (l : Load) : Type 0 where
@@ -13,3 +13,4 @@ pub record IsLoad (l : Load) : Type 0 where
   pub few_bios : l.bios ≤ MAX_LOAD_BIOS
   pub some_tags : 1 ≤ l.depth
   pub few_tags : l.depth ≤ MAX_LOAD_DEPTH
+  pub brief : l.service ≤ MAX_LOAD_SERVICE

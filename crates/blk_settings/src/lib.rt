@@ -2,18 +2,22 @@
 //! it fails, and the trait of whoever runs one. Who asks for a load so stands on no layer and no threads.
 #![tactic(auto)]
 
-ghost use Rattle.std.specs.Prelude.{◌≡◌, ◌+◌, IfOk, OnOk, IfErr};
+ghost use Rattle.std.specs.Prelude.{OnOk, IfOk, IfErr};
 ghost use denote.Param.Send.{IsSync};
 ghost use Rattle.blk_settings.specs.Numbers.{IsLoad};
 ghost use Rattle.blk_settings.specs.Made.{IsUnsettled};
+ghost use Rattle.blk_settings.specs.Settles.{IsSettled, served_bios};
+ghost use Rattle.blk_trace.specs.Events.{AreOnce};
 
 pub mod fault;
 pub mod numbers;
 pub mod sched;
+pub mod settling;
 
 pub use crate::fault::LoadFault;
 pub use crate::numbers::Load;
 pub use crate::sched::{Lineup, Sched, SchedFault};
+use blk_trace::Trace;
 use std::alloc::Global;
 use std::sync::Wait;
 use std::thread::Threads;
@@ -27,6 +31,15 @@ pub struct Settled {
     pub served: u64,
     /// How many bios still wait.
     pub left: u64,
+}
+
+/// A load that was run and settled.
+#[derive(Drop)]
+pub struct Loaded {
+    /// What its layer did.
+    pub trace: Trace,
+    /// What came of it.
+    pub settled: Settled,
 }
 
 /// Why a load came to nothing.
@@ -44,18 +57,19 @@ pub trait Loads {
     ///
     /// Refused, by the first of these that applies: as `Range` where a number of the load is out of its range; as the scheduler is
     /// where it isn't made of its settings; as `Memory`; as `TraceFull` where a worker is refused so; as `Repeated` where a submitter
-    /// or a worker is; as `Stalled` where one used up its turns; and as `SeatMissing` or `Differs` where the layer's accounts can't be
-    /// settled.
+    /// or a worker is; as `Stalled` where one used up its turns; as `SeatMissing` or `Differs` where the layer's accounts can't be
+    /// settled; and as `Differs` where not all bios were accepted and served.
     fn run<R: Threads + Wait + Sync>(
         &self,
         rt: &R,
         alloc: Global,
         sched: Sched,
         load: Load,
-    ) -> Result<Settled, Unsettled>
+    ) -> Result<Loaded, Unsettled>
         // any thread may use the runtime
         requires shared { IsSync R.row }
         ensures range { OnOk result (IsLoad load) }
-        ensures settled { IfOk result (λ s. s.accepted ≡ s.served + s.left) }
-        ensures unsettled { IfErr result (IsUnsettled sched) };
+        ensures settled { IfOk result (λ l. IsSettled load l.trace l.settled) }
+        ensures once { IfOk result (λ l. AreOnce (served_bios l.trace.events)) }
+        ensures unsettled { IfErr result (IsUnsettled sched load) };
 }

@@ -18,6 +18,9 @@ pub const MAX_LOAD_BIOS: u64 = 2000;
 /// The most tags.
 pub const MAX_LOAD_DEPTH: u64 = MAX_DEPTH;
 
+/// The longest that a device takes for a command, in microseconds.
+pub const MAX_LOAD_SERVICE: u64 = 1_000_000;
+
 /// How much load there is, and on what.
 #[derive(Clone, Copy, Debug, PartialEq, Eq)]
 pub struct Load {
@@ -31,6 +34,8 @@ pub struct Load {
     pub depth: u64,
     /// Each worker's device is busy at every run whose number, counted from 1, this divides, at every run for 0, never for None.
     pub busy: Option<u64>,
+    /// How long each worker's device takes for a command, in microseconds, 0 to [`MAX_LOAD_SERVICE`].
+    pub service: u64,
 }
 
 impl Load {
@@ -46,5 +51,6 @@ impl Load {
             && self.bios <= MAX_LOAD_BIOS
             && self.depth >= 1
             && self.depth <= MAX_LOAD_DEPTH
+            && self.service <= MAX_LOAD_SERVICE
     }
 }

@@ -7,6 +7,7 @@ use Rattle.clap.proofs.OnLiterals.{clap_on_literals}
 use Rattle.blk_settings.specs.declared.sched.Sched.TheVariants as sched
 use Rattle.blk_words.specs.declared.words.Job.{Job}
 use Rattle.blk_words.specs.declared.words.Job.TheVariants as job
+use Rattle.blk_words.specs.declared.words.Shown.TheVariants as shown
 use Rattle.blk_words.specs.Line.{Names, AreSchedulers, blk_app}
 use Rattle.blk_words.specs.Asked.{Asks, job_read}
 
@@ -58,13 +59,17 @@ asks_nothing words h j a =
     let g = any_names (IsReadAsNothing words) h a.0 a.1 in
     elim a.2 [ inl x ↦ let e : Some j ≡ None = sym x.1 ∙ g.1 in cc e | inr x ↦ absurd (rw g.0 at x.0) ]
 
-pub load_line : (name : Text) (p q r s t : ℕ × ℕ) → IsReadAs (name ∷ codes "load" ∷ []) (job.Load sched.None (record { submitters = 2; workers = 2; bios = 1000; depth = 8; busy = None })) (at_places p q r s t)
+pub load_line : (name : Text) (p q r s t : ℕ × ℕ) → IsReadAs (name ∷ codes "load" ∷ []) (job.Load sched.None (record { submitters = 2; workers = 2; bios = 1000; depth = 8; busy = None; service = 0 }) shown.Account) (at_places p q r s t)
 unfolding clap_on_literals
 load_line name p q r s t = (refl, refl)
 
-pub busy_line : (name : Text) (p q r s t : ℕ × ℕ) → IsReadAs (name ∷ codes "load" ∷ codes "--busy" ∷ codes "3" ∷ []) (job.Load sched.None (record { submitters = 2; workers = 2; bios = 1000; depth = 8; busy = Some 3 })) (at_places p q r s t)
+pub busy_line : (name : Text) (p q r s t : ℕ × ℕ) → IsReadAs (name ∷ codes "load" ∷ codes "--busy" ∷ codes "3" ∷ []) (job.Load sched.None (record { submitters = 2; workers = 2; bios = 1000; depth = 8; busy = Some 3; service = 0 }) shown.Account) (at_places p q r s t)
 unfolding clap_on_literals
 busy_line name p q r s t = (refl, refl)
+
+pub traced_line : (name : Text) (p q r s t : ℕ × ℕ) → IsReadAs (name ∷ codes "load" ∷ codes "--trace" ∷ codes "--service" ∷ codes "100" ∷ []) (job.Load sched.None (record { submitters = 2; workers = 2; bios = 1000; depth = 8; busy = None; service = 100 }) shown.Trace) (at_places p q r s t)
+unfolding clap_on_literals
+traced_line name p q r s t = (refl, refl)
 
 pub sim_line : (name : Text) (p q r s t : ℕ × ℕ) → IsReadAs (name ∷ codes "sim" ∷ []) (job.Sim sched.None) (at_places p q r s t)
 unfolding clap_on_literals

@@ -15,6 +15,8 @@ use Rattle.blk_settings.specs.declared.sched.Sched.{Sched}
 use Rattle.blk_settings.specs.declared.sched.Sched.TheVariants as sched
 use Rattle.blk_words.specs.declared.words.Job.{Job}
 use Rattle.blk_words.specs.declared.words.Job.TheVariants as job
+use Rattle.blk_words.specs.declared.words.Shown.{Shown}
+use Rattle.blk_words.specs.declared.words.Shown.TheVariants as shown
 use Rattle.blk_words.specs.declared.table.Makes.{Makes}
 use Rattle.blk_words.specs.declared.table.Makes.TheVariants as makes
 use Rattle.blk_settings.specs.Rows.{name_of}
@@ -66,17 +68,20 @@ earliest_of runs late_last = if runs then Some late_last else None
 abbrev pub compared : Option Tunables → Option Targets → Option Bool → Option Job
 compared tunables targets earliest = option_and_then (λ t. option_map (λ g. job.Compare (record { deadline = t; kyber = g; earliest = earliest })) targets) tunables
 
--- a load of these numbers, whose devices may be busy, under this scheduler
-abbrev pub amounts : Option ℕ → Option ℕ → Option ℕ → Option ℕ → Option ℕ → Option Load
-amounts submitters workers bios depth busy = option_and_then (λ s. option_and_then (λ w. option_and_then (λ b. option_map (λ d.
-    record { submitters = s; workers = w; bios = b; depth = d; busy = busy }) depth) bios) workers) submitters
+-- a load of these numbers, whose devices may be busy and take time, under this scheduler, and what is written of it
+abbrev pub amounts : Option ℕ → Option ℕ → Option ℕ → Option ℕ → Option ℕ → Option ℕ → Option Load
+amounts submitters workers bios depth service busy = option_and_then (λ s. option_and_then (λ w. option_and_then (λ b. option_and_then (λ d. option_map (λ t.
+    record { submitters = s; workers = w; bios = b; depth = d; busy = busy; service = t }) service) depth) bios) workers) submitters
 
 abbrev pub amounts_of : List Row → Option Load
 amounts_of rows = amounts (number_given (codes "submitters") rows) (number_given (codes "workers") rows) (number_given (codes "bios") rows) (number_given (codes "depth") rows)
-    (number_given (codes "busy") rows)
+    (number_given (codes "service") rows) (number_given (codes "busy") rows)
 
-abbrev pub loaded : Option Sched → Option Load → Option Job
-loaded s l = option_and_then (λ s. option_map (λ l. job.Load s l) l) s
+abbrev pub shown_of : Bool → Shown
+shown_of traced = if traced then shown.Trace else shown.Account
+
+abbrev pub loaded : Shown → Option Sched → Option Load → Option Job
+loaded w s l = option_and_then (λ s. option_map (λ l. job.Load s l w) l) s
 
 -- the job of `oracle` by whether its flags are given, which may not stand together
 abbrev pub oracle_job : Bool → Bool → Option Job
@@ -91,7 +96,7 @@ job_made (makes.Plain j) rows = Some j
 job_made makes.Sim rows = option_map job.Sim (sched_of rows)
 job_made makes.Compare rows = compared (tunables_of rows) (targets_of rows) (earliest_of (is_flagged (codes "earliest") rows) (is_flagged (codes "late-last") rows))
 job_made makes.Oracle rows = oracle_job (is_flagged (codes "trace") rows) (is_flagged (codes "met") rows)
-job_made makes.Load rows = loaded (sched_of rows) (amounts_of rows)
+job_made makes.Load rows = loaded (shown_of (is_flagged (codes "trace") rows)) (sched_of rows) (amounts_of rows)
 
 -- the job of the subcommand of a name, by what its options are given
 abbrev pub job_of : Names → Text × List Row → Option Job

@@ -5,7 +5,7 @@ use Rattle.clap.specs.Words.{App, Rule, Text, new_app, new_rule, with_rule, with
 use Rattle.clap.specs.declared.builder.ArgAction.TheVariants.{Set, SetTrue}
 use Rattle.clap.specs.declared.builder.value_parser.ValueParser.{ValueParser}
 use Rattle.clap.specs.declared.builder.value_parser.ValueParser.TheVariants as vp
-use Rattle.blk_settings.specs.declared.numbers.TheConstants.{MAX_SUBMITTERS, MAX_LOAD_WORKERS, MAX_LOAD_BIOS, MAX_LOAD_DEPTH}
+use Rattle.blk_settings.specs.declared.numbers.TheConstants.{MAX_SUBMITTERS, MAX_LOAD_WORKERS, MAX_LOAD_BIOS, MAX_LOAD_DEPTH, MAX_LOAD_SERVICE}
 use Rattle.blk_words.specs.declared.words.Job.{Job}
 use Rattle.blk_words.specs.declared.words.Job.TheVariants as job
 use Rattle.blk_words.specs.declared.table.TheConstants.{MAX_TARGET, MAX_BUSY}
@@ -80,7 +80,7 @@ abbrev pub amounts : List Rule
 amounts =
     number_rule (codes "submitters") (vp.Unsigned 1 MAX_SUBMITTERS) (codes "2") ∷ number_rule (codes "workers") (vp.Unsigned 1 MAX_LOAD_WORKERS) (codes "2")
     ∷ number_rule (codes "bios") (vp.Unsigned 1 MAX_LOAD_BIOS) (codes "1000") ∷ number_rule (codes "depth") (vp.Unsigned 1 MAX_LOAD_DEPTH) (codes "8")
-    ∷ maybe_rule (codes "busy") (vp.Unsigned 2 MAX_BUSY) ∷ []
+    ∷ maybe_rule (codes "busy") (vp.Unsigned 2 MAX_BUSY) ∷ number_rule (codes "service") (vp.Unsigned 0 MAX_LOAD_SERVICE) (codes "0") ∷ []
 
 -- the subcommands: over scripts, over traces, over command lists and certificates, and over the running layer
 abbrev pub table : Names → List Subcommand
@@ -94,7 +94,7 @@ table names =
     ∷ plain (codes "spread") job.Spread
     ∷ record { name = codes "oracle"; rules = flag_rule (codes "trace") ∷ flag_rule (codes "met") ∷ []; makes = makes.Oracle }
     ∷ plain (codes "check") job.Check
-    ∷ record { name = codes "load"; rules = sched_rule (codes "sched") names ∷ (amounts ++ tuning); makes = makes.Load }
+    ∷ record { name = codes "load"; rules = sched_rule (codes "sched") names ∷ flag_rule (codes "trace") ∷ (amounts ++ tuning); makes = makes.Load }
     ∷ []
 
 -- a command with a version, which wants a subcommand

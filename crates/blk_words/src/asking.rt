@@ -5,7 +5,7 @@ ghost use Rattle.clap.specs.Words.{Text};
 ghost use Rattle.blk_words.specs.declared.words.Job.{Job as AJob};
 ghost use Rattle.blk_words.specs.Asked.{Asks};
 
-use crate::words::Job;
+use crate::words::{Job, Shown};
 use blk_settings::Sched;
 
 /// Each of these lines asks for its job and, all but `--version`, for no other; `oracle --trace --met` asks for none.
@@ -39,8 +39,10 @@ pub fn plain_lines()
     ensures report_and_met { (name : Text) → (j : AJob) → Asks (name ∷ codes "oracle" ∷ codes "--trace" ∷ codes "--met" ∷ []) j → ⊥ }
     ensures check { (name : Text) → (j : AJob) → Asks (name ∷ codes "check" ∷ []) j ↔ (j ≡ Job.Check) }
     ensures load { (name : Text) → (j : AJob) → Asks (name ∷ codes "load" ∷ []) j
-        ↔ (j ≡ Job.Load Sched.None (record { submitters = 2; workers = 2; bios = 1000; depth = 8; busy = None })) }
+        ↔ (j ≡ Job.Load Sched.None (record { submitters = 2; workers = 2; bios = 1000; depth = 8; busy = None; service = 0 }) Shown.Account) }
     ensures busy { (name : Text) → (j : AJob) → Asks (name ∷ codes "load" ∷ codes "--busy" ∷ codes "3" ∷ []) j
-        ↔ (j ≡ Job.Load Sched.None (record { submitters = 2; workers = 2; bios = 1000; depth = 8; busy = Some 3 })) }
+        ↔ (j ≡ Job.Load Sched.None (record { submitters = 2; workers = 2; bios = 1000; depth = 8; busy = Some 3; service = 0 }) Shown.Account) }
+    ensures traced { (name : Text) → (j : AJob) → Asks (name ∷ codes "load" ∷ codes "--trace" ∷ codes "--service" ∷ codes "100" ∷ []) j
+        ↔ (j ≡ Job.Load Sched.None (record { submitters = 2; workers = 2; bios = 1000; depth = 8; busy = None; service = 100 }) Shown.Trace) }
     ensures version { (name : Text) → Asks (name ∷ codes "--version" ∷ []) Job.Version }
 {}

@@ -6,4 +6,4 @@ pub mod asking;
 pub mod table;
 pub mod words;
 
-pub use crate::words::{Job, NoJob, VERSION, choose};
+pub use crate::words::{Job, NoJob, Shown, VERSION, choose};

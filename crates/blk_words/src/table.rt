@@ -1,7 +1,9 @@
 //! The command line, as a table: a row for each subcommand, with its options and what these make.
 
 use crate::words::Job;
-use blk_settings::numbers::{MAX_LOAD_BIOS, MAX_LOAD_DEPTH, MAX_LOAD_WORKERS, MAX_SUBMITTERS};
+use blk_settings::numbers::{
+    MAX_LOAD_BIOS, MAX_LOAD_DEPTH, MAX_LOAD_SERVICE, MAX_LOAD_WORKERS, MAX_SUBMITTERS,
+};
 
 /// The greatest target of `kyber`, in rounds.
 pub const MAX_TARGET: u64 = 1_000_000;
@@ -195,6 +197,11 @@ pub static COMMANDS: [CommandRow; 10] = [
         options: &[
             SCHED,
             OptionRow {
+                name: "trace",
+                takes: Takes::Nothing,
+                help: "Writes the trace of what the layer did instead",
+            },
+            OptionRow {
                 name: "submitters",
                 takes: Takes::Number(1, MAX_SUBMITTERS, "2"),
                 help: "How many threads submit",
@@ -218,6 +225,11 @@ pub static COMMANDS: [CommandRow; 10] = [
                 name: "busy",
                 takes: Takes::Maybe(2, MAX_BUSY),
                 help: "Lets each worker's device hand every so many-th command back; without it, none",
+            },
+            OptionRow {
+                name: "service",
+                takes: Takes::Number(0, MAX_LOAD_SERVICE, "0"),
+                help: "How many microseconds each device takes for a command",
             },
         ],
         is_tuned: true,

@@ -6,7 +6,7 @@ ghost use Rattle.clap.specs.Words.{app_of, rule_of, rows_of, found_of, subcomman
 ghost use Rattle.clap.specs.declared.builder.command.Command.TheViews.{out-Command as fields_of};
 ghost use Rattle.blk_settings.specs.Rows.{name_of};
 ghost use Rattle.blk_words.specs.Line.{Names, AreSchedulers, rule_for, subcommand_of, app_for, with_one, blk_app};
-ghost use Rattle.blk_words.specs.Asked.{Asks, AreRefused, short_given, number_given, is_flagged, tunables_of, targets_of, sched_of, earliest_of, compared, amounts_of, loaded, oracle_job, job_made, job_of};
+ghost use Rattle.blk_words.specs.Asked.{Asks, AreRefused, short_given, number_given, is_flagged, tunables_of, targets_of, sched_of, earliest_of, compared, amounts_of, shown_of, loaded, oracle_job, job_made, job_of};
 
 use crate::table::{COMMANDS, CommandRow, Makes, OptionRow, SCHEDULERS, TUNING, Takes};
 use blk_deadline::Tunables;
@@ -47,8 +47,17 @@ pub enum Job {
     Report,
     /// Check a certificate.
     Check,
-    /// Run a load on a layer under a scheduler, and write its account.
-    Load(Sched, Load),
+    /// Run a load on a layer under a scheduler, and write this of it.
+    Load(Sched, Load, Shown),
+}
+
+/// What is written of a load.
+#[derive(Clone, Copy, Debug, PartialEq, Eq)]
+pub enum Shown {
+    /// How many bios were accepted, served and left.
+    Account,
+    /// The trace of what the layer did.
+    Trace,
 }
 
 /// Why there is no job.
@@ -267,6 +276,7 @@ fn amounts_of(options: &ArgMatches<'_>) -> Option<Load>
     let workers = number_of(options, "workers")?;
     let bios = number_of(options, "bios")?;
     let depth = number_of(options, "depth")?;
+    let service = number_of(options, "service")?;
     let busy = number_of(options, "busy");
     Some(Load {
         submitters,
@@ -274,16 +284,29 @@ fn amounts_of(options: &ArgMatches<'_>) -> Option<Load>
         bios,
         depth,
         busy,
+        service,
     })
+}
+
+/// What the options of `load` ask to write.
+fn shown_of(options: &ArgMatches<'_>) -> Shown
+    ensures { result ≡ shown_of (is_flagged (codes "trace") (rows_of (found_of options.now))) }
+{
+    if is_flagged(options, "trace") {
+        Shown::Trace
+    } else {
+        Shown::Account
+    }
 }
 
 /// The load that the options of `load` ask for.
 fn load_of(options: &ArgMatches<'_>) -> Option<Job>
-    ensures { result ≡ loaded (sched_of (rows_of (found_of options.now))) (amounts_of (rows_of (found_of options.now))) }
+    ensures { result ≡ loaded (shown_of (is_flagged (codes "trace") (rows_of (found_of options.now)))) (sched_of (rows_of (found_of options.now))) (amounts_of (rows_of (found_of options.now))) }
 {
+    let shown = shown_of(options);
     let sched = sched_of(options)?;
     let load = amounts_of(options)?;
-    Some(Job::Load(sched, load))
+    Some(Job::Load(sched, load, shown))
 }
 
 /// The job of `oracle` by its flags, which may not stand together.

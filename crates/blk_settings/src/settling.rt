@@ -1,0 +1,133 @@
+//! What a load is set up for, and what it comes to by the trace of its layer.
+
+ghost use Rattle.std.specs.Prelude.{◌≡◌, ◌≤◌, IfOk, IfErr, min};
+ghost use Rattle.blk_trace.specs.Events.{entered, bios_of};
+ghost use Rattle.blk_settings.specs.Numbers.{IsLoad};
+ghost use Rattle.blk_settings.specs.Settles.{AreEven, IsSettled, IsSettleFault, setup_of};
+
+use crate::{Load, LoadFault, Settled};
+use blk_bio::{Bio, Limits, Request};
+use blk_trace::{Event, Setup, Trace};
+use std::alloc::{AllocError, Global};
+
+/// After how many rounds a read is due.
+pub const READ_EXPIRE: u64 = 5;
+
+/// After how many rounds a write is due.
+pub const WRITE_EXPIRE: u64 = 50;
+
+/// How many sectors a request of several bios may have.
+pub const MAX_REQUEST_SECTORS: u64 = 256;
+
+/// How many bios a request may have.
+pub const MAX_REQUEST_BIOS: u64 = 128;
+
+impl Load {
+    /// How many hardware queues its layer has: one for each submitter or each worker, whichever are fewer, so 1 to 16.
+    pub fn hw_queues(&self) -> u64
+        requires { IsLoad self.now }
+        ensures value { result ≡ min self.now.submitters self.now.workers }
+        ensures some { 1 ≤ result }
+        ensures few { result ≤ 16 }
+    {
+        self.submitters.min(self.workers)
+    }
+
+    /// What its layer is set up for.
+    pub fn setup(&self) -> Setup
+        requires { IsLoad self.now }
+        ensures { result ≡ setup_of self.now }
+    {
+        let Ok(limits) = Limits::new(MAX_REQUEST_SECTORS, MAX_REQUEST_BIOS) else {
+            unreachable!()
+        };
+        let hw = self.hw_queues() as u8;
+        match Setup::new(self.depth, hw, READ_EXPIRE, WRITE_EXPIRE, limits) {
+            Ok(setup) => setup,
+            Err(_) => unreachable!(),
+        }
+    }
+
+    /// What came of the load, by the trace of its layer once that is closed, how many bios its submitters accepted, and how many are
+    /// left.
+    ///
+    /// Refused as `Differs` where not all of its bios were accepted and served, or something is in flight, waits or is left; and as
+    /// `Memory`.
+    pub fn settle(
+        &self,
+        alloc: Global,
+        trace: &Trace,
+        accepted: u64,
+        left: u64,
+    ) -> Result<Settled, LoadFault>
+        requires range { IsLoad self.now }
+        requires setup { trace.now.setup ≡ setup_of self.now }
+        ensures settled { IfOk result (IsSettled self.now trace.now) }
+        ensures numbers { IfOk result (λ s. (s.accepted ≡ accepted) × (s.left ≡ left)) }
+        ensures fault { IfErr result (IsSettleFault self.now trace.now.events accepted left) }
+    {
+        let Ok(waiting) = trace.waiting() else {
+            return Err(LoadFault::Memory);
+        };
+        let Ok(entered) = entered(alloc, trace.events()) else {
+            return Err(LoadFault::Memory);
+        };
+        let waits = waiting.len() as u64;
+        let served = (entered.len() as u64).saturating_sub(waits);
+        match self.balanced(accepted, served, trace.unfinished(), waits, left) {
+            Ok(settled) => Ok(settled),
+            Err(fault) => Err(fault),
+        }
+    }
+
+    /// The account of these numbers, where they are even.
+    fn balanced(
+        &self,
+        accepted: u64,
+        served: u64,
+        in_flight: u64,
+        waiting: u64,
+        left: u64,
+    ) -> Result<Settled, LoadFault>
+        requires { IsLoad self.now }
+        ensures ok { IfOk result (λ s. s ≡ record { accepted = accepted; served = served; left = left }) }
+        ensures even { IfOk result (λ s. AreEven self.now accepted served in_flight waiting left) }
+        ensures fault { IfErr result (λ f. (f ≡ LoadFault.Differs) × ¬ AreEven self.now accepted served in_flight waiting left) }
+    {
+        if accepted == self.submitters * self.bios
+            && served == accepted
+            && in_flight == 0
+            && waiting == 0
+            && left == 0
+        {
+            return Ok(Settled {
+                accepted,
+                served,
+                left,
+            });
+        }
+        Err(LoadFault::Differs)
+    }
+}
+
+/// The bios that entered by these events.
+#[tactic(auto, using(crate::proofs::Entered::entered_more, crate::proofs::Entered::none_entered))]
+fn entered(alloc: Global, events: &[Event<Request>]) -> Result<Vec<Bio>, AllocError>
+    ensures { IfOk result (λ v. v.items ≡ entered events.now) }
+{
+    let mut bios = Vec::new(alloc);
+    for event in events {
+        bios.extend_from_slice(bios_of(event))?;
+    }
+    Ok(bios)
+}
+
+/// The bios that enter by an event.
+fn bios_of(event: &Event<Request>) -> &[Bio]
+    ensures { result.now ≡ bios_of event.now }
+{
+    match event.enters() {
+        Some((_, request)) => request.bios(),
+        None => &[],
+    }
+}

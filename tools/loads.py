@@ -1,0 +1,406 @@
+#!/usr/bin/env python3
+"""Runs loads of threads by `load --trace`, and looks what their traces have to do with what was asked for.
+
+    tools/loads.py                  every load of the list below
+    tools/loads.py NAME..           those alone
+    tools/loads.py --program PATH   by another program than the one that is built; may stand before names
+
+Of each trace: the setup is that of the words; each bio of each submitter came in once, with its sectors and its direction, and those
+of a submitter in their order; no round has more commands than the depth or ends with fewer; no more commands are in flight than there
+are workers, and under `none` and `kyber` no more of a hardware queue than it has workers; each command that went out is what a model of
+the scheduler chooses then, which is the rule of its own page said once more, without the program; devices were busy just at each so
+many-th run of their own; each command was done once, and nothing waits. Other subcommands then read the trace, and the three lines of
+the same load without `--trace` say that all was served. With `--service` the load takes the time that its devices need at least.
+
+Prints what is wrong, and as the last line 'N passed, M failed'. Ends with 0 where none failed, 1 where one did, 2 where a word names no
+load, and 3 where the program isn't there.
+"""
+import argparse
+import subprocess
+import sys
+import time
+from collections import Counter, defaultdict
+from pathlib import Path
+
+sys.dont_write_bytecode = True
+TOP = Path(__file__).resolve().parent.parent
+PROGRAM = TOP / "crates" / "blk" / "out" / "blk"
+SECONDS = 120
+READ, WRITE = "R", "W"
+EXPIRY = {READ: 5, WRITE: 50}
+SCHEDULERS = ("none", "deadline", "kyber", "earliest")
+DEFAULTS = {"sched": "none", "submitters": "2", "workers": "2", "bios": "1000", "depth": "8", "service": "0"}
+
+# What each scheduler is asked for: one worker alone; four queues, whose devices may be busy; several workers for a queue; depths.
+SHAPES = {
+    "alone": "--submitters 3 --workers 1 --bios 150 --depth 4",
+    "alone_busy": "--submitters 3 --workers 1 --bios 150 --depth 4 --busy 3",
+    "queues": "--submitters 9 --workers 4 --bios 200 --depth 8",
+    "queues_busy": "--submitters 9 --workers 4 --bios 200 --depth 8 --busy 3",
+    "often_busy": "--submitters 4 --workers 4 --bios 200 --depth 3 --busy 2",
+    "shared": "--submitters 2 --workers 7 --bios 300 --depth 5",
+    "shared_busy": "--submitters 2 --workers 7 --bios 300 --depth 5 --busy 4",
+    "depth_one": "--submitters 5 --workers 3 --bios 60 --depth 1 --busy 5",
+    "deep": "--submitters 17 --workers 16 --bios 100 --depth 256 --busy 10",
+    "wide": "--submitters 64 --workers 16 --bios 40 --depth 64",
+}
+LOADS = {f"{sched}_{shape}": f"--sched {sched} {words}" for sched in SCHEDULERS for shape, words in SHAPES.items()}
+LOADS["kyber_tight"] = "--sched kyber --submitters 8 --workers 4 --bios 200 --depth 32 --read-target 1 --write-target 1 --busy 7"
+LOADS["kyber_loose"] = "--sched kyber --submitters 8 --workers 4 --bios 200 --depth 2 --read-target 1000 --write-target 1000"
+LOADS["deadline_batches"] = "--sched deadline --submitters 6 --workers 3 --bios 200 --depth 8 --fifo-batch 3 --writes-starved 1"
+LOADS["earliest_late_last"] = "--sched earliest --late-last --submitters 6 --workers 3 --bios 200 --depth 2 --busy 6"
+LOADS["none_served"] = "--sched none --submitters 4 --workers 4 --bios 50 --depth 64 --service 1000"
+
+
+class Fault(Exception):
+    """What is wrong with a load."""
+
+
+class Asked:
+    """What the words of a load ask for."""
+
+    def __init__(self, words):
+        given, flags, words = dict(DEFAULTS), set(), words.split()
+        while words:
+            name = words.pop(0)[2:]
+            if words and not words[0].startswith("--"):
+                given[name] = words.pop(0)
+            else:
+                flags.add(name)
+        self.sched, self.flags, self.given = given["sched"], flags, given
+        self.submitters, self.workers, self.bios, self.depth, self.service = (
+            int(given[it]) for it in ("submitters", "workers", "bios", "depth", "service")
+        )
+        self.busy = int(given["busy"]) if "busy" in given else None
+        self.queues = min(self.submitters, self.workers)
+
+    def number(self, name, default):
+        return int(self.given.get(name, default))
+
+    def queue_of(self, bio):
+        """The hardware queue at which a bio enters."""
+        return bio[0] % self.queues
+
+    def workers_of(self, queue):
+        return sum(worker % self.queues == queue for worker in range(self.workers))
+
+    def nth_bio(self, submitter, serial):
+        """What bio of this number of a submitter is: direction, first sector and sectors."""
+        return (WRITE if serial % 2 else READ, 16 * (serial * self.submitters + submitter), 8)
+
+
+class Request:
+    """A request that waits: its id, its hardware queue, its direction, first sector, and the rounds of its release and when it is due."""
+
+    def __init__(self, number, queue, direction, first, release):
+        self.number, self.queue, self.direction, self.first = number, queue, direction, first
+        self.release, self.due = release, release + EXPIRY[direction]
+
+
+class Entry:
+    """none: of what entered at the queue the first."""
+
+    serves_own = True
+
+    def __init__(self, asked):
+        pass
+
+    def pick(self, waiting, queue, now):
+        return min((it for it in waiting if it.queue == queue), key=lambda it: it.number, default=None)
+
+    def picked(self, request):
+        pass
+
+    def done(self, request, now):
+        pass
+
+    def tick(self, now):
+        pass
+
+
+class Deadline(Entry):
+    """deadline: a batch by rising sectors in one direction, up to a number of requests; then reads, until writes were passed over often
+    enough; a new batch begins with the oldest where that is due or nothing lies behind the last pick, and else behind that."""
+
+    serves_own = False
+
+    def __init__(self, asked):
+        self.batch, self.starving = asked.number("fifo-batch", 16), asked.number("writes-starved", 2)
+        self.last, self.batching, self.starved = None, 0, 0
+
+    def behind(self, waiting, direction):
+        if self.last is None or self.last.direction != direction:
+            return None
+        later = [it for it in waiting if it.direction == direction and (it.first, it.number) > (self.last.first, self.last.number)]
+        return min(later, key=lambda it: (it.first, it.number), default=None)
+
+    def pick(self, waiting, queue, now):
+        going_on = self.behind(waiting, self.last.direction) if self.last and self.batching < self.batch else None
+        if going_on:
+            self.next = (self.batching + 1, self.starved)
+            return going_on
+        oldest = {way: min((it for it in waiting if it.direction == way), key=lambda it: it.number, default=None) for way in EXPIRY}
+        if not oldest[READ] and not oldest[WRITE]:
+            return None
+        if oldest[READ] and (not oldest[WRITE] or self.starved < self.starving):
+            way, self.next = READ, (1, self.starved + bool(oldest[WRITE]))
+        else:
+            way, self.next = WRITE, (1, 0)
+        behind = self.behind(waiting, way)
+        return oldest[way] if behind is None or oldest[way].due <= now else behind
+
+    def picked(self, request):
+        self.last = request
+        self.batching, self.starved = self.next
+
+
+class Kyber(Entry):
+    """kyber: by turns of 16 reads and 8 writes at each queue, while fewer than the limit of a direction are in flight."""
+
+    turn = {READ: 16, WRITE: 8}
+    other = {READ: WRITE, WRITE: READ}
+
+    def __init__(self, asked):
+        self.depth = asked.depth
+        self.target = {READ: asked.number("read-target", 2), WRITE: asked.number("write-target", 10)}
+        self.limit = {READ: asked.depth, WRITE: asked.depth}
+        self.missed, self.flying = set(), Counter()
+        self.turns = defaultdict(lambda: (READ, 0))
+
+    def pick(self, waiting, queue, now):
+        own = {
+            way: min((it for it in waiting if it.queue == queue and it.direction == way), key=lambda it: it.number, default=None)
+            for way in EXPIRY
+            if self.flying[way] < self.limit[way]
+        }
+        way, taken = self.turns[queue]
+        if own.get(way) and taken < self.turn[way]:
+            self.next = (way, taken + 1)
+        elif own.get(self.other[way]):
+            self.next = (self.other[way], 1)
+        elif own.get(way):
+            self.next = (way, 1)
+        else:
+            return None
+        return own[self.next[0]]
+
+    def picked(self, request):
+        self.turns[request.queue] = self.next
+        self.flying[request.direction] += 1
+
+    def done(self, request, now):
+        self.flying[request.direction] -= 1
+        if now - request.release > self.target[request.direction]:
+            self.missed.add(request.direction)
+
+    def tick(self, now):
+        if now % 8:
+            return
+        for way in EXPIRY:
+            if self.other[way] in self.missed:
+                self.limit[way] = max(1, self.limit[way] // 2)
+            elif way not in self.missed:
+                self.limit[way] = min(self.depth, self.limit[way] + 1)
+        self.missed = set()
+
+
+class Earliest(Entry):
+    """earliest: the one that is due first; with late last first those that are on time."""
+
+    serves_own = False
+
+    def __init__(self, asked):
+        self.late_last = "late-last" in asked.flags
+
+    def pick(self, waiting, queue, now):
+        on_time = [it for it in waiting if it.due >= now] if self.late_last else []
+        return min(on_time or waiting, key=lambda it: (it.due, it.number), default=None)
+
+
+MODELS = {"none": Entry, "deadline": Deadline, "kyber": Kyber, "earliest": Earliest}
+
+
+def wants(holds, *what):
+    if not holds:
+        raise Fault(" ".join(map(str, what)))
+
+
+def read_events(asked, text):
+    """The events of a trace, as lists of their fields, each Release with its one bio."""
+    records = [line.split(",") for line in text.decode().splitlines()]
+    wants(len(records) > 2, "no trace was written")
+    wants(records[0][:4] == ["blk-trace", "2", str(asked.depth), str(asked.queues)], "title", records[0])
+    wants(records[1] == ["setup", "5", "50", "256", "128", ""], "setup", records[1])
+    events = []
+    for record in records[2:]:
+        if record[0] == "bio":
+            wants(events and events[-1][0] == "release" and len(events[-1]) == 6, "a bio that isn't the only one of a release:", record)
+            events[-1].append(record[1:])
+        else:
+            wants(record[0] in ("tick", "release", "issue", "done", "back"), "a load has no such event:", record)
+            events.append(record)
+    wants(records[0][4] == str(len(events)), "the title counts other events")
+    return events
+
+
+class Replay:
+    """What a trace leads to, event by event, beside the model of its scheduler."""
+
+    def __init__(self, asked):
+        self.asked, self.model = asked, MODELS[asked.sched](asked)
+        self.round, self.used = 0, set()
+        self.requests, self.waiting, self.flying = {}, {}, {}
+        self.held, self.serials, self.done_ids = defaultdict(list), Counter(), set()
+        self.runs = defaultdict(list)
+
+    def release(self, record):
+        asked, number, bio = self.asked, int(record[1]), record[6]
+        wants(number == len(self.requests) and record[2] == "1", "release", record)
+        submitter, serial, direction, first, sectors = int(bio[0]), int(bio[1]), bio[2], int(bio[3]), int(bio[4])
+        wants(submitter < asked.submitters and serial < asked.bios, "a bio of no submitter:", bio)
+        wants(serial == self.serials[submitter], "bio", bio, "where", self.serials[submitter], "comes next")
+        wants((direction, first, sectors) == asked.nth_bio(submitter, serial), "bio", bio, "is", asked.nth_bio(submitter, serial))
+        self.serials[submitter] += 1
+        self.requests[number] = self.waiting[number] = Request(number, submitter % asked.queues, direction, first, self.round)
+
+    def issue(self, record):
+        number, tag = int(record[1]), int(record[2])
+        wants(tag < self.asked.depth and tag not in self.used and len(self.used) < self.asked.depth, "above the depth:", record)
+        self.used.add(tag)
+        request = self.requests[number]
+        self.choose(request)
+        self.flying[tag] = request
+        wants(len(self.flying) <= self.asked.workers, "more in flight than there are workers:", record)
+        if self.model.serves_own:
+            own = sum(it.queue == request.queue for it in self.flying.values())
+            wants(own <= self.asked.workers_of(request.queue), "more in flight than the queue has workers:", record)
+
+    def choose(self, request):
+        """What was issued is what went back first, or else what the model picks."""
+        queue = request.queue if self.model.serves_own else 0
+        held = self.held[queue]
+        if self.model.serves_own or self.asked.queues == 1:
+            back = held[0] if held else None
+        else:
+            back = request if request in held else None
+        if back:
+            wants(request is back, "request", request.number, "went out, where", back.number, "had come back")
+            held.remove(request)
+            return
+        wants(request.number in self.waiting, "request", request.number, "doesn't wait")
+        picked = self.model.pick(list(self.waiting.values()), request.queue, self.round)
+        wants(picked is request, "round", self.round, "request", request.number, "went out, and not", picked and picked.number)
+        self.model.picked(request)
+        del self.waiting[request.number]
+
+    def end(self, record):
+        request = self.flying.pop(int(record[1]), None)
+        wants(request, "no command is in flight:", record)
+        self.runs[request.queue if self.model.serves_own else 0].append(record[0])
+        if record[0] == "back":
+            self.held[request.queue if self.model.serves_own else 0].append(request)
+        else:
+            wants(request.number not in self.done_ids, "done twice:", record)
+            self.done_ids.add(request.number)
+            self.model.done(request, self.round)
+
+    def tick(self, record):
+        wants(not self.flying, "a round ends with commands in flight")
+        wants(len(self.used) == self.asked.depth, "round", self.round, "ends with", len(self.used), "commands")
+        self.round, self.used = self.round + 1, set()
+        self.model.tick(self.round)
+
+    def take(self, record):
+        {"release": self.release, "issue": self.issue, "done": self.end, "back": self.end, "tick": self.tick}[record[0]](record)
+
+
+def look_at_backs(asked, replay):
+    """Each device was busy at every so many-th run of its own: just there, where a queue has one worker, and as often, where it has more."""
+    for queue, runs in replay.runs.items():
+        workers = asked.workers_of(queue) if replay.model.serves_own else asked.workers
+        backs = runs.count("back")
+        if asked.busy is None:
+            wants(backs == 0, "a device was busy")
+        elif workers == 1:
+            places = [place for place, it in enumerate(runs, 1) if it == "back"]
+            wants(places == list(range(asked.busy, len(runs) + 1, asked.busy)), "queue", queue, "its device was busy at the runs", places)
+        else:
+            rest = len(runs) - asked.busy * backs
+            wants(0 <= rest <= workers * (asked.busy - 1), "queue", queue, "devices were busy", backs, "times in", len(runs), "runs")
+
+
+def look_at(asked, text):
+    """Looks at a trace; a Fault says what is wrong with it."""
+    replay = Replay(asked)
+    for record in read_events(asked, text):
+        replay.take(record)
+    wants(all(replay.serials[it] == asked.bios for it in range(asked.submitters)), "bios that came in:", dict(replay.serials))
+    wants(not replay.waiting and not replay.flying and not any(replay.held.values()), "something isn't served")
+    wants(len(replay.done_ids) == asked.submitters * asked.bios, "done are", len(replay.done_ids))
+    look_at_backs(asked, replay)
+    return replay
+
+
+def answer(program, words, given=b""):
+    """What the program writes, which has to end well."""
+    ran = subprocess.run([program, *words], input=given, capture_output=True, timeout=SECONDS, check=False)
+    wants(ran.returncode == 0, " ".join(words), "ended with status", ran.returncode, ran.stderr[:200].decode(errors="replace"))
+    return ran.stdout
+
+
+def look_at_readers(program, asked, text):
+    """The subcommands over traces take it for a trace of as many commands."""
+    count = asked.submitters * asked.bios
+    wants(answer(program, ["migrate"], text) == text, "migrate writes another trace")
+    report = answer(program, ["oracle", "--trace"], text).decode().splitlines()
+    wants(report[:3] == [f"commands {count}", "waiting 0", f"depth {asked.depth}"], "the report has", report[:3])
+    wants(answer(program, ["misses"], text).decode().splitlines()[0] == f"commands {count}", "misses counts other commands")
+    wants(f"wait,all,{count},".encode() in answer(program, ["spread"], text), "spread counts other commands")
+    wants(len(answer(program, ["commands"], text).splitlines()) == count + 1, "commands lists others")
+    answer(program, ["late"], text)
+
+
+def look_at_load(program, words, readers=True):
+    """Runs a load, and looks at what it writes."""
+    asked = Asked(words)
+    begun = time.monotonic()
+    text = answer(program, ["load", "--trace", *words.split()])
+    took = time.monotonic() - begun
+    replay = look_at(asked, text)
+    served = len(replay.done_ids) * asked.service / 1e6 / asked.workers
+    wants(took >= served, "took", round(took, 3), "seconds, and its devices take", served)
+    if readers:
+        look_at_readers(program, asked, text)
+        count = asked.submitters * asked.bios
+        lines = answer(program, ["load", *words.split()]).decode()
+        wants(lines == f"accepted {count}\nserved {count}\nleft 0\n", "it says", repr(lines))
+
+
+def main(words):
+    """Looks at loads as a command; its exit status."""
+    reads = argparse.ArgumentParser(add_help=False)
+    reads.add_argument("--program", type=Path, default=PROGRAM)
+    reads.add_argument("--trace-alone", action="store_true")
+    reads.add_argument("names", nargs="*")
+    given = reads.parse_args(words)
+    for name in given.names:
+        if name not in LOADS:
+            print(f"loads.py: there is no load {name}", file=sys.stderr)
+            return 2
+    if not given.program.is_file():
+        print(f"loads.py: there is no program {given.program}", file=sys.stderr)
+        return 3
+    passed = failed = 0
+    for name in given.names or LOADS:
+        try:
+            look_at_load(given.program, LOADS[name], not given.trace_alone)
+            passed += 1
+        except (Fault, OSError, subprocess.TimeoutExpired, ValueError, KeyError, IndexError) as fault:
+            print(f"{name}: {fault}" if isinstance(fault, Fault) else f"{name}: {fault!r}")
+            failed += 1
+    print(f"{passed} passed, {failed} failed")
+    return 1 if failed else 0
+
+
+if __name__ == "__main__":
+    sys.exit(main(sys.argv[1:]))
