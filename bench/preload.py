@@ -14,7 +14,7 @@ sys.path.insert(0, str(TOP / "tools"))
 import cases  # noqa: E402 (it stands in a folder beside this one)
 
 RECORDS = 20
-SECONDS = 60
+SECONDS = 180
 
 
 class Nothing(Exception):

@@ -94,8 +94,8 @@ start() {
 
 # --- sources ---
 
-# crates_of NAME: into `crates`, the crates of the repository that it stands on, each after those below it, and then
-# itself; into `lines` what crates.txt says of each.
+# crates_of NAME..: into `crates`, the crates of the repository that these stand on, each after those below it, and then
+# themselves; into `lines` what crates.txt says of each.
 crates_of() {
   local line word
   local -A needs=() seen=() said=()
@@ -109,7 +109,7 @@ crates_of() {
     needs[$word]=${BASH_REMATCH[2]}
     said[$word]=$line
   done <"$top/crates.txt"
-  take_crate "$1"
+  for word in "$@"; do take_crate "$word"; done
   [ "${#crates[@]}" != 0 ] || fail "crates.txt lists no $1"
 }
 
