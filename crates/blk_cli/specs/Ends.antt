@@ -3,7 +3,7 @@ use Rattle.std.specs.Prelude.{◌≡◌, ◌⊎◌, ℕ, Bool, true, false, List
 use Rattle.drafts.specs.Outputs.{Stream, IsWritten, IsCut}
 use Rattle.blk_lists.specs.Sources.{Row}
 use Rattle.blk_words.specs.declared.words.Job.{Job}
-use Rattle.blk_words.specs.Asked.{Asks, AreRefused}
+use Rattle.blk_words.specs.Asked.{Asks, AreFaulty, NameNone}
 use Rattle.blk_cli.specs.declared.Ended.{Ended}
 use Rattle.blk_cli.specs.declared.NoText.{NoText}
 use Rattle.blk_cli.specs.declared.NoText.TheVariants as none
@@ -18,8 +18,8 @@ Answers words input text = (j : Job) × Asks words j × Gives j input text
 -- or there is none: the job that they ask for fails, memory ran out before they were read, or they ask for nothing
 abbrev pub IsWithout : List (List ℕ) → Option (List Row) → Bool → NoText → Type 0
 IsWithout words input failed (none.Failure f) = ((j : Job) × Asks words j × Fails j input failed f) ⊎ (f ≡ failure.Memory)
-IsWithout words input failed (none.Line text) = AreRefused words
-IsWithout words input failed none.Excluded = AreRefused words
+IsWithout words input failed (none.Line text) = AreFaulty words
+IsWithout words input failed none.Excluded = NameNone words
 
 -- the status and the line then
 abbrev pub status_without : NoText → ℕ

@@ -1,5 +1,5 @@
 -- The line and the status of each failure.
-use Rattle.std.specs.Prelude.{◌++◌, ◌∷◌, ℕ, List, [], codes, decimal}
+use Rattle.std.specs.Prelude.{◌++◌, ◌∷◌, ℕ, Bool, true, false, if◌then◌else◌, List, [], codes, decimal}
 use Rattle.std.specs.Fmt.{signed_decimal}
 use Rattle.edd_check.specs.declared.CheckFault.{CheckFault}
 use Rattle.edd_check.specs.declared.CheckFault.TheVariants as check
@@ -100,44 +100,48 @@ line_of (failure.Load f) = load_line f
 line_of failure.Write = write_fault
 line_of failure.Memory = want_of_memory
 
--- the statuses: 1 for what is refused, 3 where the reader or the writer failed or memory ran out
-abbrev pub text_status : Why → ℕ
-text_status why.Read = 3
-text_status why.Memory = 3
-text_status w = 1
+-- whether it came from outside: a read or a write that failed, or memory that ran out
+abbrev pub is_text_outside : Why → Bool
+is_text_outside why.Read = true
+is_text_outside why.Memory = true
+is_text_outside w = false
 
-abbrev pub step_status : SimWhy → ℕ
-step_status step.Memory = 3
-step_status w = 1
+abbrev pub is_sched_outside : SchedFault → Bool
+is_sched_outside setting.Memory = true
+is_sched_outside f = false
 
-abbrev pub sched_status : SchedFault → ℕ
-sched_status setting.Memory = 3
-sched_status f = 1
+abbrev pub is_step_outside : SimWhy → Bool
+is_step_outside step.Memory = true
+is_step_outside w = false
 
-abbrev pub oracle_status : OracleFault → ℕ
-oracle_status oracle.Memory = 3
-oracle_status f = 1
+abbrev pub is_oracle_outside : OracleFault → Bool
+is_oracle_outside oracle.Memory = true
+is_oracle_outside f = false
 
-abbrev pub check_status : CheckFault → ℕ
-check_status check.Memory = 3
-check_status f = 1
+abbrev pub is_check_outside : CheckFault → Bool
+is_check_outside check.Memory = true
+is_check_outside f = false
 
-abbrev pub met_check_status : MetFault → ℕ
-met_check_status met.Memory = 3
-met_check_status f = 1
+abbrev pub is_met_outside : MetFault → Bool
+is_met_outside met.Memory = true
+is_met_outside f = false
 
-abbrev pub load_status : LoadFault → ℕ
-load_status load.Memory = 3
-load_status f = 1
+abbrev pub is_load_outside : LoadFault → Bool
+is_load_outside load.Memory = true
+is_load_outside f = false
 
+abbrev pub is_outside : Failure → Bool
+is_outside (failure.Text f) = is_text_outside f.why
+is_outside (failure.Sched f) = is_sched_outside f
+is_outside (failure.Step f) = is_step_outside f.why
+is_outside (failure.Solve f) = is_oracle_outside f
+is_outside (failure.Check f) = is_check_outside f
+is_outside (failure.Met f) = is_met_outside f
+is_outside failure.NotFixed = false
+is_outside (failure.Load f) = is_load_outside f
+is_outside failure.Write = true
+is_outside failure.Memory = true
+
+-- the status: 3 for what came from outside, 1 for what is refused
 abbrev pub status_of : Failure → ℕ
-status_of (failure.Text f) = text_status f.why
-status_of (failure.Sched f) = sched_status f
-status_of (failure.Step f) = step_status f.why
-status_of (failure.Solve f) = oracle_status f
-status_of (failure.Check f) = check_status f
-status_of (failure.Met f) = met_check_status f
-status_of failure.NotFixed = 1
-status_of (failure.Load f) = load_status f
-status_of failure.Write = 3
-status_of failure.Memory = 3
+status_of f = if is_outside f then 3 else 1
