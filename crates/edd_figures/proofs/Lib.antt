@@ -1,0 +1,4 @@
+pub mod Windows
+pub mod Lateness
+pub mod Within
+pub mod Spares
