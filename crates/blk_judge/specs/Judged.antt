@@ -27,7 +27,7 @@ HasFigures commands rounds steps None = commands ≡ []
 HasFigures commands rounds steps (Some f) = AreFigures commands rounds steps f
 
 -- what is told of a legal schedule: how many of its commands are late and how many had to be, and how late the latest is and had to be
-pub record IsJudged (commands : List Command) (rounds : List ℕ) (steps : List Step) (c : Counts) (windows : List Crowd) (f : Option Figures) : Type 0 where
+pub record IsJudgement (commands : List Command) (rounds : List ℕ) (steps : List Step) (c : Counts) (windows : List Crowd) (f : Option Figures) : Type 0 where
   pub legal : IsLegal commands rounds steps
   pub misses : AreMisses commands rounds steps c.commands c.late c.unavoidable c.avoidable windows
   pub spares : HasSpares commands rounds steps c.late c.spare

@@ -14,7 +14,7 @@ miss_of (p, None) = None
 miss_of (p, Some verdict) = Some (record { command = p.0; round = p.1; lateness = p.1 - p.0.due; verdict = verdict })
 
 -- the commands of a legal schedule that have a verdict, which are the late ones, in their order; no other verdicts are right of them
-pub record AreLate (commands : List Command) (rounds : List ℕ) (steps : List Step) (misses : List Miss) : Type 0 where
+pub record AreMissed (commands : List Command) (rounds : List ℕ) (steps : List Step) (misses : List Miss) : Type 0 where
   pub legal : IsLegal commands rounds steps
   pub verdicts : List (Option Verdict)
   pub right : AreVerdicts commands rounds steps verdicts

@@ -3,7 +3,7 @@
 ghost use Rattle.std.specs.Prelude.{◌≡◌, ◌≤◌, ◌<◌, ◌↔◌, length, IfErr, IfOk};
 ghost use Rattle.edd_check.specs.Schedule.{RoundsInRange};
 ghost use Rattle.edd_oracle.specs.Input.{IsTaken};
-ghost use Rattle.blk_judge.specs.Judged.{IsRefused, IsJudged};
+ghost use Rattle.blk_judge.specs.Judged.{IsRefused, IsJudgement};
 
 use crate::legality::find_fault;
 use edd_check::{Capacity, CheckFault, Command};
@@ -35,7 +35,7 @@ pub fn judge<A: Allocator + Clone, B: Allocator>(
     requires taken { IsTaken commands.now }
     requires one_each { length rounds.now ≡ length commands.now }
     requires rounds_in { RoundsInRange rounds.now }
-    ensures judged { IfOk result (λ j. IsJudged commands.now rounds.now capacity.now j.misses.counts j.misses.windows.items j.figures) }
+    ensures judged { IfOk result (λ j. IsJudgement commands.now rounds.now capacity.now j.misses.counts j.misses.windows.items j.figures) }
     // what could have been avoided is no more than what is spare, and is something exactly where something is spare
     ensures at_most { IfOk result (λ j. j.misses.counts.avoidable ≤ j.misses.counts.spare) }
     ensures some { IfOk result (λ j. (0 < j.misses.counts.avoidable) ↔ (0 < j.misses.counts.spare)) }

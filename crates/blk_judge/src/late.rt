@@ -6,7 +6,7 @@ ghost use Rattle.edd_check.specs.declared.Command.{Command as ACommand};
 ghost use Rattle.edd_check.specs.Schedule.{RoundsInRange};
 ghost use Rattle.edd_oracle.specs.Input.{IsTaken};
 ghost use Rattle.blk_judge.specs.Judged.{IsRefused};
-ghost use Rattle.blk_judge.specs.Late.{miss_of, AreLate};
+ghost use Rattle.blk_judge.specs.Late.{miss_of, AreMissed};
 
 use crate::legality::find_fault;
 use edd_check::{Capacity, CheckFault, Command};
@@ -71,7 +71,7 @@ pub fn late_of<A: Allocator + Clone, B: Allocator>(
     requires taken { IsTaken commands.now }
     requires one_each { length rounds.now ≡ length commands.now }
     requires rounds_in { RoundsInRange rounds.now }
-    ensures late { IfOk result (λ v. AreLate commands.now rounds.now capacity.now v.items) }
+    ensures late { IfOk result (λ v. AreMissed commands.now rounds.now capacity.now v.items) }
     ensures refused { IfErr result (IsRefused commands.now rounds.now capacity.now) }
 {
     if let Err(fault) = find_fault(&alloc, commands, rounds, capacity) {
