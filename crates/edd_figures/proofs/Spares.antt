@@ -10,7 +10,7 @@ use Rattle.edd_check.specs.Met.{number_met, IsMostMet}
 use Rattle.edd_verdict.specs.declared.Verdict.{Verdict}
 use Rattle.edd_verdict.specs.Verdicts.{is_spare, AreVerdicts, arrivals_in, fulls_in, spares_in}
 use Rattle.edd_figures.specs.Misses.{number_late, IsLeastLate, HasSpares}
-use Rattle.edd_figures.proofs.Lateness.{all_commands}
+use Rattle.edd_figures.proofs.Tardy.{all_commands}
 
 abbrev pub one_if : Bool → ℕ
 one_if b = cond b 1 0
