@@ -7,7 +7,8 @@ each is as large as a request may be). Four kinds more are N commands at depth 8
 round 0), carried (as many as the rounds carry), crowded (twice as many) and sparse (one in a hundred rounds); depths is a trace
 of N rounds, in each of which a depth is set. Two are certificates of N commands at depth 8, a third of which run after all others and
 late: filled, where each lies in a window of 8 rounds that the others fill, in one of 64, and so on up to all rounds; and roomy, where each
-such window has room for one more. All come from a fixed seed, so that every run has the same bytes."""
+such window has room for one more. ran_certificate, ran_filled and ran_roomy are the same three as schedules. All come from a fixed seed,
+so that every run has the same bytes."""
 import random
 import sys
 
@@ -76,6 +77,19 @@ def filled(commands, out):
 
 def roomy(commands, out):
     windows(commands, out, 1)
+
+
+def ran(make):
+    """The certificates of a kind as schedules: another name in the title, and no bound."""
+
+    def made(commands, out):
+        lines = []
+        make(commands, lines.append)
+        out(lines[0].replace("blk-certificate", "blk-schedule"))
+        for line in lines[2:]:
+            out(line)
+
+    return made
 
 
 def command_list(commands, out):
@@ -147,6 +161,9 @@ def main():
         "commands": command_list,
         "filled": filled,
         "roomy": roomy,
+        "ran_certificate": ran(certificate),
+        "ran_filled": ran(filled),
+        "ran_roomy": ran(roomy),
         "at_once": at_once,
         "carried": carried,
         "crowded": crowded,

@@ -1,8 +1,13 @@
-"""What `late` and `misses` say of a trace, by its rule said once more without the program: who can be on time beside whom is a
-matching of commands and rounds, and a full window is looked for among all windows."""
+"""What `late` and `misses` say of a trace, and `judge` of a schedule, by its rule said once more without the program: who can be on time
+beside whom is a matching of commands and rounds, and a full window is looked for among all windows. As a program it tells what `judge`
+says of the schedule on standard input, and what `judge --each` says of it where it is given a word."""
 import csv
 import io
+import sys
 from collections import Counter, namedtuple
+
+sys.dont_write_bytecode = True
+import models  # noqa: E402
 
 Served = namedtuple("Served", "id dir first sectors release due issue")
 
@@ -167,3 +172,82 @@ def misses(trace):
         carried = sum(trace.places(at) for at in range(begin, until + 1))
         lines.append(f"window {begin} {until} commands {inside} carries {carried}")
     return "".join(f"{it}\n" for it in lines)
+
+
+# --- schedules ---
+
+
+class Ran:
+    """The commands of a good schedule, each in its round, and the places of its rounds."""
+
+    def __init__(self, text):
+        records = [it for it in csv.reader(io.StringIO(text.decode("latin-1"), newline="")) if it]
+        self.depth = int(records[0][2])
+        rows = [map(int, it) for it in records[1:]]
+        self.served = [Served(id, "", 0, 0, release, due, at) for id, release, due, at in rows]
+
+    def places(self, at):
+        """How many commands the round carries."""
+        return self.depth
+
+
+def illegal(ran):
+    """The first rule that is broken, with its number; None where the schedule is legal."""
+    return models.illegal(ran.depth, [(it.id, it.release, it.due, it.issue) for it in ran.served])
+
+
+def least(ran):
+    """The least lateness by which all can be served: a matching finds a round for each, none later than so long past its due round."""
+    late = max(it.release - it.due for it in ran.served)
+    while most_met(ran, [it._replace(due=it.due + late) for it in ran.served]) < len(ran.served):
+        late += 1
+    return late
+
+
+def latest_window(ran):
+    """The window of the latest command by earliest due first, of several that of the first round, and there of the least id."""
+    rounds, left, now = {}, set(ran.served), 0
+    while left:
+        for it in sorted((it for it in left if it.release <= now), key=lambda it: (it.due, it.id))[: ran.places(now)]:
+            rounds[it] = now
+            left.remove(it)
+        now += 1
+    last = min(rounds, key=lambda it: (it.due - rounds[it], rounds[it], it.id))
+    begin = rounds[last]
+    while begin > 0:
+        run = sum(at == begin - 1 and it.due <= last.due for it, at in rounds.items())
+        if run < ran.places(begin - 1):
+            break
+        begin -= 1
+    return begin, last.due
+
+
+def figures(ran):
+    """The last five values of a judgement. That the window proves the least is asserted."""
+    if not ran.served:
+        return ["none"] * 5
+    own, bound = max(it.issue - it.due for it in ran.served), least(ran)
+    begin, due = latest_window(ran)
+    load = sum(begin <= it.release and it.due <= due for it in ran.served)
+    assert load > sum(ran.places(at) for at in range(begin, due + bound)), (begin, due, load)
+    return [own, bound, own - bound, f"{begin} {due}", load]
+
+
+def judge(ran):
+    """What `judge` writes of a legal schedule."""
+    ran.waiting, ran.round = [], 0
+    counts = misses(ran).splitlines()
+    words = ["greatest", "least", "shortfall", "window", "load"]
+    lines = counts[:5] + [f"{word} {it}" for word, it in zip(words, figures(ran))] + counts[7:]
+    return "".join(f"{it}\n" for it in lines)
+
+
+def judge_each(ran):
+    """What `judge --each` writes of a legal schedule."""
+    rows = [(it.id, it.release, it.due, it.issue, it.issue - it.due, *verdict(ran, it)) for it in ran.served if it.issue > it.due]
+    return "".join(f"{it}\n" for it in ["id,release,due,round,lateness,verdict,from,until", *[",".join(map(str, row)) for row in rows]])
+
+
+if __name__ == "__main__":
+    asked = Ran(sys.stdin.buffer.read())
+    print(illegal(asked) or (judge_each if sys.argv[1:] else judge)(asked), end="")

@@ -11,7 +11,7 @@ trace_steps (another depth in each round, all late),
 trace_joins (requests that grow to 128 bios), trace_groups (groups of 128 bios). Command lists: scattered (rounds up to the
 limits), falling (by falling release and due), nested (each released later and due sooner than the one before), alone (each passed
 over in a window of its own) and repeated (the last id is the first). Certificates: cert_scattered and met_windows (as many
-windows as commands)."""
+windows as commands). Schedules: ran_scattered (rounds up to the limits, each with a window of its own that one fills and another misses)."""
 import random
 import sys
 
@@ -271,8 +271,19 @@ def met_windows(count, out):
         out(f"{n},{release},{release},{release + n % 2}")
 
 
+def ran_scattered(count, out):
+    """Two commands are released and due in a round: one runs there, and the other in the next round."""
+    releases = sorted({it // 2 * 2 for it, _ in far_rounds(count // 2)})
+    random.Random(8).shuffle(releases)
+    out(f"blk-schedule,1,1,{2 * len(releases)}")
+    for n, it in enumerate(releases):
+        out(f"{2 * n},{it},{it},{it + 1}")
+        out(f"{2 * n + 1},{it},{it},{it}")
+
+
 KINDS = [joins, fronts, plugs, no_room, other_way, bio_ids, sectors, handed, idle, trace_bio_ids, trace_requests]
 KINDS += [trace_falling, trace_steps, trace_joins, trace_groups, scattered, falling, nested, alone, repeated, cert_scattered, met_windows]
+KINDS += [ran_scattered]
 
 
 def main():

@@ -10,7 +10,7 @@ use Rattle.blk_text.specs.TraceForm.{SpellsTraceIn}
 use Rattle.blk_text.specs.TraceRecords.{trace_rows}
 use Rattle.blk_text.specs.Versions.{latest}
 use Rattle.blk_report.specs.declared.figures.Report.{Report}
-use Rattle.blk_report.specs.declared.missing.Crowd.{Crowd}
+use Rattle.edd_figures.specs.declared.missing.Crowd.{Crowd}
 use Rattle.blk_report.specs.declared.missing.Tally.{Tally}
 use Rattle.blk_report.specs.declared.spreading.Spreads.{Spreads}
 use Rattle.blk_report.specs.Lines.{report_text}

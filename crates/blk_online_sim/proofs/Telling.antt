@@ -14,9 +14,10 @@ use Rattle.blk_trace.specs.Legal.{IsLegalTrace}
 use Rattle.blk_trace.specs.Meaning.{commands_of, rounds_of}
 use Rattle.blk_trace.proofs.Scheduling.{legal-schedule}
 use Rattle.blk_report.specs.declared.figures.Report.{Report}
-use Rattle.blk_report.specs.declared.missing.Crowd.{Crowd}
+use Rattle.edd_figures.specs.declared.lateness.Figures.{Figures}
+use Rattle.edd_figures.specs.declared.missing.Crowd.{Crowd}
 use Rattle.blk_report.specs.Shortfall.{IsReport}
-use Rattle.blk_report.specs.Misses.{number_late, AreMisses}
+use Rattle.edd_figures.specs.Misses.{number_late, AreMisses}
 use Rattle.blk_online_sim.specs.ByRounds.{IsLeastLate, MeetsMost}
 use Rattle.blk_online_sim.specs.Told.{HasNoShortfall}
 
@@ -25,11 +26,12 @@ no_shortfall setup events r least report =
     elim report.figures [
       | inl none ↦ inl none.0
       | inr f ↦
-          let own : IsLeastLateness (commands_of setup events) (capacity_of setup events) f.greatest = least f.greatest f.is_greatest in
-          let low : f.greatest ≤ℤ f.least = own.least f.is_least.schedule f.least f.is_least.legal f.is_least.reached in
-          let high : pos 0 ≤ℤ (f.greatest -ℤ f.least) = f.not_negative in
-          let zero_is : (f.greatest -ℤ f.least) ≡ pos 0 = omega (arith, ints, low, high) in
-          inr (f.told_shortfall ∙ ap (λ (z : ℤ). Some z) zero_is)
+          let t : Figures = f.figures in
+          let own : IsLeastLateness (commands_of setup events) (capacity_of setup events) t.greatest = least t.greatest f.are.greatest in
+          let low : t.greatest ≤ℤ t.least = own.least f.are.least.schedule t.least f.are.least.legal f.are.least.reached in
+          let high : pos 0 ≤ℤ (t.greatest -ℤ t.least) = f.are.not_negative in
+          let zero_is : (t.greatest -ℤ t.least) ≡ pos 0 = omega (arith, ints, low, high) in
+          inr (f.shortfall ∙ ap (λ (z : ℤ). Some z) (f.are.shortfall ∙ zero_is))
     ]
 
 -- each command is met or late

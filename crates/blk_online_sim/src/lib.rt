@@ -16,9 +16,9 @@ ghost use Rattle.blk_sim.specs.Runs.{Runs};
 ghost use Rattle.blk_earliest.specs.Choice.{kept_of};
 ghost use Rattle.blk_online.specs.Ticks.{AtTicks};
 ghost use Rattle.blk_report.specs.declared.figures.Report.{Report};
-ghost use Rattle.blk_report.specs.declared.missing.Crowd.{Crowd};
+ghost use Rattle.edd_figures.specs.declared.missing.Crowd.{Crowd};
 ghost use Rattle.blk_report.specs.Shortfall.{IsReport};
-ghost use Rattle.blk_report.specs.Misses.{AreMisses};
+ghost use Rattle.edd_figures.specs.Misses.{AreMisses};
 ghost use Rattle.blk_online_sim.specs.Told.{HasNoShortfall};
 ghost use Rattle.blk_online_sim.specs.ByRounds.{earliest_policy, IsByRounds, HoldsNow, IsLeastLate, IsOneSchedule, MeetsMost};
 

@@ -1,13 +1,10 @@
 pub mod Within
 pub mod Leading
 pub mod Tables
-pub mod Windows
-pub mod Lateness
 pub mod Gathering
 pub mod Requests
 pub mod Halving
 pub mod Waiting
 pub mod Ranks
 pub mod Verdicts
-pub mod Spares
 pub mod Overdue

@@ -2,11 +2,9 @@
 use Rattle.std.specs.Prelude.{ℕ, ◌++◌, ◌∷◌, [], List, decimal, codes}
 use Rattle.std.specs.List.{flat_map}
 use Rattle.blk_bio.specs.Letters.{direction_text}
-use Rattle.edd_verdict.specs.declared.Verdict.{Verdict}
-use Rattle.edd_verdict.specs.declared.Verdict.TheVariants.{Arrival, Spare, Full}
+use Rattle.edd_figures.specs.Lines.{next_field, verdict_fields}
 use Rattle.blk_report.specs.declared.serving.Service.{Service}
 use Rattle.blk_report.specs.declared.delays.LateCommand.{LateCommand}
-use Rattle.blk_report.specs.SpreadText.{next_field}
 
 -- the fields of its request: the id, the direction, the first sector and how many sectors
 abbrev pub request_fields : Service → List ℕ
@@ -20,12 +18,7 @@ round_fields s = (next_field (decimal s.release) ++ next_field (decimal s.due)) 
 abbrev pub wait_fields : LateCommand → List ℕ
 wait_fields l = ((next_field (decimal l.lateness) ++ next_field (decimal l.sooner)) ++ next_field (decimal l.later)) ++ next_field (decimal l.idle)
 
--- why it was late, and the first and the last round of its window, if it has one
-abbrev pub verdict_fields : Verdict → List ℕ
-verdict_fields Arrival = codes ",arrival,,"
-verdict_fields Spare = codes ",spare,,"
-verdict_fields (Full w) = (codes ",full" ++ next_field (decimal w.from)) ++ next_field (decimal w.due)
-
+-- all of these, and why it was late
 abbrev pub late_line : LateCommand → List ℕ
 late_line l = (((request_fields l.service ++ round_fields l.service) ++ wait_fields l) ++ verdict_fields l.verdict) ++ 10 ∷ []
 

@@ -1,25 +1,7 @@
--- A report and a table of reports as texts.
-use Rattle.std.specs.Prelude.{ℕ, ◌++◌, ◌∷◌, [], List, Option, Some, None, ℤ, decimal, codes}
-use Rattle.std.specs.Fmt.{signed_decimal}
-use Rattle.edd_check.specs.declared.Window.{Window}
+-- A report as text.
+use Rattle.std.specs.Prelude.{ℕ, ◌++◌, List, decimal, codes}
+use Rattle.edd_figures.specs.Lines.{late_text, count_text, window_text, figure_line}
 use Rattle.blk_report.specs.declared.figures.Report.{Report}
-
--- a figure, or `none` where there is none
-abbrev pub late_text : Option ℤ → List ℕ
-late_text None = codes "none"
-late_text (Some z) = signed_decimal z
-
-abbrev pub count_text : Option ℕ → List ℕ
-count_text None = codes "none"
-count_text (Some n) = decimal n
-
-abbrev pub window_text : Option Window → List ℕ
-window_text None = codes "none"
-window_text (Some w) = decimal w.from ++ 32 ∷ decimal w.due
-
--- a word, a space, its value and a line's end
-abbrev pub figure_line : List ℕ → List ℕ → List ℕ
-figure_line word value = ((word ++ 32 ∷ []) ++ value) ++ 10 ∷ []
 
 -- the eight lines of a report
 abbrev pub report_text : Report → List ℕ

@@ -1,13 +1,9 @@
 -- What was late as text.
-use Rattle.std.specs.Prelude.{ℕ, ◌++◌, ◌∷◌, [], List, decimal, codes}
+use Rattle.std.specs.Prelude.{ℕ, ◌++◌, List, decimal, codes}
 use Rattle.std.specs.List.{flat_map}
-use Rattle.blk_report.specs.declared.missing.Crowd.{Crowd}
+use Rattle.edd_figures.specs.declared.missing.Crowd.{Crowd}
+use Rattle.edd_figures.specs.Lines.{figure_line, crowd_line}
 use Rattle.blk_report.specs.declared.missing.Tally.{Tally}
-use Rattle.blk_report.specs.Lines.{figure_line}
-
--- the line of a window: its first and its last round, how many commands lie in it, and how many its rounds carry
-abbrev pub crowd_line : Crowd → List ℕ
-crowd_line c = (((((((codes "window " ++ decimal c.window.from) ++ 32 ∷ []) ++ decimal c.window.due) ++ codes " commands ") ++ decimal c.commands) ++ codes " carries ") ++ decimal c.carries) ++ 10 ∷ []
 
 -- the seven lines of the numbers
 abbrev pub tally_text : Tally → List ℕ

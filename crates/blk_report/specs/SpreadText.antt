@@ -3,11 +3,7 @@ use Rattle.std.specs.Prelude.{ℕ, ◌++◌, ◌∷◌, [], List, decimal, codes
 use Rattle.blk_report.specs.declared.spreading.Quantiles.{Quantiles}
 use Rattle.blk_report.specs.declared.spreading.ByDir.{ByDir}
 use Rattle.blk_report.specs.declared.spreading.Spreads.{Spreads}
-use Rattle.blk_report.specs.Lines.{late_text}
-
--- one more field of a record
-abbrev pub next_field : List ℕ → List ℕ
-next_field text = 44 ∷ text
+use Rattle.edd_figures.specs.Lines.{late_text, next_field}
 
 -- the record of some quantiles: of what, of which direction, how many numbers there are, and the quantiles
 abbrev pub quantiles_row : List ℕ → List ℕ → Quantiles → List ℕ

@@ -3,7 +3,7 @@ use Rattle.std.specs.Prelude.{ℕ, ◌≡◌, ◌++◌, ◌-◌, ◌∷◌, [], 
 use Rattle.std.proofs.Math.ListN.{replicate}
 use Rattle.blk_report.specs.declared.figures.Report.{Report}
 use Rattle.blk_report.specs.Comparison.{IsFirstBest, HasNoBest}
-use Rattle.blk_report.specs.Lines.{late_text}
+use Rattle.edd_figures.specs.Lines.{late_text}
 
 -- bytes at the left and at the right of so many places; more of them are not cut
 abbrev pub left_in : ℕ → List ℕ → List ℕ

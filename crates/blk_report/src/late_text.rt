@@ -1,27 +1,19 @@
 //! The late commands as text.
 
-ghost use Rattle.std.specs.Prelude.{◌≡◌, ◌++◌, IfOk, IfErr, OnOk, decimal};
+ghost use Rattle.std.specs.Prelude.{◌≡◌, ◌++◌, IfOk, IfErr, OnOk};
 ghost use Rattle.std.specs.List.{flat_map};
 ghost use Rattle.std.specs.Io.KnownBytes.{Appends};
 ghost use Rattle.drafts.specs.Parts.{AppendsPart};
 ghost use Rattle.blk_bio.specs.Letters.{direction_text};
-ghost use Rattle.blk_report.specs.SpreadText.{next_field};
-ghost use Rattle.blk_report.specs.LateText.{request_fields, round_fields, wait_fields, verdict_fields, late_line, late_lines};
+ghost use Rattle.edd_figures.specs.Lines.{next_field};
+ghost use Rattle.blk_report.specs.LateText.{request_fields, round_fields, wait_fields, late_line, late_lines};
 
 use crate::{LateCommand, Service};
 use blk_bio::Dir;
 use drafts::{Draft, WriteFault, write_whole};
-use edd_verdict::Verdict;
+use edd_figures::lines::{push_field, push_verdict};
 use std::alloc::{AllocError, Global};
 use std::io::Write;
-
-/// Adds one more field, of a number.
-fn push_number(draft: &mut Draft, number: u64) -> Result<(), AllocError>
-    ensures { OnOk result (draft.new ≡ draft.old ++ next_field (decimal number)) }
-{
-    draft.text(b",")?;
-    draft.number(number)
-}
 
 /// Adds one more field, of a direction.
 fn push_dir(draft: &mut Draft, dir: Dir) -> Result<(), AllocError>
@@ -36,42 +28,27 @@ fn push_request(draft: &mut Draft, service: &Service) -> Result<(), AllocError>
 {
     draft.number(service.id)?;
     push_dir(draft, service.dir)?;
-    push_number(draft, service.first)?;
-    push_number(draft, service.sectors)
+    push_field(draft, service.first)?;
+    push_field(draft, service.sectors)
 }
 
 /// Adds the fields of its rounds.
 fn push_rounds(draft: &mut Draft, service: &Service) -> Result<(), AllocError>
     ensures { OnOk result (draft.new ≡ draft.old ++ round_fields service.now) }
 {
-    push_number(draft, service.release)?;
-    push_number(draft, service.due)?;
-    push_number(draft, service.issue)
+    push_field(draft, service.release)?;
+    push_field(draft, service.due)?;
+    push_field(draft, service.issue)
 }
 
 /// Adds the fields of what it waited for.
 fn push_wait(draft: &mut Draft, late: &LateCommand) -> Result<(), AllocError>
     ensures { OnOk result (draft.new ≡ draft.old ++ wait_fields late.now) }
 {
-    push_number(draft, late.lateness)?;
-    push_number(draft, late.sooner)?;
-    push_number(draft, late.later)?;
-    push_number(draft, late.idle)
-}
-
-/// Adds the fields of its verdict.
-fn push_verdict(draft: &mut Draft, verdict: Verdict) -> Result<(), AllocError>
-    ensures { OnOk result (draft.new ≡ draft.old ++ verdict_fields verdict) }
-{
-    match verdict {
-        Verdict::Arrival => draft.text(b",arrival,,"),
-        Verdict::Spare => draft.text(b",spare,,"),
-        Verdict::Full(window) => {
-            draft.text(b",full")?;
-            push_number(draft, window.from)?;
-            push_number(draft, window.due)
-        }
-    }
+    push_field(draft, late.lateness)?;
+    push_field(draft, late.sooner)?;
+    push_field(draft, late.later)?;
+    push_field(draft, late.idle)
 }
 
 /// Adds the line of a command.

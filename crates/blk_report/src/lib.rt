@@ -6,11 +6,8 @@
 //! proves the least.
 #![tactic(auto)]
 
-ghost use Rattle.std.specs.Prelude.{◌≡◌, IfOk};
-ghost use Rattle.edd_check.specs.Schedule.{IsLegal};
-ghost use Rattle.edd_oracle.specs.Answer.{IsBest};
-ghost use Rattle.blk_trace.specs.Laws.{AreBounded};
-ghost use Rattle.blk_report.specs.Shortfall.{IsReport, HasFigures};
+ghost use Rattle.std.specs.Prelude.{◌≡◌, Some, IfOk};
+ghost use Rattle.blk_report.specs.Shortfall.{IsReport};
 
 mod below;
 mod comparison;
@@ -32,40 +29,30 @@ pub use crate::figures::Report;
 pub use crate::late_text::{drafted as late_lines, write_late};
 pub use crate::lines::{drafted as report_lines, write};
 pub use crate::misses_text::{drafted as misses_lines, write_misses};
-pub use crate::missing::{Crowd, Missed, Tally, misses};
+pub use crate::missing::{Missed, Tally, misses};
 pub use crate::serving::{Service, services};
 pub use crate::spread_text::{drafted as spread_lines, write_spread};
 pub use crate::spreading::{ByDir, Quantiles, Spreads, spread};
 pub use crate::table::{drafted as table_lines, write_table};
 use blk_trace::Trace;
-use edd_check::{Capacity, Command, greatest_lateness, load};
-use edd_oracle::{Answer, solve};
+use edd_figures::{Figures, figures_of};
 use std::alloc::{AllocError, Allocator};
 
-/// The report with the figures of the schedule of its commands, of which the oracle gave this answer.
-fn with_figures<A: Allocator, B: Allocator>(
-    report: Report,
-    commands: &[Command],
-    rounds: &[u64],
-    capacity: &Capacity<B>,
-    answer: &Answer<A>,
-) -> Report
-    requires scheduled { IsLegal commands.now rounds.now capacity.now }
-    requires bounded { AreBounded commands.now rounds.now }
-    requires best { IsBest commands.now capacity.now answer.now.rounds.items answer.now.lateness answer.now.window }
-    ensures figures { HasFigures commands.now rounds.now capacity.now result }
+/// The report with these figures.
+fn with_figures(report: Report, figures: Figures) -> Report
+    ensures greatest { result.greatest ≡ Some figures.greatest }
+    ensures least { result.least ≡ Some figures.least }
+    ensures shortfall { result.shortfall ≡ Some figures.shortfall }
+    ensures window { result.window ≡ Some figures.window }
+    ensures load { result.load ≡ Some figures.load }
     ensures counts { (result.commands ≡ report.commands) × (result.waiting ≡ report.waiting) × (result.depth ≡ report.depth) }
 {
-    let _ = capacity.at(0);
-    let Some(greatest) = greatest_lateness(commands, rounds) else {
-        unreachable!()
-    };
     Report {
-        greatest: Some(greatest),
-        least: Some(answer.lateness),
-        shortfall: Some(greatest - answer.lateness),
-        window: Some(answer.window),
-        load: Some(load(commands, answer.window)),
+        greatest: Some(figures.greatest),
+        least: Some(figures.least),
+        shortfall: Some(figures.shortfall),
+        window: Some(figures.window),
+        load: Some(figures.load),
         ..report
     }
 }
@@ -89,16 +76,8 @@ pub fn report<A: Allocator + Clone>(trace: &Trace<A>) -> Result<Report, AllocErr
         load: None,
     };
     let alloc = commands.allocator().clone()?;
-    match solve(alloc, commands.as_slice(), &capacity) {
-        Ok(None) => Ok(counts),
-        Ok(Some(answer)) => Ok(with_figures(
-            counts,
-            commands.as_slice(),
-            rounds.as_slice(),
-            &capacity,
-            &answer,
-        )),
-        // a trace's commands are within the limits of the oracle, so want of memory is all that it refuses them for
-        Err(_) => Err(AllocError),
+    match figures_of(alloc, commands.as_slice(), rounds.as_slice(), &capacity)? {
+        Some(figures) => Ok(with_figures(counts, figures)),
+        None => Ok(counts),
     }
 }

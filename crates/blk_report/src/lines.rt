@@ -1,93 +1,15 @@
 //! A report as text.
 
-ghost use Rattle.std.specs.Prelude.{◌≡◌, ◌++◌, IfOk, IfErr, OnOk, decimal, codes};
+ghost use Rattle.std.specs.Prelude.{◌≡◌, IfOk, IfErr, OnOk};
 ghost use Rattle.std.specs.Io.KnownBytes.{Appends};
 ghost use Rattle.drafts.specs.Parts.{AppendsPart};
-ghost use Rattle.blk_report.specs.Lines.{late_text, count_text, window_text, figure_line, report_text};
+ghost use Rattle.blk_report.specs.Lines.{report_text};
 
 use crate::Report;
 use drafts::{Draft, WriteFault, write_whole};
-use edd_check::Window;
+use edd_figures::lines::{push_late_line, push_number_line, push_window_lines};
 use std::alloc::{AllocError, Global};
 use std::io::Write;
-
-/// Adds a lateness, or `none`.
-pub(crate) fn push_late(
-    draft: &mut Draft,
-    alloc: Global,
-    late: Option<i64>,
-) -> Result<(), AllocError>
-    ensures { OnOk result (draft.new ≡ draft.old ++ late_text late) }
-{
-    match late {
-        Some(late) => draft.signed(alloc, late),
-        None => draft.text(b"none"),
-    }
-}
-
-/// Adds a count, or `none`.
-fn push_count(draft: &mut Draft, count: Option<u64>) -> Result<(), AllocError>
-    ensures { OnOk result (draft.new ≡ draft.old ++ count_text count) }
-{
-    match count {
-        Some(count) => draft.number(count),
-        None => draft.text(b"none"),
-    }
-}
-
-/// Adds the two rounds of a window with a space between, or `none`.
-fn push_window(draft: &mut Draft, window: Option<Window>) -> Result<(), AllocError>
-    ensures { OnOk result (draft.new ≡ draft.old ++ window_text window) }
-{
-    match window {
-        Some(window) => {
-            draft.number(window.from)?;
-            draft.text(b" ")?;
-            draft.number(window.due)
-        }
-        None => draft.text(b"none"),
-    }
-}
-
-/// Adds the line of a number.
-pub(crate) fn push_number_line(
-    draft: &mut Draft,
-    word: &[u8],
-    number: u64,
-) -> Result<(), AllocError>
-    ensures { OnOk result (draft.new ≡ draft.old ++ figure_line word.now (decimal number)) }
-{
-    draft.text(word)?;
-    draft.text(b" ")?;
-    draft.number(number)?;
-    draft.text(b"\n")
-}
-
-/// Adds the line of a lateness.
-fn push_late_line(
-    draft: &mut Draft,
-    alloc: Global,
-    word: &[u8],
-    late: Option<i64>,
-) -> Result<(), AllocError>
-    ensures { OnOk result (draft.new ≡ draft.old ++ figure_line word.now (late_text late)) }
-{
-    draft.text(word)?;
-    draft.text(b" ")?;
-    push_late(draft, alloc, late)?;
-    draft.text(b"\n")
-}
-
-/// Adds the lines of the window and of its load.
-fn push_window_lines(draft: &mut Draft, report: &Report) -> Result<(), AllocError>
-    ensures { OnOk result (draft.new ≡ (draft.old ++ figure_line (codes "window") (window_text report.now.window)) ++ figure_line (codes "load") (count_text report.now.load)) }
-{
-    draft.text(b"window ")?;
-    push_window(draft, report.window)?;
-    draft.text(b"\nload ")?;
-    push_count(draft, report.load)?;
-    draft.text(b"\n")
-}
 
 /// The eight lines of a report.
 pub fn drafted(alloc: Global, report: &Report) -> Result<Vec<u8>, AllocError>
@@ -100,7 +22,7 @@ pub fn drafted(alloc: Global, report: &Report) -> Result<Vec<u8>, AllocError>
     push_late_line(&mut draft, alloc, b"greatest", report.greatest)?;
     push_late_line(&mut draft, alloc, b"least", report.least)?;
     push_late_line(&mut draft, alloc, b"shortfall", report.shortfall)?;
-    push_window_lines(&mut draft, report)?;
+    push_window_lines(&mut draft, report.window, report.load)?;
     draft.finish()
 }
 

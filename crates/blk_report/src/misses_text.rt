@@ -1,41 +1,15 @@
 //! What was late as text.
 
 ghost use Rattle.std.specs.Prelude.{◌≡◌, ◌++◌, IfOk, IfErr, OnOk};
-ghost use Rattle.std.specs.List.{flat_map};
 ghost use Rattle.std.specs.Io.KnownBytes.{Appends};
 ghost use Rattle.drafts.specs.Parts.{AppendsPart};
-ghost use Rattle.blk_report.specs.MissesText.{crowd_line, tally_text, misses_text};
+ghost use Rattle.blk_report.specs.MissesText.{tally_text, misses_text};
 
-use crate::lines::push_number_line;
-use crate::{Crowd, Missed, Tally};
+use crate::{Missed, Tally};
 use drafts::{Draft, WriteFault, write_whole};
+use edd_figures::lines::{push_crowds, push_number_line};
 use std::alloc::{AllocError, Allocator, Global};
 use std::io::Write;
-
-/// Adds the line of a window.
-fn push_crowd(draft: &mut Draft, crowd: &Crowd) -> Result<(), AllocError>
-    ensures { OnOk result (draft.new ≡ draft.old ++ crowd_line crowd.now) }
-{
-    draft.text(b"window ")?;
-    draft.number(crowd.window.from)?;
-    draft.text(b" ")?;
-    draft.number(crowd.window.due)?;
-    draft.text(b" commands ")?;
-    draft.number(crowd.commands)?;
-    draft.text(b" carries ")?;
-    draft.number(crowd.carries)?;
-    draft.text(b"\n")
-}
-
-/// Adds the lines of the windows.
-fn push_crowds(draft: &mut Draft, crowds: &[Crowd]) -> Result<(), AllocError>
-    ensures { OnOk result (draft.new ≡ draft.old ++ flat_map (λ c. crowd_line c) crowds.now) }
-{
-    for crowd in crowds {
-        push_crowd(draft, crowd)?;
-    }
-    Ok(())
-}
 
 /// Adds the lines of the numbers.
 fn push_tally(draft: &mut Draft, tally: &Tally) -> Result<(), AllocError>

@@ -3,12 +3,12 @@
 ghost use Rattle.std.specs.Prelude.{◌≡◌, ◌++◌, IfOk, IfErr, OnOk, decimal};
 ghost use Rattle.std.specs.Io.KnownBytes.{Appends};
 ghost use Rattle.drafts.specs.Parts.{AppendsPart};
-ghost use Rattle.blk_report.specs.Lines.{late_text};
-ghost use Rattle.blk_report.specs.SpreadText.{next_field, quantiles_row, quantiles_rows, spread_text};
+ghost use Rattle.edd_figures.specs.Lines.{late_text, next_field};
+ghost use Rattle.blk_report.specs.SpreadText.{quantiles_row, quantiles_rows, spread_text};
 
-use crate::lines::push_late;
 use crate::{ByDir, Quantiles, Spreads};
 use drafts::{Draft, WriteFault, write_whole};
+use edd_figures::lines::push_late;
 use std::alloc::{AllocError, Global};
 use std::io::Write;
 

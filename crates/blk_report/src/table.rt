@@ -3,7 +3,7 @@
 ghost use Rattle.std.specs.Prelude.{◌≡◌, ◌⊎◌, ◌++◌, IfOk, IfErr, IfSome, OnOk, ◌<◌, decimal, length, map, List, ℕ};
 ghost use Rattle.std.specs.Io.KnownBytes.{Appends};
 ghost use Rattle.drafts.specs.Parts.{AppendsPart};
-ghost use Rattle.blk_report.specs.Lines.{late_text};
+ghost use Rattle.edd_figures.specs.Lines.{late_text};
 ghost use Rattle.blk_report.specs.Table.{right_in, row_line, lines_upto, best_line, IsTable};
 
 use crate::{Report, compare};

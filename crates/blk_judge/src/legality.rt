@@ -1,0 +1,34 @@
+//! Whether a schedule is legal.
+
+ghost use Rattle.std.specs.Prelude.{◌≡◌, length, IfErr, OnOk};
+ghost use Rattle.edd_check.specs.Schedule.{IsLegal, CommandsInRange, RoundsInRange};
+ghost use Rattle.blk_judge.specs.Judged.{IsRefused};
+
+use edd_check::{Capacity, CheckFault, Command, Window, check};
+use std::alloc::Allocator;
+
+/// Nothing where the schedule is legal, and else the first fault of its rounds, as the check tells it. What the check says of rounds
+/// that are legal depends on a claim; here nothing is claimed of them.
+pub(crate) fn find_fault<A: Allocator, B: Allocator>(
+    alloc: A,
+    commands: &[Command],
+    rounds: &[u64],
+    capacity: &Capacity<B>,
+) -> Result<(), CheckFault>
+    requires one_each { length rounds.now ≡ length commands.now }
+    requires commands_in { CommandsInRange commands.now }
+    requires rounds_in { RoundsInRange rounds.now }
+    ensures legal { OnOk result (IsLegal commands.now rounds.now capacity.now) }
+    ensures refused { IfErr result (IsRefused commands.now rounds.now capacity.now) }
+{
+    let window = Window { from: 0, due: 0 };
+    match check(alloc, commands, capacity, 0, rounds, window) {
+        Ok(()) => Ok(()),
+        Err(CheckFault::WrongLateness(_)) => Ok(()),
+        Err(CheckFault::NotCrowded(_)) => Ok(()),
+        Err(CheckFault::BeforeRelease(id)) => Err(CheckFault::BeforeRelease(id)),
+        Err(CheckFault::Memory) => Err(CheckFault::Memory),
+        Err(CheckFault::OverDepth(round)) => Err(CheckFault::OverDepth(round)),
+        Err(CheckFault::Length) => unreachable!(),
+    }
+}

@@ -1,0 +1,15 @@
+//! A schedule of anyone's, judged: whether it is legal, how many of its commands are late and how many of these had to be, how late
+//! the latest one is and had to be, and why each late command is late.
+//!
+//! Commands are unit jobs with release and due rounds on as many machines as a round has (Pinedo, Scheduling: Lmax and the number of
+//! tardy jobs). Whoever made the schedule, what is told of it is measured against all legal schedules of the same commands.
+#![tactic(auto)]
+
+mod judging;
+mod legality;
+mod missing;
+mod texts;
+
+pub use crate::judging::{Judged, judge};
+pub use crate::missing::{Miss, late_of};
+pub use crate::texts::{judged_lines, late_lines};

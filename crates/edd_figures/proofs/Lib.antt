@@ -1,0 +1,4 @@
+pub mod Windows
+pub mod Tardy
+pub mod Within
+pub mod Spares

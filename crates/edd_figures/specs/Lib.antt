@@ -1,0 +1,4 @@
+pub mod Figures
+pub mod Misses
+pub mod Lines
+pub mod Inside

@@ -1,0 +1,38 @@
+-- The figures of a schedule as text.
+use Rattle.std.specs.Prelude.{ℕ, ◌++◌, ◌∷◌, [], List, Option, Some, None, ℤ, decimal, codes}
+use Rattle.std.specs.Fmt.{signed_decimal}
+use Rattle.edd_check.specs.declared.Window.{Window}
+use Rattle.edd_verdict.specs.declared.Verdict.{Verdict}
+use Rattle.edd_verdict.specs.declared.Verdict.TheVariants.{Arrival, Spare, Full}
+use Rattle.edd_figures.specs.declared.missing.Crowd.{Crowd}
+
+-- a figure, or `none` where there is none
+abbrev pub late_text : Option ℤ → List ℕ
+late_text None = codes "none"
+late_text (Some z) = signed_decimal z
+
+abbrev pub count_text : Option ℕ → List ℕ
+count_text None = codes "none"
+count_text (Some n) = decimal n
+
+abbrev pub window_text : Option Window → List ℕ
+window_text None = codes "none"
+window_text (Some w) = decimal w.from ++ 32 ∷ decimal w.due
+
+-- a word, a space, its value and a line's end
+abbrev pub figure_line : List ℕ → List ℕ → List ℕ
+figure_line word value = ((word ++ 32 ∷ []) ++ value) ++ 10 ∷ []
+
+-- the line of a window: its first and its last round, how many commands lie in it, and how many its rounds carry
+abbrev pub crowd_line : Crowd → List ℕ
+crowd_line c = (((((((codes "window " ++ decimal c.window.from) ++ 32 ∷ []) ++ decimal c.window.due) ++ codes " commands ") ++ decimal c.commands) ++ codes " carries ") ++ decimal c.carries) ++ 10 ∷ []
+
+-- one more field of a record
+abbrev pub next_field : List ℕ → List ℕ
+next_field text = 44 ∷ text
+
+-- why a command was late, and the first and the last round of its window, if it has one
+abbrev pub verdict_fields : Verdict → List ℕ
+verdict_fields Arrival = codes ",arrival,,"
+verdict_fields Spare = codes ",spare,,"
+verdict_fields (Full w) = (codes ",full" ++ next_field (decimal w.from)) ++ next_field (decimal w.due)
