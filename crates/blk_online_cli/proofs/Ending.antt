@@ -32,6 +32,7 @@ text_fails (why.Rule r) e = cc e
 text_fails why.Count e = cc e
 text_fails why.TooLong e = cc e
 text_fails why.RepeatedId e = cc e
+text_fails why.Order e = cc e
 text_fails why.Read e = cc e
 text_fails why.Memory e = cc e
 

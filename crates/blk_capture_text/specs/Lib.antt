@@ -1,0 +1,5 @@
+pub mod Steps
+pub mod Captures
+pub mod Taking
+pub mod TableText
+pub mod SummaryText
