@@ -1,5 +1,5 @@
 -- Requests as a schedule that may be written.
-use Rattle.std.proofs.Common.{◌≡◌, ◌≢◌, ◌+◌, ◌<◌, ◌≤◌, ◌^◌, ◌∙◌, ℕ, List, length, map, sym, ap, arith, get_or}
+use Rattle.std.proofs.Common.{◌≡◌, ◌≢◌, ◌+◌, ◌-◌, ◌<◌, ◌≤◌, ◌^◌, ◌∙◌, ℕ, suc, cond, Bool, true, false, List, [], ◌∷◌, length, map, sym, ap, arith, get_or}
 use Rattle.std.specs.Prelude.{All}
 use Rattle.std.proofs.lemmas.List.{length-map}
 use Rattle.edd_check.specs.Schedule.{RoundsInRange}
@@ -7,7 +7,13 @@ use Rattle.edd_check.specs.Limits.{most_commands}
 use Rattle.edd_check.specs.declared.Command.{Command}
 use Rattle.blk_bio.specs.declared.bio.Dir.TheVariants.{Read}
 use Rattle.blk_capture.specs.Counting.{AreSolvable, IsCounted}
-use Rattle.blk_capture.specs.Requests.{served_of}
+use Rattle.blk_capture.specs.Fates.{told}
+use Rattle.blk_capture.specs.Requests.{AreInOrder, IsFirstFall, served_of}
+use Rattle.blk_capture.specs.declared.fates.Fate.{Fate}
+use Rattle.blk_capture.specs.declared.record.Action.{Action}
+use Rattle.blk_capture.specs.declared.record.Action.TheVariants.{Other}
+use Rattle.blk_capture.specs.declared.record.Op.TheVariants.{Nothing}
+use Rattle.blk_capture.specs.declared.record.Record.{Record}
 use Rattle.blk_capture.specs.declared.counting.Served.{Served}
 use Rattle.blk_capture.specs.declared.requests.Request.{Request}
 use Rattle.blk_lists.specs.Commands.{IsCommandInRange}
@@ -50,3 +56,26 @@ may_be_written requests commands rounds few c solvable within =
         let release = both.0 in
         let due = both.1 in
         (omega (arith, id, l, few, each, long), omega (arith, release), omega (arith, due))
+
+-- no more records are told of than there are
+
+one_more : (b : Bool) (n m : ℕ) → n ≤ m → cond b (suc n) n ≤ suc m
+one_more true n m l = omega (arith, l)
+one_more false n m l = omega (arith, l)
+
+pub told_few : (p : Action → Fate → Bool) (records : List Record) (fates : List Fate) → told p records fates ≤ length records
+unfolding told
+told_few p [] fates = omega arith
+told_few p (r ∷ records) [] = omega arith
+told_few p (r ∷ records) (f ∷ fates) = one_more (p r.action f) (told p records fates) (length records) (told_few p records fates)
+
+-- times that don't fall have no first fall
+pub no_fall : (records : List Record) (p : ℕ) → AreInOrder records (length records) → IsFirstFall records p → ⊥
+no_fall records p h f =
+    let d : Record = record { time = 0; cpu = 0; action = Other; pid = 0; op = Nothing; first = 0; sectors = 0 } in
+    let there = f.in_list in
+    let some = f.some in
+    let at : p - 1 + 1 ≡ p = omega (arith, some) in
+    let falls = f.falls d in
+    let up = h (p - 1) d (omega (arith, at, there)) in
+    omega (arith, falls, rw at at up)

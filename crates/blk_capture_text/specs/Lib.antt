@@ -3,3 +3,4 @@ pub mod Captures
 pub mod Taking
 pub mod TableText
 pub mod SummaryText
+pub mod Imports

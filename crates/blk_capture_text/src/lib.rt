@@ -1,6 +1,7 @@
 //! Captures as texts: one is read as records, and what they tell of requests is written, as a schedule, a table and a summary.
 #![tactic(auto)]
 
+mod importing;
 pub mod laws;
 mod reading;
 mod schedule;
@@ -8,10 +9,9 @@ mod step;
 mod summary_text;
 mod table_text;
 
+pub use crate::importing::{Asked, ImportFault, first_time, import};
 pub use crate::reading::{MAX_RECORDS, read_capture};
 pub use crate::schedule::schedule_of;
 pub use crate::step::STEP;
-pub use crate::summary_text::{
-    Counts, count_fates, notice_text, summary_text, write_summary,
-};
+pub use crate::summary_text::{Counts, count_fates, notice_text, summary_text, write_summary};
 pub use crate::table_text::{table_text, write_table};
