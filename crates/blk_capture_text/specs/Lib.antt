@@ -4,3 +4,4 @@ pub mod Taking
 pub mod TableText
 pub mod SummaryText
 pub mod Imports
+pub mod Shown
