@@ -1,3 +1,3 @@
 pub mod StepLaws
 pub mod CaptureLaws
-pub mod Importing
+pub mod Imported

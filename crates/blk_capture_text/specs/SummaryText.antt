@@ -5,7 +5,7 @@ use Rattle.blk_capture.specs.declared.fates.Fate.{Fate}
 use Rattle.blk_capture.specs.declared.record.Passed.TheVariants as passed
 use Rattle.blk_capture.specs.declared.summary.Spread.{Spread}
 use Rattle.blk_capture.specs.declared.summary.Summary.{Summary}
-use Rattle.blk_capture_text.specs.declared.summary_text.Counts.{Counts}
+use Rattle.blk_capture_text.specs.declared.numbers.Counts.{Counts}
 
 -- how many records were not matched, and how many passed over, by the reason
 abbrev pub counts_of : List Fate → Counts

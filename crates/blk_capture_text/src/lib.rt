@@ -3,17 +3,17 @@
 
 mod importing;
 pub mod laws;
+mod numbers;
 mod reading;
 mod schedule;
 mod shown;
 mod step;
-mod summary_text;
-mod table_text;
+mod table;
 
 pub use crate::importing::{Asked, ImportFault, first_time, import};
+pub use crate::numbers::{Counts, count_fates, notice_text, summary_text, write_summary};
 pub use crate::reading::{MAX_RECORDS, read_capture};
 pub use crate::schedule::schedule_of;
 pub use crate::shown::{Shown, shown_text};
 pub use crate::step::STEP;
-pub use crate::summary_text::{Counts, count_fates, notice_text, summary_text, write_summary};
-pub use crate::table_text::{table_text, write_table};
+pub use crate::table::{table_text, write_table};

@@ -6,9 +6,9 @@ ghost use Rattle.blk_capture.specs.Requests.{AreTimed};
 ghost use Rattle.blk_capture_text.specs.Shown.{IsShown, IsScheduleText, IsTableText, IsSummaryText};
 
 use crate::importing::first_time;
+use crate::numbers::{count_fates, summary_text};
 use crate::schedule::schedule_of;
-use crate::summary_text::{count_fates, summary_text};
-use crate::table_text::table_text;
+use crate::table::table_text;
 use blk_capture::{Matched, Record, Request, rows_of, summarize};
 use blk_lists::schedule_text;
 use std::alloc::{AllocError, Global};
