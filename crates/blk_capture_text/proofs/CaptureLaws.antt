@@ -1,5 +1,5 @@
 -- The laws of captures.
-use Rattle.std.proofs.Common.{◌≡◌, ◌+◌, ◌<◌, ◌≤◌, ◌∙◌, ℕ, zero, suc, List, [], ◌∷◌, ◌++◌, length, map, append-nil, Bool, true, false, Option, Some, None, refl, sym, ap, subst, inl, inr, arith, codes, get_or}
+use Rattle.std.proofs.Common.{◌≡◌, ◌+◌, ◌<◌, ◌≤◌, ◌∙◌, ℕ, zero, suc, List, [], ◌∷◌, ◌++◌, length, map, append-nil, Bool, true, false, Option, Some, None, refl, sym, ap, subst, inl, inr, arith, codes, get_or, add-one}
 use Rattle.std.specs.Prelude.{IfSome, ◌⊎◌}
 use Rattle.std.proofs.lemmas.List.{length-map, map-append, get_or-map}
 use Rattle.csv.specs.Reading.{default_config, records, strip_bom}
@@ -86,7 +86,7 @@ last_after (r ∷ n ∷ s) v = last_after (n ∷ s) v
 
 -- times don't fall
 
-rising : (s vs : List Row) → AllFit step_after with_next s vs → (k : ℕ) (d : Row) → k + 1 < length vs → time_at (get_or vs k d) ≤ time_at (get_or vs (k + 1) d)
+rising : (s vs : List Row) → AllFit step_after with_next s vs → (k : ℕ) (d : Row) → suc k < length vs → time_at (get_or vs k d) ≤ time_at (get_or vs (suc k) d)
 rising s [] f k d l = absurd (omega (arith, l))
 rising s (v ∷ []) f k d l = absurd (omega (arith, l))
 rising s (v ∷ u ∷ us) f zero d l = let up = f.1.0.order in omega (arith, up, last_after s v)
@@ -101,8 +101,8 @@ fit_in_order vs cs e f = rw e (λ k d l. ordered k d (omega (arith, l, length-ma
     ordered : (k : ℕ) (d : Record) → k + 1 < length vs → (get_or (map record_at vs) k d).time ≤ (get_or (map record_at vs) (k + 1) d).time
     ordered k d l =
         let here : (get_or (map record_at vs) k d).time ≡ time_at (get_or vs k empty) = ap (λ (r : Record). r.time) (get_or-map record_at vs k empty d (omega (arith, l))) in
-        let next : (get_or (map record_at vs) (k + 1) d).time ≡ time_at (get_or vs (k + 1) empty) = ap (λ (r : Record). r.time) (get_or-map record_at vs (k + 1) empty d l) in
-        omega (arith, here, next, rising [] vs f k empty l)
+        let next : (get_or (map record_at vs) (suc k) d).time ≡ time_at (get_or vs (suc k) empty) = ap (λ (r : Record). r.time) (get_or-map record_at vs (suc k) empty d (omega (arith, l))) in
+        rw (add-one k) (omega (arith, here, next, rising [] vs f k empty (omega (arith, l))))
 
 -- whole captures
 
@@ -205,10 +205,10 @@ taken_wrong failed s input left mid n start at row w g less taken e bad =
     items_wrong failed step_after at_most input left mid g.rows row start at at w g.made taken g.fit few (omega (arith, e, c, size_steps g.rows))
     (hand_lacks failed g.rows mid row at at w refl (rw g.has.1 at bad))
 
-pub taken_stopped : (s : Steps) (input left : Option (List Row)) (n start at : ℕ) → IsTaken s input left n → n ≤ MAX_RECORDS → at ≡ start + n + 1 → IsStopped (repeats.AtMost MAX_RECORDS) step_after input start 0 at at
-taken_stopped s input left n start at g less e =
+pub taken_stopped : (s : Steps) (input left : Option (List Row)) (n start at last : ℕ) → IsTaken s input left n → n ≤ MAX_RECORDS → at ≡ start + n + 1 → last ≡ at → IsStopped (repeats.AtMost MAX_RECORDS) step_after input start 0 at last
+taken_stopped s input left n start at last g less e same =
     let c = g.count in
-    stopped step_after at_most input left g.rows start 0 at at g.made g.fit (omega (arith, c, less)) (omega (arith, e, c, size_steps g.rows)) (omega arith) (omega (arith, e, c, size_steps g.rows))
+    stopped step_after at_most input left g.rows start 0 at last g.made g.fit (omega (arith, c, less)) (omega (arith, e, c, size_steps g.rows)) (omega (arith, same)) (omega (arith, e, c, same, size_steps g.rows))
 
 -- records to the end of the text
 

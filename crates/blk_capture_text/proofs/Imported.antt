@@ -1,5 +1,5 @@
 -- Requests as a schedule that may be written.
-use Rattle.std.proofs.Common.{◌≡◌, ◌≢◌, ◌+◌, ◌-◌, ◌<◌, ◌≤◌, ◌^◌, ◌∙◌, ℕ, suc, cond, Bool, true, false, List, [], ◌∷◌, length, map, sym, ap, arith, get_or}
+use Rattle.std.proofs.Common.{◌≡◌, ◌≢◌, ◌+◌, ◌<◌, ◌≤◌, ◌^◌, ◌∙◌, ℕ, suc, cond, Bool, true, false, List, [], ◌∷◌, length, map, sym, ap, arith, get_or}
 use Rattle.std.specs.Prelude.{All}
 use Rattle.std.proofs.lemmas.List.{length-map}
 use Rattle.edd_check.specs.Schedule.{RoundsInRange}
@@ -8,11 +8,13 @@ use Rattle.edd_check.specs.declared.Command.{Command}
 use Rattle.blk_bio.specs.declared.bio.Dir.TheVariants.{Read}
 use Rattle.blk_capture.specs.Counting.{AreSolvable, IsCounted}
 use Rattle.blk_capture.specs.Fates.{told}
-use Rattle.blk_capture.specs.Requests.{AreInOrder, IsFirstFall, served_of}
+use Rattle.blk_capture.specs.Parting.{before, part, bio_in, fate_in}
+use Rattle.blk_capture.specs.declared.requests.Bio.{Bio}
+use Rattle.blk_capture_text.specs.Imports.{begin_of, IsWhole, IsImport}
+use Rattle.blk_capture_text.specs.declared.importing.Asked.{Asked}
+use Rattle.blk_capture.specs.Requests.{served_of}
 use Rattle.blk_capture.specs.declared.fates.Fate.{Fate}
 use Rattle.blk_capture.specs.declared.record.Action.{Action}
-use Rattle.blk_capture.specs.declared.record.Action.TheVariants.{Other}
-use Rattle.blk_capture.specs.declared.record.Op.TheVariants.{Nothing}
 use Rattle.blk_capture.specs.declared.record.Record.{Record}
 use Rattle.blk_capture.specs.declared.counting.Served.{Served}
 use Rattle.blk_capture.specs.declared.requests.Request.{Request}
@@ -69,13 +71,19 @@ told_few p [] fates = omega arith
 told_few p (r ∷ records) [] = omega arith
 told_few p (r ∷ records) (f ∷ fates) = one_more (p r.action f) (told p records fates) (length records) (told_few p records fates)
 
--- times that don't fall have no first fall
-pub no_fall : (records : List Record) (p : ℕ) → AreInOrder records (length records) → IsFirstFall records p → ⊥
-no_fall records p h f =
-    let d : Record = record { time = 0; cpu = 0; action = Other; pid = 0; op = Nothing; first = 0; sectors = 0 } in
-    let there = f.in_list in
-    let some = f.some in
-    let at : p - 1 + 1 ≡ p = omega (arith, some) in
-    let falls = f.falls d in
-    let up = h (p - 1) d (omega (arith, at, there)) in
-    omega (arith, falls, rw at at up)
+-- a part of what was matched
+
+pub imported : (records : List Record) (asked : Asked) (rs : List Request) (bs : List Bio) (fs : List Fate) (absorbed left : ℕ) (ps : List Request) (pb : List Bio) (pf : List Fate) (merged out begin : ℕ)
+    → begin ≡ begin_of asked.skip records → IsWhole records asked.options rs bs fs absorbed left → ps ≡ part begin asked.first rs → pb ≡ map (bio_in (before begin rs) (length ps)) bs → pf ≡ map (fate_in (before begin rs) (length ps)) fs
+    → merged ≡ absorbed → out + length ps ≡ left + length rs → IsImport records asked ps pb pf merged out
+imported records asked rs bs fs absorbed left ps pb pf merged out begin at whole requests bios fates same count = record {
+  all_requests = rs;
+  all_bios = bs;
+  all_fates = fs;
+  all_left = left;
+  whole = rw same whole;
+  requests_are = rw at at requests;
+  bios_are = rw at at bios;
+  fates_are = rw at at fates;
+  left_are = count;
+}

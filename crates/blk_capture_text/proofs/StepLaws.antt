@@ -1,9 +1,9 @@
 -- The laws of a record of a capture.
-use Rattle.std.proofs.Common.{◌≡◌, ◌+◌, ◌*◌, ◌<◌, ◌≤◌, ◌^◌, ◌∙◌, ℕ, zero, suc, List, [], ◌∷◌, length, get_or, refl, sym, ap, inl, inr, arith, decimal}
+use Rattle.std.proofs.Common.{◌≡◌, ◌+◌, ◌-◌, ◌*◌, ◌<◌, ◌≤◌, ◌^◌, ◌∙◌, ℕ, zero, suc, List, [], ◌∷◌, length, get_or, refl, sym, ap, inl, inr, arith, decimal}
 use Rattle.std.specs.Prelude.{◌⊎◌}
 use Rattle.std.specs.Char.{digit_value}
 use Rattle.std.specs.Str.Parse.{AllDigits, digits_value}
-use Rattle.std.proofs.lemmas.Fmt.{decimal_injective}
+use Rattle.std.proofs.lemmas.Fmt.{decimal_injective, digits_value-decimal}
 use Rattle.blk_capture.specs.Passing.{action_by, op_by}
 use Rattle.blk_capture.specs.declared.record.Record.{Record}
 use Rattle.blk_lists.specs.Sources.{Row}
@@ -11,7 +11,8 @@ use Rattle.blk_lists.specs.Fields.{EachField, IsBlank, IsDirection, IsNumber, Is
 use Rattle.blk_lists.specs.declared.fault.Why.{Why}
 use Rattle.blk_lists.specs.declared.fault.Why.TheVariants as why
 use Rattle.blk_lists.specs.declared.fields.Slot.TheVariants as slot
-use Rattle.blk_lists.proofs.Lacking.{Dec, both, same_as, at_most, same_number, value_is, goods_all, goods_or_lacks, first_once}
+use Rattle.blk_lists.proofs.Decimals.{own}
+use Rattle.blk_lists.proofs.Lacking.{Dec, both, same_as, at_most, same_number, goods_all, goods_or_lacks, first_once}
 use Rattle.parts.specs.Laws.{TellsRecord}
 use Rattle.blk_capture_text.specs.Steps.{IsNanoseconds, AreNumbers, number_at, time_at, record_at, IsStep, step_rules, StepLacks}
 use Rattle.blk_capture_text.specs.declared.step.TheConstants.{STEP}
@@ -81,7 +82,7 @@ spelled_good least most n f m h =
     )
 
 spelled_value : (least most n : ℕ) (f : List ℕ) → most < 2 ^ 64 → FieldSpells (slot.Number least most) f n → digits_value 10 f ≡ n
-spelled_value least most n f m h = let high = h.3.1 in ap (digits_value 10) h.2 ∙ value_is n (omega (arith, high, m))
+spelled_value least most n f m h = let high = h.3.1 in ap (digits_value 10) h.2 ∙ digits_value-decimal own n (omega (arith, high, m))
 
 any_good : (row : Row) (ns : List ℕ) → FieldsSpell STEP row ns → (k : ℕ) → k < 8 → IsNumber (get_or STEP k slot.Given) (get_or row k []) × IsInRange (get_or STEP k slot.Given) (get_or row k [])
 any_good row ns s zero l = spelled_good 0 (2 ^ 34 - 1) (get_or ns 0 0) (get_or row 0 []) (omega arith) (s.1 0 (omega arith))

@@ -1,5 +1,5 @@
 -- The records of a capture while they are read.
-use Rattle.std.specs.Prelude.{◌≡◌, ◌×◌, ℕ, Bool, List, map, Option}
+use Rattle.std.specs.Prelude.{◌≡◌, ℕ, Bool, List, map, Option}
 use Rattle.blk_lists.specs.Sources.{Row}
 use Rattle.blk_lists.specs.Reads.{AreGathered}
 use Rattle.parts.specs.declared.Repeats.TheVariants as repeats

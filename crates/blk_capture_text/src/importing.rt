@@ -5,7 +5,7 @@ ghost use Rattle.edd_check.specs.Limits.{most_commands};
 ghost use Rattle.blk_capture.specs.Requests.{AreInOrder, AreTimed};
 ghost use Rattle.blk_capture_text.specs.Imports.{IsImport, IsImportFault, first_time, begin_of};
 
-use blk_capture::{CaptureFault, Matched, Options, Record, match_records, part_of};
+use blk_capture::{Matched, Options, Record, match_records, part_of};
 use edd_check::MAX_COMMANDS;
 use std::alloc::Global;
 
@@ -60,8 +60,7 @@ pub fn import(alloc: Global, records: &[Record], asked: &Asked) -> Result<Matche
 {
     let whole = match match_records(alloc, records, &asked.options) {
         Ok(whole) => whole,
-        Err(CaptureFault::Order(_)) => unreachable!(),
-        Err(CaptureFault::Memory) => return Err(ImportFault::Memory),
+        Err(_) => return Err(ImportFault::Memory),
     };
     let _ = records.len();
     match part_of(alloc, &whole, begin_of(asked.skip, records), asked.first) {
