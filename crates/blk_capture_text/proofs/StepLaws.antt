@@ -5,6 +5,8 @@ use Rattle.std.specs.Char.{digit_value}
 use Rattle.std.specs.Str.Parse.{AllDigits, digits_value}
 use Rattle.std.proofs.lemmas.Fmt.{decimal_injective, digits_value-decimal}
 use Rattle.blk_capture.specs.Passing.{action_by, op_by}
+use Rattle.blk_capture.specs.declared.record.Action.{Action}
+use Rattle.blk_capture.specs.declared.record.Op.{Op}
 use Rattle.blk_capture.specs.declared.record.Record.{Record}
 use Rattle.blk_lists.specs.Sources.{Row}
 use Rattle.blk_lists.specs.Fields.{EachField, IsBlank, IsDirection, IsNumber, IsInRange, FieldSpells, FieldsSpell, Lacks}
@@ -112,14 +114,14 @@ seconds_is row ns s = spelled_value 0 (2 ^ 34 - 1) (get_or ns 0 0) (get_or row 0
 pub seconds_few : (row : Row) (ns : List ℕ) → FieldsSpell STEP row ns → get_or ns 0 0 < 2 ^ 34
 seconds_few row ns s = let high = (s.1 0 (omega arith)).3.1 in omega (arith, high)
 
-pub told_record : (row : Row) (ns : List ℕ) (time : ℕ) → FieldsSpell STEP row ns → time ≡ time_at row
-    → record { time = time; cpu = get_or ns 2 0; action = action_by (get_or row 3 []); pid = get_or ns 4 0; op = op_by (get_or row 5 []); first = get_or ns 6 0; sectors = get_or ns 7 0 } ≡ record_at row
-told_record row ns time s e i = record {
+pub told_record : (row : Row) (ns : List ℕ) (time : ℕ) (a : Action) (o : Op) → FieldsSpell STEP row ns → time ≡ time_at row → a ≡ action_by (get_or row 3 []) → o ≡ op_by (get_or row 5 [])
+    → record { time = time; cpu = get_or ns 2 0; action = a; pid = get_or ns 4 0; op = o; first = get_or ns 6 0; sectors = get_or ns 7 0 } ≡ record_at row
+told_record row ns time a o s e f g i = record {
   time = e i;
   cpu = sym (spelled_value 0 (2 ^ 64 - 1) (get_or ns 2 0) (get_or row 2 []) (omega arith) (s.1 2 (omega arith))) i;
-  action = action_by (get_or row 3 []);
+  action = f i;
   pid = sym (spelled_value 0 (2 ^ 64 - 1) (get_or ns 4 0) (get_or row 4 []) (omega arith) (s.1 4 (omega arith))) i;
-  op = op_by (get_or row 5 []);
+  op = g i;
   first = sym (spelled_value 0 (2 ^ 64 - 1) (get_or ns 6 0) (get_or row 6 []) (omega arith) (s.1 6 (omega arith))) i;
   sectors = sym (spelled_value 0 (2 ^ 64 - 1) (get_or ns 7 0) (get_or row 7 []) (omega arith) (s.1 7 (omega arith))) i;
 }

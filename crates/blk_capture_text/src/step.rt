@@ -4,7 +4,8 @@ ghost use Rattle.std.specs.Prelude.{◌≡◌, ◌<◌, ◌≤◌, ◌^◌, ◌�
 ghost use Rattle.std.specs.Str.Parse.{digits_value};
 ghost use Rattle.csv.specs.Records.{fields_of};
 ghost use Rattle.blk_lists.specs.Fields.{Lacks};
-ghost use Rattle.blk_capture_text.specs.Steps.{IsNanoseconds, IsStep, StepLacks, record_at};
+ghost use Rattle.blk_capture.specs.Passing.{action_by, op_by};
+ghost use Rattle.blk_capture_text.specs.Steps.{IsNanoseconds, IsStep, StepLacks, number_at, record_at};
 
 use blk_capture::{Action, Op, Record};
 use blk_lists::Why;
@@ -52,6 +53,28 @@ fn nanoseconds(field: &[u8]) -> Option<u64>
     Some(number)
 }
 
+/// The nanoseconds of a row.
+fn nanoseconds_at(row: &ByteRecord) -> Option<u64>
+    ensures value { MatchOption result (¬ IsNanoseconds (get_or (fields_of row.now) 1 [])) (λ n. IsNanoseconds (get_or (fields_of row.now) 1 []) × (n ≡ number_at 1 (fields_of row.now))) }
+    ensures range { MatchOption result (Unit {0}) (λ n. n < 10 ^ 9) }
+{
+    nanoseconds(field(row, 1))
+}
+
+/// The action of a row.
+fn action_at(row: &ByteRecord) -> Action
+    ensures { result ≡ action_by (get_or (fields_of row.now) 3 []) }
+{
+    Action::of_letters(field(row, 3))
+}
+
+/// What is done to the sectors of a row.
+fn op_at(row: &ByteRecord) -> Op
+    ensures { result ≡ op_by (get_or (fields_of row.now) 5 []) }
+{
+    Op::of_letters(field(row, 5))
+}
+
 /// The first thing that is wrong with a row of which a number that has a slot is. Nanoseconds that are none come before a number outside
 /// its range.
 #[cold]
@@ -63,7 +86,7 @@ fn first_lack(row: &ByteRecord, last: u64, why: Why) -> Why
     let _ = last;
     match why {
         Why::Range => {
-            if nanoseconds(field(row, 1)).is_none() {
+            if nanoseconds_at(row).is_none() {
                 return Why::Number;
             }
             Why::Range
@@ -82,7 +105,7 @@ pub(crate) fn read_step(row: &ByteRecord, last: u64) -> Result<Record, Why>
         Ok(numbers) => numbers,
         Err(why) => return Err(first_lack(row, last, why)),
     };
-    let Some(nanoseconds) = nanoseconds(field(row, 1)) else {
+    let Some(nanoseconds) = nanoseconds_at(row) else {
         return Err(Why::Number);
     };
     let time = numbers[0] * 1_000_000_000 + nanoseconds;
@@ -92,9 +115,9 @@ pub(crate) fn read_step(row: &ByteRecord, last: u64) -> Result<Record, Why>
     Ok(Record {
         time,
         cpu: numbers[2],
-        action: Action::of_letters(field(row, 3)),
+        action: action_at(row),
         pid: numbers[4],
-        op: Op::of_letters(field(row, 5)),
+        op: op_at(row),
         first: numbers[6],
         sectors: numbers[7],
     })

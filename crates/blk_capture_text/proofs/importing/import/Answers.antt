@@ -5,7 +5,7 @@ use Rattle.blk_capture_text.proofs.importing.import.Goals as goal
 
 pub part_of-requires-clause-few : goal.part_of-requires-clause-few
 part_of-requires-clause-few c =
-    omega (arith, c.in-Ok.ensures.opened, told_few opens c.args.records.now c.in-Ok.whole.fates.items, c.len.ensures, c.ranges.len.fits)
+    omega (arith, c.in-Ok.ensures.opened, told_few opens c.args.records.now c.in-Ok.whole.fates.items)
 
 pub returns-then-len-gt-MAX_COMMANDS-clause-err : goal.returns-then-len-gt-MAX_COMMANDS-clause-err
 returns-then-len-gt-MAX_COMMANDS-clause-err c =
