@@ -21,35 +21,35 @@ use Rattle.blk_capture_text.specs.declared.step.TheConstants.{STEP}
 
 -- no field has to be empty or a direction
 
-each_blank : (row : Row) → EachField IsBlank STEP row
-each_blank row zero l = tt
-each_blank row (suc zero) l = tt
-each_blank row (suc (suc zero)) l = tt
-each_blank row (suc (suc (suc zero))) l = tt
-each_blank row (suc (suc (suc (suc zero)))) l = tt
-each_blank row (suc (suc (suc (suc (suc zero))))) l = tt
-each_blank row (suc (suc (suc (suc (suc (suc zero)))))) l = tt
-each_blank row (suc (suc (suc (suc (suc (suc (suc zero))))))) l = tt
-each_blank row (suc (suc (suc (suc (suc (suc (suc (suc k)))))))) l = absurd (omega (arith, l))
+each_blank : (cells : Row) → EachField IsBlank STEP cells
+each_blank cells zero l = tt
+each_blank cells (suc zero) l = tt
+each_blank cells (suc (suc zero)) l = tt
+each_blank cells (suc (suc (suc zero))) l = tt
+each_blank cells (suc (suc (suc (suc zero)))) l = tt
+each_blank cells (suc (suc (suc (suc (suc zero))))) l = tt
+each_blank cells (suc (suc (suc (suc (suc (suc zero)))))) l = tt
+each_blank cells (suc (suc (suc (suc (suc (suc (suc zero))))))) l = tt
+each_blank cells (suc (suc (suc (suc (suc (suc (suc (suc k)))))))) l = absurd (omega (arith, l))
 
-each_direction : (row : Row) → EachField IsDirection STEP row
-each_direction row zero l = tt
-each_direction row (suc zero) l = tt
-each_direction row (suc (suc zero)) l = tt
-each_direction row (suc (suc (suc zero))) l = tt
-each_direction row (suc (suc (suc (suc zero)))) l = tt
-each_direction row (suc (suc (suc (suc (suc zero))))) l = tt
-each_direction row (suc (suc (suc (suc (suc (suc zero)))))) l = tt
-each_direction row (suc (suc (suc (suc (suc (suc (suc zero))))))) l = tt
-each_direction row (suc (suc (suc (suc (suc (suc (suc (suc k)))))))) l = absurd (omega (arith, l))
+each_direction : (cells : Row) → EachField IsDirection STEP cells
+each_direction cells zero l = tt
+each_direction cells (suc zero) l = tt
+each_direction cells (suc (suc zero)) l = tt
+each_direction cells (suc (suc (suc zero))) l = tt
+each_direction cells (suc (suc (suc (suc zero)))) l = tt
+each_direction cells (suc (suc (suc (suc (suc zero))))) l = tt
+each_direction cells (suc (suc (suc (suc (suc (suc zero)))))) l = tt
+each_direction cells (suc (suc (suc (suc (suc (suc (suc zero))))))) l = tt
+each_direction cells (suc (suc (suc (suc (suc (suc (suc (suc k)))))))) l = absurd (omega (arith, l))
 
 -- what a record lacks of its slots
 
-pub lack_is : (last : ℕ) (row : Row) (w : Why) → Lacks STEP row w → (w ≡ why.Range → IsNanoseconds (get_or row 1 [])) → StepLacks last row w
-lack_is last row w bad nine = elim bad [
-  | inl f ↦ inl (f.0, λ l. f.1 (l, each_blank row))
+pub lack_is : (last : ℕ) (cells : Row) (w : Why) → Lacks STEP cells w → (w ≡ why.Range → IsNanoseconds (get_or cells 1 [])) → StepLacks last cells w
+lack_is last cells w bad nine = elim bad [
+  | inl f ↦ inl (f.0, λ l. f.1 (l, each_blank cells))
   | inr p ↦ elim p.1 [
-    | inl f ↦ absurd (f.1 (each_direction row))
+    | inl f ↦ absurd (f.1 (each_direction cells))
     | inr q ↦ elim q.1 [
       | inl f ↦ inr (p.0.0, inl (f.0, λ n. f.1 n.0))
       | inr r ↦ elim r.1 [
@@ -61,17 +61,17 @@ lack_is last row w bad nine = elim bad [
 ]
 
 -- where its nanoseconds are none
-pub lack_nine : (last : ℕ) (row : Row) (w : Why) → Lacks STEP row w → ¬ IsNanoseconds (get_or row 1 []) → (v : Why) × (((w ≡ why.Range) → (v ≡ why.Number)) × StepLacks last row v)
-lack_nine last row w bad none = elim bad [
-  | inl f ↦ (why.Fields, (λ e. (let same : why.Fields ≡ why.Range = sym f.0 ∙ e in cc same), inl (refl, λ l. f.1 (l, each_blank row))))
+pub lack_nine : (last : ℕ) (cells : Row) (w : Why) → Lacks STEP cells w → ¬ IsNanoseconds (get_or cells 1 []) → (v : Why) × (((w ≡ why.Range) → (v ≡ why.Number)) × StepLacks last cells v)
+lack_nine last cells w bad none = elim bad [
+  | inl f ↦ (why.Fields, (λ e. (let same : why.Fields ≡ why.Range = sym f.0 ∙ e in cc same), inl (refl, λ l. f.1 (l, each_blank cells))))
   | inr p ↦ elim p.1 [
-    | inl f ↦ absurd (f.1 (each_direction row))
+    | inl f ↦ absurd (f.1 (each_direction cells))
     | inr q ↦ (why.Number, (λ e. refl, inr (p.0.0, inl (refl, λ n. none n.1))))
   ]
 ]
 
-pub lack_number : (last : ℕ) (row : Row) → Lacks STEP row why.Range → ¬ IsNanoseconds (get_or row 1 []) → StepLacks last row why.Number
-lack_number last row bad none = let found = lack_nine last row why.Range bad none in rw (found.1.0 refl) at found.1.1
+pub lack_number : (last : ℕ) (cells : Row) → Lacks STEP cells why.Range → ¬ IsNanoseconds (get_or cells 1 []) → StepLacks last cells why.Number
+lack_number last cells bad none = let found = lack_nine last cells why.Range bad none in rw (found.1.0 refl) at found.1.1
 
 -- a field that spells a number
 
@@ -86,59 +86,59 @@ spelled_good least most n f m h =
 spelled_value : (least most n : ℕ) (f : List ℕ) → most < 2 ^ 64 → FieldSpells (slot.Number least most) f n → digits_value 10 f ≡ n
 spelled_value least most n f m h = let high = h.3.1 in ap (digits_value 10) h.2 ∙ digits_value-decimal own n (omega (arith, high, m))
 
-any_good : (row : Row) (ns : List ℕ) → FieldsSpell STEP row ns → (k : ℕ) → k < 8 → IsNumber (get_or STEP k slot.Given) (get_or row k []) × IsInRange (get_or STEP k slot.Given) (get_or row k [])
-any_good row ns s zero l = spelled_good 0 (2 ^ 34 - 1) (get_or ns 0 0) (get_or row 0 []) (omega arith) (s.1 0 (omega arith))
-any_good row ns s (suc zero) l = (tt, tt)
-any_good row ns s (suc (suc zero)) l = spelled_good 0 (2 ^ 64 - 1) (get_or ns 2 0) (get_or row 2 []) (omega arith) (s.1 2 (omega arith))
-any_good row ns s (suc (suc (suc zero))) l = (tt, tt)
-any_good row ns s (suc (suc (suc (suc zero)))) l = spelled_good 0 (2 ^ 64 - 1) (get_or ns 4 0) (get_or row 4 []) (omega arith) (s.1 4 (omega arith))
-any_good row ns s (suc (suc (suc (suc (suc zero))))) l = (tt, tt)
-any_good row ns s (suc (suc (suc (suc (suc (suc zero)))))) l = spelled_good 0 (2 ^ 64 - 1) (get_or ns 6 0) (get_or row 6 []) (omega arith) (s.1 6 (omega arith))
-any_good row ns s (suc (suc (suc (suc (suc (suc (suc zero))))))) l = spelled_good 0 (2 ^ 64 - 1) (get_or ns 7 0) (get_or row 7 []) (omega arith) (s.1 7 (omega arith))
-any_good row ns s (suc (suc (suc (suc (suc (suc (suc (suc k)))))))) l = absurd (omega (arith, l))
+any_good : (cells : Row) (ns : List ℕ) → FieldsSpell STEP cells ns → (k : ℕ) → k < 8 → IsNumber (get_or STEP k slot.Given) (get_or cells k []) × IsInRange (get_or STEP k slot.Given) (get_or cells k [])
+any_good cells ns s zero l = spelled_good 0 (2 ^ 34 - 1) (get_or ns 0 0) (get_or cells 0 []) (omega arith) (s.1 0 (omega arith))
+any_good cells ns s (suc zero) l = (tt, tt)
+any_good cells ns s (suc (suc zero)) l = spelled_good 0 (2 ^ 64 - 1) (get_or ns 2 0) (get_or cells 2 []) (omega arith) (s.1 2 (omega arith))
+any_good cells ns s (suc (suc (suc zero))) l = (tt, tt)
+any_good cells ns s (suc (suc (suc (suc zero)))) l = spelled_good 0 (2 ^ 64 - 1) (get_or ns 4 0) (get_or cells 4 []) (omega arith) (s.1 4 (omega arith))
+any_good cells ns s (suc (suc (suc (suc (suc zero))))) l = (tt, tt)
+any_good cells ns s (suc (suc (suc (suc (suc (suc zero)))))) l = spelled_good 0 (2 ^ 64 - 1) (get_or ns 6 0) (get_or cells 6 []) (omega arith) (s.1 6 (omega arith))
+any_good cells ns s (suc (suc (suc (suc (suc (suc (suc zero))))))) l = spelled_good 0 (2 ^ 64 - 1) (get_or ns 7 0) (get_or cells 7 []) (omega arith) (s.1 7 (omega arith))
+any_good cells ns s (suc (suc (suc (suc (suc (suc (suc (suc k)))))))) l = absurd (omega (arith, l))
 
-pub spelled_numbers : (row : Row) (ns : List ℕ) → FieldsSpell STEP row ns → EachField IsNumber STEP row
-spelled_numbers row ns s k l = (any_good row ns s k (omega (arith, l))).0
+pub spelled_numbers : (cells : Row) (ns : List ℕ) → FieldsSpell STEP cells ns → EachField IsNumber STEP cells
+spelled_numbers cells ns s k l = (any_good cells ns s k (omega (arith, l))).0
 
-pub spelled_step : (last : ℕ) (row : Row) (ns : List ℕ) → FieldsSpell STEP row ns → IsNanoseconds (get_or row 1 []) → last ≤ time_at row → IsStep last row
-spelled_step last row ns s nine order = record {
+pub spelled_step : (last : ℕ) (cells : Row) (ns : List ℕ) → FieldsSpell STEP cells ns → IsNanoseconds (get_or cells 1 []) → last ≤ time_at cells → IsStep last cells
+spelled_step last cells ns s nine order = record {
   width = s.0;
-  numbers = (spelled_numbers row ns s, nine);
-  ranges = λ k l. (any_good row ns s k (omega (arith, l))).1;
+  numbers = (spelled_numbers cells ns s, nine);
+  ranges = λ k l. (any_good cells ns s k (omega (arith, l))).1;
   order = order;
 }
 
-pub seconds_is : (row : Row) (ns : List ℕ) → FieldsSpell STEP row ns → number_at 0 row ≡ get_or ns 0 0
-seconds_is row ns s = spelled_value 0 (2 ^ 34 - 1) (get_or ns 0 0) (get_or row 0 []) (omega arith) (s.1 0 (omega arith))
+pub seconds_is : (cells : Row) (ns : List ℕ) → FieldsSpell STEP cells ns → number_at 0 cells ≡ get_or ns 0 0
+seconds_is cells ns s = spelled_value 0 (2 ^ 34 - 1) (get_or ns 0 0) (get_or cells 0 []) (omega arith) (s.1 0 (omega arith))
 
-pub seconds_few : (row : Row) (ns : List ℕ) → FieldsSpell STEP row ns → get_or ns 0 0 < 2 ^ 34
-seconds_few row ns s = let high = (s.1 0 (omega arith)).3.1 in omega (arith, high)
+pub seconds_few : (cells : Row) (ns : List ℕ) → FieldsSpell STEP cells ns → get_or ns 0 0 < 2 ^ 34
+seconds_few cells ns s = let high = (s.1 0 (omega arith)).3.1 in omega (arith, high)
 
-pub told_record : (row : Row) (ns : List ℕ) (time : ℕ) (a : Action) (o : Op) → FieldsSpell STEP row ns → time ≡ time_at row → a ≡ action_by (get_or row 3 []) → o ≡ op_by (get_or row 5 [])
-    → record { time = time; cpu = get_or ns 2 0; action = a; pid = get_or ns 4 0; op = o; first = get_or ns 6 0; sectors = get_or ns 7 0 } ≡ record_at row
-told_record row ns time a o s e f g i = record {
+pub told_record : (cells : Row) (ns : List ℕ) (time : ℕ) (a : Action) (o : Op) → FieldsSpell STEP cells ns → time ≡ time_at cells → a ≡ action_by (get_or cells 3 []) → o ≡ op_by (get_or cells 5 [])
+    → record { time = time; cpu = get_or ns 2 0; action = a; pid = get_or ns 4 0; op = o; first = get_or ns 6 0; sectors = get_or ns 7 0 } ≡ record_at cells
+told_record cells ns time a o s e f g i = record {
   time = e i;
-  cpu = sym (spelled_value 0 (2 ^ 64 - 1) (get_or ns 2 0) (get_or row 2 []) (omega arith) (s.1 2 (omega arith))) i;
+  cpu = sym (spelled_value 0 (2 ^ 64 - 1) (get_or ns 2 0) (get_or cells 2 []) (omega arith) (s.1 2 (omega arith))) i;
   action = f i;
-  pid = sym (spelled_value 0 (2 ^ 64 - 1) (get_or ns 4 0) (get_or row 4 []) (omega arith) (s.1 4 (omega arith))) i;
+  pid = sym (spelled_value 0 (2 ^ 64 - 1) (get_or ns 4 0) (get_or cells 4 []) (omega arith) (s.1 4 (omega arith))) i;
   op = g i;
-  first = sym (spelled_value 0 (2 ^ 64 - 1) (get_or ns 6 0) (get_or row 6 []) (omega arith) (s.1 6 (omega arith))) i;
-  sectors = sym (spelled_value 0 (2 ^ 64 - 1) (get_or ns 7 0) (get_or row 7 []) (omega arith) (s.1 7 (omega arith))) i;
+  first = sym (spelled_value 0 (2 ^ 64 - 1) (get_or ns 6 0) (get_or cells 6 []) (omega arith) (s.1 6 (omega arith))) i;
+  sectors = sym (spelled_value 0 (2 ^ 64 - 1) (get_or ns 7 0) (get_or cells 7 []) (omega arith) (s.1 7 (omega arith))) i;
 }
 
 -- the first of the rules that is broken
 
-pub late_step : (last : ℕ) (row : Row) (ns : List ℕ) → FieldsSpell STEP row ns → IsNanoseconds (get_or row 1 []) → time_at row < last → StepLacks last row why.Order
-late_step last row ns s nine order =
-    inr (s.0, inr ((spelled_numbers row ns s, nine), inr ((λ k l. (any_good row ns s k (omega (arith, l))).1), inl (refl, λ up. omega (arith, up, order)))))
+pub late_step : (last : ℕ) (cells : Row) (ns : List ℕ) → FieldsSpell STEP cells ns → IsNanoseconds (get_or cells 1 []) → time_at cells < last → StepLacks last cells why.Order
+late_step last cells ns s nine order =
+    inr (s.0, inr ((spelled_numbers cells ns s, nine), inr ((λ k l. (any_good cells ns s k (omega (arith, l))).1), inl (refl, λ up. omega (arith, up, order)))))
 
-pub no_nine : (last : ℕ) (row : Row) (ns : List ℕ) → FieldsSpell STEP row ns → ¬ IsNanoseconds (get_or row 1 []) → StepLacks last row why.Number
-no_nine last row ns s none = inr (s.0, inl (refl, λ n. none n.1))
+pub no_nine : (last : ℕ) (cells : Row) (ns : List ℕ) → FieldsSpell STEP cells ns → ¬ IsNanoseconds (get_or cells 1 []) → StepLacks last cells why.Number
+no_nine last cells ns s none = inr (s.0, inl (refl, λ n. none n.1))
 
 -- a record is a step's, or it lacks one thing first
 
-pub step_tells : (last : ℕ) → TellsRecord {R = Row} (λ row. row) (IsStep last) (StepLacks last)
-step_tells last = record { once = λ v u f g e. e; apart = apart; first = λ row. first_once (step_rules last row) }
+pub step_tells : (last : ℕ) → TellsRecord {R = Row} (λ cells. cells) (IsStep last) (StepLacks last)
+step_tells last = record { once = λ v u f g e. e; apart = apart; first = λ cells. first_once (step_rules last cells) }
   where
     apart : (v : Row) (w : Why) → IsStep last v → StepLacks last v w → ⊥
     apart v w s bad = elim bad [
@@ -162,19 +162,19 @@ digits_decided (c ∷ cs) = both (same_as (λ l. omega (arith, l)) (λ l. omega 
 nine_decided : (f : List ℕ) → Dec (IsNanoseconds f)
 nine_decided f = both (same_number (length f) 9) (digits_decided f)
 
-pub step_decided : (last : ℕ) (row : Row) → IsStep last row ⊎ ((w : Why) × StepLacks last row w)
-step_decided last row = elim (nine_decided (get_or row 1 [])) [
-  | inl nine ↦ elim (goods_or_lacks STEP row) [
+pub step_decided : (last : ℕ) (cells : Row) → IsStep last cells ⊎ ((w : Why) × StepLacks last cells w)
+step_decided last cells = elim (nine_decided (get_or cells 1 [])) [
+  | inl nine ↦ elim (goods_or_lacks STEP cells) [
     | inl g ↦
-        let all = goods_all STEP row g in
-        elim (at_most last (time_at row)) [
+        let all = goods_all STEP cells g in
+        elim (at_most last (time_at cells)) [
           | inl up ↦ inl (record { width = all.0.0; numbers = (all.2, nine); ranges = all.3; order = up })
           | inr down ↦ inr (why.Order, inr (all.0.0, inr ((all.2, nine), inr (all.3, inl (refl, down)))))
         ]
-    | inr b ↦ inr (b.0, lack_is last row b.0 b.1 (λ e. nine))
+    | inr b ↦ inr (b.0, lack_is last cells b.0 b.1 (λ e. nine))
   ]
-  | inr none ↦ elim (goods_or_lacks STEP row) [
-    | inl g ↦ let all = goods_all STEP row g in inr (why.Number, inr (all.0.0, inl (refl, λ n. none n.1)))
-    | inr b ↦ let found = lack_nine last row b.0 b.1 none in inr (found.0, found.1.1)
+  | inr none ↦ elim (goods_or_lacks STEP cells) [
+    | inl g ↦ let all = goods_all STEP cells g in inr (why.Number, inr (all.0.0, inl (refl, λ n. none n.1)))
+    | inr b ↦ let found = lack_nine last cells b.0 b.1 none in inr (found.0, found.1.1)
   ]
 ]

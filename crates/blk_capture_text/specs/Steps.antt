@@ -16,43 +16,43 @@ IsNanoseconds f = (length f ≡ 9) × AllDigits 10 f
 
 -- the number of a field
 abbrev pub number_at : ℕ → Row → ℕ
-number_at k row = digits_value 10 (get_or row k [])
+number_at k cells = digits_value 10 (get_or cells k [])
 
 -- the time of a record, in nanoseconds
 abbrev pub time_at : Row → ℕ
-time_at row = number_at 0 row * 1_000_000_000 + number_at 1 row
+time_at cells = number_at 0 cells * 1_000_000_000 + number_at 1 cells
 
 -- what a record tells
 abbrev pub record_at : Row → Record
-record_at row = record {
-  time = time_at row;
-  cpu = number_at 2 row;
-  action = action_by (get_or row 3 []);
-  pid = number_at 4 row;
-  op = op_by (get_or row 5 []);
-  first = number_at 6 row;
-  sectors = number_at 7 row;
+record_at cells = record {
+  time = time_at cells;
+  cpu = number_at 2 cells;
+  action = action_by (get_or cells 3 []);
+  pid = number_at 4 cells;
+  op = op_by (get_or cells 5 []);
+  first = number_at 6 cells;
+  sectors = number_at 7 cells;
 }
 
 -- its numbers are numbers, and its nanoseconds nine digits
 abbrev pub AreNumbers : Row → Type 0
-AreNumbers row = EachField IsNumber STEP row × IsNanoseconds (get_or row 1 [])
+AreNumbers cells = EachField IsNumber STEP cells × IsNanoseconds (get_or cells 1 [])
 
 -- a record that may stand after one of a time
-pub record IsStep (last : ℕ) (row : Row) : Type 0 where
-  pub width : length row ≡ 8
-  pub numbers : AreNumbers row
-  pub ranges : EachField IsInRange STEP row
-  pub order : last ≤ time_at row
+pub record IsStep (last : ℕ) (cells : Row) : Type 0 where
+  pub width : length cells ≡ 8
+  pub numbers : AreNumbers cells
+  pub ranges : EachField IsInRange STEP cells
+  pub order : last ≤ time_at cells
 
 -- the rules of a record, in the order in which they are looked at, each with its fault
 abbrev pub step_rules : ℕ → Row → List (Type 0 × Why)
-step_rules last row =
-    (length row ≡ 8, why.Fields)
-    ∷ (AreNumbers row, why.Number)
-    ∷ (EachField IsInRange STEP row, why.Range)
-    ∷ (last ≤ time_at row, why.Order) ∷ []
+step_rules last cells =
+    (length cells ≡ 8, why.Fields)
+    ∷ (AreNumbers cells, why.Number)
+    ∷ (EachField IsInRange STEP cells, why.Range)
+    ∷ (last ≤ time_at cells, why.Order) ∷ []
 
 -- the first thing that a record lacks
 abbrev pub StepLacks : ℕ → Row → Why → Type 0
-StepLacks last row = IsFirstFault (step_rules last row)
+StepLacks last cells = IsFirstFault (step_rules last cells)
