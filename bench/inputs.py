@@ -7,8 +7,9 @@ each is as large as a request may be). Four kinds more are N commands at depth 8
 round 0), carried (as many as the rounds carry), crowded (twice as many) and sparse (one in a hundred rounds); depths is a trace
 of N rounds, in each of which a depth is set. Two are certificates of N commands at depth 8, a third of which run after all others and
 late: filled, where each lies in a window of 8 rounds that the others fill, in one of 64, and so on up to all rounds; and roomy, where each
-such window has room for one more. ran_certificate, ran_filled and ran_roomy are the same three as schedules. All come from a fixed seed,
-so that every run has the same bytes."""
+such window has room for one more. ran_certificate, ran_filled and ran_roomy are the same three as schedules. capture is a capture of N
+records: four processes that plug, reads and writes of several sizes, and merges in a plug. All come from a fixed seed, so that every run has
+the same bytes."""
 import random
 import sys
 
@@ -152,6 +153,48 @@ def depths(rounds, out):
         out("tick,,,,,")
 
 
+def capture(records, out):
+    """Processes in turn plug a few bios of neighbouring ranges and unplug; the device takes what was inserted, most times in order, and
+    completes it."""
+    rng, now, left = random.Random(7), 4_000_000, records
+    waiting, flying = [], []
+
+    def tell(action, pid, rwbs, first, sectors):
+        nonlocal now, left
+        now += rng.randrange(100, 4000)
+        out(f"{now // 1_000_000_000},{now % 1_000_000_000:09},{pid % 4},{action},{pid},{rwbs},{first},{sectors}")
+        left -= 1
+
+    out("blk-capture,1,,,,,,")
+    while left > 80:
+        pid, rwbs = 4100 + rng.randrange(4), rng.choice(["R", "R", "RA", "WS", "W"])
+        tell("P", pid, "N", 0, 0)
+        requests = []
+        for _ in range(rng.randrange(1, 5)):
+            first = rng.randrange(1 << 30) * 64
+            tell("Q", pid, rwbs, first, 8)
+            tell("G", pid, rwbs, first, 8)
+            end = first + 8
+            for _ in range(rng.choice([0, 0, 0, 1, 3])):
+                tell("Q", pid, rwbs, end, 8)
+                tell("M", pid, rwbs, end, 8)
+                end += 8
+            requests.append((pid, rwbs, first, end - first))
+        tell("U", pid, "N", 0, 0)
+        for it in requests:
+            tell("I", *it)
+        waiting += requests
+        while waiting and len(flying) < 4:
+            flying.append(waiting.pop(rng.randrange(min(8, len(waiting)))))
+            tell("D", *flying[-1])
+        while flying and len(flying) > rng.randrange(4):
+            tell("C", 0, *flying.pop(rng.randrange(len(flying)))[1:])
+    for it in flying:
+        tell("C", 0, *it[1:])
+    while left > 0:
+        tell("m", 0, "N", 0, 0)
+
+
 def main():
     kind, n = sys.argv[1], int(sys.argv[2])
     lines = []
@@ -171,6 +214,7 @@ def main():
         "backlog": backlog,
         "touching": touching,
         "depths": depths,
+        "capture": capture,
     }
     kinds[kind](n, lines.append)
     sys.stdout.write("\n".join(lines) + "\n")

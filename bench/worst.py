@@ -11,7 +11,9 @@ trace_steps (another depth in each round, all late),
 trace_joins (requests that grow to 128 bios), trace_groups (groups of 128 bios). Command lists: scattered (rounds up to the
 limits), falling (by falling release and due), nested (each released later and due sooner than the one before), alone (each passed
 over in a window of its own) and repeated (the last id is the first). Certificates: cert_scattered and met_windows (as many
-windows as commands). Schedules: ran_scattered (rounds up to the limits, each with a window of its own that one fills and another misses)."""
+windows as commands). Schedules: ran_scattered (rounds up to the limits, each with a window of its own that one fills and another misses).
+Captures of N bios: capture_queued (all wait at once, and then so do all requests), capture_one_range (the same, all of one range) and
+capture_absorbed (each request is merged into the one before it)."""
 import random
 import sys
 
@@ -281,9 +283,43 @@ def ran_scattered(count, out):
         out(f"{2 * n + 1},{it},{it},{it}")
 
 
+def capture_steps(count, out, steps, range_of):
+    """A title, and each step for all of so many bios in turn, a microsecond apart."""
+    now = 0
+    out("blk-capture,1,,,,,,")
+    for action in steps:
+        for n in range(count):
+            now += 1000
+            out(f"{now // 1_000_000_000},{now % 1_000_000_000:09},0,{action},{1 + n % 100},R,{range_of(n)},8")
+
+
+def capture_queued(count, out):
+    """In an order of their own."""
+    firsts = [16 * n for n in range(count)]
+    random.Random(8).shuffle(firsts)
+    capture_steps(count, out, "QGIDC", lambda n: firsts[n])
+
+
+def capture_one_range(count, out):
+    capture_steps(count, out, "QGIDC", lambda n: 64)
+
+
+def capture_absorbed(count, out):
+    """Requests side by side, of which each but the first is merged into that before it, from the last on."""
+    capture_steps(count, out, "QGI", lambda n: 8 * n)
+    last = 3000 * count
+    for n in range(count - 1, 0, -1):
+        last += 1000
+        out(f"{last // 1_000_000_000},{last % 1_000_000_000:09},0,M,1,R,{8 * n},{8 * (count - n)}")
+    for action in "DC":
+        last += 1000
+        out(f"{last // 1_000_000_000},{last % 1_000_000_000:09},0,{action},1,R,0,{8 * count}")
+
+
 KINDS = [joins, fronts, plugs, no_room, other_way, bio_ids, sectors, handed, idle, trace_bio_ids, trace_requests]
 KINDS += [trace_falling, trace_steps, trace_joins, trace_groups, scattered, falling, nested, alone, repeated, cert_scattered, met_windows]
 KINDS += [ran_scattered]
+KINDS += [capture_queued, capture_one_range, capture_absorbed]
 
 
 def main():

@@ -1,5 +1,5 @@
 -- Records that are passed over, and why; what the letters of a record say.
-use Rattle.std.specs.Prelude.{ℕ, ◌+◌, ◌==◌, cond, nat_lt, Bool, true, false, List, Option, Some, None}
+use Rattle.std.specs.Prelude.{ℕ, ◌+◌, ◌==◌, cond, nat_lt, Bool, true, false, List, [], ◌∷◌, Option, Some, None}
 use Rattle.std.specs.List.{list_any}
 use Rattle.blk_bio.specs.declared.bio.TheConstants.{MAX_END}
 use Rattle.blk_bio.specs.declared.bio.Dir.{Dir}
@@ -38,6 +38,16 @@ kind_place passed.Flush = 5
 kind_place passed.Nothing = 6
 kind_place passed.Empty = 7
 kind_place passed.PastEnd = 8
+
+-- the action of a letter: Q, G, M, F, I, D, C, R, X, P, U
+abbrev pub letter_action : ℕ → Action
+letter_action c = cond (c == 81) action.Queue (cond (c == 71) action.Get (cond (c == 77) action.BackMerge (cond (c == 70) action.FrontMerge (cond (c == 73) action.Insert (cond (c == 68) action.Issue (cond (c == 67) action.Complete (cond (c == 82) action.Requeue (cond (c == 88) action.Split (cond (c == 80) action.Plug (cond (c == 85) action.Unplug action.Other))))))))))
+
+-- an action has one letter
+abbrev pub action_by : List ℕ → Action
+action_by [] = action.Other
+action_by (c ∷ []) = letter_action c
+action_by (c ∷ d ∷ more) = action.Other
 
 -- which way data goes
 abbrev pub dir_of : Op → Option Dir

@@ -1,5 +1,5 @@
 -- What waits, by where it stands and how old it is.
-use Rattle.std.specs.Prelude.{ℕ, ◌≡◌, ◌<◌, ◌^◌, ◌⊎◌, Option, None, Some}
+use Rattle.std.specs.Prelude.{ℕ, ◌≡◌, ◌<◌, ◌^◌, ◌⊎◌, Bool, true, Option, None, Some}
 use Rattle.std.specs.Ordering.{nat_cmp, bool_cmp, ordering_then}
 use Rattle.std.specs.declared.cmp.Ordering.{Ordering}
 use Rattle.blk_capture.specs.declared.spots.Spot.{Spot}
@@ -32,3 +32,7 @@ IsEmptyAt found spot = (k : ℕ) → k < 2 ^ 64 → found (spot, k) ≡ None
 -- of what stands there for one process the newest, or else the oldest of those of nobody
 abbrev pub TakesAbutting : (Key → Option ℕ) → (Key → Option ℕ) → Spot → Spot → ℕ → Type 0
 TakesAbutting opened inserted own any place = IsNewest opened own place ⊎ (IsEmptyAt opened own × IsOldest inserted any place)
+
+-- of what is inserted at a spot the oldest, or else, where requests go out without that, the oldest of those that are opened
+abbrev pub TakesGoing : Bool → (Key → Option ℕ) → (Key → Option ℕ) → Spot → ℕ → Type 0
+TakesGoing direct inserted opened spot place = IsOldest inserted spot place ⊎ (IsEmptyAt inserted spot × (direct ≡ true) × IsOldest opened spot place)

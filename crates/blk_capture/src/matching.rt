@@ -1,10 +1,10 @@
 //! The requests of a capture, matched from its records, one rule for each action.
 
-ghost use Rattle.std.specs.Prelude.{◌≡◌, ◌+◌, IfOk, IfSome, IfNone, None, length, is_some};
+ghost use Rattle.std.specs.Prelude.{◌≡◌, ◌+◌, IfOk, IfSome, IfNone, None, true, length, is_some};
 ghost use Rattle.std.specs.BTreeMap.{get};
 ghost use Rattle.blk_capture.specs.Passing.{passed_over};
-ghost use Rattle.blk_capture.specs.Edges.{met_spot, on_side};
-ghost use Rattle.blk_capture.specs.Spots.{key_cmp, IsEmptyAt, IsNewest, IsOldest, TakesAbutting};
+ghost use Rattle.blk_capture.specs.Edges.{met_spot, on_side, whole_spot};
+ghost use Rattle.blk_capture.specs.Spots.{key_cmp, IsEmptyAt, IsNewest, IsOldest, TakesAbutting, TakesGoing};
 ghost use Rattle.blk_capture.specs.Parts.{is_known, opens_part, makes_part, passed_part, adds};
 
 use crate::clock::Clock;
@@ -393,17 +393,31 @@ impl<A: Allocator + Clone> Matching<A> {
         )
     }
 
+    /// Of the requests of a range: the oldest that was inserted and did not go out, else, where the whole capture has no insertion, the
+    /// oldest that was opened.
+    fn going(&self, range: Range) -> Option<usize>
+        ensures some { IfSome result (TakesGoing self.now.direct (get key_cmp self.now.inserted.wholes.places) (get key_cmp self.now.opened.wholes.places) (whole_spot range)) }
+        ensures none { IfNone result (IsEmptyAt (get key_cmp self.now.inserted.wholes.places) (whole_spot range)) }
+    {
+        let whole = Spot::whole(range);
+        match self.inserted.wholes.oldest(whole) {
+            Some(request) => Some(request),
+            None => {
+                if self.direct {
+                    self.opened.wholes.oldest(whole)
+                } else {
+                    None
+                }
+            }
+        }
+    }
+
     /// The oldest request of the range that was inserted goes out, or that was opened, where none is inserted in the whole capture.
     fn issue(&mut self, range: Range) -> Result<Option<usize>, AllocError>
         ensures same { length self.new.requests.items ≡ length self.old.requests.items }
         ensures bios { length self.new.members.bios.items ≡ length self.old.members.bios.items }
     {
-        let whole = Spot::whole(range);
-        let found = match self.inserted.wholes.oldest(whole) {
-            None if self.direct => self.opened.wholes.oldest(whole),
-            found => found,
-        };
-        let Some(request) = found else {
+        let Some(request) = self.going(range) else {
             return Ok(None);
         };
         let Some(opened) = self.unplace(request) else {

@@ -1,7 +1,7 @@
 //! Records of a capture: one step each that a block layer took, as blktrace and the tracepoints of `block` tell them.
 
 ghost use Rattle.std.specs.Prelude.{◌≡◌, ◌<◌, None, Some, IfErr, IfOk};
-ghost use Rattle.blk_capture.specs.Passing.{writes, place_of, kind_place, passed_action, passed_op, passed_over, dir_of, op_by};
+ghost use Rattle.blk_capture.specs.Passing.{writes, place_of, kind_place, passed_action, passed_op, passed_over, dir_of, op_by, action_by, letter_action};
 
 use blk_bio::{Dir, MAX_END};
 
@@ -35,6 +35,16 @@ pub enum Action {
 }
 
 impl Action {
+    /// What the letters of blktrace's action say: one of those above by itself, and any other text is another action.
+    pub fn of_letters(letters: &[u8]) -> Action
+        ensures { result ≡ action_by letters.now }
+    {
+        match letters {
+            [letter] => letter_action(*letter),
+            _ => Action::Other,
+        }
+    }
+
     /// Its number, from 0 on, in the order in which they stand here.
     pub fn place(self) -> u64
         ensures { result ≡ place_of self }
@@ -73,6 +83,26 @@ impl Action {
             | Action::Requeue
             | Action::Split => None,
         }
+    }
+}
+
+/// The action of a letter.
+fn letter_action(letter: u8) -> Action
+    ensures { result ≡ letter_action letter }
+{
+    match letter {
+        b'Q' => Action::Queue,
+        b'G' => Action::Get,
+        b'M' => Action::BackMerge,
+        b'F' => Action::FrontMerge,
+        b'I' => Action::Insert,
+        b'D' => Action::Issue,
+        b'C' => Action::Complete,
+        b'R' => Action::Requeue,
+        b'X' => Action::Split,
+        b'P' => Action::Plug,
+        b'U' => Action::Unplug,
+        _ => Action::Other,
     }
 }
 

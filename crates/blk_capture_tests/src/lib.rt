@@ -13,3 +13,5 @@ mod numbers;
 mod refusals;
 #[cfg(test)]
 mod tallies;
+#[cfg(test)]
+mod texts;

@@ -180,7 +180,7 @@ Goods [] (f ∷ fs) = ⊥
 Goods (s ∷ ss) [] = ⊥
 Goods (s ∷ ss) (f ∷ fs) = Good s f × Goods ss fs
 
-goods_all : (slots : List Slot) (row : Row) → Goods slots row → IsShaped slots row × EachField IsDirection slots row × EachField IsNumber slots row × EachField IsInRange slots row
+pub goods_all : (slots : List Slot) (row : Row) → Goods slots row → IsShaped slots row × EachField IsDirection slots row × EachField IsNumber slots row × EachField IsInRange slots row
 goods_all slots row g = ((long slots row g, λ k l. (at slots row g k l).0), λ k l. (at slots row g k l).1, λ k l. (at slots row g k l).2, λ k l. (at slots row g k l).3)
   where
     long : (slots : List Slot) (row : Row) → Goods slots row → length row ≡ length slots
@@ -206,7 +206,7 @@ goods_of (s ∷ ss) (f ∷ fs) l a b c d = (
 
 -- rules, each with its fault
 
-first_once : (rules : List (Type 0 × Why)) (w v : Why) → IsFirstFault rules w → IsFirstFault rules v → w ≡ v
+pub first_once : (rules : List (Type 0 × Why)) (w v : Why) → IsFirstFault rules w → IsFirstFault rules v → w ≡ v
 first_once [] w v a b = absurd a
 first_once ((rule, fault) ∷ rules) w v (inl a) (inl b) = a.0 ∙ sym b.0
 first_once ((rule, fault) ∷ rules) w v (inl a) (inr b) = absurd (a.1 b.0)

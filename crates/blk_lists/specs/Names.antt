@@ -14,6 +14,7 @@ why_name (why.Bio f) = bio_fault_name f
 why_name why.Tile = codes "Tile"
 why_name (why.Rule r) = rule_name r
 why_name why.RepeatedId = codes "RepeatedId"
+why_name why.Order = codes "Order"
 why_name why.Count = codes "Count"
 why_name why.TooLong = codes "TooLong"
 why_name why.Read = codes "Read"

@@ -27,6 +27,8 @@ pub enum Why {
     Rule(TraceRule),
     /// The id of a command of a schedule stood before.
     RepeatedId,
+    /// The time of a record of a capture is earlier than that of the one before it.
+    Order,
     /// Fewer or more records than announced.
     Count,
     /// More records than the form may have.
@@ -52,6 +54,7 @@ impl Why {
             Why::Tile => "Tile",
             Why::Rule(rule) => rule.name(),
             Why::RepeatedId => "RepeatedId",
+            Why::Order => "Order",
             Why::Count => "Count",
             Why::TooLong => "TooLong",
             Why::Read => "Read",

@@ -20,5 +20,5 @@ pub use crate::commands::{commands_text, read_commands, write_commands};
 pub use crate::fault::{TextFault, Why};
 pub use crate::met::{MetCertificate, met_text, read_met, write_met};
 pub use crate::proof::{Proof, read_proof};
-pub use crate::schedule::{Schedule, read_schedule, write_schedule};
+pub use crate::schedule::{Schedule, read_schedule, schedule_text, write_schedule};
 pub use crate::source::Records;

@@ -208,8 +208,8 @@ pub fn read_schedule<R: Read + Drop>(
     }
 }
 
-/// The text of a schedule.
-fn schedule_text(alloc: Global, schedule: &Schedule) -> Result<Vec<u8>, AllocError>
+/// The text of a schedule, which is as [`write_schedule`] asks.
+pub fn schedule_text(alloc: Global, schedule: &Schedule) -> Result<Vec<u8>, AllocError>
     requires { IsRan (ran_of schedule.now) }
     ensures { IfOk result (λ v. v.items ≡ rows_text (ran_rows (ran_of schedule.now))) }
 {

@@ -1,0 +1,263 @@
+-- The laws of captures.
+use Rattle.std.proofs.Common.{◌≡◌, ◌+◌, ◌<◌, ◌≤◌, ◌∙◌, ℕ, zero, suc, List, [], ◌∷◌, ◌++◌, length, map, append-nil, Bool, true, false, Option, Some, None, refl, sym, ap, subst, inl, inr, arith, codes, get_or, add-one}
+use Rattle.std.specs.Prelude.{IfSome, ◌⊎◌}
+use Rattle.std.proofs.lemmas.List.{length-map, map-append, get_or-map}
+use Rattle.csv.specs.Reading.{default_config, records, strip_bom}
+use Rattle.csv.specs.Writing.{read_back}
+use Rattle.blk_capture.specs.Requests.{AreInOrder}
+use Rattle.blk_capture.specs.declared.record.Record.{Record}
+use Rattle.blk_lists.specs.Sources.{Row, TakesRecord}
+use Rattle.blk_lists.specs.Texts.{rows_text}
+use Rattle.blk_lists.specs.Reads.{IsOutside, Reads, Halts, Fails, HandFails, IsOne, IsRowOf, IsStopped, AreGathered, with_next, size_of, repeated}
+use Rattle.blk_lists.specs.Tables.{IsVersion, title_by}
+use Rattle.blk_lists.specs.declared.fault.Why.{Why}
+use Rattle.blk_lists.specs.declared.fault.Why.TheVariants as why
+use Rattle.parts.specs.declared.Repeats.{Repeats}
+use Rattle.parts.specs.declared.Repeats.TheVariants as repeats
+use Rattle.parts.specs.Parts.{Begins, Spells, AllFit, all_rows, over}
+use Rattle.parts.specs.Laws.{Tells, Decides}
+use Rattle.parts.proofs.Then.{then_tells, then_decides, record_decides}
+use Rattle.parts.proofs.Many.{HasRows, ended_tells, ended_decides}
+use Rattle.blk_lists.proofs.TableLaws.{IsTable, title_part, title_decides}
+use Rattle.blk_lists.proofs.Each.{one_record, one_version}
+use Rattle.blk_lists.proofs.Reading.{MadeOf, Fitting, made_more, fit_next, items_wrong, items_over, items_full, few_count, stopped, outside_fails, many_fails, many_ends, full_ends, past_wrong, full_stopped, then_reads, hand_reads, first_halts, second_halts, lines_halt, end_halts}
+use Rattle.blk_lists.proofs.Texts.{text_back}
+use Rattle.blk_capture_text.specs.Steps.{time_at, record_at, IsStep, StepLacks}
+use Rattle.blk_capture_text.specs.Captures.{title_cells, title, last_time, step_after, steps_body, capture_form, capture_rows, AreCapture, SpellsCapture, CaptureTextFault}
+use Rattle.blk_capture_text.specs.Taking.{HasSteps, AreTaken}
+use Rattle.blk_capture_text.specs.declared.reading.Steps.{Steps}
+use Rattle.blk_capture_text.specs.declared.reading.TheConstants.{MAX_RECORDS}
+use Rattle.blk_capture_text.proofs.StepLaws.{step_tells, step_decided}
+
+-- the title
+
+title_table : (version : ℕ) → IsTable (title_cells version) (λ _. Unit {0})
+title_table version = record {
+  sized = (tt, (tt, (tt, (tt, (tt, (tt, tt))))));
+  within = λ v f. (tt, (tt, (tt, (tt, (tt, (tt, tt))))));
+  made = λ x. tt;
+  back = λ v f. refl;
+  forth = λ x. refl;
+  fits = λ x f. tt;
+}
+
+pub title_one : IsOne title
+title_one = record { tells = title_part (codes "blk-capture") 1 title_cells (λ _ _. Unit {0}) (omega arith) title_table; plain = λ v rest fit. tt; one = λ v. refl }
+
+-- a record
+
+pub step_one : (before : List Row) → IsOne (step_after before)
+step_one before = one_record (λ row. row) (IsStep (last_time before)) why.Count (StepLacks (last_time before)) (step_tells (last_time before))
+
+step_decides : (before : List Row) → Decides (step_after before)
+step_decides before = record_decides (λ row. row) (IsStep (last_time before)) why.Count (StepLacks (last_time before)) (λ row. elim (step_decided (last_time before) row) [
+  | inl s ↦ inl (row, s, refl)
+  | inr w ↦ inr w
+])
+
+some_rows : HasRows step_after
+some_rows s v fit e = cc e
+
+body_tells : Tells steps_body
+body_tells = ended_tells (repeats.AtMost MAX_RECORDS) why.TooLong step_after step_after with_next (λ s. (step_one s).tells) (λ s. (step_one s).plain) some_rows (λ s. (step_one s).tells) []
+
+body_decides : Decides steps_body
+body_decides = ended_decides (repeats.AtMost MAX_RECORDS) why.TooLong step_after step_after with_next step_decides step_decides []
+
+pub capture_tells : Tells capture_form
+capture_tells = then_tells title (λ _. steps_body) title_one.tells (λ t fit. body_tells)
+
+capture_decides : Decides capture_form
+capture_decides = then_decides title (λ _. steps_body) (title_decides (codes "blk-capture") 1 title_cells (λ _ _. Unit {0}) (omega arith) title_table) (λ t fit. body_decides)
+
+-- the rows of records are themselves
+
+same_rows : (s vs : List Row) → all_rows step_after with_next s vs ≡ vs
+same_rows s [] = refl
+same_rows s (v ∷ vs) = ap (λ (t : List Row). v ∷ t) (same_rows (s ++ v ∷ []) vs)
+
+pub size_steps : (vs : List Row) → size_of step_after vs ≡ length vs
+size_steps vs = ap length (same_rows [] vs)
+
+last_after : (s : List Row) (v : Row) → last_time (s ++ v ∷ []) ≡ time_at v
+last_after [] v = refl
+last_after (r ∷ []) v = refl
+last_after (r ∷ n ∷ s) v = last_after (n ∷ s) v
+
+-- times don't fall
+
+rising : (s vs : List Row) → AllFit step_after with_next s vs → (k : ℕ) (d : Row) → suc k < length vs → time_at (get_or vs k d) ≤ time_at (get_or vs (suc k) d)
+rising s [] f k d l = absurd (omega (arith, l))
+rising s (v ∷ []) f k d l = absurd (omega (arith, l))
+rising s (v ∷ u ∷ us) f zero d l = let up = f.1.0.order in omega (arith, up, last_after s v)
+rising s (v ∷ u ∷ us) f (suc k) d l = rising (s ++ v ∷ []) (u ∷ us) f.1 k d (omega (arith, l))
+
+pub fit_in_order : (vs : List Row) (cs : List Record) → cs ≡ map record_at vs → AllFit step_after with_next [] vs → AreInOrder cs (length cs)
+fit_in_order vs cs e f = rw e (λ k d l. ordered k d (omega (arith, l, length-map vs record_at)))
+  where
+    empty : Row
+    empty = []
+
+    ordered : (k : ℕ) (d : Record) → k + 1 < length vs → (get_or (map record_at vs) k d).time ≤ (get_or (map record_at vs) (k + 1) d).time
+    ordered k d l =
+        let here : (get_or (map record_at vs) k d).time ≡ time_at (get_or vs k empty) = ap (λ (r : Record). r.time) (get_or-map record_at vs k empty d (omega (arith, l))) in
+        let next : (get_or (map record_at vs) (suc k) d).time ≡ time_at (get_or vs (suc k) empty) = ap (λ (r : Record). r.time) (get_or-map record_at vs (suc k) empty d (omega (arith, l))) in
+        rw (add-one k) (omega (arith, here, next, rising [] vs f k empty (omega (arith, l))))
+
+-- whole captures
+
+spelled : (rows steps : List Row) (version : ℕ) → IsVersion 1 version → Spells capture_form rows ((version, tt), steps) → AreCapture rows steps
+spelled rows steps version v h = let one = one_version version v in subst (λ v. Spells capture_form rows v) (λ i. ((one i, tt), steps)) h
+
+pub spelled_once : (rows : List Row) (c d : List Record) → SpellsCapture rows c → SpellsCapture rows d → c ≡ d
+spelled_once rows c d s t =
+    let e = (capture_tells.once rows ((1, tt), s.0) ((1, tt), t.0) [] [] s.2 t.2).0 in
+    s.1 ∙ ap (λ (z : List Row). map record_at z) (λ i. (e i).1) ∙ sym t.1
+
+pub spelled_or_wrong : (rows : List Row) → ((c : List Record) × SpellsCapture rows c) ⊎ ((at : ℕ) × (w : Why) × CaptureTextFault rows at w)
+spelled_or_wrong rows = elim (capture_decides rows) [
+  | inl h ↦ inl (map record_at h.0.1, (h.0.1, refl, spelled rows h.0.1 h.0.0.0 h.2.fits.0.0 (rw h.2.follows.1.1 at h.2)))
+  | inr f ↦ inr f
+]
+
+pub spelled_no_fault : (rows : List Row) (c : List Record) (at : ℕ) (w : Why) → SpellsCapture rows c → CaptureTextFault rows at w → ⊥
+spelled_no_fault rows c at w s f = capture_tells.apart rows ((1, tt), s.0) [] at w s.2 f
+
+pub one_fault : (rows : List Row) (at other : ℕ) (w v : Why) → CaptureTextFault rows at w → CaptureTextFault rows other v → (at ≡ other) × (w ≡ v)
+one_fault rows at other w v = capture_tells.first rows at other w v
+
+row_back : (last : ℕ) (row : Row) → IsStep last row → read_back row ≡ row
+row_back last [] s = absurd (let none : 0 ≡ 8 = s.width in omega (arith, none))
+row_back last (x ∷ xs) s = refl
+
+rows_back : (s vs : List Row) → AllFit step_after with_next s vs → map read_back (all_rows step_after with_next s vs ++ []) ≡ all_rows step_after with_next s vs ++ []
+rows_back s [] f = refl
+rows_back s (v ∷ vs) f = let first = row_back (last_time s) v f.0 in let others = rows_back (s ++ v ∷ []) vs f.1 in cc (first, others)
+
+pub read_back_is : (steps : List Row) → AreCapture (capture_rows steps) steps → SpellsCapture (records default_config (strip_bom (rows_text (capture_rows steps)))) (map record_at steps)
+unfolding rows_text
+read_back_is steps h =
+    let back : map read_back (capture_rows steps) ≡ capture_rows steps = ap (λ (t : List Row). title_by (codes "blk-capture") title_cells (1, tt) ∷ t) (rows_back [] steps h.fits.1.0.0) in
+    (steps, refl, rw (text_back (capture_rows steps) _ refl back) h)
+
+-- reading
+
+pub capture_read : (left mid : Option (List Row)) (version : ℕ) (steps : List Row) (cs : List Record) → Reads title left mid (version, tt) → IsVersion 1 version → cs ≡ map record_at steps
+    → IfSome mid (λ rows. Begins steps_body rows steps []) → IfSome left (λ rows. SpellsCapture rows cs)
+capture_read None mid version steps cs h v e k = tt
+capture_read (Some rows) mid version steps cs h v e k = (steps, e, spelled rows steps version v (then_reads title (λ _. steps_body) (Some rows) mid (version, tt) steps h k))
+
+-- rows that were taken so far
+pub record IsTaken (s : Steps) (input left : Option (List Row)) (n : ℕ) : Type 0 where
+  pub rows : List Row
+  pub has : HasSteps s rows
+  pub count : length rows ≡ n
+  pub fit : Fitting step_after rows
+  pub made : MadeOf step_after input rows left
+
+made_none : (left : Option (List Row)) → MadeOf step_after left [] left
+made_none None = tt
+made_none (Some rows) = (rows, refl, refl)
+
+pub taken_none : (s : Steps) (left : Option (List Row)) → HasSteps s [] → IsTaken s left left 0
+taken_none s left h = record { rows = []; has = h; count = refl; fit = tt; made = made_none left }
+
+pub taken_more : (s t : Steps) (input left mid : Option (List Row)) (n : ℕ) (row : Row) → IsTaken s input left n → TakesRecord left mid row true → IsStep s.last row → t.records.items ≡ s.records.items ++ record_at row ∷ [] → t.last ≡ time_at row
+    → IsTaken t input mid (n + 1)
+taken_more s t input left mid n row g taken step items last =
+    let fits : IsStep (last_time g.rows) row = rw g.has.1 at step in record {
+      rows = g.rows ++ row ∷ [];
+      has = (items ∙ ap (λ (z : List Record). z ++ record_at row ∷ []) g.has.0 ∙ sym (map-append record_at g.rows (row ∷ [])), last ∙ sym (last_after g.rows row));
+      count = let c = g.count in omega (arith, c, length_one g.rows);
+      fit = fit_next step_after g.rows row g.fit fits;
+      made = made_more step_after input left mid mid g.rows row row g.made taken (hand_reads (step_after g.rows) mid row row (λ rest. record { fits = fits; made = refl; follows = tt }));
+    }
+  where
+    length_one : (rows : List Row) → length (rows ++ row ∷ []) ≡ length rows + 1
+    length_one [] = refl
+    length_one (r ∷ rows) = let more = length_one rows in omega (arith, more)
+
+abbrev at_most : Repeats
+at_most = repeats.AtMost MAX_RECORDS
+
+pub taken_over : (s : Steps) (input left mid : Option (List Row)) (n start at : ℕ) (row : Row) → IsTaken s input left n → n < MAX_RECORDS → TakesRecord left mid row false → at ≡ start + n + 1 → AreTaken s input mid start at true
+taken_over s input left mid n start at row g less taken e =
+    let c = g.count in
+    let few : length g.rows < MAX_RECORDS = omega (arith, c, less) in
+    (g.rows, g.has, (items_over step_after at_most MAX_RECORDS input left mid g.rows row refl g.made taken g.fit few, (g.fit, few_count at_most MAX_RECORDS (length g.rows) refl few), omega (arith, e, c, size_steps g.rows), tt))
+
+pub taken_full : (s : Steps) (input left : Option (List Row)) (n start at : ℕ) → IsTaken s input left n → n ≡ MAX_RECORDS → at ≡ start + n → AreTaken s input left start at false
+taken_full s input left n start at g full e =
+    let c = g.count in
+    let all : length g.rows ≡ MAX_RECORDS = c ∙ full in
+    (g.rows, g.has, (items_full step_after at_most input left g.rows g.made g.fit all, (g.fit, omega (arith, all)), all, omega (arith, e, c, size_steps g.rows)))
+
+hand_lacks : (failed : Bool) (before : List Row) (left : Option (List Row)) (row : Row) (start at : ℕ) (w : Why) → at ≡ start → (w ≡ why.Memory) ⊎ StepLacks (last_time before) row w → HandFails failed (step_after before) left row start at w
+hand_lacks failed before None row start at w e h = tt
+hand_lacks failed before (Some rows) row start at w e (inl m) = inl (inr m)
+hand_lacks failed before (Some rows) row start at w e (inr bad) = inr (1, omega (arith, e), (refl, bad))
+
+pub taken_wrong : (failed : Bool) (s : Steps) (input left mid : Option (List Row)) (n start at : ℕ) (row : Row) (w : Why) → IsTaken s input left n → n < MAX_RECORDS → TakesRecord left mid row true → at ≡ start + n + 1
+    → (w ≡ why.Memory) ⊎ StepLacks s.last row w → Fails failed (repeated (repeats.AtMost MAX_RECORDS) step_after) input start at w
+taken_wrong failed s input left mid n start at row w g less taken e bad =
+    let c = g.count in
+    let few : length g.rows < MAX_RECORDS = omega (arith, c, less) in
+    items_wrong failed step_after at_most input left mid g.rows row start at at w g.made taken g.fit few (omega (arith, e, c, size_steps g.rows))
+    (hand_lacks failed g.rows mid row at at w refl (rw g.has.1 at bad))
+
+pub taken_stopped : (s : Steps) (input left : Option (List Row)) (n start at last : ℕ) → IsTaken s input left n → n ≤ MAX_RECORDS → at ≡ start + n + 1 → last ≡ at → IsStopped (repeats.AtMost MAX_RECORDS) step_after input start 0 at last
+taken_stopped s input left n start at last g less e same =
+    let c = g.count in
+    stopped step_after at_most input left g.rows start 0 at last g.made g.fit (omega (arith, c, less)) (omega (arith, e, c, size_steps g.rows)) (omega (arith, same)) (omega (arith, e, c, same, size_steps g.rows))
+
+-- records to the end of the text
+
+pub over_ends : (s : Steps) (left mid : Option (List Row)) (start at : ℕ) (g : AreTaken s left mid start at true) → IfSome left (λ all. Begins steps_body all g.0 [])
+over_ends s left mid start at g = many_ends step_after step_after at_most left g.0 g.2.0
+
+pub full_ends_body : (s : Steps) (left mid new : Option (List Row)) (start at : ℕ) (row : Row) (g : AreTaken s left mid start at false) → TakesRecord mid new row false → IfSome left (λ all. Begins steps_body all g.0 [])
+full_ends_body s left mid new start at row g taken = many_ends step_after step_after at_most left g.0 (full_ends step_after at_most left mid new g.0 row g.2.0 taken)
+
+halted : (failed : Bool) (left : Option (List Row)) (start at last : ℕ) (w : Why) → IsStopped (repeats.AtMost MAX_RECORDS) step_after left start 0 at last → Fails failed steps_body left start at w → Halts failed steps_body left start at w
+halted failed left start at last w = lines_halt failed step_after at_most left start at last w (λ s. (step_one s).tells) (λ s. (step_one s).plain) some_rows
+
+pub taking_halts : (failed : Bool) (left : Option (List Row)) (start at last : ℕ) (w : Why) → IsStopped (repeats.AtMost MAX_RECORDS) step_after left start 0 at last → Fails failed (repeated (repeats.AtMost MAX_RECORDS) step_after) left start at w
+    → Halts failed steps_body left start at w
+taking_halts failed left start at last w s f = halted failed left start at last w s (many_fails failed step_after step_after at_most left start at w f)
+
+full : (s : Steps) (left mid : Option (List Row)) (start now at : ℕ) → AreTaken s left mid start now false → at ≡ now + 1 → IsStopped (repeats.AtMost MAX_RECORDS) step_after left start 0 at at
+full s left mid start now at g e = let is = g.2.3 in full_stopped step_after at_most left mid g.0 start 0 at g.2.0 g.2.2 (omega (arith, is, e))
+
+pub end_outside : (failed : Bool) (s : Steps) (left mid : Option (List Row)) (start now at : ℕ) (w : Why) → AreTaken s left mid start now false → at ≡ now + 1 → IsOutside failed w → Halts failed steps_body left start at w
+end_outside failed s left mid start now at w g e o = halted failed left start at at w (full s left mid start now at g e) (outside_fails failed steps_body left start at w o)
+
+past_halts : (failed : Bool) (s : Steps) (left mid new : Option (List Row)) (start now at : ℕ) (row : Row) (w : Why) (g : AreTaken s left mid start now false) → TakesRecord mid new row true → at ≡ now + 1
+    → ((rest : List Row) → (over why.TooLong (step_after g.0)).Wrong (row ∷ rest) 1 w) → Halts failed steps_body left start at w
+past_halts failed s left mid new start now at row w g taken e bad =
+    let is = g.2.3 in
+    halted failed left start at at w (full s left mid start now at g e)
+    (past_wrong failed step_after step_after at_most left mid new g.0 row start at w g.2.0 taken (omega (arith, is, e)) bad)
+
+-- one record too many, and one that is wrong by itself
+pub past_long : (failed : Bool) (s : Steps) (left mid new : Option (List Row)) (start now at : ℕ) (row : Row) → AreTaken s left mid start now false → TakesRecord mid new row true → at ≡ now + 1 → IsStep s.last row
+    → Halts failed steps_body left start at why.TooLong
+past_long failed s left mid new start now at row g taken e step =
+    let fits : IsStep (last_time g.0) row = rw g.1.1 at step in
+    past_halts failed s left mid new start now at row why.TooLong g taken e (λ rest. ((λ z. (cc z)), inr (refl, refl, (row, rest, record { fits = fits; made = refl; follows = tt }))))
+
+pub past_lacks : (failed : Bool) (s : Steps) (left mid new : Option (List Row)) (start now at : ℕ) (row : Row) (w : Why) → AreTaken s left mid start now false → TakesRecord mid new row true → at ≡ now + 1 → StepLacks s.last row w
+    → Halts failed steps_body left start at w
+past_lacks failed s left mid new start now at row w g taken e bad =
+    let lacks : StepLacks (last_time g.0) row w = rw g.1.1 at bad in
+    past_halts failed s left mid new start now at row w g taken e (λ rest. ((λ z. (cc z)), inl (refl, lacks)))
+
+pub taken_long : (s : Steps) (left mid : Option (List Row)) (start at : ℕ) (over : Bool) (g : AreTaken s left mid start at over) → length s.records.items ≡ length g.0
+taken_long s left mid start at over g = ap length g.1.0 ∙ length-map g.0 record_at
+
+-- where reading halts
+
+pub title_halts : (failed : Bool) (left : Option (List Row)) (start at : ℕ) (w : Why) → start ≡ 0 → Halts failed title left start at w → Halts failed capture_form left 0 at w
+title_halts failed left start at w e h = first_halts failed title (λ _. steps_body) left 0 at w (λ t fit. body_tells) (rw e at h)
+
+pub body_halts : (failed : Bool) (left mid : Option (List Row)) (t : ℕ × Unit {0}) (middle at : ℕ) (w : Why) → middle ≡ 1 → Reads title left mid t → Halts failed steps_body mid middle at w → Halts failed capture_form left 0 at w
+body_halts failed left mid t middle at w e r h = second_halts failed title (λ _. steps_body) left mid t 0 middle at w title_one.tells r (omega (arith, e)) h

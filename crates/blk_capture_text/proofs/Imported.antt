@@ -1,0 +1,89 @@
+-- Requests as a schedule that may be written.
+use Rattle.std.proofs.Common.{◌≡◌, ◌≢◌, ◌+◌, ◌<◌, ◌≤◌, ◌^◌, ◌∙◌, ℕ, suc, cond, Bool, true, false, List, [], ◌∷◌, length, map, sym, ap, arith, get_or}
+use Rattle.std.specs.Prelude.{All}
+use Rattle.std.proofs.lemmas.List.{length-map}
+use Rattle.edd_check.specs.Schedule.{RoundsInRange}
+use Rattle.edd_check.specs.Limits.{most_commands}
+use Rattle.edd_check.specs.declared.Command.{Command}
+use Rattle.blk_bio.specs.declared.bio.Dir.TheVariants.{Read}
+use Rattle.blk_capture.specs.Counting.{AreSolvable, IsCounted}
+use Rattle.blk_capture.specs.Fates.{told}
+use Rattle.blk_capture.specs.Parting.{before, part, bio_in, fate_in}
+use Rattle.blk_capture.specs.declared.requests.Bio.{Bio}
+use Rattle.blk_capture_text.specs.Imports.{begin_of, IsWhole, IsImport}
+use Rattle.blk_capture_text.specs.declared.importing.Asked.{Asked}
+use Rattle.blk_capture.specs.Requests.{served_of}
+use Rattle.blk_capture.specs.declared.fates.Fate.{Fate}
+use Rattle.blk_capture.specs.declared.record.Action.{Action}
+use Rattle.blk_capture.specs.declared.record.Record.{Record}
+use Rattle.blk_capture.specs.declared.counting.Served.{Served}
+use Rattle.blk_capture.specs.declared.requests.Request.{Request}
+use Rattle.blk_lists.specs.Commands.{IsCommandInRange}
+use Rattle.blk_lists.specs.Schedule.{AreDistinct, IsRan}
+
+abbrev none_served : Served
+none_served = record { entry = 0; deadline = 0; dispatch = 0 }
+
+id_is : (served : List Served) (commands : List Command) (rounds : List ℕ) → IsCounted served commands rounds → (k : ℕ) (e : Command) → k < length commands → (get_or commands k e).id ≡ k + 1
+id_is served commands rounds c k e l =
+    let many = c.a_command in
+    ap (λ (x : Command). x.id) (c.commands_are k none_served e (omega (arith, l, many)))
+
+ids_differ : (served : List Served) (commands : List Command) (rounds : List ℕ) → IsCounted served commands rounds → AreDistinct commands
+ids_differ served commands rounds c j k d lt top same =
+    let here = id_is served commands rounds c j d (omega (arith, lt, top)) in
+    let there = id_is served commands rounds c k d top in
+    omega (arith, here, there, same, lt)
+
+pub may_be_written : (requests : List Request) (commands : List Command) (rounds : List ℕ) → length requests ≤ most_commands → IsCounted (map served_of requests) commands rounds → AreSolvable commands → RoundsInRange rounds
+    → IsRan (record { depth = 1; commands = commands; rounds = rounds })
+may_be_written requests commands rounds few c solvable within =
+    let each = c.a_command in
+    let round = c.a_round in
+    let long = length-map requests served_of in record {
+      depth = (omega arith, omega arith);
+      few = omega (arith, few, each, long);
+      one_each = round ∙ sym each;
+      commands = in_range;
+      rounds = within;
+      distinct = ids_differ (map served_of requests) commands rounds c;
+    }
+  where
+    in_range : All IsCommandInRange commands
+    in_range k d l =
+        let id = id_is (map served_of requests) commands rounds c k d l in
+        let each = c.a_command in
+        let long = length-map requests served_of in
+        let both = solvable k d l in
+        let release = both.0 in
+        let due = both.1 in
+        (omega (arith, id, l, few, each, long), omega (arith, release), omega (arith, due))
+
+-- no more records are told of than there are
+
+one_more : (b : Bool) (n m : ℕ) → n ≤ m → cond b (suc n) n ≤ suc m
+one_more true n m l = omega (arith, l)
+one_more false n m l = omega (arith, l)
+
+pub told_few : (p : Action → Fate → Bool) (records : List Record) (fates : List Fate) → told p records fates ≤ length records
+unfolding told
+told_few p [] fates = omega arith
+told_few p (r ∷ records) [] = omega arith
+told_few p (r ∷ records) (f ∷ fates) = one_more (p r.action f) (told p records fates) (length records) (told_few p records fates)
+
+-- a part of what was matched
+
+pub imported : (records : List Record) (asked : Asked) (rs : List Request) (bs : List Bio) (fs : List Fate) (absorbed left : ℕ) (ps : List Request) (pb : List Bio) (pf : List Fate) (merged out begin : ℕ)
+    → begin ≡ begin_of asked.skip records → IsWhole records asked.options rs bs fs absorbed left → ps ≡ part begin asked.first rs → pb ≡ map (bio_in (before begin rs) (length ps)) bs → pf ≡ map (fate_in (before begin rs) (length ps)) fs
+    → merged ≡ absorbed → out + length ps ≡ left + length rs → IsImport records asked ps pb pf merged out
+imported records asked rs bs fs absorbed left ps pb pf merged out begin at whole requests bios fates same count = record {
+  all_requests = rs;
+  all_bios = bs;
+  all_fates = fs;
+  all_left = left;
+  whole = rw same whole;
+  requests_are = rw at at requests;
+  bios_are = rw at at bios;
+  fates_are = rw at at fates;
+  left_are = count;
+}

@@ -1,0 +1,3 @@
+pub mod StepLaws
+pub mod CaptureLaws
+pub mod Imported

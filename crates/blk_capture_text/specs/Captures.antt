@@ -1,0 +1,53 @@
+-- A capture: a title, and a record for each step of the block layer.
+use Rattle.std.specs.Prelude.{◌≡◌, ℕ, List, [], ◌∷◌, map, codes}
+use Rattle.blk_capture.specs.declared.record.Record.{Record}
+use Rattle.blk_lists.specs.Sources.{Row}
+use Rattle.blk_lists.specs.Reads.{items_of}
+use Rattle.blk_lists.specs.Tables.{Cell, Blank, title_record}
+use Rattle.blk_lists.specs.declared.fault.Why.{Why}
+use Rattle.blk_lists.specs.declared.fault.Why.TheVariants as why
+use Rattle.parts.specs.declared.Repeats.TheVariants as repeats
+use Rattle.parts.specs.Parts.{Part, record_of, then, Spells}
+use Rattle.blk_capture_text.specs.Steps.{time_at, record_at, IsStep, StepLacks}
+use Rattle.blk_capture_text.specs.declared.reading.TheConstants.{MAX_RECORDS}
+
+-- title: blk-capture, 1, six empty fields
+abbrev pub title_cells : ℕ → List (Cell (Unit {0}))
+title_cells version = Blank ∷ Blank ∷ Blank ∷ Blank ∷ Blank ∷ Blank ∷ []
+
+abbrev pub title : Part Row Why (ℕ × Unit {0})
+title = title_record (codes "blk-capture") 1 title_cells (λ _ _. Unit {0})
+
+-- the time of the last of some records, 0 before the first
+abbrev pub last_time : List Row → ℕ
+last_time [] = 0
+last_time (row ∷ []) = time_at row
+last_time (row ∷ next ∷ rows) = last_time (next ∷ rows)
+
+-- a record after those before it, by its row
+abbrev pub step_after : List Row → Part Row Why Row
+step_after before = record_of (λ row. row) (IsStep (last_time before)) why.Count (StepLacks (last_time before))
+
+-- records to the end of the text, at most so many
+abbrev pub steps_body : Part Row Why (List Row)
+steps_body = items_of (repeats.AtMost MAX_RECORDS) step_after
+
+-- a title, and records whose times don't fall
+abbrev pub capture_form : Part Row Why ((ℕ × Unit {0}) × List Row)
+capture_form = then title (λ _. steps_body)
+
+-- the rows of a capture of these records, each as its row
+abbrev pub capture_rows : List Row → List Row
+capture_rows steps = capture_form.rows_of ((1, tt), steps)
+
+-- the rows are those of a capture
+abbrev pub AreCapture : List Row → List Row → Type 0
+AreCapture rows steps = Spells capture_form rows ((1, tt), steps)
+
+-- the rows spell these records
+abbrev pub SpellsCapture : List Row → List Record → Type 0
+SpellsCapture rows records = (steps : List Row) × (records ≡ map record_at steps) × AreCapture rows steps
+
+-- the first fault of a capture
+abbrev pub CaptureTextFault : List Row → ℕ → Why → Type 0
+CaptureTextFault = capture_form.Wrong

@@ -1,0 +1,58 @@
+-- A record of a capture: seconds, nanoseconds, processor, action, process, rwbs, first sector, sectors.
+use Rattle.std.specs.Prelude.{◌≡◌, ◌≤◌, ◌+◌, ◌*◌, ℕ, List, [], ◌∷◌, length, get_or}
+use Rattle.std.specs.Str.Parse.{AllDigits, digits_value}
+use Rattle.faults.specs.Order.{IsFirstFault}
+use Rattle.blk_capture.specs.Passing.{action_by, op_by}
+use Rattle.blk_capture.specs.declared.record.Record.{Record}
+use Rattle.blk_lists.specs.Sources.{Row}
+use Rattle.blk_lists.specs.Fields.{EachField, IsNumber, IsInRange}
+use Rattle.blk_lists.specs.declared.fault.Why.{Why}
+use Rattle.blk_lists.specs.declared.fault.Why.TheVariants as why
+use Rattle.blk_capture_text.specs.declared.step.TheConstants.{STEP}
+
+-- nanoseconds have nine digits
+abbrev pub IsNanoseconds : List ℕ → Type 0
+IsNanoseconds f = (length f ≡ 9) × AllDigits 10 f
+
+-- the number of a field
+abbrev pub number_at : ℕ → Row → ℕ
+number_at k cells = digits_value 10 (get_or cells k [])
+
+-- the time of a record, in nanoseconds
+abbrev pub time_at : Row → ℕ
+time_at cells = number_at 0 cells * 1_000_000_000 + number_at 1 cells
+
+-- what a record tells
+abbrev pub record_at : Row → Record
+record_at cells = record {
+  time = time_at cells;
+  cpu = number_at 2 cells;
+  action = action_by (get_or cells 3 []);
+  pid = number_at 4 cells;
+  op = op_by (get_or cells 5 []);
+  first = number_at 6 cells;
+  sectors = number_at 7 cells;
+}
+
+-- its numbers are numbers, and its nanoseconds nine digits
+abbrev pub AreNumbers : Row → Type 0
+AreNumbers cells = EachField IsNumber STEP cells × IsNanoseconds (get_or cells 1 [])
+
+-- a record that may stand after one of a time
+pub record IsStep (last : ℕ) (cells : Row) : Type 0 where
+  pub width : length cells ≡ 8
+  pub numbers : AreNumbers cells
+  pub ranges : EachField IsInRange STEP cells
+  pub order : last ≤ time_at cells
+
+-- the rules of a record, in the order in which they are looked at, each with its fault
+abbrev pub step_rules : ℕ → Row → List (Type 0 × Why)
+step_rules last cells =
+    (length cells ≡ 8, why.Fields)
+    ∷ (AreNumbers cells, why.Number)
+    ∷ (EachField IsInRange STEP cells, why.Range)
+    ∷ (last ≤ time_at cells, why.Order) ∷ []
+
+-- the first thing that a record lacks
+abbrev pub StepLacks : ℕ → Row → Why → Type 0
+StepLacks last cells = IsFirstFault (step_rules last cells)

@@ -1,0 +1,56 @@
+-- A capture in numbers, as text.
+use Rattle.std.specs.Prelude.{ℕ, ◌++◌, ◌∷◌, [], List, Option, None, Some, count_by, decimal, codes}
+use Rattle.blk_capture.specs.Fates.{is_of_kind, is_passed, is_unmatched}
+use Rattle.blk_capture.specs.declared.fates.Fate.{Fate}
+use Rattle.blk_capture.specs.declared.record.Passed.TheVariants as passed
+use Rattle.blk_capture.specs.declared.summary.Spread.{Spread}
+use Rattle.blk_capture.specs.declared.summary.Summary.{Summary}
+use Rattle.blk_capture_text.specs.declared.numbers.Counts.{Counts}
+
+-- how many records were not matched, and how many passed over, by the reason
+abbrev pub counts_of : List Fate → Counts
+counts_of fates = record {
+  unmatched = count_by is_unmatched fates;
+  passed = count_by is_passed fates;
+  plugs = count_by (is_of_kind passed.Plug) fates;
+  unplugs = count_by (is_of_kind passed.Unplug) fates;
+  actions = count_by (is_of_kind passed.Action) fates;
+  discards = count_by (is_of_kind passed.Discard) fates;
+  erases = count_by (is_of_kind passed.Erase) fates;
+  flushes = count_by (is_of_kind passed.Flush) fates;
+  others = count_by (is_of_kind passed.Nothing) fates;
+  empty = count_by (is_of_kind passed.Empty) fates;
+  past_end = count_by (is_of_kind passed.PastEnd) fates;
+}
+
+-- a word, a space, its number and a line's end
+abbrev pub number_line : List ℕ → ℕ → List ℕ
+number_line word n = ((word ++ 32 ∷ []) ++ decimal n) ++ 10 ∷ []
+
+-- a number, or `none`
+abbrev pub figure_text : Option ℕ → List ℕ
+figure_text None = codes "none"
+figure_text (Some n) = decimal n
+
+-- a word and the quantiles, each after a space
+abbrev pub spread_line : List ℕ → Spread → List ℕ
+spread_line word s = (((word ++ 32 ∷ figure_text s.p50) ++ 32 ∷ figure_text s.p99) ++ 32 ∷ figure_text s.max) ++ 10 ∷ []
+
+-- what there is
+abbrev pub number_lines : Summary → List ℕ
+number_lines s = ((((number_line (codes "records") s.records ++ number_line (codes "bios") s.bios) ++ number_line (codes "requests") s.requests) ++ number_line (codes "merges") s.merges) ++ number_line (codes "late-reads") s.late_reads) ++ number_line (codes "late-writes") s.late_writes
+
+-- how long it waited, and how much was in flight
+abbrev pub wait_lines : Summary → List ℕ
+wait_lines s = ((spread_line (codes "q-to-g") s.tag ++ spread_line (codes "i-to-d") s.scheduler) ++ spread_line (codes "d-to-c") s.device) ++ number_line (codes "in-flight") s.in_flight
+
+-- what isn't counted there
+abbrev pub count_lines : ℕ → Counts → List ℕ
+count_lines left_out c = ((((((((((number_line (codes "left-out") left_out ++ number_line (codes "unmatched") c.unmatched) ++ number_line (codes "plugs") c.plugs) ++ number_line (codes "unplugs") c.unplugs) ++ number_line (codes "actions") c.actions) ++ number_line (codes "discards") c.discards) ++ number_line (codes "erases") c.erases) ++ number_line (codes "flushes") c.flushes) ++ number_line (codes "others") c.others) ++ number_line (codes "empty") c.empty) ++ number_line (codes "past-end") c.past_end)
+
+abbrev pub summary_lines : Summary → ℕ → Counts → List ℕ
+summary_lines s left_out c = (number_lines s ++ wait_lines s) ++ count_lines left_out c
+
+-- the line of what was passed over or not matched
+abbrev pub notice_line : Counts → List ℕ
+notice_line c = (((codes "blk: passed over " ++ decimal c.passed) ++ codes ", unmatched ") ++ decimal c.unmatched) ++ 10 ∷ []

@@ -1,0 +1,75 @@
+//! What of a capture is taken, as `import` is asked.
+
+ghost use Rattle.std.specs.Prelude.{◌≡◌, ◌≤◌, IfOk, IfErr, length};
+ghost use Rattle.edd_check.specs.Limits.{most_commands};
+ghost use Rattle.blk_capture.specs.Requests.{AreInOrder, AreTimed};
+ghost use Rattle.blk_capture_text.specs.Imports.{IsImport, IsImportFault, first_time, begin_of};
+
+use blk_capture::{Matched, Options, Record, match_records, part_of};
+use edd_check::MAX_COMMANDS;
+use std::alloc::Global;
+
+/// How a capture is imported.
+#[derive(Clone, Copy, Debug, PartialEq, Eq)]
+pub struct Asked {
+    /// How soon requests are due, and from when on they count as come in.
+    pub options: Options,
+    /// Requests that went out sooner after the first record are left out, in nanoseconds.
+    pub skip: u64,
+    /// Of the others only so many are taken, those that went out first.
+    pub first: u64,
+}
+
+/// Why a capture is not imported.
+#[derive(Clone, Copy, Debug, PartialEq, Eq)]
+pub enum ImportFault {
+    /// More requests than a schedule may have.
+    TooMany,
+    /// Memory ran out.
+    Memory,
+}
+
+/// The time of the first record, 0 where there is none.
+pub fn first_time(records: &[Record]) -> u64
+    ensures { result ≡ first_time records.now }
+{
+    match records {
+        [first, ..] => first.time,
+        [] => 0,
+    }
+}
+
+/// From when on requests are taken.
+fn begin_of(skip: u64, records: &[Record]) -> u64
+    ensures { result ≡ begin_of skip records.now }
+{
+    first_time(records).saturating_add(skip)
+}
+
+/// The requests of a capture that went out as long after its first record as asked, or later, and of these the first ones; with its bios,
+/// and what became of its records. The times of the records don't fall, as those that [`crate::read_capture`] gives.
+///
+/// [`ImportFault::TooMany`]: more requests would be taken than a schedule may have, [`edd_check::MAX_COMMANDS`]. The time grows as n log n.
+pub fn import(alloc: Global, records: &[Record], asked: &Asked) -> Result<Matched, ImportFault>
+    requires { AreInOrder records.now (length records.now) }
+    ensures ok { IfOk result (λ m. IsImport records.now asked.now m.requests.items m.bios.items m.fates.items m.absorbed m.left_out) }
+    ensures timed { IfOk result (λ m. AreTimed m.requests.items) }
+    ensures few { IfOk result (λ m. length m.requests.items ≤ most_commands) }
+    ensures fates { IfOk result (λ m. length m.fates.items ≡ length records.now) }
+    ensures err { IfErr result (IsImportFault records.now asked.now) }
+{
+    let whole = match match_records(alloc, records, &asked.options) {
+        Ok(whole) => whole,
+        Err(_) => return Err(ImportFault::Memory),
+    };
+    let _ = records.len();
+    match part_of(alloc, &whole, begin_of(asked.skip, records), asked.first) {
+        Ok(part) => {
+            if part.requests.len() as u64 > MAX_COMMANDS {
+                return Err(ImportFault::TooMany);
+            }
+            Ok(part)
+        }
+        Err(_) => Err(ImportFault::Memory),
+    }
+}

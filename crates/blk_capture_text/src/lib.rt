@@ -1,0 +1,19 @@
+//! Captures as texts: one is read as records, and what they tell of requests is written, as a schedule, a table and a summary.
+#![tactic(auto)]
+
+mod importing;
+pub mod laws;
+mod numbers;
+mod reading;
+mod schedule;
+mod shown;
+mod step;
+mod table;
+
+pub use crate::importing::{Asked, ImportFault, first_time, import};
+pub use crate::numbers::{Counts, count_fates, notice_text, summary_text, write_summary};
+pub use crate::reading::{MAX_RECORDS, read_capture};
+pub use crate::schedule::schedule_of;
+pub use crate::shown::{Shown, shown_text};
+pub use crate::step::STEP;
+pub use crate::table::{table_text, write_table};

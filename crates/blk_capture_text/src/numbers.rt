@@ -1,0 +1,232 @@
+//! A capture in numbers, as text.
+
+ghost use Rattle.std.specs.Prelude.{◌≡◌, ◌++◌, IfOk, IfErr, OnOk, count_by};
+ghost use Rattle.std.specs.Io.KnownBytes.{Appends};
+ghost use Rattle.drafts.specs.Parts.{AppendsPart};
+ghost use Rattle.blk_capture.specs.Fates.{is_unmatched, is_passed};
+ghost use Rattle.blk_capture_text.specs.SummaryText.{counts_of, number_line, spread_line, figure_text, number_lines, wait_lines, count_lines, summary_lines, notice_line};
+
+use blk_capture::{Fate, Passed, Spread, Summary, count_passed};
+use drafts::{Draft, WriteFault, write_whole};
+use std::alloc::{AllocError, Global};
+use std::io::Write;
+
+/// How many records of a capture were not matched, and how many passed over, by the reason.
+#[derive(Clone, Copy, Debug, PartialEq, Eq)]
+pub struct Counts {
+    /// What they speak of isn't known.
+    pub unmatched: u64,
+    /// Passed over, for whatever reason.
+    pub passed: u64,
+    /// Of these, of a plug's beginning.
+    pub plugs: u64,
+    /// Of a plug that was flushed.
+    pub unplugs: u64,
+    /// Of an action that says nothing of a request.
+    pub actions: u64,
+    /// Of a discard.
+    pub discards: u64,
+    /// Of an erase.
+    pub erases: u64,
+    /// Of a flush without data.
+    pub flushes: u64,
+    /// Of something else that moves no data.
+    pub others: u64,
+    /// Without sectors.
+    pub empty: u64,
+    /// With sectors past the last one.
+    pub past_end: u64,
+}
+
+/// Whether a record was not matched.
+fn is_unmatched(fate: Fate) -> bool
+    ensures { result ≡ is_unmatched fate }
+{
+    match fate {
+        Fate::Unmatched => true,
+        Fate::Taken(_) | Fate::LeftOut | Fate::PassedOver(_) => false,
+    }
+}
+
+/// How many records were not matched.
+fn count_unmatched(fates: &[Fate]) -> u64
+    ensures { result ≡ count_by is_unmatched fates.now }
+{
+    let mut count = 0;
+    for fate in fates {
+        if is_unmatched(*fate) {
+            count += 1;
+        }
+    }
+    count
+}
+
+/// Whether a record was passed over.
+fn is_passed(fate: Fate) -> bool
+    ensures { result ≡ is_passed fate }
+{
+    match fate {
+        Fate::PassedOver(_) => true,
+        Fate::Taken(_) | Fate::LeftOut | Fate::Unmatched => false,
+    }
+}
+
+/// How many records were passed over, for whatever reason.
+fn count_all_passed(fates: &[Fate]) -> u64
+    ensures { result ≡ count_by is_passed fates.now }
+{
+    let mut count = 0;
+    for fate in fates {
+        if is_passed(*fate) {
+            count += 1;
+        }
+    }
+    count
+}
+
+/// What became of the records that are of no request that is known.
+pub fn count_fates(fates: &[Fate]) -> Counts
+    ensures { result ≡ counts_of fates.now }
+{
+    Counts {
+        unmatched: count_unmatched(fates),
+        passed: count_all_passed(fates),
+        plugs: count_passed(fates, Passed::Plug),
+        unplugs: count_passed(fates, Passed::Unplug),
+        actions: count_passed(fates, Passed::Action),
+        discards: count_passed(fates, Passed::Discard),
+        erases: count_passed(fates, Passed::Erase),
+        flushes: count_passed(fates, Passed::Flush),
+        others: count_passed(fates, Passed::Nothing),
+        empty: count_passed(fates, Passed::Empty),
+        past_end: count_passed(fates, Passed::PastEnd),
+    }
+}
+
+/// Adds the line of a number.
+fn push_number_line(draft: &mut Draft, word: &[u8], number: u64) -> Result<(), AllocError>
+    ensures { OnOk result (draft.new ≡ draft.old ++ number_line word.now number) }
+{
+    draft.text(word)?;
+    draft.text(b" ")?;
+    draft.number(number)?;
+    draft.text(b"\n")
+}
+
+/// Adds a number, or `none`.
+fn push_figure(draft: &mut Draft, number: Option<u64>) -> Result<(), AllocError>
+    ensures { OnOk result (draft.new ≡ draft.old ++ figure_text number) }
+{
+    match number {
+        Some(number) => draft.number(number),
+        None => draft.text(b"none"),
+    }
+}
+
+/// Adds the line of quantiles.
+fn push_spread_line(draft: &mut Draft, word: &[u8], spread: &Spread) -> Result<(), AllocError>
+    ensures { OnOk result (draft.new ≡ draft.old ++ spread_line word.now spread.now) }
+{
+    draft.text(word)?;
+    draft.text(b" ")?;
+    push_figure(draft, spread.p50)?;
+    draft.text(b" ")?;
+    push_figure(draft, spread.p99)?;
+    draft.text(b" ")?;
+    push_figure(draft, spread.max)?;
+    draft.text(b"\n")
+}
+
+/// Adds the lines of what there is.
+fn push_numbers(draft: &mut Draft, summary: &Summary) -> Result<(), AllocError>
+    ensures { OnOk result (draft.new ≡ draft.old ++ number_lines summary.now) }
+{
+    push_number_line(draft, b"records", summary.records)?;
+    push_number_line(draft, b"bios", summary.bios)?;
+    push_number_line(draft, b"requests", summary.requests)?;
+    push_number_line(draft, b"merges", summary.merges)?;
+    push_number_line(draft, b"late-reads", summary.late_reads)?;
+    push_number_line(draft, b"late-writes", summary.late_writes)
+}
+
+/// Adds the lines of the waits and of the most in flight.
+fn push_waits(draft: &mut Draft, summary: &Summary) -> Result<(), AllocError>
+    ensures { OnOk result (draft.new ≡ draft.old ++ wait_lines summary.now) }
+{
+    push_spread_line(draft, b"q-to-g", &summary.tag)?;
+    push_spread_line(draft, b"i-to-d", &summary.scheduler)?;
+    push_spread_line(draft, b"d-to-c", &summary.device)?;
+    push_number_line(draft, b"in-flight", summary.in_flight)
+}
+
+/// Adds the lines of what isn't counted there.
+fn push_counts(draft: &mut Draft, left_out: u64, counts: &Counts) -> Result<(), AllocError>
+    ensures { OnOk result (draft.new ≡ draft.old ++ count_lines left_out counts.now) }
+{
+    push_number_line(draft, b"left-out", left_out)?;
+    push_number_line(draft, b"unmatched", counts.unmatched)?;
+    push_number_line(draft, b"plugs", counts.plugs)?;
+    push_number_line(draft, b"unplugs", counts.unplugs)?;
+    push_number_line(draft, b"actions", counts.actions)?;
+    push_number_line(draft, b"discards", counts.discards)?;
+    push_number_line(draft, b"erases", counts.erases)?;
+    push_number_line(draft, b"flushes", counts.flushes)?;
+    push_number_line(draft, b"others", counts.others)?;
+    push_number_line(draft, b"empty", counts.empty)?;
+    push_number_line(draft, b"past-end", counts.past_end)
+}
+
+/// The lines of a summary.
+pub fn summary_text(
+    alloc: Global,
+    summary: &Summary,
+    left_out: u64,
+    counts: &Counts,
+) -> Result<Vec<u8>, AllocError>
+    ensures { IfOk result (λ v. v.items ≡ summary_lines summary.now left_out counts.now) }
+{
+    let mut draft = Draft::new(alloc);
+    push_numbers(&mut draft, summary)?;
+    push_waits(&mut draft, summary)?;
+    push_counts(&mut draft, left_out, counts)?;
+    draft.finish()
+}
+
+/// Writes a summary, at once where all of it could be made: lines of a word, a space and a number, `records`, `bios`, `requests`,
+/// `merges`, `late-reads`, `late-writes`; then `q-to-g`, `i-to-d` and `d-to-c` with the median, the 99th of a hundred and the greatest of
+/// these waits in nanoseconds, or three times `none`; `in-flight`; `left-out`, requests that were opened and are not taken; and of
+/// records `unmatched`, and what was passed over: `plugs`, `unplugs`, `actions`, `discards`, `erases`, `flushes`, `others`, `empty`,
+/// `past-end`.
+///
+/// [`WriteFault::Write`]: the writer answered a fault; what it took before, a first part of the text, is out, and nothing says how
+/// much that is. [`WriteFault::Memory`]: nothing was handed to the writer.
+pub fn write_summary<W: Write>(
+    alloc: Global,
+    summary: &Summary,
+    left_out: u64,
+    counts: &Counts,
+    writer: &mut W,
+) -> Result<(), WriteFault>
+    ensures ok { OnOk result (Appends (W.contents writer.old) (W.contents writer.new) (summary_lines summary.now left_out counts.now)) }
+    ensures memory { IfErr result (λ f. f ≡ WriteFault.Memory → writer.new ≡ writer.old) }
+    // whatever the answer
+    ensures part { AppendsPart (W.contents writer.old) (W.contents writer.new) (summary_lines summary.now left_out counts.now) }
+{
+    let Ok(text) = summary_text(alloc, summary, left_out, counts) else {
+        return Err(WriteFault::Memory);
+    };
+    write_whole(writer, text.as_slice())
+}
+
+/// The line that says how many records were passed over and how many not matched.
+pub fn notice_text(alloc: Global, counts: &Counts) -> Result<Vec<u8>, AllocError>
+    ensures { IfOk result (λ v. v.items ≡ notice_line counts.now) }
+{
+    let mut draft = Draft::new(alloc);
+    draft.text(b"blk: passed over ")?;
+    draft.number(counts.passed)?;
+    draft.text(b", unmatched ")?;
+    draft.number(counts.unmatched)?;
+    draft.text(b"\n")?;
+    draft.finish()
+}

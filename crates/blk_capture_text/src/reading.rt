@@ -1,0 +1,185 @@
+//! A capture, read from its text.
+
+ghost use Rattle.std.specs.Prelude.{◌≡◌, ◌⊎◌, ◌+◌, ◌++◌, ◌∷◌, ◌≤◌, ◌<◌, ◌-◌, ◌^◌, [], List, IfOk, IfErr, IfSome, OnOk, OnErr, length, map};
+ghost use Rattle.csv.specs.Records.{fields_of};
+ghost use Rattle.parts.specs.Parts.{Begins};
+ghost use Rattle.parts.specs.declared.Repeats.TheVariants as repeats;
+ghost use Rattle.blk_lists.specs.Sources.{Row};
+ghost use Rattle.blk_lists.specs.Reads.{IsOutside, IsStopped, Fails, Halts, Reaches, repeated};
+ghost use Rattle.blk_capture.specs.Requests.{AreInOrder};
+ghost use Rattle.blk_capture_text.specs.Steps.{IsStep, StepLacks, record_at, time_at};
+ghost use Rattle.blk_capture_text.specs.Captures.{capture_form, steps_body, step_after, SpellsCapture, CaptureTextFault};
+ghost use Rattle.blk_capture_text.specs.Taking.{HasSteps, AreTaken};
+
+use crate::step::read_step;
+use blk_capture::Record;
+use blk_lists::fields::{Slot, read_fields, version_of};
+use blk_lists::items::{LineForm, read_line};
+use blk_lists::{Records, TextFault, Why};
+use csv::ByteRecord;
+use std::alloc::Global;
+use std::io::Read;
+
+/// A capture has at most so many records, beside its title.
+pub const MAX_RECORDS: u64 = 16_000_000;
+
+/// The fields of the title: the name, the version, and nothing.
+const TITLE: [Slot; 8] = [
+    Slot::Given,
+    Slot::Given,
+    Slot::Blank,
+    Slot::Blank,
+    Slot::Blank,
+    Slot::Blank,
+    Slot::Blank,
+    Slot::Blank,
+];
+
+/// The title record.
+#[derive(Clone, Copy, Drop)]
+struct TitleForm;
+
+impl LineForm for TitleForm {
+    ghost use Rattle.blk_capture_text.specs.Captures.{title};
+
+    type Line = (u64, ());
+
+    ghost part = { λ _. title };
+
+    #[tactic(auto, using(crate::proofs::CaptureLaws::title_one))]
+    fn gone(&self) -> Why {
+        Why::Title
+    }
+
+    fn line(&self, row: &ByteRecord) -> Result<(u64, ()), Why> {
+        let Some(version) = version_of(row, b"blk-capture", 1) else {
+            return Err(Why::Title);
+        };
+        match read_fields(row, &TITLE) {
+            Ok(_) => Ok((version, ())),
+            Err(why) => Err(why),
+        }
+    }
+}
+
+/// The records that were read, and the time of the last one, 0 before the first.
+#[derive(Drop)]
+pub(crate) struct Steps {
+    records: Vec<Record>,
+    last: u64,
+}
+
+/// Adds the record of a row, where its time is not before the last one's.
+fn take_step(steps: &mut Steps, row: &ByteRecord) -> Result<(), Why>
+    ensures step { OnOk result (IsStep steps.old.last (fields_of row.now)) }
+    ensures records { OnOk result (steps.new.records.items ≡ steps.old.records.items ++ record_at (fields_of row.now) ∷ []) }
+    ensures last { OnOk result (steps.new.last ≡ time_at (fields_of row.now)) }
+    ensures err { IfErr result (λ w. (w ≡ Why.Memory) ⊎ StepLacks steps.old.last (fields_of row.now) w) }
+{
+    let record = match read_step(row, steps.last) {
+        Ok(record) => record,
+        Err(why) => return Err(why),
+    };
+    steps.last = record.time;
+    match steps.records.push(record) {
+        Ok(()) => Ok(()),
+        Err(_) => Err(Why::Memory),
+    }
+}
+
+/// Reads records until there are as many as there may be, or until the text is over, and says whether it is over.
+fn take_steps<R: Read + Drop>(
+    records: &mut Records<R>,
+    steps: &mut Steps,
+) -> Result<bool, TextFault>
+    requires room { records.old.at + MAX_RECORDS + 1 < 2 ^ 64 - 1 }
+    requires none { HasSteps steps.old [] }
+    ensures ok { IfOk result (AreTaken steps.new records.old.left records.new.left records.old.at records.new.at) }
+    ensures err { IfErr result (λ f. Fails records.new.failed (repeated (repeats.AtMost MAX_RECORDS) step_after) records.old.left records.old.at f.at f.why) }
+    ensures before { IfErr result (λ f. IsStopped (repeats.AtMost MAX_RECORDS) step_after records.old.left records.old.at 0 f.at records.new.at) }
+    ensures last { IfErr result (λ f. f.at ≡ records.new.at) }
+    ensures asked { OnErr result (records.old.at < records.new.at) }
+    ensures reads { (records.old.at ≤ records.new.at) × (records.new.at ≤ records.old.at + MAX_RECORDS) }
+{
+    for _ in 0..MAX_RECORDS {
+        match records.advance() {
+            Ok(true) => {}
+            Ok(false) => return Ok(true),
+            Err(fault) => return Err(fault),
+        }
+        match take_step(steps, records.row()) {
+            Ok(()) => {}
+            Err(why) => return Err(records.fault(why)),
+        }
+    }
+    Ok(false)
+}
+
+/// The records after the title, to the end of the text.
+fn read_steps<R: Read + Drop>(
+    alloc: Global,
+    records: &mut Records<R>,
+) -> Result<Vec<Record>, TextFault>
+    requires { records.old.at + MAX_RECORDS + 1 < 2 ^ 64 - 1 }
+    ensures ok { IfOk result (λ v. (rows : List Row) × (v.items ≡ map record_at rows) × IfSome records.old.left (λ all. Begins steps_body all rows [])) }
+    ensures in_order { IfOk result (λ v. AreInOrder v.items (length v.items)) }
+    ensures err { IfErr result (λ f. Halts records.new.failed steps_body records.old.left records.old.at f.at f.why) }
+    ensures last { IfErr result (λ f. f.at ≡ records.new.at) }
+    ensures reads { (records.old.at < records.new.at) × (records.new.at ≤ records.old.at + MAX_RECORDS + 1) }
+    ensures end { IfOk result (λ v. records.new.at ≡ records.old.at + length v.items + 1) }
+{
+    let mut steps = Steps {
+        records: Vec::new(alloc),
+        last: 0,
+    };
+    match take_steps(records, &mut steps) {
+        Ok(true) => return Ok(steps.records),
+        Ok(false) => {}
+        Err(fault) => return Err(fault),
+    }
+    match records.advance() {
+        Ok(true) => {}
+        Ok(false) => return Ok(steps.records),
+        Err(fault) => return Err(fault),
+    }
+    match read_step(records.row(), steps.last) {
+        Ok(_) => Err(records.fault(Why::TooLong)),
+        Err(why) => Err(records.fault(why)),
+    }
+}
+
+/// The records of a capture, a text of records of eight fields: a title, and each step's seconds, nanoseconds in nine digits,
+/// processor, action, process, rwbs, first sector and sectors, by times that don't fall. No record was read before. A time is in
+/// nanoseconds; action and rwbs may be any texts, of which [`blk_capture::Action::of_letters`] and [`blk_capture::Op::of_letters`] tell
+/// what they say.
+///
+/// The fault is the first one: of the least record, and in it the first in the order of [`Why`], where [`Why::Order`] says that its time is
+/// earlier than that of the record before. [`Why::Read`] and [`Why::Memory`] come at the record that is being read. No record is asked for
+/// past that of the fault, and never more than 16,000,002.
+pub fn read_capture<R: Read + Drop>(
+    alloc: Global,
+    records: &mut Records<R>,
+) -> Result<Vec<Record>, TextFault>
+    requires { records.old.at ≡ 0 }
+    ensures ok { IfOk result (λ v. IfSome records.old.left (λ rows. SpellsCapture rows v.items)) }
+    // also where the reader's bytes are not known
+    ensures in_order { IfOk result (λ v. AreInOrder v.items (length v.items)) }
+    // at the record that was asked for last: none was read past it
+    ensures last { IfErr result (λ f. f.at ≡ records.new.at) }
+    ensures err { IfErr result (λ f. IfSome records.old.left (λ rows.
+        IsOutside records.new.failed f.why ⊎ CaptureTextFault rows f.at f.why)) }
+    // also where it came from outside: at most one past the last record, and no record before it is wrong
+    ensures reached { IfErr result (λ f. Reaches capture_form records.old.left 0 f.at) }
+    ensures reads { (1 ≤ records.new.at) × (records.new.at ≤ MAX_RECORDS + 2) }
+    // the last thing that was asked for is the record after the steps, which there is not
+    ensures end { IfOk result (λ v. records.new.at ≡ length v.items + 2) }
+{
+    let _ = match read_line(records, &TitleForm) {
+        Ok(title) => title,
+        Err(fault) => return Err(fault),
+    };
+    match read_steps(alloc, records) {
+        Ok(steps) => Ok(steps),
+        Err(fault) => Err(fault),
+    }
+}

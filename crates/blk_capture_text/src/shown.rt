@@ -1,0 +1,82 @@
+//! What is shown of an import.
+
+ghost use Rattle.std.specs.Prelude.{◌≡◌, ◌≤◌, IfOk, length};
+ghost use Rattle.edd_check.specs.Limits.{most_commands};
+ghost use Rattle.blk_capture.specs.Requests.{AreTimed};
+ghost use Rattle.blk_capture_text.specs.Shown.{IsShown, IsScheduleText, IsTableText, IsSummaryText};
+
+use crate::importing::first_time;
+use crate::numbers::{count_fates, summary_text};
+use crate::schedule::schedule_of;
+use crate::table::table_text;
+use blk_capture::{Matched, Record, Request, rows_of, summarize};
+use blk_lists::schedule_text;
+use std::alloc::{AllocError, Global};
+
+/// What is shown of an import.
+#[derive(Clone, Copy, Debug, PartialEq, Eq)]
+pub enum Shown {
+    /// The schedule of its requests.
+    Schedule,
+    /// A row a request.
+    Table,
+    /// It in numbers.
+    Summary,
+}
+
+/// The text of the schedule of requests.
+fn text_of_schedule(alloc: Global, requests: &[Request]) -> Result<Vec<u8>, AllocError>
+    requires timed { AreTimed requests.now }
+    requires few { length requests.now ≤ most_commands }
+    ensures { IfOk result (λ text. IsScheduleText requests.now text.items) }
+{
+    let schedule = schedule_of(alloc, requests)?;
+    schedule_text(alloc, &schedule)
+}
+
+/// The text of the table of requests, with times from the first record on.
+fn text_of_table(
+    alloc: Global,
+    records: &[Record],
+    requests: &[Request],
+) -> Result<Vec<u8>, AllocError>
+    ensures { IfOk result (λ text. IsTableText records.now requests.now text.items) }
+{
+    let rows = rows_of(alloc, requests, first_time(records))?;
+    table_text(alloc, rows.as_slice())
+}
+
+/// The text of an import in numbers.
+fn text_of_summary(
+    alloc: Global,
+    records: &[Record],
+    matched: &Matched,
+) -> Result<Vec<u8>, AllocError>
+    requires timed { AreTimed matched.now.requests.items }
+    requires few { length matched.now.requests.items ≤ most_commands }
+    requires fates { length matched.now.fates.items ≡ length records.now }
+    ensures { IfOk result (λ text. IsSummaryText records.now matched.now.requests.items matched.now.bios.items matched.now.fates.items matched.now.left_out text.items) }
+{
+    let summary = summarize(alloc, records, matched)?;
+    let counts = count_fates(matched.fates.as_slice());
+    summary_text(alloc, &summary, matched.left_out, &counts)
+}
+
+/// The text of what is shown of an import, as [`crate::import`] gives it of the records. Fails for want of memory alone.
+pub fn shown_text(
+    alloc: Global,
+    shown: Shown,
+    records: &[Record],
+    matched: &Matched,
+) -> Result<Vec<u8>, AllocError>
+    requires timed { AreTimed matched.now.requests.items }
+    requires few { length matched.now.requests.items ≤ most_commands }
+    requires fates { length matched.now.fates.items ≡ length records.now }
+    ensures { IfOk result (λ text. IsShown shown records.now matched.now.requests.items matched.now.bios.items matched.now.fates.items matched.now.left_out text.items) }
+{
+    match shown {
+        Shown::Schedule => text_of_schedule(alloc, matched.requests.as_slice()),
+        Shown::Table => text_of_table(alloc, records, matched.requests.as_slice()),
+        Shown::Summary => text_of_summary(alloc, records, matched),
+    }
+}

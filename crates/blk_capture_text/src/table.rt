@@ -1,0 +1,109 @@
+//! Requests as a table.
+
+ghost use Rattle.std.specs.Prelude.{◌≡◌, ◌++◌, IfOk, IfErr, OnOk, decimal};
+ghost use Rattle.std.specs.List.{flat_map};
+ghost use Rattle.std.specs.Io.KnownBytes.{Appends};
+ghost use Rattle.drafts.specs.Parts.{AppendsPart};
+ghost use Rattle.blk_bio.specs.Letters.{direction_text};
+ghost use Rattle.blk_capture_text.specs.TableText.{next_field, known_text, range_fields, time_fields, row_line, table_lines};
+
+use blk_bio::Dir;
+use blk_capture::Row;
+use drafts::{Draft, WriteFault, write_whole};
+use std::alloc::{AllocError, Global};
+use std::io::Write;
+
+/// Adds one more field, of a number.
+fn push_number(draft: &mut Draft, number: u64) -> Result<(), AllocError>
+    ensures { OnOk result (draft.new ≡ draft.old ++ next_field (decimal number)) }
+{
+    draft.text(b",")?;
+    draft.number(number)
+}
+
+/// Adds one more field, of a number that may not be known.
+fn push_known(draft: &mut Draft, number: Option<u64>) -> Result<(), AllocError>
+    ensures { OnOk result (draft.new ≡ draft.old ++ next_field (known_text number)) }
+{
+    match number {
+        Some(number) => push_number(draft, number),
+        None => draft.text(b","),
+    }
+}
+
+/// Adds one more field, of a direction.
+fn push_dir(draft: &mut Draft, dir: Dir) -> Result<(), AllocError>
+    ensures { OnOk result (draft.new ≡ draft.old ++ next_field (direction_text dir)) }
+{
+    draft.text(&[b',', dir.letter()])
+}
+
+/// Adds the fields up to the process.
+fn push_range(draft: &mut Draft, row: &Row) -> Result<(), AllocError>
+    ensures { OnOk result (draft.new ≡ draft.old ++ range_fields row.now) }
+{
+    draft.number(row.id)?;
+    push_dir(draft, row.dir)?;
+    push_number(draft, row.first)?;
+    push_number(draft, row.sectors)?;
+    push_number(draft, row.bios)?;
+    push_number(draft, row.pid)
+}
+
+/// Adds the fields of its times.
+fn push_times(draft: &mut Draft, row: &Row) -> Result<(), AllocError>
+    ensures { OnOk result (draft.new ≡ draft.old ++ time_fields row.now) }
+{
+    push_number(draft, row.queued)?;
+    push_known(draft, row.inserted)?;
+    push_number(draft, row.dispatched)?;
+    push_known(draft, row.completed)?;
+    push_number(draft, row.due)
+}
+
+/// Adds the line of a request.
+fn push_row(draft: &mut Draft, row: &Row) -> Result<(), AllocError>
+    ensures { OnOk result (draft.new ≡ draft.old ++ row_line row.now) }
+{
+    push_range(draft, row)?;
+    push_times(draft, row)?;
+    draft.text(b"\n")
+}
+
+/// Adds the lines of requests.
+fn push_rows(draft: &mut Draft, rows: &[Row]) -> Result<(), AllocError>
+    ensures { OnOk result (draft.new ≡ draft.old ++ flat_map (λ r. row_line r) rows.now) }
+{
+    for row in rows {
+        push_row(draft, row)?;
+    }
+    Ok(())
+}
+
+/// The head line and the lines of the requests.
+pub fn table_text(alloc: Global, rows: &[Row]) -> Result<Vec<u8>, AllocError>
+    ensures { IfOk result (λ v. v.items ≡ table_lines rows.now) }
+{
+    let mut draft = Draft::new(alloc);
+    draft.text(b"id,dir,first,sectors,bios,pid,queued,inserted,dispatched,completed,due\n")?;
+    push_rows(&mut draft, rows)?;
+    draft.finish()
+}
+
+/// Writes requests as records of comma-separated fields, at once where all of it could be made: the head line
+/// `id,dir,first,sectors,bios,pid,queued,inserted,dispatched,completed,due`, and a line for each, in their order. The direction is `R`
+/// or `W`, times are in nanoseconds, and one that isn't known is empty.
+///
+/// [`WriteFault::Write`]: the writer answered a fault; what it took before, a first part of the text, is out, and nothing says how
+/// much that is. [`WriteFault::Memory`]: nothing was handed to the writer.
+pub fn write_table<W: Write>(alloc: Global, rows: &[Row], writer: &mut W) -> Result<(), WriteFault>
+    ensures ok { OnOk result (Appends (W.contents writer.old) (W.contents writer.new) (table_lines rows.now)) }
+    ensures memory { IfErr result (λ f. f ≡ WriteFault.Memory → writer.new ≡ writer.old) }
+    // whatever the answer
+    ensures part { AppendsPart (W.contents writer.old) (W.contents writer.new) (table_lines rows.now) }
+{
+    let Ok(text) = table_text(alloc, rows) else {
+        return Err(WriteFault::Memory);
+    };
+    write_whole(writer, text.as_slice())
+}
