@@ -34,8 +34,8 @@ same serves chooses done tick start old new e runs = subst (λ (c : CoreState). 
 
 placed : (serves : ℕ → Waiting → Bool) (chooses : Choice) (done : OfDone) (tick : OfTick) (start old new : CoreState) (bios : List Bio) (hw : ℕ) (p : Placed)
     → Places serves old bios hw p new → Goes serves chooses done tick start old → Goes serves chooses done tick start new
-placed serves chooses done tick start old new bios hw (New id) p runs = one serves chooses done tick start old new (Release id bios) (hw, p) p.2.1 runs
-placed serves chooses done tick start old new bios hw (JoinedTo id side) p runs = one serves chooses done tick start old new (Join id bios) (hw, (side, p)) p.1.1 runs
+placed serves chooses done tick start old new bios hw (New id) p runs = one serves chooses done tick start old new (Release id bios) (record { hw = hw; places = p }) p.2.1 runs
+placed serves chooses done tick start old new bios hw (JoinedTo id side) p runs = one serves chooses done tick start old new (Join id bios) (side, record { hw = hw; places = p }) p.1.1 runs
 
 some_moved : (serves : ℕ → Waiting → Bool) (chooses : Choice) (done : OfDone) (tick : OfTick) (start : CoreState) (queue : Queue) (core : CoreState) (hw n : ℕ) (now : Queue) (after : CoreState)
     → MovesSome serves queue core hw n now after → Goes serves chooses done tick start core → Goes serves chooses done tick start after
@@ -53,7 +53,7 @@ pub issued : (serves : ℕ → Waiting → Bool) (chooses : Choice) (done : OfDo
     → Issues serves chooses old hw tag found new → Goes serves chooses done tick start old → Goes serves chooses done tick start new
 issued serves chooses done tick start old hw tag new None i runs = same serves chooses done tick start old new i.0 runs
 issued serves chooses done tick start old hw tag new (Some command) i runs =
-    one serves chooses done tick start old new (Issue i.0.id tag) (hw, (command, (ap (λ (c : Command). c.id) i.3, i))) i.2.1 runs
+    one serves chooses done tick start old new (Issue i.0.id tag) (record { hw = hw; command = command; named = ap (λ (c : Command). c.id) i.3; issues = i }) i.2.1 runs
 
 pub completed : (serves : ℕ → Waiting → Bool) (chooses : Choice) (done : OfDone) (tick : OfTick) (start old : CoreState) (tag : ℕ) (new : CoreState)
     → Completes done old tag new → Goes serves chooses done tick start old → Goes serves chooses done tick start new
@@ -61,7 +61,7 @@ completed serves chooses done tick start old tag new d runs = one serves chooses
 
 pub taken_back : (serves : ℕ → Waiting → Bool) (chooses : Choice) (done : OfDone) (tick : OfTick) (start old : CoreState) (tag : ℕ) (new : CoreState) (id : ℕ)
     → TakesBack old tag id new → Goes serves chooses done tick start old → Goes serves chooses done tick start new
-taken_back serves chooses done tick start old tag new id b runs = one serves chooses done tick start old new (Back tag) (id, b) b.4.1 runs
+taken_back serves chooses done tick start old tag new id b runs = one serves chooses done tick start old new (Back tag) (record { id = id; taken = b }) b.4.1 runs
 
 pub ended : (serves : ℕ → Waiting → Bool) (chooses : Choice) (done : OfDone) (tick : OfTick) (start old new : CoreState)
     → Ends tick old new → Goes serves chooses done tick start old → Goes serves chooses done tick start new

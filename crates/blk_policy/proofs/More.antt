@@ -16,6 +16,6 @@ none_run serves chooses done tick start c same none = subst (λ (es : List Happe
 pub run_on : (serves : ℕ → Waiting → Bool) (chooses : Choice) (done : OfDone) (tick : OfTick) (start : CoreState) (es : List Happened) (e : Happened) (middle end : CoreState)
     → Runs serves chooses done tick start es middle → Steps serves chooses done tick middle e end → Runs serves chooses done tick start (es ++ e ∷ []) end
 unfolding Runs
-run_on serves chooses done tick start [] e middle end is step = (end, (subst (λ (c : CoreState). Steps serves chooses done tick c e end) is step, refl))
-run_on serves chooses done tick start (x ∷ es) e middle end (next, (first, rest)) step =
-    (next, (first, run_on serves chooses done tick next es e middle end rest step))
+run_on serves chooses done tick start [] e middle end is step = (end, subst (λ (c : CoreState). Steps serves chooses done tick c e end) is step, refl)
+run_on serves chooses done tick start (x ∷ es) e middle end (next, first, rest) step =
+    (next, first, run_on serves chooses done tick next es e middle end rest step)
