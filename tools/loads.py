@@ -3,6 +3,7 @@
 
     tools/loads.py                  every load of the list below
     tools/loads.py NAME..           those alone
+    tools/loads.py --drawn COUNT    so many loads of drawn words in their place, the same ones each time
     tools/loads.py --program PATH   by another program than the one that is built; may stand before names
 
 Of each trace: the setup is that of the words; each bio of each submitter came in once, with its sectors and its direction, and those
@@ -16,6 +17,7 @@ Prints what is wrong, and as the last line 'N passed, M failed'. Ends with 0 whe
 load, and 3 where the program isn't there.
 """
 import argparse
+import random
 import subprocess
 import sys
 import time
@@ -50,6 +52,32 @@ LOADS["kyber_loose"] = "--sched kyber --submitters 8 --workers 4 --bios 200 --de
 LOADS["deadline_batches"] = "--sched deadline --submitters 6 --workers 3 --bios 200 --depth 8 --fifo-batch 3 --writes-starved 1"
 LOADS["earliest_late_last"] = "--sched earliest --late-last --submitters 6 --workers 3 --bios 200 --depth 2 --busy 6"
 LOADS["none_served"] = "--sched none --submitters 4 --workers 4 --bios 50 --depth 64 --service 1000"
+
+# How many bios all submitters of a drawn load have together at most, since the models look at all that waits for each command.
+DRAWN_BIOS = 2000
+
+
+def drawn(count):
+    """So many loads of drawn words, by their numbers: schedulers and their settings, seats, bios, depths, busy devices and slow ones."""
+    dice = random.Random(45)
+    found = {}
+    for number in range(count):
+        sched, submitters = dice.choice(SCHEDULERS), dice.randint(1, 64)
+        words = ["--sched", sched, "--submitters", submitters, "--workers", dice.randint(1, 16)]
+        words += ["--bios", min(dice.choice([1, 7, 33, 100, 500]), DRAWN_BIOS // submitters)]
+        words += ["--depth", dice.choice([1, 2, 3, 8, 64, 255, 256])]
+        if dice.randint(0, 1):
+            words += ["--busy", dice.choice([2, 3, 10, 1000])]
+        if dice.randint(0, 3) == 0:
+            words += ["--service", dice.choice([1, 10, 100])]
+        if sched == "deadline" and dice.randint(0, 1):
+            words += ["--fifo-batch", dice.randint(1, 20), "--writes-starved", dice.randint(0, 4)]
+        if sched == "kyber" and dice.randint(0, 1):
+            words += ["--read-target", dice.choice([1, 5, 1000]), "--write-target", dice.choice([1, 5, 1000])]
+        if sched == "earliest" and dice.randint(0, 1):
+            words.append("--late-last")
+        found[f"drawn {number}"] = " ".join(map(str, words))
+    return found
 
 
 class Fault(Exception):
@@ -381,22 +409,25 @@ def main(words):
     reads = argparse.ArgumentParser(add_help=False)
     reads.add_argument("--program", type=Path, default=PROGRAM)
     reads.add_argument("--trace-alone", action="store_true")
+    reads.add_argument("--drawn", type=int)
     reads.add_argument("names", nargs="*")
     given = reads.parse_args(words)
+    every = LOADS if given.drawn is None else drawn(given.drawn)
     for name in given.names:
-        if name not in LOADS:
+        if name not in every:
             print(f"loads.py: there is no load {name}", file=sys.stderr)
             return 2
     if not given.program.is_file():
         print(f"loads.py: there is no program {given.program}", file=sys.stderr)
         return 3
     passed = failed = 0
-    for name in given.names or LOADS:
+    for name in given.names or every:
         try:
-            look_at_load(given.program, LOADS[name], not given.trace_alone)
+            look_at_load(given.program, every[name], not given.trace_alone)
             passed += 1
         except (Fault, OSError, subprocess.TimeoutExpired, ValueError, KeyError, IndexError) as fault:
-            print(f"{name}: {fault}" if isinstance(fault, Fault) else f"{name}: {fault!r}")
+            told = fault if isinstance(fault, Fault) else repr(fault)
+            print(f"{name}: {told}" if name in LOADS else f"{name}: {every[name]}: {told}")
             failed += 1
     print(f"{passed} passed, {failed} failed")
     return 1 if failed else 0

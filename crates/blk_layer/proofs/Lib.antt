@@ -17,3 +17,4 @@ mod Moved
 mod Trying
 mod Turning
 mod Onces
+mod Ruled

@@ -4,6 +4,7 @@ ghost use Rattle.std.specs.Prelude.{ℕ, ◌≡◌, ◌<◌, ◌++◌, ◌↔◌
 ghost use Rattle.blk_layer.specs.Closes.{AreAllThere, AreDistinct, HasNumber, issued_bios, AreSettled, AreCounted, IsCloseRefusal, Disagrees, DiffersAsCommand, all_ran, done_commands};
 ghost use Rattle.blk_layer.specs.Served.{done_count};
 ghost use Rattle.blk_trace.specs.Events.{AreOnce};
+ghost use Rattle.blk_policy.specs.Runs.{IsRunFrom};
 
 use crate::compares::{differing_bio, differing_command};
 use crate::gathers::{accepted, bio_of, done, entered, queued, ran};
@@ -78,7 +79,7 @@ impl<S: Scheduler, L: Named> Layer<S, L> {
     /// Ok where they agree: the bios that were accepted are those of the issued requests and those that are left, each once, and the
     /// commands that the workers ran are those that are done. Refused as `Whole`, and all comes back: as `SeatMissing` where
     /// a seat of the layer isn't there, and as `Memory`. Refused as `Differs` where the accounts disagree on a bio; the layer
-    /// is spent then.
+    /// is spent then. The trace is one that the policy of its scheduler makes.
     pub fn close(
         self,
         alloc: S::A,
@@ -88,6 +89,7 @@ impl<S: Scheduler, L: Named> Layer<S, L> {
         requires parts { L.parts ≡ MAX_WORKERS }
         ensures there { OnOk result (AreAllThere self.map self.workers submitters.items workers.items) }
         ensures setup { IfOk result (λ c. c.trace.setup ≡ L.setup) }
+        ensures ran { IfOk result (λ c. IsRunFrom S.serves S.chooses S.told_done S.told_tick L.start c.trace.events) }
         ensures settled { IfOk result (λ c. AreSettled L.setup c.trace.events c.left.items submitters.items workers.items) }
         ensures once { IfOk result (λ c. AreOnce (issued_bios c.trace.events ++ c.left.items)) }
         ensures counted { IfOk result (λ c. AreCounted c.trace.events c.left.items workers.items) }
@@ -114,6 +116,7 @@ impl<S: Scheduler, L: Named> Layer<S, L> {
         requires parts { L.parts ≡ MAX_WORKERS }
         requires there { AreAllThere self.map self.workers submitters.items workers.items }
         ensures setup { IfOk result (λ c. c.trace.setup ≡ L.setup) }
+        ensures ran { IfOk result (λ c. IsRunFrom S.serves S.chooses S.told_done S.told_tick L.start c.trace.events) }
         ensures settled { IfOk result (λ c. AreSettled L.setup c.trace.events c.left.items submitters.items workers.items) }
         ensures once { IfOk result (λ c. AreOnce (issued_bios c.trace.events ++ c.left.items)) }
         ensures counted { IfOk result (λ c. AreCounted c.trace.events c.left.items workers.items) }

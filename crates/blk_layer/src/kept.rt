@@ -11,6 +11,7 @@ ghost use Rattle.blk_trace.specs.Setups.{Setup};
 ghost use Rattle.blk_layer.specs.Served.{done_count};
 ghost use Rattle.blk_layer.specs.Closes.{all_ran};
 ghost use Rattle.blk_layer.specs.declared.layer.TheConstants.{MAX_WORKERS};
+ghost use Rattle.blk_policy.specs.Runs.{Runs, IsRunFrom};
 
 use crate::issues::{LayerIssueFault, of_core};
 use crate::moves::{DrainFault, move_all};
@@ -37,6 +38,7 @@ pub(crate) struct Kept<S: Scheduler, L: Named> {
     /// The tag after the last one that was issued: those before it are used up in the round, mostly.
     next_tag: u16,
     ghost named: { core.setup ≡ L.setup },
+    ghost ran: { ∥ Runs S.serves S.chooses S.told_done S.told_tick L.start core.events core ∥₁ },
     ghost counted: { book.total ≡ done_count core.events },
     ghost all_out: { rest.parts + L.workers ≡ MAX_WORKERS },
     ghost none: { rest.amount ≡ 0 },
@@ -46,6 +48,7 @@ impl<S: Scheduler, L: Named> Kept<S, L> {
     /// A core without events beside a book in which nothing is.
     pub(crate) fn opened(core: Core<S>, book: Book<L>, rest: Share<L>) -> Kept<S, L>
         requires named { core.setup ≡ L.setup }
+        requires start { core ≡ L.start }
         requires empty { core.events ≡ [] }
         requires total { book.total ≡ 0 }
         requires parts { rest.parts + L.workers ≡ MAX_WORKERS }
@@ -184,6 +187,7 @@ impl<S: Scheduler, L: Named> Kept<S, L> {
     pub(crate) fn into_trace(self) -> Trace<S::A>
         ensures setup { result.setup ≡ self.core.setup }
         ensures events { result.events ≡ self.core.events }
+        ensures ran { IsRunFrom S.serves S.chooses S.told_done S.told_tick L.start result.events }
     {
         let Kept { core, .. } = self;
         core.into_trace()

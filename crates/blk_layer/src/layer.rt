@@ -76,7 +76,7 @@ impl<S: Scheduler, L: Named> Model for Layer<S, L> {
 impl<S: Scheduler, L: Named> Layer<S, L> {
     /// A layer over a core without events, with the seats of its submitters, one for each software queue of the map, and of
     /// its workers, one for each entry of `worker_queues`, the hardware queue that it works for. Each software queue has
-    /// room for `soft_depth` requests. The core's setup is the one that the name says, and the blank has a part for each
+    /// room for `soft_depth` requests. The core and its setup are those that the name says, and the blank has a part for each
     /// worker that a layer may have; it is spent, also where the layer is refused.
     ///
     /// Refused, by the first of these that applies: as `Queues` where the map has another number of hardware queues than
@@ -101,6 +101,7 @@ impl<S: Scheduler, L: Named> Layer<S, L> {
         requires name { blank.name ≡ L.name }
         requires parts { (blank.parts ≡ MAX_WORKERS) × (L.parts ≡ MAX_WORKERS) }
         requires setup { core.setup ≡ L.setup }
+        requires start { core ≡ L.start }
         requires workers { L.workers ≡ vec_len worker_queues }
         requires empty { core.events ≡ [] }
         ensures made { IfOk result (λ made. IsNewLayer core.setup.depth map worker_queues.items made.0 made.1.items made.2.items) }
@@ -134,6 +135,7 @@ impl<S: Scheduler, L: Named> Layer<S, L> {
         requires name { blank.name ≡ L.name }
         requires parts { (blank.parts ≡ MAX_WORKERS) × (L.parts ≡ MAX_WORKERS) }
         requires setup { core.setup ≡ L.setup }
+        requires start { core ≡ L.start }
         requires workers { L.workers ≡ vec_len worker_queues }
         requires empty { core.events ≡ [] }
         requires can { CanMake L.setup.hw map soft_depth worker_queues.items }

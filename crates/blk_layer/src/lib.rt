@@ -12,6 +12,7 @@ mod compares;
 pub mod devices;
 pub mod flushes;
 mod gathers;
+mod holds;
 pub mod issues;
 mod kept;
 pub mod layer;

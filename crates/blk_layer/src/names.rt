@@ -1,7 +1,9 @@
 //! What names a layer.
 
-ghost use Rattle.std.specs.Prelude.{ℕ};
+ghost use Rattle.std.specs.Prelude.{ℕ, true, []};
 ghost use Rattle.blk_trace.specs.Setups.{Setup};
+ghost use Rattle.blk_sched.specs.Meaning.{at_start};
+ghost use Rattle.blk_core.specs.State.{CoreState};
 
 use std::marker::Brand;
 use std::sync::ledger::Ledger;
@@ -12,12 +14,17 @@ pub trait Named: Ledger {
     /// What the core is set up for.
     ghost setup: { Setup };
 
+    /// The core before its first call.
+    ghost start: { CoreState };
+
     /// How many workers there are.
     ghost workers: { ℕ };
 }
 
 impl Named for Brand {
     ghost setup = { record { depth = 0; hw = 0; read_expire = 0; write_expire = 0; limits = record { max_sectors = 0; max_segments = 0 } } };
+
+    ghost start = { record { setup = record { depth = 0; hw = 0; read_expire = 0; write_expire = 0; limits = record { max_sectors = 0; max_segments = 0 } }; events = []; meaning = at_start true; kept = []; flights = []; held = [] } };
 
     ghost workers = { 0 };
 }

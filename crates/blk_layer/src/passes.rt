@@ -203,7 +203,7 @@ impl<S: Scheduler, L: Named> Layer<S, L> {
         if worker.make_room().is_err() {
             return Err(WorkFault::Memory);
         }
-        let mut kept = self.kept.lock(rt);
+        let mut kept = self.hold(rt);
         worker.next(&mut *kept, &self.tags)
     }
 
@@ -221,7 +221,7 @@ impl<S: Scheduler, L: Named> Layer<S, L> {
         ensures fault { IfErr result (λ why. IsTurnFault worker.old tag ran why worker.new) }
     {
         let has_room = worker.make_room().is_ok();
-        let mut kept = self.kept.lock(rt);
+        let mut kept = self.hold(rt);
         worker.turn(&mut *kept, &self.tags, tag, ran, has_room)
     }
 
@@ -238,7 +238,7 @@ impl<S: Scheduler, L: Named> Layer<S, L> {
         ensures fault { IfErr result (λ why. (why ≡ WorkFault.Memory) × (worker.new ≡ worker.old)) }
     {
         let ran = device.run(&issued.command);
-        let mut kept = self.kept.lock(rt);
+        let mut kept = self.hold(rt);
         if worker.end(&mut *kept, &self.tags, issued.tag, ran) {
             Ok(())
         } else {

@@ -85,7 +85,7 @@ impl<S: Scheduler, L: Named> Layer<S, L> {
         if staged.queue.len() == 0 {
             return Ok(0);
         }
-        let mut kept = self.kept.lock(rt);
+        let mut kept = self.hold(rt);
         staged.move_all(&mut *kept, hw)
     }
 

@@ -58,22 +58,30 @@ pub fn flushed(requests: u64) -> Result<Flushed, FlushFault> {
     })
 }
 
-/// A device that is busy at one of its runs.
+/// A device that is busy at one of its runs, and adds up the ids of the commands that it ran.
 #[derive(Drop)]
 struct Counting {
     runs: u64,
     busy_at: u64,
+    ids: u64,
 }
 
 impl Device for Counting {
     fn run(&mut self, command: &Command) -> Ran {
-        let _ = command.id;
         self.runs = self.runs.saturating_add(1);
         if self.runs == self.busy_at {
             return Ran::Busy;
         }
+        self.ids = self.ids.wrapping_add(command.id);
         Ran::Done
     }
+}
+
+/// The ids of commands, added up.
+fn ids_of(commands: &[Command]) -> u64 {
+    commands
+        .iter()
+        .fold(0, |sum: u64, command| sum.wrapping_add(command.id))
 }
 
 /// Whether a read becomes a request of its own in a plug.
@@ -221,7 +229,7 @@ fn back<R: Wait, S: Scheduler, L: Named>(
     }
 }
 
-/// Whether a worker does what is wanted in as many turns, and its device too.
+/// Whether a worker does what is wanted in as many turns, and its device too, which runs just the commands that come into its account.
 fn works<R: Wait, S: Scheduler, L: Named>(
     rt: &R,
     layer: &Layer<S, L>,
@@ -234,7 +242,12 @@ fn works<R: Wait, S: Scheduler, L: Named>(
     requires { worker.old.tag_set ≡ layer.now.tag_set }
     ensures { worker.new.tag_set ≡ worker.old.tag_set }
 {
-    let mut device = Counting { runs: 0, busy_at };
+    let before = ids_of(worker.ran());
+    let mut device = Counting {
+        runs: 0,
+        busy_at,
+        ids: 0,
+    };
     let did = match layer.work(rt, worker, &mut device, turns) {
         Ok(
             Worked {
@@ -245,7 +258,8 @@ fn works<R: Wait, S: Scheduler, L: Named>(
         ) => Ok((passes, ran, finished)),
         Err(why) => Err(why),
     };
-    did == wanted && device.runs == runs
+    let ids = ids_of(worker.ran()).wrapping_sub(before);
+    did == wanted && device.runs == runs && device.ids == ids
 }
 
 /// Whether a worker's call has the wanted answer.

@@ -163,6 +163,7 @@ fn at_once<R: Abort + Threads + Wait + Sync, L: Named + Send + Sync>(
     requires name { blank.name ≡ L.name }
     requires parts { (blank.parts ≡ MAX_WORKERS) × (L.parts ≡ MAX_WORKERS) }
     requires setup { core.setup ≡ L.setup }
+    requires start { core ≡ L.start }
     requires limits { L.setup.limits ≡ limits }
     requires workers { L.workers ≡ vec_len worker_queues }
     requires empty { core.events ≡ [] }

@@ -3,11 +3,13 @@
 use crate::closed::other_than;
 use crate::listed::{Call, flushed};
 
-// Three requests at depth 2, the second of which the device is too busy for at first: two rounds are used up and end. Two more at
-// depth 1, of which each round carries one. Two rounds more are ended by hand, one after each depth.
+// Passes that find nothing are no end before it is said that nothing more will be flushed. Three requests at depth 2, the second of
+// which the device is too busy for at first: two rounds are used up and end. Two more at depth 1, of which each round carries one. Two
+// rounds more are ended by hand, one after each depth.
 #[test]
 fn work_to_the_end(rt: HostRuntime) {
     let calls = [
+        Call::Work(0, 2, 0, Ok((2, 0, false)), 0),
         Call::Add(0, 0, 0),
         Call::Add(0, 1, 100),
         Call::Add(0, 2, 200),

@@ -10,6 +10,7 @@ ghost use Rattle.blk_settings.specs.Numbers.{IsLoad};
 ghost use Rattle.blk_settings.specs.Settles.{IsSettled, served_bios, setup_of};
 ghost use Rattle.blk_trace.specs.Events.{AreOnce};
 ghost use Rattle.blk_load.specs.Loads.{AreInTurn};
+ghost use Rattle.blk_policy.specs.Runs.{IsRunBy, IsRunFrom};
 
 use crate::counts::accepted;
 use crate::serving::serve_all;
@@ -39,7 +40,7 @@ const SOFT_DEPTH: u64 = 64;
 /// `TraceFull` where a worker is refused so; as `Repeated` where a submitter or a worker is; as `Stalled` where one used up its turns;
 /// as `SeatMissing` or `Differs` where the layer's accounts can't be settled; and as `Differs` where not all bios were accepted and
 /// served.
-#[tactic(auto, using(crate::proofs::Made::can_make, crate::proofs::Made::no_range))]
+#[tactic(auto, using(crate::proofs::Made::can_make, crate::proofs::Made::no_range, crate::proofs::Ruled::run_by))]
 pub fn load<R: Threads + Wait + Sync, S: Scheduler<A = Global> + Send>(
     rt: &R,
     clock: HostRuntime,
@@ -50,6 +51,7 @@ pub fn load<R: Threads + Wait + Sync, S: Scheduler<A = Global> + Send>(
     requires start { S.meaning scheduler ≡ at_start (S.meaning scheduler).front }
     ensures range { OnOk result (IsLoad load) }
     ensures settled { IfOk result (λ l. IsSettled load l.trace l.settled) }
+    ensures ran { IfOk result (λ l. IsRunBy S.serves S.chooses S.told_done S.told_tick (S.meaning scheduler) (S.kept scheduler) l.trace) }
     ensures once { IfOk result (λ l. AreOnce (served_bios l.trace.events)) }
     ensures fault { IfErr result (IsLoadFault load) }
 {
@@ -116,12 +118,14 @@ fn on_layer<R: Threads + Wait + Sync, S: Scheduler<A = Global> + Send, L: Named 
     requires name { blank.name ≡ L.name }
     requires parts { (blank.parts ≡ MAX_WORKERS) × (L.parts ≡ MAX_WORKERS) }
     requires setup { core.setup ≡ L.setup }
+    requires start { core ≡ L.start }
     requires workers { L.workers ≡ vec_len queues }
     requires empty { core.events ≡ [] }
     requires range { IsLoad load }
     requires setup_is { L.setup ≡ setup_of load }
     requires can { CanMake core.setup.hw map SOFT_DEPTH queues.items }
     ensures settled { IfOk result (λ l. IsSettled load l.trace l.settled) }
+    ensures ran { IfOk result (λ l. IsRunFrom S.serves S.chooses S.told_done S.told_tick L.start l.trace.events) }
     ensures once { IfOk result (λ l. AreOnce (served_bios l.trace.events)) }
     ensures fault { IfErr result (λ f. f ≢ LoadFault.Range) }
 {
@@ -189,6 +193,7 @@ fn settle<S: Scheduler<A = Global>, L: Named>(
     requires range { IsLoad load }
     requires setup { L.setup ≡ setup_of load }
     ensures settled { IfOk result (λ l. IsSettled load l.trace l.settled) }
+    ensures ran { IfOk result (λ l. IsRunFrom S.serves S.chooses S.told_done S.told_tick L.start l.trace.events) }
     ensures accepted { IfOk result (λ l. l.settled.accepted ≡ length (all_accepted submitters.items)) }
     ensures agree { IfOk result (λ l. IsPermutation (all_accepted submitters.items) (served_bios l.trace.events)) }
     ensures once { IfOk result (λ l. AreOnce (served_bios l.trace.events)) }

@@ -3,6 +3,7 @@
 ghost use Rattle.std.specs.Prelude.{◌≡◌, ◌≢◌, ◌≤◌, Some};
 ghost use Rattle.blk_settings.specs.declared.fault.LoadFault.TheVariants.{Range};
 ghost use Rattle.blk_settings.specs.declared.numbers.TheConstants.{MAX_LOAD_BIOS, MAX_SUBMITTERS};
+ghost use Rattle.blk_settings.specs.Faults.{IsFirstOf};
 
 use blk_bio::Limits;
 use blk_layer::{Layer, Named};
@@ -18,6 +19,18 @@ use std::sync::{Mutex, Wait};
 struct First {
     fault: Option<LoadFault>,
     ghost met: { fault ≢ Some Range },
+}
+
+impl First {
+    /// Keeps a fault that a thread met, unless one is kept that comes before it.
+    fn keep(&mut self, fault: LoadFault)
+        requires { fault ≢ LoadFault.Range }
+        ensures { IsFirstOf self.old.fault (Some fault) self.new.fault }
+    {
+        *self = First {
+            fault: first_of(self.fault, Some(fault)),
+        };
+    }
 }
 
 /// The faults that threads meet, of which the first by their order is kept.
@@ -43,14 +56,11 @@ impl Noted {
         self.any.load(Ordering::SeqCst)
     }
 
-    /// Notes a fault.
+    /// Notes the fault at which a thread's turns ended.
     pub(crate) fn note<R: Wait>(&self, rt: &R, fault: LoadFault)
         requires { fault ≢ LoadFault.Range }
     {
-        let mut first = self.first.lock(rt);
-        *first = First {
-            fault: first_of(first.fault, Some(fault)),
-        };
+        self.first.lock(rt).keep(fault);
         self.any.store(true, Ordering::SeqCst);
     }
 

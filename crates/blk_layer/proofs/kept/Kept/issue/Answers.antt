@@ -1,6 +1,8 @@
 use Rattle.std.proofs.Common.{◌∙◌, sym}
+use Rattle.std.proofs.Math.Logic.{∥∥₁_map}
 use Rattle.blk_core.specs.Calls.{Issues}
 use Rattle.blk_layer.proofs.Moving.{issue_stays, stays_either}
+use Rattle.blk_layer.proofs.Ruled.{either, issued}
 use Rattle.blk_layer.proofs.kept.Kept.issue.Goals as goal
 
 pub invariant_of-self : goal.invariant_of-self
@@ -14,4 +16,5 @@ invariant_of-self g c =
       counted = kept.counted ∙ sym stays.dones;
       all_out = kept.all_out;
       none = kept.none;
+      ran = ∥∥₁_map kept.ran (either (λ found. Issues S.serves S.chooses kept.core c.args.hw c.args.tag found new) S.serves S.chooses S.told_done S.told_tick g.L.Named.start kept.core new c.issue.result (issued S.serves S.chooses S.told_done S.told_tick g.L.Named.start kept.core c.args.hw c.args.tag new) c.issue.ensures.issued c.issue.ensures.same);
     }

@@ -1,7 +1,9 @@
 use Rattle.std.proofs.Common.{◌∙◌, sym, ap}
+use Rattle.std.proofs.Math.Logic.{∥∥₁_map}
 use Rattle.blk_core.specs.Calls.{SetsDepth}
 use Rattle.blk_trace.specs.Setups.{Setup}
 use Rattle.blk_layer.proofs.Moving.{depth_stays, stays_either}
+use Rattle.blk_layer.proofs.Ruled.{either, set}
 use Rattle.blk_layer.proofs.Answered.{depth_answer}
 use Rattle.blk_layer.proofs.kept.Kept.set_depth.Goals as goal
 
@@ -9,12 +11,14 @@ pub invariant_of-self : goal.invariant_of-self
 invariant_of-self g c =
     let kept = c.args.self.now in
     let new = c.set_depth.new.self in
+    let S = g.S.Scheduler in
     let stays = stays_either (λ _. SetsDepth kept.core c.args.depth new) kept.core new c.set_depth.result (λ _. depth_stays kept.core c.args.depth new) c.set_depth.ensures.set c.set_depth.ensures.same in
     record {
       named = stays.setup ∙ kept.named;
       counted = kept.counted ∙ sym stays.dones;
       all_out = kept.all_out;
       none = kept.none;
+      ran = ∥∥₁_map kept.ran (either (λ _. SetsDepth kept.core c.args.depth new) S.serves S.chooses S.told_done S.told_tick g.L.Named.start kept.core new c.set_depth.result (λ _. set S.serves S.chooses S.told_done S.told_tick g.L.Named.start kept.core c.args.depth new) c.set_depth.ensures.set c.set_depth.ensures.same);
     }
 
 pub returns-clause-answer : goal.returns-clause-answer

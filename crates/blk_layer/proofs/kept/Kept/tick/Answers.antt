@@ -1,6 +1,8 @@
 use Rattle.std.proofs.Common.{◌∙◌, sym}
+use Rattle.std.proofs.Math.Logic.{∥∥₁_map}
 use Rattle.blk_core.specs.Calls.{Ends}
 use Rattle.blk_layer.proofs.Moving.{tick_stays, stays_either}
+use Rattle.blk_layer.proofs.Ruled.{either, ended}
 use Rattle.blk_layer.proofs.Answered.{tick_answer}
 use Rattle.blk_layer.proofs.kept.Kept.tick.Goals as goal
 
@@ -8,12 +10,14 @@ pub invariant_of-self : goal.invariant_of-self
 invariant_of-self g c =
     let kept = c.args.self.now in
     let new = c.tick.new.self in
+    let S = g.S.Scheduler in
     let stays = stays_either (λ _. Ends g.S.Scheduler.told_tick kept.core new) kept.core new c.tick.result (λ _. tick_stays g.S.Scheduler.told_tick kept.core new) c.tick.ensures.ended c.tick.ensures.same in
     record {
       named = stays.setup ∙ kept.named;
       counted = kept.counted ∙ sym stays.dones;
       all_out = kept.all_out;
       none = kept.none;
+      ran = ∥∥₁_map kept.ran (either (λ _. Ends S.told_tick kept.core new) S.serves S.chooses S.told_done S.told_tick g.L.Named.start kept.core new c.tick.result (λ _. ended S.serves S.chooses S.told_done S.told_tick g.L.Named.start kept.core new) c.tick.ensures.ended c.tick.ensures.same);
     }
 
 pub returns-clause-answer : goal.returns-clause-answer

@@ -1,5 +1,7 @@
 use Rattle.std.proofs.Common.{◌∙◌, sym}
+use Rattle.std.proofs.Math.Logic.{∥∥₁_map}
 use Rattle.blk_layer.proofs.Moving.{tried_stays}
+use Rattle.blk_layer.proofs.Ruled.{tried}
 use Rattle.blk_layer.proofs.kept.Kept.try_issue.Goals as goal
 
 pub invariant_of-self : goal.invariant_of-self
@@ -12,6 +14,7 @@ invariant_of-self g c =
       counted = kept.counted ∙ sym stays.dones;
       all_out = kept.all_out;
       none = kept.none;
+      ran = ∥∥₁_map kept.ran (tried S.serves S.chooses S.told_done S.told_tick g.L.Named.start kept.core c.args.hw c.args.tag c.try_issue.new.core c.try_issue.result c.try_issue.ensures.issued c.try_issue.ensures.fault);
     }
 
 pub invariant_of-self-in-Err-1 : goal.invariant_of-self-in-Err-1
@@ -24,4 +27,5 @@ invariant_of-self-in-Err-1 g c =
       counted = kept.counted ∙ sym stays.dones;
       all_out = kept.all_out;
       none = kept.none;
+      ran = ∥∥₁_map kept.ran (tried S.serves S.chooses S.told_done S.told_tick g.L.Named.start kept.core c.args.hw c.args.tag c.try_issue.new.core c.try_issue.result c.try_issue.ensures.issued c.try_issue.ensures.fault);
     }
