@@ -1,4 +1,5 @@
--- What invariants and proofs alone need: the spots of requests, the places of ids, and the requests in a slab.
+-- What invariants and proofs alone need: values under scattered numbers, the spots of requests, the places of ids, and the requests in a slab.
+pub mod Scattered
 pub mod Spots
 pub mod Heads
 pub mod Edges
