@@ -1,8 +1,8 @@
 -- A legal trace in which each command came first of what waited as it went out, and one is later than it has to be.
-use Rattle.std.proofs.Common.{◌≡◌, ◌<◌, ◌≤◌, ◌+◌, ◌++◌, ◌==◌, ℕ, zero, suc, ℤ, List, [], ◌∷◌, length, get_or, take, refl, sym, ◌∙◌, ap, subst, arith, inl, inr, Some, None, Bool, true, false, eqb-true}
+use Rattle.std.proofs.Common.{◌≡◌, ◌<◌, ◌≤◌, ◌+◌, ◌++◌, ◌==◌, ℕ, zero, suc, ℤ, List, [], ◌∷◌, length, get_or, take, refl, sym, ◌∙◌, ap, subst, arith, inl, inr, Some, None, Bool, true, false, cond, eqb-true}
 use Rattle.std.specs.Prelude.{◌||◌, ◌⊎◌, slice_get, pos, ◌≤ℤ◌, ◌-ℤ◌}
 use Rattle.std.proofs.lemmas.Int.{ints}
-use Rattle.std.proofs.lemmas.Bool.{or_cases, or_left, both_ways}
+use Rattle.std.proofs.lemmas.Bool.{or_cases, or_left, both_ways, ne_eqb}
 use Rattle.blk_bio.specs.Bios.{Bio, IsBio}
 use Rattle.blk_bio.specs.Requests.{IsRequest}
 use Rattle.blk_bio.specs.declared.bio.Dir.TheVariants.{Read, Write}
@@ -13,7 +13,8 @@ use Rattle.edd_check.specs.Schedule.{IsLegal, IsGreatestLateness, IsLeastLatenes
 use Rattle.edd_check.specs.Met.{number_met, IsMostMet}
 use Rattle.edd_oracle.specs.Priority.{ComesFirst}
 use Rattle.blk_trace.specs.declared.trace.TheConstants.{MAX_EVENTS}
-use Rattle.blk_trace.specs.Happened.{Happened, Tick, Release, Issue, Done}
+use Rattle.blk_trace.specs.Happened.{Happened}
+use Rattle.blk_trace.specs.declared.event.Event.TheVariants.{Tick, Release, Issue, Done}
 use Rattle.blk_trace.specs.Setups.{IsSetup}
 use Rattle.blk_trace.specs.Events.{At, EntersRequest, IsReleased, round_of, entered, request_of, open_count, goes_back}
 use Rattle.blk_trace.specs.Depths.{changes_of, depth_in, depth_now, capacity_of}
@@ -39,7 +40,7 @@ next : (es : List Happened) (e : Happened) → IsLegalTrace one_tag es → IsAll
 next es e old allowed request room = push_legal one_tag es e old (allowed-unbroken one_tag es e old allowed room) request
 
 fresh : (es : List Happened) (id : ℕ) → has_id (released_ids es) id ≡ false → IsReleased es id → ⊥
-fresh es id h p = both_ways _ (released_has es p.0 id p.1.0 p.1.1) h
+fresh es id h p = both_ways (has_id (released_ids es) id) h (released_has es p.0 id p.1.0 p.1.1)
 
 is_one : (b : Bio) → IsBio b → IsRequest (b ∷ [])
 is_one b bio = record {
@@ -114,7 +115,7 @@ full_at k h = subst (λ n. IsFull one_tag (take n read_too_late)) (sym (ticked k
 
 -- of one id, and of two of which the first went out, the last alone is left
 of_one : (id i : ℕ) → has_id (i ∷ []) id ≡ true → id ≡ i
-of_one id i h = elim (or_cases (i == id) false h) [ inl same ↦ sym (eqb-true i id same) | inr no ↦ absurd (cc) ]
+of_one id i h = elim (or_cases (i == id) false h) [ inl same ↦ sym (eqb-true i id same) | inr never ↦ absurd (cc) ]
 
 of_two : (id : ℕ) → has_id (0 ∷ 1 ∷ []) id ≡ true → has_id (0 ∷ []) id ≡ false → id ≡ 1
 of_two id h gone = elim (or_cases (0 == id) (has_id (1 ∷ []) id) h) [
@@ -185,7 +186,10 @@ few : (x : ℕ) → places_at turned x ≤ depth_at one_place x
 unfolding places_at depth_at
 few zero = omega arith
 few (suc zero) = omega arith
-few (suc (suc x)) = omega arith
+few (suc (suc x)) =
+    let first : (1 == suc (suc x)) ≡ false = ne_eqb 1 (suc (suc x)) (λ e. absurd (omega arith)) in
+    let second : (0 == suc (suc x)) ≡ false = ne_eqb 0 (suc (suc x)) (λ e. absurd (omega arith)) in
+    omega (arith, ap (λ b. cond {A = ℕ} b 1 0) first, ap (λ b. cond {A = ℕ} b 1 0) second)
 
 turned_legal : IsLegal two turned one_place
 turned_legal = record { one_each = refl; released = starts; within_depth = few }
@@ -206,7 +210,7 @@ turned_late = record { bound = bound; place = 1; in_list = omega arith; reached 
 not_least : (late : ℤ) → IsGreatestLateness two (0 ∷ 1 ∷ []) late → IsLeastLateness two one_place late → ⊥
 not_least late greatest least =
     let d : Command = record { id = 0; release = 0; due = 0 } in
-    let own : pos 1 -ℤ pos 0 ≤ℤ late = greatest.bound 1 d (omega arith) in
+    let own : (pos 1 -ℤ pos 0) ≤ℤ late = greatest.bound 1 d (omega arith) in
     let other : late ≤ℤ pos 0 = least.least turned (pos 0) turned_legal turned_late in
     omega (arith, ints, own, other)
 

@@ -3,7 +3,8 @@ use Rattle.std.specs.Prelude.{ℕ, ◌≡◌, ◌≤◌, List, [], ◌∷◌, So
 use Rattle.blk_bio.specs.declared.bio.Dir.TheVariants.{Read, Write}
 use Rattle.blk_bio.specs.Bios.{Bio}
 use Rattle.edd_oracle.specs.Priority.{ComesFirst}
-use Rattle.blk_trace.specs.Happened.{Happened, Tick, Release, Issue, Done}
+use Rattle.blk_trace.specs.Happened.{Happened}
+use Rattle.blk_trace.specs.declared.event.Event.TheVariants.{Tick, Release, Issue, Done}
 use Rattle.blk_trace.specs.Setups.{Setup}
 use Rattle.blk_trace.specs.Events.{At, round_of}
 use Rattle.blk_trace.specs.Meaning.{due_of, command_of}
