@@ -6,7 +6,7 @@ use Rattle.std.specs.Ordering.{is_gt}
 use Rattle.std.specs.BTreeMap.{is_at}
 use Rattle.std.specs.BTreeSet.{contains}
 use Rattle.blk_index.specs.Inside.Pairs.{pair_cmp}
-use Rattle.blk_earliest.specs.declared.dues.Dues.{Dues}
+use Rattle.blk_earliest.specs.declared.order.Dues.{Dues}
 
 -- whether a pair is in the list
 abbrev pub listed : List (ℕ × ℕ) → ℕ × ℕ → Bool

@@ -8,7 +8,7 @@ ghost use Rattle.blk_index.specs.Index.{IsJoined};
 ghost use Rattle.blk_earliest.specs.Dues.{IsFirstFrom, NoneFrom};
 
 use crate::due::Due;
-use crate::dues::Dues;
+use crate::order::Dues;
 use blk_bio::{Limits, Request, Side};
 use blk_index::Index;
 use blk_sched::Queued;

@@ -2,7 +2,7 @@ use Rattle.std.proofs.Common.{◌≡◌, ◌<◌, ◌≤◌, ◌-◌, ℕ, lengt
 use Rattle.std.specs.Prelude.{slice_get}
 use Rattle.std.specs.Ordering.{is_lt}
 use Rattle.blk_index.specs.Inside.Pairs.{pair_cmp}
-use Rattle.blk_earliest.proofs.dues.place_among.Given as goal
+use Rattle.blk_earliest.proofs.order.place_among.Given as goal
 
 -- those below come before, and those from the top on don't
 abbrev pub invariant-loop-low : goal.invariant-loop-low
