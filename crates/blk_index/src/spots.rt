@@ -196,6 +196,7 @@ impl<A: Allocator + Clone> Spots<A> {
     }
 
     /// Whether there may be a request at a sector that has no more sectors than these.
+    #[inline(always)]
     pub fn may_have(&self, sector: u64, sectors: u64) -> bool
         ensures { OnFalse result (HasNone (heads_in self.now sector) sectors) }
     {
