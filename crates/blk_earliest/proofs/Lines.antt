@@ -1,6 +1,9 @@
 -- Lists of pairs in order: one put at the end, one taken out, and the first from a due round on.
 use Rattle.std.proofs.Common.{◌≡◌, ◌<◌, ◌≤◌, ◌++◌, ℕ, zero, suc, Bool, true, false, cond, List, [], ◌∷◌, length, sym, ap, subst, ◌∙◌, refl, arith, inl, inr, Some, None, Option}
-use Rattle.std.specs.Prelude.{◌||◌, slice_get, OnOk, OnErr, Result, Ok, Err}
+use Rattle.std.specs.Prelude.{◌||◌, not, slice_get, OnOk, OnErr, Result, Ok, Err}
+use Rattle.std.specs.Bool.{OnTrue}
+use Rattle.std.specs.BTreeMap.{is_at}
+use Rattle.std.specs.BTreeSet.{BTreeSet, IsEmpty, contains}
 use Rattle.std.specs.List.{AllByRecursion, list_any, remove}
 use Rattle.std.specs.List.Sorted.{IsStrictlySortedBy}
 use Rattle.std.specs.Ordering.{nat_cmp, ordering_then, ordering_reverse, eq_by_cmp, is_eq, is_lt, is_gt}
@@ -18,7 +21,7 @@ use Rattle.blk_earliest.proofs.Dues.{Pairs}
 abbrev Pair : Type 0
 Pair = ℕ × ℕ
 
-abbrev InOrder : List Pair → Type 0
+abbrev pub InOrder : List Pair → Type 0
 InOrder ps = IsStrictlySortedBy pair_cmp ps
 
 -- ---- the order
@@ -336,20 +339,20 @@ kept_first one now other kept q = ap (λ b. b || other q) (kept q)
 pub kept_second : (other one now : Pairs) → PairsKept one now → PairsKept (either other one) (either other now)
 kept_second other one now kept q = ap (λ b. other q || b) (kept q)
 
-pub taken_both : (one now other then : Pairs) (p : Pair) → PairTaken one p now → PairTaken other p then → PairTaken (either one other) p (either now then)
-taken_both one now other then p a b q = ap (λ t. t || then q) (a q) ∙ ap (λ t. cond (eq_by_cmp pair_cmp p q) false (one q) || t) (b q) ∙ both_less (one q) (eq_by_cmp pair_cmp p q) (other q)
+pub taken_both : (one now other after : Pairs) (p : Pair) → PairTaken one p now → PairTaken other p after → PairTaken (either one other) p (either now after)
+taken_both one now other after p a b q = ap (λ t. t || after q) (a q) ∙ ap (λ t. cond (eq_by_cmp pair_cmp p q) false (one q) || t) (b q) ∙ both_less (one q) (eq_by_cmp pair_cmp p q) (other q)
 
 -- the first of three and the last change, beside the one between
-pub added_around : (reads writes others now then : Pairs) (p : Pair) → PairAdded (either reads others) p (either now then) → PairAdded (either reads (either writes others)) p (either now (either writes then))
-added_around reads writes others now then p added q =
-    aside (now q) (writes q) (then q)
+pub added_around : (reads writes others now after : Pairs) (p : Pair) → PairAdded (either reads others) p (either now after) → PairAdded (either reads (either writes others)) p (either now (either writes after))
+added_around reads writes others now after p added q =
+    aside (now q) (writes q) (after q)
     ∙ ap (λ b. writes q || b) (added q)
     ∙ or_more (writes q) (eq_by_cmp pair_cmp p q) (reads q || others q)
     ∙ ap (λ b. cond (eq_by_cmp pair_cmp p q) true b) (aside (writes q) (reads q) (others q))
 
-pub kept_around : (reads writes others now then : Pairs) → PairsKept (either reads others) (either now then) → PairsKept (either reads (either writes others)) (either now (either writes then))
-kept_around reads writes others now then kept q =
-    aside (now q) (writes q) (then q) ∙ ap (λ b. writes q || b) (kept q) ∙ aside (writes q) (reads q) (others q)
+pub kept_around : (reads writes others now after : Pairs) → PairsKept (either reads others) (either now after) → PairsKept (either reads (either writes others)) (either now (either writes after))
+kept_around reads writes others now after kept q =
+    aside (now q) (writes q) (after q) ∙ ap (λ b. writes q || b) (kept q) ∙ aside (writes q) (reads q) (others q)
 
 -- ---- in answers
 
@@ -360,3 +363,20 @@ on_ok (Err x) P Q f h = tt
 pub on_err : {T E : Type 0} (r : Result T E) (P Q : Type 0) → (P → Q) → OnErr r P → OnErr r Q
 on_err (Ok x) P Q f h = tt
 on_err (Err x) P Q f h = f h
+
+pub on_true : (b : Bool) (P : Type 0) → (b ≡ true → P) → OnTrue b P
+on_true true P f = f refl
+on_true false P f = tt
+
+pub on_not : (b : Bool) (P : Type 0) → (b ≡ false → P) → OnTrue (not b) P
+on_not true P f = tt
+on_not false P f = f refl
+
+pub empty_dues : (reads writes : List Pair) (others : BTreeSet Pair) → reads ≡ [] → writes ≡ [] → IsEmpty others → (q : Pair) → either (listed reads) (either (listed writes) (contains pair_cmp others)) q ≡ false
+empty_dues reads writes others r w o q =
+    or_from (listed reads q) (either (listed writes) (contains pair_cmp others) q) (ap (λ ps. listed ps q) r)
+    (or_from (listed writes q) (contains pair_cmp others q) (ap (λ ps. listed ps q) w) (ap (list_any (is_at (pair_cmp q))) o))
+
+pub empty_line : (ps : List Pair) → ps ≡ [] → InOrder ps
+unfolding IsStrictlySortedBy
+empty_line ps none = subst (λ (l : List Pair). IsStrictlySortedBy pair_cmp l) (sym none) tt
