@@ -1,7 +1,8 @@
 -- Lists of pairs in order: one put at the end, one taken out, and the first from a due round on.
-use Rattle.std.proofs.Common.{◌≡◌, ◌<◌, ◌≤◌, ◌++◌, ℕ, zero, suc, Bool, true, false, cond, List, [], ◌∷◌, length, sym, ap, subst, ◌∙◌, refl, arith, inl, inr, Some, None, Option}
-use Rattle.std.specs.Prelude.{◌||◌, not, slice_get, OnOk, OnErr, Result, Ok, Err}
+use Rattle.std.proofs.Common.{◌≡◌, ◌<◌, ◌≤◌, ◌++◌, ◌+◌, ℕ, zero, suc, Bool, true, false, cond, List, [], ◌∷◌, length, sym, ap, subst, ◌∙◌, refl, arith, inl, inr, Some, None, Option}
+use Rattle.std.specs.Prelude.{◌||◌, not, slice_get, OnOk, OnErr, IfSome, IfNone, IsSome, Result, Ok, Err}
 use Rattle.std.specs.Bool.{OnTrue}
+use Rattle.std.specs.Option.{OnSome}
 use Rattle.std.specs.BTreeMap.{is_at}
 use Rattle.std.specs.BTreeSet.{BTreeSet, IsEmpty, contains}
 use Rattle.std.specs.List.{AllByRecursion, list_any, remove}
@@ -14,7 +15,8 @@ use Rattle.std.proofs.lemmas.Bool.{cases_lt, cases_eq, or_cases, or_left, or_rig
 use Rattle.std.proofs.lemmas.Option.{slice_get_within}
 use Rattle.blk_index.specs.Inside.Pairs.{pair_cmp, pair_total}
 use Rattle.blk_index.specs.Inside.Orders.{PairAdded, PairTaken, PairsKept}
-use Rattle.blk_index.proofs.Listed.{is_equal, both_equal}
+use Rattle.blk_index.proofs.Listed.{is_equal}
+use Rattle.blk_earliest.specs.Dues.{IsFirstPair}
 use Rattle.blk_earliest.specs.Lines.{listed, either, IsFirstOf, IsFirstOrNone}
 use Rattle.blk_earliest.proofs.Dues.{Pairs}
 
@@ -30,6 +32,11 @@ is_less : (o : Ordering) → is_lt o ≡ true → o ≡ Less
 is_less Less h = refl
 is_less Equal h = cc
 is_less Greater h = cc
+
+both_equal : (o r : Ordering) → is_eq (ordering_then o r) ≡ true → (o ≡ Equal) × (r ≡ Equal)
+both_equal Less r h = absurd (cc)
+both_equal Equal r h = (refl, is_equal r h)
+both_equal Greater r h = absurd (cc)
 
 same : (p q : Pair) → pair_cmp p q ≡ Equal → p ≡ q
 same (a, i) (b, k) h =
@@ -201,16 +208,16 @@ absent_taken ps n p up below above not_here = nothing_taken (listed ps) p (absen
 
 -- nothing comes before one where the first doesn't
 pub from_first : (ps : List Pair) (first p : Pair) → InOrder ps → slice_get ps 0 ≡ Some first → is_lt (pair_cmp first p) ≡ false → (k : ℕ) (q : Pair) → slice_get ps k ≡ Some q → is_lt (pair_cmp q p) ≡ false
-from_first ps first p up at no k q there = false_from_ne_true (is_lt (pair_cmp q p)) (λ t.
+from_first ps first p up at later k q there = false_from_ne_true (is_lt (pair_cmp q p)) (λ t.
     elim (cases_eq k 0) [
       | inl here ↦
           let there' : slice_get ps 0 ≡ Some q = ap (slice_get ps) (sym here) ∙ there in
           let e : first ≡ q = cc in
-          both_ways (is_lt (pair_cmp q p)) (subst (λ (y : Pair). is_lt (pair_cmp y p) ≡ false) e no) t
+          both_ways (is_lt (pair_cmp q p)) (subst (λ (y : Pair). is_lt (pair_cmp y p) ≡ false) e later) t
       | inr other ↦
           let lt : 0 < k = omega arith in
           let less : pair_cmp first q ≡ Less = risen ps 0 k first q up lt at there in
-          both_ways (is_lt (pair_cmp first p)) no (ap is_lt (pair_total.trans first q p less (is_less (pair_cmp q p) t)))
+          both_ways (is_lt (pair_cmp first p)) later (ap is_lt (pair_total.trans first q p less (is_less (pair_cmp q p) t)))
     ])
 
 pub below_here : (ps : List Pair) (p : Pair) (n : ℕ) (r : Pair) → InOrder ps → slice_get ps n ≡ Some r → is_lt (pair_cmp r p) ≡ true → Below ps (n + 1) p
@@ -226,15 +233,15 @@ below_here ps p n r up at less k q lt there =
     ]
 
 pub above_here : (ps : List Pair) (p : Pair) (n : ℕ) (r : Pair) → InOrder ps → slice_get ps n ≡ Some r → is_lt (pair_cmp r p) ≡ false → Above ps n p
-above_here ps p n r up at no k q le there =
+above_here ps p n r up at later k q le there =
     elim (cases_eq k n) [
       | inl here ↦
           let there' : slice_get ps n ≡ Some q = ap (slice_get ps) (sym here) ∙ there in
           let e : r ≡ q = cc in
-          subst (λ (y : Pair). is_lt (pair_cmp y p) ≡ false) e no
+          subst (λ (y : Pair). is_lt (pair_cmp y p) ≡ false) e later
       | inr other ↦ false_from_ne_true (is_lt (pair_cmp q p)) (λ t.
           let after : n < k = omega arith in
-          both_ways (is_lt (pair_cmp r p)) no (ap is_lt (pair_total.trans r q p (risen ps n k r q up after at there) (is_less (pair_cmp q p) t))))
+          both_ways (is_lt (pair_cmp r p)) later (ap is_lt (pair_total.trans r q p (risen ps n k r q up after at there) (is_less (pair_cmp q p) t))))
     ]
 
 -- ---- the first from a due round on
@@ -297,21 +304,21 @@ module _ (one other : Pairs) (start : ℕ) where
   }
 
   pub first_stays : (p r : Pair) → is_lt (pair_cmp r p) ≡ false → IsFirstOf one start p → IsFirstOf other start r → IsFirstOf (either one other) start p
-  first_stays p r no a b = record {
+  first_stays p r later a b = record {
     there = or_left (one p) (other p) a.there;
     high = a.high;
     least = λ q high has. elim (or_cases (one q) (other q) has) [
       | inl left ↦ a.least q high left
-      | inr right ↦ upto pair_total p r q (turned p r ∙ no) (b.least q high right)
+      | inr right ↦ upto pair_total p r q (turned p r ∙ later) (b.least q high right)
     ];
   }
 
   pub second_first : (p r : Pair) → is_lt (pair_cmp r p) ≡ true → IsFirstOf one start p → IsFirstOf other start r → IsFirstOf (either one other) start r
-  second_first p r yes a b = record {
+  second_first p r sooner a b = record {
     there = or_right (one r) (other r) b.there;
     high = b.high;
     least = λ q high has. elim (or_cases (one q) (other q) has) [
-      | inl left ↦ upto pair_total r p q (ap is_gt (is_less (pair_cmp r p) yes)) (a.least q high left)
+      | inl left ↦ upto pair_total r p q (ap is_gt (is_less (pair_cmp r p) sooner)) (a.least q high left)
       | inr right ↦ b.least q high right
     ];
   }
@@ -380,3 +387,15 @@ empty_dues reads writes others r w o q =
 pub empty_line : (ps : List Pair) → ps ≡ [] → InOrder ps
 unfolding IsStrictlySortedBy
 empty_line ps none = subst (λ (l : List Pair). IsStrictlySortedBy pair_cmp l) (sym none) tt
+
+pub some_holds : {X : Type 0} (o : Option X) (P : Type 0) → IsSome o → OnSome o P → P
+some_holds (Some x) P s h = h
+some_holds None P s h = absurd (cc)
+
+pub first_pair : (has : Pairs) (start due id : ℕ) → IsFirstOf has start (due, id) → IsFirstPair has start id
+first_pair has start due id f = record { due = due; there = f.there; high = f.high; least = f.least }
+
+pub either_or_none : (has : Pairs) (start : ℕ) (o : Option Pair) → IfSome o (λ p. has p ≡ true) → IfSome o (λ p. is_gt (pair_cmp (start, 0) p) ≡ false) → IfSome o (λ p. (q : Pair) → is_gt (pair_cmp (start, 0) q) ≡ false → has q ≡ true → is_gt (pair_cmp p q) ≡ false)
+    → IfNone o ((q : Pair) → is_gt (pair_cmp (start, 0) q) ≡ false → has q ≡ false) → IsFirstOrNone has start o
+either_or_none has start (Some p) there high least none = record { there = there; high = high; least = least }
+either_or_none has start None there high least none = none

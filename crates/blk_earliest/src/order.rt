@@ -80,8 +80,10 @@ impl<A: Allocator + Clone> Dues<A> {
         let reads = first_in(&self.reads, start);
         let writes = first_in(&self.writes, start);
         let others = first_other(&self.others, start);
-        let first = lesser(reads, lesser(writes, others))?;
-        Some(first.id)
+        match lesser(reads, lesser(writes, others)) {
+            Some(first) => Some(first.id),
+            None => None,
+        }
     }
 }
 
@@ -262,8 +264,10 @@ fn first_in<A: Allocator + Clone>(line: &VecDeque<Due, A>, start: u64) -> Option
     ensures { IsFirstOrNone (listed line.now.items) start result }
 {
     let place = place_of(line, Due { due: start, id: 0 });
-    let first = line.get(place)?;
-    Some(*first)
+    match line.get(place) {
+        Some(first) => Some(*first),
+        None => None,
+    }
 }
 
 /// The first of the set whose due round is `start` or later.
