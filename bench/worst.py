@@ -4,9 +4,9 @@
 Each kind is made to take long in one of the ways that the program's structures leave open, and N is how many bios, commands or
 rounds it has. Scripts: joins and fronts (each bio joins a request that waits, at its back or its front), plugs (each bio touches
 half of those that its plug holds, and fits none), no_room (the same in the core, where all wait), other_way (half of what waits
-touches the newcomer and is too long for it, and a short request of the other direction lies there too), bio_ids (made for a hash table
-that traces had once), sectors (that all share a place), handed (each command is handed back once), idle (rounds in which nothing waits
-for any of 16 queues). Traces: trace_bio_ids and trace_requests (ids made for hash tables that traces had once), trace_falling (both count down),
+touches the newcomer and is too long for it, and a short request of the other direction lies there too), bio_ids and sectors (made
+for the hash tables), handed (each command is handed back once), idle (rounds in which nothing waits for any of 16 queues).
+Traces: trace_bio_ids and trace_requests (ids made for hash tables that traces had once), trace_falling (both count down),
 trace_steps (another depth in each round, all late),
 trace_joins (requests that grow to 128 bios), trace_groups (groups of 128 bios). Command lists: scattered (rounds up to the
 limits), falling (by falling release and due), nested (each released later and due sooner than the one before), alone (each passed
@@ -64,16 +64,23 @@ def colliding(count, groups, state):
     raise ValueError(f"{len(found)} keys were found")
 
 
-def sharing(count):
-    """Sectors that all have one place among those of sectors that wait."""
-    return [8 * (m << 12 | -(m + (m >> 12)) & 4095) for m in range(count)]
+def colliding_sectors(count, groups):
+    """Sectors below 2^48 that all fall into the first of so many groups, found by trying."""
+    mask = groups - 1
+    found = []
+    key = 0
+    while len(found) < count:
+        if bits_of(key, SEED, mask) == 0:
+            found.append(key)
+        key += 1
+    return found
 
 
-def table_of(entries):
-    """How many groups a table has that grows to four times as many and holds so many entries, nine a group."""
+def table_of(entries, factor):
+    """How many groups a table has that grows by this factor and holds so many entries, nine a group."""
     groups = 1
     while 9 * groups < entries:
-        groups *= 4
+        groups *= factor
     return groups
 
 
@@ -123,13 +130,14 @@ def plugs(count, out):
 
 
 def bio_ids(count, out):
-    serials = colliding(count, table_of(count), after_submitter(0))
+    serials = colliding(count, table_of(count, 4), after_submitter(0))
     lines = [*one_by_one([f"{it},R,{100 * n},8" for n, it in enumerate(serials)], 32), f"run,{count // 32 + 1},,,,"]
     script(lines, out)
 
 
 def sectors(count, out):
-    lines = [*one_by_one([f"{n},R,{it},1" for n, it in enumerate(sharing(count))], 32), f"run,{count // 32 + 1},,,,"]
+    firsts = colliding_sectors(count, table_of(count, 2))
+    lines = [*one_by_one([f"{n},R,{it},1" for n, it in enumerate(firsts)], 32), f"run,{count // 32 + 1},,,,"]
     script(lines, out)
 
 
@@ -166,11 +174,11 @@ def served(ids, serials):
 
 
 def trace_bio_ids(count, out):
-    trace(1, served(range(count), colliding(count, table_of(count), after_submitter(0))), out)
+    trace(1, served(range(count), colliding(count, table_of(count, 4), after_submitter(0))), out)
 
 
 def trace_requests(count, out):
-    trace(1, served(colliding(count, table_of(count), SEED), range(count)), out)
+    trace(1, served(colliding(count, table_of(count, 4), SEED), range(count)), out)
 
 
 def trace_falling(count, out):

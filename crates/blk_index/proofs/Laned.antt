@@ -12,7 +12,7 @@ use Rattle.blk_sched.specs.Meaning.{Waiting, joined_waiting}
 use Rattle.blk_sched.specs.Maps.{one_test}
 use Rattle.blk_sched.specs.Fits.{HasFit, JoinsAt}
 use Rattle.blk_index.specs.Lanes.{waiting_at}
-use Rattle.blk_index.specs.Inside.Spots.{Place, AreSpots, is_placed, first_at, end_at}
+use Rattle.blk_index.specs.Inside.Spots.{Place, Spot, AreSpots, is_placed, first_at, end_at}
 use Rattle.blk_index.specs.Inside.Heads.{Becomes, IsEdge}
 use Rattle.blk_index.proofs.Indexed.{Found, Has}
 use Rattle.blk_index.proofs.Spotted.{Heads, Others}

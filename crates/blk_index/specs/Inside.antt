@@ -1,5 +1,4 @@
--- What invariants and proofs alone need: values under scattered numbers, the spots of requests, the places of ids, and the requests in a slab.
-pub mod Scattered
+-- What invariants and proofs alone need: the spots of requests, the places of ids, and the requests in a slab.
 pub mod Spots
 pub mod Heads
 pub mod Edges

@@ -6,7 +6,6 @@ pub mod firsts;
 pub mod index;
 pub mod lane;
 pub mod places;
-pub mod scattered;
 pub mod shelf;
 pub mod sorted;
 pub mod spots;

@@ -4,12 +4,9 @@ ghost use Rattle.std.specs.Prelude.{◌≡◌, ◌+◌, ◌++◌, ◌∷◌, ℕ
 ghost use Rattle.std.specs.Bool.{OnTrue};
 ghost use Rattle.blk_index.specs.Inside.Places.{run_at, place_in, entries_of, place_of, Gives};
 
+use crate::spots::Hashing;
 use std::alloc::{AllocError, Allocator, Global};
 use std::collections::{HashMap, VecDeque};
-use std::hash::{BuildHasherDefault, FoldHasher};
-
-/// How ids are hashed: with a fixed seed, so that every run is the same. They count up, so no file chooses them.
-type Hashing = BuildHasherDefault<FoldHasher>;
 
 /// The places of ids: those of a run of ids that follow one another, and in a hash table those of others. Requests mostly enter
 /// by rising ids, each one more than the last, and then all stand in the run, where a place is found at once.

@@ -1,25 +1,29 @@
 //! Where requests begin and end.
 
-ghost use Rattle.std.specs.Prelude.{◌≡◌, ◌<◌, ◌^◌, ◌+◌, ℕ, Option, None, Some, true, false, OnOk, OnErr, IfOk, IfSome, IfNone, IsSome};
+ghost use Rattle.std.specs.Prelude.{◌≡◌, ◌<◌, ◌^◌, ◌+◌, ℕ, Option, None, Some, true, false, OnOk, OnErr, IfOk, IfSome, IfNone, IsSome, nat_eq};
+ghost use Rattle.std.specs.HashMap as hash;
 ghost use Rattle.std.specs.Bool.{OnFalse};
 ghost use Rattle.std.specs.Ordering.{is_lt, is_gt, eq_by_cmp};
 ghost use Rattle.std.specs.BTreeSet.{contains};
 ghost use Rattle.std.specs.declared.cmp.Ordering.TheVariants.{Less};
 ghost use Rattle.blk_index.specs.Inside.Spots.{Place, Spot, place_cmp, spot_cmp, is_write, first_at, end_at, Adds, Takes, TakesOne, Keeps, IsBelow, IsNewestSpot, NoSpot, upper_of, greater_of};
-ghost use Rattle.blk_index.specs.Inside.Heads.{is_head, Becomes, HasHeads, HasNone, Lowers, KeepsLeast};
+ghost use Rattle.blk_index.specs.Inside.Heads.{is_head, Becomes, HasHeads, HasNone, Lowers, KeepsLeast, Sets};
 ghost use Rattle.blk_index.specs.Inside.Edges.{heads_in, others_in, spots_in, IsEdges};
 ghost use Rattle.blk_sched.specs.Meaning.{Waiting};
 ghost use Rattle.blk_index.specs.declared.spots.Head.{Head};
 ghost use Rattle.blk_bio.specs.Requests.{sectors_of};
 ghost use Rattle.blk_bio.specs.Extents.{extent_of};
 
-use crate::scattered::Scattered;
 use blk_bio::{Dir, Extent};
 use std::alloc::{AllocError, Allocator, Global};
-use std::collections::BTreeSet;
+use std::collections::{BTreeSet, HashMap};
+use std::hash::{BuildHasherDefault, FoldHasher};
 
 /// A direction, as whether it writes, and a sector; and the id of a request.
 pub type Spot = ((bool, u64), u64);
+
+/// How sectors and ids are hashed: with a fixed seed, so that every run is the same.
+pub type Hashing = BuildHasherDefault<FoldHasher>;
 
 /// Whether a direction writes.
 pub fn is_write(dir: Dir) -> bool
@@ -109,11 +113,11 @@ pub struct Head {
     pub least: u64,
 }
 
-/// Requests found by where they begin, or by where they end: one spot of each sector stands by itself, and what others there are
-/// of a sector in an ordered set.
+/// Requests found by where they begin, or by where they end: one spot of each sector stands in a hash table, and what others
+/// there are of a sector in an ordered set.
 #[derive(Drop)]
 pub struct Spots<A: Allocator = Global> {
-    heads: Scattered<Head, A>,
+    heads: HashMap<u64, Head, Hashing, A>,
     others: BTreeSet<Spot, A>,
 }
 
@@ -124,7 +128,7 @@ impl<A: Allocator + Clone> Spots<A> {
         ensures others { IfOk result (λ s. (q : Spot) → others_in s q ≡ false) }
     {
         Ok(Spots {
-            heads: Scattered::new(alloc.clone()?)?,
+            heads: HashMap::new(alloc.clone()?),
             others: BTreeSet::new(alloc),
         })
     }
@@ -139,20 +143,26 @@ impl<A: Allocator + Clone> Spots<A> {
         ensures same_others { OnErr result (Keeps (others_in self.old) (others_in self.new)) }
     {
         let ((_, sector), _) = spot;
-        let Some(head) = self.heads.get(sector) else {
-            let first = Head {
-                spot,
-                least: sectors,
-            };
-            return self.heads.insert(sector, first);
+        let first = Head {
+            spot,
+            least: sectors,
+        };
+        let Ok(found) = self.heads.insert(sector, first) else {
+            return Err(AllocError);
+        };
+        let Some(head) = found else {
+            return Ok(());
         };
         // the sector has a head, which stays
         let lower = Head {
             spot: head.spot,
             least: head.least.min(sectors),
         };
-        put(&mut self.others, spot)?;
-        self.heads.set(sector, lower);
+        let Ok(()) = put(&mut self.others, spot) else {
+            set_head(&mut self.heads, sector, head);
+            return Err(AllocError);
+        };
+        set_head(&mut self.heads, sector, lower);
         Ok(())
     }
 
@@ -164,9 +174,9 @@ impl<A: Allocator + Clone> Spots<A> {
         ensures least { KeepsLeast (heads_in self.old) (heads_in self.new) }
     {
         if self.others.is_empty() {
-            // so it is the one that stands by itself
+            // so it is the one that stands in the hash table
             let ((_, sector), _) = spot;
-            self.heads.remove(sector);
+            let _ = self.heads.remove(&sector);
             return;
         }
         self.take_among(spot);
@@ -187,20 +197,19 @@ impl<A: Allocator + Clone> Spots<A> {
         };
         match spot_at(&self.others, sector) {
             Some(other) => {
-                self.heads.set(sector, Head { spot: other, least });
+                set_head(&mut self.heads, sector, Head { spot: other, least });
             }
             None => {
-                self.heads.remove(sector);
+                let _ = self.heads.remove(&sector);
             }
         }
     }
 
     /// Whether there may be a request at a sector that has no more sectors than these.
-    #[inline(always)]
     pub fn may_have(&self, sector: u64, sectors: u64) -> bool
         ensures { OnFalse result (HasNone (heads_in self.now sector) sectors) }
     {
-        match self.heads.get(sector) {
+        match self.heads.get(&sector) {
             Some(head) => head.least <= sectors,
             None => false,
         }
@@ -218,25 +227,25 @@ impl<A: Allocator + Clone> Spots<A> {
         )
     }
 
-    /// The fewest sectors at a spot's sector, where the spot is the one that stands by itself.
+    /// The fewest sectors at a spot's sector, where the spot is the one that stands in the hash table.
     fn least_of(&self, spot: Spot) -> Option<u64>
         ensures some { IfSome result (λ least. heads_in self.now spot.0.1 ≡ Some (record { spot = spot; least = least })) }
         ensures none { IfNone result (is_head (heads_in self.now spot.0.1) spot ≡ false) }
     {
-        let head = self.heads.get(spot.0.1)?;
+        let head = self.heads.get(&spot.0.1)?;
         if !is_spot(head.spot, spot) {
             return None;
         }
         Some(head.least)
     }
 
-    /// The id at a place that stands by itself, where it is below the bound.
+    /// The id at a place that stands in the hash table, where it is below the bound.
     fn head_at(&self, place: (bool, u64), below: Option<u64>) -> Option<u64>
         ensures there { IfSome result (λ id. (h : Head) × (heads_in self.now place.1 ≡ Some h) × (h.spot ≡ (place, id))) }
         ensures low { IfSome result (IsBelow below) }
         ensures none { IfNone result ((id : ℕ) → IsBelow below id → is_head (heads_in self.now place.1) (place, id) ≡ false) }
     {
-        let ((write, sector), id) = self.heads.get(place.1)?.spot;
+        let ((write, sector), id) = self.heads.get(&place.1)?.spot;
         if write != place.0 || sector != place.1 {
             return None;
         }
@@ -245,6 +254,20 @@ impl<A: Allocator + Clone> Spots<A> {
             _ => Some(id),
         }
     }
+}
+
+/// Sets the head of a sector that has one. It takes no memory.
+fn set_head<A: Allocator + Clone>(
+    heads: &mut HashMap<u64, Head, Hashing, A>,
+    sector: u64,
+    head: Head,
+)
+    requires { IsSome (hash.get nat_eq heads.old sector) }
+    ensures { Sets (hash.get nat_eq heads.old) sector (Some head) (hash.get nat_eq heads.new) }
+{
+    let Ok(_) = heads.insert(sector, head) else {
+        unreachable!()
+    };
 }
 
 /// Whether two spots are one.
