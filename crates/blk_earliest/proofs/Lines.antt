@@ -1,6 +1,6 @@
 -- Lists of pairs in order: one put at the end, one taken out, and the first from a due round on.
 use Rattle.std.proofs.Common.{◌≡◌, ◌<◌, ◌≤◌, ◌++◌, ◌+◌, ℕ, zero, suc, Bool, true, false, cond, List, [], ◌∷◌, length, sym, ap, subst, ◌∙◌, refl, arith, inl, inr, Some, None, Option}
-use Rattle.std.specs.Prelude.{◌||◌, not, slice_get, OnOk, OnErr, IfSome, IfNone, IsSome, Result, Ok, Err}
+use Rattle.std.specs.Prelude.{◌||◌, not, slice_get, OnOk, OnErr, IsSome, Result, Ok, Err}
 use Rattle.std.specs.Bool.{OnTrue}
 use Rattle.std.specs.Option.{OnSome}
 use Rattle.std.specs.BTreeMap.{is_at}
@@ -394,8 +394,3 @@ some_holds None P s h = absurd (cc)
 
 pub first_pair : (has : Pairs) (start due id : ℕ) → IsFirstOf has start (due, id) → IsFirstPair has start id
 first_pair has start due id f = record { due = due; there = f.there; high = f.high; least = f.least }
-
-pub either_or_none : (has : Pairs) (start : ℕ) (o : Option Pair) → IfSome o (λ p. has p ≡ true) → IfSome o (λ p. is_gt (pair_cmp (start, 0) p) ≡ false) → IfSome o (λ p. (q : Pair) → is_gt (pair_cmp (start, 0) q) ≡ false → has q ≡ true → is_gt (pair_cmp p q) ≡ false)
-    → IfNone o ((q : Pair) → is_gt (pair_cmp (start, 0) q) ≡ false → has q ≡ false) → IsFirstOrNone has start o
-either_or_none has start (Some p) there high least none = record { there = there; high = high; least = least }
-either_or_none has start None there high least none = none
