@@ -2,9 +2,6 @@
 use Rattle.std.proofs.Common.{◌≡◌, ◌<◌, ◌≤◌, ◌==◌, ◌&&◌, ℕ, Bool, true, false, cond, sym, ap, ◌∙◌, refl, arith, inl, inr, Some, None, Option, List}
 use Rattle.std.specs.Prelude.{IfSome, IfNone, OnOk, OnErr, Result, Ok, Err}
 use Rattle.std.specs.Ordering.{nat_cmp, ordering_then, eq_by_cmp, is_eq, is_gt}
-use Rattle.std.specs.BTreeMap.{is_at}
-use Rattle.std.specs.BTreeSet.{BTreeSet, IsEmpty, contains}
-use Rattle.std.specs.List.{list_any}
 use Rattle.std.specs.Cmp.{ranked}
 use Rattle.std.specs.FinMap as map
 use Rattle.std.specs.declared.cmp.Ordering.{Ordering}
@@ -97,8 +94,8 @@ kept old new has now are same keeps due k = keeps (due, k) ∙ are due k ∙ ap 
 
 -- ---- the map of what waits
 
-pub no_dues : (m : Pending) (s : BTreeSet (ℕ × ℕ)) → m ≡ map.empty → IsEmpty s → AreDues (map.get m) (contains pair_cmp s)
-no_dues m s none empty due k = ap (list_any (is_at (pair_cmp (due, k)))) empty ∙ ap (is_due due) (sym (ap (λ (x : Pending). map.get x k) none ∙ map.get-empty nat_cmp k))
+pub no_dues : (m : Pending) (has : Pairs) → m ≡ map.empty → ((q : ℕ × ℕ) → has q ≡ false) → AreDues (map.get m) has
+no_dues m has none empty due k = empty (due, k) ∙ ap (is_due due) (sym (ap (λ (x : Pending). map.get x k) none ∙ map.get-empty nat_cmp k))
 
 pub entered_due : (m n : Pending) (w : Waiting) (has now : Pairs) (p : ℕ × ℕ) → AreDues (map.get m) has → map.get m w.id ≡ None → p ≡ (w.due, w.id) → PairAdded has p now → n ≡ map.insert m w.id w → AreDues (map.get n) now
 entered_due m n w has now p are none is adds given =

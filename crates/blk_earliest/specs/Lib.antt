@@ -1,3 +1,4 @@
 pub mod Choice
 pub mod Dues
+pub mod Lines
 pub mod Shown

@@ -1,38 +1,33 @@
 //! Requests that wait, in the order of their due rounds.
 
-ghost use Rattle.std.specs.Prelude.{◌≡◌, ◌≤◌, ℕ, Option, None, Some, true, false, IfOk, OnOk, IfErr, OnErr, IfSome, IfNone};
-ghost use Rattle.std.specs.Ordering.{is_gt};
+ghost use Rattle.std.specs.Prelude.{◌≡◌, ◌≤◌, ℕ, None, Some, true, IfOk, OnOk, IfErr, OnErr, IfSome, IfNone};
 ghost use Rattle.std.specs.FinMap as map;
-ghost use Rattle.std.specs.BTreeSet.{contains};
 ghost use Rattle.blk_sched.specs.Meaning.{Waiting};
 ghost use Rattle.blk_sched.specs.Fits.{IsNewestFit, FitsNone, HasFit};
 ghost use Rattle.blk_index.specs.Index.{IsJoined};
-ghost use Rattle.blk_index.specs.Inside.Orders.{pair_cmp, PairAdded, PairTaken, PairsKept};
-ghost use Rattle.blk_earliest.specs.Dues.{IsFirstFrom, NoneFrom, IsFirstPair, NoPairFrom};
+ghost use Rattle.blk_earliest.specs.Dues.{IsFirstFrom, NoneFrom};
 
 use crate::due::Due;
+use crate::order::Dues;
 use blk_bio::{Limits, Request, Side};
 use blk_index::Index;
 use blk_sched::Queued;
 use std::alloc::{AllocError, Allocator, Global};
-use std::collections::BTreeSet;
 use std::marker::Model;
-use std::ops::Bound;
 
 /// Requests that wait, in an index, and in the order of their due rounds and ids. Seen as the map from ids to requests.
 #[derive(Drop)]
 pub struct ByDue<A: Allocator = Global> {
     index: Index<A>,
-    dues: BTreeSet<Due, A>,
+    dues: Dues<A>,
 }
 
 impl<A: Allocator> Model for ByDue<A> {
     ghost use Rattle.std.specs.Coded.{coded_ℕ};
     ghost use Rattle.std.specs.FinMap.{get, code};
-    ghost use Rattle.std.specs.BTreeSet.{contains};
     ghost use Rattle.blk_sched.specs.Meaning.{Pending, waiting_code};
-    ghost use Rattle.blk_index.specs.Inside.Pairs.{pair_cmp};
     ghost use Rattle.blk_earliest.specs.Dues.{AreDues};
+    ghost use Rattle.blk_earliest.specs.Lines.{dues_in, AreLines};
 
     ghost Value = { Pending };
 
@@ -40,7 +35,7 @@ impl<A: Allocator> Model for ByDue<A> {
 
     ghost view = { λ s. s.index };
 
-    ghost invariant = { λ s. AreDues (get s.index) (contains pair_cmp s.dues) };
+    ghost invariant = { λ s. AreDues (get s.index) (dues_in s.dues) × AreLines s.dues };
 }
 
 impl<A: Allocator + Clone> ByDue<A> {
@@ -50,7 +45,7 @@ impl<A: Allocator + Clone> ByDue<A> {
     {
         Ok(ByDue {
             index: Index::new(alloc.clone()?)?,
-            dues: BTreeSet::new(alloc),
+            dues: Dues::new(alloc)?,
         })
     }
 
@@ -70,14 +65,15 @@ impl<A: Allocator + Clone> ByDue<A> {
         ensures err { IfErr result (λ q. q ≡ queued) }
         ensures same { OnErr result (self.new ≡ self.old) }
     {
-        let pair = pair_of(&queued);
-        let Ok(()) = put(&mut self.dues, pair) else {
+        let due = due_of(&queued);
+        let dir = queued.request.dir();
+        let Ok(()) = self.dues.put(dir, due) else {
             return Err(queued);
         };
         match self.index.insert(queued) {
             Ok(()) => Ok(()),
             Err(queued) => {
-                take(&mut self.dues, pair);
+                self.dues.take(due);
                 Err(queued)
             }
         }
@@ -93,7 +89,7 @@ impl<A: Allocator + Clone> ByDue<A> {
         let Some(queued) = self.index.remove(id) else {
             return None;
         };
-        take(&mut self.dues, pair_of(&queued));
+        self.dues.take(due_of(&queued));
         Some(queued)
     }
 
@@ -115,7 +111,7 @@ impl<A: Allocator + Clone> ByDue<A> {
         ensures named { (k : ℕ) (w : Waiting) → map.get self.now k ≡ Some w → w.id ≡ k }
     {
         let _ = self.index.len();
-        first_id(&self.dues, due)
+        self.dues.first_id(due)
     }
 
     /// Joins a newcomer to the request of an id, which it fits at the side, in the round `now`; the due round stays.
@@ -138,53 +134,11 @@ impl<A: Allocator + Clone> ByDue<A> {
 }
 
 /// When a request is due, and its id.
-fn pair_of<A: Allocator + Clone>(queued: &Queued<A>) -> (u64, u64)
+fn due_of<A: Allocator + Clone>(queued: &Queued<A>) -> Due
     ensures { result ≡ (queued.now.due, queued.now.id) }
 {
-    (queued.due, queued.id)
-}
-
-/// Puts a pair in. On a refusal nothing is changed.
-#[inline(always)]
-fn put<A: Allocator + Clone>(
-    dues: &mut BTreeSet<Due, A>,
-    pair: (u64, u64),
-) -> Result<(), AllocError>
-    ensures ok { OnOk result (PairAdded (contains pair_cmp dues.old) pair (contains pair_cmp dues.new)) }
-    ensures same { OnErr result (PairsKept (contains pair_cmp dues.old) (contains pair_cmp dues.new)) }
-{
-    let (due, id) = pair;
-    dues.insert(Due { due, id })?;
-    Ok(())
-}
-
-/// Takes a pair out.
-#[inline(always)]
-fn take<A: Allocator + Clone>(dues: &mut BTreeSet<Due, A>, pair: (u64, u64))
-    ensures { PairTaken (contains pair_cmp dues.old) pair (contains pair_cmp dues.new) }
-{
-    let (due, id) = pair;
-    let _ = dues.remove(&Due { due, id });
-}
-
-/// The id of the least pair whose due round is `due` or later.
-fn first_id<A: Allocator + Clone>(dues: &BTreeSet<Due, A>, due: u64) -> Option<u64>
-    ensures some { IfSome result (IsFirstPair (contains pair_cmp dues.now) due) }
-    ensures none { IfNone result (NoPairFrom (contains pair_cmp dues.now) due) }
-{
-    let (_, id) = least_from(dues, due)?;
-    Some(id)
-}
-
-/// The least pair whose due round is `due` or later.
-fn least_from<A: Allocator + Clone>(dues: &BTreeSet<Due, A>, due: u64) -> Option<(u64, u64)>
-    ensures there { IfSome result (λ p. contains pair_cmp dues.now p ≡ true) }
-    ensures high { IfSome result (λ p. is_gt (pair_cmp (due, 0) p) ≡ false) }
-    ensures least { IfSome result (λ p. (q : ℕ × ℕ) → is_gt (pair_cmp (due, 0) q) ≡ false → contains pair_cmp dues.now q ≡ true → is_gt (pair_cmp p q) ≡ false) }
-    ensures none { IfNone result ((q : ℕ × ℕ) → is_gt (pair_cmp (due, 0) q) ≡ false → contains pair_cmp dues.now q ≡ false) }
-{
-    let found = dues
-        .range((Bound::Included(Due { due, id: 0 }), Bound::Unbounded))
-        .next()?;
-    Some((found.due, found.id))
+    Due {
+        due: queued.due,
+        id: queued.id,
+    }
 }

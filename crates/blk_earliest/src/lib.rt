@@ -9,6 +9,7 @@ ghost use Rattle.blk_earliest.specs.Shown.{pending_of, late_last_of, meaning_of}
 
 pub mod by_due;
 pub mod due;
+pub mod order;
 
 use crate::by_due::ByDue;
 use blk_bio::{Dir, Limits, MAX_QUEUES, Request, Side};

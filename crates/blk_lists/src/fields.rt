@@ -67,6 +67,7 @@ pub const TAG: Slot = Slot::Number {
 };
 
 /// The field at a place, empty where the record has none.
+#[inline(always)]
 pub fn field(row: &ByteRecord, place: usize) -> &[u8]
     ensures { result.now ≡ get_or (fields_of row.now) place [] }
 {
@@ -265,6 +266,7 @@ fn first_lack(row: &ByteRecord, slots: &[Slot]) -> Why
 }
 
 /// The number of a field that is what its slot wants, 0 where the slot has none.
+#[inline(always)]
 fn spelled(slot: Slot, field: &[u8]) -> Option<u64>
     ensures { MatchOption result (¬ IsGood slot field.now) (FieldSpells slot field.now) }
 {
@@ -294,6 +296,7 @@ fn spelled(slot: Slot, field: &[u8]) -> Option<u64>
 
 /// The numbers of a record's fields by place, where the record is what its slots want; in one pass, so that
 /// a record without a fault is looked at once.
+#[inline(always)]
 fn spelled_numbers<const N: usize>(row: &ByteRecord, slots: &[Slot; N]) -> Option<[u64; N]>
     ensures { MatchOption result (¬ IsWhole slots.now (fields_of row.now)) (FieldsSpell slots.now (fields_of row.now)) }
 {
@@ -311,6 +314,7 @@ fn spelled_numbers<const N: usize>(row: &ByteRecord, slots: &[Slot; N]) -> Optio
 }
 
 /// The numbers of a record's fields by place, 0 where a slot has none, or the first thing that it lacks.
+#[inline(always)]
 pub fn read_fields<const N: usize>(row: &ByteRecord, slots: &[Slot; N]) -> Result<[u64; N], Why>
     ensures ok { IfOk result (FieldsSpell slots.now (fields_of row.now)) }
     ensures err { IfErr result (Lacks slots.now (fields_of row.now)) }

@@ -5,3 +5,4 @@ pub mod Splitting
 mod Staying
 mod Ticking
 pub mod Laws
+mod AtIssues

@@ -1,2 +1,3 @@
 pub mod Meetable
 pub mod Ticks
+pub mod Issues

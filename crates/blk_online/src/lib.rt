@@ -19,6 +19,7 @@ ghost use Rattle.blk_trace.specs.Legal.{IsLegalTrace};
 ghost use Rattle.blk_trace.specs.Meaning.{commands_of, rounds_of};
 ghost use Rattle.blk_online.specs.Meetable.{IsMeetableFirst};
 ghost use Rattle.blk_online.specs.Ticks.{IsEarliestNow, IsMeetableNow, AtTicks};
+ghost use Rattle.blk_online.specs.Issues.{IsEarliestAtIssues, IsMeetableAtIssues, one_tag, read_too_late};
 
 /// A legal schedule by earliest due date first is least late.
 ///
@@ -73,4 +74,19 @@ pub fn law_of_late_last_traces()
     ensures most { (setup : Setup) → (events : List Happened)
         → IsLegalTrace setup events → AtTicks (IsMeetableNow setup) events
         → IsMostMet (commands_of setup events) (capacity_of setup events) (number_met (commands_of setup events) (rounds_of events)) }
+{}
+
+/// Read as each command goes out, and not as its round ends, what waits is too little: both laws would be false. In a legal trace a
+/// write goes out while nothing else waits, and then a read comes in that is due sooner. Each command came first of what waited as it
+/// went out, and the round was full as it ended; but the read is a round late, and it need not have been.
+///
+/// A law: it does nothing when it runs, and a caller has its clauses.
+pub fn law_of_issues()
+    ensures legal { IsSetup one_tag × IsLegalTrace one_tag read_too_late }
+    ensures earliest { IsEarliestAtIssues one_tag read_too_late }
+    ensures late { (late : ℤ) → IsGreatestLateness (commands_of one_tag read_too_late) (rounds_of read_too_late) late
+        → IsLeastLateness (commands_of one_tag read_too_late) (capacity_of one_tag read_too_late) late → ⊥ }
+    ensures meetable { IsMeetableAtIssues one_tag read_too_late }
+    ensures missed { IsMostMet (commands_of one_tag read_too_late) (capacity_of one_tag read_too_late)
+        (number_met (commands_of one_tag read_too_late) (rounds_of read_too_late)) → ⊥ }
 {}
