@@ -40,7 +40,7 @@ const SOFT_DEPTH: u64 = 64;
 /// `TraceFull` where a worker is refused so; as `Repeated` where a submitter or a worker is; as `Stalled` where one used up its turns;
 /// as `SeatMissing` or `Differs` where the layer's accounts can't be settled; and as `Differs` where not all bios were accepted and
 /// served.
-#[tactic(auto, using(crate::proofs::Made::can_make, crate::proofs::Made::no_range, crate::proofs::Ruled::run_by))]
+#[tactic(auto, using(crate::proofs::Made::can_make, crate::proofs::Made::no_range))]
 pub fn load<R: Threads + Wait + Sync, S: Scheduler<A = Global> + Send>(
     rt: &R,
     clock: HostRuntime,

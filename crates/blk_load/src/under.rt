@@ -18,7 +18,6 @@ use std::sync::Wait;
 use std::thread::Threads;
 
 /// What came of a load under the scheduler of these settings, where it was made; it follows the policy of the settings.
-#[tactic(auto, using(crate::proofs::Ruled::run_under))]
 fn load_by<R: Threads + Wait + Sync, S: Scheduler<A = Global> + Send>(
     rt: &R,
     clock: HostRuntime,
