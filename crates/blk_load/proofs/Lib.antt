@@ -1,4 +1,3 @@
 pub mod Seated
 pub mod Counted
 pub mod Made
-mod Ruled

@@ -10,7 +10,6 @@ ghost use Rattle.blk_settings.specs.Numbers.{IsLoad};
 ghost use Rattle.blk_settings.specs.Settles.{IsSettled, served_bios, setup_of};
 ghost use Rattle.blk_trace.specs.Events.{AreOnce};
 ghost use Rattle.blk_load.specs.Loads.{AreInTurn};
-ghost use Rattle.blk_policy.specs.Runs.{IsRunBy, IsRunFrom};
 
 use crate::counts::accepted;
 use crate::serving::serve_all;
@@ -40,7 +39,7 @@ const SOFT_DEPTH: u64 = 64;
 /// `TraceFull` where a worker is refused so; as `Repeated` where a submitter or a worker is; as `Stalled` where one used up its turns;
 /// as `SeatMissing` or `Differs` where the layer's accounts can't be settled; and as `Differs` where not all bios were accepted and
 /// served.
-#[tactic(auto, using(crate::proofs::Made::can_make, crate::proofs::Made::no_range, crate::proofs::Ruled::run_by))]
+#[tactic(auto, using(crate::proofs::Made::can_make, crate::proofs::Made::no_range))]
 pub fn load<R: Threads + Wait + Sync, S: Scheduler<A = Global> + Send>(
     rt: &R,
     clock: HostRuntime,
@@ -51,7 +50,6 @@ pub fn load<R: Threads + Wait + Sync, S: Scheduler<A = Global> + Send>(
     requires start { S.meaning scheduler ≡ at_start (S.meaning scheduler).front }
     ensures range { OnOk result (IsLoad load) }
     ensures settled { IfOk result (λ l. IsSettled load l.trace l.settled) }
-    ensures ran { IfOk result (λ l. IsRunBy S.serves S.chooses S.told_done S.told_tick (S.meaning scheduler) (S.kept scheduler) l.trace) }
     ensures once { IfOk result (λ l. AreOnce (served_bios l.trace.events)) }
     ensures fault { IfErr result (IsLoadFault load) }
 {
@@ -125,7 +123,6 @@ fn on_layer<R: Threads + Wait + Sync, S: Scheduler<A = Global> + Send, L: Named 
     requires setup_is { L.setup ≡ setup_of load }
     requires can { CanMake core.setup.hw map SOFT_DEPTH queues.items }
     ensures settled { IfOk result (λ l. IsSettled load l.trace l.settled) }
-    ensures ran { IfOk result (λ l. IsRunFrom S.serves S.chooses S.told_done S.told_tick L.start l.trace.events) }
     ensures once { IfOk result (λ l. AreOnce (served_bios l.trace.events)) }
     ensures fault { IfErr result (λ f. f ≢ LoadFault.Range) }
 {
@@ -193,7 +190,6 @@ fn settle<S: Scheduler<A = Global>, L: Named>(
     requires range { IsLoad load }
     requires setup { L.setup ≡ setup_of load }
     ensures settled { IfOk result (λ l. IsSettled load l.trace l.settled) }
-    ensures ran { IfOk result (λ l. IsRunFrom S.serves S.chooses S.told_done S.told_tick L.start l.trace.events) }
     ensures accepted { IfOk result (λ l. l.settled.accepted ≡ length (all_accepted submitters.items)) }
     ensures agree { IfOk result (λ l. IsPermutation (all_accepted submitters.items) (served_bios l.trace.events)) }
     ensures once { IfOk result (λ l. AreOnce (served_bios l.trace.events)) }

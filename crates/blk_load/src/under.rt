@@ -3,12 +3,9 @@
 ghost use Rattle.std.specs.Prelude.{IfOk, OnOk, IfErr};
 ghost use Rattle.blk_settings.specs.Numbers.{IsLoad};
 ghost use Rattle.blk_settings.specs.Made.{IsUnmade, IsUnsettled};
-ghost use Rattle.blk_settings.specs.Rows.{IsStart, meaning_of, numbers_at_first};
-ghost use Rattle.blk_settings.specs.Ran.{IsRunUnder};
+ghost use Rattle.blk_settings.specs.Rows.{IsStart};
 ghost use Rattle.blk_settings.specs.Settles.{IsSettled, served_bios};
 ghost use Rattle.blk_trace.specs.Events.{AreOnce};
-ghost use Rattle.blk_trace.specs.Traces.{Traced};
-ghost use Rattle.blk_policy.specs.Runs.{IsRunBy};
 
 use crate::running::load;
 use blk_sched::Scheduler;
@@ -17,8 +14,7 @@ use std::alloc::Global;
 use std::sync::Wait;
 use std::thread::Threads;
 
-/// What came of a load under the scheduler of these settings, where it was made; it follows the policy of the settings.
-#[tactic(auto, using(crate::proofs::Ruled::run_under))]
+/// What came of a load under the scheduler of these settings, where it was made.
 fn load_by<R: Threads + Wait + Sync, S: Scheduler<A = Global> + Send>(
     rt: &R,
     clock: HostRuntime,
@@ -29,9 +25,7 @@ fn load_by<R: Threads + Wait + Sync, S: Scheduler<A = Global> + Send>(
 ) -> Result<Loaded, Unsettled>
     requires start { IfOk made (λ s. IsStart sched amounts.depth (S.meaning s) (S.kept s)) }
     requires unmade { IfErr made (IsUnmade sched) }
-    requires follows { (trace : Traced) → IsRunBy S.serves S.chooses S.told_done S.told_tick (meaning_of sched) (numbers_at_first sched amounts.depth) trace → IsRunUnder sched amounts.depth trace }
     ensures settled { IfOk result (λ l. IsSettled amounts l.trace l.settled) }
-    ensures ran { IfOk result (λ l. IsRunUnder sched amounts.depth l.trace) }
     ensures once { IfOk result (λ l. AreOnce (served_bios l.trace.events)) }
     ensures failed { IfErr result (IsUnsettled sched amounts) }
 {
@@ -55,7 +49,6 @@ pub fn load_under<R: Threads + Wait + Sync>(
 ) -> Result<Loaded, Unsettled>
     ensures range { OnOk result (IsLoad amounts) }
     ensures settled { IfOk result (λ l. IsSettled amounts l.trace l.settled) }
-    ensures ran { IfOk result (λ l. IsRunUnder sched amounts.depth l.trace) }
     ensures once { IfOk result (λ l. AreOnce (served_bios l.trace.events)) }
     ensures failed { IfErr result (IsUnsettled sched amounts) }
 {
