@@ -5,8 +5,9 @@ A text is a list of records here, each a list of fields, until its bytes are put
 """
 import heapq
 import itertools
+from collections import Counter
 
-SCRIPT, TRACE, COMMANDS, CERTIFICATE, MET = "script", "trace", "commands", "certificate", "met"
+SCRIPT, TRACE, COMMANDS, CERTIFICATE, MET, SCHEDULE = "script", "trace", "commands", "certificate", "met", "schedule"
 
 
 def record(*fields, width):
@@ -168,7 +169,7 @@ def good_trace(rng):
         yield record(*it, width=6)
 
 
-# --- command lists and certificates ---
+# --- command lists, certificates and schedules ---
 
 
 def some_commands(rng):
@@ -250,7 +251,23 @@ def good_met(rng):
         yield record(*it, rounds.get(at, last + 1 + at), width=4)
 
 
+def good_schedule(rng):
+    """Each command in a round with room, from its release on; now and then one runs a round sooner."""
+    depth, commands = some_commands(rng)
+    rounds, held = {}, Counter()
+    for at in rng.sample(range(len(commands)), len(commands)):
+        now = commands[at][1] + some(rng, 0, 9)
+        while held[now] == depth:
+            now += 1
+        held[now] += 1
+        rounds[at] = max(0, now - 1) if rng.random() < 0.02 else now
+    yield record("blk-schedule", 1, depth, len(commands), width=4)
+    for at, it in enumerate(commands):
+        yield record(*it, rounds[at], width=4)
+
+
 GOOD = {SCRIPT: good_script, TRACE: good_trace, COMMANDS: good_commands, CERTIFICATE: good_certificate, MET: good_met}
+GOOD |= {SCHEDULE: good_schedule}
 
 
 # --- what spoils a text ---
@@ -260,7 +277,8 @@ NUMBERS += [2**power + more for power in (31, 32, 40, 41, 48, 63, 64) for more i
 SPELLINGS = [b"00", b"01", b"-0", b"-1", b"--1", b"+1", b" 1", b"1 ", b"1.0", b"1e3", b"0x1", b"", b"none", b"NONE", b"1_000"]
 SPELLINGS += [b"1\0", "\u0663".encode(), b"\xff", b"-2199023255551", b"-2199023255552", b"-18446744073709551616"]
 SPELLINGS += [b"9" * 400, b"0" * 400]
-TITLES = [b"blk-script", b"blk-trace", b"blk-commands", b"blk-certificate", b"blk-met", b"blk", b"", b"BLK-TRACE", b"blk-trace "]
+TITLES = [b"blk-script", b"blk-trace", b"blk-commands", b"blk-certificate", b"blk-met", b"blk-schedule", b"blk", b"", b"BLK-TRACE"]
+TITLES += [b"blk-trace "]
 WORDS = [b"setup", b"bio", b"release", b"join", b"issue", b"done", b"back", b"depth", b"tick", b"flush", b"drain", b"run"]
 WORDS += [b"bound", b"met", b"window", b"Bio", b"bio ", b"", b"foo", b"R", b"W", b"r", b"blk-trace", b"blk-script"]
 BYTES = [b"\0", b"\xff", b"\xc3\x28", b'"', b'""', b"\r", b"\n", b"\r\n", b",", b" ", b"\t", b"\xef\xbb\xbf", b"\x1a", b"#"]

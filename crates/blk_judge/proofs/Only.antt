@@ -1,5 +1,5 @@
 -- No two lists of verdicts are right of one schedule.
-use Rattle.std.proofs.Common.{◌≡◌, ◌<◌, ◌≤◌, ◌∙◌, ℕ, List, length, get_or, Some, None, refl, sym, ap, arith}
+use Rattle.std.proofs.Common.{◌≡◌, ◌<◌, ◌∙◌, ℕ, List, length, get_or, Some, None, refl, sym, ap, arith}
 use Rattle.std.specs.Prelude.{Option}
 use Rattle.std.proofs.lemmas.List.{same_lists, get_or_default}
 use Rattle.edd_check.specs.declared.Command.{Command}

@@ -6,7 +6,7 @@ use Rattle.edd_check.specs.declared.steps.Step.{Step}
 use Rattle.edd_check.specs.Schedule.{IsLegal}
 use Rattle.edd_verdict.specs.declared.Verdict.{Verdict}
 use Rattle.edd_verdict.specs.Verdicts.{AreVerdicts}
-use Rattle.blk_judge.specs.declared.late.Miss.{Miss}
+use Rattle.blk_judge.specs.declared.missing.Miss.{Miss}
 
 -- a command in its round, where it has a verdict
 abbrev pub miss_of : (Command × ℕ) × Option Verdict → Option Miss

@@ -6,7 +6,7 @@ use Rattle.edd_figures.specs.declared.lateness.Figures.{Figures}
 use Rattle.edd_figures.specs.declared.missing.Counts.{Counts}
 use Rattle.edd_figures.specs.declared.missing.Crowd.{Crowd}
 use Rattle.edd_figures.specs.Lines.{window_text, figure_line, crowd_line, next_field, verdict_fields}
-use Rattle.blk_judge.specs.declared.late.Miss.{Miss}
+use Rattle.blk_judge.specs.declared.missing.Miss.{Miss}
 
 -- the five lines of the counts
 abbrev pub counts_text : Counts → List ℕ

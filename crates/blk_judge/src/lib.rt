@@ -6,10 +6,10 @@
 #![tactic(auto)]
 
 mod judging;
-mod late;
 mod legality;
+mod missing;
 mod texts;
 
 pub use crate::judging::{Judged, judge};
-pub use crate::late::{Miss, late_of};
+pub use crate::missing::{Miss, late_of};
 pub use crate::texts::{judged_lines, late_lines};

@@ -1,4 +1,4 @@
 pub mod Windows
-pub mod Lateness
+pub mod Tardy
 pub mod Within
 pub mod Spares

@@ -1,6 +1,6 @@
 -- How many late commands are spare, against how many could have been on time.
-use Rattle.std.proofs.Common.{◌≡◌, ◌<◌, ◌≤◌, ◌+◌, ◌-◌, ◌++◌, ◌∙◌, ℕ, List, [], ◌∷◌, length, get_or, take, cond, Bool, true, false, count_by, Some, None, refl, sym, ap, subst, arith}
-use Rattle.std.specs.Prelude.{Option, ◌↔◌}
+use Rattle.std.proofs.Common.{◌≡◌, ◌<◌, ◌+◌, ◌∙◌, ℕ, List, [], ◌∷◌, length, get_or, take, cond, Bool, count_by, None, refl, sym, ap, arith}
+use Rattle.std.specs.Prelude.{Option}
 use Rattle.std.proofs.lemmas.List.{take_more}
 use Rattle.std.proofs.lemmas.List.Sums.{sum_by-append}
 use Rattle.edd_check.specs.declared.Command.{Command}
@@ -10,7 +10,7 @@ use Rattle.edd_check.specs.Met.{number_met, IsMostMet}
 use Rattle.edd_verdict.specs.declared.Verdict.{Verdict}
 use Rattle.edd_verdict.specs.Verdicts.{is_spare, AreVerdicts, arrivals_in, fulls_in, spares_in}
 use Rattle.edd_figures.specs.Misses.{number_late, IsLeastLate, HasSpares}
-use Rattle.edd_figures.proofs.Lateness.{all_commands}
+use Rattle.edd_figures.proofs.Tardy.{all_commands}
 
 abbrev pub one_if : Bool → ℕ
 one_if b = cond b 1 0

@@ -1,6 +1,6 @@
 use Rattle.std.proofs.Common.{arith, map, ap, refl, ◌∙◌}
 use Rattle.edd_figures.specs.Misses.{crowd_of}
-use Rattle.edd_figures.proofs.Lateness.{all_commands, least_late}
+use Rattle.edd_figures.proofs.Tardy.{all_commands, least_late}
 use Rattle.edd_figures.proofs.missing.counted.Goals as goal
 
 pub overflow_sub-unavoidable : goal.overflow_sub-unavoidable
