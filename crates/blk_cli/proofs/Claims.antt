@@ -1,6 +1,6 @@
 -- Certificates that are proved, from what the oracle and the check answer.
-use Rattle.std.proofs.Common.{ℕ, ◌≡◌, ◌<◌, ◌^◌, List, [], ◌∷◌, length, arith, sym, subst, Some, None, refl, slice_index_or, slice_index}
-use Rattle.std.specs.Prelude.{ℤ, pos, negsuc, ◌-ℤ◌, ◌↔◌, All, Option, Err, IfSome}
+use Rattle.std.proofs.Common.{ℕ, ◌≡◌, ◌∙◌, ◌<◌, ◌*◌, ◌^◌, Result, Ok, IfOk, List, [], ◌∷◌, length, arith, sym, subst, Some, None, refl, slice_index_or, slice_index}
+use Rattle.std.specs.Prelude.{ℤ, pos, negsuc, ◌+ℤ◌, ◌-ℤ◌, ◌↔◌, All, Option, Err, IfSome}
 use Rattle.std.proofs.lemmas.Int.{ints}
 use Rattle.std.proofs.lemmas.List.Elements.{All-get_or}
 use Rattle.edd_check.specs.declared.Command.{Command}
@@ -8,10 +8,10 @@ use Rattle.edd_check.specs.declared.Window.{Window}
 use Rattle.edd_check.specs.declared.steps.Step.{Step}
 use Rattle.edd_check.specs.Capacity.{fixed}
 use Rattle.edd_check.specs.Schedule.{IsLegal, IsGreatestLateness, IsLeastLateness, RoundsInRange}
-use Rattle.edd_check.specs.Window.{IsCrowded}
+use Rattle.edd_check.specs.Window.{IsCrowded, load_of, rounds_between}
 use Rattle.edd_check.specs.declared.CheckFault.{CheckFault}
 use Rattle.edd_check.specs.Check.{IsAnswer}
-use Rattle.blk_cli.specs.Outcome.{IsProof, IsRefusedBound}
+use Rattle.blk_cli.specs.Certificates.{IsProof, IsRefusedBound, bound_line, verdict_of}
 use Rattle.edd_oracle.specs.Answer.{IsBest}
 use Rattle.blk_lists.specs.Commands.{IsCommandInRange, AreCommands}
 use Rattle.blk_lists.specs.Certificate.{Claim, IsBound, IsClaim, IsLateness}
@@ -74,3 +74,11 @@ refused_of claim commands rounds steps late other window f same_commands same_ro
     let P : List Step → Type 0 = λ s. IsAnswer claim.commands s other claim.rounds window (Err f) in
     let Q : ℤ → Type 0 = λ z. IsAnswer claim.commands (fixed claim.depth) z claim.rounds window (Err f) in
     (late, window, is, subst Q same (subst P under (subst R same_rounds (subst C same_commands h))))
+
+-- the line on a certificate with a bound
+pub verdict_is : {S E : Type 0} (text : S → List ℕ) (r : Result S E) (claim : Claim) (late other : ℤ) (window : Window) (commands : List Command) (load carries : ℕ) → claim.bound ≡ Some (late, window) → other ≡ late
+    → commands ≡ claim.commands → load ≡ load_of commands window → carries ≡ claim.depth * rounds_between window.from (pos window.due +ℤ other)
+    → IfOk r (λ s. text s ≡ bound_line other load carries) → IfOk r (λ s. text s ≡ verdict_of claim claim.bound)
+verdict_is text (Err e) claim late other window commands load carries is same list loads carry h = tt
+verdict_is text (Ok s) claim late other window commands load carries is same list loads carry h =
+    rw is (h ∙ rw (same, loads, carry, same, list) refl)

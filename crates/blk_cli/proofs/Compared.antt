@@ -1,7 +1,6 @@
--- What the comparison comes to, from what was read and what became of each run.
+-- What the comparison comes to, from what became of each run.
 use Rattle.std.proofs.Common.{ℕ, suc, ◌≡◌, ◌∙◌, ◌∷◌, ◌++◌, [], List, Option, Some, None, Result, Ok, Err, refl, sym, ap, subst, arith, take, drop, length, get_or, inl, inr, ◌<◌, ◌+◌, map, zero}
-use Rattle.std.specs.Prelude.{OnOk, IfErr, IfSome, MatchResult, All, ◌⊎◌}
-use Rattle.std.specs.Io.KnownBytes.{Appends}
+use Rattle.std.specs.Prelude.{All}
 use Rattle.std.proofs.Math.Seq.{take-suc}
 use Rattle.std.proofs.lemmas.List.{take-append-drop, drop_more, length-map}
 use Rattle.std.proofs.lemmas.List.Elements.{All-nil, All-cons}
@@ -12,17 +11,15 @@ use Rattle.blk_settings.specs.declared.sched.SchedFault.{SchedFault}
 use Rattle.blk_settings.specs.declared.sched.SchedFault.TheVariants as setting
 use Rattle.blk_settings.specs.Made.{IsMade, IsUnmade, HasFault}
 use Rattle.blk_settings.specs.Rows.{name_of, in_turn}
-use Rattle.blk_lists.specs.Sources.{Row}
-use Rattle.blk_text.specs.Script.{Scripted, SpellsScript}
+use Rattle.blk_text.specs.Script.{Scripted}
 use Rattle.blk_trace.specs.Traces.{Traced}
 use Rattle.blk_report.specs.declared.figures.Report.{Report}
 use Rattle.blk_report.specs.Table.{IsTable}
 use Rattle.blk_sim.specs.declared.refusal.SimFault.{SimFault}
-use Rattle.blk_cli.specs.Statuses.{IsOfWriter}
 use Rattle.blk_cli.specs.declared.failure.Failure.{Failure}
 use Rattle.blk_cli.specs.declared.failure.Failure.TheVariants as failure
-use Rattle.blk_cli.specs.Outcome.{IsTraceOfScript, IsUnrun}
-use Rattle.blk_cli.specs.Comparing.{IsReportUnder, AreReports, IsFirstUnmade, AreUnmade, IsFirstRefused, IsUncompared, CompareWrote, CompareFails}
+use Rattle.blk_cli.specs.Scripts.{IsTraceOfScript, IsUnrun}
+use Rattle.blk_cli.specs.Comparing.{IsReportUnder, AreReports, IsFirstUnmade, IsUncompared, IsTableText}
 
 -- a script that a scheduler runs whole
 abbrev pub RunsWhole : Scripted → Sched → Type 0
@@ -93,46 +90,13 @@ unrun ss i d s rs (failure.Check f) h made are r = absurd r
 unrun ss i d s rs (failure.Met f) h made are r = absurd r
 unrun ss i d s rs failure.NotFixed h made are r = absurd r
 unrun ss i d s rs (failure.Load f) h made are r = absurd r
-unrun ss i d s rs (failure.Write f) h made are r = absurd r
+unrun ss i d s rs failure.Write h made are r = absurd r
 unrun ss i d s rs failure.Memory h made are r = tt
 
--- the table that was put
-compare_wrote : (l : Lineup) (ss : List Sched) (left : Option (List Row)) (s : Scripted) (rs : List Report) (old new : Option (List ℕ)) → ss ≡ in_turn l → IfSome left (λ rows. SpellsScript rows s) → AreReports ss s rs
-    → ((text : List ℕ) × IsTable (map name_of ss) rs text × Appends old new text) → IfSome left (λ rows. CompareWrote l rows old new)
-compare_wrote l ss None s rs old new e read are put = tt
-compare_wrote l ss (Some rows) s rs old new e read are put =
-    record {
-      script = s;
-      reports = rs;
-      text = put.0;
-      read = read;
-      are_reports = subst (λ (xs : List Sched). AreReports xs s rs) e are;
-      is_table = subst (λ (xs : List Sched). IsTable (map name_of xs) rs put.0) e put.1;
-      wrote = put.2;
-    }
-
-pub compare_came : (l : Lineup) (ss : List Sched) (left : Option (List Row)) (s : Scripted) (rs : List Report) (old new : Option (List ℕ)) (end : Result (Unit {0}) Failure) → ss ≡ in_turn l → IfSome left (λ rows. SpellsScript rows s)
-    → AreReports ss s rs → OnOk end ((text : List ℕ) × IsTable (map name_of ss) rs text × Appends old new text) → IfErr end IsOfWriter
-    → MatchResult end (λ _. IfSome left (λ rows. CompareWrote l rows old new)) (CompareFails l left)
-compare_came l ss left s rs old new (Ok u) e read are put failed = compare_wrote l ss left s rs old new e read are put
-compare_came l ss left s rs old new (Err f) e read are put failed = rw failed.1 tt
-
--- a script that was read and not compared
-of_script : (P : Scripted → Type 0) (left : Option (List Row)) (s : Scripted) → IfSome left (λ rows. SpellsScript rows s) → P s → IfSome left (λ rows. (script : Scripted) × SpellsScript rows script × P script)
-of_script P None s read h = tt
-of_script P (Some rows) s read h = (s, read, h)
-
-fails : (l : Lineup) (left : Option (List Row)) (s : Scripted) (f : Failure) → IfSome left (λ rows. SpellsScript rows s) → IsUncompared (in_turn l) s f → CompareFails l left f
-fails l left s (failure.Text f) read h = absurd h
-fails l left s (failure.Sched f) read h = of_script (λ _. AreUnmade (in_turn l) f) left s read h
-fails l left s (failure.Step f) read h = of_script (λ script. IsFirstRefused (in_turn l) script f) left s read h
-fails l left s (failure.Solve f) read h = absurd h
-fails l left s (failure.Check f) read h = absurd h
-fails l left s (failure.Met f) read h = absurd h
-fails l left s failure.NotFixed read h = absurd h
-fails l left s (failure.Load f) read h = absurd h
-fails l left s (failure.Write f) read h = absurd h
-fails l left s failure.Memory read h = tt
-
-pub compare_fails : (l : Lineup) (ss : List Sched) (left : Option (List Row)) (s : Scripted) (f : Failure) → ss ≡ in_turn l → IfSome left (λ rows. SpellsScript rows s) → IsUncompared ss s f → CompareFails l left f
-compare_fails l ss left s f e read h = fails l left s f read (subst (λ (xs : List Sched). IsUncompared xs s f) e h)
+-- the table of what was compared
+pub table_is : (l : Lineup) (ss : List Sched) (s : Scripted) (rs : List Report) (names : List (List ℕ)) (text : List ℕ) → ss ≡ in_turn l → AreReports ss s rs → names ≡ map name_of ss → IsTable names rs text → IsTableText l s text
+table_is l ss s rs names text e are named is = record {
+  reports = rs;
+  are_reports = subst (λ (xs : List Sched). AreReports xs s rs) e are;
+  is_table = subst (λ (xs : List Sched). IsTable (map name_of xs) rs text) e (subst (λ (ns : List (List ℕ)). IsTable ns rs text) named is);
+}

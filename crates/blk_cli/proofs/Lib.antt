@@ -1,6 +1,6 @@
-pub mod Claims
-mod Loads
-pub mod Written
-pub mod TraceJobs
-pub mod Compared
-pub mod MetClaims
+mod Answered
+mod Claims
+mod Compared
+mod MetClaims
+mod Runs
+mod Schedules

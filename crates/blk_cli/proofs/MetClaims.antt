@@ -16,7 +16,7 @@ use Rattle.edd_check.proofs.InForce.{carried_fixed}
 use Rattle.edd_oracle.specs.Met.{IsMostAnswer}
 use Rattle.blk_lists.specs.Commands.{AreCommands}
 use Rattle.blk_lists.specs.Met.{MetClaim, IsMetClaim}
-use Rattle.blk_cli.specs.Meeting.{IsMetProved, IsRefusedMet, met_line, met_verdict_of}
+use Rattle.blk_cli.specs.Certificates.{IsMetProved, IsRefusedMet, met_line, met_verdict_of}
 
 number_most : (commands : List Command) (rounds : List ℕ) → length rounds ≡ length commands → number_met commands rounds ≤ length commands
 unfolding number_met

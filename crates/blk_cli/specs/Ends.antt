@@ -1,177 +1,55 @@
--- How a run of the program ends: its status, and the line that says why.
-use Rattle.std.specs.Prelude.{◌≡◌, ◌⊎◌, ◌++◌, ◌∷◌, ℕ, IsTrue, List, [], Option, Result, Ok, Err, codes, decimal}
-use Rattle.std.specs.Fmt.{signed_decimal}
-use Rattle.std.specs.Io.KnownBytes.{Appends}
-use Rattle.edd_check.specs.declared.CheckFault.{CheckFault}
-use Rattle.edd_check.specs.declared.CheckFault.TheVariants as check
-use Rattle.edd_check.specs.declared.met.MetFault.{MetFault}
-use Rattle.edd_check.specs.declared.met.MetFault.TheVariants as met
-use Rattle.edd_oracle.specs.declared.OracleFault.{OracleFault}
-use Rattle.edd_oracle.specs.declared.OracleFault.TheVariants as oracle
-use Rattle.edd_check.specs.Names.{check_fault_name, met_fault_name}
-use Rattle.edd_oracle.specs.Names.{oracle_fault_name}
-use Rattle.blk_settings.specs.Names.{load_fault_name, sched_fault_name}
-use Rattle.blk_lists.specs.Names.{why_name}
-use Rattle.blk_sim.specs.Names.{step_name}
-use Rattle.blk_settings.specs.declared.sched.SchedFault.{SchedFault}
-use Rattle.blk_settings.specs.declared.sched.SchedFault.TheVariants as setting
-use Rattle.blk_settings.specs.declared.fault.LoadFault.{LoadFault}
-use Rattle.blk_settings.specs.declared.fault.LoadFault.TheVariants as load
-use Rattle.blk_lists.specs.declared.fault.Why.{Why}
-use Rattle.blk_lists.specs.declared.fault.Why.TheVariants as why
-use Rattle.drafts.specs.declared.fault.WriteFault.TheVariants as write
+-- How a run of the program ends: its status, what stands on standard output, and the line that says why.
+use Rattle.std.specs.Prelude.{◌≡◌, ◌⊎◌, ℕ, Bool, true, false, List, Option, string_bytes}
+use Rattle.drafts.specs.Outputs.{Stream, IsWritten, IsCut}
 use Rattle.blk_lists.specs.Sources.{Row}
-use Rattle.blk_sim.specs.declared.refusal.SimWhy.{SimWhy}
-use Rattle.blk_sim.specs.declared.refusal.SimWhy.TheVariants as step
-use Rattle.blk_cli.specs.declared.Ended.{Ended}
 use Rattle.blk_words.specs.declared.words.Job.{Job}
-use Rattle.blk_words.specs.Asked.{Asks, AreRefused}
-use Rattle.blk_cli.specs.Does.{Does}
-use Rattle.blk_cli.specs.declared.failure.Failure.{Failure}
+use Rattle.blk_words.specs.Asked.{Asks, AreFaulty, NameNone}
+use Rattle.blk_cli.specs.declared.Ended.{Ended}
+use Rattle.blk_cli.specs.declared.NoText.{NoText}
+use Rattle.blk_cli.specs.declared.NoText.TheVariants as none
 use Rattle.blk_cli.specs.declared.failure.Failure.TheVariants as failure
+use Rattle.blk_cli.specs.Lines.{line_of, status_of, write_fault, excluded}
+use Rattle.blk_cli.specs.Gives.{Gives, Fails}
 
--- lines: of a text after the program's name, of a name with a number, and of a name at a record
-abbrev pub line : List ℕ → List ℕ
-line text = codes "blk: " ++ (text ++ 10 ∷ [])
+-- the words ask for a job that gives this text
+abbrev pub Answers : List (List ℕ) → Option (List Row) → List ℕ → Type 0
+Answers words input text = (j : Job) × Asks words j × Gives j input text
 
-abbrev pub numbered : List ℕ → List ℕ → List ℕ
-numbered name number = codes "blk: " ++ (name ++ (codes " " ++ (number ++ 10 ∷ [])))
+-- or there is none: the job that they ask for fails, memory ran out before they were read, or they ask for nothing
+abbrev pub IsWithout : List (List ℕ) → Option (List Row) → Bool → NoText → Type 0
+IsWithout words input failed (none.Failure f) = ((j : Job) × Asks words j × Fails j input failed f) ⊎ (f ≡ failure.Memory)
+IsWithout words input failed (none.Line text) = AreFaulty words
+IsWithout words input failed none.Excluded = NameNone words
 
-abbrev pub at_record : ℕ → List ℕ → List ℕ
-at_record at name = codes "blk: record " ++ (decimal at ++ (codes ": " ++ (name ++ 10 ∷ [])))
+-- the status and the line then
+abbrev pub status_without : NoText → ℕ
+status_without (none.Failure f) = status_of f
+status_without (none.Line text) = 2
+status_without none.Excluded = 2
 
-abbrev pub read_fault : List ℕ
-read_fault = line (codes "read fault")
+abbrev pub line_without : NoText → List ℕ
+line_without (none.Failure f) = line_of f
+line_without (none.Line text) = string_bytes text
+line_without none.Excluded = excluded
 
-abbrev pub write_fault : List ℕ
-write_fault = line (codes "write fault")
+-- a line was said whole; or its writer failed, and took a first part of it and nothing else
+abbrev pub Says : List ℕ → Stream → Stream → Bool → Type 0
+Says line old new true = IsWritten line old new
+Says line old new false = IsCut line old new
 
-abbrev pub want_of_memory : List ℕ
-want_of_memory = line (codes "want of memory")
+-- a run ended with this status and said this line
+abbrev pub EndsSaying : ℕ → List ℕ → Stream → Stream → Ended → Type 0
+EndsSaying status line old new ended = (ended.status ≡ status) × Says line old new ended.told
 
--- the line on a fault of a text, of a step, of the oracle and of the check
-abbrev pub text_line : ℕ → Why → List ℕ
-text_line at why.Read = read_fault
-text_line at why.Memory = want_of_memory
-text_line at w = at_record at (why_name w)
+-- a text was written whole, and nothing was said; or its writer failed, and took a first part of it and nothing else
+abbrev pub EndsPut : List ℕ → Stream → Stream → Stream → Stream → Ended → Type 0
+EndsPut text old new faults_old faults_new ended =
+    (IsWritten text old new × (faults_new ≡ faults_old) × (ended.status ≡ 0) × (ended.told ≡ true))
+    ⊎ (IsCut text old new × EndsSaying 3 write_fault faults_old faults_new ended)
 
-abbrev pub step_line : ℕ → SimWhy → List ℕ
-step_line at step.Memory = want_of_memory
-step_line at w = at_record at (step_name w)
-
-abbrev pub oracle_line : OracleFault → List ℕ
-oracle_line oracle.TooMany = line (oracle_fault_name oracle.TooMany)
-oracle_line (oracle.RoundRange id) = numbered (oracle_fault_name (oracle.RoundRange id)) (decimal id)
-oracle_line (oracle.RepeatedId id) = numbered (oracle_fault_name (oracle.RepeatedId id)) (decimal id)
-oracle_line oracle.Memory = want_of_memory
-
-abbrev pub check_line : CheckFault → List ℕ
-check_line check.Length = line (check_fault_name check.Length)
-check_line (check.BeforeRelease id) = numbered (check_fault_name (check.BeforeRelease id)) (decimal id)
-check_line check.Memory = want_of_memory
-check_line (check.OverDepth round) = numbered (check_fault_name (check.OverDepth round)) (decimal round)
-check_line (check.WrongLateness own) = numbered (check_fault_name (check.WrongLateness own)) (signed_decimal own)
-check_line (check.NotCrowded load) = numbered (check_fault_name (check.NotCrowded load)) (decimal load)
-
-abbrev pub met_check_line : MetFault → List ℕ
-met_check_line met.Length = line (met_fault_name met.Length)
-met_check_line (met.BeforeRelease id) = numbered (met_fault_name (met.BeforeRelease id)) (decimal id)
-met_check_line met.Memory = want_of_memory
-met_check_line (met.OverDepth round) = numbered (met_fault_name (met.OverDepth round)) (decimal round)
-met_check_line (met.WrongMet own) = numbered (met_fault_name (met.WrongMet own)) (decimal own)
-met_check_line (met.Windows place) = numbered (met_fault_name (met.Windows place)) (decimal place)
-met_check_line (met.Loose bound) = numbered (met_fault_name (met.Loose bound)) (decimal bound)
-
-abbrev pub sched_line : SchedFault → List ℕ
-sched_line setting.Memory = want_of_memory
-sched_line fault = line (sched_fault_name fault)
-
-abbrev pub load_line : LoadFault → List ℕ
-load_line load.Memory = want_of_memory
-load_line fault = line (load_fault_name fault)
-
--- the line on a failure
-abbrev pub line_of : Failure → List ℕ
-line_of (failure.Text f) = text_line f.at f.why
-line_of (failure.Sched f) = sched_line f
-line_of (failure.Step f) = step_line f.at f.why
-line_of (failure.Solve f) = oracle_line f
-line_of (failure.Check f) = check_line f
-line_of (failure.Met f) = met_check_line f
-line_of failure.NotFixed = line (codes "NotFixed")
-line_of (failure.Load f) = load_line f
-line_of (failure.Write write.Write) = write_fault
-line_of (failure.Write write.Memory) = want_of_memory
-line_of failure.Memory = want_of_memory
-
--- the statuses: 1 for what is refused, 3 where the reader or the writer failed or memory ran out
-abbrev pub text_status : Why → ℕ
-text_status why.Read = 3
-text_status why.Memory = 3
-text_status w = 1
-
-abbrev pub step_status : SimWhy → ℕ
-step_status step.Memory = 3
-step_status w = 1
-
-abbrev pub sched_status : SchedFault → ℕ
-sched_status setting.Memory = 3
-sched_status f = 1
-
-abbrev pub oracle_status : OracleFault → ℕ
-oracle_status oracle.Memory = 3
-oracle_status f = 1
-
-abbrev pub check_status : CheckFault → ℕ
-check_status check.Memory = 3
-check_status f = 1
-
-abbrev pub met_check_status : MetFault → ℕ
-met_check_status met.Memory = 3
-met_check_status f = 1
-
-abbrev pub load_status : LoadFault → ℕ
-load_status load.Memory = 3
-load_status f = 1
-
-abbrev pub status_of : Failure → ℕ
-status_of (failure.Text f) = text_status f.why
-status_of (failure.Sched f) = sched_status f
-status_of (failure.Step f) = step_status f.why
-status_of (failure.Solve f) = oracle_status f
-status_of (failure.Check f) = check_status f
-status_of (failure.Met f) = met_check_status f
-status_of failure.NotFixed = 1
-status_of (failure.Load f) = load_status f
-status_of (failure.Write f) = 3
-status_of failure.Memory = 3
-
--- what went well has status 0, and no line
-abbrev pub status_at : Result (Unit {0}) Failure → ℕ
-status_at (Ok _) = 0
-status_at (Err f) = status_of f
-
-abbrev pub line_at : Result (Unit {0}) Failure → List ℕ
-line_at (Ok _) = []
-line_at (Err f) = line_of f
-
--- a job ended: with the status and the line of what it came to
-pub record JobEnds (j : Job) (input : Option (List Row)) (old new faults_old faults_new : Option (List ℕ)) (ended : Ended) : Type 0 where
-  pub came : Result (Unit {0}) Failure
-  pub does : Does j input old new came
-  pub status : ended.status ≡ status_at came
-  pub told : IsTrue ended.told → Appends faults_old faults_new (line_at came)
-
--- words that ask for nothing ended with status 2
-abbrev pub LineEnds : List (List ℕ) → Ended → Type 0
-LineEnds words ended = AreRefused words × (ended.status ≡ 2)
-
--- memory ran out before the words were read
-abbrev pub MemoryEnds : Option (List ℕ) → Option (List ℕ) → Ended → Type 0
-MemoryEnds faults_old faults_new ended = (ended.status ≡ 3) × (IsTrue ended.told → Appends faults_old faults_new want_of_memory)
-
--- how a run of the program ended
-abbrev pub RunEnds : List (List ℕ) → Option (List Row) → Option (List ℕ) → Option (List ℕ) → Option (List ℕ) → Option (List ℕ) → Ended → Type 0
-RunEnds words input old new faults_old faults_new ended =
-    ((j : Job) × Asks words j × JobEnds j input old new faults_old faults_new ended)
-    ⊎ (LineEnds words ended ⊎ MemoryEnds faults_old faults_new ended)
+-- how a run of the program ended, by the records of its input and whether their reader has failed, and by what the writers of its
+-- output and of its faults hold before and after: it wrote its text, or nothing at all
+abbrev pub RunEnds : List (List ℕ) → Option (List Row) → Bool → Stream → Stream → Stream → Stream → Ended → Type 0
+RunEnds words input failed old new faults_old faults_new ended =
+    ((text : List ℕ) × Answers words input text × EndsPut text old new faults_old faults_new ended)
+    ⊎ ((n : NoText) × IsWithout words input failed n × (new ≡ old) × EndsSaying (status_without n) (line_without n) faults_old faults_new ended)

@@ -1,8 +1,10 @@
+pub mod Inputs
+pub mod Scripts
 pub mod Comparing
-pub mod Does
-pub mod Ends
-pub mod Meeting
 pub mod OfTraces
-pub mod Outcome
-pub mod Statuses
+pub mod Certificates
 pub mod Loading
+pub mod Judging
+pub mod Gives
+pub mod Lines
+pub mod Ends

@@ -1,6 +1,5 @@
 -- What a load comes to.
-use Rattle.std.specs.Prelude.{◌≡◌, ◌++◌, ◌∷◌, ⊤, ℕ, List, [], Option, codes, decimal}
-use Rattle.std.specs.Io.KnownBytes.{Appends}
+use Rattle.std.specs.Prelude.{◌≡◌, ◌++◌, ◌∷◌, ⊤, ℕ, List, [], codes, decimal}
 use Rattle.blk_settings.specs.declared.sched.Sched.{Sched}
 use Rattle.blk_cli.specs.declared.failure.Failure.{Failure}
 use Rattle.blk_cli.specs.declared.failure.Failure.TheVariants as failure
@@ -9,14 +8,11 @@ use Rattle.blk_settings.specs.Faults.{IsLoadFault}
 use Rattle.blk_settings.specs.Settles.{IsSettled, served_bios}
 use Rattle.blk_settings.specs.declared.Settled.{Settled}
 use Rattle.blk_settings.specs.declared.numbers.Load.{Load}
-use Rattle.blk_lists.specs.Texts.{rows_text}
-use Rattle.blk_text.specs.TraceForm.{SpellsTraceIn}
-use Rattle.blk_text.specs.TraceRecords.{trace_rows}
-use Rattle.blk_text.specs.Versions.{latest}
 use Rattle.blk_trace.specs.Events.{AreOnce}
 use Rattle.blk_trace.specs.Traces.{Traced}
 use Rattle.blk_words.specs.declared.words.Shown.{Shown}
 use Rattle.blk_words.specs.declared.words.Shown.TheVariants as shown
+use Rattle.blk_cli.specs.OfTraces.{IsTraceText}
 
 -- the lines on what came of a load: how many bios were accepted, served and left
 abbrev pub load_lines : ℕ → ℕ → ℕ → List ℕ
@@ -26,27 +22,19 @@ load_lines accepted served left =
 -- the text on it: the lines of its numbers, or the text that spells its trace
 abbrev pub IsLoadText : Shown → Traced → Settled → List ℕ → Type 0
 IsLoadText shown.Account trace s text = text ≡ load_lines s.accepted s.served s.left
-IsLoadText shown.Trace trace s text = (text ≡ rows_text (trace_rows trace)) × SpellsTraceIn latest (trace_rows trace) trace
+IsLoadText shown.Trace trace s text = IsTraceText trace text
 
--- what `load` wrote, of the trace of its layer and of what it came to by this, where no two bios have one id
-pub record LoadWrote (w : Shown) (l : Load) (old new : Option (List ℕ)) : Type 0 where
+-- what `load` writes, of the trace of its layer and of what it came to by this, where no two bios have one id
+pub record IsLoadOf (w : Shown) (l : Load) (text : List ℕ) : Type 0 where
   pub trace : Traced
   pub settled : Settled
   pub is_settled : IsSettled l trace settled
   pub once : AreOnce (served_bios trace.events)
-  pub text : List ℕ
   pub is_text : IsLoadText w trace settled text
-  pub wrote : Appends old new text
 
--- why `load` fails: its scheduler isn't made, or the load fails; nothing is read
-abbrev pub LoadFails : Sched → Load → Failure → Type 0
-LoadFails s l (failure.Text f) = ⊥
-LoadFails s l (failure.Sched f) = IsUnmade s f
-LoadFails s l (failure.Step f) = ⊥
-LoadFails s l (failure.Solve f) = ⊥
-LoadFails s l (failure.Check f) = ⊥
-LoadFails s l (failure.Met f) = ⊥
-LoadFails s l failure.NotFixed = ⊥
-LoadFails s l (failure.Load f) = IsLoadFault l f
-LoadFails s l (failure.Write f) = ⊤
-LoadFails s l failure.Memory = ⊤
+-- why a load comes to nothing: its scheduler isn't made, or the load fails; nothing is read
+abbrev pub IsUnloaded : Sched → Load → Failure → Type 0
+IsUnloaded s l (failure.Sched f) = IsUnmade s f
+IsUnloaded s l (failure.Load f) = IsLoadFault l f
+IsUnloaded s l failure.Memory = ⊤
+IsUnloaded s l f = ⊥

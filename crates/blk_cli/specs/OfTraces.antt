@@ -1,14 +1,14 @@
--- What a job over a trace comes to: what it wrote of the trace that was read, or why it failed.
-use Rattle.std.specs.Prelude.{◌≡◌, ⊤, ℕ, List, Option, IfSome}
-use Rattle.std.specs.Io.KnownBytes.{Appends}
+-- What is told of a trace.
+use Rattle.std.specs.Prelude.{◌≡◌, ⊤, ℕ, List}
 use Rattle.edd_check.specs.Capacity.{fixed}
 use Rattle.blk_trace.specs.Depths.{IsFixed, capacity_of}
 use Rattle.blk_trace.specs.Meaning.{commands_of}
 use Rattle.blk_trace.specs.Traces.{Traced}
 use Rattle.blk_lists.specs.Commands.{SpellsCommands, commands_rows}
-use Rattle.blk_lists.specs.Sources.{Row}
 use Rattle.blk_lists.specs.Texts.{rows_text}
-use Rattle.blk_text.specs.TraceForm.{SpellsTrace, TraceFault}
+use Rattle.blk_text.specs.TraceForm.{SpellsTraceIn}
+use Rattle.blk_text.specs.TraceRecords.{trace_rows}
+use Rattle.blk_text.specs.Versions.{latest}
 use Rattle.blk_report.specs.declared.figures.Report.{Report}
 use Rattle.edd_figures.specs.declared.missing.Crowd.{Crowd}
 use Rattle.blk_report.specs.declared.missing.Tally.{Tally}
@@ -25,7 +25,14 @@ use Rattle.blk_report.specs.Spread.{AreSpreads}
 use Rattle.blk_report.specs.SpreadText.{spread_text}
 use Rattle.blk_cli.specs.declared.failure.Failure.{Failure}
 use Rattle.blk_cli.specs.declared.failure.Failure.TheVariants as failure
-use Rattle.blk_cli.specs.Outcome.{IsTextFault}
+use Rattle.blk_cli.specs.declared.traces.Telling.{Telling}
+use Rattle.blk_cli.specs.declared.traces.Telling.TheVariants as telling
+use Rattle.blk_cli.specs.Inputs.{IsMemory}
+
+-- the text that spells the trace in the latest version
+pub record IsTraceText (trace : Traced) (text : List ℕ) : Type 0 where
+  pub spelled : SpellsTraceIn latest (trace_rows trace) trace
+  pub is_text : text ≡ rows_text (trace_rows trace)
 
 -- the lines of the trace's report
 pub record IsReportText (trace : Traced) (text : List ℕ) : Type 0 where
@@ -58,40 +65,22 @@ pub record IsMissesText (trace : Traced) (text : List ℕ) : Type 0 where
   pub is_tallied : IsTallied trace.setup trace.events tally windows
   pub is_text : text ≡ misses_text tally windows
 
--- what a job over a trace wrote: this text of the trace that was read
-pub record TraceWrote (IsText : Traced → List ℕ → Type 0) (rows : List Row) (old new : Option (List ℕ)) : Type 0 where
-  pub trace : Traced
-  pub text : List ℕ
-  pub read : SpellsTrace rows trace
-  pub is_text : IsText trace text
-  pub wrote : Appends old new text
+-- what is told of a trace
+abbrev pub IsTold : Telling → Traced → List ℕ → Type 0
+IsTold telling.Whole trace text = IsTraceText trace text
+IsTold telling.Commands trace text = IsCommandsText trace text
+IsTold telling.Late trace text = IsLateText trace text
+IsTold telling.Misses trace text = IsMissesText trace text
+IsTold telling.Spread trace text = IsSpreadText trace text
+IsTold telling.Report trace text = IsReportText trace text
 
--- the trace that was read sets a depth
-abbrev pub IsUnfixed : Option (List Row) → Type 0
-IsUnfixed input = IfSome input (λ rows. (trace : Traced) × SpellsTrace rows trace × (IsFixed trace.events → ⊥))
+-- why a trace has no command list: an event sets a depth
+abbrev pub IsUnlisted : Traced → Failure → Type 0
+IsUnlisted trace failure.NotFixed = IsFixed trace.events → ⊥
+IsUnlisted trace failure.Memory = ⊤
+IsUnlisted trace f = ⊥
 
--- why a job over a trace fails, where it refuses depths that are set only so
-abbrev pub TraceFails : Type 0 → Option (List Row) → Failure → Type 0
-TraceFails SetsDepth input (failure.Text f) = IsTextFault TraceFault input f
-TraceFails SetsDepth input (failure.Sched f) = ⊥
-TraceFails SetsDepth input (failure.Step f) = ⊥
-TraceFails SetsDepth input (failure.Solve f) = ⊥
-TraceFails SetsDepth input (failure.Check f) = ⊥
-TraceFails SetsDepth input (failure.Met f) = ⊥
-TraceFails SetsDepth input failure.NotFixed = SetsDepth
-TraceFails SetsDepth input (failure.Load f) = ⊥
-TraceFails SetsDepth input (failure.Write f) = ⊤
-TraceFails SetsDepth input failure.Memory = ⊤
-
--- why nothing is written of a trace that was read
-abbrev pub IsUntold : Type 0 → Failure → Type 0
-IsUntold SetsDepth (failure.Text f) = ⊥
-IsUntold SetsDepth (failure.Sched f) = ⊥
-IsUntold SetsDepth (failure.Step f) = ⊥
-IsUntold SetsDepth (failure.Solve f) = ⊥
-IsUntold SetsDepth (failure.Check f) = ⊥
-IsUntold SetsDepth (failure.Met f) = ⊥
-IsUntold SetsDepth failure.NotFixed = SetsDepth
-IsUntold SetsDepth (failure.Load f) = ⊥
-IsUntold SetsDepth (failure.Write f) = ⊤
-IsUntold SetsDepth failure.Memory = ⊤
+-- why nothing is told of it
+abbrev pub IsUntold : Telling → Traced → Failure → Type 0
+IsUntold telling.Commands trace f = IsUnlisted trace f
+IsUntold t trace f = IsMemory trace f

@@ -1,25 +1,18 @@
 //! The schedulers beside one another.
 
-ghost use Rattle.std.specs.Prelude.{ℕ, ◌≡◌, ◌⊎◌, OnOk, IfOk, IfErr, IfSome, IfNone, MatchResult, List, All, map, length};
-ghost use Rattle.std.specs.Io.KnownBytes.{Appends};
+ghost use Rattle.std.specs.Prelude.{◌≡◌, IfOk, IfErr, IfSome, IfNone, All, map};
 ghost use Rattle.blk_text.specs.Script.{IsScript, scripted};
-ghost use Rattle.blk_lists.specs.Sources.{input_of};
-ghost use Rattle.blk_report.specs.Table.{IsTable};
 ghost use Rattle.blk_settings.specs.Made.{IsMade};
-ghost use Rattle.blk_settings.specs.Rows.{name_of};
-ghost use Rattle.blk_cli.specs.Statuses.{IsOfWriter};
-ghost use Rattle.blk_cli.specs.Outcome.{IsUnrun};
-ghost use Rattle.blk_cli.specs.Comparing.{IsReportUnder, AreReports, IsFirstUnmade, IsUncompared, CompareWrote, CompareFails};
+ghost use Rattle.blk_settings.specs.Rows.{name_of, in_turn};
+ghost use Rattle.blk_cli.specs.Scripts.{IsUnrun};
+ghost use Rattle.blk_cli.specs.Comparing.{IsReportUnder, AreReports, IsFirstUnmade, IsUncompared, IsTableText};
 
 use crate::failure::Failure;
-use crate::jobs::traced;
-use blk_lists::Records;
-use blk_report::{Report, report, write_table};
+use crate::scripts::traced;
+use blk_report::{Report, report, table_lines};
 use blk_settings::{Lineup, Sched, SchedFault};
-use blk_text::{Script, read_script};
-use drafts::WriteFault;
+use blk_text::Script;
 use std::alloc::{AllocError, Global};
-use std::io::{Read, Write};
 
 /// What is wrong with the settings of the first of these schedulers that isn't made of them.
 fn unmade(scheds: &[Sched]) -> Option<SchedFault>
@@ -94,49 +87,25 @@ fn names_of<'a>(alloc: Global, scheds: &[Sched]) -> Result<Vec<&'a [u8]>, AllocE
     Ok(names)
 }
 
-/// Writes the table of the reports of these schedulers.
-fn put_table<W: Write>(
-    alloc: Global,
-    scheds: &[Sched],
-    reports: &[Report],
-    writer: &mut W,
-) -> Result<(), Failure>
-    requires { length reports.now ≡ length scheds.now }
-    ensures wrote { OnOk result ((text : List ℕ) × IsTable (map name_of scheds.now) reports.now text × Appends (W.contents writer.old) (W.contents writer.new) text) }
-    ensures failed { IfErr result IsOfWriter }
+/// The table of the reports of a script under each scheduler of a lineup.
+pub fn table_of(alloc: Global, lineup: Lineup, script: &Script) -> Result<Vec<u8>, Failure>
+    requires { IsScript (scripted script.now) }
+    ensures text { IfOk result (λ text. IsTableText lineup (scripted script.now) text.items) }
+    ensures uncompared { IfErr result (IsUncompared (in_turn lineup) (scripted script.now)) }
 {
-    let Ok(names) = names_of(alloc, scheds) else {
-        return Err(Failure::Write(WriteFault::Memory));
-    };
-    match write_table(alloc, names.as_slice(), reports, writer) {
-        Ok(()) => Ok(()),
-        Err(fault) => Err(Failure::Write(fault)),
-    }
-}
-
-/// Reads a script, runs it under each scheduler, and writes the table of their reports.
-pub fn compare_schedulers<R: Read + Drop, W: Write>(
-    alloc: Global,
-    lineup: Lineup,
-    reader: R,
-    writer: &mut W,
-) -> Result<(), Failure>
-    ensures did { MatchResult result (λ _. IfSome (input_of (R.remaining reader)) (λ rows. CompareWrote lineup rows (W.contents writer.old) (W.contents writer.new)))
-        (CompareFails lineup (input_of (R.remaining reader))) }
-    ensures kept { IfErr result (λ f. IsOfWriter f ⊎ (writer.new ≡ writer.old)) }
-{
-    let script = match read_script(alloc, &mut Records::new(alloc, reader)) {
-        Ok(script) => script,
-        Err(fault) => return Err(Failure::Text(fault)),
-    };
     let Ok(scheds) = lineup.in_turn(alloc) else {
         return Err(Failure::Memory);
     };
     let rows = scheds.as_slice();
-    let reports = match compared(alloc, rows, &script) {
+    let reports = match compared(alloc, rows, script) {
         Ok(reports) => reports,
         Err(failure) => return Err(failure),
     };
-    let told = reports.as_slice();
-    put_table(alloc, rows, told, writer)
+    let Ok(names) = names_of(alloc, rows) else {
+        return Err(Failure::Memory);
+    };
+    match table_lines(alloc, names.as_slice(), reports.as_slice()) {
+        Ok(text) => Ok(text),
+        Err(_) => Err(Failure::Memory),
+    }
 }

@@ -1,30 +1,34 @@
 //! Why the program ends without its output, as a line and an exit status.
 
-ghost use Rattle.std.specs.Prelude.{◌≤◌, ◌≡◌, ◌++◌, OnOk, IsTrue, decimal};
+ghost use Rattle.std.specs.Prelude.{◌≡◌, ◌≤◌, ◌×◌, ◌∷◌, ◌++◌, [], ℕ, List, decimal};
 ghost use Rattle.std.specs.Fmt.{signed_decimal};
-ghost use Rattle.std.specs.Io.KnownBytes.{Appends};
-ghost use Rattle.blk_cli.specs.Ends.{line, numbered, at_record, text_line, step_line, sched_line, oracle_line, check_line, met_check_line, load_line, line_of, text_status, step_status, oracle_status, check_status, met_check_status, status_of};
+ghost use Rattle.drafts.specs.Outputs.{Writes, stream_of};
+ghost use Rattle.blk_cli.specs.Lines.{line, numbered, at_record, text_line, step_line, oracle_line, check_line, met_check_line, line_of, status_of};
+ghost use Rattle.blk_cli.specs.Ends.{EndsSaying};
 
 use crate::{Ended, FAILED, REFUSED};
 use blk_lists::{TextFault, Why};
 use blk_settings::{LoadFault, SchedFault};
 use blk_sim::{SimFault, SimWhy};
-use drafts::WriteFault;
+use drafts::pieces::put_number;
+use drafts::{Output, WriteFault};
 use edd_check::{CheckFault, MetFault};
 use edd_oracle::OracleFault;
-use std::io;
 use std::io::Write;
 
-/// The line where the reader failed.
-const READ_FAULT: &[u8] = b"blk: read fault\n";
+/// What each line begins with.
+const START: &[u8] = b"blk: ";
 
-/// The line where the writer failed.
-const WRITE_FAULT: &[u8] = b"blk: write fault\n";
+/// What each line ends with.
+const END: &[u8] = b"\n";
 
-/// The line where memory ran out.
-const WANT_OF_MEMORY: &[u8] = b"blk: want of memory\n";
+/// What is said where memory ran out.
+const WANT_OF_MEMORY: &str = "want of memory";
 
-/// Why a subcommand wrote nothing, or not all.
+/// How many digits a number has at most.
+const DIGITS: usize = 20;
+
+/// Why there is no output, or not all of it.
 #[derive(Clone, Copy, Debug, PartialEq, Eq)]
 pub enum Failure {
     /// The text that was read is wrong, or its reader failed.
@@ -43,8 +47,8 @@ pub enum Failure {
     NotFixed,
     /// The load fails.
     Load(LoadFault),
-    /// The writer failed.
-    Write(WriteFault),
+    /// The writer failed. No job fails so: its text is written by the run.
+    Write,
     /// Memory ran out.
     Memory,
 }
@@ -53,7 +57,7 @@ impl Failure {
     /// The exit status: 1 for refused input, 3 for want of memory, a read fault or a write fault.
     pub fn status(&self) -> u8
         ensures value { result ≡ status_of self.now }
-        ensures range { result ≤ 3 }
+        ensures range { (1 ≤ result) × (result ≤ 3) }
     {
         match self {
             Failure::Text(fault) => match fault.why {
@@ -73,106 +77,115 @@ impl Failure {
             Failure::Check(_) | Failure::Met(_) | Failure::NotFixed => REFUSED,
             Failure::Load(LoadFault::Memory) => FAILED,
             Failure::Load(_) => REFUSED,
-            Failure::Write(_) | Failure::Memory => FAILED,
+            Failure::Write | Failure::Memory => FAILED,
         }
     }
 
     /// Writes the failure's line: `blk: ` and what was refused, where it stands or which id or number it has.
-    pub fn tell<F: Write>(&self, faults: &mut F) -> io::Result<()>
-        ensures { OnOk result (Appends (F.contents faults.old) (F.contents faults.new) (line_of self.now)) }
+    pub fn tell<F: Write>(&self, faults: &mut Output<F>) -> Result<(), WriteFault>
+        ensures { Writes (line_of self.now) (stream_of F.contents faults.old) (stream_of F.contents faults.new) result }
     {
         match self {
             Failure::Text(fault) => tell_text(faults, fault.at, fault.why),
-            Failure::Sched(fault) => tell_sched(faults, *fault),
+            Failure::Sched(fault) => match fault {
+                SchedFault::Memory => tell_name(faults, WANT_OF_MEMORY),
+                _ => tell_name(faults, fault.name()),
+            },
             Failure::Step(fault) => tell_step(faults, fault.at, fault.why),
             Failure::Solve(fault) => tell_solve(faults, *fault),
             Failure::Check(fault) => tell_check(faults, *fault),
             Failure::Met(fault) => tell_met(faults, *fault),
             Failure::NotFixed => tell_name(faults, "NotFixed"),
-            Failure::Load(fault) => tell_load(faults, *fault),
-            Failure::Write(WriteFault::Write) => faults.write_all(WRITE_FAULT),
-            Failure::Write(WriteFault::Memory) | Failure::Memory => faults.write_all(
-                WANT_OF_MEMORY,
-            ),
+            Failure::Load(fault) => match fault {
+                LoadFault::Memory => tell_name(faults, WANT_OF_MEMORY),
+                _ => tell_name(faults, fault.name()),
+            },
+            Failure::Write => tell_name(faults, "write fault"),
+            Failure::Memory => tell_name(faults, WANT_OF_MEMORY),
         }
     }
 
     /// Writes the failure's line and ends with its status, which stays where the line can't be written.
-    pub fn report<F: Write>(&self, faults: &mut F) -> Ended
-        ensures status { result.status ≡ status_of self.now }
-        ensures range { result.status ≤ 3 }
-        ensures told { IsTrue result.told → Appends (F.contents faults.old) (F.contents faults.new) (line_of self.now) }
+    pub fn report<F: Write>(&self, faults: &mut Output<F>) -> Ended
+        ensures ends { EndsSaying (status_of self.now) (line_of self.now) (stream_of F.contents faults.old) (stream_of F.contents faults.new) result }
+        ensures range { (1 ≤ result.status) × (result.status ≤ 3) }
     {
-        let told = self.tell(faults).is_ok();
-        Ended {
-            status: self.status(),
-            told,
+        let status = self.status();
+        match self.tell(faults) {
+            Ok(()) => Ended { status, told: true },
+            Err(_) => Ended {
+                status,
+                told: false,
+            },
         }
     }
 }
 
-/// Writes the line of what is refused at a record.
-fn tell_record<F: Write>(faults: &mut F, at: u64, name: &str) -> io::Result<()>
-    ensures { OnOk result (Appends (F.contents faults.old) (F.contents faults.new) (at_record at name.now)) }
+/// Writes the line of a name.
+fn tell_name<F: Write>(faults: &mut Output<F>, name: &str) -> Result<(), WriteFault>
+    ensures { Writes (line name.now) (stream_of F.contents faults.old) (stream_of F.contents faults.new) result }
 {
-    writeln!(faults, "blk: record {at}: {name}")
+    faults.put_all(&[START, name.as_bytes(), END])
 }
 
-/// Writes the line of a name.
-fn tell_name<F: Write>(faults: &mut F, name: &str) -> io::Result<()>
-    ensures { OnOk result (Appends (F.contents faults.old) (F.contents faults.new) (line name.now)) }
+/// Writes the line of what is refused at a record.
+fn tell_record<F: Write>(faults: &mut Output<F>, at: u64, name: &str) -> Result<(), WriteFault>
+    ensures { Writes (at_record at name.now) (stream_of F.contents faults.old) (stream_of F.contents faults.new) result }
 {
-    writeln!(faults, "blk: {name}")
+    let mut digits = [0; DIGITS];
+    let end = put_number(at, &mut digits, 0);
+    let record: &[u8] = b"record ";
+    let colon: &[u8] = b": ";
+    faults.put_all(&[START, record, &digits[..end], colon, name.as_bytes(), END])
 }
 
 /// Writes the line of a name with an id or a number.
-fn tell_number<F: Write>(faults: &mut F, name: &str, number: u64) -> io::Result<()>
-    ensures { OnOk result (Appends (F.contents faults.old) (F.contents faults.new) (numbered name.now (decimal number))) }
+fn tell_number<F: Write>(faults: &mut Output<F>, name: &str, number: u64) -> Result<(), WriteFault>
+    ensures { Writes (numbered name.now (decimal number)) (stream_of F.contents faults.old) (stream_of F.contents faults.new) result }
 {
-    writeln!(faults, "blk: {name} {number}")
+    let mut digits = [0; DIGITS];
+    let end = put_number(number, &mut digits, 0);
+    let space: &[u8] = b" ";
+    faults.put_all(&[START, name.as_bytes(), space, &digits[..end], END])
 }
 
 /// Writes the line of a name with a number that has a sign.
-fn tell_signed<F: Write>(faults: &mut F, name: &str, number: i64) -> io::Result<()>
-    ensures { OnOk result (Appends (F.contents faults.old) (F.contents faults.new) (numbered name.now (signed_decimal number))) }
+fn tell_signed<F: Write>(faults: &mut Output<F>, name: &str, number: i64) -> Result<(), WriteFault>
+    ensures { Writes (numbered name.now (signed_decimal number)) (stream_of F.contents faults.old) (stream_of F.contents faults.new) result }
 {
-    writeln!(faults, "blk: {name} {number}")
+    if number >= 0 {
+        return tell_number(faults, name, number as u64);
+    }
+    let mut digits = [0; DIGITS];
+    let end = put_number(number.unsigned_abs(), &mut digits, 0);
+    let minus: &[u8] = b" -";
+    faults.put_all(&[START, name.as_bytes(), minus, &digits[..end], END])
 }
 
 /// Writes the line on a text.
-fn tell_text<F: Write>(faults: &mut F, at: u64, why: Why) -> io::Result<()>
-    ensures { OnOk result (Appends (F.contents faults.old) (F.contents faults.new) (text_line at why)) }
+fn tell_text<F: Write>(faults: &mut Output<F>, at: u64, why: Why) -> Result<(), WriteFault>
+    ensures { Writes (text_line at why) (stream_of F.contents faults.old) (stream_of F.contents faults.new) result }
 {
     match why {
-        Why::Read => faults.write_all(READ_FAULT),
-        Why::Memory => faults.write_all(WANT_OF_MEMORY),
+        Why::Read => tell_name(faults, "read fault"),
+        Why::Memory => tell_name(faults, WANT_OF_MEMORY),
         _ => tell_record(faults, at, why.name()),
     }
 }
 
 /// Writes the line on a step.
-fn tell_step<F: Write>(faults: &mut F, at: u64, why: SimWhy) -> io::Result<()>
-    ensures { OnOk result (Appends (F.contents faults.old) (F.contents faults.new) (step_line at why)) }
+fn tell_step<F: Write>(faults: &mut Output<F>, at: u64, why: SimWhy) -> Result<(), WriteFault>
+    ensures { Writes (step_line at why) (stream_of F.contents faults.old) (stream_of F.contents faults.new) result }
 {
     match why {
-        SimWhy::Memory => faults.write_all(WANT_OF_MEMORY),
+        SimWhy::Memory => tell_name(faults, WANT_OF_MEMORY),
         _ => tell_record(faults, at, why.name()),
     }
 }
 
-/// Writes the line on a scheduler's settings.
-fn tell_sched<F: Write>(faults: &mut F, fault: SchedFault) -> io::Result<()>
-    ensures { OnOk result (Appends (F.contents faults.old) (F.contents faults.new) (sched_line fault)) }
-{
-    match fault {
-        SchedFault::Memory => faults.write_all(WANT_OF_MEMORY),
-        _ => tell_name(faults, fault.name()),
-    }
-}
-
 /// Writes the line on commands.
-fn tell_solve<F: Write>(faults: &mut F, fault: OracleFault) -> io::Result<()>
-    ensures { OnOk result (Appends (F.contents faults.old) (F.contents faults.new) (oracle_line fault)) }
+fn tell_solve<F: Write>(faults: &mut Output<F>, fault: OracleFault) -> Result<(), WriteFault>
+    ensures { Writes (oracle_line fault) (stream_of F.contents faults.old) (stream_of F.contents faults.new) result }
 {
     match fault {
         OracleFault::TooMany => tell_name(faults, fault.name()),
@@ -181,26 +194,26 @@ fn tell_solve<F: Write>(faults: &mut F, fault: OracleFault) -> io::Result<()>
             fault.name(),
             id,
         ),
-        OracleFault::Memory => faults.write_all(WANT_OF_MEMORY),
+        OracleFault::Memory => tell_name(faults, WANT_OF_MEMORY),
     }
 }
 
 /// Writes the line on a certificate.
-fn tell_check<F: Write>(faults: &mut F, fault: CheckFault) -> io::Result<()>
-    ensures { OnOk result (Appends (F.contents faults.old) (F.contents faults.new) (check_line fault)) }
+fn tell_check<F: Write>(faults: &mut Output<F>, fault: CheckFault) -> Result<(), WriteFault>
+    ensures { Writes (check_line fault) (stream_of F.contents faults.old) (stream_of F.contents faults.new) result }
 {
     match fault {
         CheckFault::Length => tell_name(faults, fault.name()),
         CheckFault::BeforeRelease(of) | CheckFault::OverDepth(of) | CheckFault::NotCrowded(of) =>
             tell_number(faults, fault.name(), of),
-        CheckFault::Memory => faults.write_all(WANT_OF_MEMORY),
+        CheckFault::Memory => tell_name(faults, WANT_OF_MEMORY),
         CheckFault::WrongLateness(own) => tell_signed(faults, fault.name(), own),
     }
 }
 
 /// Writes the line on a certificate of what is met.
-fn tell_met<F: Write>(faults: &mut F, fault: MetFault) -> io::Result<()>
-    ensures { OnOk result (Appends (F.contents faults.old) (F.contents faults.new) (met_check_line fault)) }
+fn tell_met<F: Write>(faults: &mut Output<F>, fault: MetFault) -> Result<(), WriteFault>
+    ensures { Writes (met_check_line fault) (stream_of F.contents faults.old) (stream_of F.contents faults.new) result }
 {
     match fault {
         MetFault::Length => tell_name(faults, fault.name()),
@@ -208,17 +221,7 @@ fn tell_met<F: Write>(faults: &mut F, fault: MetFault) -> io::Result<()>
         | MetFault::OverDepth(of)
         | MetFault::WrongMet(of)
         | MetFault::Loose(of) => tell_number(faults, fault.name(), of),
-        MetFault::Memory => faults.write_all(WANT_OF_MEMORY),
+        MetFault::Memory => tell_name(faults, WANT_OF_MEMORY),
         MetFault::Windows(place) => tell_number(faults, fault.name(), place as u64),
-    }
-}
-
-/// Writes the line on a load.
-fn tell_load<F: Write>(faults: &mut F, fault: LoadFault) -> io::Result<()>
-    ensures { OnOk result (Appends (F.contents faults.old) (F.contents faults.new) (load_line fault)) }
-{
-    match fault {
-        LoadFault::Memory => faults.write_all(WANT_OF_MEMORY),
-        _ => tell_name(faults, fault.name()),
     }
 }

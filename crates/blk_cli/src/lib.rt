@@ -1,31 +1,32 @@
 //! The command line of the program, over a reader and two writers.
 #![tactic(auto)]
 
-ghost use Rattle.std.specs.Prelude.{◌≡◌, ◌≢◌, ◌≤◌, ◌⊎◌, IfErr, map, string_bytes};
-ghost use Rattle.std.specs.Prelude.{List, Option};
-ghost use Rattle.blk_lists.specs.Sources.{Row, input_of};
-ghost use Rattle.blk_cli.specs.Ends.{JobEnds, LineEnds, MemoryEnds, RunEnds};
-ghost use Rattle.blk_cli.specs.Does.{Does, IsNoLoad};
-ghost use Rattle.blk_cli.specs.Statuses.{IsOfWriter};
+ghost use Rattle.std.specs.Prelude.{◌≡◌, ◌≢◌, ◌≤◌, IfOk, IfErr, map, codes, string_bytes};
+ghost use Rattle.drafts.specs.Outputs.{stream_of};
+ghost use Rattle.blk_cli.specs.Gives.{Gives, Fails, IsNoLoad, version_line};
+ghost use Rattle.blk_cli.specs.Ends.{Answers, IsWithout, line_without, status_without, EndsSaying, EndsPut, RunEnds};
 
+mod checking;
 mod comparing;
 mod failure;
-mod jobs;
+mod judging;
+mod lists;
 mod loading;
-mod meeting;
+mod scripts;
 mod traces;
 
-use crate::comparing::compare_schedulers;
+use crate::checking::over_proof;
 pub use crate::failure::Failure;
-use crate::jobs::{
-    check_certificate, migrate_trace, simulate_script, solve_commands, write_version,
-};
+use crate::judging::over_schedule;
+use crate::lists::{Solving, over_list};
 use crate::loading::run_load;
-use crate::meeting::meet_commands;
-use crate::traces::{count_misses, list_commands, list_late, report_trace, spread_trace};
-use blk_settings::{Load, Loads, Sched};
+use crate::scripts::{Running, over_script};
+use crate::traces::{Telling, over_trace};
+use blk_lists::Records;
+use blk_settings::Loads;
 pub use blk_sim::laws;
-use blk_words::{Job, NoJob, Shown, choose};
+use blk_words::{Job, NoJob, VERSION, choose};
+use drafts::Output;
 use std::alloc::Global;
 use std::io::{Read, Write};
 use std::sync::Wait;
@@ -55,113 +56,147 @@ pub struct Ended {
     pub told: bool,
 }
 
-/// Does a job that is no load: reads the input from the reader, and writes the output to the writer once it is whole.
-pub fn work<R: Read + Drop, W: Write>(
+/// Why words get no text.
+#[derive(Drop)]
+pub enum NoText {
+    /// The job that they ask for fails, or memory ran out before they were read.
+    Failure(Failure),
+    /// They are no command line of the program, or ask for its help: what clap says of them.
+    Line(String),
+    /// Their flags exclude one another.
+    Excluded,
+}
+
+impl NoText {
+    /// Writes the line that says so and ends with its status, which stays where the line can't be written.
+    pub fn report<F: Write>(&self, faults: &mut Output<F>) -> Ended
+        ensures ends { EndsSaying (status_without self.now) (line_without self.now) (stream_of F.contents faults.old) (stream_of F.contents faults.new) result }
+        ensures range { (1 ≤ result.status) × (result.status ≤ 3) }
+    {
+        let line = match self {
+            NoText::Failure(failure) => return failure.report(faults),
+            NoText::Line(text) => text.as_bytes(),
+            NoText::Excluded => NO_JOB,
+        };
+        Ended {
+            status: COMMAND_LINE,
+            told: faults.put(line).is_ok(),
+        }
+    }
+}
+
+/// The line with the program's name and version.
+fn version(alloc: Global) -> Result<Vec<u8>, Failure>
+    ensures text { IfOk result (λ text. text.items ≡ version_line) }
+    ensures memory { IfErr result (λ f. f ≡ Failure.Memory) }
+{
+    match format!(in alloc; "blk {VERSION}\n") {
+        Ok(line) => Ok(line.into_bytes()),
+        Err(_) => Err(Failure::Memory),
+    }
+}
+
+/// The text of a job that is no load. A job is a row here: what it reads, and what is made of that.
+pub fn work<R: Read + Drop>(
     alloc: Global,
     job: Job,
-    reader: R,
-    writer: &mut W,
-) -> Result<(), Failure>
-    requires { IsNoLoad job }
-    ensures did { Does job (input_of (R.remaining reader)) (W.contents writer.old) (W.contents writer.new) result }
-    ensures kept { IfErr result (λ f. IsOfWriter f ⊎ (writer.new ≡ writer.old)) }
+    records: &mut Records<R>,
+) -> Result<Vec<u8>, Failure>
+    requires none_read { records.old.at ≡ 0 }
+    requires no_load { IsNoLoad job }
+    ensures text { IfOk result (λ text. Gives job records.old.left text.items) }
+    ensures fails { IfErr result (Fails job records.old.left records.new.failed) }
 {
     match job {
-        Job::Version => write_version(writer),
-        Job::Sim(sched) => simulate_script(alloc, sched, reader, writer),
-        Job::Compare(lineup) => compare_schedulers(alloc, lineup, reader, writer),
-        Job::Migrate => migrate_trace(alloc, reader, writer),
-        Job::Commands => list_commands(alloc, reader, writer),
-        Job::Late => list_late(alloc, reader, writer),
-        Job::Misses => count_misses(alloc, reader, writer),
-        Job::Spread => spread_trace(alloc, reader, writer),
-        Job::Oracle => solve_commands(alloc, reader, writer),
-        Job::Met => meet_commands(alloc, reader, writer),
-        Job::Report => report_trace(alloc, reader, writer),
-        Job::Check => check_certificate(alloc, reader, writer),
+        Job::Version => version(alloc),
+        Job::Sim(sched) => over_script(alloc, Running::One(sched), records),
+        Job::Compare(lineup) => over_script(alloc, Running::Each(lineup), records),
+        Job::Migrate => over_trace(alloc, Telling::Whole, records),
+        Job::Commands => over_trace(alloc, Telling::Commands, records),
+        Job::Late => over_trace(alloc, Telling::Late, records),
+        Job::Misses => over_trace(alloc, Telling::Misses, records),
+        Job::Spread => over_trace(alloc, Telling::Spread, records),
+        Job::Report => over_trace(alloc, Telling::Report, records),
+        Job::Oracle => over_list(alloc, Solving::Least, records),
+        Job::Met => over_list(alloc, Solving::Most, records),
+        Job::Check => over_proof(alloc, records),
+        Job::Judge { each } => over_schedule(alloc, each, records),
         Job::Load(..) => unreachable!(),
     }
 }
 
-/// Does a job that is no load, and says to `faults` why it failed.
-pub fn perform<R: Read + Drop, W: Write, F: Write>(
-    alloc: Global,
-    job: Job,
-    reader: R,
-    writer: &mut W,
-    faults: &mut F,
-) -> Ended
-    requires { IsNoLoad job }
-    ensures ended { JobEnds job (input_of (R.remaining reader)) (W.contents writer.old) (W.contents writer.new) (F.contents faults.old) (F.contents faults.new) result }
-    ensures kept { result.status ≢ 0 → result.status ≢ 3 → writer.new ≡ writer.old }
-    ensures quiet { result.status ≡ 0 → faults.new ≡ faults.old }
-{
-    match work(alloc, job, reader, writer) {
-        Ok(()) => Ended {
-            status: GOOD,
-            told: true,
-        },
-        Err(failure) => failure.report(faults),
-    }
-}
-
-/// Runs a load, and says to `faults` why it failed.
-fn perform_load<L: Loads, R: Threads + Wait + Sync, W: Write, F: Write>(
+/// The text that the program answers to the words of its command line, the first of which is its name, or why there is none.
+/// Nothing is written. Loads are run by `loads`, on the threads of `rt`.
+pub fn answer<L: Loads, T: Threads + Wait + Sync, R: Read + Drop>(
     loads: &L,
-    rt: &R,
+    rt: &T,
     alloc: Global,
-    sched: Sched,
-    amounts: Load,
-    shown: Shown,
-    writer: &mut W,
-    faults: &mut F,
-) -> Ended
-    ensures ended { (input : Option (List Row)) → JobEnds (Job.Load sched amounts shown) input (W.contents writer.old) (W.contents writer.new) (F.contents faults.old) (F.contents faults.new) result }
-    ensures kept { result.status ≢ 0 → result.status ≢ 3 → writer.new ≡ writer.old }
-    ensures quiet { result.status ≡ 0 → faults.new ≡ faults.old }
-    ensures range { result.status ≤ 3 }
+    words: &[String],
+    records: &mut Records<R>,
+) -> Result<Vec<u8>, NoText>
+    requires { records.old.at ≡ 0 }
+    ensures text { IfOk result (λ text. Answers (map string_bytes words.now) records.old.left text.items) }
+    ensures without { IfErr result (IsWithout (map string_bytes words.now) records.old.left records.new.failed) }
 {
-    match run_load(loads, rt, alloc, sched, amounts, shown, writer) {
+    match choose(alloc, words) {
+        Ok(Job::Load(sched, amounts, shown)) => {
+            match run_load(loads, rt, alloc, sched, amounts, shown) {
+                Ok(text) => Ok(text),
+                Err(failure) => Err(NoText::Failure(failure)),
+            }
+        }
+        Ok(job) => match work(alloc, job, records) {
+            Ok(text) => Ok(text),
+            Err(failure) => Err(NoText::Failure(failure)),
+        },
+        Err(NoJob::Memory) => Err(NoText::Failure(Failure::Memory)),
+        Err(NoJob::Line(text)) => Err(NoText::Line(text)),
+        Err(NoJob::Nothing) => Err(NoText::Excluded),
+    }
+}
+
+/// Writes a text: the one call by which anything reaches the output. Where the writer fails it has taken a first part of the text,
+/// and the line that says so goes to `faults`.
+pub fn put_out<W: Write, F: Write>(
+    text: &[u8],
+    out: &mut Output<W>,
+    faults: &mut Output<F>,
+) -> Ended
+    ensures ends { EndsPut text.now (stream_of W.contents out.old) (stream_of W.contents out.new) (stream_of F.contents faults.old) (stream_of F.contents faults.new) result }
+    ensures statuses { (result.status ≡ 0) ⊎ (result.status ≡ 3) }
+    ensures quiet { result.status ≡ 0 → faults.new ≡ faults.old }
+{
+    match out.put(text) {
         Ok(()) => Ended {
             status: GOOD,
             told: true,
         },
-        Err(failure) => failure.report(faults),
+        Err(_) => Failure::Write.report(faults),
     }
 }
 
-/// Runs the program on the words of its command line, the first of which is its name: reads the input from the reader,
-/// writes the output to the writer, and where there is none, a line on why to `faults`. Loads are run by `loads`, on the
-/// threads of `rt`. Answers how it ended.
+/// Runs the program on the words of its command line, the first of which is its name: reads the input from `records`, writes the
+/// output to `out`, and where there is none, or not all of it, a line on why to `faults`. Loads are run by `loads`, on the threads of
+/// `rt`. Answers how it ended.
 pub fn run<L: Loads, T: Threads + Wait + Sync, R: Read + Drop, W: Write, F: Write>(
     loads: &L,
     rt: &T,
     alloc: Global,
     words: &[String],
-    reader: R,
-    writer: &mut W,
-    faults: &mut F,
+    records: &mut Records<R>,
+    out: &mut Output<W>,
+    faults: &mut Output<F>,
 ) -> Ended
-    ensures ended { RunEnds (map string_bytes words.now) (input_of (R.remaining reader)) (W.contents writer.old) (W.contents writer.new) (F.contents faults.old) (F.contents faults.new) result }
+    requires { records.old.at ≡ 0 }
+    ensures ended { RunEnds (map string_bytes words.now) records.old.left records.new.failed (stream_of W.contents out.old) (stream_of W.contents out.new) (stream_of F.contents faults.old) (stream_of F.contents faults.new) result }
     // nothing is written at the statuses 1 and 2
-    ensures kept { result.status ≢ 0 → result.status ≢ 3 → writer.new ≡ writer.old }
+    ensures kept { result.status ≢ 0 → result.status ≢ 3 → out.new ≡ out.old }
     // nothing is said at status 0
     ensures quiet { result.status ≡ 0 → faults.new ≡ faults.old }
     ensures range { result.status ≤ 3 }
 {
-    match choose(alloc, words) {
-        Ok(Job::Load(sched, amounts, shown)) => {
-            perform_load(loads, rt, alloc, sched, amounts, shown, writer, faults)
-        }
-        Ok(job) => perform(alloc, job, reader, writer, faults),
-        Err(NoJob::Memory) => Failure::Memory.report(faults),
-        Err(NoJob::Line(text)) => Ended {
-            status: COMMAND_LINE,
-            told: faults.write_all(text.as_bytes()).is_ok(),
-        },
-        Err(NoJob::Nothing) => Ended {
-            status: COMMAND_LINE,
-            told: faults.write_all(NO_JOB).is_ok(),
-        },
+    match answer(loads, rt, alloc, words, records) {
+        Ok(text) => put_out(text.as_slice(), out, faults),
+        Err(none) => none.report(faults),
     }
 }

@@ -1,34 +1,36 @@
-//! What each subcommand over a trace writes of it.
+//! The jobs over a trace.
 
-ghost use Rattle.std.specs.Prelude.{ℕ, ◌≡◌, ◌⊎◌, ◌<◌, ◌^◌, All, OnOk, IfErr, IfSome, MatchResult, List};
-ghost use Rattle.std.specs.Io.KnownBytes.{Appends};
-ghost use Rattle.blk_trace.specs.Depths.{IsFixed};
-ghost use Rattle.blk_lists.specs.Sources.{input_of};
-ghost use Rattle.blk_cli.specs.Statuses.{IsOfWriter};
-ghost use Rattle.blk_cli.specs.OfTraces.{IsReportText, IsCommandsText, IsLateText, IsMissesText, IsSpreadText, IsUntold, IsUnfixed, TraceWrote, TraceFails};
+ghost use Rattle.std.specs.Prelude.{◌≡◌, ◌<◌, ◌^◌, All, IfOk, IfErr};
+ghost use Rattle.blk_text.specs.TraceForm.{SpellsTrace, TraceFault};
+ghost use Rattle.blk_cli.specs.Inputs.{Of, FailsOver};
+ghost use Rattle.blk_cli.specs.OfTraces.{IsTold, IsUntold};
 
 use crate::failure::Failure;
-use blk_lists::{Records, write_commands};
-use blk_report::{late, misses, report, services, spread, write_late, write_misses, write_spread};
-use blk_text::read_trace;
+use blk_lists::{Records, commands_text};
+use blk_report::{
+    late, late_lines, misses, misses_lines, report, report_lines, services, spread, spread_lines,
+};
+use blk_text::{read_trace, trace_text};
 use blk_trace::Trace;
 use edd_check::Command;
 use std::alloc::Global;
-use std::io::{Read, Write};
+use std::io::Read;
 
-/// Writes the report of a trace.
-fn put_report<W: Write>(alloc: Global, trace: &Trace, writer: &mut W) -> Result<(), Failure>
-    ensures wrote { OnOk result ((text : List ℕ) × IsReportText trace.now text × Appends (W.contents writer.old) (W.contents writer.new) text) }
-    ensures untold { IfErr result (IsUntold ⊥) }
-    ensures kept { IfErr result (λ f. IsOfWriter f ⊎ (writer.new ≡ writer.old)) }
-{
-    let Ok(report) = report(trace) else {
-        return Err(Failure::Memory);
-    };
-    match blk_report::write(alloc, &report, writer) {
-        Ok(()) => Ok(()),
-        Err(fault) => Err(Failure::Write(fault)),
-    }
+/// What is told of a trace.
+#[derive(Clone, Copy, Debug, PartialEq, Eq)]
+pub enum Telling {
+    /// The trace itself, in the latest version.
+    Whole,
+    /// Its command list.
+    Commands,
+    /// Which of its commands were late, and what the rounds that they waited went to.
+    Late,
+    /// How many were late, and how many had to be.
+    Misses,
+    /// How long its commands waited and how late they were, by quantiles.
+    Spread,
+    /// How far it fell short.
+    Report,
 }
 
 /// A number of 64 bits is below 2^64.
@@ -47,62 +49,69 @@ fn each_fits(commands: &[Command])
     }
 }
 
-/// Writes the command list of a trace, which has one where no event sets a depth.
-fn put_commands<W: Write>(alloc: Global, trace: &Trace, writer: &mut W) -> Result<(), Failure>
-    ensures wrote { OnOk result ((text : List ℕ) × IsCommandsText trace.now text × Appends (W.contents writer.old) (W.contents writer.new) text) }
-    ensures untold { IfErr result (IsUntold (IsFixed trace.now.events → ⊥)) }
-    ensures kept { IfErr result (λ f. IsOfWriter f ⊎ (writer.new ≡ writer.old)) }
+/// The command list of a trace, which has one where no event sets a depth.
+fn list_of(alloc: Global, trace: &Trace) -> Result<Vec<u8>, Failure>
+    ensures text { IfOk result (λ text. IsTold Telling.Commands trace.now text.items) }
+    ensures untold { IfErr result (IsUntold Telling.Commands trace.now) }
 {
     if !trace.fixed() {
         return Err(Failure::NotFixed);
     }
-    let setup = trace.setup();
-    let depth = setup.depth();
     let Ok(commands) = trace.commands() else {
         return Err(Failure::Memory);
     };
+    let setup = trace.setup();
+    let depth = setup.depth();
     each_fits(commands.as_slice());
-    match write_commands(alloc, depth, commands.as_slice(), writer) {
-        Ok(()) => Ok(()),
-        Err(fault) => Err(Failure::Write(fault)),
+    match commands_text(alloc, depth, commands.as_slice()) {
+        Ok(text) => Ok(text),
+        Err(_) => Err(Failure::Memory),
     }
 }
 
-/// Writes which commands of a trace were late, and what the rounds that they waited went to.
-fn put_late<W: Write>(alloc: Global, trace: &Trace, writer: &mut W) -> Result<(), Failure>
-    ensures wrote { OnOk result ((text : List ℕ) × IsLateText trace.now text × Appends (W.contents writer.old) (W.contents writer.new) text) }
-    ensures untold { IfErr result (IsUntold ⊥) }
-    ensures kept { IfErr result (λ f. IsOfWriter f ⊎ (writer.new ≡ writer.old)) }
+/// The trace itself.
+fn whole_of(alloc: Global, trace: &Trace) -> Result<Vec<u8>, Failure>
+    ensures text { IfOk result (λ text. IsTold Telling.Whole trace.now text.items) }
+    ensures untold { IfErr result (IsUntold Telling.Whole trace.now) }
+{
+    match trace_text(alloc, trace) {
+        Ok(text) => Ok(text),
+        Err(_) => Err(Failure::Memory),
+    }
+}
+
+/// Which commands of a trace were late.
+fn late_of(alloc: Global, trace: &Trace) -> Result<Vec<u8>, Failure>
+    ensures text { IfOk result (λ text. IsTold Telling.Late trace.now text.items) }
+    ensures untold { IfErr result (IsUntold Telling.Late trace.now) }
 {
     let Ok(late) = late(trace) else {
         return Err(Failure::Memory);
     };
-    match write_late(alloc, late.as_slice(), writer) {
-        Ok(()) => Ok(()),
-        Err(fault) => Err(Failure::Write(fault)),
+    match late_lines(alloc, late.as_slice()) {
+        Ok(text) => Ok(text),
+        Err(_) => Err(Failure::Memory),
     }
 }
 
-/// Writes how many commands of a trace were late, and how many had to be.
-fn put_misses<W: Write>(alloc: Global, trace: &Trace, writer: &mut W) -> Result<(), Failure>
-    ensures wrote { OnOk result ((text : List ℕ) × IsMissesText trace.now text × Appends (W.contents writer.old) (W.contents writer.new) text) }
-    ensures untold { IfErr result (IsUntold ⊥) }
-    ensures kept { IfErr result (λ f. IsOfWriter f ⊎ (writer.new ≡ writer.old)) }
+/// How many commands of a trace were late.
+fn misses_of(alloc: Global, trace: &Trace) -> Result<Vec<u8>, Failure>
+    ensures text { IfOk result (λ text. IsTold Telling.Misses trace.now text.items) }
+    ensures untold { IfErr result (IsUntold Telling.Misses trace.now) }
 {
     let Ok(missed) = misses(trace) else {
         return Err(Failure::Memory);
     };
-    match write_misses(alloc, &missed, writer) {
-        Ok(()) => Ok(()),
-        Err(fault) => Err(Failure::Write(fault)),
+    match misses_lines(alloc, &missed) {
+        Ok(text) => Ok(text),
+        Err(_) => Err(Failure::Memory),
     }
 }
 
-/// Writes how long the commands of a trace waited, and how late they were.
-fn put_spread<W: Write>(alloc: Global, trace: &Trace, writer: &mut W) -> Result<(), Failure>
-    ensures wrote { OnOk result ((text : List ℕ) × IsSpreadText trace.now text × Appends (W.contents writer.old) (W.contents writer.new) text) }
-    ensures untold { IfErr result (IsUntold ⊥) }
-    ensures kept { IfErr result (λ f. IsOfWriter f ⊎ (writer.new ≡ writer.old)) }
+/// How long the commands of a trace waited, and how late they were.
+fn spread_of(alloc: Global, trace: &Trace) -> Result<Vec<u8>, Failure>
+    ensures text { IfOk result (λ text. IsTold Telling.Spread trace.now text.items) }
+    ensures untold { IfErr result (IsUntold Telling.Spread trace.now) }
 {
     let Ok(services) = services(trace) else {
         return Err(Failure::Memory);
@@ -110,93 +119,54 @@ fn put_spread<W: Write>(alloc: Global, trace: &Trace, writer: &mut W) -> Result<
     let Ok(spreads) = spread(alloc, services.as_slice()) else {
         return Err(Failure::Memory);
     };
-    match write_spread(alloc, &spreads, writer) {
-        Ok(()) => Ok(()),
-        Err(fault) => Err(Failure::Write(fault)),
+    match spread_lines(alloc, &spreads) {
+        Ok(text) => Ok(text),
+        Err(_) => Err(Failure::Memory),
     }
 }
 
-/// Reads a trace, and writes its report.
-pub fn report_trace<R: Read + Drop, W: Write>(
-    alloc: Global,
-    reader: R,
-    writer: &mut W,
-) -> Result<(), Failure>
-    ensures did { MatchResult result (λ _. IfSome (input_of (R.remaining reader)) (λ rows. TraceWrote IsReportText rows (W.contents writer.old) (W.contents writer.new)))
-        (TraceFails ⊥ (input_of (R.remaining reader))) }
-    ensures kept { IfErr result (λ f. IsOfWriter f ⊎ (writer.new ≡ writer.old)) }
+/// How far a trace fell short.
+fn report_of(alloc: Global, trace: &Trace) -> Result<Vec<u8>, Failure>
+    ensures text { IfOk result (λ text. IsTold Telling.Report trace.now text.items) }
+    ensures untold { IfErr result (IsUntold Telling.Report trace.now) }
 {
-    let trace = match read_trace(alloc, &mut Records::new(alloc, reader)) {
-        Ok(trace) => trace,
-        Err(fault) => return Err(Failure::Text(fault)),
+    let Ok(report) = report(trace) else {
+        return Err(Failure::Memory);
     };
-    put_report(alloc, &trace, writer)
+    match report_lines(alloc, &report) {
+        Ok(text) => Ok(text),
+        Err(_) => Err(Failure::Memory),
+    }
 }
 
-/// Reads a trace, and writes its command list, so that its least lateness gets a certificate of its own.
-pub fn list_commands<R: Read + Drop, W: Write>(
-    alloc: Global,
-    reader: R,
-    writer: &mut W,
-) -> Result<(), Failure>
-    ensures did { MatchResult result (λ _. IfSome (input_of (R.remaining reader)) (λ rows. TraceWrote IsCommandsText rows (W.contents writer.old) (W.contents writer.new)))
-        (TraceFails (IsUnfixed (input_of (R.remaining reader))) (input_of (R.remaining reader))) }
-    ensures kept { IfErr result (λ f. IsOfWriter f ⊎ (writer.new ≡ writer.old)) }
+/// What is told of a trace.
+fn told_of(alloc: Global, telling: Telling, trace: &Trace) -> Result<Vec<u8>, Failure>
+    ensures text { IfOk result (λ text. IsTold telling trace.now text.items) }
+    ensures untold { IfErr result (IsUntold telling trace.now) }
 {
-    let trace = match read_trace(alloc, &mut Records::new(alloc, reader)) {
-        Ok(trace) => trace,
-        Err(fault) => return Err(Failure::Text(fault)),
-    };
-    put_commands(alloc, &trace, writer)
+    match telling {
+        Telling::Whole => whole_of(alloc, trace),
+        Telling::Commands => list_of(alloc, trace),
+        Telling::Late => late_of(alloc, trace),
+        Telling::Misses => misses_of(alloc, trace),
+        Telling::Spread => spread_of(alloc, trace),
+        Telling::Report => report_of(alloc, trace),
+    }
 }
 
-/// Reads a trace, and writes which of its commands were late, and what the rounds that they waited went to.
-pub fn list_late<R: Read + Drop, W: Write>(
+/// Reads a trace, and tells this of it.
+pub fn over_trace<R: Read + Drop>(
     alloc: Global,
-    reader: R,
-    writer: &mut W,
-) -> Result<(), Failure>
-    ensures did { MatchResult result (λ _. IfSome (input_of (R.remaining reader)) (λ rows. TraceWrote IsLateText rows (W.contents writer.old) (W.contents writer.new)))
-        (TraceFails ⊥ (input_of (R.remaining reader))) }
-    ensures kept { IfErr result (λ f. IsOfWriter f ⊎ (writer.new ≡ writer.old)) }
+    telling: Telling,
+    records: &mut Records<R>,
+) -> Result<Vec<u8>, Failure>
+    requires { records.old.at ≡ 0 }
+    ensures text { IfOk result (λ text. Of SpellsTrace (IsTold telling) records.old.left text.items) }
+    ensures fails { IfErr result (FailsOver SpellsTrace TraceFault (IsUntold telling) records.old.left records.new.failed) }
 {
-    let trace = match read_trace(alloc, &mut Records::new(alloc, reader)) {
+    let trace = match read_trace(alloc, records) {
         Ok(trace) => trace,
         Err(fault) => return Err(Failure::Text(fault)),
     };
-    put_late(alloc, &trace, writer)
-}
-
-/// Reads a trace, and writes how many of its commands were late, and how many had to be.
-pub fn count_misses<R: Read + Drop, W: Write>(
-    alloc: Global,
-    reader: R,
-    writer: &mut W,
-) -> Result<(), Failure>
-    ensures did { MatchResult result (λ _. IfSome (input_of (R.remaining reader)) (λ rows. TraceWrote IsMissesText rows (W.contents writer.old) (W.contents writer.new)))
-        (TraceFails ⊥ (input_of (R.remaining reader))) }
-    ensures kept { IfErr result (λ f. IsOfWriter f ⊎ (writer.new ≡ writer.old)) }
-{
-    let trace = match read_trace(alloc, &mut Records::new(alloc, reader)) {
-        Ok(trace) => trace,
-        Err(fault) => return Err(Failure::Text(fault)),
-    };
-    put_misses(alloc, &trace, writer)
-}
-
-/// Reads a trace, and writes how long its commands waited and how late they were, by quantiles.
-pub fn spread_trace<R: Read + Drop, W: Write>(
-    alloc: Global,
-    reader: R,
-    writer: &mut W,
-) -> Result<(), Failure>
-    ensures did { MatchResult result (λ _. IfSome (input_of (R.remaining reader)) (λ rows. TraceWrote IsSpreadText rows (W.contents writer.old) (W.contents writer.new)))
-        (TraceFails ⊥ (input_of (R.remaining reader))) }
-    ensures kept { IfErr result (λ f. IsOfWriter f ⊎ (writer.new ≡ writer.old)) }
-{
-    let trace = match read_trace(alloc, &mut Records::new(alloc, reader)) {
-        Ok(trace) => trace,
-        Err(fault) => return Err(Failure::Text(fault)),
-    };
-    put_spread(alloc, &trace, writer)
+    told_of(alloc, telling, &trace)
 }

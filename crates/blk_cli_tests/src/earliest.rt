@@ -1,7 +1,9 @@
 //! What the program tells of its own simulations under `earliest`.
 
 use crate::given::NoMemory;
+use blk_lists::Records;
 use blk_online_cli::{misses_of_late_last, report_of_earliest};
+use drafts::Output;
 
 /// At depth 1 two reads, due in the round in which they come, and a write, due one round on.
 const SCRIPT: &str =
@@ -16,15 +18,15 @@ const MISSES: &str = "commands 3\nlate 1\nunavoidable 1\navoidable 0\n";
 
 #[test]
 fn reports_no_shortfall(rt: HostRuntime) {
-    let mut told = Vec::new(rt.alloc());
-    let mut faults = Vec::new(rt.alloc());
+    let mut told: Vec<u8> = Vec::new(rt.alloc());
+    let mut faults: Vec<u8> = Vec::new(rt.alloc());
     let ended = report_of_earliest(
         &NoMemory,
         &rt,
         rt.alloc(),
-        SCRIPT.as_bytes(),
-        &mut told,
-        &mut faults,
+        &mut Records::new(rt.alloc(), SCRIPT.as_bytes()),
+        &mut Output::new(&mut told),
+        &mut Output::new(&mut faults),
     )
     .expect(&rt, "memory");
     assert!(rt; ended.status == 0);
@@ -33,15 +35,15 @@ fn reports_no_shortfall(rt: HostRuntime) {
 
 #[test]
 fn counts_none_avoidable(rt: HostRuntime) {
-    let mut told = Vec::new(rt.alloc());
-    let mut faults = Vec::new(rt.alloc());
+    let mut told: Vec<u8> = Vec::new(rt.alloc());
+    let mut faults: Vec<u8> = Vec::new(rt.alloc());
     let ended = misses_of_late_last(
         &NoMemory,
         &rt,
         rt.alloc(),
-        SCRIPT.as_bytes(),
-        &mut told,
-        &mut faults,
+        &mut Records::new(rt.alloc(), SCRIPT.as_bytes()),
+        &mut Output::new(&mut told),
+        &mut Output::new(&mut faults),
     )
     .expect(&rt, "memory");
     assert!(rt; ended.status == 0);

@@ -1,7 +1,9 @@
 //! What the tests are given: runs of the program over readers and writers that fail.
 
 use blk_cli::run;
+use blk_lists::Records;
 use blk_settings::{Load, LoadFault, Loaded, Loads, Sched, Unsettled};
+use drafts::Output;
 use std::alloc::Global;
 use std::io;
 use std::io::{ErrorKind, Read, Write};
@@ -103,5 +105,14 @@ pub fn status_of<T: Abort + Threads + Wait + Sync, R: Read + Drop, W: Write, F: 
     faults: &mut F,
 ) -> u8 {
     let words = words_of(rt, alloc, words);
-    run(&NoMemory, rt, alloc, words.as_slice(), reader, out, faults).status
+    run(
+        &NoMemory,
+        rt,
+        alloc,
+        words.as_slice(),
+        &mut Records::new(alloc, reader),
+        &mut Output::new(out),
+        &mut Output::new(faults),
+    )
+    .status
 }

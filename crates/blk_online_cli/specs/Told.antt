@@ -1,8 +1,8 @@
 -- From the bytes of a script to what the program tells of its trace.
-use Rattle.std.specs.Prelude.{ℕ, ◌≡◌, ◌↔◌, ◌⊎◌, ◌∷◌, List, [], Bool, true, false, Option, Some, pos, All, codes}
-use Rattle.std.specs.Io.KnownBytes.{Appends}
+use Rattle.std.specs.Prelude.{ℕ, ◌≡◌, ◌↔◌, ◌⊎◌, ◌∷◌, List, [], Bool, true, false, Some, pos, All, codes}
+use Rattle.drafts.specs.Outputs.{Stream, IsWritten}
 use Rattle.csv.specs.Reading.{default_config, records, strip_bom}
-use Rattle.blk_lists.specs.Sources.{Row, input_of}
+use Rattle.blk_lists.specs.Sources.{Row}
 use Rattle.blk_trace.specs.Traces.{Traced}
 use Rattle.blk_text.specs.Script.{Scripted, SpellsScript}
 use Rattle.blk_text.specs.TraceForm.{SpellsTrace}
@@ -25,30 +25,31 @@ SpellByRounds bytes = (script : Scripted) × SpellsScript (rows_in bytes) script
 abbrev pub AskAlone : List (List ℕ) → Job → Type 0
 AskAlone words job = (j : Job) → Asks words j ↔ (j ≡ job)
 
--- a run of the program on these words, which reads these bytes, ended with status 0, and left the writer so
-pub record EndsWell (words : List (List ℕ)) (bytes : List ℕ) (old new : Option (List ℕ)) : Type 0 where
-  pub faults_old : Option (List ℕ)
-  pub faults_new : Option (List ℕ)
+-- a run of the program on these words, which reads these bytes, ended with status 0, and left its output so
+pub record EndsWell (words : List (List ℕ)) (bytes : List ℕ) (old new : Stream) : Type 0 where
+  pub read_failed : Bool
+  pub faults_old : Stream
+  pub faults_new : Stream
   pub ended : Ended
-  pub runs : RunEnds words (input_of (Some bytes)) old new faults_old faults_new ended
+  pub runs : RunEnds words (Some (rows_in bytes)) read_failed old new faults_old faults_new ended
   pub good : ended.status ≡ 0
 
 -- the report of the trace that the bytes spell was written: its shortfall is 0, or there are no commands
-pub record ReportsNoShortfall (bytes : List ℕ) (old new : Option (List ℕ)) : Type 0 where
+pub record ReportsNoShortfall (bytes : List ℕ) (old new : Stream) : Type 0 where
   pub trace : Traced
   pub text : List ℕ
   pub spelled : SpellsTrace (rows_in bytes) trace
   pub is_text : IsReportText trace text
-  pub wrote : Appends old new text
+  pub wrote : IsWritten text old new
   pub none_short : (is_text.report.commands ≡ 0) ⊎ (is_text.report.shortfall ≡ Some (pos 0))
 
 -- what is said of the misses of that trace was written: none of them is avoidable
-pub record CountsNoneAvoidable (bytes : List ℕ) (old new : Option (List ℕ)) : Type 0 where
+pub record CountsNoneAvoidable (bytes : List ℕ) (old new : Stream) : Type 0 where
   pub trace : Traced
   pub text : List ℕ
   pub spelled : SpellsTrace (rows_in bytes) trace
   pub is_text : IsMissesText trace text
-  pub wrote : Appends old new text
+  pub wrote : IsWritten text old new
   pub none_avoidable : is_text.tally.avoidable ≡ 0
 
 -- the words for a simulation under earliest, for a report and for the misses

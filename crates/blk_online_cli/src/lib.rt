@@ -2,13 +2,16 @@
 //! shortfall, and with late last no avoidable miss.
 #![tactic(auto)]
 
-ghost use Rattle.std.specs.Prelude.{◌≡◌, ◌++◌, ℕ, false, true, List, Option, Some, IfOk, map, string_bytes};
-ghost use Rattle.blk_online_cli.specs.Told.{SpellByRounds, AskAlone, EndsWell, ReportsNoShortfall, CountsNoneAvoidable, sim_words, report_words, misses_words};
+ghost use Rattle.std.specs.Prelude.{◌≡◌, ◌++◌, ℕ, false, true, List, Some, IfOk, map, string_bytes};
+ghost use Rattle.drafts.specs.Outputs.{Stream, stream_of};
+ghost use Rattle.blk_online_cli.specs.Told.{SpellByRounds, AskAlone, EndsWell, ReportsNoShortfall, CountsNoneAvoidable, rows_in, sim_words, report_words, misses_words};
 
-use blk_cli::{Ended, run};
+use blk_cli::{Ended, answer, run};
+use blk_lists::Records;
 use blk_settings::{Loads, Sched};
 use blk_words::Job;
 use blk_words::asking::plain_lines;
+use drafts::Output;
 use std::alloc::{AllocError, Global};
 use std::io::{Read, Write};
 use std::sync::Wait;
@@ -20,9 +23,9 @@ use std::thread::Threads;
 ///
 /// A law of [`run`]: it does nothing when it runs, and a caller has its clause.
 pub fn law_of_reports()
-    ensures { (words again : List (List ℕ)) → (script before trace : List ℕ) → (old new : Option (List ℕ))
+    ensures { (words again : List (List ℕ)) → (script before trace : List ℕ) → (one two old new : Stream)
         → AskAlone words (Job.Sim (Sched.Earliest false)) → AskAlone again Job.Report
-        → SpellByRounds script → EndsWell words script (Some before) (Some (before ++ trace))
+        → SpellByRounds script → EndsWell words script one two → one.held ≡ Some before → two.held ≡ Some (before ++ trace)
         → EndsWell again trace old new → ReportsNoShortfall trace old new }
 {}
 
@@ -30,9 +33,9 @@ pub fn law_of_reports()
 ///
 /// A law of [`run`]: it does nothing when it runs, and a caller has its clause.
 pub fn law_of_misses()
-    ensures { (words again : List (List ℕ)) → (script before trace : List ℕ) → (old new : Option (List ℕ))
+    ensures { (words again : List (List ℕ)) → (script before trace : List ℕ) → (one two old new : Stream)
         → AskAlone words (Job.Sim (Sched.Earliest true)) → AskAlone again Job.Misses
-        → SpellByRounds script → EndsWell words script (Some before) (Some (before ++ trace))
+        → SpellByRounds script → EndsWell words script one two → one.held ≡ Some before → two.held ≡ Some (before ++ trace)
         → EndsWell again trace old new → CountsNoneAvoidable trace old new }
 {}
 
@@ -72,83 +75,69 @@ fn to_count(alloc: Global) -> Result<Vec<String>, AllocError>
     Ok(words)
 }
 
-/// `blk sim --sched earliest`, and `blk oracle --trace` on what that wrote: of a script by rounds the report has the shortfall 0, or
-/// there are no commands. Answers how the second run ended, or the first where that did not end with status 0, and refuses for want
-/// of memory for the words.
+/// `blk sim --sched earliest`, and `blk oracle --trace` on what that answers: of a script by rounds the report has the shortfall 0, or
+/// there are no commands. Answers how the second run ended, or the first where it has no text, and refuses for want of memory for the
+/// words.
 pub fn report_of_earliest<L: Loads, T: Threads + Wait + Sync, R: Read + Drop, W: Write, F: Write>(
     loads: &L,
     rt: &T,
     alloc: Global,
-    reader: R,
-    writer: &mut W,
-    faults: &mut F,
+    records: &mut Records<R>,
+    out: &mut Output<W>,
+    faults: &mut Output<F>,
 ) -> Result<Ended, AllocError>
-    ensures { (script : List ℕ) → R.remaining reader ≡ Some script → SpellByRounds script
-        → IfOk result (λ ended. ended.status ≡ 0 → (trace : List ℕ) × ReportsNoShortfall trace (W.contents writer.old) (W.contents writer.new)) }
+    requires { records.old.at ≡ 0 }
+    ensures { (script : List ℕ) → records.old.left ≡ Some (rows_in script) → SpellByRounds script
+        → IfOk result (λ ended. ended.status ≡ 0 → (trace : List ℕ) × ReportsNoShortfall trace (stream_of W.contents out.old) (stream_of W.contents out.new)) }
 {
     plain_lines();
     let first = to_simulate(alloc, false)?;
     let second = to_report(alloc)?;
-    let mut trace: Vec<u8> = Vec::new(alloc);
-    let ended = run(
-        loads,
-        rt,
-        alloc,
-        first.as_slice(),
-        reader,
-        &mut trace,
-        faults,
-    );
-    if ended.status != 0 {
-        return Ok(ended);
-    }
+    let trace = match answer(loads, rt, alloc, first.as_slice(), records) {
+        Ok(trace) => trace,
+        Err(none) => return Ok(none.report(faults)),
+    };
+    let mut traced = Records::new(alloc, trace.as_slice());
     Ok(run(
         loads,
         rt,
         alloc,
         second.as_slice(),
-        trace.as_slice(),
-        writer,
+        &mut traced,
+        out,
         faults,
     ))
 }
 
-/// `blk sim --sched earliest --late-last`, and `blk misses` on what that wrote: of a script by rounds none of the misses is
+/// `blk sim --sched earliest --late-last`, and `blk misses` on what that answers: of a script by rounds none of the misses is
 /// avoidable. Answers as [`report_of_earliest`] does.
 pub fn misses_of_late_last<L: Loads, T: Threads + Wait + Sync, R: Read + Drop, W: Write, F: Write>(
     loads: &L,
     rt: &T,
     alloc: Global,
-    reader: R,
-    writer: &mut W,
-    faults: &mut F,
+    records: &mut Records<R>,
+    out: &mut Output<W>,
+    faults: &mut Output<F>,
 ) -> Result<Ended, AllocError>
-    ensures { (script : List ℕ) → R.remaining reader ≡ Some script → SpellByRounds script
-        → IfOk result (λ ended. ended.status ≡ 0 → (trace : List ℕ) × CountsNoneAvoidable trace (W.contents writer.old) (W.contents writer.new)) }
+    requires { records.old.at ≡ 0 }
+    ensures { (script : List ℕ) → records.old.left ≡ Some (rows_in script) → SpellByRounds script
+        → IfOk result (λ ended. ended.status ≡ 0 → (trace : List ℕ) × CountsNoneAvoidable trace (stream_of W.contents out.old) (stream_of W.contents out.new)) }
 {
     plain_lines();
     let first = to_simulate(alloc, true)?;
     let second = to_count(alloc)?;
-    let mut trace: Vec<u8> = Vec::new(alloc);
-    let ended = run(
-        loads,
-        rt,
-        alloc,
-        first.as_slice(),
-        reader,
-        &mut trace,
-        faults,
-    );
-    if ended.status != 0 {
-        return Ok(ended);
-    }
+    let trace = match answer(loads, rt, alloc, first.as_slice(), records) {
+        Ok(trace) => trace,
+        Err(none) => return Ok(none.report(faults)),
+    };
+    let mut traced = Records::new(alloc, trace.as_slice());
     Ok(run(
         loads,
         rt,
         alloc,
         second.as_slice(),
-        trace.as_slice(),
-        writer,
+        &mut traced,
+        out,
         faults,
     ))
 }

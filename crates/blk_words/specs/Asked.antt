@@ -1,5 +1,5 @@
 -- What the words of a command line ask for.
-use Rattle.std.specs.Prelude.{◌≡◌, ◌≢◌, ◌⊎◌, ◌&&◌, ◌∷◌, ℕ, Bool, false, not, List, [], find, Option, Some, None, codes, option_map, option_and_then, if◌then◌else◌}
+use Rattle.std.specs.Prelude.{◌≡◌, ◌≢◌, ◌⊎◌, ◌&&◌, ◌∷◌, ⊤, ℕ, Bool, false, not, List, [], find, Option, Some, None, codes, option_map, option_and_then, if◌then◌else◌}
 use Rattle.std.specs.Option.{option_map_or}
 use Rattle.std.specs.Str.{bytes_eq}
 use Rattle.std.specs.Str.Parse.{digits_value, without_leading_plus}
@@ -15,6 +15,8 @@ use Rattle.blk_settings.specs.declared.sched.Sched.{Sched}
 use Rattle.blk_settings.specs.declared.sched.Sched.TheVariants as sched
 use Rattle.blk_words.specs.declared.words.Job.{Job}
 use Rattle.blk_words.specs.declared.words.Job.TheVariants as job
+use Rattle.blk_words.specs.declared.words.NoJob.{NoJob}
+use Rattle.blk_words.specs.declared.words.NoJob.TheVariants as no
 use Rattle.blk_words.specs.declared.words.Shown.{Shown}
 use Rattle.blk_words.specs.declared.words.Shown.TheVariants as shown
 use Rattle.blk_words.specs.declared.table.Makes.{Makes}
@@ -113,16 +115,27 @@ TakesFor names words j =
     ((fault_of (blk_app names) words ≡ []) × (job_read names words ≡ Some j))
     ⊎ (IsAmong kind.DisplayVersion (fault_of (blk_app names) words) × (j ≡ job.Version))
 
--- the command line finds a fault in the words, which is no question for the version, or reads no job in them
-abbrev pub Refuses : Names → List Text → Type 0
-Refuses names words =
-    ((k : ErrorKind) × IsAmong k (fault_of (blk_app names) words) × (k ≢ kind.DisplayVersion))
-    ⊎ ((fault_of (blk_app names) words ≡ []) × (job_read names words ≡ None))
+-- the command line finds a fault in the words, which is no question for the version
+abbrev pub FindsFault : Names → List Text → Type 0
+FindsFault names words = (k : ErrorKind) × IsAmong k (fault_of (blk_app names) words) × (k ≢ kind.DisplayVersion)
+
+-- it finds none, and reads no job in them
+abbrev pub ReadsNone : Names → List Text → Type 0
+ReadsNone names words = (fault_of (blk_app names) words ≡ []) × (job_read names words ≡ None)
 
 -- the words ask for this job
 abbrev pub Asks : List Text → Job → Type 0
 Asks words j = (names : Names) × AreSchedulers names × TakesFor names words j
 
--- the words ask for nothing
-abbrev pub AreRefused : List Text → Type 0
-AreRefused words = (names : Names) × AreSchedulers names × Refuses names words
+-- the words ask for nothing: they have a fault, or name no job
+abbrev pub AreFaulty : List Text → Type 0
+AreFaulty words = (names : Names) × AreSchedulers names × FindsFault names words
+
+abbrev pub NameNone : List Text → Type 0
+NameNone words = (names : Names) × AreSchedulers names × ReadsNone names words
+
+-- why there is no job
+abbrev pub IsNoJob : List Text → NoJob → Type 0
+IsNoJob words no.Memory = ⊤
+IsNoJob words (no.Line text) = AreFaulty words
+IsNoJob words no.Nothing = NameNone words

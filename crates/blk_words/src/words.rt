@@ -1,12 +1,12 @@
 //! The words of the command line, as a job.
 
-ghost use Rattle.std.specs.Prelude.{◌≡◌, ◌⊎◌, false, fold, find, map, IfOk, IfErr, option_map, option_and_then, codes, string_bytes};
+ghost use Rattle.std.specs.Prelude.{◌≡◌, false, fold, find, map, IfOk, IfErr, option_map, option_and_then, codes, string_bytes};
 ghost use Rattle.std.specs.Str.{bytes_eq};
 ghost use Rattle.clap.specs.Words.{app_of, rule_of, rows_of, found_of, subcommand_rows_of, with_rule};
 ghost use Rattle.clap.specs.declared.builder.command.Command.TheViews.{out-Command as fields_of};
 ghost use Rattle.blk_settings.specs.Rows.{name_of};
 ghost use Rattle.blk_words.specs.Line.{Names, AreSchedulers, rule_for, subcommand_of, app_for, with_one, blk_app};
-ghost use Rattle.blk_words.specs.Asked.{Asks, AreRefused, short_given, number_given, is_flagged, tunables_of, targets_of, sched_of, earliest_of, compared, amounts_of, shown_of, loaded, oracle_job, job_made, job_of};
+ghost use Rattle.blk_words.specs.Asked.{Asks, IsNoJob, short_given, number_given, is_flagged, tunables_of, targets_of, sched_of, earliest_of, compared, amounts_of, shown_of, loaded, oracle_job, job_made, job_of};
 
 use crate::table::{COMMANDS, CommandRow, Makes, OptionRow, SCHEDULERS, TUNING, Takes};
 use blk_deadline::Tunables;
@@ -72,7 +72,7 @@ pub enum NoJob {
     Memory,
     /// The words are no command line of the program, or ask for its help: what clap says of them.
     Line(String),
-    /// Its flags exclude one another: `oracle --trace --met`.
+    /// They are taken and name no job: flags exclude one another, those of `oracle --trace --met`.
     Nothing,
 }
 
@@ -374,7 +374,7 @@ fn job_of(matches: &ArgMatches<'_>) -> Option<Job>
 /// What the words ask for; the first of them is the program's name.
 pub fn choose(alloc: Global, words: &[String]) -> Result<Job, NoJob>
     ensures asked { IfOk result (Asks (map string_bytes words.now)) }
-    ensures refused { IfErr result (λ why. (why ≡ NoJob.Memory) ⊎ AreRefused (map string_bytes words.now)) }
+    ensures refused { IfErr result (IsNoJob (map string_bytes words.now)) }
 {
     let Ok(command) = blk_command(alloc) else {
         return Err(NoJob::Memory);

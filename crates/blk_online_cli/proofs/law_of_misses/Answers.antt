@@ -1,5 +1,5 @@
-use Rattle.blk_online_cli.proofs.Telling.{misses}
+use Rattle.blk_online_cli.proofs.Telling.{misses_again}
 use Rattle.blk_online_cli.proofs.law_of_misses.Goals as goal
 
 pub returns : goal.returns
-returns c = misses
+returns c = misses_again

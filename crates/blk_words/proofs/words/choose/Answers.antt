@@ -1,4 +1,3 @@
-use Rattle.std.proofs.Common.{inr}
 use Rattle.blk_words.proofs.Lines.{asks_by, refused_by, line_by, version_by}
 use Rattle.blk_words.proofs.words.choose.Goals as goal
 
@@ -7,7 +6,7 @@ returns-in-Ok-try_get_matches_from-clause-refused c =
     let e = c.in-Ok.ensures in
     let m = c.in-Ok-try_get_matches_from in
     let none = c.in-None.ensures e.0 in
-    inr (refused_by e.0 _ _ m.matches e.1 e.2 m.ensures.matches m.ensures.kinds none)
+    refused_by e.0 _ _ m.matches e.1 e.2 m.ensures.matches m.ensures.kinds none
 
 pub returns-in-Some-clause-asked : goal.returns-in-Some-clause-asked
 returns-in-Some-clause-asked c =
@@ -26,5 +25,5 @@ returns-in-Ok-format c =
     let m = c.in-Err.ensures in
     record {
       asked = tt;
-      refused = inr (line_by e.0 _ _ c.in-Err.error c.kind.result e.1 e.2 m.kinds c.kind.ensures c.in_default-kind.not-OutOfMemory c.in_default-kind.not-DisplayVersion);
+      refused = line_by e.0 _ _ c.in-Err.error c.kind.result e.1 e.2 m.kinds c.kind.ensures c.in_default-kind.not-OutOfMemory c.in_default-kind.not-DisplayVersion;
     }

@@ -1,0 +1,120 @@
+-- Certificates: what one proves, what is written of a list, and the line on one that was checked.
+use Rattle.std.specs.Prelude.{◌≡◌, ◌↔◌, ◌*◌, ◌++◌, ◌∷◌, ⊤, ℕ, ℤ, pos, ◌+ℤ◌, List, [], length, Option, None, Some, Err, IfSome, codes, decimal}
+use Rattle.std.specs.Fmt.{signed_decimal}
+use Rattle.edd_check.specs.declared.Command.{Command}
+use Rattle.edd_check.specs.declared.CheckFault.{CheckFault}
+use Rattle.edd_check.specs.declared.met.MetFault.{MetFault}
+use Rattle.edd_check.specs.declared.Window.{Window}
+use Rattle.edd_check.specs.Capacity.{fixed}
+use Rattle.edd_check.specs.Check.{IsAnswer}
+use Rattle.edd_check.specs.CheckMet.{IsMetAnswer}
+use Rattle.edd_check.specs.Met.{carried_by, outside_of}
+use Rattle.edd_check.specs.Schedule.{IsLegal, IsGreatestLateness, IsLeastLateness}
+use Rattle.edd_check.specs.Window.{IsCrowded, load_of, rounds_between}
+use Rattle.edd_oracle.specs.Input.{IsRefusal}
+use Rattle.edd_oracle.specs.Met.{IsMostAnswer}
+use Rattle.blk_lists.specs.Sources.{Row}
+use Rattle.blk_lists.specs.Texts.{rows_text}
+use Rattle.blk_lists.specs.Commands.{SpellsCommands}
+use Rattle.blk_lists.specs.Certificate.{Claim, claim_rows, SpellsClaim}
+use Rattle.blk_lists.specs.Met.{MetClaim, met_rows, SpellsMet}
+use Rattle.blk_lists.specs.Proof.{ProofClaim, OfLateness, OfMet}
+use Rattle.blk_cli.specs.declared.failure.Failure.{Failure}
+use Rattle.blk_cli.specs.declared.failure.Failure.TheVariants as failure
+use Rattle.blk_cli.specs.declared.lists.Solving.{Solving}
+use Rattle.blk_cli.specs.declared.lists.Solving.TheVariants as solving
+
+-- the schedule is legal, its greatest lateness is the one stated, the window is crowded at it, and it is least
+pub record IsProof (commands : List Command) (depth : ℕ) (rounds : List ℕ) (late : ℤ) (window : Window) : Type 0 where
+  pub legal : IsLegal commands rounds (fixed depth)
+  pub greatest : IsGreatestLateness commands rounds late
+  pub crowded : IsCrowded commands (fixed depth) late window
+  pub least : IsLeastLateness commands (fixed depth) late
+
+-- a certificate without a bound exactly where it has no commands, that proves its lateness least where it has some
+pub record IsProved (claim : Claim) : Type 0 where
+  pub no_bound : (claim.bound ≡ None) ↔ (claim.commands ≡ [])
+  pub proves : IfSome claim.bound (λ b. IsProof claim.commands claim.depth claim.rounds b.0 b.1)
+
+-- the schedule is legal and meets the number stated, the windows are disjoint, and their bound is that number, so that no legal
+-- schedule meets more
+abbrev pub IsMetProved : MetClaim → Type 0
+IsMetProved claim = IsMostAnswer claim.commands (fixed claim.depth) claim.rounds claim.met claim.cover
+
+-- the records spell a command list: its depth and its commands
+abbrev pub SpellsList : List Row → ℕ × List Command → Type 0
+SpellsList rows list = SpellsCommands rows list.0 list.1
+
+-- what `oracle` writes: the text that spells a certificate of the list's depth and commands that is proved; and with `--met`
+pub record IsLeastText (list : ℕ × List Command) (text : List ℕ) : Type 0 where
+  pub claim : Claim
+  pub same_depth : claim.depth ≡ list.0
+  pub same_commands : claim.commands ≡ list.1
+  pub proved : IsProved claim
+  pub spelled : SpellsClaim (claim_rows claim) claim
+  pub is_text : text ≡ rows_text (claim_rows claim)
+
+pub record IsMostText (list : ℕ × List Command) (text : List ℕ) : Type 0 where
+  pub claim : MetClaim
+  pub same_depth : claim.depth ≡ list.0
+  pub same_commands : claim.commands ≡ list.1
+  pub proved : IsMetProved claim
+  pub spelled : SpellsMet (met_rows claim) claim
+  pub is_text : text ≡ rows_text (met_rows claim)
+
+abbrev pub IsSolved : Solving → ℕ × List Command → List ℕ → Type 0
+IsSolved solving.Least list text = IsLeastText list text
+IsSolved solving.Most list text = IsMostText list text
+
+-- why a list is not solved
+abbrev pub IsUnsolved : ℕ × List Command → Failure → Type 0
+IsUnsolved list (failure.Solve f) = IsRefusal list.1 f
+IsUnsolved list failure.Memory = ⊤
+IsUnsolved list f = ⊥
+
+-- the line on a certificate: how late it is, and what its window holds and carries
+abbrev pub bound_line : ℤ → ℕ → ℕ → List ℕ
+bound_line late load carries =
+    codes "ok lateness " ++ (signed_decimal late ++ (codes " load " ++ (decimal load ++ (codes " carries " ++ (decimal carries ++ 10 ∷ [])))))
+
+abbrev pub verdict_of : Claim → Option (ℤ × Window) → List ℕ
+verdict_of claim None = codes "ok no commands" ++ 10 ∷ []
+verdict_of claim (Some b) = bound_line b.0 (load_of claim.commands b.1) (claim.depth * rounds_between b.1.from (pos b.1.due +ℤ b.0))
+
+-- the check refuses the certificate that was read, which has a bound
+abbrev pub IsRefusedBound : Claim → CheckFault → Option (ℤ × Window) → Type 0
+IsRefusedBound claim f b = (late : ℤ) × (window : Window) × (b ≡ Some (late, window))
+    × IsAnswer claim.commands (fixed claim.depth) late claim.rounds window (Err f)
+
+-- the line on such a certificate: how many commands are met and how many there are, how many windows, what these carry, and how many
+-- commands that can be met lie in none
+abbrev pub met_line : ℕ → ℕ → ℕ → ℕ → ℕ → List ℕ
+met_line met count windows carried rest =
+    codes "ok met " ++ (decimal met ++ (codes " of " ++ (decimal count ++ (codes " windows " ++ (decimal windows ++ (codes " carry " ++ (decimal carried ++ (codes " and " ++ (decimal rest ++ (codes " outside" ++ 10 ∷ []))))))))))
+
+abbrev pub met_verdict_of : MetClaim → List ℕ
+met_verdict_of claim = met_line claim.met (length claim.commands) (length claim.cover) (carried_by (fixed claim.depth) claim.cover) (outside_of claim.commands claim.cover)
+
+-- the check refuses one of what is met
+abbrev pub IsRefusedMet : MetClaim → MetFault → Type 0
+IsRefusedMet claim f = IsMetAnswer claim.commands (fixed claim.depth) claim.rounds claim.met claim.cover (Err f)
+
+-- what `check` writes: the line on a certificate of either form, which is proved
+abbrev pub IsVerdict : ProofClaim → List ℕ → Type 0
+IsVerdict (OfLateness claim) text = IsProved claim × (text ≡ verdict_of claim claim.bound)
+IsVerdict (OfMet claim) text = IsMetProved claim × (text ≡ met_verdict_of claim)
+
+-- why a certificate is not proved
+abbrev pub IsUnproved : Claim → Failure → Type 0
+IsUnproved claim (failure.Check f) = IsRefusedBound claim f claim.bound
+IsUnproved claim failure.Memory = ⊤
+IsUnproved claim f = ⊥
+
+abbrev pub IsUnmet : MetClaim → Failure → Type 0
+IsUnmet claim (failure.Met f) = IsRefusedMet claim f
+IsUnmet claim failure.Memory = ⊤
+IsUnmet claim f = ⊥
+
+abbrev pub IsBad : ProofClaim → Failure → Type 0
+IsBad (OfLateness claim) f = IsUnproved claim f
+IsBad (OfMet claim) f = IsUnmet claim f

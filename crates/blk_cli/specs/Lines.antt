@@ -1,0 +1,147 @@
+-- The line and the status of each failure.
+use Rattle.std.specs.Prelude.{◌++◌, ◌∷◌, ℕ, Bool, true, false, if◌then◌else◌, List, [], codes, decimal}
+use Rattle.std.specs.Fmt.{signed_decimal}
+use Rattle.edd_check.specs.declared.CheckFault.{CheckFault}
+use Rattle.edd_check.specs.declared.CheckFault.TheVariants as check
+use Rattle.edd_check.specs.declared.met.MetFault.{MetFault}
+use Rattle.edd_check.specs.declared.met.MetFault.TheVariants as met
+use Rattle.edd_oracle.specs.declared.OracleFault.{OracleFault}
+use Rattle.edd_oracle.specs.declared.OracleFault.TheVariants as oracle
+use Rattle.edd_check.specs.Names.{check_fault_name, met_fault_name}
+use Rattle.edd_oracle.specs.Names.{oracle_fault_name}
+use Rattle.blk_settings.specs.Names.{load_fault_name, sched_fault_name}
+use Rattle.blk_lists.specs.Names.{why_name}
+use Rattle.blk_sim.specs.Names.{step_name}
+use Rattle.blk_settings.specs.declared.sched.SchedFault.{SchedFault}
+use Rattle.blk_settings.specs.declared.sched.SchedFault.TheVariants as setting
+use Rattle.blk_settings.specs.declared.fault.LoadFault.{LoadFault}
+use Rattle.blk_settings.specs.declared.fault.LoadFault.TheVariants as load
+use Rattle.blk_lists.specs.declared.fault.Why.{Why}
+use Rattle.blk_lists.specs.declared.fault.Why.TheVariants as why
+use Rattle.blk_sim.specs.declared.refusal.SimWhy.{SimWhy}
+use Rattle.blk_sim.specs.declared.refusal.SimWhy.TheVariants as step
+use Rattle.blk_cli.specs.declared.failure.Failure.{Failure}
+use Rattle.blk_cli.specs.declared.failure.Failure.TheVariants as failure
+
+-- lines: of a text after the program's name, of a name with a number, and of a name at a record
+abbrev pub line : List ℕ → List ℕ
+line text = codes "blk: " ++ (text ++ 10 ∷ [])
+
+abbrev pub numbered : List ℕ → List ℕ → List ℕ
+numbered name number = codes "blk: " ++ (name ++ (codes " " ++ (number ++ 10 ∷ [])))
+
+abbrev pub at_record : ℕ → List ℕ → List ℕ
+at_record at name = codes "blk: record " ++ (decimal at ++ (codes ": " ++ (name ++ 10 ∷ [])))
+
+-- where the reader or the writer failed, where memory ran out, and where flags exclude one another
+abbrev pub read_fault : List ℕ
+read_fault = line (codes "read fault")
+
+abbrev pub write_fault : List ℕ
+write_fault = line (codes "write fault")
+
+abbrev pub want_of_memory : List ℕ
+want_of_memory = line (codes "want of memory")
+
+abbrev pub excluded : List ℕ
+excluded = line (codes "--trace and --met exclude one another")
+
+-- the line on a fault of a text, of a step, of the oracle and of the check
+abbrev pub text_line : ℕ → Why → List ℕ
+text_line at why.Read = read_fault
+text_line at why.Memory = want_of_memory
+text_line at w = at_record at (why_name w)
+
+abbrev pub step_line : ℕ → SimWhy → List ℕ
+step_line at step.Memory = want_of_memory
+step_line at w = at_record at (step_name w)
+
+abbrev pub oracle_line : OracleFault → List ℕ
+oracle_line oracle.TooMany = line (oracle_fault_name oracle.TooMany)
+oracle_line (oracle.RoundRange id) = numbered (oracle_fault_name (oracle.RoundRange id)) (decimal id)
+oracle_line (oracle.RepeatedId id) = numbered (oracle_fault_name (oracle.RepeatedId id)) (decimal id)
+oracle_line oracle.Memory = want_of_memory
+
+abbrev pub check_line : CheckFault → List ℕ
+check_line check.Length = line (check_fault_name check.Length)
+check_line (check.BeforeRelease id) = numbered (check_fault_name (check.BeforeRelease id)) (decimal id)
+check_line check.Memory = want_of_memory
+check_line (check.OverDepth round) = numbered (check_fault_name (check.OverDepth round)) (decimal round)
+check_line (check.WrongLateness own) = numbered (check_fault_name (check.WrongLateness own)) (signed_decimal own)
+check_line (check.NotCrowded load) = numbered (check_fault_name (check.NotCrowded load)) (decimal load)
+
+abbrev pub met_check_line : MetFault → List ℕ
+met_check_line met.Length = line (met_fault_name met.Length)
+met_check_line (met.BeforeRelease id) = numbered (met_fault_name (met.BeforeRelease id)) (decimal id)
+met_check_line met.Memory = want_of_memory
+met_check_line (met.OverDepth round) = numbered (met_fault_name (met.OverDepth round)) (decimal round)
+met_check_line (met.WrongMet own) = numbered (met_fault_name (met.WrongMet own)) (decimal own)
+met_check_line (met.Windows place) = numbered (met_fault_name (met.Windows place)) (decimal place)
+met_check_line (met.Loose bound) = numbered (met_fault_name (met.Loose bound)) (decimal bound)
+
+abbrev pub sched_line : SchedFault → List ℕ
+sched_line setting.Memory = want_of_memory
+sched_line fault = line (sched_fault_name fault)
+
+abbrev pub load_line : LoadFault → List ℕ
+load_line load.Memory = want_of_memory
+load_line fault = line (load_fault_name fault)
+
+-- the line on a failure
+abbrev pub line_of : Failure → List ℕ
+line_of (failure.Text f) = text_line f.at f.why
+line_of (failure.Sched f) = sched_line f
+line_of (failure.Step f) = step_line f.at f.why
+line_of (failure.Solve f) = oracle_line f
+line_of (failure.Check f) = check_line f
+line_of (failure.Met f) = met_check_line f
+line_of failure.NotFixed = line (codes "NotFixed")
+line_of (failure.Load f) = load_line f
+line_of failure.Write = write_fault
+line_of failure.Memory = want_of_memory
+
+-- whether it came from outside: a read or a write that failed, or memory that ran out
+abbrev pub is_text_outside : Why → Bool
+is_text_outside why.Read = true
+is_text_outside why.Memory = true
+is_text_outside w = false
+
+abbrev pub is_sched_outside : SchedFault → Bool
+is_sched_outside setting.Memory = true
+is_sched_outside f = false
+
+abbrev pub is_step_outside : SimWhy → Bool
+is_step_outside step.Memory = true
+is_step_outside w = false
+
+abbrev pub is_oracle_outside : OracleFault → Bool
+is_oracle_outside oracle.Memory = true
+is_oracle_outside f = false
+
+abbrev pub is_check_outside : CheckFault → Bool
+is_check_outside check.Memory = true
+is_check_outside f = false
+
+abbrev pub is_met_outside : MetFault → Bool
+is_met_outside met.Memory = true
+is_met_outside f = false
+
+abbrev pub is_load_outside : LoadFault → Bool
+is_load_outside load.Memory = true
+is_load_outside f = false
+
+abbrev pub is_outside : Failure → Bool
+is_outside (failure.Text f) = is_text_outside f.why
+is_outside (failure.Sched f) = is_sched_outside f
+is_outside (failure.Step f) = is_step_outside f.why
+is_outside (failure.Solve f) = is_oracle_outside f
+is_outside (failure.Check f) = is_check_outside f
+is_outside (failure.Met f) = is_met_outside f
+is_outside failure.NotFixed = false
+is_outside (failure.Load f) = is_load_outside f
+is_outside failure.Write = true
+is_outside failure.Memory = true
+
+-- the status: 3 for what came from outside, 1 for what is refused
+abbrev pub status_of : Failure → ℕ
+status_of f = if is_outside f then 3 else 1

@@ -1,0 +1,143 @@
+//! The jobs over a command list: certificates of what is least and of what is most.
+
+ghost use Rattle.std.specs.Prelude.{◌≡◌, IfOk, IfErr};
+ghost use Rattle.blk_lists.specs.Commands.{AreCommands, CommandsFault};
+ghost use Rattle.blk_lists.specs.Certificate.{IsClaim, claimed};
+ghost use Rattle.blk_lists.specs.Met.{IsMetClaim, met_claimed};
+ghost use Rattle.blk_cli.specs.Inputs.{Of, FailsOver};
+ghost use Rattle.blk_cli.specs.Certificates.{SpellsList, IsProved, IsMetProved, IsSolved, IsUnsolved};
+
+use crate::failure::Failure;
+use blk_lists::{Certificate, MetCertificate, Records, certificate_text, met_text, read_commands};
+use edd_check::{Capacity, Command};
+use edd_oracle::{most_met, solve};
+use std::alloc::Global;
+use std::io::Read;
+
+/// What is asked of a command list.
+#[derive(Clone, Copy, Debug, PartialEq, Eq)]
+pub enum Solving {
+    /// How late the latest of its commands has to be.
+    Least,
+    /// How many of its commands can be met.
+    Most,
+}
+
+/// The certificate of the least schedule of commands.
+fn certify(alloc: Global, depth: u64, commands: Vec<Command>) -> Result<Certificate, Failure>
+    requires { AreCommands depth commands.items }
+    ensures depth { IfOk result (λ c. c.depth ≡ depth) }
+    ensures commands { IfOk result (λ c. c.commands.items ≡ commands.items) }
+    ensures in_range { IfOk result (λ c. IsClaim (claimed c)) }
+    ensures proved { IfOk result (λ c. IsProved (claimed c)) }
+    ensures unsolved { IfErr result (IsUnsolved (depth, commands.items)) }
+{
+    let Ok(capacity) = Capacity::fixed(alloc, depth) else {
+        return Err(Failure::Memory);
+    };
+    match solve(alloc, commands.as_slice(), &capacity) {
+        Ok(None) => Ok(Certificate {
+            depth,
+            commands,
+            rounds: Vec::new(alloc),
+            bound: None,
+        }),
+        Ok(Some(answer)) => Ok(Certificate {
+            depth,
+            commands,
+            rounds: answer.rounds,
+            bound: Some((answer.lateness, answer.window)),
+        }),
+        Err(fault) => Err(Failure::Solve(fault)),
+    }
+}
+
+/// The certificate of a schedule that meets as many commands as any.
+fn certify_met(alloc: Global, depth: u64, commands: Vec<Command>) -> Result<MetCertificate, Failure>
+    requires { AreCommands depth commands.items }
+    ensures depth { IfOk result (λ c. c.depth ≡ depth) }
+    ensures commands { IfOk result (λ c. c.commands.items ≡ commands.items) }
+    ensures in_range { IfOk result (λ c. IsMetClaim (met_claimed c)) }
+    ensures proved { IfOk result (λ c. IsMetProved (met_claimed c)) }
+    ensures unsolved { IfErr result (IsUnsolved (depth, commands.items)) }
+{
+    let Ok(capacity) = Capacity::fixed(alloc, depth) else {
+        return Err(Failure::Memory);
+    };
+    match most_met(alloc, commands.as_slice(), &capacity) {
+        Ok(answer) => Ok(MetCertificate {
+            depth,
+            commands,
+            rounds: answer.rounds,
+            met: answer.met,
+            cover: answer.cover,
+        }),
+        Err(fault) => Err(Failure::Solve(fault)),
+    }
+}
+
+/// The text of the certificate of the least schedule of commands.
+fn least_of(alloc: Global, depth: u64, commands: Vec<Command>) -> Result<Vec<u8>, Failure>
+    requires { AreCommands depth commands.items }
+    ensures text { IfOk result (λ text. IsSolved Solving.Least (depth, commands.items) text.items) }
+    ensures unsolved { IfErr result (IsUnsolved (depth, commands.items)) }
+{
+    let certificate = match certify(alloc, depth, commands) {
+        Ok(certificate) => certificate,
+        Err(failure) => return Err(failure),
+    };
+    match certificate_text(alloc, &certificate) {
+        Ok(text) => Ok(text),
+        Err(_) => Err(Failure::Memory),
+    }
+}
+
+/// The text of the certificate of how many commands can be met.
+fn most_of(alloc: Global, depth: u64, commands: Vec<Command>) -> Result<Vec<u8>, Failure>
+    requires { AreCommands depth commands.items }
+    ensures text { IfOk result (λ text. IsSolved Solving.Most (depth, commands.items) text.items) }
+    ensures unsolved { IfErr result (IsUnsolved (depth, commands.items)) }
+{
+    let certificate = match certify_met(alloc, depth, commands) {
+        Ok(certificate) => certificate,
+        Err(failure) => return Err(failure),
+    };
+    match met_text(alloc, &certificate) {
+        Ok(text) => Ok(text),
+        Err(_) => Err(Failure::Memory),
+    }
+}
+
+/// The text of the certificate that is asked for.
+fn solved(
+    alloc: Global,
+    solving: Solving,
+    depth: u64,
+    commands: Vec<Command>,
+) -> Result<Vec<u8>, Failure>
+    requires { AreCommands depth commands.items }
+    ensures text { IfOk result (λ text. IsSolved solving (depth, commands.items) text.items) }
+    ensures unsolved { IfErr result (IsUnsolved (depth, commands.items)) }
+{
+    match solving {
+        Solving::Least => least_of(alloc, depth, commands),
+        Solving::Most => most_of(alloc, depth, commands),
+    }
+}
+
+/// Reads a command list, and gives the certificate that is asked for.
+pub fn over_list<R: Read + Drop>(
+    alloc: Global,
+    solving: Solving,
+    records: &mut Records<R>,
+) -> Result<Vec<u8>, Failure>
+    requires { records.old.at ≡ 0 }
+    ensures text { IfOk result (λ text. Of SpellsList (IsSolved solving) records.old.left text.items) }
+    ensures fails { IfErr result (FailsOver SpellsList CommandsFault IsUnsolved records.old.left records.new.failed) }
+{
+    let (depth, commands) = match read_commands(alloc, records) {
+        Ok(list) => list,
+        Err(fault) => return Err(Failure::Text(fault)),
+    };
+    solved(alloc, solving, depth, commands)
+}
