@@ -26,8 +26,8 @@ module _ (commands : List Command) (rounds : List ℕ) (steps : List Step) where
   pub only_one : HaveOne → (vs others : List (Option Verdict)) → AreVerdicts commands rounds steps vs → AreVerdicts commands rounds steps others → others ≡ vs
   only_one one vs others a b =
       same_lists others vs (b.one_each ∙ sym a.one_each)
-      (λ k d e h.
+      (λ k d h.
       let low : k < length commands = omega (arith, h, b.one_each) in
       get_or_default others k d None h
       ∙ one_at one k (get_or others k None) (get_or vs k None) low (b.each k low) (a.each k low)
-      ∙ get_or_default vs k None e (omega (arith, low, a.one_each)))
+      ∙ get_or_default vs k None d (omega (arith, low, a.one_each)))

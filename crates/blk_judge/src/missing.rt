@@ -27,7 +27,7 @@ pub struct Miss {
 }
 
 /// The command in its round, where it has a verdict.
-fn miss(command: Command, round: u64, verdict: Option<Verdict>) -> Option<Miss>
+fn missed(command: Command, round: u64, verdict: Option<Verdict>) -> Option<Miss>
     ensures { result ≡ miss_of ((command, round), verdict) }
 {
     match verdict {
@@ -54,7 +54,7 @@ fn misses<A: Allocator>(
         .iter()
         .zip(rounds)
         .zip(verdicts)
-        .filter_map(|((command, round), verdict)| miss(*command, *round, *verdict))
+        .filter_map(|((command, round), verdict)| missed(*command, *round, *verdict))
         .collect(alloc)
 }
 

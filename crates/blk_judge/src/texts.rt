@@ -1,11 +1,12 @@
 //! What is told of a schedule as text.
 
-ghost use Rattle.std.specs.Prelude.{◌≡◌, ◌++◌, IfOk, OnOk, None, Some};
+ghost use Rattle.std.specs.Prelude.{◌≡◌, ◌++◌, IfOk, OnOk};
 ghost use Rattle.std.specs.List.{flat_map};
-ghost use Rattle.blk_judge.specs.Text.{counts_text, figures_text, judged_text, miss_line, misses_text};
+ghost use Rattle.blk_judge.specs.Text.{counts_text, values_text, figures_text, judged_text, miss_line, misses_text};
 
 use crate::{Judged, Miss};
 use drafts::Draft;
+use edd_check::Window;
 use edd_figures::lines::{
     push_crowds, push_field, push_late_line, push_number_line, push_verdict, push_window_lines,
 };
@@ -23,24 +24,44 @@ fn push_counts(draft: &mut Draft, counts: Counts) -> Result<(), AllocError>
     push_number_line(draft, b"spare", counts.spare)
 }
 
-/// Adds the lines of the figures.
-fn push_some_figures(draft: &mut Draft, alloc: Global, figures: Figures) -> Result<(), AllocError>
-    ensures { OnOk result (draft.new ≡ draft.old ++ figures_text (Some figures)) }
+/// Adds the lines of these values, each `none` where there is none.
+fn push_values(
+    draft: &mut Draft,
+    alloc: Global,
+    greatest: Option<i64>,
+    least: Option<i64>,
+    shortfall: Option<i64>,
+    window: Option<Window>,
+    load: Option<u64>,
+) -> Result<(), AllocError>
+    ensures { OnOk result (draft.new ≡ draft.old ++ values_text greatest least shortfall window load) }
 {
-    push_late_line(draft, alloc, b"greatest", Some(figures.greatest))?;
-    push_late_line(draft, alloc, b"least", Some(figures.least))?;
-    push_late_line(draft, alloc, b"shortfall", Some(figures.shortfall))?;
-    push_window_lines(draft, Some(figures.window), Some(figures.load))
+    push_late_line(draft, alloc, b"greatest", greatest)?;
+    push_late_line(draft, alloc, b"least", least)?;
+    push_late_line(draft, alloc, b"shortfall", shortfall)?;
+    push_window_lines(draft, window, load)
 }
 
-/// Adds the same lines where there are no figures.
-fn push_no_figures(draft: &mut Draft, alloc: Global) -> Result<(), AllocError>
-    ensures { OnOk result (draft.new ≡ draft.old ++ figures_text None) }
+/// Adds the lines of the figures, if there are some.
+fn push_figures(
+    draft: &mut Draft,
+    alloc: Global,
+    figures: Option<Figures>,
+) -> Result<(), AllocError>
+    ensures { OnOk result (draft.new ≡ draft.old ++ figures_text figures) }
 {
-    push_late_line(draft, alloc, b"greatest", None)?;
-    push_late_line(draft, alloc, b"least", None)?;
-    push_late_line(draft, alloc, b"shortfall", None)?;
-    push_window_lines(draft, None, None)
+    match figures {
+        Some(figures) => push_values(
+            draft,
+            alloc,
+            Some(figures.greatest),
+            Some(figures.least),
+            Some(figures.shortfall),
+            Some(figures.window),
+            Some(figures.load),
+        ),
+        None => push_values(draft, alloc, None, None, None, None, None),
+    }
 }
 
 /// The lines of what is told of a schedule: `commands N`, `late M`, `unavoidable U`, `avoidable A`, `spare S`, `greatest G`, `least L`,
@@ -51,10 +72,7 @@ pub fn judged_lines<A: Allocator>(alloc: Global, judged: &Judged<A>) -> Result<V
 {
     let mut draft = Draft::new(alloc);
     push_counts(&mut draft, judged.misses.counts)?;
-    match judged.figures {
-        Some(figures) => push_some_figures(&mut draft, alloc, figures)?,
-        None => push_no_figures(&mut draft, alloc)?,
-    }
+    push_figures(&mut draft, alloc, judged.figures)?;
     push_crowds(&mut draft, judged.misses.windows.as_slice())?;
     draft.finish()
 }

@@ -25,7 +25,7 @@ returns g c =
     (subst (λ (x : List ℕ). HasSpares cs x c.in_ok-capacity.capacity m.late m.spare) (c.as_slice-2.ensures.value ∙ c.in_ok-rounds.ensures.rounds)
     (subst (λ (x : List Command). HasSpares x c.as_slice-2.result.now c.in_ok-capacity.capacity m.late m.spare) (c.as_slice.ensures.value ∙ c.in_ok-commands.ensures.commands) c.in_ok-missed.ensures.spares)) in
     record {
-      tallied = record { misses = told; spares = spare; waiting = c.in_ok.ensures.waiting; overdue = c.in_ok.ensures.overdue };
+      tallied = record { misses = told; spares = spare; waiting = c.in_ok-waiting.ensures.waiting; overdue = c.in_ok-waiting.ensures.overdue };
       at_most = c.in_ok-missed.ensures.at_most;
       some = c.in_ok-missed.ensures.some;
     }
