@@ -70,7 +70,7 @@ refused_by names a words m are e has kinds is =
     let h = (rw e at has) (simple names) in
     let f : fault_of (blk_app names) words ≡ [] = (rw e at kinds) (free names) in
     let read : option_and_then (job_of names) (subcommand_rows_of m) ≡ job_read names words = ap (option_and_then (job_of names)) {y = subcommand_of (blk_app names) words} h.1 in
-    (names, are, f, sym (is ∙ read))
+    (names, are, (f, sym (is ∙ read)))
 
 among : (names : Names) (a : App) (words : List Text) (error : Error) (k : ErrorKind) → a ≡ blk_app names → (is_simple_and_free a ≡ true → HasKind (fault_of a words) error)
     → k ≡ kind_of error → k ≢ kind.OutOfMemory → IsAmong k (fault_of (blk_app names) words)
@@ -86,7 +86,7 @@ version_by names a words error are e kinds is = (names, are, inr (among names a 
 -- words that were not parsed, for another kind of error than want of memory and no question for the version, are refused
 pub line_by : (names : Names) (a : App) (words : List Text) (error : Error) (k : ErrorKind) → AreSchedulers names → a ≡ blk_app names
     → (is_simple_and_free a ≡ true → HasKind (fault_of a words) error) → k ≡ kind_of error → k ≢ kind.OutOfMemory → k ≢ kind.DisplayVersion → AreFaulty words
-line_by names a words error k are e kinds is not other = (names, are, k, among names a words error k e kinds is not, other)
+line_by names a words error k are e kinds is not other = (names, are, (k, among names a words error k e kinds is not, other))
 
 -- the scheduler by the text that its option is given; and where it is given none
 pub sched_by : (f : Found) (name : Text) (s : Option Sched) → Some name ≡ first_value f (codes "sched") → s ≡ sched_named name (tunables_of (rows_of f)) (targets_of (rows_of f)) (is_flagged (codes "late-last") (rows_of f)) → s ≡ sched_of (rows_of f)
