@@ -1,11 +1,17 @@
--- What comes of a call that answers a text or a failure.
-use Rattle.std.proofs.Common.{Result, Ok, Err, IfOk}
-use Rattle.std.specs.Prelude.{IfErr}
+-- What comes of a value that was read, from what a call made of it.
+use Rattle.std.proofs.Common.{ℕ, Bool, List, Option, Result, Ok, Err, IfOk, inr}
+use Rattle.std.specs.Prelude.{IfErr, IfSome}
+use Rattle.blk_lists.specs.declared.fault.Why.{Why}
+use Rattle.blk_lists.specs.Sources.{Row}
+use Rattle.blk_cli.specs.declared.failure.Failure.{Failure}
+use Rattle.blk_cli.specs.Inputs.{Of, FailsOver}
 
-pub if_ok : {X E : Type 0} (P Q : X → Type 0) (r : Result X E) → IfOk r P → ((x : X) → P x → Q x) → IfOk r Q
-if_ok P Q (Ok x) h so = so x h
-if_ok P Q (Err e) h so = tt
+pub told : {V X E : Type 0} (Spells : List Row → V → Type 0) (Is : V → List ℕ → Type 0) (input : Option (List Row)) (v : V) (text : X → List ℕ) (r : Result X E) → IfSome input (λ rows. Spells rows v)
+    → IfOk r (λ x. Is v (text x)) → IfOk r (λ x. Of Spells Is input (text x))
+told Spells Is input v text (Ok x) read h = (v, read, h)
+told Spells Is input v text (Err e) read h = tt
 
-pub if_err : {X E : Type 0} (P Q : E → Type 0) (r : Result X E) → IfErr r P → ((e : E) → P e → Q e) → IfErr r Q
-if_err P Q (Ok x) h so = tt
-if_err P Q (Err e) h so = so e h
+pub refused : {V X : Type 0} (Spells : List Row → V → Type 0) (Wrong : List Row → ℕ → Why → Type 0) (Refused : V → Failure → Type 0) (input : Option (List Row)) (failed : Bool) (v : V) (r : Result X Failure)
+    → IfSome input (λ rows. Spells rows v) → IfErr r (Refused v) → IfErr r (FailsOver Spells Wrong Refused input failed)
+refused Spells Wrong Refused input failed v (Ok x) read h = tt
+refused Spells Wrong Refused input failed v (Err f) read h = inr (v, read, h)

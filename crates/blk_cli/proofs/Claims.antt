@@ -13,6 +13,8 @@ use Rattle.edd_check.specs.declared.CheckFault.{CheckFault}
 use Rattle.edd_check.specs.Check.{IsAnswer}
 use Rattle.blk_cli.specs.Certificates.{IsProof, IsRefusedBound, bound_line, verdict_of}
 use Rattle.edd_oracle.specs.Answer.{IsBest}
+use Rattle.blk_trace.specs.Laws.{AreBounded}
+use Rattle.blk_trace.specs.Setups.{Setup, IsSetup}
 use Rattle.blk_lists.specs.Commands.{IsCommandInRange, AreCommands}
 use Rattle.blk_lists.specs.Certificate.{Claim, IsBound, IsClaim, IsLateness}
 
@@ -82,3 +84,11 @@ pub verdict_is : {S E : Type 0} (text : S → List ℕ) (r : Result S E) (claim 
 verdict_is text (Err e) claim late other window commands load carries is same list loads carry h = tt
 verdict_is text (Ok s) claim late other window commands load carries is same list loads carry h =
     rw is (h ∙ rw (same, loads, carry, same, list) refl)
+
+-- a trace's commands are a command list's
+pub commands_in : (setup : Setup) (depth : ℕ) (own commands : List Command) (rounds : List ℕ) → depth ≡ setup.depth → IsSetup setup → AreBounded own rounds → commands ≡ own → All (λ c. c.id < 2 ^ 64) commands
+    → AreCommands depth commands
+commands_in setup depth own commands rounds same is bounded e ids =
+    let b : AreBounded commands rounds = rw e bounded in
+    let each : All IsCommandInRange commands = λ k d h. (ids k d h, omega (arith, (b.in_range k d h).0), (b.in_range k d h).1) in
+    (omega (arith, same, is.some_tags), omega (arith, same, is.few_tags), b.few, each)

@@ -1,9 +1,9 @@
 //! Why the program ends without its output, as a line and an exit status.
 
-ghost use Rattle.std.specs.Prelude.{◌≡◌, ◌≤◌, ◌×◌, ◌∷◌, ◌++◌, [], ℕ, List, decimal};
+ghost use Rattle.std.specs.Prelude.{◌≡◌, ◌≤◌, ◌∷◌, ◌++◌, [], ℕ, List, decimal};
 ghost use Rattle.std.specs.Fmt.{signed_decimal};
 ghost use Rattle.drafts.specs.Outputs.{Writes, stream_of};
-ghost use Rattle.blk_cli.specs.Lines.{line, numbered, at_record, text_line, step_line, oracle_line, check_line, met_check_line, line_of, status_of};
+ghost use Rattle.blk_cli.specs.Lines.{line, want_of_memory, numbered, at_record, text_line, step_line, oracle_line, check_line, met_check_line, line_of, status_of};
 ghost use Rattle.blk_cli.specs.Ends.{EndsSaying};
 
 use crate::{Ended, FAILED, REFUSED};
@@ -21,9 +21,6 @@ const START: &[u8] = b"blk: ";
 
 /// What each line ends with.
 const END: &[u8] = b"\n";
-
-/// What is said where memory ran out.
-const WANT_OF_MEMORY: &str = "want of memory";
 
 /// How many digits a number has at most.
 const DIGITS: usize = 20;
@@ -88,7 +85,7 @@ impl Failure {
         match self {
             Failure::Text(fault) => tell_text(faults, fault.at, fault.why),
             Failure::Sched(fault) => match fault {
-                SchedFault::Memory => tell_name(faults, WANT_OF_MEMORY),
+                SchedFault::Memory => tell_memory(faults),
                 _ => tell_name(faults, fault.name()),
             },
             Failure::Step(fault) => tell_step(faults, fault.at, fault.why),
@@ -97,11 +94,11 @@ impl Failure {
             Failure::Met(fault) => tell_met(faults, *fault),
             Failure::NotFixed => tell_name(faults, "NotFixed"),
             Failure::Load(fault) => match fault {
-                LoadFault::Memory => tell_name(faults, WANT_OF_MEMORY),
+                LoadFault::Memory => tell_memory(faults),
                 _ => tell_name(faults, fault.name()),
             },
             Failure::Write => tell_name(faults, "write fault"),
-            Failure::Memory => tell_name(faults, WANT_OF_MEMORY),
+            Failure::Memory => tell_memory(faults),
         }
     }
 
@@ -128,15 +125,22 @@ fn tell_name<F: Write>(faults: &mut Output<F>, name: &str) -> Result<(), WriteFa
     faults.put_all(&[START, name.as_bytes(), END])
 }
 
+/// Writes the line where memory ran out.
+fn tell_memory<F: Write>(faults: &mut Output<F>) -> Result<(), WriteFault>
+    ensures { Writes want_of_memory (stream_of F.contents faults.old) (stream_of F.contents faults.new) result }
+{
+    tell_name(faults, "want of memory")
+}
+
 /// Writes the line of what is refused at a record.
 fn tell_record<F: Write>(faults: &mut Output<F>, at: u64, name: &str) -> Result<(), WriteFault>
     ensures { Writes (at_record at name.now) (stream_of F.contents faults.old) (stream_of F.contents faults.new) result }
 {
     let mut digits = [0; DIGITS];
     let end = put_number(at, &mut digits, 0);
-    let record: &[u8] = b"record ";
+    let record: &[u8] = b"blk: record ";
     let colon: &[u8] = b": ";
-    faults.put_all(&[START, record, &digits[..end], colon, name.as_bytes(), END])
+    faults.put_all(&[record, &digits[..end], colon, name.as_bytes(), END])
 }
 
 /// Writes the line of a name with an id or a number.
@@ -168,7 +172,7 @@ fn tell_text<F: Write>(faults: &mut Output<F>, at: u64, why: Why) -> Result<(), 
 {
     match why {
         Why::Read => tell_name(faults, "read fault"),
-        Why::Memory => tell_name(faults, WANT_OF_MEMORY),
+        Why::Memory => tell_memory(faults),
         _ => tell_record(faults, at, why.name()),
     }
 }
@@ -178,7 +182,7 @@ fn tell_step<F: Write>(faults: &mut Output<F>, at: u64, why: SimWhy) -> Result<(
     ensures { Writes (step_line at why) (stream_of F.contents faults.old) (stream_of F.contents faults.new) result }
 {
     match why {
-        SimWhy::Memory => tell_name(faults, WANT_OF_MEMORY),
+        SimWhy::Memory => tell_memory(faults),
         _ => tell_record(faults, at, why.name()),
     }
 }
@@ -194,7 +198,7 @@ fn tell_solve<F: Write>(faults: &mut Output<F>, fault: OracleFault) -> Result<()
             fault.name(),
             id,
         ),
-        OracleFault::Memory => tell_name(faults, WANT_OF_MEMORY),
+        OracleFault::Memory => tell_memory(faults),
     }
 }
 
@@ -206,7 +210,7 @@ fn tell_check<F: Write>(faults: &mut Output<F>, fault: CheckFault) -> Result<(),
         CheckFault::Length => tell_name(faults, fault.name()),
         CheckFault::BeforeRelease(of) | CheckFault::OverDepth(of) | CheckFault::NotCrowded(of) =>
             tell_number(faults, fault.name(), of),
-        CheckFault::Memory => tell_name(faults, WANT_OF_MEMORY),
+        CheckFault::Memory => tell_memory(faults),
         CheckFault::WrongLateness(own) => tell_signed(faults, fault.name(), own),
     }
 }
@@ -221,7 +225,7 @@ fn tell_met<F: Write>(faults: &mut Output<F>, fault: MetFault) -> Result<(), Wri
         | MetFault::OverDepth(of)
         | MetFault::WrongMet(of)
         | MetFault::Loose(of) => tell_number(faults, fault.name(), of),
-        MetFault::Memory => tell_name(faults, WANT_OF_MEMORY),
+        MetFault::Memory => tell_memory(faults),
         MetFault::Windows(place) => tell_number(faults, fault.name(), place as u64),
     }
 }

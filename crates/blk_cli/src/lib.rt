@@ -1,7 +1,7 @@
 //! The command line of the program, over a reader and two writers.
 #![tactic(auto)]
 
-ghost use Rattle.std.specs.Prelude.{◌≡◌, ◌≢◌, ◌≤◌, IfOk, IfErr, map, codes, string_bytes};
+ghost use Rattle.std.specs.Prelude.{◌≡◌, ◌≢◌, ◌≤◌, ◌⊎◌, IfOk, IfErr, map, codes, string_bytes};
 ghost use Rattle.drafts.specs.Outputs.{stream_of};
 ghost use Rattle.blk_cli.specs.Gives.{Gives, Fails, IsNoLoad, version_line};
 ghost use Rattle.blk_cli.specs.Ends.{Answers, IsWithout, line_without, status_without, EndsSaying, EndsPut, RunEnds};
@@ -73,15 +73,27 @@ impl NoText {
         ensures ends { EndsSaying (status_without self.now) (line_without self.now) (stream_of F.contents faults.old) (stream_of F.contents faults.new) result }
         ensures range { (1 ≤ result.status) × (result.status ≤ 3) }
     {
-        let line = match self {
-            NoText::Failure(failure) => return failure.report(faults),
-            NoText::Line(text) => text.as_bytes(),
-            NoText::Excluded => NO_JOB,
-        };
-        Ended {
-            status: COMMAND_LINE,
-            told: faults.put(line).is_ok(),
+        match self {
+            NoText::Failure(failure) => failure.report(faults),
+            NoText::Line(text) => refuse(text.as_bytes(), faults),
+            NoText::Excluded => refuse(NO_JOB, faults),
         }
+    }
+}
+
+/// Writes the line on words that ask for nothing and ends with their status, which stays where the line can't be written.
+fn refuse<F: Write>(line: &[u8], faults: &mut Output<F>) -> Ended
+    ensures { EndsSaying 2 line.now (stream_of F.contents faults.old) (stream_of F.contents faults.new) result }
+{
+    match faults.put(line) {
+        Ok(()) => Ended {
+            status: COMMAND_LINE,
+            told: true,
+        },
+        Err(_) => Ended {
+            status: COMMAND_LINE,
+            told: false,
+        },
     }
 }
 
