@@ -12,4 +12,4 @@ returns-in-Ok-checked-clause-text g c =
     (proof_claimed c.in-Ok.proof, c.in-Ok.ensures.ok, subst (IsVerdict (proof_claimed c.in-Ok.proof)) (sym same) c.in-Ok-checked.ensures.good)
 
 pub returns-clause-fails : goal.returns-clause-fails
-returns-clause-fails g c = ?
+returns-clause-fails g c = inr (proof_claimed c.in-Ok.proof, c.in-Ok.ensures.ok, c.in-Err-checked.ensures.bad)

@@ -1,4 +1,7 @@
-use Rattle.std.proofs.Common.{inl, inr}
+use Rattle.std.proofs.Common.{inl, ℕ, List}
+use Rattle.edd_check.specs.declared.Command.{Command}
+use Rattle.blk_lists.specs.Commands.{CommandsFault}
+use Rattle.blk_cli.specs.Certificates.{SpellsList, IsSolved, IsUnsolved}
 use Rattle.blk_cli.proofs.Answered.{told, refused}
 use Rattle.blk_cli.proofs.lists.over_list.Goals as goal
 
@@ -6,7 +9,11 @@ pub returns-in-Err-clause-fails : goal.returns-in-Err-clause-fails
 returns-in-Err-clause-fails g c = inl c.in-Err.ensures.err
 
 pub returns-clause-text : goal.returns-clause-text
-returns-clause-text g c = told _ _ _ ((c.in-Ok.list.0, c.in-Ok.list.1.items)) (λ text. text.items) _ c.in-Ok.ensures.ok c.solved.ensures.text
+returns-clause-text g c =
+    let list : ℕ × List Command = (c.in-Ok.list.0, c.in-Ok.list.1.items) in
+    told SpellsList (IsSolved c.args.solving) c.args.records.now.left list (λ text. text.items) _ c.in-Ok.ensures.ok c.solved.ensures.text
 
 pub returns-clause-fails : goal.returns-clause-fails
-returns-clause-fails g c = refused _ _ _ _ _ ((c.in-Ok.list.0, c.in-Ok.list.1.items)) _ c.in-Ok.ensures.ok c.solved.ensures.unsolved
+returns-clause-fails g c =
+    let list : ℕ × List Command = (c.in-Ok.list.0, c.in-Ok.list.1.items) in
+    refused SpellsList CommandsFault IsUnsolved c.args.records.now.left _ list _ c.in-Ok.ensures.ok c.solved.ensures.unsolved
