@@ -1,8 +1,8 @@
 -- What the comparison comes to, from what became of each run.
-use Rattle.std.proofs.Common.{ℕ, suc, ◌≡◌, ◌∙◌, ◌∷◌, ◌++◌, [], List, Option, Some, None, Result, Ok, Err, refl, sym, ap, subst, arith, take, drop, length, get_or, inl, inr, ◌<◌, ◌+◌, map, zero}
+use Rattle.std.proofs.Common.{ℕ, suc, ◌≡◌, ◌∙◌, ◌∷◌, ◌++◌, [], List, refl, sym, ap, subst, arith, take, drop, length, get_or, inl, inr, ◌<◌, ◌+◌, map}
 use Rattle.std.specs.Prelude.{All}
 use Rattle.std.proofs.Math.Seq.{take-suc}
-use Rattle.std.proofs.lemmas.List.{take-append-drop, drop_more, length-map}
+use Rattle.std.proofs.lemmas.List.{take-append-drop, drop_more}
 use Rattle.std.proofs.lemmas.List.Elements.{All-nil, All-cons}
 use Rattle.blk_settings.specs.declared.sched.Lineup.{Lineup}
 use Rattle.blk_settings.specs.declared.sched.Sched.{Sched}
@@ -15,7 +15,6 @@ use Rattle.blk_text.specs.Script.{Scripted}
 use Rattle.blk_trace.specs.Traces.{Traced}
 use Rattle.blk_report.specs.declared.figures.Report.{Report}
 use Rattle.blk_report.specs.Table.{IsTable}
-use Rattle.blk_sim.specs.declared.refusal.SimFault.{SimFault}
 use Rattle.blk_cli.specs.declared.failure.Failure.{Failure}
 use Rattle.blk_cli.specs.declared.failure.Failure.TheVariants as failure
 use Rattle.blk_cli.specs.Scripts.{IsTraceOfScript, IsUnrun}

@@ -1,5 +1,5 @@
 -- Certificates of what is met, from what the oracle and the check answer.
-use Rattle.std.proofs.Common.{ℕ, suc, ◌≡◌, ◌∙◌, Result, Ok, IfOk, ◌≤◌, ◌<◌, ◌+◌, ◌-◌, ◌*◌, List, [], ◌∷◌, length, arith, sym, subst, refl, count_by, sum_by, slice_index_or}
+use Rattle.std.proofs.Common.{ℕ, suc, ◌≡◌, ◌∙◌, Result, Ok, IfOk, ◌≤◌, ◌+◌, ◌-◌, ◌*◌, List, [], ◌∷◌, length, arith, subst, refl, sum_by}
 use Rattle.std.specs.Prelude.{All, Err, zip}
 use Rattle.std.proofs.Math.Nat.{le-mul_of_pos_right}
 use Rattle.std.proofs.lemmas.List.Sums.{count_by-le-length, sum_by-cons}
@@ -8,7 +8,7 @@ use Rattle.edd_check.specs.declared.Window.{Window}
 use Rattle.edd_check.specs.declared.steps.Step.{Step}
 use Rattle.edd_check.specs.declared.met.MetFault.{MetFault}
 use Rattle.edd_check.specs.Capacity.{fixed}
-use Rattle.edd_check.specs.Schedule.{IsLegal, RoundsInRange}
+use Rattle.edd_check.specs.Schedule.{IsLegal}
 use Rattle.edd_check.specs.Met.{number_met, is_met, carried_in, carried_by, outside_of, bound_of, IsCover, IsMostMet}
 use Rattle.edd_check.specs.CheckMet.{IsMetAnswer}
 use Rattle.edd_check.proofs.Covers.{length_pairs}

@@ -1,5 +1,4 @@
-use Rattle.std.proofs.Common.{rules, ◌≡◌, subst}
-use Rattle.edd_check.specs.Capacity.{fixed}
+use Rattle.std.proofs.Common.{rules, subst}
 use Rattle.edd_oracle.specs.Met.{IsMostAnswer}
 use Rattle.blk_cli.proofs.MetClaims.{met_claim_in}
 use Rattle.blk_cli.proofs.lists.certify_met.Goals as goal
