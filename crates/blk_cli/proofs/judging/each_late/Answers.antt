@@ -11,8 +11,8 @@ late_of-requires-clause-taken c = taken_of (ran_of c.args.schedule.now) c.requir
 pub late_of-requires-clause-rounds_in : goal.late_of-requires-clause-rounds_in
 late_of-requires-clause-rounds_in c = rounds_of (ran_of c.args.schedule.now) c.requires.ran c.as_slice-rounds.result.now (search rules)
 
-pub returns-clause-text : goal.returns-clause-text
-returns-clause-text c =
+pub returns-in-Ok-late_lines-clause-text : goal.returns-in-Ok-late_lines-clause-text
+returns-in-Ok-late_lines-clause-text c =
     let s = ran_of c.args.schedule.now in
     let commands : c.as_slice-commands.result.now ≡ s.commands = search rules in
     let rounds : c.as_slice-rounds.result.now ≡ s.rounds = search rules in

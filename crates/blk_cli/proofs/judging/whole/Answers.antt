@@ -10,8 +10,8 @@ judge-requires-clause-taken c = taken_of (ran_of c.args.schedule.now) c.requires
 pub judge-requires-clause-rounds_in : goal.judge-requires-clause-rounds_in
 judge-requires-clause-rounds_in c = rounds_of (ran_of c.args.schedule.now) c.requires.ran c.as_slice-rounds.result.now (search rules)
 
-pub returns-clause-text : goal.returns-clause-text
-returns-clause-text c =
+pub returns-in-Ok-judged_lines-clause-text : goal.returns-in-Ok-judged_lines-clause-text
+returns-in-Ok-judged_lines-clause-text c =
     let s = ran_of c.args.schedule.now in
     let commands : c.as_slice-commands.result.now ≡ s.commands = search rules in
     let rounds : c.as_slice-rounds.result.now ≡ s.rounds = search rules in
