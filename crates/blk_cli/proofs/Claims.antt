@@ -1,8 +1,11 @@
 -- Certificates that are proved, from what the oracle and the check answer.
-use Rattle.std.proofs.Common.{ℕ, ◌≡◌, ◌∙◌, ◌<◌, ◌*◌, ◌^◌, Result, Ok, IfOk, List, [], ◌∷◌, length, arith, sym, subst, Some, None, refl, slice_index_or, slice_index}
+use Rattle.std.proofs.Common.{ℕ, ◌≡◌, ◌∙◌, ◌<◌, ◌*◌, ◌^◌, Result, Ok, IfOk, List, [], ◌∷◌, length, arith, sym, subst, Some, None, refl, slice_index_or, slice_index, get_or, ◌==◌, eq-eqb}
 use Rattle.std.specs.Prelude.{ℤ, pos, negsuc, ◌+ℤ◌, ◌-ℤ◌, ◌↔◌, All, Option, Err, IfSome}
 use Rattle.std.proofs.lemmas.Int.{ints}
+use Rattle.std.proofs.lemmas.List.{get_or-map, length-map}
 use Rattle.std.proofs.lemmas.List.Elements.{All-get_or}
+use Rattle.std.proofs.lemmas.List.Folds.{list_any_at}
+use Rattle.std.proofs.lemmas.Option.{get_or_from_slice_get, slice_get_within}
 use Rattle.edd_check.specs.declared.Command.{Command}
 use Rattle.edd_check.specs.declared.Window.{Window}
 use Rattle.edd_check.specs.declared.steps.Step.{Step}
@@ -13,6 +16,12 @@ use Rattle.edd_check.specs.declared.CheckFault.{CheckFault}
 use Rattle.edd_check.specs.Check.{IsAnswer}
 use Rattle.blk_cli.specs.Certificates.{IsProof, IsRefusedBound, bound_line, verdict_of}
 use Rattle.edd_oracle.specs.Answer.{IsBest}
+use Rattle.blk_text.specs.TraceRecords.{EventFits}
+use Rattle.blk_trace.proofs.Ids.{has_issued}
+use Rattle.blk_trace.specs.Events.{IsIssued}
+use Rattle.blk_trace.specs.Happened.{Happened}
+use Rattle.blk_trace.specs.declared.event.Event.TheVariants.{Tick, Issue}
+use Rattle.blk_trace.specs.Meaning.{command_of, commands_of, issued_ids}
 use Rattle.blk_trace.specs.Laws.{AreBounded}
 use Rattle.blk_trace.specs.Setups.{Setup, IsSetup}
 use Rattle.blk_lists.specs.Commands.{IsCommandInRange, AreCommands}
@@ -92,3 +101,16 @@ commands_in setup depth own commands rounds same is bounded e ids =
     let b : AreBounded commands rounds = rw e bounded in
     let each : All IsCommandInRange commands = λ k d h. (ids k d h, omega (arith, (b.in_range k d h).0), (b.in_range k d h).1) in
     (omega (arith, same, is.some_tags), omega (arith, same, is.few_tags), b.few, each)
+
+-- a trace's commands are of its Issues, whose ids are numbers of 64 bits
+pub ids_fit : (setup : Setup) (es : List Happened) → All EventFits es → All (λ (x : Command). x.id < 2 ^ 64) (commands_of setup es)
+unfolding commands_of
+ids_fit setup es fit k d h =
+    let ids : List ℕ = issued_ids es in
+    let within : k < length ids = omega (arith, h, length-map ids (command_of setup es)) in
+    let id : ℕ = get_or ids k 0 in
+    let issued : IsIssued es id = has_issued es id (list_any_at (λ (i : ℕ). i == id) ids k 0 within (eq-eqb id id refl)) in
+    let issue : Happened = Issue id issued.1.0 in
+    let at : get_or es issued.0 Tick ≡ issue = get_or_from_slice_get es issued.0 issue Tick issued.1.1 in
+    let fits : EventFits issue = subst EventFits at (fit issued.0 Tick (slice_get_within es issued.0 issue issued.1.1)) in
+    rw (get_or-map (command_of setup es) ids k 0 d within) fits.0

@@ -1,7 +1,8 @@
 //! The jobs over a trace.
 
-ghost use Rattle.std.specs.Prelude.{◌≡◌, ◌<◌, ◌^◌, All, IfOk, IfErr};
+ghost use Rattle.std.specs.Prelude.{◌≡◌, IfOk, IfErr};
 ghost use Rattle.blk_text.specs.TraceForm.{SpellsTrace, TraceFault};
+ghost use Rattle.blk_text.specs.TraceRecords.{IsTrace};
 ghost use Rattle.blk_cli.specs.Inputs.{Of, FailsOver};
 ghost use Rattle.blk_cli.specs.OfTraces.{IsTold, IsUntold};
 
@@ -12,7 +13,6 @@ use blk_report::{
 };
 use blk_text::{read_trace, trace_text};
 use blk_trace::Trace;
-use edd_check::Command;
 use std::alloc::Global;
 use std::io::Read;
 
@@ -33,24 +33,9 @@ pub enum Telling {
     Report,
 }
 
-/// A number of 64 bits is below 2^64.
-fn fits(id: u64)
-    ensures { id < 2 ^ 64 }
-{
-    let _ = id;
-}
-
-/// Each command's id is a number of 64 bits.
-fn each_fits(commands: &[Command])
-    ensures { All (λ c. c.id < 2 ^ 64) commands.now }
-{
-    for i in 0..commands.len() {
-        fits(commands[i].id);
-    }
-}
-
 /// The command list of a trace, which has one where no event sets a depth.
 fn list_of(alloc: Global, trace: &Trace) -> Result<Vec<u8>, Failure>
+    requires { IsTrace trace.now }
     ensures text { IfOk result (λ text. IsTold Telling.Commands trace.now text.items) }
     ensures untold { IfErr result (IsUntold Telling.Commands trace.now) }
 {
@@ -62,7 +47,6 @@ fn list_of(alloc: Global, trace: &Trace) -> Result<Vec<u8>, Failure>
     };
     let setup = trace.setup();
     let depth = setup.depth();
-    each_fits(commands.as_slice());
     match commands_text(alloc, depth, commands.as_slice()) {
         Ok(text) => Ok(text),
         Err(_) => Err(Failure::Memory),
@@ -141,6 +125,7 @@ fn report_of(alloc: Global, trace: &Trace) -> Result<Vec<u8>, Failure>
 
 /// What is told of a trace.
 fn told_of(alloc: Global, telling: Telling, trace: &Trace) -> Result<Vec<u8>, Failure>
+    requires { IsTrace trace.now }
     ensures text { IfOk result (λ text. IsTold telling trace.now text.items) }
     ensures untold { IfErr result (IsUntold telling trace.now) }
 {

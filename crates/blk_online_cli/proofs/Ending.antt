@@ -1,5 +1,5 @@
 -- What a run comes to that ended with status 0.
-use Rattle.std.proofs.Common.{◌≡◌, ◌∙◌, ℕ, Bool, true, false, List, Option, Some, sym, subst, inl, inr}
+use Rattle.std.proofs.Common.{◌≡◌, ◌∙◌, ℕ, Bool, true, false, List, Option, Some, ap, sym, subst, inl, inr}
 use Rattle.std.specs.Prelude.{if◌then◌else◌}
 use Rattle.drafts.specs.Outputs.{Stream, IsWritten}
 use Rattle.blk_lists.specs.Sources.{Row}
@@ -14,7 +14,10 @@ use Rattle.blk_cli.specs.Ends.{Answers, RunEnds, status_without}
 use Rattle.blk_online_cli.specs.Told.{rows_in, AskAlone, EndsWell}
 
 -- where there is no text the status is another than 0
-failed : (b : Bool) → (if b then 3 else 1) ≡ 0 → ⊥
+abbrev status : Bool → ℕ
+status b = if b then 3 else 1
+
+failed : (b : Bool) → status b ≡ 0 → ⊥
 failed true e = cc e
 failed false e = cc e
 
@@ -50,3 +53,15 @@ ends_well words own bytes left failed old new faults_old faults_new ended same r
       (subst (λ (r : Option (List Row)). RunEnds own r failed old new faults_old faults_new ended) read runs);
   good = good;
 }
+
+-- a text was answered, and a run that reads it ended well
+pub piped : (Told : List ℕ → Stream → Stream → Type 0) (first second : Job) (words again own own_again : List (List ℕ)) (script trace source : List ℕ) (left left_again : Option (List Row)) (failed : Bool)
+    (old new faults_old faults_new : Stream) (ended : Ended) → ((text : List ℕ) → Gives first (Some (rows_in script)) trace → Gives second (Some (rows_in trace)) text → IsWritten text old new → Told trace old new)
+    → AskAlone words first → AskAlone again second → own ≡ words → own_again ≡ again → left ≡ Some (rows_in script) → left_again ≡ Some (rows_in source) → source ≡ trace
+    → Answers own left trace → RunEnds own_again left_again failed old new faults_old faults_new ended → ended.status ≡ 0 → (traced : List ℕ) × Told traced old new
+piped Told first second words again own own_again script trace source left left_again failed old new faults_old faults_new ended law alone alone_again same same_again known read is answer runs good =
+    let asked : Answers words (Some (rows_in script)) trace =
+    subst (λ (ws : List (List ℕ)). Answers ws (Some (rows_in script)) trace) same (subst (λ (l : Option (List Row)). Answers own l trace) known answer) in
+    let source_read : left_again ≡ Some (rows_in trace) = read ∙ ap (λ (bs : List ℕ). Some (rows_in bs)) is in
+    let w = wrote second again trace old new alone_again (ends_well again own_again trace left_again failed old new faults_old faults_new ended same_again source_read runs good) in
+    (trace, law w.0 (gives first words (Some (rows_in script)) trace alone asked) w.1 w.2)

@@ -1,10 +1,9 @@
-use Rattle.std.proofs.Common.{rules, ◌≡◌, ◌<◌, ◌^◌, List, refl}
-use Rattle.std.specs.Prelude.{All}
+use Rattle.std.proofs.Common.{rules, List, refl}
 use Rattle.edd_check.specs.declared.Command.{Command}
 use Rattle.blk_trace.specs.Meaning.{commands_of, rounds_of}
 use Rattle.blk_trace.specs.Setups.{Setup, IsSetup}
 use Rattle.blk_lists.proofs.CommandLaws.{rows_spell}
-use Rattle.blk_cli.proofs.Claims.{commands_in}
+use Rattle.blk_cli.proofs.Claims.{commands_in, ids_fit}
 use Rattle.blk_cli.proofs.traces.list_of.Goals as goal
 
 pub returns-in-Ok-commands_text-clause-text : goal.returns-in-Ok-commands_text-clause-text
@@ -12,10 +11,8 @@ returns-in-Ok-commands_text-clause-text c =
     let setup : Setup = c.args.trace.now.setup in
     let own : List Command = commands_of setup c.args.trace.now.events in
     let is : IsSetup setup = search rules in
-    let slice : c.as_slice.result.now ≡ own = search rules in
-    let ids : All (λ x. x.id < 2 ^ 64) own = rw slice at c.each_fits.ensures in
     record {
       one_depth = search rules;
-      spelled = rows_spell setup.depth own (commands_in setup setup.depth own own (rounds_of c.args.trace.now.events) refl is c.in-Ok.ensures.bounded refl ids);
+      spelled = rows_spell setup.depth own (commands_in setup setup.depth own own (rounds_of c.args.trace.now.events) refl is c.in-Ok.ensures.bounded refl (ids_fit setup c.args.trace.now.events c.requires.events));
       is_text = search rules;
     }
