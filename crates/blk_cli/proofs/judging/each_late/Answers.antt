@@ -1,5 +1,4 @@
-use Rattle.std.proofs.Common.{rules, ◌≡◌, ◌∙◌, List, ℕ, ap}
-use Rattle.edd_check.specs.declared.Command.{Command}
+use Rattle.std.proofs.Common.{rules, ◌≡◌, ◌∙◌, ap}
 use Rattle.blk_judge.specs.Text.{misses_text}
 use Rattle.blk_lists.specs.Schedule.{ran_of}
 use Rattle.blk_cli.proofs.Schedules.{taken_of, rounds_of, missed_of, refused_as}

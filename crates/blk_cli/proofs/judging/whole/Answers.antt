@@ -1,5 +1,4 @@
-use Rattle.std.proofs.Common.{rules, ◌≡◌, List, ℕ}
-use Rattle.edd_check.specs.declared.Command.{Command}
+use Rattle.std.proofs.Common.{rules, ◌≡◌}
 use Rattle.blk_lists.specs.Schedule.{ran_of}
 use Rattle.blk_cli.proofs.Schedules.{taken_of, rounds_of, judged_of, refused_as}
 use Rattle.blk_cli.proofs.judging.whole.Goals as goal
