@@ -1,6 +1,6 @@
 //! Why the program ends without its output, as a line and an exit status.
 
-ghost use Rattle.std.specs.Prelude.{◌≡◌, ◌≤◌, ◌∷◌, ◌++◌, [], ℕ, List, decimal};
+ghost use Rattle.std.specs.Prelude.{◌≡◌, ◌≤◌, decimal};
 ghost use Rattle.std.specs.Fmt.{signed_decimal};
 ghost use Rattle.drafts.specs.Outputs.{Writes, stream_of};
 ghost use Rattle.blk_cli.specs.Lines.{line, want_of_memory, numbered, at_record, text_line, step_line, oracle_line, check_line, met_check_line, line_of, status_of};

@@ -4,7 +4,6 @@ use Rattle.std.specs.Prelude.{if◌then◌else◌}
 use Rattle.drafts.specs.Outputs.{Stream, IsWritten}
 use Rattle.blk_lists.specs.Sources.{Row}
 use Rattle.blk_words.specs.declared.words.Job.{Job}
-use Rattle.blk_words.specs.Asked.{Asks}
 use Rattle.blk_cli.specs.declared.Ended.{Ended}
 use Rattle.blk_cli.specs.declared.NoText.{NoText}
 use Rattle.blk_cli.specs.declared.NoText.TheVariants as none

@@ -4,7 +4,6 @@ use Rattle.std.proofs.lemmas.List.{append_cancel_left}
 use Rattle.std.specs.Io.KnownBytes.{Appends}
 use Rattle.drafts.specs.Outputs.{Stream, IsWritten}
 use Rattle.blk_lists.specs.Sources.{Row}
-use Rattle.blk_lists.specs.Texts.{rows_text}
 use Rattle.blk_sched.specs.Meaning.{at_start}
 use Rattle.blk_earliest.specs.Choice.{kept_of}
 use Rattle.blk_trace.specs.Happened.{Happened}
@@ -17,7 +16,6 @@ use Rattle.blk_text.specs.Versions.{latest}
 use Rattle.blk_text.proofs.ScriptLaws as scripts
 use Rattle.blk_text.proofs.TraceLaws as traces
 use Rattle.blk_settings.specs.declared.sched.Sched.TheVariants as sched
-use Rattle.blk_report.specs.declared.figures.Report.{Report}
 use Rattle.blk_online.specs.Ticks.{AtTicks}
 use Rattle.blk_online_sim.specs.ByRounds.{IsByRounds, HoldsNow}
 use Rattle.blk_online_sim.proofs.Running.{trace_holds, least_late, meets_most}
