@@ -3,3 +3,4 @@ mod Claims
 mod Compared
 mod MetClaims
 mod Runs
+mod Schedules

@@ -3,6 +3,7 @@ use Rattle.std.specs.Prelude.{◌≡◌, ◌++◌, ◌∷◌, ⊤, ℕ, Bool, Li
 use Rattle.blk_lists.specs.Sources.{Row}
 use Rattle.blk_lists.specs.Commands.{CommandsFault}
 use Rattle.blk_lists.specs.Proof.{SpellsProof, ProofFault}
+use Rattle.blk_lists.specs.Schedule.{SpellsSchedule, ScheduleFault}
 use Rattle.blk_text.specs.Script.{SpellsScript, ScriptFault}
 use Rattle.blk_text.specs.TraceForm.{SpellsTrace, TraceFault}
 use Rattle.blk_words.specs.declared.words.Job.{Job}
@@ -16,6 +17,7 @@ use Rattle.blk_cli.specs.Inputs.{Of, FailsOver}
 use Rattle.blk_cli.specs.Comparing.{IsRunText, HasNoRunText}
 use Rattle.blk_cli.specs.OfTraces.{IsTold, IsUntold}
 use Rattle.blk_cli.specs.Certificates.{SpellsList, IsSolved, IsUnsolved, IsVerdict, IsBad}
+use Rattle.blk_cli.specs.Judging.{IsJudgedText, IsUnjudged}
 use Rattle.blk_cli.specs.Loading.{IsLoadOf, IsUnloaded}
 
 -- a job that is no load
@@ -41,6 +43,7 @@ Gives job.Report input text = Of SpellsTrace (IsTold telling.Report) input text
 Gives job.Oracle input text = Of SpellsList (IsSolved solving.Least) input text
 Gives job.Met input text = Of SpellsList (IsSolved solving.Most) input text
 Gives job.Check input text = Of SpellsProof IsVerdict input text
+Gives (job.Judge e) input text = Of SpellsSchedule (IsJudgedText e) input text
 Gives (job.Load s l w) input text = IsLoadOf w l text
 
 -- why it gives none, where the reader has failed or hasn't
@@ -57,4 +60,5 @@ Fails job.Report input failed f = FailsOver SpellsTrace TraceFault (IsUntold tel
 Fails job.Oracle input failed f = FailsOver SpellsList CommandsFault IsUnsolved input failed f
 Fails job.Met input failed f = FailsOver SpellsList CommandsFault IsUnsolved input failed f
 Fails job.Check input failed f = FailsOver SpellsProof ProofFault IsBad input failed f
+Fails (job.Judge e) input failed f = FailsOver SpellsSchedule ScheduleFault IsUnjudged input failed f
 Fails (job.Load s l w) input failed f = IsUnloaded s l f

@@ -4,6 +4,7 @@ pub mod Comparing
 pub mod OfTraces
 pub mod Certificates
 pub mod Loading
+pub mod Judging
 pub mod Gives
 pub mod Lines
 pub mod Ends

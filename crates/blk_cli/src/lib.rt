@@ -9,6 +9,7 @@ ghost use Rattle.blk_cli.specs.Ends.{Answers, IsWithout, line_without, status_wi
 mod checking;
 mod comparing;
 mod failure;
+mod judging;
 mod lists;
 mod loading;
 mod scripts;
@@ -16,6 +17,7 @@ mod traces;
 
 use crate::checking::over_proof;
 pub use crate::failure::Failure;
+use crate::judging::over_schedule;
 use crate::lists::{Solving, over_list};
 use crate::loading::run_load;
 use crate::scripts::{Running, over_script};
@@ -130,6 +132,7 @@ pub fn work<R: Read + Drop>(
         Job::Oracle => over_list(alloc, Solving::Least, records),
         Job::Met => over_list(alloc, Solving::Most, records),
         Job::Check => over_proof(alloc, records),
+        Job::Judge { each } => over_schedule(alloc, each, records),
         Job::Load(..) => unreachable!(),
     }
 }

@@ -59,6 +59,14 @@ asks_nothing words h j a =
     let g = any_names (IsReadAsNothing words) h a.0 a.1 in
     elim a.2 [ inl x ↦ let e : Some j ≡ None = sym x.1 ∙ g.1 in cc e | inr x ↦ absurd (rw g.0 at x.0) ]
 
+pub judge_line : (name : Text) (p q r s t : ℕ × ℕ) → IsReadAs (name ∷ codes "judge" ∷ []) (job.Judge false) (at_places p q r s t)
+unfolding clap_on_literals
+judge_line name p q r s t = (refl, refl)
+
+pub judge_each_line : (name : Text) (p q r s t : ℕ × ℕ) → IsReadAs (name ∷ codes "judge" ∷ codes "--each" ∷ []) (job.Judge true) (at_places p q r s t)
+unfolding clap_on_literals
+judge_each_line name p q r s t = (refl, refl)
+
 pub load_line : (name : Text) (p q r s t : ℕ × ℕ) → IsReadAs (name ∷ codes "load" ∷ []) (job.Load sched.None (record { submitters = 2; workers = 2; bios = 1000; depth = 8; busy = None; service = 0 }) shown.Account) (at_places p q r s t)
 unfolding clap_on_literals
 load_line name p q r s t = (refl, refl)

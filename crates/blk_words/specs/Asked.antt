@@ -98,6 +98,7 @@ job_made (makes.Plain j) rows = Some j
 job_made makes.Sim rows = option_map job.Sim (sched_of rows)
 job_made makes.Compare rows = compared (tunables_of rows) (targets_of rows) (earliest_of (is_flagged (codes "earliest") rows) (is_flagged (codes "late-last") rows))
 job_made makes.Oracle rows = oracle_job (is_flagged (codes "trace") rows) (is_flagged (codes "met") rows)
+job_made makes.Judge rows = Some (job.Judge (is_flagged (codes "each") rows))
 job_made makes.Load rows = loaded (shown_of (is_flagged (codes "trace") rows)) (sched_of rows) (amounts_of rows)
 
 -- the job of the subcommand of a name, by what its options are given

@@ -82,7 +82,7 @@ amounts =
     ∷ number_rule (codes "bios") (vp.Unsigned 1 MAX_LOAD_BIOS) (codes "1000") ∷ number_rule (codes "depth") (vp.Unsigned 1 MAX_LOAD_DEPTH) (codes "8")
     ∷ maybe_rule (codes "busy") (vp.Unsigned 2 MAX_BUSY) ∷ number_rule (codes "service") (vp.Unsigned 0 MAX_LOAD_SERVICE) (codes "0") ∷ []
 
--- the subcommands: over scripts, over traces, over command lists and certificates, and over the running layer
+-- the subcommands: over scripts, over traces, over command lists, certificates and schedules, and over the running layer
 abbrev pub table : Names → List Subcommand
 table names =
     record { name = codes "sim"; rules = sched_rule (codes "sched") names ∷ tuning; makes = makes.Sim }
@@ -94,6 +94,7 @@ table names =
     ∷ plain (codes "spread") job.Spread
     ∷ record { name = codes "oracle"; rules = flag_rule (codes "trace") ∷ flag_rule (codes "met") ∷ []; makes = makes.Oracle }
     ∷ plain (codes "check") job.Check
+    ∷ record { name = codes "judge"; rules = flag_rule (codes "each") ∷ []; makes = makes.Judge }
     ∷ record { name = codes "load"; rules = sched_rule (codes "sched") names ∷ flag_rule (codes "trace") ∷ (amounts ++ tuning); makes = makes.Load }
     ∷ []
 

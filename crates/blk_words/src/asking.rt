@@ -38,6 +38,8 @@ pub fn plain_lines()
     ensures met { (name : Text) → (j : AJob) → Asks (name ∷ codes "oracle" ∷ codes "--met" ∷ []) j ↔ (j ≡ Job.Met) }
     ensures report_and_met { (name : Text) → (j : AJob) → Asks (name ∷ codes "oracle" ∷ codes "--trace" ∷ codes "--met" ∷ []) j → ⊥ }
     ensures check { (name : Text) → (j : AJob) → Asks (name ∷ codes "check" ∷ []) j ↔ (j ≡ Job.Check) }
+    ensures judge { (name : Text) → (j : AJob) → Asks (name ∷ codes "judge" ∷ []) j ↔ (j ≡ Job.Judge false) }
+    ensures judge_each { (name : Text) → (j : AJob) → Asks (name ∷ codes "judge" ∷ codes "--each" ∷ []) j ↔ (j ≡ Job.Judge true) }
     ensures load { (name : Text) → (j : AJob) → Asks (name ∷ codes "load" ∷ []) j
         ↔ (j ≡ Job.Load Sched.None (record { submitters = 2; workers = 2; bios = 1000; depth = 8; busy = None; service = 0 }) Shown.Account) }
     ensures busy { (name : Text) → (j : AJob) → Asks (name ∷ codes "load" ∷ codes "--busy" ∷ codes "3" ∷ []) j

@@ -48,6 +48,8 @@ pub enum Makes {
     Compare,
     /// What `oracle` is asked by its flags.
     Oracle,
+    /// The judgement of a schedule, or of each of its late commands.
+    Judge,
     /// A load of their numbers under the scheduler that they name.
     Load,
 }
@@ -111,8 +113,8 @@ pub static TUNING: [OptionRow; 6] = [
     },
 ];
 
-/// The subcommands: over scripts, over traces, over command lists and certificates, and over the running layer.
-pub static COMMANDS: [CommandRow; 10] = [
+/// The subcommands: over scripts, over traces, over command lists, certificates and schedules, and over the running layer.
+pub static COMMANDS: [CommandRow; 11] = [
     CommandRow {
         name: "sim",
         about: "Runs a script and writes its trace",
@@ -190,6 +192,17 @@ pub static COMMANDS: [CommandRow; 10] = [
         options: &[],
         is_tuned: false,
         makes: Makes::Plain(Job::Check),
+    },
+    CommandRow {
+        name: "judge",
+        about: "Judges a schedule: how many commands were late, how late the latest was, and what had to be",
+        options: &[OptionRow {
+            name: "each",
+            takes: Takes::Nothing,
+            help: "Writes each late command instead, and why it was late",
+        }],
+        is_tuned: false,
+        makes: Makes::Judge,
     },
     CommandRow {
         name: "load",

@@ -47,6 +47,11 @@ pub enum Job {
     Report,
     /// Check a certificate.
     Check,
+    /// Judge a schedule, as a whole or each of its late commands.
+    Judge {
+        /// Whether each late command is written instead.
+        each: bool,
+    },
     /// Run a load on a layer under a scheduler, and write this of it.
     Load(Sched, Load, Shown),
 }
@@ -338,6 +343,9 @@ fn job_made(makes: Makes, options: &ArgMatches<'_>) -> Option<Job>
         }
         Makes::Compare => compare_of(options),
         Makes::Oracle => oracle_job(options),
+        Makes::Judge => Some(Job::Judge {
+            each: is_flagged(options, "each"),
+        }),
         Makes::Load => load_of(options),
     }
 }

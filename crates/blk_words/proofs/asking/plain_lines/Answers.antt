@@ -2,7 +2,7 @@ use Rattle.std.proofs.Common.{[], ◌∷◌, None, Some, codes, true, false}
 use Rattle.blk_settings.specs.declared.sched.Sched.TheVariants as sched
 use Rattle.blk_words.specs.declared.words.Job.TheVariants as job
 use Rattle.blk_words.specs.declared.words.Shown.TheVariants as shown
-use Rattle.blk_words.proofs.Plain.{asks_alone, sim_line, none_line, deadline_line, kyber_line, earliest_line, late_last_line, batch_line, target_line, compare_line, compare_earliest_line, compare_late_last_line, migrate_line, commands_line, late_line, misses_line, spread_line, oracle_line, report_line, met_line, asks_nothing, report_and_met_line, check_line, load_line, busy_line, traced_line, version_line}
+use Rattle.blk_words.proofs.Plain.{asks_alone, sim_line, none_line, deadline_line, kyber_line, earliest_line, late_last_line, batch_line, target_line, compare_line, compare_earliest_line, compare_late_last_line, migrate_line, commands_line, late_line, misses_line, spread_line, oracle_line, report_line, met_line, asks_nothing, report_and_met_line, check_line, judge_line, judge_each_line, load_line, busy_line, traced_line, version_line}
 use Rattle.blk_words.proofs.asking.plain_lines.Goals as goal
 
 pub returns : goal.returns
@@ -31,6 +31,8 @@ returns c = record {
   met = λ name. asks_alone (name ∷ codes "oracle" ∷ codes "--met" ∷ []) job.Met (met_line name);
   report_and_met = λ name. asks_nothing (name ∷ codes "oracle" ∷ codes "--trace" ∷ codes "--met" ∷ []) (report_and_met_line name);
   check = λ name. asks_alone (name ∷ codes "check" ∷ []) job.Check (check_line name);
+  judge = λ name. asks_alone (name ∷ codes "judge" ∷ []) (job.Judge false) (judge_line name);
+  judge_each = λ name. asks_alone (name ∷ codes "judge" ∷ codes "--each" ∷ []) (job.Judge true) (judge_each_line name);
   load = λ name. asks_alone (name ∷ codes "load" ∷ []) (job.Load sched.None (record { submitters = 2; workers = 2; bios = 1000; depth = 8; busy = None; service = 0 }) shown.Account) (load_line name);
   busy = λ name. asks_alone (name ∷ codes "load" ∷ codes "--busy" ∷ codes "3" ∷ []) (job.Load sched.None (record { submitters = 2; workers = 2; bios = 1000; depth = 8; busy = Some 3; service = 0 }) shown.Account) (busy_line name);
   traced = λ name. asks_alone (name ∷ codes "load" ∷ codes "--trace" ∷ codes "--service" ∷ codes "100" ∷ []) (job.Load sched.None (record { submitters = 2; workers = 2; bios = 1000; depth = 8; busy = None; service = 100 }) shown.Trace) (traced_line name);

@@ -1,0 +1,38 @@
+-- What is told of a schedule, and why nothing is.
+use Rattle.std.specs.Prelude.{◌≡◌, ⊤, ℕ, Bool, true, false, List, Option}
+use Rattle.edd_check.specs.Capacity.{fixed}
+use Rattle.edd_figures.specs.declared.lateness.Figures.{Figures}
+use Rattle.edd_figures.specs.declared.missing.Counts.{Counts}
+use Rattle.edd_figures.specs.declared.missing.Crowd.{Crowd}
+use Rattle.blk_judge.specs.declared.missing.Miss.{Miss}
+use Rattle.blk_judge.specs.Judged.{IsRefused, IsJudgement}
+use Rattle.blk_judge.specs.Late.{AreMissed}
+use Rattle.blk_judge.specs.Text.{judged_text, misses_text}
+use Rattle.blk_lists.specs.Schedule.{Ran}
+use Rattle.blk_cli.specs.declared.failure.Failure.{Failure}
+use Rattle.blk_cli.specs.declared.failure.Failure.TheVariants as failure
+
+-- what is told of a schedule as a whole, under its depth in every round
+pub record IsWholeText (s : Ran) (text : List ℕ) : Type 0 where
+  pub counts : Counts
+  pub windows : List Crowd
+  pub figures : Option Figures
+  pub judged : IsJudgement s.commands s.rounds (fixed s.depth) counts windows figures
+  pub is_text : text ≡ judged_text counts figures windows
+
+-- and of each of its late commands
+pub record IsEachText (s : Ran) (text : List ℕ) : Type 0 where
+  pub misses : List Miss
+  pub missed : AreMissed s.commands s.rounds (fixed s.depth) misses
+  pub is_text : text ≡ misses_text misses
+
+-- the one that is asked for
+abbrev pub IsJudgedText : Bool → Ran → List ℕ → Type 0
+IsJudgedText false s text = IsWholeText s text
+IsJudgedText true s text = IsEachText s text
+
+-- the schedule isn't legal, or memory ran out
+abbrev pub IsUnjudged : Ran → Failure → Type 0
+IsUnjudged s (failure.Check fault) = IsRefused s.commands s.rounds (fixed s.depth) fault
+IsUnjudged s failure.Memory = ⊤
+IsUnjudged s f = ⊥

@@ -1,0 +1,93 @@
+//! The job over a schedule: what is told of it, as a whole or of each of its late commands.
+
+ghost use Rattle.std.specs.Prelude.{◌≡◌, IfOk, IfErr};
+ghost use Rattle.edd_check.specs.Capacity.{fixed};
+ghost use Rattle.blk_lists.specs.Schedule.{IsRan, ran_of, SpellsSchedule, ScheduleFault};
+ghost use Rattle.blk_cli.specs.Inputs.{Of, FailsOver};
+ghost use Rattle.blk_cli.specs.Judging.{IsWholeText, IsEachText, IsJudgedText, IsUnjudged};
+
+use crate::failure::Failure;
+use blk_judge::{judge, judged_lines, late_lines, late_of};
+use blk_lists::{Records, Schedule, read_schedule};
+use edd_check::Capacity;
+use std::alloc::Global;
+use std::io::Read;
+
+/// The text of what is told of a schedule as a whole.
+fn whole(
+    alloc: Global,
+    schedule: &Schedule,
+    capacity: &Capacity<Global>,
+) -> Result<Vec<u8>, Failure>
+    requires ran { IsRan (ran_of schedule.now) }
+    requires capacity { capacity.now ≡ fixed schedule.now.depth }
+    ensures text { IfOk result (λ text. IsWholeText (ran_of schedule.now) text.items) }
+    ensures fails { IfErr result (IsUnjudged (ran_of schedule.now)) }
+{
+    let commands = schedule.commands.as_slice();
+    let rounds = schedule.rounds.as_slice();
+    let judged = match judge(alloc, commands, rounds, capacity) {
+        Ok(judged) => judged,
+        Err(fault) => return Err(Failure::Check(fault)),
+    };
+    match judged_lines(alloc, &judged) {
+        Ok(text) => Ok(text),
+        Err(_) => Err(Failure::Memory),
+    }
+}
+
+/// The text of its late commands.
+fn each_late(
+    alloc: Global,
+    schedule: &Schedule,
+    capacity: &Capacity<Global>,
+) -> Result<Vec<u8>, Failure>
+    requires ran { IsRan (ran_of schedule.now) }
+    requires capacity { capacity.now ≡ fixed schedule.now.depth }
+    ensures text { IfOk result (λ text. IsEachText (ran_of schedule.now) text.items) }
+    ensures fails { IfErr result (IsUnjudged (ran_of schedule.now)) }
+{
+    let commands = schedule.commands.as_slice();
+    let rounds = schedule.rounds.as_slice();
+    let misses = match late_of(alloc, commands, rounds, capacity) {
+        Ok(misses) => misses,
+        Err(fault) => return Err(Failure::Check(fault)),
+    };
+    match late_lines(alloc, misses.as_slice()) {
+        Ok(text) => Ok(text),
+        Err(_) => Err(Failure::Memory),
+    }
+}
+
+/// The text that is asked for.
+fn judged(alloc: Global, each: bool, schedule: &Schedule) -> Result<Vec<u8>, Failure>
+    requires { IsRan (ran_of schedule.now) }
+    ensures text { IfOk result (λ text. IsJudgedText each (ran_of schedule.now) text.items) }
+    ensures fails { IfErr result (IsUnjudged (ran_of schedule.now)) }
+{
+    let Ok(capacity) = Capacity::fixed(alloc, schedule.depth) else {
+        return Err(Failure::Memory);
+    };
+    if each {
+        each_late(alloc, schedule, &capacity)
+    } else {
+        whole(alloc, schedule, &capacity)
+    }
+}
+
+/// Reads a schedule, and gives what is told of it, as a whole or of each of its late commands.
+pub fn over_schedule<R: Read + Drop>(
+    alloc: Global,
+    each: bool,
+    records: &mut Records<R>,
+) -> Result<Vec<u8>, Failure>
+    requires { records.old.at ≡ 0 }
+    ensures text { IfOk result (λ text. Of SpellsSchedule (IsJudgedText each) records.old.left text.items) }
+    ensures fails { IfErr result (FailsOver SpellsSchedule ScheduleFault IsUnjudged records.old.left records.new.failed) }
+{
+    let schedule = match read_schedule(alloc, records) {
+        Ok(schedule) => schedule,
+        Err(fault) => return Err(Failure::Text(fault)),
+    };
+    judged(alloc, each, &schedule)
+}
