@@ -1,5 +1,8 @@
 //! Captures as texts: what is read of one, its faults, and the schedule, the table and the summary of one that was worked by hand.
 
+ghost use Rattle.std.specs.Prelude.{length};
+ghost use Rattle.blk_capture.specs.Requests.{AreInOrder};
+
 use blk_capture::{Action, Entry, Op, Options, Record, rows_of, summarize};
 use blk_capture_text::{
     Asked, ImportFault, count_fates, first_time, import, notice_text, read_capture, schedule_of,
@@ -28,7 +31,9 @@ const TEXT: &str = "blk-capture,1,,,,,,\n\
     1,000002000,0,C,0,RS,64,8\n";
 
 /// The records of a text.
-fn records_of(rt: &impl Abort, alloc: Global, text: &str) -> Vec<Record> {
+fn records_of(rt: &impl Abort, alloc: Global, text: &str) -> Vec<Record>
+    ensures { AreInOrder result.items (length result.items) }
+{
     let records = &mut Records::new(alloc, text.as_bytes());
     read_capture(alloc, records).expect(rt, "a capture")
 }
@@ -163,7 +168,7 @@ fn time_falls(rt: HostRuntime) {
     assert_eq!(rt; Why::Order.name(), "Order");
 }
 
-/// A reader that gives a text, and then fails.
+/// A reader that gives a text byte by byte, and then fails.
 #[derive(Drop)]
 struct Broken<'a> {
     rest: &'a [u8],
@@ -171,10 +176,17 @@ struct Broken<'a> {
 
 impl<'a> Read for Broken<'a> {
     fn read(&mut self, buf: &mut [u8]) -> io::Result<usize> {
-        if self.rest.is_empty() {
-            return Err(io::Error::from(ErrorKind::Other));
+        match self.rest.split_first() {
+            Some((first, rest)) => {
+                if buf.is_empty() {
+                    return Ok(0);
+                }
+                buf[0] = *first;
+                self.rest = rest;
+                Ok(1)
+            }
+            None => Err(io::Error::from(ErrorKind::Other)),
         }
-        self.rest.read(buf)
     }
 }
 
