@@ -13,5 +13,3 @@ mod numbers;
 mod refusals;
 #[cfg(test)]
 mod tallies;
-#[cfg(test)]
-mod texts;
