@@ -35,7 +35,8 @@ fn of_a_claim(rt: HostRuntime) {
 /// Schedules three commands and has the answer checked; whether memory was not refused.
 fn scheduled(rt: &impl Abort, alloc: Global, heap: &Refusing<Global>) -> bool {
     let one = Capacity::fixed(alloc, 1).expect(rt, "want of memory");
-    let commands = [command(1, 0, 10), command(2, 1, 1), command(3, 1, 1)];
+    // the ids don't rise, so that they are looked at in a set
+    let commands = [command(3, 0, 10), command(1, 1, 1), command(2, 1, 1)];
     match solve(heap, &commands, &one) {
         Ok(answer) => {
             let answer = answer.expect(rt, "an answer");
@@ -81,7 +82,7 @@ fn of_a_schedule(rt: HostRuntime) {
 /// Schedules three commands of which one can't be met and has the answer checked; whether memory was not refused.
 fn met(rt: &impl Abort, alloc: Global, heap: &Refusing<Global>) -> bool {
     let one = Capacity::fixed(alloc, 1).expect(rt, "want of memory");
-    let commands = [command(1, 0, 0), command(2, 0, 0), command(3, 0, 5)];
+    let commands = [command(2, 0, 0), command(3, 0, 0), command(1, 0, 5)];
     match most_met(heap, &commands, &one) {
         Ok(answer) => {
             assert_eq!(rt; answer.rounds.as_slice(), [0, 2, 1].as_slice());
