@@ -17,11 +17,8 @@ use std::thread::{Threads, for_each_mut, yield_now};
 /// How often a submitter flushes its plug at most.
 const MAX_FLUSHES: u64 = 10_000_000;
 
-/// How often other threads may run before the next flush, where the software queue has no room, at first.
-const FIRST_REST: u64 = 16;
-
-/// How often at most: twice as often each time that there is no room again.
-const LONGEST_REST: u64 = 1024;
+/// How often other threads may run before the next flush, where the software queue has no room.
+const RESTS: u64 = 16;
 
 /// How many sectors a bio has.
 const SECTORS: u64 = 8;
@@ -81,7 +78,6 @@ fn submit<R: Wait, S: Scheduler<A = Global>, L: Named>(
     };
     let number = seat.number();
     let mut next = 0;
-    let mut rests = FIRST_REST;
     for _ in 0..MAX_FLUSHES {
         if site.noted.is_any() {
             return Ok(());
@@ -92,31 +88,25 @@ fn submit<R: Wait, S: Scheduler<A = Global>, L: Named>(
             }
             next = fill(&mut plug, &site.load, number, next)?;
         }
-        rests = if flush(rt, site, seat, &mut plug)? {
-            FIRST_REST
-        } else {
-            rest(rests)
-        };
+        flush(rt, site, seat, &mut plug)?;
     }
     Err(LoadFault::Stalled)
 }
 
-/// Lets other threads run so often, since each flush that finds no room takes a lock that a worker wants, and answers how often they may
-/// the next time.
-fn rest(rests: u64) -> u64 {
-    for _ in 0..rests {
+/// Lets other threads run, more than once, since each flush that finds no room takes a lock that a worker wants.
+fn rest() {
+    for _ in 0..RESTS {
         yield_now();
     }
-    rests.saturating_mul(2).min(LONGEST_REST)
 }
 
-/// Flushes a plug, as far as there is room for it, and says whether there was room for all of it.
+/// Flushes a plug, as far as there is room for it; where there isn't, lets other threads run.
 fn flush<R: Wait, S: Scheduler<A = Global>, L: Named>(
     rt: &R,
     site: &Site<S, L>,
     seat: &mut Submitter<L>,
     plug: &mut Plug,
-) -> Result<bool, LoadFault>
+) -> Result<(), LoadFault>
     requires seat { seat.old.number < length site.now.layer.map }
     requires limits { plug.old.limits ≡ site.now.limits }
     ensures number { seat.new.number ≡ seat.old.number }
@@ -124,9 +114,12 @@ fn flush<R: Wait, S: Scheduler<A = Global>, L: Named>(
     ensures fault { IfErr result (λ f. f ≢ LoadFault.Range) }
 {
     match site.layer.flush(rt, seat, plug) {
-        Ok(_) => Ok(true),
+        Ok(_) => Ok(()),
         Err(fault) => match fault.why {
-            FlushWhy::SoftFull => Ok(false),
+            FlushWhy::SoftFull => {
+                rest();
+                Ok(())
+            }
             FlushWhy::Memory => Err(LoadFault::Memory),
             FlushWhy::Foreign(_) | FlushWhy::Repeated(_) => Err(LoadFault::Repeated),
         },
