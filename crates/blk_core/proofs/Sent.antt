@@ -20,7 +20,8 @@ use Rattle.blk_sched.specs.Meaning.{Waiting, Meaning, Pending, Picks, HandsBack,
 use Rattle.blk_hw.specs.Held.{held_total, held_count}
 use Rattle.blk_core.specs.declared.TagState.{TagState}
 use Rattle.blk_core.specs.declared.TagState.TheVariants.{Free, Flying}
-use Rattle.blk_core.specs.Calls.{Choice, SendsFrom}
+use Rattle.blk_sched.specs.Policies.{Choice}
+use Rattle.blk_core.specs.Calls.{SendsFrom}
 use Rattle.blk_core.specs.State.{entered_of, returned_at, is_of, IsFlown}
 use Rattle.blk_core.specs.Inside.Ties.{IsTied, seat_of, flying}
 use Rattle.blk_core.proofs.Pushed.{IsPushed, same_round, released-issued}

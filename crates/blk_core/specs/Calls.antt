@@ -12,6 +12,7 @@ use Rattle.blk_trace.specs.Events.{round_of, open_count}
 use Rattle.blk_trace.specs.Meaning.{commands_of}
 use Rattle.blk_trace.specs.Waits.{released_count}
 use Rattle.blk_sched.specs.Meaning.{Waiting, Meaning, HasNoCandidate, ServesNothing, Picks, HandsBack, Joins, opened}
+use Rattle.blk_sched.specs.Policies.{Choice, OfDone, OfTick}
 use Rattle.blk_hw.specs.Held.{held_in, held_total}
 use Rattle.blk_core.specs.declared.Placed.{Placed}
 use Rattle.blk_core.specs.declared.Placed.TheVariants.{New, Joined as JoinedTo}
@@ -48,10 +49,6 @@ Places serves old bios hw (JoinedTo id side) new =
     × (new.flights ≡ old.flights)
     × (new.held ≡ old.held)
 
--- a scheduler's choice: from what it keeps, its meaning, a hardware queue and the round to the answer, and to what it keeps then
-abbrev pub Choice : Type 1
-Choice = List ℕ → Meaning → ℕ → ℕ → Option Waiting → List ℕ → Type 0
-
 -- which request goes to the device for a hardware queue: the first of those that are held for it, whose pick is then open again,
 -- or, where none is held for it, the one that the scheduler chooses in this round
 abbrev pub SendsFrom : (ℕ → Waiting → Bool) → Choice → ℕ → ℕ → List Waiting → Meaning → List ℕ → List (List Waiting) → Waiting → Meaning → List ℕ → List (List Waiting) → Type 0
@@ -78,13 +75,6 @@ Issues serves chooses old hw tag (Some command) new =
     × (command ≡ record { id = w.id; release = w.release; due = w.due })
     × (commands_of new.setup new.events ≡ commands_of old.setup old.events ++ command ∷ [])
     × (new.flights ≡ slice_set old.flights tag (Some (record { hw = hw; request = w })))
-
--- what a scheduler keeps once it is told of a completion, by the hardware queue, the direction and the wait; and of a round
-abbrev pub OfDone : Type 1
-OfDone = ℕ → Dir → ℕ → List ℕ → List ℕ → Type 0
-
-abbrev pub OfTick : Type 1
-OfTick = ℕ → List ℕ → List ℕ → Type 0
 
 -- what a completion does: a Done of the command in flight, whose pick is then closed; the scheduler is told of the hardware queue that
 -- it was issued for, its direction, and the rounds from its release to its Issue, which is of this round

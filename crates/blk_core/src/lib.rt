@@ -208,7 +208,7 @@ impl<S: Scheduler> Core<S> {
         hw: u8,
     ) -> Result<Placed, (Request<S::A>, CoreFault)>
         requires { IsWithin self.old.setup.limits request }
-        ensures placed { IfOk result (λ placed. Places S.serves self.old request hw placed self.new) }
+        ensures placed { IfOk result (λ placed. Places S.policy.serves self.old request hw placed self.new) }
         ensures no_fault { OnOk result (CanRelease self.old request hw) }
         ensures fault { IfErr result (λ e. IsReleaseFault self.old request hw e.1) }
         ensures err { IfErr result (λ e. e.0 ≡ request) }
@@ -233,8 +233,8 @@ impl<S: Scheduler> Core<S> {
         side: Side,
     ) -> Result<Placed, (Request<S::A>, CoreFault)>
         requires can { CanRelease self.old request hw }
-        requires stands { HasCandidate S.serves hw self.old.setup.limits request self.old.meaning id side }
-        ensures placed { IfOk result (λ placed. Places S.serves self.old request hw placed self.new) }
+        requires stands { HasCandidate S.policy.serves hw self.old.setup.limits request self.old.meaning id side }
+        ensures placed { IfOk result (λ placed. Places S.policy.serves self.old request hw placed self.new) }
         ensures err { IfErr result (λ e. e ≡ (request, CoreFault.Memory)) }
         ensures same { OnErr result (self.new ≡ self.old) }
     {
@@ -258,8 +258,8 @@ impl<S: Scheduler> Core<S> {
     ) -> Result<Placed, (Request<S::A>, CoreFault)>
         requires can { CanRelease self.old request hw }
         requires within { IsWithin self.old.setup.limits request }
-        requires alone { HasNoCandidate S.serves hw self.old.setup.limits request self.old.meaning }
-        ensures placed { IfOk result (λ placed. Places S.serves self.old request hw placed self.new) }
+        requires alone { HasNoCandidate S.policy.serves hw self.old.setup.limits request self.old.meaning }
+        ensures placed { IfOk result (λ placed. Places S.policy.serves self.old request hw placed self.new) }
         ensures err { IfErr result (λ e. e ≡ (request, CoreFault.Memory)) }
         ensures same { OnErr result (self.new ≡ self.old) }
     {
@@ -313,7 +313,7 @@ impl<S: Scheduler> Core<S> {
     /// Done counted for each command in flight; and as `Memory`. All come before the scheduler is asked, so also where
     /// nothing waits, and change nothing.
     pub fn issue(&mut self, hw: u8, tag: u16) -> Result<Option<Command>, IssueFault>
-        ensures issued { IfOk result (λ found. Issues S.serves S.chooses self.old hw tag found self.new) }
+        ensures issued { IfOk result (λ found. Issues S.policy.serves S.policy.chooses self.old hw tag found self.new) }
         ensures no_fault { OnOk result (CanIssue self.old hw tag) }
         ensures fault { IfErr result (IsIssueFault self.old hw tag) }
         ensures same { OnErr result (self.new ≡ self.old) }
@@ -375,7 +375,7 @@ impl<S: Scheduler> Core<S> {
 
     /// Completes the command in flight under a tag. Refused exactly where there is none; takes no memory.
     pub fn done(&mut self, tag: u16) -> Result<(), NotIssued>
-        ensures done { OnOk result (Completes S.told_done self.old tag self.new) }
+        ensures done { OnOk result (Completes S.policy.told_done self.old tag self.new) }
         ensures accepted { IsOk result ↔ IsInFlight self.old tag }
         ensures same { OnErr result (self.new ≡ self.old) }
     {
@@ -428,7 +428,7 @@ impl<S: Scheduler> Core<S> {
     /// Refused, by the first of these that applies: as `InFlight` with how many commands are in flight, where some are;
     /// as `TraceFull` where the events are [`MAX_EVENTS`] already; and as `Memory`. Nothing is changed then.
     pub fn tick(&mut self) -> Result<u64, TickFault>
-        ensures ended { OnOk result (Ends S.told_tick self.old self.new) }
+        ensures ended { OnOk result (Ends S.policy.told_tick self.old self.new) }
         ensures round { IfOk result (λ round. round ≡ round_of self.new.events) }
         ensures no_fault { OnOk result (CanTick self.old) }
         ensures fault { IfErr result (IsTickFault self.old) }
@@ -526,10 +526,10 @@ fn next<S: Scheduler>(
     requires round { now ≡ (S.meaning scheduler.old).round }
     requires few { (S.meaning scheduler.old).open_picks.reads + (S.meaning scheduler.old).open_picks.writes < MAX_OPEN }
     requires handed { (dir : Way) → handed_of dir (S.meaning scheduler.old).open_picks ≡ held_count (is_of dir) held.old }
-    ensures some { IfSome result (λ w. SendsFrom S.serves S.chooses hw now (held_in held.old hw) (S.meaning scheduler.old) (S.kept scheduler.old) held.old w (S.meaning scheduler.new) (S.kept scheduler.new) held.new) }
+    ensures some { IfSome result (λ w. SendsFrom S.policy.serves S.policy.chooses hw now (held_in held.old hw) (S.meaning scheduler.old) (S.kept scheduler.old) held.old w (S.meaning scheduler.new) (S.kept scheduler.new) held.new) }
     ensures none { IfNone result (held_in held.old hw ≡ []) }
-    ensures chosen { IfNone result (S.chooses (S.kept scheduler.old) (S.meaning scheduler.old) hw now None (S.kept scheduler.old)) }
-    ensures waits { IfNone result ((0 < unfinished (S.meaning scheduler.old).open_picks) ⊎ ServesNothing S.serves hw (S.meaning scheduler.old)) }
+    ensures chosen { IfNone result (S.policy.chooses (S.kept scheduler.old) (S.meaning scheduler.old) hw now None (S.kept scheduler.old)) }
+    ensures waits { IfNone result ((0 < unfinished (S.meaning scheduler.old).open_picks) ⊎ ServesNothing S.policy.serves hw (S.meaning scheduler.old)) }
     ensures same { IfNone result ((S.meaning scheduler.new ≡ S.meaning scheduler.old) × (S.kept scheduler.new ≡ S.kept scheduler.old) × (held.new ≡ held.old)) }
 {
     match held.take_first(hw) {

@@ -46,15 +46,9 @@ impl<'a, S: Scheduler> Scheduler for Noting<'a, S> {
 
     ghost meaning = { λ n. S.meaning n.scheduler };
 
-    ghost serves = { S.serves };
+    ghost policy = { S.policy };
 
     ghost kept = { λ n. S.kept n.scheduler };
-
-    ghost chooses = { S.chooses };
-
-    ghost told_done = { S.told_done };
-
-    ghost told_tick = { S.told_tick };
 
     fn enter(&mut self, slot: &mut Option<Queued<S::A>>) -> Result<(), AllocError> {
         self.scheduler.enter(slot)

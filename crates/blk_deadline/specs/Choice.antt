@@ -7,6 +7,7 @@ use Rattle.blk_bio.specs.declared.bio.Dir.{Dir}
 use Rattle.blk_bio.specs.declared.bio.Dir.TheVariants.{Read, Write}
 use Rattle.blk_bio.specs.Requests.{dir_of, first_of}
 use Rattle.blk_sched.specs.Meaning.{Waiting, Pending, OpenPicks, Meaning}
+use Rattle.blk_sched.specs.Policies.{Policy, choosing}
 use Rattle.blk_deadline.specs.declared.Last.{Last}
 use Rattle.blk_deadline.specs.declared.Turn.{Turn}
 use Rattle.blk_deadline.specs.declared.Tunables.{Tunables}
@@ -117,3 +118,7 @@ deadline_chooses kept m hw now answer after =
     (turn : Turn) × (tunables : Tunables) × (kept ≡ kept_of turn tunables)
     × (answer ≡ chosen (deadline_choice tunables turn now (map.values m.pending)))
     × (after ≡ kept_of (turn_after turn (deadline_choice tunables turn now (map.values m.pending))) tunables)
+
+-- its policy
+abbrev pub deadline_policy : Policy
+deadline_policy = choosing serves_all deadline_chooses

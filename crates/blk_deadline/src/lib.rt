@@ -8,7 +8,7 @@ ghost use Rattle.blk_sched.specs.Meaning.{Waiting, Meaning, HasCandidate, HasNoC
 ghost use Rattle.blk_index.specs.Index.{NoneOf};
 ghost use Rattle.blk_deadline.specs.declared.Turn.{Turn as Place};
 ghost use Rattle.blk_deadline.specs.declared.Tunables.{Tunables as Settings};
-ghost use Rattle.blk_deadline.specs.Choice.{serves_all, oldest_of, next_of, in_batch, due_or_next, taken, chosen, turn_after, kept_of, deadline_choice, deadline_chooses};
+ghost use Rattle.blk_deadline.specs.Choice.{serves_all, oldest_of, next_of, in_batch, due_or_next, taken, chosen, turn_after, kept_of, deadline_choice, deadline_chooses, deadline_policy};
 ghost use Rattle.blk_deadline.specs.Shown.{pending_of, turn_of, tunables_of, meaning_of};
 
 use blk_bio::{Dir, Limits, MAX_QUEUES, Request, Side};
@@ -216,11 +216,9 @@ impl<A: Allocator + Clone> Scheduler for Deadline<A> {
 
     ghost meaning = { meaning_of };
 
-    ghost serves = { serves_all };
+    ghost policy = { deadline_policy };
 
     ghost kept = { λ s. kept_of s.turn s.tunables };
-
-    ghost chooses = { deadline_chooses };
 
     #[inline(always)]
     fn enter(&mut self, slot: &mut Option<Queued<A>>) -> Result<(), AllocError> {

@@ -4,6 +4,7 @@ use Rattle.std.specs.List.{filter, Contains}
 use Rattle.std.specs.Option.{option_or}
 use Rattle.std.specs.FinMap as map
 use Rattle.blk_sched.specs.Meaning.{Waiting, Pending, OpenPicks, Meaning}
+use Rattle.blk_sched.specs.Policies.{Policy, choosing}
 
 -- it serves every request for every hardware queue
 abbrev pub serves_all : ℕ → Waiting → Bool
@@ -64,3 +65,7 @@ earliest_chooses kept m hw now answer after =
     (late_last : Bool) × (kept ≡ kept_of late_last)
     × (answer ≡ earliest_choice late_last now (map.values m.pending))
     × (after ≡ kept)
+
+-- its policy
+abbrev pub earliest_policy : Policy
+earliest_policy = choosing serves_all earliest_chooses

@@ -4,7 +4,7 @@
 ghost use Rattle.std.specs.Prelude.{◌≡◌, ◌<◌, ◌+◌, ℕ, Bool, true, false, List, [], None, Some, IfOk, IfSome, IfNone, IsTrue};
 ghost use Rattle.std.specs.FinMap as map;
 ghost use Rattle.blk_sched.specs.Meaning.{Waiting, Picks, ServesNothing, at_start};
-ghost use Rattle.blk_earliest.specs.Choice.{serves_all, first_due, on_time, earliest_choice, earliest_chooses, kept_of, IsFirst, IsFirstMeetable};
+ghost use Rattle.blk_earliest.specs.Choice.{serves_all, first_due, on_time, earliest_choice, earliest_chooses, earliest_policy, kept_of, IsFirst, IsFirstMeetable};
 ghost use Rattle.blk_earliest.specs.Shown.{pending_of, late_last_of, meaning_of};
 
 pub mod by_due;
@@ -92,11 +92,9 @@ impl<A: Allocator + Clone> Scheduler for Earliest<A> {
 
     ghost meaning = { meaning_of };
 
-    ghost serves = { serves_all };
+    ghost policy = { earliest_policy };
 
     ghost kept = { λ s. kept_of s.late_last };
-
-    ghost chooses = { earliest_chooses };
 
     #[inline(always)]
     fn enter(&mut self, slot: &mut Option<Queued<A>>) -> Result<(), AllocError> {

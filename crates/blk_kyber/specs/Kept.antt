@@ -6,10 +6,11 @@ use Rattle.std.specs.FinMap as map
 use Rattle.blk_bio.specs.declared.bio.Dir.{Dir}
 use Rattle.blk_bio.specs.declared.bio.Dir.TheVariants.{Read, Write}
 use Rattle.blk_sched.specs.Meaning.{Waiting, Meaning}
+use Rattle.blk_sched.specs.Policies.{Policy}
 use Rattle.blk_kyber.specs.declared.Targets.{Targets}
 use Rattle.blk_kyber.specs.declared.turn.Turn.{Turn}
-use Rattle.blk_kyber.specs.Limits.{DirLimits, Report, after_report, kyber_limits}
-use Rattle.blk_kyber.specs.Choice.{first_turn, kyber_choice, chosen}
+use Rattle.blk_kyber.specs.Limits.{DirLimits, Report, Done, Tick, after_report, kyber_limits}
+use Rattle.blk_kyber.specs.Choice.{serves_own, first_turn, kyber_choice, chosen}
 
 -- the targets, the limits, and the turn of each hardware queue
 pub record Kept : Type 0 where
@@ -58,3 +59,12 @@ Chooses old m hw now picked new =
 
 abbrev pub Told : Report → List ℕ → List ℕ → Type 0
 Told report old new = (kept : Kept) × (old ≡ numbers_of kept) × (new ≡ numbers_of (told report kept))
+
+-- its policy
+abbrev pub kyber_policy : Policy
+kyber_policy = record {
+  serves = serves_own;
+  chooses = Chooses;
+  told_done = λ _ dir wait old new. Told (Done dir wait) old new;
+  told_tick = λ now old new. Told (Tick now) old new;
+}

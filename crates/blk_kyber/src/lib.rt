@@ -9,7 +9,7 @@ ghost use Rattle.blk_sched.specs.Meaning.{Waiting, Meaning, HasCandidate, HasNoC
 ghost use Rattle.blk_index.specs.Index.{NoneOf};
 ghost use Rattle.blk_kyber.specs.Limits.{Report, Done, Tick, limit_of, target_of, after_report, kyber_limits};
 ghost use Rattle.blk_kyber.specs.Choice.{serves_own, first_turn, in_flight, head_of, chosen};
-ghost use Rattle.blk_kyber.specs.Kept.{Kept, kept_at_first, choice_for, after_pick, told, numbers_of, Chooses, Told};
+ghost use Rattle.blk_kyber.specs.Kept.{Kept, kept_at_first, choice_for, after_pick, told, numbers_of, Chooses, Told, kyber_policy};
 ghost use Rattle.blk_kyber.specs.Shown.{meaning_of, kyber_kept};
 ghost use Rattle.blk_kyber.specs.Inside.Queues.{served_of};
 
@@ -154,15 +154,9 @@ impl<A: Allocator + Clone> Scheduler for Kyber<A> {
 
     ghost meaning = { meaning_of };
 
-    ghost serves = { serves_own };
+    ghost policy = { kyber_policy };
 
     ghost kept = { λ s. numbers_of (kyber_kept s) };
-
-    ghost chooses = { Chooses };
-
-    ghost told_done = { λ _ dir wait old new. Told (Done dir wait) old new };
-
-    ghost told_tick = { λ now old new. Told (Tick now) old new };
 
     fn enter(&mut self, slot: &mut Option<Queued<A>>) -> Result<(), AllocError> {
         let Some(queued) = slot.take() else {

@@ -4,7 +4,8 @@ use Rattle.blk_trace.specs.declared.event.Event.TheVariants.{Tick}
 use Rattle.blk_trace.specs.Events.{round_of}
 use Rattle.blk_trace.proofs.More.{round_more}
 use Rattle.blk_core.specs.State.{CoreState}
-use Rattle.blk_core.specs.Calls.{OfTick, Ends}
+use Rattle.blk_sched.specs.Policies.{OfTick}
+use Rattle.blk_core.specs.Calls.{Ends}
 use Rattle.blk_core.specs.Faults.{IsTickFault, CanSetDepth, IsDepthFault}
 use Rattle.blk_core.specs.declared.TickFault.{TickFault}
 use Rattle.blk_core.specs.declared.TickFault.TheVariants as tick

@@ -11,7 +11,8 @@ use Rattle.blk_core.specs.declared.Placed.TheVariants.{New, Joined as JoinedTo}
 use Rattle.blk_core.specs.declared.CoreFault.{CoreFault}
 use Rattle.blk_core.specs.State.{CoreState}
 use Rattle.edd_check.specs.declared.Command.{Command}
-use Rattle.blk_core.specs.Calls.{Places, Choice, AddsEvent, Issues, OfDone, Completes, TakesBack, OfTick, Ends, SetsDepth}
+use Rattle.blk_sched.specs.Policies.{Choice, OfDone, OfTick}
+use Rattle.blk_core.specs.Calls.{Places, AddsEvent, Issues, Completes, TakesBack, Ends, SetsDepth}
 use Rattle.blk_layer.specs.Served.{done_count, is_done}
 use Rattle.blk_layer.specs.Moves.{IsMoveAnswer}
 use Rattle.blk_layer.specs.declared.tries.NoneIssued.{NoneIssued}

@@ -6,7 +6,7 @@ use Rattle.blk_sched.specs.Meaning.{Waiting}
 use Rattle.blk_trace.specs.Happened.{Happened}
 use Rattle.blk_trace.specs.Kinds.{is_tick, is_issue}
 use Rattle.blk_core.specs.State.{CoreState}
-use Rattle.blk_core.specs.Calls.{Choice, OfTick}
+use Rattle.blk_sched.specs.Policies.{Choice, OfTick}
 use Rattle.blk_core.specs.Faults.{IsIssueFault}
 use Rattle.blk_core.specs.declared.IssueFault.TheVariants as issue
 use Rattle.blk_layer.specs.declared.tries.NoneIssued.{NoneIssued}

@@ -6,7 +6,8 @@ use Rattle.blk_trace.specs.Kinds.{is_tick, is_issue}
 use Rattle.blk_trace.specs.Events.{open_count}
 use Rattle.blk_trace.specs.Depths.{depth_now}
 use Rattle.blk_core.specs.State.{CoreState}
-use Rattle.blk_core.specs.Calls.{Choice, OfTick, Ends, Issues}
+use Rattle.blk_sched.specs.Policies.{Choice, OfTick}
+use Rattle.blk_core.specs.Calls.{Ends, Issues}
 use Rattle.blk_core.specs.Faults.{IsIssueFault, IsTickFault}
 use Rattle.blk_core.specs.declared.IssueFault.TheVariants as issue
 use Rattle.blk_core.specs.declared.TickFault.TheVariants as tick

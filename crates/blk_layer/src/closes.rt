@@ -89,7 +89,7 @@ impl<S: Scheduler, L: Named> Layer<S, L> {
         requires parts { L.parts ≡ MAX_WORKERS }
         ensures there { OnOk result (AreAllThere self.map self.workers submitters.items workers.items) }
         ensures setup { IfOk result (λ c. c.trace.setup ≡ L.setup) }
-        ensures ran { IfOk result (λ c. IsRunFrom S.serves S.chooses S.told_done S.told_tick L.start c.trace.events) }
+        ensures ran { IfOk result (λ c. IsRunFrom S.policy L.start c.trace.events) }
         ensures settled { IfOk result (λ c. AreSettled L.setup c.trace.events c.left.items submitters.items workers.items) }
         ensures once { IfOk result (λ c. AreOnce (issued_bios c.trace.events ++ c.left.items)) }
         ensures counted { IfOk result (λ c. AreCounted c.trace.events c.left.items workers.items) }
@@ -111,12 +111,12 @@ impl<S: Scheduler, L: Named> Layer<S, L> {
         self,
         alloc: S::A,
         submitters: Vec<Submitter<L, S::A>, S::A>,
-        workers: Vec<Worker<L, S::A>, S::A>,
+        mut workers: Vec<Worker<L, S::A>, S::A>,
     ) -> Result<Closed<S::A>, CloseRefused<S, L>>
         requires parts { L.parts ≡ MAX_WORKERS }
         requires there { AreAllThere self.map self.workers submitters.items workers.items }
         ensures setup { IfOk result (λ c. c.trace.setup ≡ L.setup) }
-        ensures ran { IfOk result (λ c. IsRunFrom S.serves S.chooses S.told_done S.told_tick L.start c.trace.events) }
+        ensures ran { IfOk result (λ c. IsRunFrom S.policy L.start c.trace.events) }
         ensures settled { IfOk result (λ c. AreSettled L.setup c.trace.events c.left.items submitters.items workers.items) }
         ensures once { IfOk result (λ c. AreOnce (issued_bios c.trace.events ++ c.left.items)) }
         ensures counted { IfOk result (λ c. AreCounted c.trace.events c.left.items workers.items) }
@@ -131,7 +131,6 @@ impl<S: Scheduler, L: Named> Layer<S, L> {
             finishing,
         } = self;
         let mut kept = kept.into_inner();
-        let mut workers = workers;
         kept.audit(workers.as_mut_slice());
         let settled = settle(
             &alloc,

@@ -38,7 +38,7 @@ pub(crate) struct Kept<S: Scheduler, L: Named> {
     /// The tag after the last one that was issued: those before it are used up in the round, mostly.
     next_tag: u16,
     ghost named: { core.setup ≡ L.setup },
-    ghost ran: { ∥ Runs S.serves S.chooses S.told_done S.told_tick L.start core.events core ∥₁ },
+    ghost ran: { ∥ Runs S.policy L.start core.events core ∥₁ },
     ghost counted: { book.total ≡ done_count core.events },
     ghost all_out: { rest.parts + L.workers ≡ MAX_WORKERS },
     ghost none: { rest.amount ≡ 0 },
@@ -83,7 +83,7 @@ impl<S: Scheduler, L: Named> Kept<S, L> {
     ) -> Result<u64, DrainFault>
         requires limits { queue.old.limits ≡ L.setup.limits }
         requires queue { hw < L.setup.hw }
-        ensures moved { IsMoveAllAnswer S.serves queue.old self.old.core hw queue.new self.new.core result }
+        ensures moved { IsMoveAllAnswer S.policy.serves queue.old self.old.core hw queue.new self.new.core result }
         ensures limits { queue.new.limits ≡ L.setup.limits }
         ensures there { IfErr result (λ e. e.why ≢ CoreFault.NoQueue) }
     {
@@ -93,7 +93,7 @@ impl<S: Scheduler, L: Named> Kept<S, L> {
     /// Issues for a hardware queue under a tag.
     pub(crate) fn issue(&mut self, hw: u8, tag: u16) -> Result<Option<Command>, LayerIssueFault>
         requires { hw < L.setup.hw }
-        ensures issued { IfOk result (λ found. Issues S.serves S.chooses self.old.core hw tag found self.new.core) }
+        ensures issued { IfOk result (λ found. Issues S.policy.serves S.policy.chooses self.old.core hw tag found self.new.core) }
         ensures fault { IfErr result (IsCoreIssueFault self.old.core hw tag) }
         ensures same { OnErr result (self.new.core ≡ self.old.core) }
     {
@@ -107,8 +107,8 @@ impl<S: Scheduler, L: Named> Kept<S, L> {
     pub(crate) fn try_issue(&mut self, hw: u8, tag: u16) -> Result<Command, NoneIssued>
         requires queue { hw < L.setup.hw }
         requires range { tag < L.setup.depth }
-        ensures issued { IfOk result (λ command. Issues S.serves S.chooses self.old.core hw tag (Some command) self.new.core) }
-        ensures fault { IfErr result (λ why. IsNoneIssued S.serves S.chooses S.told_tick self.old.core hw tag why self.new.core) }
+        ensures issued { IfOk result (λ command. Issues S.policy.serves S.policy.chooses self.old.core hw tag (Some command) self.new.core) }
+        ensures fault { IfErr result (λ why. IsNoneIssued S.policy.serves S.policy.chooses S.policy.told_tick self.old.core hw tag why self.new.core) }
     {
         match try_issue(&mut self.core, hw, tag) {
             Ok(command) => {
@@ -123,7 +123,7 @@ impl<S: Scheduler, L: Named> Kept<S, L> {
     pub(crate) fn ask(&mut self, hw: u8, tag: u16, may_end: bool) -> Result<Command, NoneIssued>
         requires queue { hw < L.setup.hw }
         requires range { tag < L.setup.depth }
-        ensures { IfOk result (λ command. Issues S.serves S.chooses self.old.core hw tag (Some command) self.new.core) }
+        ensures { IfOk result (λ command. Issues S.policy.serves S.policy.chooses self.old.core hw tag (Some command) self.new.core) }
     {
         if may_end {
             self.try_issue(hw, tag)
@@ -135,7 +135,7 @@ impl<S: Scheduler, L: Named> Kept<S, L> {
     /// Completes the command in flight under a tag, and counts it in a worker's part of the ledger.
     pub(crate) fn done(&mut self, share: &mut Share<L>, tag: u16) -> Result<(), NotIssued>
         requires { 0 < share.old.parts }
-        ensures done { OnOk result (Completes S.told_done self.old.core tag self.new.core) }
+        ensures done { OnOk result (Completes S.policy.told_done self.old.core tag self.new.core) }
         ensures counted { OnOk result (share.new.amount ≡ share.old.amount + 1) }
         ensures parts { share.new.parts ≡ share.old.parts }
         ensures same { OnErr result ((self.new.core ≡ self.old.core) × (share.new.amount ≡ share.old.amount)) }
@@ -155,7 +155,7 @@ impl<S: Scheduler, L: Named> Kept<S, L> {
 
     /// Ends the round, and answers the number of the next one.
     pub(crate) fn tick(&mut self) -> Result<u64, TickFault>
-        ensures ended { OnOk result (Ends S.told_tick self.old.core self.new.core) }
+        ensures ended { OnOk result (Ends S.policy.told_tick self.old.core self.new.core) }
         ensures answer { IsTickAnswer result }
         ensures fault { IfErr result (IsTickFault self.old.core) }
         ensures same { OnErr result (self.new.core ≡ self.old.core) }
@@ -187,7 +187,7 @@ impl<S: Scheduler, L: Named> Kept<S, L> {
     pub(crate) fn into_trace(self) -> Trace<S::A>
         ensures setup { result.setup ≡ self.core.setup }
         ensures events { result.events ≡ self.core.events }
-        ensures ran { IsRunFrom S.serves S.chooses S.told_done S.told_tick L.start result.events }
+        ensures ran { IsRunFrom S.policy L.start result.events }
     {
         let Kept { core, .. } = self;
         core.into_trace()

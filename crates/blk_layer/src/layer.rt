@@ -207,7 +207,7 @@ impl<S: Scheduler, L: Named> Layer<S, L> {
         hw: u8,
     ) -> Result<bool, CoreFault>
         requires { queue.old.limits ≡ core.old.setup.limits }
-        ensures { IsMoveAnswer S.serves queue.old core.old hw queue.new core.new result }
+        ensures { IsMoveAnswer S.policy.serves queue.old core.old hw queue.new core.new result }
     {
         move_first(queue, core, hw)
     }
@@ -223,7 +223,7 @@ impl<S: Scheduler, L: Named> Layer<S, L> {
         hw: u8,
     ) -> Result<u64, DrainFault>
         requires { queue.old.limits ≡ core.old.setup.limits }
-        ensures { IsMoveAllAnswer S.serves queue.old core.old hw queue.new core.new result }
+        ensures { IsMoveAllAnswer S.policy.serves queue.old core.old hw queue.new core.new result }
     {
         move_all(queue, core, hw)
     }
@@ -242,8 +242,8 @@ impl<S: Scheduler, L: Named> Layer<S, L> {
     pub fn try_issue(core: &mut Core<S>, hw: u8, tag: u16) -> Result<Command, NoneIssued>
         requires queue { hw < core.old.setup.hw }
         requires range { tag < core.old.setup.depth }
-        ensures issued { IfOk result (λ command. Issues S.serves S.chooses core.old hw tag (Some command) core.new) }
-        ensures fault { IfErr result (λ why. IsNoneIssued S.serves S.chooses S.told_tick core.old hw tag why core.new) }
+        ensures issued { IfOk result (λ command. Issues S.policy.serves S.policy.chooses core.old hw tag (Some command) core.new) }
+        ensures fault { IfErr result (λ why. IsNoneIssued S.policy.serves S.policy.chooses S.policy.told_tick core.old hw tag why core.new) }
     {
         try_issue(core, hw, tag)
     }
@@ -256,8 +256,8 @@ impl<S: Scheduler, L: Named> Layer<S, L> {
     /// trace or of memory. Only under `SlotUsed` and `TagRange` the round may have ended; else nothing is changed.
     pub fn issue_or_end(core: &mut Core<S>, hw: u8, tag: u16) -> Result<Option<Command>, IssueFault>
         requires { tag < core.old.setup.depth }
-        ensures issued { IfOk result (λ found. Issues S.serves S.chooses core.old hw tag found core.new) }
-        ensures fault { IfErr result (λ why. IsLastTryFault S.told_tick core.old hw tag why core.new) }
+        ensures issued { IfOk result (λ found. Issues S.policy.serves S.policy.chooses core.old hw tag found core.new) }
+        ensures fault { IfErr result (λ why. IsLastTryFault S.policy.told_tick core.old hw tag why core.new) }
     {
         issue_or_end(core, hw, tag)
     }

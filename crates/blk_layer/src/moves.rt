@@ -26,7 +26,7 @@ pub(crate) fn move_first<S: Scheduler>(
     hw: u8,
 ) -> Result<bool, CoreFault>
     requires { queue.old.limits ≡ core.old.setup.limits }
-    ensures { IsMoveAnswer S.serves queue.old core.old hw queue.new core.new result }
+    ensures { IsMoveAnswer S.policy.serves queue.old core.old hw queue.new core.new result }
 {
     if queue.len() == 0 {
         return Ok(false);
@@ -51,7 +51,7 @@ pub(crate) fn move_all<S: Scheduler>(
     hw: u8,
 ) -> Result<u64, DrainFault>
     requires { queue.old.limits ≡ core.old.setup.limits }
-    ensures { IsMoveAllAnswer S.serves queue.old core.old hw queue.new core.new result }
+    ensures { IsMoveAllAnswer S.policy.serves queue.old core.old hw queue.new core.new result }
 {
     let most = queue.len() as u64;
     for moved in 0..most {

@@ -204,7 +204,7 @@ impl<L: Named, A: Allocator + Clone> Worker<L, A> {
     ) -> Result<Issued, Unasked>
         requires { self.old.tag_set ≡ tags.now }
         ensures issued { IfOk result (λ issued. TakesInHand self.old issued.tag issued.command self.new) }
-        ensures core { IfOk result (λ issued. Issues S.serves S.chooses kept.old.core self.old.hw issued.tag (Some issued.command) kept.new.core) }
+        ensures core { IfOk result (λ issued. Issues S.policy.serves S.policy.chooses kept.old.core self.old.hw issued.tag (Some issued.command) kept.new.core) }
         ensures same { OnErr result (self.new ≡ self.old) }
     {
         let Some(tag) = tags.get_from(&mut self.seat, from) else {
@@ -247,7 +247,7 @@ impl<L: Named, A: Allocator + Clone> Worker<L, A> {
     ) -> Result<(), NotIssued>
         requires { self.old.tag_set ≡ tags.now }
         ensures done { OnOk result (AccountsFor self.old tag self.new) }
-        ensures core { OnOk result (Completes S.told_done kept.old.core tag kept.new.core) }
+        ensures core { OnOk result (Completes S.policy.told_done kept.old.core tag kept.new.core) }
         ensures same { OnErr result (self.new ≡ self.old) }
     {
         let Some(command) = self.in_hand(tag) else {

@@ -67,7 +67,7 @@ impl<L: Named, A: Allocator + Clone> Staged<L, A> {
         hw: u8,
     ) -> Result<u64, DrainFault>
         requires { hw < L.setup.hw }
-        ensures moved { IsMoveAllAnswer S.serves self.old.queue kept.old.core hw self.new.queue kept.new.core result }
+        ensures moved { IsMoveAllAnswer S.policy.serves self.old.queue kept.old.core hw self.new.queue kept.new.core result }
         ensures there { IfErr result (λ e. e.why ≢ CoreFault.NoQueue) }
     {
         kept.move_all(&mut self.queue, hw)

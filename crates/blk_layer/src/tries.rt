@@ -40,8 +40,8 @@ pub(crate) fn try_issue<S: Scheduler>(
 ) -> Result<Command, NoneIssued>
     requires queue { hw < core.old.setup.hw }
     requires range { tag < core.old.setup.depth }
-    ensures issued { IfOk result (λ command. Issues S.serves S.chooses core.old hw tag (Some command) core.new) }
-    ensures fault { IfErr result (λ why. IsNoneIssued S.serves S.chooses S.told_tick core.old hw tag why core.new) }
+    ensures issued { IfOk result (λ command. Issues S.policy.serves S.policy.chooses core.old hw tag (Some command) core.new) }
+    ensures fault { IfErr result (λ why. IsNoneIssued S.policy.serves S.policy.chooses S.policy.told_tick core.old hw tag why core.new) }
 {
     match core.issue(hw, tag) {
         Ok(Some(command)) => Ok(command),
@@ -56,7 +56,7 @@ pub(crate) fn try_issue<S: Scheduler>(
 
 /// Ends a round that is full, in which a tag is used up, and answers why nothing is issued under it.
 fn end_full<S: Scheduler>(core: &mut Core<S>, why: NoneIssued) -> NoneIssued
-    ensures { IsFullsEnd S.told_tick core.old why result core.new }
+    ensures { IsFullsEnd S.policy.told_tick core.old why result core.new }
 {
     if !is_full(core) {
         return why;
@@ -101,8 +101,8 @@ pub(crate) fn issue_or_end<S: Scheduler>(
     tag: u16,
 ) -> Result<Option<Command>, IssueFault>
     requires { tag < core.old.setup.depth }
-    ensures issued { IfOk result (λ found. Issues S.serves S.chooses core.old hw tag found core.new) }
-    ensures fault { IfErr result (λ why. IsLastTryFault S.told_tick core.old hw tag why core.new) }
+    ensures issued { IfOk result (λ found. Issues S.policy.serves S.policy.chooses core.old hw tag found core.new) }
+    ensures fault { IfErr result (λ why. IsLastTryFault S.policy.told_tick core.old hw tag why core.new) }
 {
     match core.issue(hw, tag) {
         Err(IssueFault::SlotUsed) => Err(end_used(core, IssueFault::SlotUsed)),
@@ -114,7 +114,7 @@ pub(crate) fn issue_or_end<S: Scheduler>(
 /// Ends the round, in which a tag is used up, and answers why nothing is issued under it: the reason that there was, or that for
 /// which the round can't end.
 fn end_used<S: Scheduler>(core: &mut Core<S>, why: IssueFault) -> IssueFault
-    ensures { IsRoundsEnd S.told_tick core.old why result core.new }
+    ensures { IsRoundsEnd S.policy.told_tick core.old why result core.new }
 {
     match core.tick() {
         Ok(_) | Err(TickFault::InFlight(_)) => why,

@@ -9,6 +9,7 @@ use Rattle.blk_bio.specs.Bios.{Bio}
 use Rattle.blk_bio.specs.Limits.{Limits}
 use Rattle.blk_bio.specs.Requests.{Fits}
 use Rattle.blk_sched.specs.Meaning.{Waiting, Pending, Meaning, ServesNothing, joined_waiting}
+use Rattle.blk_sched.specs.Policies.{Policy, choosing}
 
 -- every hardware queue serves every request
 abbrev pub serves_all : ℕ → Waiting → Bool
@@ -17,6 +18,10 @@ serves_all hw w = true
 -- it holds nothing back: None only where nothing waits; which one it hands out is the order of entry, which its meaning leaves out
 abbrev pub lifo_chooses : List ℕ → Meaning → ℕ → ℕ → Option Waiting → List ℕ → Type 0
 lifo_chooses kept m hw now answer after = IfNone answer (ServesNothing serves_all hw m) × (after ≡ kept)
+
+-- its policy
+abbrev pub lifo_policy : Policy
+lifo_policy = choosing serves_all lifo_chooses
 
 -- a request beside its id
 abbrev pub named : Waiting → ℕ × Waiting

@@ -6,7 +6,7 @@
 ghost use Rattle.std.specs.Prelude.{◌≡◌, ◌<◌, ◌+◌, ◌↔◌, OnOk, IfErr, OnErr, IfSome, IfNone, IsSome, None, length};
 ghost use Rattle.std.specs.FinMap as map;
 ghost use Rattle.blk_sched.specs.Meaning.{HasCandidate, HasNoCandidate, Joins, at_start};
-ghost use Rattle.blk_lifo.specs.Stacks.{serves_all, lifo_chooses, found, IsNewest, IsNewestOf, IsFitAt, IsPlaceOf, JoinsPlace};
+ghost use Rattle.blk_lifo.specs.Stacks.{serves_all, lifo_policy, found, IsNewest, IsNewestOf, IsFitAt, IsPlaceOf, JoinsPlace};
 
 use blk_bio::{Dir, Limits, Request, Side};
 use blk_sched::{OpenPicks, Queued, Scheduler};
@@ -106,9 +106,7 @@ impl<A: Allocator + Clone> Scheduler for Lifo<A> {
 
     ghost meaning = { λ s. s };
 
-    ghost serves = { serves_all };
-
-    ghost chooses = { lifo_chooses };
+    ghost policy = { lifo_policy };
 
     fn enter(&mut self, slot: &mut Option<Queued<A>>) -> Result<(), AllocError> {
         let Some(queued) = slot.take() else {

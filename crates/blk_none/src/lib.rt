@@ -4,7 +4,7 @@
 ghost use Rattle.std.specs.Prelude.{◌≡◌, ◌≤◌, ◌<◌, ◌+◌, ◌^◌, ◌↔◌, ℕ, Bool, ◌⊎◌, IfOk, OnOk, IfErr, OnErr, IfSome, IfNone, IsTrue, None, true, [], length, slice_index_or};
 ghost use Rattle.std.specs.FinMap as map;
 ghost use Rattle.blk_sched.specs.Meaning.{Waiting, Meaning, HasCandidate, HasNoCandidate, Joins, ServesNothing, Picks, HandsBack, opened, open_of, handed_of, at_start};
-ghost use Rattle.blk_none.specs.Choice.{serves_own, none_choice, none_chooses};
+ghost use Rattle.blk_none.specs.Choice.{serves_own, none_choice, none_chooses, none_policy};
 
 use blk_bio::{Dir, Limits, MAX_QUEUES, Request, Side};
 use blk_index::Lane;
@@ -125,9 +125,7 @@ impl<A: Allocator + Clone> Scheduler for NoneSched<A> {
 
     ghost meaning = { λ s. s };
 
-    ghost serves = { serves_own };
-
-    ghost chooses = { none_chooses };
+    ghost policy = { none_policy };
 
     #[inline(always)]
     fn enter(&mut self, slot: &mut Option<Queued<A>>) -> Result<(), AllocError> {

@@ -20,8 +20,7 @@ use Rattle.blk_core.specs.declared.Placed.{Placed}
 use Rattle.blk_core.specs.declared.Placed.TheVariants.{New, Joined as JoinedTo}
 use Rattle.blk_core.specs.State.{CoreState}
 use Rattle.blk_core.specs.Calls.{Places, Completes, Ends, SetsDepth}
-use Rattle.blk_earliest.specs.Choice.{serves_all}
-use Rattle.blk_online_sim.specs.ByRounds.{earliest_policy}
+use Rattle.blk_earliest.specs.Choice.{serves_all, earliest_policy}
 
 -- when a request is due that the scheduler has, and one that waits in the trace
 abbrev pub due_in : Pending → ℕ → Option ℕ

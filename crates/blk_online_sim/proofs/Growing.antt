@@ -13,7 +13,7 @@ use Rattle.blk_core.specs.State.{CoreState}
 use Rattle.blk_core.specs.Calls.{Places, Completes, Ends}
 use Rattle.blk_text.specs.declared.script.Line.{Line}
 use Rattle.blk_text.specs.declared.script.Line.TheVariants as line
-use Rattle.blk_sim.specs.Policies.{Policy}
+use Rattle.blk_sched.specs.Policies.{Policy}
 use Rattle.blk_sim.specs.Moves.{EnterInTurn, DrainInTurn}
 use Rattle.blk_sim.specs.Rounds.{AsksQueue, Gives, IssueInTurn, CompleteInTurn, Works, Rounds}
 use Rattle.blk_sim.specs.State.{SimState}

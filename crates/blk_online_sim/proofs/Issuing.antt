@@ -27,10 +27,10 @@ use Rattle.blk_trace.proofs.Waiting.{waiting_from}
 use Rattle.blk_core.specs.State.{CoreState}
 use Rattle.blk_core.specs.Calls.{SendsFrom}
 use Rattle.blk_sim.specs.Rounds.{Gives, IssueInTurn, IssuesAll}
-use Rattle.blk_earliest.specs.Choice.{serves_all, earliest_choice, earliest_chooses, kept_of}
+use Rattle.blk_earliest.specs.Choice.{serves_all, earliest_choice, earliest_chooses, kept_of, earliest_policy}
 use Rattle.blk_earliest.proofs.Chosen.{choice_first, choice_meetable, choice_none}
 use Rattle.blk_online.specs.Ticks.{AtTicks, WentOut}
-use Rattle.blk_online_sim.specs.ByRounds.{earliest_policy, HoldsNow}
+use Rattle.blk_online_sim.specs.ByRounds.{HoldsNow}
 use Rattle.blk_online_sim.proofs.Growing.{legal_before, grows_given}
 use Rattle.blk_online_sim.proofs.Agreeing.{IsBooked, waits_then, still_there, sent_booked}
 use Rattle.blk_online_sim.proofs.Quiet.{ticks_kept, used_or}

@@ -15,9 +15,9 @@ use Rattle.blk_text.specs.declared.script.Line.{Line}
 use Rattle.blk_text.specs.declared.script.Line.TheVariants as line
 use Rattle.blk_sim.specs.State.{SimState, start_of}
 use Rattle.blk_sim.specs.Runs.{Steps, Runs}
-use Rattle.blk_earliest.specs.Choice.{kept_of}
+use Rattle.blk_earliest.specs.Choice.{kept_of, earliest_policy}
 use Rattle.blk_online.specs.Ticks.{AtTicks}
-use Rattle.blk_online_sim.specs.ByRounds.{earliest_policy, HoldsNow, IsByRounds, IsLeastLate, IsOneSchedule, MeetsMost}
+use Rattle.blk_online_sim.specs.ByRounds.{HoldsNow, IsByRounds, IsLeastLate, IsOneSchedule, MeetsMost}
 use Rattle.blk_online.proofs.Laws.{trace_least, oracle_same, trace_most}
 use Rattle.blk_online_sim.proofs.Growing.{legal_before, grows_run}
 use Rattle.blk_online_sim.proofs.Quiet.{fresh_start}

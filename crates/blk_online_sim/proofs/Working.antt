@@ -25,9 +25,9 @@ use Rattle.blk_core.specs.State.{CoreState}
 use Rattle.blk_core.specs.Calls.{Places, Completes, Ends, SetsDepth}
 use Rattle.blk_sim.specs.Moves.{EnterInTurn, DrainInTurn}
 use Rattle.blk_sim.specs.Rounds.{CompleteInTurn, Works, Rounds}
-use Rattle.blk_earliest.specs.Choice.{serves_all, kept_of}
+use Rattle.blk_earliest.specs.Choice.{serves_all, kept_of, earliest_policy}
 use Rattle.blk_online.specs.Ticks.{AtTicks, WentOut, IsFull}
-use Rattle.blk_online_sim.specs.ByRounds.{earliest_policy, HoldsNow}
+use Rattle.blk_online_sim.specs.ByRounds.{HoldsNow}
 use Rattle.blk_online_sim.proofs.Growing.{Grows, grows_both, legal_before, grows_entered, grows_drained, grows_completed, grows_ended, grows_worked}
 use Rattle.blk_online_sim.proofs.Agreeing.{IsBooked, held_then, placed_booked, done_booked, ticked_booked, deep_booked}
 use Rattle.blk_online_sim.proofs.Quiet.{IsFresh, ticks_kept, ticks_more, served_same, fresh_kept, fresh_ticked}

@@ -1,4 +1,4 @@
--- The policy of the earliest scheduler, scripts whose rounds are all run as a whole, and what is then known as a round ends.
+-- Scripts whose rounds are all run as a whole, and what is then known as a round ends.
 use Rattle.std.specs.Prelude.{◌≡◌, ⊤, ℕ, ℤ, Bool, true, false, List}
 use Rattle.edd_check.specs.Schedule.{IsLegal, IsGreatestLateness, IsLeastLateness}
 use Rattle.edd_check.specs.Met.{number_met, IsMostMet}
@@ -9,13 +9,7 @@ use Rattle.blk_trace.specs.Depths.{capacity_of}
 use Rattle.blk_trace.specs.Meaning.{commands_of, rounds_of}
 use Rattle.blk_text.specs.declared.script.Line.{Line}
 use Rattle.blk_text.specs.declared.script.Line.TheVariants as line
-use Rattle.blk_sim.specs.Policies.{Policy, policy_of}
-use Rattle.blk_earliest.specs.Choice.{serves_all, earliest_chooses}
 use Rattle.blk_online.specs.Ticks.{IsEarliestNow, IsMeetableNow}
-
--- it serves every request for every hardware queue, chooses by due round and id, and keeps its setting
-abbrev pub earliest_policy : Policy
-earliest_policy = policy_of serves_all earliest_chooses (λ hw dir wait old new. new ≡ old) (λ round old new. new ≡ old)
 
 -- no step by hand: a bio, a flush, a drain, a depth, or whole rounds
 abbrev pub IsByRounds : Line → Type 0

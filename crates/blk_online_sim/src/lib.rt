@@ -13,14 +13,14 @@ ghost use Rattle.blk_text.specs.declared.script.Line.{Line};
 ghost use Rattle.blk_text.specs.Script.{Scripted, IsScript, scripted};
 ghost use Rattle.blk_sim.specs.State.{SimState, start_of};
 ghost use Rattle.blk_sim.specs.Runs.{Runs};
-ghost use Rattle.blk_earliest.specs.Choice.{kept_of};
+ghost use Rattle.blk_earliest.specs.Choice.{kept_of, earliest_policy};
 ghost use Rattle.blk_online.specs.Ticks.{AtTicks};
 ghost use Rattle.blk_report.specs.declared.figures.Report.{Report};
 ghost use Rattle.edd_figures.specs.declared.missing.Crowd.{Crowd};
 ghost use Rattle.blk_report.specs.Shortfall.{IsReport};
 ghost use Rattle.edd_figures.specs.Misses.{AreMisses};
 ghost use Rattle.blk_online_sim.specs.Told.{HasNoShortfall};
-ghost use Rattle.blk_online_sim.specs.ByRounds.{earliest_policy, IsByRounds, HoldsNow, IsLeastLate, IsOneSchedule, MeetsMost};
+ghost use Rattle.blk_online_sim.specs.ByRounds.{IsByRounds, HoldsNow, IsLeastLate, IsOneSchedule, MeetsMost};
 
 use blk_earliest::Earliest;
 use blk_sim::{SimFault, SimWhy, simulate};

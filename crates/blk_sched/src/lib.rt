@@ -7,6 +7,7 @@ ghost use Rattle.blk_bio.specs.Requests.{Fits};
 ghost use Rattle.blk_bio.specs.Answers.{IsJoinAnswer};
 ghost use Rattle.blk_bio.specs.declared.bio.Dir.{Dir};
 ghost use Rattle.blk_bio.specs.declared.request.Side.{Side};
+ghost use Rattle.blk_sched.specs.Policies.{Policy};
 ghost use Rattle.blk_sched.specs.Meaning.{Waiting, Meaning, HasCandidate, HasNoCandidate, Joins, ServesNothing, Picks, HandsBack, joined_waiting, opened, open_of, handed_of, unfinished};
 
 pub mod fits;
@@ -86,23 +87,13 @@ pub trait Scheduler: Drop {
     /// and the round.
     ghost meaning: { Self → Meaning };
 
-    /// Whether a pick for a hardware queue may take a request.
-    ghost serves: { ℕ → Waiting → Bool };
+    /// What it does by rules of its own: which requests a pick may take, which it chooses, and what it keeps once it is told of
+    /// a completion and of a round.
+    ghost policy: { Policy };
 
     /// What a scheduler keeps beside its meaning, as its turn or its settings, listed as numbers: inserts, joins and
     /// picks of nothing leave it. A scheduler that keeps no more has nothing in the list.
     ghost kept: { Self → List ℕ } = { λ _. [] };
-
-    /// Its choice: from what it keeps, its meaning, the hardware queue and now, to the answer of a pick and to what it
-    /// keeps then.
-    ghost chooses: { List ℕ → Meaning → ℕ → ℕ → Option Waiting → List ℕ → Type 0 };
-
-    /// What it keeps once a completion is reported, by the hardware queue, the direction and the wait: before and then.
-    /// It stays where nothing else is said.
-    ghost told_done: { ℕ → Dir → ℕ → List ℕ → List ℕ → Type 0 } = { λ _ _ _ old new. new ≡ old };
-
-    /// What it keeps once a round began, by that round: before and then. It stays where nothing else is said.
-    ghost told_tick: { ℕ → List ℕ → List ℕ → Type 0 } = { λ _ old new. new ≡ old };
 
     /// What an implementation writes for `insert`: takes the request out of the slot, and on a refusal leaves it there.
     fn enter(&mut self, slot: &mut Option<Queued<Self::A>>) -> Result<(), AllocError>
@@ -135,8 +126,8 @@ pub trait Scheduler: Drop {
     /// allows it, at the front.
     fn candidate(&self, hw: u8, limits: &Limits, newcomer: &Request<Self::A>) -> Option<(u64, Side)>
         requires { hw < MAX_QUEUES }
-        ensures some { IfSome result (λ r. HasCandidate serves hw limits.now newcomer.now (meaning self.now) r.0 r.1) }
-        ensures none { IfNone result (HasNoCandidate serves hw limits.now newcomer.now (meaning self.now)) };
+        ensures some { IfSome result (λ r. HasCandidate policy.serves hw limits.now newcomer.now (meaning self.now) r.0 r.1) }
+        ensures none { IfNone result (HasNoCandidate policy.serves hw limits.now newcomer.now (meaning self.now)) };
 
     /// What an implementation writes for `join`: takes the newcomer out of the slot, and on a refusal leaves it there.
     fn join_at(
@@ -151,8 +142,8 @@ pub trait Scheduler: Drop {
         requires hw { hw < MAX_QUEUES }
         requires round { now ≡ (meaning self.old).round }
         requires some { IsSome slot.old }
-        requires stands { IfSome slot.old (λ newcomer. HasCandidate serves hw limits.now newcomer (meaning self.old) id side) }
-        ensures joined { OnOk result (IfSome slot.old (λ newcomer. Joins serves hw now limits.now newcomer (meaning self.old) id side (meaning self.new))) }
+        requires stands { IfSome slot.old (λ newcomer. HasCandidate policy.serves hw limits.now newcomer (meaning self.old) id side) }
+        ensures joined { OnOk result (IfSome slot.old (λ newcomer. Joins policy.serves hw now limits.now newcomer (meaning self.old) id side (meaning self.new))) }
         ensures kept { OnOk result (Self.kept self.new ≡ Self.kept self.old) }
         ensures err { OnErr result (slot.new ≡ slot.old) }
         ensures same { OnErr result (self.new ≡ self.old) };
@@ -171,8 +162,8 @@ pub trait Scheduler: Drop {
     ) -> Result<(), (Request<Self::A>, AllocError)>
         requires hw { hw < MAX_QUEUES }
         requires round { now ≡ (meaning self.old).round }
-        requires stands { HasCandidate serves hw limits.now newcomer (meaning self.old) id side }
-        ensures joined { OnOk result (Joins serves hw now limits.now newcomer (meaning self.old) id side (meaning self.new)) }
+        requires stands { HasCandidate policy.serves hw limits.now newcomer (meaning self.old) id side }
+        ensures joined { OnOk result (Joins policy.serves hw now limits.now newcomer (meaning self.old) id side (meaning self.new)) }
         ensures kept { OnOk result (Self.kept self.new ≡ Self.kept self.old) }
         ensures err { IfErr result (λ e. e.0 ≡ newcomer) }
         ensures same { OnErr result (self.new ≡ self.old) }
@@ -199,9 +190,9 @@ pub trait Scheduler: Drop {
     ) -> Result<(u64, Side), (Request<Self::A>, JoinRefusal)>
         requires hw { hw < MAX_QUEUES }
         requires round { now ≡ (meaning self.old).round }
-        ensures joined { IfOk result (λ r. Joins serves hw now limits.now newcomer (meaning self.old) r.0 r.1 (meaning self.new)) }
+        ensures joined { IfOk result (λ r. Joins policy.serves hw now limits.now newcomer (meaning self.old) r.0 r.1 (meaning self.new)) }
         ensures kept { OnOk result (Self.kept self.new ≡ Self.kept self.old) }
-        ensures no_fit { IfErr result (λ e. (e.1 ≡ JoinRefusal.NoFit) ↔ HasNoCandidate serves hw limits.now newcomer (meaning self.old)) }
+        ensures no_fit { IfErr result (λ e. (e.1 ≡ JoinRefusal.NoFit) ↔ HasNoCandidate policy.serves hw limits.now newcomer (meaning self.old)) }
         ensures err { IfErr result (λ e. e.0 ≡ newcomer) }
         ensures same { OnErr result (self.new ≡ self.old) }
     {
@@ -222,12 +213,12 @@ pub trait Scheduler: Drop {
         requires hw { hw < MAX_QUEUES }
         requires round { now ≡ (meaning self.old).round }
         requires few { (meaning self.old).open_picks.reads + (meaning self.old).open_picks.writes < MAX_OPEN }
-        ensures chosen { chooses (Self.kept self.old) (meaning self.old) hw now result (Self.kept self.new) }
-        ensures picked { IfSome result (λ w. Picks serves hw (meaning self.old) w (meaning self.new)) }
-        ensures none { IfNone result ((0 < unfinished (meaning self.old).open_picks) ⊎ ServesNothing serves hw (meaning self.old)) }
+        ensures chosen { policy.chooses (Self.kept self.old) (meaning self.old) hw now result (Self.kept self.new) }
+        ensures picked { IfSome result (λ w. Picks policy.serves hw (meaning self.old) w (meaning self.new)) }
+        ensures none { IfNone result ((0 < unfinished (meaning self.old).open_picks) ⊎ ServesNothing policy.serves hw (meaning self.old)) }
         ensures same { IfNone result (meaning self.new ≡ meaning self.old) }
         ensures kept { IfNone result (Self.kept self.new ≡ Self.kept self.old) }
-        ensures own { (w : Waiting) → IsTrue (serves w.hw w) };
+        ensures own { (w : Waiting) → IsTrue (policy.serves w.hw w) };
 
     /// Closes an open pick of a direction, of which one must be open; `wait` is the number of rounds from the release of the request that was picked
     /// to its last issue, and `hw` the hardware queue that it was picked for.
@@ -235,7 +226,7 @@ pub trait Scheduler: Drop {
         requires hw { hw < MAX_QUEUES }
         requires is_open { 0 < open_of dir (meaning self.old).open_picks }
         ensures done { meaning self.old ≡ record (meaning self.new) { open_picks = opened dir (meaning self.new).open_picks } }
-        ensures told { told_done hw dir wait (Self.kept self.old) (Self.kept self.new) };
+        ensures told { policy.told_done hw dir wait (Self.kept self.old) (Self.kept self.new) };
 
     /// Hands back an open pick of a direction, of which one must be open: the device was busy. It is no completion. Fewer
     /// than `MAX_HANDED` may be handed back.
@@ -257,7 +248,7 @@ pub trait Scheduler: Drop {
     fn on_tick(&mut self, now: u64)
         requires { (meaning self.old).round < now }
         ensures round { meaning self.new ≡ record (meaning self.old) { round = now } }
-        ensures told { told_tick now (Self.kept self.old) (Self.kept self.new) };
+        ensures told { policy.told_tick now (Self.kept self.old) (Self.kept self.new) };
 
     /// How many requests wait.
     fn pending(&self) -> u64

@@ -14,7 +14,7 @@ use Rattle.blk_sim.specs.Moves.{Enters, EnterInTurn, drained, flushed_plug, with
 use Rattle.blk_sim.specs.Rounds.{Gives, IssueInTurn, CompleteInTurn, Works}
 use Rattle.blk_core.specs.Calls.{Completes}
 use Rattle.blk_sim.specs.Working.{WorkInTurn}
-use Rattle.blk_sim.specs.Policies.{Policy}
+use Rattle.blk_sched.specs.Policies.{Policy}
 use Rattle.blk_sim.specs.Refusals.{IsReleaseRefused, IsMoveRefused}
 
 pub enter_none : (policy : Policy) (hw : ℕ) (a : CoreState) → EnterInTurn policy hw [] a a

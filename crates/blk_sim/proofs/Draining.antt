@@ -19,7 +19,7 @@ use Rattle.blk_sim.specs.Moves.{bios_in, requests_in, served_requests, drained, 
 use Rattle.blk_sim.specs.Simulation.{Where, Plugged, Staged, Released, is_where}
 use Rattle.blk_sim.specs.Simulated.{Placing, picked, is_in, is_at, AreStaged, AreDrained, is_served, Passed}
 use Rattle.blk_sim.proofs.Events.{chain_took}
-use Rattle.blk_sim.specs.Policies.{Policy}
+use Rattle.blk_sched.specs.Policies.{Policy}
 use Rattle.blk_sim.proofs.Picking.{picked-same, picked-none, picked-both, IsSplit}
 
 -- tests that agree

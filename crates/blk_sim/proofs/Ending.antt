@@ -10,7 +10,7 @@ use Rattle.blk_text.specs.declared.script.Line.{Line}
 use Rattle.blk_sim.specs.Simulation.{ticks_of}
 use Rattle.blk_sim.specs.State.{SimState}
 use Rattle.blk_sim.specs.Runs.{Steps, Runs}
-use Rattle.blk_sim.specs.Policies.{Policy}
+use Rattle.blk_sched.specs.Policies.{Policy}
 use Rattle.blk_sim.proofs.Standing.{take_more}
 
 -- before the first line no round has passed

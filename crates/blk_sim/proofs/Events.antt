@@ -12,7 +12,7 @@ use Rattle.blk_core.specs.Calls.{AddsEvent, Places}
 use Rattle.blk_core.specs.declared.Placed.{Placed}
 use Rattle.blk_core.specs.declared.Placed.TheVariants.{New, Joined}
 use Rattle.blk_sim.specs.Moves.{Enters, EnterInTurn, bios_in}
-use Rattle.blk_sim.specs.Policies.{Policy}
+use Rattle.blk_sched.specs.Policies.{Policy}
 use Rattle.blk_sim.specs.Simulated.{Passed, TookIn}
 
 -- how many of a list with one more pass a test

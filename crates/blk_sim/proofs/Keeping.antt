@@ -34,7 +34,7 @@ use Rattle.blk_sim.proofs.Picking.{set_cases}
 use Rattle.blk_sim.proofs.Events.{adds_passed, passed_same, passed_trans, chain_took}
 use Rattle.blk_sim.proofs.Draining.{drained_same, drained_at, drain_drained, drain_count, all_drained, drained_passed}
 use Rattle.blk_sim.proofs.Holding.{come_added, come_flushed, come_more}
-use Rattle.blk_sim.specs.Policies.{Policy}
+use Rattle.blk_sched.specs.Policies.{Policy}
 use Rattle.blk_sim.proofs.Standing.{all_at, add_plugged, bio_stands, flush_plugged, flush_staged, flush_stands, let_go_stands, issue_goes, done_goes, back_goes, depth_goes, tick_goes, drain_goes, run_goes, fresh_stands}
 
 -- the core's steps by themselves let no bio enter

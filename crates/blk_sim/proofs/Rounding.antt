@@ -17,7 +17,7 @@ use Rattle.blk_sim.specs.Rounds.{AsksQueue, queue_asked, GiveNothing, IsGiven, I
 use Rattle.blk_sim.specs.Refusals.{IsWorkRefused, IsRunRefused, IsDrainInTurnRefused}
 use Rattle.blk_sim.specs.Working.{WorkInTurn, IsWorkInTurnRefused}
 use Rattle.blk_sim.proofs.Chains.{enter_none, drained_already, complete_done, complete_passed}
-use Rattle.blk_sim.specs.Policies.{Policy}
+use Rattle.blk_sched.specs.Policies.{Policy}
 use Rattle.blk_sim.proofs.Draining.{drained_none}
 
 -- one more hardware queue that gives nothing for a tag

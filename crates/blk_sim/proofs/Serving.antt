@@ -12,7 +12,7 @@ use Rattle.blk_sim.specs.declared.refusal.SimWhy.{SimWhy}
 use Rattle.blk_sim.specs.Moves.{EnterInTurn, requests_in, served_requests, drained}
 use Rattle.blk_sim.specs.Refusals.{IsMoveRefused}
 use Rattle.blk_sim.proofs.Chains.{enter_both}
-use Rattle.blk_sim.specs.Policies.{Policy}
+use Rattle.blk_sched.specs.Policies.{Policy}
 use Rattle.std.proofs.lemmas.Grind.{get_or-set_at}
 
 -- the requests of the first software queues

@@ -1,4 +1,3 @@
-pub mod Policies
 pub mod Simulation
 pub mod State
 pub mod Moves

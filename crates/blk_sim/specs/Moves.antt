@@ -9,7 +9,7 @@ use Rattle.blk_soft.specs.Queues.{Queue, bios_held}
 use Rattle.blk_core.specs.State.{CoreState}
 use Rattle.blk_core.specs.Calls.{Places}
 use Rattle.blk_core.specs.Faults.{CanRelease}
-use Rattle.blk_sim.specs.Policies.{Policy}
+use Rattle.blk_sched.specs.Policies.{Policy}
 use Rattle.blk_core.specs.declared.Placed.{Placed}
 
 -- the bios of requests, in their order

@@ -29,7 +29,7 @@ use Rattle.blk_sim.specs.declared.refusal.SimWhy.TheVariants as why
 use Rattle.blk_sim.specs.State.{SimState, start_of}
 use Rattle.blk_sim.specs.Moves.{EnterInTurn, DrainInTurn, served_requests}
 use Rattle.blk_sim.specs.Rounds.{queue_asked, GiveNothing, IssueInTurn, IssuesAll, CompleteInTurn, Rounds}
-use Rattle.blk_sim.specs.Policies.{Policy}
+use Rattle.blk_sched.specs.Policies.{Policy}
 use Rattle.blk_sim.specs.Runs.{Runs}
 
 -- a step's reason for what a plug, a release, an issue, a Back, a Depth and a tick are refused for; the hardware queues are there

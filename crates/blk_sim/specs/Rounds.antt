@@ -7,7 +7,7 @@ use Rattle.blk_trace.specs.Events.{IsUsed}
 use Rattle.blk_core.specs.State.{CoreState}
 use Rattle.blk_core.specs.Calls.{Issues, Completes, Ends}
 use Rattle.blk_core.specs.Faults.{CanIssue, CanTick, IsInFlight}
-use Rattle.blk_sim.specs.Policies.{Policy}
+use Rattle.blk_sched.specs.Policies.{Policy}
 use Rattle.blk_sim.specs.Moves.{DrainInTurn}
 
 -- a hardware queue is asked for a command under a tag, which it gives or not

@@ -7,7 +7,7 @@ use Rattle.blk_text.specs.declared.script.Line.{Line}
 use Rattle.blk_text.specs.declared.script.Line.TheVariants as line
 use Rattle.blk_sim.specs.State.{SimState}
 use Rattle.blk_sim.specs.Moves.{AddsBio, EmptiesPlug, Drains}
-use Rattle.blk_sim.specs.Policies.{Policy}
+use Rattle.blk_sched.specs.Policies.{Policy}
 use Rattle.blk_sim.specs.Rounds.{AsksQueue, Ticks, Rounds}
 
 -- what an accepted step does

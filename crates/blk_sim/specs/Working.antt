@@ -3,7 +3,7 @@ use Rattle.std.specs.Prelude.{◌≡◌, ◌<◌, ℕ, zero, suc}
 use Rattle.blk_core.specs.State.{CoreState}
 use Rattle.blk_sim.specs.declared.refusal.SimWhy.{SimWhy}
 use Rattle.blk_sim.specs.Rounds.{Works}
-use Rattle.blk_sim.specs.Policies.{Policy}
+use Rattle.blk_sched.specs.Policies.{Policy}
 use Rattle.blk_sim.specs.Refusals.{IsWorkRefused}
 
 -- the core works so many times

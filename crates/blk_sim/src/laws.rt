@@ -6,7 +6,6 @@ ghost use Rattle.blk_text.specs.Script.{LineFits};
 ghost use Rattle.blk_trace.specs.Events.{round_of};
 ghost use Rattle.blk_sim.specs.Simulation.{Where, Plugged, Released, moved, place_after, IsFlushedAndMoved, ticks_of};
 ghost use Rattle.blk_sim.specs.State.{SimState};
-ghost use Rattle.blk_sim.specs.Policies.{policy_of};
 ghost use Rattle.blk_sim.specs.Runs.{Steps};
 ghost use Rattle.blk_sim.specs.Simulated.{Placing, Stands, IsReady, stepped};
 
@@ -29,12 +28,12 @@ pub fn one_more_step()
 /// nor how many plugs and software queues there are.
 pub fn each_step_keeps<S: Scheduler>()
     ensures stands { (old : SimState) → (l : Line) → (new : SimState) → (book : List Placing)
-        → 0 < old.core.setup.hw → length old.queues ≡ length old.plugs → LineFits old.core.setup.hw (length old.plugs) l → Steps (policy_of S.serves S.chooses S.told_done S.told_tick) old l new
+        → 0 < old.core.setup.hw → length old.queues ≡ length old.plugs → LineFits old.core.setup.hw (length old.plugs) l → Steps S.policy old l new
         → Stands book old.plugs old.queues old.core.events → Stands (stepped old.core.setup.hw l book) new.plugs new.queues new.core.events }
     ensures ready { (n : ℕ) → (old : SimState) → (l : Line) → (new : SimState)
-        → Steps (policy_of S.serves S.chooses S.told_done S.told_tick) old l new → IsReady n old → IsReady (n + 1) new }
+        → Steps S.policy old l new → IsReady n old → IsReady (n + 1) new }
     ensures rounds { (old : SimState) → (l : Line) → (new : SimState)
-        → Steps (policy_of S.serves S.chooses S.told_done S.told_tick) old l new → round_of new.core.events ≡ round_of old.core.events + ticks_of l }
+        → Steps S.policy old l new → round_of new.core.events ≡ round_of old.core.events + ticks_of l }
     ensures setup { (old : SimState) → (l : Line) → (new : SimState)
-        → Steps (policy_of S.serves S.chooses S.told_done S.told_tick) old l new → new.core.setup ≡ old.core.setup }
+        → Steps S.policy old l new → new.core.setup ≡ old.core.setup }
 {}

@@ -3,7 +3,6 @@
 ghost use Rattle.std.specs.Prelude.{IsTrue, ◌↔◌, ◌≡◌, ◌≢◌, ◌≤◌, ◌<◌, ℕ, Some, slice_get, OnOk, OnErr, IfOk, IfErr, length};
 ghost use Rattle.blk_soft.specs.Queues.{Queue as QueueFields};
 ghost use Rattle.blk_trace.specs.Events.{IsUsed};
-ghost use Rattle.blk_sim.specs.Policies.{policy_of};
 ghost use Rattle.blk_sim.specs.Moves.{DrainInTurn};
 ghost use Rattle.blk_sim.specs.Rounds.{IsGiven, IssuesAll, CompleteInTurn, Works, Rounds};
 ghost use Rattle.blk_sim.specs.Refusals.{IsAskRefused, IsIssueInTurnRefused, IsWorkRefused, IsDrainInTurnRefused, IsRunRefused};
@@ -22,9 +21,9 @@ use blk_trace::MAX_DEPTH;
 /// Asks the hardware queues for a command under a tag, from the tag modulo their number on upward and round, until one
 /// gives one, and says whether one did.
 fn issue_tag<S: Scheduler>(core: &mut Core<S>, tag: u16) -> Result<bool, SimWhy>
-    ensures given { IfOk result (λ given. IsGiven (policy_of S.serves S.chooses S.told_done S.told_tick) tag core.old given core.new) }
+    ensures given { IfOk result (λ given. IsGiven S.policy tag core.old given core.new) }
     ensures used { IfErr result (λ w. w ≡ SimWhy.SlotUsed → IsUsed core.old.events tag) }
-    ensures refused { IfErr result (λ w. w ≢ SimWhy.SlotUsed → IsAskRefused (policy_of S.serves S.chooses S.told_done S.told_tick) tag core.old w) }
+    ensures refused { IfErr result (λ w. w ≢ SimWhy.SlotUsed → IsAskRefused S.policy tag core.old w) }
     ensures same { OnErr result (core.new ≡ core.old) }
 {
     let count = core.trace().setup().hw();
@@ -51,8 +50,8 @@ fn is_used(why: SimWhy) -> bool
 
 /// Issues under each tag below the depth of this round that was not used in it, rising, until nothing more is given.
 fn issue_all<S: Scheduler>(core: &mut Core<S>) -> Result<(), SimWhy>
-    ensures issued { OnOk result (IssuesAll (policy_of S.serves S.chooses S.told_done S.told_tick) core.old core.new) }
-    ensures refused { IfErr result (λ w. IsIssueInTurnRefused (policy_of S.serves S.chooses S.told_done S.told_tick) core.old w) }
+    ensures issued { OnOk result (IssuesAll S.policy core.old core.new) }
+    ensures refused { IfErr result (λ w. IsIssueInTurnRefused S.policy core.old w) }
 {
     prove!(core.trace().setup().depth() <= MAX_DEPTH);
     let depth = core.trace().depth_now() as u16;
@@ -72,7 +71,7 @@ fn issue_all<S: Scheduler>(core: &mut Core<S>) -> Result<(), SimWhy>
 
 /// Completes what is in flight, by rising tags.
 fn complete_all<S: Scheduler>(core: &mut Core<S>)
-    ensures { CompleteInTurn (policy_of S.serves S.chooses S.told_done S.told_tick) core.old.setup.depth core.old core.new }
+    ensures { CompleteInTurn S.policy core.old.setup.depth core.old core.new }
 {
     let depth = core.trace().setup().depth() as u16;
     for tag in 0..depth {
@@ -88,8 +87,8 @@ fn complete_all<S: Scheduler>(core: &mut Core<S>)
 
 /// One round: what can be issued is issued and completed, and the round ends.
 fn work<S: Scheduler>(core: &mut Core<S>) -> Result<(), SimWhy>
-    ensures worked { OnOk result (Works (policy_of S.serves S.chooses S.told_done S.told_tick) core.old core.new) }
-    ensures refused { IfErr result (λ w. IsWorkRefused (policy_of S.serves S.chooses S.told_done S.told_tick) core.old w) }
+    ensures worked { OnOk result (Works S.policy core.old core.new) }
+    ensures refused { IfErr result (λ w. IsWorkRefused S.policy core.old w) }
 {
     issue_all(core)?;
     complete_all(core);
@@ -99,8 +98,8 @@ fn work<S: Scheduler>(core: &mut Core<S>) -> Result<(), SimWhy>
 
 /// So many rounds of the core alone.
 fn work_rounds<S: Scheduler>(core: &mut Core<S>, count: u64) -> Result<(), SimWhy>
-    ensures worked { OnOk result (WorkInTurn (policy_of S.serves S.chooses S.told_done S.told_tick) count core.old core.new) }
-    ensures refused { IfErr result (λ w. IsWorkInTurnRefused (policy_of S.serves S.chooses S.told_done S.told_tick) count core.old w) }
+    ensures worked { OnOk result (WorkInTurn S.policy count core.old core.new) }
+    ensures refused { IfErr result (λ w. IsWorkInTurnRefused S.policy count core.old w) }
 {
     for _ in 0..count {
         work(core)?;
@@ -117,8 +116,8 @@ fn drain_all<S: Scheduler>(
     requires map { IsSpread core.old.setup.hw (length queues.old.items) map.now }
     requires limits { (s : ℕ) (queue : QueueFields) → slice_get queues.old.items s ≡ Some queue → queue.limits ≡ core.old.setup.limits }
     ensures some { 0 < core.old.setup.hw }
-    ensures drained { OnOk result (DrainInTurn (policy_of S.serves S.chooses S.told_done S.told_tick) core.old.setup.hw core.old.setup.hw queues.old.items core.old queues.new.items core.new) }
-    ensures refused { IfErr result (λ w. IsDrainInTurnRefused (policy_of S.serves S.chooses S.told_done S.told_tick) core.old.setup.hw queues.old.items core.old w) }
+    ensures drained { OnOk result (DrainInTurn S.policy core.old.setup.hw core.old.setup.hw queues.old.items core.old queues.new.items core.new) }
+    ensures refused { IfErr result (λ w. IsDrainInTurnRefused S.policy core.old.setup.hw queues.old.items core.old w) }
 {
     let count = core.trace().setup().hw();
     for hw in 0..count {
@@ -138,8 +137,8 @@ pub(crate) fn run<S: Scheduler>(
     requires some { 1 ≤ count }
     requires map { IsSpread core.old.setup.hw (length queues.old.items) map.now }
     requires limits { (s : ℕ) (queue : QueueFields) → slice_get queues.old.items s ≡ Some queue → queue.limits ≡ core.old.setup.limits }
-    ensures passed { OnOk result (Rounds (policy_of S.serves S.chooses S.told_done S.told_tick) count queues.old.items core.old queues.new.items core.new) }
-    ensures refused { IfErr result (λ w. IsRunRefused (policy_of S.serves S.chooses S.told_done S.told_tick) count queues.old.items core.old w) }
+    ensures passed { OnOk result (Rounds S.policy count queues.old.items core.old queues.new.items core.new) }
+    ensures refused { IfErr result (λ w. IsRunRefused S.policy count queues.old.items core.old w) }
 {
     drain_all(core, queues, map)?;
     work_rounds(core, count)?;

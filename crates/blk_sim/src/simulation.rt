@@ -6,7 +6,6 @@ ghost use Rattle.blk_sched.specs.Meaning.{at_start};
 ghost use Rattle.blk_trace.specs.Events.{entered, round_of};
 ghost use Rattle.blk_trace.specs.Legal.{IsLegalTrace};
 ghost use Rattle.blk_text.specs.Script.{IsScript, LineFits, scripted};
-ghost use Rattle.blk_sim.specs.Policies.{policy_of};
 ghost use Rattle.blk_sim.specs.Simulation.{released_bios, ticks_of};
 ghost use Rattle.blk_sim.specs.State.{SimState, start_of};
 ghost use Rattle.blk_sim.specs.Runs.{Steps, Runs};
@@ -158,8 +157,8 @@ impl<S: Scheduler> Simulation<S> {
         requires ready { IsReady (2 ^ 40) self.old }
         requires map { IsSpread self.old.core.setup.hw (length self.old.plugs) map.now }
         requires fits { LineFits self.old.core.setup.hw (length self.old.plugs) line }
-        ensures stepped { OnOk result (Steps (policy_of S.serves S.chooses S.told_done S.told_tick) self.old line self.new) }
-        ensures refused { IfErr result (λ w. IsStepRefused (policy_of S.serves S.chooses S.told_done S.told_tick) self.old line w) }
+        ensures stepped { OnOk result (Steps S.policy self.old line self.new) }
+        ensures refused { IfErr result (λ w. IsStepRefused S.policy self.old line w) }
     {
         match line {
             Line::Bio(bio) => {
@@ -229,13 +228,13 @@ pub fn simulate<S: Scheduler>(
     requires script { IsScript (scripted script.now) }
     requires start { S.meaning scheduler ≡ at_start (S.meaning scheduler).front }
     // the trace is that of a simulation to which all steps lead, from the start
-    ensures ran { IfOk result (λ trace. (end : SimState) × Runs (policy_of S.serves S.chooses S.told_done S.told_tick) script.now.lines.items (start_of (scripted script.now) (S.meaning scheduler) (S.kept scheduler)) end
+    ensures ran { IfOk result (λ trace. (end : SimState) × Runs S.policy script.now.lines.items (start_of (scripted script.now) (S.meaning scheduler) (S.kept scheduler)) end
         × (trace.setup ≡ end.core.setup) × (trace.events ≡ end.core.events)) }
     ensures setup { IfOk result (λ trace. trace.setup ≡ script.now.setup) }
     ensures legal { IfOk result (λ trace. IsLegalTrace trace.setup trace.events) }
     ensures bios { IfOk result (λ trace. IsPermutation (entered trace.events) (released_bios script.now.setup.hw script.now.lines.items)) }
     ensures ticks { IfOk result (λ trace. round_of trace.events ≡ sum_by ticks_of script.now.lines.items) }
-    ensures fault { IfErr result (IsSimFault (policy_of S.serves S.chooses S.told_done S.told_tick) (scripted script.now) (S.meaning scheduler) (S.kept scheduler)) }
+    ensures fault { IfErr result (IsSimFault S.policy (scripted script.now) (S.meaning scheduler) (S.kept scheduler)) }
 {
     let Ok((map, mut simulation)) = start(alloc, script, scheduler) else {
         return Err(SimFault {

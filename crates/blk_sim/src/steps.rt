@@ -7,7 +7,6 @@ ghost use Rattle.blk_plug.specs.Plugs.{Plug as PlugFields};
 ghost use Rattle.blk_soft.specs.Queues.{Queue as QueueFields};
 ghost use Rattle.blk_core.specs.Calls.{Completes, TakesBack, SetsDepth};
 ghost use Rattle.blk_core.specs.Faults.{IsInFlight, CanSetDepth};
-ghost use Rattle.blk_sim.specs.Policies.{policy_of};
 ghost use Rattle.blk_sim.specs.Moves.{AddsBio, EmptiesPlug, HasSoftRoom, flushed_plug, with_requests, bios_in, Enters, EnterInTurn, drained, Drains};
 ghost use Rattle.blk_sim.specs.Rounds.{AsksQueue, Ticks};
 ghost use Rattle.blk_sim.specs.Refusals.{IsBioRefused, IsFlushRefused, IsOverfull, IsReleaseRefused, IsIssueRefused, IsBackRefused, IsDepthRefused, IsTickRefused, IsMoveRefused, IsDrainRefused};
@@ -30,7 +29,7 @@ use std::alloc::Allocator;
 fn release<S: Scheduler>(core: &mut Core<S>, request: Request<S::A>, hw: u8) -> Result<(), SimWhy>
     requires queue { hw < core.old.setup.hw }
     requires within { IsWithin core.old.setup.limits request }
-    ensures entered { OnOk result (Enters (policy_of S.serves S.chooses S.told_done S.told_tick) hw request core.old core.new) }
+    ensures entered { OnOk result (Enters S.policy hw request core.old core.new) }
     ensures refused { IfErr result (λ w. IsReleaseRefused core.old request hw w) }
 {
     prove!(hw < core.trace().setup().hw());
@@ -47,7 +46,7 @@ pub(crate) fn issue<S: Scheduler>(
     tag: u16,
 ) -> Result<Option<Command>, SimWhy>
     requires { hw < core.old.setup.hw }
-    ensures asked { IfOk result (λ found. AsksQueue (policy_of S.serves S.chooses S.told_done S.told_tick) hw tag core.old found core.new) }
+    ensures asked { IfOk result (λ found. AsksQueue S.policy hw tag core.old found core.new) }
     ensures refused { IfErr result (λ w. IsIssueRefused core.old hw tag w) }
     ensures same { OnErr result (core.new ≡ core.old) }
 {
@@ -60,7 +59,7 @@ pub(crate) fn issue<S: Scheduler>(
 
 /// Completes what is in flight under a tag.
 pub(crate) fn done<S: Scheduler>(core: &mut Core<S>, tag: u16) -> Result<(), SimWhy>
-    ensures completed { OnOk result (Completes S.told_done core.old tag core.new) }
+    ensures completed { OnOk result (Completes S.policy.told_done core.old tag core.new) }
     ensures refused { IfErr result (λ w. (w ≡ SimWhy.NotIssued) × (IsInFlight core.old tag → ⊥)) }
     ensures same { OnErr result (core.new ≡ core.old) }
 {
@@ -94,7 +93,7 @@ pub(crate) fn set_depth<S: Scheduler>(core: &mut Core<S>, depth: u64) -> Result<
 
 /// Ends the round.
 pub(crate) fn tick<S: Scheduler>(core: &mut Core<S>) -> Result<(), SimWhy>
-    ensures ticked { OnOk result (Ticks (policy_of S.serves S.chooses S.told_done S.told_tick) core.old core.new) }
+    ensures ticked { OnOk result (Ticks S.policy core.old core.new) }
     ensures refused { IfErr result (λ w. IsTickRefused core.old w) }
 {
     prove!(core.trace().len() <= MAX_EVENTS);
@@ -134,8 +133,8 @@ fn drain_queue<S: Scheduler>(
     requires queue { hw < core.old.setup.hw }
     requires limits { queue.old.limits ≡ core.old.setup.limits }
     ensures emptied { OnOk result (queue.new ≡ drained queue.old) }
-    ensures entered { OnOk result (EnterInTurn (policy_of S.serves S.chooses S.told_done S.told_tick) hw queue.old.requests core.old core.new) }
-    ensures refused { IfErr result (λ w. IsMoveRefused (policy_of S.serves S.chooses S.told_done S.told_tick) queue.old.requests core.old hw w) }
+    ensures entered { OnOk result (EnterInTurn S.policy hw queue.old.requests core.old core.new) }
+    ensures refused { IfErr result (λ w. IsMoveRefused S.policy queue.old.requests core.old hw w) }
 {
     while let Some(request) = queue.take_first() {
         release(core, request, hw)?;
@@ -153,8 +152,8 @@ pub(crate) fn drain<S: Scheduler>(
     requires queue { hw < core.old.setup.hw }
     requires map { IsSpread core.old.setup.hw (length queues.old.items) map.now }
     requires limits { (s : ℕ) (queue : QueueFields) → slice_get queues.old.items s ≡ Some queue → queue.limits ≡ core.old.setup.limits }
-    ensures drained { OnOk result (Drains (policy_of S.serves S.chooses S.told_done S.told_tick) core.old.setup.hw hw queues.old.items core.old queues.new.items core.new) }
-    ensures refused { IfErr result (λ w. IsDrainRefused (policy_of S.serves S.chooses S.told_done S.told_tick) core.old.setup.hw hw queues.old.items core.old w) }
+    ensures drained { OnOk result (Drains S.policy core.old.setup.hw hw queues.old.items core.old queues.new.items core.new) }
+    ensures refused { IfErr result (λ w. IsDrainRefused S.policy core.old.setup.hw hw queues.old.items core.old w) }
 {
     for s in 0..queues.len() {
         if map.hw_of(s) == hw {

@@ -2,7 +2,8 @@
 use Rattle.std.specs.Prelude.{◌≡◌, ◌<◌, ◌⊎◌}
 use Rattle.blk_trace.specs.Events.{open_count}
 use Rattle.blk_core.specs.State.{CoreState}
-use Rattle.blk_core.specs.Calls.{OfTick, Ends}
+use Rattle.blk_sched.specs.Policies.{OfTick}
+use Rattle.blk_core.specs.Calls.{Ends}
 use Rattle.blk_core.specs.Faults.{IsTickFault}
 use Rattle.blk_core.specs.declared.IssueFault.{IssueFault}
 use Rattle.blk_core.specs.declared.IssueFault.TheVariants as issue

@@ -6,7 +6,7 @@ use Rattle.blk_trace.specs.Events.{round_of}
 use Rattle.blk_sched.specs.Meaning.{Waiting, Meaning, open_of, opened}
 use Rattle.blk_core.specs.declared.TagState.TheVariants.{Free, Flying, Spent}
 use Rattle.blk_core.specs.Inside.Ties.{flight_of}
-use Rattle.blk_core.specs.Calls.{OfDone}
+use Rattle.blk_sched.specs.Policies.{OfDone}
 use Rattle.blk_trace.specs.declared.event.Event.TheVariants.{Done}
 use Rattle.blk_core.proofs.Pushed.{pushed_at_once}
 use Rattle.blk_core.proofs.Ties.{open_flight, read_at, beyond, flying_open, not_flying}
@@ -65,7 +65,7 @@ returns-clause-done g c =
       c.self.invariant.flown c.args.tag c.in-Flying.hw w at,
       (p.same, p.added),
       completed_by (g.S.Scheduler.meaning c.self.inside.scheduler) (g.S.Scheduler.meaning c.on_done.new.self) c.dir-dir.result (dir_of w.bios) dir_is c.on_done.ensures.done,
-      told_at g.S.Scheduler.told_done c.in-Flying.hw c.dir-dir.result (dir_of w.bios) c.saturating_sub-wait.result (round_of c.self.inside.trace.events - w.release) (g.S.Scheduler.kept c.self.inside.scheduler) (g.S.Scheduler.kept c.on_done.new.self) dir_is wait_is c.on_done.ensures.told,
+      told_at g.S.Scheduler.policy.told_done c.in-Flying.hw c.dir-dir.result (dir_of w.bios) c.saturating_sub-wait.result (round_of c.self.inside.trace.events - w.release) (g.S.Scheduler.kept c.self.inside.scheduler) (g.S.Scheduler.kept c.on_done.new.self) dir_is wait_is c.on_done.ensures.told,
       map-set flight_of c.self.inside.tags.items c.args.tag (Spent c.dir-dir.result),
       refl,
     )

@@ -10,7 +10,7 @@ use Rattle.blk_sched.specs.Meaning.{Waiting, Meaning, ServesNothing}
 use Rattle.blk_core.proofs.Pushed.{IsPushed, pushed, unbroken, ready_for}
 use Rattle.blk_core.proofs.Ties.{free_slot, few_open, open_issue, tag_there}
 use Rattle.blk_core.proofs.Sent.{sent_waits, issue_allowed, tied_issue, last_command, sends_at}
-use Rattle.blk_core.specs.Calls.{Choice}
+use Rattle.blk_sched.specs.Policies.{Choice}
 use Rattle.blk_core.specs.State.{Flight, CoreState, entered_of}
 use Rattle.blk_core.specs.declared.TagState.TheVariants.{Flying}
 use Rattle.blk_core.specs.Inside.Ties.{IsTied, flight_of}
@@ -39,9 +39,9 @@ returns-in_default-next-clause-issued g c =
       same_core c.prepare.new.trace.setup c.self.inside.trace.setup c.prepare.new.trace.events c.self.inside.trace.events (g.S.Scheduler.meaning c.next.new.scheduler) (g.S.Scheduler.meaning c.self.inside.scheduler) (g.S.Scheduler.kept c.next.new.scheduler) (g.S.Scheduler.kept c.self.inside.scheduler) (map flight_of c.self.inside.tags.items) c.next.new.held c.self.inside.held
           (ap (λ (t : Traced). t.setup) c.in-Ok.ensures.ok) (ap (λ (t : Traced). t.events) c.in-Ok.ensures.ok) same.0 same.1 same.2,
       c.in_default-next.ensures.none,
-      chosen_at g.S.Scheduler.chooses (g.S.Scheduler.kept c.self.inside.scheduler) (g.S.Scheduler.meaning c.self.inside.scheduler) c.args.hw c.round-now.result (round_of c.self.inside.trace.events)
+      chosen_at g.S.Scheduler.policy.chooses (g.S.Scheduler.kept c.self.inside.scheduler) (g.S.Scheduler.meaning c.self.inside.scheduler) c.args.hw c.round-now.result (round_of c.self.inside.trace.events)
           (c.round-now.ensures.value ∙ ap (λ (t : Traced). round_of t.events) c.in-Ok.ensures.ok) c.in_default-next.ensures.chosen,
-      open_issue c.self.inside.trace.setup c.self.inside.trace.events _ c.self.inside.tags.items c.self.inside.held c.self.inside.released (ServesNothing g.S.Scheduler.serves c.args.hw (g.S.Scheduler.meaning c.self.inside.scheduler)) c.self.invariant c.in_default-next.ensures.waits,
+      open_issue c.self.inside.trace.setup c.self.inside.trace.events _ c.self.inside.tags.items c.self.inside.held c.self.inside.released (ServesNothing g.S.Scheduler.policy.serves c.args.hw (g.S.Scheduler.meaning c.self.inside.scheduler)) c.self.invariant c.in_default-next.ensures.waits,
     )
 
 pub add-requires-clause-unbroken : goal.add-requires-clause-unbroken
@@ -49,9 +49,9 @@ add-requires-clause-unbroken g c =
     let can : CanIssue (record { setup = c.self.inside.trace.setup; events = c.self.inside.trace.events; meaning = g.S.Scheduler.meaning c.self.inside.scheduler; kept = g.S.Scheduler.kept c.self.inside.scheduler; flights = map flight_of c.self.inside.tags.items; held = c.self.inside.held }) c.args.hw c.args.tag = subst (λ (v : CoreState). CanIssue v c.args.hw c.args.tag) (sym c.self.view_is) c.in_default.ensures.none in
     let lt : c.args.tag < length c.self.inside.tags.items = tag_there c.self.inside.trace.setup c.self.inside.trace.events _ c.self.inside.tags.items c.self.inside.held c.self.inside.released c.args.tag c.self.invariant can.range in
     let w : Waiting = record { id = c.queued.inside.id; hw = c.queued.inside.hw; release = c.queued.inside.release; due = c.queued.inside.due; bios = c.queued.inside.request } in
-    let sends = sends_at g.S.Scheduler.serves g.S.Scheduler.chooses c.args.hw c.round-now.result (round_of c.self.inside.trace.events) (get_or c.self.inside.held c.args.hw []) (g.S.Scheduler.meaning c.self.inside.scheduler) (g.S.Scheduler.meaning c.next.new.scheduler) (g.S.Scheduler.kept c.self.inside.scheduler) (g.S.Scheduler.kept c.next.new.scheduler) c.self.inside.held c.next.new.held c.in-Some-next.queued w
+    let sends = sends_at g.S.Scheduler.policy.serves g.S.Scheduler.policy.chooses c.args.hw c.round-now.result (round_of c.self.inside.trace.events) (get_or c.self.inside.held c.args.hw []) (g.S.Scheduler.meaning c.self.inside.scheduler) (g.S.Scheduler.meaning c.next.new.scheduler) (g.S.Scheduler.kept c.self.inside.scheduler) (g.S.Scheduler.kept c.next.new.scheduler) c.self.inside.held c.next.new.held c.in-Some-next.queued w
     (c.round-now.ensures.value ∙ ap (λ (t : Traced). round_of t.events) c.in-Ok.ensures.ok) (sym c.queued.view_is) c.in-Some-next.ensures.some in
-    let waits : waits_at c.self.inside.trace.setup c.self.inside.trace.events w.id ≡ Some (entered_of w) = sent_waits c.self.inside.trace.setup c.self.inside.trace.events _ _ c.self.inside.tags.items c.self.inside.held c.next.new.held c.self.inside.released g.S.Scheduler.serves g.S.Scheduler.chooses _ _ c.args.hw (round_of c.self.inside.trace.events) w (get_or c.self.inside.held c.args.hw []) c.self.invariant refl sends in
+    let waits : waits_at c.self.inside.trace.setup c.self.inside.trace.events w.id ≡ Some (entered_of w) = sent_waits c.self.inside.trace.setup c.self.inside.trace.events _ _ c.self.inside.tags.items c.self.inside.held c.next.new.held c.self.inside.released g.S.Scheduler.policy.serves g.S.Scheduler.policy.chooses _ _ c.args.hw (round_of c.self.inside.trace.events) w (get_or c.self.inside.held c.args.hw []) c.self.invariant refl sends in
     unbroken c.self.inside.trace.setup c.self.inside.trace.events c.prepare.new.trace _ (Issue c.queued.inside.id c.args.tag) c.in-Ok.ensures.ok c.self.invariant.legal
     (issue_allowed c.self.inside.trace.setup c.self.inside.trace.events _ c.self.inside.tags.items c.self.inside.held c.self.inside.released c.args.tag w c.self.invariant waits can.range lt
     (free_slot c.self.inside.trace.setup c.self.inside.trace.events _ c.self.inside.tags.items c.self.inside.held c.self.inside.released c.args.tag c.self.invariant lt can.free))
@@ -65,10 +65,10 @@ invariant_of-self-2 g c =
     let can : CanIssue (record { setup = c.self.inside.trace.setup; events = c.self.inside.trace.events; meaning = g.S.Scheduler.meaning c.self.inside.scheduler; kept = g.S.Scheduler.kept c.self.inside.scheduler; flights = map flight_of c.self.inside.tags.items; held = c.self.inside.held }) c.args.hw c.args.tag = subst (λ (v : CoreState). CanIssue v c.args.hw c.args.tag) (sym c.self.view_is) c.in_default.ensures.none in
     let lt : c.args.tag < length c.self.inside.tags.items = tag_there c.self.inside.trace.setup c.self.inside.trace.events _ c.self.inside.tags.items c.self.inside.held c.self.inside.released c.args.tag c.self.invariant can.range in
     let w : Waiting = record { id = c.queued.inside.id; hw = c.queued.inside.hw; release = c.queued.inside.release; due = c.queued.inside.due; bios = c.queued.inside.request } in
-    let sends = sends_at g.S.Scheduler.serves g.S.Scheduler.chooses c.args.hw c.round-now.result (round_of c.self.inside.trace.events) (get_or c.self.inside.held c.args.hw []) (g.S.Scheduler.meaning c.self.inside.scheduler) (g.S.Scheduler.meaning c.next.new.scheduler) (g.S.Scheduler.kept c.self.inside.scheduler) (g.S.Scheduler.kept c.next.new.scheduler) c.self.inside.held c.next.new.held c.in-Some-next.queued w
+    let sends = sends_at g.S.Scheduler.policy.serves g.S.Scheduler.policy.chooses c.args.hw c.round-now.result (round_of c.self.inside.trace.events) (get_or c.self.inside.held c.args.hw []) (g.S.Scheduler.meaning c.self.inside.scheduler) (g.S.Scheduler.meaning c.next.new.scheduler) (g.S.Scheduler.kept c.self.inside.scheduler) (g.S.Scheduler.kept c.next.new.scheduler) c.self.inside.held c.next.new.held c.in-Some-next.queued w
     (c.round-now.ensures.value ∙ ap (λ (t : Traced). round_of t.events) c.in-Ok.ensures.ok) (sym c.queued.view_is) c.in-Some-next.ensures.some in
     subst (λ x. IsTied c.add.new.self.setup c.add.new.self.events (g.S.Scheduler.meaning c.next.new.scheduler) (set c.self.inside.tags.items c.args.tag (Flying c.args.hw x)) c.next.new.held c.self.inside.released) c.queued.view_is
-    (tied_issue c.self.inside.trace.setup c.add.new.self.setup c.self.inside.trace.events c.add.new.self.events (g.S.Scheduler.meaning c.self.inside.scheduler) (g.S.Scheduler.meaning c.next.new.scheduler) c.self.inside.tags.items c.self.inside.held c.next.new.held c.self.inside.released g.S.Scheduler.serves g.S.Scheduler.chooses _ _ c.args.hw (round_of c.self.inside.trace.events) c.args.tag w (get_or c.self.inside.held c.args.hw [])
+    (tied_issue c.self.inside.trace.setup c.add.new.self.setup c.self.inside.trace.events c.add.new.self.events (g.S.Scheduler.meaning c.self.inside.scheduler) (g.S.Scheduler.meaning c.next.new.scheduler) c.self.inside.tags.items c.self.inside.held c.next.new.held c.self.inside.released g.S.Scheduler.policy.serves g.S.Scheduler.policy.chooses _ _ c.args.hw (round_of c.self.inside.trace.events) c.args.tag w (get_or c.self.inside.held c.args.hw [])
     (pushed c.self.inside.trace.setup c.self.inside.trace.events c.prepare.new.trace c.add.new.self (Issue c.queued.inside.id c.args.tag) _ _ c.in-Ok.ensures.ok c.add.ensures.added c.add.ensures.legal)
     c.self.invariant refl sends lt
     (free_slot c.self.inside.trace.setup c.self.inside.trace.events _ c.self.inside.tags.items c.self.inside.held c.self.inside.released c.args.tag c.self.invariant lt can.free)
@@ -77,9 +77,9 @@ invariant_of-self-2 g c =
 pub returns-clause-issued : goal.returns-clause-issued
 returns-clause-issued g c =
     let w : Waiting = record { id = c.queued.inside.id; hw = c.queued.inside.hw; release = c.queued.inside.release; due = c.queued.inside.due; bios = c.queued.inside.request } in
-    let sends = sends_at g.S.Scheduler.serves g.S.Scheduler.chooses c.args.hw c.round-now.result (round_of c.self.inside.trace.events) (get_or c.self.inside.held c.args.hw []) (g.S.Scheduler.meaning c.self.inside.scheduler) (g.S.Scheduler.meaning c.next.new.scheduler) (g.S.Scheduler.kept c.self.inside.scheduler) (g.S.Scheduler.kept c.next.new.scheduler) c.self.inside.held c.next.new.held c.in-Some-next.queued w
+    let sends = sends_at g.S.Scheduler.policy.serves g.S.Scheduler.policy.chooses c.args.hw c.round-now.result (round_of c.self.inside.trace.events) (get_or c.self.inside.held c.args.hw []) (g.S.Scheduler.meaning c.self.inside.scheduler) (g.S.Scheduler.meaning c.next.new.scheduler) (g.S.Scheduler.kept c.self.inside.scheduler) (g.S.Scheduler.kept c.next.new.scheduler) c.self.inside.held c.next.new.held c.in-Some-next.queued w
     (c.round-now.ensures.value ∙ ap (λ (t : Traced). round_of t.events) c.in-Ok.ensures.ok) (sym c.queued.view_is) c.in-Some-next.ensures.some in
-    let waits : waits_at c.self.inside.trace.setup c.self.inside.trace.events w.id ≡ Some (entered_of w) = sent_waits c.self.inside.trace.setup c.self.inside.trace.events _ _ c.self.inside.tags.items c.self.inside.held c.next.new.held c.self.inside.released g.S.Scheduler.serves g.S.Scheduler.chooses _ _ c.args.hw (round_of c.self.inside.trace.events) w (get_or c.self.inside.held c.args.hw []) c.self.invariant refl sends in
+    let waits : waits_at c.self.inside.trace.setup c.self.inside.trace.events w.id ≡ Some (entered_of w) = sent_waits c.self.inside.trace.setup c.self.inside.trace.events _ _ c.self.inside.tags.items c.self.inside.held c.next.new.held c.self.inside.released g.S.Scheduler.policy.serves g.S.Scheduler.policy.chooses _ _ c.args.hw (round_of c.self.inside.trace.events) w (get_or c.self.inside.held c.args.hw []) c.self.invariant refl sends in
     let p : IsPushed c.self.inside.trace.setup c.self.inside.trace.events (Issue c.queued.inside.id c.args.tag) c.add.new.self.setup c.add.new.self.events = pushed c.self.inside.trace.setup c.self.inside.trace.events c.prepare.new.trace c.add.new.self (Issue c.queued.inside.id c.args.tag) _ _ c.in-Ok.ensures.ok c.add.ensures.added c.add.ensures.legal in
     rw (← c.self.view_is) (
       w,

@@ -17,7 +17,7 @@ add-requires-clause-unbroken g c =
     let once : AreOnce (entered c.self.inside.trace.events ++ c.in-Ok.copy) = subst (λ x. AreOnce (entered c.self.inside.trace.events ++ x)) (sym c.in-Ok.ensures.copy) can.once in
     let room = can.room in
     let lim : c.limits-limits.result ≡ c.self.inside.trace.setup.limits = c.limits-limits.ensures ∙ ap (λ (s : Setup). s.limits) c.setup.ensures ∙ ap (λ (t : Traced). t.setup.limits) c.in-Ok.ensures.ok in
-    let joins : Joins g.S.Scheduler.serves c.args.hw c.round-now.result c.self.inside.trace.setup.limits c.in-Ok.copy (g.S.Scheduler.meaning c.self.inside.scheduler) c.args.id c.args.side (g.S.Scheduler.meaning c.join.new.self) = joins_at g.S.Scheduler.serves c.args.hw c.round-now.result c.limits-limits.result c.self.inside.trace.setup.limits c.args.request c.in-Ok.copy (g.S.Scheduler.meaning c.self.inside.scheduler) (g.S.Scheduler.meaning c.join.new.self) c.args.id c.args.side lim (sym c.in-Ok.ensures.copy) c.in_default-join.ensures.joined in
+    let joins : Joins g.S.Scheduler.policy.serves c.args.hw c.round-now.result c.self.inside.trace.setup.limits c.in-Ok.copy (g.S.Scheduler.meaning c.self.inside.scheduler) c.args.id c.args.side (g.S.Scheduler.meaning c.join.new.self) = joins_at g.S.Scheduler.policy.serves c.args.hw c.round-now.result c.limits-limits.result c.self.inside.trace.setup.limits c.args.request c.in-Ok.copy (g.S.Scheduler.meaning c.self.inside.scheduler) (g.S.Scheduler.meaning c.join.new.self) c.args.id c.args.side lim (sym c.in-Ok.ensures.copy) c.in_default-join.ensures.joined in
     unbroken c.self.inside.trace.setup c.self.inside.trace.events c.prepared.new.trace _ (Join c.args.id c.in-Ok.copy) c.in-Ok.ensures.ok c.self.invariant.legal
     (join_allowed c.self.inside.trace.setup c.self.inside.trace.events _ _ _ _ _ _ _ _ c.in-Ok.copy c.args.id c.args.side c.self.invariant joins once)
     (omega arith)
@@ -29,7 +29,7 @@ pub invariant_of-self-2 : goal.invariant_of-self-2
 invariant_of-self-2 g c =
     let now_is : c.round-now.result ≡ round_of c.self.inside.trace.events = c.round-now.ensures.value ∙ ap (λ (t : Traced). round_of t.events) c.in-Ok.ensures.ok in
     let lim : c.limits-limits.result ≡ c.self.inside.trace.setup.limits = c.limits-limits.ensures ∙ ap (λ (s : Setup). s.limits) c.setup.ensures ∙ ap (λ (t : Traced). t.setup.limits) c.in-Ok.ensures.ok in
-    tied_join c.self.inside.trace.setup c.add.new.self.setup c.self.inside.trace.events c.add.new.self.events (g.S.Scheduler.meaning c.self.inside.scheduler) (g.S.Scheduler.meaning c.join.new.self) c.self.inside.tags.items c.self.inside.held c.self.inside.released g.S.Scheduler.serves c.args.hw c.round-now.result c.in-Ok.copy c.args.id c.args.side
+    tied_join c.self.inside.trace.setup c.add.new.self.setup c.self.inside.trace.events c.add.new.self.events (g.S.Scheduler.meaning c.self.inside.scheduler) (g.S.Scheduler.meaning c.join.new.self) c.self.inside.tags.items c.self.inside.held c.self.inside.released g.S.Scheduler.policy.serves c.args.hw c.round-now.result c.in-Ok.copy c.args.id c.args.side
     (pushed c.self.inside.trace.setup c.self.inside.trace.events c.prepared.new.trace c.add.new.self (Join c.args.id c.in-Ok.copy) _ _ c.in-Ok.ensures.ok c.add.ensures.added c.add.ensures.legal)
     c.self.invariant now_is
-    (joins_at g.S.Scheduler.serves c.args.hw c.round-now.result c.limits-limits.result c.self.inside.trace.setup.limits c.args.request c.in-Ok.copy (g.S.Scheduler.meaning c.self.inside.scheduler) (g.S.Scheduler.meaning c.join.new.self) c.args.id c.args.side lim (sym c.in-Ok.ensures.copy) c.in_default-join.ensures.joined)
+    (joins_at g.S.Scheduler.policy.serves c.args.hw c.round-now.result c.limits-limits.result c.self.inside.trace.setup.limits c.args.request c.in-Ok.copy (g.S.Scheduler.meaning c.self.inside.scheduler) (g.S.Scheduler.meaning c.join.new.self) c.args.id c.args.side lim (sym c.in-Ok.ensures.copy) c.in_default-join.ensures.joined)

@@ -4,7 +4,7 @@ use Rattle.blk_trace.specs.declared.event.Event.TheVariants.{Tick}
 use Rattle.blk_trace.specs.Events.{open_count, round_of}
 use Rattle.blk_sched.specs.Meaning.{Meaning}
 use Rattle.blk_core.specs.Inside.Ties.{flight_of}
-use Rattle.blk_core.specs.Calls.{OfTick}
+use Rattle.blk_sched.specs.Policies.{OfTick}
 use Rattle.blk_core.specs.declared.TagState.TheVariants.{Free}
 use Rattle.blk_core.proofs.Pushed.{IsPushed, pushed, unbroken, ready_for}
 use Rattle.blk_core.proofs.Ties.{tied_tick, tick_allowed, round_next, none_in_flight}
@@ -48,7 +48,7 @@ returns-clause-ended g c =
     rw (← c.self.view_is) (
       (p.same, p.added),
       ticked_at (g.S.Scheduler.meaning c.self.inside.scheduler) (g.S.Scheduler.meaning c.on_tick.new.self) c.round-now.result (round_of c.add.new.self.events) c.round-now.ensures.value c.on_tick.ensures.round,
-      told_at g.S.Scheduler.told_tick c.round-now.result (round_of c.add.new.self.events) (g.S.Scheduler.kept c.self.inside.scheduler) (g.S.Scheduler.kept c.on_tick.new.self) c.round-now.ensures.value c.on_tick.ensures.told,
+      told_at g.S.Scheduler.policy.told_tick c.round-now.result (round_of c.add.new.self.events) (g.S.Scheduler.kept c.self.inside.scheduler) (g.S.Scheduler.kept c.on_tick.new.self) c.round-now.ensures.value c.on_tick.ensures.told,
       ap (map flight_of) (put_back Free c.clear.new.tags c.self.inside.tags.items c.self.inside.tags.len (length c.self.inside.tags.items) (c.clear.ensures ∙ ap (λ x. replicate (length x) Free) c.deref_mut.ensures.value) (sym c.deref_mut.ensures.len ∙ ap length c.deref_mut.ensures.value))
           ∙ free_flights _ (length c.self.inside.tags.items)
           ∙ sym (none_in_flight c.self.inside.trace.setup c.self.inside.trace.events _ c.self.inside.tags.items c.self.inside.held c.self.inside.released c.self.invariant none),

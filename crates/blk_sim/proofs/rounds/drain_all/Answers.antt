@@ -7,7 +7,6 @@ use Rattle.blk_sim.proofs.Chains.{drain_none, drain_more}
 use Rattle.blk_sim.proofs.Events.{chain_took}
 use Rattle.blk_sim.proofs.Keeping.{kept_drained}
 use Rattle.blk_sim.proofs.Spreading.{spread_along}
-use Rattle.blk_sim.specs.Policies.{policy_of}
 use Rattle.blk_sim.proofs.rounds.drain_all.Goals as goal
 
 pub loop-hw-init : goal.loop-hw-init
@@ -19,12 +18,12 @@ drain-requires-clause-map g c = spread_along _ _ _ _ _ (ap (λ (s : Setup). s.hw
 pub loop-hw-preserved : goal.loop-hw-preserved
 loop-hw-preserved g c =
     let i = c.loop-hw.invariant in
-    let d : Drains (policy_of g.S.Scheduler.serves g.S.Scheduler.chooses g.S.Scheduler.told_done g.S.Scheduler.told_tick) c.args.core.now.setup.hw c.loop-hw.hw c.loop-hw.queues.items c.loop-hw.core c.drain.new.queues.items c.drain.new.core =
-    subst (λ (s : Setup). Drains (policy_of g.S.Scheduler.serves g.S.Scheduler.chooses g.S.Scheduler.told_done g.S.Scheduler.told_tick) s.hw c.loop-hw.hw c.loop-hw.queues.items c.loop-hw.core c.drain.new.queues.items c.drain.new.core) i.setup c.in_ok-drain.ensures.drained in
+    let d : Drains g.S.Scheduler.policy c.args.core.now.setup.hw c.loop-hw.hw c.loop-hw.queues.items c.loop-hw.core c.drain.new.queues.items c.drain.new.core =
+    subst (λ (s : Setup). Drains g.S.Scheduler.policy s.hw c.loop-hw.hw c.loop-hw.queues.items c.loop-hw.core c.drain.new.queues.items c.drain.new.core) i.setup c.in_ok-drain.ensures.drained in
     let kept = kept_drained c.args.core.now.setup.hw c.loop-hw.hw c.loop-hw.queues.items c.drain.new.queues.items d.emptied in
     record {
-      drained = drain_more (policy_of g.S.Scheduler.serves g.S.Scheduler.chooses g.S.Scheduler.told_done g.S.Scheduler.told_tick) c.args.core.now.setup.hw c.loop-hw.hw c.args.queues.now.items c.loop-hw.queues.items c.drain.new.queues.items c.args.core.now c.loop-hw.core c.drain.new.core i.drained d;
-      setup = (chain_took (policy_of g.S.Scheduler.serves g.S.Scheduler.chooses g.S.Scheduler.told_done g.S.Scheduler.told_tick) c.loop-hw.hw _ c.loop-hw.core c.drain.new.core d.entered).setup ∙ i.setup;
+      drained = drain_more g.S.Scheduler.policy c.args.core.now.setup.hw c.loop-hw.hw c.args.queues.now.items c.loop-hw.queues.items c.drain.new.queues.items c.args.core.now c.loop-hw.core c.drain.new.core i.drained d;
+      setup = (chain_took g.S.Scheduler.policy c.loop-hw.hw _ c.loop-hw.core c.drain.new.core d.entered).setup ∙ i.setup;
       as_many = d.emptied.as_many ∙ i.as_many;
       limits = λ s q at. let x = kept.each s q at in x.2 ∙ i.limits s x.0 x.1;
     }
@@ -40,5 +39,5 @@ returns-in_err-drain-clause-refused g c = let p = err_from_is_err_and c.from_res
       between = c.loop-hw.queues.items;
       middle = c.loop-hw.core;
       drained = i.drained;
-      refused = subst (λ (s : Setup). IsDrainRefused (policy_of g.S.Scheduler.serves g.S.Scheduler.chooses g.S.Scheduler.told_done g.S.Scheduler.told_tick) s.hw c.loop-hw.hw c.loop-hw.queues.items c.loop-hw.core c.in_err-drain.field-0.0) i.setup c.in_err-drain.ensures.refused;
+      refused = subst (λ (s : Setup). IsDrainRefused g.S.Scheduler.policy s.hw c.loop-hw.hw c.loop-hw.queues.items c.loop-hw.core c.in_err-drain.field-0.0) i.setup c.in_err-drain.ensures.refused;
     })

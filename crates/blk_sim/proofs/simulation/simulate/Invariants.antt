@@ -6,12 +6,11 @@ use Rattle.blk_sim.specs.Simulation.{ticks_of}
 use Rattle.blk_sim.specs.State.{start_of}
 use Rattle.blk_sim.specs.Runs.{Runs}
 use Rattle.blk_sim.specs.Simulated.{Stands, IsReady, placings}
-use Rattle.blk_sim.specs.Policies.{policy_of}
 use Rattle.blk_sim.proofs.simulation.simulate.Given as goal
 
 abbrev pub invariant-loop-place : goal.invariant-loop-place
 invariant-loop-place g l = record {
-  runs : Runs (policy_of g.S.Scheduler.serves g.S.Scheduler.chooses g.S.Scheduler.told_done g.S.Scheduler.told_tick) (take l.place l.script.lines.items) (start_of (scripted l.script) (g.S.Scheduler.meaning l.fn.scheduler) (g.S.Scheduler.kept l.fn.scheduler)) l.simulation;
+  runs : Runs g.S.Scheduler.policy (take l.place l.script.lines.items) (start_of (scripted l.script) (g.S.Scheduler.meaning l.fn.scheduler) (g.S.Scheduler.kept l.fn.scheduler)) l.simulation;
   stands : Stands (placings l.script.setup.hw (take l.place l.script.lines.items)) l.simulation.plugs l.simulation.queues l.simulation.core.events;
   ready : IsReady l.place l.simulation;
   setup : l.simulation.core.setup ≡ l.script.setup;

@@ -13,12 +13,11 @@ use Rattle.blk_sim.proofs.Events.{chain_took}
 use Rattle.blk_sim.proofs.Serving.{served_none, enter_next, enter_pass, move_later, get_other, get_same, none_past}
 use Rattle.blk_sim.proofs.Spreading.{named}
 use Rattle.blk_sim.proofs.steps.drain.Goals as goal
-use Rattle.blk_sim.specs.Policies.{policy_of}
 use Rattle.blk_sim.proofs.steps.drain.Goals.{then-hw_of-hw+in_ok-drain_queue, else-hw_of-hw}
 
 pub loop-s-init : goal.loop-s-init
 loop-s-init g c = record {
-  entered = subst (λ l. EnterInTurn (policy_of g.S.Scheduler.serves g.S.Scheduler.chooses g.S.Scheduler.told_done g.S.Scheduler.told_tick) c.args.hw l c.args.core.now c.args.core.now) (sym (served_none _ _ _)) (enter_none _ _ _);
+  entered = subst (λ l. EnterInTurn g.S.Scheduler.policy c.args.hw l c.args.core.now c.args.core.now) (sym (served_none _ _ _)) (enter_none _ _ _);
   setup = refl;
   as_many = refl;
   later = λ t le. refl;
@@ -46,7 +45,7 @@ loop-s-preserved g c =
           let write = ap (λ v. v.items) w.queues-is in
           let moved = w.in_ok-drain_queue.ensures.entered in
           record {
-            entered = subst (λ (x : CoreState). EnterInTurn (policy_of g.S.Scheduler.serves g.S.Scheduler.chooses g.S.Scheduler.told_done g.S.Scheduler.told_tick) c.args.hw (served_requests c.args.queues.now.items c.args.core.now.setup.hw c.args.hw (c.loop-s.s + 1)) c.args.core.now x) (sym w.core-is)
+            entered = subst (λ (x : CoreState). EnterInTurn g.S.Scheduler.policy c.args.hw (served_requests c.args.queues.now.items c.args.core.now.setup.hw c.args.hw (c.loop-s.s + 1)) c.args.core.now x) (sym w.core-is)
                 (enter_next _ c.args.queues.now.items c.args.core.now.setup.hw c.args.hw c.loop-s.s w.index_mut.result.now c.args.core.now c.loop-s.core w.drain_queue.new.core was (is ∙ w.if-hw_of-hw.true) i.entered moved);
             setup = ap (λ (x : CoreState). x.setup) w.core-is ∙ (chain_took _ _ _ _ _ moved).setup ∙ i.setup;
             as_many = ap length write ∙ length-set c.loop-s.queues.items c.loop-s.s w.drain_queue.new.queue ∙ i.as_many;
@@ -61,7 +60,7 @@ loop-s-preserved g c =
       | else-hw_of-hw w ↦
           let same = ap (λ v. v.items) w.queues-is in
           record {
-            entered = subst (λ (x : CoreState). EnterInTurn (policy_of g.S.Scheduler.serves g.S.Scheduler.chooses g.S.Scheduler.told_done g.S.Scheduler.told_tick) c.args.hw (served_requests c.args.queues.now.items c.args.core.now.setup.hw c.args.hw (c.loop-s.s + 1)) c.args.core.now x) (sym w.core-is)
+            entered = subst (λ (x : CoreState). EnterInTurn g.S.Scheduler.policy c.args.hw (served_requests c.args.queues.now.items c.args.core.now.setup.hw c.args.hw (c.loop-s.s + 1)) c.args.core.now x) (sym w.core-is)
                 (enter_pass _ c.args.queues.now.items c.args.core.now.setup.hw c.args.hw c.loop-s.s c.args.core.now c.loop-s.core (λ e. w.if-hw_of-hw.false (sym is ∙ e)) i.entered);
             setup = ap (λ (x : CoreState). x.setup) w.core-is ∙ i.setup;
             as_many = ap length same ∙ i.as_many;
@@ -89,7 +88,7 @@ returns-clause-drained g c =
         ];
         others = i.others;
       };
-      entered = subst (λ n. EnterInTurn (policy_of g.S.Scheduler.serves g.S.Scheduler.chooses g.S.Scheduler.told_done g.S.Scheduler.told_tick) c.args.hw (served_requests c.args.queues.now.items c.args.core.now.setup.hw c.args.hw n) c.args.core.now c.loop-s.core) end i.entered;
+      entered = subst (λ n. EnterInTurn g.S.Scheduler.policy c.args.hw (served_requests c.args.queues.now.items c.args.core.now.setup.hw c.args.hw n) c.args.core.now c.loop-s.core) end i.entered;
     }
 
 pub returns-in_err-drain_queue-clause-refused : goal.returns-in_err-drain_queue-clause-refused

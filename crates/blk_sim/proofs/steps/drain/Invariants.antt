@@ -2,12 +2,11 @@ use Rattle.std.proofs.Common.{◌≡◌, ◌≢◌, ◌<◌, ◌≤◌, ◌%◌,
 use Rattle.std.specs.Prelude.{slice_get}
 use Rattle.std.specs.Option.{option_map}
 use Rattle.blk_sim.specs.Moves.{EnterInTurn, served_requests, drained}
-use Rattle.blk_sim.specs.Policies.{policy_of}
 use Rattle.blk_sim.proofs.steps.drain.Given as goal
 
 abbrev pub invariant-loop-s : goal.invariant-loop-s
 invariant-loop-s g l = record {
-  entered : EnterInTurn (policy_of g.S.Scheduler.serves g.S.Scheduler.chooses g.S.Scheduler.told_done g.S.Scheduler.told_tick) l.hw (served_requests l.initial.queues.items l.initial.core.setup.hw l.hw l.s) l.initial.core l.core;
+  entered : EnterInTurn g.S.Scheduler.policy l.hw (served_requests l.initial.queues.items l.initial.core.setup.hw l.hw l.s) l.initial.core l.core;
   setup : l.core.setup ≡ l.initial.core.setup;
   as_many : length l.queues.items ≡ length l.initial.queues.items;
   later : (t : ℕ) → l.s ≤ t → slice_get l.queues.items t ≡ slice_get l.initial.queues.items t;

@@ -2,7 +2,6 @@ use Rattle.std.proofs.Common.{◌∙◌, refl}
 use Rattle.std.proofs.lemmas.Result.{err_from_is_err_and}
 use Rattle.blk_sim.proofs.Events.{enters_took}
 use Rattle.blk_sim.proofs.Chains.{moved_none, moved_more, moved_all, moved_refused, counted_out, queue_drained}
-use Rattle.blk_sim.specs.Policies.{policy_of}
 use Rattle.blk_sim.proofs.steps.drain_queue.Goals as goal
 
 pub loop-request-init : goal.loop-request-init
@@ -13,8 +12,8 @@ loop-request-preserved g c =
     let i = c.loop-request.invariant in
     let e = c.in_ok-release.ensures.entered in
     record {
-      moved = moved_more (policy_of g.S.Scheduler.serves g.S.Scheduler.chooses g.S.Scheduler.told_done g.S.Scheduler.told_tick) c.args.hw c.args.queue.now.requests c.loop-request.queue.requests c.in-Some.request c.take_first.new.self.requests c.args.core.now c.loop-request.core c.release.new.core c.in-Some.ensures.some i.moved e;
-      setup = (enters_took (policy_of g.S.Scheduler.serves g.S.Scheduler.chooses g.S.Scheduler.told_done g.S.Scheduler.told_tick) c.args.hw c.in-Some.request c.loop-request.core c.release.new.core e).setup ∙ i.setup;
+      moved = moved_more g.S.Scheduler.policy c.args.hw c.args.queue.now.requests c.loop-request.queue.requests c.in-Some.request c.take_first.new.self.requests c.args.core.now c.loop-request.core c.release.new.core c.in-Some.ensures.some i.moved e;
+      setup = (enters_took g.S.Scheduler.policy c.args.hw c.in-Some.request c.loop-request.core c.release.new.core e).setup ∙ i.setup;
       limits = c.take_first.ensures.limits ∙ i.limits;
       depth = c.take_first.ensures.depth ∙ i.depth;
       came = c.take_first.ensures.bios_in ∙ i.came;
@@ -30,4 +29,4 @@ returns-clause-emptied g c =
     c.in_default.ensures.none.1 ∙ queue_drained c.args.queue.now c.loop-request.queue i.depth i.limits c.in_default.ensures.none.0 i.came i.counted
 
 pub returns-clause-entered : goal.returns-clause-entered
-returns-clause-entered g c = moved_all (policy_of g.S.Scheduler.serves g.S.Scheduler.chooses g.S.Scheduler.told_done g.S.Scheduler.told_tick) c.args.hw c.args.queue.now.requests c.loop-request.queue.requests c.args.core.now c.loop-request.core c.in_default.ensures.none.0 c.loop-request.invariant.moved
+returns-clause-entered g c = moved_all g.S.Scheduler.policy c.args.hw c.args.queue.now.requests c.loop-request.queue.requests c.args.core.now c.loop-request.core c.in_default.ensures.none.0 c.loop-request.invariant.moved

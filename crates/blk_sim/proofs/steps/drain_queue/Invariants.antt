@@ -1,12 +1,11 @@
 use Rattle.std.proofs.Common.{◌≡◌, ◌+◌, length}
 use Rattle.std.specs.Prelude.{sum_by}
 use Rattle.blk_sim.proofs.Chains.{IsMoved}
-use Rattle.blk_sim.specs.Policies.{policy_of}
 use Rattle.blk_sim.proofs.steps.drain_queue.Given as goal
 
 abbrev pub invariant-loop-request : goal.invariant-loop-request
 invariant-loop-request g l = record {
-  moved : IsMoved (policy_of g.S.Scheduler.serves g.S.Scheduler.chooses g.S.Scheduler.told_done g.S.Scheduler.told_tick) l.hw l.initial.queue.requests l.queue.requests l.initial.core l.core;
+  moved : IsMoved g.S.Scheduler.policy l.hw l.initial.queue.requests l.queue.requests l.initial.core l.core;
   setup : l.core.setup ≡ l.initial.core.setup;
   limits : l.queue.limits ≡ l.initial.queue.limits;
   depth : l.queue.depth ≡ l.initial.queue.depth;

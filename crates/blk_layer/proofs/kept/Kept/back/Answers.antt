@@ -16,5 +16,5 @@ invariant_of-self g c =
       counted = kept.counted ∙ sym stays.dones;
       all_out = kept.all_out;
       none = kept.none;
-      ran = ∥∥₁_map kept.ran (either (λ id. TakesBack kept.core c.args.tag id new) S.serves S.chooses S.told_done S.told_tick g.L.Named.start kept.core new c.back.result (taken_back S.serves S.chooses S.told_done S.told_tick g.L.Named.start kept.core c.args.tag new) c.back.ensures.back c.back.ensures.same);
+      ran = ∥∥₁_map kept.ran (either (λ id. TakesBack kept.core c.args.tag id new) S.policy g.L.Named.start kept.core new c.back.result (taken_back S.policy g.L.Named.start kept.core c.args.tag new) c.back.ensures.back c.back.ensures.same);
     }

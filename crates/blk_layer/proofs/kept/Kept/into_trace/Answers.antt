@@ -8,4 +8,4 @@ pub returns-clause-ran : goal.returns-clause-ran
 returns-clause-ran g c =
     let kept = c.args.self in
     let S = g.S.Scheduler in
-    ∥∥₁_map kept.ran (λ runs. (kept.core, subst (λ (es : List Happened). Runs S.serves S.chooses S.told_done S.told_tick g.L.Named.start es kept.core) (sym c.into_trace.ensures.events) runs))
+    ∥∥₁_map kept.ran (λ runs. (kept.core, subst (λ (es : List Happened). Runs S.policy g.L.Named.start es kept.core) (sym c.into_trace.ensures.events) runs))

@@ -10,11 +10,11 @@ invariant_of-self g c =
     let kept = c.args.self.now in
     let S = g.S.Scheduler in
     let new = c.issue.new.self in
-    let stays = stays_either (λ found. Issues S.serves S.chooses kept.core c.args.hw c.args.tag found new) kept.core new c.issue.result (issue_stays S.serves S.chooses kept.core c.args.hw c.args.tag new) c.issue.ensures.issued c.issue.ensures.same in
+    let stays = stays_either (λ found. Issues S.policy.serves S.policy.chooses kept.core c.args.hw c.args.tag found new) kept.core new c.issue.result (issue_stays S.policy.serves S.policy.chooses kept.core c.args.hw c.args.tag new) c.issue.ensures.issued c.issue.ensures.same in
     record {
       named = stays.setup ∙ kept.named;
       counted = kept.counted ∙ sym stays.dones;
       all_out = kept.all_out;
       none = kept.none;
-      ran = ∥∥₁_map kept.ran (either (λ found. Issues S.serves S.chooses kept.core c.args.hw c.args.tag found new) S.serves S.chooses S.told_done S.told_tick g.L.Named.start kept.core new c.issue.result (issued S.serves S.chooses S.told_done S.told_tick g.L.Named.start kept.core c.args.hw c.args.tag new) c.issue.ensures.issued c.issue.ensures.same);
+      ran = ∥∥₁_map kept.ran (either (λ found. Issues S.policy.serves S.policy.chooses kept.core c.args.hw c.args.tag found new) S.policy g.L.Named.start kept.core new c.issue.result (issued S.policy g.L.Named.start kept.core c.args.hw c.args.tag new) c.issue.ensures.issued c.issue.ensures.same);
     }

@@ -13,4 +13,4 @@ invariant_of-result-clause-counted g c = c.requires.total ∙ sym (ap done_count
 pub invariant_of-result-clause-ran : goal.invariant_of-result-clause-ran
 invariant_of-result-clause-ran g c =
     let S = g.S.Scheduler in
-    ∣ none_run S.serves S.chooses S.told_done S.told_tick g.L.Named.start c.args.core c.requires.start c.requires.empty ∣₁
+    ∣ none_run S.policy g.L.Named.start c.args.core c.requires.start c.requires.empty ∣₁

@@ -18,7 +18,7 @@ invariant_of-self g c =
       counted = kept.counted ∙ sym stays.dones;
       all_out = kept.all_out;
       none = kept.none;
-      ran = ∥∥₁_map kept.ran (either (λ _. SetsDepth kept.core c.args.depth new) S.serves S.chooses S.told_done S.told_tick g.L.Named.start kept.core new c.set_depth.result (λ _. set S.serves S.chooses S.told_done S.told_tick g.L.Named.start kept.core c.args.depth new) c.set_depth.ensures.set c.set_depth.ensures.same);
+      ran = ∥∥₁_map kept.ran (either (λ _. SetsDepth kept.core c.args.depth new) S.policy g.L.Named.start kept.core new c.set_depth.result (λ _. set S.policy g.L.Named.start kept.core c.args.depth new) c.set_depth.ensures.set c.set_depth.ensures.same);
     }
 
 pub returns-clause-answer : goal.returns-clause-answer

@@ -11,16 +11,16 @@ invariant_of-self g c =
     let kept = c.args.self.now in
     let new = c.tick.new.self in
     let S = g.S.Scheduler in
-    let stays = stays_either (λ _. Ends g.S.Scheduler.told_tick kept.core new) kept.core new c.tick.result (λ _. tick_stays g.S.Scheduler.told_tick kept.core new) c.tick.ensures.ended c.tick.ensures.same in
+    let stays = stays_either (λ _. Ends g.S.Scheduler.policy.told_tick kept.core new) kept.core new c.tick.result (λ _. tick_stays g.S.Scheduler.policy.told_tick kept.core new) c.tick.ensures.ended c.tick.ensures.same in
     record {
       named = stays.setup ∙ kept.named;
       counted = kept.counted ∙ sym stays.dones;
       all_out = kept.all_out;
       none = kept.none;
-      ran = ∥∥₁_map kept.ran (either (λ _. Ends S.told_tick kept.core new) S.serves S.chooses S.told_done S.told_tick g.L.Named.start kept.core new c.tick.result (λ _. ended S.serves S.chooses S.told_done S.told_tick g.L.Named.start kept.core new) c.tick.ensures.ended c.tick.ensures.same);
+      ran = ∥∥₁_map kept.ran (either (λ _. Ends S.policy.told_tick kept.core new) S.policy g.L.Named.start kept.core new c.tick.result (λ _. ended S.policy g.L.Named.start kept.core new) c.tick.ensures.ended c.tick.ensures.same);
     }
 
 pub returns-clause-answer : goal.returns-clause-answer
 returns-clause-answer g c =
     let kept = c.args.self.now in
-    tick_answer g.S.Scheduler.told_tick kept.core c.tick.new.self c.tick.result c.tick.ensures.ended c.tick.ensures.round c.tick.ensures.fault
+    tick_answer g.S.Scheduler.policy.told_tick kept.core c.tick.new.self c.tick.result c.tick.ensures.ended c.tick.ensures.round c.tick.ensures.fault

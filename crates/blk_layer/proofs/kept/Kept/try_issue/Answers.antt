@@ -8,24 +8,24 @@ pub invariant_of-self : goal.invariant_of-self
 invariant_of-self g c =
     let kept = c.args.self.now in
     let S = g.S.Scheduler in
-    let stays = tried_stays S.serves S.chooses S.told_tick kept.core c.args.hw c.args.tag c.try_issue.new.core c.try_issue.result c.try_issue.ensures.issued c.try_issue.ensures.fault in
+    let stays = tried_stays S.policy.serves S.policy.chooses S.policy.told_tick kept.core c.args.hw c.args.tag c.try_issue.new.core c.try_issue.result c.try_issue.ensures.issued c.try_issue.ensures.fault in
     record {
       named = stays.setup ∙ kept.named;
       counted = kept.counted ∙ sym stays.dones;
       all_out = kept.all_out;
       none = kept.none;
-      ran = ∥∥₁_map kept.ran (tried S.serves S.chooses S.told_done S.told_tick g.L.Named.start kept.core c.args.hw c.args.tag c.try_issue.new.core c.try_issue.result c.try_issue.ensures.issued c.try_issue.ensures.fault);
+      ran = ∥∥₁_map kept.ran (tried S.policy g.L.Named.start kept.core c.args.hw c.args.tag c.try_issue.new.core c.try_issue.result c.try_issue.ensures.issued c.try_issue.ensures.fault);
     }
 
 pub invariant_of-self-in-Err-1 : goal.invariant_of-self-in-Err-1
 invariant_of-self-in-Err-1 g c =
     let kept = c.args.self.now in
     let S = g.S.Scheduler in
-    let stays = tried_stays S.serves S.chooses S.told_tick kept.core c.args.hw c.args.tag c.try_issue.new.core c.try_issue.result c.try_issue.ensures.issued c.try_issue.ensures.fault in
+    let stays = tried_stays S.policy.serves S.policy.chooses S.policy.told_tick kept.core c.args.hw c.args.tag c.try_issue.new.core c.try_issue.result c.try_issue.ensures.issued c.try_issue.ensures.fault in
     record {
       named = stays.setup ∙ kept.named;
       counted = kept.counted ∙ sym stays.dones;
       all_out = kept.all_out;
       none = kept.none;
-      ran = ∥∥₁_map kept.ran (tried S.serves S.chooses S.told_done S.told_tick g.L.Named.start kept.core c.args.hw c.args.tag c.try_issue.new.core c.try_issue.result c.try_issue.ensures.issued c.try_issue.ensures.fault);
+      ran = ∥∥₁_map kept.ran (tried S.policy g.L.Named.start kept.core c.args.hw c.args.tag c.try_issue.new.core c.try_issue.result c.try_issue.ensures.issued c.try_issue.ensures.fault);
     }
