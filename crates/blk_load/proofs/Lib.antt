@@ -1,3 +1,4 @@
 pub mod Seated
 pub mod Counted
 pub mod Made
+mod Ruled

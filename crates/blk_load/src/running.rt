@@ -10,6 +10,7 @@ ghost use Rattle.blk_settings.specs.Numbers.{IsLoad};
 ghost use Rattle.blk_settings.specs.Settles.{IsSettled, served_bios, setup_of};
 ghost use Rattle.blk_trace.specs.Events.{AreOnce};
 ghost use Rattle.blk_load.specs.Loads.{AreInTurn};
+ghost use Rattle.blk_policy.specs.Runs.{IsRunBy, IsRunFrom};
 
 use crate::counts::accepted;
 use crate::serving::serve_all;
@@ -50,6 +51,7 @@ pub fn load<R: Threads + Wait + Sync, S: Scheduler<A = Global> + Send>(
     requires start { S.meaning scheduler ≡ at_start (S.meaning scheduler).front }
     ensures range { OnOk result (IsLoad load) }
     ensures settled { IfOk result (λ l. IsSettled load l.trace l.settled) }
+    ensures ran { IfOk result (λ l. IsRunBy S.policy (S.meaning scheduler) (S.kept scheduler) l.trace) }
     ensures once { IfOk result (λ l. AreOnce (served_bios l.trace.events)) }
     ensures fault { IfErr result (IsLoadFault load) }
 {
@@ -123,6 +125,7 @@ fn on_layer<R: Threads + Wait + Sync, S: Scheduler<A = Global> + Send, L: Named 
     requires setup_is { L.setup ≡ setup_of load }
     requires can { CanMake core.setup.hw map SOFT_DEPTH queues.items }
     ensures settled { IfOk result (λ l. IsSettled load l.trace l.settled) }
+    ensures ran { IfOk result (λ l. IsRunFrom S.policy L.start l.trace.events) }
     ensures once { IfOk result (λ l. AreOnce (served_bios l.trace.events)) }
     ensures fault { IfErr result (λ f. f ≢ LoadFault.Range) }
 {
@@ -190,6 +193,7 @@ fn settle<S: Scheduler<A = Global>, L: Named>(
     requires range { IsLoad load }
     requires setup { L.setup ≡ setup_of load }
     ensures settled { IfOk result (λ l. IsSettled load l.trace l.settled) }
+    ensures ran { IfOk result (λ l. IsRunFrom S.policy L.start l.trace.events) }
     ensures accepted { IfOk result (λ l. l.settled.accepted ≡ length (all_accepted submitters.items)) }
     ensures agree { IfOk result (λ l. IsPermutation (all_accepted submitters.items) (served_bios l.trace.events)) }
     ensures once { IfOk result (λ l. AreOnce (served_bios l.trace.events)) }

@@ -1,13 +1,11 @@
 -- The rows of the table of schedulers: what each is called, what it does, and how it starts.
 use Rattle.std.specs.Prelude.{ℕ, ◌≡◌, Bool, true, List, [], ◌∷◌, Option, None, Some, codes}
-use Rattle.blk_bio.specs.declared.bio.Dir.{Dir}
-use Rattle.blk_sched.specs.Meaning.{Waiting, Meaning, at_start}
-use Rattle.blk_none.specs.Choice.{serves_own as none_serves, none_chooses}
-use Rattle.blk_deadline.specs.Choice.{serves_all as deadline_serves, deadline_chooses, kept_of as deadline_kept}
-use Rattle.blk_kyber.specs.Choice.{serves_own as kyber_serves}
-use Rattle.blk_kyber.specs.Kept.{kept_at_first, numbers_of, Chooses, Told}
-use Rattle.blk_kyber.specs.Limits.{Done, Tick}
-use Rattle.blk_earliest.specs.Choice.{serves_all as earliest_serves, earliest_chooses, kept_of as earliest_kept}
+use Rattle.blk_sched.specs.Meaning.{Meaning, at_start}
+use Rattle.blk_sched.specs.Policies.{Policy}
+use Rattle.blk_none.specs.Choice.{none_policy}
+use Rattle.blk_deadline.specs.Choice.{deadline_policy, kept_of as deadline_kept}
+use Rattle.blk_kyber.specs.Kept.{kept_at_first, numbers_of, kyber_policy}
+use Rattle.blk_earliest.specs.Choice.{earliest_policy, kept_of as earliest_kept}
 use Rattle.blk_settings.specs.Made.{IsMade}
 use Rattle.blk_settings.specs.declared.sched.Lineup.{Lineup}
 use Rattle.blk_settings.specs.declared.sched.Sched.{Sched}
@@ -20,31 +18,12 @@ name_of (sched.Deadline t) = codes "deadline"
 name_of (sched.Kyber t) = codes "kyber"
 name_of (sched.Earliest late_last) = codes "earliest"
 
--- which requests a pick may take, and which it chooses
-abbrev pub serves_of : Sched → ℕ → Waiting → Bool
-serves_of sched.None = none_serves
-serves_of (sched.Deadline t) = deadline_serves
-serves_of (sched.Kyber t) = kyber_serves
-serves_of (sched.Earliest late_last) = earliest_serves
-
-abbrev pub chooses_of : Sched → List ℕ → Meaning → ℕ → ℕ → Option Waiting → List ℕ → Type 0
-chooses_of sched.None = none_chooses
-chooses_of (sched.Deadline t) = deadline_chooses
-chooses_of (sched.Kyber t) = Chooses
-chooses_of (sched.Earliest late_last) = earliest_chooses
-
--- what it keeps once it is told of a completion, and of a round: kyber alone learns from them
-abbrev pub told_done_of : Sched → ℕ → Dir → ℕ → List ℕ → List ℕ → Type 0
-told_done_of sched.None hw dir wait old new = new ≡ old
-told_done_of (sched.Deadline t) hw dir wait old new = new ≡ old
-told_done_of (sched.Kyber t) hw dir wait old new = Told (Done dir wait) old new
-told_done_of (sched.Earliest late_last) hw dir wait old new = new ≡ old
-
-abbrev pub told_tick_of : Sched → ℕ → List ℕ → List ℕ → Type 0
-told_tick_of sched.None now old new = new ≡ old
-told_tick_of (sched.Deadline t) now old new = new ≡ old
-told_tick_of (sched.Kyber t) now old new = Told (Tick now) old new
-told_tick_of (sched.Earliest late_last) now old new = new ≡ old
+-- its policy
+abbrev pub policy_of : Sched → Policy
+policy_of sched.None = none_policy
+policy_of (sched.Deadline t) = deadline_policy
+policy_of (sched.Kyber t) = kyber_policy
+policy_of (sched.Earliest late_last) = earliest_policy
 
 -- what it means before it has any request, and what it keeps then at a depth
 abbrev pub meaning_of : Sched → Meaning

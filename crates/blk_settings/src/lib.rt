@@ -6,6 +6,7 @@ ghost use Rattle.std.specs.Prelude.{OnOk, IfOk, IfErr};
 ghost use denote.Param.Send.{IsSync};
 ghost use Rattle.blk_settings.specs.Numbers.{IsLoad};
 ghost use Rattle.blk_settings.specs.Made.{IsUnsettled};
+ghost use Rattle.blk_settings.specs.Ran.{IsRunUnder};
 ghost use Rattle.blk_settings.specs.Settles.{IsSettled, served_bios};
 ghost use Rattle.blk_trace.specs.Events.{AreOnce};
 
@@ -70,6 +71,7 @@ pub trait Loads {
         requires shared { IsSync R.row }
         ensures range { OnOk result (IsLoad load) }
         ensures settled { IfOk result (λ l. IsSettled load l.trace l.settled) }
+        ensures ran { IfOk result (λ l. IsRunUnder sched load.depth l.trace) }
         ensures once { IfOk result (λ l. AreOnce (served_bios l.trace.events)) }
         ensures unsettled { IfErr result (IsUnsettled sched load) };
 }

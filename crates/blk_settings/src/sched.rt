@@ -159,33 +159,3 @@ pub fn earliest(alloc: Global, late_last: bool, _depth: u64) -> Result<Earliest,
         Err(_) => Err(SchedFault::Memory),
     }
 }
-
-/// Makes the scheduler of some settings for a device of a depth, and goes on with these settings, as the row's, and with it, or with why it
-/// isn't made: of each row, how it is made. A macro, since a value can't have one of several types, and a method of a trait can't ask that a scheduler is `Send`.
-#[macro_export]
-macro_rules! with_scheduler {
-    ($alloc:expr, $sched:expr, $depth:expr, |$row:ident, $made:ident| $go_on:expr) => {
-        match $sched {
-            $crate::Sched::None => {
-                let $row = $crate::Sched::None;
-                let $made = $crate::sched::none($alloc, $depth);
-                $go_on
-            }
-            $crate::Sched::Deadline(tunables) => {
-                let $row = $crate::Sched::Deadline(tunables);
-                let $made = $crate::sched::deadline($alloc, tunables, $depth);
-                $go_on
-            }
-            $crate::Sched::Kyber(targets) => {
-                let $row = $crate::Sched::Kyber(targets);
-                let $made = $crate::sched::kyber($alloc, targets, $depth);
-                $go_on
-            }
-            $crate::Sched::Earliest { late_last } => {
-                let $row = $crate::Sched::Earliest { late_last };
-                let $made = $crate::sched::earliest($alloc, late_last, $depth);
-                $go_on
-            }
-        }
-    };
-}
