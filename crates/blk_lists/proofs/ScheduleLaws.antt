@@ -1,13 +1,15 @@
 -- The laws of schedules.
-use Rattle.std.proofs.Common.{◌≡◌, ◌≢◌, ◌+◌, ◌-◌, ◌<◌, ◌≤◌, ◌∙◌, ℕ, List, [], ◌∷◌, ◌++◌, length, map, append-nil, append_assoc, Bool, true, false, cond, Option, Some, None, refl, sym, ap, subst, inl, inr, arith, codes, get_or}
-use Rattle.std.specs.Prelude.{IfSome, All, ◌⊎◌, not}
-use Rattle.std.specs.List.{zip}
+use Rattle.std.proofs.Common.{◌≡◌, ◌≢◌, ◌+◌, ◌-◌, ◌<◌, ◌≤◌, ◌∙◌, ℕ, List, [], ◌∷◌, ◌++◌, length, map, take, append-nil, append_assoc, Bool, true, false, cond, Option, Some, None, refl, sym, ap, subst, inl, inr, arith, codes, get_or}
+use Rattle.std.specs.Prelude.{IfSome, All, ◌⊎◌, not, slice_get}
+use Rattle.std.specs.Bool.{OnTrue, MatchBool}
+use Rattle.std.specs.List.{zip, list_any}
 use Rattle.std.specs.Ordering.{nat_cmp}
 use Rattle.std.specs.BTreeMap.{is_at}
 use Rattle.std.specs.BTreeSet.{BTreeSet, contains, Updates}
 use Rattle.std.proofs.lemmas.Bool.{cases_lt}
 use Rattle.std.proofs.lemmas.Bool.Decides.{nat_tests}
-use Rattle.std.proofs.lemmas.List.{length-map, length-append, get_or-map, get_or_append_left, get_or-append_right}
+use Rattle.std.proofs.lemmas.List.{length-map, length-append, length_push, get_or-map, get_or_append_left, get_or-append_right, get_or_push, take_more}
+use Rattle.std.proofs.lemmas.Option.{slice_get-get_or, get_or_from_slice_get}
 use Rattle.csv.specs.Reading.{default_config, records, strip_bom}
 use Rattle.csv.specs.Writing.{read_back}
 use Rattle.edd_check.specs.declared.Command.{Command}
@@ -19,7 +21,7 @@ use Rattle.blk_lists.specs.Reads.{IsOutside, Reads, Halts, Fails, HandFails, IsO
 use Rattle.blk_lists.specs.Tables.{IsVersion, row_by, title_by}
 use Rattle.blk_lists.specs.Titles.{counted_cells, IsCounted}
 use Rattle.blk_lists.specs.Certificate.{served_cells, served_record, IsServed}
-use Rattle.blk_lists.specs.Schedule.{Ran, AreDistinct, IsRan, IsNew, IsRepeated, AreFit, new_record, ran_title, ran_body, ran_form, ran_value, ran_rows, SpellsSchedule, ScheduleFault}
+use Rattle.blk_lists.specs.Schedule.{Ran, AreDistinct, IsRan, IsNew, IsRepeated, AreFit, AreIds, DoRise, new_record, ran_title, ran_body, ran_form, ran_value, ran_rows, SpellsSchedule, ScheduleFault}
 use Rattle.blk_lists.specs.declared.fault.Why.{Why}
 use Rattle.blk_lists.specs.declared.fault.Why.TheVariants as why
 use Rattle.parts.specs.declared.Repeats.TheVariants as repeats
@@ -245,19 +247,14 @@ pub known_id : (new known : Bool) → new ≡ not known → new ≡ false → kn
 known_id new true is_new e = refl
 known_id new false is_new e = absurd (cc)
 
--- the ids of some commands, as HasIds says
-abbrev pub AreIds : List (Command × ℕ) → BTreeSet ℕ → Type 0
-AreIds served ids = ((j : ℕ) (d : Command × ℕ) → j < length served → contains nat_cmp ids (get_or served j d).0.id ≡ true)
-    × ((id : ℕ) → contains nat_cmp ids id ≡ true → (j : ℕ) × (j < length served) × ((d : Command × ℕ) → (get_or served j d).0.id ≡ id))
-
 pub is_new : (served : List (Command × ℕ)) (ids : BTreeSet ℕ) (v : Command × ℕ) → AreIds served ids → contains nat_cmp ids v.0.id ≡ false → IsNew served v
-is_new served ids v h fresh j d l same = let clash : true ≡ false = sym (h.0 j d l) ∙ ap (λ q. contains nat_cmp ids q) same ∙ fresh in cc clash
+is_new served ids v h fresh j d l same = let clash : true ≡ false = sym (h.held j d l) ∙ ap (λ q. contains nat_cmp ids q) same ∙ fresh in cc clash
 
 pub is_old : (served : List (Command × ℕ)) (ids : BTreeSet ℕ) (v : Command × ℕ) → AreIds served ids → contains nat_cmp ids v.0.id ≡ true → ¬ IsNew served v
-is_old served ids v h there new = let known = h.1 v.0.id there in new known.0 v known.1 (known.2 v)
+is_old served ids v h there new = let known = h.named v.0.id there in new known.0 v known.1 (known.2 v)
 
 pub next_ids : (served : List (Command × ℕ)) (s t : BTreeSet ℕ) (v : Command × ℕ) → AreIds served s → Updates nat_cmp s t v.0.id true → AreIds (served ++ v ∷ []) t
-next_ids served s t v h updates = (held, named)
+next_ids served s t v h updates = record { held = held; named = named }
   where
     zero_at : (n : ℕ) (d : Command × ℕ) → get_or (v ∷ []) (n - n) d ≡ v
     zero_at n d = let none : n - n ≡ 0 = omega arith in rw none refl
@@ -270,16 +267,68 @@ next_ids served s t v h updates = (held, named)
 
     held : (j : ℕ) (d : Command × ℕ) → j < length (served ++ v ∷ []) → contains nat_cmp t (get_or (served ++ v ∷ []) j d).0.id ≡ true
     held j d l = elim (cases_lt j (length served)) [
-      | inl below ↦ rw (before j d below) (updates.0 (get_or served j d).0.id ∙ cond_either (is_at (nat_cmp v.0.id) (get_or served j d).0.id) (contains nat_cmp s (get_or served j d).0.id) (h.0 j d below))
+      | inl below ↦ rw (before j d below) (updates.0 (get_or served j d).0.id ∙ cond_either (is_at (nat_cmp v.0.id) (get_or served j d).0.id) (contains nat_cmp s (get_or served j d).0.id) (h.held j d below))
       | inr above ↦ (let is : j ≡ length served = omega (arith, above, l, length-append served (v ∷ [])) in rw (is, last d) updates.1)
     ]
 
     named : (id : ℕ) → contains nat_cmp t id ≡ true → (j : ℕ) × (j < length (served ++ v ∷ [])) × ((d : Command × ℕ) → (get_or (served ++ v ∷ []) j d).0.id ≡ id)
     named id has = elim (cond_some (is_at (nat_cmp v.0.id) id) (contains nat_cmp s id) (sym (updates.0 id) ∙ has)) [
       | inl new ↦ (length served, omega (arith, length-append served (v ∷ [])), λ d. ap (λ (c : Command × ℕ). c.0.id) (last d) ∙ at_same v.0.id id new)
-      | inr old ↦ (let known = h.1 id old in let low = known.1 in
+      | inr old ↦ (let known = h.named id old in let low = known.1 in
           (known.0, omega (arith, low, length-append served (v ∷ [])), λ d. ap (λ (c : Command × ℕ). c.0.id) (before known.0 d known.1) ∙ known.2 d))
     ]
+
+-- no ids, and those of one command more
+pub no_ids : (served : List (Command × ℕ)) (ids : BTreeSet ℕ) → ids.keys ≡ [] → AreIds (take 0 served) ids
+no_ids served ids none = record {
+  held = λ j d l. absurd (omega (arith, l));
+  named = λ id has. absurd (let clash : true ≡ false = sym has ∙ ap (list_any (is_at (nat_cmp id))) none in cc);
+}
+
+pub ids_more : (served : List (Command × ℕ)) (i : ℕ) (e : Command × ℕ) (s t : BTreeSet ℕ) → i < length served → AreIds (take i served) s → Updates nat_cmp s t (get_or served i e).0.id true → AreIds (take (i + 1) served) t
+ids_more served i e s t l h updates = rw (take_more served i e l) (next_ids (take i served) s t (get_or served i e) h updates)
+
+-- ids that rise, with one above them
+pub above_rises : (served : List (Command × ℕ)) (v : Command × ℕ) → DoRise served → All (λ (s : Command × ℕ). s.0.id < v.0.id) served → DoRise (served ++ v ∷ [])
+above_rises served v rise above j k d lt top = elim (cases_lt k (length served)) [
+  | inl below ↦ rw (before j (omega (arith, lt, below)), before k below) (rise j k d lt below)
+  | inr at ↦ (let is : k ≡ length served = omega (arith, at, top, length_push served v) in
+      let low : j < length served = omega (arith, lt, is) in
+      rw (before j low, get_or_push served v d k (sym is)) (above j d low))
+]
+  where
+    before : (i : ℕ) → i < length served → get_or (served ++ v ∷ []) i d ≡ get_or served i d
+    before i l = get_or_append_left served (v ∷ []) d i l
+
+pub above_is_new : (served : List (Command × ℕ)) (v : Command × ℕ) → All (λ (s : Command × ℕ). s.0.id < v.0.id) served → IsNew served v
+above_is_new served v above j d l same = let low = above j d l in omega (arith, low, same)
+
+-- all ids are below one that is above the last
+pub above_last : (served : List (Command × ℕ)) (v : Command × ℕ) (id : ℕ) → DoRise served → Some v ≡ slice_get served (length served - 1) → v.0.id < id → All (λ (s : Command × ℕ). s.0.id < id) served
+above_last served v id rise is low j d l = elim (cases_lt j (length served - 1)) [
+  | inl sooner ↦ (let up = rise j (length served - 1) d sooner (omega (arith, l)) in omega (arith, up, here, low))
+  | inr next ↦ (let at : j ≡ length served - 1 = omega (arith, next, l) in
+      let same : (get_or served j d).0.id ≡ (get_or served (length served - 1) d).0.id = ap (λ (i : ℕ). (get_or served i d).0.id) at in
+      omega (arith, same, here, low))
+]
+  where
+    here : (get_or served (length served - 1) d).0.id ≡ v.0.id
+    here = ap (λ (c : Command × ℕ). c.0.id) (get_or_from_slice_get served (length served - 1) v d (sym is))
+
+pub above_none : (served : List (Command × ℕ)) (id : ℕ) → None ≡ slice_get served (length served - 1) → All (λ (s : Command × ℕ). s.0.id < id) served
+above_none served id is j d l = absurd (let clash : None ≡ Some (get_or served (length served - 1) d) = is ∙ slice_get-get_or served (length served - 1) d (omega (arith, l)) in cc)
+
+pub on_true : {P : Type 0} (b : Bool) → (b ≡ true → P) → OnTrue b P
+on_true true f = f refl
+on_true false f = tt
+
+pub when_rising : (P Q : Type 0) (b : Bool) → b ≡ true → MatchBool b P Q → P
+when_rising P Q true e h = h
+when_rising P Q false e h = absurd (cc)
+
+pub when_not : (P Q : Type 0) (b : Bool) → b ≡ false → MatchBool b P Q → Q
+when_not P Q false e h = h
+when_not P Q true e h = absurd (cc)
 
 -- one command in hand
 

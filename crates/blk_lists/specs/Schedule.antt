@@ -1,8 +1,9 @@
 -- A schedule: a title, and a record for each command with its round.
 use Rattle.std.specs.Prelude.{◌≡◌, ◌≢◌, ◌≤◌, ◌<◌, ℕ, List, [], true, length, codes, All, slice_index_or}
 use Rattle.std.specs.List.{zip}
+use Rattle.std.specs.Bool.{MatchBool}
 use Rattle.std.specs.Ordering.{nat_cmp}
-use Rattle.std.specs.BTreeSet.{contains}
+use Rattle.std.specs.BTreeSet.{BTreeSet, contains}
 use Rattle.edd_check.specs.declared.TheConstants.{MAX_COMMANDS, MAX_ROUNDS}
 use Rattle.edd_check.specs.declared.steps.TheConstants.{MAX_DEPTH}
 use Rattle.edd_check.specs.declared.Command.{Command}
@@ -55,10 +56,18 @@ ran_title = counted_title (codes "blk-schedule")
 abbrev pub new_record : List (Command × ℕ) → Part Row Why (Command × ℕ)
 new_record before = tested served_record (IsNew before) (IsRepeated before)
 
--- the set of ids is that of the commands
-pub record HasIds (k : Known) : Type 0 where
-  pub held : (j : ℕ) (d : Command × ℕ) → j < length k.served.items → contains nat_cmp k.ids (slice_index_or k.served.items j d).0.id ≡ true
-  pub named : (id : ℕ) → contains nat_cmp k.ids id ≡ true → (j : ℕ) × (j < length k.served.items) × ((d : Command × ℕ) → (slice_index_or k.served.items j d).0.id ≡ id)
+-- the ids rise from command to command
+abbrev pub DoRise : List (Command × ℕ) → Type 0
+DoRise served = (j k : ℕ) (d : Command × ℕ) → j < k → k < length served → (slice_index_or served j d).0.id < (slice_index_or served k d).0.id
+
+-- the ids in a set are those of the commands
+pub record AreIds (served : List (Command × ℕ)) (ids : BTreeSet ℕ) : Type 0 where
+  pub held : (j : ℕ) (d : Command × ℕ) → j < length served → contains nat_cmp ids (slice_index_or served j d).0.id ≡ true
+  pub named : (id : ℕ) → contains nat_cmp ids id ≡ true → (j : ℕ) × (j < length served) × ((d : Command × ℕ) → (slice_index_or served j d).0.id ≡ id)
+
+-- the ids of the commands rise, or they are in the set
+abbrev pub HasIds : Known → Type 0
+HasIds k = MatchBool k.rise (DoRise k.served.items) (AreIds k.served.items k.ids)
 
 -- each command fits after those before it
 abbrev pub AreFit : List (Command × ℕ) → Type 0

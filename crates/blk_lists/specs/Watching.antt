@@ -1,5 +1,7 @@
 -- A reader that knows whether a read has failed.
-use Rattle.std.specs.Prelude.{ℕ, Bool, List, Option}
+use Rattle.std.specs.Prelude.{ℕ, Bool, false, List, Option, option_and_then}
+use Rattle.std.specs.Option.{option_map_or}
+use Rattle.blk_lists.specs.declared.watched.Place.{Place}
 use Rattle.blk_lists.specs.declared.watched.Watched.{Watched}
 
 -- the bytes that it will give, where they are known, and whether a read of it has failed
@@ -8,3 +10,10 @@ remaining_of remaining w = remaining w.inner
 
 abbrev pub read_failed : {R : Type 0} → Watched R → Bool
 read_failed w = w.failed
+
+-- the same of the one that is in a place; while it is out no byte is known
+abbrev pub left_in : {R : Type 0} → (R → Option (List ℕ)) → Place R → Option (List ℕ)
+left_in remaining p = option_and_then (remaining_of remaining) p.held
+
+abbrev pub failed_in : {R : Type 0} → Place R → Bool
+failed_in p = option_map_or read_failed p.held false

@@ -1,6 +1,7 @@
 //! Schedules, by whatever scheduler.
 
-ghost use Rattle.std.specs.Prelude.{◌≡◌, ◌⊎◌, ◌+◌, ◌≤◌, ◌<◌, ◌-◌, ◌^◌, ◌++◌, ◌∷◌, [], List, IfOk, IfErr, IfSome, OnOk, length};
+ghost use Rattle.std.specs.Prelude.{◌≡◌, ◌⊎◌, ◌+◌, ◌≤◌, ◌<◌, ◌-◌, ◌^◌, ◌++◌, ◌∷◌, [], false, All, List, IfOk, IfErr, IfSome, OnOk, length};
+ghost use Rattle.std.specs.Bool.{OnTrue};
 ghost use Rattle.std.specs.Io.KnownBytes.{Appends};
 ghost use Rattle.csv.specs.Records.{fields_of};
 ghost use Rattle.parts.specs.Parts.{Begins, over};
@@ -8,7 +9,7 @@ ghost use Rattle.blk_lists.specs.Sources.{Row};
 ghost use Rattle.blk_lists.specs.Reads.{IsOutside, Halts, Reaches};
 ghost use Rattle.blk_lists.specs.Texts.{rows_text};
 ghost use Rattle.drafts.specs.Parts.{AppendsPart};
-ghost use Rattle.blk_lists.specs.Schedule.{ran_of, ran_form, ran_body, ran_rows, new_record, AreFit, HasIds, IsNew, IsRan, SpellsSchedule, ScheduleFault};
+ghost use Rattle.blk_lists.specs.Schedule.{ran_of, ran_form, ran_body, ran_rows, new_record, AreFit, AreIds, DoRise, HasIds, IsNew, IsRan, SpellsSchedule, ScheduleFault};
 
 use crate::certificate::{ServedForm, push_schedule, split};
 use crate::fault::{TextFault, Why};
@@ -40,19 +41,81 @@ pub struct Schedule {
     pub rounds: Vec<u64>,
 }
 
-/// The commands that were read, each with its round, and their ids.
+/// The commands that were read, each with its round, and their ids, once these don't rise from each to the next.
 #[derive(Drop)]
 pub(crate) struct Known {
     served: Vec<(Command, u64)>,
+    rise: bool,
     ids: BTreeSet<u64>,
 }
 
-/// Adds a command, where none before has its id.
-fn add(known: &mut Known, served: (Command, u64)) -> Result<(), Why>
+/// Whether an id is above those of commands whose ids rise.
+fn is_above(served: &[(Command, u64)], id: u64) -> bool
+    requires { DoRise served.now }
+    ensures { OnTrue result (All (λ s. s.0.id < id) served.now) }
+{
+    match served.last() {
+        Some(last) => last.0.id < id,
+        None => true,
+    }
+}
+
+/// The ids of commands.
+fn ids_of(alloc: Global, served: &[(Command, u64)]) -> Result<BTreeSet<u64>, AllocError>
+    ensures { IfOk result (AreIds served.now) }
+{
+    let mut ids = BTreeSet::new(alloc);
+    for command in served {
+        ids.insert(command.0.id)?;
+    }
+    Ok(ids)
+}
+
+/// Puts the ids into the set, where they rose so far. On a refusal nothing is changed.
+fn gather_ids(alloc: Global, known: &mut Known) -> Result<(), AllocError>
+    requires { HasIds known.old }
+    ensures served { known.new.served.items ≡ known.old.served.items }
+    ensures ids { OnOk result (AreIds known.new.served.items known.new.ids) }
+    ensures rise { OnOk result (known.new.rise ≡ false) }
+{
+    if !known.rise {
+        return Ok(());
+    }
+    let ids = ids_of(alloc, known.served.as_slice())?;
+    known.ids = ids;
+    known.rise = false;
+    Ok(())
+}
+
+/// Adds a command, where none before has its id. Ids that rise aren't looked for in a set.
+fn add(alloc: Global, known: &mut Known, served: (Command, u64)) -> Result<(), Why>
     requires { HasIds known.old }
     ensures ok { OnOk result (HasIds known.new × (known.new.served.items ≡ known.old.served.items ++ served ∷ []) × IsNew known.old.served.items served) }
     ensures err { IfErr result (λ w. (w ≡ Why.Memory) ⊎ ((w ≡ Why.RepeatedId) × ¬ IsNew known.old.served.items served)) }
 {
+    if !known.rise {
+        return add_among(alloc, known, served);
+    }
+    if !is_above(known.served.as_slice(), served.0.id) {
+        return add_among(alloc, known, served);
+    }
+    match known.served.push(served) {
+        Ok(()) => Ok(()),
+        Err(_) => Err(Why::Memory),
+    }
+}
+
+/// The same, where the ids need not rise.
+#[cold]
+#[inline(never)]
+fn add_among(alloc: Global, known: &mut Known, served: (Command, u64)) -> Result<(), Why>
+    requires { HasIds known.old }
+    ensures ok { OnOk result (HasIds known.new × (known.new.served.items ≡ known.old.served.items ++ served ∷ []) × IsNew known.old.served.items served) }
+    ensures err { IfErr result (λ w. (w ≡ Why.Memory) ⊎ ((w ≡ Why.RepeatedId) × ¬ IsNew known.old.served.items served)) }
+{
+    let Ok(()) = gather_ids(alloc, known) else {
+        return Err(Why::Memory);
+    };
     match known.ids.insert(served.0.id) {
         Ok(true) => {}
         Ok(false) => return Err(Why::RepeatedId),
@@ -97,13 +160,12 @@ impl ItemForm for NewForm {
         records: &mut Records<R>,
         items: &mut Known,
     ) -> Result<(), TextFault> {
-        let _ = alloc;
         let form = ServedForm;
         let served = match form.line(records.row()) {
             Ok(served) => served,
             Err(why) => return Err(records.fault(why)),
         };
-        match add(items, served) {
+        match add(alloc, items, served) {
             Ok(()) => Ok(()),
             Err(why) => Err(records.fault(why)),
         }
@@ -112,7 +174,7 @@ impl ItemForm for NewForm {
 
 /// What is wrong with a record after all commands: its own fault, that its id stood before, and else that it is one
 /// too many.
-fn past_fault(row: &ByteRecord, known: &mut Known) -> Why
+fn past_fault(alloc: Global, row: &ByteRecord, known: &mut Known) -> Why
     requires { HasIds known.old }
     ensures { (result ≡ Why.Memory) ⊎ ((rest : List Row) → (over Why.Count (new_record known.old.served.items)).Wrong (fields_of row.now ∷ rest) 1 result) }
 {
@@ -121,7 +183,7 @@ fn past_fault(row: &ByteRecord, known: &mut Known) -> Why
         Ok(served) => served,
         Err(why) => return why,
     };
-    match add(known, served) {
+    match add(alloc, known, served) {
         Ok(()) => Why::Count,
         Err(why) => why,
     }
@@ -143,6 +205,7 @@ fn read_new<R: Read + Drop>(
 {
     let mut known = Known {
         served: Vec::new(alloc),
+        rise: true,
         ids: BTreeSet::new(alloc),
     };
     match gather(
@@ -161,7 +224,7 @@ fn read_new<R: Read + Drop>(
         Ok(false) => return Ok(known.served),
         Err(fault) => return Err(fault),
     }
-    let why = past_fault(records.row(), &mut known);
+    let why = past_fault(alloc, records.row(), &mut known);
     Err(records.fault(why))
 }
 

@@ -1,53 +1,65 @@
 //! The records of a reader, one at a time.
 
-ghost use Rattle.std.specs.Prelude.{◌≡◌, ◌+◌, ◌-◌, ◌<◌, ◌^◌, true, false, ℕ, List, [], Option, Some, None, IfOk, IfErr, option_map};
-ghost use Rattle.csv.specs.Reading.{default_config, records, strip_bom};
+ghost use Rattle.std.specs.Prelude.{◌≡◌, ◌+◌, ◌-◌, ◌<◌, ◌^◌, true, false, ℕ, List, [], Option, Some, None, IfOk, IfErr, IfSome, option_map};
+ghost use Rattle.csv.specs.Reading.{default_config, records, strip_bom, reader_source};
 ghost use Rattle.csv.specs.Records.{fields_of};
-ghost use Rattle.blk_lists.specs.Sources.{Source, TakesRecord, input_of};
+ghost use Rattle.blk_lists.specs.Sources.{Source, TakesRecord, IsPlainReader, input_of, left_of};
+ghost use Rattle.blk_lists.specs.Watching.{left_in, failed_in};
 ghost use Rattle.blk_lists.specs.Reads.{IsOutside};
 
 use crate::fault::{TextFault, Why};
-use crate::watched::Watched;
+use crate::watched::{Place, Watched};
 use csv::{ByteRecord, ErrorKind, Reader, ReaderBuilder};
 use std::alloc::Global;
 use std::io::Read;
 use std::marker::Model;
+use std::mem::replace;
 
 /// The records of a reader of bytes, as a CSV reader takes them: commas, quoted fields, line ends of any kind, empty
 /// lines passed over, one byte order mark at the beginning taken off, no header row, and no trimming. They are numbered
 /// from 1. A read that a signal interrupts is made again.
 #[derive(Drop)]
 pub struct Records<R: Read> {
-    rdr: Reader<Watched<R>>,
+    rdr: Reader<Place<R>>,
     row: ByteRecord,
     at: u64,
 }
 
 impl<R: Read> Model for Records<R> {
     ghost use Rattle.blk_lists.specs.Sources.{Source, left_of, IsPlainReader};
-    ghost use Rattle.blk_lists.specs.Watching.{remaining_of, read_failed};
+    ghost use Rattle.blk_lists.specs.Watching.{left_in, failed_in};
     ghost use Rattle.csv.specs.Reading.{reader_source};
     ghost use Rattle.csv.specs.Records.{fields_of};
 
     ghost Value = { Source };
 
-    ghost view = { λ a. record { left = left_of (remaining_of R.remaining) a.rdr; fields = fields_of a.row; at = a.at; failed = read_failed (reader_source a.rdr) } };
+    ghost view = { λ a. record { left = left_of (left_in R.remaining) a.rdr; bytes = left_in R.remaining (reader_source a.rdr); fields = fields_of a.row; at = a.at; failed = failed_in (reader_source a.rdr) } };
 
     ghost invariant = { λ a. IsPlainReader a.rdr };
+}
+
+/// The CSV reader over this, of which nothing is read yet.
+fn plain_over<R: Read>(alloc: Global, place: Place<R>) -> Reader<Place<R>>
+    ensures plain { IsPlainReader result }
+    ensures left { left_of (left_in R.remaining) result ≡ input_of (left_in R.remaining place) }
+    ensures place { reader_source result ≡ place }
+{
+    ReaderBuilder::new()
+        .has_headers(false)
+        .flexible(true)
+        .from_reader(alloc, place)
 }
 
 impl<R: Read> Records<R> {
     /// The records of a reader, none of which is read yet. This takes no memory and asks the reader for nothing.
     pub fn new(alloc: Global, reader: R) -> Records<R>
         ensures left { result.left ≡ input_of (R.remaining reader) }
+        ensures bytes { result.bytes ≡ R.remaining reader }
         ensures at { result.at ≡ 0 }
         ensures fresh { result.failed ≡ false }
     {
         Records {
-            rdr: ReaderBuilder::new()
-                .has_headers(false)
-                .flexible(true)
-                .from_reader(alloc, Watched::new(reader)),
+            rdr: plain_over(alloc, Place::of(Watched::new(reader))),
             row: ByteRecord::new(alloc),
             at: 0,
         }
@@ -104,6 +116,26 @@ impl<R: Read> Records<R> {
                 // records may be of any width, and their bytes need be no text
                 _ => unreachable!(),
             },
+        }
+    }
+}
+
+impl<R: Read + Drop> Records<R> {
+    /// All the bytes that the reader has yet to give: before any record was asked for, the whole input. No record is left then.
+    pub fn bytes(&mut self, alloc: Global) -> Result<Vec<u8>, Why>
+        ensures bytes { IfOk result (λ given. IfSome self.old.bytes (λ known. given.items ≡ known)) }
+        ensures fault { IfErr result (IsOutside self.new.failed) }
+        // a read that failed is told as nothing else
+        ensures told { IfErr result (λ why. self.new.failed ≡ true → why ≡ Why.Read) }
+    {
+        let out = replace(&mut self.rdr, plain_over(alloc, Place::empty()));
+        let mut place = out.into_inner();
+        let mut bytes = Vec::new(alloc);
+        let read = place.read_to_end(&mut bytes);
+        self.rdr = plain_over(alloc, place);
+        match read {
+            Ok(_) => Ok(bytes),
+            Err(_) => Err(self.outside()),
         }
     }
 }

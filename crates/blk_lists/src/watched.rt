@@ -3,7 +3,7 @@
 ghost use Rattle.std.specs.Prelude.{◌≡◌, true, false, OnOk, OnErr};
 ghost use Rattle.std.specs.Io.{ReadsAtMost};
 ghost use Rattle.std.specs.Io.KnownBytes.{ReadConsumes};
-ghost use Rattle.blk_lists.specs.Watching.{remaining_of, read_failed};
+ghost use Rattle.blk_lists.specs.Watching.{remaining_of, read_failed, left_in, failed_in};
 
 use std::io;
 use std::io::{ErrorKind, Read};
@@ -58,5 +58,51 @@ impl<R: Read> Read for Watched<R> {
         }
         self.failed = true;
         Err(io::Error::from(ErrorKind::Interrupted))
+    }
+}
+
+/// The place of such a reader, which may be taken out of it, as it can't be of the CSV reader that lies over it. While it is out
+/// there is nothing to be read.
+#[derive(Drop)]
+pub struct Place<R> {
+    held: Option<Watched<R>>,
+}
+
+impl<R: Read> Place<R> {
+    /// The place with this reader in it.
+    pub fn of(reader: Watched<R>) -> Place<R>
+        ensures left { left_in R.remaining result ≡ remaining_of R.remaining reader }
+        ensures failed { failed_in result ≡ read_failed reader }
+    {
+        Place { held: Some(reader) }
+    }
+
+    /// The place while it is out.
+    pub fn empty() -> Place<R> {
+        Place { held: None }
+    }
+
+    /// Whether a read of the reader has failed.
+    pub fn has_failed(&self) -> bool
+        ensures { result ≡ failed_in self.now }
+    {
+        match &self.held {
+            Some(reader) => reader.has_failed(),
+            None => false,
+        }
+    }
+}
+
+impl<R: Read> Read for Place<R> {
+    ghost remaining = { left_in R.remaining };
+
+    fn read(&mut self, buf: &mut [u8]) -> io::Result<usize>
+        ensures bound { ReadsAtMost result buf.new }
+        ensures bytes { ReadConsumes (left_in R.remaining self.old) (left_in R.remaining self.new) result buf.new }
+    {
+        match &mut self.held {
+            Some(reader) => reader.read(buf),
+            None => Ok(0),
+        }
     }
 }

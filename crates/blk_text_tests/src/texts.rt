@@ -67,6 +67,14 @@ fn a_certificate_in_other_spellings(rt: HostRuntime) {
 }
 
 #[test]
+fn all_bytes_of_an_input(rt: HostRuntime) {
+    let text = "\u{feff}blk-commands,1,1\r\n\n1,0,\"0";
+    let records = &mut Records::new(rt.alloc(), text.as_bytes());
+    let bytes = records.bytes(rt.alloc()).expect(&rt, "refused");
+    assert!(rt; bytes.as_slice() == text.as_bytes());
+}
+
+#[test]
 fn fields_of_a_certificate(rt: HostRuntime) {
     let text = "blk-certificate,1,1,1\nbound,-3,1,5\n7,1,5,2\n";
     let records = &mut Records::new(rt.alloc(), text.as_bytes());

@@ -4,16 +4,16 @@ ghost use Rattle.std.specs.Prelude.{ℕ, ◌≡◌, ◌≤◌, ◌<◌, ◌&&◌
 ghost use Rattle.edd_check.specs.declared.Window.{Window as Span};
 ghost use Rattle.edd_check.specs.Limits.{most_commands};
 ghost use Rattle.edd_check.specs.Schedule.{IsLegal};
-ghost use Rattle.edd_check.specs.Met.{can_be_met, lies_in, inside_of, IsCover, CoverInRange};
+ghost use Rattle.edd_check.specs.Met.{can_be_met, lies_in, inside_of, IsCover, IsMostMet, CoverInRange};
 ghost use Rattle.edd_oracle.specs.Input.{IsTaken};
 ghost use Rattle.edd_oracle.specs.Met.{IsMostAnswer, IsMetFirst, IsPassedCover};
 ghost use Rattle.edd_verdict.specs.Verdicts.{is_spare, spares_in};
-ghost use Rattle.edd_figures.specs.Misses.{crowd_of, AreMisses, HasSpares};
+ghost use Rattle.edd_figures.specs.Misses.{crowd_of, number_late, AreMisses, HasSpares};
 ghost use Rattle.edd_figures.specs.Inside.Placed.{is_place};
 
 use edd_check::{Capacity, Command, Window, carried_in, number_met};
 use edd_oracle::{MostMet, most_met};
-use edd_verdict::{Verdict, law_of_spares, verdicts};
+use edd_verdict::{Verdict, law_of_spares, law_of_verdicts, verdicts};
 use std::alloc::{AllocError, Allocator, Global};
 
 /// A window of rounds, and what is asked of them.
@@ -137,6 +137,30 @@ fn spares(verdicts: &[Option<Verdict>]) -> u64
     count
 }
 
+/// How many late commands of a legal schedule are spare, where so many commands are on time at most. Where the schedule has as many
+/// on time, none is, and no verdict is asked for.
+fn spare_of<A: Allocator + Clone, B: Allocator>(
+    alloc: A,
+    commands: &[Command],
+    rounds: &[u64],
+    capacity: &Capacity<B>,
+    most: u64,
+) -> Result<u64, AllocError>
+    requires taken { IsTaken commands.now }
+    requires legal { IsLegal commands.now rounds.now capacity.now }
+    requires most { IsMostMet commands.now capacity.now most }
+    ensures { IfOk result (HasSpares commands.now rounds.now capacity.now (number_late commands.now rounds.now)) }
+{
+    law_of_verdicts();
+    law_of_spares();
+    let _ = capacity.at(0);
+    if number_met(commands, rounds) == most {
+        return Ok(0);
+    }
+    let verdicts = verdicts(alloc, commands, rounds, capacity)?;
+    Ok(spares(verdicts.as_slice()))
+}
+
 /// What the schedule of the commands has late, of which so many are spare, where the oracle gave this answer.
 fn counted<A: Allocator + Clone, B: Allocator, C: Allocator>(
     alloc: A,
@@ -186,12 +210,11 @@ pub fn misses_of<A: Allocator + Clone, B: Allocator>(
     ensures some { IfOk result (λ m. (0 < m.counts.avoidable) ↔ (0 < m.counts.spare)) }
 {
     law_of_spares();
-    let verdicts = verdicts(alloc.clone()?, commands, rounds, capacity)?;
-    let spare = spares(verdicts.as_slice());
     // commands within the limits of the oracle are refused for want of memory alone
     let Ok(answer) = most_met(alloc.clone()?, commands, capacity) else {
         return Err(AllocError);
     };
+    let spare = spare_of(alloc.clone()?, commands, rounds, capacity, answer.met)?;
     let missed = counted(alloc, spare, commands, rounds, capacity, &answer)?;
     Ok(missed)
 }
