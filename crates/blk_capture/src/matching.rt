@@ -352,16 +352,14 @@ impl<A: Allocator + Clone> Matching<A> {
         let Some(opened) = self.unplace(request) else {
             return Ok(None);
         };
-        let grown = match side {
-            Side::Back => Range::new(range.dir, opened.range.first, range.end),
-            Side::Front => Range::new(range.dir, range.first, opened.range.end),
-        };
-        let range = grown.unwrap_or(opened.range);
+        // of one that was handed back after a part was done, the rest goes out, and grows
+        let left = opened.left.grown(range, side);
+        let range = opened.range.grown(range, side);
         self.replace(
             request,
             Opened {
                 range,
-                left: range,
+                left,
                 ..opened
             },
         )

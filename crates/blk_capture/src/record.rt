@@ -3,7 +3,7 @@
 ghost use Rattle.std.specs.Prelude.{◌≡◌, ◌<◌, None, Some, IfErr, IfOk};
 ghost use Rattle.blk_capture.specs.Passing.{writes, place_of, kind_place, passed_action, passed_op, passed_over, dir_of, op_by, action_by, letter_action};
 
-use blk_bio::{Dir, MAX_END};
+use blk_bio::{Dir, MAX_END, Side};
 
 /// What a record says was done, by blktrace's letters.
 #[derive(Clone, Copy, Debug, PartialEq, Eq)]
@@ -250,6 +250,15 @@ impl Range {
         } else {
             None
         }
+    }
+
+    /// This range grown at a side by another, which lies beside it there.
+    pub(crate) fn grown(self, by: Range, side: Side) -> Range {
+        let grown = match side {
+            Side::Back => Range::new(self.dir, self.first, by.end),
+            Side::Front => Range::new(self.dir, by.first, self.end),
+        };
+        grown.unwrap_or(self)
     }
 
     /// The range of a record, unless it is passed over.

@@ -1,0 +1,5 @@
+//! Tests of captures as texts.
+#![tactic(auto)]
+
+#[cfg(test)]
+mod texts;
