@@ -1,0 +1,16 @@
+use Rattle.std.proofs.Common.{◌≡◌, ◌≤◌, ◌++◌, length, drop, max}
+use Rattle.blk_text.specs.declared.script.TheConstants.{MAX_STEPS}
+use Rattle.blk_arrivals.specs.Coming.{begin_of}
+use Rattle.blk_arrivals.specs.Plugs.{plugs_of, no_plugs, steps_from}
+use Rattle.blk_arrivals.proofs.Stepping.{AllFit}
+use Rattle.blk_arrivals.proofs.going.steps_of.Given as goal
+
+-- the steps so far, after which those of the records come that are left
+abbrev pub invariant-loop-record : goal.invariant-loop-record
+invariant-loop-record l = record {
+  rest : l.going.lines.items ++ steps_from (begin_of l.records) l.span l.told l.keys (plugs_of l.going) (drop l.record-index l.records) ≡ steps_from (begin_of l.records) l.span l.told l.keys (no_plugs (length l.keys)) l.records;
+  held : length l.going.held.items ≡ length l.keys;
+  bios : l.going.bios ≤ length l.going.lines.items;
+  short : length l.going.lines.items ≤ MAX_STEPS;
+  fit : AllFit (max (length l.keys) 1) l.going.lines.items;
+}

@@ -1,0 +1,40 @@
+-- What a record of a capture does to the plugs of the submitters.
+use Rattle.std.specs.Prelude.{ℕ, ◌≤◌, ◌<◌, ◌+◌, ◌==◌, List, length, Option, None, Some}
+use Rattle.std.specs.List.{position}
+use Rattle.blk_bio.specs.Bios.{sector_limit}
+use Rattle.blk_bio.specs.declared.bio.Dir.{Dir}
+use Rattle.blk_capture.specs.declared.record.Action.{Action}
+use Rattle.blk_capture.specs.declared.record.Action.TheVariants as action
+use Rattle.blk_capture.specs.declared.record.Record.{Record}
+use Rattle.blk_arrivals.specs.Coming.{way_of, key_of}
+use Rattle.blk_arrivals.specs.declared.coming.By.{By}
+use Rattle.blk_arrivals.specs.declared.deeds.Deed.{Deed}
+use Rattle.blk_arrivals.specs.declared.deeds.Deed.TheVariants as deed
+
+-- the number of the submitter with a key, if there is one
+abbrev pub number_of : List ℕ → ℕ → Option ℕ
+number_of keys key = position (λ k. k == key) keys
+
+-- a bio of the submitter comes in, or nothing does
+abbrev pub comes_from : ℕ → Option Dir → Deed
+comes_from s None = deed.Nothing
+comes_from s (Some way) = deed.Comes s way
+
+-- what a record of this submitter does
+abbrev pub done_by : ℕ → Action → Option Dir → Deed
+done_by s action.Unplug way = deed.Unplugs s
+done_by s _ way = comes_from s way
+
+abbrev pub deed_by : Option ℕ → Action → Option Dir → Deed
+deed_by None action way = deed.Nothing
+deed_by (Some s) action way = done_by s action way
+
+-- what a record does, of submitters with these keys
+abbrev pub deed_of : By → List ℕ → Record → Deed
+deed_of told keys r = deed_by (number_of keys (key_of told r)) r.action (way_of r)
+
+-- it is of one of so many submitters, and a bio that comes in by a record has a range of sectors
+abbrev pub IsDeed : ℕ → Record → Deed → Type 0
+IsDeed count r (deed.Comes s way) = (s < count) × (0 < r.sectors) × (r.first + r.sectors ≤ sector_limit)
+IsDeed count r (deed.Unplugs s) = s < count
+IsDeed count r deed.Nothing = Unit {0}

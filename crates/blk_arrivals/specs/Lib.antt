@@ -1,0 +1,8 @@
+pub mod Coming
+pub mod Deeds
+pub mod Plugs
+pub mod Scripts
+pub mod Brought
+pub mod Names
+pub mod Rows
+pub mod Staged

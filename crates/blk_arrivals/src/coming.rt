@@ -1,0 +1,156 @@
+//! Which bios of a capture come in, and from whom.
+
+ghost use Rattle.std.specs.Prelude.{◌≡◌, ◌<◌, ◌≤◌, ◌+◌, ◌↔◌, None, IsTrue, IfOk, IfSome, MatchOption, OnOk, length};
+ghost use Rattle.blk_bio.specs.Bios.{sector_limit};
+ghost use Rattle.blk_bio.specs.declared.limits.TheConstants.{MAX_SOFT_QUEUES as MOST};
+ghost use Rattle.blk_capture.specs.Passing.{passed_range};
+ghost use Rattle.blk_arrivals.specs.Coming.{way_of, begin_of, round_of, AreFew, ComeInTime, key_of, keys_of, submitters_of, told_by, with_key};
+
+use blk_bio::{Dir, MAX_END, MAX_SOFT_QUEUES};
+use blk_capture::{Action, Record};
+use blk_text::MAX_RUN;
+use std::alloc::{AllocError, Global};
+
+/// By what submitters are told apart.
+#[derive(Clone, Copy, Debug, PartialEq, Eq)]
+pub enum By {
+    /// The process that queued the bio.
+    Process,
+    /// The processor on which it ran.
+    Processor,
+}
+
+impl By {
+    /// What tells the submitter of a record.
+    pub(crate) fn key_of(self, record: &Record) -> u64
+        ensures { result ≡ key_of self record.now }
+    {
+        match self {
+            By::Process => record.pid,
+            By::Processor => record.cpu,
+        }
+    }
+}
+
+/// Whether a record has sectors, none of them past the last one.
+fn has_range(record: &Record) -> bool
+    ensures { IsTrue result ↔ ((0 < record.now.sectors) × (record.now.first + record.now.sectors ≤ sector_limit)) }
+{
+    record.sectors != 0 && record.first <= MAX_END && record.sectors <= MAX_END - record.first
+}
+
+/// Which way the data of a bio goes that comes in by a record, if one does.
+pub(crate) fn way_of(record: &Record) -> Option<Dir>
+    ensures way { result ≡ way_of record.now }
+    ensures range { IfSome result (λ _. (0 < record.now.sectors) × (record.now.first + record.now.sectors ≤ sector_limit)) }
+{
+    match record.action {
+        Action::Queue => {
+            if !has_range(record) {
+                return None;
+            }
+            record.op.dir()
+        }
+        Action::Get
+        | Action::BackMerge
+        | Action::FrontMerge
+        | Action::Insert
+        | Action::Issue
+        | Action::Complete
+        | Action::Requeue
+        | Action::Split
+        | Action::Plug
+        | Action::Unplug
+        | Action::Other => None,
+    }
+}
+
+/// When a capture begins.
+pub(crate) fn begin_of(records: &[Record]) -> u64
+    ensures { result ≡ begin_of records.now }
+{
+    match records {
+        [first, ..] => first.time,
+        [] => 0,
+    }
+}
+
+/// The round of a record, of rounds of a length from a beginning on.
+pub(crate) fn round_of(begin: u64, span: u64, record: &Record) -> u64
+    requires { 0 < span }
+    ensures { result ≡ round_of begin span record.now.time }
+{
+    record.time.saturating_sub(begin) / span
+}
+
+/// Whether no bio comes in by a record after the last round of which a script can tell.
+fn is_in_time(begin: u64, span: u64, record: &Record) -> bool
+    requires { 0 < span }
+    ensures { IsTrue result ↔ IfSome (way_of record.now) (λ _. round_of begin span record.now.time ≤ MAX_RUN) }
+{
+    match way_of(record) {
+        Some(_) => round_of(begin, span, record) <= MAX_RUN,
+        None => true,
+    }
+}
+
+/// Whether no bio comes in after the last round of which a script can tell.
+pub(crate) fn come_in_time(begin: u64, span: u64, records: &[Record]) -> bool
+    requires { 0 < span }
+    ensures { IsTrue result ↔ ComeInTime begin span records.now }
+{
+    records.iter().all(|record| is_in_time(begin, span, record))
+}
+
+/// Adds the key of a bio, if one comes in, unless it is among them.
+fn note(keys: &mut Vec<u64>, way: Option<Dir>, key: u64) -> Result<(), AllocError>
+    ensures { OnOk result (keys.new.items ≡ with_key way key keys.old.items) }
+{
+    if way.is_none() {
+        return Ok(());
+    }
+    if keys.contains(&key) {
+        return Ok(());
+    }
+    keys.push(key)?;
+    Ok(())
+}
+
+/// The keys of all bios that come in; none where there are too many.
+fn keys_of(alloc: Global, told: By, records: &[Record]) -> Result<Option<Vec<u64>>, AllocError>
+    ensures { IfOk result (λ found. MatchOption found (MOST < length (keys_of told records.now)) (λ keys. (keys.items ≡ keys_of told records.now) × AreFew keys.items)) }
+{
+    let mut keys = Vec::new(alloc);
+    for record in records {
+        note(&mut keys, way_of(record), told.key_of(record))?;
+        if keys.len() as u64 > MAX_SOFT_QUEUES {
+            return Ok(None);
+        }
+    }
+    Ok(Some(keys))
+}
+
+/// By what the submitters of a capture are told apart, and their keys.
+#[derive(Drop)]
+pub(crate) struct Submitters {
+    pub(crate) told: By,
+    pub(crate) keys: Vec<u64>,
+}
+
+/// The submitters of a capture, by their processes or else by the processors; none where both are too many.
+pub(crate) fn submitters_of(
+    alloc: Global,
+    records: &[Record],
+) -> Result<Option<Submitters>, AllocError>
+    ensures { IfOk result (λ found. MatchOption found (¬ AreFew (submitters_of records.now)) (λ s. (s.told ≡ told_by records.now) × (s.keys.items ≡ submitters_of records.now) × AreFew (submitters_of records.now))) }
+{
+    let told = By::Process;
+    if let Some(keys) = keys_of(alloc, told, records)? {
+        return Ok(Some(Submitters { told, keys }));
+    }
+    let told = By::Processor;
+    match keys_of(alloc, told, records)? {
+        Some(keys) => Ok(Some(Submitters { told, keys })),
+        None => Ok(None),
+    }
+}

@@ -1,0 +1,54 @@
+//! What a record of a capture does to the plugs of the submitters.
+
+ghost use Rattle.std.specs.Prelude.{◌≡◌, ◌<◌, IfSome, length};
+ghost use Rattle.blk_arrivals.specs.Deeds.{IsDeed, deed_of, number_of};
+
+use crate::coming::{By, way_of};
+use blk_bio::Dir;
+use blk_capture::{Action, Record};
+
+/// What a record does.
+#[derive(Clone, Copy)]
+pub(crate) enum Deed {
+    /// A bio of a submitter comes in, whose data goes this way.
+    Comes(usize, Dir),
+    /// The plug of a submitter is flushed.
+    Unplugs(usize),
+    /// Nothing.
+    Nothing,
+}
+
+/// The number of the submitter with a key, if there is one.
+fn number_of(keys: &[u64], key: u64) -> Option<usize>
+    ensures value { result ≡ number_of keys.now key }
+    ensures bound { IfSome result (λ s. s < length keys.now) }
+{
+    keys.iter().position(|other| *other == key)
+}
+
+/// What a record does, of submitters with these keys.
+pub(crate) fn deed_of(told: By, keys: &[u64], record: &Record) -> Deed
+    ensures value { result ≡ deed_of told keys.now record.now }
+    ensures deed { IsDeed (length keys.now) record.now result }
+{
+    let Some(submitter) = number_of(keys, told.key_of(record)) else {
+        return Deed::Nothing;
+    };
+    match record.action {
+        Action::Unplug => Deed::Unplugs(submitter),
+        Action::Queue
+        | Action::Get
+        | Action::BackMerge
+        | Action::FrontMerge
+        | Action::Insert
+        | Action::Issue
+        | Action::Complete
+        | Action::Requeue
+        | Action::Split
+        | Action::Plug
+        | Action::Other => match way_of(record) {
+            Some(way) => Deed::Comes(submitter, way),
+            None => Deed::Nothing,
+        },
+    }
+}

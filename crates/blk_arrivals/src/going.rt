@@ -1,0 +1,263 @@
+//! The steps of a capture's records, as they are gone through.
+
+ghost use Rattle.std.specs.Prelude.{◌≡◌, ◌⊎◌, ◌≤◌, ◌<◌, ◌+◌, ◌-◌, ◌^◌, ◌++◌, ◌∷◌, [], All, IfOk, IfErr, OnOk, length, max};
+ghost use Rattle.std.proofs.Math.ListN.{replicate};
+ghost use Rattle.blk_bio.specs.Bios.{sector_limit};
+ghost use Rattle.blk_bio.specs.declared.limits.TheConstants.{MAX_SOFT_QUEUES as MOST};
+ghost use Rattle.blk_text.specs.Script.{LineFits};
+ghost use Rattle.blk_arrivals.specs.Coming.{begin_of, AreFew, ComeInTime};
+ghost use Rattle.blk_arrivals.specs.Deeds.{IsDeed};
+ghost use Rattle.blk_arrivals.specs.Plugs.{plugs_of, no_plugs, flush_of, flushes, out_of, out_if, ending_of, plugs_in, is_later, room_for, one_more, bio_of, arrival_of, plugs_with, unplugging_of, plugs_without, steps_by, plugs_by, last_steps, steps_from};
+
+use crate::coming::{By, begin_of, round_of};
+use crate::deeds::{Deed, deed_of};
+use crate::terms::ArrivalsFault;
+use blk_bio::{Bio, BioId, Dir};
+use blk_capture::Record;
+use blk_text::{Line, MAX_STEPS};
+use std::alloc::{AllocError, Global};
+
+/// As many requests as a plug holds: `BLK_MAX_REQUEST_COUNT` of Linux.
+pub(crate) const PLUGGED: u64 = 32;
+
+/// The steps so far, the round that it is, how many bios came in, and how many stand in the plug of each submitter.
+#[derive(Drop)]
+pub(crate) struct Going {
+    lines: Vec<Line>,
+    now: u64,
+    bios: u64,
+    held: Vec<u64>,
+}
+
+/// So many empty plugs.
+fn empty_plugs(alloc: Global, count: usize) -> Result<Vec<u64>, AllocError>
+    ensures { IfOk result (λ held. held.items ≡ replicate count 0) }
+{
+    let mut held = Vec::new(alloc);
+    for _ in 0..count {
+        held.push(0)?;
+    }
+    Ok(held)
+}
+
+/// Empties the plugs.
+fn empty(held: &mut [u64])
+    ensures { held.new ≡ replicate (length held.old) 0 }
+{
+    for count in held.iter_mut() {
+        *count = 0;
+    }
+}
+
+/// Adds the flush of a plug, where it holds something.
+fn push_flush(lines: &mut Vec<Line>, submitter: usize, held: u64) -> Result<(), AllocError>
+    requires { submitter < MOST }
+    ensures { OnOk result (lines.new.items ≡ lines.old.items ++ flush_of submitter held) }
+{
+    if held == 0 {
+        return Ok(());
+    }
+    lines.push(Line::Flush(submitter as u8))?;
+    Ok(())
+}
+
+/// Adds the flushes of all plugs that hold something.
+fn push_flushes(lines: &mut Vec<Line>, held: &[u64]) -> Result<(), AllocError>
+    requires { AreFew held.now }
+    ensures { OnOk result (lines.new.items ≡ lines.old.items ++ flushes 0 held.now) }
+{
+    for submitter in 0..held.len() {
+        push_flush(lines, submitter, held[submitter])?;
+    }
+    Ok(())
+}
+
+/// Adds the flush of a plug, and a drain.
+fn push_out(lines: &mut Vec<Line>, submitter: usize) -> Result<(), AllocError>
+    requires { submitter < MOST }
+    ensures { OnOk result (lines.new.items ≡ lines.old.items ++ out_of submitter) }
+{
+    lines.push(Line::Flush(submitter as u8))?;
+    lines.push(Line::Drain { hw: 0 })?;
+    Ok(())
+}
+
+/// Adds them where a plug holds as many requests as it may.
+fn push_room(lines: &mut Vec<Line>, submitter: usize, held: u64) -> Result<(), AllocError>
+    requires { submitter < MOST }
+    ensures { OnOk result (lines.new.items ≡ lines.old.items ++ room_for submitter held) }
+{
+    if held < PLUGGED {
+        return Ok(());
+    }
+    push_out(lines, submitter)
+}
+
+/// Adds them where a plug holds something.
+fn push_unplug(lines: &mut Vec<Line>, submitter: usize, held: u64) -> Result<(), AllocError>
+    requires { submitter < MOST }
+    ensures { OnOk result (lines.new.items ≡ lines.old.items ++ out_if submitter held) }
+{
+    if held == 0 {
+        return Ok(());
+    }
+    push_out(lines, submitter)
+}
+
+/// How many bios a plug holds with one more.
+fn one_more(held: u64) -> u64
+    ensures { result ≡ one_more held }
+{
+    if held < PLUGGED { held + 1 } else { 1 }
+}
+
+/// The bio of a record.
+fn bio_of(submitter: usize, number: u64, way: Dir, record: &Record) -> Bio
+    requires submitter { submitter < MOST }
+    requires range { (0 < record.now.sectors) × (record.now.first + record.now.sectors ≤ sector_limit) }
+    ensures { result ≡ bio_of submitter number way record.now }
+{
+    let id = BioId {
+        submitter: submitter as u8,
+        serial: number,
+    };
+    match Bio::new(id, way, record.first, record.sectors) {
+        Ok(bio) => bio,
+        Err(_) => unreachable!(),
+    }
+}
+
+impl Going {
+    /// In round 0, with so many empty plugs.
+    fn new(alloc: Global, count: usize) -> Result<Going, AllocError>
+        ensures lines { IfOk result (λ going. going.lines.items ≡ []) }
+        ensures plugs { IfOk result (λ going. plugs_of going ≡ no_plugs count) }
+    {
+        Ok(Going {
+            lines: Vec::new(alloc),
+            now: 0,
+            bios: 0,
+            held: empty_plugs(alloc, count)?,
+        })
+    }
+
+    /// Ends the rounds up to one, where it is later than the one that it is.
+    fn turn(&mut self, round: u64) -> Result<(), AllocError>
+        requires { AreFew self.old.held.items }
+        ensures lines { OnOk result (self.new.lines.items ≡ self.old.lines.items ++ ending_of (is_later round (plugs_of self.old)) round (plugs_of self.old)) }
+        ensures plugs { OnOk result (plugs_of self.new ≡ plugs_in (is_later round (plugs_of self.old)) round (plugs_of self.old)) }
+    {
+        if round <= self.now {
+            return Ok(());
+        }
+        push_flushes(&mut self.lines, self.held.as_slice())?;
+        self.lines.push(Line::Run(round - self.now))?;
+        self.now = round;
+        empty(self.held.as_mut_slice());
+        Ok(())
+    }
+
+    /// A bio of a submitter comes in by a record.
+    fn arrive(&mut self, submitter: usize, way: Dir, record: &Record) -> Result<(), AllocError>
+        requires submitter { submitter < length self.old.held.items }
+        requires few { AreFew self.old.held.items }
+        requires room { self.old.bios < 2 ^ 64 - 1 }
+        requires range { (0 < record.now.sectors) × (record.now.first + record.now.sectors ≤ sector_limit) }
+        ensures lines { OnOk result (self.new.lines.items ≡ self.old.lines.items ++ arrival_of (plugs_of self.old) submitter way record.now) }
+        ensures plugs { OnOk result (plugs_of self.new ≡ plugs_with (plugs_of self.old) submitter) }
+    {
+        let held = self.held[submitter];
+        push_room(&mut self.lines, submitter, held)?;
+        let bio = bio_of(submitter, self.bios, way, record);
+        self.lines.push(Line::Bio(bio))?;
+        self.held[submitter] = one_more(held);
+        self.bios += 1;
+        Ok(())
+    }
+
+    /// The plug of a submitter is flushed, in a round.
+    fn unplug(&mut self, round: u64, submitter: usize) -> Result<(), AllocError>
+        requires submitter { submitter < length self.old.held.items }
+        requires few { AreFew self.old.held.items }
+        ensures lines { OnOk result (self.new.lines.items ≡ self.old.lines.items ++ unplugging_of (is_later round (plugs_of self.old)) (plugs_of self.old) submitter) }
+        ensures plugs { OnOk result (plugs_of self.new ≡ plugs_without (is_later round (plugs_of self.old)) (plugs_of self.old) submitter) }
+    {
+        if self.now < round {
+            return Ok(());
+        }
+        let held = self.held[submitter];
+        push_unplug(&mut self.lines, submitter, held)?;
+        self.held[submitter] = 0;
+        Ok(())
+    }
+
+    /// What a record of a round does.
+    fn take(&mut self, round: u64, deed: Deed, record: &Record) -> Result<(), AllocError>
+        requires deed { IsDeed (length self.old.held.items) record.now deed }
+        requires few { AreFew self.old.held.items }
+        requires room { self.old.bios < 2 ^ 64 - 1 }
+        ensures lines { OnOk result (self.new.lines.items ≡ self.old.lines.items ++ steps_by round (plugs_of self.old) record.now deed) }
+        ensures plugs { OnOk result (plugs_of self.new ≡ plugs_by round (plugs_of self.old) deed) }
+    {
+        match deed {
+            Deed::Comes(submitter, way) => {
+                self.turn(round)?;
+                self.arrive(submitter, way, record)
+            }
+            Deed::Unplugs(submitter) => self.unplug(round, submitter),
+            Deed::Nothing => Ok(()),
+        }
+    }
+
+    /// At the end of the records.
+    fn finish(&mut self) -> Result<(), AllocError>
+        requires { AreFew self.old.held.items }
+        ensures { OnOk result (self.new.lines.items ≡ self.old.lines.items ++ last_steps (plugs_of self.old)) }
+    {
+        push_flushes(&mut self.lines, self.held.as_slice())?;
+        if self.bios != 0 {
+            self.lines.push(Line::Run(self.bios))?;
+        }
+        Ok(())
+    }
+}
+
+/// The steps of a capture's records, of submitters with these keys, in rounds of a length.
+pub(crate) fn steps_of(
+    alloc: Global,
+    told: By,
+    keys: &[u64],
+    span: u64,
+    records: &[Record],
+) -> Result<Vec<Line>, ArrivalsFault>
+    requires span { 0 < span }
+    requires few { AreFew keys.now }
+    requires in_time { ComeInTime (begin_of records.now) span records.now }
+    ensures ok { IfOk result (λ v. v.items ≡ steps_from (begin_of records.now) span told keys.now (no_plugs (length keys.now)) records.now) }
+    ensures short { IfOk result (λ v. length v.items ≤ MAX_STEPS) }
+    ensures fit { IfOk result (λ v. All (LineFits 1 (max (length keys.now) 1)) v.items) }
+    ensures err { IfErr result (λ f. (f ≡ ArrivalsFault.Memory) ⊎ ((f ≡ ArrivalsFault.TooLong) × (MAX_STEPS < length (steps_from (begin_of records.now) span told keys.now (no_plugs (length keys.now)) records.now)))) }
+{
+    let begin = begin_of(records);
+    let Ok(mut going) = Going::new(alloc, keys.len()) else {
+        return Err(ArrivalsFault::Memory);
+    };
+    for record in records {
+        let deed = deed_of(told, keys, record);
+        match going.take(round_of(begin, span, record), deed, record) {
+            Ok(()) => {}
+            Err(AllocError) => return Err(ArrivalsFault::Memory),
+        }
+        if going.lines.len() as u64 > MAX_STEPS {
+            return Err(ArrivalsFault::TooLong);
+        }
+    }
+    match going.finish() {
+        Ok(()) => {}
+        Err(AllocError) => return Err(ArrivalsFault::Memory),
+    }
+    if going.lines.len() as u64 > MAX_STEPS {
+        return Err(ArrivalsFault::TooLong);
+    }
+    Ok(going.lines)
+}

@@ -1,0 +1,17 @@
+//! The arrivals of a capture as a script: what came in, to be run under the schedulers of the model.
+//!
+//! [`script_of`] makes the script, and [`script_text`] its text. Rounds have a fixed length, so the script is good for comparing policies
+//! on a shape of load, and says nothing of misses by the clock: for these there is [`blk_capture::rounds_of`].
+#![tactic(auto)]
+
+mod coming;
+mod deeds;
+mod going;
+mod script;
+mod terms;
+mod text;
+
+pub use coming::By;
+pub use script::script_of;
+pub use terms::{ArrivalsFault, DEPTH, SECTORS, SEGMENTS, SOFT_DEPTH, Terms};
+pub use text::script_text;

@@ -1,0 +1,108 @@
+//! How a capture becomes a script, and why it doesn't.
+
+ghost use Rattle.std.specs.Prelude.{◌≡◌, ◌<◌, IfOk, IfErr};
+ghost use Rattle.faults.specs.Order.{IsFirstFault};
+ghost use Rattle.blk_trace.specs.Setups.{IsSetup};
+ghost use Rattle.blk_arrivals.specs.Names.{fault_name};
+ghost use Rattle.blk_arrivals.specs.Scripts.{usual_limits, rounds_in, setup_of, term_rules};
+
+use blk_bio::Limits;
+use blk_trace::{Setup, SetupFault};
+
+/// The depth where none is asked for: the most tags of a version 1 script.
+pub const DEPTH: u64 = 64;
+
+/// The most sectors of a request of several bios: Linux's default `max_sectors_kb` of 1,280.
+pub const SECTORS: u64 = 2_560;
+
+/// The most bios of a request: Linux's default of segments.
+pub const SEGMENTS: u64 = 128;
+
+/// How many requests a software queue has room for: as many as two full plugs.
+pub const SOFT_DEPTH: u64 = 64;
+
+/// How a capture becomes a script.
+#[derive(Clone, Copy, Debug, PartialEq, Eq)]
+pub struct Terms {
+    /// The length of a round, in nanoseconds, at least 1.
+    pub round: u64,
+    /// How many commands a round carries, 1 to [`blk_trace::MAX_DEPTH`].
+    pub depth: u64,
+    /// How soon a read is due, in nanoseconds. In rounds, rounded down and at least 1, it lies below [`blk_trace::MAX_EXPIRIES`].
+    pub read_expire: u64,
+    /// How soon a write is due, likewise.
+    pub write_expire: u64,
+}
+
+/// Why a capture becomes no script, in the order in which the reasons are looked for.
+#[derive(Clone, Copy, Debug, PartialEq, Eq)]
+pub enum ArrivalsFault {
+    /// A round has no length.
+    Round,
+    /// The depth is 0 or above [`blk_trace::MAX_DEPTH`].
+    Depth,
+    /// An expiry is [`blk_trace::MAX_EXPIRIES`] rounds or more.
+    Expire,
+    /// There are more than [`blk_bio::MAX_SOFT_QUEUES`] submitters, by their processes and by the processors too.
+    TooMany,
+    /// A bio comes in after round [`blk_text::MAX_RUN`]: a trace has no room for so many ticks.
+    TraceFull,
+    /// There are more than [`blk_text::MAX_STEPS`] steps.
+    TooLong,
+    /// Memory ran out.
+    Memory,
+}
+
+impl ArrivalsFault {
+    /// Its name, which the program prints.
+    pub fn name(self) -> &'static str
+        ensures { result.now ≡ fault_name self }
+    {
+        match self {
+            ArrivalsFault::Round => "Round",
+            ArrivalsFault::Depth => "Depth",
+            ArrivalsFault::Expire => "Expire",
+            ArrivalsFault::TooMany => "TooMany",
+            ArrivalsFault::TraceFull => "TraceFull",
+            ArrivalsFault::TooLong => "TooLong",
+            ArrivalsFault::Memory => "Memory",
+        }
+    }
+}
+
+/// The limits of a request of several bios.
+fn usual_limits() -> Limits
+    ensures { result ≡ usual_limits }
+{
+    match Limits::new(SECTORS, SEGMENTS) {
+        Ok(limits) => limits,
+        Err(_) => unreachable!(),
+    }
+}
+
+/// An expiry in rounds of a length.
+fn rounds_in(expire: u64, span: u64) -> u64
+    requires { 0 < span }
+    ensures { result ≡ rounds_in expire span }
+{
+    (expire / span).max(1)
+}
+
+/// The setup of the script.
+pub(crate) fn setup_of(terms: &Terms) -> Result<Setup, ArrivalsFault>
+    ensures ok { IfOk result (λ setup. setup ≡ setup_of terms.now) }
+    ensures kept { IfOk result (λ _. (0 < terms.now.round) × IsSetup (setup_of terms.now)) }
+    ensures err { IfErr result (IsFirstFault (term_rules terms.now)) }
+{
+    if terms.round == 0 {
+        return Err(ArrivalsFault::Round);
+    }
+    let read = rounds_in(terms.read_expire, terms.round);
+    let write = rounds_in(terms.write_expire, terms.round);
+    match Setup::new(terms.depth, 1, read, write, usual_limits()) {
+        Ok(setup) => Ok(setup),
+        Err(SetupFault::Depth) => Err(ArrivalsFault::Depth),
+        Err(SetupFault::Queues) => unreachable!(),
+        Err(SetupFault::Expire) => Err(ArrivalsFault::Expire),
+    }
+}
