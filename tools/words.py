@@ -145,7 +145,8 @@ def compare_options(name, options):
     for option in sorted(set(options) & set(listed)):
         told, (takes, line) = options[option], listed[option]
         _, default, values = split_line(line)
-        if takes != bool(told.values) or default != told.default or values != told.names():
+        # values that are looked at once the words are taken stand in no list of the help text
+        if takes != bool(told.values) or default != told.default or values not in ([], told.names()):
             yield f"blk {name} {option}: docs/FORMATS.md has {told.values} ({told.default}), and the help text: {line}"
 
 

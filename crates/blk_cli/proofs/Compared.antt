@@ -89,6 +89,9 @@ unrun ss i d s rs (failure.Check f) h made are r = absurd r
 unrun ss i d s rs (failure.Met f) h made are r = absurd r
 unrun ss i d s rs failure.NotFixed h made are r = absurd r
 unrun ss i d s rs (failure.Load f) h made are r = absurd r
+unrun ss i d s rs (failure.Import f) h made are r = absurd r
+unrun ss i d s rs (failure.Arrivals f) h made are r = absurd r
+unrun ss i d s rs (failure.Words w) h made are r = absurd r
 unrun ss i d s rs failure.Write h made are r = absurd r
 unrun ss i d s rs failure.Memory h made are r = tt
 

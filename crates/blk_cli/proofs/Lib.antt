@@ -1,6 +1,7 @@
-mod Answered
+mod Alone
 mod Claims
 mod Compared
 mod MetClaims
+mod OfRead
 mod Runs
 mod Schedules

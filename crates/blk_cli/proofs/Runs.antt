@@ -2,7 +2,7 @@
 use Rattle.std.proofs.Common.{ℕ, ◌≡◌, Result, Ok, Err, IfOk, List, subst}
 use Rattle.blk_sched.specs.Meaning.{Meaning}
 use Rattle.blk_settings.specs.declared.sched.SchedFault.{SchedFault}
-use Rattle.blk_sim.specs.Policies.{Policy}
+use Rattle.blk_sched.specs.Policies.{Policy}
 use Rattle.blk_text.specs.Script.{Scripted}
 use Rattle.blk_trace.specs.Traces.{Traced}
 use Rattle.blk_cli.specs.Scripts.{RunsFrom}

@@ -1,5 +1,5 @@
--- How a run of the program ends: its status, what stands on standard output, and the line that says why.
-use Rattle.std.specs.Prelude.{◌≡◌, ◌⊎◌, ℕ, Bool, true, false, List, Option, string_bytes}
+-- How a run of the program ends: its status, what stands on standard output, and what is said beside it or of why there is nothing.
+use Rattle.std.specs.Prelude.{◌≡◌, ◌⊎◌, ℕ, Bool, true, false, if◌then◌else◌, List, Option, None, Some, string_bytes}
 use Rattle.drafts.specs.Outputs.{Stream, IsWritten, IsCut}
 use Rattle.blk_lists.specs.Sources.{Row}
 use Rattle.blk_words.specs.declared.words.Job.{Job}
@@ -9,11 +9,16 @@ use Rattle.blk_cli.specs.declared.NoText.{NoText}
 use Rattle.blk_cli.specs.declared.NoText.TheVariants as none
 use Rattle.blk_cli.specs.declared.failure.Failure.TheVariants as failure
 use Rattle.blk_cli.specs.Lines.{line_of, status_of, write_fault, excluded}
-use Rattle.blk_cli.specs.Gives.{Gives, Fails}
+use Rattle.blk_cli.specs.Said.{Said}
+use Rattle.blk_cli.specs.Gives.{Gives, Fails, AnswersText}
 
--- the words ask for a job that gives this text
-abbrev pub Answers : List (List ℕ) → Option (List Row) → List ℕ → Type 0
-Answers words input text = (j : Job) × Asks words j × Gives j input text
+-- the words ask for a job that answers this
+abbrev pub Answers : List (List ℕ) → Option (List Row) → Said → Type 0
+Answers words input s = (j : Job) × Asks words j × Gives j input s
+
+-- they ask for nothing but texts alone
+abbrev pub AskForTexts : List (List ℕ) → Type 0
+AskForTexts words = (j : Job) → Asks words j → AnswersText j
 
 -- or there is none: the job that they ask for fails, memory ran out before they were read, or they ask for nothing
 abbrev pub IsWithout : List (List ℕ) → Option (List Row) → Bool → NoText → Type 0
@@ -41,15 +46,24 @@ Says line old new false = IsCut line old new
 abbrev pub EndsSaying : ℕ → List ℕ → Stream → Stream → Ended → Type 0
 EndsSaying status line old new ended = (ended.status ≡ status) × Says line old new ended.told
 
--- a text was written whole, and nothing was said; or its writer failed, and took a first part of it and nothing else
-abbrev pub EndsPut : List ℕ → Stream → Stream → Stream → Stream → Ended → Type 0
-EndsPut text old new faults_old faults_new ended =
-    (IsWritten text old new × (faults_new ≡ faults_old) × (ended.status ≡ 0) × (ended.told ≡ true))
-    ⊎ (IsCut text old new × EndsSaying 3 write_fault faults_old faults_new ended)
+-- the status of an answer, by whether what was looked at is good
+abbrev pub status_with : Bool → ℕ
+status_with good = if good then 0 else 1
+
+-- its note was said, where it has one
+abbrev pub SaysBeside : Option (List ℕ) → Stream → Stream → Bool → Type 0
+SaysBeside None old new told = (new ≡ old) × (told ≡ true)
+SaysBeside (Some line) old new told = Says line old new told
+
+-- its text was written whole, and its note said; or the writer of the text failed, and took a first part of it and nothing else
+abbrev pub EndsPut : Said → Stream → Stream → Stream → Stream → Ended → Type 0
+EndsPut s old new faults_old faults_new ended =
+    (IsWritten s.text old new × (ended.status ≡ status_with s.good) × SaysBeside s.note faults_old faults_new ended.told)
+    ⊎ (IsCut s.text old new × EndsSaying 3 write_fault faults_old faults_new ended)
 
 -- how a run of the program ended, by the records of its input and whether their reader has failed, and by what the writers of its
--- output and of its faults hold before and after: it wrote its text, or nothing at all
+-- output and of its faults hold before and after: it wrote the text of its answer, or nothing at all
 abbrev pub RunEnds : List (List ℕ) → Option (List Row) → Bool → Stream → Stream → Stream → Stream → Ended → Type 0
 RunEnds words input failed old new faults_old faults_new ended =
-    ((text : List ℕ) × Answers words input text × EndsPut text old new faults_old faults_new ended)
+    ((s : Said) × Answers words input s × EndsPut s old new faults_old faults_new ended)
     ⊎ ((n : NoText) × IsWithout words input failed n × (new ≡ old) × EndsSaying (status_without n) (line_without n) faults_old faults_new ended)

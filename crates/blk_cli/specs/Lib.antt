@@ -1,3 +1,4 @@
+pub mod Said
 pub mod Inputs
 pub mod Scripts
 pub mod Comparing
@@ -5,6 +6,7 @@ pub mod OfTraces
 pub mod Certificates
 pub mod Loading
 pub mod Judging
+pub mod Importing
 pub mod Gives
 pub mod Lines
 pub mod Ends

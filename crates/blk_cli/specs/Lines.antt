@@ -16,6 +16,13 @@ use Rattle.blk_settings.specs.declared.sched.SchedFault.{SchedFault}
 use Rattle.blk_settings.specs.declared.sched.SchedFault.TheVariants as setting
 use Rattle.blk_settings.specs.declared.fault.LoadFault.{LoadFault}
 use Rattle.blk_settings.specs.declared.fault.LoadFault.TheVariants as load
+use Rattle.blk_capture_text.specs.declared.importing.ImportFault.{ImportFault}
+use Rattle.blk_capture_text.specs.declared.importing.ImportFault.TheVariants as capture
+use Rattle.blk_arrivals.specs.Names.{fault_name}
+use Rattle.blk_arrivals.specs.declared.terms.ArrivalsFault.{ArrivalsFault}
+use Rattle.blk_arrivals.specs.declared.terms.ArrivalsFault.TheVariants as arrivals
+use Rattle.blk_words.specs.declared.words.Refusal.{Refusal}
+use Rattle.blk_words.specs.declared.words.Refusal.TheVariants as refusal
 use Rattle.blk_lists.specs.declared.fault.Why.{Why}
 use Rattle.blk_lists.specs.declared.fault.Why.TheVariants as why
 use Rattle.blk_sim.specs.declared.refusal.SimWhy.{SimWhy}
@@ -87,6 +94,27 @@ abbrev pub load_line : LoadFault → List ℕ
 load_line load.Memory = want_of_memory
 load_line fault = line (load_fault_name fault)
 
+abbrev pub import_line : ImportFault → List ℕ
+import_line capture.TooMany = line (codes "TooMany")
+import_line capture.Memory = want_of_memory
+
+abbrev pub arrivals_line : ArrivalsFault → List ℕ
+arrivals_line arrivals.Memory = want_of_memory
+arrivals_line fault = line (fault_name fault)
+
+-- what is said of words that can't be done
+abbrev pub refusal_text : Refusal → List ℕ
+refusal_text refusal.ReadExpire = codes "--read-expire takes a number with ns, us, ms or s"
+refusal_text refusal.WriteExpire = codes "--write-expire takes a number with ns, us, ms or s"
+refusal_text refusal.From = codes "--from takes insert or queue"
+refusal_text refusal.Skip = codes "--skip takes a number with ns, us, ms or s"
+refusal_text refusal.Round = codes "--round takes a number with ns, us, ms or s"
+refusal_text refusal.TableAndSummary = codes "--table and --summary exclude one another"
+refusal_text refusal.ScriptAlone = codes "--script excludes --table and --summary"
+refusal_text refusal.NoRound = codes "--script needs --round"
+refusal_text refusal.NoScript = codes "--round and --depth need --script"
+refusal_text refusal.OfRequests = codes "--script takes no --from, --skip or --first"
+
 -- the line on a failure
 abbrev pub line_of : Failure → List ℕ
 line_of (failure.Text f) = text_line f.at f.why
@@ -97,6 +125,9 @@ line_of (failure.Check f) = check_line f
 line_of (failure.Met f) = met_check_line f
 line_of failure.NotFixed = line (codes "NotFixed")
 line_of (failure.Load f) = load_line f
+line_of (failure.Import f) = import_line f
+line_of (failure.Arrivals f) = arrivals_line f
+line_of (failure.Words r) = line (refusal_text r)
 line_of failure.Write = write_fault
 line_of failure.Memory = want_of_memory
 
@@ -130,6 +161,14 @@ abbrev pub is_load_outside : LoadFault → Bool
 is_load_outside load.Memory = true
 is_load_outside f = false
 
+abbrev pub is_import_outside : ImportFault → Bool
+is_import_outside capture.Memory = true
+is_import_outside f = false
+
+abbrev pub is_arrivals_outside : ArrivalsFault → Bool
+is_arrivals_outside arrivals.Memory = true
+is_arrivals_outside f = false
+
 abbrev pub is_outside : Failure → Bool
 is_outside (failure.Text f) = is_text_outside f.why
 is_outside (failure.Sched f) = is_sched_outside f
@@ -139,9 +178,17 @@ is_outside (failure.Check f) = is_check_outside f
 is_outside (failure.Met f) = is_met_outside f
 is_outside failure.NotFixed = false
 is_outside (failure.Load f) = is_load_outside f
+is_outside (failure.Import f) = is_import_outside f
+is_outside (failure.Arrivals f) = is_arrivals_outside f
+is_outside (failure.Words r) = false
 is_outside failure.Write = true
 is_outside failure.Memory = true
 
--- the status: 3 for what came from outside, 1 for what is refused
+-- whether its words can't be done
+abbrev pub is_of_words : Failure → Bool
+is_of_words (failure.Words r) = true
+is_of_words f = false
+
+-- the status: 3 for what came from outside, 2 for words, 1 for what is refused
 abbrev pub status_of : Failure → ℕ
-status_of f = if is_outside f then 3 else 1
+status_of f = if is_outside f then 3 else (if is_of_words f then 2 else 1)

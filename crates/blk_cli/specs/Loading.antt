@@ -4,6 +4,7 @@ use Rattle.blk_settings.specs.declared.sched.Sched.{Sched}
 use Rattle.blk_cli.specs.declared.failure.Failure.{Failure}
 use Rattle.blk_cli.specs.declared.failure.Failure.TheVariants as failure
 use Rattle.blk_settings.specs.Made.{IsUnmade}
+use Rattle.blk_settings.specs.Ran.{IsRunUnder}
 use Rattle.blk_settings.specs.Faults.{IsLoadFault}
 use Rattle.blk_settings.specs.Settles.{IsSettled, served_bios}
 use Rattle.blk_settings.specs.declared.Settled.{Settled}
@@ -24,10 +25,12 @@ abbrev pub IsLoadText : Shown → Traced → Settled → List ℕ → Type 0
 IsLoadText shown.Account trace s text = text ≡ load_lines s.accepted s.served s.left
 IsLoadText shown.Trace trace s text = IsTraceText trace text
 
--- what `load` writes, of the trace of its layer and of what it came to by this, where no two bios have one id
-pub record IsLoadOf (w : Shown) (l : Load) (text : List ℕ) : Type 0 where
+-- what `load` writes, of the trace of its layer, which is one that the scheduler makes, and of what it came to by this, where no two
+-- bios have one id
+pub record IsLoadOf (s : Sched) (w : Shown) (l : Load) (text : List ℕ) : Type 0 where
   pub trace : Traced
   pub settled : Settled
+  pub ran : IsRunUnder s l.depth trace
   pub is_settled : IsSettled l trace settled
   pub once : AreOnce (served_bios trace.events)
   pub is_text : IsLoadText w trace settled text

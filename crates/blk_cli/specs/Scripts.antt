@@ -5,21 +5,17 @@ use Rattle.blk_trace.specs.Traces.{Traced}
 use Rattle.blk_sched.specs.Meaning.{Meaning}
 use Rattle.blk_text.specs.Script.{Scripted}
 use Rattle.blk_sim.specs.declared.refusal.SimFault.{SimFault}
-use Rattle.blk_sim.specs.Policies.{Policy, policy_of}
+use Rattle.blk_sched.specs.Policies.{Policy}
 use Rattle.blk_sim.specs.Simulation.{released_bios, ticks_of}
 use Rattle.blk_sim.specs.State.{SimState, start_of}
 use Rattle.blk_sim.specs.Runs.{Runs}
 use Rattle.blk_sim.specs.Refusals.{IsSimFault}
 use Rattle.blk_settings.specs.Made.{IsMade, IsUnmade}
-use Rattle.blk_settings.specs.Rows.{serves_of, chooses_of, told_done_of, told_tick_of, meaning_of, numbers_at_first}
+use Rattle.blk_settings.specs.Rows.{policy_of, meaning_of, numbers_at_first}
 use Rattle.blk_settings.specs.declared.sched.Sched.{Sched}
 use Rattle.blk_cli.specs.OfTraces.{IsTraceText}
 use Rattle.blk_cli.specs.declared.failure.Failure.{Failure}
 use Rattle.blk_cli.specs.declared.failure.Failure.TheVariants as failure
-
--- the policy of a scheduler
-abbrev pub policy_under : Sched → Policy
-policy_under s = policy_of (serves_of s) (chooses_of s) (told_done_of s) (told_tick_of s)
 
 -- the steps of a script lead from the start to this trace
 abbrev pub RunsFrom : Policy → Scripted → Meaning → List ℕ → Traced → Type 0
@@ -34,10 +30,10 @@ abbrev pub IsRefusedBy : Policy → Sched → Scripted → SimFault → Type 0
 IsRefusedBy policy s script f = IsMade s × IsSimFault policy script (meaning_of s) (numbers_at_first s script.setup.depth) f
 
 abbrev pub RunsUnder : Sched → Scripted → Traced → Type 0
-RunsUnder s script trace = RunsBy (policy_under s) s script trace
+RunsUnder s script trace = RunsBy (policy_of s) s script trace
 
 abbrev pub IsRefusedUnder : Sched → Scripted → SimFault → Type 0
-IsRefusedUnder s script f = IsRefusedBy (policy_under s) s script f
+IsRefusedUnder s script f = IsRefusedBy (policy_of s) s script f
 
 -- the trace to which a script's steps lead under a scheduler, with the script's setup. Its bios are, each once, the `bio` lines that
 -- are followed by a flush of their submitter, and after it by a drain of its hardware queue or a run; its Ticks are as many as the
@@ -62,4 +58,4 @@ IsUnrunBy policy s script failure.Memory = ⊤
 IsUnrunBy policy s script f = ⊥
 
 abbrev pub IsUnrun : Sched → Scripted → Failure → Type 0
-IsUnrun s script f = IsUnrunBy (policy_under s) s script f
+IsUnrun s script f = IsUnrunBy (policy_of s) s script f

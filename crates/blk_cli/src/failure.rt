@@ -3,13 +3,16 @@
 ghost use Rattle.std.specs.Prelude.{◌≡◌, ◌≤◌, decimal};
 ghost use Rattle.std.specs.Fmt.{signed_decimal};
 ghost use Rattle.drafts.specs.Outputs.{Writes, stream_of};
-ghost use Rattle.blk_cli.specs.Lines.{line, want_of_memory, numbered, at_record, text_line, step_line, oracle_line, check_line, met_check_line, line_of, status_of};
+ghost use Rattle.blk_cli.specs.Lines.{line, want_of_memory, numbered, at_record, text_line, step_line, oracle_line, check_line, met_check_line, refusal_text, line_of, status_of};
 ghost use Rattle.blk_cli.specs.Ends.{EndsSaying};
 
-use crate::{Ended, FAILED, REFUSED};
+use crate::{COMMAND_LINE, Ended, FAILED, REFUSED};
+use blk_arrivals::ArrivalsFault;
+use blk_capture_text::ImportFault;
 use blk_lists::{TextFault, Why};
 use blk_settings::{LoadFault, SchedFault};
 use blk_sim::{SimFault, SimWhy};
+use blk_words::Refusal;
 use drafts::pieces::put_number;
 use drafts::{Output, WriteFault};
 use edd_check::{CheckFault, MetFault};
@@ -44,6 +47,12 @@ pub enum Failure {
     NotFixed,
     /// The load fails.
     Load(LoadFault),
+    /// The capture is not imported.
+    Import(ImportFault),
+    /// The arrivals of the capture are no script.
+    Arrivals(ArrivalsFault),
+    /// The words can't be done.
+    Words(Refusal),
     /// The writer failed. No job fails so: its text is written by the run.
     Write,
     /// Memory ran out.
@@ -51,7 +60,7 @@ pub enum Failure {
 }
 
 impl Failure {
-    /// The exit status: 1 for refused input, 3 for want of memory, a read fault or a write fault.
+    /// The exit status: 1 for refused input, 2 for words that can't be done, 3 for want of memory, a read fault or a write fault.
     pub fn status(&self) -> u8
         ensures value { result ≡ status_of self.now }
         ensures range { (1 ≤ result) × (result ≤ 3) }
@@ -74,6 +83,11 @@ impl Failure {
             Failure::Check(_) | Failure::Met(_) | Failure::NotFixed => REFUSED,
             Failure::Load(LoadFault::Memory) => FAILED,
             Failure::Load(_) => REFUSED,
+            Failure::Import(ImportFault::Memory) => FAILED,
+            Failure::Import(ImportFault::TooMany) => REFUSED,
+            Failure::Arrivals(ArrivalsFault::Memory) => FAILED,
+            Failure::Arrivals(_) => REFUSED,
+            Failure::Words(_) => COMMAND_LINE,
             Failure::Write | Failure::Memory => FAILED,
         }
     }
@@ -97,6 +111,15 @@ impl Failure {
                 LoadFault::Memory => tell_memory(faults),
                 _ => tell_name(faults, fault.name()),
             },
+            Failure::Import(fault) => match fault {
+                ImportFault::TooMany => tell_name(faults, "TooMany"),
+                ImportFault::Memory => tell_memory(faults),
+            },
+            Failure::Arrivals(fault) => match fault {
+                ArrivalsFault::Memory => tell_memory(faults),
+                _ => tell_name(faults, fault.name()),
+            },
+            Failure::Words(refusal) => tell_name(faults, refusal_text(*refusal)),
             Failure::Write => tell_name(faults, "write fault"),
             Failure::Memory => tell_memory(faults),
         }
@@ -115,6 +138,24 @@ impl Failure {
                 told: false,
             },
         }
+    }
+}
+
+/// What is said of words that can't be done.
+fn refusal_text(refusal: Refusal) -> &'static str
+    ensures { result.now ≡ refusal_text refusal }
+{
+    match refusal {
+        Refusal::ReadExpire => "--read-expire takes a number with ns, us, ms or s",
+        Refusal::WriteExpire => "--write-expire takes a number with ns, us, ms or s",
+        Refusal::From => "--from takes insert or queue",
+        Refusal::Skip => "--skip takes a number with ns, us, ms or s",
+        Refusal::Round => "--round takes a number with ns, us, ms or s",
+        Refusal::TableAndSummary => "--table and --summary exclude one another",
+        Refusal::ScriptAlone => "--script excludes --table and --summary",
+        Refusal::NoRound => "--script needs --round",
+        Refusal::NoScript => "--round and --depth need --script",
+        Refusal::OfRequests => "--script takes no --from, --skip or --first",
     }
 }
 

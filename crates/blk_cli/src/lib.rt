@@ -1,14 +1,16 @@
 //! The command line of the program, over a reader and two writers.
 #![tactic(auto)]
 
-ghost use Rattle.std.specs.Prelude.{◌≡◌, ◌≢◌, ◌≤◌, ◌⊎◌, IfOk, IfErr, map, string_bytes};
+ghost use Rattle.std.specs.Prelude.{◌≡◌, ◌≢◌, ◌≤◌, IfOk, IfErr, map, string_bytes};
 ghost use Rattle.drafts.specs.Outputs.{stream_of};
-ghost use Rattle.blk_cli.specs.Gives.{Gives, Fails, IsNoLoad, version_line};
-ghost use Rattle.blk_cli.specs.Ends.{Answers, IsWithout, line_without, status_without, EndsSaying, EndsPut, RunEnds};
+ghost use Rattle.blk_cli.specs.Said.{only, said_of, IsAlone};
+ghost use Rattle.blk_cli.specs.Gives.{Gives, GivesText, Fails, IsNoLoad, AnswersText, version_line};
+ghost use Rattle.blk_cli.specs.Ends.{Answers, AskForTexts, IsWithout, line_without, status_without, status_with, SaysBeside, EndsSaying, EndsPut, RunEnds};
 
 mod checking;
 mod comparing;
 mod failure;
+mod importing;
 mod judging;
 mod lists;
 mod loading;
@@ -17,6 +19,7 @@ mod traces;
 
 use crate::checking::over_proof;
 pub use crate::failure::Failure;
+use crate::importing::over_capture;
 use crate::judging::over_schedule;
 use crate::lists::{Solving, over_list};
 use crate::loading::run_load;
@@ -54,6 +57,56 @@ pub struct Ended {
     pub status: u8,
     /// Whether what it had to say of it was written whole; true where that is nothing.
     pub told: bool,
+}
+
+/// What a job answers.
+#[derive(Drop)]
+pub struct Answered {
+    /// What is written to the output.
+    pub text: Vec<u8>,
+    /// The line that is said beside it, of what the text leaves out; most jobs have none.
+    pub note: Option<Vec<u8>>,
+    /// Whether what was looked at is good: the run ends with [`GOOD`] then, and else with [`REFUSED`].
+    pub good: bool,
+}
+
+impl Answered {
+    /// A text alone, of what is good.
+    pub fn alone(text: Vec<u8>) -> Answered
+        ensures { said_of result ≡ only text.items }
+    {
+        Answered {
+            text,
+            note: None,
+            good: true,
+        }
+    }
+
+    /// The status of a run that wrote the text.
+    fn status(&self) -> u8
+        ensures { result ≡ status_with self.now.good }
+    {
+        if self.good { GOOD } else { REFUSED }
+    }
+
+    /// Says the note, where there is one, and ends with the status of the answer, which stays where the note can't be said.
+    fn say<F: Write>(&self, faults: &mut Output<F>) -> Ended
+        ensures status { result.status ≡ status_with self.now.good }
+        ensures says { SaysBeside (said_of self.now).note (stream_of F.contents faults.old) (stream_of F.contents faults.new) result.told }
+        ensures quiet { IsAlone (said_of self.now) → faults.new ≡ faults.old }
+    {
+        let status = self.status();
+        match &self.note {
+            None => Ended { status, told: true },
+            Some(note) => match faults.put(note.as_slice()) {
+                Ok(()) => Ended { status, told: true },
+                Err(_) => Ended {
+                    status,
+                    told: false,
+                },
+            },
+        }
+    }
 }
 
 /// Why words get no text.
@@ -108,7 +161,7 @@ fn version(alloc: Global) -> Result<Vec<u8>, Failure>
     }
 }
 
-/// The text of a job that is no load. A job is a row here: what it reads, and what is made of that.
+/// The text of a job that answers its text alone and is no load. Such a job is a row here: what it reads, and what is made of that.
 pub fn work<R: Read + Drop>(
     alloc: Global,
     job: Job,
@@ -116,7 +169,8 @@ pub fn work<R: Read + Drop>(
 ) -> Result<Vec<u8>, Failure>
     requires none_read { records.old.at ≡ 0 }
     requires no_load { IsNoLoad job }
-    ensures text { IfOk result (λ text. Gives job records.old.left text.items) }
+    requires of_text { AnswersText job }
+    ensures text { IfOk result (λ text. GivesText job records.old.left text.items) }
     ensures fails { IfErr result (Fails job records.old.left records.new.failed) }
 {
     match job {
@@ -133,11 +187,13 @@ pub fn work<R: Read + Drop>(
         Job::Met => over_list(alloc, Solving::Most, records),
         Job::Check => over_proof(alloc, records),
         Job::Judge { each } => over_schedule(alloc, each, records),
+        Job::Refuse(refusal) => Err(Failure::Words(refusal)),
+        Job::Import(..) => unreachable!(),
         Job::Load(..) => unreachable!(),
     }
 }
 
-/// The text that the program answers to the words of its command line, the first of which is its name, or why there is none.
+/// What the program answers to the words of its command line, the first of which is its name, or why there is nothing.
 /// Nothing is written. Loads are run by `loads`, on the threads of `rt`.
 pub fn answer<L: Loads, T: Threads + Wait + Sync, R: Read + Drop>(
     loads: &L,
@@ -145,20 +201,24 @@ pub fn answer<L: Loads, T: Threads + Wait + Sync, R: Read + Drop>(
     alloc: Global,
     words: &[String],
     records: &mut Records<R>,
-) -> Result<Vec<u8>, NoText>
+) -> Result<Answered, NoText>
     requires { records.old.at ≡ 0 }
-    ensures text { IfOk result (λ text. Answers (map string_bytes words.now) records.old.left text.items) }
+    ensures answers { IfOk result (λ answer. Answers (map string_bytes words.now) records.old.left (said_of answer)) }
     ensures without { IfErr result (IsWithout (map string_bytes words.now) records.old.left records.new.failed) }
 {
     match choose(alloc, words) {
         Ok(Job::Load(sched, amounts, shown)) => {
             match run_load(loads, rt, alloc, sched, amounts, shown) {
-                Ok(text) => Ok(text),
+                Ok(text) => Ok(Answered::alone(text)),
                 Err(failure) => Err(NoText::Failure(failure)),
             }
         }
+        Ok(Job::Import(import)) => match over_capture(alloc, import, records) {
+            Ok(answer) => Ok(answer),
+            Err(failure) => Err(NoText::Failure(failure)),
+        },
         Ok(job) => match work(alloc, job, records) {
-            Ok(text) => Ok(text),
+            Ok(text) => Ok(Answered::alone(text)),
             Err(failure) => Err(NoText::Failure(failure)),
         },
         Err(NoJob::Memory) => Err(NoText::Failure(Failure::Memory)),
@@ -167,22 +227,18 @@ pub fn answer<L: Loads, T: Threads + Wait + Sync, R: Read + Drop>(
     }
 }
 
-/// Writes a text: the one call by which anything reaches the output. Where the writer fails it has taken a first part of the text,
-/// and the line that says so goes to `faults`.
+/// Writes the text of an answer, the one call by which anything reaches the output, and says its note. Where the writer fails it has
+/// taken a first part of the text, the note isn't said, and the line that says so goes to `faults`.
 pub fn put_out<W: Write, F: Write>(
-    text: &[u8],
+    answer: &Answered,
     out: &mut Output<W>,
     faults: &mut Output<F>,
 ) -> Ended
-    ensures ends { EndsPut text.now (stream_of W.contents out.old) (stream_of W.contents out.new) (stream_of F.contents faults.old) (stream_of F.contents faults.new) result }
-    ensures statuses { (result.status ≡ 0) ⊎ (result.status ≡ 3) }
-    ensures quiet { result.status ≡ 0 → faults.new ≡ faults.old }
+    ensures ends { EndsPut (said_of answer.now) (stream_of W.contents out.old) (stream_of W.contents out.new) (stream_of F.contents faults.old) (stream_of F.contents faults.new) result }
+    ensures quiet { IsAlone (said_of answer.now) → result.status ≡ 0 → faults.new ≡ faults.old }
 {
-    match out.put(text) {
-        Ok(()) => Ended {
-            status: GOOD,
-            told: true,
-        },
+    match out.put(answer.text.as_slice()) {
+        Ok(()) => answer.say(faults),
         Err(_) => Failure::Write.report(faults),
     }
 }
@@ -201,14 +257,15 @@ pub fn run<L: Loads, T: Threads + Wait + Sync, R: Read + Drop, W: Write, F: Writ
 ) -> Ended
     requires { records.old.at ≡ 0 }
     ensures ended { RunEnds (map string_bytes words.now) records.old.left records.new.failed (stream_of W.contents out.old) (stream_of W.contents out.new) (stream_of F.contents faults.old) (stream_of F.contents faults.new) result }
-    // nothing is written at the statuses 1 and 2
-    ensures kept { result.status ≢ 0 → result.status ≢ 3 → out.new ≡ out.old }
-    // nothing is said at status 0
-    ensures quiet { result.status ≡ 0 → faults.new ≡ faults.old }
+    // nothing is written at status 2
+    ensures unwritten { result.status ≡ 2 → out.new ≡ out.old }
+    // where the words ask for a text alone: nothing is written at status 1 either, and nothing is said at status 0
+    ensures kept { AskForTexts (map string_bytes words.now) → result.status ≡ 1 → out.new ≡ out.old }
+    ensures quiet { AskForTexts (map string_bytes words.now) → result.status ≡ 0 → faults.new ≡ faults.old }
     ensures range { result.status ≤ 3 }
 {
     match answer(loads, rt, alloc, words, records) {
-        Ok(text) => put_out(text.as_slice(), out, faults),
+        Ok(answer) => put_out(&answer, out, faults),
         Err(none) => none.report(faults),
     }
 }

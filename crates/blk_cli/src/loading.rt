@@ -45,7 +45,7 @@ pub fn run_load<L: Loads, R: Threads + Wait + Sync>(
     amounts: Load,
     shown: Shown,
 ) -> Result<Vec<u8>, Failure>
-    ensures text { IfOk result (λ text. IsLoadOf shown amounts text.items) }
+    ensures text { IfOk result (λ text. IsLoadOf sched shown amounts text.items) }
     ensures unloaded { IfErr result (IsUnloaded sched amounts) }
 {
     match loads.run(rt, alloc, sched, amounts) {

@@ -5,7 +5,6 @@ ghost use Rattle.blk_trace.specs.Events.{entered, round_of};
 ghost use Rattle.blk_text.specs.Script.{IsScript, SpellsScript, ScriptFault, scripted};
 ghost use Rattle.blk_settings.specs.Made.{IsUnmade};
 ghost use Rattle.blk_settings.specs.Rows.{IsStart};
-ghost use Rattle.blk_sim.specs.Policies.{policy_of};
 ghost use Rattle.blk_sim.specs.Simulation.{released_bios, ticks_of};
 ghost use Rattle.blk_cli.specs.Inputs.{Of, FailsOver};
 ghost use Rattle.blk_cli.specs.Scripts.{RunsBy, RunsUnder, IsSimText, IsUnrunBy, IsUnrun};
@@ -42,11 +41,11 @@ fn traced_by<S: Scheduler<A = Global>>(
     requires script { IsScript (scripted script.now) }
     requires start { IfOk made (λ s. IsStart sched script.now.setup.depth (S.meaning s) (S.kept s)) }
     requires unmade { IfErr made (IsUnmade sched) }
-    ensures ran { IfOk result (λ trace. RunsBy (policy_of S.serves S.chooses S.told_done S.told_tick) sched (scripted script.now) trace) }
+    ensures ran { IfOk result (λ trace. RunsBy S.policy sched (scripted script.now) trace) }
     ensures setup { IfOk result (λ trace. trace.setup ≡ script.now.setup) }
     ensures bios { IfOk result (λ trace. IsPermutation (entered trace.events) (released_bios script.now.setup.hw script.now.lines.items)) }
     ensures ticks { IfOk result (λ trace. round_of trace.events ≡ sum_by ticks_of script.now.lines.items) }
-    ensures unrun { IfErr result (IsUnrunBy (policy_of S.serves S.chooses S.told_done S.told_tick) sched (scripted script.now)) }
+    ensures unrun { IfErr result (IsUnrunBy S.policy sched (scripted script.now)) }
 {
     let scheduler = match made {
         Ok(scheduler) => scheduler,

@@ -7,34 +7,40 @@ use Rattle.blk_words.specs.declared.words.Job.{Job}
 use Rattle.blk_cli.specs.declared.Ended.{Ended}
 use Rattle.blk_cli.specs.declared.NoText.{NoText}
 use Rattle.blk_cli.specs.declared.NoText.TheVariants as none
-use Rattle.blk_cli.specs.Gives.{Gives}
-use Rattle.blk_cli.specs.Lines.{is_outside}
+use Rattle.blk_cli.specs.Said.{Said}
+use Rattle.blk_cli.specs.Gives.{Gives, GivesText}
+use Rattle.blk_cli.specs.Lines.{is_outside, is_of_words}
 use Rattle.blk_cli.specs.Ends.{Answers, RunEnds, status_without}
 use Rattle.blk_online_cli.specs.Told.{rows_in, AskAlone, EndsWell}
 
 -- where there is no text the status is another than 0
-abbrev status : Bool → ℕ
-status b = if b then 3 else 1
+abbrev status : Bool → Bool → ℕ
+status outside words = if outside then 3 else (if words then 2 else 1)
 
-failed : (b : Bool) → status b ≡ 0 → ⊥
-failed true e = cc e
-failed false e = cc e
+failed : (outside words : Bool) → status outside words ≡ 0 → ⊥
+failed true words e = cc e
+failed false true e = cc e
+failed false false e = cc e
 
 without : (n : NoText) → status_without n ≡ 0 → ⊥
-without (none.Failure f) e = failed (is_outside f) e
+without (none.Failure f) e = failed (is_outside f) (is_of_words f) e
 without (none.Line text) e = cc e
 without none.Excluded e = cc e
 
+-- the job answers a text
+abbrev pub IsOfText : Job → Type 0
+IsOfText j = (input : Option (List Row)) → (s : Said) → Gives j input s → GivesText j input s.text
+
 -- the words ask for this job alone, and get its text
-pub gives : (j : Job) (words : List (List ℕ)) (input : Option (List Row)) (text : List ℕ) → AskAlone words j → Answers words input text → Gives j input text
-gives j words input text alone answer = subst (λ (k : Job). Gives k input text) ((alone answer.0).0 answer.1) answer.2
+pub gives : (j : Job) (words : List (List ℕ)) (input : Option (List Row)) (s : Said) → IsOfText j → AskAlone words j → Answers words input s → GivesText j input s.text
+gives j words input s is_of alone answer = is_of input s (subst (λ (k : Job). Gives k input s) ((alone answer.0).0 answer.1) answer.2)
 
 -- a run that ended well wrote the text of the job that its words ask for
-pub wrote : (j : Job) (words : List (List ℕ)) (bytes : List ℕ) (old new : Stream) → AskAlone words j → EndsWell words bytes old new
-    → (text : List ℕ) × Gives j (Some (rows_in bytes)) text × IsWritten text old new
-wrote j words bytes old new alone run = elim run.runs [
+pub wrote : (j : Job) → IsOfText j → (words : List (List ℕ)) (bytes : List ℕ) (old new : Stream) → AskAlone words j → EndsWell words bytes old new
+    → (text : List ℕ) × GivesText j (Some (rows_in bytes)) text × IsWritten text old new
+wrote j is_of words bytes old new alone run = elim run.runs [
   | inl put ↦ elim put.2 [
-    | inl whole ↦ (put.0, gives j words (Some (rows_in bytes)) put.0 alone put.1, whole.0)
+    | inl whole ↦ (put.0.text, gives j words (Some (rows_in bytes)) put.0 is_of alone put.1, whole.0)
     | inr cut ↦ (let e : 3 ≡ 0 = sym cut.1.0 ∙ run.good in cc e)
   ]
   | inr n ↦ absurd (without n.0 (sym n.3.0 ∙ run.good))
@@ -54,13 +60,13 @@ ends_well words own bytes left failed old new faults_old faults_new ended same r
 }
 
 -- a text was answered, and a run that reads it ended well
-pub piped : (Told : List ℕ → Stream → Stream → Type 0) (first second : Job) (words again own own_again : List (List ℕ)) (script trace source : List ℕ) (left left_again : Option (List Row)) (failed : Bool)
-    (old new faults_old faults_new : Stream) (ended : Ended) → ((text : List ℕ) → Gives first (Some (rows_in script)) trace → Gives second (Some (rows_in trace)) text → IsWritten text old new → Told trace old new)
-    → AskAlone words first → AskAlone again second → own ≡ words → own_again ≡ again → left ≡ Some (rows_in script) → left_again ≡ Some (rows_in source) → source ≡ trace
-    → Answers own left trace → RunEnds own_again left_again failed old new faults_old faults_new ended → ended.status ≡ 0 → (traced : List ℕ) × Told traced old new
-piped Told first second words again own own_again script trace source left left_again failed old new faults_old faults_new ended law alone alone_again same same_again known read is answer runs good =
-    let asked : Answers words (Some (rows_in script)) trace =
-    subst (λ (ws : List (List ℕ)). Answers ws (Some (rows_in script)) trace) same (subst (λ (l : Option (List Row)). Answers own l trace) known answer) in
-    let source_read : left_again ≡ Some (rows_in trace) = read ∙ ap (λ (bs : List ℕ). Some (rows_in bs)) is in
-    let w = wrote second again trace old new alone_again (ends_well again own_again trace left_again failed old new faults_old faults_new ended same_again source_read runs good) in
-    (trace, law w.0 (gives first words (Some (rows_in script)) trace alone asked) w.1 w.2)
+pub piped : (Told : List ℕ → Stream → Stream → Type 0) (first second : Job) → IsOfText first → IsOfText second → (words again own own_again : List (List ℕ)) (script : List ℕ) (s : Said) (source : List ℕ) (left left_again : Option (List Row)) (failed : Bool)
+    (old new faults_old faults_new : Stream) (ended : Ended) → ((text : List ℕ) → GivesText first (Some (rows_in script)) s.text → GivesText second (Some (rows_in s.text)) text → IsWritten text old new → Told s.text old new)
+    → AskAlone words first → AskAlone again second → own ≡ words → own_again ≡ again → left ≡ Some (rows_in script) → left_again ≡ Some (rows_in source) → source ≡ s.text
+    → Answers own left s → RunEnds own_again left_again failed old new faults_old faults_new ended → ended.status ≡ 0 → (traced : List ℕ) × Told traced old new
+piped Told first second is_of second_is words again own own_again script s source left left_again failed old new faults_old faults_new ended law alone alone_again same same_again known read is answer runs good =
+    let asked : Answers words (Some (rows_in script)) s =
+    subst (λ (ws : List (List ℕ)). Answers ws (Some (rows_in script)) s) same (subst (λ (l : Option (List Row)). Answers own l s) known answer) in
+    let source_read : left_again ≡ Some (rows_in s.text) = read ∙ ap (λ (bs : List ℕ). Some (rows_in bs)) is in
+    let w = wrote second second_is again s.text old new alone_again (ends_well again own_again s.text left_again failed old new faults_old faults_new ended same_again source_read runs good) in
+    (s.text, law w.0 (gives first words (Some (rows_in script)) s is_of alone asked) w.1 w.2)

@@ -93,20 +93,12 @@ pub fn report_of_earliest<L: Loads, T: Threads + Wait + Sync, R: Read + Drop, W:
     plain_lines();
     let first = to_simulate(alloc, false)?;
     let second = to_report(alloc)?;
-    let trace = match answer(loads, rt, alloc, first.as_slice(), records) {
-        Ok(trace) => trace,
+    let traced = match answer(loads, rt, alloc, first.as_slice(), records) {
+        Ok(traced) => traced,
         Err(none) => return Ok(none.report(faults)),
     };
-    let mut traced = Records::new(alloc, trace.as_slice());
-    Ok(run(
-        loads,
-        rt,
-        alloc,
-        second.as_slice(),
-        &mut traced,
-        out,
-        faults,
-    ))
+    let mut read = Records::new(alloc, traced.text.as_slice());
+    Ok(run(loads, rt, alloc, second.as_slice(), &mut read, out, faults))
 }
 
 /// `blk sim --sched earliest --late-last`, and `blk misses` on what that answers: of a script by rounds none of the misses is
@@ -126,18 +118,10 @@ pub fn misses_of_late_last<L: Loads, T: Threads + Wait + Sync, R: Read + Drop, W
     plain_lines();
     let first = to_simulate(alloc, true)?;
     let second = to_count(alloc)?;
-    let trace = match answer(loads, rt, alloc, first.as_slice(), records) {
-        Ok(trace) => trace,
+    let traced = match answer(loads, rt, alloc, first.as_slice(), records) {
+        Ok(traced) => traced,
         Err(none) => return Ok(none.report(faults)),
     };
-    let mut traced = Records::new(alloc, trace.as_slice());
-    Ok(run(
-        loads,
-        rt,
-        alloc,
-        second.as_slice(),
-        &mut traced,
-        out,
-        faults,
-    ))
+    let mut read = Records::new(alloc, traced.text.as_slice());
+    Ok(run(loads, rt, alloc, second.as_slice(), &mut read, out, faults))
 }

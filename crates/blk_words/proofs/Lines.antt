@@ -11,7 +11,7 @@ use Rattle.clap.specs.declared.builder.value_parser.ValueParser.TheVariants as v
 use Rattle.clap.proofs.WalkLemmas.{first_value-rows, one_text-rows}
 use Rattle.clap.specs.declared.parser.matches.Found.{Found}
 use Rattle.clap.specs.declared.builder.command.Command.{Command}
-use Rattle.clap.specs.Words.{App, Row, Rule, Text, app_of, with_rule, with_subcommand, ReadsOne, one_of, one_text, first_value, IsAmong, HasKind, subcommand_rows_of, subcommand_of, subcommand_name_of, is_simple, is_simple_and_free, fault_of, kind_of, rows_of, found_of, HasMatchesOf}
+use Rattle.clap.specs.Words.{App, Row, Rule, Text, app_of, new_app, with_rule, with_subcommand, ReadsOne, first_of, one_of, one_text, first_value, IsAmong, HasKind, subcommand_rows_of, subcommand_of, subcommand_name_of, is_simple, is_simple_and_free, fault_of, kind_of, rows_of, found_of, HasMatchesOf}
 use Rattle.clap.specs.declared.parser.matches.ArgMatches.{ArgMatches}
 use Rattle.clap.specs.declared.parser.matches.ArgMatches.TheViews.{out-ArgMatches, out-SubCommand}
 use Rattle.clap.specs.declared.error.Error.{Error}
@@ -22,10 +22,11 @@ use Rattle.blk_deadline.specs.declared.Tunables.{Tunables}
 use Rattle.blk_kyber.specs.declared.Targets.{Targets}
 use Rattle.blk_settings.specs.Rows.{name_of}
 use Rattle.blk_words.specs.declared.table.Makes.{Makes}
-use Rattle.blk_words.specs.Line.{Names, AreSchedulers, Subcommand, blk_app}
+use Rattle.blk_words.specs.Line.{Names, AreSchedulers, Subcommand, topmost, table, with_one, blk_app}
 use Rattle.blk_words.specs.declared.words.Job.{Job}
 use Rattle.blk_words.specs.declared.words.Job.TheVariants as job
-use Rattle.blk_words.specs.Asked.{Asks, AreFaulty, NameNone, number_in, is_flagged, tunables_of, targets_of, scheds_of, sched_named, sched_of, job_made, job_of, job_read}
+use Rattle.blk_words.specs.Times.{number_in}
+use Rattle.blk_words.specs.Asked.{Asks, AreFaulty, NameNone, is_flagged, tunables_of, targets_of, scheds_of, sched_named, sched_of, job_made, job_of, job_read}
 
 simple : (names : Names) → is_simple (blk_app names) ≡ true
 simple names = refl
@@ -102,15 +103,29 @@ flagged_by f id text b e is = is ∙ ap (λ (o : Option Text). option_map_or (λ
 pub not_flagged_by : (f : Found) (id : Text) → None ≡ first_value f id → false ≡ is_flagged id (rows_of f)
 not_flagged_by f id e = ap (λ (o : Option Text). option_map_or (λ t. bytes_eq t (codes "true")) o false) (e ∙ first_value-rows f id)
 
+-- what is made of the text that is given; and where none is
+pub given_by : {X : Type 0} (f : Found) (id text : Text) (make : Text → Option X) (r : Option X) → Some text ≡ first_value f id → r ≡ make text → r ≡ option_and_then make (first_of id (rows_of f))
+given_by f id text make r e is = is ∙ ap (option_and_then make) (e ∙ first_value-rows f id)
+
+pub not_given_by : {X : Type 0} (f : Found) (id : Text) (make : Text → Option X) → None ≡ first_value f id → None ≡ option_and_then make (first_of id (rows_of f))
+not_given_by f id make e = ap (option_and_then make) (e ∙ first_value-rows f id)
+
+-- what is made of the text that is given, where one may be given
+pub read_by : {X : Type 0} (f : Found) (id text : Text) (make : Text → X) (none r : X) → Some text ≡ first_value f id → r ≡ make text → r ≡ option_map_or make (first_of id (rows_of f)) none
+read_by f id text make none r e is = is ∙ ap (λ (o : Option Text). option_map_or make o none) (e ∙ first_value-rows f id)
+
+pub unread_by : {X : Type 0} (f : Found) (id : Text) (make : Text → X) (none : X) → None ≡ first_value f id → none ≡ option_map_or make (first_of id (rows_of f)) none
+unread_by f id make none e = ap (λ (o : Option Text). option_map_or make o none) (e ∙ first_value-rows f id)
+
 -- the greatest number of so many bits
-abbrev IsGreatest : ℕ → ℕ → Type 0
+abbrev pub IsGreatest : ℕ → ℕ → Type 0
 IsGreatest bits most = (suc most ≡ 2 ^ bits) × (most < 2 ^ 64)
 
 -- a text that parses as a number of so many bits, and one that does not
-abbrev Parses : ℕ → Text → Type 0
+abbrev pub Parses : ℕ → Text → Type 0
 Parses bits text = IsNumeral 10 (without_leading_plus text) × (digits_value 10 (without_leading_plus text) < 2 ^ bits)
 
-number_parsed : (bits most : ℕ) → IsGreatest bits most → (text : Text) (n : ℕ) → Parses bits text → n ≡ digits_value 10 (without_leading_plus text) → number_in most text ≡ Some n
+pub number_parsed : (bits most : ℕ) → IsGreatest bits most → (text : Text) (n : ℕ) → Parses bits text → n ≡ digits_value 10 (without_leading_plus text) → number_in most text ≡ Some n
 number_parsed bits most g text n p is =
     let below : digits_value 10 (without_leading_plus text) < suc most = subst (λ x. digits_value 10 (without_leading_plus text) < x) (sym g.0) p.1 in
     let t : accepts false (vp.Unsigned 0 most) text ≡ true = Accepts-accepts false (vp.Unsigned 0 most) text (p.0, omega (arith, g.1), omega arith, omega arith) in
@@ -123,7 +138,7 @@ not_accepted bits most g text true e wrong =
     let below : digits_value 10 (without_leading_plus text) < suc most = omega (arith, a.3) in
     absurd (wrong (a.0, subst (λ x. digits_value 10 (without_leading_plus text) < x) g.0 below))
 
-number_unparsed : (bits most : ℕ) → IsGreatest bits most → (text : Text) → (Parses bits text → ⊥) → number_in most text ≡ None
+pub number_unparsed : (bits most : ℕ) → IsGreatest bits most → (text : Text) → (Parses bits text → ⊥) → number_in most text ≡ None
 number_unparsed bits most g text wrong =
     ap (λ (b : Bool). if b then Some (digits_value 10 (without_leading_plus text)) else None) (not_accepted bits most g text _ refl wrong)
 
@@ -194,3 +209,9 @@ adds_command x a b p q e f g = e ∙ ap (λ (y : App). with_subcommand y p.top) 
 
 pub adds_rule : (x a b : App) (p q : Rule) → x ≡ with_rule a p → a ≡ b → p ≡ q → x ≡ with_rule b q
 adds_rule x a b p q e f g = e ∙ ap (λ (y : App). with_rule y p) f ∙ ap (λ (r : Rule). with_rule b r) g
+
+-- the command line of the program, by its subcommands
+pub blk_made : {E : Type 0} (r : Result Command E) (names : Names) (a : App) (subs : List Subcommand) → AreSchedulers names → a ≡ topmost (new_app (codes "blk")) → subs ≡ table names
+    → IfOk r (λ c. app_of c ≡ fold with_one a subs) → IfOk r (λ c. (n : Names) × AreSchedulers n × (app_of c ≡ blk_app n))
+blk_made (Ok c) names a subs are e f h = (names, are, h ∙ ap (λ (b : App). fold with_one b subs) e ∙ ap (fold with_one (topmost (new_app (codes "blk")))) f)
+blk_made (Err x) names a subs are e f h = tt

@@ -8,6 +8,8 @@ use Rattle.blk_settings.specs.declared.sched.Sched.TheVariants as sched
 use Rattle.blk_words.specs.declared.words.Job.{Job}
 use Rattle.blk_words.specs.declared.words.Job.TheVariants as job
 use Rattle.blk_words.specs.declared.words.Shown.TheVariants as shown
+use Rattle.blk_words.specs.declared.words.Refusal.TheVariants as refusal
+use Rattle.blk_words.specs.declared.words.Written.TheVariants as written
 use Rattle.blk_words.specs.Line.{Names, AreSchedulers, blk_app}
 use Rattle.blk_words.specs.Asked.{Asks, job_read}
 
@@ -58,6 +60,42 @@ pub asks_nothing : (words : List Text) → ((p q r s t : ℕ × ℕ) → IsReadA
 asks_nothing words h j a =
     let g = any_names (IsReadAsNothing words) h a.0 a.1 in
     elim a.2 [ inl x ↦ let e : Some j ≡ None = sym x.1 ∙ g.1 in cc e | inr x ↦ absurd (rw g.0 at x.0) ]
+
+pub import_line : (name : Text) (p q r s t : ℕ × ℕ) → IsReadAs (name ∷ codes "import" ∷ []) (job.Import (record { read_expire = 500_000_000; write_expire = 5_000_000_000; from_queue = false; skip = 0; first = None; written = written.Schedule })) (at_places p q r s t)
+unfolding clap_on_literals
+import_line name p q r s t = (refl, refl)
+
+pub import_so_line : (name : Text) (p q r s t : ℕ × ℕ) → IsReadAs (name ∷ codes "import" ∷ codes "--read-expire" ∷ codes "150us" ∷ codes "--from" ∷ codes "queue" ∷ codes "--skip" ∷ codes "2ms" ∷ codes "--first" ∷ codes "100" ∷ codes "--table" ∷ []) (job.Import (record { read_expire = 150_000; write_expire = 5_000_000_000; from_queue = true; skip = 2_000_000; first = Some 100; written = written.Table })) (at_places p q r s t)
+unfolding clap_on_literals
+import_so_line name p q r s t = (refl, refl)
+
+pub summary_line : (name : Text) (p q r s t : ℕ × ℕ) → IsReadAs (name ∷ codes "import" ∷ codes "--write-expire" ∷ codes "8ns" ∷ codes "--summary" ∷ []) (job.Import (record { read_expire = 500_000_000; write_expire = 8; from_queue = false; skip = 0; first = None; written = written.Summary })) (at_places p q r s t)
+unfolding clap_on_literals
+summary_line name p q r s t = (refl, refl)
+
+pub no_time_line : (name : Text) (p q r s t : ℕ × ℕ) → IsReadAs (name ∷ codes "import" ∷ codes "--skip" ∷ codes "2" ∷ []) (job.Refuse refusal.Skip) (at_places p q r s t)
+unfolding clap_on_literals
+no_time_line name p q r s t = (refl, refl)
+
+pub no_entry_line : (name : Text) (p q r s t : ℕ × ℕ) → IsReadAs (name ∷ codes "import" ∷ codes "--from" ∷ codes "issue" ∷ []) (job.Refuse refusal.From) (at_places p q r s t)
+unfolding clap_on_literals
+no_entry_line name p q r s t = (refl, refl)
+
+pub table_and_summary_line : (name : Text) (p q r s t : ℕ × ℕ) → IsReadAs (name ∷ codes "import" ∷ codes "--table" ∷ codes "--summary" ∷ []) (job.Refuse refusal.TableAndSummary) (at_places p q r s t)
+unfolding clap_on_literals
+table_and_summary_line name p q r s t = (refl, refl)
+
+pub script_line : (name : Text) (p q r s t : ℕ × ℕ) → IsReadAs (name ∷ codes "import" ∷ codes "--script" ∷ codes "--round" ∷ codes "1ms" ∷ []) (job.Import (record { read_expire = 500_000_000; write_expire = 5_000_000_000; from_queue = false; skip = 0; first = None; written = written.Script 1_000_000 None })) (at_places p q r s t)
+unfolding clap_on_literals
+script_line name p q r s t = (refl, refl)
+
+pub script_alone_line : (name : Text) (p q r s t : ℕ × ℕ) → IsReadAs (name ∷ codes "import" ∷ codes "--script" ∷ []) (job.Refuse refusal.NoRound) (at_places p q r s t)
+unfolding clap_on_literals
+script_alone_line name p q r s t = (refl, refl)
+
+pub depth_alone_line : (name : Text) (p q r s t : ℕ × ℕ) → IsReadAs (name ∷ codes "import" ∷ codes "--depth" ∷ codes "8" ∷ []) (job.Refuse refusal.NoScript) (at_places p q r s t)
+unfolding clap_on_literals
+depth_alone_line name p q r s t = (refl, refl)
 
 pub judge_line : (name : Text) (p q r s t : ℕ × ℕ) → IsReadAs (name ∷ codes "judge" ∷ []) (job.Judge false) (at_places p q r s t)
 unfolding clap_on_literals

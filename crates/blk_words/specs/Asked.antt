@@ -1,10 +1,7 @@
 -- What the words of a command line ask for.
-use Rattle.std.specs.Prelude.{◌≡◌, ◌≢◌, ◌⊎◌, ◌&&◌, ◌∷◌, ⊤, ℕ, Bool, false, not, List, [], find, Option, Some, None, codes, option_map, option_and_then, if◌then◌else◌}
+use Rattle.std.specs.Prelude.{◌≡◌, ◌≢◌, ◌⊎◌, ◌&&◌, ◌||◌, ◌==◌, ◌∷◌, ⊤, ℕ, Bool, true, false, not, List, [], find, Option, Some, None, Result, Ok, Err, codes, option_map, option_and_then, if◌then◌else◌}
 use Rattle.std.specs.Option.{option_map_or}
 use Rattle.std.specs.Str.{bytes_eq}
-use Rattle.std.specs.Str.Parse.{digits_value, without_leading_plus}
-use Rattle.clap.specs.ValueTests.{accepts}
-use Rattle.clap.specs.declared.builder.value_parser.ValueParser.TheVariants as vp
 use Rattle.blk_deadline.specs.declared.Tunables.{Tunables}
 use Rattle.blk_settings.specs.declared.numbers.Load.{Load}
 use Rattle.blk_kyber.specs.declared.Targets.{Targets}
@@ -19,14 +16,16 @@ use Rattle.blk_words.specs.declared.words.NoJob.{NoJob}
 use Rattle.blk_words.specs.declared.words.NoJob.TheVariants as no
 use Rattle.blk_words.specs.declared.words.Shown.{Shown}
 use Rattle.blk_words.specs.declared.words.Shown.TheVariants as shown
+use Rattle.blk_words.specs.declared.words.Import.{Import}
+use Rattle.blk_words.specs.declared.words.Refusal.{Refusal}
+use Rattle.blk_words.specs.declared.words.Refusal.TheVariants as refusal
+use Rattle.blk_words.specs.declared.words.Written.{Written}
+use Rattle.blk_words.specs.declared.words.Written.TheVariants as written
 use Rattle.blk_words.specs.declared.table.Makes.{Makes}
 use Rattle.blk_words.specs.declared.table.Makes.TheVariants as makes
 use Rattle.blk_settings.specs.Rows.{name_of}
 use Rattle.blk_words.specs.Line.{Names, AreSchedulers, table, blk_app}
-
--- a number in decimal digits, up to the most
-abbrev pub number_in : ℕ → Text → Option ℕ
-number_in most text = if accepts false (vp.Unsigned 0 most) text then Some (digits_value 10 (without_leading_plus text)) else None
+use Rattle.blk_words.specs.Times.{number_in, time_of}
 
 -- the number of 16 bits that an option is given, the one of 64 bits, and whether a flag is
 abbrev pub short_given : Text → List Row → Option ℕ
@@ -37,6 +36,10 @@ number_given id rows = option_and_then (number_in 18_446_744_073_709_551_615) (o
 
 abbrev pub is_flagged : Text → List Row → Bool
 is_flagged id rows = option_map_or (λ text. bytes_eq text (codes "true")) (first_of id rows) false
+
+-- the time that an option is given, in nanoseconds
+abbrev pub time_given : Text → List Row → Option ℕ
+time_given id rows = option_and_then time_of (first_of id rows)
 
 -- the settings of `deadline` of these numbers
 abbrev pub tuned : Bool → Option ℕ → Option ℕ → Option Tunables
@@ -85,6 +88,71 @@ shown_of traced = if traced then shown.Trace else shown.Account
 abbrev pub loaded : Shown → Option Sched → Option Load → Option Job
 loaded w s l = option_and_then (λ s. option_map (λ l. job.Load s l w) l) s
 
+-- whether a request came in when its first bio was queued, by the text of `--from`
+abbrev pub entry_named : Text → Option Bool
+entry_named text =
+    if bytes_eq text (codes "insert") then Some false
+    else (if bytes_eq text (codes "queue") then Some true else None)
+
+abbrev pub from_given : List Row → Option Bool
+from_given rows = option_and_then entry_named (first_of (codes "from") rows)
+
+-- the length of a round by the text of `--round`, and where it is given
+abbrev pub round_by : Text → Result (Option ℕ) Refusal
+round_by text = option_map_or (λ n. Ok (Some n)) (time_of text) (Err refusal.Round)
+
+abbrev pub round_given : List Row → Result (Option ℕ) Refusal
+round_given rows = option_map_or round_by (first_of (codes "round") rows) (Ok None)
+
+-- a script, which needs a round, and something else, which has neither a round nor a depth
+abbrev pub scripted : Option ℕ → Option ℕ → Result Written Refusal
+scripted None depth = Err refusal.NoRound
+scripted (Some n) depth = Ok (written.Script n depth)
+
+abbrev pub unscripted : Written → Option ℕ → Option ℕ → Result Written Refusal
+unscripted w None None = Ok w
+unscripted w None (Some d) = Err refusal.NoScript
+unscripted w (Some n) depth = Err refusal.NoScript
+
+-- what is written of an import, by whether a script, a table and a summary are asked for, no two of which may stand together
+abbrev pub written_by : Bool → Bool → Bool → Option ℕ → Option ℕ → Result Written Refusal
+written_by script table summary round depth =
+    if table && summary then Err refusal.TableAndSummary
+    else (if script then (if table || summary then Err refusal.ScriptAlone else scripted round depth)
+    else unscripted (if table then written.Table else (if summary then written.Summary else written.Schedule)) round depth)
+
+abbrev pub written_with : Bool → Bool → Bool → Option ℕ → Result (Option ℕ) Refusal → Result Written Refusal
+written_with script table summary depth (Err r) = Err r
+written_with script table summary depth (Ok round) = written_by script table summary round depth
+
+abbrev pub written_of : List Row → Result Written Refusal
+written_of rows = written_with (is_flagged (codes "script") rows) (is_flagged (codes "table") rows) (is_flagged (codes "summary") rows) (number_given (codes "depth") rows) (round_given rows)
+
+-- all requests are taken, as they were inserted, and none is left out, which has no bearing on a script
+abbrev pub takes_all : Import → Bool
+takes_all i = option_map_or (λ n. false) i.first (not i.from_queue && (i.skip == 0))
+
+abbrev pub import_as : Import → Written → Job
+import_as i (written.Script n d) = if takes_all i then job.Import i else job.Refuse refusal.OfRequests
+import_as i w = job.Import i
+
+abbrev pub import_of : Import → Job
+import_of i = import_as i i.written
+
+-- the import of these, or the refusal of the first that there isn't
+abbrev pub import_by : Option ℕ → Option ℕ → Option Bool → Option ℕ → Option ℕ → Result Written Refusal → Job
+import_by None write from_queue skip first w = job.Refuse refusal.ReadExpire
+import_by (Some r) None from_queue skip first w = job.Refuse refusal.WriteExpire
+import_by (Some r) (Some d) None skip first w = job.Refuse refusal.From
+import_by (Some r) (Some d) (Some q) None first w = job.Refuse refusal.Skip
+import_by (Some r) (Some d) (Some q) (Some s) first (Err f) = job.Refuse f
+import_by (Some r) (Some d) (Some q) (Some s) first (Ok w) =
+    import_of (record { read_expire = r; write_expire = d; from_queue = q; skip = s; first = first; written = w })
+
+abbrev pub import_job : List Row → Job
+import_job rows = import_by (time_given (codes "read-expire") rows) (time_given (codes "write-expire") rows) (from_given rows) (time_given (codes "skip") rows)
+    (number_given (codes "first") rows) (written_of rows)
+
 -- the job of `oracle` by whether its flags are given, which may not stand together
 abbrev pub oracle_job : Bool → Bool → Option Job
 oracle_job trace met =
@@ -98,6 +166,7 @@ job_made (makes.Plain j) rows = Some j
 job_made makes.Sim rows = option_map job.Sim (sched_of rows)
 job_made makes.Compare rows = compared (tunables_of rows) (targets_of rows) (earliest_of (is_flagged (codes "earliest") rows) (is_flagged (codes "late-last") rows))
 job_made makes.Oracle rows = oracle_job (is_flagged (codes "trace") rows) (is_flagged (codes "met") rows)
+job_made makes.Import rows = Some (import_job rows)
 job_made makes.Judge rows = Some (job.Judge (is_flagged (codes "each") rows))
 job_made makes.Load rows = loaded (shown_of (is_flagged (codes "trace") rows)) (sched_of rows) (amounts_of rows)
 

@@ -8,7 +8,7 @@ use Rattle.clap.specs.declared.builder.value_parser.ValueParser.TheVariants as v
 use Rattle.blk_settings.specs.declared.numbers.TheConstants.{MAX_SUBMITTERS, MAX_LOAD_WORKERS, MAX_LOAD_BIOS, MAX_LOAD_DEPTH, MAX_LOAD_SERVICE}
 use Rattle.blk_words.specs.declared.words.Job.{Job}
 use Rattle.blk_words.specs.declared.words.Job.TheVariants as job
-use Rattle.blk_words.specs.declared.table.TheConstants.{MAX_TARGET, MAX_BUSY}
+use Rattle.blk_words.specs.declared.table.TheConstants.{MAX_TARGET, MAX_BUSY, MAX_FIRST, MAX_DEPTH}
 use Rattle.blk_words.specs.declared.table.Takes.{Takes}
 use Rattle.blk_words.specs.declared.table.Takes.TheVariants as takes
 use Rattle.blk_words.specs.declared.table.Makes.{Makes}
@@ -35,6 +35,14 @@ number_rule name parser default = record (new_rule name) { long = Some name; act
 abbrev pub maybe_rule : Text → ValueParser → Rule
 maybe_rule name parser = record (new_rule name) { long = Some name; action = Some Set; parser = Some parser }
 
+-- an option that takes a text, with a default
+abbrev pub text_rule : Text → Text → Rule
+text_rule name default = record (new_rule name) { long = Some name; action = Some Set; parser = Some vp.String; defaults = default ∷ [] }
+
+-- and without
+abbrev pub maybe_text_rule : Text → Rule
+maybe_text_rule name = record (new_rule name) { long = Some name; action = Some Set; parser = Some vp.String }
+
 -- a flag
 abbrev pub flag_rule : Text → Rule
 flag_rule name = record (new_rule name) { long = Some name; action = Some SetTrue }
@@ -50,6 +58,8 @@ taking names name takes.Sched = sched_rule name names
 taking names name (takes.Short default) = number_rule name short default.now
 taking names name (takes.Number least most default) = number_rule name (vp.Unsigned least most) default.now
 taking names name (takes.Maybe least most) = maybe_rule name (vp.Unsigned least most)
+taking names name (takes.Text default) = text_rule name default.now
+taking names name takes.MaybeText = maybe_text_rule name
 
 abbrev pub rule_for : Names → OptionRow → Rule
 rule_for names o = taking names o.name.now o.takes
@@ -82,7 +92,15 @@ amounts =
     ∷ number_rule (codes "bios") (vp.Unsigned 1 MAX_LOAD_BIOS) (codes "1000") ∷ number_rule (codes "depth") (vp.Unsigned 1 MAX_LOAD_DEPTH) (codes "8")
     ∷ maybe_rule (codes "busy") (vp.Unsigned 2 MAX_BUSY) ∷ number_rule (codes "service") (vp.Unsigned 0 MAX_LOAD_SERVICE) (codes "0") ∷ []
 
--- the subcommands: over scripts, over traces, over command lists, certificates and schedules, and over the running layer
+-- how a capture is imported
+abbrev pub importing : List Rule
+importing =
+    text_rule (codes "read-expire") (codes "500ms") ∷ text_rule (codes "write-expire") (codes "5s") ∷ text_rule (codes "from") (codes "insert")
+    ∷ text_rule (codes "skip") (codes "0s") ∷ maybe_rule (codes "first") (vp.Unsigned 1 MAX_FIRST) ∷ flag_rule (codes "table") ∷ flag_rule (codes "summary")
+    ∷ flag_rule (codes "script") ∷ maybe_text_rule (codes "round") ∷ maybe_rule (codes "depth") (vp.Unsigned 1 MAX_DEPTH) ∷ []
+
+-- the subcommands: over scripts, over traces, over command lists and certificates, over captures and schedules, over texts of any form,
+-- and over the running layer
 abbrev pub table : Names → List Subcommand
 table names =
     record { name = codes "sim"; rules = sched_rule (codes "sched") names ∷ tuning; makes = makes.Sim }
@@ -94,6 +112,7 @@ table names =
     ∷ plain (codes "spread") job.Spread
     ∷ record { name = codes "oracle"; rules = flag_rule (codes "trace") ∷ flag_rule (codes "met") ∷ []; makes = makes.Oracle }
     ∷ plain (codes "check") job.Check
+    ∷ record { name = codes "import"; rules = importing; makes = makes.Import }
     ∷ record { name = codes "judge"; rules = flag_rule (codes "each") ∷ []; makes = makes.Judge }
     ∷ record { name = codes "load"; rules = sched_rule (codes "sched") names ∷ flag_rule (codes "trace") ∷ (amounts ++ tuning); makes = makes.Load }
     ∷ []

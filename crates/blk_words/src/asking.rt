@@ -5,7 +5,7 @@ ghost use Rattle.clap.specs.Words.{Text};
 ghost use Rattle.blk_words.specs.declared.words.Job.{Job as AJob};
 ghost use Rattle.blk_words.specs.Asked.{Asks};
 
-use crate::words::{Job, Shown};
+use crate::words::{Job, Refusal, Shown, Written};
 use blk_settings::Sched;
 
 /// Each of these lines asks for its job and, all but `--version`, for no other; `oracle --trace --met` asks for none.
@@ -38,6 +38,24 @@ pub fn plain_lines()
     ensures met { (name : Text) → (j : AJob) → Asks (name ∷ codes "oracle" ∷ codes "--met" ∷ []) j ↔ (j ≡ Job.Met) }
     ensures report_and_met { (name : Text) → (j : AJob) → Asks (name ∷ codes "oracle" ∷ codes "--trace" ∷ codes "--met" ∷ []) j → ⊥ }
     ensures check { (name : Text) → (j : AJob) → Asks (name ∷ codes "check" ∷ []) j ↔ (j ≡ Job.Check) }
+    ensures imported { (name : Text) → (j : AJob) → Asks (name ∷ codes "import" ∷ []) j
+        ↔ (j ≡ Job.Import (record { read_expire = 500_000_000; write_expire = 5_000_000_000; from_queue = false; skip = 0; first = None; written = Written.Schedule })) }
+    ensures imported_so { (name : Text) → (j : AJob) → Asks (name ∷ codes "import" ∷ codes "--read-expire" ∷ codes "150us" ∷ codes "--from" ∷ codes "queue" ∷ codes "--skip" ∷ codes "2ms" ∷ codes "--first" ∷ codes "100" ∷ codes "--table" ∷ []) j
+        ↔ (j ≡ Job.Import (record { read_expire = 150_000; write_expire = 5_000_000_000; from_queue = true; skip = 2_000_000; first = Some 100; written = Written.Table })) }
+    ensures summary { (name : Text) → (j : AJob) → Asks (name ∷ codes "import" ∷ codes "--write-expire" ∷ codes "8ns" ∷ codes "--summary" ∷ []) j
+        ↔ (j ≡ Job.Import (record { read_expire = 500_000_000; write_expire = 8; from_queue = false; skip = 0; first = None; written = Written.Summary })) }
+    ensures no_time { (name : Text) → (j : AJob) → Asks (name ∷ codes "import" ∷ codes "--skip" ∷ codes "2" ∷ []) j
+        ↔ (j ≡ Job.Refuse Refusal.Skip) }
+    ensures no_entry { (name : Text) → (j : AJob) → Asks (name ∷ codes "import" ∷ codes "--from" ∷ codes "issue" ∷ []) j
+        ↔ (j ≡ Job.Refuse Refusal.From) }
+    ensures table_and_summary { (name : Text) → (j : AJob) → Asks (name ∷ codes "import" ∷ codes "--table" ∷ codes "--summary" ∷ []) j
+        ↔ (j ≡ Job.Refuse Refusal.TableAndSummary) }
+    ensures script { (name : Text) → (j : AJob) → Asks (name ∷ codes "import" ∷ codes "--script" ∷ codes "--round" ∷ codes "1ms" ∷ []) j
+        ↔ (j ≡ Job.Import (record { read_expire = 500_000_000; write_expire = 5_000_000_000; from_queue = false; skip = 0; first = None; written = Written.Script 1_000_000 None })) }
+    ensures script_alone { (name : Text) → (j : AJob) → Asks (name ∷ codes "import" ∷ codes "--script" ∷ []) j
+        ↔ (j ≡ Job.Refuse Refusal.NoRound) }
+    ensures depth_alone { (name : Text) → (j : AJob) → Asks (name ∷ codes "import" ∷ codes "--depth" ∷ codes "8" ∷ []) j
+        ↔ (j ≡ Job.Refuse Refusal.NoScript) }
     ensures judge { (name : Text) → (j : AJob) → Asks (name ∷ codes "judge" ∷ []) j ↔ (j ≡ Job.Judge false) }
     ensures judge_each { (name : Text) → (j : AJob) → Asks (name ∷ codes "judge" ∷ codes "--each" ∷ []) j ↔ (j ≡ Job.Judge true) }
     ensures load { (name : Text) → (j : AJob) → Asks (name ∷ codes "load" ∷ []) j

@@ -4,6 +4,7 @@
 
 pub mod asking;
 pub mod table;
+mod times;
 pub mod words;
 
-pub use crate::words::{Job, NoJob, Shown, VERSION, choose};
+pub use crate::words::{Import, Job, NoJob, Refusal, Shown, VERSION, Written, choose};

@@ -11,6 +11,12 @@ pub const MAX_TARGET: u64 = 1_000_000;
 /// The greatest number of `--busy`.
 pub const MAX_BUSY: u64 = 1_000_000;
 
+/// The greatest number of `--first`: a schedule has no more commands.
+pub const MAX_FIRST: u64 = 1_000_000;
+
+/// The greatest number of `--depth` of a script: a round carries no more commands.
+pub const MAX_DEPTH: u64 = 256;
+
 /// What an option takes.
 #[derive(Clone, Copy)]
 pub enum Takes {
@@ -24,6 +30,10 @@ pub enum Takes {
     Number(u64, u64, &'static str),
     /// A number from the least to the most, or none.
     Maybe(u64, u64),
+    /// A text, with a default: which ones it may be is looked at where the job is made.
+    Text(&'static str),
+    /// A text, or none.
+    MaybeText,
 }
 
 /// An option.
@@ -48,6 +58,8 @@ pub enum Makes {
     Compare,
     /// What `oracle` is asked by its flags.
     Oracle,
+    /// The import of a capture, if its times are times.
+    Import,
     /// The judgement of a schedule, or of each of its late commands.
     Judge,
     /// A load of their numbers under the scheduler that they name.
@@ -113,8 +125,9 @@ pub static TUNING: [OptionRow; 6] = [
     },
 ];
 
-/// The subcommands: over scripts, over traces, over command lists, certificates and schedules, and over the running layer.
-pub static COMMANDS: [CommandRow; 11] = [
+/// The subcommands: over scripts, over traces, over command lists and certificates, over captures and schedules, over texts of any form,
+/// and over the running layer.
+pub static COMMANDS: [CommandRow; 12] = [
     CommandRow {
         name: "sim",
         about: "Runs a script and writes its trace",
@@ -192,6 +205,64 @@ pub static COMMANDS: [CommandRow; 11] = [
         options: &[],
         is_tuned: false,
         makes: Makes::Plain(Job::Check),
+    },
+    CommandRow {
+        name: "import",
+        about: "Reads a capture of a machine's requests, and writes their schedule",
+        options: &[
+            OptionRow {
+                name: "read-expire",
+                takes: Takes::Text("500ms"),
+                help: "How long after it came in a read is due: a number with ns, us, ms or s",
+            },
+            OptionRow {
+                name: "write-expire",
+                takes: Takes::Text("5s"),
+                help: "How long after it came in a write is due",
+            },
+            OptionRow {
+                name: "from",
+                takes: Takes::Text("insert"),
+                help: "When a request came in: insert, when it was inserted into the scheduler; queue, when its first bio was queued",
+            },
+            OptionRow {
+                name: "skip",
+                takes: Takes::Text("0s"),
+                help: "Leaves out what went out sooner than so long after the first record",
+            },
+            OptionRow {
+                name: "first",
+                takes: Takes::Maybe(1, MAX_FIRST),
+                help: "Takes only so many requests, those that went out first; without it, all",
+            },
+            OptionRow {
+                name: "table",
+                takes: Takes::Nothing,
+                help: "Writes a record for each request instead, with its times",
+            },
+            OptionRow {
+                name: "summary",
+                takes: Takes::Nothing,
+                help: "Writes the capture in numbers instead",
+            },
+            OptionRow {
+                name: "script",
+                takes: Takes::Nothing,
+                help: "Writes the bios that came in as a script instead, to be run by sim and compare; needs --round",
+            },
+            OptionRow {
+                name: "round",
+                takes: Takes::MaybeText,
+                help: "How long a round of the script is",
+            },
+            OptionRow {
+                name: "depth",
+                takes: Takes::Maybe(1, MAX_DEPTH),
+                help: "How many commands a round of the script carries; without it, 64",
+            },
+        ],
+        is_tuned: false,
+        makes: Makes::Import,
     },
     CommandRow {
         name: "judge",

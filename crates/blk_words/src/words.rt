@@ -6,9 +6,10 @@ ghost use Rattle.clap.specs.Words.{app_of, rule_of, rows_of, found_of, subcomman
 ghost use Rattle.clap.specs.declared.builder.command.Command.TheViews.{out-Command as fields_of};
 ghost use Rattle.blk_settings.specs.Rows.{name_of};
 ghost use Rattle.blk_words.specs.Line.{Names, AreSchedulers, rule_for, subcommand_of, app_for, with_one, blk_app};
-ghost use Rattle.blk_words.specs.Asked.{Asks, IsNoJob, short_given, number_given, is_flagged, tunables_of, targets_of, sched_of, earliest_of, compared, amounts_of, shown_of, loaded, oracle_job, job_made, job_of};
+ghost use Rattle.blk_words.specs.Asked.{Asks, IsNoJob, short_given, number_given, is_flagged, tunables_of, targets_of, sched_of, earliest_of, compared, amounts_of, shown_of, loaded, time_given, entry_named, from_given, round_by, round_given, scripted, unscripted, written_of, takes_all, import_of, import_job, oracle_job, job_made, job_of};
 
 use crate::table::{COMMANDS, CommandRow, Makes, OptionRow, SCHEDULERS, TUNING, Takes};
+use crate::times::time_of;
 use blk_deadline::Tunables;
 use blk_kyber::Targets;
 use blk_settings::{Lineup, Load, Sched};
@@ -47,6 +48,10 @@ pub enum Job {
     Report,
     /// Check a certificate.
     Check,
+    /// Import a capture.
+    Import(Import),
+    /// Refuse the words, which are taken and can't be done.
+    Refuse(Refusal),
     /// Judge a schedule, as a whole or each of its late commands.
     Judge {
         /// Whether each late command is written instead.
@@ -54,6 +59,67 @@ pub enum Job {
     },
     /// Run a load on a layer under a scheduler, and write this of it.
     Load(Sched, Load, Shown),
+}
+
+/// How a capture is imported. Times are in nanoseconds.
+#[derive(Clone, Copy, Debug, PartialEq, Eq)]
+pub struct Import {
+    /// How long after it came in a read is due.
+    pub read_expire: u64,
+    /// How long after it came in a write is due.
+    pub write_expire: u64,
+    /// Whether a request came in when its first bio was queued, in place of when it was inserted.
+    pub from_queue: bool,
+    /// Requests that went out sooner after the first record are left out.
+    pub skip: u64,
+    /// How many of the others are taken, those that went out first; without it all are.
+    pub first: Option<u64>,
+    /// What is written of it.
+    pub written: Written,
+}
+
+/// What is written of an import.
+#[derive(Clone, Copy, Debug, PartialEq, Eq)]
+pub enum Written {
+    /// The schedule of its requests.
+    Schedule,
+    /// A record for each request, with its times.
+    Table,
+    /// It in numbers.
+    Summary,
+    /// Its arrivals as a script.
+    Script {
+        /// The length of a round, in nanoseconds.
+        round: u64,
+        /// How many commands a round carries, 1 to [`crate::table::MAX_DEPTH`]; without it, the depth of the arrivals' own.
+        depth: Option<u64>,
+    },
+}
+
+/// Why words that are taken can't be done, in the order in which it is looked for: the text of an option of `import` is none that it may
+/// have, or its flags exclude one another.
+#[derive(Clone, Copy, Debug, PartialEq, Eq)]
+pub enum Refusal {
+    /// `--read-expire` is no time.
+    ReadExpire,
+    /// `--write-expire` is no time.
+    WriteExpire,
+    /// `--from` is neither `insert` nor `queue`.
+    From,
+    /// `--skip` is no time.
+    Skip,
+    /// `--round` is no time.
+    Round,
+    /// A table and a summary are asked for.
+    TableAndSummary,
+    /// A script is asked for, and a table or a summary.
+    ScriptAlone,
+    /// A script is asked for, and no round.
+    NoRound,
+    /// A round or a depth is given, and no script asked for.
+    NoScript,
+    /// A script is asked for, and that requests be left out or come in when they were queued.
+    OfRequests,
 }
 
 /// What is written of a load.
@@ -105,6 +171,13 @@ fn option_arg<'a>(alloc: Global, row: &'a OptionRow, among: Among<'a>) -> Arg<'a
         Takes::Maybe(least, most) => bare
             .action(ArgAction::Set)
             .value_parser(ValueParser::unsigned(least, most)),
+        Takes::Text(default) => bare
+            .action(ArgAction::Set)
+            .value_parser(ValueParser::String)
+            .default_value(default),
+        Takes::MaybeText => bare
+            .action(ArgAction::Set)
+            .value_parser(ValueParser::String),
     }
 }
 
@@ -195,6 +268,16 @@ fn is_flagged(options: &ArgMatches<'_>, id: &str) -> bool
     match options.get_str(id) {
         Some(text) => text == "true",
         None => false,
+    }
+}
+
+/// The time that an option is given, in nanoseconds.
+fn time_given(options: &ArgMatches<'_>, id: &str) -> Option<u64>
+    ensures { result ≡ time_given id.now (rows_of (found_of options.now)) }
+{
+    match options.get_str(id) {
+        Some(text) => time_of(text),
+        None => None,
     }
 }
 
@@ -314,6 +397,159 @@ fn load_of(options: &ArgMatches<'_>) -> Option<Job>
     Some(Job::Load(sched, load, shown))
 }
 
+/// Whether a request came in when its first bio was queued, by the text of `--from`.
+fn entry_named(text: &str) -> Option<bool>
+    ensures { result ≡ entry_named text.now }
+{
+    if text == "insert" {
+        Some(false)
+    } else if text == "queue" {
+        Some(true)
+    } else {
+        None
+    }
+}
+
+/// The same by the options of `import`.
+fn from_given(options: &ArgMatches<'_>) -> Option<bool>
+    ensures { result ≡ from_given (rows_of (found_of options.now)) }
+{
+    match options.get_str("from") {
+        Some(text) => entry_named(text),
+        None => None,
+    }
+}
+
+/// The length of a round by the text of `--round`.
+fn round_by(text: &str) -> Result<Option<u64>, Refusal>
+    ensures { result ≡ round_by text.now }
+{
+    match time_of(text) {
+        Some(round) => Ok(Some(round)),
+        None => Err(Refusal::Round),
+    }
+}
+
+/// The same by the options of `import`, where it is given.
+fn round_given(options: &ArgMatches<'_>) -> Result<Option<u64>, Refusal>
+    ensures { result ≡ round_given (rows_of (found_of options.now)) }
+{
+    match options.get_str("round") {
+        Some(text) => round_by(text),
+        None => Ok(None),
+    }
+}
+
+/// A script of these, which needs a round.
+fn scripted(round: Option<u64>, depth: Option<u64>) -> Result<Written, Refusal>
+    ensures { result ≡ scripted round depth }
+{
+    match round {
+        Some(round) => Ok(Written::Script { round, depth }),
+        None => Err(Refusal::NoRound),
+    }
+}
+
+/// Something else, which has neither a round nor a depth.
+fn unscripted(written: Written, round: Option<u64>, depth: Option<u64>) -> Result<Written, Refusal>
+    ensures { result ≡ unscripted written round depth }
+{
+    match round {
+        Some(_) => Err(Refusal::NoScript),
+        None => match depth {
+            Some(_) => Err(Refusal::NoScript),
+            None => Ok(written),
+        },
+    }
+}
+
+/// What is written of an import by its flags, no two of which may stand together, and by the round and the depth of a script.
+fn written_of(options: &ArgMatches<'_>) -> Result<Written, Refusal>
+    ensures { result ≡ written_of (rows_of (found_of options.now)) }
+{
+    let round = match round_given(options) {
+        Ok(round) => round,
+        Err(refusal) => return Err(refusal),
+    };
+    let depth = number_of(options, "depth");
+    let table = is_flagged(options, "table");
+    let summary = is_flagged(options, "summary");
+    if is_flagged(options, "script") {
+        if table && summary {
+            Err(Refusal::TableAndSummary)
+        } else if table || summary {
+            Err(Refusal::ScriptAlone)
+        } else {
+            scripted(round, depth)
+        }
+    } else if table && summary {
+        Err(Refusal::TableAndSummary)
+    } else if table {
+        unscripted(Written::Table, round, depth)
+    } else if summary {
+        unscripted(Written::Summary, round, depth)
+    } else {
+        unscripted(Written::Schedule, round, depth)
+    }
+}
+
+/// Whether all requests are taken, as they were inserted: what has no bearing on a script is not asked for.
+fn takes_all(wanted: &Import) -> bool
+    ensures { result ≡ takes_all wanted.now }
+{
+    match wanted.first {
+        Some(_) => false,
+        None => !wanted.from_queue && wanted.skip == 0,
+    }
+}
+
+/// The import, if what is written of it may be had so.
+fn import_of(wanted: Import) -> Job
+    ensures { result ≡ import_of wanted }
+{
+    match wanted.written {
+        Written::Script { .. } => {
+            if takes_all(&wanted) {
+                Job::Import(wanted)
+            } else {
+                Job::Refuse(Refusal::OfRequests)
+            }
+        }
+        _ => Job::Import(wanted),
+    }
+}
+
+/// The import that the options of `import` ask for, or the refusal of the first of them that can't be done.
+fn import_job(options: &ArgMatches<'_>) -> Job
+    ensures { result ≡ import_job (rows_of (found_of options.now)) }
+{
+    let Some(read_expire) = time_given(options, "read-expire") else {
+        return Job::Refuse(Refusal::ReadExpire);
+    };
+    let Some(write_expire) = time_given(options, "write-expire") else {
+        return Job::Refuse(Refusal::WriteExpire);
+    };
+    let Some(from_queue) = from_given(options) else {
+        return Job::Refuse(Refusal::From);
+    };
+    let Some(skip) = time_given(options, "skip") else {
+        return Job::Refuse(Refusal::Skip);
+    };
+    let first = number_of(options, "first");
+    let written = match written_of(options) {
+        Ok(written) => written,
+        Err(refusal) => return Job::Refuse(refusal),
+    };
+    import_of(Import {
+        read_expire,
+        write_expire,
+        from_queue,
+        skip,
+        first,
+        written,
+    })
+}
+
 /// The job of `oracle` by its flags, which may not stand together.
 fn oracle_job(options: &ArgMatches<'_>) -> Option<Job>
     ensures { result ≡ oracle_job (is_flagged (codes "trace") (rows_of (found_of options.now))) (is_flagged (codes "met") (rows_of (found_of options.now))) }
@@ -343,6 +579,7 @@ fn job_made(makes: Makes, options: &ArgMatches<'_>) -> Option<Job>
         }
         Makes::Compare => compare_of(options),
         Makes::Oracle => oracle_job(options),
+        Makes::Import => Some(import_job(options)),
         Makes::Judge => Some(Job::Judge {
             each: is_flagged(options, "each"),
         }),

@@ -1,5 +1,6 @@
 use Rattle.std.proofs.Common.{◌∙◌, ap, true, map, string_bytes, codes}
 use Rattle.drafts.specs.Outputs.{stream_of}
+use Rattle.blk_cli.specs.Said.{said_of}
 use Rattle.blk_settings.specs.declared.sched.Sched.TheVariants as sched
 use Rattle.blk_words.specs.declared.words.Job.TheVariants as job
 use Rattle.blk_online_cli.specs.Told.{CountsNoneAvoidable, sim_words, misses_words}
@@ -9,11 +10,11 @@ use Rattle.blk_online_cli.proofs.misses_of_late_last.Goals as goal
 
 pub returns : goal.returns
 returns g c script known by good =
-    let trace = c.in-Ok.trace.items in
+    let traced = said_of c.in-Ok.traced in
     let old = stream_of g.W.Write.contents c.args.out.now in
     let new = stream_of g.W.Write.contents c.run.new.out in
-    piped CountsNoneAvoidable (job.Sim (sched.Earliest true)) job.Misses (sim_words true) misses_words (map string_bytes c.as_slice.result.now) (map string_bytes c.as_slice-3.result.now) script trace c.as_slice-2.result.now
-    c.args.records.now.left c.new-traced.result.left c.run.new.records.failed old new (stream_of g.F.Write.contents c.args.faults.now) (stream_of g.F.Write.contents c.run.new.faults) c.run.result
-    (λ text. misses script trace text old new by) (c.plain_lines.ensures.late_last (codes "blk")) (c.plain_lines.ensures.misses (codes "blk"))
+    piped CountsNoneAvoidable (job.Sim (sched.Earliest true)) job.Misses (λ i s g. g.0) (λ i s g. g.0) (sim_words true) misses_words (map string_bytes c.as_slice.result.now) (map string_bytes c.as_slice-3.result.now) script traced c.as_slice-2.result.now
+    c.args.records.now.left c.new-read.result.left c.run.new.records.failed old new (stream_of g.F.Write.contents c.args.faults.now) (stream_of g.F.Write.contents c.run.new.faults) c.run.result
+    (λ text. misses script traced.text text old new by) (c.plain_lines.ensures.late_last (codes "blk")) (c.plain_lines.ensures.misses (codes "blk"))
     (ap (map string_bytes) c.as_slice.ensures.value ∙ c.in_ok-first.ensures) (ap (map string_bytes) c.as_slice-3.ensures.value ∙ c.in_ok-second.ensures)
-    known c.new-traced.ensures.left c.as_slice-2.ensures.value c.in-Ok.ensures.text c.run.ensures.ended good
+    known c.new-read.ensures.left c.as_slice-2.ensures.value c.in-Ok.ensures.answers c.run.ensures.ended good

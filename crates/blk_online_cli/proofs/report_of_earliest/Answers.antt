@@ -1,5 +1,6 @@
 use Rattle.std.proofs.Common.{◌∙◌, ap, false, map, string_bytes, codes}
 use Rattle.drafts.specs.Outputs.{stream_of}
+use Rattle.blk_cli.specs.Said.{said_of}
 use Rattle.blk_settings.specs.declared.sched.Sched.TheVariants as sched
 use Rattle.blk_words.specs.declared.words.Job.TheVariants as job
 use Rattle.blk_online_cli.specs.Told.{ReportsNoShortfall, sim_words, report_words}
@@ -9,11 +10,11 @@ use Rattle.blk_online_cli.proofs.report_of_earliest.Goals as goal
 
 pub returns : goal.returns
 returns g c script known by good =
-    let trace = c.in-Ok.trace.items in
+    let traced = said_of c.in-Ok.traced in
     let old = stream_of g.W.Write.contents c.args.out.now in
     let new = stream_of g.W.Write.contents c.run.new.out in
-    piped ReportsNoShortfall (job.Sim (sched.Earliest false)) job.Report (sim_words false) report_words (map string_bytes c.as_slice.result.now) (map string_bytes c.as_slice-3.result.now) script trace c.as_slice-2.result.now
-    c.args.records.now.left c.new-traced.result.left c.run.new.records.failed old new (stream_of g.F.Write.contents c.args.faults.now) (stream_of g.F.Write.contents c.run.new.faults) c.run.result
-    (λ text. reports script trace text old new by) (c.plain_lines.ensures.earliest (codes "blk")) (c.plain_lines.ensures.report (codes "blk"))
+    piped ReportsNoShortfall (job.Sim (sched.Earliest false)) job.Report (λ i s g. g.0) (λ i s g. g.0) (sim_words false) report_words (map string_bytes c.as_slice.result.now) (map string_bytes c.as_slice-3.result.now) script traced c.as_slice-2.result.now
+    c.args.records.now.left c.new-read.result.left c.run.new.records.failed old new (stream_of g.F.Write.contents c.args.faults.now) (stream_of g.F.Write.contents c.run.new.faults) c.run.result
+    (λ text. reports script traced.text text old new by) (c.plain_lines.ensures.earliest (codes "blk")) (c.plain_lines.ensures.report (codes "blk"))
     (ap (map string_bytes) c.as_slice.ensures.value ∙ c.in_ok-first.ensures) (ap (map string_bytes) c.as_slice-3.ensures.value ∙ c.in_ok-second.ensures)
-    known c.new-traced.ensures.left c.as_slice-2.ensures.value c.in-Ok.ensures.text c.run.ensures.ended good
+    known c.new-read.ensures.left c.as_slice-2.ensures.value c.in-Ok.ensures.answers c.run.ensures.ended good

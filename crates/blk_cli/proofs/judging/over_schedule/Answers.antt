@@ -1,7 +1,7 @@
 use Rattle.std.proofs.Common.{inl}
 use Rattle.blk_lists.specs.Schedule.{Ran, ran_of, SpellsSchedule, ScheduleFault}
 use Rattle.blk_cli.specs.Judging.{IsJudgedText, IsUnjudged}
-use Rattle.blk_cli.proofs.Answered.{told, refused}
+use Rattle.blk_cli.proofs.OfRead.{told, refused}
 use Rattle.blk_cli.proofs.judging.over_schedule.Goals as goal
 
 pub returns-in-Err-clause-fails : goal.returns-in-Err-clause-fails

@@ -2,7 +2,7 @@ use Rattle.std.proofs.Common.{inl, ℕ, List}
 use Rattle.edd_check.specs.declared.Command.{Command}
 use Rattle.blk_lists.specs.Commands.{CommandsFault}
 use Rattle.blk_cli.specs.Certificates.{SpellsList, IsSolved, IsUnsolved}
-use Rattle.blk_cli.proofs.Answered.{told, refused}
+use Rattle.blk_cli.proofs.OfRead.{told, refused}
 use Rattle.blk_cli.proofs.lists.over_list.Goals as goal
 
 pub returns-in-Err-clause-fails : goal.returns-in-Err-clause-fails

@@ -1,7 +1,7 @@
 use Rattle.std.proofs.Common.{inl}
 use Rattle.blk_text.specs.Script.{SpellsScript, ScriptFault, scripted}
 use Rattle.blk_cli.specs.Comparing.{IsRunText, HasNoRunText}
-use Rattle.blk_cli.proofs.Answered.{told, refused}
+use Rattle.blk_cli.proofs.OfRead.{told, refused}
 use Rattle.blk_cli.proofs.scripts.over_script.Goals as goal
 
 pub returns-in-Err-clause-fails : goal.returns-in-Err-clause-fails

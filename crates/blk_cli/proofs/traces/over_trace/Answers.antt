@@ -1,7 +1,7 @@
 use Rattle.std.proofs.Common.{inl}
 use Rattle.blk_text.specs.TraceForm.{SpellsTrace, TraceFault}
 use Rattle.blk_cli.specs.OfTraces.{IsTold, IsUntold}
-use Rattle.blk_cli.proofs.Answered.{told, refused}
+use Rattle.blk_cli.proofs.OfRead.{told, refused}
 use Rattle.blk_cli.proofs.traces.over_trace.Goals as goal
 
 pub returns-in-Err-clause-fails : goal.returns-in-Err-clause-fails

@@ -6,7 +6,7 @@ use Rattle.blk_lists.specs.Sources.{Row}
 use Rattle.blk_cli.specs.declared.failure.Failure.{Failure}
 use Rattle.blk_cli.specs.Inputs.{Of, FailsOver}
 
-pub told : {V X E : Type 0} (Spells : List Row → V → Type 0) (Is : V → List ℕ → Type 0) (input : Option (List Row)) (v : V) (text : X → List ℕ) (r : Result X E) → IfSome input (λ rows. Spells rows v)
+pub told : {V A X E : Type 0} (Spells : List Row → V → Type 0) (Is : V → A → Type 0) (input : Option (List Row)) (v : V) (text : X → A) (r : Result X E) → IfSome input (λ rows. Spells rows v)
     → IfOk r (λ x. Is v (text x)) → IfOk r (λ x. Of Spells Is input (text x))
 told Spells Is input v text (Ok x) read h = (v, read, h)
 told Spells Is input v text (Err e) read h = tt

@@ -1,0 +1,106 @@
+-- What is written of a capture, what is said of what that leaves out, its arrivals as a script, and why there is nothing.
+use Rattle.std.specs.Prelude.{◌≡◌, ◌⊎◌, ◌==◌, ◌&&◌, ◌-◌, ◌^◌, ⊤, ℕ, Bool, true, false, if◌then◌else◌, List, Option, None, Some}
+use Rattle.std.specs.Option.{option_map_or}
+use Rattle.faults.specs.Order.{IsFirstFault}
+use Rattle.blk_arrivals.specs.Scripts.{script_of, script_rules}
+use Rattle.blk_arrivals.specs.declared.terms.ArrivalsFault.TheVariants as arrivals
+use Rattle.blk_arrivals.specs.declared.terms.TheConstants.{DEPTH}
+use Rattle.blk_arrivals.specs.declared.terms.Terms.{Terms}
+use Rattle.blk_capture.specs.declared.fates.Fate.{Fate}
+use Rattle.blk_capture.specs.declared.record.Record.{Record}
+use Rattle.blk_capture.specs.declared.requests.Bio.{Bio}
+use Rattle.blk_capture.specs.declared.requests.Entry.{Entry}
+use Rattle.blk_capture.specs.declared.requests.Entry.TheVariants as entry
+use Rattle.blk_capture.specs.declared.requests.Request.{Request}
+use Rattle.blk_capture_text.specs.Imports.{IsImport, IsImportFault}
+use Rattle.blk_capture_text.specs.Shown.{IsShown}
+use Rattle.blk_capture_text.specs.SummaryText.{counts_of, notice_line}
+use Rattle.blk_capture_text.specs.declared.importing.Asked.{Asked}
+use Rattle.blk_capture_text.specs.declared.numbers.Counts.{Counts}
+use Rattle.blk_capture_text.specs.declared.shown.Shown.{Shown}
+use Rattle.blk_capture_text.specs.declared.shown.Shown.TheVariants as shown
+use Rattle.blk_lists.specs.Texts.{rows_text}
+use Rattle.blk_text.specs.Script.{IsScript, script_rows}
+use Rattle.blk_text.specs.Versions.{latest}
+use Rattle.blk_words.specs.declared.words.Import.{Import}
+use Rattle.blk_words.specs.declared.words.Written.{Written}
+use Rattle.blk_words.specs.declared.words.Written.TheVariants as written
+use Rattle.blk_cli.specs.Said.{Said, IsAlone}
+use Rattle.blk_cli.specs.declared.failure.Failure.{Failure}
+use Rattle.blk_cli.specs.declared.failure.Failure.TheVariants as failure
+
+-- what is asked of the import
+abbrev pub entry_by : Bool → Entry
+entry_by true = entry.Queue
+entry_by false = entry.Insert
+
+abbrev pub most_of : Option ℕ → ℕ
+most_of None = 2 ^ 64 - 1
+most_of (Some n) = n
+
+abbrev pub asked_of : Import → Asked
+asked_of i = record {
+  options = record { read_expire = i.read_expire; write_expire = i.write_expire; entry = entry_by i.from_queue };
+  skip = i.skip;
+  first = most_of i.first;
+}
+
+-- how its arrivals become a script
+abbrev pub terms_of : Import → ℕ → Option ℕ → Terms
+terms_of i round depth = record { round = round; depth = option_map_or (λ n. n) depth DEPTH; read_expire = i.read_expire; write_expire = i.write_expire }
+
+-- the line on what was passed over or not matched, where there is any; a summary has it among its own
+abbrev pub line_on : Counts → Option (List ℕ)
+line_on c = if (c.passed == 0) && (c.unmatched == 0) then None else Some (notice_line c)
+
+abbrev pub note_by : Shown → Counts → Option (List ℕ)
+note_by shown.Schedule c = line_on c
+note_by shown.Table c = line_on c
+note_by shown.Summary c = None
+
+-- what is shown of the requests of a capture that are taken, and what is said beside it
+pub record IsShownOf (shown : Shown) (i : Import) (records : List Record) (s : Said) : Type 0 where
+  pub requests : List Request
+  pub bios : List Bio
+  pub fates : List Fate
+  pub absorbed : ℕ
+  pub left_out : ℕ
+  pub is_import : IsImport records (asked_of i) requests bios fates absorbed left_out
+  pub is_text : IsShown shown records requests bios fates left_out s.text
+  pub is_note : s.note ≡ note_by shown (counts_of fates)
+  pub good : s.good ≡ true
+
+-- too many requests would be taken, or memory ran out
+abbrev pub IsUnshown : Import → List Record → Failure → Type 0
+IsUnshown i records (failure.Import f) = IsImportFault records (asked_of i) f
+IsUnshown i records failure.Memory = ⊤
+IsUnshown i records f = ⊥
+
+-- its arrivals as a script: a text of records that spell it, and nothing beside it
+pub record IsScripted (t : Terms) (records : List Record) (s : Said) : Type 0 where
+  pub is_script : IsScript (script_of t records)
+  pub is_text : s.text ≡ rows_text (script_rows latest (script_of t records))
+  pub alone : IsAlone s
+
+-- why they are none
+abbrev pub IsUnscripted : Terms → List Record → Failure → Type 0
+IsUnscripted t records (failure.Arrivals f) = (f ≡ arrivals.Memory) ⊎ IsFirstFault (script_rules t records) f
+IsUnscripted t records failure.Memory = ⊤
+IsUnscripted t records f = ⊥
+
+-- what is written of a capture, by what is asked for, and why nothing is
+abbrev pub IsWrittenAs : Written → Import → List Record → Said → Type 0
+IsWrittenAs written.Schedule i records s = IsShownOf shown.Schedule i records s
+IsWrittenAs written.Table i records s = IsShownOf shown.Table i records s
+IsWrittenAs written.Summary i records s = IsShownOf shown.Summary i records s
+IsWrittenAs (written.Script round depth) i records s = IsScripted (terms_of i round depth) records s
+
+abbrev pub IsUnwrittenAs : Written → Import → List Record → Failure → Type 0
+IsUnwrittenAs (written.Script round depth) i records f = IsUnscripted (terms_of i round depth) records f
+IsUnwrittenAs w i records f = IsUnshown i records f
+
+abbrev pub IsImported : Import → List Record → Said → Type 0
+IsImported i records s = IsWrittenAs i.written i records s
+
+abbrev pub IsUnimported : Import → List Record → Failure → Type 0
+IsUnimported i records f = IsUnwrittenAs i.written i records f

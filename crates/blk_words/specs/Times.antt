@@ -1,0 +1,33 @@
+-- Numbers and times as texts.
+use Rattle.std.specs.Prelude.{◌-◌, ◌*◌, ◌^◌, ℕ, Bool, false, List, length, take, drop, nat_lt, Option, Some, None, codes, option_and_then, if◌then◌else◌}
+use Rattle.std.specs.Option.{option_or}
+use Rattle.std.specs.Str.{bytes_eq}
+use Rattle.std.specs.Str.Parse.{digits_value, without_leading_plus}
+use Rattle.clap.specs.ValueTests.{accepts}
+use Rattle.clap.specs.declared.builder.value_parser.ValueParser.TheVariants as vp
+use Rattle.clap.specs.Words.{Text}
+
+-- a number in decimal digits, up to the most
+abbrev pub number_in : ℕ → Text → Option ℕ
+number_in most text = if accepts false (vp.Unsigned 0 most) text then Some (digits_value 10 (without_leading_plus text)) else None
+
+-- whether a text ends with a unit, and what stands before that
+abbrev pub ends_with : Text → Text → Bool
+ends_with unit text = bytes_eq (drop (length text - length unit) text) unit
+
+abbrev pub before : Text → Text → Text
+before unit text = take (length text - length unit) text
+
+-- so many of so many nanoseconds, where they fit 64 bits
+abbrev pub scaled : ℕ → ℕ → Option ℕ
+scaled nanoseconds n = if nat_lt (n * nanoseconds) (2 ^ 64) then Some (n * nanoseconds) else None
+
+-- the nanoseconds of a number with this unit, which has so many of them
+abbrev pub in_unit : Text → ℕ → Text → Option ℕ
+in_unit unit nanoseconds text =
+    if ends_with unit text then option_and_then (scaled nanoseconds) (number_in 18_446_744_073_709_551_615 (before unit text)) else None
+
+-- a time: a number and its unit
+abbrev pub time_of : Text → Option ℕ
+time_of text =
+    option_or (option_or (option_or (in_unit (codes "ns") 1 text) (in_unit (codes "us") 1_000 text)) (in_unit (codes "ms") 1_000_000 text)) (in_unit (codes "s") 1_000_000_000 text)
