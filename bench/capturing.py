@@ -30,7 +30,12 @@ class Request:
         self.dir, self.first, self.end, self.pid = bio.dir, bio.first, bio.end, pid
         self.bio, self.queued, self.got, self.age = bio, bio.time, now, age
         self.inserted = self.completed = self.into = self.sent = None
-        self.where, self.left, self.earlier = "opened", None, None
+        self.where, self.left, self.earlier, self.cut = "opened", None, None, 0
+
+    @property
+    def undone(self):
+        """What is to go out: all of it, or where it was handed back after a part was done the rest."""
+        return self.first + self.cut, self.end
 
 
 def kind_of(action, rwbs, first, sectors):
@@ -56,8 +61,7 @@ def oldest(items):
 
 
 class Capture:
-    def __init__(self, text):
-        rows = [it for it in csv.reader(text) if it]
+    def __init__(self, rows):
         assert rows[0] == ["blk-capture", "1", "", "", "", "", "", ""]
         self.bios, self.requests, self.sent, self.parts = [], [], [], []
         self.rows = rows[1:]
@@ -110,7 +114,7 @@ class Capture:
             bio.waits = False
 
         def meets(it):
-            return it.end == first if back else it.first == end
+            return it.end == first if back else it.undone[0] == end
 
         own = [it for it in self.at("opened", dir) if it.pid == pid and meets(it)]
         target = max(own, key=lambda it: it.age) if own else oldest(it for it in self.at("inserted", dir) if meets(it))
@@ -119,7 +123,7 @@ class Capture:
         if bio:
             bio.request = target
         else:
-            whole = lambda where: oldest(it for it in self.at(where, dir) if (it.first, it.end) == (first, end))
+            whole = lambda where: oldest(it for it in self.at(where, dir) if it.undone == (first, end))
             other = (whole("inserted") or whole("opened")) if back else None
             if not other:
                 return None
@@ -127,7 +131,7 @@ class Capture:
         if back:
             target.end = end
         else:
-            target.first = first
+            target.first, target.cut = first, 0
         return target
 
     def on_M(self, *record):
@@ -144,7 +148,8 @@ class Capture:
         return found
 
     def on_D(self, age, pid, dir, first, end):
-        whole = lambda where: oldest(it for it in self.at(where, dir) if (it.first, it.end) == (first, end))
+        # one that was handed back goes out as what of it isn't done
+        whole = lambda where: oldest(it for it in self.at(where, dir) if it.undone == (first, end))
         found = whole("inserted") or (whole("opened") if self.direct else None)
         if found:
             found.where, found.left, found.sent = "device", (first, end), len(self.sent)
@@ -167,6 +172,7 @@ class Capture:
         found = oldest(it for it in self.at("device", dir) if it.left == (first, end))
         if found:
             found.where = "opened" if found.inserted is None else "inserted"
+            found.cut = found.left[0] - found.first
         return found
 
 
@@ -252,18 +258,28 @@ class Import:
 
 
 def main():
-    words = argparse.ArgumentParser()
+    words = options_of()
     words.add_argument("what", choices=["schedule", "table", "summary", "notice"])
+    options = words.parse_args()
+    made = Import(Capture([it for it in csv.reader(sys.stdin) if it]), options)
+    print(text_of(made, options.what), end="")
+
+
+def options_of():
+    """The options of `import`."""
+    words = argparse.ArgumentParser()
     words.add_argument("--read-expire", default="500ms")
     words.add_argument("--write-expire", default="5s")
     words.add_argument("--from", dest="entry", choices=["insert", "queue"], default="insert")
     words.add_argument("--skip", default="0ns")
     words.add_argument("--first", type=int)
-    options = words.parse_args()
-    made = Import(Capture(sys.stdin), options)
-    mark = "," if options.what in ("schedule", "table") else " "
-    for row in getattr(made, options.what)():
-        print(mark.join(map(str, row)))
+    return words
+
+
+def text_of(made, what):
+    """What is written or said of an import."""
+    mark = "," if what in ("schedule", "table") else " "
+    return "".join(f"{mark.join(map(str, row))}\n" for row in getattr(made, what)())
 
 
 if __name__ == "__main__":

@@ -4,11 +4,12 @@ more, without the program."""
 from collections import Counter
 
 PLAIN = frozenset(b"0123456789,-\nabcdefghijklmnopqrstuvwxyz")
+CAPITALS = frozenset(b"ABCDEFGHIJKLMNOPQRSTUVWXYZ")
 
 
-def rows(text):
-    """The records of a text that has none of the reader's subtleties, or None."""
-    if not PLAIN.issuperset(text):
+def rows(text, more=frozenset()):
+    """The records of a text that has none of the reader's subtleties and no bytes but plain ones and some more, or None."""
+    if not (PLAIN | more).issuperset(text):
         return None
     return [line.split(",") for line in text.decode().split("\n") if line]
 

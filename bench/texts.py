@@ -8,6 +8,7 @@ import itertools
 from collections import Counter
 
 SCRIPT, TRACE, COMMANDS, CERTIFICATE, MET, SCHEDULE = "script", "trace", "commands", "certificate", "met", "schedule"
+CAPTURE = "capture"
 
 
 def record(*fields, width):
@@ -266,8 +267,99 @@ def good_schedule(rng):
         yield record(*it, rounds[at], width=4)
 
 
+# --- captures ---
+
+
+class Steps:
+    """A block layer that is traced: bios that wait, requests that were opened, inserted or are at the device, each a direction, a first
+    sector and an end. Now and then it tells a step that it didn't take."""
+
+    def __init__(self, rng):
+        self.rng, self.now, self.is_direct = rng, rng.choice([0, 4_000_000, 999_999_990]), rng.random() < 0.3
+        self.waiting, self.opened, self.inserted, self.flying = [], [], [], []
+
+    def tell(self, action, span):
+        self.now += self.rng.choice([0, 0, 1, 7, 1000])
+        direction, first, end = span
+        rwbs = direction + self.rng.choice(["", "", "A", "S", "FS"])
+        pid = self.rng.choice([1, 1, 1, 1, 2])
+        return record(self.now // 10**9, f"{self.now % 10**9:09}", pid, action, pid, rwbs, first, end - first, width=8)
+
+    def moved(self, action, here, there):
+        """A step of one of these, which goes there."""
+        at = self.rng.randrange(len(here))
+        if there is not None:
+            there.append(here[at])
+        return self.tell(action, here.pop(at))
+
+    def queued(self):
+        first = 8 * self.rng.randrange(6)
+        span = self.rng.choice("RRW"), first, first + 8 * self.rng.choice([1, 1, 1, 2, 3])
+        self.waiting.append(span)
+        return self.tell("Q", span)
+
+    def merged(self, here):
+        """A bio, or a request that waits, at the back or the front of another."""
+        at = self.rng.randrange(len(here))
+        direction, first, end = here[at]
+        size = 8 * self.rng.choice([1, 1, 2])
+        if self.rng.random() < 0.6 or first < size:
+            action, span, here[at] = "M", (direction, end, end + size), (direction, first, end + size)
+        else:
+            action, span, here[at] = "F", (direction, first - size, first), (direction, first - size, end)
+        if self.rng.random() < 0.8:
+            yield self.tell("Q", span)
+        elif span in self.opened + self.inserted:
+            (self.opened if span in self.opened else self.inserted).remove(span)
+        yield self.tell(action, span)
+
+    def cut(self):
+        at = self.rng.randrange(len(self.waiting))
+        direction, first, end = self.waiting[at]
+        self.waiting[at : at + 1] = [(direction, first, first + 8), (direction, first + 8, end)] if end > first + 8 else [self.waiting[at]]
+        return self.tell("X", (direction, first, first + 8))
+
+    def done(self):
+        at = self.rng.randrange(len(self.flying))
+        direction, first, end = self.flying[at]
+        if end > first + 8 and self.rng.random() < 0.3:
+            self.flying[at] = direction, first + 8, end
+            return self.tell("C", (direction, first, first + 8))
+        return self.moved("C", self.flying, None)
+
+    def step(self):
+        kind, here = self.rng.random(), self.inserted if self.inserted and not self.is_direct else self.opened
+        if kind < 0.06:
+            yield self.tell(self.rng.choice("PUAQGMFIDCRX"), (self.rng.choice("RWDEFN"), 8 * self.rng.randrange(6), 8 * self.rng.randrange(9)))
+        elif kind < 0.3 or not (self.waiting or here or self.flying):
+            yield self.queued()
+        elif kind < 0.34 and self.waiting:
+            yield self.cut()
+        elif kind < 0.5 and self.waiting:
+            yield self.moved("G", self.waiting, self.opened)
+        elif kind < 0.64 and here:
+            yield from self.merged(self.rng.choice([it for it in (self.opened, here) if it]))
+        elif kind < 0.76 and self.opened and not self.is_direct:
+            yield self.moved("I", self.opened, self.inserted)
+        elif kind < 0.88 and here:
+            yield self.moved("D", here, self.flying)
+        elif kind < 0.92 and self.flying:
+            yield self.moved("R", self.flying, here)
+        elif self.flying:
+            yield self.done()
+
+
+def good_capture(rng):
+    steps = Steps(rng)
+    yield record("blk-capture", 1, width=8)
+    for _ in range(rng.choice([0, 5, 30, 60])):
+        for it in steps.step():
+            # a step may be told of no sectors, and of a range that is none
+            yield it if int(it[7]) >= 0 else [*it[:7], b"0"]
+
+
 GOOD = {SCRIPT: good_script, TRACE: good_trace, COMMANDS: good_commands, CERTIFICATE: good_certificate, MET: good_met}
-GOOD |= {SCHEDULE: good_schedule}
+GOOD |= {SCHEDULE: good_schedule, CAPTURE: good_capture}
 
 
 # --- what spoils a text ---
@@ -278,7 +370,7 @@ SPELLINGS = [b"00", b"01", b"-0", b"-1", b"--1", b"+1", b" 1", b"1 ", b"1.0", b"
 SPELLINGS += [b"1\0", "\u0663".encode(), b"\xff", b"-2199023255551", b"-2199023255552", b"-18446744073709551616"]
 SPELLINGS += [b"9" * 400, b"0" * 400]
 TITLES = [b"blk-script", b"blk-trace", b"blk-commands", b"blk-certificate", b"blk-met", b"blk-schedule", b"blk", b"", b"BLK-TRACE"]
-TITLES += [b"blk-trace "]
+TITLES += [b"blk-trace ", b"blk-capture"]
 WORDS = [b"setup", b"bio", b"release", b"join", b"issue", b"done", b"back", b"depth", b"tick", b"flush", b"drain", b"run"]
 WORDS += [b"bound", b"met", b"window", b"Bio", b"bio ", b"", b"foo", b"R", b"W", b"r", b"blk-trace", b"blk-script"]
 BYTES = [b"\0", b"\xff", b"\xc3\x28", b'"', b'""', b"\r", b"\n", b"\r\n", b",", b" ", b"\t", b"\xef\xbb\xbf", b"\x1a", b"#"]

@@ -57,6 +57,7 @@ GOOD = [
     "spread_write_before_read",
     "late_write_before_read",
     "misses_write_before_read",
+    "import_one_request",
 ]
 
 # Cases that write to standard output and read nothing.
@@ -615,6 +616,9 @@ FORMS = {
     b"oracle": b"blk-commands,1,1\n1,0,0\n",
     b"oracle --met": b"blk-commands,1,1\n1,0,0\n",
     b"check": b"blk-certificate,1,1,3\nbound,2,0,0\n",
+    b"judge": b"blk-schedule,1,1,3\n1,0,0,0\n",
+    b"import": b"blk-capture,1,,,,,,\n0,000000010,0,Q,1,R,0,8\n",
+    b"import --script --round 1ms": b"blk-capture,1,,,,,,\n0,000000010,0,Q,1,R,0,8\n",
 }
 
 # What a record without end may be made of, after its beginning.
