@@ -5,6 +5,7 @@ ghost use Rattle.blk_trace.specs.Events.{entered, bios_of};
 ghost use Rattle.blk_settings.specs.Numbers.{IsLoad};
 ghost use Rattle.blk_settings.specs.Settles.{AreEven, IsSettled, IsSettleFault, setup_of};
 
+use crate::numbers::MAX_LOAD_WORKERS;
 use crate::{Load, LoadFault, Settled};
 use blk_bio::{Bio, Limits, Request};
 use blk_trace::{Event, Setup, Trace};
@@ -28,7 +29,7 @@ impl Load {
         requires { IsLoad self.now }
         ensures value { result ≡ min self.now.submitters self.now.workers }
         ensures some { 1 ≤ result }
-        ensures few { result ≤ 16 }
+        ensures few { result ≤ MAX_LOAD_WORKERS }
     {
         self.submitters.min(self.workers)
     }

@@ -1,6 +1,6 @@
 //! A script's steps, run one after the other over plugs, software queues and the core.
 
-ghost use Rattle.std.specs.Prelude.{◌≡◌, ◌<◌, ◌≤◌, ◌%◌, ◌^◌, ℕ, List, [], replicate, IfOk, OnOk, IfErr, length, sum_by, IsPermutation};
+ghost use Rattle.std.specs.Prelude.{◌≡◌, ◌<◌, ◌≤◌, ◌%◌, ℕ, List, [], replicate, IfOk, OnOk, IfErr, length, sum_by, IsPermutation};
 ghost use Rattle.blk_bio.specs.declared.limits.TheConstants.{MAX_QUEUES, MAX_SOFT_DEPTH, MAX_SOFT_QUEUES};
 ghost use Rattle.blk_sched.specs.Meaning.{at_start};
 ghost use Rattle.blk_trace.specs.Events.{entered, round_of};
@@ -20,7 +20,7 @@ use blk_core::Core;
 use blk_hw::Map;
 use blk_plug::Plug;
 use blk_sched::Scheduler;
-use blk_soft::SoftQueue;
+use blk_soft::{MAX_BIOS, SoftQueue};
 use blk_text::{Line, Script};
 use blk_trace::Trace;
 use std::alloc::{AllocError, Allocator};
@@ -154,7 +154,7 @@ impl<S: Scheduler> Simulation<S> {
 
     /// Runs one step, with this map of the software queues to the hardware queues.
     fn step(&mut self, map: &Map<S::A>, line: Line) -> Result<(), SimWhy>
-        requires ready { IsReady (2 ^ 40) self.old }
+        requires ready { IsReady MAX_BIOS self.old }
         requires map { IsSpread self.old.core.setup.hw (length self.old.plugs) map.now }
         requires fits { LineFits self.old.core.setup.hw (length self.old.plugs) line }
         ensures stepped { OnOk result (Steps S.policy self.old line self.new) }

@@ -1,6 +1,6 @@
 //! The steps of a script, each over what it changes: plugs, software queues and the core.
 
-ghost use Rattle.std.specs.Prelude.{◌≡◌, ◌+◌, ◌<◌, ◌≤◌, ◌≢◌, ◌^◌, ℕ, [], Some, slice_get, OnOk, OnErr, IfOk, IfErr, length};
+ghost use Rattle.std.specs.Prelude.{◌≡◌, ◌+◌, ◌<◌, ◌≤◌, ◌≢◌, ℕ, [], Some, slice_get, OnOk, OnErr, IfOk, IfErr, length};
 ghost use Rattle.blk_bio.specs.Bios.{IsBio};
 ghost use Rattle.blk_bio.specs.Requests.{IsWithin};
 ghost use Rattle.blk_plug.specs.Plugs.{Plug as PlugFields};
@@ -20,7 +20,7 @@ use blk_core::Core;
 use blk_hw::Map;
 use blk_plug::Plug;
 use blk_sched::Scheduler;
-use blk_soft::SoftQueue;
+use blk_soft::{MAX_BIOS, SoftQueue};
 use blk_trace::MAX_EVENTS;
 use edd_check::Command;
 use std::alloc::Allocator;
@@ -109,7 +109,7 @@ fn flush_plug<A: Allocator + Clone>(
     queue: &mut SoftQueue<A>,
 ) -> Result<(), SimWhy>
     requires limits { plug.old.limits ≡ queue.old.limits }
-    requires few { queue.old.bios_in + length (bios_in plug.old.requests) ≤ 2 ^ 40 }
+    requires few { queue.old.bios_in + length (bios_in plug.old.requests) ≤ MAX_BIOS }
     ensures emptied { OnOk result (plug.new ≡ flushed_plug plug.old) }
     ensures moved { OnOk result (queue.new ≡ with_requests queue.old plug.old.requests) }
     ensures room { OnOk result (HasSoftRoom queue.old plug.old) }
@@ -185,7 +185,7 @@ pub(crate) fn flush<A: Allocator + Clone>(
     requires submitter { submitter < length plugs.old.items }
     requires counts { length queues.old.items ≡ length plugs.old.items }
     requires limits { (s : ℕ) (plug : PlugFields) (queue : QueueFields) → slice_get plugs.old.items s ≡ Some plug → slice_get queues.old.items s ≡ Some queue → plug.limits ≡ queue.limits }
-    requires few { HaveCome (2 ^ 40) plugs.old.items queues.old.items }
+    requires few { HaveCome MAX_BIOS plugs.old.items queues.old.items }
     ensures flushed { OnOk result (EmptiesPlug plugs.old.items queues.old.items submitter plugs.new.items queues.new.items) }
     ensures refused { IfErr result (λ w. IsFlushRefused plugs.old.items queues.old.items submitter w) }
 {

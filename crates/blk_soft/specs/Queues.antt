@@ -1,9 +1,10 @@
 -- Software queues.
-use Rattle.std.specs.Prelude.{ℕ, ◌≡◌, ◌+◌, ◌≤◌, ◌^◌, List, length, sum_by, All}
+use Rattle.std.specs.Prelude.{ℕ, ◌≡◌, ◌+◌, ◌≤◌, List, length, sum_by, All}
 use Rattle.blk_bio.specs.Bios.{Bio}
 use Rattle.blk_bio.specs.Limits.{Limits}
 use Rattle.blk_bio.specs.declared.limits.TheConstants.{MAX_SOFT_DEPTH}
 use Rattle.blk_bio.specs.Requests.{IsWithin}
+use Rattle.blk_soft.specs.declared.TheConstants.{MAX_BIOS}
 
 -- the greatest depth of a queue, in requests
 abbrev pub greatest_depth : ℕ
@@ -11,7 +12,7 @@ greatest_depth = MAX_SOFT_DEPTH
 
 -- the most bios that a queue takes in over its life
 abbrev pub most_bios : ℕ
-most_bios = 2 ^ 40
+most_bios = MAX_BIOS
 
 -- a queue: how many requests it may hold, their limits, the requests from the first, and how many bios came and went
 pub record Queue : Type 0 where

@@ -1,6 +1,7 @@
 -- A set of tags and the seats at it, as their callers see them.
 use Rattle.std.specs.Prelude.{ℕ, ◌≡◌, ◌+◌, ◌≤◌, ◌<◌, ◌==◌, Bool, false, not, List, [], ◌∷◌, Option, IfSome, filter, slice_index_or, if◌then◌else◌}
 use Rattle.atomic_table.specs.Seated.{TableId}
+use Rattle.blk_tags.specs.declared.TheConstants.{MAX_DEPTH}
 
 -- a set of tags: what tells it from every other one, and how many tags it has, from 0 on
 pub record Set : Type 0 where
@@ -26,10 +27,10 @@ count_of t (x ∷ xs) = one_if (x == t) + count_of t xs
 abbrev pub without : ℕ → List ℕ → List ℕ
 without t tags = filter (λ x. not (x == t)) tags
 
--- a set has 1 to 256 tags
+-- a set has at least one tag, and at most the greatest number
 pub record IsSet (set : Set) : Type 0 where
   pub some : 1 ≤ set.depth
-  pub few : set.depth ≤ 256
+  pub few : set.depth ≤ MAX_DEPTH
 
 -- a seat holds no tag twice, and each of its tags, like the one that it took last, is one of its set's
 pub record IsSeat (seat : Seat) : Type 0 where

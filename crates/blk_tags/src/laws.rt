@@ -8,6 +8,8 @@ ghost use Rattle.atomic_table.specs.Table.{State, opening};
 ghost use Rattle.blk_tags.specs.Tags.{without};
 ghost use Rattle.blk_tags.specs.Steps.{TagsAreHeldOnce, bit_of, IsSeatWith, IsHeldBy, set_in, cleared_in, with_seat, with_new_seat};
 
+use crate::MAX_DEPTH;
+
 /// Each bit of the words is the bit of a tag, and of no other one.
 pub fn each_bit_is_a_tags()
     ensures { (words : List ℕ) → (word k : ℕ) → k < 64 → bit_of words (word * 64 + k) ≡ bit_at (slice_index words word) k }
@@ -35,13 +37,13 @@ pub fn each_kind_of_step_keeps_the_rule()
         → TagsAreHeldOnce depth (with_new_seat s) }
     ensures joining { (depth : ℕ) → (s : State ℕ (List ℕ)) → (other : ℕ) → TagsAreHeldOnce depth s
         → IsSeatWith s.views other [] → TagsAreHeldOnce depth (with_seat s other []) }
-    ensures winning { (depth : ℕ) → (s : State ℕ (List ℕ)) → (seat tag : ℕ) → (tags : List ℕ) → depth ≤ 256 → TagsAreHeldOnce depth s
+    ensures winning { (depth : ℕ) → (s : State ℕ (List ℕ)) → (seat tag : ℕ) → (tags : List ℕ) → depth ≤ MAX_DEPTH → TagsAreHeldOnce depth s
         → IsSeatWith s.views seat tags → tag < depth → bit_of s.words tag ≡ 0
         → TagsAreHeldOnce depth (with_seat (set_in s tag) seat (tags ++ tag ∷ [])) }
-    ensures losing { (depth : ℕ) → (s : State ℕ (List ℕ)) → (seat tag : ℕ) → (tags : List ℕ) → depth ≤ 256 → TagsAreHeldOnce depth s
+    ensures losing { (depth : ℕ) → (s : State ℕ (List ℕ)) → (seat tag : ℕ) → (tags : List ℕ) → depth ≤ MAX_DEPTH → TagsAreHeldOnce depth s
         → IsSeatWith s.views seat tags → tag < depth → bit_of s.words tag ≡ 1
         → TagsAreHeldOnce depth (with_seat (set_in s tag) seat tags) }
-    ensures giving { (depth : ℕ) → (s : State ℕ (List ℕ)) → (seat tag : ℕ) → (tags : List ℕ) → depth ≤ 256 → TagsAreHeldOnce depth s
+    ensures giving { (depth : ℕ) → (s : State ℕ (List ℕ)) → (seat tag : ℕ) → (tags : List ℕ) → depth ≤ MAX_DEPTH → TagsAreHeldOnce depth s
         → IsSeatWith s.views seat tags → tag < depth → Contains tags tag
         → TagsAreHeldOnce depth (with_seat (cleared_in s tag) seat (without tag tags)) }
 {}

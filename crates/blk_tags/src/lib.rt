@@ -116,7 +116,7 @@ impl<A: Allocator + Clone> TagSet<A> {
     pub fn new(alloc: A, depth: u64) -> Result<(TagSet<A>, TagSeat<A>), TagFault>
         ensures depth { IfOk result (λ p. p.0.depth ≡ depth) }
         ensures seat { IfOk result (λ p. p.1 ≡ record { of_set = p.0; tags = []; last = None }) }
-        ensures refused { (result ≡ Err TagFault.Depth) ↔ ((depth < 1) ⊎ (256 < depth)) }
+        ensures refused { (result ≡ Err TagFault.Depth) ↔ ((depth < 1) ⊎ (MAX_DEPTH < depth)) }
     {
         if depth < 1 || depth > MAX_DEPTH {
             return Err(TagFault::Depth);

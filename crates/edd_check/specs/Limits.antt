@@ -1,17 +1,20 @@
-use Rattle.std.specs.Prelude.{ℕ, ◌^◌}
+-- The limits, as the code has them.
+use Rattle.std.specs.Prelude.{ℕ}
+use Rattle.edd_check.specs.declared.TheConstants.{MAX_COMMANDS, MAX_RELEASES, MAX_ROUNDS}
+use Rattle.edd_check.specs.declared.steps.TheConstants.{MAX_DEPTH}
 
 -- a round carries at most so many commands
 abbrev pub most_depth : ℕ
-most_depth = 256
+most_depth = MAX_DEPTH
 
 -- every due round, scheduled round and window number is below this
 abbrev pub round_limit : ℕ
-round_limit = 2 ^ 41
+round_limit = MAX_ROUNDS
 
 -- every release of a command that a schedule is asked for is below this
 abbrev pub release_limit : ℕ
-release_limit = 2 ^ 40
+release_limit = MAX_RELEASES
 
 -- a schedule is asked for at most so many commands
 abbrev pub most_commands : ℕ
-most_commands = 1000000
+most_commands = MAX_COMMANDS

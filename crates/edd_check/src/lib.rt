@@ -143,7 +143,7 @@ fn least_from(rounds: &[u64], from: u64) -> Option<u64>
 
 /// Whether each of the [`BLOCK`] rounds from `from` on stands in at most as many places as it carries.
 fn block_stays_within<A: Allocator>(rounds: &[u64], capacity: &Capacity<A>, from: u64) -> bool
-    ensures { IsTrue result ↔ ((k : ℕ) → k < 4096 → places_at rounds.now (from + k) ≤ depth_at capacity.now (from + k)) }
+    ensures { IsTrue result ↔ ((k : ℕ) → k < BLOCK → places_at rounds.now (from + k) ≤ depth_at capacity.now (from + k)) }
 {
     let mut counts = [0u64; BLOCK as usize];
     for x in rounds {
@@ -249,10 +249,10 @@ fn least_over_deep<A: Allocator, B: Allocator>(
 /// window's `from` where there is none.
 fn end_of(window: Window, lateness: i64) -> u64
     requires window { WindowInRange window }
-    requires low { negsuc (2 ^ 41) ≤ℤ lateness }
-    requires high { lateness <ℤ pos (2 ^ 41) }
+    requires low { negsuc MAX_ROUNDS ≤ℤ lateness }
+    requires high { lateness <ℤ pos MAX_ROUNDS }
     ensures rounds { result - window.from ≡ rounds_between window.from (pos window.due +ℤ lateness) }
-    ensures small { result < 2 ^ 42 }
+    ensures small { result < 2 * MAX_ROUNDS }
 {
     let end = window.due as i64 + lateness;
     if end <= window.from as i64 {

@@ -13,7 +13,7 @@ ghost use Rattle.edd_check.specs.Schedule.{IsLegal};
 ghost use Rattle.edd_check.specs.Met.{number_met, IsMetBound, IsMostMet, holds, lies_in, can_be_met, inside_of, outside_of, carried_in, carried_by, bound_of, IsCover, IsFirstAstray, CoverInRange};
 ghost use Rattle.edd_check.specs.CheckMet.{IsMetAnswer};
 
-use crate::{Capacity, Command, MAX_ROUNDS, Window, first_early, least_over_deep};
+use crate::{Capacity, Command, MAX_DEPTH, MAX_ROUNDS, Window, first_early, least_over_deep};
 use std::alloc::Allocator;
 
 /// Why a claim of a greatest number is refused, in the order in which the reasons are looked for.
@@ -117,7 +117,7 @@ pub fn outside(commands: &[Command], cover: &[Window]) -> u64
 pub fn carried_in<A: Allocator>(capacity: &Capacity<A>, window: Window) -> u64
     requires { window.due < round_limit }
     ensures value { result ≡ carried_in capacity.now window }
-    ensures most { result ≤ 256 * (window.due + 1 - window.from) }
+    ensures most { result ≤ MAX_DEPTH * (window.due + 1 - window.from) }
 {
     capacity.sum(window.from, window.due + 1)
 }
@@ -127,7 +127,7 @@ pub fn carried_by<A: Allocator>(capacity: &Capacity<A>, cover: &[Window]) -> u64
     requires disjoint { IsCover cover.now }
     requires in_range { CoverInRange cover.now }
     ensures value { result ≡ carried_by capacity.now cover.now }
-    ensures small { result ≤ 256 * round_limit }
+    ensures small { result ≤ MAX_DEPTH * round_limit }
 {
     let mut total = 0;
     for window in cover {
