@@ -1,6 +1,6 @@
 -- The edges of requests, as these come, go and are joined.
 use Rattle.std.proofs.Common.{◌≡◌, ◌≤◌, ℕ, true, false, cond, sym, ap, subst, ◌∙◌, refl, arith, Some, None, Option}
-use Rattle.std.specs.Prelude.{IsSome}
+use Rattle.std.specs.Prelude.{IsSome, length, Result, Ok, Err, OnErr}
 use Rattle.std.specs.Ordering.{nat_cmp, is_eq}
 use Rattle.std.specs.Cmp.{nat_cmp_total, tied_itself}
 use Rattle.std.specs.BTreeMap.{is_at}
@@ -11,29 +11,28 @@ use Rattle.blk_sched.specs.Meaning.{Waiting}
 use Rattle.blk_sched.specs.Maps.{same_number}
 use Rattle.blk_index.specs.declared.spots.Head.{Head}
 use Rattle.blk_index.specs.Inside.Spots.{Place, Spot, Adds, TakesOne, Keeps, AreSpots, is_placed, first_at, end_at}
-use Rattle.blk_index.specs.Inside.Heads.{Becomes, is_head, spots_of, HasHeads, Lowers, KeepsLeast, IsEdge}
+use Rattle.blk_index.specs.Inside.Heads.{Becomes, is_head, spots_of, AtMost, HasHeads, Lowers, KeepsLeast, IsEdge}
 use Rattle.blk_index.specs.declared.spots.Edges.{Edges}
+use Rattle.blk_index.specs.declared.spots.Spots.{Spots}
 use Rattle.blk_index.specs.Inside.Edges.{heads_in, others_in, IsEdges}
 use Rattle.blk_index.proofs.Listed.{undone}
 use Rattle.blk_index.proofs.Indexed.{Found, entered, taken, stayed, kept}
 use Rattle.blk_index.proofs.Order.{standing}
-use Rattle.blk_index.proofs.Spotted.{Heads, Others, head_there, nothing, added_there}
+use Rattle.blk_index.proofs.Spotted.{Heads, Others, head_there, nothing, added_there, most_then, most_of}
 
--- the head at the sector of a request
-pub head_at : (at : Extent → Place) (found : Found) (heads : Heads) (others : Others) (k : ℕ) (w : Waiting) → IsEdge at found heads others → found k ≡ Some w → IsSome (heads (at (extent_of w.bios)).1)
+-- the head at the place of a request
+pub head_at : (at : Extent → Place) (found : Found) (heads : Heads) (others : Others) (k : ℕ) (w : Waiting) → IsEdge at found heads others → found k ≡ Some w → IsSome (heads (at (extent_of w.bios)))
 head_at at found heads others k w edge there = head_there heads others (at (extent_of w.bios), k) edge.headed (standing at found (spots_of heads others) k w edge.spots there)
 
 pub some_head : (o : Option Head) → IsSome o → (h : Head) × (o ≡ Some h)
 some_head None s = cc
 some_head (Some h) s = (h, refl)
 
--- what was said of the fewest sectors is so still, where a spot was put in
-still_least : (at : Extent → Place) (found : Found) (heads mid : Heads) (others : Others) (sector sectors k : ℕ) (w : Waiting) (h : Head) → IsEdge at found heads others → Lowers heads sector sectors mid → found k ≡ Some w → mid (at (extent_of w.bios)).1 ≡ Some h → h.least ≤ sectors_of w.bios
-still_least at found heads mid others sector sectors k w h edge lowers there is =
-    let g = some_head (heads (at (extent_of w.bios)).1) (head_at at found heads others k w edge there) in
-    let low : h.least ≤ g.0.least = (lowers (at (extent_of w.bios)).1 h is).1 g.0 g.1 in
-    let before : g.0.least ≤ sectors_of w.bios = edge.least k w g.0 there g.1 in
-    omega arith
+-- what was said of the fewest is so still, where a spot was put in
+still_least : (at : Extent → Place) (found : Found) (heads mid : Heads) (others : Others) (p : Place) (sectors bios k : ℕ) (w : Waiting) (h : Head) → IsEdge at found heads others → Lowers heads p sectors bios mid → found k ≡ Some w → mid (at (extent_of w.bios)) ≡ Some h → AtMost h (sectors_of w.bios) (length w.bios)
+still_least at found heads mid others p sectors bios k w h edge lowers there is =
+    let g = some_head (heads (at (extent_of w.bios))) (head_at at found heads others k w edge there) in
+    most_of h g.0 (sectors_of w.bios) (length w.bios) ((lowers (at (extent_of w.bios)) h is).1 g.0 g.1) (edge.least k w g.0 there g.1)
 
 -- at one id, and at the others
 by_id : (P : Waiting → Type 0) (old new : Found) (id : ℕ) (x : Option Waiting) (k : ℕ) (w : Waiting) → Becomes old id x new → new k ≡ Some w → (x ≡ Some w → P w) → (old k ≡ Some w → P w) → P w
@@ -47,20 +46,25 @@ by_id P old new id x k w becomes there one other =
 apart : (old new : Found) (id : ℕ) (k : ℕ) (w : Waiting) → Becomes old id None new → new k ≡ Some w → old k ≡ Some w
 apart old new id k w becomes there = by_id (λ v. old k ≡ Some v) old new id None k w becomes there (λ h. absurd (cc)) (λ h. h)
 
+-- the number of bios that an extent has
+pub few_of : (e : Extent) (w : Waiting) → e ≡ extent_of w.bios → e.bios ≤ length w.bios
+few_of e w is = let same : e.bios ≡ length w.bios = ap (λ (x : Extent). x.bios) is in omega (arith, same)
+
 module _ (at : Extent → Place) (old new : Found) (id : ℕ) (heads now : Heads) (others after : Others) where
   -- a request more
-  pub edge_entered : (w : Waiting) (spot : Spot) (sectors : ℕ) → IsEdge at old heads others → old id ≡ None → spot ≡ (at (extent_of w.bios), id) → sectors ≡ sectors_of w.bios → Adds (spots_of heads others) spot (spots_of now after) → (HasHeads heads others → HasHeads now after) → Lowers heads spot.0.1 sectors now → Becomes old id (Some w) new → IsEdge at new now after
-  edge_entered w spot sectors edge none is has adds headed lowers becomes = record {
+  pub edge_entered : (w : Waiting) (spot : Spot) (sectors bios : ℕ) → IsEdge at old heads others → old id ≡ None → spot ≡ (at (extent_of w.bios), id) → sectors ≡ sectors_of w.bios → bios ≤ length w.bios → Adds (spots_of heads others) spot (spots_of now after) → (HasHeads heads others → HasHeads now after) → Lowers heads spot.0 sectors bios now → Becomes old id (Some w) new → IsEdge at new now after
+  edge_entered w spot sectors bios edge none is has few adds headed lowers becomes = record {
     spots = entered at old new id (spots_of heads others) (spots_of now after) w edge.spots none (subst (λ (q : Spot). Adds (spots_of heads others) q (spots_of now after)) is adds) becomes;
     headed = headed edge.headed;
-    least = λ k v h there said. by_id (λ u. now (at (extent_of u.bios)).1 ≡ Some h → h.least ≤ sectors_of u.bios) old new id (Some w) k v becomes there
+    least = λ k v h there said. by_id (λ u. now (at (extent_of u.bios)) ≡ Some h → AtMost h (sectors_of u.bios) (length u.bios)) old new id (Some w) k v becomes there
         (λ own here.
         let same : w ≡ v = cc in
-        let place : (at (extent_of v.bios)).1 ≡ spot.0.1 = ap (λ (u : Waiting). (at (extent_of u.bios)).1) (sym same) ∙ ap (λ (q : Spot). q.0.1) (sym is) in
-        let low : h.least ≤ sectors = (lowers (at (extent_of v.bios)).1 h here).0 place in
+        let place : at (extent_of v.bios) ≡ spot.0 = ap (λ (u : Waiting). at (extent_of u.bios)) (sym same) ∙ ap (λ (q : Spot). q.0) (sym is) in
+        let low : AtMost h sectors bios = (lowers (at (extent_of v.bios)) h here).0 place in
         let size : sectors ≡ sectors_of v.bios = has ∙ ap (λ (u : Waiting). sectors_of u.bios) same in
-        omega (arith, low, size))
-        (λ was here. still_least at old heads now others spot.0.1 sectors k v h edge lowers was here) said;
+        let long : length w.bios ≡ length v.bios = ap (λ (u : Waiting). length u.bios) same in
+        most_then h sectors bios (sectors_of v.bios) (length v.bios) low (omega (arith, size)) (omega (arith, long, few)))
+        (λ was here. still_least at old heads now others spot.0 sectors bios k v h edge lowers was here) said;
   }
 
   -- a request less
@@ -69,61 +73,58 @@ module _ (at : Extent → Place) (old new : Found) (id : ℕ) (heads now : Heads
     spots = taken at old new id (spots_of heads others) (spots_of now after) w edge.spots found (subst (λ (q : Spot). TakesOne (spots_of heads others) q (spots_of now after)) is takes (standing at old (spots_of heads others) id w edge.spots found)) becomes;
     headed = headed edge.headed;
     least = λ k v h there said.
-        let g = keeps (at (extent_of v.bios)).1 h said in
-        let before : g.0.least ≤ sectors_of v.bios = edge.least k v g.0 (apart old new id k v becomes there) g.1 in
-        let same : h.least ≡ g.0.least = g.2 in
-        omega (arith, before, same);
+        let g = keeps (at (extent_of v.bios)) h said in
+        most_of h g.0 (sectors_of v.bios) (length v.bios) g.2 (edge.least k v g.0 (apart old new id k v becomes there) g.1);
   }
 
   -- nothing is changed
-  pub edge_kept : IsEdge at old heads others → ((k : ℕ) → new k ≡ old k) → ((k : ℕ) → now k ≡ heads k) → Keeps others after → IsEdge at new now after
+  pub edge_kept : IsEdge at old heads others → ((k : ℕ) → new k ≡ old k) → ((k : Place) → now k ≡ heads k) → Keeps others after → IsEdge at new now after
   edge_kept edge same heads_same others_same = record {
     spots = kept at old new (spots_of heads others) (spots_of now after) edge.spots same
-        (λ q. ap (λ o. cond (is_head o q) true (after q)) (heads_same q.0.1) ∙ ap (cond (is_head (heads q.0.1) q) true) (others_same q));
-    headed = λ q there. subst IsSome (sym (heads_same q.0.1)) (edge.headed q (sym (others_same q) ∙ there));
-    least = λ k w h there said. edge.least k w h (sym (same k) ∙ there) (sym (heads_same (at (extent_of w.bios)).1) ∙ said);
+        (λ q. ap (λ o. cond (is_head o q) true (after q)) (heads_same q.0) ∙ ap (cond (is_head (heads q.0) q) true) (others_same q));
+    headed = λ q there. subst IsSome (sym (heads_same q.0)) (edge.headed q (sym (others_same q) ∙ there));
+    least = λ k w h there said. edge.least k w h (sym (same k) ∙ there) (sym (heads_same (at (extent_of w.bios))) ∙ said);
   }
 
 -- a request grows at its other side
-pub edge_stayed : (at : Extent → Place) (old new : Found) (id : ℕ) (heads : Heads) (others : Others) (v w : Waiting) → IsEdge at old heads others → old id ≡ Some v → at (extent_of v.bios) ≡ at (extent_of w.bios) → sectors_of v.bios ≤ sectors_of w.bios → Becomes old id (Some w) new → IsEdge at new heads others
-edge_stayed at old new id heads others v w edge found same grows becomes = record {
+pub edge_stayed : (at : Extent → Place) (old new : Found) (id : ℕ) (heads : Heads) (others : Others) (v w : Waiting) → IsEdge at old heads others → old id ≡ Some v → at (extent_of v.bios) ≡ at (extent_of w.bios) → sectors_of v.bios ≤ sectors_of w.bios → length v.bios ≤ length w.bios → Becomes old id (Some w) new → IsEdge at new heads others
+edge_stayed at old new id heads others v w edge found same grows longer becomes = record {
   spots = stayed at old new id (spots_of heads others) v w edge.spots found same becomes;
   headed = edge.headed;
-  least = λ k u h there said. by_id (λ x. heads (at (extent_of x.bios)).1 ≡ Some h → h.least ≤ sectors_of x.bios) old new id (Some w) k u becomes there
+  least = λ k u h there said. by_id (λ x. heads (at (extent_of x.bios)) ≡ Some h → AtMost h (sectors_of x.bios) (length x.bios)) old new id (Some w) k u becomes there
       (λ own here.
       let one : w ≡ u = cc in
-      let before : h.least ≤ sectors_of v.bios = edge.least id v h found (ap (λ (p : Place). heads p.1) same ∙ ap (λ (x : Waiting). heads (at (extent_of x.bios)).1) one ∙ here) in
+      let before : AtMost h (sectors_of v.bios) (length v.bios) = edge.least id v h found (ap (λ (p : Place). heads p) same ∙ ap (λ (x : Waiting). heads (at (extent_of x.bios))) one ∙ here) in
       let size : sectors_of w.bios ≡ sectors_of u.bios = ap (λ (x : Waiting). sectors_of x.bios) one in
-      omega (arith, before, size, grows))
+      let long : length w.bios ≡ length u.bios = ap (λ (x : Waiting). length x.bios) one in
+      most_then h (sectors_of v.bios) (length v.bios) (sectors_of u.bios) (length u.bios) before (omega (arith, size, grows)) (omega (arith, long, longer)))
       (λ was here. edge.least k u h was here) said;
 }
 
 -- ---- a spot is put in and another taken out
 
-module _ (at : Extent → Place) (old new : Found) (id : ℕ) (heads mid now : Heads) (others more after : Others) (spot : Spot) (sectors : ℕ) (edge : IsEdge at old heads others)
-    (headed : HasHeads heads others → HasHeads mid more) (lowers : Lowers heads spot.0.1 sectors mid) (headed_then : HasHeads mid more → HasHeads now after) (keeps : KeepsLeast mid now) where
+module _ (at : Extent → Place) (old new : Found) (id : ℕ) (heads mid now : Heads) (others more after : Others) (spot : Spot) (sectors bios : ℕ) (edge : IsEdge at old heads others)
+    (headed : HasHeads heads others → HasHeads mid more) (lowers : Lowers heads spot.0 sectors bios mid) (headed_then : HasHeads mid more → HasHeads now after) (keeps : KeepsLeast mid now) where
   -- those of the other requests are as before
-  others_least : (k : ℕ) (v : Waiting) (h : Head) → old k ≡ Some v → now (at (extent_of v.bios)).1 ≡ Some h → h.least ≤ sectors_of v.bios
+  others_least : (k : ℕ) (v : Waiting) (h : Head) → old k ≡ Some v → now (at (extent_of v.bios)) ≡ Some h → AtMost h (sectors_of v.bios) (length v.bios)
   others_least k v h there said =
-      let g = keeps (at (extent_of v.bios)).1 h said in
-      let before : g.0.least ≤ sectors_of v.bios = still_least at old heads mid others spot.0.1 sectors k v g.0 edge lowers there g.1 in
-      let same : h.least ≡ g.0.least = g.2 in
-      omega (arith, before, same)
+      let g = keeps (at (extent_of v.bios)) h said in
+      most_of h g.0 (sectors_of v.bios) (length v.bios) g.2 (still_least at old heads mid others spot.0 sectors bios k v g.0 edge lowers there g.1)
 
   -- the request of the id lies at the spot after
-  pub edge_moved : (w : Waiting) → AreSpots at new (spots_of now after) → spot.0 ≡ at (extent_of w.bios) → sectors ≡ sectors_of w.bios → Becomes old id (Some w) new → IsEdge at new now after
-  edge_moved w spots place has becomes = record {
+  pub edge_moved : (w : Waiting) → AreSpots at new (spots_of now after) → spot.0 ≡ at (extent_of w.bios) → sectors ≡ sectors_of w.bios → bios ≤ length w.bios → Becomes old id (Some w) new → IsEdge at new now after
+  edge_moved w spots place has few becomes = record {
     spots = spots;
     headed = headed_then (headed edge.headed);
-    least = λ k v h there said. by_id (λ u. now (at (extent_of u.bios)).1 ≡ Some h → h.least ≤ sectors_of u.bios) old new id (Some w) k v becomes there
+    least = λ k v h there said. by_id (λ u. now (at (extent_of u.bios)) ≡ Some h → AtMost h (sectors_of u.bios) (length u.bios)) old new id (Some w) k v becomes there
         (λ own here.
         let one : w ≡ v = cc in
-        let g = keeps (at (extent_of v.bios)).1 h here in
-        let at_spot : (at (extent_of v.bios)).1 ≡ spot.0.1 = ap (λ (u : Waiting). (at (extent_of u.bios)).1) (sym one) ∙ ap (λ (p : Place). p.1) (sym place) in
-        let low : g.0.least ≤ sectors = (lowers (at (extent_of v.bios)).1 g.0 g.1).0 at_spot in
-        let same : h.least ≡ g.0.least = g.2 in
+        let g = keeps (at (extent_of v.bios)) h here in
+        let at_spot : at (extent_of v.bios) ≡ spot.0 = ap (λ (u : Waiting). at (extent_of u.bios)) (sym one) ∙ sym place in
+        let low : AtMost g.0 sectors bios = (lowers (at (extent_of v.bios)) g.0 g.1).0 at_spot in
         let size : sectors ≡ sectors_of v.bios = has ∙ ap (λ (u : Waiting). sectors_of u.bios) one in
-        omega (arith, low, same, size))
+        let long : length w.bios ≡ length v.bios = ap (λ (u : Waiting). length u.bios) one in
+        most_then h sectors bios (sectors_of v.bios) (length v.bios) (most_of h g.0 sectors bios g.2 low) (omega (arith, size)) (omega (arith, long, few)))
         (λ was here. others_least k v h was here) said;
   }
 
@@ -136,7 +137,7 @@ module _ (at : Extent → Place) (old new : Found) (id : ℕ) (heads mid now : H
   }
 
 -- no requests
-pub edge_empty : (at : Extent → Place) (found : Found) (heads : Heads) (others : Others) → ((k : ℕ) → found k ≡ None) → ((k : ℕ) → heads k ≡ None) → ((q : Spot) → others q ≡ false) → IsEdge at found heads others
+pub edge_empty : (at : Extent → Place) (found : Found) (heads : Heads) (others : Others) → ((k : ℕ) → found k ≡ None) → ((k : Place) → heads k ≡ None) → ((q : Spot) → others q ≡ false) → IsEdge at found heads others
 edge_empty at found heads others none no_head no_other = record {
   spots = λ p id. nothing heads others no_head no_other (p, id) ∙ ap (is_placed at p) (sym (none id));
   headed = λ q there. absurd (let a : true ≡ false = sym there ∙ no_other q in cc);
@@ -147,6 +148,14 @@ pub edges_kept : {A : Type 0} (old new : Found) (e : Edges A) → IsEdges old e 
 edges_kept old new e edges same = record {
   firsts = edge_kept first_at old new 0 (heads_in e.firsts) (heads_in e.firsts) (others_in e.firsts) (others_in e.firsts) edges.firsts same (λ k. refl) (λ q. refl);
   ends = edge_kept end_at old new 0 (heads_in e.ends) (heads_in e.ends) (others_in e.ends) (others_in e.ends) edges.ends same (λ k. refl) (λ q. refl);
+}
+
+-- where a first spot is refused nothing is changed
+pub first_refused : {A T E : Type 0} (r : Result T E) (e : Edges A) (f : Spots A) (id : ℕ) → ((p : Place) → heads_in f p ≡ heads_in e.firsts p) → Keeps (others_in e.firsts) (others_in f) → OnErr r ((old : Found) → IsEdges old e → old id ≡ None → IsEdges old (record { firsts = f; ends = e.ends }))
+first_refused (Ok x) e f id same others = tt
+first_refused (Err x) e f id same others = λ old edges none. record {
+  firsts = edge_kept first_at old old id (heads_in e.firsts) (heads_in f) (others_in e.firsts) (others_in f) edges.firsts (λ k. refl) same others;
+  ends = edges.ends;
 }
 
 -- ---- found for a while, and after no more

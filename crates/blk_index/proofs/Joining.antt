@@ -1,8 +1,9 @@
 -- An index, and the edges of its requests, once one of these is joined.
-use Rattle.std.proofs.Common.{◌≡◌, ◌<◌, ◌+◌, ◌++◌, ℕ, true, [], ◌∷◌, length, sym, ap, subst, ◌∙◌, refl, arith, Some, List}
+use Rattle.std.proofs.Common.{◌≡◌, ◌<◌, ◌≤◌, ◌+◌, ◌++◌, ℕ, true, [], ◌∷◌, length, sym, ap, subst, ◌∙◌, refl, arith, Some, List}
 use Rattle.std.specs.Prelude.{Result, Ok, Err, OnOk, OnErr}
 use Rattle.std.specs.FinMap as map
 use Rattle.std.proofs.lemmas.List.Sums.{sum_by-append}
+use Rattle.std.proofs.lemmas.List.{length-append}
 use Rattle.blk_bio.specs.declared.request.Side.{Side}
 use Rattle.blk_bio.specs.declared.request.Side.TheVariants.{Back, Front}
 use Rattle.blk_bio.specs.Bios.{Bio}
@@ -28,6 +29,11 @@ pub sectors_both : (bios newcomer : List Bio) (side : Side) → sectors_of (join
 sectors_both bios newcomer Back = sum_by-append (λ b. b.sectors) bios newcomer
 sectors_both bios newcomer Front = let e : sectors_of (newcomer ++ bios) ≡ sectors_of newcomer + sectors_of bios = sum_by-append (λ b. b.sectors) newcomer bios in omega (arith, e)
 
+-- the bios of both
+pub bios_both : (bios newcomer : List Bio) (side : Side) → length (joined bios newcomer side) ≡ length bios + length newcomer
+bios_both bios newcomer Back = length-append bios newcomer
+bios_both bios newcomer Front = let e : length (newcomer ++ bios) ≡ length newcomer + length bios = length-append newcomer bios in omega (arith, e)
+
 -- two that have sectors have two bios together at least
 not_one_both : (xs ys : List Bio) → 0 < sectors_of xs → 0 < sectors_of ys → length (xs ++ ys) ≡ 1 → ⊥
 not_one_both [] ys some more one = omega arith
@@ -43,12 +49,14 @@ not_one bios newcomer Front some more one = not_one_both newcomer bios more some
 pub back_stays : (limits : Limits) (old new : Found) (id at : ℕ) (newcomer : List Bio) (v : Waiting) (heads : Heads) (others : Others) → IsEdge first_at old heads others → old id ≡ Some v → Fits limits v.bios newcomer Back → Becomes old id (Some (joined_waiting Back at newcomer v)) new → IsEdge first_at new heads others
 back_stays limits old new id at newcomer v heads others edge found fits becomes =
     let size = sectors_both v.bios newcomer Back in
-    edge_stayed first_at old new id heads others v (joined_waiting Back at newcomer v) edge found (first_place limits v.bios newcomer fits) (omega (arith, size)) becomes
+    let long = bios_both v.bios newcomer Back in
+    edge_stayed first_at old new id heads others v (joined_waiting Back at newcomer v) edge found (first_place limits v.bios newcomer fits) (omega (arith, size)) (omega (arith, long)) becomes
 
 pub front_stays : (limits : Limits) (old new : Found) (id at : ℕ) (newcomer : List Bio) (v : Waiting) (heads : Heads) (others : Others) → IsEdge end_at old heads others → old id ≡ Some v → Fits limits v.bios newcomer Front → Becomes old id (Some (joined_waiting Front at newcomer v)) new → IsEdge end_at new heads others
 front_stays limits old new id at newcomer v heads others edge found fits becomes =
     let size = sectors_both v.bios newcomer Front in
-    edge_stayed end_at old new id heads others v (joined_waiting Front at newcomer v) edge found (end_place limits v.bios newcomer fits) (omega (arith, size)) becomes
+    let long = bios_both v.bios newcomer Front in
+    edge_stayed end_at old new id heads others v (joined_waiting Front at newcomer v) edge found (end_place limits v.bios newcomer fits) (omega (arith, size)) (omega (arith, long)) becomes
 
 module _ (limits : Limits) (m n : Pending) (id at : ℕ) (side : Side) (newcomer : List Bio) where
   fits_so : HasFit limits (map.get m) newcomer id side → (join : IsJoined at newcomer m id side n) → Fits limits join.waiting.bios newcomer side
@@ -83,31 +91,34 @@ module _ {T E : Type 0} (limits : Limits) (m n : Pending) (id at : ℕ) (side : 
 
 -- ---- the edge at the side of the join
 
-module _ (limits : Limits) (old new : Found) (heads mid now : Heads) (others more after : Others) (id s held at : ℕ) (side : Side) (newcomer : List Bio) (v : Waiting) (spot : Spot) (edge : IsEdge (at_of side) old heads others) (found : old id ≡ Some v) (fit : HasFit limits old newcomer id side)
-    (some : 0 < s) (range : first_of newcomer + s ≡ last_of newcomer) (is : spot ≡ (at_of side (extent_of newcomer), id)) (adds : Adds (spots_of heads others) spot (spots_of mid more)) (headed : HasHeads heads others → HasHeads mid more) (lowers : Lowers heads spot.0.1 (held + s) mid)
+module _ (limits : Limits) (old new : Found) (heads mid now : Heads) (others more after : Others) (id s held bios at : ℕ) (side : Side) (newcomer : List Bio) (v : Waiting) (spot : Spot) (edge : IsEdge (at_of side) old heads others) (found : old id ≡ Some v) (fit : HasFit limits old newcomer id side)
+    (some : 0 < s) (range : first_of newcomer + s ≡ last_of newcomer) (is : spot ≡ (at_of side (extent_of newcomer), id)) (adds : Adds (spots_of heads others) spot (spots_of mid more)) (headed : HasHeads heads others → HasHeads mid more) (lowers : Lowers heads spot.0 (held + s) bios mid)
     (headed_then : HasHeads mid more → HasHeads now after) (keeps : KeepsLeast mid now) where
   -- where the request lay it lies still
   was_there : (last : Spot) → last ≡ (at_of side (extent_of v.bios), id) → spots_of mid more last ≡ true
   was_there last last_is = there_still (spots_of heads others) (spots_of mid more) spot last adds
       (ap (spots_of heads others) last_is ∙ standing (at_of side) old (spots_of heads others) id v edge.spots found)
 
-  pub edge_join : (w : Waiting) (last : Spot) → s ≡ sectors_of newcomer → held ≡ sectors_of v.bios → last ≡ (at_of side (extent_of v.bios), id) → w ≡ joined_waiting side at newcomer v → TakesOne (spots_of mid more) last (spots_of now after) → Becomes old id (Some w) new → IsEdge (at_of side) new now after
-  edge_join w last s_is held_is last_is w_is takes becomes =
+  pub edge_join : (w : Waiting) (last : Spot) → s ≡ sectors_of newcomer → held ≡ sectors_of v.bios → bios ≤ length v.bios + length newcomer → last ≡ (at_of side (extent_of v.bios), id) → w ≡ joined_waiting side at newcomer v → TakesOne (spots_of mid more) last (spots_of now after) → Becomes old id (Some w) new → IsEdge (at_of side) new now after
+  edge_join w last s_is held_is few last_is w_is takes becomes =
       let fits = fits_it limits old id side newcomer v found fit in
       let both : sectors_of (joined v.bios newcomer side) ≡ sectors_of v.bios + sectors_of newcomer = sectors_both v.bios newcomer side in
       let size : sectors_of w.bios ≡ sectors_of (joined v.bios newcomer side) = ap (λ (x : Waiting). sectors_of x.bios) w_is in
-      edge_moved (at_of side) old new id heads mid now others more after spot (held + s) edge headed lowers headed_then keeps w
+      let both_long : length (joined v.bios newcomer side) ≡ length v.bios + length newcomer = bios_both v.bios newcomer side in
+      let long : length w.bios ≡ length (joined v.bios newcomer side) = ap (λ (x : Waiting). length x.bios) w_is in
+      edge_moved (at_of side) old new id heads mid now others more after spot (held + s) bios edge headed lowers headed_then keeps w
       (spots_moved limits old new (spots_of heads others) (spots_of mid more) (spots_of now after) id s at side newcomer v w spot last edge.spots found fit some range is last_is w_is adds (takes (was_there last last_is)) becomes)
       (ap (λ (q : Spot). q.0) is ∙ sym (at_joined limits v.bios newcomer s side fits some range) ∙ ap (λ (x : Waiting). at_of side (extent_of x.bios)) (sym w_is))
       (omega (arith, s_is, held_is, both, size))
+      (omega (arith, few, both_long, long))
       becomes
 
   -- the same where the join says its side
-  pub edge_joined : (other : Side) (w : Waiting) (last : Spot) → s ≡ sectors_of newcomer → held ≡ sectors_of v.bios → last ≡ (at_of side (extent_of v.bios), id) → ((t : Side) → Fits limits v.bios newcomer t → t ≡ other) → w ≡ joined_waiting other at newcomer v → TakesOne (spots_of mid more) last (spots_of now after) → Becomes old id (Some w) new → IsEdge (at_of side) new now after
-  edge_joined other w last s_is held_is last_is only join takes becomes =
-      edge_join w last s_is held_is last_is (join ∙ ap (λ (t : Side). joined_waiting t at newcomer v) (sym (only side (fits_it limits old id side newcomer v found fit)))) takes becomes
+  pub edge_joined : (other : Side) (w : Waiting) (last : Spot) → s ≡ sectors_of newcomer → held ≡ sectors_of v.bios → bios ≤ length v.bios + length newcomer → last ≡ (at_of side (extent_of v.bios), id) → ((t : Side) → Fits limits v.bios newcomer t → t ≡ other) → w ≡ joined_waiting other at newcomer v → TakesOne (spots_of mid more) last (spots_of now after) → Becomes old id (Some w) new → IsEdge (at_of side) new now after
+  edge_joined other w last s_is held_is few last_is only join takes becomes =
+      edge_join w last s_is held_is few last_is (join ∙ ap (λ (t : Side). joined_waiting t at newcomer v) (sym (only side (fits_it limits old id side newcomer v found fit)))) takes becomes
 
   pub edge_unjoined : TakesOne (spots_of mid more) spot (spots_of now after) → ((k : ℕ) → new k ≡ old k) → IsEdge (at_of side) new now after
   edge_unjoined takes same =
-      edge_undone (at_of side) old new id heads mid now others more after spot (held + s) edge headed lowers headed_then keeps adds takes
+      edge_undone (at_of side) old new id heads mid now others more after spot (held + s) bios edge headed lowers headed_then keeps adds takes
       (new_spot limits old (spots_of heads others) id s side newcomer v spot edge.spots found fit some range is) same

@@ -81,6 +81,12 @@ is_equal Less h = cc
 is_equal Equal h = refl
 is_equal Greater h = cc
 
+pub place_true : (a b : Place) → eq_by_cmp place_cmp a b ≡ true → a ≡ b
+place_true a b h = same_place a b (is_equal (place_cmp a b) h)
+
+pub place_eq : (a b : Place) → a ≡ b → eq_by_cmp place_cmp a b ≡ true
+place_eq a b e = ap (λ (x : Place). eq_by_cmp place_cmp a x) (sym e) ∙ ap is_eq (place_itself a)
+
 both_equal : (o r : Ordering) → is_eq (ordering_then o r) ≡ true → (o ≡ Equal) × (r ≡ Equal)
 both_equal Less r h = cc
 both_equal Equal Less h = cc

@@ -1,38 +1,48 @@
--- Spots of which one of each sector stands by itself.
-use Rattle.std.proofs.Common.{◌≡◌, ◌<◌, ◌≤◌, ℕ, Bool, true, false, cond, sym, ap, subst, ◌∙◌, refl, arith, Some, None, Option}
+-- Spots of which one of each place stands by itself.
+use Rattle.std.proofs.Common.{◌≡◌, ◌<◌, ◌≤◌, ℕ, Bool, true, false, cond, sym, ap, subst, ◌∙◌, refl, arith, min, Some, None, Option}
 use Rattle.std.specs.Prelude.{IfSome, IfNone, IsSome, nat_eq, nat_lt, if◌then◌else◌}
 use Rattle.std.specs.Ordering.{nat_cmp, eq_by_cmp, ordering_then, is_eq}
-use Rattle.std.specs.Cmp.{nat_cmp_total, tied_itself}
+use Rattle.std.specs.Cmp.{nat_cmp_total, tied_itself, unsigned_tied}
 use Rattle.std.proofs.lemmas.Bool.{eqb-true, eq-eqb}
 use borrow.Author.Tests.{ltb-true, ltb-false}
 use Rattle.blk_index.specs.declared.spots.Head.{Head}
-use Rattle.blk_index.specs.Inside.Spots.{Place, Spot, spot_cmp, Adds, Takes, TakesOne, IsBelow, IsNewestSpot, NoSpot, greater_of}
-use Rattle.blk_index.specs.Inside.Heads.{is_head, spots_of, HasHeads, Lowers, KeepsLeast, Sets}
-use Rattle.blk_index.proofs.Listed.{same_spot, place_itself}
+use Rattle.blk_index.specs.Inside.Spots.{Place, Spot, place_cmp, spot_cmp, Adds, Takes, TakesOne, IsBelow, IsNewestSpot, NoSpot, greater_of}
+use Rattle.blk_index.specs.Inside.Heads.{is_head, spots_of, AtMost, HasHeads, Lowers, KeepsLeast, Sets}
+use Rattle.blk_index.proofs.Listed.{same_spot, place_itself, place_true, place_eq}
 
 abbrev pub Heads : Type 0
-Heads = ℕ → Option Head
+Heads = Place → Option Head
 
 abbrev pub Others : Type 0
 Others = Spot → Bool
 
--- the spot that stands by itself
-pub head_spot : (h : Head) (q : Spot) → is_head (Some h) q ≡ true → h.spot ≡ q
-head_spot h q is = same_spot h.spot q is
+-- what is said of a head is no more than that
+pub itself_most : (h : Head) → AtMost h h.least h.fewest
+itself_most h = record { sectors_low = omega arith; bios_low = omega arith }
 
--- spots of two sectors are two
-other_sector : (s q : Spot) → nat_eq s.0.1 q.0.1 ≡ false → eq_by_cmp spot_cmp s q ≡ false
-other_sector s q e = elim (eq_by_cmp spot_cmp s q) as (λ b. eq_by_cmp spot_cmp s q ≡ b → b ≡ false) [
+pub most_then : (h : Head) (a b s n : ℕ) → AtMost h a b → a ≤ s → b ≤ n → AtMost h s n
+most_then h a b s n most low less = record { sectors_low = omega (arith, most.sectors_low, low); bios_low = omega (arith, most.bios_low, less) }
+
+pub most_of : (h g : Head) (s n : ℕ) → AtMost h g.least g.fewest → AtMost g s n → AtMost h s n
+most_of h g s n most than = most_then h g.least g.fewest s n most than.sectors_low than.bios_low
+
+-- spots of two places are two
+other_place : (s q : Spot) → eq_by_cmp place_cmp s.0 q.0 ≡ false → eq_by_cmp spot_cmp s q ≡ false
+other_place s q e = elim (eq_by_cmp spot_cmp s q) as (λ b. eq_by_cmp spot_cmp s q ≡ b → b ≡ false) [
   | true ↦ λ h.
-      let same : s.0.1 ≡ q.0.1 = ap (λ (x : Spot). x.0.1) (same_spot s q h) in
-      let a : true ≡ false = sym (eq-eqb s.0.1 q.0.1 same) ∙ e in cc
+      let same : s.0 ≡ q.0 = ap (λ (x : Spot). x.0) (same_spot s q h) in
+      let a : true ≡ false = sym (place_eq s.0 q.0 same) ∙ e in cc
   | false ↦ λ _. refl
 ] refl
 
--- and spots of two ids
-other_id : (p : Place) (a k : ℕ) → (a ≡ k → ⊥) → eq_by_cmp spot_cmp (p, a) (p, k) ≡ false
-other_id p a k differ = elim (eq_by_cmp spot_cmp (p, a) (p, k)) as (λ b. eq_by_cmp spot_cmp (p, a) (p, k) ≡ b → b ≡ false) [
-  | true ↦ λ h. absurd (differ (ap (λ (x : Spot). x.1) (same_spot (p, a) (p, k) h)))
+-- and spots of one place are told apart by their ids
+at_place : (s q : Spot) → s.0 ≡ q.0 → eq_by_cmp spot_cmp s q ≡ nat_eq s.1 q.1
+at_place s q same =
+    ap (λ o. is_eq (ordering_then o (nat_cmp s.1 q.1))) (ap (place_cmp s.0) (sym same) ∙ place_itself s.0) ∙ unsigned_tied s.1 q.1
+
+other_id : (a k : ℕ) → (a ≡ k → ⊥) → nat_eq a k ≡ false
+other_id a k differ = elim (nat_eq a k) as (λ b. nat_eq a k ≡ b → b ≡ false) [
+  | true ↦ λ h. absurd (differ (eqb-true a k h))
   | false ↦ λ _. refl
 ] refl
 
@@ -53,110 +63,115 @@ or_true : (b : Bool) → cond b true true ≡ true
 or_true true = refl
 or_true false = refl
 
--- a spot that is there has a head at its sector
-pub head_there : (heads : Heads) (others : Others) (q : Spot) → HasHeads heads others → spots_of heads others q ≡ true → IsSome (heads q.0.1)
-head_there heads others q headed there = elim (heads q.0.1) as (λ o. heads q.0.1 ≡ o → IsSome o) [
+-- a spot that is there has a head at its place
+pub head_there : (heads : Heads) (others : Others) (q : Spot) → HasHeads heads others → spots_of heads others q ≡ true → IsSome (heads q.0)
+head_there heads others q headed there = elim (heads q.0) as (λ o. heads q.0 ≡ o → IsSome o) [
   | Some h ↦ λ _. refl
   | None ↦ λ e.
       let other : others q ≡ true = sym (ap (λ o. cond (is_head o q) true (others q)) e) ∙ there in
       subst IsSome e (headed q other)
 ] refl
 
-pub nothing : (heads : Heads) (others : Others) → ((k : ℕ) → heads k ≡ None) → ((q : Spot) → others q ≡ false) → (q : Spot) → spots_of heads others q ≡ false
-nothing heads others none empty q = ap (λ o. cond (is_head o q) true (others q)) (none q.0.1) ∙ empty q
+pub nothing : (heads : Heads) (others : Others) → ((k : Place) → heads k ≡ None) → ((q : Spot) → others q ≡ false) → (q : Spot) → spots_of heads others q ≡ false
+nothing heads others none empty q = ap (λ o. cond (is_head o q) true (others q)) (none q.0) ∙ empty q
 
--- ---- a head is set at a sector, or taken away
+-- ---- a head is set at a place, or taken away
 
 -- what is set twice is what is set last
-pub set_twice : (old mid now : Heads) (sector : ℕ) (x y : Option Head) → Sets old sector x mid → Sets mid sector y now → Sets old sector y now
-set_twice old mid now sector x y first second k =
-    second k ∙ ap (cond (nat_eq sector k) y) (first k)
-    ∙ elim (nat_eq sector k) as (λ b. cond b y (cond b x (old k)) ≡ cond b y (old k)) [ true ↦ refl | false ↦ refl ]
+pub set_twice : (old mid now : Heads) (p : Place) (x y : Option Head) → Sets old p x mid → Sets mid p y now → Sets old p y now
+set_twice old mid now p x y first second k =
+    second k ∙ ap (cond (eq_by_cmp place_cmp p k) y) (first k)
+    ∙ elim (eq_by_cmp place_cmp p k) as (λ b. cond b y (cond b x (old k)) ≡ cond b y (old k)) [ true ↦ refl | false ↦ refl ]
 
 -- and what was there is there again
-pub set_again : (old mid now : Heads) (sector : ℕ) (x y : Option Head) → Sets old sector x mid → Sets mid sector y now → old sector ≡ y → (k : ℕ) → now k ≡ old k
-set_again old mid now sector x y first second was k =
-    set_twice old mid now sector x y first second k
-    ∙ elim (nat_eq sector k) as (λ b. nat_eq sector k ≡ b → cond b y (old k) ≡ old k) [
-      | true ↦ λ e. sym was ∙ ap old (eqb-true sector k e)
+pub set_again : (old mid now : Heads) (p : Place) (x y : Option Head) → Sets old p x mid → Sets mid p y now → old p ≡ y → (k : Place) → now k ≡ old k
+set_again old mid now p x y first second was k =
+    set_twice old mid now p x y first second k
+    ∙ elim (eq_by_cmp place_cmp p k) as (λ b. eq_by_cmp place_cmp p k ≡ b → cond b y (old k) ≡ old k) [
+      | true ↦ λ e. sym was ∙ ap old (place_true p k e)
       | false ↦ λ _. refl
     ] refl
 
-pub set_there : (old mid : Heads) (sector : ℕ) (h : Head) → Sets old sector (Some h) mid → IsSome (mid sector)
-set_there old mid sector h sets = subst IsSome (sym (sets sector ∙ ap (λ b. cond b (Some h) (old sector)) (eq-eqb sector sector refl))) refl
+pub set_there : (old mid : Heads) (p : Place) (h : Head) → Sets old p (Some h) mid → IsSome (mid p)
+set_there old mid p h sets = subst IsSome (sym (sets p ∙ ap (λ b. cond b (Some h) (old p)) (place_eq p p refl))) refl
 
 -- nothing is taken from nothing
 pub taken_none : (has : Others) (s : Spot) → ((q : Spot) → has q ≡ false) → Takes has s has
 taken_none has s none q = none q ∙ elim (eq_by_cmp spot_cmp s q) as (λ b. false ≡ cond b false (has q)) [ true ↦ refl | false ↦ sym (none q) ]
 
--- a spot more, where its sector had none
-module _ (heads now : Heads) (others : Others) (s : Spot) (sectors : ℕ) (none : heads s.0.1 ≡ None) (sets : Sets heads s.0.1 (Some (record { spot = s; least = sectors })) now) where
+-- a spot more, where its place had none
+module _ (heads now : Heads) (others : Others) (s : Spot) (sectors bios : ℕ) (none : heads s.0 ≡ None) (sets : Sets heads s.0 (Some (record { id = s.1; least = sectors; fewest = bios })) now) where
   pub first_adds : Adds (spots_of heads others) s (spots_of now others)
   first_adds q =
-      ap (λ o. cond (is_head o q) true (others q)) (sets q.0.1)
-      ∙ elim (nat_eq s.0.1 q.0.1) as (λ b. nat_eq s.0.1 q.0.1 ≡ b → cond (is_head (cond b (Some (record { spot = s; least = sectors })) (heads q.0.1)) q) true (others q) ≡ cond (eq_by_cmp spot_cmp s q) true (spots_of heads others q)) [
+      ap (λ o. cond (is_head o q) true (others q)) (sets q.0)
+      ∙ elim (eq_by_cmp place_cmp s.0 q.0) as (λ b. eq_by_cmp place_cmp s.0 q.0 ≡ b → cond (is_head (cond b (Some (record { id = s.1; least = sectors; fewest = bios })) (heads q.0)) q) true (others q) ≡ cond (eq_by_cmp spot_cmp s q) true (spots_of heads others q)) [
         | true ↦ λ e.
-            let at : heads q.0.1 ≡ None = ap heads (sym (eqb-true s.0.1 q.0.1 e)) ∙ none in
-            ap (λ o. cond (eq_by_cmp spot_cmp s q) true (cond (is_head o q) true (others q))) (sym at)
-        | false ↦ λ e. ap (λ b. cond b true (spots_of heads others q)) (sym (other_sector s q e))
+            let at : heads q.0 ≡ None = ap heads (sym (place_true s.0 q.0 e)) ∙ none in
+            ap (λ b. cond b true (others q)) (sym (at_place s q (place_true s.0 q.0 e)))
+            ∙ ap (λ o. cond (eq_by_cmp spot_cmp s q) true (cond (is_head o q) true (others q))) (sym at)
+        | false ↦ λ e. ap (λ b. cond b true (spots_of heads others q)) (sym (other_place s q e))
       ] refl
 
   pub first_heads : HasHeads heads others → HasHeads now others
   first_heads headed q there =
       let was = headed q there in
-      subst IsSome (sym (sets q.0.1)) (elim (nat_eq s.0.1 q.0.1) as (λ b. IsSome (cond b (Some (record { spot = s; least = sectors })) (heads q.0.1))) [ true ↦ refl | false ↦ was ])
+      subst IsSome (sym (sets q.0)) (elim (eq_by_cmp place_cmp s.0 q.0) as (λ b. IsSome (cond b (Some (record { id = s.1; least = sectors; fewest = bios })) (heads q.0))) [ true ↦ refl | false ↦ was ])
 
-  pub first_lowers : Lowers heads s.0.1 sectors now
+  pub first_lowers : Lowers heads s.0 sectors bios now
   first_lowers k h is =
-      elim (nat_eq s.0.1 k) as (λ b. nat_eq s.0.1 k ≡ b → cond b (Some (record { spot = s; least = sectors })) (heads k) ≡ Some h → (k ≡ s.0.1 → h.least ≤ sectors) × ((g : Head) → heads k ≡ Some g → h.least ≤ g.least)) [
+      elim (eq_by_cmp place_cmp s.0 k) as (λ b. eq_by_cmp place_cmp s.0 k ≡ b → cond b (Some (record { id = s.1; least = sectors; fewest = bios })) (heads k) ≡ Some h → (k ≡ s.0 → AtMost h sectors bios) × ((g : Head) → heads k ≡ Some g → AtMost h g.least g.fewest)) [
         | true ↦ λ e own.
-            let one : (let x : Head = record { spot = s; least = sectors } in x) ≡ h = cc in
-            let same : sectors ≡ h.least = ap (λ (x : Head). x.least) one in
-            (λ _. omega (arith, same), λ g there. absurd (let a : None ≡ Some g = sym none ∙ ap heads (eqb-true s.0.1 k e) ∙ there in cc))
+            let one : (let x : Head = record { id = s.1; least = sectors; fewest = bios } in x) ≡ h = cc in
+            (λ _. subst (λ (x : Head). AtMost x sectors bios) one (itself_most (record { id = s.1; least = sectors; fewest = bios })), λ g there. absurd (let a : None ≡ Some g = sym none ∙ ap heads (place_true s.0 k e) ∙ there in cc))
         | false ↦ λ e own. (
-          λ at. absurd (let a : true ≡ false = sym (eq-eqb s.0.1 k (sym at)) ∙ e in cc),
-          λ g there. let one : Some h ≡ Some g = sym own ∙ there in let same : h ≡ g = cc in let least : h.least ≡ g.least = ap (λ (x : Head). x.least) same in omega (arith, least),
+          λ at. absurd (let a : true ≡ false = sym (place_eq s.0 k (sym at)) ∙ e in cc),
+          λ g there. let one : Some h ≡ Some g = sym own ∙ there in let same : h ≡ g = cc in subst (λ (x : Head). AtMost h x.least x.fewest) same (itself_most h),
         )
       ] refl (sym (sets k) ∙ is)
 
--- a spot more, where its sector has a head, which may be said to have fewer sectors
-module _ (heads now : Heads) (others more : Others) (s : Spot) (head after : Head) (sectors : ℕ) (is_head_now : heads s.0.1 ≡ Some head) (spot_stays : after.spot ≡ head.spot) (low : after.least ≤ sectors) (lower : after.least ≤ head.least) (adds : Adds others s more) (sets : Sets heads s.0.1 (Some after) now) where
-  same_head : (q : Spot) → is_head (now q.0.1) q ≡ is_head (heads q.0.1) q
+-- a spot more, where its place has a head, which may be said to have fewer sectors or bios
+module _ (heads now : Heads) (others more : Others) (s : Spot) (head after : Head) (is_head_now : heads s.0 ≡ Some head) (id_stays : after.id ≡ head.id) (adds : Adds others s more) (sets : Sets heads s.0 (Some after) now) where
+  same_head : (q : Spot) → is_head (now q.0) q ≡ is_head (heads q.0) q
   same_head q =
-      ap (λ o. is_head o q) (sets q.0.1)
-      ∙ elim (nat_eq s.0.1 q.0.1) as (λ b. nat_eq s.0.1 q.0.1 ≡ b → is_head (cond b (Some after) (heads q.0.1)) q ≡ is_head (heads q.0.1) q) [
-        | true ↦ λ e. ap (λ (x : Spot). eq_by_cmp spot_cmp x q) spot_stays ∙ ap (λ o. is_head o q) (sym is_head_now ∙ ap heads (eqb-true s.0.1 q.0.1 e))
+      ap (λ o. is_head o q) (sets q.0)
+      ∙ elim (eq_by_cmp place_cmp s.0 q.0) as (λ b. eq_by_cmp place_cmp s.0 q.0 ≡ b → is_head (cond b (Some after) (heads q.0)) q ≡ is_head (heads q.0) q) [
+        | true ↦ λ e. ap (λ (n : ℕ). nat_eq n q.1) id_stays ∙ ap (λ o. is_head o q) (sym is_head_now ∙ ap heads (place_true s.0 q.0 e))
         | false ↦ λ _. refl
       ] refl
 
   pub more_adds : Adds (spots_of heads others) s (spots_of now more)
-  more_adds q = ap (λ b. cond b true (more q)) (same_head q) ∙ ap (cond (is_head (heads q.0.1) q) true) (adds q) ∙ either_way (is_head (heads q.0.1) q) (eq_by_cmp spot_cmp s q) (others q)
+  more_adds q = ap (λ b. cond b true (more q)) (same_head q) ∙ ap (cond (is_head (heads q.0) q) true) (adds q) ∙ either_way (is_head (heads q.0) q) (eq_by_cmp spot_cmp s q) (others q)
 
   pub more_heads : HasHeads heads others → HasHeads now more
   more_heads headed q there =
-      subst IsSome (sym (sets q.0.1))
-      (elim (nat_eq s.0.1 q.0.1) as (λ b. nat_eq s.0.1 q.0.1 ≡ b → IsSome (cond b (Some after) (heads q.0.1))) [
+      subst IsSome (sym (sets q.0))
+      (elim (eq_by_cmp place_cmp s.0 q.0) as (λ b. eq_by_cmp place_cmp s.0 q.0 ≡ b → IsSome (cond b (Some after) (heads q.0))) [
         | true ↦ λ _. refl
-        | false ↦ λ e. headed q (sym (adds q ∙ ap (λ b. cond b true (others q)) (other_sector s q e)) ∙ there)
+        | false ↦ λ e. headed q (sym (adds q ∙ ap (λ b. cond b true (others q)) (other_place s q e)) ∙ there)
       ] refl)
 
-  pub more_lowers : Lowers heads s.0.1 sectors now
-  more_lowers k h is =
-      elim (nat_eq s.0.1 k) as (λ b. nat_eq s.0.1 k ≡ b → cond b (Some after) (heads k) ≡ Some h → (k ≡ s.0.1 → h.least ≤ sectors) × ((g : Head) → heads k ≡ Some g → h.least ≤ g.least)) [
+  pub more_lowers : (sectors bios : ℕ) → after.least ≤ sectors → after.fewest ≤ bios → after.least ≤ head.least → after.fewest ≤ head.fewest → Lowers heads s.0 sectors bios now
+  more_lowers sectors bios under few lower fewer k h is =
+      let low : AtMost after sectors bios = record { sectors_low = under; bios_low = few } in
+      let less : AtMost after head.least head.fewest = record { sectors_low = lower; bios_low = fewer } in
+      elim (eq_by_cmp place_cmp s.0 k) as (λ b. eq_by_cmp place_cmp s.0 k ≡ b → cond b (Some after) (heads k) ≡ Some h → (k ≡ s.0 → AtMost h sectors bios) × ((g : Head) → heads k ≡ Some g → AtMost h g.least g.fewest)) [
         | true ↦ λ e own.
-            let one : after ≡ h = cc in
-            let same : after.least ≡ h.least = ap (λ (x : Head). x.least) one in (
-              λ _. omega (arith, same, low),
+            let one : after ≡ h = cc in (
+              λ _. subst (λ (x : Head). AtMost x sectors bios) one low,
               λ g there.
-                  let two : Some head ≡ Some g = sym is_head_now ∙ ap heads (eqb-true s.0.1 k e) ∙ there in
+                  let two : Some head ≡ Some g = sym is_head_now ∙ ap heads (place_true s.0 k e) ∙ there in
                   let met : head ≡ g = cc in
-                  let least : head.least ≡ g.least = ap (λ (x : Head). x.least) met in omega (arith, same, least, lower),
+                  subst (λ (x : Head). AtMost x g.least g.fewest) one (subst (λ (x : Head). AtMost after x.least x.fewest) met less),
             )
         | false ↦ λ e own. (
-          λ at. absurd (let a : true ≡ false = sym (eq-eqb s.0.1 k (sym at)) ∙ e in cc),
-          λ g there. let one : Some h ≡ Some g = sym own ∙ there in let same : h ≡ g = cc in let least : h.least ≡ g.least = ap (λ (x : Head). x.least) same in omega (arith, least),
+          λ at. absurd (let a : true ≡ false = sym (place_eq s.0 k (sym at)) ∙ e in cc),
+          λ g there. let one : Some h ≡ Some g = sym own ∙ there in let same : h ≡ g = cc in subst (λ (x : Head). AtMost h x.least x.fewest) same (itself_most h),
         )
       ] refl (sym (sets k) ∙ is)
+
+-- of two numbers the lesser
+pub lesser : (a b m : ℕ) → m ≡ min a b → (m ≤ a) × (m ≤ b)
+lesser a b m is = (omega (arith, is), omega (arith, is))
 
 -- ---- a spot less
 
@@ -168,11 +183,11 @@ module _ (heads : Heads) (others less : Others) (s : Spot) (takes : Takes others
     | false ↦ λ h. h
   ] (sym (takes q) ∙ there)
 
-  pub less_others : is_head (heads s.0.1) s ≡ false → Takes (spots_of heads others) s (spots_of heads less)
+  pub less_others : is_head (heads s.0) s ≡ false → Takes (spots_of heads others) s (spots_of heads less)
   less_others here q =
-      ap (cond (is_head (heads q.0.1) q) true) (takes q)
-      ∙ elim (eq_by_cmp spot_cmp s q) as (λ b. eq_by_cmp spot_cmp s q ≡ b → cond (is_head (heads q.0.1) q) true (cond b false (others q)) ≡ cond b false (spots_of heads others q)) [
-        | true ↦ λ e. ap (λ (x : Spot). cond (is_head (heads x.0.1) x) true false) (sym (same_spot s q e)) ∙ ap (λ b. cond b true false) here
+      ap (cond (is_head (heads q.0) q) true) (takes q)
+      ∙ elim (eq_by_cmp spot_cmp s q) as (λ b. eq_by_cmp spot_cmp s q ≡ b → cond (is_head (heads q.0) q) true (cond b false (others q)) ≡ cond b false (spots_of heads others q)) [
+        | true ↦ λ e. ap (λ (x : Spot). cond (is_head (heads x.0) x) true false) (sym (same_spot s q e)) ∙ ap (λ b. cond b true false) here
         | false ↦ λ _. refl
       ] refl
 
@@ -180,58 +195,59 @@ module _ (heads : Heads) (others less : Others) (s : Spot) (takes : Takes others
   less_heads headed q there = headed q (still q there)
 
   pub less_keeps : KeepsLeast heads heads
-  less_keeps k h is = (h, is, refl)
+  less_keeps k h is = (h, is, itself_most h)
 
   -- the head, where another takes its place or none is there
-  module _ (now : Heads) (least : ℕ) (x : Option Head) (own : heads s.0.1 ≡ Some (record { spot = s; least = least })) (sets : Sets heads s.0.1 x now) (follows : (q : Spot) → q.0.1 ≡ s.0.1 → cond (is_head x q) true (less q) ≡ less q) (found : IfNone x ((q : Spot) → q.0.1 ≡ s.0.1 → less q ≡ false)) (keeps : IfSome x (λ h. h.least ≡ least)) where
+  module _ (now : Heads) (head : Head) (x : Option Head) (own : heads s.0 ≡ Some head) (id_is : head.id ≡ s.1) (sets : Sets heads s.0 x now) (follows : (q : Spot) → q.0 ≡ s.0 → cond (is_head x q) true (less q) ≡ less q) (found : IfNone x ((q : Spot) → q.0 ≡ s.0 → less q ≡ false)) (keeps : IfSome x (λ h. AtMost h head.least head.fewest)) where
     pub head_takes : Takes (spots_of heads others) s (spots_of now less)
     head_takes q =
-        ap (λ o. cond (is_head o q) true (less q)) (sets q.0.1)
-        ∙ elim (nat_eq s.0.1 q.0.1) as (λ b. nat_eq s.0.1 q.0.1 ≡ b → cond (is_head (cond b x (heads q.0.1)) q) true (less q) ≡ cond (eq_by_cmp spot_cmp s q) false (spots_of heads others q)) [
+        ap (λ o. cond (is_head o q) true (less q)) (sets q.0)
+        ∙ elim (eq_by_cmp place_cmp s.0 q.0) as (λ b. eq_by_cmp place_cmp s.0 q.0 ≡ b → cond (is_head (cond b x (heads q.0)) q) true (less q) ≡ cond (eq_by_cmp spot_cmp s q) false (spots_of heads others q)) [
           | true ↦ λ e.
-              let at : s.0.1 ≡ q.0.1 = eqb-true s.0.1 q.0.1 e in
+              let at : s.0 ≡ q.0 = place_true s.0 q.0 e in
               follows q (sym at) ∙ takes q ∙ gone (eq_by_cmp spot_cmp s q) (others q)
+              ∙ ap (λ b. cond (eq_by_cmp spot_cmp s q) false (cond b true (others q))) (at_place s q at ∙ ap (λ (n : ℕ). nat_eq n q.1) (sym id_is))
               ∙ ap (λ o. cond (eq_by_cmp spot_cmp s q) false (cond (is_head o q) true (others q))) (sym own ∙ ap heads at)
           | false ↦ λ e.
-              let other = other_sector s q e in
-              ap (cond (is_head (heads q.0.1) q) true) (takes q ∙ ap (λ b. cond b false (others q)) other) ∙ ap (λ b. cond b false (spots_of heads others q)) (sym other)
+              let other = other_place s q e in
+              ap (cond (is_head (heads q.0) q) true) (takes q ∙ ap (λ b. cond b false (others q)) other) ∙ ap (λ b. cond b false (spots_of heads others q)) (sym other)
         ] refl
 
-    has_one : (q : Spot) → q.0.1 ≡ s.0.1 → less q ≡ true → IsSome x
-    has_one q at there = elim x as (λ o. IfNone o ((q : Spot) → q.0.1 ≡ s.0.1 → less q ≡ false) → IsSome o) [
+    has_one : (q : Spot) → q.0 ≡ s.0 → less q ≡ true → IsSome x
+    has_one q at there = elim x as (λ o. IfNone o ((q : Spot) → q.0 ≡ s.0 → less q ≡ false) → IsSome o) [
       | Some h ↦ λ _. refl
       | None ↦ λ none. absurd (let a : true ≡ false = sym there ∙ none q at in cc)
     ] found
 
     pub head_heads : HasHeads heads others → HasHeads now less
     head_heads headed q there =
-        subst IsSome (sym (sets q.0.1))
-        (elim (nat_eq s.0.1 q.0.1) as (λ b. nat_eq s.0.1 q.0.1 ≡ b → IsSome (cond b x (heads q.0.1))) [
-          | true ↦ λ e. has_one q (sym (eqb-true s.0.1 q.0.1 e)) there
+        subst IsSome (sym (sets q.0))
+        (elim (eq_by_cmp place_cmp s.0 q.0) as (λ b. eq_by_cmp place_cmp s.0 q.0 ≡ b → IsSome (cond b x (heads q.0))) [
+          | true ↦ λ e. has_one q (sym (place_true s.0 q.0 e)) there
           | false ↦ λ _. headed q (still q there)
         ] refl)
 
-    kept_by : (h : Head) → x ≡ Some h → h.least ≡ least
-    kept_by h is = subst (λ (o : Option Head). IfSome o (λ h. h.least ≡ least)) is keeps
+    kept_by : (h : Head) → x ≡ Some h → AtMost h head.least head.fewest
+    kept_by h is = subst (λ (o : Option Head). IfSome o (λ h. AtMost h head.least head.fewest)) is keeps
 
     pub head_keeps : KeepsLeast heads now
     head_keeps k h is =
-        elim (nat_eq s.0.1 k) as (λ b. nat_eq s.0.1 k ≡ b → cond b x (heads k) ≡ Some h → (g : Head) × (heads k ≡ Some g) × (h.least ≡ g.least)) [
-          | true ↦ λ e own_now. (record { spot = s; least = least }, ap heads (sym (eqb-true s.0.1 k e)) ∙ own, kept_by h own_now)
-          | false ↦ λ e own_now. (h, own_now, refl)
+        elim (eq_by_cmp place_cmp s.0 k) as (λ b. eq_by_cmp place_cmp s.0 k ≡ b → cond b x (heads k) ≡ Some h → (g : Head) × (heads k ≡ Some g) × AtMost h g.least g.fewest) [
+          | true ↦ λ e own_now. (head, ap heads (sym (place_true s.0 k e)) ∙ own, kept_by h own_now)
+          | false ↦ λ e own_now. (h, own_now, itself_most h)
         ] refl (sym (sets k) ∙ is)
 
 -- where there are no others, one that is there is the head
-module _ (heads now : Heads) (others : Others) (s : Spot) (empty : (q : Spot) → others q ≡ false) (sets : Sets heads s.0.1 None now) where
-  by_head : (h : Head) → heads s.0.1 ≡ Some h → (b : Bool) → eq_by_cmp spot_cmp h.spot s ≡ b → cond b true (others s) ≡ true → Takes (spots_of heads others) s (spots_of now others)
+module _ (heads now : Heads) (others : Others) (s : Spot) (empty : (q : Spot) → others q ≡ false) (sets : Sets heads s.0 None now) where
+  by_head : (h : Head) → heads s.0 ≡ Some h → (b : Bool) → nat_eq h.id s.1 ≡ b → cond b true (others s) ≡ true → Takes (spots_of heads others) s (spots_of now others)
   by_head h own true is there =
-      let same : h.spot ≡ s = same_spot h.spot s is in
-      head_takes heads others others s (taken_none others s empty) now h.least None (own ∙ ap (λ (q : Spot). let x : Option Head = Some (record { spot = q; least = h.least }) in x) same) sets (λ q at. refl) (λ q at. empty q) tt
+      let same : h.id ≡ s.1 = eqb-true h.id s.1 is in
+      head_takes heads others others s (taken_none others s empty) now h None own same sets (λ q at. refl) (λ q at. empty q) tt
   by_head h own false is there = absurd (let a : true ≡ false = sym there ∙ empty s in cc)
 
   pub only_takes : TakesOne (spots_of heads others) s (spots_of now others)
-  only_takes = elim (heads s.0.1) as (λ o. heads s.0.1 ≡ o → cond (is_head o s) true (others s) ≡ true → Takes (spots_of heads others) s (spots_of now others)) [
-    | Some h ↦ λ own there. by_head h own (eq_by_cmp spot_cmp h.spot s) refl there
+  only_takes = elim (heads s.0) as (λ o. heads s.0 ≡ o → cond (is_head o s) true (others s) ≡ true → Takes (spots_of heads others) s (spots_of now others)) [
+    | Some h ↦ λ own there. by_head h own (nat_eq h.id s.1) refl there
     | None ↦ λ _ there. absurd (let a : true ≡ false = sym there ∙ empty s in cc)
   ] refl
 
@@ -239,9 +255,9 @@ module _ (heads now : Heads) (others : Others) (s : Spot) (empty : (q : Spot) �
   only_heads headed q there = absurd (let a : true ≡ false = sym there ∙ empty q in cc)
 
   pub only_keeps : KeepsLeast heads now
-  only_keeps k h is = elim (nat_eq s.0.1 k) as (λ b. cond b None (heads k) ≡ Some h → (g : Head) × (heads k ≡ Some g) × (h.least ≡ g.least)) [
+  only_keeps k h is = elim (eq_by_cmp place_cmp s.0 k) as (λ b. cond b None (heads k) ≡ Some h → (g : Head) × (heads k ≡ Some g) × AtMost h g.least g.fewest) [
     | true ↦ λ e. absurd (cc)
-    | false ↦ λ e. (h, e, refl)
+    | false ↦ λ e. (h, e, itself_most h)
   ] (sym (sets k) ∙ is)
 
 -- a spot that was put in is there, and so are those that were there before
@@ -251,41 +267,36 @@ added_there has more s adds = adds s ∙ ap (λ b. cond b true (has s)) (itself 
 pub there_still : (has more : Others) (s q : Spot) → Adds has s more → has q ≡ true → more q ≡ true
 there_still has more s q adds there = adds q ∙ ap (cond (eq_by_cmp spot_cmp s q) true) there ∙ or_true (eq_by_cmp spot_cmp s q)
 
--- another spot of the sector that is there follows as the head
-pub follows_other : (less : Others) (other : Spot) (least : ℕ) → less other ≡ true → (q : Spot) → cond (is_head (Some (record { spot = other; least = least })) q) true (less q) ≡ less q
-follows_other less other least there q = elim (eq_by_cmp spot_cmp other q) as (λ b. eq_by_cmp spot_cmp other q ≡ b → cond b true (less q) ≡ less q) [
-  | true ↦ λ e. sym there ∙ ap less (same_spot other q e)
+-- another spot of the place that is there follows as the head
+pub follows_other : (less : Others) (p : Place) (next : Head) (other : Spot) → other.0 ≡ p → next.id ≡ other.1 → less other ≡ true → (q : Spot) → q.0 ≡ p → cond (is_head (Some next) q) true (less q) ≡ less q
+follows_other less p next other of_it id_is there q at = elim (nat_eq next.id q.1) as (λ b. nat_eq next.id q.1 ≡ b → cond b true (less q) ≡ less q) [
+  | true ↦ λ e.
+      let place : other.0 ≡ q.0 = of_it ∙ sym at in
+      let id : other.1 ≡ q.1 = sym id_is ∙ eqb-true next.id q.1 e in
+      sym there ∙ ap (λ (x : Place). less (x, other.1)) place ∙ ap (λ (n : ℕ). less (q.0, n)) id
   | false ↦ λ _. refl
 ] refl
-
-one_way : (has : Others) (sector : ℕ) (b : Bool) (n k : ℕ) → ((k : ℕ) → has ((false, sector), k) ≡ false) → ((k : ℕ) → has ((true, sector), k) ≡ false) → n ≡ sector → has ((b, n), k) ≡ false
-one_way has sector false n k reads writes at = ap (λ (m : ℕ). has ((false, m), k)) at ∙ reads k
-one_way has sector true n k reads writes at = ap (λ (m : ℕ). has ((true, m), k)) at ∙ writes k
-
-pub both_ways : (has : Others) (sector : ℕ) (r : Option Spot) → ((k : ℕ) → has ((false, sector), k) ≡ false) → IfNone r ((k : ℕ) → has ((true, sector), k) ≡ false) → IfNone r ((q : Spot) → q.0.1 ≡ sector → has q ≡ false)
-both_ways has sector (Some x) reads writes = tt
-both_ways has sector None reads writes = λ q at. one_way has sector q.0.0 q.0.1 q.1 reads writes at
 
 -- ---- the newest
 
 module _ (heads : Heads) (others : Others) (p : Place) (below : Option ℕ) where
   abbrev HeadIs : ℕ → Type 0
-  HeadIs a = (h : Head) × (heads p.1 ≡ Some h) × (h.spot ≡ (p, a))
+  HeadIs a = (h : Head) × (heads p ≡ Some h) × (h.id ≡ a)
 
-  as_head : (a k : ℕ) → HeadIs a → is_head (heads p.1) (p, k) ≡ eq_by_cmp spot_cmp (p, a) (p, k)
-  as_head a k is = ap (λ o. is_head o (p, k)) is.1 ∙ ap (λ (x : Spot). eq_by_cmp spot_cmp x (p, k)) is.2
+  as_head : (a k : ℕ) → HeadIs a → is_head (heads p) (p, k) ≡ nat_eq a k
+  as_head a k is = ap (λ o. is_head o (p, k)) is.1 ∙ ap (λ (n : ℕ). nat_eq n k) is.2
 
   by_single : (a : ℕ) → HeadIs a → spots_of heads others (p, a) ≡ true
-  by_single a is = ap (λ b. cond b true (others (p, a))) (as_head a a is ∙ itself p a)
+  by_single a is = ap (λ b. cond b true (others (p, a))) (as_head a a is ∙ eq-eqb a a refl)
 
   by_others : (b : ℕ) → others (p, b) ≡ true → spots_of heads others (p, b) ≡ true
-  by_others b is = ap (cond (is_head (heads p.1) (p, b)) true) is ∙ or_true (is_head (heads p.1) (p, b))
+  by_others b is = ap (cond (is_head (heads p) (p, b)) true) is ∙ or_true (is_head (heads p) (p, b))
 
-  by_neither : (k : ℕ) → is_head (heads p.1) (p, k) ≡ false → others (p, k) ≡ false → spots_of heads others (p, k) ≡ false
+  by_neither : (k : ℕ) → is_head (heads p) (p, k) ≡ false → others (p, k) ≡ false → spots_of heads others (p, k) ≡ false
   by_neither k one other = ap (λ b. cond b true (others (p, k))) one ∙ other
 
-  not_single : (a k : ℕ) → HeadIs a → (a ≡ k → ⊥) → is_head (heads p.1) (p, k) ≡ false
-  not_single a k is differ = as_head a k is ∙ other_id p a k differ
+  not_single : (a k : ℕ) → HeadIs a → (a ≡ k → ⊥) → is_head (heads p) (p, k) ≡ false
+  not_single a k is differ = as_head a k is ∙ other_id a k differ
 
   newer_of_two : (a b : ℕ) (less : Bool) → nat_lt a b ≡ less → HeadIs a → IsBelow below a → IsNewestSpot others p below b → IsNewestSpot (spots_of heads others) p below (if less then b else a)
   newer_of_two a b true e is low best =
@@ -303,7 +314,7 @@ module _ (heads : Heads) (others : Others) (p : Place) (below : Option ℕ) wher
         newest = λ k after under. by_neither k (not_single a k is (λ same. omega (arith, after, same))) (best.newest k (omega (arith, ge, after)) under);
       }
 
-  pub newest_of_both : (one other : Option ℕ) → IfSome one (λ id. HeadIs id) → IfSome one (IsBelow below) → IfNone one ((id : ℕ) → IsBelow below id → is_head (heads p.1) (p, id) ≡ false) → IfSome other (IsNewestSpot others p below) → IfNone other (NoSpot others p below) → IfSome (greater_of one other) (IsNewestSpot (spots_of heads others) p below) × IfNone (greater_of one other) (NoSpot (spots_of heads others) p below)
+  pub newest_of_both : (one other : Option ℕ) → IfSome one (λ id. HeadIs id) → IfSome one (IsBelow below) → IfNone one ((id : ℕ) → IsBelow below id → is_head (heads p) (p, id) ≡ false) → IfSome other (IsNewestSpot others p below) → IfNone other (NoSpot others p below) → IfSome (greater_of one other) (IsNewestSpot (spots_of heads others) p below) × IfNone (greater_of one other) (NoSpot (spots_of heads others) p below)
   newest_of_both None None is low none best empty = (tt, λ k under. by_neither k (none k under) (empty k under))
   newest_of_both None (Some b) is low none best empty = (
     record {

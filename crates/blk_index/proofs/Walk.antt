@@ -1,6 +1,6 @@
 -- The search for a join among the requests that a newcomer touches.
-use Rattle.std.proofs.Common.{◌≡◌, ◌<◌, ◌≤◌, ◌+◌, ◌⊎◌, inl, inr, ℕ, Bool, true, false, sym, ap, subst, ◌∙◌, refl, arith, Some, None, Option, List}
-use Rattle.std.specs.Prelude.{if◌then◌else◌, IfSome, IfNone, IsTrue, nat_lt}
+use Rattle.std.proofs.Common.{◌≡◌, ◌<◌, ◌≤◌, ◌+◌, ◌⊎◌, inl, inr, ℕ, Bool, true, false, sym, ap, subst, ◌∙◌, refl, arith, Some, None, Option, List, [], ◌∷◌}
+use Rattle.std.specs.Prelude.{length, if◌then◌else◌, IfSome, IfNone, IsTrue, nat_lt}
 use Rattle.std.specs.Option.{OnSome}
 use Rattle.std.specs.Ordering.{eq_by_cmp, is_eq}
 use Rattle.std.proofs.lemmas.Bool.{cases_eq, cases_lt}
@@ -21,7 +21,7 @@ use Rattle.blk_index.specs.Inside.Heads.{HasNone, IsEdge}
 use Rattle.blk_index.proofs.Listed.{place_itself}
 use Rattle.blk_index.proofs.Spotted.{Heads, Others}
 use Rattle.blk_index.proofs.Edged.{head_at, some_head}
-use Rattle.blk_index.proofs.Joining.{sectors_both, not_one}
+use Rattle.blk_index.proofs.Joining.{sectors_both, bios_both, not_one}
 use Rattle.blk_index.proofs.Indexed.{Found, Has}
 
 -- what fits is touched
@@ -69,22 +69,35 @@ module _ (limits : Limits) (waiting : Found) (has : Has) (newcomer : List Bio) (
     | inr high ↦ passed k w high there fits
   ]
 
--- where each request at the place has too many sectors, none fits
-too_many : (limits : Limits) (bios newcomer : List Bio) (side : Side) (room least : ℕ) → limits.max_sectors ≤ room + sectors_of newcomer → 0 < sectors_of newcomer → room < least → least ≤ sectors_of bios → Fits limits bios newcomer side → ⊥
-too_many limits bios newcomer side room least wide some above has fits =
+-- where each request at the place has too many sectors, or each too many bios, none fits
+some_bios : (bios : List Bio) → 0 < sectors_of bios → 0 < length bios
+some_bios [] some = omega arith
+some_bios (b ∷ bs) some = omega arith
+
+too_many : (limits : Limits) (bios newcomer : List Bio) (side : Side) (room room_bios least fewest : ℕ) → limits.max_sectors ≤ room + sectors_of newcomer → limits.max_segments ≤ room_bios + length newcomer → 0 < sectors_of newcomer → (room < least) ⊎ (room_bios < fewest) → least ≤ sectors_of bios → fewest ≤ length bios → Fits limits bios newcomer side → ⊥
+too_many limits bios newcomer side room room_bios least fewest wide wide_bios some above has long fits =
     let size : sectors_of (joined bios newcomer side) ≡ sectors_of bios + sectors_of newcomer = sectors_both bios newcomer side in
-    elim fits.within [
-      | inl one ↦ not_one bios newcomer side (omega (arith, above, has)) some one
-      | inr both ↦ let most : sectors_of (joined bios newcomer side) ≤ limits.max_sectors = both.0 in omega (arith, size, most, wide, above, has)
+    let number : length (joined bios newcomer side) ≡ length bios + length newcomer = bios_both bios newcomer side in
+    let more : 0 < length newcomer = some_bios newcomer some in
+    elim above [
+      | inl low ↦ elim fits.within [
+        | inl one ↦ not_one bios newcomer side (omega (arith, low, has)) some one
+        | inr both ↦ let most : sectors_of (joined bios newcomer side) ≤ limits.max_sectors = both.0 in omega (arith, size, most, wide, low, has)
+      ]
+      | inr low ↦ elim fits.within [
+        | inl one ↦ omega (arith, one, number, more, low, long)
+        | inr both ↦ let most : length (joined bios newcomer side) ≤ limits.max_segments = both.1 in omega (arith, number, most, wide_bios, low, long)
+      ]
     ]
 
-pub none_room : (limits : Limits) (waiting : Found) (heads : Heads) (others : Others) (newcomer : List Bio) (side : Side) (p : Place) (room : ℕ) → IsEdge (at_of side) waiting heads others → p ≡ touch_of side (extent_of newcomer) → limits.max_sectors ≤ room + sectors_of newcomer → 0 < sectors_of newcomer → HasNone (heads p.1) room → (k : ℕ) (w : Waiting) → waiting k ≡ Some w → Fits limits w.bios newcomer side → ⊥
-none_room limits waiting heads others newcomer side p room edge is wide some none k w there fits =
+pub none_room : (limits : Limits) (waiting : Found) (heads : Heads) (others : Others) (newcomer : List Bio) (side : Side) (p : Place) (room room_bios : ℕ) → IsEdge (at_of side) waiting heads others → p ≡ touch_of side (extent_of newcomer) → limits.max_sectors ≤ room + sectors_of newcomer → limits.max_segments ≤ room_bios + length newcomer → 0 < sectors_of newcomer → HasNone (heads p) room room_bios → (k : ℕ) (w : Waiting) → waiting k ≡ Some w → Fits limits w.bios newcomer side → ⊥
+none_room limits waiting heads others newcomer side p room room_bios edge is wide wide_bios some none k w there fits =
     let place : at_of side (extent_of w.bios) ≡ p = touches limits w.bios newcomer side fits ∙ sym is in
-    let head = some_head (heads (at_of side (extent_of w.bios)).1) (head_at (at_of side) waiting heads others k w edge there) in
-    let here : heads p.1 ≡ Some head.0 = ap (λ (q : Place). heads q.1) (sym place) ∙ head.1 in
-    let above : room < head.0.least = subst (λ (o : Option Head). HasNone o room) here none in
-    too_many limits w.bios newcomer side room head.0.least wide some above (edge.least k w head.0 there head.1) fits
+    let head = some_head (heads (at_of side (extent_of w.bios))) (head_at (at_of side) waiting heads others k w edge there) in
+    let here : heads p ≡ Some head.0 = ap heads (sym place) ∙ head.1 in
+    let above : (room < head.0.least) ⊎ (room_bios < head.0.fewest) = subst (λ (o : Option Head). HasNone o room room_bios) here none in
+    let most = edge.least k w head.0 there head.1 in
+    too_many limits w.bios newcomer side room room_bios head.0.least head.0.fewest wide wide_bios some above most.sectors_low most.bios_low fits
 
 -- ---- of the newest at both sides the newer
 

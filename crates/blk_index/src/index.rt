@@ -1,6 +1,6 @@
 //! Requests that wait, by their ids and by where they begin and end.
 
-ghost use Rattle.std.specs.Prelude.{◌≡◌, ◌<◌, ◌≤◌, ◌^◌, ◌+◌, ◌↔◌, ℕ, Option, None, Some, true, false, IfOk, OnOk, IfErr, OnErr, IfSome, IfNone, IsSome, IsTrue};
+ghost use Rattle.std.specs.Prelude.{◌≡◌, ◌<◌, ◌≤◌, ◌^◌, ◌+◌, ◌↔◌, length, ℕ, Option, None, Some, true, false, IfOk, OnOk, IfErr, OnErr, IfSome, IfNone, IsSome, IsTrue};
 ghost use Rattle.std.specs.Option.{OnSome, option_copied};
 ghost use Rattle.std.specs.FinMap as map;
 ghost use Rattle.blk_bio.specs.declared.request.Side.{Side};
@@ -122,7 +122,8 @@ impl<A: Allocator + Clone> Index<A> {
     }
 
     /// The newest request that a newcomer fits, by its id, and the side. The front is tried only where `front` allows
-    /// it. Only requests that the newcomer touches are looked at, and none of these where each has too many sectors.
+    /// it. Only requests that the newcomer touches are looked at, and none of these where each has too many sectors, or each
+    /// too many bios.
     #[inline(always)]
     pub fn candidate(
         &self,
@@ -189,12 +190,17 @@ pub fn touched<A: Allocator + Clone>(side: Side, newcomer: &Request<A>) -> (bool
     }
 }
 
-/// How many sectors a request may have at most for a newcomer to fit it.
-pub fn room_beside<A: Allocator + Clone>(newcomer: &Request<A>, limits: &Limits) -> u64
-    ensures wide { limits.now.max_sectors ≤ result + sectors_of newcomer.now }
+/// How many sectors, and how many bios, a request may have at most for a newcomer to fit it.
+pub fn room_beside<A: Allocator + Clone>(newcomer: &Request<A>, limits: &Limits) -> (u64, u64)
+    ensures wide { limits.now.max_sectors ≤ result.0 + sectors_of newcomer.now }
+    ensures wide_bios { limits.now.max_segments ≤ result.1 + length newcomer.now }
     ensures some { 0 < sectors_of newcomer.now }
 {
-    limits.max_sectors().saturating_sub(newcomer.sectors())
+    let bios = newcomer.bios().len() as u64;
+    (
+        limits.max_sectors().saturating_sub(newcomer.sectors()),
+        limits.max_segments().saturating_sub(bios),
+    )
 }
 
 /// Whether a newcomer fits the request of an id at a side.
@@ -231,7 +237,8 @@ fn newest_of<A: Allocator + Clone>(
     ensures none { IfNone result (FitsNoneBy limits.now (map.get waiting.now) newcomer.now side) }
 {
     let place = touched(side, newcomer);
-    if !spots.may_have(place.1, room_beside(newcomer, limits)) {
+    let (room, room_bios) = room_beside(newcomer, limits);
+    if !spots.may_have(place, room, room_bios) {
         return None;
     }
     let mut below = None;
@@ -282,6 +289,13 @@ pub fn newer(back: Option<u64>, ahead: Option<u64>) -> Option<(u64, Side)>
     }
 }
 
+/// How many bios two requests have together, or the greatest number where they have more.
+pub fn bios_of(one: Extent, other: Extent) -> u64
+    ensures { result ≤ one.bios + other.bios }
+{
+    one.bios.saturating_add(other.bios)
+}
+
 /// Where a request lies at a side.
 pub fn spot_at(side: Side, extent: Extent, id: u64) -> Spot
     ensures { result ≡ (at_of side extent, id) }
@@ -316,7 +330,8 @@ fn join_in<A: Allocator + Clone>(
     };
     let before = extent_of(queued);
     let spot = spot_at(side, added, id);
-    let Ok(()) = spots.put(spot, sectors_of(queued) + sectors) else {
+    let bios = bios_of(before, added);
+    let Ok(()) = spots.put(spot, sectors_of(queued) + sectors, bios) else {
         return Err(newcomer);
     };
     match waiting.join(id, newcomer, now, limits) {

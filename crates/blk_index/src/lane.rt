@@ -13,7 +13,7 @@ ghost use Rattle.blk_index.specs.Inside.Heads.{IsEdge};
 ghost use Rattle.blk_index.specs.Lanes.{waiting_at, IsRising};
 ghost use Rattle.blk_sched.specs.Meaning.{Waiting};
 
-use crate::index::{extent_of, id_of, newer, room_beside, sectors_of, spot_at, touched};
+use crate::index::{bios_of, extent_of, id_of, newer, room_beside, sectors_of, spot_at, touched};
 use crate::spots::{Edges, Spots};
 use blk_bio::{Limits, Request, Side};
 use blk_sched::Queued;
@@ -109,7 +109,7 @@ impl<A: Allocator + Clone> Lane<A> {
 
     /// The newest of the requests that a newcomer fits, by its id, and the side. The front is tried only where `front`
     /// allows it. None exactly where it fits none of them at a side that may be tried. Only requests that the newcomer
-    /// touches are looked at, and none of these where each has too many sectors.
+    /// touches are looked at, and none of these where each has too many sectors, or each too many bios.
     #[inline(always)]
     pub fn candidate(
         &self,
@@ -269,7 +269,8 @@ fn newest_of<A: Allocator + Clone>(
     ensures none { IfNone result (FitsNoneBy limits.now (waiting_at entries.now.items) newcomer.now side) }
 {
     let place = touched(side, newcomer);
-    if !spots.may_have(place.1, room_beside(newcomer, limits)) {
+    let (room, room_bios) = room_beside(newcomer, limits);
+    if !spots.may_have(place, room, room_bios) {
         return None;
     }
     let mut below = None;
@@ -329,7 +330,8 @@ fn join_in<A: Allocator + Clone>(
     let before = extent_of(&entries[place]);
     let held = sectors_of(&entries[place]);
     let spot = spot_at(side, added, id);
-    let Ok(()) = spots.put(spot, held + sectors) else {
+    let bios = bios_of(before, added);
+    let Ok(()) = spots.put(spot, held + sectors, bios) else {
         return Err(newcomer);
     };
     let entry = &mut entries[place];

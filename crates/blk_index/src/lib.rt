@@ -3,10 +3,12 @@
 
 pub mod ages;
 pub mod firsts;
+pub mod heads;
 pub mod index;
 pub mod lane;
 pub mod places;
 pub mod shelf;
+pub mod sites;
 pub mod sorted;
 pub mod spots;
 pub mod starts;

@@ -1,22 +1,22 @@
 //! Where requests begin and end.
 
-ghost use Rattle.std.specs.Prelude.{◌≡◌, ◌<◌, ◌^◌, ◌+◌, ℕ, Option, None, Some, true, false, OnOk, OnErr, IfOk, IfSome, IfNone, IsSome, nat_eq};
-ghost use Rattle.std.specs.HashMap as hash;
+ghost use Rattle.std.specs.Prelude.{◌≡◌, ◌<◌, ◌^◌, ◌+◌, ℕ, Option, None, Some, true, false, OnOk, OnErr, IfOk, IfSome, IfNone};
 ghost use Rattle.std.specs.Bool.{OnFalse};
 ghost use Rattle.std.specs.Ordering.{is_lt, is_gt, eq_by_cmp};
 ghost use Rattle.std.specs.BTreeSet.{contains};
 ghost use Rattle.std.specs.declared.cmp.Ordering.TheVariants.{Less};
 ghost use Rattle.blk_index.specs.Inside.Spots.{Place, Spot, place_cmp, spot_cmp, is_write, first_at, end_at, Adds, Takes, TakesOne, Keeps, IsBelow, IsNewestSpot, NoSpot, upper_of, greater_of};
-ghost use Rattle.blk_index.specs.Inside.Heads.{is_head, Becomes, HasHeads, HasNone, Lowers, KeepsLeast, Sets};
+ghost use Rattle.blk_index.specs.Inside.Heads.{is_head, Becomes, HasHeads, HasNone, Lowers, KeepsLeast};
 ghost use Rattle.blk_index.specs.Inside.Edges.{heads_in, others_in, spots_in, IsEdges};
 ghost use Rattle.blk_sched.specs.Meaning.{Waiting};
 ghost use Rattle.blk_index.specs.declared.spots.Head.{Head};
 ghost use Rattle.blk_bio.specs.Requests.{sectors_of};
 ghost use Rattle.blk_bio.specs.Extents.{extent_of};
 
+use crate::heads::Heads;
 use blk_bio::{Dir, Extent};
 use std::alloc::{AllocError, Allocator, Global};
-use std::collections::{BTreeSet, HashMap};
+use std::collections::BTreeSet;
 use std::hash::{BuildHasherDefault, FoldHasher};
 
 /// A direction, as whether it writes, and a sector; and the id of a request.
@@ -104,65 +104,69 @@ pub fn newest_at<A: Allocator + Clone>(
     Some(id)
 }
 
-/// One of the spots at a sector, and how many sectors each request there has at least.
+/// One of the requests at a place, and how many sectors and bios each request there has at least.
 #[derive(Clone, Copy, Drop)]
 pub struct Head {
-    /// The spot.
-    pub spot: Spot,
-    /// No request at the sector has fewer sectors.
+    /// The id of the request.
+    pub id: u64,
+    /// No request at the place has fewer sectors.
     pub least: u64,
+    /// No request at the place has fewer bios.
+    pub fewest: u64,
 }
 
-/// Requests found by where they begin, or by where they end: one spot of each sector stands in a hash table, and what others
-/// there are of a sector in an ordered set.
+/// Requests found by where they begin, or by where they end: one spot of each place stands by itself, and what others
+/// there are of a place in an ordered set.
 #[derive(Drop)]
 pub struct Spots<A: Allocator = Global> {
-    heads: HashMap<u64, Head, Hashing, A>,
+    heads: Heads<A>,
     others: BTreeSet<Spot, A>,
 }
 
 impl<A: Allocator + Clone> Spots<A> {
     /// No spots. It takes no memory but for the allocators.
     pub fn new(alloc: A) -> Result<Spots<A>, AllocError>
-        ensures heads { IfOk result (λ s. (k : ℕ) → heads_in s k ≡ None) }
+        ensures heads { IfOk result (λ s. (p : Place) → heads_in s p ≡ None) }
         ensures others { IfOk result (λ s. (q : Spot) → others_in s q ≡ false) }
     {
         Ok(Spots {
-            heads: HashMap::new(alloc.clone()?),
+            heads: Heads::new(alloc.clone()?),
             others: BTreeSet::new(alloc),
         })
     }
 
-    /// Puts in the spot of a request that has so many sectors. On a refusal nothing is changed.
+    /// Puts in the spot of a request that has so many sectors and bios. On a refusal nothing is changed.
     #[inline(always)]
-    pub fn put(&mut self, spot: Spot, sectors: u64) -> Result<(), AllocError>
+    pub fn put(&mut self, spot: Spot, sectors: u64, bios: u64) -> Result<(), AllocError>
         ensures ok { OnOk result (Adds (spots_in self.old) spot (spots_in self.new)) }
         ensures heads { OnOk result (HasHeads (heads_in self.old) (others_in self.old) → HasHeads (heads_in self.new) (others_in self.new)) }
-        ensures least { OnOk result (Lowers (heads_in self.old) spot.0.1 sectors (heads_in self.new)) }
-        ensures same { OnErr result ((k : ℕ) → heads_in self.new k ≡ heads_in self.old k) }
+        ensures least { OnOk result (Lowers (heads_in self.old) spot.0 sectors bios (heads_in self.new)) }
+        ensures same { OnErr result ((p : Place) → heads_in self.new p ≡ heads_in self.old p) }
         ensures same_others { OnErr result (Keeps (others_in self.old) (others_in self.new)) }
     {
-        let ((_, sector), _) = spot;
+        let (place, id) = spot;
         let first = Head {
-            spot,
+            id,
             least: sectors,
+            fewest: bios,
         };
-        let Ok(found) = self.heads.insert(sector, first) else {
+        let Ok(found) = self.heads.put(place, first) else {
             return Err(AllocError);
         };
         let Some(head) = found else {
             return Ok(());
         };
-        // the sector has a head, which stays
+        // the place has a head, which stays
         let lower = Head {
-            spot: head.spot,
+            id: head.id,
             least: head.least.min(sectors),
+            fewest: head.fewest.min(bios),
         };
         let Ok(()) = put(&mut self.others, spot) else {
-            set_head(&mut self.heads, sector, head);
+            self.heads.set(place, head);
             return Err(AllocError);
         };
-        set_head(&mut self.heads, sector, lower);
+        self.heads.set(place, lower);
         Ok(())
     }
 
@@ -174,15 +178,14 @@ impl<A: Allocator + Clone> Spots<A> {
         ensures least { KeepsLeast (heads_in self.old) (heads_in self.new) }
     {
         if self.others.is_empty() {
-            // so it is the one that stands in the hash table
-            let ((_, sector), _) = spot;
-            let _ = self.heads.remove(&sector);
+            // so it is the one that stands by itself
+            self.heads.remove(spot.0);
             return;
         }
         self.take_among(spot);
     }
 
-    /// The same, where a sector may have several.
+    /// The same, where a place may have several.
     #[cold]
     #[inline(never)]
     fn take_among(&mut self, spot: Spot)
@@ -190,27 +193,33 @@ impl<A: Allocator + Clone> Spots<A> {
         ensures heads { HasHeads (heads_in self.old) (others_in self.old) → HasHeads (heads_in self.new) (others_in self.new) }
         ensures least { KeepsLeast (heads_in self.old) (heads_in self.new) }
     {
-        let ((_, sector), _) = spot;
+        let (place, _) = spot;
         take(&mut self.others, spot);
-        let Some(least) = self.least_of(spot) else {
+        let Some(head) = self.head_of(spot) else {
             return;
         };
-        match spot_at(&self.others, sector) {
+        match spot_on(&self.others, place) {
             Some(other) => {
-                set_head(&mut self.heads, sector, Head { spot: other, least });
+                let next = Head {
+                    id: other.1,
+                    least: head.least,
+                    fewest: head.fewest,
+                };
+                self.heads.set(place, next);
             }
             None => {
-                let _ = self.heads.remove(&sector);
+                self.heads.remove(place);
             }
         }
     }
 
-    /// Whether there may be a request at a sector that has no more sectors than these.
-    pub fn may_have(&self, sector: u64, sectors: u64) -> bool
-        ensures { OnFalse result (HasNone (heads_in self.now sector) sectors) }
+    /// Whether there may be a request at a place that has no more sectors and bios than these.
+    #[inline(always)]
+    pub fn may_have(&self, place: (bool, u64), sectors: u64, bios: u64) -> bool
+        ensures { OnFalse result (HasNone (heads_in self.now place) sectors bios) }
     {
-        match self.heads.get(&sector) {
-            Some(head) => head.least <= sectors,
+        match self.heads.get(place) {
+            Some(head) => head.least <= sectors && head.fewest <= bios,
             None => false,
         }
     }
@@ -227,70 +236,31 @@ impl<A: Allocator + Clone> Spots<A> {
         )
     }
 
-    /// The fewest sectors at a spot's sector, where the spot is the one that stands in the hash table.
-    fn least_of(&self, spot: Spot) -> Option<u64>
-        ensures some { IfSome result (λ least. heads_in self.now spot.0.1 ≡ Some (record { spot = spot; least = least })) }
-        ensures none { IfNone result (is_head (heads_in self.now spot.0.1) spot ≡ false) }
+    /// The head of a spot's place, where it is that spot's.
+    fn head_of(&self, spot: Spot) -> Option<Head>
+        ensures some { IfSome result (λ h. heads_in self.now spot.0 ≡ Some h) }
+        ensures at { IfSome result (λ h. h.id ≡ spot.1) }
+        ensures none { IfNone result (is_head (heads_in self.now spot.0) spot ≡ false) }
     {
-        let head = self.heads.get(&spot.0.1)?;
-        if !is_spot(head.spot, spot) {
+        let (place, id) = spot;
+        let head = self.heads.get(place)?;
+        if head.id != id {
             return None;
         }
-        Some(head.least)
+        Some(head)
     }
 
-    /// The id at a place that stands in the hash table, where it is below the bound.
+    /// The id at a place that stands by itself, where it is below the bound.
     fn head_at(&self, place: (bool, u64), below: Option<u64>) -> Option<u64>
-        ensures there { IfSome result (λ id. (h : Head) × (heads_in self.now place.1 ≡ Some h) × (h.spot ≡ (place, id))) }
+        ensures there { IfSome result (λ id. (h : Head) × (heads_in self.now place ≡ Some h) × (h.id ≡ id)) }
         ensures low { IfSome result (IsBelow below) }
-        ensures none { IfNone result ((id : ℕ) → IsBelow below id → is_head (heads_in self.now place.1) (place, id) ≡ false) }
+        ensures none { IfNone result ((id : ℕ) → IsBelow below id → is_head (heads_in self.now place) (place, id) ≡ false) }
     {
-        let ((write, sector), id) = self.heads.get(&place.1)?.spot;
-        if write != place.0 || sector != place.1 {
-            return None;
-        }
+        let head = self.heads.get(place)?;
         match below {
-            Some(bound) if id >= bound => None,
-            _ => Some(id),
+            Some(bound) if head.id >= bound => None,
+            _ => Some(head.id),
         }
-    }
-}
-
-/// Sets the head of a sector that has one. It takes no memory.
-fn set_head<A: Allocator + Clone>(
-    heads: &mut HashMap<u64, Head, Hashing, A>,
-    sector: u64,
-    head: Head,
-)
-    requires { IsSome (hash.get nat_eq heads.old sector) }
-    ensures { Sets (hash.get nat_eq heads.old) sector (Some head) (hash.get nat_eq heads.new) }
-{
-    let Ok(_) = heads.insert(sector, head) else {
-        unreachable!()
-    };
-}
-
-/// Whether two spots are one.
-fn is_spot(one: Spot, other: Spot) -> bool
-    ensures { result ≡ eq_by_cmp spot_cmp one other }
-{
-    let ((write, sector), id) = one;
-    let ((other_write, other_sector), other_id) = other;
-    write == other_write && sector == other_sector && id == other_id
-}
-
-/// One of the spots at a sector, of either direction.
-fn spot_at<A: Allocator + Clone>(spots: &BTreeSet<Spot, A>, sector: u64) -> Option<Spot>
-    ensures there { IfSome result (λ s. contains spot_cmp spots.now s ≡ true) }
-    ensures at { IfSome result (λ s. s.0.1 ≡ sector) }
-    ensures none { IfNone result ((q : Spot) → q.0.1 ≡ sector → contains spot_cmp spots.now q ≡ false) }
-{
-    if spots.is_empty() {
-        return None;
-    }
-    match spot_on(spots, (false, sector)) {
-        Some(spot) => Some(spot),
-        None => spot_on(spots, (true, sector)),
     }
 }
 
@@ -366,8 +336,8 @@ impl<A: Allocator + Clone> Edges<A> {
         ensures same { OnErr result ((old : ℕ → Option Waiting) → IsEdges old self.old → old id ≡ None → IsEdges old self.new) }
     {
         let first = first_spot(extent, id);
-        self.firsts.put(first, sectors)?;
-        let Ok(()) = self.ends.put(end_spot(extent, id), sectors) else {
+        self.firsts.put(first, sectors, extent.bios)?;
+        let Ok(()) = self.ends.put(end_spot(extent, id), sectors, extent.bios) else {
             self.firsts.take(first);
             return Err(AllocError);
         };

@@ -1,18 +1,18 @@
 -- What tables of spots have.
-use Rattle.std.specs.Prelude.{ℕ, Bool, Option, nat_eq}
-use Rattle.std.specs.HashMap as hash
+use Rattle.std.specs.Prelude.{ℕ, Bool, Option}
 use Rattle.std.specs.BTreeSet.{contains}
 use Rattle.blk_sched.specs.Meaning.{Waiting}
-use Rattle.blk_index.specs.Inside.Spots.{Spot, spot_cmp, first_at, end_at}
+use Rattle.blk_index.specs.Inside.Spots.{Place, Spot, spot_cmp, first_at, end_at}
 use Rattle.blk_index.specs.Inside.Heads.{spots_of, IsEdge}
+use Rattle.blk_index.specs.Inside.Tables.{table_in}
 use Rattle.blk_index.specs.declared.spots.Edges.{Edges}
 use Rattle.blk_index.specs.declared.spots.Head.{Head}
 use Rattle.blk_index.specs.declared.spots.Spots.{Spots}
 
 module _ {A : Type 0} where
   -- the spots that stand by themselves, and the others
-  abbrev pub heads_in : Spots A → ℕ → Option Head
-  heads_in s = hash.get nat_eq s.heads
+  abbrev pub heads_in : Spots A → Place → Option Head
+  heads_in s = table_in s.heads
 
   abbrev pub others_in : Spots A → Spot → Bool
   others_in s = contains spot_cmp s.others

@@ -1,4 +1,4 @@
-use Rattle.std.proofs.Common.{◌≡◌, ◌<◌, ap, refl, ◌∙◌, arith, length, set}
+use Rattle.std.proofs.Common.{◌≡◌, ◌<◌, ◌≤◌, ◌+◌, ap, refl, ◌∙◌, arith, length, set}
 use Rattle.std.proofs.lemmas.Option.{slice_get_within}
 use Rattle.blk_bio.specs.declared.extent.Extent.{Extent}
 use Rattle.blk_bio.specs.Extents.{extent_of}
@@ -37,13 +37,16 @@ returns-in-Ok-join-clause-spots g c =
     let one = read_there ws place c.args.id c.index.result.now x c.place_at-place.ensures jt.was c.index.ensures in
     let two = read_there ws place c.args.id c.index-2.result.now x c.place_at-place.ensures jt.was c.index-2.ensures in
     let before : c.extent_of-before.result ≡ extent_of x.bios = c.extent_of-before.ensures ∙ ap (λ (w : Waiting). extent_of w.bios) one in
+    let held : c.extent_of-before.result.bios ≡ length x.bios = ap (λ (e : Extent). e.bios) before in
+    let more : c.extent-added.result.bios ≡ length c.args.newcomer = ap (λ (e : Extent). e.bios) c.extent-added.ensures.value in
+    let few : c.bios_of-bios.result ≤ length x.bios + length c.args.newcomer = omega (arith, c.bios_of-bios.ensures, held, more) in
     edge_join c.args.limits.now (waiting_at ws) (waiting_at (set ws place c.join.new.self)) (heads_in c.args.spots.now) (heads_in c.put.new.self) (heads_in c.take.new.self) (others_in c.args.spots.now) (others_in c.put.new.self) (others_in c.take.new.self)
-    c.args.id c.sectors-sectors.result c.sectors_of-held.result c.args.now c.args.side c.args.newcomer x c.spot_at-spot.result
+    c.args.id c.sectors-sectors.result c.sectors_of-held.result c.bios_of-bios.result c.args.now c.args.side c.args.newcomer x c.spot_at-spot.result
     c.requires.spots jt.was c.requires.fit c.sectors-sectors.ensures.some c.sectors-sectors.ensures.range
     (c.spot_at-spot.ensures ∙ ap (λ (e : Extent). let q : Spot = (at_of c.args.side e, c.args.id) in q) c.extent-added.ensures.value)
     c.in-Ok.ensures.ok c.in-Ok.ensures.heads c.in-Ok.ensures.least c.take.ensures.heads c.take.ensures.least
     (joined_waiting c.args.side c.args.now c.args.newcomer x) c.spot_at.result
-    c.sectors-sectors.ensures.value (c.sectors_of-held.ensures.value ∙ ap (λ (w : Waiting). sectors_of w.bios) two)
+    c.sectors-sectors.ensures.value (c.sectors_of-held.ensures.value ∙ ap (λ (w : Waiting). sectors_of w.bios) two) few
     (c.spot_at.ensures ∙ ap (λ (e : Extent). let q : Spot = (at_of c.args.side e, c.args.id) in q) before)
     refl c.take.ensures.takes (becomes_joined c.args.limits.now ws (set ws place c.join.new.self) c.args.id c.args.now c.args.side c.args.newcomer jt)
 
@@ -53,7 +56,7 @@ returns-in-Err-clause-spots g c =
     let place = c.place_at-place.result in
     let x = c.requires.fit.0 in
     edge_unjoined c.args.limits.now (waiting_at ws) (waiting_at (set ws place c.join.new.self)) (heads_in c.args.spots.now) (heads_in c.put.new.self) (heads_in c.take-in-Err.new.self) (others_in c.args.spots.now) (others_in c.put.new.self) (others_in c.take-in-Err.new.self)
-    c.args.id c.sectors-sectors.result c.sectors_of-held.result c.args.now c.args.side c.args.newcomer x c.spot_at-spot.result
+    c.args.id c.sectors-sectors.result c.sectors_of-held.result c.bios_of-bios.result c.args.now c.args.side c.args.newcomer x c.spot_at-spot.result
     c.requires.spots c.requires.fit.1 c.requires.fit c.sectors-sectors.ensures.some c.sectors-sectors.ensures.range
     (c.spot_at-spot.ensures ∙ ap (λ (e : Extent). let q : Spot = (at_of c.args.side e, c.args.id) in q) c.extent-added.ensures.value)
     c.in-Ok.ensures.ok c.in-Ok.ensures.heads c.in-Ok.ensures.least c.take-in-Err.ensures.heads c.take-in-Err.ensures.least

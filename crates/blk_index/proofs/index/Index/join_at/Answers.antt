@@ -16,6 +16,12 @@ join_in-requires-clause-fit g c = subst (λ (m : Pending). HasFit c.args.limits.
 pub join_in-requires-in-Front-clause-fit : goal.join_in-requires-in-Front-clause-fit
 join_in-requires-in-Front-clause-fit g c = subst (λ (m : Pending). HasFit c.args.limits.now (map.get m) c.args.newcomer c.args.id c.args.side) (sym c.self.view_is) c.requires
 
+pub join_in-requires-clause-spots : goal.join_in-requires-clause-spots
+join_in-requires-clause-spots g c = subst (λ (t : Side). IsEdge (at_of t) (map.get c.self.inside.waiting) (heads_in c.self.inside.edges.ends) (others_in c.self.inside.edges.ends)) (sym c.in-Back.is) c.self.invariant.1.ends
+
+pub join_in-requires-in-Front-clause-spots : goal.join_in-requires-in-Front-clause-spots
+join_in-requires-in-Front-clause-spots g c = subst (λ (t : Side). IsEdge (at_of t) (map.get c.self.inside.waiting) (heads_in c.self.inside.edges.firsts) (others_in c.self.inside.edges.firsts)) (sym c.in-Front.is) c.self.invariant.1.firsts
+
 pub invariant_of-self : goal.invariant_of-self
 invariant_of-self g c =
     let fit = subst (λ (m : Pending). HasFit c.args.limits.now (map.get m) c.args.newcomer c.args.id c.args.side) (sym c.self.view_is) c.requires in

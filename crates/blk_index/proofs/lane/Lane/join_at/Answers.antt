@@ -1,4 +1,4 @@
-use Rattle.std.proofs.Common.{subst}
+use Rattle.std.proofs.Common.{sym, subst}
 use Rattle.blk_bio.specs.declared.request.Side.{Side}
 use Rattle.blk_index.specs.Index.{at_of}
 use Rattle.blk_index.specs.Inside.Edges.{heads_in, others_in}
@@ -6,6 +6,12 @@ use Rattle.blk_index.specs.Inside.Heads.{IsEdge}
 use Rattle.blk_index.specs.Lanes.{waiting_at}
 use Rattle.blk_index.proofs.Laned.{lane_firsts, lane_ends}
 use Rattle.blk_index.proofs.lane.Lane.join_at.Goals as goal
+
+pub join_in-requires-clause-spots : goal.join_in-requires-clause-spots
+join_in-requires-clause-spots g c = subst (λ (t : Side). IsEdge (at_of t) (waiting_at c.self.inside.entries.items) (heads_in c.self.inside.edges.ends) (others_in c.self.inside.edges.ends)) (sym c.in-Back.is) c.self.invariant.1.ends
+
+pub join_in-requires-in-Front-clause-spots : goal.join_in-requires-in-Front-clause-spots
+join_in-requires-in-Front-clause-spots g c = subst (λ (t : Side). IsEdge (at_of t) (waiting_at c.self.inside.entries.items) (heads_in c.self.inside.edges.firsts) (others_in c.self.inside.edges.firsts)) (sym c.in-Front.is) c.self.invariant.1.firsts
 
 pub invariant_of-self : goal.invariant_of-self
 invariant_of-self g c =

@@ -3,13 +3,13 @@ use Rattle.blk_bio.specs.declared.extent.Extent.{Extent}
 use Rattle.blk_index.specs.Inside.Spots.{Spot, first_at, end_at}
 use Rattle.blk_index.specs.Inside.Edges.{heads_in, others_in, spots_in}
 use Rattle.blk_index.proofs.Indexed.{absent}
-use Rattle.blk_index.proofs.Edged.{edge_entered, edge_undone, edge_kept}
+use Rattle.blk_index.proofs.Edged.{few_of, first_refused, edge_entered, edge_undone, edge_kept}
 use Rattle.blk_index.proofs.spots.Edges.enter.Goals as goal
 
 pub returns-in_default-clause-same : goal.returns-in_default-clause-same
 returns-in_default-clause-same g c = λ old edges none.
     record {
-      firsts = edge_undone first_at old old c.args.id (heads_in c.args.self.now.firsts) (heads_in c.put.new.self) (heads_in c.take.new.self) (others_in c.args.self.now.firsts) (others_in c.put.new.self) (others_in c.take.new.self) c.first_spot-first.result c.args.sectors
+      firsts = edge_undone first_at old old c.args.id (heads_in c.args.self.now.firsts) (heads_in c.put.new.self) (heads_in c.take.new.self) (others_in c.args.self.now.firsts) (others_in c.put.new.self) (others_in c.take.new.self) c.first_spot-first.result c.args.sectors c.args.extent.bios
           edges.firsts c.in_ok-put.ensures.heads c.in_ok-put.ensures.least c.take.ensures.heads c.take.ensures.least c.in_ok-put.ensures.ok c.take.ensures.takes
           (ap (spots_in c.args.self.now.firsts) c.first_spot-first.ensures ∙ absent first_at old c.args.id (spots_in c.args.self.now.firsts) edges.firsts.spots none (first_at c.args.extent)) (λ k. refl);
       ends = edge_kept end_at old old c.args.id (heads_in c.args.self.now.ends) (heads_in c.put-2.new.self) (others_in c.args.self.now.ends) (others_in c.put-2.new.self) edges.ends (λ k. refl) c.in_default.ensures.same c.in_default.ensures.same_others;
@@ -18,8 +18,11 @@ returns-in_default-clause-same g c = λ old edges none.
 pub returns-clause-ok : goal.returns-clause-ok
 returns-clause-ok g c = λ old new w is has edges none becomes.
     record {
-      firsts = edge_entered first_at old new c.args.id (heads_in c.args.self.now.firsts) (heads_in c.put.new.self) (others_in c.args.self.now.firsts) (others_in c.put.new.self) w c.first_spot-first.result c.args.sectors
-          edges.firsts none (c.first_spot-first.ensures ∙ ap (λ (e : Extent). let q : Spot = (first_at e, c.args.id) in q) is) has c.in_ok-put.ensures.ok c.in_ok-put.ensures.heads c.in_ok-put.ensures.least becomes;
-      ends = edge_entered end_at old new c.args.id (heads_in c.args.self.now.ends) (heads_in c.put-2.new.self) (others_in c.args.self.now.ends) (others_in c.put-2.new.self) w c.end_spot.result c.args.sectors
-          edges.ends none (c.end_spot.ensures ∙ ap (λ (e : Extent). let q : Spot = (end_at e, c.args.id) in q) is) has c.in-Ok.ensures.ok c.in-Ok.ensures.heads c.in-Ok.ensures.least becomes;
+      firsts = edge_entered first_at old new c.args.id (heads_in c.args.self.now.firsts) (heads_in c.put.new.self) (others_in c.args.self.now.firsts) (others_in c.put.new.self) w c.first_spot-first.result c.args.sectors c.args.extent.bios
+          edges.firsts none (c.first_spot-first.ensures ∙ ap (λ (e : Extent). let q : Spot = (first_at e, c.args.id) in q) is) has (few_of c.args.extent w is) c.in_ok-put.ensures.ok c.in_ok-put.ensures.heads c.in_ok-put.ensures.least becomes;
+      ends = edge_entered end_at old new c.args.id (heads_in c.args.self.now.ends) (heads_in c.put-2.new.self) (others_in c.args.self.now.ends) (others_in c.put-2.new.self) w c.end_spot.result c.args.sectors c.args.extent.bios
+          edges.ends none (c.end_spot.ensures ∙ ap (λ (e : Extent). let q : Spot = (end_at e, c.args.id) in q) is) has (few_of c.args.extent w is) c.in-Ok.ensures.ok c.in-Ok.ensures.heads c.in-Ok.ensures.least becomes;
     }
+
+pub returns-in_err-put-clause-same : goal.returns-in_err-put-clause-same
+returns-in_err-put-clause-same g c = first_refused c.from_residual.result c.args.self.now c.put.new.self c.args.id c.in_err-put.ensures.same c.in_err-put.ensures.same_others

@@ -1,15 +1,27 @@
-use Rattle.std.proofs.Common.{refl, Some, Option}
-use Rattle.std.specs.Prelude.{nat_eq}
-use Rattle.std.specs.HashMap as hash
+use Rattle.std.proofs.Common.{refl, ap, ◌∙◌, Some, None, Option}
 use Rattle.std.specs.BTreeSet.{contains}
 use Rattle.blk_index.specs.declared.spots.Head.{Head}
-use Rattle.blk_index.specs.Inside.Spots.{spot_cmp}
+use Rattle.blk_index.specs.Inside.Spots.{Place, spot_cmp}
 use Rattle.blk_index.specs.Inside.Edges.{heads_in, others_in}
-use Rattle.blk_index.proofs.Spotted.{head_takes, follows_other}
+use Rattle.blk_index.specs.Inside.Tables.{table_in}
+use Rattle.blk_index.proofs.Spotted.{head_takes, head_heads, head_keeps, follows_other, itself_most}
 use Rattle.blk_index.proofs.spots.Spots.take_among.Goals as goal
 
-pub returns-in-Some-spot_at-clause-takes : goal.returns-in-Some-spot_at-clause-takes
-returns-in-Some-spot_at-clause-takes g c =
-    let x : Option Head = Some (record { spot = c.in-Some-spot_at.other; least = c.in-Some.least }) in
-    head_takes (heads_in c.args.self.now) (others_in c.args.self.now) (contains spot_cmp c.take.new.spots) c.args.spot c.take.ensures (hash.get nat_eq c.set_head.new.heads) c.in-Some.least x c.in-Some.ensures.some c.set_head.ensures
-    (λ q at. follows_other (contains spot_cmp c.take.new.spots) c.in-Some-spot_at.other c.in-Some.least c.in-Some-spot_at.ensures.there q) tt refl
+pub returns-in-Some-spot_on-clause-takes : goal.returns-in-Some-spot_on-clause-takes
+returns-in-Some-spot_on-clause-takes g c =
+    let next : Head = record { id = c.in-Some-spot_on.other.1; least = c.in-Some.head.least; fewest = c.in-Some.head.fewest } in
+    let x : Option Head = Some next in
+    head_takes (heads_in c.args.self.now) (others_in c.args.self.now) (contains spot_cmp c.take.new.spots) c.args.spot c.take.ensures (table_in c.set.new.self) c.in-Some.head x c.in-Some.ensures.some c.in-Some.ensures.at c.set.ensures
+    (follows_other (contains spot_cmp c.take.new.spots) c.args.spot.0 next c.in-Some-spot_on.other c.in-Some-spot_on.ensures.at refl c.in-Some-spot_on.ensures.there) tt (itself_most next)
+
+pub returns-in-None-clause-heads : goal.returns-in-None-clause-heads
+returns-in-None-clause-heads g c =
+    head_heads (heads_in c.args.self.now) (others_in c.args.self.now) (contains spot_cmp c.take.new.spots) c.args.spot c.take.ensures (table_in c.remove.new.self) c.in-Some.head None c.in-Some.ensures.some c.in-Some.ensures.at c.remove.ensures
+    (λ q at. refl) (λ q at. ap (λ (p : Place). contains spot_cmp c.take.new.spots (p, q.1)) at ∙ c.in-None.ensures.none q.1) tt
+
+pub returns-in-Some-spot_on-clause-least : goal.returns-in-Some-spot_on-clause-least
+returns-in-Some-spot_on-clause-least g c =
+    let next : Head = record { id = c.in-Some-spot_on.other.1; least = c.in-Some.head.least; fewest = c.in-Some.head.fewest } in
+    let x : Option Head = Some next in
+    head_keeps (heads_in c.args.self.now) (others_in c.args.self.now) (contains spot_cmp c.take.new.spots) c.args.spot c.take.ensures (table_in c.set.new.self) c.in-Some.head x c.in-Some.ensures.some c.in-Some.ensures.at c.set.ensures
+    (follows_other (contains spot_cmp c.take.new.spots) c.args.spot.0 next c.in-Some-spot_on.other c.in-Some-spot_on.ensures.at refl c.in-Some-spot_on.ensures.there) tt (itself_most next)
