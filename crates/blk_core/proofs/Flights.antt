@@ -16,7 +16,7 @@ use Rattle.blk_sched.specs.Meaning.{Waiting, OpenPicks, opened, handed_of, hande
 use Rattle.blk_core.specs.declared.TagState.{TagState}
 use Rattle.blk_core.specs.declared.TagState.TheVariants.{Free, Flying, Spent}
 use Rattle.blk_core.specs.State.{Flight}
-use Rattle.blk_core.specs.Inside.Ties.{seat_of, queue_of, flight_of, flying}
+use Rattle.blk_core.specs.Inside.Ties.{seat_of, queue_of, flight_of, flying, IfFlying}
 
 by_dir : (d : Dir) → cond (same_dir Read d) 1 0 + cond (same_dir Write d) 1 0 ≤ 1
 by_dir Read = omega arith
@@ -159,3 +159,7 @@ none_flies (s ∷ tags) h =
 pub free_flights : (A : Type 0) (n : ℕ) → map flight_of (replicate n (unused {A = A})) ≡ replicate n None
 free_flights A zero = refl
 free_flights A (suc n) = ap (λ l. nobody ∷ l) (free_flights A n)
+
+-- what is known of the tag that the code writes
+pub of_flying : {A : Type 0} (P : ℕ → Waiting → Type 0) (fl : List (TagState A)) (tag hw : ℕ) (seen : TagState A) (w : Waiting) → tag < length fl → seen ≡ get_or fl tag seen → get_or fl tag Free ≡ Flying hw w → IfFlying seen P → P hw w
+of_flying {A} P fl tag hw seen w lt e at h = let is : seen ≡ Flying hw w = e ∙ any_default fl tag seen Free lt ∙ at in subst (λ (s : TagState A). IfFlying s P) is h

@@ -88,6 +88,10 @@ Completes told old tag new =
     × (new.flights ≡ slice_set old.flights tag None)
     × (new.held ≡ old.held)
 
+-- the request in flight under a tag, which is handed out at its completion, has these bios
+abbrev pub HandsOut : CoreState → ℕ → List Bio → Type 0
+HandsOut c tag bios = (f : Flight) × (slice_get c.flights tag ≡ Some (Some f)) × (f.request.bios ≡ bios)
+
 -- what a Back does: a Back of the command in flight under the tag, whose pick is then handed back; its request is held, as it was
 -- picked, behind those that came back before from the hardware queue that it was issued for
 abbrev pub TakesBack : CoreState → ℕ → ℕ → CoreState → Type 0

@@ -6,7 +6,7 @@
 //! issued once in a round.
 #![tactic(auto)]
 
-ghost use Rattle.std.specs.Prelude.{◌≡◌, ◌<◌, ◌+◌, ◌⊎◌, ◌++◌, ◌∷◌, [], None, OnOk, OnErr, IfOk, IfSome, IfNone, length, replicate, slice_set};
+ghost use Rattle.std.specs.Prelude.{◌≡◌, ◌<◌, ◌+◌, ◌⊎◌, ◌++◌, ◌∷◌, [], ⊤, None, OnOk, OnErr, IfOk, IfSome, IfNone, length, replicate, slice_set};
 ghost use Rattle.blk_trace.specs.declared.trace.Prepared.{Prepared};
 ghost use Rattle.blk_bio.specs.declared.bio.Dir.{Dir as Way};
 ghost use Rattle.blk_bio.specs.Requests.{dir_of};
@@ -160,7 +160,7 @@ impl<S: Scheduler> Core<S> {
     ghost use Rattle.blk_trace.specs.Waits.{waiting_count};
     ghost use Rattle.blk_core.specs.State.{HoldsWhatWaits};
     ghost use Rattle.blk_core.specs.Faults.{IsReleaseFault, CanRelease, IsIssueFault, CanIssue, IsBackFault, IsTickFault, CanTick, IsDepthFault, CanSetDepth, IsInFlight};
-    ghost use Rattle.blk_core.specs.Calls.{Places, Issues, Completes, TakesBack, Ends, SetsDepth};
+    ghost use Rattle.blk_core.specs.Calls.{Places, Issues, Completes, HandsOut, TakesBack, Ends, SetsDepth};
     ghost use Rattle.blk_sched.specs.Meaning.{HasCandidate, HasNoCandidate, at_start};
 
     /// A core without events, over a scheduler in which nothing waits and no pick is open or handed back, in round 0.
@@ -217,54 +217,107 @@ impl<S: Scheduler> Core<S> {
         if let Some(why) = self.release_fault(&request, hw) {
             return Err((request, why));
         }
-        let limits = self.trace.setup().limits();
-        match self.scheduler.candidate(hw, &limits, &request) {
-            Some((id, side)) => self.join(request, hw, id, side),
-            None => self.enter(request, hw),
+        let Ok(copy) = request.copy() else {
+            return Err((request, CoreFault::Memory));
+        };
+        match self.place(request, copy, hw) {
+            Ok(placed) => Ok(placed),
+            Err((request, _, why)) => Err((request, why)),
         }
     }
 
-    /// Releases a request that may be released by a join to its candidate. Refused for want of memory alone.
+    /// Releases a request as [`Core::release`] does, with a copy of it for the trace that was made before: so who holds a core under a
+    /// lock makes it, by [`Request::copy`], before the lock is taken.
+    ///
+    /// Refused as [`Core::release`] is. The request and its copy come back then, and nothing is changed.
+    pub fn release_copied(
+        &mut self,
+        request: Request<S::A>,
+        copy: Request<S::A>,
+        hw: u8,
+    ) -> Result<Placed, (Request<S::A>, Request<S::A>, CoreFault)>
+        requires within { IsWithin self.old.setup.limits request }
+        requires copied { copy ≡ request }
+        ensures placed { IfOk result (λ placed. Places S.policy.serves self.old request hw placed self.new) }
+        ensures no_fault { OnOk result (CanRelease self.old request hw) }
+        ensures fault { IfErr result (λ e. IsReleaseFault self.old request hw e.2) }
+        ensures err { IfErr result (λ e. (e.0 ≡ request) × (e.1 ≡ copy)) }
+        ensures same { OnErr result (self.new ≡ self.old) }
+    {
+        if let Some(why) = self.release_fault(&request, hw) {
+            return Err((request, copy, why));
+        }
+        self.place(request, copy, hw)
+    }
+
+    /// Releases a request that may be released, with its copy for the trace. Refused for want of memory alone.
+    fn place(
+        &mut self,
+        request: Request<S::A>,
+        copy: Request<S::A>,
+        hw: u8,
+    ) -> Result<Placed, (Request<S::A>, Request<S::A>, CoreFault)>
+        requires can { CanRelease self.old request hw }
+        requires within { IsWithin self.old.setup.limits request }
+        requires copied { copy ≡ request }
+        ensures placed { IfOk result (λ placed. Places S.policy.serves self.old request hw placed self.new) }
+        ensures err { IfErr result (λ e. e ≡ (request, copy, CoreFault.Memory)) }
+        ensures same { OnErr result (self.new ≡ self.old) }
+    {
+        let limits = self.trace.setup().limits();
+        match self.scheduler.candidate(hw, &limits, &request) {
+            Some((id, side)) => self.join(request, copy, hw, id, side),
+            None => self.enter(request, copy, hw),
+        }
+    }
+
+    /// Releases a request that may be released by a join to its candidate, with its copy for the trace. Refused for want of memory
+    /// alone.
     fn join(
         &mut self,
         request: Request<S::A>,
+        copy: Request<S::A>,
         hw: u8,
         id: u64,
         side: Side,
-    ) -> Result<Placed, (Request<S::A>, CoreFault)>
+    ) -> Result<Placed, (Request<S::A>, Request<S::A>, CoreFault)>
         requires can { CanRelease self.old request hw }
         requires stands { HasCandidate S.policy.serves hw self.old.setup.limits request self.old.meaning id side }
+        requires copied { copy ≡ request }
         ensures placed { IfOk result (λ placed. Places S.policy.serves self.old request hw placed self.new) }
-        ensures err { IfErr result (λ e. e ≡ (request, CoreFault.Memory)) }
+        ensures err { IfErr result (λ e. e ≡ (request, copy, CoreFault.Memory)) }
         ensures same { OnErr result (self.new ≡ self.old) }
     {
-        let Ok(copy) = prepared(&mut self.trace, &request) else {
-            return Err((request, CoreFault::Memory));
+        let Ok(()) = prepare_bios(&mut self.trace, &copy) else {
+            return Err((request, copy, CoreFault::Memory));
         };
         let limits = self.trace.setup().limits();
         let now = self.trace.round();
         if let Err((request, _)) = self.scheduler.join(hw, id, side, now, &limits, request) {
-            return Err((request, CoreFault::Memory));
+            return Err((request, copy, CoreFault::Memory));
         }
         self.trace.add(Event::Join { id, request: copy });
         Ok(Placed::Joined(id, side))
     }
 
-    /// Releases a request that may be released and has no candidate under the next id. Refused for want of memory alone.
+    /// Releases a request that may be released and has no candidate under the next id, with its copy for the trace. Refused for want
+    /// of memory alone.
     fn enter(
         &mut self,
         request: Request<S::A>,
+        copy: Request<S::A>,
         hw: u8,
-    ) -> Result<Placed, (Request<S::A>, CoreFault)>
+    ) -> Result<Placed, (Request<S::A>, Request<S::A>, CoreFault)>
         requires can { CanRelease self.old request hw }
         requires within { IsWithin self.old.setup.limits request }
         requires alone { HasNoCandidate S.policy.serves hw self.old.setup.limits request self.old.meaning }
+        requires copied { copy ≡ request }
         ensures placed { IfOk result (λ placed. Places S.policy.serves self.old request hw placed self.new) }
-        ensures err { IfErr result (λ e. e ≡ (request, CoreFault.Memory)) }
+        ensures err { IfErr result (λ e. e ≡ (request, copy, CoreFault.Memory)) }
         ensures same { OnErr result (self.new ≡ self.old) }
     {
-        let Ok(copy) = prepared(&mut self.trace, &request) else {
-            return Err((request, CoreFault::Memory));
+        let Ok(()) = prepare_bios(&mut self.trace, &copy) else {
+            return Err((request, copy, CoreFault::Memory));
         };
         let id = self.released;
         let release = self.trace.round();
@@ -277,15 +330,16 @@ impl<S: Scheduler> Core<S> {
             request,
         };
         if let Err((queued, _)) = self.scheduler.insert(queued) {
-            return Err((queued.request, CoreFault::Memory));
+            return Err((queued.request, copy, CoreFault::Memory));
         }
         self.trace.add(Event::Release { id, request: copy });
         self.released += 1;
         Ok(Placed::New(id))
     }
 
-    /// The first reason not to release a request, memory aside.
-    fn release_fault(&self, request: &Request<S::A>, hw: u8) -> Option<CoreFault>
+    /// The first reason not to release a request for a hardware queue, memory aside, as [`Core::release`] looks for them. There is none
+    /// exactly where the request may be released.
+    pub fn release_fault(&self, request: &Request<S::A>, hw: u8) -> Option<CoreFault>
         ensures some { IfSome result (IsReleaseFault self.now request.now hw) }
         ensures none { IfNone result (CanRelease self.now request.now hw) }
     {
@@ -379,6 +433,20 @@ impl<S: Scheduler> Core<S> {
         ensures accepted { IsOk result ↔ IsInFlight self.old tag }
         ensures same { OnErr result (self.new ≡ self.old) }
     {
+        match self.complete(tag) {
+            Ok(_) => Ok(()),
+            Err(why) => Err(why),
+        }
+    }
+
+    /// Completes the command in flight under a tag as [`Core::done`] does, and hands its request out: so who holds a core under a lock
+    /// frees the request after the lock is let go. Refused exactly where there is none; takes and frees no memory.
+    pub fn complete(&mut self, tag: u16) -> Result<Request<S::A>, NotIssued>
+        ensures done { OnOk result (Completes S.policy.told_done self.old tag self.new) }
+        ensures request { IfOk result (HandsOut self.old tag) }
+        ensures accepted { IsOk result ↔ IsInFlight self.old tag }
+        ensures same { OnErr result (self.new ≡ self.old) }
+    {
         let slot = tag as usize;
         if slot >= self.tags.len() {
             return Err(NotIssued);
@@ -390,9 +458,9 @@ impl<S: Scheduler> Core<S> {
         let dir = queued.request.dir();
         let wait = self.trace.round().saturating_sub(queued.release);
         self.trace.add(Event::Done { tag });
-        self.tags[slot] = TagState::Spent(dir);
+        let request = land(&mut self.tags[slot]);
         self.scheduler.on_done(hw, dir, wait);
-        Ok(())
+        Ok(request)
     }
 
     /// Takes the command in flight under a tag back: the device was busy. Its request is held for the hardware queue that
@@ -541,6 +609,19 @@ fn next<S: Scheduler>(
     }
 }
 
+/// Takes the request in flight under a tag out, and the tag is spent then.
+fn land<A: Allocator + Clone>(tag: &mut TagState<A>) -> Request<A>
+    requires { IfFlying tag.old (λ hw w. ⊤) }
+    ensures { IfFlying tag.old (λ hw w. (tag.new ≡ TagState.Spent (dir_of w.bios)) × (result ≡ w.bios)) }
+{
+    let flown = mem::replace(tag, TagState::Free);
+    let TagState::Flying { queued, .. } = flown else {
+        unreachable!()
+    };
+    *tag = TagState::Spent(queued.request.dir());
+    queued.request
+}
+
 /// Moves the request in flight under a tag to the held list of its hardware queue, and the tag is spent then. Refused for
 /// want of memory alone, and nothing is changed.
 fn hold<A: Allocator + Clone>(
@@ -568,19 +649,16 @@ fn hold<A: Allocator + Clone>(
     }
 }
 
-/// A copy of a request, with room made for an event of it.
+/// Makes room for a Release or a Join of a request.
 #[inline(always)]
-fn prepared<A: Allocator + Clone>(
+fn prepare_bios<A: Allocator + Clone>(
     trace: &mut Trace<A>,
     request: &Request<A>,
-) -> Result<Request<A>, AllocError>
-    ensures copy { IfOk result (λ copy. copy ≡ request.now) }
-    ensures ok { IfOk result (λ copy. trace.new ≡ record { setup = trace.old.setup; events = trace.old.events; prepared = Prepared.Bios (length copy) }) }
+) -> Result<(), AllocError>
+    ensures ok { OnOk result (trace.new ≡ record { setup = trace.old.setup; events = trace.old.events; prepared = Prepared.Bios (length request.now) }) }
     ensures err { OnErr result (trace.new ≡ trace.old) }
 {
-    let copy = request.copy()?;
-    trace.prepare(Some(&copy))?;
-    Ok(copy)
+    trace.prepare(Some(request))
 }
 
 /// Makes room for an Issue with its end, or for a Tick or a Depth.

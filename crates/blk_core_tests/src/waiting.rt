@@ -1,6 +1,7 @@
 //! What schedulers share, and the one of the order of entry called by itself.
 
-ghost use Rattle.std.specs.Prelude.{◌≡◌};
+ghost use Rattle.std.specs.Prelude.{◌≡◌, ◌≢◌, ℕ, None};
+ghost use Rattle.blk_index.specs.Lanes.{waiting_at};
 
 use crate::given::{alone, bio, limits};
 use blk_bio::{Dir, Request, Side};
@@ -48,15 +49,24 @@ fn front_only_where_it_is_allowed(rt: HostRuntime) {
     }
 }
 
+/// Puts a request of an id that isn't there into a lane.
+fn put(rt: &impl Abort, alloc: Global, lane: &mut Lane, id: u64, dir: Dir)
+    requires { waiting_at lane.old id ≡ None }
+    ensures { (k : ℕ) → k ≢ id → waiting_at lane.new k ≡ waiting_at lane.old k }
+{
+    let newcomer = queued(rt, alloc, id, dir, id.saturating_mul(10));
+    assert!(rt; lane.insert(newcomer).is_ok());
+}
+
 /// Whatever the order in which they came, the request of the least id leaves first.
 #[test]
 fn lane_leaves_by_id(rt: HostRuntime) {
     let alloc = rt.alloc();
     let mut lane = Lane::new(alloc).expect(&rt, "memory");
     assert!(rt; lane.is_empty());
-    assert!(rt; lane.insert(queued(&rt, alloc, 7, Dir::Read, 70)).is_ok());
-    assert!(rt; lane.insert(queued(&rt, alloc, 3, Dir::Write, 30)).is_ok());
-    assert!(rt; lane.insert(queued(&rt, alloc, 5, Dir::Read, 50)).is_ok());
+    put(&rt, alloc, &mut lane, 7, Dir::Read);
+    put(&rt, alloc, &mut lane, 3, Dir::Write);
+    put(&rt, alloc, &mut lane, 5, Dir::Read);
     assert_eq!(rt; (lane.len(), lane.is_empty()), (3, false));
     for (id, left) in [(3, 2), (5, 1), (7, 0)] {
         let first = lane.pop_first().expect(&rt, "a request");

@@ -4,6 +4,7 @@ mod Ids
 mod Held
 mod Each
 mod Plugged
+mod Copied
 mod Moving
 mod InHand
 mod Answered

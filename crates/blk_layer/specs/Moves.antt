@@ -1,5 +1,5 @@
 -- What a move from a software queue into the core does.
-use Rattle.std.specs.Prelude.{ℕ, zero, suc, ◌≡◌, ◌+◌, Bool, true, false, List, [], ◌∷◌, length, Result, Ok, Err}
+use Rattle.std.specs.Prelude.{ℕ, zero, suc, ◌≡◌, ◌+◌, Bool, true, false, List, [], ◌∷◌, length, take, Result, Ok, Err}
 use Rattle.blk_bio.specs.Bios.{Bio}
 use Rattle.blk_soft.specs.Queues.{Queue}
 use Rattle.blk_sched.specs.Meaning.{Waiting}
@@ -45,3 +45,7 @@ IsMoveAllAnswer serves queue core hw new_queue new_core (Ok moved) =
     MovesSome serves queue core hw moved new_queue new_core × (moved ≡ length queue.requests) × (new_queue.requests ≡ [])
 IsMoveAllAnswer serves queue core hw new_queue new_core (Err fault) =
     MovesSome serves queue core hw fault.moved new_queue new_core × (fault.moved + length new_queue.requests ≡ length queue.requests) × IsMoveFault new_queue new_core hw fault.why
+
+-- copies of the first requests of a queue, in their order
+abbrev pub AreOfFirst : List (List Bio) → List (List Bio) → Type 0
+AreOfFirst copies requests = take (length copies) requests ≡ copies

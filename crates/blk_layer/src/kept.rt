@@ -4,7 +4,7 @@ ghost use Rattle.std.specs.Prelude.{◌≡◌, ◌≢◌, ◌+◌, ◌<◌, [], 
 ghost use Rattle.blk_trace.specs.Waits.{waiting_count};
 ghost use Rattle.blk_core.specs.Faults.{IsTickFault};
 ghost use Rattle.blk_core.specs.Calls.{Issues, Completes, TakesBack, Ends, SetsDepth};
-ghost use Rattle.blk_layer.specs.Moves.{IsMoveAllAnswer};
+ghost use Rattle.blk_layer.specs.Moves.{AreOfFirst, IsMoveAllAnswer};
 ghost use Rattle.blk_layer.specs.Works.{IsCoreIssueFault, IsTickAnswer, IsDepthAnswer};
 ghost use Rattle.blk_layer.specs.Tries.{IsNoneIssued};
 ghost use Rattle.blk_trace.specs.Setups.{Setup};
@@ -13,11 +13,13 @@ ghost use Rattle.blk_layer.specs.Closes.{all_ran};
 ghost use Rattle.blk_layer.specs.declared.layer.TheConstants.{MAX_WORKERS};
 ghost use Rattle.blk_policy.specs.Runs.{Runs, IsRunFrom};
 
+use crate::copies::move_all_copied;
 use crate::issues::{LayerIssueFault, of_core};
-use crate::moves::{DrainFault, move_all};
+use crate::moves::DrainFault;
 use crate::names::Named;
 use crate::seats::{Worker, audit};
 use crate::tries::{NoneIssued, try_issue};
+use blk_bio::Request;
 use blk_core::{BackFault, Core, CoreFault, DepthFault, NotIssued, TickFault};
 use blk_sched::Scheduler;
 use blk_soft::SoftQueue;
@@ -75,19 +77,23 @@ impl<S: Scheduler, L: Named> Kept<S, L> {
         self.core.pending()
     }
 
-    /// Moves all requests of a software queue into the core, as `Layer::move_all` does.
+    /// Moves all requests of a software queue into the core, as `Layer::move_all_copied` does.
     pub(crate) fn move_all(
         &mut self,
         queue: &mut SoftQueue<S::A>,
+        copies: &mut SoftQueue<S::A>,
         hw: u8,
     ) -> Result<u64, DrainFault>
         requires limits { queue.old.limits ≡ L.setup.limits }
         requires queue { hw < L.setup.hw }
+        requires first { AreOfFirst copies.old.requests queue.old.requests }
         ensures moved { IsMoveAllAnswer S.policy.serves queue.old self.old.core hw queue.new self.new.core result }
         ensures limits { queue.new.limits ≡ L.setup.limits }
+        ensures first { AreOfFirst copies.new.requests queue.new.requests }
+        ensures same_limits { copies.new.limits ≡ copies.old.limits }
         ensures there { IfErr result (λ e. e.why ≢ CoreFault.NoQueue) }
     {
-        move_all(queue, &mut self.core, hw)
+        move_all_copied(queue, copies, &mut self.core, hw)
     }
 
     /// Issues for a hardware queue under a tag.
@@ -132,17 +138,21 @@ impl<S: Scheduler, L: Named> Kept<S, L> {
         }
     }
 
-    /// Completes the command in flight under a tag, and counts it in a worker's part of the ledger.
-    pub(crate) fn done(&mut self, share: &mut Share<L>, tag: u16) -> Result<(), NotIssued>
+    /// Completes the command in flight under a tag, counts it in a worker's part of the ledger, and hands its request out.
+    pub(crate) fn done(
+        &mut self,
+        share: &mut Share<L>,
+        tag: u16,
+    ) -> Result<Request<S::A>, NotIssued>
         requires { 0 < share.old.parts }
         ensures done { OnOk result (Completes S.policy.told_done self.old.core tag self.new.core) }
         ensures counted { OnOk result (share.new.amount ≡ share.old.amount + 1) }
         ensures parts { share.new.parts ≡ share.old.parts }
         ensures same { OnErr result ((self.new.core ≡ self.old.core) × (share.new.amount ≡ share.old.amount)) }
     {
-        self.core.done(tag)?;
+        let request = self.core.complete(tag)?;
         self.book.add(share, 1);
-        Ok(())
+        Ok(request)
     }
 
     /// Takes the command in flight under a tag back, and answers its id.

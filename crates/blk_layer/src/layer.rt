@@ -1,16 +1,17 @@
 //! The layer.
 
-ghost use Rattle.std.specs.Prelude.{◌≡◌, ◌<◌, ◌+◌, [], All, List, IfOk, IfErr, OnOk, IfSome, IfNone, Some, length, slice_get, vec_len};
+ghost use Rattle.std.specs.Prelude.{◌≡◌, ◌<◌, ◌≤◌, ◌+◌, [], All, List, IfOk, IfErr, OnOk, IfSome, IfNone, Some, length, slice_get, vec_len};
 ghost use Rattle.blk_bio.specs.Bios.{Bio as Transfer};
 ghost use Rattle.blk_plug.specs.Plugs.{bios_plugged};
 ghost use Rattle.blk_layer.specs.Flushes.{FlushesInto, IsLeft, IsRoomReason};
 ghost use Rattle.blk_layer.specs.Seats.{IsNewLayer};
 ghost use Rattle.blk_layer.specs.Faults.{CanMake, IsFirstOutside, IsLayerFault};
-ghost use Rattle.blk_layer.specs.Moves.{IsMoveAnswer, IsMoveAllAnswer};
+ghost use Rattle.blk_layer.specs.Moves.{AreOfFirst, IsMoveAnswer, IsMoveAllAnswer};
 ghost use Rattle.blk_layer.specs.Passes.{IsLastTryFault};
 ghost use Rattle.blk_layer.specs.Tries.{IsNoneIssued};
 ghost use Rattle.blk_core.specs.Calls.{Issues};
 
+use crate::copies::{copy_ahead, move_all_copied};
 use crate::flushes::{FlushFault, Flushed, flush};
 use crate::kept::Kept;
 use crate::moves::{DrainFault, move_all, move_first};
@@ -213,8 +214,7 @@ impl<S: Scheduler, L: Named> Layer<S, L> {
     }
 
     /// Moves all requests of a software queue into the core, each as [`Layer::move_first`] does and the first first, up to the first
-    /// that is refused, and answers how many. It waits for nobody: a drain calls it for each of its software queues, with the lock of
-    /// that queue and the core's held.
+    /// that is refused, and answers how many. It waits for nobody.
     ///
     /// Refused with how many were moved before, and why the first of those that are left was refused.
     pub fn move_all(
@@ -226,6 +226,40 @@ impl<S: Scheduler, L: Named> Layer<S, L> {
         ensures { IsMoveAllAnswer S.policy.serves queue.old core.old hw queue.new core.new result }
     {
         move_all(queue, core, hw)
+    }
+
+    /// Copies the requests of a software queue that have no copy yet, the first first, as long as there is memory, and room among the
+    /// copies. These are of the queue's first requests, and have its limits; those that were there stay. It waits for nobody: a drain
+    /// calls it for each of its software queues, with the lock of that queue held, before it takes the core's.
+    pub fn copy_ahead(queue: &SoftQueue<S::A>, copies: &mut SoftQueue<S::A>)
+        requires limits { copies.old.limits ≡ queue.now.limits }
+        requires first { AreOfFirst copies.old.requests queue.now.requests }
+        ensures limits { copies.new.limits ≡ copies.old.limits }
+        ensures kept { length copies.old.requests ≤ length copies.new.requests }
+        ensures first { AreOfFirst copies.new.requests queue.now.requests }
+    {
+        copy_ahead(queue, copies);
+    }
+
+    /// Moves all requests of a software queue into the core as [`Layer::move_all`] does, with copies of its first requests for the trace
+    /// that were made before, so that none is made now. It waits for nobody: a drain calls it for each of its software queues, with the
+    /// lock of that queue and the core's held.
+    ///
+    /// Refused as [`Layer::move_all`] is, and as `Memory` too where the core would take a request that has no copy. The copies that are
+    /// left are again those of the first requests that are left.
+    pub fn move_all_copied(
+        queue: &mut SoftQueue<S::A>,
+        copies: &mut SoftQueue<S::A>,
+        core: &mut Core<S>,
+        hw: u8,
+    ) -> Result<u64, DrainFault>
+        requires limits { queue.old.limits ≡ core.old.setup.limits }
+        requires first { AreOfFirst copies.old.requests queue.old.requests }
+        ensures answer { IsMoveAllAnswer S.policy.serves queue.old core.old hw queue.new core.new result }
+        ensures first { AreOfFirst copies.new.requests queue.new.requests }
+        ensures limits { copies.new.limits ≡ copies.old.limits }
+    {
+        move_all_copied(queue, copies, core, hw)
     }
 
     /// Issues for a hardware queue under a tag, as `Core::issue` does; but where the tag is used up in its round and that is full,

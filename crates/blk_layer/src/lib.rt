@@ -9,6 +9,7 @@
 pub mod accounts;
 pub mod closes;
 mod compares;
+mod copies;
 pub mod devices;
 pub mod flushes;
 mod gathers;

@@ -208,7 +208,7 @@ impl<S: Scheduler, L: Named> Layer<S, L> {
     }
 
     /// Reports what became of the command in the worker's hands under a tag, and answers the next one: both under one hold of the core's
-    /// lock.
+    /// lock. The request of a command that is done is freed after it.
     fn turn<R: Wait>(
         &self,
         rt: &R,
@@ -221,8 +221,11 @@ impl<S: Scheduler, L: Named> Layer<S, L> {
         ensures fault { IfErr result (λ why. IsTurnFault worker.old tag ran why worker.new) }
     {
         let has_room = worker.make_room().is_ok();
+        let mut freed = None;
         let mut kept = self.hold(rt);
-        worker.turn(&mut *kept, &self.tags, tag, ran, has_room)
+        let next = worker.turn(&mut *kept, &self.tags, tag, ran, has_room, &mut freed);
+        drop(kept);
+        next
     }
 
     /// Lets the device run a command in the worker's hands, and reports what became of it.
@@ -238,8 +241,11 @@ impl<S: Scheduler, L: Named> Layer<S, L> {
         ensures fault { IfErr result (λ why. (why ≡ WorkFault.Memory) × (worker.new ≡ worker.old)) }
     {
         let ran = device.run(&issued.command);
+        let mut freed = None;
         let mut kept = self.hold(rt);
-        if worker.end(&mut *kept, &self.tags, issued.tag, ran) {
+        let is_ended = worker.end(&mut *kept, &self.tags, issued.tag, ran, &mut freed);
+        drop(kept);
+        if is_ended {
             Ok(())
         } else {
             Err(WorkFault::Memory)

@@ -14,7 +14,7 @@ use crate::issues::{Issued, Unasked};
 use crate::kept::Kept;
 use crate::names::Named;
 use crate::tries::NoneIssued;
-use blk_bio::Bio;
+use blk_bio::{Bio, Request};
 use blk_core::{BackFault, NotIssued};
 use blk_sched::Scheduler;
 use blk_tags::{TagSeat, TagSet};
@@ -238,13 +238,13 @@ impl<L: Named, A: Allocator + Clone> Worker<L, A> {
         self.hands[usize::from(tag)]
     }
 
-    /// Reports to the core as done the command in its hands under a tag, as `Layer::done` says.
+    /// Reports to the core as done the command in its hands under a tag, as `Layer::done` says, and hands its request out.
     pub(crate) fn done<S: Scheduler<A = A>>(
         &mut self,
         kept: &mut Kept<S, L>,
         tags: &TagSet<A>,
         tag: u16,
-    ) -> Result<(), NotIssued>
+    ) -> Result<Request<A>, NotIssued>
         requires { self.old.tag_set ≡ tags.now }
         ensures done { OnOk result (AccountsFor self.old tag self.new) }
         ensures core { OnOk result (Completes S.policy.told_done kept.old.core tag kept.new.core) }
@@ -253,11 +253,11 @@ impl<L: Named, A: Allocator + Clone> Worker<L, A> {
         let Some(command) = self.in_hand(tag) else {
             return Err(NotIssued);
         };
-        kept.done(&mut self.share, tag)?;
+        let request = kept.done(&mut self.share, tag)?;
         self.hands[usize::from(tag)] = None;
         self.ran.push_reserved(command);
         tags.give(&mut self.seat, tag);
-        Ok(())
+        Ok(request)
     }
 
     /// Hands the command in its hands under a tag back to the core, as `Layer::back` says.

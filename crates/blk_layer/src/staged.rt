@@ -1,11 +1,12 @@
 //! What lies under the lock of a software queue.
 
-ghost use Rattle.std.specs.Prelude.{◌≡◌, ◌≢◌, ◌≤◌, ◌<◌, [], IfOk, IfErr, OnOk, length, vec_len};
+ghost use Rattle.std.specs.Prelude.{◌≡◌, ◌≢◌, ◌≤◌, ◌<◌, [], take, IfOk, IfErr, OnOk, length, vec_len};
 ghost use Rattle.blk_plug.specs.Plugs.{bios_plugged};
 ghost use Rattle.blk_layer.specs.Flushes.{Flushes, IsLeft};
-ghost use Rattle.blk_layer.specs.Moves.{IsMoveAllAnswer};
+ghost use Rattle.blk_layer.specs.Moves.{AreOfFirst, IsMoveAllAnswer};
 ghost use Rattle.blk_soft.specs.Queues.{greatest_depth};
 
+use crate::copies::copy_ahead;
 use crate::flushes::{FlushFault, Flushed, flush};
 use crate::kept::Kept;
 use crate::moves::DrainFault;
@@ -25,18 +26,24 @@ use std::sync::Mutex;
 pub(crate) struct Staged<L: Named, A: Allocator> {
     /// The queue.
     pub(crate) queue: SoftQueue<A>,
+    /// Copies of its first requests for the trace, made ahead.
+    copies: SoftQueue<A>,
     of: PhantomData<L>,
     ghost limits: { queue.limits ≡ L.setup.limits },
+    ghost same_limits: { copies.limits ≡ L.setup.limits },
+    ghost first: { AreOfFirst copies.requests queue.requests },
 }
 
 impl<L: Named, A: Allocator> Staged<L, A> {
-    /// A queue whose limits are the layer's.
-    fn of(queue: SoftQueue<A>) -> Staged<L, A>
-        requires { queue.limits ≡ L.setup.limits }
+    /// A queue whose limits are the layer's, and another one for copies, which has none yet.
+    fn of(queue: SoftQueue<A>, copies: SoftQueue<A>) -> Staged<L, A>
+        requires limits { (queue.limits ≡ L.setup.limits) × (copies.limits ≡ L.setup.limits) }
+        requires none { copies.requests ≡ [] }
         ensures { result.queue ≡ queue }
     {
         Staged {
             queue,
+            copies,
             of: PhantomData,
         }
     }
@@ -44,6 +51,7 @@ impl<L: Named, A: Allocator> Staged<L, A> {
 
 impl<L: Named, A: Allocator + Clone> Staged<L, A> {
     /// Moves the requests of a plug into the queue, as `Layer::flush` says.
+    #[tactic(auto, using(crate::proofs::Copied::flushed_behind))]
     pub(crate) fn flush(
         &mut self,
         submitter: &mut Submitter<L, A>,
@@ -60,7 +68,14 @@ impl<L: Named, A: Allocator + Clone> Staged<L, A> {
         flush(&mut self.queue, submitter, plug)
     }
 
-    /// Moves all requests of the queue into the core, as `Layer::move_all` says.
+    /// Copies the requests of the queue that have no copy yet, as `Layer::copy_ahead` says.
+    pub(crate) fn copy_ahead(&mut self)
+        ensures { self.new.queue ≡ self.old.queue }
+    {
+        copy_ahead(&self.queue, &mut self.copies);
+    }
+
+    /// Moves all requests of the queue into the core, as `Layer::move_all_copied` says.
     pub(crate) fn move_all<S: Scheduler<A = A>>(
         &mut self,
         kept: &mut Kept<S, L>,
@@ -70,7 +85,7 @@ impl<L: Named, A: Allocator + Clone> Staged<L, A> {
         ensures moved { IsMoveAllAnswer S.policy.serves self.old.queue kept.old.core hw self.new.queue kept.new.core result }
         ensures there { IfErr result (λ e. e.why ≢ CoreFault.NoQueue) }
     {
-        kept.move_all(&mut self.queue, hw)
+        kept.move_all(&mut self.queue, &mut self.copies, hw)
     }
 }
 
@@ -88,7 +103,8 @@ pub(crate) fn empty_queues<L: Named, A: Allocator + Clone>(
     let mut queues = Vec::with_capacity(alloc.clone()?, count)?;
     for _i in 0..count {
         let queue = SoftQueue::new(alloc.clone()?, depth, limits)?;
-        queues.push(Mutex::new(Staged::of(queue)))?;
+        let copies = SoftQueue::new(alloc.clone()?, depth, limits)?;
+        queues.push(Mutex::new(Staged::of(queue, copies)))?;
     }
     Ok(queues)
 }

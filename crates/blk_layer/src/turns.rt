@@ -12,26 +12,34 @@ use crate::names::Named;
 use crate::passes::WorkFault;
 use crate::seats::Worker;
 use crate::tries::NoneIssued;
+use blk_bio::Request;
 use blk_sched::Scheduler;
 use blk_tags::TagSet;
 use std::alloc::Allocator;
 
 impl<L: Named, A: Allocator + Clone> Worker<L, A> {
-    /// Reports what became of the command in its hands under a tag: it is done, or goes back. False where the core refuses that; nothing
-    /// is changed then.
+    /// Reports what became of the command in its hands under a tag: it is done, and its request is to be freed, or it goes back. False
+    /// where the core refuses that; nothing is changed then.
     pub(crate) fn end<S: Scheduler<A = A>>(
         &mut self,
         kept: &mut Kept<S, L>,
         tags: &TagSet<A>,
         tag: u16,
         ran: Ran,
+        freed: &mut Option<Request<A>>,
     ) -> bool
         requires { self.old.tag_set ≡ tags.now }
         ensures ended { OnTrue result (IsEndedAs ran self.old tag self.new) }
         ensures same { OnFalse result (self.new ≡ self.old) }
     {
         match ran {
-            Ran::Done => self.done(kept, tags, tag).is_ok(),
+            Ran::Done => match self.done(kept, tags, tag) {
+                Ok(request) => {
+                    *freed = Some(request);
+                    true
+                }
+                Err(_) => false,
+            },
             Ran::Busy => self.back(kept, tags, tag).is_ok(),
         }
     }
@@ -64,7 +72,8 @@ impl<L: Named, A: Allocator + Clone> Worker<L, A> {
         Ok(None)
     }
 
-    /// Reports what became of the command in its hands under a tag, and is issued the next one, where its account has room for that.
+    /// Reports what became of the command in its hands under a tag, as `end` does, and is issued the next one, where its account has
+    /// room for that.
     #[tactic(auto, using(crate::proofs::Turning::turned, crate::proofs::Turning::not_ended, crate::proofs::Turning::none_next))]
     pub(crate) fn turn<S: Scheduler<A = A>>(
         &mut self,
@@ -73,12 +82,13 @@ impl<L: Named, A: Allocator + Clone> Worker<L, A> {
         tag: u16,
         ran: Ran,
         has_room: bool,
+        freed: &mut Option<Request<A>>,
     ) -> Result<Option<Issued>, WorkFault>
         requires { self.old.tag_set ≡ tags.now }
         ensures turned { IfOk result (λ found. IsTurned self.old tag ran found self.new) }
         ensures fault { IfErr result (λ why. IsTurnFault self.old tag ran why self.new) }
     {
-        if !self.end(kept, tags, tag, ran) {
+        if !self.end(kept, tags, tag, ran, freed) {
             return Err(WorkFault::Memory);
         }
         if !has_room {

@@ -46,7 +46,7 @@ impl<S: Scheduler, L: Named> Layer<S, L> {
 
     /// Moves the requests of the software queues of the worker's hardware queue, by rising number, into the core, and answers how many.
     /// Those of a software queue, [`MAX_MOVES`] at most, are moved under its lock and one hold of the core's; the core's is not taken
-    /// where the queue has none.
+    /// where the queue has none, and their copies for the trace are made before it is.
     ///
     /// Where the core refuses one it is first in its queue again, and the drain ends: with how many were moved before, and as
     /// `Repeated`, `TraceFull` or `Memory` as [`Layer::move_first`] is, never as `NoQueue`. The worker's seat stays as it was.
@@ -82,6 +82,7 @@ impl<S: Scheduler, L: Named> Layer<S, L> {
         ensures there { IfErr result (λ e. e.why ≢ CoreFault.NoQueue) }
     {
         let mut staged = self.queues[soft].lock(rt);
+        staged.copy_ahead();
         if staged.queue.len() == 0 {
             return Ok(0);
         }
@@ -127,7 +128,12 @@ impl<S: Scheduler, L: Named> Layer<S, L> {
         ensures same { OnErr result (worker.new ≡ worker.old) }
     {
         let mut kept = self.kept.lock(rt);
-        worker.done(&mut *kept, &self.tags, tag)
+        let done = worker.done(&mut *kept, &self.tags, tag);
+        drop(kept);
+        match done {
+            Ok(_) => Ok(()),
+            Err(why) => Err(why),
+        }
     }
 
     /// Hands the command in the worker's hands under a tag back to the core, since the device was busy, and answers its id: the

@@ -73,6 +73,28 @@ fn layer_drains_by_rising_number(rt: HostRuntime) {
     assert_eq!(rt; other, None);
 }
 
+// What a software queue holds when the layer is closed is left in the order in which it came.
+#[test]
+fn layer_leaves_a_queue_in_order(rt: HostRuntime) {
+    let calls = [
+        Call::Add(0, 0, 0),
+        Call::Add(0, 1, 200),
+        Call::Flush(0, flushed(2)),
+    ];
+    let left = [bio(&rt, 0, 0, 0), bio(&rt, 0, 1, 200)];
+    let other = other_than(
+        &rt,
+        rt.alloc(),
+        (1, 1, 4),
+        &[0, 0],
+        &[0, 0],
+        &calls,
+        &left,
+        0,
+    );
+    assert_eq!(rt; other, None);
+}
+
 // The deepest software queue is filled and drained at once; one request more had no room before.
 #[test]
 fn layer_soft_queue_of_the_greatest_depth(rt: HostRuntime) {

@@ -52,18 +52,60 @@ fn all_of(
     (answer, queue.len(), core.pending())
 }
 
-// All of them, or those before the first one that is refused.
-#[test]
-fn move_all_or_to_the_first_refused(rt: HostRuntime) {
-    let alloc = rt.alloc();
-    let again = DrainFault {
+/// Two requests moved, and the third refused since its bio's id stands in the trace.
+fn again_at_the_third() -> DrainFault {
+    DrainFault {
         moved: 2,
         why: CoreFault::Repeated(BioId {
             submitter: 0,
             serial: 1,
         }),
-    };
+    }
+}
+
+// All of them, or those before the first one that is refused.
+#[test]
+fn move_all_or_to_the_first_refused(rt: HostRuntime) {
+    let alloc = rt.alloc();
+    let again = again_at_the_third();
     assert!(rt; all_of(&rt, alloc, &[]) == (Ok(0), 0, 0));
     assert!(rt; all_of(&rt, alloc, &[1, 2, 3]) == (Ok(3), 0, 3));
     assert!(rt; all_of(&rt, alloc, &[1, 2, 1, 3]) == (Err(again), 2, 2));
+}
+
+/// What a move of all answers that has copies, where they are made, how many requests stay in the queue and wait in the core, and how
+/// many copies stay.
+fn all_copied_of(
+    rt: &impl Abort,
+    alloc: Global,
+    serials: &[u64],
+    are_made: bool,
+) -> (Result<u64, DrainFault>, usize, u64, usize) {
+    let limits = limits(rt);
+    let mut core = core(rt, alloc, setup(rt, 1, 1, limits));
+    let mut queue = queue_of(rt, alloc, serials);
+    let mut copies = SoftQueue::new(alloc, 4, limits).expect(rt, "memory");
+    assert!(rt; queue.limits() == core.trace().setup().limits());
+    assert!(rt; copies.limits() == queue.limits());
+    if are_made {
+        Plain::copy_ahead(&queue, &mut copies);
+        assert!(rt; copies.len() == queue.len());
+    }
+    let answer = Plain::move_all_copied(&mut queue, &mut copies, &mut core, 0);
+    (answer, queue.len(), core.pending(), copies.len())
+}
+
+// The same with copies that are made ahead: those of what is left stay. What has none is refused for want of memory.
+#[test]
+fn move_all_copied_or_to_the_first_refused(rt: HostRuntime) {
+    let alloc = rt.alloc();
+    let again = again_at_the_third();
+    let uncopied = DrainFault {
+        moved: 0,
+        why: CoreFault::Memory,
+    };
+    assert!(rt; all_copied_of(&rt, alloc, &[], true) == (Ok(0), 0, 0, 0));
+    assert!(rt; all_copied_of(&rt, alloc, &[1, 2, 3], true) == (Ok(3), 0, 3, 0));
+    assert!(rt; all_copied_of(&rt, alloc, &[1, 2, 1, 3], true) == (Err(again), 2, 2, 2));
+    assert!(rt; all_copied_of(&rt, alloc, &[1, 2], false) == (Err(uncopied), 2, 0, 0));
 }

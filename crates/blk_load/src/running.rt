@@ -23,6 +23,7 @@ use blk_layer::{
 };
 use blk_sched::Scheduler;
 use blk_settings::fault::first_of;
+use blk_settings::numbers::MAX_LOAD_WORKERS;
 use blk_settings::{Load, LoadFault, Loaded};
 use std::alloc::{AllocError, Global};
 use std::marker::Brand;
@@ -76,9 +77,9 @@ pub fn load<R: Threads + Wait + Sync, S: Scheduler<A = Global> + Send>(
 
 /// The numbers below the second one, in turn and again from 0, as many as the first one says.
 fn in_turn(alloc: Global, count: u64, below: u64) -> Result<Vec<u8>, AllocError>
-    requires count { count ≤ 64 }
+    requires count { count ≤ MAX_WORKERS }
     requires some { 1 ≤ below }
-    requires few { below ≤ 16 }
+    requires few { below ≤ MAX_LOAD_WORKERS }
     ensures turn { IfOk result (λ all. AreInTurn count below all.items) }
     ensures below { IfOk result (λ all. All (λ n. n < below) all.items) }
 {

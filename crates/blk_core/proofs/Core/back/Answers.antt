@@ -11,7 +11,7 @@ use Rattle.blk_trace.specs.declared.event.Event.TheVariants.{Back}
 use Rattle.blk_core.proofs.Pushed.{pushed_at_once}
 use Rattle.blk_core.proofs.Ties.{open_flight, read_at, beyond, flying_open, not_flying}
 use Rattle.blk_core.proofs.Ended.{end_unbroken, tied_back, few_handed}
-use Rattle.blk_core.proofs.Flights.{any_default, flight_at}
+use Rattle.blk_core.proofs.Flights.{of_flying, flight_at}
 use Rattle.blk_core.proofs.Core.back.Goals as goal
 
 -- what is said of the code's direction is said of the request's
@@ -42,10 +42,6 @@ on_back-requires-clause-few g c =
     let lt : c.args.tag < length c.self.inside.tags.items = search rules in
     few_handed c.self.inside.trace.setup c.self.inside.trace.events _ c.self.inside.tags.items c.self.inside.held c.self.inside.released c.args.tag c.in-Flying.hw c.in-Flying.queued c.self.invariant
     (read_at c.self.inside.tags.items c.args.tag c.in-Flying.hw c.index.result.now c.in-Flying.queued lt c.index.ensures c.in-Flying.is)
-
--- what is known of the tag that the code writes
-of_flying : {A : Type 0} (P : ℕ → Waiting → Type 0) (fl : List (TagState A)) (tag hw : ℕ) (seen : TagState A) (w : Waiting) → tag < length fl → seen ≡ get_or fl tag seen → get_or fl tag Free ≡ Flying hw w → IfFlying seen P → P hw w
-of_flying {A} P fl tag hw seen w lt e at h = let is : seen ≡ Flying hw w = e ∙ any_default fl tag seen Free lt ∙ at in subst (λ (s : TagState A). IfFlying s P) is h
 
 queue_below : {A : Type 0} (count hw : ℕ) (s : TagState A) (w : Waiting) → s ≡ Flying hw w → queue_of s < count → hw < count
 queue_below {A} count hw s w is h = subst (λ (x : TagState A). queue_of x < count) is h

@@ -5,7 +5,7 @@ use Rattle.blk_layer.specs.Passes.{IsTurned, IsTurnFault}
 use Rattle.blk_layer.proofs.layer.Layer.turn.Goals as goal
 
 pub returns-clause-turned : goal.returns-clause-turned
-returns-clause-turned g c = subst (λ (s : WorkerSeat). IfOk c.turn.result (λ found. IsTurned s c.args.tag c.args.ran found c.turn.new.self)) c.make_room.ensures c.turn.ensures.turned
+returns-clause-turned g c = subst (λ (s : WorkerSeat). IfOk c.turn-next.result (λ found. IsTurned s c.args.tag c.args.ran found c.turn-next.new.self)) c.make_room.ensures c.turn-next.ensures.turned
 
 pub returns-clause-fault : goal.returns-clause-fault
-returns-clause-fault g c = subst (λ (s : WorkerSeat). IfErr c.turn.result (λ why. IsTurnFault s c.args.tag c.args.ran why c.turn.new.self)) c.make_room.ensures c.turn.ensures.fault
+returns-clause-fault g c = subst (λ (s : WorkerSeat). IfErr c.turn-next.result (λ why. IsTurnFault s c.args.tag c.args.ran why c.turn-next.new.self)) c.make_room.ensures c.turn-next.ensures.fault

@@ -25,5 +25,5 @@ invariant_of-self-2 g c =
     let gave = c.give.ensures in
     let put = c.push_reserved in
     let more : length put.new.self.items ≡ length own.ran.items + 1 = omega (arith, put.ensures.len, own.ran.ok.0, put.new.self.ok.0) in
-    let sum : c.done.new.share.amount ≡ length put.new.self.items = omega (arith, c.in_ok-done.ensures.counted, c.self.invariant.counted, more) in
-    one_fewer g.L.Named.setup own.hw own.seat.of_set.depth c.give.new.seat.of_set.depth own.seat.tags c.give.new.seat.tags own.hands.items (length own.ran.items) (length put.new.self.items) (vec_capacity own.ran) (vec_capacity put.new.self) own.share.parts c.done.new.share.parts own.share.amount c.done.new.share.amount c.from.result c.args.tag c.in-Some.command c.self.invariant (ap (λ (s : TagSeat). s.of_set.depth) gave) held (ap (λ (s : TagSeat). s.tags) gave) c.from.ensures (omega (arith, more)) put.ensures.capacity c.in_ok-done.ensures.parts sum
+    let sum : c.done.new.share.amount ≡ length put.new.self.items = omega (arith, c.in_ok-request.ensures.counted, c.self.invariant.counted, more) in
+    one_fewer g.L.Named.setup own.hw own.seat.of_set.depth c.give.new.seat.of_set.depth own.seat.tags c.give.new.seat.tags own.hands.items (length own.ran.items) (length put.new.self.items) (vec_capacity own.ran) (vec_capacity put.new.self) own.share.parts c.done.new.share.parts own.share.amount c.done.new.share.amount c.from.result c.args.tag c.in-Some.command c.self.invariant (ap (λ (s : TagSeat). s.of_set.depth) gave) held (ap (λ (s : TagSeat). s.tags) gave) c.from.ensures (omega (arith, more)) put.ensures.capacity c.in_ok-request.ensures.parts sum
