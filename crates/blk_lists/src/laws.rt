@@ -14,141 +14,66 @@ ghost use Rattle.blk_lists.specs.Words.{NextStarts};
 ghost use Rattle.blk_lists.specs.declared.fault.Why.TheVariants as why;
 ghost use Rattle.blk_lists.specs.declared.fault.Why.{Why as AWhy};
 
-/// A list of records spells one depth and one list of commands at most.
-pub fn commands_are_spelled_once()
-    ensures { (rows : List Row) → (depth other : ℕ) → (commands others : List Command)
+/// Command lists: records spell one at most, and its text reads back as its records, which spell it. Records either spell one
+/// or have a fault as one, and not both; and they have one first fault at most.
+pub fn commands()
+    ensures once { (rows : List Row) → (depth other : ℕ) → (commands others : List Command)
         → SpellsCommands rows depth commands → SpellsCommands rows other others
         → (depth ≡ other) × (commands ≡ others) }
-{}
-
-/// The text of a command list reads back as its records, which spell it.
-pub fn commands_read_back()
-    ensures { (depth : ℕ) → (commands : List Command) → AreCommands depth commands
+    ensures back { (depth : ℕ) → (commands : List Command) → AreCommands depth commands
         → SpellsCommands (records default_config (strip_bom (rows_text (commands_rows depth commands)))) depth commands }
-{}
-
-/// Records either spell a command list or have a fault as one.
-pub fn a_command_list_is_spelled_or_has_a_fault()
-    ensures { (rows : List Row) → ((depth : ℕ) × (commands : List Command) × SpellsCommands rows depth commands) ⊎ ((at : ℕ) × (w : AWhy) × CommandsFault rows at w) }
-{}
-
-/// Records that spell a command list have no fault.
-pub fn spelled_commands_have_no_fault()
-    ensures { (rows : List Row) → (depth : ℕ) → (commands : List Command) → (at : ℕ) → (w : AWhy)
+    ensures decided { (rows : List Row) → ((depth : ℕ) × (commands : List Command) × SpellsCommands rows depth commands) ⊎ ((at : ℕ) × (w : AWhy) × CommandsFault rows at w) }
+    ensures apart { (rows : List Row) → (depth : ℕ) → (commands : List Command) → (at : ℕ) → (w : AWhy)
         → SpellsCommands rows depth commands → CommandsFault rows at w → ⊥ }
-{}
-
-/// Records have one first fault as a command list at most.
-pub fn a_command_list_has_one_fault()
-    ensures { (rows : List Row) → (at other : ℕ) → (w v : AWhy)
+    ensures first { (rows : List Row) → (at other : ℕ) → (w v : AWhy)
         → CommandsFault rows at w → CommandsFault rows other v → (at ≡ other) × (w ≡ v) }
 {}
 
-/// A list of records spells one certificate at most.
-pub fn certificates_are_spelled_once()
-    ensures { (rows : List Row) → (c d : Claim) → SpellsClaim rows c → SpellsClaim rows d → c ≡ d }
-{}
-
-/// The text of a certificate reads back as its records, which spell it.
-pub fn certificates_read_back()
-    ensures { (c : Claim) → IsClaim c → SpellsClaim (records default_config (strip_bom (rows_text (claim_rows c)))) c }
-{}
-
-/// Records either spell a certificate or have a fault as one.
-pub fn a_certificate_is_spelled_or_has_a_fault()
-    ensures { (rows : List Row) → ((c : Claim) × SpellsClaim rows c) ⊎ ((at : ℕ) × (w : AWhy) × ClaimFault rows at w) }
-{}
-
-/// Records that spell a certificate have no fault.
-pub fn spelled_certificates_have_no_fault()
-    ensures { (rows : List Row) → (c : Claim) → (at : ℕ) → (w : AWhy) → SpellsClaim rows c → ClaimFault rows at w → ⊥ }
-{}
-
-/// Records have one first fault as a certificate at most.
-pub fn a_certificate_has_one_fault()
-    ensures { (rows : List Row) → (at other : ℕ) → (w v : AWhy)
+/// Certificates: records spell one at most, and its text reads back as its records, which spell it. Records either spell one
+/// or have a fault as one, and not both; and they have one first fault at most.
+pub fn certificates()
+    ensures once { (rows : List Row) → (c d : Claim) → SpellsClaim rows c → SpellsClaim rows d → c ≡ d }
+    ensures back { (c : Claim) → IsClaim c → SpellsClaim (records default_config (strip_bom (rows_text (claim_rows c)))) c }
+    ensures decided { (rows : List Row) → ((c : Claim) × SpellsClaim rows c) ⊎ ((at : ℕ) × (w : AWhy) × ClaimFault rows at w) }
+    ensures apart { (rows : List Row) → (c : Claim) → (at : ℕ) → (w : AWhy) → SpellsClaim rows c → ClaimFault rows at w → ⊥ }
+    ensures first { (rows : List Row) → (at other : ℕ) → (w v : AWhy)
         → ClaimFault rows at w → ClaimFault rows other v → (at ≡ other) × (w ≡ v) }
 {}
 
-/// A list of records spells one certificate of the greatest number met at most.
-pub fn met_certificates_are_spelled_once()
-    ensures { (rows : List Row) → (c d : MetClaim) → SpellsMet rows c → SpellsMet rows d → c ≡ d }
-{}
-
-/// The text of such a certificate reads back as its records, which spell it.
-pub fn met_certificates_read_back()
-    ensures { (c : MetClaim) → IsMetClaim c → SpellsMet (records default_config (strip_bom (rows_text (met_rows c)))) c }
-{}
-
-/// Records either spell such a certificate or have a fault as one.
-pub fn a_met_certificate_is_spelled_or_has_a_fault()
-    ensures { (rows : List Row) → ((c : MetClaim) × SpellsMet rows c) ⊎ ((at : ℕ) × (w : AWhy) × MetClaimFault rows at w) }
-{}
-
-/// Records that spell such a certificate have no fault.
-pub fn spelled_met_certificates_have_no_fault()
-    ensures { (rows : List Row) → (c : MetClaim) → (at : ℕ) → (w : AWhy) → SpellsMet rows c → MetClaimFault rows at w → ⊥ }
-{}
-
-/// Records have one first fault as such a certificate at most.
-pub fn a_met_certificate_has_one_fault()
-    ensures { (rows : List Row) → (at other : ℕ) → (w v : AWhy)
+/// Certificates of the greatest number met: records spell one at most, and its text reads back as its records, which spell it. Records either spell one
+/// or have a fault as one, and not both; and they have one first fault at most.
+pub fn met_certificates()
+    ensures once { (rows : List Row) → (c d : MetClaim) → SpellsMet rows c → SpellsMet rows d → c ≡ d }
+    ensures back { (c : MetClaim) → IsMetClaim c → SpellsMet (records default_config (strip_bom (rows_text (met_rows c)))) c }
+    ensures decided { (rows : List Row) → ((c : MetClaim) × SpellsMet rows c) ⊎ ((at : ℕ) × (w : AWhy) × MetClaimFault rows at w) }
+    ensures apart { (rows : List Row) → (c : MetClaim) → (at : ℕ) → (w : AWhy) → SpellsMet rows c → MetClaimFault rows at w → ⊥ }
+    ensures first { (rows : List Row) → (at other : ℕ) → (w v : AWhy)
         → MetClaimFault rows at w → MetClaimFault rows other v → (at ≡ other) × (w ≡ v) }
 {}
 
-/// A certificate of either form is that of the name that its title begins with, and so are its faults; a text that begins
-/// with neither name has another title.
-pub fn proofs_are_told_by_their_titles()
+/// Certificates of either form: one is that of the name that its title begins with, and so are its faults; a text that begins
+/// with neither name has another title. Records spell one at most; they either spell one or have a fault as one, and not both;
+/// and they have one first fault at most.
+pub fn certificates_of_both_forms()
     ensures lateness { (rows : List Row) → (at : ℕ) → (w : AWhy) → NextStarts (codes "blk-certificate") rows → (ProofFault rows at w → ClaimFault rows at w) × (ClaimFault rows at w → ProofFault rows at w) }
     ensures met { (rows : List Row) → (at : ℕ) → (w : AWhy) → NextStarts (codes "blk-met") rows → (ProofFault rows at w → MetClaimFault rows at w) × (MetClaimFault rows at w → ProofFault rows at w) }
     ensures neither { (rows : List Row) → (NextStarts (codes "blk-certificate") rows → ⊥) → (NextStarts (codes "blk-met") rows → ⊥) → ProofFault rows 1 why.Title }
     ensures spelled_lateness { (rows : List Row) → (c : Claim) → SpellsProof rows (OfLateness c) → NextStarts (codes "blk-certificate") rows }
     ensures spelled_met { (rows : List Row) → (c : MetClaim) → SpellsProof rows (OfMet c) → NextStarts (codes "blk-met") rows }
-{}
-
-/// A list of records spells one certificate of either form at most.
-pub fn proofs_are_spelled_once()
-    ensures { (rows : List Row) → (c d : ProofClaim) → SpellsProof rows c → SpellsProof rows d → c ≡ d }
-{}
-
-/// Records either spell a certificate of either form or have a fault as one.
-pub fn a_proof_is_spelled_or_has_a_fault()
-    ensures { (rows : List Row) → ((c : ProofClaim) × SpellsProof rows c) ⊎ ((at : ℕ) × (w : AWhy) × ProofFault rows at w) }
-{}
-
-/// Records that spell a certificate of either form have no fault.
-pub fn spelled_proofs_have_no_fault()
-    ensures { (rows : List Row) → (c : ProofClaim) → (at : ℕ) → (w : AWhy) → SpellsProof rows c → ProofFault rows at w → ⊥ }
-{}
-
-/// Records have one first fault as a certificate of either form at most.
-pub fn a_proof_has_one_fault()
-    ensures { (rows : List Row) → (at other : ℕ) → (w v : AWhy)
+    ensures once { (rows : List Row) → (c d : ProofClaim) → SpellsProof rows c → SpellsProof rows d → c ≡ d }
+    ensures decided { (rows : List Row) → ((c : ProofClaim) × SpellsProof rows c) ⊎ ((at : ℕ) × (w : AWhy) × ProofFault rows at w) }
+    ensures apart { (rows : List Row) → (c : ProofClaim) → (at : ℕ) → (w : AWhy) → SpellsProof rows c → ProofFault rows at w → ⊥ }
+    ensures first { (rows : List Row) → (at other : ℕ) → (w v : AWhy)
         → ProofFault rows at w → ProofFault rows other v → (at ≡ other) × (w ≡ v) }
 {}
 
-/// A list of records spells one schedule at most.
-pub fn schedules_are_spelled_once()
-    ensures { (rows : List Row) → (c d : Ran) → SpellsSchedule rows c → SpellsSchedule rows d → c ≡ d }
-{}
-
-/// The text of a schedule reads back as its records, which spell it.
-pub fn schedules_read_back()
-    ensures { (c : Ran) → IsRan c → SpellsSchedule (records default_config (strip_bom (rows_text (ran_rows c)))) c }
-{}
-
-/// Records either spell a schedule or have a fault as one.
-pub fn a_schedule_is_spelled_or_has_a_fault()
-    ensures { (rows : List Row) → ((c : Ran) × SpellsSchedule rows c) ⊎ ((at : ℕ) × (w : AWhy) × ScheduleFault rows at w) }
-{}
-
-/// Records that spell a schedule have no fault.
-pub fn spelled_schedules_have_no_fault()
-    ensures { (rows : List Row) → (c : Ran) → (at : ℕ) → (w : AWhy) → SpellsSchedule rows c → ScheduleFault rows at w → ⊥ }
-{}
-
-/// Records have one first fault as a schedule at most.
-pub fn a_schedule_has_one_fault()
-    ensures { (rows : List Row) → (at other : ℕ) → (w v : AWhy)
+/// Schedules: records spell one at most, and its text reads back as its records, which spell it. Records either spell one
+/// or have a fault as one, and not both; and they have one first fault at most.
+pub fn schedules()
+    ensures once { (rows : List Row) → (c d : Ran) → SpellsSchedule rows c → SpellsSchedule rows d → c ≡ d }
+    ensures back { (c : Ran) → IsRan c → SpellsSchedule (records default_config (strip_bom (rows_text (ran_rows c)))) c }
+    ensures decided { (rows : List Row) → ((c : Ran) × SpellsSchedule rows c) ⊎ ((at : ℕ) × (w : AWhy) × ScheduleFault rows at w) }
+    ensures apart { (rows : List Row) → (c : Ran) → (at : ℕ) → (w : AWhy) → SpellsSchedule rows c → ScheduleFault rows at w → ⊥ }
+    ensures first { (rows : List Row) → (at other : ℕ) → (w v : AWhy)
         → ScheduleFault rows at w → ScheduleFault rows other v → (at ≡ other) × (w ≡ v) }
 {}

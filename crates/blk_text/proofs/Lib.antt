@@ -1,5 +1,6 @@
 pub mod Rows
 pub mod BioLaws
+pub mod KindLaws
 pub mod ScriptLaws
 pub mod TraceLemmas
 pub mod HeadLaws

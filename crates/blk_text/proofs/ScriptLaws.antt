@@ -1,5 +1,5 @@
 -- The laws of scripts.
-use Rattle.std.proofs.Common.{◌≡◌, ◌+◌, ◌<◌, ◌≤◌, ◌==◌, ◌∙◌, ℕ, zero, suc, List, [], ◌∷◌, length, map, Option, Some, None, refl, sym, ap, subst, inl, inr, arith, get_or, codes}
+use Rattle.std.proofs.Common.{◌≡◌, ◌+◌, ◌<◌, ◌≤◌, ◌==◌, ◌∙◌, ℕ, zero, suc, List, [], ◌∷◌, length, map, Option, Some, None, refl, sym, ap, subst, inl, inr, arith, get_or, codes, true}
 use Rattle.std.specs.Prelude.{◌⊎◌, All, Err, IfSome, Bool, if◌then◌else◌}
 use Rattle.csv.specs.Reading.{default_config, records, strip_bom}
 use Rattle.csv.specs.Writing.{read_back}
@@ -12,97 +12,89 @@ use Rattle.blk_lists.specs.Sources.{Row}
 use Rattle.blk_lists.specs.Texts.{rows_text}
 use Rattle.blk_trace.specs.declared.setup.TheConstants.{MAX_DEPTH}
 use Rattle.blk_text.specs.SetupRecord.{setup_cells, setup, FitsSetup}
-use Rattle.blk_lists.specs.Words.{StartsWith, HasNoWord, WordLacks}
+use Rattle.blk_lists.specs.Words.{StartsWith, WordLacks}
 use Rattle.blk_lists.specs.Fields.{Lacks, FieldsSpell}
 use Rattle.blk_lists.specs.Reads.{Reads, Halts, IsRowOf, IsWrongLine, IsOne, items_of}
 use Rattle.blk_lists.specs.Tables.{FitsCells, row_by, slots_by, kinds_record}
-use Rattle.blk_text.specs.Script.{word_of, StepStandsIn, Held, step_cells, step_said, LineFits, IsLineOf, IsRight, HasNoSuchBio, script_cells, IsTitle, IsEnough, TooFew, plain_title, title, plain_step, step, script_body, script_form, script_value, Scripted, title_of, script_rows, IsScript, IsScriptOf, SpellsVersion, SpellsScript, ScriptFault}
+use Rattle.blk_text.specs.StepKinds.{StepKind, word_of, StepStandsIn, slots_for, Held, step_cells}
+use Rattle.blk_text.specs.StepKinds as kind
+use Rattle.blk_text.specs.Script.{step_said, LineFits, IsLineOf, IsRight, HasNoSuchBio, script_cells, IsTitle, IsEnough, TooFew, plain_title, title, plain_step, step, script_body, script_form, script_value, Scripted, title_of, script_rows, IsScript, IsScriptOf, SpellsVersion, SpellsScript, ScriptFault}
 use Rattle.blk_text.specs.BioTable.{bio_record}
 use Rattle.blk_text.specs.Versions.{latest, most_tags}
 use Rattle.blk_lists.specs.declared.fault.Why.{Why}
 use Rattle.blk_lists.specs.declared.fault.Why.TheVariants as why
 use Rattle.blk_lists.specs.declared.fields.Slot.TheVariants as slot
 use Rattle.parts.specs.declared.Repeats.TheVariants as repeats
-use Rattle.parts.specs.Parts.{Begins, Spells}
+use Rattle.parts.specs.Parts.{Part, Begins, Spells}
 use Rattle.parts.specs.Laws.{Tells, Decides}
 use Rattle.parts.proofs.Then.{record_decides, then_tells, then_decides, tested_tells, tested_decides, seen_tells, seen_decides}
 use Rattle.blk_text.specs.declared.script.Line.{Line}
 use Rattle.blk_text.specs.declared.script.Line.TheVariants as line
 use Rattle.blk_text.specs.declared.script.Title.{Title}
-use Rattle.blk_text.specs.declared.script.Word.{Word}
-use Rattle.blk_text.specs.declared.script.Word.TheVariants as word
 use Rattle.blk_lists.proofs.Lacking.{Dec, at_most}
-use Rattle.blk_lists.proofs.TableLaws.{IsTable, IsBy, word_line, first_is, kinds_tell, kinds_decide, word_tells, word_decides, title_part, title_decides, words_tell, word_picked}
+use Rattle.blk_text.proofs.KindLaws.{SizedSlots, row_table}
+use Rattle.blk_lists.proofs.TableLaws.{IsTable, IsBy, begins, word_line, kinds_tell, kinds_decide, word_tells, word_decides, title_part, title_decides, words_tell, word_picked}
 use Rattle.blk_lists.proofs.Each.{all_fit, each_tells, each_decides, one_record}
 use Rattle.blk_lists.proofs.Reading.{then_reads, first_halts, second_halts}
 use Rattle.blk_lists.proofs.Texts.{text_back, parts_back, begins_itself}
 use Rattle.blk_bio.specs.declared.limits.TheConstants.{MAX_QUEUES, MAX_SOFT_QUEUES, MAX_SOFT_DEPTH}
 use Rattle.blk_text.specs.declared.script.TheConstants.{MAX_STEPS}
 
--- the word of a field, whatever stands there
-abbrev word_at : List ℕ → Word
-word_at f =
-    if get_or f 0 0 == 98 then (if get_or f 1 0 == 105 then word.Bio else word.Back)
-    else if get_or f 0 0 == 102 then word.Flush
-    else if get_or f 0 0 == 105 then word.Issue
-    else if get_or f 0 0 == 116 then word.Tick
-    else if get_or f 0 0 == 114 then word.Run
-    else if get_or f 1 0 == 114 then word.Drain
-    else if get_or f 1 0 == 101 then word.Depth
-    else word.Done
+-- the kind of a word, whatever it is
+abbrev kind_at : List ℕ → StepKind
+kind_at f =
+    if get_or f 0 0 == 98 then (if get_or f 1 0 == 105 then kind.Bio else kind.Back)
+    else if get_or f 0 0 == 102 then kind.Flush
+    else if get_or f 0 0 == 105 then kind.Issue
+    else if get_or f 0 0 == 116 then kind.Tick
+    else if get_or f 0 0 == 114 then kind.Run
+    else if get_or f 1 0 == 114 then kind.Drain
+    else if get_or f 1 0 == 101 then kind.Depth
+    else kind.Done
 
-word_is : (k : Word) → word_at (word_of k) ≡ k
-word_is word.Bio = refl
-word_is k = refl
+kind_is : (k : StepKind) → kind_at (word_of k) ≡ k
+kind_is kind.Bio = refl
+kind_is k = refl
 
-stands_decided : (version : ℕ) (k : Word) → Dec (StepStandsIn version k)
-stands_decided version word.Depth = at_most 2 version
+stands_decided : (version : ℕ) (k : StepKind) → Dec (StepStandsIn version k)
+stands_decided version kind.Depth = at_most 2 version
 stands_decided version k = inl tt
 
 -- steps
 
-step_table : (hw submitters : ℕ) → hw ≤ MAX_QUEUES → submitters ≤ MAX_SOFT_QUEUES → (k : Word) → IsTable (step_cells hw submitters k) (FitsCells (step_cells hw submitters k))
-step_table hw submitters g s word.Bio = record {
-  sized = (omega (arith, s), (omega arith, (tt, (omega arith, (omega arith, tt)))));
-  within = λ b f. f;
-  made = λ x. record { id = record { submitter = x.0; serial = x.1.0 }; dir = x.1.1.0; first = x.1.1.1.0; sectors = x.1.1.1.1.0 };
-  back = λ b f. refl;
-  forth = λ x. refl;
-  fits = λ x f. f;
-}
-step_table hw submitters g s word.Flush = record { sized = (omega (arith, s), (tt, (tt, (tt, (tt, tt))))); within = λ v f. f; made = λ x. x.0; back = λ v f. refl; forth = λ x. refl; fits = λ x f. f }
-step_table hw submitters g s word.Drain = record { sized = (omega (arith, g), (tt, (tt, (tt, (tt, tt))))); within = λ v f. f; made = λ x. x.0; back = λ v f. refl; forth = λ x. refl; fits = λ x f. f }
-step_table hw submitters g s word.Issue = record { sized = (omega (arith, g), (omega arith, (tt, (tt, (tt, tt))))); within = λ v f. f; made = λ x. (x.0, x.1.0); back = λ v f. refl; forth = λ x. refl; fits = λ x f. f }
-step_table hw submitters g s word.Done = record { sized = (omega arith, (tt, (tt, (tt, (tt, tt))))); within = λ v f. f; made = λ x. x.0; back = λ v f. refl; forth = λ x. refl; fits = λ x f. f }
-step_table hw submitters g s word.Back = record { sized = (omega arith, (tt, (tt, (tt, (tt, tt))))); within = λ v f. f; made = λ x. x.0; back = λ v f. refl; forth = λ x. refl; fits = λ x f. f }
-step_table hw submitters g s word.Depth = record { sized = (omega arith, (tt, (tt, (tt, (tt, tt))))); within = λ v f. f; made = λ x. x.0; back = λ v f. refl; forth = λ x. refl; fits = λ x f. f }
-step_table hw submitters g s word.Tick = record { sized = (tt, (tt, (tt, (tt, (tt, tt))))); within = λ v f. f; made = λ x. tt; back = λ v f. refl; forth = λ x. refl; fits = λ x f. f }
-step_table hw submitters g s word.Run = record { sized = (omega arith, (tt, (tt, (tt, (tt, tt))))); within = λ v f. f; made = λ x. x.0; back = λ v f. refl; forth = λ x. refl; fits = λ x f. f }
+sized : (hw submitters : ℕ) → hw ≤ MAX_QUEUES → submitters ≤ MAX_SOFT_QUEUES → (k : StepKind) → SizedSlots (slots_for hw submitters k)
+sized hw submitters g s kind.Bio = (omega (arith, s), (omega arith, (omega arith, (omega arith, tt))))
+sized hw submitters g s kind.Flush = (omega (arith, s), tt)
+sized hw submitters g s kind.Drain = (omega (arith, g), tt)
+sized hw submitters g s kind.Issue = (omega (arith, g), (omega arith, tt))
+sized hw submitters g s kind.Tick = tt
+sized hw submitters g s k = (omega arith, tt)
+
+tables : (hw submitters : ℕ) → hw ≤ MAX_QUEUES → submitters ≤ MAX_SOFT_QUEUES → (k : StepKind) → IsTable (step_cells hw submitters k) (FitsCells (step_cells hw submitters k))
+tables hw submitters g s k = row_table (slots_for hw submitters k) (sized hw submitters g s k)
 
 -- the step of a kind
-line_with : (k : Word) → Held k → Line
-line_with word.Bio b = line.Bio b
-line_with word.Flush s = line.Flush s
-line_with word.Drain h = line.Drain h
-line_with word.Issue i = line.Issue i.0 i.1
-line_with word.Done t = line.Done t
-line_with word.Back t = line.Back t
-line_with word.Depth d = line.Depth d
-line_with word.Tick t = line.Tick
-line_with word.Run n = line.Run n
+abbrev line_with : (hw submitters : ℕ) (k : StepKind) → Held hw submitters k → Line
+line_with hw submitters kind.Bio b = line.Bio record { id = record { submitter = b.0; serial = b.1.0 }; dir = b.1.1.0; first = b.1.1.1.0; sectors = b.1.1.1.1.0 }
+line_with hw submitters kind.Flush s = line.Flush s.0
+line_with hw submitters kind.Drain h = line.Drain h.0
+line_with hw submitters kind.Issue i = line.Issue i.0 i.1.0
+line_with hw submitters kind.Done t = line.Done t.0
+line_with hw submitters kind.Back t = line.Back t.0
+line_with hw submitters kind.Depth d = line.Depth d.0
+line_with hw submitters kind.Tick t = line.Tick
+line_with hw submitters kind.Run n = line.Run n.0
 
-line_back : (l : Line) → line_with (step_said l).0 (step_said l).1 ≡ l
-unfolding line_with
-line_back (line.Bio b) = refl
-line_back l = refl
+line_back : (hw submitters : ℕ) (l : Line) → line_with hw submitters (step_said hw submitters l).0 (step_said hw submitters l).1 ≡ l
+line_back hw submitters (line.Bio b) = refl
+line_back hw submitters l = refl
 
-held_back : (k : Word) (v : Held k) → step_said (line_with k v) ≡ (k, v)
-unfolding line_with
-held_back word.Bio v = refl
-held_back k v = refl
+held_back : (hw submitters : ℕ) (k : StepKind) (v : Held hw submitters k) → step_said hw submitters (line_with hw submitters k v) ≡ (k, v)
+held_back hw submitters kind.Bio v = refl
+held_back hw submitters k v = refl
 
-abbrev kinds : ℕ → ℕ → ℕ → Rattle.parts.specs.Parts.Part Row Why ((k : Word) × Held k)
-kinds version hw submitters = kinds_record Held why.Count 6 (StepStandsIn version) word_of (step_cells hw submitters)
+abbrev kinds : (version hw submitters : ℕ) → Part Row Why ((k : StepKind) × Held hw submitters k)
+kinds version hw submitters = kinds_record (Held hw submitters) why.Count 6 (StepStandsIn version) word_of (step_cells hw submitters)
 
 one_bio : (b c : Bio) → line.Bio b ≡ line.Bio c → b ≡ c
 one_bio b c e = cc e
@@ -148,7 +140,8 @@ right_or_no_bio l = inl (λ b e. absurd (cc e))
 
 step_tells : (version hw submitters : ℕ) → hw ≤ MAX_QUEUES → submitters ≤ MAX_SOFT_QUEUES → Tells (step version hw submitters)
 step_tells version hw submitters g s = tested_tells (plain_step version hw submitters) IsRight HasNoSuchBio
-    (seen_tells step_said (kinds version hw submitters) (λ l m e. sym (line_back l) ∙ ap (λ (h : (k : Word) × Held k). line_with h.0 h.1) e ∙ line_back m) (kinds_tell Held why.Count 6 (StepStandsIn version) word_of (step_cells hw submitters) (words_tell word_of word_at word_is) (step_table hw submitters g s)))
+    (seen_tells (step_said hw submitters) (kinds version hw submitters) (λ l m e. sym (line_back hw submitters l) ∙ ap (λ (h : (k : StepKind) × Held hw submitters k). line_with hw submitters h.0 h.1) e ∙ line_back hw submitters m)
+    (kinds_tell (Held hw submitters) why.Count 6 (StepStandsIn version) word_of (step_cells hw submitters) (words_tell word_of kind_at kind_is) (tables hw submitters g s)))
     (λ l k j w x fit. no_bio_once l k j w x) (λ l k w good n. no_bio_is n.0 n.1 (good n.0 n.2) n.5) (λ l k w n. (let is = n.3 in (omega (arith, is), omega (arith, is))))
 
 pub step_one : (version hw submitters : ℕ) → hw ≤ MAX_QUEUES → submitters ≤ MAX_SOFT_QUEUES → IsOne (step version hw submitters)
@@ -156,7 +149,8 @@ step_one version hw submitters g s = record { tells = step_tells version hw subm
 
 step_decides : (version hw submitters : ℕ) → hw ≤ MAX_QUEUES → submitters ≤ MAX_SOFT_QUEUES → Decides (step version hw submitters)
 step_decides version hw submitters g s = tested_decides (plain_step version hw submitters) IsRight HasNoSuchBio
-    (seen_decides step_said (kinds version hw submitters) (λ v f. (line_with v.0 v.1, held_back v.0 v.1)) (kinds_decide Held why.Count 6 (StepStandsIn version) word_of (step_cells hw submitters) (word_picked word_of word_at (StepStandsIn version) word_is (stands_decided version)) (step_table hw submitters g s)))
+    (seen_decides (step_said hw submitters) (kinds version hw submitters) (λ v f. (line_with hw submitters v.0 v.1, held_back hw submitters v.0 v.1))
+    (kinds_decide (Held hw submitters) why.Count 6 (StepStandsIn version) word_of (step_cells hw submitters) (word_picked word_of kind_at (StepStandsIn version) kind_is (stands_decided version)) (tables hw submitters g s)))
     (λ l fit. right_or_no_bio l)
 
 -- the numbers of a step, as its table and as the script say
@@ -184,31 +178,39 @@ fits_step version hw submitters g s (line.Depth d) f = let high = f.0.1.0.1 in o
 fits_step version hw submitters g s line.Tick f = tt
 fits_step version hw submitters g s (line.Run n) f = f.0.1.0
 
--- what was read of a step's record
+-- what was read of a step's record whose field is asked for its kind
 
-pub kind_spells : (hw submitters : ℕ) (k j : Word) (row : Row) (ns : List ℕ) → k ≡ j → FieldsSpell (slot.Given ∷ slots_by (step_cells hw submitters k)) row ns → FieldsSpell (slot.Given ∷ slots_by (step_cells hw submitters j)) row ns
-kind_spells hw submitters k j row ns e s = subst (λ (z : Word). FieldsSpell (slot.Given ∷ slots_by (step_cells hw submitters z)) row ns) e s
+word_long : (k : StepKind) → 0 < length (word_of k)
+word_long kind.Bio = omega arith
+word_long k = omega arith
 
--- of a kind that was told by its word
-pub kind_line : (version hw submitters : ℕ) (k j : Word) (v : Held j) (row : Row) (ns : List ℕ) → k ≡ j → StepStandsIn version k → StartsWith (word_of k) row → FieldsSpell (slot.Given ∷ slots_by (step_cells hw submitters k)) row ns
-    → IsBy (step_cells hw submitters j) v (λ i. get_or row (suc i) []) (λ i. get_or ns (suc i) 0) → IsRowOf (kinds version hw submitters) row (j, v)
-kind_line version hw submitters k j v row ns e a t s b =
-    let h = word_line why.Count (word_of j) (step_cells hw submitters j) (λ v. StepStandsIn version j × FitsCells (step_cells hw submitters j) v) v row ns (subst (λ (z : Word). StartsWith (word_of z) row) e t) (kind_spells hw submitters k j row ns e s) b
-    (λ f. (subst (StepStandsIn version) e a, f)) in
-    λ rest. record { fits = (h rest).fits; made = (h rest).made; follows = tt }
+slots_are : (hw submitters : ℕ) (k : StepKind) → slots_for hw submitters k ≡ slot.Given ∷ slots_by (step_cells hw submitters k)
+slots_are hw submitters kind.Bio = refl
+slots_are hw submitters k = refl
 
--- and whose bio is one
-pub plain_line : (version hw submitters : ℕ) (l : Line) (row : Row) → IsRowOf (kinds version hw submitters) row (step_said l) → IsRight l → IsRowOf (step version hw submitters) row l
-plain_line version hw submitters l row h r = λ rest. record { fits = ((h rest).fits, r); made = (h rest).made; follows = tt }
+abbrev Of : ℕ → List ℕ → StepKind → Type 0
+Of version f k = StepStandsIn version k × (f ≡ word_of k)
+
+starts : (version : ℕ) (k : StepKind) (row : Row) (f : List ℕ) → f ≡ get_or row (0) [] → Of version f k → StartsWith (word_of k) row
+starts version k row f at of = begins row (word_of k) (word_long k) (sym at ∙ of.1)
+
+pub step_line : (version hw submitters : ℕ) (l : Line) (row : Row) (f ns : List ℕ) → f ≡ get_or row (0) [] → (true ≡ true → Of version f (step_said hw submitters l).0) → FieldsSpell (slots_for hw submitters (step_said hw submitters l).0) row ns
+    → IsBy (step_cells hw submitters (step_said hw submitters l).0) (step_said hw submitters l).1 (λ i. get_or row (suc i) []) (λ i. get_or ns (suc i) 0) → IsRight l → IsRowOf (step version hw submitters) row l
+step_line version hw submitters l row f ns at is s b r =
+    let k = (step_said hw submitters l).0 in
+    let of = is refl in
+    let h = word_line why.Count (word_of k) (step_cells hw submitters k) (λ v. StepStandsIn version k × FitsCells (step_cells hw submitters k) v) (step_said hw submitters l).1 row ns (starts version k row f at of)
+    (subst (λ ss. FieldsSpell ss row ns) (slots_are hw submitters k) s) b (λ x. (of.0, x)) in
+    λ rest. record { fits = ((h rest).fits, r); made = (h rest).made; follows = tt }
 
 pub bio_right : (b : Bio) → IsBio b → IsRight (line.Bio b)
 bio_right b i = λ c e. subst IsBio (one_bio b c e) i
 
-pub kind_lacks : (version hw submitters : ℕ) (k : Word) (row : Row) (w : Why) → StepStandsIn version k → StartsWith (word_of k) row → Lacks (slot.Given ∷ slots_by (step_cells hw submitters k)) row w → IsWrongLine (step version hw submitters) row w
-kind_lacks version hw submitters k row w a t l = λ rest. inl (inl (k, (a, t), (refl, inl (t, l))))
-
-pub no_kind : (version hw submitters : ℕ) (cells : Row) (w : Why) → ((k : Word) → StepStandsIn version k → ¬ (get_or cells 0 [] ≡ word_of k)) → HasNoWord 6 cells w → IsWrongLine (step version hw submitters) cells w
-no_kind version hw submitters cells w n h = λ rest. inl (inr (refl, (λ k s. n k s.0 (first_is cells (word_of k) s.1)), h))
+pub step_lacks : (version hw submitters : ℕ) (k : StepKind) (row : Row) (f : List ℕ) (w : Why) → f ≡ get_or row (0) [] → (true ≡ true → Of version f k) → Lacks (slots_for hw submitters k) row w → IsWrongLine (step version hw submitters) row w
+step_lacks version hw submitters k row f w at is l =
+    let of = is refl in
+    let begun = starts version k row f at of in
+    λ rest. inl (inl (k, (of.0, begun), (refl, inl (begun, subst (λ ss. Lacks ss row w) (slots_are hw submitters k) l))))
 
 pub step_gone : (version hw submitters : ℕ) → (step version hw submitters).Wrong [] 1 why.Count
 step_gone version hw submitters = inl (inr (refl, (λ k s. s.1), refl))
@@ -219,7 +221,7 @@ step_bio version hw submitters b row h rest = let k = h rest in record { fits = 
 
 pub step_no_bio : (version hw submitters : ℕ) (row : Row) (w : Why) → StartsWith (codes "bio") row → IsWrongLine (bio_record submitters) row w → IsWrongLine (step version hw submitters) row w
 step_no_bio version hw submitters row w t h rest = elim (h rest) [
-  | inl f ↦ inl (inl (word.Bio, (tt, t), f))
+  | inl f ↦ inl (inl (kind.Bio, (tt, t), f))
   | inr g ↦ inr (line.Bio g.0, g.1, record { fits = (tt, g.2.fits); made = g.2.made; follows = tt }, (g.0, g.3.0, refl, g.3.1, g.3.2, g.3.3))
 ]
 

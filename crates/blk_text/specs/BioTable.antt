@@ -1,17 +1,18 @@
 -- The record of a bio by its table.
-use Rattle.std.specs.Prelude.{◌≡◌, ◌-◌, ◌^◌, ℕ, List, [], ◌∷◌, codes, Err}
+use Rattle.std.specs.Prelude.{◌≡◌, ℕ, List, codes, Err}
 use Rattle.blk_bio.specs.Bios.{Bio, IsBio, IsBioAnswer}
 use Rattle.blk_bio.specs.declared.bio.BioFault.{BioFault}
 use Rattle.blk_lists.specs.Sources.{Row}
-use Rattle.blk_lists.specs.Tables.{Cell, Number, Direction, FitsCells, word_record}
+use Rattle.blk_lists.specs.Tables.{Cell, FitsCells, word_record}
 use Rattle.blk_lists.specs.declared.fault.Why.{Why}
 use Rattle.blk_lists.specs.declared.fault.Why.TheVariants as why
+use Rattle.blk_text.specs.Kinds.{below, cells_of}
+use Rattle.blk_text.specs.declared.bios.TheConstants.{BIO}
 use Rattle.parts.specs.Parts.{Part, tested}
 
 -- submitter, of so many, serial, direction, first, sectors
 abbrev pub bio_cells : ℕ → List (Cell Bio)
-bio_cells submitters = Number 0 (submitters - 1) (λ b. b.id.submitter) ∷ Number 0 (2 ^ 64 - 1) (λ b. b.id.serial) ∷ Direction (λ b. b.dir)
-    ∷ Number 0 (2 ^ 64 - 1) (λ b. b.first) ∷ Number 0 (2 ^ 64 - 1) (λ b. b.sectors) ∷ []
+bio_cells submitters = cells_of (below submitters BIO.slots) (λ b. (b.id.submitter, (b.id.serial, (b.dir, (b.first, (b.sectors, tt))))))
 
 -- there is no such bio, for this reason
 abbrev pub IsNoSuchBio : Bio → ℕ → Why → Type 0

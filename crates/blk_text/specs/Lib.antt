@@ -5,3 +5,6 @@ pub mod TraceRecords
 pub mod BioTable
 pub mod TraceForm
 pub mod Versions
+pub mod Kinds
+pub mod EventKinds
+pub mod StepKinds

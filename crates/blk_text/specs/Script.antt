@@ -1,5 +1,5 @@
 -- A script: a title, a setup, and a record for each step.
-use Rattle.std.specs.Prelude.{◌≡◌, ◌-◌, ◌≤◌, ◌<◌, ◌^◌, ℕ, List, [], ◌∷◌, length, codes, All}
+use Rattle.std.specs.Prelude.{◌≡◌, ◌≤◌, ◌<◌, ◌^◌, ℕ, List, [], ◌∷◌, length, codes, All}
 use Rattle.std.specs.Prelude.{Err}
 use Rattle.blk_bio.specs.Bios.{Bio, IsBio, IsBioAnswer}
 use Rattle.blk_bio.specs.declared.bio.BioFault.{BioFault}
@@ -7,8 +7,7 @@ use Rattle.blk_bio.specs.declared.limits.TheConstants.{MAX_QUEUES, MAX_SOFT_QUEU
 use Rattle.blk_trace.specs.Setups.{Setup}
 use Rattle.blk_lists.specs.Sources.{Row}
 use Rattle.blk_lists.specs.Reads.{items_of}
-use Rattle.blk_lists.specs.Tables.{Cell, Blank, Number, IsVersion, cells_by, title_record, kinds_record}
-use Rattle.blk_text.specs.BioTable.{bio_cells}
+use Rattle.blk_lists.specs.Tables.{Cell, Number, IsVersion, title_record, kinds_record}
 use Rattle.blk_text.specs.SetupRecord.{IsWholeSetup, setup}
 use Rattle.blk_text.specs.Versions.{latest, most_tags}
 use Rattle.blk_lists.specs.declared.fault.Why.{Why}
@@ -16,71 +15,29 @@ use Rattle.blk_lists.specs.declared.fault.Why.TheVariants as why
 use Rattle.parts.specs.declared.Repeats.TheVariants as repeats
 use Rattle.parts.specs.Parts.{Part, then, tested, seen_as, Spells}
 use Rattle.blk_lists.specs.declared.fields.TheConstants.{MAX_TAGS}
-use Rattle.blk_text.specs.declared.heads.TheConstants.{TICK, END, DEPTH}
+use Rattle.blk_text.specs.StepKinds.{StepKind, word_of, StepStandsIn, Held, step_cells}
+use Rattle.blk_text.specs.StepKinds as kind
 use Rattle.blk_text.specs.declared.script.TheConstants.{MAX_RUN, MAX_STEPS}
 use Rattle.blk_text.specs.declared.script.Line.{Line}
 use Rattle.blk_text.specs.declared.script.Line.TheVariants as line
 use Rattle.blk_text.specs.declared.script.Script.{Script}
 use Rattle.blk_text.specs.declared.script.Title.{Title}
-use Rattle.blk_text.specs.declared.script.Word.{Word}
-use Rattle.blk_text.specs.declared.script.Word.TheVariants as word
 
 -- title: blk-script, version, depth, hardware queues, soft depth, submitters
 abbrev pub script_cells : ℕ → List (Cell Title)
 script_cells version = Number 1 (most_tags version) (λ t. t.depth) ∷ Number 1 MAX_QUEUES (λ t. t.hw) ∷ Number 1 MAX_SOFT_DEPTH (λ t. t.soft_depth) ∷ Number 1 MAX_SOFT_QUEUES (λ t. t.submitters) ∷ []
 
--- the words of the steps
-abbrev pub word_of : Word → List ℕ
-word_of word.Bio = codes "bio"
-word_of word.Flush = codes "flush"
-word_of word.Drain = codes "drain"
-word_of word.Issue = codes "issue"
-word_of word.Done = codes "done"
-word_of word.Back = codes "back"
-word_of word.Depth = codes "depth"
-word_of word.Tick = codes "tick"
-word_of word.Run = codes "run"
-
--- a depth is set from version 2 on, and the other steps stand in each version
-abbrev pub StepStandsIn : ℕ → Word → Type 0
-StepStandsIn version word.Depth = 2 ≤ version
-StepStandsIn version _ = Unit {0}
-
--- what each kind of step says beside its word
-abbrev pub Held : Word → Type 0
-Held word.Bio = Bio
-Held word.Flush = ℕ
-Held word.Drain = ℕ
-Held word.Issue = ℕ × ℕ
-Held word.Done = ℕ
-Held word.Back = ℕ
-Held word.Depth = ℕ
-Held word.Tick = Unit {0}
-Held word.Run = ℕ
-
--- the fields of each kind of step after its word, for so many hardware queues and submitters
-abbrev pub step_cells : ℕ → ℕ → (k : Word) → List (Cell (Held k))
-step_cells hw submitters word.Bio = bio_cells submitters
-step_cells hw submitters word.Flush = Number 0 (submitters - 1) (λ s. s) ∷ Blank ∷ Blank ∷ Blank ∷ Blank ∷ []
-step_cells hw submitters word.Drain = Number 0 (hw - 1) (λ h. h) ∷ Blank ∷ Blank ∷ Blank ∷ Blank ∷ []
-step_cells hw submitters word.Issue = Number 0 (hw - 1) (λ i. i.0) ∷ Number 0 (MAX_TAGS - 1) (λ i. i.1) ∷ Blank ∷ Blank ∷ Blank ∷ []
-step_cells hw submitters word.Done = cells_by END ((λ t. t) ∷ [])
-step_cells hw submitters word.Back = cells_by END ((λ t. t) ∷ [])
-step_cells hw submitters word.Depth = cells_by DEPTH ((λ d. d) ∷ [])
-step_cells hw submitters word.Tick = cells_by TICK []
-step_cells hw submitters word.Run = Number 1 MAX_RUN (λ n. n) ∷ Blank ∷ Blank ∷ Blank ∷ Blank ∷ []
-
 -- the kind of a step, and what it says
-abbrev pub step_said : Line → (k : Word) × Held k
-step_said (line.Bio b) = (word.Bio, b)
-step_said (line.Flush submitter) = (word.Flush, submitter)
-step_said (line.Drain hw) = (word.Drain, hw)
-step_said (line.Issue hw tag) = (word.Issue, (hw, tag))
-step_said (line.Done tag) = (word.Done, tag)
-step_said (line.Back tag) = (word.Back, tag)
-step_said (line.Depth depth) = (word.Depth, depth)
-step_said line.Tick = (word.Tick, tt)
-step_said (line.Run n) = (word.Run, n)
+abbrev pub step_said : (hw submitters : ℕ) → Line → (k : StepKind) × Held hw submitters k
+step_said hw submitters (line.Bio b) = (kind.Bio, (b.id.submitter, (b.id.serial, (b.dir, (b.first, (b.sectors, tt))))))
+step_said hw submitters (line.Flush submitter) = (kind.Flush, (submitter, tt))
+step_said hw submitters (line.Drain h) = (kind.Drain, (h, tt))
+step_said hw submitters (line.Issue h tag) = (kind.Issue, (h, (tag, tt)))
+step_said hw submitters (line.Done tag) = (kind.Done, (tag, tt))
+step_said hw submitters (line.Back tag) = (kind.Back, (tag, tt))
+step_said hw submitters (line.Depth depth) = (kind.Depth, (depth, tt))
+step_said hw submitters line.Tick = (kind.Tick, tt)
+step_said hw submitters (line.Run n) = (kind.Run, (n, tt))
 
 -- the bio of a step, if it has one, is a bio
 abbrev pub IsRight : Line → Type 0
@@ -102,9 +59,9 @@ LineFits hw submitters (line.Depth depth) = depth < 2 ^ 64
 LineFits hw submitters line.Tick = Unit {0}
 LineFits hw submitters (line.Run n) = (1 ≤ n) × (n ≤ MAX_RUN)
 
--- a step stands in a version
+-- a step stands in a version, however many hardware queues and submitters there are
 abbrev pub IsLineOf : ℕ → Line → Type 0
-IsLineOf version l = StepStandsIn version (step_said l).0
+IsLineOf version l = StepStandsIn version (step_said 1 1 l).0
 
 -- a title's numbers lie in their ranges, but for the least number of submitters
 pub record IsTitle (version : ℕ) (t : Title) : Type 0 where
@@ -159,7 +116,7 @@ title = tested plain_title IsEnough TooFew
 
 -- a step by its table
 abbrev pub plain_step : ℕ → ℕ → ℕ → Part Row Why Line
-plain_step version hw submitters = seen_as step_said (kinds_record Held why.Count 6 (StepStandsIn version) word_of (step_cells hw submitters))
+plain_step version hw submitters = seen_as (step_said hw submitters) (kinds_record (Held hw submitters) why.Count 6 (StepStandsIn version) word_of (step_cells hw submitters))
 
 -- a step of a version, for so many hardware queues and submitters
 abbrev pub step : ℕ → ℕ → ℕ → Part Row Why Line

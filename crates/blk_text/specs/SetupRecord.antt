@@ -11,7 +11,7 @@ use Rattle.parts.specs.Parts.{Part}
 
 -- setup, read_expire, write_expire, max_sectors, max_segments, empty
 abbrev pub setup_cells : List (Cell Setup)
-setup_cells = cells_by SETUP ((λ s. s.read_expire) ∷ (λ s. s.write_expire) ∷ (λ s. s.limits.max_sectors) ∷ (λ s. s.limits.max_segments) ∷ [])
+setup_cells = cells_by SETUP.slots ((λ s. s.read_expire) ∷ (λ s. s.write_expire) ∷ (λ s. s.limits.max_sectors) ∷ (λ s. s.limits.max_segments) ∷ [])
 
 -- the setup record of a setup; its depth and hardware queues stand in the title
 abbrev pub setup_row : Setup → Row

@@ -20,16 +20,15 @@ use Rattle.blk_trace.specs.Traces.{Traced}
 use Rattle.blk_lists.specs.Sources.{Row}
 use Rattle.blk_lists.specs.Reads.{ended_of, with_next}
 use Rattle.blk_lists.specs.Words.{NextStarts}
-use Rattle.blk_lists.specs.Tables.{Cell, Blank, Number, FitsCells, cells_by, IsVersion, title_record, kinds_record, word_record}
+use Rattle.blk_lists.specs.Tables.{Cell, Blank, Number, FitsCells, IsVersion, title_record, kinds_record, word_record}
 use Rattle.blk_text.specs.BioTable.{bio_cells, IsNoSuchBio}
 use Rattle.blk_text.specs.SetupRecord.{setup}
 use Rattle.blk_text.specs.Versions.{latest, most_tags}
 use Rattle.blk_text.specs.declared.bios.TheConstants.{MAX_SUBMITTERS}
 use Rattle.blk_lists.specs.declared.fault.Why.{Why}
 use Rattle.blk_lists.specs.declared.fault.Why.TheVariants as why
-use Rattle.blk_text.specs.declared.heads.TheConstants.{TICK, GROUP, ISSUE, END, DEPTH}
-use Rattle.blk_text.specs.declared.heads.EventWord.{EventWord}
-use Rattle.blk_text.specs.declared.heads.EventWord.TheVariants as word
+use Rattle.blk_text.specs.EventKinds.{EventKind, EventStandsIn, word_of, Says, head_cells}
+use Rattle.blk_text.specs.EventKinds as kind
 use Rattle.blk_text.specs.declared.heads.TraceTitle.{TraceTitle}
 use Rattle.parts.specs.declared.Repeats.TheVariants as repeats
 use Rattle.parts.specs.Parts.{Part, NextWrong, then, many, over, seen_as, tested, by_word, Spells}
@@ -47,54 +46,19 @@ pub record IsTraceTitle (version : ℕ) (t : TraceTitle) : Type 0 where
 abbrev pub title : Part Row Why (ℕ × TraceTitle)
 title = title_record (codes "blk-trace") latest trace_cells IsTraceTitle
 
--- the words of the events
-abbrev pub word_of : EventWord → List ℕ
-word_of word.Tick = codes "tick"
-word_of word.Release = codes "release"
-word_of word.Join = codes "join"
-word_of word.Issue = codes "issue"
-word_of word.Done = codes "done"
-word_of word.Back = codes "back"
-word_of word.Depth = codes "depth"
-
--- a depth is set from version 2 on, and the other events stand in each version
-abbrev pub EventStandsIn : ℕ → EventWord → Type 0
-EventStandsIn version word.Depth = 2 ≤ version
-EventStandsIn version _ = Unit {0}
-
--- what the first record of each kind of event says beside its word; of a group its id, and how many bios follow
-abbrev pub Says : EventWord → Type 0
-Says word.Tick = Unit {0}
-Says word.Release = ℕ × ℕ
-Says word.Join = ℕ × ℕ
-Says word.Issue = ℕ × ℕ
-Says word.Done = ℕ
-Says word.Back = ℕ
-Says word.Depth = ℕ
-
--- its fields after the word
-abbrev pub head_cells : (k : EventWord) → List (Cell (Says k))
-head_cells word.Tick = cells_by TICK []
-head_cells word.Release = cells_by GROUP ((λ g. g.0) ∷ (λ g. g.1) ∷ [])
-head_cells word.Join = cells_by GROUP ((λ g. g.0) ∷ (λ g. g.1) ∷ [])
-head_cells word.Issue = cells_by ISSUE ((λ i. i.0) ∷ (λ i. i.1) ∷ [])
-head_cells word.Done = cells_by END ((λ t. t) ∷ [])
-head_cells word.Back = cells_by END ((λ t. t) ∷ [])
-head_cells word.Depth = cells_by DEPTH ((λ d. d) ∷ [])
-
 -- the first record of an event tells it with the number of its bios in place of these
 abbrev pub Head : Type 0
 Head = Event ℕ
 
 -- the kind of a first record, and what it says
-abbrev pub said : Head → (k : EventWord) × Says k
-said Tick = (word.Tick, tt)
-said (Release id bios) = (word.Release, (id, bios))
-said (Join id bios) = (word.Join, (id, bios))
-said (Issue id tag) = (word.Issue, (id, tag))
-said (Done tag) = (word.Done, tag)
-said (Back tag) = (word.Back, tag)
-said (Depth depth) = (word.Depth, depth)
+abbrev pub said : Head → (k : EventKind) × Says k
+said Tick = (kind.Tick, tt)
+said (Release id bios) = (kind.Release, (id, (bios, tt)))
+said (Join id bios) = (kind.Join, (id, (bios, tt)))
+said (Issue id tag) = (kind.Issue, (id, (tag, tt)))
+said (Done tag) = (kind.Done, (tag, tt))
+said (Back tag) = (kind.Back, (tag, tt))
+said (Depth depth) = (kind.Depth, (depth, tt))
 
 -- the first record of an event
 abbrev pub first_record : ℕ → Part Row Why Head

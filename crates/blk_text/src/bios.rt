@@ -8,11 +8,19 @@ ghost use Rattle.blk_lists.specs.Words.{StartsWith};
 ghost use Rattle.blk_text.specs.BioRecord.{bio_row};
 ghost use Rattle.blk_text.specs.BioTable.{bio_record};
 
+use crate::kinds::Kind;
 use crate::setup::WIDTH;
 use blk_bio::{Bio, BioId, Dir};
 use blk_lists::fault::Why;
 use blk_lists::fields::{ANY, Slot, field, parse_number, read_fields};
 use csv::ByteRecord;
+
+/// The record of a bio: its submitter, below a number of them, its serial, its direction, its first sector and how many.
+pub const BIO: Kind<3> = Kind {
+    word: *b"bio",
+    since: 1,
+    slots: [Slot::Given, ANY, ANY, Slot::Direction, ANY, ANY],
+};
 
 /// A bio of a trace names one of so many submitters.
 pub const MAX_SUBMITTERS: u64 = 1 << 8;
@@ -56,11 +64,7 @@ pub fn read_bio(row: &ByteRecord, submitters: u64) -> Result<Bio, Why>
     if let Some(bio) = whole_bio(row, submitters) {
         return Ok(bio);
     }
-    let submitter = Slot::Number {
-        least: 0,
-        most: submitters - 1,
-    };
-    let slots = [Slot::Given, submitter, ANY, Slot::Direction, ANY, ANY];
+    let slots = BIO.below(submitters);
     let numbers = match read_fields(row, &slots) {
         Ok(numbers) => numbers,
         Err(why) => return Err(why),

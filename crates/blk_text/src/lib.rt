@@ -5,6 +5,7 @@ mod bios;
 mod events;
 mod groups;
 mod heads;
+mod kinds;
 pub mod laws;
 pub mod script;
 mod setup;

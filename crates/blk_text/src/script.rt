@@ -1,22 +1,20 @@
 //! Scripts.
 
-ghost use Rattle.std.specs.Prelude.{◌≡◌, ◌⊎◌, ◌+◌, ◌≤◌, ◌<◌, ◌∷◌, IfOk, IfErr, IfSome, MatchOption, length};
+ghost use Rattle.std.specs.Prelude.{◌≡◌, ◌⊎◌, ◌+◌, ◌≤◌, [], IfOk, IfErr, IfSome, get_or, length};
 ghost use Rattle.csv.specs.Records.{fields_of};
 ghost use Rattle.blk_lists.specs.Reads.{IsOutside, IsRowOf, IsWrongLine, Reaches};
-ghost use Rattle.blk_lists.specs.Tables.{slots_by};
-ghost use Rattle.blk_lists.specs.Words.{StartsWith};
-ghost use Rattle.blk_lists.specs.Fields.{FieldsSpell};
-ghost use Rattle.blk_text.specs.Script.{StepStandsIn, word_of, step_cells, step, IsScript, SpellsScript, ScriptFault, scripted, script_form};
+ghost use Rattle.blk_text.specs.StepKinds.{word_of};
+ghost use Rattle.blk_text.specs.StepKinds as kind;
+ghost use Rattle.blk_text.specs.Script.{step, IsScript, SpellsScript, ScriptFault, scripted, script_form};
 ghost use Rattle.blk_bio.specs.declared.limits.TheConstants.{MAX_QUEUES as ALL_QUEUES, MAX_SOFT_QUEUES as MAX_SUBMITTERS};
-ghost use Rattle.blk_lists.specs.declared.fields.Slot.TheVariants as slot;
-ghost use Rattle.blk_text.specs.declared.script.Word.{Word as AWord};
 
-use crate::bios::read_bio;
-use crate::heads::{DEPTH, END, TICK};
+use crate::bios::{BIO, read_bio};
+use crate::heads::{BACK, DEPTH, DONE, ISSUE, ONE, TICK};
+use crate::kinds::Kind;
 use crate::setup::{LATEST, SetupForm, WIDTH, most_tags};
 use blk_bio::{Bio, MAX_QUEUES, MAX_SOFT_DEPTH, MAX_SOFT_QUEUES};
 use blk_lists::fault::{TextFault, Why};
-use blk_lists::fields::{ANY, Slot, TAG, field, read_fields, version_of, without_word};
+use blk_lists::fields::{Slot, field, read_fields, version_of, without_word};
 use blk_lists::items::{LineForm, read_line, read_lines};
 use blk_lists::source::Records;
 use blk_trace::{MAX_EVENTS, Setup};
@@ -67,46 +65,41 @@ pub struct Script {
     pub lines: Vec<Line>,
 }
 
-/// The word that a step begins with.
-#[derive(Clone, Copy, Debug, PartialEq, Eq)]
-pub(crate) enum Word {
-    Bio,
-    Flush,
-    Drain,
-    Issue,
-    Done,
-    Back,
-    Depth,
-    Tick,
-    Run,
-}
+// The table of the steps: the rows of the events that are steps too, that of a bio, and these.
 
-/// The word of a field that stands in a version.
-fn word_named(version: u64, field: &[u8]) -> Option<Word>
-    ensures { MatchOption result ((k : AWord) → StepStandsIn version k → ¬ (field.now ≡ word_of k)) (λ k. StepStandsIn version k × (field.now ≡ word_of k)) }
-{
-    if field == b"bio".as_slice() {
-        Some(Word::Bio)
-    } else if field == b"flush".as_slice() {
-        Some(Word::Flush)
-    } else if field == b"drain".as_slice() {
-        Some(Word::Drain)
-    } else if field == b"issue".as_slice() {
-        Some(Word::Issue)
-    } else if field == b"done".as_slice() {
-        Some(Word::Done)
-    } else if field == b"tick".as_slice() {
-        Some(Word::Tick)
-    } else if field == b"run".as_slice() {
-        Some(Word::Run)
-    } else if field == b"back".as_slice() {
-        Some(Word::Back)
-    } else if version >= 2 && field == b"depth".as_slice() {
-        Some(Word::Depth)
-    } else {
-        None
-    }
-}
+/// A submitter, below the number of a title.
+pub const FLUSH: Kind<5> = Kind {
+    word: *b"flush",
+    since: 1,
+    slots: ONE,
+};
+
+/// A hardware queue, below the number of a title.
+pub const DRAIN: Kind<5> = Kind {
+    word: *b"drain",
+    since: 1,
+    slots: ONE,
+};
+
+/// How many rounds.
+pub const RUN: Kind<3> = Kind {
+    word: *b"run",
+    since: 1,
+    slots: [
+        Slot::Given,
+        ROUNDS,
+        Slot::Blank,
+        Slot::Blank,
+        Slot::Blank,
+        Slot::Blank,
+    ],
+};
+
+/// The rounds of a run.
+const ROUNDS: Slot = Slot::Number {
+    least: 1,
+    most: MAX_RUN,
+};
 
 /// The numbers of a script's title.
 #[derive(Clone, Copy, Debug, PartialEq, Eq)]
@@ -127,76 +120,52 @@ pub(crate) struct StepForm {
     ghost submitters_in: { (1 ≤ submitters) × (submitters ≤ MAX_SUBMITTERS) },
 }
 
-/// The slots of the steps that begin with a word.
-fn step_slots(form: &StepForm, word: Word) -> [Slot; WIDTH]
-    ensures { result ≡ slot.Given ∷ slots_by (step_cells form.now.hw form.now.submitters word) }
-{
-    let submitter = Slot::Number {
-        least: 0,
-        most: form.submitters - 1,
-    };
-    let hw = Slot::Number {
-        least: 0,
-        most: form.hw as u64 - 1,
-    };
-    let rounds = Slot::Number {
-        least: 1,
-        most: MAX_RUN,
-    };
-    let none = Slot::Blank;
-    match word {
-        Word::Bio => [Slot::Given, submitter, ANY, Slot::Direction, ANY, ANY],
-        Word::Flush => [Slot::Given, submitter, none, none, none, none],
-        Word::Drain => [Slot::Given, hw, none, none, none, none],
-        Word::Issue => [Slot::Given, hw, TAG, none, none, none],
-        Word::Done => END,
-        Word::Back => END,
-        Word::Depth => DEPTH,
-        Word::Tick => TICK,
-        Word::Run => [Slot::Given, rounds, none, none, none, none],
-    }
-}
-
-/// The step of a record whose fields are right for its word, which is not that of a bio.
-fn step_of(form: &StepForm, word: Word, row: &ByteRecord, numbers: &[u64; WIDTH]) -> Line
-    requires other { ¬ (word ≡ Word.Bio) }
-    requires stands { StepStandsIn form.now.version word }
-    requires starts { StartsWith (word_of word) (fields_of row.now) }
-    requires spells { FieldsSpell (slot.Given ∷ slots_by (step_cells form.now.hw form.now.submitters word)) (fields_of row.now) numbers.now }
-    ensures { IsRowOf (step form.now.version form.now.hw form.now.submitters) (fields_of row.now) result }
-{
-    match word {
-        Word::Bio => unreachable!(),
-        Word::Flush => Line::Flush(numbers[1] as u8),
-        Word::Drain => Line::Drain {
-            hw: numbers[1] as u8,
-        },
-        Word::Issue => Line::Issue {
-            hw: numbers[1] as u8,
-            tag: numbers[2] as u16,
-        },
-        Word::Done => Line::Done(numbers[1] as u16),
-        Word::Back => Line::Back(numbers[1] as u16),
-        Word::Depth => Line::Depth(numbers[1]),
-        Word::Tick => Line::Tick,
-        Word::Run => Line::Run(numbers[1]),
-    }
-}
-
-/// The step of a record that begins with a word, which is not that of a bio, by the slots of the word.
+/// The step of a record that is not a bio's.
 #[inline(never)]
-fn slotted_line(form: &StepForm, word: Word, row: &ByteRecord) -> Result<Line, Why>
-    requires other { ¬ (word ≡ Word.Bio) }
-    requires stands { StepStandsIn form.now.version word }
-    requires starts { StartsWith (word_of word) (fields_of row.now) }
+fn short_line(form: &StepForm, row: &ByteRecord) -> Result<Line, Why>
+    requires other { ¬ (get_or (fields_of row.now) 0 [] ≡ word_of kind.Bio) }
     ensures ok { IfOk result (IsRowOf (step form.now.version form.now.hw form.now.submitters) (fields_of row.now)) }
     ensures err { IfErr result (IsWrongLine (step form.now.version form.now.hw form.now.submitters) (fields_of row.now)) }
 {
-    let slots = step_slots(form, word);
-    match read_fields(row, &slots) {
-        Ok(numbers) => Ok(step_of(form, word, row, &numbers)),
-        Err(why) => Err(why),
+    let word = field(row, 0);
+    if FLUSH.is(word, form.version) {
+        let numbers = read_fields(row, &FLUSH.below(form.submitters))?;
+        return Ok(Line::Flush(numbers[1] as u8));
     }
+    if DRAIN.is(word, form.version) {
+        let numbers = read_fields(row, &DRAIN.below(form.hw as u64))?;
+        return Ok(Line::Drain {
+            hw: numbers[1] as u8,
+        });
+    }
+    if ISSUE.is(word, form.version) {
+        let numbers = read_fields(row, &ISSUE.below(form.hw as u64))?;
+        return Ok(Line::Issue {
+            hw: numbers[1] as u8,
+            tag: numbers[2] as u16,
+        });
+    }
+    if DONE.is(word, form.version) {
+        let numbers = read_fields(row, &DONE.slots)?;
+        return Ok(Line::Done(numbers[1] as u16));
+    }
+    if TICK.is(word, form.version) {
+        read_fields(row, &TICK.slots)?;
+        return Ok(Line::Tick);
+    }
+    if RUN.is(word, form.version) {
+        let numbers = read_fields(row, &RUN.slots)?;
+        return Ok(Line::Run(numbers[1]));
+    }
+    if BACK.is(word, form.version) {
+        let numbers = read_fields(row, &BACK.slots)?;
+        return Ok(Line::Back(numbers[1] as u16));
+    }
+    if DEPTH.is(word, form.version) {
+        let numbers = read_fields(row, &DEPTH.slots)?;
+        return Ok(Line::Depth(numbers[1]));
+    }
+    Err(without_word(row, WIDTH))
 }
 
 impl LineForm for StepForm {
@@ -211,16 +180,13 @@ impl LineForm for StepForm {
     }
 
     fn line(&self, row: &ByteRecord) -> Result<Line, Why> {
-        let Some(word) = word_named(self.version, field(row, 0)) else {
-            return Err(without_word(row, WIDTH));
-        };
-        if word == Word::Bio {
+        if BIO.is(field(row, 0), self.version) {
             return match read_bio(row, self.submitters) {
                 Ok(bio) => Ok(Line::Bio(bio)),
                 Err(why) => Err(why),
             };
         }
-        slotted_line(self, word, row)
+        short_line(self, row)
     }
 }
 

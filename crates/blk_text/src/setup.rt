@@ -12,6 +12,7 @@ ghost use Rattle.blk_trace.specs.declared.setup.TheConstants.{MAX_DEPTH as MAX_D
 ghost use Rattle.blk_lists.specs.Tables.{slots_by};
 ghost use Rattle.blk_lists.specs.declared.fields.Slot.TheVariants as slot;
 
+use crate::kinds::Kind;
 use blk_bio::{Limits, MAX_QUEUES, MAX_SECTORS, MAX_SEGMENTS};
 use blk_lists::fault::Why;
 use blk_lists::fields::{Slot, begins_with, read_fields, without_word};
@@ -44,22 +45,25 @@ const EXPIRY: Slot = Slot::Number {
     most: MAX_EXPIRIES - 1,
 };
 
-/// The fields of a setup: the word, the expiries of reads and of writes, the most sectors and segments of a request, and an
-/// empty one.
-pub const SETUP: [Slot; WIDTH] = [
-    Slot::Given,
-    EXPIRY,
-    EXPIRY,
-    Slot::Number {
-        least: 1,
-        most: MAX_SECTORS,
-    },
-    Slot::Number {
-        least: 1,
-        most: MAX_SEGMENTS,
-    },
-    Slot::Blank,
-];
+/// The record of a setup: the expiries of reads and of writes, the most sectors and segments of a request, and an empty field.
+pub const SETUP: Kind<5> = Kind {
+    word: *b"setup",
+    since: 1,
+    slots: [
+        Slot::Given,
+        EXPIRY,
+        EXPIRY,
+        Slot::Number {
+            least: 1,
+            most: MAX_SECTORS,
+        },
+        Slot::Number {
+            least: 1,
+            most: MAX_SEGMENTS,
+        },
+        Slot::Blank,
+    ],
+};
 
 /// The setup of the numbers of a record.
 fn setup_with(row: &ByteRecord, depth: u64, hw: u8, numbers: &[u64; WIDTH]) -> Setup
@@ -85,10 +89,10 @@ fn setup_at(row: &ByteRecord, depth: u64, hw: u8) -> Result<Setup, Why>
     ensures ok { IfOk result (IsRowOf (setup_part depth hw) (fields_of row.now)) }
     ensures err { IfErr result (IsWrongLine (setup_part depth hw) (fields_of row.now)) }
 {
-    if !begins_with(row, b"setup") {
+    if !begins_with(row, SETUP.word.as_slice()) {
         return Err(without_word(row, WIDTH));
     }
-    match read_fields(row, &SETUP) {
+    match read_fields(row, &SETUP.slots) {
         Ok(numbers) => Ok(setup_with(row, depth, hw, &numbers)),
         Err(why) => Err(why),
     }

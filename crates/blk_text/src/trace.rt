@@ -13,7 +13,9 @@ ghost use Rattle.blk_text.specs.TraceRecords.{group_rows, event_rows, trace_rows
 ghost use Rattle.blk_text.specs.TraceForm.{SpellsTrace, SpellsTraceIn};
 ghost use Rattle.blk_text.specs.Versions.{latest};
 
-use crate::setup::LATEST;
+use crate::heads::{BACK, DEPTH, DONE, ISSUE, JOIN, RELEASE, TICK};
+use crate::kinds::Kind;
+use crate::setup::{LATEST, SETUP};
 use blk_bio::{Bio, MAX_SEGMENTS, Request};
 use blk_lists::writing::push_row;
 use blk_trace::{Event, Setup, Trace};
@@ -41,12 +43,17 @@ fn push_bio(draft: &mut Block, bio: &Bio) -> Result<(), AllocError>
 
 /// Adds the records of a group: its own, and those of its bios.
 #[inline(always)]
-fn push_group(draft: &mut Block, word: &[u8], id: u64, bios: &[Bio]) -> Result<(), AllocError>
-    requires { IsPlainWord word.now }
-    ensures text { OnOk result (drafted draft.new ≡ drafted draft.old ++ rows_text (group_rows word.now id bios.now)) }
+fn push_group<const L: usize>(
+    draft: &mut Block,
+    kind: &Kind<L>,
+    id: u64,
+    bios: &[Bio],
+) -> Result<(), AllocError>
+    requires { IsPlainWord kind.now.word }
+    ensures text { OnOk result (drafted draft.new ≡ drafted draft.old ++ rows_text (group_rows kind.now.word id bios.now)) }
     ensures fits { OnOk result (All BioFits bios.now) }
 {
-    push_row(draft, word, &[id, bios.len() as u64], 3)?;
+    kind.push(draft, &[id, bios.len() as u64])?;
     for i in 0..bios.len() {
         push_bio(draft, &bios[i])?;
     }
@@ -63,13 +70,13 @@ fn push_event<A: Allocator + Clone>(
     ensures fits { OnOk result (EventFits event.now) }
 {
     match event {
-        Event::Tick => push_row(draft, b"tick", &[], 5),
-        Event::Release { id, request } => push_group(draft, b"release", *id, request.bios()),
-        Event::Join { id, request } => push_group(draft, b"join", *id, request.bios()),
-        Event::Issue { id, tag } => push_row(draft, b"issue", &[*id, *tag as u64], 3),
-        Event::Done { tag } => push_row(draft, b"done", &[*tag as u64], 4),
-        Event::Back { tag } => push_row(draft, b"back", &[*tag as u64], 4),
-        Event::Depth { depth } => push_row(draft, b"depth", &[*depth], 4),
+        Event::Tick => TICK.push(draft, &[]),
+        Event::Release { id, request } => push_group(draft, &RELEASE, *id, request.bios()),
+        Event::Join { id, request } => push_group(draft, &JOIN, *id, request.bios()),
+        Event::Issue { id, tag } => ISSUE.push(draft, &[*id, *tag as u64]),
+        Event::Done { tag } => DONE.push(draft, &[*tag as u64]),
+        Event::Back { tag } => BACK.push(draft, &[*tag as u64]),
+        Event::Depth { depth } => DEPTH.push(draft, &[*depth]),
     }
 }
 
@@ -85,7 +92,7 @@ fn push_setup(draft: &mut Block, setup: &Setup) -> Result<(), AllocError>
         limits.max_sectors(),
         limits.max_segments(),
     ];
-    push_row(draft, b"setup", &numbers, 1)
+    SETUP.push(draft, &numbers)
 }
 
 /// The text of a trace, in the latest version, as [`write_trace`] writes it.

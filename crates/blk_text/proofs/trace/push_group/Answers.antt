@@ -8,14 +8,14 @@ use Rattle.drafts.specs.Drafts.{drafted}
 use Rattle.blk_text.proofs.trace.push_group.Goals as goal
 
 pub loop-i-preserved : goal.loop-i-preserved
-loop-i-preserved c = record {
-  text = one_more (λ b. bio_row b ∷ []) (drafted c.args.draft.now) (word_row c.args.word.now (decimal c.args.id) (decimal (length c.args.bios.now)) ∷ []) c.args.bios.now c.loop-i.i c.index-bios-i.result (drafted c.loop-i.draft) (drafted c.push_bio.new.draft)
+loop-i-preserved g c = record {
+  text = one_more (λ b. bio_row b ∷ []) (drafted c.args.draft.now) (word_row c.args.kind.now.word (decimal c.args.id) (decimal (length c.args.bios.now)) ∷ []) c.args.bios.now c.loop-i.i c.index-bios-i.result (drafted c.loop-i.draft) (drafted c.push_bio.new.draft)
       c.loop-i-test.true c.index-bios-i.is c.loop-i.invariant.text c.in_ok-push_bio.ensures.text;
   fits = one_fits BioFits c.args.bios.now c.loop-i.i c.index-bios-i.result c.loop-i-test.true c.index-bios-i.is c.loop-i.invariant.fits c.in_ok-push_bio.ensures.fits;
 }
 
 pub returns : goal.returns
-returns c = record {
-  text = whole bio_row (drafted c.args.draft.now) (word_row c.args.word.now (decimal c.args.id) (decimal (length c.args.bios.now)) ∷ []) c.args.bios.now c.loop-i.i (drafted c.loop-i.draft) (omega arith) c.loop-i.invariant.text;
+returns g c = record {
+  text = whole bio_row (drafted c.args.draft.now) (word_row c.args.kind.now.word (decimal c.args.id) (decimal (length c.args.bios.now)) ∷ []) c.args.bios.now c.loop-i.i (drafted c.loop-i.draft) (omega arith) c.loop-i.invariant.text;
   fits = rw (take_all c.loop-i.i c.args.bios.now (omega arith)) at c.loop-i.invariant.fits;
 }

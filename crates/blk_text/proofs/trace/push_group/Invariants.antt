@@ -7,7 +7,7 @@ use Rattle.drafts.specs.Drafts.{drafted}
 use Rattle.blk_text.proofs.trace.push_group.Given as goal
 
 abbrev pub invariant-loop-i : goal.invariant-loop-i
-invariant-loop-i l = record {
-  text : IsSoFar (λ b. bio_row b ∷ []) (drafted l.fn.draft) (word_row l.fn.word (decimal l.fn.id) (decimal (length l.bios)) ∷ []) l.bios l.i (drafted l.draft);
+invariant-loop-i g l = record {
+  text : IsSoFar (λ b. bio_row b ∷ []) (drafted l.fn.draft) (word_row l.fn.kind.word (decimal l.fn.id) (decimal (length l.bios)) ∷ []) l.bios l.i (drafted l.draft);
   fits : All BioFits (take l.i l.bios);
 }

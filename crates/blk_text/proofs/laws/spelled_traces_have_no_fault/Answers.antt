@@ -1,5 +1,0 @@
-use Rattle.blk_text.proofs.TraceLaws.{spelled_apart}
-use Rattle.blk_text.proofs.laws.spelled_traces_have_no_fault.Goals as goal
-
-pub returns : goal.returns
-returns c = spelled_apart
