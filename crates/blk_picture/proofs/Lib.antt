@@ -1,0 +1,5 @@
+pub mod Texts
+pub mod Requests
+pub mod Walk
+pub mod Counting
+pub mod Joining

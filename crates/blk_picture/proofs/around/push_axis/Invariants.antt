@@ -1,0 +1,7 @@
+use Rattle.std.proofs.Common.{◌≡◌, ◌++◌}
+use Rattle.blk_picture.specs.Filled.{texts}
+use Rattle.blk_picture.specs.Around.{tick_text}
+use Rattle.blk_picture.proofs.around.push_axis.Given as goal
+
+abbrev pub invariant-loop-number : goal.invariant-loop-number
+invariant-loop-number l = l.draft ≡ l.fn.draft ++ texts (tick_text l.scale) l.number

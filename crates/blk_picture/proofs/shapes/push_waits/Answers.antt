@@ -1,0 +1,17 @@
+use Rattle.std.proofs.Common.{◌≡◌, ◌++◌, ℕ, List, length, subst, arith}
+use Rattle.std.specs.Prelude.{slice_index_or}
+use Rattle.blk_picture.specs.Filled.{texts}
+use Rattle.blk_picture.specs.Shapes.{waiting_text, waits_text, no_column}
+use Rattle.blk_picture.proofs.Texts.{texts_none, texts_push}
+use Rattle.blk_picture.proofs.shapes.push_waits.Goals as goal
+
+pub loop-number-init : goal.loop-number-init
+loop-number-init c = texts_none (λ (n : ℕ). waiting_text n (slice_index_or c.args.columns.now n no_column)) c.args.draft.now
+
+pub loop-number-preserved : goal.loop-number-preserved
+loop-number-preserved c = texts_push (λ (n : ℕ). waiting_text n (slice_index_or c.args.columns.now n no_column)) c.loop-number.number c.args.draft.now c.loop-number.draft c.push_waiting.new.draft c.loop-number.invariant c.in_ok-push_waiting.ensures
+
+pub returns : goal.returns
+returns c =
+    let all : c.loop-number.number ≡ length c.args.columns.now = let a = c.loop-number-test.false in let b = c.loop-number.auto.number-end in omega (arith, a, b) in
+    subst (λ (n : ℕ). c.loop-number.draft ≡ c.args.draft.now ++ waits_text c.args.columns.now n) all c.loop-number.invariant

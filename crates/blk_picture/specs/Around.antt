@@ -1,0 +1,75 @@
+-- What stands round the boxes of a picture, as text.
+use Rattle.std.specs.Prelude.{ℕ, ◌+◌, ◌-◌, ◌*◌, ◌/◌, ◌%◌, ◌++◌, ◌∷◌, [], Bool, true, cond, min, nat_le, List, Option, Some, None, length, codes, slice_index_or}
+use Rattle.edd_check.specs.declared.Window.{Window}
+use Rattle.edd_figures.specs.declared.missing.Crowd.{Crowd}
+use Rattle.blk_report.specs.declared.figures.Report.{Report}
+use Rattle.blk_report.specs.declared.missing.Tally.{Tally}
+use Rattle.blk_report.specs.Lines.{report_text}
+use Rattle.blk_picture.specs.declared.scale.Scale.{Scale}
+use Rattle.blk_picture.specs.Filled.{filled, texts}
+use Rattle.blk_picture.specs.Scales.{step_of}
+
+-- the colours and what they mean
+abbrev pub legend : List ℕ
+legend = codes "<g transform='translate(24,78)'><rect class='r' width='14' height='14'/><text x='20' y='12'>read</text><rect class='w' x='70' width='14' height='14'/><text x='90' y='12'>write</text><rect class='r l' x='146' y='1' width='12' height='12'/><rect class='w l' x='164' y='1' width='12' height='12'/><text x='184' y='12'>late, with the rounds late (in columns </text><rect class='m' x='402' width='14' height='14'/><text x='420' y='12'>)</text><rect class='hr' x='446' width='14' height='14'/><rect class='hw' x='464' width='14' height='14'/><text x='486' y='12'>handed back (in columns </text><rect class='b' x='634' width='14' height='14'/><text x='652' y='12'>)</text><rect class='f' x='676' width='14' height='14'/><text x='696' y='12'>idle</text><rect class='g' x='742' width='14' height='14'/><text x='762' y='12'>not carried by the round</text><path class='q' d='M946 4v6H970v-6'/><text x='976' y='12'>crowded window; below it those of misses</text></g>\n"
+
+-- the four values of misses, and what a column stands for
+abbrev pub numbers_text : Scale → Tally → List ℕ
+numbers_text scale t = filled (codes "</text>\n<text x='24' y='68'>late $ unavoidable $ avoidable $ spare $; rounds in a column: $</text>\n") (t.late ∷ t.unavoidable ∷ t.avoidable ∷ t.spare ∷ scale.per ∷ [])
+
+-- the name, the eight values of the report, and these
+abbrev pub heading_text : Scale → List ℕ → Report → Tally → List ℕ
+heading_text scale name r t =
+    ((((codes "<text class='t' x='24' y='28'>" ++ name) ++ codes "</text>\n<text x='24' y='50' xml:space='preserve'>") ++ report_text r) ++ numbers_text scale t) ++ legend
+
+-- the column of a round, or the last one
+abbrev pub column_at : Scale → ℕ → ℕ
+column_at scale round = min round (scale.rounds - 1) / scale.per
+
+-- a number of the axis, where the picture has that round
+abbrev pub tick_text : Scale → ℕ → List ℕ
+tick_text scale n =
+    cond (nat_le scale.rounds (n * step_of scale.rounds + 0)) []
+    (filled (codes "<path class='k' d='M$ 0v5'/><text class='s c' x='$' y='17'>$</text>\n") ((column_at scale (n * step_of scale.rounds + 0) * scale.wide + 64) ∷ (column_at scale (n * step_of scale.rounds + 0) * scale.wide + 64) ∷ (n * step_of scale.rounds + 0) ∷ []))
+
+-- the axis
+abbrev pub axis_text : Scale → List ℕ
+axis_text scale = texts (tick_text scale) 25 ++ codes "<text class='s e' x='58' y='17'>round</text>\n"
+
+-- the bracket of a window in a row, from the column of its first round to that of its last one, and its two numbers in its title
+abbrev pub line_text : Scale → ℕ → Crowd → List ℕ
+line_text scale row c =
+    filled (codes " d='M$ $v6H$v-6'><title>rounds $ to $: $ commands, room for $</title></path>\n")
+    ((column_at scale c.window.from * scale.wide + 64) ∷ (row * 28 + 28) ∷ (column_at scale c.window.due * scale.wide + (64 + min scale.wide 1200)) ∷ c.window.from ∷ c.window.due ∷ c.commands ∷ c.carries ∷ [])
+
+-- and below it, where it is labelled
+abbrev pub named_text : Scale → ℕ → Crowd → Bool → List ℕ
+named_text scale row c labelled =
+    cond labelled (filled (codes "<text class='s' x='$' y='$'>$ commands, room for $</text>\n") ((column_at scale c.window.from * scale.wide + 64) ∷ (row * 28 + 46) ∷ c.commands ∷ c.carries ∷ [])) []
+
+abbrev pub bracket_text : Scale → ℕ → Crowd → Bool → List ℕ
+bracket_text scale row c labelled = line_text scale row c ++ named_text scale row c labelled
+
+-- the crowded window of a report, if it has one
+abbrev pub crowded_text : Scale → Option Window → Option ℕ → ℕ → List ℕ
+crowded_text scale (Some w) (Some load) carries = codes "<path class='q'" ++ bracket_text scale 0 (record { window = w; commands = load; carries = carries }) true
+crowded_text scale _ _ carries = []
+
+abbrev pub no_crowd : Crowd
+no_crowd = record { window = record { from = 0; due = 0 }; commands = 0; carries = 0 }
+
+-- the windows of misses, the first 400, in four rows; with their numbers where they are few
+abbrev pub crowd_text : Scale → List Crowd → ℕ → List ℕ
+crowd_text scale crowds n = codes "<path class='k'" ++ bracket_text scale (n % 4 + 1) (slice_index_or crowds n no_crowd) (nat_le (length crowds) 12)
+
+abbrev pub crowds_text : Scale → List Crowd → List ℕ
+crowds_text scale crowds = texts (crowd_text scale crowds) (min (length crowds) 400)
+
+-- how what stands below the frame begins
+abbrev pub foot_text : Scale → List ℕ
+foot_text scale = filled (codes "<g transform='translate(0,$)'>\n") ((scale.deep * scale.tall + 182) ∷ [])
+
+-- what stands below the frame
+abbrev pub windows_text : Scale → Report → ℕ → List Crowd → List ℕ
+windows_text scale r carries crowds =
+    (((foot_text scale ++ axis_text scale) ++ crowded_text scale r.window r.load carries) ++ crowds_text scale crowds) ++ codes "</g>\n"

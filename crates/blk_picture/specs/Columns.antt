@@ -1,0 +1,92 @@
+-- What each column of a picture stands for.
+use Rattle.std.specs.Prelude.{ℕ, zero, suc, ◌+◌, ◌-◌, ◌/◌, ◌==◌, ◌&&◌, ◌++◌, ◌∷◌, [], Bool, not, cond, min, nat_lt, List, Option, Some, None, count_by, take, drop, slice_index_or}
+use Rattle.std.specs.Option.{option_map_or}
+use Rattle.std.specs.List.{filter_map}
+use Rattle.edd_check.specs.declared.steps.Step.{Step}
+use Rattle.edd_check.specs.Capacity.{carried}
+use Rattle.blk_bio.specs.declared.bio.Dir.{Dir}
+use Rattle.blk_bio.specs.declared.bio.Dir.TheVariants.{Read, Write}
+use Rattle.blk_bio.specs.Requests.{dir_of}
+use Rattle.blk_trace.specs.Happened.{Happened}
+use Rattle.blk_trace.specs.Kinds.{releases}
+use Rattle.blk_trace.specs.Setups.{Setup, same_dir}
+use Rattle.blk_trace.specs.Meaning.{timed, greatest}
+use Rattle.blk_trace.specs.Depths.{capacity_of}
+use Rattle.blk_picture.specs.declared.boxes.Issued.{Issued}
+use Rattle.blk_picture.specs.declared.scale.Scale.{Scale}
+use Rattle.blk_picture.specs.declared.columns.Column.{Column}
+use Rattle.blk_picture.specs.declared.columns.Kind.{Kind}
+use Rattle.blk_picture.specs.declared.columns.Kind.TheVariants.{Reads, Writes, Lates, Backs, GoneReads, GoneWrites}
+use Rattle.blk_picture.specs.Boxes.{boxes_of}
+
+-- whether it was issued after it was due
+abbrev pub is_late : Issued → Bool
+is_late b = nat_lt b.due b.round
+
+-- whether it is of the kind: each is a read or a write on time, late, or was handed back
+abbrev pub is_of : Kind → Issued → Bool
+is_of Reads b = (not b.back && not (is_late b)) && same_dir b.dir Read
+is_of Writes b = (not b.back && not (is_late b)) && same_dir b.dir Write
+is_of Lates b = not b.back && is_late b
+is_of Backs b = b.back
+is_of GoneReads b = not b.back && same_dir b.dir Read
+is_of GoneWrites b = not b.back && same_dir b.dir Write
+
+-- its round, if it is of the kind
+abbrev pub round_in : Kind → Issued → Option ℕ
+round_in kind b = cond (is_of kind b) (Some b.round) None
+
+-- the rounds of those of the kind
+unfoldable pub rounds_in : Kind → List Issued → List ℕ
+rounds_in kind boxes = filter_map (round_in kind) boxes
+
+-- the round, if a request of the direction enters by the event
+abbrev pub entry_in : Dir → ℕ × Happened → Option ℕ
+entry_in dir t = option_map_or (λ p. cond (same_dir (dir_of p.1) dir) (Some t.0) None) (releases t.1) None
+
+-- the rounds in which requests of the direction enter
+unfoldable pub entered_in : Dir → List Happened → List ℕ
+entered_in dir events = filter_map (entry_in dir) (timed 0 events)
+
+-- how many of the rounds stand in the column
+unfoldable pub in_column : ℕ → ℕ → List ℕ → ℕ
+in_column per c rounds = count_by (λ r. (r / per) == c) rounds
+
+-- how many of the rounds are before this one
+unfoldable pub before : List ℕ → ℕ → ℕ
+before rounds r = count_by (λ x. nat_lt x r) rounds
+
+-- for each round how many of those that entered in it or before have not gone out in it or before
+unfoldable pub waits_of : List ℕ → List ℕ → ℕ → List ℕ
+waits_of entered gone zero = []
+waits_of entered gone (suc r) = waits_of entered gone r ++ (before entered (r + 1) - before gone (r + 1)) ∷ []
+
+-- the greatest of each so many numbers
+unfoldable pub peaks_of : ℕ → ℕ → List ℕ → List ℕ
+peaks_of per zero numbers = []
+peaks_of per (suc n) numbers = greatest (take per numbers) ∷ peaks_of per n (drop per numbers)
+
+-- how many commands each so many rounds carry, from a round on and to the end
+unfoldable pub rooms_of : List Step → ℕ → ℕ → ℕ → ℕ → List ℕ
+rooms_of steps per rounds start zero = []
+rooms_of steps per rounds start (suc n) = carried steps start (min (start + per) rounds - start) ∷ rooms_of steps per rounds (min (start + per) rounds) n
+
+-- a column with these numbers, and that of a place in lists of them
+abbrev pub column_with : ℕ → ℕ → ℕ → ℕ → ℕ → ℕ → ℕ → Column
+column_with reads writes lates backs room rw ww = record { reads = reads; writes = writes; lates = lates; backs = backs; room = room; read_waits = rw; write_waits = ww }
+
+abbrev pub column_at : List ℕ → List ℕ → List ℕ → List ℕ → List ℕ → List ℕ → List ℕ → ℕ → Column
+column_at reads writes lates backs rooms rw ww n =
+    column_with (slice_index_or reads n 0) (slice_index_or writes n 0) (slice_index_or lates n 0) (slice_index_or backs n 0) (slice_index_or rooms n 0) (slice_index_or rw n 0) (slice_index_or ww n 0)
+
+-- the numbers of a column
+unfoldable pub column_of : Setup → List Happened → Scale → ℕ → Column
+column_of setup events scale c = record {
+  reads = in_column scale.per c (rounds_in Reads (boxes_of setup events));
+  writes = in_column scale.per c (rounds_in Writes (boxes_of setup events));
+  lates = in_column scale.per c (rounds_in Lates (boxes_of setup events));
+  backs = in_column scale.per c (rounds_in Backs (boxes_of setup events));
+  room = slice_index_or (rooms_of (capacity_of setup events) scale.per scale.rounds 0 scale.columns) c 0;
+  read_waits = slice_index_or (peaks_of scale.per scale.columns (waits_of (entered_in Read events) (rounds_in GoneReads (boxes_of setup events)) scale.rounds)) c 0;
+  write_waits = slice_index_or (peaks_of scale.per scale.columns (waits_of (entered_in Write events) (rounds_in GoneWrites (boxes_of setup events)) scale.rounds)) c 0;
+}

@@ -1,0 +1,101 @@
+-- The picture of a trace, and the pictures of several.
+use Rattle.std.specs.Prelude.{ℕ, ℤ, pos, negsuc, zero, suc, ◌≡◌, ◌+◌, ◌-◌, ◌*◌, ◌<◌, ◌++◌, ◌∷◌, [], min, List, Option, Some, None, length, codes, map, slice_index_or}
+use Rattle.edd_check.specs.declared.Window.{Window}
+use Rattle.edd_check.specs.declared.steps.Step.{Step}
+use Rattle.edd_check.specs.Limits.{round_limit}
+use Rattle.edd_check.specs.Capacity.{carried}
+use Rattle.edd_figures.specs.declared.missing.Crowd.{Crowd}
+use Rattle.blk_report.specs.declared.figures.Report.{Report}
+use Rattle.blk_report.specs.declared.missing.Tally.{Tally}
+use Rattle.blk_report.specs.Shortfall.{IsReport}
+use Rattle.blk_report.specs.Misses.{IsTallied}
+use Rattle.blk_trace.specs.Traces.{Traced}
+use Rattle.blk_trace.specs.Events.{round_of}
+use Rattle.blk_trace.specs.Meaning.{greatest}
+use Rattle.blk_trace.specs.Depths.{capacity_of}
+use Rattle.blk_picture.specs.declared.scale.Scale.{Scale}
+use Rattle.blk_picture.specs.Boxes.{boxes_of}
+use Rattle.blk_picture.specs.Columns.{column_of}
+use Rattle.blk_picture.specs.Filled.{filled, made}
+use Rattle.blk_picture.specs.Scales.{scale_of}
+use Rattle.blk_picture.specs.Shapes.{strip_text, frame_text}
+use Rattle.blk_picture.specs.Around.{heading_text, windows_text}
+
+-- how many rounds of a trace are shown: the one that is on is the last
+abbrev pub rounds_shown : Traced → ℕ
+rounds_shown t = round_of t.events + 1
+
+-- the most rounds and the most tags of several traces
+unfoldable pub most_rounds : List Traced → ℕ
+most_rounds traces = greatest (map rounds_shown traces)
+
+unfoldable pub most_deep : List Traced → ℕ
+most_deep traces = greatest (map (λ t. t.setup.depth) traces)
+
+-- the round before which what is due in a round has to run, if it is to be less late than this; no later than rounds are counted
+abbrev pub end_of : ℕ → ℤ → ℕ
+end_of due (pos n) = min (due + n) (2 * round_limit - 1)
+end_of due (negsuc n) = min (due - suc n) (2 * round_limit - 1)
+
+-- how many commands the rounds of the crowded window carry, if each is to be less late than the least lateness
+abbrev pub crowded_room : List Step → Option Window → Option ℤ → ℕ
+crowded_room steps (Some w) (Some late) = carried steps w.from (end_of w.due late - w.from)
+crowded_room steps _ _ = 0
+
+-- the part that shows a trace under a name, so far from the top: its report and its misses, and all that is drawn of it: its boxes, in
+-- the columns of their rounds and the rows of their tags, and its columns
+pub record IsPart (scale : Scale) (top : ℕ) (name : List ℕ) (t : Traced) (text : List ℕ) : Type 0 where
+  pub report : Report
+  pub tally : Tally
+  pub windows : List Crowd
+  pub is_report : IsReport t.setup t.events report
+  pub is_tallied : IsTallied t.setup t.events tally windows
+  pub is_text : text ≡ ((((filled (codes "<g transform='translate(0,$)'>\n") (top ∷ [])
+      ++ heading_text scale name report tally)
+      ++ strip_text scale (made (column_of t.setup t.events scale) scale.columns))
+      ++ frame_text scale (boxes_of t.setup t.events) (made (column_of t.setup t.events scale) scale.columns))
+      ++ windows_text scale report (crowded_room (capacity_of t.setup t.events) report.window report.least) windows)
+      ++ codes "</g>\n"
+
+-- how many pixels a part is high
+abbrev pub height_of : Scale → ℕ
+height_of scale = scale.deep * scale.tall + 372
+
+-- the colours, light and dark, and the hatching
+abbrev pub style : List ℕ
+style = codes "<style>text{font-family:sans-serif;font-size:13px;fill:#222}.t{font-size:18px;font-weight:bold}.s{font-size:11px}.e{text-anchor:end}.c,.n{text-anchor:middle}.n{font-size:10px;fill:#000}.o{fill:#fff}.p{fill:#fff}.f{fill:#f0f0f0}.g{fill:#a8a8a8}.r{fill:#0072b2}.w{fill:#e69f00}.m{fill:#000}.b{fill:#cc79a7}.l{stroke:#000;stroke-width:2}.hr{fill:url(#hr);stroke:#0072b2}.hw{fill:url(#hw);stroke:#e69f00}.k,.q{fill:none;stroke:#222}.q{stroke-width:2.5}.dr{stroke:#0072b2;stroke-width:2}.dw{stroke:#e69f00;stroke-width:2}@media(prefers-color-scheme:dark){text{fill:#ddd}.n{fill:#000}.o{fill:#fff}.p{fill:#161616}.f{fill:#262626}.g{fill:#5c5c5c}.m{fill:#fff}.l{stroke:#fff}.k,.q{stroke:#ddd}.r{fill:#2a92d0}}</style><defs><pattern id='hr' width='5' height='5' patternUnits='userSpaceOnUse' patternTransform='rotate(45)'><path class='dr' d='M0 0V5'/></pattern><pattern id='hw' width='5' height='5' patternUnits='userSpaceOnUse' patternTransform='rotate(45)'><path class='dw' d='M0 0V5'/></pattern></defs>\n"
+
+-- how a picture begins
+abbrev pub svg_text : ℕ → List ℕ
+svg_text height = filled (codes "<svg xmlns='http://www.w3.org/2000/svg' version='1.1' width='1280' height='$' viewBox='0 0 1280 $'>\n") (height ∷ height ∷ [])
+
+abbrev pub page_text : ℕ → List ℕ
+page_text height = filled (codes "<rect class='p' width='1280' height='$'/>\n") (height ∷ [])
+
+abbrev pub head_text : ℕ → List ℕ
+head_text height = (svg_text height ++ style) ++ page_text height
+
+-- the picture of a trace
+pub record IsPicture (t : Traced) (text : List ℕ) : Type 0 where
+  pub part : List ℕ
+  pub is_part : IsPart (scale_of (rounds_shown t) t.setup.depth) 0 (codes "trace") t part
+  pub is_text : text ≡ (head_text (height_of (scale_of (rounds_shown t) t.setup.depth)) ++ part) ++ codes "</svg>\n"
+
+-- the part of the trace at the place is at the end of a text
+pub record EndsWithPart (scale : Scale) (names : List (List ℕ)) (traces : List Traced) (n : ℕ) (AreBefore : List ℕ → Type 0) (text : List ℕ) : Type 0 where
+  pub before : List ℕ
+  pub part : List ℕ
+  pub are_before : AreBefore before
+  pub is_part : (d : Traced) → IsPart scale (n * height_of scale + 0) (slice_index_or names n []) (slice_index_or traces n d) part
+  pub is_text : text ≡ before ++ part
+
+-- the parts of the first n traces, one below another
+unfoldable pub AreParts : Scale → List (List ℕ) → List Traced → ℕ → List ℕ → Type 0
+AreParts scale names traces zero text = text ≡ []
+AreParts scale names traces (suc n) text = EndsWithPart scale names traces n (AreParts scale names traces n) text
+
+-- the pictures of several traces, each under its name, on one scale
+pub record IsPictures (names : List (List ℕ)) (traces : List Traced) (text : List ℕ) : Type 0 where
+  pub parts : List ℕ
+  pub are_parts : AreParts (scale_of (most_rounds traces) (most_deep traces)) names traces (length traces) parts
+  pub is_text : text ≡ (head_text (length traces * height_of (scale_of (most_rounds traces) (most_deep traces)) + 0) ++ parts) ++ codes "</svg>\n"

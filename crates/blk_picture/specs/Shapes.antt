@@ -1,0 +1,117 @@
+-- The boxes, the columns and the strip of a picture as text. Nothing but fixed words and numbers gets into it.
+use Rattle.std.specs.Prelude.{ℕ, zero, suc, ◌+◌, ◌-◌, ◌*◌, ◌/◌, ◌==◌, ◌&&◌, ◌||◌, ◌++◌, ◌∷◌, [], Bool, true, false, not, cond, max, nat_le, nat_lt, List, length, codes, slice_index_or, flat_map, map, fold}
+use Rattle.blk_bio.specs.declared.bio.Dir.{Dir}
+use Rattle.blk_bio.specs.declared.bio.Dir.TheVariants.{Read, Write}
+use Rattle.blk_picture.specs.declared.boxes.Issued.{Issued}
+use Rattle.blk_picture.specs.declared.scale.Scale.{Scale}
+use Rattle.blk_picture.specs.declared.columns.Column.{Column}
+use Rattle.blk_picture.specs.Columns.{is_late}
+use Rattle.blk_picture.specs.Filled.{filled, texts}
+
+-- how a box begins: its class is its direction, with a heavy edge where it was late, and hatched where it was handed back
+abbrev pub class_by : Dir → Bool → Bool → List ℕ
+class_by Read true late = codes "<rect class='hr'"
+class_by Write true late = codes "<rect class='hw'"
+class_by Read false true = codes "<rect class='r l'"
+class_by Write false true = codes "<rect class='w l'"
+class_by Read false false = codes "<rect class='r'"
+class_by Write false false = codes "<rect class='w'"
+
+abbrev pub class_words : Issued → List ℕ
+class_words b = class_by b.dir b.back (is_late b)
+
+abbrev pub dir_words : Dir → List ℕ
+dir_words Read = codes "read"
+dir_words Write = codes "write"
+
+-- how its title ends
+abbrev pub tail_by : Bool → Bool → List ℕ
+tail_by true early = codes ", sectors $ to $, released in round $, due $, issued $ and handed back</title></rect>\n"
+tail_by false true = codes ", sectors $ to $, released in round $, due $, issued $, lateness -$</title></rect>\n"
+tail_by false false = codes ", sectors $ to $, released in round $, due $, issued $, lateness $</title></rect>\n"
+
+abbrev pub tail_words : Issued → List ℕ
+tail_words b = tail_by b.back (nat_lt b.round b.due)
+
+-- how far the round of an Issue and its due round are apart
+abbrev pub apart : Issued → ℕ
+apart b = cond (nat_lt b.round b.due) (b.due - b.round) (b.round - b.due)
+
+-- so many rounds can be written inside a box
+abbrev pub fits : Scale → ℕ → Bool
+fits scale rounds =
+    nat_le 12 scale.tall && nat_lt rounds (cond (nat_lt scale.wide 10) 0 (cond (nat_lt scale.wide 16) 10 (cond (nat_lt scale.wide 22) 100 (cond (nat_lt scale.wide 28) 1000 10000))))
+
+abbrev pub label_words : Dir → List ℕ
+label_words Read = codes "<text class='n o' x='$' y='$'>$</text>\n"
+label_words Write = codes "<text class='n' x='$' y='$'>$</text>\n"
+
+-- the rounds late, inside the box of a late command where they fit
+abbrev pub label_text : Scale → Issued → List ℕ
+label_text scale b =
+    cond (b.back || (not (is_late b) || not (fits scale (apart b)))) []
+    (filled (label_words b.dir) ((b.round * scale.wide + (64 + scale.wide / 2)) ∷ (b.tag * scale.tall + (182 + scale.tall / 2 + 3)) ∷ apart b ∷ []))
+
+-- where a box lies: in the column of its round and the row of its tag; and how its title begins
+abbrev pub place_text : Scale → Issued → List ℕ
+place_text scale b = filled (codes " x='$' y='$' width='$' height='$'><title>request $, ") ((b.round * scale.wide + 64) ∷ (b.tag * scale.tall + 182) ∷ (scale.wide - 1) ∷ (scale.tall - 1) ∷ b.id ∷ [])
+
+abbrev pub tail_text : Issued → List ℕ
+tail_text b = filled (tail_words b) (b.first ∷ b.end ∷ b.release ∷ b.due ∷ b.round ∷ apart b ∷ [])
+
+-- a box: its class, its place, its title, and the rounds late
+abbrev pub box_text : Scale → Issued → List ℕ
+box_text scale b = (((class_words b ++ place_text scale b) ++ dir_words b.dir) ++ tail_text b) ++ label_text scale b
+
+-- a column of several rounds, from the top: reads and writes on time, late ones, those handed back, idle places, and what the rounds
+-- do not carry. A unit of height is a place
+abbrev pub stack_text : Scale → ℕ → Column → List ℕ
+stack_text scale c n =
+    filled (codes "<g><title>column $: $ reads and $ writes on time, $ late, $ handed back, $ idle places</title><rect class='r' x='$' y='0' width='1' height='$'/><rect class='w' x='$' y='$' width='1' height='$'/><rect class='m' x='$' y='$' width='1' height='$'/><rect class='b' x='$' y='$' width='1' height='$'/><rect class='g' x='$' y='$' width='1' height='$'/></g>\n")
+    (c ∷ n.reads ∷ n.writes ∷ n.lates ∷ n.backs ∷ (n.room - (n.reads + n.writes + n.lates + n.backs)) ∷ c ∷ n.reads ∷ c ∷ n.reads ∷ n.writes ∷ c ∷ (n.reads + n.writes) ∷ n.lates ∷ c ∷ (n.reads + n.writes + n.lates) ∷ n.backs ∷ c ∷ n.room ∷ (scale.per * scale.deep + 0 - n.room) ∷ [])
+
+-- what the round of a column does not carry
+abbrev pub grey_text : Scale → ℕ → Column → List ℕ
+grey_text scale c n =
+    cond (scale.deep - n.room == 0) []
+    (filled (codes "<rect class='g' x='$' y='$' width='1' height='$'/>\n") (c ∷ n.room ∷ (scale.deep - n.room) ∷ []))
+
+abbrev pub column_text : Scale → ℕ → Column → List ℕ
+column_text scale c n = cond (scale.per == 1) (grey_text scale c n) (stack_text scale c n)
+
+abbrev pub no_column : Column
+no_column = record { reads = 0; writes = 0; lates = 0; backs = 0; room = 0; read_waits = 0; write_waits = 0 }
+
+-- the columns
+abbrev pub columns_text : Scale → List Column → ℕ → List ℕ
+columns_text scale columns n = texts (λ c. column_text scale c (slice_index_or columns c no_column)) n
+
+-- how the frame begins
+abbrev pub border_text : Scale → List ℕ
+border_text scale = filled (codes "<svg x='64' y='182' width='$' height='$' viewBox='0 0 $ $' preserveAspectRatio='none'><rect class='f' width='$' height='$'/>\n") ((scale.columns * scale.wide + 0) ∷ (scale.deep * scale.tall + 0) ∷ scale.columns ∷ (scale.per * scale.deep + 0) ∷ scale.columns ∷ (scale.per * scale.deep + 0) ∷ [])
+
+-- the frame, and the boxes where each column is a round
+abbrev pub frame_text : Scale → List Issued → List Column → List ℕ
+frame_text scale boxes columns =
+    ((border_text scale ++ columns_text scale columns (length columns)) ++ codes "</svg>\n") ++ cond (scale.per == 1) (flat_map (box_text scale) boxes) []
+
+-- the requests that wait in a column
+abbrev pub waiting_text : ℕ → Column → List ℕ
+waiting_text c n =
+    filled (codes "<g><title>$ reads and $ writes wait</title><rect class='r' x='$' y='0' width='1' height='$'/><rect class='w' x='$' y='$' width='1' height='$'/></g>\n")
+    (n.read_waits ∷ n.write_waits ∷ c ∷ n.read_waits ∷ c ∷ n.read_waits ∷ n.write_waits ∷ [])
+
+-- the most that wait in a column, at least 1
+abbrev pub most_waiting : List Column → ℕ
+most_waiting columns = fold max 1 (map (λ n. n.read_waits + n.write_waits) columns)
+
+-- how the strip begins, where so many wait at most
+abbrev pub scale_text : Scale → ℕ → List ℕ
+scale_text scale most = filled (codes "<text class='s e' x='58' y='120'>$</text><text class='s e' x='58' y='168'>waiting</text><text class='s e' x='58' y='194'>tag 0</text><svg x='64' y='110' width='$' height='60' viewBox='0 0 $ $' preserveAspectRatio='none'><rect class='f' width='$' height='$'/><g transform='matrix(1 0 0 -1 0 $)'>\n") (most ∷ (scale.columns * scale.wide + 0) ∷ scale.columns ∷ most ∷ scale.columns ∷ most ∷ most ∷ [])
+
+abbrev pub waits_text : List Column → ℕ → List ℕ
+waits_text columns n = texts (λ c. waiting_text c (slice_index_or columns c no_column)) n
+
+-- the strip of those that wait
+abbrev pub strip_text : Scale → List Column → List ℕ
+strip_text scale columns = (scale_text scale (most_waiting columns) ++ waits_text columns (length columns)) ++ codes "</g></svg>\n"

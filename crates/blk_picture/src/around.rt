@@ -1,0 +1,252 @@
+//! What stands round the boxes of a picture, as text: its heading, its axis and its windows.
+
+ghost use Rattle.std.specs.Prelude.{◌≡◌, ◌<◌, ◌++◌, OnOk, length};
+ghost use Rattle.blk_picture.specs.Around.{numbers_text, legend, heading_text, tick_text, axis_text, column_at, line_text, named_text, bracket_text, crowded_text, crowd_text, crowds_text, foot_text, windows_text};
+
+use crate::filled::fill;
+use crate::scale::{Scale, place, step_of};
+use blk_report::{Report, Tally, report_lines};
+use drafts::Draft;
+use edd_check::Window;
+use edd_figures::Crowd;
+use std::alloc::{AllocError, Global};
+
+/// Where the columns begin, from the left.
+const LEFT: u32 = 64;
+
+/// No column is wider, in pixels.
+const WIDEST: u32 = 1200;
+
+/// Adds what was late, and what a column stands for.
+fn push_numbers(draft: &mut Draft, scale: &Scale, tally: &Tally) -> Result<(), AllocError>
+    ensures { OnOk result (draft.new ≡ draft.old ++ numbers_text scale.now tally.now) }
+{
+    let per = u64::from(scale.per);
+    fill(
+        draft,
+        b"</text>\n<text x='24' y='68'>late $ unavoidable $ avoidable $ spare $; rounds in a column: $</text>\n",
+        &[
+            tally.late,
+            tally.unavoidable,
+            tally.avoidable,
+            tally.spare,
+            per,
+        ],
+    )
+}
+
+/// Adds the colours and what they mean.
+fn push_legend(draft: &mut Draft) -> Result<(), AllocError>
+    ensures { OnOk result (draft.new ≡ draft.old ++ legend) }
+{
+    draft.text(
+        b"<g transform='translate(24,78)'><rect class='r' width='14' height='14'/><text x='20' y='12'>read</text><rect class='w' x='70' width='14' height='14'/><text x='90' y='12'>write</text><rect class='r l' x='146' y='1' width='12' height='12'/><rect class='w l' x='164' y='1' width='12' height='12'/><text x='184' y='12'>late, with the rounds late (in columns </text><rect class='m' x='402' width='14' height='14'/><text x='420' y='12'>)</text><rect class='hr' x='446' width='14' height='14'/><rect class='hw' x='464' width='14' height='14'/><text x='486' y='12'>handed back (in columns </text><rect class='b' x='634' width='14' height='14'/><text x='652' y='12'>)</text><rect class='f' x='676' width='14' height='14'/><text x='696' y='12'>idle</text><rect class='g' x='742' width='14' height='14'/><text x='762' y='12'>not carried by the round</text><path class='q' d='M946 4v6H970v-6'/><text x='976' y='12'>crowded window; below it those of misses</text></g>\n",
+    )
+}
+
+/// Adds the heading: the name, the report, what was late, and what a column stands for.
+pub(crate) fn push_heading(
+    draft: &mut Draft,
+    alloc: Global,
+    scale: &Scale,
+    name: &[u8],
+    report: &Report,
+    tally: &Tally,
+) -> Result<(), AllocError>
+    ensures { OnOk result (draft.new ≡ draft.old ++ heading_text scale.now name.now report.now tally.now) }
+{
+    let lines = report_lines(alloc, report)?;
+    draft.text(b"<text class='t' x='24' y='28'>")?;
+    draft.text(name)?;
+    draft.text(b"</text>\n<text x='24' y='50' xml:space='preserve'>")?;
+    draft.text(lines.as_slice())?;
+    push_numbers(draft, scale, tally)?;
+    push_legend(draft)?;
+    Ok(())
+}
+
+/// The column of a round, or the last one.
+fn column_at(scale: &Scale, round: u64) -> u32
+    requires { 0 < scale.now.per }
+    ensures { result ≡ column_at scale.now round }
+{
+    let last = u64::from(scale.rounds.saturating_sub(1));
+    (round.min(last) as u32) / scale.per
+}
+
+/// Adds a number of the axis, so many steps from its start, where the picture has that round.
+fn push_tick(draft: &mut Draft, scale: &Scale, number: u32) -> Result<(), AllocError>
+    requires { 0 < scale.now.per }
+    ensures { OnOk result (draft.new ≡ draft.old ++ tick_text scale.now number) }
+{
+    let round = place(number, step_of(scale.rounds), 0);
+    if round >= u64::from(scale.rounds) {
+        return Ok(());
+    }
+    let x = place(column_at(scale, round), scale.wide, LEFT);
+    fill(
+        draft,
+        b"<path class='k' d='M$ 0v5'/><text class='s c' x='$' y='17'>$</text>\n",
+        &[x, x, round],
+    )
+}
+
+/// Adds the axis.
+fn push_axis(draft: &mut Draft, scale: &Scale) -> Result<(), AllocError>
+    requires { 0 < scale.now.per }
+    ensures { OnOk result (draft.new ≡ draft.old ++ axis_text scale.now) }
+{
+    for number in 0..25 {
+        push_tick(draft, scale, number)?;
+    }
+    draft.text(b"<text class='s e' x='58' y='17'>round</text>\n")
+}
+
+/// Adds the bracket of a window in a row, with its two numbers in its title.
+fn push_line(draft: &mut Draft, scale: &Scale, row: u32, crowd: Crowd) -> Result<(), AllocError>
+    requires { 0 < scale.now.per }
+    ensures { OnOk result (draft.new ≡ draft.old ++ line_text scale.now row crowd) }
+{
+    let first = column_at(scale, crowd.window.from);
+    let last = column_at(scale, crowd.window.due);
+    let from = place(first, scale.wide, LEFT);
+    let to = place(last, scale.wide, LEFT + scale.wide.min(WIDEST));
+    let top = place(row, 28, 28);
+    fill(
+        draft,
+        b" d='M$ $v6H$v-6'><title>rounds $ to $: $ commands, room for $</title></path>\n",
+        &[
+            from,
+            top,
+            to,
+            crowd.window.from,
+            crowd.window.due,
+            crowd.commands,
+            crowd.carries,
+        ],
+    )
+}
+
+/// Adds the two numbers of a window below its bracket, where they are wanted.
+fn push_named(
+    draft: &mut Draft,
+    scale: &Scale,
+    row: u32,
+    crowd: Crowd,
+    labelled: bool,
+) -> Result<(), AllocError>
+    requires { 0 < scale.now.per }
+    ensures { OnOk result (draft.new ≡ draft.old ++ named_text scale.now row crowd labelled) }
+{
+    if !labelled {
+        return Ok(());
+    }
+    let first = column_at(scale, crowd.window.from);
+    let from = place(first, scale.wide, LEFT);
+    let top = place(row, 28, 46);
+    fill(
+        draft,
+        b"<text class='s' x='$' y='$'>$ commands, room for $</text>\n",
+        &[from, top, crowd.commands, crowd.carries],
+    )
+}
+
+/// Adds the bracket of a window in a row, with its two numbers where it is to be labelled.
+fn push_bracket(
+    draft: &mut Draft,
+    scale: &Scale,
+    row: u32,
+    crowd: Crowd,
+    labelled: bool,
+) -> Result<(), AllocError>
+    requires { 0 < scale.now.per }
+    ensures { OnOk result (draft.new ≡ draft.old ++ bracket_text scale.now row crowd labelled) }
+{
+    push_line(draft, scale, row, crowd)?;
+    push_named(draft, scale, row, crowd, labelled)?;
+    Ok(())
+}
+
+/// Adds the crowded window of a report, if it has one, whose rounds carry so many.
+fn push_crowded(
+    draft: &mut Draft,
+    scale: &Scale,
+    window: Option<Window>,
+    load: Option<u64>,
+    carries: u64,
+) -> Result<(), AllocError>
+    requires { 0 < scale.now.per }
+    ensures { OnOk result (draft.new ≡ draft.old ++ crowded_text scale.now window load carries) }
+{
+    match (window, load) {
+        (Some(window), Some(commands)) => {
+            let crowd = Crowd {
+                window,
+                commands,
+                carries,
+            };
+            draft.text(b"<path class='q'")?;
+            push_bracket(draft, scale, 0, crowd, true)?;
+            Ok(())
+        }
+        _ => Ok(()),
+    }
+}
+
+/// Adds a window of misses.
+fn push_crowd(
+    draft: &mut Draft,
+    scale: &Scale,
+    crowds: &[Crowd],
+    number: usize,
+) -> Result<(), AllocError>
+    requires some { 0 < scale.now.per }
+    requires within { number < length crowds.now }
+    ensures { OnOk result (draft.new ≡ draft.old ++ crowd_text scale.now crowds.now number) }
+{
+    let labelled = crowds.len() <= 12;
+    let row = (number % 4 + 1) as u32;
+    let crowd = crowds[number];
+    draft.text(b"<path class='k'")?;
+    push_bracket(draft, scale, row, crowd, labelled)?;
+    Ok(())
+}
+
+/// Adds the windows of misses, at most 400, in four rows, with their numbers where they are few.
+fn push_crowds(draft: &mut Draft, scale: &Scale, crowds: &[Crowd]) -> Result<(), AllocError>
+    requires { 0 < scale.now.per }
+    ensures { OnOk result (draft.new ≡ draft.old ++ crowds_text scale.now crowds.now) }
+{
+    let count = crowds.len().min(400);
+    for number in 0..count {
+        push_crowd(draft, scale, crowds, number)?;
+    }
+    Ok(())
+}
+
+/// Adds how what stands below the frame begins.
+fn push_foot(draft: &mut Draft, scale: &Scale) -> Result<(), AllocError>
+    ensures { OnOk result (draft.new ≡ draft.old ++ foot_text scale.now) }
+{
+    let foot = place(scale.deep, scale.tall, 182);
+    fill(draft, b"<g transform='translate(0,$)'>\n", &[foot])
+}
+
+/// Adds what stands below the frame: the axis and the windows.
+pub(crate) fn push_windows(
+    draft: &mut Draft,
+    scale: &Scale,
+    report: &Report,
+    carries: u64,
+    crowds: &[Crowd],
+) -> Result<(), AllocError>
+    requires { 0 < scale.now.per }
+    ensures { OnOk result (draft.new ≡ draft.old ++ windows_text scale.now report.now carries crowds.now) }
+{
+    push_foot(draft, scale)?;
+    push_axis(draft, scale)?;
+    push_crowded(draft, scale, report.window, report.load, carries)?;
+    push_crowds(draft, scale, crowds)?;
+    draft.text(b"</g>\n")?;
+    Ok(())
+}

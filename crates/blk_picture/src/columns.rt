@@ -1,0 +1,350 @@
+//! What each column of a picture stands for.
+
+ghost use Rattle.std.specs.Prelude.{ℕ, ◌≡◌, ◌≤◌, ◌<◌, ◌+◌, ◌==◌, ◌++◌, ◌^◌, [], cond, IfOk, OnOk, length, slice_index_or};
+ghost use Rattle.std.specs.List.{cons_option};
+ghost use Rattle.blk_trace.specs.Kinds.{is_tick};
+ghost use Rattle.blk_trace.specs.declared.trace.TheConstants.{MAX_EVENTS};
+ghost use Rattle.blk_trace.specs.Meaning.{greatest};
+ghost use Rattle.blk_trace.specs.Setups.{same_dir};
+ghost use Rattle.blk_picture.specs.Boxes.{boxes_of};
+ghost use Rattle.blk_picture.specs.Filled.{made};
+ghost use Rattle.blk_picture.specs.Columns.{is_late, round_in, rounds_in, entry_in, entered_in, in_column, waits_of, peaks_of, rooms_of, column_at, column_of};
+
+use crate::boxes::Issued;
+use crate::scale::Scale;
+use blk_bio::{Dir, Request};
+use blk_trace::{Event, Trace};
+use edd_check::Capacity;
+use std::alloc::{AllocError, Global};
+
+/// Which Issues are counted.
+#[derive(Clone, Copy)]
+pub enum Kind {
+    /// Reads on time.
+    Reads,
+    /// Writes on time.
+    Writes,
+    /// Late ones.
+    Lates,
+    /// Those that were handed back.
+    Backs,
+    /// Reads that were not handed back.
+    GoneReads,
+    /// Writes that were not handed back.
+    GoneWrites,
+}
+
+/// The numbers of the rounds that a column stands for.
+#[derive(Clone, Copy)]
+pub struct Column {
+    /// Reads on time.
+    pub reads: u32,
+    /// Writes on time.
+    pub writes: u32,
+    /// Late ones of both directions.
+    pub lates: u32,
+    /// Those that were handed back.
+    pub backs: u32,
+    /// How many commands the rounds carry.
+    pub room: u64,
+    /// The most reads that waited at the end of a round.
+    pub read_waits: u32,
+    /// The most writes that waited at the end of a round.
+    pub write_waits: u32,
+}
+
+/// Whether two directions are one.
+fn is_same(dir: Dir, other: Dir) -> bool
+    ensures { result ≡ same_dir dir other }
+{
+    match (dir, other) {
+        (Dir::Read, Dir::Read) => true,
+        (Dir::Read, Dir::Write) => false,
+        (Dir::Write, Dir::Read) => false,
+        (Dir::Write, Dir::Write) => true,
+    }
+}
+
+/// Whether it was issued after it was due.
+pub(crate) fn is_late(issued: &Issued) -> bool
+    ensures { result ≡ is_late issued.now }
+{
+    issued.due < u64::from(issued.round)
+}
+
+/// Its round, if it is of the kind.
+fn round_in(kind: Kind, issued: &Issued) -> Option<u32>
+    ensures { result ≡ round_in kind issued.now }
+{
+    let on_time = !issued.back && !is_late(issued);
+    let counted = match kind {
+        Kind::Reads => on_time && is_same(issued.dir, Dir::Read),
+        Kind::Writes => on_time && is_same(issued.dir, Dir::Write),
+        Kind::Lates => !issued.back && is_late(issued),
+        Kind::Backs => issued.back,
+        Kind::GoneReads => !issued.back && is_same(issued.dir, Dir::Read),
+        Kind::GoneWrites => !issued.back && is_same(issued.dir, Dir::Write),
+    };
+    if counted { Some(issued.round) } else { None }
+}
+
+/// The rounds of those of the kind.
+fn rounds_in(alloc: Global, boxes: &[Issued], kind: Kind) -> Result<Vec<u32>, AllocError>
+    ensures rounds { IfOk result (λ v. v.items ≡ rounds_in kind boxes.now) }
+    ensures few { IfOk result (λ v. length v.items ≤ length boxes.now) }
+{
+    let mut rounds = Vec::new(alloc);
+    for issued in boxes {
+        push_some(&mut rounds, round_in(kind, issued))?;
+    }
+    Ok(rounds)
+}
+
+/// The round, if a request of the direction enters by the event.
+fn entry_in(event: &Event<Request>, round: u32, dir: Dir) -> Option<u32>
+    ensures { result ≡ entry_in dir (round, event.now) }
+{
+    match event.releases() {
+        Some((_, request)) => {
+            if is_same(request.dir(), dir) {
+                Some(round)
+            } else {
+                None
+            }
+        }
+        None => None,
+    }
+}
+
+/// The round after an event.
+fn next_round(event: &Event<Request>, round: u32) -> u32
+    requires { round < 2 ^ 31 }
+    ensures { result ≡ cond (is_tick event.now) (round + 1) round }
+{
+    if event.is_tick() { round + 1 } else { round }
+}
+
+/// Adds a number, if there is one.
+fn push_some(numbers: &mut Vec<u32>, number: Option<u32>) -> Result<(), AllocError>
+    ensures { OnOk result (numbers.new.items ≡ numbers.old.items ++ cons_option number []) }
+{
+    match number {
+        None => Ok(()),
+        Some(number) => match numbers.push(number) {
+            Ok(()) => Ok(()),
+            Err(_) => Err(AllocError),
+        },
+    }
+}
+
+/// The rounds in which requests of a direction enter.
+fn entered(alloc: Global, events: &[Event<Request>], dir: Dir) -> Result<Vec<u32>, AllocError>
+    requires { length events.now ≤ MAX_EVENTS }
+    ensures rounds { IfOk result (λ v. v.items ≡ entered_in dir events.now) }
+    ensures few { IfOk result (λ v. length v.items ≤ length events.now) }
+{
+    let mut rounds = Vec::new(alloc);
+    let mut round = 0;
+    for event in events {
+        push_some(&mut rounds, entry_in(event, round, dir))?;
+        round = next_round(event, round);
+    }
+    Ok(rounds)
+}
+
+/// Counts one more in a column, where there is such a column.
+fn count_at(counts: &mut Vec<u32>, column: usize)
+    requires { (c : ℕ) → c < length counts.old.items → slice_index_or counts.old.items c 0 < 2 ^ 31 }
+    ensures each { length counts.new.items ≡ length counts.old.items }
+    ensures counts { (c : ℕ) → c < length counts.old.items → slice_index_or counts.new.items c 0 ≡ cond (column == c) (slice_index_or counts.old.items c 0 + 1) (slice_index_or counts.old.items c 0) }
+{
+    if column < counts.len() {
+        counts[column] += 1;
+    }
+}
+
+/// For each of so many columns how many of the rounds stand in it.
+fn counts(alloc: Global, rounds: &[u32], per: u32, columns: usize) -> Result<Vec<u32>, AllocError>
+    requires few { length rounds.now ≤ MAX_EVENTS }
+    requires some { 0 < per }
+    ensures each { IfOk result (λ v. length v.items ≡ columns) }
+    ensures counts { IfOk result (λ v. (c : ℕ) → c < columns → slice_index_or v.items c 0 ≡ in_column per c rounds.now) }
+{
+    let mut counts = Vec::new(alloc);
+    counts.resize(columns, 0)?;
+    for round in rounds {
+        count_at(&mut counts, (*round / per) as usize);
+    }
+    Ok(counts)
+}
+
+/// How many requests wait at the end of each round, where these entered and those went out.
+fn waits(
+    alloc: Global,
+    entered: &[u32],
+    gone: &[u32],
+    rounds: usize,
+) -> Result<Vec<u32>, AllocError>
+    requires entered { length entered.now ≤ MAX_EVENTS }
+    requires gone { length gone.now ≤ MAX_EVENTS }
+    ensures { IfOk result (λ v. v.items ≡ waits_of entered.now gone.now rounds) }
+{
+    let came = counts(alloc, entered, 1, rounds)?;
+    let went = counts(alloc, gone, 1, rounds)?;
+    let mut waits = Vec::new(alloc);
+    let mut all_came: u32 = 0;
+    let mut all_went: u32 = 0;
+    for round in 0..rounds {
+        all_came += came[round];
+        all_went += went[round];
+        waits.push(all_came.saturating_sub(all_went))?;
+    }
+    Ok(waits)
+}
+
+/// The greatest of some numbers, 0 without any.
+fn greatest(numbers: &[u32]) -> u32
+    ensures { result ≡ greatest numbers.now }
+{
+    let mut most = 0;
+    for number in numbers {
+        most = (*number).max(most);
+    }
+    most
+}
+
+/// The greatest of each so many numbers.
+fn peaks(alloc: Global, numbers: &[u32], per: u32, columns: usize) -> Result<Vec<u32>, AllocError>
+    ensures { IfOk result (λ v. v.items ≡ peaks_of per columns numbers.now) }
+{
+    let mut rest = numbers;
+    let mut peaks = Vec::new(alloc);
+    for column in 0..columns {
+        let (some, more) = rest.split_at((per as usize).min(rest.len()));
+        peaks.push(greatest(some))?;
+        rest = more;
+    }
+    Ok(peaks)
+}
+
+/// How many commands the rounds of each column carry.
+fn rooms(alloc: Global, capacity: &Capacity, scale: Scale) -> Result<Vec<u64>, AllocError>
+    ensures { IfOk result (λ v. v.items ≡ rooms_of capacity.now scale.per scale.rounds 0 scale.columns) }
+{
+    let mut rooms = Vec::new(alloc);
+    let mut start: u64 = 0;
+    for column in 0..scale.columns {
+        let stop = (start + u64::from(scale.per)).min(u64::from(scale.rounds));
+        rooms.push(capacity.sum(start, stop))?;
+        start = stop;
+    }
+    Ok(rooms)
+}
+
+/// How many Issues of the kind each column has.
+fn counted(
+    alloc: Global,
+    boxes: &[Issued],
+    kind: Kind,
+    scale: Scale,
+) -> Result<Vec<u32>, AllocError>
+    requires few { length boxes.now ≤ MAX_EVENTS }
+    requires some { 0 < scale.per }
+    ensures each { IfOk result (λ v. length v.items ≡ scale.columns) }
+    ensures counts { IfOk result (λ v. (c : ℕ) → c < scale.columns → slice_index_or v.items c 0 ≡ in_column scale.per c (rounds_in kind boxes.now)) }
+{
+    let rounds = rounds_in(alloc, boxes, kind)?;
+    counts(alloc, rounds.as_slice(), scale.per, scale.columns as usize)
+}
+
+/// The most requests of a direction that waited at the end of a round of each column.
+fn most_waited(
+    alloc: Global,
+    trace: &Trace,
+    boxes: &[Issued],
+    kind: Kind,
+    dir: Dir,
+    scale: Scale,
+) -> Result<Vec<u32>, AllocError>
+    requires few { length boxes.now ≤ MAX_EVENTS }
+    ensures { IfOk result (λ v. v.items ≡ peaks_of scale.per scale.columns (waits_of (entered_in dir trace.now.events) (rounds_in kind boxes.now) scale.rounds)) }
+{
+    let _ = trace.len();
+    let entered = entered(alloc, trace.events(), dir)?;
+    let gone = rounds_in(alloc, boxes, kind)?;
+    let waits = waits(
+        alloc,
+        entered.as_slice(),
+        gone.as_slice(),
+        scale.rounds as usize,
+    )?;
+    peaks(alloc, waits.as_slice(), scale.per, scale.columns as usize)
+}
+
+/// The columns with these numbers.
+fn joined(
+    alloc: Global,
+    reads: &[u32],
+    writes: &[u32],
+    lates: &[u32],
+    backs: &[u32],
+    rooms: &[u64],
+    read_waits: &[u32],
+    write_waits: &[u32],
+) -> Result<Vec<Column>, AllocError>
+    requires writes { length writes.now ≡ length reads.now }
+    requires lates { length lates.now ≡ length reads.now }
+    requires backs { length backs.now ≡ length reads.now }
+    requires rooms { length rooms.now ≡ length reads.now }
+    requires read_waits { length read_waits.now ≡ length reads.now }
+    requires write_waits { length write_waits.now ≡ length reads.now }
+    ensures { IfOk result (λ v. v.items ≡ made (column_at reads.now writes.now lates.now backs.now rooms.now read_waits.now write_waits.now) (length reads.now)) }
+{
+    let mut columns = Vec::new(alloc);
+    for column in 0..reads.len() {
+        columns.push(Column {
+            reads: reads[column],
+            writes: writes[column],
+            lates: lates[column],
+            backs: backs[column],
+            room: rooms[column],
+            read_waits: read_waits[column],
+            write_waits: write_waits[column],
+        })?;
+    }
+    Ok(columns)
+}
+
+/// The columns of a trace whose boxes are these.
+#[tactic(auto, using(crate::proofs::Counting::peaks_length, crate::proofs::Counting::rooms_length))]
+pub(crate) fn columns(
+    alloc: Global,
+    trace: &Trace,
+    boxes: &[Issued],
+    scale: Scale,
+) -> Result<Vec<Column>, AllocError>
+    requires boxes { boxes.now ≡ boxes_of trace.now.setup trace.now.events }
+    requires few { length boxes.now ≤ MAX_EVENTS }
+    requires some { 0 < scale.per }
+    ensures { IfOk result (λ v. v.items ≡ made (column_of trace.now.setup trace.now.events scale) scale.columns) }
+{
+    let reads = counted(alloc, boxes, Kind::Reads, scale)?;
+    let writes = counted(alloc, boxes, Kind::Writes, scale)?;
+    let lates = counted(alloc, boxes, Kind::Lates, scale)?;
+    let backs = counted(alloc, boxes, Kind::Backs, scale)?;
+    let capacity = trace.capacity()?;
+    let rooms = rooms(alloc, &capacity, scale)?;
+    let read_waits = most_waited(alloc, trace, boxes, Kind::GoneReads, Dir::Read, scale)?;
+    let write_waits = most_waited(alloc, trace, boxes, Kind::GoneWrites, Dir::Write, scale)?;
+    let columns = joined(
+        alloc,
+        reads.as_slice(),
+        writes.as_slice(),
+        lates.as_slice(),
+        backs.as_slice(),
+        rooms.as_slice(),
+        read_waits.as_slice(),
+        write_waits.as_slice(),
+    )?;
+    Ok(columns)
+}

@@ -1,0 +1,13 @@
+//! The picture of a trace as SVG: what was issued in which round under which tag, what waited, and the windows that were crowded.
+#![tactic(auto)]
+
+mod around;
+mod boxes;
+mod columns;
+mod facts;
+mod filled;
+mod parts;
+mod scale;
+mod shapes;
+
+pub use crate::parts::{picture, pictures};

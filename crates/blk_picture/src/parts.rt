@@ -1,0 +1,200 @@
+//! The part of a picture that shows a trace, and whole pictures.
+
+ghost use Rattle.std.specs.Prelude.{ℕ, List, ◌≡◌, ◌++◌, ◌*◌, ◌+◌, ◌≤◌, ◌<◌, OnOk, IfOk, length, map};
+ghost use Rattle.edd_check.specs.Limits.{round_limit};
+ghost use Rattle.blk_picture.specs.Scales.{scale_of};
+ghost use Rattle.blk_picture.specs.Pictures.{rounds_shown, most_rounds, most_deep, end_of, crowded_room, IsPart, AreParts, height_of, style, head_text, IsPicture, IsPictures};
+
+use crate::around::{push_heading, push_windows};
+use crate::boxes::{Issued, boxes};
+use crate::columns::{Column, columns};
+use crate::filled::fill;
+use crate::scale::{Scale, place};
+use crate::shapes::{push_frame, push_strip};
+use blk_report::{Report, Tally, misses, report};
+use blk_trace::Trace;
+use drafts::Draft;
+use edd_check::{Capacity, MAX_ROUNDS, Window};
+use edd_figures::Crowd;
+use std::alloc::{AllocError, Global};
+
+/// How many rounds of a trace are shown: the one that is on is the last.
+fn rounds_shown(trace: &Trace) -> u32
+    ensures value { result ≡ rounds_shown trace.now }
+    ensures small { result ≤ 1_000_001 }
+{
+    let rounds = trace.round() + 1;
+    rounds as u32
+}
+
+/// How many tags of a trace are shown.
+fn tags_shown(trace: &Trace) -> u32
+    ensures value { result ≡ trace.now.setup.depth }
+    ensures small { result ≤ 256 }
+{
+    let depth = trace.setup().depth();
+    depth as u32
+}
+
+/// The round before which what is due in a round has to run, if it is to be less late than this; no later than rounds are counted.
+fn end_of(due: u64, late: i64) -> u64
+    ensures value { result ≡ end_of due late }
+    ensures small { result < 2 * round_limit }
+{
+    let end = if late < 0 {
+        due.saturating_sub(late.unsigned_abs())
+    } else {
+        due.saturating_add(late as u64)
+    };
+    end.min(2 * MAX_ROUNDS - 1)
+}
+
+/// How many commands the rounds of the crowded window carry, if each is to be less late than the least lateness; 0 where there is none.
+fn crowded_room(capacity: &Capacity, window: Option<Window>, least: Option<i64>) -> u64
+    ensures { result ≡ crowded_room capacity.now window least }
+{
+    match (window, least) {
+        (Some(window), Some(late)) => capacity.sum(window.from, end_of(window.due, late)),
+        _ => 0,
+    }
+}
+
+/// Adds what shows a trace, so far from the top.
+fn push_part(
+    draft: &mut Draft,
+    alloc: Global,
+    trace: &Trace,
+    scale: Scale,
+    top: u64,
+    name: &[u8],
+) -> Result<(), AllocError>
+    requires { 0 < scale.per }
+    ensures { OnOk result ((text : List ℕ) × IsPart scale top name.now trace.now text × (draft.new ≡ draft.old ++ text)) }
+{
+    let report = report(trace)?;
+    let missed = misses(trace)?;
+    let boxes = boxes(alloc, trace)?;
+    let columns = columns(alloc, trace, boxes.as_slice(), scale)?;
+    let room = crowded_room(&trace.capacity()?, report.window, report.least);
+    fill(draft, b"<g transform='translate(0,$)'>\n", &[top])?;
+    push_heading(draft, alloc, &scale, name, &report, &missed.tally)?;
+    push_strip(draft, &scale, columns.as_slice())?;
+    push_frame(draft, &scale, boxes.as_slice(), columns.as_slice())?;
+    push_windows(draft, &scale, &report, room, missed.windows.as_slice())?;
+    draft.text(b"</g>\n")?;
+    Ok(())
+}
+
+/// How many pixels a part is high.
+fn height_of(scale: &Scale) -> u32
+    requires deep { scale.now.deep ≤ 256 }
+    requires tall { scale.now.tall ≤ 24 }
+    ensures { result ≡ height_of scale.now }
+{
+    let tall = place(scale.deep, scale.tall, 372);
+    tall as u32
+}
+
+/// Adds the colours, light and dark, and the hatching.
+fn push_style(draft: &mut Draft) -> Result<(), AllocError>
+    ensures { OnOk result (draft.new ≡ draft.old ++ style) }
+{
+    draft.text(
+        b"<style>text{font-family:sans-serif;font-size:13px;fill:#222}.t{font-size:18px;font-weight:bold}.s{font-size:11px}.e{text-anchor:end}.c,.n{text-anchor:middle}.n{font-size:10px;fill:#000}.o{fill:#fff}.p{fill:#fff}.f{fill:#f0f0f0}.g{fill:#a8a8a8}.r{fill:#0072b2}.w{fill:#e69f00}.m{fill:#000}.b{fill:#cc79a7}.l{stroke:#000;stroke-width:2}.hr{fill:url(#hr);stroke:#0072b2}.hw{fill:url(#hw);stroke:#e69f00}.k,.q{fill:none;stroke:#222}.q{stroke-width:2.5}.dr{stroke:#0072b2;stroke-width:2}.dw{stroke:#e69f00;stroke-width:2}@media(prefers-color-scheme:dark){text{fill:#ddd}.n{fill:#000}.o{fill:#fff}.p{fill:#161616}.f{fill:#262626}.g{fill:#5c5c5c}.m{fill:#fff}.l{stroke:#fff}.k,.q{stroke:#ddd}.r{fill:#2a92d0}}</style><defs><pattern id='hr' width='5' height='5' patternUnits='userSpaceOnUse' patternTransform='rotate(45)'><path class='dr' d='M0 0V5'/></pattern><pattern id='hw' width='5' height='5' patternUnits='userSpaceOnUse' patternTransform='rotate(45)'><path class='dw' d='M0 0V5'/></pattern></defs>\n",
+    )
+}
+
+/// Adds how a picture begins, which is so many pixels high.
+fn push_head(draft: &mut Draft, height: u64) -> Result<(), AllocError>
+    ensures { OnOk result (draft.new ≡ draft.old ++ head_text height) }
+{
+    fill(
+        draft,
+        b"<svg xmlns='http://www.w3.org/2000/svg' version='1.1' width='1280' height='$' viewBox='0 0 1280 $'>\n",
+        &[height, height],
+    )?;
+    push_style(draft)?;
+    fill(
+        draft,
+        b"<rect class='p' width='1280' height='$'/>\n",
+        &[height],
+    )?;
+    Ok(())
+}
+
+/// The picture of a trace as SVG 1.1, without scripts, fonts or links: a heading, a strip of what waits at the end of each round, a
+/// box for each Issue in its round and under its tag, an axis, and the windows of the report and of misses as brackets. Over 400
+/// rounds a column stands for several rounds, and is a stack of what they served. Fails for want of memory alone.
+pub fn picture(alloc: Global, trace: &Trace) -> Result<Vec<u8>, AllocError>
+    ensures { IfOk result (λ v. IsPicture trace.now v.items) }
+{
+    let rounds = rounds_shown(trace);
+    let deep = tags_shown(trace);
+    let scale = Scale::of(rounds, deep);
+    let height = height_of(&scale);
+    let mut draft = Draft::new(alloc);
+    push_head(&mut draft, u64::from(height))?;
+    push_part(&mut draft, alloc, trace, scale, 0, b"trace")?;
+    draft.text(b"</svg>\n")?;
+    let svg = draft.finish()?;
+    Ok(svg)
+}
+
+/// The scale that several traces share: that of the most rounds and the most tags.
+fn shared(traces: &[Trace]) -> Scale
+    ensures scale { result ≡ scale_of (most_rounds traces.now) (most_deep traces.now) }
+    ensures deep { result.deep ≤ 256 }
+    ensures some { 0 < result.per }
+    ensures low { result.tall ≤ 24 }
+{
+    let mut rounds = 0;
+    let mut deep = 0;
+    for trace in traces {
+        rounds = rounds_shown(trace).max(rounds);
+        deep = tags_shown(trace).max(deep);
+    }
+    Scale::of(rounds, deep)
+}
+
+/// Adds the parts of several traces, one below another.
+fn push_parts(
+    draft: &mut Draft,
+    alloc: Global,
+    names: &[&[u8]],
+    traces: &[Trace],
+    scale: Scale,
+) -> Result<(), AllocError>
+    requires each { length names.now ≡ length traces.now }
+    requires few { length traces.now ≤ 1000 }
+    requires some { 0 < scale.per }
+    requires deep { scale.deep ≤ 256 }
+    requires tall { scale.tall ≤ 24 }
+    ensures { OnOk result ((text : List ℕ) × AreParts scale (map (λ n. n.now) names.now) traces.now (length traces.now) text × (draft.new ≡ draft.old ++ text)) }
+{
+    let height = height_of(&scale);
+    for number in 0..traces.len() {
+        let top = place(number as u32, height, 0);
+        push_part(draft, alloc, &traces[number], scale, top, names[number])?;
+    }
+    Ok(())
+}
+
+/// The pictures of several traces under their names, one below another on one scale of rounds, as [`picture`] draws each. The names
+/// are plain words. Fails for want of memory alone; more than 1,000 traces are refused so.
+pub fn pictures(alloc: Global, names: &[&[u8]], traces: &[Trace]) -> Result<Vec<u8>, AllocError>
+    requires { length names.now ≡ length traces.now }
+    ensures { IfOk result (λ v. IsPictures (map (λ n. n.now) names.now) traces.now v.items) }
+{
+    if traces.len() > 1000 {
+        return Err(AllocError);
+    }
+    let scale = shared(traces);
+    let height = height_of(&scale);
+    let mut draft = Draft::new(alloc);
+    let whole = place(traces.len() as u32, height, 0);
+    push_head(&mut draft, whole)?;
+    push_parts(&mut draft, alloc, names, traces, scale)?;
+    draft.text(b"</svg>\n")?;
+    let svg = draft.finish()?;
+    Ok(svg)
+}

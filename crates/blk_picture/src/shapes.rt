@@ -1,0 +1,356 @@
+//! The boxes, the columns and the strip of a picture as text.
+
+ghost use Rattle.std.specs.Prelude.{◌≡◌, ◌==◌, ◌++◌, [], cond, OnOk, flat_map, length};
+ghost use Rattle.blk_picture.specs.Shapes.{class_words, dir_words, tail_words, apart, fits, label_text, place_text, tail_text, box_text, stack_text, grey_text, column_text, columns_text, border_text, frame_text, waiting_text, most_waiting, scale_text, waits_text, strip_text};
+
+use crate::boxes::Issued;
+use crate::columns::{Column, is_late};
+use crate::filled::fill;
+use crate::scale::{Scale, place};
+use blk_bio::Dir;
+use drafts::Draft;
+use std::alloc::AllocError;
+
+/// Where the columns begin, from the left.
+const LEFT: u32 = 64;
+
+/// Where the tags begin, from the top of a part.
+const TOP: u32 = 182;
+
+/// How a box begins, by its class.
+fn class_words(issued: &Issued) -> &'static [u8]
+    ensures { result.now ≡ class_words issued.now }
+{
+    match (issued.dir, issued.back, is_late(issued)) {
+        (Dir::Read, true, _) => b"<rect class='hr'",
+        (Dir::Write, true, _) => b"<rect class='hw'",
+        (Dir::Read, false, true) => b"<rect class='r l'",
+        (Dir::Write, false, true) => b"<rect class='w l'",
+        (Dir::Read, false, false) => b"<rect class='r'",
+        (Dir::Write, false, false) => b"<rect class='w'",
+    }
+}
+
+/// The name of a direction.
+fn dir_words(dir: Dir) -> &'static [u8]
+    ensures { result.now ≡ dir_words dir }
+{
+    match dir {
+        Dir::Read => b"read",
+        Dir::Write => b"write",
+    }
+}
+
+/// How the title of a box ends.
+fn tail_words(issued: &Issued) -> &'static [u8]
+    ensures { result.now ≡ tail_words issued.now }
+{
+    match (issued.back, u64::from(issued.round) < issued.due) {
+        (true, _) => {
+            b", sectors $ to $, released in round $, due $, issued $ and handed back</title></rect>\n"
+        }
+        (false, true) => {
+            b", sectors $ to $, released in round $, due $, issued $, lateness -$</title></rect>\n"
+        }
+        (false, false) => {
+            b", sectors $ to $, released in round $, due $, issued $, lateness $</title></rect>\n"
+        }
+    }
+}
+
+/// How far the round of an Issue and its due round are apart.
+fn apart(issued: &Issued) -> u64
+    ensures { result ≡ apart issued.now }
+{
+    let round = u64::from(issued.round);
+    if round < issued.due {
+        issued.due - round
+    } else {
+        round - issued.due
+    }
+}
+
+/// Whether so many rounds can be written inside a box.
+fn fits(scale: &Scale, rounds: u64) -> bool
+    ensures { result ≡ fits scale.now rounds }
+{
+    let most = match scale.wide {
+        0..10 => 0,
+        10..16 => 10,
+        16..22 => 100,
+        22..28 => 1000,
+        _ => 10_000,
+    };
+    12 <= scale.tall && rounds < most
+}
+
+/// Adds how many rounds late it was, inside its box, where it was late and the number fits.
+fn push_label(draft: &mut Draft, scale: &Scale, issued: &Issued) -> Result<(), AllocError>
+    ensures { OnOk result (draft.new ≡ draft.old ++ label_text scale.now issued.now) }
+{
+    let rounds = apart(issued);
+    if issued.back || !is_late(issued) || !fits(scale, rounds) {
+        return Ok(());
+    }
+    let x = place(issued.round, scale.wide, LEFT + scale.wide / 2);
+    let y = place(u32::from(issued.tag), scale.tall, TOP + scale.tall / 2 + 3);
+    let words: &[u8] = match issued.dir {
+        Dir::Read => b"<text class='n o' x='$' y='$'>$</text>\n",
+        Dir::Write => b"<text class='n' x='$' y='$'>$</text>\n",
+    };
+    fill(draft, words, &[x, y, rounds])
+}
+
+/// Adds where a box lies and how its title begins.
+fn push_place(draft: &mut Draft, scale: &Scale, issued: &Issued) -> Result<(), AllocError>
+    ensures { OnOk result (draft.new ≡ draft.old ++ place_text scale.now issued.now) }
+{
+    let x = place(issued.round, scale.wide, LEFT);
+    let y = place(u32::from(issued.tag), scale.tall, TOP);
+    let wide = u64::from(scale.wide.saturating_sub(1));
+    let tall = u64::from(scale.tall.saturating_sub(1));
+    fill(
+        draft,
+        b" x='$' y='$' width='$' height='$'><title>request $, ",
+        &[x, y, wide, tall, issued.id],
+    )
+}
+
+/// Adds how the title of a box ends.
+fn push_tail(draft: &mut Draft, issued: &Issued) -> Result<(), AllocError>
+    ensures { OnOk result (draft.new ≡ draft.old ++ tail_text issued.now) }
+{
+    let round = u64::from(issued.round);
+    let apart = apart(issued);
+    fill(
+        draft,
+        tail_words(issued),
+        &[
+            issued.first,
+            issued.end,
+            issued.release,
+            issued.due,
+            round,
+            apart,
+        ],
+    )
+}
+
+/// Adds a box.
+fn push_box(draft: &mut Draft, scale: &Scale, issued: &Issued) -> Result<(), AllocError>
+    ensures { OnOk result (draft.new ≡ draft.old ++ box_text scale.now issued.now) }
+{
+    let class = class_words(issued);
+    draft.text(class)?;
+    push_place(draft, scale, issued)?;
+    let dir = dir_words(issued.dir);
+    draft.text(dir)?;
+    push_tail(draft, issued)?;
+    push_label(draft, scale, issued)?;
+    Ok(())
+}
+
+/// Adds the boxes, where each column is a round.
+fn push_boxes(draft: &mut Draft, scale: &Scale, boxes: &[Issued]) -> Result<(), AllocError>
+    ensures { OnOk result (draft.new ≡ draft.old ++ cond (scale.now.per == 1) (flat_map (box_text scale.now) boxes.now) []) }
+{
+    if scale.per == 1 {
+        push_each(draft, scale, boxes)
+    } else {
+        Ok(())
+    }
+}
+
+/// Adds the boxes.
+fn push_each(draft: &mut Draft, scale: &Scale, boxes: &[Issued]) -> Result<(), AllocError>
+    ensures { OnOk result (draft.new ≡ draft.old ++ flat_map (box_text scale.now) boxes.now) }
+{
+    for issued in boxes {
+        push_box(draft, scale, issued)?;
+    }
+    Ok(())
+}
+
+/// Adds the stack of a column: reads and writes on time, late ones, those that were handed back, and what its rounds do not carry.
+fn push_stack(
+    draft: &mut Draft,
+    scale: &Scale,
+    number: u64,
+    column: Column,
+) -> Result<(), AllocError>
+    ensures { OnOk result (draft.new ≡ draft.old ++ stack_text scale.now number column) }
+{
+    let reads = u64::from(column.reads);
+    let writes = u64::from(column.writes);
+    let lates = u64::from(column.lates);
+    let backs = u64::from(column.backs);
+    let whole = place(scale.per, scale.deep, 0);
+    let served = reads + writes + lates;
+    let idle = column.room.saturating_sub(served + backs);
+    let away = whole.saturating_sub(column.room);
+    fill(
+        draft,
+        b"<g><title>column $: $ reads and $ writes on time, $ late, $ handed back, $ idle places</title><rect class='r' x='$' y='0' width='1' height='$'/><rect class='w' x='$' y='$' width='1' height='$'/><rect class='m' x='$' y='$' width='1' height='$'/><rect class='b' x='$' y='$' width='1' height='$'/><rect class='g' x='$' y='$' width='1' height='$'/></g>\n",
+        &[
+            number,
+            reads,
+            writes,
+            lates,
+            backs,
+            idle,
+            number,
+            reads,
+            number,
+            reads,
+            writes,
+            number,
+            reads + writes,
+            lates,
+            number,
+            served,
+            backs,
+            number,
+            column.room,
+            away,
+        ],
+    )
+}
+
+/// Adds what the round of a column does not carry.
+fn push_grey(
+    draft: &mut Draft,
+    scale: &Scale,
+    number: u64,
+    column: Column,
+) -> Result<(), AllocError>
+    ensures { OnOk result (draft.new ≡ draft.old ++ grey_text scale.now number column) }
+{
+    let away = u64::from(scale.deep).saturating_sub(column.room);
+    if away == 0 {
+        return Ok(());
+    }
+    fill(
+        draft,
+        b"<rect class='g' x='$' y='$' width='1' height='$'/>\n",
+        &[number, column.room, away],
+    )
+}
+
+/// Adds a column: a stack where it stands for several rounds, and else what its round does not carry.
+fn push_column(
+    draft: &mut Draft,
+    scale: &Scale,
+    number: u64,
+    column: Column,
+) -> Result<(), AllocError>
+    ensures { OnOk result (draft.new ≡ draft.old ++ column_text scale.now number column) }
+{
+    if scale.per == 1 {
+        push_grey(draft, scale, number, column)
+    } else {
+        push_stack(draft, scale, number, column)
+    }
+}
+
+/// Adds the columns.
+fn push_columns(draft: &mut Draft, scale: &Scale, columns: &[Column]) -> Result<(), AllocError>
+    ensures { OnOk result (draft.new ≡ draft.old ++ columns_text scale.now columns.now (length columns.now)) }
+{
+    for number in 0..columns.len() {
+        push_column(draft, scale, number as u64, columns[number])?;
+    }
+    Ok(())
+}
+
+/// Adds how the frame begins.
+fn push_border(draft: &mut Draft, scale: &Scale) -> Result<(), AllocError>
+    ensures { OnOk result (draft.new ≡ draft.old ++ border_text scale.now) }
+{
+    let wide = place(scale.columns, scale.wide, 0);
+    let tall = place(scale.deep, scale.tall, 0);
+    let columns = u64::from(scale.columns);
+    let whole = place(scale.per, scale.deep, 0);
+    fill(
+        draft,
+        b"<svg x='64' y='182' width='$' height='$' viewBox='0 0 $ $' preserveAspectRatio='none'><rect class='f' width='$' height='$'/>\n",
+        &[wide, tall, columns, whole, columns, whole],
+    )
+}
+
+/// Adds the frame with what stands in it.
+pub(crate) fn push_frame(
+    draft: &mut Draft,
+    scale: &Scale,
+    boxes: &[Issued],
+    columns: &[Column],
+) -> Result<(), AllocError>
+    ensures { OnOk result (draft.new ≡ draft.old ++ frame_text scale.now boxes.now columns.now) }
+{
+    push_border(draft, scale)?;
+    push_columns(draft, scale, columns)?;
+    draft.text(b"</svg>\n")?;
+    push_boxes(draft, scale, boxes)?;
+    Ok(())
+}
+
+/// Adds the waiting requests of a column.
+fn push_waiting(draft: &mut Draft, number: u64, column: Column) -> Result<(), AllocError>
+    ensures { OnOk result (draft.new ≡ draft.old ++ waiting_text number column) }
+{
+    let reads = u64::from(column.read_waits);
+    let writes = u64::from(column.write_waits);
+    fill(
+        draft,
+        b"<g><title>$ reads and $ writes wait</title><rect class='r' x='$' y='0' width='1' height='$'/><rect class='w' x='$' y='$' width='1' height='$'/></g>\n",
+        &[reads, writes, number, reads, number, reads, writes],
+    )
+}
+
+/// The most requests that wait in a column, at least 1.
+fn most_waiting(columns: &[Column]) -> u64
+    ensures { result ≡ most_waiting columns.now }
+{
+    let mut most = 1;
+    for column in columns {
+        most = (u64::from(column.read_waits) + u64::from(column.write_waits)).max(most);
+    }
+    most
+}
+
+/// Adds how the strip begins, where so many wait at most.
+fn push_scale(draft: &mut Draft, scale: &Scale, most: u64) -> Result<(), AllocError>
+    ensures { OnOk result (draft.new ≡ draft.old ++ scale_text scale.now most) }
+{
+    let wide = place(scale.columns, scale.wide, 0);
+    let columns = u64::from(scale.columns);
+    fill(
+        draft,
+        b"<text class='s e' x='58' y='120'>$</text><text class='s e' x='58' y='168'>waiting</text><text class='s e' x='58' y='194'>tag 0</text><svg x='64' y='110' width='$' height='60' viewBox='0 0 $ $' preserveAspectRatio='none'><rect class='f' width='$' height='$'/><g transform='matrix(1 0 0 -1 0 $)'>\n",
+        &[most, wide, columns, most, columns, most, most],
+    )
+}
+
+/// Adds the waiting requests of the columns.
+fn push_waits(draft: &mut Draft, columns: &[Column]) -> Result<(), AllocError>
+    ensures { OnOk result (draft.new ≡ draft.old ++ waits_text columns.now (length columns.now)) }
+{
+    for number in 0..columns.len() {
+        push_waiting(draft, number as u64, columns[number])?;
+    }
+    Ok(())
+}
+
+/// Adds the requests that wait at the end of each round.
+pub(crate) fn push_strip(
+    draft: &mut Draft,
+    scale: &Scale,
+    columns: &[Column],
+) -> Result<(), AllocError>
+    ensures { OnOk result (draft.new ≡ draft.old ++ strip_text scale.now columns.now) }
+{
+    let most = most_waiting(columns);
+    push_scale(draft, scale, most)?;
+    push_waits(draft, columns)?;
+    draft.text(b"</g></svg>\n")?;
+    Ok(())
+}

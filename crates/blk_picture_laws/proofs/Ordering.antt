@@ -1,0 +1,144 @@
+-- The boxes of a trace, in the order of the Issues that they stand for.
+use Rattle.std.proofs.Common.{◌≡◌, ◌<◌, ◌+◌, ◌-◌, ◌++◌, ◌∙◌, ◌∷◌, ℕ, suc, List, [], length, get_or, refl, sym, ap, subst, arith, cond, Bool, true, false, map}
+use Rattle.std.specs.Prelude.{not, filter, reverse, Option, Some, None, option_map}
+use Rattle.std.specs.Option.{option_and_then}
+use Rattle.std.specs.List.{cons_option, filter_map}
+use Rattle.std.proofs.lemmas.List.{reverse-append, length-map, get_or-map}
+use Rattle.blk_bio.specs.Bios.{Bio}
+use Rattle.blk_bio.specs.Requests.{dir_of, first_of, last_of}
+use Rattle.blk_trace.specs.Happened.{Happened}
+use Rattle.blk_trace.specs.Kinds.{is_tick, issues}
+use Rattle.blk_trace.specs.Setups.{Setup}
+use Rattle.blk_trace.specs.Events.{goes_back, request_of}
+use Rattle.blk_trace.specs.Legal.{IsLegalTrace}
+use Rattle.blk_trace.specs.Meaning.{timed, release_of, due_of, served, issued_ids, command_of, commands_of, rounds_of}
+use Rattle.blk_report.specs.declared.serving.Service.{Service}
+use Rattle.blk_report.specs.Services.{service_of, services_of}
+use Rattle.blk_report.specs.Inside.Ranges.{range_of}
+use Rattle.blk_report.proofs.Requests.{range_there, same_range}
+use Rattle.blk_picture.specs.declared.boxes.Issued.{Issued}
+use Rattle.blk_picture.specs.Boxes.{box_of, boxes_from, boxes_of}
+use Rattle.blk_picture_laws.specs.Served.{boxes_in_order, boxes_kept, command_in, service_in, issue_in, issue_of}
+
+-- the boxes of these events, the first Issue first
+unfoldable ahead : Setup → List Happened → ℕ → List Happened → List Issued
+ahead setup events round [] = []
+ahead setup events round (e ∷ es) = cons_option (option_map (box_of setup events round es) (issues e)) (ahead setup events (cond (is_tick e) (round + 1) round) es)
+
+turned : (o : Option Issued) (rest : List Issued) → reverse (cons_option o []) ++ rest ≡ cons_option o rest
+turned None rest = refl
+turned (Some b) rest = refl
+
+reversed : (setup : Setup) (events : List Happened) (round : ℕ) (es : List Happened) → reverse (boxes_from setup events round es) ≡ ahead setup events round es
+unfolding boxes_from ahead
+reversed setup events round [] = refl
+reversed setup events round (e ∷ es) =
+    let next : ℕ = cond (is_tick e) (round + 1) round in
+    let o : Option Issued = option_map (box_of setup events round es) (issues e) in
+    reverse-append (boxes_from setup events next es) (cons_option o [])
+    ∙ turned o (reverse (boxes_from setup events next es))
+    ∙ ap (cons_option o) (reversed setup events next es)
+
+in_order : (setup : Setup) (events : List Happened) → boxes_in_order setup events ≡ ahead setup events 0 events
+unfolding boxes_of
+in_order setup events = reversed setup events 0 events
+
+-- ---- each is one Issue
+
+each_part : (setup : Setup) (events : List Happened) (round : ℕ) (later : List Happened) (o : Option (ℕ × ℕ)) (rest : List Issued)
+    → map issue_of (cons_option (option_map (box_of setup events round later) o) rest) ≡ cons_option (option_map (λ p. (round, p)) o) (map issue_of rest)
+each_part setup events round later None rest = refl
+each_part setup events round later (Some p) rest = refl
+
+each_issue : (setup : Setup) (events : List Happened) (round : ℕ) (es : List Happened) → map issue_of (ahead setup events round es) ≡ filter_map issue_in (timed round es)
+unfolding ahead timed
+each_issue setup events round [] = refl
+each_issue setup events round (e ∷ es) =
+    let next : ℕ = cond (is_tick e) (round + 1) round in
+    each_part setup events round es (issues e) (ahead setup events next es)
+    ∙ ap (cons_option (option_map (λ p. (round, p)) (issues e))) (each_issue setup events next es)
+
+pub issues_are : (setup : Setup) (events : List Happened) → map issue_of (boxes_in_order setup events) ≡ filter_map issue_in (timed 0 events)
+issues_are setup events = ap (map issue_of) (in_order setup events) ∙ each_issue setup events 0 events
+
+-- ---- those that were not handed back are what was served
+
+abbrev kept : Issued → Bool
+kept b = not b.back
+
+module _ {Y : Type 0} (setup : Setup) (events : List Happened) (f : Issued → Y) (k : ℕ × ℕ → Y) (is : (round : ℕ) (later : List Happened) (p : ℕ × ℕ) → f (box_of setup events round later p) ≡ k (round, p.0)) where
+  by_back : (t : Bool) (b : Issued) (q : ℕ × ℕ) (rest : List Issued) (pairs : List (ℕ × ℕ)) → f b ≡ k q → map f (filter kept rest) ≡ map k pairs → map f (cond (not t) (b ∷ filter kept rest) (filter kept rest)) ≡ map k (cons_option (cond t None (Some q)) pairs)
+  by_back true b q rest pairs e h = h
+  by_back false b q rest pairs e h = ap (λ l. f b ∷ l) h ∙ ap (λ y. y ∷ map k pairs) e
+
+  by_issue : (round : ℕ) (later : List Happened) (o : Option (ℕ × ℕ)) (rest : List Issued) (pairs : List (ℕ × ℕ)) → map f (filter kept rest) ≡ map k pairs
+      → map f (filter kept (cons_option (option_map (box_of setup events round later) o) rest)) ≡ map k (cons_option (option_and_then (λ p. cond (goes_back p.1 later) None (Some (round, p.0))) o) pairs)
+  by_issue round later None rest pairs h = h
+  by_issue round later (Some p) rest pairs h = by_back (goes_back p.1 later) (box_of setup events round later p) (round, p.0) rest pairs (is round later p) h
+
+  as_served : (round : ℕ) (es : List Happened) → map f (filter kept (ahead setup events round es)) ≡ map k (served round es)
+  unfolding ahead served
+  as_served round [] = refl
+  as_served round (e ∷ es) =
+      let next : ℕ = cond (is_tick e) (round + 1) round in
+      by_issue round es (issues e) (ahead setup events next es) (served next es) (as_served next es)
+
+  pub kept_are : map f (boxes_kept setup events) ≡ map k (served 0 events)
+  kept_are = ap (λ l. map f (filter kept l)) (in_order setup events) ∙ as_served 0 events
+
+-- two after each other
+maps : {X Y Z : Type 0} (g : Y → Z) (h : X → Y) (xs : List X) → map (λ x. g (h x)) xs ≡ map g (map h xs)
+maps g h [] = refl
+maps g h (x ∷ xs) = ap (λ l. g (h x) ∷ l) (maps g h xs)
+
+pub commands_are : (setup : Setup) (events : List Happened) → map command_in (boxes_kept setup events) ≡ commands_of setup events
+unfolding commands_of issued_ids
+commands_are setup events =
+    kept_are setup events command_in (λ (s : ℕ × ℕ). command_of setup events s.1) (λ round later p. refl)
+    ∙ maps (command_of setup events) (λ (s : ℕ × ℕ). s.1) (served 0 events)
+
+pub rounds_are : (setup : Setup) (events : List Happened) → map (λ (b : Issued). b.round) (boxes_kept setup events) ≡ rounds_of events
+unfolding rounds_of
+rounds_are setup events = kept_are setup events (λ (b : Issued). b.round) (λ (s : ℕ × ℕ). s.0) (λ round later p. refl)
+
+-- ---- and the services of a legal trace
+
+maps_each : {X Y : Type 0} (f g : X → Y) (xs : List X) → ((k : ℕ) (d : X) → k < length xs → f (get_or xs k d) ≡ g (get_or xs k d)) → map f xs ≡ map g xs
+maps_each f g [] h = refl
+maps_each f g (x ∷ xs) h =
+    ap (λ y. y ∷ map f xs) (h 0 x (omega arith)) ∙ ap (λ l. g x ∷ l) (maps_each f g xs (λ k d l. h (suc k) d (omega arith)))
+
+abbrev with_sectors : Setup → List Happened → ℕ × ℕ → ℕ → Service
+with_sectors setup events s n = record {
+  id = s.1;
+  dir = dir_of (request_of events s.1);
+  first = first_of (request_of events s.1);
+  sectors = n;
+  release = release_of events s.1;
+  due = due_of setup events s.1;
+  issue = s.0;
+}
+
+-- the sectors of a service fill the range of its request
+abbrev Fills : List Happened → Service → Type 0
+Fills events s = first_of (request_of events s.id) + s.sectors ≡ last_of (request_of events s.id)
+
+service_fills : (setup : Setup) (events : List Happened) (k : ℕ) (x : Service) → IsLegalTrace setup events → k < length (services_of setup events) → (bios : List Bio) → request_of events (get_or (services_of setup events) k x).id ≡ bios → Fills events (get_or (services_of setup events) k x)
+service_fills setup events k x legal l [] h = absurd (range_there setup events k x (get_or (services_of setup events) k x).id legal l refl (ap range_of h))
+service_fills setup events k x legal l (b ∷ bs) h =
+    let got = same_range setup events k x (get_or (services_of setup events) k x).id (record { dir = b.dir; first = b.first; end = last_of (b ∷ bs) }) legal l refl (ap range_of h) in
+    subst (λ (bios : List Bio). first_of bios + (get_or (services_of setup events) k x).sectors ≡ last_of bios) (sym h) got.2
+
+served_fills : (setup : Setup) (events : List Happened) (k : ℕ) (d : ℕ × ℕ) → IsLegalTrace setup events → k < length (served 0 events) → Fills events (service_of setup events (get_or (served 0 events) k d))
+unfolding services_of
+served_fills setup events k d legal l =
+    let x : Service = service_of setup events d in
+    let low : k < length (map (service_of setup events) (served 0 events)) = omega (arith, length-map (served 0 events) (service_of setup events)) in
+    subst (Fills events) (get_or-map (service_of setup events) (served 0 events) k d x l) (service_fills setup events k x legal low (request_of events (get_or (map (service_of setup events) (served 0 events)) k x).id) refl)
+
+pub services_are : (setup : Setup) (events : List Happened) → IsLegalTrace setup events → map service_in (boxes_kept setup events) ≡ services_of setup events
+unfolding services_of
+services_are setup events legal =
+    kept_are setup events service_in (λ (s : ℕ × ℕ). with_sectors setup events s (last_of (request_of events s.1) - first_of (request_of events s.1))) (λ round later p. refl)
+    ∙ maps_each (λ (s : ℕ × ℕ). with_sectors setup events s (last_of (request_of events s.1) - first_of (request_of events s.1))) (service_of setup events) (served 0 events)
+    (λ k d l. ap (with_sectors setup events (get_or (served 0 events) k d)) (omega (arith, served_fills setup events k d legal l)))

@@ -1,0 +1,6 @@
+use Rattle.blk_picture_laws.proofs.Adding.{reads_sum, writes_sum, lates_sum, backs_sum, issued_sum, room_sum}
+use Rattle.blk_picture_laws.proofs.Fitting.{column_fits, idle_sum}
+use Rattle.blk_picture_laws.proofs.law_of_columns.Goals as goal
+
+pub returns : goal.returns
+returns c = record { reads = reads_sum; writes = writes_sum; lates = lates_sum; backs = backs_sum; all = issued_sum; rooms = room_sum; fits = column_fits; idle = idle_sum }

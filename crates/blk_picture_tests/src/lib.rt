@@ -1,0 +1,7 @@
+//! Tests of pictures.
+#![tactic(auto)]
+
+#[cfg(test)]
+mod given;
+#[cfg(test)]
+mod pictured;

@@ -1,0 +1,331 @@
+#!/usr/bin/env python3
+"""Looks at pictures, each against the trace that it is to show, read here by itself.
+
+    tools/pictures.py             every case of cases/ whose words begin with `picture`; and, where the program is there, what it draws
+                                  of the input of each case that looks at a trace or compares the schedulers
+    tools/pictures.py NAME..      those alone
+
+Of each it looks that the text is XML of the elements that a picture has, without scripts, fonts or links; that no box lies outside its
+frame or over another; and, where the case's input is a trace, that there is one box for each Issue, in its round and under its tag, with
+its class; or, where a column stands for several rounds, that each column has the numbers of its rounds; that as many requests wait
+as the trace says; and that each window has the two numbers that its commands and its rounds give, with those of the heading.
+
+Prints what is wrong, and as the last line 'N passed, M failed'. Ends with 0 where none failed, and with 1 where one did.
+"""
+import copy
+import os
+import re
+import signal
+import sys
+import xml.etree.ElementTree as ET
+from collections import Counter
+
+sys.dont_write_bytecode = True
+
+from cases import PROGRAM, Case, counted, ended, read_cases, run, side_by_side
+
+SVG = "{http://www.w3.org/2000/svg}"
+ELEMENTS = {"svg", "style", "defs", "pattern", "path", "rect", "g", "text", "title"}
+LEFT, ABOVE = 64, 182
+
+
+class Fault(Exception):
+    """What is wrong with a picture."""
+
+
+def hold(it, what):
+    if not it:
+        raise Fault(what)
+
+
+class Trace:
+    """A trace: its Issues with what became of each, and what its rounds carry."""
+
+    def __init__(self, text):
+        rows = [row.split(",") for row in text.splitlines() if row]
+        self.depth = int(rows[0][2])
+        expire = {"R": int(rows[1][1]), "W": int(rows[1][2])}
+        self.depths, self.issues, self.released = [self.depth], [], []
+        self.requests, seats, after = {}, {}, self.depth
+        group, now = None, 0
+        for row in rows[2:]:
+            kind = row[0]
+            if kind in ("release", "join"):
+                group = self.requests.setdefault(int(row[1]), {"first": None, "due": []})
+                group["release"] = now
+                if kind == "release":
+                    group["entered"] = now
+            elif kind == "bio":
+                first, end = int(row[4]), int(row[4]) + int(row[5])
+                group["dir"] = row[3]
+                group["due"].append(now + expire[row[3]])
+                if group["first"] is None:
+                    group["first"], group["end"] = first, end
+                else:
+                    group["first"], group["end"] = min(first, group["first"]), max(end, group["end"])
+            elif kind == "issue":
+                issue = {"id": int(row[1]), "tag": int(row[2]), "round": now, "back": False}
+                seats[issue["tag"]] = issue
+                self.issues.append(issue)
+            elif kind == "back":
+                seats[int(row[1])]["back"] = True
+            elif kind == "depth":
+                after = int(row[1])
+            elif kind == "tick":
+                now += 1
+                self.depths.append(after)
+        self.rounds = now + 1
+        for request in self.requests.values():
+            request["due"] = min(request["due"])
+        for issue in self.issues:
+            issue.update({k: self.requests[issue["id"]][k] for k in ("dir", "first", "end", "release", "due")})
+            issue["late"] = issue["round"] > issue["due"]
+
+    def class_of(self, issue):
+        way = "r" if issue["dir"] == "R" else "w"
+        if issue["back"]:
+            return "h" + way
+        return way + " l" if issue["late"] else way
+
+    def kind_of(self, issue):
+        return "b" if issue["back"] else "m" if issue["late"] else self.class_of(issue)
+
+    def waiting(self, way):
+        """How many requests of a direction wait at the end of each round."""
+        change = [0] * self.rounds
+        for request in self.requests.values():
+            if request["dir"] == way:
+                change[request["entered"]] += 1
+        for issue in self.issues:
+            if issue["dir"] == way and not issue["back"]:
+                change[issue["round"]] -= 1
+        all_, told = 0, []
+        for it in change:
+            all_ += it
+            told.append(all_)
+        return told
+
+    def carried(self, first, last):
+        """What the rounds from one to another carry; after the last one each carries as much as that would."""
+        ends = self.depths[first:last + 1]
+        return sum(ends) + self.beyond * max(0, last - max(first, self.rounds) + 1)
+
+    @property
+    def beyond(self):
+        return self.depths[-1]
+
+
+def numbers(element, *names):
+    return [int(element.get(name, "0")) for name in names]
+
+
+def part_texts(part):
+    return ["".join(it.itertext()) for it in part.findall(SVG + "text")]
+
+
+def boxes_of(part):
+    return [it for it in part.findall(SVG + "rect") if it.find(SVG + "title") is not None]
+
+
+def frames_of(part):
+    hold(len(part.findall(SVG + "svg")) == 2, "a part has a strip and a frame")
+    return part.findall(SVG + "svg")
+
+
+def look_at_frame(part):
+    """No box lies outside the frame or over another."""
+    strip, frame = frames_of(part)
+    wide, tall = numbers(frame, "width", "height")
+    hold(numbers(frame, "x", "y") == [LEFT, ABOVE], "the frame's place")
+    hold(int(strip.get("width")) == wide, "the strip is as wide as the frame")
+    taken = set()
+    for box in boxes_of(part):
+        x, y, w, h = numbers(box, "x", "y", "width", "height")
+        hold(LEFT <= x and x + w <= LEFT + wide and ABOVE <= y and y + h <= ABOVE + tall, f"a box at {x} {y} outside its frame")
+        for i in range(x, x + w):
+            for j in range(y, y + h):
+                hold((i, j) not in taken, f"a box at {x} {y} over another")
+                taken.add((i, j))
+    for svg in (strip, frame):
+        _, _, columns, units = map(int, svg.get("viewBox").split())
+        stacks = {}
+        for rect in svg.iter(SVG + "rect"):
+            if rect.get("class") == "f":
+                continue
+            x, y, w, h = numbers(rect, "x", "y", "width", "height")
+            hold(w == 1 and 0 <= x < columns and 0 <= y and y + h <= units, f"a part of column {x} outside its frame")
+            if h:
+                stacks.setdefault(x, []).append((y, y + h))
+        for x, spans in stacks.items():
+            spans.sort()
+            hold(all(a[1] <= b[0] for a, b in zip(spans, spans[1:])), f"a part of column {x} over another")
+
+
+def look_at_boxes(part, trace, wide, tall):
+    seen = {}
+    for box in boxes_of(part):
+        x, y = numbers(box, "x", "y")
+        hold((x - LEFT) % wide == 0 and (y - ABOVE) % tall == 0, "a box between two rounds or tags")
+        seen[(x - LEFT) // wide, (y - ABOVE) // tall] = box
+    hold(len(seen) == len(trace.issues), f"{len(seen)} boxes and {len(trace.issues)} Issues")
+    for issue in trace.issues:
+        box = seen.get((issue["round"], issue["tag"]))
+        hold(box is not None, f"no box in round {issue['round']} under tag {issue['tag']}")
+        hold(box.get("class") == trace.class_of(issue), f"the class of request {issue['id']}")
+        way = "read" if issue["dir"] == "R" else "write"
+        apart = issue["round"] - issue["due"]
+        end = f"issued {issue['round']} and handed back" if issue["back"] else f"issued {issue['round']}, lateness {apart}"
+        want = (f"request {issue['id']}, {way}, sectors {issue['first']} to {issue['end']}, "
+                f"released in round {issue['release']}, due {issue['due']}, {end}")
+        hold(box.find(SVG + "title").text == want, f"the title of request {issue['id']}: {box.find(SVG + 'title').text}")
+
+
+def look_at_columns(frame, trace, per):
+    _, _, columns, whole = map(int, frame.get("viewBox").split())
+    want = [Counter() for _ in range(columns)]
+    for issue in trace.issues:
+        want[issue["round"] // per][trace.kind_of(issue)] += 1
+    for rect in frame.iter(SVG + "rect"):
+        kind = rect.get("class")
+        if kind in "rwmb":
+            x, h = numbers(rect, "x", "height")
+            hold(want[x][kind] == h, f"column {x} has {h} of {kind} and not {want[x][kind]}")
+            del want[x][kind]
+        elif kind == "g":
+            x, y, h = numbers(rect, "x", "y", "height")
+            room = trace.carried(x * per, min((x + 1) * per, trace.rounds) - 1)
+            hold((y, y + h) == (room, whole), f"what column {x} does not carry")
+    hold(not any(want), "a column is missing")
+
+
+def look_at_strip(strip, trace, per):
+    reads, writes = trace.waiting("R"), trace.waiting("W")
+    _, _, columns, _ = map(int, strip.get("viewBox").split())
+    told = {"r": {}, "w": {}}
+    for rect in strip.iter(SVG + "rect"):
+        if rect.get("class") in told:
+            told[rect.get("class")][int(rect.get("x"))] = int(rect.get("height"))
+    for x in range(columns):
+        for kind, waits in (("r", reads), ("w", writes)):
+            want = max(waits[x * per:(x + 1) * per])
+            hold(told[kind].get(x) == want, f"{told[kind].get(x)} of {kind} wait in column {x} and not {want}")
+
+
+def look_at_windows(part, trace, per, wide):
+    served = [it for it in trace.issues if not it["back"]]
+    heading = part_texts(part)
+    report = dict(re.findall(r"(commands|waiting|depth|least|load) (-?\d+|none)", heading[1]))
+    late, unavoidable, avoidable, spare, told_per = map(int, re.findall(r"\d+", heading[2]))
+    hold(told_per == per, "how many rounds a column is")
+    hold(int(report["commands"]) == len(served) and int(report["depth"]) == trace.depth, "the report's counts")
+    hold(late == sum(it["late"] for it in served) and late == unavoidable + avoidable, "how many were late")
+    hold(avoidable <= spare <= late, "what could have been avoided")
+    (below,) = [it for it in part.findall(SVG + "g") if it.get("transform").startswith("translate(0,")]
+    bound, outside, before = 0, set(range(len(served))), -1
+    brackets = [it for it in below.findall(SVG + "path") if it.find(SVG + "title") is not None]
+    hold(sum(it.get("class") == "q" for it in brackets) == (1 if served else 0), "the crowded window")
+    for bracket in brackets:
+        title = bracket.find(SVG + "title").text
+        first, last, commands, room = map(int, re.findall(r"\d+", title))
+        x, to = map(int, re.match(r"M(\d+) .*H(\d+)", bracket.get("d")).groups())
+        ends = [min(it, trace.rounds - 1) // per for it in (first, last)]
+        hold([x, to] == [LEFT + wide * ends[0], LEFT + wide * (ends[1] + 1)], f"the bracket of {title}")
+        if bracket.get("class") == "q":
+            load = sum(first <= it["release"] and it["due"] <= last for it in served)
+            hold(commands == load and int(report["load"]) == load, f"the load of {title}")
+            end = max(first, last + int(report["least"]))
+            hold(room == trace.carried(first, end - 1) and room < load, f"the room of {title}")
+            continue
+        hold(room == trace.carried(first, last), f"the room of {title}")
+        inside = {i for i, it in enumerate(served) if first <= it["release"] <= it["due"] <= last}
+        hold(commands == len(inside), f"the commands of {title}")
+        hold(before < first <= last, "windows that are not apart")
+        before, bound, outside = last, bound + room, outside - inside
+    if len(brackets) <= 400:
+        bound += sum(served[i]["release"] <= served[i]["due"] for i in outside)
+        hold(bound + unavoidable == len(served), f"the windows leave {len(served) - bound} late and not {unavoidable}")
+
+
+def look_at_trace(part, trace):
+    strip, frame = frames_of(part)
+    _, _, columns, whole = map(int, frame.get("viewBox").split())
+    wide, tall = int(frame.get("width")) // columns, int(frame.get("height")) // trace.depth
+    per = max(1, -(-trace.rounds // 400))
+    hold(columns == -(-trace.rounds // per) and whole == per * trace.depth, "how many columns there are")
+    if per == 1:
+        look_at_boxes(part, trace, wide, tall)
+        grey = {int(it.get("x")): numbers(it, "y", "height") for it in frame.iter(SVG + "rect") if it.get("class") == "g"}
+        want = {r: [d, trace.depth - d] for r, d in enumerate(trace.depths) if d < trace.depth}
+        hold(grey == want, "the depths of the rounds")
+    else:
+        look_at_columns(frame, trace, per)
+    look_at_strip(strip, trace, per)
+    look_at_windows(part, trace, per, wide)
+
+
+def look_at(text, trace):
+    hold(len(text) < 1_000_000, "1 MB and more")
+    hold(not re.search(r"<script|@font|href|@import", text), "a script, a font or a link")
+    try:
+        top = ET.fromstring(text)
+    except ET.ParseError as fault:
+        raise Fault(f"no XML: {fault}") from None
+    for it in top.iter():
+        hold(it.tag.startswith(SVG) and it.tag[len(SVG):] in ELEMENTS, f"an element {it.tag}")
+    hold(top.get("version") == "1.1" and top.get("width") == "1280", "the root")
+    parts, tops = top.findall(SVG + "g"), []
+    for part in parts:
+        tops.append(int(re.fullmatch(r"translate\(0,(\d+)\)", part.get("transform")).group(1)))
+        look_at_frame(part)
+    hold(tops == [i * int(top.get("height")) // max(1, len(parts)) for i in range(len(parts))], "the places of the parts")
+    if trace is not None:
+        hold(len(parts) == 1, "one part for a trace")
+        look_at_trace(parts[0], trace)
+
+
+def drawn(case):
+    """What is wrong with the picture that the program draws of a case's input, empty where nothing is."""
+    once = copy.copy(case)
+    once.args = [b"picture"] if of_trace(case) else [b"picture", b"--script"]
+    try:
+        status, wrote, said = run(PROGRAM, once)
+        hold(status == 0 and not said, f"it ended with status {status} and said {said[:400]!r}")
+        look_at(wrote.decode("ascii"), Trace(case.stdin.read_text()) if of_trace(case) else None)
+    except (Fault, OSError, ValueError, AttributeError) as fault:
+        return f"{fault}\n"
+    return ""
+
+
+def of_trace(case):
+    """Whether a case reads a trace and looks at it."""
+    return case.args[0] in (b"spread", b"late", b"misses", b"migrate") or case.args == [b"oracle", b"--trace"]
+
+
+def kept(case):
+    """What is wrong with the picture that a case holds, or None where it holds none."""
+    picture = case.wanted["stdout"]
+    if case.args[:1] != [b"picture"] or not picture:
+        return None
+    try:
+        look_at(picture.read_text(), Trace(case.stdin.read_text()) if case.args == [b"picture"] else None)
+    except Fault as fault:
+        return f"{fault}\n"
+    return ""
+
+
+def main(names):
+    known = {name: it for name, it in read_cases().items() if isinstance(it, Case) and (not names or name in names)}
+    told = [(name, what) for name, it in known.items() if (what := kept(it)) is not None]
+    if os.access(PROGRAM, os.X_OK):
+        again = [
+            (name, it)
+            for name, it in known.items()
+            if not it.status and it.args and it.stdin and (of_trace(it) or it.args == [b"compare"])
+        ]
+        told += side_by_side(drawn, again)
+    return 1 if counted(told, "{}: ") else 0
+
+
+if __name__ == "__main__":
+    signal.signal(signal.SIGTERM, ended)
+    sys.exit(main(sys.argv[1:]))
