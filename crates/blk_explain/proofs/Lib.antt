@@ -1,0 +1,9 @@
+pub mod Walks
+pub mod Rows
+pub mod Found
+pub mod Shown
+pub mod Adding
+pub mod Following
+pub mod Seeing
+pub mod Refused
+pub mod Sized

@@ -1,0 +1,10 @@
+use Rattle.blk_explain.proofs.Found.{ok_map}
+use Rattle.blk_explain.proofs.explaining.faulty_told.Goals as goal
+
+pub returns : goal.returns
+returns c =
+    ok_map _ _ c.fault_text.result (λ text h. (
+      c.in_ok-told.told.items,
+      (rw c.row-form.ensures at c.in_ok-told.ensures),
+      (rw (c.line_of-line.ensures, c.text-name.ensures, c.row-form.ensures, c.as_slice.ensures.value, c.as_bytes-why.ensures.value, c.name.ensures) at h),
+    )) c.fault_text.ensures

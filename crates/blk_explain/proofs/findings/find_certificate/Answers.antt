@@ -1,0 +1,8 @@
+use Rattle.std.proofs.Common.{refl}
+use Rattle.blk_lists.specs.Certificate.{SpellsClaim, claimed}
+use Rattle.blk_explain.specs.Findings.{rows_of}
+use Rattle.blk_explain.proofs.Found.{known}
+use Rattle.blk_explain.proofs.findings.find_certificate.Goals as goal
+
+pub returns-in-Ok : goal.returns-in-Ok
+returns-in-Ok c = (refl, (claimed c.in-Ok.field-0, known (λ rows. SpellsClaim rows (claimed c.in-Ok.field-0)) _ (rows_of c.args.bytes.now) c.new.ensures.left c.in-Ok.ensures.ok))

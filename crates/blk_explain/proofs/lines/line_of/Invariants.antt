@@ -1,0 +1,9 @@
+use Rattle.std.proofs.Common.{◌≡◌, ◌≤◌, ◌+◌, drop}
+use Rattle.blk_explain.specs.Lines.{state_of, line_from, line_of}
+use Rattle.blk_explain.proofs.lines.line_of.Given as goal
+
+abbrev pub invariant-loop-i : goal.invariant-loop-i
+invariant-loop-i l = record {
+  walk : line_from (state_of l.spot) l.returned l.line l.left (drop l.i l.text) ≡ line_of l.bytes l.n;
+  few : l.line ≤ l.i + 1;
+}

@@ -1,0 +1,219 @@
+-- What is told of a fault: the field, what was found in it, and what is wanted.
+use Rattle.std.specs.Prelude.{◌≡◌, ◌⊎◌, ◌-◌, ◌+◌, ◌/◌, ◌%◌, ◌<◌, ◌^◌, ◌++◌, ◌==◌, ◌&&◌, not, nat_lt, if◌then◌else◌, ℕ, List, [], ◌∷◌, length, take, get_or, codes, decimal}
+use Rattle.std.specs.List.{flat_map}
+use Rattle.blk_bio.specs.declared.bio.BioFault.TheVariants as bio
+use Rattle.blk_bio.specs.declared.rule.TraceRule.{TraceRule}
+use Rattle.blk_bio.specs.declared.rule.TraceRule.TheVariants as rule
+use Rattle.blk_lists.specs.Sources.{Row}
+use Rattle.blk_lists.specs.Names.{why_name}
+use Rattle.blk_lists.specs.Fields.{IsBlank, IsDirection, IsNumber, IsInRange}
+use Rattle.blk_lists.specs.declared.fault.Why.{Why}
+use Rattle.blk_lists.specs.declared.fault.Why.TheVariants as why
+use Rattle.blk_lists.specs.declared.fields.Slot.{Slot}
+use Rattle.blk_lists.specs.declared.fields.Slot.TheVariants as slot
+use Rattle.blk_text.specs.Versions.{most_tags}
+use Rattle.blk_explain.specs.Names.{text_of}
+use Rattle.blk_explain.specs.Fields.{field_name, want_of}
+use Rattle.blk_explain.specs.Forms.{fields_of, IsKind}
+use Rattle.blk_explain.specs.declared.fields.Field.{Field}
+use Rattle.blk_explain.specs.declared.fields.Field.TheVariants as field
+use Rattle.blk_explain.specs.declared.fields.Allowed.{Allowed}
+use Rattle.blk_explain.specs.declared.fields.Allowed.TheVariants as allowed
+use Rattle.blk_explain.specs.declared.fields.Want.{Want}
+use Rattle.blk_explain.specs.declared.fields.Want.TheVariants as want
+use Rattle.blk_explain.specs.declared.forms.FormRow.{FormRow}
+use Rattle.blk_explain.specs.declared.forms.Kind.{Kind}
+
+-- a digit of base sixteen
+abbrev pub hex_digit : ℕ → ℕ
+hex_digit d = if nat_lt d 10 then 48 + d else 87 + d
+
+-- a byte as it is shown: a printable one of ASCII by itself, a quote behind a backslash, any other by its number
+abbrev pub shown_byte : ℕ → List ℕ
+shown_byte b =
+    if b == 34 then 92 ∷ 34 ∷ []
+    else if nat_lt 31 b && nat_lt b 127 && not (b == 92) then b ∷ []
+    else 92 ∷ 120 ∷ hex_digit (b / 16) ∷ hex_digit (b % 16) ∷ []
+
+-- the first 40 bytes of a field
+abbrev pub shown : List ℕ → List ℕ
+shown f = flat_map shown_byte (take 40 f)
+
+-- a field by its place, from 0 on, and its name, and what was found in it; what is wanted follows
+abbrev pub field_text : ℕ → List ℕ → List ℕ → List ℕ
+field_text k name found = (((((codes "field " ++ decimal (k + 1)) ++ codes ", ") ++ name) ++ codes ": found \"") ++ shown found) ++ codes "\", wanted "
+
+-- the range of a slot
+abbrev pub range_text : Slot → List ℕ
+range_text (slot.Number least most) = (decimal least ++ codes " to ") ++ decimal most
+range_text (slot.Lateness most) = ((codes "-" ++ decimal most) ++ codes " to ") ++ decimal most
+range_text slot.Given = []
+range_text slot.Blank = []
+range_text slot.Direction = []
+
+-- a number is wanted, or none
+abbrev pub number_text : Allowed → List ℕ
+number_text (allowed.Slot s) = codes "a number"
+number_text allowed.NoNumber = codes "none"
+
+-- the range that is wanted, or that no number is
+abbrev pub allowed_text : Allowed → List ℕ
+allowed_text (allowed.Slot s) = range_text s
+allowed_text allowed.NoNumber = codes "none"
+
+-- what a fault says that a field lacks
+abbrev pub wanted_text : Why → Allowed → List ℕ
+wanted_text why.Fields a = codes "nothing"
+wanted_text why.Word a = codes "R or W"
+wanted_text why.Number a = number_text a
+wanted_text why.Title a = allowed_text a
+wanted_text why.Range a = allowed_text a
+wanted_text (why.Bio b) a = []
+wanted_text why.Tile a = []
+wanted_text (why.Rule r) a = []
+wanted_text why.RepeatedId a = []
+wanted_text why.Order a = []
+wanted_text why.Count a = []
+wanted_text why.TooLong a = []
+wanted_text why.Read a = []
+wanted_text why.Memory a = []
+
+-- a field does not have the fault, beside its slot
+abbrev pub KeepsSlot : Why → Slot → List ℕ → Type 0
+KeepsSlot why.Fields s f = IsBlank s f
+KeepsSlot why.Word s f = IsDirection s f
+KeepsSlot why.Number s f = IsNumber s f
+KeepsSlot why.Title s f = IsNumber s f × IsInRange s f
+KeepsSlot why.Range s f = IsInRange s f
+KeepsSlot (why.Bio b) s f = Unit {0}
+KeepsSlot why.Tile s f = Unit {0}
+KeepsSlot (why.Rule r) s f = Unit {0}
+KeepsSlot why.RepeatedId s f = Unit {0}
+KeepsSlot why.Order s f = Unit {0}
+KeepsSlot why.Count s f = Unit {0}
+KeepsSlot why.TooLong s f = Unit {0}
+KeepsSlot why.Read s f = Unit {0}
+KeepsSlot why.Memory s f = Unit {0}
+
+-- and where `none` is wanted
+abbrev pub KeepsNone : Why → List ℕ → Type 0
+KeepsNone why.Fields f = Unit {0}
+KeepsNone why.Word f = Unit {0}
+KeepsNone why.Number f = f ≡ codes "none"
+KeepsNone why.Title f = Unit {0}
+KeepsNone why.Range f = f ≡ codes "none"
+KeepsNone (why.Bio b) f = Unit {0}
+KeepsNone why.Tile f = Unit {0}
+KeepsNone (why.Rule r) f = Unit {0}
+KeepsNone why.RepeatedId f = Unit {0}
+KeepsNone why.Order f = Unit {0}
+KeepsNone why.Count f = Unit {0}
+KeepsNone why.TooLong f = Unit {0}
+KeepsNone why.Read f = Unit {0}
+KeepsNone why.Memory f = Unit {0}
+
+-- a field does not have the fault
+abbrev pub KeepsIn : Why → Allowed → List ℕ → Type 0
+KeepsIn w (allowed.Slot s) f = KeepsSlot w s f
+KeepsIn w allowed.NoNumber f = KeepsNone w f
+
+-- the number of a field of a record, 0 where it is none
+abbrev pub IsNumberIn : Row → ℕ → ℕ → Type 0
+IsNumberIn row k n = (get_or row k [] ≡ decimal n) ⊎ ((n ≡ 0) × ((m : ℕ) → m < 2 ^ 64 → ¬ (get_or row k [] ≡ decimal m)))
+
+-- what may stand in a field of a bound beside so many commands
+abbrev pub beside : ℕ → Slot → Allowed
+beside n t = if n == 0 then allowed.NoNumber else allowed.Slot t
+
+-- what may stand in a field of a text with this title
+abbrev pub IsAllowedIn : Row → Want → Allowed → Type 0
+IsAllowedIn title (want.Is t) a = a ≡ allowed.Slot t
+IsAllowedIn title want.Tags a = (v : ℕ) × IsNumberIn title 1 v × (a ≡ allowed.Slot (slot.Number 1 (most_tags v)))
+IsAllowedIn title want.Queue a = (n : ℕ) × IsNumberIn title 3 n × (a ≡ allowed.Slot (slot.Number 0 (n - 1)))
+IsAllowedIn title want.Submitter a = (n : ℕ) × IsNumberIn title 5 n × (a ≡ allowed.Slot (slot.Number 0 (n - 1)))
+IsAllowedIn title (want.Bound t) a = (n : ℕ) × IsNumberIn title 3 n × (a ≡ beside n t)
+
+-- the field at a place of a kind of record
+abbrev pub field_at : Kind → ℕ → Field
+field_at kind k = get_or (fields_of kind) k field.Past
+
+-- the field at a place does not have the fault, and it does
+abbrev pub IsKeptAt : Row → Kind → Why → Row → ℕ → Type 0
+IsKeptAt title kind w row k = (a : Allowed) × IsAllowedIn title (want_of (field_at kind k)) a × KeepsIn w a (get_or row k [])
+
+abbrev pub IsBrokenAt : Row → Kind → Why → Row → ℕ → Allowed → Type 0
+IsBrokenAt title kind w row k a = IsAllowedIn title (want_of (field_at kind k)) a × ¬ KeepsIn w a (get_or row k [])
+
+-- it is the first one that does
+abbrev pub IsFirstBroken : Row → Kind → Why → Row → ℕ → Allowed → Type 0
+IsFirstBroken title kind w row k a = (k < 8) × IsBrokenAt title kind w row k a × ((j : ℕ) → j < k → IsKeptAt title kind w row j)
+
+-- none does
+abbrev pub AllKept : Row → Kind → Why → Row → Type 0
+AllKept title kind w row = (j : ℕ) → j < 8 → IsKeptAt title kind w row j
+
+-- what an event has to be instead of one that breaks a rule
+abbrev pub rule_wanted : TraceRule → List ℕ
+rule_wanted rule.ReleasedTwice = codes "an id that was not released before"
+rule_wanted rule.Unknown = codes "an id that was released before"
+rule_wanted rule.AlreadyIssued = codes "a request that is not issued"
+rule_wanted rule.BioTwice = codes "a bio that did not enter before"
+rule_wanted rule.Fit = codes "a request within the limits, and bios that join it at one side"
+rule_wanted rule.TagRange = codes "a tag below the depth of the round"
+rule_wanted rule.TagUsed = codes "a tag that was not issued in this round"
+rule_wanted rule.NotIssued = codes "a tag with a command in flight"
+rule_wanted rule.InFlight = codes "no command in flight at the end of a round"
+rule_wanted rule.TooLong = codes "no more events than a trace may have"
+rule_wanted rule.DepthRange = codes "a depth of 1 to that of the title"
+
+-- what is wanted where no field by itself has the fault
+abbrev pub why_wanted : FormRow → Why → List ℕ
+why_wanted form why.Title = codes "a title"
+why_wanted form why.Fields = codes "other fields"
+why_wanted form why.Word = codes "another word"
+why_wanted form why.Number = codes "nanoseconds in nine digits, and numbers"
+why_wanted form why.Range = text_of form.range
+why_wanted form (why.Bio bio.Empty) = codes "one sector at least"
+why_wanted form (why.Bio bio.Range) = codes "an end of at most 281474976710656"
+why_wanted form why.Tile = codes "a bio that begins where the one before it ends, of its direction and within the limits"
+why_wanted form (why.Rule r) = rule_wanted r
+why_wanted form why.RepeatedId = codes "an id that did not stand before"
+why_wanted form why.Order = codes "a time that is not before that of the record before"
+why_wanted form why.Count = codes "as many records as were announced"
+why_wanted form why.TooLong = codes "no more records than the form may have"
+why_wanted form why.Read = codes "a reader that does not fail"
+why_wanted form why.Memory = codes "more memory"
+
+-- the words that a record of this number may begin with
+abbrev pub words_at : FormRow → ℕ → List ℕ
+words_at form at = text_of (if at == 2 then form.second_word else form.words)
+
+-- the fault by its name, and what is wanted
+abbrev pub named_text : FormRow → Why → List ℕ
+named_text form w = (why_name w ++ codes ": wanted ") ++ why_wanted form w
+
+-- what is told where no field by itself has the fault
+abbrev pub rest_text : FormRow → ℕ → Why → Kind → Row → List ℕ
+rest_text form at why.Fields kind row = ((codes "found " ++ decimal (length row)) ++ codes " fields, wanted ") ++ decimal form.width
+rest_text form at why.Word kind cells = field_text 0 (field_name (field_at kind 0)) (get_or cells 0 []) ++ words_at form at
+rest_text form at why.Title kind row = named_text form why.Title
+rest_text form at why.Number kind row = named_text form why.Number
+rest_text form at why.Range kind row = named_text form why.Range
+rest_text form at (why.Bio b) kind row = named_text form (why.Bio b)
+rest_text form at why.Tile kind row = named_text form why.Tile
+rest_text form at (why.Rule r) kind row = named_text form (why.Rule r)
+rest_text form at why.RepeatedId kind row = named_text form why.RepeatedId
+rest_text form at why.Order kind row = named_text form why.Order
+rest_text form at why.Count kind row = named_text form why.Count
+rest_text form at why.TooLong kind row = named_text form why.TooLong
+rest_text form at why.Read kind row = named_text form why.Read
+rest_text form at why.Memory kind row = named_text form why.Memory
+
+-- what is told of a fault of a record of this number and kind, in a text with this title
+abbrev pub IsDetailBy : FormRow → Row → ℕ → Why → Kind → Row → List ℕ → Type 0
+IsDetailBy form title at w kind row text =
+    ((k : ℕ) × (a : Allowed) × IsFirstBroken title kind w row k a × (text ≡ field_text k (field_name (field_at kind k)) (get_or row k []) ++ wanted_text w a))
+    ⊎ (AllKept title kind w row × (text ≡ rest_text form at w kind row))
+
+abbrev pub IsDetail : FormRow → Row → ℕ → Why → Row → List ℕ → Type 0
+IsDetail form title at w cells text = (kind : Kind) × IsKind form at (get_or cells 0 []) kind × IsDetailBy form title at w kind cells text

@@ -1,0 +1,115 @@
+-- The fields of records: what each is called, and what may stand in it.
+use Rattle.std.specs.Prelude.{ℕ, List, codes}
+use Rattle.blk_lists.specs.declared.fields.Slot.TheVariants as slot
+use Rattle.blk_lists.specs.declared.fields.TheConstants.{ANY, COUNT, DEPTH, RELEASE, ROUND, TAG}
+use Rattle.blk_explain.specs.declared.fields.Field.{Field}
+use Rattle.blk_explain.specs.declared.fields.Field.TheVariants as field
+use Rattle.blk_explain.specs.declared.fields.Want.{Want}
+use Rattle.blk_explain.specs.declared.fields.Want.TheVariants as want
+use Rattle.blk_explain.specs.declared.fields.TheConstants.{FIRST_VERSION_RANGE, VERSION_RANGE, LATENESS_RANGE, SECONDS_RANGE, QUEUES_RANGE, SOFT_DEPTH_RANGE, SUBMITTERS_RANGE, EVENTS_RANGE, READ_EXPIRE_RANGE, WRITE_EXPIRE_RANGE, MAX_SECTORS_RANGE, MAX_SEGMENTS_RANGE, ANY_SUBMITTER_RANGE, ROUNDS_RANGE, BIOS_RANGE}
+
+-- its name
+abbrev pub field_name : Field → List ℕ
+field_name field.Past = codes "field"
+field_name field.Unused = codes "unused"
+field_name field.Title = codes "title"
+field_name field.FirstVersion = codes "version"
+field_name field.Version = codes "version"
+field_name field.Room = codes "depth"
+field_name field.Commands = codes "commands"
+field_name field.Id = codes "id"
+field_name field.Release = codes "release"
+field_name field.Due = codes "due"
+field_name field.Round = codes "round"
+field_name field.Bound = codes "bound"
+field_name field.Lateness = codes "lateness"
+field_name field.From = codes "from"
+field_name field.Until = codes "until"
+field_name field.BoundFrom = codes "from"
+field_name field.BoundUntil = codes "until"
+field_name field.Met = codes "met"
+field_name field.CommandsMet = codes "commands met"
+field_name field.Windows = codes "windows"
+field_name field.Window = codes "window"
+field_name field.Seconds = codes "seconds"
+field_name field.Nanoseconds = codes "nanoseconds"
+field_name field.Processor = codes "processor"
+field_name field.Action = codes "action"
+field_name field.Process = codes "process"
+field_name field.Rwbs = codes "rwbs"
+field_name field.First = codes "first sector"
+field_name field.Sectors = codes "sectors"
+field_name field.Tags = codes "depth"
+field_name field.Queues = codes "hardware queues"
+field_name field.SoftDepth = codes "software queue depth"
+field_name field.Submitters = codes "submitters"
+field_name field.Events = codes "events"
+field_name field.Setup = codes "setup"
+field_name field.ReadExpire = codes "read expiry"
+field_name field.WriteExpire = codes "write expiry"
+field_name field.MaxSectors = codes "sectors of a request"
+field_name field.MaxSegments = codes "segments of a request"
+field_name field.Step = codes "step"
+field_name field.Event = codes "event"
+field_name field.Submitter = codes "submitter"
+field_name field.AnySubmitter = codes "submitter"
+field_name field.Serial = codes "serial"
+field_name field.Direction = codes "direction"
+field_name field.Queue = codes "hardware queue"
+field_name field.Tag = codes "tag"
+field_name field.Depth = codes "depth"
+field_name field.Rounds = codes "rounds"
+field_name field.Bios = codes "bios"
+
+-- what may stand in it
+abbrev pub want_of : Field → Want
+want_of field.Past = want.Is slot.Given
+want_of field.Unused = want.Is slot.Blank
+want_of field.Title = want.Is slot.Given
+want_of field.FirstVersion = want.Is FIRST_VERSION_RANGE
+want_of field.Version = want.Is VERSION_RANGE
+want_of field.Room = want.Is DEPTH
+want_of field.Commands = want.Is COUNT
+want_of field.Id = want.Is ANY
+want_of field.Release = want.Is RELEASE
+want_of field.Due = want.Is ROUND
+want_of field.Round = want.Is ROUND
+want_of field.Bound = want.Is slot.Given
+want_of field.Lateness = want.Bound LATENESS_RANGE
+want_of field.From = want.Is ROUND
+want_of field.Until = want.Is ROUND
+want_of field.BoundFrom = want.Bound ROUND
+want_of field.BoundUntil = want.Bound ROUND
+want_of field.Met = want.Is slot.Given
+want_of field.CommandsMet = want.Is COUNT
+want_of field.Windows = want.Is COUNT
+want_of field.Window = want.Is slot.Given
+want_of field.Seconds = want.Is SECONDS_RANGE
+want_of field.Nanoseconds = want.Is slot.Given
+want_of field.Processor = want.Is ANY
+want_of field.Action = want.Is slot.Given
+want_of field.Process = want.Is ANY
+want_of field.Rwbs = want.Is slot.Given
+want_of field.First = want.Is ANY
+want_of field.Sectors = want.Is ANY
+want_of field.Tags = want.Tags
+want_of field.Queues = want.Is QUEUES_RANGE
+want_of field.SoftDepth = want.Is SOFT_DEPTH_RANGE
+want_of field.Submitters = want.Is SUBMITTERS_RANGE
+want_of field.Events = want.Is EVENTS_RANGE
+want_of field.Setup = want.Is slot.Given
+want_of field.ReadExpire = want.Is READ_EXPIRE_RANGE
+want_of field.WriteExpire = want.Is WRITE_EXPIRE_RANGE
+want_of field.MaxSectors = want.Is MAX_SECTORS_RANGE
+want_of field.MaxSegments = want.Is MAX_SEGMENTS_RANGE
+want_of field.Step = want.Is slot.Given
+want_of field.Event = want.Is slot.Given
+want_of field.Submitter = want.Submitter
+want_of field.AnySubmitter = want.Is ANY_SUBMITTER_RANGE
+want_of field.Serial = want.Is ANY
+want_of field.Direction = want.Is slot.Direction
+want_of field.Queue = want.Queue
+want_of field.Tag = want.Is TAG
+want_of field.Depth = want.Is ANY
+want_of field.Rounds = want.Is ROUNDS_RANGE
+want_of field.Bios = want.Is BIOS_RANGE

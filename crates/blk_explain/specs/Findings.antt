@@ -1,0 +1,84 @@
+-- What is found in a text, as the reader of its form finds it.
+use Rattle.std.specs.Prelude.{◌≡◌, ◌-◌, ℕ, List, [], true, get_or}
+use Rattle.csv.specs.Reading.{default_config, records, strip_bom}
+use Rattle.edd_check.specs.declared.Command.{Command}
+use Rattle.blk_sched.specs.Meaning.{at_start}
+use Rattle.blk_none.specs.Choice.{none_policy}
+use Rattle.blk_trace.specs.Traces.{Traced}
+use Rattle.blk_lists.specs.Sources.{Row}
+use Rattle.blk_lists.specs.Commands.{SpellsCommands, CommandsFault}
+use Rattle.blk_lists.specs.Certificate.{Claim, SpellsClaim, ClaimFault}
+use Rattle.blk_lists.specs.Met.{MetClaim, SpellsMet, MetClaimFault}
+use Rattle.blk_lists.specs.Schedule.{Ran, SpellsSchedule, ScheduleFault}
+use Rattle.blk_lists.specs.declared.fault.Why.{Why}
+use Rattle.blk_capture.specs.declared.record.Record.{Record}
+use Rattle.blk_capture_text.specs.Captures.{SpellsCapture, CaptureTextFault}
+use Rattle.blk_text.specs.Script.{Scripted, SpellsScript, ScriptFault}
+use Rattle.blk_text.specs.TraceForm.{SpellsTrace, TraceFault}
+use Rattle.blk_sim.specs.State.{SimState, start_of}
+use Rattle.blk_sim.specs.Runs.{Runs}
+use Rattle.blk_sim.specs.Refusals.{IsSimFault}
+use Rattle.blk_sim.specs.declared.refusal.SimFault.{SimFault}
+use Rattle.blk_explain.specs.Forms.{form_name}
+use Rattle.blk_explain.specs.declared.forms.Form.{Form}
+use Rattle.blk_explain.specs.declared.forms.Form.TheVariants as form
+use Rattle.blk_explain.specs.declared.findings.Finding.{Finding}
+use Rattle.blk_explain.specs.declared.findings.Finding.TheVariants as finding
+
+-- the records of a text
+abbrev pub rows_of : List ℕ → List Row
+rows_of bytes = records default_config (strip_bom bytes)
+
+-- the record of this number, from 1 on, without fields where there is none
+abbrev pub row_at : List Row → ℕ → Row
+row_at rows n = get_or rows (n - 1) []
+
+-- what the first record begins with
+abbrev pub name_in : List Row → List ℕ
+name_in rows = get_or (row_at rows 1) 0 []
+
+-- each step of a script is taken where requests wait in the order of their entry, the scheduler `none`
+abbrev pub DoesRun : Scripted → Type 0
+DoesRun script = (end : SimState) × Runs none_policy script.lines (start_of script (at_start true) []) end
+
+-- one is refused there
+abbrev pub IsRefused : Scripted → SimFault → Type 0
+IsRefused script fault = IsSimFault none_policy script (at_start true) [] fault
+
+-- the records spell a text of this form, and if it is a script it runs
+abbrev pub IsText : Form → List Row → Type 0
+IsText form.Commands rows = (depth : ℕ) × (commands : List Command) × SpellsCommands rows depth commands
+IsText form.Certificate rows = (c : Claim) × SpellsClaim rows c
+IsText form.Met rows = (c : MetClaim) × SpellsMet rows c
+IsText form.Schedule rows = (s : Ran) × SpellsSchedule rows s
+IsText form.Capture rows = (all : List Record) × SpellsCapture rows all
+IsText form.Script rows = (s : Scripted) × SpellsScript rows s × DoesRun s
+IsText form.Trace rows = (t : Traced) × SpellsTrace rows t
+
+-- the first fault of a text of this form
+abbrev pub FaultOf : Form → List Row → ℕ → Why → Type 0
+FaultOf form.Commands = CommandsFault
+FaultOf form.Certificate = ClaimFault
+FaultOf form.Met = MetClaimFault
+FaultOf form.Schedule = ScheduleFault
+FaultOf form.Capture = CaptureTextFault
+FaultOf form.Script = ScriptFault
+FaultOf form.Trace = TraceFault
+
+-- the records spell a script, and one of its steps is refused
+abbrev pub IsRefusedScript : List Row → SimFault → Type 0
+IsRefusedScript rows fault = (s : Scripted) × SpellsScript rows s × IsRefused s fault
+
+-- what the reader of a form finds
+abbrev pub IsRead : Form → List Row → Finding → Type 0
+IsRead f rows finding.Untitled = ⊥
+IsRead f rows (finding.Good found) = (found ≡ f) × IsText f rows
+IsRead f rows (finding.Faulty found fault) = (found ≡ f) × FaultOf f rows fault.at fault.why
+IsRead f rows (finding.Refused fault) = (f ≡ form.Script) × IsRefusedScript rows fault
+
+-- what is found: by the name that the first record begins with, what the reader of that form finds
+abbrev pub IsFound : List Row → Finding → Type 0
+IsFound rows finding.Untitled = (f : Form) → ¬ (name_in rows ≡ form_name f)
+IsFound rows (finding.Good found) = (name_in rows ≡ form_name found) × IsText found rows
+IsFound rows (finding.Faulty found fault) = (name_in rows ≡ form_name found) × FaultOf found rows fault.at fault.why
+IsFound rows (finding.Refused fault) = (name_in rows ≡ form_name form.Script) × IsRefusedScript rows fault

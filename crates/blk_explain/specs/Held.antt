@@ -1,0 +1,29 @@
+-- How many requests a software queue holds when a step of a script is refused.
+use Rattle.std.specs.Prelude.{◌≡◌, ℕ, [], Some, length, take, slice_get, true}
+use Rattle.blk_soft.specs.Queues.{Queue}
+use Rattle.blk_sched.specs.Meaning.{at_start}
+use Rattle.blk_none.specs.Choice.{none_policy}
+use Rattle.blk_text.specs.Script.{Scripted}
+use Rattle.blk_sim.specs.State.{SimState, start_of}
+use Rattle.blk_sim.specs.Runs.{Runs}
+
+-- the software queue of a submitter holds so many requests
+pub record HoldsIn (state : SimState) (s held : ℕ) : Type 0 where
+  pub queue : Queue
+  pub stands : slice_get state.queues s ≡ Some queue
+  pub holds : held ≡ length queue.requests
+
+-- it holds so many once the first n steps of a script were run under the scheduler `none`
+pub record HoldsAfter (script : Scripted) (n s held : ℕ) : Type 0 where
+  pub state : SimState
+  pub runs : Runs none_policy (take n script.lines) (start_of script (at_start true) []) state
+  pub there : HoldsIn state s held
+
+-- the first n steps of a script are taken under the scheduler `none`
+abbrev pub RunsTo : Scripted → ℕ → Type 0
+RunsTo script n = (state : SimState) × Runs none_policy (take n script.lines) (start_of script (at_start true) []) state
+
+-- it holds so many in whatever state these steps lead to
+abbrev pub HoldsWherever : Scripted → ℕ → ℕ → ℕ → Type 0
+HoldsWherever script n s held =
+    (state : SimState) → Runs none_policy (take n script.lines) (start_of script (at_start true) []) state → HoldsIn state s held

@@ -1,0 +1,12 @@
+pub mod Names
+pub mod Fields
+pub mod Forms
+pub mod Lines
+pub mod Findings
+pub mod Details
+pub mod Counts
+pub mod Held
+pub mod Twice
+pub mod Steps
+pub mod Explained
+pub mod Inside

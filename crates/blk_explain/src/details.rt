@@ -1,0 +1,486 @@
+//! What is told of a fault of a record: the field, what was found in it, and what is wanted.
+
+ghost use Rattle.std.specs.Prelude.{◌≡◌, ◌⊎◌, ◌≤◌, ◌<◌, ◌++◌, ◌↔◌, ◌^◌, ℕ, [], IsTrue, IfOk, OnOk, MatchOption, length, take, get_or};
+ghost use Rattle.csv.specs.Records.{fields_of};
+ghost use Rattle.blk_lists.specs.Fields.{IsSized, IsNumber, IsInRange};
+ghost use Rattle.blk_lists.specs.declared.fields.Slot.TheVariants as slot;
+ghost use Rattle.blk_explain.specs.Details.{hex_digit, shown_byte, shown, field_text, range_text, number_text, allowed_text, wanted_text, KeepsSlot, KeepsNone, KeepsIn, IsNumberIn, IsAllowedIn, IsKeptAt, IsBrokenAt, IsFirstBroken, AllKept, rule_wanted, why_wanted, words_at, field_at, rest_text, IsDetail};
+ghost use Rattle.blk_explain.specs.Fields.{field_name};
+
+use crate::fields::{Allowed, Want};
+use crate::forms::{FormRow, Kind, kind_of};
+use blk_bio::{BioFault, Dir, TraceRule};
+use blk_lists::Why;
+use blk_lists::fields::{Slot, after_minus, field, parse_number};
+use blk_trace::MAX_DEPTH;
+use csv::ByteRecord;
+use drafts::Draft;
+use std::alloc::{AllocError, Global};
+
+/// A digit of base sixteen.
+fn hex_digit(digit: u8) -> u8
+    requires { digit < 16 }
+    ensures { result ≡ hex_digit digit }
+{
+    if digit < 10 { b'0' + digit } else { 87 + digit }
+}
+
+/// Adds a byte as it is shown.
+fn push_byte(draft: &mut Draft, byte: u8) -> Result<(), AllocError>
+    ensures { OnOk result (draft.new ≡ draft.old ++ shown_byte byte) }
+{
+    if byte == b'"' {
+        draft.text(b"\\\"")
+    } else if byte > 31 && byte < 127 && byte != b'\\' {
+        draft.text(&[byte])
+    } else {
+        draft.text(&[b'\\', b'x', hex_digit(byte / 16), hex_digit(byte % 16)])
+    }
+}
+
+/// The most bytes of a field that are shown.
+const SHOWN: usize = 40;
+
+/// The first bytes of a field.
+fn first_bytes(found: &[u8]) -> &[u8]
+    ensures { result.now ≡ take 40 found.now }
+{
+    if found.len() > SHOWN {
+        let (first, _) = found.split_at(SHOWN);
+        first
+    } else {
+        found
+    }
+}
+
+/// Adds the first bytes of a field.
+fn push_shown(draft: &mut Draft, found: &[u8]) -> Result<(), AllocError>
+    ensures { OnOk result (draft.new ≡ draft.old ++ shown found.now) }
+{
+    let first = first_bytes(found);
+    for i in 0..first.len() {
+        push_byte(draft, first[i])?;
+    }
+    Ok(())
+}
+
+/// Adds the place of a field, from 0 on, its name and what was found in it.
+pub fn push_field(
+    draft: &mut Draft,
+    place: usize,
+    name: &[u8],
+    found: &[u8],
+) -> Result<(), AllocError>
+    requires { place < 8 }
+    ensures { OnOk result (draft.new ≡ draft.old ++ field_text place name.now found.now) }
+{
+    draft.text(b"field ")?;
+    draft.number(place as u64 + 1)?;
+    draft.text(b", ")?;
+    draft.text(name)?;
+    draft.text(b": found \"")?;
+    push_shown(draft, found)?;
+    draft.text(b"\", wanted ")
+}
+
+/// Adds the range of a slot.
+fn push_range(draft: &mut Draft, slot: Slot) -> Result<(), AllocError>
+    ensures { OnOk result (draft.new ≡ draft.old ++ range_text slot) }
+{
+    match slot {
+        Slot::Number { least, most } => {
+            draft.number(least)?;
+            draft.text(b" to ")?;
+            draft.number(most)
+        }
+        Slot::Lateness { most } => {
+            draft.text(b"-")?;
+            draft.number(most)?;
+            draft.text(b" to ")?;
+            draft.number(most)
+        }
+        Slot::Given | Slot::Blank | Slot::Direction => Ok(()),
+    }
+}
+
+/// Adds that a number is wanted, or none.
+fn push_number(draft: &mut Draft, allowed: Allowed) -> Result<(), AllocError>
+    ensures { OnOk result (draft.new ≡ draft.old ++ number_text allowed) }
+{
+    match allowed {
+        Allowed::Slot(_) => draft.text(b"a number"),
+        Allowed::NoNumber => draft.text(b"none"),
+    }
+}
+
+/// Adds the range that is wanted, or that no number is.
+fn push_allowed(draft: &mut Draft, allowed: Allowed) -> Result<(), AllocError>
+    ensures { OnOk result (draft.new ≡ draft.old ++ allowed_text allowed) }
+{
+    match allowed {
+        Allowed::Slot(slot) => push_range(draft, slot),
+        Allowed::NoNumber => draft.text(b"none"),
+    }
+}
+
+/// Adds what a fault says that a field lacks.
+fn push_wanted(draft: &mut Draft, why: Why, allowed: Allowed) -> Result<(), AllocError>
+    ensures { OnOk result (draft.new ≡ draft.old ++ wanted_text why allowed) }
+{
+    match why {
+        Why::Fields => draft.text(b"nothing"),
+        Why::Word => draft.text(b"R or W"),
+        Why::Number => push_number(draft, allowed),
+        Why::Title | Why::Range => push_allowed(draft, allowed),
+        Why::Bio(_)
+        | Why::Tile
+        | Why::Rule(_)
+        | Why::RepeatedId
+        | Why::Order
+        | Why::Count
+        | Why::TooLong
+        | Why::Read
+        | Why::Memory => Ok(()),
+    }
+}
+
+/// The size of a signed number.
+fn parse_sized(field: &[u8]) -> Option<u64>
+    ensures { MatchOption result ((n : ℕ) → n < 2 ^ 64 → ¬ IsSized field.now n) (IsSized field.now) }
+{
+    match after_minus(field) {
+        Some(digits) => match parse_number(digits) {
+            Some(n) => {
+                if n == 0 {
+                    return None;
+                }
+                Some(n)
+            }
+            None => None,
+        },
+        None => parse_number(field),
+    }
+}
+
+/// Whether a field is a number where its slot has one.
+fn is_number(slot: Slot, field: &[u8]) -> bool
+    ensures { IsTrue result ↔ IsNumber slot field.now }
+{
+    match slot {
+        Slot::Number { .. } => parse_number(field).is_some(),
+        Slot::Lateness { .. } => parse_sized(field).is_some(),
+        Slot::Given | Slot::Blank | Slot::Direction => true,
+    }
+}
+
+/// Whether a number lies in a range.
+fn is_between(number: u64, least: u64, most: u64) -> bool
+    ensures { IsTrue result ↔ ((least ≤ number) × (number ≤ most)) }
+{
+    least <= number && number <= most
+}
+
+/// Whether a field that is a number lies in this range.
+fn is_in_range(least: u64, most: u64, field: &[u8]) -> bool
+    ensures { IsTrue result ↔ IsInRange (slot.Number least most) field.now }
+{
+    match parse_number(field) {
+        Some(n) => is_between(n, least, most),
+        None => true,
+    }
+}
+
+/// Whether a field that is a signed number lies in this range, to both sides of 0.
+fn is_sized_in_range(most: u64, field: &[u8]) -> bool
+    ensures { IsTrue result ↔ IsInRange (slot.Lateness most) field.now }
+{
+    match parse_sized(field) {
+        Some(n) => is_between(n, 0, most),
+        None => true,
+    }
+}
+
+/// Whether a field that is a number lies in its slot's range.
+fn is_within(slot: Slot, field: &[u8]) -> bool
+    ensures { IsTrue result ↔ IsInRange slot field.now }
+{
+    match slot {
+        Slot::Number { least, most } => is_in_range(least, most, field),
+        Slot::Lateness { most } => is_sized_in_range(most, field),
+        Slot::Given | Slot::Blank | Slot::Direction => true,
+    }
+}
+
+/// Whether a field does not have a fault, beside its slot.
+fn keeps_slot(why: Why, slot: Slot, field: &[u8]) -> bool
+    ensures { IsTrue result ↔ KeepsSlot why slot field.now }
+{
+    match why {
+        Why::Fields => match slot {
+            Slot::Blank => field.is_empty(),
+            Slot::Given | Slot::Direction | Slot::Number { .. } | Slot::Lateness { .. } => true,
+        },
+        Why::Word => match slot {
+            Slot::Direction => Dir::of_letter(field).is_some(),
+            Slot::Given | Slot::Blank | Slot::Number { .. } | Slot::Lateness { .. } => true,
+        },
+        Why::Number => is_number(slot, field),
+        Why::Range => is_within(slot, field),
+        Why::Title => is_number(slot, field) && is_within(slot, field),
+        Why::Bio(_)
+        | Why::Tile
+        | Why::Rule(_)
+        | Why::RepeatedId
+        | Why::Order
+        | Why::Count
+        | Why::TooLong
+        | Why::Read
+        | Why::Memory => true,
+    }
+}
+
+/// Whether a field does not have a fault where `none` is wanted.
+fn keeps_none(why: Why, field: &[u8]) -> bool
+    ensures { IsTrue result ↔ KeepsNone why field.now }
+{
+    match why {
+        Why::Number | Why::Range => field == b"none".as_slice(),
+        Why::Title
+        | Why::Fields
+        | Why::Word
+        | Why::Bio(_)
+        | Why::Tile
+        | Why::Rule(_)
+        | Why::RepeatedId
+        | Why::Order
+        | Why::Count
+        | Why::TooLong
+        | Why::Read
+        | Why::Memory => true,
+    }
+}
+
+/// Whether a field does not have a fault.
+fn keeps(why: Why, allowed: Allowed, field: &[u8]) -> bool
+    ensures { IsTrue result ↔ KeepsIn why allowed field.now }
+{
+    match allowed {
+        Allowed::Slot(slot) => keeps_slot(why, slot, field),
+        Allowed::NoNumber => keeps_none(why, field),
+    }
+}
+
+/// The number of a field of a record, 0 where it is none.
+pub fn number_in(row: &ByteRecord, place: usize) -> u64
+    ensures { IsNumberIn (fields_of row.now) place result }
+{
+    match parse_number(field(row, place)) {
+        Some(number) => number,
+        None => 0,
+    }
+}
+
+/// What may stand in a field of a text with this title.
+fn allowed_in(title: &ByteRecord, want: Want) -> Allowed
+    ensures { IsAllowedIn (fields_of title.now) want result }
+{
+    match want {
+        Want::Is(slot) => Allowed::Slot(slot),
+        Want::Tags => {
+            let most = match number_in(title, 1) {
+                1 => 64,
+                _ => MAX_DEPTH,
+            };
+            Allowed::Slot(Slot::Number { least: 1, most })
+        }
+        Want::Queue => {
+            let most = number_in(title, 3).saturating_sub(1);
+            Allowed::Slot(Slot::Number { least: 0, most })
+        }
+        Want::Submitter => {
+            let most = number_in(title, 5).saturating_sub(1);
+            Allowed::Slot(Slot::Number { least: 0, most })
+        }
+        Want::Bound(slot) => {
+            if number_in(title, 3) == 0 {
+                Allowed::NoNumber
+            } else {
+                Allowed::Slot(slot)
+            }
+        }
+    }
+}
+
+/// What may stand in the field at a place, where the field has the fault.
+fn broken_at(
+    title: &ByteRecord,
+    kind: Kind,
+    why: Why,
+    row: &ByteRecord,
+    place: usize,
+) -> Option<Allowed>
+    requires { place < 8 }
+    ensures { MatchOption result (IsKeptAt (fields_of title.now) kind why (fields_of row.now) place) (IsBrokenAt (fields_of title.now) kind why (fields_of row.now) place) }
+{
+    let allowed = allowed_in(title, kind.fields()[place].want());
+    if keeps(why, allowed, field(row, place)) {
+        None
+    } else {
+        Some(allowed)
+    }
+}
+
+/// The place of the first field that has the fault, and what may stand in it.
+fn first_broken(
+    title: &ByteRecord,
+    kind: Kind,
+    why: Why,
+    row: &ByteRecord,
+) -> Option<(usize, Allowed)>
+    ensures { MatchOption result (AllKept (fields_of title.now) kind why (fields_of row.now)) (λ p. IsFirstBroken (fields_of title.now) kind why (fields_of row.now) p.0 p.1) }
+{
+    for place in 0..8 {
+        match broken_at(title, kind, why, row, place) {
+            Some(allowed) => return Some((place, allowed)),
+            None => {}
+        }
+    }
+    None
+}
+
+/// What an event has to be instead of one that breaks a rule.
+fn rule_wanted(rule: TraceRule) -> &'static [u8]
+    ensures { result.now ≡ rule_wanted rule }
+{
+    match rule {
+        TraceRule::ReleasedTwice => b"an id that was not released before",
+        TraceRule::Unknown => b"an id that was released before",
+        TraceRule::AlreadyIssued => b"a request that is not issued",
+        TraceRule::BioTwice => b"a bio that did not enter before",
+        TraceRule::Fit => b"a request within the limits, and bios that join it at one side",
+        TraceRule::TagRange => b"a tag below the depth of the round",
+        TraceRule::TagUsed => b"a tag that was not issued in this round",
+        TraceRule::NotIssued => b"a tag with a command in flight",
+        TraceRule::InFlight => b"no command in flight at the end of a round",
+        TraceRule::TooLong => b"no more events than a trace may have",
+        TraceRule::DepthRange => b"a depth of 1 to that of the title",
+    }
+}
+
+/// What is wanted where no field by itself has the fault.
+fn why_wanted(form: &FormRow, why: Why) -> &'static [u8]
+    ensures { result.now ≡ why_wanted form.now why }
+{
+    match why {
+        Why::Title => b"a title",
+        Why::Fields => b"other fields",
+        Why::Word => b"another word",
+        Why::Number => b"nanoseconds in nine digits, and numbers",
+        Why::Range => form.range.text(),
+        Why::Bio(BioFault::Empty) => b"one sector at least",
+        Why::Bio(BioFault::Range) => b"an end of at most 281474976710656",
+        Why::Tile => {
+            b"a bio that begins where the one before it ends, of its direction and within the limits"
+        }
+        Why::Rule(rule) => rule_wanted(rule),
+        Why::RepeatedId => b"an id that did not stand before",
+        Why::Order => b"a time that is not before that of the record before",
+        Why::Count => b"as many records as were announced",
+        Why::TooLong => b"no more records than the form may have",
+        Why::Read => b"a reader that does not fail",
+        Why::Memory => b"more memory",
+    }
+}
+
+/// What is told where no field by itself has the fault.
+fn rest_told(
+    alloc: Global,
+    form: &FormRow,
+    at: u64,
+    why: Why,
+    kind: Kind,
+    row: &ByteRecord,
+) -> Result<Vec<u8>, AllocError>
+    ensures { IfOk result (λ text. text.items ≡ rest_text form.now at why kind (fields_of row.now)) }
+{
+    let mut draft = Draft::new(alloc);
+    match why {
+        Why::Fields => {
+            draft.text(b"found ")?;
+            draft.number(row.len() as u64)?;
+            draft.text(b" fields, wanted ")?;
+            draft.number(form.width)?;
+            draft.finish()
+        }
+        Why::Word => {
+            push_field(&mut draft, 0, kind.fields()[0].name(), field(row, 0))?;
+            draft.text(words_at(form, at))?;
+            draft.finish()
+        }
+        Why::Title
+        | Why::Number
+        | Why::Range
+        | Why::Bio(_)
+        | Why::Tile
+        | Why::Rule(_)
+        | Why::RepeatedId
+        | Why::Order
+        | Why::Count
+        | Why::TooLong
+        | Why::Read
+        | Why::Memory => {
+            draft.text(why.name().as_bytes())?;
+            draft.text(b": wanted ")?;
+            draft.text(why_wanted(form, why))?;
+            draft.finish()
+        }
+    }
+}
+
+/// The words that a record of this number may begin with.
+fn words_at(form: &FormRow, at: u64) -> &'static [u8]
+    ensures { result.now ≡ words_at form.now at }
+{
+    if at == 2 {
+        form.second_word.text()
+    } else {
+        form.words.text()
+    }
+}
+
+/// What is told of a field at a place that has the fault.
+fn broken_told(
+    alloc: Global,
+    why: Why,
+    kind: Kind,
+    row: &ByteRecord,
+    place: usize,
+    allowed: Allowed,
+) -> Result<Vec<u8>, AllocError>
+    requires { place < 8 }
+    ensures { IfOk result (λ text. text.items ≡ field_text place (field_name (field_at kind place)) (get_or (fields_of row.now) place []) ++ wanted_text why allowed) }
+{
+    let mut draft = Draft::new(alloc);
+    let name = kind.fields()[place].name();
+    push_field(&mut draft, place, name, field(row, place))?;
+    push_wanted(&mut draft, why, allowed)?;
+    draft.finish()
+}
+
+/// What is told of a fault of the record of this number, in a text of this form with this title.
+pub fn detail(
+    alloc: Global,
+    form: &FormRow,
+    title: &ByteRecord,
+    at: u64,
+    why: Why,
+    row: &ByteRecord,
+) -> Result<Vec<u8>, AllocError>
+    ensures { IfOk result (λ text. IsDetail form.now (fields_of title.now) at why (fields_of row.now) text.items) }
+{
+    let kind = kind_of(form, at, field(row, 0));
+    match first_broken(title, kind, why, row) {
+        Some((place, allowed)) => broken_told(alloc, why, kind, row, place, allowed),
+        None => rest_told(alloc, form, at, why, kind, row),
+    }
+}

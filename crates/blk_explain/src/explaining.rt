@@ -1,0 +1,272 @@
+//! What a text is, or what is wrong with it, as it is told.
+
+ghost use Rattle.std.specs.Prelude.{◌≡◌, ◌≤◌, ◌<◌, ◌-◌, ◌^◌, ◌++◌, IfOk, length, codes};
+ghost use Rattle.csv.specs.Records.{fields_of};
+ghost use Rattle.blk_lists.specs.Names.{why_name};
+ghost use Rattle.blk_explain.specs.Forms.{form_name, form_row};
+ghost use Rattle.blk_explain.specs.Findings.{rows_of, row_at, name_in, IsRefusedScript, IsFound};
+ghost use Rattle.blk_explain.specs.Details.{field_text};
+ghost use Rattle.blk_explain.specs.Explained.{edits_to, IsNearest, good_text, fault_text, empty_text, IsNamedText, IsFaultDetail, IsTold, is_good, IsExplained};
+ghost use Rattle.blk_explain.specs.declared.forms.Form.{Form as AForm};
+
+use crate::counts::count_detail;
+use crate::details::{detail, push_field};
+use crate::findings::{Finding, count_rows, find, row_at};
+use crate::forms::{Form, FormRow};
+use crate::lines::line_of;
+use crate::steps::state_of;
+use blk_lists::fields::field;
+use blk_lists::{TextFault, Why};
+use blk_sim::SimFault;
+use csv::ByteRecord;
+use drafts::Draft;
+use std::alloc::{AllocError, Global};
+use strsim::generic_levenshtein;
+
+/// What is told of a text.
+#[derive(Debug, Drop)]
+pub struct Explained {
+    /// Two lines.
+    pub text: Vec<u8>,
+    /// Whether it has no fault.
+    pub good: bool,
+}
+
+/// The one of two forms to whose name fewer edits lead.
+fn nearer(alloc: Global, found: &[u8], one: Form, other: Form) -> Result<Form, AllocError>
+    ensures { IfOk result (λ f. (edits_to found.now f ≤ edits_to found.now one) × (edits_to found.now f ≤ edits_to found.now other)) }
+{
+    let to_one = generic_levenshtein(alloc, found, one.row().name.text())?;
+    let to_other = generic_levenshtein(alloc, found, other.row().name.text())?;
+    if to_other < to_one {
+        Ok(other)
+    } else {
+        Ok(one)
+    }
+}
+
+/// The form to whose name the fewest edits lead.
+fn nearest(alloc: Global, found: &[u8]) -> Result<Form, AllocError>
+    ensures { IfOk result (IsNearest found.now) }
+{
+    let of_two = nearer(alloc, found, Form::Commands, Form::Certificate)?;
+    let of_three = nearer(alloc, found, of_two, Form::Met)?;
+    let of_four = nearer(alloc, found, of_three, Form::Schedule)?;
+    let of_five = nearer(alloc, found, of_four, Form::Capture)?;
+    let of_six = nearer(alloc, found, of_five, Form::Script)?;
+    nearer(alloc, found, of_six, Form::Trace)
+}
+
+/// The two lines of a good text.
+fn good_text(
+    alloc: Global,
+    form: &FormRow,
+    title: &ByteRecord,
+    count: u64,
+) -> Result<Vec<u8>, AllocError>
+    ensures { IfOk result (λ text. text.items ≡ good_text form.now (fields_of title.now) count) }
+{
+    let mut draft = Draft::new(alloc);
+    draft.text(form.name.text())?;
+    draft.text(b", version ")?;
+    draft.text(field(title, 1))?;
+    draft.text(b", records ")?;
+    draft.number(count)?;
+    draft.text(b"\ntaken by ")?;
+    draft.text(form.takers.text())?;
+    draft.text(b"\n")?;
+    draft.finish()
+}
+
+/// The two lines of a fault.
+fn fault_text(
+    alloc: Global,
+    line: u64,
+    name: &[u8],
+    at: u64,
+    detail: &[u8],
+    why: &[u8],
+) -> Result<Vec<u8>, AllocError>
+    ensures { IfOk result (λ text. text.items ≡ fault_text line name.now at detail.now why.now) }
+{
+    let mut draft = Draft::new(alloc);
+    draft.text(b"line ")?;
+    draft.number(line)?;
+    draft.text(b", record ")?;
+    draft.number(at)?;
+    draft.text(b", ")?;
+    draft.text(detail)?;
+    draft.text(b"\n")?;
+    draft.text(name)?;
+    draft.text(b": record ")?;
+    draft.number(at)?;
+    draft.text(b": ")?;
+    draft.text(why)?;
+    draft.text(b"\n")?;
+    draft.finish()
+}
+
+/// What is told of what a text begins with in place of a form's name.
+fn title_detail(alloc: Global, found: &[u8], name: &[u8]) -> Result<Vec<u8>, AllocError>
+    ensures { IfOk result (λ text. text.items ≡ field_text 0 (codes "title") found.now ++ name.now) }
+{
+    let mut draft = Draft::new(alloc);
+    push_field(&mut draft, 0, b"title", found)?;
+    draft.text(name)?;
+    draft.finish()
+}
+
+/// What is told of a step that is refused: why, and the state.
+fn step_detail(alloc: Global, why: &[u8], state: &[u8]) -> Result<Vec<u8>, AllocError>
+    ensures { IfOk result (λ text. text.items ≡ (why.now ++ codes ": ") ++ state.now) }
+{
+    let mut draft = Draft::new(alloc);
+    draft.text(why)?;
+    draft.text(b": ")?;
+    draft.text(state)?;
+    draft.finish()
+}
+
+/// What is told of a good text.
+fn good_told(alloc: Global, bytes: &[u8], form: Form) -> Result<Vec<u8>, AllocError>
+    ensures { IfOk result (λ text. IsTold bytes.now (Finding.Good form) text.items) }
+{
+    let title = row_at(alloc, bytes, 1)?;
+    let count = count_rows(alloc, bytes)?;
+    good_text(alloc, &form.row(), &title, count)
+}
+
+/// What is told of a fault, behind where it is.
+fn fault_detail(
+    alloc: Global,
+    bytes: &[u8],
+    form: &FormRow,
+    fault: TextFault,
+) -> Result<Vec<u8>, AllocError>
+    requires { fault.at < 2 ^ 64 - 1 }
+    ensures { IfOk result (λ text. IsFaultDetail form.now (rows_of bytes.now) fault text.items) }
+{
+    let title = row_at(alloc, bytes, 1)?;
+    if fault.why == Why::Count {
+        return count_detail(alloc, bytes, form.counted, &title);
+    }
+    let row = row_at(alloc, bytes, fault.at)?;
+    detail(alloc, form, &title, fault.at, fault.why, &row)
+}
+
+/// What is told of a text with a fault.
+fn faulty_told(
+    alloc: Global,
+    bytes: &[u8],
+    form: Form,
+    fault: TextFault,
+) -> Result<Vec<u8>, AllocError>
+    ensures { IfOk result (λ text. IsTold bytes.now (Finding.Faulty form fault) text.items) }
+{
+    if fault.at == u64::MAX {
+        return Err(AllocError);
+    }
+    let form = form.row();
+    let told = fault_detail(alloc, bytes, &form, fault)?;
+    let line = line_of(bytes, fault.at);
+    let name = form.name.text();
+    let why = fault.why.name().as_bytes();
+    fault_text(alloc, line, name, fault.at, told.as_slice(), why)
+}
+
+/// What is told of a script of which a step is refused.
+fn refused_told(alloc: Global, bytes: &[u8], fault: SimFault) -> Result<Vec<u8>, AllocError>
+    requires { IsRefusedScript (rows_of bytes.now) fault }
+    ensures { IfOk result (λ text. IsTold bytes.now (Finding.Refused fault) text.items) }
+{
+    let state = state_of(alloc, bytes, fault)?;
+    let why = fault.why.name().as_bytes();
+    let detail = step_detail(alloc, why, state.as_slice())?;
+    let line = line_of(bytes, fault.at);
+    fault_text(alloc, line, b"blk-script", fault.at, detail.as_slice(), why)
+}
+
+/// What is told of a text whose first field is empty, or that has none.
+fn empty_told(alloc: Global, bytes: &[u8]) -> Result<Vec<u8>, AllocError>
+    ensures { IfOk result (λ text. text.items ≡ empty_text bytes.now) }
+{
+    let line = line_of(bytes, 1);
+    fault_text(
+        alloc,
+        line,
+        b"blk",
+        1,
+        b"found nothing, wanted a title",
+        b"Title",
+    )
+}
+
+/// What is told of a text that begins with another name: the nearest one.
+fn named_told(alloc: Global, bytes: &[u8]) -> Result<Vec<u8>, AllocError>
+    ensures { IfOk result (λ text. IsNamedText bytes.now text.items) }
+{
+    let row = row_at(alloc, bytes, 1)?;
+    let found = field(&row, 0);
+    let near = nearest(alloc, found)?;
+    let name = near.row().name.text();
+    let detail = title_detail(alloc, found, name)?;
+    let line = line_of(bytes, 1);
+    fault_text(alloc, line, name, 1, detail.as_slice(), b"Title")
+}
+
+/// What is told of a text that begins with the name of no form.
+fn untitled_told(alloc: Global, bytes: &[u8]) -> Result<Vec<u8>, AllocError>
+    ensures { IfOk result (λ text. IsTold bytes.now Finding.Untitled text.items) }
+{
+    let row = row_at(alloc, bytes, 1)?;
+    if field(&row, 0).is_empty() {
+        return empty_told(alloc, bytes);
+    }
+    named_told(alloc, bytes)
+}
+
+/// What is told of a finding.
+fn told(alloc: Global, bytes: &[u8], finding: Finding) -> Result<Vec<u8>, AllocError>
+    requires { IsFound (rows_of bytes.now) finding }
+    ensures { IfOk result (λ text. IsTold bytes.now finding text.items) }
+{
+    match finding {
+        Finding::Good(form) => good_told(alloc, bytes, form),
+        Finding::Faulty(form, fault) => faulty_told(alloc, bytes, form, fault),
+        Finding::Refused(fault) => refused_told(alloc, bytes, fault),
+        Finding::Untitled => untitled_told(alloc, bytes),
+    }
+}
+
+/// Whether a finding is no fault.
+fn is_good(finding: Finding) -> bool
+    ensures { result ≡ is_good finding }
+{
+    match finding {
+        Finding::Good(_) => true,
+        Finding::Faulty(_, _) | Finding::Refused(_) | Finding::Untitled => false,
+    }
+}
+
+/// What a text is: its form by its title, version and number of records, and the subcommands that take it; or its first fault, by line,
+/// record and field, with what was found and what is wanted, or the first step of a script that is refused. Fails for want of memory
+/// alone.
+///
+/// The form is the one whose name the text begins with, and the fault the one that the reader of that form answers; a good script is run
+/// under the scheduler `none`. A text that begins with no such name is told the nearest one, that to which the fewest edits lead, and one whose
+/// first field is empty that a title is wanted.
+pub fn explain(alloc: Global, bytes: &[u8]) -> Result<Explained, AllocError>
+    ensures { IfOk result (λ e. IsExplained bytes.now e.good e.text.items) }
+{
+    let finding = match find(alloc, bytes) {
+        Ok(finding) => finding,
+        Err(_) => return Err(AllocError),
+    };
+    match told(alloc, bytes, finding) {
+        Ok(text) => Ok(Explained {
+            text,
+            good: is_good(finding),
+        }),
+        Err(_) => Err(AllocError),
+    }
+}

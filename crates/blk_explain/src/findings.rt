@@ -1,0 +1,210 @@
+//! What is found in a text, by the reader of its form.
+
+ghost use Rattle.std.specs.Prelude.{◌≡◌, ◌<◌, ◌-◌, ◌^◌, IfOk, MatchOption, length};
+ghost use Rattle.csv.specs.Records.{fields_of};
+ghost use Rattle.blk_text.specs.Script.{IsScript, scripted};
+ghost use Rattle.blk_explain.specs.Findings.{rows_of, row_at, DoesRun, IsRefused, IsRead, IsFound};
+ghost use Rattle.blk_lists.specs.declared.fault.Why.TheVariants as why;
+
+use crate::forms::{Form, form_named};
+use blk_capture_text::read_capture;
+use blk_lists::fields::field;
+use blk_lists::{
+    Records, TextFault, Why, read_certificate, read_commands, read_met, read_schedule,
+};
+use blk_none::NoneSched;
+use blk_sim::{SimFault, SimWhy, simulate};
+use blk_text::{Script, read_script, read_trace};
+use csv::ByteRecord;
+use std::alloc::{AllocError, Global};
+
+/// What is found in a text.
+#[derive(Clone, Copy, Debug, PartialEq, Eq)]
+pub enum Finding {
+    /// It is of this form; a script runs.
+    Good(Form),
+    /// Its title has the name of this form, and this is its first fault.
+    Faulty(Form, TextFault),
+    /// It is a script, and a step of it is refused.
+    Refused(SimFault),
+    /// It begins with the name of no form.
+    Untitled,
+}
+
+/// The record of a text that has this number, from 1 on, without fields where there is none.
+pub fn row_at(alloc: Global, bytes: &[u8], n: u64) -> Result<ByteRecord, AllocError>
+    requires { n < 2 ^ 64 - 1 }
+    ensures { IfOk result (λ r. fields_of r ≡ row_at (rows_of bytes.now) n) }
+{
+    let mut records = Records::new(alloc, bytes);
+    for _ in 0..n.saturating_sub(1) {
+        match records.advance() {
+            Ok(true) => {}
+            Ok(false) => return Ok(ByteRecord::new(alloc)),
+            Err(_) => return Err(AllocError),
+        }
+    }
+    match records.advance() {
+        Ok(true) => match records.row().clone() {
+            Ok(row) => Ok(row),
+            Err(_) => Err(AllocError),
+        },
+        Ok(false) => Ok(ByteRecord::new(alloc)),
+        Err(_) => Err(AllocError),
+    }
+}
+
+/// How many records a text has.
+pub fn count_rows(alloc: Global, bytes: &[u8]) -> Result<u64, AllocError>
+    ensures { IfOk result (λ n. n ≡ length (rows_of bytes.now)) }
+{
+    let mut records = Records::new(alloc, bytes);
+    for n in 0..u64::MAX {
+        match records.advance() {
+            Ok(true) => {}
+            Ok(false) => return Ok(n),
+            Err(_) => return Err(AllocError),
+        }
+    }
+    Err(AllocError)
+}
+
+/// The finding of a fault that didn't come from outside.
+fn faulty(form: Form, fault: TextFault) -> Result<Finding, AllocError>
+    ensures found { IfOk result (λ f. f ≡ Finding.Faulty form fault) }
+    ensures own { IfOk result (λ _. ¬ (fault.why ≡ why.Read) × ¬ (fault.why ≡ why.Memory)) }
+{
+    if fault.why == Why::Read || fault.why == Why::Memory {
+        return Err(AllocError);
+    }
+    Ok(Finding::Faulty(form, fault))
+}
+
+/// What the reader of command lists finds.
+fn find_commands(alloc: Global, bytes: &[u8]) -> Result<Finding, AllocError>
+    ensures { IfOk result (IsRead Form.Commands (rows_of bytes.now)) }
+{
+    match read_commands(alloc, &mut Records::new(alloc, bytes)) {
+        Ok(_) => Ok(Finding::Good(Form::Commands)),
+        Err(fault) => faulty(Form::Commands, fault),
+    }
+}
+
+/// What the reader of certificates finds.
+fn find_certificate(alloc: Global, bytes: &[u8]) -> Result<Finding, AllocError>
+    ensures { IfOk result (IsRead Form.Certificate (rows_of bytes.now)) }
+{
+    match read_certificate(alloc, &mut Records::new(alloc, bytes)) {
+        Ok(_) => Ok(Finding::Good(Form::Certificate)),
+        Err(fault) => faulty(Form::Certificate, fault),
+    }
+}
+
+/// What the reader of certificates of what can be met finds.
+fn find_met(alloc: Global, bytes: &[u8]) -> Result<Finding, AllocError>
+    ensures { IfOk result (IsRead Form.Met (rows_of bytes.now)) }
+{
+    match read_met(alloc, &mut Records::new(alloc, bytes)) {
+        Ok(_) => Ok(Finding::Good(Form::Met)),
+        Err(fault) => faulty(Form::Met, fault),
+    }
+}
+
+/// What the reader of schedules finds.
+fn find_schedule(alloc: Global, bytes: &[u8]) -> Result<Finding, AllocError>
+    ensures { IfOk result (IsRead Form.Schedule (rows_of bytes.now)) }
+{
+    match read_schedule(alloc, &mut Records::new(alloc, bytes)) {
+        Ok(_) => Ok(Finding::Good(Form::Schedule)),
+        Err(fault) => faulty(Form::Schedule, fault),
+    }
+}
+
+/// What the reader of captures finds.
+fn find_capture(alloc: Global, bytes: &[u8]) -> Result<Finding, AllocError>
+    ensures { IfOk result (IsRead Form.Capture (rows_of bytes.now)) }
+{
+    match read_capture(alloc, &mut Records::new(alloc, bytes)) {
+        Ok(_) => Ok(Finding::Good(Form::Capture)),
+        Err(fault) => faulty(Form::Capture, fault),
+    }
+}
+
+/// What the reader of traces finds.
+fn find_trace(alloc: Global, bytes: &[u8]) -> Result<Finding, AllocError>
+    ensures { IfOk result (IsRead Form.Trace (rows_of bytes.now)) }
+{
+    match read_trace(alloc, &mut Records::new(alloc, bytes)) {
+        Ok(_) => Ok(Finding::Good(Form::Trace)),
+        Err(fault) => faulty(Form::Trace, fault),
+    }
+}
+
+/// The finding of a step that is refused for another reason than want of memory.
+fn stepped(fault: SimFault) -> Result<Finding, AllocError>
+    ensures { IfOk result (λ f. f ≡ Finding.Refused fault) }
+{
+    if fault.why == SimWhy::Memory {
+        return Err(AllocError);
+    }
+    Ok(Finding::Refused(fault))
+}
+
+/// The step of a script that is refused, if one is.
+fn refused(alloc: Global, script: &Script) -> Result<Option<SimFault>, AllocError>
+    requires { IsScript (scripted script.now) }
+    ensures { IfOk result (λ o. MatchOption o (DoesRun (scripted script.now)) (IsRefused (scripted script.now))) }
+{
+    let scheduler = match NoneSched::new(alloc) {
+        Ok(scheduler) => scheduler,
+        Err(_) => return Err(AllocError),
+    };
+    match simulate(alloc, script, scheduler) {
+        Ok(_) => return Ok(None),
+        Err(fault) => return Ok(Some(fault)),
+    }
+}
+
+/// What the reader of scripts finds, and what a run does.
+fn find_script(alloc: Global, bytes: &[u8]) -> Result<Finding, AllocError>
+    ensures { IfOk result (IsRead Form.Script (rows_of bytes.now)) }
+{
+    let script = match read_script(alloc, &mut Records::new(alloc, bytes)) {
+        Ok(script) => script,
+        Err(fault) => return faulty(Form::Script, fault),
+    };
+    match refused(alloc, &script) {
+        Ok(None) => Ok(Finding::Good(Form::Script)),
+        Ok(Some(fault)) => stepped(fault),
+        Err(_) => Err(AllocError),
+    }
+}
+
+/// What the reader of a form finds.
+fn find_as(alloc: Global, form: Form, bytes: &[u8]) -> Result<Finding, AllocError>
+    ensures { IfOk result (IsRead form (rows_of bytes.now)) }
+{
+    match form {
+        Form::Commands => find_commands(alloc, bytes),
+        Form::Certificate => find_certificate(alloc, bytes),
+        Form::Met => find_met(alloc, bytes),
+        Form::Schedule => find_schedule(alloc, bytes),
+        Form::Capture => find_capture(alloc, bytes),
+        Form::Script => find_script(alloc, bytes),
+        Form::Trace => find_trace(alloc, bytes),
+    }
+}
+
+/// What is found in a text: by the name that it begins with, what the reader of that form finds.
+pub fn find(alloc: Global, bytes: &[u8]) -> Result<Finding, AllocError>
+    ensures { IfOk result (IsFound (rows_of bytes.now)) }
+{
+    let first = match row_at(alloc, bytes, 1) {
+        Ok(first) => first,
+        Err(_) => return Err(AllocError),
+    };
+    match form_named(field(&first, 0)) {
+        Some(form) => find_as(alloc, form, bytes),
+        None => Ok(Finding::Untitled),
+    }
+}

@@ -1,0 +1,791 @@
+//! The forms of texts: their titles, what their records have in each field, and which subcommands take them.
+
+ghost use Rattle.std.specs.Prelude.{◌≡◌, MatchOption};
+ghost use Rattle.blk_explain.specs.Forms.{form_row, form_name, fields_of, word_of, IsWorded, IsKind};
+ghost use Rattle.blk_explain.specs.declared.forms.Form.{Form as AForm};
+
+use crate::counts::Counted;
+use crate::fields::Field;
+use crate::names::Name;
+
+/// The form of a text.
+#[derive(Clone, Copy, Debug, PartialEq, Eq)]
+pub enum Form {
+    /// A command list.
+    Commands,
+    /// A certificate.
+    Certificate,
+    /// A certificate of how many commands can be met.
+    Met,
+    /// A schedule.
+    Schedule,
+    /// A capture.
+    Capture,
+    /// A script.
+    Script,
+    /// A trace.
+    Trace,
+}
+
+/// The kind of a record.
+#[derive(Clone, Copy, Debug, PartialEq, Eq)]
+pub enum Kind {
+    /// The title of a command list.
+    CommandsTitle,
+    /// A command of a command list.
+    Command,
+    /// A title with a depth and a number of commands.
+    CountedTitle,
+    /// A command with its round.
+    Served,
+    /// The bound of a certificate.
+    Bound,
+    /// How many commands are met, and how many windows there are.
+    Met,
+    /// A window.
+    Window,
+    /// The title of a capture.
+    CaptureTitle,
+    /// A record of a capture.
+    Capture,
+    /// The title of a script.
+    ScriptTitle,
+    /// The title of a trace.
+    TraceTitle,
+    /// The setup of a script or a trace.
+    Setup,
+    /// A step with none of the words.
+    Step,
+    /// A bio of a script.
+    Bio,
+    /// A flush.
+    Flush,
+    /// A drain.
+    Drain,
+    /// An issue of a script.
+    Issue,
+    /// A done of a script.
+    Done,
+    /// A back of a script.
+    Back,
+    /// A depth of a script.
+    Depth,
+    /// A tick of a script.
+    Tick,
+    /// A run.
+    Run,
+    /// An event with none of the words.
+    Event,
+    /// A tick of a trace.
+    EventTick,
+    /// A release.
+    EventRelease,
+    /// A join.
+    EventJoin,
+    /// A bio of a trace.
+    EventBio,
+    /// An issue of a trace.
+    EventIssue,
+    /// A done of a trace.
+    EventDone,
+    /// A back of a trace.
+    EventBack,
+    /// A depth of a trace.
+    EventDepth,
+}
+
+/// Of the title of a command list.
+const COMMANDS_TITLE: [Field; 8] = [
+    Field::Title,
+    Field::FirstVersion,
+    Field::Room,
+    Field::Past,
+    Field::Past,
+    Field::Past,
+    Field::Past,
+    Field::Past,
+];
+
+/// Of a command of a command list.
+const COMMAND: [Field; 8] = [
+    Field::Id,
+    Field::Release,
+    Field::Due,
+    Field::Past,
+    Field::Past,
+    Field::Past,
+    Field::Past,
+    Field::Past,
+];
+
+/// Of a title with a depth and a number of commands.
+const COUNTED_TITLE: [Field; 8] = [
+    Field::Title,
+    Field::FirstVersion,
+    Field::Room,
+    Field::Commands,
+    Field::Past,
+    Field::Past,
+    Field::Past,
+    Field::Past,
+];
+
+/// Of a command with its round.
+const SERVED: [Field; 8] = [
+    Field::Id,
+    Field::Release,
+    Field::Due,
+    Field::Round,
+    Field::Past,
+    Field::Past,
+    Field::Past,
+    Field::Past,
+];
+
+/// Of the bound of a certificate.
+const BOUND: [Field; 8] = [
+    Field::Bound,
+    Field::Lateness,
+    Field::BoundFrom,
+    Field::BoundUntil,
+    Field::Past,
+    Field::Past,
+    Field::Past,
+    Field::Past,
+];
+
+/// Of how many commands are met, and how many windows there are.
+const MET_NUMBERS: [Field; 8] = [
+    Field::Met,
+    Field::CommandsMet,
+    Field::Windows,
+    Field::Unused,
+    Field::Past,
+    Field::Past,
+    Field::Past,
+    Field::Past,
+];
+
+/// Of a window.
+const WINDOW: [Field; 8] = [
+    Field::Window,
+    Field::From,
+    Field::Until,
+    Field::Unused,
+    Field::Past,
+    Field::Past,
+    Field::Past,
+    Field::Past,
+];
+
+/// Of the title of a capture.
+const CAPTURE_TITLE: [Field; 8] = [
+    Field::Title,
+    Field::FirstVersion,
+    Field::Unused,
+    Field::Unused,
+    Field::Unused,
+    Field::Unused,
+    Field::Unused,
+    Field::Unused,
+];
+
+/// Of a record of a capture.
+const CAPTURED: [Field; 8] = [
+    Field::Seconds,
+    Field::Nanoseconds,
+    Field::Processor,
+    Field::Action,
+    Field::Process,
+    Field::Rwbs,
+    Field::First,
+    Field::Sectors,
+];
+
+/// Of the title of a script.
+const SCRIPT_TITLE: [Field; 8] = [
+    Field::Title,
+    Field::Version,
+    Field::Tags,
+    Field::Queues,
+    Field::SoftDepth,
+    Field::Submitters,
+    Field::Past,
+    Field::Past,
+];
+
+/// Of the title of a trace.
+const TRACE_TITLE: [Field; 8] = [
+    Field::Title,
+    Field::Version,
+    Field::Tags,
+    Field::Queues,
+    Field::Events,
+    Field::Unused,
+    Field::Past,
+    Field::Past,
+];
+
+/// Of the setup of a script or a trace.
+const SETUP: [Field; 8] = [
+    Field::Setup,
+    Field::ReadExpire,
+    Field::WriteExpire,
+    Field::MaxSectors,
+    Field::MaxSegments,
+    Field::Unused,
+    Field::Past,
+    Field::Past,
+];
+
+/// Of a step with none of the words.
+const STEP: [Field; 8] = [
+    Field::Step,
+    Field::Past,
+    Field::Past,
+    Field::Past,
+    Field::Past,
+    Field::Past,
+    Field::Past,
+    Field::Past,
+];
+
+/// Of a bio of a script.
+const BIO: [Field; 8] = [
+    Field::Step,
+    Field::Submitter,
+    Field::Serial,
+    Field::Direction,
+    Field::First,
+    Field::Sectors,
+    Field::Past,
+    Field::Past,
+];
+
+/// Of a flush.
+const FLUSH: [Field; 8] = [
+    Field::Step,
+    Field::Submitter,
+    Field::Unused,
+    Field::Unused,
+    Field::Unused,
+    Field::Unused,
+    Field::Past,
+    Field::Past,
+];
+
+/// Of a drain.
+const DRAIN: [Field; 8] = [
+    Field::Step,
+    Field::Queue,
+    Field::Unused,
+    Field::Unused,
+    Field::Unused,
+    Field::Unused,
+    Field::Past,
+    Field::Past,
+];
+
+/// Of an issue of a script.
+const ISSUE: [Field; 8] = [
+    Field::Step,
+    Field::Queue,
+    Field::Tag,
+    Field::Unused,
+    Field::Unused,
+    Field::Unused,
+    Field::Past,
+    Field::Past,
+];
+
+/// Of a done of a script.
+const DONE: [Field; 8] = [
+    Field::Step,
+    Field::Tag,
+    Field::Unused,
+    Field::Unused,
+    Field::Unused,
+    Field::Unused,
+    Field::Past,
+    Field::Past,
+];
+
+/// Of a back of a script.
+const BACK: [Field; 8] = [
+    Field::Step,
+    Field::Tag,
+    Field::Unused,
+    Field::Unused,
+    Field::Unused,
+    Field::Unused,
+    Field::Past,
+    Field::Past,
+];
+
+/// Of a depth of a script.
+const DEPTH_STEP: [Field; 8] = [
+    Field::Step,
+    Field::Depth,
+    Field::Unused,
+    Field::Unused,
+    Field::Unused,
+    Field::Unused,
+    Field::Past,
+    Field::Past,
+];
+
+/// Of a tick of a script.
+const TICK: [Field; 8] = [
+    Field::Step,
+    Field::Unused,
+    Field::Unused,
+    Field::Unused,
+    Field::Unused,
+    Field::Unused,
+    Field::Past,
+    Field::Past,
+];
+
+/// Of a run.
+const RUN: [Field; 8] = [
+    Field::Step,
+    Field::Rounds,
+    Field::Unused,
+    Field::Unused,
+    Field::Unused,
+    Field::Unused,
+    Field::Past,
+    Field::Past,
+];
+
+/// Of an event with none of the words.
+const EVENT: [Field; 8] = [
+    Field::Event,
+    Field::Past,
+    Field::Past,
+    Field::Past,
+    Field::Past,
+    Field::Past,
+    Field::Past,
+    Field::Past,
+];
+
+/// Of a tick of a trace.
+const EVENT_TICK: [Field; 8] = [
+    Field::Event,
+    Field::Unused,
+    Field::Unused,
+    Field::Unused,
+    Field::Unused,
+    Field::Unused,
+    Field::Past,
+    Field::Past,
+];
+
+/// Of a release.
+const EVENT_GROUP: [Field; 8] = [
+    Field::Event,
+    Field::Id,
+    Field::Bios,
+    Field::Unused,
+    Field::Unused,
+    Field::Unused,
+    Field::Past,
+    Field::Past,
+];
+
+/// Of a bio of a trace.
+const EVENT_BIO: [Field; 8] = [
+    Field::Event,
+    Field::AnySubmitter,
+    Field::Serial,
+    Field::Direction,
+    Field::First,
+    Field::Sectors,
+    Field::Past,
+    Field::Past,
+];
+
+/// Of an issue of a trace.
+const EVENT_ISSUE: [Field; 8] = [
+    Field::Event,
+    Field::Id,
+    Field::Tag,
+    Field::Unused,
+    Field::Unused,
+    Field::Unused,
+    Field::Past,
+    Field::Past,
+];
+
+/// Of a done of a trace.
+const EVENT_END: [Field; 8] = [
+    Field::Event,
+    Field::Tag,
+    Field::Unused,
+    Field::Unused,
+    Field::Unused,
+    Field::Unused,
+    Field::Past,
+    Field::Past,
+];
+
+/// Of a depth of a trace.
+const EVENT_DEPTH: [Field; 8] = [
+    Field::Event,
+    Field::Depth,
+    Field::Unused,
+    Field::Unused,
+    Field::Unused,
+    Field::Unused,
+    Field::Past,
+    Field::Past,
+];
+
+impl Kind {
+    /// Its fields, and some past the last.
+    pub fn fields(self) -> [Field; 8]
+        ensures { result ≡ fields_of self }
+    {
+        match self {
+            Kind::CommandsTitle => COMMANDS_TITLE,
+            Kind::Command => COMMAND,
+            Kind::CountedTitle => COUNTED_TITLE,
+            Kind::Served => SERVED,
+            Kind::Bound => BOUND,
+            Kind::Met => MET_NUMBERS,
+            Kind::Window => WINDOW,
+            Kind::CaptureTitle => CAPTURE_TITLE,
+            Kind::Capture => CAPTURED,
+            Kind::ScriptTitle => SCRIPT_TITLE,
+            Kind::TraceTitle => TRACE_TITLE,
+            Kind::Setup => SETUP,
+            Kind::Step => STEP,
+            Kind::Bio => BIO,
+            Kind::Flush => FLUSH,
+            Kind::Drain => DRAIN,
+            Kind::Issue => ISSUE,
+            Kind::Done => DONE,
+            Kind::Back => BACK,
+            Kind::Depth => DEPTH_STEP,
+            Kind::Tick => TICK,
+            Kind::Run => RUN,
+            Kind::Event => EVENT,
+            Kind::EventTick => EVENT_TICK,
+            Kind::EventRelease => EVENT_GROUP,
+            Kind::EventJoin => EVENT_GROUP,
+            Kind::EventBio => EVENT_BIO,
+            Kind::EventIssue => EVENT_ISSUE,
+            Kind::EventDone => EVENT_END,
+            Kind::EventBack => EVENT_END,
+            Kind::EventDepth => EVENT_DEPTH,
+        }
+    }
+
+    /// The word that it is told by, or nothing.
+    fn word(self) -> &'static [u8]
+        ensures { result.now ≡ word_of self }
+    {
+        match self {
+            Kind::Window => b"window",
+            Kind::Bio => b"bio",
+            Kind::Flush => b"flush",
+            Kind::Drain => b"drain",
+            Kind::Issue => b"issue",
+            Kind::Done => b"done",
+            Kind::Back => b"back",
+            Kind::Depth => b"depth",
+            Kind::Tick => b"tick",
+            Kind::Run => b"run",
+            Kind::EventTick => b"tick",
+            Kind::EventRelease => b"release",
+            Kind::EventJoin => b"join",
+            Kind::EventBio => b"bio",
+            Kind::EventIssue => b"issue",
+            Kind::EventDone => b"done",
+            Kind::EventBack => b"back",
+            Kind::EventDepth => b"depth",
+            Kind::CommandsTitle
+            | Kind::Command
+            | Kind::CountedTitle
+            | Kind::Served
+            | Kind::Bound
+            | Kind::Met
+            | Kind::CaptureTitle
+            | Kind::Capture
+            | Kind::ScriptTitle
+            | Kind::TraceTitle
+            | Kind::Setup
+            | Kind::Step
+            | Kind::Event => b"",
+        }
+    }
+}
+
+/// A form.
+#[derive(Clone, Copy, Debug)]
+pub struct FormRow {
+    /// The name that its title begins with.
+    pub name: Name,
+    /// The subcommands that take it.
+    pub takers: Name,
+    /// How many fields each record has.
+    pub width: u64,
+    /// The kind of its title.
+    pub title: Kind,
+    /// That of its second record.
+    pub second: Kind,
+    /// Those of its later records, by their words.
+    pub kinds: [Kind; 9],
+    /// That of its other records.
+    pub item: Kind,
+    /// The word of its second record.
+    pub second_word: Name,
+    /// The words of its later records.
+    pub words: Name,
+    /// What is wanted where each number lies in its own range.
+    pub range: Name,
+    /// How many records are announced.
+    pub counted: Counted,
+}
+
+/// The row of blk-commands texts.
+const COMMANDS: FormRow = FormRow {
+    name: Name::BlkCommands,
+    takers: Name::TakeCommands,
+    width: 3,
+    title: Kind::CommandsTitle,
+    second: Kind::Command,
+    kinds: [
+        Kind::Command,
+        Kind::Command,
+        Kind::Command,
+        Kind::Command,
+        Kind::Command,
+        Kind::Command,
+        Kind::Command,
+        Kind::Command,
+        Kind::Command,
+    ],
+    item: Kind::Command,
+    second_word: Name::Nothing,
+    words: Name::Nothing,
+    range: Name::EachInRange,
+    counted: Counted::Nothing,
+};
+
+/// The row of blk-certificate texts.
+const CERTIFICATE: FormRow = FormRow {
+    name: Name::BlkCertificate,
+    takers: Name::TakeCertificates,
+    width: 4,
+    title: Kind::CountedTitle,
+    second: Kind::Bound,
+    kinds: [
+        Kind::Served,
+        Kind::Served,
+        Kind::Served,
+        Kind::Served,
+        Kind::Served,
+        Kind::Served,
+        Kind::Served,
+        Kind::Served,
+        Kind::Served,
+    ],
+    item: Kind::Served,
+    second_word: Name::Bound,
+    words: Name::Nothing,
+    range: Name::EachInRange,
+    counted: Counted::Commands(2),
+};
+
+/// The row of blk-met texts.
+const MET: FormRow = FormRow {
+    name: Name::BlkMet,
+    takers: Name::TakeCertificates,
+    width: 4,
+    title: Kind::CountedTitle,
+    second: Kind::Met,
+    kinds: [
+        Kind::Window,
+        Kind::Served,
+        Kind::Served,
+        Kind::Served,
+        Kind::Served,
+        Kind::Served,
+        Kind::Served,
+        Kind::Served,
+        Kind::Served,
+    ],
+    item: Kind::Served,
+    second_word: Name::Met,
+    words: Name::Window,
+    range: Name::EachInRange,
+    counted: Counted::Windows,
+};
+
+/// The row of blk-schedule texts.
+const SCHEDULE: FormRow = FormRow {
+    name: Name::BlkSchedule,
+    takers: Name::TakeSchedules,
+    width: 4,
+    title: Kind::CountedTitle,
+    second: Kind::Served,
+    kinds: [
+        Kind::Served,
+        Kind::Served,
+        Kind::Served,
+        Kind::Served,
+        Kind::Served,
+        Kind::Served,
+        Kind::Served,
+        Kind::Served,
+        Kind::Served,
+    ],
+    item: Kind::Served,
+    second_word: Name::Nothing,
+    words: Name::Nothing,
+    range: Name::EachInRange,
+    counted: Counted::Commands(1),
+};
+
+/// The row of blk-capture texts.
+const CAPTURE: FormRow = FormRow {
+    name: Name::BlkCapture,
+    takers: Name::TakeCaptures,
+    width: 8,
+    title: Kind::CaptureTitle,
+    second: Kind::Capture,
+    kinds: [
+        Kind::Capture,
+        Kind::Capture,
+        Kind::Capture,
+        Kind::Capture,
+        Kind::Capture,
+        Kind::Capture,
+        Kind::Capture,
+        Kind::Capture,
+        Kind::Capture,
+    ],
+    item: Kind::Capture,
+    second_word: Name::Nothing,
+    words: Name::Nothing,
+    range: Name::EachInRange,
+    counted: Counted::Nothing,
+};
+
+/// The row of blk-script texts.
+const SCRIPT: FormRow = FormRow {
+    name: Name::BlkScript,
+    takers: Name::TakeScripts,
+    width: 6,
+    title: Kind::ScriptTitle,
+    second: Kind::Setup,
+    kinds: [
+        Kind::Bio,
+        Kind::Flush,
+        Kind::Drain,
+        Kind::Issue,
+        Kind::Done,
+        Kind::Back,
+        Kind::Depth,
+        Kind::Tick,
+        Kind::Run,
+    ],
+    item: Kind::Step,
+    second_word: Name::Setup,
+    words: Name::StepWords,
+    range: Name::EnoughSubmitters,
+    counted: Counted::Nothing,
+};
+
+/// The row of blk-trace texts.
+const TRACE: FormRow = FormRow {
+    name: Name::BlkTrace,
+    takers: Name::TakeTraces,
+    width: 6,
+    title: Kind::TraceTitle,
+    second: Kind::Setup,
+    kinds: [
+        Kind::EventTick,
+        Kind::EventRelease,
+        Kind::EventJoin,
+        Kind::EventBio,
+        Kind::EventIssue,
+        Kind::EventDone,
+        Kind::EventBack,
+        Kind::EventDepth,
+        Kind::Event,
+    ],
+    item: Kind::Event,
+    second_word: Name::Setup,
+    words: Name::EventWords,
+    range: Name::EachInRange,
+    counted: Counted::Nothing,
+};
+
+impl Form {
+    /// Its row.
+    pub fn row(self) -> FormRow
+        ensures { result ≡ form_row self }
+    {
+        match self {
+            Form::Commands => COMMANDS,
+            Form::Certificate => CERTIFICATE,
+            Form::Met => MET,
+            Form::Schedule => SCHEDULE,
+            Form::Capture => CAPTURE,
+            Form::Script => SCRIPT,
+            Form::Trace => TRACE,
+        }
+    }
+}
+
+/// The form whose title begins with this name.
+pub fn form_named(field: &[u8]) -> Option<Form>
+    ensures { MatchOption result ((f : AForm) → ¬ (field.now ≡ form_name f)) (λ f. field.now ≡ form_name f) }
+{
+    if field == b"blk-commands".as_slice() {
+        Some(Form::Commands)
+    } else if field == b"blk-certificate".as_slice() {
+        Some(Form::Certificate)
+    } else if field == b"blk-met".as_slice() {
+        Some(Form::Met)
+    } else if field == b"blk-schedule".as_slice() {
+        Some(Form::Schedule)
+    } else if field == b"blk-capture".as_slice() {
+        Some(Form::Capture)
+    } else if field == b"blk-script".as_slice() {
+        Some(Form::Script)
+    } else if field == b"blk-trace".as_slice() {
+        Some(Form::Trace)
+    } else {
+        None
+    }
+}
+
+/// The kind of these that is told by this word, or, where none is, another.
+fn kind_named(kinds: &[Kind], other: Kind, word: &[u8]) -> Kind
+    ensures { IsWorded kinds.now other word.now result }
+{
+    for k in 0..kinds.len() {
+        let kind = kinds[k];
+        if kind.word() == word {
+            return kind;
+        }
+    }
+    other
+}
+
+/// The kind of a record of a form, by its number and the word that it begins with.
+pub fn kind_of(row: &FormRow, at: u64, word: &[u8]) -> Kind
+    ensures { IsKind row.now at word.now result }
+{
+    if at == 1 {
+        return row.title;
+    }
+    if at == 2 {
+        return row.second;
+    }
+    kind_named(&row.kinds, row.item, word)
+}

@@ -1,0 +1,16 @@
+//! What a text is, or what is wrong with it, told to whoever wrote it by hand.
+#![tactic(auto)]
+
+pub mod counts;
+pub mod details;
+pub mod explaining;
+pub mod fields;
+pub mod findings;
+pub mod forms;
+pub mod held;
+pub mod lines;
+pub mod names;
+pub mod steps;
+pub mod twice;
+
+pub use crate::explaining::{Explained, explain};

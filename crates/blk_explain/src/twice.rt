@@ -1,0 +1,82 @@
+//! Bios that enter twice.
+
+ghost use Rattle.std.specs.Prelude.{◌≡◌, ◌<◌, MatchOption, IfOk, IfSome, IfNone, Some, ℕ, slice_get};
+ghost use Rattle.blk_bio.specs.Bios.{Bio as BioFields};
+ghost use Rattle.blk_bio.specs.declared.bio.BioId.{BioId as Name};
+ghost use Rattle.blk_text.specs.declared.script.Line.TheVariants as line;
+ghost use Rattle.blk_explain.specs.Twice.{AreOneBio, AreDistinct};
+
+use blk_bio::{Bio, BioId};
+use blk_ids::IdSet;
+use blk_text::{Line, Script};
+use std::alloc::{AllocError, Global};
+
+/// The bio of a step.
+pub fn bio_at(script: &Script, place: usize) -> Option<Bio>
+    ensures { MatchOption result ((b : BioFields) → ¬ (slice_get script.now.lines.items place ≡ Some (line.Bio b)))
+        (λ b. slice_get script.now.lines.items place ≡ Some (line.Bio b)) }
+{
+    match script.lines.get(place) {
+        Some(Line::Bio(bio)) => Some(*bio),
+        _ => None,
+    }
+}
+
+/// The place of the first of these steps whose bio entered before.
+fn second(alloc: Global, script: &Script, count: usize) -> Result<Option<usize>, AllocError>
+    ensures { IfOk result (λ o. MatchOption o (AreDistinct script.now.lines.items count)
+        (λ j. (j < count) × AreDistinct script.now.lines.items j × ((i : ℕ) × AreOneBio script.now.lines.items i j))) }
+{
+    let mut ids = IdSet::new(alloc)?;
+    for place in 0..count {
+        match bio_at(script, place) {
+            Some(bio) => {
+                let id = bio.id();
+                if ids.contains(id.submitter, id.serial) {
+                    return Ok(Some(place));
+                }
+                ids.make_room(1)?;
+                ids.insert(id.submitter, id.serial);
+            }
+            None => {}
+        }
+    }
+    Ok(None)
+}
+
+/// The place of the first of these steps whose bio has this id.
+fn first(script: &Script, id: BioId, count: usize) -> Option<usize>
+    ensures { MatchOption result
+        ((k : ℕ) (b : BioFields) → k < count → slice_get script.now.lines.items k ≡ Some (line.Bio b) → ¬ (b.id ≡ id))
+        (λ i. (i < count) × ((b : BioFields) × (slice_get script.now.lines.items i ≡ Some (line.Bio b)) × (b.id ≡ id))) }
+{
+    for place in 0..count {
+        if let Some(bio) = bio_at(script, place) {
+            if bio.id() == id {
+                return Some(place);
+            }
+        }
+    }
+    None
+}
+
+/// The places of the first two of these steps that have the same bio: of all such pairs the one whose second place is the least.
+pub fn twice(
+    alloc: Global,
+    script: &Script,
+    count: usize,
+) -> Result<Option<(usize, usize)>, AllocError>
+    ensures { IfOk result (λ o. MatchOption o (AreDistinct script.now.lines.items count)
+        (λ p. (p.1 < count) × AreDistinct script.now.lines.items p.1 × AreOneBio script.now.lines.items p.0 p.1)) }
+{
+    let Some(again) = second(alloc, script, count)? else {
+        return Ok(None);
+    };
+    let Some(bio) = bio_at(script, again) else {
+        unreachable!();
+    };
+    match first(script, bio.id(), again) {
+        Some(place) => Ok(Some((place, again))),
+        None => unreachable!(),
+    }
+}
