@@ -1,0 +1,4 @@
+pub mod Row
+pub mod Order
+pub mod Text
+pub mod Tuned

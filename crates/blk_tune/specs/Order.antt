@@ -1,0 +1,41 @@
+-- Which rows are better.
+use Rattle.std.specs.Prelude.{ℕ, ℤ, Option, List}
+use Rattle.std.specs.List.Sorted.{IsPermutation, IsSorted, IsStable}
+use Rattle.std.specs.Option.{option_cmp}
+use Rattle.std.specs.Ordering.{ordering_then, nat_cmp, int_cmp}
+use Rattle.std.specs.declared.cmp.Ordering.{Ordering}
+use Rattle.blk_grid.specs.declared.By.{By}
+use Rattle.blk_grid.specs.declared.By.TheVariants as by
+use Rattle.blk_tune.specs.declared.row.Row.{Row}
+
+abbrev pub avoidable_cmp : Row → Row → Ordering
+avoidable_cmp x y = nat_cmp x.tally.avoidable y.tally.avoidable
+
+-- a figure that isn't there is the least
+abbrev pub shortfall_cmp : Row → Row → Ordering
+shortfall_cmp x y = option_cmp int_cmp x.report.shortfall y.report.shortfall
+
+abbrev pub reads_cmp : Row → Row → Ordering
+reads_cmp x y = option_cmp int_cmp x.wait_read y.wait_read
+
+abbrev pub writes_cmp : Row → Row → Ordering
+writes_cmp x y = option_cmp int_cmp x.wait_write y.wait_write
+
+-- by what rows are put in order: what is avoidable and the shortfall, or the other way round, and the waits
+abbrev pub misses_key : Row → ℕ × Option ℤ × Option ℤ × Option ℤ
+misses_key r = (r.tally.avoidable, r.report.shortfall, r.wait_read, r.wait_write)
+
+abbrev pub lateness_key : Row → Option ℤ × ℕ × Option ℤ × Option ℤ
+lateness_key r = (r.report.shortfall, r.tally.avoidable, r.wait_read, r.wait_write)
+
+-- the better one is the less: by what is avoidable and then by the shortfall, or the other way round; then by the reads' waits, then by
+-- the writes'
+abbrev pub best_cmp : By → Row → Row → Ordering
+best_cmp by.Misses x y = ordering_then (ordering_then (ordering_then (avoidable_cmp x y) (shortfall_cmp x y)) (reads_cmp x y)) (writes_cmp x y)
+best_cmp by.Lateness x y = ordering_then (ordering_then (ordering_then (shortfall_cmp x y) (avoidable_cmp x y)) (reads_cmp x y)) (writes_cmp x y)
+
+-- the same rows, the best first; those that are as good in the order that they had
+pub record AreBestFirst (b : By) (before after : List Row) : Type 0 where
+  pub same : IsPermutation before after
+  pub sorted : IsSorted (best_cmp b) after
+  pub stable : IsStable (best_cmp b) before after

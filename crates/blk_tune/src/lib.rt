@@ -1,0 +1,92 @@
+//! A script tried under a grid of settings: a row for each, the best first.
+//!
+//! The runs go side by side on threads, in batches of as many as there are threads: what comes of them doesn't turn on how many.
+#![tactic(auto)]
+
+ghost use Rattle.std.specs.Prelude.{IfOk, IfErr};
+ghost use Rattle.blk_text.specs.Script.{IsScript, scripted};
+ghost use Rattle.blk_grid.specs.Rows.{grid_rows};
+ghost use Rattle.blk_grid.specs.Wanted.{wanted};
+ghost use Rattle.blk_runs.specs.Firsts.{AreUnrun};
+ghost use Rattle.blk_tune.specs.Tuned.{AreTuned, IsTuned};
+
+mod order;
+mod progress;
+mod row;
+mod text;
+mod trial;
+
+use crate::order::best_first;
+pub use crate::progress::{Line, Progress, Quiet};
+pub use crate::row::Row;
+pub use crate::text::table;
+use crate::trial::tried;
+use blk_grid::Asked;
+use blk_runs::{RunFault, unmade};
+use blk_text::Script;
+use std::alloc::Global;
+use std::thread::Threads;
+
+/// The rows of a script under each setting of a grid, the best first. All of them run, and are answered: `top` is about the text alone.
+///
+/// Refused, by the first of these that applies: as the first scheduler is that isn't made of its settings, before any step; as the run
+/// of the first one in the grid's order that refuses a step, with its record and its reason, whichever thread met it first. Want of
+/// memory may come in place of any of them.
+pub fn rows<T: Threads + Sync, P: Progress>(
+    rt: &T,
+    alloc: Global,
+    asked: &Asked,
+    script: &Script,
+    progress: &mut P,
+) -> Result<Vec<Row>, RunFault>
+    requires { IsScript (scripted script.now) }
+    ensures rows { IfOk result (λ rows. AreTuned (wanted asked.now) (scripted script.now) rows.items) }
+    ensures unrun { IfErr result (AreUnrun (grid_rows (wanted asked.now).grid) (scripted script.now)) }
+{
+    let Ok(scheds) = asked.grid.rows(alloc) else {
+        return Err(RunFault::Memory);
+    };
+    match unmade(scheds.as_slice()) {
+        Some(fault) => return Err(RunFault::Sched(fault)),
+        None => {}
+    }
+    let all = tried(
+        rt,
+        alloc,
+        scheds.as_slice(),
+        asked.threads,
+        script,
+        progress,
+    );
+    progress.over();
+    let mut rows = match all {
+        Ok(rows) => rows,
+        Err(fault) => return Err(fault),
+    };
+    let Ok(()) = best_first(asked.by, &mut rows) else {
+        return Err(RunFault::Memory);
+    };
+    Ok(rows)
+}
+
+/// The table of a script under each setting of a grid: what `blk tune` writes. It is refused as [`rows`] is.
+pub fn tune<T: Threads + Sync, P: Progress>(
+    rt: &T,
+    alloc: Global,
+    asked: &Asked,
+    script: &Script,
+    progress: &mut P,
+) -> Result<Vec<u8>, RunFault>
+    requires { IsScript (scripted script.now) }
+    ensures text { IfOk result (λ text. IsTuned (wanted asked.now) (scripted script.now) text.items) }
+    ensures unrun { IfErr result (AreUnrun (grid_rows (wanted asked.now).grid) (scripted script.now)) }
+{
+    let rows = match rows(rt, alloc, asked, script, progress) {
+        Ok(rows) => rows,
+        Err(fault) => return Err(fault),
+    };
+    match table(alloc, asked.by, asked.top, rows.as_slice()) {
+        Ok(text) => Ok(text),
+        Err(_) => Err(RunFault::Memory),
+    }
+}

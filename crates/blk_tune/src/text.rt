@@ -1,0 +1,195 @@
+//! The table of rows as text.
+
+ghost use Rattle.std.specs.Prelude.{◌≡◌, ◌++◌, OnOk, IfOk, decimal};
+ghost use Rattle.std.specs.List.{flat_map};
+ghost use Rattle.edd_figures.specs.Lines.{late_text, next_field};
+ghost use Rattle.blk_tune.specs.Text.{tunables_text, settings_text, report_fields, tally_fields, row_line, remark_of, best_line, shown, head_line, table_text, on_off};
+
+use crate::row::Row;
+use blk_deadline::Tunables;
+use blk_grid::By;
+use blk_report::{Report, Tally};
+use blk_settings::Sched;
+use drafts::Draft;
+use edd_figures::lines::{push_field, push_late};
+use std::alloc::{AllocError, Global};
+
+/// The word of a switch.
+fn on_off(is_on: bool) -> &'static [u8]
+    ensures { result.now ≡ on_off is_on }
+{
+    if is_on { b"on" } else { b"off" }
+}
+
+/// Adds a word and a number.
+fn push_number(draft: &mut Draft, word: &[u8], number: u64) -> Result<(), AllocError>
+    ensures { OnOk result (draft.new ≡ draft.old ++ (word.now ++ decimal number)) }
+{
+    draft.text(word)?;
+    draft.number(number)
+}
+
+/// Adds a word and that of a switch.
+fn push_switch(draft: &mut Draft, word: &[u8], is_on: bool) -> Result<(), AllocError>
+    ensures { OnOk result (draft.new ≡ draft.old ++ (word.now ++ on_off is_on)) }
+{
+    draft.text(word)?;
+    draft.text(on_off(is_on))
+}
+
+/// Adds the settings of `deadline`.
+fn push_tunables(draft: &mut Draft, tunables: Tunables) -> Result<(), AllocError>
+    ensures { OnOk result (draft.new ≡ draft.old ++ tunables_text tunables) }
+{
+    push_number(draft, b"fifo_batch=", tunables.fifo_batch as u64)?;
+    push_number(draft, b" writes_starved=", tunables.writes_starved as u64)?;
+    push_switch(draft, b" front_merges=", tunables.front_merges)
+}
+
+/// Adds the settings of a scheduler, by the names that the command line has for them, or `-` where it has none.
+fn push_settings(draft: &mut Draft, sched: Sched) -> Result<(), AllocError>
+    ensures { OnOk result (draft.new ≡ draft.old ++ settings_text sched) }
+{
+    match sched {
+        Sched::None => draft.text(b"-"),
+        Sched::Earliest { late_last } => push_switch(draft, b"late_last=", late_last),
+        Sched::Deadline(tunables) => push_tunables(draft, tunables),
+        Sched::Kyber(targets) => {
+            push_number(draft, b"read_target=", targets.read)?;
+            push_number(draft, b" write_target=", targets.write)
+        }
+    }
+}
+
+/// Adds a field of the settings of a scheduler.
+fn push_sched(draft: &mut Draft, sched: Sched) -> Result<(), AllocError>
+    ensures { OnOk result (draft.new ≡ draft.old ++ next_field (settings_text sched)) }
+{
+    draft.text(b",")?;
+    push_settings(draft, sched)
+}
+
+/// Adds a field of a figure, or `none` where there is none.
+fn push_figure(draft: &mut Draft, alloc: Global, figure: Option<i64>) -> Result<(), AllocError>
+    ensures { OnOk result (draft.new ≡ draft.old ++ next_field (late_text figure)) }
+{
+    draft.text(b",")?;
+    push_late(draft, alloc, figure)
+}
+
+/// Adds the fields of a report.
+fn push_report(draft: &mut Draft, alloc: Global, report: &Report) -> Result<(), AllocError>
+    ensures { OnOk result (draft.new ≡ draft.old ++ report_fields report.now) }
+{
+    push_field(draft, report.commands)?;
+    push_field(draft, report.waiting)?;
+    push_figure(draft, alloc, report.greatest)?;
+    push_figure(draft, alloc, report.least)?;
+    push_figure(draft, alloc, report.shortfall)
+}
+
+/// Adds the fields of a tally.
+fn push_tally(draft: &mut Draft, tally: &Tally) -> Result<(), AllocError>
+    ensures { OnOk result (draft.new ≡ draft.old ++ tally_fields tally.now) }
+{
+    push_field(draft, tally.late)?;
+    push_field(draft, tally.unavoidable)?;
+    push_field(draft, tally.avoidable)
+}
+
+/// Adds the line of a row.
+fn push_row(draft: &mut Draft, alloc: Global, row: &Row) -> Result<(), AllocError>
+    ensures { OnOk result (draft.new ≡ draft.old ++ row_line row.now) }
+{
+    draft.text(row.sched.name().as_bytes())?;
+    push_sched(draft, row.sched)?;
+    push_report(draft, alloc, &row.report)?;
+    push_tally(draft, &row.tally)?;
+    push_figure(draft, alloc, row.wait_read)?;
+    push_figure(draft, alloc, row.wait_write)?;
+    draft.text(b"\n")
+}
+
+/// Adds the lines of rows.
+fn push_rows(draft: &mut Draft, alloc: Global, rows: &[Row]) -> Result<(), AllocError>
+    ensures { OnOk result (draft.new ≡ draft.old ++ flat_map (λ r. row_line r) rows.now) }
+{
+    for row in rows {
+        push_row(draft, alloc, row)?;
+    }
+    Ok(())
+}
+
+/// What is said of the best row, where no schedule is better.
+fn remark(by: By, row: &Row) -> &'static [u8]
+    ensures { result.now ≡ remark_of by row.now }
+{
+    match by {
+        By::Misses => {
+            if row.tally.commands > 0 && row.tally.avoidable == 0 {
+                b" (no schedule misses fewer)"
+            } else {
+                b""
+            }
+        }
+        By::Lateness => match row.report.shortfall {
+            Some(lost) => {
+                if lost == 0 {
+                    b" (no schedule is less late)"
+                } else {
+                    b""
+                }
+            }
+            None => b"",
+        },
+    }
+}
+
+/// Adds the last line, which names the best row.
+fn push_best(draft: &mut Draft, by: By, rows: &[Row]) -> Result<(), AllocError>
+    ensures { OnOk result (draft.new ≡ draft.old ++ best_line by rows.now) }
+{
+    match rows.first() {
+        None => draft.text(b"best none-served\n"),
+        Some(row) => {
+            draft.text(b"best ")?;
+            draft.text(row.sched.name().as_bytes())?;
+            draft.text(b" ")?;
+            push_settings(draft, row.sched)?;
+            draft.text(remark(by, row))?;
+            draft.text(b"\n")
+        }
+    }
+}
+
+/// Those of the rows that are shown.
+fn shown(top: Option<u64>, rows: &[Row]) -> &[Row]
+    ensures { result.now ≡ shown top rows.now }
+{
+    match top {
+        None => rows,
+        Some(top) => {
+            if top < rows.len() as u64 {
+                &rows[..top as usize]
+            } else {
+                rows
+            }
+        }
+    }
+}
+
+/// The table of rows that stand best first: a head line; a line for each that is shown, of its scheduler, its settings, how many commands
+/// and bios waiting it has, its greatest lateness, the least and the shortfall, how many commands were late, had to be and didn't, and
+/// how long 99 of 100 reads and of 100 writes waited at most, in rounds, `none` where there is no such number; and a last line that names
+/// the best one, and says so where no schedule of its commands is better.
+pub fn table(alloc: Global, by: By, top: Option<u64>, rows: &[Row]) -> Result<Vec<u8>, AllocError>
+    ensures { IfOk result (λ text. text.items ≡ table_text by top rows.now) }
+{
+    let mut draft = Draft::new(alloc);
+    draft.text(
+        b"sched,settings,commands,waiting,greatest,least,shortfall,late,unavoidable,avoidable,wait_p99_read,wait_p99_write\n",
+    )?;
+    push_rows(&mut draft, alloc, shown(top, rows))?;
+    push_best(&mut draft, by, rows)?;
+    draft.finish()
+}
