@@ -1,0 +1,10 @@
+pub mod Values
+pub mod Reports
+pub mod Spreading
+pub mod Lateness
+pub mod Missing
+pub mod Tables
+pub mod Trials
+pub mod Proofs
+pub mod Loads
+pub mod Tokens

@@ -1,0 +1,23 @@
+-- What was late as JSON.
+use Rattle.std.specs.Prelude.{ℕ, List, [], ◌∷◌, ◌++◌, codes, map}
+use Rattle.json.specs.Json as json
+use Rattle.edd_figures.specs.declared.missing.Crowd.{Crowd}
+use Rattle.blk_report.specs.declared.missing.Tally.{Tally}
+use Rattle.blk_json.specs.Values.{count, array_of, object_of, line_of}
+
+-- a window: its first and its last round, how many commands lie in it, and how many its rounds carry
+abbrev pub crowd_value : Crowd → json.Json
+crowd_value c = object_of ((codes "from", count c.window.from) ∷ (codes "until", count c.window.due) ∷ (codes "commands", count c.commands) ∷ (codes "carries", count c.carries) ∷ [])
+
+-- the members of the seven numbers
+abbrev pub tally_members : Tally → List (List ℕ × json.Json)
+tally_members t =
+    (codes "commands", count t.commands) ∷ (codes "late", count t.late) ∷ (codes "unavoidable", count t.unavoidable) ∷ (codes "avoidable", count t.avoidable) ∷ (codes "spare", count t.spare)
+    ∷ (codes "waiting", count t.waiting) ∷ (codes "overdue", count t.overdue) ∷ []
+
+-- these, and the windows
+abbrev pub misses_value : Tally → List Crowd → json.Json
+misses_value t windows = object_of (tally_members t ++ (codes "windows", array_of (map crowd_value windows)) ∷ [])
+
+abbrev pub misses_json : Tally → List Crowd → List ℕ
+misses_json t windows = line_of (misses_value t windows)

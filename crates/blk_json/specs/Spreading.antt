@@ -1,0 +1,23 @@
+-- The spread of waits and latenesses as JSON.
+use Rattle.std.specs.Prelude.{ℕ, List, [], ◌∷◌, codes}
+use Rattle.json.specs.Json as json
+use Rattle.blk_report.specs.declared.spreading.Quantiles.{Quantiles}
+use Rattle.blk_report.specs.declared.spreading.ByDir.{ByDir}
+use Rattle.blk_report.specs.declared.spreading.Spreads.{Spreads}
+use Rattle.blk_json.specs.Values.{count, figure, object_of, line_of}
+
+-- how many numbers there are, and their quantiles
+abbrev pub quantiles_value : Quantiles → json.Json
+quantiles_value q =
+    object_of ((codes "count", count q.count) ∷ (codes "p50", figure q.p50) ∷ (codes "p90", figure q.p90) ∷ (codes "p99", figure q.p99) ∷ (codes "p999", figure q.p999) ∷ (codes "max", figure q.max) ∷ [])
+
+-- those of the reads, the writes and both
+abbrev pub by_dir_value : ByDir → json.Json
+by_dir_value b = object_of ((codes "R", quantiles_value b.reads) ∷ (codes "W", quantiles_value b.writes) ∷ (codes "all", quantiles_value b.all) ∷ [])
+
+-- the waits and the latenesses
+abbrev pub spread_value : Spreads → json.Json
+spread_value s = object_of ((codes "wait", by_dir_value s.wait) ∷ (codes "lateness", by_dir_value s.lateness) ∷ [])
+
+abbrev pub spread_json : Spreads → List ℕ
+spread_json s = line_of (spread_value s)

@@ -1,0 +1,104 @@
+//! The late commands as JSON.
+
+ghost use Rattle.std.specs.Prelude.{◌≡◌, ◌++◌, IfOk, OnOk, codes};
+ghost use Rattle.std.specs.List.{flat_map};
+ghost use Rattle.json.specs.Json as value;
+ghost use Rattle.json.specs.Tree.{json_tokens};
+ghost use Rattle.blk_bio.specs.Letters.{direction_text};
+ghost use Rattle.blk_json.specs.Lateness.{service_members, verdict_members, late_value, late_json};
+ghost use Rattle.blk_json.specs.Tokens.{member_tokens, tokens_of};
+
+use crate::page::Page;
+use blk_bio::Dir;
+use blk_report::{LateCommand, Service};
+use edd_verdict::Verdict;
+use std::alloc::{AllocError, Global};
+
+/// Writes a direction.
+fn write_dir(page: &mut Page, dir: Dir) -> Result<(), AllocError>
+    ensures { OnOk result (page.new ≡ page.old ++ member_tokens (codes "dir") (value.string (direction_text dir))) }
+{
+    match dir {
+        Dir::Read => page.string("dir", "R"),
+        Dir::Write => page.string("dir", "W"),
+    }
+}
+
+/// Writes a request and its rounds.
+fn write_service(page: &mut Page, service: &Service) -> Result<(), AllocError>
+    ensures { OnOk result (page.new ≡ page.old ++ tokens_of (service_members service.now)) }
+{
+    page.count("id", service.id)?;
+    write_dir(page, service.dir)?;
+    page.count("first", service.first)?;
+    page.count("sectors", service.sectors)?;
+    page.count("release", service.release)?;
+    page.count("due", service.due)?;
+    page.count("issue", service.issue)?;
+    Ok(())
+}
+
+/// Writes why it was late.
+fn write_verdict(page: &mut Page, verdict: Verdict) -> Result<(), AllocError>
+    ensures { OnOk result (page.new ≡ page.old ++ tokens_of (verdict_members verdict)) }
+{
+    match verdict {
+        Verdict::Arrival => {
+            page.string("verdict", "arrival")?;
+            page.null("from")?;
+            page.null("until")
+        }
+        Verdict::Spare => {
+            page.string("verdict", "spare")?;
+            page.null("from")?;
+            page.null("until")
+        }
+        Verdict::Full(window) => {
+            page.string("verdict", "full")?;
+            page.count("from", window.from)?;
+            page.count("until", window.due)
+        }
+    }
+}
+
+/// Writes a command.
+fn write_late_command(page: &mut Page, late: &LateCommand) -> Result<(), AllocError>
+    ensures { OnOk result (page.new ≡ page.old ++ json_tokens (late_value late.now)) }
+{
+    page.begin_object()?;
+    write_service(page, &late.service)?;
+    page.count("lateness", late.lateness)?;
+    page.count("sooner", late.sooner)?;
+    page.count("later", late.later)?;
+    page.count("idle", late.idle)?;
+    write_verdict(page, late.verdict)?;
+    page.end_object()?;
+    Ok(())
+}
+
+/// Writes commands.
+fn write_late_commands(page: &mut Page, late: &[LateCommand]) -> Result<(), AllocError>
+    ensures { OnOk result (page.new ≡ page.old ++ flat_map (λ l. json_tokens (late_value l)) late.now) }
+{
+    for command in late {
+        write_late_command(page, command)?;
+    }
+    Ok(())
+}
+
+/// Late commands as an object of one array, `late`, with an object for each, in their order: `id`, `dir` (`"R"` or `"W"`), `first`
+/// and `sectors`, `release`, `due` and `issue` (rounds), `lateness` (rounds), `sooner`, `later` and `idle` (places), `verdict`
+/// (`"arrival"`, `"spare"` or `"full"`), and `from` and `until`, the first and the last round of its window, or `null` where the
+/// verdict has none. Fails for want of memory alone. The time is as the number of commands.
+pub fn late_json(alloc: Global, late: &[LateCommand]) -> Result<Vec<u8>, AllocError>
+    ensures { IfOk result (λ v. v.items ≡ late_json late.now) }
+{
+    let mut page = Page::new(alloc);
+    page.begin_object()?;
+    page.key("late")?;
+    page.begin_array()?;
+    write_late_commands(&mut page, late)?;
+    page.end_array()?;
+    page.end_object()?;
+    page.finish()
+}
