@@ -3,10 +3,24 @@
 
 use blk_lists::Records;
 use blk_load::OnThreads;
+use blk_tune::Line;
 use drafts::Output;
 use std::io::ErrorKind;
+use std::os::unix::fs::{FileTypeExt, MetadataExt};
 use std::process::ExitCode;
-use std::{env, io};
+use std::{env, fs, io};
+
+/// Whether standard error is a terminal, by the major number of its device: Linux has 4 for consoles and serial lines, 5 for a process's
+/// own terminal and 136 to 143 for what terminal emulators open.
+fn says_to_a_terminal(rt: &HostRuntime) -> bool {
+    match fs::metadata(rt, "/dev/stderr") {
+        Ok(file) => {
+            let major = (file.rdev() >> 8) & 0xfff;
+            file.file_type().is_char_device() && matches!(major, 4 | 5 | 136..=143)
+        }
+        Err(_) => false,
+    }
+}
 
 fn main(rt: HostRuntime) -> ExitCode {
     let alloc = rt.alloc();
@@ -27,6 +41,7 @@ fn main(rt: HostRuntime) -> ExitCode {
         let _ = faults.put(b"blk: want of memory\n");
         return ExitCode::from(blk_cli::FAILED);
     };
+    let is_terminal = says_to_a_terminal(&rt);
     let ended = blk_cli::run(
         &OnThreads { clock: rt },
         &rt,
@@ -35,6 +50,7 @@ fn main(rt: HostRuntime) -> ExitCode {
         &mut Records::new(alloc, rt.reader()),
         &mut Output::new(io::writer(&rt)),
         &mut faults,
+        &mut Line::new(alloc, rt, rt.stderr(), is_terminal),
     );
     ExitCode::from(ended.status)
 }

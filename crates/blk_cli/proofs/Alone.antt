@@ -5,50 +5,82 @@ use Rattle.blk_lists.specs.Sources.{Row}
 use Rattle.blk_words.specs.declared.words.Job.{Job}
 use Rattle.blk_words.specs.declared.words.Job.TheVariants as job
 use Rattle.blk_cli.specs.Said.{Said, only, IsAlone}
-use Rattle.blk_cli.specs.Gives.{Gives, GivesText, AnswersText}
+use Rattle.blk_cli.specs.Gives.{Gives, GivesText, HasNoText, Fails, AnswersText}
 use Rattle.blk_cli.specs.declared.Ended.{Ended}
+use Rattle.blk_cli.specs.declared.failure.Failure.{Failure}
 use Rattle.blk_cli.specs.Ends.{Answers, AskForTexts, EndsPut, status_with}
 
 -- a job that answers a text alone
-alone : (j : Job) (input : Option (List Row)) (s : Said) → AnswersText j → Gives j input s → IsAlone s
-alone job.Version input s answers g = g.1
-alone (job.Sim x) input s answers g = g.1
-alone (job.Compare x) input s answers g = g.1
-alone job.Migrate input s answers g = g.1
-alone job.Commands input s answers g = g.1
-alone job.Late input s answers g = g.1
-alone job.Misses input s answers g = g.1
-alone job.Spread input s answers g = g.1
-alone job.Oracle input s answers g = g.1
-alone job.Met input s answers g = g.1
-alone job.Report input s answers g = g.1
-alone job.Check input s answers g = g.1
-alone (job.Import x) input s answers g = absurd answers
-alone (job.Refuse x) input s answers g = g.1
-alone (job.Judge x) input s answers g = g.1
-alone (job.Load x y z) input s answers g = g.1
+alone : (words : List (List ℕ)) (j : Job) (input : Option (List Row)) (bytes : Option (List ℕ)) (s : Said) → AnswersText j → Gives words j input bytes s → IsAlone s
+alone words job.Version input bytes s answers g = g.1
+alone words (job.Sim x) input bytes s answers g = g.1
+alone words (job.Compare x y) input bytes s answers g = g.1
+alone words (job.Pictures x) input bytes s answers g = g.1
+alone words job.Migrate input bytes s answers g = g.1
+alone words job.Commands input bytes s answers g = g.1
+alone words (job.Late x) input bytes s answers g = g.1
+alone words (job.Misses x) input bytes s answers g = g.1
+alone words (job.Spread x) input bytes s answers g = g.1
+alone words job.Picture input bytes s answers g = g.1
+alone words job.Oracle input bytes s answers g = g.1
+alone words job.Met input bytes s answers g = g.1
+alone words (job.Report x) input bytes s answers g = g.1
+alone words (job.Check x) input bytes s answers g = g.1
+alone words (job.Import x) input bytes s answers g = absurd answers
+alone words (job.Refuse x) input bytes s answers g = g.1
+alone words (job.Judge x) input bytes s answers g = g.1
+alone words job.Explain input bytes s answers g = absurd answers
+alone words (job.Tune x) input bytes s answers g = g.1
+alone words (job.Load x y z) input bytes s answers g = g.1
 
 -- what a job answers that gives a text alone
-pub gives_text : (j : Job) (input : Option (List Row)) (text : List ℕ) → GivesText j input text → Gives j input (only text)
-gives_text job.Version input text g = (g, (refl, refl))
-gives_text (job.Sim x) input text g = (g, (refl, refl))
-gives_text (job.Compare x) input text g = (g, (refl, refl))
-gives_text job.Migrate input text g = (g, (refl, refl))
-gives_text job.Commands input text g = (g, (refl, refl))
-gives_text job.Late input text g = (g, (refl, refl))
-gives_text job.Misses input text g = (g, (refl, refl))
-gives_text job.Spread input text g = (g, (refl, refl))
-gives_text job.Oracle input text g = (g, (refl, refl))
-gives_text job.Met input text g = (g, (refl, refl))
-gives_text job.Report input text g = (g, (refl, refl))
-gives_text job.Check input text g = (g, (refl, refl))
-gives_text (job.Import x) input text g = absurd g
-gives_text (job.Refuse x) input text g = (g, (refl, refl))
-gives_text (job.Judge x) input text g = (g, (refl, refl))
-gives_text (job.Load x y z) input text g = (g, (refl, refl))
+pub gives_text : (words : List (List ℕ)) (j : Job) (input : Option (List Row)) (bytes : Option (List ℕ)) (text : List ℕ) → GivesText j input text → Gives words j input bytes (only text)
+gives_text words job.Version input bytes text g = (g, (refl, refl))
+gives_text words (job.Sim x) input bytes text g = (g, (refl, refl))
+gives_text words (job.Compare x y) input bytes text g = (g, (refl, refl))
+gives_text words (job.Pictures x) input bytes text g = (g, (refl, refl))
+gives_text words job.Migrate input bytes text g = (g, (refl, refl))
+gives_text words job.Commands input bytes text g = (g, (refl, refl))
+gives_text words (job.Late x) input bytes text g = (g, (refl, refl))
+gives_text words (job.Misses x) input bytes text g = (g, (refl, refl))
+gives_text words (job.Spread x) input bytes text g = (g, (refl, refl))
+gives_text words job.Picture input bytes text g = (g, (refl, refl))
+gives_text words job.Oracle input bytes text g = (g, (refl, refl))
+gives_text words job.Met input bytes text g = (g, (refl, refl))
+gives_text words (job.Report x) input bytes text g = (g, (refl, refl))
+gives_text words (job.Check x) input bytes text g = (g, (refl, refl))
+gives_text words (job.Import x) input bytes text g = absurd g
+gives_text words (job.Refuse x) input bytes text g = (g, (refl, refl))
+gives_text words (job.Judge x) input bytes text g = (g, (refl, refl))
+gives_text words job.Explain input bytes text g = absurd g
+gives_text words (job.Tune x) input bytes text g = absurd g
+gives_text words (job.Load x y z) input bytes text g = (g, (refl, refl))
 
-pub alone_by : (words : List (List ℕ)) (input : Option (List Row)) (s : Said) → AskForTexts words → Answers words input s → IsAlone s
-alone_by words input s ask a = alone a.0 input s (ask a.0 a.1) a.2
+-- why it gives none
+pub fails_text : (words : List (List ℕ)) (j : Job) (input : Option (List Row)) (failed : Bool) (f : Failure) → HasNoText j input failed f → Fails words j input failed f
+fails_text words job.Version input failed f h = h
+fails_text words (job.Sim x) input failed f h = h
+fails_text words (job.Compare x y) input failed f h = h
+fails_text words (job.Pictures x) input failed f h = h
+fails_text words job.Migrate input failed f h = h
+fails_text words job.Commands input failed f h = h
+fails_text words (job.Late x) input failed f h = h
+fails_text words (job.Misses x) input failed f h = h
+fails_text words (job.Spread x) input failed f h = h
+fails_text words job.Picture input failed f h = h
+fails_text words job.Oracle input failed f h = h
+fails_text words job.Met input failed f h = h
+fails_text words (job.Report x) input failed f h = h
+fails_text words (job.Check x) input failed f h = h
+fails_text words (job.Import x) input failed f h = h
+fails_text words (job.Refuse x) input failed f h = h
+fails_text words (job.Judge x) input failed f h = h
+fails_text words job.Explain input failed f h = h
+fails_text words (job.Tune x) input failed f h = absurd h
+fails_text words (job.Load x y z) input failed f h = h
+
+pub alone_by : (words : List (List ℕ)) (input : Option (List Row)) (bytes : Option (List ℕ)) (s : Said) → AskForTexts words → Answers words input bytes s → IsAlone s
+alone_by words input bytes s ask a = alone words a.0 input bytes s (ask a.0 a.1) a.2
 
 not_one : (good : Bool) → good ≡ true → status_with good ≡ 1 → ⊥
 not_one true e f = cc f

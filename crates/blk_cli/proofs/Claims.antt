@@ -14,7 +14,8 @@ use Rattle.edd_check.specs.Schedule.{IsLegal, IsGreatestLateness, IsLeastLatenes
 use Rattle.edd_check.specs.Window.{IsCrowded, load_of, rounds_between}
 use Rattle.edd_check.specs.declared.CheckFault.{CheckFault}
 use Rattle.edd_check.specs.Check.{IsAnswer}
-use Rattle.blk_cli.specs.Certificates.{IsProof, IsRefusedBound, bound_line, verdict_of}
+use Rattle.blk_words.specs.declared.words.Form.{Form}
+use Rattle.blk_cli.specs.Certificates.{IsProof, IsRefusedBound, bound_in, verdict_in}
 use Rattle.edd_oracle.specs.Answer.{IsBest}
 use Rattle.blk_text.specs.TraceRecords.{EventFits}
 use Rattle.blk_trace.proofs.Ids.{has_issued}
@@ -86,12 +87,12 @@ refused_of claim commands rounds steps late other window f same_commands same_ro
     let Q : ℤ → Type 0 = λ z. IsAnswer claim.commands (fixed claim.depth) z claim.rounds window (Err f) in
     (late, window, is, subst Q same (subst P under (subst R same_rounds (subst C same_commands h))))
 
--- the line on a certificate with a bound
-pub verdict_is : {S E : Type 0} (text : S → List ℕ) (r : Result S E) (claim : Claim) (late other : ℤ) (window : Window) (commands : List Command) (load carries : ℕ) → claim.bound ≡ Some (late, window) → other ≡ late
+-- what is written of a certificate with a bound
+pub verdict_is : {S E : Type 0} (f : Form) (text : S → List ℕ) (r : Result S E) (claim : Claim) (late other : ℤ) (window : Window) (commands : List Command) (load carries : ℕ) → claim.bound ≡ Some (late, window) → other ≡ late
     → commands ≡ claim.commands → load ≡ load_of commands window → carries ≡ claim.depth * rounds_between window.from (pos window.due +ℤ other)
-    → IfOk r (λ s. text s ≡ bound_line other load carries) → IfOk r (λ s. text s ≡ verdict_of claim claim.bound)
-verdict_is text (Err e) claim late other window commands load carries is same list loads carry h = tt
-verdict_is text (Ok s) claim late other window commands load carries is same list loads carry h =
+    → IfOk r (λ s. text s ≡ bound_in f other load carries) → IfOk r (λ s. text s ≡ verdict_in f claim claim.bound)
+verdict_is f text (Err e) claim late other window commands load carries is same list loads carry h = tt
+verdict_is f text (Ok s) claim late other window commands load carries is same list loads carry h =
     rw is (h ∙ rw (same, loads, carry, same, list) refl)
 
 -- a trace's commands are a command list's

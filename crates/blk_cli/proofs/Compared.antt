@@ -1,104 +1,94 @@
 -- What the comparison comes to, from what became of each run.
-use Rattle.std.proofs.Common.{ℕ, suc, ◌≡◌, ◌∙◌, ◌∷◌, ◌++◌, [], List, refl, sym, ap, subst, arith, take, drop, length, get_or, inl, inr, ◌<◌, ◌+◌, map}
+use Rattle.std.proofs.Common.{ℕ, suc, ◌≡◌, ◌∙◌, ◌∷◌, ◌++◌, [], List, refl, sym, ap, subst, arith, take, length, get_or, ◌<◌, ◌+◌, map}
 use Rattle.std.specs.Prelude.{All}
 use Rattle.std.proofs.Math.Seq.{take-suc}
-use Rattle.std.proofs.lemmas.List.{take-append-drop, drop_more}
 use Rattle.std.proofs.lemmas.List.Elements.{All-nil, All-cons}
 use Rattle.blk_settings.specs.declared.sched.Lineup.{Lineup}
 use Rattle.blk_settings.specs.declared.sched.Sched.{Sched}
-use Rattle.blk_settings.specs.declared.sched.Sched.TheVariants as sched
-use Rattle.blk_settings.specs.declared.sched.SchedFault.{SchedFault}
-use Rattle.blk_settings.specs.declared.sched.SchedFault.TheVariants as setting
-use Rattle.blk_settings.specs.Made.{IsMade, IsUnmade, HasFault}
-use Rattle.blk_settings.specs.Rows.{name_of, in_turn}
+use Rattle.blk_settings.specs.Rows.{name_of, in_turn, policy_of}
+use Rattle.blk_runs.specs.declared.fault.RunFault.{RunFault}
+use Rattle.blk_runs.specs.declared.fault.RunFault.TheVariants as run
+use Rattle.blk_runs.specs.Runs.{IsTraceOfScript, IsUnrunBy}
+use Rattle.blk_runs.specs.Firsts.{RunsWhole, AreUnrun}
 use Rattle.blk_text.specs.Script.{Scripted}
-use Rattle.blk_trace.specs.Traces.{Traced}
 use Rattle.blk_report.specs.declared.figures.Report.{Report}
-use Rattle.blk_report.specs.Table.{IsTable}
-use Rattle.blk_cli.specs.declared.failure.Failure.{Failure}
-use Rattle.blk_cli.specs.declared.failure.Failure.TheVariants as failure
-use Rattle.blk_cli.specs.Scripts.{IsTraceOfScript, IsUnrun}
-use Rattle.blk_cli.specs.Comparing.{IsReportUnder, AreReports, IsFirstUnmade, IsUncompared, IsTableText}
+use Rattle.blk_picture.specs.Pictures.{IsPictures}
+use Rattle.blk_trace.specs.Traces.{Traced}
+use Rattle.blk_words.specs.declared.words.Form.{Form}
+use Rattle.blk_cli.specs.Scripts.{IsUnrun, failure_of_run}
+use Rattle.blk_cli.specs.Comparing.{IsReportUnder, AreUnder, AreReports, AreTraces, IsUncompared, IsTableIn, IsTableText, ArePicturesText}
 
--- a script that a scheduler runs whole
-abbrev pub RunsWhole : Scripted → Sched → Type 0
-RunsWhole s sched = (trace : Traced) × IsTraceOfScript sched s trace
+-- nothing yet, one more, and as many as schedulers
+pub none_yet : {X : Type 0} (Comes : Sched → Scripted → X → Type 0) (s : Scripted) → AreUnder Comes [] s []
+unfolding AreUnder
+none_yet Comes s = tt
 
--- a list, split at a place
-split_at : (xs : List Sched) (i : ℕ) (d : Sched) → i < length xs → xs ≡ take i xs ++ get_or xs i d ∷ drop (i + 1) xs
-split_at xs i d h = sym (take-append-drop i xs) ∙ ap (λ (rest : List Sched). take i xs ++ rest) (drop_more xs i d h)
+snoc : {X : Type 0} (Comes : Sched → Scripted → X → Type 0) (ss : List Sched) (s : Scripted) (rs : List X) (x : Sched) (r : X) → AreUnder Comes ss s rs → Comes x s r → AreUnder Comes (ss ++ x ∷ []) s (rs ++ r ∷ [])
+unfolding AreUnder
+snoc Comes [] s [] x r are one = (one, tt)
+snoc Comes [] s (q ∷ rs) x r are one = absurd are
+snoc Comes (y ∷ ss) s [] x r are one = absurd are
+snoc Comes (y ∷ ss) s (q ∷ rs) x r are one = (are.0, snoc Comes ss s rs x r are.1 one)
 
--- no report yet, one more, and as many as schedulers
-pub no_reports : (s : Scripted) → AreReports [] s []
-unfolding AreReports
-no_reports s = tt
-
-snoc : (ss : List Sched) (s : Scripted) (rs : List Report) (x : Sched) (r : Report) → AreReports ss s rs → IsReportUnder x s r → AreReports (ss ++ x ∷ []) s (rs ++ r ∷ [])
-unfolding AreReports
-snoc [] s [] x r are one = (one, tt)
-snoc [] s (q ∷ rs) x r are one = absurd are
-snoc (y ∷ ss) s [] x r are one = absurd are
-snoc (y ∷ ss) s (q ∷ rs) x r are one = (are.0, snoc ss s rs x r are.1 one)
-
-pub one_more : (ss : List Sched) (i : ℕ) (d : Sched) (s : Scripted) (rs : List Report) (r : Report) → i < length ss → AreReports (take i ss) s rs → IsReportUnder (get_or ss i d) s r
-    → AreReports (take (i + 1) ss) s (rs ++ r ∷ [])
-one_more ss i d s rs r h are one =
+pub one_more : {X : Type 0} (Comes : Sched → Scripted → X → Type 0) (ss : List Sched) (i : ℕ) (d : Sched) (s : Scripted) (rs : List X) (r : X) → i < length ss → AreUnder Comes (take i ss) s rs → Comes (get_or ss i d) s r
+    → AreUnder Comes (take (i + 1) ss) s (rs ++ r ∷ [])
+one_more Comes ss i d s rs r h are one =
     let next : take (suc i) ss ≡ take i ss ++ get_or ss i d ∷ [] = take-suc ss i d h in
     let e : i + 1 ≡ suc i = omega arith in
-    let P : List Sched → Type 0 = λ xs. AreReports xs s (rs ++ r ∷ []) in
-    subst P (sym (ap (λ (n : ℕ). take n ss) e ∙ next)) (snoc (take i ss) s rs (get_or ss i d) r are one)
+    let P : List Sched → Type 0 = λ xs. AreUnder Comes xs s (rs ++ r ∷ []) in
+    subst P (sym (ap (λ (n : ℕ). take n ss) e ∙ next)) (snoc Comes (take i ss) s rs (get_or ss i d) r are one)
 
-pub as_many : (ss : List Sched) (s : Scripted) (rs : List Report) → AreReports ss s rs → length rs ≡ length ss
-unfolding AreReports
-as_many [] s [] are = refl
-as_many [] s (r ∷ rs) are = absurd are
-as_many (x ∷ ss) s [] are = absurd are
-as_many (x ∷ ss) s (r ∷ rs) are = ap suc (as_many ss s rs are.1)
+pub as_many : {X : Type 0} (Comes : Sched → Scripted → X → Type 0) (ss : List Sched) (s : Scripted) (rs : List X) → AreUnder Comes ss s rs → length rs ≡ length ss
+unfolding AreUnder
+as_many Comes [] s [] are = refl
+as_many Comes [] s (r ∷ rs) are = absurd are
+as_many Comes (x ∷ ss) s [] are = absurd are
+as_many Comes (x ∷ ss) s (r ∷ rs) are = ap suc (as_many Comes ss s rs are.1)
 
-all_whole : (ss : List Sched) (s : Scripted) (rs : List Report) → AreReports ss s rs → All (RunsWhole s) ss
-unfolding AreReports
-all_whole [] s [] are = All-nil (RunsWhole s)
-all_whole [] s (r ∷ rs) are = absurd are
-all_whole (x ∷ ss) s [] are = absurd are
-all_whole (x ∷ ss) s (r ∷ rs) are = All-cons (RunsWhole s) x ss (are.0.trace, are.0.is_trace) (all_whole ss s rs are.1)
+all_whole : {X : Type 0} (Comes : Sched → Scripted → X → Type 0) → ((x : Sched) (s : Scripted) (r : X) → Comes x s r → RunsWhole s x) → (ss : List Sched) (s : Scripted) (rs : List X) → AreUnder Comes ss s rs → All (RunsWhole s) ss
+unfolding AreUnder
+all_whole Comes whole [] s [] are = All-nil (RunsWhole s)
+all_whole Comes whole [] s (r ∷ rs) are = absurd are
+all_whole Comes whole (x ∷ ss) s [] are = absurd are
+all_whole Comes whole (x ∷ ss) s (r ∷ rs) are = All-cons (RunsWhole s) x ss (whole x s r are.0) (all_whole Comes whole ss s rs are.1)
 
--- the first that isn't made of its settings
-pub first_unmade : (ss : List Sched) (i : ℕ) (d : Sched) (f : SchedFault) → i < length ss → All IsMade (take i ss) → HasFault (get_or ss i d) f → IsFirstUnmade ss f
-first_unmade ss i d f h made fault = record { before = take i ss; unmade = get_or ss i d; after = drop (i + 1) ss; turn = split_at ss i d h; made = made; fault = fault }
+-- where there is a report, or a trace, the script ran whole
+report_whole : (x : Sched) (s : Scripted) (r : Report) → IsReportUnder x s r → RunsWhole s x
+report_whole x s r is = (is.trace, is.is_trace)
 
--- what is made of its settings is refused for want of memory alone
-made_memory : (x : Sched) (f : SchedFault) → IsMade x → IsUnmade x f → f ≡ setting.Memory
-made_memory sched.None setting.ZeroBatch made h = absurd h
-made_memory sched.None setting.ZeroTarget made h = absurd h
-made_memory (sched.Deadline t) setting.ZeroBatch made h = absurd (omega (arith, made, h))
-made_memory (sched.Deadline t) setting.ZeroTarget made h = absurd h
-made_memory (sched.Kyber t) setting.ZeroBatch made h = absurd h
-made_memory (sched.Kyber t) setting.ZeroTarget made h = elim h [ inl z ↦ absurd (omega (arith, made.0, z)) | inr z ↦ absurd (omega (arith, made.1, z)) ]
-made_memory (sched.Earliest l) setting.ZeroBatch made h = absurd h
-made_memory (sched.Earliest l) setting.ZeroTarget made h = absurd h
-made_memory x setting.Memory made h = refl
+trace_whole : (x : Sched) (s : Scripted) (t : Traced) → IsTraceOfScript x s t → RunsWhole s x
+trace_whole x s t is = (t, is)
 
--- a script that one of them doesn't run whole
-pub unrun : (ss : List Sched) (i : ℕ) (d : Sched) (s : Scripted) (rs : List Report) (f : Failure) → i < length ss → All IsMade ss → AreReports (take i ss) s rs → IsUnrun (get_or ss i d) s f → IsUncompared ss s f
-unrun ss i d s rs (failure.Text f) h made are r = absurd r
-unrun ss i d s rs (failure.Sched f) h made are r = inr (made_memory (get_or ss i d) f (made i d h) r)
-unrun ss i d s rs (failure.Step f) h made are r =
-    record { before = take i ss; under = get_or ss i d; after = drop (i + 1) ss; turn = split_at ss i d h; made = made; whole = all_whole (take i ss) s rs are; refused = r }
-unrun ss i d s rs (failure.Solve f) h made are r = absurd r
-unrun ss i d s rs (failure.Check f) h made are r = absurd r
-unrun ss i d s rs (failure.Met f) h made are r = absurd r
-unrun ss i d s rs failure.NotFixed h made are r = absurd r
-unrun ss i d s rs (failure.Load f) h made are r = absurd r
-unrun ss i d s rs (failure.Import f) h made are r = absurd r
-unrun ss i d s rs (failure.Arrivals f) h made are r = absurd r
-unrun ss i d s rs (failure.Words w) h made are r = absurd r
-unrun ss i d s rs failure.Write h made are r = absurd r
-unrun ss i d s rs failure.Memory h made are r = tt
+-- so it ran whole under each of them
+pub reports_whole : (ss : List Sched) (s : Scripted) (rs : List Report) → AreReports ss s rs → All (RunsWhole s) ss
+reports_whole ss s rs are = all_whole IsReportUnder report_whole ss s rs are
+
+pub traces_whole : (ss : List Sched) (s : Scripted) (ts : List Traced) → AreTraces ss s ts → All (RunsWhole s) ss
+traces_whole ss s ts are = all_whole IsTraceOfScript trace_whole ss s ts are
+
+-- why a script is not run under one or each of some schedulers, as the program says it
+pub said_of_run : (x : Sched) (s : Scripted) (f : RunFault) → IsUnrunBy (policy_of x) x s f → IsUnrun x s (failure_of_run f)
+said_of_run x s (run.Sched f) h = h
+said_of_run x s (run.Step f) h = h
+said_of_run x s run.Memory h = tt
+
+pub said_of_runs : (ss : List Sched) (s : Scripted) (f : RunFault) → AreUnrun ss s f → IsUncompared ss s (failure_of_run f)
+said_of_runs ss s (run.Sched f) h = h
+said_of_runs ss s (run.Step f) h = h
+said_of_runs ss s run.Memory h = tt
 
 -- the table of what was compared
-pub table_is : (l : Lineup) (ss : List Sched) (s : Scripted) (rs : List Report) (names : List (List ℕ)) (text : List ℕ) → ss ≡ in_turn l → AreReports ss s rs → names ≡ map name_of ss → IsTable names rs text → IsTableText l s text
-table_is l ss s rs names text e are named is = record {
+pub table_is : (l : Lineup) (f : Form) (ss : List Sched) (s : Scripted) (rs : List Report) (text : List ℕ) → ss ≡ in_turn l → AreReports ss s rs → IsTableIn f (map name_of ss) rs text → IsTableText l f s text
+table_is l f ss s rs text e are is = record {
   reports = rs;
   are_reports = subst (λ (xs : List Sched). AreReports xs s rs) e are;
-  is_table = subst (λ (xs : List Sched). IsTable (map name_of xs) rs text) e (subst (λ (ns : List (List ℕ)). IsTable ns rs text) named is);
+  is_table = subst (λ (xs : List Sched). IsTableIn f (map name_of xs) rs text) e is;
+}
+
+-- the pictures of what was traced
+pub pictures_are : (l : Lineup) (ss : List Sched) (s : Scripted) (ts : List Traced) (names : List (List ℕ)) (text : List ℕ) → ss ≡ in_turn l → AreTraces ss s ts → names ≡ map name_of ss → IsPictures names ts text → ArePicturesText l s text
+pictures_are l ss s ts names text e are named is = record {
+  traces = ts;
+  are_traces = subst (λ (xs : List Sched). AreTraces xs s ts) e are;
+  are_pictures = subst (λ (xs : List Sched). IsPictures (map name_of xs) ts text) e (subst (λ (ns : List (List ℕ)). IsPictures ns ts text) named is);
 }

@@ -2,6 +2,6 @@ mod Alone
 mod Claims
 mod Compared
 mod MetClaims
+mod Named
 mod OfRead
-mod Runs
 mod Schedules

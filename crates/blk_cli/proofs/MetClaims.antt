@@ -16,7 +16,8 @@ use Rattle.edd_check.proofs.InForce.{carried_fixed}
 use Rattle.edd_oracle.specs.Met.{IsMostAnswer}
 use Rattle.blk_lists.specs.Commands.{AreCommands}
 use Rattle.blk_lists.specs.Met.{MetClaim, IsMetClaim}
-use Rattle.blk_cli.specs.Certificates.{IsMetProved, IsRefusedMet, met_line, met_verdict_of}
+use Rattle.blk_words.specs.declared.words.Form.{Form}
+use Rattle.blk_cli.specs.Certificates.{IsMetProved, IsRefusedMet, met_in, met_verdict_in}
 
 number_most : (commands : List Command) (rounds : List ℕ) → length rounds ≡ length commands → number_met commands rounds ≤ length commands
 unfolding number_met
@@ -88,7 +89,7 @@ met_refused claim commands rounds cover steps f same_commands same_rounds same_c
     subst P under (subst V same_cover (subst R same_rounds (subst C same_commands h)))
 
 -- the line on a certificate
-pub met_line_is : {S E : Type 0} (text : S → List ℕ) (r : Result S E) (claim : MetClaim) (met count windows carries rest : ℕ) → met ≡ claim.met → count ≡ length claim.commands → windows ≡ length claim.cover
-    → carries ≡ carried_by (fixed claim.depth) claim.cover → rest ≡ outside_of claim.commands claim.cover → IfOk r (λ s. text s ≡ met_line met count windows carries rest) → IfOk r (λ s. text s ≡ met_verdict_of claim)
-met_line_is text (Err e) claim met count windows carries rest a b d f g h = tt
-met_line_is text (Ok s) claim met count windows carries rest a b d f g h = h ∙ rw (a, b, d, f, g) refl
+pub met_line_is : {S E : Type 0} (f : Form) (text : S → List ℕ) (r : Result S E) (claim : MetClaim) (met count windows carries rest : ℕ) → met ≡ claim.met → count ≡ length claim.commands → windows ≡ length claim.cover
+    → carries ≡ carried_by (fixed claim.depth) claim.cover → rest ≡ outside_of claim.commands claim.cover → IfOk r (λ s. text s ≡ met_in f met count windows carries rest) → IfOk r (λ s. text s ≡ met_verdict_in f claim)
+met_line_is f text (Err x) claim met count windows carries rest a b d e g h = tt
+met_line_is f text (Ok s) claim met count windows carries rest a b d e g h = h ∙ rw (a, b, d, e, g) refl

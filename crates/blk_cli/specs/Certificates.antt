@@ -19,6 +19,9 @@ use Rattle.blk_lists.specs.Commands.{SpellsCommands}
 use Rattle.blk_lists.specs.Certificate.{Claim, claim_rows, SpellsClaim}
 use Rattle.blk_lists.specs.Met.{MetClaim, met_rows, SpellsMet}
 use Rattle.blk_lists.specs.Proof.{ProofClaim, OfLateness, OfMet}
+use Rattle.blk_json.specs.Proofs.{bound_json, no_commands_json, met_json}
+use Rattle.blk_words.specs.declared.words.Form.{Form}
+use Rattle.blk_words.specs.declared.words.Form.TheVariants as form
 use Rattle.blk_cli.specs.declared.failure.Failure.{Failure}
 use Rattle.blk_cli.specs.declared.failure.Failure.TheVariants as failure
 use Rattle.blk_cli.specs.declared.lists.Solving.{Solving}
@@ -77,9 +80,18 @@ abbrev pub bound_line : ℤ → ℕ → ℕ → List ℕ
 bound_line late load carries =
     codes "ok lateness " ++ (signed_decimal late ++ (codes " load " ++ (decimal load ++ (codes " carries " ++ (decimal carries ++ 10 ∷ [])))))
 
-abbrev pub verdict_of : Claim → Option (ℤ × Window) → List ℕ
-verdict_of claim None = codes "ok no commands" ++ 10 ∷ []
-verdict_of claim (Some b) = bound_line b.0 (load_of claim.commands b.1) (claim.depth * rounds_between b.1.from (pos b.1.due +ℤ b.0))
+-- what is written of it in a form, and of one without commands
+abbrev pub bound_in : Form → ℤ → ℕ → ℕ → List ℕ
+bound_in form.Lines late load carries = bound_line late load carries
+bound_in form.Json late load carries = bound_json late load carries
+
+abbrev pub no_commands_in : Form → List ℕ
+no_commands_in form.Lines = codes "ok no commands" ++ 10 ∷ []
+no_commands_in form.Json = no_commands_json
+
+abbrev pub verdict_in : Form → Claim → Option (ℤ × Window) → List ℕ
+verdict_in f claim None = no_commands_in f
+verdict_in f claim (Some b) = bound_in f b.0 (load_of claim.commands b.1) (claim.depth * rounds_between b.1.from (pos b.1.due +ℤ b.0))
 
 -- the check refuses the certificate that was read, which has a bound
 abbrev pub IsRefusedBound : Claim → CheckFault → Option (ℤ × Window) → Type 0
@@ -92,17 +104,21 @@ abbrev pub met_line : ℕ → ℕ → ℕ → ℕ → ℕ → List ℕ
 met_line met count windows carried rest =
     codes "ok met " ++ (decimal met ++ (codes " of " ++ (decimal count ++ (codes " windows " ++ (decimal windows ++ (codes " carry " ++ (decimal carried ++ (codes " and " ++ (decimal rest ++ (codes " outside" ++ 10 ∷ []))))))))))
 
-abbrev pub met_verdict_of : MetClaim → List ℕ
-met_verdict_of claim = met_line claim.met (length claim.commands) (length claim.cover) (carried_by (fixed claim.depth) claim.cover) (outside_of claim.commands claim.cover)
+abbrev pub met_in : Form → ℕ → ℕ → ℕ → ℕ → ℕ → List ℕ
+met_in form.Lines met count windows carried rest = met_line met count windows carried rest
+met_in form.Json met count windows carried rest = met_json met count windows carried rest
+
+abbrev pub met_verdict_in : Form → MetClaim → List ℕ
+met_verdict_in f claim = met_in f claim.met (length claim.commands) (length claim.cover) (carried_by (fixed claim.depth) claim.cover) (outside_of claim.commands claim.cover)
 
 -- the check refuses one of what is met
 abbrev pub IsRefusedMet : MetClaim → MetFault → Type 0
 IsRefusedMet claim f = IsMetAnswer claim.commands (fixed claim.depth) claim.rounds claim.met claim.cover (Err f)
 
--- what `check` writes: the line on a certificate of either form, which is proved
-abbrev pub IsVerdict : ProofClaim → List ℕ → Type 0
-IsVerdict (OfLateness claim) text = IsProved claim × (text ≡ verdict_of claim claim.bound)
-IsVerdict (OfMet claim) text = IsMetProved claim × (text ≡ met_verdict_of claim)
+-- what `check` writes in a form, of a certificate of either kind, which is proved
+abbrev pub IsVerdict : Form → ProofClaim → List ℕ → Type 0
+IsVerdict f (OfLateness claim) text = IsProved claim × (text ≡ verdict_in f claim claim.bound)
+IsVerdict f (OfMet claim) text = IsMetProved claim × (text ≡ met_verdict_in f claim)
 
 -- why a certificate is not proved
 abbrev pub IsUnproved : Claim → Failure → Type 0

@@ -1,22 +1,24 @@
 -- The schedulers beside one another over a script, and what is written of a script.
-use Rattle.std.specs.Prelude.{◌≡◌, ◌⊎◌, ◌++◌, ◌∷◌, ⊤, ℕ, List, [], All, map}
+use Rattle.std.specs.Prelude.{◌∷◌, ⊤, ℕ, List, [], map}
 use Rattle.blk_trace.specs.Traces.{Traced}
 use Rattle.blk_text.specs.Script.{Scripted}
 use Rattle.blk_report.specs.declared.figures.Report.{Report}
 use Rattle.blk_report.specs.Shortfall.{IsReport}
 use Rattle.blk_report.specs.Table.{IsTable}
-use Rattle.blk_sim.specs.declared.refusal.SimFault.{SimFault}
+use Rattle.blk_picture.specs.Pictures.{IsPictures}
+use Rattle.blk_json.specs.Tables.{IsTableJson}
+use Rattle.blk_words.specs.declared.words.Form.{Form}
+use Rattle.blk_words.specs.declared.words.Form.TheVariants as form
+use Rattle.blk_runs.specs.Runs.{IsTraceOfScript}
+use Rattle.blk_runs.specs.Firsts.{AreUnmade, IsFirstRefused}
 use Rattle.blk_settings.specs.declared.sched.Lineup.{Lineup}
 use Rattle.blk_settings.specs.declared.sched.Sched.{Sched}
-use Rattle.blk_settings.specs.declared.sched.SchedFault.{SchedFault}
-use Rattle.blk_settings.specs.declared.sched.SchedFault.TheVariants as setting
-use Rattle.blk_settings.specs.Made.{IsMade, HasFault}
 use Rattle.blk_settings.specs.Rows.{name_of, in_turn}
 use Rattle.blk_cli.specs.declared.failure.Failure.{Failure}
 use Rattle.blk_cli.specs.declared.failure.Failure.TheVariants as failure
 use Rattle.blk_cli.specs.declared.scripts.Running.{Running}
 use Rattle.blk_cli.specs.declared.scripts.Running.TheVariants as running
-use Rattle.blk_cli.specs.Scripts.{IsTraceOfScript, IsRefusedUnder, IsSimText, IsUnrun}
+use Rattle.blk_cli.specs.Scripts.{IsSimText, IsUnrun}
 
 -- the report of the trace of the script under a scheduler
 pub record IsReportUnder (s : Sched) (script : Scripted) (report : Report) : Type 0 where
@@ -24,41 +26,35 @@ pub record IsReportUnder (s : Sched) (script : Scripted) (report : Report) : Typ
   pub is_trace : IsTraceOfScript s script trace
   pub is_report : IsReport trace.setup trace.events report
 
--- under each of them, in turn
-unfoldable pub AreReports : List Sched → Scripted → List Report → Type 0
-AreReports [] script [] = ⊤
-AreReports [] script (r ∷ rs) = ⊥
-AreReports (s ∷ ss) script [] = ⊥
-AreReports (s ∷ ss) script (r ∷ rs) = IsReportUnder s script r × AreReports ss script rs
+-- what comes of the script under each of them, in turn: so the reports, and the traces
+unfoldable pub AreUnder : {X : Type 0} → (Sched → Scripted → X → Type 0) → List Sched → Scripted → List X → Type 0
+AreUnder Comes [] script [] = ⊤
+AreUnder Comes [] script (x ∷ xs) = ⊥
+AreUnder Comes (s ∷ ss) script [] = ⊥
+AreUnder Comes (s ∷ ss) script (x ∷ xs) = Comes s script x × AreUnder Comes ss script xs
 
--- what `compare` writes: the table of these reports, each with its scheduler's name
-pub record IsTableText (l : Lineup) (script : Scripted) (text : List ℕ) : Type 0 where
+abbrev pub AreReports : List Sched → Scripted → List Report → Type 0
+AreReports ss script rs = AreUnder IsReportUnder ss script rs
+
+abbrev pub AreTraces : List Sched → Scripted → List Traced → Type 0
+AreTraces ss script ts = AreUnder IsTraceOfScript ss script ts
+
+-- the table of reports in a form, each with its scheduler's name
+abbrev pub IsTableIn : Form → List (List ℕ) → List Report → List ℕ → Type 0
+IsTableIn form.Lines names reports text = IsTable names reports text
+IsTableIn form.Json names reports text = IsTableJson names reports text
+
+-- what `compare` writes: the table of these reports
+pub record IsTableText (l : Lineup) (f : Form) (script : Scripted) (text : List ℕ) : Type 0 where
   pub reports : List Report
   pub are_reports : AreReports (in_turn l) script reports
-  pub is_table : IsTable (map name_of (in_turn l)) reports text
+  pub is_table : IsTableIn f (map name_of (in_turn l)) reports text
 
--- one of them isn't made of its settings, and those before it are
-pub record IsFirstUnmade (scheds : List Sched) (f : SchedFault) : Type 0 where
-  pub before : List Sched
-  pub unmade : Sched
-  pub after : List Sched
-  pub turn : scheds ≡ before ++ unmade ∷ after
-  pub made : All IsMade before
-  pub fault : HasFault unmade f
-
--- not all of them are made: for the first that isn't made of its settings, or for want of memory
-abbrev pub AreUnmade : List Sched → SchedFault → Type 0
-AreUnmade scheds f = IsFirstUnmade scheds f ⊎ (f ≡ setting.Memory)
-
--- all are made, a step is refused under one of them, and under those before it the script runs whole
-pub record IsFirstRefused (scheds : List Sched) (script : Scripted) (f : SimFault) : Type 0 where
-  pub before : List Sched
-  pub under : Sched
-  pub after : List Sched
-  pub turn : scheds ≡ before ++ under ∷ after
-  pub made : All IsMade scheds
-  pub whole : All (λ s. (trace : Traced) × IsTraceOfScript s script trace) before
-  pub refused : IsRefusedUnder under script f
+-- what `picture --script` writes: the pictures of these traces as one
+pub record ArePicturesText (l : Lineup) (script : Scripted) (text : List ℕ) : Type 0 where
+  pub traces : List Traced
+  pub are_traces : AreTraces (in_turn l) script traces
+  pub are_pictures : IsPictures (map name_of (in_turn l)) traces text
 
 -- why a script is not compared
 abbrev pub IsUncompared : List Sched → Scripted → Failure → Type 0
@@ -70,8 +66,10 @@ IsUncompared scheds script f = ⊥
 -- what is written of a script, and why nothing is
 abbrev pub IsRunText : Running → Scripted → List ℕ → Type 0
 IsRunText (running.One s) script text = IsSimText s script text
-IsRunText (running.Each l) script text = IsTableText l script text
+IsRunText (running.Each l f) script text = IsTableText l f script text
+IsRunText (running.Drawn l) script text = ArePicturesText l script text
 
 abbrev pub HasNoRunText : Running → Scripted → Failure → Type 0
 HasNoRunText (running.One s) script f = IsUnrun s script f
-HasNoRunText (running.Each l) script f = IsUncompared (in_turn l) script f
+HasNoRunText (running.Each l o) script f = IsUncompared (in_turn l) script f
+HasNoRunText (running.Drawn l) script f = IsUncompared (in_turn l) script f

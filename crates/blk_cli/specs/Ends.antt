@@ -13,8 +13,8 @@ use Rattle.blk_cli.specs.Said.{Said}
 use Rattle.blk_cli.specs.Gives.{Gives, Fails, AnswersText}
 
 -- the words ask for a job that answers this
-abbrev pub Answers : List (List ℕ) → Option (List Row) → Said → Type 0
-Answers words input s = (j : Job) × Asks words j × Gives j input s
+abbrev pub Answers : List (List ℕ) → Option (List Row) → Option (List ℕ) → Said → Type 0
+Answers words input bytes s = (j : Job) × Asks words j × Gives words j input bytes s
 
 -- they ask for nothing but texts alone
 abbrev pub AskForTexts : List (List ℕ) → Type 0
@@ -22,7 +22,7 @@ AskForTexts words = (j : Job) → Asks words j → AnswersText j
 
 -- or there is none: the job that they ask for fails, memory ran out before they were read, or they ask for nothing
 abbrev pub IsWithout : List (List ℕ) → Option (List Row) → Bool → NoText → Type 0
-IsWithout words input failed (none.Failure f) = ((j : Job) × Asks words j × Fails j input failed f) ⊎ (f ≡ failure.Memory)
+IsWithout words input failed (none.Failure f) = ((j : Job) × Asks words j × Fails words j input failed f) ⊎ (f ≡ failure.Memory)
 IsWithout words input failed (none.Line text) = AreFaulty words
 IsWithout words input failed none.Excluded = NameNone words
 
@@ -61,9 +61,9 @@ EndsPut s old new faults_old faults_new ended =
     (IsWritten s.text old new × (ended.status ≡ status_with s.good) × SaysBeside s.note faults_old faults_new ended.told)
     ⊎ (IsCut s.text old new × EndsSaying 3 write_fault faults_old faults_new ended)
 
--- how a run of the program ended, by the records of its input and whether their reader has failed, and by what the writers of its
--- output and of its faults hold before and after: it wrote the text of its answer, or nothing at all
-abbrev pub RunEnds : List (List ℕ) → Option (List Row) → Bool → Stream → Stream → Stream → Stream → Ended → Type 0
-RunEnds words input failed old new faults_old faults_new ended =
-    ((s : Said) × Answers words input s × EndsPut s old new faults_old faults_new ended)
+-- how a run of the program ended, by the records and the bytes of its input and whether their reader has failed, and by what the writers
+-- of its output and of its faults hold before and after: it wrote the text of its answer, or nothing at all
+abbrev pub RunEnds : List (List ℕ) → Option (List Row) → Option (List ℕ) → Bool → Stream → Stream → Stream → Stream → Ended → Type 0
+RunEnds words input bytes failed old new faults_old faults_new ended =
+    ((s : Said) × Answers words input bytes s × EndsPut s old new faults_old faults_new ended)
     ⊎ ((n : NoText) × IsWithout words input failed n × (new ≡ old) × EndsSaying (status_without n) (line_without n) faults_old faults_new ended)

@@ -21,61 +21,80 @@ use Rattle.blk_cli.specs.OfTraces.{IsTold, IsUntold}
 use Rattle.blk_cli.specs.Certificates.{SpellsList, IsSolved, IsUnsolved, IsVerdict, IsBad}
 use Rattle.blk_cli.specs.Judging.{IsJudgedText, IsUnjudged}
 use Rattle.blk_cli.specs.Importing.{IsImported, IsUnimported}
+use Rattle.blk_cli.specs.Explaining.{IsTextExplained, IsUnexplained}
+use Rattle.blk_cli.specs.Tuning.{IsTrial, IsUntried}
 use Rattle.blk_cli.specs.Loading.{IsLoadOf, IsUnloaded}
 
--- a job that is no load
-abbrev pub IsNoLoad : Job → Type 0
-IsNoLoad (job.Load s l w) = ⊥
-IsNoLoad j = ⊤
+-- a job that starts no threads
+abbrev pub StartsNoThreads : Job → Type 0
+StartsNoThreads (job.Tune t) = ⊥
+StartsNoThreads (job.Load s l w) = ⊥
+StartsNoThreads j = ⊤
 
 -- a job that answers a text alone
 abbrev pub AnswersText : Job → Type 0
 AnswersText (job.Import i) = ⊥
+AnswersText job.Explain = ⊥
 AnswersText j = ⊤
 
 -- the line with the program's name and version
 abbrev pub version_line : List ℕ
 version_line = codes "blk 1.0.0" ++ 10 ∷ []
 
--- the text that a job gives of the records of its input, where these are known
+-- the text that a job gives of the records of its input, where these are known; that of a trial turns on its words too
 abbrev pub GivesText : Job → Option (List Row) → List ℕ → Type 0
 GivesText job.Version input text = text ≡ version_line
 GivesText (job.Sim s) input text = Of SpellsScript (IsRunText (running.One s)) input text
-GivesText (job.Compare l) input text = Of SpellsScript (IsRunText (running.Each l)) input text
+GivesText (job.Compare l o) input text = Of SpellsScript (IsRunText (running.Each l o)) input text
+GivesText (job.Pictures l) input text = Of SpellsScript (IsRunText (running.Drawn l)) input text
 GivesText job.Migrate input text = Of SpellsTrace (IsTold telling.Whole) input text
 GivesText job.Commands input text = Of SpellsTrace (IsTold telling.Commands) input text
-GivesText job.Late input text = Of SpellsTrace (IsTold telling.Late) input text
-GivesText job.Misses input text = Of SpellsTrace (IsTold telling.Misses) input text
-GivesText job.Spread input text = Of SpellsTrace (IsTold telling.Spread) input text
-GivesText job.Report input text = Of SpellsTrace (IsTold telling.Report) input text
+GivesText (job.Late o) input text = Of SpellsTrace (IsTold (telling.Late o)) input text
+GivesText (job.Misses o) input text = Of SpellsTrace (IsTold (telling.Misses o)) input text
+GivesText (job.Spread o) input text = Of SpellsTrace (IsTold (telling.Spread o)) input text
+GivesText (job.Report o) input text = Of SpellsTrace (IsTold (telling.Report o)) input text
+GivesText job.Picture input text = Of SpellsTrace (IsTold telling.Picture) input text
 GivesText job.Oracle input text = Of SpellsList (IsSolved solving.Least) input text
 GivesText job.Met input text = Of SpellsList (IsSolved solving.Most) input text
-GivesText job.Check input text = Of SpellsProof IsVerdict input text
+GivesText (job.Check o) input text = Of SpellsProof (IsVerdict o) input text
 GivesText (job.Import i) input text = ⊥
 GivesText (job.Refuse r) input text = ⊥
+GivesText job.Explain input text = ⊥
+GivesText (job.Tune t) input text = ⊥
 GivesText (job.Judge e) input text = Of SpellsSchedule (IsJudgedText e) input text
 GivesText (job.Load s l w) input text = IsLoadOf s w l text
 
--- what it answers
-abbrev pub Gives : Job → Option (List Row) → Said → Type 0
-Gives (job.Import i) input s = Of SpellsCapture (IsImported i) input s
-Gives j input s = GivesText j input s.text × IsAlone s
+-- what it answers to the words that ask for it, of the records of its input and of its bytes, where these are known
+abbrev pub Gives : List (List ℕ) → Job → Option (List Row) → Option (List ℕ) → Said → Type 0
+Gives words (job.Import i) input bytes s = Of SpellsCapture (IsImported i) input s
+Gives words job.Explain input bytes s = IsTextExplained bytes s
+Gives words (job.Tune t) input bytes s = Of SpellsScript (IsTrial words t) input s.text × IsAlone s
+Gives words j input bytes s = GivesText j input s.text × IsAlone s
 
--- why it gives none, where the reader has failed or hasn't
-abbrev pub Fails : Job → Option (List Row) → Bool → Failure → Type 0
-Fails job.Version input failed f = f ≡ failure.Memory
-Fails (job.Sim s) input failed f = FailsOver SpellsScript ScriptFault (HasNoRunText (running.One s)) input failed f
-Fails (job.Compare l) input failed f = FailsOver SpellsScript ScriptFault (HasNoRunText (running.Each l)) input failed f
-Fails job.Migrate input failed f = FailsOver SpellsTrace TraceFault (IsUntold telling.Whole) input failed f
-Fails job.Commands input failed f = FailsOver SpellsTrace TraceFault (IsUntold telling.Commands) input failed f
-Fails job.Late input failed f = FailsOver SpellsTrace TraceFault (IsUntold telling.Late) input failed f
-Fails job.Misses input failed f = FailsOver SpellsTrace TraceFault (IsUntold telling.Misses) input failed f
-Fails job.Spread input failed f = FailsOver SpellsTrace TraceFault (IsUntold telling.Spread) input failed f
-Fails job.Report input failed f = FailsOver SpellsTrace TraceFault (IsUntold telling.Report) input failed f
-Fails job.Oracle input failed f = FailsOver SpellsList CommandsFault IsUnsolved input failed f
-Fails job.Met input failed f = FailsOver SpellsList CommandsFault IsUnsolved input failed f
-Fails job.Check input failed f = FailsOver SpellsProof ProofFault IsBad input failed f
-Fails (job.Import i) input failed f = FailsOver SpellsCapture CaptureTextFault (IsUnimported i) input failed f
-Fails (job.Refuse r) input failed f = f ≡ failure.Words r
-Fails (job.Judge e) input failed f = FailsOver SpellsSchedule ScheduleFault IsUnjudged input failed f
-Fails (job.Load s l w) input failed f = IsUnloaded s l f
+-- why it gives no text, where the reader has failed or hasn't; of a trial this turns on its words too
+abbrev pub HasNoText : Job → Option (List Row) → Bool → Failure → Type 0
+HasNoText job.Version input failed f = f ≡ failure.Memory
+HasNoText (job.Sim s) input failed f = FailsOver SpellsScript ScriptFault (HasNoRunText (running.One s)) input failed f
+HasNoText (job.Compare l o) input failed f = FailsOver SpellsScript ScriptFault (HasNoRunText (running.Each l o)) input failed f
+HasNoText (job.Pictures l) input failed f = FailsOver SpellsScript ScriptFault (HasNoRunText (running.Drawn l)) input failed f
+HasNoText job.Migrate input failed f = FailsOver SpellsTrace TraceFault (IsUntold telling.Whole) input failed f
+HasNoText job.Commands input failed f = FailsOver SpellsTrace TraceFault (IsUntold telling.Commands) input failed f
+HasNoText (job.Late o) input failed f = FailsOver SpellsTrace TraceFault (IsUntold (telling.Late o)) input failed f
+HasNoText (job.Misses o) input failed f = FailsOver SpellsTrace TraceFault (IsUntold (telling.Misses o)) input failed f
+HasNoText (job.Spread o) input failed f = FailsOver SpellsTrace TraceFault (IsUntold (telling.Spread o)) input failed f
+HasNoText (job.Report o) input failed f = FailsOver SpellsTrace TraceFault (IsUntold (telling.Report o)) input failed f
+HasNoText job.Picture input failed f = FailsOver SpellsTrace TraceFault (IsUntold telling.Picture) input failed f
+HasNoText job.Oracle input failed f = FailsOver SpellsList CommandsFault IsUnsolved input failed f
+HasNoText job.Met input failed f = FailsOver SpellsList CommandsFault IsUnsolved input failed f
+HasNoText (job.Check o) input failed f = FailsOver SpellsProof ProofFault IsBad input failed f
+HasNoText (job.Import i) input failed f = FailsOver SpellsCapture CaptureTextFault (IsUnimported i) input failed f
+HasNoText (job.Refuse r) input failed f = f ≡ failure.Words r
+HasNoText (job.Judge e) input failed f = FailsOver SpellsSchedule ScheduleFault IsUnjudged input failed f
+HasNoText job.Explain input failed f = IsUnexplained failed f
+HasNoText (job.Tune t) input failed f = ⊥
+HasNoText (job.Load s l w) input failed f = IsUnloaded s l f
+
+-- why it gives none to the words that ask for it
+abbrev pub Fails : List (List ℕ) → Job → Option (List Row) → Bool → Failure → Type 0
+Fails words (job.Tune t) input failed f = FailsOver SpellsScript ScriptFault (IsUntried words) input failed f
+Fails words j input failed f = HasNoText j input failed f

@@ -7,6 +7,8 @@ pub mod Certificates
 pub mod Loading
 pub mod Judging
 pub mod Importing
+pub mod Explaining
+pub mod Tuning
 pub mod Gives
 pub mod Lines
 pub mod Ends

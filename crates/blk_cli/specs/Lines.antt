@@ -114,6 +114,14 @@ refusal_text refusal.ScriptAlone = codes "--script excludes --table and --summar
 refusal_text refusal.NoRound = codes "--script needs --round"
 refusal_text refusal.NoScript = codes "--round and --depth need --script"
 refusal_text refusal.OfRequests = codes "--script takes no --from, --skip or --first"
+refusal_text refusal.JsonAlone = codes "--json needs --trace"
+refusal_text refusal.TraceAndJson = codes "--trace and --json exclude one another"
+refusal_text refusal.Scheds = codes "--sched takes names of schedulers with commas between, each once"
+refusal_text refusal.FifoBatch = codes "--fifo-batch takes 1 to 64 numbers of 0 to 65535 with commas between, each once"
+refusal_text refusal.WritesStarved = codes "--writes-starved takes 1 to 64 numbers of 0 to 65535 with commas between, each once"
+refusal_text refusal.ReadTarget = codes "--read-target takes 1 to 64 numbers of 0 to 1000000 with commas between, each once"
+refusal_text refusal.WriteTarget = codes "--write-target takes 1 to 64 numbers of 0 to 1000000 with commas between, each once"
+refusal_text refusal.By = codes "--by takes misses or lateness"
 
 -- the line on a failure
 abbrev pub line_of : Failure → List ℕ

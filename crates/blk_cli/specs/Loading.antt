@@ -11,6 +11,9 @@ use Rattle.blk_settings.specs.declared.Settled.{Settled}
 use Rattle.blk_settings.specs.declared.numbers.Load.{Load}
 use Rattle.blk_trace.specs.Events.{AreOnce}
 use Rattle.blk_trace.specs.Traces.{Traced}
+use Rattle.blk_json.specs.Loads.{load_json}
+use Rattle.blk_words.specs.declared.words.Form.{Form}
+use Rattle.blk_words.specs.declared.words.Form.TheVariants as form
 use Rattle.blk_words.specs.declared.words.Shown.{Shown}
 use Rattle.blk_words.specs.declared.words.Shown.TheVariants as shown
 use Rattle.blk_cli.specs.OfTraces.{IsTraceText}
@@ -20,9 +23,14 @@ abbrev pub load_lines : ℕ → ℕ → ℕ → List ℕ
 load_lines accepted served left =
     codes "accepted " ++ (decimal accepted ++ (10 ∷ codes "served " ++ (decimal served ++ (10 ∷ codes "left " ++ (decimal left ++ 10 ∷ [])))))
 
--- the text on it: the lines of its numbers, or the text that spells its trace
+-- these numbers in a form
+abbrev pub account_in : Form → ℕ → ℕ → ℕ → List ℕ
+account_in form.Lines accepted served left = load_lines accepted served left
+account_in form.Json accepted served left = load_json accepted served left
+
+-- the text on it: its numbers in a form, or the text that spells its trace
 abbrev pub IsLoadText : Shown → Traced → Settled → List ℕ → Type 0
-IsLoadText shown.Account trace s text = text ≡ load_lines s.accepted s.served s.left
+IsLoadText (shown.Account f) trace s text = text ≡ account_in f s.accepted s.served s.left
 IsLoadText shown.Trace trace s text = IsTraceText trace text
 
 -- what `load` writes, of the trace of its layer, which is one that the scheduler makes, and of what it came to by this, where no two

@@ -1,48 +1,15 @@
--- A script under a scheduler: the trace to which its steps lead, or why they don't.
-use Rattle.std.specs.Prelude.{◌≡◌, ⊤, ℕ, List, IsPermutation, sum_by}
-use Rattle.blk_trace.specs.Events.{entered, round_of}
+-- What is written of a script under a scheduler, and why nothing is.
+use Rattle.std.specs.Prelude.{⊤, ℕ, List}
 use Rattle.blk_trace.specs.Traces.{Traced}
-use Rattle.blk_sched.specs.Meaning.{Meaning}
 use Rattle.blk_text.specs.Script.{Scripted}
-use Rattle.blk_sim.specs.declared.refusal.SimFault.{SimFault}
-use Rattle.blk_sched.specs.Policies.{Policy}
-use Rattle.blk_sim.specs.Simulation.{released_bios, ticks_of}
-use Rattle.blk_sim.specs.State.{SimState, start_of}
-use Rattle.blk_sim.specs.Runs.{Runs}
-use Rattle.blk_sim.specs.Refusals.{IsSimFault}
-use Rattle.blk_settings.specs.Made.{IsMade, IsUnmade}
-use Rattle.blk_settings.specs.Rows.{policy_of, meaning_of, numbers_at_first}
+use Rattle.blk_runs.specs.Runs.{IsTraceOfScript, IsRefusedUnder}
+use Rattle.blk_runs.specs.declared.fault.RunFault.{RunFault}
+use Rattle.blk_runs.specs.declared.fault.RunFault.TheVariants as run
+use Rattle.blk_settings.specs.Made.{IsUnmade}
 use Rattle.blk_settings.specs.declared.sched.Sched.{Sched}
 use Rattle.blk_cli.specs.OfTraces.{IsTraceText}
 use Rattle.blk_cli.specs.declared.failure.Failure.{Failure}
 use Rattle.blk_cli.specs.declared.failure.Failure.TheVariants as failure
-
--- the steps of a script lead from the start to this trace
-abbrev pub RunsFrom : Policy → Scripted → Meaning → List ℕ → Traced → Type 0
-RunsFrom policy script meaning kept trace = (end : SimState) × Runs policy script.lines (start_of script meaning kept) end
-    × (trace.setup ≡ end.core.setup) × (trace.events ≡ end.core.events)
-
--- they do so from the start of a scheduler of these settings by a policy, and one of them is refused so; and by its own policy
-abbrev pub RunsBy : Policy → Sched → Scripted → Traced → Type 0
-RunsBy policy s script trace = IsMade s × RunsFrom policy script (meaning_of s) (numbers_at_first s script.setup.depth) trace
-
-abbrev pub IsRefusedBy : Policy → Sched → Scripted → SimFault → Type 0
-IsRefusedBy policy s script f = IsMade s × IsSimFault policy script (meaning_of s) (numbers_at_first s script.setup.depth) f
-
-abbrev pub RunsUnder : Sched → Scripted → Traced → Type 0
-RunsUnder s script trace = RunsBy (policy_of s) s script trace
-
-abbrev pub IsRefusedUnder : Sched → Scripted → SimFault → Type 0
-IsRefusedUnder s script f = IsRefusedBy (policy_of s) s script f
-
--- the trace to which a script's steps lead under a scheduler, with the script's setup. Its bios are, each once, the `bio` lines that
--- are followed by a flush of their submitter, and after it by a drain of its hardware queue or a run; its Ticks are as many as the
--- `tick` lines and the n of the `run` lines together
-pub record IsTraceOfScript (s : Sched) (script : Scripted) (trace : Traced) : Type 0 where
-  pub ran : RunsUnder s script trace
-  pub setup : trace.setup ≡ script.setup
-  pub bios : IsPermutation (entered trace.events) (released_bios script.setup.hw script.lines)
-  pub ticks : round_of trace.events ≡ sum_by ticks_of script.lines
 
 -- what `sim` writes: the text that spells that trace, which is legal
 pub record IsSimText (s : Sched) (script : Scripted) (text : List ℕ) : Type 0 where
@@ -50,12 +17,15 @@ pub record IsSimText (s : Sched) (script : Scripted) (text : List ℕ) : Type 0 
   pub is_trace : IsTraceOfScript s script trace
   pub is_text : IsTraceText trace text
 
--- why a script is not run: its scheduler isn't made of its settings, or a step is refused
-abbrev pub IsUnrunBy : Policy → Sched → Scripted → Failure → Type 0
-IsUnrunBy policy s script (failure.Sched f) = IsUnmade s f
-IsUnrunBy policy s script (failure.Step f) = IsRefusedBy policy s script f
-IsUnrunBy policy s script failure.Memory = ⊤
-IsUnrunBy policy s script f = ⊥
+-- why a script is not run, as the program says it
+abbrev pub failure_of_run : RunFault → Failure
+failure_of_run (run.Sched f) = failure.Sched f
+failure_of_run (run.Step f) = failure.Step f
+failure_of_run run.Memory = failure.Memory
 
+-- its scheduler isn't made of its settings, or a step is refused
 abbrev pub IsUnrun : Sched → Scripted → Failure → Type 0
-IsUnrun s script f = IsUnrunBy (policy_of s) s script f
+IsUnrun s script (failure.Sched f) = IsUnmade s f
+IsUnrun s script (failure.Step f) = IsRefusedUnder s script f
+IsUnrun s script failure.Memory = ⊤
+IsUnrun s script f = ⊥

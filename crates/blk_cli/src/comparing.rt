@@ -1,83 +1,72 @@
 //! The schedulers beside one another.
 
-ghost use Rattle.std.specs.Prelude.{◌≡◌, IfOk, IfErr, IfSome, IfNone, All, map};
+ghost use Rattle.std.specs.Prelude.{◌≡◌, IfOk, IfErr, All, map, length};
 ghost use Rattle.blk_text.specs.Script.{IsScript, scripted};
 ghost use Rattle.blk_settings.specs.Made.{IsMade};
 ghost use Rattle.blk_settings.specs.Rows.{name_of, in_turn};
-ghost use Rattle.blk_cli.specs.Scripts.{IsUnrun};
-ghost use Rattle.blk_cli.specs.Comparing.{IsReportUnder, AreReports, IsFirstUnmade, IsUncompared, IsTableText};
+ghost use Rattle.blk_runs.specs.Runs.{IsUnrun};
+ghost use Rattle.blk_runs.specs.Firsts.{AreUnrun};
+ghost use Rattle.blk_cli.specs.Comparing.{IsReportUnder, AreReports, IsUncompared, IsTableIn, IsTableText};
 
 use crate::failure::Failure;
-use crate::scripts::traced;
+use blk_json::table_json;
 use blk_report::{Report, report, table_lines};
-use blk_settings::{Lineup, Sched, SchedFault};
+use blk_runs::{RunFault, traced, unmade};
+use blk_settings::{Lineup, Sched};
 use blk_text::Script;
+use blk_words::Form;
 use std::alloc::{AllocError, Global};
 
-/// What is wrong with the settings of the first of these schedulers that isn't made of them.
-fn unmade(scheds: &[Sched]) -> Option<SchedFault>
-    ensures unmade { IfSome result (IsFirstUnmade scheds.now) }
-    ensures made { IfNone result (All IsMade scheds.now) }
-{
-    for i in 0..scheds.len() {
-        match scheds[i].fault() {
-            Some(fault) => return Some(fault),
-            None => {}
-        }
-    }
-    None
-}
-
 /// The report of the trace of a script under a scheduler.
-fn report_under(alloc: Global, sched: Sched, script: &Script) -> Result<Report, Failure>
+fn report_under(alloc: Global, sched: Sched, script: &Script) -> Result<Report, RunFault>
     requires { IsScript (scripted script.now) }
     ensures report { IfOk result (IsReportUnder sched (scripted script.now)) }
     ensures unrun { IfErr result (IsUnrun sched (scripted script.now)) }
 {
     let trace = match traced(alloc, sched, script) {
         Ok(trace) => trace,
-        Err(failure) => return Err(failure),
+        Err(fault) => return Err(fault),
     };
     match report(&trace) {
         Ok(report) => Ok(report),
-        Err(_) => Err(Failure::Memory),
+        Err(_) => Err(RunFault::Memory),
     }
 }
 
 /// The reports of a script under each of these schedulers, which run it in turn: where a step is refused, the later ones don't.
-fn reports_of(alloc: Global, scheds: &[Sched], script: &Script) -> Result<Vec<Report>, Failure>
+fn reports_of(alloc: Global, scheds: &[Sched], script: &Script) -> Result<Vec<Report>, RunFault>
     requires script { IsScript (scripted script.now) }
     requires made { All IsMade scheds.now }
     ensures reports { IfOk result (λ all. AreReports scheds.now (scripted script.now) all.items) }
-    ensures uncompared { IfErr result (IsUncompared scheds.now (scripted script.now)) }
+    ensures uncompared { IfErr result (AreUnrun scheds.now (scripted script.now)) }
 {
     let mut all = Vec::new(alloc);
     for i in 0..scheds.len() {
         let report = match report_under(alloc, scheds[i], script) {
             Ok(report) => report,
-            Err(failure) => return Err(failure),
+            Err(fault) => return Err(fault),
         };
         let Ok(()) = all.push(report) else {
-            return Err(Failure::Memory);
+            return Err(RunFault::Memory);
         };
     }
     Ok(all)
 }
 
 /// The reports of a script under each of these schedulers, once all of them are made of their settings.
-fn compared(alloc: Global, scheds: &[Sched], script: &Script) -> Result<Vec<Report>, Failure>
+fn compared(alloc: Global, scheds: &[Sched], script: &Script) -> Result<Vec<Report>, RunFault>
     requires { IsScript (scripted script.now) }
     ensures reports { IfOk result (λ all. AreReports scheds.now (scripted script.now) all.items) }
-    ensures uncompared { IfErr result (IsUncompared scheds.now (scripted script.now)) }
+    ensures uncompared { IfErr result (AreUnrun scheds.now (scripted script.now)) }
 {
     match unmade(scheds) {
-        Some(fault) => Err(Failure::Sched(fault)),
+        Some(fault) => Err(RunFault::Sched(fault)),
         None => reports_of(alloc, scheds, script),
     }
 }
 
-/// The names of schedulers.
-fn names_of<'a>(alloc: Global, scheds: &[Sched]) -> Result<Vec<&'a [u8]>, AllocError>
+/// The names of schedulers, as bytes.
+pub fn names_of<'a>(alloc: Global, scheds: &[Sched]) -> Result<Vec<&'a [u8]>, AllocError>
     ensures { IfOk result (λ names. map (λ name. name.now) names.items ≡ map name_of scheds.now) }
 {
     let mut names = Vec::new(alloc);
@@ -87,10 +76,64 @@ fn names_of<'a>(alloc: Global, scheds: &[Sched]) -> Result<Vec<&'a [u8]>, AllocE
     Ok(names)
 }
 
+/// The names of schedulers, as texts.
+fn titles_of<'a>(alloc: Global, scheds: &[Sched]) -> Result<Vec<&'a str>, AllocError>
+    ensures { IfOk result (λ names. map (λ name. name.now) names.items ≡ map name_of scheds.now) }
+{
+    let mut names = Vec::new(alloc);
+    for i in 0..scheds.len() {
+        names.push(scheds[i].name())?;
+    }
+    Ok(names)
+}
+
+/// The table of reports in lines, each under its scheduler's name.
+fn lines_of(alloc: Global, scheds: &[Sched], reports: &[Report]) -> Result<Vec<u8>, AllocError>
+    requires { length scheds.now ≡ length reports.now }
+    ensures { IfOk result (λ text. IsTableIn Form.Lines (map name_of scheds.now) reports.now text.items) }
+{
+    match names_of(alloc, scheds) {
+        Ok(names) => table_lines(alloc, names.as_slice(), reports),
+        Err(refused) => Err(refused),
+    }
+}
+
+/// The same as a JSON value.
+fn json_of(alloc: Global, scheds: &[Sched], reports: &[Report]) -> Result<Vec<u8>, AllocError>
+    requires { length scheds.now ≡ length reports.now }
+    ensures { IfOk result (λ text. IsTableIn Form.Json (map name_of scheds.now) reports.now text.items) }
+{
+    match titles_of(alloc, scheds) {
+        Ok(names) => table_json(alloc, names.as_slice(), reports),
+        Err(refused) => Err(refused),
+    }
+}
+
+/// The same in a form.
+fn table_text(
+    alloc: Global,
+    form: Form,
+    scheds: &[Sched],
+    reports: &[Report],
+) -> Result<Vec<u8>, AllocError>
+    requires { length scheds.now ≡ length reports.now }
+    ensures { IfOk result (λ text. IsTableIn form (map name_of scheds.now) reports.now text.items) }
+{
+    match form {
+        Form::Lines => lines_of(alloc, scheds, reports),
+        Form::Json => json_of(alloc, scheds, reports),
+    }
+}
+
 /// The table of the reports of a script under each scheduler of a lineup.
-pub fn table_of(alloc: Global, lineup: Lineup, script: &Script) -> Result<Vec<u8>, Failure>
+pub fn table_of(
+    alloc: Global,
+    lineup: Lineup,
+    form: Form,
+    script: &Script,
+) -> Result<Vec<u8>, Failure>
     requires { IsScript (scripted script.now) }
-    ensures text { IfOk result (λ text. IsTableText lineup (scripted script.now) text.items) }
+    ensures text { IfOk result (λ text. IsTableText lineup form (scripted script.now) text.items) }
     ensures uncompared { IfErr result (IsUncompared (in_turn lineup) (scripted script.now)) }
 {
     let Ok(scheds) = lineup.in_turn(alloc) else {
@@ -99,12 +142,9 @@ pub fn table_of(alloc: Global, lineup: Lineup, script: &Script) -> Result<Vec<u8
     let rows = scheds.as_slice();
     let reports = match compared(alloc, rows, script) {
         Ok(reports) => reports,
-        Err(failure) => return Err(failure),
+        Err(fault) => return Err(Failure::of_run(fault)),
     };
-    let Ok(names) = names_of(alloc, rows) else {
-        return Err(Failure::Memory);
-    };
-    match table_lines(alloc, names.as_slice(), reports.as_slice()) {
+    match table_text(alloc, form, rows, reports.as_slice()) {
         Ok(text) => Ok(text),
         Err(_) => Err(Failure::Memory),
     }

@@ -5,11 +5,13 @@ ghost use Rattle.std.specs.Fmt.{signed_decimal};
 ghost use Rattle.drafts.specs.Outputs.{Writes, stream_of};
 ghost use Rattle.blk_cli.specs.Lines.{line, want_of_memory, numbered, at_record, text_line, step_line, oracle_line, check_line, met_check_line, refusal_text, line_of, status_of};
 ghost use Rattle.blk_cli.specs.Ends.{EndsSaying};
+ghost use Rattle.blk_cli.specs.Scripts.{failure_of_run};
 
 use crate::{COMMAND_LINE, Ended, FAILED, REFUSED};
 use blk_arrivals::ArrivalsFault;
 use blk_capture_text::ImportFault;
 use blk_lists::{TextFault, Why};
+use blk_runs::RunFault;
 use blk_settings::{LoadFault, SchedFault};
 use blk_sim::{SimFault, SimWhy};
 use blk_words::Refusal;
@@ -60,6 +62,17 @@ pub enum Failure {
 }
 
 impl Failure {
+    /// That of a script that is not run.
+    pub fn of_run(fault: RunFault) -> Failure
+        ensures { result ≡ failure_of_run fault }
+    {
+        match fault {
+            RunFault::Sched(fault) => Failure::Sched(fault),
+            RunFault::Step(fault) => Failure::Step(fault),
+            RunFault::Memory => Failure::Memory,
+        }
+    }
+
     /// The exit status: 1 for refused input, 2 for words that can't be done, 3 for want of memory, a read fault or a write fault.
     pub fn status(&self) -> u8
         ensures value { result ≡ status_of self.now }
@@ -156,6 +169,22 @@ fn refusal_text(refusal: Refusal) -> &'static str
         Refusal::NoRound => "--script needs --round",
         Refusal::NoScript => "--round and --depth need --script",
         Refusal::OfRequests => "--script takes no --from, --skip or --first",
+        Refusal::JsonAlone => "--json needs --trace",
+        Refusal::TraceAndJson => "--trace and --json exclude one another",
+        Refusal::Scheds => "--sched takes names of schedulers with commas between, each once",
+        Refusal::FifoBatch => {
+            "--fifo-batch takes 1 to 64 numbers of 0 to 65535 with commas between, each once"
+        }
+        Refusal::WritesStarved => {
+            "--writes-starved takes 1 to 64 numbers of 0 to 65535 with commas between, each once"
+        }
+        Refusal::ReadTarget => {
+            "--read-target takes 1 to 64 numbers of 0 to 1000000 with commas between, each once"
+        }
+        Refusal::WriteTarget => {
+            "--write-target takes 1 to 64 numbers of 0 to 1000000 with commas between, each once"
+        }
+        Refusal::By => "--by takes misses or lateness",
     }
 }
 

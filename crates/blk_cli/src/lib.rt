@@ -4,20 +4,24 @@
 ghost use Rattle.std.specs.Prelude.{◌≡◌, ◌≢◌, ◌≤◌, IfOk, IfErr, map, string_bytes};
 ghost use Rattle.drafts.specs.Outputs.{stream_of};
 ghost use Rattle.blk_cli.specs.Said.{only, said_of, IsAlone};
-ghost use Rattle.blk_cli.specs.Gives.{Gives, GivesText, Fails, IsNoLoad, AnswersText, version_line};
+ghost use Rattle.blk_cli.specs.Gives.{Gives, GivesText, HasNoText, Fails, StartsNoThreads, AnswersText, version_line};
 ghost use Rattle.blk_cli.specs.Ends.{Answers, AskForTexts, IsWithout, line_without, status_without, status_with, SaysBeside, EndsSaying, EndsPut, RunEnds};
 
 mod checking;
 mod comparing;
+mod explaining;
 mod failure;
 mod importing;
 mod judging;
 mod lists;
 mod loading;
+mod picturing;
 mod scripts;
 mod traces;
+mod tuning;
 
 use crate::checking::over_proof;
+use crate::explaining::over_bytes;
 pub use crate::failure::Failure;
 use crate::importing::over_capture;
 use crate::judging::over_schedule;
@@ -25,9 +29,11 @@ use crate::lists::{Solving, over_list};
 use crate::loading::run_load;
 use crate::scripts::{Running, over_script};
 use crate::traces::{Telling, over_trace};
+use crate::tuning::over_trial;
 use blk_lists::Records;
 use blk_settings::Loads;
 pub use blk_sim::laws;
+use blk_tune::Progress;
 use blk_words::{Job, NoJob, VERSION, choose};
 use drafts::Output;
 use std::alloc::Global;
@@ -161,49 +167,55 @@ fn version(alloc: Global) -> Result<Vec<u8>, Failure>
     }
 }
 
-/// The text of a job that answers its text alone and is no load. Such a job is a row here: what it reads, and what is made of that.
+/// The text of a job that answers its text alone and starts no threads. Such a job is a row here: what it reads, and what is made of that.
 pub fn work<R: Read + Drop>(
     alloc: Global,
     job: Job,
     records: &mut Records<R>,
 ) -> Result<Vec<u8>, Failure>
     requires none_read { records.old.at ≡ 0 }
-    requires no_load { IsNoLoad job }
+    requires alone { StartsNoThreads job }
     requires of_text { AnswersText job }
     ensures text { IfOk result (λ text. GivesText job records.old.left text.items) }
-    ensures fails { IfErr result (Fails job records.old.left records.new.failed) }
+    ensures fails { IfErr result (HasNoText job records.old.left records.new.failed) }
 {
     match job {
         Job::Version => version(alloc),
         Job::Sim(sched) => over_script(alloc, Running::One(sched), records),
-        Job::Compare(lineup) => over_script(alloc, Running::Each(lineup), records),
+        Job::Compare(lineup, form) => over_script(alloc, Running::Each(lineup, form), records),
+        Job::Pictures(lineup) => over_script(alloc, Running::Drawn(lineup), records),
         Job::Migrate => over_trace(alloc, Telling::Whole, records),
         Job::Commands => over_trace(alloc, Telling::Commands, records),
-        Job::Late => over_trace(alloc, Telling::Late, records),
-        Job::Misses => over_trace(alloc, Telling::Misses, records),
-        Job::Spread => over_trace(alloc, Telling::Spread, records),
-        Job::Report => over_trace(alloc, Telling::Report, records),
+        Job::Late(form) => over_trace(alloc, Telling::Late(form), records),
+        Job::Misses(form) => over_trace(alloc, Telling::Misses(form), records),
+        Job::Spread(form) => over_trace(alloc, Telling::Spread(form), records),
+        Job::Report(form) => over_trace(alloc, Telling::Report(form), records),
+        Job::Picture => over_trace(alloc, Telling::Picture, records),
         Job::Oracle => over_list(alloc, Solving::Least, records),
         Job::Met => over_list(alloc, Solving::Most, records),
-        Job::Check => over_proof(alloc, records),
+        Job::Check(form) => over_proof(alloc, form, records),
         Job::Judge { each } => over_schedule(alloc, each, records),
         Job::Refuse(refusal) => Err(Failure::Words(refusal)),
         Job::Import(..) => unreachable!(),
+        Job::Explain => unreachable!(),
+        Job::Tune(..) => unreachable!(),
         Job::Load(..) => unreachable!(),
     }
 }
 
 /// What the program answers to the words of its command line, the first of which is its name, or why there is nothing.
-/// Nothing is written. Loads are run by `loads`, on the threads of `rt`.
-pub fn answer<L: Loads, T: Threads + Wait + Sync, R: Read + Drop>(
+/// Nothing is written to the outputs. Loads are run by `loads`, on the threads of `rt`, and so are trials, which tell `progress` how far they
+/// have come.
+pub fn answer<L: Loads, T: Threads + Wait + Sync, R: Read + Drop, P: Progress>(
     loads: &L,
     rt: &T,
     alloc: Global,
     words: &[String],
     records: &mut Records<R>,
+    progress: &mut P,
 ) -> Result<Answered, NoText>
     requires { records.old.at ≡ 0 }
-    ensures answers { IfOk result (λ answer. Answers (map string_bytes words.now) records.old.left (said_of answer)) }
+    ensures answers { IfOk result (λ answer. Answers (map string_bytes words.now) records.old.left records.old.bytes (said_of answer)) }
     ensures without { IfErr result (IsWithout (map string_bytes words.now) records.old.left records.new.failed) }
 {
     match choose(alloc, words) {
@@ -215,6 +227,14 @@ pub fn answer<L: Loads, T: Threads + Wait + Sync, R: Read + Drop>(
         }
         Ok(Job::Import(import)) => match over_capture(alloc, import, records) {
             Ok(answer) => Ok(answer),
+            Err(failure) => Err(NoText::Failure(failure)),
+        },
+        Ok(Job::Explain) => match over_bytes(alloc, records) {
+            Ok(answer) => Ok(answer),
+            Err(failure) => Err(NoText::Failure(failure)),
+        },
+        Ok(Job::Tune(tuning)) => match over_trial(rt, alloc, words, tuning, records, progress) {
+            Ok(text) => Ok(Answered::alone(text)),
             Err(failure) => Err(NoText::Failure(failure)),
         },
         Ok(job) => match work(alloc, job, records) {
@@ -245,8 +265,8 @@ pub fn put_out<W: Write, F: Write>(
 
 /// Runs the program on the words of its command line, the first of which is its name: reads the input from `records`, writes the
 /// output to `out`, and where there is none, or not all of it, a line on why to `faults`. Loads are run by `loads`, on the threads of
-/// `rt`. Answers how it ended.
-pub fn run<L: Loads, T: Threads + Wait + Sync, R: Read + Drop, W: Write, F: Write>(
+/// `rt`, and so are trials, which tell `progress` how far they have come. Answers how it ended.
+pub fn run<L: Loads, T: Threads + Wait + Sync, R: Read + Drop, W: Write, F: Write, P: Progress>(
     loads: &L,
     rt: &T,
     alloc: Global,
@@ -254,9 +274,10 @@ pub fn run<L: Loads, T: Threads + Wait + Sync, R: Read + Drop, W: Write, F: Writ
     records: &mut Records<R>,
     out: &mut Output<W>,
     faults: &mut Output<F>,
+    progress: &mut P,
 ) -> Ended
     requires { records.old.at ≡ 0 }
-    ensures ended { RunEnds (map string_bytes words.now) records.old.left records.new.failed (stream_of W.contents out.old) (stream_of W.contents out.new) (stream_of F.contents faults.old) (stream_of F.contents faults.new) result }
+    ensures ended { RunEnds (map string_bytes words.now) records.old.left records.old.bytes records.new.failed (stream_of W.contents out.old) (stream_of W.contents out.new) (stream_of F.contents faults.old) (stream_of F.contents faults.new) result }
     // nothing is written at status 2
     ensures unwritten { result.status ≡ 2 → out.new ≡ out.old }
     // where the words ask for a text alone: nothing is written at status 1 either, and nothing is said at status 0
@@ -264,7 +285,7 @@ pub fn run<L: Loads, T: Threads + Wait + Sync, R: Read + Drop, W: Write, F: Writ
     ensures quiet { AskForTexts (map string_bytes words.now) → result.status ≡ 0 → faults.new ≡ faults.old }
     ensures range { result.status ≤ 3 }
 {
-    match answer(loads, rt, alloc, words, records) {
+    match answer(loads, rt, alloc, words, records, progress) {
         Ok(answer) => put_out(&answer, out, faults),
         Err(none) => none.report(faults),
     }

@@ -1,26 +1,35 @@
 //! A load on the running layer.
 
-ghost use Rattle.std.specs.Prelude.{◌≡◌, IfOk, IfErr, string_bytes};
-ghost use Rattle.blk_cli.specs.Loading.{IsLoadText, IsLoadOf, IsUnloaded, load_lines};
+ghost use Rattle.std.specs.Prelude.{◌≡◌, IfOk, IfErr};
+ghost use Rattle.blk_cli.specs.Loading.{IsLoadText, IsLoadOf, IsUnloaded, account_in};
 
 use crate::failure::Failure;
+use blk_json::load_json;
 use blk_settings::{Load, Loaded, Loads, Sched, Settled, Unsettled};
 use blk_text::trace_text;
-use blk_words::Shown;
+use blk_words::{Form, Shown};
 use std::alloc::{AllocError, Global};
 use std::sync::Wait;
 use std::thread::Threads;
 
-/// The lines on what came of a load.
-fn lines_on(alloc: Global, settled: Settled) -> Result<String, AllocError>
-    ensures { IfOk result (λ lines. string_bytes lines ≡ load_lines settled.accepted settled.served settled.left) }
+/// What came of a load, in this form.
+fn account_text(alloc: Global, form: Form, settled: Settled) -> Result<Vec<u8>, AllocError>
+    ensures { IfOk result (λ text. text.items ≡ account_in form settled.accepted settled.served settled.left) }
 {
     let Settled {
         accepted,
         served,
         left,
     } = settled;
-    format!(in alloc; "accepted {accepted}\nserved {served}\nleft {left}\n")
+    match form {
+        Form::Lines => {
+            match format!(in alloc; "accepted {accepted}\nserved {served}\nleft {left}\n") {
+                Ok(lines) => Ok(lines.into_bytes()),
+                Err(refused) => Err(refused),
+            }
+        }
+        Form::Json => load_json(alloc, accepted, served, left),
+    }
 }
 
 /// The text of this of a load.
@@ -28,10 +37,7 @@ fn loaded_text(alloc: Global, shown: Shown, loaded: &Loaded) -> Result<Vec<u8>, 
     ensures { IfOk result (λ text. IsLoadText shown loaded.now.trace loaded.now.settled text.items) }
 {
     match shown {
-        Shown::Account => match lines_on(alloc, loaded.settled) {
-            Ok(lines) => Ok(lines.into_bytes()),
-            Err(refused) => Err(refused),
-        },
+        Shown::Account(form) => account_text(alloc, form, loaded.settled),
         Shown::Trace => trace_text(alloc, &loaded.trace),
     }
 }

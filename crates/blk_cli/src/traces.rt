@@ -4,16 +4,20 @@ ghost use Rattle.std.specs.Prelude.{◌≡◌, IfOk, IfErr};
 ghost use Rattle.blk_text.specs.TraceForm.{SpellsTrace, TraceFault};
 ghost use Rattle.blk_text.specs.TraceRecords.{IsTrace};
 ghost use Rattle.blk_cli.specs.Inputs.{Of, FailsOver};
-ghost use Rattle.blk_cli.specs.OfTraces.{IsTold, IsUntold};
+ghost use Rattle.blk_cli.specs.OfTraces.{IsTold, IsUntold, late_in, misses_in, spread_in, report_in};
 
 use crate::failure::Failure;
+use blk_json::{late_json, misses_json, report_json, spread_json};
 use blk_lists::{Records, commands_text};
+use blk_picture::picture;
 use blk_report::{
-    late, late_lines, misses, misses_lines, report, report_lines, services, spread, spread_lines,
+    LateCommand, Missed, Report, Spreads, late, late_lines, misses, misses_lines, report,
+    report_lines, services, spread, spread_lines,
 };
 use blk_text::{read_trace, trace_text};
 use blk_trace::Trace;
-use std::alloc::Global;
+use blk_words::Form;
+use std::alloc::{AllocError, Global};
 use std::io::Read;
 
 /// What is told of a trace.
@@ -24,13 +28,15 @@ pub enum Telling {
     /// Its command list.
     Commands,
     /// Which of its commands were late, and what the rounds that they waited went to.
-    Late,
+    Late(Form),
     /// How many were late, and how many had to be.
-    Misses,
+    Misses(Form),
     /// How long its commands waited and how late they were, by quantiles.
-    Spread,
+    Spread(Form),
     /// How far it fell short.
-    Report,
+    Report(Form),
+    /// Its picture.
+    Picture,
 }
 
 /// The command list of a trace, which has one where no event sets a depth.
@@ -64,38 +70,68 @@ fn whole_of(alloc: Global, trace: &Trace) -> Result<Vec<u8>, Failure>
     }
 }
 
+/// The late commands in this form.
+fn late_text(alloc: Global, form: Form, late: &[LateCommand]) -> Result<Vec<u8>, AllocError>
+    ensures { IfOk result (λ text. text.items ≡ late_in form late.now) }
+{
+    match form {
+        Form::Lines => late_lines(alloc, late),
+        Form::Json => late_json(alloc, late),
+    }
+}
+
 /// Which commands of a trace were late.
-fn late_of(alloc: Global, trace: &Trace) -> Result<Vec<u8>, Failure>
-    ensures text { IfOk result (λ text. IsTold Telling.Late trace.now text.items) }
-    ensures untold { IfErr result (IsUntold Telling.Late trace.now) }
+fn late_of(alloc: Global, form: Form, trace: &Trace) -> Result<Vec<u8>, Failure>
+    ensures text { IfOk result (λ text. IsTold (Telling.Late form) trace.now text.items) }
+    ensures untold { IfErr result (IsUntold (Telling.Late form) trace.now) }
 {
     let Ok(late) = late(trace) else {
         return Err(Failure::Memory);
     };
-    match late_lines(alloc, late.as_slice()) {
+    match late_text(alloc, form, late.as_slice()) {
         Ok(text) => Ok(text),
         Err(_) => Err(Failure::Memory),
+    }
+}
+
+/// The misses in this form.
+fn misses_text(alloc: Global, form: Form, misses: &Missed<Global>) -> Result<Vec<u8>, AllocError>
+    ensures { IfOk result (λ text. text.items ≡ misses_in form misses.now.tally misses.now.windows.items) }
+{
+    match form {
+        Form::Lines => misses_lines(alloc, misses),
+        Form::Json => misses_json(alloc, misses),
     }
 }
 
 /// How many commands of a trace were late.
-fn misses_of(alloc: Global, trace: &Trace) -> Result<Vec<u8>, Failure>
-    ensures text { IfOk result (λ text. IsTold Telling.Misses trace.now text.items) }
-    ensures untold { IfErr result (IsUntold Telling.Misses trace.now) }
+fn misses_of(alloc: Global, form: Form, trace: &Trace) -> Result<Vec<u8>, Failure>
+    ensures text { IfOk result (λ text. IsTold (Telling.Misses form) trace.now text.items) }
+    ensures untold { IfErr result (IsUntold (Telling.Misses form) trace.now) }
 {
     let Ok(missed) = misses(trace) else {
         return Err(Failure::Memory);
     };
-    match misses_lines(alloc, &missed) {
+    match misses_text(alloc, form, &missed) {
         Ok(text) => Ok(text),
         Err(_) => Err(Failure::Memory),
     }
 }
 
+/// The quantiles in this form.
+fn spread_text(alloc: Global, form: Form, spread: &Spreads) -> Result<Vec<u8>, AllocError>
+    ensures { IfOk result (λ text. text.items ≡ spread_in form spread.now) }
+{
+    match form {
+        Form::Lines => spread_lines(alloc, spread),
+        Form::Json => spread_json(alloc, spread),
+    }
+}
+
 /// How long the commands of a trace waited, and how late they were.
-fn spread_of(alloc: Global, trace: &Trace) -> Result<Vec<u8>, Failure>
-    ensures text { IfOk result (λ text. IsTold Telling.Spread trace.now text.items) }
-    ensures untold { IfErr result (IsUntold Telling.Spread trace.now) }
+fn spread_of(alloc: Global, form: Form, trace: &Trace) -> Result<Vec<u8>, Failure>
+    ensures text { IfOk result (λ text. IsTold (Telling.Spread form) trace.now text.items) }
+    ensures untold { IfErr result (IsUntold (Telling.Spread form) trace.now) }
 {
     let Ok(services) = services(trace) else {
         return Err(Failure::Memory);
@@ -103,21 +139,42 @@ fn spread_of(alloc: Global, trace: &Trace) -> Result<Vec<u8>, Failure>
     let Ok(spreads) = spread(alloc, services.as_slice()) else {
         return Err(Failure::Memory);
     };
-    match spread_lines(alloc, &spreads) {
+    match spread_text(alloc, form, &spreads) {
         Ok(text) => Ok(text),
         Err(_) => Err(Failure::Memory),
     }
 }
 
+/// The report in this form.
+fn report_text(alloc: Global, form: Form, report: &Report) -> Result<Vec<u8>, AllocError>
+    ensures { IfOk result (λ text. text.items ≡ report_in form report.now) }
+{
+    match form {
+        Form::Lines => report_lines(alloc, report),
+        Form::Json => report_json(alloc, report),
+    }
+}
+
 /// How far a trace fell short.
-fn report_of(alloc: Global, trace: &Trace) -> Result<Vec<u8>, Failure>
-    ensures text { IfOk result (λ text. IsTold Telling.Report trace.now text.items) }
-    ensures untold { IfErr result (IsUntold Telling.Report trace.now) }
+fn report_of(alloc: Global, form: Form, trace: &Trace) -> Result<Vec<u8>, Failure>
+    ensures text { IfOk result (λ text. IsTold (Telling.Report form) trace.now text.items) }
+    ensures untold { IfErr result (IsUntold (Telling.Report form) trace.now) }
 {
     let Ok(report) = report(trace) else {
         return Err(Failure::Memory);
     };
-    match report_lines(alloc, &report) {
+    match report_text(alloc, form, &report) {
+        Ok(text) => Ok(text),
+        Err(_) => Err(Failure::Memory),
+    }
+}
+
+/// The picture of a trace.
+fn picture_of(alloc: Global, trace: &Trace) -> Result<Vec<u8>, Failure>
+    ensures text { IfOk result (λ text. IsTold Telling.Picture trace.now text.items) }
+    ensures untold { IfErr result (IsUntold Telling.Picture trace.now) }
+{
+    match picture(alloc, trace) {
         Ok(text) => Ok(text),
         Err(_) => Err(Failure::Memory),
     }
@@ -132,10 +189,11 @@ fn told_of(alloc: Global, telling: Telling, trace: &Trace) -> Result<Vec<u8>, Fa
     match telling {
         Telling::Whole => whole_of(alloc, trace),
         Telling::Commands => list_of(alloc, trace),
-        Telling::Late => late_of(alloc, trace),
-        Telling::Misses => misses_of(alloc, trace),
-        Telling::Spread => spread_of(alloc, trace),
-        Telling::Report => report_of(alloc, trace),
+        Telling::Late(form) => late_of(alloc, form, trace),
+        Telling::Misses(form) => misses_of(alloc, form, trace),
+        Telling::Spread(form) => spread_of(alloc, form, trace),
+        Telling::Report(form) => report_of(alloc, form, trace),
+        Telling::Picture => picture_of(alloc, trace),
     }
 }
 

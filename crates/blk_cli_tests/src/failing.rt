@@ -26,25 +26,38 @@ const LISTED: &str = "blk-commands,1,1\n0,0,9\n1,0,0\n";
 const TABLE: &str =
     "sched     commands   waiting  greatest     least shortfall\nnone             2         0         1         0         1\ndeadline         2         0         0         0         0\nkyber            2         0         0         0         0\nbest deadline\n";
 
+/// The script under none alone, which issues the write first: the read is late, and had not to be.
+const TRIED: &str =
+    "sched,settings,commands,waiting,greatest,least,shortfall,late,unavoidable,avoidable,wait_p99_read,wait_p99_write\nnone,-,2,0,1,0,1,1,0,1,1,0\nbest none -\n";
+
 /// Three commands that are due in the round of their release.
 const COMMANDS: &str = "blk-commands,1,1\n1,0,0\n2,0,0\n3,0,0\n";
 
 /// Their certificate.
 const CERTIFICATE: &str = "blk-certificate,1,1,3\nbound,2,0,0\n1,0,0,0\n2,0,0,1\n3,0,0,2\n";
 
+/// What it proves, as JSON.
+const CHECKED: &str = "{\"lateness\":2,\"load\":3,\"carries\":2}\n";
+
+/// What the commands are as a text.
+const EXPLAINED: &str = "blk-commands, version 1, records 4\ntaken by oracle\n";
+
 /// The words of a command line, with an input and its output.
 type Run<'a> = (&'a [&'a str], &'a str, &'a str);
 
 /// Each subcommand, with an input and its output.
-fn good_runs<'a>() -> [Run<'a>; 7] {
+fn good_runs<'a>() -> [Run<'a>; 10] {
     [
         (&["sim"], SCRIPT, TRACE),
         (&["compare"], SCRIPT, TABLE),
+        (&["tune", "--sched", "none"], SCRIPT, TRIED),
         (&["migrate"], OLD_TRACE, TRACE),
         (&["commands"], OLD_TRACE, LISTED),
         (&["oracle"], COMMANDS, CERTIFICATE),
         (&["oracle", "--trace"], TRACE, REPORT),
         (&["check"], CERTIFICATE, "ok lateness 2 load 3 carries 2\n"),
+        (&["check", "--json"], CERTIFICATE, CHECKED),
+        (&["explain"], COMMANDS, EXPLAINED),
     ]
 }
 

@@ -3,6 +3,7 @@
 use blk_cli::run;
 use blk_lists::Records;
 use blk_settings::{Load, LoadFault, Loaded, Loads, Sched, Unsettled};
+use blk_tune::Quiet;
 use drafts::Output;
 use std::alloc::Global;
 use std::io;
@@ -113,6 +114,7 @@ pub fn status_of<T: Abort + Threads + Wait + Sync, R: Read + Drop, W: Write, F: 
         &mut Records::new(alloc, reader),
         &mut Output::new(out),
         &mut Output::new(faults),
+        &mut Quiet,
     )
     .status
 }

@@ -22,6 +22,7 @@ use Rattle.blk_online_sim.proofs.Running.{trace_holds, least_late, meets_most}
 use Rattle.blk_online_sim.proofs.Telling as telling
 use Rattle.blk_cli.specs.Gives.{GivesText}
 use Rattle.blk_cli.specs.OfTraces.{IsReportText, IsMissesText}
+use Rattle.blk_words.specs.declared.words.Form.TheVariants as form
 use Rattle.blk_words.specs.declared.words.Job.TheVariants as job
 use Rattle.blk_online_cli.specs.Told.{rows_in, SpellByRounds, AskAlone, EndsWell, ReportsNoShortfall, CountsNoneAvoidable}
 use Rattle.blk_online_cli.proofs.Ending.{wrote}
@@ -46,19 +47,19 @@ read_holds late_last bytes traced u by g read =
     subst (λ (s : Setup). AtTicks (HoldsNow late_last s) u.events) once.1
     (subst (λ (es : List Happened). AtTicks (HoldsNow late_last trace.setup) es) once.2 (held late_last bytes traced by g))
 
-none_short : (u : Traced) (text : List ℕ) → (t : IsReportText u text) → IsTrace u → AtTicks (HoldsNow false u.setup) u.events → (t.report.commands ≡ 0) ⊎ (t.report.shortfall ≡ Some (pos 0))
+none_short : (u : Traced) (text : List ℕ) → (t : IsReportText form.Lines u text) → IsTrace u → AtTicks (HoldsNow false u.setup) u.events → (t.report.commands ≡ 0) ⊎ (t.report.shortfall ≡ Some (pos 0))
 none_short u text t is holds = elim (telling.no_shortfall u.setup u.events t.report (least_late false u.setup u.events is.legal refl holds) t.is_report) [
   | inl none ↦ inl (t.is_report.commands ∙ ap length none)
   | inr zero ↦ inr zero
 ]
 
-none_avoidable : (u : Traced) (text : List ℕ) → (t : IsMissesText u text) → IsTrace u → AtTicks (HoldsNow true u.setup) u.events → t.tally.avoidable ≡ 0
+none_avoidable : (u : Traced) (text : List ℕ) → (t : IsMissesText form.Lines u text) → IsTrace u → AtTicks (HoldsNow true u.setup) u.events → t.tally.avoidable ≡ 0
 none_avoidable u text t is holds =
     telling.none_avoidable u.setup u.events t.tally.commands t.tally.late t.tally.unavoidable t.tally.avoidable t.windows is.legal (meets_most true u.setup u.events is.legal refl holds) t.is_tallied.misses
 
 -- the report, and the misses, of what a simulation gives
 
-pub reports : (bytes traced text : List ℕ) (old new : Stream) → SpellByRounds bytes → GivesText (job.Sim (sched.Earliest false)) (Some (rows_in bytes)) traced → GivesText job.Report (Some (rows_in traced)) text → IsWritten text old new
+pub reports : (bytes traced text : List ℕ) (old new : Stream) → SpellByRounds bytes → GivesText (job.Sim (sched.Earliest false)) (Some (rows_in bytes)) traced → GivesText (job.Report form.Lines) (Some (rows_in traced)) text → IsWritten text old new
     → ReportsNoShortfall traced old new
 reports bytes traced text old new by g told wrote = record {
   trace = told.0;
@@ -69,7 +70,7 @@ reports bytes traced text old new by g told wrote = record {
   none_short = none_short told.0 text told.2 (traces.spelled_legal (rows_in traced) told.0 told.1) (read_holds false bytes traced told.0 by g told.1);
 }
 
-pub misses : (bytes traced text : List ℕ) (old new : Stream) → SpellByRounds bytes → GivesText (job.Sim (sched.Earliest true)) (Some (rows_in bytes)) traced → GivesText job.Misses (Some (rows_in traced)) text → IsWritten text old new
+pub misses : (bytes traced text : List ℕ) (old new : Stream) → SpellByRounds bytes → GivesText (job.Sim (sched.Earliest true)) (Some (rows_in bytes)) traced → GivesText (job.Misses form.Lines) (Some (rows_in traced)) text → IsWritten text old new
     → CountsNoneAvoidable traced old new
 misses bytes traced text old new by g told wrote = record {
   trace = told.0;
@@ -87,18 +88,18 @@ taken before traced text one two e f w =
     sym (append_cancel_left before traced text own)
 
 -- a run that reads what another wrote
-pub reports_again : (words again : List (List ℕ)) (bytes before traced : List ℕ) (one two old new : Stream) → AskAlone words (job.Sim (sched.Earliest false)) → AskAlone again job.Report → SpellByRounds bytes
+pub reports_again : (words again : List (List ℕ)) (bytes before traced : List ℕ) (one two old new : Stream) → AskAlone words (job.Sim (sched.Earliest false)) → AskAlone again (job.Report form.Lines) → SpellByRounds bytes
     → EndsWell words bytes one two → one.held ≡ Some before → two.held ≡ Some (before ++ traced) → EndsWell again traced old new → ReportsNoShortfall traced old new
 reports_again words again bytes before traced one two old new alone alone_again by run e f second =
-    let w = wrote (job.Sim (sched.Earliest false)) (λ i s g. g.0) words bytes one two alone run in
+    let w = wrote (job.Sim (sched.Earliest false)) (λ w i b s g. g.0) words bytes one two alone run in
     let g = subst (λ (t : List ℕ). GivesText (job.Sim (sched.Earliest false)) (Some (rows_in bytes)) t) (taken before traced w.0 one two e f w.2) w.1 in
-    let t = wrote job.Report (λ i s g. g.0) again traced old new alone_again second in
+    let t = wrote (job.Report form.Lines) (λ w i b s g. g.0) again traced old new alone_again second in
     reports bytes traced t.0 old new by g t.1 t.2
 
-pub misses_again : (words again : List (List ℕ)) (bytes before traced : List ℕ) (one two old new : Stream) → AskAlone words (job.Sim (sched.Earliest true)) → AskAlone again job.Misses → SpellByRounds bytes
+pub misses_again : (words again : List (List ℕ)) (bytes before traced : List ℕ) (one two old new : Stream) → AskAlone words (job.Sim (sched.Earliest true)) → AskAlone again (job.Misses form.Lines) → SpellByRounds bytes
     → EndsWell words bytes one two → one.held ≡ Some before → two.held ≡ Some (before ++ traced) → EndsWell again traced old new → CountsNoneAvoidable traced old new
 misses_again words again bytes before traced one two old new alone alone_again by run e f second =
-    let w = wrote (job.Sim (sched.Earliest true)) (λ i s g. g.0) words bytes one two alone run in
+    let w = wrote (job.Sim (sched.Earliest true)) (λ w i b s g. g.0) words bytes one two alone run in
     let g = subst (λ (t : List ℕ). GivesText (job.Sim (sched.Earliest true)) (Some (rows_in bytes)) t) (taken before traced w.0 one two e f w.2) w.1 in
-    let t = wrote job.Misses (λ i s g. g.0) again traced old new alone_again second in
+    let t = wrote (job.Misses form.Lines) (λ w i b s g. g.0) again traced old new alone_again second in
     misses bytes traced t.0 old new by g t.1 t.2

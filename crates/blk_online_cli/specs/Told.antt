@@ -6,6 +6,7 @@ use Rattle.blk_lists.specs.Sources.{Row}
 use Rattle.blk_trace.specs.Traces.{Traced}
 use Rattle.blk_text.specs.Script.{Scripted, SpellsScript}
 use Rattle.blk_text.specs.TraceForm.{SpellsTrace}
+use Rattle.blk_words.specs.declared.words.Form.TheVariants as form
 use Rattle.blk_words.specs.declared.words.Job.{Job}
 use Rattle.blk_words.specs.Asked.{Asks}
 use Rattle.blk_cli.specs.declared.Ended.{Ended}
@@ -31,7 +32,7 @@ pub record EndsWell (words : List (List ℕ)) (bytes : List ℕ) (old new : Stre
   pub faults_old : Stream
   pub faults_new : Stream
   pub ended : Ended
-  pub runs : RunEnds words (Some (rows_in bytes)) read_failed old new faults_old faults_new ended
+  pub runs : RunEnds words (Some (rows_in bytes)) (Some bytes) read_failed old new faults_old faults_new ended
   pub good : ended.status ≡ 0
 
 -- the report of the trace that the bytes spell was written: its shortfall is 0, or there are no commands
@@ -39,7 +40,7 @@ pub record ReportsNoShortfall (bytes : List ℕ) (old new : Stream) : Type 0 whe
   pub trace : Traced
   pub text : List ℕ
   pub spelled : SpellsTrace (rows_in bytes) trace
-  pub is_text : IsReportText trace text
+  pub is_text : IsReportText form.Lines trace text
   pub wrote : IsWritten text old new
   pub none_short : (is_text.report.commands ≡ 0) ⊎ (is_text.report.shortfall ≡ Some (pos 0))
 
@@ -48,7 +49,7 @@ pub record CountsNoneAvoidable (bytes : List ℕ) (old new : Stream) : Type 0 wh
   pub trace : Traced
   pub text : List ℕ
   pub spelled : SpellsTrace (rows_in bytes) trace
-  pub is_text : IsMissesText trace text
+  pub is_text : IsMissesText form.Lines trace text
   pub wrote : IsWritten text old new
   pub none_avoidable : is_text.tally.avoidable ≡ 0
 

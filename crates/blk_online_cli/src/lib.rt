@@ -9,8 +9,9 @@ ghost use Rattle.blk_online_cli.specs.Told.{SpellByRounds, AskAlone, EndsWell, R
 use blk_cli::{Ended, answer, run};
 use blk_lists::Records;
 use blk_settings::{Loads, Sched};
-use blk_words::Job;
+use blk_tune::Quiet;
 use blk_words::asking::plain_lines;
+use blk_words::{Form, Job};
 use drafts::Output;
 use std::alloc::{AllocError, Global};
 use std::io::{Read, Write};
@@ -24,7 +25,7 @@ use std::thread::Threads;
 /// A law of [`run`]: it does nothing when it runs, and a caller has its clause.
 pub fn law_of_reports()
     ensures { (words again : List (List ℕ)) → (script before trace : List ℕ) → (one two old new : Stream)
-        → AskAlone words (Job.Sim (Sched.Earliest false)) → AskAlone again Job.Report
+        → AskAlone words (Job.Sim (Sched.Earliest false)) → AskAlone again (Job.Report Form.Lines)
         → SpellByRounds script → EndsWell words script one two → one.held ≡ Some before → two.held ≡ Some (before ++ trace)
         → EndsWell again trace old new → ReportsNoShortfall trace old new }
 {}
@@ -34,7 +35,7 @@ pub fn law_of_reports()
 /// A law of [`run`]: it does nothing when it runs, and a caller has its clause.
 pub fn law_of_misses()
     ensures { (words again : List (List ℕ)) → (script before trace : List ℕ) → (one two old new : Stream)
-        → AskAlone words (Job.Sim (Sched.Earliest true)) → AskAlone again Job.Misses
+        → AskAlone words (Job.Sim (Sched.Earliest true)) → AskAlone again (Job.Misses Form.Lines)
         → SpellByRounds script → EndsWell words script one two → one.held ≡ Some before → two.held ≡ Some (before ++ trace)
         → EndsWell again trace old new → CountsNoneAvoidable trace old new }
 {}
@@ -93,12 +94,21 @@ pub fn report_of_earliest<L: Loads, T: Threads + Wait + Sync, R: Read + Drop, W:
     plain_lines();
     let first = to_simulate(alloc, false)?;
     let second = to_report(alloc)?;
-    let traced = match answer(loads, rt, alloc, first.as_slice(), records) {
+    let traced = match answer(loads, rt, alloc, first.as_slice(), records, &mut Quiet) {
         Ok(traced) => traced,
         Err(none) => return Ok(none.report(faults)),
     };
     let mut read = Records::new(alloc, traced.text.as_slice());
-    Ok(run(loads, rt, alloc, second.as_slice(), &mut read, out, faults))
+    Ok(run(
+        loads,
+        rt,
+        alloc,
+        second.as_slice(),
+        &mut read,
+        out,
+        faults,
+        &mut Quiet,
+    ))
 }
 
 /// `blk sim --sched earliest --late-last`, and `blk misses` on what that answers: of a script by rounds none of the misses is
@@ -118,10 +128,19 @@ pub fn misses_of_late_last<L: Loads, T: Threads + Wait + Sync, R: Read + Drop, W
     plain_lines();
     let first = to_simulate(alloc, true)?;
     let second = to_count(alloc)?;
-    let traced = match answer(loads, rt, alloc, first.as_slice(), records) {
+    let traced = match answer(loads, rt, alloc, first.as_slice(), records, &mut Quiet) {
         Ok(traced) => traced,
         Err(none) => return Ok(none.report(faults)),
     };
     let mut read = Records::new(alloc, traced.text.as_slice());
-    Ok(run(loads, rt, alloc, second.as_slice(), &mut read, out, faults))
+    Ok(run(
+        loads,
+        rt,
+        alloc,
+        second.as_slice(),
+        &mut read,
+        out,
+        faults,
+        &mut Quiet,
+    ))
 }

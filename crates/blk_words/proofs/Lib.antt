@@ -1,3 +1,4 @@
 pub mod Lines
 pub mod Plain
+mod Listed
 mod Timed

@@ -2,7 +2,8 @@
 use Rattle.std.proofs.Common.{◌≡◌, ◌∙◌, List, [], ◌∷◌, Some, None, Option, box_value, option_map, ap, sym, subst, refl, codes, true, false, cond, inl, inr, ℕ, zero, suc, ◌+◌, ◌<◌, ◌^◌, ◌++◌, arith, length, map, take, get_or}
 use Rattle.std.proofs.lemmas.List.Sums.{fold-append}
 use Rattle.std.specs.Prelude.{◌≢◌, Bool, Result, Ok, Err, IfOk, find, fold, option_and_then, if◌then◌else◌}
-use Rattle.std.specs.Option.{option_map_or}
+use Rattle.std.specs.Option.{option_map_or, option_or}
+use Rattle.std.specs.Result.{result_ok}
 use Rattle.std.specs.Str.{bytes_eq}
 use Rattle.std.specs.Str.Parse.{IsNumeral, ParsesUnsigned, digits_value, without_leading_plus}
 use Rattle.clap.specs.ValueTests.{accepts}
@@ -22,11 +23,14 @@ use Rattle.blk_deadline.specs.declared.Tunables.{Tunables}
 use Rattle.blk_kyber.specs.declared.Targets.{Targets}
 use Rattle.blk_settings.specs.Rows.{name_of}
 use Rattle.blk_words.specs.declared.table.Makes.{Makes}
-use Rattle.blk_words.specs.Line.{Names, AreSchedulers, Subcommand, topmost, table, with_one, blk_app}
+use Rattle.blk_words.specs.Line.{Names, AreSchedulers, Subcommand, topmost, run_table, other_table, table, with_one, blk_app}
 use Rattle.blk_words.specs.declared.words.Job.{Job}
 use Rattle.blk_words.specs.declared.words.Job.TheVariants as job
 use Rattle.blk_words.specs.Times.{number_in}
-use Rattle.blk_words.specs.Asked.{Asks, AreFaulty, NameNone, is_flagged, tunables_of, targets_of, scheds_of, sched_named, sched_of, job_made, job_of, job_read}
+use Rattle.blk_grid.specs.Rows.{Gridded}
+use Rattle.blk_words.specs.declared.words.Refusal.{Refusal}
+use Rattle.blk_words.specs.declared.words.Written.TheVariants as written
+use Rattle.blk_words.specs.Asked.{Asks, AsksGrid, unscripted, written_with, grid_given, grid_read, AreFaulty, NameNone, is_flagged, tunables_of, targets_of, scheds_of, sched_named, sched_of, job_made, job_of, job_read}
 
 simple : (names : Names) → is_simple (blk_app names) ≡ true
 simple names = refl
@@ -211,7 +215,56 @@ pub adds_rule : (x a b : App) (p q : Rule) → x ≡ with_rule a p → a ≡ b �
 adds_rule x a b p q e f g = e ∙ ap (λ (y : App). with_rule y p) f ∙ ap (λ (r : Rule). with_rule b r) g
 
 -- the command line of the program, by its subcommands
-pub blk_made : {E : Type 0} (r : Result Command E) (names : Names) (a : App) (subs : List Subcommand) → AreSchedulers names → a ≡ topmost (new_app (codes "blk")) → subs ≡ table names
-    → IfOk r (λ c. app_of c ≡ fold with_one a subs) → IfOk r (λ c. (n : Names) × AreSchedulers n × (app_of c ≡ blk_app n))
-blk_made (Ok c) names a subs are e f h = (names, are, h ∙ ap (λ (b : App). fold with_one b subs) e ∙ ap (fold with_one (topmost (new_app (codes "blk")))) f)
-blk_made (Err x) names a subs are e f h = tt
+pub blk_made : (c : Command) (names : Names) (a b : App) (xs ys : List Subcommand) → AreSchedulers names → a ≡ topmost (new_app (codes "blk")) → xs ≡ run_table names → ys ≡ other_table names
+    → b ≡ fold with_one a xs → app_of c ≡ fold with_one b ys → (n : Names) × AreSchedulers n × (app_of c ≡ blk_app n)
+blk_made c names a b xs ys are e f g first second =
+    let base : App = topmost (new_app (codes "blk")) in
+    let own : b ≡ fold with_one base (run_table names) = first ∙ ap (λ (x : App). fold with_one x xs) e ∙ ap (fold with_one base) f in
+    let all : app_of c ≡ fold with_one (fold with_one base (run_table names)) (other_table names) =
+    second ∙ ap (λ (x : App). fold with_one x ys) own ∙ ap (fold with_one (fold with_one base (run_table names))) g in
+    (names, are, all ∙ sym (fold-append with_one base (run_table names) (other_table names)))
+
+-- what is found among some and others
+first_or : {X : Type 0} (b : Bool) (x : X) (o p q : Option X) → p ≡ option_or o q → cond b (Some x) p ≡ option_or (cond b (Some x) o) q
+first_or true x o p q e = refl
+first_or false x o p q e = e
+
+find_append : {X : Type 0} (test : X → Bool) (xs ys : List X) → find test (xs ++ ys) ≡ option_or (find test xs) (find test ys)
+find_append test [] ys = refl
+find_append test (x ∷ xs) ys = first_or (test x) x (find test xs) (find test (xs ++ ys)) (find test ys) (find_append test xs ys)
+
+map_or : {X Y : Type 0} (g : X → Y) (o p : Option X) → option_map g (option_or o p) ≡ option_or (option_map g o) (option_map g p)
+map_or g None p = refl
+map_or g (Some x) p = refl
+
+pub named_in : {X Y : Type 0} (g : X → Y) (test : X → Bool) (xs ys : List X) (a b : Option Y) → a ≡ option_map g (find test xs) → b ≡ option_map g (find test ys) → option_or a b ≡ option_map g (find test (xs ++ ys))
+named_in g test xs ys a b e f =
+    ap (λ o. option_or o b) e ∙ ap (option_or (option_map g (find test xs))) f ∙ sym (map_or g (find test xs) (find test ys)) ∙ ap (option_map g) (sym (find_append test xs ys))
+
+-- words that were parsed ask for the grid of their lists
+pub asks_grid_by : (names : Names) (a : App) (words : List Text) (m : ArgMatches) (g : Gridded) → AreSchedulers names → a ≡ blk_app names → HasMatchesOf a words m
+    → (is_simple_and_free a ≡ true → fault_of a words ≡ []) → option_and_then (λ p. result_ok (grid_given p.1)) (subcommand_rows_of m) ≡ Some g → AsksGrid words g
+asks_grid_by names a words m g are e has kinds is =
+    let h = (rw e at has) (simple names) in
+    let f : fault_of (blk_app names) words ≡ [] = (rw e at kinds) (free names) in
+    let read : option_and_then (λ p. result_ok (grid_given p.1)) (subcommand_rows_of m) ≡ grid_read names words =
+    ap (option_and_then (λ p. result_ok (grid_given p.1))) {y = subcommand_of (blk_app names) words} h.1 in
+    (names, are, f, sym read ∙ is)
+
+-- what an Ok is, where it is something else
+pub ok_so : {X E : Type 0} (r : Result X E) (P Q : X → Type 0) → ((x : X) → P x → Q x) → IfOk r P → IfOk r Q
+ok_so (Ok x) P Q f h = f x h
+ok_so (Err e) P Q f h = h
+
+-- what is written of an import without a script
+pub a_table : (round : Option ℕ) (r : Result (Option ℕ) Refusal) (script a table b summary c : Bool) (depth d : Option ℕ) → Ok round ≡ r → script ≡ a → script ≡ false → table ≡ b → table ≡ true → summary ≡ c → summary ≡ false → depth ≡ d
+    → unscripted written.Table round depth ≡ written_with a b c d r
+a_table round r script a table b summary c depth d e f is g has h so i = rw (← e, ← f, is, ← g, has, ← h, so, ← i) refl
+
+pub a_summary : (round : Option ℕ) (r : Result (Option ℕ) Refusal) (script a table b summary c : Bool) (depth d : Option ℕ) → Ok round ≡ r → script ≡ a → script ≡ false → table ≡ b → table ≡ false → summary ≡ c → summary ≡ true → depth ≡ d
+    → unscripted written.Summary round depth ≡ written_with a b c d r
+a_summary round r script a table b summary c depth d e f is g has h so i = rw (← e, ← f, is, ← g, has, ← h, so, ← i) refl
+
+pub a_schedule : (round : Option ℕ) (r : Result (Option ℕ) Refusal) (script a table b summary c : Bool) (depth d : Option ℕ) → Ok round ≡ r → script ≡ a → script ≡ false → table ≡ b → table ≡ false → summary ≡ c → summary ≡ false → depth ≡ d
+    → unscripted written.Schedule round depth ≡ written_with a b c d r
+a_schedule round r script a table b summary c depth d e f is g has h so i = rw (← e, ← f, is, ← g, has, ← h, so, ← i) refl

@@ -7,11 +7,14 @@ use Rattle.clap.proofs.OnLiterals.{clap_on_literals}
 use Rattle.blk_settings.specs.declared.sched.Sched.TheVariants as sched
 use Rattle.blk_words.specs.declared.words.Job.{Job}
 use Rattle.blk_words.specs.declared.words.Job.TheVariants as job
+use Rattle.blk_words.specs.declared.words.Form.TheVariants as form
 use Rattle.blk_words.specs.declared.words.Shown.TheVariants as shown
 use Rattle.blk_words.specs.declared.words.Refusal.TheVariants as refusal
 use Rattle.blk_words.specs.declared.words.Written.TheVariants as written
 use Rattle.blk_words.specs.Line.{Names, AreSchedulers, blk_app}
-use Rattle.blk_words.specs.Asked.{Asks, job_read}
+use Rattle.blk_grid.specs.declared.By.TheVariants as by
+use Rattle.blk_grid.specs.Rows.{Gridded, whole}
+use Rattle.blk_words.specs.Asked.{Asks, AsksGrid, grid_read, job_read}
 
 -- the names of the schedulers, at some places
 abbrev at_places : ℕ × ℕ → ℕ × ℕ → ℕ × ℕ → ℕ × ℕ → ℕ × ℕ → Names
@@ -61,6 +64,52 @@ asks_nothing words h j a =
     let g = any_names (IsReadAsNothing words) h a.0 a.1 in
     elim a.2 [ inl x ↦ let e : Some j ≡ None = sym x.1 ∙ g.1 in cc e | inr x ↦ absurd (rw g.0 at x.0) ]
 
+pub tune_line : (name : Text) (p q r s t : ℕ × ℕ) → IsReadAs (name ∷ codes "tune" ∷ []) (job.Tune (record { by = by.Misses; top = None; threads = None; form = form.Lines })) (at_places p q r s t)
+unfolding clap_on_literals
+tune_line name p q r s t = (refl, refl)
+
+pub tune_so_line : (name : Text) (p q r s t : ℕ × ℕ) → IsReadAs (name ∷ codes "tune" ∷ codes "--sched" ∷ codes "deadline,none" ∷ codes "--fifo-batch" ∷ codes "16,1" ∷ codes "--by" ∷ codes "lateness" ∷ codes "--top" ∷ codes "5" ∷ codes "--threads" ∷ codes "4" ∷ []) (job.Tune (record { by = by.Lateness; top = Some 5; threads = Some 4; form = form.Lines })) (at_places p q r s t)
+unfolding clap_on_literals
+tune_so_line name p q r s t = (refl, refl)
+
+pub tune_json_line : (name : Text) (p q r s t : ℕ × ℕ) → IsReadAs (name ∷ codes "tune" ∷ codes "--json" ∷ []) (job.Tune (record { by = by.Misses; top = None; threads = None; form = form.Json })) (at_places p q r s t)
+unfolding clap_on_literals
+tune_json_line name p q r s t = (refl, refl)
+
+pub tune_unknown_line : (name : Text) (p q r s t : ℕ × ℕ) → IsReadAs (name ∷ codes "tune" ∷ codes "--sched" ∷ codes "none,cfq" ∷ []) (job.Refuse refusal.Scheds) (at_places p q r s t)
+unfolding clap_on_literals
+tune_unknown_line name p q r s t = (refl, refl)
+
+pub tune_no_list_line : (name : Text) (p q r s t : ℕ × ℕ) → IsReadAs (name ∷ codes "tune" ∷ codes "--fifo-batch" ∷ codes "1,x" ∷ []) (job.Refuse refusal.FifoBatch) (at_places p q r s t)
+unfolding clap_on_literals
+tune_no_list_line name p q r s t = (refl, refl)
+
+pub tune_twice_line : (name : Text) (p q r s t : ℕ × ℕ) → IsReadAs (name ∷ codes "tune" ∷ codes "--read-target" ∷ codes "2,5,2" ∷ []) (job.Refuse refusal.ReadTarget) (at_places p q r s t)
+unfolding clap_on_literals
+tune_twice_line name p q r s t = (refl, refl)
+
+pub tune_by_what_line : (name : Text) (p q r s t : ℕ × ℕ) → IsReadAs (name ∷ codes "tune" ∷ codes "--by" ∷ codes "wait" ∷ []) (job.Refuse refusal.By) (at_places p q r s t)
+unfolding clap_on_literals
+tune_by_what_line name p q r s t = (refl, refl)
+
+-- a line is read as a grid, whatever the places; then it asks for that grid alone
+abbrev pub IsReadAsGrid : List Text → Gridded → Names → Type 0
+IsReadAsGrid words g names = (fault_of (blk_app names) words ≡ []) × (grid_read names words ≡ Some g)
+
+pub asks_grid_alone : (words : List Text) (k : Gridded) → ((p q r s t : ℕ × ℕ) → IsReadAsGrid words k (at_places p q r s t)) → (g : Gridded) → AsksGrid words g ↔ (g ≡ k)
+asks_grid_alone words k h g = (
+  λ a. let f = any_names (IsReadAsGrid words k) h a.0 a.1 in let e : Some g ≡ Some k = sym a.3 ∙ f.1 in cc e,
+  λ e. let z : ℕ × ℕ = (0, 0) in let f = h z z z z z in (at_places z z z z z, refl, f.0, rw e f.1),
+)
+
+pub whole_grid_line : (name : Text) (p q r s t : ℕ × ℕ) → IsReadAsGrid (name ∷ codes "tune" ∷ []) (whole) (at_places p q r s t)
+unfolding clap_on_literals
+whole_grid_line name p q r s t = (refl, refl)
+
+pub own_grid_line : (name : Text) (p q r s t : ℕ × ℕ) → IsReadAsGrid (name ∷ codes "tune" ∷ codes "--sched" ∷ codes "deadline,none" ∷ codes "--fifo-batch" ∷ codes "16,1" ∷ codes "--writes-starved" ∷ codes "3" ∷ codes "--write-target" ∷ codes "7,0" ∷ []) (record { has_none = true; has_earliest = false; has_deadline = true; has_kyber = false; batches = 16 ∷ 1 ∷ []; starved = 3 ∷ []; reads = 1 ∷ 2 ∷ 5 ∷ 10 ∷ 20 ∷ 50 ∷ 100 ∷ []; writes = 7 ∷ 0 ∷ [] }) (at_places p q r s t)
+unfolding clap_on_literals
+own_grid_line name p q r s t = (refl, refl)
+
 pub import_line : (name : Text) (p q r s t : ℕ × ℕ) → IsReadAs (name ∷ codes "import" ∷ []) (job.Import (record { read_expire = 500_000_000; write_expire = 5_000_000_000; from_queue = false; skip = 0; first = None; written = written.Schedule })) (at_places p q r s t)
 unfolding clap_on_literals
 import_line name p q r s t = (refl, refl)
@@ -105,17 +154,29 @@ pub judge_each_line : (name : Text) (p q r s t : ℕ × ℕ) → IsReadAs (name 
 unfolding clap_on_literals
 judge_each_line name p q r s t = (refl, refl)
 
-pub load_line : (name : Text) (p q r s t : ℕ × ℕ) → IsReadAs (name ∷ codes "load" ∷ []) (job.Load sched.None (record { submitters = 2; workers = 2; bios = 1000; depth = 8; busy = None; service = 0 }) shown.Account) (at_places p q r s t)
+pub explain_line : (name : Text) (p q r s t : ℕ × ℕ) → IsReadAs (name ∷ codes "explain" ∷ []) job.Explain (at_places p q r s t)
+unfolding clap_on_literals
+explain_line name p q r s t = (refl, refl)
+
+pub load_line : (name : Text) (p q r s t : ℕ × ℕ) → IsReadAs (name ∷ codes "load" ∷ []) (job.Load sched.None (record { submitters = 2; workers = 2; bios = 1000; depth = 8; busy = None; service = 0 }) (shown.Account form.Lines)) (at_places p q r s t)
 unfolding clap_on_literals
 load_line name p q r s t = (refl, refl)
 
-pub busy_line : (name : Text) (p q r s t : ℕ × ℕ) → IsReadAs (name ∷ codes "load" ∷ codes "--busy" ∷ codes "3" ∷ []) (job.Load sched.None (record { submitters = 2; workers = 2; bios = 1000; depth = 8; busy = Some 3; service = 0 }) shown.Account) (at_places p q r s t)
+pub load_json_line : (name : Text) (p q r s t : ℕ × ℕ) → IsReadAs (name ∷ codes "load" ∷ codes "--json" ∷ []) (job.Load sched.None (record { submitters = 2; workers = 2; bios = 1000; depth = 8; busy = None; service = 0 }) (shown.Account form.Json)) (at_places p q r s t)
+unfolding clap_on_literals
+load_json_line name p q r s t = (refl, refl)
+
+pub busy_line : (name : Text) (p q r s t : ℕ × ℕ) → IsReadAs (name ∷ codes "load" ∷ codes "--busy" ∷ codes "3" ∷ []) (job.Load sched.None (record { submitters = 2; workers = 2; bios = 1000; depth = 8; busy = Some 3; service = 0 }) (shown.Account form.Lines)) (at_places p q r s t)
 unfolding clap_on_literals
 busy_line name p q r s t = (refl, refl)
 
 pub traced_line : (name : Text) (p q r s t : ℕ × ℕ) → IsReadAs (name ∷ codes "load" ∷ codes "--trace" ∷ codes "--service" ∷ codes "100" ∷ []) (job.Load sched.None (record { submitters = 2; workers = 2; bios = 1000; depth = 8; busy = None; service = 100 }) shown.Trace) (at_places p q r s t)
 unfolding clap_on_literals
 traced_line name p q r s t = (refl, refl)
+
+pub traced_json_line : (name : Text) (p q r s t : ℕ × ℕ) → IsReadAs (name ∷ codes "load" ∷ codes "--trace" ∷ codes "--json" ∷ []) (job.Refuse refusal.TraceAndJson) (at_places p q r s t)
+unfolding clap_on_literals
+traced_json_line name p q r s t = (refl, refl)
 
 pub sim_line : (name : Text) (p q r s t : ℕ × ℕ) → IsReadAs (name ∷ codes "sim" ∷ []) (job.Sim sched.None) (at_places p q r s t)
 unfolding clap_on_literals
@@ -151,17 +212,21 @@ pub target_line : (name : Text) (p q r s t : ℕ × ℕ) → IsReadAs (name ∷ 
 unfolding clap_on_literals
 target_line name p q r s t = (refl, refl)
 
-pub compare_line : (name : Text) (p q r s t : ℕ × ℕ) → IsReadAs (name ∷ codes "compare" ∷ []) (job.Compare (record { deadline = record { fifo_batch = 16; writes_starved = 2; front_merges = true }; kyber = record { read = 2; write = 10 }; earliest = None })) (at_places p q r s t)
+pub compare_line : (name : Text) (p q r s t : ℕ × ℕ) → IsReadAs (name ∷ codes "compare" ∷ []) (job.Compare (record { deadline = record { fifo_batch = 16; writes_starved = 2; front_merges = true }; kyber = record { read = 2; write = 10 }; earliest = None }) form.Lines) (at_places p q r s t)
 unfolding clap_on_literals
 compare_line name p q r s t = (refl, refl)
 
-pub compare_earliest_line : (name : Text) (p q r s t : ℕ × ℕ) → IsReadAs (name ∷ codes "compare" ∷ codes "--earliest" ∷ []) (job.Compare (record { deadline = record { fifo_batch = 16; writes_starved = 2; front_merges = true }; kyber = record { read = 2; write = 10 }; earliest = (Some false) })) (at_places p q r s t)
+pub compare_earliest_line : (name : Text) (p q r s t : ℕ × ℕ) → IsReadAs (name ∷ codes "compare" ∷ codes "--earliest" ∷ []) (job.Compare (record { deadline = record { fifo_batch = 16; writes_starved = 2; front_merges = true }; kyber = record { read = 2; write = 10 }; earliest = (Some false) }) form.Lines) (at_places p q r s t)
 unfolding clap_on_literals
 compare_earliest_line name p q r s t = (refl, refl)
 
-pub compare_late_last_line : (name : Text) (p q r s t : ℕ × ℕ) → IsReadAs (name ∷ codes "compare" ∷ codes "--earliest" ∷ codes "--late-last" ∷ []) (job.Compare (record { deadline = record { fifo_batch = 16; writes_starved = 2; front_merges = true }; kyber = record { read = 2; write = 10 }; earliest = (Some true) })) (at_places p q r s t)
+pub compare_late_last_line : (name : Text) (p q r s t : ℕ × ℕ) → IsReadAs (name ∷ codes "compare" ∷ codes "--earliest" ∷ codes "--late-last" ∷ []) (job.Compare (record { deadline = record { fifo_batch = 16; writes_starved = 2; front_merges = true }; kyber = record { read = 2; write = 10 }; earliest = (Some true) }) form.Lines) (at_places p q r s t)
 unfolding clap_on_literals
 compare_late_last_line name p q r s t = (refl, refl)
+
+pub compare_json_line : (name : Text) (p q r s t : ℕ × ℕ) → IsReadAs (name ∷ codes "compare" ∷ codes "--json" ∷ []) (job.Compare (record { deadline = record { fifo_batch = 16; writes_starved = 2; front_merges = true }; kyber = record { read = 2; write = 10 }; earliest = None }) form.Json) (at_places p q r s t)
+unfolding clap_on_literals
+compare_json_line name p q r s t = (refl, refl)
 
 pub migrate_line : (name : Text) (p q r s t : ℕ × ℕ) → IsReadAs (name ∷ codes "migrate" ∷ []) job.Migrate (at_places p q r s t)
 unfolding clap_on_literals
@@ -171,25 +236,49 @@ pub commands_line : (name : Text) (p q r s t : ℕ × ℕ) → IsReadAs (name �
 unfolding clap_on_literals
 commands_line name p q r s t = (refl, refl)
 
-pub late_line : (name : Text) (p q r s t : ℕ × ℕ) → IsReadAs (name ∷ codes "late" ∷ []) job.Late (at_places p q r s t)
+pub late_line : (name : Text) (p q r s t : ℕ × ℕ) → IsReadAs (name ∷ codes "late" ∷ []) (job.Late form.Lines) (at_places p q r s t)
 unfolding clap_on_literals
 late_line name p q r s t = (refl, refl)
 
-pub misses_line : (name : Text) (p q r s t : ℕ × ℕ) → IsReadAs (name ∷ codes "misses" ∷ []) job.Misses (at_places p q r s t)
+pub late_json_line : (name : Text) (p q r s t : ℕ × ℕ) → IsReadAs (name ∷ codes "late" ∷ codes "--json" ∷ []) (job.Late form.Json) (at_places p q r s t)
+unfolding clap_on_literals
+late_json_line name p q r s t = (refl, refl)
+
+pub misses_line : (name : Text) (p q r s t : ℕ × ℕ) → IsReadAs (name ∷ codes "misses" ∷ []) (job.Misses form.Lines) (at_places p q r s t)
 unfolding clap_on_literals
 misses_line name p q r s t = (refl, refl)
 
-pub spread_line : (name : Text) (p q r s t : ℕ × ℕ) → IsReadAs (name ∷ codes "spread" ∷ []) job.Spread (at_places p q r s t)
+pub misses_json_line : (name : Text) (p q r s t : ℕ × ℕ) → IsReadAs (name ∷ codes "misses" ∷ codes "--json" ∷ []) (job.Misses form.Json) (at_places p q r s t)
+unfolding clap_on_literals
+misses_json_line name p q r s t = (refl, refl)
+
+pub spread_line : (name : Text) (p q r s t : ℕ × ℕ) → IsReadAs (name ∷ codes "spread" ∷ []) (job.Spread form.Lines) (at_places p q r s t)
 unfolding clap_on_literals
 spread_line name p q r s t = (refl, refl)
+
+pub spread_json_line : (name : Text) (p q r s t : ℕ × ℕ) → IsReadAs (name ∷ codes "spread" ∷ codes "--json" ∷ []) (job.Spread form.Json) (at_places p q r s t)
+unfolding clap_on_literals
+spread_json_line name p q r s t = (refl, refl)
+
+pub picture_line : (name : Text) (p q r s t : ℕ × ℕ) → IsReadAs (name ∷ codes "picture" ∷ []) job.Picture (at_places p q r s t)
+unfolding clap_on_literals
+picture_line name p q r s t = (refl, refl)
+
+pub pictures_line : (name : Text) (p q r s t : ℕ × ℕ) → IsReadAs (name ∷ codes "picture" ∷ codes "--script" ∷ codes "--earliest" ∷ codes "--fifo-batch" ∷ codes "1" ∷ []) (job.Pictures (record { deadline = record { fifo_batch = 1; writes_starved = 2; front_merges = true }; kyber = record { read = 2; write = 10 }; earliest = Some false })) (at_places p q r s t)
+unfolding clap_on_literals
+pictures_line name p q r s t = (refl, refl)
 
 pub oracle_line : (name : Text) (p q r s t : ℕ × ℕ) → IsReadAs (name ∷ codes "oracle" ∷ []) job.Oracle (at_places p q r s t)
 unfolding clap_on_literals
 oracle_line name p q r s t = (refl, refl)
 
-pub report_line : (name : Text) (p q r s t : ℕ × ℕ) → IsReadAs (name ∷ codes "oracle" ∷ codes "--trace" ∷ []) job.Report (at_places p q r s t)
+pub report_line : (name : Text) (p q r s t : ℕ × ℕ) → IsReadAs (name ∷ codes "oracle" ∷ codes "--trace" ∷ []) (job.Report form.Lines) (at_places p q r s t)
 unfolding clap_on_literals
 report_line name p q r s t = (refl, refl)
+
+pub report_json_line : (name : Text) (p q r s t : ℕ × ℕ) → IsReadAs (name ∷ codes "oracle" ∷ codes "--trace" ∷ codes "--json" ∷ []) (job.Report form.Json) (at_places p q r s t)
+unfolding clap_on_literals
+report_json_line name p q r s t = (refl, refl)
 
 pub met_line : (name : Text) (p q r s t : ℕ × ℕ) → IsReadAs (name ∷ codes "oracle" ∷ codes "--met" ∷ []) job.Met (at_places p q r s t)
 unfolding clap_on_literals
@@ -199,9 +288,17 @@ pub report_and_met_line : (name : Text) (p q r s t : ℕ × ℕ) → IsReadAsNot
 unfolding clap_on_literals
 report_and_met_line name p q r s t = (refl, refl)
 
-pub check_line : (name : Text) (p q r s t : ℕ × ℕ) → IsReadAs (name ∷ codes "check" ∷ []) job.Check (at_places p q r s t)
+pub certificate_json_line : (name : Text) (p q r s t : ℕ × ℕ) → IsReadAs (name ∷ codes "oracle" ∷ codes "--met" ∷ codes "--json" ∷ []) (job.Refuse refusal.JsonAlone) (at_places p q r s t)
+unfolding clap_on_literals
+certificate_json_line name p q r s t = (refl, refl)
+
+pub check_line : (name : Text) (p q r s t : ℕ × ℕ) → IsReadAs (name ∷ codes "check" ∷ []) (job.Check form.Lines) (at_places p q r s t)
 unfolding clap_on_literals
 check_line name p q r s t = (refl, refl)
+
+pub check_json_line : (name : Text) (p q r s t : ℕ × ℕ) → IsReadAs (name ∷ codes "check" ∷ codes "--json" ∷ []) (job.Check form.Json) (at_places p q r s t)
+unfolding clap_on_literals
+check_json_line name p q r s t = (refl, refl)
 
 pub version_line : (name : Text) → Asks (name ∷ codes "--version" ∷ []) job.Version
 unfolding clap_on_literals

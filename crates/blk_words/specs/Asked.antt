@@ -1,5 +1,6 @@
 -- What the words of a command line ask for.
 use Rattle.std.specs.Prelude.{◌≡◌, ◌≢◌, ◌⊎◌, ◌&&◌, ◌||◌, ◌==◌, ◌∷◌, ⊤, ℕ, Bool, true, false, not, List, [], find, Option, Some, None, Result, Ok, Err, codes, option_map, option_and_then, if◌then◌else◌}
+use Rattle.std.specs.Result.{result_ok}
 use Rattle.std.specs.Option.{option_map_or}
 use Rattle.std.specs.Str.{bytes_eq}
 use Rattle.blk_deadline.specs.declared.Tunables.{Tunables}
@@ -8,23 +9,34 @@ use Rattle.blk_kyber.specs.declared.Targets.{Targets}
 use Rattle.clap.specs.Words.{Row, Text, IsAmong, fault_of, first_of, one_of, subcommand_of}
 use Rattle.clap.specs.declared.error.kind.ErrorKind.{ErrorKind}
 use Rattle.clap.specs.declared.error.kind.ErrorKind.TheVariants as kind
+use Rattle.blk_grid.specs.declared.By.{By}
+use Rattle.blk_grid.specs.declared.By.TheVariants as by
+use Rattle.blk_grid.specs.Rows.{Gridded}
+use Rattle.blk_settings.specs.declared.sched.Lineup.{Lineup}
 use Rattle.blk_settings.specs.declared.sched.Sched.{Sched}
 use Rattle.blk_settings.specs.declared.sched.Sched.TheVariants as sched
 use Rattle.blk_words.specs.declared.words.Job.{Job}
 use Rattle.blk_words.specs.declared.words.Job.TheVariants as job
 use Rattle.blk_words.specs.declared.words.NoJob.{NoJob}
 use Rattle.blk_words.specs.declared.words.NoJob.TheVariants as no
+use Rattle.blk_words.specs.declared.words.Form.{Form}
+use Rattle.blk_words.specs.declared.words.Form.TheVariants as form
 use Rattle.blk_words.specs.declared.words.Shown.{Shown}
 use Rattle.blk_words.specs.declared.words.Shown.TheVariants as shown
 use Rattle.blk_words.specs.declared.words.Import.{Import}
 use Rattle.blk_words.specs.declared.words.Refusal.{Refusal}
 use Rattle.blk_words.specs.declared.words.Refusal.TheVariants as refusal
+use Rattle.blk_words.specs.declared.words.Tuning.{Tuning}
 use Rattle.blk_words.specs.declared.words.Written.{Written}
 use Rattle.blk_words.specs.declared.words.Written.TheVariants as written
+use Rattle.blk_words.specs.declared.lists.Tried.{Tried}
+use Rattle.blk_words.specs.declared.lists.TheConstants.{MAX_SHORT}
+use Rattle.blk_words.specs.declared.table.TheConstants.{MAX_TARGET}
 use Rattle.blk_words.specs.declared.table.Makes.{Makes}
 use Rattle.blk_words.specs.declared.table.Makes.TheVariants as makes
 use Rattle.blk_settings.specs.Rows.{name_of}
 use Rattle.blk_words.specs.Line.{Names, AreSchedulers, table, blk_app}
+use Rattle.blk_words.specs.Lists.{grid_of, list_of, tried_of}
 use Rattle.blk_words.specs.Times.{number_in, time_of}
 
 -- the number of 16 bits that an option is given, the one of 64 bits, and whether a flag is
@@ -66,12 +78,26 @@ sched_named name t k late_last = option_and_then (λ t. option_and_then (λ k. f
 abbrev pub sched_of : List Row → Option Sched
 sched_of rows = option_and_then (λ name. sched_named name (tunables_of rows) (targets_of rows) (is_flagged (codes "late-last") rows)) (first_of (codes "sched") rows)
 
--- whether earliest is compared too, and then whether late last; and the comparison with these settings
+-- the form by whether JSON is asked for, and by the options
+abbrev pub form_of : Bool → Form
+form_of json = if json then form.Json else form.Lines
+
+abbrev pub form_asked : List Row → Form
+form_asked rows = form_of (is_flagged (codes "json") rows)
+
+-- whether earliest runs too, and then whether late last; the schedulers that run a script in turn, with these settings; their comparison
+-- in a form, and the picture of a trace, or of a script under them
 abbrev pub earliest_of : Bool → Bool → Option Bool
 earliest_of runs late_last = if runs then Some late_last else None
 
-abbrev pub compared : Option Tunables → Option Targets → Option Bool → Option Job
-compared tunables targets earliest = option_and_then (λ t. option_map (λ g. job.Compare (record { deadline = t; kyber = g; earliest = earliest })) targets) tunables
+abbrev pub lineup_of : Option Tunables → Option Targets → Option Bool → Option Lineup
+lineup_of tunables targets earliest = option_and_then (λ t. option_map (λ g. record { deadline = t; kyber = g; earliest = earliest }) targets) tunables
+
+abbrev pub compared : Form → Option Lineup → Option Job
+compared f lineup = option_map (λ l. job.Compare l f) lineup
+
+abbrev pub pictured : Bool → Option Lineup → Option Job
+pictured script lineup = if script then option_map job.Pictures lineup else Some job.Picture
 
 -- a load of these numbers, whose devices may be busy and take time, under this scheduler, and what is written of it
 abbrev pub amounts : Option ℕ → Option ℕ → Option ℕ → Option ℕ → Option ℕ → Option ℕ → Option Load
@@ -82,11 +108,15 @@ abbrev pub amounts_of : List Row → Option Load
 amounts_of rows = amounts (number_given (codes "submitters") rows) (number_given (codes "workers") rows) (number_given (codes "bios") rows) (number_given (codes "depth") rows)
     (number_given (codes "service") rows) (number_given (codes "busy") rows)
 
-abbrev pub shown_of : Bool → Shown
-shown_of traced = if traced then shown.Trace else shown.Account
+abbrev pub shown_of : Bool → Bool → Shown
+shown_of trace json = if trace then shown.Trace else shown.Account (form_of json)
 
 abbrev pub loaded : Shown → Option Sched → Option Load → Option Job
 loaded w s l = option_and_then (λ s. option_map (λ l. job.Load s l w) l) s
+
+-- the job of `load` by whether its trace and JSON are asked for, which exclude one another
+abbrev pub load_job : Bool → Bool → Option Sched → Option Load → Option Job
+load_job trace json s l = if trace && json then Some (job.Refuse refusal.TraceAndJson) else loaded (shown_of trace json) s l
 
 -- whether a request came in when its first bio was queued, by the text of `--from`
 abbrev pub entry_named : Text → Option Bool
@@ -153,22 +183,66 @@ abbrev pub import_job : List Row → Job
 import_job rows = import_by (time_given (codes "read-expire") rows) (time_given (codes "write-expire") rows) (from_given rows) (time_given (codes "skip") rows)
     (number_given (codes "first") rows) (written_of rows)
 
--- the job of `oracle` by whether its flags are given, which may not stand together
-abbrev pub oracle_job : Bool → Bool → Option Job
-oracle_job trace met =
+-- the list of numbers up to the most that an option is given, the schedulers that are named, and by what rows are put in order
+abbrev pub list_given : ℕ → Text → List Row → Option (List ℕ)
+list_given most id rows = option_and_then (list_of most) (first_of id rows)
+
+abbrev pub tried_given : List Row → Option Tried
+tried_given rows = option_and_then tried_of (first_of (codes "sched") rows)
+
+abbrev pub by_named : Text → Option By
+by_named text =
+    if bytes_eq text (codes "misses") then Some by.Misses
+    else (if bytes_eq text (codes "lateness") then Some by.Lateness else None)
+
+abbrev pub by_given : List Row → Option By
+by_given rows = option_and_then by_named (first_of (codes "by") rows)
+
+-- the grid of those that are given, or the refusal of the first that there isn't
+abbrev pub grid_by : Option Tried → Option (List ℕ) → Option (List ℕ) → Option (List ℕ) → Option (List ℕ) → Result Gridded Refusal
+grid_by None b s r w = Err refusal.Scheds
+grid_by (Some t) None s r w = Err refusal.FifoBatch
+grid_by (Some t) (Some b) None r w = Err refusal.WritesStarved
+grid_by (Some t) (Some b) (Some s) None w = Err refusal.ReadTarget
+grid_by (Some t) (Some b) (Some s) (Some r) None = Err refusal.WriteTarget
+grid_by (Some t) (Some b) (Some s) (Some r) (Some w) = Ok (grid_of t b s r w)
+
+abbrev pub grid_given : List Row → Result Gridded Refusal
+grid_given rows = grid_by (tried_given rows) (list_given MAX_SHORT (codes "fifo-batch") rows) (list_given MAX_SHORT (codes "writes-starved") rows)
+    (list_given MAX_TARGET (codes "read-target") rows) (list_given MAX_TARGET (codes "write-target") rows)
+
+-- the trial of a grid, or the refusal of the first option of it that can't be done
+abbrev pub tune_by : Result Gridded Refusal → Option By → Option ℕ → Option ℕ → Form → Job
+tune_by (Err r) b top threads f = job.Refuse r
+tune_by (Ok g) None top threads f = job.Refuse refusal.By
+tune_by (Ok g) (Some b) top threads f = job.Tune (record { by = b; top = top; threads = threads; form = f })
+
+abbrev pub tune_job : List Row → Job
+tune_job rows = tune_by (grid_given rows) (by_given rows) (number_given (codes "top") rows) (number_given (codes "threads") rows) (form_asked rows)
+
+-- the job of `oracle` by whether its flags are given, the first two of which may not stand together, nor the last without the first
+abbrev pub oracle_job : Bool → Bool → Bool → Option Job
+oracle_job trace met json =
     if trace && met then None
-    else (if trace then Some job.Report
-    else (if met then Some job.Met else Some job.Oracle))
+    else (if trace then Some (job.Report (form_of json))
+    else (if json then Some (job.Refuse refusal.JsonAlone)
+    else (if met then Some job.Met else Some job.Oracle)))
 
 -- the job that a subcommand makes of what its options are given
 abbrev pub job_made : Makes → List Row → Option Job
 job_made (makes.Plain j) rows = Some j
 job_made makes.Sim rows = option_map job.Sim (sched_of rows)
-job_made makes.Compare rows = compared (tunables_of rows) (targets_of rows) (earliest_of (is_flagged (codes "earliest") rows) (is_flagged (codes "late-last") rows))
-job_made makes.Oracle rows = oracle_job (is_flagged (codes "trace") rows) (is_flagged (codes "met") rows)
+job_made makes.Compare rows = compared (form_asked rows) (lineup_of (tunables_of rows) (targets_of rows) (earliest_of (is_flagged (codes "earliest") rows) (is_flagged (codes "late-last") rows)))
+job_made makes.Tune rows = Some (tune_job rows)
+job_made makes.Late rows = Some (job.Late (form_asked rows))
+job_made makes.Misses rows = Some (job.Misses (form_asked rows))
+job_made makes.Spread rows = Some (job.Spread (form_asked rows))
+job_made makes.Picture rows = pictured (is_flagged (codes "script") rows) (lineup_of (tunables_of rows) (targets_of rows) (earliest_of (is_flagged (codes "earliest") rows) (is_flagged (codes "late-last") rows)))
+job_made makes.Oracle rows = oracle_job (is_flagged (codes "trace") rows) (is_flagged (codes "met") rows) (is_flagged (codes "json") rows)
+job_made makes.Check rows = Some (job.Check (form_asked rows))
 job_made makes.Import rows = Some (import_job rows)
 job_made makes.Judge rows = Some (job.Judge (is_flagged (codes "each") rows))
-job_made makes.Load rows = loaded (shown_of (is_flagged (codes "trace") rows)) (sched_of rows) (amounts_of rows)
+job_made makes.Load rows = load_job (is_flagged (codes "trace") rows) (is_flagged (codes "json") rows) (sched_of rows) (amounts_of rows)
 
 -- the job of the subcommand of a name, by what its options are given
 abbrev pub job_of : Names → Text × List Row → Option Job
@@ -208,3 +282,11 @@ abbrev pub IsNoJob : List Text → NoJob → Type 0
 IsNoJob words no.Memory = ⊤
 IsNoJob words (no.Line text) = AreFaulty words
 IsNoJob words no.Nothing = NameNone words
+
+-- the grid that the command line reads in words
+abbrev pub grid_read : Names → List Text → Option Gridded
+grid_read names words = option_and_then (λ p. result_ok (grid_given p.1)) (subcommand_of (blk_app names) words)
+
+-- the words ask for a trial of this grid, whose lists are those of their options, or else those of the whole grid
+abbrev pub AsksGrid : List Text → Gridded → Type 0
+AsksGrid words g = (names : Names) × AreSchedulers names × (fault_of (blk_app names) words ≡ []) × (grid_read names words ≡ Some g)

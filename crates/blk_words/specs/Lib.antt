@@ -1,3 +1,4 @@
 pub mod Line
 pub mod Times
+pub mod Lists
 pub mod Asked

@@ -8,7 +8,7 @@ use Rattle.clap.specs.declared.builder.value_parser.ValueParser.TheVariants as v
 use Rattle.blk_settings.specs.declared.numbers.TheConstants.{MAX_SUBMITTERS, MAX_LOAD_WORKERS, MAX_LOAD_BIOS, MAX_LOAD_DEPTH, MAX_LOAD_SERVICE}
 use Rattle.blk_words.specs.declared.words.Job.{Job}
 use Rattle.blk_words.specs.declared.words.Job.TheVariants as job
-use Rattle.blk_words.specs.declared.table.TheConstants.{MAX_TARGET, MAX_BUSY, MAX_FIRST, MAX_DEPTH}
+use Rattle.blk_words.specs.declared.table.TheConstants.{MAX_TARGET, MAX_BUSY, MAX_FIRST, MAX_TOP, MAX_THREADS, MAX_DEPTH}
 use Rattle.blk_words.specs.declared.table.Takes.{Takes}
 use Rattle.blk_words.specs.declared.table.Takes.TheVariants as takes
 use Rattle.blk_words.specs.declared.table.Makes.{Makes}
@@ -85,6 +85,21 @@ subcommand_of names row = record { name = row.name.now; rules = map (rule_for na
 abbrev pub plain : Text → Job → Subcommand
 plain name j = record { name = name; rules = []; makes = makes.Plain j }
 
+-- the flag that asks for JSON, and a subcommand with that alone
+abbrev pub json : Rule
+json = flag_rule (codes "json")
+
+abbrev pub formed : Text → Makes → Subcommand
+formed name m = record { name = name; rules = json ∷ []; makes = m }
+
+-- what is tried, by what the best is found, how much is told and how many runs go side by side
+abbrev pub trying : List Rule
+trying =
+    text_rule (codes "sched") (codes "none,earliest,deadline,kyber") ∷ text_rule (codes "fifo-batch") (codes "1,2,4,8,16,32,64")
+    ∷ text_rule (codes "writes-starved") (codes "0,1,2,4,8") ∷ text_rule (codes "read-target") (codes "1,2,5,10,20,50,100")
+    ∷ text_rule (codes "write-target") (codes "1,2,5,10,20,50,100") ∷ text_rule (codes "by") (codes "misses")
+    ∷ maybe_rule (codes "top") (vp.Unsigned 1 MAX_TOP) ∷ maybe_rule (codes "threads") (vp.Unsigned 1 MAX_THREADS) ∷ json ∷ []
+
 -- the numbers of a load
 abbrev pub amounts : List Rule
 amounts =
@@ -99,23 +114,34 @@ importing =
     ∷ text_rule (codes "skip") (codes "0s") ∷ maybe_rule (codes "first") (vp.Unsigned 1 MAX_FIRST) ∷ flag_rule (codes "table") ∷ flag_rule (codes "summary")
     ∷ flag_rule (codes "script") ∷ maybe_text_rule (codes "round") ∷ maybe_rule (codes "depth") (vp.Unsigned 1 MAX_DEPTH) ∷ []
 
--- the subcommands: over scripts, over traces, over command lists and certificates, over captures and schedules, over texts of any form,
--- and over the running layer
-abbrev pub table : Names → List Subcommand
-table names =
+-- the subcommands over scripts and over traces
+abbrev pub run_table : Names → List Subcommand
+run_table names =
     record { name = codes "sim"; rules = sched_rule (codes "sched") names ∷ tuning; makes = makes.Sim }
-    ∷ record { name = codes "compare"; rules = flag_rule (codes "earliest") ∷ tuning; makes = makes.Compare }
+    ∷ record { name = codes "compare"; rules = flag_rule (codes "earliest") ∷ json ∷ tuning; makes = makes.Compare }
+    ∷ record { name = codes "tune"; rules = trying; makes = makes.Tune }
     ∷ plain (codes "migrate") job.Migrate
     ∷ plain (codes "commands") job.Commands
-    ∷ plain (codes "late") job.Late
-    ∷ plain (codes "misses") job.Misses
-    ∷ plain (codes "spread") job.Spread
-    ∷ record { name = codes "oracle"; rules = flag_rule (codes "trace") ∷ flag_rule (codes "met") ∷ []; makes = makes.Oracle }
-    ∷ plain (codes "check") job.Check
+    ∷ formed (codes "late") makes.Late
+    ∷ formed (codes "misses") makes.Misses
+    ∷ formed (codes "spread") makes.Spread
+    ∷ record { name = codes "picture"; rules = flag_rule (codes "script") ∷ flag_rule (codes "earliest") ∷ tuning; makes = makes.Picture }
+    ∷ []
+
+-- the others: over command lists and certificates, over captures and schedules, over texts of any form, and over the running layer
+abbrev pub other_table : Names → List Subcommand
+other_table names =
+    record { name = codes "oracle"; rules = flag_rule (codes "trace") ∷ flag_rule (codes "met") ∷ json ∷ []; makes = makes.Oracle }
+    ∷ formed (codes "check") makes.Check
     ∷ record { name = codes "import"; rules = importing; makes = makes.Import }
     ∷ record { name = codes "judge"; rules = flag_rule (codes "each") ∷ []; makes = makes.Judge }
-    ∷ record { name = codes "load"; rules = sched_rule (codes "sched") names ∷ flag_rule (codes "trace") ∷ (amounts ++ tuning); makes = makes.Load }
+    ∷ plain (codes "explain") job.Explain
+    ∷ record { name = codes "load"; rules = sched_rule (codes "sched") names ∷ flag_rule (codes "trace") ∷ json ∷ (amounts ++ tuning); makes = makes.Load }
     ∷ []
+
+-- all of them
+abbrev pub table : Names → List Subcommand
+table names = run_table names ++ other_table names
 
 -- a command with a version, which wants a subcommand
 abbrev pub topmost : App → App

@@ -3,8 +3,12 @@
 #![tactic(auto)]
 
 pub mod asking;
+mod command;
+mod lists;
 pub mod table;
 mod times;
 pub mod words;
 
-pub use crate::words::{Import, Job, NoJob, Refusal, Shown, VERSION, Written, choose};
+pub use crate::words::{
+    Form, Import, Job, NoJob, Refusal, Shown, Tuning, VERSION, Written, choose, grid_asked,
+};

@@ -14,6 +14,12 @@ pub const MAX_BUSY: u64 = 1_000_000;
 /// The greatest number of `--first`: a schedule has no more commands.
 pub const MAX_FIRST: u64 = 1_000_000;
 
+/// The greatest number of `--top`: no trial has more rows.
+pub const MAX_TOP: u64 = 1_000_000;
+
+/// The greatest number of `--threads`.
+pub const MAX_THREADS: u64 = 256;
+
 /// The greatest number of `--depth` of a script: a round carries no more commands.
 pub const MAX_DEPTH: u64 = 256;
 
@@ -56,8 +62,20 @@ pub enum Makes {
     Sim,
     /// The comparison of schedulers of their settings.
     Compare,
+    /// The trial of the settings of their lists, if these are lists.
+    Tune,
+    /// The late commands of a trace, in the form that is asked for.
+    Late,
+    /// Its misses, in that form.
+    Misses,
+    /// Its spread, in that form.
+    Spread,
+    /// The picture of a trace, or of a script under schedulers of their settings.
+    Picture,
     /// What `oracle` is asked by its flags.
     Oracle,
+    /// The check of a certificate, in the form that is asked for.
+    Check,
     /// The import of a capture, if its times are times.
     Import,
     /// The judgement of a schedule, or of each of its late commands.
@@ -86,6 +104,20 @@ const SCHED: OptionRow = OptionRow {
     name: "sched",
     takes: Takes::Sched,
     help: "The scheduler",
+};
+
+/// The option that adds earliest to the schedulers that run a script in turn.
+const EARLIEST: OptionRow = OptionRow {
+    name: "earliest",
+    takes: Takes::Nothing,
+    help: "Runs it under earliest as well",
+};
+
+/// The option that asks for JSON.
+const JSON: OptionRow = OptionRow {
+    name: "json",
+    takes: Takes::Nothing,
+    help: "Writes it as JSON",
 };
 
 /// The names of the schedulers.
@@ -125,9 +157,8 @@ pub static TUNING: [OptionRow; 6] = [
     },
 ];
 
-/// The subcommands: over scripts, over traces, over command lists and certificates, over captures and schedules, over texts of any form,
-/// and over the running layer.
-pub static COMMANDS: [CommandRow; 12] = [
+/// The subcommands over scripts and over traces.
+pub static RUN_COMMANDS: [CommandRow; 9] = [
     CommandRow {
         name: "sim",
         about: "Runs a script and writes its trace",
@@ -138,13 +169,58 @@ pub static COMMANDS: [CommandRow; 12] = [
     CommandRow {
         name: "compare",
         about: "Runs a script under each scheduler, and writes how late each was and had to be",
-        options: &[OptionRow {
-            name: "earliest",
-            takes: Takes::Nothing,
-            help: "Runs it under earliest as well",
-        }],
+        options: &[EARLIEST, JSON],
         is_tuned: true,
         makes: Makes::Compare,
+    },
+    CommandRow {
+        name: "tune",
+        about: "Runs a script under each of many settings, and writes a table of them, the best first",
+        options: &[
+            OptionRow {
+                name: "sched",
+                takes: Takes::Text("none,earliest,deadline,kyber"),
+                help: "The schedulers to try: names with commas between",
+            },
+            OptionRow {
+                name: "fifo-batch",
+                takes: Takes::Text("1,2,4,8,16,32,64"),
+                help: "Under deadline, how many requests go in one batch: numbers with commas between",
+            },
+            OptionRow {
+                name: "writes-starved",
+                takes: Takes::Text("0,1,2,4,8"),
+                help: "Under deadline, how often reads go first while writes wait: numbers with commas between",
+            },
+            OptionRow {
+                name: "read-target",
+                takes: Takes::Text("1,2,5,10,20,50,100"),
+                help: "Under kyber, how many rounds a read may wait: numbers with commas between",
+            },
+            OptionRow {
+                name: "write-target",
+                takes: Takes::Text("1,2,5,10,20,50,100"),
+                help: "Under kyber, how many rounds a write may wait: numbers with commas between",
+            },
+            OptionRow {
+                name: "by",
+                takes: Takes::Text("misses"),
+                help: "What the best has least of: misses, late commands that could have been on time; lateness, how much later than it had to be the latest was",
+            },
+            OptionRow {
+                name: "top",
+                takes: Takes::Maybe(1, MAX_TOP),
+                help: "Writes only so many rows, the best ones; without it, all",
+            },
+            OptionRow {
+                name: "threads",
+                takes: Takes::Maybe(1, MAX_THREADS),
+                help: "How many runs go side by side; without it, as many as there are processors, 16 at most",
+            },
+            JSON,
+        ],
+        is_tuned: false,
+        makes: Makes::Tune,
     },
     CommandRow {
         name: "migrate",
@@ -163,24 +239,42 @@ pub static COMMANDS: [CommandRow; 12] = [
     CommandRow {
         name: "late",
         about: "Writes which commands of a trace were late, and what went before them",
-        options: &[],
+        options: &[JSON],
         is_tuned: false,
-        makes: Makes::Plain(Job::Late),
+        makes: Makes::Late,
     },
     CommandRow {
         name: "misses",
         about: "Writes how many commands of a trace were late, and how many had to be",
-        options: &[],
+        options: &[JSON],
         is_tuned: false,
-        makes: Makes::Plain(Job::Misses),
+        makes: Makes::Misses,
     },
     CommandRow {
         name: "spread",
         about: "Writes how long the commands of a trace waited and how late they were, by quantiles",
-        options: &[],
+        options: &[JSON],
         is_tuned: false,
-        makes: Makes::Plain(Job::Spread),
+        makes: Makes::Spread,
     },
+    CommandRow {
+        name: "picture",
+        about: "Draws a trace as an SVG picture: its commands by round and tag, what waited, and which were late",
+        options: &[
+            OptionRow {
+                name: "script",
+                takes: Takes::Nothing,
+                help: "Reads a script instead, and draws its trace under each scheduler, one below the other",
+            },
+            EARLIEST,
+        ],
+        is_tuned: true,
+        makes: Makes::Picture,
+    },
+];
+
+/// The others: over command lists and certificates, over captures and schedules, over texts of any form, and over the running layer.
+pub static OTHER_COMMANDS: [CommandRow; 6] = [
     CommandRow {
         name: "oracle",
         about: "Writes a least schedule of a command list, with its certificate",
@@ -195,6 +289,11 @@ pub static COMMANDS: [CommandRow; 12] = [
                 takes: Takes::Nothing,
                 help: "Writes how many commands can be met, with its certificate",
             },
+            OptionRow {
+                name: "json",
+                takes: Takes::Nothing,
+                help: "With --trace, writes it as JSON",
+            },
         ],
         is_tuned: false,
         makes: Makes::Oracle,
@@ -202,9 +301,9 @@ pub static COMMANDS: [CommandRow; 12] = [
     CommandRow {
         name: "check",
         about: "Checks a certificate",
-        options: &[],
+        options: &[JSON],
         is_tuned: false,
-        makes: Makes::Plain(Job::Check),
+        makes: Makes::Check,
     },
     CommandRow {
         name: "import",
@@ -276,6 +375,13 @@ pub static COMMANDS: [CommandRow; 12] = [
         makes: Makes::Judge,
     },
     CommandRow {
+        name: "explain",
+        about: "Tells what a text is, or which record breaks which rule, and what was expected there",
+        options: &[],
+        is_tuned: false,
+        makes: Makes::Plain(Job::Explain),
+    },
+    CommandRow {
         name: "load",
         about: "Runs a load of threads on a layer, and writes how many bios were accepted, served and left",
         options: &[
@@ -285,6 +391,7 @@ pub static COMMANDS: [CommandRow; 12] = [
                 takes: Takes::Nothing,
                 help: "Writes the trace of what the layer did instead",
             },
+            JSON,
             OptionRow {
                 name: "submitters",
                 takes: Takes::Number(1, MAX_SUBMITTERS, "2"),

@@ -1,21 +1,26 @@
 //! The words of the command line, as a job.
 
-ghost use Rattle.std.specs.Prelude.{◌≡◌, false, fold, find, map, IfOk, IfErr, option_map, option_and_then, codes, string_bytes};
+ghost use Rattle.std.specs.Prelude.{◌≡◌, ◌≤◌, find, map, All, IfOk, IfErr, IfSome, Ok, Err, Some, option_map, option_and_then, codes, string_bytes};
+ghost use Rattle.std.specs.Option.{option_or};
+ghost use Rattle.std.specs.Result.{result_ok};
 ghost use Rattle.std.specs.Str.{bytes_eq};
-ghost use Rattle.clap.specs.Words.{app_of, rule_of, rows_of, found_of, subcommand_rows_of, with_rule};
-ghost use Rattle.clap.specs.declared.builder.command.Command.TheViews.{out-Command as fields_of};
+ghost use Rattle.clap.specs.Words.{rows_of, found_of, subcommand_rows_of};
+ghost use Rattle.blk_grid.specs.Rows.{gridded};
 ghost use Rattle.blk_settings.specs.Rows.{name_of};
-ghost use Rattle.blk_words.specs.Line.{Names, AreSchedulers, rule_for, subcommand_of, app_for, with_one, blk_app};
-ghost use Rattle.blk_words.specs.Asked.{Asks, IsNoJob, short_given, number_given, is_flagged, tunables_of, targets_of, sched_of, earliest_of, compared, amounts_of, shown_of, loaded, time_given, entry_named, from_given, round_by, round_given, scripted, unscripted, written_of, takes_all, import_of, import_job, oracle_job, job_made, job_of};
+ghost use Rattle.blk_words.specs.Line.{Names, subcommand_of, table as all_commands};
+ghost use Rattle.blk_words.specs.Lists.{AreShort, grid_of_lists};
+ghost use Rattle.blk_words.specs.Asked.{Asks, AsksGrid, IsNoJob, list_given, tried_given, by_named, by_given, grid_given, tune_job, short_given, number_given, is_flagged, tunables_of, targets_of, sched_of, earliest_of, lineup_of, compared, pictured, amounts_of, shown_of, loaded, load_job, form_of, form_asked, time_given, entry_named, from_given, round_by, round_given, scripted, unscripted, written_of, takes_all, import_of, import_job, oracle_job, job_made, job_of};
 
-use crate::table::{COMMANDS, CommandRow, Makes, OptionRow, SCHEDULERS, TUNING, Takes};
+use crate::command::{blk_command, other_commands, run_commands};
+use crate::lists::{Lists, MAX_SHORT, Numbers, Tried, numbers_of, tried_of};
+use crate::table::{CommandRow, MAX_TARGET, Makes};
 use crate::times::time_of;
 use blk_deadline::Tunables;
+use blk_grid::{By, Grid};
 use blk_kyber::Targets;
 use blk_settings::{Lineup, Load, Sched};
-use clap::builder::ValueParser;
+use clap::ArgMatches;
 use clap::error::ErrorKind;
-use clap::{Arg, ArgAction, ArgMatches, Command, value_parser};
 use std::alloc::{AllocError, Global};
 
 /// The version of the program.
@@ -29,25 +34,31 @@ pub enum Job {
     /// Run a script under a scheduler, and write its trace.
     Sim(Sched),
     /// Run a script under each of these schedulers in turn, and write the table of the reports.
-    Compare(Lineup),
+    Compare(Lineup, Form),
+    /// Run a script under each setting of the grid that the words ask for ([`grid_asked`]), and write the table of how well each did.
+    Tune(Tuning),
     /// Write a trace in the latest version.
     Migrate,
     /// Write the command list of a trace.
     Commands,
     /// Write which commands of a trace were late, and what went before them.
-    Late,
+    Late(Form),
     /// Write how many commands of a trace were late, and how many had to be.
-    Misses,
+    Misses(Form),
     /// Write how long the commands of a trace waited, and how late they were, by quantiles.
-    Spread,
+    Spread(Form),
+    /// Write the picture of a trace.
+    Picture,
+    /// Run a script under each of these schedulers in turn, and write the pictures of its traces as one.
+    Pictures(Lineup),
     /// Write the certificate of a command list.
     Oracle,
     /// Write how many commands of a list can be met, with its certificate.
     Met,
     /// Write the report of a trace.
-    Report,
-    /// Check a certificate.
-    Check,
+    Report(Form),
+    /// Check a certificate, and write what it proves.
+    Check(Form),
     /// Import a capture.
     Import(Import),
     /// Refuse the words, which are taken and can't be done.
@@ -57,8 +68,32 @@ pub enum Job {
         /// Whether each late command is written instead.
         each: bool,
     },
+    /// Tell what a text is, or what is wrong with it.
+    Explain,
     /// Run a load on a layer under a scheduler, and write this of it.
     Load(Sched, Load, Shown),
+}
+
+/// In which form figures are written.
+#[derive(Clone, Copy, Debug, PartialEq, Eq)]
+pub enum Form {
+    /// In lines, to be read at a terminal.
+    Lines,
+    /// As a JSON value, to be read by programs.
+    Json,
+}
+
+/// How a trial of settings is told.
+#[derive(Clone, Copy, Debug, PartialEq, Eq)]
+pub struct Tuning {
+    /// By what its rows are put in order first.
+    pub by: By,
+    /// How many rows are written at most, the best ones, 1 to [`crate::table::MAX_TOP`]; without it all are.
+    pub top: Option<u64>,
+    /// How many runs go side by side at most, 1 to [`crate::table::MAX_THREADS`]; without it, as many as there are processors, 16 at most.
+    pub threads: Option<u64>,
+    /// In which form.
+    pub form: Form,
 }
 
 /// How a capture is imported. Times are in nanoseconds.
@@ -96,8 +131,8 @@ pub enum Written {
     },
 }
 
-/// Why words that are taken can't be done, in the order in which it is looked for: the text of an option of `import` is none that it may
-/// have, or its flags exclude one another.
+/// Why words that are taken can't be done, of each subcommand in the order in which it is looked for: the text of an option of `import` or
+/// `tune` is none that it may have, or flags exclude one another.
 #[derive(Clone, Copy, Debug, PartialEq, Eq)]
 pub enum Refusal {
     /// `--read-expire` is no time.
@@ -120,13 +155,29 @@ pub enum Refusal {
     NoScript,
     /// A script is asked for, and that requests be left out or come in when they were queued.
     OfRequests,
+    /// `oracle` is asked for JSON, and not for the report of a trace.
+    JsonAlone,
+    /// `load` is asked for its trace, and for JSON.
+    TraceAndJson,
+    /// `--sched` of `tune` is no list of schedulers' names, each once.
+    Scheds,
+    /// `--fifo-batch` of `tune` is no list of 1 to 64 numbers of 0 to 65,535, each once.
+    FifoBatch,
+    /// `--writes-starved` of `tune` is no such list.
+    WritesStarved,
+    /// `--read-target` of `tune` is no list of 1 to 64 numbers of 0 to 1,000,000, each once.
+    ReadTarget,
+    /// `--write-target` of `tune` is no such list.
+    WriteTarget,
+    /// `--by` is neither `misses` nor `lateness`.
+    By,
 }
 
 /// What is written of a load.
 #[derive(Clone, Copy, Debug, PartialEq, Eq)]
 pub enum Shown {
     /// How many bios were accepted, served and left.
-    Account,
+    Account(Form),
     /// The trace of what the layer did.
     Trace,
 }
@@ -140,111 +191,6 @@ pub enum NoJob {
     Line(String),
     /// They are taken and name no job: flags exclude one another, those of `oracle --trace --met`.
     Nothing,
-}
-
-/// The names that an option may take.
-#[derive(Clone, Copy)]
-struct Among<'a> {
-    names: &'a [&'a str],
-}
-
-/// The argument of an option.
-fn option_arg<'a>(alloc: Global, row: &'a OptionRow, among: Among<'a>) -> Arg<'a>
-    ensures rule { rule_of result ≡ rule_for among.entry.names row.now }
-    ensures local { result.global ≡ false }
-{
-    let bare = Arg::new(alloc, row.name).long(row.name).help(row.help);
-    match row.takes {
-        Takes::Nothing => bare.action(ArgAction::SetTrue),
-        Takes::Sched => bare
-            .action(ArgAction::Set)
-            .value_parser(among.names)
-            .default_value("none"),
-        Takes::Short(default) => bare
-            .action(ArgAction::Set)
-            .value_parser(value_parser!(u16))
-            .default_value(default),
-        Takes::Number(least, most, default) => bare
-            .action(ArgAction::Set)
-            .value_parser(ValueParser::unsigned(least, most))
-            .default_value(default),
-        Takes::Maybe(least, most) => bare
-            .action(ArgAction::Set)
-            .value_parser(ValueParser::unsigned(least, most)),
-        Takes::Text(default) => bare
-            .action(ArgAction::Set)
-            .value_parser(ValueParser::String)
-            .default_value(default),
-        Takes::MaybeText => bare
-            .action(ArgAction::Set)
-            .value_parser(ValueParser::String),
-    }
-}
-
-/// A command with these options too.
-fn with_options<'a>(
-    alloc: Global,
-    command: Command<'a>,
-    rows: &'a [OptionRow],
-    among: Among<'a>,
-) -> Result<Command<'a>, AllocError>
-    requires { (fields_of command).has_globals ≡ false }
-    ensures app { IfOk result (λ c. app_of c ≡ fold with_rule (app_of command.entry) (map (rule_for among.entry.names) rows.now)) }
-    ensures local { IfOk result (λ c. (fields_of c).has_globals ≡ false) }
-{
-    let mut grown = command;
-    for i in 0..rows.len() {
-        grown = grown.arg(option_arg(alloc, &rows[i], among))?;
-    }
-    Ok(grown)
-}
-
-/// A subcommand with its options.
-fn command_of<'a>(
-    alloc: Global,
-    row: &'a CommandRow,
-    among: Among<'a>,
-) -> Result<Command<'a>, AllocError>
-    ensures app { IfOk result (λ c. app_of c ≡ app_for (subcommand_of among.entry.names row.now)) }
-    ensures local { IfOk result (λ c. (fields_of c).has_globals ≡ false) }
-{
-    let bare = Command::new(alloc, row.name).about(row.about);
-    let own = with_options(alloc, bare, row.options, among)?;
-    if row.is_tuned {
-        with_options(alloc, own, TUNING.as_slice(), among)
-    } else {
-        Ok(own)
-    }
-}
-
-/// A command with these subcommands too.
-fn with_commands<'a>(
-    alloc: Global,
-    command: Command<'a>,
-    rows: &'a [CommandRow],
-    among: Among<'a>,
-) -> Result<Command<'a>, AllocError>
-    ensures { IfOk result (λ c. app_of c ≡ fold with_one (app_of command.entry) (map (subcommand_of among.entry.names) rows.now)) }
-{
-    let mut grown = command;
-    for i in 0..rows.len() {
-        grown = grown.subcommand(command_of(alloc, &rows[i], among)?)?;
-    }
-    Ok(grown)
-}
-
-/// The command line of the program.
-fn blk_command<'a>(alloc: Global) -> Result<Command<'a>, AllocError>
-    ensures { IfOk result (λ c. (names : Names) × AreSchedulers names × (app_of c ≡ blk_app names)) }
-{
-    let blk = Command::new(alloc, "blk")
-        .version(VERSION)
-        .about("A multiqueue block layer, and how far its schedules fall short of the best")
-        .subcommand_required(true);
-    let among = Among {
-        names: SCHEDULERS.as_slice(),
-    };
-    with_commands(alloc, blk, COMMANDS.as_slice(), among)
 }
 
 /// The number of 16 bits that an option is given.
@@ -342,18 +288,53 @@ fn earliest_of(options: &ArgMatches<'_>) -> Option<bool>
     if runs { Some(late_last) } else { None }
 }
 
-/// The comparison with the settings that the options of `compare` give.
-fn compare_of(options: &ArgMatches<'_>) -> Option<Job>
-    ensures { result ≡ compared (tunables_of (rows_of (found_of options.now))) (targets_of (rows_of (found_of options.now))) (earliest_of (is_flagged (codes "earliest") (rows_of (found_of options.now))) (is_flagged (codes "late-last") (rows_of (found_of options.now)))) }
+/// The form that is asked for by whether the flag of JSON is given.
+fn form_of(json: bool) -> Form
+    ensures { result ≡ form_of json }
+{
+    if json { Form::Json } else { Form::Lines }
+}
+
+/// The same by the options.
+fn form_asked(options: &ArgMatches<'_>) -> Form
+    ensures { result ≡ form_asked (rows_of (found_of options.now)) }
+{
+    form_of(is_flagged(options, "json"))
+}
+
+/// The schedulers that run a script in turn, with the settings that the options give.
+fn lineup_of(options: &ArgMatches<'_>) -> Option<Lineup>
+    ensures { result ≡ lineup_of (tunables_of (rows_of (found_of options.now))) (targets_of (rows_of (found_of options.now))) (earliest_of (is_flagged (codes "earliest") (rows_of (found_of options.now))) (is_flagged (codes "late-last") (rows_of (found_of options.now)))) }
 {
     let deadline = tunables_of(options)?;
     let kyber = targets_of(options)?;
     let earliest = earliest_of(options);
-    Some(Job::Compare(Lineup {
+    Some(Lineup {
         deadline,
         kyber,
         earliest,
-    }))
+    })
+}
+
+/// The comparison of these, in the form that is asked for.
+fn compare_of(options: &ArgMatches<'_>) -> Option<Job>
+    ensures { result ≡ compared (form_asked (rows_of (found_of options.now))) (lineup_of (tunables_of (rows_of (found_of options.now))) (targets_of (rows_of (found_of options.now))) (earliest_of (is_flagged (codes "earliest") (rows_of (found_of options.now))) (is_flagged (codes "late-last") (rows_of (found_of options.now))))) }
+{
+    let form = form_asked(options);
+    let lineup = lineup_of(options)?;
+    Some(Job::Compare(lineup, form))
+}
+
+/// The picture of a trace, or with the flag `--script` those of a script under these.
+fn picture_of(options: &ArgMatches<'_>) -> Option<Job>
+    ensures { result ≡ pictured (is_flagged (codes "script") (rows_of (found_of options.now))) (lineup_of (tunables_of (rows_of (found_of options.now))) (targets_of (rows_of (found_of options.now))) (earliest_of (is_flagged (codes "earliest") (rows_of (found_of options.now))) (is_flagged (codes "late-last") (rows_of (found_of options.now))))) }
+{
+    if is_flagged(options, "script") {
+        let lineup = lineup_of(options)?;
+        Some(Job::Pictures(lineup))
+    } else {
+        Some(Job::Picture)
+    }
 }
 
 /// How much load the options of `load` say there is.
@@ -376,25 +357,37 @@ fn amounts_of(options: &ArgMatches<'_>) -> Option<Load>
     })
 }
 
-/// What the options of `load` ask to write.
-fn shown_of(options: &ArgMatches<'_>) -> Shown
-    ensures { result ≡ shown_of (is_flagged (codes "trace") (rows_of (found_of options.now))) }
+/// What the flags of `load` ask to write.
+fn shown_of(trace: bool, json: bool) -> Shown
+    ensures { result ≡ shown_of trace json }
 {
-    if is_flagged(options, "trace") {
+    if trace {
         Shown::Trace
     } else {
-        Shown::Account
+        Shown::Account(form_of(json))
     }
 }
 
-/// The load that the options of `load` ask for.
-fn load_of(options: &ArgMatches<'_>) -> Option<Job>
-    ensures { result ≡ loaded (shown_of (is_flagged (codes "trace") (rows_of (found_of options.now)))) (sched_of (rows_of (found_of options.now))) (amounts_of (rows_of (found_of options.now))) }
+/// The load that the options of `load` ask for, of which this is to be written.
+fn load_of(options: &ArgMatches<'_>, shown: Shown) -> Option<Job>
+    ensures { result ≡ loaded shown (sched_of (rows_of (found_of options.now))) (amounts_of (rows_of (found_of options.now))) }
 {
-    let shown = shown_of(options);
     let sched = sched_of(options)?;
     let load = amounts_of(options)?;
     Some(Job::Load(sched, load, shown))
+}
+
+/// The job of `load`, whose trace is no JSON.
+fn load_job(options: &ArgMatches<'_>) -> Option<Job>
+    ensures { result ≡ load_job (is_flagged (codes "trace") (rows_of (found_of options.now))) (is_flagged (codes "json") (rows_of (found_of options.now))) (sched_of (rows_of (found_of options.now))) (amounts_of (rows_of (found_of options.now))) }
+{
+    let trace = is_flagged(options, "trace");
+    let json = is_flagged(options, "json");
+    if trace && json {
+        Some(Job::Refuse(Refusal::TraceAndJson))
+    } else {
+        load_of(options, shown_of(trace, json))
+    }
 }
 
 /// Whether a request came in when its first bio was queued, by the text of `--from`.
@@ -550,16 +543,112 @@ fn import_job(options: &ArgMatches<'_>) -> Job
     })
 }
 
-/// The job of `oracle` by its flags, which may not stand together.
+/// The numbers up to the most of the list that an option is given.
+fn list_given(options: &ArgMatches<'_>, id: &str, most: u64) -> Option<Numbers>
+    ensures numbers { option_map (λ n. n.items) result ≡ list_given most id.now (rows_of (found_of options.now)) }
+    ensures range { IfSome result (λ n. All (λ x. x ≤ most) n.items) }
+{
+    match options.get_str(id) {
+        Some(text) => numbers_of(text, most),
+        None => None,
+    }
+}
+
+/// The schedulers that the options of `tune` name.
+fn tried_given(options: &ArgMatches<'_>) -> Option<Tried>
+    ensures { result ≡ tried_given (rows_of (found_of options.now)) }
+{
+    match options.get_str("sched") {
+        Some(text) => tried_of(text),
+        None => None,
+    }
+}
+
+/// By what rows are put in order, by the text of `--by`.
+fn by_named(text: &str) -> Option<By>
+    ensures { result ≡ by_named text.now }
+{
+    if text == "misses" {
+        Some(By::Misses)
+    } else if text == "lateness" {
+        Some(By::Lateness)
+    } else {
+        None
+    }
+}
+
+/// The same by the options of `tune`.
+fn by_given(options: &ArgMatches<'_>) -> Option<By>
+    ensures { result ≡ by_given (rows_of (found_of options.now)) }
+{
+    match options.get_str("by") {
+        Some(text) => by_named(text),
+        None => None,
+    }
+}
+
+/// The lists that the options of `tune` give, or the refusal of the first that is none.
+fn lists_given(options: &ArgMatches<'_>) -> Result<Lists, Refusal>
+    ensures lists { IfOk result (λ l. grid_given (rows_of (found_of options.now)) ≡ Ok (grid_of_lists l)) }
+    ensures refusal { IfErr result (λ r. grid_given (rows_of (found_of options.now)) ≡ Err r) }
+    ensures range { IfOk result AreShort }
+{
+    let Some(tried) = tried_given(options) else {
+        return Err(Refusal::Scheds);
+    };
+    let Some(fifo_batch) = list_given(options, "fifo-batch", MAX_SHORT) else {
+        return Err(Refusal::FifoBatch);
+    };
+    let Some(writes_starved) = list_given(options, "writes-starved", MAX_SHORT) else {
+        return Err(Refusal::WritesStarved);
+    };
+    let Some(read_target) = list_given(options, "read-target", MAX_TARGET) else {
+        return Err(Refusal::ReadTarget);
+    };
+    let Some(write_target) = list_given(options, "write-target", MAX_TARGET) else {
+        return Err(Refusal::WriteTarget);
+    };
+    Ok(Lists {
+        tried,
+        fifo_batch,
+        writes_starved,
+        read_target,
+        write_target,
+    })
+}
+
+/// The trial that the options of `tune` ask for, or the refusal of the first of them that can't be done.
+fn tune_job(options: &ArgMatches<'_>) -> Job
+    ensures { result ≡ tune_job (rows_of (found_of options.now)) }
+{
+    match lists_given(options) {
+        Ok(_) => {}
+        Err(refusal) => return Job::Refuse(refusal),
+    }
+    let Some(by) = by_given(options) else {
+        return Job::Refuse(Refusal::By);
+    };
+    Job::Tune(Tuning {
+        by,
+        top: number_of(options, "top"),
+        threads: number_of(options, "threads"),
+        form: form_asked(options),
+    })
+}
+
+/// The job of `oracle` by its flags, two of which may not stand together; certificates are no JSON.
 fn oracle_job(options: &ArgMatches<'_>) -> Option<Job>
-    ensures { result ≡ oracle_job (is_flagged (codes "trace") (rows_of (found_of options.now))) (is_flagged (codes "met") (rows_of (found_of options.now))) }
+    ensures { result ≡ oracle_job (is_flagged (codes "trace") (rows_of (found_of options.now))) (is_flagged (codes "met") (rows_of (found_of options.now))) (is_flagged (codes "json") (rows_of (found_of options.now))) }
 {
     let trace = is_flagged(options, "trace");
     let met = is_flagged(options, "met");
+    let json = is_flagged(options, "json");
     if trace && met {
         None
     } else if trace {
-        Some(Job::Report)
+        Some(Job::Report(form_of(json)))
+    } else if json {
+        Some(Job::Refuse(Refusal::JsonAlone))
     } else if met {
         Some(Job::Met)
     } else {
@@ -578,12 +667,18 @@ fn job_made(makes: Makes, options: &ArgMatches<'_>) -> Option<Job>
             Some(Job::Sim(sched))
         }
         Makes::Compare => compare_of(options),
+        Makes::Tune => Some(tune_job(options)),
+        Makes::Picture => picture_of(options),
+        Makes::Late => Some(Job::Late(form_asked(options))),
+        Makes::Misses => Some(Job::Misses(form_asked(options))),
+        Makes::Spread => Some(Job::Spread(form_asked(options))),
+        Makes::Check => Some(Job::Check(form_asked(options))),
         Makes::Oracle => oracle_job(options),
         Makes::Import => Some(import_job(options)),
         Makes::Judge => Some(Job::Judge {
             each: is_flagged(options, "each"),
         }),
-        Makes::Load => load_of(options),
+        Makes::Load => load_job(options),
     }
 }
 
@@ -599,12 +694,28 @@ fn makes_of(name: &str, rows: &[CommandRow]) -> Option<Makes>
     None
 }
 
+/// The first of these that there is.
+fn first_of(first: Option<Makes>, second: Option<Makes>) -> Option<Makes>
+    ensures { result ≡ option_or first second }
+{
+    first.or(second)
+}
+
+/// The same of all subcommands.
+fn makes_named(name: &str) -> Option<Makes>
+    ensures { (names : Names) → result ≡ option_map (λ s. s.makes) (find (λ s. bytes_eq name.now s.name) (all_commands names)) }
+{
+    let first = makes_of(name, run_commands());
+    let second = makes_of(name, other_commands());
+    first_of(first, second)
+}
+
 /// The job of the subcommand that was read.
 fn job_of(matches: &ArgMatches<'_>) -> Option<Job>
     ensures { (names : Names) → result ≡ option_and_then (job_of names) (subcommand_rows_of matches.now) }
 {
     let (name, options) = matches.subcommand()?;
-    let makes = makes_of(name, COMMANDS.as_slice())?;
+    let makes = makes_named(name)?;
     job_made(makes, options)
 }
 
@@ -629,5 +740,32 @@ pub fn choose(alloc: Global, words: &[String]) -> Result<Job, NoJob>
                 Err(_) => Err(NoJob::Memory),
             },
         },
+    }
+}
+
+/// The lists of the subcommand that was read.
+fn lists_of(matches: &ArgMatches<'_>) -> Option<Lists>
+    ensures lists { IfSome result (λ l. option_and_then (λ p. result_ok (grid_given p.1)) (subcommand_rows_of matches.now) ≡ Some (grid_of_lists l)) }
+    ensures range { IfSome result AreShort }
+{
+    let (_, options) = matches.subcommand()?;
+    match lists_given(options) {
+        Ok(lists) => Some(lists),
+        Err(_) => None,
+    }
+}
+
+/// The grid that the words of a trial ask for, which are read once more. [`AllocError`] where memory ran out, and where the words ask for no
+/// trial: `choose` says whether they do.
+pub fn grid_asked(alloc: Global, words: &[String]) -> Result<Grid, AllocError>
+    ensures { IfOk result (λ g. AsksGrid (map string_bytes words.now) (gridded g)) }
+{
+    let command = blk_command(alloc)?;
+    match command.try_get_matches_from(words) {
+        Ok(matches) => match lists_of(&matches) {
+            Some(lists) => lists.grid(alloc),
+            None => Err(AllocError),
+        },
+        Err(_) => Err(AllocError),
     }
 }

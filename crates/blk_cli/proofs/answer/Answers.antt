@@ -1,13 +1,21 @@
-use Rattle.std.proofs.Common.{sym, subst}
+use Rattle.std.proofs.Common.{sym, subst, inl, map, string_bytes}
 use Rattle.blk_cli.specs.Said.{Said}
 use Rattle.blk_cli.specs.Gives.{Gives}
-use Rattle.blk_cli.proofs.Alone.{gives_text}
+use Rattle.blk_cli.proofs.Alone.{gives_text, fails_text}
 use Rattle.blk_cli.proofs.answer.Goals as goal
 
 pub returns-in-Ok-work : goal.returns-in-Ok-work
 returns-in-Ok-work g c =
-    let given = gives_text c.in-Ok.job c.args.records.now.left c.in-Ok-work.text.items c.in-Ok-work.ensures.text in
+    let words = map string_bytes c.args.words.now in
+    let given = gives_text words c.in-Ok.job c.args.records.now.left c.args.records.now.bytes c.in-Ok-work.text.items c.in-Ok-work.ensures.text in
     record {
-      answers = (c.in-Ok.job, c.in-Ok.ensures.asked, subst (λ (s : Said). Gives c.in-Ok.job c.args.records.now.left s) (sym c.alone-in-Ok-work.ensures) given);
+      answers = (c.in-Ok.job, c.in-Ok.ensures.asked, subst (λ (s : Said). Gives words c.in-Ok.job c.args.records.now.left c.args.records.now.bytes s) (sym c.alone-in-Ok-work.ensures) given);
       without = tt;
+    }
+
+pub returns-in-Err-work : goal.returns-in-Err-work
+returns-in-Err-work g c =
+    record {
+      answers = tt;
+      without = inl (c.in-Ok.job, c.in-Ok.ensures.asked, fails_text (map string_bytes c.args.words.now) c.in-Ok.job c.args.records.now.left _ c.in-Err-work.failure c.in-Err-work.ensures.fails);
     }

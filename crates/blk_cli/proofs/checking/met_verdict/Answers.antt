@@ -1,4 +1,4 @@
-use Rattle.std.proofs.Common.{rules, ◌≡◌, refl, length, string_bytes}
+use Rattle.std.proofs.Common.{rules, ◌≡◌, refl, length}
 use Rattle.edd_check.specs.Capacity.{fixed}
 use Rattle.edd_check.specs.Met.{carried_by, outside_of}
 use Rattle.blk_lists.specs.Met.{met_claimed}
@@ -12,4 +12,4 @@ returns c =
     let windows : c.len-windows.result ≡ length certificate.cover.items = search rules in
     let carries : c.carried_by-carries.result ≡ carried_by (fixed certificate.depth) certificate.cover.items = search rules in
     let rest : c.outside-rest.result ≡ outside_of certificate.commands.items certificate.cover.items = search rules in
-    met_line_is string_bytes c.format.result (met_claimed certificate) certificate.met c.len-count.result c.len-windows.result c.carried_by-carries.result c.outside-rest.result refl count windows carries rest c.format.ensures.ok
+    met_line_is c.args.form (λ text. text.items) c.met_text.result (met_claimed certificate) certificate.met c.len-count.result c.len-windows.result c.carried_by-carries.result c.outside-rest.result refl count windows carries rest c.met_text.ensures

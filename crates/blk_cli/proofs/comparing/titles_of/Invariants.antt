@@ -1,0 +1,6 @@
+use Rattle.std.proofs.Common.{take, map, ◌≡◌}
+use Rattle.blk_settings.specs.Rows.{name_of}
+use Rattle.blk_cli.proofs.comparing.titles_of.Given as goal
+
+abbrev pub invariant-loop-i : goal.invariant-loop-i
+invariant-loop-i l = record { named : map (λ name. name.now) l.names.items ≡ map name_of (take l.i l.scheds) }

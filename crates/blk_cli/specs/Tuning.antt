@@ -1,0 +1,39 @@
+-- What is written of a script under each setting of a grid, and why nothing is.
+use Rattle.std.specs.Prelude.{◌≡◌, ◌⊎◌, ℕ, List}
+use Rattle.blk_text.specs.Script.{Scripted}
+use Rattle.blk_grid.specs.Rows.{Gridded, grid_rows}
+use Rattle.blk_grid.specs.Wanted.{Wanted}
+use Rattle.blk_tune.specs.declared.row.Row.{Row}
+use Rattle.blk_tune.specs.Tuned.{AreTuned, IsTuned}
+use Rattle.blk_json.specs.Trials.{trial_json}
+use Rattle.blk_words.specs.Asked.{AsksGrid}
+use Rattle.blk_words.specs.declared.words.Form.{Form}
+use Rattle.blk_words.specs.declared.words.Form.TheVariants as form
+use Rattle.blk_words.specs.declared.words.Tuning.{Tuning}
+use Rattle.blk_cli.specs.declared.failure.Failure.{Failure}
+use Rattle.blk_cli.specs.declared.failure.Failure.TheVariants as failure
+use Rattle.blk_cli.specs.Comparing.{IsUncompared}
+
+-- what is asked of a trial with this grid
+abbrev pub wanted_by : Tuning → Gridded → Wanted
+wanted_by t g = record { grid = g; by = t.by; top = t.top }
+
+-- the rows of a trial as a JSON value, and in a form
+pub record IsTunedJson (w : Wanted) (script : Scripted) (text : List ℕ) : Type 0 where
+  pub rows : List Row
+  pub are_tuned : AreTuned w script rows
+  pub is_text : text ≡ trial_json w.by w.top rows
+
+abbrev pub IsTunedIn : Form → Wanted → Scripted → List ℕ → Type 0
+IsTunedIn form.Lines w script text = IsTuned w script text
+IsTunedIn form.Json w script text = IsTunedJson w script text
+
+-- what `tune` writes: the rows of the grid that the words ask for
+pub record IsTrial (words : List (List ℕ)) (t : Tuning) (script : Scripted) (text : List ℕ) : Type 0 where
+  pub grid : Gridded
+  pub asked : AsksGrid words grid
+  pub is_text : IsTunedIn t.form (wanted_by t grid) script text
+
+-- why it writes nothing: the script isn't run under each setting of this grid, or memory ran out, which may be before there is a grid
+abbrev pub IsUntried : List (List ℕ) → Scripted → Failure → Type 0
+IsUntried words script f = ((grid : Gridded) × AsksGrid words grid × IsUncompared (grid_rows grid) script f) ⊎ (f ≡ failure.Memory)

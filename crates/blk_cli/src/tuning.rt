@@ -1,0 +1,111 @@
+//! The job over a script that tries it under each setting of a grid.
+
+ghost use Rattle.std.specs.Prelude.{◌≡◌, IfOk, IfErr, map, string_bytes};
+ghost use Rattle.blk_text.specs.Script.{IsScript, SpellsScript, ScriptFault, scripted};
+ghost use Rattle.blk_grid.specs.Rows.{grid_rows};
+ghost use Rattle.blk_grid.specs.Wanted.{wanted};
+ghost use Rattle.blk_runs.specs.Firsts.{AreUnrun};
+ghost use Rattle.blk_cli.specs.Inputs.{Of, FailsOver};
+ghost use Rattle.blk_cli.specs.Tuning.{IsTunedJson, IsTunedIn, IsTrial, IsUntried};
+
+use crate::failure::Failure;
+use blk_grid::Asked;
+use blk_json::trial_json;
+use blk_lists::Records;
+use blk_runs::RunFault;
+use blk_text::{Script, read_script};
+use blk_tune::{Progress, rows, tune};
+use blk_words::{Form, Tuning, grid_asked};
+use std::alloc::Global;
+use std::io::Read;
+use std::thread::Threads;
+
+/// The rows of a trial as a JSON value.
+fn json_of<T: Threads + Sync, P: Progress>(
+    rt: &T,
+    alloc: Global,
+    asked: &Asked,
+    script: &Script,
+    progress: &mut P,
+) -> Result<Vec<u8>, RunFault>
+    requires { IsScript (scripted script.now) }
+    ensures text { IfOk result (λ text. IsTunedJson (wanted asked.now) (scripted script.now) text.items) }
+    ensures unrun { IfErr result (AreUnrun (grid_rows (wanted asked.now).grid) (scripted script.now)) }
+{
+    let rows = match rows(rt, alloc, asked, script, progress) {
+        Ok(rows) => rows,
+        Err(fault) => return Err(fault),
+    };
+    match trial_json(alloc, asked.by, asked.top, rows.as_slice()) {
+        Ok(text) => Ok(text),
+        Err(_) => Err(RunFault::Memory),
+    }
+}
+
+/// The rows of a trial in a form.
+fn tuned_in<T: Threads + Sync, P: Progress>(
+    rt: &T,
+    alloc: Global,
+    form: Form,
+    asked: &Asked,
+    script: &Script,
+    progress: &mut P,
+) -> Result<Vec<u8>, RunFault>
+    requires { IsScript (scripted script.now) }
+    ensures text { IfOk result (λ text. IsTunedIn form (wanted asked.now) (scripted script.now) text.items) }
+    ensures unrun { IfErr result (AreUnrun (grid_rows (wanted asked.now).grid) (scripted script.now)) }
+{
+    match form {
+        Form::Lines => tune(rt, alloc, asked, script, progress),
+        Form::Json => json_of(rt, alloc, asked, script, progress),
+    }
+}
+
+/// The rows of a script under each setting of the grid that the words ask for.
+fn trial_of<T: Threads + Sync, P: Progress>(
+    rt: &T,
+    alloc: Global,
+    words: &[String],
+    tuning: Tuning,
+    script: &Script,
+    progress: &mut P,
+) -> Result<Vec<u8>, Failure>
+    requires { IsScript (scripted script.now) }
+    ensures text { IfOk result (λ text. IsTrial (map string_bytes words.now) tuning (scripted script.now) text.items) }
+    ensures untried { IfErr result (IsUntried (map string_bytes words.now) (scripted script.now)) }
+{
+    let Ok(grid) = grid_asked(alloc, words) else {
+        return Err(Failure::Memory);
+    };
+    let asked = Asked {
+        grid,
+        by: tuning.by,
+        top: tuning.top,
+        threads: tuning.threads,
+    };
+    match tuned_in(rt, alloc, tuning.form, &asked, script, progress) {
+        Ok(text) => Ok(text),
+        Err(fault) => Err(Failure::of_run(fault)),
+    }
+}
+
+/// Reads a script, and tries it under each setting of the grid that the words ask for, on the threads of `rt`. How far it has come is
+/// told to `progress`.
+pub fn over_trial<T: Threads + Sync, R: Read + Drop, P: Progress>(
+    rt: &T,
+    alloc: Global,
+    words: &[String],
+    tuning: Tuning,
+    records: &mut Records<R>,
+    progress: &mut P,
+) -> Result<Vec<u8>, Failure>
+    requires { records.old.at ≡ 0 }
+    ensures text { IfOk result (λ text. Of SpellsScript (IsTrial (map string_bytes words.now) tuning) records.old.left text.items) }
+    ensures fails { IfErr result (FailsOver SpellsScript ScriptFault (IsUntried (map string_bytes words.now)) records.old.left records.new.failed) }
+{
+    let script = match read_script(alloc, records) {
+        Ok(script) => script,
+        Err(fault) => return Err(Failure::Text(fault)),
+    };
+    trial_of(rt, alloc, words, tuning, &script, progress)
+}
