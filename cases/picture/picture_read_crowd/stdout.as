@@ -1,0 +1,1 @@
+../../../docs/pictures/read_crowd.svg

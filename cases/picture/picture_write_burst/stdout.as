@@ -1,0 +1,1 @@
+../../../docs/pictures/write_burst.svg

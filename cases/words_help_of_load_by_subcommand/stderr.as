@@ -1,1 +1,0 @@
-../../tools/help/blk-load

@@ -1,1 +1,0 @@
-../../tools/help/no-words
