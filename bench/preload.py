@@ -81,7 +81,7 @@ def make(source, library):
 
 def spoil(name, source, work, picked, always):
     """Runs `work`, which answers what went wrong and some sums, over the picked cases with the library of that source, and says
-    of each what went wrong. The names `always` have to be among them. Answers how many passed and failed, and the sums."""
+    of each what went wrong. The cases of the names `always` have to be among them. Answers how many passed and failed, and the sums."""
     failed, sums = 0, None
     with tempfile.TemporaryDirectory() as room:
         library = f"{room}/spoil.so"
@@ -91,7 +91,7 @@ def spoil(name, source, work, picked, always):
             if told:
                 failed += 1
                 print(f"{name} {it}:\n{told}", end="", flush=True)
-    missing = sorted(set(always) - {it for it, _ in picked})
+    missing = sorted(set(always) - {it.rsplit("/", 1)[-1] for it, _ in picked})
     for it in missing:
         print(f"{name} {it}:\n    is not among the cases that were tried")
     return len(picked) - failed, failed + len(missing), sums

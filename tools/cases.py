@@ -4,9 +4,11 @@
     tools/cases.py                  every case and every example
     tools/cases.py cases            the cases alone
     tools/cases.py examples         the examples alone
-    tools/cases.py NAME..           those alone: folders of cases/, and texts of examples/ by their file names
+    tools/cases.py NAME..           those alone: cases by their names, all of a subcommand by its own, and texts of examples/ by their
+                                    file names
 
-A case is a folder of cases/, named by what it shows, with these files, each of which may be missing:
+A case is a folder cases/SUBCOMMAND/NAME, named by what it shows; those of words that name no subcommand, and of help, are in
+cases/words. It has these files, each of which may be missing:
 
     args      the words, one a line (none)
     stdin     the input (empty)
@@ -121,16 +123,24 @@ def read_case(folder):
     return case
 
 
+def case_folders(top=TOP):
+    """The folders of the cases, by the cases' names: no two subcommands have a case of one name."""
+    folders = {}
+    for folder in sorted(it for it in (top / "cases").glob("*/*") if it.is_dir()):
+        if folder.name in folders:
+            raise Fault(f"{folder} and {folders[folder.name]} have one name")
+        folders[folder.name] = folder
+    return folders
+
+
 def read_cases(top=TOP):
     """Every case of the repository, by name; in place of a case a Fault where its folder isn't one."""
     cases = {}
-    for folder in sorted((top / "cases").iterdir()):
-        if not folder.is_dir():
-            continue
+    for name, folder in case_folders(top).items():
         try:
-            cases[folder.name] = read_case(folder)
+            cases[name] = read_case(folder)
         except Fault as fault:
-            cases[folder.name] = fault
+            cases[name] = fault
     return cases
 
 
@@ -281,15 +291,25 @@ def side_by_side(work, cases):
             pool.shutdown(wait=False, cancel_futures=True)
 
 
-def run_all(program, cases):
-    """Runs cases side by side, says what is wrong with each that fails, and how many passed and failed."""
-    failed = 0
-    for name, told in side_by_side(lambda it: judge(program, it), cases):
+def counted(outcomes, heading):
+    """Says what is wrong with each case that failed, under a heading that names it, and how many passed and failed.
+
+    Outcomes are pairs of a name and what is wrong, empty where nothing is. Gives how many failed.
+    """
+    passed = failed = 0
+    for name, told in outcomes:
         if told:
             failed += 1
-            print(f"case {name}:\n{told}", end="", flush=True)
-    print(f"{len(cases) - failed} passed, {failed} failed", flush=True)
+            print(f"{heading.format(name)}{told}", end="", flush=True)
+        else:
+            passed += 1
+    print(f"{passed} passed, {failed} failed", flush=True)
     return failed
+
+
+def run_all(program, cases):
+    """Runs cases side by side, says what is wrong with each that fails, and how many passed and failed."""
+    return counted(side_by_side(lambda it: judge(program, it), cases), "case {}:\n")
 
 
 def ended(number, _):
@@ -299,21 +319,25 @@ def ended(number, _):
 
 def chosen(words):
     """The cases that the words name, as pairs of a name and a case; a Fault where one names none."""
-    cases = {f"cases/{name}": case for name, case in read_cases().items()}
+    known, folders = read_cases(), case_folders()
+    cases = {f"cases/{folders[name].parent.name}/{name}": case for name, case in known.items()}
     examples = {f"examples/{name}": case for name, case in read_examples().items()}
     both = {**cases, **examples}
     if not words:
         return list(both.items())
     picked = {}
     for word in words:
-        found = {"cases": cases, "examples": examples}.get(word)
-        if found is None:
-            name = word.rstrip("/")
-            found = {it: both[it] for it in (name, f"cases/{name}", f"examples/{name}") if it in both}
+        parts = Path(word).parts
+        found = {it: case for it, case in both.items() if parts and is_named(Path(it).parts, parts)}
         if not found:
-            raise Fault(f"{word} is no case and no example: give cases, examples, or names of cases/ or examples/")
+            raise Fault(f"{word} is no case and no example: give cases, examples, a subcommand, or names of cases/ or examples/")
         picked.update(found)
     return list(picked.items())
+
+
+def is_named(path, parts):
+    """Whether the parts of a word name a case or an example by its path: from any folder of it on, to any of its folders or its end."""
+    return any(path[at : at + len(parts)] == parts for at in range(len(path)))
 
 
 def main(words):

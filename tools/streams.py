@@ -17,6 +17,7 @@ did, 2 where a word is in no name, and 3 where the program isn't there.
 import contextlib
 import os
 import pty
+import re
 import signal
 import socket
 import sys
@@ -47,6 +48,7 @@ GOOD = [
     "deadline_write_before_read",
     "kyber_write_before_read",
     "compare_write_before_read",
+    "tune_none_and_earliest",
     "migrate_write_before_read",
     "oracle_three_at_once",
     "oracle_met_two_of_three",
@@ -57,7 +59,12 @@ GOOD = [
     "spread_write_before_read",
     "late_write_before_read",
     "misses_write_before_read",
+    "report_write_before_read_json",
+    "compare_write_before_read_json",
+    "spread_write_before_read_json",
+    "tune_none_and_earliest_json",
     "import_one_request",
+    "explain_script",
 ]
 
 # Cases that write to standard output and read nothing.
@@ -303,6 +310,11 @@ def terminal():
     return ours, theirs
 
 
+def seen(shown):
+    """What stays of what was written to a terminal, where lines that are rewritten in place are cleared."""
+    return re.sub(rb"\r\x1b\[K[^\r\n]*(?=\r\x1b\[K)", b"", shown).replace(b"\r\x1b[K", b"")
+
+
 def typed(stack, text):
     """A terminal at which the text is typed, and then the end of the input."""
     ours, theirs = terminal()
@@ -385,12 +397,17 @@ def input_typed_at_a_terminal(trials):
     trials.read(typed)
 
 
+# what is said of an empty text
+EXPLAINED = Run(1, b"line 1, record 1, found nothing, wanted a title\nblk: record 1: Title\n", b"")
+
+
 @trial
 def input_of_a_terminal_that_was_left(trials):
     """Its end comes at once, so it is an empty text."""
     for name, args, _, _ in trials.each(GOOD):
         with contextlib.ExitStack() as stack:
-            trials.see(name, run(args, left(stack)), Run(1, b"", b"blk: record 1: Title\n"))
+            wanted = EXPLAINED if name == "explain_script" else Run(1, b"", b"blk: record 1: Title\n")
+            trials.see(name, run(args, left(stack)), wanted)
 
 
 @trial
@@ -483,8 +500,34 @@ def all_at_one_terminal(trials):
             closing(stack, ours, theirs)
             os.write(ours, text + b"\x04")
             ended = run(args, theirs, theirs, theirs)
-            ended.wrote = os.read(ours, PIECE)
+            ended.wrote = seen(os.read(ours, PIECE))
             trials.see(name, ended, wanted)
+
+
+@trial
+def progress_at_a_terminal(trials):
+    """How many runs are done is told where standard error is a terminal, and cleared before a line on a refusal."""
+    for name, args, text, wanted in trials.each(["tune_none_and_earliest", "tune_refused_under_kyber_alone"]):
+        with contextlib.ExitStack() as stack:
+            ours, theirs = terminal()
+            closing(stack, ours, theirs)
+            ended = run(args, piped(stack, text), KEPT, theirs)
+            shown = os.read(ours, PIECE)
+            ended.said = seen(shown)
+            trials.see(name, ended, wanted)
+            told = re.match(rb"(?:\r\x1b\[K\d+ of 3 runs, \d+ s)+\r\x1b\[K", shown)
+            trials.see(f"{name}, progress", bool(told), True)
+
+
+@trial
+def progress_at_no_terminal(trials):
+    for name, args, text, wanted in trials.each(["tune_none_and_earliest", "tune_refused_under_kyber_alone"]):
+        for device in ("/dev/null", "/dev/full"):
+            with contextlib.ExitStack() as stack:
+                ended = run(args, piped(stack, text), KEPT, opened(stack, device, os.O_WRONLY))
+                trials.see(f"{name}, {device}", ended, Run(wanted.status, wanted.wrote))
+        with contextlib.ExitStack() as stack:
+            trials.see(name, run(args, piped(stack, text)), wanted)
 
 
 @trial
@@ -617,6 +660,8 @@ FORMS = {
     b"oracle --met": b"blk-commands,1,1\n1,0,0\n",
     b"check": b"blk-certificate,1,1,3\nbound,2,0,0\n",
     b"judge": b"blk-schedule,1,1,3\n1,0,0,0\n",
+    b"explain": b"blk-script,1,1,1,4,1\nsetup,0,9,256,128,\n",
+    b"picture": b"blk-trace,2,1,1,8,\nsetup,0,9,256,128,\n",
     b"import": b"blk-capture,1,,,,,,\n0,000000010,0,Q,1,R,0,8\n",
     b"import --script --round 1ms": b"blk-capture,1,,,,,,\n0,000000010,0,Q,1,R,0,8\n",
 }

@@ -162,7 +162,7 @@ def forms(commands):
 def held_by_cases():
     """The words whose text a case compares with a kept one, and which."""
     held = {}
-    for it in [*TOP.glob("cases/*/stdout.as"), *TOP.glob("cases/*/stderr.as")]:
+    for it in [*TOP.glob("cases/*/*/stdout.as"), *TOP.glob("cases/*/*/stderr.as")]:
         args = it.parent / "args"
         words = tuple(args.read_text().splitlines()) if args.exists() else ()
         held[words] = Path(it.parent, it.read_text().rstrip("\n")).resolve()
