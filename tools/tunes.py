@@ -21,7 +21,7 @@ import sys
 
 sys.dont_write_bytecode = True
 
-from cases import PROGRAM, SECONDS, TOP, Fault, ended, side_by_side
+from cases import PROGRAM, SECONDS, TOP, Fault, counted, ended, side_by_side
 from json_cases import number
 
 # Two workloads; a read that a newcomer joins at its front; reads that make writes wait; and steps by hand.
@@ -144,6 +144,18 @@ def looked_at(check):
         return f"    {fault}\n"
 
 
+def outcomes(names):
+    """What is wrong with each check of the scripts of these names, beside what it is of."""
+    for name in names:
+        try:
+            checks = list(checks_of(SCRIPTS[name].read_bytes()))
+        except (Fault, OSError, ValueError, subprocess.TimeoutExpired) as fault:
+            yield f"script {name}", f"    {fault}\n"
+            continue
+        for what, told in side_by_side(looked_at, checks):
+            yield f"script {name}, {what}", told
+
+
 def main(words):
     """The look as a command; its exit status."""
     if any(it in ("-h", "--help") for it in words):
@@ -156,22 +168,7 @@ def main(words):
     if not os.access(PROGRAM, os.X_OK):
         print(f"tools/tunes.py: there is no program {PROGRAM.relative_to(TOP)}: ./blk builds it", file=sys.stderr)
         return 3
-    passed = failed = 0
-    for name in words or SCRIPTS:
-        try:
-            checks = list(checks_of(SCRIPTS[name].read_bytes()))
-        except (Fault, OSError, ValueError, subprocess.TimeoutExpired) as fault:
-            failed += 1
-            print(f"script {name}:\n    {fault}", flush=True)
-            continue
-        for what, told in side_by_side(looked_at, checks):
-            if told:
-                failed += 1
-                print(f"script {name}, {what}:\n{told}", end="", flush=True)
-            else:
-                passed += 1
-    print(f"{passed} passed, {failed} failed", flush=True)
-    return 1 if failed else 0
+    return 1 if counted(outcomes(words or SCRIPTS), "{}:\n") else 0
 
 
 if __name__ == "__main__":
