@@ -2,8 +2,8 @@
 use Rattle.std.proofs.Common.{◌≡◌, ◌<◌, ◌∙◌, ℕ, List, length, get_or, Some, None, refl, sym, ap, arith}
 use Rattle.std.specs.Prelude.{Option}
 use Rattle.std.proofs.lemmas.List.{same_lists, get_or_default}
-use Rattle.edd_check.specs.declared.Command.{Command}
-use Rattle.edd_check.specs.declared.steps.Step.{Step}
+use Rattle.edd_commands.specs.declared.Command.{Command}
+use Rattle.edd_commands.specs.declared.steps.Step.{Step}
 use Rattle.edd_verdict.specs.declared.Verdict.{Verdict}
 use Rattle.edd_verdict.specs.Verdicts.{IsLate, IsVerdict, IsVerdictAt, AreVerdicts}
 

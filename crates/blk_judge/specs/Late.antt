@@ -1,9 +1,9 @@
 -- The late commands of a schedule, and why each is late.
 use Rattle.std.specs.Prelude.{ℕ, ◌≡◌, ◌-◌, List, Option, None, Some}
 use Rattle.std.specs.List.{zip, filter_map}
-use Rattle.edd_check.specs.declared.Command.{Command}
-use Rattle.edd_check.specs.declared.steps.Step.{Step}
-use Rattle.edd_check.specs.Schedule.{IsLegal}
+use Rattle.edd_commands.specs.declared.Command.{Command}
+use Rattle.edd_commands.specs.declared.steps.Step.{Step}
+use Rattle.edd_commands.specs.Schedule.{IsLegal}
 use Rattle.edd_verdict.specs.declared.Verdict.{Verdict}
 use Rattle.edd_verdict.specs.Verdicts.{AreVerdicts}
 use Rattle.blk_judge.specs.declared.missing.Miss.{Miss}

@@ -1,16 +1,17 @@
-//! What is told of a schedule as a whole.
+//! The judgement on a schedule as a whole.
 
 ghost use Rattle.std.specs.Prelude.{◌≡◌, ◌≤◌, ◌<◌, ◌↔◌, length, IfErr, IfOk};
-ghost use Rattle.edd_check.specs.Schedule.{RoundsInRange};
+ghost use Rattle.edd_commands.specs.Schedule.{RoundsInRange};
 ghost use Rattle.edd_oracle.specs.Input.{IsTaken};
 ghost use Rattle.blk_judge.specs.Judged.{IsRefused, IsJudgement};
 
 use crate::legality::find_fault;
-use edd_check::{Capacity, CheckFault, Command};
+use edd_check::CheckFault;
+use edd_commands::{Capacity, Command};
 use edd_figures::{Figures, Misses, figures_of, misses_of};
 use std::alloc::{Allocator, Global};
 
-/// What is told of a legal schedule.
+/// The judgement on a legal schedule.
 #[derive(Debug, Drop)]
 pub struct Judged<A: Allocator = Global> {
     /// How many commands are late, how many of these had to be, and the windows that prove it.
@@ -23,8 +24,8 @@ pub struct Judged<A: Allocator = Global> {
 /// had to be, all measured against the legal schedules of the same commands. The commands are as the oracle takes them, and the rounds
 /// below 2^41.
 ///
-/// Refused, in this order: a command that runs before its release (`BeforeRelease`, the first one by place), want of memory
-/// (`Memory`), which may come in place of any later answer, and a round with more commands than it carries (`OverDepth`, the least
+/// Refused, in this order: a command that runs before its release (`BeforeRelease`, the first one by place), running out of
+/// memory (`Memory`), which may come in place of any later answer, and a round with more commands than it carries (`OverDepth`, the least
 /// round). No other fault is answered. The time grows as n log n in the number of commands.
 pub fn judge<A: Allocator + Clone, B: Allocator>(
     alloc: A,

@@ -1,14 +1,15 @@
 //! Whether a schedule is legal.
 
 ghost use Rattle.std.specs.Prelude.{◌≡◌, length, IfErr, OnOk};
-ghost use Rattle.edd_check.specs.Schedule.{IsLegal, CommandsInRange, RoundsInRange};
+ghost use Rattle.edd_commands.specs.Schedule.{IsLegal, CommandsInRange, RoundsInRange};
 ghost use Rattle.blk_judge.specs.Judged.{IsRefused};
 
-use edd_check::{Capacity, CheckFault, Command, Window, check};
+use edd_check::{CheckFault, Window, check};
+use edd_commands::{Capacity, Command};
 use std::alloc::Allocator;
 
-/// Nothing where the schedule is legal, and else the first fault of its rounds, as the check tells it. What the check says of rounds
-/// that are legal depends on a claim; here nothing is claimed of them.
+/// Ok where the schedule is legal, else the first fault of its rounds, by the check. Of legal rounds the check goes on to a claim;
+/// there is none here, so its answer is Ok.
 pub(crate) fn find_fault<A: Allocator, B: Allocator>(
     alloc: A,
     commands: &[Command],
@@ -23,7 +24,7 @@ pub(crate) fn find_fault<A: Allocator, B: Allocator>(
 {
     let window = Window { from: 0, due: 0 };
     match check(alloc, commands, capacity, 0, rounds, window) {
-        Ok(()) => Ok(()),
+        Ok(_) => Ok(()),
         Err(CheckFault::WrongLateness(_)) => Ok(()),
         Err(CheckFault::NotCrowded(_)) => Ok(()),
         Err(CheckFault::BeforeRelease(id)) => Err(CheckFault::BeforeRelease(id)),

@@ -2,7 +2,7 @@
 //! the latest one is and had to be, and why each late command is late.
 //!
 //! Commands are unit jobs with release and due rounds on as many machines as a round has (Pinedo, Scheduling: Lmax and the number of
-//! tardy jobs). Whoever made the schedule, what is told of it is measured against all legal schedules of the same commands.
+//! tardy jobs). Whoever made the schedule, its judgement is measured against all legal schedules of the same commands.
 #![tactic(auto)]
 
 mod judging;

@@ -2,14 +2,15 @@
 
 ghost use Rattle.std.specs.Prelude.{ℕ, ◌≡◌, List, Option, length, IfErr, IfOk};
 ghost use Rattle.std.specs.List.{zip, filter_map};
-ghost use Rattle.edd_check.specs.declared.Command.{Command as ACommand};
-ghost use Rattle.edd_check.specs.Schedule.{RoundsInRange};
+ghost use Rattle.edd_commands.specs.declared.Command.{Command as ACommand};
+ghost use Rattle.edd_commands.specs.Schedule.{RoundsInRange};
 ghost use Rattle.edd_oracle.specs.Input.{IsTaken};
 ghost use Rattle.blk_judge.specs.Judged.{IsRefused};
 ghost use Rattle.blk_judge.specs.Late.{miss_of, AreMissed};
 
 use crate::legality::find_fault;
-use edd_check::{Capacity, CheckFault, Command};
+use edd_check::CheckFault;
+use edd_commands::{Capacity, Command};
 use edd_verdict::{Verdict, law_of_verdicts, verdicts};
 use std::alloc::{AllocError, Allocator};
 

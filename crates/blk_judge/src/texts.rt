@@ -1,16 +1,13 @@
-//! What is told of a schedule as text.
+//! A judgement as text.
 
 ghost use Rattle.std.specs.Prelude.{◌≡◌, ◌++◌, IfOk, OnOk};
 ghost use Rattle.std.specs.List.{flat_map};
-ghost use Rattle.blk_judge.specs.Text.{counts_text, values_text, figures_text, judged_text, miss_line, misses_text};
+ghost use Rattle.blk_judge.specs.Text.{counts_text, judged_text, miss_line, misses_text};
 
 use crate::{Judged, Miss};
 use drafts::Draft;
-use edd_check::Window;
-use edd_figures::lines::{
-    push_crowds, push_field, push_late_line, push_number_line, push_verdict, push_window_lines,
-};
-use edd_figures::{Counts, Figures};
+use edd_figures::Counts;
+use edd_figures::lines::{push_crowds, push_field, push_figures, push_number_line, push_verdict};
 use std::alloc::{AllocError, Allocator, Global};
 
 /// Adds the lines of the counts.
@@ -24,49 +21,9 @@ fn push_counts(draft: &mut Draft, counts: Counts) -> Result<(), AllocError>
     push_number_line(draft, b"spare", counts.spare)
 }
 
-/// Adds the lines of these values, each `none` where there is none.
-fn push_values(
-    draft: &mut Draft,
-    alloc: Global,
-    greatest: Option<i64>,
-    least: Option<i64>,
-    shortfall: Option<i64>,
-    window: Option<Window>,
-    load: Option<u64>,
-) -> Result<(), AllocError>
-    ensures { OnOk result (draft.new ≡ draft.old ++ values_text greatest least shortfall window load) }
-{
-    push_late_line(draft, alloc, b"greatest", greatest)?;
-    push_late_line(draft, alloc, b"least", least)?;
-    push_late_line(draft, alloc, b"shortfall", shortfall)?;
-    push_window_lines(draft, window, load)
-}
-
-/// Adds the lines of the figures, if there are some.
-fn push_figures(
-    draft: &mut Draft,
-    alloc: Global,
-    figures: Option<Figures>,
-) -> Result<(), AllocError>
-    ensures { OnOk result (draft.new ≡ draft.old ++ figures_text figures) }
-{
-    match figures {
-        Some(figures) => push_values(
-            draft,
-            alloc,
-            Some(figures.greatest),
-            Some(figures.least),
-            Some(figures.shortfall),
-            Some(figures.window),
-            Some(figures.load),
-        ),
-        None => push_values(draft, alloc, None, None, None, None, None),
-    }
-}
-
-/// The lines of what is told of a schedule: `commands N`, `late M`, `unavoidable U`, `avoidable A`, `spare S`, `greatest G`, `least L`,
+/// The lines of a judgement: `commands N`, `late M`, `unavoidable U`, `avoidable A`, `spare S`, `greatest G`, `least L`,
 /// `shortfall F`, `window FROM DUE` and `load N`, of which the last five have the value `none` where there are no commands; and for
-/// each window of those that prove how many had to be late `window FROM UNTIL commands C carries K`. Fails for want of memory alone.
+/// each window of those that prove how many had to be late `window FROM UNTIL commands C carries K`. Fails only when out of memory.
 pub fn judged_lines<A: Allocator>(alloc: Global, judged: &Judged<A>) -> Result<Vec<u8>, AllocError>
     ensures { IfOk result (λ v. v.items ≡ judged_text judged.now.misses.counts judged.now.figures judged.now.misses.windows.items) }
 {
@@ -101,8 +58,8 @@ fn push_misses(draft: &mut Draft, misses: &[Miss]) -> Result<(), AllocError>
 }
 
 /// The records of late commands: the head line `id,release,due,round,lateness,verdict,from,until`, and a line for each in their order.
-/// The verdict is `arrival` or `spare` before two empty fields, or `full` before the first and the last round of its window. Fails for
-/// want of memory alone.
+/// The verdict is `arrival` or `spare` before two empty fields, or `full` before the first and the last round of its window. Fails
+/// only when out of memory.
 pub fn late_lines(alloc: Global, misses: &[Miss]) -> Result<Vec<u8>, AllocError>
     ensures { IfOk result (λ v. v.items ≡ misses_text misses.now) }
 {

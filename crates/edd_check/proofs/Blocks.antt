@@ -3,10 +3,11 @@ use Rattle.std.proofs.Common.{◌≡◌, ◌<◌, ◌≤◌, ℕ, ◌+◌, ◌-�
 use Rattle.std.specs.List.{All}
 use Rattle.std.proofs.lemmas.Bool.{cases_eq, cases_lt}
 use Rattle.std.proofs.lemmas.List.{get_or-set_same, get_or-set_other, get_or-replicate, length-replicate}
-use Rattle.edd_check.specs.declared.steps.Step.{Step}
-use Rattle.edd_check.specs.Capacity.{depth_at}
-use Rattle.edd_check.specs.Schedule.{places_at, IsLeastFrom}
-use Rattle.edd_check.proofs.Counting.{places_more, places_same, places_take, no_places}
+use Rattle.edd_commands.specs.declared.steps.Step.{Step}
+use Rattle.edd_commands.specs.Capacity.{depth_at}
+use Rattle.edd_commands.specs.Schedule.{places_at}
+use Rattle.edd_check.specs.Inside.Blocks.{IsLeastFrom}
+use Rattle.edd_commands.proofs.Counting.{places_more, places_same, places_take, no_places}
 
 -- the places of the rounds from `start` on among the first i, none of which is above the steps
 pub record IsCount (rounds : List ℕ) (steps : List Step) (start i : ℕ) (counts : List ℕ) : Type 0 where

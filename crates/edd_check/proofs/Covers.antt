@@ -7,14 +7,14 @@ use Rattle.std.proofs.lemmas.Slice.Zip.{get_or-zip, length-zip}
 use Rattle.std.proofs.lemmas.List.{get_or_default}
 use Rattle.std.proofs.lemmas.List.Sums.{sum_by-cons, sum_by_more}
 use Rattle.std.proofs.lemmas.Bool.{and_parts, and_from, and_left, and_right, leb-true, leb-false, le-leb, lt-leb, lt-ltb, le-ltb, cases_Bool, cases_eq, cases_lt, or_from, not-true, not_from_false, not_from_true}
-use Rattle.edd_check.specs.declared.Command.{Command}
+use Rattle.edd_commands.specs.declared.Command.{Command}
 use Rattle.edd_check.specs.declared.Window.{Window}
-use Rattle.edd_check.specs.declared.steps.Step.{Step}
-use Rattle.edd_check.specs.Schedule.{IsLegal}
-use Rattle.edd_check.specs.Met.{number_met, is_met, lies_in, holds, can_be_met, outside_of, carried_in, carried_by, bound_of, IsMetBound, IsCover, IsWindowAt}
-use Rattle.edd_check.specs.Capacity.{carried, IsCapacity}
-use Rattle.edd_check.proofs.InForce.{carried_none, carried_suc, depth_bounds}
-use Rattle.edd_check.proofs.Counting.{count_of_either, count_along, places_among, places_among-le}
+use Rattle.edd_commands.specs.declared.steps.Step.{Step}
+use Rattle.edd_commands.specs.Schedule.{IsLegal}
+use Rattle.edd_check.specs.OnTime.{number_on_time, is_on_time, lies_in, holds, can_be_on_time, outside_of, carried_in, carried_by, bound_of, IsOnTimeBound, IsCover, IsWindowAt}
+use Rattle.edd_commands.specs.Capacity.{carried, IsCapacity}
+use Rattle.edd_commands.proofs.InForce.{carried_none, carried_suc, depth_bounds}
+use Rattle.edd_commands.proofs.Counting.{count_of_either, count_along, places_among, places_among-le}
 
 -- a place of the commands and the rounds side by side
 pub pair_at : (commands : List Command) (rounds : List ℕ) (k : ℕ) (p : Command × ℕ) (d : Command) (e : ℕ) → length rounds ≡ length commands → k < length commands → get_or (zip commands rounds) k p ≡ (get_or commands k d, get_or rounds k e)
@@ -25,25 +25,25 @@ pub length_pairs : (commands : List Command) (rounds : List ℕ) → length roun
 length_pairs commands rounds same = omega (arith, length-zip commands rounds)
 
 -- met, and in none of the windows
-abbrev met_apart : List Window → Command × ℕ → Bool
-met_apart cover p = is_met p.0 p.1 && not (list_any (λ w. lies_in p.0 w) cover)
+abbrev on_time_apart : List Window → Command × ℕ → Bool
+on_time_apart cover p = is_on_time p.0 p.1 && not (list_any (λ w. lies_in p.0 w) cover)
 
 -- met, and in the window
-abbrev met_in : Window → Command × ℕ → Bool
-met_in w p = is_met p.0 p.1 && lies_in p.0 w
+abbrev on_time_in : Window → Command × ℕ → Bool
+on_time_in w p = is_on_time p.0 p.1 && lies_in p.0 w
 
 -- a met command that lies in a window runs in it
-carried_met : (commands : List Command) (rounds : List ℕ) (steps : List Step) (w : Window) → IsLegal commands rounds steps → count_by (met_in w) (zip commands rounds) ≤ carried_in steps w
+carried_on_time : (commands : List Command) (rounds : List ℕ) (steps : List Step) (w : Window) → IsLegal commands rounds steps → count_by (on_time_in w) (zip commands rounds) ≤ carried_in steps w
 unfolding carried_in
-carried_met commands rounds steps w legal =
+carried_on_time commands rounds steps w legal =
     let n : ℕ = w.due + 1 - w.from in
     let long : length (zip commands rounds) ≡ length commands = length_pairs commands rounds legal.one_each in
-    let held : count_by (met_in w) (zip commands rounds) ≤ places_among rounds w.from n =
-    count_along (met_in w) (λ x. nat_le w.from x && nat_lt x (w.from + n)) (zip commands rounds) rounds (omega (arith, legal.one_each, long))
+    let held : count_by (on_time_in w) (zip commands rounds) ≤ places_among rounds w.from n =
+    count_along (on_time_in w) (λ x. nat_le w.from x && nat_lt x (w.from + n)) (zip commands rounds) rounds (omega (arith, legal.one_each, long))
     (λ k p e h yes.
     let k_in : k < length commands = omega arith in
-    let here : met_in w (get_or commands k p.0, get_or rounds k e) ≡ true =
-    subst (λ (q : Command × ℕ). met_in w q ≡ true) (pair_at commands rounds k p p.0 e legal.one_each k_in) yes in
+    let here : on_time_in w (get_or commands k p.0, get_or rounds k e) ≡ true =
+    subst (λ (q : Command × ℕ). on_time_in w q ≡ true) (pair_at commands rounds k p p.0 e legal.one_each k_in) yes in
     let c : Command = get_or commands k p.0 in
     let x : ℕ = get_or rounds k e in
     let parts = and_parts (nat_le x c.due) (lies_in c w) here in
@@ -57,15 +57,15 @@ carried_met commands rounds steps w legal =
     omega (arith, held, places_among-le rounds steps legal.within_depth w.from n)
 
 -- a met command was released by its due round
-apart_outside : (commands : List Command) (rounds : List ℕ) (steps : List Step) (cover : List Window) → IsLegal commands rounds steps → count_by (met_apart cover) (zip commands rounds) ≤ outside_of commands cover
+apart_outside : (commands : List Command) (rounds : List ℕ) (steps : List Step) (cover : List Window) → IsLegal commands rounds steps → count_by (on_time_apart cover) (zip commands rounds) ≤ outside_of commands cover
 unfolding outside_of
 apart_outside commands rounds steps cover legal =
     let long : length (zip commands rounds) ≡ length commands = length_pairs commands rounds legal.one_each in
-    count_along (met_apart cover) (λ c. can_be_met c && not (list_any (λ w. lies_in c w) cover)) (zip commands rounds) commands (sym long)
+    count_along (on_time_apart cover) (λ c. can_be_on_time c && not (list_any (λ w. lies_in c w) cover)) (zip commands rounds) commands (sym long)
     (λ k p e h yes.
     let k_in : k < length commands = omega arith in
-    let here : met_apart cover (get_or commands k e, get_or rounds k 0) ≡ true =
-    subst (λ (q : Command × ℕ). met_apart cover q ≡ true) (pair_at commands rounds k p e 0 legal.one_each k_in) yes in
+    let here : on_time_apart cover (get_or commands k e, get_or rounds k 0) ≡ true =
+    subst (λ (q : Command × ℕ). on_time_apart cover q ≡ true) (pair_at commands rounds k p e 0 legal.one_each k_in) yes in
     let c : Command = get_or commands k e in
     let x : ℕ = get_or rounds k 0 in
     let parts = and_parts (nat_le x c.due) (not (list_any (λ w. lies_in c w) cover)) here in
@@ -74,33 +74,33 @@ apart_outside commands rounds steps cover legal =
     and_from (nat_le c.release c.due) (not (list_any (λ w. lies_in c w) cover)) (le-leb c.release c.due (omega arith)) parts.1)
 
 -- what is met lies in a window, whose rounds carry it, or in none
-met_split : (commands : List Command) (rounds : List ℕ) (steps : List Step) (cover : List Window) → IsLegal commands rounds steps → number_met commands rounds ≤ carried_by steps cover + count_by (met_apart cover) (zip commands rounds)
-unfolding number_met carried_by
-met_split commands rounds steps [] legal =
+on_time_split : (commands : List Command) (rounds : List ℕ) (steps : List Step) (cover : List Window) → IsLegal commands rounds steps → number_on_time commands rounds ≤ carried_by steps cover + count_by (on_time_apart cover) (zip commands rounds)
+unfolding number_on_time carried_by
+on_time_split commands rounds steps [] legal =
     omega (
       arith,
-      count_along (λ p. is_met p.0 p.1) (met_apart []) (zip commands rounds) (zip commands rounds) refl
+      count_along (λ p. is_on_time p.0 p.1) (on_time_apart []) (zip commands rounds) (zip commands rounds) refl
           (λ k d e h yes.
           let same : get_or (zip commands rounds) k d ≡ get_or (zip commands rounds) k e = get_or_default (zip commands rounds) k d e h in
-          and_from (is_met (get_or (zip commands rounds) k e).0 (get_or (zip commands rounds) k e).1) (not false) (subst (λ (q : Command × ℕ). is_met q.0 q.1 ≡ true) same yes) refl),
+          and_from (is_on_time (get_or (zip commands rounds) k e).0 (get_or (zip commands rounds) k e).1) (not false) (subst (λ (q : Command × ℕ). is_on_time q.0 q.1 ≡ true) same yes) refl),
     )
-met_split commands rounds steps (w ∷ cover) legal =
-    let rest : number_met commands rounds ≤ carried_by steps cover + count_by (met_apart cover) (zip commands rounds) = met_split commands rounds steps cover legal in
-    let split : count_by (met_apart cover) (zip commands rounds) ≤ count_by (met_in w) (zip commands rounds) + count_by (met_apart (w ∷ cover)) (zip commands rounds) =
-    count_of_either (met_apart cover) (met_in w) (met_apart (w ∷ cover))
+on_time_split commands rounds steps (w ∷ cover) legal =
+    let rest : number_on_time commands rounds ≤ carried_by steps cover + count_by (on_time_apart cover) (zip commands rounds) = on_time_split commands rounds steps cover legal in
+    let split : count_by (on_time_apart cover) (zip commands rounds) ≤ count_by (on_time_in w) (zip commands rounds) + count_by (on_time_apart (w ∷ cover)) (zip commands rounds) =
+    count_of_either (on_time_apart cover) (on_time_in w) (on_time_apart (w ∷ cover))
     (λ p yes.
-    let parts = and_parts (is_met p.0 p.1) (not (list_any (λ v. lies_in p.0 v) cover)) yes in
+    let parts = and_parts (is_on_time p.0 p.1) (not (list_any (λ v. lies_in p.0 v) cover)) yes in
     elim (cases_Bool (lies_in p.0 w)) [
-      | inl lies ↦ inl (and_from (is_met p.0 p.1) (lies_in p.0 w) parts.0 lies)
-      | inr other ↦ inr (and_from (is_met p.0 p.1) (not (list_any (λ v. lies_in p.0 v) (w ∷ cover))) parts.0 (not_from_false _ (or_from (lies_in p.0 w) (list_any (λ v. lies_in p.0 v) cover) other (not-true _ parts.1))))
+      | inl lies ↦ inl (and_from (is_on_time p.0 p.1) (lies_in p.0 w) parts.0 lies)
+      | inr other ↦ inr (and_from (is_on_time p.0 p.1) (not (list_any (λ v. lies_in p.0 v) (w ∷ cover))) parts.0 (not_from_false _ (or_from (lies_in p.0 w) (list_any (λ v. lies_in p.0 v) cover) other (not-true _ parts.1))))
     ])
     (zip commands rounds) in
-    omega (arith, rest, split, carried_met commands rounds steps w legal, sum_by-cons (λ v. carried_in steps v) w cover)
+    omega (arith, rest, split, carried_on_time commands rounds steps w legal, sum_by-cons (λ v. carried_in steps v) w cover)
 
 -- what windows carry, with what lies in none of them, bounds what is met
-pub covers_bound : (commands : List Command) (steps : List Step) (cover : List Window) → IsMetBound commands steps (bound_of commands steps cover)
+pub covers_bound : (commands : List Command) (steps : List Step) (cover : List Window) → IsOnTimeBound commands steps (bound_of commands steps cover)
 covers_bound commands steps cover rounds legal =
-    omega (arith, met_split commands rounds steps cover legal, apart_outside commands rounds steps cover legal)
+    omega (arith, on_time_split commands rounds steps cover legal, apart_outside commands rounds steps cover legal)
 
 -- of disjoint windows by rising rounds each later one begins after an earlier one ends
 pub cover_rises : (cover : List Window) (i m : ℕ) (d : Window) → IsCover cover → i + suc m < length cover → (get_or cover i d).due < (get_or cover (i + suc m) d).from
@@ -164,12 +164,12 @@ in_none c cover place is at short =
           ]
     ])
 
-pub outside_first : (c : Command) (cover : List Window) (place : ℕ) → IsCover cover → IsPlaced c cover place → c.release ≤ c.due → place ≡ 0 → can_be_met c && not (list_any (λ w. lies_in c w) cover) ≡ true
+pub outside_first : (c : Command) (cover : List Window) (place : ℕ) → IsCover cover → IsPlaced c cover place → c.release ≤ c.due → place ≡ 0 → can_be_on_time c && not (list_any (λ w. lies_in c w) cover) ≡ true
 outside_first c cover place is at can first =
     and_from (nat_le c.release c.due) (not (list_any (λ w. lies_in c w) cover)) (le-leb c.release c.due can)
     (not_from_false (list_any (λ w. lies_in c w) cover) (in_none c cover place is at (λ some. absurd (omega arith))))
 
-pub outside_last : (c : Command) (cover : List Window) (place : ℕ) (d : Window) → IsCover cover → IsPlaced c cover place → c.release ≤ c.due → 0 < place → nat_lt (get_or cover (place - 1) d).due c.due ≡ (can_be_met c && not (list_any (λ w. lies_in c w) cover))
+pub outside_last : (c : Command) (cover : List Window) (place : ℕ) (d : Window) → IsCover cover → IsPlaced c cover place → c.release ≤ c.due → 0 < place → nat_lt (get_or cover (place - 1) d).due c.due ≡ (can_be_on_time c && not (list_any (λ w. lies_in c w) cover))
 outside_last c cover place d is at can some =
     let in_list : place - 1 < length cover = omega (arith, at.within) in
     elim (cases_lt (get_or cover (place - 1) d).due c.due) [
@@ -186,7 +186,7 @@ outside_last c cover place d is at can some =
           (list_any_at (λ w. lies_in c w) cover (place - 1) d in_list (lies_here c (get_or cover (place - 1) d) can (at.begun (place - 1) d (omega arith)) long))))
     ]
 
-pub outside_not : (c : Command) (cover : List Window) → c.due < c.release → false ≡ (can_be_met c && not (list_any (λ w. lies_in c w) cover))
+pub outside_not : (c : Command) (cover : List Window) → c.due < c.release → false ≡ (can_be_on_time c && not (list_any (λ w. lies_in c w) cover))
 outside_not c cover late =
     sym (and_left (nat_le c.release c.due) (not (list_any (λ w. lies_in c w) cover)) (lt-leb c.release c.due late))
 

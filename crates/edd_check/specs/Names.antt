@@ -2,8 +2,8 @@
 use Rattle.std.specs.Prelude.{ℕ, List, codes}
 use Rattle.edd_check.specs.declared.CheckFault.{CheckFault}
 use Rattle.edd_check.specs.declared.CheckFault.TheVariants as check
-use Rattle.edd_check.specs.declared.met.MetFault.{MetFault}
-use Rattle.edd_check.specs.declared.met.MetFault.TheVariants as met
+use Rattle.edd_check.specs.declared.on_time.OnTimeFault.{OnTimeFault}
+use Rattle.edd_check.specs.declared.on_time.OnTimeFault.TheVariants as met
 
 abbrev pub check_fault_name : CheckFault → List ℕ
 check_fault_name check.Length = codes "Length"
@@ -13,11 +13,11 @@ check_fault_name (check.OverDepth n) = codes "OverDepth"
 check_fault_name (check.WrongLateness n) = codes "WrongLateness"
 check_fault_name (check.NotCrowded n) = codes "NotCrowded"
 
-abbrev pub met_fault_name : MetFault → List ℕ
-met_fault_name met.Length = codes "Length"
-met_fault_name (met.BeforeRelease n) = codes "BeforeRelease"
-met_fault_name met.Memory = codes "Memory"
-met_fault_name (met.OverDepth n) = codes "OverDepth"
-met_fault_name (met.WrongMet n) = codes "WrongMet"
-met_fault_name (met.Windows n) = codes "Windows"
-met_fault_name (met.Loose n) = codes "Loose"
+abbrev pub on_time_fault_name : OnTimeFault → List ℕ
+on_time_fault_name met.Length = codes "Length"
+on_time_fault_name (met.BeforeRelease n) = codes "BeforeRelease"
+on_time_fault_name met.Memory = codes "Memory"
+on_time_fault_name (met.OverDepth n) = codes "OverDepth"
+on_time_fault_name (met.WrongMet n) = codes "WrongMet"
+on_time_fault_name (met.Windows n) = codes "Windows"
+on_time_fault_name (met.Loose n) = codes "Loose"

@@ -1,52 +1,29 @@
 //! Checks a claim of least lateness from whoever made it.
 //!
-//! Commands are unit jobs with release and due rounds, and a schedule gives each a round on one of as many machines as
-//! that round has (Pinedo, Scheduling: identical machines in parallel, unit processing times, release dates, due dates,
-//! and the greatest lateness Lmax as the objective). All calls go by place in the lists, and don't look at whether ids
-//! repeat. Rounds are whole numbers below [`MAX_ROUNDS`].
+//! The objective is Pinedo's greatest lateness Lmax (Scheduling), of the commands and capacities of `edd_commands`. All
+//! calls go by place in the lists, and don't look at whether ids repeat.
 #![tactic(auto)]
 
-ghost use Rattle.std.specs.Prelude.{◌+◌, ◌*◌, ℕ, ℤ, pos, negsuc, ◌+ℤ◌, ◌≤ℤ◌, ◌<ℤ◌, ◌-◌, IfNone, IfOk, OnOk, IsOkUnless, ◌≡◌, ◌<◌, ◌^◌, ◌↔◌, [], List, length, IsTrue, IsNone, IfSome, ◌≤◌, All};
+ghost use Rattle.std.specs.Prelude.{◌+◌, ◌*◌, ℕ, ℤ, pos, negsuc, ◌+ℤ◌, ◌≤ℤ◌, ◌<ℤ◌, ◌-◌, IfNone, IfOk, OnOk, IsOkUnless, ◌≡◌, ◌<◌, ◌↔◌, [], length, IsTrue, IsNone, IfSome, ◌≤◌, All};
 ghost use Rattle.edd_check.specs.Names.{check_fault_name};
-ghost use Rattle.edd_check.specs.Capacity.{depth_at, carried, fixed};
-ghost use Rattle.edd_check.specs.Schedule.{IsLegal, IsGreatestLateness, StartsReleased, IsFirstEarly, IsLeastOverDeep, IsLeastLateness, IsLeastFrom, IsLowerBound, places_at, CommandsInRange, RoundsInRange};
+ghost use Rattle.edd_commands.specs.Capacity.{depth_at};
+ghost use Rattle.edd_commands.specs.Schedule.{IsLegal, IsGreatestLateness, StartsReleased, IsLeastLateness, IsLowerBound, places_at, CommandsInRange, RoundsInRange};
+ghost use Rattle.edd_check.specs.Rules.{IsFirstEarly, IsLeastOverDeep};
+ghost use Rattle.edd_check.specs.Inside.Blocks.{IsLeastFrom};
 ghost use Rattle.edd_check.specs.Window.{load_of, rounds_between, IsCrowded, WindowInRange};
 ghost use Rattle.edd_check.specs.Check.{IsAnswer};
 
-mod met;
-mod steps;
+mod on_time;
 
-pub use met::{
-    MetFault, carried_by, carried_in, check_met, cover_in_range, inside, law_of_covers, number_met,
-    outside,
+use edd_commands::{Capacity, Command, MAX_ROUNDS};
+pub use on_time::{
+    Bound, OnTimeFault, carried_by, carried_in, check_on_time, cover_in_range, inside,
+    law_of_covers, number_on_time, outside,
 };
 use std::alloc::{AllocError, Allocator};
-pub use steps::{Capacity, CapacityFault, MAX_DEPTH, Step};
-
-/// Every due, scheduled and window round lies below this.
-pub const MAX_ROUNDS: u64 = 1 << 41;
-
-/// Every release of a command that a schedule is asked for lies below this. So each command has a round below
-/// [`MAX_ROUNDS`] in the schedule, however many wait for one.
-pub const MAX_RELEASES: u64 = 1 << 40;
-
-/// A schedule is asked for at most so many commands.
-pub const MAX_COMMANDS: u64 = 1_000_000;
 
 /// How many rounds one pass of [`is_legal`] counts.
 const BLOCK: u64 = 4096;
-
-/// A unit of work: it takes one round, from `release` on, and ought to run by `due`. Pinedo's job with release date
-/// r, due date d and processing time 1.
-#[derive(Clone, Copy, Debug, PartialEq, Eq)]
-pub struct Command {
-    /// Its name in faults.
-    pub id: u64,
-    /// The first round in which it may run.
-    pub release: u64,
-    /// The round by which it ought to run; it may lie before the release.
-    pub due: u64,
-}
 
 /// A window asks for the commands that are released at `from` or later and due at `due` or sooner.
 #[derive(Clone, Copy, Debug, PartialEq, Eq)]
@@ -55,6 +32,15 @@ pub struct Window {
     pub from: u64,
     /// The latest due round; it may lie before `from`.
     pub due: u64,
+}
+
+/// How crowded the window of a good claim is.
+#[derive(Clone, Copy, Debug, PartialEq, Eq)]
+pub struct Crowding {
+    /// The window's load: how many commands it asks for.
+    pub load: u64,
+    /// How many commands its rounds carry, if each is to be less late than the claimed lateness.
+    pub carries: u64,
 }
 
 /// Why a claim is refused, in the order in which the reasons are looked for.
@@ -264,7 +250,8 @@ fn end_of(window: Window, lateness: i64) -> u64
 
 /// Checks a schedule, its greatest lateness, and a window that asks for more commands than its rounds carry if each is
 /// to be less late: more than the rounds from the window's `from` to its `due + lateness - 1` carry. Where the
-/// answer is `Ok`, no legal schedule of these commands has a smaller greatest lateness.
+/// answer is `Ok`, no legal schedule of these commands has a smaller greatest lateness; it says how many the window asks
+/// for and how many its rounds carry.
 ///
 /// `lateness` is counted in rounds; every release, due, scheduled and window round lies below [`MAX_ROUNDS`], as
 /// [`in_range`] tells.
@@ -280,7 +267,7 @@ pub fn check<A: Allocator, B: Allocator>(
     lateness: i64,
     rounds: &[u64],
     window: Window,
-) -> Result<(), CheckFault>
+) -> Result<Crowding, CheckFault>
     requires commands_in { CommandsInRange commands.now }
     requires rounds_in { RoundsInRange rounds.now }
     requires window_in { WindowInRange window }
@@ -311,10 +298,11 @@ pub fn check<A: Allocator, B: Allocator>(
     if own != lateness {
         return Err(CheckFault::WrongLateness(own));
     }
-    if load <= capacity.sum(window.from, end_of(window, lateness)) {
+    let carries = capacity.sum(window.from, end_of(window, lateness));
+    if load <= carries {
         return Err(CheckFault::NotCrowded(load));
     }
-    Ok(())
+    Ok(Crowding { load, carries })
 }
 
 /// A window that is crowded at a lateness bounds the greatest lateness of every legal schedule of the commands.
@@ -331,11 +319,3 @@ pub fn law_of_crowded_windows<A: Allocator>(
 {
     let _ = (commands.len(), capacity.at(0), lateness, window.from);
 }
-
-/// Under one depth each round carries that depth, and n rounds carry n times as much.
-///
-/// A law: it does nothing when it runs, and a caller has its clauses.
-pub fn law_of_one_depth()
-    ensures each { (depth x : ℕ) → depth_at (fixed depth) x ≡ depth }
-    ensures sum { (depth start n : ℕ) → carried (fixed depth) start n ≡ depth * n }
-{}

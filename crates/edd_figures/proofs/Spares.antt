@@ -4,10 +4,10 @@ use Rattle.std.specs.Prelude.{Option}
 use Rattle.std.proofs.lemmas.Bool.{cases_lt}
 use Rattle.std.proofs.lemmas.List.{take_more, length_push, get_or_append_left, get_or_push, get_or_default}
 use Rattle.std.proofs.lemmas.List.Sums.{sum_by-append}
-use Rattle.edd_check.specs.declared.Command.{Command}
-use Rattle.edd_check.specs.declared.steps.Step.{Step}
-use Rattle.edd_check.specs.Schedule.{IsLegal}
-use Rattle.edd_check.specs.Met.{number_met, IsMostMet}
+use Rattle.edd_commands.specs.declared.Command.{Command}
+use Rattle.edd_commands.specs.declared.steps.Step.{Step}
+use Rattle.edd_commands.specs.Schedule.{IsLegal}
+use Rattle.edd_check.specs.OnTime.{number_on_time, IsMostOnTime}
 use Rattle.edd_verdict.specs.declared.Verdict.{Verdict}
 use Rattle.edd_verdict.specs.Verdicts.{is_spare, IsLate, IsVerdict, IsVerdictAt, AreVerdicts, arrivals_in, fulls_in, spares_in}
 use Rattle.edd_figures.specs.Misses.{number_late, IsLeastLate, HasSpares}
@@ -38,16 +38,16 @@ no_more (suc n) m h = absurd (let less = h.1 (omega arith) in omega (arith, less
 
 module _ (commands : List Command) (rounds : List ℕ) (steps : List Step) (legal : IsLegal commands rounds steps) where
   -- the most that is met, and the fewest that are late
-  most_and_fewest : (most late : ℕ) → IsMostMet commands steps most → IsLeastLate commands steps late → most + late ≡ length commands
+  most_and_fewest : (most late : ℕ) → IsMostOnTime commands steps most → IsLeastLate commands steps late → most + late ≡ length commands
   most_and_fewest most late is fewest =
       omega (arith, all_commands commands is.schedule is.legal.one_each, all_commands commands fewest.schedule fewest.legal.one_each, is.reached, fewest.reached, is.most fewest.schedule fewest.legal, fewest.least is.schedule is.legal)
 
   -- what could have been avoided is what could have been met more
-  pub avoidable_is : (most late unavoidable avoidable : ℕ) → IsMostMet commands steps most → IsLeastLate commands steps unavoidable → late ≡ number_late commands rounds → unavoidable + avoidable ≡ late → number_met commands rounds + avoidable ≡ most
+  pub avoidable_is : (most late unavoidable avoidable : ℕ) → IsMostOnTime commands steps most → IsLeastLate commands steps unavoidable → late ≡ number_late commands rounds → unavoidable + avoidable ≡ late → number_on_time commands rounds + avoidable ≡ most
   avoidable_is most late unavoidable avoidable is fewest late_is rest =
       omega (arith, all_commands commands rounds legal.one_each, most_and_fewest most unavoidable is fewest, late_is, rest)
 
-  pub has_spares : (vs : List (Option Verdict)) (late spare : ℕ) → AreVerdicts commands rounds steps vs → spare ≡ spares_in vs → length commands ≡ number_met commands rounds + (arrivals_in vs + fulls_in vs + spares_in vs) → late ≡ number_late commands rounds → HasSpares commands rounds steps late spare
+  pub has_spares : (vs : List (Option Verdict)) (late spare : ℕ) → AreVerdicts commands rounds steps vs → spare ≡ spares_in vs → length commands ≡ number_on_time commands rounds + (arrivals_in vs + fulls_in vs + spares_in vs) → late ≡ number_late commands rounds → HasSpares commands rounds steps late spare
   has_spares vs late spare are is kinds late_is = record {
     verdicts = vs;
     are_verdicts = are;
@@ -84,12 +84,12 @@ module _ (commands : List Command) (rounds : List ℕ) (steps : List Step) (lega
 
   -- where the schedule has as many on time as any, none is spare
   pub none_spare : ((k : ℕ) → k < length commands → IsLate commands rounds k → (verdict : Verdict) × IsVerdict commands rounds steps k verdict)
-      → ((vs : List (Option Verdict)) → AreVerdicts commands rounds steps vs → length commands ≡ number_met commands rounds + (arrivals_in vs + fulls_in vs + spares_in vs))
-      → ((vs : List (Option Verdict)) → AreVerdicts commands rounds steps vs → (number_met commands rounds < number_met commands rounds) ↔ (0 < spares_in vs))
+      → ((vs : List (Option Verdict)) → AreVerdicts commands rounds steps vs → length commands ≡ number_on_time commands rounds + (arrivals_in vs + fulls_in vs + spares_in vs))
+      → ((vs : List (Option Verdict)) → AreVerdicts commands rounds steps vs → (number_on_time commands rounds < number_on_time commands rounds) ↔ (0 < spares_in vs))
       → HasSpares commands rounds steps (number_late commands rounds) 0
   none_spare has kinds some =
       let all = first_verdicts has (length commands) (omega arith) in
       let vs : List (Option Verdict) = all.0 in
       let are : AreVerdicts commands rounds steps vs = record { one_each = all.1; each = all.2 } in
-      let none : 0 ≡ spares_in vs = no_more (spares_in vs) (number_met commands rounds) (some vs are) in
+      let none : 0 ≡ spares_in vs = no_more (spares_in vs) (number_on_time commands rounds) (some vs are) in
       has_spares vs (number_late commands rounds) 0 are none (kinds vs are) refl

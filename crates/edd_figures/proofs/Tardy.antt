@@ -3,9 +3,9 @@ use Rattle.std.proofs.Common.{◌≡◌, ◌+◌, ℕ, List, [], ◌∷◌, leng
 use Rattle.std.specs.List.{zip}
 use Rattle.std.proofs.lemmas.Bool.{le-leb, lt-leb, lt-ltb, le-ltb, cases_lt}
 use Rattle.std.proofs.lemmas.List.Sums.{sum_by-cons}
-use Rattle.edd_check.specs.declared.Command.{Command}
-use Rattle.edd_check.specs.declared.steps.Step.{Step}
-use Rattle.edd_check.specs.Met.{number_met, is_met, IsMostMet}
+use Rattle.edd_commands.specs.declared.Command.{Command}
+use Rattle.edd_commands.specs.declared.steps.Step.{Step}
+use Rattle.edd_check.specs.OnTime.{number_on_time, is_on_time, IsMostOnTime}
 use Rattle.edd_check.proofs.Covers.{length_pairs}
 use Rattle.edd_figures.specs.Misses.{number_late, IsLeastLate}
 
@@ -16,21 +16,21 @@ one_of d x =
       | inr met ↦ rw (le-leb x d met, le-ltb d x met) refl
     ]
 
-met_or_late : (ps : List (Command × ℕ)) → count_by (λ p. is_met p.0 p.1) ps + count_by (λ (p : Command × ℕ). nat_lt p.0.due p.1) ps ≡ length ps
-met_or_late [] = refl
-met_or_late (p ∷ ps) =
-    let ih = met_or_late ps in
-    let a = sum_by-cons (λ (p : Command × ℕ). cond (is_met p.0 p.1) 1 0) p ps in
+on_time_or_late : (ps : List (Command × ℕ)) → count_by (λ p. is_on_time p.0 p.1) ps + count_by (λ (p : Command × ℕ). nat_lt p.0.due p.1) ps ≡ length ps
+on_time_or_late [] = refl
+on_time_or_late (p ∷ ps) =
+    let ih = on_time_or_late ps in
+    let a = sum_by-cons (λ (p : Command × ℕ). cond (is_on_time p.0 p.1) 1 0) p ps in
     let b = sum_by-cons (λ (p : Command × ℕ). cond (nat_lt p.0.due p.1) 1 0) p ps in
     omega (arith, ih, a, b, one_of p.0.due p.1)
 
 -- each command is met or late
-pub all_commands : (commands : List Command) (rounds : List ℕ) → length rounds ≡ length commands → number_met commands rounds + number_late commands rounds ≡ length commands
-unfolding number_met number_late
-all_commands commands rounds h = met_or_late (zip commands rounds) ∙ length_pairs commands rounds h
+pub all_commands : (commands : List Command) (rounds : List ℕ) → length rounds ≡ length commands → number_on_time commands rounds + number_late commands rounds ≡ length commands
+unfolding number_on_time number_late
+all_commands commands rounds h = on_time_or_late (zip commands rounds) ∙ length_pairs commands rounds h
 
 -- where no schedule meets more, none has fewer late
-pub least_late : (commands : List Command) (steps : List Step) (met late : ℕ) → IsMostMet commands steps met → met + late ≡ length commands → IsLeastLate commands steps late
+pub least_late : (commands : List Command) (steps : List Step) (met late : ℕ) → IsMostOnTime commands steps met → met + late ≡ length commands → IsLeastLate commands steps late
 least_late commands steps met late most all = record {
   schedule = most.schedule;
   legal = most.legal;

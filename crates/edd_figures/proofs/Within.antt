@@ -1,8 +1,8 @@
 -- The latenesses of commands within the limits.
 use Rattle.std.proofs.Common.{◌≡◌, ◌<◌, ◌^◌, ◌≤ℤ◌, ℕ, ℤ, List, pos, ◌-ℤ◌, get_or, length, sym, subst, arith, FitsSigned, w64}
 use Rattle.std.proofs.lemmas.Int.{ints}
-use Rattle.edd_check.specs.declared.Command.{Command}
-use Rattle.edd_check.specs.Schedule.{IsGreatestLateness, CommandsInRange, RoundsInRange}
+use Rattle.edd_commands.specs.declared.Command.{Command}
+use Rattle.edd_commands.specs.Schedule.{IsGreatestLateness, CommandsInRange, RoundsInRange}
 use Rattle.edd_oracle.specs.Input.{IsTaken}
 
 -- commands that the oracle takes are within the limits of the check

@@ -1,8 +1,8 @@
 -- How late the latest command of a schedule is, and how late it had to be.
-use Rattle.std.specs.Prelude.{ℕ, ◌≡◌, List, ℤ, pos, ◌-ℤ◌, ◌≤ℤ◌}
-use Rattle.edd_check.specs.declared.Command.{Command}
-use Rattle.edd_check.specs.declared.steps.Step.{Step}
-use Rattle.edd_check.specs.Schedule.{IsLegal, IsGreatestLateness, IsLeastLateness}
+use Rattle.std.specs.Prelude.{ℕ, ◌≡◌, List, [], Option, None, Some, ℤ, pos, ◌-ℤ◌, ◌≤ℤ◌}
+use Rattle.edd_commands.specs.declared.Command.{Command}
+use Rattle.edd_commands.specs.declared.steps.Step.{Step}
+use Rattle.edd_commands.specs.Schedule.{IsLegal, IsGreatestLateness, IsLeastLateness}
 use Rattle.edd_check.specs.Window.{load_of, IsCrowded}
 use Rattle.edd_oracle.specs.Priority.{IsEarliestDueFirst}
 use Rattle.edd_oracle.specs.Plan.{IsLatestWindow}
@@ -25,3 +25,21 @@ pub record AreFigures (commands : List Command) (rounds : List ℕ) (steps : Lis
   pub legal : IsLegal commands best steps
   pub first : IsEarliestDueFirst commands best steps
   pub latest : IsLatestWindow commands best steps f.window
+
+-- the figures of a schedule that has commands, and none of one that has none
+abbrev pub HasFigures : List Command → List ℕ → List Step → Option Figures → Type 0
+HasFigures commands rounds steps None = commands ≡ []
+HasFigures commands rounds steps (Some f) = AreFigures commands rounds steps f
+
+-- three of them by themselves, where there are figures
+abbrev pub greatest_in : Option Figures → Option ℤ
+greatest_in None = None
+greatest_in (Some f) = Some f.greatest
+
+abbrev pub least_in : Option Figures → Option ℤ
+least_in None = None
+least_in (Some f) = Some f.least
+
+abbrev pub shortfall_in : Option Figures → Option ℤ
+shortfall_in None = None
+shortfall_in (Some f) = Some f.shortfall

@@ -4,6 +4,7 @@ use Rattle.std.specs.Fmt.{signed_decimal}
 use Rattle.edd_check.specs.declared.Window.{Window}
 use Rattle.edd_verdict.specs.declared.Verdict.{Verdict}
 use Rattle.edd_verdict.specs.declared.Verdict.TheVariants.{Arrival, Spare, Full}
+use Rattle.edd_figures.specs.declared.lateness.Figures.{Figures}
 use Rattle.edd_figures.specs.declared.missing.Crowd.{Crowd}
 
 -- a figure, or `none` where there is none
@@ -22,6 +23,19 @@ window_text (Some w) = decimal w.from ++ 32 ∷ decimal w.due
 -- a word, a space, its value and a line's end
 abbrev pub figure_line : List ℕ → List ℕ → List ℕ
 figure_line word value = ((word ++ 32 ∷ []) ++ value) ++ 10 ∷ []
+
+-- the line of a window, and that of its load
+abbrev pub window_lines : Option Window → Option ℕ → List ℕ
+window_lines window load = figure_line (codes "window") (window_text window) ++ figure_line (codes "load") (count_text load)
+
+-- the five lines of the figures, which say `none` where there are none
+abbrev pub values_text : Option ℤ → Option ℤ → Option ℤ → Option Window → Option ℕ → List ℕ
+values_text greatest least shortfall window load =
+    ((figure_line (codes "greatest") (late_text greatest) ++ figure_line (codes "least") (late_text least)) ++ figure_line (codes "shortfall") (late_text shortfall)) ++ window_lines window load
+
+abbrev pub figures_text : Option Figures → List ℕ
+figures_text None = values_text None None None None None
+figures_text (Some f) = values_text (Some f.greatest) (Some f.least) (Some f.shortfall) (Some f.window) (Some f.load)
 
 -- the line of a window: its first and its last round, how many commands lie in it, and how many its rounds carry
 abbrev pub crowd_line : Crowd → List ℕ

@@ -1,14 +1,15 @@
 //! How late the latest command of a schedule is, and how late it had to be.
 
 ghost use Rattle.std.specs.Prelude.{◌≡◌, ◌↔◌, [], IfOk, IfSome, IsNone};
-ghost use Rattle.edd_check.specs.Schedule.{IsLegal, CommandsInRange, RoundsInRange};
+ghost use Rattle.edd_commands.specs.Schedule.{IsLegal, CommandsInRange, RoundsInRange};
 ghost use Rattle.edd_oracle.specs.Answer.{IsBest};
 ghost use Rattle.edd_oracle.specs.Input.{IsTaken};
 ghost use Rattle.edd_oracle.specs.Priority.{IsEarliestDueFirst};
 ghost use Rattle.edd_oracle.specs.Plan.{IsLatestWindow};
 ghost use Rattle.edd_figures.specs.Figures.{AreFigures};
 
-use edd_check::{Capacity, Command, Window, greatest_lateness, load};
+use edd_check::{Window, greatest_lateness, load};
+use edd_commands::{Capacity, Command};
 use edd_oracle::{Answer, solve};
 use std::alloc::{AllocError, Allocator};
 
@@ -57,7 +58,7 @@ fn compared<A: Allocator, B: Allocator>(
 
 /// How late the latest command of a legal schedule is, and how late it had to be; there is nothing to tell exactly where there are no
 /// commands. The commands are as the oracle takes them, and the rounds below 2^41. The window is that of the latest command in the
-/// oracle's own schedule ([`solve`]). Fails for want of memory alone. The time grows as n log n in the number of commands.
+/// oracle's own schedule ([`solve`]). Fails only when out of memory. The time grows as n log n in the number of commands.
 pub fn figures_of<A: Allocator + Clone, B: Allocator>(
     alloc: A,
     commands: &[Command],
@@ -73,7 +74,7 @@ pub fn figures_of<A: Allocator + Clone, B: Allocator>(
     match solve(alloc, commands, capacity) {
         Ok(None) => Ok(None),
         Ok(Some(answer)) => Ok(Some(compared(commands, rounds, capacity, &answer))),
-        // commands within the limits of the oracle are refused for want of memory alone
+        // commands within the limits of the oracle are refused only when out of memory
         Err(_) => Err(AllocError),
     }
 }

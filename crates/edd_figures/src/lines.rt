@@ -1,11 +1,10 @@
-//! The lines and fields in which figures, counts and verdicts are told. Each call adds to a text in the making, and answers want of
-//! memory where that could not grow.
+//! The lines and fields of figures, counts and verdicts. Each call adds to a text in the making, and fails only when that can't grow.
 
 ghost use Rattle.std.specs.Prelude.{◌≡◌, ◌++◌, OnOk, decimal, codes};
 ghost use Rattle.std.specs.List.{flat_map};
-ghost use Rattle.edd_figures.specs.Lines.{late_text, count_text, window_text, figure_line, crowd_line, next_field, verdict_fields};
+ghost use Rattle.edd_figures.specs.Lines.{late_text, count_text, window_text, figure_line, values_text, figures_text, crowd_line, next_field, verdict_fields, window_lines};
 
-use crate::Crowd;
+use crate::{Crowd, Figures};
 use drafts::Draft;
 use edd_check::Window;
 use edd_verdict::Verdict;
@@ -56,7 +55,7 @@ pub fn push_number_line(draft: &mut Draft, word: &[u8], number: u64) -> Result<(
 }
 
 /// Adds the line of a lateness: the word, a space and the lateness, or `none`.
-pub fn push_late_line(
+fn push_late_line(
     draft: &mut Draft,
     alloc: Global,
     word: &[u8],
@@ -72,18 +71,59 @@ pub fn push_late_line(
 
 /// Adds the line `window` with the two rounds of a window, and the line `load` with how many commands it has; both have the value
 /// `none` where there is none.
-pub fn push_window_lines(
+fn push_window_lines(
     draft: &mut Draft,
     window: Option<Window>,
     load: Option<u64>,
 ) -> Result<(), AllocError>
-    ensures { OnOk result (draft.new ≡ (draft.old ++ figure_line (codes "window") (window_text window)) ++ figure_line (codes "load") (count_text load)) }
+    ensures { OnOk result (draft.new ≡ draft.old ++ window_lines window load) }
 {
     draft.text(b"window ")?;
     push_window(draft, window)?;
     draft.text(b"\nload ")?;
     push_count(draft, load)?;
     draft.text(b"\n")
+}
+
+/// Adds the lines of these values, each `none` where there is none.
+fn push_values(
+    draft: &mut Draft,
+    alloc: Global,
+    greatest: Option<i64>,
+    least: Option<i64>,
+    shortfall: Option<i64>,
+    window: Option<Window>,
+    load: Option<u64>,
+) -> Result<(), AllocError>
+    ensures { OnOk result (draft.new ≡ draft.old ++ values_text greatest least shortfall window load) }
+{
+    push_late_line(draft, alloc, b"greatest", greatest)?;
+    push_late_line(draft, alloc, b"least", least)?;
+    push_late_line(draft, alloc, b"shortfall", shortfall)?;
+    push_window_lines(draft, window, load)
+}
+
+/// Adds the five lines of the figures: `greatest`, `least`, `shortfall`, `window` and `load`, each with its value, which is `none` where
+/// there are no figures.
+pub fn push_figures(
+    draft: &mut Draft,
+    alloc: Global,
+    figures: Option<Figures>,
+) -> Result<(), AllocError>
+    ensures { OnOk result (draft.new ≡ draft.old ++ figures_text figures) }
+{
+    match figures {
+        Some(figures) => push_values(
+            draft,
+            alloc,
+            Some(figures.greatest),
+            Some(figures.least),
+            Some(figures.shortfall),
+            Some(figures.window),
+            Some(figures.load),
+        ),
+        None => push_values(draft, alloc, None, None, None, None, None),
+    }
 }
 
 /// Adds the line of a window.

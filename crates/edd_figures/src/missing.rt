@@ -2,17 +2,18 @@
 
 ghost use Rattle.std.specs.Prelude.{ℕ, ◌≡◌, ◌≤◌, ◌<◌, ◌&&◌, ◌↔◌, IfOk, IfSome, length, map, slice_index_or};
 ghost use Rattle.edd_check.specs.declared.Window.{Window as Span};
-ghost use Rattle.edd_check.specs.Limits.{most_commands};
-ghost use Rattle.edd_check.specs.Schedule.{IsLegal};
-ghost use Rattle.edd_check.specs.Met.{can_be_met, lies_in, inside_of, IsCover, IsMostMet, CoverInRange};
+ghost use Rattle.edd_commands.specs.Limits.{most_commands};
+ghost use Rattle.edd_commands.specs.Schedule.{IsLegal};
+ghost use Rattle.edd_check.specs.OnTime.{can_be_on_time, lies_in, inside_of, IsCover, IsMostOnTime, CoverInRange};
 ghost use Rattle.edd_oracle.specs.Input.{IsTaken};
-ghost use Rattle.edd_oracle.specs.Met.{IsMostAnswer, IsMetFirst, IsPassedCover};
+ghost use Rattle.edd_oracle.specs.OnTime.{IsMostAnswer, IsOnTimeFirst, IsPassedCover};
 ghost use Rattle.edd_verdict.specs.Verdicts.{is_spare, spares_in};
-ghost use Rattle.edd_figures.specs.Misses.{crowd_of, number_late, AreMisses, HasSpares};
-ghost use Rattle.edd_figures.specs.Inside.Placed.{is_place};
+ghost use Rattle.edd_figures.specs.Misses.{crowd_of, number_late, HasMisses, HasSpares};
+ghost use Rattle.edd_figures.specs.Inside.Placed.{IsPlaceOf};
 
-use edd_check::{Capacity, Command, Window, carried_in, number_met};
-use edd_oracle::{MostMet, most_met};
+use edd_check::{Window, carried_in, number_on_time};
+use edd_commands::{Capacity, Command};
+use edd_oracle::{MostOnTime, most_on_time};
 use edd_verdict::{Verdict, law_of_spares, law_of_verdicts, verdicts};
 use std::alloc::{AllocError, Allocator, Global};
 
@@ -34,7 +35,7 @@ pub struct Counts {
     pub commands: u64,
     /// How many of them run after they are due.
     pub late: u64,
-    /// The fewest that any schedule has late: some legal schedule of these commands has so many, and none has fewer.
+    /// The fewest that any schedule has late: some legal schedule of these commands has this many, and none has fewer.
     pub unavoidable: u64,
     /// The others: by how many a schedule could have had fewer late.
     pub avoidable: u64,
@@ -47,8 +48,8 @@ pub struct Counts {
 pub struct Misses<A: Allocator = Global> {
     /// The numbers.
     pub counts: Counts,
-    /// Disjoint windows by rising rounds which prove that no schedule has fewer late: of the commands in a window no more are on
-    /// time than it carries.
+    /// Disjoint windows, by rising rounds, which prove that no schedule has fewer late commands: of those that lie in a window at
+    /// most as many are on time as its rounds carry.
     pub windows: Vec<Crowd, A>,
 }
 
@@ -56,7 +57,7 @@ pub struct Misses<A: Allocator = Global> {
 fn window_of(command: Command, cover: &[Window]) -> Option<usize>
     requires { IsCover cover.now }
     ensures within { IfSome result (λ place. place < length cover.now) }
-    ensures place { (k : ℕ) → (d : Span) → k < length cover.now → (can_be_met command && lies_in command (slice_index_or cover.now k d)) ≡ is_place result k }
+    ensures place { IsPlaceOf command cover.now result }
 {
     if command.due < command.release {
         return None;
@@ -137,8 +138,8 @@ fn spares(verdicts: &[Option<Verdict>]) -> u64
     count
 }
 
-/// How many late commands of a legal schedule are spare, where so many commands are on time at most. Where the schedule has as many
-/// on time, none is, and no verdict is asked for.
+/// How many late commands of a legal schedule are spare, where `most` is the greatest number of commands that can be on time. Where
+/// the schedule itself has as many on time, none is spare, and no verdict is asked for.
 fn spare_of<A: Allocator + Clone, B: Allocator>(
     alloc: A,
     commands: &[Command],
@@ -148,38 +149,38 @@ fn spare_of<A: Allocator + Clone, B: Allocator>(
 ) -> Result<u64, AllocError>
     requires taken { IsTaken commands.now }
     requires legal { IsLegal commands.now rounds.now capacity.now }
-    requires most { IsMostMet commands.now capacity.now most }
+    requires most { IsMostOnTime commands.now capacity.now most }
     ensures { IfOk result (HasSpares commands.now rounds.now capacity.now (number_late commands.now rounds.now)) }
 {
     law_of_verdicts();
     law_of_spares();
     let _ = capacity.at(0);
-    if number_met(commands, rounds) == most {
+    if number_on_time(commands, rounds) == most {
         return Ok(0);
     }
     let verdicts = verdicts(alloc, commands, rounds, capacity)?;
     Ok(spares(verdicts.as_slice()))
 }
 
-/// What the schedule of the commands has late, of which so many are spare, where the oracle gave this answer.
+/// The misses of the schedule, of which `spare` are spare, by the oracle's answer.
 fn counted<A: Allocator + Clone, B: Allocator, C: Allocator>(
     alloc: A,
     spare: u64,
     commands: &[Command],
     rounds: &[u64],
     capacity: &Capacity<B>,
-    answer: &MostMet<C>,
+    answer: &MostOnTime<C>,
 ) -> Result<Misses<A>, AllocError>
     requires legal { IsLegal commands.now rounds.now capacity.now }
     requires few { length commands.now ≤ most_commands }
     requires most { IsMostAnswer commands.now capacity.now answer.now.rounds.items answer.now.met answer.now.cover.items }
-    requires first { IsMetFirst commands.now answer.now.rounds.items capacity.now }
+    requires first { IsOnTimeFirst commands.now answer.now.rounds.items capacity.now }
     requires passed { IsPassedCover commands.now answer.now.rounds.items capacity.now answer.now.cover.items }
-    ensures misses { IfOk result (λ m. AreMisses commands.now rounds.now capacity.now m.counts.commands m.counts.late m.counts.unavoidable m.counts.avoidable m.windows.items) }
+    ensures misses { IfOk result (λ m. HasMisses commands.now rounds.now capacity.now m.counts m.windows.items) }
     ensures kept { IfOk result (λ m. m.counts.spare ≡ spare) }
 {
     let count = commands.len() as u64;
-    let late = count - number_met(commands, rounds);
+    let late = count - number_on_time(commands, rounds);
     let unavoidable = count - answer.met;
     let windows = crowds(alloc, commands, capacity, answer.cover.as_slice())?;
     let counts = Counts {
@@ -194,7 +195,7 @@ fn counted<A: Allocator + Clone, B: Allocator, C: Allocator>(
 
 /// How many commands of a legal schedule are late, how many of these had to be, and the windows that prove it: no legal schedule of
 /// the same commands has fewer late, and some has no more. Of the late ones it counts those that are spare. The commands are as the
-/// oracle takes them. Fails for want of memory alone. The time grows as n log n in the number of commands.
+/// oracle takes them. Fails only when out of memory. The time grows as n log n in the number of commands.
 pub fn misses_of<A: Allocator + Clone, B: Allocator>(
     alloc: A,
     commands: &[Command],
@@ -203,15 +204,15 @@ pub fn misses_of<A: Allocator + Clone, B: Allocator>(
 ) -> Result<Misses<A>, AllocError>
     requires taken { IsTaken commands.now }
     requires legal { IsLegal commands.now rounds.now capacity.now }
-    ensures are { IfOk result (λ m. AreMisses commands.now rounds.now capacity.now m.counts.commands m.counts.late m.counts.unavoidable m.counts.avoidable m.windows.items) }
+    ensures are { IfOk result (λ m. HasMisses commands.now rounds.now capacity.now m.counts m.windows.items) }
     ensures spares { IfOk result (λ m. HasSpares commands.now rounds.now capacity.now m.counts.late m.counts.spare) }
     // what could have been avoided is no more than what is spare, and is something exactly where something is spare
     ensures at_most { IfOk result (λ m. m.counts.avoidable ≤ m.counts.spare) }
     ensures some { IfOk result (λ m. (0 < m.counts.avoidable) ↔ (0 < m.counts.spare)) }
 {
     law_of_spares();
-    // commands within the limits of the oracle are refused for want of memory alone
-    let Ok(answer) = most_met(alloc.clone()?, commands, capacity) else {
+    // commands within the limits of the oracle are refused only when out of memory
+    let Ok(answer) = most_on_time(alloc.clone()?, commands, capacity) else {
         return Err(AllocError);
     };
     let spare = spare_of(alloc.clone()?, commands, rounds, capacity, answer.met)?;

@@ -3,11 +3,11 @@ use Rattle.std.proofs.Common.{◌≡◌, ◌<◌, ◌≤◌, ◌^◌, ℕ, ◌-�
 use Rattle.std.specs.Bool.{IsTrue}
 use Rattle.std.proofs.lemmas.Bool.{cases_lt, eq-eqb}
 use Rattle.std.proofs.lemmas.List.{get_or_past, get_or_default, get_or-replicate, length-replicate}
-use Rattle.edd_check.specs.declared.Command.{Command}
-use Rattle.edd_check.specs.declared.steps.Step.{Step}
-use Rattle.edd_check.specs.Capacity.{depth_at}
-use Rattle.edd_check.specs.Schedule.{IsLegal, RoundsInRange}
-use Rattle.edd_oracle.specs.Met.{IsMetFirst, IsMetUntil, IsDelayed, IsLeftOver}
+use Rattle.edd_commands.specs.declared.Command.{Command}
+use Rattle.edd_commands.specs.declared.steps.Step.{Step}
+use Rattle.edd_commands.specs.Capacity.{depth_at}
+use Rattle.edd_commands.specs.Schedule.{IsLegal, RoundsInRange}
+use Rattle.edd_oracle.specs.OnTime.{IsOnTimeFirst, IsOnTimeUntil, IsDelayed, IsLeftOver}
 use Rattle.edd_oracle.specs.Inside.Leave.{has_round, placed_at, CouldRun, IsBegun, HaveLeft, IsAfter}
 use Rattle.edd_oracle.proofs.Counting.{count_along}
 use Rattle.edd_oracle.proofs.Partial.{IsSettled, settled_all, could_run, legal_left, in_range_left, none_placed, has_round_true, unplaced_count-le}
@@ -73,8 +73,8 @@ pub record IsBoth (commands : List Command) (none met rounds : List (Option ℕ)
   pub settled : IsSettled rounds all
 
 -- a command that is met has its round, by its due round
-met_round : (commands : List Command) (none met rounds : List (Option ℕ)) (steps : List Step) (end : ℕ) (all : List ℕ) (k x : ℕ) → IsBoth commands none met rounds steps end all → get_or met k None ≡ Some x → (k < length commands) × (get_or all k 0 ≡ x) × (x < end)
-met_round commands none met rounds steps end all k x both there =
+on_time_round : (commands : List Command) (none met rounds : List (Option ℕ)) (steps : List Step) (end : ℕ) (all : List ℕ) (k x : ℕ) → IsBoth commands none met rounds steps end all → get_or met k None ≡ Some x → (k < length commands) × (get_or all k 0 ≡ x) × (x < end)
+on_time_round commands none met rounds steps end all k x both there =
     let within : k < length commands =
     elim (cases_lt k (length met)) [
       | inl low ↦ omega (arith, both.first.one_each)
@@ -85,16 +85,16 @@ met_round commands none met rounds steps end all k x both there =
     let same : get_or all k 0 ≡ x = (cc) in
     (within, same, both.after.before k x there)
 
-met_due : (commands : List Command) (none met rounds : List (Option ℕ)) (steps : List Step) (end : ℕ) (all : List ℕ) (k x : ℕ) (d : Command) → IsBoth commands none met rounds steps end all → get_or met k None ≡ Some x → x ≤ (get_or commands k d).due
-met_due commands none met rounds steps end all k x d both there =
+on_time_due : (commands : List Command) (none met rounds : List (Option ℕ)) (steps : List Step) (end : ℕ) (all : List ℕ) (k x : ℕ) (d : Command) → IsBoth commands none met rounds steps end all → get_or met k None ≡ Some x → x ≤ (get_or commands k d).due
+on_time_due commands none met rounds steps end all k x d both there =
     elim (both.first.kept.1 k x d there) [
       | inl before ↦ let nothing : get_or none k None ≡ None = both.nothing k in absurd (cc)
       | inr new ↦ new.1 refl
     ]
 
 -- what runs before the end is met
-early_met : (commands : List Command) (none met rounds : List (Option ℕ)) (steps : List Step) (end : ℕ) (all : List ℕ) (k : ℕ) → IsBoth commands none met rounds steps end all → k < length commands → get_or all k 0 < end → get_or met k None ≡ Some (get_or all k 0)
-early_met commands none met rounds steps end all k both within early =
+early_on_time : (commands : List Command) (none met rounds : List (Option ℕ)) (steps : List Step) (end : ℕ) (all : List ℕ) (k : ℕ) → IsBoth commands none met rounds steps end all → k < length commands → get_or all k 0 < end → get_or met k None ≡ Some (get_or all k 0)
+early_on_time commands none met rounds steps end all k both within early =
     elim (both.then.kept.1 k (get_or all k 0) no_command (both.settled.at k (omega (arith, both.then.one_each)))) [
       | inl before ↦ before
       | inr new ↦ absurd (omega (arith, new.0))
@@ -115,10 +115,10 @@ full_early commands none met rounds steps end all x both full =
           absurd (omega (arith, full, both.first.some x))
     ]
 
-met_until : (commands : List Command) (none met rounds : List (Option ℕ)) (steps : List Step) (end : ℕ) (all : List ℕ) → IsBoth commands none met rounds steps end all → IsMetUntil commands all end
-met_until commands none met rounds steps end all both =
+on_time_until : (commands : List Command) (none met rounds : List (Option ℕ)) (steps : List Step) (end : ℕ) (all : List ℕ) → IsBoth commands none met rounds steps end all → IsOnTimeUntil commands all end
+on_time_until commands none met rounds steps end all both =
     record {
-      met = λ k d within early. met_due commands none met rounds steps end all k (get_or all k 0) d both (early_met commands none met rounds steps end all k both within early);
+      met = λ k d within early. on_time_due commands none met rounds steps end all k (get_or all k 0) d both (early_on_time commands none met rounds steps end all k both within early);
       late = λ k d within past.
           elim (cases_lt (get_or commands k d).due (get_or all k 0)) [
             | inl over ↦ over
@@ -128,24 +128,24 @@ met_until commands none met rounds steps end all both =
                 let full : placed_at met x ≡ depth_at steps x =
                 delayed_could commands none met rounds steps end all x k d both within released by_then
                 (λ y there.
-                let known = met_round commands none met rounds steps end all k y both there in
+                let known = on_time_round commands none met rounds steps end all k y both there in
                 absurd (omega (arith, known.1, known.2))) in
                 absurd (omega (arith, full_early commands none met rounds steps end all x both full))
           ];
       last = elim both.after.last [
         | inl nothing ↦ inl nothing
         | inr there ↦
-            let known = met_round commands none met rounds steps end all there.0 (end - 1) both there.1 in
+            let known = on_time_round commands none met rounds steps end all there.0 (end - 1) both there.1 in
             inr (there.0, known.0, omega (arith, known.1, known.2))
       ];
     }
 
 delayed_later : (commands : List Command) (none met rounds : List (Option ℕ)) (steps : List Step) (end : ℕ) (all : List ℕ) (x k : ℕ) → IsBoth commands none met rounds steps end all → x < get_or all k 0 → (y : ℕ) → get_or met k None ≡ Some y → x < y
 delayed_later commands none met rounds steps end all x k both later y there =
-    omega (arith, (met_round commands none met rounds steps end all k y both there).1)
+    omega (arith, (on_time_round commands none met rounds steps end all k y both there).1)
 
-pub met_first : (commands : List Command) (none met rounds : List (Option ℕ)) (steps : List Step) (end : ℕ) (all : List ℕ) → IsBoth commands none met rounds steps end all → IsMetFirst commands all steps
-met_first commands none met rounds steps end all both =
+pub on_time_first : (commands : List Command) (none met rounds : List (Option ℕ)) (steps : List Step) (end : ℕ) (all : List ℕ) → IsBoth commands none met rounds steps end all → IsOnTimeFirst commands all steps
+on_time_first commands none met rounds steps end all both =
     let rest_could : (x k : ℕ) (d : Command) → IsLeftOver commands all end x k d → CouldRun false commands rounds x k d =
     λ x k d over.
     could_run false commands rounds all x k d both.then.one_each both.settled over.in_list over.released (λ (late : IsTrue false). absurd (cc)) over.later in
@@ -154,7 +154,7 @@ met_first commands none met rounds steps end all both =
     delayed_could commands none met rounds steps end all x k d both delayed.in_list delayed.released delayed.in_time (delayed_later commands none met rounds steps end all x k both delayed.later) in
     record {
       end = end;
-      until = met_until commands none met rounds steps end all both;
+      until = on_time_until commands none met rounds steps end all both;
       full = λ x k d delayed.
           omega (
             arith,
@@ -165,8 +165,8 @@ met_first commands none met rounds steps end all both =
           );
       due_first = λ x k p d delayed within at.
           let early : x < end = full_early commands none met rounds steps end all x both (full x k d delayed) in
-          let there : get_or met p None ≡ Some x = early_met commands none met rounds steps end all p both within (omega arith) ∙ ap (λ n. Some n) at in (
-            met_due commands none met rounds steps end all p x d both there,
+          let there : get_or met p None ≡ Some x = early_on_time commands none met rounds steps end all p both within (omega arith) ∙ ap (λ n. Some n) at in (
+            on_time_due commands none met rounds steps end all p x d both there,
             both.first.due_first x k p d (omega arith) record {
               in_list = delayed.in_list;
               released = delayed.released;
@@ -180,17 +180,17 @@ met_first commands none met rounds steps end all both =
     }
 
 -- the rounds once each command has one
-pub record IsMetFinished (commands : List Command) (rounds : List ℕ) (steps : List Step) : Type 0 where
+pub record IsOnTimeFinished (commands : List Command) (rounds : List ℕ) (steps : List Step) : Type 0 where
   pub legal : IsLegal commands rounds steps
   pub in_range : RoundsInRange rounds
-  pub first : IsMetFirst commands rounds steps
+  pub first : IsOnTimeFirst commands rounds steps
 
-pub met_finished : (commands : List Command) (none met rounds : List (Option ℕ)) (steps : List Step) (end : ℕ) (all : List ℕ) → none ≡ replicate (length commands) None → HaveLeft true commands none met steps 0 → IsAfter met end → HaveLeft false commands met rounds steps end → length commands ≤ 1000000 → map (λ x. Some x) all ≡ rounds → IsMetFinished commands all steps
-met_finished commands none met rounds steps end all nones first after rest few is_all =
+pub on_time_finished : (commands : List Command) (none met rounds : List (Option ℕ)) (steps : List Step) (end : ℕ) (all : List ℕ) → none ≡ replicate (length commands) None → HaveLeft true commands none met steps 0 → IsAfter met end → HaveLeft false commands met rounds steps end → length commands ≤ 1000000 → map (λ x. Some x) all ≡ rounds → IsOnTimeFinished commands all steps
+on_time_finished commands none met rounds steps end all nones first after rest few is_all =
     let settled : IsSettled rounds all = settled_all rounds all is_all in
     record {
       legal = legal_left false commands met rounds steps end all rest settled;
       in_range = in_range_left false commands met rounds steps end all rest few settled;
-      first = met_first commands none met rounds steps end all
+      first = on_time_first commands none met rounds steps end all
           record { nothing = no_round commands none nones; first = first; after = after; then = rest; settled = settled };
     }

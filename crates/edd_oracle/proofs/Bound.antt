@@ -4,30 +4,30 @@ use Rattle.std.specs.List.{zip, list_any}
 use Rattle.std.proofs.lemmas.List.Folds.{list_any_none, list_any_at}
 use Rattle.std.proofs.lemmas.List.Sums.{sum_by-cons}
 use Rattle.std.proofs.lemmas.Bool.{cases_Bool, cases_lt, and_parts, and_from, and_left, and_right, leb-true, le-leb, lt-leb, ltb-true, not-true, not_from_false, not_from_true}
-use Rattle.edd_check.specs.declared.Command.{Command}
+use Rattle.edd_commands.specs.declared.Command.{Command}
 use Rattle.edd_check.specs.declared.Window.{Window}
-use Rattle.edd_check.specs.declared.steps.Step.{Step}
-use Rattle.edd_check.specs.Capacity.{depth_at, carried}
-use Rattle.edd_check.specs.Schedule.{IsLegal, RoundsInRange, places_at}
-use Rattle.edd_check.specs.Met.{number_met, is_met, lies_in, holds, can_be_met, outside_of, carried_in, carried_by, bound_of, IsMetBound, IsCover, CoverInRange}
+use Rattle.edd_commands.specs.declared.steps.Step.{Step}
+use Rattle.edd_commands.specs.Capacity.{depth_at, carried}
+use Rattle.edd_commands.specs.Schedule.{IsLegal, RoundsInRange, places_at}
+use Rattle.edd_check.specs.OnTime.{number_on_time, is_on_time, lies_in, holds, can_be_on_time, outside_of, carried_in, carried_by, bound_of, IsOnTimeBound, IsCover, CoverInRange}
 use Rattle.edd_check.proofs.Covers.{cover_rises_to, lies_here}
-use Rattle.edd_check.proofs.Counting.{no_places}
-use Rattle.edd_oracle.specs.Met.{IsMetFirst, IsDelayed, IsPassedWindow, IsPassedCover, IsMostAnswer}
+use Rattle.edd_commands.proofs.Counting.{no_places}
+use Rattle.edd_oracle.specs.OnTime.{IsOnTimeFirst, IsDelayed, IsPassedWindow, IsPassedCover, IsMostAnswer}
 use Rattle.edd_oracle.proofs.Counting.{count_of_both, count_along, count_wider}
 use Rattle.edd_oracle.proofs.Crowded.{is_inside, due_among, due_among-full}
 use Rattle.edd_oracle.proofs.Joined.{released_after, window_some}
 use Rattle.edd_oracle.proofs.Pairs.{pair_at, length_pairs}
 
 -- met, and in none of the windows
-abbrev met_apart : List Window → Command × ℕ → Bool
-met_apart cover p = is_met p.0 p.1 && not (list_any (λ w. lies_in p.0 w) cover)
+abbrev on_time_apart : List Window → Command × ℕ → Bool
+on_time_apart cover p = is_on_time p.0 p.1 && not (list_any (λ w. lies_in p.0 w) cover)
 
 -- met, and in the window
-abbrev met_in : Window → Command × ℕ → Bool
-met_in w p = is_met p.0 p.1 && lies_in p.0 w
+abbrev on_time_in : Window → Command × ℕ → Bool
+on_time_in w p = is_on_time p.0 p.1 && lies_in p.0 w
 
 -- the windows are disjoint and rise
-pub passed_disjoint : (commands : List Command) (rounds : List ℕ) (steps : List Step) (cover : List Window) → length rounds ≡ length commands → IsMetFirst commands rounds steps → IsPassedCover commands rounds steps cover → IsCover cover
+pub passed_disjoint : (commands : List Command) (rounds : List ℕ) (steps : List Step) (cover : List Window) → length rounds ≡ length commands → IsOnTimeFirst commands rounds steps → IsPassedCover commands rounds steps cover → IsCover cover
 passed_disjoint commands rounds steps cover same first are =
     λ k h.
     record {
@@ -42,7 +42,7 @@ passed_disjoint commands rounds steps cover same first are =
     }
 
 -- the due round of a window lies before the end of what is met
-window_early : (commands : List Command) (rounds : List ℕ) (steps : List Step) (w : Window) → IsLegal commands rounds steps → ((x : ℕ) → 0 < depth_at steps x) → (first : IsMetFirst commands rounds steps) → IsPassedWindow commands rounds steps w → w.due < first.end
+window_early : (commands : List Command) (rounds : List ℕ) (steps : List Step) (w : Window) → IsLegal commands rounds steps → ((x : ℕ) → 0 < depth_at steps x) → (first : IsOnTimeFirst commands rounds steps) → IsPassedWindow commands rounds steps w → w.due < first.end
 window_early commands rounds steps w legal some first is =
     let d : Command = record { id = 0; release = 0; due = 0 } in
     let k : ℕ = is.place in
@@ -62,7 +62,7 @@ window_early commands rounds steps w legal some first is =
     ]
 
 -- what a window's rounds carry are met commands that lie in it
-window_full : (commands : List Command) (rounds : List ℕ) (steps : List Step) (w : Window) → IsLegal commands rounds steps → ((x : ℕ) → 0 < depth_at steps x) → IsMetFirst commands rounds steps → IsPassedWindow commands rounds steps w → carried_in steps w ≤ count_by (met_in w) (zip commands rounds)
+window_full : (commands : List Command) (rounds : List ℕ) (steps : List Step) (w : Window) → IsLegal commands rounds steps → ((x : ℕ) → 0 < depth_at steps x) → IsOnTimeFirst commands rounds steps → IsPassedWindow commands rounds steps w → carried_in steps w ≤ count_by (on_time_in w) (zip commands rounds)
 unfolding carried_in
 window_full commands rounds steps w legal some first is =
     let n : ℕ = w.due + 1 - w.from in
@@ -70,8 +70,8 @@ window_full commands rounds steps w legal some first is =
     due_among-full commands rounds steps w.from w.due n (λ y low high. is.is_start.full y low (omega arith)) in
     let early : w.due < first.end = window_early commands rounds steps w legal some first is in
     let long : length (zip commands rounds) ≡ length commands = length_pairs commands rounds legal.one_each in
-    let held : due_among commands rounds w.from n w.due ≤ count_by (met_in w) (zip commands rounds) =
-    count_along (is_inside w.from n w.due) (met_in w) (zip commands rounds) (zip commands rounds) refl
+    let held : due_among commands rounds w.from n w.due ≤ count_by (on_time_in w) (zip commands rounds) =
+    count_along (is_inside w.from n w.due) (on_time_in w) (zip commands rounds) (zip commands rounds) refl
     (λ j p q h inside.
     let j_in : j < length commands = omega arith in
     let d : Command = p.0 in
@@ -86,7 +86,7 @@ window_full commands rounds steps w legal some first is =
     let met : x ≤ c.due = first.until.met j d j_in (omega arith) in
     let released : w.from ≤ c.release = released_after commands rounds steps (w.due + 1) w.due w.from j d legal.one_each first is.is_start j_in by_then (omega arith) low in
     let can : c.release ≤ c.due = omega (arith, legal.released j d j_in) in
-    subst (λ (r : Command × ℕ). met_in w r ≡ true) (sym (pair_at commands rounds j q d 0 legal.one_each j_in))
+    subst (λ (r : Command × ℕ). on_time_in w r ≡ true) (sym (pair_at commands rounds j q d 0 legal.one_each j_in))
     (and_from (nat_le x c.due) (lies_in c w) (le-leb x c.due met) (lies_here c w can released by_then))) in
     omega (arith, full, held)
 
@@ -117,42 +117,42 @@ any_rest p x xs none =
     ])
 
 -- a met command lies in one window at most
-sum_met : (commands : List Command) (rounds : List ℕ) (steps : List Step) (cover : List Window) → ((i : ℕ) (e : Window) → i < length cover → carried_in steps (get_or cover i e) ≤ count_by (met_in (get_or cover i e)) (zip commands rounds)) → IsCover cover → carried_by steps cover + count_by (met_apart cover) (zip commands rounds) ≤ number_met commands rounds
-unfolding number_met carried_by
-sum_met commands rounds steps [] each is =
+sum_on_time : (commands : List Command) (rounds : List ℕ) (steps : List Step) (cover : List Window) → ((i : ℕ) (e : Window) → i < length cover → carried_in steps (get_or cover i e) ≤ count_by (on_time_in (get_or cover i e)) (zip commands rounds)) → IsCover cover → carried_by steps cover + count_by (on_time_apart cover) (zip commands rounds) ≤ number_on_time commands rounds
+unfolding number_on_time carried_by
+sum_on_time commands rounds steps [] each is =
     omega (
       arith,
-      count_wider (met_apart []) (λ p. is_met p.0 p.1) (λ p both. (and_parts (is_met p.0 p.1) (not (list_any (λ w. lies_in p.0 w) [])) both).0) (zip commands rounds),
+      count_wider (on_time_apart []) (λ p. is_on_time p.0 p.1) (λ p both. (and_parts (is_on_time p.0 p.1) (not (list_any (λ w. lies_in p.0 w) [])) both).0) (zip commands rounds),
     )
-sum_met commands rounds steps (w ∷ cover) each is =
+sum_on_time commands rounds steps (w ∷ cover) each is =
     let later : IsCover cover = cover_rest w cover is in
-    let rest : carried_by steps cover + count_by (met_apart cover) (zip commands rounds) ≤ number_met commands rounds =
-    sum_met commands rounds steps cover (λ i e h. each (suc i) e (omega arith)) later in
-    let here : carried_in steps w ≤ count_by (met_in w) (zip commands rounds) = each 0 w (omega arith) in
-    let split : count_by (met_in w) (zip commands rounds) + count_by (met_apart (w ∷ cover)) (zip commands rounds) ≤ count_by (met_apart cover) (zip commands rounds) =
-    count_of_both (met_apart cover) (met_in w) (met_apart (w ∷ cover))
+    let rest : carried_by steps cover + count_by (on_time_apart cover) (zip commands rounds) ≤ number_on_time commands rounds =
+    sum_on_time commands rounds steps cover (λ i e h. each (suc i) e (omega arith)) later in
+    let here : carried_in steps w ≤ count_by (on_time_in w) (zip commands rounds) = each 0 w (omega arith) in
+    let split : count_by (on_time_in w) (zip commands rounds) + count_by (on_time_apart (w ∷ cover)) (zip commands rounds) ≤ count_by (on_time_apart cover) (zip commands rounds) =
+    count_of_both (on_time_apart cover) (on_time_in w) (on_time_apart (w ∷ cover))
     (λ p yes.
-    let parts = and_parts (is_met p.0 p.1) (lies_in p.0 w) yes in
+    let parts = and_parts (is_on_time p.0 p.1) (lies_in p.0 w) yes in
     let out : list_any (λ v. lies_in p.0 v) cover ≡ false =
     list_any_none (λ v. lies_in p.0 v) cover (λ i e h. later_apart p.0 w (get_or cover i e) parts.1 (cover_rises_to (w ∷ cover) 0 (suc i) e is (omega arith) (omega arith))) in (
-      and_from (is_met p.0 p.1) (not (list_any (λ v. lies_in p.0 v) cover)) parts.0 (not_from_false _ out),
-      and_right (is_met p.0 p.1) (not (list_any (λ v. lies_in p.0 v) (w ∷ cover))) (not_from_true _ (list_any_at (λ v. lies_in p.0 v) (w ∷ cover) 0 w (omega arith) parts.1)),
+      and_from (is_on_time p.0 p.1) (not (list_any (λ v. lies_in p.0 v) cover)) parts.0 (not_from_false _ out),
+      and_right (is_on_time p.0 p.1) (not (list_any (λ v. lies_in p.0 v) (w ∷ cover))) (not_from_true _ (list_any_at (λ v. lies_in p.0 v) (w ∷ cover) 0 w (omega arith) parts.1)),
     ))
     (λ p yes.
-    let parts = and_parts (is_met p.0 p.1) (not (list_any (λ v. lies_in p.0 v) (w ∷ cover))) yes in
-    and_from (is_met p.0 p.1) (not (list_any (λ v. lies_in p.0 v) cover)) parts.0 (not_from_false _ (any_rest (λ v. lies_in p.0 v) w cover (not-true _ parts.1))))
+    let parts = and_parts (is_on_time p.0 p.1) (not (list_any (λ v. lies_in p.0 v) (w ∷ cover))) yes in
+    and_from (is_on_time p.0 p.1) (not (list_any (λ v. lies_in p.0 v) cover)) parts.0 (not_from_false _ (any_rest (λ v. lies_in p.0 v) w cover (not-true _ parts.1))))
     (zip commands rounds) in
     omega (arith, rest, here, split, sum_by-cons (λ v. carried_in steps v) w cover)
 
 -- all that can be met is met or lies in a window
-outside_met : (commands : List Command) (rounds : List ℕ) (steps : List Step) (cover : List Window) → length rounds ≡ length commands → IsPassedCover commands rounds steps cover → outside_of commands cover ≤ count_by (met_apart cover) (zip commands rounds)
+outside_on_time : (commands : List Command) (rounds : List ℕ) (steps : List Step) (cover : List Window) → length rounds ≡ length commands → IsPassedCover commands rounds steps cover → outside_of commands cover ≤ count_by (on_time_apart cover) (zip commands rounds)
 unfolding outside_of
-outside_met commands rounds steps cover same are =
-    count_along (λ c. can_be_met c && not (list_any (λ w. lies_in c w) cover)) (met_apart cover) commands (zip commands rounds) (length_pairs commands rounds same)
+outside_on_time commands rounds steps cover same are =
+    count_along (λ c. can_be_on_time c && not (list_any (λ w. lies_in c w) cover)) (on_time_apart cover) commands (zip commands rounds) (length_pairs commands rounds same)
     (λ k d p h yes.
     let c : Command = get_or commands k d in
     let x : ℕ = get_or rounds k 0 in
-    let parts = and_parts (can_be_met c) (not (list_any (λ w. lies_in c w) cover)) yes in
+    let parts = and_parts (can_be_on_time c) (not (list_any (λ w. lies_in c w) cover)) yes in
     let can : c.release ≤ c.due = leb-true c.release c.due parts.0 in
     let met : x ≤ c.due =
     elim (cases_lt c.due x) [
@@ -166,19 +166,19 @@ outside_met commands rounds steps cover same are =
           let clash : true ≡ false = sym lies ∙ none in
           absurd (cc)
     ] in
-    subst (λ (q : Command × ℕ). met_apart cover q ≡ true) (sym (pair_at commands rounds k p d 0 same h))
+    subst (λ (q : Command × ℕ). on_time_apart cover q ≡ true) (sym (pair_at commands rounds k p d 0 same h))
     (and_from (nat_le x c.due) (not (list_any (λ w. lies_in c w) cover)) (le-leb x c.due met) parts.1))
 
-pub bound_reached : (commands : List Command) (rounds : List ℕ) (steps : List Step) (cover : List Window) → IsLegal commands rounds steps → ((x : ℕ) → 0 < depth_at steps x) → IsMetFirst commands rounds steps → IsPassedCover commands rounds steps cover → bound_of commands steps cover ≤ number_met commands rounds
+pub bound_reached : (commands : List Command) (rounds : List ℕ) (steps : List Step) (cover : List Window) → IsLegal commands rounds steps → ((x : ℕ) → 0 < depth_at steps x) → IsOnTimeFirst commands rounds steps → IsPassedCover commands rounds steps cover → bound_of commands steps cover ≤ number_on_time commands rounds
 bound_reached commands rounds steps cover legal some first are =
     omega (
       arith,
-      sum_met commands rounds steps cover (λ i e h. window_full commands rounds steps (get_or cover i e) legal some first (are.each i e h)) (passed_disjoint commands rounds steps cover legal.one_each first are),
-      outside_met commands rounds steps cover legal.one_each are,
+      sum_on_time commands rounds steps cover (λ i e h. window_full commands rounds steps (get_or cover i e) legal some first (are.each i e h)) (passed_disjoint commands rounds steps cover legal.one_each first are),
+      outside_on_time commands rounds steps cover legal.one_each are,
     )
 
 -- so no schedule meets more
-pub most_answer : (commands : List Command) (rounds : List ℕ) (steps : List Step) (met : ℕ) (cover : List Window) → IsLegal commands rounds steps → ((x : ℕ) → 0 < depth_at steps x) → IsMetFirst commands rounds steps → IsPassedCover commands rounds steps cover → IsMetBound commands steps (bound_of commands steps cover) → number_met commands rounds ≡ met → RoundsInRange rounds → CoverInRange cover → IsMostAnswer commands steps rounds met cover
+pub most_answer : (commands : List Command) (rounds : List ℕ) (steps : List Step) (met : ℕ) (cover : List Window) → IsLegal commands rounds steps → ((x : ℕ) → 0 < depth_at steps x) → IsOnTimeFirst commands rounds steps → IsPassedCover commands rounds steps cover → IsOnTimeBound commands steps (bound_of commands steps cover) → number_on_time commands rounds ≡ met → RoundsInRange rounds → CoverInRange cover → IsMostAnswer commands steps rounds met cover
 most_answer commands rounds steps met cover legal some first are bound number rounds_in in_range =
     let same : bound_of commands steps cover ≡ met = omega (arith, bound rounds legal, bound_reached commands rounds steps cover legal some first are) in
     record {
@@ -186,7 +186,7 @@ most_answer commands rounds steps met cover legal some first are bound number ro
       number = number;
       disjoint = passed_disjoint commands rounds steps cover legal.one_each first are;
       bound = same;
-      most = record { schedule = rounds; legal = legal; reached = number; most = subst (λ n. IsMetBound commands steps n) same bound };
+      most = record { schedule = rounds; legal = legal; reached = number; most = subst (λ n. IsOnTimeBound commands steps n) same bound };
       rounds_in = rounds_in;
       cover_in = in_range;
     }

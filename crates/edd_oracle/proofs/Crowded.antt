@@ -3,11 +3,11 @@ use Rattle.std.specs.List.{zip}
 use Rattle.std.proofs.lemmas.Int.{ints}
 use Rattle.std.proofs.lemmas.List.{get_or_default}
 use Rattle.std.proofs.lemmas.Bool.{and_parts, and_from, and_right, leb-true, le-leb, ltb-true, lt-ltb, eq-eqb, ne_eqb, eqb-true, cases_lt}
-use Rattle.edd_check.specs.declared.Command.{Command}
-use Rattle.edd_check.specs.declared.steps.Step.{Step}
-use Rattle.edd_check.specs.Capacity.{depth_at, carried}
-use Rattle.edd_check.proofs.InForce.{carried_suc, carried_none}
-use Rattle.edd_check.specs.Schedule.{places_at, lateness_at, IsGreatestLateness}
+use Rattle.edd_commands.specs.declared.Command.{Command}
+use Rattle.edd_commands.specs.declared.steps.Step.{Step}
+use Rattle.edd_commands.specs.Capacity.{depth_at, carried}
+use Rattle.edd_commands.proofs.InForce.{carried_suc, carried_none}
+use Rattle.edd_commands.specs.Schedule.{places_at, lateness_at, IsGreatestLateness}
 use Rattle.edd_check.specs.Window.{IsCrowded, load_of}
 use Rattle.edd_oracle.specs.Plan.{due_at, IsWindowStart, IsLatest, IsChosen}
 use Rattle.edd_oracle.specs.Priority.{IsEarliestDueFirst, ComesFirst}

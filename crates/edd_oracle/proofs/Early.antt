@@ -6,12 +6,12 @@ use Rattle.std.specs.List.Sorted.{IsPermutation}
 use Rattle.std.proofs.lemmas.List.Sorted.{All-permutation, sum_by-IsPermutation}
 use Rattle.std.proofs.lemmas.List.Sums.{sum_by-cons, sum_by-append}
 use Rattle.std.proofs.lemmas.Bool.{cases_eq, cases_lt, cond-true, cond-false, ne_eqb, eq-eqb, eqb-true, and_parts}
-use Rattle.edd_check.specs.declared.Command.{Command}
-use Rattle.edd_check.specs.declared.steps.Step.{Step}
-use Rattle.edd_check.specs.Capacity.{depth_at, IsCapacity}
-use Rattle.edd_check.specs.Schedule.{places_at, IsLegal}
-use Rattle.edd_check.proofs.Counting.{Rises, run_count, run_of}
-use Rattle.edd_check.proofs.InForce.{depth_bounds}
+use Rattle.edd_commands.specs.declared.Command.{Command}
+use Rattle.edd_commands.specs.declared.steps.Step.{Step}
+use Rattle.edd_commands.specs.Capacity.{depth_at, IsCapacity}
+use Rattle.edd_commands.specs.Schedule.{places_at, IsLegal}
+use Rattle.edd_commands.proofs.Counting.{Rises, run_count, run_of}
+use Rattle.edd_commands.proofs.InForce.{depth_bounds}
 use Rattle.edd_oracle.specs.Plan.{due_at, IsWindowStart}
 use Rattle.edd_oracle.proofs.Counting.{count_along}
 use Rattle.edd_oracle.proofs.Pairs.{is_due_at, due_more_yes, due_more_late, due_more_other, length_pairs, pair_at}

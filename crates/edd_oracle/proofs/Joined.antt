@@ -3,23 +3,23 @@ use Rattle.std.proofs.Common.{◌≡◌, ◌<◌, ◌≤◌, ℕ, ◌+◌, ◌-�
 use Rattle.std.specs.List.{zip, All}
 use Rattle.std.proofs.lemmas.Bool.{cases_lt, and_from, le-leb, eqb-true, eq-eqb}
 use Rattle.std.proofs.lemmas.List.{get_or_default, get_or-reverse, length-reverse}
-use Rattle.edd_check.specs.declared.Command.{Command}
+use Rattle.edd_commands.specs.declared.Command.{Command}
 use Rattle.edd_check.specs.declared.Window.{Window}
-use Rattle.edd_check.specs.declared.steps.Step.{Step}
-use Rattle.edd_check.specs.Capacity.{depth_at}
-use Rattle.edd_check.specs.Limits.{round_limit}
-use Rattle.edd_check.specs.Met.{CoverInRange}
-use Rattle.edd_check.specs.Schedule.{places_at, CommandsInRange}
+use Rattle.edd_commands.specs.declared.steps.Step.{Step}
+use Rattle.edd_commands.specs.Capacity.{depth_at}
+use Rattle.edd_commands.specs.Limits.{round_limit}
+use Rattle.edd_check.specs.OnTime.{CoverInRange}
+use Rattle.edd_commands.specs.Schedule.{places_at, CommandsInRange}
 use Rattle.edd_oracle.specs.declared.cover.Served.{Served}
 use Rattle.edd_oracle.specs.Plan.{due_at, IsWindowStart}
-use Rattle.edd_oracle.specs.Met.{IsMetFirst, IsDelayed, IsPassedOver, IsPassedWindow, IsPassedCover}
+use Rattle.edd_oracle.specs.OnTime.{IsOnTimeFirst, IsDelayed, IsPassedOver, IsPassedWindow, IsPassedCover}
 use Rattle.edd_oracle.specs.Inside.Cover.{served_at, IsPassedDue, IsServedStart, AreWindows}
 use Rattle.edd_oracle.proofs.Counting.{count_along}
 use Rattle.edd_oracle.proofs.Crowded.{due_from_first}
 use Rattle.edd_oracle.proofs.Pairs.{pair_at, length_pairs}
 
 -- where a command is delayed, the round is full of commands due no later
-pub delayed_full : (commands : List Command) (rounds : List ℕ) (steps : List Step) (x k due : ℕ) (d : Command) → length rounds ≡ length commands → IsMetFirst commands rounds steps → IsDelayed commands rounds x k d → (get_or commands k d).due ≤ due → depth_at steps x ≤ due_at commands rounds x due
+pub delayed_full : (commands : List Command) (rounds : List ℕ) (steps : List Step) (x k due : ℕ) (d : Command) → length rounds ≡ length commands → IsOnTimeFirst commands rounds steps → IsDelayed commands rounds x k d → (get_or commands k d).due ≤ due → depth_at steps x ≤ due_at commands rounds x due
 unfolding due_at places_at
 delayed_full commands rounds steps x k due d same first delayed by_then =
     let filled : places_at rounds x ≡ depth_at steps x = first.full x k d delayed in
@@ -34,7 +34,7 @@ delayed_full commands rounds steps x k due d same first delayed by_then =
     omega (arith, filled, held)
 
 -- a command due by the window's end that could be met in the round before the window, and runs later, is released in it
-pub released_after : (commands : List Command) (rounds : List ℕ) (steps : List Step) (past due start k : ℕ) (d : Command) → length rounds ≡ length commands → IsMetFirst commands rounds steps → IsWindowStart commands rounds steps past due start → k < length commands → (get_or commands k d).due ≤ due → start ≤ (get_or commands k d).due + 1 → start ≤ get_or rounds k 0 → start ≤ (get_or commands k d).release
+pub released_after : (commands : List Command) (rounds : List ℕ) (steps : List Step) (past due start k : ℕ) (d : Command) → length rounds ≡ length commands → IsOnTimeFirst commands rounds steps → IsWindowStart commands rounds steps past due start → k < length commands → (get_or commands k d).due ≤ due → start ≤ (get_or commands k d).due + 1 → start ≤ get_or rounds k 0 → start ≤ (get_or commands k d).release
 released_after commands rounds steps past due start k d same first is_start within by_then could later =
     elim is_start.first [
       | inl none ↦ omega arith
@@ -49,7 +49,7 @@ released_after commands rounds steps past due start k d same first is_start with
     ]
 
 -- so a command that is passed over lies in a window that it reaches
-pub passed_lies : (commands : List Command) (rounds : List ℕ) (steps : List Step) (past due start k : ℕ) (d : Command) → length rounds ≡ length commands → IsMetFirst commands rounds steps → IsWindowStart commands rounds steps past due start → IsPassedOver commands rounds k d → (get_or commands k d).due ≤ due → start ≤ (get_or commands k d).due + 1 → start ≤ (get_or commands k d).release
+pub passed_lies : (commands : List Command) (rounds : List ℕ) (steps : List Step) (past due start k : ℕ) (d : Command) → length rounds ≡ length commands → IsOnTimeFirst commands rounds steps → IsWindowStart commands rounds steps past due start → IsPassedOver commands rounds k d → (get_or commands k d).due ≤ due → start ≤ (get_or commands k d).due + 1 → start ≤ (get_or commands k d).release
 passed_lies commands rounds steps past due start k d same first is_start passed by_then could =
     released_after commands rounds steps past due start k d same first is_start passed.in_list by_then could (omega (arith, passed.late))
 
@@ -72,7 +72,7 @@ served_start commands rounds steps served past due start same within is =
 -- what the windows come from
 pub record IsFound (commands : List Command) (rounds : List ℕ) (steps : List Step) (passed : List ℕ) (served : List Served) (past : ℕ) : Type 0 where
   pub one_each : length rounds ≡ length commands
-  pub first : IsMetFirst commands rounds steps
+  pub first : IsOnTimeFirst commands rounds steps
   pub each : (k : ℕ) (d : Command) → IsPassedOver commands rounds k d → (j : ℕ) × (j < length passed) × (get_or passed j 0 ≡ (get_or commands k d).due)
   pub some : All (IsPassedDue commands rounds) passed
   pub within : (j : ℕ) → j < length passed → get_or passed j 0 < past
@@ -125,14 +125,14 @@ passed_cover commands rounds steps passed served past back cover found are is_ba
     }
 
 -- a window begins no later than it ends
-pub window_some : (commands : List Command) (rounds : List ℕ) (steps : List Step) (w : Window) (d : Command) → length rounds ≡ length commands → IsMetFirst commands rounds steps → (is : IsPassedWindow commands rounds steps w) → (w.from ≤ (get_or commands is.place d).release) × ((get_or commands is.place d).release ≤ w.due)
+pub window_some : (commands : List Command) (rounds : List ℕ) (steps : List Step) (w : Window) (d : Command) → length rounds ≡ length commands → IsOnTimeFirst commands rounds steps → (is : IsPassedWindow commands rounds steps w) → (w.from ≤ (get_or commands is.place d).release) × ((get_or commands is.place d).release ≤ w.due)
 window_some commands rounds steps w d same first is =
     let out = is.passed d in
     let low : w.from ≤ (get_or commands is.place d).release =
     passed_lies commands rounds steps (w.due + 1) w.due w.from is.place d same first is.is_start out (omega (arith, is.is_due d)) (omega (arith, is.is_due d, is.is_start.before)) in
     (low, omega (arith, is.is_due d, out.some))
 
-pub cover_in : (commands : List Command) (rounds : List ℕ) (steps : List Step) (cover : List Window) → length rounds ≡ length commands → IsMetFirst commands rounds steps → CommandsInRange commands → IsPassedCover commands rounds steps cover → CoverInRange cover
+pub cover_in : (commands : List Command) (rounds : List ℕ) (steps : List Step) (cover : List Window) → length rounds ≡ length commands → IsOnTimeFirst commands rounds steps → CommandsInRange commands → IsPassedCover commands rounds steps cover → CoverInRange cover
 cover_in commands rounds steps cover same first ranges are =
     λ i e h.
     let d : Command = record { id = 0; release = 0; due = 0 } in

@@ -6,8 +6,8 @@ use Rattle.std.proofs.lemmas.Bool.{cases_eq}
 use Rattle.std.proofs.lemmas.List.{get_or_default}
 use Rattle.std.proofs.lemmas.List.Elements.{All-nil, All-push, Contains-push, Contains-append_left}
 use Rattle.std.proofs.lemmas.List.Sorted.{All-permutation, Contains-permutation}
-use Rattle.edd_check.specs.declared.Command.{Command}
-use Rattle.edd_oracle.specs.Met.{IsPassedOver}
+use Rattle.edd_commands.specs.declared.Command.{Command}
+use Rattle.edd_oracle.specs.OnTime.{IsPassedOver}
 use Rattle.edd_oracle.specs.Inside.Cover.{IsPassedDue}
 
 -- those of the first n

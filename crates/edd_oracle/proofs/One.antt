@@ -2,10 +2,10 @@
 use Rattle.std.proofs.Common.{◌≡◌, ◌<◌, ◌≤◌, ◌≢◌, ℕ, ◌==◌, ◌⊎◌, zero, suc, inl, inr, List, [], ◌∷◌, length, get_or, count_by, arith, refl, sym, ap, ◌∙◌}
 use Rattle.std.proofs.lemmas.Bool.{cases_eq, cases_lt, cases_order, eq-eqb, ne_eqb, eqb-true}
 use Rattle.std.proofs.lemmas.List.{get_or_default}
-use Rattle.edd_check.specs.declared.Command.{Command}
-use Rattle.edd_check.specs.declared.steps.Step.{Step}
-use Rattle.edd_check.specs.Capacity.{depth_at}
-use Rattle.edd_check.specs.Schedule.{places_at, IsLegal}
+use Rattle.edd_commands.specs.declared.Command.{Command}
+use Rattle.edd_commands.specs.declared.steps.Step.{Step}
+use Rattle.edd_commands.specs.Capacity.{depth_at}
+use Rattle.edd_commands.specs.Schedule.{places_at, IsLegal}
 use Rattle.edd_oracle.specs.Input.{HasDistinctIds}
 use Rattle.edd_oracle.specs.Priority.{IsEarliestDueFirst, ComesFirst}
 use Rattle.edd_oracle.proofs.Counting.{count_yes, count_no, count_rest, count_along}

@@ -1,18 +1,17 @@
 -- What the separate check says of an answer of the oracle.
 use Rattle.std.proofs.Common.{◌≡◌, ◌∙◌, ◌<◌, ◌≤◌, ℕ, ℤ, List, length, refl, sym, arith, inl, inr}
-use Rattle.std.specs.Prelude.{Result, Ok, Err, IsOkUnless}
-use Rattle.edd_check.specs.declared.Command.{Command}
+use Rattle.std.specs.Prelude.{Ok, Err}
+use Rattle.edd_commands.specs.declared.Command.{Command}
 use Rattle.edd_check.specs.declared.Window.{Window}
-use Rattle.edd_check.specs.declared.steps.Step.{Step}
-use Rattle.edd_check.specs.declared.CheckFault.{CheckFault}
+use Rattle.edd_commands.specs.declared.steps.Step.{Step}
 use Rattle.edd_check.specs.declared.CheckFault.TheVariants as fault
-use Rattle.edd_check.specs.declared.met.MetFault.{MetFault}
-use Rattle.edd_check.specs.declared.met.MetFault.TheVariants as met_fault
-use Rattle.edd_check.specs.Schedule.{IsLegal, IsGreatestLateness, IsLeastOverDeep, IsFirstEarly}
+use Rattle.edd_check.specs.declared.on_time.OnTimeFault.TheVariants as on_time_fault
+use Rattle.edd_commands.specs.Schedule.{IsLegal, IsGreatestLateness}
+use Rattle.edd_check.specs.Rules.{IsLeastOverDeep, IsFirstEarly}
 use Rattle.edd_check.specs.Window.{IsCrowded}
-use Rattle.edd_check.specs.Met.{number_met, bound_of, IsCover}
-use Rattle.edd_check.specs.Check.{IsAnswer}
-use Rattle.edd_check.specs.CheckMet.{IsMetAnswer}
+use Rattle.edd_check.specs.OnTime.{number_on_time, bound_of, IsCover}
+use Rattle.edd_check.specs.Check.{PassesCheck}
+use Rattle.edd_check.specs.CheckOnTime.{PassesOnTimeCheck}
 use Rattle.edd_check.proofs.Latest.{same_greatest}
 
 abbrev none : Command
@@ -27,7 +26,7 @@ not_early commands rounds steps id legal first = absurd (omega (arith, first.ear
 not_deep : (commands : List Command) (rounds : List ℕ) (steps : List Step) (x : ℕ) → IsLegal commands rounds steps → IsLeastOverDeep rounds steps x → ⊥
 not_deep commands rounds steps x legal deep = absurd (omega (arith, deep.over, legal.within_depth x))
 
-pub passes : (commands : List Command) (steps : List Step) (late : ℤ) (rounds : List ℕ) (w : Window) → IsLegal commands rounds steps → IsGreatestLateness commands rounds late → IsCrowded commands steps late w → (told : Result (Unit {0}) CheckFault) → IsAnswer commands steps late rounds w told → IsOkUnless told fault.Memory
+pub passes : (commands : List Command) (steps : List Step) (late : ℤ) (rounds : List ℕ) (w : Window) → IsLegal commands rounds steps → IsGreatestLateness commands rounds late → IsCrowded commands steps late w → PassesCheck commands steps late rounds w
 passes commands steps late rounds w legal greatest crowded (Ok _) is = tt
 passes commands steps late rounds w legal greatest crowded (Err fault.Length) is = absurd (is legal.one_each)
 passes commands steps late rounds w legal greatest crowded (Err (fault.BeforeRelease id)) is = absurd (not_early commands rounds steps id legal is.1)
@@ -40,23 +39,23 @@ passes commands steps late rounds w legal greatest crowded (Err (fault.NotCrowde
     let few = is.1.1.1 in
     absurd (omega (arith, load, few, crowded))
 
-pub passes_met : (commands : List Command) (steps : List Step) (rounds : List ℕ) (met : ℕ) (cover : List Window) → IsLegal commands rounds steps → number_met commands rounds ≡ met → IsCover cover → bound_of commands steps cover ≡ met → (told : Result (Unit {0}) MetFault) → IsMetAnswer commands steps rounds met cover told → IsOkUnless told met_fault.Memory
-passes_met commands steps rounds met cover legal number is_cover bound (Ok _) is = tt
-passes_met commands steps rounds met cover legal number is_cover bound (Err met_fault.Length) is = absurd (is legal.one_each)
-passes_met commands steps rounds met cover legal number is_cover bound (Err (met_fault.BeforeRelease id)) is = absurd (not_early commands rounds steps id legal is.1)
-passes_met commands steps rounds met cover legal number is_cover bound (Err met_fault.Memory) is = refl
-passes_met commands steps rounds met cover legal number is_cover bound (Err (met_fault.OverDepth x)) is = absurd (not_deep commands rounds steps x legal is.1.1)
-passes_met commands steps rounds met cover legal number is_cover bound (Err (met_fault.WrongMet own)) is =
+pub passes_on_time : (commands : List Command) (steps : List Step) (rounds : List ℕ) (met : ℕ) (cover : List Window) → IsLegal commands rounds steps → number_on_time commands rounds ≡ met → IsCover cover → bound_of commands steps cover ≡ met → PassesOnTimeCheck commands steps rounds met cover
+passes_on_time commands steps rounds met cover legal number is_cover bound (Ok _) is = tt
+passes_on_time commands steps rounds met cover legal number is_cover bound (Err on_time_fault.Length) is = absurd (is legal.one_each)
+passes_on_time commands steps rounds met cover legal number is_cover bound (Err (on_time_fault.BeforeRelease id)) is = absurd (not_early commands rounds steps id legal is.1)
+passes_on_time commands steps rounds met cover legal number is_cover bound (Err on_time_fault.Memory) is = refl
+passes_on_time commands steps rounds met cover legal number is_cover bound (Err (on_time_fault.OverDepth x)) is = absurd (not_deep commands rounds steps x legal is.1.1)
+passes_on_time commands steps rounds met cover legal number is_cover bound (Err (on_time_fault.WrongMet own)) is =
     let told = is.1.0 in
     absurd (is.1.1 (sym told ∙ number))
-passes_met commands steps rounds met cover legal number is_cover bound (Err (met_fault.Windows p)) is =
+passes_on_time commands steps rounds met cover legal number is_cover bound (Err (on_time_fault.Windows p)) is =
     let first = is.1.1 in
     let at = is_cover p first.in_list in
     elim (first.astray no_window) [
       | inl short ↦ absurd (omega (arith, at.some no_window))
       | inr over ↦ absurd (omega (arith, at.rising no_window over.0, over.1))
     ]
-passes_met commands steps rounds met cover legal number is_cover bound (Err (met_fault.Loose n)) is =
+passes_on_time commands steps rounds met cover legal number is_cover bound (Err (on_time_fault.Loose n)) is =
     let told = is.1.1.1.0 in
     let less = is.1.1.1.1 in
     absurd (omega (arith, told, less, bound))

@@ -6,9 +6,9 @@ use Rattle.std.proofs.lemmas.Bool.{cases_eq, cases_lt, cond-true, cond-false, ne
 use Rattle.std.proofs.lemmas.List.{take_all}
 use Rattle.std.proofs.lemmas.List.Sums.{sum_by-cons, sum_by-append}
 use Rattle.std.proofs.lemmas.List.Sorted.{sum_by-IsPermutation}
-use Rattle.edd_check.specs.declared.Command.{Command}
-use Rattle.edd_check.specs.Schedule.{places_at}
-use Rattle.edd_check.proofs.Counting.{places_more, places_same}
+use Rattle.edd_commands.specs.declared.Command.{Command}
+use Rattle.edd_commands.specs.Schedule.{places_at}
+use Rattle.edd_commands.proofs.Counting.{places_more, places_same}
 use Rattle.edd_oracle.specs.declared.cover.Served.{Served}
 use Rattle.edd_oracle.specs.Plan.{due_at}
 use Rattle.edd_oracle.specs.Inside.Cover.{served_at, running_at}

@@ -4,7 +4,7 @@ use Rattle.std.specs.List.Sorted.{IsNonDecreasingBy}
 use Rattle.std.proofs.lemmas.Bool.{cases_eq, cases_lt}
 use Rattle.std.proofs.lemmas.List.{get_or_append_left, get_or-append-add, length-append}
 use Rattle.edd_check.specs.declared.Window.{Window}
-use Rattle.edd_check.specs.declared.steps.Step.{Step}
+use Rattle.edd_commands.specs.declared.steps.Step.{Step}
 use Rattle.edd_oracle.specs.declared.cover.Served.{Served}
 use Rattle.edd_oracle.specs.Inside.Cover.{IsServedStart, AreWindows}
 

@@ -1,6 +1,6 @@
 use Rattle.std.specs.Prelude.{take, ℕ, ◌≡◌, ◌≢◌, ◌≤◌, ◌<◌, ◌⊎◌, List, length, slice_index_or, All, [], ◌∷◌}
-use Rattle.edd_check.specs.declared.Command.{Command}
-use Rattle.edd_check.specs.Limits.{release_limit, round_limit, most_commands}
+use Rattle.edd_commands.specs.declared.Command.{Command}
+use Rattle.edd_commands.specs.Limits.{release_limit, round_limit, most_commands}
 use Rattle.edd_oracle.specs.declared.OracleFault.{OracleFault}
 use Rattle.edd_oracle.specs.declared.OracleFault.TheVariants.{TooMany, RoundRange, RepeatedId, Memory}
 use Rattle.faults.specs.Order.{BreaksFirst, AreKept}
@@ -43,7 +43,7 @@ abbrev pub list_rules : List Command → List (Type 0)
 list_rules commands =
     (length commands ≤ most_commands) ∷ All IsSolvable commands ∷ HasDistinctIds commands (length commands) ∷ []
 
--- why the oracle refuses a list: the first rule that is broken, or want of memory after the first two
+-- why the oracle refuses a list: the first rule that is broken, or running out of memory after the first two
 abbrev pub IsRefusal : List Command → OracleFault → Type 0
 IsRefusal commands TooMany = BreaksFirst (list_rules commands) 0 (most_commands < length commands)
 IsRefusal commands (RoundRange id) = BreaksFirst (list_rules commands) 1 (IsFirstOutOfRange commands id)

@@ -1,3 +1,4 @@
 -- What invariants and proofs alone need.
+pub mod Queue
 pub mod Leave
 pub mod Cover

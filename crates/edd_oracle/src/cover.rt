@@ -4,16 +4,17 @@ ghost use Rattle.std.specs.Prelude.{◌≡◌, ◌≤◌, ◌<◌, ℕ, All, IfO
 ghost use Rattle.std.specs.Bool.{OnTrue, OnFalse};
 ghost use Rattle.std.specs.List.{Contains};
 ghost use Rattle.std.specs.List.Sorted.{IsNonDecreasingBy};
-ghost use Rattle.edd_check.specs.declared.Command.{Command};
-ghost use Rattle.edd_check.specs.Capacity.{depth_at};
-ghost use Rattle.edd_check.specs.Limits.{round_limit};
-ghost use Rattle.edd_check.specs.Met.{CoverInRange};
-ghost use Rattle.edd_check.specs.Schedule.{IsLegal, CommandsInRange, places_at};
+ghost use Rattle.edd_commands.specs.declared.Command.{Command};
+ghost use Rattle.edd_commands.specs.Capacity.{depth_at};
+ghost use Rattle.edd_commands.specs.Limits.{round_limit};
+ghost use Rattle.edd_check.specs.OnTime.{CoverInRange};
+ghost use Rattle.edd_commands.specs.Schedule.{IsLegal, CommandsInRange, places_at};
 ghost use Rattle.edd_oracle.specs.Plan.{due_at};
-ghost use Rattle.edd_oracle.specs.Met.{IsMetFirst, IsPassedOver, IsPassedCover};
-ghost use Rattle.edd_oracle.specs.Inside.Cover.{served_at, running_at, IsPassedDue, IsServedStart, AreDue, IsOneOff, AreWindows};
+ghost use Rattle.edd_oracle.specs.OnTime.{IsOnTimeFirst, IsPassedOver, IsPassedCover};
+ghost use Rattle.edd_oracle.specs.Inside.Cover.{served_at, running_at, IsPassedDue, IsServedStart, AreDue, IsOneOff, AreWindows, HasPassedDues};
 
-use edd_check::{Capacity, Command, Window};
+use edd_check::Window;
+use edd_commands::{Capacity, Command};
 use std::alloc::{AllocError, Allocator};
 
 /// When a command runs, and when it is due.
@@ -32,7 +33,7 @@ fn passed_over<A: Allocator>(
     rounds: &[u64],
 ) -> Result<Vec<u64, A>, AllocError>
     requires { length rounds.now ≡ length commands.now }
-    ensures each { IfOk result (λ found. (k : ℕ) (d : Command) → IsPassedOver commands.now rounds.now k d → Contains found.items (slice_index_or commands.now k d).due) }
+    ensures each { IfOk result (λ found. HasPassedDues commands.now rounds.now found.items) }
     ensures some { IfOk result (λ found. All (IsPassedDue commands.now rounds.now) found.items) }
     ensures rising { IfOk result (λ found. IsNonDecreasingBy (λ x. x) found.items) }
 {
@@ -161,7 +162,7 @@ pub fn cover<A: Allocator + Clone, B: Allocator>(
 ) -> Result<Vec<Window, A>, AllocError>
     requires commands_in { CommandsInRange commands.now }
     requires legal { IsLegal commands.now rounds.now capacity.now }
-    requires first { IsMetFirst commands.now rounds.now capacity.now }
+    requires first { IsOnTimeFirst commands.now rounds.now capacity.now }
     ensures passed { IfOk result (λ cover. IsPassedCover commands.now rounds.now capacity.now cover.items) }
     ensures in_range { IfOk result (λ cover. CoverInRange cover.items) }
 {

@@ -6,37 +6,35 @@
 //! change from round to round, is proved in this crate.
 #![tactic(auto)]
 
-ghost use Rattle.std.specs.Prelude.{◌≡◌, ◌≤◌, ◌<◌, ◌↔◌, [], length, IfOk, IfErr, IfSome, IsNone, OnOk, IsOkUnless, Result};
-ghost use Rattle.edd_check.specs.Schedule.{IsLegal, CommandsInRange, RoundsInRange};
+ghost use Rattle.std.specs.Prelude.{◌≡◌, ◌≤◌, ◌<◌, ◌↔◌, [], length, IfOk, IfErr, IfSome, IsNone, OnOk};
+ghost use Rattle.edd_commands.specs.Schedule.{IsLegal, CommandsInRange, RoundsInRange};
 ghost use Rattle.edd_check.specs.Window.{WindowInRange};
-ghost use Rattle.edd_check.specs.Check.{IsAnswer};
-ghost use Rattle.edd_check.specs.CheckMet.{IsMetAnswer};
-ghost use Rattle.edd_check.specs.Met.{CoverInRange};
+ghost use Rattle.edd_check.specs.Check.{PassesCheck};
+ghost use Rattle.edd_check.specs.CheckOnTime.{PassesOnTimeCheck};
+ghost use Rattle.edd_check.specs.OnTime.{CoverInRange};
 ghost use Rattle.edd_oracle.specs.Names.{oracle_fault_name};
 ghost use Rattle.edd_oracle.specs.Input.{IsTaken, IsRefusal, HasDistinctIds};
 ghost use Rattle.edd_oracle.specs.Answer.{IsBest};
 ghost use Rattle.edd_oracle.specs.Priority.{IsEarliestDueFirst};
 ghost use Rattle.edd_oracle.specs.Plan.{IsLatestWindow};
-ghost use Rattle.edd_oracle.specs.Met.{IsMostAnswer, IsMetFirst, IsPassedCover};
+ghost use Rattle.edd_oracle.specs.OnTime.{IsMostAnswer, IsOnTimeFirst, IsPassedCover};
 
 mod cover;
 mod input;
 mod queue;
 mod window;
 
-use edd_check::{
-    Capacity, CheckFault, Command, MetFault, Window, law_of_covers, law_of_crowded_windows,
-    number_met,
-};
+use edd_check::{Window, law_of_covers, law_of_crowded_windows, number_on_time};
+use edd_commands::{Capacity, Command};
 use std::alloc::{Allocator, Global};
 
 /// Why a list is refused, in the order in which the reasons are looked for.
 #[derive(Clone, Copy, Debug, PartialEq, Eq)]
 pub enum OracleFault {
-    /// There are more than [`MAX_COMMANDS`](edd_check::MAX_COMMANDS) commands.
+    /// There are more than [`MAX_COMMANDS`](edd_commands::MAX_COMMANDS) commands.
     TooMany,
-    /// The id of the first command by place that is released at [`MAX_RELEASES`](edd_check::MAX_RELEASES) or later or
-    /// due at [`MAX_ROUNDS`](edd_check::MAX_ROUNDS) or later.
+    /// The id of the first command by place that is released at [`MAX_RELEASES`](edd_commands::MAX_RELEASES) or later or
+    /// due at [`MAX_ROUNDS`](edd_commands::MAX_ROUNDS) or later.
     RoundRange(u64),
     /// The id of the first command by place whose id stood before.
     RepeatedId(u64),
@@ -65,8 +63,8 @@ pub struct Answer<A: Allocator = Global> {
     pub rounds: Vec<u64, A>,
     /// The greatest lateness in rounds: a command's round less its due round.
     pub lateness: i64,
-    /// What shows that the lateness is least: the commands released at the window's `from` or later and due at its
-    /// `due` or sooner are more than its rounds carry, if each is to be less late.
+    /// A window that proves the lateness least: more commands are released at its `from` or later and due at its `due` or
+    /// sooner than its rounds can carry, if each is to be less late.
     pub window: Window,
 }
 
@@ -80,7 +78,7 @@ pub struct Answer<A: Allocator = Global> {
 ///
 /// There is no answer exactly where there are no commands. Releases are rounds below 2^40 and due rounds below 2^41; all
 /// rounds of the answer are below 2^41. Refused are, in this order: more than 1,000,000 commands (`TooMany`), a release
-/// or due round out of range (`RoundRange`), an id that stands twice (`RepeatedId`), and want of memory (`Memory`),
+/// or due round out of range (`RoundRange`), an id that stands twice (`RepeatedId`), and running out of memory (`Memory`),
 /// which may also come in place of `RepeatedId`.
 ///
 /// The released commands wait in a heap, and rounds in which nothing is released and nothing waits are jumped over. So
@@ -136,21 +134,20 @@ pub fn law_of_checks<A: Allocator, B: Allocator>(
     requires taken { IsTaken commands.now }
     requires best { IsBest commands.now capacity.now answer.now.rounds.items answer.now.lateness answer.now.window }
     ensures asked { CommandsInRange commands.now × RoundsInRange answer.now.rounds.items × WindowInRange answer.now.window }
-    ensures passed { (told : Result (Unit {0}) CheckFault) → IsAnswer commands.now capacity.now answer.now.lateness answer.now.rounds.items answer.now.window told
-        → IsOkUnless told CheckFault.Memory }
+    ensures passed { PassesCheck commands.now capacity.now answer.now.lateness answer.now.rounds.items answer.now.window }
 {
     let _ = (commands.len(), capacity.at(0), answer.lateness);
 }
 
 /// A schedule that meets as many commands as any can, each by its due round.
 #[derive(Debug, Drop)]
-pub struct MostMet<A: Allocator = Global> {
+pub struct MostOnTime<A: Allocator = Global> {
     /// The round of each command, by place.
     pub rounds: Vec<u64, A>,
     /// How many commands run no later than they are due.
     pub met: u64,
-    /// What shows that no schedule meets more: windows, `from` to `due`, that don't overlap, by rising rounds. What their
-    /// rounds carry, and the commands released by their due round that lie in none of them, are `met`.
+    /// What shows that no schedule meets more: windows, `from` to `due`, that don't overlap, by rising rounds. `met` is what
+    /// their rounds carry, and one for each command released by its due round that lies in none of them.
     pub cover: Vec<Window, A>,
 }
 
@@ -167,21 +164,21 @@ pub struct MostMet<A: Allocator = Global> {
 /// carries, or in round 0; windows that overlap or touch are one.
 ///
 /// Refused as [`solve`] refuses: more than 1,000,000 commands (`TooMany`), a release or due round out of range
-/// (`RoundRange`), an id that stands twice (`RepeatedId`), and want of memory (`Memory`), which may also come in place of
+/// (`RoundRange`), an id that stands twice (`RepeatedId`), and running out of memory (`Memory`), which may also come in place of
 /// `RepeatedId`. No command is no fault: then none is met and there is no window.
 ///
 /// The time grows as n log n in the number of commands, whatever their rounds.
-pub fn most_met<A: Allocator + Clone, B: Allocator>(
+pub fn most_on_time<A: Allocator + Clone, B: Allocator>(
     alloc: A,
     commands: &[Command],
     capacity: &Capacity<B>,
-) -> Result<MostMet<A>, OracleFault>
+) -> Result<MostOnTime<A>, OracleFault>
     ensures taken { OnOk result (IsTaken commands.now) }
     ensures refused { IfErr result (IsRefusal commands.now) }
     // no legal schedule meets more, by the cover
     ensures most { IfOk result (λ answer.
         IsMostAnswer commands.now capacity.now answer.rounds.items answer.met answer.cover.items) }
-    ensures first { IfOk result (λ answer. IsMetFirst commands.now answer.rounds.items capacity.now) }
+    ensures first { IfOk result (λ answer. IsOnTimeFirst commands.now answer.rounds.items capacity.now) }
     ensures cover { IfOk result (λ answer.
         IsPassedCover commands.now answer.rounds.items capacity.now answer.cover.items) }
 {
@@ -191,30 +188,29 @@ pub fn most_met<A: Allocator + Clone, B: Allocator>(
     let Ok(alloc_cover) = alloc.clone() else {
         return Err(OracleFault::Memory);
     };
-    let Ok(rounds) = queue::schedule_met(alloc, commands, capacity) else {
+    let Ok(rounds) = queue::schedule_on_time(alloc, commands, capacity) else {
         return Err(OracleFault::Memory);
     };
     let Ok(cover) = cover::cover(alloc_cover, commands, rounds.as_slice(), capacity) else {
         return Err(OracleFault::Memory);
     };
-    let met = number_met(commands, rounds.as_slice());
+    let met = number_on_time(commands, rounds.as_slice());
     law_of_covers(commands, capacity, cover.as_slice());
-    Ok(MostMet { rounds, met, cover })
+    Ok(MostOnTime { rounds, met, cover })
 }
 
-/// The separate check may be asked about an answer of [`most_met`], and passes it: whatever [`check_met`](edd_check::check_met) says
+/// The separate check may be asked about an answer of [`most_on_time`], and passes it: whatever [`check_on_time`](edd_check::check_on_time) says
 /// of it is Ok, unless memory ran out.
 ///
 /// A law: it does nothing when it runs, and a caller has its clauses.
-pub fn law_of_met_checks<A: Allocator, B: Allocator>(
+pub fn law_of_on_time_checks<A: Allocator, B: Allocator>(
     commands: &[Command],
     capacity: &Capacity<A>,
-    answer: &MostMet<B>,
+    answer: &MostOnTime<B>,
 )
     requires { IsMostAnswer commands.now capacity.now answer.now.rounds.items answer.now.met answer.now.cover.items }
     ensures asked { CoverInRange answer.now.cover.items }
-    ensures passed { (told : Result (Unit {0}) MetFault) → IsMetAnswer commands.now capacity.now answer.now.rounds.items answer.now.met answer.now.cover.items told
-        → IsOkUnless told MetFault.Memory }
+    ensures passed { PassesOnTimeCheck commands.now capacity.now answer.now.rounds.items answer.now.met answer.now.cover.items }
 {
     let _ = (commands.len(), capacity.at(0), answer.met);
 }

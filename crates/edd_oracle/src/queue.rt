@@ -3,18 +3,18 @@
 ghost use Rattle.std.specs.Prelude.{◌≡◌, ◌≤◌, ◌<◌, ◌+◌, ◌^◌, ℕ, Some, None, length, drop, map, All, IfOk, IfNone, IfSome, OnOk, slice_index_or};
 ghost use Rattle.std.specs.List.Sorted.{IsNonDecreasingBy};
 ghost use Rattle.std.specs.BinaryHeap.{heap_items, IsHeap};
-ghost use Rattle.edd_check.specs.Capacity.{depth_at};
-ghost use Rattle.edd_check.specs.Limits.{most_commands};
-ghost use Rattle.edd_check.specs.Schedule.{IsLegal, RoundsInRange};
-ghost use Rattle.edd_check.specs.declared.Command.{Command};
+ghost use Rattle.edd_commands.specs.Capacity.{depth_at};
+ghost use Rattle.edd_commands.specs.Limits.{most_commands};
+ghost use Rattle.edd_commands.specs.Schedule.{IsLegal, RoundsInRange};
+ghost use Rattle.edd_commands.specs.declared.Command.{Command};
 ghost use Rattle.edd_oracle.specs.Input.{IsSolvable, HasDistinctIds};
 ghost use Rattle.edd_oracle.specs.Plan.{IsWaiting};
-ghost use Rattle.edd_oracle.specs.Queue.{IsArrival, IsReleasedBy, arrivals_of, held_of, waiting_cmp, IsRest};
+ghost use Rattle.edd_oracle.specs.Inside.Queue.{IsArrival, IsReleasedBy, arrivals_of, held_of, waiting_cmp, IsRest, AreTakenIn};
 ghost use Rattle.edd_oracle.specs.Inside.Leave.{unplaced_at, IsTakenOut, IsBegun, HaveLeft, IsAfter};
-ghost use Rattle.edd_oracle.specs.Met.{IsMetFirst};
+ghost use Rattle.edd_oracle.specs.OnTime.{IsOnTimeFirst};
 ghost use Rattle.edd_oracle.specs.Priority.{IsEarliestDueFirst};
 
-use edd_check::{Capacity, Command};
+use edd_commands::{Capacity, Command};
 use std::alloc::{AllocError, Allocator};
 use std::cmp::Reverse;
 use std::collections::BinaryHeap;
@@ -79,7 +79,7 @@ fn release<A: Allocator>(
     requires ordered { IsHeap waiting_cmp (heap_items waiting.old) }
     requires released { All (IsReleasedBy commands.now round) (heap_items waiting.old) }
     ensures within { IfOk result (λ next. next ≤ length arrivals.now) }
-    ensures kept { IfOk result (λ next. (k : ℕ) → held_of (heap_items waiting.new) k + arrivals_of (drop next arrivals.now) k ≡ held_of (heap_items waiting.old) k + arrivals_of (drop start arrivals.now) k) }
+    ensures kept { IfOk result (λ next. AreTakenIn arrivals.now start next (heap_items waiting.old) (heap_items waiting.new)) }
     ensures rest { IfOk result (λ next. IsRest arrivals.now next round) }
     ensures ordered { OnOk result (IsHeap waiting_cmp (heap_items waiting.new)) }
     ensures released { OnOk result (All (IsReleasedBy commands.now round) (heap_items waiting.new)) }
@@ -213,7 +213,7 @@ pub fn schedule<A: Allocator + Clone, B: Allocator>(
 
 /// A round for each command so that as many as possible are met: earliest due first, passing over what can no more be met,
 /// and from the round after the last met one on earliest due first of what was passed over.
-pub fn schedule_met<A: Allocator + Clone, B: Allocator>(
+pub fn schedule_on_time<A: Allocator + Clone, B: Allocator>(
     alloc: A,
     commands: &[Command],
     capacity: &Capacity<B>,
@@ -222,7 +222,7 @@ pub fn schedule_met<A: Allocator + Clone, B: Allocator>(
     requires in_range { All IsSolvable commands.now }
     ensures legal { IfOk result (λ rounds. IsLegal commands.now rounds.items capacity.now) }
     ensures in_range { IfOk result (λ rounds. RoundsInRange rounds.items) }
-    ensures first { IfOk result (λ rounds. IsMetFirst commands.now rounds.items capacity.now) }
+    ensures first { IfOk result (λ rounds. IsOnTimeFirst commands.now rounds.items capacity.now) }
     ensures carries { OnOk result ((x : ℕ) → 0 < depth_at capacity.now x) }
 {
     let mut rounds = vec![in alloc.clone()?; None; commands.len()]?;

@@ -2,13 +2,14 @@
 
 ghost use Rattle.std.specs.Prelude.{◌≡◌, ◌≤◌, ◌<◌, ◌+◌, ℕ, All, IfOk, length};
 ghost use Rattle.std.specs.Bool.{OnTrue, OnFalse};
-ghost use Rattle.edd_check.specs.Limits.{round_limit};
-ghost use Rattle.edd_check.specs.Schedule.{CommandsInRange, RoundsInRange, IsLegal, IsGreatestLateness, places_at};
+ghost use Rattle.edd_commands.specs.Limits.{round_limit};
+ghost use Rattle.edd_commands.specs.Schedule.{CommandsInRange, RoundsInRange, IsLegal, IsGreatestLateness, places_at};
 ghost use Rattle.edd_check.specs.Window.{IsCrowded, WindowInRange};
 ghost use Rattle.edd_oracle.specs.Plan.{due_at, IsChosen, IsLatest, IsWindowStart, IsLatestWindow};
 ghost use Rattle.edd_oracle.specs.Priority.{IsEarliestDueFirst};
 
-use edd_check::{Capacity, Command, Window};
+use edd_check::Window;
+use edd_commands::{Capacity, Command};
 use std::alloc::{AllocError, Allocator};
 
 /// Whether the one command at its round comes before the other at its: by lateness, the later first, then by

@@ -4,10 +4,10 @@ use Rattle.std.specs.List.Sorted.{IsNonDecreasingBy}
 use Rattle.std.specs.List.{All}
 use Rattle.std.proofs.lemmas.Bool.{cases_eq, cases_lt, and_parts, and_from, and_left, le-leb, lt-leb, eq-eqb}
 use Rattle.std.proofs.lemmas.List.{get_or-map, length-map, get_or_default}
-use Rattle.edd_check.specs.declared.steps.Step.{Step}
-use Rattle.edd_check.specs.Capacity.{depth_at}
-use Rattle.edd_check.specs.Schedule.{places_at}
-use Rattle.edd_check.proofs.Counting.{Rises, run_count, run_of}
+use Rattle.edd_commands.specs.declared.steps.Step.{Step}
+use Rattle.edd_commands.specs.Capacity.{depth_at}
+use Rattle.edd_commands.specs.Schedule.{places_at}
+use Rattle.edd_commands.proofs.Counting.{Rises, run_count, run_of}
 use Rattle.edd_verdict.specs.declared.tight.Served.{Served}
 use Rattle.edd_verdict.specs.Inside.Tight.{running_at, served_by, IsLatestDue, AreRising, AreFull}
 use Rattle.edd_verdict.proofs.Sweeping.{pushed_old, pushed_new, pushed_long}

@@ -4,12 +4,12 @@ use Rattle.std.specs.List.{zip}
 use Rattle.std.proofs.lemmas.Slice.Zip.{get_or-zip, length-zip}
 use Rattle.std.proofs.lemmas.List.{get_or_default}
 use Rattle.std.proofs.lemmas.Bool.{cases_Bool, cases_lt, cases_eq, cond-true, cond-false, and_parts, and_from, and_right, leb-true, le-leb, ltb-true, ltb-false, eqb-true, eq-eqb, ne_eqb, not-true, not_from_false}
-use Rattle.edd_check.specs.declared.Command.{Command}
+use Rattle.edd_commands.specs.declared.Command.{Command}
 use Rattle.edd_check.specs.declared.Window.{Window}
-use Rattle.edd_check.specs.declared.steps.Step.{Step}
-use Rattle.edd_check.specs.Capacity.{depth_at}
-use Rattle.edd_check.specs.Schedule.{IsLegal, places_at}
-use Rattle.edd_check.specs.Met.{is_met}
+use Rattle.edd_commands.specs.declared.steps.Step.{Step}
+use Rattle.edd_commands.specs.Capacity.{depth_at}
+use Rattle.edd_commands.specs.Schedule.{IsLegal, places_at}
+use Rattle.edd_check.specs.OnTime.{is_on_time}
 use Rattle.edd_oracle.proofs.Counting.{count_along}
 use Rattle.edd_oracle.proofs.Pairs.{pair_at, length_pairs}
 use Rattle.edd_verdict.specs.Filled.{held_at, IsFilled}
@@ -18,7 +18,7 @@ use Rattle.edd_verdict.proofs.Holding.{is_held, held_from, tested}
 
 -- on time, and moved to the round x
 abbrev pub is_moved_to : ℕ → (Command × ℕ) × ℕ → Bool
-is_moved_to x q = is_met q.0.0 q.0.1 && q.1 == x
+is_moved_to x q = is_on_time q.0.0 q.0.1 && q.1 == x
 
 abbrev pub moved_at : List Command → List ℕ → List ℕ → ℕ → ℕ
 moved_at commands rounds moved x = count_by (is_moved_to x) (zip (zip commands rounds) moved)
@@ -74,7 +74,7 @@ module _ (commands : List Command) (rounds : List ℕ) (steps : List Step) (lega
             let k_in : k < length commands = omega (arith, long) in
             let here : is_moved_to x ((get_or commands k nobody, get_or rounds k 0), get_or rounds k 0) ≡ true =
             subst (λ (r : (Command × ℕ) × ℕ). is_moved_to x r ≡ true) (triple_at commands rounds rounds k q nobody legal.one_each legal.one_each k_in) yes in
-            subst (λ n. (n == x) ≡ true) (get_or_default rounds k 0 e (omega (arith, legal.one_each))) (and_parts (is_met (get_or commands k nobody) (get_or rounds k 0)) (get_or rounds k 0 == x) here).1) in
+            subst (λ n. (n == x) ≡ true) (get_or_default rounds k 0 e (omega (arith, legal.one_each))) (and_parts (is_on_time (get_or commands k nobody) (get_or rounds k 0)) (get_or rounds k 0 == x) here).1) in
             omega (arith, fewer, legal.within_depth x);
         same = λ j d h met low_is high_is. refl;
       }
@@ -94,7 +94,7 @@ module _ (commands : List Command) (rounds : List ℕ) (steps : List Step) (lega
       let stays : get_or moved j 0 ≡ y = is.same j nobody within (met nobody) (released nobody) (due_in nobody) in
       let at_j : get_or L j (nobody, 0) ≡ (get_or commands j nobody, y) = pair_at commands rounds j (nobody, 0) nobody 0 legal.one_each within in
       let j_in : j < length moved = omega (arith, is.one_each) in
-      let is_j : is_met (get_or commands j nobody) y ≡ true = le-leb y (get_or commands j nobody).due (met nobody) in
+      let is_j : is_on_time (get_or commands j nobody) y ≡ true = le-leb y (get_or commands j nobody).due (met nobody) in
       let count : (x : ℕ) → moved_at commands rounds new x + one_if (is_moved_to x (get_or L j (nobody, 0), get_or moved j 0)) ≡ moved_at commands rounds moved x + one_if (is_moved_to x (get_or L j (nobody, 0), z)) =
       λ x. count_set (is_moved_to x) L moved j z (nobody, 0) 0 (omega (arith, is.one_each, long)) (omega (arith, long)) in
       let at : (n : ℕ) → get_or new n 0 ≡ cond (n == j) z (get_or moved n 0) =
@@ -109,9 +109,9 @@ module _ (commands : List Command) (rounds : List ℕ) (steps : List Step) (lega
         before = until;
         room =
             let left : is_moved_to y (get_or L j (nobody, 0), get_or moved j 0) ≡ true =
-            subst (λ (p : Command × ℕ). is_moved_to y (p, get_or moved j 0) ≡ true) (sym at_j) (and_from (is_met (get_or commands j nobody) y) (get_or moved j 0 == y) is_j (eq-eqb (get_or moved j 0) y stays)) in
+            subst (λ (p : Command × ℕ). is_moved_to y (p, get_or moved j 0) ≡ true) (sym at_j) (and_from (is_on_time (get_or commands j nobody) y) (get_or moved j 0 == y) is_j (eq-eqb (get_or moved j 0) y stays)) in
             let not_there : is_moved_to y (get_or L j (nobody, 0), z) ≡ false =
-            subst (λ (p : Command × ℕ). is_moved_to y (p, z) ≡ false) (sym at_j) (and_right (is_met (get_or commands j nobody) y) (z == y) (ne_eqb z y apart)) in
+            subst (λ (p : Command × ℕ). is_moved_to y (p, z) ≡ false) (sym at_j) (and_right (is_on_time (get_or commands j nobody) y) (z == y) (ne_eqb z y apart)) in
             omega (arith, count y, is.within y, cond-true {A = ℕ} (is_moved_to y (get_or L j (nobody, 0), get_or moved j 0)) 1 0 left, cond-false {A = ℕ} (is_moved_to y (get_or L j (nobody, 0), z)) 1 0 not_there);
         is_moved = record {
           one_each = length-set moved j z ∙ is.one_each;
@@ -138,7 +138,7 @@ module _ (commands : List Command) (rounds : List ℕ) (steps : List Step) (lega
                     let room' : moved_at commands rounds moved x < depth_at steps x = subst (λ n. moved_at commands rounds moved n < depth_at steps n) (sym same) room in
                     omega (arith, count x, one, room')
                 | inr other ↦
-                    let none : is_moved_to x (get_or L j (nobody, 0), z) ≡ false = and_right (is_met (get_or L j (nobody, 0)).0 (get_or L j (nobody, 0)).1) (z == x) (ne_eqb z x (λ same. other (sym same))) in
+                    let none : is_moved_to x (get_or L j (nobody, 0), z) ≡ false = and_right (is_on_time (get_or L j (nobody, 0)).0 (get_or L j (nobody, 0)).1) (z == x) (ne_eqb z x (λ same. other (sym same))) in
                     omega (arith, count x, cond-false {A = ℕ} (is_moved_to x (get_or L j (nobody, 0), z)) 1 0 none, is.within x)
               ];
           same = λ i d h on_time low_is high_is.
@@ -152,7 +152,7 @@ module _ (commands : List Command) (rounds : List ℕ) (steps : List Step) (lega
   -- on time in these rounds, and reaching out of them
   abbrev is_outer : ℕ → ℕ → ℕ → Bool
   is_outer low high j =
-      is_met (get_or commands j nobody) (get_or rounds j 0) && ((nat_le low (get_or rounds j 0) && nat_le (get_or rounds j 0) high) && not (nat_le low (get_or commands j nobody).release && nat_le (get_or commands j nobody).due high))
+      is_on_time (get_or commands j nobody) (get_or rounds j 0) && ((nat_le low (get_or rounds j 0) && nat_le (get_or rounds j 0) high) && not (nat_le low (get_or commands j nobody).release && nat_le (get_or commands j nobody).due high))
 
   -- rounds that are full of commands that don't reach out of them are a filled window
   closed : (low high : ℕ) → ((x : ℕ) → low ≤ x → x ≤ high → depth_at steps x ≤ moved_at commands rounds rounds x) → ((j : ℕ) → j < length commands → is_outer low high j ≡ false) → IsFilled commands rounds steps (record { from = low; due = high })
@@ -168,7 +168,7 @@ module _ (commands : List Command) (rounds : List ℕ) (steps : List Step) (lega
       let c : Command = get_or commands k nobody in
       let y : ℕ = get_or rounds k 0 in
       let here : is_moved_to x ((c, y), y) ≡ true = subst (λ (r : (Command × ℕ) × ℕ). is_moved_to x r ≡ true) (triple_at commands rounds rounds k q nobody legal.one_each legal.one_each k_in) yes in
-      let parts = and_parts (is_met c y) (y == x) here in
+      let parts = and_parts (is_on_time c y) (y == x) here in
       let same : y ≡ x = eqb-true y x parts.1 in
       let on_time : y ≤ c.due = leb-true y c.due parts.0 in
       let inside : (nat_le low c.release && nat_le c.due high) ≡ true =
@@ -176,7 +176,7 @@ module _ (commands : List Command) (rounds : List ℕ) (steps : List Step) (lega
         | inl passes ↦ passes
         | inr out ↦
             let outer : is_outer low high k ≡ true =
-            and_from (is_met c y) ((nat_le low y && nat_le y high) && not (nat_le low c.release && nat_le c.due high)) parts.0
+            and_from (is_on_time c y) ((nat_le low y && nat_le y high) && not (nat_le low c.release && nat_le c.due high)) parts.0
             (and_from (nat_le low y && nat_le y high) (not (nat_le low c.release && nat_le c.due high))
             (and_from (nat_le low y) (nat_le y high) (le-leb low y (omega arith)) (le-leb y high (omega arith)))
             (not_from_false (nat_le low c.release && nat_le c.due high) out)) in
@@ -194,7 +194,7 @@ module _ (commands : List Command) (rounds : List ℕ) (steps : List Step) (lega
   reach top low high some below dues further j within outer =
       let c : Command = get_or commands j nobody in
       let y : ℕ = get_or rounds j 0 in
-      let parts = and_parts (is_met c y) ((nat_le low y && nat_le y high) && not (nat_le low c.release && nat_le c.due high)) outer in
+      let parts = and_parts (is_on_time c y) ((nat_le low y && nat_le y high) && not (nat_le low c.release && nat_le c.due high)) outer in
       let more = and_parts (nat_le low y && nat_le y high) (not (nat_le low c.release && nat_le c.due high)) parts.1 in
       let ends = and_parts (nat_le low y) (nat_le y high) more.0 in
       let met : y ≤ c.due = leb-true y c.due parts.0 in

@@ -3,22 +3,22 @@ use Rattle.std.proofs.Common.{◌≡◌, ◌<◌, ◌≤◌, ℕ, ◌+◌, ◌-�
 use Rattle.std.specs.List.{zip}
 use Rattle.std.proofs.lemmas.List.{get_or_default}
 use Rattle.std.proofs.lemmas.Bool.{cases_Bool, cases_lt, cases_eq, and_parts, and_from, and_left, and_right, leb-true, le-leb, lt-leb, ltb-true, lt-ltb, le-ltb, eqb-true, eq-eqb, ne_eqb}
-use Rattle.edd_check.specs.declared.Command.{Command}
+use Rattle.edd_commands.specs.declared.Command.{Command}
 use Rattle.edd_check.specs.declared.Window.{Window}
-use Rattle.edd_check.specs.declared.steps.Step.{Step}
-use Rattle.edd_check.specs.Capacity.{depth_at, carried}
-use Rattle.edd_check.specs.Schedule.{IsLegal, places_at}
-use Rattle.edd_check.specs.Met.{is_met, lies_in, holds, carried_in}
-use Rattle.edd_check.proofs.InForce.{carried_suc, carried_none}
+use Rattle.edd_commands.specs.declared.steps.Step.{Step}
+use Rattle.edd_commands.specs.Capacity.{depth_at, carried}
+use Rattle.edd_commands.specs.Schedule.{IsLegal, places_at}
+use Rattle.edd_check.specs.OnTime.{is_on_time, lies_in, holds, carried_in}
+use Rattle.edd_commands.proofs.InForce.{carried_suc, carried_none}
 use Rattle.edd_check.proofs.Covers.{lies_here}
-use Rattle.edd_check.proofs.Counting.{count_of_either}
+use Rattle.edd_commands.proofs.Counting.{count_of_either}
 use Rattle.edd_oracle.proofs.Counting.{count_along, count_of_both, count_wider, count_none, count_fewer}
 use Rattle.edd_oracle.proofs.Pairs.{pair_at, length_pairs}
 use Rattle.edd_verdict.specs.Filled.{held_at, IsFilled}
 
 -- on time, and in the window
 abbrev pub is_held : Window → Command × ℕ → Bool
-is_held w p = is_met p.0 p.1 && lies_in p.0 w
+is_held w p = is_on_time p.0 p.1 && lies_in p.0 w
 
 -- how many commands that are on time lie in the window
 abbrev pub held_in : List Command → List ℕ → Window → ℕ
@@ -47,13 +47,13 @@ lies_parts c w h =
 
 pub held_parts : (w : Window) (c : Command) (x : ℕ) → is_held w (c, x) ≡ true → (x ≤ c.due) × (w.from ≤ c.release) × (c.due ≤ w.due)
 held_parts w c x h =
-    let parts = and_parts (is_met c x) (lies_in c w) h in
+    let parts = and_parts (is_on_time c x) (lies_in c w) h in
     let lies = lies_parts c w parts.1 in
     (leb-true x c.due parts.0, lies.0, lies.1)
 
 pub held_from : (w : Window) (c : Command) (x : ℕ) → c.release ≤ x → x ≤ c.due → w.from ≤ c.release → c.due ≤ w.due → is_held w (c, x) ≡ true
 held_from w c x released met low high =
-    and_from (is_met c x) (lies_in c w) (le-leb x c.due met) (lies_here c w (omega arith) low high)
+    and_from (is_on_time c x) (lies_in c w) (le-leb x c.due met) (lies_here c w (omega arith) low high)
 
 module _ (commands : List Command) (rounds : List ℕ) (steps : List Step) (w : Window) where
   -- one round more

@@ -3,12 +3,12 @@ use Rattle.std.proofs.Common.{◌≡◌, ◌<◌, ◌≤◌, ℕ, ◌+◌, zero,
 use Rattle.std.specs.List.{zip}
 use Rattle.std.proofs.lemmas.List.{get_or_default}
 use Rattle.std.proofs.lemmas.Bool.{cases_lt, cases_eq, and_left, leb-true, le-leb, lt-leb}
-use Rattle.edd_check.specs.declared.Command.{Command}
+use Rattle.edd_commands.specs.declared.Command.{Command}
 use Rattle.edd_check.specs.declared.Window.{Window}
-use Rattle.edd_check.specs.declared.steps.Step.{Step}
-use Rattle.edd_check.specs.Capacity.{depth_at}
-use Rattle.edd_check.specs.Schedule.{IsLegal}
-use Rattle.edd_check.specs.Met.{is_met, lies_in, carried_in}
+use Rattle.edd_commands.specs.declared.steps.Step.{Step}
+use Rattle.edd_commands.specs.Capacity.{depth_at}
+use Rattle.edd_commands.specs.Schedule.{IsLegal}
+use Rattle.edd_check.specs.OnTime.{is_on_time, lies_in, carried_in}
 use Rattle.edd_oracle.proofs.Pairs.{length_pairs}
 use Rattle.edd_verdict.specs.declared.Verdict.{Verdict}
 use Rattle.edd_verdict.specs.declared.Verdict.TheVariants.{Arrival, Spare, Full}
@@ -60,7 +60,7 @@ module _ (commands : List Command) (rounds : List ℕ) (steps : List Step) (lega
       tested commands other (is_held w) true j nobody e spare.legal.one_each j_in
       (held_from w c (get_or other j 0) (spare.legal.released j nobody j_in) (spare.kept j nobody j_in parts.0) parts.1 parts.2))
       k (nobody, 0) (nobody, 0) (omega (arith, long))
-      (tested commands rounds (is_held w) false k nobody (nobody, 0) legal.one_each within (and_left (is_met own (get_or rounds k 0)) (lies_in own w) (lt-leb (get_or rounds k 0) own.due (late nobody))))
+      (tested commands rounds (is_held w) false k nobody (nobody, 0) legal.one_each within (and_left (is_on_time own (get_or rounds k 0)) (lies_in own w) (lt-leb (get_or rounds k 0) own.due (late nobody))))
       (tested commands other (is_held w) true k nobody (nobody, 0) spare.legal.one_each within (held_from w own (get_or other k 0) released met low high)) in
       omega (arith, more, filled_holds commands rounds steps w filled some, held_carried commands other steps w spare.legal some)
 

@@ -6,13 +6,13 @@ use Rattle.std.proofs.lemmas.List.{get_or_default}
 use Rattle.std.proofs.lemmas.List.Folds.{list_any_at}
 use Rattle.std.proofs.lemmas.List.Sums.{sum_by-cons}
 use Rattle.std.proofs.lemmas.Bool.{cases_Bool, cases_eq, and_parts, and_from, and_right, leb-true, le-leb, lt-leb, ltb-true, lt-ltb, le-ltb, eqb-true, eq-eqb, ne_eqb, not-true, not_from_false, not_from_true, or_cases, or_left, or_right}
-use Rattle.edd_check.specs.declared.Command.{Command}
+use Rattle.edd_commands.specs.declared.Command.{Command}
 use Rattle.edd_check.specs.declared.Window.{Window}
-use Rattle.edd_check.specs.declared.steps.Step.{Step}
-use Rattle.edd_check.specs.Capacity.{depth_at}
-use Rattle.edd_check.specs.Schedule.{IsLegal, places_at}
-use Rattle.edd_check.specs.Met.{number_met, is_met, holds, lies_in, IsMostMet}
-use Rattle.edd_check.proofs.Counting.{count_of_either}
+use Rattle.edd_commands.specs.declared.steps.Step.{Step}
+use Rattle.edd_commands.specs.Capacity.{depth_at}
+use Rattle.edd_commands.specs.Schedule.{IsLegal, places_at}
+use Rattle.edd_check.specs.OnTime.{number_on_time, is_on_time, holds, lies_in, IsMostOnTime}
+use Rattle.edd_commands.proofs.Counting.{count_of_either}
 use Rattle.edd_oracle.proofs.Counting.{count_along, count_of_both, count_wider, count_none}
 use Rattle.edd_oracle.proofs.Pairs.{pair_at, length_pairs}
 use Rattle.edd_verdict.specs.declared.Verdict.{Verdict}
@@ -80,11 +80,11 @@ module _ (commands : List Command) (rounds : List ℕ) (steps : List Step) (verd
   abbrev tight_below : ℕ → ℕ → Bool
   tight_below n y = tight y && nat_lt y n
 
-  abbrev met_below : ℕ → Command × ℕ → Bool
-  met_below n p = is_met p.0 p.1 && tight_below n p.1
+  abbrev on_time_below : ℕ → Command × ℕ → Bool
+  on_time_below n p = is_on_time p.0 p.1 && tight_below n p.1
 
-  abbrev met_apart : Command × ℕ → Bool
-  met_apart p = is_met p.0 p.1 && not (tight p.1)
+  abbrev on_time_apart : Command × ℕ → Bool
+  on_time_apart p = is_on_time p.0 p.1 && not (tight p.1)
 
   -- it lies in a filled window, all of whose rounds are so
   tight_found : (y : ℕ) → tight y ≡ true → (w : Window) × IsFilled commands rounds steps w × (w.from ≤ y) × (y ≤ w.due) × ((z : ℕ) → w.from ≤ z → z ≤ w.due → tight z ≡ true)
@@ -105,12 +105,12 @@ module _ (commands : List Command) (rounds : List ℕ) (steps : List Step) (verd
       )
 
   -- what another schedule has in such rounds, this one has there on time
-  others_below : (other : List ℕ) (n : ℕ) → ((x : ℕ) → places_at other x ≤ depth_at steps x) → count_by (tight_below n) other ≤ count_by (met_below n) (zip commands rounds)
+  others_below : (other : List ℕ) (n : ℕ) → ((x : ℕ) → places_at other x ≤ depth_at steps x) → count_by (tight_below n) other ≤ count_by (on_time_below n) (zip commands rounds)
   unfolding places_at held_at
   others_below other zero within =
       omega (arith, count_none (tight_below zero) other (λ k e h. and_right (tight (get_or other k e)) (nat_lt (get_or other k e) zero) (le-ltb (get_or other k e) zero (omega arith))))
   others_below other (suc n) within =
-      let before : count_by (tight_below n) other ≤ count_by (met_below n) (zip commands rounds) = others_below other n within in
+      let before : count_by (tight_below n) other ≤ count_by (on_time_below n) (zip commands rounds) = others_below other n within in
       elim (cases_Bool (tight n)) [
         | inr loose ↦
             let fewer : count_by (tight_below (suc n)) other ≤ count_by (tight_below n) other =
@@ -123,13 +123,13 @@ module _ (commands : List Command) (rounds : List ℕ) (steps : List Step) (verd
               | inr apart ↦ and_from (tight y) (nat_lt y n) parts.0 (lt-ltb y n (omega arith))
             ])
             other in
-            let more : count_by (met_below n) (zip commands rounds) ≤ count_by (met_below (suc n)) (zip commands rounds) =
-            count_wider (met_below n) (met_below (suc n))
+            let more : count_by (on_time_below n) (zip commands rounds) ≤ count_by (on_time_below (suc n)) (zip commands rounds) =
+            count_wider (on_time_below n) (on_time_below (suc n))
             (λ p yes.
-            let parts = and_parts (is_met p.0 p.1) (tight_below n p.1) yes in
+            let parts = and_parts (is_on_time p.0 p.1) (tight_below n p.1) yes in
             let inside = and_parts (tight p.1) (nat_lt p.1 n) parts.1 in
             let low : p.1 < n = ltb-true p.1 n inside.1 in
-            and_from (is_met p.0 p.1) (tight_below (suc n) p.1) parts.0 (and_from (tight p.1) (nat_lt p.1 (suc n)) inside.0 (lt-ltb p.1 (suc n) (omega arith))))
+            and_from (is_on_time p.0 p.1) (tight_below (suc n) p.1) parts.0 (and_from (tight p.1) (nat_lt p.1 (suc n)) inside.0 (lt-ltb p.1 (suc n) (omega arith))))
             (zip commands rounds) in
             omega (arith, before, fewer, more)
         | inl held ↦
@@ -146,20 +146,20 @@ module _ (commands : List Command) (rounds : List ℕ) (steps : List Step) (verd
               | inr apart ↦ inl (and_from (tight y) (nat_lt y n) parts.0 (lt-ltb y n (omega arith)))
             ])
             other in
-            let more : count_by (met_below n) (zip commands rounds) + held_at commands rounds w n ≤ count_by (met_below (suc n)) (zip commands rounds) =
-            count_of_both (met_below (suc n)) (met_below n) (λ p. is_held w p && p.1 == n)
+            let more : count_by (on_time_below n) (zip commands rounds) + held_at commands rounds w n ≤ count_by (on_time_below (suc n)) (zip commands rounds) =
+            count_of_both (on_time_below (suc n)) (on_time_below n) (λ p. is_held w p && p.1 == n)
             (λ p yes.
-            let parts = and_parts (is_met p.0 p.1) (tight_below n p.1) yes in
+            let parts = and_parts (is_on_time p.0 p.1) (tight_below n p.1) yes in
             let inside = and_parts (tight p.1) (nat_lt p.1 n) parts.1 in
             let low : p.1 < n = ltb-true p.1 n inside.1 in (
-              and_from (is_met p.0 p.1) (tight_below (suc n) p.1) parts.0 (and_from (tight p.1) (nat_lt p.1 (suc n)) inside.0 (lt-ltb p.1 (suc n) (omega arith))),
+              and_from (is_on_time p.0 p.1) (tight_below (suc n) p.1) parts.0 (and_from (tight p.1) (nat_lt p.1 (suc n)) inside.0 (lt-ltb p.1 (suc n) (omega arith))),
               and_right (is_held w p) (p.1 == n) (ne_eqb p.1 n (λ same. absurd (omega arith))),
             ))
             (λ p yes.
             let parts = and_parts (is_held w p) (p.1 == n) yes in
-            let met = (and_parts (is_met p.0 p.1) (lies_in p.0 w) parts.0).0 in
+            let met = (and_parts (is_on_time p.0 p.1) (lies_in p.0 w) parts.0).0 in
             let same : p.1 ≡ n = eqb-true p.1 n parts.1 in
-            and_from (is_met p.0 p.1) (tight_below (suc n) p.1) met
+            and_from (is_on_time p.0 p.1) (tight_below (suc n) p.1) met
             (and_from (tight p.1) (nat_lt p.1 (suc n)) (subst (λ m. tight m ≡ true) (sym same) held) (lt-ltb p.1 (suc n) (omega arith))))
             (zip commands rounds) in
             omega (arith, before, fewer, more, full, within n)
@@ -205,20 +205,20 @@ module _ (commands : List Command) (rounds : List ℕ) (steps : List Step) (verd
       ∙ ap (λ (v : Option Verdict). ((get_or commands k nobody, get_or rounds k 0), v)) (get_or_default verdicts k q.1 None (omega (arith, are.one_each)))
 
   -- no legal schedule has more on time than are so here or are spare
-  pub met_bound : (other : List ℕ) → IsLegal commands other steps → number_met commands other ≤ number_met commands rounds + spares_in verdicts
-  unfolding number_met spares_in
-  met_bound other legal' =
+  pub on_time_bound : (other : List ℕ) → IsLegal commands other steps → number_on_time commands other ≤ number_on_time commands rounds + spares_in verdicts
+  unfolding number_on_time spares_in
+  on_time_bound other legal' =
       let top = above_all other in
       let n : ℕ = top.0 in
       let judged : List Judged = zip (zip commands rounds) verdicts in
       let long : length (zip commands other) ≡ length commands = length_pairs commands other legal'.one_each in
       let long' : length (zip commands rounds) ≡ length commands = length_pairs commands rounds legal.one_each in
       let long'' : length judged ≡ length commands = omega (arith, length-zip (zip commands rounds) verdicts, long', are.one_each) in
-      let split : count_by (λ p. is_met p.0 p.1) (zip commands other) ≤ count_by (λ (p : Command × ℕ). tight p.1) (zip commands other) + count_by met_apart (zip commands other) =
-      count_of_either (λ p. is_met p.0 p.1) (λ (p : Command × ℕ). tight p.1) met_apart
+      let split : count_by (λ p. is_on_time p.0 p.1) (zip commands other) ≤ count_by (λ (p : Command × ℕ). tight p.1) (zip commands other) + count_by on_time_apart (zip commands other) =
+      count_of_either (λ p. is_on_time p.0 p.1) (λ (p : Command × ℕ). tight p.1) on_time_apart
       (λ p yes. elim (cases_Bool (tight p.1)) [
         | inl inside ↦ inl inside
-        | inr out ↦ inr (and_from (is_met p.0 p.1) (not (tight p.1)) yes (not_from_false (tight p.1) out))
+        | inr out ↦ inr (and_from (is_on_time p.0 p.1) (not (tight p.1)) yes (not_from_false (tight p.1) out))
       ])
       (zip commands other) in
       let inside : count_by (λ (p : Command × ℕ). tight p.1) (zip commands other) ≤ count_by (tight_below n) other =
@@ -230,64 +230,64 @@ module _ (commands : List Command) (rounds : List ℕ) (steps : List Step) (verd
       and_from (tight (get_or other k e)) (nat_lt (get_or other k e) n)
       (subst (λ m. tight m ≡ true) (get_or_default other k 0 e k_in') here)
       (lt-ltb (get_or other k e) n (top.1 k e k_in'))) in
-      let either : count_by met_apart (zip commands other) ≤ count_by (λ (r : Judged). met_apart r.0 || is_spare r.1) judged =
-      count_along met_apart (λ (r : Judged). met_apart r.0 || is_spare r.1) (zip commands other) judged (long'' ∙ sym long)
+      let either : count_by on_time_apart (zip commands other) ≤ count_by (λ (r : Judged). on_time_apart r.0 || is_spare r.1) judged =
+      count_along on_time_apart (λ (r : Judged). on_time_apart r.0 || is_spare r.1) (zip commands other) judged (long'' ∙ sym long)
       (λ k q r h yes.
       let k_in : k < length commands = omega (arith, long) in
       let c : Command = get_or commands k nobody in
       let y : ℕ = get_or other k 0 in
-      let here : met_apart (c, y) ≡ true = untested commands other met_apart true k nobody q legal'.one_each k_in yes in
-      let parts = and_parts (is_met c y) (not (tight y)) here in
+      let here : on_time_apart (c, y) ≡ true = untested commands other on_time_apart true k nobody q legal'.one_each k_in yes in
+      let parts = and_parts (is_on_time c y) (not (tight y)) here in
       let kept : Kept k = kept_by k y (get_or verdicts k None) refl k_in (are.each k k_in) (legal'.released k nobody k_in) (leb-true y c.due parts.0) (not-true (tight y) parts.1) in
-      subst (λ (s : Judged). (met_apart s.0 || is_spare s.1) ≡ true) (sym (judged_at k r k_in))
+      subst (λ (s : Judged). (on_time_apart s.0 || is_spare s.1) ≡ true) (sym (judged_at k r k_in))
       (elim kept [
-        | inl apart ↦ or_left (met_apart (c, get_or rounds k 0)) (is_spare (get_or verdicts k None)) (and_from (is_met c (get_or rounds k 0)) (not (tight (get_or rounds k 0))) (le-leb (get_or rounds k 0) c.due apart.0) (not_from_false (tight (get_or rounds k 0)) apart.1))
-        | inr spare ↦ or_right (met_apart (c, get_or rounds k 0)) (is_spare (get_or verdicts k None)) spare
+        | inl apart ↦ or_left (on_time_apart (c, get_or rounds k 0)) (is_spare (get_or verdicts k None)) (and_from (is_on_time c (get_or rounds k 0)) (not (tight (get_or rounds k 0))) (le-leb (get_or rounds k 0) c.due apart.0) (not_from_false (tight (get_or rounds k 0)) apart.1))
+        | inr spare ↦ or_right (on_time_apart (c, get_or rounds k 0)) (is_spare (get_or verdicts k None)) spare
       ])) in
-      let both : count_by (λ (r : Judged). met_apart r.0 || is_spare r.1) judged ≤ count_by (λ (r : Judged). met_apart r.0) judged + count_by (λ (r : Judged). is_spare r.1) judged =
-      count_of_either (λ (r : Judged). met_apart r.0 || is_spare r.1) (λ (r : Judged). met_apart r.0) (λ (r : Judged). is_spare r.1) (λ r yes. or_cases (met_apart r.0) (is_spare r.1) yes) judged in
-      let apart : count_by (λ (r : Judged). met_apart r.0) judged ≤ count_by met_apart (zip commands rounds) =
-      count_along (λ (r : Judged). met_apart r.0) met_apart judged (zip commands rounds) (long' ∙ sym long'')
+      let both : count_by (λ (r : Judged). on_time_apart r.0 || is_spare r.1) judged ≤ count_by (λ (r : Judged). on_time_apart r.0) judged + count_by (λ (r : Judged). is_spare r.1) judged =
+      count_of_either (λ (r : Judged). on_time_apart r.0 || is_spare r.1) (λ (r : Judged). on_time_apart r.0) (λ (r : Judged). is_spare r.1) (λ r yes. or_cases (on_time_apart r.0) (is_spare r.1) yes) judged in
+      let apart : count_by (λ (r : Judged). on_time_apart r.0) judged ≤ count_by on_time_apart (zip commands rounds) =
+      count_along (λ (r : Judged). on_time_apart r.0) on_time_apart judged (zip commands rounds) (long' ∙ sym long'')
       (λ k r q h yes.
       let k_in : k < length commands = omega (arith, long'') in
-      tested commands rounds met_apart true k nobody q legal.one_each k_in
-      (subst (λ (s : Judged). met_apart s.0 ≡ true) (judged_at k r k_in) yes)) in
+      tested commands rounds on_time_apart true k nobody q legal.one_each k_in
+      (subst (λ (s : Judged). on_time_apart s.0 ≡ true) (judged_at k r k_in) yes)) in
       let spares : count_by (λ (r : Judged). is_spare r.1) judged ≤ count_by is_spare verdicts =
       count_along (λ (r : Judged). is_spare r.1) is_spare judged verdicts (are.one_each ∙ sym long'')
       (λ k r v h yes.
       let k_in : k < length commands = omega (arith, long'') in
       subst (λ (u : Option Verdict). is_spare u ≡ true) (get_or_default verdicts k None v (omega (arith, are.one_each)))
       (subst (λ (s : Judged). is_spare s.1 ≡ true) (judged_at k r k_in) yes)) in
-      let joined : count_by (met_below n) (zip commands rounds) + count_by met_apart (zip commands rounds) ≤ count_by (λ p. is_met p.0 p.1) (zip commands rounds) =
-      count_of_both (λ p. is_met p.0 p.1) (met_below n) met_apart
+      let joined : count_by (on_time_below n) (zip commands rounds) + count_by on_time_apart (zip commands rounds) ≤ count_by (λ p. is_on_time p.0 p.1) (zip commands rounds) =
+      count_of_both (λ p. is_on_time p.0 p.1) (on_time_below n) on_time_apart
       (λ p yes.
-      let parts = and_parts (is_met p.0 p.1) (tight_below n p.1) yes in
+      let parts = and_parts (is_on_time p.0 p.1) (tight_below n p.1) yes in
       let tight_is = (and_parts (tight p.1) (nat_lt p.1 n) parts.1).0 in (
         parts.0,
-        and_right (is_met p.0 p.1) (not (tight p.1)) (not_from_true (tight p.1) tight_is),
+        and_right (is_on_time p.0 p.1) (not (tight p.1)) (not_from_true (tight p.1) tight_is),
       ))
-      (λ p yes. (and_parts (is_met p.0 p.1) (not (tight p.1)) yes).0)
+      (λ p yes. (and_parts (is_on_time p.0 p.1) (not (tight p.1)) yes).0)
       (zip commands rounds) in
       omega (arith, split, inside, either, both, apart, spares, joined, others_below other n legal'.within_depth)
 
   -- a spare one could be on time beside the others
-  spare_more : (k : ℕ) → k < length commands → IsLate commands rounds k → (spare : IsSpare commands rounds steps k) → number_met commands rounds < number_met commands spare.schedule
-  unfolding number_met
+  spare_more : (k : ℕ) → k < length commands → IsLate commands rounds k → (spare : IsSpare commands rounds steps k) → number_on_time commands rounds < number_on_time commands spare.schedule
+  unfolding number_on_time
   spare_more k within late spare =
       let other : List ℕ = spare.schedule in
       let long : length (zip commands other) ≡ length commands = length_pairs commands other spare.legal.one_each in
       let long' : length (zip commands rounds) ≡ length commands = length_pairs commands rounds legal.one_each in
-      count_along_fewer (λ p. is_met p.0 p.1) (λ p. is_met p.0 p.1) (zip commands rounds) (zip commands other) (long ∙ sym long')
+      count_along_fewer (λ p. is_on_time p.0 p.1) (λ p. is_on_time p.0 p.1) (zip commands rounds) (zip commands other) (long ∙ sym long')
       (λ j q e h yes.
       let j_in : j < length commands = omega (arith, long') in
-      let met : is_met (get_or commands j nobody) (get_or rounds j 0) ≡ true = untested commands rounds (λ p. is_met p.0 p.1) true j nobody q legal.one_each j_in yes in
-      tested commands other (λ p. is_met p.0 p.1) true j nobody e spare.legal.one_each j_in
+      let met : is_on_time (get_or commands j nobody) (get_or rounds j 0) ≡ true = untested commands rounds (λ p. is_on_time p.0 p.1) true j nobody q legal.one_each j_in yes in
+      tested commands other (λ p. is_on_time p.0 p.1) true j nobody e spare.legal.one_each j_in
       (le-leb (get_or other j 0) (get_or commands j nobody).due (spare.kept j nobody j_in (leb-true (get_or rounds j 0) (get_or commands j nobody).due met))))
       k (nobody, 0) (nobody, 0) (omega (arith, long'))
-      (tested commands rounds (λ p. is_met p.0 p.1) false k nobody (nobody, 0) legal.one_each within (lt-leb (get_or rounds k 0) (get_or commands k nobody).due (late nobody)))
-      (tested commands other (λ p. is_met p.0 p.1) true k nobody (nobody, 0) spare.legal.one_each within (le-leb (get_or other k 0) (get_or commands k nobody).due (spare.met nobody)))
+      (tested commands rounds (λ p. is_on_time p.0 p.1) false k nobody (nobody, 0) legal.one_each within (lt-leb (get_or rounds k 0) (get_or commands k nobody).due (late nobody)))
+      (tested commands other (λ p. is_on_time p.0 p.1) true k nobody (nobody, 0) spare.legal.one_each within (le-leb (get_or other k 0) (get_or commands k nobody).due (spare.met nobody)))
 
-  pub some_spare : (n : ℕ) → IsMostMet commands steps n → 0 < spares_in verdicts → number_met commands rounds < n
+  pub some_spare : (n : ℕ) → IsMostOnTime commands steps n → 0 < spares_in verdicts → number_on_time commands rounds < n
   unfolding spares_in
   some_spare n most some =
       elim (search_below (λ k. is_spare (get_or verdicts k None)) (length commands)) [
@@ -299,28 +299,28 @@ module _ (commands : List Command) (rounds : List ℕ) (steps : List Step) (verd
             absurd (omega (arith, some, count_none is_spare verdicts (λ k d h. ap is_spare (get_or_default verdicts k d None h) ∙ none k (omega (arith, are.one_each)))))
       ]
 
-  pub avoidable_spare : (n : ℕ) → IsMostMet commands steps n → n ≤ number_met commands rounds + spares_in verdicts
-  avoidable_spare n most = omega (arith, met_bound most.schedule most.legal, most.reached)
+  pub avoidable_spare : (n : ℕ) → IsMostOnTime commands steps n → n ≤ number_on_time commands rounds + spares_in verdicts
+  avoidable_spare n most = omega (arith, on_time_bound most.schedule most.legal, most.reached)
 
-  none_met : (k : ℕ) (v : Option Verdict) → IsVerdictAt commands rounds steps k v → is_none v ≡ is_met (get_or commands k nobody) (get_or rounds k 0)
-  none_met k None at = sym (le-leb (get_or rounds k 0) (get_or commands k nobody).due (at nobody))
-  none_met k (Some Arrival) at = sym (lt-leb (get_or rounds k 0) (get_or commands k nobody).due (at.0 nobody))
-  none_met k (Some Spare) at = sym (lt-leb (get_or rounds k 0) (get_or commands k nobody).due (at.0 nobody))
-  none_met k (Some (Full w)) at = sym (lt-leb (get_or rounds k 0) (get_or commands k nobody).due (at.0 nobody))
+  none_on_time : (k : ℕ) (v : Option Verdict) → IsVerdictAt commands rounds steps k v → is_none v ≡ is_on_time (get_or commands k nobody) (get_or rounds k 0)
+  none_on_time k None at = sym (le-leb (get_or rounds k 0) (get_or commands k nobody).due (at nobody))
+  none_on_time k (Some Arrival) at = sym (lt-leb (get_or rounds k 0) (get_or commands k nobody).due (at.0 nobody))
+  none_on_time k (Some Spare) at = sym (lt-leb (get_or rounds k 0) (get_or commands k nobody).due (at.0 nobody))
+  none_on_time k (Some (Full w)) at = sym (lt-leb (get_or rounds k 0) (get_or commands k nobody).due (at.0 nobody))
 
-  pub all_kinds : length commands ≡ number_met commands rounds + (arrivals_in verdicts + fulls_in verdicts + spares_in verdicts)
-  unfolding number_met arrivals_in fulls_in spares_in
+  pub all_kinds : length commands ≡ number_on_time commands rounds + (arrivals_in verdicts + fulls_in verdicts + spares_in verdicts)
+  unfolding number_on_time arrivals_in fulls_in spares_in
   all_kinds =
       let long : length (zip commands rounds) ≡ length commands = length_pairs commands rounds legal.one_each in
-      let one : count_by is_none verdicts ≤ count_by (λ p. is_met p.0 p.1) (zip commands rounds) =
-      count_along is_none (λ p. is_met p.0 p.1) verdicts (zip commands rounds) (long ∙ sym are.one_each)
+      let one : count_by is_none verdicts ≤ count_by (λ p. is_on_time p.0 p.1) (zip commands rounds) =
+      count_along is_none (λ p. is_on_time p.0 p.1) verdicts (zip commands rounds) (long ∙ sym are.one_each)
       (λ k v q h yes.
       let k_in : k < length commands = omega (arith, are.one_each) in
-      tested commands rounds (λ p. is_met p.0 p.1) true k nobody q legal.one_each k_in
-      (sym (none_met k (get_or verdicts k None) (are.each k k_in)) ∙ ap is_none (get_or_default verdicts k None v h) ∙ yes)) in
-      let two : count_by (λ p. is_met p.0 p.1) (zip commands rounds) ≤ count_by is_none verdicts =
-      count_along (λ p. is_met p.0 p.1) is_none (zip commands rounds) verdicts (are.one_each ∙ sym long)
+      tested commands rounds (λ p. is_on_time p.0 p.1) true k nobody q legal.one_each k_in
+      (sym (none_on_time k (get_or verdicts k None) (are.each k k_in)) ∙ ap is_none (get_or_default verdicts k None v h) ∙ yes)) in
+      let two : count_by (λ p. is_on_time p.0 p.1) (zip commands rounds) ≤ count_by is_none verdicts =
+      count_along (λ p. is_on_time p.0 p.1) is_none (zip commands rounds) verdicts (are.one_each ∙ sym long)
       (λ k q v h yes.
       let k_in : k < length commands = omega (arith, long) in
-      ap is_none (get_or_default verdicts k v None (omega (arith, are.one_each))) ∙ none_met k (get_or verdicts k None) (are.each k k_in) ∙ untested commands rounds (λ p. is_met p.0 p.1) true k nobody q legal.one_each k_in yes) in
+      ap is_none (get_or_default verdicts k v None (omega (arith, are.one_each))) ∙ none_on_time k (get_or verdicts k None) (are.each k k_in) ∙ untested commands rounds (λ p. is_on_time p.0 p.1) true k nobody q legal.one_each k_in yes) in
       omega (arith, one, two, kinds_all verdicts, are.one_each)

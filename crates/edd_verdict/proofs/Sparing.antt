@@ -3,12 +3,12 @@ use Rattle.std.proofs.Common.{◌≡◌, ◌<◌, ◌≤◌, ℕ, ◌+◌, zero,
 use Rattle.std.specs.List.{zip}
 use Rattle.std.proofs.lemmas.List.{get_or_default}
 use Rattle.std.proofs.lemmas.Bool.{cases_Bool, cases_lt, cases_eq, cond-true, cond-false, and_parts, and_from, leb-true, le-leb, lt-leb, eqb-true, eq-eqb, ne_eqb, not-true, not_from_false}
-use Rattle.edd_check.specs.declared.Command.{Command}
-use Rattle.edd_check.specs.declared.steps.Step.{Step}
-use Rattle.edd_check.specs.Capacity.{depth_at}
-use Rattle.edd_check.specs.Schedule.{IsLegal, places_at}
-use Rattle.edd_check.specs.Met.{is_met}
-use Rattle.edd_check.proofs.Counting.{count_of_either}
+use Rattle.edd_commands.specs.declared.Command.{Command}
+use Rattle.edd_commands.specs.declared.steps.Step.{Step}
+use Rattle.edd_commands.specs.Capacity.{depth_at}
+use Rattle.edd_commands.specs.Schedule.{IsLegal, places_at}
+use Rattle.edd_check.specs.OnTime.{is_on_time}
+use Rattle.edd_commands.proofs.Counting.{count_of_either}
 use Rattle.edd_oracle.proofs.Counting.{count_along, count_none}
 use Rattle.edd_verdict.specs.Verdicts.{IsLate, IsSpare}
 use Rattle.edd_verdict.proofs.Tallies.{count_once, tabled, tabled_length, tabled_at}
@@ -31,7 +31,7 @@ module _ (commands : List Command) (rounds : List ℕ) (steps : List Step) (lega
   top = (past_all commands).0
 
   abbrev on_time : ℕ → Bool
-  on_time j = is_met (get_or commands j nobody) (get_or rounds j 0)
+  on_time j = is_on_time (get_or commands j nobody) (get_or rounds j 0)
 
   -- those on time where they were moved, the one in the freed place, and the others last
   abbrev round_of : ℕ → ℕ
@@ -40,8 +40,8 @@ module _ (commands : List Command) (rounds : List ℕ) (steps : List Step) (lega
   abbrev schedule : List ℕ
   schedule = tabled round_of (length commands)
 
-  at_met : (j : ℕ) → on_time j ≡ true → round_of j ≡ get_or freed.moved j 0
-  at_met j h = cond-true (on_time j) (get_or freed.moved j 0) (cond (j == k) freed.spot (top + 1 + j)) h
+  at_on_time : (j : ℕ) → on_time j ≡ true → round_of j ≡ get_or freed.moved j 0
+  at_on_time j h = cond-true (on_time j) (get_or freed.moved j 0) (cond (j == k) freed.spot (top + 1 + j)) h
 
   at_spot : (j : ℕ) → on_time j ≡ false → j ≡ k → round_of j ≡ freed.spot
   at_spot j h same = cond-false (on_time j) (get_or freed.moved j 0) (cond (j == k) freed.spot (top + 1 + j)) h ∙ cond-true (j == k) freed.spot (top + 1 + j) (eq-eqb j k same)
@@ -72,7 +72,7 @@ module _ (commands : List Command) (rounds : List ℕ) (steps : List Step) (lega
 
   -- late ones that run in the round x
   abbrev is_late_at : ℕ → (Command × ℕ) × ℕ → Bool
-  is_late_at x q = not (is_met q.0.0 q.0.1) && q.1 == x
+  is_late_at x q = not (is_on_time q.0.0 q.0.1) && q.1 == x
 
   long : length schedule ≡ length commands
   long = tabled_length round_of (length commands)
@@ -102,9 +102,9 @@ module _ (commands : List Command) (rounds : List ℕ) (steps : List Step) (lega
       (subst (λ n. (n == x) ≡ true) (get_or_default schedule j e 0 h) yes)) in
       let split : count_by (λ (q : (Command × ℕ) × ℕ). q.1 == x) triples ≤ count_by (is_moved_to x) triples + count_by (is_late_at x) triples =
       count_of_either (λ (q : (Command × ℕ) × ℕ). q.1 == x) (is_moved_to x) (is_late_at x)
-      (λ q yes. elim (cases_Bool (is_met q.0.0 q.0.1)) [
-        | inl met ↦ inl (and_from (is_met q.0.0 q.0.1) (q.1 == x) met yes)
-        | inr out ↦ inr (and_from (not (is_met q.0.0 q.0.1)) (q.1 == x) (not_from_false (is_met q.0.0 q.0.1) out) yes)
+      (λ q yes. elim (cases_Bool (is_on_time q.0.0 q.0.1)) [
+        | inl met ↦ inl (and_from (is_on_time q.0.0 q.0.1) (q.1 == x) met yes)
+        | inr out ↦ inr (and_from (not (is_on_time q.0.0 q.0.1)) (q.1 == x) (not_from_false (is_on_time q.0.0 q.0.1) out) yes)
       ]) triples in
       let moved : count_by (is_moved_to x) triples ≤ moved_at commands rounds freed.moved x =
       count_along (is_moved_to x) (is_moved_to x) triples (zip (zip commands rounds) freed.moved) (long'' ∙ sym long')
@@ -112,7 +112,7 @@ module _ (commands : List Command) (rounds : List ℕ) (steps : List Step) (lega
       let j_in : j < length commands = omega (arith, long') in
       let parts = and_parts (on_time j) (round_of j == x) (at_place x j (is_moved_to x) q j_in yes) in
       subst (λ (s : (Command × ℕ) × ℕ). is_moved_to x s ≡ true) (sym (triple_at commands rounds freed.moved j r nobody legal.one_each freed.is_moved.one_each j_in))
-      (and_from (on_time j) (get_or freed.moved j 0 == x) parts.0 (eq-eqb (get_or freed.moved j 0) x (sym (at_met j parts.0) ∙ eqb-true (round_of j) x parts.1)))) in
+      (and_from (on_time j) (get_or freed.moved j 0 == x) parts.0 (eq-eqb (get_or freed.moved j 0) x (sym (at_on_time j parts.0) ∙ eqb-true (round_of j) x parts.1)))) in
       let once : count_by (is_late_at x) triples ≤ 1 =
       count_once (is_late_at x) triples (λ i j q lt h yes yes'.
       let one = late_parts x i q (omega (arith, long')) yes in
@@ -159,7 +159,7 @@ module _ (commands : List Command) (rounds : List ℕ) (steps : List Step) (lega
   schedule_released j d h =
       let is : get_or schedule j 0 ≡ round_of j = tabled_at round_of (length commands) j 0 h in
       elim (cases_Bool (on_time j)) [
-        | inl met ↦ omega (arith, is, at_met j met, (moved_ok j d h met).0)
+        | inl met ↦ omega (arith, is, at_on_time j met, (moved_ok j d h met).0)
         | inr out ↦
             elim (cases_eq j k) [
               | inl is_k ↦
@@ -177,7 +177,7 @@ module _ (commands : List Command) (rounds : List ℕ) (steps : List Step) (lega
         kept = λ j d h met.
             let same : get_or commands j d ≡ get_or commands j nobody = get_or_default commands j d nobody h in
             let timely : on_time j ≡ true = le-leb (get_or rounds j 0) (get_or commands j nobody).due (subst (λ (c : Command). get_or rounds j 0 ≤ c.due) same met) in
-            omega (arith, tabled_at round_of (length commands) j 0 h, at_met j timely, (moved_ok j d h timely).1);
+            omega (arith, tabled_at round_of (length commands) j 0 h, at_on_time j timely, (moved_ok j d h timely).1);
         met = λ d.
             let same : (get_or commands k d).due ≡ (get_or commands k nobody).due = ap (λ (c : Command). c.due) (get_or_default commands k d nobody within) in
             omega (arith, tabled_at round_of (length commands) k 0 within, at_spot k not_on_time refl, same, freed.before);

@@ -7,12 +7,12 @@ use Rattle.std.proofs.lemmas.List.Sums.{count_by-le-length}
 use Rattle.std.proofs.lemmas.List.Filters.{sum_by-filter_both}
 use Rattle.std.proofs.lemmas.List.Elements.{All-filter, filter_passes}
 use Rattle.std.proofs.lemmas.Bool.{cases_Bool, cases_eq, cond-true, cond-false, and_parts, and_from, leb-true, le-leb}
-use Rattle.edd_check.specs.declared.Command.{Command}
+use Rattle.edd_commands.specs.declared.Command.{Command}
 use Rattle.edd_check.specs.declared.Window.{Window}
-use Rattle.edd_check.specs.declared.steps.Step.{Step}
-use Rattle.edd_check.specs.Capacity.{depth_at}
-use Rattle.edd_check.specs.Schedule.{IsLegal, IsGreatestLateness, IsLowerBound, places_at, lateness_at}
-use Rattle.edd_check.specs.Met.{is_met, lies_in}
+use Rattle.edd_commands.specs.declared.steps.Step.{Step}
+use Rattle.edd_commands.specs.Capacity.{depth_at}
+use Rattle.edd_commands.specs.Schedule.{IsLegal, IsGreatestLateness, IsLowerBound, places_at, lateness_at}
+use Rattle.edd_check.specs.OnTime.{is_on_time, lies_in}
 use Rattle.edd_oracle.proofs.Counting.{count_yes, count_no, count_along, count_map, count_wider}
 use Rattle.edd_oracle.proofs.Pairs.{pair_at, length_pairs}
 use Rattle.edd_oracle.specs.Answer.{IsBest}
@@ -52,45 +52,45 @@ zip_parts (x ∷ xs) = ap (λ l. x ∷ l) (zip_parts xs)
 module _ (commands : List Command) (rounds : List ℕ) (steps : List Step) (legal : IsLegal commands rounds steps) where
   -- those that are on time, each with its round
   abbrev pub pairs : List (Command × ℕ)
-  pairs = filter (λ p. is_met p.0 p.1) (zip commands rounds)
+  pairs = filter (λ p. is_on_time p.0 p.1) (zip commands rounds)
 
   abbrev pub met : List Command
   met = on_time_of commands rounds
 
-  abbrev pub met_rounds : List ℕ
-  met_rounds = map (λ p. p.1) pairs
+  abbrev pub on_time_rounds : List ℕ
+  on_time_rounds = map (λ p. p.1) pairs
 
-  one_each : length met_rounds ≡ length met
+  one_each : length on_time_rounds ≡ length met
   one_each = length-map pairs (λ p. p.1) ∙ sym (length-map pairs (λ p. p.0))
 
   -- each of them is released by its round, and runs by its due round
   fits : All (λ (p : Command × ℕ). (p.0.release ≤ p.1) × (p.1 ≤ p.0.due)) pairs
   fits i d h =
       let released : All (λ (p : Command × ℕ). p.0.release ≤ p.1) pairs =
-      All-filter (λ p. is_met p.0 p.1) (λ (p : Command × ℕ). p.0.release ≤ p.1) (zip commands rounds)
+      All-filter (λ p. is_on_time p.0 p.1) (λ (p : Command × ℕ). p.0.release ≤ p.1) (zip commands rounds)
       (λ k q k_in.
       let within : k < length commands = omega (arith, length_pairs commands rounds legal.one_each) in
       subst (λ (p : Command × ℕ). p.0.release ≤ p.1) (sym (pair_at commands rounds k q nobody 0 legal.one_each within)) (legal.released k nobody within)) in
-      (released i d h, leb-true (get_or pairs i d).1 (get_or pairs i d).0.due (filter_passes (λ p. is_met p.0 p.1) (zip commands rounds) i d h))
+      (released i d h, leb-true (get_or pairs i d).1 (get_or pairs i d).0.due (filter_passes (λ p. is_on_time p.0 p.1) (zip commands rounds) i d h))
 
-  met_at : (k : ℕ) (d : Command) → k < length met → (get_or met k d ≡ (get_or pairs k (nobody, 0)).0) × (get_or met_rounds k 0 ≡ (get_or pairs k (nobody, 0)).1)
-  met_at k d h =
+  on_time_at : (k : ℕ) (d : Command) → k < length met → (get_or met k d ≡ (get_or pairs k (nobody, 0)).0) × (get_or on_time_rounds k 0 ≡ (get_or pairs k (nobody, 0)).1)
+  on_time_at k d h =
       let within : k < length pairs = omega (arith, length-map pairs (λ p. p.0)) in
       (get_or-map (λ p. p.0) pairs k (nobody, 0) d within, get_or-map (λ p. p.1) pairs k (nobody, 0) 0 within)
 
-  pub met_legal : IsLegal met met_rounds steps
+  pub on_time_legal : IsLegal met on_time_rounds steps
   unfolding places_at
-  met_legal =
+  on_time_legal =
       record {
         one_each = one_each;
         released = λ k d h.
             let within : k < length pairs = omega (arith, length-map pairs (λ p. p.0)) in
-            let at = met_at k d h in
+            let at = on_time_at k d h in
             omega (arith, (fits k (nobody, 0) within).0, ap (λ (c : Command). c.release) at.0, at.1);
         within_depth = λ x.
             let long : length (zip commands rounds) ≡ length commands = length_pairs commands rounds legal.one_each in
-            let one : places_at met_rounds x ≡ count_by (λ (p : Command × ℕ). p.1 == x) pairs = count_map (λ (p : Command × ℕ). p.1) (λ z. z == x) pairs in
-            let two : count_by (λ (p : Command × ℕ). p.1 == x) pairs ≤ count_by (λ (p : Command × ℕ). p.1 == x) (zip commands rounds) = count_filtered (λ (p : Command × ℕ). p.1 == x) (λ p. is_met p.0 p.1) (zip commands rounds) in
+            let one : places_at on_time_rounds x ≡ count_by (λ (p : Command × ℕ). p.1 == x) pairs = count_map (λ (p : Command × ℕ). p.1) (λ z. z == x) pairs in
+            let two : count_by (λ (p : Command × ℕ). p.1 == x) pairs ≤ count_by (λ (p : Command × ℕ). p.1 == x) (zip commands rounds) = count_filtered (λ (p : Command × ℕ). p.1 == x) (λ p. is_on_time p.0 p.1) (zip commands rounds) in
             let three : count_by (λ (p : Command × ℕ). p.1 == x) (zip commands rounds) ≤ places_at rounds x =
             count_along (λ (p : Command × ℕ). p.1 == x) (λ z. z == x) (zip commands rounds) rounds (legal.one_each ∙ sym long)
             (λ j q e h passes.
@@ -99,16 +99,16 @@ module _ (commands : List Command) (rounds : List ℕ) (steps : List Step) (lega
             omega (arith, one, two, three, legal.within_depth x);
       }
 
-  pub met_on_time : AreOnTime met met_rounds
-  met_on_time k d h =
+  pub on_time_on_time : AreOnTime met on_time_rounds
+  on_time_on_time k d h =
       let within : k < length pairs = omega (arith, length-map pairs (λ p. p.0)) in
-      let at = met_at k d h in
+      let at = on_time_at k d h in
       omega (arith, (fits k (nobody, 0) within).1, ap (λ (c : Command). c.due) at.0, at.1)
 
-  met_held : (w : Window) → held_in met met_rounds w ≡ held_in commands rounds w
-  met_held w =
+  on_time_held : (w : Window) → held_in met on_time_rounds w ≡ held_in commands rounds w
+  on_time_held w =
       ap (λ l. count_by (is_held w) l) (zip_parts pairs)
-      ∙ count_filter (is_held w) (λ p. is_met p.0 p.1) (λ p passes. (and_parts (is_met p.0 p.1) (lies_in p.0 w) passes).0) (zip commands rounds)
+      ∙ count_filter (is_held w) (λ p. is_on_time p.0 p.1) (λ p passes. (and_parts (is_on_time p.0 p.1) (lies_in p.0 w) passes).0) (zip commands rounds)
 
   -- whatever schedule has them on time, a window holds as many
   held_le : (list : List Command) (one other : List ℕ) (w : Window) → IsLegal list one steps → IsLegal list other steps → AreOnTime list other → held_in list one w ≤ held_in list other w
@@ -120,11 +120,11 @@ module _ (commands : List Command) (rounds : List ℕ) (steps : List Step) (lega
       let k_in : k < length list = omega (arith, long) in
       let here : is_held w (get_or list k nobody, get_or one k 0) ≡ true = untested list one (is_held w) true k nobody q legal_one.one_each k_in passes in
       tested list other (is_held w) true k nobody e legal_other.one_each k_in
-      (and_from (is_met (get_or list k nobody) (get_or other k 0)) (lies_in (get_or list k nobody) w) (le-leb (get_or other k 0) (get_or list k nobody).due (on_time k nobody k_in)) (and_parts (is_met (get_or list k nobody) (get_or one k 0)) (lies_in (get_or list k nobody) w) here).1))
+      (and_from (is_on_time (get_or list k nobody) (get_or other k 0)) (lies_in (get_or list k nobody) w) (le-leb (get_or other k 0) (get_or list k nobody).due (on_time k nobody k_in)) (and_parts (is_on_time (get_or list k nobody) (get_or one k 0)) (lies_in (get_or list k nobody) w) here).1))
 
   module _ (other : List ℕ) (legal' : IsLegal met other steps) (on_time' : AreOnTime met other) where
     same_held : (w : Window) → held_in met other w ≡ held_in commands rounds w
-    same_held w = omega (arith, held_le met other met_rounds w legal' met_legal met_on_time, held_le met met_rounds other w met_legal legal' on_time', met_held w)
+    same_held w = omega (arith, held_le met other on_time_rounds w legal' on_time_legal on_time_on_time, held_le met on_time_rounds other w on_time_legal legal' on_time', on_time_held w)
 
     pub filled_there : (w : Window) → w.from ≤ w.due → IsFilled commands rounds steps w → IsFilled met other steps w
     filled_there w some filled = holds_filled met other steps w legal' (omega (arith, filled_holds commands rounds steps w filled some, same_held w))
@@ -149,10 +149,10 @@ module _ (commands : List Command) (rounds : List ℕ) (steps : List Step) (lega
         all = λ v filled low.
             let held : held_at commands rounds v v.from ≤ held_in commands rounds v =
             count_wider (λ p. is_held v p && p.1 == v.from) (is_held v) (λ p passes. (and_parts (is_held v p) (p.1 == v.from) passes).0) (zip commands rounds) in
-            let short : held_in met met_rounds v ≤ length (zip met met_rounds) = count_by-le-length (is_held v) (zip met met_rounds) in
-            let long : length (zip met met_rounds) ≡ length met = length_pairs met met_rounds one_each in
+            let short : held_in met on_time_rounds v ≤ length (zip met on_time_rounds) = count_by-le-length (is_held v) (zip met on_time_rounds) in
+            let long : length (zip met on_time_rounds) ≡ length met = length_pairs met on_time_rounds one_each in
             let nothing : length met ≡ 0 = ap (λ xs. length xs) none in
-            absurd (omega (arith, held, short, long, nothing, met_held v, filled v.from (omega arith) low, some v.from));
+            absurd (omega (arith, held, short, long, nothing, on_time_held v, filled v.from (omega arith) low, some v.from));
         rising = λ i j e lt h. absurd (omega arith);
       }
 
@@ -211,7 +211,7 @@ pub best_on_time : (commands : List Command) (rounds : List ℕ) (steps : List S
 best_on_time commands rounds steps list list' best best' late w legal is is' same answer =
     let S : List Command = on_time_of commands rounds in
     let here : IsBest S steps best late w = subst (λ xs. IsBest xs steps best late w) is answer in
-    let timely : AreOnTime S best = least_on_time S (met_rounds commands rounds steps legal) best steps late (met_legal commands rounds steps legal) (met_on_time commands rounds steps legal) (omega (arith, here.greatest.in_list)) here.least.least here.greatest in
+    let timely : AreOnTime S best = least_on_time S (on_time_rounds commands rounds steps legal) best steps late (on_time_legal commands rounds steps legal) (on_time_on_time commands rounds steps legal) (omega (arith, here.greatest.in_list)) here.least.least here.greatest in
     subst (λ xs. AreOnTime list' xs) (sym same) (subst (λ xs. AreOnTime xs best) (sym is') timely)
 
 pub best_windows : (commands : List Command) (rounds : List ℕ) (steps : List Step) (list list' : List Command) (best best' : List ℕ) (late : ℤ) (w : Window) (windows : List Window) → IsLegal commands rounds steps → list ≡ on_time_of commands rounds → list' ≡ on_time_of commands rounds → best' ≡ best → IsBest list steps best late w → AreFilled list' best' steps windows → AreFilled commands rounds steps windows

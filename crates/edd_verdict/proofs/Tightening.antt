@@ -5,11 +5,11 @@ use Rattle.std.specs.List.Sorted.{IsPermutation}
 use Rattle.std.proofs.lemmas.List.Sorted.{sum_by-IsPermutation, All-permutation}
 use Rattle.std.proofs.lemmas.List.{get_or-map, length-map, get_or_default}
 use Rattle.std.proofs.lemmas.Bool.{cases_lt, and_parts, and_from, leb-true, le-leb, eqb-true, eq-eqb}
-use Rattle.edd_check.specs.declared.Command.{Command}
+use Rattle.edd_commands.specs.declared.Command.{Command}
 use Rattle.edd_check.specs.declared.Window.{Window}
-use Rattle.edd_check.specs.declared.steps.Step.{Step}
-use Rattle.edd_check.specs.Capacity.{depth_at}
-use Rattle.edd_check.specs.Schedule.{IsLegal, RoundsInRange, places_at}
+use Rattle.edd_commands.specs.declared.steps.Step.{Step}
+use Rattle.edd_commands.specs.Capacity.{depth_at}
+use Rattle.edd_commands.specs.Schedule.{IsLegal, RoundsInRange, places_at}
 use Rattle.edd_oracle.specs.Plan.{due_at}
 use Rattle.edd_oracle.specs.Priority.{IsEarliestDueFirst}
 use Rattle.edd_oracle.proofs.Counting.{count_map, count_along, count_wider}

@@ -1,15 +1,15 @@
 -- Windows whose every place went to a command that is on time and had to run there.
 use Rattle.std.specs.Prelude.{ℕ, ◌≤◌, ◌==◌, ◌&&◌, ◌⊎◌, ◌≡◌, ◌<◌, List, count_by, slice_index_or}
 use Rattle.std.specs.List.{zip}
-use Rattle.edd_check.specs.declared.Command.{Command}
+use Rattle.edd_commands.specs.declared.Command.{Command}
 use Rattle.edd_check.specs.declared.Window.{Window}
-use Rattle.edd_check.specs.declared.steps.Step.{Step}
-use Rattle.edd_check.specs.Capacity.{depth_at}
-use Rattle.edd_check.specs.Met.{is_met, lies_in}
+use Rattle.edd_commands.specs.declared.steps.Step.{Step}
+use Rattle.edd_commands.specs.Capacity.{depth_at}
+use Rattle.edd_check.specs.OnTime.{is_on_time, lies_in}
 
 -- how many places of the round x went to commands that are on time and lie in the window
 unfoldable pub held_at : List Command → List ℕ → Window → ℕ → ℕ
-held_at commands rounds w x = count_by (λ p. (is_met p.0 p.1 && lies_in p.0 w) && p.1 == x) (zip commands rounds)
+held_at commands rounds w x = count_by (λ p. (is_on_time p.0 p.1 && lies_in p.0 w) && p.1 == x) (zip commands rounds)
 
 -- each place of the window's rounds went to a command that is on time and lies in it
 abbrev pub IsFilled : List Command → List ℕ → List Step → Window → Type 0

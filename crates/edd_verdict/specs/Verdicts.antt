@@ -1,8 +1,8 @@
 -- Why a command was late, beside the commands that were on time.
 use Rattle.std.specs.Prelude.{ℕ, ◌≡◌, ◌≤◌, ◌<◌, Bool, true, false, List, Option, Some, None, length, count_by, slice_index, slice_index_or}
-use Rattle.edd_check.specs.declared.Command.{Command}
-use Rattle.edd_check.specs.declared.steps.Step.{Step}
-use Rattle.edd_check.specs.Schedule.{IsLegal}
+use Rattle.edd_commands.specs.declared.Command.{Command}
+use Rattle.edd_commands.specs.declared.steps.Step.{Step}
+use Rattle.edd_commands.specs.Schedule.{IsLegal}
 use Rattle.edd_verdict.specs.declared.Verdict.{Verdict}
 use Rattle.edd_verdict.specs.declared.Verdict.TheVariants.{Arrival, Spare, Full}
 use Rattle.edd_verdict.specs.Filled.{IsFirstFilled}

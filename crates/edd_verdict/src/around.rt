@@ -3,13 +3,14 @@
 ghost use Rattle.std.specs.Prelude.{◌≡◌, ◌≤◌, ◌<◌, ℕ, All, IfOk, IfNone, IfSome, Some, length, map, slice_index_or, slice_set};
 ghost use Rattle.std.specs.List.{zip};
 ghost use Rattle.std.specs.List.Sorted.{IsNonDecreasingBy};
-ghost use Rattle.edd_check.specs.Limits.{round_limit};
-ghost use Rattle.edd_check.specs.Schedule.{CommandsInRange};
+ghost use Rattle.edd_commands.specs.Limits.{round_limit};
+ghost use Rattle.edd_commands.specs.Schedule.{CommandsInRange};
 ghost use Rattle.edd_check.specs.declared.Window.{Window as Span};
 ghost use Rattle.edd_verdict.specs.Inside.Open.{EndsRise, BeginsRise, AreFilled, IsBeginPlace, AreOpen, EndsFall, IsInnermost, IsAsk, AreAsked, first_verdict_of, AreJudged, IsEntered};
 
 use crate::Verdict;
-use edd_check::{Command, Window};
+use edd_check::Window;
+use edd_commands::Command;
 use std::alloc::{AllocError, Allocator};
 
 /// A late command that is released by its due round.
@@ -88,7 +89,7 @@ fn begun_before(windows: &[Window], round: u64) -> usize
 
 /// Opens the windows before place `left` that end in the round or later, the last one first, and answers before which place the others
 /// are. An open window closes where one opens that lies in it to the left.
-fn enter<A: Allocator>(
+fn open_windows<A: Allocator>(
     windows: &[Window],
     left: usize,
     due: u64,
@@ -159,7 +160,7 @@ pub fn judge<A: Allocator + Clone>(
     while next > 0 {
         next -= 1;
         let ask = asks[next];
-        left = enter(windows, left, ask.due, &mut opened)?;
+        left = open_windows(windows, left, ask.due, &mut opened)?;
         if let Some(window) = innermost(opened.as_slice(), ask.release) {
             tell(&mut verdicts, ask.place, window);
         }

@@ -7,12 +7,12 @@
 #![tactic(auto)]
 
 ghost use Rattle.std.specs.Prelude.{ℕ, ◌≡◌, ◌≤◌, ◌<◌, ◌+◌, ◌↔◌, List, Option, IfOk, length};
-ghost use Rattle.edd_check.specs.declared.Command.{Command};
+ghost use Rattle.edd_commands.specs.declared.Command.{Command};
 ghost use Rattle.edd_check.specs.declared.Window.{Window};
-ghost use Rattle.edd_check.specs.declared.steps.Step.{Step};
-ghost use Rattle.edd_check.specs.Capacity.{IsCapacity};
-ghost use Rattle.edd_check.specs.Schedule.{IsLegal};
-ghost use Rattle.edd_check.specs.Met.{number_met, IsMostMet};
+ghost use Rattle.edd_commands.specs.declared.steps.Step.{Step};
+ghost use Rattle.edd_commands.specs.Capacity.{IsCapacity};
+ghost use Rattle.edd_commands.specs.Schedule.{IsLegal};
+ghost use Rattle.edd_check.specs.OnTime.{number_on_time, IsMostOnTime};
 ghost use Rattle.edd_oracle.specs.Input.{IsTaken};
 ghost use Rattle.edd_verdict.specs.declared.Verdict.{Verdict};
 ghost use Rattle.edd_verdict.specs.Inside.Open.{on_time_of, AreFilled};
@@ -23,7 +23,8 @@ mod around;
 mod tight;
 
 use around::judge;
-use edd_check::{Capacity, Command, Window};
+use edd_check::Window;
+use edd_commands::{Capacity, Command};
 use edd_oracle::solve;
 use std::alloc::{AllocError, Allocator};
 
@@ -63,15 +64,15 @@ pub fn law_of_spares()
     // the late ones are late on arrival, full or spare
     ensures kinds { (commands : List Command) → (rounds : List ℕ) → (steps : List Step) → (verdicts : List (Option Verdict))
         → IsLegal commands rounds steps → AreVerdicts commands rounds steps verdicts
-        → length commands ≡ number_met commands rounds + (arrivals_in verdicts + fulls_in verdicts + spares_in verdicts) }
+        → length commands ≡ number_on_time commands rounds + (arrivals_in verdicts + fulls_in verdicts + spares_in verdicts) }
     // no more could have been on time than are spare
     ensures most { (commands : List Command) → (rounds : List ℕ) → (steps : List Step) → (verdicts : List (Option Verdict))
         → IsLegal commands rounds steps → AreVerdicts commands rounds steps verdicts
-        → (most : ℕ) → IsMostMet commands steps most → most ≤ number_met commands rounds + spares_in verdicts }
+        → (most : ℕ) → IsMostOnTime commands steps most → most ≤ number_on_time commands rounds + spares_in verdicts }
     // and some could have been where one is
     ensures some { (commands : List Command) → (rounds : List ℕ) → (steps : List Step) → (verdicts : List (Option Verdict))
         → IsLegal commands rounds steps → AreVerdicts commands rounds steps verdicts
-        → (most : ℕ) → IsMostMet commands steps most → (number_met commands rounds < most) ↔ (0 < spares_in verdicts) }
+        → (most : ℕ) → IsMostOnTime commands steps most → (number_on_time commands rounds < most) ↔ (0 < spares_in verdicts) }
 {}
 
 /// A capacity carries some commands in each round.
@@ -118,7 +119,7 @@ fn filled<A: Allocator + Clone, B: Allocator>(
             Ok(found)
         }
         Ok(None) => Ok(Vec::new(alloc)),
-        // commands within the limits of the oracle are refused for want of memory alone
+        // commands within the limits of the oracle are refused only when out of memory
         Err(_) => Err(AllocError),
     }
 }
@@ -127,7 +128,7 @@ fn filled<A: Allocator + Clone, B: Allocator>(
 ///
 /// The windows that the commands on time fill are found in their schedule by earliest due date first, in one pass over its full
 /// rounds with a stack, and the first around each late command by halves. So the time grows as n log n in the number of commands.
-/// Fails for want of memory alone.
+/// Fails only when out of memory.
 pub fn verdicts<A: Allocator + Clone, B: Allocator>(
     alloc: A,
     commands: &[Command],

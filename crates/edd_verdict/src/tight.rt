@@ -4,14 +4,15 @@ ghost use Rattle.std.specs.Prelude.{◌≡◌, ◌≤◌, ◌<◌, ◌-◌, ℕ,
 ghost use Rattle.edd_verdict.specs.declared.tight.Served.{Served as Running};
 ghost use Rattle.std.specs.List.{zip};
 ghost use Rattle.std.specs.List.Sorted.{IsNonDecreasingBy, IsPermutation};
-ghost use Rattle.edd_check.specs.Capacity.{depth_at};
-ghost use Rattle.edd_check.specs.Limits.{round_limit};
-ghost use Rattle.edd_check.specs.Schedule.{IsLegal, RoundsInRange};
+ghost use Rattle.edd_commands.specs.Capacity.{depth_at};
+ghost use Rattle.edd_commands.specs.Limits.{round_limit};
+ghost use Rattle.edd_commands.specs.Schedule.{IsLegal, RoundsInRange};
 ghost use Rattle.edd_oracle.specs.Priority.{IsEarliestDueFirst};
 ghost use Rattle.edd_verdict.specs.Inside.Open.{AreFilled, AreOnTime};
 ghost use Rattle.edd_verdict.specs.Inside.Tight.{served_of, running_at, AreFull, AreRising, AreTight, IsLatestDue, DuesFall, IsDuePlace};
 
-use edd_check::{Capacity, Command, Window};
+use edd_check::Window;
+use edd_commands::{Capacity, Command};
 use std::alloc::{AllocError, Allocator};
 
 /// A round in which a command runs, or all that run in a full round, and when the last of them is due.

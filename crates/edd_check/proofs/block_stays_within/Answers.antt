@@ -1,6 +1,6 @@
 use Rattle.std.proofs.Common.{◌≡◌, arith, ℕ, ◌≢◌, ◌<◌, ◌+◌, ◌-◌, get_or, ap}
-use Rattle.edd_check.specs.Capacity.{depth_at}
-use Rattle.edd_check.specs.Schedule.{places_at}
+use Rattle.edd_commands.specs.Capacity.{depth_at}
+use Rattle.edd_commands.specs.Schedule.{places_at}
 use Rattle.edd_check.proofs.Blocks.{nothing_counted, counted_here, counted_elsewhere, one_too_many}
 use Rattle.edd_check.proofs.block_stays_within.Goals as goal
 use Rattle.edd_check.proofs.block_stays_within.Goals.{then-x-from+then-x-from-lt-BLOCK+else-counts-k, else-x-from, else-x-from-via-then-x-from+else-x-from-lt-BLOCK, else-x-from-via-else-x-from}

@@ -1,9 +1,10 @@
 use Rattle.std.proofs.Common.{◌≡◌, ◌<◌, ◌-◌, ℕ, List, length, get_or, sym, subst, ◌∙◌, ap, arith, rules}
 use Rattle.std.proofs.lemmas.List.{get_or_read}
 use Rattle.std.proofs.lemmas.List.Sorted.{IsNonDecreasingBy-from_sort}
-use Rattle.edd_check.specs.Capacity.{depth_at}
-use Rattle.edd_check.specs.Schedule.{IsLeastOverDeep}
-use Rattle.edd_check.proofs.Counting.{Rises, over_deep_here, none_over_deep}
+use Rattle.edd_commands.specs.Capacity.{depth_at}
+use Rattle.edd_check.specs.Rules.{IsLeastOverDeep}
+use Rattle.edd_commands.proofs.Counting.{Rises}
+use Rattle.edd_check.proofs.OverDeep.{over_deep_here, none_over_deep}
 use Rattle.edd_check.proofs.least_over_deep.Goals as goal
 
 pub returns-then-index-clause-least : goal.returns-then-index-clause-least

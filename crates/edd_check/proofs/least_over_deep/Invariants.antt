@@ -1,5 +1,5 @@
 use Rattle.std.proofs.Common.{◌≡◌, ◌≢◌, ◌<◌, ◌+◌, ℕ, get_or}
-use Rattle.edd_check.specs.Capacity.{depth_at}
+use Rattle.edd_commands.specs.Capacity.{depth_at}
 use Rattle.edd_check.proofs.least_over_deep.Given as goal
 
 abbrev pub invariant-loop-last : goal.invariant-loop-last

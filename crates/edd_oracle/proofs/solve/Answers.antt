@@ -1,7 +1,7 @@
 use Rattle.std.proofs.Common.{rules, ◌≡◌, ℕ, List, subst, w64, to_z, of_z}
 use Rattle.std.specs.Prelude.{ℤ}
 use Rattle.std.proofs.lemmas.Int.{to_z-of_z}
-use Rattle.edd_check.specs.Schedule.{IsLegal, IsGreatestLateness, IsLowerBound}
+use Rattle.edd_commands.specs.Schedule.{IsLegal, IsGreatestLateness, IsLowerBound}
 use Rattle.edd_check.specs.Window.{IsCrowded}
 use Rattle.edd_oracle.proofs.solve.Goals as goal
 

@@ -1,11 +1,12 @@
 -- How the windows of the commands that are passed over are found, from the last due round back.
 use Rattle.std.specs.Prelude.{ℕ, ◌≡◌, ◌≢◌, ◌≤◌, ◌<◌, ◌+◌, ◌-◌, ◌==◌, ◌&&◌, ◌⊎◌, List, length, count_by, nat_le, slice_index, slice_index_or}
-use Rattle.edd_check.specs.declared.Command.{Command}
+use Rattle.edd_commands.specs.declared.Command.{Command}
 use Rattle.edd_check.specs.declared.Window.{Window}
-use Rattle.edd_check.specs.declared.steps.Step.{Step}
-use Rattle.edd_check.specs.Capacity.{depth_at}
+use Rattle.edd_commands.specs.declared.steps.Step.{Step}
+use Rattle.edd_commands.specs.Capacity.{depth_at}
 use Rattle.edd_oracle.specs.declared.cover.Served.{Served}
-use Rattle.edd_oracle.specs.Met.{IsPassedOver}
+use Rattle.edd_oracle.specs.OnTime.{IsPassedOver}
+use Rattle.std.specs.List.{Contains}
 
 -- how many of them due by `due` run in the round y
 unfoldable pub served_at : List Served → ℕ → ℕ → ℕ
@@ -32,6 +33,11 @@ pub record IsPassedDue (commands : List Command) (rounds : List ℕ) (x : ℕ) :
   pub place : ℕ
   pub passed : (d : Command) → IsPassedOver commands rounds place d
   pub is_due : (d : Command) → x ≡ (slice_index_or commands place d).due
+
+-- the due round of each command that is passed over is one of these
+abbrev pub HasPassedDues : List Command → List ℕ → List ℕ → Type 0
+HasPassedDues commands rounds dues =
+    (k : ℕ) (d : Command) → IsPassedOver commands rounds k d → Contains dues (slice_index_or commands k d).due
 
 -- from `start` up to `due` the rounds are full of those due by then, and the one before `start` is not
 pub record IsServedStart (served : List Served) (steps : List Step) (due start : ℕ) : Type 0 where

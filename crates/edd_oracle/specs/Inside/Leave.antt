@@ -1,9 +1,9 @@
 -- How the commands leave the queue, one after the other: each with a round, or without one where late ones are passed over.
 use Rattle.std.specs.Prelude.{ℕ, ◌≡◌, ◌≤◌, ◌<◌, ◌+◌, ◌-◌, ◌==◌, ◌⊎◌, Bool, true, false, cond, IsTrue, List, Option, Some, None, length, count_by, slice_index_or, slice_set}
-use Rattle.edd_check.specs.declared.Command.{Command}
-use Rattle.edd_check.specs.declared.steps.Step.{Step}
-use Rattle.edd_check.specs.Capacity.{depth_at}
-use Rattle.edd_check.specs.Limits.{release_limit}
+use Rattle.edd_commands.specs.declared.Command.{Command}
+use Rattle.edd_commands.specs.declared.steps.Step.{Step}
+use Rattle.edd_commands.specs.Capacity.{depth_at}
+use Rattle.edd_commands.specs.Limits.{release_limit}
 use Rattle.edd_oracle.specs.declared.queue.Released.{Released}
 use Rattle.edd_oracle.specs.Plan.{IsWaiting}
 use Rattle.edd_oracle.specs.Priority.{ComesFirst}

@@ -1,6 +1,6 @@
 use Rattle.std.proofs.Common.{ap, sym, ◌∙◌}
 use Rattle.std.specs.Option.{is_some}
-use Rattle.edd_check.proofs.InForce.{depth_bounds}
+use Rattle.edd_commands.proofs.InForce.{depth_bounds}
 use Rattle.edd_verdict.proofs.Subset.{best_on_time, best_windows, none_filled}
 use Rattle.edd_verdict.proofs.filled.Goals as goal
 

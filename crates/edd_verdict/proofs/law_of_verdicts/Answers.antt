@@ -1,4 +1,4 @@
-use Rattle.edd_check.proofs.InForce.{depth_bounds}
+use Rattle.edd_commands.proofs.InForce.{depth_bounds}
 use Rattle.edd_verdict.proofs.Judging.{some_verdict, one_verdict, spare_apart, spare_can, none_spare}
 use Rattle.edd_verdict.proofs.law_of_verdicts.Goals as goal
 

@@ -1,5 +1,5 @@
 use Rattle.std.proofs.Common.{subst}
-use Rattle.edd_check.proofs.InForce.{depth_bounds}
+use Rattle.edd_commands.proofs.InForce.{depth_bounds}
 use Rattle.edd_verdict.specs.Inside.Open.{AreJudged}
 use Rattle.edd_verdict.proofs.Answering.{all_verdicts}
 use Rattle.edd_verdict.proofs.verdicts.Goals as goal

@@ -1,10 +1,10 @@
 -- Windows around a late command, found with a stack of those that are open.
 use Rattle.std.specs.Prelude.{ℕ, ◌≡◌, ◌≤◌, ◌<◌, List, Option, Some, None, cond, map, filter, nat_le, nat_lt, length, slice_index, slice_index_or}
 use Rattle.std.specs.List.{zip}
-use Rattle.edd_check.specs.declared.Command.{Command}
+use Rattle.edd_commands.specs.declared.Command.{Command}
 use Rattle.edd_check.specs.declared.Window.{Window}
-use Rattle.edd_check.specs.declared.steps.Step.{Step}
-use Rattle.edd_check.specs.Met.{is_met}
+use Rattle.edd_commands.specs.declared.steps.Step.{Step}
+use Rattle.edd_check.specs.OnTime.{is_on_time}
 use Rattle.edd_verdict.specs.declared.Verdict.{Verdict}
 use Rattle.edd_verdict.specs.declared.Verdict.TheVariants.{Arrival, Spare, Full}
 use Rattle.edd_verdict.specs.declared.around.Ask.{Ask}
@@ -13,7 +13,7 @@ use Rattle.edd_verdict.specs.Verdicts.{IsLate, IsLateOnArrival, CanBeOnTime}
 
 -- the commands that are on time
 abbrev pub on_time_of : List Command → List ℕ → List Command
-on_time_of commands rounds = map (λ p. p.0) (filter (λ p. is_met p.0 p.1) (zip commands rounds))
+on_time_of commands rounds = map (λ p. p.0) (filter (λ p. is_on_time p.0 p.1) (zip commands rounds))
 
 -- each command runs no later than it is due
 abbrev pub AreOnTime : List Command → List ℕ → Type 0

@@ -1,6 +1,6 @@
 use Rattle.std.proofs.Common.{rules, ◌≡◌, ◌≤ℤ◌, ℤ, ◌-ℤ◌, subst, sym, pos, FitsSigned, w64, to_z, of_z, arith}
 use Rattle.std.proofs.lemmas.Int.{ints, to_z-of_z}
-use Rattle.edd_check.specs.Schedule.{IsGreatestLateness, IsLeastLateness}
+use Rattle.edd_commands.specs.Schedule.{IsGreatestLateness, IsLeastLateness}
 use Rattle.edd_check.specs.Window.{IsCrowded}
 use Rattle.edd_figures.specs.Figures.{shortfall_of}
 use Rattle.edd_figures.proofs.Within.{lost_fits}

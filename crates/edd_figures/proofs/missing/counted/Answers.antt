@@ -9,13 +9,13 @@ overflow_sub-unavoidable g c =
     omega (arith, all_commands c.args.commands.now c.args.answer.now.rounds.items m.legal.one_each, m.number)
 
 pub overflow_sub-late : goal.overflow_sub-late
-overflow_sub-late g c = omega (arith, all_commands c.args.commands.now c.args.rounds.now c.requires.legal.one_each, c.number_met.ensures)
+overflow_sub-late g c = omega (arith, all_commands c.args.commands.now c.args.rounds.now c.requires.legal.one_each, c.number_on_time.ensures)
 
 pub overflow_sub-counts : goal.overflow_sub-counts
 overflow_sub-counts g c =
     let m = c.requires.most in
     let legal = c.requires.legal in
-    omega (arith, all_commands c.args.commands.now c.args.rounds.now legal.one_each, m.most.most c.args.rounds.now legal, c.number_met.ensures)
+    omega (arith, all_commands c.args.commands.now c.args.rounds.now legal.one_each, m.most.most c.args.rounds.now legal, c.number_on_time.ensures)
 
 pub returns-clause-misses : goal.returns-clause-misses
 returns-clause-misses g c =
@@ -25,9 +25,9 @@ returns-clause-misses g c =
     let all = all_commands c.args.commands.now c.args.rounds.now legal.one_each in
     record {
       count_is = refl;
-      late_is = omega (arith, all, c.number_met.ensures);
+      late_is = omega (arith, all, c.number_on_time.ensures);
       least = least_late c.args.commands.now c.args.capacity.now c.args.answer.now.met _ m.most (omega (arith, met, m.number));
-      rest = omega (arith, all, m.most.most c.args.rounds.now legal, c.number_met.ensures);
+      rest = omega (arith, all, m.most.most c.args.rounds.now legal, c.number_on_time.ensures);
       cover = c.args.answer.now.cover.items;
       disjoint = m.disjoint;
       best = c.args.answer.now.rounds.items;

@@ -1,8 +1,8 @@
 use Rattle.std.proofs.Common.{◌≡◌, ◌<◌, ◌+◌, ℕ, List, length, get_or, take, map, replicate, arith, sym, ap, ◌∙◌}
 use Rattle.std.proofs.lemmas.List.{length-set, get_or-replicate, length-replicate, same_lists, get_or-map, length-map, take_all, get_or_read, get_or_default}
-use Rattle.edd_check.specs.declared.Command.{Command}
+use Rattle.edd_commands.specs.declared.Command.{Command}
 use Rattle.edd_check.specs.declared.Window.{Window}
-use Rattle.edd_check.specs.Met.{inside_of}
+use Rattle.edd_check.specs.OnTime.{inside_of}
 use Rattle.edd_figures.proofs.Windows.{counted_in, counted_out, inside_few, none_inside, zeros_of}
 use Rattle.edd_figures.proofs.missing.inside_each.Goals as goal
 use Rattle.edd_figures.proofs.missing.inside_each.Goals.{in-Some, in_default}

@@ -1,6 +1,6 @@
 use Rattle.std.proofs.Common.{◌≡◌, ◌<◌, ℕ, length, get_or, take}
 use Rattle.edd_check.specs.declared.Window.{Window}
-use Rattle.edd_check.specs.Met.{inside_of}
+use Rattle.edd_check.specs.OnTime.{inside_of}
 use Rattle.edd_figures.proofs.missing.inside_each.Given as goal
 
 -- a count for each window, of the commands so far

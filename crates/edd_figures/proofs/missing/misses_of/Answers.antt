@@ -1,8 +1,8 @@
 use Rattle.std.proofs.Common.{◌≡◌, ◌+◌, ◌∙◌, ℕ, List, ap, arith}
 use Rattle.std.specs.Prelude.{Option}
-use Rattle.edd_check.specs.declared.Command.{Command}
-use Rattle.edd_check.specs.declared.steps.Step.{Step}
-use Rattle.edd_check.specs.Met.{number_met}
+use Rattle.edd_commands.specs.declared.Command.{Command}
+use Rattle.edd_commands.specs.declared.steps.Step.{Step}
+use Rattle.edd_check.specs.OnTime.{number_on_time}
 use Rattle.edd_verdict.specs.declared.Verdict.{Verdict}
 use Rattle.edd_verdict.specs.Verdicts.{spares_in}
 use Rattle.edd_figures.specs.declared.missing.Counts.{Counts}
@@ -23,7 +23,7 @@ returns g c =
     let most = c.in-Ok.ensures.most.most in
     let spare : m.spare ≡ spares_in vs = c.in_ok-missed.ensures.kept ∙ found.spares in
     let kinds = c.law_of_spares.ensures.kinds cs rs steps vs legal judged in
-    let more : number_met cs rs + m.avoidable ≡ c.in-Ok.answer.met = avoidable_is cs rs steps legal c.in-Ok.answer.met m.late m.unavoidable m.avoidable most told.least told.late_is told.rest in
+    let more : number_on_time cs rs + m.avoidable ≡ c.in-Ok.answer.met = avoidable_is cs rs steps legal c.in-Ok.answer.met m.late m.unavoidable m.avoidable most told.least told.late_is told.rest in
     let bound = c.law_of_spares.ensures.most cs rs steps vs legal judged c.in-Ok.answer.met most in
     let some = c.law_of_spares.ensures.some cs rs steps vs legal judged c.in-Ok.answer.met most in
     record {

@@ -1,25 +1,25 @@
 use Rattle.std.proofs.Common.{◌≡◌, ◌∙◌, ℕ, List, ap, refl, sym, subst}
 use Rattle.std.specs.Prelude.{Option}
-use Rattle.edd_check.specs.declared.Command.{Command}
-use Rattle.edd_check.specs.declared.steps.Step.{Step}
-use Rattle.edd_check.specs.Met.{number_met, IsMostMet}
+use Rattle.edd_commands.specs.declared.Command.{Command}
+use Rattle.edd_commands.specs.declared.steps.Step.{Step}
+use Rattle.edd_check.specs.OnTime.{number_on_time, IsMostOnTime}
 use Rattle.edd_verdict.specs.declared.Verdict.{Verdict}
 use Rattle.edd_verdict.specs.Verdicts.{spares_in}
 use Rattle.edd_figures.specs.Misses.{number_late}
 use Rattle.edd_figures.proofs.Spares.{none_spare, has_spares}
 use Rattle.edd_figures.proofs.missing.spare_of.Goals as goal
 
-pub returns-then-number_met-most : goal.returns-then-number_met-most
-returns-then-number_met-most g c =
+pub returns-then-number_on_time-most : goal.returns-then-number_on_time-most
+returns-then-number_on_time-most g c =
     let cs : List Command = c.args.commands.now in
     let rs : List ℕ = c.args.rounds.now in
     let steps : List Step = c.args.capacity.now in
     let legal = c.requires.legal in
-    let most : IsMostMet cs steps (number_met cs rs) = subst (λ n. IsMostMet cs steps n) (sym c.if-number_met-most.true ∙ c.number_met.ensures) c.requires.most in
+    let most : IsMostOnTime cs steps (number_on_time cs rs) = subst (λ n. IsMostOnTime cs steps n) (sym c.if-number_on_time-most.true ∙ c.number_on_time.ensures) c.requires.most in
     none_spare cs rs steps legal
     (λ k h l. (let one = c.law_of_verdicts.ensures.one cs rs steps k legal c.at.ensures.steps h l in (one.0, one.1)))
     (λ vs are. c.law_of_spares.ensures.kinds cs rs steps vs legal are)
-    (λ vs are. c.law_of_spares.ensures.some cs rs steps vs legal are (number_met cs rs) most)
+    (λ vs are. c.law_of_spares.ensures.some cs rs steps vs legal are (number_on_time cs rs) most)
 
 pub returns : goal.returns
 returns g c =

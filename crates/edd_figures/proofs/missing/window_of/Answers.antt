@@ -3,7 +3,7 @@ use Rattle.std.proofs.lemmas.List.Sorted.{IsPartitionPoint-from_clause}
 use Rattle.std.specs.List.Sorted.{IsPartitionPoint}
 use Rattle.edd_check.specs.declared.Window.{Window}
 use Rattle.edd_check.proofs.Covers.{IsPlaced, placed_here, begins_parted}
-use Rattle.edd_figures.proofs.Windows.{not_met, lies_at, lies_nowhere}
+use Rattle.edd_figures.proofs.Windows.{not_on_time, lies_at, lies_nowhere}
 use Rattle.edd_figures.proofs.missing.window_of.Goals as goal
 use Rattle.edd_figures.proofs.missing.window_of.Goals.{then-place-eq0-via-then-place-eq0, then-place-eq0-via-else-place-eq0+then-cover-place}
 
@@ -11,7 +11,7 @@ abbrev none : Window
 none = record { from = 0; due = 0 }
 
 pub returns-then-command-clause-place : goal.returns-then-command-clause-place
-returns-then-command-clause-place c = λ k d h. not_met c.args.command (get_or c.args.cover.now k d) c.if-command.true
+returns-then-command-clause-place c = λ k d h. not_on_time c.args.command (get_or c.args.cover.now k d) c.if-command.true
 
 pub returns-then-place-eq0-clause-place : goal.returns-then-place-eq0-clause-place
 returns-then-place-eq0-clause-place c = λ k d h.

@@ -1,9 +1,9 @@
 use Rattle.std.proofs.Common.{◌≡◌, ◌<◌, ℕ, List, length, get_or, sym, ◌∙◌, subst}
 use Rattle.std.specs.List.{All}
 use Rattle.std.proofs.lemmas.List.{get_or_default}
-use Rattle.edd_check.specs.Limits.{round_limit}
+use Rattle.edd_commands.specs.Limits.{round_limit}
 use Rattle.edd_oracle.specs.Plan.{due_at}
-use Rattle.edd_oracle.specs.Met.{IsPassedCover}
+use Rattle.edd_oracle.specs.OnTime.{IsPassedCover}
 use Rattle.edd_oracle.specs.Inside.Cover.{served_at, IsPassedDue}
 use Rattle.edd_oracle.proofs.Joined.{passed_cover, cover_in, dues_small}
 use Rattle.edd_oracle.proofs.cover.cover.Given.{Over}

@@ -1,6 +1,6 @@
 use Rattle.std.proofs.Common.{◌+◌, List, ℕ, arith, ap, sym, subst, inl, inr}
 use Rattle.std.proofs.lemmas.List.Sorted.{IsNonDecreasingBy-from_sort}
-use Rattle.edd_check.specs.declared.Command.{Command}
+use Rattle.edd_commands.specs.declared.Command.{Command}
 use Rattle.edd_oracle.proofs.Late.{AreLate, no_late, more_late, same_late, late_in_order}
 use Rattle.edd_oracle.proofs.cover.passed_over.Given.{Over}
 use Rattle.edd_oracle.proofs.cover.passed_over.Goals as goal

@@ -1,6 +1,6 @@
 use Rattle.std.proofs.Common.{◌+◌, List, arith, ap, sym, subst, refl, rules}
 use Rattle.std.proofs.lemmas.List.Sorted.{IsNonDecreasingBy-from_sort_by_key}
-use Rattle.edd_check.specs.declared.Command.{Command}
+use Rattle.edd_commands.specs.declared.Command.{Command}
 use Rattle.edd_oracle.specs.declared.cover.Served.{Served}
 use Rattle.edd_oracle.proofs.Running.{AreServed, none_served, more_served, same_served, served_same, served_few}
 use Rattle.edd_oracle.proofs.cover.served_before.Goals as goal

@@ -1,5 +1,5 @@
 use Rattle.std.proofs.Common.{arith}
-use Rattle.edd_check.specs.declared.Command.{Command}
+use Rattle.edd_commands.specs.declared.Command.{Command}
 use Rattle.edd_oracle.proofs.Ids.{risen_next}
 use Rattle.edd_oracle.proofs.input.rise.Goals as goal
 

@@ -4,13 +4,13 @@ use Rattle.std.specs.declared.cmp.Reverse.{Reverse}
 use Rattle.std.proofs.lemmas.List.{get_or_read}
 use Rattle.std.proofs.lemmas.List.Elements.{All-head}
 use Rattle.std.proofs.lemmas.List.Sorted.{All-permutation}
-use Rattle.edd_check.specs.declared.Command.{Command}
-use Rattle.edd_check.specs.Capacity.{depth_at}
-use Rattle.edd_check.proofs.InForce.{depth_bounds}
+use Rattle.edd_commands.specs.declared.Command.{Command}
+use Rattle.edd_commands.specs.Capacity.{depth_at}
+use Rattle.edd_commands.proofs.InForce.{depth_bounds}
 use Rattle.edd_oracle.specs.declared.queue.Arrival.{Arrival}
 use Rattle.edd_oracle.specs.declared.queue.Released.{Released}
 use Rattle.edd_oracle.specs.Inside.Leave.{IsFirstReleased, unplaced_at}
-use Rattle.edd_oracle.specs.Queue.{IsArrival, IsReleasedBy, held_of, arrivals_of}
+use Rattle.edd_oracle.specs.Inside.Queue.{IsArrival, IsReleasedBy, held_of, arrivals_of}
 use Rattle.edd_oracle.proofs.Partial.{IsPartial, IsReady, start_partial, ready_jumped, ready_next, ready_still, put_partial, left_partial}
 use Rattle.edd_oracle.proofs.Turn.{IsHeld, IsTurn, held_at_start, first_of_arrivals, held_taken_in, popped_earliest, held_popped, held_passed, gone_at_end, empty_heap}
 use Rattle.edd_oracle.proofs.queue.leave.Given.{Over}

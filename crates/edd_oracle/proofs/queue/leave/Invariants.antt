@@ -1,7 +1,7 @@
 use Rattle.std.proofs.Common.{◌≡◌, ◌+◌, ◌-◌, length}
 use Rattle.std.specs.BinaryHeap.{heap_items, IsHeap}
-use Rattle.edd_check.specs.Capacity.{depth_at}
-use Rattle.edd_oracle.specs.Queue.{waiting_cmp}
+use Rattle.edd_commands.specs.Capacity.{depth_at}
+use Rattle.edd_oracle.specs.Inside.Queue.{waiting_cmp}
 use Rattle.edd_oracle.proofs.Partial.{IsPartial}
 use Rattle.edd_oracle.proofs.Turn.{IsHeld}
 use Rattle.edd_oracle.proofs.queue.leave.Given as goal

@@ -1,7 +1,7 @@
 use Rattle.std.proofs.Common.{◌≡◌, false, Some, None, length, replicate, map, rules, subst}
 use Rattle.std.specs.Result.{IfOk}
 use Rattle.std.proofs.lemmas.Result.{IfOk-weaker}
-use Rattle.edd_check.specs.Schedule.{IsLegal, RoundsInRange}
+use Rattle.edd_commands.specs.Schedule.{IsLegal, RoundsInRange}
 use Rattle.edd_oracle.specs.Inside.Leave.{HaveLeft}
 use Rattle.edd_oracle.specs.Priority.{IsEarliestDueFirst}
 use Rattle.edd_oracle.proofs.Partial.{IsFinished, finish_left}

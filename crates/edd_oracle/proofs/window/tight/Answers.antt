@@ -1,8 +1,8 @@
 use Rattle.std.proofs.Common.{◌<◌, ℕ, get_or, arith, refl, ap}
 use Rattle.std.proofs.lemmas.Int.{ints}
 use Rattle.std.proofs.lemmas.List.{get_or_default}
-use Rattle.edd_check.specs.declared.Command.{Command}
-use Rattle.edd_check.specs.Limits.{round_limit}
+use Rattle.edd_commands.specs.declared.Command.{Command}
+use Rattle.edd_commands.specs.Limits.{round_limit}
 use Rattle.edd_oracle.proofs.Crowded.{crowded_at, greatest_at}
 use Rattle.edd_oracle.proofs.window.tight.Goals as goal
 

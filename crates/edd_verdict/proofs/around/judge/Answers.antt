@@ -30,8 +30,8 @@ loop-next-preserved-in-Some g c =
     let a : Ask = get_or asks (c.loop-next.next - 1) none in
     let asked : All (IsAsk c.args.commands.now c.args.rounds.now) asks = subst (λ xs. All (IsAsk c.args.commands.now c.args.rounds.now) xs) (sym c.as_slice-asks.ensures.value) c.in_ok-late.ensures.each in
     let order : IsNonDecreasingBy (λ (b : Ask). b.due) asks = subst (λ xs. IsNonDecreasingBy (λ (b : Ask). b.due) xs) (sym c.as_slice-asks.ensures.value) c.in_ok-late.ensures.rising in
-    let inner : IsInnermost c.enter.new.opened.items a.release c.in-Some.window = subst (λ xs. IsInnermost xs a.release c.in-Some.window) c.as_slice.ensures.value c.in-Some.ensures.some in
-    pending_full c.args.commands.now c.args.rounds.now c.args.windows.now asks asked c.requires.rising order c.loop-next.next (c.loop-next.next - 1) c.loop-next.left c.in_ok-left.left c.loop-next.opened.items c.enter.new.opened.items c.loop-next.verdicts.items a c.loop-next.invariant (omega (arith, c.loop-next-test.true))
+    let inner : IsInnermost c.open_windows.new.opened.items a.release c.in-Some.window = subst (λ xs. IsInnermost xs a.release c.in-Some.window) c.as_slice.ensures.value c.in-Some.ensures.some in
+    pending_full c.args.commands.now c.args.rounds.now c.args.windows.now asks asked c.requires.rising order c.loop-next.next (c.loop-next.next - 1) c.loop-next.left c.in_ok-left.left c.loop-next.opened.items c.open_windows.new.opened.items c.loop-next.verdicts.items a c.loop-next.invariant (omega (arith, c.loop-next-test.true))
     (λ e. get_or_default asks (c.loop-next.next - 1) e none (omega (arith, c.loop-next.invariant.within, c.loop-next-test.true))) c.in_ok-left.ensures.are c.in_ok-left.ensures.past c.in_ok-left.ensures.within c.in-Some.window c.tell.new.verdicts.items inner c.tell.ensures
 
 pub loop-next-preserved : goal.loop-next-preserved
@@ -40,6 +40,6 @@ loop-next-preserved g c =
     let a : Ask = get_or asks (c.loop-next.next - 1) none in
     let asked : All (IsAsk c.args.commands.now c.args.rounds.now) asks = subst (λ xs. All (IsAsk c.args.commands.now c.args.rounds.now) xs) (sym c.as_slice-asks.ensures.value) c.in_ok-late.ensures.each in
     let order : IsNonDecreasingBy (λ (b : Ask). b.due) asks = subst (λ xs. IsNonDecreasingBy (λ (b : Ask). b.due) xs) (sym c.as_slice-asks.ensures.value) c.in_ok-late.ensures.rising in
-    pending_none c.args.commands.now c.args.rounds.now c.args.windows.now asks asked c.requires.rising order c.loop-next.next (c.loop-next.next - 1) c.loop-next.left c.in_ok-left.left c.loop-next.opened.items c.enter.new.opened.items c.loop-next.verdicts.items a c.loop-next.invariant (omega (arith, c.loop-next-test.true))
+    pending_none c.args.commands.now c.args.rounds.now c.args.windows.now asks asked c.requires.rising order c.loop-next.next (c.loop-next.next - 1) c.loop-next.left c.in_ok-left.left c.loop-next.opened.items c.open_windows.new.opened.items c.loop-next.verdicts.items a c.loop-next.invariant (omega (arith, c.loop-next-test.true))
     (λ e. get_or_default asks (c.loop-next.next - 1) e none (omega (arith, c.loop-next.invariant.within, c.loop-next-test.true))) c.in_ok-left.ensures.are c.in_ok-left.ensures.past c.in_ok-left.ensures.within
     (subst (λ (xs : List Window). (j : ℕ) (e : Window) → j < length xs → a.release < (get_or xs j e).from) c.as_slice.ensures.value c.in_default.ensures.none)

@@ -1,6 +1,6 @@
 use Rattle.std.proofs.Common.{ℕ, List, ◌≤◌, ◌<◌, sym, subst}
 use Rattle.std.specs.List.{All}
-use Rattle.edd_check.specs.Capacity.{depth_at}
+use Rattle.edd_commands.specs.Capacity.{depth_at}
 use Rattle.edd_verdict.specs.declared.tight.Served.{Served}
 use Rattle.edd_verdict.specs.Inside.Tight.{running_at, AreFull, AreTight}
 use Rattle.edd_verdict.proofs.Tightening.{served_few, served_timely, all_filled}

@@ -1,6 +1,0 @@
-use Rattle.std.proofs.Common.{◌<◌, ℕ}
-use Rattle.edd_check.specs.Met.{IsWindowAt}
-use Rattle.edd_check.proofs.met.first_astray.Given as goal
-
-abbrev pub invariant-loop-place : goal.invariant-loop-place
-invariant-loop-place l = (k : ℕ) → k < l.place → IsWindowAt l.cover k

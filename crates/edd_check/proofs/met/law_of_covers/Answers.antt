@@ -1,5 +1,0 @@
-use Rattle.edd_check.proofs.Covers.{covers_bound}
-use Rattle.edd_check.proofs.met.law_of_covers.Goals as goal
-
-pub returns : goal.returns
-returns g c = covers_bound c.args.commands.now c.args.capacity.now c.args.cover.now

@@ -1,0 +1,4 @@
+pub mod Limits
+pub mod Capacity
+pub mod Schedule
+pub mod Inside
