@@ -1,11 +1,9 @@
--- Codes of bios, of limits and of sides, for records that hold them beside a map.
+-- Codes of bios and of limits, for records that hold them beside a map.
 use Rattle.std.specs.Prelude.{ℕ, ◌≡◌, Bool, true, false, refl}
 use Rattle.std.specs.Coded.{Coded, code_by, coded×, coded_ℕ, coded_bool}
 use Rattle.blk_bio.specs.declared.bio.BioId.{BioId}
 use Rattle.blk_bio.specs.declared.bio.Dir.{Dir}
 use Rattle.blk_bio.specs.declared.bio.Dir.TheVariants.{Read, Write}
-use Rattle.blk_bio.specs.declared.request.Side.{Side}
-use Rattle.blk_bio.specs.declared.request.Side.TheVariants.{Back, Front}
 use Rattle.blk_bio.specs.Bios.{Bio}
 use Rattle.blk_bio.specs.Limits.{Limits}
 
@@ -19,7 +17,7 @@ abbrev pub dir_from : Bool → Dir
 dir_from true = Read
 dir_from false = Write
 
--- a direction is told by whether it is that of reads
+-- a direction, by whether it is that of reads
 pub dir_back : (d : Dir) → dir_from (is_read d) ≡ d
 dir_back Read = refl
 dir_back Write = refl
@@ -27,25 +25,6 @@ dir_back Write = refl
 -- a direction's code
 abbrev pub dir_code : Coded Dir
 dir_code = code_by Bool coded_bool is_read dir_from dir_back
-
--- whether a side is the back
-abbrev pub is_back : Side → Bool
-is_back Back = true
-is_back Front = false
-
--- the back, or the front
-abbrev pub side_from : Bool → Side
-side_from true = Back
-side_from false = Front
-
--- a side is told by whether it is the back
-pub side_back : (s : Side) → side_from (is_back s) ≡ s
-side_back Back = refl
-side_back Front = refl
-
--- a side's code
-abbrev pub side_code : Coded Side
-side_code = code_by Bool coded_bool is_back side_from side_back
 
 -- the code of a bio's name
 abbrev pub bio_id_code : Coded BioId

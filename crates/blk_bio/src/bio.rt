@@ -1,8 +1,8 @@
 //! A bio: one transfer of a range of sectors, after `struct bio` of Linux.
 
-ghost use Rattle.std.specs.Prelude.{◌≡◌, ◌≢◌, ◌+◌, ◌<◌, ◌≤◌, ◌^◌, ◌∷◌, [], IfOk, IfSome, IfNone, MatchResult};
+ghost use Rattle.std.specs.Prelude.{◌≡◌, ◌≢◌, ◌+◌, ◌<◌, ◌∷◌, [], IfSome, IfNone};
 ghost use Rattle.blk_bio.specs.Names.{bio_fault_name};
-ghost use Rattle.blk_bio.specs.Bios.{Bio as BioFields, IsBio, end_of, IsBioAnswer};
+ghost use Rattle.blk_bio.specs.Bios.{Bio as BioFields, IsBio, IsBioAnswer};
 ghost use Rattle.blk_bio.specs.Requests.{IsRequest};
 ghost use Rattle.blk_bio.specs.Extents.{extent_of};
 ghost use Rattle.blk_bio.specs.Letters.{direction_text};
@@ -90,7 +90,6 @@ pub struct Bio {
 }
 
 impl Model for Bio {
-    ghost use Rattle.std.specs.Prelude.{ℕ};
     ghost use Rattle.blk_bio.specs.Bios.{Bio as BioFields, IsBio};
 
     ghost Value = { BioFields };

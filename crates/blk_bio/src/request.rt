@@ -1,6 +1,6 @@
 //! A request: bios of one direction that tile a range, after `struct request` of Linux and its back and front merge.
 
-ghost use Rattle.std.specs.Prelude.{◌≡◌, ◌≤◌, ◌+◌, ◌^◌, ◌<◌, ◌∷◌, [], ◌⊎◌, ◌↔◌, IsTrue, length, ◌++◌, IfOk, IfErr, IfNone, IfSome};
+ghost use Rattle.std.specs.Prelude.{◌≡◌, ◌≤◌, ◌+◌, ◌<◌, ◌∷◌, [], ◌↔◌, IsTrue, ◌++◌, IfOk, IfErr, IfNone, IfSome};
 ghost use Rattle.blk_bio.specs.declared.request.Side.{Side};
 ghost use Rattle.blk_bio.specs.declared.request.JoinFault.{JoinFault};
 ghost use Rattle.blk_bio.specs.Bios.{sector_limit};
@@ -72,7 +72,7 @@ impl<A: Allocator + Clone> Request<A> {
         }
     }
 
-    /// Another request of the same bios, from the same allocator. Fails for want of memory alone.
+    /// Another request of the same bios, from the same allocator. Fails only when out of memory.
     pub fn copy(&self) -> Result<Request<A>, AllocError>
         ensures { IfOk result (λ r. r ≡ self.now) }
     {
@@ -112,6 +112,7 @@ impl<A: Allocator + Clone> Request<A> {
         ensures range { first_of self.now + result ≡ last_of self.now }
         ensures in_range { last_of self.now ≤ sector_limit }
     {
+        // brings the prover the list's invariant, by which the request ends after it begins
         let _ = &self.bios;
         self.end() - self.first()
     }
@@ -190,7 +191,7 @@ impl<A: Allocator + Clone> Request<A> {
         // the side or the fault, and the request as it stands then
         ensures answer { IsJoinAnswer limits.now self.old other self.new result }
         ensures only { IfOk result (λ found. (side : Side) → Fits limits.now self.old other side → side ≡ found) }
-        // what fits is refused for want of memory alone
+        // what fits is refused only when out of memory
         ensures accepts { (side : Side) → Fits limits.now self.old other side → IfErr result (λ e. e.1 ≡ JoinFault.Memory) }
     {
         if other.dir() != self.dir() {

@@ -3,3 +3,4 @@ pub mod ById
 pub mod Scattered
 pub mod Serials
 pub mod IdSet
+pub mod Inside

@@ -3,22 +3,23 @@ use Rattle.std.specs.Prelude.{ℕ, ◌+◌, ◌/◌, ◌%◌, slice_get, List, O
 use Rattle.std.specs.Ordering.{nat_cmp}
 use Rattle.std.specs.BTreeMap.{get}
 use Rattle.blk_ids.specs.declared.scattered.Scattered.{Scattered}
+use Rattle.blk_ids.specs.declared.scattered.TheConstants.{SLOTS}
 use Rattle.blk_ids.specs.Given.{either, at_entry}
 
--- the place of a number
-unfoldable pub place_of : ℕ → ℕ
-place_of k = (k / 8 + k / 4096 + k / 2097152) % 1024
+-- the slot of a number
+unfoldable pub slot_of : ℕ → ℕ
+slot_of k = (k / 8 + k / 4096 + k / 2097152) % SLOTS
 
--- what a place has under a number, if there is such a place
-abbrev pub at_place : {V : Type 0} → Option (Option (ℕ × V)) → ℕ → Option V
-at_place None k = None
-at_place (Some o) k = at_entry o k
+-- what a slot has under a number, if there is such a slot
+abbrev pub at_slot : {V : Type 0} → Option (Option (ℕ × V)) → ℕ → Option V
+at_slot None k = None
+at_slot (Some o) k = at_entry o k
 
--- what places have under a number
-abbrev pub in_places : {V : Type 0} → List (Option (ℕ × V)) → ℕ → Option V
-in_places places k = at_place (slice_get places (place_of k)) k
+-- what slots have under a number
+abbrev pub in_slots : {V : Type 0} → List (Option (ℕ × V)) → ℕ → Option V
+in_slots slots k = at_slot (slice_get slots (slot_of k)) k
 
 module _ {V A : Type 0} where
   -- what is found under a number
   abbrev pub found_at : Scattered V A → ℕ → Option V
-  found_at m k = either (in_places m.places.items k) (get nat_cmp m.others k)
+  found_at m k = either (in_slots m.slots.items k) (get nat_cmp m.others k)

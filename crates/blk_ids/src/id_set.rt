@@ -4,6 +4,7 @@ ghost use Rattle.std.specs.Prelude.{◌≡◌, ◌≤◌, ◌<◌, ◌+◌, ◌=
 ghost use Rattle.std.specs.Bool.{OnTrue, OnFalse};
 ghost use Rattle.std.specs.List.{list_any};
 ghost use Rattle.blk_ids.specs.IdSet.{has_id, in_lists, is_pair, spare};
+ghost use Rattle.blk_ids.specs.Inside.Lists.{HasTheSame, HasOneMore, HasAll, LosesNone};
 
 use crate::serials::Serials;
 use std::alloc::{AllocError, Allocator, Global};
@@ -86,8 +87,8 @@ fn is_late(late: &[(u8, u64)], submitter: u8, serial: u64) -> bool
 /// Puts an id in that has a flag in its submitter's list, and says whether it has one.
 #[inline(always)]
 fn mark<A: Allocator + Clone>(lists: &mut Vec<Serials<A>, A>, submitter: u8, serial: u64) -> bool
-    ensures marked { OnTrue result ((s n : ℕ) → in_lists lists.new.items s n ≡ in_lists lists.old.items s n || ((submitter == s) && (serial == n))) }
-    ensures same { OnFalse result ((s n : ℕ) → in_lists lists.new.items s n ≡ in_lists lists.old.items s n) }
+    ensures marked { OnTrue result (HasOneMore lists.old.items (submitter, serial) lists.new.items) }
+    ensures same { OnFalse result (HasTheSame lists.old.items lists.new.items) }
 {
     let index = submitter as usize;
     if index >= lists.len() {
@@ -101,8 +102,8 @@ fn put_all<A: Allocator + Clone>(
     lists: &mut Vec<Serials<A>, A>,
     late: &[(u8, u64)],
 ) -> Result<(), AllocError>
-    ensures same { (s n : ℕ) → in_lists lists.new.items s n || list_any (λ p. is_pair p s n) late.now ≡ in_lists lists.old.items s n || list_any (λ p. is_pair p s n) late.now }
-    ensures ok { OnOk result ((s n : ℕ) → in_lists lists.new.items s n ≡ in_lists lists.old.items s n || list_any (λ p. is_pair p s n) late.now) }
+    ensures same { LosesNone lists.old.items late.now lists.new.items }
+    ensures ok { OnOk result (HasAll lists.old.items late.now lists.new.items) }
 {
     for id in late {
         put(lists, id.0, id.1)?;
@@ -116,8 +117,8 @@ fn put<A: Allocator + Clone>(
     submitter: u8,
     serial: u64,
 ) -> Result<(), AllocError>
-    ensures ok { OnOk result ((s n : ℕ) → in_lists lists.new.items s n ≡ in_lists lists.old.items s n || ((submitter == s) && (serial == n))) }
-    ensures same { OnErr result ((s n : ℕ) → in_lists lists.new.items s n ≡ in_lists lists.old.items s n) }
+    ensures ok { OnOk result (HasOneMore lists.old.items (submitter, serial) lists.new.items) }
+    ensures same { OnErr result (HasTheSame lists.old.items lists.new.items) }
 {
     reach(lists, submitter)?;
     lists[submitter as usize].put(serial)
@@ -128,7 +129,7 @@ fn reach<A: Allocator + Clone>(
     lists: &mut Vec<Serials<A>, A>,
     submitter: u8,
 ) -> Result<(), AllocError>
-    ensures same { (s n : ℕ) → in_lists lists.new.items s n ≡ in_lists lists.old.items s n }
+    ensures same { HasTheSame lists.old.items lists.new.items }
     ensures ok { OnOk result (submitter < length lists.new.items) }
 {
     while lists.len() <= submitter as usize {

@@ -5,22 +5,22 @@ ghost use Rattle.std.specs.Bool.{OnTrue, OnFalse};
 ghost use Rattle.std.specs.Ordering.{nat_cmp};
 ghost use Rattle.std.specs.BTreeMap.{get};
 ghost use Rattle.blk_ids.specs.Given.{Gives};
-ghost use Rattle.blk_ids.specs.Scattered.{place_of, at_place, in_places, found_at};
+ghost use Rattle.blk_ids.specs.Scattered.{slot_of, at_slot, in_slots, found_at};
 
 use std::alloc::{AllocError, Allocator, Global};
 use std::collections::BTreeMap;
 
-/// How many places there are, once there is a number.
-const PLACES: usize = 1024;
+/// How many slots there are, once there is a number.
+pub const SLOTS: usize = 1024;
 
-/// A value under each of some numbers. Each number has a place, which holds one, and numbers that find theirs taken
+/// A value under each of some numbers. Each number has a slot, which holds one, and numbers that find theirs taken
 /// stand in an ordered map. So where some hundred numbers are there at a time, most are found at once, and where there are
-/// more, or they were chosen to share a place, by the map.
+/// more, or they were chosen to share a slot, by the map.
 #[derive(Drop)]
 pub struct Scattered<V, A: Allocator = Global> {
-    /// The places: none at first, and then all.
-    pub places: Vec<Option<(u64, V)>, A>,
-    /// The values of numbers that found their place taken.
+    /// The slots: none at first, and then all.
+    pub slots: Vec<Option<(u64, V)>, A>,
+    /// The values of numbers that found their slot taken.
     pub others: BTreeMap<u64, V, A>,
 }
 
@@ -30,7 +30,7 @@ impl<V: Copy + Drop, A: Allocator + Clone> Scattered<V, A> {
         ensures { IfOk result (λ m. (k : ℕ) → found_at m k ≡ None) }
     {
         Ok(Scattered {
-            places: Vec::new(alloc.clone()?),
+            slots: Vec::new(alloc.clone()?),
             others: BTreeMap::new(alloc),
         })
     }
@@ -40,7 +40,7 @@ impl<V: Copy + Drop, A: Allocator + Clone> Scattered<V, A> {
     pub fn get(&self, number: u64) -> Option<V>
         ensures { result ≡ found_at self.now number }
     {
-        match in_places(self.places.as_slice(), number) {
+        match in_slots(self.slots.as_slice(), number) {
             Some(value) => Some(value),
             None => self.others.get(&number).copied(),
         }
@@ -53,8 +53,8 @@ impl<V: Copy + Drop, A: Allocator + Clone> Scattered<V, A> {
         ensures ok { OnOk result (Gives (found_at self.old) number (Some value) (found_at self.new)) }
         ensures same { OnErr result ((k : ℕ) → found_at self.new k ≡ found_at self.old k) }
     {
-        make_places(&mut self.places)?;
-        if put_in_place(&mut self.places, number, value) {
+        make_slots(&mut self.slots)?;
+        if put_in_slot(&mut self.slots, number, value) {
             return Ok(());
         }
         match self.others.insert(number, value) {
@@ -68,7 +68,7 @@ impl<V: Copy + Drop, A: Allocator + Clone> Scattered<V, A> {
         requires { IsSome (found_at self.old number) }
         ensures { Gives (found_at self.old) number (Some value) (found_at self.new) }
     {
-        if set_in_place(&mut self.places, number, value) {
+        if set_in_slot(&mut self.slots, number, value) {
             return;
         }
         let Some(found) = self.others.get_mut(&number) else {
@@ -82,30 +82,30 @@ impl<V: Copy + Drop, A: Allocator + Clone> Scattered<V, A> {
     pub fn remove(&mut self, number: u64)
         ensures { Gives (found_at self.old) number None (found_at self.new) }
     {
-        clear_place(&mut self.places, number);
+        clear_slot(&mut self.slots, number);
         let _ = self.others.remove(&number);
     }
 }
 
-/// The place of a number: of what lies behind one another in steps of eight, and of that in steps of some thousands, each a
-/// place of its own.
+/// The slot of a number. Numbers that follow one another in steps of eight have slots of their own, and so have groups of
+/// them that are some thousands apart.
 #[inline(always)]
-#[tactic(auto, unfolding(crate::specs::Scattered::place_of))]
-fn place_of(number: u64) -> usize
-    ensures { result ≡ place_of number }
+#[tactic(auto, unfolding(crate::specs::Scattered::slot_of))]
+fn slot_of(number: u64) -> usize
+    ensures { result ≡ slot_of number }
 {
-    ((number / 8 + number / 4096 + number / 2097152) % 1024) as usize
+    ((number / 8 + number / 4096 + number / 2097152) % SLOTS as u64) as usize
 }
 
-/// What places have under a number.
+/// What slots have under a number.
 #[inline(always)]
-fn in_places<V: Copy + Drop>(places: &[Option<(u64, V)>], number: u64) -> Option<V>
-    ensures { result ≡ in_places places.now number }
+fn in_slots<V: Copy + Drop>(slots: &[Option<(u64, V)>], number: u64) -> Option<V>
+    ensures { result ≡ in_slots slots.now number }
 {
-    let Some(place) = places.get(place_of(number)) else {
+    let Some(slot) = slots.get(slot_of(number)) else {
         return None;
     };
-    let Some((named, value)) = *place else {
+    let Some((named, value)) = *slot else {
         return None;
     };
     if named != number {
@@ -114,74 +114,74 @@ fn in_places<V: Copy + Drop>(places: &[Option<(u64, V)>], number: u64) -> Option
     Some(value)
 }
 
-/// Makes the places, where there are none.
+/// Makes the slots, where there are none.
 #[inline(always)]
-fn make_places<V: Copy + Drop, A: Allocator + Clone>(
-    places: &mut Vec<Option<(u64, V)>, A>,
+fn make_slots<V: Copy + Drop, A: Allocator + Clone>(
+    slots: &mut Vec<Option<(u64, V)>, A>,
 ) -> Result<(), AllocError>
-    ensures { (k : ℕ) → in_places places.new.items k ≡ in_places places.old.items k }
+    ensures { (k : ℕ) → in_slots slots.new.items k ≡ in_slots slots.old.items k }
 {
-    if !places.is_empty() {
+    if !slots.is_empty() {
         return Ok(());
     }
-    places.resize(PLACES, None)
+    slots.resize(SLOTS, None)
 }
 
-/// Puts a value into the place of a number, where it is free, and says whether it was.
+/// Puts a value into the slot of a number, where it is free, and says whether it was.
 #[inline(always)]
-fn put_in_place<V: Copy + Drop, A: Allocator + Clone>(
-    places: &mut Vec<Option<(u64, V)>, A>,
+fn put_in_slot<V: Copy + Drop, A: Allocator + Clone>(
+    slots: &mut Vec<Option<(u64, V)>, A>,
     number: u64,
     value: V,
 ) -> bool
-    ensures put { OnTrue result (Gives (in_places places.old.items) number (Some value) (in_places places.new.items)) }
-    ensures same { OnFalse result (places.new.items ≡ places.old.items) }
+    ensures put { OnTrue result (Gives (in_slots slots.old.items) number (Some value) (in_slots slots.new.items)) }
+    ensures same { OnFalse result (slots.new.items ≡ slots.old.items) }
 {
-    let place = place_of(number);
-    if place >= places.len() {
+    let slot = slot_of(number);
+    if slot >= slots.len() {
         return false;
     }
-    if places[place].is_some() {
+    if slots[slot].is_some() {
         return false;
     }
-    places[place] = Some((number, value));
+    slots[slot] = Some((number, value));
     true
 }
 
-/// Puts another value into the place of a number, where that number has it, and says whether it has.
-fn set_in_place<V: Copy + Drop, A: Allocator + Clone>(
-    places: &mut Vec<Option<(u64, V)>, A>,
+/// Puts another value into the slot of a number, where that number has it, and says whether it has.
+fn set_in_slot<V: Copy + Drop, A: Allocator + Clone>(
+    slots: &mut Vec<Option<(u64, V)>, A>,
     number: u64,
     value: V,
 ) -> bool
-    ensures put { OnTrue result (Gives (in_places places.old.items) number (Some value) (in_places places.new.items)) }
-    ensures same { OnFalse result (places.new.items ≡ places.old.items) }
-    ensures none { OnFalse result (in_places places.old.items number ≡ None) }
+    ensures put { OnTrue result (Gives (in_slots slots.old.items) number (Some value) (in_slots slots.new.items)) }
+    ensures same { OnFalse result (slots.new.items ≡ slots.old.items) }
+    ensures none { OnFalse result (in_slots slots.old.items number ≡ None) }
 {
-    if in_places(places.as_slice(), number).is_none() {
+    if in_slots(slots.as_slice(), number).is_none() {
         return false;
     }
-    let place = place_of(number);
-    if place >= places.len() {
+    let slot = slot_of(number);
+    if slot >= slots.len() {
         return false;
     }
-    places[place] = Some((number, value));
+    slots[slot] = Some((number, value));
     true
 }
 
-/// Makes the place of a number free, where that number has it.
+/// Makes the slot of a number free, where that number has it.
 #[inline(always)]
-fn clear_place<V: Copy + Drop, A: Allocator + Clone>(
-    places: &mut Vec<Option<(u64, V)>, A>,
+fn clear_slot<V: Copy + Drop, A: Allocator + Clone>(
+    slots: &mut Vec<Option<(u64, V)>, A>,
     number: u64,
 )
-    ensures { Gives (in_places places.old.items) number None (in_places places.new.items) }
+    ensures { Gives (in_slots slots.old.items) number None (in_slots slots.new.items) }
 {
-    if in_places(places.as_slice(), number).is_none() {
+    if in_slots(slots.as_slice(), number).is_none() {
         return;
     }
-    let place = place_of(number);
-    if place < places.len() {
-        places[place] = None;
+    let slot = slot_of(number);
+    if slot < slots.len() {
+        slots[slot] = None;
     }
 }

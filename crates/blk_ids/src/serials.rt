@@ -8,7 +8,7 @@ use std::alloc::{AllocError, Allocator, Global};
 use std::collections::BTreeSet;
 
 /// No list of flags gets longer than this.
-const MOST_FLAGS: u64 = 1 << 40;
+const MAX_FLAGS: u64 = 1 << 40;
 
 /// A set of numbers: a flag for each of the first ones, and an ordered set for the others. The flags are at most sixteen times
 /// as many as the numbers that they mark, and some hundred, so a list of them is what numbers take that count up, in whatever order
@@ -79,19 +79,19 @@ impl<A: Allocator + Clone> Serials<A> {
         }
     }
 
-    /// Whether the number is low enough, for so many that are marked, that there may be flags up to it.
+    /// Whether there may be flags up to the number, by how many numbers are marked.
     fn may_have_flag(&self, serial: u64) -> bool {
         serial / 8 <= self.marked.saturating_add(8)
     }
 }
 
 /// Makes a list of flags longer, so that the number has one, with twice as many at least; a list that is long enough, or would
-/// be longer than [`MOST_FLAGS`], stays.
+/// be longer than [`MAX_FLAGS`], stays.
 fn lengthen<A: Allocator + Clone>(flags: &mut Vec<bool, A>, serial: u64) -> Result<(), AllocError>
     ensures { (n : ℕ) → slice_index_or flags.new.items n false ≡ slice_index_or flags.old.items n false }
 {
     let index = serial as usize;
-    if index < flags.len() || serial >= MOST_FLAGS {
+    if index < flags.len() || serial >= MAX_FLAGS {
         return Ok(());
     }
     flags.resize(2 * index + 64, false)

@@ -10,7 +10,7 @@ use Rattle.blk_bio.specs.Bios.{Bio}
 use Rattle.blk_bio.specs.Requests.{first_of, last_of}
 use Rattle.blk_bio.specs.declared.rule.TraceRule.TheVariants.{ReleasedTwice, Unknown, AlreadyIssued, NotIssued}
 use Rattle.blk_trace.specs.Happened.{Happened, Release, Join, Issue, Back}
-use Rattle.blk_trace.specs.Kinds.{issues, hands_back}
+use Rattle.blk_trace.specs.Kinds.{issues, requeues}
 use Rattle.blk_trace.specs.Setups.{Setup}
 use Rattle.blk_trace.specs.Events.{join_up, request_of, entered, bios_of, IsReleased, IsOpen, IsOpenBy}
 use Rattle.blk_trace.specs.Legal.{IsLegalTrace}
@@ -20,7 +20,7 @@ use Rattle.blk_trace.specs.Waits.{has_id}
 use Rattle.blk_trace.specs.Laws.{IsAccounted}
 use Rattle.blk_trace.proofs.Pushing.{entered_more}
 use Rattle.blk_trace.proofs.More.{issued_more, released_more}
-use Rattle.blk_trace.proofs.Returning.{IsReturned, returned, IsOut, returned_ids, open_by}
+use Rattle.blk_trace.proofs.Returning.{IsReturned, returned, IsOut, requeued_ids, open_by}
 use Rattle.blk_trace.proofs.Returns.{open_issued}
 use Rattle.blk_trace.proofs.Ids.{by_legal, all_back, released_has, has_issued, not_released, not_issued, has_issued_more, released_first}
 use Rattle.blk_trace.proofs.Entering.{HasNothing, IsEntered, nothing_before, same_entered, entered_released, entered_joined, stays_out, has_issued_same}
@@ -184,7 +184,7 @@ unfolding waiting
 waiting_same es fs h i = rw (h, i) refl
 
 -- an event that enters nothing and releases and issues no id
-quiet : (setup : Setup) (es : List Happened) (e : Happened) → released_ids (e ∷ []) ≡ [] → issues e ≡ None → hands_back e ≡ None → bios_of e ≡ [] → ((x : ℕ) → request_of (es ++ e ∷ []) x ≡ request_of es x) → IsPermutation (all_of es) (entered es) → IsPermutation (all_of (es ++ e ∷ [])) (entered (es ++ e ∷ []))
+quiet : (setup : Setup) (es : List Happened) (e : Happened) → released_ids (e ∷ []) ≡ [] → issues e ≡ None → requeues e ≡ None → bios_of e ≡ [] → ((x : ℕ) → request_of (es ++ e ∷ []) x ≡ request_of es x) → IsPermutation (all_of es) (entered es) → IsPermutation (all_of (es ++ e ∷ [])) (entered (es ++ e ∷ []))
 quiet setup es e a b n c r ih =
     let fs : List Happened = es ++ e ∷ [] in
     let released : released_ids fs ≡ released_ids es = released_more es (e ∷ []) ∙ ap (λ l. released_ids es ++ l) a ∙ append-nil _ in
@@ -290,15 +290,15 @@ moved f i xs ys ws vs h =
     (trans _ (flat_map f xs ++ (flat_map f ys ++ (f i ++ flat_map f ws))) _ (same _ _ (append_assoc (flat_map f xs) (flat_map f ys) (f i ++ flat_map f ws)))
     (trans _ (flat_map f xs ++ ((f i ++ flat_map f ys) ++ flat_map f ws)) _ (IsPermutation-append_right (flat_map f xs) (flat_map f ys ++ (f i ++ flat_map f ws)) ((f i ++ flat_map f ys) ++ flat_map f ws) swap) (same _ _ (sym (append_assoc (flat_map f xs) (f i ++ flat_map f ys) (flat_map f ws)))))))
 
-on_returned : (setup : Setup) (es : List Happened) (t : ℕ) → IsLegalTrace setup es → IsUnbroken setup es (Back t) → IsPermutation (all_of es) (entered es) → IsPermutation (all_of (es ++ Back t ∷ [])) (entered (es ++ Back t ∷ []))
+on_requeued : (setup : Setup) (es : List Happened) (t : ℕ) → IsLegalTrace setup es → IsUnbroken setup es (Back t) → IsPermutation (all_of es) (entered es) → IsPermutation (all_of (es ++ Back t ∷ [])) (entered (es ++ Back t ∷ []))
 unfolding waiting released_ids
-on_returned setup es t old all ih =
+on_requeued setup es t old all ih =
     let e : Happened = Back t in
     let fs : List Happened = es ++ e ∷ [] in
     let o : IsOpen es t = all NotIssued in
     let by : IsOpenBy es t o.id = open_by es t o in
     let back : IsReturned es fs o.id = returned setup es t o.id old by in
-    let out : IsOut (issued_ids es) (issued_ids fs) o.id = returned_ids setup es t o.id old by in
+    let out : IsOut (issued_ids es) (issued_ids fs) o.id = requeued_ids setup es t o.id old by in
     let f : ℕ → List Bio = request_of fs in
     let g : ℕ → List Bio = request_of es in
     let p : ℕ → Bool = λ id. not (has_id (issued_ids fs) id) in
@@ -325,7 +325,7 @@ unfolding released_ids issued_ids
 account_step setup es (Release i q) old all ih = on_released setup es i q old all ih
 account_step setup es (Join i q) old all ih = on_joined setup es i q old all ih
 account_step setup es (Issue i t) old all ih = on_issued setup es i t old all ih
-account_step setup es (Back t) old all ih = on_returned setup es t old all ih
+account_step setup es (Back t) old all ih = on_requeued setup es t old all ih
 account_step setup es e old all ih = quiet setup es e refl refl refl refl (λ x. (same_entered setup es e x refl).request) ih
 
 accounts : (setup : Setup) (es : List Happened) → IsLegalTrace setup es → IsPermutation (all_of es) (entered es)

@@ -2,7 +2,7 @@
 use Rattle.std.proofs.Common.{◌≡◌, ◌≤◌, ◌<◌, ◌+◌, ◌++◌, ℕ, List, [], ◌∷◌, length, refl, sym, ◌∙◌, ap, subst, arith, cond, nat_le, inl, inr, false, Some, None}
 use Rattle.std.specs.Prelude.{Option}
 use Rattle.std.proofs.lemmas.Bool.{cond-true, le-leb, cases_lt}
-use Rattle.edd_check.specs.Capacity.{depth_at}
+use Rattle.edd_commands.specs.Capacity.{depth_at}
 use Rattle.blk_bio.specs.declared.rule.TraceRule.TheVariants.{DepthRange}
 use Rattle.blk_trace.specs.Happened.{Happened, Tick, Issue, Depth}
 use Rattle.blk_trace.specs.Kinds.{sets_depth, is_tick}

@@ -3,11 +3,11 @@ use Rattle.std.proofs.Common.{◌≡◌, ◌≢◌, ◌≤◌, ◌<◌, ◌+◌,
 use Rattle.std.specs.Prelude.{⊤, is_some, option_map}
 use Rattle.std.specs.List.{filter_map, cons_option, list_any}
 use Rattle.std.proofs.lemmas.Bool.{cases_Bool, eqb-false}
-use Rattle.edd_check.specs.declared.steps.Step.{Step}
-use Rattle.edd_check.specs.declared.steps.CapacityFault.{CapacityFault}
-use Rattle.edd_check.specs.declared.steps.CapacityFault.TheVariants.{Start, Rising, Depth, Round}
-use Rattle.edd_check.specs.Limits.{most_depth, round_limit}
-use Rattle.edd_check.specs.Capacity.{depth_after, depth_at, fixed, IsStepAt, IsCapacity, IsFault}
+use Rattle.edd_commands.specs.declared.steps.Step.{Step}
+use Rattle.edd_commands.specs.declared.steps.CapacityFault.{CapacityFault}
+use Rattle.edd_commands.specs.declared.steps.CapacityFault.TheVariants.{Start, Rising, Depth, Round}
+use Rattle.edd_commands.specs.Limits.{most_depth, round_limit}
+use Rattle.edd_commands.specs.Capacity.{depth_after, depth_at, fixed, IsStepAt, IsCapacity, IsFault}
 use Rattle.blk_trace.specs.Happened.{Happened, Tick, Depth as DepthSet}
 use Rattle.blk_trace.specs.Kinds.{sets_depth, is_tick}
 use Rattle.blk_trace.specs.Setups.{Setup, IsSetup}

@@ -5,7 +5,7 @@ use Rattle.std.proofs.lemmas.List.{map-append}
 use Rattle.std.proofs.lemmas.Bool.{or_left, or_right}
 use Rattle.blk_bio.specs.Bios.{Bio}
 use Rattle.blk_trace.specs.Happened.{Happened, Tick, Release, Join, Issue, Done}
-use Rattle.blk_trace.specs.Kinds.{issues, hands_back}
+use Rattle.blk_trace.specs.Kinds.{issues, requeues}
 use Rattle.blk_trace.specs.Setups.{Setup}
 use Rattle.blk_trace.specs.Legal.{IsLegalTrace}
 use Rattle.blk_trace.specs.Events.{round_of}
@@ -32,7 +32,7 @@ same_command setup es fs id same =
     cc
 
 -- those before, and the one that the event issues
-pub commands_more : (setup : Setup) (es : List Happened) (e : Happened) → IsLegalTrace setup (es ++ e ∷ []) → hands_back e ≡ None → commands_of setup (es ++ e ∷ []) ≡ commands_of setup es ++ map (command_of setup (es ++ e ∷ [])) (new_ids e)
+pub commands_more : (setup : Setup) (es : List Happened) (e : Happened) → IsLegalTrace setup (es ++ e ∷ []) → requeues e ≡ None → commands_of setup (es ++ e ∷ []) ≡ commands_of setup es ++ map (command_of setup (es ++ e ∷ [])) (new_ids e)
 unfolding commands_of
 commands_more setup es e legal n =
     let same : map (command_of setup (es ++ e ∷ [])) (issued_ids es) ≡ map (command_of setup es) (issued_ids es) =
@@ -40,7 +40,7 @@ commands_more setup es e legal n =
     ap (map (command_of setup (es ++ e ∷ []))) (issued_more es e n) ∙ map-append (command_of setup (es ++ e ∷ [])) (issued_ids es) (new_ids e) ∙ ap (λ l. l ++ map (command_of setup (es ++ e ∷ [])) (new_ids e)) same
 
 -- an event that issues nothing and hands nothing back leaves the commands
-pub commands_kept : (setup : Setup) (events : List Happened) (e : Happened) → IsLegalTrace setup (events ++ e ∷ []) → issues e ≡ None → hands_back e ≡ None → commands_of setup (events ++ e ∷ []) ≡ commands_of setup events
+pub commands_kept : (setup : Setup) (events : List Happened) (e : Happened) → IsLegalTrace setup (events ++ e ∷ []) → issues e ≡ None → requeues e ≡ None → commands_of setup (events ++ e ∷ []) ≡ commands_of setup events
 unfolding issued_ids
 commands_kept setup events e legal none n =
     commands_more setup events e legal n
@@ -70,7 +70,7 @@ pub commands-finished : (setup : Setup) (events : List Happened) (tag : ℕ) →
 commands-finished setup events tag legal = commands_kept setup events (Done tag) legal refl refl
 
 -- the rounds
-pub rounds_kept : (events : List Happened) (e : Happened) → issues e ≡ None → hands_back e ≡ None → rounds_of (events ++ e ∷ []) ≡ rounds_of events
+pub rounds_kept : (events : List Happened) (e : Happened) → issues e ≡ None → requeues e ≡ None → rounds_of (events ++ e ∷ []) ≡ rounds_of events
 rounds_kept events e none n = rounds_more events e n ∙ ap (λ o. rounds_of events ++ cons_option (option_map (λ _. round_of events) o) []) none ∙ append-nil _
 
 pub rounds-issued : (events : List Happened) (id tag : ℕ) → rounds_of (events ++ Issue id tag ∷ []) ≡ rounds_of events ++ round_of events ∷ []

@@ -7,7 +7,7 @@ use Rattle.std.proofs.lemmas.Bool.{cases_Bool, or_right, or_left, cond_both}
 use Rattle.blk_bio.specs.Bios.{Bio}
 use Rattle.blk_bio.specs.declared.rule.TraceRule.TheVariants.{ReleasedTwice, Unknown, AlreadyIssued}
 use Rattle.blk_trace.specs.Happened.{Happened, Tick, Release, Join, Issue, Done}
-use Rattle.blk_trace.specs.Kinds.{releases, issues, hands_back}
+use Rattle.blk_trace.specs.Kinds.{releases, issues, requeues}
 use Rattle.blk_trace.specs.Setups.{Setup}
 use Rattle.blk_trace.specs.Events.{IsReleased}
 use Rattle.blk_trace.specs.Legal.{IsLegalTrace}
@@ -121,7 +121,7 @@ unfolding waiting_ids
 same_waiting es fs h i = rw (h, i) refl
 
 -- an event that releases and issues nothing, and hands nothing back
-pub count_kept : (events : List Happened) (e : Happened) → releases e ≡ None → issues e ≡ None → hands_back e ≡ None → waiting_count (events ++ e ∷ []) ≡ waiting_count events
+pub count_kept : (events : List Happened) (e : Happened) → releases e ≡ None → issues e ≡ None → requeues e ≡ None → waiting_count (events ++ e ∷ []) ≡ waiting_count events
 unfolding released_ids issued_ids
 count_kept events e r i n =
     same_waiting events _

@@ -9,7 +9,7 @@ use Rattle.blk_bio.specs.Bios.{Bio}
 use Rattle.blk_bio.specs.Requests.{dir_of, first_of, last_of}
 use Rattle.blk_bio.specs.declared.rule.TraceRule.TheVariants.{ReleasedTwice, Unknown, AlreadyIssued, Fit}
 use Rattle.blk_trace.specs.Happened.{Happened, Release, Join}
-use Rattle.blk_trace.specs.Kinds.{enters, hands_back, enters_under}
+use Rattle.blk_trace.specs.Kinds.{enters, requeues, enters_under}
 use Rattle.blk_trace.specs.Setups.{Setup, expire_of}
 use Rattle.blk_trace.specs.Events.{round_of, join_up, request_of, IsReleased, IsIssued}
 use Rattle.blk_trace.specs.Legal.{IsLegalTrace}
@@ -173,7 +173,7 @@ or_no false y h = h
 pub has_released_same : (es : List Happened) (e : Happened) (id : ℕ) → has_id (released_ids (e ∷ [])) id ≡ false → has_id (released_ids (es ++ e ∷ [])) id ≡ has_id (released_ids es) id
 has_released_same es e id h = has_released_more es e id ∙ or_no _ _ h
 
-pub has_issued_same : (es : List Happened) (e : Happened) (id : ℕ) → hands_back e ≡ None → has_id (new_ids e) id ≡ false → has_id (issued_ids (es ++ e ∷ [])) id ≡ has_id (issued_ids es) id
+pub has_issued_same : (es : List Happened) (e : Happened) (id : ℕ) → requeues e ≡ None → has_id (new_ids e) id ≡ false → has_id (issued_ids (es ++ e ∷ [])) id ≡ has_id (issued_ids es) id
 has_issued_same es e id n h = has_issued_more es e id n ∙ or_no _ _ h
 
 -- a Release of an id that was not released

@@ -7,9 +7,9 @@ use Rattle.std.proofs.lemmas.List.Folds.{list_any-append}
 use Rattle.std.proofs.lemmas.Bool.{cases_Bool, false_from_ne_true, or_cases, or_left, or_right}
 use Rattle.blk_bio.specs.Bios.{Bio}
 use Rattle.blk_trace.specs.Happened.{Happened, Release, Join, Issue}
-use Rattle.blk_trace.specs.Kinds.{releases, issues, hands_back, is_tick}
+use Rattle.blk_trace.specs.Kinds.{releases, issues, requeues, is_tick}
 use Rattle.blk_trace.specs.Setups.{Setup}
-use Rattle.blk_trace.specs.Events.{At, goes_back, IsReleased, IsIssued, AreHandedBack}
+use Rattle.blk_trace.specs.Events.{At, goes_back, IsReleased, IsIssued, AreRequeued}
 use Rattle.blk_trace.specs.Legal.{IsLegalTrace}
 use Rattle.blk_trace.specs.Rules.{IsUnbroken}
 use Rattle.blk_trace.specs.Meaning.{service, served, issued_ids, released_ids}
@@ -150,10 +150,10 @@ pub has_issued : (es : List Happened) (id : ℕ) → has_id (issued_ids es) id �
 has_issued es id h = let p = has_served es id h in (p.place, (p.tag, p.issued))
 
 -- an id whose Issues were all handed back
-pub all_back : (es : List Happened) (id : ℕ) → AreHandedBack es id → has_id (issued_ids es) id ≡ false
+pub all_back : (es : List Happened) (id : ℕ) → AreRequeued es id → has_id (issued_ids es) id ≡ false
 all_back es id back = false_from_ne_true _ (λ t. let p = has_served es id t in let b : goes_back p.tag (drop (suc p.place) es) ≡ true = back p.place p.tag p.issued in let n = p.stays in absurd (cc))
 
-pub back_all : (es : List Happened) (id : ℕ) → has_id (issued_ids es) id ≡ false → AreHandedBack es id
+pub back_all : (es : List Happened) (id : ℕ) → has_id (issued_ids es) id ≡ false → AreRequeued es id
 back_all es id h k tag at =
     elim (cases_Bool (goes_back tag (drop (suc k) es))) [
       | inl b ↦ b
@@ -200,7 +200,7 @@ not_issued es id h = false_from_ne_true _ (λ t. h (has_issued es id t))
 pub has_released_more : (es : List Happened) (e : Happened) (id : ℕ) → has_id (released_ids (es ++ e ∷ [])) id ≡ (has_id (released_ids es) id || has_id (released_ids (e ∷ [])) id)
 has_released_more es e id = ap (λ l. has_id l id) (released_more es (e ∷ [])) ∙ list_any-append (λ i. i == id) (released_ids es) (released_ids (e ∷ []))
 
-pub has_issued_more : (es : List Happened) (e : Happened) (id : ℕ) → hands_back e ≡ None → has_id (issued_ids (es ++ e ∷ [])) id ≡ (has_id (issued_ids es) id || has_id (new_ids e) id)
+pub has_issued_more : (es : List Happened) (e : Happened) (id : ℕ) → requeues e ≡ None → has_id (issued_ids (es ++ e ∷ [])) id ≡ (has_id (issued_ids es) id || has_id (new_ids e) id)
 has_issued_more es e id h = ap (λ l. has_id l id) (issued_more es e h) ∙ list_any-append (λ i. i == id) (issued_ids es) (new_ids e)
 
 -- an id that was issued was released

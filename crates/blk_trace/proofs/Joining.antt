@@ -9,7 +9,7 @@ use Rattle.blk_bio.specs.Requests.{IsRequest, IsWithin, dir_of, first_of, last_o
 use Rattle.blk_bio.specs.declared.extent.Extent.{Extent}
 use Rattle.blk_bio.specs.Extents.{extent_of, extent_joined}
 use Rattle.blk_bio.proofs.Tiles.{last-append, joins, range_of}
-use Rattle.blk_trace.specs.declared.known.Waiting.{Waiting}
+use Rattle.blk_trace.specs.declared.known.Unissued.{Unissued}
 use Rattle.blk_trace.specs.Events.{join_up}
 use Rattle.blk_trace.specs.Waits.{Entered}
 use Rattle.blk_trace.specs.Inside.Kept.{summary}
@@ -68,13 +68,13 @@ few_together limits a n Back ra rn f = few_of limits (a ++ n) (length a + length
 few_together limits a n Front ra rn f = few_of limits (n ++ a) (length a + length n) (omega (arith, length-append n a)) (omega (arith, ra.not_empty, rn.not_empty)) f.within
 
 -- what is kept once another has joined
-pub joined_is : (limits : Limits) (old : Waiting) (w : Entered) (n : List Bio) (round : ℕ) (side : Side) (extent newcomer : Extent) → old ≡ summary w → IsRequest w.bios → IsRequest n → Fits limits w.bios n side
+pub joined_is : (limits : Limits) (old : Unissued) (w : Entered) (n : List Bio) (round : ℕ) (side : Side) (extent newcomer : Extent) → old ≡ summary w → IsRequest w.bios → IsRequest n → Fits limits w.bios n side
     → newcomer ≡ extent_of n → extent ≡ extent_joined old.extent newcomer side
-    → (let x : Waiting = record { extent = extent; release = round; due = old.due } in x) ≡ summary record { release = round; due = w.due; bios = join_up w.bios n }
+    → (let x : Unissued = record { extent = extent; release = round; due = old.due } in x) ≡ summary record { release = round; due = w.due; bios = join_up w.bios n }
 joined_is limits old w n round side extent newcomer is ra rn f hn he =
-    let e : extent ≡ extent_of (join_up w.bios n) = he ∙ ap (λ (x : Waiting). extent_joined x.extent newcomer side) is ∙ ap (λ (x : Extent). extent_joined (extent_of w.bios) x side) hn ∙ together_is limits w.bios n side ra rn f in
-    ap (λ (x : Extent). let y : Waiting = record { extent = x; release = round; due = old.due } in y) e
-    ∙ ap (λ (x : Waiting). let y : Waiting = record { extent = extent_of (join_up w.bios n); release = round; due = x.due } in y) is
+    let e : extent ≡ extent_of (join_up w.bios n) = he ∙ ap (λ (x : Unissued). extent_joined x.extent newcomer side) is ∙ ap (λ (x : Extent). extent_joined (extent_of w.bios) x side) hn ∙ together_is limits w.bios n side ra rn f in
+    ap (λ (x : Extent). let y : Unissued = record { extent = x; release = round; due = old.due } in y) e
+    ∙ ap (λ (x : Unissued). let y : Unissued = record { extent = extent_of (join_up w.bios n); release = round; due = x.due } in y) is
 
 pub fits_to : (l l' : Limits) (a b n : List Bio) → l ≡ l' → a ≡ b → (x : Side) × Fits l a n x → (x : Side) × Fits l' b n x
 fits_to l l' a b n hl ha f = (f.0, subst (λ (m : Limits). Fits m b n f.0) hl (subst (λ (c : List Bio). Fits l c n f.0) ha f.1))

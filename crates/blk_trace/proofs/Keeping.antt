@@ -4,12 +4,12 @@ use Rattle.std.specs.Prelude.{Option, Result, Ok, Err, replicate}
 use Rattle.std.specs.Result.{is_err, OnOk, OnErr}
 use Rattle.std.specs.List.{cons_option}
 use Rattle.std.proofs.lemmas.Bool.{cases_Bool}
-use Rattle.edd_check.specs.declared.Command.{Command}
+use Rattle.edd_commands.specs.declared.Command.{Command}
 use Rattle.blk_bio.specs.Bios.{Bio}
 use Rattle.blk_bio.specs.declared.bio.BioId.{BioId}
 use Rattle.blk_bio.specs.Requests.{IsRequest, Fits, dir_of}
 use Rattle.blk_bio.specs.declared.request.Side.{Side}
-use Rattle.blk_trace.specs.declared.known.Waiting.{Waiting}
+use Rattle.blk_trace.specs.declared.known.Unissued.{Unissued}
 use Rattle.blk_trace.specs.declared.known.Known.{Known}
 use Rattle.blk_trace.specs.declared.known.Known.TheVariants.{Waits, Gone, Handed}
 use Rattle.blk_trace.specs.declared.tags.TagUse.{TagUse}
@@ -37,7 +37,7 @@ use Rattle.std.proofs.lemmas.Option.{slice_get_within}
 use Rattle.std.specs.Prelude.{slice_get}
 use Rattle.std.proofs.Common.{get_or}
 use Rattle.blk_trace.specs.Meaning.{command_of}
-use Rattle.blk_trace.proofs.Knowing.{known_open, known_kept, known_released, known_joined, known_issued, known_returned}
+use Rattle.blk_trace.proofs.Knowing.{known_open, known_kept, known_released, known_joined, known_issued, known_requeued_id}
 use Rattle.blk_trace.proofs.TagUses.{tags_ticked, tags_kept, tags_issued, tags_ended, tags_empty, open_found}
 use Rattle.blk_trace.proofs.Joining.{join_request}
 use Rattle.blk_trace.proofs.Entering.{IsSame, same_entered, HasNothing, nothing_before, IsEntered, entered_released, entered_joined, has_released_same}
@@ -193,7 +193,7 @@ kept_back setup es zs tag id cs ds rs ss round opened known known' ids tags k al
       rounds_are = hs;
       round_is = omega (arith, k.round_is, round_more es (Back tag));
       open_is = omega (arith, k.open_is, open_end es (Back tag) tag refl);
-      known_are = λ q. hk q ∙ ap (λ x. cond (id == q) (Some (Handed (release_of es id) (due_of setup es id))) x) (k.known_are q) ∙ sym (known_returned setup es tag id k.legal by q);
+      known_are = λ q. hk q ∙ ap (λ x. cond (id == q) (Some (Handed (release_of es id) (due_of setup es id))) x) (k.known_are q) ∙ sym (known_requeued_id setup es tag id k.legal by q);
       requests_are = requests_kept setup es (Back tag) refl refl k.requests_are;
       ids_are = λ b. k.ids_are b ∙ sym (same_ids es (Back tag) b refl);
       tags_are = tags_ended es (Back tag) tags tag refl used.0 k.tags_are;
@@ -224,7 +224,7 @@ kept_issue setup es zs id tag w cs ds rs ss round opened known known' ids tags k
     } in
     subst P (sym hz) here
 
-pub kept_release : (setup : Setup) (es zs : List Happened) (id : ℕ) (bios : List Bio) (s : Waiting) (cs : List Command) (rs : List ℕ) (round opened : ℕ) (known known' : ℕ → Option Known) (ids ids' : BioId → Bool) (tags : List TagUse)
+pub kept_release : (setup : Setup) (es zs : List Happened) (id : ℕ) (bios : List Bio) (s : Unissued) (cs : List Command) (rs : List ℕ) (round opened : ℕ) (known known' : ℕ → Option Known) (ids ids' : BioId → Bool) (tags : List TagUse)
     → IsKeptTrace setup es cs rs round opened known ids tags → IsUnbroken setup es (Release id bios) → zs ≡ es ++ Release id bios ∷ [] → IsRequest bios
     → s ≡ summary record { release = round; due = round + expire_of setup (dir_of bios); bios = bios }
     → ((q : ℕ) → known' q ≡ cond (id == q) (Some (Waits s)) (known q)) → ((b : BioId) → ids' b ≡ (ids b || has_bio_id bios b))
@@ -248,7 +248,7 @@ kept_release setup es zs id bios s cs rs round opened known known' ids ids' tags
     } in
     subst P (sym hz) here
 
-pub kept_join : (setup : Setup) (es zs : List Happened) (id : ℕ) (bios : List Bio) (w : Entered) (s : Waiting) (cs : List Command) (rs : List ℕ) (round opened : ℕ) (known known' : ℕ → Option Known) (ids ids' : BioId → Bool) (tags : List TagUse)
+pub kept_join : (setup : Setup) (es zs : List Happened) (id : ℕ) (bios : List Bio) (w : Entered) (s : Unissued) (cs : List Command) (rs : List ℕ) (round opened : ℕ) (known known' : ℕ → Option Known) (ids ids' : BioId → Bool) (tags : List TagUse)
     → IsKeptTrace setup es cs rs round opened known ids tags → IsUnbroken setup es (Join id bios) → zs ≡ es ++ Join id bios ∷ [] → IsRequest bios
     → waits_at setup es id ≡ Some w → s ≡ summary record { release = round; due = w.due; bios = join_up w.bios bios }
     → ((q : ℕ) → known' q ≡ cond (id == q) (Some (Waits s)) (known q)) → ((b : BioId) → ids' b ≡ (ids b || has_bio_id bios b))

@@ -4,14 +4,14 @@ use Rattle.std.specs.Prelude.{◌⊎◌, Option, option_map, ◌&&◌, not, ◌|
 use Rattle.std.specs.List.{cons_option}
 use Rattle.blk_bio.specs.Bios.{Bio}
 use Rattle.blk_bio.specs.Requests.{dir_of}
-use Rattle.blk_trace.specs.declared.known.Waiting.{Waiting}
+use Rattle.blk_trace.specs.declared.known.Unissued.{Unissued}
 use Rattle.blk_trace.specs.declared.known.Known.{Known}
 use Rattle.blk_trace.specs.declared.known.Known.TheVariants.{Waits, Gone, Handed}
 use Rattle.blk_bio.specs.declared.rule.TraceRule.TheVariants.{ReleasedTwice, AlreadyIssued}
 use Rattle.blk_trace.specs.Happened.{Happened, Release, Join, Issue, Back}
-use Rattle.blk_trace.specs.Kinds.{releases, joins, issues, hands_back}
+use Rattle.blk_trace.specs.Kinds.{releases, joins, issues, requeues}
 use Rattle.blk_trace.specs.Setups.{Setup, expire_of}
-use Rattle.blk_trace.specs.Events.{round_of, join_up, request_of, IsReleased, IsIssued, AreHandedBack, IsOpenBy}
+use Rattle.blk_trace.specs.Events.{round_of, join_up, request_of, IsReleased, IsIssued, AreRequeued, IsOpenBy}
 use Rattle.blk_trace.specs.Legal.{IsLegalTrace}
 use Rattle.blk_trace.specs.Meaning.{issued_ids, released_ids, release_of, due_of}
 use Rattle.blk_trace.specs.Waits.{Entered, has_id, waits_at, was_issued}
@@ -19,8 +19,8 @@ use Rattle.blk_trace.specs.Inside.Kept.{summary, known_waiting, known_of, rounds
 use Rattle.blk_trace.proofs.More.{was_issued_more}
 use Rattle.blk_trace.proofs.Entering.{has_issued_same}
 use Rattle.blk_trace.proofs.Unissued.{was_kept}
-use Rattle.blk_trace.proofs.Returning.{IsOut, returned_ids}
-use Rattle.blk_trace.proofs.Returns.{entry_of, open_issued, waits_returned}
+use Rattle.blk_trace.proofs.Returning.{IsOut, requeued_ids}
+use Rattle.blk_trace.proofs.Returns.{entry_of, open_issued, waits_requeued}
 use Rattle.blk_trace.proofs.Ids.{released_has, has_released, has_issued, not_issued, all_back, back_all, issued_was, was_is, never_was, has_issued_more, released_first}
 use Rattle.blk_trace.proofs.Pushing.{shorter_legal, obeys}
 use Rattle.blk_trace.proofs.Waiting.{waits_for, waits_kept, waits-released, waits-joined, waits-issued}
@@ -37,7 +37,7 @@ known_by : (setup : Setup) (es : List Happened) (id : ℕ) (gone ever : Bool) (w
 known_by setup es id gone ever waits a b d = known_is setup es id ∙ ap (λ x. kept_from x (was_issued es id) (waits_at setup es id)) a ∙ ap (λ x. kept_from gone x (waits_at setup es id)) b ∙ ap (λ x. kept_from gone ever x) d
 
 -- an event by which nothing enters, and that issues nothing and hands nothing back
-pub known_kept : (setup : Setup) (es : List Happened) (e : Happened) → releases e ≡ None → joins e ≡ None → issues e ≡ None → hands_back e ≡ None → (q : ℕ) → known_of setup (es ++ e ∷ []) q ≡ known_of setup es q
+pub known_kept : (setup : Setup) (es : List Happened) (e : Happened) → releases e ≡ None → joins e ≡ None → issues e ≡ None → requeues e ≡ None → (q : ℕ) → known_of setup (es ++ e ∷ []) q ≡ known_of setup es q
 known_kept setup es e r j i n q =
     known_by setup _ q _ _ _ (has_issued_same es e q n (ap (λ o. has_id (cons_option (option_map (λ p. p.0) o) []) q) i)) (was_kept es e q i) (waits_kept setup es e r j i n q) ∙ sym (known_is setup es q)
 
@@ -85,12 +85,12 @@ comes_back : (b gone was ever : Bool) (x : Entered) (y : Option Entered) → (b 
 comes_back true gone was ever x y h e n = ap (λ g. kept_from g ever (Some x)) (h refl) ∙ ap (λ g. kept_from false g (Some x)) (e refl)
 comes_back false gone was ever x y h e n = ap (λ g. kept_from g ever y) (n refl)
 
-pub known_returned : (setup : Setup) (es : List Happened) (t id : ℕ) → IsLegalTrace setup es → IsOpenBy es t id → (q : ℕ)
+pub known_requeued_id : (setup : Setup) (es : List Happened) (t id : ℕ) → IsLegalTrace setup es → IsOpenBy es t id → (q : ℕ)
     → known_of setup (es ++ Back t ∷ []) q ≡ cond (id == q) (Some (Handed (release_of es id) (due_of setup es id))) (known_of setup es q)
-known_returned setup es t id legal o q =
+known_requeued_id setup es t id legal o q =
     let fs : List Happened = es ++ Back t ∷ [] in
-    let out : IsOut (issued_ids es) (issued_ids fs) id = returned_ids setup es t id legal o in
-    known_by setup fs q _ _ _ refl (was_kept es (Back t) q refl) (waits_returned setup es t id legal o q)
+    let out : IsOut (issued_ids es) (issued_ids fs) id = requeued_ids setup es t id legal o in
+    known_by setup fs q _ _ _ refl (was_kept es (Back t) q refl) (waits_requeued setup es t id legal o q)
     ∙ comes_back (id == q) (has_id (issued_ids fs) q) (has_id (issued_ids es) q) (was_issued es q) (entry_of setup es id) (waits_at setup es q)
     (λ b. subst (λ n. has_id (issued_ids fs) n ≡ false) (eqb-true id q b) out.gone)
     (λ b. issued_was es q (subst (IsIssued es) (eqb-true id q b) (open_issued es t id o)))
@@ -99,14 +99,14 @@ known_returned setup es t id legal o q =
 
 -- what is kept of the request of an open tag
 pub known_open : (setup : Setup) (es : List Happened) (t id : ℕ) → IsLegalTrace setup es → IsOpenBy es t id → known_of setup es id ≡ Some Gone
-known_open setup es t id legal o = known_by setup es id true _ _ (returned_ids setup es t id legal o).was refl refl
+known_open setup es t id legal o = known_by setup es id true _ _ (requeued_ids setup es t id legal o).was refl refl
 
 -- what is kept of an id that waits
 both_rounds : (b : Bool) (w : Entered) → rounds_in (known_waiting b w) ≡ Some (w.release, w.due)
 both_rounds true w = refl
 both_rounds false w = refl
 
-pub known_when : (setup : Setup) (es : List Happened) (id : ℕ) → IsReleased es id → AreHandedBack es id → (k : Known) × ((x : ℕ × ℕ) × (known_of setup es id ≡ Some k) × (rounds_in k ≡ Some x))
+pub known_when : (setup : Setup) (es : List Happened) (id : ℕ) → IsReleased es id → AreRequeued es id → (k : Known) × ((x : ℕ × ℕ) × (known_of setup es id ≡ Some k) × (rounds_in k ≡ Some x))
 known_when setup es id p n =
     let w : Entered = record { release = release_of es id; due = due_of setup es id; bios = request_of es id } in
     let free : has_id (issued_ids es) id ≡ false = all_back es id n in
@@ -159,7 +159,7 @@ gone_from false false (Some w) h = absurd (cc)
 pub known_gone : (setup : Setup) (es : List Happened) (id : ℕ) → known_of setup es id ≡ Some Gone → IsIssued es id
 known_gone setup es id h = has_issued es id (gone_from _ _ _ (sym (known_is setup es id) ∙ h))
 
-pub gone_out : (setup : Setup) (es : List Happened) (id : ℕ) → known_of setup es id ≡ Some Gone → AreHandedBack es id → ⊥
+pub gone_out : (setup : Setup) (es : List Happened) (id : ℕ) → known_of setup es id ≡ Some Gone → AreRequeued es id → ⊥
 gone_out setup es id h back = let t : has_id (issued_ids es) id ≡ true = gone_from _ _ _ (sym (known_is setup es id) ∙ h) in let f : has_id (issued_ids es) id ≡ false = all_back es id back in absurd (cc)
 
 -- whether it is gone
@@ -179,24 +179,24 @@ handed_from false true (Some w) r d h = (refl, refl, (w, refl))
 handed_from false false (Some w) r d h = absurd (cc)
 
 -- a request that was handed back
-pub record IsHanded (es : List Happened) (id : ℕ) : Type 0 where
+pub record IsRequeuedId (es : List Happened) (id : ℕ) : Type 0 where
   pub released : IsReleased es id
   pub issued : IsIssued es id
-  pub back : AreHandedBack es id
+  pub back : AreRequeued es id
 
-pub known_handed : (setup : Setup) (es : List Happened) (id r d : ℕ) → IsLegalTrace setup es → known_of setup es id ≡ Some (Handed r d) → IsHanded es id
-known_handed setup es id r d legal h =
+pub known_requeued : (setup : Setup) (es : List Happened) (id r d : ℕ) → IsLegalTrace setup es → known_of setup es id ≡ Some (Handed r d) → IsRequeuedId es id
+known_requeued setup es id r d legal h =
     let p = handed_from _ _ _ r d (sym (known_is setup es id) ∙ h) in
     let was : IsIssued es id = was_is es id p.1 in
     record { released = released_first setup es id legal was; issued = was; back = back_all es id p.0 }
 
-waits_from : (gone ever : Bool) (waits : Option Entered) (s : Waiting) → kept_from gone ever waits ≡ Some (Waits s) → (w : Entered) × (waits ≡ Some w) × (s ≡ summary w) × (ever ≡ false)
+waits_from : (gone ever : Bool) (waits : Option Entered) (s : Unissued) → kept_from gone ever waits ≡ Some (Waits s) → (w : Entered) × (waits ≡ Some w) × (s ≡ summary w) × (ever ≡ false)
 waits_from true ever waits s h = absurd (cc)
 waits_from false ever None s h = absurd (cc)
 waits_from false true (Some w) s h = absurd (cc)
 waits_from false false (Some w) s h = (w, refl, cc, refl)
 
-pub known_waits : (setup : Setup) (es : List Happened) (id : ℕ) (s : Waiting) → known_of setup es id ≡ Some (Waits s) → (w : Entered) × (waits_at setup es id ≡ Some w) × (s ≡ summary w) × (was_issued es id ≡ false)
+pub known_waits : (setup : Setup) (es : List Happened) (id : ℕ) (s : Unissued) → known_of setup es id ≡ Some (Waits s) → (w : Entered) × (waits_at setup es id ≡ Some w) × (s ≡ summary w) × (was_issued es id ≡ false)
 known_waits setup es id s h = waits_from _ _ _ s (sym (known_is setup es id) ∙ h)
 
 does_wait : (r gone : Bool) (x w : Entered) → cond (r && not gone) (Some x) None ≡ Some w → (r ≡ true) × (gone ≡ false) × (x ≡ w)

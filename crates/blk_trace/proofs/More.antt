@@ -8,7 +8,7 @@ use Rattle.std.proofs.lemmas.List.Folds.{list_any-append}
 use Rattle.std.proofs.lemmas.List.Elements.{filter_map-append}
 use Rattle.std.proofs.lemmas.List.Sums.{sum_by-cons, sum_by-append, fold-append, count_by-le-length}
 use Rattle.blk_trace.specs.Happened.{Happened}
-use Rattle.blk_trace.specs.Kinds.{releases, issues, hands_back, is_done_of, enters_under}
+use Rattle.blk_trace.specs.Kinds.{releases, issues, requeues, is_done_of, enters_under}
 use Rattle.blk_trace.specs.Setups.{Setup}
 use Rattle.blk_trace.specs.Events.{is_tick, round_of, goes_back, join_up, request_of}
 use Rattle.blk_trace.specs.Meaning.{timed, entry_round, entry_due, release_of, due_of, service, served, issued_ids, released_ids, rounds_of, greatest, least}
@@ -71,10 +71,10 @@ no_back : (b : Bool) (o : Option ℕ) → o ≡ None → cond b (is_some o) fals
 no_back true o h = ap is_some h
 no_back false o h = refl
 
-pub goes_back_more : (t : ℕ) (es : List Happened) (e : Happened) → hands_back e ≡ None → goes_back t (es ++ e ∷ []) ≡ goes_back t es
+pub goes_back_more : (t : ℕ) (es : List Happened) (e : Happened) → requeues e ≡ None → goes_back t (es ++ e ∷ []) ≡ goes_back t es
 unfolding goes_back
-goes_back_more t [] e h = no_back (is_done_of t e) (hands_back e) h
-goes_back_more t (x ∷ es) e h = ap (λ b. cond (is_done_of t x) (is_some (hands_back x)) b) (goes_back_more t es e h)
+goes_back_more t [] e h = no_back (is_done_of t e) (requeues e) h
+goes_back_more t (x ∷ es) e h = ap (λ b. cond (is_done_of t x) (is_some (requeues x)) b) (goes_back_more t es e h)
 
 -- the Issues that were not handed back
 prepend : {X : Type 0} (o : Option X) (xs ys : List X) → cons_option o (xs ++ ys) ≡ cons_option o xs ++ ys
@@ -96,7 +96,7 @@ last_issue r (Some p) = refl
 service_last : (r : ℕ) (e : Happened) → service r e [] ≡ option_map (λ p. (r, p.0)) (issues e)
 service_last r e = last_issue r (issues e)
 
-pub served_more : (r : ℕ) (es : List Happened) (e : Happened) → hands_back e ≡ None → served r (es ++ e ∷ []) ≡ served r es ++ cons_option (option_map (λ p. (r + round_of es, p.0)) (issues e)) []
+pub served_more : (r : ℕ) (es : List Happened) (e : Happened) → requeues e ≡ None → served r (es ++ e ∷ []) ≡ served r es ++ cons_option (option_map (λ p. (r + round_of es, p.0)) (issues e)) []
 unfolding served round_of
 served_more r [] e h = ap (λ o. cons_option o []) (service_last r e ∙ ap (λ (n : ℕ). option_map (λ p. (n, p.0)) (issues e)) (omega arith))
 served_more r (x ∷ es) e h =
@@ -105,7 +105,7 @@ served_more r (x ∷ es) e h =
     ∙ ap (cons_option (service r x es)) (served_more next es e h ∙ ap (λ (n : ℕ). served next es ++ cons_option (option_map (λ p. (n, p.0)) (issues e)) []) (sym (round_cons x es r)))
     ∙ prepend (service r x es) (served next es) (cons_option (option_map (λ p. (r + round_of (x ∷ es), p.0)) (issues e)) [])
 
-pub served_push : (es : List Happened) (e : Happened) → hands_back e ≡ None → served 0 (es ++ e ∷ []) ≡ served 0 es ++ cons_option (option_map (λ p. (round_of es, p.0)) (issues e)) []
+pub served_push : (es : List Happened) (e : Happened) → requeues e ≡ None → served 0 (es ++ e ∷ []) ≡ served 0 es ++ cons_option (option_map (λ p. (round_of es, p.0)) (issues e)) []
 served_push es e h = served_more 0 es e h ∙ ap (λ (n : ℕ). served 0 es ++ cons_option (option_map (λ p. (n, p.0)) (issues e)) []) (let z : 0 + round_of es ≡ round_of es = omega arith in z)
 
 -- the id that an event issues
@@ -120,14 +120,14 @@ new_round : (r : ℕ) (o : Option (ℕ × ℕ)) → map (λ (s : ℕ × ℕ). s.
 new_round r None = refl
 new_round r (Some p) = refl
 
-pub issued_more : (es : List Happened) (e : Happened) → hands_back e ≡ None → issued_ids (es ++ e ∷ []) ≡ issued_ids es ++ new_ids e
+pub issued_more : (es : List Happened) (e : Happened) → requeues e ≡ None → issued_ids (es ++ e ∷ []) ≡ issued_ids es ++ new_ids e
 unfolding issued_ids
 issued_more es e h =
     ap (map (λ (s : ℕ × ℕ). s.1)) (served_push es e h)
     ∙ map-append (λ (s : ℕ × ℕ). s.1) (served 0 es) (cons_option (option_map (λ p. (round_of es, p.0)) (issues e)) [])
     ∙ ap (λ l. map (λ (s : ℕ × ℕ). s.1) (served 0 es) ++ l) (new_id (round_of es) (issues e))
 
-pub rounds_more : (es : List Happened) (e : Happened) → hands_back e ≡ None → rounds_of (es ++ e ∷ []) ≡ rounds_of es ++ cons_option (option_map (λ _. round_of es) (issues e)) []
+pub rounds_more : (es : List Happened) (e : Happened) → requeues e ≡ None → rounds_of (es ++ e ∷ []) ≡ rounds_of es ++ cons_option (option_map (λ _. round_of es) (issues e)) []
 unfolding rounds_of
 rounds_more es e h =
     ap (map (λ (s : ℕ × ℕ). s.0)) (served_push es e h)

@@ -27,7 +27,7 @@ empty_legal setup = record {
   join_released = λ k id n h. absurd (cc);
   join_unissued = λ j k id tag n h l. absurd (cc);
   issue_released = λ k id tag h. absurd (cc);
-  issued_again = λ j k id t u h l less. absurd (cc);
+  reissued = λ j k id t u h l less. absurd (cc);
   tag_range = λ k id tag h. absurd (cc);
   tag_once = λ j k i l tag h m s. absurd (cc);
   done_open = λ k tag h. absurd (cc);
@@ -100,10 +100,10 @@ push_legal setup es e old all request =
             | inl a ↦ rw (before es (e ∷ []) k _ a) (old.issue_released k id tag a)
             | inr a ↦ rw (before_last es e k a.0) (told _ Unknown a.1)
           ];
-      issued_again = λ j k id t u h l less.
+      reissued = λ j k id t u h l less.
           elim (split es e j _ h) [
             | inl a ↦ elim (split es e k _ l) [
-              | inl b ↦ rw (before es (e ∷ []) k _ b) (old.issued_again j k id t u a b less)
+              | inl b ↦ rw (before es (e ∷ []) k _ b) (old.reissued j k id t u a b less)
               | inr b ↦ rw (before_last es e k b.0) (told _ AlreadyIssued b.1 j t a)
             ]
             | inr a ↦ elim (split es e k _ l) [
@@ -179,7 +179,7 @@ shorter_legal setup es e new =
       join_released = λ k id n h. rw (before es (e ∷ []) k _ h) at (new.join_released k id n (up k _ h));
       join_unissued = λ j k id tag n h l. new.join_unissued j k id tag n (up j _ h) (up k _ l);
       issue_released = λ k id tag h. rw (before es (e ∷ []) k _ h) at (new.issue_released k id tag (up k _ h));
-      issued_again = λ j k id t u h l less. rw (before es (e ∷ []) k _ l) at (new.issued_again j k id t u (up j _ h) (up k _ l) less);
+      reissued = λ j k id t u h l less. rw (before es (e ∷ []) k _ l) at (new.reissued j k id t u (up j _ h) (up k _ l) less);
       tag_range = λ k id tag h. was_below setup es e (round_at es k) tag (round_within k es) (rw (before es (e ∷ []) k _ h) at (new.tag_range k id tag (up k _ h)));
       tag_once = λ j k i l tag h m same. new.tag_once j k i l tag (up j _ h) (up k _ m) (ap round_of (before es (e ∷ []) j _ h) ∙ same ∙ ap round_of (sym (before es (e ∷ []) k _ m)));
       done_open = λ k tag h. rw (before es (e ∷ []) k _ h.1) at (new.done_open k tag (keep_end es (e ∷ []) k tag h));
@@ -201,7 +201,7 @@ obeys setup es (Issue id tag) new Unknown = rw (before_last es (Issue id tag) (l
 obeys setup es (Join id n) new AlreadyIssued =
     λ p. absurd (omega (arith, new.join_unissued (length es) p.0 id p.1.0 n (last es _) (keep es _ p.0 _ p.1.1), slice_get_within es p.0 _ p.1.1))
 obeys setup es (Issue id tag) new AlreadyIssued =
-    λ k t at. rw (before_last es (Issue id tag) (length es) refl) at (new.issued_again k (length es) id t tag (keep es _ k _ at) (last es _) (slice_get_within es k _ at))
+    λ k t at. rw (before_last es (Issue id tag) (length es) refl) at (new.reissued k (length es) id t tag (keep es _ k _ at) (last es _) (slice_get_within es k _ at))
 obeys setup es (Release id q) new BioTwice = rw (entered_more es (Release id q)) at new.bios_once
 obeys setup es (Join id n) new BioTwice = rw (entered_more es (Join id n)) at new.bios_once
 obeys setup es (Release id q) new Fit = new.release_within (length es) id q (last es _)

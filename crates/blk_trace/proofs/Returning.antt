@@ -9,7 +9,7 @@ use Rattle.std.proofs.lemmas.List.Folds.{list_any-append}
 use Rattle.std.proofs.lemmas.Bool.{cases_Bool, or_left, or_right, or_cases, or_parts, false_from_ne_true}
 use Rattle.blk_bio.specs.declared.rule.TraceRule.TheVariants.{TagUsed, AlreadyIssued, NotIssued}
 use Rattle.blk_trace.specs.Happened.{Happened, Issue, Back}
-use Rattle.blk_trace.specs.Kinds.{issues, ends, hands_back, is_done_of, is_tick}
+use Rattle.blk_trace.specs.Kinds.{issues, ends, requeues, is_done_of, is_tick}
 use Rattle.blk_trace.specs.Setups.{Setup}
 use Rattle.blk_trace.specs.Events.{At, EndsAt, goes_back, IsOpen, IsUsed, IsOpenBy}
 use Rattle.blk_trace.specs.Legal.{IsLegalTrace}
@@ -82,14 +82,14 @@ first_end false e x g n u h = h
 back_more : (t s : ℕ) (es : List Happened) → goes_back s (es ++ Back t ∷ []) ≡ cond (ended_in s es) (goes_back s es) (t == s)
 unfolding goes_back
 back_more t s [] = if_true (t == s)
-back_more t s (x ∷ es) = first_end (is_done_of s x) (ended_in s es) (is_some (hands_back x)) (goes_back s es) (goes_back s (es ++ Back t ∷ [])) (t == s) (back_more t s es)
+back_more t s (x ∷ es) = first_end (is_done_of s x) (ended_in s es) (is_some (requeues x)) (goes_back s es) (goes_back s (es ++ Back t ∷ [])) (t == s) (back_more t s es)
 
 not_ended : (s : ℕ) (es : List Happened) → ended_in s es ≡ false → goes_back s es ≡ false
 unfolding goes_back
 not_ended s [] h = refl
 not_ended s (x ∷ es) h =
     let parts = or_parts (is_done_of s x) (ended_in s es) h in
-    ap (λ b. cond b (is_some (hands_back x)) (goes_back s es)) parts.0 ∙ not_ended s es parts.1
+    ap (λ b. cond b (is_some (requeues x)) (goes_back s es)) parts.0 ∙ not_ended s es parts.1
 
 same_back : (t s : ℕ) (es : List Happened) → ((t == s) ≡ true → ended_in s es ≡ true) → goes_back s (es ++ Back t ∷ []) ≡ goes_back s es
 same_back t s es h =
@@ -300,9 +300,9 @@ map_length : {X Y : Type 0} (f : X → Y) (xs : List X) → length (map f xs) �
 map_length f [] = refl
 map_length f (x ∷ xs) = ap suc (map_length f xs)
 
-returned_from : (es fs : List Happened) (id : ℕ) → IsTakenOut id (served 0 es) (served 0 fs) → IsReturned es fs id
+requeued_from : (es fs : List Happened) (id : ℕ) → IsTakenOut id (served 0 es) (served 0 fs) → IsReturned es fs id
 unfolding issued_ids rounds_of
-returned_from es fs id p =
+requeued_from es fs id p =
     record {
       ids_before = map (λ (s : ℕ × ℕ). s.1) p.before;
       ids_after = map (λ (s : ℕ × ℕ). s.1) p.after;
@@ -317,7 +317,7 @@ returned_from es fs id p =
     }
 
 pub returned : (setup : Setup) (es : List Happened) (t id : ℕ) → IsLegalTrace setup es → IsOpenBy es t id → IsReturned es (es ++ Back t ∷ []) id
-returned setup es t id legal o = returned_from es (es ++ Back t ∷ []) id (one_out 0 t id es (opens_is setup es t id legal o))
+returned setup es t id legal o = requeued_from es (es ++ Back t ∷ []) id (one_out 0 t id es (opens_is setup es t id legal o))
 
 -- an open tag's Issue
 pub open_by : (es : List Happened) (t : ℕ) (o : IsOpen es t) → IsOpenBy es t o.id
@@ -403,8 +403,8 @@ out_of xs ys id few =
       other = λ q b. has_append xs ys q ∙ ap (λ c. has_id xs q || (c || has_id ys q)) (sym b) ∙ sym (has_append xs (id ∷ ys) q);
     }
 
-pub returned_ids : (setup : Setup) (es : List Happened) (t id : ℕ) → IsLegalTrace setup es → IsOpenBy es t id → IsOut (issued_ids es) (issued_ids (es ++ Back t ∷ [])) id
-returned_ids setup es t id legal o =
+pub requeued_ids : (setup : Setup) (es : List Happened) (t id : ℕ) → IsLegalTrace setup es → IsOpenBy es t id → IsOut (issued_ids es) (issued_ids (es ++ Back t ∷ [])) id
+requeued_ids setup es t id legal o =
     let p : IsReturned es (es ++ Back t ∷ []) id = returned setup es t id legal o in
     let few : count_by (λ x. id == x) (p.ids_before ++ id ∷ p.ids_after) ≤ 1 = subst (λ l. count_by (λ x. id == x) l ≤ 1) p.ids_were (distinct setup es legal id) in
     let out : IsOut (p.ids_before ++ id ∷ p.ids_after) (p.ids_before ++ p.ids_after) id = out_of p.ids_before p.ids_after id few in

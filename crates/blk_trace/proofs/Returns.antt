@@ -4,7 +4,7 @@ use Rattle.std.specs.Prelude.{◌||◌, Option, slice_get, not, count_by}
 use Rattle.std.proofs.lemmas.List.{map-append}
 use Rattle.std.proofs.lemmas.Bool.{cases_Bool, cases_lt, or_parts}
 use Rattle.std.proofs.lemmas.Option.{slice_get_within}
-use Rattle.edd_check.specs.declared.Command.{Command}
+use Rattle.edd_commands.specs.declared.Command.{Command}
 use Rattle.blk_trace.specs.Happened.{Happened, Back}
 use Rattle.blk_trace.specs.Setups.{Setup}
 use Rattle.blk_trace.specs.Events.{request_of, IsReleased, IsIssued, IsOpenBy}
@@ -19,7 +19,7 @@ use Rattle.blk_trace.proofs.Unissued.{unissued_is, was_kept}
 use Rattle.blk_trace.proofs.Commands.{map_same, same_command}
 use Rattle.blk_trace.proofs.Counting.{count_once, released_one, waiting_is}
 use Rattle.blk_trace.proofs.Newness.{get_at}
-use Rattle.blk_trace.proofs.Returning.{IsReturned, returned, IsOut, returned_ids}
+use Rattle.blk_trace.proofs.Returning.{IsReturned, returned, IsOut, requeued_ids}
 
 -- what is known of the request under an id
 abbrev pub entry_of : Setup → List Happened → ℕ → Entered
@@ -29,11 +29,11 @@ entry_of setup es id = record { release = release_of es id; due = due_of setup e
 pub open_issued : (es : List Happened) (t id : ℕ) → IsOpenBy es t id → IsIssued es id
 open_issued es t id o = (o.place, (t, o.issued))
 
-pub waits_returned : (setup : Setup) (es : List Happened) (t id : ℕ) → IsLegalTrace setup es → IsOpenBy es t id → (q : ℕ) → waits_at setup (es ++ Back t ∷ []) q ≡ cond (id == q) (Some (entry_of setup es id)) (waits_at setup es q)
+pub waits_requeued : (setup : Setup) (es : List Happened) (t id : ℕ) → IsLegalTrace setup es → IsOpenBy es t id → (q : ℕ) → waits_at setup (es ++ Back t ∷ []) q ≡ cond (id == q) (Some (entry_of setup es id)) (waits_at setup es q)
 unfolding released_ids
-waits_returned setup es t id legal o q =
+waits_requeued setup es t id legal o q =
     let fs : List Happened = es ++ Back t ∷ [] in
-    let out : IsOut (issued_ids es) (issued_ids fs) id = returned_ids setup es t id legal o in
+    let out : IsOut (issued_ids es) (issued_ids fs) id = requeued_ids setup es t id legal o in
     elim (cases_Bool (id == q)) [
       | inl b ↦
           let same : id ≡ q = eqb-true id q b in
@@ -51,9 +51,9 @@ stays_off : (b was : Bool) (x : Entered) (y : Option Entered) → (b ≡ true �
 stays_off true was x y h = ap (λ w. cond w None (Some x)) (h refl) ∙ sym (ap (λ w. cond w None y) (h refl))
 stays_off false was x y h = refl
 
-pub unissued_returned : (setup : Setup) (es : List Happened) (t id : ℕ) → IsLegalTrace setup es → IsOpenBy es t id → (q : ℕ) → unissued_at setup (es ++ Back t ∷ []) q ≡ unissued_at setup es q
-unissued_returned setup es t id legal o q =
-    unissued_is setup (es ++ Back t ∷ []) q _ _ (was_kept es (Back t) q refl) (waits_returned setup es t id legal o q)
+pub unissued_requeued : (setup : Setup) (es : List Happened) (t id : ℕ) → IsLegalTrace setup es → IsOpenBy es t id → (q : ℕ) → unissued_at setup (es ++ Back t ∷ []) q ≡ unissued_at setup es q
+unissued_requeued setup es t id legal o q =
+    unissued_is setup (es ++ Back t ∷ []) q _ _ (was_kept es (Back t) q refl) (waits_requeued setup es t id legal o q)
     ∙ stays_off (id == q) (was_issued es q) (entry_of setup es id) (waits_at setup es q) (λ b. issued_was es q (subst (IsIssued es) (eqb-true id q b) (open_issued es t id o)))
     ∙ sym (unissued_is setup es q _ _ refl refl)
 
@@ -119,7 +119,7 @@ pub dropped : (setup : Setup) (es : List Happened) (t id k : ℕ) (cs : List Com
 dropped setup es t id k cs rs c legal o hc hr at is =
     let fs : List Happened = es ++ Back t ∷ [] in
     let p : IsReturned es fs id = returned setup es t id legal o in
-    let out : IsOut (issued_ids es) (issued_ids fs) id = returned_ids setup es t id legal o in
+    let out : IsOut (issued_ids es) (issued_ids fs) id = requeued_ids setup es t id legal o in
     let gone : has_id (p.ids_before ++ p.ids_after) id ≡ false = subst (λ l. has_id l id ≡ false) p.ids_are out.gone in
     let parts = apart p.ids_before p.ids_after gone in
     let were : cs ≡ map (command_of setup es) p.ids_before ++ command_of setup es id ∷ map (command_of setup es) p.ids_after = hc ∙ commands_were setup es fs id p in
@@ -152,11 +152,11 @@ there_is setup es t id legal o =
     (length (map (command_of setup es) p.ids_before), (command_of setup es id, ap (λ l. slice_get l (length (map (command_of setup es) p.ids_before))) (commands_were setup es fs id p) ∙ stands_there (map (command_of setup es) p.ids_before) (command_of setup es id) (map (command_of setup es) p.ids_after), refl))
 
 -- how many wait
-pub count_returned : (setup : Setup) (es : List Happened) (t id : ℕ) → IsLegalTrace setup es → IsOpenBy es t id → waiting_count (es ++ Back t ∷ []) ≡ waiting_count es + 1
+pub count_requeued : (setup : Setup) (es : List Happened) (t id : ℕ) → IsLegalTrace setup es → IsOpenBy es t id → waiting_count (es ++ Back t ∷ []) ≡ waiting_count es + 1
 unfolding released_ids
-count_returned setup es t id legal o =
+count_requeued setup es t id legal o =
     let fs : List Happened = es ++ Back t ∷ [] in
-    let out : IsOut (issued_ids es) (issued_ids fs) id = returned_ids setup es t id legal o in
+    let out : IsOut (issued_ids es) (issued_ids fs) id = requeued_ids setup es t id legal o in
     let here : IsReleased es id = released_first setup es id legal (open_issued es t id o) in
     let released : released_ids fs ≡ released_ids es = released_more es (Back t ∷ []) ∙ append-nil _ in
     let once : count_by (λ x. id == x) (released_ids es) ≡ 1 = released_one setup es id legal (released_has es here.0 id here.1.0 here.1.1) in

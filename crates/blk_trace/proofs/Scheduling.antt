@@ -3,8 +3,8 @@ use Rattle.std.proofs.Common.{◌≡◌, ◌<◌, ◌≤◌, ◌+◌, ◌++◌, 
 use Rattle.std.specs.Prelude.{Option, count_by}
 use Rattle.std.proofs.lemmas.List.{get_or_append_left, get_or_push, length_push}
 use Rattle.std.proofs.lemmas.Bool.{cases_lt, cases_eq, lt-ltb, le-ltb}
-use Rattle.edd_check.specs.declared.Command.{Command}
-use Rattle.edd_check.specs.Schedule.{StartsReleased, places_at}
+use Rattle.edd_commands.specs.declared.Command.{Command}
+use Rattle.edd_commands.specs.Schedule.{StartsReleased, places_at}
 use Rattle.blk_bio.specs.declared.rule.TraceRule.TheVariants.{Unknown, AlreadyIssued, NotIssued}
 use Rattle.blk_trace.specs.Happened.{Happened, Tick, Issue, Back}
 use Rattle.blk_trace.specs.Setups.{Setup}
@@ -215,8 +215,8 @@ unfolding places_at
 fewer_places [] ss r x = omega (arith, count-cons (λ y. y == x) r ss)
 fewer_places (q ∷ rs) ss r x = omega (arith, count-cons (λ y. y == x) q (rs ++ ss), count-cons (λ y. y == x) q (rs ++ r ∷ ss), fewer_places rs ss r x)
 
-fills_returned : (setup : Setup) (es : List Happened) (t : ℕ) → IsLegalTrace setup (es ++ Back t ∷ []) → FillsWell setup es → FillsWell setup (es ++ Back t ∷ [])
-fills_returned setup es t new old =
+fills_requeued : (setup : Setup) (es : List Happened) (t : ℕ) → IsLegalTrace setup (es ++ Back t ∷ []) → FillsWell setup es → FillsWell setup (es ++ Back t ∷ [])
+fills_requeued setup es t new old =
     let fs : List Happened = es ++ Back t ∷ [] in
     let legal = shorter_legal setup es (Back t) new in
     let o : IsOpen es t = obeys setup es (Back t) new NotIssued in
@@ -240,7 +240,7 @@ fills_step setup es Tick new old =
       within = λ x. rw (rounds_kept es Tick refl refl) (within_still setup es Tick old x);
     }
 fills_step setup es (Issue i t) new old = fills_issued setup es i t new old
-fills_step setup es (Back t) new old = fills_returned setup es t new old
+fills_step setup es (Back t) new old = fills_requeued setup es t new old
 fills_step setup es e new old = fills_kept setup es e (rounds_kept es e refl refl) (round_kept es e refl) (tags_kept es e refl refl) old
 
 fills : (setup : Setup) (es : List Happened) → IsLegalTrace setup es → FillsWell setup es

@@ -7,7 +7,7 @@ use Rattle.blk_bio.specs.Bios.{Bio}
 use Rattle.blk_bio.specs.Requests.{dir_of}
 use Rattle.blk_bio.specs.declared.rule.TraceRule.TheVariants.{ReleasedTwice, AlreadyIssued}
 use Rattle.blk_trace.specs.Happened.{Happened, Tick, Release, Join, Issue, Done, Back}
-use Rattle.blk_trace.specs.Kinds.{releases, joins, issues, hands_back, is_done_of}
+use Rattle.blk_trace.specs.Kinds.{releases, joins, issues, requeues, is_done_of}
 use Rattle.blk_trace.specs.Setups.{Setup, expire_of}
 use Rattle.blk_trace.specs.Events.{At, round_of, goes_back, join_up}
 use Rattle.blk_trace.specs.Legal.{IsLegalTrace}
@@ -39,7 +39,7 @@ was_same es e id h = was_issued_more es e id ∙ or_no _ _ h
 pub was_kept : (es : List Happened) (e : Happened) (id : ℕ) → issues e ≡ None → was_issued (es ++ e ∷ []) id ≡ was_issued es id
 was_kept es e id h = was_same es e id (ap (λ o. option_map_or (λ p. p.0 == id) o false) h)
 
-pub unissued_kept : (setup : Setup) (events : List Happened) (e : Happened) → releases e ≡ None → joins e ≡ None → issues e ≡ None → hands_back e ≡ None → (q : ℕ) → unissued_at setup (events ++ e ∷ []) q ≡ unissued_at setup events q
+pub unissued_kept : (setup : Setup) (events : List Happened) (e : Happened) → releases e ≡ None → joins e ≡ None → issues e ≡ None → requeues e ≡ None → (q : ℕ) → unissued_at setup (events ++ e ∷ []) q ≡ unissued_at setup events q
 unissued_kept setup events e r j i n q =
     unissued_is setup (events ++ e ∷ []) q _ _ (was_kept events e q i) (waits_kept setup events e r j i n q) ∙ sym (unissued_is setup events q _ _ refl refl)
 
@@ -83,7 +83,7 @@ pub unissued-finished : (setup : Setup) (events : List Happened) (tag : ℕ) →
 unissued-finished setup events tag legal q = unissued_kept setup events (Done tag) refl refl refl refl q
 
 -- where nothing was handed back, what waits was never issued
-is_back : (x : Happened) (o : Option ℕ) → hands_back x ≡ o → is_some o ≡ true → (tag : ℕ) × (x ≡ Back tag)
+is_back : (x : Happened) (o : Option ℕ) → requeues x ≡ o → is_some o ≡ true → (tag : ℕ) × (x ≡ Back tag)
 is_back x None h s = absurd (cc)
 is_back (Back t) (Some u) h s = (t, refl)
 is_back x (Some u) h s = absurd (cc)
@@ -93,8 +93,8 @@ unfolding goes_back
 back_found t [] h = absurd (cc)
 back_found t (x ∷ es) h =
     elim (cases_Bool (is_done_of t x)) [
-      | inl b ↦ let p = is_back x (hands_back x) refl (sym (ap (λ c. cond c (is_some (hands_back x)) (goes_back t es)) b) ∙ h) in (0, p.0, ap Some p.1)
-      | inr b ↦ let p = back_found t es (sym (ap (λ c. cond c (is_some (hands_back x)) (goes_back t es)) b) ∙ h) in (suc p.0, p.1, p.2)
+      | inl b ↦ let p = is_back x (requeues x) refl (sym (ap (λ c. cond c (is_some (requeues x)) (goes_back t es)) b) ∙ h) in (0, p.0, ap Some p.1)
+      | inr b ↦ let p = back_found t es (sym (ap (λ c. cond c (is_some (requeues x)) (goes_back t es)) b) ∙ h) in (suc p.0, p.1, p.2)
     ]
 
 at_dropped : (n : ℕ) (es : List Happened) (k : ℕ) (e : Happened) → At (drop n es) k e → (j : ℕ) × At es j e

@@ -8,7 +8,7 @@ use Rattle.blk_bio.specs.Bios.{Bio}
 use Rattle.blk_bio.specs.Requests.{dir_of}
 use Rattle.blk_bio.specs.declared.rule.TraceRule.TheVariants.{ReleasedTwice, Fit}
 use Rattle.blk_trace.specs.Happened.{Happened, Tick, Release, Join, Issue, Done}
-use Rattle.blk_trace.specs.Kinds.{releases, joins, issues, hands_back}
+use Rattle.blk_trace.specs.Kinds.{releases, joins, issues, requeues}
 use Rattle.blk_trace.specs.Setups.{Setup, expire_of}
 use Rattle.blk_trace.specs.Events.{round_of, join_up, request_of, IsReleased}
 use Rattle.blk_trace.specs.Legal.{IsLegalTrace}
@@ -59,7 +59,7 @@ pub waits_for : (setup : Setup) (es : List Happened) (id : ℕ) → IsReleased e
 waits_for setup es id p n = waits_from setup es id (released_has es p.0 id p.1.0 p.1.1) n
 
 -- an event by which nothing enters, and that issues nothing and hands nothing back, leaves what waits
-pub waits_kept : (setup : Setup) (events : List Happened) (e : Happened) → releases e ≡ None → joins e ≡ None → issues e ≡ None → hands_back e ≡ None → (q : ℕ) → waits_at setup (events ++ e ∷ []) q ≡ waits_at setup events q
+pub waits_kept : (setup : Setup) (events : List Happened) (e : Happened) → releases e ≡ None → joins e ≡ None → issues e ≡ None → requeues e ≡ None → (q : ℕ) → waits_at setup (events ++ e ∷ []) q ≡ waits_at setup events q
 unfolding released_ids issued_ids
 waits_kept setup events e r j i n q =
     waits_same setup events _ q

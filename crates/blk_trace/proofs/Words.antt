@@ -4,7 +4,7 @@ use Rattle.std.specs.Prelude.{◌⊎◌, IfSome}
 use Rattle.std.specs.Option.{option_map_or, option_and_then}
 use Rattle.blk_bio.specs.Bios.{Bio}
 use Rattle.blk_trace.specs.Happened.{Happened, Tick, Release, Issue, Done, Back, Depth}
-use Rattle.blk_trace.specs.Kinds.{releases, joins, issues, ends, hands_back, sets_depth, is_tick}
+use Rattle.blk_trace.specs.Kinds.{releases, joins, issues, ends, requeues, sets_depth, is_tick}
 use Rattle.blk_trace.specs.Events.{EndsAt}
 use Rattle.blk_trace.specs.Kinds.{is_done_of}
 use Rattle.blk_trace.specs.Inside.Seats.{issued_by, issue_tag}
@@ -49,11 +49,11 @@ depth_is (Depth d) depth h = let same : d ≡ depth = cc in ap (λ n. Depth n) s
 depth_is e depth h = absurd (cc)
 
 -- what ends no Issue hands nothing back
-pub no_back : (e : Happened) → ends e ≡ None → hands_back e ≡ None
+pub no_back : (e : Happened) → ends e ≡ None → requeues e ≡ None
 no_back (Back t) h = absurd (cc)
 no_back e h = refl
 
-pub back_ends : (e : Happened) (tag : ℕ) → hands_back e ≡ Some tag → ends e ≡ Some tag
+pub back_ends : (e : Happened) (tag : ℕ) → requeues e ≡ Some tag → ends e ≡ Some tag
 back_ends (Back t) tag h = h
 back_ends e tag h = absurd (cc)
 

@@ -1,15 +1,15 @@
 -- How many commands each round of a trace carries.
-use Rattle.std.specs.Prelude.{ℕ, ◌+◌, ◌<◌, ◌≤◌, ◌==◌, Bool, false, cond, List, [], ◌∷◌, Option, option_map}
+use Rattle.std.specs.Prelude.{ℕ, ◌≡◌, ◌+◌, ◌<◌, ◌≤◌, ◌==◌, Bool, false, cond, List, [], ◌∷◌, Option, option_map}
 use Rattle.std.specs.List.{filter_map}
-use Rattle.edd_check.specs.declared.steps.Step.{Step}
-use Rattle.edd_check.specs.Capacity.{depth_at}
+use Rattle.edd_commands.specs.declared.steps.Step.{Step}
+use Rattle.edd_commands.specs.Capacity.{depth_at}
 use Rattle.blk_trace.specs.Happened.{Happened, Depth}
 use Rattle.blk_trace.specs.Kinds.{sets_depth}
 use Rattle.blk_trace.specs.Setups.{Setup}
 use Rattle.blk_trace.specs.Events.{At, round_of, round_at}
 use Rattle.blk_trace.specs.Meaning.{timed}
 
--- from the round after this one on, so many commands
+-- from the round after this one on, this depth
 abbrev pub step_after : ℕ → ℕ → Step
 step_after round depth = record { from = round + 1; depth = depth }
 
@@ -42,6 +42,10 @@ last_of_each (s ∷ steps) = cond (begins_at steps s.from) (last_of_each steps) 
 -- the steps by which the rounds' depths change
 unfoldable pub capacity_of : Setup → List Happened → List Step
 capacity_of setup events = last_of_each (changes_of setup events)
+
+-- each round has the depth of the last Depth in a round before it, or the setup's, under the trace's capacity
+abbrev pub CarriesEachDepth : Setup → List Happened → Type 0
+CarriesEachDepth setup events = (round : ℕ) → depth_at (capacity_of setup events) round ≡ depth_in setup events round
 
 -- at the place stands a Depth in a round before this one, and after it none
 pub record IsLastBefore (events : List Happened) (place depth round : ℕ) : Type 0 where

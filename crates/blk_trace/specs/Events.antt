@@ -5,7 +5,7 @@ use Rattle.blk_bio.specs.declared.bio.BioId.{BioId}
 use Rattle.blk_bio.specs.Bios.{Bio}
 use Rattle.blk_bio.specs.Requests.{IsRequest, first_of, last_of}
 use Rattle.blk_trace.specs.Happened.{Happened, Release, Issue}
-use Rattle.blk_trace.specs.Kinds.{ends, hands_back, is_done_of, is_issue, is_end, enters, enters_under}
+use Rattle.blk_trace.specs.Kinds.{ends, requeues, is_done_of, is_issue, is_end, enters, enters_under}
 pub use Rattle.blk_trace.specs.Kinds.{is_tick, bios_of}
 
 -- the event stands at the place
@@ -53,15 +53,15 @@ EndsAt events k tag = (e : Happened) × At events k e × (ends e ≡ Some tag)
 -- whether, of these events, the first that ends the tag's Issue hands its request back
 unfoldable pub goes_back : ℕ → List Happened → Bool
 goes_back tag [] = false
-goes_back tag (e ∷ es) = cond (is_done_of tag e) (is_some (hands_back e)) (goes_back tag es)
+goes_back tag (e ∷ es) = cond (is_done_of tag e) (is_some (requeues e)) (goes_back tag es)
 
 -- the request of the tag's Issue at the place was handed back
-abbrev pub IsHandedBack : List Happened → ℕ → ℕ → Type 0
-IsHandedBack events k tag = IsTrue (goes_back tag (drop (suc k) events))
+abbrev pub IsRequeued : List Happened → ℕ → ℕ → Type 0
+IsRequeued events k tag = IsTrue (goes_back tag (drop (suc k) events))
 
 -- whenever the id was issued, it was handed back
-abbrev pub AreHandedBack : List Happened → ℕ → Type 0
-AreHandedBack events id = (k tag : ℕ) → At events k (Issue id tag) → IsHandedBack events k tag
+abbrev pub AreRequeued : List Happened → ℕ → Type 0
+AreRequeued events id = (k tag : ℕ) → At events k (Issue id tag) → IsRequeued events k tag
 
 -- the tag has an Issue that no event after it ends
 pub record IsOpen (events : List Happened) (tag : ℕ) : Type 0 where

@@ -27,9 +27,9 @@ ends (Back tag) = Some tag
 ends _ = None
 
 -- the tag whose request the device hands back
-abbrev pub hands_back : {R : Type 0} → Event R → Option ℕ
-hands_back (Back tag) = Some tag
-hands_back _ = None
+abbrev pub requeues : {R : Type 0} → Event R → Option ℕ
+requeues (Back tag) = Some tag
+requeues _ = None
 
 -- the depth that it sets, for the rounds after its own
 abbrev pub sets_depth : {R : Type 0} → Event R → Option ℕ

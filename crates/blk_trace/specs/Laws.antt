@@ -1,9 +1,9 @@
 -- What holds of every legal trace.
 use Rattle.std.specs.Prelude.{ℕ, ◌≢◌, ◌<◌, ◌≤◌, ◌++◌, List, length, slice_index_or, All, IsPermutation}
 use Rattle.std.specs.List.{flat_map}
-use Rattle.edd_check.specs.declared.Command.{Command}
-use Rattle.edd_check.specs.Limits.{most_commands, round_limit}
-use Rattle.edd_check.specs.Schedule.{IsLegal}
+use Rattle.edd_commands.specs.declared.Command.{Command}
+use Rattle.edd_commands.specs.Limits.{most_commands, round_limit}
+use Rattle.edd_commands.specs.Schedule.{IsLegal}
 use Rattle.blk_trace.specs.declared.trace.TheConstants.{MAX_EVENTS}
 use Rattle.blk_trace.specs.Happened.{Happened}
 use Rattle.blk_trace.specs.Setups.{Setup}

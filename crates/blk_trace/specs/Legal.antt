@@ -6,7 +6,7 @@ use Rattle.blk_bio.specs.Requests.{IsWithin, Fits}
 use Rattle.blk_trace.specs.declared.trace.TheConstants.{MAX_EVENTS}
 use Rattle.blk_trace.specs.Happened.{Happened, Tick, Release, Join, Issue, Depth}
 use Rattle.blk_trace.specs.Setups.{Setup}
-use Rattle.blk_trace.specs.Events.{At, EntersRequest, EndsAt, IsHandedBack, round_at, entered, request_of, IsReleased, IsOpen, open_count, AreOnce}
+use Rattle.blk_trace.specs.Events.{At, EntersRequest, EndsAt, IsRequeued, round_at, entered, request_of, IsReleased, IsOpen, open_count, AreOnce}
 use Rattle.blk_trace.specs.Depths.{depth_in}
 
 -- a list of events is legal: conditions on its places
@@ -19,7 +19,7 @@ pub record IsLegalTrace (setup : Setup) (events : List Happened) : Type 0 where
   -- each Issue names an id that was released, and that was handed back where it was issued before, and a tag below the depth
   -- of its round
   pub issue_released : (k id tag : ℕ) → At events k (Issue id tag) → IsReleased (take k events) id
-  pub issued_again : (j k id t u : ℕ) → At events j (Issue id t) → At events k (Issue id u) → j < k → IsHandedBack (take k events) j t
+  pub reissued : (j k id t u : ℕ) → At events j (Issue id t) → At events k (Issue id u) → j < k → IsRequeued (take k events) j t
   pub tag_range : (k id tag : ℕ) → At events k (Issue id tag) → tag < depth_in setup events (round_at events k)
   -- no tag has two Issues in one round
   pub tag_once : (j k i l tag : ℕ) → At events j (Issue i tag) → At events k (Issue l tag) → round_at events j ≡ round_at events k → j ≡ k

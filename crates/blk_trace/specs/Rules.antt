@@ -10,7 +10,7 @@ use Rattle.blk_trace.specs.Kinds.{releases, joins, issues, ends, is_tick, sets_d
 use Rattle.blk_bio.specs.declared.rule.TraceRule.{TraceRule}
 use Rattle.blk_bio.specs.declared.rule.TraceRule.TheVariants.{ReleasedTwice, Unknown, AlreadyIssued, BioTwice, Fit, TagRange, TagUsed, NotIssued, InFlight, TooLong, DepthRange}
 use Rattle.blk_trace.specs.Setups.{Setup}
-use Rattle.blk_trace.specs.Events.{entered, request_of, IsReleased, IsIssued, AreHandedBack, IsOpen, IsUsed, open_count, AreOnce}
+use Rattle.blk_trace.specs.Events.{entered, request_of, IsReleased, IsIssued, AreRequeued, IsOpen, IsUsed, open_count, AreOnce}
 use Rattle.blk_trace.specs.Depths.{depth_now}
 
 -- the id of a request that has to wait: one that is joined or issued
@@ -23,7 +23,7 @@ Obeys setup events e ReleasedTwice = IfSome (releases e) (λ p. IsReleased event
 Obeys setup events e Unknown = IfSome (asks_for e) (λ id. IsReleased events id)
 Obeys setup events e AlreadyIssued =
     MatchOption (joins e)
-    (IfSome (issues e) (λ p. AreHandedBack events p.0))
+    (IfSome (issues e) (λ p. AreRequeued events p.0))
     (λ p. IsIssued events p.0 → ⊥)
 Obeys setup events e BioTwice = IfSome (enters e) (λ p. AreOnce (entered events ++ p.1))
 Obeys setup events e Fit =

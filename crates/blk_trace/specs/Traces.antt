@@ -22,6 +22,14 @@ pub record Traced : Type 0 where
   pub events : List Happened
   pub prepared : Prepared
 
+-- the trace with one event more, and nothing prepared
+abbrev pub extended : Traced → Happened → Traced
+extended t e = record { setup = t.setup; events = t.events ++ e ∷ []; prepared = Nothing }
+
+-- the same trace, prepared for this
+abbrev pub prepared_for : Traced → Prepared → Traced
+prepared_for t p = record { setup = t.setup; events = t.events; prepared = p }
+
 -- what has to be prepared for the event: nothing for what ends an Issue, and as many bios as enter
 abbrev pub needs : Happened → Prepared
 needs e = option_map_or (λ _. Nothing) (ends e) (option_map_or (λ p. Bios (length p.1)) (enters e) AnIssue)
@@ -45,7 +53,7 @@ wanted (Some bios) = Bios (length bios)
 -- what each answer of `push` says of the trace before and after it, whatever comes back with a fault
 abbrev pub IsPushAnswer : {X : Type 0} → Traced → Happened → Traced → Result (Unit {0}) (X × PushFault) → Type 0
 IsPushAnswer old e new (Ok _) =
-    (new ≡ record { setup = old.setup; events = old.events ++ e ∷ []; prepared = Nothing }) × IsUnbroken old.setup old.events e
+    (new ≡ extended old e) × IsUnbroken old.setup old.events e
 IsPushAnswer old e new (Err (_, push_fault.Rule rule)) =
     (new ≡ old) × IsFirstBroken old.setup old.events e rule
 IsPushAnswer old e new (Err (_, push_fault.Memory)) =

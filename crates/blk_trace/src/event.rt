@@ -1,7 +1,7 @@
 //! What can happen in a block layer: the events of Linux's blktrace that this model has.
 
 ghost use Rattle.std.specs.Prelude.{◌≡◌, option_map};
-ghost use Rattle.blk_trace.specs.Kinds.{releases, joins, enters, issues, ends, hands_back, sets_depth, is_tick, bare};
+ghost use Rattle.blk_trace.specs.Kinds.{releases, joins, enters, issues, ends, requeues, sets_depth, is_tick, bare};
 
 /// One thing that happened. `R` is what is known of a request that enters: the request itself, in a trace.
 #[derive(Debug, Drop)]
@@ -102,8 +102,8 @@ impl<R> Event<R> {
     }
 
     /// The tag whose request the device hands back.
-    pub fn hands_back(&self) -> Option<u16>
-        ensures { result ≡ hands_back self.now }
+    pub fn requeues(&self) -> Option<u16>
+        ensures { result ≡ requeues self.now }
     {
         match self {
             Event::Back { tag } => Some(*tag),

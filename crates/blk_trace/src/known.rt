@@ -1,18 +1,16 @@
 //! What a trace keeps of each request.
 
 ghost use Rattle.std.specs.Prelude.{◌≡◌, ◌<◌, ◌+◌, ◌^◌, IfSome, IfNone};
-ghost use Rattle.blk_bio.specs.declared.request.Side.{Side as Where};
-ghost use Rattle.blk_bio.specs.Requests.{IsRequest, Fits};
-ghost use Rattle.blk_trace.specs.Events.{join_up};
+ghost use Rattle.blk_bio.specs.Requests.{IsRequest};
 ghost use Rattle.blk_trace.specs.Waits.{Entered};
-ghost use Rattle.blk_trace.specs.Inside.Kept.{summary};
+ghost use Rattle.blk_trace.specs.Inside.Kept.{summary, JoinsKept, FitsNowhere};
 
 use blk_bio::{Extent, Limits, Request};
 use std::alloc::Allocator;
 
 /// A request that waits, without its bios: what decides whether another may join it, and the rounds of its release and due.
 #[derive(Clone, Copy, Debug, PartialEq, Eq)]
-pub struct Waiting {
+pub struct Unissued {
     /// Its direction and its range, and how many bios it has.
     pub extent: Extent,
     /// The last round in which bios entered under its id.
@@ -25,7 +23,7 @@ pub struct Waiting {
 #[derive(Clone, Copy, Debug, PartialEq, Eq)]
 pub enum Known {
     /// The request was released and never issued.
-    Waits(Waiting),
+    Waits(Unissued),
     /// The request was issued, and was not handed back since.
     Gone,
     /// The request was issued and handed back, so it waits and nothing joins it.
@@ -37,17 +35,17 @@ pub enum Known {
     },
 }
 
-impl Waiting {
+impl Unissued {
     /// What is kept of a request that enters in the round, and is due `expire` rounds later.
     pub(crate) fn entered<A: Allocator + Clone>(
         request: &Request<A>,
         round: u64,
         expire: u64,
-    ) -> Waiting
+    ) -> Unissued
         requires { round + expire < 2 ^ 64 }
         ensures { result ≡ summary record { release = round; due = round + expire; bios = request.now } }
     {
-        Waiting {
+        Unissued {
             extent: request.extent(),
             release: round,
             due: round + expire,
@@ -60,10 +58,10 @@ impl Waiting {
         request: &Request<A>,
         round: u64,
         limits: &Limits,
-    ) -> Option<Waiting>
+    ) -> Option<Unissued>
         requires { (w : Entered) × (self.now ≡ summary w) × IsRequest w.bios }
-        ensures some { IfSome result (λ new. (w : Entered) → self.now ≡ summary w → IsRequest w.bios → ((s : Where) × Fits limits.now w.bios request.now s) × (new ≡ summary record { release = round; due = w.due; bios = join_up w.bios request.now })) }
-        ensures none { IfNone result ((w : Entered) → self.now ≡ summary w → IsRequest w.bios → (s : Where) → Fits limits.now w.bios request.now s → ⊥) }
+        ensures some { IfSome result (JoinsKept limits.now round self.now request.now) }
+        ensures none { IfNone result (FitsNowhere limits.now self.now request.now) }
     {
         let _ = limits.max_segments();
         let newcomer = request.extent();

@@ -7,7 +7,7 @@ use blk_bio::{Dir, Limits, MAX_QUEUES};
 use std::marker::Model;
 
 /// The most tags: as many commands as a round may carry.
-pub const MAX_DEPTH: u64 = edd_check::MAX_DEPTH;
+pub const MAX_DEPTH: u64 = edd_commands::MAX_DEPTH;
 
 /// Every expiry lies below this number of rounds.
 pub const MAX_EXPIRIES: u64 = 1 << 40;
@@ -40,13 +40,13 @@ pub struct Setup {
 }
 
 impl Model for Setup {
-    ghost use Rattle.blk_trace.specs.Setups.{Setup as SetupFields, IsSetup};
+    ghost use Rattle.blk_trace.specs.Setups.{Setup as SetupFields, IsSetup, setup_of};
 
     ghost Value = { SetupFields };
 
-    ghost view = { λ s. record { depth = s.depth; hw = s.hw; read_expire = s.read_expire; write_expire = s.write_expire; limits = s.limits } };
+    ghost view = { λ s. setup_of s.depth s.hw s.read_expire s.write_expire s.limits };
 
-    ghost invariant = { λ s. IsSetup record { depth = s.depth; hw = s.hw; read_expire = s.read_expire; write_expire = s.write_expire; limits = s.limits } };
+    ghost invariant = { λ s. IsSetup (setup_of s.depth s.hw s.read_expire s.write_expire s.limits) };
 
     ghost inverse = { λ v. record { depth = v.depth; hw = v.hw; read_expire = v.read_expire; write_expire = v.write_expire; limits = v.limits } };
 }

@@ -6,7 +6,8 @@ ghost use Rattle.blk_trace.specs.Legal.{IsLegalTrace};
 ghost use Rattle.blk_trace.specs.Rules.{IsUnbroken};
 ghost use Rattle.blk_trace.specs.Events.{round_of, open_count};
 ghost use Rattle.blk_trace.specs.Depths.{depth_now};
-ghost use Rattle.blk_trace.specs.Traces.{wanted, IsPreparedFor, IsPushAnswer, HasBio};
+ghost use Rattle.blk_trace.specs.Traces.{wanted, IsPreparedFor, IsPushAnswer, HasBio, extended, prepared_for};
+ghost use Rattle.blk_trace.specs.Inside.Kept.{IsReadyFor};
 
 use crate::event::Event;
 use crate::known::Known;
@@ -15,7 +16,7 @@ use crate::setup::Setup;
 use crate::tags::TagUse;
 use blk_bio::{BioId, Request};
 use blk_ids::{ById, IdSet};
-use edd_check::Command;
+use edd_commands::Command;
 use std::alloc::{AllocError, Allocator, Global};
 use std::marker::Model;
 
@@ -79,11 +80,17 @@ impl<A: Allocator> Model for Trace<A> {
 
     ghost view = { λ t. record { setup = t.setup; events = t.events.items; prepared = t.prepared } };
 
-    ghost invariant = { λ t. IsKeptTrace t.setup t.events.items t.commands.items t.rounds.items t.round t.«open» (by_id.kept_at t.known) (has_named (id_set.has_id t.ids)) t.tags.items × HasRoom t.prepared (length t.events.items) t.«open» (length t.commands.items) (length t.rounds.items) (vec_capacity t.events) (vec_capacity t.commands) (vec_capacity t.rounds) (by_id.spare t.known) (id_set.spare t.ids) × HasDepths t.setup t.events.items t.depth t.next_depth };
+    ghost invariant = { λ t.
+        IsKeptTrace t.setup t.events.items t.commands.items t.rounds.items t.round t.«open»
+        (by_id.kept_at t.known) (has_named (id_set.has_id t.ids)) t.tags.items
+        × HasRoom t.prepared (length t.events.items) t.«open» (length t.commands.items) (length t.rounds.items)
+        (vec_capacity t.events) (vec_capacity t.commands) (vec_capacity t.rounds)
+        (by_id.spare t.known) (id_set.spare t.ids)
+        × HasDepths t.setup t.events.items t.depth t.next_depth };
 }
 
 impl<A: Allocator + Clone> Trace<A> {
-    /// A trace without events. Fails for want of memory alone.
+    /// A trace without events. Fails only when out of memory.
     pub fn empty(alloc: A, setup: Setup) -> Result<Trace<A>, AllocError>
         ensures { IfOk result (λ t. t ≡ record { setup = setup; events = []; prepared = Prepared.Nothing }) }
     {
@@ -118,7 +125,7 @@ impl<A: Allocator + Clone> Trace<A> {
     #[inline(always)]
     pub fn push(&mut self, event: Event<Request<A>>) -> Result<(), (Event<Request<A>>, PushFault)>
         ensures answer { IsPushAnswer self.old event self.new result }
-        ensures ok { OnOk result ((self.new ≡ record { setup = self.old.setup; events = self.old.events ++ event ∷ []; prepared = Prepared.Nothing }) × IsLegalTrace self.old.setup (self.old.events ++ event ∷ [])) }
+        ensures ok { OnOk result ((self.new ≡ extended self.old event) × IsLegalTrace self.old.setup (self.old.events ++ event ∷ [])) }
         ensures err { IfErr result (λ e. (e.0 ≡ event) × (self.new ≡ self.old)) }
         ensures accepts { IsUnbroken self.old.setup self.old.events event → IfErr result (λ e. e.1 ≡ PushFault.Memory) }
         ensures accepts_legal { IsLegalTrace self.old.setup (self.old.events ++ event ∷ []) → IfErr result (λ e. e.1 ≡ PushFault.Memory) }
@@ -137,7 +144,7 @@ impl<A: Allocator + Clone> Trace<A> {
     /// Makes room for the event, where it was not made before.
     #[inline(always)]
     fn prepare_for(&mut self, event: &Event<Request<A>>) -> Result<(), AllocError>
-        ensures ok { OnOk result (IsPreparedFor self.new.prepared event.now × (self.new.setup ≡ self.old.setup) × (self.new.events ≡ self.old.events)) }
+        ensures ok { OnOk result (IsReadyFor event.now self.old self.new) }
         ensures err { OnErr result ((self.new ≡ self.old) × (IsPreparedFor self.old.prepared event.now → ⊥)) }
     {
         if event.ends().is_some() {
@@ -150,10 +157,10 @@ impl<A: Allocator + Clone> Trace<A> {
     }
 
     /// Makes room for the next push: of a Release or a Join of a request of as many bios, or of an Issue (or a
-    /// Tick or a Depth) where none is given. Fails for want of memory alone.
+    /// Tick or a Depth) where none is given. Fails only when out of memory.
     #[inline(always)]
     pub fn prepare(&mut self, request: Option<&Request<A>>) -> Result<(), AllocError>
-        ensures ok { OnOk result (self.new ≡ record { setup = self.old.setup; events = self.old.events; prepared = wanted (option_copied request.entry) }) }
+        ensures ok { OnOk result (self.new ≡ prepared_for self.old (wanted (option_copied request.entry))) }
         ensures err { OnErr result (self.new ≡ self.old) }
     {
         self.make_room(match request {
@@ -164,7 +171,7 @@ impl<A: Allocator + Clone> Trace<A> {
 
     /// The trace with nothing prepared.
     pub fn unprepared(mut self) -> Trace<A>
-        ensures { result ≡ record { setup = self.setup; events = self.events; prepared = Prepared.Nothing } }
+        ensures { result ≡ prepared_for self Prepared.Nothing }
     {
         self.prepared = Prepared::Nothing;
         self
@@ -173,7 +180,7 @@ impl<A: Allocator + Clone> Trace<A> {
     /// Makes room for what is wanted, where it was not made before.
     #[inline(always)]
     fn make_room(&mut self, wanted: Prepared) -> Result<(), AllocError>
-        ensures ok { OnOk result (self.new ≡ record { setup = self.old.setup; events = self.old.events; prepared = wanted }) }
+        ensures ok { OnOk result (self.new ≡ prepared_for self.old wanted) }
         ensures err { OnErr result ((self.new ≡ self.old) × (self.old.prepared ≢ wanted)) }
     {
         if self.prepared == wanted {
@@ -191,7 +198,7 @@ impl<A: Allocator + Clone> Trace<A> {
 
     /// Makes room for an Issue with its end, or for a Tick or a Depth.
     fn make_room_to_issue(&mut self) -> Result<(), AllocError>
-        ensures ok { OnOk result (self.new ≡ record { setup = self.old.setup; events = self.old.events; prepared = Prepared.AnIssue }) }
+        ensures ok { OnOk result (self.new ≡ prepared_for self.old Prepared.AnIssue) }
         ensures err { OnErr result (self.new ≡ self.old) }
     {
         self.events.reserve(self.open as usize + 2)?;
@@ -204,7 +211,7 @@ impl<A: Allocator + Clone> Trace<A> {
     /// Makes room for a Release or a Join of as many bios.
     #[inline(always)]
     fn make_room_for_bios(&mut self, bios: u64) -> Result<(), AllocError>
-        ensures ok { OnOk result (self.new ≡ record { setup = self.old.setup; events = self.old.events; prepared = Prepared.Bios bios }) }
+        ensures ok { OnOk result (self.new ≡ prepared_for self.old (Prepared.Bios bios)) }
         ensures err { OnErr result (self.new ≡ self.old) }
     {
         self.events.reserve(self.open as usize + 1)?;

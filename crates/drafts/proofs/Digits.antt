@@ -4,7 +4,7 @@ use Rattle.std.proofs.lemmas.Bool.{agree_below_at, eqb-true}
 use Rattle.std.proofs.lemmas.List.{drop_more}
 use Rattle.std.proofs.lemmas.Fmt.{decimal_digit, decimal_step}
 use Rattle.drafts.specs.declared.pieces.TheConstants.{PAIRS}
-use Rattle.drafts.specs.Digits.{pair_of, four_of, eight_of}
+use Rattle.drafts.specs.Inside.Digits.{pair_of, four_of, eight_of}
 
 -- the two digits of a number in the table
 tens : ℕ → Bool

@@ -1,4 +1,4 @@
-pub mod Digits
 pub mod Drafts
 pub mod Parts
 pub mod Outputs
+pub mod Inside

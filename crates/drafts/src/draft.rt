@@ -8,8 +8,8 @@ use crate::block::Block;
 use std::alloc::{AllocError, Global};
 use std::marker::Model;
 
-/// A text that is being made: the bytes that were added, in their order. Each call that adds some answers want of
-/// memory where the text could not grow.
+/// A text that is being made: the bytes that were added, in their order. Each call that adds some fails only when
+/// out of memory, where the text can't grow.
 #[derive(Drop)]
 pub struct Draft {
     block: Block,
@@ -56,7 +56,7 @@ impl Draft {
         self.block.push(text.as_bytes())
     }
 
-    /// Adds so many spaces.
+    /// Adds `count` spaces.
     pub fn spaces(&mut self, count: usize) -> Result<(), AllocError>
         ensures { OnOk result (self.new ≡ self.old ++ replicate count 32) }
     {
@@ -66,7 +66,7 @@ impl Draft {
         Ok(())
     }
 
-    /// Adds bytes at the left of so many places; more of them are not cut.
+    /// Adds bytes at the left of `places` places; more bytes than that are not cut.
     pub fn left(&mut self, bytes: &[u8], places: usize) -> Result<(), AllocError>
         ensures { OnOk result (self.new ≡ (self.old ++ bytes.now) ++ replicate (places - length bytes.now) 32) }
     {
@@ -74,7 +74,7 @@ impl Draft {
         self.spaces(places.saturating_sub(bytes.len()))
     }
 
-    /// Adds bytes at the right of so many places; more of them are not cut.
+    /// Adds bytes at the right of `places` places; more bytes than that are not cut.
     pub fn right(&mut self, bytes: &[u8], places: usize) -> Result<(), AllocError>
         ensures { OnOk result (self.new ≡ (self.old ++ replicate (places - length bytes.now) 32) ++ bytes.now) }
     {

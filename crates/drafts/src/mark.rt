@@ -1,8 +1,9 @@
 //! Whether a writer has failed.
 
-ghost use Rattle.std.specs.Prelude.{◌≡◌, ◌≤◌, [], None, true, false, IfSome, IfNone, length, take};
+ghost use Rattle.std.specs.Prelude.{◌≡◌, [], None, true, false, IfSome, IfNone};
 ghost use Rattle.std.specs.Io.KnownBytes.{Appends};
 ghost use Rattle.drafts.specs.Outputs.{is_set};
+ghost use Rattle.drafts.specs.Inside.Taken.{AppendsSome};
 
 use std::io::{ErrorKind, Write};
 
@@ -33,7 +34,7 @@ impl Mark {
     ///
     /// `None`: the call failed. The writer answered another fault or took nothing, or was interrupted without end.
     pub fn offer<W: Write>(&mut self, writer: &mut W, bytes: &[u8]) -> Option<usize>
-        ensures took { IfSome result (λ n. (1 ≤ n) × (n ≤ length bytes.now) × Appends (W.contents writer.old) (W.contents writer.new) (take n bytes.now)) }
+        ensures took { IfSome result (AppendsSome (W.contents writer.old) (W.contents writer.new) bytes.now) }
         ensures good { IfSome result (λ _. self.new ≡ self.old) }
         ensures kept { IfNone result (Appends (W.contents writer.old) (W.contents writer.new) []) }
         ensures set { IfNone result (is_set self.new ≡ true) }

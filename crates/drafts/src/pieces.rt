@@ -1,7 +1,7 @@
 //! The pieces of a record, each written from a place on.
 
 ghost use Rattle.std.specs.Prelude.{◌≡◌, ◌++◌, ◌∷◌, ◌+◌, ◌<◌, ◌≤◌, take, length, decimal};
-ghost use Rattle.drafts.specs.Digits.{pair_of, four_of, eight_of};
+ghost use Rattle.drafts.specs.Inside.Digits.{pair_of, four_of, eight_of};
 
 /// The numbers below 100 in two digits each.
 const PAIRS: &[u8; 200] =

@@ -15,7 +15,7 @@ stop_or_go (repeats.AtMost n) c rest (inl a) g = let is = g.0 in omega (arith, a
 stop_or_go (repeats.AtMost n) c rest (inr a) g = g.1 a
 stop_or_go (repeats.Exactly n) c rest a g = omega (arith, a, g)
 
--- where so many more may come, and a record is left, they go on
+-- where n more may come, and a record is left, they go on
 still : {R : Type 0} (x : Repeats) (c d : ℕ) (row : R) (rest : List R) → IsCount x d → c < d → GoesOn x c (row ∷ rest)
 still (repeats.AtMost n) c d row rest i l = (omega (arith, i, l), λ e. (cc e))
 still (repeats.Exactly n) c d row rest i l = omega (arith, i, l)
@@ -152,7 +152,7 @@ after_more : {S V : Type 0} (next : S → V → S) (s : S) (vs : List V) (v : V)
 after_more next s [] v = refl
 after_more next s (u ∷ vs) v = after_more next (next s u) vs v
 
--- so many more items may come
+-- n more items may come
 abbrev Room : Repeats → ℕ → ℕ → Type 0
 Room (repeats.AtMost n) c more = n ≡ c + more
 Room (repeats.Exactly n) c more = n ≡ c + more

@@ -3,7 +3,7 @@ use Rattle.std.proofs.Common.{◌≡◌, ◌+◌, ◌≤◌, ◌∙◌, ℕ, Lis
 use Rattle.std.specs.Prelude.{◌⊎◌}
 use mathlib.Core.Path.{path_j}
 use Rattle.std.proofs.lemmas.List.{length-append}
-use Rattle.parts.specs.Parts.{Part, Begins, GetsTo, NextWrong, record_of, then, over, seen_as, tested, by_word, told_as}
+use Rattle.parts.specs.Parts.{Part, Begins, GetsTo, NextWrong, record_of, then, over, seen_as, tested, by_word}
 use Rattle.parts.specs.Laws.{Tells, TellsRecord, Either, Decides, DecidesRecord, IsPlain}
 
 abbrev Same : {K : Type 0} → (V : K → Type 0) → (i : K) × V i → (i : K) × V i → Type 0
@@ -374,22 +374,3 @@ kinds_reached {R} {E} {K} V W StartsWith p q NoKind starts lift rows at r = reco
     within v rest h =
         let begun : Begins (q v.0) rows v.1 rest = record { fits = h.fits; made = h.made; follows = h.follows } in
         (lift v.0 rows at (this v.0 (starts v.0 rows v.1 rest begun))).within v.1 rest begun
-
--- faults told as others
-
-pub told_tells : {R E F V : Type 0} (f : E → F) (p : Part R E V) → Tells p → Tells (told_as f p)
-told_tells f p t = record {
-  once = λ rows v u a b h k. t.once rows v u a b (record { fits = h.fits; made = h.made; follows = h.follows }) (record { fits = k.fits; made = k.made; follows = k.follows });
-  apart = λ rows v a k w h bad. t.apart rows v a k bad.0 (record { fits = h.fits; made = h.made; follows = h.follows }) bad.2;
-  first = λ rows k j w x a b. (let r = t.first rows k j a.0 b.0 a.2 b.2 in (r.0, a.1 ∙ ap f r.1 ∙ sym b.1));
-  near = λ rows k w a. t.near rows k a.0 a.2;
-}
-
-pub told_plain : {R E F V : Type 0} (f : E → F) (p : Part R E V) → IsPlain p → IsPlain (told_as f p)
-told_plain f p t v rest fit = t v rest fit
-
-pub told_decides : {R E F V : Type 0} (f : E → F) (p : Part R E V) → Decides p → Decides (told_as f p)
-told_decides f p d rows = elim (d rows) [
-  | inl h ↦ inl (h.0, h.1, record { fits = h.2.fits; made = h.2.made; follows = h.2.follows })
-  | inr g ↦ inr (g.0, f g.1, (g.1, refl, g.2))
-]

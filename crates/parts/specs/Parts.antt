@@ -62,12 +62,12 @@ abbrev pub AllFit : {R E S V : Type 0} → (S → Part R E V) → (S → V → S
 AllFit q next s [] = Unit {0}
 AllFit q next s (v ∷ vs) = (q s).Fits v × AllFit q next (next s v) vs
 
--- so many items may there be
+-- this many items may there be
 abbrev pub IsCount : Repeats → ℕ → Type 0
 IsCount (repeats.AtMost n) c = c ≤ n
 IsCount (repeats.Exactly n) c = c ≡ n
 
--- the items are over after so many, where these records are left
+-- the items are over after n of them, where these records are left
 abbrev pub Stops : {R : Type 0} → Repeats → ℕ → List R → Type 0
 Stops (repeats.AtMost n) c rest = (c ≡ n) ⊎ (rest ≡ [])
 Stops (repeats.Exactly n) c rest = c ≡ n
@@ -77,7 +77,7 @@ abbrev pub GoesOn : {R : Type 0} → Repeats → ℕ → List R → Type 0
 GoesOn (repeats.AtMost n) c rest = (c < n) × ¬ (rest ≡ [])
 GoesOn (repeats.Exactly n) c rest = c < n
 
--- items, each of which may depend on those before it: just so many, or so many at most and to the end
+-- items, each of which may depend on those before it: exactly a number of them, or at most a number and to the end
 abbrev pub many : {R E S V : Type 0} → Repeats → (S → Part R E V) → (S → V → S) → S → Part R E (List V)
 many {R} {E} {S} {V} x q next s = record {
   rows_of = all_rows q next s;
@@ -123,15 +123,6 @@ by_word {R} {E} {K} V StartsWith q NoKind = record {
   Wrong = λ rows k w. ((i : K) × StartsWith i rows × (q i).Wrong rows k w) ⊎ ((k ≡ 1) × ((i : K) → ¬ StartsWith i rows) × NoKind rows w);
 }
 
--- a part whose faults are told as others
-abbrev pub told_as : {R E F V : Type 0} → (E → F) → Part R E V → Part R F V
-told_as {R} {E} {F} {V} f p = record {
-  rows_of = p.rows_of;
-  Fits = p.Fits;
-  Follows = p.Follows;
-  Wrong = λ rows k w. (x : E) × (w ≡ f x) × p.Wrong rows k x;
-}
-
 -- the most items
 abbrev pub most_of : Repeats → ℕ
 most_of (repeats.AtMost n) = n
@@ -145,10 +136,6 @@ GoodBefore {R} {E} {S} {V} x q next s rows at = (vs : List V) × (rest : List R)
 -- items and then the end of the text, where what comes after them is looked at as `past` before it is one item too many
 abbrev pub ended : {R E S V W : Type 0} → Repeats → E → (S → Part R E V) → (S → Part R E W) → (S → V → S) → S → Part R E (List V)
 ended x why q past next s = seen_as (λ vs. (vs, tt)) (then (many x q next s) (λ vs. over why (past (after next s vs))))
-
--- items and then the end of the text, where one more is looked at as the others are
-abbrev pub lines : {R E S V : Type 0} → Repeats → E → (S → Part R E V) → (S → V → S) → S → Part R E (List V)
-lines x why q next s = ended x why q q next s
 
 -- all records are those of a value
 abbrev pub Spells : {R E V : Type 0} → Part R E V → List R → V → Type 0

@@ -1,6 +1,6 @@
 -- The steps of a capacity, change by change.
 use Rattle.std.specs.Prelude.{◌==◌, cond, List, [], ◌∷◌}
-use Rattle.edd_check.specs.declared.steps.Step.{Step}
+use Rattle.edd_commands.specs.declared.steps.Step.{Step}
 
 -- with one more change, in place of the last one where both are of one round
 abbrev pub with_change : List Step → Step → List Step

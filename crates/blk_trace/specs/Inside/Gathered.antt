@@ -11,6 +11,7 @@ use Rattle.blk_trace.specs.Setups.{Setup}
 use Rattle.blk_trace.specs.Events.{join_up, request_of}
 use Rattle.blk_trace.specs.Meaning.{released_ids}
 use Rattle.blk_trace.specs.Waits.{has_id, waits_at}
+use Rattle.blk_ids.specs.Given.{Gives}
 
 -- the bios of the request that waits under the id
 abbrev pub waiting_bios : Setup → List Happened → ℕ → Option (List Bio)
@@ -30,6 +31,10 @@ pub record FitsUnder (limits : Limits) (there : Option (List Bio)) (newcomer : L
   pub side : Side
   pub stands : there ≡ Some bios
   pub fits : Fits limits bios newcomer side
+
+-- the newcomer joins the request that is there, and those of the other ids stay
+abbrev pub JoinsUnder : ℕ → List Bio → (ℕ → Option (List Bio)) → (ℕ → Option (List Bio)) → Type 0
+JoinsUnder id newcomer old new = Gives old id (option_map (λ bios. join_up bios newcomer) (old id)) new
 
 -- the request of a Join fits the one that is there under its id
 abbrev pub TakesJoin : Limits → (ℕ → Option (List Bio)) → Happened → Type 0

@@ -1,12 +1,12 @@
 -- What a trace keeps beside its events, what each part says of them, and the room that was made.
 use Rattle.std.specs.Prelude.{ℕ, ◌≡◌, ◌≤◌, ◌+◌, ◌==◌, ◌&&◌, Bool, true, false, cond, List, length, Option, Some, None, option_map, slice_get}
 use Rattle.std.specs.List.{list_any}
-use Rattle.edd_check.specs.declared.Command.{Command}
+use Rattle.edd_commands.specs.declared.Command.{Command}
 use Rattle.blk_bio.specs.Bios.{Bio}
 use Rattle.blk_bio.specs.declared.bio.BioId.{BioId}
-use Rattle.blk_bio.specs.Requests.{IsRequest}
+use Rattle.blk_bio.specs.Requests.{IsRequest, Fits}
 use Rattle.blk_bio.specs.Extents.{extent_of}
-use Rattle.blk_trace.specs.declared.known.Waiting.{Waiting}
+use Rattle.blk_trace.specs.declared.known.Unissued.{Unissued}
 use Rattle.blk_trace.specs.declared.known.Known.{Known}
 use Rattle.blk_trace.specs.declared.known.Known.TheVariants.{Waits, Gone, Handed}
 use Rattle.blk_trace.specs.declared.tags.TagUse.{TagUse}
@@ -15,15 +15,26 @@ use Rattle.blk_trace.specs.declared.trace.Prepared.{Prepared}
 use Rattle.blk_trace.specs.declared.trace.Prepared.TheVariants.{Nothing, AnIssue, Bios}
 use Rattle.blk_trace.specs.Happened.{Happened}
 use Rattle.blk_trace.specs.Setups.{Setup, IsSetup}
-use Rattle.blk_trace.specs.Events.{request_of, round_of, open_count, entered, IsOpen, IsOpenBy, IsUsed}
+use Rattle.blk_trace.specs.Events.{request_of, round_of, open_count, entered, IsOpen, IsOpenBy, IsUsed, join_up}
 use Rattle.blk_trace.specs.Depths.{depth_in, depth_now}
 use Rattle.blk_trace.specs.Legal.{IsLegalTrace}
 use Rattle.blk_trace.specs.Meaning.{commands_of, rounds_of, released_ids, issued_ids}
 use Rattle.blk_trace.specs.Waits.{Entered, has_id, waits_at, was_issued}
+use Rattle.blk_trace.specs.Traces.{Traced, IsPreparedFor}
+use Rattle.blk_bio.specs.Limits.{Limits}
+use Rattle.blk_bio.specs.declared.request.Side.{Side}
 
 -- what is kept of a request that waits
-abbrev pub summary : Entered → Waiting
+abbrev pub summary : Entered → Unissued
 summary w = record { extent = extent_of w.bios; release = w.release; due = w.due }
+
+-- what is kept of it once the newcomer has joined it in the round: where it fits, and only there
+abbrev pub JoinsKept : Limits → ℕ → Unissued → List Bio → Unissued → Type 0
+JoinsKept limits round old newcomer new = (w : Entered) → old ≡ summary w → IsRequest w.bios
+    → ((s : Side) × Fits limits w.bios newcomer s) × (new ≡ summary record { release = round; due = w.due; bios = join_up w.bios newcomer })
+
+abbrev pub FitsNowhere : Limits → Unissued → List Bio → Type 0
+FitsNowhere limits old newcomer = (w : Entered) → old ≡ summary w → IsRequest w.bios → (s : Side) → Fits limits w.bios newcomer s → ⊥
 
 -- what is kept of a request that waits, by whether it was issued before
 abbrev pub known_waiting : Bool → Entered → Known
@@ -85,6 +96,10 @@ pub record IsKeptTrace (setup : Setup) (events : List Happened) (commands : List
 pub record HasDepths (setup : Setup) (events : List Happened) (now next : ℕ) : Type 0 where
   pub now_is : now ≡ depth_now setup events
   pub next_is : next ≡ depth_in setup events (round_of events + 1)
+
+-- the trace was prepared for the event, and is else as it was
+abbrev pub IsReadyFor : Happened → Traced → Traced → Type 0
+IsReadyFor e old new = IsPreparedFor new.prepared e × (new.setup ≡ old.setup) × (new.events ≡ old.events)
 
 -- places for events that were made: an Issue needs its own and its Done's
 abbrev pub event_room : Prepared → ℕ

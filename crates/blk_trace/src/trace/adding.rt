@@ -6,23 +6,23 @@ ghost use Rattle.blk_ids.specs.ById.{kept_at};
 ghost use Rattle.blk_ids.specs.ById as by_id;
 ghost use Rattle.blk_ids.specs.IdSet.{has_id};
 ghost use Rattle.blk_ids.specs.IdSet as id_set;
-ghost use Rattle.edd_check.specs.declared.Command.{Command as Job};
+ghost use Rattle.edd_commands.specs.declared.Command.{Command as Job};
 ghost use Rattle.blk_trace.specs.declared.known.Known.{Known as Kept};
 ghost use Rattle.blk_bio.specs.declared.bio.BioId.{BioId as Name};
 ghost use Rattle.blk_trace.specs.Happened.{Tick, Release, Join, Issue, Done, Back, Depth};
 ghost use Rattle.blk_trace.specs.Legal.{IsLegalTrace};
 ghost use Rattle.blk_trace.specs.Rules.{IsUnbroken};
-ghost use Rattle.blk_trace.specs.Traces.{IsPreparedFor};
+ghost use Rattle.blk_trace.specs.Traces.{IsPreparedFor, extended};
 ghost use Rattle.blk_trace.specs.Events.{IsReleased, IsIssued, IsOpen, IsOpenBy};
 ghost use Rattle.blk_trace.specs.Inside.Kept.{known_of, has_named, has_bio_id, rounds_in};
 
 use crate::event::Event;
-use crate::known::{Known, Waiting};
+use crate::known::{Known, Unissued};
 use crate::tags::TagUse;
 use crate::trace::{Prepared, Trace};
 use blk_bio::{Bio, Request};
 use blk_ids::{ById, IdSet};
-use edd_check::Command;
+use edd_commands::Command;
 use std::alloc::Allocator;
 
 impl<A: Allocator + Clone> Trace<A> {
@@ -32,7 +32,7 @@ impl<A: Allocator + Clone> Trace<A> {
     pub fn add(&mut self, event: Event<Request<A>>)
         requires unbroken { IsUnbroken self.old.setup self.old.events event }
         requires prepared { IsPreparedFor self.old.prepared event }
-        ensures added { self.new ≡ record { setup = self.old.setup; events = self.old.events ++ event ∷ []; prepared = Prepared.Nothing } }
+        ensures added { self.new ≡ extended self.old event }
         ensures legal { IsLegalTrace self.old.setup (self.old.events ++ event ∷ []) }
     {
         let _ = &self.round;
@@ -51,7 +51,7 @@ impl<A: Allocator + Clone> Trace<A> {
     fn add_tick(&mut self)
         requires unbroken { IsUnbroken self.old.setup self.old.events Tick }
         requires prepared { IsPreparedFor self.old.prepared Tick }
-        ensures added { self.new ≡ record { setup = self.old.setup; events = self.old.events ++ Tick ∷ []; prepared = Prepared.Nothing } }
+        ensures added { self.new ≡ extended self.old Tick }
         ensures legal { IsLegalTrace self.old.setup (self.old.events ++ Tick ∷ []) }
     {
         self.round += 1;
@@ -66,19 +66,19 @@ impl<A: Allocator + Clone> Trace<A> {
     fn add_release(&mut self, id: u64, request: Request<A>)
         requires unbroken { IsUnbroken self.old.setup self.old.events (Release id request) }
         requires prepared { IsPreparedFor self.old.prepared (Release id request) }
-        ensures added { self.new ≡ record { setup = self.old.setup; events = self.old.events ++ Release id request ∷ []; prepared = Prepared.Nothing } }
+        ensures added { self.new ≡ extended self.old (Release id request) }
         ensures legal { IsLegalTrace self.old.setup (self.old.events ++ Release id request ∷ []) }
     {
         let expire = self.setup.expire(request.dir());
-        let waiting = Waiting::entered(&request, self.round, expire);
+        let waiting = Unissued::entered(&request, self.round, expire);
         self.known.insert(id, Known::Waits(waiting));
-        enter(&mut self.ids, request.bios());
+        insert_ids(&mut self.ids, request.bios());
         append(&mut self.events, Event::Release { id, request });
         self.prepared = Prepared::Nothing;
     }
 
     /// What is kept of the request that waits under the id.
-    fn waiting_at(&self, id: u64) -> Waiting
+    fn waiting_at(&self, id: u64) -> Unissued
         requires released { IsReleased self.now.events id }
         requires waits { IsIssued self.now.events id → ⊥ }
         ensures { known_of self.now.setup self.now.events id ≡ Some (Known.Waits result) }
@@ -95,7 +95,7 @@ impl<A: Allocator + Clone> Trace<A> {
     fn add_join(&mut self, id: u64, request: Request<A>)
         requires unbroken { IsUnbroken self.old.setup self.old.events (Join id request) }
         requires prepared { IsPreparedFor self.old.prepared (Join id request) }
-        ensures added { self.new ≡ record { setup = self.old.setup; events = self.old.events ++ Join id request ∷ []; prepared = Prepared.Nothing } }
+        ensures added { self.new ≡ extended self.old (Join id request) }
         ensures legal { IsLegalTrace self.old.setup (self.old.events ++ Join id request ∷ []) }
     {
         let old = self.waiting_at(id);
@@ -103,7 +103,7 @@ impl<A: Allocator + Clone> Trace<A> {
             unreachable!();
         };
         self.known.set(id, Known::Waits(new));
-        enter(&mut self.ids, request.bios());
+        insert_ids(&mut self.ids, request.bios());
         append(&mut self.events, Event::Join { id, request });
         self.prepared = Prepared::Nothing;
     }
@@ -113,7 +113,7 @@ impl<A: Allocator + Clone> Trace<A> {
     fn add_issue(&mut self, id: u64, tag: u16)
         requires unbroken { IsUnbroken self.old.setup self.old.events (Issue id tag) }
         requires prepared { IsPreparedFor self.old.prepared (Issue id tag) }
-        ensures added { self.new ≡ record { setup = self.old.setup; events = self.old.events ++ Issue id tag ∷ []; prepared = Prepared.Nothing } }
+        ensures added { self.new ≡ extended self.old (Issue id tag) }
         ensures legal { IsLegalTrace self.old.setup (self.old.events ++ Issue id tag ∷ []) }
     {
         let command = issued(&mut self.known, id);
@@ -128,7 +128,7 @@ impl<A: Allocator + Clone> Trace<A> {
     /// Adds a Done: the tag's Issue is no longer open.
     fn add_done(&mut self, tag: u16)
         requires unbroken { IsUnbroken self.old.setup self.old.events (Done tag) }
-        ensures added { self.new ≡ record { setup = self.old.setup; events = self.old.events ++ Done tag ∷ []; prepared = Prepared.Nothing } }
+        ensures added { self.new ≡ extended self.old (Done tag) }
         ensures legal { IsLegalTrace self.old.setup (self.old.events ++ Done tag ∷ []) }
     {
         self.tags[tag as usize] = TagUse::Ended;
@@ -153,7 +153,7 @@ impl<A: Allocator + Clone> Trace<A> {
     /// Adds a Back: the tag's Issue is no longer open, its request waits again, and it is no command any more.
     fn add_back(&mut self, tag: u16)
         requires unbroken { IsUnbroken self.old.setup self.old.events (Back tag) }
-        ensures added { self.new ≡ record { setup = self.old.setup; events = self.old.events ++ Back tag ∷ []; prepared = Prepared.Nothing } }
+        ensures added { self.new ≡ extended self.old (Back tag) }
         ensures legal { IsLegalTrace self.old.setup (self.old.events ++ Back tag ∷ []) }
     {
         let id = self.open_id(tag);
@@ -167,11 +167,11 @@ impl<A: Allocator + Clone> Trace<A> {
         self.prepared = Prepared::Nothing;
     }
 
-    /// Adds a Depth: the rounds after the one that is on carry so many commands.
+    /// Adds a Depth: the rounds after the one that is on carry `depth` commands.
     fn add_depth(&mut self, depth: u64)
         requires unbroken { IsUnbroken self.old.setup self.old.events (Depth depth) }
         requires prepared { IsPreparedFor self.old.prepared (Depth depth) }
-        ensures added { self.new ≡ record { setup = self.old.setup; events = self.old.events ++ Depth depth ∷ []; prepared = Prepared.Nothing } }
+        ensures added { self.new ≡ extended self.old (Depth depth) }
         ensures legal { IsLegalTrace self.old.setup (self.old.events ++ Depth depth ∷ []) }
     {
         self.next_depth = depth;
@@ -239,7 +239,7 @@ fn append<T: Drop, A: Allocator>(list: &mut Vec<T, A>, value: T)
 
 /// Adds the ids of the bios, for which there is room.
 #[inline(always)]
-fn enter<A: Allocator + Clone>(ids: &mut IdSet<A>, bios: &[Bio])
+fn insert_ids<A: Allocator + Clone>(ids: &mut IdSet<A>, bios: &[Bio])
     requires { length bios.now ≤ id_set.spare ids.old }
     ensures ids { (id : Name) → has_named (has_id ids.new) id ≡ has_named (has_id ids.old) id || has_bio_id bios.now id }
     ensures room { id_set.spare ids.old ≤ id_set.spare ids.new + length bios.now }

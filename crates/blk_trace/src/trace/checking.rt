@@ -6,7 +6,7 @@ ghost use Rattle.blk_trace.specs.Happened.{Tick, Release, Join, Issue, Depth};
 ghost use Rattle.blk_trace.specs.Kinds.{ends};
 ghost use Rattle.blk_trace.specs.Legal.{IsLegalTrace};
 ghost use Rattle.blk_trace.specs.Rules.{IsFirstBroken, IsUnbroken};
-ghost use Rattle.blk_trace.specs.Events.{entered, open_count, IsReleased, AreHandedBack, IsOpen, IsUsed, AreOnce, IsFirstRepeatedBio};
+ghost use Rattle.blk_trace.specs.Events.{entered, open_count, IsReleased, AreRequeued, IsOpen, IsUsed, AreOnce, IsFirstRepeatedBio};
 ghost use Rattle.blk_trace.specs.Waits.{Entered, waits_at};
 ghost use Rattle.blk_trace.specs.Inside.Kept.{known_of, IsTagUse, has_bio_id};
 
@@ -107,7 +107,7 @@ impl<A: Allocator + Clone> Trace<A> {
     /// The first rule that an Issue under the tag would break, of a request that waits.
     fn broken_tag(&self, id: u64, tag: u16) -> Option<TraceRule>
         requires released { IsReleased self.now.events id }
-        requires waits { AreHandedBack self.now.events id }
+        requires waits { AreRequeued self.now.events id }
         ensures some { IfSome result (IsFirstBroken self.now.setup self.now.events (Issue id tag)) }
         ensures none { IfNone result (IsUnbroken self.now.setup self.now.events (Issue id tag)) }
     {
@@ -244,7 +244,7 @@ impl<A: Allocator + Clone> Trace<A> {
     }
 }
 
-/// Whether a round may carry so many commands, where there are so many tags.
+/// Whether a round may carry this many commands, given how many tags there are.
 fn is_depth(depth: u64, tags: u64) -> bool
     ensures { IsTrue result ↔ ((0 < depth) × (depth ≤ tags)) }
 {

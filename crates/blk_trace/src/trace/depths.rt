@@ -2,26 +2,26 @@
 
 ghost use Rattle.std.specs.Prelude.{ℕ, ◌≡◌, ◌<◌, ◌↔◌, is_some, IsTrue, IfOk, OnOk, length};
 ghost use Rattle.std.specs.List.{list_any};
-ghost use Rattle.edd_check.specs.Capacity.{depth_at, fixed};
+ghost use Rattle.edd_commands.specs.Capacity.{fixed};
 ghost use Rattle.blk_trace.specs.Kinds.{sets_depth};
 ghost use Rattle.blk_trace.specs.Legal.{IsLegalTrace};
-ghost use Rattle.blk_trace.specs.Depths.{IsFixed, capacity_of, depth_in};
+ghost use Rattle.blk_trace.specs.Depths.{IsFixed, CarriesEachDepth, capacity_of};
 ghost use Rattle.blk_trace.specs.Inside.Changing.{with_change};
 
 use crate::event::Event;
 use crate::setup::Setup;
 use crate::trace::Trace;
 use blk_bio::Request;
-use edd_check::{Capacity, Step};
+use edd_commands::{Capacity, Step};
 use std::alloc::{AllocError, Allocator};
 
 impl<A: Allocator + Clone> Trace<A> {
     /// How many commands each round carries: as many as there are tags from round 0 on, and as many as each Depth sets from
-    /// the round after its own on. Of several in one round the last stands. Fails for want of memory alone.
+    /// the round after its own on. Of several in one round the last stands. Fails only when out of memory.
     pub fn capacity(&self) -> Result<Capacity<A>, AllocError>
         ensures steps { IfOk result (λ c. c ≡ capacity_of self.now.setup self.now.events) }
         // each round has the depth of the last Depth in a round before it, or the setup's
-        ensures each { (round : ℕ) → depth_at (capacity_of self.now.setup self.now.events) round ≡ depth_in self.now.setup self.now.events round }
+        ensures each { CarriesEachDepth self.now.setup self.now.events }
     {
         let alloc = self.events.allocator().clone()?;
         let steps = steps_of(alloc, self.setup, self.events.as_slice())?;

@@ -11,7 +11,7 @@ use crate::rule::{PushFault, TraceFault};
 use crate::setup::Setup;
 use crate::trace::Trace;
 use blk_bio::Request;
-use edd_check::Command;
+use edd_commands::Command;
 use std::alloc::{AllocError, Allocator};
 
 impl<A: Allocator + Clone> Trace<A> {
@@ -40,7 +40,7 @@ impl<A: Allocator + Clone> Trace<A> {
     }
 
     /// The requests that were issued and not handed back since, in the order of their last Issues: each released in the last round in which it was released or
-    /// joined, and due in the first in which one of its bios is. Fails for want of memory alone.
+    /// joined, and due in the first in which one of its bios is. Fails only when out of memory.
     pub fn commands(&self) -> Result<Vec<Command, A>, AllocError>
         ensures commands { IfOk result (λ v. v.items ≡ commands_of self.now.setup self.now.events) }
         // in the rounds of `rounds` they are a legal schedule
@@ -52,7 +52,7 @@ impl<A: Allocator + Clone> Trace<A> {
         Vec::from_slice(alloc, self.commands.as_slice())
     }
 
-    /// The rounds of these requests' last Issues, in their order. Fails for want of memory alone.
+    /// The rounds of these requests' last Issues, in their order. Fails only when out of memory.
     pub fn rounds(&self) -> Result<Vec<u64, A>, AllocError>
         ensures rounds { IfOk result (λ v. v.items ≡ rounds_of self.now.events) }
         ensures scheduled { IsScheduled self.now.setup self.now.events }

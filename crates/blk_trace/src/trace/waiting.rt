@@ -7,12 +7,13 @@ ghost use Rattle.std.specs.List.{flat_map};
 ghost use Rattle.std.specs.Ordering.{nat_cmp};
 ghost use Rattle.std.specs.BTreeMap.{get, values, IsOrdered};
 ghost use Rattle.blk_trace.specs.Events.{join_up};
-ghost use Rattle.blk_trace.specs.Inside.Gathered.{waiting_bios, with_event, TakesJoin, FitsUnder};
+ghost use Rattle.blk_trace.specs.Inside.Gathered.{waiting_bios, with_event, TakesJoin, FitsUnder, JoinsUnder};
 ghost use Rattle.blk_trace.specs.Inside.Kept.{known_of, is_gone};
 ghost use Rattle.blk_trace.specs.Kinds.{enters};
 ghost use Rattle.blk_trace.specs.Laws.{IsAccounted};
 ghost use Rattle.blk_trace.specs.Legal.{IsLegalTrace};
 ghost use Rattle.blk_trace.specs.Meaning.{waiting_of};
+ghost use Rattle.blk_ids.specs.Given.{Gives};
 
 use crate::event::Event;
 use crate::known::Known;
@@ -25,7 +26,7 @@ use std::collections::BTreeMap;
 
 impl<A: Allocator + Clone> Trace<A> {
     /// The bios of the released requests that were not issued, or were handed back, by rising id of the requests and then
-    /// in the order of their sectors. It walks the events once. Fails for want of memory alone.
+    /// in the order of their sectors. It walks the events once. Fails only when out of memory.
     pub fn waiting(&self) -> Result<Vec<Bio, A>, AllocError>
         ensures waiting { IfOk result (λ v. v.items ≡ waiting_of self.now.events) }
         // with those of the issued requests they are the bios that entered, each once
@@ -113,7 +114,7 @@ fn put<A: Allocator + Clone>(
     id: u64,
     request: Request<A>,
 ) -> Result<(), AllocError>
-    ensures { OnOk result ((i : ℕ) → get nat_cmp requests.new i ≡ cond (id == i) (Some request) (get nat_cmp requests.old i)) }
+    ensures { OnOk result (Gives (get nat_cmp requests.old) id (Some request) (get nat_cmp requests.new)) }
 {
     match requests.insert(id, request) {
         Ok(_) => Ok(()),
@@ -129,7 +130,7 @@ fn join<A: Allocator + Clone>(
     limits: &Limits,
 ) -> Result<(), AllocError>
     requires { FitsUnder limits.now (get nat_cmp requests.old id) newcomer }
-    ensures { OnOk result ((i : ℕ) → get nat_cmp requests.new i ≡ cond (id == i) (option_map (λ bios. join_up bios newcomer) (get nat_cmp requests.old id)) (get nat_cmp requests.old i)) }
+    ensures { OnOk result (JoinsUnder id newcomer (get nat_cmp requests.old) (get nat_cmp requests.new)) }
 {
     let Some(request) = requests.get_mut(&id) else {
         unreachable!()

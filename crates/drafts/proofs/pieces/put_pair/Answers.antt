@@ -1,6 +1,6 @@
 use Rattle.std.proofs.Common.{◌≡◌, ◌+◌, ◌-◌, ◌*◌, ◌++◌, ◌∙◌, List, ℕ, ap, take, drop, length, arith}
 use Rattle.drafts.specs.declared.pieces.TheConstants.{PAIRS}
-use Rattle.drafts.specs.Digits.{pair_of}
+use Rattle.drafts.specs.Inside.Digits.{pair_of}
 use Rattle.drafts.proofs.Digits.{pair_at}
 use Rattle.drafts.proofs.pieces.put_pair.Goals as goal
 

@@ -1,7 +1,7 @@
 use Rattle.std.proofs.Common.{◌≡◌, ◌<◌, ◌+◌, ◌++◌, ◌==◌, ◌∙◌, ℕ, List, [], ◌∷◌, Some, cond, length, length-append, ap, sym, arith, subst, refl}
 use Rattle.std.specs.Prelude.{slice_get}
 use Rattle.blk_ids.specs.ById as by_id
-use Rattle.edd_check.specs.declared.Command.{Command}
+use Rattle.edd_commands.specs.declared.Command.{Command}
 use Rattle.blk_trace.specs.declared.known.Known.TheVariants.{Handed}
 use Rattle.blk_bio.specs.declared.rule.TraceRule.TheVariants as rule
 use Rattle.blk_trace.specs.Happened.{Happened, Back}

@@ -1,6 +1,6 @@
 use Rattle.std.proofs.Common.{◌≡◌, ◌<◌, ◌+◌, ◌++◌, ◌∙◌, ℕ, List, [], ◌∷◌, length, length-append, ap, sym, arith, subst, refl}
 use Rattle.blk_ids.specs.ById as by_id
-use Rattle.edd_check.specs.declared.Command.{Command}
+use Rattle.edd_commands.specs.declared.Command.{Command}
 use Rattle.blk_bio.specs.declared.rule.TraceRule.TheVariants as rule
 use Rattle.blk_trace.specs.Happened.{Happened, Issue}
 use Rattle.blk_trace.specs.Events.{round_of}

@@ -2,7 +2,7 @@ use Rattle.std.proofs.Common.{◌≡◌, ◌∙◌, Some, ap, sym}
 use Rattle.blk_trace.specs.declared.known.Known.TheVariants.{Gone}
 use Rattle.blk_trace.specs.Inside.Kept.{known_of}
 use Rattle.blk_trace.proofs.Ids.{released_first}
-use Rattle.blk_trace.proofs.Knowing.{known_none, known_gone, gone_out, known_handed, known_waits, waiting_is}
+use Rattle.blk_trace.proofs.Knowing.{known_none, known_gone, gone_out, known_requeued, known_waits, waiting_is}
 use Rattle.blk_trace.proofs.First.{issue_unknown, issue_already_issued}
 use Rattle.blk_trace.proofs.trace.Trace.broken_issue.Goals as goal
 
@@ -24,5 +24,5 @@ broken_tag-requires g c =
 
 pub broken_tag-requires-in-Some-Handed : goal.broken_tag-requires-in-Some-Handed
 broken_tag-requires-in-Some-Handed g c =
-    let p = known_handed c.args.self.now.setup c.args.self.now.events c.args.id _ _ c.known_at.ensures.legal (sym c.known_at.ensures.value ∙ c.in-Some-Handed.is ∙ ap Some c.in-Some-Handed.field-0-is) in
+    let p = known_requeued c.args.self.now.setup c.args.self.now.events c.args.id _ _ c.known_at.ensures.legal (sym c.known_at.ensures.value ∙ c.in-Some-Handed.is ∙ ap Some c.in-Some-Handed.field-0-is) in
     record { released = p.released; waits = p.back }

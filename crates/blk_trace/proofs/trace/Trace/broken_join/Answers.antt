@@ -3,14 +3,14 @@ use Rattle.blk_trace.specs.declared.known.Known.TheVariants.{Waits, Gone}
 use Rattle.blk_trace.specs.Inside.Kept.{known_of}
 use Rattle.blk_trace.proofs.Asked.{holds, fails}
 use Rattle.blk_trace.proofs.Ids.{released_first}
-use Rattle.blk_trace.proofs.Knowing.{known_none, known_gone, known_handed, known_waits, waiting_is}
+use Rattle.blk_trace.proofs.Knowing.{known_none, known_gone, known_requeued, known_waits, waiting_is}
 use Rattle.blk_trace.specs.Happened.{Join}
 use Rattle.blk_trace.proofs.Room.{room_kept, full_kept}
 use Rattle.blk_trace.proofs.First.{join_unknown, join_already_issued, join_bio_twice, join_fit, join_too_long, join_unbroken}
 use Rattle.std.specs.Prelude.{not}
 use Rattle.blk_bio.specs.declared.request.Side.{Side}
 use Rattle.blk_bio.specs.Requests.{IsRequest, Fits}
-use Rattle.blk_trace.specs.declared.known.Waiting.{Waiting}
+use Rattle.blk_trace.specs.declared.known.Unissued.{Unissued}
 use Rattle.blk_trace.specs.Setups.{Setup}
 use Rattle.blk_trace.specs.Waits.{Entered}
 use Rattle.blk_trace.specs.Inside.Kept.{summary}
@@ -31,7 +31,7 @@ returns-in-Some-Gone-clause-some g c =
 
 pub returns-in-Some-Handed-clause-some : goal.returns-in-Some-Handed-clause-some
 returns-in-Some-Handed-clause-some g c =
-    let p = known_handed c.args.self.now.setup c.args.self.now.events c.args.id _ _ c.known_at.ensures.legal (sym c.known_at.ensures.value ∙ c.in-Some-Handed.is ∙ ap Some c.in-Some-Handed.field-0-is) in
+    let p = known_requeued c.args.self.now.setup c.args.self.now.events c.args.id _ _ c.known_at.ensures.legal (sym c.known_at.ensures.value ∙ c.in-Some-Handed.is ∙ ap Some c.in-Some-Handed.field-0-is) in
     join_already_issued c.args.self.now.setup c.args.self.now.events c.args.id c.args.request.now p.released (λ h. h p.issued)
 
 pub returns-then-not-are_new-clause-some : goal.returns-then-not-are_new-clause-some
@@ -59,7 +59,7 @@ returns-then-not-has_places-clause-some g c =
     let i = waiting_is c.args.self.now.setup c.args.self.now.events c.args.id p.0 p.1 p.3 in
     let lim : c.limits.result ≡ c.args.self.now.setup.limits = c.limits.ensures ∙ ap (λ (x : Setup). x.limits) c.setup.ensures in
     let some = c.known_at.ensures.request p.0 p.1 in
-    let Q : Waiting → Type 0 = λ new. (w : Entered) → c.in-Some-Waits.waiting ≡ summary w → IsRequest w.bios → ((x : Side) × Fits c.limits.result w.bios c.args.request.now x) × (new ≡ summary record { release = 0; due = w.due; bios = join_up w.bios c.args.request.now }) in
+    let Q : Unissued → Type 0 = λ new. (w : Entered) → c.in-Some-Waits.waiting ≡ summary w → IsRequest w.bios → ((x : Side) × Fits c.limits.result w.bios c.args.request.now x) × (new ≡ summary record { release = 0; due = w.due; bios = join_up w.bios c.args.request.now }) in
     let f = some_found c.joined.result Q (c.is_none.ensures ∙ ap not c.if-is_none.false) c.joined.ensures.some in
     let fit = fits_to c.limits.result c.args.self.now.setup.limits p.0.bios (request_of c.args.self.now.events c.args.id) c.args.request.now lim (sym i.bios) (f.1.1 p.0 p.2 some).0 in
     join_too_long c.args.self.now.setup c.args.self.now.events c.args.id c.args.request.now i.released i.not_issued (holds c.are_new.result c.if-not-are_new.false c.are_new.ensures) fit (full_kept c.args.self.now.setup c.args.self.now.events (Join c.args.id c.args.request.now) refl refl (fails c.has_places.result c.if-not-has_places.true c.has_places.ensures))
@@ -71,7 +71,7 @@ returns-else-not-has_places-clause-none g c =
     let i = waiting_is c.args.self.now.setup c.args.self.now.events c.args.id p.0 p.1 p.3 in
     let lim : c.limits.result ≡ c.args.self.now.setup.limits = c.limits.ensures ∙ ap (λ (x : Setup). x.limits) c.setup.ensures in
     let some = c.known_at.ensures.request p.0 p.1 in
-    let Q : Waiting → Type 0 = λ new. (w : Entered) → c.in-Some-Waits.waiting ≡ summary w → IsRequest w.bios → ((x : Side) × Fits c.limits.result w.bios c.args.request.now x) × (new ≡ summary record { release = 0; due = w.due; bios = join_up w.bios c.args.request.now }) in
+    let Q : Unissued → Type 0 = λ new. (w : Entered) → c.in-Some-Waits.waiting ≡ summary w → IsRequest w.bios → ((x : Side) × Fits c.limits.result w.bios c.args.request.now x) × (new ≡ summary record { release = 0; due = w.due; bios = join_up w.bios c.args.request.now }) in
     let f = some_found c.joined.result Q (c.is_none.ensures ∙ ap not c.if-is_none.false) c.joined.ensures.some in
     let fit = fits_to c.limits.result c.args.self.now.setup.limits p.0.bios (request_of c.args.self.now.events c.args.id) c.args.request.now lim (sym i.bios) (f.1.1 p.0 p.2 some).0 in
     join_unbroken c.args.self.now.setup c.args.self.now.events c.args.id c.args.request.now i.released i.not_issued (holds c.are_new.result c.if-not-are_new.false c.are_new.ensures) fit (room_kept c.args.self.now.setup c.args.self.now.events (Join c.args.id c.args.request.now) refl refl (holds c.has_places.result c.if-not-has_places.false c.has_places.ensures))

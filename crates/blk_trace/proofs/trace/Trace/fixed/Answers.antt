@@ -1,7 +1,7 @@
 use Rattle.std.proofs.Common.{◌≡◌, ◌↔◌, ◌∙◌, List, IsTrue, Bool, true, false, ap, sym, subst, refl}
 use Rattle.std.specs.Prelude.{is_some, not}
 use Rattle.std.specs.List.{list_any}
-use Rattle.edd_check.specs.Capacity.{fixed}
+use Rattle.edd_commands.specs.Capacity.{fixed}
 use Rattle.blk_trace.specs.Happened.{Happened}
 use Rattle.blk_trace.specs.Kinds.{sets_depth}
 use Rattle.blk_trace.specs.Depths.{IsFixed, capacity_of}

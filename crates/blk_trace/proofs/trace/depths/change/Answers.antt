@@ -1,5 +1,5 @@
 use Rattle.std.proofs.Common.{◌≡◌, ◌+◌, ◌-◌, ◌∙◌, ap, sym, arith, length, get_or, eq-eqb, ne_eqb}
-use Rattle.edd_check.specs.declared.steps.Step.{Step}
+use Rattle.edd_commands.specs.declared.steps.Step.{Step}
 use Rattle.blk_trace.proofs.Changes.{change_here, change_after}
 use Rattle.blk_trace.proofs.trace.depths.change.Goals as goal
 

@@ -2,7 +2,7 @@ use Rattle.std.proofs.Common.{◌≡◌, ◌≤◌, ◌+◌, ◌||◌, length, t
 use Rattle.blk_ids.specs.IdSet as id_set
 use Rattle.blk_bio.specs.declared.bio.BioId.{BioId}
 use Rattle.blk_trace.specs.Inside.Kept.{has_named, has_bio_id}
-use Rattle.blk_trace.proofs.trace.adding.enter.Given as goal
+use Rattle.blk_trace.proofs.trace.adding.insert_ids.Given as goal
 
 abbrev pub invariant-loop-bio : goal.invariant-loop-bio
 invariant-loop-bio g l = record {

@@ -1,0 +1,2 @@
+-- What clauses of private functions alone need.
+pub mod Lists
