@@ -9,7 +9,7 @@ use Rattle.blk_bio.specs.Requests.{dir_of, first_of}
 use Rattle.blk_sched.specs.Meaning.{Waiting, Pending, OpenPicks, Meaning}
 use Rattle.blk_sched.specs.Policies.{Policy, choosing}
 use Rattle.blk_deadline.specs.declared.Last.{Last}
-use Rattle.blk_deadline.specs.declared.Turn.{Turn}
+use Rattle.blk_deadline.specs.declared.BatchState.{BatchState}
 use Rattle.blk_deadline.specs.declared.Tunables.{Tunables}
 
 -- it serves every request for every hardware queue
@@ -43,7 +43,7 @@ next_of dir (Some l) ws =
     if is_same l.dir dir then first_by (filter (λ w. is_of dir w && comes_before l.first l.id (first_of w.bios) w.id) ws) else None
 
 -- every pick sets the last position
-abbrev pub taken : Waiting → ℕ → ℕ → Waiting × Turn
+abbrev pub taken : Waiting → ℕ → ℕ → Waiting × BatchState
 taken w batching starved = (
   w,
   record {
@@ -59,7 +59,7 @@ due_or_next now oldest None = oldest
 due_or_next now oldest (Some next) = if nat_le oldest.due now then oldest else next
 
 -- rules 2 and 3: reads go first until writes have starved
-abbrev pub new_batch : ℕ → ℕ → ℕ → Option Waiting → Option Waiting → (Dir → Option Waiting) → Option (Waiting × Turn)
+abbrev pub new_batch : ℕ → ℕ → ℕ → Option Waiting → Option Waiting → (Dir → Option Waiting) → Option (Waiting × BatchState)
 new_batch limit starved now None None next = None
 new_batch limit starved now (Some r) None next = Some (taken (due_or_next now r (next Read)) 1 starved)
 new_batch limit starved now None (Some w) next = Some (taken (due_or_next now w (next Write)) 1 0)
@@ -71,28 +71,28 @@ abbrev pub in_batch_of : ℕ → ℕ → Option Last → (Dir → Option Waiting
 in_batch_of limit batching None next = None
 in_batch_of limit batching (Some l) next = if nat_lt batching limit then next l.dir else None
 
-abbrev pub in_batch : ℕ → Turn → (Dir → Option Waiting) → Option Waiting
-in_batch limit turn next = in_batch_of limit turn.batching turn.last next
+abbrev pub in_batch : ℕ → BatchState → (Dir → Option Waiting) → Option Waiting
+in_batch limit batch next = in_batch_of limit batch.batching batch.last next
 
-abbrev pub batch_or : Tunables → Turn → ℕ → (Dir → Option Waiting) → (Dir → Option Waiting) → Option Waiting → Option (Waiting × Turn)
-batch_or tunables turn now oldest next (Some w) = Some (taken w (turn.batching + 1) turn.starved)
-batch_or tunables turn now oldest next None = new_batch tunables.writes_starved turn.starved now (oldest Read) (oldest Write) next
+abbrev pub batch_or : Tunables → BatchState → ℕ → (Dir → Option Waiting) → (Dir → Option Waiting) → Option Waiting → Option (Waiting × BatchState)
+batch_or tunables batch now oldest next (Some w) = Some (taken w (batch.batching + 1) batch.starved)
+batch_or tunables batch now oldest next None = new_batch tunables.writes_starved batch.starved now (oldest Read) (oldest Write) next
 
-abbrev pub choice_of : Tunables → Turn → ℕ → (Dir → Option Waiting) → (Dir → Option Waiting) → Option (Waiting × Turn)
-choice_of tunables turn now oldest next = batch_or tunables turn now oldest next (in_batch tunables.fifo_batch turn next)
+abbrev pub choice_of : Tunables → BatchState → ℕ → (Dir → Option Waiting) → (Dir → Option Waiting) → Option (Waiting × BatchState)
+choice_of tunables batch now oldest next = batch_or tunables batch now oldest next (in_batch tunables.fifo_batch batch next)
 
 -- the choice: a function of what waits, the last position, the batch, how often reads went first, and now
-abbrev pub deadline_choice : Tunables → Turn → ℕ → List Waiting → Option (Waiting × Turn)
-deadline_choice tunables turn now ws = choice_of tunables turn now (λ dir. oldest_of dir ws) (λ dir. next_of dir turn.last ws)
+abbrev pub deadline_choice : Tunables → BatchState → ℕ → List Waiting → Option (Waiting × BatchState)
+deadline_choice tunables batch now ws = choice_of tunables batch now (λ dir. oldest_of dir ws) (λ dir. next_of dir batch.last ws)
 
 -- what is handed out, and where the scheduler stands after
-abbrev pub chosen : Option (Waiting × Turn) → Option Waiting
+abbrev pub chosen : Option (Waiting × BatchState) → Option Waiting
 chosen None = None
 chosen (Some x) = Some x.0
 
-abbrev pub turn_after : Turn → Option (Waiting × Turn) → Turn
-turn_after turn None = turn
-turn_after turn (Some x) = x.1
+abbrev pub batch_after : BatchState → Option (Waiting × BatchState) → BatchState
+batch_after batch None = batch
+batch_after batch (Some x) = x.1
 
 -- a meaning of these parts
 abbrev pub meaning_with : Pending → OpenPicks → Bool → ℕ → Meaning
@@ -107,17 +107,21 @@ abbrev pub last_numbers : Option Last → List ℕ
 last_numbers None = []
 last_numbers (Some last) = number_of (is_same last.dir Write) ∷ last.first ∷ last.id ∷ []
 
-abbrev pub kept_of : Turn → Tunables → List ℕ
-kept_of turn tunables =
+abbrev pub kept_of : BatchState → Tunables → List ℕ
+kept_of batch tunables =
     tunables.fifo_batch ∷ tunables.writes_starved ∷ number_of tunables.front_merges
-    ∷ turn.batching ∷ turn.starved ∷ last_numbers turn.last
+    ∷ batch.batching ∷ batch.starved ∷ last_numbers batch.last
 
--- its choice by what it keeps: of the settings and the turn that are kept, with the turn that follows
+-- where it stands and its settings are known by such numbers
+abbrev pub AreKnown : (BatchState → Tunables → List ℕ) → Type 0
+AreKnown numbers = (t u : BatchState) (s v : Tunables) → numbers t s ≡ numbers u v → (t ≡ u) × (s ≡ v)
+
+-- its choice by what it keeps: of the settings and the batch that are kept, with the batch that follows
 abbrev pub deadline_chooses : List ℕ → Meaning → ℕ → ℕ → Option Waiting → List ℕ → Type 0
 deadline_chooses kept m hw now answer after =
-    (turn : Turn) × (tunables : Tunables) × (kept ≡ kept_of turn tunables)
-    × (answer ≡ chosen (deadline_choice tunables turn now (map.values m.pending)))
-    × (after ≡ kept_of (turn_after turn (deadline_choice tunables turn now (map.values m.pending))) tunables)
+    (batch : BatchState) × (tunables : Tunables) × (kept ≡ kept_of batch tunables)
+    × (answer ≡ chosen (deadline_choice tunables batch now (map.values m.pending)))
+    × (after ≡ kept_of (batch_after batch (deadline_choice tunables batch now (map.values m.pending))) tunables)
 
 -- its policy
 abbrev pub deadline_policy : Policy

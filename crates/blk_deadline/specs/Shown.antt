@@ -1,9 +1,11 @@
 -- What a deadline scheduler shows.
-use Rattle.std.specs.Prelude.{ℕ}
-use Rattle.blk_sched.specs.Meaning.{Pending, OpenPicks, Meaning}
+use Rattle.std.specs.Prelude.{ℕ, List, Option}
+use Rattle.std.specs.FinMap as map
+use Rattle.blk_sched.specs.Meaning.{Waiting, Pending, OpenPicks, Meaning}
 use Rattle.blk_deadline.specs.declared.Deadline.{Deadline}
-use Rattle.blk_deadline.specs.declared.Turn.{Turn}
+use Rattle.blk_deadline.specs.declared.BatchState.{BatchState}
 use Rattle.blk_deadline.specs.declared.Tunables.{Tunables}
+use Rattle.blk_deadline.specs.Choice.{deadline_choice, kept_of}
 
 module _ {A : Type 0} where
   -- the requests that wait, by their ids
@@ -11,8 +13,8 @@ module _ {A : Type 0} where
   pending_of s = s.index
 
   -- where it stands: the last pick, how many went in the batch, and how often reads went first
-  abbrev pub turn_of : Deadline A → Turn
-  turn_of s = s.turn
+  abbrev pub batch_of : Deadline A → BatchState
+  batch_of s = s.batch
 
   -- what it is tuned by
   abbrev pub tunables_of : Deadline A → Tunables
@@ -21,3 +23,11 @@ module _ {A : Type 0} where
   -- what it means as a scheduler
   abbrev pub meaning_of : Deadline A → Meaning
   meaning_of s = record { pending = s.index; open_picks = s.open_picks; front = s.tunables.front_merges; round = s.round }
+
+  -- what it keeps beside that
+  abbrev pub kept_in : Deadline A → List ℕ
+  kept_in s = kept_of s.batch s.tunables
+
+  -- its choice
+  abbrev pub choice_at : Deadline A → ℕ → Option (Waiting × BatchState)
+  choice_at s now = deadline_choice s.tunables s.batch now (map.values s.index)

@@ -4,16 +4,15 @@
 ghost use Rattle.std.specs.Prelude.{◌≡◌, ◌≤◌, ◌<◌, ◌+◌, ◌↔◌, ℕ, Bool, true, Option, None, Some, Err, IfOk, OnOk, IfErr, OnErr, IfSome, IfNone, IsSome, IsTrue};
 ghost use Rattle.std.specs.Option.{OnSome, option_copied};
 ghost use Rattle.std.specs.FinMap as map;
-ghost use Rattle.blk_sched.specs.Meaning.{Waiting, Meaning, HasCandidate, HasNoCandidate, Joins, ServesNothing, Picks, HandsBack, opened, open_of, handed_of, at_start};
-ghost use Rattle.blk_index.specs.Index.{NoneOf};
-ghost use Rattle.blk_deadline.specs.declared.Turn.{Turn as Place};
-ghost use Rattle.blk_deadline.specs.declared.Tunables.{Tunables as Settings};
-ghost use Rattle.blk_deadline.specs.Choice.{serves_all, oldest_of, next_of, in_batch, due_or_next, taken, chosen, turn_after, kept_of, deadline_choice, deadline_chooses, deadline_policy};
-ghost use Rattle.blk_deadline.specs.Shown.{pending_of, turn_of, tunables_of, meaning_of};
+ghost use Rattle.blk_sched.specs.Meaning.{Waiting, Meaning, HasCandidate, HasNoCandidate, Joins, ServesNothing, Picks, RequeuesPick, opened, open_of, requeued_of, at_start};
+ghost use Rattle.blk_index.specs.Index.{IsIdOf, NoneOf};
+ghost use Rattle.blk_deadline.specs.Choice.{serves_all, oldest_of, due_or_next, taken, chosen, batch_after, kept_of, AreKnown, deadline_chooses, deadline_policy};
+ghost use Rattle.blk_deadline.specs.Shown.{batch_of, tunables_of, kept_in, choice_at, meaning_of};
+ghost use Rattle.blk_deadline.specs.Inside.Parts.{IsChosen, next_in, batch_next};
 
 use blk_bio::{Dir, Limits, MAX_QUEUES, Request, Side};
 use blk_index::Sorted;
-use blk_sched::{MAX_HANDED, MAX_OPEN, OpenPicks, Queued, Scheduler};
+use blk_sched::{MAX_OPEN, MAX_REQUEUED, OpenPicks, Queued, Scheduler};
 use std::alloc::{AllocError, Allocator, Global};
 
 /// What the scheduler is tuned by, by the names of Linux's deadline-iosched.
@@ -21,7 +20,7 @@ use std::alloc::{AllocError, Allocator, Global};
 pub struct Tunables {
     /// How many requests go in one batch, 1 at least.
     pub fifo_batch: u16,
-    /// How often a batch of reads begins while writes wait, before the writes' turn comes.
+    /// How often a batch of reads begins while writes wait, before the writes' batch comes.
     pub writes_starved: u16,
     /// Whether a newcomer may join at the front.
     pub front_merges: bool,
@@ -56,9 +55,9 @@ pub struct Last {
     pub id: u64,
 }
 
-/// Where the scheduler stands: the last position, how many went in this batch, and how often reads went first.
+/// Where the scheduler stands: its last pick, how many requests went in this batch, and how often reads went first.
 #[derive(Clone, Copy, Debug, PartialEq, Eq)]
-pub struct Turn {
+pub struct BatchState {
     /// What was picked last.
     pub last: Option<Last>,
     /// How many requests went in the batch.
@@ -72,7 +71,7 @@ pub struct Turn {
 pub struct Deadline<A: Allocator = Global> {
     index: Sorted<A>,
     tunables: Tunables,
-    turn: Turn,
+    batch: BatchState,
     open_picks: OpenPicks,
     round: u64,
 }
@@ -83,11 +82,11 @@ impl<A: Allocator + Clone> Deadline<A> {
     pub fn new(alloc: A, tunables: Tunables) -> Result<Deadline<A>, DeadlineFault>
         ensures zero { (tunables.fifo_batch ≡ 0) ↔ (result ≡ Err DeadlineFault.ZeroBatch) }
         ensures ok { IfOk result (λ s. meaning_of s ≡ at_start tunables.front_merges) }
-        ensures turn { IfOk result (λ s. turn_of s ≡ record { last = None; batching = 0; starved = 0 }) }
+        ensures batch { IfOk result (λ s. batch_of s ≡ record { last = None; batching = 0; starved = 0 }) }
         ensures tunables { IfOk result (λ s. tunables_of s ≡ tunables) }
         ensures memory { IfErr result (λ e. 0 < tunables.fifo_batch → e ≡ DeadlineFault.Memory) }
-        // the turn and the tunables are known by what the trait says is kept
-        ensures known { (turn other : Place) (tuned tuned_so : Settings) → kept_of turn tuned ≡ kept_of other tuned_so → (turn ≡ other) × (tuned ≡ tuned_so) }
+        // the batch and the tunables are known by what the trait says is kept
+        ensures known { AreKnown kept_of }
     {
         if tunables.has_zero_batch() {
             return Err(DeadlineFault::ZeroBatch);
@@ -98,7 +97,7 @@ impl<A: Allocator + Clone> Deadline<A> {
         Ok(Deadline {
             index,
             tunables,
-            turn: Turn {
+            batch: BatchState {
                 last: None,
                 batching: 0,
                 starved: 0,
@@ -123,10 +122,10 @@ impl<A: Allocator + Clone> Deadline<A> {
     /// The id of the next request of a direction.
     #[inline(always)]
     fn next(&self, dir: Dir) -> Option<u64>
-        ensures some { IfSome result (λ id. (w : Waiting) × (map.get self.now.index id ≡ Some w) × (next_of dir self.now.turn.last (map.values self.now.index) ≡ Some w)) }
-        ensures none { IfNone result (next_of dir self.now.turn.last (map.values self.now.index) ≡ None) }
+        ensures some { IfSome result (IsIdOf (map.get self.now.index) (next_in self.now dir)) }
+        ensures none { IfNone result (next_in self.now dir ≡ None) }
     {
-        let Some(last) = self.turn.last else {
+        let Some(last) = self.batch.last else {
             return None;
         };
         if last.dir != dir {
@@ -138,14 +137,14 @@ impl<A: Allocator + Clone> Deadline<A> {
     /// The id of the next request of the batch, if it goes on.
     #[inline(always)]
     fn in_batch(&self) -> Option<u64>
-        ensures some { IfSome result (λ id. (w : Waiting) × (map.get self.now.index id ≡ Some w) × (in_batch self.now.tunables.fifo_batch self.now.turn (λ dir. next_of dir self.now.turn.last (map.values self.now.index)) ≡ Some w)) }
-        ensures none { IfNone result (in_batch self.now.tunables.fifo_batch self.now.turn (λ dir. next_of dir self.now.turn.last (map.values self.now.index)) ≡ None) }
-        ensures room { OnSome result (self.now.turn.batching < self.now.tunables.fifo_batch) }
+        ensures some { IfSome result (IsIdOf (map.get self.now.index) (batch_next self.now)) }
+        ensures none { IfNone result (batch_next self.now ≡ None) }
+        ensures room { OnSome result (self.now.batch.batching < self.now.tunables.fifo_batch) }
     {
-        let Some(last) = self.turn.last else {
+        let Some(last) = self.batch.last else {
             return None;
         };
-        if self.turn.batching >= self.tunables.fifo_batch {
+        if self.batch.batching >= self.tunables.fifo_batch {
             return None;
         }
         self.next(last.dir)
@@ -154,7 +153,7 @@ impl<A: Allocator + Clone> Deadline<A> {
     /// The id of the oldest of a direction where it is due or there is no next one, and otherwise of the next one.
     fn due_or_next(&self, now: u64, oldest: &Queued<A>, dir: Dir) -> u64
         requires { map.get self.now.index oldest.now.id ≡ Some oldest.now }
-        ensures { map.get self.now.index result ≡ Some (due_or_next now oldest.now (next_of dir self.now.turn.last (map.values self.now.index))) }
+        ensures { map.get self.now.index result ≡ Some (due_or_next now oldest.now (next_in self.now dir)) }
     {
         if oldest.due <= now {
             return oldest.id;
@@ -168,12 +167,12 @@ impl<A: Allocator + Clone> Deadline<A> {
     /// The choice, by its id, how many went in the batch then, and how often reads went first.
     #[inline(always)]
     fn choose(&self, now: u64) -> Option<(u64, u16, u16)>
-        ensures some { IfSome result (λ r. (w : Waiting) × (map.get self.now.index r.0 ≡ Some w) × (deadline_choice self.now.tunables self.now.turn now (map.values self.now.index) ≡ Some (taken w r.1 r.2))) }
-        ensures none { IfNone result (deadline_choice self.now.tunables self.now.turn now (map.values self.now.index) ≡ None) }
+        ensures some { IfSome result (IsChosen (map.get self.now.index) (choice_at self.now now)) }
+        ensures none { IfNone result (choice_at self.now now ≡ None) }
         ensures all { IfNone result ((k : ℕ) (w : Waiting) → map.get self.now.index k ≡ Some w → ⊥) }
     {
-        let starved = self.turn.starved;
-        let batching = self.turn.batching;
+        let starved = self.batch.starved;
+        let batching = self.batch.batching;
         let limit = self.tunables.fifo_batch;
         let patience = self.tunables.writes_starved;
         if let Some(id) = self.in_batch() {
@@ -196,7 +195,7 @@ impl<A: Allocator + Clone> Deadline<A> {
 }
 
 /// Where the scheduler stands after a pick.
-fn turn_of<A: Allocator + Clone>(queued: &Queued<A>, batching: u16, starved: u16) -> Turn
+fn batch_state<A: Allocator + Clone>(queued: &Queued<A>, batching: u16, starved: u16) -> BatchState
     ensures { result ≡ (taken queued.now batching starved).1 }
 {
     let last = Last {
@@ -204,7 +203,7 @@ fn turn_of<A: Allocator + Clone>(queued: &Queued<A>, batching: u16, starved: u16
         first: queued.request.first(),
         id: queued.id,
     };
-    Turn {
+    BatchState {
         last: Some(last),
         batching,
         starved,
@@ -218,7 +217,7 @@ impl<A: Allocator + Clone> Scheduler for Deadline<A> {
 
     ghost policy = { deadline_policy };
 
-    ghost kept = { λ s. kept_of s.turn s.tunables };
+    ghost kept = { λ s. kept_of s.batch s.tunables };
 
     #[inline(always)]
     fn enter(&mut self, slot: &mut Option<Queued<A>>) -> Result<(), AllocError> {
@@ -269,9 +268,9 @@ impl<A: Allocator + Clone> Scheduler for Deadline<A> {
         requires hw { hw < MAX_QUEUES }
         requires round { now ≡ (meaning_of self.old).round }
         requires few { (meaning_of self.old).open_picks.reads + (meaning_of self.old).open_picks.writes < MAX_OPEN }
-        ensures chosen { deadline_chooses (kept_of (turn_of self.old) (tunables_of self.old)) (meaning_of self.old) hw now result (kept_of (turn_of self.new) (tunables_of self.new)) }
-        ensures choice { result ≡ chosen (deadline_choice (tunables_of self.old) (turn_of self.old) now (map.values (pending_of self.old))) }
-        ensures turn { turn_of self.new ≡ turn_after (turn_of self.old) (deadline_choice (tunables_of self.old) (turn_of self.old) now (map.values (pending_of self.old))) }
+        ensures chosen { deadline_chooses (kept_in self.old) (meaning_of self.old) hw now result (kept_in self.new) }
+        ensures choice { result ≡ chosen (choice_at self.old now) }
+        ensures batch { batch_of self.new ≡ batch_after (batch_of self.old) (choice_at self.old now) }
         ensures tunables { tunables_of self.new ≡ tunables_of self.old }
         ensures picked { IfSome result (λ w. Picks serves_all hw (meaning_of self.old) w (meaning_of self.new)) }
         ensures none { IfNone result (ServesNothing serves_all hw (meaning_of self.old)) }
@@ -286,49 +285,49 @@ impl<A: Allocator + Clone> Scheduler for Deadline<A> {
             unreachable!()
         };
         self.open_picks.open(queued.request.dir());
-        self.turn = turn_of(&queued, batching, starved);
+        self.batch = batch_state(&queued, batching, starved);
         Some(queued)
     }
 
-    /// Closes an open pick; the turn and the tunables stay.
+    /// Closes an open pick; the batch and the tunables stay.
     fn on_done(&mut self, hw: u8, dir: Dir, wait: u64)
         requires hw { hw < MAX_QUEUES }
         requires is_open { 0 < open_of dir (meaning_of self.old).open_picks }
         ensures done { meaning_of self.old ≡ record (meaning_of self.new) { open_picks = opened dir (meaning_of self.new).open_picks } }
-        ensures turn { turn_of self.new ≡ turn_of self.old }
+        ensures batch { batch_of self.new ≡ batch_of self.old }
         ensures tunables { tunables_of self.new ≡ tunables_of self.old }
     {
         let _ = (hw, wait);
         self.open_picks.close(dir);
     }
 
-    /// Hands an open pick back; the turn and the tunables stay.
-    fn on_back(&mut self, dir: Dir)
+    /// Requeues an open pick; the batch and the tunables stay.
+    fn on_requeue(&mut self, dir: Dir)
         requires is_open { 0 < open_of dir (meaning_of self.old).open_picks }
-        requires few { (meaning_of self.old).open_picks.handed_reads + (meaning_of self.old).open_picks.handed_writes < MAX_HANDED }
-        ensures back { HandsBack dir (meaning_of self.old) (meaning_of self.new) }
-        ensures turn { turn_of self.new ≡ turn_of self.old }
+        requires few { (meaning_of self.old).open_picks.requeued_reads + (meaning_of self.old).open_picks.requeued_writes < MAX_REQUEUED }
+        ensures back { RequeuesPick dir (meaning_of self.old) (meaning_of self.new) }
+        ensures batch { batch_of self.new ≡ batch_of self.old }
         ensures tunables { tunables_of self.new ≡ tunables_of self.old }
     {
-        self.open_picks.hand_back(dir);
+        self.open_picks.requeue(dir);
     }
 
-    /// Opens a pick again that was handed back; the turn and the tunables stay.
-    fn on_again(&mut self, dir: Dir)
-        requires is_handed { 0 < handed_of dir (meaning_of self.old).open_picks }
+    /// Opens a requeued pick again; the batch and the tunables stay.
+    fn on_reissue(&mut self, dir: Dir)
+        requires is_requeued { 0 < requeued_of dir (meaning_of self.old).open_picks }
         requires few { (meaning_of self.old).open_picks.reads + (meaning_of self.old).open_picks.writes < MAX_OPEN }
-        ensures again { HandsBack dir (meaning_of self.new) (meaning_of self.old) }
-        ensures turn { turn_of self.new ≡ turn_of self.old }
+        ensures again { RequeuesPick dir (meaning_of self.new) (meaning_of self.old) }
+        ensures batch { batch_of self.new ≡ batch_of self.old }
         ensures tunables { tunables_of self.new ≡ tunables_of self.old }
     {
-        self.open_picks.open_again(dir);
+        self.open_picks.reopen(dir);
     }
 
-    /// Begins a round; the turn and the tunables stay.
+    /// Begins a round; the batch and the tunables stay.
     fn on_tick(&mut self, now: u64)
         requires { (meaning_of self.old).round < now }
         ensures round { meaning_of self.new ≡ record (meaning_of self.old) { round = now } }
-        ensures turn { turn_of self.new ≡ turn_of self.old }
+        ensures batch { batch_of self.new ≡ batch_of self.old }
         ensures tunables { tunables_of self.new ≡ tunables_of self.old }
     {
         self.round = now;
@@ -342,7 +341,7 @@ impl<A: Allocator + Clone> Scheduler for Deadline<A> {
         self.open_picks.of(dir)
     }
 
-    fn handed(&self, dir: Dir) -> u64 {
-        self.open_picks.handed(dir)
+    fn requeued(&self, dir: Dir) -> u64 {
+        self.open_picks.requeued(dir)
     }
 }

@@ -13,10 +13,10 @@ use Rattle.blk_sched.specs.Meaning.{Waiting, Pending, joined_waiting}
 use Rattle.blk_sched.specs.Maps.{one_test}
 use Rattle.blk_index.specs.Index.{IsBefore, IsJoined}
 use Rattle.blk_index.specs.Inside.Pairs.{pair_cmp}
-use Rattle.blk_index.specs.Inside.Orders.{PairAdded, PairTaken, PairsKept}
-use Rattle.blk_index.specs.Inside.Heads.{Becomes}
+use Rattle.blk_index.specs.Inside.SortLists.{PairAdded, PairTaken, PairsKept}
+use Rattle.blk_index.specs.Inside.Buckets.{Becomes}
 use Rattle.blk_index.proofs.Indexed.{Found, becomes_given, becomes_taken, same_without}
-use Rattle.blk_earliest.specs.Dues.{is_due, AreDues, IsFirstFrom, NoneFrom, IsFirstPair, NoPairFrom}
+use Rattle.blk_earliest.specs.Inside.Dues.{is_due, AreDues, IsFirstFrom, NoneFrom, IsFirstPair, NoPairFrom}
 
 abbrev pub Pairs : Type 0
 Pairs = ℕ × ℕ → Bool

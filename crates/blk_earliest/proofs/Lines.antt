@@ -14,10 +14,10 @@ use Rattle.std.specs.declared.cmp.Ordering.TheVariants.{Less, Equal, Greater}
 use Rattle.std.proofs.lemmas.Bool.{cases_lt, cases_eq, or_cases, or_left, or_right, or_from, both_ways, false_from_ne_true}
 use Rattle.std.proofs.lemmas.Option.{slice_get_within}
 use Rattle.blk_index.specs.Inside.Pairs.{pair_cmp, pair_total}
-use Rattle.blk_index.specs.Inside.Orders.{PairAdded, PairTaken, PairsKept}
+use Rattle.blk_index.specs.Inside.SortLists.{PairAdded, PairTaken, PairsKept}
 use Rattle.blk_index.proofs.Listed.{is_equal}
-use Rattle.blk_earliest.specs.Dues.{IsFirstPair}
-use Rattle.blk_earliest.specs.Lines.{listed, either, IsFirstOf, IsFirstOrNone}
+use Rattle.blk_earliest.specs.Inside.Dues.{IsFirstPair}
+use Rattle.blk_earliest.specs.Inside.Lines.{listed, either, IsFirstOf, IsFirstOrNone}
 use Rattle.blk_earliest.proofs.Dues.{Pairs}
 
 abbrev Pair : Type 0

@@ -14,7 +14,7 @@ use Rattle.blk_sched.specs.Meaning.{Waiting, Pending}
 use Rattle.blk_sched.specs.Maps.{behind, at_front, in_order, looked_up}
 use Rattle.blk_index.specs.Index.{IsBefore}
 use Rattle.blk_earliest.specs.Choice.{comes_before, first_of_two, first_due, on_time}
-use Rattle.blk_earliest.specs.Dues.{IsFirstFrom, NoneFrom}
+use Rattle.blk_earliest.specs.Inside.Dues.{IsFirstFrom, NoneFrom}
 
 -- ---- tests
 

@@ -1,4 +1,3 @@
 pub mod Choice
-pub mod Dues
-pub mod Lines
 pub mod Shown
+pub mod Inside

@@ -5,7 +5,7 @@ ghost use Rattle.std.specs.FinMap as map;
 ghost use Rattle.blk_sched.specs.Meaning.{Waiting};
 ghost use Rattle.blk_sched.specs.Fits.{IsNewestFit, FitsNone, HasFit};
 ghost use Rattle.blk_index.specs.Index.{IsJoined};
-ghost use Rattle.blk_earliest.specs.Dues.{IsFirstFrom, NoneFrom};
+ghost use Rattle.blk_earliest.specs.Inside.Dues.{IsFirstFrom, NoneFrom};
 
 use crate::due::Due;
 use crate::order::Dues;
@@ -26,8 +26,8 @@ impl<A: Allocator> Model for ByDue<A> {
     ghost use Rattle.std.specs.Coded.{coded_ℕ};
     ghost use Rattle.std.specs.FinMap.{get, code};
     ghost use Rattle.blk_sched.specs.Meaning.{Pending, waiting_code};
-    ghost use Rattle.blk_earliest.specs.Dues.{AreDues};
-    ghost use Rattle.blk_earliest.specs.Lines.{dues_in, AreLines};
+    ghost use Rattle.blk_earliest.specs.Inside.Dues.{AreDues};
+    ghost use Rattle.blk_earliest.specs.Inside.Lines.{dues_in, AreLines};
 
     ghost Value = { Pending };
 
@@ -56,8 +56,8 @@ impl<A: Allocator + Clone> ByDue<A> {
         self.index.len()
     }
 
-    /// Adds a request whose id isn't there. Refused for want of memory alone: nothing is changed then, and the
-    /// request comes back.
+    /// Adds a request whose id isn't there. It fails only when out of memory: nothing is changed then, and the request
+    /// comes back.
     #[inline(always)]
     pub fn insert(&mut self, queued: Queued<A>) -> Result<(), Queued<A>>
         requires { map.get self.old queued.id ≡ None }
@@ -110,12 +110,13 @@ impl<A: Allocator + Clone> ByDue<A> {
         ensures none { IfNone result (NoneFrom due (map.get self.now)) }
         ensures named { (k : ℕ) (w : Waiting) → map.get self.now k ≡ Some w → w.id ≡ k }
     {
+        // for the proof alone: each request has its id
         let _ = self.index.len();
         self.dues.first_id(due)
     }
 
-    /// Joins a newcomer to the request of an id, which it fits at the side, in the round `now`; the due round stays.
-    /// Refused for want of memory alone: nothing is changed then, and the newcomer comes back.
+    /// Joins a newcomer to the request of an id, which it fits at the side, in the round `now`; the due round stays. It
+    /// fails only when out of memory: nothing is changed then, and the newcomer comes back.
     pub fn join_at(
         &mut self,
         id: u64,

@@ -8,8 +8,8 @@ ghost use Rattle.blk_index.specs.Inside.Pairs.{pair_cmp, pair_total};
 use std::cmp::Ordering;
 use std::marker::Model;
 
-/// The due round of a request and its id, in the order of due rounds and then of ids. Seen as the pair of them. The order is
-/// that of pairs, with the greater one told first, which is what a set asks for at most of its keys.
+/// The due round of a request and its id, ordered by due round and then by id. Seen as a pair. `cmp` asks first whether
+/// this key is the greater one, which is the answer at most keys that the search of an ordered set visits.
 #[derive(Clone, Copy)]
 pub struct Due {
     /// The due round.

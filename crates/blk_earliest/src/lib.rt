@@ -4,6 +4,7 @@
 ghost use Rattle.std.specs.Prelude.{◌≡◌, ◌<◌, ◌+◌, ℕ, Bool, true, false, List, [], None, Some, IfOk, IfSome, IfNone, IsTrue};
 ghost use Rattle.std.specs.FinMap as map;
 ghost use Rattle.blk_sched.specs.Meaning.{Waiting, Picks, ServesNothing, at_start};
+ghost use Rattle.blk_index.specs.Index.{IsIdOf};
 ghost use Rattle.blk_earliest.specs.Choice.{serves_all, first_due, on_time, earliest_choice, earliest_chooses, earliest_policy, kept_of, IsFirst, IsFirstMeetable};
 ghost use Rattle.blk_earliest.specs.Shown.{pending_of, late_last_of, meaning_of};
 
@@ -27,7 +28,7 @@ pub struct Earliest<A: Allocator = Global> {
 
 impl<A: Allocator + Clone> Earliest<A> {
     /// A scheduler in which nothing waits and no pick is open, in round 0. With `late_last` a request whose due round is
-    /// past waits until none is there that can still be met. Refused for want of memory alone.
+    /// past waits until none is there that can still be met. It fails only when out of memory.
     pub fn new(alloc: A, late_last: bool) -> Result<Earliest<A>, AllocError>
         ensures ok { IfOk result (λ s. meaning_of s ≡ at_start true) }
         ensures setting { IfOk result (λ s. late_last_of s ≡ late_last) }
@@ -43,7 +44,7 @@ impl<A: Allocator + Clone> Earliest<A> {
     /// The id of the request that is due first.
     #[inline(always)]
     fn first(&self) -> Option<u64>
-        ensures some { IfSome result (λ id. (w : Waiting) × (map.get self.now.waiting id ≡ Some w) × (first_due (map.values self.now.waiting) ≡ Some w)) }
+        ensures some { IfSome result (IsIdOf (map.get self.now.waiting) (first_due (map.values self.now.waiting))) }
         ensures none { IfNone result (first_due (map.values self.now.waiting) ≡ None) }
         ensures all { IfNone result ((k : ℕ) (w : Waiting) → map.get self.now.waiting k ≡ Some w → ⊥) }
     {
@@ -53,7 +54,7 @@ impl<A: Allocator + Clone> Earliest<A> {
     /// The id of the request that is due first of those that are due in the round or later.
     #[inline(always)]
     fn first_on_time(&self, now: u64) -> Option<u64>
-        ensures some { IfSome result (λ id. (w : Waiting) × (map.get self.now.waiting id ≡ Some w) × (first_due (on_time now (map.values self.now.waiting)) ≡ Some w)) }
+        ensures some { IfSome result (IsIdOf (map.get self.now.waiting) (first_due (on_time now (map.values self.now.waiting)))) }
         ensures none { IfNone result (first_due (on_time now (map.values self.now.waiting)) ≡ None) }
     {
         self.waiting.first_from(now)
@@ -62,7 +63,7 @@ impl<A: Allocator + Clone> Earliest<A> {
     /// The id of the choice.
     #[inline(always)]
     fn choose(&self, now: u64) -> Option<u64>
-        ensures some { IfSome result (λ id. (w : Waiting) × (map.get self.now.waiting id ≡ Some w) × (earliest_choice self.now.late_last now (map.values self.now.waiting) ≡ Some w)) }
+        ensures some { IfSome result (IsIdOf (map.get self.now.waiting) (earliest_choice self.now.late_last now (map.values self.now.waiting))) }
         ensures none { IfNone result (earliest_choice self.now.late_last now (map.values self.now.waiting) ≡ None) }
         ensures all { IfNone result ((k : ℕ) (w : Waiting) → map.get self.now.waiting k ≡ Some w → ⊥) }
     {
@@ -169,12 +170,12 @@ impl<A: Allocator + Clone> Scheduler for Earliest<A> {
         self.open_picks.close(dir);
     }
 
-    fn on_back(&mut self, dir: Dir) {
-        self.open_picks.hand_back(dir);
+    fn on_requeue(&mut self, dir: Dir) {
+        self.open_picks.requeue(dir);
     }
 
-    fn on_again(&mut self, dir: Dir) {
-        self.open_picks.open_again(dir);
+    fn on_reissue(&mut self, dir: Dir) {
+        self.open_picks.reopen(dir);
     }
 
     fn on_tick(&mut self, now: u64) {
@@ -189,7 +190,7 @@ impl<A: Allocator + Clone> Scheduler for Earliest<A> {
         self.open_picks.of(dir)
     }
 
-    fn handed(&self, dir: Dir) -> u64 {
-        self.open_picks.handed(dir)
+    fn requeued(&self, dir: Dir) -> u64 {
+        self.open_picks.requeued(dir)
     }
 }

@@ -6,9 +6,9 @@ ghost use Rattle.std.specs.Ordering.{is_lt, is_gt, eq_by_cmp};
 ghost use Rattle.std.specs.List.Sorted.{IsStrictlySortedBy};
 ghost use Rattle.std.specs.BTreeSet.{contains};
 ghost use Rattle.std.specs.declared.cmp.Ordering.TheVariants.{Less};
-ghost use Rattle.blk_index.specs.Inside.Orders.{pair_cmp, PairAdded, PairTaken, PairsKept};
-ghost use Rattle.blk_earliest.specs.Lines.{listed, either, dues_in, AreLines, IsFirstOrNone};
-ghost use Rattle.blk_earliest.specs.Dues.{IsFirstPair, NoPairFrom};
+ghost use Rattle.blk_index.specs.Inside.SortLists.{pair_cmp, PairAdded, PairTaken, PairsKept};
+ghost use Rattle.blk_earliest.specs.Inside.Lines.{listed, dues_in, pairs_in, AreLines, IsLeastFrom, IsFirstOrNone, IsFirstOfBoth};
+ghost use Rattle.blk_earliest.specs.Inside.Dues.{IsFirstPair, NoPairFrom};
 
 use crate::due::Due;
 use blk_bio::Dir;
@@ -17,7 +17,7 @@ use std::collections::{BTreeSet, VecDeque};
 use std::ops::Bound;
 
 /// How many stand in a line at most: one that goes from the middle of it moves half of the others.
-const LONGEST: usize = 256;
+const MAX_LINE: usize = 256;
 
 /// Due rounds with ids, as the set of them. Under one expiry requests mostly come in by rising due rounds, so of each direction those that
 /// come after all that stand there make a line, which takes and gives them at its ends; and all others stand in an ordered set.
@@ -106,7 +106,7 @@ fn is_same(one: Due, other: Due) -> bool
 /// Of two the one that comes first, where there are any.
 #[inline(always)]
 fn lesser(one: Option<Due>, other: Option<Due>) -> Option<Due>
-    ensures { (p q : ℕ × ℕ → Bool) → (start : ℕ) → IsFirstOrNone p start one → IsFirstOrNone q start other → IsFirstOrNone (either p q) start result }
+    ensures { IsFirstOfBoth one other result }
 {
     match (one, other) {
         (None, other) => other,
@@ -121,7 +121,7 @@ fn goes_last<A: Allocator + Clone>(line: &VecDeque<Due, A>, due: Due) -> bool
     requires { IsStrictlySortedBy pair_cmp line.now.items }
     ensures { OnTrue result ((k : ℕ) (q : ℕ × ℕ) → slice_get line.now.items k ≡ Some q → pair_cmp q due ≡ Less) }
 {
-    if line.len() >= LONGEST {
+    if line.len() >= MAX_LINE {
         return false;
     }
     let Some(last) = line.back() else {
@@ -138,8 +138,8 @@ fn put_beside<A: Allocator + Clone>(
     due: Due,
 ) -> Result<(), AllocError>
     requires { IsStrictlySortedBy pair_cmp line.old.items }
-    ensures ok { OnOk result (PairAdded (either (listed line.old.items) (contains pair_cmp others.old)) due (either (listed line.new.items) (contains pair_cmp others.new))) }
-    ensures same { OnErr result (PairsKept (either (listed line.old.items) (contains pair_cmp others.old)) (either (listed line.new.items) (contains pair_cmp others.new))) }
+    ensures ok { OnOk result (PairAdded (pairs_in line.old others.old) due (pairs_in line.new others.new)) }
+    ensures same { OnErr result (PairsKept (pairs_in line.old others.old) (pairs_in line.new others.new)) }
     ensures line { IsStrictlySortedBy pair_cmp line.new.items }
 {
     if goes_last(line, due) {
@@ -285,8 +285,8 @@ fn first_other<A: Allocator + Clone>(others: &BTreeSet<Due, A>, start: u64) -> O
 fn least_from<A: Allocator + Clone>(others: &BTreeSet<Due, A>, start: u64) -> Option<Due>
     ensures there { IfSome result (λ p. contains pair_cmp others.now p ≡ true) }
     ensures high { IfSome result (λ p. is_gt (pair_cmp (start, 0) p) ≡ false) }
-    ensures least { IfSome result (λ p. (q : ℕ × ℕ) → is_gt (pair_cmp (start, 0) q) ≡ false → contains pair_cmp others.now q ≡ true → is_gt (pair_cmp p q) ≡ false) }
-    ensures none { IfNone result ((q : ℕ × ℕ) → is_gt (pair_cmp (start, 0) q) ≡ false → contains pair_cmp others.now q ≡ false) }
+    ensures least { IfSome result (IsLeastFrom (contains pair_cmp others.now) start) }
+    ensures none { IfNone result (NoPairFrom (contains pair_cmp others.now) start) }
 {
     let found = others
         .range((Bound::Included(Due { due: start, id: 0 }), Bound::Unbounded))

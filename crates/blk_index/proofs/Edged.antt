@@ -9,29 +9,29 @@ use Rattle.blk_bio.specs.Requests.{sectors_of}
 use Rattle.blk_bio.specs.Extents.{extent_of}
 use Rattle.blk_sched.specs.Meaning.{Waiting}
 use Rattle.blk_sched.specs.Maps.{same_number}
-use Rattle.blk_index.specs.declared.spots.Head.{Head}
+use Rattle.blk_index.specs.declared.merge_hash.Bucket.{Bucket}
 use Rattle.blk_index.specs.Inside.Spots.{Place, Spot, Adds, TakesOne, Keeps, AreSpots, is_placed, first_at, end_at}
-use Rattle.blk_index.specs.Inside.Heads.{Becomes, is_head, spots_of, AtMost, HasHeads, Lowers, KeepsLeast, IsEdge}
-use Rattle.blk_index.specs.declared.spots.Edges.{Edges}
-use Rattle.blk_index.specs.declared.spots.Spots.{Spots}
-use Rattle.blk_index.specs.Inside.Edges.{heads_in, others_in, IsEdges}
+use Rattle.blk_index.specs.Inside.Buckets.{Becomes, is_bucket, spots_of, AtMost, HasBuckets, Lowers, KeepsLeast, IsEdge}
+use Rattle.blk_index.specs.declared.merge_hash.MergeHashes.{MergeHashes}
+use Rattle.blk_index.specs.declared.merge_hash.MergeHash.{MergeHash}
+use Rattle.blk_index.specs.Inside.Edges.{buckets_in, others_in, IsEdges}
 use Rattle.blk_index.proofs.Listed.{undone}
 use Rattle.blk_index.proofs.Indexed.{Found, entered, taken, stayed, kept}
 use Rattle.blk_index.proofs.Order.{standing}
-use Rattle.blk_index.proofs.Spotted.{Heads, Others, head_there, nothing, added_there, most_then, most_of}
+use Rattle.blk_index.proofs.Spotted.{Buckets, Others, bucket_there, nothing, added_there, most_then, most_of}
 
--- the head at the place of a request
-pub head_at : (at : Extent → Place) (found : Found) (heads : Heads) (others : Others) (k : ℕ) (w : Waiting) → IsEdge at found heads others → found k ≡ Some w → IsSome (heads (at (extent_of w.bios)))
-head_at at found heads others k w edge there = head_there heads others (at (extent_of w.bios), k) edge.headed (standing at found (spots_of heads others) k w edge.spots there)
+-- the bucket at the place of a request
+pub bucket_at : (at : Extent → Place) (found : Found) (buckets : Buckets) (others : Others) (k : ℕ) (w : Waiting) → IsEdge at found buckets others → found k ≡ Some w → IsSome (buckets (at (extent_of w.bios)))
+bucket_at at found buckets others k w edge there = bucket_there buckets others (at (extent_of w.bios), k) edge.headed (standing at found (spots_of buckets others) k w edge.spots there)
 
-pub some_head : (o : Option Head) → IsSome o → (h : Head) × (o ≡ Some h)
-some_head None s = cc
-some_head (Some h) s = (h, refl)
+pub some_bucket : (o : Option Bucket) → IsSome o → (h : Bucket) × (o ≡ Some h)
+some_bucket None s = cc
+some_bucket (Some h) s = (h, refl)
 
 -- what was said of the fewest is so still, where a spot was put in
-still_least : (at : Extent → Place) (found : Found) (heads mid : Heads) (others : Others) (p : Place) (sectors bios k : ℕ) (w : Waiting) (h : Head) → IsEdge at found heads others → Lowers heads p sectors bios mid → found k ≡ Some w → mid (at (extent_of w.bios)) ≡ Some h → AtMost h (sectors_of w.bios) (length w.bios)
-still_least at found heads mid others p sectors bios k w h edge lowers there is =
-    let g = some_head (heads (at (extent_of w.bios))) (head_at at found heads others k w edge there) in
+still_least : (at : Extent → Place) (found : Found) (buckets mid : Buckets) (others : Others) (p : Place) (sectors bios k : ℕ) (w : Waiting) (h : Bucket) → IsEdge at found buckets others → Lowers buckets p sectors bios mid → found k ≡ Some w → mid (at (extent_of w.bios)) ≡ Some h → AtMost h (sectors_of w.bios) (length w.bios)
+still_least at found buckets mid others p sectors bios k w h edge lowers there is =
+    let g = some_bucket (buckets (at (extent_of w.bios))) (bucket_at at found buckets others k w edge there) in
     most_of h g.0 (sectors_of w.bios) (length w.bios) ((lowers (at (extent_of w.bios)) h is).1 g.0 g.1) (edge.least k w g.0 there g.1)
 
 -- at one id, and at the others
@@ -50,11 +50,11 @@ apart old new id k w becomes there = by_id (λ v. old k ≡ Some v) old new id N
 pub few_of : (e : Extent) (w : Waiting) → e ≡ extent_of w.bios → e.bios ≤ length w.bios
 few_of e w is = let same : e.bios ≡ length w.bios = ap (λ (x : Extent). x.bios) is in omega (arith, same)
 
-module _ (at : Extent → Place) (old new : Found) (id : ℕ) (heads now : Heads) (others after : Others) where
+module _ (at : Extent → Place) (old new : Found) (id : ℕ) (buckets now : Buckets) (others after : Others) where
   -- a request more
-  pub edge_entered : (w : Waiting) (spot : Spot) (sectors bios : ℕ) → IsEdge at old heads others → old id ≡ None → spot ≡ (at (extent_of w.bios), id) → sectors ≡ sectors_of w.bios → bios ≤ length w.bios → Adds (spots_of heads others) spot (spots_of now after) → (HasHeads heads others → HasHeads now after) → Lowers heads spot.0 sectors bios now → Becomes old id (Some w) new → IsEdge at new now after
+  pub edge_entered : (w : Waiting) (spot : Spot) (sectors bios : ℕ) → IsEdge at old buckets others → old id ≡ None → spot ≡ (at (extent_of w.bios), id) → sectors ≡ sectors_of w.bios → bios ≤ length w.bios → Adds (spots_of buckets others) spot (spots_of now after) → (HasBuckets buckets others → HasBuckets now after) → Lowers buckets spot.0 sectors bios now → Becomes old id (Some w) new → IsEdge at new now after
   edge_entered w spot sectors bios edge none is has few adds headed lowers becomes = record {
-    spots = entered at old new id (spots_of heads others) (spots_of now after) w edge.spots none (subst (λ (q : Spot). Adds (spots_of heads others) q (spots_of now after)) is adds) becomes;
+    spots = entered at old new id (spots_of buckets others) (spots_of now after) w edge.spots none (subst (λ (q : Spot). Adds (spots_of buckets others) q (spots_of now after)) is adds) becomes;
     headed = headed edge.headed;
     least = λ k v h there said. by_id (λ u. now (at (extent_of u.bios)) ≡ Some h → AtMost h (sectors_of u.bios) (length u.bios)) old new id (Some w) k v becomes there
         (λ own here.
@@ -64,13 +64,13 @@ module _ (at : Extent → Place) (old new : Found) (id : ℕ) (heads now : Heads
         let size : sectors ≡ sectors_of v.bios = has ∙ ap (λ (u : Waiting). sectors_of u.bios) same in
         let long : length w.bios ≡ length v.bios = ap (λ (u : Waiting). length u.bios) same in
         most_then h sectors bios (sectors_of v.bios) (length v.bios) low (omega (arith, size)) (omega (arith, long, few)))
-        (λ was here. still_least at old heads now others spot.0 sectors bios k v h edge lowers was here) said;
+        (λ was here. still_least at old buckets now others spot.0 sectors bios k v h edge lowers was here) said;
   }
 
   -- a request less
-  pub edge_taken : (w : Waiting) (spot : Spot) → IsEdge at old heads others → old id ≡ Some w → spot ≡ (at (extent_of w.bios), id) → TakesOne (spots_of heads others) spot (spots_of now after) → (HasHeads heads others → HasHeads now after) → KeepsLeast heads now → Becomes old id None new → IsEdge at new now after
+  pub edge_taken : (w : Waiting) (spot : Spot) → IsEdge at old buckets others → old id ≡ Some w → spot ≡ (at (extent_of w.bios), id) → TakesOne (spots_of buckets others) spot (spots_of now after) → (HasBuckets buckets others → HasBuckets now after) → KeepsLeast buckets now → Becomes old id None new → IsEdge at new now after
   edge_taken w spot edge found is takes headed keeps becomes = record {
-    spots = taken at old new id (spots_of heads others) (spots_of now after) w edge.spots found (subst (λ (q : Spot). TakesOne (spots_of heads others) q (spots_of now after)) is takes (standing at old (spots_of heads others) id w edge.spots found)) becomes;
+    spots = taken at old new id (spots_of buckets others) (spots_of now after) w edge.spots found (subst (λ (q : Spot). TakesOne (spots_of buckets others) q (spots_of now after)) is takes (standing at old (spots_of buckets others) id w edge.spots found)) becomes;
     headed = headed edge.headed;
     least = λ k v h there said.
         let g = keeps (at (extent_of v.bios)) h said in
@@ -78,23 +78,23 @@ module _ (at : Extent → Place) (old new : Found) (id : ℕ) (heads now : Heads
   }
 
   -- nothing is changed
-  pub edge_kept : IsEdge at old heads others → ((k : ℕ) → new k ≡ old k) → ((k : Place) → now k ≡ heads k) → Keeps others after → IsEdge at new now after
-  edge_kept edge same heads_same others_same = record {
-    spots = kept at old new (spots_of heads others) (spots_of now after) edge.spots same
-        (λ q. ap (λ o. cond (is_head o q) true (after q)) (heads_same q.0) ∙ ap (cond (is_head (heads q.0) q) true) (others_same q));
-    headed = λ q there. subst IsSome (sym (heads_same q.0)) (edge.headed q (sym (others_same q) ∙ there));
-    least = λ k w h there said. edge.least k w h (sym (same k) ∙ there) (sym (heads_same (at (extent_of w.bios))) ∙ said);
+  pub edge_kept : IsEdge at old buckets others → ((k : ℕ) → new k ≡ old k) → ((k : Place) → now k ≡ buckets k) → Keeps others after → IsEdge at new now after
+  edge_kept edge same buckets_same others_same = record {
+    spots = kept at old new (spots_of buckets others) (spots_of now after) edge.spots same
+        (λ q. ap (λ o. cond (is_bucket o q) true (after q)) (buckets_same q.0) ∙ ap (cond (is_bucket (buckets q.0) q) true) (others_same q));
+    headed = λ q there. subst IsSome (sym (buckets_same q.0)) (edge.headed q (sym (others_same q) ∙ there));
+    least = λ k w h there said. edge.least k w h (sym (same k) ∙ there) (sym (buckets_same (at (extent_of w.bios))) ∙ said);
   }
 
 -- a request grows at its other side
-pub edge_stayed : (at : Extent → Place) (old new : Found) (id : ℕ) (heads : Heads) (others : Others) (v w : Waiting) → IsEdge at old heads others → old id ≡ Some v → at (extent_of v.bios) ≡ at (extent_of w.bios) → sectors_of v.bios ≤ sectors_of w.bios → length v.bios ≤ length w.bios → Becomes old id (Some w) new → IsEdge at new heads others
-edge_stayed at old new id heads others v w edge found same grows longer becomes = record {
-  spots = stayed at old new id (spots_of heads others) v w edge.spots found same becomes;
+pub edge_stayed : (at : Extent → Place) (old new : Found) (id : ℕ) (buckets : Buckets) (others : Others) (v w : Waiting) → IsEdge at old buckets others → old id ≡ Some v → at (extent_of v.bios) ≡ at (extent_of w.bios) → sectors_of v.bios ≤ sectors_of w.bios → length v.bios ≤ length w.bios → Becomes old id (Some w) new → IsEdge at new buckets others
+edge_stayed at old new id buckets others v w edge found same grows longer becomes = record {
+  spots = stayed at old new id (spots_of buckets others) v w edge.spots found same becomes;
   headed = edge.headed;
-  least = λ k u h there said. by_id (λ x. heads (at (extent_of x.bios)) ≡ Some h → AtMost h (sectors_of x.bios) (length x.bios)) old new id (Some w) k u becomes there
+  least = λ k u h there said. by_id (λ x. buckets (at (extent_of x.bios)) ≡ Some h → AtMost h (sectors_of x.bios) (length x.bios)) old new id (Some w) k u becomes there
       (λ own here.
       let one : w ≡ u = cc in
-      let before : AtMost h (sectors_of v.bios) (length v.bios) = edge.least id v h found (ap (λ (p : Place). heads p) same ∙ ap (λ (x : Waiting). heads (at (extent_of x.bios))) one ∙ here) in
+      let before : AtMost h (sectors_of v.bios) (length v.bios) = edge.least id v h found (ap (λ (p : Place). buckets p) same ∙ ap (λ (x : Waiting). buckets (at (extent_of x.bios))) one ∙ here) in
       let size : sectors_of w.bios ≡ sectors_of u.bios = ap (λ (x : Waiting). sectors_of x.bios) one in
       let long : length w.bios ≡ length u.bios = ap (λ (x : Waiting). length x.bios) one in
       most_then h (sectors_of v.bios) (length v.bios) (sectors_of u.bios) (length u.bios) before (omega (arith, size, grows)) (omega (arith, long, longer)))
@@ -103,13 +103,13 @@ edge_stayed at old new id heads others v w edge found same grows longer becomes 
 
 -- ---- a spot is put in and another taken out
 
-module _ (at : Extent → Place) (old new : Found) (id : ℕ) (heads mid now : Heads) (others more after : Others) (spot : Spot) (sectors bios : ℕ) (edge : IsEdge at old heads others)
-    (headed : HasHeads heads others → HasHeads mid more) (lowers : Lowers heads spot.0 sectors bios mid) (headed_then : HasHeads mid more → HasHeads now after) (keeps : KeepsLeast mid now) where
+module _ (at : Extent → Place) (old new : Found) (id : ℕ) (buckets mid now : Buckets) (others more after : Others) (spot : Spot) (sectors bios : ℕ) (edge : IsEdge at old buckets others)
+    (headed : HasBuckets buckets others → HasBuckets mid more) (lowers : Lowers buckets spot.0 sectors bios mid) (headed_then : HasBuckets mid more → HasBuckets now after) (keeps : KeepsLeast mid now) where
   -- those of the other requests are as before
-  others_least : (k : ℕ) (v : Waiting) (h : Head) → old k ≡ Some v → now (at (extent_of v.bios)) ≡ Some h → AtMost h (sectors_of v.bios) (length v.bios)
+  others_least : (k : ℕ) (v : Waiting) (h : Bucket) → old k ≡ Some v → now (at (extent_of v.bios)) ≡ Some h → AtMost h (sectors_of v.bios) (length v.bios)
   others_least k v h there said =
       let g = keeps (at (extent_of v.bios)) h said in
-      most_of h g.0 (sectors_of v.bios) (length v.bios) g.2 (still_least at old heads mid others spot.0 sectors bios k v g.0 edge lowers there g.1)
+      most_of h g.0 (sectors_of v.bios) (length v.bios) g.2 (still_least at old buckets mid others spot.0 sectors bios k v g.0 edge lowers there g.1)
 
   -- the request of the id lies at the spot after
   pub edge_moved : (w : Waiting) → AreSpots at new (spots_of now after) → spot.0 ≡ at (extent_of w.bios) → sectors ≡ sectors_of w.bios → bios ≤ length w.bios → Becomes old id (Some w) new → IsEdge at new now after
@@ -129,33 +129,33 @@ module _ (at : Extent → Place) (old new : Found) (id : ℕ) (heads mid now : H
   }
 
   -- the same spot is taken out again
-  pub edge_undone : Adds (spots_of heads others) spot (spots_of mid more) → TakesOne (spots_of mid more) spot (spots_of now after) → spots_of heads others spot ≡ false → ((k : ℕ) → new k ≡ old k) → IsEdge at new now after
+  pub edge_undone : Adds (spots_of buckets others) spot (spots_of mid more) → TakesOne (spots_of mid more) spot (spots_of now after) → spots_of buckets others spot ≡ false → ((k : ℕ) → new k ≡ old k) → IsEdge at new now after
   edge_undone adds takes none same = record {
-    spots = kept at old new (spots_of heads others) (spots_of now after) edge.spots same (undone (spots_of heads others) (spots_of mid more) (spots_of now after) spot adds (takes (added_there (spots_of heads others) (spots_of mid more) spot adds)) none);
+    spots = kept at old new (spots_of buckets others) (spots_of now after) edge.spots same (undone (spots_of buckets others) (spots_of mid more) (spots_of now after) spot adds (takes (added_there (spots_of buckets others) (spots_of mid more) spot adds)) none);
     headed = headed_then (headed edge.headed);
     least = λ k v h there said. others_least k v h (sym (same k) ∙ there) said;
   }
 
 -- no requests
-pub edge_empty : (at : Extent → Place) (found : Found) (heads : Heads) (others : Others) → ((k : ℕ) → found k ≡ None) → ((k : Place) → heads k ≡ None) → ((q : Spot) → others q ≡ false) → IsEdge at found heads others
-edge_empty at found heads others none no_head no_other = record {
-  spots = λ p id. nothing heads others no_head no_other (p, id) ∙ ap (is_placed at p) (sym (none id));
+pub edge_empty : (at : Extent → Place) (found : Found) (buckets : Buckets) (others : Others) → ((k : ℕ) → found k ≡ None) → ((k : Place) → buckets k ≡ None) → ((q : Spot) → others q ≡ false) → IsEdge at found buckets others
+edge_empty at found buckets others none no_bucket no_other = record {
+  spots = λ p id. nothing buckets others no_bucket no_other (p, id) ∙ ap (is_placed at p) (sym (none id));
   headed = λ q there. absurd (let a : true ≡ false = sym there ∙ no_other q in cc);
   least = λ k w h there said. absurd (let a : None ≡ Some w = sym (none k) ∙ there in cc);
 }
 
-pub edges_kept : {A : Type 0} (old new : Found) (e : Edges A) → IsEdges old e → ((k : ℕ) → new k ≡ old k) → IsEdges new e
+pub edges_kept : {A : Type 0} (old new : Found) (e : MergeHashes A) → IsEdges old e → ((k : ℕ) → new k ≡ old k) → IsEdges new e
 edges_kept old new e edges same = record {
-  firsts = edge_kept first_at old new 0 (heads_in e.firsts) (heads_in e.firsts) (others_in e.firsts) (others_in e.firsts) edges.firsts same (λ k. refl) (λ q. refl);
-  ends = edge_kept end_at old new 0 (heads_in e.ends) (heads_in e.ends) (others_in e.ends) (others_in e.ends) edges.ends same (λ k. refl) (λ q. refl);
+  front = edge_kept first_at old new 0 (buckets_in e.front) (buckets_in e.front) (others_in e.front) (others_in e.front) edges.front same (λ k. refl) (λ q. refl);
+  back = edge_kept end_at old new 0 (buckets_in e.back) (buckets_in e.back) (others_in e.back) (others_in e.back) edges.back same (λ k. refl) (λ q. refl);
 }
 
 -- where a first spot is refused nothing is changed
-pub first_refused : {A T E : Type 0} (r : Result T E) (e : Edges A) (f : Spots A) (id : ℕ) → ((p : Place) → heads_in f p ≡ heads_in e.firsts p) → Keeps (others_in e.firsts) (others_in f) → OnErr r ((old : Found) → IsEdges old e → old id ≡ None → IsEdges old (record { firsts = f; ends = e.ends }))
+pub first_refused : {A T E : Type 0} (r : Result T E) (e : MergeHashes A) (f : MergeHash A) (id : ℕ) → ((p : Place) → buckets_in f p ≡ buckets_in e.front p) → Keeps (others_in e.front) (others_in f) → OnErr r ((old : Found) → IsEdges old e → old id ≡ None → IsEdges old (record { front = f; back = e.back }))
 first_refused (Ok x) e f id same others = tt
 first_refused (Err x) e f id same others = λ old edges none. record {
-  firsts = edge_kept first_at old old id (heads_in e.firsts) (heads_in f) (others_in e.firsts) (others_in f) edges.firsts (λ k. refl) same others;
-  ends = edges.ends;
+  front = edge_kept first_at old old id (buckets_in e.front) (buckets_in f) (others_in e.front) (others_in f) edges.front (λ k. refl) same others;
+  back = edges.back;
 }
 
 -- ---- found for a while, and after no more

@@ -13,8 +13,8 @@ use Rattle.blk_sched.specs.Meaning.{Waiting, Pending}
 use Rattle.blk_bio.specs.Extents.{extent_of}
 use Rattle.blk_sched.specs.Maps.{same_number}
 use Rattle.blk_index.specs.Inside.Spots.{Place, Spot, place_cmp, spot_cmp, Adds, Takes, Keeps, is_placed, AreSpots}
-use Rattle.blk_index.specs.Inside.Heads.{Becomes}
-use Rattle.blk_index.specs.Index.{IsNamed}
+use Rattle.blk_index.specs.Inside.Buckets.{Becomes}
+use Rattle.blk_index.specs.Inside.Search.{IsNamed}
 use Rattle.blk_index.proofs.Listed.{same_place, is_equal}
 
 abbrev pub Found : Type 0

@@ -12,10 +12,11 @@ use Rattle.blk_bio.specs.Requests.{Fits, dir_of, first_of, last_of, joined}
 use Rattle.blk_sched.specs.Meaning.{Waiting, Pending, joined_waiting}
 use Rattle.blk_bio.specs.Extents.{extent_of}
 use Rattle.blk_sched.specs.Fits.{HasFit}
-use Rattle.blk_index.specs.Inside.Shelves.{JoinsOne}
+use Rattle.blk_index.specs.Inside.RequestSlabs.{JoinsOne}
 use Rattle.blk_index.specs.Inside.Spots.{Place, Spot, place_cmp, is_write, is_placed, AreSpots, Adds, Takes, first_at, end_at}
-use Rattle.blk_index.specs.Inside.Heads.{Becomes}
-use Rattle.blk_index.specs.Index.{at_of, IsJoined}
+use Rattle.blk_index.specs.Inside.Buckets.{Becomes}
+use Rattle.blk_index.specs.Index.{IsJoined}
+use Rattle.blk_index.specs.Inside.Search.{at_of}
 use Rattle.blk_index.proofs.Listed.{same_place, is_equal}
 use Rattle.blk_index.proofs.Indexed.{Found, Has, moved, stayed, kept, becomes_given}
 

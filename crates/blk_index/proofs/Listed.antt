@@ -1,4 +1,4 @@
--- Spots and the requests that they are of.
+-- MergeHash and the requests that they are of.
 use Rattle.std.proofs.Common.{◌≡◌, ◌<◌, ◌+◌, ℕ, Bool, true, false, cond, sym, ap, ◌∙◌, refl, arith, Some, None, Option}
 use Rattle.std.specs.Ordering.{nat_cmp, ordering_then, eq_by_cmp, is_eq, is_lt}
 use Rattle.std.specs.Cmp.{nat_cmp_total, ranked, tied_itself}

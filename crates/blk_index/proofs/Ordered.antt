@@ -11,8 +11,8 @@ use Rattle.blk_bio.specs.declared.bio.Dir.TheVariants.{Read, Write}
 use Rattle.blk_bio.specs.Requests.{first_of}
 use Rattle.blk_index.specs.Index.{IsNext, NoNext}
 use Rattle.blk_index.specs.Inside.Spots.{Spot, spot_cmp, AreSpots, Adds, Keeps, first_at}
-use Rattle.blk_index.specs.Inside.Orders.{pair_cmp, PairAdded, PairsKept, IsNextPair, NoPair, order_in}
-use Rattle.blk_index.specs.declared.firsts.Order.{Order}
+use Rattle.blk_index.specs.Inside.SortLists.{pair_cmp, PairAdded, PairsKept, IsNextPair, NoPair, sorted_in}
+use Rattle.blk_index.specs.declared.sort.SortLists.{SortLists}
 use Rattle.blk_index.proofs.Indexed.{Found, Has}
 use Rattle.blk_index.proofs.Order.{the_next, at_first, before_less}
 
@@ -52,33 +52,33 @@ least_write : (reads writes : Pairs) (first last sector id : ℕ) → ((q : ℕ 
 least_write reads writes first last sector id least ((false, f), k) above there = cc
 least_write reads writes first last sector id least ((true, f), k) above there = least (f, k) above there
 
-module _ {A : Type 0} (order : Order A) (first last : ℕ) (found : Found) (spots : AreSpots first_at found (order_in order)) where
+module _ {A : Type 0} (order : SortLists A) (first last : ℕ) (found : Found) (spots : AreSpots first_at found (sorted_in order)) where
   next_read : (id : ℕ) → IsNextPair (contains pair_cmp order.reads) (first, last) id → IsNext Read first last found id
-  next_read id p = the_next found (order_in order) Read first last false refl spots false p.sector id p.there p.high (least_read (contains pair_cmp order.reads) (contains pair_cmp order.writes) first last p.sector id p.least) refl
+  next_read id p = the_next found (sorted_in order) Read first last false refl spots false p.sector id p.there p.high (least_read (contains pair_cmp order.reads) (contains pair_cmp order.writes) first last p.sector id p.least) refl
 
   next_write : (id : ℕ) → IsNextPair (contains pair_cmp order.writes) (first, last) id → IsNext Write first last found id
-  next_write id p = the_next found (order_in order) Write first last true refl spots true p.sector id p.there p.high (least_write (contains pair_cmp order.reads) (contains pair_cmp order.writes) first last p.sector id p.least) refl
+  next_write id p = the_next found (sorted_in order) Write first last true refl spots true p.sector id p.there p.high (least_write (contains pair_cmp order.reads) (contains pair_cmp order.writes) first last p.sector id p.least) refl
 
   no_read : NoPair (contains pair_cmp order.reads) (first, last) → NoNext Read first last found
-  no_read none k v is same after = let a : true ≡ false = sym (at_first found (order_in order) Read k v spots is same) ∙ none (first_of v.bios, k) (before_less false first (first_of v.bios) last k after) in cc
+  no_read none k v is same after = let a : true ≡ false = sym (at_first found (sorted_in order) Read k v spots is same) ∙ none (first_of v.bios, k) (before_less false first (first_of v.bios) last k after) in cc
 
   no_write : NoPair (contains pair_cmp order.writes) (first, last) → NoNext Write first last found
-  no_write none k v is same after = let a : true ≡ false = sym (at_first found (order_in order) Write k v spots is same) ∙ none (first_of v.bios, k) (before_less true first (first_of v.bios) last k after) in cc
+  no_write none k v is same after = let a : true ≡ false = sym (at_first found (sorted_in order) Write k v spots is same) ∙ none (first_of v.bios, k) (before_less true first (first_of v.bios) last k after) in cc
 
-module _ {A : Type 0} (order : Order A) (dir : Dir) (first last : ℕ) where
-  pub some_read : (r : Option ℕ) → dir ≡ Read → IfSome r (IsNextPair (contains pair_cmp order.reads) (first, last)) → IfSome r (λ id. (found : Found) → AreSpots first_at found (order_in order) → IsNext dir first last found id)
+module _ {A : Type 0} (order : SortLists A) (dir : Dir) (first last : ℕ) where
+  pub some_read : (r : Option ℕ) → dir ≡ Read → IfSome r (IsNextPair (contains pair_cmp order.reads) (first, last)) → IfSome r (λ id. (found : Found) → AreSpots first_at found (sorted_in order) → IsNext dir first last found id)
   some_read (Some id) is p = λ found spots. subst (λ (d : Dir). IsNext d first last found id) (sym is) (next_read order first last found spots id p)
   some_read None is p = tt
 
-  pub some_write : (r : Option ℕ) → dir ≡ Write → IfSome r (IsNextPair (contains pair_cmp order.writes) (first, last)) → IfSome r (λ id. (found : Found) → AreSpots first_at found (order_in order) → IsNext dir first last found id)
+  pub some_write : (r : Option ℕ) → dir ≡ Write → IfSome r (IsNextPair (contains pair_cmp order.writes) (first, last)) → IfSome r (λ id. (found : Found) → AreSpots first_at found (sorted_in order) → IsNext dir first last found id)
   some_write (Some id) is p = λ found spots. subst (λ (d : Dir). IsNext d first last found id) (sym is) (next_write order first last found spots id p)
   some_write None is p = tt
 
-  pub none_read : (r : Option ℕ) → dir ≡ Read → IfNone r (NoPair (contains pair_cmp order.reads) (first, last)) → IfNone r ((found : Found) → AreSpots first_at found (order_in order) → NoNext dir first last found)
+  pub none_read : (r : Option ℕ) → dir ≡ Read → IfNone r (NoPair (contains pair_cmp order.reads) (first, last)) → IfNone r ((found : Found) → AreSpots first_at found (sorted_in order) → NoNext dir first last found)
   none_read (Some id) is p = tt
   none_read None is p = λ found spots. subst (λ (d : Dir). NoNext d first last found) (sym is) (no_read order first last found spots p)
 
-  pub none_write : (r : Option ℕ) → dir ≡ Write → IfNone r (NoPair (contains pair_cmp order.writes) (first, last)) → IfNone r ((found : Found) → AreSpots first_at found (order_in order) → NoNext dir first last found)
+  pub none_write : (r : Option ℕ) → dir ≡ Write → IfNone r (NoPair (contains pair_cmp order.writes) (first, last)) → IfNone r ((found : Found) → AreSpots first_at found (sorted_in order) → NoNext dir first last found)
   none_write (Some id) is p = tt
   none_write None is p = λ found spots. subst (λ (d : Dir). NoNext d first last found) (sym is) (no_write order first last found spots p)
 
@@ -91,33 +91,33 @@ pub none_here : (found : Found) (P : Found → Type 0) (Q : Found → Type 0) (r
 none_here found P Q (Some id) q h = tt
 none_here found P Q None q h = h found q
 
-pub nothing : {A : Type 0} (order : Order A) → IsEmpty order.reads → IsEmpty order.writes → (q : Spot) → order_in order q ≡ false
+pub nothing : {A : Type 0} (order : SortLists A) → IsEmpty order.reads → IsEmpty order.writes → (q : Spot) → sorted_in order q ≡ false
 nothing order reads writes ((false, f), k) = ap (list_any (is_at (pair_cmp (f, k)))) reads
 nothing order reads writes ((true, f), k) = ap (list_any (is_at (pair_cmp (f, k)))) writes
 
 -- ---- the answers of a call that puts one in
 
-module _ {A T E : Type 0} (r : Result T E) (order : Order A) (now : BTreeSet (ℕ × ℕ)) (spot : Spot) where
-  pub put_write : spot.0.0 ≡ true → OnOk r (PairAdded (contains pair_cmp order.writes) (spot.0.1, spot.1) (contains pair_cmp now)) → OnOk r (Adds (order_in order) spot (order_in {A = A} (record { reads = order.reads; writes = now })))
-  put_write is added = elim r as (λ (x : Result T E). OnOk x (PairAdded (contains pair_cmp order.writes) (spot.0.1, spot.1) (contains pair_cmp now)) → OnOk x (Adds (order_in order) spot (order_in {A = A} (record { reads = order.reads; writes = now })))) [
-    | Ok x ↦ λ h. subst (λ b. Adds (order_in order) ((b, spot.0.1), spot.1) (order_in {A = A} (record { reads = order.reads; writes = now }))) (sym is) (added_write (contains pair_cmp order.reads) (contains pair_cmp order.writes) (contains pair_cmp now) spot.0.1 spot.1 h)
+module _ {A T E : Type 0} (r : Result T E) (order : SortLists A) (now : BTreeSet (ℕ × ℕ)) (spot : Spot) where
+  pub put_write : spot.0.0 ≡ true → OnOk r (PairAdded (contains pair_cmp order.writes) (spot.0.1, spot.1) (contains pair_cmp now)) → OnOk r (Adds (sorted_in order) spot (sorted_in {A = A} (record { reads = order.reads; writes = now })))
+  put_write is added = elim r as (λ (x : Result T E). OnOk x (PairAdded (contains pair_cmp order.writes) (spot.0.1, spot.1) (contains pair_cmp now)) → OnOk x (Adds (sorted_in order) spot (sorted_in {A = A} (record { reads = order.reads; writes = now })))) [
+    | Ok x ↦ λ h. subst (λ b. Adds (sorted_in order) ((b, spot.0.1), spot.1) (sorted_in {A = A} (record { reads = order.reads; writes = now }))) (sym is) (added_write (contains pair_cmp order.reads) (contains pair_cmp order.writes) (contains pair_cmp now) spot.0.1 spot.1 h)
     | Err x ↦ λ _. tt
   ] added
 
-  pub put_read : spot.0.0 ≡ false → OnOk r (PairAdded (contains pair_cmp order.reads) (spot.0.1, spot.1) (contains pair_cmp now)) → OnOk r (Adds (order_in order) spot (order_in {A = A} (record { reads = now; writes = order.writes })))
-  put_read is added = elim r as (λ (x : Result T E). OnOk x (PairAdded (contains pair_cmp order.reads) (spot.0.1, spot.1) (contains pair_cmp now)) → OnOk x (Adds (order_in order) spot (order_in {A = A} (record { reads = now; writes = order.writes })))) [
-    | Ok x ↦ λ h. subst (λ b. Adds (order_in order) ((b, spot.0.1), spot.1) (order_in {A = A} (record { reads = now; writes = order.writes }))) (sym is) (added_read (contains pair_cmp order.reads) (contains pair_cmp order.writes) (contains pair_cmp now) spot.0.1 spot.1 h)
+  pub put_read : spot.0.0 ≡ false → OnOk r (PairAdded (contains pair_cmp order.reads) (spot.0.1, spot.1) (contains pair_cmp now)) → OnOk r (Adds (sorted_in order) spot (sorted_in {A = A} (record { reads = now; writes = order.writes })))
+  put_read is added = elim r as (λ (x : Result T E). OnOk x (PairAdded (contains pair_cmp order.reads) (spot.0.1, spot.1) (contains pair_cmp now)) → OnOk x (Adds (sorted_in order) spot (sorted_in {A = A} (record { reads = now; writes = order.writes })))) [
+    | Ok x ↦ λ h. subst (λ b. Adds (sorted_in order) ((b, spot.0.1), spot.1) (sorted_in {A = A} (record { reads = now; writes = order.writes }))) (sym is) (added_read (contains pair_cmp order.reads) (contains pair_cmp order.writes) (contains pair_cmp now) spot.0.1 spot.1 h)
     | Err x ↦ λ _. tt
   ] added
 
-  pub kept_write : OnErr r (PairsKept (contains pair_cmp order.writes) (contains pair_cmp now)) → OnErr r (Keeps (order_in order) (order_in {A = A} (record { reads = order.reads; writes = now })))
-  kept_write kept = elim r as (λ (x : Result T E). OnErr x (PairsKept (contains pair_cmp order.writes) (contains pair_cmp now)) → OnErr x (Keeps (order_in order) (order_in {A = A} (record { reads = order.reads; writes = now })))) [
+  pub kept_write : OnErr r (PairsKept (contains pair_cmp order.writes) (contains pair_cmp now)) → OnErr r (Keeps (sorted_in order) (sorted_in {A = A} (record { reads = order.reads; writes = now })))
+  kept_write kept = elim r as (λ (x : Result T E). OnErr x (PairsKept (contains pair_cmp order.writes) (contains pair_cmp now)) → OnErr x (Keeps (sorted_in order) (sorted_in {A = A} (record { reads = order.reads; writes = now })))) [
     | Ok x ↦ λ _. tt
     | Err x ↦ λ h. kept_writes (contains pair_cmp order.reads) (contains pair_cmp order.writes) (contains pair_cmp now) h
   ] kept
 
-  pub kept_read : OnErr r (PairsKept (contains pair_cmp order.reads) (contains pair_cmp now)) → OnErr r (Keeps (order_in order) (order_in {A = A} (record { reads = now; writes = order.writes })))
-  kept_read kept = elim r as (λ (x : Result T E). OnErr x (PairsKept (contains pair_cmp order.reads) (contains pair_cmp now)) → OnErr x (Keeps (order_in order) (order_in {A = A} (record { reads = now; writes = order.writes })))) [
+  pub kept_read : OnErr r (PairsKept (contains pair_cmp order.reads) (contains pair_cmp now)) → OnErr r (Keeps (sorted_in order) (sorted_in {A = A} (record { reads = now; writes = order.writes })))
+  kept_read kept = elim r as (λ (x : Result T E). OnErr x (PairsKept (contains pair_cmp order.reads) (contains pair_cmp now)) → OnErr x (Keeps (sorted_in order) (sorted_in {A = A} (record { reads = now; writes = order.writes })))) [
     | Ok x ↦ λ _. tt
     | Err x ↦ λ h. kept_reads (contains pair_cmp order.reads) (contains pair_cmp order.writes) (contains pair_cmp now) h
   ] kept

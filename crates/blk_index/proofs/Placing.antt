@@ -1,4 +1,4 @@
--- The places of ids, in a run and beside it.
+-- The keys of ids, in a run and beside it.
 use Rattle.std.proofs.Common.{◌≡◌, ◌<◌, ◌≤◌, ◌+◌, ◌-◌, ◌++◌, ◌∙◌, inl, inr, ℕ, zero, suc, true, false, cond, List, [], ◌∷◌, Option, None, Some, length, get_or, set, sym, ap, refl, arith, get_or-set_same, get_or-set_other}
 use Rattle.std.specs.Prelude.{drop, slice_get, OnOk, OnErr, Result, Ok, Err}
 use Rattle.std.specs.Ordering.{nat_cmp, is_eq}
@@ -7,7 +7,7 @@ use Rattle.std.specs.BTreeMap.{is_at}
 use Rattle.std.proofs.lemmas.Bool.{cases_lt}
 use Rattle.std.proofs.lemmas.List.{get_or_push}
 use Rattle.blk_sched.specs.Maps.{same_number}
-use Rattle.blk_index.specs.Inside.Places.{run_of, place_in, run_at, Gives}
+use Rattle.blk_index.specs.Inside.SlabKeys.{run_of, key_in, run_at, Gives}
 
 abbrev pub Run : Type 0
 Run = List (Option ℕ)
@@ -35,7 +35,7 @@ unfolding run_of
 past from None os k apart = refl
 past from (Some p) os k apart = ap (λ b. cond b (Some p) (run_at (from + 1) os k)) (differs from k apart)
 
--- one before the first has no place there
+-- one before the first has no key there
 before : (from : ℕ) (os : Run) (k : ℕ) → k < from → run_at from os k ≡ None
 unfolding run_of
 before from [] k low = refl
@@ -51,7 +51,7 @@ within from (Some p ∷ os) zero k is =
     ap (λ b. cond b (Some p) (run_at (from + 1) os k)) (ap (λ (n : ℕ). is_at (nat_cmp k) n) same ∙ itself k)
 within from (o ∷ os) (suc i) k is = past from o os k (λ (e : from ≡ k). omega arith) ∙ within (from + 1) os i k (omega arith)
 
--- what is read at a place of a run
+-- what is read at a key of a run
 pub read_at : (os : Run) (i : ℕ) (x : Option ℕ) → i < length os → x ≡ get_or os i x → x ≡ get_or os i None
 read_at [] i x low is = absurd (omega arith)
 read_at (o ∷ os) zero x low is = is
@@ -72,13 +72,13 @@ pub one_within : (from : ℕ) (os : Run) (k : ℕ) → from ≤ k → get_or os 
 one_within from os k low = sym (within from os (k - from) k (omega arith))
 
 -- an id of none loses nothing
-pub none_taken : (es : Entries) (id : ℕ) → None ≡ place_in es id → Gives (place_in es) id None (place_in es)
-none_taken es id none k = elim (is_at (nat_cmp id) k) as (λ b. is_at (nat_cmp id) k ≡ b → place_in es k ≡ cond b None (place_in es k)) [
-  | true ↦ λ e. ap (place_in es) (same_number id k e) ∙ sym none
+pub none_taken : (es : Entries) (id : ℕ) → None ≡ key_in es id → Gives (key_in es) id None (key_in es)
+none_taken es id none k = elim (is_at (nat_cmp id) k) as (λ b. is_at (nat_cmp id) k ≡ b → key_in es k ≡ cond b None (key_in es k)) [
+  | true ↦ λ e. ap (key_in es) (same_number id k e) ∙ sym none
   | false ↦ λ _. refl
 ] refl
 
--- a place is taken away in a run
+-- a key is taken away in a run
 pub one_taken : (from : ℕ) (os : Run) (id : ℕ) → from ≤ id → id - from < length os → Gives (run_at from os) id None (run_at from (set os (id - from) None))
 one_taken from os id low short k = elim (is_at (nat_cmp id) k) as (λ b. is_at (nat_cmp id) k ≡ b → run_at from (set os (id - from) None) k ≡ cond b None (run_at from os k)) [
   | true ↦ λ e. let same : k ≡ id = same_number id k e in within from (set os (id - from) None) (id - from) k (omega arith) ∙ get_or-set_same os (id - from) None None short
@@ -91,7 +91,7 @@ one_taken from os id low short k = elim (is_at (nat_cmp id) k) as (λ b. is_at (
   ]
 ] refl
 
--- a place is put after a run
+-- a key is put after a run
 elsewhere : (os : Run) (x : Option ℕ) (i : ℕ) → (i ≡ length os → ⊥) → get_or (os ++ x ∷ []) i None ≡ get_or os i None
 elsewhere [] x zero apart = absurd (apart refl)
 elsewhere [] x (suc i) apart = refl
@@ -110,7 +110,7 @@ one_put from os id p is k = elim (is_at (nat_cmp id) k) as (λ b. is_at (nat_cmp
   ]
 ] refl
 
--- the first of a run leaves it, where it has no place
+-- the first of a run leaves it, where it has no key
 pub gone : (from next : ℕ) (os now : Run) → next ≡ from + 1 → slice_get os 0 ≡ Some None → now ≡ drop 1 os → run_of next now ≡ run_of from os
 unfolding run_of
 gone from next [] now is none rest = cc
@@ -132,53 +132,53 @@ abbrev pub either : Option ℕ → Option ℕ → Option ℕ
 either None o = o
 either (Some p) o = Some p
 
-pub joined : (es fs : Entries) (k : ℕ) → place_in (es ++ fs) k ≡ either (place_in es k) (place_in fs k)
+pub joined : (es fs : Entries) (k : ℕ) → key_in (es ++ fs) k ≡ either (key_in es k) (key_in fs k)
 joined [] fs k = refl
-joined (e ∷ es) fs k = elim (is_at (nat_cmp k) e.0) as (λ b. cond b (Some e.1) (place_in (es ++ fs) k) ≡ either (cond b (Some e.1) (place_in es k)) (place_in fs k)) [
+joined (e ∷ es) fs k = elim (is_at (nat_cmp k) e.0) as (λ b. cond b (Some e.1) (key_in (es ++ fs) k) ≡ either (cond b (Some e.1) (key_in es k)) (key_in fs k)) [
   | true ↦ refl
   | false ↦ joined es fs k
 ]
 
-pub found_first : (es fs : Entries) (k p : ℕ) (o : Option ℕ) → o ≡ place_in es k → o ≡ Some p → Some p ≡ place_in (es ++ fs) k
-found_first es fs k p o is there = sym (joined es fs k ∙ ap (λ x. either x (place_in fs k)) (sym is ∙ there))
+pub found_first : (es fs : Entries) (k p : ℕ) (o : Option ℕ) → o ≡ key_in es k → o ≡ Some p → Some p ≡ key_in (es ++ fs) k
+found_first es fs k p o is there = sym (joined es fs k ∙ ap (λ x. either x (key_in fs k)) (sym is ∙ there))
 
-pub found_then : (es fs : Entries) (k : ℕ) (o : Option ℕ) → None ≡ place_in es k → o ≡ place_in fs k → o ≡ place_in (es ++ fs) k
-found_then es fs k o none is = is ∙ sym (joined es fs k ∙ ap (λ x. either x (place_in fs k)) (sym none))
+pub found_then : (es fs : Entries) (k : ℕ) (o : Option ℕ) → None ≡ key_in es k → o ≡ key_in fs k → o ≡ key_in (es ++ fs) k
+found_then es fs k o none is = is ∙ sym (joined es fs k ∙ ap (λ x. either x (key_in fs k)) (sym none))
 
 first_none : (o x : Option ℕ) → either o x ≡ None → o ≡ None
 first_none None x h = refl
 first_none (Some p) x h = h
 
-pub first_given : (es gs fs : Entries) (id p : ℕ) → Gives (place_in es) id (Some p) (place_in gs) → Gives (place_in (es ++ fs)) id (Some p) (place_in (gs ++ fs))
+pub first_given : (es gs fs : Entries) (id p : ℕ) → Gives (key_in es) id (Some p) (key_in gs) → Gives (key_in (es ++ fs)) id (Some p) (key_in (gs ++ fs))
 first_given es gs fs id p gives k =
-    joined gs fs k ∙ ap (λ o. either o (place_in fs k)) (gives k)
-    ∙ elim (is_at (nat_cmp id) k) as (λ b. either (cond b (Some p) (place_in es k)) (place_in fs k) ≡ cond b (Some p) (place_in (es ++ fs) k)) [
+    joined gs fs k ∙ ap (λ o. either o (key_in fs k)) (gives k)
+    ∙ elim (is_at (nat_cmp id) k) as (λ b. either (cond b (Some p) (key_in es k)) (key_in fs k) ≡ cond b (Some p) (key_in (es ++ fs) k)) [
       | true ↦ refl
       | false ↦ sym (joined es fs k)
     ]
 
-pub then_given : (es fs gs : Entries) (id p : ℕ) → place_in (es ++ fs) id ≡ None → Gives (place_in fs) id (Some p) (place_in gs) → Gives (place_in (es ++ fs)) id (Some p) (place_in (es ++ gs))
+pub then_given : (es fs gs : Entries) (id p : ℕ) → key_in (es ++ fs) id ≡ None → Gives (key_in fs) id (Some p) (key_in gs) → Gives (key_in (es ++ fs)) id (Some p) (key_in (es ++ gs))
 then_given es fs gs id p none gives k =
-    joined es gs k ∙ ap (either (place_in es k)) (gives k)
-    ∙ elim (is_at (nat_cmp id) k) as (λ b. is_at (nat_cmp id) k ≡ b → either (place_in es k) (cond b (Some p) (place_in fs k)) ≡ cond b (Some p) (place_in (es ++ fs) k)) [
-      | true ↦ λ e. ap (λ o. either o (Some p)) (ap (place_in es) (same_number id k e) ∙ first_none (place_in es id) (place_in fs id) (sym (joined es fs id) ∙ none))
+    joined es gs k ∙ ap (either (key_in es k)) (gives k)
+    ∙ elim (is_at (nat_cmp id) k) as (λ b. is_at (nat_cmp id) k ≡ b → either (key_in es k) (cond b (Some p) (key_in fs k)) ≡ cond b (Some p) (key_in (es ++ fs) k)) [
+      | true ↦ λ e. ap (λ o. either o (Some p)) (ap (key_in es) (same_number id k e) ∙ first_none (key_in es id) (key_in fs id) (sym (joined es fs id) ∙ none))
       | false ↦ λ _. sym (joined es fs k)
     ] refl
 
-pub both_taken : (es gs fs hs : Entries) (id : ℕ) → Gives (place_in es) id None (place_in gs) → Gives (place_in fs) id None (place_in hs) → Gives (place_in (es ++ fs)) id None (place_in (gs ++ hs))
+pub both_taken : (es gs fs hs : Entries) (id : ℕ) → Gives (key_in es) id None (key_in gs) → Gives (key_in fs) id None (key_in hs) → Gives (key_in (es ++ fs)) id None (key_in (gs ++ hs))
 both_taken es gs fs hs id one other k =
-    joined gs hs k ∙ ap (λ o. either o (place_in hs k)) (one k) ∙ ap (either (cond (is_at (nat_cmp id) k) None (place_in es k))) (other k)
-    ∙ elim (is_at (nat_cmp id) k) as (λ b. either (cond b None (place_in es k)) (cond b None (place_in fs k)) ≡ cond b None (place_in (es ++ fs) k)) [
+    joined gs hs k ∙ ap (λ o. either o (key_in hs k)) (one k) ∙ ap (either (cond (is_at (nat_cmp id) k) None (key_in es k))) (other k)
+    ∙ elim (is_at (nat_cmp id) k) as (λ b. either (cond b None (key_in es k)) (cond b None (key_in fs k)) ≡ cond b None (key_in (es ++ fs) k)) [
       | true ↦ refl
       | false ↦ sym (joined es fs k)
     ]
 
 -- the same of equal lists
-pub given_of : (es fs : Entries) (id : ℕ) (o : Option ℕ) (new : ℕ → Option ℕ) → es ≡ fs → Gives (place_in es) id o new → Gives (place_in fs) id o new
-given_of es fs id o new same gives k = gives k ∙ ap (λ l. cond (is_at (nat_cmp id) k) o (place_in l k)) same
+pub given_of : (es fs : Entries) (id : ℕ) (o : Option ℕ) (new : ℕ → Option ℕ) → es ≡ fs → Gives (key_in es) id o new → Gives (key_in fs) id o new
+given_of es fs id o new same gives k = gives k ∙ ap (λ l. cond (is_at (nat_cmp id) k) o (key_in l k)) same
 
-pub taken_of : (es fs gs : Entries) (id : ℕ) → gs ≡ fs → Gives (place_in es) id None (place_in fs) → Gives (place_in es) id None (place_in gs)
-taken_of es fs gs id same gives k = ap (λ l. place_in l k) same ∙ gives k
+pub taken_of : (es fs gs : Entries) (id : ℕ) → gs ≡ fs → Gives (key_in es) id None (key_in fs) → Gives (key_in es) id None (key_in gs)
+taken_of es fs gs id same gives k = ap (λ l. key_in l k) same ∙ gives k
 
 pub on_ok : {E P Q : Type 0} (r : Result (Unit {0}) E) → (P → Q) → OnOk r P → OnOk r Q
 on_ok (Ok x) f h = f h

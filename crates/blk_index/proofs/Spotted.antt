@@ -1,29 +1,29 @@
--- Spots of which one of each place stands by itself.
+-- MergeHash of which one of each place stands by itself.
 use Rattle.std.proofs.Common.{◌≡◌, ◌<◌, ◌≤◌, ℕ, Bool, true, false, cond, sym, ap, subst, ◌∙◌, refl, arith, min, Some, None, Option}
 use Rattle.std.specs.Prelude.{IfSome, IfNone, IsSome, nat_eq, nat_lt, if◌then◌else◌}
 use Rattle.std.specs.Ordering.{nat_cmp, eq_by_cmp, ordering_then, is_eq}
 use Rattle.std.specs.Cmp.{nat_cmp_total, tied_itself, unsigned_tied}
 use Rattle.std.proofs.lemmas.Bool.{eqb-true, eq-eqb}
 use borrow.Author.Tests.{ltb-true, ltb-false}
-use Rattle.blk_index.specs.declared.spots.Head.{Head}
+use Rattle.blk_index.specs.declared.merge_hash.Bucket.{Bucket}
 use Rattle.blk_index.specs.Inside.Spots.{Place, Spot, place_cmp, spot_cmp, Adds, Takes, TakesOne, IsBelow, IsNewestSpot, NoSpot, greater_of}
-use Rattle.blk_index.specs.Inside.Heads.{is_head, spots_of, AtMost, HasHeads, Lowers, KeepsLeast, Sets}
+use Rattle.blk_index.specs.Inside.Buckets.{is_bucket, spots_of, AtMost, HasBuckets, Lowers, KeepsLeast, Sets}
 use Rattle.blk_index.proofs.Listed.{same_spot, place_itself, place_true, place_eq}
 
-abbrev pub Heads : Type 0
-Heads = Place → Option Head
+abbrev pub Buckets : Type 0
+Buckets = Place → Option Bucket
 
 abbrev pub Others : Type 0
 Others = Spot → Bool
 
--- what is said of a head is no more than that
-pub itself_most : (h : Head) → AtMost h h.least h.fewest
+-- what is said of a bucket is no more than that
+pub itself_most : (h : Bucket) → AtMost h h.least h.fewest
 itself_most h = record { sectors_low = omega arith; bios_low = omega arith }
 
-pub most_then : (h : Head) (a b s n : ℕ) → AtMost h a b → a ≤ s → b ≤ n → AtMost h s n
+pub most_then : (h : Bucket) (a b s n : ℕ) → AtMost h a b → a ≤ s → b ≤ n → AtMost h s n
 most_then h a b s n most low less = record { sectors_low = omega (arith, most.sectors_low, low); bios_low = omega (arith, most.bios_low, less) }
 
-pub most_of : (h g : Head) (s n : ℕ) → AtMost h g.least g.fewest → AtMost g s n → AtMost h s n
+pub most_of : (h g : Bucket) (s n : ℕ) → AtMost h g.least g.fewest → AtMost g s n → AtMost h s n
 most_of h g s n most than = most_then h g.least g.fewest s n most than.sectors_low than.bios_low
 
 -- spots of two places are two
@@ -63,28 +63,28 @@ or_true : (b : Bool) → cond b true true ≡ true
 or_true true = refl
 or_true false = refl
 
--- a spot that is there has a head at its place
-pub head_there : (heads : Heads) (others : Others) (q : Spot) → HasHeads heads others → spots_of heads others q ≡ true → IsSome (heads q.0)
-head_there heads others q headed there = elim (heads q.0) as (λ o. heads q.0 ≡ o → IsSome o) [
+-- a spot that is there has a bucket at its place
+pub bucket_there : (buckets : Buckets) (others : Others) (q : Spot) → HasBuckets buckets others → spots_of buckets others q ≡ true → IsSome (buckets q.0)
+bucket_there buckets others q headed there = elim (buckets q.0) as (λ o. buckets q.0 ≡ o → IsSome o) [
   | Some h ↦ λ _. refl
   | None ↦ λ e.
-      let other : others q ≡ true = sym (ap (λ o. cond (is_head o q) true (others q)) e) ∙ there in
+      let other : others q ≡ true = sym (ap (λ o. cond (is_bucket o q) true (others q)) e) ∙ there in
       subst IsSome e (headed q other)
 ] refl
 
-pub nothing : (heads : Heads) (others : Others) → ((k : Place) → heads k ≡ None) → ((q : Spot) → others q ≡ false) → (q : Spot) → spots_of heads others q ≡ false
-nothing heads others none empty q = ap (λ o. cond (is_head o q) true (others q)) (none q.0) ∙ empty q
+pub nothing : (buckets : Buckets) (others : Others) → ((k : Place) → buckets k ≡ None) → ((q : Spot) → others q ≡ false) → (q : Spot) → spots_of buckets others q ≡ false
+nothing buckets others none empty q = ap (λ o. cond (is_bucket o q) true (others q)) (none q.0) ∙ empty q
 
--- ---- a head is set at a place, or taken away
+-- ---- a bucket is set at a place, or taken away
 
 -- what is set twice is what is set last
-pub set_twice : (old mid now : Heads) (p : Place) (x y : Option Head) → Sets old p x mid → Sets mid p y now → Sets old p y now
+pub set_twice : (old mid now : Buckets) (p : Place) (x y : Option Bucket) → Sets old p x mid → Sets mid p y now → Sets old p y now
 set_twice old mid now p x y first second k =
     second k ∙ ap (cond (eq_by_cmp place_cmp p k) y) (first k)
     ∙ elim (eq_by_cmp place_cmp p k) as (λ b. cond b y (cond b x (old k)) ≡ cond b y (old k)) [ true ↦ refl | false ↦ refl ]
 
 -- and what was there is there again
-pub set_again : (old mid now : Heads) (p : Place) (x y : Option Head) → Sets old p x mid → Sets mid p y now → old p ≡ y → (k : Place) → now k ≡ old k
+pub set_again : (old mid now : Buckets) (p : Place) (x y : Option Bucket) → Sets old p x mid → Sets mid p y now → old p ≡ y → (k : Place) → now k ≡ old k
 set_again old mid now p x y first second was k =
     set_twice old mid now p x y first second k
     ∙ elim (eq_by_cmp place_cmp p k) as (λ b. eq_by_cmp place_cmp p k ≡ b → cond b y (old k) ≡ old k) [
@@ -92,7 +92,7 @@ set_again old mid now p x y first second was k =
       | false ↦ λ _. refl
     ] refl
 
-pub set_there : (old mid : Heads) (p : Place) (h : Head) → Sets old p (Some h) mid → IsSome (mid p)
+pub set_there : (old mid : Buckets) (p : Place) (h : Bucket) → Sets old p (Some h) mid → IsSome (mid p)
 set_there old mid p h sets = subst IsSome (sym (sets p ∙ ap (λ b. cond b (Some h) (old p)) (place_eq p p refl))) refl
 
 -- nothing is taken from nothing
@@ -100,72 +100,72 @@ pub taken_none : (has : Others) (s : Spot) → ((q : Spot) → has q ≡ false) 
 taken_none has s none q = none q ∙ elim (eq_by_cmp spot_cmp s q) as (λ b. false ≡ cond b false (has q)) [ true ↦ refl | false ↦ sym (none q) ]
 
 -- a spot more, where its place had none
-module _ (heads now : Heads) (others : Others) (s : Spot) (sectors bios : ℕ) (none : heads s.0 ≡ None) (sets : Sets heads s.0 (Some (record { id = s.1; least = sectors; fewest = bios })) now) where
-  pub first_adds : Adds (spots_of heads others) s (spots_of now others)
+module _ (buckets now : Buckets) (others : Others) (s : Spot) (sectors bios : ℕ) (none : buckets s.0 ≡ None) (sets : Sets buckets s.0 (Some (record { id = s.1; least = sectors; fewest = bios })) now) where
+  pub first_adds : Adds (spots_of buckets others) s (spots_of now others)
   first_adds q =
-      ap (λ o. cond (is_head o q) true (others q)) (sets q.0)
-      ∙ elim (eq_by_cmp place_cmp s.0 q.0) as (λ b. eq_by_cmp place_cmp s.0 q.0 ≡ b → cond (is_head (cond b (Some (record { id = s.1; least = sectors; fewest = bios })) (heads q.0)) q) true (others q) ≡ cond (eq_by_cmp spot_cmp s q) true (spots_of heads others q)) [
+      ap (λ o. cond (is_bucket o q) true (others q)) (sets q.0)
+      ∙ elim (eq_by_cmp place_cmp s.0 q.0) as (λ b. eq_by_cmp place_cmp s.0 q.0 ≡ b → cond (is_bucket (cond b (Some (record { id = s.1; least = sectors; fewest = bios })) (buckets q.0)) q) true (others q) ≡ cond (eq_by_cmp spot_cmp s q) true (spots_of buckets others q)) [
         | true ↦ λ e.
-            let at : heads q.0 ≡ None = ap heads (sym (place_true s.0 q.0 e)) ∙ none in
+            let at : buckets q.0 ≡ None = ap buckets (sym (place_true s.0 q.0 e)) ∙ none in
             ap (λ b. cond b true (others q)) (sym (at_place s q (place_true s.0 q.0 e)))
-            ∙ ap (λ o. cond (eq_by_cmp spot_cmp s q) true (cond (is_head o q) true (others q))) (sym at)
-        | false ↦ λ e. ap (λ b. cond b true (spots_of heads others q)) (sym (other_place s q e))
+            ∙ ap (λ o. cond (eq_by_cmp spot_cmp s q) true (cond (is_bucket o q) true (others q))) (sym at)
+        | false ↦ λ e. ap (λ b. cond b true (spots_of buckets others q)) (sym (other_place s q e))
       ] refl
 
-  pub first_heads : HasHeads heads others → HasHeads now others
-  first_heads headed q there =
+  pub first_buckets : HasBuckets buckets others → HasBuckets now others
+  first_buckets headed q there =
       let was = headed q there in
-      subst IsSome (sym (sets q.0)) (elim (eq_by_cmp place_cmp s.0 q.0) as (λ b. IsSome (cond b (Some (record { id = s.1; least = sectors; fewest = bios })) (heads q.0))) [ true ↦ refl | false ↦ was ])
+      subst IsSome (sym (sets q.0)) (elim (eq_by_cmp place_cmp s.0 q.0) as (λ b. IsSome (cond b (Some (record { id = s.1; least = sectors; fewest = bios })) (buckets q.0))) [ true ↦ refl | false ↦ was ])
 
-  pub first_lowers : Lowers heads s.0 sectors bios now
+  pub first_lowers : Lowers buckets s.0 sectors bios now
   first_lowers k h is =
-      elim (eq_by_cmp place_cmp s.0 k) as (λ b. eq_by_cmp place_cmp s.0 k ≡ b → cond b (Some (record { id = s.1; least = sectors; fewest = bios })) (heads k) ≡ Some h → (k ≡ s.0 → AtMost h sectors bios) × ((g : Head) → heads k ≡ Some g → AtMost h g.least g.fewest)) [
+      elim (eq_by_cmp place_cmp s.0 k) as (λ b. eq_by_cmp place_cmp s.0 k ≡ b → cond b (Some (record { id = s.1; least = sectors; fewest = bios })) (buckets k) ≡ Some h → (k ≡ s.0 → AtMost h sectors bios) × ((g : Bucket) → buckets k ≡ Some g → AtMost h g.least g.fewest)) [
         | true ↦ λ e own.
-            let one : (let x : Head = record { id = s.1; least = sectors; fewest = bios } in x) ≡ h = cc in
-            (λ _. subst (λ (x : Head). AtMost x sectors bios) one (itself_most (record { id = s.1; least = sectors; fewest = bios })), λ g there. absurd (let a : None ≡ Some g = sym none ∙ ap heads (place_true s.0 k e) ∙ there in cc))
+            let one : (let x : Bucket = record { id = s.1; least = sectors; fewest = bios } in x) ≡ h = cc in
+            (λ _. subst (λ (x : Bucket). AtMost x sectors bios) one (itself_most (record { id = s.1; least = sectors; fewest = bios })), λ g there. absurd (let a : None ≡ Some g = sym none ∙ ap buckets (place_true s.0 k e) ∙ there in cc))
         | false ↦ λ e own. (
           λ at. absurd (let a : true ≡ false = sym (place_eq s.0 k (sym at)) ∙ e in cc),
-          λ g there. let one : Some h ≡ Some g = sym own ∙ there in let same : h ≡ g = cc in subst (λ (x : Head). AtMost h x.least x.fewest) same (itself_most h),
+          λ g there. let one : Some h ≡ Some g = sym own ∙ there in let same : h ≡ g = cc in subst (λ (x : Bucket). AtMost h x.least x.fewest) same (itself_most h),
         )
       ] refl (sym (sets k) ∙ is)
 
--- a spot more, where its place has a head, which may be said to have fewer sectors or bios
-module _ (heads now : Heads) (others more : Others) (s : Spot) (head after : Head) (is_head_now : heads s.0 ≡ Some head) (id_stays : after.id ≡ head.id) (adds : Adds others s more) (sets : Sets heads s.0 (Some after) now) where
-  same_head : (q : Spot) → is_head (now q.0) q ≡ is_head (heads q.0) q
-  same_head q =
-      ap (λ o. is_head o q) (sets q.0)
-      ∙ elim (eq_by_cmp place_cmp s.0 q.0) as (λ b. eq_by_cmp place_cmp s.0 q.0 ≡ b → is_head (cond b (Some after) (heads q.0)) q ≡ is_head (heads q.0) q) [
-        | true ↦ λ e. ap (λ (n : ℕ). nat_eq n q.1) id_stays ∙ ap (λ o. is_head o q) (sym is_head_now ∙ ap heads (place_true s.0 q.0 e))
+-- a spot more, where its place has a bucket, which may be said to have fewer sectors or bios
+module _ (buckets now : Buckets) (others more : Others) (s : Spot) (bucket after : Bucket) (is_bucket_now : buckets s.0 ≡ Some bucket) (id_stays : after.id ≡ bucket.id) (adds : Adds others s more) (sets : Sets buckets s.0 (Some after) now) where
+  same_bucket : (q : Spot) → is_bucket (now q.0) q ≡ is_bucket (buckets q.0) q
+  same_bucket q =
+      ap (λ o. is_bucket o q) (sets q.0)
+      ∙ elim (eq_by_cmp place_cmp s.0 q.0) as (λ b. eq_by_cmp place_cmp s.0 q.0 ≡ b → is_bucket (cond b (Some after) (buckets q.0)) q ≡ is_bucket (buckets q.0) q) [
+        | true ↦ λ e. ap (λ (n : ℕ). nat_eq n q.1) id_stays ∙ ap (λ o. is_bucket o q) (sym is_bucket_now ∙ ap buckets (place_true s.0 q.0 e))
         | false ↦ λ _. refl
       ] refl
 
-  pub more_adds : Adds (spots_of heads others) s (spots_of now more)
-  more_adds q = ap (λ b. cond b true (more q)) (same_head q) ∙ ap (cond (is_head (heads q.0) q) true) (adds q) ∙ either_way (is_head (heads q.0) q) (eq_by_cmp spot_cmp s q) (others q)
+  pub more_adds : Adds (spots_of buckets others) s (spots_of now more)
+  more_adds q = ap (λ b. cond b true (more q)) (same_bucket q) ∙ ap (cond (is_bucket (buckets q.0) q) true) (adds q) ∙ either_way (is_bucket (buckets q.0) q) (eq_by_cmp spot_cmp s q) (others q)
 
-  pub more_heads : HasHeads heads others → HasHeads now more
-  more_heads headed q there =
+  pub more_buckets : HasBuckets buckets others → HasBuckets now more
+  more_buckets headed q there =
       subst IsSome (sym (sets q.0))
-      (elim (eq_by_cmp place_cmp s.0 q.0) as (λ b. eq_by_cmp place_cmp s.0 q.0 ≡ b → IsSome (cond b (Some after) (heads q.0))) [
+      (elim (eq_by_cmp place_cmp s.0 q.0) as (λ b. eq_by_cmp place_cmp s.0 q.0 ≡ b → IsSome (cond b (Some after) (buckets q.0))) [
         | true ↦ λ _. refl
         | false ↦ λ e. headed q (sym (adds q ∙ ap (λ b. cond b true (others q)) (other_place s q e)) ∙ there)
       ] refl)
 
-  pub more_lowers : (sectors bios : ℕ) → after.least ≤ sectors → after.fewest ≤ bios → after.least ≤ head.least → after.fewest ≤ head.fewest → Lowers heads s.0 sectors bios now
+  pub more_lowers : (sectors bios : ℕ) → after.least ≤ sectors → after.fewest ≤ bios → after.least ≤ bucket.least → after.fewest ≤ bucket.fewest → Lowers buckets s.0 sectors bios now
   more_lowers sectors bios under few lower fewer k h is =
       let low : AtMost after sectors bios = record { sectors_low = under; bios_low = few } in
-      let less : AtMost after head.least head.fewest = record { sectors_low = lower; bios_low = fewer } in
-      elim (eq_by_cmp place_cmp s.0 k) as (λ b. eq_by_cmp place_cmp s.0 k ≡ b → cond b (Some after) (heads k) ≡ Some h → (k ≡ s.0 → AtMost h sectors bios) × ((g : Head) → heads k ≡ Some g → AtMost h g.least g.fewest)) [
+      let less : AtMost after bucket.least bucket.fewest = record { sectors_low = lower; bios_low = fewer } in
+      elim (eq_by_cmp place_cmp s.0 k) as (λ b. eq_by_cmp place_cmp s.0 k ≡ b → cond b (Some after) (buckets k) ≡ Some h → (k ≡ s.0 → AtMost h sectors bios) × ((g : Bucket) → buckets k ≡ Some g → AtMost h g.least g.fewest)) [
         | true ↦ λ e own.
             let one : after ≡ h = cc in (
-              λ _. subst (λ (x : Head). AtMost x sectors bios) one low,
+              λ _. subst (λ (x : Bucket). AtMost x sectors bios) one low,
               λ g there.
-                  let two : Some head ≡ Some g = sym is_head_now ∙ ap heads (place_true s.0 k e) ∙ there in
-                  let met : head ≡ g = cc in
-                  subst (λ (x : Head). AtMost x g.least g.fewest) one (subst (λ (x : Head). AtMost after x.least x.fewest) met less),
+                  let two : Some bucket ≡ Some g = sym is_bucket_now ∙ ap buckets (place_true s.0 k e) ∙ there in
+                  let met : bucket ≡ g = cc in
+                  subst (λ (x : Bucket). AtMost x g.least g.fewest) one (subst (λ (x : Bucket). AtMost after x.least x.fewest) met less),
             )
         | false ↦ λ e own. (
           λ at. absurd (let a : true ≡ false = sym (place_eq s.0 k (sym at)) ∙ e in cc),
-          λ g there. let one : Some h ≡ Some g = sym own ∙ there in let same : h ≡ g = cc in subst (λ (x : Head). AtMost h x.least x.fewest) same (itself_most h),
+          λ g there. let one : Some h ≡ Some g = sym own ∙ there in let same : h ≡ g = cc in subst (λ (x : Bucket). AtMost h x.least x.fewest) same (itself_most h),
         )
       ] refl (sym (sets k) ∙ is)
 
@@ -176,41 +176,41 @@ lesser a b m is = (omega (arith, is), omega (arith, is))
 -- ---- a spot less
 
 -- one of the others alone
-module _ (heads : Heads) (others less : Others) (s : Spot) (takes : Takes others s less) where
+module _ (buckets : Buckets) (others less : Others) (s : Spot) (takes : Takes others s less) where
   still : (q : Spot) → less q ≡ true → others q ≡ true
   still q there = elim (eq_by_cmp spot_cmp s q) as (λ b. cond b false (others q) ≡ true → others q ≡ true) [
     | true ↦ λ h. absurd (cc)
     | false ↦ λ h. h
   ] (sym (takes q) ∙ there)
 
-  pub less_others : is_head (heads s.0) s ≡ false → Takes (spots_of heads others) s (spots_of heads less)
+  pub less_others : is_bucket (buckets s.0) s ≡ false → Takes (spots_of buckets others) s (spots_of buckets less)
   less_others here q =
-      ap (cond (is_head (heads q.0) q) true) (takes q)
-      ∙ elim (eq_by_cmp spot_cmp s q) as (λ b. eq_by_cmp spot_cmp s q ≡ b → cond (is_head (heads q.0) q) true (cond b false (others q)) ≡ cond b false (spots_of heads others q)) [
-        | true ↦ λ e. ap (λ (x : Spot). cond (is_head (heads x.0) x) true false) (sym (same_spot s q e)) ∙ ap (λ b. cond b true false) here
+      ap (cond (is_bucket (buckets q.0) q) true) (takes q)
+      ∙ elim (eq_by_cmp spot_cmp s q) as (λ b. eq_by_cmp spot_cmp s q ≡ b → cond (is_bucket (buckets q.0) q) true (cond b false (others q)) ≡ cond b false (spots_of buckets others q)) [
+        | true ↦ λ e. ap (λ (x : Spot). cond (is_bucket (buckets x.0) x) true false) (sym (same_spot s q e)) ∙ ap (λ b. cond b true false) here
         | false ↦ λ _. refl
       ] refl
 
-  pub less_heads : HasHeads heads others → HasHeads heads less
-  less_heads headed q there = headed q (still q there)
+  pub less_buckets : HasBuckets buckets others → HasBuckets buckets less
+  less_buckets headed q there = headed q (still q there)
 
-  pub less_keeps : KeepsLeast heads heads
+  pub less_keeps : KeepsLeast buckets buckets
   less_keeps k h is = (h, is, itself_most h)
 
-  -- the head, where another takes its place or none is there
-  module _ (now : Heads) (head : Head) (x : Option Head) (own : heads s.0 ≡ Some head) (id_is : head.id ≡ s.1) (sets : Sets heads s.0 x now) (follows : (q : Spot) → q.0 ≡ s.0 → cond (is_head x q) true (less q) ≡ less q) (found : IfNone x ((q : Spot) → q.0 ≡ s.0 → less q ≡ false)) (keeps : IfSome x (λ h. AtMost h head.least head.fewest)) where
-    pub head_takes : Takes (spots_of heads others) s (spots_of now less)
-    head_takes q =
-        ap (λ o. cond (is_head o q) true (less q)) (sets q.0)
-        ∙ elim (eq_by_cmp place_cmp s.0 q.0) as (λ b. eq_by_cmp place_cmp s.0 q.0 ≡ b → cond (is_head (cond b x (heads q.0)) q) true (less q) ≡ cond (eq_by_cmp spot_cmp s q) false (spots_of heads others q)) [
+  -- the bucket, where another takes its place or none is there
+  module _ (now : Buckets) (bucket : Bucket) (x : Option Bucket) (own : buckets s.0 ≡ Some bucket) (id_is : bucket.id ≡ s.1) (sets : Sets buckets s.0 x now) (follows : (q : Spot) → q.0 ≡ s.0 → cond (is_bucket x q) true (less q) ≡ less q) (found : IfNone x ((q : Spot) → q.0 ≡ s.0 → less q ≡ false)) (keeps : IfSome x (λ h. AtMost h bucket.least bucket.fewest)) where
+    pub bucket_takes : Takes (spots_of buckets others) s (spots_of now less)
+    bucket_takes q =
+        ap (λ o. cond (is_bucket o q) true (less q)) (sets q.0)
+        ∙ elim (eq_by_cmp place_cmp s.0 q.0) as (λ b. eq_by_cmp place_cmp s.0 q.0 ≡ b → cond (is_bucket (cond b x (buckets q.0)) q) true (less q) ≡ cond (eq_by_cmp spot_cmp s q) false (spots_of buckets others q)) [
           | true ↦ λ e.
               let at : s.0 ≡ q.0 = place_true s.0 q.0 e in
               follows q (sym at) ∙ takes q ∙ gone (eq_by_cmp spot_cmp s q) (others q)
               ∙ ap (λ b. cond (eq_by_cmp spot_cmp s q) false (cond b true (others q))) (at_place s q at ∙ ap (λ (n : ℕ). nat_eq n q.1) (sym id_is))
-              ∙ ap (λ o. cond (eq_by_cmp spot_cmp s q) false (cond (is_head o q) true (others q))) (sym own ∙ ap heads at)
+              ∙ ap (λ o. cond (eq_by_cmp spot_cmp s q) false (cond (is_bucket o q) true (others q))) (sym own ∙ ap buckets at)
           | false ↦ λ e.
               let other = other_place s q e in
-              ap (cond (is_head (heads q.0) q) true) (takes q ∙ ap (λ b. cond b false (others q)) other) ∙ ap (λ b. cond b false (spots_of heads others q)) (sym other)
+              ap (cond (is_bucket (buckets q.0) q) true) (takes q ∙ ap (λ b. cond b false (others q)) other) ∙ ap (λ b. cond b false (spots_of buckets others q)) (sym other)
         ] refl
 
     has_one : (q : Spot) → q.0 ≡ s.0 → less q ≡ true → IsSome x
@@ -219,43 +219,43 @@ module _ (heads : Heads) (others less : Others) (s : Spot) (takes : Takes others
       | None ↦ λ none. absurd (let a : true ≡ false = sym there ∙ none q at in cc)
     ] found
 
-    pub head_heads : HasHeads heads others → HasHeads now less
-    head_heads headed q there =
+    pub bucket_buckets : HasBuckets buckets others → HasBuckets now less
+    bucket_buckets headed q there =
         subst IsSome (sym (sets q.0))
-        (elim (eq_by_cmp place_cmp s.0 q.0) as (λ b. eq_by_cmp place_cmp s.0 q.0 ≡ b → IsSome (cond b x (heads q.0))) [
+        (elim (eq_by_cmp place_cmp s.0 q.0) as (λ b. eq_by_cmp place_cmp s.0 q.0 ≡ b → IsSome (cond b x (buckets q.0))) [
           | true ↦ λ e. has_one q (sym (place_true s.0 q.0 e)) there
           | false ↦ λ _. headed q (still q there)
         ] refl)
 
-    kept_by : (h : Head) → x ≡ Some h → AtMost h head.least head.fewest
-    kept_by h is = subst (λ (o : Option Head). IfSome o (λ h. AtMost h head.least head.fewest)) is keeps
+    kept_by : (h : Bucket) → x ≡ Some h → AtMost h bucket.least bucket.fewest
+    kept_by h is = subst (λ (o : Option Bucket). IfSome o (λ h. AtMost h bucket.least bucket.fewest)) is keeps
 
-    pub head_keeps : KeepsLeast heads now
-    head_keeps k h is =
-        elim (eq_by_cmp place_cmp s.0 k) as (λ b. eq_by_cmp place_cmp s.0 k ≡ b → cond b x (heads k) ≡ Some h → (g : Head) × (heads k ≡ Some g) × AtMost h g.least g.fewest) [
-          | true ↦ λ e own_now. (head, ap heads (sym (place_true s.0 k e)) ∙ own, kept_by h own_now)
+    pub bucket_keeps : KeepsLeast buckets now
+    bucket_keeps k h is =
+        elim (eq_by_cmp place_cmp s.0 k) as (λ b. eq_by_cmp place_cmp s.0 k ≡ b → cond b x (buckets k) ≡ Some h → (g : Bucket) × (buckets k ≡ Some g) × AtMost h g.least g.fewest) [
+          | true ↦ λ e own_now. (bucket, ap buckets (sym (place_true s.0 k e)) ∙ own, kept_by h own_now)
           | false ↦ λ e own_now. (h, own_now, itself_most h)
         ] refl (sym (sets k) ∙ is)
 
--- where there are no others, one that is there is the head
-module _ (heads now : Heads) (others : Others) (s : Spot) (empty : (q : Spot) → others q ≡ false) (sets : Sets heads s.0 None now) where
-  by_head : (h : Head) → heads s.0 ≡ Some h → (b : Bool) → nat_eq h.id s.1 ≡ b → cond b true (others s) ≡ true → Takes (spots_of heads others) s (spots_of now others)
-  by_head h own true is there =
+-- where there are no others, one that is there is the bucket
+module _ (buckets now : Buckets) (others : Others) (s : Spot) (empty : (q : Spot) → others q ≡ false) (sets : Sets buckets s.0 None now) where
+  by_bucket : (h : Bucket) → buckets s.0 ≡ Some h → (b : Bool) → nat_eq h.id s.1 ≡ b → cond b true (others s) ≡ true → Takes (spots_of buckets others) s (spots_of now others)
+  by_bucket h own true is there =
       let same : h.id ≡ s.1 = eqb-true h.id s.1 is in
-      head_takes heads others others s (taken_none others s empty) now h None own same sets (λ q at. refl) (λ q at. empty q) tt
-  by_head h own false is there = absurd (let a : true ≡ false = sym there ∙ empty s in cc)
+      bucket_takes buckets others others s (taken_none others s empty) now h None own same sets (λ q at. refl) (λ q at. empty q) tt
+  by_bucket h own false is there = absurd (let a : true ≡ false = sym there ∙ empty s in cc)
 
-  pub only_takes : TakesOne (spots_of heads others) s (spots_of now others)
-  only_takes = elim (heads s.0) as (λ o. heads s.0 ≡ o → cond (is_head o s) true (others s) ≡ true → Takes (spots_of heads others) s (spots_of now others)) [
-    | Some h ↦ λ own there. by_head h own (nat_eq h.id s.1) refl there
+  pub only_takes : TakesOne (spots_of buckets others) s (spots_of now others)
+  only_takes = elim (buckets s.0) as (λ o. buckets s.0 ≡ o → cond (is_bucket o s) true (others s) ≡ true → Takes (spots_of buckets others) s (spots_of now others)) [
+    | Some h ↦ λ own there. by_bucket h own (nat_eq h.id s.1) refl there
     | None ↦ λ _ there. absurd (let a : true ≡ false = sym there ∙ empty s in cc)
   ] refl
 
-  pub only_heads : HasHeads heads others → HasHeads now others
-  only_heads headed q there = absurd (let a : true ≡ false = sym there ∙ empty q in cc)
+  pub only_buckets : HasBuckets buckets others → HasBuckets now others
+  only_buckets headed q there = absurd (let a : true ≡ false = sym there ∙ empty q in cc)
 
-  pub only_keeps : KeepsLeast heads now
-  only_keeps k h is = elim (eq_by_cmp place_cmp s.0 k) as (λ b. cond b None (heads k) ≡ Some h → (g : Head) × (heads k ≡ Some g) × AtMost h g.least g.fewest) [
+  pub only_keeps : KeepsLeast buckets now
+  only_keeps k h is = elim (eq_by_cmp place_cmp s.0 k) as (λ b. cond b None (buckets k) ≡ Some h → (g : Bucket) × (buckets k ≡ Some g) × AtMost h g.least g.fewest) [
     | true ↦ λ e. absurd (cc)
     | false ↦ λ e. (h, e, itself_most h)
   ] (sym (sets k) ∙ is)
@@ -267,8 +267,8 @@ added_there has more s adds = adds s ∙ ap (λ b. cond b true (has s)) (itself 
 pub there_still : (has more : Others) (s q : Spot) → Adds has s more → has q ≡ true → more q ≡ true
 there_still has more s q adds there = adds q ∙ ap (cond (eq_by_cmp spot_cmp s q) true) there ∙ or_true (eq_by_cmp spot_cmp s q)
 
--- another spot of the place that is there follows as the head
-pub follows_other : (less : Others) (p : Place) (next : Head) (other : Spot) → other.0 ≡ p → next.id ≡ other.1 → less other ≡ true → (q : Spot) → q.0 ≡ p → cond (is_head (Some next) q) true (less q) ≡ less q
+-- another spot of the place that is there follows as the bucket
+pub follows_other : (less : Others) (p : Place) (next : Bucket) (other : Spot) → other.0 ≡ p → next.id ≡ other.1 → less other ≡ true → (q : Spot) → q.0 ≡ p → cond (is_bucket (Some next) q) true (less q) ≡ less q
 follows_other less p next other of_it id_is there q at = elim (nat_eq next.id q.1) as (λ b. nat_eq next.id q.1 ≡ b → cond b true (less q) ≡ less q) [
   | true ↦ λ e.
       let place : other.0 ≡ q.0 = of_it ∙ sym at in
@@ -279,26 +279,26 @@ follows_other less p next other of_it id_is there q at = elim (nat_eq next.id q.
 
 -- ---- the newest
 
-module _ (heads : Heads) (others : Others) (p : Place) (below : Option ℕ) where
-  abbrev HeadIs : ℕ → Type 0
-  HeadIs a = (h : Head) × (heads p ≡ Some h) × (h.id ≡ a)
+module _ (buckets : Buckets) (others : Others) (p : Place) (below : Option ℕ) where
+  abbrev BucketIs : ℕ → Type 0
+  BucketIs a = (h : Bucket) × (buckets p ≡ Some h) × (h.id ≡ a)
 
-  as_head : (a k : ℕ) → HeadIs a → is_head (heads p) (p, k) ≡ nat_eq a k
-  as_head a k is = ap (λ o. is_head o (p, k)) is.1 ∙ ap (λ (n : ℕ). nat_eq n k) is.2
+  as_bucket : (a k : ℕ) → BucketIs a → is_bucket (buckets p) (p, k) ≡ nat_eq a k
+  as_bucket a k is = ap (λ o. is_bucket o (p, k)) is.1 ∙ ap (λ (n : ℕ). nat_eq n k) is.2
 
-  by_single : (a : ℕ) → HeadIs a → spots_of heads others (p, a) ≡ true
-  by_single a is = ap (λ b. cond b true (others (p, a))) (as_head a a is ∙ eq-eqb a a refl)
+  by_single : (a : ℕ) → BucketIs a → spots_of buckets others (p, a) ≡ true
+  by_single a is = ap (λ b. cond b true (others (p, a))) (as_bucket a a is ∙ eq-eqb a a refl)
 
-  by_others : (b : ℕ) → others (p, b) ≡ true → spots_of heads others (p, b) ≡ true
-  by_others b is = ap (cond (is_head (heads p) (p, b)) true) is ∙ or_true (is_head (heads p) (p, b))
+  by_others : (b : ℕ) → others (p, b) ≡ true → spots_of buckets others (p, b) ≡ true
+  by_others b is = ap (cond (is_bucket (buckets p) (p, b)) true) is ∙ or_true (is_bucket (buckets p) (p, b))
 
-  by_neither : (k : ℕ) → is_head (heads p) (p, k) ≡ false → others (p, k) ≡ false → spots_of heads others (p, k) ≡ false
+  by_neither : (k : ℕ) → is_bucket (buckets p) (p, k) ≡ false → others (p, k) ≡ false → spots_of buckets others (p, k) ≡ false
   by_neither k one other = ap (λ b. cond b true (others (p, k))) one ∙ other
 
-  not_single : (a k : ℕ) → HeadIs a → (a ≡ k → ⊥) → is_head (heads p) (p, k) ≡ false
-  not_single a k is differ = as_head a k is ∙ other_id a k differ
+  not_single : (a k : ℕ) → BucketIs a → (a ≡ k → ⊥) → is_bucket (buckets p) (p, k) ≡ false
+  not_single a k is differ = as_bucket a k is ∙ other_id a k differ
 
-  newer_of_two : (a b : ℕ) (less : Bool) → nat_lt a b ≡ less → HeadIs a → IsBelow below a → IsNewestSpot others p below b → IsNewestSpot (spots_of heads others) p below (if less then b else a)
+  newer_of_two : (a b : ℕ) (less : Bool) → nat_lt a b ≡ less → BucketIs a → IsBelow below a → IsNewestSpot others p below b → IsNewestSpot (spots_of buckets others) p below (if less then b else a)
   newer_of_two a b true e is low best =
       let lt : a < b = ltb-true a b e in
       record {
@@ -314,7 +314,7 @@ module _ (heads : Heads) (others : Others) (p : Place) (below : Option ℕ) wher
         newest = λ k after under. by_neither k (not_single a k is (λ same. omega (arith, after, same))) (best.newest k (omega (arith, ge, after)) under);
       }
 
-  pub newest_of_both : (one other : Option ℕ) → IfSome one (λ id. HeadIs id) → IfSome one (IsBelow below) → IfNone one ((id : ℕ) → IsBelow below id → is_head (heads p) (p, id) ≡ false) → IfSome other (IsNewestSpot others p below) → IfNone other (NoSpot others p below) → IfSome (greater_of one other) (IsNewestSpot (spots_of heads others) p below) × IfNone (greater_of one other) (NoSpot (spots_of heads others) p below)
+  pub newest_of_both : (one other : Option ℕ) → IfSome one (λ id. BucketIs id) → IfSome one (IsBelow below) → IfNone one ((id : ℕ) → IsBelow below id → is_bucket (buckets p) (p, id) ≡ false) → IfSome other (IsNewestSpot others p below) → IfNone other (NoSpot others p below) → IfSome (greater_of one other) (IsNewestSpot (spots_of buckets others) p below) × IfNone (greater_of one other) (NoSpot (spots_of buckets others) p below)
   newest_of_both None None is low none best empty = (tt, λ k under. by_neither k (none k under) (empty k under))
   newest_of_both None (Some b) is low none best empty = (
     record {

@@ -15,12 +15,12 @@ use Rattle.blk_sched.specs.Meaning.{Waiting}
 use Rattle.blk_bio.specs.Extents.{extent_of}
 use Rattle.blk_sched.specs.Fits.{FitsNowhere, IsNewestFit, FitsNone}
 use Rattle.blk_index.specs.Inside.Spots.{Place, place_cmp, is_write, is_placed, AreSpots, IsBelow, IsNewestSpot, NoSpot}
-use Rattle.blk_index.specs.Index.{at_of, touch_of, IsPassed, FitsBy, IsNewestBy, FitsNoneBy, newer_of}
-use Rattle.blk_index.specs.declared.spots.Head.{Head}
-use Rattle.blk_index.specs.Inside.Heads.{HasNone, IsEdge}
+use Rattle.blk_index.specs.Inside.Search.{at_of, touch_of, IsPassed, FitsBy, IsNewestBy, FitsNoneBy, newer_of}
+use Rattle.blk_index.specs.declared.merge_hash.Bucket.{Bucket}
+use Rattle.blk_index.specs.Inside.Buckets.{HasNone, IsEdge}
 use Rattle.blk_index.proofs.Listed.{place_itself}
-use Rattle.blk_index.proofs.Spotted.{Heads, Others}
-use Rattle.blk_index.proofs.Edged.{head_at, some_head}
+use Rattle.blk_index.proofs.Spotted.{Buckets, Others}
+use Rattle.blk_index.proofs.Edged.{bucket_at, some_bucket}
 use Rattle.blk_index.proofs.Joining.{sectors_both, bios_both, not_one}
 use Rattle.blk_index.proofs.Indexed.{Found, Has}
 
@@ -90,14 +90,14 @@ too_many limits bios newcomer side room room_bios least fewest wide wide_bios so
       ]
     ]
 
-pub none_room : (limits : Limits) (waiting : Found) (heads : Heads) (others : Others) (newcomer : List Bio) (side : Side) (p : Place) (room room_bios : ℕ) → IsEdge (at_of side) waiting heads others → p ≡ touch_of side (extent_of newcomer) → limits.max_sectors ≤ room + sectors_of newcomer → limits.max_segments ≤ room_bios + length newcomer → 0 < sectors_of newcomer → HasNone (heads p) room room_bios → (k : ℕ) (w : Waiting) → waiting k ≡ Some w → Fits limits w.bios newcomer side → ⊥
-none_room limits waiting heads others newcomer side p room room_bios edge is wide wide_bios some none k w there fits =
+pub none_room : (limits : Limits) (waiting : Found) (buckets : Buckets) (others : Others) (newcomer : List Bio) (side : Side) (p : Place) (room room_bios : ℕ) → IsEdge (at_of side) waiting buckets others → p ≡ touch_of side (extent_of newcomer) → limits.max_sectors ≤ room + sectors_of newcomer → limits.max_segments ≤ room_bios + length newcomer → 0 < sectors_of newcomer → HasNone (buckets p) room room_bios → (k : ℕ) (w : Waiting) → waiting k ≡ Some w → Fits limits w.bios newcomer side → ⊥
+none_room limits waiting buckets others newcomer side p room room_bios edge is wide wide_bios some none k w there fits =
     let place : at_of side (extent_of w.bios) ≡ p = touches limits w.bios newcomer side fits ∙ sym is in
-    let head = some_head (heads (at_of side (extent_of w.bios))) (head_at (at_of side) waiting heads others k w edge there) in
-    let here : heads p ≡ Some head.0 = ap heads (sym place) ∙ head.1 in
-    let above : (room < head.0.least) ⊎ (room_bios < head.0.fewest) = subst (λ (o : Option Head). HasNone o room room_bios) here none in
-    let most = edge.least k w head.0 there head.1 in
-    too_many limits w.bios newcomer side room room_bios head.0.least head.0.fewest wide wide_bios some above most.sectors_low most.bios_low fits
+    let bucket = some_bucket (buckets (at_of side (extent_of w.bios))) (bucket_at (at_of side) waiting buckets others k w edge there) in
+    let here : buckets p ≡ Some bucket.0 = ap buckets (sym place) ∙ bucket.1 in
+    let above : (room < bucket.0.least) ⊎ (room_bios < bucket.0.fewest) = subst (λ (o : Option Bucket). HasNone o room room_bios) here none in
+    let most = edge.least k w bucket.0 there bucket.1 in
+    too_many limits w.bios newcomer side room room_bios bucket.0.least bucket.0.fewest wide wide_bios some above most.sectors_low most.bios_low fits
 
 -- ---- of the newest at both sides the newer
 

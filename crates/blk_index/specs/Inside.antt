@@ -1,12 +1,14 @@
--- What invariants and proofs alone need: the spots of requests, the places of ids, and the requests in a slab.
+-- What invariants and proofs alone need: the spots of requests, the search for a join, FIFO lists and sort lists, and the requests in a slab.
 pub mod Spots
-pub mod Sites
-pub mod Heads
+pub mod Search
+pub mod SectorKeys
+pub mod Buckets
 pub mod Tables
 pub mod Edges
-pub mod Shelves
+pub mod RequestSlabs
 pub mod Lists
-pub mod Ages
-pub mod Orders
+pub mod FifoLists
+pub mod SortLists
 pub mod Pairs
-pub mod Places
+pub mod SlabKeys
+pub mod Queues

@@ -1,3 +1,3 @@
 pub mod Index
-pub mod Lanes
+pub mod Queues
 pub mod Inside

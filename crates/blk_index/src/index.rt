@@ -1,4 +1,4 @@
-//! Requests that wait, by their ids and by where they begin and end.
+//! The requests that wait, found by their ids and by where they begin and end.
 
 ghost use Rattle.std.specs.Prelude.{◌≡◌, ◌<◌, ◌≤◌, ◌^◌, ◌+◌, ◌↔◌, length, ℕ, Option, None, Some, true, false, IfOk, OnOk, IfErr, OnErr, IfSome, IfNone, IsSome, IsTrue};
 ghost use Rattle.std.specs.Option.{OnSome, option_copied};
@@ -11,13 +11,14 @@ ghost use Rattle.blk_bio.specs.Extents.{extent_of};
 ghost use Rattle.blk_bio.specs.Requests.{Fits, sectors_of};
 ghost use Rattle.std.specs.Prelude.{nat_lt};
 ghost use Rattle.std.specs.Bool.{OnTrue, OnFalse};
-ghost use Rattle.blk_index.specs.Inside.Heads.{IsEdge};
-ghost use Rattle.blk_index.specs.Inside.Edges.{heads_in, others_in};
-ghost use Rattle.blk_index.specs.Index.{IsNewestBy, FitsNoneBy, FitsBy, IsJoined, at_of, touch_of, newer_of, IsOldest, NoneOf};
+ghost use Rattle.blk_index.specs.Inside.Buckets.{IsEdge};
+ghost use Rattle.blk_index.specs.Inside.Edges.{buckets_in, others_in};
+ghost use Rattle.blk_index.specs.Index.{IsJoined, IsOldest, IsFirst, NoneOf, FindsNothing};
+ghost use Rattle.blk_index.specs.Inside.Search.{IsNewestBy, FitsNoneBy, FitsBy, at_of, touch_of, newer_of, lesser_of};
 
-use crate::ages::Ages;
-use crate::shelf::Shelf;
-use crate::spots::{Edges, Spot, Spots, end_spot, first_spot, is_write};
+use crate::fifo::FifoLists;
+use crate::merge_hash::{MergeHash, MergeHashes, Spot, end_spot, first_spot, is_write};
+use crate::request_slab::RequestSlab;
 use blk_bio::{Dir, Extent, Limits, Request, Side};
 use blk_sched::Queued;
 use std::alloc::{AllocError, Allocator, Global};
@@ -26,18 +27,18 @@ use std::marker::Model;
 /// Requests that wait, found by their ids, by where they begin and by where they end, and the ids of each direction in order.
 #[derive(Drop)]
 pub struct Index<A: Allocator = Global> {
-    waiting: Shelf<A>,
-    edges: Edges<A>,
-    ages: Ages<A>,
+    waiting: RequestSlab<A>,
+    edges: MergeHashes<A>,
+    fifo: FifoLists<A>,
 }
 
 impl<A: Allocator> Model for Index<A> {
     ghost use Rattle.std.specs.Coded.{coded_ℕ};
     ghost use Rattle.std.specs.FinMap.{get, code};
     ghost use Rattle.blk_sched.specs.Meaning.{Pending, waiting_code};
-    ghost use Rattle.blk_index.specs.Inside.Ages.{AreAges};
+    ghost use Rattle.blk_index.specs.Inside.FifoLists.{AreFifoLists};
     ghost use Rattle.blk_index.specs.Inside.Edges.{IsEdges};
-    ghost use Rattle.blk_index.specs.Index.{IsNamed};
+    ghost use Rattle.blk_index.specs.Inside.Search.{IsNamed};
 
     ghost Value = { Pending };
 
@@ -45,7 +46,7 @@ impl<A: Allocator> Model for Index<A> {
 
     ghost view = { λ s. s.waiting };
 
-    ghost invariant = { λ s. IsNamed (get s.waiting) × IsEdges (get s.waiting) s.edges × AreAges (get s.waiting) s.ages };
+    ghost invariant = { λ s. IsNamed (get s.waiting) × IsEdges (get s.waiting) s.edges × AreFifoLists (get s.waiting) s.fifo };
 }
 
 impl<A: Allocator + Clone> Index<A> {
@@ -54,9 +55,9 @@ impl<A: Allocator + Clone> Index<A> {
         ensures { IfOk result (λ s. s ≡ map.empty) }
     {
         Ok(Index {
-            waiting: Shelf::new(alloc.clone()?)?,
-            edges: Edges::new(alloc.clone()?)?,
-            ages: Ages::new(alloc)?,
+            waiting: RequestSlab::new(alloc.clone()?)?,
+            edges: MergeHashes::new(alloc.clone()?)?,
+            fifo: FifoLists::new(alloc)?,
         })
     }
 
@@ -76,8 +77,8 @@ impl<A: Allocator + Clone> Index<A> {
         self.waiting.get(id)
     }
 
-    /// Adds a request whose id isn't there. Refused for want of memory alone: nothing is changed then, and the
-    /// request comes back.
+    /// Adds a request whose id isn't there. It fails only when out of memory: nothing is changed then, and the request
+    /// comes back.
     #[inline(always)]
     pub fn insert(&mut self, queued: Queued<A>) -> Result<(), Queued<A>>
         requires { map.get self.old queued.id ≡ None }
@@ -88,18 +89,18 @@ impl<A: Allocator + Clone> Index<A> {
         let id = id_of(&queued);
         let extent = extent_of(&queued);
         let sectors = sectors_of(&queued);
-        let Ok(()) = self.ages.enter(extent.dir, id) else {
+        let Ok(()) = self.fifo.add(extent.dir, id) else {
             return Err(queued);
         };
-        let Ok(()) = self.edges.enter(extent, sectors, id) else {
-            self.ages.leave(&self.waiting, extent.dir, id);
+        let Ok(()) = self.edges.add(extent, sectors, id) else {
+            self.fifo.del(&self.waiting, extent.dir, id);
             return Err(queued);
         };
         match self.waiting.insert(queued) {
             Ok(()) => Ok(()),
             Err(queued) => {
-                self.edges.leave(extent, id);
-                self.ages.leave(&self.waiting, extent.dir, id);
+                self.edges.del(extent, id);
+                self.fifo.del(&self.waiting, extent.dir, id);
                 Err(queued)
             }
         }
@@ -116,8 +117,8 @@ impl<A: Allocator + Clone> Index<A> {
             return None;
         };
         let extent = extent_of(&queued);
-        self.edges.leave(extent, id);
-        self.ages.leave(&self.waiting, extent.dir, id);
+        self.edges.del(extent, id);
+        self.fifo.del(&self.waiting, extent.dir, id);
         Some(queued)
     }
 
@@ -136,25 +137,35 @@ impl<A: Allocator + Clone> Index<A> {
     {
         let back = newest_of(
             &self.waiting,
-            &self.edges.ends,
+            &self.edges.back,
             Side::Back,
             newcomer,
             limits,
         );
-        let ahead = newest_ahead(&self.waiting, &self.edges.firsts, front, newcomer, limits);
+        let ahead = newest_ahead(&self.waiting, &self.edges.front, front, newcomer, limits);
         newer(back, ahead)
     }
 
     /// The least id of a direction.
+    #[inline(always)]
     pub fn oldest(&self, dir: Dir) -> Option<u64>
         ensures some { IfSome result (IsOldest dir (map.get self.now)) }
         ensures none { IfNone result (NoneOf dir (map.get self.now)) }
     {
-        self.ages.first(dir)
+        self.fifo.first(dir)
     }
 
-    /// Joins a newcomer to the request of an id, which it fits at the side, in the round `now`. Refused for want of
-    /// memory alone: nothing is changed then, and the newcomer comes back.
+    /// The least id of both directions.
+    #[inline(always)]
+    pub fn first(&self) -> Option<u64>
+        ensures some { IfSome result (IsFirst (map.get self.now)) }
+        ensures none { IfNone result (FindsNothing (map.get self.now)) }
+    {
+        lesser(self.oldest(Dir::Read), self.oldest(Dir::Write))
+    }
+
+    /// Joins a newcomer to the request of an id, which it fits at the side, in the round `now`. It fails only when out of
+    /// memory: nothing is changed then, and the newcomer comes back.
     pub fn join_at(
         &mut self,
         id: u64,
@@ -168,16 +179,16 @@ impl<A: Allocator + Clone> Index<A> {
         ensures err { IfErr result (λ e. e ≡ newcomer) }
         ensures same { OnErr result (self.new ≡ self.old) }
     {
-        let Edges { firsts, ends } = &mut self.edges;
+        let MergeHashes { front, back } = &mut self.edges;
         match side {
-            Side::Back => join_in(&mut self.waiting, ends, id, side, now, limits, newcomer),
-            Side::Front => join_in(&mut self.waiting, firsts, id, side, now, limits, newcomer),
+            Side::Back => join_in(&mut self.waiting, back, id, side, now, limits, newcomer),
+            Side::Front => join_in(&mut self.waiting, front, id, side, now, limits, newcomer),
         }
     }
 }
 
 /// Where a newcomer touches the requests that it may join at a side.
-pub fn touched<A: Allocator + Clone>(side: Side, newcomer: &Request<A>) -> (bool, u64)
+fn touched<A: Allocator + Clone>(side: Side, newcomer: &Request<A>) -> (bool, u64)
     ensures value { result ≡ touch_of side (extent_of newcomer.now) }
     ensures low { result.1 < 2 ^ 63 }
 {
@@ -191,7 +202,7 @@ pub fn touched<A: Allocator + Clone>(side: Side, newcomer: &Request<A>) -> (bool
 }
 
 /// How many sectors, and how many bios, a request may have at most for a newcomer to fit it.
-pub fn room_beside<A: Allocator + Clone>(newcomer: &Request<A>, limits: &Limits) -> (u64, u64)
+fn room_beside<A: Allocator + Clone>(newcomer: &Request<A>, limits: &Limits) -> (u64, u64)
     ensures wide { limits.now.max_sectors ≤ result.0 + sectors_of newcomer.now }
     ensures wide_bios { limits.now.max_segments ≤ result.1 + length newcomer.now }
     ensures some { 0 < sectors_of newcomer.now }
@@ -205,7 +216,7 @@ pub fn room_beside<A: Allocator + Clone>(newcomer: &Request<A>, limits: &Limits)
 
 /// Whether a newcomer fits the request of an id at a side.
 fn fits_by<A: Allocator + Clone>(
-    waiting: &Shelf<A>,
+    waiting: &RequestSlab<A>,
     id: u64,
     side: Side,
     newcomer: &Request<A>,
@@ -226,13 +237,13 @@ fn fits_by<A: Allocator + Clone>(
 /// The newest request that a newcomer fits at a side, where `spots` are the requests' ends at that side.
 #[inline(always)]
 fn newest_of<A: Allocator + Clone>(
-    waiting: &Shelf<A>,
-    spots: &Spots<A>,
+    waiting: &RequestSlab<A>,
+    spots: &MergeHash<A>,
     side: Side,
     newcomer: &Request<A>,
     limits: &Limits,
 ) -> Option<u64>
-    requires { IsEdge (at_of side) (map.get waiting.now) (heads_in spots.now) (others_in spots.now) }
+    requires { IsEdge (at_of side) (map.get waiting.now) (buckets_in spots.now) (others_in spots.now) }
     ensures some { IfSome result (IsNewestBy limits.now (map.get waiting.now) newcomer.now side) }
     ensures none { IfNone result (FitsNoneBy limits.now (map.get waiting.now) newcomer.now side) }
 {
@@ -254,13 +265,13 @@ fn newest_of<A: Allocator + Clone>(
 /// The same at the front, where that is allowed.
 #[inline(always)]
 fn newest_ahead<A: Allocator + Clone>(
-    waiting: &Shelf<A>,
-    firsts: &Spots<A>,
+    waiting: &RequestSlab<A>,
+    spots: &MergeHash<A>,
     front: bool,
     newcomer: &Request<A>,
     limits: &Limits,
 ) -> Option<u64>
-    requires { IsEdge (at_of Side.Front) (map.get waiting.now) (heads_in firsts.now) (others_in firsts.now) }
+    requires { IsEdge (at_of Side.Front) (map.get waiting.now) (buckets_in spots.now) (others_in spots.now) }
     ensures some { IfSome result (IsNewestBy limits.now (map.get waiting.now) newcomer.now Side.Front) }
     ensures tried { OnSome result (IsTrue front) }
     ensures none { IfNone result (IsTrue front → FitsNoneBy limits.now (map.get waiting.now) newcomer.now Side.Front) }
@@ -268,11 +279,23 @@ fn newest_ahead<A: Allocator + Clone>(
     if !front {
         return None;
     }
-    newest_of(waiting, firsts, Side::Front, newcomer, limits)
+    newest_of(waiting, spots, Side::Front, newcomer, limits)
+}
+
+/// Of two ids the lesser.
+#[inline(always)]
+fn lesser(one: Option<u64>, other: Option<u64>) -> Option<u64>
+    ensures { result ≡ lesser_of one other }
+{
+    match (one, other) {
+        (None, other) => other,
+        (one, None) => one,
+        (Some(one), Some(other)) => Some(if other < one { other } else { one }),
+    }
 }
 
 /// Of a fit at the back and one at the front the newer.
-pub fn newer(back: Option<u64>, ahead: Option<u64>) -> Option<(u64, Side)>
+fn newer(back: Option<u64>, ahead: Option<u64>) -> Option<(u64, Side)>
     ensures { result ≡ newer_of back ahead }
 {
     match (back, ahead) {
@@ -290,14 +313,14 @@ pub fn newer(back: Option<u64>, ahead: Option<u64>) -> Option<(u64, Side)>
 }
 
 /// How many bios two requests have together, or the greatest number where they have more.
-pub fn bios_of(one: Extent, other: Extent) -> u64
+fn bios_of(one: Extent, other: Extent) -> u64
     ensures { result ≤ one.bios + other.bios }
 {
     one.bios.saturating_add(other.bios)
 }
 
 /// Where a request lies at a side.
-pub fn spot_at(side: Side, extent: Extent, id: u64) -> Spot
+fn spot_at(side: Side, extent: Extent, id: u64) -> Spot
     ensures { result ≡ (at_of side extent, id) }
 {
     match side {
@@ -308,8 +331,8 @@ pub fn spot_at(side: Side, extent: Extent, id: u64) -> Spot
 
 /// Joins a newcomer to the request of an id, where `spots` are the requests' ends at the side.
 fn join_in<A: Allocator + Clone>(
-    waiting: &mut Shelf<A>,
-    spots: &mut Spots<A>,
+    waiting: &mut RequestSlab<A>,
+    spots: &mut MergeHash<A>,
     id: u64,
     side: Side,
     now: u64,
@@ -317,8 +340,8 @@ fn join_in<A: Allocator + Clone>(
     newcomer: Request<A>,
 ) -> Result<(), Request<A>>
     requires fit { HasFit limits.now (map.get waiting.old) newcomer id side }
-    requires spots { IsEdge (at_of side) (map.get waiting.old) (heads_in spots.old) (others_in spots.old) }
-    ensures spots { IsEdge (at_of side) (map.get waiting.new) (heads_in spots.new) (others_in spots.new) }
+    requires spots { IsEdge (at_of side) (map.get waiting.old) (buckets_in spots.old) (others_in spots.old) }
+    ensures spots { IsEdge (at_of side) (map.get waiting.new) (buckets_in spots.new) (others_in spots.new) }
     ensures joined { OnOk result (IsJoined now newcomer waiting.old id side waiting.new) }
     ensures err { IfErr result (λ e. e ≡ newcomer) }
     ensures same { OnErr result (waiting.new ≡ waiting.old) }
@@ -354,7 +377,7 @@ pub fn id_of<A: Allocator + Clone>(queued: &Queued<A>) -> u64
 }
 
 /// How many sectors it has.
-pub fn sectors_of<A: Allocator + Clone>(queued: &Queued<A>) -> u64
+fn sectors_of<A: Allocator + Clone>(queued: &Queued<A>) -> u64
     ensures value { result ≡ sectors_of queued.now.bios }
     ensures in_range { result ≤ sector_limit }
 {

@@ -1,4 +1,4 @@
-//! Requests that wait, in the order of their first sectors.
+//! The requests that wait, in an index and in sort lists.
 
 ghost use Rattle.std.specs.Prelude.{◌≡◌, ◌<◌, ◌↔◌, ℕ, Option, None, Some, true, false, IfOk, OnOk, IfErr, OnErr, IfSome, IfNone};
 ghost use Rattle.std.specs.Option.{option_copied};
@@ -6,30 +6,29 @@ ghost use Rattle.std.specs.FinMap as map;
 ghost use Rattle.blk_sched.specs.Meaning.{Waiting};
 ghost use Rattle.blk_sched.specs.Fits.{IsNewestFit, FitsNone, HasFit};
 ghost use Rattle.blk_index.specs.Inside.Spots.{AreSpots, first_at};
-ghost use Rattle.blk_index.specs.Inside.Orders.{order_in};
+ghost use Rattle.blk_index.specs.Inside.SortLists.{sorted_in};
 ghost use Rattle.blk_index.specs.Index.{IsJoined, IsOldest, IsNext, NoneOf, NoNext};
 
-use crate::firsts::Order;
 use crate::index::{Index, extent_of, id_of};
-use crate::spots::first_spot;
+use crate::merge_hash::first_spot;
+use crate::sort::SortLists;
 use blk_bio::{Dir, Limits, Request, Side};
 use blk_sched::Queued;
 use std::alloc::{AllocError, Allocator, Global};
 use std::marker::Model;
 
-/// Requests that wait, in an index, and in the order of their directions, first sectors and ids. Seen as the map from ids to
-/// requests.
+/// The requests that wait, in an index and in sort lists. Seen as the map from ids to requests.
 #[derive(Drop)]
 pub struct Sorted<A: Allocator = Global> {
     index: Index<A>,
-    firsts: Order<A>,
+    sort: SortLists<A>,
 }
 
 impl<A: Allocator> Model for Sorted<A> {
     ghost use Rattle.std.specs.Coded.{coded_ℕ};
     ghost use Rattle.std.specs.FinMap.{get, code};
     ghost use Rattle.blk_sched.specs.Meaning.{Pending, waiting_code};
-    ghost use Rattle.blk_index.specs.Inside.Orders.{order_in};
+    ghost use Rattle.blk_index.specs.Inside.SortLists.{sorted_in};
     ghost use Rattle.blk_index.specs.Inside.Spots.{AreSpots, first_at};
 
     ghost Value = { Pending };
@@ -38,7 +37,7 @@ impl<A: Allocator> Model for Sorted<A> {
 
     ghost view = { λ s. s.index };
 
-    ghost invariant = { λ s. AreSpots first_at (get s.index) (order_in s.firsts) };
+    ghost invariant = { λ s. AreSpots first_at (get s.index) (sorted_in s.sort) };
 }
 
 impl<A: Allocator + Clone> Sorted<A> {
@@ -48,7 +47,7 @@ impl<A: Allocator + Clone> Sorted<A> {
     {
         Ok(Sorted {
             index: Index::new(alloc.clone()?)?,
-            firsts: Order::new(alloc)?,
+            sort: SortLists::new(alloc)?,
         })
     }
 
@@ -67,8 +66,8 @@ impl<A: Allocator + Clone> Sorted<A> {
         self.index.get(id)
     }
 
-    /// Adds a request whose id isn't there. Refused for want of memory alone: nothing is changed then, and the
-    /// request comes back.
+    /// Adds a request whose id isn't there. It fails only when out of memory: nothing is changed then, and the request
+    /// comes back.
     #[inline(always)]
     pub fn insert(&mut self, queued: Queued<A>) -> Result<(), Queued<A>>
         requires { map.get self.old queued.id ≡ None }
@@ -77,13 +76,13 @@ impl<A: Allocator + Clone> Sorted<A> {
         ensures same { OnErr result (self.new ≡ self.old) }
     {
         let spot = first_spot(extent_of(&queued), id_of(&queued));
-        let Ok(()) = self.firsts.put(spot) else {
+        let Ok(()) = self.sort.put(spot) else {
             return Err(queued);
         };
         match self.index.insert(queued) {
             Ok(()) => Ok(()),
             Err(queued) => {
-                self.firsts.take(spot);
+                self.sort.take(spot);
                 Err(queued)
             }
         }
@@ -99,7 +98,7 @@ impl<A: Allocator + Clone> Sorted<A> {
         let Some(queued) = self.index.remove(id) else {
             return None;
         };
-        self.firsts.take(first_spot(extent_of(&queued), id));
+        self.sort.take(first_spot(extent_of(&queued), id));
         Some(queued)
     }
 
@@ -133,12 +132,13 @@ impl<A: Allocator + Clone> Sorted<A> {
         ensures none { IfNone result (NoNext dir first last (map.get self.now)) }
         ensures named { (k : ℕ) (w : Waiting) → map.get self.now k ≡ Some w → w.id ≡ k }
     {
+        // for the proof alone: each request has its id
         let _ = self.index.len();
-        self.firsts.next(dir, first, last)
+        self.sort.next(dir, first, last)
     }
 
-    /// Joins a newcomer to the request of an id, which it fits at the side, in the round `now`. Refused for want of
-    /// memory alone: nothing is changed then, and the newcomer comes back.
+    /// Joins a newcomer to the request of an id, which it fits at the side, in the round `now`. It fails only when out of
+    /// memory: nothing is changed then, and the newcomer comes back.
     pub fn join_at(
         &mut self,
         id: u64,
@@ -154,45 +154,45 @@ impl<A: Allocator + Clone> Sorted<A> {
     {
         match side {
             Side::Back => self.index.join_at(id, side, now, limits, newcomer),
-            Side::Front => join_ahead(&mut self.index, &mut self.firsts, id, now, limits, newcomer),
+            Side::Front => join_ahead(&mut self.index, &mut self.sort, id, now, limits, newcomer),
         }
     }
 }
 
-/// Joins a newcomer at the front of the request of an id, where `firsts` are where the requests begin.
+/// Joins a newcomer at the front of the request of an id, where `sort` are where the requests begin.
 fn join_ahead<A: Allocator + Clone>(
     index: &mut Index<A>,
-    firsts: &mut Order<A>,
+    sort: &mut SortLists<A>,
     id: u64,
     now: u64,
     limits: &Limits,
     newcomer: Request<A>,
 ) -> Result<(), Request<A>>
     requires fit { HasFit limits.now (map.get index.old) newcomer id Side.Front }
-    requires spots { AreSpots first_at (map.get index.old) (order_in firsts.old) }
-    ensures spots { AreSpots first_at (map.get index.new) (order_in firsts.new) }
+    requires spots { AreSpots first_at (map.get index.old) (sorted_in sort.old) }
+    ensures spots { AreSpots first_at (map.get index.new) (sorted_in sort.new) }
     ensures joined { OnOk result (IsJoined now newcomer index.old id Side.Front index.new) }
     ensures err { IfErr result (λ e. e ≡ newcomer) }
     ensures same { OnErr result (index.new ≡ index.old) }
 {
-    let sectors = newcomer.sectors();
-    let _ = sectors;
+    // for the proof alone: the newcomer has sectors
+    let _ = newcomer.sectors();
     let added = newcomer.extent();
     let Some(queued) = index.get(id) else {
         unreachable!()
     };
     let before = extent_of(queued);
     let spot = first_spot(added, id);
-    let Ok(()) = firsts.put(spot) else {
+    let Ok(()) = sort.put(spot) else {
         return Err(newcomer);
     };
     match index.join_at(id, Side::Front, now, limits, newcomer) {
         Ok(()) => {
-            firsts.take(first_spot(before, id));
+            sort.take(first_spot(before, id));
             Ok(())
         }
         Err(newcomer) => {
-            firsts.take(spot);
+            sort.take(spot);
             Err(newcomer)
         }
     }

@@ -1,4 +1,2 @@
-pub mod Found
-pub mod Splits
 pub mod Served
 pub mod Numbers

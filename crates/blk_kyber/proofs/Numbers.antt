@@ -4,7 +4,7 @@ use Rattle.std.specs.List.{flat_map}
 use Rattle.blk_bio.specs.declared.bio.Dir.{Dir}
 use Rattle.blk_bio.specs.declared.bio.Dir.TheVariants.{Read, Write}
 use Rattle.blk_kyber.specs.declared.turn.Turn.{Turn}
-use Rattle.blk_kyber.specs.Kept.{Kept, number_of, dir_number, turn_numbers, numbers_of}
+use Rattle.blk_kyber.specs.State.{KyberState, number_of, dir_number, turn_numbers, numbers_of}
 
 one_bool : (a b : Bool) → number_of a ≡ number_of b → a ≡ b
 one_bool true true h = refl
@@ -43,7 +43,7 @@ one_turns (t ∷ ts) (u ∷ us) h =
     let others : ts ≡ us = one_turns ts us (tail_of _ _ _ _ rest) in
     λ i. same i ∷ others i
 
-pub one_kept : (a b : Kept) → numbers_of a ≡ numbers_of b → a ≡ b
+pub one_kept : (a b : KyberState) → numbers_of a ≡ numbers_of b → a ≡ b
 one_kept a b h =
     let h1 = tail_of _ _ _ _ h in
     let h2 = tail_of _ _ _ _ h1 in

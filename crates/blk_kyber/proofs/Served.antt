@@ -5,43 +5,15 @@ use Rattle.std.proofs.lemmas.Bool.{ltb-false, eq-eqb}
 use Rattle.std.specs.FinMap as map
 use Rattle.blk_bio.specs.declared.bio.Dir.{Dir}
 use Rattle.blk_bio.specs.declared.bio.Dir.TheVariants.{Read, Write}
-use Rattle.blk_bio.specs.declared.request.Side.{Side}
-use Rattle.blk_bio.specs.declared.request.Side.TheVariants.{Back}
-use Rattle.blk_bio.specs.Bios.{Bio}
-use Rattle.blk_bio.specs.Limits.{Limits}
 use Rattle.blk_bio.specs.Requests.{dir_of}
-use Rattle.blk_sched.specs.Meaning.{Waiting, Pending, Meaning, OpenPicks, HasCandidate, HasNoCandidate, ServesNothing, unfinished}
-use Rattle.blk_sched.specs.Fits.{IsNewestFit, FitsNone}
+use Rattle.blk_sched.specs.Meaning.{Waiting, Pending, Meaning, OpenPicks, ServesNothing, unfinished}
 use Rattle.blk_sched.specs.Maps.{first_found, none_found}
 use Rattle.blk_index.specs.Index.{IsOldest, NoneOf}
 use Rattle.blk_kyber.specs.Limits.{DirLimits, Report, limit_of}
 use Rattle.blk_kyber.specs.Choice.{serves_own, is_same, other_of, oldest_of, in_flight, head_of, chosen}
-use Rattle.blk_kyber.specs.Kept.{Kept, choice_for, after_pick, told, numbers_of, Chooses, Told}
-use Rattle.blk_kyber.specs.Inside.Queues.{served_of}
-use Rattle.blk_kyber.proofs.Splits.{serves_it, served_there}
-
--- ---- joins
-
-abbrev pub meaning_with : Pending → OpenPicks → ℕ → Meaning
-meaning_with pending picks round = record { pending = pending; open_picks = picks; front = true; round = round }
-
-module _ (m : Pending) (picks : OpenPicks) (round hw : ℕ) (limits : Limits) (newcomer : List Bio) where
-  pub candidate_of : (id : ℕ) (side : Side) → IsNewestFit limits true (served_of hw m) newcomer id side → HasCandidate serves_own hw limits newcomer (meaning_with m picks round) id side
-  candidate_of id side best =
-      let f = serves_it hw (map.get m id) best.waiting best.is_found in (
-        best.waiting,
-        record {
-          pending = f.0;
-          served = eq-eqb best.waiting.hw hw f.1;
-          tried = best.fits.tried;
-          fits = best.fits.fits;
-          back_first = λ is_front back. let e : Back ≡ side = best.fits.only Back back in cc;
-          newest = λ other w s later there own tried fits. best.newest other w later (served_there hw (map.get m other) w there own) s tried fits;
-        },
-      )
-
-  pub no_candidate_of : FitsNone limits true (served_of hw m) newcomer → HasNoCandidate serves_own hw limits newcomer (meaning_with m picks round)
-  no_candidate_of none id w s there own tried fits = none id w (served_there hw (map.get m id) w there own) s tried fits
+use Rattle.blk_kyber.specs.State.{KyberState, choice_for, after_pick, told, numbers_of, Chooses, Told}
+use Rattle.blk_index.specs.Queues.{served_of}
+use Rattle.blk_index.proofs.Served.{meaning_with, serves_it, served_there}
 
 -- ---- the head of a direction
 
@@ -125,8 +97,8 @@ idle m picks round hw Write Write e own other = absurd (cc)
 
 -- ---- what is kept, as numbers
 
-pub chooses : (old new : Kept) (m : Meaning) (hw now : ℕ) (result : Option Waiting) → result ≡ chosen (choice_for hw old m) → new ≡ after_pick hw old (choice_for hw old m) → Chooses (numbers_of old) m hw now result (numbers_of new)
+pub chooses : (old new : KyberState) (m : Meaning) (hw now : ℕ) (result : Option Waiting) → result ≡ chosen (choice_for hw old m) → new ≡ after_pick hw old (choice_for hw old m) → Chooses (numbers_of old) m hw now result (numbers_of new)
 chooses old new m hw now result choice after = (old, refl, choice, ap numbers_of after)
 
-pub tells : (old new : Kept) (report : Report) → new ≡ told report old → Told report (numbers_of old) (numbers_of new)
+pub tells : (old new : KyberState) (report : Report) → new ≡ told report old → Told report (numbers_of old) (numbers_of new)
 tells old new report is = (old, refl, ap numbers_of is)

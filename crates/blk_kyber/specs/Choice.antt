@@ -5,7 +5,7 @@ use Rattle.std.specs.List.{find}
 use Rattle.blk_bio.specs.declared.bio.Dir.{Dir}
 use Rattle.blk_bio.specs.declared.bio.Dir.TheVariants.{Read, Write}
 use Rattle.blk_bio.specs.Requests.{dir_of}
-use Rattle.blk_sched.specs.Meaning.{Waiting, OpenPicks, open_of, handed_of}
+use Rattle.blk_sched.specs.Meaning.{Waiting, OpenPicks, open_of, requeued_of}
 use Rattle.blk_kyber.specs.declared.turn.Turn.{Turn}
 use Rattle.blk_kyber.specs.declared.turn.TheConstants.{READ_BATCH, WRITE_BATCH}
 use Rattle.blk_kyber.specs.Limits.{DirLimits, limit_of}
@@ -38,7 +38,7 @@ oldest_of hw dir ws = find (λ w. serves_own hw w && is_same (dir_of w.bios) dir
 
 -- how many requests of a direction are in flight: picked and not done, the ones handed back among them
 abbrev pub in_flight : Dir → OpenPicks → ℕ
-in_flight dir picks = open_of dir picks + handed_of dir picks
+in_flight dir picks = open_of dir picks + requeued_of dir picks
 
 -- what a pick takes of a direction: its oldest request, while fewer than its limit are in flight
 abbrev pub head_of : ℕ → DirLimits → OpenPicks → List Waiting → Dir → Option Waiting

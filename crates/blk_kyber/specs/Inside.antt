@@ -1,2 +1,2 @@
--- What invariants and proofs alone need: how what waits lies in the lines.
-pub mod Queues
+-- What clauses of parts of a pick alone need.
+pub mod Parts

@@ -1,5 +1,5 @@
 pub mod Limits
 pub mod Choice
-pub mod Kept
+pub mod State
 pub mod Shown
 pub mod Inside

@@ -2,13 +2,13 @@
 use Rattle.std.specs.Prelude.{true}
 use Rattle.blk_sched.specs.Meaning.{Meaning}
 use Rattle.blk_kyber.specs.declared.Kyber.{Kyber}
-use Rattle.blk_kyber.specs.Kept.{Kept}
+use Rattle.blk_kyber.specs.State.{KyberState}
 
 module _ {A : Type 0} where
   -- what it means as a scheduler: a newcomer may always join at the front
   abbrev pub meaning_of : Kyber A → Meaning
-  meaning_of s = record { pending = s.lines; open_picks = s.open_picks; front = true; round = s.round }
+  meaning_of s = record { pending = s.queues; open_picks = s.open_picks; front = true; round = s.round }
 
   -- what it keeps beside that
-  abbrev pub kyber_kept : Kyber A → Kept
-  kyber_kept s = record { targets = s.targets; limits = s.limits; turns = s.turns }
+  abbrev pub state_of : Kyber A → KyberState
+  state_of s = record { targets = s.targets; limits = s.limits; turns = s.turns }

@@ -5,23 +5,23 @@ ghost use Rattle.std.specs.Prelude.{◌≡◌, ◌≤◌, ◌<◌, ◌+◌, ◌�
 ghost use Rattle.std.specs.FinMap as map;
 ghost use Rattle.blk_bio.specs.declared.bio.Dir.{Dir};
 ghost use Rattle.blk_bio.specs.Requests.{dir_of};
-ghost use Rattle.blk_sched.specs.Meaning.{Waiting, Meaning, HasCandidate, HasNoCandidate, Joins, ServesNothing, Picks, HandsBack, at_start, opened, open_of, handed_of, unfinished};
-ghost use Rattle.blk_index.specs.Index.{NoneOf};
-ghost use Rattle.blk_kyber.specs.Limits.{Report, Done, Tick, limit_of, target_of, after_report, kyber_limits};
-ghost use Rattle.blk_kyber.specs.Choice.{serves_own, first_turn, in_flight, head_of, chosen};
-ghost use Rattle.blk_kyber.specs.Kept.{Kept, kept_at_first, choice_for, after_pick, told, numbers_of, Chooses, Told, kyber_policy};
-ghost use Rattle.blk_kyber.specs.Shown.{meaning_of, kyber_kept};
-ghost use Rattle.blk_kyber.specs.Inside.Queues.{served_of};
+ghost use Rattle.blk_sched.specs.Meaning.{Waiting, Meaning, HasCandidate, HasNoCandidate, Joins, ServesNothing, Picks, RequeuesPick, at_start, opened, open_of, requeued_of, unfinished};
+ghost use Rattle.blk_index.specs.Index.{IsIdOf, NoneOf};
+ghost use Rattle.blk_kyber.specs.Limits.{Done, Tick, limit_of, target_of, after_report};
+ghost use Rattle.blk_kyber.specs.Choice.{serves_own, first_turn, in_flight, chosen};
+ghost use Rattle.blk_kyber.specs.State.{KyberState, state_at_first, choice_for, after_pick, told, Follows, numbers_of, Chooses, Told, kyber_policy};
+ghost use Rattle.blk_kyber.specs.Shown.{meaning_of, state_of};
+ghost use Rattle.blk_kyber.specs.Inside.Parts.{IsChosen, head_in};
+ghost use Rattle.blk_index.specs.Queues.{served_of};
 
 pub mod limits;
-pub mod lines;
 pub mod turn;
 
 use crate::limits::{DomainLimits, ROUNDS_BETWEEN};
-use crate::lines::Lines;
 use crate::turn::{Turn, cap, other};
 use blk_bio::{Dir, Limits, MAX_QUEUES, Request, Side};
-use blk_sched::{MAX_HANDED, MAX_OPEN, OpenPicks, Queued, Scheduler};
+use blk_index::Queues;
+use blk_sched::{MAX_OPEN, MAX_REQUEUED, OpenPicks, Queued, Scheduler};
 use std::alloc::{AllocError, Allocator, Global};
 
 /// How many rounds a request may wait from its release to its issue, 1 at least.
@@ -64,7 +64,7 @@ pub enum KyberFault {
 /// Requests by turns of reads and writes at each hardware queue, while fewer are in flight than the limits.
 #[derive(Drop)]
 pub struct Kyber<A: Allocator = Global> {
-    lines: Lines<A>,
+    queues: Queues<A>,
     targets: Targets,
     limits: DomainLimits,
     turns: [Turn; MAX_QUEUES as usize],
@@ -80,17 +80,17 @@ impl<A: Allocator + Clone> Kyber<A> {
         requires most { depth ≤ MAX_OPEN }
         ensures zero { ((targets.read ≡ 0) ⊎ (targets.write ≡ 0)) ↔ (result ≡ Err KyberFault.ZeroTarget) }
         ensures ok { IfOk result (λ s. meaning_of s ≡ at_start true) }
-        ensures kept { IfOk result (λ s. kyber_kept s ≡ kept_at_first targets depth) }
+        ensures kept { IfOk result (λ s. state_of s ≡ state_at_first targets depth) }
         ensures memory { IfErr result (λ e. 0 < targets.read → 0 < targets.write → e ≡ KyberFault.Memory) }
     {
         if targets.has_zero_target() {
             return Err(KyberFault::ZeroTarget);
         }
-        let Ok(lines) = Lines::new(alloc) else {
+        let Ok(queues) = Queues::new(alloc) else {
             return Err(KyberFault::Memory);
         };
         Ok(Kyber {
-            lines,
+            queues,
             targets,
             limits: DomainLimits::new(depth),
             turns: [Turn::first(); MAX_QUEUES as usize],
@@ -101,11 +101,11 @@ impl<A: Allocator + Clone> Kyber<A> {
 
     /// How many requests of a direction may be in flight, 1 to the depth.
     pub fn limit(&self, dir: Dir) -> u64
-        ensures value { result ≡ limit_of dir (kyber_kept self.now).limits }
+        ensures value { result ≡ limit_of dir (state_of self.now).limits }
         ensures least { 1 ≤ result }
-        ensures most { result ≤ (kyber_kept self.now).limits.depth }
+        ensures most { result ≤ (state_of self.now).limits.depth }
         // what is kept is known by the numbers that the trait speaks of
-        ensures known { (kept other : Kept) → numbers_of kept ≡ numbers_of other → kept ≡ other }
+        ensures known { (kept other : KyberState) → numbers_of kept ≡ numbers_of other → kept ≡ other }
     {
         self.limits.of(dir)
     }
@@ -113,23 +113,23 @@ impl<A: Allocator + Clone> Kyber<A> {
     /// The oldest request of a direction at a hardware queue, while fewer are in flight than the limit.
     fn head(&self, hw: u8, dir: Dir) -> Option<u64>
         requires { hw < MAX_QUEUES }
-        ensures some { IfSome result (λ id. (w : Waiting) × (served_of hw self.now.lines id ≡ Some w) × (head_of hw self.now.limits self.now.open_picks (map.values self.now.lines) dir ≡ Some w)) }
-        ensures none { IfNone result (head_of hw self.now.limits self.now.open_picks (map.values self.now.lines) dir ≡ None) }
-        ensures idle { IfNone result ((0 < in_flight dir self.now.open_picks) ⊎ NoneOf dir (served_of hw self.now.lines)) }
+        ensures some { IfSome result (IsIdOf (served_of hw self.now.queues) (head_in self.now hw dir)) }
+        ensures none { IfNone result (head_in self.now hw dir ≡ None) }
+        ensures idle { IfNone result ((0 < in_flight dir self.now.open_picks) ⊎ NoneOf dir (served_of hw self.now.queues)) }
     {
         let limit = self.limits.of(dir);
         let open = self.open_picks.of(dir);
-        if open >= limit || self.open_picks.handed(dir) >= limit - open {
+        if open >= limit || self.open_picks.requeued(dir) >= limit - open {
             return None;
         }
-        self.lines.oldest(hw, dir)
+        self.queues.oldest(hw, dir)
     }
 
     /// The choice, by its id, and the turn in which it goes.
     fn choose(&self, hw: u8) -> Option<(u64, Turn)>
         requires { hw < MAX_QUEUES }
-        ensures some { IfSome result (λ r. (w : Waiting) × (served_of hw self.now.lines r.0 ≡ Some w) × (choice_for hw (kyber_kept self.now) (meaning_of self.now) ≡ Some (w, r.1))) }
-        ensures none { IfNone result (choice_for hw (kyber_kept self.now) (meaning_of self.now) ≡ None) }
+        ensures some { IfSome result (IsChosen (served_of hw self.now.queues) (choice_for hw (state_of self.now) (meaning_of self.now))) }
+        ensures none { IfNone result (choice_for hw (state_of self.now) (meaning_of self.now) ≡ None) }
         ensures idle { IfNone result ((0 < unfinished self.now.open_picks) ⊎ ServesNothing serves_own hw (meaning_of self.now)) }
     {
         let turn = self.turns[hw as usize];
@@ -156,13 +156,13 @@ impl<A: Allocator + Clone> Scheduler for Kyber<A> {
 
     ghost policy = { kyber_policy };
 
-    ghost kept = { λ s. numbers_of (kyber_kept s) };
+    ghost kept = { λ s. numbers_of (state_of s) };
 
     fn enter(&mut self, slot: &mut Option<Queued<A>>) -> Result<(), AllocError> {
         let Some(queued) = slot.take() else {
             unreachable!()
         };
-        match self.lines.insert(queued) {
+        match self.queues.insert(queued) {
             Ok(()) => Ok(()),
             Err(queued) => {
                 *slot = Some(queued);
@@ -172,7 +172,7 @@ impl<A: Allocator + Clone> Scheduler for Kyber<A> {
     }
 
     fn candidate(&self, hw: u8, limits: &Limits, newcomer: &Request<A>) -> Option<(u64, Side)> {
-        self.lines.candidate(hw, newcomer, limits)
+        self.queues.candidate(hw, newcomer, limits)
     }
 
     fn join_at(
@@ -187,7 +187,7 @@ impl<A: Allocator + Clone> Scheduler for Kyber<A> {
         let Some(newcomer) = slot.take() else {
             unreachable!()
         };
-        match self.lines.join_at(hw, id, side, now, limits, newcomer) {
+        match self.queues.join_at(hw, id, side, now, limits, newcomer) {
             Ok(()) => Ok(()),
             Err(newcomer) => {
                 *slot = Some(newcomer);
@@ -201,20 +201,20 @@ impl<A: Allocator + Clone> Scheduler for Kyber<A> {
         requires hw { hw < MAX_QUEUES }
         requires round { now ≡ (meaning_of self.old).round }
         requires few { (meaning_of self.old).open_picks.reads + (meaning_of self.old).open_picks.writes < MAX_OPEN }
-        ensures choice { result ≡ chosen (choice_for hw (kyber_kept self.old) (meaning_of self.old)) }
-        ensures turn { kyber_kept self.new ≡ after_pick hw (kyber_kept self.old) (choice_for hw (kyber_kept self.old) (meaning_of self.old)) }
-        ensures chosen { Chooses (numbers_of (kyber_kept self.old)) (meaning_of self.old) hw now result (numbers_of (kyber_kept self.new)) }
+        ensures choice { result ≡ chosen (choice_for hw (state_of self.old) (meaning_of self.old)) }
+        ensures turn { state_of self.new ≡ after_pick hw (state_of self.old) (choice_for hw (state_of self.old) (meaning_of self.old)) }
+        ensures chosen { Chooses (numbers_of (state_of self.old)) (meaning_of self.old) hw now result (numbers_of (state_of self.new)) }
         ensures picked { IfSome result (λ w. Picks serves_own hw (meaning_of self.old) w (meaning_of self.new)) }
         ensures none { IfNone result ((0 < unfinished (meaning_of self.old).open_picks) ⊎ ServesNothing serves_own hw (meaning_of self.old)) }
         ensures same { IfNone result (meaning_of self.new ≡ meaning_of self.old) }
-        ensures kept { IfNone result (numbers_of (kyber_kept self.new) ≡ numbers_of (kyber_kept self.old)) }
+        ensures kept { IfNone result (numbers_of (state_of self.new) ≡ numbers_of (state_of self.old)) }
         ensures own { (w : Waiting) → IsTrue (serves_own w.hw w) }
     {
         let _ = now;
         let Some((id, turn)) = self.choose(hw) else {
             return None;
         };
-        let Some(queued) = self.lines.remove(hw, id) else {
+        let Some(queued) = self.queues.remove(hw, id) else {
             unreachable!()
         };
         self.open_picks.open(queued.request.dir());
@@ -226,10 +226,10 @@ impl<A: Allocator + Clone> Scheduler for Kyber<A> {
     fn on_done(&mut self, hw: u8, dir: Dir, wait: u64)
         requires hw { hw < MAX_QUEUES }
         requires is_open { 0 < open_of dir (meaning_of self.old).open_picks }
-        ensures limits { kyber_kept self.new ≡ told (Done dir wait) (kyber_kept self.old) }
-        ensures reported { (depth : ℕ) (earlier : List Report) → (kyber_kept self.old).limits ≡ kyber_limits (kyber_kept self.old).targets depth earlier → (kyber_kept self.new).limits ≡ kyber_limits (kyber_kept self.old).targets depth (Done dir wait ∷ earlier) }
+        ensures limits { state_of self.new ≡ told (Done dir wait) (state_of self.old) }
+        ensures reported { Follows (Done dir wait) (state_of self.old) (state_of self.new) }
         ensures done { meaning_of self.old ≡ record (meaning_of self.new) { open_picks = opened dir (meaning_of self.new).open_picks } }
-        ensures told { Told (Done dir wait) (numbers_of (kyber_kept self.old)) (numbers_of (kyber_kept self.new)) }
+        ensures told { Told (Done dir wait) (numbers_of (state_of self.old)) (numbers_of (state_of self.new)) }
     {
         let _ = hw;
         self.open_picks.close(dir);
@@ -238,35 +238,35 @@ impl<A: Allocator + Clone> Scheduler for Kyber<A> {
         }
     }
 
-    /// Hands a pick back, which stays in flight. It is no completion: what is kept stays.
-    fn on_back(&mut self, dir: Dir)
+    /// Requeues a pick, which stays in flight. It is no completion: what is kept stays.
+    fn on_requeue(&mut self, dir: Dir)
         requires is_open { 0 < open_of dir (meaning_of self.old).open_picks }
-        requires few { (meaning_of self.old).open_picks.handed_reads + (meaning_of self.old).open_picks.handed_writes < MAX_HANDED }
-        ensures stays { kyber_kept self.new ≡ kyber_kept self.old }
-        ensures back { HandsBack dir (meaning_of self.old) (meaning_of self.new) }
-        ensures kept { numbers_of (kyber_kept self.new) ≡ numbers_of (kyber_kept self.old) }
+        requires few { (meaning_of self.old).open_picks.requeued_reads + (meaning_of self.old).open_picks.requeued_writes < MAX_REQUEUED }
+        ensures stays { state_of self.new ≡ state_of self.old }
+        ensures back { RequeuesPick dir (meaning_of self.old) (meaning_of self.new) }
+        ensures kept { numbers_of (state_of self.new) ≡ numbers_of (state_of self.old) }
     {
-        self.open_picks.hand_back(dir);
+        self.open_picks.requeue(dir);
     }
 
-    /// Opens a pick again that was handed back. What is kept stays.
-    fn on_again(&mut self, dir: Dir)
-        requires is_handed { 0 < handed_of dir (meaning_of self.old).open_picks }
+    /// Opens a requeued pick again. What is kept stays.
+    fn on_reissue(&mut self, dir: Dir)
+        requires is_requeued { 0 < requeued_of dir (meaning_of self.old).open_picks }
         requires few { (meaning_of self.old).open_picks.reads + (meaning_of self.old).open_picks.writes < MAX_OPEN }
-        ensures stays { kyber_kept self.new ≡ kyber_kept self.old }
-        ensures again { HandsBack dir (meaning_of self.new) (meaning_of self.old) }
-        ensures kept { numbers_of (kyber_kept self.new) ≡ numbers_of (kyber_kept self.old) }
+        ensures stays { state_of self.new ≡ state_of self.old }
+        ensures again { RequeuesPick dir (meaning_of self.new) (meaning_of self.old) }
+        ensures kept { numbers_of (state_of self.new) ≡ numbers_of (state_of self.old) }
     {
-        self.open_picks.open_again(dir);
+        self.open_picks.reopen(dir);
     }
 
     /// Begins a round. Every [`ROUNDS_BETWEEN`] rounds the limits are set anew.
     fn on_tick(&mut self, now: u64)
         requires { (meaning_of self.old).round < now }
-        ensures limits { kyber_kept self.new ≡ told (Tick now) (kyber_kept self.old) }
-        ensures reported { (depth : ℕ) (earlier : List Report) → (kyber_kept self.old).limits ≡ kyber_limits (kyber_kept self.old).targets depth earlier → (kyber_kept self.new).limits ≡ kyber_limits (kyber_kept self.old).targets depth (Tick now ∷ earlier) }
+        ensures limits { state_of self.new ≡ told (Tick now) (state_of self.old) }
+        ensures reported { Follows (Tick now) (state_of self.old) (state_of self.new) }
         ensures round { meaning_of self.new ≡ record (meaning_of self.old) { round = now } }
-        ensures told { Told (Tick now) (numbers_of (kyber_kept self.old)) (numbers_of (kyber_kept self.new)) }
+        ensures told { Told (Tick now) (numbers_of (state_of self.old)) (numbers_of (state_of self.new)) }
     {
         self.round = now;
         if now % ROUNDS_BETWEEN == 0 {
@@ -275,14 +275,14 @@ impl<A: Allocator + Clone> Scheduler for Kyber<A> {
     }
 
     fn pending(&self) -> u64 {
-        self.lines.len()
+        self.queues.len()
     }
 
     fn picked(&self, dir: Dir) -> u64 {
         self.open_picks.of(dir)
     }
 
-    fn handed(&self, dir: Dir) -> u64 {
-        self.open_picks.handed(dir)
+    fn requeued(&self, dir: Dir) -> u64 {
+        self.open_picks.requeued(dir)
     }
 }

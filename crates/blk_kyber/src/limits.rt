@@ -7,7 +7,7 @@ use blk_bio::Dir;
 use blk_sched::MAX_OPEN;
 use std::marker::Model;
 
-/// After how many rounds the limits are set anew.
+/// The limits are adjusted every this many rounds.
 pub const ROUNDS_BETWEEN: u64 = 8;
 
 /// The limits of both directions, and which of them had a miss since they were last set.

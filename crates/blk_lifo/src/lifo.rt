@@ -160,12 +160,12 @@ impl<A: Allocator + Clone> Scheduler for Lifo<A> {
         self.open_picks.close(dir);
     }
 
-    fn on_back(&mut self, dir: Dir) {
-        self.open_picks.hand_back(dir);
+    fn on_requeue(&mut self, dir: Dir) {
+        self.open_picks.requeue(dir);
     }
 
-    fn on_again(&mut self, dir: Dir) {
-        self.open_picks.open_again(dir);
+    fn on_reissue(&mut self, dir: Dir) {
+        self.open_picks.reopen(dir);
     }
 
     fn on_tick(&mut self, now: u64) {
@@ -180,8 +180,8 @@ impl<A: Allocator + Clone> Scheduler for Lifo<A> {
         self.open_picks.of(dir)
     }
 
-    fn handed(&self, dir: Dir) -> u64 {
-        self.open_picks.handed(dir)
+    fn requeued(&self, dir: Dir) -> u64 {
+        self.open_picks.requeued(dir)
     }
 }
 

@@ -3,21 +3,19 @@
 
 ghost use Rattle.std.specs.Prelude.{◌≡◌, ◌≤◌, ◌<◌, ◌+◌, ◌^◌, ◌↔◌, ℕ, Bool, ◌⊎◌, IfOk, OnOk, IfErr, OnErr, IfSome, IfNone, IsTrue, None, true, [], length, slice_index_or};
 ghost use Rattle.std.specs.FinMap as map;
-ghost use Rattle.blk_sched.specs.Meaning.{Waiting, Meaning, HasCandidate, HasNoCandidate, Joins, ServesNothing, Picks, HandsBack, opened, open_of, handed_of, at_start};
+ghost use Rattle.blk_sched.specs.Meaning.{Waiting, Meaning, HasCandidate, HasNoCandidate, Joins, ServesNothing, Picks, RequeuesPick, opened, open_of, requeued_of, at_start};
 ghost use Rattle.blk_none.specs.Choice.{serves_own, none_choice, none_chooses, none_policy};
 
 use blk_bio::{Dir, Limits, MAX_QUEUES, Request, Side};
-use blk_index::Lane;
+use blk_index::Queues;
 use blk_sched::{MAX_OPEN, OpenPicks, Queued, Scheduler};
 use std::alloc::{AllocError, Allocator, Global};
 use std::marker::Model;
 
 /// Requests in the order in which they entered, for each hardware queue by itself, as under `none` of Linux blk-mq.
-/// It holds the requests of each hardware queue in a lane of their own, and how many wait in all.
 #[derive(Drop)]
 pub struct NoneSched<A: Allocator = Global> {
-    lanes: Vec<Lane<A>, A>,
-    waiting: u64,
+    queues: Queues<A>,
     open_picks: OpenPicks,
     round: u64,
 }
@@ -25,99 +23,31 @@ pub struct NoneSched<A: Allocator = Global> {
 impl<A: Allocator> Model for NoneSched<A> {
     ghost use Rattle.std.specs.Prelude.{true};
     ghost use Rattle.blk_sched.specs.Meaning.{Meaning, meaning_code};
-    ghost use Rattle.blk_none.specs.Inside.Laned.{AreLaned, pending_of};
 
     ghost Value = { Meaning };
 
     ghost coded = { meaning_code };
 
     ghost view = { λ s. record {
-      pending = pending_of s.lanes.items;
+      pending = s.queues;
       open_picks = s.open_picks;
       front = true;
       round = s.round;
     } };
-
-    ghost invariant = { λ s. AreLaned s.lanes.items s.waiting };
 }
 
 impl<A: Allocator + Clone> NoneSched<A> {
-    /// A scheduler for all hardware queues, in which nothing waits and no pick is open, in round 0. Refused for want
-    /// of memory alone.
+    /// A scheduler for all hardware queues, in which nothing waits and no pick is open, in round 0. It is refused only
+    /// when out of memory.
     pub fn new(alloc: A) -> Result<NoneSched<A>, AllocError>
         ensures { IfOk result (λ s. s ≡ at_start true) }
     {
-        let Ok(lanes) = empty_lanes(alloc) else {
-            return Err(AllocError);
-        };
         Ok(NoneSched {
-            lanes,
-            waiting: 0,
+            queues: Queues::new(alloc)?,
             open_picks: OpenPicks::none(),
             round: 0,
         })
     }
-
-    /// Adds a request, and hands it back where memory runs out.
-    #[inline(always)]
-    fn add(&mut self, queued: Queued<A>) -> Result<(), Queued<A>>
-        requires new { map.get self.old.pending queued.id ≡ None }
-        requires hw { queued.hw < MAX_QUEUES }
-        ensures ok { OnOk result (self.new ≡ record self.old { pending = map.insert self.old.pending queued.id queued }) }
-        ensures err { IfErr result (λ q. q ≡ queued) }
-        ensures same { OnErr result (self.new ≡ self.old) }
-    {
-        // refused like want of memory: no memory holds so many requests that their number doesn't fit
-        let Some(waiting) = self.waiting.checked_add(1) else {
-            return Err(queued);
-        };
-        self.lanes[queued.hw as usize].insert(queued)?;
-        self.waiting = waiting;
-        Ok(())
-    }
-
-    /// The newest request of the hardware queue that a newcomer fits, at either side.
-    #[inline(always)]
-    fn find(&self, hw: u8, limits: &Limits, newcomer: &Request<A>) -> Option<(u64, Side)>
-        requires { hw < MAX_QUEUES }
-        ensures some { IfSome result (λ r. HasCandidate serves_own hw limits.now newcomer.now self.now r.0 r.1) }
-        ensures none { IfNone result (HasNoCandidate serves_own hw limits.now newcomer.now self.now) }
-    {
-        self.lanes[hw as usize].candidate(newcomer, limits, true)
-    }
-
-    /// Joins a newcomer to its candidate, and hands it back where memory runs out.
-    fn join(
-        &mut self,
-        hw: u8,
-        id: u64,
-        side: Side,
-        now: u64,
-        limits: &Limits,
-        newcomer: Request<A>,
-    ) -> Result<(), Request<A>>
-        requires hw { hw < MAX_QUEUES }
-        requires stands { HasCandidate serves_own hw limits.now newcomer self.old id side }
-        ensures joined { OnOk result (Joins serves_own hw now limits.now newcomer self.old id side self.new) }
-        ensures err { IfErr result (λ e. e ≡ newcomer) }
-        ensures same { OnErr result (self.new ≡ self.old) }
-    {
-        self.lanes[hw as usize].join_at(id, side, now, limits, newcomer)?;
-        Ok(())
-    }
-}
-
-/// A lane with no request, for each of the hardware queues.
-fn empty_lanes<A: Allocator + Clone>(alloc: A) -> Result<Vec<Lane<A>, A>, AllocError>
-    ensures count { IfOk result (λ lanes. length lanes.items ≡ MAX_QUEUES) }
-    ensures empty { IfOk result (λ lanes. (hw : ℕ) → slice_index_or lanes.items hw [] ≡ []) }
-{
-    let mut lanes = Vec::with_capacity(alloc.clone()?, MAX_QUEUES as usize)?;
-    for _ in 0..MAX_QUEUES {
-        let lane = Lane::new(alloc.clone()?)?;
-        lanes.push(lane)?;
-    }
-    Ok(lanes)
 }
 
 impl<A: Allocator + Clone> Scheduler for NoneSched<A> {
@@ -132,7 +62,7 @@ impl<A: Allocator + Clone> Scheduler for NoneSched<A> {
         let Some(queued) = slot.take() else {
             unreachable!()
         };
-        match self.add(queued) {
+        match self.queues.insert(queued) {
             Ok(()) => Ok(()),
             Err(queued) => {
                 *slot = Some(queued);
@@ -143,7 +73,7 @@ impl<A: Allocator + Clone> Scheduler for NoneSched<A> {
 
     #[inline(always)]
     fn candidate(&self, hw: u8, limits: &Limits, newcomer: &Request<A>) -> Option<(u64, Side)> {
-        self.find(hw, limits, newcomer)
+        self.queues.candidate(hw, newcomer, limits)
     }
 
     fn join_at(
@@ -158,7 +88,7 @@ impl<A: Allocator + Clone> Scheduler for NoneSched<A> {
         let Some(newcomer) = slot.take() else {
             unreachable!()
         };
-        match self.join(hw, id, side, now, limits, newcomer) {
+        match self.queues.join_at(hw, id, side, now, limits, newcomer) {
             Ok(()) => Ok(()),
             Err(newcomer) => {
                 *slot = Some(newcomer);
@@ -181,10 +111,12 @@ impl<A: Allocator + Clone> Scheduler for NoneSched<A> {
         ensures own { (w : Waiting) → IsTrue (serves_own w.hw w) }
     {
         let _ = now;
-        let Some(queued) = self.lanes[hw as usize].pop_first() else {
+        let Some(id) = self.queues.first(hw) else {
             return None;
         };
-        self.waiting -= 1;
+        let Some(queued) = self.queues.remove(hw, id) else {
+            unreachable!()
+        };
         self.open_picks.open(queued.request.dir());
         Some(queued)
     }
@@ -194,12 +126,12 @@ impl<A: Allocator + Clone> Scheduler for NoneSched<A> {
         self.open_picks.close(dir);
     }
 
-    fn on_back(&mut self, dir: Dir) {
-        self.open_picks.hand_back(dir);
+    fn on_requeue(&mut self, dir: Dir) {
+        self.open_picks.requeue(dir);
     }
 
-    fn on_again(&mut self, dir: Dir) {
-        self.open_picks.open_again(dir);
+    fn on_reissue(&mut self, dir: Dir) {
+        self.open_picks.reopen(dir);
     }
 
     fn on_tick(&mut self, now: u64) {
@@ -207,14 +139,14 @@ impl<A: Allocator + Clone> Scheduler for NoneSched<A> {
     }
 
     fn pending(&self) -> u64 {
-        self.waiting
+        self.queues.len()
     }
 
     fn picked(&self, dir: Dir) -> u64 {
         self.open_picks.of(dir)
     }
 
-    fn handed(&self, dir: Dir) -> u64 {
-        self.open_picks.handed(dir)
+    fn requeued(&self, dir: Dir) -> u64 {
+        self.open_picks.requeued(dir)
     }
 }

@@ -8,13 +8,13 @@ ghost use Rattle.blk_bio.specs.Answers.{IsJoinAnswer};
 ghost use Rattle.blk_bio.specs.declared.bio.Dir.{Dir};
 ghost use Rattle.blk_bio.specs.declared.request.Side.{Side};
 ghost use Rattle.blk_sched.specs.Policies.{Policy};
-ghost use Rattle.blk_sched.specs.Meaning.{Waiting, Meaning, HasCandidate, HasNoCandidate, Joins, ServesNothing, Picks, HandsBack, joined_waiting, opened, open_of, handed_of, unfinished};
+ghost use Rattle.blk_sched.specs.Meaning.{Waiting, Meaning, HasCandidate, HasNoCandidate, Enters, Joins, JoinsBy, ServesNothing, Picks, RequeuesPick, joined_waiting, opened, open_of, requeued_of, unfinished};
 
 pub mod fits;
 pub mod picks;
 
 pub use crate::fits::side_of_fit;
-pub use crate::picks::{MAX_HANDED, MAX_OPEN, OpenPicks};
+pub use crate::picks::{MAX_OPEN, MAX_REQUEUED, OpenPicks};
 use blk_bio::{Dir, JoinFault, Limits, MAX_QUEUES, Request, Side};
 use std::alloc::{AllocError, Allocator, Global};
 use std::marker::Model;
@@ -54,7 +54,7 @@ impl<A: Allocator + Clone> Queued<A> {
     ) -> Result<Side, (Request<A>, JoinFault)>
         // the side or the fault, and the bios as they stand then
         ensures answer { IsJoinAnswer limits.now self.old.bios newcomer self.new.bios result }
-        // what fits is refused for want of memory alone
+        // what fits is refused only when out of memory
         ensures accepts { (side : Side) → Fits limits.now self.old.bios newcomer side → IfErr result (λ e. e.1 ≡ JoinFault.Memory) }
         ensures fits { IfOk result (Fits limits.now self.old.bios newcomer) }
         ensures only { IfOk result (λ found. (side : Side) → Fits limits.now self.old.bios newcomer side → side ≡ found) }
@@ -83,12 +83,12 @@ pub trait Scheduler: Drop {
     /// What its requests are allocated by.
     type A: Allocator + Clone;
 
-    /// What waits, how many picks of each direction are open or handed back, whether a newcomer may join at the front,
-    /// and the round.
+    /// What waits, how many picks of each direction are open or requeued, whether a newcomer may join at the front, and
+    /// the round.
     ghost meaning: { Self → Meaning };
 
-    /// What it does by rules of its own: which requests a pick may take, which it chooses, and what it keeps once it is told of
-    /// a completion and of a round.
+    /// What it does by its own rules: which requests a pick may take, which it chooses, and what it keeps after a
+    /// completion and after a tick.
     ghost policy: { Policy };
 
     /// What a scheduler keeps beside its meaning, as its turn or its settings, listed as numbers: inserts, joins and
@@ -100,17 +100,17 @@ pub trait Scheduler: Drop {
         requires some { IsSome slot.old }
         requires new { IfSome slot.old (λ w. map.get (meaning self.old).pending w.id ≡ None) }
         requires hw { IfSome slot.old (λ w. w.hw < MAX_QUEUES) }
-        ensures ok { OnOk result (IfSome slot.old (λ w. meaning self.new ≡ record (meaning self.old) { pending = map.insert (meaning self.old).pending w.id w })) }
+        ensures ok { OnOk result (IfSome slot.old (Enters (meaning self.old) (meaning self.new))) }
         ensures kept { OnOk result (Self.kept self.new ≡ Self.kept self.old) }
         ensures err { OnErr result (slot.new ≡ slot.old) }
         ensures same { OnErr result (self.new ≡ self.old) };
 
-    /// Adds a request, whose id must not be waiting already. Refused for want of memory alone: nothing is changed
-    /// then, and the request comes back.
+    /// Adds a request, whose id must not be waiting already. It fails only when out of memory: nothing is changed then,
+    /// and the request comes back.
     final fn insert(&mut self, queued: Queued<Self::A>) -> Result<(), (Queued<Self::A>, AllocError)>
         requires new { map.get (meaning self.old).pending queued.id ≡ None }
         requires hw { queued.hw < MAX_QUEUES }
-        ensures ok { OnOk result (meaning self.new ≡ record (meaning self.old) { pending = map.insert (meaning self.old).pending queued.id queued }) }
+        ensures ok { OnOk result (Enters (meaning self.old) (meaning self.new) queued) }
         ensures kept { OnOk result (Self.kept self.new ≡ Self.kept self.old) }
         ensures err { IfErr result (λ e. e.0 ≡ queued) }
         ensures same { OnErr result (self.new ≡ self.old) }
@@ -143,13 +143,13 @@ pub trait Scheduler: Drop {
         requires round { now ≡ (meaning self.old).round }
         requires some { IsSome slot.old }
         requires stands { IfSome slot.old (λ newcomer. HasCandidate policy.serves hw limits.now newcomer (meaning self.old) id side) }
-        ensures joined { OnOk result (IfSome slot.old (λ newcomer. Joins policy.serves hw now limits.now newcomer (meaning self.old) id side (meaning self.new))) }
+        ensures joined { OnOk result (IfSome slot.old (JoinsBy policy.serves hw now limits.now (meaning self.old) id side (meaning self.new))) }
         ensures kept { OnOk result (Self.kept self.new ≡ Self.kept self.old) }
         ensures err { OnErr result (slot.new ≡ slot.old) }
         ensures same { OnErr result (self.new ≡ self.old) };
 
     /// Joins a newcomer to the request of an id at a side, which must be its candidate: `now`, which is the round,
-    /// becomes that request's release; its id, hardware queue and due round stay. Refused for want of memory alone:
+    /// becomes that request's release; its id, hardware queue and due round stay. It fails only when out of memory:
     /// nothing is changed then, and the newcomer comes back.
     final fn join(
         &mut self,
@@ -180,7 +180,7 @@ pub trait Scheduler: Drop {
     ///
     /// Refused as `NoFit` exactly where it fits none of them, at the back or, where the scheduler allows it, at the
     /// front; and as `Memory` where it fits one and memory ran out. A refusal changes nothing and hands the newcomer
-    /// back. `hw` must be below 16.
+    /// back. `hw` must be below [`MAX_QUEUES`].
     final fn try_join(
         &mut self,
         hw: u8,
@@ -206,9 +206,9 @@ pub trait Scheduler: Drop {
     }
 
     /// Takes out one request that is served for the hardware queue and opens one pick of its direction: the one that the
-    /// scheduler chooses. None only where a pick is open or handed back, of either direction, or no served request waits.
-    /// Each request is served for the hardware queue that it entered at, at least. `now` must be the round, and
-    /// fewer than [`MAX_OPEN`] picks be open.
+    /// scheduler chooses. None only where a pick is open or requeued, of either direction, or no served request waits.
+    /// Each request is served for the hardware queue that it entered at, at least. `now` must be the round, and fewer
+    /// than [`MAX_OPEN`] picks be open.
     fn pick(&mut self, hw: u8, now: u64) -> Option<Queued<Self::A>>
         requires hw { hw < MAX_QUEUES }
         requires round { now ≡ (meaning self.old).round }
@@ -228,23 +228,23 @@ pub trait Scheduler: Drop {
         ensures done { meaning self.old ≡ record (meaning self.new) { open_picks = opened dir (meaning self.new).open_picks } }
         ensures told { policy.told_done hw dir wait (Self.kept self.old) (Self.kept self.new) };
 
-    /// Hands back an open pick of a direction, of which one must be open: the device was busy. It is no completion. Fewer
-    /// than `MAX_HANDED` may be handed back.
-    fn on_back(&mut self, dir: Dir)
+    /// Requeues an open pick of a direction, of which one must be open: the device was busy. It is no completion. Fewer
+    /// than `MAX_REQUEUED` may be requeued.
+    fn on_requeue(&mut self, dir: Dir)
         requires is_open { 0 < open_of dir (meaning self.old).open_picks }
-        requires few { (meaning self.old).open_picks.handed_reads + (meaning self.old).open_picks.handed_writes < MAX_HANDED }
-        ensures back { HandsBack dir (meaning self.old) (meaning self.new) }
+        requires few { (meaning self.old).open_picks.requeued_reads + (meaning self.old).open_picks.requeued_writes < MAX_REQUEUED }
+        ensures back { RequeuesPick dir (meaning self.old) (meaning self.new) }
         ensures kept { Self.kept self.new ≡ Self.kept self.old };
 
-    /// Opens again a pick of a direction that was handed back, as its request is issued again. Fewer than `MAX_OPEN` picks
-    /// may be open.
-    fn on_again(&mut self, dir: Dir)
-        requires is_handed { 0 < handed_of dir (meaning self.old).open_picks }
+    /// Opens a requeued pick of a direction again, as its request is dispatched again. Fewer than `MAX_OPEN` picks may be
+    /// open.
+    fn on_reissue(&mut self, dir: Dir)
+        requires is_requeued { 0 < requeued_of dir (meaning self.old).open_picks }
         requires few { (meaning self.old).open_picks.reads + (meaning self.old).open_picks.writes < MAX_OPEN }
-        ensures again { HandsBack dir (meaning self.new) (meaning self.old) }
+        ensures again { RequeuesPick dir (meaning self.new) (meaning self.old) }
         ensures kept { Self.kept self.new ≡ Self.kept self.old };
 
-    /// Tells that the round `now` began, which must be a later one.
+    /// Begins the round `now`, which must be a later one.
     fn on_tick(&mut self, now: u64)
         requires { (meaning self.old).round < now }
         ensures round { meaning self.new ≡ record (meaning self.old) { round = now } }
@@ -258,7 +258,7 @@ pub trait Scheduler: Drop {
     fn picked(&self, dir: Dir) -> u64
         ensures { result ≡ open_of dir (meaning self.now).open_picks };
 
-    /// How many picks of a direction are handed back.
-    fn handed(&self, dir: Dir) -> u64
-        ensures { result ≡ handed_of dir (meaning self.now).open_picks };
+    /// How many picks of a direction are requeued.
+    fn requeued(&self, dir: Dir) -> u64
+        ensures { result ≡ requeued_of dir (meaning self.now).open_picks };
 }

@@ -1,8 +1,8 @@
-//! How many picks of each direction are open, handed out and not yet reported done, and how many a busy device handed
-//! back.
+//! How many picks of each direction are open, handed out and not yet reported done, and how many a busy device made
+//! requeue.
 
 ghost use Rattle.std.specs.Prelude.{◌≡◌, ◌<◌, ◌+◌};
-ghost use Rattle.blk_sched.specs.Meaning.{no_picks, open_of, handed_of, opened, handed_back};
+ghost use Rattle.blk_sched.specs.Meaning.{no_picks, open_of, requeued_of, opened, after_requeue};
 
 use blk_bio::Dir;
 use std::marker::Model;
@@ -10,16 +10,16 @@ use std::marker::Model;
 /// The most picks that may be open, as many as there are tags.
 pub const MAX_OPEN: u64 = 256;
 
-/// The most picks that may be handed back, as many as there are events.
-pub const MAX_HANDED: u64 = 1_000_000;
+/// The most picks that may be requeued, as many as there are events.
+pub const MAX_REQUEUED: u64 = 1_000_000;
 
-/// The counts of open picks and of those handed back, which every scheduler keeps alike.
+/// The counts of open picks and of requeued ones, which every scheduler keeps alike.
 #[derive(Drop)]
 pub struct OpenPicks {
     reads: u64,
     writes: u64,
-    handed_reads: u64,
-    handed_writes: u64,
+    requeued_reads: u64,
+    requeued_writes: u64,
 }
 
 impl Model for OpenPicks {
@@ -30,21 +30,21 @@ impl Model for OpenPicks {
     ghost view = { λ p. record {
       reads = p.reads;
       writes = p.writes;
-      handed_reads = p.handed_reads;
-      handed_writes = p.handed_writes;
+      requeued_reads = p.requeued_reads;
+      requeued_writes = p.requeued_writes;
     } };
 }
 
 impl OpenPicks {
-    /// No pick is open or handed back.
+    /// No pick is open or requeued.
     pub fn none() -> OpenPicks
         ensures { result ≡ no_picks }
     {
         OpenPicks {
             reads: 0,
             writes: 0,
-            handed_reads: 0,
-            handed_writes: 0,
+            requeued_reads: 0,
+            requeued_writes: 0,
         }
     }
 
@@ -70,37 +70,37 @@ impl OpenPicks {
         }
     }
 
-    /// Hands back a pick of a direction, of which one is open. Fewer than `MAX_HANDED` may be handed back.
-    pub fn hand_back(&mut self, dir: Dir)
+    /// Requeues a pick of a direction, of which one is open. Fewer than `MAX_REQUEUED` may be requeued.
+    pub fn requeue(&mut self, dir: Dir)
         requires is_open { 0 < open_of dir self.old }
-        requires few { self.old.handed_reads + self.old.handed_writes < MAX_HANDED }
-        ensures { opened dir self.new ≡ handed_back dir self.old }
+        requires few { self.old.requeued_reads + self.old.requeued_writes < MAX_REQUEUED }
+        ensures { opened dir self.new ≡ after_requeue dir self.old }
     {
         match dir {
             Dir::Read => {
                 self.reads -= 1;
-                self.handed_reads += 1;
+                self.requeued_reads += 1;
             }
             Dir::Write => {
                 self.writes -= 1;
-                self.handed_writes += 1;
+                self.requeued_writes += 1;
             }
         }
     }
 
-    /// Opens a pick of a direction again, of which one is handed back. Fewer than `MAX_OPEN` may be open.
-    pub fn open_again(&mut self, dir: Dir)
-        requires is_handed { 0 < handed_of dir self.old }
+    /// Opens a pick of a direction again, of which one is requeued. Fewer than `MAX_OPEN` may be open.
+    pub fn reopen(&mut self, dir: Dir)
+        requires is_requeued { 0 < requeued_of dir self.old }
         requires few { self.old.reads + self.old.writes < MAX_OPEN }
-        ensures { opened dir self.old ≡ handed_back dir self.new }
+        ensures { opened dir self.old ≡ after_requeue dir self.new }
     {
         match dir {
             Dir::Read => {
-                self.handed_reads -= 1;
+                self.requeued_reads -= 1;
                 self.reads += 1;
             }
             Dir::Write => {
-                self.handed_writes -= 1;
+                self.requeued_writes -= 1;
                 self.writes += 1;
             }
         }
@@ -116,13 +116,13 @@ impl OpenPicks {
         }
     }
 
-    /// How many picks of a direction are handed back.
-    pub fn handed(&self, dir: Dir) -> u64
-        ensures { result ≡ handed_of dir self.now }
+    /// How many picks of a direction are requeued.
+    pub fn requeued(&self, dir: Dir) -> u64
+        ensures { result ≡ requeued_of dir self.now }
     {
         match dir {
-            Dir::Read => self.handed_reads,
-            Dir::Write => self.handed_writes,
+            Dir::Read => self.requeued_reads,
+            Dir::Write => self.requeued_writes,
         }
     }
 }

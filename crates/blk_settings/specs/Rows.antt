@@ -4,7 +4,7 @@ use Rattle.blk_sched.specs.Meaning.{Meaning, at_start}
 use Rattle.blk_sched.specs.Policies.{Policy}
 use Rattle.blk_none.specs.Choice.{none_policy}
 use Rattle.blk_deadline.specs.Choice.{deadline_policy, kept_of as deadline_kept}
-use Rattle.blk_kyber.specs.Kept.{kept_at_first, numbers_of, kyber_policy}
+use Rattle.blk_kyber.specs.State.{state_at_first, numbers_of, kyber_policy}
 use Rattle.blk_earliest.specs.Choice.{earliest_policy, kept_of as earliest_kept}
 use Rattle.blk_settings.specs.Made.{IsMade}
 use Rattle.blk_settings.specs.declared.sched.Lineup.{Lineup}
@@ -35,7 +35,7 @@ meaning_of (sched.Earliest late_last) = at_start true
 abbrev pub numbers_at_first : Sched → ℕ → List ℕ
 numbers_at_first sched.None depth = []
 numbers_at_first (sched.Deadline t) depth = deadline_kept (record { last = None; batching = 0; starved = 0 }) t
-numbers_at_first (sched.Kyber t) depth = numbers_of (kept_at_first t depth)
+numbers_at_first (sched.Kyber t) depth = numbers_of (state_at_first t depth)
 numbers_at_first (sched.Earliest late_last) depth = earliest_kept late_last
 
 -- one that is made and has no request yet

@@ -4,7 +4,7 @@ ghost use Rattle.std.specs.Prelude.{◌≡◌};
 ghost use Rattle.blk_settings.specs.Names.{load_fault_name};
 ghost use Rattle.blk_settings.specs.Faults.{rank, IsFirstOf};
 
-/// Why a load fails. Of several reasons the first is told.
+/// Why a load fails. Of several reasons the first is reported.
 #[derive(Clone, Copy, Debug, PartialEq, Eq)]
 pub enum LoadFault {
     /// A number is out of its range.
@@ -57,7 +57,7 @@ impl LoadFault {
     }
 }
 
-/// Which of two faults is told, where there are some.
+/// Which of two faults is reported, where there are any.
 pub fn first_of(one: Option<LoadFault>, other: Option<LoadFault>) -> Option<LoadFault>
     ensures { IsFirstOf one other result }
 {

@@ -1,10 +1,9 @@
 //! The schedulers, a row for each: its name, its settings, what is wrong with these, and how it is made.
 
 ghost use Rattle.std.specs.Prelude.{◌≡◌, ◌≤◌, [], IfOk, IfErr, IfSome, IfNone};
-ghost use Rattle.blk_deadline.specs.Shown.{meaning_of as deadline_meaning, turn_of, tunables_of};
-ghost use Rattle.blk_deadline.specs.Choice.{kept_of as deadline_kept};
-ghost use Rattle.blk_kyber.specs.Shown.{meaning_of as kyber_meaning, kyber_kept};
-ghost use Rattle.blk_kyber.specs.Kept.{numbers_of};
+ghost use Rattle.blk_deadline.specs.Shown.{meaning_of as deadline_meaning, kept_in as deadline_kept};
+ghost use Rattle.blk_kyber.specs.Shown.{meaning_of as kyber_meaning, state_of};
+ghost use Rattle.blk_kyber.specs.State.{numbers_of};
 ghost use Rattle.blk_earliest.specs.Shown.{meaning_of as earliest_meaning, late_last_of};
 ghost use Rattle.blk_earliest.specs.Choice.{kept_of as earliest_kept};
 ghost use Rattle.blk_settings.specs.Made.{IsMade, IsUnmade, HasFault};
@@ -112,7 +111,7 @@ impl Lineup {
     }
 }
 
-/// `none` before anything waits. Each of these functions is told the depth of the device, which `kyber` alone looks at.
+/// `none` before anything waits. Each of these functions takes the depth of the device, which only `kyber` uses.
 pub fn none(alloc: Global, _depth: u64) -> Result<NoneSched, SchedFault>
     ensures start { IfOk result (λ s. IsStart Sched.None _depth s []) }
     ensures unmade { IfErr result (IsUnmade Sched.None) }
@@ -125,7 +124,7 @@ pub fn none(alloc: Global, _depth: u64) -> Result<NoneSched, SchedFault>
 
 /// `deadline` before anything waits.
 pub fn deadline(alloc: Global, tunables: Tunables, _depth: u64) -> Result<Deadline, SchedFault>
-    ensures start { IfOk result (λ s. IsStart (Sched.Deadline tunables) _depth (deadline_meaning s) (deadline_kept (turn_of s) (tunables_of s))) }
+    ensures start { IfOk result (λ s. IsStart (Sched.Deadline tunables) _depth (deadline_meaning s) (deadline_kept s)) }
     ensures unmade { IfErr result (IsUnmade (Sched.Deadline tunables)) }
 {
     match Deadline::new(alloc, tunables) {
@@ -139,7 +138,7 @@ pub fn deadline(alloc: Global, tunables: Tunables, _depth: u64) -> Result<Deadli
 pub fn kyber(alloc: Global, targets: Targets, depth: u64) -> Result<Kyber, SchedFault>
     requires least { 1 ≤ depth }
     requires most { depth ≤ MAX_OPEN }
-    ensures start { IfOk result (λ s. IsStart (Sched.Kyber targets) depth (kyber_meaning s) (numbers_of (kyber_kept s))) }
+    ensures start { IfOk result (λ s. IsStart (Sched.Kyber targets) depth (kyber_meaning s) (numbers_of (state_of s))) }
     ensures unmade { IfErr result (IsUnmade (Sched.Kyber targets)) }
 {
     match Kyber::new(alloc, targets, depth) {

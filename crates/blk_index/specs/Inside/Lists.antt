@@ -1,5 +1,5 @@
 -- Ids in rising order, of which some may have gone.
-use Rattle.std.specs.Prelude.{ℕ, ◌≡◌, ◌<◌, ◌⊎◌, List, [], ◌∷◌, Option, Some, slice_get}
+use Rattle.std.specs.Prelude.{ℕ, ◌≡◌, ◌<◌, ◌≤◌, ◌⊎◌, Bool, false, List, [], ◌∷◌, Option, Some, slice_get}
 use Rattle.std.specs.List.{AllByRecursion}
 use Rattle.blk_bio.specs.declared.bio.Dir.{Dir}
 use Rattle.blk_bio.specs.Requests.{dir_of}
@@ -12,7 +12,14 @@ GoUp (n ∷ ns) = AllByRecursion (λ m. n < m) ns × GoUp ns
 
 -- an id is one of them
 abbrev pub IsListed : List ℕ → ℕ → Type 0
-IsListed ids id = (place : ℕ) × (slice_get ids place ≡ Some id)
+IsListed ids id = (position : ℕ) × (slice_get ids position ≡ Some id)
+
+-- those before a position are not greater than an id, or less
+abbrev pub AllUpTo : List ℕ → ℕ → ℕ → Type 0
+AllUpTo ids position id = (k n : ℕ) → k < position → slice_get ids k ≡ Some n → n ≤ id
+
+abbrev pub AllBelow : List ℕ → ℕ → ℕ → Type 0
+AllBelow ids position id = (k n : ℕ) → k < position → slice_get ids k ≡ Some n → n < id
 
 -- a request of a direction waits by an id
 abbrev pub WaitsAs : Dir → (ℕ → Option Waiting) → ℕ → Type 0
@@ -22,11 +29,16 @@ WaitsAs dir found id = (w : Waiting) × (found id ≡ Some w) × (dir_of w.bios 
 abbrev pub FirstWaits : Dir → (ℕ → Option Waiting) → List ℕ → Type 0
 FirstWaits dir found ids = (k : ℕ) → slice_get ids 0 ≡ Some k → WaitsAs dir found k
 
+-- each of them waits
+abbrev pub AllWait : Dir → (ℕ → Option Waiting) → List ℕ → Type 0
+AllWait dir found ids = (k : ℕ) → IsListed ids k → WaitsAs dir found k
+
 -- an id is put in
 pub record IsPut (old : List ℕ) (id : ℕ) (new : List ℕ) : Type 0 where
   pub rising : GoUp new
   pub listed : IsListed new id
   pub others : (k : ℕ) → IsListed old k → IsListed new k
+  pub only : (k : ℕ) → IsListed new k → (k ≡ id) ⊎ IsListed old k
   pub first : (k : ℕ) → slice_get new 0 ≡ Some k → (k ≡ id) ⊎ (slice_get old 0 ≡ Some k)
 
 -- some of those that went are taken out
@@ -34,8 +46,9 @@ pub record IsCut (dir : Dir) (found : ℕ → Option Waiting) (old new : List �
   pub rising : GoUp old → GoUp new
   pub others : (k : ℕ) → IsListed old k → WaitsAs dir found k → IsListed new k
 
--- the ids of a direction: rising, with each that waits, and the first waits
-pub record IsLine (dir : Dir) (found : ℕ → Option Waiting) (ids : List ℕ) : Type 0 where
+-- the ids of a direction: rising, with each that waits, and the first waits; and each waits, unless one may have gone
+pub record IsFifoList (dir : Dir) (found : ℕ → Option Waiting) (ids : List ℕ) (gone : Bool) : Type 0 where
   pub rising : GoUp ids
   pub all : (k : ℕ) → WaitsAs dir found k → IsListed ids k
   pub first : FirstWaits dir found ids
+  pub whole : gone ≡ false → AllWait dir found ids

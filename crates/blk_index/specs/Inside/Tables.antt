@@ -1,12 +1,12 @@
--- What a table of heads has.
+-- What a table of buckets has.
 use Rattle.std.specs.Prelude.{Option}
 use Rattle.std.specs.Ordering.{eq_by_cmp}
 use Rattle.std.specs.HashMap as hash
 use Rattle.blk_index.specs.Inside.Spots.{Place, place_cmp}
-use Rattle.blk_index.specs.declared.heads.Heads.{Heads}
-use Rattle.blk_index.specs.declared.spots.Head.{Head}
+use Rattle.blk_index.specs.declared.buckets.Buckets.{Buckets}
+use Rattle.blk_index.specs.declared.merge_hash.Bucket.{Bucket}
 
 module _ {A : Type 0} where
-  -- the head of a place
-  abbrev pub table_in : Heads A → Place → Option Head
+  -- the bucket of a place
+  abbrev pub table_in : Buckets A → Place → Option Bucket
   table_in t = hash.get (eq_by_cmp place_cmp) t.places

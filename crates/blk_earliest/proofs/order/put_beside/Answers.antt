@@ -1,6 +1,6 @@
 use Rattle.std.specs.BTreeSet.{contains}
 use Rattle.blk_index.specs.Inside.Pairs.{pair_cmp}
-use Rattle.blk_earliest.specs.Lines.{listed}
+use Rattle.blk_earliest.specs.Inside.Lines.{listed}
 use Rattle.blk_earliest.proofs.Lines.{on_err, kept_second}
 use Rattle.blk_earliest.proofs.order.put_beside.Goals as goal
 

@@ -1,6 +1,6 @@
 use Rattle.std.proofs.Common.{List, sym, subst, refl, ℕ}
-use Rattle.blk_index.specs.Inside.Orders.{PairAdded, PairsKept}
-use Rattle.blk_earliest.specs.Lines.{listed}
+use Rattle.blk_index.specs.Inside.SortLists.{PairAdded, PairsKept}
+use Rattle.blk_earliest.specs.Inside.Lines.{listed}
 use Rattle.blk_earliest.proofs.Lines.{InOrder, push_listed, push_in_order}
 use Rattle.blk_earliest.proofs.order.put_last.Goals as goal
 

@@ -1,8 +1,8 @@
 use Rattle.std.proofs.Common.{◌≡◌, ◌<◌, ℕ, List, sym, subst, arith}
 use Rattle.std.specs.List.{remove}
 use Rattle.std.proofs.lemmas.Option.{slice_get_within}
-use Rattle.blk_index.specs.Inside.Orders.{PairTaken}
-use Rattle.blk_earliest.specs.Lines.{listed}
+use Rattle.blk_index.specs.Inside.SortLists.{PairTaken}
+use Rattle.blk_earliest.specs.Inside.Lines.{listed}
 use Rattle.blk_earliest.proofs.Lines.{InOrder, some_holds, remove_listed, remove_in_order, absent_taken}
 use Rattle.blk_earliest.proofs.order.take_from.Goals as goal
 

@@ -6,8 +6,8 @@ use Rattle.blk_sched.specs.Meaning.{Waiting, Pending, joined_waiting}
 use Rattle.blk_bio.specs.Extents.{extent_of}
 use Rattle.blk_bio.specs.Requests.{Fits}
 use Rattle.blk_index.specs.Inside.Spots.{Spot}
-use Rattle.blk_index.specs.Inside.Edges.{heads_in, others_in}
-use Rattle.blk_index.specs.Index.{at_of}
+use Rattle.blk_index.specs.Inside.Edges.{buckets_in, others_in}
+use Rattle.blk_index.specs.Inside.Search.{at_of}
 use Rattle.blk_index.proofs.Indexed.{becomes_given}
 use Rattle.blk_index.proofs.Join.{joined_at}
 use Rattle.blk_index.proofs.Joining.{edge_joined, edge_unjoined}
@@ -27,10 +27,10 @@ returns-in-Ok-join-clause-spots g c =
     let held : c.extent_of-before.result.bios ≡ length v.bios = ap (λ (x : Extent). x.bios) c.extent_of-before.ensures in
     let more : c.extent-added.result.bios ≡ length c.args.newcomer = ap (λ (x : Extent). x.bios) c.extent-added.ensures.value in
     let few : c.bios_of-bios.result ≤ length v.bios + length c.args.newcomer = omega (arith, c.bios_of-bios.ensures, held, more) in
-    edge_joined c.args.limits.now (map.get c.args.waiting.now) (map.get c.join.new.self) (heads_in c.args.spots.now) (heads_in c.put.new.self) (heads_in c.take.new.self) (others_in c.args.spots.now) (others_in c.put.new.self) (others_in c.take.new.self)
+    edge_joined c.args.limits.now (map.get c.args.waiting.now) (map.get c.join.new.self) (buckets_in c.args.spots.now) (buckets_in c.put.new.self) (buckets_in c.take.new.self) (others_in c.args.spots.now) (others_in c.put.new.self) (others_in c.take.new.self)
     c.args.id c.sectors-sectors.result c.sectors_of.result c.bios_of-bios.result c.args.now c.args.side c.args.newcomer v c.spot_at-spot.result
     c.requires.spots (sym c.in-Some.ensures.value) c.requires.fit c.sectors-sectors.ensures.some c.sectors-sectors.ensures.range spot
-    c.in-Ok.ensures.ok c.in-Ok.ensures.heads c.in-Ok.ensures.least c.take.ensures.heads c.take.ensures.least
+    c.in-Ok.ensures.ok c.in-Ok.ensures.buckets c.in-Ok.ensures.least c.take.ensures.buckets c.take.ensures.least
     c.in-Ok-join.field-0 (joined_waiting c.in-Ok-join.field-0 c.args.now c.args.newcomer j.waiting) c.spot_at.result
     c.sectors-sectors.ensures.value c.sectors_of.ensures.value few
     (c.spot_at.ensures ∙ ap (λ (x : Extent). let q : Spot = (at_of c.args.side x, c.args.id) in q) c.extent_of-before.ensures)
@@ -48,8 +48,8 @@ returns-in-Err-clause-spots g c =
     let v = c.in-Some.queued.now in
     let spot : c.spot_at-spot.result ≡ (at_of c.args.side (extent_of c.args.newcomer), c.args.id) =
     c.spot_at-spot.ensures ∙ ap (λ (x : Extent). let q : Spot = (at_of c.args.side x, c.args.id) in q) c.extent-added.ensures.value in
-    edge_unjoined c.args.limits.now (map.get c.args.waiting.now) (map.get c.join.new.self) (heads_in c.args.spots.now) (heads_in c.put.new.self) (heads_in c.take-in-Err.new.self) (others_in c.args.spots.now) (others_in c.put.new.self) (others_in c.take-in-Err.new.self)
+    edge_unjoined c.args.limits.now (map.get c.args.waiting.now) (map.get c.join.new.self) (buckets_in c.args.spots.now) (buckets_in c.put.new.self) (buckets_in c.take-in-Err.new.self) (others_in c.args.spots.now) (others_in c.put.new.self) (others_in c.take-in-Err.new.self)
     c.args.id c.sectors-sectors.result c.sectors_of.result c.bios_of-bios.result c.args.now c.args.side c.args.newcomer v c.spot_at-spot.result
     c.requires.spots (sym c.in-Some.ensures.value) c.requires.fit c.sectors-sectors.ensures.some c.sectors-sectors.ensures.range spot
-    c.in-Ok.ensures.ok c.in-Ok.ensures.heads c.in-Ok.ensures.least c.take-in-Err.ensures.heads c.take-in-Err.ensures.least
+    c.in-Ok.ensures.ok c.in-Ok.ensures.buckets c.in-Ok.ensures.least c.take-in-Err.ensures.buckets c.take-in-Err.ensures.least
     c.take-in-Err.ensures.takes (λ k. ap (λ (m : Pending). map.get m k) c.in-Err.ensures.same)

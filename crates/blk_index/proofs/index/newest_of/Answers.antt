@@ -1,5 +1,5 @@
 use Rattle.std.specs.FinMap as map
-use Rattle.blk_index.specs.Inside.Edges.{heads_in, others_in, spots_in}
+use Rattle.blk_index.specs.Inside.Edges.{buckets_in, others_in, spots_in}
 use Rattle.blk_index.proofs.Walk.{newest_by, passed_more, none_by, none_room}
 use Rattle.blk_index.proofs.index.newest_of.Goals as goal
 
@@ -20,5 +20,5 @@ returns-clause-none g c =
 
 pub returns-then-not-may_have-clause-none : goal.returns-then-not-may_have-clause-none
 returns-then-not-may_have-clause-none g c =
-    none_room c.args.limits.now (map.get c.args.waiting.now) (heads_in c.args.spots.now) (others_in c.args.spots.now) c.args.newcomer.now c.args.side c.touched-place.result c.room_beside-room.result.0 c.room_beside-room.result.1
+    none_room c.args.limits.now (map.get c.args.waiting.now) (buckets_in c.args.spots.now) (others_in c.args.spots.now) c.args.newcomer.now c.args.side c.touched-place.result c.room_beside-room.result.0 c.room_beside-room.result.1
     c.requires c.touched-place.ensures.value c.room_beside-room.ensures.wide c.room_beside-room.ensures.wide_bios c.room_beside-room.ensures.some c.if-not-may_have.ensures

@@ -2,7 +2,7 @@ use Rattle.std.specs.FinMap as map
 use Rattle.std.proofs.Common.{◌≡◌, ℕ, Some}
 use Rattle.blk_bio.specs.Requests.{Fits}
 use Rattle.blk_sched.specs.Meaning.{Waiting}
-use Rattle.blk_index.specs.Index.{IsPassed, count_below}
+use Rattle.blk_index.specs.Inside.Search.{IsPassed, count_below}
 use Rattle.blk_index.proofs.index.newest_of.Given as goal
 
 -- the newcomer fits none of the requests that were passed

@@ -1,17 +1,17 @@
 use Rattle.std.proofs.Common.{rules}
 use Rattle.blk_kyber.specs.Limits.{Tick}
-use Rattle.blk_kyber.specs.Kept.{Kept}
-use Rattle.blk_kyber.specs.Shown.{kyber_kept}
+use Rattle.blk_kyber.specs.State.{KyberState}
+use Rattle.blk_kyber.specs.Shown.{state_of}
 use Rattle.blk_kyber.proofs.Served.{tells}
 use Rattle.blk_kyber.proofs.KyberScheduler.on_tick.Goals as goal
 
 pub returns-then-now-eq0-clause-told : goal.returns-then-now-eq0-clause-told
 returns-then-now-eq0-clause-told g c =
-    let old : Kept = kyber_kept c.args.self.now in
-    let new : Kept = record { targets = c.args.self.now.targets; limits = c.set_anew.new.self; turns = c.args.self.now.turns } in
+    let old : KyberState = state_of c.args.self.now in
+    let new : KyberState = record { targets = c.args.self.now.targets; limits = c.set_anew.new.self; turns = c.args.self.now.turns } in
     tells old new (Tick c.args.now) (search rules)
 
 pub returns-else-now-eq0-clause-told : goal.returns-else-now-eq0-clause-told
 returns-else-now-eq0-clause-told g c =
-    let old : Kept = kyber_kept c.args.self.now in
+    let old : KyberState = state_of c.args.self.now in
     tells old old (Tick c.args.now) (search rules)

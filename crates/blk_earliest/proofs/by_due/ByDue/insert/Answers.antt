@@ -1,7 +1,7 @@
 use Rattle.std.proofs.Common.{◌≡◌, ap, ◌∙◌, None, refl}
 use Rattle.std.specs.FinMap as map
 use Rattle.blk_sched.specs.Meaning.{Pending}
-use Rattle.blk_earliest.specs.Lines.{dues_in}
+use Rattle.blk_earliest.specs.Inside.Lines.{dues_in}
 use Rattle.blk_earliest.proofs.Dues.{kept, entered_due, undone_due}
 use Rattle.blk_earliest.proofs.by_due.ByDue.insert.Goals as goal
 

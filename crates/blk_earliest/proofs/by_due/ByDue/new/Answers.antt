@@ -1,4 +1,4 @@
-use Rattle.blk_earliest.specs.Lines.{dues_in}
+use Rattle.blk_earliest.specs.Inside.Lines.{dues_in}
 use Rattle.blk_earliest.proofs.Dues.{no_dues}
 use Rattle.blk_earliest.proofs.by_due.ByDue.new.Goals as goal
 

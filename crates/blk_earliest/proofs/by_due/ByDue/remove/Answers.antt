@@ -1,6 +1,6 @@
 use Rattle.std.proofs.Common.{◌≡◌, Some, sym, ◌∙◌}
 use Rattle.std.specs.FinMap as map
-use Rattle.blk_earliest.specs.Lines.{dues_in}
+use Rattle.blk_earliest.specs.Inside.Lines.{dues_in}
 use Rattle.blk_earliest.proofs.Dues.{absent_due, left_due}
 use Rattle.blk_earliest.proofs.by_due.ByDue.remove.Goals as goal
 

@@ -1,7 +1,7 @@
 use Rattle.std.proofs.Common.{◌≡◌, ℕ, Option, sym, subst}
 use Rattle.std.specs.BTreeSet.{contains}
 use Rattle.blk_index.specs.Inside.Pairs.{pair_cmp}
-use Rattle.blk_earliest.specs.Lines.{listed, either, dues_in, IsFirstOf, IsFirstOrNone}
+use Rattle.blk_earliest.specs.Inside.Lines.{listed, either, dues_in, IsFirstOf, IsFirstOrNone}
 use Rattle.blk_earliest.proofs.Lines.{first_pair}
 use Rattle.blk_earliest.proofs.order.Dues.first_id.Goals as goal
 

@@ -1,6 +1,6 @@
 use Rattle.std.specs.BTreeSet.{contains}
 use Rattle.blk_index.specs.Inside.Pairs.{pair_cmp}
-use Rattle.blk_earliest.specs.Lines.{listed, either}
+use Rattle.blk_earliest.specs.Inside.Lines.{listed, either}
 use Rattle.blk_earliest.proofs.Lines.{on_ok, on_err, added_around, kept_around, added_second, kept_second}
 use Rattle.blk_earliest.proofs.order.Dues.put.Goals as goal
 

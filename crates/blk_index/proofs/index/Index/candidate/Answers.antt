@@ -4,7 +4,7 @@ use Rattle.std.specs.FinMap as map
 use Rattle.blk_bio.specs.declared.request.Side.{Side}
 use Rattle.blk_sched.specs.Meaning.{Pending}
 use Rattle.blk_sched.specs.Fits.{IsNewestFit, FitsNone}
-use Rattle.blk_index.specs.Index.{newer_of}
+use Rattle.blk_index.specs.Inside.Search.{newer_of}
 use Rattle.blk_index.proofs.Indexed.{Found}
 use Rattle.blk_index.proofs.Walk.{newer_law}
 use Rattle.blk_index.proofs.index.Index.candidate.Goals as goal

@@ -4,10 +4,11 @@ use Rattle.std.specs.FinMap as map
 use Rattle.blk_bio.specs.declared.request.Side.{Side}
 use Rattle.blk_sched.specs.Meaning.{Pending}
 use Rattle.blk_sched.specs.Fits.{HasFit}
-use Rattle.blk_index.specs.Inside.Heads.{IsEdge}
-use Rattle.blk_index.specs.Inside.Edges.{heads_in, others_in}
-use Rattle.blk_index.specs.Index.{at_of, IsJoined}
-use Rattle.blk_index.proofs.Joining.{named_joined, ages_joined, firsts_stay, ends_stay}
+use Rattle.blk_index.specs.Inside.Buckets.{IsEdge}
+use Rattle.blk_index.specs.Inside.Edges.{buckets_in, others_in}
+use Rattle.blk_index.specs.Index.{IsJoined}
+use Rattle.blk_index.specs.Inside.Search.{at_of}
+use Rattle.blk_index.proofs.Joining.{named_joined, fifo_joined, firsts_stay, ends_stay}
 use Rattle.blk_index.proofs.index.Index.join_at.Goals as goal
 
 pub join_in-requires-clause-fit : goal.join_in-requires-clause-fit
@@ -17,10 +18,10 @@ pub join_in-requires-in-Front-clause-fit : goal.join_in-requires-in-Front-clause
 join_in-requires-in-Front-clause-fit g c = subst (λ (m : Pending). HasFit c.args.limits.now (map.get m) c.args.newcomer c.args.id c.args.side) (sym c.self.view_is) c.requires
 
 pub join_in-requires-clause-spots : goal.join_in-requires-clause-spots
-join_in-requires-clause-spots g c = subst (λ (t : Side). IsEdge (at_of t) (map.get c.self.inside.waiting) (heads_in c.self.inside.edges.ends) (others_in c.self.inside.edges.ends)) (sym c.in-Back.is) c.self.invariant.1.ends
+join_in-requires-clause-spots g c = subst (λ (t : Side). IsEdge (at_of t) (map.get c.self.inside.waiting) (buckets_in c.self.inside.edges.back) (others_in c.self.inside.edges.back)) (sym c.in-Back.is) c.self.invariant.1.back
 
 pub join_in-requires-in-Front-clause-spots : goal.join_in-requires-in-Front-clause-spots
-join_in-requires-in-Front-clause-spots g c = subst (λ (t : Side). IsEdge (at_of t) (map.get c.self.inside.waiting) (heads_in c.self.inside.edges.firsts) (others_in c.self.inside.edges.firsts)) (sym c.in-Front.is) c.self.invariant.1.firsts
+join_in-requires-in-Front-clause-spots g c = subst (λ (t : Side). IsEdge (at_of t) (map.get c.self.inside.waiting) (buckets_in c.self.inside.edges.front) (others_in c.self.inside.edges.front)) (sym c.in-Front.is) c.self.invariant.1.front
 
 pub invariant_of-self : goal.invariant_of-self
 invariant_of-self g c =
@@ -28,10 +29,10 @@ invariant_of-self g c =
     let own = c.self.inside.waiting in (
       named_joined c.args.limits.now own c.join_in.new.waiting c.args.id c.args.now c.args.side c.args.newcomer fit c.join_in.result c.self.invariant.0 c.join_in.ensures.joined c.join_in.ensures.same,
       record {
-        firsts = firsts_stay c.args.limits.now own c.join_in.new.waiting c.args.id c.args.now c.args.side c.args.newcomer fit c.join_in.result (heads_in c.self.inside.edges.firsts) (others_in c.self.inside.edges.firsts) c.in-Back.is c.self.invariant.1.firsts c.join_in.ensures.joined c.join_in.ensures.same;
-        ends = subst (λ (t : Side). IsEdge (at_of t) (map.get c.join_in.new.waiting) (heads_in c.join_in.new.spots) (others_in c.join_in.new.spots)) c.in-Back.is c.join_in.ensures.spots;
+        front = firsts_stay c.args.limits.now own c.join_in.new.waiting c.args.id c.args.now c.args.side c.args.newcomer fit c.join_in.result (buckets_in c.self.inside.edges.front) (others_in c.self.inside.edges.front) c.in-Back.is c.self.invariant.1.front c.join_in.ensures.joined c.join_in.ensures.same;
+        back = subst (λ (t : Side). IsEdge (at_of t) (map.get c.join_in.new.waiting) (buckets_in c.join_in.new.spots) (others_in c.join_in.new.spots)) c.in-Back.is c.join_in.ensures.spots;
       },
-      ages_joined c.args.limits.now own c.join_in.new.waiting c.args.id c.args.now c.args.side c.args.newcomer fit c.join_in.result c.self.inside.ages c.self.invariant.2 c.join_in.ensures.joined c.join_in.ensures.same,
+      fifo_joined c.args.limits.now own c.join_in.new.waiting c.args.id c.args.now c.args.side c.args.newcomer fit c.join_in.result c.self.inside.fifo c.self.invariant.2 c.join_in.ensures.joined c.join_in.ensures.same,
     )
 
 pub invariant_of-self-in-Front : goal.invariant_of-self-in-Front
@@ -40,10 +41,10 @@ invariant_of-self-in-Front g c =
     let own = c.self.inside.waiting in (
       named_joined c.args.limits.now own c.join_in-in-Front.new.waiting c.args.id c.args.now c.args.side c.args.newcomer fit c.join_in-in-Front.result c.self.invariant.0 c.join_in-in-Front.ensures.joined c.join_in-in-Front.ensures.same,
       record {
-        firsts = subst (λ (t : Side). IsEdge (at_of t) (map.get c.join_in-in-Front.new.waiting) (heads_in c.join_in-in-Front.new.spots) (others_in c.join_in-in-Front.new.spots)) c.in-Front.is c.join_in-in-Front.ensures.spots;
-        ends = ends_stay c.args.limits.now own c.join_in-in-Front.new.waiting c.args.id c.args.now c.args.side c.args.newcomer fit c.join_in-in-Front.result (heads_in c.self.inside.edges.ends) (others_in c.self.inside.edges.ends) c.in-Front.is c.self.invariant.1.ends c.join_in-in-Front.ensures.joined c.join_in-in-Front.ensures.same;
+        front = subst (λ (t : Side). IsEdge (at_of t) (map.get c.join_in-in-Front.new.waiting) (buckets_in c.join_in-in-Front.new.spots) (others_in c.join_in-in-Front.new.spots)) c.in-Front.is c.join_in-in-Front.ensures.spots;
+        back = ends_stay c.args.limits.now own c.join_in-in-Front.new.waiting c.args.id c.args.now c.args.side c.args.newcomer fit c.join_in-in-Front.result (buckets_in c.self.inside.edges.back) (others_in c.self.inside.edges.back) c.in-Front.is c.self.invariant.1.back c.join_in-in-Front.ensures.joined c.join_in-in-Front.ensures.same;
       },
-      ages_joined c.args.limits.now own c.join_in-in-Front.new.waiting c.args.id c.args.now c.args.side c.args.newcomer fit c.join_in-in-Front.result c.self.inside.ages c.self.invariant.2 c.join_in-in-Front.ensures.joined c.join_in-in-Front.ensures.same,
+      fifo_joined c.args.limits.now own c.join_in-in-Front.new.waiting c.args.id c.args.now c.args.side c.args.newcomer fit c.join_in-in-Front.result c.self.inside.fifo c.self.invariant.2 c.join_in-in-Front.ensures.joined c.join_in-in-Front.ensures.same,
     )
 
 pub returns-in-Back-clause-joined : goal.returns-in-Back-clause-joined

@@ -3,11 +3,11 @@ use Rattle.std.specs.Prelude.{IfSome, IfNone}
 use Rattle.std.specs.FinMap as map
 use Rattle.blk_index.specs.Index.{IsOldest, NoneOf}
 use Rattle.blk_index.proofs.Indexed.{Found}
-use Rattle.blk_index.proofs.Aged.{oldest_then, none_then}
+use Rattle.blk_index.proofs.FifoIds.{oldest_then, none_then}
 use Rattle.blk_index.proofs.index.Index.oldest.Goals as goal
 
 pub returns-clause-some : goal.returns-clause-some
-returns-clause-some g c = subst (λ (f : Found). IfSome c.first.result (IsOldest c.args.dir f)) (ap map.get c.self.view_is) (oldest_then c.args.dir (map.get c.self.inside.waiting) c.self.inside.ages c.first.result c.self.invariant.2 c.first.ensures.some)
+returns-clause-some g c = subst (λ (f : Found). IfSome c.first.result (IsOldest c.args.dir f)) (ap map.get c.self.view_is) (oldest_then c.args.dir (map.get c.self.inside.waiting) c.self.inside.fifo c.first.result c.self.invariant.2 c.first.ensures.some)
 
 pub returns-clause-none : goal.returns-clause-none
-returns-clause-none g c = subst (λ (f : Found). IfNone c.first.result (NoneOf c.args.dir f)) (ap map.get c.self.view_is) (none_then c.args.dir (map.get c.self.inside.waiting) c.self.inside.ages c.first.result c.self.invariant.2 c.first.ensures.none)
+returns-clause-none g c = subst (λ (f : Found). IfNone c.first.result (NoneOf c.args.dir f)) (ap map.get c.self.view_is) (none_then c.args.dir (map.get c.self.inside.waiting) c.self.inside.fifo c.first.result c.self.invariant.2 c.first.ensures.none)

@@ -3,7 +3,7 @@ use Rattle.std.specs.FinMap as map
 use Rattle.blk_bio.specs.declared.extent.Extent.{Extent}
 use Rattle.blk_index.proofs.Indexed.{named_same, named_less, same_without, becomes_taken}
 use Rattle.blk_index.proofs.Edged.{edges_kept}
-use Rattle.blk_index.proofs.Aged.{ages_same}
+use Rattle.blk_index.proofs.FifoIds.{fifo_same}
 use Rattle.blk_index.proofs.index.Index.remove.Goals as goal
 
 pub invariant_of-self : goal.invariant_of-self
@@ -11,7 +11,7 @@ invariant_of-self g c =
     let same = same_without c.self.inside.waiting c.remove.new.self c.args.id (sym c.remove.ensures.value ∙ c.in_default.is) c.remove.ensures.removed in (
       named_same (map.get c.self.inside.waiting) (map.get c.remove.new.self) c.self.invariant.0 same,
       edges_kept (map.get c.self.inside.waiting) (map.get c.remove.new.self) c.self.inside.edges c.self.invariant.1 same,
-      ages_same (map.get c.self.inside.waiting) (map.get c.remove.new.self) c.self.inside.ages c.self.invariant.2 same,
+      fifo_same (map.get c.self.inside.waiting) (map.get c.remove.new.self) c.self.inside.fifo c.self.invariant.2 same,
     )
 
 pub invariant_of-self-2 : goal.invariant_of-self-2
@@ -19,6 +19,6 @@ invariant_of-self-2 g c =
     let found = sym c.remove.ensures.value ∙ c.in-Some.is in
     let becomes = becomes_taken c.self.inside.waiting c.remove.new.self c.args.id c.remove.ensures.removed in (
       named_less (map.get c.self.inside.waiting) (map.get c.remove.new.self) c.args.id c.self.invariant.0 becomes,
-      c.leave.ensures (map.get c.self.inside.waiting) (map.get c.remove.new.self) c.in-Some.queued c.extent_of-extent.ensures c.self.invariant.1 found becomes,
-      c.leave-2.ensures (map.get c.self.inside.waiting) c.in-Some.queued (ap (λ (e : Extent). e.dir) c.extent_of-extent.ensures) c.self.invariant.2 found becomes,
+      c.del.ensures (map.get c.self.inside.waiting) (map.get c.remove.new.self) c.in-Some.queued c.extent_of-extent.ensures c.self.invariant.1 found becomes,
+      c.del-2.ensures (map.get c.self.inside.waiting) c.in-Some.queued (ap (λ (e : Extent). e.dir) c.extent_of-extent.ensures) c.self.invariant.2 found becomes,
     )

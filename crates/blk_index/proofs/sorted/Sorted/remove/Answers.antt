@@ -1,12 +1,12 @@
 use Rattle.std.proofs.Common.{sym, ◌∙◌}
-use Rattle.blk_index.specs.Inside.Orders.{order_in}
+use Rattle.blk_index.specs.Inside.SortLists.{sorted_in}
 use Rattle.blk_index.proofs.Sorting.{absent_first, taken_first}
 use Rattle.blk_index.proofs.sorted.Sorted.remove.Goals as goal
 
 pub invariant_of-self : goal.invariant_of-self
-invariant_of-self g c = absent_first c.self.inside.index c.remove.new.self c.args.id (order_in c.self.inside.firsts) c.self.invariant (sym c.remove.ensures.value ∙ c.in_default.is) c.remove.ensures.removed
+invariant_of-self g c = absent_first c.self.inside.index c.remove.new.self c.args.id (sorted_in c.self.inside.sort) c.self.invariant (sym c.remove.ensures.value ∙ c.in_default.is) c.remove.ensures.removed
 
 pub invariant_of-self-2 : goal.invariant_of-self-2
 invariant_of-self-2 g c =
-    taken_first c.self.inside.index c.remove.new.self c.args.id c.in-Some.queued c.extent_of.result c.first_spot.result (order_in c.self.inside.firsts) (order_in c.take.new.self)
+    taken_first c.self.inside.index c.remove.new.self c.args.id c.in-Some.queued c.extent_of.result c.first_spot.result (sorted_in c.self.inside.sort) (sorted_in c.take.new.self)
     c.self.invariant (sym c.remove.ensures.value ∙ c.in-Some.is) c.extent_of.ensures c.first_spot.ensures c.take.ensures c.remove.ensures.removed

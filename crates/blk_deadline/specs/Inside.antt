@@ -1,0 +1,2 @@
+-- What clauses of parts of a pick alone need.
+pub mod Parts

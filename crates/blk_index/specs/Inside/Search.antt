@@ -1,0 +1,64 @@
+-- The search for a join at one side, and ids that are compared.
+use Rattle.std.specs.Prelude.{ℕ, ◌≡◌, ◌<◌, ◌≤◌, ◌^◌, List, Option, Some, None, if◌then◌else◌, nat_lt}
+use Rattle.blk_bio.specs.declared.request.Side.{Side}
+use Rattle.blk_bio.specs.declared.request.Side.TheVariants.{Back, Front}
+use Rattle.blk_bio.specs.declared.extent.Extent.{Extent}
+use Rattle.blk_bio.specs.Bios.{Bio}
+use Rattle.blk_bio.specs.Limits.{Limits}
+use Rattle.blk_bio.specs.Requests.{Fits}
+use Rattle.blk_sched.specs.Meaning.{Waiting}
+use Rattle.blk_index.specs.Inside.Spots.{Place, first_at, end_at}
+
+-- each request has its id
+abbrev pub IsNamed : (ℕ → Option Waiting) → Type 0
+IsNamed found = (id : ℕ) (w : Waiting) → found id ≡ Some w → w.id ≡ id
+
+-- the newest request that fits at one side
+pub record IsNewestBy (limits : Limits) (found : ℕ → Option Waiting) (newcomer : List Bio) (side : Side) (id : ℕ) : Type 0 where
+  pub waiting : Waiting
+  pub is_found : found id ≡ Some waiting
+  pub fits : Fits limits waiting.bios newcomer side
+  pub only : (other : Side) → Fits limits waiting.bios newcomer other → other ≡ side
+  pub newest : (other : ℕ) (w : Waiting) → id < other → found other ≡ Some w → Fits limits w.bios newcomer side → ⊥
+
+-- none fits at one side
+abbrev pub FitsNoneBy : Limits → (ℕ → Option Waiting) → List Bio → Side → Type 0
+FitsNoneBy limits found newcomer side = (id : ℕ) (w : Waiting) → found id ≡ Some w → Fits limits w.bios newcomer side → ⊥
+
+-- where a request lies at a side, and where a newcomer that joins it there touches it
+abbrev pub at_of : Side → Extent → Place
+at_of Back e = end_at e
+at_of Front e = first_at e
+
+abbrev pub touch_of : Side → Extent → Place
+touch_of Back e = first_at e
+touch_of Front e = end_at e
+
+-- one request fits at a side, and at no other
+pub record FitsBy (limits : Limits) (found : Option Waiting) (newcomer : List Bio) (side : Side) : Type 0 where
+  pub waiting : Waiting
+  pub is_found : found ≡ Some waiting
+  pub fits : Fits limits waiting.bios newcomer side
+  pub only : (other : Side) → Fits limits waiting.bios newcomer other → other ≡ side
+
+-- ids that were passed, and how many there may be below
+abbrev pub IsPassed : Option ℕ → ℕ → Type 0
+IsPassed None k = ⊥
+IsPassed (Some b) k = b ≤ k
+
+abbrev pub count_below : Option ℕ → ℕ
+count_below None = 2 ^ 64
+count_below (Some b) = b
+
+-- of a fit at the back and one at the front the newer, and the back where they are one
+abbrev pub newer_of : Option ℕ → Option ℕ → Option (ℕ × Side)
+newer_of None None = None
+newer_of (Some b) None = Some (b, Back)
+newer_of None (Some a) = Some (a, Front)
+newer_of (Some b) (Some a) = if nat_lt b a then Some (a, Front) else Some (b, Back)
+
+-- of two ids the lesser
+abbrev pub lesser_of : Option ℕ → Option ℕ → Option ℕ
+lesser_of None o = o
+lesser_of (Some a) None = Some a
+lesser_of (Some a) (Some b) = Some (if nat_lt b a then b else a)

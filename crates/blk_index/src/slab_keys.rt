@@ -1,0 +1,227 @@
+//! The slab keys of ids.
+
+ghost use Rattle.std.specs.Prelude.{◌≡◌, ◌+◌, ◌++◌, ◌∷◌, ℕ, [], None, Some, length, slice_get, IfOk, OnOk, OnErr, IfSome};
+ghost use Rattle.std.specs.Bool.{OnTrue};
+ghost use Rattle.blk_index.specs.Inside.SlabKeys.{run_at, key_in, entries_of, key_of, Gives};
+
+use crate::merge_hash::Hashing;
+use std::alloc::{AllocError, Allocator, Global};
+use std::collections::{HashMap, VecDeque};
+
+/// The keys of ids: those of a run of ids that follow one another, and in a hash table those of others. Requests mostly enter
+/// by rising ids, each one more than the last, and then all stand in the run, where a key is found at once.
+#[derive(Drop)]
+pub struct SlabKeys<A: Allocator = Global> {
+    /// The first id of the run.
+    pub from: u64,
+    /// The key of each id of the run, if it still has one.
+    pub run: VecDeque<Option<usize>, A>,
+    /// The keys of other ids.
+    pub others: HashMap<u64, usize, Hashing, A>,
+}
+
+impl<A: Allocator + Clone> SlabKeys<A> {
+    /// No keys. It takes no memory but for the allocators.
+    pub fn new(alloc: A) -> Result<SlabKeys<A>, AllocError>
+        ensures { IfOk result (λ p. entries_of p ≡ []) }
+    {
+        Ok(SlabKeys {
+            from: 0,
+            run: VecDeque::new(alloc.clone()?),
+            others: HashMap::new(alloc),
+        })
+    }
+
+    /// The key of an id.
+    #[inline(always)]
+    pub fn get(&self, id: u64) -> Option<usize>
+        ensures { result ≡ key_of self.now id }
+    {
+        match run_key(&self.run, self.from, id) {
+            Some(key) => Some(key),
+            None => other_key(&self.others, id),
+        }
+    }
+
+    /// Gives a key to an id that has none. On a refusal nothing is changed.
+    #[inline(always)]
+    pub fn insert(&mut self, id: u64, key: usize) -> Result<(), AllocError>
+        requires { key_of self.old id ≡ None }
+        ensures ok { OnOk result (Gives (key_of self.old) id (Some key) (key_of self.new)) }
+        ensures same { OnErr result (entries_of self.new ≡ entries_of self.old) }
+    {
+        self.begin_at(id);
+        if is_next(&self.run, self.from, id) {
+            return put_last(&mut self.run, key);
+        }
+        put_other(&mut self.others, id, key)
+    }
+
+    /// Lets a run of no ids begin with this one.
+    #[inline(always)]
+    fn begin_at(&mut self, id: u64)
+        ensures { entries_of self.new ≡ entries_of self.old }
+    {
+        if self.run.is_empty() {
+            self.from = id;
+        }
+    }
+
+    /// Takes away the key of an id, if it has one. It takes no memory.
+    #[inline(always)]
+    pub fn remove(&mut self, id: u64) -> Option<usize>
+        ensures value { result ≡ key_of self.old id }
+        ensures taken { Gives (key_of self.old) id None (key_of self.new) }
+    {
+        let found = take_key(&mut self.run, self.from, id);
+        let other = take_other(&mut self.others, id);
+        self.drop_gone(id);
+        match found {
+            Some(key) => Some(key),
+            None => other,
+        }
+    }
+
+    /// Lets the run begin with an id that has a key, where it began with this one, which has none.
+    #[inline(always)]
+    fn drop_gone(&mut self, id: u64)
+        ensures { entries_of self.new ≡ entries_of self.old }
+    {
+        if id != self.from {
+            return;
+        }
+        while let Some(next) = after_gone(&self.run, self.from) {
+            let _ = self.run.pop_front();
+            self.from = next;
+        }
+    }
+}
+
+/// The id after the first of a run, where that one has no key.
+#[inline(always)]
+fn after_gone<A: Allocator + Clone>(run: &VecDeque<Option<usize>, A>, from: u64) -> Option<u64>
+    ensures next { IfSome result (λ next. next ≡ from + 1) }
+    ensures gone { IfSome result (λ _. slice_get run.now.items 0 ≡ Some None) }
+{
+    let Some(first) = run.front() else {
+        return None;
+    };
+    match *first {
+        Some(_) => None,
+        None => from.checked_add(1),
+    }
+}
+
+/// The key of an id in a run.
+#[inline(always)]
+fn run_key<A: Allocator + Clone>(
+    run: &VecDeque<Option<usize>, A>,
+    from: u64,
+    id: u64,
+) -> Option<usize>
+    ensures { result ≡ run_at from run.now.items id }
+{
+    if id < from {
+        return None;
+    }
+    let index = (id - from) as usize;
+    if index >= run.len() {
+        return None;
+    }
+    run[index]
+}
+
+/// Whether an id comes next after a run.
+#[inline(always)]
+fn is_next<A: Allocator + Clone>(run: &VecDeque<Option<usize>, A>, from: u64, id: u64) -> bool
+    ensures { OnTrue result (id ≡ from + length run.now.items) }
+{
+    if id < from {
+        return false;
+    }
+    (id - from) as usize == run.len()
+}
+
+/// Puts a key after a run. On a refusal nothing is changed.
+#[inline(always)]
+fn put_last<A: Allocator + Clone>(
+    run: &mut VecDeque<Option<usize>, A>,
+    key: usize,
+) -> Result<(), AllocError>
+    ensures ok { OnOk result (run.new.items ≡ run.old.items ++ Some key ∷ []) }
+    ensures same { OnErr result (run.new.items ≡ run.old.items) }
+{
+    match run.push_back(Some(key)) {
+        Ok(()) => Ok(()),
+        Err(_) => Err(AllocError),
+    }
+}
+
+/// Takes away the key of an id in a run.
+#[inline(always)]
+fn take_key<A: Allocator + Clone>(
+    run: &mut VecDeque<Option<usize>, A>,
+    from: u64,
+    id: u64,
+) -> Option<usize>
+    ensures value { result ≡ run_at from run.old.items id }
+    ensures taken { Gives (run_at from run.old.items) id None (run_at from run.new.items) }
+{
+    if id < from {
+        return None;
+    }
+    let index = (id - from) as usize;
+    if index >= run.len() {
+        return None;
+    }
+    let found = run[index];
+    run[index] = None;
+    found
+}
+
+/// The key of an id in a hash table.
+#[inline(always)]
+fn other_key<A: Allocator + Clone>(
+    others: &HashMap<u64, usize, Hashing, A>,
+    id: u64,
+) -> Option<usize>
+    ensures { result ≡ key_in others.now.entries id }
+{
+    if others.is_empty() {
+        return None;
+    }
+    let Some(key) = others.get(&id) else {
+        return None;
+    };
+    Some(*key)
+}
+
+/// Puts the key of an id into a hash table. On a refusal nothing is changed.
+fn put_other<A: Allocator + Clone>(
+    others: &mut HashMap<u64, usize, Hashing, A>,
+    id: u64,
+    key: usize,
+) -> Result<(), AllocError>
+    ensures ok { OnOk result (Gives (key_in others.old.entries) id (Some key) (key_in others.new.entries)) }
+    ensures same { OnErr result (others.new.entries ≡ others.old.entries) }
+{
+    match others.insert(id, key) {
+        Ok(_) => Ok(()),
+        Err(_) => Err(AllocError),
+    }
+}
+
+/// Takes the key of an id out of a hash table.
+#[inline(always)]
+fn take_other<A: Allocator + Clone>(
+    others: &mut HashMap<u64, usize, Hashing, A>,
+    id: u64,
+) -> Option<usize>
+    ensures value { result ≡ key_in others.old.entries id }
+    ensures taken { Gives (key_in others.old.entries) id None (key_in others.new.entries) }
+{
+    if others.is_empty() {
+        return None;
+    }
+    others.remove(&id)
+}
