@@ -12,11 +12,11 @@ use Rattle.blk_bio.specs.declared.bio.Dir.TheVariants.{Read, Write}
 use Rattle.blk_bio.specs.Requests.{dir_of}
 use Rattle.blk_trace.specs.Inside.Seats.{RoundSeat}
 use Rattle.blk_trace.specs.Setups.{same_dir}
-use Rattle.blk_sched.specs.Meaning.{Waiting, OpenPicks, opened, handed_of, handed_back}
-use Rattle.blk_core.specs.declared.TagState.{TagState}
-use Rattle.blk_core.specs.declared.TagState.TheVariants.{Free, Flying, Spent}
+use Rattle.blk_sched.specs.Meaning.{Waiting, OpenPicks, opened, requeued_of, after_requeue}
+use Rattle.blk_core.specs.declared.tags.TagState.{TagState}
+use Rattle.blk_core.specs.declared.tags.TagState.TheVariants.{Free, InFlight, Spent}
 use Rattle.blk_core.specs.State.{Flight}
-use Rattle.blk_core.specs.Inside.Ties.{seat_of, queue_of, flight_of, flying, IfFlying}
+use Rattle.blk_core.specs.Inside.Ties.{seat_of, queue_of, flight_of, flying, IfInFlight}
 
 by_dir : (d : Dir) → cond (same_dir Read d) 1 0 + cond (same_dir Write d) 1 0 ≤ 1
 by_dir Read = omega arith
@@ -24,7 +24,7 @@ by_dir Write = omega arith
 
 one_each : {A : Type 0} (s : TagState A) → flying Read s + flying Write s ≤ 1
 one_each Free = omega arith
-one_each (Flying hw w) = by_dir (dir_of w.bios)
+one_each (InFlight hw w) = by_dir (dir_of w.bios)
 one_each (Spent d) = omega arith
 
 -- no more commands are in flight than there are tags
@@ -50,25 +50,25 @@ pub opened_writes : (d : Dir) (p : OpenPicks) → (opened d p).writes ≡ p.writ
 opened_writes Read p = omega arith
 opened_writes Write p = refl
 
-pub opened_handed : (e d : Dir) (p : OpenPicks) → handed_of e (opened d p) ≡ handed_of e p
-opened_handed Read Read p = refl
-opened_handed Read Write p = refl
-opened_handed Write Read p = refl
-opened_handed Write Write p = refl
+pub opened_requeued : (e d : Dir) (p : OpenPicks) → requeued_of e (opened d p) ≡ requeued_of e p
+opened_requeued Read Read p = refl
+opened_requeued Read Write p = refl
+opened_requeued Write Read p = refl
+opened_requeued Write Write p = refl
 
-pub handed_reads : (d : Dir) (p : OpenPicks) → (handed_back d p).reads ≡ p.reads
-handed_reads Read p = refl
-handed_reads Write p = refl
+pub requeued_reads : (d : Dir) (p : OpenPicks) → (after_requeue d p).reads ≡ p.reads
+requeued_reads Read p = refl
+requeued_reads Write p = refl
 
-pub handed_writes : (d : Dir) (p : OpenPicks) → (handed_back d p).writes ≡ p.writes
-handed_writes Read p = refl
-handed_writes Write p = refl
+pub requeued_writes : (d : Dir) (p : OpenPicks) → (after_requeue d p).writes ≡ p.writes
+requeued_writes Read p = refl
+requeued_writes Write p = refl
 
-pub handed_more : (e d : Dir) (p : OpenPicks) → handed_of e (handed_back d p) ≡ handed_of e p + cond (same_dir e d) 1 0
-handed_more Read Read p = refl
-handed_more Read Write p = omega arith
-handed_more Write Read p = omega arith
-handed_more Write Write p = refl
+pub requeued_more : (e d : Dir) (p : OpenPicks) → requeued_of e (after_requeue d p) ≡ requeued_of e p + cond (same_dir e d) 1 0
+requeued_more Read Read p = refl
+requeued_more Read Write p = omega arith
+requeued_more Write Read p = omega arith
+requeued_more Write Write p = refl
 
 -- the seats of the tags, after one is set
 pub seats_set : {A : Type 0} (W V : ℕ → Option RoundSeat) (tags : List (TagState A)) (tag : ℕ) (s : TagState A) → tag < length tags → ((t : ℕ) → t < length tags → seat_of (get_or tags t Free) ≡ W t) → ((t : ℕ) → V t ≡ cond (tag == t) (seat_of s) (W t)) → (t : ℕ) → t < length tags → seat_of (get_or (set tags tag s) t Free) ≡ V t
@@ -87,9 +87,9 @@ queues_set count tags tag s lt small h t = elim (eqb_tells tag t) [
 ]
 
 -- what is said of their commands in flight
-pub flown_set : {A : Type 0} (P Q : ℕ → Waiting → Type 0) (tags : List (TagState A)) (tag : ℕ) (s : TagState A) → tag < length tags → ((t : ℕ) (w : Waiting) → tag ≢ t → P t w → Q t w) → ((hw : ℕ) (w : Waiting) → s ≡ Flying hw w → Q tag w) → ((t hw : ℕ) (w : Waiting) → get_or tags t Free ≡ Flying hw w → P t w) → (t hw : ℕ) (w : Waiting) → get_or (set tags tag s) t Free ≡ Flying hw w → Q t w
+pub flown_set : {A : Type 0} (P Q : ℕ → Waiting → Type 0) (tags : List (TagState A)) (tag : ℕ) (s : TagState A) → tag < length tags → ((t : ℕ) (w : Waiting) → tag ≢ t → P t w → Q t w) → ((hw : ℕ) (w : Waiting) → s ≡ InFlight hw w → Q tag w) → ((t hw : ℕ) (w : Waiting) → get_or tags t Free ≡ InFlight hw w → P t w) → (t hw : ℕ) (w : Waiting) → get_or (set tags tag s) t Free ≡ InFlight hw w → Q t w
 flown_set P Q tags tag s lt kept here h t hw w at = elim (eqb_tells tag t) [
-  | inl y ↦ subst (λ k. Q k w) y.1 (here hw w (sym (get_or-set_same tags tag s Free lt) ∙ subst (λ k. get_or (set tags tag s) k Free ≡ Flying hw w) (sym y.1) at))
+  | inl y ↦ subst (λ k. Q k w) y.1 (here hw w (sym (get_or-set_same tags tag s Free lt) ∙ subst (λ k. get_or (set tags tag s) k Free ≡ InFlight hw w) (sym y.1) at))
   | inr n ↦ kept t w n.1 (h t hw w (sym (get_or-set_other tags tag t s Free (λ e. n.1 (sym e))) ∙ at))
 ]
 
@@ -129,7 +129,7 @@ put_back x new old k n e h =
     ap (λ i. take i (new ++ drop (length new) old)) (h ∙ sym l) ∙ take-append_seam new (drop (length new) old) ∙ e
 
 -- the command in flight under a tag
-pub flight_at : {A : Type 0} (tags : List (TagState A)) (tag hw : ℕ) (w : Waiting) → tag < length tags → get_or tags tag Free ≡ Flying hw w → slice_get (map flight_of tags) tag ≡ Some (Some (record { hw = hw; request = w }))
+pub flight_at : {A : Type 0} (tags : List (TagState A)) (tag hw : ℕ) (w : Waiting) → tag < length tags → get_or tags tag Free ≡ InFlight hw w → slice_get (map flight_of tags) tag ≡ Some (Some (record { hw = hw; request = w }))
 flight_at [] tag hw w lt at = absurd (omega arith)
 flight_at (s ∷ tags) zero hw w lt at = ap (λ x. Some (flight_of x)) at
 flight_at (s ∷ tags) (suc tag) hw w lt at = flight_at tags tag hw w (omega arith) at
@@ -144,7 +144,7 @@ one_of Write = refl
 
 not_flying : {A : Type 0} (s : TagState A) → flying Read s + flying Write s ≡ 0 → flight_of s ≡ nobody
 not_flying Free h = refl
-not_flying (Flying hw w) h = absurd (let one = one_of (dir_of w.bios) in omega arith)
+not_flying (InFlight hw w) h = absurd (let one = one_of (dir_of w.bios) in omega arith)
 not_flying (Spent d) h = refl
 
 pub none_flies : {A : Type 0} (tags : List (TagState A)) → sum_by (flying Read) tags + sum_by (flying Write) tags ≡ 0 → map flight_of tags ≡ replicate (length tags) None
@@ -161,5 +161,5 @@ free_flights A zero = refl
 free_flights A (suc n) = ap (λ l. nobody ∷ l) (free_flights A n)
 
 -- what is known of the tag that the code writes
-pub of_flying : {A : Type 0} (P : ℕ → Waiting → Type 0) (fl : List (TagState A)) (tag hw : ℕ) (seen : TagState A) (w : Waiting) → tag < length fl → seen ≡ get_or fl tag seen → get_or fl tag Free ≡ Flying hw w → IfFlying seen P → P hw w
-of_flying {A} P fl tag hw seen w lt e at h = let is : seen ≡ Flying hw w = e ∙ any_default fl tag seen Free lt ∙ at in subst (λ (s : TagState A). IfFlying s P) is h
+pub of_flying : {A : Type 0} (P : ℕ → Waiting → Type 0) (fl : List (TagState A)) (tag hw : ℕ) (seen : TagState A) (w : Waiting) → tag < length fl → seen ≡ get_or fl tag seen → get_or fl tag Free ≡ InFlight hw w → IfInFlight seen P → P hw w
+of_flying {A} P fl tag hw seen w lt e at h = let is : seen ≡ InFlight hw w = e ∙ any_default fl tag seen Free lt ∙ at in subst (λ (s : TagState A). IfInFlight s P) is h

@@ -12,10 +12,10 @@ use Rattle.blk_trace.proofs.Waiting.{IsWaiting, waiting_from}
 use Rattle.blk_trace.proofs.Returns.{entry_of, open_issued}
 use Rattle.blk_trace.proofs.TagUses.{still_by, now_by}
 use Rattle.blk_sched.specs.Meaning.{Waiting}
-use Rattle.blk_core.specs.State.{entered_of, IsFlown}
+use Rattle.blk_core.specs.State.{entered_of, InFlightAs}
 
 -- an event that does not end its Issue
-pub flown_kept : (setup : Setup) (es : List Happened) (e : Happened) (tag : ℕ) (w : Waiting) → IsLegalTrace setup (es ++ e ∷ []) → (ends e ≡ Some tag → ⊥) → IsFlown setup es tag w → IsFlown setup (es ++ e ∷ []) tag w
+pub flown_kept : (setup : Setup) (es : List Happened) (e : Happened) (tag : ℕ) (w : Waiting) → IsLegalTrace setup (es ++ e ∷ []) → (ends e ≡ Some tag → ⊥) → InFlightAs setup es tag w → InFlightAs setup (es ++ e ∷ []) tag w
 flown_kept setup es e tag w legal other f =
     let old = shorter_legal setup es e legal in
     let same : IsSame setup es (es ++ e ∷ []) w.id = same_entered setup es e w.id (stays_out setup es e w.id old (obeys setup es e legal) (open_issued es tag w.id f.by)) in
@@ -23,7 +23,7 @@ flown_kept setup es e tag w legal other f =
     record { by = still_by es e tag w.id other f.by; known = f.known ∙ sym entry }
 
 -- its Issue
-pub flown_issued : (setup : Setup) (es : List Happened) (tag : ℕ) (w : Waiting) → IsLegalTrace setup (es ++ Issue w.id tag ∷ []) → waits_at setup es w.id ≡ Some (entered_of w) → IsFlown setup (es ++ Issue w.id tag ∷ []) tag w
+pub flown_issued : (setup : Setup) (es : List Happened) (tag : ℕ) (w : Waiting) → IsLegalTrace setup (es ++ Issue w.id tag ∷ []) → waits_at setup es w.id ≡ Some (entered_of w) → InFlightAs setup (es ++ Issue w.id tag ∷ []) tag w
 flown_issued setup es tag w legal waits =
     let was : IsWaiting setup es w.id (entered_of w) = waiting_from setup es w.id (entered_of w) waits in
     let same : IsSame setup es (es ++ Issue w.id tag ∷ []) w.id = same_entered setup es (Issue w.id tag) w.id refl in

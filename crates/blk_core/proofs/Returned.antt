@@ -5,7 +5,7 @@ use Rattle.blk_bio.specs.Bios.{Bio}
 use Rattle.blk_bio.specs.declared.rule.TraceRule.TheVariants.{ReleasedTwice, AlreadyIssued}
 use Rattle.blk_trace.specs.Happened.{Happened}
 use Rattle.blk_trace.specs.declared.event.Event.TheVariants.{Tick, Release, Join, Issue, Done, Back, Depth}
-use Rattle.blk_trace.specs.Kinds.{releases, joins, issues, hands_back}
+use Rattle.blk_trace.specs.Kinds.{releases, joins, issues, requeues}
 use Rattle.blk_trace.specs.Setups.{Setup}
 use Rattle.blk_trace.specs.Events.{IsIssued, request_of}
 use Rattle.blk_trace.specs.Legal.{IsLegalTrace}
@@ -17,28 +17,28 @@ use Rattle.blk_trace.proofs.Pushing.{shorter_legal, obeys}
 use Rattle.blk_trace.proofs.Ids.{never_was, released_first, issued_was}
 use Rattle.blk_trace.proofs.Waiting.{waits_is, waits_kept, waits-released, waits-joined, waits-issued}
 use Rattle.blk_trace.proofs.Unissued.{unissued_from, unissued_is, was_kept}
-use Rattle.blk_trace.proofs.Returning.{returned_ids}
-use Rattle.blk_trace.proofs.Returns.{entry_of, open_issued, waits_returned}
-use Rattle.blk_core.specs.State.{returned_at}
+use Rattle.blk_trace.proofs.Returning.{requeued_ids}
+use Rattle.blk_trace.proofs.Returns.{entry_of, open_issued, waits_requeued}
+use Rattle.blk_core.specs.State.{requeued_at}
 
-pub returned_is : (setup : Setup) (es : List Happened) (id : ℕ) (b : Bool) (o : Option Entered) → was_issued es id ≡ b → waits_at setup es id ≡ o → returned_at setup es id ≡ cond b o None
-unfolding returned_at
-returned_is setup es id b o h w = ap (λ x. cond x (waits_at setup es id) None) h ∙ ap (λ x. cond b x None) w
+pub requeued_is : (setup : Setup) (es : List Happened) (id : ℕ) (b : Bool) (o : Option Entered) → was_issued es id ≡ b → waits_at setup es id ≡ o → requeued_at setup es id ≡ cond b o None
+unfolding requeued_at
+requeued_is setup es id b o h w = ap (λ x. cond x (waits_at setup es id) None) h ∙ ap (λ x. cond b x None) w
 
 by_test : (b : Bool) (o : Option Entered) (w : Entered) → cond b o None ≡ Some w → (b ≡ true) × (o ≡ Some w)
 by_test true o w h = (refl, h)
 by_test false o w h = absurd (cc)
 
 -- a request that was handed back was issued, and waits
-pub returned_from : (setup : Setup) (es : List Happened) (id : ℕ) (w : Entered) → returned_at setup es id ≡ Some w → (was_issued es id ≡ true) × (waits_at setup es id ≡ Some w)
-returned_from setup es id w h = by_test (was_issued es id) (waits_at setup es id) w (sym (returned_is setup es id _ _ refl refl) ∙ h)
+pub requeued_from : (setup : Setup) (es : List Happened) (id : ℕ) (w : Entered) → requeued_at setup es id ≡ Some w → (was_issued es id ≡ true) × (waits_at setup es id ≡ Some w)
+requeued_from setup es id w h = by_test (was_issued es id) (waits_at setup es id) w (sym (requeued_is setup es id _ _ refl refl) ∙ h)
 
 -- one that was never issued was not, nor one that is in flight
-pub unissued_not_returned : (setup : Setup) (es : List Happened) (id : ℕ) (w : Entered) → unissued_at setup es id ≡ Some w → returned_at setup es id ≡ None
-unissued_not_returned setup es id w h = returned_is setup es id false _ (unissued_from setup es id w h).0 refl
+pub unissued_not_requeued : (setup : Setup) (es : List Happened) (id : ℕ) (w : Entered) → unissued_at setup es id ≡ Some w → requeued_at setup es id ≡ None
+unissued_not_requeued setup es id w h = requeued_is setup es id false _ (unissued_from setup es id w h).0 refl
 
-pub returned_not_unissued : (setup : Setup) (es : List Happened) (id : ℕ) (w : Entered) → returned_at setup es id ≡ Some w → unissued_at setup es id ≡ None
-returned_not_unissued setup es id w h = unissued_is setup es id true _ (returned_from setup es id w h).0 refl
+pub requeued_not_unissued : (setup : Setup) (es : List Happened) (id : ℕ) (w : Entered) → requeued_at setup es id ≡ Some w → unissued_at setup es id ≡ None
+requeued_not_unissued setup es id w h = unissued_is setup es id true _ (requeued_from setup es id w h).0 refl
 
 none_waits : (b : Bool) (x : Entered) → cond (b && not true) (Some x) None ≡ None
 none_waits true x = refl
@@ -48,45 +48,45 @@ no_choice : (b : Bool) (o : Option Entered) → o ≡ None → cond b o None ≡
 no_choice true o h = h
 no_choice false o h = refl
 
-pub flown_not_returned : (setup : Setup) (es : List Happened) (tag id : ℕ) → IsLegalTrace setup es → IsOpenBy es tag id → returned_at setup es id ≡ None
-flown_not_returned setup es tag id legal o =
-    let none : waits_at setup es id ≡ None = waits_is setup es id (has_id (released_ids es) id) true (release_of es id) (due_of setup es id) (request_of es id) refl (returned_ids setup es tag id legal o).was refl refl refl ∙ none_waits (has_id (released_ids es) id) (entry_of setup es id) in
-    returned_is setup es id _ _ refl refl ∙ no_choice (was_issued es id) (waits_at setup es id) none
+pub flown_not_requeued : (setup : Setup) (es : List Happened) (tag id : ℕ) → IsLegalTrace setup es → IsOpenBy es tag id → requeued_at setup es id ≡ None
+flown_not_requeued setup es tag id legal o =
+    let none : waits_at setup es id ≡ None = waits_is setup es id (has_id (released_ids es) id) true (release_of es id) (due_of setup es id) (request_of es id) refl (requeued_ids setup es tag id legal o).was refl refl refl ∙ none_waits (has_id (released_ids es) id) (entry_of setup es id) in
+    requeued_is setup es id _ _ refl refl ∙ no_choice (was_issued es id) (waits_at setup es id) none
 
 -- an event by which nothing enters, and that issues nothing and hands nothing back
-pub returned_kept : (setup : Setup) (es : List Happened) (e : Happened) → releases e ≡ None → joins e ≡ None → issues e ≡ None → hands_back e ≡ None → (q : ℕ) → returned_at setup (es ++ e ∷ []) q ≡ returned_at setup es q
-returned_kept setup es e r j i n q =
-    returned_is setup (es ++ e ∷ []) q _ _ (was_kept es e q i) (waits_kept setup es e r j i n q) ∙ sym (returned_is setup es q _ _ refl refl)
+pub requeued_kept : (setup : Setup) (es : List Happened) (e : Happened) → releases e ≡ None → joins e ≡ None → issues e ≡ None → requeues e ≡ None → (q : ℕ) → requeued_at setup (es ++ e ∷ []) q ≡ requeued_at setup es q
+requeued_kept setup es e r j i n q =
+    requeued_is setup (es ++ e ∷ []) q _ _ (was_kept es e q i) (waits_kept setup es e r j i n q) ∙ sym (requeued_is setup es q _ _ refl refl)
 
-pub returned-ticked : (setup : Setup) (es : List Happened) (q : ℕ) → returned_at setup (es ++ Tick ∷ []) q ≡ returned_at setup es q
-returned-ticked setup es q = returned_kept setup es Tick refl refl refl refl q
+pub returned-ticked : (setup : Setup) (es : List Happened) (q : ℕ) → requeued_at setup (es ++ Tick ∷ []) q ≡ requeued_at setup es q
+returned-ticked setup es q = requeued_kept setup es Tick refl refl refl refl q
 
-pub returned-finished : (setup : Setup) (es : List Happened) (tag q : ℕ) → returned_at setup (es ++ Done tag ∷ []) q ≡ returned_at setup es q
-returned-finished setup es tag q = returned_kept setup es (Done tag) refl refl refl refl q
+pub returned-finished : (setup : Setup) (es : List Happened) (tag q : ℕ) → requeued_at setup (es ++ Done tag ∷ []) q ≡ requeued_at setup es q
+returned-finished setup es tag q = requeued_kept setup es (Done tag) refl refl refl refl q
 
-pub returned-set : (setup : Setup) (es : List Happened) (depth q : ℕ) → returned_at setup (es ++ Depth depth ∷ []) q ≡ returned_at setup es q
-returned-set setup es depth q = returned_kept setup es (Depth depth) refl refl refl refl q
+pub returned-set : (setup : Setup) (es : List Happened) (depth q : ℕ) → requeued_at setup (es ++ Depth depth ∷ []) q ≡ requeued_at setup es q
+returned-set setup es depth q = requeued_kept setup es (Depth depth) refl refl refl refl q
 
 drops : (b was : Bool) (x : Entered) (y : Option Entered) → (b ≡ true → was ≡ false) → cond was (cond b (Some x) y) None ≡ cond was y None
 drops true was x y h = ap (λ w. cond w (Some x) None) (h refl) ∙ sym (ap (λ w. cond w y None) (h refl))
 drops false was x y h = refl
 
-pub returned-released : (setup : Setup) (es : List Happened) (id : ℕ) (bios : List Bio) → IsLegalTrace setup (es ++ Release id bios ∷ []) → (q : ℕ) → returned_at setup (es ++ Release id bios ∷ []) q ≡ returned_at setup es q
+pub returned-released : (setup : Setup) (es : List Happened) (id : ℕ) (bios : List Bio) → IsLegalTrace setup (es ++ Release id bios ∷ []) → (q : ℕ) → requeued_at setup (es ++ Release id bios ∷ []) q ≡ requeued_at setup es q
 returned-released setup es id bios legal q =
     let e : Happened = Release id bios in
     let old = shorter_legal setup es e legal in
     let fresh : was_issued es id ≡ false = never_was es id (λ p. obeys setup es e legal ReleasedTwice (released_first setup es id old p)) in
-    returned_is setup (es ++ e ∷ []) q _ _ (was_kept es e q refl) (waits-released setup es id bios legal q)
+    requeued_is setup (es ++ e ∷ []) q _ _ (was_kept es e q refl) (waits-released setup es id bios legal q)
     ∙ drops (id == q) (was_issued es q) _ (waits_at setup es q) (λ t. subst (λ n. was_issued es n ≡ false) (eqb-true id q t) fresh)
-    ∙ sym (returned_is setup es q _ _ refl refl)
+    ∙ sym (requeued_is setup es q _ _ refl refl)
 
-pub returned-joined : (setup : Setup) (es : List Happened) (id : ℕ) (bios : List Bio) → IsLegalTrace setup (es ++ Join id bios ∷ []) → (w : Entered) → waits_at setup es id ≡ Some w → (q : ℕ) → returned_at setup (es ++ Join id bios ∷ []) q ≡ returned_at setup es q
+pub returned-joined : (setup : Setup) (es : List Happened) (id : ℕ) (bios : List Bio) → IsLegalTrace setup (es ++ Join id bios ∷ []) → (w : Entered) → waits_at setup es id ≡ Some w → (q : ℕ) → requeued_at setup (es ++ Join id bios ∷ []) q ≡ requeued_at setup es q
 returned-joined setup es id bios legal w waits q =
     let e : Happened = Join id bios in
     let fresh : was_issued es id ≡ false = never_was es id (obeys setup es e legal AlreadyIssued) in
-    returned_is setup (es ++ e ∷ []) q _ _ (was_kept es e q refl) (waits-joined setup es id bios legal w waits q)
+    requeued_is setup (es ++ e ∷ []) q _ _ (was_kept es e q refl) (waits-joined setup es id bios legal w waits q)
     ∙ drops (id == q) (was_issued es q) _ (waits_at setup es q) (λ t. subst (λ n. was_issued es n ≡ false) (eqb-true id q t) fresh)
-    ∙ sym (returned_is setup es q _ _ refl refl)
+    ∙ sym (requeued_is setup es q _ _ refl refl)
 
 goes : (b was : Bool) (y : Option Entered) → cond (was || b) (cond b None y) None ≡ cond b None (cond was y None)
 goes true true y = refl
@@ -94,18 +94,18 @@ goes true false y = refl
 goes false true y = refl
 goes false false y = refl
 
-pub returned-issued : (setup : Setup) (es : List Happened) (id tag : ℕ) → IsLegalTrace setup (es ++ Issue id tag ∷ []) → (q : ℕ) → returned_at setup (es ++ Issue id tag ∷ []) q ≡ cond (id == q) None (returned_at setup es q)
+pub returned-issued : (setup : Setup) (es : List Happened) (id tag : ℕ) → IsLegalTrace setup (es ++ Issue id tag ∷ []) → (q : ℕ) → requeued_at setup (es ++ Issue id tag ∷ []) q ≡ cond (id == q) None (requeued_at setup es q)
 returned-issued setup es id tag legal q =
-    returned_is setup (es ++ Issue id tag ∷ []) q _ _ (was_issued_more es (Issue id tag) q) (waits-issued setup es id tag legal q)
+    requeued_is setup (es ++ Issue id tag ∷ []) q _ _ (was_issued_more es (Issue id tag) q) (waits-issued setup es id tag legal q)
     ∙ goes (id == q) (was_issued es q) (waits_at setup es q)
-    ∙ ap (λ o. cond (id == q) None o) (sym (returned_is setup es q _ _ refl refl))
+    ∙ ap (λ o. cond (id == q) None o) (sym (requeued_is setup es q _ _ refl refl))
 
 comes : (b was : Bool) (x : Entered) (y : Option Entered) → (b ≡ true → was ≡ true) → cond was (cond b (Some x) y) None ≡ cond b (Some x) (cond was y None)
 comes true was x y h = ap (λ w. cond w (Some x) None) (h refl)
 comes false was x y h = refl
 
-pub returned-returned : (setup : Setup) (es : List Happened) (tag id : ℕ) → IsLegalTrace setup es → IsOpenBy es tag id → (q : ℕ) → returned_at setup (es ++ Back tag ∷ []) q ≡ cond (id == q) (Some (entry_of setup es id)) (returned_at setup es q)
+pub returned-returned : (setup : Setup) (es : List Happened) (tag id : ℕ) → IsLegalTrace setup es → IsOpenBy es tag id → (q : ℕ) → requeued_at setup (es ++ Back tag ∷ []) q ≡ cond (id == q) (Some (entry_of setup es id)) (requeued_at setup es q)
 returned-returned setup es tag id legal o q =
-    returned_is setup (es ++ Back tag ∷ []) q _ _ (was_kept es (Back tag) q refl) (waits_returned setup es tag id legal o q)
+    requeued_is setup (es ++ Back tag ∷ []) q _ _ (was_kept es (Back tag) q refl) (waits_requeued setup es tag id legal o q)
     ∙ comes (id == q) (was_issued es q) (entry_of setup es id) (waits_at setup es q) (λ b. issued_was es q (subst (IsIssued es) (eqb-true id q b) (open_issued es tag id o)))
-    ∙ ap (λ y. cond (id == q) (Some (entry_of setup es id)) y) (sym (returned_is setup es q _ _ refl refl))
+    ∙ ap (λ y. cond (id == q) (Some (entry_of setup es id)) y) (sym (requeued_is setup es q _ _ refl refl))

@@ -16,19 +16,19 @@ use Rattle.blk_trace.specs.Inside.Allowed.{IsAllowed}
 use Rattle.blk_trace.specs.Waits.{waits_at, unissued_at, waiting_count}
 use Rattle.blk_trace.specs.Inside.Seats.{seat_at}
 use Rattle.blk_trace.specs.Setups.{same_dir}
-use Rattle.blk_sched.specs.Meaning.{Waiting, Meaning, Pending, Picks, HandsBack, opened, handed_back, handed_of}
+use Rattle.blk_sched.specs.Meaning.{Waiting, Meaning, Pending, Picks, RequeuesPick, opened, after_requeue, requeued_of}
 use Rattle.blk_hw.specs.Held.{held_total, held_count}
-use Rattle.blk_core.specs.declared.TagState.{TagState}
-use Rattle.blk_core.specs.declared.TagState.TheVariants.{Free, Flying}
+use Rattle.blk_core.specs.declared.tags.TagState.{TagState}
+use Rattle.blk_core.specs.declared.tags.TagState.TheVariants.{Free, InFlight}
 use Rattle.blk_sched.specs.Policies.{Choice}
 use Rattle.blk_core.specs.Calls.{SendsFrom}
-use Rattle.blk_core.specs.State.{entered_of, returned_at, is_of, IsFlown}
+use Rattle.blk_core.specs.State.{entered_of, requeued_at, is_of, InFlightAs}
 use Rattle.blk_core.specs.Inside.Ties.{IsTied, seat_of, flying}
 use Rattle.blk_core.proofs.Pushed.{IsPushed, same_round, released-issued}
 use Rattle.blk_core.proofs.Waits.{agree_taken, len_taken, still_none}
-use Rattle.blk_core.proofs.Flights.{opened_reads, opened_writes, opened_handed, handed_reads, handed_writes, handed_more, seats_set, queues_set, flown_set}
+use Rattle.blk_core.proofs.Flights.{opened_reads, opened_writes, opened_requeued, requeued_reads, requeued_writes, requeued_more, seats_set, queues_set, flown_set}
 use Rattle.blk_core.proofs.Held.{AreAs, AreOnce, as_same, once_same, none_gone, as_without, once_without, count_without, total_without, first_stands}
-use Rattle.blk_core.proofs.Returned.{returned_from, unissued_not_returned, returned_not_unissued, returned-issued}
+use Rattle.blk_core.proofs.Returned.{requeued_from, unissued_not_requeued, requeued_not_unissued, returned-issued}
 use Rattle.blk_core.proofs.Flown.{flown_kept, flown_issued}
 use Rattle.blk_core.proofs.Opens.{open_by_dir}
 use Rattle.blk_core.proofs.Ties.{old_known, one_longer, tied_at, never_issued, waits_there}
@@ -44,16 +44,16 @@ record IsOpened (m m' : Meaning) (dir : Dir) : Type 0 where
 record IsSent (setup : Setup) (es fs : List Happened) (m' : Meaning) (held' : List (List Waiting)) (rel : ℕ) : Type 0 where
   pending : (q : ℕ) → option_map entered_of (map.get m'.pending q) ≡ unissued_at setup fs q
   fresh : (q : ℕ) → rel < q + 1 → map.get m'.pending q ≡ None
-  are : AreAs (returned_at setup fs) held'
-  once : AreOnce (returned_at setup fs) held'
+  are : AreAs (requeued_at setup fs) held'
+  once : AreOnce (requeued_at setup fs) held'
   count : map.len m'.pending + held_total held' + 1 ≡ waiting_count es
-  handed : (d : Dir) → handed_of d m'.open_picks ≡ held_count (is_of d) held'
+  handed : (d : Dir) → requeued_of d m'.open_picks ≡ held_count (is_of d) held'
   lists : length held' ≡ setup.hw
 
-tied_sent : {A : Type 0} (setup setup' : Setup) (es es' : List Happened) (m m' : Meaning) (fl : List (TagState A)) (held held' : List (List Waiting)) (rel hw tag : ℕ) (w : Waiting) → IsPushed setup es (Issue w.id tag) setup' es' → IsTied setup es m fl held rel → waits_at setup es w.id ≡ Some (entered_of w) → IsOpened m m' (dir_of w.bios) → IsSent setup es (es ++ Issue w.id tag ∷ []) m' held' rel → tag < length fl → get_or fl tag Free ≡ Free → hw < setup.hw → IsTied setup' es' m' (set fl tag (Flying hw w)) held' rel
+tied_sent : {A : Type 0} (setup setup' : Setup) (es es' : List Happened) (m m' : Meaning) (fl : List (TagState A)) (held held' : List (List Waiting)) (rel hw tag : ℕ) (w : Waiting) → IsPushed setup es (Issue w.id tag) setup' es' → IsTied setup es m fl held rel → waits_at setup es w.id ≡ Some (entered_of w) → IsOpened m m' (dir_of w.bios) → IsSent setup es (es ++ Issue w.id tag ∷ []) m' held' rel → tag < length fl → get_or fl tag Free ≡ Free → hw < setup.hw → IsTied setup' es' m' (set fl tag (InFlight hw w)) held' rel
 tied_sent {A} setup setup' es es' m m' fl held held' rel hw tag w p t waits o s lt none small =
     let fs : List Happened = es ++ Issue w.id tag ∷ [] in
-    let f : TagState A = Flying hw w in
+    let f : TagState A = InFlight hw w in
     let r0 : flying Read (get_or fl tag Free) ≡ 0 = ap (flying Read) none in
     let s0 : flying Write (get_or fl tag Free) ≡ 0 = ap (flying Write) none in
     let rs = sum_by-set (flying Read) fl tag f Free lt in
@@ -93,36 +93,36 @@ tied_sent {A} setup setup' es es' m m' fl held held' rel hw tag w p t waits o s 
       room = l ∙ t.room;
       lists = s.lists;
       seats = λ q h. seats_set (seat_at es) (seat_at fs) fl tag f lt t.seats (step.seat-issued setup es w.id tag p.legal (entered_of w) waits) q (omega arith);
-      flown = flown_set (IsFlown setup es) (IsFlown setup fs) fl tag f lt
+      flown = flown_set (InFlightAs setup es) (InFlightAs setup fs) fl tag f lt
           (λ u v ne was. flown_kept setup es (Issue w.id tag) u v p.legal (λ e. absurd (cc)) was)
-          (λ h v e. subst (λ x. IsFlown setup fs tag x) (same_request h v e) (flown_issued setup es tag w p.legal waits))
+          (λ h v e. subst (λ x. InFlightAs setup fs tag x) (same_request h v e) (flown_issued setup es tag w p.legal waits))
           t.flown;
       reads = omega arith;
       writes = omega arith;
       queues = queues_set setup.hw fl tag f lt small t.queues;
     })
   where
-    same_request : (h : ℕ) (v : Waiting) → ◌≡◌ {A = TagState A} (Flying hw w) (Flying h v) → w ≡ v
+    same_request : (h : ℕ) (v : Waiting) → ◌≡◌ {A = TagState A} (InFlight hw w) (InFlight h v) → w ≡ v
     same_request h v e = cc
 
 -- the scheduler's choice goes
-picked_goes : {A : Type 0} (setup : Setup) (es : List Happened) (m m' : Meaning) (fl : List (TagState A)) (held : List (List Waiting)) (rel hw tag : ℕ) (serves : ℕ → Waiting → Bool) (w : Waiting) → (let fs : List Happened = es ++ Issue w.id tag ∷ [] in (q : ℕ) → unissued_at setup fs q ≡ cond (w.id == q) None (unissued_at setup es q)) → (let fs : List Happened = es ++ Issue w.id tag ∷ [] in (q : ℕ) → returned_at setup fs q ≡ cond (w.id == q) None (returned_at setup es q)) → IsTied setup es m fl held rel → Picks serves hw m w m' → IsSent setup es (es ++ Issue w.id tag ∷ []) m' held rel
+picked_goes : {A : Type 0} (setup : Setup) (es : List Happened) (m m' : Meaning) (fl : List (TagState A)) (held : List (List Waiting)) (rel hw tag : ℕ) (serves : ℕ → Waiting → Bool) (w : Waiting) → (let fs : List Happened = es ++ Issue w.id tag ∷ [] in (q : ℕ) → unissued_at setup fs q ≡ cond (w.id == q) None (unissued_at setup es q)) → (let fs : List Happened = es ++ Issue w.id tag ∷ [] in (q : ℕ) → requeued_at setup fs q ≡ cond (w.id == q) None (requeued_at setup es q)) → IsTied setup es m fl held rel → Picks serves hw m w m' → IsSent setup es (es ++ Issue w.id tag ∷ []) m' held rel
 picked_goes setup es m m' fl held rel hw tag serves w unissued returned t picks =
     let fs : List Happened = es ++ Issue w.id tag ∷ [] in
     let mp : m'.pending ≡ map.remove m.pending w.id = ap (λ (x : Meaning). x.pending) picks.2 in
     let mo : m'.open_picks ≡ opened (dir_of w.bios) m.open_picks = ap (λ (x : Meaning). x.open_picks) picks.2 in
-    let none : returned_at setup es w.id ≡ None = unissued_not_returned setup es w.id (entered_of w) (never_issued setup es m fl held rel w.id w t picks.0) in
-    let same : (q : ℕ) → returned_at setup fs q ≡ returned_at setup es q = none_gone (returned_at setup es) (returned_at setup fs) w.id none returned in
+    let none : requeued_at setup es w.id ≡ None = unissued_not_requeued setup es w.id (entered_of w) (never_issued setup es m fl held rel w.id w t picks.0) in
+    let same : (q : ℕ) → requeued_at setup fs q ≡ requeued_at setup es q = none_gone (requeued_at setup es) (requeued_at setup fs) w.id none returned in
     let had = t.holds.count in
     let len = len_taken m.pending w.id w picks.0 in
     let now : map.len m'.pending ≡ map.len (map.remove m.pending w.id) = ap map.len mp in
     record {
       pending = λ q. ap (λ (x : Pending). option_map entered_of (map.get x q)) mp ∙ agree_taken m.pending (unissued_at setup es) (unissued_at setup fs) w.id t.holds.pending unissued q;
       fresh = λ q h. ap (λ (x : Pending). map.get x q) mp ∙ still_none m.pending w.id q (t.fresh q (omega arith));
-      are = as_same (returned_at setup es) (returned_at setup fs) held same t.holds.returned;
-      once = once_same (returned_at setup es) (returned_at setup fs) held same t.holds.held_once;
+      are = as_same (requeued_at setup es) (requeued_at setup fs) held same t.holds.returned;
+      once = once_same (requeued_at setup es) (requeued_at setup fs) held same t.holds.held_once;
       count = omega arith;
-      handed = λ d. ap (handed_of d) mo ∙ opened_handed d (dir_of w.bios) m.open_picks ∙ t.holds.handed d;
+      handed = λ d. ap (requeued_of d) mo ∙ opened_requeued d (dir_of w.bios) m.open_picks ∙ t.holds.handed d;
       lists = t.lists;
     }
 
@@ -134,35 +134,35 @@ picked_opened serves hw m m' w picks = record {
 }
 
 -- the first of a held list goes
-again_goes : {A : Type 0} (setup : Setup) (es : List Happened) (m m' : Meaning) (fl : List (TagState A)) (held : List (List Waiting)) (rel hw tag : ℕ) (w : Waiting) (rest : List Waiting) → (let fs : List Happened = es ++ Issue w.id tag ∷ [] in (q : ℕ) → unissued_at setup fs q ≡ cond (w.id == q) None (unissued_at setup es q)) → (let fs : List Happened = es ++ Issue w.id tag ∷ [] in (q : ℕ) → returned_at setup fs q ≡ cond (w.id == q) None (returned_at setup es q)) → IsTied setup es m fl held rel → hw < length held → get_or held hw [] ≡ w ∷ rest → HandsBack (dir_of w.bios) m' m → IsSent setup es (es ++ Issue w.id tag ∷ []) m' (set held hw rest) rel
+again_goes : {A : Type 0} (setup : Setup) (es : List Happened) (m m' : Meaning) (fl : List (TagState A)) (held : List (List Waiting)) (rel hw tag : ℕ) (w : Waiting) (rest : List Waiting) → (let fs : List Happened = es ++ Issue w.id tag ∷ [] in (q : ℕ) → unissued_at setup fs q ≡ cond (w.id == q) None (unissued_at setup es q)) → (let fs : List Happened = es ++ Issue w.id tag ∷ [] in (q : ℕ) → requeued_at setup fs q ≡ cond (w.id == q) None (requeued_at setup es q)) → IsTied setup es m fl held rel → hw < length held → get_or held hw [] ≡ w ∷ rest → RequeuesPick (dir_of w.bios) m' m → IsSent setup es (es ++ Issue w.id tag ∷ []) m' (set held hw rest) rel
 again_goes setup es m m' fl held rel hw tag w rest unissued returned t lt is back =
     let fs : List Happened = es ++ Issue w.id tag ∷ [] in
     let mp : m'.pending ≡ m.pending = sym (ap (λ (x : Meaning). x.pending) back) in
-    let stands : returned_at setup es w.id ≡ Some (entered_of w) = t.holds.returned hw 0 w (first_stands held hw w rest is) in
-    let same : (q : ℕ) → unissued_at setup fs q ≡ unissued_at setup es q = none_gone (unissued_at setup es) (unissued_at setup fs) w.id (returned_not_unissued setup es w.id (entered_of w) stands) unissued in
+    let stands : requeued_at setup es w.id ≡ Some (entered_of w) = t.holds.returned hw 0 w (first_stands held hw w rest is) in
+    let same : (q : ℕ) → unissued_at setup fs q ≡ unissued_at setup es q = none_gone (unissued_at setup es) (unissued_at setup fs) w.id (requeued_not_unissued setup es w.id (entered_of w) stands) unissued in
     let had = t.holds.count in
     let len : map.len m'.pending ≡ map.len m.pending = ap map.len mp in
     let fewer = total_without held hw w rest lt is in
     record {
       pending = λ q. ap (λ (x : Pending). option_map entered_of (map.get x q)) mp ∙ t.holds.pending q ∙ sym (same q);
       fresh = λ q h. ap (λ (x : Pending). map.get x q) mp ∙ t.fresh q (omega arith);
-      are = as_without (returned_at setup es) (returned_at setup fs) held hw w rest lt is returned t.holds.returned t.holds.held_once;
-      once = once_without (returned_at setup es) (returned_at setup fs) held hw w rest lt is returned t.holds.returned t.holds.held_once;
+      are = as_without (requeued_at setup es) (requeued_at setup fs) held hw w rest lt is returned t.holds.returned t.holds.held_once;
+      once = once_without (requeued_at setup es) (requeued_at setup fs) held hw w rest lt is returned t.holds.returned t.holds.held_once;
       count = omega arith;
       handed = λ d.
-          let picks : handed_of d (opened (dir_of w.bios) m.open_picks) ≡ handed_of d (handed_back (dir_of w.bios) m'.open_picks) = ap (λ (x : Meaning). handed_of d x.open_picks) back in
-          let before = opened_handed d (dir_of w.bios) m.open_picks in
-          let after = handed_more d (dir_of w.bios) m'.open_picks in
+          let picks : requeued_of d (opened (dir_of w.bios) m.open_picks) ≡ requeued_of d (after_requeue (dir_of w.bios) m'.open_picks) = ap (λ (x : Meaning). requeued_of d x.open_picks) back in
+          let before = opened_requeued d (dir_of w.bios) m.open_picks in
+          let after = requeued_more d (dir_of w.bios) m'.open_picks in
           let counts = count_without (is_of d) held hw w rest lt is in
           let was = t.holds.handed d in
           omega arith;
       lists = length-set held hw rest ∙ t.lists;
     }
 
-again_opened : (m m' : Meaning) (dir : Dir) → HandsBack dir m' m → IsOpened m m' dir
+again_opened : (m m' : Meaning) (dir : Dir) → RequeuesPick dir m' m → IsOpened m m' dir
 again_opened m m' dir back = record {
-  reads = sym (handed_reads dir m'.open_picks) ∙ sym (ap (λ (x : Meaning). x.open_picks.reads) back) ∙ opened_reads dir m.open_picks;
-  writes = sym (handed_writes dir m'.open_picks) ∙ sym (ap (λ (x : Meaning). x.open_picks.writes) back) ∙ opened_writes dir m.open_picks;
+  reads = sym (requeued_reads dir m'.open_picks) ∙ sym (ap (λ (x : Meaning). x.open_picks.reads) back) ∙ opened_reads dir m.open_picks;
+  writes = sym (requeued_writes dir m'.open_picks) ∙ sym (ap (λ (x : Meaning). x.open_picks.writes) back) ∙ opened_writes dir m.open_picks;
   round = sym (ap (λ (x : Meaning). x.round) back);
 }
 
@@ -170,19 +170,19 @@ again_opened m m' dir back = record {
 pub sent_waits : {A : Type 0} (setup : Setup) (es : List Happened) (m m' : Meaning) (fl : List (TagState A)) (held held' : List (List Waiting)) (rel : ℕ) (serves : ℕ → Waiting → Bool) (chooses : Choice) (kept kept' : List ℕ) (hw round : ℕ) (w : Waiting) (own : List Waiting) → IsTied setup es m fl held rel → get_or held hw [] ≡ own → SendsFrom serves chooses hw round own m kept held w m' kept' held' → waits_at setup es w.id ≡ Some (entered_of w)
 sent_waits setup es m m' fl held held' rel serves chooses kept kept' hw round w [] t is sends = waits_there setup es m fl held rel w.id w t sends.0.0
 sent_waits setup es m m' fl held held' rel serves chooses kept kept' hw round w (first ∷ rest) t is sends =
-    (returned_from setup es w.id (entered_of w) (t.holds.returned hw 0 w (first_stands held hw w rest (is ∙ ap (λ x. x ∷ rest) sends.0)))).1
+    (requeued_from setup es w.id (entered_of w) (t.holds.returned hw 0 w (first_stands held hw w rest (is ∙ ap (λ x. x ∷ rest) sends.0)))).1
 
 -- after an issue the core is tied
-pub tied_issue : {A : Type 0} (setup setup' : Setup) (es es' : List Happened) (m m' : Meaning) (fl : List (TagState A)) (held held' : List (List Waiting)) (rel : ℕ) (serves : ℕ → Waiting → Bool) (chooses : Choice) (kept kept' : List ℕ) (hw round tag : ℕ) (w : Waiting) (own : List Waiting) → IsPushed setup es (Issue w.id tag) setup' es' → IsTied setup es m fl held rel → get_or held hw [] ≡ own → SendsFrom serves chooses hw round own m kept held w m' kept' held' → tag < length fl → get_or fl tag Free ≡ Free → hw < setup.hw → IsTied setup' es' m' (set fl tag (Flying hw w)) held' rel
+pub tied_issue : {A : Type 0} (setup setup' : Setup) (es es' : List Happened) (m m' : Meaning) (fl : List (TagState A)) (held held' : List (List Waiting)) (rel : ℕ) (serves : ℕ → Waiting → Bool) (chooses : Choice) (kept kept' : List ℕ) (hw round tag : ℕ) (w : Waiting) (own : List Waiting) → IsPushed setup es (Issue w.id tag) setup' es' → IsTied setup es m fl held rel → get_or held hw [] ≡ own → SendsFrom serves chooses hw round own m kept held w m' kept' held' → tag < length fl → get_or fl tag Free ≡ Free → hw < setup.hw → IsTied setup' es' m' (set fl tag (InFlight hw w)) held' rel
 tied_issue {A} setup setup' es es' m m' fl held held' rel serves chooses kept kept' hw round tag w [] p t is sends lt none small =
     let waits = sent_waits setup es m m' fl held held' rel serves chooses kept kept' hw round w [] t is sends in
-    subst (λ x. IsTied setup' es' m' (set fl tag (Flying hw w)) x rel) (sym sends.2)
+    subst (λ x. IsTied setup' es' m' (set fl tag (InFlight hw w)) x rel) (sym sends.2)
     (tied_sent setup setup' es es' m m' fl held held rel hw tag w p t waits (picked_opened serves hw m m' w sends.0)
     (picked_goes setup es m m' fl held rel hw tag serves w (step.unissued-issued setup es w.id tag p.legal) (returned-issued setup es w.id tag p.legal) t sends.0) lt none small)
 tied_issue {A} setup setup' es es' m m' fl held held' rel serves chooses kept kept' hw round tag w (first ∷ rest) p t is sends lt none small =
     let waits = sent_waits setup es m m' fl held held' rel serves chooses kept kept' hw round w (first ∷ rest) t is sends in
     let lists = t.lists in
-    subst (λ x. IsTied setup' es' m' (set fl tag (Flying hw w)) x rel) (sym sends.3)
+    subst (λ x. IsTied setup' es' m' (set fl tag (InFlight hw w)) x rel) (sym sends.3)
     (tied_sent setup setup' es es' m m' fl held (set held hw rest) rel hw tag w p t waits (again_opened m m' (dir_of w.bios) sends.1)
     (again_goes setup es m m' fl held rel hw tag w rest (step.unissued-issued setup es w.id tag p.legal) (returned-issued setup es w.id tag p.legal) t (omega arith) (is ∙ ap (λ x. x ∷ rest) sends.0) sends.1) lt none small)
 

@@ -28,11 +28,11 @@ use Rattle.blk_trace.specs.Inside.Allowed.{IsAllowed}
 use Rattle.blk_trace.specs.Waits.{has_id, waits_at, was_issued, unissued_at, waiting_count, released_count}
 use Rattle.blk_trace.specs.Setups.{same_dir}
 use Rattle.blk_sched.specs.declared.picks.TheConstants.{MAX_OPEN}
-use Rattle.blk_sched.specs.Meaning.{Waiting, Meaning, Pending, OpenPicks, Joins, open_of as open_picks_of, handed_of, no_picks, at_start, unfinished, joined_waiting}
+use Rattle.blk_sched.specs.Meaning.{Waiting, Meaning, Pending, OpenPicks, Joins, open_of as open_picks_of, requeued_of, no_picks, at_start, unfinished, joined_waiting}
 use Rattle.blk_hw.specs.Held.{held_total}
-use Rattle.blk_core.specs.declared.TagState.{TagState}
-use Rattle.blk_core.specs.declared.TagState.TheVariants.{Free, Flying, Spent}
-use Rattle.blk_core.specs.State.{Flight, CoreState, entered_of, returned_at, is_of, is_named, IsFlown}
+use Rattle.blk_core.specs.declared.tags.TagState.{TagState}
+use Rattle.blk_core.specs.declared.tags.TagState.TheVariants.{Free, InFlight, Spent}
+use Rattle.blk_core.specs.State.{Flight, CoreState, entered_of, requeued_at, is_of, is_named, InFlightAs}
 use Rattle.blk_core.specs.Opens.{open_issues, open_issues_of}
 use Rattle.blk_core.specs.Inside.Ties.{IsTied, flight_of, seat_of, queue_of, flying}
 use Rattle.blk_core.proofs.Pushed.{IsPushed, get_more, same_round, round_more, released-released, released-joined, released-ticked, released-set}
@@ -94,7 +94,7 @@ tied_release setup setup' es es' m m' fl held rel bios w p t is m_is =
     let more = released-released es rel bios in
     let next = t.next in
     let few = t.few in
-    let same : (q : ℕ) → returned_at setup fs q ≡ returned_at setup es q = λ q. returned-released setup es rel bios p.legal q in
+    let same : (q : ℕ) → requeued_at setup fs q ≡ requeued_at setup es q = λ q. returned-released setup es rel bios p.legal q in
     tied_at setup setup' es es' (Release rel bios) m' fl held (rel + 1) p
     (subst (λ x. IsTied setup fs x fl held (rel + 1)) (sym m_is)
     (record {
@@ -103,8 +103,8 @@ tied_release setup setup' es es' m m' fl held rel bios w p t is m_is =
       holds = record {
         pending = agree_given m.pending (unissued_at setup es) (unissued_at setup fs) rel w t.holds.pending
             (λ q. subst (λ x. unissued_at setup fs q ≡ cond (rel == q) (Some x) (unissued_at setup es q)) (sym is) (step.unissued-released setup es rel bios p.legal q));
-        returned = as_same (returned_at setup es) (returned_at setup fs) held same t.holds.returned;
-        held_once = once_same (returned_at setup es) (returned_at setup fs) held same t.holds.held_once;
+        returned = as_same (requeued_at setup es) (requeued_at setup fs) held same t.holds.returned;
+        held_once = once_same (requeued_at setup es) (requeued_at setup fs) held same t.holds.held_once;
         count = omega arith;
         reads = opens_same setup es fs Read m.open_picks.reads t.legal p.legal (step.open-released setup es rel bios p.legal Read) t.holds.reads;
         writes = opens_same setup es fs Write m.open_picks.writes t.legal p.legal (step.open-released setup es rel bios p.legal Write) t.holds.writes;
@@ -141,7 +141,7 @@ tied_join setup setup' es es' m m' fl held rel serves hw now bios id side p t no
     let more = released-joined es id bios in
     let next = t.next in
     let few = t.few in
-    let same : (q : ℕ) → returned_at setup fs q ≡ returned_at setup es q = λ q. returned-joined setup es id bios p.legal (entered_of w) waits q in
+    let same : (q : ℕ) → requeued_at setup fs q ≡ requeued_at setup es q = λ q. returned-joined setup es id bios p.legal (entered_of w) waits q in
     tied_at setup setup' es es' (Join id bios) m' fl held rel p
     (subst (λ x. IsTied setup fs x fl held rel) (sym joins.2)
     (record {
@@ -150,8 +150,8 @@ tied_join setup setup' es es' m m' fl held rel serves hw now bios id side p t no
       holds = record {
         pending = agree_given m.pending (unissued_at setup es) (unissued_at setup fs) id new t.holds.pending
             (λ q. subst (λ x. unissued_at setup fs q ≡ cond (id == q) (Some x) (unissued_at setup es q)) (sym is) (step.unissued-joined setup es id bios p.legal (entered_of w) waits q));
-        returned = as_same (returned_at setup es) (returned_at setup fs) held same t.holds.returned;
-        held_once = once_same (returned_at setup es) (returned_at setup fs) held same t.holds.held_once;
+        returned = as_same (requeued_at setup es) (requeued_at setup fs) held same t.holds.returned;
+        held_once = once_same (requeued_at setup es) (requeued_at setup fs) held same t.holds.held_once;
         count = omega arith;
         reads = opens_same setup es fs Read m.open_picks.reads t.legal p.legal (step.open-joined setup es id bios p.legal Read) t.holds.reads;
         writes = opens_same setup es fs Write m.open_picks.writes t.legal p.legal (step.open-joined setup es id bios p.legal Write) t.holds.writes;
@@ -175,15 +175,15 @@ tied_join setup setup' es es' m m' fl held rel serves hw now bios id side p t no
     elsewhere q h e = let a : map.get m.pending q ≡ None = t.fresh q h in let b : map.get m.pending id ≡ Some joins.0 = joins.1.pending in let c : map.get m.pending id ≡ map.get m.pending q = ap (map.get m.pending) e in cc
 
 -- the seat of a tag whose command is in flight
-pub seated : {A : Type 0} (setup : Setup) (es : List Happened) (m : Meaning) (fl : List (TagState A)) (held : List (List Waiting)) (rel tag hw : ℕ) (w : Waiting) → IsTied setup es m fl held rel → tag < length fl → get_or fl tag Free ≡ Flying hw w → seat_at es tag ≡ Some (record { dir = dir_of w.bios; in_flight = true })
+pub seated : {A : Type 0} (setup : Setup) (es : List Happened) (m : Meaning) (fl : List (TagState A)) (held : List (List Waiting)) (rel tag hw : ℕ) (w : Waiting) → IsTied setup es m fl held rel → tag < length fl → get_or fl tag Free ≡ InFlight hw w → seat_at es tag ≡ Some (record { dir = dir_of w.bios; in_flight = true })
 seated setup es m fl held rel tag hw w t lt at = sym (t.seats tag lt) ∙ ap seat_of at
 
 -- what the code reads under a tag
-pub read_at : {A : Type 0} (fl : List (TagState A)) (tag hw : ℕ) (seen : TagState A) (w : Waiting) → tag < length fl → seen ≡ get_or fl tag seen → seen ≡ Flying hw w → get_or fl tag Free ≡ Flying hw w
+pub read_at : {A : Type 0} (fl : List (TagState A)) (tag hw : ℕ) (seen : TagState A) (w : Waiting) → tag < length fl → seen ≡ get_or fl tag seen → seen ≡ InFlight hw w → get_or fl tag Free ≡ InFlight hw w
 read_at fl tag hw seen w lt e is = any_default fl tag Free seen lt ∙ sym e ∙ is
 
 -- a pick of its direction is open
-pub open_flight : {A : Type 0} (setup : Setup) (es : List Happened) (m : Meaning) (fl : List (TagState A)) (held : List (List Waiting)) (rel tag hw : ℕ) (w : Waiting) → IsTied setup es m fl held rel → tag < length fl → get_or fl tag Free ≡ Flying hw w → 0 < open_picks_of (dir_of w.bios) m.open_picks
+pub open_flight : {A : Type 0} (setup : Setup) (es : List Happened) (m : Meaning) (fl : List (TagState A)) (held : List (List Waiting)) (rel tag hw : ℕ) (w : Waiting) → IsTied setup es m fl held rel → tag < length fl → get_or fl tag Free ≡ InFlight hw w → 0 < open_picks_of (dir_of w.bios) m.open_picks
 open_flight {A} setup es m fl held rel tag hw w t lt at = by_dir (dir_of w.bios) refl
   where
     by_dir : (d : Dir) → dir_of w.bios ≡ d → 0 < open_picks_of d m.open_picks
@@ -200,7 +200,7 @@ open_flight {A} setup es m fl held rel tag hw w t lt at = by_dir (dir_of w.bios)
 few_of : {A : Type 0} (count : ℕ) (s : TagState A) → 0 < count → s ≡ Free → queue_of s < count
 few_of count s some is = let q : queue_of s ≡ 0 = ap queue_of is in omega arith
 
-none_flown : {A : Type 0} (P : Type 0) (s : TagState A) (hw : ℕ) (w : Waiting) → s ≡ Free → s ≡ Flying hw w → P
+none_flown : {A : Type 0} (P : Type 0) (s : TagState A) (hw : ℕ) (w : Waiting) → s ≡ Free → s ≡ InFlight hw w → P
 none_flown P s hw w is at = absurd (cc)
 
 -- after a tick the core is tied
@@ -223,7 +223,7 @@ tied_tick {A} setup setup' es es' m m' fl fl' held rel now p t m_is now_is fl_is
     let more = released-ticked es in
     let next = t.next in
     let few = t.few in
-    let same : (q : ℕ) → returned_at setup fs q ≡ returned_at setup es q = λ q. returned-ticked setup es q in
+    let same : (q : ℕ) → requeued_at setup fs q ≡ requeued_at setup es q = λ q. returned-ticked setup es q in
     tied_at setup setup' es es' Tick m' fl' held rel p
     (subst (λ x. IsTied setup fs x fl' held rel) (sym m_is)
     (subst (λ x. IsTied setup fs (record m { round = now }) x held rel) (sym fl_is)
@@ -232,8 +232,8 @@ tied_tick {A} setup setup' es es' m m' fl fl' held rel now p t m_is now_is fl_is
       ranges = t.ranges;
       holds = record {
         pending = λ q. t.holds.pending q ∙ sym (step.unissued-ticked setup es p.legal q);
-        returned = as_same (returned_at setup es) (returned_at setup fs) held same t.holds.returned;
-        held_once = once_same (returned_at setup es) (returned_at setup fs) held same t.holds.held_once;
+        returned = as_same (requeued_at setup es) (requeued_at setup fs) held same t.holds.returned;
+        held_once = once_same (requeued_at setup es) (requeued_at setup fs) held same t.holds.held_once;
         count = t.holds.count ∙ sym count;
         reads = omega arith;
         writes = omega arith;
@@ -247,7 +247,7 @@ tied_tick {A} setup setup' es es' m m' fl fl' held rel now p t m_is now_is fl_is
       room = l ∙ t.room;
       lists = t.lists;
       seats = λ q h. ap seat_of (all_free A n q) ∙ sym (step.seat-ticked setup es p.legal q);
-      flown = λ q h v at. none_flown (IsFlown setup fs q v) (get_or (replicate n (unused {A = A})) q Free) h v (all_free A n q) at;
+      flown = λ q h v at. none_flown (InFlightAs setup fs q v) (get_or (replicate n (unused {A = A})) q Free) h v (all_free A n q) at;
       reads = omega arith;
       writes = omega arith;
       queues = λ q. few_of setup.hw (get_or (replicate n (unused {A = A})) q Free) t.ranges.some_queues (all_free A n q);
@@ -263,15 +263,15 @@ tied_set setup setup' es es' m fl held rel depth p t =
     let more = released-set es depth in
     let next = t.next in
     let few = t.few in
-    let same : (q : ℕ) → returned_at setup fs q ≡ returned_at setup es q = λ q. returned-set setup es depth q in
+    let same : (q : ℕ) → requeued_at setup fs q ≡ requeued_at setup es q = λ q. returned-set setup es depth q in
     tied_at setup setup' es es' e m fl held rel p
     (record {
       legal = p.legal;
       ranges = t.ranges;
       holds = record {
         pending = λ q. t.holds.pending q ∙ sym (unissued_kept setup es e refl refl refl refl q);
-        returned = as_same (returned_at setup es) (returned_at setup fs) held same t.holds.returned;
-        held_once = once_same (returned_at setup es) (returned_at setup fs) held same t.holds.held_once;
+        returned = as_same (requeued_at setup es) (requeued_at setup fs) held same t.holds.returned;
+        held_once = once_same (requeued_at setup es) (requeued_at setup fs) held same t.holds.held_once;
         count = t.holds.count ∙ sym count;
         reads = opens_same setup es fs Read m.open_picks.reads t.legal p.legal (open_kept setup es e p.legal refl refl refl Read) t.holds.reads;
         writes = opens_same setup es fs Write m.open_picks.writes t.legal p.legal (open_kept setup es e p.legal refl refl refl Write) t.holds.writes;
@@ -296,9 +296,9 @@ no_waits : (setup : Setup) (q : ℕ) → unissued_at setup [] q ≡ None
 unfolding unissued_at waits_at was_issued released_ids
 no_waits setup q = refl
 
-none_returned : (setup : Setup) (q : ℕ) → returned_at setup [] q ≡ None
-unfolding returned_at was_issued
-none_returned setup q = refl
+none_requeued : (setup : Setup) (q : ℕ) → requeued_at setup [] q ≡ None
+unfolding requeued_at was_issued
+none_requeued setup q = refl
 
 no_count : waiting_count [] ≡ 0
 unfolding waiting_ids released_ids issued_ids served rising
@@ -327,9 +327,9 @@ start_parts m is = (ap (λ (x : Meaning). x.pending) is, ap (λ (x : Meaning). x
 abbrev nothing : List Waiting
 nothing = []
 
-handed_first : (d : Dir) (p : OpenPicks) → p ≡ no_picks → handed_of d p ≡ 0
-handed_first Read p is = ap (λ (x : OpenPicks). x.handed_reads) is
-handed_first Write p is = ap (λ (x : OpenPicks). x.handed_writes) is
+handed_first : (d : Dir) (p : OpenPicks) → p ≡ no_picks → requeued_of d p ≡ 0
+handed_first Read p is = ap (λ (x : OpenPicks). x.requeued_reads) is
+handed_first Write p is = ap (λ (x : OpenPicks). x.requeued_writes) is
 
 at_first : {A : Type 0} (setup : Setup) (m : Meaning) (n k : ℕ) → m ≡ at_start m.front → IsSetup setup → n ≡ setup.depth → k ≡ setup.hw → IsTied setup [] m (replicate n (unused {A = A})) (replicate k nothing) 0
 at_first {A} setup m n k start ranges d h_is =
@@ -347,7 +347,7 @@ at_first {A} setup m n k start ranges d h_is =
       holds = record {
         pending = λ q. ap (λ (x : Pending). option_map entered_of (map.get x q)) parts.0 ∙ ap (option_map entered_of) (map.get-empty nat_cmp q) ∙ sym (no_waits setup q);
         returned = λ hw j v at. absurd (let e : ◌≡◌ {A = Option Waiting} None (Some v) = ap (λ l. slice_get l j) (sym (empty_list k hw)) ∙ at in cc);
-        held_once = λ q. none_counted (is_named q) k ∙ sym (ap (λ o. cond (is_some o) 1 0) (none_returned setup q));
+        held_once = λ q. none_counted (is_named q) k ∙ sym (ap (λ o. cond (is_some o) 1 0) (none_requeued setup q));
         count = omega arith;
         reads = r ∙ sym (none_open Read);
         writes = w ∙ sym (none_open Write);
@@ -361,7 +361,7 @@ at_first {A} setup m n k start ranges d h_is =
       room = length-replicate n (unused {A = A}) ∙ d;
       lists = length-replicate k nothing ∙ h_is;
       seats = λ q h. ap seat_of (all_free A n q) ∙ sym (no_seat q);
-      flown = λ q h v at. none_flown (IsFlown setup [] q v) (get_or (replicate n (unused {A = A})) q Free) h v (all_free A n q) at;
+      flown = λ q h v at. none_flown (InFlightAs setup [] q v) (get_or (replicate n (unused {A = A})) q Free) h v (all_free A n q) at;
       reads = omega arith;
       writes = omega arith;
       queues = λ q. few_of setup.hw (get_or (replicate n (unused {A = A})) q Free) ranges.some_queues (all_free A n q);
@@ -407,27 +407,27 @@ free_slot {A} setup es m fl held rel tag t lt free = by_state (get_or fl tag Fre
   where
     by_state : (s : TagState A) → seat_of s ≡ None → s ≡ Free
     by_state Free e = refl
-    by_state (Flying hw w) e = absurd (cc)
+    by_state (InFlight hw w) e = absurd (cc)
     by_state (Spent d) e = absurd (cc)
 
 -- the requests that were handed back are those that are held, and as many wait
-pub all_handed : {A : Type 0} (setup : Setup) (es : List Happened) (m : Meaning) (fl : List (TagState A)) (held : List (List Waiting)) (rel : ℕ) → IsTied setup es m fl held rel → m.open_picks.handed_reads + m.open_picks.handed_writes ≡ held_total held
-all_handed setup es m fl held rel t = let r = t.holds.handed Read in let w = t.holds.handed Write in let all = by_dirs held in omega arith
+pub all_requeued : {A : Type 0} (setup : Setup) (es : List Happened) (m : Meaning) (fl : List (TagState A)) (held : List (List Waiting)) (rel : ℕ) → IsTied setup es m fl held rel → m.open_picks.requeued_reads + m.open_picks.requeued_writes ≡ held_total held
+all_requeued setup es m fl held rel t = let r = t.holds.handed Read in let w = t.holds.handed Write in let all = by_dirs held in omega arith
 
 -- no more wait than were released
 few_wait : (es : List Happened) → waiting_count es ≤ released_count es
 few_wait es = let is = waiting_is es in let few = count_by-le-length (λ id. not (has_id (issued_ids es) id)) (released_ids es) in omega arith
 
 -- how many wait
-pub pending_is : {A : Type 0} (setup : Setup) (es : List Happened) (m : Meaning) (fl : List (TagState A)) (held : List (List Waiting)) (rel pending reads writes : ℕ) → IsTied setup es m fl held rel → pending ≡ map.len m.pending → reads ≡ handed_of Read m.open_picks → writes ≡ handed_of Write m.open_picks → (pending + (reads + writes) ≡ waiting_count es) × (waiting_count es ≤ length es)
+pub pending_is : {A : Type 0} (setup : Setup) (es : List Happened) (m : Meaning) (fl : List (TagState A)) (held : List (List Waiting)) (rel pending reads writes : ℕ) → IsTied setup es m fl held rel → pending ≡ map.len m.pending → reads ≡ requeued_of Read m.open_picks → writes ≡ requeued_of Write m.open_picks → (pending + (reads + writes) ≡ waiting_count es) × (waiting_count es ≤ length es)
 pending_is setup es m fl held rel pending reads writes t p r w =
-    let all = all_handed setup es m fl held rel t in let count = t.holds.count in let few = few_wait es in let next = t.next in let known = t.few in
+    let all = all_requeued setup es m fl held rel t in let count = t.holds.count in let few = few_wait es in let next = t.next in let known = t.few in
     (omega arith, omega arith)
 
 -- a pick is open where an Issue is, and handed back where a request is held
 pub open_issue : {A : Type 0} (setup : Setup) (es : List Happened) (m : Meaning) (fl : List (TagState A)) (held : List (List Waiting)) (rel : ℕ) (P : Type 0) → IsTied setup es m fl held rel → (0 < unfinished m.open_picks) ⊎ P → (0 < open_count es) ⊎ (0 < held_total held) ⊎ P
 open_issue setup es m fl held rel P t h =
-    let both = step.open-both setup es t.legal in let r = t.holds.reads in let w = t.holds.writes in let all = all_handed setup es m fl held rel t in
+    let both = step.open-both setup es t.legal in let r = t.holds.reads in let w = t.holds.writes in let all = all_requeued setup es m fl held rel t in
     let br = open_by_dir setup es Read t.legal in let bw = open_by_dir setup es Write t.legal in
     elim h [
       | inl o ↦ elim (cases_lt 0 (open_count es)) [ inl a ↦ inl a | inr b ↦ inr (inl (omega arith)) ]
@@ -452,26 +452,26 @@ slot_used {A} setup es m fl held rel tag seen t lt e other =
   where
     by_state : (s : TagState A) → (s ≡ Free → ⊥) → is_some (seat_of s) ≡ true
     by_state Free n = absurd (n refl)
-    by_state (Flying hw w) n = refl
+    by_state (InFlight hw w) n = refl
     by_state (Spent d) n = refl
 
 -- an Issue is open under a tag whose command is in flight, and under no other
-pub flying_open : {A : Type 0} (setup : Setup) (es : List Happened) (m : Meaning) (fl : List (TagState A)) (held : List (List Waiting)) (rel tag hw : ℕ) (w : Waiting) → IsTied setup es m fl held rel → get_or fl tag Free ≡ Flying hw w → IsOpen es tag
+pub flying_open : {A : Type 0} (setup : Setup) (es : List Happened) (m : Meaning) (fl : List (TagState A)) (held : List (List Waiting)) (rel tag hw : ℕ) (w : Waiting) → IsTied setup es m fl held rel → get_or fl tag Free ≡ InFlight hw w → IsOpen es tag
 flying_open setup es m fl held rel tag hw w t at = by_open es tag w.id (t.flown tag hw w at).by
 
 abbrev flies_now : Option RoundSeat → Bool
 flies_now None = false
 flies_now (Some seat) = seat.in_flight
 
-pub not_flying : {A : Type 0} (setup : Setup) (es : List Happened) (m : Meaning) (fl : List (TagState A)) (held : List (List Waiting)) (rel tag : ℕ) (seen : TagState A) → IsTied setup es m fl held rel → tag < length fl → seen ≡ get_or fl tag seen → ((hw : ℕ) (w : Waiting) → seen ≡ Flying hw w → ⊥) → IsOpen es tag → ⊥
+pub not_flying : {A : Type 0} (setup : Setup) (es : List Happened) (m : Meaning) (fl : List (TagState A)) (held : List (List Waiting)) (rel tag : ℕ) (seen : TagState A) → IsTied setup es m fl held rel → tag < length fl → seen ≡ get_or fl tag seen → ((hw : ℕ) (w : Waiting) → seen ≡ InFlight hw w → ⊥) → IsOpen es tag → ⊥
 not_flying {A} setup es m fl held rel tag seen t lt e other o =
     let seat = open_seat setup es tag t.legal o in
     let flies : flies_now (seat_of seen) ≡ true = ap flies_now (ap seat_of (e ∙ any_default fl tag seen Free lt) ∙ t.seats tag lt ∙ seat.1) in
     by_state seen other flies
   where
-    by_state : (s : TagState A) → ((hw : ℕ) (w : Waiting) → s ≡ Flying hw w → ⊥) → flies_now (seat_of s) ≡ true → ⊥
+    by_state : (s : TagState A) → ((hw : ℕ) (w : Waiting) → s ≡ InFlight hw w → ⊥) → flies_now (seat_of s) ≡ true → ⊥
     by_state Free n f = absurd (let x : false ≡ true = f in cc)
-    by_state (Flying hw w) n f = n hw w refl
+    by_state (InFlight hw w) n f = n hw w refl
     by_state (Spent d) n f = absurd (let x : false ≡ true = f in cc)
 
 -- past the tags none is open

@@ -1,22 +1,21 @@
 -- What the calls of a core do.
 use Rattle.std.specs.Prelude.{ℕ, ◌+◌, ◌-◌, ◌≡◌, ◌<◌, ◌⊎◌, ◌++◌, ◌∷◌, [], Bool, List, Option, None, Some, slice_get, slice_set}
 use Rattle.std.specs.FinMap as map
-use Rattle.blk_bio.specs.declared.bio.Dir.{Dir}
 use Rattle.blk_bio.specs.Bios.{Bio}
 use Rattle.blk_bio.specs.Requests.{dir_of}
-use Rattle.edd_check.specs.declared.Command.{Command}
+use Rattle.edd_commands.specs.declared.Command.{Command}
 use Rattle.blk_trace.specs.Setups.{expire_of}
 use Rattle.blk_trace.specs.Happened.{Happened}
 use Rattle.blk_trace.specs.declared.event.Event.TheVariants.{Tick, Release, Join, Issue, Done, Back, Depth}
 use Rattle.blk_trace.specs.Events.{round_of, open_count}
 use Rattle.blk_trace.specs.Meaning.{commands_of}
 use Rattle.blk_trace.specs.Waits.{released_count}
-use Rattle.blk_sched.specs.Meaning.{Waiting, Meaning, HasNoCandidate, ServesNothing, Picks, HandsBack, Joins, opened}
+use Rattle.blk_sched.specs.Meaning.{Waiting, Meaning, HasNoCandidate, ServesNothing, Picks, RequeuesPick, Joins, opened}
 use Rattle.blk_sched.specs.Policies.{Choice, OfDone, OfTick}
 use Rattle.blk_hw.specs.Held.{held_in, held_total}
-use Rattle.blk_core.specs.declared.Placed.{Placed}
-use Rattle.blk_core.specs.declared.Placed.TheVariants.{New, Joined as JoinedTo}
-use Rattle.blk_core.specs.State.{Flight, CoreState, IsFlown}
+use Rattle.blk_core.specs.declared.calls.Placed.{Placed}
+use Rattle.blk_core.specs.declared.calls.Placed.TheVariants.{New, Joined as JoinedTo}
+use Rattle.blk_core.specs.State.{Flight, CoreState, InFlightAs}
 
 -- one more event, and nothing else in the trace
 abbrev pub AddsEvent : CoreState → Happened → CoreState → Type 0
@@ -55,7 +54,7 @@ abbrev pub SendsFrom : (ℕ → Waiting → Bool) → Choice → ℕ → ℕ →
 SendsFrom serves chooses hw round [] m kept held w new_m new_kept new_held =
     Picks serves hw m w new_m × chooses kept m hw round (Some w) new_kept × (new_held ≡ held)
 SendsFrom serves chooses hw round (first ∷ rest) m kept held w new_m new_kept new_held =
-    (first ≡ w) × HandsBack (dir_of w.bios) new_m m × (new_kept ≡ kept) × (new_held ≡ slice_set held hw rest)
+    (first ≡ w) × RequeuesPick (dir_of w.bios) new_m m × (new_kept ≡ kept) × (new_held ≡ slice_set held hw rest)
 
 abbrev pub Sends : (ℕ → Waiting → Bool) → Choice → CoreState → ℕ → Waiting → CoreState → Type 0
 Sends serves chooses old hw w new =
@@ -81,7 +80,7 @@ Issues serves chooses old hw tag (Some command) new =
 abbrev pub Completes : OfDone → CoreState → ℕ → CoreState → Type 0
 Completes told old tag new =
     (f : Flight) × (slice_get old.flights tag ≡ Some (Some f))
-    × IsFlown old.setup old.events tag f.request
+    × InFlightAs old.setup old.events tag f.request
     × AddsEvent old (Done tag) new
     × (old.meaning ≡ record new.meaning { open_picks = opened (dir_of f.request.bios) new.meaning.open_picks })
     × told f.hw (dir_of f.request.bios) (round_of old.events - f.request.release) old.kept new.kept
@@ -94,13 +93,13 @@ HandsOut c tag bios = (f : Flight) × (slice_get c.flights tag ≡ Some (Some f)
 
 -- what a Back does: a Back of the command in flight under the tag, whose pick is then handed back; its request is held, as it was
 -- picked, behind those that came back before from the hardware queue that it was issued for
-abbrev pub TakesBack : CoreState → ℕ → ℕ → CoreState → Type 0
-TakesBack old tag id new =
+abbrev pub RequeuesTag : CoreState → ℕ → ℕ → CoreState → Type 0
+RequeuesTag old tag id new =
     (f : Flight) × (slice_get old.flights tag ≡ Some (Some f))
-    × IsFlown old.setup old.events tag f.request
+    × InFlightAs old.setup old.events tag f.request
     × (id ≡ f.request.id)
     × AddsEvent old (Back tag) new
-    × HandsBack (dir_of f.request.bios) old.meaning new.meaning
+    × RequeuesPick (dir_of f.request.bios) old.meaning new.meaning
     × (new.kept ≡ old.kept)
     × (new.flights ≡ slice_set old.flights tag None)
     × (new.held ≡ slice_set old.held f.hw (held_in old.held f.hw ++ f.request ∷ []))

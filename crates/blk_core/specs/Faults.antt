@@ -5,16 +5,16 @@ use Rattle.blk_trace.specs.declared.trace.TheConstants.{MAX_EVENTS}
 use Rattle.blk_trace.specs.Events.{entered, open_count, AreOnce, IsFirstRepeatedBio, IsOpen, IsUsed}
 use Rattle.blk_trace.specs.Depths.{depth_now}
 use Rattle.blk_core.specs.State.{CoreState}
-use Rattle.blk_core.specs.declared.CoreFault.{CoreFault}
-use Rattle.blk_core.specs.declared.CoreFault.TheVariants.{NoQueue, Repeated, TraceFull, Memory}
-use Rattle.blk_core.specs.declared.IssueFault.{IssueFault}
-use Rattle.blk_core.specs.declared.IssueFault.TheVariants as issue
-use Rattle.blk_core.specs.declared.BackFault.{BackFault}
-use Rattle.blk_core.specs.declared.BackFault.TheVariants as back
-use Rattle.blk_core.specs.declared.TickFault.{TickFault}
-use Rattle.blk_core.specs.declared.TickFault.TheVariants as tick
-use Rattle.blk_core.specs.declared.DepthFault.{DepthFault}
-use Rattle.blk_core.specs.declared.DepthFault.TheVariants as depth
+use Rattle.blk_core.specs.declared.refusals.CoreFault.{CoreFault}
+use Rattle.blk_core.specs.declared.refusals.CoreFault.TheVariants.{NoQueue, Repeated, TraceFull, Memory}
+use Rattle.blk_core.specs.declared.refusals.IssueFault.{IssueFault}
+use Rattle.blk_core.specs.declared.refusals.IssueFault.TheVariants as issue
+use Rattle.blk_core.specs.declared.refusals.BackFault.{BackFault}
+use Rattle.blk_core.specs.declared.refusals.BackFault.TheVariants as back
+use Rattle.blk_core.specs.declared.refusals.TickFault.{TickFault}
+use Rattle.blk_core.specs.declared.refusals.TickFault.TheVariants as tick
+use Rattle.blk_core.specs.declared.refusals.DepthFault.{DepthFault}
+use Rattle.blk_core.specs.declared.refusals.DepthFault.TheVariants as depth
 use Rattle.faults.specs.Order.{BreaksFirst, AreKept}
 
 -- how many events there are, with a Done counted for each open Issue

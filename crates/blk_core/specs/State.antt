@@ -1,5 +1,5 @@
 -- What a core is, and what its scheduler holds.
-use Rattle.std.specs.Prelude.{ℕ, ◌≡◌, ◌+◌, ◌==◌, Bool, List, Option, None, Some, cond, slice_get, is_some, refl}
+use Rattle.std.specs.Prelude.{ℕ, ◌≡◌, ◌+◌, ◌==◌, Bool, List, [], replicate, Option, None, Some, cond, slice_get, is_some, refl}
 use Rattle.std.specs.Option.{option_map}
 use Rattle.std.specs.FinMap as map
 use Rattle.std.specs.Coded.{Coded, code_by, coded×, coded_ℕ, coded_list, coded_option}
@@ -14,7 +14,7 @@ use Rattle.blk_trace.specs.Events.{round_of, request_of, IsOpenBy}
 use Rattle.blk_trace.specs.Meaning.{release_of, due_of}
 use Rattle.blk_trace.specs.Waits.{Entered, waits_at, was_issued, unissued_at, waiting_count}
 use Rattle.blk_trace.specs.Setups.{same_dir}
-use Rattle.blk_sched.specs.Meaning.{Waiting, Meaning, handed_of, waiting_code, meaning_code}
+use Rattle.blk_sched.specs.Meaning.{Waiting, Meaning, requeued_of, waiting_code, meaning_code}
 use Rattle.blk_hw.specs.Held.{held_in, held_total, held_count}
 use Rattle.blk_core.specs.Opens.{open_issues_of}
 
@@ -24,7 +24,7 @@ pub record Flight : Type 0 where
   pub request : Waiting
 
 -- a core: what it is set up for, what happened, what its scheduler means, what that keeps of its own, by tag the commands in
--- flight, and by hardware queue the requests that the device handed back
+-- flight, and by hardware queue the requests that were requeued
 pub record CoreState : Type 0 where
   pub setup : Setup
   pub events : List Happened
@@ -32,6 +32,11 @@ pub record CoreState : Type 0 where
   pub kept : List ℕ
   pub flights : List (Option Flight)
   pub held : List (List Waiting)
+
+-- a core without events over a scheduler that means and keeps this
+abbrev pub new_core : Setup → Meaning → List ℕ → CoreState
+new_core setup meaning kept =
+    record { setup = setup; events = []; meaning = meaning; kept = kept; flights = replicate setup.depth None; held = replicate setup.hw [] }
 
 -- a setup's code
 abbrev pub setup_code : Coded Setup
@@ -50,13 +55,13 @@ abbrev pub entered_of : Waiting → Entered
 entered_of w = record { release = w.release; due = w.due; bios = w.bios }
 
 -- a request is in flight under the tag: the tag's Issue of its id is open, and it is as it was joined
-pub record IsFlown (setup : Setup) (events : List Happened) (tag : ℕ) (w : Waiting) : Type 0 where
+pub record InFlightAs (setup : Setup) (events : List Happened) (tag : ℕ) (w : Waiting) : Type 0 where
   pub by : IsOpenBy events tag w.id
   pub known : entered_of w ≡ record { release = release_of events w.id; due = due_of setup events w.id; bios = request_of events w.id }
 
--- the request that the device handed back and that waits under the id: it was issued before
-unfoldable pub returned_at : Setup → List Happened → ℕ → Option Entered
-returned_at setup events id = cond (was_issued events id) (waits_at setup events id) None
+-- the requeued request that waits under the id: it was issued before
+unfoldable pub requeued_at : Setup → List Happened → ℕ → Option Entered
+requeued_at setup events id = cond (was_issued events id) (waits_at setup events id) None
 
 -- whether a request is of a direction, and whether it has an id
 abbrev pub is_of : Dir → Waiting → Bool
@@ -69,13 +74,13 @@ is_named id w = id == w.id
 pub record HoldsWhatWaits (setup : Setup) (events : List Happened) (m : Meaning) (held : List (List Waiting)) : Type 0 where
   -- the scheduler has what was never issued
   pub pending : (id : ℕ) → option_map entered_of (map.get m.pending id) ≡ unissued_at setup events id
-  -- the held lists have what was handed back, and each such request once
-  pub returned : (hw place : ℕ) (w : Waiting) → slice_get (held_in held hw) place ≡ Some w → returned_at setup events w.id ≡ Some (entered_of w)
-  pub held_once : (id : ℕ) → held_count (is_named id) held ≡ cond (is_some (returned_at setup events id)) 1 0
+  -- the held lists have what was requeued, and each such request once
+  pub returned : (hw place : ℕ) (w : Waiting) → slice_get (held_in held hw) place ≡ Some w → requeued_at setup events w.id ≡ Some (entered_of w)
+  pub held_once : (id : ℕ) → held_count (is_named id) held ≡ cond (is_some (requeued_at setup events id)) 1 0
   pub count : map.len m.pending + held_total held ≡ waiting_count events
-  -- the scheduler's open picks are the open Issues, and those that were handed back are the held requests
+  -- the scheduler's open picks are the open Issues, and the picks that were handed back to it are the held requests
   pub reads : m.open_picks.reads ≡ open_issues_of events Read
   pub writes : m.open_picks.writes ≡ open_issues_of events Write
-  pub handed : (dir : Dir) → handed_of dir m.open_picks ≡ held_count (is_of dir) held
+  pub handed : (dir : Dir) → requeued_of dir m.open_picks ≡ held_count (is_of dir) held
   -- its round is the trace's
   pub round : m.round ≡ round_of events

@@ -4,7 +4,8 @@ use Rattle.std.specs.Prelude.{All, Any, Contains}
 use Rattle.std.proofs.lemmas.Bool.{cases_lt}
 use Rattle.std.proofs.lemmas.List.Elements.{All-contains, Contains-get_or}
 use Rattle.blk_bio.specs.declared.limits.TheConstants.{MAX_SOFT_QUEUES}
-use Rattle.blk_hw.specs.Maps.{IsCountedMap, IsLeastUnserved}
+use Rattle.blk_hw.specs.Maps.{IsLeastUnserved}
+use Rattle.blk_hw.specs.Inside.{IsCountedMap}
 
 -- where no entry is above the least number that is none, an entry is below that number
 below_count : (entries : List ℕ) (count : ℕ) → count ≤ 16 → All (λ hw. hw ≤ 15) entries → (count < 16 → ¬ Contains entries count) → All (λ hw. hw ≤ count) entries → (hw : ℕ) → Contains entries hw → hw < count

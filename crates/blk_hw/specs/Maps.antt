@@ -20,13 +20,6 @@ pub record IsMap (entries : List ℕ) : Type 0 where
 abbrev pub IsHwCount : List ℕ → ℕ → Type 0
 IsHwCount entries count = (hw : ℕ) → Contains entries hw ↔ (hw < count)
 
--- a map, and how many hardware queues it has
-pub record IsCountedMap (entries : List ℕ) (count : ℕ) : Type 0 where
-  pub is_map : IsMap entries
-  pub is_count : IsHwCount entries count
-  pub some : 0 < count
-  pub few : count ≤ MAX_QUEUES
-
 -- the least number below the greatest entry that is no entry
 pub record IsLeastUnserved (entries : List ℕ) (hw : ℕ) : Type 0 where
   pub below : Any (λ greater. hw < greater) entries

@@ -1,4 +1,4 @@
-//! Hardware queues: which of them serves a software queue, and the requests that came back from one.
+//! Hardware queues: which of them serves a software queue, and the requests that were requeued from one.
 //!
 //! After the hardware dispatch queues of Linux blk-mq (`struct blk_mq_hw_ctx`) and their map from software queues
 //! (`blk_mq_queue_map`).
@@ -6,7 +6,8 @@
 
 ghost use Rattle.std.specs.Prelude.{◌≡◌, ◌<◌, ◌≤◌, ◌+◌, ◌++◌, ◌∷◌, [], ◌↔◌, ℕ, IsTrue, All, Any, Contains, IfOk, IfErr, OnOk, OnErr, IfSome, IfNone, length, replicate, slice_index, slice_set};
 ghost use Rattle.std.specs.Bool.{OnTrue, OnFalse};
-ghost use Rattle.blk_hw.specs.Maps.{greatest_hw, IsMap, IsHwCount, IsCountedMap, IsMapAnswer};
+ghost use Rattle.blk_hw.specs.Maps.{greatest_hw, IsMap, IsHwCount, IsMapAnswer};
+ghost use Rattle.blk_hw.specs.Inside.{IsCountedMap};
 ghost use Rattle.blk_hw.specs.Held.{held_in, TakesFirst};
 
 use blk_bio::{MAX_QUEUES, MAX_SOFT_QUEUES};
@@ -36,7 +37,7 @@ pub struct Map<A: Allocator = Global> {
 
 impl<A: Allocator> Model for Map<A> {
     ghost use Rattle.std.specs.Prelude.{List, ℕ};
-    ghost use Rattle.blk_hw.specs.Maps.{IsCountedMap};
+    ghost use Rattle.blk_hw.specs.Inside.{IsCountedMap};
 
     ghost Value = { List ℕ };
 
@@ -131,14 +132,14 @@ fn least_unnamed(entries: &[u8]) -> u8
     MAX_QUEUES
 }
 
-/// Requests that the hardware could not take, in the order in which they came back: the list `hctx->dispatch` of Linux
+/// Requests that the hardware could not take, in the order in which they were requeued: the list `hctx->dispatch` of Linux
 /// blk-mq, which is served before the scheduler is asked. It keeps its allocator.
 #[derive(Drop)]
-pub struct HeldList<A: Allocator = Global> {
+pub struct RequeueList<A: Allocator = Global> {
     requests: VecDeque<Queued<A>, A>,
 }
 
-impl<A: Allocator> Model for HeldList<A> {
+impl<A: Allocator> Model for RequeueList<A> {
     ghost use Rattle.std.specs.Prelude.{List};
     ghost use Rattle.blk_sched.specs.Meaning.{Waiting, waiting_code};
     ghost use Rattle.std.specs.Coded.{coded_list};
@@ -150,17 +151,17 @@ impl<A: Allocator> Model for HeldList<A> {
     ghost view = { λ l. l.requests.items };
 }
 
-impl<A: Allocator + Clone> HeldList<A> {
+impl<A: Allocator + Clone> RequeueList<A> {
     /// A list of no requests. It takes no memory.
-    pub fn new(alloc: A) -> HeldList<A>
+    pub fn new(alloc: A) -> RequeueList<A>
         ensures { result ≡ [] }
     {
-        HeldList {
+        RequeueList {
             requests: VecDeque::new(alloc),
         }
     }
 
-    /// Adds a request at the back. Refused for want of memory alone: the list is then as it was, and the request comes
+    /// Adds a request at the back. Fails only when memory runs out: the list is then as it was, and the request is handed
     /// back.
     pub fn push(&mut self, queued: Queued<A>) -> Result<(), (Queued<A>, AllocError)>
         ensures ok { OnOk result (self.new ≡ self.old ++ queued ∷ []) }
@@ -173,7 +174,7 @@ impl<A: Allocator + Clone> HeldList<A> {
         }
     }
 
-    /// Takes the request that came first out. There is none exactly where the list is empty.
+    /// Takes out the request that came first. There is none exactly where the list is empty.
     pub fn take_first(&mut self) -> Option<Queued<A>>
         ensures some { IfSome result (λ first. self.old ≡ first ∷ self.new) }
         ensures none { IfNone result (self.old ≡ []) }
@@ -190,13 +191,13 @@ impl<A: Allocator + Clone> HeldList<A> {
     }
 }
 
-/// A held list for each hardware queue: what came back from one goes out to that one again.
+/// A held list for each hardware queue: what was requeued from one is dispatched to that one again.
 #[derive(Drop)]
-pub struct HeldLists<A: Allocator = Global> {
-    lists: Vec<HeldList<A>, A>,
+pub struct RequeueLists<A: Allocator = Global> {
+    lists: Vec<RequeueList<A>, A>,
 }
 
-impl<A: Allocator> Model for HeldLists<A> {
+impl<A: Allocator> Model for RequeueLists<A> {
     ghost use Rattle.std.specs.Prelude.{List};
     ghost use Rattle.blk_sched.specs.Meaning.{Waiting, waiting_code};
     ghost use Rattle.std.specs.Coded.{coded_list};
@@ -208,20 +209,20 @@ impl<A: Allocator> Model for HeldLists<A> {
     ghost view = { λ l. l.lists.items };
 }
 
-impl<A: Allocator + Clone> HeldLists<A> {
-    /// Lists of no requests, for so many hardware queues. Fails for want of memory alone.
-    pub fn new(alloc: A, hw_count: u8) -> Result<HeldLists<A>, AllocError>
+impl<A: Allocator + Clone> RequeueLists<A> {
+    /// Lists of no requests, one for each of `hw_count` hardware queues. Fails only when memory runs out.
+    pub fn new(alloc: A, hw_count: u8) -> Result<RequeueLists<A>, AllocError>
         ensures { IfOk result (λ lists. lists ≡ replicate hw_count []) }
     {
         let mut lists = Vec::with_capacity(alloc.clone()?, hw_count as usize)?;
         for _ in 0..hw_count {
-            lists.push(HeldList::new(alloc.clone()?))?;
+            lists.push(RequeueList::new(alloc.clone()?))?;
         }
-        Ok(HeldLists { lists })
+        Ok(RequeueLists { lists })
     }
 
-    /// Adds a request at the back of the list of a hardware queue, which is one of these. Refused for want of memory
-    /// alone: the lists are then as they were, and the request comes back.
+    /// Adds a request at the back of the list of a hardware queue, which is one of these. Fails only when memory runs out:
+    /// the lists are then as they were, and the request is handed back.
     pub fn push(&mut self, hw: u8, queued: Queued<A>) -> Result<(), (Queued<A>, AllocError)>
         requires { hw < length self.old }
         ensures ok { OnOk result (self.new ≡ slice_set self.old hw (held_in self.old hw ++ queued ∷ [])) }
@@ -231,7 +232,7 @@ impl<A: Allocator + Clone> HeldLists<A> {
         self.lists[hw as usize].push(queued)
     }
 
-    /// Takes out the request that came back first from a hardware queue, which is one of these. There is none exactly
+    /// Takes out the request that was requeued first from a hardware queue, which is one of these. There is none exactly
     /// where its list is empty.
     pub fn take_first(&mut self, hw: u8) -> Option<Queued<A>>
         requires { hw < length self.old }

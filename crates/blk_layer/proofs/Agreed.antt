@@ -1,9 +1,9 @@
--- What lines say of the bios and the commands whose lines they are.
+-- What keys say of the bios and the commands whose keys they are.
 use Rattle.std.proofs.Common.{◌≡◌, ◌∙◌, ◌+◌, ◌<◌, ◌≤◌, ◌≢◌, cond, ℕ, zero, suc, sym, ap, refl, subst, arith, inl, true, List, [], ◌∷◌, ◌++◌, Option, Some, None, length, take, drop, get_or, count_by, map, IsPermutation, append_assoc, Contains}
 use Rattle.std.specs.Prelude.{slice_get, IfNone, IfSome, OnOk, Result, Ok, Err}
 use Rattle.std.proofs.lemmas.List.{take-append-le, take_all}
 use Rattle.std.proofs.lemmas.List.Sorted.{IsPermutation-refl, IsPermutation-sym, IsPermutation-trans, IsPermutation-append, IsPermutation-append_comm}
-use Rattle.edd_check.specs.declared.Command.{Command}
+use Rattle.edd_commands.specs.declared.Command.{Command}
 use Rattle.blk_bio.specs.Bios.{Bio}
 use Rattle.blk_bio.specs.declared.bio.Dir.{Dir}
 use Rattle.blk_bio.specs.declared.bio.Dir.TheVariants.{Read, Write}
@@ -13,13 +13,12 @@ use Rattle.blk_trace.specs.Events.{entered}
 use Rattle.blk_trace.specs.Laws.{IsAccounted}
 use Rattle.blk_trace.specs.Meaning.{command_of, waiting_of}
 use Rattle.blk_trace.specs.Waits.{has_id}
-use Rattle.blk_layer.specs.Ways.{way_of}
-use Rattle.blk_layer.specs.declared.lines.Line.{Line}
-use Rattle.blk_layer.specs.Inside.Lines.{is_line, times, bio_line, command_line, IsExtra}
+use Rattle.blk_layer.specs.Closing.{way_of, is_bio_of, is_command, issued_bios, done_ids, done_commands, all_accepted, all_ran, AreAllThere, AreSettled, AreCounted, IsBioOf, DiffersAsCommand, Disagrees}
+use Rattle.blk_layer.specs.declared.closing.Key.{Key}
+use Rattle.blk_layer.specs.Inside.Closing.{is_key, times, bio_key, command_key, IsExtra}
 use Rattle.blk_bio.specs.declared.bio.BioId.{BioId}
 use Rattle.blk_layer.specs.Seats.{SubmitterSeat, WorkerSeat}
-use Rattle.blk_layer.specs.Closes.{is_bio_of, is_command, issued_bios, done_ids, done_commands, all_accepted, all_ran, AreAllThere, AreSettled, AreCounted, IsBioOf, DiffersAsCommand, Disagrees}
-use Rattle.blk_layer.proofs.Times.{line_is, line_self}
+use Rattle.blk_layer.proofs.Times.{key_is, key_self}
 use Rattle.blk_layer.proofs.Same.{no_rest, each_as_many, count_moved, count_cons}
 use Rattle.blk_layer.proofs.Gathered.{done_map, mapped_at, mapped_length, id_there, own_default}
 
@@ -31,38 +30,38 @@ way_is Write Write e = refl
 
 pub bio_is : (x y : Bio) → is_bio_of x y ≡ true → x ≡ y
 bio_is x y e =
-    let l : bio_line x ≡ bio_line y = line_is (bio_line x) (bio_line y) e in
-    let o : x.id.submitter ≡ y.id.submitter = ap (λ (z : Line). z.owner) l in
-    let n : x.id.serial ≡ y.id.serial = ap (λ (z : Line). z.number) l in
-    let w : x.dir ≡ y.dir = way_is x.dir y.dir (ap (λ (z : Line). z.way) l) in
-    let f : x.first ≡ y.first = ap (λ (z : Line). z.from) l in
-    let t : x.sectors ≡ y.sectors = ap (λ (z : Line). z.to) l in
+    let l : bio_key x ≡ bio_key y = key_is (bio_key x) (bio_key y) e in
+    let o : x.id.submitter ≡ y.id.submitter = ap (λ (z : Key). z.owner) l in
+    let n : x.id.serial ≡ y.id.serial = ap (λ (z : Key). z.number) l in
+    let w : x.dir ≡ y.dir = way_is x.dir y.dir (ap (λ (z : Key). z.way) l) in
+    let f : x.first ≡ y.first = ap (λ (z : Key). z.from) l in
+    let t : x.sectors ≡ y.sectors = ap (λ (z : Key). z.to) l in
     λ i. record { id = record { submitter = o i; serial = n i }; dir = w i; first = f i; sectors = t i }
 
 pub bio_self : (x : Bio) → is_bio_of x x ≡ true
-bio_self x = line_self (bio_line x)
+bio_self x = key_self (bio_key x)
 
 pub command_is : (x y : Command) → is_command x y ≡ true → x ≡ y
 command_is x y e =
-    let l : command_line x ≡ command_line y = line_is (command_line x) (command_line y) e in
-    let n : x.id ≡ y.id = ap (λ (z : Line). z.number) l in
-    let f : x.release ≡ y.release = ap (λ (z : Line). z.from) l in
-    let t : x.due ≡ y.due = ap (λ (z : Line). z.to) l in
+    let l : command_key x ≡ command_key y = key_is (command_key x) (command_key y) e in
+    let n : x.id ≡ y.id = ap (λ (z : Key). z.number) l in
+    let f : x.release ≡ y.release = ap (λ (z : Key). z.from) l in
+    let t : x.due ≡ y.due = ap (λ (z : Key). z.to) l in
     λ i. record { id = n i; release = f i; due = t i }
 
 pub command_self : (x : Command) → is_command x x ≡ true
-command_self x = line_self (command_line x)
+command_self x = key_self (command_key x)
 
--- a line stands as many times as what it is the line of
-times_bios : (b : Bio) (bios : List Bio) → times (bio_line b) (map bio_line bios) ≡ count_by (is_bio_of b) bios
+-- a key stands as many times as what it is the key of
+times_bios : (b : Bio) (bios : List Bio) → times (bio_key b) (map bio_key bios) ≡ count_by (is_bio_of b) bios
 unfolding times
 times_bios b [] = refl
-times_bios b (c ∷ bios) = count_cons (is_line (bio_line b)) (bio_line c) (map bio_line bios) ∙ ap (λ n. cond (is_bio_of b c) 1 0 + n) (times_bios b bios) ∙ sym (count_cons (is_bio_of b) c bios)
+times_bios b (c ∷ bios) = count_cons (is_key (bio_key b)) (bio_key c) (map bio_key bios) ∙ ap (λ n. cond (is_bio_of b c) 1 0 + n) (times_bios b bios) ∙ sym (count_cons (is_bio_of b) c bios)
 
-times_commands : (b : Command) (commands : List Command) → times (command_line b) (map command_line commands) ≡ count_by (is_command b) commands
+times_commands : (b : Command) (commands : List Command) → times (command_key b) (map command_key commands) ≡ count_by (is_command b) commands
 unfolding times
 times_commands b [] = refl
-times_commands b (c ∷ commands) = count_cons (is_line (command_line b)) (command_line c) (map command_line commands) ∙ ap (λ n. cond (is_command b c) 1 0 + n) (times_commands b commands) ∙ sym (count_cons (is_command b) c commands)
+times_commands b (c ∷ commands) = count_cons (is_key (command_key b)) (command_key c) (map command_key commands) ∙ ap (λ n. cond (is_command b c) 1 0 + n) (times_commands b commands) ∙ sym (count_cons (is_command b) c commands)
 
 -- the element of a mapped list that stands at a place
 picked : {X Y : Type 0} (f : X → Y) (xs : List X) (place : ℕ) (y : Y) → slice_get (map f xs) place ≡ Some y → (place < length xs) × ((d : X) → f (get_or xs place d) ≡ y)
@@ -71,46 +70,46 @@ picked f (x ∷ xs) zero y at = (omega arith, λ d. cc)
 picked f (x ∷ xs) (suc place) y at = let r = picked f xs place y at in (omega (arith, r.0), r.1)
 
 -- the bio at the place stands more times in the one list
-pub bio_extra : (xs ys : List Bio) (ls ms : List Line) (place : ℕ) → ls ≡ map bio_line xs → ms ≡ map bio_line ys → IsExtra ls ms place
+pub bio_extra : (xs ys : List Bio) (ls ms : List Key) (place : ℕ) → ls ≡ map bio_key xs → ms ≡ map bio_key ys → IsExtra ls ms place
     → (place < length xs) × ((d : Bio) → count_by (is_bio_of (get_or xs place d)) ys < count_by (is_bio_of (get_or xs place d)) xs)
 bio_extra xs ys ls ms place one two extra =
-    let p = picked bio_line xs place extra.0 (ap (λ l. slice_get l place) (sym one) ∙ extra.1) in (
+    let p = picked bio_key xs place extra.0 (ap (λ l. slice_get l place) (sym one) ∙ extra.1) in (
       p.0,
       λ d.
           let b : Bio = get_or xs place d in
-          let here : times (bio_line b) ls ≡ count_by (is_bio_of b) xs = ap (times (bio_line b)) one ∙ times_bios b xs in
-          let there : times (bio_line b) ms ≡ count_by (is_bio_of b) ys = ap (times (bio_line b)) two ∙ times_bios b ys in
-          let more : times (bio_line b) ms < times (bio_line b) ls = subst (λ (l : Line). times l ms < times l ls) (sym (p.1 d)) extra.2 in
+          let here : times (bio_key b) ls ≡ count_by (is_bio_of b) xs = ap (times (bio_key b)) one ∙ times_bios b xs in
+          let there : times (bio_key b) ms ≡ count_by (is_bio_of b) ys = ap (times (bio_key b)) two ∙ times_bios b ys in
+          let more : times (bio_key b) ms < times (bio_key b) ls = subst (λ (l : Key). times l ms < times l ls) (sym (p.1 d)) extra.2 in
           omega (arith, here, there, more),
     )
 
 -- the command at the place stands more times in the one list
-pub command_extra : (xs ys : List Command) (ls ms : List Line) (place : ℕ) → ls ≡ map command_line xs → ms ≡ map command_line ys → IsExtra ls ms place
+pub command_extra : (xs ys : List Command) (ls ms : List Key) (place : ℕ) → ls ≡ map command_key xs → ms ≡ map command_key ys → IsExtra ls ms place
     → (place < length xs) × ((d : Command) → count_by (is_command (get_or xs place d)) ys < count_by (is_command (get_or xs place d)) xs)
 command_extra xs ys ls ms place one two extra =
-    let p = picked command_line xs place extra.0 (ap (λ l. slice_get l place) (sym one) ∙ extra.1) in (
+    let p = picked command_key xs place extra.0 (ap (λ l. slice_get l place) (sym one) ∙ extra.1) in (
       p.0,
       λ d.
           let b : Command = get_or xs place d in
-          let here : times (command_line b) ls ≡ count_by (is_command b) xs = ap (times (command_line b)) one ∙ times_commands b xs in
-          let there : times (command_line b) ms ≡ count_by (is_command b) ys = ap (times (command_line b)) two ∙ times_commands b ys in
-          let more : times (command_line b) ms < times (command_line b) ls = subst (λ (l : Line). times l ms < times l ls) (sym (p.1 d)) extra.2 in
+          let here : times (command_key b) ls ≡ count_by (is_command b) xs = ap (times (command_key b)) one ∙ times_commands b xs in
+          let there : times (command_key b) ms ≡ count_by (is_command b) ys = ap (times (command_key b)) two ∙ times_commands b ys in
+          let more : times (command_key b) ms < times (command_key b) ls = subst (λ (l : Key). times l ms < times l ls) (sym (p.1 d)) extra.2 in
           omega (arith, here, there, more),
     )
 
--- lists of bios whose lines stand as many times
-pub bios_agree : (xs ys : List Bio) (ls ms : List Line) → ls ≡ map bio_line xs → ms ≡ map bio_line ys → ((l : Line) → times l ls ≤ times l ms) → ((l : Line) → times l ms ≤ times l ls) → IsPermutation xs ys
+-- lists of bios whose keys stand as many times
+pub bios_agree : (xs ys : List Bio) (ls ms : List Key) → ls ≡ map bio_key xs → ms ≡ map bio_key ys → ((l : Key) → times l ls ≤ times l ms) → ((l : Key) → times l ms ≤ times l ls) → IsPermutation xs ys
 bios_agree xs ys ls ms one two le ge =
-    let here : (b : Bio) → times (bio_line b) ls ≡ count_by (is_bio_of b) xs = λ b. ap (times (bio_line b)) one ∙ times_bios b xs in
-    let there : (b : Bio) → times (bio_line b) ms ≡ count_by (is_bio_of b) ys = λ b. ap (times (bio_line b)) two ∙ times_bios b ys in
-    each_as_many is_bio_of bio_is bio_self xs ys (λ b. omega (arith, here b, there b, le (bio_line b))) (λ b. omega (arith, here b, there b, ge (bio_line b)))
+    let here : (b : Bio) → times (bio_key b) ls ≡ count_by (is_bio_of b) xs = λ b. ap (times (bio_key b)) one ∙ times_bios b xs in
+    let there : (b : Bio) → times (bio_key b) ms ≡ count_by (is_bio_of b) ys = λ b. ap (times (bio_key b)) two ∙ times_bios b ys in
+    each_as_many is_bio_of bio_is bio_self xs ys (λ b. omega (arith, here b, there b, le (bio_key b))) (λ b. omega (arith, here b, there b, ge (bio_key b)))
 
--- lists of as many commands, of which the one has each line at least as many times
-pub commands_agree : (done ran : List Command) (ls ms : List Line) → ls ≡ map command_line done → ms ≡ map command_line ran → ((l : Line) → times l ls ≤ times l ms) → length ran ≡ length done → IsPermutation ran done
+-- lists of as many commands, of which the one has each key at least as many times
+pub commands_agree : (done ran : List Command) (ls ms : List Key) → ls ≡ map command_key done → ms ≡ map command_key ran → ((l : Key) → times l ls ≤ times l ms) → length ran ≡ length done → IsPermutation ran done
 commands_agree done ran ls ms one two le as_many =
-    let here : (b : Command) → times (command_line b) ls ≡ count_by (is_command b) done = λ b. ap (times (command_line b)) one ∙ times_commands b done in
-    let there : (b : Command) → times (command_line b) ms ≡ count_by (is_command b) ran = λ b. ap (times (command_line b)) two ∙ times_commands b ran in
-    IsPermutation-sym done ran (no_rest is_command command_is command_self done ran (λ b. omega (arith, here b, there b, le (command_line b))) (omega (arith, as_many)))
+    let here : (b : Command) → times (command_key b) ls ≡ count_by (is_command b) done = λ b. ap (times (command_key b)) one ∙ times_commands b done in
+    let there : (b : Command) → times (command_key b) ms ≡ count_by (is_command b) ran = λ b. ap (times (command_key b)) two ∙ times_commands b ran in
+    IsPermutation-sym done ran (no_rest is_command command_is command_self done ran (λ b. omega (arith, here b, there b, le (command_key b))) (omega (arith, as_many)))
 
 -- the bios that entered and those of the queues are those that were issued and those left
 pub stored_is : (es : List Happened) (queued : List Bio) → IsAccounted es → IsPermutation (entered es ++ queued) (issued_bios es ++ (queued ++ waiting_of es))
@@ -173,7 +172,7 @@ some_of (Some y) P x e h =
     subst P is h
 
 -- the bio and the command that stand at the place
-pub bio_extra_at : (xs ys : List Bio) (ls ms : List Line) (place : ℕ) (x : Bio) → ls ≡ map bio_line xs → ms ≡ map bio_line ys → IsExtra ls ms place → x ≡ get_or xs place x → count_by (is_bio_of x) ys < count_by (is_bio_of x) xs
+pub bio_extra_at : (xs ys : List Bio) (ls ms : List Key) (place : ℕ) (x : Bio) → ls ≡ map bio_key xs → ms ≡ map bio_key ys → IsExtra ls ms place → x ≡ get_or xs place x → count_by (is_bio_of x) ys < count_by (is_bio_of x) xs
 bio_extra_at xs ys ls ms place x one two extra is = subst (λ (b : Bio). count_by (is_bio_of b) ys < count_by (is_bio_of b) xs) (sym is) ((bio_extra xs ys ls ms place one two extra).1 x)
 
 -- what is said of a value that is there

@@ -7,11 +7,11 @@ use Rattle.blk_core.specs.State.{CoreState}
 use Rattle.blk_sched.specs.Policies.{OfTick}
 use Rattle.blk_core.specs.Calls.{Ends}
 use Rattle.blk_core.specs.Faults.{IsTickFault, CanSetDepth, IsDepthFault}
-use Rattle.blk_core.specs.declared.TickFault.{TickFault}
-use Rattle.blk_core.specs.declared.TickFault.TheVariants as tick
-use Rattle.blk_core.specs.declared.DepthFault.{DepthFault}
-use Rattle.blk_core.specs.declared.DepthFault.TheVariants as depth
-use Rattle.blk_layer.specs.Works.{IsTickAnswer, IsDepthAnswer}
+use Rattle.blk_core.specs.declared.refusals.TickFault.{TickFault}
+use Rattle.blk_core.specs.declared.refusals.TickFault.TheVariants as tick
+use Rattle.blk_core.specs.declared.refusals.DepthFault.{DepthFault}
+use Rattle.blk_core.specs.declared.refusals.DepthFault.TheVariants as depth
+use Rattle.blk_layer.specs.Serving.{IsTickAnswer, IsDepthAnswer}
 
 pub tick_answer : (told : OfTick) (old new : CoreState) (r : Result ℕ TickFault) → OnOk r (Ends told old new) → IfOk r (λ round. round ≡ round_of new.events)
     → IfErr r (IsTickFault old) → IsTickAnswer r

@@ -5,11 +5,10 @@ use Rattle.blk_bio.specs.Bios.{Bio}
 use Rattle.blk_plug.specs.Plugs.{Plug}
 use Rattle.blk_soft.specs.Queues.{Queue}
 use Rattle.blk_layer.specs.Seats.{SubmitterSeat}
-use Rattle.blk_layer.specs.Flushes.{FlushesInto}
+use Rattle.blk_layer.specs.Submitting.{FlushesInto, AreOfFirst, IsMoveFault}
 use Rattle.blk_core.specs.State.{CoreState}
-use Rattle.blk_core.specs.declared.CoreFault.{CoreFault}
+use Rattle.blk_core.specs.declared.refusals.CoreFault.{CoreFault}
 use Rattle.blk_core.specs.Faults.{IsReleaseFault}
-use Rattle.blk_layer.specs.Moves.{AreOfFirst, IsMoveFault}
 
 -- one more, of the first request that has none
 pub one_more : (copies requests : List (List Bio)) (copy : List Bio) → AreOfFirst copies requests → slice_get requests (length copies) ≡ Some copy → AreOfFirst (copies ++ copy ∷ []) requests

@@ -2,7 +2,7 @@
 use Rattle.std.proofs.Common.{◌≡◌, ◌<◌, ℕ, List, arith, subst}
 use Rattle.blk_hw.specs.Maps.{IsHwCount}
 use Rattle.blk_layer.specs.declared.layer.LayerFault.{LayerFault}
-use Rattle.blk_layer.specs.Faults.{CanMake, IsLayerFault}
+use Rattle.blk_layer.specs.Seats.{CanMake, IsLayerFault}
 
 -- a map has one such number
 pub one_count : (map : List ℕ) (m n : ℕ) → IsHwCount map m → IsHwCount map n → m ≡ n

@@ -10,7 +10,7 @@ use Rattle.std.proofs.lemmas.Grind.{fold-append}
 use Rattle.std.proofs.lemmas.Option.{slice_get_within}
 use Rattle.blk_trace.specs.Happened.{Happened}
 use Rattle.blk_trace.specs.declared.event.Event.TheVariants.{Tick, Release, Join, Issue, Done, Back, Depth}
-use Rattle.blk_trace.specs.Kinds.{ends, hands_back, is_done_of}
+use Rattle.blk_trace.specs.Kinds.{ends, requeues, is_done_of}
 use Rattle.blk_trace.specs.Setups.{Setup}
 use Rattle.blk_trace.specs.Events.{At, EndsAt, IsOpen, IsReleased, goes_back}
 use Rattle.blk_trace.specs.Legal.{IsLegalTrace}
@@ -22,8 +22,7 @@ use Rattle.blk_trace.proofs.Places.{split, keep, last, before_last}
 use Rattle.blk_trace.proofs.Ids.{by_events, by_legal, served_has, has_issued, released_first}
 use Rattle.blk_trace.proofs.Returning.{issued_by_is}
 use Rattle.blk_trace.proofs.More.{more_of}
-use Rattle.blk_layer.specs.Served.{done_count, is_done}
-use Rattle.blk_layer.specs.Closes.{last_under, done_by, done_after, done_ids}
+use Rattle.blk_layer.specs.Closing.{done_count, is_done, last_under, done_by, done_after, done_ids}
 use Rattle.blk_layer.proofs.Moving.{not_done}
 
 -- the last id under a tag with one more event
@@ -89,12 +88,12 @@ last_place tag es = by_events (λ l. (place id : ℕ) → At l place (Issue id t
 -- whether the first event that ends the tag's Issue is a Done
 abbrev pub ended : ℕ → List Happened → Bool
 ended tag [] = false
-ended tag (e ∷ es) = cond (is_done_of tag e) (not (is_some (hands_back e))) (ended tag es)
+ended tag (e ∷ es) = cond (is_done_of tag e) (not (is_some (requeues e))) (ended tag es)
 
 ended_stays : (tag : ℕ) (es fs : List Happened) → ended tag es ≡ true → ended tag (es ++ fs) ≡ true
 ended_stays tag [] fs h = let n : false ≡ true = h in absurd (cc)
 ended_stays tag (e ∷ es) fs h = elim (cases_Bool (is_done_of tag e)) [
-  | inl y ↦ let here : not (is_some (hands_back e)) ≡ true = rw y at h in rw y here
+  | inl y ↦ let here : not (is_some (requeues e)) ≡ true = rw y at h in rw y here
   | inr n ↦ let rest : ended tag es ≡ true = rw n at h in let more = ended_stays tag es fs rest in rw n more
 ]
 
@@ -102,7 +101,7 @@ ended_stays_gone : (tag : ℕ) (es : List Happened) → ended tag es ≡ true �
 unfolding goes_back
 ended_stays_gone tag [] h = refl
 ended_stays_gone tag (e ∷ es) h = elim (cases_Bool (is_done_of tag e)) [
-  | inl y ↦ let here : not (is_some (hands_back e)) ≡ true = rw y at h in rw y (turned (is_some (hands_back e)) here)
+  | inl y ↦ let here : not (is_some (requeues e)) ≡ true = rw y at h in rw y (turned (is_some (requeues e)) here)
   | inr n ↦ let rest : ended tag es ≡ true = rw n at h in let more = ended_stays_gone tag es rest in rw n more
 ]
   where

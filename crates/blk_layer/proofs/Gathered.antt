@@ -8,7 +8,7 @@ use Rattle.std.proofs.lemmas.List.Folds.{list_any-append}
 use Rattle.std.proofs.lemmas.Grind.{flat_map-append}
 use Rattle.std.proofs.lemmas.Bool.{cases_Bool, or_cases, eqb-true, eq-eqb, or_right, ltb-true, ltb-false}
 use lib.Dec.{ltb}
-use Rattle.edd_check.specs.declared.Command.{Command}
+use Rattle.edd_commands.specs.declared.Command.{Command}
 use Rattle.blk_bio.specs.Bios.{Bio}
 use Rattle.blk_trace.specs.Happened.{Happened}
 use Rattle.blk_trace.specs.declared.event.Event.TheVariants.{Tick, Release, Join, Issue, Done, Back, Depth}
@@ -18,9 +18,8 @@ use Rattle.blk_trace.specs.Meaning.{commands_of, command_of, issued_ids}
 use Rattle.blk_trace.specs.Waits.{has_id}
 use Rattle.blk_trace.specs.Inside.Seats.{issued_by}
 use Rattle.blk_layer.specs.Seats.{SubmitterSeat, WorkerSeat}
-use Rattle.blk_layer.specs.Closes.{all_accepted, all_ran, done_by, done_after, done_ids, done_commands, last_under}
+use Rattle.blk_layer.specs.Closing.{all_accepted, all_ran, done_by, done_after, done_ids, done_commands, last_under, done_count}
 use Rattle.blk_trace.specs.Legal.{IsLegalTrace}
-use Rattle.blk_layer.specs.Served.{done_count}
 use Rattle.blk_layer.proofs.Dones.{ids_more, last_more, as_many}
 
 -- the elements of lists, with one list more

@@ -1,8 +1,9 @@
 -- The tags that a worker holds and the commands in its hands.
 use Rattle.std.proofs.Common.{◌≡◌, ◌↔◌, ◌<◌, ℕ, zero, suc, List, [], ◌∷◌, Bool, true, false, Some, None, map, length, refl, sym, ap, arith}
 use Rattle.std.specs.Prelude.{Option, is_some, slice_get, slice_index_or, Contains, count_by, replicate}
-use Rattle.edd_check.specs.declared.Command.{Command}
-use Rattle.blk_tags.specs.Tags.{Marks, one_if}
+use Rattle.edd_commands.specs.declared.Command.{Command}
+use Rattle.blk_tags.specs.Tags.{one_if}
+use Rattle.blk_tags.specs.Inside.{Marks}
 use Rattle.blk_tags.proofs.Counts.{held_some, some_held}
 
 -- empty hands, however many

@@ -7,7 +7,7 @@ use Rattle.blk_bio.specs.declared.bio.BioId.{BioId}
 use Rattle.blk_trace.specs.Events.{AreOnce, HasId}
 use Rattle.blk_trace.specs.Inside.Kept.{is_bio, has_bio_id}
 use Rattle.blk_trace.proofs.Newness.{at_has, has_at}
-use Rattle.blk_layer.specs.Inside.Kept.{IsAccount}
+use Rattle.blk_layer.specs.Inside.Seats.{IsAccount}
 
 -- whether an id is among the ids of an account
 pub has_id : (bios : List Bio) (id : BioId) (r : Bool) → r ≡ has_bio_id bios id → IsTrue r ↔ HasId bios id

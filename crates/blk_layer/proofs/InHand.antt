@@ -5,14 +5,15 @@ use Rattle.std.proofs.lemmas.Bool.{cases_Bool, eq-eqb}
 use Rattle.std.proofs.lemmas.List.{map-set, length-map}
 use Rattle.std.proofs.lemmas.List.Sums.{count_by-le-length, sum_by-set}
 use Rattle.std.proofs.lemmas.Option.{get_or_from_slice_get}
-use Rattle.edd_check.specs.declared.Command.{Command}
+use Rattle.edd_commands.specs.declared.Command.{Command}
 use Rattle.blk_trace.specs.Setups.{Setup}
-use Rattle.blk_tags.specs.Tags.{Set, Seat, Marks, one_if, count_of, without}
+use Rattle.blk_tags.specs.Tags.{Set, Seat, one_if, count_of, without}
+use Rattle.blk_tags.specs.Inside.{Marks}
 use Rattle.blk_tags.proofs.Counts.{none_count}
 use Rattle.blk_tags.proofs.Marked.{marked_take, marked_give, no_mark}
 use Rattle.blk_layer.specs.Seats.{WorkerSeat}
-use Rattle.blk_layer.specs.Works.{TakesInHand}
-use Rattle.blk_layer.specs.Inside.Kept.{IsWorking}
+use Rattle.blk_layer.specs.Serving.{TakesInHand}
+use Rattle.blk_layer.specs.Inside.Seats.{IsWorking}
 use Rattle.blk_layer.proofs.Held.{tags_are}
 
 -- a tag that is put at the end and taken away again leaves what was there

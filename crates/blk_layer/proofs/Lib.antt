@@ -16,6 +16,6 @@ mod Gathered
 mod Agreed
 mod Moved
 mod Trying
-mod Turning
+mod Ending
 mod Onces
 mod Ruled

@@ -2,12 +2,12 @@
 use Rattle.std.proofs.Common.{◌≡◌, ◌≢◌, ◌∙◌, ◌+◌, ◌<◌, ◌≤◌, ℕ, zero, suc, ap, sym, subst, refl, arith, add-one, Bool, true, false, List, [], ◌∷◌, Result, Ok, Err, IfOk, IfErr, length}
 use Rattle.blk_soft.specs.Queues.{Queue, IsQueue, greatest_depth}
 use Rattle.blk_sched.specs.Meaning.{Waiting}
-use Rattle.blk_core.specs.declared.CoreFault.{CoreFault}
-use Rattle.blk_core.specs.declared.CoreFault.TheVariants.{NoQueue}
+use Rattle.blk_core.specs.declared.refusals.CoreFault.{CoreFault}
+use Rattle.blk_core.specs.declared.refusals.CoreFault.TheVariants.{NoQueue}
 use Rattle.blk_core.specs.Faults.{IsReleaseFault}
 use Rattle.blk_core.specs.State.{CoreState}
-use Rattle.blk_layer.specs.Moves.{MovesSome, IsMoveAnswer, IsMoveAllAnswer}
-use Rattle.blk_layer.specs.declared.moves.DrainFault.{DrainFault}
+use Rattle.blk_layer.specs.Submitting.{MovesSome, IsMoveAnswer, IsMoveAllAnswer}
+use Rattle.blk_layer.specs.declared.submitting.DrainFault.{DrainFault}
 use Rattle.blk_layer.proofs.Moving.{Stays, same_stays, move_stays}
 
 -- so many requests of the queue are moved, and the others are left; the limits of both stay the same

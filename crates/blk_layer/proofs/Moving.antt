@@ -6,18 +6,18 @@ use Rattle.blk_sched.specs.Meaning.{Waiting}
 use Rattle.blk_trace.specs.Happened.{Happened}
 use Rattle.blk_trace.specs.declared.event.Event.TheVariants.{Release, Join, Issue, Done, Back, Tick, Depth}
 use Rattle.blk_trace.proofs.More.{more_of}
-use Rattle.blk_core.specs.declared.Placed.{Placed}
-use Rattle.blk_core.specs.declared.Placed.TheVariants.{New, Joined as JoinedTo}
-use Rattle.blk_core.specs.declared.CoreFault.{CoreFault}
+use Rattle.blk_core.specs.declared.calls.Placed.{Placed}
+use Rattle.blk_core.specs.declared.calls.Placed.TheVariants.{New, Joined as JoinedTo}
+use Rattle.blk_core.specs.declared.refusals.CoreFault.{CoreFault}
 use Rattle.blk_core.specs.State.{CoreState}
-use Rattle.edd_check.specs.declared.Command.{Command}
+use Rattle.edd_commands.specs.declared.Command.{Command}
 use Rattle.blk_sched.specs.Policies.{Choice, OfDone, OfTick}
-use Rattle.blk_core.specs.Calls.{Places, AddsEvent, Issues, Completes, TakesBack, Ends, SetsDepth}
-use Rattle.blk_layer.specs.Served.{done_count, is_done}
-use Rattle.blk_layer.specs.Moves.{IsMoveAnswer}
-use Rattle.blk_layer.specs.declared.tries.NoneIssued.{NoneIssued}
-use Rattle.blk_layer.specs.declared.tries.NoneIssued.TheVariants as none
-use Rattle.blk_layer.specs.Tries.{IsNoneIssued}
+use Rattle.blk_core.specs.Calls.{Places, AddsEvent, Issues, Completes, RequeuesTag, Ends, SetsDepth}
+use Rattle.blk_layer.specs.Closing.{done_count, is_done}
+use Rattle.blk_layer.specs.Submitting.{IsMoveAnswer}
+use Rattle.blk_layer.specs.declared.serving.NoneIssued.{NoneIssued}
+use Rattle.blk_layer.specs.declared.serving.NoneIssued.TheVariants as none
+use Rattle.blk_layer.specs.Serving.{IsNoneIssued}
 
 -- one event more that is no Done
 pub not_done : (es : List Happened) (e : Happened) → is_done e ≡ false → done_count (es ++ e ∷ []) ≡ done_count es
@@ -64,7 +64,7 @@ one_done es tag = more_of is_done es (Done tag) ∙ omega arith
 pub done_more : (told : OfDone) (old : CoreState) (tag : ℕ) (new : CoreState) → Completes told old tag new → done_count new.events ≡ done_count old.events + 1
 done_more told old tag new d = ap done_count d.3.1 ∙ one_done old.events tag
 
-pub back_stays : (old : CoreState) (tag : ℕ) (new : CoreState) (id : ℕ) → TakesBack old tag id new → Stays old new
+pub back_stays : (old : CoreState) (tag : ℕ) (new : CoreState) (id : ℕ) → RequeuesTag old tag id new → Stays old new
 back_stays old tag new id b = added_stays old (Back tag) new refl b.4
 
 pub tick_stays : (told : OfTick) (old new : CoreState) → Ends told old new → Stays old new

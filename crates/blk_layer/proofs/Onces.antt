@@ -14,7 +14,9 @@ use Rattle.blk_trace.proofs.Newness.{same_bio, bio_same, at_has, in_either, once
 use Rattle.blk_tags.specs.Tags.{count_of, without, one_if}
 use Rattle.blk_tags.proofs.Counts.{others_left}
 use Rattle.blk_layer.specs.Seats.{SubmitterSeat, AreOwn}
-use Rattle.blk_layer.specs.Closes.{HasNumber, AreDistinct, IsAccountOf, all_accepted}
+use Rattle.blk_layer.specs.Closing.{HasNumber, all_accepted}
+use Rattle.blk_layer.specs.Inside.Closing.{IsAccountOf}
+use Rattle.blk_layer.specs.Inside.Closing.{AreDistinct}
 use Rattle.blk_layer.proofs.Same.{count_cons, count_moved}
 
 -- numbers that are there for each number below a count are at least as many

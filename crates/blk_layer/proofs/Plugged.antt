@@ -11,9 +11,10 @@ use Rattle.blk_bio.specs.Bios.{Bio}
 use Rattle.blk_plug.specs.Plugs.{Plug, bios_plugged}
 use Rattle.blk_soft.specs.Queues.{Queue}
 use Rattle.blk_layer.specs.Seats.{SubmitterSeat, AreOwn}
-use Rattle.blk_layer.specs.declared.flushes.FlushWhy.{FlushWhy}
-use Rattle.blk_layer.specs.declared.flushes.FlushWhy.TheVariants.{Foreign, Repeated, SoftFull, Memory}
-use Rattle.blk_layer.specs.Flushes.{Flushes, FlushesInto, IsOfBios, IsRoomReason}
+use Rattle.blk_layer.specs.declared.submitting.FlushWhy.{FlushWhy}
+use Rattle.blk_layer.specs.declared.submitting.FlushWhy.TheVariants.{Foreign, Repeated, SoftFull, Memory}
+use Rattle.blk_layer.specs.Submitting.{Flushes, FlushesInto, IsRoomReason}
+use Rattle.blk_layer.specs.Inside.Submitting.{IsOfBios}
 
 -- a flush of nothing
 pub none_flushed : (seat : SubmitterSeat) (plug : Plug) (new : SubmitterSeat) (left : Plug) → new ≡ seat → left ≡ plug → Flushes seat plug new left

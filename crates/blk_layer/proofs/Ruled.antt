@@ -1,22 +1,22 @@
 -- A core that goes on under the policy of its scheduler: what each call leads to.
 use Rattle.std.proofs.Common.{◌≡◌, ℕ, zero, suc, ap, sym, subst, Bool, List, [], ◌∷◌, ◌++◌, Result, Ok, Err, Option, Some, None, IfOk, IfErr, OnErr}
-use Rattle.edd_check.specs.declared.Command.{Command}
+use Rattle.edd_commands.specs.declared.Command.{Command}
 use Rattle.blk_bio.specs.Bios.{Bio}
 use Rattle.blk_soft.specs.Queues.{Queue}
 use Rattle.blk_trace.specs.Happened.{Happened}
 use Rattle.blk_trace.specs.declared.event.Event.TheVariants.{Release, Join, Issue, Done, Back, Tick, Depth}
-use Rattle.blk_core.specs.declared.Placed.{Placed}
-use Rattle.blk_core.specs.declared.Placed.TheVariants.{New, Joined as JoinedTo}
+use Rattle.blk_core.specs.declared.calls.Placed.{Placed}
+use Rattle.blk_core.specs.declared.calls.Placed.TheVariants.{New, Joined as JoinedTo}
 use Rattle.blk_core.specs.State.{CoreState}
 use Rattle.blk_sched.specs.Policies.{Policy}
-use Rattle.blk_core.specs.Calls.{Places, Issues, Completes, TakesBack, Ends, SetsDepth}
+use Rattle.blk_core.specs.Calls.{Places, Issues, Completes, RequeuesTag, Ends, SetsDepth}
 use Rattle.blk_policy.specs.Runs.{Steps, Runs}
 use Rattle.blk_policy.proofs.More.{run_on}
-use Rattle.blk_layer.specs.Moves.{MovesSome, MovesFirst, IsMoveAllAnswer}
-use Rattle.blk_layer.specs.declared.moves.DrainFault.{DrainFault}
-use Rattle.blk_layer.specs.declared.tries.NoneIssued.{NoneIssued}
-use Rattle.blk_layer.specs.declared.tries.NoneIssued.TheVariants as none
-use Rattle.blk_layer.specs.Tries.{IsNoneIssued}
+use Rattle.blk_layer.specs.Submitting.{MovesSome, MovesFirst, IsMoveAllAnswer}
+use Rattle.blk_layer.specs.declared.submitting.DrainFault.{DrainFault}
+use Rattle.blk_layer.specs.declared.serving.NoneIssued.{NoneIssued}
+use Rattle.blk_layer.specs.declared.serving.NoneIssued.TheVariants as none
+use Rattle.blk_layer.specs.Serving.{IsNoneIssued}
 
 -- the calls so far lead from the start to the core
 abbrev pub Goes : Policy → CoreState → CoreState → Type 0
@@ -60,7 +60,7 @@ pub completed : (policy : Policy) (start old : CoreState) (tag : ℕ) (new : Cor
 completed policy start old tag new d runs = one policy start old new (Done tag) d d.3.1 runs
 
 pub taken_back : (policy : Policy) (start old : CoreState) (tag : ℕ) (new : CoreState) (id : ℕ)
-    → TakesBack old tag id new → Goes policy start old → Goes policy start new
+    → RequeuesTag old tag id new → Goes policy start old → Goes policy start new
 taken_back policy start old tag new id b runs = one policy start old new (Back tag) (record { id = id; taken = b }) b.4.1 runs
 
 pub ended : (policy : Policy) (start old new : CoreState)

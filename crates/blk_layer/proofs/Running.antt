@@ -2,14 +2,14 @@
 use Rattle.std.proofs.Common.{◌≡◌, ◌∙◌, ◌+◌, ℕ, zero, suc, List, [], ◌∷◌, ◌++◌, append_assoc, Some, None, length, refl, sym, ap, inl, inr, arith}
 use Rattle.std.specs.Prelude.{Option, slice_get, slice_set}
 use Rattle.std.proofs.lemmas.List.{append-nil}
-use Rattle.edd_check.specs.declared.Command.{Command}
+use Rattle.edd_commands.specs.declared.Command.{Command}
 use Rattle.blk_tags.specs.Tags.{without}
 use Rattle.blk_tags.proofs.Counts.{none_count}
-use Rattle.blk_layer.specs.declared.passes.WorkFault.{WorkFault}
-use Rattle.blk_layer.specs.declared.passes.WorkFault.TheVariants.{TraceFull, Memory, Repeated}
+use Rattle.blk_layer.specs.declared.serving.WorkFault.{WorkFault}
+use Rattle.blk_layer.specs.declared.serving.WorkFault.TheVariants.{TraceFull, Memory, Repeated}
 use Rattle.blk_layer.specs.Seats.{WorkerSeat}
-use Rattle.blk_layer.specs.Works.{TakesInHand, let_go}
-use Rattle.blk_layer.specs.Passes.{Runs, IsEnded, IsWorkFault}
+use Rattle.blk_layer.specs.Serving.{TakesInHand, let_go, Runs, IsWorkFault}
+use Rattle.blk_layer.specs.Inside.Serving.{IsEnded}
 use Rattle.blk_layer.proofs.InHand.{pushed_without}
 
 -- nothing ran

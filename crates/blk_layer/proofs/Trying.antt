@@ -8,11 +8,11 @@ use Rattle.blk_trace.specs.Kinds.{is_tick, is_issue}
 use Rattle.blk_core.specs.State.{CoreState}
 use Rattle.blk_sched.specs.Policies.{Choice, OfTick}
 use Rattle.blk_core.specs.Faults.{IsIssueFault}
-use Rattle.blk_core.specs.declared.IssueFault.TheVariants as issue
-use Rattle.blk_layer.specs.declared.tries.NoneIssued.{NoneIssued}
-use Rattle.blk_layer.specs.declared.tries.NoneIssued.TheVariants as none
-use Rattle.blk_layer.specs.Tries.{issued_now, issued_after, IsNoneIssued}
-use Rattle.blk_layer.specs.Inside.Ends.{IsFullsEnd}
+use Rattle.blk_core.specs.declared.refusals.IssueFault.TheVariants as issue
+use Rattle.blk_layer.specs.declared.serving.NoneIssued.{NoneIssued}
+use Rattle.blk_layer.specs.declared.serving.NoneIssued.TheVariants as none
+use Rattle.blk_layer.specs.Serving.{issued_now, issued_after, IsNoneIssued}
+use Rattle.blk_layer.specs.Inside.Serving.{IsFullsEnd}
 
 one_more : (es : List Happened) (e : Happened) → issued_now (es ++ e ∷ []) ≡ issued_after (issued_now es) e
 unfolding issued_now

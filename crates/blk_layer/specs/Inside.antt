@@ -1,4 +1,5 @@
 -- What invariants and proofs need, and no promise names.
-pub mod Kept
-pub mod Lines
-pub mod Ends
+pub mod Seats
+pub mod Submitting
+pub mod Serving
+pub mod Closing

@@ -1,11 +1,5 @@
-pub mod Served
 pub mod Seats
-pub mod Faults
-pub mod Moves
-pub mod Flushes
-pub mod Works
-pub mod Passes
-pub mod Tries
-pub mod Ways
-pub mod Closes
+pub mod Submitting
+pub mod Serving
+pub mod Closing
 pub mod Inside

@@ -12,12 +12,12 @@ use std::collections::HashSet;
 use std::hash::{BuildHasherDefault, FoldHasher};
 use std::marker::Model;
 
-/// How the ids of an account hash: by numbers alone, so that an account needs no source of randomness.
-type Hashing = BuildHasherDefault<FoldHasher>;
+/// How a layer hashes: by numbers alone, so that it needs no source of randomness.
+pub(crate) type Hashing = BuildHasherDefault<FoldHasher>;
 
 /// Bios of which no two have one id, in the order in which they came, beside their ids.
 #[derive(Drop)]
-pub struct Account<A: Allocator = Global> {
+pub(crate) struct Account<A: Allocator = Global> {
     bios: Vec<Bio, A>,
     ids: HashSet<BioId, Hashing, A>,
 }
@@ -27,7 +27,7 @@ impl<A: Allocator> Model for Account<A> {
     ghost use Rattle.std.specs.HashSet as hash_set;
     ghost use Rattle.blk_bio.specs.Bios.{Bio as BioFields};
     ghost use Rattle.blk_trace.specs.Inside.Kept.{is_bio};
-    ghost use Rattle.blk_layer.specs.Inside.Kept.{IsAccount};
+    ghost use Rattle.blk_layer.specs.Inside.Seats.{IsAccount};
 
     ghost Value = { List BioFields };
 
@@ -37,8 +37,8 @@ impl<A: Allocator> Model for Account<A> {
 }
 
 impl<A: Allocator + Clone> Account<A> {
-    /// An account of no bios. Fails for want of memory alone.
-    pub fn new(alloc: A) -> Result<Account<A>, AllocError>
+    /// An account of no bios. Fails only when memory runs out.
+    pub(crate) fn new(alloc: A) -> Result<Account<A>, AllocError>
         ensures { IfOk result (λ a. a ≡ []) }
     {
         let ids = HashSet::new(alloc.clone()?);
@@ -49,7 +49,7 @@ impl<A: Allocator + Clone> Account<A> {
     }
 
     /// Its bios.
-    pub fn bios(&self) -> &[Bio]
+    pub(crate) fn bios(&self) -> &[Bio]
         ensures value { result.now ≡ self.now }
         ensures once { AreOnce self.now }
     {
@@ -61,15 +61,17 @@ impl<A: Allocator + Clone> Account<A> {
         ensures value { IsTrue result ↔ HasId self.now id }
         ensures once { AreOnce self.now }
     {
+        // Reads nothing: the prover gets the invariant, which ties the ids to the bios.
         let _ = &self.bios;
         self.ids.contains(&id)
     }
 
     /// The id of the first of the bios that is in the account or earlier among the bios.
-    pub fn first_repeated(&self, bios: &[Bio]) -> Option<BioId>
+    pub(crate) fn first_repeated(&self, bios: &[Bio]) -> Option<BioId>
         ensures some { IfSome result (IsFirstRepeatedBio self.now bios.now) }
         ensures none { IfNone result (AreOnce (self.now ++ bios.now)) }
     {
+        // Answers nothing that counts: the prover gets that no two bios of the account have one id.
         let _ = self.bios().len();
         for (place, bio) in bios.iter().enumerate() {
             let id = bio.id();
@@ -80,16 +82,16 @@ impl<A: Allocator + Clone> Account<A> {
         None
     }
 
-    /// Adds bios, none of which has an id that is in it or that another of them has. Fails for want of memory alone, and the
+    /// Adds bios, none of which has an id that is in it or that another of them has. Fails only when memory runs out, and the
     /// account is then as it was.
-    pub fn add(&mut self, bios: &[Bio]) -> Result<(), AllocError>
+    pub(crate) fn add(&mut self, bios: &[Bio]) -> Result<(), AllocError>
         requires { AreOnce (self.old ++ bios.now) }
         ensures ok { OnOk result (self.new ≡ self.old ++ bios.now) }
         ensures err { OnErr result (self.new ≡ self.old) }
     {
         self.ids.reserve(bios.len())?;
         self.bios.extend_from_slice(bios)?;
-        enter(&mut self.ids, bios);
+        insert_ids(&mut self.ids, bios);
         Ok(())
     }
 }
@@ -102,7 +104,7 @@ fn stands_in(bios: &[Bio], id: BioId) -> bool
 }
 
 /// Adds the ids of the bios, for which there is room.
-fn enter<A: Allocator + Clone>(ids: &mut HashSet<BioId, Hashing, A>, bios: &[Bio])
+fn insert_ids<A: Allocator + Clone>(ids: &mut HashSet<BioId, Hashing, A>, bios: &[Bio])
     requires { length bios.now ≤ hash_set.spare ids.old }
     ensures { (id : Name) → hash_set.contains is_bio ids.new id ≡ hash_set.contains is_bio ids.old id || has_bio_id bios.now id }
 {

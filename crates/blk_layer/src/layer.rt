@@ -1,39 +1,53 @@
-//! The layer.
+//! The layer: what its threads share, and how it is made.
 
-ghost use Rattle.std.specs.Prelude.{◌≡◌, ◌<◌, ◌≤◌, ◌+◌, [], All, List, IfOk, IfErr, OnOk, IfSome, IfNone, Some, length, slice_get, vec_len};
-ghost use Rattle.blk_bio.specs.Bios.{Bio as Transfer};
-ghost use Rattle.blk_plug.specs.Plugs.{bios_plugged};
-ghost use Rattle.blk_layer.specs.Flushes.{FlushesInto, IsLeft, IsRoomReason};
-ghost use Rattle.blk_layer.specs.Seats.{IsNewLayer};
-ghost use Rattle.blk_layer.specs.Faults.{CanMake, IsFirstOutside, IsLayerFault};
-ghost use Rattle.blk_layer.specs.Moves.{AreOfFirst, IsMoveAnswer, IsMoveAllAnswer};
-ghost use Rattle.blk_layer.specs.Passes.{IsLastTryFault};
-ghost use Rattle.blk_layer.specs.Tries.{IsNoneIssued};
-ghost use Rattle.blk_core.specs.Calls.{Issues};
+ghost use Rattle.std.specs.Prelude.{ℕ, true, ◌≡◌, ◌<◌, [], All, IfOk, IfErr, OnOk, IfSome, IfNone, length, vec_len};
+ghost use Rattle.blk_trace.specs.Setups.{Setup};
+ghost use Rattle.blk_sched.specs.Meaning.{at_start};
+ghost use Rattle.blk_core.specs.State.{CoreState, new_core};
+ghost use Rattle.blk_layer.specs.Seats.{IsNewLayer, CanMake, IsFirstOutside, IsLayerFault};
 
-use crate::copies::{copy_ahead, move_all_copied};
-use crate::flushes::{FlushFault, Flushed, flush};
-use crate::kept::Kept;
-use crate::moves::{DrainFault, move_all, move_first};
-use crate::names::Named;
+use crate::locked::{LockedCore, LockedQueue, empty_queues};
 use crate::seats::{Submitter, Worker, seat_submitters, seat_workers};
-use crate::staged::{Staged, empty_queues};
-use crate::tries::{NoneIssued, issue_or_end, try_issue};
-use blk_core::{Core, CoreFault, IssueFault};
+use blk_core::Core;
 use blk_hw::Map;
-use blk_plug::Plug;
 use blk_sched::Scheduler;
-use blk_soft::{MAX_DEPTH, SoftQueue};
+use blk_soft::MAX_DEPTH;
 use blk_tags::TagSet;
-use edd_check::Command;
 use std::alloc::Allocator;
-use std::marker::Model;
-use std::sync::Mutex;
+use std::marker::{Brand, Model};
 use std::sync::atomic::AtomicBool;
-use std::sync::ledger::Blank;
+use std::sync::ledger::{Blank, Ledger};
+use std::sync::{Mutex, MutexGuard, Wait};
+use std::thread::yield_now;
 
 /// The most workers of a layer, and the parts of its ledger.
 pub const MAX_WORKERS: u64 = 64;
+
+/// How often a thread tries to take the core's lock, and lets others run where it can't, before it sleeps until the lock is free.
+const TRIES: u64 = 64;
+
+/// The name of a layer: its ledger's, with what all that lies under the layer's locks and all of its seats agree on. A
+/// program calls a function that is generic over it with `Brand`.
+pub trait Named: Ledger {
+    /// What the core is set up for.
+    ghost setup: { Setup };
+
+    /// The core before its first call.
+    ghost start: { CoreState };
+
+    /// How many workers there are.
+    ghost workers: { ℕ };
+}
+
+impl Named for Brand {
+    ghost setup = { record { depth = 0; hw = 0; read_expire = 0; write_expire = 0; limits = record { max_sectors = 0; max_segments = 0 } } };
+
+    ghost start = { new_core
+        (record { depth = 0; hw = 0; read_expire = 0; write_expire = 0; limits = record { max_sectors = 0; max_segments = 0 } })
+        (at_start true) [] };
+
+    ghost workers = { 0 };
+}
 
 /// Why a layer is not made, in the order in which the reasons are looked for.
 #[derive(Clone, Copy, Debug, PartialEq, Eq)]
@@ -53,8 +67,8 @@ pub enum LayerFault {
 /// A block layer, which threads share by `&`.
 #[derive(Drop)]
 pub struct Layer<S: Scheduler, L: Named> {
-    pub(crate) kept: Mutex<Kept<S, L>>,
-    pub(crate) queues: Vec<Mutex<Staged<L, S::A>>, S::A>,
+    pub(crate) core: Mutex<LockedCore<S, L>>,
+    pub(crate) queues: Vec<Mutex<LockedQueue<L, S::A>>, S::A>,
     pub(crate) map: Map<S::A>,
     pub(crate) tags: TagSet<S::A>,
     pub(crate) workers: usize,
@@ -71,14 +85,15 @@ impl<S: Scheduler, L: Named> Model for Layer<S, L> {
 
     ghost view = { λ l. record { map = l.map; workers = l.workers; tag_set = l.tags } };
 
-    ghost invariant = { λ l. (vec_len l.queues ≡ length l.map) × IsHwCount l.map L.setup.hw × (l.tags.depth ≡ L.setup.depth) × (l.workers ≡ L.workers) };
+    ghost invariant = { λ l. (vec_len l.queues ≡ length l.map) × IsHwCount l.map L.setup.hw
+        × (l.tags.depth ≡ L.setup.depth) × (l.workers ≡ L.workers) };
 }
 
 impl<S: Scheduler, L: Named> Layer<S, L> {
     /// A layer over a core without events, with the seats of its submitters, one for each software queue of the map, and of
     /// its workers, one for each entry of `worker_queues`, the hardware queue that it works for. Each software queue has
     /// room for `soft_depth` requests. The core and its setup are those that the name says, and the blank has a part for each
-    /// worker that a layer may have; it is spent, also where the layer is refused.
+    /// worker that a layer may have; the blank is spent, even where the layer is refused.
     ///
     /// Refused, by the first of these that applies: as `Queues` where the map has another number of hardware queues than
     /// the core; as `SoftDepth` where `soft_depth` is not 1 to 1,024; as `Workers` where there are none or more than
@@ -117,7 +132,7 @@ impl<S: Scheduler, L: Named> Layer<S, L> {
         }
     }
 
-    /// Makes a layer that can be made. Refused for want of memory alone.
+    /// Makes a layer that can be made. Fails only when memory runs out.
     fn make(
         alloc: S::A,
         blank: Blank,
@@ -163,7 +178,7 @@ impl<S: Scheduler, L: Named> Layer<S, L> {
             return Err((LayerFault::Memory, core));
         };
         let layer = Layer {
-            kept: Mutex::new(Kept::opened(core, book, rest)),
+            core: Mutex::new(LockedCore::new(core, book, rest)),
             queues: staged,
             map,
             tags,
@@ -173,127 +188,16 @@ impl<S: Scheduler, L: Named> Layer<S, L> {
         Ok((layer, submitters, workers))
     }
 
-    /// Moves the requests of a plug, from the first on, to the back of a software queue, and their bios into the submitter's account, up
-    /// to the first that is refused. The plug's limits are the queue's. It waits for nobody: a flush calls it with the lock of the
-    /// submitter's software queue held.
-    ///
-    /// The first request left is refused as a flush says: as `SoftFull` exactly where it may be accepted and the queue has no room
-    /// for it, and as `Memory` only where there is room.
-    pub fn flush_into(
-        queue: &mut SoftQueue<S::A>,
-        submitter: &mut Submitter<L, S::A>,
-        plug: &mut Plug<S::A>,
-    ) -> Result<Flushed, FlushFault>
-        requires { plug.old.limits ≡ queue.old.limits }
-        ensures moved { FlushesInto queue.old submitter.old plug.old queue.new submitter.new plug.new }
-        ensures all { OnOk result (plug.new.requests ≡ []) }
-        ensures requests { IfOk result (λ f. f.requests ≡ length plug.old.requests) }
-        ensures bios { IfOk result (λ f. f.bios ≡ length (bios_plugged plug.old)) }
-        ensures left { IfErr result (λ e. e.left ≡ length plug.new.requests) }
-        ensures fault { IfErr result (λ e. IsLeft submitter.new plug.new e.why) }
-        ensures room { IfErr result (λ e. (first : List Transfer) → slice_get plug.new.requests 0 ≡ Some first → IsRoomReason queue.new first e.why) }
-    {
-        flush(queue, submitter, plug)
-    }
-
-    /// Moves the first request of a software queue into the core, for a hardware queue: it is released there and leaves
-    /// the queue. False exactly where the queue is empty. The queue's limits are the core's. It waits for nobody.
-    ///
-    /// Refused as the core's release is: as `NoQueue` where the core has no such hardware queue, as `Repeated` with the first bio
-    /// whose id stands in the trace or twice in the request, as `TraceFull` and as `Memory`. The request is first in the queue
-    /// again then, and both are as they were.
-    pub fn move_first(
-        queue: &mut SoftQueue<S::A>,
-        core: &mut Core<S>,
-        hw: u8,
-    ) -> Result<bool, CoreFault>
-        requires { queue.old.limits ≡ core.old.setup.limits }
-        ensures { IsMoveAnswer S.policy.serves queue.old core.old hw queue.new core.new result }
-    {
-        move_first(queue, core, hw)
-    }
-
-    /// Moves all requests of a software queue into the core, each as [`Layer::move_first`] does and the first first, up to the first
-    /// that is refused, and answers how many. It waits for nobody.
-    ///
-    /// Refused with how many were moved before, and why the first of those that are left was refused.
-    pub fn move_all(
-        queue: &mut SoftQueue<S::A>,
-        core: &mut Core<S>,
-        hw: u8,
-    ) -> Result<u64, DrainFault>
-        requires { queue.old.limits ≡ core.old.setup.limits }
-        ensures { IsMoveAllAnswer S.policy.serves queue.old core.old hw queue.new core.new result }
-    {
-        move_all(queue, core, hw)
-    }
-
-    /// Copies the requests of a software queue that have no copy yet, the first first, as long as there is memory, and room among the
-    /// copies. These are of the queue's first requests, and have its limits; those that were there stay. It waits for nobody: a drain
-    /// calls it for each of its software queues, with the lock of that queue held, before it takes the core's.
-    pub fn copy_ahead(queue: &SoftQueue<S::A>, copies: &mut SoftQueue<S::A>)
-        requires limits { copies.old.limits ≡ queue.now.limits }
-        requires first { AreOfFirst copies.old.requests queue.now.requests }
-        ensures limits { copies.new.limits ≡ copies.old.limits }
-        ensures kept { length copies.old.requests ≤ length copies.new.requests }
-        ensures first { AreOfFirst copies.new.requests queue.now.requests }
-    {
-        copy_ahead(queue, copies);
-    }
-
-    /// Moves all requests of a software queue into the core as [`Layer::move_all`] does, with copies of its first requests for the trace
-    /// that were made before, so that none is made now. It waits for nobody: a drain calls it for each of its software queues, with the
-    /// lock of that queue and the core's held.
-    ///
-    /// Refused as [`Layer::move_all`] is, and as `Memory` too where the core would take a request that has no copy. The copies that are
-    /// left are again those of the first requests that are left.
-    pub fn move_all_copied(
-        queue: &mut SoftQueue<S::A>,
-        copies: &mut SoftQueue<S::A>,
-        core: &mut Core<S>,
-        hw: u8,
-    ) -> Result<u64, DrainFault>
-        requires limits { queue.old.limits ≡ core.old.setup.limits }
-        requires first { AreOfFirst copies.old.requests queue.old.requests }
-        ensures answer { IsMoveAllAnswer S.policy.serves queue.old core.old hw queue.new core.new result }
-        ensures first { AreOfFirst copies.new.requests queue.new.requests }
-        ensures limits { copies.new.limits ≡ copies.old.limits }
-    {
-        move_all_copied(queue, copies, core, hw)
-    }
-
-    /// Issues for a hardware queue under a tag, as `Core::issue` does; but where the tag is used up in its round and that is full,
-    /// ends the round unless a command is in flight in it. A round is full where as many commands were issued in it as it carries.
-    /// The hardware queue and the tag are the setup's.
-    ///
-    /// It waits for nobody: each try of `work` for a command is this one, with the core's lock held, and `work` ends no round
-    /// otherwise.
-    ///
-    /// Nothing is issued, by the first of these that applies: as `TagRange` or `SlotUsed` where the tag is used up in the round, which
-    /// carries more commands; as `Full` or `Ended` where it is used up and the round is full; as `TraceFull` and `Memory` where the core
-    /// issues nothing so, or where the round can't be ended for want of a place or of memory; and as `Nothing` where the core
-    /// gives no command.
-    pub fn try_issue(core: &mut Core<S>, hw: u8, tag: u16) -> Result<Command, NoneIssued>
-        requires queue { hw < core.old.setup.hw }
-        requires range { tag < core.old.setup.depth }
-        ensures issued { IfOk result (λ command. Issues S.policy.serves S.policy.chooses core.old hw tag (Some command) core.new) }
-        ensures fault { IfErr result (λ why. IsNoneIssued S.policy.serves S.policy.chooses S.policy.told_tick core.old hw tag why core.new) }
-    {
-        try_issue(core, hw, tag)
-    }
-
-    /// Issues for a hardware queue under a tag, as `Core::issue` does, and ends the round where that is refused because the tag is
-    /// used up in it: it was issued in this round, or isn't below this round's depth, which is smaller than the setup's then. While a
-    /// command is in flight the round goes on. The tag is below the setup's depth. It waits for nobody.
-    ///
-    /// Refused as the core's issue is, and as `TraceFull` or `Memory` where the round can't be ended for want of a place in the
-    /// trace or of memory. Only under `SlotUsed` and `TagRange` the round may have ended; else nothing is changed.
-    pub fn issue_or_end(core: &mut Core<S>, hw: u8, tag: u16) -> Result<Option<Command>, IssueFault>
-        requires { tag < core.old.setup.depth }
-        ensures issued { IfOk result (λ found. Issues S.policy.serves S.policy.chooses core.old hw tag found core.new) }
-        ensures fault { IfErr result (λ why. IsLastTryFault S.policy.told_tick core.old hw tag why core.new) }
-    {
-        issue_or_end(core, hw, tag)
+    /// Takes the core's lock, for those who take it for each command. It tries for a while before it sleeps: the lock is held for
+    /// a shorter time than a sleep and a wake-up take, and a thread that comes again at once finds the core in its caches.
+    pub(crate) fn lock_core<R: Wait>(&self, rt: &R) -> MutexGuard<'_, LockedCore<S, L>> {
+        for _ in 0..TRIES {
+            if let Some(core) = self.core.try_lock() {
+                return core;
+            }
+            yield_now();
+        }
+        self.core.lock(rt)
     }
 }
 

@@ -3,37 +3,21 @@
 //!
 //! After blk-mq of Linux: a software queue for each submitter (`struct blk_mq_ctx`), hardware queues that drain those mapped to
 //! them, and driver tags. The core, a scheduler beside its trace, lies under one lock, each software queue under a lock of
-//! its own, and tags are taken without a lock. What each seat was told is in its account.
+//! its own, and tags are taken without a lock. What each seat had accepted is in its account.
 #![tactic(auto)]
 
-pub mod accounts;
-pub mod closes;
-mod compares;
-mod copies;
-pub mod devices;
-pub mod flushes;
-mod gathers;
-mod holds;
-pub mod issues;
-mod kept;
+mod accounts;
+pub mod closing;
 pub mod layer;
-mod lines;
-pub mod moves;
-pub mod names;
-pub mod passes;
+mod locked;
 pub mod seats;
-mod staged;
-pub mod tries;
-mod turns;
-pub mod works;
+pub mod serving;
+pub mod submitting;
 
-pub use crate::closes::{CloseFault, CloseRefused, Closed};
-pub use crate::devices::{Device, Ran};
-pub use crate::flushes::{FlushFault, FlushWhy, Flushed};
-pub use crate::issues::{Issued, LayerIssueFault};
-pub use crate::layer::{Layer, LayerFault, MAX_WORKERS};
-pub use crate::moves::{DrainFault, MAX_MOVES};
-pub use crate::names::Named;
-pub use crate::passes::{After, Passed, WorkFault, Worked, after_pass};
+pub use crate::closing::{CloseFault, CloseRefused, Closed};
+pub use crate::layer::{Layer, LayerFault, MAX_WORKERS, Named};
 pub use crate::seats::{Submitter, Worker};
-pub use crate::tries::NoneIssued;
+pub use crate::serving::{
+    After, Device, Issued, LayerIssueFault, NoneIssued, Passed, Ran, WorkFault, Worked, after_pass,
+};
+pub use crate::submitting::{DrainFault, FlushFault, FlushWhy, Flushed, MAX_MOVES};

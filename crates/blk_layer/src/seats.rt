@@ -2,23 +2,25 @@
 
 ghost use Rattle.std.specs.Prelude.{◌≡◌, ◌++◌, OnErr, IfSome, IfNone, ◌<◌, ◌≤◌, ◌+◌, ◌∷◌, [], ℕ, IfOk, IfErr, OnOk, All, length, map, replicate, vec_len, slice_get, Some, None, Contains};
 ghost use Rattle.blk_trace.specs.Events.{AreOnce};
-ghost use Rattle.blk_layer.specs.Flushes.{CanAccept, IsFlushReason, IsOfBios};
+ghost use Rattle.std.specs.Bool.{OnTrue, OnFalse};
+ghost use Rattle.blk_core.specs.Calls.{Completes, RequeuesTag};
 ghost use Rattle.blk_layer.specs.Seats.{AreOwn, HoldsItsTags, new_submitter, new_worker};
-ghost use Rattle.blk_layer.specs.Closes.{all_ran};
-ghost use Rattle.blk_layer.specs.Works.{TakesInHand, AccountsFor, LetsGo, IsInHand};
-ghost use Rattle.blk_core.specs.Calls.{Issues, Completes, TakesBack};
+ghost use Rattle.blk_layer.specs.Submitting.{CanAccept, IsFlushReason};
+ghost use Rattle.blk_layer.specs.Serving.{TakesInHand, AccountsFor, LetsGo, IsInHand, IsIssueAnswer};
+ghost use Rattle.blk_layer.specs.Closing.{all_ran};
+ghost use Rattle.blk_layer.specs.Inside.Submitting.{IsOfBios};
+ghost use Rattle.blk_layer.specs.Inside.Serving.{IssuesTo, IsEndedAs, IsPassRefusal, IsTurnFault, IsTurned};
 
 use crate::accounts::Account;
-use crate::flushes::{FlushWhy, first_foreign};
-use crate::issues::{Issued, Unasked};
-use crate::kept::Kept;
-use crate::names::Named;
-use crate::tries::NoneIssued;
+use crate::layer::Named;
+use crate::locked::LockedCore;
+use crate::serving::{Issued, NoCommand, NoneIssued, Ran, WorkFault};
+use crate::submitting::{FlushWhy, first_foreign};
 use blk_bio::{Bio, Request};
 use blk_core::{BackFault, NotIssued};
 use blk_sched::Scheduler;
 use blk_tags::{TagSeat, TagSet};
-use edd_check::Command;
+use edd_commands::Command;
 use std::alloc::{AllocError, Allocator, Global};
 use std::marker::{Model, PhantomData};
 use std::sync::ledger::{Book, Share};
@@ -43,7 +45,7 @@ impl<L: Named, A: Allocator> Model for Submitter<L, A> {
 }
 
 impl<L: Named, A: Allocator + Clone> Submitter<L, A> {
-    /// The submitter of a software queue, of which nothing was accepted. Fails for want of memory alone.
+    /// The submitter of a software queue, of which nothing was accepted. Fails only when memory runs out.
     fn new(alloc: A, number: u8) -> Result<Submitter<L, A>, AllocError>
         ensures { IfOk result (λ s. s ≡ new_submitter number) }
     {
@@ -54,13 +56,13 @@ impl<L: Named, A: Allocator + Clone> Submitter<L, A> {
         })
     }
 
-    /// The bios that a flush told it were accepted, in the order in which they were: all of this submitter, and no two of one
-    /// id.
+    /// The bios of which a flush said that they were accepted, in that order: all of this submitter, and no two of one id.
     pub fn accepted(&self) -> &[Bio]
         ensures value { result.now ≡ self.now.accepted }
         ensures own { AreOwn self.now.number self.now.accepted }
         ensures once { AreOnce self.now.accepted }
     {
+        // Reads nothing that counts: the prover gets the invariant, by which all are the submitter's own.
         let _ = self.number;
         self.account.bios()
     }
@@ -87,7 +89,7 @@ impl<L: Named, A: Allocator + Clone> Submitter<L, A> {
         }
     }
 
-    /// Accepts bios that may be accepted. Fails for want of memory alone, and nothing is changed then.
+    /// Accepts bios that may be accepted. Fails only when memory runs out, and nothing is changed then.
     pub(crate) fn accept(&mut self, bios: &[Bio]) -> Result<(), AllocError>
         requires { CanAccept self.old bios.now }
         ensures ok { OnOk result (self.new ≡ record { number = self.old.number; accepted = self.old.accepted ++ bios.now }) }
@@ -97,7 +99,7 @@ impl<L: Named, A: Allocator + Clone> Submitter<L, A> {
     }
 }
 
-/// So many submitters, of the software queues from 0 on.
+/// `count` submitters, of the software queues from 0 on.
 pub(crate) fn seat_submitters<L: Named, A: Allocator + Clone>(
     alloc: &A,
     count: u8,
@@ -128,17 +130,24 @@ pub struct Worker<L: Named, A: Allocator = Global> {
 impl<L: Named, A: Allocator> Model for Worker<L, A> {
     ghost use Rattle.std.specs.Prelude.{◌≡◌, vec_capacity, length};
     ghost use Rattle.blk_layer.specs.Seats.{WorkerSeat};
-    ghost use Rattle.blk_layer.specs.Inside.Kept.{IsWorking};
+    ghost use Rattle.blk_layer.specs.Inside.Seats.{IsWorking};
 
     ghost Value = { WorkerSeat };
 
-    ghost view = { λ w. record { tag_set = w.seat.of_set; hw = w.hw; tags = w.seat.tags; hands = w.hands.items; ran = w.ran.items } };
+    ghost view = { λ w. record {
+      tag_set = w.seat.of_set;
+      hw = w.hw;
+      tags = w.seat.tags;
+      hands = w.hands.items;
+      ran = w.ran.items;
+    } };
 
-    ghost invariant = { λ w. IsWorking L.setup w.hw w.seat.of_set.depth w.seat.tags w.hands.items (length w.ran.items) (vec_capacity w.ran) w.share.parts w.share.amount };
+    ghost invariant = { λ w. IsWorking L.setup w.hw w.seat.of_set.depth w.seat.tags w.hands.items
+        (length w.ran.items) (vec_capacity w.ran) w.share.parts w.share.amount };
 }
 
 impl<L: Named, A: Allocator + Clone> Worker<L, A> {
-    /// A worker with nothing in its hands, which ran nothing. Fails for want of memory alone.
+    /// A worker with nothing in its hands, which ran nothing. Fails only when memory runs out.
     fn new(
         alloc: A,
         seat: TagSeat<A>,
@@ -168,6 +177,7 @@ impl<L: Named, A: Allocator + Clone> Worker<L, A> {
         ensures value { result.now ≡ self.now.ran }
         ensures holds { HoldsItsTags self.now }
     {
+        // Here and below: reads nothing that counts, and the prover gets the worker's view.
         let _ = self.hw;
         self.ran.as_slice()
     }
@@ -186,42 +196,42 @@ impl<L: Named, A: Allocator + Clone> Worker<L, A> {
         self.seat.next()
     }
 
-    /// Makes room in its account for the commands that it may have in its hands. Fails for want of memory alone.
+    /// Makes room in its account for the commands that it may have in its hands. Fails only when memory runs out.
     pub(crate) fn make_room(&mut self) -> Result<(), AllocError>
         ensures { self.new ≡ self.old }
     {
         self.ran.reserve(self.hands.len())
     }
 
-    /// Issues a command to it out of the core, under the first tag from the given one on that is free, upward and round. Without a
-    /// command the tag goes back. Where the round is full it is ended, if it may be.
-    pub(crate) fn ask<S: Scheduler<A = A>>(
+    /// Issues a command to it out of the core, under the first free tag in rising order from the given one, which goes on at 0 after
+    /// the greatest. Without a command the tag is given back. A round that is full is ended where it may be.
+    pub(crate) fn issue<S: Scheduler<A = A>>(
         &mut self,
-        kept: &mut Kept<S, L>,
+        core: &mut LockedCore<S, L>,
         tags: &TagSet<A>,
         from: u16,
         may_end: bool,
-    ) -> Result<Issued, Unasked>
+    ) -> Result<Issued, NoCommand>
         requires { self.old.tag_set ≡ tags.now }
         ensures issued { IfOk result (λ issued. TakesInHand self.old issued.tag issued.command self.new) }
-        ensures core { IfOk result (λ issued. Issues S.policy.serves S.policy.chooses kept.old.core self.old.hw issued.tag (Some issued.command) kept.new.core) }
+        ensures core { IfOk result (λ issued. IssuesTo S.policy core.old.core self.old.hw issued core.new.core) }
         ensures same { OnErr result (self.new ≡ self.old) }
     {
         let Some(tag) = tags.get_from(&mut self.seat, from) else {
-            return Err(Unasked::NoTag);
+            return Err(NoCommand::NoTag);
         };
         if self.ran.reserve(self.hands.len()).is_err() {
             tags.give(&mut self.seat, tag);
-            return Err(Unasked::Told(NoneIssued::Memory));
+            return Err(NoCommand::Tried(NoneIssued::Memory));
         }
-        match kept.ask(self.hw, tag, may_end) {
+        match core.dispatch(self.hw, tag, may_end) {
             Ok(command) => {
                 self.hands[usize::from(tag)] = Some(command);
                 Ok(Issued { command, tag })
             }
             Err(why) => {
                 tags.give(&mut self.seat, tag);
-                Err(Unasked::Told(why))
+                Err(NoCommand::Tried(why))
             }
         }
     }
@@ -241,49 +251,131 @@ impl<L: Named, A: Allocator + Clone> Worker<L, A> {
     /// Reports to the core as done the command in its hands under a tag, as `Layer::done` says, and hands its request out.
     pub(crate) fn done<S: Scheduler<A = A>>(
         &mut self,
-        kept: &mut Kept<S, L>,
+        core: &mut LockedCore<S, L>,
         tags: &TagSet<A>,
         tag: u16,
     ) -> Result<Request<A>, NotIssued>
         requires { self.old.tag_set ≡ tags.now }
         ensures done { OnOk result (AccountsFor self.old tag self.new) }
-        ensures core { OnOk result (Completes S.policy.told_done kept.old.core tag kept.new.core) }
+        ensures core { OnOk result (Completes S.policy.told_done core.old.core tag core.new.core) }
         ensures same { OnErr result (self.new ≡ self.old) }
     {
         let Some(command) = self.in_hand(tag) else {
             return Err(NotIssued);
         };
-        let request = kept.done(&mut self.share, tag)?;
+        let request = core.done(&mut self.share, tag)?;
         self.hands[usize::from(tag)] = None;
         self.ran.push_reserved(command);
         tags.give(&mut self.seat, tag);
         Ok(request)
     }
 
-    /// Hands the command in its hands under a tag back to the core, as `Layer::back` says.
+    /// Requeues the command in its hands under a tag, as `Layer::back` says.
     pub(crate) fn back<S: Scheduler<A = A>>(
         &mut self,
-        kept: &mut Kept<S, L>,
+        core: &mut LockedCore<S, L>,
         tags: &TagSet<A>,
         tag: u16,
     ) -> Result<u64, BackFault>
         requires { self.old.tag_set ≡ tags.now }
         ensures back { IfOk result (λ id. LetsGo self.old tag id self.new) }
-        ensures core { IfOk result (λ _. (id : ℕ) × TakesBack kept.old.core tag id kept.new.core) }
+        ensures core { IfOk result (λ _. (id : ℕ) × RequeuesTag core.old.core tag id core.new.core) }
         ensures fault { IfErr result (λ why. why ≡ BackFault.Memory → IsInHand self.old tag) }
         ensures same { OnErr result (self.new ≡ self.old) }
     {
         let Some(command) = self.in_hand(tag) else {
             return Err(BackFault::NotIssued);
         };
-        kept.back(tag)?;
+        core.back(tag)?;
         self.hands[usize::from(tag)] = None;
         tags.give(&mut self.seat, tag);
         Ok(command.id)
     }
 }
 
-/// So many hands, none of which has a command.
+impl<L: Named, A: Allocator + Clone> Worker<L, A> {
+    /// Reports what became of the command in its hands under a tag: it is done, and its request is to be freed, or it is requeued.
+    /// False where the core refuses that; nothing is changed then.
+    pub(crate) fn end<S: Scheduler<A = A>>(
+        &mut self,
+        core: &mut LockedCore<S, L>,
+        tags: &TagSet<A>,
+        tag: u16,
+        ran: Ran,
+        freed: &mut Option<Request<A>>,
+    ) -> bool
+        requires { self.old.tag_set ≡ tags.now }
+        ensures ended { OnTrue result (IsEndedAs ran self.old tag self.new) }
+        ensures same { OnFalse result (self.new ≡ self.old) }
+    {
+        match ran {
+            Ran::Done => match self.done(core, tags, tag) {
+                Ok(request) => {
+                    *freed = Some(request);
+                    true
+                }
+                Err(_) => false,
+            },
+            Ran::Busy => self.back(core, tags, tag).is_ok(),
+        }
+    }
+
+    /// The next command for it. It tries one tag after the other, from the one after the last that was issued, until one is not used
+    /// up in the round or the round is full, and ends a round that is full unless a command is in flight in it.
+    pub(crate) fn next<S: Scheduler<A = A>>(
+        &mut self,
+        core: &mut LockedCore<S, L>,
+        tags: &TagSet<A>,
+    ) -> Result<Option<Issued>, WorkFault>
+        requires { self.old.tag_set ≡ tags.now }
+        ensures issued { IfOk result (λ found. IsIssueAnswer self.old found self.new) }
+        ensures fault { IfErr result (λ why. IsPassRefusal why × (self.new ≡ self.old)) }
+    {
+        let mut from = core.next_tag();
+        for _ in 0..tags.depth() {
+            match self.issue(core, tags, from, true) {
+                Ok(issued) => return Ok(Some(issued)),
+                Err(NoCommand::Tried(NoneIssued::TagRange | NoneIssued::SlotUsed)) => {}
+                Err(NoCommand::Tried(NoneIssued::TraceFull)) => return Err(WorkFault::TraceFull),
+                Err(NoCommand::Tried(NoneIssued::Memory)) => return Err(WorkFault::Memory),
+                Err(NoCommand::NoTag) => return Ok(None),
+                Err(NoCommand::Tried(NoneIssued::Nothing | NoneIssued::Full | NoneIssued::Ended)) =>
+                    {
+                        return Ok(None);
+                    }
+            }
+            from = self.after_last();
+        }
+        Ok(None)
+    }
+
+    /// Reports what became of the command in its hands under a tag, as `end` does, and then has the next one issued to it, if its
+    /// account has room for that.
+    #[tactic(auto, using(crate::proofs::Ending::turned, crate::proofs::Ending::not_ended, crate::proofs::Ending::none_next))]
+    pub(crate) fn end_and_next<S: Scheduler<A = A>>(
+        &mut self,
+        core: &mut LockedCore<S, L>,
+        tags: &TagSet<A>,
+        tag: u16,
+        ran: Ran,
+        has_room: bool,
+        freed: &mut Option<Request<A>>,
+    ) -> Result<Option<Issued>, WorkFault>
+        requires { self.old.tag_set ≡ tags.now }
+        ensures turned { IfOk result (λ found. IsTurned self.old tag ran found self.new) }
+        ensures fault { IfErr result (λ why. IsTurnFault self.old tag ran why self.new) }
+    {
+        if !self.end(core, tags, tag, ran, freed) {
+            return Err(WorkFault::Memory);
+        }
+        if !has_room {
+            return Err(WorkFault::Memory);
+        }
+        self.next(core, tags)
+    }
+}
+
+/// `count` hands, none of which has a command.
 fn empty_hands<A: Allocator>(alloc: A, count: u64) -> Result<Vec<Option<Command>, A>, AllocError>
     ensures { IfOk result (λ hands. hands.items ≡ replicate count None) }
 {
@@ -323,7 +415,7 @@ pub(crate) fn seat_workers<L: Named, A: Allocator + Clone>(
 }
 
 /// Audits a ledger of which the workers have a part each and `all` has the other parts: the amounts are the book's total. Each
-/// worker's part is lent for it.
+/// worker lends its part for the audit.
 pub(crate) fn audit<L: Named, A: Allocator + Clone>(
     book: &mut Book<L>,
     all: &mut Share<L>,

@@ -8,7 +8,7 @@ use Rattle.std.proofs.lemmas.Option.{slice_get_within, get_or_from_slice_get}
 use Rattle.blk_hw.specs.Maps.{IsHwCount, IsMapFault}
 use Rattle.blk_hw.specs.declared.MapFault.{MapFault}
 use Rattle.blk_hw.specs.declared.MapFault.TheVariants.{Empty, TooMany, Unserved}
-use Rattle.blk_layer.specs.Faults.{CanMake, IsLayerFault}
+use Rattle.blk_layer.specs.Seats.{CanMake, IsLayerFault}
 use Rattle.blk_layer.specs.declared.layer.LayerFault.{LayerFault}
 use Rattle.blk_layer.specs.declared.layer.LayerFault.TheVariants as layer
 use Rattle.blk_settings.specs.Faults.{IsLoadFault, IsTold}
@@ -16,7 +16,7 @@ use Rattle.blk_settings.specs.Numbers.{IsLoad}
 use Rattle.blk_settings.specs.declared.fault.LoadFault.{LoadFault}
 use Rattle.blk_settings.specs.declared.fault.LoadFault.TheVariants as fault
 use Rattle.blk_settings.specs.declared.numbers.Load.{Load}
-use Rattle.blk_load.specs.Loads.{AreInTurn}
+use Rattle.blk_load.specs.Inside.Loads.{AreInTurn}
 
 -- the queues in turn name just the numbers below
 pub counts : (count below : ℕ) (all : List ℕ) → AreInTurn count below all → 1 ≤ below → below ≤ count → IsHwCount all below

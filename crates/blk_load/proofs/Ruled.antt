@@ -4,17 +4,17 @@ use Rattle.blk_sched.specs.Meaning.{Meaning}
 use Rattle.blk_sched.specs.Policies.{Policy}
 use Rattle.blk_trace.specs.Setups.{Setup}
 use Rattle.blk_trace.specs.Traces.{Traced}
-use Rattle.blk_core.specs.State.{CoreState}
-use Rattle.blk_policy.specs.Runs.{IsRunFrom, IsRunBy, begun}
+use Rattle.blk_core.specs.State.{CoreState, new_core}
+use Rattle.blk_policy.specs.Runs.{IsRunFrom, IsRunBy}
 use Rattle.blk_settings.specs.declared.numbers.Load.{Load}
 use Rattle.blk_settings.specs.declared.sched.SchedFault.{SchedFault}
 use Rattle.blk_settings.specs.Settles.{setup_of}
 
 -- the layer's core began as the scheduler did, and the trace has its setup
 pub run_by : (policy : Policy) (start : CoreState) (setup : Setup) (m : Meaning) (k : List ℕ) (l : Load) (trace : Traced)
-    → start ≡ begun setup m k → setup ≡ setup_of l → trace.setup ≡ setup_of l → IsRunFrom policy start trace.events → IsRunBy policy m k trace
+    → start ≡ new_core setup m k → setup ≡ setup_of l → trace.setup ≡ setup_of l → IsRunFrom policy start trace.events → IsRunBy policy m k trace
 run_by policy start setup m k l trace at mine its runs =
-    subst (λ (c : CoreState). IsRunFrom policy c trace.events) (at ∙ ap (λ (s : Setup). begun s m k) (mine ∙ sym its)) runs
+    subst (λ (c : CoreState). IsRunFrom policy c trace.events) (at ∙ ap (λ (s : Setup). new_core s m k) (mine ∙ sym its)) runs
 
 -- the same where the scheduler means and keeps at first what its settings say
 pub run_under : (policy : Policy) (m n : Meaning) (k j : List ℕ) (trace : Traced) → m ≡ n → k ≡ j

@@ -1,7 +1,7 @@
 //! What is counted once the threads of a load have ended.
 
 ghost use Rattle.std.specs.Prelude.{◌≡◌, IfSome, length};
-ghost use Rattle.blk_layer.specs.Closes.{all_accepted};
+ghost use Rattle.blk_layer.specs.Closing.{all_accepted};
 
 use blk_layer::{Named, Submitter};
 

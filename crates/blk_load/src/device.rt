@@ -1,10 +1,10 @@
 //! The device of a worker.
 
 ghost use Rattle.std.specs.Prelude.{◌≡◌, None};
-ghost use Rattle.blk_load.specs.Loads.{ran_after, runs_after};
+ghost use Rattle.blk_load.specs.Inside.Loads.{ran_after, runs_after};
 
 use blk_layer::{Device, Ran};
-use edd_check::Command;
+use edd_commands::Command;
 use std::thread::sleep;
 use std::time::Duration;
 
@@ -22,8 +22,7 @@ pub(crate) struct Disk {
 }
 
 impl Disk {
-    /// A device that takes so many microseconds for a command, and is busy at every run whose number, counted from 1, the given one
-    /// divides.
+    /// A device that takes `service` microseconds for a command, and is busy at every run whose number, counted from 1, `busy` divides.
     pub(crate) fn new(clock: HostRuntime, service: u64, busy: Option<u64>) -> Disk
         ensures service { result.service ≡ service }
         ensures busy { result.busy ≡ busy }

@@ -2,14 +2,14 @@
 
 ghost use Rattle.std.specs.Prelude.{◌≡◌, ◌≢◌, ◌<◌, ◌≤◌, [], All, IsPermutation, IfOk, OnOk, IfErr, Some, length, min, vec_len};
 ghost use Rattle.blk_hw.specs.Maps.{IsHwCount};
-ghost use Rattle.blk_layer.specs.Closes.{all_accepted};
-ghost use Rattle.blk_layer.specs.Faults.{CanMake};
+ghost use Rattle.blk_layer.specs.Closing.{all_accepted};
+ghost use Rattle.blk_layer.specs.Seats.{CanMake};
 ghost use Rattle.blk_sched.specs.Meaning.{at_start};
 ghost use Rattle.blk_settings.specs.Faults.{IsLoadFault, IsTold};
 ghost use Rattle.blk_settings.specs.Numbers.{IsLoad};
 ghost use Rattle.blk_settings.specs.Settles.{IsSettled, served_bios, setup_of};
 ghost use Rattle.blk_trace.specs.Events.{AreOnce};
-ghost use Rattle.blk_load.specs.Loads.{AreInTurn};
+ghost use Rattle.blk_load.specs.Inside.Loads.{AreInTurn};
 ghost use Rattle.blk_policy.specs.Runs.{IsRunBy, IsRunFrom};
 
 use crate::counts::accepted;
@@ -34,8 +34,9 @@ use std::thread::{Threads, join};
 /// How many requests a software queue has room for.
 const SOFT_DEPTH: u64 = 64;
 
-/// Runs a load over a layer of a scheduler in which nothing waits, whose devices sleep by the clock. There is a hardware queue for each submitter or each worker,
-/// whichever are fewer; software queue s and worker w are mapped to the queues of numbers s and w modulo as many.
+/// Runs a load over a layer of a scheduler in which nothing waits, whose devices sleep by the clock. There is a hardware queue for each
+/// submitter or each worker, whichever are fewer; software queue s and worker w are mapped to the hardware queues of numbers s and w modulo
+/// that count.
 ///
 /// Refused, by the first of these that applies: as `Range` where a number of the load is out of its range; as `Memory`; as
 /// `TraceFull` where a worker is refused so; as `Repeated` where a submitter or a worker is; as `Stalled` where one used up its turns;
@@ -75,7 +76,7 @@ pub fn load<R: Threads + Wait + Sync, S: Scheduler<A = Global> + Send>(
     }
 }
 
-/// The numbers below the second one, in turn and again from 0, as many as the first one says.
+/// `count` numbers: those below `below` in turn, and again from 0.
 fn in_turn(alloc: Global, count: u64, below: u64) -> Result<Vec<u8>, AllocError>
     requires count { count ≤ MAX_WORKERS }
     requires some { 1 ≤ below }
@@ -144,7 +145,7 @@ fn on_layer<R: Threads + Wait + Sync, S: Scheduler<A = Global> + Send, L: Named 
     told(noted.into_first(), settled)
 }
 
-/// What is told of a load: the first of the faults that its threads met and of that of its settling, where there are some.
+/// The outcome of a load: the first, by rank, of the fault that its threads met and the one of its settling, where there are some.
 fn told(fault: Option<LoadFault>, settled: Result<Loaded, LoadFault>) -> Result<Loaded, LoadFault>
     ensures { IsTold fault settled result }
 {

@@ -17,7 +17,7 @@ const MAX_WORKS: u64 = 1000;
 /// How many passes it makes each time at most.
 const TURNS: u64 = 10_000;
 
-/// A worker's turns: it works until the layer says that all is finished. It ends with no fault then, or once another thread has
+/// A worker's thread: it works until the layer says that all is finished. It ends with no fault then, or once another thread has
 /// met a fault.
 fn serve<R: Wait, S: Scheduler<A = Global>, L: Named>(
     rt: &R,
@@ -47,7 +47,7 @@ fn serve<R: Wait, S: Scheduler<A = Global>, L: Named>(
     Err(LoadFault::Stalled)
 }
 
-/// A worker's turns, whose fault is noted for the other threads.
+/// A worker's thread, whose fault is noted for the other threads.
 fn serve_noted<R: Wait, S: Scheduler<A = Global>, L: Named>(
     rt: &R,
     site: &Site<S, L>,
@@ -61,7 +61,7 @@ fn serve_noted<R: Wait, S: Scheduler<A = Global>, L: Named>(
     }
 }
 
-/// The turns of workers, each in a thread of its own: the list is halved down to one seat.
+/// Runs workers, each in a thread of its own: the list is halved down to one seat.
 pub(crate) fn serve_all<
     R: Threads + Wait + Sync,
     S: Scheduler<A = Global> + Send,

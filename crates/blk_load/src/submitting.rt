@@ -2,7 +2,7 @@
 
 ghost use Rattle.std.specs.Prelude.{◌≡◌, ◌≢◌, ◌<◌, ◌≤◌, All, IfErr, length};
 ghost use Rattle.blk_settings.specs.declared.numbers.TheConstants.{MAX_LOAD_BIOS, MAX_SUBMITTERS};
-ghost use Rattle.blk_load.specs.Loads.{nth_bio};
+ghost use Rattle.blk_load.specs.Inside.Loads.{nth_bio};
 
 use crate::site::Site;
 use blk_bio::{Bio, BioId, Dir};
@@ -26,7 +26,7 @@ const SECTORS: u64 = 8;
 /// How many sectors from the beginning of one bio to that of the next: no bio touches another.
 const STRIDE: u64 = 16;
 
-/// The bio of this number of a submitter, of so many submitters: they write in turn, and every other bio of each is a write.
+/// The bio of this number of a submitter. The bios of all submitters lie in turn, and every other one of each is a write.
 fn nth_bio(submitters: u64, submitter: u8, serial: u64) -> Bio
     requires submitters { submitters ≤ MAX_SUBMITTERS }
     requires serial { serial < MAX_LOAD_BIOS }
@@ -62,7 +62,7 @@ fn fill(plug: &mut Plug, load: &Load, submitter: u8, from: u64) -> Result<u64, L
     Ok(load.bios)
 }
 
-/// A submitter's turns: it fills its plug, flushes it, and tries again where the software queue has no room for all of it. It ends
+/// A submitter's thread: it fills its plug, flushes it, and tries again where the software queue has no room for all of it. It ends
 /// with no fault once all of its bios are flushed, or once another thread has met a fault.
 fn submit<R: Wait, S: Scheduler<A = Global>, L: Named>(
     rt: &R,
@@ -93,7 +93,7 @@ fn submit<R: Wait, S: Scheduler<A = Global>, L: Named>(
     Err(LoadFault::Stalled)
 }
 
-/// Lets other threads run, more than once, since each flush that finds no room takes a lock that a worker wants.
+/// Lets other threads run several times, since each flush that finds no room takes a lock that a worker wants.
 fn rest() {
     for _ in 0..RESTS {
         yield_now();
@@ -126,7 +126,7 @@ fn flush<R: Wait, S: Scheduler<A = Global>, L: Named>(
     }
 }
 
-/// A submitter's turns, whose fault is noted for the other threads.
+/// A submitter's thread, whose fault is noted for the other threads.
 fn submit_noted<R: Wait, S: Scheduler<A = Global>, L: Named>(
     rt: &R,
     site: &Site<S, L>,
@@ -140,8 +140,7 @@ fn submit_noted<R: Wait, S: Scheduler<A = Global>, L: Named>(
     }
 }
 
-/// The turns of submitters, each in a thread of its own: the list is halved down to one seat. The layer is finished once all of them
-/// have ended.
+/// Runs submitters, each in a thread of its own: the list is halved down to one seat. The layer is finished once all of them have ended.
 pub(crate) fn submit_all<
     R: Threads + Wait + Sync,
     S: Scheduler<A = Global> + Send,

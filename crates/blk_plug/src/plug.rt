@@ -53,7 +53,7 @@ impl<A: Allocator> Model for Plug<A> {
 }
 
 impl<A: Allocator + Clone> Plug<A> {
-    /// A plug of no requests, with room for [`MAX_STAGED`]. Fails for want of memory alone.
+    /// A plug of no requests, with room for [`MAX_STAGED`]. Fails only when memory runs out.
     pub fn new(alloc: A, limits: Limits) -> Result<Plug<A>, AllocError>
         ensures { IfOk result (λ plug. plug ≡ record { limits = limits; requests = [] }) }
     {
@@ -63,7 +63,7 @@ impl<A: Allocator + Clone> Plug<A> {
 
     /// Adds a bio: it joins the newest request that it fits, at the back where it can, else at the front; where it fits
     /// none it becomes a request, the newest. Refused as `Full` where it fits none and the plug has [`MAX_STAGED`]
-    /// requests, and else as `Memory` where a growth is refused. The plug is then as it was and the bio comes back.
+    /// requests, and else as `Memory` where a list can't grow. The bio comes back then, and the plug is as it was.
     pub fn add(&mut self, bio: Bio) -> Result<Added, (Bio, PlugFault)>
         // what became of the bio or the fault, and the plug as it stands then
         ensures answer { IsAddAnswer self.old bio self.new result }
@@ -110,7 +110,7 @@ impl<A: Allocator + Clone> Plug<A> {
         self.requests.front()
     }
 
-    /// Takes its oldest request out, which is one bio or within the limits. There is none exactly where it has no
+    /// Takes out its oldest request, which is one bio or within the limits. There is none exactly where it has no
     /// requests.
     pub fn take_first(&mut self) -> Option<Request<A>>
         ensures some { IfSome result (λ first. self.old ≡ record { limits = self.new.limits; requests = first ∷ self.new.requests }) }

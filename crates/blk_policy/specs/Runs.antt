@@ -1,18 +1,17 @@
 -- What a core does, call after call, over a scheduler that serves, chooses and keeps as its policy says.
-use Rattle.std.specs.Prelude.{ℕ, ◌≡◌, Bool, List, [], ◌∷◌, None, Some, replicate}
-use Rattle.edd_check.specs.declared.Command.{Command}
+use Rattle.std.specs.Prelude.{ℕ, ◌≡◌, List, [], ◌∷◌, Some}
+use Rattle.edd_commands.specs.declared.Command.{Command}
 use Rattle.blk_bio.specs.Bios.{Bio}
 use Rattle.blk_bio.specs.declared.request.Side.{Side}
 use Rattle.blk_trace.specs.Happened.{Happened}
 use Rattle.blk_trace.specs.declared.event.Event.TheVariants.{Tick, Release, Join, Issue, Done, Back, Depth}
-use Rattle.blk_trace.specs.Setups.{Setup}
 use Rattle.blk_trace.specs.Traces.{Traced}
 use Rattle.blk_sched.specs.Meaning.{Meaning}
-use Rattle.blk_core.specs.declared.Placed.{Placed}
-use Rattle.blk_core.specs.declared.Placed.TheVariants.{New, Joined}
-use Rattle.blk_core.specs.State.{CoreState}
+use Rattle.blk_core.specs.declared.calls.Placed.{Placed}
+use Rattle.blk_core.specs.declared.calls.Placed.TheVariants.{New, Joined}
+use Rattle.blk_core.specs.State.{CoreState, new_core}
 use Rattle.blk_sched.specs.Policies.{Policy}
-use Rattle.blk_core.specs.Calls.{Places, Issues, Completes, TakesBack, Ends, SetsDepth}
+use Rattle.blk_core.specs.Calls.{Places, Issues, Completes, RequeuesTag, Ends, SetsDepth}
 
 -- a request was released for some hardware queue, and went there
 pub record Releases (policy : Policy) (old : CoreState) (bios : List Bio) (placed : Placed) (new : CoreState) : Type 0 where
@@ -26,10 +25,10 @@ pub record IssuesOne (policy : Policy) (old : CoreState) (id tag : ℕ) (new : C
   pub named : command.id ≡ id
   pub issues : Issues policy.serves policy.chooses old hw tag (Some command) new
 
--- the command in flight under the tag was taken back
-pub record TakesBackOne (old : CoreState) (tag : ℕ) (new : CoreState) : Type 0 where
+-- the command in flight under the tag was requeued
+pub record RequeuesSomeTag (old : CoreState) (tag : ℕ) (new : CoreState) : Type 0 where
   pub id : ℕ
-  pub taken : TakesBack old tag id new
+  pub taken : RequeuesTag old tag id new
 
 -- what the call that adds an event does: a release, an issue, a completion, a Back, the end of a round, or a new depth
 abbrev pub Steps : Policy → CoreState → Happened → CoreState → Type 0
@@ -37,7 +36,7 @@ Steps policy old (Release id bios) new = Releases policy old bios (New id) new
 Steps policy old (Join id bios) new = (side : Side) × Releases policy old bios (Joined id side) new
 Steps policy old (Issue id tag) new = IssuesOne policy old id tag new
 Steps policy old (Done tag) new = Completes policy.told_done old tag new
-Steps policy old (Back tag) new = TakesBackOne old tag new
+Steps policy old (Back tag) new = RequeuesSomeTag old tag new
 Steps policy old Tick new = Ends policy.told_tick old new
 Steps policy old (Depth n) new = SetsDepth old n new
 
@@ -51,17 +50,6 @@ Runs policy old (e ∷ es) new =
 abbrev pub IsRunFrom : Policy → CoreState → List Happened → Type 0
 IsRunFrom policy start events = ∥ ((end : CoreState) × Runs policy start events end) ∥₁
 
--- a core before its first call, whose scheduler means and keeps this
-abbrev pub begun : Setup → Meaning → List ℕ → CoreState
-begun setup meaning kept = record {
-  setup = setup;
-  events = [];
-  meaning = meaning;
-  kept = kept;
-  flights = replicate setup.depth None;
-  held = replicate setup.hw [];
-}
-
 -- a trace is one that a core makes whose scheduler follows the policy, and means and keeps this before the first call
 abbrev pub IsRunBy : Policy → Meaning → List ℕ → Traced → Type 0
-IsRunBy policy meaning kept trace = IsRunFrom policy (begun trace.setup meaning kept) trace.events
+IsRunBy policy meaning kept trace = IsRunFrom policy (new_core trace.setup meaning kept) trace.events

@@ -1,5 +1,5 @@
 -- Software queues.
-use Rattle.std.specs.Prelude.{ℕ, ◌≡◌, ◌+◌, ◌≤◌, List, length, sum_by, All}
+use Rattle.std.specs.Prelude.{ℕ, ◌≡◌, ◌+◌, ◌≤◌, ◌++◌, ◌∷◌, [], List, length, sum_by, All}
 use Rattle.blk_bio.specs.Bios.{Bio}
 use Rattle.blk_bio.specs.Limits.{Limits}
 use Rattle.blk_bio.specs.declared.limits.TheConstants.{MAX_SOFT_DEPTH}
@@ -21,6 +21,10 @@ pub record Queue : Type 0 where
   pub requests : List (List Bio)
   pub bios_in : ℕ
   pub bios_out : ℕ
+
+-- a queue with one request more at the back, whose bios came
+abbrev pub with_last : Queue → List Bio → Queue
+with_last queue request = record queue { requests = queue.requests ++ request ∷ []; bios_in = queue.bios_in + length request }
 
 -- how many bios the requests of a queue have
 abbrev pub bios_held : Queue → ℕ

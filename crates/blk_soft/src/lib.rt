@@ -4,10 +4,10 @@
 //! stand in it after they left a plug and before they enter the scheduler of a hardware queue.
 #![tactic(auto)]
 
-ghost use Rattle.std.specs.Prelude.{◌≡◌, ◌++◌, ◌∷◌, [], ◌+◌, ◌≤◌, ◌<◌, ◌^◌, ◌⊎◌, ◌↔◌, IsErr, IfOk, IfErr, OnOk, OnErr, IfSome, IfNone, length, slice_get};
+ghost use Rattle.std.specs.Prelude.{◌≡◌, ◌∷◌, [], ◌+◌, ◌≤◌, ◌<◌, ◌^◌, ◌⊎◌, ◌↔◌, IsErr, IfOk, IfErr, OnOk, OnErr, IfSome, IfNone, length, slice_get};
 ghost use Rattle.std.specs.Option.{option_copied};
 ghost use Rattle.blk_bio.specs.Requests.{IsWithin};
-ghost use Rattle.blk_soft.specs.Queues.{greatest_depth, most_bios, Queue, IsQueue};
+ghost use Rattle.blk_soft.specs.Queues.{greatest_depth, most_bios, with_last, Queue, IsQueue};
 
 use blk_bio::{Limits, MAX_SOFT_DEPTH, Request};
 use circular_buffer::HeapCircularBuffer;
@@ -35,13 +35,25 @@ impl<A: Allocator> Model for SoftQueue<A> {
 
     ghost Value = { Queue };
 
-    ghost view = { λ q. record { depth = q.ring.capacity; limits = q.limits; requests = q.ring.items; bios_in = q.bios_in; bios_out = q.bios_out } };
+    ghost view = { λ q. record {
+      depth = q.ring.capacity;
+      limits = q.limits;
+      requests = q.ring.items;
+      bios_in = q.bios_in;
+      bios_out = q.bios_out;
+    } };
 
-    ghost invariant = { λ q. IsQueue record { depth = q.ring.capacity; limits = q.limits; requests = q.ring.items; bios_in = q.bios_in; bios_out = q.bios_out } };
+    ghost invariant = { λ q. IsQueue record {
+      depth = q.ring.capacity;
+      limits = q.limits;
+      requests = q.ring.items;
+      bios_in = q.bios_in;
+      bios_out = q.bios_out;
+    } };
 }
 
 impl<A: Allocator + Clone> SoftQueue<A> {
-    /// A queue of no requests with room for `depth`, 1 to [`MAX_DEPTH`]. Fails for want of memory alone.
+    /// A queue of no requests with room for `depth`, 1 to [`MAX_DEPTH`]. Fails only when memory runs out.
     pub fn new(alloc: A, depth: u64, limits: Limits) -> Result<SoftQueue<A>, AllocError>
         requires { (1 ≤ depth) × (depth ≤ greatest_depth) }
         ensures { IfOk result (λ q. q ≡ record { depth = depth; limits = limits; requests = []; bios_in = 0; bios_out = 0 }) }
@@ -55,11 +67,11 @@ impl<A: Allocator + Clone> SoftQueue<A> {
         })
     }
 
-    /// Puts a request, which must be within the queue's limits, at the back. Refused exactly where the queue is full, or where more than [`MAX_BIOS`] bios would
-    /// have come; the queue is then as it was and the request comes back. It takes no memory.
+    /// Puts a request, which must be within the queue's limits, at the back. Refused exactly where the queue is full, or where
+    /// more than [`MAX_BIOS`] bios would have come; the request comes back then, and the queue is as it was. It takes no memory.
     pub fn put(&mut self, request: Request<A>) -> Result<(), Request<A>>
         requires within { IsWithin self.old.limits request }
-        ensures ok { OnOk result (self.new ≡ record self.old { requests = self.old.requests ++ request ∷ []; bios_in = self.old.bios_in + length request }) }
+        ensures ok { OnOk result (self.new ≡ with_last self.old request) }
         ensures err { IfErr result (λ r. r ≡ request) }
         ensures same { OnErr result (self.new ≡ self.old) }
         ensures refused { IsErr result ↔ ((length self.old.requests ≡ self.old.depth) ⊎ (most_bios < self.old.bios_in + length request)) }
@@ -73,7 +85,7 @@ impl<A: Allocator + Clone> SoftQueue<A> {
         Ok(())
     }
 
-    /// Takes the request that came first out. There is none exactly where the queue has no requests.
+    /// Takes out the request that came first. There is none exactly where the queue has no requests.
     pub fn take_first(&mut self) -> Option<Request<A>>
         ensures some { IfSome result (λ r. self.old.requests ≡ r ∷ self.new.requests) }
         ensures counted { IfSome result (λ r. self.new.bios_out ≡ self.old.bios_out + length r) }
@@ -112,11 +124,11 @@ impl<A: Allocator + Clone> SoftQueue<A> {
         self.ring.len()
     }
 
-    /// The request at a place, counted from 0 at the front. There is none exactly where there are no more requests than the
-    /// place says.
+    /// The request at a place, counted from 0 at the front. There is none exactly from the number of requests on.
     pub fn get(&self, place: usize) -> Option<&Request<A>>
         ensures { option_copied result ≡ slice_get self.now.requests place }
     {
+        // Reads nothing that counts: the prover gets the queue's view.
         let _ = self.bios_in;
         self.ring.get(place)
     }

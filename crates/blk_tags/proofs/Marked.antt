@@ -5,7 +5,8 @@ use Rattle.std.proofs.lemmas.Bool.{cases_Bool, eqb-true, eq-eqb, ltb-true, ltb-f
 use lib.Dec.{ltb}
 use Rattle.std.proofs.lemmas.List.{get_or-set_same, get_or-set_other}
 use Rattle.atomic_table.specs.Seated.{TableId}
-use Rattle.blk_tags.specs.Tags.{Seat, IsSet, IsSeat, Marks, count_of, without, one_if}
+use Rattle.blk_tags.specs.Tags.{Seat, IsSet, IsSeat, count_of, without, one_if}
+use Rattle.blk_tags.specs.Inside.{Marks}
 use Rattle.blk_tags.proofs.Counts.{count_push_same, count_push_other, none_left, others_left, held_some, some_held, none_empty, none_count}
 
 abbrev pub seat_of : TableId → List Bool → List ℕ → Option ℕ → Seat

@@ -1,5 +1,5 @@
 -- A set of tags and the seats at it, as their callers see them.
-use Rattle.std.specs.Prelude.{ℕ, ◌≡◌, ◌+◌, ◌≤◌, ◌<◌, ◌==◌, Bool, false, not, List, [], ◌∷◌, Option, IfSome, filter, slice_index_or, if◌then◌else◌}
+use Rattle.std.specs.Prelude.{ℕ, ◌≡◌, ◌+◌, ◌≤◌, ◌<◌, ◌==◌, Bool, not, List, [], ◌∷◌, Option, IfSome, filter, if◌then◌else◌}
 use Rattle.atomic_table.specs.Seated.{TableId}
 use Rattle.blk_tags.specs.declared.TheConstants.{MAX_DEPTH}
 
@@ -38,7 +38,3 @@ pub record IsSeat (seat : Seat) : Type 0 where
   pub once : (t : ℕ) → count_of t seat.tags ≤ 1
   pub below : (t : ℕ) → seat.of_set.depth ≤ t → count_of t seat.tags ≡ 0
   pub last : IfSome seat.last (λ t. t < seat.of_set.depth)
-
--- the marks are true at the places of the tags, which stand there once
-abbrev pub Marks : List Bool → List ℕ → Type 0
-Marks marks tags = (t : ℕ) → count_of t tags ≡ one_if (slice_index_or marks t false)

@@ -27,7 +27,7 @@ pub const MAX_DEPTH: u64 = 256;
 pub enum TagFault {
     /// The depth is 0 or above [`MAX_DEPTH`].
     Depth,
-    /// Want of memory.
+    /// Memory ran out.
     Memory,
 }
 
@@ -40,14 +40,14 @@ impl TableRule<u8, Held, u16> for TagRule {
     ghost first = { λ _. [] };
 }
 
-/// What a take tells the seat.
+/// What a take does to the seat.
 struct Take;
 
 impl Play<u8, Held> for Take {
     ghost then = { took };
 }
 
-/// What a give tells the seat.
+/// What a give does to the seat.
 struct Give;
 
 impl Play<u8, Held> for Give {
@@ -87,7 +87,8 @@ impl<A: Allocator> Model for TagSet<A> {
 
     ghost view = { λ s. record { name = s.table.shared.table_id; depth = s.depth } };
 
-    ghost invariant = { λ s. IsSet record { name = s.table.shared.table_id; depth = s.depth } × (s.table.shared.table_id.words ≡ 4) × (s.table.shared.key ≡ s.depth) };
+    ghost invariant = { λ s. IsSet record { name = s.table.shared.table_id; depth = s.depth }
+        × (s.table.shared.table_id.words ≡ 4) × (s.table.shared.key ≡ s.depth) };
 }
 
 /// A seat at a set: the tags that it holds, and the one that it took last. One thread at a time takes and gives with it.
@@ -101,18 +102,27 @@ pub struct TagSeat<A: Allocator = Global> {
 
 impl<A: Allocator> Model for TagSeat<A> {
     ghost use Rattle.std.specs.Prelude.{◌≡◌, [], length};
-    ghost use Rattle.blk_tags.specs.Tags.{Seat as SeatFields, IsSeat, Marks};
+    ghost use Rattle.blk_tags.specs.Tags.{Seat as SeatFields, IsSeat};
+    ghost use Rattle.blk_tags.specs.Inside.{Marks};
 
     ghost Value = { SeatFields };
 
-    ghost view = { λ s. record { of_set = record { name = s.seat.table_id; depth = length s.marks.items }; tags = s.seat.me.0; last = s.last } };
+    ghost view = { λ s. record {
+      of_set = record { name = s.seat.table_id; depth = length s.marks.items };
+      tags = s.seat.me.0;
+      last = s.last;
+    } };
 
-    ghost invariant = { λ s. IsSeat record { of_set = record { name = s.seat.table_id; depth = length s.marks.items }; tags = s.seat.me.0; last = s.last } × Marks s.marks.items s.seat.me.0 × (s.seat.me.1 ≡ []) };
+    ghost invariant = { λ s. IsSeat record {
+      of_set = record { name = s.seat.table_id; depth = length s.marks.items };
+      tags = s.seat.me.0;
+      last = s.last;
+    } × Marks s.marks.items s.seat.me.0 × (s.seat.me.1 ≡ []) };
 }
 
 impl<A: Allocator + Clone> TagSet<A> {
-    /// A set of as many tags, 1 to [`MAX_DEPTH`], none of them taken, with its first seat. Refused as `Depth` where the number
-    /// is out of its range, and then as `Memory` for want of memory.
+    /// A set of `depth` tags, 1 to [`MAX_DEPTH`], none of them taken, with its first seat. Refused as `Depth` where the depth
+    /// is out of its range, and then as `Memory` when memory runs out.
     pub fn new(alloc: A, depth: u64) -> Result<(TagSet<A>, TagSeat<A>), TagFault>
         ensures depth { IfOk result (λ p. p.0.depth ≡ depth) }
         ensures seat { IfOk result (λ p. p.1 ≡ record { of_set = p.0; tags = []; last = None }) }
@@ -136,7 +146,8 @@ impl<A: Allocator + Clone> TagSet<A> {
         Ok((TagSet { table, depth }, seat))
     }
 
-    /// A new seat, which holds no tag; the seat that is handed in must be one of this set, and stays as it is. Fails for want of memory alone.
+    /// A new seat, which holds no tag; the seat that is handed in must be one of this set, and stays as it is. Fails only when
+    /// memory runs out.
     pub fn split(&self, seat: &mut TagSeat<A>) -> Result<TagSeat<A>, AllocError>
         requires { seat.old.of_set ≡ self.now }
         ensures ok { IfOk result (λ s. s ≡ record { of_set = self.now; tags = []; last = None }) }
@@ -151,7 +162,7 @@ impl<A: Allocator + Clone> TagSet<A> {
     }
 }
 
-/// As many marks, none of them set.
+/// `count` marks, none of them set.
 fn no_marks<A: Allocator + Clone>(alloc: &A, count: usize) -> Result<Vec<bool, A>, AllocError>
     ensures { IfOk result (λ v. v.items ≡ replicate count false) }
 {
@@ -170,11 +181,12 @@ impl<A: Allocator> TagSet<A> {
                 self.give(&mut other, tag);
             }
         }
+        // Answers nothing that counts: the prover gets that the seat is one of a set.
         let _ = other.holds(0);
         other
     }
 
-    /// Lets a seat go that holds no tag, into one that stays as it is; both are seats of this set.
+    /// Drops a seat that holds no tag, by joining it into one that stays as it is; both are seats of this set.
     pub fn let_go(&self, seat: &mut TagSeat<A>, other: TagSeat<A>)
         requires of_set { seat.old.of_set ≡ self.now }
         requires other_of_set { other.of_set ≡ self.now }
@@ -189,8 +201,9 @@ impl<A: Allocator> TagSet<A> {
         self.table.shared.join_seat::<Whole>(&mut seat.seat, gone);
     }
 
-    /// Takes a tag that no seat holds, for a seat of this set. Tries each tag at most once, upward and round from the one after
-    /// the seat's last, 0 first. There is none where each try found its tag taken. It neither waits nor takes memory.
+    /// Takes a tag that no seat holds, for a seat of this set. Tries each tag at most once, in rising order from the one after
+    /// the seat's last, from 0 at first, and goes on at 0 after the greatest. There is none where each try found its tag
+    /// taken. It neither waits nor takes memory.
     pub fn get(&self, seat: &mut TagSeat<A>) -> Option<u16>
         requires { seat.old.of_set ≡ self.now }
         ensures some { IfSome result (λ t. seat.new ≡ record seat.old { tags = seat.old.tags ++ t ∷ []; last = Some t }) }
@@ -203,7 +216,7 @@ impl<A: Allocator> TagSet<A> {
         self.get_from(seat, from)
     }
 
-    /// Takes a tag in the same way, but tries upward and round from the given one on, or from 0 where that is none of the set's.
+    /// Takes a tag as [`TagSet::get`] does, but tries from the given one on, or from 0 where that is none of the set's.
     pub fn get_from(&self, seat: &mut TagSeat<A>, from: u16) -> Option<u16>
         requires { seat.old.of_set ≡ self.now }
         ensures some { IfSome result (λ t. seat.new ≡ record seat.old { tags = seat.old.tags ++ t ∷ []; last = Some t }) }

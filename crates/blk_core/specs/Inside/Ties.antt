@@ -1,5 +1,5 @@
 -- What keeps a core tied to its trace.
-use Rattle.std.specs.Prelude.{ℕ, ◌≡◌, ◌≤◌, ◌<◌, true, false, List, length, sum_by, slice_index_or, Option, None, Some, cond}
+use Rattle.std.specs.Prelude.{ℕ, ◌≡◌, ◌≤◌, ◌<◌, ◌⊎◌, ◌++◌, ◌∷◌, [], Bool, true, false, List, length, sum_by, slice_index_or, slice_set, Option, None, Some, cond}
 use Rattle.std.specs.FinMap as map
 use Rattle.blk_bio.specs.declared.bio.Dir.{Dir}
 use Rattle.blk_bio.specs.declared.bio.Dir.TheVariants.{Read, Write}
@@ -13,38 +13,48 @@ use Rattle.blk_trace.specs.Legal.{IsLegalTrace}
 use Rattle.blk_trace.specs.Inside.Seats.{RoundSeat, seat_at}
 use Rattle.blk_trace.specs.Waits.{released_count}
 use Rattle.blk_trace.specs.Setups.{same_dir}
-use Rattle.blk_sched.specs.Meaning.{Waiting, Meaning}
-use Rattle.blk_core.specs.declared.TagState.{TagState}
-use Rattle.blk_core.specs.declared.TagState.TheVariants.{Free, Flying, Spent}
-use Rattle.blk_core.specs.State.{Flight, IsFlown, HoldsWhatWaits}
+use Rattle.blk_sched.specs.Meaning.{Waiting, Meaning, ServesNothing, unfinished}
+use Rattle.blk_hw.specs.Held.{held_in}
+use Rattle.blk_core.specs.declared.tags.TagState.{TagState}
+use Rattle.blk_core.specs.declared.tags.TagState.TheVariants.{Free, InFlight, Spent}
+use Rattle.blk_core.specs.State.{Flight, InFlightAs, HoldsWhatWaits}
 
 -- the command in flight under a tag that stands so
 abbrev pub flight_of : {A : Type 0} → TagState A → Option Flight
 flight_of Free = None
-flight_of (Flying hw queued) = Some (record { hw = hw; request = queued })
+flight_of (InFlight hw queued) = Some (record { hw = hw; request = queued })
 flight_of (Spent dir) = None
 
 -- the seat that it stands for
 abbrev pub seat_of : {A : Type 0} → TagState A → Option RoundSeat
 seat_of Free = None
-seat_of (Flying hw queued) = Some (record { dir = dir_of queued.bios; in_flight = true })
+seat_of (InFlight hw queued) = Some (record { dir = dir_of queued.bios; in_flight = true })
 seat_of (Spent dir) = Some (record { dir = dir; in_flight = false })
 
 -- its hardware queue
 abbrev pub queue_of : {A : Type 0} → TagState A → ℕ
 queue_of Free = 0
-queue_of (Flying hw queued) = hw
+queue_of (InFlight hw queued) = hw
 queue_of (Spent dir) = 0
 
 -- of a command in flight under a tag that stands so, this; of another tag, nothing
-abbrev pub IfFlying : {A : Type 0} → TagState A → (ℕ → Waiting → Type 0) → Type 0
-IfFlying (Flying hw queued) P = P hw queued
-IfFlying _ P = ⊥
+abbrev pub IfInFlight : {A : Type 0} → TagState A → (ℕ → Waiting → Type 0) → Type 0
+IfInFlight (InFlight hw queued) P = P hw queued
+IfInFlight _ P = ⊥
+
+-- a requeue: the request in flight is held behind the others of its hardware queue, and its tag is spent
+abbrev pub Requeues : {A : Type 0} → TagState A → List (List Waiting) → TagState A → List (List Waiting) → Type 0
+Requeues old held new new_held =
+    IfInFlight old (λ hw w. (new ≡ Spent (dir_of w.bios)) × (new_held ≡ slice_set held hw (held_in held hw ++ w ∷ [])))
+
+-- a scheduler may pick none for a hardware queue: a pick is open or was handed back, or it serves nothing for this one
+abbrev pub MayPickNone : (ℕ → Waiting → Bool) → ℕ → Meaning → Type 0
+MayPickNone serves hw m = (0 < unfinished m.open_picks) ⊎ ServesNothing serves hw m
 
 -- 1 for a command of this direction in flight, else 0
 abbrev pub flying : {A : Type 0} → Dir → TagState A → ℕ
 flying dir Free = 0
-flying dir (Flying hw queued) = cond (same_dir dir (dir_of queued.bios)) 1 0
+flying dir (InFlight hw queued) = cond (same_dir dir (dir_of queued.bios)) 1 0
 flying dir (Spent d) = 0
 
 -- a core's own fields say what its trace says
@@ -59,7 +69,7 @@ pub record IsTied {A : Type 0} (setup : Setup) (events : List Happened) (m : Mea
   pub room : length tags ≡ setup.depth
   pub lists : length held ≡ setup.hw
   pub seats : (tag : ℕ) → tag < length tags → seat_of (slice_index_or tags tag Free) ≡ seat_at events tag
-  pub flown : (tag hw : ℕ) (w : Waiting) → slice_index_or tags tag Free ≡ Flying hw w → IsFlown setup events tag w
+  pub flown : (tag hw : ℕ) (w : Waiting) → slice_index_or tags tag Free ≡ InFlight hw w → InFlightAs setup events tag w
   pub reads : sum_by (flying Read) tags ≡ m.open_picks.reads
   pub writes : sum_by (flying Write) tags ≡ m.open_picks.writes
   pub queues : (tag : ℕ) → queue_of (slice_index_or tags tag Free) < setup.hw

@@ -1,5 +1,5 @@
 use Rattle.std.proofs.Common.{◌≡◌, length, take}
-use Rattle.blk_layer.specs.Closes.{all_accepted}
+use Rattle.blk_layer.specs.Closing.{all_accepted}
 use Rattle.blk_load.proofs.counts.accepted.Given as goal
 
 abbrev pub invariant-loop-submitter : goal.invariant-loop-submitter

@@ -1,6 +1,6 @@
 use Rattle.std.proofs.Common.{◌≡◌, ◌<◌, length}
 use Rattle.std.specs.Prelude.{All}
-use Rattle.blk_load.specs.Loads.{AreInTurn}
+use Rattle.blk_load.specs.Inside.Loads.{AreInTurn}
 use Rattle.blk_load.proofs.running.in_turn.Given as goal
 
 abbrev pub invariant-loop-place : goal.invariant-loop-place

@@ -13,4 +13,4 @@ pub invariant_of-self-2 : goal.invariant_of-self-2
 invariant_of-self-2 g c =
     let bios = c.self.inside.bios.items in
     let once : AreOnce (bios ++ c.args.bios.now) = subst (λ v. AreOnce (v ++ c.args.bios.now)) (sym c.self.view_is) c.requires in
-    more_account bios c.args.bios.now c.extend_from_slice.new.self.items (hash_set.contains is_bio c.self.inside.ids) (hash_set.contains is_bio c.reserve.new.self) (hash_set.contains is_bio c.enter.new.ids) c.self.invariant once (search rules) c.in_ok-reserve.ensures.keys.2 c.enter.ensures
+    more_account bios c.args.bios.now c.extend_from_slice.new.self.items (hash_set.contains is_bio c.self.inside.ids) (hash_set.contains is_bio c.reserve.new.self) (hash_set.contains is_bio c.insert_ids.new.ids) c.self.invariant once (search rules) c.in_ok-reserve.ensures.keys.2 c.insert_ids.ensures

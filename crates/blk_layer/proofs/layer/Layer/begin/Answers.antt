@@ -1,8 +1,8 @@
 use Rattle.std.proofs.Common.{◌≡◌, subst}
 use Rattle.std.specs.Prelude.{IfOk, IfErr}
 use Rattle.blk_layer.specs.Seats.{WorkerSeat}
-use Rattle.blk_layer.specs.Works.{IsIssueAnswer}
-use Rattle.blk_layer.specs.Passes.{IsPassRefusal}
+use Rattle.blk_layer.specs.Serving.{IsIssueAnswer}
+use Rattle.blk_layer.specs.Inside.Serving.{IsPassRefusal}
 use Rattle.blk_layer.proofs.layer.Layer.begin.Goals as goal
 
 pub returns-clause-issued : goal.returns-clause-issued

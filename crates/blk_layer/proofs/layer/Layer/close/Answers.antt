@@ -1,5 +1,5 @@
 use Rattle.std.proofs.Common.{sym, refl, rules, IsTrue}
-use Rattle.blk_layer.specs.Closes.{AreAllThere}
+use Rattle.blk_layer.specs.Closing.{AreAllThere}
 use Rattle.blk_layer.proofs.Agreed.{same_there, on_ok}
 use Rattle.blk_layer.proofs.layer.Layer.close.Goals as goal
 

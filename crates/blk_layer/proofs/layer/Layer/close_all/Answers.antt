@@ -1,9 +1,9 @@
 use Rattle.std.proofs.Common.{◌≡◌, ◌∙◌, sym, ap, subst, refl, rules, arith, length, List, ◌++◌, Some, None}
 use Rattle.blk_layer.specs.Seats.{LayerShape, WorkerSeat}
-use Rattle.blk_layer.specs.Served.{done_count}
+use Rattle.blk_layer.specs.Closing.{done_count, AreAllThere, AreSettled, Disagrees, all_ran, issued_bios}
 use Rattle.blk_trace.specs.Happened.{Happened}
 use Rattle.blk_trace.specs.Events.{AreOnce}
-use Rattle.blk_layer.specs.Closes.{AreAllThere, AreDistinct, AreSettled, Disagrees, all_ran, issued_bios}
+use Rattle.blk_layer.specs.Inside.Closing.{AreDistinct}
 use Rattle.blk_layer.proofs.Onces.{are_distinct}
 use Rattle.blk_layer.proofs.Agreed.{none_of, some_of, same_settled, same_counted, same_disagrees, written_back}
 use Rattle.blk_core.specs.State.{CoreState}

@@ -1,4 +1,4 @@
-use Rattle.blk_layer.proofs.Turning.{IsServing}
+use Rattle.blk_layer.proofs.Ending.{IsServing}
 use Rattle.blk_layer.proofs.layer.Layer.serve.Given as goal
 
 abbrev pub invariant-loop-served : goal.invariant-loop-served

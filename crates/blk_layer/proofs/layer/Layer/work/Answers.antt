@@ -1,6 +1,6 @@
 use Rattle.std.proofs.Common.{◌≡◌, true, false, length, refl, ap, arith}
 use Rattle.std.proofs.lemmas.Result.{err_from_is_err_and}
-use Rattle.blk_layer.specs.Passes.{Runs}
+use Rattle.blk_layer.specs.Serving.{Runs}
 use Rattle.blk_layer.proofs.Running.{ran_on, ran_count, faulted_on}
 use Rattle.blk_layer.proofs.layer.Layer.work.Goals as goal
 

@@ -1,4 +1,4 @@
-use Rattle.blk_layer.specs.Passes.{Runs}
+use Rattle.blk_layer.specs.Serving.{Runs}
 use Rattle.blk_layer.proofs.layer.Layer.work.Given as goal
 
 abbrev pub invariant-loop-passed : goal.invariant-loop-passed

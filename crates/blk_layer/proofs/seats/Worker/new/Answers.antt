@@ -1,7 +1,7 @@
 use Rattle.std.proofs.Common.{◌≡◌, ◌∙◌, sym, ap, subst, arith, map, length, [], List, ℕ}
 use Rattle.std.specs.Prelude.{is_some, Option, count_by}
-use Rattle.edd_check.specs.declared.Command.{Command}
-use Rattle.blk_tags.specs.Tags.{Marks}
+use Rattle.edd_commands.specs.declared.Command.{Command}
+use Rattle.blk_tags.specs.Inside.{Marks}
 use Rattle.blk_layer.proofs.Held.{no_marks, no_length, empty_count}
 use Rattle.blk_layer.proofs.seats.Worker.new.Goals as goal
 

@@ -1,6 +1,0 @@
-use Rattle.std.proofs.Common.{◌≡◌, replicate}
-use Rattle.blk_core.specs.declared.TagState.TheVariants.{Free}
-use Rattle.blk_core.proofs.free_tags.Given as goal
-
-abbrev pub invariant-loop : goal.invariant-loop
-invariant-loop g l = l.tags.items ≡ replicate l.counter Free

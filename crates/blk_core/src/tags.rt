@@ -1,0 +1,90 @@
+//! How the tags of a core stand in the round that is on.
+
+ghost use Rattle.std.specs.Prelude.{◌≡◌, ◌<◌, ⊤, IfOk, OnOk, OnErr, length, replicate};
+ghost use Rattle.blk_bio.specs.Requests.{dir_of};
+ghost use Rattle.blk_core.specs.Inside.Ties.{IfInFlight, Requeues};
+
+use blk_bio::{Dir, Request};
+use blk_hw::RequeueLists;
+use blk_sched::Queued;
+use std::alloc::{AllocError, Allocator};
+use std::mem;
+
+/// How a tag stands in the round that is on.
+#[derive(Drop)]
+pub(crate) enum TagState<A: Allocator> {
+    /// It was not issued.
+    Free,
+    /// A command is in flight under it.
+    InFlight {
+        /// The hardware queue that it was issued for.
+        hw: u8,
+        /// Its request.
+        queued: Queued<A>,
+    },
+    /// A command of this direction was issued, and is completed or requeued since.
+    Spent(Dir),
+}
+
+/// A tag for each number below the count, none of which was issued.
+pub(crate) fn free_tags<A: Allocator>(
+    alloc: A,
+    count: u64,
+) -> Result<Vec<TagState<A>, A>, AllocError>
+    ensures { IfOk result (λ tags. tags.items ≡ replicate count TagState.Free) }
+{
+    let mut tags = Vec::with_capacity(alloc, count as usize)?;
+    for _ in 0..count {
+        tags.push(TagState::Free)?;
+    }
+    Ok(tags)
+}
+
+/// Takes the completed request from under its tag, which is spent from then on.
+pub(crate) fn completed<A: Allocator + Clone>(tag: &mut TagState<A>) -> Request<A>
+    requires { IfInFlight tag.old (λ hw w. ⊤) }
+    ensures { IfInFlight tag.old (λ hw w. (tag.new ≡ TagState.Spent (dir_of w.bios)) × (result ≡ w.bios)) }
+{
+    let state = mem::replace(tag, TagState::Free);
+    let TagState::InFlight { queued, .. } = state else {
+        unreachable!()
+    };
+    *tag = TagState::Spent(queued.request.dir());
+    queued.request
+}
+
+/// Requeues the request in flight under a tag: it moves to the held list of its hardware queue, and the tag is spent from
+/// then on. Fails only when memory runs out, and changes nothing then.
+pub(crate) fn requeue<A: Allocator + Clone>(
+    tag: &mut TagState<A>,
+    held: &mut RequeueLists<A>,
+) -> Result<(), AllocError>
+    requires { IfInFlight tag.old (λ hw w. hw < length held.old) }
+    ensures ok { OnOk result (Requeues tag.old held.old tag.new held.new) }
+    ensures same { OnErr result ((tag.new ≡ tag.old) × (held.new ≡ held.old)) }
+{
+    let state = mem::replace(tag, TagState::Free);
+    let TagState::InFlight { hw, queued } = state else {
+        unreachable!()
+    };
+    let dir = queued.request.dir();
+    match held.push(hw, queued) {
+        Ok(()) => {
+            *tag = TagState::Spent(dir);
+            Ok(())
+        }
+        Err((queued, _)) => {
+            *tag = TagState::InFlight { hw, queued };
+            Err(AllocError)
+        }
+    }
+}
+
+/// Frees all tags, as a new round begins.
+pub(crate) fn clear<A: Allocator>(tags: &mut [TagState<A>])
+    ensures { tags.new ≡ replicate (length tags.old) TagState.Free }
+{
+    for tag in tags.iter_mut() {
+        *tag = TagState::Free;
+    }
+}

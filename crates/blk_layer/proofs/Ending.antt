@@ -1,0 +1,80 @@
+-- A worker that ends one command and is issued the next.
+use Rattle.std.proofs.Common.{◌≡◌, ℕ, refl, inl, inr, Option, Some, None, Result, Ok, Err, IfOk, OnErr}
+use Rattle.edd_commands.specs.declared.Command.{Command}
+use Rattle.blk_layer.specs.declared.serving.Ran.{Ran}
+use Rattle.blk_layer.specs.declared.serving.Ran.TheVariants.{Done, Busy}
+use Rattle.blk_layer.specs.declared.serving.Issued.{Issued}
+use Rattle.blk_layer.specs.declared.serving.WorkFault.{WorkFault}
+use Rattle.blk_layer.specs.declared.serving.WorkFault.TheVariants.{Memory}
+use Rattle.blk_layer.specs.Seats.{WorkerSeat}
+use Rattle.blk_layer.specs.Serving.{TakesInHand, IsIssueAnswer, Runs, IsWorkFault}
+use Rattle.blk_layer.specs.Inside.Serving.{IsEnded, IsEndedAs, IsPassRefusal, IsTurned, IsTurnFault}
+use Rattle.blk_layer.proofs.Running.{none_ran, ran_on, ended_runs, faulted_on, left_in_hand}
+
+-- by what the device answered, and whatever that was
+pub ended_as : (ran : Ran) (old : WorkerSeat) (tag : ℕ) (new : WorkerSeat) → IsEndedAs ran old tag new → IsEnded old tag new
+ended_as Done old tag new h = inl h
+ended_as Busy old tag new h = inr h
+
+pub turned : (old : WorkerSeat) (tag : ℕ) (ran : Ran) (between : WorkerSeat) (found : Option Issued) (new : WorkerSeat) → IsEndedAs ran old tag between → IsIssueAnswer between found new
+    → IsTurned old tag ran found new
+turned old tag ran between found new ended answer = record { between = between; ended = ended; answer = answer }
+
+pub not_ended : (old : WorkerSeat) (tag : ℕ) (ran : Ran) (new : WorkerSeat) → new ≡ old → IsTurnFault old tag ran Memory new
+not_ended old tag ran new e = inl (refl, e)
+
+pub none_next : (old : WorkerSeat) (tag : ℕ) (ran : Ran) (between : WorkerSeat) (why : WorkFault) (new : WorkerSeat) → IsEndedAs ran old tag between → IsPassRefusal why → new ≡ between
+    → IsTurnFault old tag ran why new
+none_next old tag ran between why new ended is e = rw e (inr (is, ended))
+
+-- what a worker ran so far, and the command that it has in its hands
+pub record IsServing (old : WorkerSeat) (tag : ℕ) (command : Command) (new : WorkerSeat) : Type 0 where
+  pub before : WorkerSeat
+  pub runs : Runs old before
+  pub takes : TakesInHand before tag command new
+
+pub first_in_hand : (old : WorkerSeat) (tag : ℕ) (command : Command) (new : WorkerSeat) → TakesInHand old tag command new → IsServing old tag command new
+first_in_hand old tag command new takes = record { before = old; runs = none_ran old old refl; takes = takes }
+
+ran_between : (old : WorkerSeat) (tag : ℕ) (command : Command) (now : WorkerSeat) (ran : Ran) (between : WorkerSeat) → IsServing old tag command now → IsEndedAs ran now tag between → Runs old between
+ran_between old tag command now ran between is ended =
+    ran_on old is.before between is.runs (ended_runs is.before tag command now between is.takes (ended_as ran now tag between ended))
+
+-- the next command is in its hands, or none
+pub next_in_hand : (old : WorkerSeat) (tag : ℕ) (command : Command) (now : WorkerSeat) (ran : Ran) (next : Issued) (new : WorkerSeat) → IsServing old tag command now → IsTurned now tag ran (Some next) new
+    → IsServing old next.tag next.command new
+next_in_hand old tag command now ran next new is turn =
+    record { before = turn.between; runs = ran_between old tag command now ran turn.between is turn.ended; takes = turn.answer }
+
+pub none_in_hand : (old : WorkerSeat) (tag : ℕ) (command : Command) (now : WorkerSeat) (ran : Ran) (new : WorkerSeat) → IsServing old tag command now → IsTurned now tag ran None new → Runs old new
+none_in_hand old tag command now ran new is turn = rw turn.answer (ran_between old tag command now ran turn.between is turn.ended)
+
+-- a turn that was refused
+of_refusal : (old : WorkerSeat) (why : WorkFault) (new : WorkerSeat) → IsPassRefusal why → Runs old new → IsWorkFault old why new
+of_refusal old why new (inl e) runs = rw e runs
+of_refusal old why new (inr e) runs = rw e (inl runs)
+
+pub turn_refused : (old : WorkerSeat) (tag : ℕ) (command : Command) (now : WorkerSeat) (ran : Ran) (why : WorkFault) (new : WorkerSeat) → IsServing old tag command now → IsTurnFault now tag ran why new
+    → IsWorkFault old why new
+turn_refused old tag command now ran why new is (inl h) = faulted_on old is.before why new is.runs (left_in_hand is.before tag command now why new is.takes h.0 h.1)
+turn_refused old tag command now ran why new is (inr h) = of_refusal old why new h.0 (ran_between old tag command now ran new is h.1)
+
+-- the last command of all, as far as events go
+pub last_ended : (old : WorkerSeat) (tag : ℕ) (command : Command) (now new : WorkerSeat) → IsServing old tag command now → IsEnded now tag new → Runs old new
+last_ended old tag command now new is ended = ran_on old is.before new is.runs (ended_runs is.before tag command now new is.takes ended)
+
+pub last_refused : (old : WorkerSeat) (tag : ℕ) (command : Command) (now : WorkerSeat) (why : WorkFault) (new : WorkerSeat) → IsServing old tag command now → why ≡ Memory → new ≡ now → IsWorkFault old why new
+last_refused old tag command now why new is e f = faulted_on old is.before why new is.runs (left_in_hand is.before tag command now why new is.takes e f)
+
+-- a refusal before anything was issued
+pub begin_refused : (old : WorkerSeat) (why : WorkFault) (new : WorkerSeat) → IsPassRefusal why → new ≡ old → IsWorkFault old why new
+begin_refused old why new is e = of_refusal old why new is (none_ran old new e)
+
+-- what a worker is told that was issued nothing
+pub none_told : {E : Type 0} (r : Result (Option Issued) E) (old new : WorkerSeat) → IfOk r (λ found. found ≡ None) → new ≡ old → IfOk r (λ found. IsIssueAnswer old found new)
+none_told (Ok found) old new h e = rw h e
+none_told (Err why) old new h e = tt
+
+pub whatever : {X E : Type 0} (r : Result X E) (P : Type 0) → P → OnErr r P
+whatever (Ok x) P h = tt
+whatever (Err e) P h = h

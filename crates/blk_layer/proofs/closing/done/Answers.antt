@@ -1,0 +1,48 @@
+use Rattle.std.proofs.Common.{ℕ, ◌≡◌, ◌∙◌, ◌∷◌, ◌++◌, [], List, sym, ap, refl, true, map, take, get_or, Some, None}
+use Rattle.std.specs.Prelude.{nat_eq}
+use Rattle.std.specs.Option.{option_copied}
+use Rattle.std.specs.HashMap as hash
+use Rattle.std.proofs.lemmas.List.{take_all}
+use Rattle.edd_commands.specs.declared.Command.{Command}
+use Rattle.blk_trace.specs.Happened.{Happened}
+use Rattle.blk_trace.specs.Meaning.{command_of}
+use Rattle.blk_trace.specs.Waits.{has_id}
+use Rattle.blk_layer.specs.Closing.{done_ids}
+use Rattle.blk_layer.proofs.Dones.{done_issued}
+use Rattle.blk_layer.proofs.Gathered.{id_there, own_default, map_up, done_map}
+use Rattle.blk_layer.proofs.closing.done.Goals as goal
+
+pub unreachable-requires : goal.unreachable-requires
+unreachable-requires g c =
+    let setup = c.args.trace.now.setup in
+    let events : List Happened = c.args.trace.now.events in
+    let items : List ℕ = c.deref-id-items.result.now in
+    let id : ℕ = get_or items c.loop-id.id-index 0 in
+    let list : items ≡ done_ids events = c.deref-id-items.ensures.value ∙ c.in_ok-ids.ensures ∙ ap done_ids c.events.ensures.events in
+    let has : has_id (done_ids events) id ≡ true = ap (λ l. has_id l id) (sym list) ∙ id_there items c.loop-id.id-index id c.loop-id-test.true (own_default items c.loop-id.id-index id 0 c.loop-id-test.true refl) in
+    let known : hash.get nat_eq c.in_ok-known.known id ≡ Some (command_of setup events id) = c.in_ok-known.ensures id (done_issued setup events c.events.ensures.legal id has) in
+    let clash : None ≡ Some (command_of setup events id) = sym (ap option_copied c.in_default.is) ∙ c.get.ensures.value ∙ known in
+    absurd (cc)
+
+pub loop-id-preserved : goal.loop-id-preserved
+loop-id-preserved g c =
+    let setup = c.args.trace.now.setup in
+    let events : List Happened = c.args.trace.now.events in
+    let f : ℕ → Command = command_of setup events in
+    let items : List ℕ = c.deref-id-items.result.now in
+    let id : ℕ = get_or items c.loop-id.id-index 0 in
+    let there : id ≡ get_or items c.loop-id.id-index id = own_default items c.loop-id.id-index id 0 c.loop-id-test.true refl in
+    let list : items ≡ done_ids events = c.deref-id-items.ensures.value ∙ c.in_ok-ids.ensures ∙ ap done_ids c.events.ensures.events in
+    let has : has_id (done_ids events) id ≡ true = ap (λ l. has_id l id) (sym list) ∙ id_there items c.loop-id.id-index id c.loop-id-test.true there in
+    let known : hash.get nat_eq c.in_ok-known.known id ≡ Some (f id) = c.in_ok-known.ensures id (done_issued setup events c.events.ensures.legal id has) in
+    let both : Some c.in-Some.command.now ≡ Some (f id) = sym (ap option_copied c.in-Some.is) ∙ c.get.ensures.value ∙ known in
+    let one : c.in-Some.command.now ≡ f id = cc in
+    c.in_ok-push.ensures.items ∙ ap (λ l. l ++ c.in-Some.command.now ∷ []) c.loop-id.invariant ∙ ap (λ (x : Command). map f (take c.loop-id.id-index items) ++ x ∷ []) one ∙ sym (map_up f items c.loop-id.id-index id c.loop-id-test.true there)
+
+pub returns : goal.returns
+returns g c =
+    let setup = c.args.trace.now.setup in
+    let events : List Happened = c.args.trace.now.events in
+    let items : List ℕ = c.deref-id-items.result.now in
+    let list : items ≡ done_ids events = c.deref-id-items.ensures.value ∙ c.in_ok-ids.ensures ∙ ap done_ids c.events.ensures.events in
+    c.loop-id.invariant ∙ ap (map (command_of setup events)) (take_all c.loop-id.id-index items c.loop-id-test.false ∙ list) ∙ sym (done_map setup events)

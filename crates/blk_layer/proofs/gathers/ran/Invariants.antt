@@ -1,6 +1,0 @@
-use Rattle.std.proofs.Common.{◌≡◌, take}
-use Rattle.blk_layer.specs.Closes.{all_ran}
-use Rattle.blk_layer.proofs.gathers.ran.Given as goal
-
-abbrev pub invariant-loop-worker : goal.invariant-loop-worker
-invariant-loop-worker g l = l.commands.items ≡ all_ran (take l.worker-index l.workers)

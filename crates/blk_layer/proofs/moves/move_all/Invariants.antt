@@ -1,5 +1,0 @@
-use Rattle.blk_layer.proofs.Moved.{IsMoving}
-use Rattle.blk_layer.proofs.moves.move_all.Given as goal
-
-abbrev pub invariant-loop-moved : goal.invariant-loop-moved
-invariant-loop-moved g l = IsMoving g.S.Scheduler.policy.serves l.initial.queue l.initial.core l.hw l.moved l.queue l.core

@@ -1,0 +1,25 @@
+-- What seats keep beside what their callers see.
+use Rattle.std.specs.Prelude.{ℕ, ◌≡◌, ◌+◌, ◌<◌, ◌≤◌, Bool, List, Option, is_some, map, length, count_by}
+use Rattle.edd_commands.specs.declared.Command.{Command}
+use Rattle.blk_bio.specs.Bios.{Bio}
+use Rattle.blk_bio.specs.declared.bio.BioId.{BioId}
+use Rattle.blk_trace.specs.Setups.{Setup}
+use Rattle.blk_trace.specs.Events.{AreOnce}
+use Rattle.blk_trace.specs.Inside.Kept.{has_bio_id}
+use Rattle.blk_tags.specs.Inside.{Marks}
+
+-- no id stands twice, and the ids are those of the bios
+pub record IsAccount (bios : List Bio) (ids : BioId → Bool) : Type 0 where
+  pub once : AreOnce bios
+  pub ids_are : (id : BioId) → ids id ≡ has_bio_id bios id
+
+-- the tags that a worker holds are those of the commands in its hands, its account has room for these commands, and its part of
+-- the ledger has an amount of as many as its account has
+pub record IsWorking (setup : Setup) (hw depth : ℕ) (tags : List ℕ) (hands : List (Option Command)) (ran room parts amount : ℕ) : Type 0 where
+  pub queue : hw < setup.hw
+  pub named : depth ≡ setup.depth
+  pub places : length hands ≡ depth
+  pub marks : Marks (map is_some hands) tags
+  pub room_left : ran + count_by is_some hands ≤ room
+  pub part : parts ≡ 1
+  pub counted : amount ≡ ran

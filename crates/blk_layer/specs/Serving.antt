@@ -1,0 +1,159 @@
+-- What the calls of a worker and its passes do, and when they end a round.
+use Rattle.std.specs.Prelude.{ℕ, ◌≡◌, ◌<◌, ◌≤◌, ◌⊎◌, ◌++◌, [], ◌∷◌, ⊤, Option, None, Some, Result, Ok, Err, Contains, slice_get, slice_set, true, false, List, length, ◌+◌, Bool, fold, if◌then◌else◌}
+use Rattle.edd_commands.specs.declared.Command.{Command}
+use Rattle.blk_core.specs.State.{CoreState}
+use Rattle.blk_core.specs.Faults.{IsIssueFault, IsTickFault}
+use Rattle.blk_core.specs.declared.refusals.IssueFault.{IssueFault}
+use Rattle.blk_core.specs.declared.refusals.TickFault.{TickFault}
+use Rattle.blk_core.specs.declared.refusals.DepthFault.{DepthFault}
+use Rattle.blk_layer.specs.declared.serving.Issued.{Issued}
+use Rattle.blk_tags.specs.Tags.{without}
+use Rattle.blk_layer.specs.Seats.{WorkerSeat}
+use Rattle.blk_trace.specs.Events.{open_count}
+use Rattle.blk_sched.specs.Policies.{OfTick, Choice}
+use Rattle.blk_core.specs.Calls.{Ends, Issues}
+use Rattle.blk_layer.specs.declared.serving.Worked.{Worked}
+use Rattle.blk_layer.specs.declared.serving.WorkFault.{WorkFault}
+use Rattle.blk_layer.specs.declared.serving.WorkFault.TheVariants.{TraceFull, Memory, Repeated}
+use Rattle.blk_layer.specs.declared.serving.Passed.{Passed}
+use Rattle.blk_layer.specs.declared.serving.After.{After}
+use Rattle.blk_layer.specs.declared.serving.After.TheVariants.{Finish, Again, Yield}
+use Rattle.blk_sched.specs.Meaning.{Waiting}
+use Rattle.blk_trace.specs.Happened.{Happened}
+use Rattle.blk_trace.specs.Kinds.{is_tick, is_issue}
+use Rattle.blk_trace.specs.Depths.{depth_now}
+use Rattle.blk_layer.specs.declared.serving.NoneIssued.{NoneIssued}
+use Rattle.blk_core.specs.declared.refusals.TickFault.TheVariants as tick
+use Rattle.blk_core.specs.declared.refusals.DepthFault.TheVariants as depth
+use Rattle.blk_core.specs.declared.refusals.IssueFault.TheVariants as issue
+use Rattle.blk_layer.specs.declared.serving.NoneIssued.TheVariants as none
+
+-- a command comes into the hands of a worker under a tag of the set, where it had none, and which it didn't hold
+pub record TakesInHand (old : WorkerSeat) (tag : ℕ) (command : Command) (new : WorkerSeat) : Type 0 where
+  pub below : tag < old.tag_set.depth
+  pub free : slice_get old.hands tag ≡ Some None
+  pub unheld : ¬ Contains old.tags tag
+  pub taken : new ≡ record old { tags = old.tags ++ tag ∷ []; hands = slice_set old.hands tag (Some command) }
+
+-- what each answer of an issue says of the seat
+abbrev pub IsIssueAnswer : WorkerSeat → Option Issued → WorkerSeat → Type 0
+IsIssueAnswer old None new = new ≡ old
+IsIssueAnswer old (Some issued) new = TakesInHand old issued.tag issued.command new
+
+-- the command in the hands of a worker under a tag leaves them, and the tag with it
+abbrev pub let_go : WorkerSeat → ℕ → WorkerSeat
+let_go seat tag = record seat { tags = without tag seat.tags; hands = slice_set seat.hands tag None }
+
+-- it was done: the account has it more, at its end
+pub record AccountsFor (old : WorkerSeat) (tag : ℕ) (new : WorkerSeat) : Type 0 where
+  pub command : Command
+  pub held : slice_get old.hands tag ≡ Some (Some command)
+  pub gone : new ≡ record (let_go old tag) { ran = old.ran ++ command ∷ [] }
+
+-- a worker has a command in its hands under the tag
+abbrev pub IsInHand : WorkerSeat → ℕ → Type 0
+IsInHand seat tag = (command : Command) × (slice_get seat.hands tag ≡ Some (Some command))
+
+-- it is requeued, and has this id; the account stays
+pub record LetsGo (old : WorkerSeat) (tag id : ℕ) (new : WorkerSeat) : Type 0 where
+  pub command : Command
+  pub held : slice_get old.hands tag ≡ Some (Some command)
+  pub named : command.id ≡ id
+  pub gone : new ≡ let_go old tag
+
+-- what each answer of a tick says by itself; the rest is known under the core's lock alone
+abbrev pub IsTickAnswer : Result ℕ TickFault → Type 0
+IsTickAnswer (Ok round) = 0 < round
+IsTickAnswer (Err (tick.InFlight n)) = 0 < n
+IsTickAnswer (Err tick.TraceFull) = ⊤
+IsTickAnswer (Err tick.Memory) = ⊤
+
+-- what each answer to a depth says of it, by the setup's; whether the trace is full is known under the core's lock alone
+abbrev pub IsDepthAnswer : ℕ → ℕ → Result (Unit {0}) DepthFault → Type 0
+IsDepthAnswer most n (Ok _) = (0 < n) × (n ≤ most)
+IsDepthAnswer most n (Err depth.TraceFull) = ⊤
+IsDepthAnswer most n (Err depth.DepthRange) = (n ≡ 0) ⊎ (most < n)
+IsDepthAnswer most n (Err depth.Memory) = (0 < n) × (n ≤ most)
+
+-- the tag is used up in the round that is on: it was issued in it, or it isn't below the round's depth
+abbrev pub IsUsedUp : CoreState → ℕ → ℕ → Type 0
+IsUsedUp c hw tag = IsIssueFault c hw tag issue.SlotUsed ⊎ IsIssueFault c hw tag issue.TagRange
+
+-- the round ends, exactly where no command is in flight
+abbrev pub EndsOrWaits : OfTick → CoreState → CoreState → Type 0
+EndsOrWaits told old new = Ends told old new ⊎ ((0 < open_count old.events) × (new ≡ old))
+
+-- what each fault of a last try says, and does: the round ends only where the tag is used up in it, so under SlotUsed it has an Issue with
+-- the tag; where it can't end since there is no room or no memory, that is the fault; and nothing else is changed
+abbrev pub IsLastTryFault : OfTick → CoreState → ℕ → ℕ → IssueFault → CoreState → Type 0
+IsLastTryFault told old hw tag issue.NoQueue new = IsIssueFault old hw tag issue.NoQueue × (new ≡ old)
+IsLastTryFault told old hw tag issue.TagRange new = IsIssueFault old hw tag issue.TagRange × EndsOrWaits told old new
+IsLastTryFault told old hw tag issue.SlotUsed new = IsIssueFault old hw tag issue.SlotUsed × EndsOrWaits told old new
+IsLastTryFault told old hw tag issue.TraceFull new =
+    (IsIssueFault old hw tag issue.TraceFull ⊎ (IsUsedUp old hw tag × IsTickFault old tick.TraceFull)) × (new ≡ old)
+IsLastTryFault told old hw tag issue.Memory new =
+    (IsIssueFault old hw tag issue.Memory ⊎ (IsUsedUp old hw tag × IsTickFault old tick.Memory)) × (new ≡ old)
+
+-- a worker whose account has commands more, at its end, and which is else as it was
+pub record Runs (old new : WorkerSeat) : Type 0 where
+  pub added : List Command
+  pub grown : new ≡ record old { ran = old.ran ++ added }
+
+-- a command more in the hands of a worker, which is else as it was
+pub record IsLeftInHand (old new : WorkerSeat) : Type 0 where
+  pub tag : ℕ
+  pub command : Command
+  pub takes : TakesInHand old tag command new
+
+-- what is done after a pass, by what it found. It is over where it was to finish, moved nothing and left nothing waiting
+abbrev pub IsOver : Passed → Type 0
+IsOver p = (p.finishing ≡ true) × (p.moved ≡ 0) × (p.pending ≡ 0)
+
+abbrev pub GoesOn : Passed → Type 0
+GoesOn p = (p.finishing ≡ false) ⊎ (0 < p.pending)
+
+abbrev pub IsAfter : Passed → After → Type 0
+IsAfter p Finish = IsOver p
+IsAfter p Again = (0 < p.moved) ⊎ (GoesOn p × (0 < p.served))
+IsAfter p Yield = GoesOn p × (p.moved ≡ 0) × (p.served ≡ 0)
+
+-- what work says that it did: at most `turns` passes, and fewer only where it was finished; as many commands as the account has more;
+-- else the seat is as it was
+pub record IsWorked (turns : ℕ) (old : WorkerSeat) (worked : Worked) (new : WorkerSeat) : Type 0 where
+  pub few : worked.passes ≤ turns
+  pub unfinished : worked.finished ≡ false → worked.passes ≡ turns
+  pub runs : Runs old new
+  pub ran : worked.ran ≡ length runs.added
+
+-- what work that was refused leaves: what was done before stands, and only where memory ran out may one command stay in the hands
+abbrev pub IsWorkFault : WorkerSeat → WorkFault → WorkerSeat → Type 0
+IsWorkFault old TraceFull new = Runs old new
+IsWorkFault old Memory new = Runs old new ⊎ ((between : WorkerSeat) × Runs old between × IsLeftInHand between new)
+IsWorkFault old (Repeated id) new = Runs old new
+
+-- how many commands were issued in the round that is on after an event, by how many were before it
+abbrev pub issued_after : ℕ → Happened → ℕ
+issued_after n e = if is_tick e then 0 else (if is_issue e then n + 1 else n)
+
+-- how many commands were issued in the round that is on
+unfoldable pub issued_now : List Happened → ℕ
+issued_now events = fold issued_after 0 events
+
+-- the round that is on is full: as many commands were issued in it as it carries; it carries more where not
+abbrev pub IsFull : CoreState → Type 0
+IsFull c = depth_now c.setup c.events ≤ issued_now c.events
+
+abbrev pub CarriesMore : CoreState → Type 0
+CarriesMore c = issued_now c.events < depth_now c.setup c.events
+
+-- why a try issues nothing, and what it does: a round ends only where it is full, the tag is used up in it, and no command is in flight
+abbrev pub IsNoneIssued : (ℕ → Waiting → Bool) → Choice → OfTick → CoreState → ℕ → ℕ → NoneIssued → CoreState → Type 0
+IsNoneIssued serves chooses told old hw tag none.Nothing new = Issues serves chooses old hw tag None new
+IsNoneIssued serves chooses told old hw tag none.TagRange new = IsIssueFault old hw tag issue.TagRange × CarriesMore old × (new ≡ old)
+IsNoneIssued serves chooses told old hw tag none.SlotUsed new = IsIssueFault old hw tag issue.SlotUsed × CarriesMore old × (new ≡ old)
+IsNoneIssued serves chooses told old hw tag none.Full new = IsUsedUp old hw tag × IsFull old × (0 < open_count old.events) × (new ≡ old)
+IsNoneIssued serves chooses told old hw tag none.Ended new = IsUsedUp old hw tag × IsFull old × Ends told old new
+IsNoneIssued serves chooses told old hw tag none.TraceFull new =
+    (IsIssueFault old hw tag issue.TraceFull ⊎ (IsUsedUp old hw tag × IsFull old × IsTickFault old tick.TraceFull)) × (new ≡ old)
+IsNoneIssued serves chooses told old hw tag none.Memory new =
+    (IsIssueFault old hw tag issue.Memory ⊎ (IsUsedUp old hw tag × IsFull old × IsTickFault old tick.Memory)) × (new ≡ old)

@@ -1,0 +1,604 @@
+//! How a layer is closed: its accounts are settled, once and for all.
+
+ghost use Rattle.std.specs.Prelude.{ℕ, ◌≡◌, ◌≤◌, ◌<◌, ◌++◌, ◌↔◌, [], List, IsTrue, IfOk, IfErr, OnOk, IfSome, IfNone, Some, IsPermutation, length, map, nat_eq, slice_get, unwrap_or};
+ghost use Rattle.std.specs.List.{cons_option};
+ghost use Rattle.std.specs.HashMap as hash;
+ghost use Rattle.blk_bio.specs.Bios.{Bio as Transfer};
+ghost use Rattle.blk_trace.specs.Events.{entered, AreOnce, HasId, IsReleased, bios_of};
+ghost use Rattle.blk_trace.specs.declared.event.Event.TheVariants.{Release};
+ghost use Rattle.blk_policy.specs.Runs.{IsRunFrom};
+ghost use Rattle.blk_layer.specs.Seats.{SubmitterSeat};
+ghost use Rattle.blk_layer.specs.Closing.{AreAllThere, HasNumber, all_accepted, all_ran, issued_bios, done_by, done_ids, done_commands, done_count, AreSettled, AreCounted, IsBioOf, DiffersAsCommand, Disagrees, IsCloseRefusal};
+ghost use Rattle.blk_layer.specs.Inside.Closing.{IsAccountOf};
+ghost use Rattle.blk_layer.specs.Inside.Closing.{AreDistinct, is_key, times, bio_key, command_key, IsExtra, DiffersIn, DiffersInCommand, KnowsIssued, NotesLast};
+ghost use Rattle.blk_layer.specs.declared.closing.Key.{Key as Numbers};
+
+use crate::accounts::Hashing;
+use crate::layer::{Layer, MAX_WORKERS, Named};
+use crate::locked::LockedQueue;
+use crate::seats::{Submitter, Worker};
+use blk_bio::{Bio, BioId, Dir, Request};
+use blk_core::Core;
+use blk_sched::Scheduler;
+use blk_soft::SoftQueue;
+use blk_trace::{Event, Trace};
+use edd_commands::Command;
+use std::alloc::{AllocError, Allocator, Global};
+use std::collections::HashMap;
+use std::sync::Mutex;
+
+/// Why a layer is not closed, in the order in which the reasons are looked for.
+#[derive(Clone, Copy, Debug, PartialEq, Eq)]
+pub enum CloseFault {
+    /// A submitter or a worker of the layer isn't there.
+    SeatMissing,
+    /// Memory ran out.
+    Memory,
+}
+
+/// What a closed layer leaves.
+#[derive(Drop)]
+pub struct Closed<A: Allocator = Global> {
+    /// What the layer did.
+    pub trace: Trace<A>,
+    /// The bios that were accepted and are neither done nor in flight: those of the software queues by rising number, and then
+    /// those that wait in the trace.
+    pub left: Vec<Bio, A>,
+}
+
+/// A layer that was not closed, or whose accounts disagree.
+#[derive(Drop)]
+pub enum CloseRefused<S: Scheduler, L: Named> {
+    /// All comes back as it was.
+    Whole {
+        /// Why.
+        fault: CloseFault,
+        /// The layer.
+        layer: Layer<S, L>,
+        /// The submitters.
+        submitters: Vec<Submitter<L, S::A>, S::A>,
+        /// The workers.
+        workers: Vec<Worker<L, S::A>, S::A>,
+    },
+    /// The accounts disagree; the layer is spent.
+    Differs {
+        /// A bio on which they do: another number of it was accepted than was issued and is left, or its command stands
+        /// another number of times in the workers' accounts than it is done.
+        bio: BioId,
+        /// What the layer leaves.
+        closed: Closed<S::A>,
+        /// The submitters.
+        submitters: Vec<Submitter<L, S::A>, S::A>,
+        /// The workers.
+        workers: Vec<Worker<L, S::A>, S::A>,
+    },
+}
+
+/// What is left of a layer, and a bio on which its accounts disagree, if they do.
+#[derive(Drop)]
+struct Settled<A: Allocator> {
+    left: Vec<Bio, A>,
+    differs: Option<BioId>,
+}
+
+impl<S: Scheduler, L: Named> Layer<S, L> {
+    /// Closes the layer, and settles the accounts of its seats, which all come back to it, in any order.
+    ///
+    /// Ok where they agree: the bios that were accepted are those of the issued requests and those that are left, each once, and the
+    /// commands that the workers ran are those that are done. Refused as `Whole`, and all comes back: as `SeatMissing` where
+    /// a seat of the layer isn't there, and as `Memory`. Refused as `Differs` where the accounts disagree on a bio; the layer
+    /// is spent then. The trace is one that the policy of its scheduler makes.
+    pub fn close(
+        self,
+        alloc: S::A,
+        submitters: Vec<Submitter<L, S::A>, S::A>,
+        workers: Vec<Worker<L, S::A>, S::A>,
+    ) -> Result<Closed<S::A>, CloseRefused<S, L>>
+        requires parts { L.parts ≡ MAX_WORKERS }
+        ensures there { OnOk result (AreAllThere self.map self.workers submitters.items workers.items) }
+        ensures setup { IfOk result (λ c. c.trace.setup ≡ L.setup) }
+        ensures ran { IfOk result (λ c. IsRunFrom S.policy L.start c.trace.events) }
+        ensures settled { IfOk result (λ c. AreSettled L.setup c.trace.events c.left.items submitters.items workers.items) }
+        ensures once { IfOk result (λ c. AreOnce (issued_bios c.trace.events ++ c.left.items)) }
+        ensures counted { IfOk result (λ c. AreCounted c.trace.events c.left.items workers.items) }
+        ensures refused { IfErr result (IsCloseRefusal L.setup self submitters.items workers.items) }
+    {
+        if !self.are_all_there(submitters.as_slice(), workers.as_slice()) {
+            return Err(CloseRefused::Whole {
+                fault: CloseFault::SeatMissing,
+                layer: self,
+                submitters,
+                workers,
+            });
+        }
+        self.close_all(alloc, submitters, workers)
+    }
+
+    /// Closes a layer whose seats are all there.
+    fn close_all(
+        self,
+        alloc: S::A,
+        submitters: Vec<Submitter<L, S::A>, S::A>,
+        mut workers: Vec<Worker<L, S::A>, S::A>,
+    ) -> Result<Closed<S::A>, CloseRefused<S, L>>
+        requires parts { L.parts ≡ MAX_WORKERS }
+        requires there { AreAllThere self.map self.workers submitters.items workers.items }
+        ensures setup { IfOk result (λ c. c.trace.setup ≡ L.setup) }
+        ensures ran { IfOk result (λ c. IsRunFrom S.policy L.start c.trace.events) }
+        ensures settled { IfOk result (λ c. AreSettled L.setup c.trace.events c.left.items submitters.items workers.items) }
+        ensures once { IfOk result (λ c. AreOnce (issued_bios c.trace.events ++ c.left.items)) }
+        ensures counted { IfOk result (λ c. AreCounted c.trace.events c.left.items workers.items) }
+        ensures refused { IfErr result (IsCloseRefusal L.setup self submitters.items workers.items) }
+    {
+        let Layer {
+            core: locked,
+            mut queues,
+            map,
+            tags,
+            workers: count,
+            finishing,
+        } = self;
+        let mut locked = locked.into_inner();
+        locked.audit(workers.as_mut_slice());
+        let settled = settle(
+            &alloc,
+            &locked.core,
+            queues.as_mut_slice(),
+            submitters.as_slice(),
+            workers.as_slice(),
+        );
+        let Ok(Settled { left, differs }) = settled else {
+            return Err(CloseRefused::Whole {
+                fault: CloseFault::Memory,
+                layer: Layer {
+                    core: Mutex::new(locked),
+                    queues,
+                    map,
+                    tags,
+                    workers: count,
+                    finishing,
+                },
+                submitters,
+                workers,
+            });
+        };
+        let closed = Closed {
+            trace: locked.into_trace(),
+            left,
+        };
+        match differs {
+            None => Ok(closed),
+            Some(bio) => Err(CloseRefused::Differs {
+                bio,
+                closed,
+                submitters,
+                workers,
+            }),
+        }
+    }
+
+    /// Whether all seats of the layer are there.
+    fn are_all_there(&self, submitters: &[Submitter<L, S::A>], workers: &[Worker<L, S::A>]) -> bool
+        ensures { IsTrue result ↔ AreAllThere self.now.map self.now.workers submitters.now workers.now }
+    {
+        if submitters.len() != self.map.soft_count() {
+            return false;
+        }
+        if !has_each(submitters, submitters.len()) {
+            return false;
+        }
+        workers.len() == self.workers
+    }
+}
+
+/// Whether each number below the count is that of a submitter.
+fn has_each<L: Named, A: Allocator + Clone>(submitters: &[Submitter<L, A>], count: usize) -> bool
+    ensures { IsTrue result ↔ ((k : ℕ) → k < count → HasNumber submitters.now k) }
+{
+    for number in 0..count {
+        if !is_there(submitters, number) {
+            return false;
+        }
+    }
+    true
+}
+
+/// Whether a submitter has the number.
+fn is_there<L: Named, A: Allocator + Clone>(submitters: &[Submitter<L, A>], number: usize) -> bool
+    ensures { IsTrue result ↔ HasNumber submitters.now number }
+{
+    for submitter in submitters {
+        if usize::from(submitter.number()) == number {
+            return true;
+        }
+    }
+    false
+}
+
+/// What is left of a layer, and whether its accounts disagree. The workers' accounts have as many commands as are done. Fails
+/// only when memory runs out.
+fn settle<S: Scheduler, L: Named>(
+    alloc: &S::A,
+    core: &Core<S>,
+    queues: &mut [Mutex<LockedQueue<L, S::A>>],
+    submitters: &[Submitter<L, S::A>],
+    workers: &[Worker<L, S::A>],
+) -> Result<Settled<S::A>, AllocError>
+    requires counted { length (all_ran workers.now) ≡ done_count core.now.events }
+    ensures counted { IfOk result (λ s. AreCounted core.now.events s.left.items workers.now) }
+    ensures none { IfOk result (λ s. IfNone s.differs (AreSettled core.now.setup core.now.events s.left.items submitters.now workers.now)) }
+    ensures once { IfOk result (λ s. IfNone s.differs (AreDistinct submitters.now → AreOnce (issued_bios core.now.events ++ s.left.items))) }
+    ensures some { IfOk result (λ s. IfSome s.differs (Disagrees core.now.setup core.now.events s.left.items submitters.now workers.now)) }
+{
+    let trace = core.trace();
+    let mut left = queued(alloc.clone()?, queues)?;
+    let mut stored = entered(alloc.clone()?, trace.events())?;
+    stored.extend_from_slice(left.as_slice())?;
+    let waiting = trace.waiting()?;
+    left.extend_from_slice(waiting.as_slice())?;
+    let accepted = accepted(alloc.clone()?, submitters)?;
+    if let Some(bio) = differing_bio(alloc, accepted.as_slice(), stored.as_slice())? {
+        return Ok(Settled {
+            left,
+            differs: Some(bio),
+        });
+    }
+    let differs = command_bio(alloc, trace, workers)?;
+    Ok(Settled { left, differs })
+}
+
+/// A bio of a command that stands another number of times in the workers' accounts than it is done. The accounts have as many
+/// commands as are done. Fails only when memory runs out.
+fn command_bio<L: Named, A: Allocator + Clone>(
+    alloc: &A,
+    trace: &Trace<A>,
+    workers: &[Worker<L, A>],
+) -> Result<Option<BioId>, AllocError>
+    requires { length (all_ran workers.now) ≡ done_count trace.now.events }
+    ensures some { IfOk result (λ f. IfSome f (DiffersAsCommand trace.now.setup trace.now.events workers.now)) }
+    ensures none { IfOk result (λ f. IfNone f (IsPermutation (all_ran workers.now) (done_commands trace.now.setup trace.now.events))) }
+{
+    let events = trace.events();
+    let done = done(alloc, trace)?;
+    let ran = ran(alloc.clone()?, workers)?;
+    match differing_command(alloc, done.as_slice(), ran.as_slice())? {
+        Some(command) => Ok(Some(bio_of(events, command.id))),
+        None => Ok(None),
+    }
+}
+
+/// The bios that the submitters have in their accounts.
+#[tactic(auto, using(crate::proofs::Gathered::accepted_more, crate::proofs::Gathered::no_accepted))]
+fn accepted<L: Named, A: Allocator + Clone>(
+    alloc: A,
+    submitters: &[Submitter<L, A>],
+) -> Result<Vec<Bio, A>, AllocError>
+    ensures list { IfOk result (λ v. v.items ≡ all_accepted submitters.now) }
+    ensures each { OnOk result ((k : ℕ) (s : SubmitterSeat) → slice_get submitters.now k ≡ Some s → IsAccountOf s) }
+{
+    let mut bios = Vec::new(alloc);
+    for submitter in submitters {
+        bios.extend_from_slice(submitter.accepted())?;
+    }
+    Ok(bios)
+}
+
+/// The commands that the workers have in their accounts.
+#[tactic(auto, using(crate::proofs::Gathered::ran_more, crate::proofs::Gathered::no_ran))]
+fn ran<L: Named, A: Allocator + Clone>(
+    alloc: A,
+    workers: &[Worker<L, A>],
+) -> Result<Vec<Command, A>, AllocError>
+    ensures { IfOk result (λ v. v.items ≡ all_ran workers.now) }
+{
+    let mut commands = Vec::new(alloc);
+    for worker in workers {
+        commands.extend_from_slice(worker.ran())?;
+    }
+    Ok(commands)
+}
+
+/// The bios in the software queues, by rising number, and in each by request.
+fn queued<L: Named, A: Allocator + Clone>(
+    alloc: A,
+    queues: &mut [Mutex<LockedQueue<L, A>>],
+) -> Result<Vec<Bio, A>, AllocError> {
+    let mut bios = Vec::new(alloc);
+    for queue in queues.iter_mut() {
+        add_queued(&mut bios, &queue.get_mut().queue)?;
+    }
+    Ok(bios)
+}
+
+/// Adds the bios of a software queue to a list.
+fn add_queued<A: Allocator + Clone>(
+    bios: &mut Vec<Bio, A>,
+    queue: &SoftQueue<A>,
+) -> Result<(), AllocError> {
+    for place in 0..queue.len() {
+        if let Some(request) = queue.get(place) {
+            bios.extend_from_slice(request.bios())?;
+        }
+    }
+    Ok(())
+}
+
+/// The bios that entered.
+#[tactic(auto, using(crate::proofs::Gathered::entered_more, crate::proofs::Gathered::none_entered))]
+fn entered<A: Allocator + Clone>(
+    alloc: A,
+    events: &[Event<Request<A>>],
+) -> Result<Vec<Bio, A>, AllocError>
+    ensures { IfOk result (λ v. v.items ≡ entered events.now) }
+{
+    let mut bios = Vec::new(alloc);
+    for event in events {
+        bios.extend_from_slice(bios_of(event))?;
+    }
+    Ok(bios)
+}
+
+/// The bios that enter by an event.
+fn bios_of<A: Allocator + Clone>(event: &Event<Request<A>>) -> &[Bio]
+    ensures { result.now ≡ bios_of event.now }
+{
+    match event.enters() {
+        Some((_, request)) => request.bios(),
+        None => &[],
+    }
+}
+
+/// The commands of a trace that are done, in the order of their Dones.
+fn done<A: Allocator + Clone>(alloc: &A, trace: &Trace<A>) -> Result<Vec<Command, A>, AllocError>
+    ensures { IfOk result (λ v. v.items ≡ done_commands trace.now.setup trace.now.events) }
+{
+    let ids = done_ids(alloc, trace.events())?;
+    let known = by_id(alloc.clone()?, trace)?;
+    let mut commands = Vec::with_capacity(alloc.clone()?, ids.len())?;
+    for id in &ids {
+        let Some(command) = known.get(id) else {
+            unreachable!()
+        };
+        commands.push(*command)?;
+    }
+    Ok(commands)
+}
+
+/// The commands of a trace, by their ids.
+fn by_id<A: Allocator + Clone>(
+    alloc: A,
+    trace: &Trace<A>,
+) -> Result<HashMap<u64, Command, Hashing, A>, AllocError>
+    ensures { IfOk result (λ m. KnowsIssued trace.now.setup trace.now.events (hash.get nat_eq m)) }
+{
+    let commands = trace.commands()?;
+    let mut known = HashMap::new(alloc);
+    for command in &commands {
+        let Ok(_) = known.insert(command.id, *command) else {
+            return Err(AllocError);
+        };
+    }
+    Ok(known)
+}
+
+/// The ids of the commands that are done.
+#[tactic(auto, using(crate::proofs::Gathered::done_noted, crate::proofs::Gathered::last_noted, crate::proofs::Gathered::none_done, crate::proofs::Gathered::none_last))]
+fn done_ids<A: Allocator + Clone>(
+    alloc: &A,
+    events: &[Event<Request<A>>],
+) -> Result<Vec<u64, A>, AllocError>
+    ensures { IfOk result (λ v. v.items ≡ done_ids events.now) }
+{
+    let mut ids = Vec::new(alloc.clone()?);
+    let mut last = HashMap::new(alloc.clone()?);
+    for event in events {
+        note(&mut ids, &mut last, event)?;
+    }
+    Ok(ids)
+}
+
+/// Notes one more event: the last id under each tag, and the ids that are done.
+fn note<A: Allocator + Clone>(
+    ids: &mut Vec<u64, A>,
+    last: &mut HashMap<u16, u64, Hashing, A>,
+    event: &Event<Request<A>>,
+) -> Result<(), AllocError>
+    ensures ids { OnOk result (ids.new.items ≡ ids.old.items ++ cons_option (done_by (hash.get nat_eq last.old) event.now) []) }
+    ensures last { OnOk result (NotesLast (hash.get nat_eq last.old) event.now (hash.get nat_eq last.new)) }
+{
+    match event {
+        Event::Issue { id, tag } => match last.insert(*tag, *id) {
+            Ok(_) => Ok(()),
+            Err(_) => Err(AllocError),
+        },
+        Event::Done { tag } => {
+            if let Some(id) = last.get(tag) {
+                ids.push(*id)?;
+            }
+            Ok(())
+        }
+        _ => Ok(()),
+    }
+}
+
+/// A bio of the request that was released under an id.
+fn bio_of<A: Allocator + Clone>(events: &[Event<Request<A>>], id: u64) -> BioId
+    requires { IsReleased events.now id }
+    ensures { IsBioOf events.now id result }
+{
+    for event in events {
+        if let Some(bio) = released_as(event, id) {
+            return bio;
+        }
+    }
+    unreachable!()
+}
+
+/// The first bio that an event releases under an id.
+fn released_as<A: Allocator + Clone>(event: &Event<Request<A>>, id: u64) -> Option<BioId>
+    ensures some { IfSome result (λ bio. (q : List Transfer) × (event.now ≡ Release id q) × HasId q bio) }
+    ensures none { IfNone result ((q : List Transfer) → event.now ≡ Release id q → ⊥) }
+{
+    let Some((released, request)) = event.releases() else {
+        return None;
+    };
+    if released != id {
+        return None;
+    }
+    Some(request.bios()[0].id())
+}
+
+/// The id of a bio that stands another number of times in the one list than in the other. Fails only when memory runs out.
+fn differing_bio<A: Allocator + Clone>(
+    alloc: &A,
+    accepted: &[Bio],
+    stored: &[Bio],
+) -> Result<Option<BioId>, AllocError>
+    ensures some { IfOk result (λ found. IfSome found (DiffersIn accepted.now stored.now)) }
+    ensures none { IfOk result (λ found. IfNone found (IsPermutation accepted.now stored.now)) }
+{
+    let keys = bio_keys(alloc.clone()?, accepted)?;
+    let other = bio_keys(alloc.clone()?, stored)?;
+    if let Some(place) = first_extra(alloc.clone()?, keys.as_slice(), other.as_slice())? {
+        return Ok(Some(accepted[place].id()));
+    }
+    match first_extra(alloc.clone()?, other.as_slice(), keys.as_slice())? {
+        Some(place) => Ok(Some(stored[place].id())),
+        None => Ok(None),
+    }
+}
+
+/// A command of those that are done which stands another number of times among those that were run. The two lists are of one
+/// length. Fails only when memory runs out.
+fn differing_command<A: Allocator + Clone>(
+    alloc: &A,
+    done: &[Command],
+    ran: &[Command],
+) -> Result<Option<Command>, AllocError>
+    requires { length ran.now ≡ length done.now }
+    ensures some { IfOk result (λ found. IfSome found (DiffersInCommand done.now ran.now)) }
+    ensures none { IfOk result (λ found. IfNone found (IsPermutation ran.now done.now)) }
+{
+    let keys = command_keys(alloc.clone()?, done)?;
+    let other = command_keys(alloc.clone()?, ran)?;
+    match first_extra(alloc.clone()?, keys.as_slice(), other.as_slice())? {
+        Some(place) => Ok(Some(done[place])),
+        None => Ok(None),
+    }
+}
+
+/// All that a bio or a command says, as numbers, since neither hashes itself.
+#[derive(Clone, Copy, Debug, PartialEq, Eq, Hash)]
+struct Key {
+    /// Who submitted a bio.
+    owner: u64,
+    /// The number of a bio among its submitter's, or of a command.
+    number: u64,
+    /// Which way a bio's data goes.
+    way: u64,
+    /// A bio's first sector, or a command's release.
+    from: u64,
+    /// A bio's sectors, or a command's due round.
+    to: u64,
+}
+
+/// The keys of bios, in their order.
+fn bio_keys<A: Allocator>(alloc: A, bios: &[Bio]) -> Result<Vec<Key, A>, AllocError>
+    ensures { IfOk result (λ v. v.items ≡ map bio_key bios.now) }
+{
+    let mut keys = Vec::with_capacity(alloc, bios.len())?;
+    for bio in bios {
+        keys.push(bio_key(bio))?;
+    }
+    Ok(keys)
+}
+
+/// The key of a bio.
+fn bio_key(bio: &Bio) -> Key
+    ensures { result ≡ bio_key bio.now }
+{
+    let id = bio.id();
+    Key {
+        owner: u64::from(id.submitter),
+        number: id.serial,
+        way: match bio.dir() {
+            Dir::Read => 0,
+            Dir::Write => 1,
+        },
+        from: bio.first(),
+        to: bio.sectors(),
+    }
+}
+
+/// The keys of commands, in their order.
+fn command_keys<A: Allocator>(alloc: A, commands: &[Command]) -> Result<Vec<Key, A>, AllocError>
+    ensures { IfOk result (λ v. v.items ≡ map command_key commands.now) }
+{
+    let mut keys = Vec::with_capacity(alloc, commands.len())?;
+    for command in commands {
+        keys.push(command_key(command))?;
+    }
+    Ok(keys)
+}
+
+/// The key of a command.
+fn command_key(command: &Command) -> Key
+    ensures { result ≡ command_key command.now }
+{
+    Key {
+        owner: 0,
+        number: command.id,
+        way: 0,
+        from: command.release,
+        to: command.due,
+    }
+}
+
+/// The place of the first key that stands more times in the list, up to there, than in the other. Fails only when memory runs out.
+fn first_extra<A: Allocator + Clone>(
+    alloc: A,
+    keys: &[Key],
+    other: &[Key],
+) -> Result<Option<usize>, AllocError>
+    ensures some { IfOk result (λ found. IfSome found (IsExtra keys.now other.now)) }
+    ensures none { IfOk result (λ found. IfNone found ((key : Numbers) → times key keys.now ≤ times key other.now)) }
+{
+    let mut left = tallied(alloc, other)?;
+    for (place, key) in keys.iter().enumerate() {
+        let count = count(&left, key);
+        if count == 0 {
+            return Ok(Some(place));
+        }
+        let Ok(_) = left.insert(*key, count - 1) else {
+            return Err(AllocError);
+        };
+    }
+    Ok(None)
+}
+
+/// How many times each key stands in the list.
+fn tallied<A: Allocator + Clone>(
+    alloc: A,
+    keys: &[Key],
+) -> Result<HashMap<Key, u64, Hashing, A>, AllocError>
+    ensures { IfOk result (λ m. (key : Numbers) → unwrap_or (hash.get is_key m key) 0 ≡ times key keys.now) }
+{
+    let mut counts = HashMap::new(alloc);
+    for key in keys {
+        let count = count(&counts, key);
+        let Ok(_) = counts.insert(*key, count + 1) else {
+            return Err(AllocError);
+        };
+    }
+    Ok(counts)
+}
+
+/// How many times a key was counted.
+fn count<A: Allocator + Clone>(counts: &HashMap<Key, u64, Hashing, A>, key: &Key) -> u64
+    ensures { result ≡ unwrap_or (hash.get is_key counts.now key.now) 0 }
+{
+    match counts.get(key) {
+        Some(count) => *count,
+        None => 0,
+    }
+}

@@ -1,0 +1,243 @@
+//! What lies under the locks: the core, and each software queue.
+
+ghost use Rattle.std.specs.Prelude.{◌≡◌, ◌≢◌, ◌≤◌, ◌+◌, ◌<◌, [], IfOk, IfErr, OnOk, OnErr, Some, length, vec_len};
+ghost use Rattle.blk_soft.specs.Queues.{greatest_depth};
+ghost use Rattle.blk_core.specs.Faults.{IsTickFault};
+ghost use Rattle.blk_core.specs.Calls.{Issues, Completes, RequeuesTag, Ends, SetsDepth};
+ghost use Rattle.blk_policy.specs.Runs.{Runs, IsRunFrom};
+ghost use Rattle.blk_layer.specs.Submitting.{AreOfFirst, IsMoveAllAnswer};
+ghost use Rattle.blk_layer.specs.Serving.{IsTickAnswer, IsDepthAnswer};
+ghost use Rattle.blk_layer.specs.Closing.{all_ran, done_count};
+ghost use Rattle.blk_layer.specs.declared.layer.TheConstants.{MAX_WORKERS};
+
+use crate::layer::{Layer, Named};
+use crate::seats::{Worker, audit};
+use crate::serving::{NoneIssued, of_core};
+use crate::submitting::DrainFault;
+use blk_bio::{Limits, Request};
+use blk_core::{BackFault, Core, CoreFault, DepthFault, NotIssued, TickFault};
+use blk_sched::Scheduler;
+use blk_soft::SoftQueue;
+use blk_trace::Trace;
+use edd_commands::Command;
+use std::alloc::{AllocError, Allocator};
+use std::marker::PhantomData;
+use std::sync::Mutex;
+use std::sync::ledger::{Book, Share};
+
+/// The core, beside the ledger's book of the commands that are done, the parts of the ledger that no worker has, and the tag with which
+/// the next try for a command begins.
+#[derive(Drop)]
+pub(crate) struct LockedCore<S: Scheduler, L: Named> {
+    /// The core.
+    pub(crate) core: Core<S>,
+    /// Its total is how many commands are done.
+    book: Book<L>,
+    /// The parts of the ledger that no worker has.
+    rest: Share<L>,
+    /// The tag after the last one that `work` issued: those before it are mostly used up in the round.
+    next_tag: u16,
+    ghost named: { core.setup ≡ L.setup },
+    ghost ran: { ∥ Runs S.policy L.start core.events core ∥₁ },
+    ghost counted: { book.total ≡ done_count core.events },
+    ghost all_out: { rest.parts + L.workers ≡ MAX_WORKERS },
+    ghost none: { rest.amount ≡ 0 },
+}
+
+impl<S: Scheduler, L: Named> LockedCore<S, L> {
+    /// A core without events beside a book without entries.
+    pub(crate) fn new(core: Core<S>, book: Book<L>, rest: Share<L>) -> LockedCore<S, L>
+        requires named { core.setup ≡ L.setup }
+        requires start { core ≡ L.start }
+        requires empty { core.events ≡ [] }
+        requires total { book.total ≡ 0 }
+        requires parts { rest.parts + L.workers ≡ MAX_WORKERS }
+        requires amount { rest.amount ≡ 0 }
+        ensures { result.core ≡ core }
+    {
+        LockedCore {
+            core,
+            book,
+            rest,
+            next_tag: 0,
+        }
+    }
+
+    /// The tag with which the next try for a command begins.
+    pub(crate) fn next_tag(&self) -> u16 {
+        self.next_tag
+    }
+
+    /// Issues for a hardware queue under a tag, as the core does.
+    fn issue(&mut self, hw: u8, tag: u16) -> Result<Command, NoneIssued>
+        requires { hw < L.setup.hw }
+        ensures { IfOk result (λ command. Issues S.policy.serves S.policy.chooses self.old.core hw tag (Some command) self.new.core) }
+    {
+        match self.core.issue(hw, tag) {
+            Ok(Some(command)) => Ok(command),
+            Ok(None) => Err(NoneIssued::Nothing),
+            Err(why) => Err(of_core(why)),
+        }
+    }
+
+    /// Issues for a hardware queue under a tag, or ends a round that is full, as [`Layer::try_issue`] does.
+    fn try_issue(&mut self, hw: u8, tag: u16) -> Result<Command, NoneIssued>
+        requires queue { hw < L.setup.hw }
+        requires range { tag < L.setup.depth }
+        ensures { IfOk result (λ command. Issues S.policy.serves S.policy.chooses self.old.core hw tag (Some command) self.new.core) }
+    {
+        match Layer::<S, L>::try_issue(&mut self.core, hw, tag) {
+            Ok(command) => {
+                self.next_tag = tag.saturating_add(1);
+                Ok(command)
+            }
+            Err(why) => Err(why),
+        }
+    }
+
+    /// Issues for a hardware queue under a tag; a round that is full is ended where it may be.
+    pub(crate) fn dispatch(
+        &mut self,
+        hw: u8,
+        tag: u16,
+        may_end: bool,
+    ) -> Result<Command, NoneIssued>
+        requires queue { hw < L.setup.hw }
+        requires range { tag < L.setup.depth }
+        ensures { IfOk result (λ command. Issues S.policy.serves S.policy.chooses self.old.core hw tag (Some command) self.new.core) }
+    {
+        if may_end {
+            self.try_issue(hw, tag)
+        } else {
+            self.issue(hw, tag)
+        }
+    }
+
+    /// Completes the command in flight under a tag, counts it in a worker's part of the ledger, and hands its request out.
+    pub(crate) fn done(
+        &mut self,
+        share: &mut Share<L>,
+        tag: u16,
+    ) -> Result<Request<S::A>, NotIssued>
+        requires { 0 < share.old.parts }
+        ensures done { OnOk result (Completes S.policy.told_done self.old.core tag self.new.core) }
+        ensures counted { OnOk result (share.new.amount ≡ share.old.amount + 1) }
+        ensures parts { share.new.parts ≡ share.old.parts }
+        ensures same { OnErr result ((self.new.core ≡ self.old.core) × (share.new.amount ≡ share.old.amount)) }
+    {
+        let request = self.core.complete(tag)?;
+        self.book.add(share, 1);
+        Ok(request)
+    }
+
+    /// Requeues the command in flight under a tag, and answers its id.
+    pub(crate) fn back(&mut self, tag: u16) -> Result<u64, BackFault>
+        ensures back { IfOk result (λ id. RequeuesTag self.old.core tag id self.new.core) }
+        ensures same { OnErr result (self.new.core ≡ self.old.core) }
+    {
+        self.core.back(tag)
+    }
+
+    /// Ends the round, and answers the number of the next one.
+    pub(crate) fn tick(&mut self) -> Result<u64, TickFault>
+        ensures ended { OnOk result (Ends S.policy.told_tick self.old.core self.new.core) }
+        ensures answer { IsTickAnswer result }
+        ensures fault { IfErr result (IsTickFault self.old.core) }
+        ensures same { OnErr result (self.new.core ≡ self.old.core) }
+    {
+        self.core.tick()
+    }
+
+    /// Sets how many commands the rounds to come carry.
+    pub(crate) fn set_depth(&mut self, depth: u64) -> Result<(), DepthFault>
+        ensures set { OnOk result (SetsDepth self.old.core depth self.new.core) }
+        ensures answer { IsDepthAnswer L.setup.depth depth result }
+        ensures same { OnErr result (self.new.core ≡ self.old.core) }
+    {
+        self.core.set_depth(depth)
+    }
+
+    /// Audits the ledger: all the workers' accounts together have as many commands as the trace has Dones.
+    pub(crate) fn audit(&mut self, workers: &mut [Worker<L, S::A>])
+        requires parts { L.parts ≡ MAX_WORKERS }
+        requires all { length workers.old ≡ L.workers }
+        ensures counted { length (all_ran workers.old) ≡ done_count self.old.core.events }
+        ensures core { self.new.core ≡ self.old.core }
+        ensures workers { workers.new ≡ workers.old }
+    {
+        audit(&mut self.book, &mut self.rest, workers);
+    }
+
+    /// The core's trace.
+    pub(crate) fn into_trace(self) -> Trace<S::A>
+        ensures setup { result.setup ≡ self.core.setup }
+        ensures events { result.events ≡ self.core.events }
+        ensures ran { IsRunFrom S.policy L.start result.events }
+    {
+        let LockedCore { core, .. } = self;
+        core.into_trace()
+    }
+}
+
+/// A software queue of a layer, with copies of its first requests for the trace, made ahead.
+#[derive(Drop)]
+pub(crate) struct LockedQueue<L: Named, A: Allocator> {
+    /// The queue.
+    pub(crate) queue: SoftQueue<A>,
+    /// The copies.
+    pub(crate) copies: SoftQueue<A>,
+    of: PhantomData<L>,
+    ghost limits: { queue.limits ≡ L.setup.limits },
+    ghost same_limits: { copies.limits ≡ L.setup.limits },
+    ghost first: { AreOfFirst copies.requests queue.requests },
+}
+
+impl<L: Named, A: Allocator> LockedQueue<L, A> {
+    /// A queue of the layer's limits, and another one for copies, of which there are none yet.
+    fn new(queue: SoftQueue<A>, copies: SoftQueue<A>) -> LockedQueue<L, A>
+        requires limits { (queue.limits ≡ L.setup.limits) × (copies.limits ≡ L.setup.limits) }
+        requires none { copies.requests ≡ [] }
+        ensures { result.queue ≡ queue }
+    {
+        LockedQueue {
+            queue,
+            copies,
+            of: PhantomData,
+        }
+    }
+}
+
+impl<L: Named, A: Allocator + Clone> LockedQueue<L, A> {
+    /// Moves all requests of the queue into the core, as [`Layer::move_all_copied`] does.
+    pub(crate) fn move_all<S: Scheduler<A = A>>(
+        &mut self,
+        locked: &mut LockedCore<S, L>,
+        hw: u8,
+    ) -> Result<u64, DrainFault>
+        requires { hw < L.setup.hw }
+        ensures moved { IsMoveAllAnswer S.policy.serves self.old.queue locked.old.core hw self.new.queue locked.new.core result }
+        ensures there { IfErr result (λ e. e.why ≢ CoreFault.NoQueue) }
+    {
+        Layer::<S, L>::move_all_copied(&mut self.queue, &mut self.copies, &mut locked.core, hw)
+    }
+}
+
+/// `count` empty software queues of a depth, each under a lock of its own.
+pub(crate) fn empty_queues<L: Named, A: Allocator + Clone>(
+    alloc: &A,
+    count: usize,
+    depth: u64,
+    limits: Limits,
+) -> Result<Vec<Mutex<LockedQueue<L, A>>, A>, AllocError>
+    requires depth { (1 ≤ depth) × (depth ≤ greatest_depth) }
+    requires limits { limits ≡ L.setup.limits }
+    ensures { IfOk result (λ queues. vec_len queues ≡ count) }
+{
+    let mut queues = Vec::with_capacity(alloc.clone()?, count)?;
+    for _i in 0..count {
+        let queue = SoftQueue::new(alloc.clone()?, depth, limits)?;
+        let copies = SoftQueue::new(alloc.clone()?, depth, limits)?;
+        queues.push(Mutex::new(LockedQueue::new(queue, copies)))?;
+    }
+    Ok(queues)
+}

@@ -1,0 +1,546 @@
+//! What a worker does: commands that it is issued and reports, rounds that it ends, and whole passes of these.
+
+ghost use Rattle.std.specs.Prelude.{◌≡◌, ◌≢◌, ◌<◌, ◌↔◌, IsTrue, OnOk, OnErr, IfOk, IfErr, None, Some};
+ghost use Rattle.blk_core.specs.Calls.{Issues};
+ghost use Rattle.blk_layer.specs.Serving.{IsIssueAnswer, AccountsFor, LetsGo, IsInHand, IsTickAnswer, IsDepthAnswer, IsLastTryFault, IsNoneIssued, IsFull, issued_now, Runs, IsWorked, IsWorkFault, IsAfter};
+ghost use Rattle.blk_layer.specs.Inside.Serving.{IsRoundsEnd, IsFullsEnd, IsEnded, IsTurned, IsTurnFault, IsPassRefusal, work_name};
+
+use crate::layer::{Layer, Named};
+use crate::seats::Worker;
+use blk_bio::{BioId, Request};
+use blk_core::{BackFault, Core, CoreFault, DepthFault, IssueFault, NotIssued, TickFault};
+use blk_sched::Scheduler;
+use blk_trace::{Event, MAX_EVENTS};
+use edd_commands::Command;
+use std::alloc::Allocator;
+use std::sync::Wait;
+use std::sync::atomic::Ordering;
+use std::thread::yield_now;
+
+/// What became of a command that a device was given.
+#[derive(Clone, Copy, Debug, PartialEq, Eq)]
+pub enum Ran {
+    /// The device ran it.
+    Done,
+    /// The device was busy, and the command is requeued (`BLK_STS_RESOURCE` of Linux's `queue_rq`).
+    Busy,
+}
+
+/// What runs commands, one after the other (`queue_rq` of Linux's `struct blk_mq_ops`, which here returns once the command ran).
+/// Each worker has a device of its own; a device that waits takes the handle as a part of itself.
+pub trait Device {
+    /// Runs a command, or is too busy for it.
+    fn run(&mut self, command: &Command) -> Ran;
+}
+
+/// A command that was issued to a worker.
+#[derive(Clone, Copy, Debug, PartialEq, Eq)]
+pub struct Issued {
+    /// The command.
+    pub command: Command,
+    /// The tag under which it is in flight.
+    pub tag: u16,
+}
+
+/// Why nothing is issued to a worker, in the order in which the reasons are looked for; but `Memory` for the worker's account
+/// comes right after `NoTag`.
+#[derive(Clone, Copy, Debug, PartialEq, Eq)]
+pub enum LayerIssueFault {
+    /// Each tag that was tried is taken.
+    NoTag,
+    /// The tag is not below the depth of this round.
+    TagRange,
+    /// The tag was issued in this round.
+    SlotUsed,
+    /// The trace has no places for an Issue and its end.
+    TraceFull,
+    /// Memory ran out.
+    Memory,
+}
+
+/// Why a try issues no command.
+#[derive(Clone, Copy, Debug, PartialEq, Eq)]
+pub enum NoneIssued {
+    /// There is none for the hardware queue.
+    Nothing,
+    /// The tag is not below the depth of this round, which carries more commands under others.
+    TagRange,
+    /// The tag was issued in this round, which carries more commands under others.
+    SlotUsed,
+    /// The round is full, and a command is in flight in it.
+    Full,
+    /// The round was full, and has ended.
+    Ended,
+    /// The trace has no places for an Issue and its end, or for the end of the round.
+    TraceFull,
+    /// Memory ran out.
+    Memory,
+}
+
+/// Why a worker has no command more in its hands.
+#[derive(Clone, Copy, Debug, PartialEq, Eq)]
+pub(crate) enum NoCommand {
+    /// Each tag that was tried is taken.
+    NoTag,
+    /// What came of the try under its tag.
+    Tried(NoneIssued),
+}
+
+/// What a worker did in a call of `Layer::work`.
+#[derive(Clone, Copy, Debug, PartialEq, Eq)]
+pub struct Worked {
+    /// How many passes it made.
+    pub passes: u64,
+    /// How many commands its account has more.
+    pub ran: u64,
+    /// Whether nothing was left to do after `Layer::finish`; otherwise the passes were used up.
+    pub finished: bool,
+}
+
+/// Why a worker's work ended before its time. Of the core's refusals it is the first that it met.
+#[derive(Clone, Copy, Debug, PartialEq, Eq)]
+pub enum WorkFault {
+    /// The trace has no places for an event.
+    TraceFull,
+    /// Memory ran out.
+    Memory,
+    /// A request in a software queue has a bio whose id stands in the trace, or twice in it: the first such, by sector.
+    Repeated(BioId),
+}
+
+/// What a pass found.
+#[derive(Clone, Copy, Debug, PartialEq, Eq)]
+pub struct Passed {
+    /// Whether it began after [`Layer::finish`].
+    pub finishing: bool,
+    /// How many requests it moved.
+    pub moved: u64,
+    /// How many commands it served.
+    pub served: u64,
+    /// How many requests waited in the core at its end, where it is finishing.
+    pub pending: u64,
+}
+
+/// What a worker does after a pass.
+#[derive(Clone, Copy, Debug, PartialEq, Eq)]
+pub enum After {
+    /// It is finished.
+    Finish,
+    /// It makes the next pass.
+    Again,
+    /// It lets other threads run first, since it found nothing to do.
+    Yield,
+}
+
+/// What a worker does after a pass, by what that found. It is finished where the pass began after [`Layer::finish`], moved
+/// nothing and left nothing waiting; it lets others run first where the pass neither moved nor served anything.
+pub fn after_pass(passed: Passed) -> After
+    ensures { IsAfter passed result }
+{
+    if passed.moved > 0 {
+        return After::Again;
+    }
+    if passed.finishing && passed.pending == 0 {
+        return After::Finish;
+    }
+    if passed.served > 0 {
+        After::Again
+    } else {
+        After::Yield
+    }
+}
+
+impl<S: Scheduler, L: Named> Layer<S, L> {
+    /// Issues a command to a worker, for its hardware queue: the one that the core gives, or None where that gives none. Without a
+    /// command the tag that was taken is given back, and the worker holds what it held; but its next try for a tag may begin at
+    /// another one. The seat is one of this layer.
+    ///
+    /// Refused, by the first of these that applies: as `NoTag` where each tag was found taken when it was tried; as `Memory`
+    /// where the worker's account can't be given the room that a completion will need; and then as the core's issue is.
+    pub fn issue<R: Wait>(
+        &self,
+        rt: &R,
+        worker: &mut Worker<L, S::A>,
+    ) -> Result<Option<Issued>, LayerIssueFault>
+        requires { worker.old.tag_set ≡ self.now.tag_set }
+        ensures issued { IfOk result (λ found. IsIssueAnswer worker.old found worker.new) }
+        ensures same { OnErr result (worker.new ≡ worker.old) }
+    {
+        let mut core = self.core.lock(rt);
+        let from = worker.after_last();
+        match worker.issue(&mut *core, &self.tags, from, false) {
+            Ok(issued) => Ok(Some(issued)),
+            Err(why) => issue_answer(why),
+        }
+    }
+
+    /// Issues for a hardware queue under a tag, as `Core::issue` does; but where the tag is used up in its round and that is full,
+    /// ends the round unless a command is in flight in it. A round is full where as many commands were issued in it as it carries.
+    /// The hardware queue and the tag are the setup's.
+    ///
+    /// It waits for nobody: each try of `work` for a command is this one, with the core's lock held, and `work` ends no round
+    /// otherwise.
+    ///
+    /// Nothing is issued, by the first of these that applies: as `TagRange` or `SlotUsed` where the tag is used up in the round, which
+    /// carries more commands; as `Full` or `Ended` where it is used up and the round is full; as `TraceFull` and `Memory` where the core
+    /// issues nothing so, or where the trace has no place for the end of the round, or no memory; and as `Nothing` where the core
+    /// gives no command.
+    pub fn try_issue(core: &mut Core<S>, hw: u8, tag: u16) -> Result<Command, NoneIssued>
+        requires queue { hw < core.old.setup.hw }
+        requires range { tag < core.old.setup.depth }
+        ensures issued { IfOk result (λ command. Issues S.policy.serves S.policy.chooses core.old hw tag (Some command) core.new) }
+        ensures fault { IfErr result (λ why. IsNoneIssued S.policy.serves S.policy.chooses S.policy.told_tick core.old hw tag why core.new) }
+    {
+        match core.issue(hw, tag) {
+            Ok(Some(command)) => Ok(command),
+            Ok(None) => Err(NoneIssued::Nothing),
+            Err(IssueFault::NoQueue) => unreachable!(),
+            Err(IssueFault::TagRange) => Err(end_full(core, NoneIssued::TagRange)),
+            Err(IssueFault::SlotUsed) => Err(end_full(core, NoneIssued::SlotUsed)),
+            Err(IssueFault::TraceFull) => Err(NoneIssued::TraceFull),
+            Err(IssueFault::Memory) => Err(NoneIssued::Memory),
+        }
+    }
+
+    /// Issues for a hardware queue under a tag, as `Core::issue` does, and ends the round where that is refused because the tag is
+    /// used up in it: it was issued in this round, or isn't below this round's depth, which is smaller than the setup's then. While a
+    /// command is in flight the round goes on. The tag is below the setup's depth. It waits for nobody.
+    ///
+    /// Refused as the core's issue is, and as `TraceFull` or `Memory` where the trace has no place for the end of the round, or no
+    /// memory. Only under `SlotUsed` and `TagRange` the round may have ended; else nothing is changed.
+    pub fn issue_or_end(core: &mut Core<S>, hw: u8, tag: u16) -> Result<Option<Command>, IssueFault>
+        requires { tag < core.old.setup.depth }
+        ensures issued { IfOk result (λ found. Issues S.policy.serves S.policy.chooses core.old hw tag found core.new) }
+        ensures fault { IfErr result (λ why. IsLastTryFault S.policy.told_tick core.old hw tag why core.new) }
+    {
+        match core.issue(hw, tag) {
+            Err(IssueFault::SlotUsed) => Err(end_used(core, IssueFault::SlotUsed)),
+            Err(IssueFault::TagRange) => Err(end_used(core, IssueFault::TagRange)),
+            answer => answer,
+        }
+    }
+
+    /// Reports as done the command in the worker's hands under a tag: the one that the worker was last issued with it. It goes
+    /// into the worker's account, and the tag is given back. The seat is one of this layer. Takes no memory.
+    ///
+    /// Refused where the worker has no command under the tag, even if another worker has one; nothing is changed then.
+    pub fn done<R: Wait>(
+        &self,
+        rt: &R,
+        worker: &mut Worker<L, S::A>,
+        tag: u16,
+    ) -> Result<(), NotIssued>
+        requires { worker.old.tag_set ≡ self.now.tag_set }
+        ensures done { OnOk result (AccountsFor worker.old tag worker.new) }
+        ensures same { OnErr result (worker.new ≡ worker.old) }
+    {
+        let mut core = self.core.lock(rt);
+        let done = worker.done(&mut *core, &self.tags, tag);
+        drop(core);
+        match done {
+            Ok(_) => Ok(()),
+            Err(why) => Err(why),
+        }
+    }
+
+    /// Requeues the command in the worker's hands under a tag, since the device was busy, and answers its id: the core will issue
+    /// it again. The tag is given back, and the worker's account stays. The seat is one of this layer.
+    ///
+    /// Refused, by the first of these that applies: as `NotIssued` where the worker has no command under the tag, even if another
+    /// worker has one; and as the core's `back` is. Nothing is changed then.
+    pub fn back<R: Wait>(
+        &self,
+        rt: &R,
+        worker: &mut Worker<L, S::A>,
+        tag: u16,
+    ) -> Result<u64, BackFault>
+        requires { worker.old.tag_set ≡ self.now.tag_set }
+        ensures back { IfOk result (λ id. LetsGo worker.old tag id worker.new) }
+        ensures fault { IfErr result (λ why. why ≡ BackFault.Memory → IsInHand worker.old tag) }
+        ensures same { OnErr result (worker.new ≡ worker.old) }
+    {
+        let mut core = self.core.lock(rt);
+        worker.back(&mut *core, &self.tags, tag)
+    }
+
+    /// Ends the round, and answers the number of the next one: how many Ticks there are then. Refused as the core's `tick` is,
+    /// by the first of these that applies: as `InFlight` with how many commands are in flight, as `TraceFull`, and as `Memory`.
+    pub fn tick<R: Wait>(&self, rt: &R) -> Result<u64, TickFault>
+        ensures { IsTickAnswer result }
+    {
+        self.core.lock(rt).tick()
+    }
+
+    /// Sets how many commands the rounds after this one carry, until another depth is set. Refused as the core's `set_depth` is,
+    /// by the first of these that applies: as `TraceFull`, as `DepthRange` where the depth is 0 or above the setup's, and as `Memory`.
+    pub fn set_depth<R: Wait>(&self, rt: &R, depth: u64) -> Result<(), DepthFault>
+        ensures { IsDepthAnswer L.setup.depth depth result }
+    {
+        self.core.lock(rt).set_depth(depth)
+    }
+
+    /// Says that nothing more will be flushed: workers finish once nothing waits.
+    pub fn finish(&self) {
+        self.finishing.store(true, Ordering::SeqCst);
+    }
+
+    /// Works for the hardware queue of the worker, whose seat is one of this layer, in at most `turns` passes. A pass drains; then
+    /// commands are issued to the worker, one after the other. It lets the device run each, and reports it done, or requeues it where
+    /// the device was busy, under the same hold of the core's lock under which the next one is issued. A pass ends where an issue finds
+    /// no command or no tag, and where the round is full, which it ends unless a command is in flight ([`Layer::try_issue`]). It has no
+    /// other bound than the trace, which has places for fewer Issues than [`MAX_EVENTS`]. After a pass that found nothing to do it lets
+    /// another thread run.
+    ///
+    /// Finished at a pass that began after [`Layer::finish`], moved no request and left none waiting in the core ([`after_pass`]). The
+    /// worker's account grows at its end by the commands that ran; else its seat is as it was.
+    ///
+    /// Refused as `Repeated` where a drain is, and as `TraceFull` and `Memory` where a drain, an issue or the end of a round is, or
+    /// as `Memory` where a busy device's command can't be requeued, which alone leaves one command in the worker's hands. What was
+    /// done before stands.
+    pub fn work<R: Wait, D: Device>(
+        &self,
+        rt: &R,
+        worker: &mut Worker<L, S::A>,
+        device: &mut D,
+        turns: u64,
+    ) -> Result<Worked, WorkFault>
+        requires { worker.old.tag_set ≡ self.now.tag_set }
+        ensures worked { IfOk result (λ w. IsWorked turns worker.old w worker.new) }
+        ensures fault { IfErr result (λ why. IsWorkFault worker.old why worker.new) }
+        ensures tag_set { worker.new.tag_set ≡ worker.old.tag_set }
+    {
+        let before = worker.ran().len();
+        for passed in 0..turns {
+            match self.pass(rt, worker, device)? {
+                After::Finish => {
+                    return Ok(Worked {
+                        passes: passed + 1,
+                        ran: (worker.ran().len() - before) as u64,
+                        finished: true,
+                    });
+                }
+                After::Yield => yield_now(),
+                After::Again => {}
+            }
+        }
+        Ok(Worked {
+            passes: turns,
+            ran: (worker.ran().len() - before) as u64,
+            finished: false,
+        })
+    }
+
+    /// Makes one pass of `work`, and answers what comes after it.
+    #[tactic(auto, using(crate::proofs::Running::none_ran, crate::proofs::Running::ran_on, crate::proofs::Running::faulted_on, crate::proofs::Running::refused))]
+    fn pass<R: Wait, D: Device>(
+        &self,
+        rt: &R,
+        worker: &mut Worker<L, S::A>,
+        device: &mut D,
+    ) -> Result<After, WorkFault>
+        requires { worker.old.tag_set ≡ self.now.tag_set }
+        ensures runs { IfOk result (λ _. Runs worker.old worker.new) }
+        ensures fault { IfErr result (λ why. IsWorkFault worker.old why worker.new) }
+    {
+        let finishing = self.finishing.load(Ordering::SeqCst);
+        let moved = match self.drain(rt, worker) {
+            Ok(moved) => moved,
+            Err(fault) => return Err(of_release(fault.why)),
+        };
+        let served = self.serve(rt, worker, device)?;
+        let pending = if finishing {
+            self.core.lock(rt).core.pending()
+        } else {
+            0
+        };
+        Ok(after_pass(Passed {
+            finishing,
+            moved,
+            served,
+            pending,
+        }))
+    }
+
+    /// Serves commands until there is none for the worker, and answers how many. There are fewer than [`MAX_EVENTS`], since each is an
+    /// event.
+    fn serve<R: Wait, D: Device>(
+        &self,
+        rt: &R,
+        worker: &mut Worker<L, S::A>,
+        device: &mut D,
+    ) -> Result<u64, WorkFault>
+        requires { worker.old.tag_set ≡ self.now.tag_set }
+        ensures runs { IfOk result (λ _. Runs worker.old worker.new) }
+        ensures fault { IfErr result (λ why. IsWorkFault worker.old why worker.new) }
+    {
+        let Some(first) = self.begin(rt, worker)? else {
+            return Ok(0);
+        };
+        let mut issued = first;
+        for served in 1..MAX_EVENTS {
+            let ran = device.run(&issued.command);
+            match self.end_and_next(rt, worker, issued.tag, ran)? {
+                Some(next) => issued = next,
+                None => return Ok(served),
+            }
+        }
+        self.run_last(rt, worker, device, issued)?;
+        Ok(MAX_EVENTS)
+    }
+
+    /// The first command of a pass, if there is one for the worker.
+    fn begin<R: Wait>(
+        &self,
+        rt: &R,
+        worker: &mut Worker<L, S::A>,
+    ) -> Result<Option<Issued>, WorkFault>
+        requires { worker.old.tag_set ≡ self.now.tag_set }
+        ensures issued { IfOk result (λ found. IsIssueAnswer worker.old found worker.new) }
+        ensures fault { IfErr result (λ why. IsPassRefusal why × (worker.new ≡ worker.old)) }
+    {
+        if worker.make_room().is_err() {
+            return Err(WorkFault::Memory);
+        }
+        let mut core = self.lock_core(rt);
+        worker.next(&mut *core, &self.tags)
+    }
+
+    /// Reports what became of the command in the worker's hands under a tag, and answers the next one, both under one hold of the core's
+    /// lock. Room in the account is made before the lock is taken, and the request of a command that is done is freed after it is released.
+    fn end_and_next<R: Wait>(
+        &self,
+        rt: &R,
+        worker: &mut Worker<L, S::A>,
+        tag: u16,
+        ran: Ran,
+    ) -> Result<Option<Issued>, WorkFault>
+        requires { worker.old.tag_set ≡ self.now.tag_set }
+        ensures turned { IfOk result (λ found. IsTurned worker.old tag ran found worker.new) }
+        ensures fault { IfErr result (λ why. IsTurnFault worker.old tag ran why worker.new) }
+    {
+        let has_room = worker.make_room().is_ok();
+        let mut freed = None;
+        let mut core = self.lock_core(rt);
+        let next = worker.end_and_next(&mut *core, &self.tags, tag, ran, has_room, &mut freed);
+        drop(core);
+        next
+    }
+
+    /// Lets the device run a command in the worker's hands, and reports what became of it, without issuing another one.
+    fn run_last<R: Wait, D: Device>(
+        &self,
+        rt: &R,
+        worker: &mut Worker<L, S::A>,
+        device: &mut D,
+        issued: Issued,
+    ) -> Result<(), WorkFault>
+        requires { worker.old.tag_set ≡ self.now.tag_set }
+        ensures ended { IfOk result (λ _. IsEnded worker.old issued.tag worker.new) }
+        ensures fault { IfErr result (λ why. (why ≡ WorkFault.Memory) × (worker.new ≡ worker.old)) }
+    {
+        let ran = device.run(&issued.command);
+        let mut freed = None;
+        let mut core = self.lock_core(rt);
+        let is_ended = worker.end(&mut *core, &self.tags, issued.tag, ran, &mut freed);
+        drop(core);
+        if is_ended {
+            Ok(())
+        } else {
+            Err(WorkFault::Memory)
+        }
+    }
+}
+
+/// Why the core issues nothing, as the answer of a try that ends no round. The hardware queue is there.
+pub(crate) fn of_core(why: IssueFault) -> NoneIssued
+    requires { why ≢ IssueFault.NoQueue }
+{
+    match why {
+        IssueFault::NoQueue => unreachable!(),
+        IssueFault::TagRange => NoneIssued::TagRange,
+        IssueFault::SlotUsed => NoneIssued::SlotUsed,
+        IssueFault::TraceFull => NoneIssued::TraceFull,
+        IssueFault::Memory => NoneIssued::Memory,
+    }
+}
+
+/// What `Layer::issue`, which ends no round, answers where nothing was issued.
+fn issue_answer(why: NoCommand) -> Result<Option<Issued>, LayerIssueFault>
+    ensures { IfOk result (λ found. found ≡ None) }
+{
+    match why {
+        NoCommand::Tried(NoneIssued::Nothing) => Ok(None),
+        NoCommand::NoTag => Err(LayerIssueFault::NoTag),
+        NoCommand::Tried(NoneIssued::TagRange) => Err(LayerIssueFault::TagRange),
+        NoCommand::Tried(NoneIssued::SlotUsed | NoneIssued::Full | NoneIssued::Ended) => {
+            Err(LayerIssueFault::SlotUsed)
+        }
+        NoCommand::Tried(NoneIssued::TraceFull) => Err(LayerIssueFault::TraceFull),
+        NoCommand::Tried(NoneIssued::Memory) => Err(LayerIssueFault::Memory),
+    }
+}
+
+/// Ends a round that is full, in which a tag is used up, and answers why nothing is issued under it.
+fn end_full<S: Scheduler>(core: &mut Core<S>, why: NoneIssued) -> NoneIssued
+    ensures { IsFullsEnd S.policy.told_tick core.old why result core.new }
+{
+    if !is_full(core) {
+        return why;
+    }
+    match core.tick() {
+        Ok(_) => NoneIssued::Ended,
+        Err(TickFault::InFlight(_)) => NoneIssued::Full,
+        Err(TickFault::TraceFull) => NoneIssued::TraceFull,
+        Err(TickFault::Memory) => NoneIssued::Memory,
+    }
+}
+
+/// Whether the round that is on is full.
+fn is_full<S: Scheduler>(core: &Core<S>) -> bool
+    ensures { IsTrue result ↔ IsFull core.now }
+{
+    let trace = core.trace();
+    trace.depth_now() <= issued_now(trace.events())
+}
+
+/// How many commands were issued in the round that is on: it looks back to where that began.
+fn issued_now<A: Allocator + Clone>(events: &[Event<Request<A>>]) -> u64
+    ensures { result ≡ issued_now events.now }
+{
+    let mut count = 0;
+    for place in 0..events.len() {
+        let event = &events[events.len() - 1 - place];
+        if event.is_tick() {
+            return count;
+        }
+        if event.issues().is_some() {
+            count += 1;
+        }
+    }
+    count
+}
+
+/// Ends the round, in which a tag is used up, and answers why nothing is issued under it: the reason that there was, or why the
+/// round can't end.
+fn end_used<S: Scheduler>(core: &mut Core<S>, why: IssueFault) -> IssueFault
+    ensures { IsRoundsEnd S.policy.told_tick core.old why result core.new }
+{
+    match core.tick() {
+        Ok(_) | Err(TickFault::InFlight(_)) => why,
+        Err(TickFault::TraceFull) => IssueFault::TraceFull,
+        Err(TickFault::Memory) => IssueFault::Memory,
+    }
+}
+
+/// Why a drain ended, as a fault of `work`. The hardware queue is there.
+fn of_release(why: CoreFault) -> WorkFault
+    requires { why ≢ CoreFault.NoQueue }
+    ensures { work_name why ≡ Some result }
+{
+    match why {
+        CoreFault::NoQueue => unreachable!(),
+        CoreFault::Repeated(id) => WorkFault::Repeated(id),
+        CoreFault::TraceFull => WorkFault::TraceFull,
+        CoreFault::Memory => WorkFault::Memory,
+    }
+}

@@ -1,0 +1,409 @@
+//! How requests get from a plug into a software queue, and from there into the core.
+
+ghost use Rattle.std.specs.Prelude.{◌≡◌, ◌≢◌, ◌<◌, ◌≤◌, ◌+◌, [], ◌↔◌, IsTrue, OnOk, OnErr, IfOk, IfErr, IfSome, IfNone, List, Some, length, slice_get};
+ghost use Rattle.blk_bio.specs.Bios.{Bio as Transfer};
+ghost use Rattle.blk_plug.specs.Plugs.{bios_plugged};
+ghost use Rattle.blk_layer.specs.Seats.{AreOwn};
+ghost use Rattle.blk_layer.specs.Submitting.{Flushes, FlushesInto, HasRoom, IsFirstForeign, IsLeft, IsFirstRoomReason, AreOfFirst, IsMoveAnswer, IsMoveAllAnswer};
+ghost use Rattle.blk_layer.specs.Inside.Submitting.{LosesFirst, GetsFirst};
+
+use crate::layer::{Layer, Named};
+use crate::seats::{Submitter, Worker};
+use blk_bio::{Bio, BioId, Request};
+use blk_core::{Core, CoreFault};
+use blk_plug::Plug;
+use blk_sched::Scheduler;
+use blk_soft::{MAX_BIOS, MAX_DEPTH, SoftQueue};
+use std::alloc::Allocator;
+use std::sync::Wait;
+
+/// The most requests that a drain moves from one software queue: as many as one can hold.
+pub const MAX_MOVES: u64 = MAX_DEPTH;
+
+/// What a flush moved.
+#[derive(Clone, Copy, Debug, PartialEq, Eq)]
+pub struct Flushed {
+    /// How many requests.
+    pub requests: u64,
+    /// How many bios these have.
+    pub bios: u64,
+}
+
+/// Why a flush ended before the plug was empty, in the order in which the reasons are looked for.
+#[derive(Clone, Copy, Debug, PartialEq, Eq)]
+pub enum FlushWhy {
+    /// The first bio, in the order of their sectors, of another submitter.
+    Foreign(BioId),
+    /// The first bio, in the order of their sectors, whose id was accepted before or stands earlier in the request.
+    Repeated(BioId),
+    /// The software queue has no room for the request.
+    SoftFull,
+    /// Memory ran out.
+    Memory,
+}
+
+/// A flush that ended before the plug was empty.
+#[derive(Clone, Copy, Debug, PartialEq, Eq)]
+pub struct FlushFault {
+    /// How many requests stay in the plug.
+    pub left: u64,
+    /// Why the first of them does.
+    pub why: FlushWhy,
+}
+
+/// A drain that ended at a request that the core refused.
+#[derive(Clone, Copy, Debug, PartialEq, Eq)]
+pub struct DrainFault {
+    /// How many requests were moved before it.
+    pub moved: u64,
+    /// Why the core refused it; it is first in its software queue again.
+    pub why: CoreFault,
+}
+
+impl<S: Scheduler, L: Named> Layer<S, L> {
+    /// Moves the requests of a plug, from the first on, into the submitter's software queue, and accepts their bios. Ends at
+    /// the first request that is refused, and says how many requests stay in the plug: what was moved stays moved and is
+    /// accepted. The seat is one of this layer, and the plug's limits are the layer's.
+    ///
+    /// The first request left is refused, by the first of these that applies: as `Foreign` with its first bio, by sector,
+    /// that another submitter has named; as `Repeated` with its first bio whose id was accepted before or stands earlier in
+    /// it; as `SoftFull` where the software queue has no room for it; and as `Memory` where the account can't grow.
+    #[tactic(auto, using(crate::proofs::Copied::flushed_behind))]
+    pub fn flush<R: Wait>(
+        &self,
+        rt: &R,
+        submitter: &mut Submitter<L, S::A>,
+        plug: &mut Plug<S::A>,
+    ) -> Result<Flushed, FlushFault>
+        requires seat { submitter.old.number < length self.now.map }
+        requires limits { plug.old.limits ≡ L.setup.limits }
+        ensures moved { Flushes submitter.old plug.old submitter.new plug.new }
+        ensures all { OnOk result (plug.new.requests ≡ []) }
+        ensures requests { IfOk result (λ f. f.requests ≡ length plug.old.requests) }
+        ensures bios { IfOk result (λ f. f.bios ≡ length (bios_plugged plug.old)) }
+        ensures left { IfErr result (λ e. e.left ≡ length plug.new.requests) }
+        ensures fault { IfErr result (λ e. IsLeft submitter.new plug.new e.why) }
+    {
+        let number = usize::from(submitter.number());
+        let mut guard = self.queues[number].lock(rt);
+        let staged = &mut *guard;
+        Self::flush_into(&mut staged.queue, submitter, plug)
+    }
+
+    /// Moves the requests of a plug, from the first on, to the back of a software queue, and their bios into the submitter's
+    /// account, up to the first that is refused. The plug's limits are the queue's. It waits for nobody: a flush calls it with
+    /// the lock of the submitter's software queue held.
+    ///
+    /// The first request left is refused as [`Layer::flush`] says: as `SoftFull` exactly where it may be accepted and the queue
+    /// has no room for it, and as `Memory` only where there is room.
+    #[tactic(auto, using(crate::proofs::Plugged::none_there, crate::proofs::Plugged::none_held, crate::proofs::Plugged::put_on))]
+    pub fn flush_into(
+        queue: &mut SoftQueue<S::A>,
+        submitter: &mut Submitter<L, S::A>,
+        plug: &mut Plug<S::A>,
+    ) -> Result<Flushed, FlushFault>
+        requires { plug.old.limits ≡ queue.old.limits }
+        ensures moved { FlushesInto queue.old submitter.old plug.old queue.new submitter.new plug.new }
+        ensures all { OnOk result (plug.new.requests ≡ []) }
+        ensures requests { IfOk result (λ f. f.requests ≡ length plug.old.requests) }
+        ensures bios { IfOk result (λ f. f.bios ≡ length (bios_plugged plug.old)) }
+        ensures left { IfErr result (λ e. e.left ≡ length plug.new.requests) }
+        ensures fault { IfErr result (λ e. IsLeft submitter.new plug.new e.why) }
+        ensures room { IfErr result (λ e. IsFirstRoomReason queue.new plug.new e.why) }
+        ensures limits { queue.new.limits ≡ queue.old.limits }
+    {
+        let (requests, bios_in) = (plug.len(), queue.bios_in());
+        while plug.len() > 0 {
+            if let Err(why) = flush_first(queue, submitter, plug) {
+                return Err(FlushFault {
+                    left: plug.len() as u64,
+                    why,
+                });
+            }
+        }
+        Ok(Flushed {
+            requests: requests as u64,
+            bios: queue.bios_in() - bios_in,
+        })
+    }
+
+    /// Moves the requests of the software queues of the worker's hardware queue, by rising number, into the core, and answers
+    /// how many. Those of a software queue, [`MAX_MOVES`] at most, are moved under its lock and one hold of the core's; the
+    /// core's is not taken where the queue has none, and their copies for the trace are made before it is.
+    ///
+    /// Where the core refuses one it is first in its queue again, and the drain ends: with how many were moved before, and as
+    /// `Repeated`, `TraceFull` or `Memory` as [`Layer::move_first`] is, never as `NoQueue`. The worker's seat stays as it was.
+    pub fn drain<R: Wait>(&self, rt: &R, worker: &mut Worker<L, S::A>) -> Result<u64, DrainFault>
+        ensures worker { worker.new ≡ worker.old }
+        ensures there { IfErr result (λ e. e.why ≢ CoreFault.NoQueue) }
+    {
+        let hw = worker.hw();
+        let mut moved = 0;
+        for soft in 0..self.map.soft_count() {
+            if self.map.hw_of(soft) != hw {
+                continue;
+            }
+            match self.drain_one(rt, soft, hw) {
+                Ok(more) => moved += more,
+                Err(fault) => {
+                    return Err(DrainFault {
+                        moved: moved + fault.moved,
+                        why: fault.why,
+                    });
+                }
+            }
+        }
+        Ok(moved)
+    }
+
+    /// Moves the requests of one software queue into the core, as [`Layer::drain`] does. The queue's lock is taken before the
+    /// core's, so that no two threads wait for each other.
+    fn drain_one<R: Wait>(&self, rt: &R, soft: usize, hw: u8) -> Result<u64, DrainFault>
+        requires soft { soft < length self.now.map }
+        requires hw { hw < L.setup.hw }
+        ensures few { IfOk result (λ moved. moved ≤ MAX_MOVES) }
+        ensures few_err { IfErr result (λ e. e.moved ≤ MAX_MOVES) }
+        ensures there { IfErr result (λ e. e.why ≢ CoreFault.NoQueue) }
+    {
+        let mut guard = self.queues[soft].lock(rt);
+        let staged = &mut *guard;
+        Self::copy_ahead(&staged.queue, &mut staged.copies);
+        if staged.queue.len() == 0 {
+            return Ok(0);
+        }
+        let mut core = self.lock_core(rt);
+        staged.move_all(&mut *core, hw)
+    }
+
+    /// Copies the requests of a software queue that have no copy yet, the first first, as long as there is memory, and room
+    /// among the copies. These are of the queue's first requests, and have its limits; those that were there stay. It waits for
+    /// nobody: a drain calls it for each of its software queues, with the lock of that queue held, before it takes the core's.
+    pub fn copy_ahead(queue: &SoftQueue<S::A>, copies: &mut SoftQueue<S::A>)
+        requires limits { copies.old.limits ≡ queue.now.limits }
+        requires first { AreOfFirst copies.old.requests queue.now.requests }
+        ensures limits { copies.new.limits ≡ copies.old.limits }
+        ensures kept { length copies.old.requests ≤ length copies.new.requests }
+        ensures first { AreOfFirst copies.new.requests queue.now.requests }
+    {
+        for place in copies.len()..queue.len() {
+            let Some(request) = queue.get(place) else {
+                return;
+            };
+            let Ok(copy) = request.copy() else {
+                return;
+            };
+            let Ok(()) = copies.put(copy) else {
+                return;
+            };
+        }
+    }
+
+    /// Moves the first request of a software queue into the core, for a hardware queue: it is released there and leaves
+    /// the queue. False exactly where the queue is empty. The queue's limits are the core's. It waits for nobody.
+    ///
+    /// Refused as the core's release is: as `NoQueue` where the core has no such hardware queue, as `Repeated` with the first bio
+    /// whose id stands in the trace or twice in the request, as `TraceFull` and as `Memory`. The request is first in the queue
+    /// again then, and both are as they were.
+    pub fn move_first(
+        queue: &mut SoftQueue<S::A>,
+        core: &mut Core<S>,
+        hw: u8,
+    ) -> Result<bool, CoreFault>
+        requires { queue.old.limits ≡ core.old.setup.limits }
+        ensures { IsMoveAnswer S.policy.serves queue.old core.old hw queue.new core.new result }
+    {
+        if queue.len() == 0 {
+            return Ok(false);
+        }
+        let Some(request) = queue.take_first() else {
+            unreachable!()
+        };
+        match core.release(request, hw) {
+            Ok(_) => Ok(true),
+            Err((request, why)) => {
+                queue.put_first(request);
+                Err(why)
+            }
+        }
+    }
+
+    /// Moves all requests of a software queue into the core, each as [`Layer::move_first`] does and the first first, up to the
+    /// first that is refused, and answers how many. It waits for nobody.
+    ///
+    /// Refused with how many were moved before, and why the first of those that are left was refused.
+    #[tactic(auto, using(crate::proofs::Moved::moved_on, crate::proofs::Moved::all_moved, crate::proofs::Moved::ended))]
+    pub fn move_all(
+        queue: &mut SoftQueue<S::A>,
+        core: &mut Core<S>,
+        hw: u8,
+    ) -> Result<u64, DrainFault>
+        requires { queue.old.limits ≡ core.old.setup.limits }
+        ensures { IsMoveAllAnswer S.policy.serves queue.old core.old hw queue.new core.new result }
+    {
+        let most = queue.len() as u64;
+        for moved in 0..most {
+            match Self::move_first(queue, core, hw) {
+                Ok(true) => {}
+                Ok(false) => unreachable!(),
+                Err(why) => return Err(DrainFault { moved, why }),
+            }
+        }
+        Ok(most)
+    }
+
+    /// Moves all requests of a software queue into the core as [`Layer::move_all`] does, with copies of its first requests for
+    /// the trace that were made before, so that none is made now. It waits for nobody: a drain calls it for each of its software
+    /// queues, with the lock of that queue and the core's held.
+    ///
+    /// Refused as [`Layer::move_all`] is, and as `Memory` too where the core would take a request that has no copy. The copies
+    /// that are left are again those of the first requests that are left.
+    #[tactic(auto, using(crate::proofs::Moved::moved_on, crate::proofs::Moved::all_moved, crate::proofs::Moved::ended))]
+    pub fn move_all_copied(
+        queue: &mut SoftQueue<S::A>,
+        copies: &mut SoftQueue<S::A>,
+        core: &mut Core<S>,
+        hw: u8,
+    ) -> Result<u64, DrainFault>
+        requires limits { queue.old.limits ≡ core.old.setup.limits }
+        requires first { AreOfFirst copies.old.requests queue.old.requests }
+        ensures answer { IsMoveAllAnswer S.policy.serves queue.old core.old hw queue.new core.new result }
+        ensures first { AreOfFirst copies.new.requests queue.new.requests }
+        ensures limits { copies.new.limits ≡ copies.old.limits }
+    {
+        let most = queue.len() as u64;
+        for moved in 0..most {
+            match move_copied(queue, copies, core, hw) {
+                Ok(true) => {}
+                Ok(false) => unreachable!(),
+                Err(why) => return Err(DrainFault { moved, why }),
+            }
+        }
+        Ok(most)
+    }
+}
+
+/// Moves the first request of a plug, which has one, or says why it is refused; nothing is changed then.
+#[tactic(auto, using(crate::proofs::Plugged::room_of))]
+fn flush_first<L: Named, A: Allocator + Clone>(
+    queue: &mut SoftQueue<A>,
+    submitter: &mut Submitter<L, A>,
+    plug: &mut Plug<A>,
+) -> Result<(), FlushWhy>
+    requires limits { plug.old.limits ≡ queue.old.limits }
+    requires some { 0 < length plug.old.requests }
+    ensures moved { FlushesInto queue.old submitter.old plug.old queue.new submitter.new plug.new }
+    ensures fewer { OnOk result (length plug.new.requests < length plug.old.requests) }
+    ensures counted { queue.new.bios_in + length (bios_plugged plug.new) ≡ queue.old.bios_in + length (bios_plugged plug.old) }
+    ensures limits { queue.new.limits ≡ queue.old.limits }
+    ensures fault { IfErr result (IsLeft submitter.new plug.new) }
+    ensures room { IfErr result (IsFirstRoomReason queue.new plug.new) }
+    ensures same { OnErr result ((submitter.new ≡ submitter.old) × (plug.new ≡ plug.old) × (queue.new ≡ queue.old)) }
+{
+    let Some(request) = plug.first() else {
+        unreachable!()
+    };
+    if let Some(why) = submitter.refusal(request.bios()) {
+        return Err(why);
+    }
+    if !has_room(queue, request) {
+        return Err(FlushWhy::SoftFull);
+    }
+    if submitter.accept(request.bios()).is_err() {
+        return Err(FlushWhy::Memory);
+    }
+    take_over(queue, plug);
+    Ok(())
+}
+
+/// Moves the first request of a plug into a software queue, which has room for it.
+fn take_over<A: Allocator + Clone>(queue: &mut SoftQueue<A>, plug: &mut Plug<A>)
+    requires limits { plug.old.limits ≡ queue.old.limits }
+    requires room { (first : List Transfer) → slice_get plug.old.requests 0 ≡ Some first → HasRoom queue.old first }
+    requires some { 0 < length plug.old.requests }
+    ensures moved { LosesFirst plug.old plug.new }
+    ensures put { GetsFirst queue.old plug.old queue.new }
+    ensures limits { queue.new.limits ≡ queue.old.limits }
+{
+    let Some(request) = plug.take_first() else {
+        unreachable!()
+    };
+    if queue.put(request).is_err() {
+        unreachable!()
+    }
+}
+
+/// Whether a software queue has room for a request.
+fn has_room<A: Allocator + Clone>(queue: &SoftQueue<A>, request: &Request<A>) -> bool
+    ensures { IsTrue result ↔ HasRoom queue.now request.now }
+{
+    let count = request.bios().len() as u64;
+    (queue.len() as u64) < queue.depth() && count <= MAX_BIOS - queue.bios_in()
+}
+
+/// The id of the first of the bios, in the order of their sectors, that another submitter has named.
+pub(crate) fn first_foreign(number: u8, bios: &[Bio]) -> Option<BioId>
+    ensures some { IfSome result (IsFirstForeign number bios.now) }
+    ensures none { IfNone result (AreOwn number bios.now) }
+{
+    for (place, bio) in bios.iter().enumerate() {
+        let id = bio.id();
+        if id.submitter != number {
+            // The place is for the prover: the id is that of the first such bio.
+            let _ = place;
+            return Some(id);
+        }
+    }
+    None
+}
+
+/// Moves the first request of a software queue into the core as [`Layer::move_first`] does, with its copy. Refused as `Memory`
+/// too where it has none.
+#[tactic(auto, using(crate::proofs::Copied::one_less, crate::proofs::Copied::one_back, crate::proofs::Copied::has_first))]
+fn move_copied<S: Scheduler>(
+    queue: &mut SoftQueue<S::A>,
+    copies: &mut SoftQueue<S::A>,
+    core: &mut Core<S>,
+    hw: u8,
+) -> Result<bool, CoreFault>
+    requires limits { queue.old.limits ≡ core.old.setup.limits }
+    requires first { AreOfFirst copies.old.requests queue.old.requests }
+    ensures answer { IsMoveAnswer S.policy.serves queue.old core.old hw queue.new core.new result }
+    ensures first { AreOfFirst copies.new.requests queue.new.requests }
+    ensures limits { copies.new.limits ≡ copies.old.limits }
+{
+    if copies.len() == 0 || queue.len() == 0 {
+        return without_copy(queue, core, hw);
+    }
+    let Some(copy) = copies.take_first() else {
+        unreachable!()
+    };
+    let Some(request) = queue.take_first() else {
+        unreachable!()
+    };
+    match core.release_copied(request, copy, hw) {
+        Ok(_) => Ok(true),
+        Err((request, copy, why)) => {
+            queue.put_first(request);
+            copies.put_first(copy);
+            Err(why)
+        }
+    }
+}
+
+/// What a move answers where the first request, if there is one, has no copy: the core's reason to refuse it, or else that memory
+/// ran out.
+fn without_copy<S: Scheduler>(
+    queue: &SoftQueue<S::A>,
+    core: &Core<S>,
+    hw: u8,
+) -> Result<bool, CoreFault>
+    ensures { IsMoveAnswer S.policy.serves queue.now core.now hw queue.now core.now result }
+{
+    let Some(request) = queue.get(0) else {
+        return Ok(false);
+    };
+    match core.release_fault(request, hw) {
+        Some(why) => Err(why),
+        None => Err(CoreFault::Memory),
+    }
+}

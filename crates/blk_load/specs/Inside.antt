@@ -1,0 +1,2 @@
+-- What private clauses and proofs need, and no promise names.
+pub mod Loads
