@@ -13,20 +13,20 @@ use Rattle.blk_text.specs.Versions.{latest}
 use Rattle.blk_text.proofs.ScriptLaws.{read_back_is}
 use Rattle.blk_text.specs.declared.script.Line.{Line}
 use Rattle.blk_text.specs.declared.script.Line.TheVariants as line
-use Rattle.blk_arrivals.specs.Rows.{line_row}
+use Rattle.blk_text.specs.StepRecords.{step_row}
 
 -- the first record of a script
 abbrev pub script_title : Scripted → Row
 script_title s = codes "blk-script" ∷ decimal latest ∷ decimal s.setup.depth ∷ decimal s.setup.hw ∷ decimal s.soft_depth ∷ decimal s.submitters ∷ []
 
-row_is : (s : Scripted) (l : Line) → (step latest s.setup.hw s.submitters).rows_of l ≡ line_row l ∷ []
+row_is : (s : Scripted) (l : Line) → (step latest s.setup.hw s.submitters).rows_of l ≡ step_row l ∷ []
 row_is s (line.Bio b) = refl
 row_is s l = refl
 
 -- the records of a script, one by one
-pub rows_are : (s : Scripted) → script_rows latest s ≡ script_title s ∷ setup_row s.setup ∷ map line_row s.lines
+pub rows_are : (s : Scripted) → script_rows latest s ≡ script_title s ∷ setup_row s.setup ∷ map step_row s.lines
 rows_are s =
-    let lines : all_rows (λ _. step latest s.setup.hw s.submitters) with_next [] s.lines ≡ map line_row s.lines = rows_map (step latest s.setup.hw s.submitters) line_row (row_is s) [] s.lines in
+    let lines : all_rows (λ _. step latest s.setup.hw s.submitters) with_next [] s.lines ≡ map step_row s.lines = rows_map (step latest s.setup.hw s.submitters) step_row (row_is s) [] s.lines in
     ap (λ (rows : List Row). script_title s ∷ setup_row s.setup ∷ rows) (append-nil (all_rows (λ _. step latest s.setup.hw s.submitters) with_next [] s.lines) ∙ lines)
 
 stands : (l : Line) → IsLineOf latest l

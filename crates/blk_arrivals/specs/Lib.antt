@@ -4,5 +4,4 @@ pub mod Plugs
 pub mod Scripts
 pub mod Brought
 pub mod Names
-pub mod Rows
 pub mod Staged

@@ -1,8 +1,9 @@
 -- Records of an action counted.
-use Rattle.std.proofs.Common.{ℕ, ◌≡◌, ◌<◌, ◌≤◌, ◌+◌, ◌==◌, ◌∙◌, cond, Bool, true, false, List, [], length, get_or, take, refl, arith, ap, sym}
+use Rattle.std.proofs.Common.{ℕ, ◌≡◌, ◌<◌, ◌+◌, ◌==◌, ◌∙◌, cond, Bool, true, false, List, [], length, get_or, take, refl, arith, ap, sym}
 use Rattle.std.specs.Prelude.{◌&&◌}
 use Rattle.std.proofs.lemmas.List.{take_more, length-take-le}
-use Rattle.blk_capture.specs.Fates.{told, is_of, is_taken, is_left_out, is_unmatched, is_passed, tally_of, tally_with}
+use Rattle.blk_capture.specs.Fates.{told, is_of, is_taken, is_left_out, is_unmatched, is_passed, tally_of}
+use Rattle.blk_capture.specs.Inside.Tallies.{tally_with}
 use Rattle.blk_capture.specs.Passing.{place_of}
 use Rattle.blk_capture.specs.declared.fates.Fate.{Fate}
 use Rattle.blk_capture.specs.declared.fates.Tally.{Tally}

@@ -1,7 +1,7 @@
 use Rattle.std.proofs.Common.{ℕ, ◌≡◌, ◌<◌, ◌++◌, ◌∙◌, List, [], ◌∷◌, length, get_or, None, Some, inl, inr, ap, sym}
 use Rattle.std.proofs.lemmas.Bool.{cases_lt}
 use Rattle.std.proofs.lemmas.List.{get_or_append_left, get_or_past}
-use Rattle.blk_capture.specs.Members.{AreOpened}
+use Rattle.blk_capture.specs.Inside.Members.{AreOpened}
 use Rattle.blk_capture.specs.declared.members.Queued.{Queued}
 
 none_is_some : (r : ℕ) → None ≡ Some r → ⊥

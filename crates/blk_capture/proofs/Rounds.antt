@@ -4,11 +4,11 @@ use Rattle.std.specs.List.Sorted.{IsPartitionPoint}
 use Rattle.std.proofs.lemmas.Bool.{cases_lt, cases_eq, eq-eqb, ne_eqb, cond-true, cond-false, le-ltb, le-leb, lt-leb}
 use Rattle.std.proofs.lemmas.List.{get_or_default}
 use Rattle.std.proofs.lemmas.List.Sums.{sum_by-cons, count_by-le-length}
-use Rattle.edd_check.specs.Capacity.{depth_at, fixed}
-use Rattle.edd_check.specs.Limits.{most_commands}
-use Rattle.edd_check.specs.Schedule.{IsLegal, RoundsInRange, places_at}
-use Rattle.edd_check.specs.declared.Command.{Command}
-use Rattle.edd_check.proofs.InForce.{depth_fixed}
+use Rattle.edd_commands.specs.Capacity.{depth_at, fixed}
+use Rattle.edd_commands.specs.Limits.{most_commands}
+use Rattle.edd_commands.specs.Schedule.{IsLegal, RoundsInRange, places_at}
+use Rattle.edd_commands.specs.declared.Command.{Command}
+use Rattle.edd_commands.proofs.InForce.{depth_fixed}
 use Rattle.blk_capture.specs.Counting.{AreServed, AreSolvable, IsCounted, AreLateByClock, dispatched_before, dispatched_by, command_at}
 use Rattle.blk_capture.specs.declared.counting.Served.{Served}
 

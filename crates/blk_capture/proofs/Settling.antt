@@ -3,12 +3,12 @@ use Rattle.std.specs.List.{All}
 use Rattle.std.specs.Prelude.{IfSome}
 use Rattle.std.proofs.lemmas.Bool.{cases_lt}
 use Rattle.std.proofs.lemmas.List.{get_or_append_left, get_or_push, get_or_past, get_or_default, get_or-map, length_push, length-map}
-use Rattle.edd_check.specs.declared.Command.{Command}
+use Rattle.edd_commands.specs.declared.Command.{Command}
 use Rattle.blk_bio.specs.declared.bio.Dir.TheVariants.{Read}
 use Rattle.blk_capture.specs.Counting.{AreServed, AreLateByClock}
-use Rattle.blk_capture.specs.Members.{AreOpened}
+use Rattle.blk_capture.specs.Inside.Members.{AreOpened}
 use Rattle.blk_capture.specs.Requests.{served_of, AreTimed, HaveBios, AreLate, IsDue}
-use Rattle.blk_capture.specs.Taken.{IsOwn, ArePlaced, ArePlacedBios, IsTalliedFrom}
+use Rattle.blk_capture.specs.Inside.Taken.{IsOwn, ArePlaced, ArePlacedBios, IsTalliedFrom}
 use Rattle.blk_capture.specs.declared.counting.Served.{Served}
 use Rattle.blk_capture.specs.declared.members.Queued.{Queued}
 use Rattle.blk_capture.specs.declared.requests.Bio.{Bio}

@@ -6,7 +6,7 @@ use Rattle.std.specs.Cmp.{IsTotalOrder, nat_cmp_total, bool_cmp_total, tied_itse
 use Rattle.std.specs.declared.cmp.Ordering.{Ordering}
 use Rattle.std.specs.declared.cmp.Ordering.TheVariants.{Less, Equal, Greater}
 use Rattle.std.proofs.lemmas.Cmp.{then_total, on_total}
-use Rattle.blk_capture.specs.Spots.{spot_cmp, key_cmp, Key, IsOldest, IsNewest, IsEmptyAt}
+use Rattle.blk_capture.specs.Inside.Spots.{spot_cmp, key_cmp, Key, IsOldest, IsNewest, IsEmptyAt}
 use Rattle.blk_capture.specs.declared.spots.Spot.{Spot}
 
 spots_total : IsTotalOrder spot_cmp

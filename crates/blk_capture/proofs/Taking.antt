@@ -7,8 +7,8 @@ use Rattle.std.proofs.lemmas.List.Sums.{sum_by-set, sum_by-cons}
 use Rattle.std.proofs.lemmas.List.Sorted.{IsNonDecreasingBy-push}
 use Rattle.std.proofs.lemmas.List.Elements.{All-replicate, All-set, All-weaker}
 use Rattle.std.specs.Prelude.{IfSome}
-use Rattle.blk_capture.specs.Requests.{IsDue, AreWithin}
-use Rattle.blk_capture.specs.Taken.{IsRequestOf, ArePlaced, PutsAt}
+use Rattle.blk_capture.specs.Requests.{IsDue}
+use Rattle.blk_capture.specs.Inside.Taken.{IsRequestOf, ArePlaced, PutsAt, AreWithin}
 use Rattle.blk_capture.specs.declared.clock.Dispatch.{Dispatch}
 use Rattle.blk_capture.specs.declared.requests.Life.{Life}
 use Rattle.blk_capture.specs.declared.requests.Options.{Options}

@@ -5,7 +5,7 @@ use Rattle.std.proofs.lemmas.List.{get_or-set_same, get_or-set_other, length-set
 use Rattle.std.proofs.lemmas.List.Sums.{count_by_more_yes, count_by_more_no}
 use Rattle.blk_bio.specs.declared.bio.Dir.TheVariants.{Read}
 use Rattle.blk_capture.specs.Requests.{is_at}
-use Rattle.blk_capture.specs.Taken.{IsTalliedFrom}
+use Rattle.blk_capture.specs.Inside.Taken.{IsTalliedFrom}
 use Rattle.blk_capture.specs.declared.requests.Bio.{Bio}
 use Rattle.blk_capture.specs.declared.requests.Request.{Request}
 

@@ -2,9 +2,9 @@ use Rattle.std.proofs.Common.{ℕ, ◌≡◌, ◌<◌, ◌+◌, ◌++◌, ◌∙
 use Rattle.std.specs.Prelude.{Result, Ok, Err, IfOk}
 use Rattle.std.proofs.lemmas.List.{map_push, take_more, length-map}
 use Rattle.blk_capture.specs.Fates.{opened_by, made_by, is_matched, told}
-use Rattle.blk_capture.specs.Parts.{is_known}
+use Rattle.blk_capture.specs.Inside.Roles.{is_known}
 use Rattle.blk_capture.specs.declared.fates.Fate.{Fate}
-use Rattle.blk_capture.specs.declared.matching.Part.{Part}
+use Rattle.blk_capture.specs.declared.matching.Role.{Role}
 use Rattle.blk_capture.specs.declared.record.Action.{Action}
 use Rattle.blk_capture.specs.declared.record.Action.TheVariants as action
 use Rattle.blk_capture.specs.declared.record.Record.{Record}
@@ -59,7 +59,7 @@ told_more p (r ∷ records) [] f d here = step (p r.action f) (told p records []
 told_more p (r ∷ records) (g ∷ fates) f d here =
     more (p r.action g) (p (get_or records (length fates) d).action f) (told p records fates) (told p records (fates ++ f ∷ [])) (told_more p records fates f d (omega (arith, here)))
 
--- the next record, and what is told of it
+-- the next record, and what is said about it
 pub told_next : {F : Type 0} (p : Action → F → Bool) (records : List Record) (fates new : List F) (f : F) (n m m2 : ℕ) (d : Record) → length fates ≡ n → n < length records → m ≡ told p records fates
     → m2 ≡ m + cond (p (get_or records n d).action f) 1 0 → new ≡ fates ++ f ∷ [] → m2 ≡ told p records new
 told_next p records fates new f n m m2 d same here so_far next is =
@@ -70,31 +70,31 @@ told_next p records fates new f n m m2 d same here so_far next is =
     ∙ sym at
     ∙ ap (told p records) (sym is)
 
--- what is told by a part of it
+-- what a part of it says
 pub told_map : {F G : Type 0} (p : Action → G → Bool) (h : F → G) (records : List Record) (fates : List F) → told (λ a f. p a (h f)) records fates ≡ told p records (map h fates)
 unfolding told
 told_map p h [] fates = refl
 told_map p h (r ∷ records) [] = refl
 told_map p h (r ∷ records) (f ∷ fates) = ap (λ n. cond (p r.action (h f)) (suc n) n) (told_map p h records fates)
 
--- records are matched as their parts are known, so both tell the same
-pub told_alike : (p : Action → Bool → Bool) (records : List Record) (fates : List Fate) (parts : List Part) → map is_matched fates ≡ map is_known parts
-    → told (λ a f. p a (is_matched f)) records fates ≡ told (λ a x. p a (is_known x)) records parts
-told_alike p records fates parts same = told_map p is_matched records fates ∙ ap (told p records) same ∙ sym (told_map p is_known records parts)
+-- records are matched as their roles are known, so both tell the same
+pub told_alike : (p : Action → Bool → Bool) (records : List Record) (fates : List Fate) (roles : List Role) → map is_matched fates ≡ map is_known roles
+    → told (λ a f. p a (is_matched f)) records fates ≡ told (λ a x. p a (is_known x)) records roles
+told_alike p records fates roles same = told_map p is_matched records fates ∙ ap (told p records) same ∙ sym (told_map p is_known records roles)
 
--- one more, of which the same is told
-pub mapped_more : {F G B : Type 0} (p : F → B) (q : G → B) (fates new : List F) (parts : List G) (n : ℕ) (f : F) (d : G) → map p fates ≡ map q (take n parts) → n < length parts → p f ≡ q (get_or parts n d) → new ≡ fates ++ f ∷ []
-    → map p new ≡ map q (take (n + 1) parts)
-mapped_more p q fates new parts n f d so_far here same is =
+-- one more, of which the same is said
+pub mapped_more : {F G B : Type 0} (p : F → B) (q : G → B) (fates new : List F) (roles : List G) (n : ℕ) (f : F) (d : G) → map p fates ≡ map q (take n roles) → n < length roles → p f ≡ q (get_or roles n d) → new ≡ fates ++ f ∷ []
+    → map p new ≡ map q (take (n + 1) roles)
+mapped_more p q fates new roles n f d so_far here same is =
     ap (map p) is
     ∙ map_push p fates f
     ∙ ap (λ xs. xs ++ p f ∷ []) so_far
-    ∙ ap (λ b. map q (take n parts) ++ b ∷ []) same
-    ∙ sym (map_push q (take n parts) (get_or parts n d))
-    ∙ ap (map q) (sym (take_more parts n d here))
+    ∙ ap (λ b. map q (take n roles) ++ b ∷ []) same
+    ∙ sym (map_push q (take n roles) (get_or roles n d))
+    ∙ ap (map q) (sym (take_more roles n d here))
 
-pub fates_each : (fates : List Fate) (parts : List Part) → map is_matched fates ≡ map is_known parts → length fates ≡ length parts
-fates_each fates parts same = sym (length-map fates is_matched) ∙ ap length same ∙ length-map parts is_known
+pub fates_each : (fates : List Fate) (roles : List Role) → map is_matched fates ≡ map is_known roles → length fates ≡ length roles
+fates_each fates roles same = sym (length-map fates is_matched) ∙ ap length same ∙ length-map roles is_known
 
 -- what two clauses of a value say together
 pub both_ok : {X E : Type 0} (r : Result X E) (P Q R : X → Type 0) → ((x : X) → P x → Q x → R x) → IfOk r P → IfOk r Q → IfOk r R

@@ -1,8 +1,8 @@
 -- Requests that went to a device, by the clock, and rounds that are their dispatches.
 use Rattle.std.specs.Prelude.{ℕ, ◌≡◌, ◌≤◌, ◌<◌, ◌+◌, ◌↔◌, List, length, count_by, nat_lt, nat_le, slice_index, slice_index_or, All}
 use Rattle.std.specs.List.Sorted.{IsNonDecreasingBy}
-use Rattle.edd_check.specs.Limits.{release_limit, round_limit}
-use Rattle.edd_check.specs.declared.Command.{Command}
+use Rattle.edd_commands.specs.Limits.{release_limit, round_limit}
+use Rattle.edd_commands.specs.declared.Command.{Command}
 use Rattle.blk_capture.specs.declared.counting.Served.{Served}
 
 -- in the order of their dispatches, and none went out before it came in

@@ -1,5 +1,5 @@
 -- What became of the records of a capture.
-use Rattle.std.specs.Prelude.{ℕ, ◌≡◌, ◌+◌, ◌<◌, ◌==◌, ◌&&◌, ⊤, suc, cond, Bool, true, false, List, [], ◌∷◌, map, length, Option, None, Some, All}
+use Rattle.std.specs.Prelude.{ℕ, ◌≡◌, ◌+◌, ◌<◌, ◌==◌, ◌&&◌, ⊤, suc, cond, Bool, true, false, List, [], ◌∷◌, map, Option, None, Some, All}
 use Rattle.blk_capture.specs.Passing.{place_of, kind_place, passed_over}
 use Rattle.blk_capture.specs.declared.fates.Fate.{Fate}
 use Rattle.blk_capture.specs.declared.fates.Fate.TheVariants as fate
@@ -57,13 +57,13 @@ opens a f = opened_by a (is_matched f)
 abbrev pub makes : Action → Fate → Bool
 makes a f = made_by a (is_matched f)
 
--- how many of the records, each with what is told of it, pass a test
+-- how many of the records, each with what became of it, pass a test
 unfoldable pub told : {F : Type 0} → (Action → F → Bool) → List Record → List F → ℕ
 told p [] fates = 0
 told p (r ∷ records) [] = 0
 told p (r ∷ records) (f ∷ fates) = cond (p r.action f) (suc (told p records fates)) (told p records fates)
 
--- of an action, those of which something is told
+-- of an action, those of which something is known
 abbrev pub is_of : Action → (Fate → Bool) → Action → Fate → Bool
 is_of a p b f = (place_of b == place_of a) && p f
 
@@ -77,16 +77,6 @@ tally_of a records fates = record {
   passed_over = told (is_of a is_passed) records fates;
 }
 
--- with one more record
-abbrev pub tally_with : Tally → Fate → Tally
-tally_with t f = record {
-  records = t.records + 1;
-  taken = t.taken + cond (is_taken f) 1 0;
-  left_out = t.left_out + cond (is_left_out f) 1 0;
-  unmatched = t.unmatched + cond (is_unmatched f) 1 0;
-  passed_over = t.passed_over + cond (is_passed f) 1 0;
-}
-
 abbrev pub AddsUp : Tally → Type 0
 AddsUp t = t.taken + t.left_out + t.unmatched + t.passed_over ≡ t.records
 
@@ -94,7 +84,7 @@ AddsUp t = t.taken + t.left_out + t.unmatched + t.passed_over ≡ t.records
 abbrev pub ArePassed : List Record → List Fate → Type 0
 ArePassed records fates = map passed_by fates ≡ map passed_over records
 
--- the requests that records are said to be of are among so many
+-- the requests that records are said to be of are among the first n
 abbrev pub IsBelow : ℕ → Fate → Type 0
 IsBelow n (fate.Taken k) = k < n
 IsBelow n _ = ⊤

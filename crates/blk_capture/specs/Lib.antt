@@ -1,12 +1,8 @@
 pub mod Counting
-pub mod Members
 pub mod Requests
-pub mod Taken
 pub mod Fates
 pub mod Passing
-pub mod Parts
 pub mod Parting
 pub mod Tables
 pub mod Summaries
-pub mod Spots
-pub mod Edges
+pub mod Inside

@@ -1,8 +1,9 @@
 -- A part of what was matched: the requests from a time on, and of these the first ones.
-use Rattle.std.specs.Prelude.{ℕ, ◌-◌, ◌&&◌, cond, nat_lt, nat_le, count_by, List, take, drop, Option, None, Some}
+use Rattle.std.specs.Prelude.{ℕ, ◌-◌, ◌&&◌, cond, nat_lt, nat_le, count_by, map, List, take, drop, Option, None, Some}
 use Rattle.blk_capture.specs.declared.fates.Fate.{Fate}
 use Rattle.blk_capture.specs.declared.fates.Fate.TheVariants as fate
 use Rattle.blk_capture.specs.declared.requests.Bio.{Bio}
+use Rattle.blk_capture.specs.declared.requests.Matched.{Matched}
 use Rattle.blk_capture.specs.declared.requests.Request.{Request}
 
 -- how many went out before a time
@@ -28,3 +29,10 @@ fate_at (Some k) = fate.Taken k
 abbrev pub fate_in : ℕ → ℕ → Fate → Fate
 fate_in from n (fate.Taken k) = fate_at (place_in from n (Some k))
 fate_in from n f = f
+
+-- the bios and the fates of all records, where of the requests that went out from a time on n are taken
+abbrev pub part_bios : {A : Type 0} → ℕ → ℕ → Matched A → List Bio
+part_bios begin n m = map (bio_in (before begin m.requests.items) n) m.bios.items
+
+abbrev pub part_fates : {A : Type 0} → ℕ → ℕ → Matched A → List Fate
+part_fates begin n m = map (fate_in (before begin m.requests.items) n) m.fates.items

@@ -1,5 +1,5 @@
 -- Records that are passed over, and why; what the letters of a record say.
-use Rattle.std.specs.Prelude.{ℕ, ◌+◌, ◌==◌, cond, nat_lt, Bool, true, false, List, [], ◌∷◌, Option, Some, None}
+use Rattle.std.specs.Prelude.{ℕ, ◌+◌, ◌==◌, cond, nat_lt, Bool, List, [], ◌∷◌, Option, Some, None}
 use Rattle.std.specs.List.{list_any}
 use Rattle.blk_bio.specs.declared.bio.TheConstants.{MAX_END}
 use Rattle.blk_bio.specs.declared.bio.Dir.{Dir}
@@ -57,10 +57,6 @@ dir_of op.Discard = None
 dir_of op.Erase = None
 dir_of op.Flush = None
 dir_of op.Nothing = None
-
-abbrev pub writes : Dir → Bool
-writes dir.Read = false
-writes dir.Write = true
 
 -- the first of these letters that stands among them: W, R, E, D, F
 abbrev pub has : ℕ → List ℕ → Bool

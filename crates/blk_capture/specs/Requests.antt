@@ -1,7 +1,7 @@
 -- Requests of a capture that went out, and the bios that went with them.
 use Rattle.std.specs.Prelude.{◌^◌, min, unwrap_or, ℕ, ◌≡◌, ◌≤◌, ◌<◌, ◌+◌, ◌-◌, ◌==◌, ◌↔◌, List, length, count_by, Bool, false, Option, Some, None, IfSome, slice_index, slice_index_or, All}
 use Rattle.std.specs.List.Sorted.{IsNonDecreasingBy}
-use Rattle.edd_check.specs.declared.Command.{Command}
+use Rattle.edd_commands.specs.declared.Command.{Command}
 use Rattle.blk_capture.specs.declared.counting.Served.{Served}
 use Rattle.blk_capture.specs.declared.record.Record.{Record}
 use Rattle.blk_bio.specs.declared.bio.Dir.{Dir}
@@ -61,10 +61,6 @@ is_at k (Some j) = j == k
 -- each request has as many bios as went out with it
 abbrev pub AreTallied : List Request → List Bio → Type 0
 AreTallied requests bios = (k : ℕ) (d : Request) → k < length requests → (slice_index_or requests k d).bios ≡ count_by (λ b. is_at k b.request) bios
-
--- places among the first n
-abbrev pub AreWithin : ℕ → List (Option ℕ) → Type 0
-AreWithin n places = All (λ p. IfSome p (λ k. k < n)) places
 
 -- bios that went out with one of n requests, or with none
 abbrev pub AreGone : ℕ → List Bio → Type 0

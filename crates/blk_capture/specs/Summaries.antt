@@ -47,7 +47,7 @@ wait_by Tag q = between q.queued q.got
 wait_by Scheduler q = from_known q.inserted q.dispatched
 wait_by Device q = until_known q.dispatched q.completed
 
--- the nearest rank: so many hundredths of n, rounded up
+-- the nearest rank: these hundredths of n, rounded up
 abbrev pub nearest_rank : ℕ → ℕ → ℕ
 nearest_rank percent n = (percent * n + 99) / 100
 
@@ -80,12 +80,12 @@ back_by time q = known_by time q.completed
 abbrev pub in_flight_at : List Request → ℕ → ℕ
 in_flight_at requests time = count_by (λ q. out_by time q && not (back_by time q)) requests
 
--- so many are when the request at place k goes out
+-- n are there when the request at place k goes out
 pub record AreWith (requests : List Request) (n k : ℕ) : Type 0 where
   pub in_list : k < length requests
   pub at : (d : Request) → in_flight_at requests (slice_index_or requests k d).dispatched ≡ n
 
--- no more are when a request goes out, and so many are then once, if any
+-- n is the most that are there when a request goes out, and 0 where there are no requests
 pub record IsMostInFlight (requests : List Request) (n : ℕ) : Type 0 where
   pub bound : (k : ℕ) (d : Request) → k < length requests → in_flight_at requests (slice_index_or requests k d).dispatched ≤ n
   pub reached : 0 < n → (k : ℕ) × AreWith requests n k

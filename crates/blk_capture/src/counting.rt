@@ -1,12 +1,12 @@
 //! Requests counted in rounds, each a dispatch that the device took.
 
-ghost use Rattle.std.specs.Prelude.{◌≡◌, ◌≤◌, ◌<◌, ◌+◌, ◌↔◌, IsTrue, IfOk, length, slice_index_or};
-ghost use Rattle.edd_check.specs.Capacity.{fixed};
-ghost use Rattle.edd_check.specs.Limits.{most_commands};
-ghost use Rattle.edd_check.specs.Schedule.{IsLegal, RoundsInRange};
+ghost use Rattle.std.specs.Prelude.{◌≡◌, ◌≤◌, ◌<◌, ◌+◌, ◌↔◌, IsTrue, IfOk, length};
+ghost use Rattle.edd_commands.specs.Capacity.{fixed};
+ghost use Rattle.edd_commands.specs.Limits.{most_commands};
+ghost use Rattle.edd_commands.specs.Schedule.{IsLegal, RoundsInRange};
 ghost use Rattle.blk_capture.specs.Counting.{AreServed, AreSolvable, IsCounted, AreLateByClock, dispatched_before, dispatched_by, command_at};
 
-use edd_check::Command;
+use edd_commands::Command;
 use std::alloc::{AllocError, Allocator, Global};
 
 /// A request that the device took, by the clock. The unit and the beginning of the clock don't matter.
@@ -80,7 +80,7 @@ fn command_at(requests: &[Served], place: usize, request: Served) -> Command
 /// before it came in, and due in the last round that went out by its deadline; where none went out between the two, that round
 /// is the one before its release. So it runs after its due round exactly where it went out after its deadline.
 ///
-/// At most [`edd_check::MAX_COMMANDS`] requests, as [`are_served`] tells. Fails for want of memory alone. The time grows as n log n.
+/// At most [`edd_commands::MAX_COMMANDS`] requests, as [`are_served`] tells. Fails only when out of memory. The time grows as n log n.
 pub fn count_rounds<A: Allocator + Clone>(
     alloc: A,
     requests: &[Served],

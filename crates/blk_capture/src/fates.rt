@@ -1,7 +1,8 @@
 //! What became of the records of a capture, and how many of each action.
 
 ghost use Rattle.std.specs.Prelude.{◌≡◌, ◌+◌, ◌<◌, ◌^◌, length, count_by};
-ghost use Rattle.blk_capture.specs.Fates.{is_of_kind, tally_of, tally_with, AddsUp};
+ghost use Rattle.blk_capture.specs.Fates.{is_of_kind, tally_of, AddsUp};
+ghost use Rattle.blk_capture.specs.Inside.Tallies.{tally_with};
 
 use crate::record::{Action, Passed, Record};
 

@@ -1,11 +1,10 @@
 //! The requests of a capture, matched from its records, one rule for each action.
 
-ghost use Rattle.std.specs.Prelude.{◌≡◌, ◌+◌, IfOk, IfSome, IfNone, None, true, length, is_some};
-ghost use Rattle.std.specs.BTreeMap.{get};
+ghost use Rattle.std.specs.Prelude.{◌≡◌, ◌+◌, IfOk, IfSome, IfNone, None, length, is_some};
 ghost use Rattle.blk_capture.specs.Passing.{passed_over};
-ghost use Rattle.blk_capture.specs.Edges.{met_spot, on_side, whole_spot};
-ghost use Rattle.blk_capture.specs.Spots.{key_cmp, IsEmptyAt, IsNewest, IsOldest, TakesAbutting, TakesGoing};
-ghost use Rattle.blk_capture.specs.Parts.{is_known, opens_part, makes_part, passed_part, adds};
+ghost use Rattle.blk_capture.specs.Inside.Edges.{on_time_spot, facing, by_range, whole_spot, TakesAbutting, TakesGoing};
+ghost use Rattle.blk_capture.specs.Inside.Spots.{IsEmptyAt};
+ghost use Rattle.blk_capture.specs.Inside.Roles.{is_known, opens_role, makes_role, passed_role, GrowsIf};
 
 use crate::clock::Clock;
 use crate::members::{Members, Queued};
@@ -14,9 +13,9 @@ use crate::spots::{Edges, Spot, Spots};
 use blk_bio::Side;
 use std::alloc::{AllocError, Allocator, Global};
 
-/// What a record is of.
+/// What a record of a capture is of.
 #[derive(Clone, Copy, Debug, PartialEq, Eq)]
-pub(crate) enum Part {
+pub(crate) enum Role {
     /// It made the bio of a number.
     Bio(usize),
     /// It is of the request of a number.
@@ -27,26 +26,26 @@ pub(crate) enum Part {
     PassedOver(Passed),
 }
 
-impl Part {
+impl Role {
     /// Of a record that made a bio, if it did.
-    fn of_bio(bio: Option<usize>) -> Part
+    fn of_bio(bio: Option<usize>) -> Role
         ensures known { is_known result ≡ is_some bio }
-        ensures passed { passed_part result ≡ None }
+        ensures passed { passed_role result ≡ None }
     {
         match bio {
-            Some(bio) => Part::Bio(bio),
-            None => Part::Unmatched,
+            Some(bio) => Role::Bio(bio),
+            None => Role::Unmatched,
         }
     }
 
     /// Of a record that is of a request, if it is.
-    fn of_request(request: Option<usize>) -> Part
+    fn of_request(request: Option<usize>) -> Role
         ensures known { is_known result ≡ is_some request }
-        ensures passed { passed_part result ≡ None }
+        ensures passed { passed_role result ≡ None }
     {
         match request {
-            Some(request) => Part::Request(request),
-            None => Part::Unmatched,
+            Some(request) => Role::Request(request),
+            None => Role::Unmatched,
         }
     }
 }
@@ -148,34 +147,34 @@ impl<A: Allocator + Clone> Matching<A> {
 
     /// Takes in a record, the one of a number, at the time of the clock.
     #[tactic(auto, using(crate::proofs::Telling::opened_none, crate::proofs::Telling::made_none))]
-    pub(crate) fn take(&mut self, number: u64, record: &Record) -> Result<Part, AllocError>
-        ensures opens { IfOk result (λ part. length self.new.requests.items ≡ length self.old.requests.items + adds (opens_part «record».now.action part)) }
-        ensures makes { IfOk result (λ part. length self.new.members.bios.items ≡ length self.old.members.bios.items + adds (makes_part «record».now.action part)) }
-        ensures passed { IfOk result (λ part. passed_part part ≡ passed_over «record».now) }
+    pub(crate) fn take(&mut self, number: u64, record: &Record) -> Result<Role, AllocError>
+        ensures opens { IfOk result (λ r. GrowsIf (opens_role «record».now.action r) self.old.requests.items self.new.requests.items) }
+        ensures makes { IfOk result (λ r. GrowsIf (makes_role «record».now.action r) self.old.members.bios.items self.new.members.bios.items) }
+        ensures passed { IfOk result (λ r. passed_role r ≡ passed_over «record».now) }
     {
         let range = match Range::of(record) {
             Ok(range) => range,
-            Err(kind) => return Ok(Part::PassedOver(kind)),
+            Err(kind) => return Ok(Role::PassedOver(kind)),
         };
         match record.action {
-            Action::Queue => Ok(Part::of_bio(self.queue(number, record.pid, range)?)),
-            Action::Get => Ok(Part::of_request(self.get(number, record.pid, range)?)),
-            Action::BackMerge => Ok(Part::of_request(self.merge(record.pid, range, Side::Back)?)),
-            Action::FrontMerge => Ok(Part::of_request(self.merge(record.pid, range, Side::Front)?)),
-            Action::Insert => Ok(Part::of_request(self.insert(number, range)?)),
-            Action::Issue => Ok(Part::of_request(self.issue(range)?)),
-            Action::Complete => Ok(Part::of_request(self.complete(range)?)),
-            Action::Requeue => Ok(Part::of_request(self.requeue(range)?)),
-            Action::Split => Ok(Part::of_bio(self.split(range)?)),
+            Action::Queue => Ok(Role::of_bio(self.queue(number, record.pid, range)?)),
+            Action::Get => Ok(Role::of_request(self.get(number, record.pid, range)?)),
+            Action::BackMerge => Ok(Role::of_request(self.merge(record.pid, range, Side::Back)?)),
+            Action::FrontMerge => Ok(Role::of_request(self.merge(record.pid, range, Side::Front)?)),
+            Action::Insert => Ok(Role::of_request(self.insert(number, range)?)),
+            Action::Issue => Ok(Role::of_request(self.issue(range)?)),
+            Action::Complete => Ok(Role::of_request(self.complete(range)?)),
+            Action::Requeue => Ok(Role::of_request(self.requeue(range)?)),
+            Action::Split => Ok(Role::of_bio(self.split(range)?)),
             // passed over before
-            Action::Plug | Action::Unplug | Action::Other => Ok(Part::Unmatched),
+            Action::Plug | Action::Unplug | Action::Other => Ok(Role::Unmatched),
         }
     }
 
     /// A bio is queued. Of one range the first queued goes first.
     fn queue(&mut self, number: u64, pid: u64, range: Range) -> Result<Option<usize>, AllocError>
         ensures same { length self.new.requests.items ≡ length self.old.requests.items }
-        ensures bios { IfOk result (λ bio. length self.new.members.bios.items ≡ length self.old.members.bios.items + adds (is_some bio)) }
+        ensures bios { IfOk result (λ bio. GrowsIf (is_some bio) self.old.members.bios.items self.new.members.bios.items) }
     {
         let place = self.members.queue(Queued {
             range,
@@ -201,7 +200,7 @@ impl<A: Allocator + Clone> Matching<A> {
 
     /// A request is opened for the oldest waiting bio of the range.
     fn get(&mut self, number: u64, pid: u64, range: Range) -> Result<Option<usize>, AllocError>
-        ensures same { IfOk result (λ request. length self.new.requests.items ≡ length self.old.requests.items + adds (is_some request)) }
+        ensures same { IfOk result (λ request. GrowsIf (is_some request) self.old.requests.items self.new.requests.items) }
         ensures bios { length self.new.members.bios.items ≡ length self.old.members.bios.items }
     {
         let Some(place) = self.unqueue(range) else {
@@ -241,9 +240,9 @@ impl<A: Allocator + Clone> Matching<A> {
                 let start = Spot::edge(opened.left, opened.left.first, 0);
                 self.starts.put(start, opened.age, request)?;
                 self.opened
-                    .enter(opened.left, opened.pid, opened.age, request)
+                    .insert(opened.left, opened.pid, opened.age, request)
             }
-            Stage::Inserted => self.inserted.enter(opened.left, 0, opened.age, request),
+            Stage::Inserted => self.inserted.insert(opened.left, 0, opened.age, request),
             Stage::InFlight(_) => {
                 self.in_flight
                     .put(Spot::whole(opened.left), opened.age, request)
@@ -262,9 +261,9 @@ impl<A: Allocator + Clone> Matching<A> {
             Stage::Opened => {
                 let start = Spot::edge(opened.left, opened.left.first, 0);
                 self.starts.take(start, opened.age);
-                self.opened.leave(opened.left, opened.pid, opened.age);
+                self.opened.remove(opened.left, opened.pid, opened.age);
             }
-            Stage::Inserted => self.inserted.leave(opened.left, 0, opened.age),
+            Stage::Inserted => self.inserted.remove(opened.left, 0, opened.age),
             Stage::InFlight(_) => self.in_flight.take(Spot::whole(opened.left), opened.age),
             Stage::Completed(_) | Stage::Absorbed => {}
         }
@@ -287,8 +286,8 @@ impl<A: Allocator + Clone> Matching<A> {
     /// Of the requests that a newcomer abuts at a side: the newest of the same process that was not inserted, else the oldest that was
     /// and did not go out.
     fn abutting(&self, pid: u64, range: Range, side: Side) -> Option<usize>
-        ensures some { IfSome result (TakesAbutting (on_side side (get key_cmp self.now.opened.firsts.places) (get key_cmp self.now.opened.ends.places)) (on_side side (get key_cmp self.now.inserted.firsts.places) (get key_cmp self.now.inserted.ends.places)) (met_spot range side pid) (met_spot range side 0)) }
-        ensures none { IfNone result (IsEmptyAt (on_side side (get key_cmp self.now.inserted.firsts.places) (get key_cmp self.now.inserted.ends.places)) (met_spot range side 0)) }
+        ensures some { IfSome result (TakesAbutting self.now.opened self.now.inserted range side pid) }
+        ensures none { IfNone result (IsEmptyAt (facing side self.now.inserted) (on_time_spot range side 0)) }
     {
         match self.opened.newest(range, side, pid) {
             Some(request) => Some(request),
@@ -394,8 +393,8 @@ impl<A: Allocator + Clone> Matching<A> {
     /// Of the requests of a range: the oldest that was inserted and did not go out, else, where the whole capture has no insertion, the
     /// oldest that was opened.
     fn going(&self, range: Range) -> Option<usize>
-        ensures some { IfSome result (TakesGoing self.now.direct (get key_cmp self.now.inserted.wholes.places) (get key_cmp self.now.opened.wholes.places) (whole_spot range)) }
-        ensures none { IfNone result (IsEmptyAt (get key_cmp self.now.inserted.wholes.places) (whole_spot range)) }
+        ensures some { IfSome result (TakesGoing self.now.direct self.now.opened self.now.inserted range) }
+        ensures none { IfNone result (IsEmptyAt (by_range self.now.inserted) (whole_spot range)) }
     {
         let whole = Spot::whole(range);
         match self.inserted.wholes.oldest(whole) {
@@ -477,7 +476,7 @@ impl<A: Allocator + Clone> Matching<A> {
     /// A waiting bio is cut where the range ends, of which it is the beginning. Both parts wait since the bio was queued.
     fn split(&mut self, range: Range) -> Result<Option<usize>, AllocError>
         ensures same { length self.new.requests.items ≡ length self.old.requests.items }
-        ensures bios { IfOk result (λ bio. length self.new.members.bios.items ≡ length self.old.members.bios.items + adds (is_some bio)) }
+        ensures bios { IfOk result (λ bio. GrowsIf (is_some bio) self.old.members.bios.items self.new.members.bios.items) }
     {
         let Some(place) = self.waiting.longer(range) else {
             return Ok(None);

@@ -1,7 +1,7 @@
 //! Bios, and which request each went into.
 
 ghost use Rattle.std.specs.Prelude.{◌≡◌, ◌+◌, OnOk, IfOk, length};
-ghost use Rattle.blk_capture.specs.Members.{AreOpened};
+ghost use Rattle.blk_capture.specs.Inside.Members.{AreOpened};
 
 use crate::record::Range;
 use std::alloc::{AllocError, Allocator, Global};

@@ -2,7 +2,7 @@
 
 ghost use Rattle.std.specs.Prelude.{◌≡◌, ◌≤◌, ◌<◌, ◌+◌, ◌^◌, IfOk, length, map, take, drop};
 ghost use Rattle.blk_capture.specs.Requests.{AreTimed};
-ghost use Rattle.blk_capture.specs.Parting.{before, part, place_in, bio_in, fate_in};
+ghost use Rattle.blk_capture.specs.Parting.{before, part, place_in, bio_in, fate_in, part_bios, part_fates};
 
 use crate::fates::Fate;
 use crate::requests::{Bio, Matched, Request};
@@ -50,7 +50,7 @@ fn fate_in(from: usize, count: usize, fate: Fate) -> Fate
     }
 }
 
-/// So many of the requests, from a place on.
+/// `count` of the requests, from a place on.
 fn requests_in<A: Allocator>(
     alloc: A,
     requests: &[Request],
@@ -94,7 +94,7 @@ fn fates_in<A: Allocator>(
 }
 
 /// Of the requests those that went out at `begin` or later, and of these at most `first`, those that went out first: what `--skip` and
-/// `--first` leave. The others are left out, with their bios and records. Fails for want of memory alone.
+/// `--first` leave. The others are left out, with their bios and records. Fails only when out of memory.
 pub fn part_of<A: Allocator + Clone>(
     alloc: A,
     matched: &Matched<A>,
@@ -104,8 +104,8 @@ pub fn part_of<A: Allocator + Clone>(
     requires timed { AreTimed matched.now.requests.items }
     requires few { length matched.now.requests.items + matched.now.left_out < 2 ^ 64 }
     ensures requests { IfOk result (λ m. m.requests.items ≡ part begin first matched.now.requests.items) }
-    ensures bios { IfOk result (λ m. m.bios.items ≡ map (bio_in (before begin matched.now.requests.items) (length m.requests.items)) matched.now.bios.items) }
-    ensures fates { IfOk result (λ m. m.fates.items ≡ map (fate_in (before begin matched.now.requests.items) (length m.requests.items)) matched.now.fates.items) }
+    ensures bios { IfOk result (λ m. m.bios.items ≡ part_bios begin (length m.requests.items) matched.now) }
+    ensures fates { IfOk result (λ m. m.fates.items ≡ part_fates begin (length m.requests.items) matched.now) }
     ensures absorbed { IfOk result (λ m. m.absorbed ≡ matched.now.absorbed) }
     ensures left_out { IfOk result (λ m. m.left_out + length m.requests.items ≡ matched.now.left_out + length matched.now.requests.items) }
     ensures timed { IfOk result (λ m. AreTimed m.requests.items) }

@@ -1,7 +1,8 @@
 //! Records of a capture: one step each that a block layer took, as blktrace and the tracepoints of `block` tell them.
 
 ghost use Rattle.std.specs.Prelude.{◌≡◌, ◌<◌, None, Some, IfErr, IfOk};
-ghost use Rattle.blk_capture.specs.Passing.{writes, place_of, kind_place, passed_action, passed_op, passed_over, dir_of, op_by, action_by, letter_action};
+ghost use Rattle.blk_capture.specs.Passing.{place_of, kind_place, passed_action, passed_op, passed_over, dir_of, op_by, action_by, letter_action};
+ghost use Rattle.blk_capture.specs.Inside.Spots.{writes};
 
 use blk_bio::{Dir, MAX_END, Side};
 

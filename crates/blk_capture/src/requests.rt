@@ -1,21 +1,20 @@
 //! The requests of a capture that went out to the device, with their bios.
 
 ghost use Rattle.std.specs.Prelude.{◌≡◌, ◌≤◌, ◌<◌, ◌+◌, ℕ, true, count_by, is_some, None, Some, All, IfOk, IfErr, IfSome, IfNone, OnOk, length, map, slice_index_or};
-ghost use Rattle.edd_check.specs.Capacity.{fixed};
-ghost use Rattle.edd_check.specs.Limits.{most_commands};
-ghost use Rattle.edd_check.specs.Schedule.{IsLegal, RoundsInRange};
-ghost use Rattle.blk_capture.specs.Counting.{AreServed, AreSolvable, IsCounted};
+ghost use Rattle.edd_commands.specs.Capacity.{fixed};
+ghost use Rattle.edd_commands.specs.Limits.{most_commands};
+ghost use Rattle.edd_commands.specs.Schedule.{IsLegal, RoundsInRange};
+ghost use Rattle.blk_capture.specs.Counting.{AreSolvable, IsCounted};
 ghost use Rattle.blk_capture.specs.Fates.{opens, makes, told, is_matched, passed_by, IsBelow, AreOfTaken, ArePassed};
-ghost use Rattle.blk_capture.specs.Parts.{is_known, passed_part, opens_part, makes_part};
-ghost use Rattle.blk_capture.specs.Passing.{passed_over};
-ghost use Rattle.blk_capture.specs.Requests.{served_of, AreTimed, HaveBios, AreTallied, AreWithin, AreGone, AreInOrder, IsFirstFall, AreLate, entry_by, expire_of, sooner_of, deadline_of, IsDue, IsCaptureFault};
-ghost use Rattle.blk_capture.specs.Taken.{IsOwn, IsRequestOf, ArePlaced, PutsAt, ArePlacedBios, IsTalliedFrom};
+ghost use Rattle.blk_capture.specs.Inside.Roles.{is_known, passed_role};
+ghost use Rattle.blk_capture.specs.Requests.{served_of, AreTimed, HaveBios, AreTallied, AreGone, AreInOrder, IsFirstFall, AreLate, entry_by, expire_of, sooner_of, deadline_of, IsDue, IsCaptureFault};
+ghost use Rattle.blk_capture.specs.Inside.Taken.{IsOwn, IsRequestOf, ArePlaced, Puts, ArePlacedBios, IsTalliedFrom, AreWithin};
 ghost use Rattle.blk_capture.specs.declared.members.Queued.{Queued};
 
 use crate::clock::Dispatch;
 use crate::counting::{Schedule, Served, count_rounds};
 use crate::fates::Fate;
-use crate::matching::{Matching, Opened, Part};
+use crate::matching::{Matching, Opened, Role};
 use crate::members::Queued;
 use crate::record::{Action, Record};
 use blk_bio::Dir;
@@ -75,7 +74,7 @@ pub struct Request {
     pub entry: u64,
     /// The earliest deadline of the requests that were merged into it, if any.
     pub earlier: Option<u64>,
-    /// By when it was due: so long after its entry as its direction's expiry, or by `earlier`; at most 2^64 - 1.
+    /// When it was due: its direction's expiry after its entry, or at `earlier` if that is sooner; at most 2^64 - 1.
     pub deadline: u64,
     /// When it went out for the last time.
     pub dispatched: u64,
@@ -260,7 +259,7 @@ struct Taken<A: Allocator = Global> {
 impl<A: Allocator + Clone> Taken<A> {
     /// Takes the request of a number, unless it is taken.
     fn put(&mut self, number: usize, request: Request) -> Result<(), AllocError>
-        ensures { OnOk result (PutsAt number request self.old.requests.items self.old.places.items self.new.requests.items self.new.places.items) }
+        ensures { OnOk result (Puts number request self.old self.new) }
     {
         let Some(None) = self.places.get(number).copied() else {
             return Ok(());
@@ -384,34 +383,34 @@ fn fate_at(place: Option<usize>) -> Fate
 }
 
 /// What became of a record, as its bio or its request was taken or not.
-fn fate_of(part: Part, bios: &[Bio], lives: &[Life], places: &[Option<usize>]) -> Fate
-    ensures matched { is_matched result ≡ is_known part }
-    ensures passed { passed_by result ≡ passed_part part }
+fn fate_of(role: Role, bios: &[Bio], lives: &[Life], places: &[Option<usize>]) -> Fate
+    ensures matched { is_matched result ≡ is_known role }
+    ensures passed { passed_by result ≡ passed_role role }
     ensures below { (n : ℕ) → AreWithin n places.now → AreGone n bios.now → IsBelow n result }
 {
-    match part {
-        Part::Bio(bio) => fate_at(bio_place(bios, bio)),
-        Part::Request(request) => fate_at(place_of(lives, places, Some(request))),
-        Part::Unmatched => Fate::Unmatched,
-        Part::PassedOver(kind) => Fate::PassedOver(kind),
+    match role {
+        Role::Bio(bio) => fate_at(bio_place(bios, bio)),
+        Role::Request(request) => fate_at(place_of(lives, places, Some(request))),
+        Role::Unmatched => Fate::Unmatched,
+        Role::PassedOver(kind) => Fate::PassedOver(kind),
     }
 }
 
 /// The same of each record.
 fn fates_of<A: Allocator + Clone>(
     alloc: A,
-    parts: &[Part],
+    roles: &[Role],
     bios: &[Bio],
     lives: &[Life],
     places: &[Option<usize>],
 ) -> Result<Vec<Fate, A>, AllocError>
-    ensures matched { IfOk result (λ v. map is_matched v.items ≡ map is_known parts.now) }
-    ensures passed { IfOk result (λ v. map passed_by v.items ≡ map passed_part parts.now) }
+    ensures matched { IfOk result (λ v. map is_matched v.items ≡ map is_known roles.now) }
+    ensures passed { IfOk result (λ v. map passed_by v.items ≡ map passed_role roles.now) }
     ensures below { (n : ℕ) → AreWithin n places.now → AreGone n bios.now → IfOk result (λ v. AreOfTaken n v.items) }
 {
-    let mut fates = Vec::with_capacity(alloc, parts.len())?;
-    for part in parts {
-        fates.push(fate_of(*part, bios, lives, places))?;
+    let mut fates = Vec::with_capacity(alloc, roles.len())?;
+    for role in roles {
+        fates.push(fate_of(*role, bios, lives, places))?;
     }
     Ok(fates)
 }
@@ -473,7 +472,7 @@ fn first_fall(records: &[Record]) -> Option<usize>
 fn settle<A: Allocator + Clone>(
     alloc: A,
     matching: &Matching<A>,
-    parts: &[Part],
+    roles: &[Role],
     options: &Options,
 ) -> Result<Matched<A>, AllocError>
     ensures timed { IfOk result (λ m. AreTimed m.requests.items) }
@@ -481,8 +480,8 @@ fn settle<A: Allocator + Clone>(
     ensures bios { IfOk result (λ m. HaveBios m.requests.items m.bios.items) }
     ensures tallied { IfOk result (λ m. AreTallied m.requests.items m.bios.items) }
     ensures gone { IfOk result (λ m. AreGone (length m.requests.items) m.bios.items) }
-    ensures matched { IfOk result (λ m. map is_matched m.fates.items ≡ map is_known parts.now) }
-    ensures passed { IfOk result (λ m. map passed_by m.fates.items ≡ map passed_part parts.now) }
+    ensures matched { IfOk result (λ m. map is_matched m.fates.items ≡ map is_known roles.now) }
+    ensures passed { IfOk result (λ m. map passed_by m.fates.items ≡ map passed_role roles.now) }
     ensures below { IfOk result (λ m. AreOfTaken (length m.requests.items) m.fates.items) }
     ensures opened { IfOk result (λ m. length m.requests.items + m.absorbed + m.left_out ≡ length matching.now.requests.items) }
     ensures made { IfOk result (λ m. length m.bios.items ≡ length matching.now.members.bios.items) }
@@ -498,7 +497,7 @@ fn settle<A: Allocator + Clone>(
     )?;
     let fates = fates_of(
         alloc,
-        parts,
+        roles,
         bios.as_slice(),
         lives.as_slice(),
         places.as_slice(),
@@ -514,9 +513,9 @@ fn settle<A: Allocator + Clone>(
 }
 
 /// Matches the records of a capture to bios and requests, and takes those that went out. Which record belongs to which
-/// request is told by the rules of the crate's page; what a record speaks of may be unknown, and stops nothing.
+/// request is found by the rules of the crate's page. What a record speaks of may be unknown, which stops nothing.
 ///
-/// Refused as `Order` where a record has an earlier time than the one before it, and for want of memory. The time grows as n log n in the number of records.
+/// Refused as `Order` where a record has an earlier time than the one before it, and when out of memory. The time grows as n log n in the number of records.
 pub fn match_records<A: Allocator + Clone>(
     alloc: A,
     records: &[Record],
@@ -566,17 +565,18 @@ fn match_in_order<A: Allocator + Clone>(
     ensures made { IfOk result (λ m. length m.bios.items ≡ told makes records.now m.fates.items) }
 {
     let mut matching = Matching::new(alloc.clone()?, !has_insertion(records))?;
-    let mut parts = Vec::with_capacity(alloc.clone()?, records.len())?;
+    let mut roles = Vec::with_capacity(alloc.clone()?, records.len())?;
     for (place, record) in records.iter().enumerate() {
+        // the records are in the order of their times, so the clock never refuses one
         let _ = matching.clock.set(record.time);
-        let part = matching.take(place as u64, record)?;
-        parts.push(part)?;
+        let role = matching.take(place as u64, record)?;
+        roles.push(role)?;
     }
-    settle(alloc, &matching, parts.as_slice(), options)
+    settle(alloc, &matching, roles.as_slice(), options)
 }
 
 /// Counts requests in rounds, as [`crate::count_rounds`] does: the one at place k ran in round k + 1, and after its due round
-/// exactly where it went out after its deadline. At most [`edd_check::MAX_COMMANDS`] requests.
+/// exactly where it went out after its deadline. At most [`edd_commands::MAX_COMMANDS`] requests.
 pub fn rounds_of<A: Allocator + Clone>(
     alloc: A,
     requests: &[Request],

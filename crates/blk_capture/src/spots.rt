@@ -1,10 +1,10 @@
 //! What waits, found by where it stands on the device, the oldest or the newest there.
 
-ghost use Rattle.std.specs.Prelude.{◌≡◌, None, Some, false, IfSome, IfNone, IsSome};
-ghost use Rattle.std.specs.Ordering.{is_eq, is_gt, is_lt};
+ghost use Rattle.std.specs.Prelude.{◌≡◌, None, Some, false, IfSome, IfNone};
+ghost use Rattle.std.specs.Ordering.{is_eq, is_gt};
 ghost use Rattle.std.specs.BTreeMap.{get};
-ghost use Rattle.blk_capture.specs.Spots.{Key, spot_cmp, key_cmp, IsOldest, IsNewest, IsEmptyAt};
-ghost use Rattle.blk_capture.specs.Edges.{whole_spot, edge_spot, met_spot, on_side};
+ghost use Rattle.blk_capture.specs.Inside.Spots.{Key, spot_cmp, key_cmp, IsOldest, IsNewest, IsEmptyAt, IsLeastFrom, IsGreatestUpTo};
+ghost use Rattle.blk_capture.specs.Inside.Edges.{whole_spot, edge_spot, on_time_spot, facing};
 
 use crate::record::Range;
 use blk_bio::Side;
@@ -72,7 +72,7 @@ fn first_from<A: Allocator + Clone>(
 ) -> Option<Standing>
     ensures there { IfSome result (λ e. get key_cmp places.now (e.spot, e.age) ≡ Some e.place) }
     ensures high { IfSome result (λ e. is_gt (key_cmp lower (e.spot, e.age)) ≡ false) }
-    ensures least { IfSome result (λ e. (q : Key) → is_gt (key_cmp lower q) ≡ false → IsSome (get key_cmp places.now q) → is_gt (key_cmp (e.spot, e.age) q) ≡ false) }
+    ensures least { IfSome result (λ e. IsLeastFrom (get key_cmp places.now) lower (e.spot, e.age)) }
     ensures none { IfNone result ((q : Key) → is_gt (key_cmp lower q) ≡ false → get key_cmp places.now q ≡ None) }
 {
     let ((spot, age), place) = places.range(lower..).next()?;
@@ -90,7 +90,7 @@ fn last_upto<A: Allocator + Clone>(
 ) -> Option<Standing>
     ensures there { IfSome result (λ e. get key_cmp places.now (e.spot, e.age) ≡ Some e.place) }
     ensures low { IfSome result (λ e. is_gt (key_cmp (e.spot, e.age) upper) ≡ false) }
-    ensures greatest { IfSome result (λ e. (q : Key) → is_gt (key_cmp q upper) ≡ false → IsSome (get key_cmp places.now q) → is_lt (key_cmp (e.spot, e.age) q) ≡ false) }
+    ensures greatest { IfSome result (λ e. IsGreatestUpTo (get key_cmp places.now) upper (e.spot, e.age)) }
     ensures none { IfNone result ((q : Key) → is_gt (key_cmp q upper) ≡ false → get key_cmp places.now q ≡ None) }
 {
     let ((spot, age), place) = places.range(..=upper).next_back()?;
@@ -181,7 +181,7 @@ impl<A: Allocator + Clone> Edges<A> {
     }
 
     /// Puts a request in, owned by `pid`, or by none at 0.
-    pub(crate) fn enter(
+    pub(crate) fn insert(
         &mut self,
         range: Range,
         pid: u64,
@@ -195,7 +195,7 @@ impl<A: Allocator + Clone> Edges<A> {
     }
 
     /// Takes it out.
-    pub(crate) fn leave(&mut self, range: Range, pid: u64, age: u64) {
+    pub(crate) fn remove(&mut self, range: Range, pid: u64, age: u64) {
         self.wholes.take(Spot::whole(range), age);
         self.firsts.take(Spot::edge(range, range.first, pid), age);
         self.ends.take(Spot::edge(range, range.end, pid), age);
@@ -203,8 +203,8 @@ impl<A: Allocator + Clone> Edges<A> {
 
     /// The oldest that a newcomer at a side abuts.
     pub(crate) fn oldest(&self, newcomer: Range, side: Side, pid: u64) -> Option<usize>
-        ensures some { IfSome result (IsOldest (on_side side (get key_cmp self.now.firsts.places) (get key_cmp self.now.ends.places)) (met_spot newcomer side pid)) }
-        ensures none { IfNone result (IsEmptyAt (on_side side (get key_cmp self.now.firsts.places) (get key_cmp self.now.ends.places)) (met_spot newcomer side pid)) }
+        ensures some { IfSome result (IsOldest (facing side self.now) (on_time_spot newcomer side pid)) }
+        ensures none { IfNone result (IsEmptyAt (facing side self.now) (on_time_spot newcomer side pid)) }
     {
         match side {
             Side::Back => self.ends.oldest(Spot::edge(newcomer, newcomer.first, pid)),
@@ -214,8 +214,8 @@ impl<A: Allocator + Clone> Edges<A> {
 
     /// The newest that a newcomer at a side abuts.
     pub(crate) fn newest(&self, newcomer: Range, side: Side, pid: u64) -> Option<usize>
-        ensures some { IfSome result (IsNewest (on_side side (get key_cmp self.now.firsts.places) (get key_cmp self.now.ends.places)) (met_spot newcomer side pid)) }
-        ensures none { IfNone result (IsEmptyAt (on_side side (get key_cmp self.now.firsts.places) (get key_cmp self.now.ends.places)) (met_spot newcomer side pid)) }
+        ensures some { IfSome result (IsNewest (facing side self.now) (on_time_spot newcomer side pid)) }
+        ensures none { IfNone result (IsEmptyAt (facing side self.now) (on_time_spot newcomer side pid)) }
     {
         match side {
             Side::Back => self.ends.newest(Spot::edge(newcomer, newcomer.first, pid)),

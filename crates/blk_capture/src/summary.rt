@@ -3,7 +3,7 @@
 ghost use Rattle.std.specs.Prelude.{◌≡◌, ◌≤◌, ℕ, IfOk, count_by, length, nat_le};
 ghost use Rattle.std.specs.List.{filter_map};
 ghost use Rattle.std.specs.List.Sorted.{IsNonDecreasingBy};
-ghost use Rattle.edd_check.specs.Limits.{most_commands};
+ghost use Rattle.edd_commands.specs.Limits.{most_commands};
 ghost use Rattle.blk_capture.specs.Requests.{AreTimed};
 ghost use Rattle.blk_capture.specs.Summaries.{is_late, is_gone, wait_by, at_rank, spread_of, IsSpread, IsMostInFlight, IsSummary, in_flight_at, back_by, out_by};
 
@@ -118,7 +118,7 @@ fn wait_of(wait: Wait, request: &Request) -> Option<u64>
     }
 }
 
-/// The number at the place of so many hundredths.
+/// The number at the nearest rank of `percent`.
 fn at_rank(sorted: &[u64], percent: usize) -> Option<u64>
     requires few { length sorted.now ≤ most_commands }
     requires part { percent ≤ 100 }
@@ -164,8 +164,8 @@ fn spread_of(values: &mut [u64]) -> Spread
     of_sorted(values)
 }
 
-/// How long the requests waited, of those of which both ends are known. At most [`edd_check::MAX_COMMANDS`] requests. Fails for want of
-/// memory alone. The time grows as n log n.
+/// How long the requests waited, of those of which both ends are known. At most [`edd_commands::MAX_COMMANDS`] requests. Fails only when
+/// out of memory. The time grows as n log n.
 #[tactic(auto, using(crate::proofs::Flying::few_known))]
 pub fn spread_waits<A: Allocator>(
     alloc: A,
@@ -185,6 +185,7 @@ fn put_in_order(requests: &[Request], times: &mut [u64])
     ensures rising { IsNonDecreasingBy (λ x. x) times.new }
     ensures counted { (t : ℕ) → count_by (λ x. nat_le x t) times.new ≡ count_by (back_by t) requests.now }
 {
+    // `requests` only says in the clauses of which times these are
     let _ = requests;
     times.sort_unstable();
 }
@@ -245,7 +246,7 @@ fn most_at_once(requests: &[Request], completions: &mut [u64]) -> u64
 }
 
 /// The most of the requests that were at the device at once. What was completed at the very time of a dispatch was back by then. The requests
-/// are as [`crate::match_records`] gives them. Fails for want of memory alone. The time grows as n log n.
+/// are as [`crate::match_records`] gives them. Fails only when out of memory. The time grows as n log n.
 pub fn most_in_flight<A: Allocator>(alloc: A, requests: &[Request]) -> Result<u64, AllocError>
     requires { AreTimed requests.now }
     ensures { IfOk result (IsMostInFlight requests.now) }
@@ -254,7 +255,7 @@ pub fn most_in_flight<A: Allocator>(alloc: A, requests: &[Request]) -> Result<u6
     Ok(most_at_once(requests, completions.as_mut_slice()))
 }
 
-/// The capture in numbers. Fails for want of memory alone. The time grows as n log n.
+/// The capture in numbers. Fails only when out of memory. The time grows as n log n.
 pub fn summarize<A: Allocator + Clone>(
     alloc: A,
     records: &[Record],

@@ -1,7 +1,7 @@
 //! Requests as rows of a table.
 
 ghost use Rattle.std.specs.Prelude.{◌≡◌, ◌<◌, ◌^◌, IfOk};
-ghost use Rattle.blk_capture.specs.Tables.{since, known_since, row_at, AreRows};
+ghost use Rattle.blk_capture.specs.Tables.{known_since, row_at, AreRows};
 
 use crate::requests::Request;
 use blk_bio::Dir;
@@ -65,7 +65,7 @@ fn row_of(begin: u64, place: usize, request: &Request) -> Row
 }
 
 /// The rows of requests, by place, with times from `begin` on, which mostly is that of the capture's first record. The row of an id is
-/// of the request that has this id in the schedule that [`crate::rounds_of`] makes. Fails for want of memory alone.
+/// of the request that has this id in the schedule that [`crate::rounds_of`] makes. Fails only when out of memory.
 pub fn rows_of<A: Allocator>(
     alloc: A,
     requests: &[Request],

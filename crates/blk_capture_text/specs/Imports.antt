@@ -1,6 +1,6 @@
 -- What of a capture is taken.
 use Rattle.std.specs.Prelude.{ℕ, ◌≡◌, ◌<◌, ◌+◌, ◌-◌, ◌^◌, min, List, [], ◌∷◌, length, map, All}
-use Rattle.edd_check.specs.Limits.{most_commands}
+use Rattle.edd_commands.specs.Limits.{most_commands}
 use Rattle.blk_capture.specs.Fates.{ArePassed, AreOfTaken, opens, makes, told}
 use Rattle.blk_capture.specs.Parting.{before, part, bio_in, fate_in}
 use Rattle.blk_capture.specs.Requests.{AreTimed, HaveBios, AreTallied, AreGone, IsDue}

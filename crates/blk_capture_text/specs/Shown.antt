@@ -1,7 +1,7 @@
 -- What is shown of an import, as text.
 use Rattle.std.specs.Prelude.{ℕ, ◌≡◌, List, map}
-use Rattle.edd_check.specs.Capacity.{fixed}
-use Rattle.edd_check.specs.Schedule.{IsLegal}
+use Rattle.edd_commands.specs.Capacity.{fixed}
+use Rattle.edd_commands.specs.Schedule.{IsLegal}
 use Rattle.blk_capture.specs.Counting.{IsCounted}
 use Rattle.blk_capture.specs.Requests.{AreLate, served_of}
 use Rattle.blk_capture.specs.Summaries.{IsSummary}

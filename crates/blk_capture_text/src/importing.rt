@@ -1,12 +1,12 @@
 //! What of a capture is taken, as `import` is asked.
 
 ghost use Rattle.std.specs.Prelude.{◌≡◌, ◌≤◌, IfOk, IfErr, length};
-ghost use Rattle.edd_check.specs.Limits.{most_commands};
+ghost use Rattle.edd_commands.specs.Limits.{most_commands};
 ghost use Rattle.blk_capture.specs.Requests.{AreInOrder, AreTimed};
 ghost use Rattle.blk_capture_text.specs.Imports.{IsImport, IsImportFault, first_time, begin_of};
 
 use blk_capture::{Matched, Options, Record, match_records, part_of};
-use edd_check::MAX_COMMANDS;
+use edd_commands::MAX_COMMANDS;
 use std::alloc::Global;
 
 /// How a capture is imported.
@@ -49,7 +49,7 @@ fn begin_of(skip: u64, records: &[Record]) -> u64
 /// The requests of a capture that went out as long after its first record as asked, or later, and of these the first ones; with its bios,
 /// and what became of its records. The times of the records don't fall, as those that [`crate::read_capture`] gives.
 ///
-/// [`ImportFault::TooMany`]: more requests would be taken than a schedule may have, [`edd_check::MAX_COMMANDS`]. The time grows as n log n.
+/// [`ImportFault::TooMany`]: more requests would be taken than a schedule may have, [`edd_commands::MAX_COMMANDS`]. The time grows as n log n.
 pub fn import(alloc: Global, records: &[Record], asked: &Asked) -> Result<Matched, ImportFault>
     requires { AreInOrder records.now (length records.now) }
     ensures ok { IfOk result (λ m. IsImport records.now asked.now m.requests.items m.bios.items m.fates.items m.absorbed m.left_out) }

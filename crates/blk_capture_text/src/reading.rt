@@ -15,6 +15,7 @@ use crate::step::read_step;
 use blk_capture::Record;
 use blk_lists::fields::{Slot, read_fields, version_of};
 use blk_lists::items::{LineForm, read_line};
+use blk_lists::kinds::Kind;
 use blk_lists::{Records, TextFault, Why};
 use csv::ByteRecord;
 use std::alloc::Global;
@@ -23,17 +24,21 @@ use std::io::Read;
 /// A capture has at most so many records, beside its title.
 pub const MAX_RECORDS: u64 = 16_000_000;
 
-/// The fields of the title: the name, the version, and nothing.
-const TITLE: [Slot; 8] = [
-    Slot::Given,
-    Slot::Given,
-    Slot::Blank,
-    Slot::Blank,
-    Slot::Blank,
-    Slot::Blank,
-    Slot::Blank,
-    Slot::Blank,
-];
+/// The title record: the version, and nothing.
+const CAPTURE: Kind<11, 8> = Kind {
+    word: *b"blk-capture",
+    since: 1,
+    slots: [
+        Slot::Given,
+        Slot::Given,
+        Slot::Blank,
+        Slot::Blank,
+        Slot::Blank,
+        Slot::Blank,
+        Slot::Blank,
+        Slot::Blank,
+    ],
+};
 
 /// The title record.
 #[derive(Clone, Copy, Drop)]
@@ -52,10 +57,10 @@ impl LineForm for TitleForm {
     }
 
     fn line(&self, row: &ByteRecord) -> Result<(u64, ()), Why> {
-        let Some(version) = version_of(row, b"blk-capture", 1) else {
+        let Some(version) = version_of(row, &CAPTURE.word, 1) else {
             return Err(Why::Title);
         };
-        match read_fields(row, &TITLE) {
+        match read_fields(row, &CAPTURE.slots) {
             Ok(_) => Ok((version, ())),
             Err(why) => Err(why),
         }

@@ -1,9 +1,9 @@
 //! The schedule of an import.
 
 ghost use Rattle.std.specs.Prelude.{◌≡◌, ◌≤◌, IfOk, length, map};
-ghost use Rattle.edd_check.specs.Capacity.{fixed};
-ghost use Rattle.edd_check.specs.Limits.{most_commands};
-ghost use Rattle.edd_check.specs.Schedule.{IsLegal};
+ghost use Rattle.edd_commands.specs.Capacity.{fixed};
+ghost use Rattle.edd_commands.specs.Limits.{most_commands};
+ghost use Rattle.edd_commands.specs.Schedule.{IsLegal};
 ghost use Rattle.blk_capture.specs.Counting.{IsCounted};
 ghost use Rattle.blk_capture.specs.Requests.{AreLate, AreTimed, served_of};
 ghost use Rattle.blk_lists.specs.Schedule.{IsRan, ran_of};
@@ -14,7 +14,7 @@ use std::alloc::{AllocError, Global};
 
 /// Requests as a schedule of depth 1, whose rounds are their dispatches, as [`blk_capture::rounds_of`] counts them: legal, with an id
 /// and a round from 1 on by the order of the dispatches, and each late exactly where it went out after its deadline. It may be
-/// written. At most [`edd_check::MAX_COMMANDS`] requests. Fails for want of memory alone.
+/// written. At most [`edd_commands::MAX_COMMANDS`] requests. Fails for want of memory alone.
 pub fn schedule_of(alloc: Global, requests: &[Request]) -> Result<Schedule, AllocError>
     requires timed { AreTimed requests.now }
     requires few { length requests.now ≤ most_commands }

@@ -1,7 +1,7 @@
 //! What is shown of an import.
 
 ghost use Rattle.std.specs.Prelude.{◌≡◌, ◌≤◌, IfOk, length};
-ghost use Rattle.edd_check.specs.Limits.{most_commands};
+ghost use Rattle.edd_commands.specs.Limits.{most_commands};
 ghost use Rattle.blk_capture.specs.Requests.{AreTimed};
 ghost use Rattle.blk_capture_text.specs.Shown.{IsShown, IsScheduleText, IsTableText, IsSummaryText};
 

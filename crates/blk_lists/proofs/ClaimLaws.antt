@@ -8,7 +8,7 @@ use Rattle.std.proofs.lemmas.List.{length-map, length-append, map-append}
 use Rattle.std.proofs.lemmas.List.Elements.{All-map}
 use Rattle.csv.specs.Reading.{default_config, records, strip_bom}
 use Rattle.csv.specs.Writing.{read_back}
-use Rattle.edd_check.specs.declared.Command.{Command}
+use Rattle.edd_commands.specs.declared.Command.{Command}
 use Rattle.edd_check.specs.declared.Window.{Window}
 use Rattle.blk_lists.specs.Sources.{Row}
 use Rattle.blk_lists.specs.Texts.{rows_text}
@@ -34,7 +34,7 @@ use Rattle.blk_lists.proofs.Each.{size_is, rows_map, all_fit, each_tells, each_d
 use Rattle.blk_lists.proofs.Reading.{then_reads, ends_halt, first_halts, second_halts}
 use Rattle.blk_lists.proofs.Counted.{counted_one, counted_decides}
 use Rattle.blk_lists.proofs.Texts.{text_back, parts_back, begins_itself}
-use Rattle.edd_check.specs.declared.TheConstants.{MAX_ROUNDS}
+use Rattle.edd_commands.specs.declared.TheConstants.{MAX_ROUNDS}
 
 -- the tables
 

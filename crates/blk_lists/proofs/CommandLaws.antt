@@ -3,7 +3,7 @@ use Rattle.std.proofs.Common.{◌≡◌, ◌∙◌, ℕ, List, [], ◌∷◌, ma
 use Rattle.std.specs.Prelude.{IfSome, ◌⊎◌, Bool}
 use Rattle.csv.specs.Reading.{default_config, records, strip_bom}
 use Rattle.csv.specs.Writing.{read_back}
-use Rattle.edd_check.specs.declared.Command.{Command}
+use Rattle.edd_commands.specs.declared.Command.{Command}
 use Rattle.blk_lists.specs.Sources.{Row}
 use Rattle.blk_lists.specs.Texts.{rows_text}
 use Rattle.blk_lists.specs.Fields.{Lacks}
@@ -20,7 +20,7 @@ use Rattle.blk_lists.proofs.TableLaws.{IsTable, table_tells, table_decides, titl
 use Rattle.blk_lists.proofs.Each.{rows_map, all_fit, each_tells, each_decides, one_record, one_version}
 use Rattle.blk_lists.proofs.Reading.{then_reads, first_halts, second_halts}
 use Rattle.blk_lists.proofs.Texts.{text_back, parts_back, begins_itself}
-use Rattle.edd_check.specs.declared.TheConstants.{MAX_COMMANDS}
+use Rattle.edd_commands.specs.declared.TheConstants.{MAX_COMMANDS}
 
 pub title_table : (version : ℕ) → IsTable (depth_cells version) IsDepth
 title_table version = record { sized = (omega arith, tt); within = λ v f. (f, tt); made = λ x. x.0; back = λ v f. refl; forth = λ x. refl; fits = λ x f. f.0 }

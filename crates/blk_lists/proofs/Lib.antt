@@ -4,6 +4,7 @@ pub mod Decimals
 pub mod FieldLemmas
 pub mod Lacking
 pub mod TableLaws
+pub mod KindLaws
 pub mod Reading
 pub mod Each
 pub mod Texts
@@ -13,7 +14,7 @@ pub mod DraftLemmas
 pub mod CommandLaws
 pub mod ClaimLaws
 pub mod Counted
-pub mod MetLaws
+pub mod OnTimeLaws
 pub mod ProofLaws
 pub mod ScheduleLaws
 pub mod Watching

@@ -6,8 +6,8 @@ use Rattle.blk_lists.specs.Words.{StartsWith, NextStarts}
 use Rattle.blk_lists.specs.Reads.{Reads, Halts, IsOne, IsRowOf, IsWrongLine}
 use Rattle.blk_lists.specs.Certificate.{Claim, title, claim_body, SpellsClaim}
 use Rattle.blk_lists.specs.Titles.{counted_title}
-use Rattle.blk_lists.specs.Met.{MetClaim, met_title, met_body, SpellsMet}
-use Rattle.blk_lists.specs.Proof.{ProofClaim, OfLateness, OfMet, proof_name, Shown, form_of, StartsAs, IsUnnamed, proof_title, proof_form, SpellsProof, ProofFault}
+use Rattle.blk_lists.specs.OnTime.{OnTimeClaim, on_time_title, on_time_body, SpellsOnTime}
+use Rattle.blk_lists.specs.Proof.{ProofClaim, OfLateness, OfOnTime, proof_name, Shown, form_of, StartsAs, IsUnnamed, proof_title, proof_form, SpellsProof, ProofFault}
 use Rattle.blk_lists.specs.declared.proof.ProofKind.{ProofKind}
 use Rattle.blk_lists.specs.declared.proof.ProofKind.TheVariants as kind
 use Rattle.blk_lists.specs.declared.fault.Why.{Why}
@@ -19,17 +19,17 @@ use Rattle.blk_lists.proofs.Lacking.{word_decided}
 use Rattle.blk_lists.proofs.TableLaws.{next_starts, next_same}
 use Rattle.blk_lists.proofs.Counted.{counted_one}
 use Rattle.blk_lists.proofs.ClaimLaws as claim
-use Rattle.blk_lists.proofs.MetLaws as met
+use Rattle.blk_lists.proofs.OnTimeLaws as met
 
 -- the names
 
 -- the kind of a name, whatever stands there
 abbrev kind_at : List ℕ → ProofKind
-kind_at f = if get_or f 4 0 == 99 then kind.Lateness else kind.Met
+kind_at f = if get_or f 4 0 == 99 then kind.Lateness else kind.OnTime
 
 kind_is : (k : ProofKind) → kind_at (proof_name k) ≡ k
 kind_is kind.Lateness = refl
-kind_is kind.Met = refl
+kind_is kind.OnTime = refl
 
 pub one_name : (j k : ProofKind) (rows : List Row) → StartsAs j rows → StartsAs k rows → j ≡ k
 one_name j k rows s t = sym (kind_is j) ∙ ap kind_at (next_same (proof_name j) (proof_name k) rows s t) ∙ kind_is k
@@ -39,18 +39,18 @@ titles_start k rows v a h = next_starts (proof_name k) _ rows a h.made
 
 forms_start : (k : ProofKind) (rows : List Row) (v : Shown k) (a : List Row) → Begins (form_of k) rows v a → StartsAs k rows
 forms_start kind.Lateness rows v a h = next_starts (codes "blk-certificate") _ rows _ h.made
-forms_start kind.Met rows v a h = next_starts (codes "blk-met") _ rows _ h.made
+forms_start kind.OnTime rows v a h = next_starts (codes "blk-met") _ rows _ h.made
 
 neither : (row : Row) (rows : List Row) → ¬ StartsWith (codes "blk-certificate") row → ¬ StartsWith (codes "blk-met") row → (k : ProofKind) → ¬ StartsAs k (row ∷ rows)
 neither row rows n m kind.Lateness s = n s
-neither row rows n m kind.Met s = m s
+neither row rows n m kind.OnTime s = m s
 
 name_found : (rows : List Row) → ((k : ProofKind) × StartsAs k rows) ⊎ (((k : ProofKind) → ¬ StartsAs k rows) × ((w : Why) × IsUnnamed rows w))
 name_found [] = inr ((λ k s. s), (why.Title, refl))
 name_found (row ∷ rows) = elim (word_decided (codes "blk-certificate") row) [
   | inl s ↦ inl (kind.Lateness, s)
   | inr n ↦ elim (word_decided (codes "blk-met") row) [
-    | inl s ↦ inl (kind.Met, s)
+    | inl s ↦ inl (kind.OnTime, s)
     | inr m ↦ inr (neither row rows n m, (why.Title, refl))
   ]
 ]
@@ -81,11 +81,11 @@ title_unnamed row n m = λ rest. inr (refl, neither row rest n m, refl)
 
 forms_tell : (k : ProofKind) → Tells (form_of k)
 forms_tell kind.Lateness = claim.claim_tells
-forms_tell kind.Met = met.met_tells
+forms_tell kind.OnTime = met.on_time_tells
 
 forms_decide : (k : ProofKind) → Decides (form_of k)
 forms_decide kind.Lateness = claim.claim_decides
-forms_decide kind.Met = met.met_decides
+forms_decide kind.OnTime = met.on_time_decides
 
 pub proof_tells : Tells proof_form
 proof_tells = by_word_tells Shown StartsAs form_of IsUnnamed forms_tell one_name forms_start (λ rows w x a b. a ∙ sym b)
@@ -103,7 +103,7 @@ unnamed_wrong rows n = inr (refl, n, refl)
 
 unnamed : (rows : List Row) → ¬ NextStarts (codes "blk-certificate") rows → ¬ NextStarts (codes "blk-met") rows → (k : ProofKind) → ¬ StartsAs k rows
 unnamed rows n m kind.Lateness s = n s
-unnamed rows n m kind.Met s = m s
+unnamed rows n m kind.OnTime s = m s
 
 pub neither_wrong : (rows : List Row) → ¬ NextStarts (codes "blk-certificate") rows → ¬ NextStarts (codes "blk-met") rows → ProofFault rows 1 why.Title
 neither_wrong rows n m = unnamed_wrong rows (unnamed rows n m)
@@ -111,8 +111,8 @@ neither_wrong rows n m = unnamed_wrong rows (unnamed rows n m)
 pub claim_named : (rows : List Row) (c : Claim) → SpellsClaim rows c → NextStarts (codes "blk-certificate") rows
 claim_named rows c s = next_starts (codes "blk-certificate") _ rows _ s.1.made
 
-pub met_named : (rows : List Row) (c : MetClaim) → SpellsMet rows c → NextStarts (codes "blk-met") rows
-met_named rows c s = next_starts (codes "blk-met") _ rows _ s.1.made
+pub on_time_named : (rows : List Row) (c : OnTimeClaim) → SpellsOnTime rows c → NextStarts (codes "blk-met") rows
+on_time_named rows c s = next_starts (codes "blk-met") _ rows _ s.1.made
 
 pub spelled_or_wrong : (rows : List Row) → ((c : ProofClaim) × SpellsProof rows c) ⊎ ((at : ℕ) × (w : Why) × ProofFault rows at w)
 spelled_or_wrong rows = elim (name_found rows) [
@@ -125,23 +125,23 @@ spelled_or_wrong rows = elim (name_found rows) [
       | inl c ↦ inl (OfLateness c.0, c.1)
       | inr f ↦ inr (f.0, f.1, wrong_of kind.Lateness rows f.0 f.1 s f.2)
     ]
-    of_kind kind.Met s = elim (met.spelled_or_wrong rows) [
-      | inl c ↦ inl (OfMet c.0, c.1)
-      | inr f ↦ inr (f.0, f.1, wrong_of kind.Met rows f.0 f.1 s f.2)
+    of_kind kind.OnTime s = elim (met.spelled_or_wrong rows) [
+      | inl c ↦ inl (OfOnTime c.0, c.1)
+      | inr f ↦ inr (f.0, f.1, wrong_of kind.OnTime rows f.0 f.1 s f.2)
     ]
 
 pub spelled_apart : (rows : List Row) (c : ProofClaim) (at : ℕ) (w : Why) → SpellsProof rows c → ProofFault rows at w → ⊥
 spelled_apart rows (OfLateness c) at w s f = claim.claim_tells.apart rows _ _ at w s.1 (of_wrong kind.Lateness rows at w (claim_named rows c s) f)
-spelled_apart rows (OfMet c) at w s f = met.met_tells.apart rows _ _ at w s.1 (of_wrong kind.Met rows at w (met_named rows c s) f)
+spelled_apart rows (OfOnTime c) at w s f = met.on_time_tells.apart rows _ _ at w s.1 (of_wrong kind.OnTime rows at w (on_time_named rows c s) f)
 
 two_names : (rows : List Row) → NextStarts (codes "blk-certificate") rows → NextStarts (codes "blk-met") rows → ⊥
-two_names rows s t = let e = one_name kind.Lateness kind.Met rows s t in cc e
+two_names rows s t = let e = one_name kind.Lateness kind.OnTime rows s t in cc e
 
 pub spelled_once : (rows : List Row) (c d : ProofClaim) → SpellsProof rows c → SpellsProof rows d → c ≡ d
 spelled_once rows (OfLateness c) (OfLateness d) s t = ap (λ z. OfLateness z) (claim.spelled_once rows c d s t)
-spelled_once rows (OfLateness c) (OfMet d) s t = absurd (two_names rows (claim_named rows c s) (met_named rows d t))
-spelled_once rows (OfMet c) (OfLateness d) s t = absurd (two_names rows (claim_named rows d t) (met_named rows c s))
-spelled_once rows (OfMet c) (OfMet d) s t = ap (λ z. OfMet z) (met.spelled_once rows c d s t)
+spelled_once rows (OfLateness c) (OfOnTime d) s t = absurd (two_names rows (claim_named rows c s) (on_time_named rows d t))
+spelled_once rows (OfOnTime c) (OfLateness d) s t = absurd (two_names rows (claim_named rows d t) (on_time_named rows c s))
+spelled_once rows (OfOnTime c) (OfOnTime d) s t = ap (λ z. OfOnTime z) (met.spelled_once rows c d s t)
 
 -- reading
 
@@ -158,11 +158,11 @@ named (Some rows) mid k t h = titles_start k rows t h.0 h.2
 
 title_lifts : (k : ProofKind) (rows : List Row) (at : ℕ) → GetsTo (counted_title (proof_name k)) rows at → GetsTo (form_of k) rows at
 title_lifts kind.Lateness rows at r = reached_first title (λ t. claim_body t.1.1) (λ t fit. claim.body_tells t.1.1) rows at r
-title_lifts kind.Met rows at r = reached_first met_title (λ t. met_body t.1.1) (λ t fit. met.body_tells t.1.1) rows at r
+title_lifts kind.OnTime rows at r = reached_first on_time_title (λ t. on_time_body t.1.1) (λ t fit. met.body_tells t.1.1) rows at r
 
 wrong_lifts : (k : ProofKind) (rows : List Row) (at : ℕ) (w : Why) → (counted_title (proof_name k)).Wrong rows at w → (form_of k).Wrong rows at w
 wrong_lifts kind.Lateness rows at w f = inl f
-wrong_lifts kind.Met rows at w f = inl f
+wrong_lifts kind.OnTime rows at w f = inl f
 
 fault_lifts : (rows : List Row) (at : ℕ) (w : Why) → proof_title.Wrong rows at w → proof_form.Wrong rows at w
 fault_lifts rows at w (inl f) = inl (f.0, f.1, wrong_lifts f.0 rows at w f.2)
@@ -198,8 +198,8 @@ lateness_halts failed left mid k t at w e r h =
     let own = title_reads left mid kind.Lateness t (rw e at r) in
     kind_halts failed left kind.Lateness 0 at w (named left mid kind.Lateness t own) (claim.body_halts failed left mid t at w own h)
 
-pub met_halts : (failed : Bool) (left mid : Option (List Row)) (k : ProofKind) (t : ℕ × (ℕ × ℕ)) (at : ℕ) (w : Why) → k ≡ kind.Met → Reads proof_title left mid (k, t) → Halts failed (met_body t.1.1) mid 1 at w
+pub on_time_halts : (failed : Bool) (left mid : Option (List Row)) (k : ProofKind) (t : ℕ × (ℕ × ℕ)) (at : ℕ) (w : Why) → k ≡ kind.OnTime → Reads proof_title left mid (k, t) → Halts failed (on_time_body t.1.1) mid 1 at w
     → Halts failed proof_form left 0 at w
-met_halts failed left mid k t at w e r h =
-    let own = title_reads left mid kind.Met t (rw e at r) in
-    kind_halts failed left kind.Met 0 at w (named left mid kind.Met t own) (met.body_halts failed left mid t at w own h)
+on_time_halts failed left mid k t at w e r h =
+    let own = title_reads left mid kind.OnTime t (rw e at r) in
+    kind_halts failed left kind.OnTime 0 at w (named left mid kind.OnTime t own) (met.body_halts failed left mid t at w own h)

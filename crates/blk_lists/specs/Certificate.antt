@@ -1,9 +1,9 @@
 -- A certificate: a title, a bound, and a record for each command with its round.
 use Rattle.std.specs.Prelude.{◌≡◌, ◌≤◌, ◌<◌, ◌-◌, ℕ, ℤ, zero, suc, pos, negsuc, List, [], ◌∷◌, length, codes, All, Option, Some, None}
 use Rattle.std.specs.List.{zip}
-use Rattle.edd_check.specs.declared.TheConstants.{MAX_COMMANDS, MAX_ROUNDS}
-use Rattle.edd_check.specs.declared.steps.TheConstants.{MAX_DEPTH}
-use Rattle.edd_check.specs.declared.Command.{Command}
+use Rattle.edd_commands.specs.declared.TheConstants.{MAX_COMMANDS, MAX_ROUNDS}
+use Rattle.edd_commands.specs.declared.steps.TheConstants.{MAX_DEPTH}
+use Rattle.edd_commands.specs.declared.Command.{Command}
 use Rattle.edd_check.specs.declared.Window.{Window}
 use Rattle.blk_lists.specs.Sources.{Row}
 use Rattle.blk_lists.specs.Commands.{IsCommandInRange}

@@ -1,12 +1,14 @@
 -- A command list: a title, and a record for each command.
-use Rattle.std.specs.Prelude.{◌≤◌, ◌<◌, ◌^◌, ℕ, List, [], ◌∷◌, length, codes, All}
-use Rattle.edd_check.specs.declared.TheConstants.{MAX_COMMANDS, MAX_ROUNDS, MAX_RELEASES}
-use Rattle.edd_check.specs.declared.steps.TheConstants.{MAX_DEPTH}
-use Rattle.edd_check.specs.declared.Command.{Command}
+use Rattle.std.specs.Prelude.{◌≡◌, ◌⊎◌, ◌≤◌, ◌<◌, ◌^◌, ℕ, List, [], ◌∷◌, length, codes, All}
+use Rattle.edd_commands.specs.declared.TheConstants.{MAX_COMMANDS, MAX_ROUNDS, MAX_RELEASES}
+use Rattle.edd_commands.specs.declared.steps.TheConstants.{MAX_DEPTH}
+use Rattle.edd_commands.specs.declared.Command.{Command}
+use Rattle.csv.specs.Reading.{default_config, records, strip_bom}
 use Rattle.blk_lists.specs.Sources.{Row}
+use Rattle.blk_lists.specs.Texts.{rows_text}
 use Rattle.blk_lists.specs.Reads.{items_of}
 use Rattle.blk_lists.specs.Tables.{Cell, cells_by, table_record, title_record}
-use Rattle.blk_lists.specs.declared.commands.TheConstants.{COMMAND, DEPTH_TITLE}
+use Rattle.blk_lists.specs.declared.commands.TheConstants.{COMMAND, COMMANDS}
 use Rattle.blk_lists.specs.declared.fault.Why.{Why}
 use Rattle.blk_lists.specs.declared.fault.Why.TheVariants as why
 use Rattle.parts.specs.declared.Repeats.TheVariants as repeats
@@ -14,7 +16,7 @@ use Rattle.parts.specs.Parts.{Part, then, Spells}
 
 -- title: blk-commands, 1, depth
 abbrev pub depth_cells : ℕ → List (Cell ℕ)
-depth_cells version = cells_by DEPTH_TITLE ((λ depth. depth) ∷ [])
+depth_cells version = cells_by COMMANDS.slots ((λ depth. depth) ∷ [])
 
 -- each command: id, release, due
 abbrev pub command_cells : List (Cell Command)
@@ -53,3 +55,19 @@ SpellsCommands rows depth commands = Spells command_list rows ((1, depth), comma
 -- the first fault of a command list
 abbrev pub CommandsFault : List Row → ℕ → Why → Type 0
 CommandsFault = command_list.Wrong
+
+-- the records spell one depth and one list at most
+abbrev pub OneList : List Row → Type 0
+OneList rows = (depth other : ℕ) → (commands others : List Command) → SpellsCommands rows depth commands → SpellsCommands rows other others → (depth ≡ other) × (commands ≡ others)
+
+-- the text of a depth and commands reads back as records that spell them
+abbrev pub ListReadsBack : ℕ → List Command → Type 0
+ListReadsBack depth commands = AreCommands depth commands → SpellsCommands (records default_config (strip_bom (rows_text (commands_rows depth commands)))) depth commands
+
+-- the records spell a depth and a list or have a fault
+abbrev pub ListOrFault : List Row → Type 0
+ListOrFault rows = ((depth : ℕ) × (commands : List Command) × SpellsCommands rows depth commands) ⊎ ((at : ℕ) × (w : Why) × CommandsFault rows at w)
+
+-- and never both
+abbrev pub NeverListAndFault : List Row → Type 0
+NeverListAndFault rows = (depth : ℕ) → (commands : List Command) → (at : ℕ) → (w : Why) → SpellsCommands rows depth commands → CommandsFault rows at w → ⊥

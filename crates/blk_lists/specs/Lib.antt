@@ -6,9 +6,11 @@ pub mod Texts
 pub mod Cells
 pub mod Certificate
 pub mod Tables
+pub mod Kinds
 pub mod Reads
+pub mod Laws
 pub mod Titles
-pub mod Met
+pub mod OnTime
 pub mod Proof
 pub mod Schedule
 pub mod Names

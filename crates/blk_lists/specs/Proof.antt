@@ -1,12 +1,12 @@
 -- A certificate of either form, told by its title.
 use Rattle.std.specs.Prelude.{◌≡◌, ◌+◌, ℕ, List, length, codes}
-use Rattle.edd_check.specs.declared.Command.{Command}
+use Rattle.edd_commands.specs.declared.Command.{Command}
 use Rattle.edd_check.specs.declared.Window.{Window}
 use Rattle.std.specs.Prelude.{ℤ, Option}
 use Rattle.blk_lists.specs.Sources.{Row}
 use Rattle.blk_lists.specs.Words.{NextStarts}
 use Rattle.blk_lists.specs.Certificate.{Claim, IsClaim, SpellsClaim, claimed, claim_form}
-use Rattle.blk_lists.specs.Met.{MetClaim, IsMetClaim, SpellsMet, met_claimed, met_form}
+use Rattle.blk_lists.specs.OnTime.{OnTimeClaim, IsOnTimeClaim, SpellsOnTime, on_time_claimed, on_time_form}
 use Rattle.blk_lists.specs.Titles.{counted_title}
 use Rattle.blk_lists.specs.declared.proof.Proof.{Proof}
 use Rattle.blk_lists.specs.declared.proof.Proof.TheVariants as proof
@@ -19,37 +19,37 @@ use Rattle.parts.specs.Parts.{Part, by_word}
 -- the claim of either
 pub data ProofClaim : Type 0 where
   OfLateness : Claim → ProofClaim
-  OfMet : MetClaim → ProofClaim
+  OfOnTime : OnTimeClaim → ProofClaim
 
 -- what it claims
 abbrev pub proof_claimed : Proof → ProofClaim
 proof_claimed (proof.Lateness c) = OfLateness (claimed c)
-proof_claimed (proof.Met c) = OfMet (met_claimed c)
+proof_claimed (proof.OnTime c) = OfOnTime (on_time_claimed c)
 
 -- its numbers lie in their ranges
 abbrev pub IsProofClaim : ProofClaim → Type 0
 IsProofClaim (OfLateness c) = IsClaim c
-IsProofClaim (OfMet c) = IsMetClaim c
+IsProofClaim (OfOnTime c) = IsOnTimeClaim c
 
 -- how many records it has
 abbrev pub proof_size : ProofClaim → ℕ
 proof_size (OfLateness c) = length c.commands + 2
-proof_size (OfMet c) = length c.cover + length c.commands + 2
+proof_size (OfOnTime c) = length c.cover + length c.commands + 2
 
 -- the name in the title of each kind
 abbrev pub proof_name : ProofKind → List ℕ
 proof_name kind.Lateness = codes "blk-certificate"
-proof_name kind.Met = codes "blk-met"
+proof_name kind.OnTime = codes "blk-met"
 
 -- what the records of each kind tell
 abbrev pub Shown : ProofKind → Type 0
 Shown kind.Lateness = (ℕ × (ℕ × ℕ)) × (Option (ℤ × Window) × List (Command × ℕ))
-Shown kind.Met = (ℕ × (ℕ × ℕ)) × ((ℕ × ℕ) × (List Window × List (Command × ℕ)))
+Shown kind.OnTime = (ℕ × (ℕ × ℕ)) × ((ℕ × ℕ) × (List Window × List (Command × ℕ)))
 
 -- the form of each kind
 abbrev pub form_of : (k : ProofKind) → Part Row Why (Shown k)
 form_of kind.Lateness = claim_form
-form_of kind.Met = met_form
+form_of kind.OnTime = on_time_form
 
 -- the records begin with the name of this kind
 abbrev pub StartsAs : ProofKind → List Row → Type 0
@@ -70,8 +70,12 @@ proof_form = by_word Shown StartsAs form_of IsUnnamed
 -- the records spell this certificate
 abbrev pub SpellsProof : List Row → ProofClaim → Type 0
 SpellsProof rows (OfLateness c) = SpellsClaim rows c
-SpellsProof rows (OfMet c) = SpellsMet rows c
+SpellsProof rows (OfOnTime c) = SpellsOnTime rows c
 
 -- the first fault of a certificate of either form
 abbrev pub ProofFault : List Row → ℕ → Why → Type 0
 ProofFault = proof_form.Wrong
+
+-- the faults of records that begin with this name are these
+abbrev pub FaultsAs : List ℕ → (List Row → ℕ → Why → Type 0) → Type 0
+FaultsAs name Fault = (rows : List Row) → (at : ℕ) → (w : Why) → NextStarts name rows → (ProofFault rows at w → Fault rows at w) × (Fault rows at w → ProofFault rows at w)

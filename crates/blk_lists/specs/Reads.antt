@@ -1,6 +1,7 @@
 -- What reading a part answers.
 use Rattle.std.specs.Prelude.{◌≡◌, ◌⊎◌, ◌+◌, ◌≤◌, ℕ, Bool, true, false, List, [], ◌∷◌, ◌++◌, Option, Some, IfSome, length}
-use Rattle.blk_lists.specs.Sources.{Row}
+use Rattle.blk_lists.specs.Sources.{Row, Source}
+use Rattle.blk_lists.specs.declared.fault.TextFault.{TextFault}
 use Rattle.blk_lists.specs.declared.fault.Why.{Why}
 use Rattle.blk_lists.specs.declared.fault.Why.TheVariants as why
 use Rattle.parts.specs.Parts.{Part, Begins, GetsTo, AllFit, IsCount, GoodBefore, all_rows, many, most_of, ended}
@@ -110,3 +111,20 @@ AreGathered x q left new start at vs false = Reads (repeated x q) left new vs ×
 -- was being read is wrong, and no record past that one and the next `more` was asked for
 abbrev pub IsHeldAt : {V : Type 0} → Part Row Why V → Option (List Row) → ℕ → ℕ → ℕ → Type 0
 IsHeldAt p left more at last = (place : ℕ) × (place ≤ at) × (at ≤ last) × (last ≤ place + more) × IfSome left (λ rows. GetsTo p rows place)
+
+-- what a call answers of a part, by the records that were left before it and those that are now
+
+abbrev pub FailsBy : {V : Type 0} → Source → Source → Part Row Why V → TextFault → Type 0
+FailsBy old new p f = Fails new.failed p old.left old.at f.at f.why
+
+abbrev pub HaltsBy : {V : Type 0} → Source → Source → Part Row Why V → TextFault → Type 0
+HaltsBy old new p f = Halts new.failed p old.left old.at f.at f.why
+
+abbrev pub HandFailsBy : {V : Type 0} → Source → Source → Part Row Why V → TextFault → Type 0
+HandFailsBy old new p f = HandFails new.failed p old.left old.fields old.at f.at f.why
+
+abbrev pub GathersBy : {V : Type 0} → Source → Source → (List V → Part Row Why V) → List V → List V → Type 0
+GathersBy old new q before after = Gathers q before after old.left old.fields new.left old.at new.at
+
+abbrev pub AreGatheredBy : {V : Type 0} → Source → Source → Repeats → (List V → Part Row Why V) → List V → Bool → Type 0
+AreGatheredBy old new x q vs over = AreGathered x q old.left new.left old.at new.at vs over

@@ -1,12 +1,12 @@
 -- A schedule: a title, and a record for each command with its round.
-use Rattle.std.specs.Prelude.{◌≡◌, ◌≢◌, ◌≤◌, ◌<◌, ℕ, List, [], true, length, codes, All, slice_index_or}
+use Rattle.std.specs.Prelude.{◌≡◌, ◌≢◌, ◌≤◌, ◌<◌, ◌++◌, ◌∷◌, ℕ, List, [], true, length, codes, All, slice_index_or}
 use Rattle.std.specs.List.{zip}
 use Rattle.std.specs.Bool.{MatchBool}
 use Rattle.std.specs.Ordering.{nat_cmp}
 use Rattle.std.specs.BTreeSet.{BTreeSet, contains}
-use Rattle.edd_check.specs.declared.TheConstants.{MAX_COMMANDS, MAX_ROUNDS}
-use Rattle.edd_check.specs.declared.steps.TheConstants.{MAX_DEPTH}
-use Rattle.edd_check.specs.declared.Command.{Command}
+use Rattle.edd_commands.specs.declared.TheConstants.{MAX_COMMANDS, MAX_ROUNDS}
+use Rattle.edd_commands.specs.declared.steps.TheConstants.{MAX_DEPTH}
+use Rattle.edd_commands.specs.declared.Command.{Command}
 use Rattle.blk_lists.specs.Sources.{Row}
 use Rattle.blk_lists.specs.Commands.{IsCommandInRange}
 use Rattle.blk_lists.specs.Certificate.{served_record}
@@ -17,7 +17,7 @@ use Rattle.blk_lists.specs.declared.schedule.Schedule.{Schedule}
 use Rattle.blk_lists.specs.declared.fault.Why.{Why}
 use Rattle.blk_lists.specs.declared.fault.Why.TheVariants as why
 use Rattle.parts.specs.declared.Repeats.TheVariants as repeats
-use Rattle.parts.specs.Parts.{Part, AllFit, then, tested, Spells}
+use Rattle.parts.specs.Parts.{Part, AllFit, then, tested, over, Spells}
 
 -- a schedule: the depth, the commands, and their rounds by place
 pub record Ran : Type 0 where
@@ -96,3 +96,11 @@ SpellsSchedule rows s = (length s.rounds ≡ length s.commands) × Spells ran_fo
 -- the first fault of a schedule
 abbrev pub ScheduleFault : List Row → ℕ → Why → Type 0
 ScheduleFault = ran_form.Wrong
+
+-- a command was added to those before it, none of which has its id
+abbrev pub IsAdded : Known → Known → Command × ℕ → Type 0
+IsAdded old new served = HasIds new × (new.served.items ≡ old.served.items ++ served ∷ []) × IsNew old.served.items served
+
+-- what is wrong with a record after all commands
+abbrev pub IsPastCommands : List (Command × ℕ) → Row → Why → Type 0
+IsPastCommands before row w = (rest : List Row) → (over why.Count (new_record before)).Wrong (row ∷ rest) 1 w

@@ -88,6 +88,14 @@ IsTitled name version row = (more : Row) × (row ≡ name ∷ decimal version �
 abbrev pub IsVersion : ℕ → ℕ → Type 0
 IsVersion latest version = (1 ≤ version) × (version ≤ latest)
 
+-- a title is that of a version of the form
+abbrev pub IsOfVersion : List ℕ → ℕ → Row → ℕ → Type 0
+IsOfVersion name latest row version = IsVersion latest version × IsTitled name version row
+
+-- and of none
+abbrev pub HasNoVersion : List ℕ → ℕ → Row → Type 0
+HasNoVersion name latest row = (version : ℕ) → IsVersion latest version → ¬ IsTitled name version row
+
 -- the title record of a version and what it tells
 abbrev pub title_by : {V : Type 0} → List ℕ → (ℕ → List (Cell V)) → ℕ × V → Row
 title_by name cells t = name ∷ decimal t.0 ∷ row_by (cells t.0) t.1

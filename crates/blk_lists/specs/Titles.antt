@@ -1,7 +1,7 @@
 -- The titles of forms that give a depth and a number of commands.
 use Rattle.std.specs.Prelude.{◌≤◌, ℕ, List, [], ◌∷◌}
-use Rattle.edd_check.specs.declared.TheConstants.{MAX_COMMANDS}
-use Rattle.edd_check.specs.declared.steps.TheConstants.{MAX_DEPTH}
+use Rattle.edd_commands.specs.declared.TheConstants.{MAX_COMMANDS}
+use Rattle.edd_commands.specs.declared.steps.TheConstants.{MAX_DEPTH}
 use Rattle.blk_lists.specs.Sources.{Row}
 use Rattle.blk_lists.specs.Tables.{Cell, cells_by, title_record}
 use Rattle.blk_lists.specs.declared.fault.Why.{Why}

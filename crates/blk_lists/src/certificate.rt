@@ -11,7 +11,7 @@ ghost use Rattle.blk_lists.specs.Tables.{IsUpTo, FitsCells, row_by, slots_by};
 ghost use Rattle.blk_lists.specs.Fields.{IsSized, FieldsSpell};
 ghost use Rattle.blk_lists.specs.declared.fields.Slot.TheVariants as slot;
 ghost use Rattle.blk_lists.specs.Words.{StartsWith};
-ghost use Rattle.blk_lists.specs.Texts.{rows_text};
+ghost use Rattle.blk_lists.specs.Texts.{rows_text, Adds};
 ghost use Rattle.drafts.specs.Parts.{AppendsPart};
 ghost use Rattle.drafts.specs.Drafts.{drafted};
 ghost use Rattle.blk_lists.specs.Titles.{IsCounted};
@@ -22,20 +22,36 @@ use crate::fields::{
     ANY, RELEASE, ROUND, Slot, after_minus, begins_with, field, read_fields, without_word,
 };
 use crate::items::{LineForm, read_line, read_lines};
+use crate::kinds::Kind;
 use crate::source::Records;
-use crate::titles::CountedTitle;
-use crate::writing::{push_numbers, push_row};
+use crate::titles::{COUNTED, CountedTitle};
+use crate::writing::push_numbers;
 use csv::ByteRecord;
 use drafts::pieces::{put, put_two};
 use drafts::{Block, WriteFault, write_whole};
-use edd_check::{Command, MAX_COMMANDS, MAX_ROUNDS, Window};
+use edd_check::Window;
+use edd_commands::{Command, MAX_COMMANDS, MAX_ROUNDS};
 use parts::Repeats;
 use std::alloc::{AllocError, Global};
 use std::io::{Read, Write};
 
 /// The title record.
-pub(crate) const TITLE: CountedTitle = CountedTitle {
-    name: b"blk-certificate",
+pub const CERTIFICATE: Kind<15, 4> = Kind {
+    word: *b"blk-certificate",
+    since: 1,
+    slots: COUNTED,
+};
+
+/// The record of a bound.
+pub const BOUND: Kind<5, 4> = Kind {
+    word: *b"bound",
+    since: 1,
+    slots: [Slot::Given, LATE, ROUND, ROUND],
+};
+
+/// A lateness in rounds.
+const LATE: Slot = Slot::Lateness {
+    most: MAX_ROUNDS - 1,
 };
 
 /// A schedule of commands, with the claim that it is least late.
@@ -69,7 +85,7 @@ impl LineForm for BoundForm {
     }
 
     fn line(&self, row: &ByteRecord) -> Result<Option<(i64, Window)>, Why> {
-        if !begins_with(row, b"bound") {
+        if !begins_with(row, &BOUND.word) {
             return Err(without_word(row, 4));
         }
         bound_of(row, self.count)
@@ -128,7 +144,7 @@ fn is_no_bound(row: &ByteRecord, count: u64) -> bool
     ensures { IsTrue result ↔ ((count ≡ 0) × (fields_of row.now ≡ no_bound_row)) }
 {
     let none = b"none".as_slice();
-    if count != 0 || row.len() != 4 || field(row, 0) != b"bound".as_slice() {
+    if count != 0 || row.len() != 4 || field(row, 0) != BOUND.word.as_slice() {
         return false;
     }
     if field(row, 1) != none || field(row, 2) != none {
@@ -155,14 +171,11 @@ fn bound_with(row: &ByteRecord, numbers: &[u64; 4], count: u64) -> (i64, Window)
 fn bound_slots(count: u64) -> [Slot; 4]
     ensures { result ≡ slot.Given ∷ slots_by (bound_cells count) }
 {
-    let late = Slot::Lateness {
-        most: MAX_ROUNDS - 1,
-    };
     if count == 0 {
         let none = Slot::Number { least: 1, most: 0 };
-        return [Slot::Given, late, none, none];
+        return [Slot::Given, LATE, none, none];
     }
-    [Slot::Given, late, ROUND, ROUND]
+    BOUND.slots
 }
 
 /// The bound of a record that begins with its word, for so many commands.
@@ -269,7 +282,8 @@ pub fn read_certificate<R: Read + Drop>(
     // the last thing that was asked for is the record after the commands, which there is not
     ensures end { IfOk result (λ c. records.new.at ≡ length c.commands.items + 3) }
 {
-    let (_, (depth, count)) = match read_line(records, &TITLE) {
+    let form = CountedTitle { kind: CERTIFICATE };
+    let (_, (depth, count)) = match read_line(records, &form) {
         Ok(title) => title,
         Err(fault) => return Err(fault),
     };
@@ -320,7 +334,7 @@ pub(crate) fn push_schedule(
     rounds: &[u64],
 ) -> Result<(), AllocError>
     requires { length rounds.now ≡ length commands.now }
-    ensures text { OnOk result (drafted draft.new ≡ drafted draft.old ++ rows_text (map (row_by served_cells) (zip commands.now rounds.now))) }
+    ensures text { OnOk result (Adds draft.old draft.new (map (row_by served_cells) (zip commands.now rounds.now))) }
 {
     for i in 0..commands.len() {
         let command = commands[i];
@@ -341,12 +355,7 @@ pub fn certificate_text(alloc: Global, certificate: &Certificate) -> Result<Vec<
     let mut draft = Block::new(alloc);
     let commands = certificate.commands.as_slice();
     let rounds = certificate.rounds.as_slice();
-    push_row(
-        &mut draft,
-        b"blk-certificate",
-        &[1, certificate.depth, commands.len() as u64],
-        0,
-    )?;
+    CERTIFICATE.push(&mut draft, &[1, certificate.depth, commands.len() as u64])?;
     push_bound(alloc, &mut draft, certificate.bound)?;
     push_schedule(&mut draft, commands, rounds)?;
     draft.finish()

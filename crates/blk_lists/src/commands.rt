@@ -10,17 +10,22 @@ ghost use Rattle.blk_lists.specs.Commands.{AreCommands, SpellsCommands, Commands
 use crate::fault::{TextFault, Why};
 use crate::fields::{ANY, DEPTH, RELEASE, ROUND, Slot, read_fields, version_of};
 use crate::items::{LineForm, read_line, read_lines};
+use crate::kinds::Kind;
 use crate::source::Records;
-use crate::writing::{push_numbers, push_row};
+use crate::writing::push_numbers;
 use csv::ByteRecord;
 use drafts::{Block, WriteFault, write_whole};
-use edd_check::{Command, MAX_COMMANDS};
+use edd_commands::{Command, MAX_COMMANDS};
 use parts::Repeats;
 use std::alloc::{AllocError, Global};
 use std::io::{Read, Write};
 
-/// The fields of the title: the name, the version, the depth.
-pub const DEPTH_TITLE: [Slot; 3] = [Slot::Given, Slot::Given, DEPTH];
+/// The title record: the version and the depth.
+pub const COMMANDS: Kind<12, 3> = Kind {
+    word: *b"blk-commands",
+    since: 1,
+    slots: [Slot::Given, Slot::Given, DEPTH],
+};
 
 /// The fields of a command: id, release, due.
 pub const COMMAND: [Slot; 3] = [ANY, RELEASE, ROUND];
@@ -42,10 +47,10 @@ impl LineForm for TitleForm {
     }
 
     fn line(&self, row: &ByteRecord) -> Result<(u64, u64), Why> {
-        let Some(version) = version_of(row, b"blk-commands", 1) else {
+        let Some(version) = version_of(row, &COMMANDS.word, 1) else {
             return Err(Why::Title);
         };
-        match read_fields(row, &DEPTH_TITLE) {
+        match read_fields(row, &COMMANDS.slots) {
             Ok(numbers) => Ok((version, numbers[2])),
             Err(why) => Err(why),
         }
@@ -119,7 +124,7 @@ pub fn commands_text(alloc: Global, depth: u64, commands: &[Command]) -> Result<
     ensures { IfOk result (λ v. v.items ≡ rows_text (commands_rows depth commands.now)) }
 {
     let mut draft = Block::new(alloc);
-    push_row(&mut draft, b"blk-commands", &[1, depth], 0)?;
+    COMMANDS.push(&mut draft, &[1, depth])?;
     for i in 0..commands.len() {
         let command = commands[i];
         push_numbers(&mut draft, command.id, &[command.release, command.due])?;

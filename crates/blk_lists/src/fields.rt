@@ -4,13 +4,13 @@ ghost use Rattle.std.specs.Prelude.{◌≡◌, ◌≢◌, ◌+◌, ◌*◌, ◌<
 ghost use Rattle.std.specs.Str.Parse.{AllDigits, digits_value};
 ghost use Rattle.csv.specs.Records.{fields_of};
 ghost use Rattle.blk_lists.specs.Fields.{EachField, IsSized, IsGood, IsWhole, Keeps, Lacks, FieldSpells, FieldsSpell, WritesNumber, canonical};
-ghost use Rattle.blk_lists.specs.Tables.{IsTitled, IsVersion};
+ghost use Rattle.blk_lists.specs.Tables.{HasNoVersion, IsOfVersion};
 ghost use Rattle.blk_lists.specs.Words.{StartsWith, HasNoWord};
 
 use crate::fault::Why;
 use blk_bio::Dir;
 use csv::ByteRecord;
-use edd_check::{MAX_COMMANDS, MAX_DEPTH, MAX_RELEASES, MAX_ROUNDS};
+use edd_commands::{MAX_COMMANDS, MAX_DEPTH, MAX_RELEASES, MAX_ROUNDS};
 
 /// What may stand in a field of a record.
 #[derive(Debug, Clone, Copy, PartialEq, Eq)]
@@ -346,8 +346,7 @@ pub fn begins_with(row: &ByteRecord, word: &[u8]) -> bool
 
 /// The version of a title record of the form of this name, if the form has one like it.
 pub fn version_of(row: &ByteRecord, name: &[u8], latest: u64) -> Option<u64>
-    ensures { MatchOption result ((version : ℕ) → IsVersion latest version → ¬ IsTitled name.now version (fields_of row.now))
-        (λ version. IsVersion latest version × IsTitled name.now version (fields_of row.now)) }
+    ensures { MatchOption result (HasNoVersion name.now latest (fields_of row.now)) (IsOfVersion name.now latest (fields_of row.now)) }
 {
     if row.len() < 2 || field(row, 0) != name {
         return None;

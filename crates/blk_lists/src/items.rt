@@ -5,7 +5,7 @@ ghost use Rattle.csv.specs.Records.{fields_of};
 ghost use Rattle.blk_lists.specs.Sources.{Row};
 ghost use Rattle.blk_lists.specs.declared.fault.Why.{Why as AWhy};
 ghost use Rattle.parts.specs.Parts.{Part, Begins, IsCount, most_of};
-ghost use Rattle.blk_lists.specs.Reads.{Reads, HandFails, Fails, Halts, Gathers, AreGathered, IsRowOf, IsWrongLine, IsOne, IsStopped, beyond_of, items_of, repeated};
+ghost use Rattle.blk_lists.specs.Reads.{Reads, HandFailsBy, FailsBy, Halts, HaltsBy, GathersBy, AreGatheredBy, IsRowOf, IsWrongLine, IsOne, IsStopped, beyond_of, items_of, repeated};
 
 use crate::fault::{TextFault, Why};
 use crate::source::Records;
@@ -86,9 +86,9 @@ pub trait ItemForm {
         requires room { records.old.at + more < 2 ^ 64 - 1 }
         requires suits { suits self.now items.old }
         ensures suits { OnOk result (suits self.now items.new) }
-        ensures ok { OnOk result (Gathers (part self.now) (seen items.old) (seen items.new) records.old.left records.old.fields records.new.left records.old.at records.new.at) }
+        ensures ok { OnOk result (GathersBy records.old records.new (part self.now) (seen items.old) (seen items.new)) }
         ensures last { IfErr result (λ f. (records.old.at ≤ f.at) × (f.at ≤ records.new.at)) }
-        ensures err { IfErr result (λ f. HandFails records.new.failed (part self.now (seen items.old)) records.old.left records.old.fields records.old.at f.at f.why) }
+        ensures err { IfErr result (HandFailsBy records.old records.new (part self.now (seen items.old))) }
         ensures reads { (records.old.at ≤ records.new.at) × (records.new.at ≤ records.old.at + more) };
 }
 
@@ -105,8 +105,8 @@ pub fn gather<R: Read + Drop, F: ItemForm>(
     requires none { F.seen items.old ≡ [] }
     requires suits { F.suits form.now items.old }
     ensures suits { OnOk result (F.suits form.now items.new) }
-    ensures ok { IfOk result (AreGathered repeats (F.part form.now) records.old.left records.new.left records.old.at records.new.at (F.seen items.new)) }
-    ensures err { IfErr result (λ f. Fails records.new.failed (repeated repeats (F.part form.now)) records.old.left records.old.at f.at f.why) }
+    ensures ok { IfOk result (AreGatheredBy records.old records.new repeats (F.part form.now) (F.seen items.new)) }
+    ensures err { IfErr result (FailsBy records.old records.new (repeated repeats (F.part form.now))) }
     // all items before the one that is being read are good, and no record past that one is asked for
     ensures before { IfErr result (λ f. IsStopped repeats (F.part form.now) records.old.left records.old.at F.more f.at records.new.at) }
     ensures asked { OnErr result (records.old.at < records.new.at) }
@@ -201,7 +201,7 @@ where
     F: Drop,
     requires { records.old.at + most_of repeats + 1 < 2 ^ 64 - 1 }
     ensures ok { IfOk result (λ v. IfSome records.old.left (λ rows. Begins (items_of repeats (λ _. F.part form)) rows v.items [])) }
-    ensures err { IfErr result (λ f. Halts records.new.failed (items_of repeats (λ _. F.part form)) records.old.left records.old.at f.at f.why) }
+    ensures err { IfErr result (HaltsBy records.old records.new (items_of repeats (λ _. F.part form))) }
     // at the record that was asked for last: none was read past it
     ensures last { IfErr result (λ f. f.at ≡ records.new.at) }
     // also where the reader's bytes are not known

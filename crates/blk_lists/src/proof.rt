@@ -4,15 +4,15 @@ ghost use Rattle.std.specs.Prelude.{◌≡◌, ◌⊎◌, ◌+◌, ◌*◌, ◌�
 ghost use Rattle.blk_lists.specs.Reads.{IsOutside, Reaches};
 ghost use Rattle.blk_lists.specs.Proof.{proof_claimed, proof_form, proof_size, IsProofClaim, SpellsProof, ProofFault};
 
-use crate::certificate::{Certificate, read_claim_body};
+use crate::certificate::{CERTIFICATE, Certificate, read_claim_body};
 use crate::fault::{TextFault, Why};
 use crate::fields::begins_with;
 use crate::items::{LineForm, read_line};
-use crate::met::{MetCertificate, read_met_body};
+use crate::on_time::{MET, OnTimeCertificate, read_on_time_body};
 use crate::source::Records;
 use crate::titles::counted_title;
 use csv::ByteRecord;
-use edd_check::MAX_COMMANDS;
+use edd_commands::MAX_COMMANDS;
 use std::alloc::Global;
 use std::io::Read;
 
@@ -22,14 +22,14 @@ pub enum Proof {
     /// That no schedule has a smaller greatest lateness.
     Lateness(Certificate),
     /// That no schedule meets more commands.
-    Met(MetCertificate),
+    OnTime(OnTimeCertificate),
 }
 
 /// Which of the two a title names.
 #[derive(Clone, Copy, Debug, PartialEq, Eq)]
 pub(crate) enum ProofKind {
     Lateness,
-    Met,
+    OnTime,
 }
 
 /// The title record of either form: which it is, the version, and with it the depth and the number of commands.
@@ -49,15 +49,15 @@ impl LineForm for ProofTitleForm {
     }
 
     fn line(&self, row: &ByteRecord) -> Result<(ProofKind, (u64, (u64, u64))), Why> {
-        if begins_with(row, b"blk-certificate") {
-            return match counted_title(row, b"blk-certificate") {
+        if begins_with(row, &CERTIFICATE.word) {
+            return match counted_title(row, &CERTIFICATE) {
                 Ok(title) => Ok((ProofKind::Lateness, title)),
                 Err(why) => Err(why),
             };
         }
-        if begins_with(row, b"blk-met") {
-            return match counted_title(row, b"blk-met") {
-                Ok(title) => Ok((ProofKind::Met, title)),
+        if begins_with(row, &MET.word) {
+            return match counted_title(row, &MET) {
+                Ok(title) => Ok((ProofKind::OnTime, title)),
                 Err(why) => Err(why),
             };
         }
@@ -66,7 +66,7 @@ impl LineForm for ProofTitleForm {
 }
 
 /// The certificate of a text of either form: by its title that of [`read_certificate`](crate::read_certificate) or that of
-/// [`read_met`](crate::read_met), with the faults of that form. No record was read before.
+/// [`read_on_time`](crate::read_on_time), with the faults of that form. No record was read before.
 ///
 /// A text that begins with neither name is [`Why::Title`] at record 1. No record is asked for past that of the fault, and
 /// never more than 2,000,003.
@@ -97,8 +97,8 @@ pub fn read_proof<R: Read + Drop>(
             Ok(certificate) => Ok(Proof::Lateness(certificate)),
             Err(fault) => Err(fault),
         },
-        ProofKind::Met => match read_met_body(alloc, records, depth, count) {
-            Ok(certificate) => Ok(Proof::Met(certificate)),
+        ProofKind::OnTime => match read_on_time_body(alloc, records, depth, count) {
+            Ok(certificate) => Ok(Proof::OnTime(certificate)),
             Err(fault) => Err(fault),
         },
     }

@@ -4,30 +4,32 @@ ghost use Rattle.std.specs.Prelude.{◌≡◌, ◌⊎◌, ◌+◌, ◌≤◌, �
 ghost use Rattle.std.specs.Bool.{OnTrue};
 ghost use Rattle.std.specs.Io.KnownBytes.{Appends};
 ghost use Rattle.csv.specs.Records.{fields_of};
-ghost use Rattle.parts.specs.Parts.{Begins, over};
+ghost use Rattle.parts.specs.Parts.{Begins};
 ghost use Rattle.blk_lists.specs.Sources.{Row};
 ghost use Rattle.blk_lists.specs.Reads.{IsOutside, Halts, Reaches};
 ghost use Rattle.blk_lists.specs.Texts.{rows_text};
 ghost use Rattle.drafts.specs.Parts.{AppendsPart};
-ghost use Rattle.blk_lists.specs.Schedule.{ran_of, ran_form, ran_body, ran_rows, new_record, AreFit, AreIds, DoRise, HasIds, IsNew, IsRan, SpellsSchedule, ScheduleFault};
+ghost use Rattle.blk_lists.specs.Schedule.{ran_of, ran_form, ran_body, ran_rows, IsPastCommands, IsAdded, AreFit, AreIds, DoRise, HasIds, IsNew, IsRan, SpellsSchedule, ScheduleFault};
 
 use crate::certificate::{ServedForm, push_schedule, split};
 use crate::fault::{TextFault, Why};
 use crate::items::{ItemForm, LineForm, gather, read_line};
+use crate::kinds::Kind;
 use crate::source::Records;
-use crate::titles::CountedTitle;
-use crate::writing::push_row;
+use crate::titles::{COUNTED, CountedTitle};
 use csv::ByteRecord;
 use drafts::{Block, WriteFault, write_whole};
-use edd_check::{Command, MAX_COMMANDS};
+use edd_commands::{Command, MAX_COMMANDS};
 use parts::Repeats;
 use std::alloc::{AllocError, Global};
 use std::collections::BTreeSet;
 use std::io::{Read, Write};
 
 /// The title record.
-const TITLE: CountedTitle = CountedTitle {
-    name: b"blk-schedule",
+pub const SCHEDULE: Kind<12, 4> = Kind {
+    word: *b"blk-schedule",
+    since: 1,
+    slots: COUNTED,
 };
 
 /// A schedule of commands, of which nothing is claimed.
@@ -90,7 +92,7 @@ fn gather_ids(alloc: Global, known: &mut Known) -> Result<(), AllocError>
 /// Adds a command, where none before has its id. Ids that rise aren't looked for in a set.
 fn add(alloc: Global, known: &mut Known, served: (Command, u64)) -> Result<(), Why>
     requires { HasIds known.old }
-    ensures ok { OnOk result (HasIds known.new × (known.new.served.items ≡ known.old.served.items ++ served ∷ []) × IsNew known.old.served.items served) }
+    ensures ok { OnOk result (IsAdded known.old known.new served) }
     ensures err { IfErr result (λ w. (w ≡ Why.Memory) ⊎ ((w ≡ Why.RepeatedId) × ¬ IsNew known.old.served.items served)) }
 {
     if !known.rise {
@@ -110,7 +112,7 @@ fn add(alloc: Global, known: &mut Known, served: (Command, u64)) -> Result<(), W
 #[inline(never)]
 fn add_among(alloc: Global, known: &mut Known, served: (Command, u64)) -> Result<(), Why>
     requires { HasIds known.old }
-    ensures ok { OnOk result (HasIds known.new × (known.new.served.items ≡ known.old.served.items ++ served ∷ []) × IsNew known.old.served.items served) }
+    ensures ok { OnOk result (IsAdded known.old known.new served) }
     ensures err { IfErr result (λ w. (w ≡ Why.Memory) ⊎ ((w ≡ Why.RepeatedId) × ¬ IsNew known.old.served.items served)) }
 {
     let Ok(()) = gather_ids(alloc, known) else {
@@ -133,7 +135,7 @@ struct NewForm;
 
 impl ItemForm for NewForm {
     ghost use Rattle.std.specs.Prelude.{ℕ};
-    ghost use Rattle.edd_check.specs.declared.Command.{Command as ACommand};
+    ghost use Rattle.edd_commands.specs.declared.Command.{Command as ACommand};
     ghost use Rattle.blk_lists.specs.Schedule.{new_record, HasIds};
 
     type Items = Known;
@@ -176,7 +178,7 @@ impl ItemForm for NewForm {
 /// too many.
 fn past_fault(alloc: Global, row: &ByteRecord, known: &mut Known) -> Why
     requires { HasIds known.old }
-    ensures { (result ≡ Why.Memory) ⊎ ((rest : List Row) → (over Why.Count (new_record known.old.served.items)).Wrong (fields_of row.now ∷ rest) 1 result) }
+    ensures { (result ≡ Why.Memory) ⊎ IsPastCommands known.old.served.items (fields_of row.now) result }
 {
     let form = ServedForm;
     let served = match form.line(row) {
@@ -253,7 +255,8 @@ pub fn read_schedule<R: Read + Drop>(
     // the last thing that was asked for is the record after the commands, which there is not
     ensures end { IfOk result (λ s. records.new.at ≡ length s.commands.items + 2) }
 {
-    let (_, (depth, count)) = match read_line(records, &TITLE) {
+    let form = CountedTitle { kind: SCHEDULE };
+    let (_, (depth, count)) = match read_line(records, &form) {
         Ok(title) => title,
         Err(fault) => return Err(fault),
     };
@@ -278,12 +281,7 @@ pub fn schedule_text(alloc: Global, schedule: &Schedule) -> Result<Vec<u8>, Allo
 {
     let mut draft = Block::new(alloc);
     let commands = schedule.commands.as_slice();
-    push_row(
-        &mut draft,
-        b"blk-schedule",
-        &[1, schedule.depth, commands.len() as u64],
-        0,
-    )?;
+    SCHEDULE.push(&mut draft, &[1, schedule.depth, commands.len() as u64])?;
     push_schedule(&mut draft, commands, schedule.rounds.as_slice())?;
     draft.finish()
 }

@@ -2,12 +2,13 @@
 use Rattle.std.proofs.Common.{◌≡◌, ◌==◌, ◌<◌, ◌∙◌, ℕ, suc, List, [], ◌∷◌, length, refl, sym, ap, subst, inl, inr, arith, get_or, true}
 use Rattle.std.specs.Prelude.{if◌then◌else◌}
 use Rattle.blk_lists.specs.Sources.{Row}
-use Rattle.blk_lists.specs.Words.{StartsWith}
+use Rattle.blk_lists.specs.Words.{StartsWith, HasNoWord}
 use Rattle.blk_lists.specs.Fields.{Lacks, FieldsSpell}
 use Rattle.blk_lists.specs.Reads.{IsRowOf, IsWrongLine, IsOne}
 use Rattle.blk_lists.specs.Tables.{FitsCells, slots_by, kinds_record}
-use Rattle.blk_text.specs.EventKinds.{EventKind, row_of, word_of, EventStandsIn, Says, head_cells}
-use Rattle.blk_text.specs.EventKinds as kind
+use Rattle.blk_text.specs.EventKinds.{kind_row, word_of, EventStandsIn, Says, head_cells}
+use Rattle.blk_text.specs.declared.heads.EventKind.{EventKind}
+use Rattle.blk_text.specs.declared.heads.EventKind.TheVariants as kind
 use Rattle.blk_text.specs.TraceForm.{Head, said, first_record}
 use Rattle.blk_lists.specs.declared.fault.Why.{Why}
 use Rattle.blk_lists.specs.declared.fault.Why.TheVariants as why
@@ -17,8 +18,8 @@ use Rattle.parts.specs.Parts.{Part}
 use Rattle.parts.specs.Laws.{Tells, Decides}
 use Rattle.parts.proofs.Then.{seen_tells, seen_decides}
 use Rattle.blk_lists.proofs.Lacking.{Dec, at_most}
-use Rattle.blk_lists.proofs.TableLaws.{IsTable, IsBy, begins, word_line, kinds_tell, kinds_decide, words_tell, word_picked}
-use Rattle.blk_text.proofs.KindLaws.{SizedSlots, row_table}
+use Rattle.blk_lists.proofs.TableLaws.{IsTable, IsBy, first_is, word_line, kinds_tell, kinds_decide, words_tell, word_picked}
+use Rattle.blk_lists.proofs.KindLaws.{SizedSlots, row_table}
 
 -- the kind of a word, whatever it is
 abbrev kind_at : List ℕ → EventKind
@@ -39,7 +40,7 @@ stands_decided : (version : ℕ) (k : EventKind) → Dec (EventStandsIn version 
 stands_decided version kind.Depth = at_most 2 version
 stands_decided version k = inl tt
 
-sized : (k : EventKind) → SizedSlots (row_of k).slots
+sized : (k : EventKind) → SizedSlots (kind_row k).slots
 sized kind.Tick = tt
 sized kind.Release = (omega arith, (omega arith, tt))
 sized kind.Join = (omega arith, (omega arith, tt))
@@ -47,7 +48,7 @@ sized kind.Issue = (omega arith, (omega arith, tt))
 sized k = (omega arith, tt)
 
 tables : (k : EventKind) → IsTable (head_cells k) (FitsCells (head_cells k))
-tables k = row_table (row_of k).slots (sized k)
+tables k = row_table (kind_row k).slots (sized k)
 
 -- the first record of a kind
 abbrev head_with : (k : EventKind) → Says k → Head
@@ -80,35 +81,33 @@ head_one version = record { tells = head_tells version; plain = λ h rest f. tt;
 pub head_decides : (version : ℕ) → Decides (first_record version)
 head_decides version = seen_decides said (kinds version) (λ v f. (head_with v.0 v.1, said_back v.0 v.1)) (kinds_decide Says why.Count 6 (EventStandsIn version) word_of head_cells (word_picked word_of kind_at (EventStandsIn version) kind_is (stands_decided version)) tables)
 
--- what was read of a first record whose field is asked for its kind
+-- what was read of a first record
 
-word_long : (k : EventKind) → 0 < length (word_of k)
+pub word_long : (k : EventKind) → 0 < length (word_of k)
 word_long kind.Tick = omega arith
 word_long k = omega arith
 
-slots_are : (k : EventKind) → (row_of k).slots ≡ slot.Given ∷ slots_by (head_cells k)
+slots_are : (k : EventKind) → (kind_row k).slots ≡ slot.Given ∷ slots_by (head_cells k)
 slots_are kind.Tick = refl
 slots_are k = refl
 
-abbrev Of : ℕ → List ℕ → EventKind → Type 0
-Of version f k = EventStandsIn version k × (f ≡ word_of k)
+pub head_spells : (k j : EventKind) (row : Row) (ns : List ℕ) → k ≡ j → FieldsSpell (kind_row k).slots row ns → FieldsSpell (kind_row j).slots row ns
+head_spells k j row ns e s = subst (λ (z : EventKind). FieldsSpell (kind_row z).slots row ns) e s
 
-starts : (version : ℕ) (k : EventKind) (row : Row) (f : List ℕ) → f ≡ get_or row (0) [] → Of version f k → StartsWith (word_of k) row
-starts version k row f at of = begins row (word_of k) (word_long k) (sym at ∙ of.1)
-
-pub head_line : (version : ℕ) (h : Head) (row : Row) (f ns : List ℕ) → f ≡ get_or row (0) [] → (true ≡ true → Of version f (said h).0) → FieldsSpell (row_of (said h).0).slots row ns
+-- of a kind that was told by its word
+pub head_line : (version : ℕ) (k : EventKind) (h : Head) (row : Row) (ns : List ℕ) → k ≡ (said h).0 → EventStandsIn version k → StartsWith (word_of k) row → FieldsSpell (kind_row k).slots row ns
     → IsBy (head_cells (said h).0) (said h).1 (λ i. get_or row (suc i) []) (λ i. get_or ns (suc i) 0) → IsRowOf (first_record version) row h
-head_line version h row f ns at is s b =
-    let k = (said h).0 in
-    let of = is refl in
-    let line = word_line why.Count (word_of k) (head_cells k) (λ v. EventStandsIn version k × FitsCells (head_cells k) v) (said h).1 row ns (starts version k row f at of) (subst (λ ss. FieldsSpell ss row ns) (slots_are k) s) b (λ x. (of.0, x)) in
+head_line version k h row ns e a t s b =
+    let j = (said h).0 in
+    let line = word_line why.Count (word_of j) (head_cells j) (λ v. EventStandsIn version j × FitsCells (head_cells j) v) (said h).1 row ns (subst (λ (z : EventKind). StartsWith (word_of z) row) e t)
+    (subst (λ ss. FieldsSpell ss row ns) (slots_are j) (head_spells k j row ns e s)) b (λ f. (subst (EventStandsIn version) e a, f)) in
     λ rest. record { fits = (line rest).fits; made = (line rest).made; follows = tt }
 
-pub head_lacks : (version : ℕ) (k : EventKind) (row : Row) (f : List ℕ) (w : Why) → f ≡ get_or row (0) [] → (true ≡ true → Of version f k) → Lacks (row_of k).slots row w → IsWrongLine (first_record version) row w
-head_lacks version k row f w at is l =
-    let of = is refl in
-    let begun = starts version k row f at of in
-    λ rest. inl (k, (of.0, begun), (refl, inl (begun, subst (λ ss. Lacks ss row w) (slots_are k) l)))
+pub head_lacks : (version : ℕ) (k : EventKind) (row : Row) (w : Why) → EventStandsIn version k → StartsWith (word_of k) row → Lacks (kind_row k).slots row w → IsWrongLine (first_record version) row w
+head_lacks version k row w a t l = λ rest. inl (k, (a, t), (refl, inl (t, subst (λ ss. Lacks ss row w) (slots_are k) l)))
+
+pub no_head : (version : ℕ) (cells : Row) (w : Why) → ((k : EventKind) → EventStandsIn version k → ¬ (get_or cells 0 [] ≡ word_of k)) → HasNoWord 6 cells w → IsWrongLine (first_record version) cells w
+no_head version cells w n h = λ rest. inr (refl, (λ k s. n k s.0 (first_is cells (word_of k) s.1)), h)
 
 pub head_gone : (version : ℕ) → (first_record version).Wrong [] 1 why.Count
 head_gone version = inr (refl, (λ k s. s.1), refl)

@@ -1,6 +1,5 @@
 pub mod Rows
 pub mod BioLaws
-pub mod KindLaws
 pub mod ScriptLaws
 pub mod TraceLemmas
 pub mod HeadLaws

@@ -17,7 +17,7 @@ use Rattle.blk_trace.specs.Happened.{Happened}
 use Rattle.blk_trace.specs.declared.event.Event.TheVariants.{Release, Issue}
 use Rattle.blk_trace.specs.Kinds.{releases, joins, issues, ends, is_tick, sets_depth, enters}
 use Rattle.blk_trace.specs.Setups.{Setup}
-use Rattle.blk_trace.specs.Events.{entered, request_of, goes_back, round_at, round_of, EndsAt, IsReleased, IsIssued, IsHandedBack, AreHandedBack, IsOpen, IsUsed, open_count, AreOnce}
+use Rattle.blk_trace.specs.Events.{entered, request_of, goes_back, round_at, round_of, EndsAt, IsReleased, IsIssued, IsRequeued, AreRequeued, IsOpen, IsUsed, open_count, AreOnce}
 use Rattle.blk_trace.specs.Depths.{depth_now}
 use Rattle.blk_trace.specs.Rules.{asks_for, Obeys, rank, IsFirstBroken, IsUnbroken}
 use Rattle.blk_bio.specs.declared.rule.TraceRule.{TraceRule}
@@ -143,15 +143,15 @@ none_open events = same_as (λ f tag o. f o.place (Issue o.id tag) o.issued tag 
 
 -- an Issue of the id that stands at a place was handed back
 abbrev IsBackAt : List Happened → ℕ → ℕ → Happened → Type 0
-IsBackAt events id k e = (tag : ℕ) → e ≡ Issue id tag → IsHandedBack events k tag
+IsBackAt events id k e = (tag : ℕ) → e ≡ Issue id tag → IsRequeued events k tag
 
 is_back : (events : List Happened) (id k : ℕ) (e : Happened) → Dec (IsBackAt events id k e)
-is_back events id k (Issue i t) = same_as (λ f tag is. (let same : i ≡ id = cc is in let tags : t ≡ tag = cc is in subst (IsHandedBack events k) tags (f same))) (λ f s. f t (ap (λ n. Issue n t) s))
+is_back events id k (Issue i t) = same_as (λ f tag is. (let same : i ≡ id = cc is in let tags : t ≡ tag = cc is in subst (IsRequeued events k) tags (f same))) (λ f s. f t (ap (λ n. Issue n t) s))
     (implied (same_number i id) (is_true (goes_back t (drop (suc k) events))))
 is_back events id k e = inl (λ tag is. absurd (cc is))
 
-handed_back : (events : List Happened) (id : ℕ) → Dec (AreHandedBack events id)
-handed_back events id = same_as (λ f k tag at. f k (Issue id tag) at tag refl) (λ f k e at tag is. f k tag (at ∙ ap Some is)) (each_at events (IsBackAt events id) (is_back events id))
+are_requeued : (events : List Happened) (id : ℕ) → Dec (AreRequeued events id)
+are_requeued events id = same_as (λ f k tag at. f k (Issue id tag) at tag refl) (λ f k e at tag is. f k tag (at ∙ ap Some is)) (each_at events (IsBackAt events id) (is_back events id))
 
 -- of bios
 
@@ -196,7 +196,7 @@ obeys : (setup : Setup) (events : List Happened) (e : Happened) (r : TraceRule) 
 obeys setup events e rule.ReleasedTwice = if_some (releases e) (λ p. IsReleased events p.0 → ⊥) (λ p. opposite (released events p.0))
 obeys setup events e rule.Unknown = if_some (asks_for e) (λ id. IsReleased events id) (λ id. released events id)
 obeys setup events e rule.AlreadyIssued =
-    match_option (joins e) (IfSome (issues e) (λ p. AreHandedBack events p.0)) (λ p. IsIssued events p.0 → ⊥) (if_some (issues e) (λ p. AreHandedBack events p.0) (λ p. handed_back events p.0)) (λ p. opposite (issued events p.0))
+    match_option (joins e) (IfSome (issues e) (λ p. AreRequeued events p.0)) (λ p. IsIssued events p.0 → ⊥) (if_some (issues e) (λ p. AreRequeued events p.0) (λ p. are_requeued events p.0)) (λ p. opposite (issued events p.0))
 obeys setup events e rule.BioTwice = if_some (enters e) (λ p. AreOnce (entered events ++ p.1)) (λ p. once (entered events ++ p.1))
 obeys setup events e rule.Fit =
     match_option (releases e) (IfSome (joins e) (λ p. (s : Side) × Fits setup.limits (request_of events p.0) p.1 s)) (λ p. IsWithin setup.limits p.1)

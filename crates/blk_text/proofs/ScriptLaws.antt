@@ -32,7 +32,7 @@ use Rattle.blk_text.specs.declared.script.Line.{Line}
 use Rattle.blk_text.specs.declared.script.Line.TheVariants as line
 use Rattle.blk_text.specs.declared.script.Title.{Title}
 use Rattle.blk_lists.proofs.Lacking.{Dec, at_most}
-use Rattle.blk_text.proofs.KindLaws.{SizedSlots, row_table}
+use Rattle.blk_lists.proofs.KindLaws.{SizedSlots, row_table}
 use Rattle.blk_lists.proofs.TableLaws.{IsTable, IsBy, begins, word_line, kinds_tell, kinds_decide, word_tells, word_decides, title_part, title_decides, words_tell, word_picked}
 use Rattle.blk_lists.proofs.Each.{all_fit, each_tells, each_decides, one_record}
 use Rattle.blk_lists.proofs.Reading.{then_reads, first_halts, second_halts}

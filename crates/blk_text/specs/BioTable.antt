@@ -6,7 +6,7 @@ use Rattle.blk_lists.specs.Sources.{Row}
 use Rattle.blk_lists.specs.Tables.{Cell, FitsCells, word_record}
 use Rattle.blk_lists.specs.declared.fault.Why.{Why}
 use Rattle.blk_lists.specs.declared.fault.Why.TheVariants as why
-use Rattle.blk_text.specs.Kinds.{below, cells_of}
+use Rattle.blk_lists.specs.Kinds.{below, cells_of}
 use Rattle.blk_text.specs.declared.bios.TheConstants.{BIO}
 use Rattle.parts.specs.Parts.{Part, tested}
 

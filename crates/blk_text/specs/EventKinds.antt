@@ -1,39 +1,40 @@
 -- The table of the events of a trace: the row of each kind's first record.
-use Rattle.std.specs.Prelude.{ℕ, List}
+use Rattle.std.specs.Prelude.{◌≡◌, ℕ, List}
 use Rattle.blk_lists.specs.Tables.{Cell}
-use Rattle.blk_text.specs.Kinds.{KindRow, row, StandsFrom, Told, cells_of}
+use Rattle.blk_lists.specs.Kinds.{KindRow, row, StandsFrom, Told, cells_of}
+use Rattle.blk_text.specs.declared.heads.EventKind.{EventKind}
+use Rattle.blk_text.specs.declared.heads.EventKind.TheVariants.{Tick, Release, Join, Issue, Done, Back, Depth}
 use Rattle.blk_text.specs.declared.heads.TheConstants.{TICK, RELEASE, JOIN, ISSUE, DONE, BACK, DEPTH}
 
-pub data EventKind : Type 0 where
-  Tick : EventKind
-  Release : EventKind
-  Join : EventKind
-  Issue : EventKind
-  Done : EventKind
-  Back : EventKind
-  Depth : EventKind
-
-abbrev pub row_of : EventKind → KindRow
-row_of Tick = row TICK
-row_of Release = row RELEASE
-row_of Join = row JOIN
-row_of Issue = row ISSUE
-row_of Done = row DONE
-row_of Back = row BACK
-row_of Depth = row DEPTH
+abbrev pub kind_row : EventKind → KindRow
+kind_row Tick = row TICK
+kind_row Release = row RELEASE
+kind_row Join = row JOIN
+kind_row Issue = row ISSUE
+kind_row Done = row DONE
+kind_row Back = row BACK
+kind_row Depth = row DEPTH
 
 -- the word of a kind
 abbrev pub word_of : EventKind → List ℕ
-word_of k = (row_of k).word
+word_of k = (kind_row k).word
 
 -- the versions in which it stands
 abbrev pub EventStandsIn : ℕ → EventKind → Type 0
-EventStandsIn version k = StandsFrom (row_of k).since version
+EventStandsIn version k = StandsFrom (kind_row k).since version
 
 -- what its first record says beside its word
 abbrev pub Says : EventKind → Type 0
-Says k = Told (row_of k).slots
+Says k = Told (kind_row k).slots
 
 -- and in which fields
 abbrev pub head_cells : (k : EventKind) → List (Cell (Says k))
-head_cells k = cells_of (row_of k).slots (λ s. s)
+head_cells k = cells_of (kind_row k).slots (λ s. s)
+
+-- a field is the word of a kind that stands in a version
+abbrev pub IsKind : ℕ → List ℕ → EventKind → Type 0
+IsKind version f k = EventStandsIn version k × (f ≡ word_of k)
+
+-- and that of none
+abbrev pub IsNoKind : ℕ → List ℕ → Type 0
+IsNoKind version f = (k : EventKind) → EventStandsIn version k → ¬ (f ≡ word_of k)

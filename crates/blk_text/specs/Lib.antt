@@ -2,9 +2,9 @@ pub mod SetupRecord
 pub mod BioRecord
 pub mod Script
 pub mod TraceRecords
+pub mod StepRecords
 pub mod BioTable
 pub mod TraceForm
 pub mod Versions
-pub mod Kinds
 pub mod EventKinds
 pub mod StepKinds

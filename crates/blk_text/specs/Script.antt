@@ -5,7 +5,9 @@ use Rattle.blk_bio.specs.Bios.{Bio, IsBio, IsBioAnswer}
 use Rattle.blk_bio.specs.declared.bio.BioFault.{BioFault}
 use Rattle.blk_bio.specs.declared.limits.TheConstants.{MAX_QUEUES, MAX_SOFT_QUEUES, MAX_SOFT_DEPTH}
 use Rattle.blk_trace.specs.Setups.{Setup}
+use Rattle.csv.specs.Reading.{default_config, records, strip_bom}
 use Rattle.blk_lists.specs.Sources.{Row}
+use Rattle.blk_lists.specs.Texts.{rows_text}
 use Rattle.blk_lists.specs.Reads.{items_of}
 use Rattle.blk_lists.specs.Tables.{Cell, Number, IsVersion, title_record, kinds_record}
 use Rattle.blk_text.specs.SetupRecord.{IsWholeSetup, setup}
@@ -149,3 +151,11 @@ SpellsScript rows s = (version : ℕ) × SpellsVersion version rows s
 -- the first fault of a script
 abbrev pub ScriptFault : List Row → ℕ → Why → Type 0
 ScriptFault = script_form.Wrong
+
+-- the records spell one script at most, in one version
+abbrev pub OneScript : List Row → Type 0
+OneScript rows = (version other : ℕ) → (s t : Scripted) → SpellsVersion version rows s → SpellsVersion other rows t → (version ≡ other) × (s ≡ t)
+
+-- the text of a script in a version reads back as records that spell it
+abbrev pub ScriptReadsBack : ℕ → Scripted → Type 0
+ScriptReadsBack version s = IsScript s → IsScriptOf version s → SpellsVersion version (records default_config (strip_bom (rows_text (script_rows version s)))) s

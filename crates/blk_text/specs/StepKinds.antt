@@ -2,7 +2,7 @@
 use Rattle.std.specs.Prelude.{ℕ, List}
 use Rattle.blk_lists.specs.Tables.{Cell}
 use Rattle.blk_lists.specs.declared.fields.Slot.{Slot}
-use Rattle.blk_text.specs.Kinds.{KindRow, row, below, StandsFrom, Told, cells_of}
+use Rattle.blk_lists.specs.Kinds.{KindRow, row, below, StandsFrom, Told, cells_of}
 use Rattle.blk_text.specs.declared.bios.TheConstants.{BIO}
 use Rattle.blk_text.specs.declared.heads.TheConstants.{TICK, ISSUE, DONE, BACK, DEPTH}
 use Rattle.blk_text.specs.declared.script.TheConstants.{FLUSH, DRAIN, RUN}

@@ -1,11 +1,11 @@
 -- A trace: a title, a setup, and events, each of which has one record, or one and those of its bios.
-use Rattle.std.specs.Prelude.{◌≡◌, ◌⊎◌, ◌≤◌, ℕ, List, [], ◌∷◌, length, codes, All, Option, Some, None, IfSome}
+use Rattle.std.specs.Prelude.{◌≡◌, ◌⊎◌, ◌≤◌, ℕ, List, [], ◌∷◌, ◌++◌, length, codes, All, Option, Some, None, IfSome}
 use Rattle.std.specs.Option.{option_map_or}
 use Rattle.blk_bio.specs.Bios.{Bio, IsBio}
 use Rattle.blk_bio.specs.Limits.{Limits}
 use Rattle.blk_bio.specs.Requests.{Fits}
 use Rattle.blk_bio.specs.declared.request.Side.TheVariants as side
-use Rattle.blk_bio.specs.declared.limits.TheConstants.{MAX_QUEUES}
+use Rattle.blk_bio.specs.declared.limits.TheConstants.{MAX_QUEUES, MAX_SEGMENTS}
 use Rattle.blk_trace.specs.declared.trace.TheConstants.{MAX_EVENTS}
 use Rattle.blk_bio.specs.declared.rule.TraceRule.{TraceRule}
 use Rattle.blk_trace.specs.declared.rule.PushFault.{PushFault}
@@ -18,17 +18,21 @@ use Rattle.blk_trace.specs.Rules.{IsFirstBroken, IsUnbroken}
 use Rattle.blk_trace.specs.Setups.{Setup}
 use Rattle.blk_trace.specs.Traces.{Traced}
 use Rattle.blk_lists.specs.Sources.{Row}
-use Rattle.blk_lists.specs.Reads.{ended_of, with_next}
+use Rattle.csv.specs.Reading.{default_config, records, strip_bom}
+use Rattle.blk_lists.specs.Reads.{IsStopped, ended_of, with_next}
+use Rattle.blk_lists.specs.Texts.{rows_text}
 use Rattle.blk_lists.specs.Words.{NextStarts}
 use Rattle.blk_lists.specs.Tables.{Cell, Blank, Number, FitsCells, IsVersion, title_record, kinds_record, word_record}
 use Rattle.blk_text.specs.BioTable.{bio_cells, IsNoSuchBio}
 use Rattle.blk_text.specs.SetupRecord.{setup}
+use Rattle.blk_text.specs.TraceRecords.{IsTrace}
 use Rattle.blk_text.specs.Versions.{latest, most_tags}
 use Rattle.blk_text.specs.declared.bios.TheConstants.{MAX_SUBMITTERS}
 use Rattle.blk_lists.specs.declared.fault.Why.{Why}
 use Rattle.blk_lists.specs.declared.fault.Why.TheVariants as why
-use Rattle.blk_text.specs.EventKinds.{EventKind, EventStandsIn, word_of, Says, head_cells}
-use Rattle.blk_text.specs.EventKinds as kind
+use Rattle.blk_text.specs.EventKinds.{EventStandsIn, word_of, Says, head_cells}
+use Rattle.blk_text.specs.declared.heads.EventKind.{EventKind}
+use Rattle.blk_text.specs.declared.heads.EventKind.TheVariants as kind
 use Rattle.blk_text.specs.declared.heads.TraceTitle.{TraceTitle}
 use Rattle.parts.specs.declared.Repeats.TheVariants as repeats
 use Rattle.parts.specs.Parts.{Part, NextWrong, then, many, over, seen_as, tested, by_word, Spells}
@@ -188,3 +192,20 @@ pub record IsTraceOf (version : ℕ) (t : Traced) : Type 0 where
 -- the first fault of a trace
 abbrev pub TraceFault : List Row → ℕ → Why → Type 0
 TraceFault = trace_form.Wrong
+
+-- an event was added to a trace, none of whose rules it breaks
+abbrev pub IsPushed : Traced → Traced → Happened → Type 0
+IsPushed old new e = (new.setup ≡ old.setup) × (new.events ≡ old.events ++ e ∷ []) × IsUnbroken old.setup old.events e
+
+-- reading so many events stopped at the record `at`, and `last` was asked for last: all events before the one that was being read are
+-- good, and no record past those that it may have was asked for
+abbrev pub IsStoppedIn : ℕ → Setup → ℕ → Option (List Row) → ℕ → ℕ → Type 0
+IsStoppedIn version setup count left at last = IsStopped (repeats.Exactly count) (event version setup) left 2 MAX_SEGMENTS at last
+
+-- the records spell one trace at most, in one version
+abbrev pub OneTrace : List Row → Type 0
+OneTrace rows = (version other : ℕ) → (t u : Traced) → SpellsTraceIn version rows t → SpellsTraceIn other rows u → (version ≡ other) × (t.setup ≡ u.setup) × (t.events ≡ u.events)
+
+-- the text of a trace in a version reads back as records that spell it
+abbrev pub TraceReadsBack : ℕ → Traced → Type 0
+TraceReadsBack version t = IsTrace t → IsTraceOf version t → SpellsTraceIn version (records default_config (strip_bom (rows_text (trace_form.rows_of (trace_value version t))))) t

@@ -1,22 +1,28 @@
 //! The record of a bio, in a script and in a group of a trace.
 
-ghost use Rattle.std.specs.Prelude.{◌≡◌, ◌≤◌, ◌<◌, ◌^◌, IfOk, IfErr, IfSome, codes};
+ghost use Rattle.std.specs.Prelude.{◌≡◌, ◌++◌, ◌∷◌, ◌≤◌, ◌<◌, ◌^◌, [], IfOk, IfErr, IfSome, OnOk, codes};
 ghost use Rattle.csv.specs.Records.{fields_of};
 ghost use Rattle.blk_bio.specs.Bios.{IsBio};
 ghost use Rattle.blk_lists.specs.Reads.{IsRowOf, IsWrongLine};
+ghost use Rattle.blk_lists.specs.Texts.{rows_text};
 ghost use Rattle.blk_lists.specs.Words.{StartsWith};
 ghost use Rattle.blk_text.specs.BioRecord.{bio_row};
 ghost use Rattle.blk_text.specs.BioTable.{bio_record};
+ghost use Rattle.blk_text.specs.TraceRecords.{BioFits};
+ghost use Rattle.drafts.specs.Drafts.{drafted};
 
-use crate::kinds::Kind;
 use crate::setup::WIDTH;
 use blk_bio::{Bio, BioId, Dir};
 use blk_lists::fault::Why;
 use blk_lists::fields::{ANY, Slot, field, parse_number, read_fields};
+use blk_lists::kinds::Kind;
 use csv::ByteRecord;
+use drafts::Block;
+use drafts::pieces::{put, put_two};
+use std::alloc::AllocError;
 
 /// The record of a bio: its submitter, below a number of them, its serial, its direction, its first sector and how many.
-pub const BIO: Kind<3> = Kind {
+pub const BIO: Kind<3, WIDTH> = Kind {
     word: *b"bio",
     since: 1,
     slots: [Slot::Given, ANY, ANY, Slot::Direction, ANY, ANY],
@@ -80,4 +86,21 @@ pub fn read_bio(row: &ByteRecord, submitters: u64) -> Result<Bio, Why>
         Ok(bio) => Ok(bio),
         Err(fault) => Err(Why::Bio(fault)),
     }
+}
+
+/// Adds the record of a bio.
+#[inline]
+pub fn push_bio(draft: &mut Block, bio: &Bio) -> Result<(), AllocError>
+    ensures text { OnOk result (drafted draft.new ≡ drafted draft.old ++ rows_text (bio_row bio.now ∷ [])) }
+    ensures fits { OnOk result (BioFits bio.now) }
+{
+    let start = draft.room()?;
+    let id = bio.id();
+    let buf = &mut draft.block;
+    let head = put(b"bio,", buf, start);
+    let named = put_two(id.submitter as u64, id.serial, buf, head);
+    let way = put(&[b',', bio.dir().letter(), b','], buf, named);
+    let placed = put_two(bio.first(), bio.sectors(), buf, way);
+    draft.at = put(b"\n", buf, placed);
+    Ok(())
 }

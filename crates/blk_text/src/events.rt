@@ -2,18 +2,17 @@
 
 ghost use Rattle.std.specs.Prelude.{◌≡◌, ◌⊎◌, ◌∷◌, ◌++◌, ◌≤◌, ◌<◌, ◌^◌, ◌-◌, ◌+◌, ◌*◌, ℕ, [], length, OnOk, IfOk, IfErr, IfSome};
 ghost use Rattle.csv.specs.Records.{fields_of};
-ghost use Rattle.blk_trace.specs.Rules.{IsUnbroken};
 ghost use Rattle.parts.specs.declared.Repeats.TheVariants as repeats;
 ghost use Rattle.parts.specs.Parts.{Begins};
 ghost use Rattle.blk_lists.specs.Sources.{Row};
-ghost use Rattle.blk_lists.specs.Reads.{HandReads, HandFails, Fails, IsOutside, AreItems, IsStopped, IsHeldAt, size_of};
-ghost use Rattle.blk_text.specs.TraceForm.{refusal_of, IsRefused, plain_event, event as event_part, IsPast, events_of, trace_form, SpellsTrace, TraceFault};
+ghost use Rattle.blk_lists.specs.Reads.{HandReads, HandFailsBy, Fails, IsOutside, AreItems, IsHeldAt, size_of};
+ghost use Rattle.blk_text.specs.TraceForm.{refusal_of, IsRefused, IsPushed, IsStoppedIn, plain_event, event as event_part, IsPast, events_of, trace_form, SpellsTrace, TraceFault};
 ghost use Rattle.blk_text.specs.TraceRecords.{IsTrace, trace_rows};
 
 use crate::groups::read_group;
-use crate::heads::{HeadForm, TraceTitle};
-use crate::setup::{LATEST, SetupForm, most_tags};
-use blk_bio::{Limits, MAX_QUEUES, MAX_SEGMENTS, Request};
+use crate::heads::{HeadForm, TRACE, TraceTitle};
+use crate::setup::{LATEST, SetupForm, TAGS, most_tags};
+use blk_bio::{Limits, MAX_SEGMENTS, Request};
 use blk_lists::fault::{TextFault, Why};
 use blk_lists::fields::{Slot, read_fields, version_of};
 use blk_lists::items::{ItemForm, LineForm, gather, read_line};
@@ -35,7 +34,7 @@ fn read_event<R: Read + Drop>(
     ensures ok { IfOk result (λ e. HandReads (plain_event form.version limits) records.old.left records.old.fields records.new.left e) }
     ensures fits { IfOk result (λ e. (plain_event form.version limits).Fits e) }
     ensures end { IfOk result (λ e. records.new.at + 1 ≡ records.old.at + length ((plain_event form.version limits).rows_of e)) }
-    ensures err { IfErr result (λ f. HandFails records.new.failed (plain_event form.version limits) records.old.left records.old.fields records.old.at f.at f.why) }
+    ensures err { IfErr result (HandFailsBy records.old records.new (plain_event form.version limits)) }
     ensures last { IfErr result (λ f. (records.old.at ≤ f.at) × (f.at ≤ records.new.at)) }
     ensures reads { (records.old.at ≤ records.new.at) × (records.new.at ≤ records.old.at + MAX_SEGMENTS) }
 {
@@ -73,7 +72,7 @@ fn refusal(fault: PushFault) -> Why
 
 /// Adds an event to a trace, where it breaks no rule: else the first that it breaks.
 fn add(trace: &mut Trace, event: Event<Request>) -> Result<(), Why>
-    ensures ok { OnOk result ((trace.new.setup ≡ trace.old.setup) × (trace.new.events ≡ trace.old.events ++ event ∷ []) × IsUnbroken trace.old.setup trace.old.events event) }
+    ensures ok { OnOk result (IsPushed trace.old trace.new event) }
     ensures err { IfErr result (IsRefused trace.old.setup trace.old.events event) }
 {
     let Err((refused, fault)) = trace.push(event) else {
@@ -170,26 +169,14 @@ impl LineForm for TraceTitleForm {
     }
 
     fn line(&self, row: &ByteRecord) -> Result<(u64, TraceTitle), Why> {
-        let Some(version) = version_of(row, b"blk-trace", LATEST) else {
+        let Some(version) = version_of(row, &TRACE.word, LATEST) else {
             return Err(Why::Title);
         };
-        let slots = [
-            Slot::Given,
-            Slot::Given,
-            Slot::Number {
-                least: 1,
-                most: most_tags(version),
-            },
-            Slot::Number {
-                least: 1,
-                most: MAX_QUEUES as u64,
-            },
-            Slot::Number {
-                least: 0,
-                most: MAX_EVENTS,
-            },
-            Slot::Blank,
-        ];
+        let mut slots = TRACE.slots;
+        slots[TAGS] = Slot::Number {
+            least: 1,
+            most: most_tags(version),
+        };
         match read_fields(row, &slots) {
             Ok(numbers) => {
                 let title = TraceTitle {
@@ -220,7 +207,7 @@ fn read_events<R: Read + Drop>(
     ensures fit { IfOk result (λ t. AreItems (repeats.Exactly count) (event_part version trace.setup) t.events) }
     ensures err { IfErr result (λ f. Fails records.new.failed (events_of version trace.setup count) records.old.left 2 f.at f.why) }
     // all events before the one that is being read are good, and no record past that one is asked for
-    ensures before { IfErr result (λ f. IsStopped (repeats.Exactly count) (event_part version trace.setup) records.old.left 2 MAX_SEGMENTS f.at records.new.at) }
+    ensures before { IfErr result (λ f. IsStoppedIn version trace.setup count records.old.left f.at records.new.at) }
     ensures reads { (3 ≤ records.new.at) × (records.new.at ≤ MAX_EVENTS * (MAX_SEGMENTS + 1) + 3) }
     ensures end { IfOk result (λ t. records.new.at ≡ size_of (event_part version trace.setup) t.events + 3) }
 {

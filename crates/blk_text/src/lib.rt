@@ -5,12 +5,12 @@ mod bios;
 mod events;
 mod groups;
 mod heads;
-mod kinds;
 pub mod laws;
 pub mod script;
 mod setup;
 pub mod trace;
 
 pub use crate::events::read_trace;
-pub use crate::script::{Line, MAX_RUN, MAX_STEPS, Script, read_script};
+pub use crate::script::{Line, MAX_RUN, MAX_STEPS, Script, push_step, read_script};
+pub use crate::setup::push_setup;
 pub use crate::trace::{trace_text, write_trace};

@@ -1,26 +1,30 @@
 //! Scripts.
 
-ghost use Rattle.std.specs.Prelude.{◌≡◌, ◌⊎◌, ◌+◌, ◌≤◌, [], IfOk, IfErr, IfSome, get_or, length};
+ghost use Rattle.std.specs.Prelude.{◌≡◌, ◌⊎◌, ◌+◌, ◌++◌, ◌∷◌, ◌≤◌, [], IfOk, IfErr, IfSome, OnOk, get_or, length};
 ghost use Rattle.csv.specs.Records.{fields_of};
 ghost use Rattle.blk_lists.specs.Reads.{IsOutside, IsRowOf, IsWrongLine, Reaches};
+ghost use Rattle.blk_lists.specs.Texts.{rows_text};
 ghost use Rattle.blk_text.specs.StepKinds.{word_of};
 ghost use Rattle.blk_text.specs.StepKinds as kind;
 ghost use Rattle.blk_text.specs.Script.{step, IsScript, SpellsScript, ScriptFault, scripted, script_form};
+ghost use Rattle.blk_text.specs.StepRecords.{step_row};
+ghost use Rattle.drafts.specs.Drafts.{drafted};
 ghost use Rattle.blk_bio.specs.declared.limits.TheConstants.{MAX_QUEUES as ALL_QUEUES, MAX_SOFT_QUEUES as MAX_SUBMITTERS};
 
-use crate::bios::{BIO, read_bio};
+use crate::bios::{BIO, push_bio, read_bio};
 use crate::heads::{BACK, DEPTH, DONE, ISSUE, ONE, TICK};
-use crate::kinds::Kind;
-use crate::setup::{LATEST, SetupForm, WIDTH, most_tags};
-use blk_bio::{Bio, MAX_QUEUES, MAX_SOFT_DEPTH, MAX_SOFT_QUEUES};
+use crate::setup::{DEPTHS, LATEST, QUEUES, SetupForm, TAGS, WIDTH, most_tags};
+use blk_bio::{Bio, MAX_SOFT_DEPTH, MAX_SOFT_QUEUES};
 use blk_lists::fault::{TextFault, Why};
 use blk_lists::fields::{Slot, field, read_fields, version_of, without_word};
 use blk_lists::items::{LineForm, read_line, read_lines};
+use blk_lists::kinds::Kind;
 use blk_lists::source::Records;
 use blk_trace::{MAX_EVENTS, Setup};
 use csv::ByteRecord;
+use drafts::Block;
 use parts::Repeats;
-use std::alloc::Global;
+use std::alloc::{AllocError, Global};
 use std::io::Read;
 
 /// The most steps of a script.
@@ -68,21 +72,21 @@ pub struct Script {
 // The table of the steps: the rows of the events that are steps too, that of a bio, and these.
 
 /// A submitter, below the number of a title.
-pub const FLUSH: Kind<5> = Kind {
+pub const FLUSH: Kind<5, WIDTH> = Kind {
     word: *b"flush",
     since: 1,
     slots: ONE,
 };
 
 /// A hardware queue, below the number of a title.
-pub const DRAIN: Kind<5> = Kind {
+pub const DRAIN: Kind<5, WIDTH> = Kind {
     word: *b"drain",
     since: 1,
     slots: ONE,
 };
 
 /// How many rounds.
-pub const RUN: Kind<3> = Kind {
+pub const RUN: Kind<3, WIDTH> = Kind {
     word: *b"run",
     since: 1,
     slots: [
@@ -99,6 +103,27 @@ pub const RUN: Kind<3> = Kind {
 const ROUNDS: Slot = Slot::Number {
     least: 1,
     most: MAX_RUN,
+};
+
+/// The title record: the version, the tags, the hardware queues, how many requests a software queue has room for, and the
+/// submitters. An earlier version may have fewer tags.
+pub const SCRIPT: Kind<10, WIDTH> = Kind {
+    word: *b"blk-script",
+    since: 1,
+    slots: [
+        Slot::Given,
+        Slot::Given,
+        DEPTHS,
+        QUEUES,
+        Slot::Number {
+            least: 1,
+            most: MAX_SOFT_DEPTH,
+        },
+        Slot::Number {
+            least: 1,
+            most: MAX_SOFT_QUEUES,
+        },
+    ],
 };
 
 /// The numbers of a script's title.
@@ -190,6 +215,23 @@ impl LineForm for StepForm {
     }
 }
 
+/// Adds the record of a step.
+pub fn push_step(draft: &mut Block, step: &Line) -> Result<(), AllocError>
+    ensures { OnOk result (drafted draft.new ≡ drafted draft.old ++ rows_text (step_row step.now ∷ [])) }
+{
+    match step {
+        Line::Bio(bio) => push_bio(draft, bio),
+        Line::Flush(submitter) => FLUSH.push(draft, &[*submitter as u64]),
+        Line::Drain { hw } => DRAIN.push(draft, &[*hw as u64]),
+        Line::Issue { hw, tag } => ISSUE.push(draft, &[*hw as u64, *tag as u64]),
+        Line::Done(tag) => DONE.push(draft, &[*tag as u64]),
+        Line::Back(tag) => BACK.push(draft, &[*tag as u64]),
+        Line::Depth(depth) => DEPTH.push(draft, &[*depth]),
+        Line::Tick => TICK.push(draft, &[]),
+        Line::Run(rounds) => RUN.push(draft, &[*rounds]),
+    }
+}
+
 /// The title record: the version, and the numbers of a title, each in its own range, and at least as many submitters
 /// as hardware queues.
 #[derive(Clone, Copy, Drop)]
@@ -208,29 +250,14 @@ impl LineForm for TitleForm {
     }
 
     fn line(&self, row: &ByteRecord) -> Result<(u64, Title), Why> {
-        let Some(version) = version_of(row, b"blk-script", LATEST) else {
+        let Some(version) = version_of(row, &SCRIPT.word, LATEST) else {
             return Err(Why::Title);
         };
-        let slots = [
-            Slot::Given,
-            Slot::Given,
-            Slot::Number {
-                least: 1,
-                most: most_tags(version),
-            },
-            Slot::Number {
-                least: 1,
-                most: MAX_QUEUES as u64,
-            },
-            Slot::Number {
-                least: 1,
-                most: MAX_SOFT_DEPTH,
-            },
-            Slot::Number {
-                least: 1,
-                most: MAX_SOFT_QUEUES,
-            },
-        ];
+        let mut slots = SCRIPT.slots;
+        slots[TAGS] = Slot::Number {
+            least: 1,
+            most: most_tags(version),
+        };
         match read_fields(row, &slots) {
             Ok(numbers) => {
                 let title = Title {

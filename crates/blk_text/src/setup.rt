@@ -1,30 +1,49 @@
 //! The setup record, which is the second one of a script and of a trace.
 
-ghost use Rattle.std.specs.Prelude.{◌≡◌, ◌≤◌, ◌<◌, ◌∷◌, IfOk, IfErr, codes};
+ghost use Rattle.std.specs.Prelude.{◌≡◌, ◌++◌, ◌≤◌, ◌<◌, ◌∷◌, [], IfOk, IfErr, OnOk, codes};
 ghost use Rattle.csv.specs.Records.{fields_of};
 ghost use Rattle.blk_lists.specs.Fields.{FieldsSpell};
 ghost use Rattle.blk_lists.specs.Reads.{IsRowOf, IsWrongLine};
+ghost use Rattle.blk_lists.specs.Texts.{rows_text};
 ghost use Rattle.blk_lists.specs.Words.{StartsWith};
-ghost use Rattle.blk_text.specs.SetupRecord.{setup_cells, setup as setup_part};
+ghost use Rattle.blk_text.specs.SetupRecord.{setup_cells, setup_row, IsWholeSetup, setup as setup_part};
 ghost use Rattle.blk_text.specs.Versions.{most_tags};
+ghost use Rattle.drafts.specs.Drafts.{drafted};
 ghost use Rattle.blk_bio.specs.declared.limits.TheConstants.{MAX_QUEUES as ALL_QUEUES};
 ghost use Rattle.blk_trace.specs.declared.setup.TheConstants.{MAX_DEPTH as MAX_DEPTH};
 ghost use Rattle.blk_lists.specs.Tables.{slots_by};
 ghost use Rattle.blk_lists.specs.declared.fields.Slot.TheVariants as slot;
 
-use crate::kinds::Kind;
 use blk_bio::{Limits, MAX_QUEUES, MAX_SECTORS, MAX_SEGMENTS};
 use blk_lists::fault::Why;
 use blk_lists::fields::{Slot, begins_with, read_fields, without_word};
 use blk_lists::items::LineForm;
+use blk_lists::kinds::Kind;
 use blk_trace::{MAX_DEPTH, MAX_EXPIRIES, Setup};
 use csv::ByteRecord;
+use drafts::Block;
+use std::alloc::AllocError;
 
 /// How many fields a record of a script and of a trace has.
 pub const WIDTH: usize = 6;
 
 /// The latest version of scripts and of traces, which is written.
 pub const LATEST: u64 = 2;
+
+/// Where the tags stand in a title of a script or a trace.
+pub const TAGS: usize = 2;
+
+/// The tags of a title, in the latest version.
+pub const DEPTHS: Slot = Slot::Number {
+    least: 1,
+    most: MAX_DEPTH,
+};
+
+/// The hardware queues of a title.
+pub const QUEUES: Slot = Slot::Number {
+    least: 1,
+    most: MAX_QUEUES as u64,
+};
 
 /// The most tags of a version 1 script or trace.
 pub const MAX_DEPTH_1: u64 = 64;
@@ -46,7 +65,7 @@ const EXPIRY: Slot = Slot::Number {
 };
 
 /// The record of a setup: the expiries of reads and of writes, the most sectors and segments of a request, and an empty field.
-pub const SETUP: Kind<5> = Kind {
+pub const SETUP: Kind<5, WIDTH> = Kind {
     word: *b"setup",
     since: 1,
     slots: [
@@ -122,4 +141,19 @@ impl LineForm for SetupForm {
     fn line(&self, row: &ByteRecord) -> Result<Setup, Why> {
         setup_at(row, self.depth, self.hw)
     }
+}
+
+/// Adds the setup record.
+pub fn push_setup(draft: &mut Block, setup: &Setup) -> Result<(), AllocError>
+    ensures text { OnOk result (drafted draft.new ≡ drafted draft.old ++ rows_text (setup_row setup.now ∷ [])) }
+    ensures whole { OnOk result (IsWholeSetup setup.now) }
+{
+    let limits = setup.limits();
+    let numbers = [
+        setup.read_expire(),
+        setup.write_expire(),
+        limits.max_sectors(),
+        limits.max_segments(),
+    ];
+    SETUP.push(draft, &numbers)
 }

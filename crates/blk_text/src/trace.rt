@@ -5,47 +5,27 @@ ghost use Rattle.std.specs.Io.KnownBytes.{Appends};
 ghost use Rattle.blk_trace.specs.Events.{bios_of};
 ghost use Rattle.blk_lists.specs.Texts.{rows_text};
 ghost use Rattle.drafts.specs.Parts.{AppendsPart};
-ghost use Rattle.blk_text.specs.BioRecord.{bio_row};
 ghost use Rattle.blk_lists.specs.Cells.{IsPlainWord};
 ghost use Rattle.drafts.specs.Drafts.{drafted};
-ghost use Rattle.blk_text.specs.SetupRecord.{setup_row, IsWholeSetup};
 ghost use Rattle.blk_text.specs.TraceRecords.{group_rows, event_rows, trace_rows, BioFits, EventFits, IsTrace};
 ghost use Rattle.blk_text.specs.TraceForm.{SpellsTrace, SpellsTraceIn};
 ghost use Rattle.blk_text.specs.Versions.{latest};
 
-use crate::heads::{BACK, DEPTH, DONE, ISSUE, JOIN, RELEASE, TICK};
-use crate::kinds::Kind;
-use crate::setup::{LATEST, SETUP};
+use crate::bios::push_bio;
+use crate::heads::{BACK, DEPTH, DONE, ISSUE, JOIN, RELEASE, TICK, TRACE};
+use crate::setup::{LATEST, WIDTH, push_setup};
 use blk_bio::{Bio, MAX_SEGMENTS, Request};
-use blk_lists::writing::push_row;
-use blk_trace::{Event, Setup, Trace};
-use drafts::pieces::{put, put_two};
+use blk_lists::kinds::Kind;
+use blk_trace::{Event, Trace};
 use drafts::{Block, WriteFault, write_whole};
 use std::alloc::{AllocError, Allocator, Global};
 use std::io::Write;
-
-/// Adds the record of a bio.
-#[inline]
-fn push_bio(draft: &mut Block, bio: &Bio) -> Result<(), AllocError>
-    ensures text { OnOk result (drafted draft.new ≡ drafted draft.old ++ rows_text (bio_row bio.now ∷ [])) }
-    ensures fits { OnOk result (BioFits bio.now) }
-{
-    let start = draft.room()?;
-    let id = bio.id();
-    let buf = &mut draft.block;
-    let head = put(b"bio,", buf, start);
-    let named = put_two(id.submitter as u64, id.serial, buf, head);
-    let way = put(&[b',', bio.dir().letter(), b','], buf, named);
-    let placed = put_two(bio.first(), bio.sectors(), buf, way);
-    draft.at = put(b"\n", buf, placed);
-    Ok(())
-}
 
 /// Adds the records of a group: its own, and those of its bios.
 #[inline(always)]
 fn push_group<const L: usize>(
     draft: &mut Block,
-    kind: &Kind<L>,
+    kind: &Kind<L, WIDTH>,
     id: u64,
     bios: &[Bio],
 ) -> Result<(), AllocError>
@@ -80,21 +60,6 @@ fn push_event<A: Allocator + Clone>(
     }
 }
 
-/// Adds the setup record.
-fn push_setup(draft: &mut Block, setup: &Setup) -> Result<(), AllocError>
-    ensures text { OnOk result (drafted draft.new ≡ drafted draft.old ++ rows_text (setup_row setup.now ∷ [])) }
-    ensures whole { OnOk result (IsWholeSetup setup.now) }
-{
-    let limits = setup.limits();
-    let numbers = [
-        setup.read_expire(),
-        setup.write_expire(),
-        limits.max_sectors(),
-        limits.max_segments(),
-    ];
-    SETUP.push(draft, &numbers)
-}
-
 /// The text of a trace, in the latest version, as [`write_trace`] writes it.
 pub fn trace_text<A: Allocator + Clone>(
     alloc: Global,
@@ -112,7 +77,7 @@ pub fn trace_text<A: Allocator + Clone>(
         setup.hw() as u64,
         events.len() as u64,
     ];
-    push_row(&mut draft, b"blk-trace", &numbers, 1)?;
+    TRACE.push(&mut draft, &numbers)?;
     push_setup(&mut draft, &setup)?;
     for i in 0..events.len() {
         push_event(&mut draft, &events[i])?;

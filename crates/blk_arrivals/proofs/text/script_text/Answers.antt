@@ -6,7 +6,7 @@ use Rattle.blk_lists.specs.Texts.{rows_text}
 use Rattle.blk_text.specs.Script.{scripted, script_rows, SpellsVersion}
 use Rattle.blk_text.specs.SetupRecord.{setup_row}
 use Rattle.blk_text.specs.Versions.{latest}
-use Rattle.blk_arrivals.specs.Rows.{line_row}
+use Rattle.blk_text.specs.StepRecords.{step_row}
 use Rattle.blk_arrivals.proofs.Spelling.{script_title, rows_are, text_spells, three_first}
 use Rattle.blk_arrivals.proofs.text.script_text.Goals as goal
 use Rattle.blk_arrivals.proofs.text.script_text.Goals.{After-finish}
@@ -15,8 +15,8 @@ written : (c : After-finish) → IfOk c.finish.result (λ v. v.items ≡ rows_te
 written c =
     let s = scripted c.args.script.now in
     let all : drafted c.push_lines.new.draft ≡ rows_text (script_rows latest s) =
-    three_first (script_title s) (setup_row s.setup) (map line_row s.lines) (drafted c.new-draft.result) (drafted c.push_row.new.draft) (drafted c.push_setup.new.draft) (drafted c.push_lines.new.draft) c.new-draft.ensures
-    (rw (c.depth.ensures.value, c.hw.ensures.value) at c.in_ok-push_row.ensures.text) c.in_ok-push_setup.ensures (rw c.as_slice.ensures.value at c.in_ok-push_lines.ensures)
+    three_first (script_title s) (setup_row s.setup) (map step_row s.lines) (drafted c.new-draft.result) (drafted c.push.new.draft) (drafted c.push_setup.new.draft) (drafted c.push_lines.new.draft) c.new-draft.ensures
+    (rw (c.depth.ensures.value, c.hw.ensures.value) at c.in_ok-push.ensures.text) c.in_ok-push_setup.ensures.text (rw c.as_slice.ensures.value at c.in_ok-push_lines.ensures)
     ∙ ap rows_text (sym (rows_are s)) in
     rw all at c.finish.ensures
 

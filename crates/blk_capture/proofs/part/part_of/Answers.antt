@@ -1,8 +1,6 @@
-use Rattle.std.proofs.Common.{ℕ, ◌≡◌, ◌≤◌, ◌+◌, ◌-◌, ◌∙◌, List, length, map, min, sym, ap, subst, arith}
+use Rattle.std.proofs.Common.{◌≡◌, ◌-◌, ◌∙◌, List, length, map, sym, ap, subst, arith}
 use Rattle.blk_capture.specs.Parting.{before, part, bio_in, fate_in}
 use Rattle.blk_capture.specs.Requests.{AreTimed}
-use Rattle.blk_capture.specs.declared.requests.Bio.{Bio}
-use Rattle.blk_capture.specs.declared.fates.Fate.{Fate}
 use Rattle.blk_capture.specs.declared.requests.Request.{Request}
 use Rattle.blk_capture.proofs.Parted.{length_part, part_is, part_timed}
 use Rattle.blk_capture.proofs.part.part_of.Goals as goal

@@ -1,6 +1,6 @@
 use Rattle.std.proofs.Common.{ℕ}
-use Rattle.blk_capture.specs.Requests.{AreWithin, AreGone}
-use Rattle.blk_capture.specs.Taken.{ArePlacedBios}
+use Rattle.blk_capture.specs.Requests.{AreGone}
+use Rattle.blk_capture.specs.Inside.Taken.{ArePlacedBios, AreWithin}
 use Rattle.blk_capture.proofs.requests.bios_of.Given as goal
 
 abbrev pub invariant-loop-bio : goal.invariant-loop-bio

@@ -1,6 +1,7 @@
 use Rattle.std.proofs.Common.{ℕ, ◌≡◌, ◌∙◌, List, length, sym, subst}
 use Rattle.blk_capture.specs.Fates.{AreOfTaken}
-use Rattle.blk_capture.specs.Requests.{AreTallied, AreWithin, AreGone}
+use Rattle.blk_capture.specs.Requests.{AreTallied, AreGone}
+use Rattle.blk_capture.specs.Inside.Taken.{AreWithin}
 use Rattle.blk_capture.specs.declared.requests.Bio.{Bio}
 use Rattle.blk_capture.proofs.Settling.{have_bios_of, tallied_timed, tallied_due}
 use Rattle.blk_capture.proofs.requests.settle.Goals as goal

@@ -1,4 +1,4 @@
-use Rattle.std.proofs.Common.{ℕ, ◌≡◌, ◌<◌, ◌≤◌, ◌∙◌, length, get_or, sym, ap, subst, arith}
+use Rattle.std.proofs.Common.{ℕ, ◌<◌, ◌∙◌, length, sym, arith}
 use Rattle.blk_capture.proofs.Flying.{bound_more, at_last}
 use Rattle.blk_capture.proofs.summary.most_at_once.Goals as goal
 use Rattle.blk_capture.proofs.summary.most_at_once.Goals.{then-count-most, else-count-most}

@@ -17,7 +17,7 @@ returns c =
     let title = title_by (codes "blk-certificate") counted_cells (1, (certificate.depth, length certificate.commands.items)) in
     let bound = bound_row certificate.bound in
     let lines = map (row_by served_cells) (zip certificate.commands.items certificate.rounds.items) in
-    let first = two_first title (bound ∷ []) (drafted c.new-draft.result) (drafted c.push_row.new.draft) (drafted c.push_bound.new.draft) c.new-draft.ensures (rw commands at c.in_ok-push_row.ensures.text) c.in_ok-push_bound.ensures.text in
+    let first = two_first title (bound ∷ []) (drafted c.new-draft.result) (drafted c.push.new.draft) (drafted c.push_bound.new.draft) c.new-draft.ensures (rw commands at c.in_ok-push.ensures.text) c.in_ok-push_bound.ensures.text in
     let all : drafted c.push_schedule.new.draft ≡ rows_text ((title ∷ bound ∷ []) ++ lines) =
     rw (commands, rounds) at c.in_ok-push_schedule.ensures.text ∙ ap (λ (k : List ℕ). k ++ rows_text lines) first ∙ sym (rows_text-append (title ∷ bound ∷ []) lines) in
     rw (all ∙ ap rows_text (sym (rows_are (claimed certificate)))) at c.finish.ensures

@@ -1,6 +1,6 @@
 use Rattle.std.proofs.Common.{◌≡◌, ◌+◌, ℕ, ap, length, arith, refl, inr}
 use Rattle.std.proofs.lemmas.List.{length-map}
-use Rattle.edd_check.specs.declared.Command.{Command}
+use Rattle.edd_commands.specs.declared.Command.{Command}
 use Rattle.blk_lists.proofs.ClaimLaws.{claim_in, body_read, bound_halts, served_halts, whole_halts}
 use Rattle.blk_lists.proofs.certificate.read_claim_body.Goals as goal
 

@@ -10,7 +10,7 @@ use Rattle.blk_lists.proofs.commands.commands_text.Goals as goal
 pub loop-i-init : goal.loop-i-init
 loop-i-init c =
     record {
-      text = one_first (title_by (codes "blk-commands") depth_cells (1, c.args.depth)) (drafted c.new-draft.result) (drafted c.push_row.new.draft) c.new-draft.ensures c.in_ok-push_row.ensures.text;
+      text = one_first (title_by (codes "blk-commands") depth_cells (1, c.args.depth)) (drafted c.new-draft.result) (drafted c.push.new.draft) c.new-draft.ensures c.in_ok-push.ensures.text;
     }
 
 pub loop-i-preserved : goal.loop-i-preserved

@@ -1,12 +1,12 @@
 use Rattle.blk_lists.specs.declared.proof.ProofKind.TheVariants as kind
-use Rattle.blk_lists.proofs.ProofLaws.{of_wrong, wrong_of, neither_wrong, claim_named, met_named, spelled_once, spelled_or_wrong, spelled_apart, proof_tells}
+use Rattle.blk_lists.proofs.ProofLaws.{of_wrong, wrong_of, neither_wrong, claim_named, on_time_named, spelled_once, spelled_or_wrong, spelled_apart, proof_tells}
 use Rattle.blk_lists.proofs.laws.certificates_of_both_forms.Goals as goal
 
 pub returns-clause-lateness : goal.returns-clause-lateness
 returns-clause-lateness c = λ rows at w s. (of_wrong kind.Lateness rows at w s, wrong_of kind.Lateness rows at w s)
 
 pub returns-clause-met : goal.returns-clause-met
-returns-clause-met c = λ rows at w s. (of_wrong kind.Met rows at w s, wrong_of kind.Met rows at w s)
+returns-clause-met c = λ rows at w s. (of_wrong kind.OnTime rows at w s, wrong_of kind.OnTime rows at w s)
 
 pub returns-clause-neither : goal.returns-clause-neither
 returns-clause-neither c = neither_wrong
@@ -14,8 +14,8 @@ returns-clause-neither c = neither_wrong
 pub returns-clause-spelled_lateness : goal.returns-clause-spelled_lateness
 returns-clause-spelled_lateness c = claim_named
 
-pub returns-clause-spelled_met : goal.returns-clause-spelled_met
-returns-clause-spelled_met c = met_named
+pub returns-clause-spelled_on_time : goal.returns-clause-spelled_on_time
+returns-clause-spelled_on_time c = on_time_named
 
 pub returns-clause-once : goal.returns-clause-once
 returns-clause-once c = spelled_once

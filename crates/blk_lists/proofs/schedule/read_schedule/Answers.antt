@@ -1,7 +1,7 @@
 use Rattle.std.proofs.Common.{◌≡◌, ◌+◌, ap, length, arith, inr}
 use Rattle.std.proofs.lemmas.List.{length-map}
 use Rattle.std.specs.Prelude.{ℕ}
-use Rattle.edd_check.specs.declared.Command.{Command}
+use Rattle.edd_commands.specs.declared.Command.{Command}
 use Rattle.blk_lists.specs.Schedule.{ran_form}
 use Rattle.blk_lists.proofs.Reading.{halts_err, halts_reached}
 use Rattle.blk_lists.proofs.ScheduleLaws.{ran_in, ran_read, title_halts, body_halts, whole_halts}

@@ -17,5 +17,5 @@ returns c =
     let rounds = c.as_slice.ensures.value in
     let title = title_by (codes "blk-schedule") counted_cells (1, (schedule.depth, length schedule.commands.items)) in
     let lines = map (row_by served_cells) (zip schedule.commands.items schedule.rounds.items) in
-    let all = two_first title lines (drafted c.new-draft.result) (drafted c.push_row.new.draft) (drafted c.push_schedule.new.draft) c.new-draft.ensures (rw commands at c.in_ok-push_row.ensures.text) (rw (commands, rounds) at c.in_ok-push_schedule.ensures.text) in
+    let all = two_first title lines (drafted c.new-draft.result) (drafted c.push.new.draft) (drafted c.push_schedule.new.draft) c.new-draft.ensures (rw commands at c.in_ok-push.ensures.text) (rw (commands, rounds) at c.in_ok-push_schedule.ensures.text) in
     rw (all ∙ ap rows_text (sym (rows_are (ran_of schedule)))) at c.finish.ensures

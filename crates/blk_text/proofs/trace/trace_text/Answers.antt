@@ -11,8 +11,8 @@ pub loop-i-init : goal.loop-i-init
 loop-i-init g c =
     let setup = c.setup-setup.ensures in
     record {
-      text = two_first (title_row c.args.trace.now.setup (length c.events-events.result.now)) (setup_row c.args.trace.now.setup ∷ []) (drafted c.new-draft.result) (drafted c.push_row.new.draft) (drafted c.push_setup.new.draft)
-          c.new-draft.ensures (rw (c.depth.ensures.value, c.hw.ensures.value, setup) at c.in_ok-push_row.ensures.text) (rw setup at c.in_ok-push_setup.ensures.text);
+      text = two_first (title_row c.args.trace.now.setup (length c.events-events.result.now)) (setup_row c.args.trace.now.setup ∷ []) (drafted c.new-draft.result) (drafted c.push.new.draft) (drafted c.push_setup.new.draft)
+          c.new-draft.ensures (rw (c.depth.ensures.value, c.hw.ensures.value, setup) at c.in_ok-push.ensures.text) (rw setup at c.in_ok-push_setup.ensures.text);
       fits = All-nil EventFits;
     }
 

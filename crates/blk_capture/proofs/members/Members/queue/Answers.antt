@@ -1,7 +1,7 @@
 use Rattle.std.proofs.Common.{List, refl, sym, subst}
 use Rattle.std.specs.Result.{is_ok}
 use Rattle.std.proofs.lemmas.Bool.{cond_both}
-use Rattle.blk_capture.specs.Members.{AreOpened}
+use Rattle.blk_capture.specs.Inside.Members.{AreOpened}
 use Rattle.blk_capture.specs.declared.members.Queued.{Queued}
 use Rattle.blk_capture.proofs.Opened.{opened_more}
 use Rattle.blk_capture.proofs.members.Members.queue.Goals as goal

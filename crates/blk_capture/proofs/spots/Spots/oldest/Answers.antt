@@ -1,6 +1,6 @@
 use Rattle.std.proofs.Common.{◌∙◌, sym}
 use Rattle.std.specs.BTreeMap.{get}
-use Rattle.blk_capture.specs.Spots.{key_cmp}
+use Rattle.blk_capture.specs.Inside.Spots.{key_cmp}
 use Rattle.blk_capture.proofs.Spotting.{oldest_at, none_oldest}
 use Rattle.blk_capture.proofs.spots.Spots.oldest.Goals as goal
 

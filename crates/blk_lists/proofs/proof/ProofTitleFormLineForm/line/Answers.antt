@@ -14,9 +14,9 @@ returns-in-Err-clause-err c =
     title_wrong kind.Lateness (fields_of c.args.row.now) c.in-Err.why starts c.in-Err.ensures.err
 
 pub returns-in-Ok-counted_title-clause-ok : goal.returns-in-Ok-counted_title-clause-ok
-returns-in-Ok-counted_title-clause-ok c = title_line kind.Met (fields_of c.args.row.now) c.in-Ok-counted_title.title c.in-Ok-counted_title.ensures.ok
+returns-in-Ok-counted_title-clause-ok c = title_line kind.OnTime (fields_of c.args.row.now) c.in-Ok-counted_title.title c.in-Ok-counted_title.ensures.ok
 
 pub returns-in-Err-counted_title-clause-err : goal.returns-in-Err-counted_title-clause-err
 returns-in-Err-counted_title-clause-err c =
     let starts : StartsWith (codes "blk-met") (fields_of c.args.row.now) = search rules in
-    title_wrong kind.Met (fields_of c.args.row.now) c.in-Err-counted_title.why starts c.in-Err-counted_title.ensures.err
+    title_wrong kind.OnTime (fields_of c.args.row.now) c.in-Err-counted_title.why starts c.in-Err-counted_title.ensures.err

@@ -1,0 +1,276 @@
+//! Certificates of the greatest number of commands that a schedule can meet.
+
+ghost use Rattle.std.specs.Prelude.{◌≡◌, ◌⊎◌, ◌+◌, ◌*◌, ◌++◌, ◌≤◌, ◌<◌, ◌-◌, ◌^◌, ◌∷◌, [], All, IfOk, IfErr, IfSome, OnOk, map, length, codes};
+ghost use Rattle.std.specs.Io.KnownBytes.{Appends};
+ghost use Rattle.edd_check.specs.Window.{WindowInRange};
+ghost use Rattle.parts.specs.Parts.{Begins};
+ghost use Rattle.blk_lists.specs.Reads.{IsOutside, Reads, Halts, Reaches};
+ghost use Rattle.blk_lists.specs.Tables.{row_by};
+ghost use Rattle.blk_lists.specs.Texts.{rows_text, Adds};
+ghost use Rattle.drafts.specs.Parts.{AppendsPart};
+ghost use Rattle.drafts.specs.Drafts.{drafted};
+ghost use Rattle.blk_lists.specs.Titles.{IsCounted};
+ghost use Rattle.blk_lists.specs.OnTime.{on_time_claimed, on_time_form, IsOnTimeClaim, SpellsOnTime, OnTimeClaimFault, on_time_rows, text_of, window_cells, windows, on_time_body, on_time_told};
+
+use crate::certificate::{ServedForm, push_schedule, split};
+use crate::fault::{TextFault, Why};
+use crate::fields::{COUNT, ROUND, Slot, begins_with, read_fields, without_word};
+use crate::items::{Each, LineForm, gather, read_line, read_lines};
+use crate::kinds::Kind;
+use crate::source::Records;
+use crate::titles::{COUNTED, CountedTitle};
+use csv::ByteRecord;
+use drafts::{Block, WriteFault, write_whole};
+use edd_check::Window;
+use edd_commands::{Command, MAX_COMMANDS};
+use parts::Repeats;
+use std::alloc::{AllocError, Global};
+use std::io::{Read, Write};
+
+/// The title record.
+pub const MET: Kind<7, 4> = Kind {
+    word: *b"blk-met",
+    since: 1,
+    slots: COUNTED,
+};
+
+/// A schedule of commands, with the claim that none meets more of them.
+#[derive(Debug, Drop)]
+pub struct OnTimeCertificate {
+    /// How many commands a round has room for.
+    pub depth: u64,
+    /// The commands, each by its id and its release and due rounds.
+    pub commands: Vec<Command>,
+    /// The round of each command, by its place.
+    pub rounds: Vec<u64>,
+    /// How many commands run no later than they are due.
+    pub met: u64,
+    /// Windows of rounds, each from its `from` to its `due`, that are to bound what any schedule meets.
+    pub cover: Vec<Window>,
+}
+
+/// The record of the numbers: how many commands are met, how many windows there are, and an empty field.
+pub const NUMBERS: Kind<3, 4> = Kind {
+    word: *b"met",
+    since: 1,
+    slots: [Slot::Given, COUNT, COUNT, Slot::Blank],
+};
+
+/// The record of a window: its first round, its last round, and an empty field.
+pub const WINDOW: Kind<6, 4> = Kind {
+    word: *b"window",
+    since: 1,
+    slots: [Slot::Given, ROUND, ROUND, Slot::Blank],
+};
+
+/// The record that says how many commands are met, and how many windows there are.
+#[derive(Clone, Copy, Drop)]
+struct NumbersForm;
+
+impl LineForm for NumbersForm {
+    ghost use Rattle.blk_lists.specs.OnTime.{on_time_numbers};
+
+    type Line = (u64, u64);
+
+    ghost part = { λ _. on_time_numbers };
+
+    #[tactic(auto, using(crate::proofs::OnTimeLaws::numbers_one))]
+    fn gone(&self) -> Why {
+        Why::Word
+    }
+
+    fn line(&self, row: &ByteRecord) -> Result<(u64, u64), Why> {
+        if !begins_with(row, &NUMBERS.word) {
+            return Err(without_word(row, 4));
+        }
+        match read_fields(row, &NUMBERS.slots) {
+            Ok(numbers) => Ok((numbers[1], numbers[2])),
+            Err(why) => Err(why),
+        }
+    }
+}
+
+/// The record of a window.
+#[derive(Clone, Copy, Drop)]
+struct WindowForm;
+
+impl LineForm for WindowForm {
+    ghost use Rattle.blk_lists.specs.OnTime.{window as window_part};
+
+    type Line = Window;
+
+    ghost part = { λ _. window_part };
+
+    #[tactic(auto, using(crate::proofs::OnTimeLaws::window_one))]
+    fn gone(&self) -> Why {
+        Why::Count
+    }
+
+    fn line(&self, row: &ByteRecord) -> Result<Window, Why> {
+        if !begins_with(row, &WINDOW.word) {
+            return Err(without_word(row, 4));
+        }
+        match read_fields(row, &WINDOW.slots) {
+            Ok(numbers) => Ok(Window {
+                from: numbers[1],
+                due: numbers[2],
+            }),
+            Err(why) => Err(why),
+        }
+    }
+}
+
+/// So many windows.
+fn read_windows<R: Read + Drop>(
+    alloc: Global,
+    records: &mut Records<R>,
+    count: u64,
+) -> Result<Vec<Window>, TextFault>
+    requires { records.old.at + count < 2 ^ 64 - 1 }
+    ensures ok { IfOk result (λ v. Reads (windows count) records.old.left records.new.left v.items) }
+    ensures fit { IfOk result (λ v. All WindowInRange v.items × (length v.items ≡ count)) }
+    ensures err { IfErr result (λ f. Halts records.new.failed (windows count) records.old.left records.old.at f.at f.why) }
+    ensures last { IfErr result (λ f. f.at ≡ records.new.at) }
+    ensures reads { (records.old.at ≤ records.new.at) × (records.new.at ≤ records.old.at + count) }
+    ensures end { IfOk result (λ v. records.new.at ≡ records.old.at + length v.items) }
+{
+    let form = Each { form: WindowForm };
+    let mut cover = Vec::new(alloc);
+    match gather(alloc, records, &form, Repeats::Exactly(count), &mut cover) {
+        Ok(true) => unreachable!(),
+        Ok(false) => Ok(cover),
+        Err(fault) => Err(fault),
+    }
+}
+
+/// The rest of a certificate after its title.
+pub(crate) fn read_on_time_body<R: Read + Drop>(
+    alloc: Global,
+    records: &mut Records<R>,
+    depth: u64,
+    count: u64,
+) -> Result<OnTimeCertificate, TextFault>
+    requires at { records.old.at ≡ 1 }
+    requires counted { IsCounted (depth, count) }
+    ensures ok { IfOk result (λ c. IfSome records.old.left (λ rows. Begins (on_time_body count) rows (on_time_told (on_time_claimed c)) [])) }
+    ensures told { IfOk result (λ c. (c.depth ≡ depth) × (length c.commands.items ≡ count)) }
+    ensures in_range { IfOk result (λ c. IsOnTimeClaim (on_time_claimed c)) }
+    ensures last { IfErr result (λ f. f.at ≡ records.new.at) }
+    ensures err { IfErr result (λ f. Halts records.new.failed (on_time_body count) records.old.left 1 f.at f.why) }
+    ensures reads { (2 ≤ records.new.at) × (records.new.at ≤ 2 * MAX_COMMANDS + 3) }
+    ensures end { IfOk result (λ c. records.new.at ≡ length c.cover.items + length c.commands.items + 3) }
+{
+    let (met, many) = match read_line(records, &NumbersForm) {
+        Ok(numbers) => numbers,
+        Err(fault) => return Err(fault),
+    };
+    let cover = match read_windows(alloc, records, many) {
+        Ok(cover) => cover,
+        Err(fault) => return Err(fault),
+    };
+    let served = match read_lines(alloc, records, ServedForm, Repeats::Exactly(count)) {
+        Ok(served) => served,
+        Err(fault) => return Err(fault),
+    };
+    match split(alloc, served.as_slice()) {
+        Ok((commands, rounds)) => Ok(OnTimeCertificate {
+            depth,
+            commands,
+            rounds,
+            met,
+            cover,
+        }),
+        Err(AllocError) => Err(records.fault(Why::Memory)),
+    }
+}
+
+/// The certificate of a text of records of four fields: a title with the depth and the number of commands, how many of
+/// them are met and how many windows there are, each window, and each command with its round. No record was read before.
+///
+/// Whether the windows bound what a schedule meets is left to [`edd_check::check_on_time`]: here they are numbers alone.
+///
+/// The fault is the first one: of the least record, and in it the first in the order of [`Why`].
+/// [`Why::Read`] and [`Why::Memory`] come at the record that is being read. A second record that isn't there or begins
+/// with another word than `met`, or another word in the place of an announced window, is [`Why::Word`]; a text that ends
+/// before an announced window or command came is [`Why::Count`], one past the last record. No record is asked for past
+/// that of the fault, and never more than 2,000,003.
+pub fn read_on_time<R: Read + Drop>(
+    alloc: Global,
+    records: &mut Records<R>,
+) -> Result<OnTimeCertificate, TextFault>
+    requires { records.old.at ≡ 0 }
+    ensures ok { IfOk result (λ c. IfSome records.old.left (λ rows. SpellsOnTime rows (on_time_claimed c))) }
+    // also where the reader's bytes are not known
+    ensures in_range { IfOk result (λ c. IsOnTimeClaim (on_time_claimed c)) }
+    // at the record that was asked for last: none was read past it
+    ensures last { IfErr result (λ f. f.at ≡ records.new.at) }
+    ensures err { IfErr result (λ f. IfSome records.old.left (λ rows.
+        IsOutside records.new.failed f.why ⊎ OnTimeClaimFault rows f.at f.why)) }
+    // also where it came from outside: at most one past the last record, and no record before it is wrong
+    ensures reached { IfErr result (λ f. Reaches on_time_form records.old.left 0 f.at) }
+    ensures reads { (1 ≤ records.new.at) × (records.new.at ≤ 2 * MAX_COMMANDS + 3) }
+    // the last thing that was asked for is the record after the commands, which there is not
+    ensures end { IfOk result (λ c. records.new.at ≡ length c.cover.items + length c.commands.items + 3) }
+{
+    let form = CountedTitle { kind: MET };
+    let (_, (depth, count)) = match read_line(records, &form) {
+        Ok(title) => title,
+        Err(fault) => return Err(fault),
+    };
+    match read_on_time_body(alloc, records, depth, count) {
+        Ok(certificate) => Ok(certificate),
+        Err(fault) => Err(fault),
+    }
+}
+
+/// Adds the record of each window.
+fn push_cover(draft: &mut Block, cover: &[Window]) -> Result<(), AllocError>
+    ensures text { OnOk result (Adds draft.old draft.new (map (λ w. codes "window" ∷ row_by window_cells w) cover.now)) }
+{
+    for i in 0..cover.len() {
+        let window = cover[i];
+        WINDOW.push(draft, &[window.from, window.due])?;
+    }
+    Ok(())
+}
+
+/// The text of a certificate.
+pub fn on_time_text(alloc: Global, certificate: &OnTimeCertificate) -> Result<Vec<u8>, AllocError>
+    requires { IsOnTimeClaim (on_time_claimed certificate.now) }
+    ensures { IfOk result (λ v. v.items ≡ rows_text (on_time_rows (on_time_claimed certificate.now))) }
+{
+    let mut draft = Block::new(alloc);
+    let commands = certificate.commands.as_slice();
+    let cover = certificate.cover.as_slice();
+    MET.push(&mut draft, &[1, certificate.depth, commands.len() as u64])?;
+    NUMBERS.push(&mut draft, &[certificate.met, cover.len() as u64])?;
+    push_cover(&mut draft, cover)?;
+    push_schedule(&mut draft, commands, certificate.rounds.as_slice())?;
+    draft.finish()
+}
+
+/// Writes the text of a certificate, at once where all of it could be made.
+///
+/// There are at most 1,000,000 commands with a round each and at most 1,000,000 windows, and the numbers lie in the ranges
+/// of the form.
+///
+/// [`WriteFault::Write`]: the writer answered a fault; what it took before, a first part of the text, is out, and
+/// nothing says how much that is. [`WriteFault::Memory`]: nothing was handed to the writer.
+pub fn write_on_time<W: Write>(
+    alloc: Global,
+    certificate: &OnTimeCertificate,
+    writer: &mut W,
+) -> Result<(), WriteFault>
+    requires { IsOnTimeClaim (on_time_claimed certificate.now) }
+    ensures ok { OnOk result (Appends (W.contents writer.old) (W.contents writer.new) (text_of (on_time_claimed certificate.now))) }
+    // the records of that text spell it
+    ensures spells { SpellsOnTime (on_time_rows (on_time_claimed certificate.now)) (on_time_claimed certificate.now) }
+    ensures memory { IfErr result (λ f. f ≡ WriteFault.Memory → writer.new ≡ writer.old) }
+    // whatever the answer
+    ensures part { AppendsPart (W.contents writer.old) (W.contents writer.new) (rows_text (on_time_rows (on_time_claimed certificate.now))) }
+{
+    match on_time_text(alloc, certificate) {
+        Ok(text) => write_whole(writer, text.as_slice()),
+        Err(AllocError) => Err(WriteFault::Memory),
+    }
+}
