@@ -53,7 +53,7 @@ pub struct Asked {
     pub threads: Option<u64>,
 }
 
-/// Adds `deadline` with batches of so many requests, once for each number of these, with front merges and without.
+/// Adds `deadline` with this batch size, once for each of these `writes_starved`, with front merges and without.
 fn push_batch(all: &mut Vec<Sched>, fifo_batch: u16, starved: &[u16]) -> Result<(), AllocError>
     ensures { OnOk result (all.new.items ≡ all.old.items ++ batch_rows starved.now fifo_batch) }
 {

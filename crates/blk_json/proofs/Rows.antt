@@ -15,7 +15,7 @@ use Rattle.blk_report.specs.declared.figures.Report.{Report}
 use Rattle.blk_report.specs.Comparison.{IsFirstBest, HasNoBest}
 use Rattle.blk_report.specs.Table.{IsBestPlace}
 use Rattle.blk_json.specs.Tables.{row_value, table_value, IsTableJson}
-use Rattle.blk_json.specs.Tokens.{row_tokens}
+use Rattle.blk_json.specs.Inside.Tokens.{row_tokens}
 
 -- the names behind their references
 abbrev pub names_of : List (Bor (List ℕ)) → List (List ℕ)

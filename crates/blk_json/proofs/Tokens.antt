@@ -8,7 +8,7 @@ use Rattle.json.specs.Token as token
 use Rattle.json.specs.Print.{print}
 use Rattle.json.specs.Tree.{json_tokens, items_tokens, members_tokens}
 use Rattle.blk_json.specs.Values.{items_of, members_of, object_of}
-use Rattle.blk_json.specs.Tokens.{member_tokens, tokens_of}
+use Rattle.blk_json.specs.Inside.Tokens.{member_tokens, tokens_of}
 
 -- of the same tokens
 pub told : {V E : Type 0} (r : Result V E) (items : V → List ℕ) (p q : List token.Token) → p ≡ q → IfOk r (λ v. items v ≡ print p ++ 10 ∷ []) → IfOk r (λ v. items v ≡ print q ++ 10 ∷ [])
@@ -46,3 +46,16 @@ text_and_object first second text told ms p0 p1 p2 p3 p4 p5 e e1 e2 e3 e4 e5 = r
 pub member_object : (name : List ℕ) (ms : List (List ℕ × json.Json)) (p0 p1 p2 p3 p4 : List token.Token) → p1 ≡ p0 ++ token.key name ∷ [] → p2 ≡ p1 ++ token.begin_object ∷ [] → p3 ≡ p2 ++ tokens_of ms
     → p4 ≡ p3 ++ token.end_object ∷ [] → p4 ≡ p0 ++ member_tokens name (object_of ms)
 member_object name ms p0 p1 p2 p3 p4 e1 e2 e3 e4 = rw (e4, e3, e2, e1) (simp (members_written ms, append_assoc))
+
+-- what five calls wrote, one after the other
+pub five_written : (a b c d e p0 p1 p2 p3 p4 p5 : List token.Token) → p1 ≡ p0 ++ a → p2 ≡ p1 ++ b → p3 ≡ p2 ++ c → p4 ≡ p3 ++ d → p5 ≡ p4 ++ e → p5 ≡ p0 ++ (a ++ (b ++ (c ++ (d ++ (e ++ [])))))
+five_written a b c d e p0 p1 p2 p3 p4 p5 e1 e2 e3 e4 e5 = rw (e5, e4, e3, e2, e1) (simp (append_assoc, append-nil))
+
+-- what three calls wrote, one after the other
+pub three_written : (a b c p0 p1 p2 p3 : List token.Token) → p1 ≡ p0 ++ a → p2 ≡ p1 ++ b → p3 ≡ p2 ++ c → p3 ≡ p0 ++ (a ++ (b ++ (c ++ [])))
+three_written a b c p0 p1 p2 p3 e1 e2 e3 = rw (e3, e2, e1) (simp (append_assoc, append-nil))
+
+-- an object whose members are written by two calls
+pub object_of_two : (a b : List (List ℕ × json.Json)) (p0 p1 p2 p3 p4 : List token.Token) → p1 ≡ p0 ++ token.begin_object ∷ [] → p2 ≡ p1 ++ tokens_of a → p3 ≡ p2 ++ tokens_of b
+    → p4 ≡ p3 ++ token.end_object ∷ [] → p4 ≡ p0 ++ json_tokens (object_of (a ++ b))
+object_of_two a b p0 p1 p2 p3 p4 e1 e2 e3 e4 = rw (e4, e3, e2, e1) (simp (members_written (a ++ b), tokens_append a b, append_assoc))

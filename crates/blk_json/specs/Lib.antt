@@ -7,4 +7,4 @@ pub mod Tables
 pub mod Trials
 pub mod Proofs
 pub mod Loads
-pub mod Tokens
+pub mod Inside

@@ -2,6 +2,8 @@
 use Rattle.std.specs.Prelude.{ℕ, List, [], ◌∷◌, Option, None, Some, codes}
 use Rattle.json.specs.Json as json
 use Rattle.edd_check.specs.declared.Window.{Window}
+use Rattle.edd_figures.specs.Figures.{greatest_in, least_in, shortfall_in}
+use Rattle.edd_figures.specs.declared.lateness.Figures.{Figures}
 use Rattle.blk_report.specs.declared.figures.Report.{Report}
 use Rattle.blk_json.specs.Values.{count, figure, count_or_null, object_of, line_of}
 
@@ -10,11 +12,26 @@ abbrev pub window_value : Option Window → json.Json
 window_value None = json.null
 window_value (Some w) = object_of ((codes "from", count w.from) ∷ (codes "due", count w.due) ∷ [])
 
+-- the window of some figures, and its load
+abbrev pub window_in : Option Figures → Option Window
+window_in None = None
+window_in (Some f) = Some f.window
+
+abbrev pub load_in : Option Figures → Option ℕ
+load_in None = None
+load_in (Some f) = Some f.load
+
+-- the five figures, each `null` where there are none
+abbrev pub figures_members : Option Figures → List (List ℕ × json.Json)
+figures_members figures =
+    (codes "greatest", figure (greatest_in figures)) ∷ (codes "least", figure (least_in figures))
+    ∷ (codes "shortfall", figure (shortfall_in figures)) ∷ (codes "window", window_value (window_in figures))
+    ∷ (codes "load", count_or_null (load_in figures)) ∷ []
+
 -- the eight values of a report
 abbrev pub report_value : Report → json.Json
 report_value r =
-    object_of ((codes "commands", count r.commands) ∷ (codes "waiting", count r.waiting) ∷ (codes "depth", count r.depth) ∷ (codes "greatest", figure r.greatest) ∷ (codes "least", figure r.least)
-    ∷ (codes "shortfall", figure r.shortfall) ∷ (codes "window", window_value r.window) ∷ (codes "load", count_or_null r.load) ∷ [])
+    object_of ((codes "commands", count r.commands) ∷ (codes "waiting", count r.waiting) ∷ (codes "depth", count r.depth) ∷ figures_members r.figures)
 
 abbrev pub report_json : Report → List ℕ
 report_json r = line_of (report_value r)

@@ -1,13 +1,14 @@
 -- A table of reports as JSON.
 use Rattle.std.specs.Prelude.{ℕ, ◌≡◌, List, [], ◌∷◌, Option, None, Some, codes, map, zip, slice_index_or}
 use Rattle.json.specs.Json as json
+use Rattle.edd_figures.specs.Figures.{greatest_in, least_in, shortfall_in}
 use Rattle.blk_report.specs.declared.figures.Report.{Report}
 use Rattle.blk_report.specs.Table.{IsBestPlace}
 use Rattle.blk_json.specs.Values.{count, figure, array_of, object_of, line_of}
 
 -- how far the trace of a report fell short
 abbrev pub figure_members : Report → List (List ℕ × json.Json)
-figure_members r = (codes "commands", count r.commands) ∷ (codes "waiting", count r.waiting) ∷ (codes "greatest", figure r.greatest) ∷ (codes "least", figure r.least) ∷ (codes "shortfall", figure r.shortfall) ∷ []
+figure_members r = (codes "commands", count r.commands) ∷ (codes "waiting", count r.waiting) ∷ (codes "greatest", figure (greatest_in r.figures)) ∷ (codes "least", figure (least_in r.figures)) ∷ (codes "shortfall", figure (shortfall_in r.figures)) ∷ []
 
 -- a scheduler's values
 abbrev pub row_value : List ℕ → Report → json.Json

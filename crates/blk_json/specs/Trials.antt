@@ -3,7 +3,7 @@ use Rattle.std.specs.Prelude.{ℕ, Bool, List, [], ◌∷◌, ◌++◌, Option, 
 use Rattle.json.specs.Json as json
 use Rattle.blk_deadline.specs.declared.Tunables.{Tunables}
 use Rattle.blk_kyber.specs.declared.Targets.{Targets}
-use Rattle.blk_report.specs.declared.figures.Report.{Report}
+use Rattle.edd_figures.specs.Figures.{shortfall_in}
 use Rattle.blk_report.specs.declared.missing.Tally.{Tally}
 use Rattle.blk_settings.specs.Rows.{name_of}
 use Rattle.blk_settings.specs.declared.sched.Sched.{Sched}
@@ -52,7 +52,7 @@ best_sched (r ∷ rs) = object_of (sched_members r.sched)
 -- whether no schedule of a row's commands is better: nothing is avoidable, with some commands, or nothing lost
 abbrev pub is_proved : By → Row → Bool
 is_proved by.Misses r = nat_lt 0 r.tally.commands && (r.tally.avoidable == 0)
-is_proved by.Lateness r = is_none r.report.shortfall
+is_proved by.Lateness r = is_none (shortfall_in r.report.figures)
 
 abbrev pub proved_words : By → List ℕ
 proved_words by.Misses = codes "no schedule misses fewer"

@@ -6,7 +6,7 @@ ghost use Rattle.json.specs.Json as value;
 ghost use Rattle.json.specs.Tree.{json_tokens};
 ghost use Rattle.blk_bio.specs.Letters.{direction_text};
 ghost use Rattle.blk_json.specs.Lateness.{service_members, verdict_members, late_value, late_json};
-ghost use Rattle.blk_json.specs.Tokens.{member_tokens, tokens_of};
+ghost use Rattle.blk_json.specs.Inside.Tokens.{member_tokens, tokens_of};
 
 use crate::page::Page;
 use blk_bio::Dir;
@@ -89,7 +89,7 @@ fn write_late_commands(page: &mut Page, late: &[LateCommand]) -> Result<(), Allo
 /// Late commands as an object of one array, `late`, with an object for each, in their order: `id`, `dir` (`"R"` or `"W"`), `first`
 /// and `sectors`, `release`, `due` and `issue` (rounds), `lateness` (rounds), `sooner`, `later` and `idle` (places), `verdict`
 /// (`"arrival"`, `"spare"` or `"full"`), and `from` and `until`, the first and the last round of its window, or `null` where the
-/// verdict has none. Fails for want of memory alone. The time is as the number of commands.
+/// verdict has none. Fails only when out of memory. The time is as the number of commands.
 pub fn late_json(alloc: Global, late: &[LateCommand]) -> Result<Vec<u8>, AllocError>
     ensures { IfOk result (λ v. v.items ≡ late_json late.now) }
 {

@@ -1,7 +1,7 @@
 //! The program's answers as JSON: one object in one line.
 //!
 //! Each value is the one of the text form under that form's own word: a number is a number, also where it is greater than 2^53, and
-//! what the text form tells as `none` or leaves empty is `null`.
+//! what the text form has as `none` or leaves empty is `null`.
 #![tactic(auto)]
 
 mod late;
@@ -17,7 +17,7 @@ mod trial;
 pub use crate::late::late_json;
 pub use crate::load::load_json;
 pub use crate::misses::misses_json;
-pub use crate::proof::{bound_json, met_json, no_commands_json};
+pub use crate::proof::{bound_json, no_commands_json, on_time_json};
 pub use crate::report::report_json;
 pub use crate::spread::spread_json;
 pub use crate::table::table_json;

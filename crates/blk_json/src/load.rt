@@ -6,8 +6,8 @@ ghost use Rattle.blk_json.specs.Loads.{load_json};
 use crate::page::Page;
 use std::alloc::{AllocError, Global};
 
-/// What came of a load as an object: how many bios were `accepted` and `served`, and how many are `left`. Fails for want of memory
-/// alone.
+/// What came of a load as an object: how many bios were `accepted` and `served`, and how many are `left`. Fails only when out
+/// of memory.
 pub fn load_json(
     alloc: Global,
     accepted: u64,

@@ -4,7 +4,7 @@ ghost use Rattle.std.specs.Prelude.{◌≡◌, ◌++◌, IfOk, OnOk};
 ghost use Rattle.std.specs.List.{flat_map};
 ghost use Rattle.json.specs.Tree.{json_tokens};
 ghost use Rattle.blk_json.specs.Missing.{crowd_value, tally_members, misses_json};
-ghost use Rattle.blk_json.specs.Tokens.{tokens_of};
+ghost use Rattle.blk_json.specs.Inside.Tokens.{tokens_of};
 
 use crate::page::Page;
 use blk_report::{Missed, Tally};
@@ -50,7 +50,7 @@ fn write_crowds(page: &mut Page, crowds: &[Crowd]) -> Result<(), AllocError>
 
 /// Misses as an object: the counts `commands`, `late`, `unavoidable`, `avoidable`, `spare`, `waiting` and `overdue`, and `windows`, an
 /// array with an object for each: its first and its last round, `from` and `until`, how many commands are released and due in them,
-/// `commands`, and how many they carry, `carries`. Fails for want of memory alone.
+/// `commands`, and how many they carry, `carries`. Fails only when out of memory.
 pub fn misses_json<A: Allocator>(alloc: Global, missed: &Missed<A>) -> Result<Vec<u8>, AllocError>
     ensures { IfOk result (λ v. v.items ≡ misses_json missed.now.tally missed.now.windows.items) }
 {

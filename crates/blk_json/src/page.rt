@@ -5,13 +5,13 @@ ghost use Rattle.json.specs.Token as token;
 ghost use Rattle.json.specs.Json as value;
 ghost use Rattle.json.specs.Print.{print};
 ghost use Rattle.blk_json.specs.Values.{count, figure, count_or_null};
-ghost use Rattle.blk_json.specs.Tokens.{member_tokens};
+ghost use Rattle.blk_json.specs.Inside.Tokens.{member_tokens};
 
 use json::Writer;
 use std::alloc::{AllocError, Global};
 use std::marker::Model;
 
-/// The tokens that were written, in their order. Each call that writes some answers want of memory where the text could not grow.
+/// The tokens that were written, in their order. Each call that writes some answers out of memory where the text can't grow.
 #[derive(Drop)]
 pub struct Page {
     writer: Writer,

@@ -1,13 +1,13 @@
 //! What a certificate proves as JSON.
 
 ghost use Rattle.std.specs.Prelude.{◌≡◌, IfOk};
-ghost use Rattle.blk_json.specs.Proofs.{bound_json, no_commands_json, met_json};
+ghost use Rattle.blk_json.specs.Proofs.{bound_json, no_commands_json, on_time_json};
 
 use crate::page::Page;
 use std::alloc::{AllocError, Global};
 
 /// What a certificate of a least lateness proves as an object: its `lateness` in rounds, and how many commands its window has,
-/// `load`, and how many the window's rounds carry if each is to be less late, `carries`. Fails for want of memory alone.
+/// `load`, and how many the window's rounds carry if each is to be less late, `carries`. Fails only when out of memory.
 pub fn bound_json(
     alloc: Global,
     lateness: i64,
@@ -25,7 +25,7 @@ pub fn bound_json(
     page.finish()
 }
 
-/// The same object of a certificate without commands: each value is `null`. Fails for want of memory alone.
+/// The same object of a certificate without commands: each value is `null`. Fails only when out of memory.
 pub fn no_commands_json(alloc: Global) -> Result<Vec<u8>, AllocError>
     ensures { IfOk result (λ v. v.items ≡ no_commands_json) }
 {
@@ -39,8 +39,8 @@ pub fn no_commands_json(alloc: Global) -> Result<Vec<u8>, AllocError>
 }
 
 /// What a certificate of the commands that can be met proves as an object: how many are `met`, `of` how many, the number of
-/// `windows`, how many commands these `carry`, and how many that can be met lie `outside` them. Fails for want of memory alone.
-pub fn met_json(
+/// `windows`, how many commands these `carry`, and how many that can be met lie `outside` them. Fails only when out of memory.
+pub fn on_time_json(
     alloc: Global,
     met: u64,
     of: u64,
@@ -48,7 +48,7 @@ pub fn met_json(
     carry: u64,
     outside: u64,
 ) -> Result<Vec<u8>, AllocError>
-    ensures { IfOk result (λ v. v.items ≡ met_json met of windows carry outside) }
+    ensures { IfOk result (λ v. v.items ≡ on_time_json met of windows carry outside) }
 {
     let mut page = Page::new(alloc);
     page.begin_object()?;

@@ -1,8 +1,8 @@
 //! A report as JSON.
 
 ghost use Rattle.std.specs.Prelude.{◌≡◌, ◌++◌, IfOk, OnOk, codes};
-ghost use Rattle.blk_json.specs.Reports.{window_value, report_json};
-ghost use Rattle.blk_json.specs.Tokens.{member_tokens};
+ghost use Rattle.blk_json.specs.Reports.{window_value, window_in, load_in, figures_members, report_json};
+ghost use Rattle.blk_json.specs.Inside.Tokens.{member_tokens, tokens_of};
 
 use crate::page::Page;
 use blk_report::Report;
@@ -23,9 +23,41 @@ fn write_window(page: &mut Page, window: Option<Window>) -> Result<(), AllocErro
     page.end_object()
 }
 
+/// The window of a report's figures.
+fn window_of(report: &Report) -> Option<Window>
+    ensures { result ≡ window_in report.now.figures }
+{
+    match report.figures {
+        Some(figures) => Some(figures.window),
+        None => None,
+    }
+}
+
+/// How many commands that window has.
+fn load_of(report: &Report) -> Option<u64>
+    ensures { result ≡ load_in report.now.figures }
+{
+    match report.figures {
+        Some(figures) => Some(figures.load),
+        None => None,
+    }
+}
+
+/// Writes the five figures, each `null` where there are none.
+fn write_figures_or_null(page: &mut Page, report: &Report) -> Result<(), AllocError>
+    ensures { OnOk result (page.new ≡ page.old ++ tokens_of (figures_members report.now.figures)) }
+{
+    page.figure("greatest", report.greatest())?;
+    page.figure("least", report.least())?;
+    page.figure("shortfall", report.shortfall())?;
+    write_window(page, window_of(report))?;
+    page.count_or_null("load", load_of(report))?;
+    Ok(())
+}
+
 /// A report as an object: `commands`, `waiting` (bios), `depth`, `greatest`, `least`, `shortfall`, `window` (an object of its first
 /// round, `from`, and the one in which it is due, `due`) and `load`, in rounds but for the counts. Without commands the last five
-/// are `null`. Fails for want of memory alone.
+/// are `null`. Fails only when out of memory.
 pub fn report_json(alloc: Global, report: &Report) -> Result<Vec<u8>, AllocError>
     ensures { IfOk result (λ v. v.items ≡ report_json report.now) }
 {
@@ -34,11 +66,7 @@ pub fn report_json(alloc: Global, report: &Report) -> Result<Vec<u8>, AllocError
     page.count("commands", report.commands)?;
     page.count("waiting", report.waiting)?;
     page.count("depth", report.depth)?;
-    page.figure("greatest", report.greatest)?;
-    page.figure("least", report.least)?;
-    page.figure("shortfall", report.shortfall)?;
-    write_window(&mut page, report.window)?;
-    page.count_or_null("load", report.load)?;
+    write_figures_or_null(&mut page, report)?;
     page.end_object()?;
     page.finish()
 }

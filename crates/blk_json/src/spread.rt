@@ -2,7 +2,7 @@
 
 ghost use Rattle.std.specs.Prelude.{◌≡◌, ◌++◌, IfOk, OnOk};
 ghost use Rattle.blk_json.specs.Spreading.{quantiles_value, by_dir_value, spread_json};
-ghost use Rattle.blk_json.specs.Tokens.{member_tokens};
+ghost use Rattle.blk_json.specs.Inside.Tokens.{member_tokens};
 
 use crate::page::Page;
 use blk_report::{ByDir, Quantiles, Spreads};
@@ -36,8 +36,8 @@ fn write_by_dir(page: &mut Page, name: &str, quantiles: &ByDir) -> Result<(), Al
 }
 
 /// A spread as an object: `wait` and `lateness`, each an object of `R` (the reads), `W` (the writes) and `all`, and each of these an
-/// object of `count`, `p50`, `p90`, `p99`, `p999` and `max`, in rounds. A quantile of no commands is `null`. Fails for want of
-/// memory alone.
+/// object of `count`, `p50`, `p90`, `p99`, `p999` and `max`, in rounds. A quantile of no commands is `null`. Fails only when
+/// out of memory.
 pub fn spread_json(alloc: Global, spread: &Spreads) -> Result<Vec<u8>, AllocError>
     ensures { IfOk result (λ v. v.items ≡ spread_json spread.now) }
 {

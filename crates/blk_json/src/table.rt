@@ -4,7 +4,7 @@ ghost use Rattle.std.specs.Prelude.{◌≡◌, ◌++◌, ◌<◌, IfOk, IfSome, 
 ghost use Rattle.std.specs.List.{flat_map};
 ghost use Rattle.json.specs.Tree.{json_tokens};
 ghost use Rattle.blk_json.specs.Tables.{figure_members, row_value, best_value, IsTableJson};
-ghost use Rattle.blk_json.specs.Tokens.{member_tokens, tokens_of, row_tokens};
+ghost use Rattle.blk_json.specs.Inside.Tokens.{member_tokens, tokens_of, row_tokens};
 
 use crate::page::Page;
 use blk_report::{Report, compare};
@@ -16,9 +16,9 @@ pub fn write_figures(page: &mut Page, report: &Report) -> Result<(), AllocError>
 {
     page.count("commands", report.commands)?;
     page.count("waiting", report.waiting)?;
-    page.figure("greatest", report.greatest)?;
-    page.figure("least", report.least)?;
-    page.figure("shortfall", report.shortfall)?;
+    page.figure("greatest", report.greatest())?;
+    page.figure("least", report.least())?;
+    page.figure("shortfall", report.shortfall())?;
     Ok(())
 }
 
@@ -57,7 +57,7 @@ fn write_best(page: &mut Page, names: &[&str], best: Option<usize>) -> Result<()
 
 /// The table of some reports, each under its scheduler's name, as an object: `schedulers`, an array with an object for each, `sched`
 /// (its name), `commands`, `waiting` (bios), `greatest`, `least` and `shortfall` (rounds, or `null` without commands), and `best`, the
-/// name of the report that [`compare`](blk_report::compare) picks, or `null` where none has commands. Fails for want of memory alone.
+/// name of the report that [`compare`](blk_report::compare) picks, or `null` where none has commands. Fails only when out of memory.
 pub fn table_json(alloc: Global, names: &[&str], reports: &[Report]) -> Result<Vec<u8>, AllocError>
     requires { length names.now ≡ length reports.now }
     ensures { IfOk result (λ v. IsTableJson (map (λ name. name.now) names.now) reports.now v.items) }

@@ -3,8 +3,7 @@
 ghost use Rattle.std.specs.Prelude.{◌≡◌, ◌++◌, IfOk, OnOk, codes};
 ghost use Rattle.std.specs.List.{flat_map};
 ghost use Rattle.json.specs.Tree.{json_tokens};
-ghost use Rattle.blk_tune.specs.Text.{shown};
-ghost use Rattle.blk_json.specs.Tokens.{member_tokens, tokens_of};
+ghost use Rattle.blk_json.specs.Inside.Tokens.{member_tokens, tokens_of};
 ghost use Rattle.blk_json.specs.Trials.{tunables_members, targets_members, settings_members, sched_members, missed_members, percentile_members, trial_row, best_sched, is_proved, proved_words, proved_of, proved_value, trial_json};
 ghost use Rattle.blk_json.specs.Values.{object_of};
 
@@ -15,7 +14,7 @@ use blk_grid::By;
 use blk_kyber::Targets;
 use blk_report::Tally;
 use blk_settings::Sched;
-use blk_tune::Row;
+use blk_tune::{Row, shown};
 use std::alloc::{AllocError, Global};
 
 /// Writes the settings of `deadline`.
@@ -130,7 +129,7 @@ fn is_proved(by: By, row: &Row) -> bool
 {
     match by {
         By::Misses => row.tally.commands > 0 && row.tally.avoidable == 0,
-        By::Lateness => match row.report.shortfall {
+        By::Lateness => match row.report.shortfall() {
             Some(lost) => lost == 0,
             None => false,
         },
@@ -168,29 +167,13 @@ fn write_proved(page: &mut Page, by: By, rows: &[Row]) -> Result<(), AllocError>
     }
 }
 
-/// Those of the rows that are shown.
-fn shown(top: Option<u64>, rows: &[Row]) -> &[Row]
-    ensures { result.now ≡ shown top rows.now }
-{
-    match top {
-        None => rows,
-        Some(top) => {
-            if top < rows.len() as u64 {
-                &rows[..top as usize]
-            } else {
-                rows
-            }
-        }
-    }
-}
-
 /// The rows of a trial, which stand best first, as an object: `rows`, an array with an object for each row that is shown: `sched` (its
 /// scheduler's name), `settings` (an object), `commands`, `waiting` (bios), `greatest`, `least` and `shortfall` (rounds, or `null`
 /// without commands), `late`, `unavoidable` and `avoidable` (commands), and `wait_p99_read` and `wait_p99_write`, the 99th percentiles
 /// of the waits (rounds, or `null` without commands of that direction); `best`, the first row's `sched` and `settings`, or `null`
 /// without rows, also where none is shown; and `proved`, what the text form says of that row, or `null` where it says nothing. The
 /// settings are those of the command line: none of `none`; `late_last`; `fifo_batch`, `writes_starved` and `front_merges`; or
-/// `read_target` and `write_target` (rounds). Fails for want of memory alone. The time is as the number of rows that are shown.
+/// `read_target` and `write_target` (rounds). Fails only when out of memory. The time is as the number of rows that are shown.
 pub fn trial_json(
     alloc: Global,
     by: By,

@@ -6,11 +6,11 @@ use Rattle.std.proofs.lemmas.Bool.{or_cases, or_left, both_ways, ne_eqb}
 use Rattle.blk_bio.specs.Bios.{Bio, IsBio}
 use Rattle.blk_bio.specs.Requests.{IsRequest}
 use Rattle.blk_bio.specs.declared.bio.Dir.TheVariants.{Read, Write}
-use Rattle.edd_check.specs.declared.Command.{Command}
-use Rattle.edd_check.specs.declared.steps.Step.{Step}
-use Rattle.edd_check.specs.Capacity.{depth_at}
-use Rattle.edd_check.specs.Schedule.{IsLegal, IsGreatestLateness, IsLeastLateness, places_at, lateness_at}
-use Rattle.edd_check.specs.Met.{number_met, IsMostMet}
+use Rattle.edd_commands.specs.declared.Command.{Command}
+use Rattle.edd_commands.specs.declared.steps.Step.{Step}
+use Rattle.edd_commands.specs.Capacity.{depth_at}
+use Rattle.edd_commands.specs.Schedule.{IsLegal, IsGreatestLateness, IsLeastLateness, places_at, lateness_at}
+use Rattle.edd_check.specs.OnTime.{number_on_time, IsMostOnTime}
 use Rattle.edd_oracle.specs.Priority.{ComesFirst}
 use Rattle.blk_trace.specs.declared.trace.TheConstants.{MAX_EVENTS}
 use Rattle.blk_trace.specs.Happened.{Happened}
@@ -214,12 +214,12 @@ not_least late greatest least =
     let other : late ≤ℤ pos 0 = least.least turned (pos 0) turned_legal turned_late in
     omega (arith, ints, own, other)
 
-not_most : IsMostMet two one_place (number_met two (0 ∷ 1 ∷ [])) → ⊥
-unfolding number_met
+not_most : IsMostOnTime two one_place (number_on_time two (0 ∷ 1 ∷ [])) → ⊥
+unfolding number_on_time
 not_most most = let both : 2 ≤ 1 = most.most turned turned_legal in omega (arith, both)
 
 pub late : (late : ℤ) → IsGreatestLateness (commands_of one_tag read_too_late) (rounds_of read_too_late) late → IsLeastLateness (commands_of one_tag read_too_late) (capacity_of one_tag read_too_late) late → ⊥
 late x = rw (commands_are, rounds_are, capacity_is) (not_least x)
 
-pub missed : IsMostMet (commands_of one_tag read_too_late) (capacity_of one_tag read_too_late) (number_met (commands_of one_tag read_too_late) (rounds_of read_too_late)) → ⊥
+pub missed : IsMostOnTime (commands_of one_tag read_too_late) (capacity_of one_tag read_too_late) (number_on_time (commands_of one_tag read_too_late) (rounds_of read_too_late)) → ⊥
 missed = rw (commands_are, rounds_are, capacity_is) not_most

@@ -1,10 +1,10 @@
 -- What a trace decides at its Ticks, as a schedule of its commands.
 use Rattle.std.proofs.Common.{◌≡◌, ◌<◌, ◌≤◌, ℕ, List, length, take, map, get_or, ℤ, sym, ◌∙◌, ap, subst, arith}
 use Rattle.std.proofs.lemmas.List.{get_or-map}
-use Rattle.edd_check.specs.declared.Command.{Command}
-use Rattle.edd_check.specs.Capacity.{depth_at}
-use Rattle.edd_check.specs.Schedule.{IsLegal, IsGreatestLateness, IsLeastLateness, places_at}
-use Rattle.edd_check.specs.Met.{number_met, IsMostMet}
+use Rattle.edd_commands.specs.declared.Command.{Command}
+use Rattle.edd_commands.specs.Capacity.{depth_at}
+use Rattle.edd_commands.specs.Schedule.{IsLegal, IsGreatestLateness, IsLeastLateness, places_at}
+use Rattle.edd_check.specs.OnTime.{number_on_time, IsMostOnTime}
 use Rattle.edd_oracle.specs.Priority.{IsEarliestDueFirst, ComesFirst}
 use Rattle.edd_oracle.proofs.One.{one_schedule}
 use Rattle.blk_trace.specs.Happened.{Happened}
@@ -118,5 +118,5 @@ pub trace_least : (setup : Setup) (events : List Happened) → IsLegalTrace setu
 trace_least setup events legal each late greatest =
     earliest_least (commands_of setup events) (capacity_of setup events) (rounds_of events) late (legal-schedule setup events legal) (earliest_first setup events legal each) greatest
 
-pub trace_most : (setup : Setup) (events : List Happened) → IsLegalTrace setup events → AtTicks (IsMeetableNow setup) events → IsMostMet (commands_of setup events) (capacity_of setup events) (number_met (commands_of setup events) (rounds_of events))
+pub trace_most : (setup : Setup) (events : List Happened) → IsLegalTrace setup events → AtTicks (IsMeetableNow setup) events → IsMostOnTime (commands_of setup events) (capacity_of setup events) (number_on_time (commands_of setup events) (rounds_of events))
 trace_most setup events legal each = meetable_most (commands_of setup events) (rounds_of events) (capacity_of setup events) (legal-schedule setup events legal) (meetable_first setup events legal each)

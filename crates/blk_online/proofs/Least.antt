@@ -1,10 +1,10 @@
 -- Earliest due first is least late.
 use Rattle.std.proofs.Common.{◌≡◌, ◌<◌, ◌≤◌, ℕ, ◌-◌, zero, suc, List, get_or, ℤ, inl, inr, arith, refl, sym, subst}
 use Rattle.std.proofs.lemmas.Bool.{cases_lt, cases_eq}
-use Rattle.edd_check.specs.declared.Command.{Command}
-use Rattle.edd_check.specs.declared.steps.Step.{Step}
-use Rattle.edd_check.specs.Capacity.{depth_at}
-use Rattle.edd_check.specs.Schedule.{IsLegal, IsGreatestLateness, IsLeastLateness}
+use Rattle.edd_commands.specs.declared.Command.{Command}
+use Rattle.edd_commands.specs.declared.steps.Step.{Step}
+use Rattle.edd_commands.specs.Capacity.{depth_at}
+use Rattle.edd_commands.specs.Schedule.{IsLegal, IsGreatestLateness, IsLeastLateness}
 use Rattle.edd_check.proofs.Least.{least_here}
 use Rattle.edd_oracle.specs.Plan.{due_at, IsWindowStart}
 use Rattle.edd_oracle.specs.Priority.{IsEarliestDueFirst}

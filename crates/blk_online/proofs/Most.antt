@@ -4,16 +4,16 @@ use Rattle.std.specs.List.{zip}
 use Rattle.std.proofs.lemmas.List.{get_or_default}
 use Rattle.std.proofs.lemmas.List.Folds.{list_any_at}
 use Rattle.std.proofs.lemmas.Bool.{cases_Bool, cases_lt, cases_eq, and_parts, and_from, and_right, leb-true, le-leb, ltb-true, lt-ltb, le-ltb, eqb-true, eq-eqb, ne_eqb, not-true, not_from_false, not_from_true}
-use Rattle.edd_check.specs.declared.Command.{Command}
-use Rattle.edd_check.specs.declared.steps.Step.{Step}
-use Rattle.edd_check.specs.Capacity.{depth_at}
-use Rattle.edd_check.specs.Schedule.{IsLegal, places_at}
-use Rattle.edd_check.specs.Met.{number_met, is_met, IsMostMet}
-use Rattle.edd_check.proofs.Counting.{count_of_either}
+use Rattle.edd_commands.specs.declared.Command.{Command}
+use Rattle.edd_commands.specs.declared.steps.Step.{Step}
+use Rattle.edd_commands.specs.Capacity.{depth_at}
+use Rattle.edd_commands.specs.Schedule.{IsLegal, places_at}
+use Rattle.edd_check.specs.OnTime.{number_on_time, is_on_time, IsMostOnTime}
+use Rattle.edd_commands.proofs.Counting.{count_of_either}
 use Rattle.edd_oracle.proofs.Counting.{count_along, count_of_both, count_wider, count_none}
 use Rattle.edd_oracle.proofs.Pairs.{length_pairs}
 use Rattle.blk_online.specs.Meetable.{IsMeetableFirst}
-use Rattle.blk_online.proofs.Tight.{is_met_at, met_at, begin, is_held_by, is_tight, any_found, paired, unpaired, begin_full, lies_inside, passed_inside}
+use Rattle.blk_online.proofs.Tight.{is_on_time_at, on_time_at, begin, is_held_by, is_tight, any_found, paired, unpaired, begin_full, lies_inside, passed_inside}
 
 -- a round past all of a list
 above_all : (xs : List ℕ) → (n : ℕ) × ((k e : ℕ) → k < length xs → get_or xs k e < n)
@@ -37,15 +37,15 @@ module _ (commands : List Command) (rounds : List ℕ) (steps : List Step) (lega
   tight_below n y = tight y && nat_lt y n
 
   -- met there
-  abbrev met_below : ℕ → Command × ℕ → Bool
-  met_below n p = is_met p.0 p.1 && tight_below n p.1
+  abbrev on_time_below : ℕ → Command × ℕ → Bool
+  on_time_below n p = is_on_time p.0 p.1 && tight_below n p.1
 
   -- met elsewhere
-  abbrev met_apart : Command × ℕ → Bool
-  met_apart p = is_met p.0 p.1 && not (tight p.1)
+  abbrev on_time_apart : Command × ℕ → Bool
+  on_time_apart p = is_on_time p.0 p.1 && not (tight p.1)
 
   -- each round of a window is full of met commands
-  tight_full : (y : ℕ) → tight y ≡ true → (b : ℕ) × (depth_at steps y ≤ met_at commands rounds b y)
+  tight_full : (y : ℕ) → tight y ≡ true → (b : ℕ) × (depth_at steps y ≤ on_time_at commands rounds b y)
   tight_full y h =
       let found = any_found (is_held_by commands rounds steps y) commands h in
       let c : Command = get_or commands found.0 (record { id = 0; release = 0; due = 0 }) in
@@ -55,12 +55,12 @@ module _ (commands : List Command) (rounds : List ℕ) (steps : List Step) (lega
       )
 
   -- what another schedule has in the windows' rounds, this one has there
-  others_below : (other : List ℕ) (n : ℕ) → ((x : ℕ) → places_at other x ≤ depth_at steps x) → count_by (tight_below n) other ≤ count_by (met_below n) (zip commands rounds)
+  others_below : (other : List ℕ) (n : ℕ) → ((x : ℕ) → places_at other x ≤ depth_at steps x) → count_by (tight_below n) other ≤ count_by (on_time_below n) (zip commands rounds)
   unfolding places_at
   others_below other zero within =
       omega (arith, count_none (tight_below zero) other (λ k e h. and_right (tight (get_or other k e)) (nat_lt (get_or other k e) zero) (le-ltb (get_or other k e) zero (omega arith))))
   others_below other (suc n) within =
-      let before : count_by (tight_below n) other ≤ count_by (met_below n) (zip commands rounds) = others_below other n within in
+      let before : count_by (tight_below n) other ≤ count_by (on_time_below n) (zip commands rounds) = others_below other n within in
       elim (cases_Bool (tight n)) [
         | inr loose ↦
             let fewer : count_by (tight_below (suc n)) other ≤ count_by (tight_below n) other =
@@ -73,13 +73,13 @@ module _ (commands : List Command) (rounds : List ℕ) (steps : List Step) (lega
               | inr apart ↦ and_from (tight y) (nat_lt y n) parts.0 (lt-ltb y n (omega arith))
             ])
             other in
-            let more : count_by (met_below n) (zip commands rounds) ≤ count_by (met_below (suc n)) (zip commands rounds) =
-            count_wider (met_below n) (met_below (suc n))
+            let more : count_by (on_time_below n) (zip commands rounds) ≤ count_by (on_time_below (suc n)) (zip commands rounds) =
+            count_wider (on_time_below n) (on_time_below (suc n))
             (λ p yes.
-            let parts = and_parts (is_met p.0 p.1) (tight_below n p.1) yes in
+            let parts = and_parts (is_on_time p.0 p.1) (tight_below n p.1) yes in
             let inside = and_parts (tight p.1) (nat_lt p.1 n) parts.1 in
             let low : p.1 < n = ltb-true p.1 n inside.1 in
-            and_from (is_met p.0 p.1) (tight_below (suc n) p.1) parts.0 (and_from (tight p.1) (nat_lt p.1 (suc n)) inside.0 (lt-ltb p.1 (suc n) (omega arith))))
+            and_from (is_on_time p.0 p.1) (tight_below (suc n) p.1) parts.0 (and_from (tight p.1) (nat_lt p.1 (suc n)) inside.0 (lt-ltb p.1 (suc n) (omega arith))))
             (zip commands rounds) in
             omega (arith, before, fewer, more)
         | inl held ↦
@@ -94,19 +94,19 @@ module _ (commands : List Command) (rounds : List ℕ) (steps : List Step) (lega
               | inr apart ↦ inl (and_from (tight y) (nat_lt y n) parts.0 (lt-ltb y n (omega arith)))
             ])
             other in
-            let more : count_by (met_below n) (zip commands rounds) + met_at commands rounds full.0 n ≤ count_by (met_below (suc n)) (zip commands rounds) =
-            count_of_both (met_below (suc n)) (met_below n) (is_met_at full.0 n)
+            let more : count_by (on_time_below n) (zip commands rounds) + on_time_at commands rounds full.0 n ≤ count_by (on_time_below (suc n)) (zip commands rounds) =
+            count_of_both (on_time_below (suc n)) (on_time_below n) (is_on_time_at full.0 n)
             (λ p yes.
-            let parts = and_parts (is_met p.0 p.1) (tight_below n p.1) yes in
+            let parts = and_parts (is_on_time p.0 p.1) (tight_below n p.1) yes in
             let inside = and_parts (tight p.1) (nat_lt p.1 n) parts.1 in
             let low : p.1 < n = ltb-true p.1 n inside.1 in (
-              and_from (is_met p.0 p.1) (tight_below (suc n) p.1) parts.0 (and_from (tight p.1) (nat_lt p.1 (suc n)) inside.0 (lt-ltb p.1 (suc n) (omega arith))),
-              and_right (nat_le p.0.due full.0) (is_met p.0 p.1 && p.1 == n) (and_right (is_met p.0 p.1) (p.1 == n) (ne_eqb p.1 n (λ same. absurd (omega arith)))),
+              and_from (is_on_time p.0 p.1) (tight_below (suc n) p.1) parts.0 (and_from (tight p.1) (nat_lt p.1 (suc n)) inside.0 (lt-ltb p.1 (suc n) (omega arith))),
+              and_right (nat_le p.0.due full.0) (is_on_time p.0 p.1 && p.1 == n) (and_right (is_on_time p.0 p.1) (p.1 == n) (ne_eqb p.1 n (λ same. absurd (omega arith)))),
             ))
             (λ p yes.
-            let parts = and_parts (is_met p.0 p.1) (p.1 == n) (and_parts (nat_le p.0.due full.0) (is_met p.0 p.1 && p.1 == n) yes).1 in
+            let parts = and_parts (is_on_time p.0 p.1) (p.1 == n) (and_parts (nat_le p.0.due full.0) (is_on_time p.0 p.1 && p.1 == n) yes).1 in
             let same : p.1 ≡ n = eqb-true p.1 n parts.1 in
-            and_from (is_met p.0 p.1) (tight_below (suc n) p.1) parts.0
+            and_from (is_on_time p.0 p.1) (tight_below (suc n) p.1) parts.0
             (and_from (tight p.1) (nat_lt p.1 (suc n)) (subst (λ m. tight m ≡ true) (sym same) held) (lt-ltb p.1 (suc n) (omega arith))))
             (zip commands rounds) in
             omega (arith, before, fewer, more, full.1, within n)
@@ -144,18 +144,18 @@ module _ (commands : List Command) (rounds : List ℕ) (steps : List Step) (lega
       )
 
   -- no legal schedule meets more
-  none_more : (other : List ℕ) → IsLegal commands other steps → number_met commands other ≤ number_met commands rounds
-  unfolding number_met
+  none_more : (other : List ℕ) → IsLegal commands other steps → number_on_time commands other ≤ number_on_time commands rounds
+  unfolding number_on_time
   none_more other legal' =
       let top = above_all other in
       let n : ℕ = top.0 in
       let long : length (zip commands other) ≡ length commands = length_pairs commands other legal'.one_each in
       let long' : length (zip commands rounds) ≡ length commands = length_pairs commands rounds legal.one_each in
-      let split : count_by (λ p. is_met p.0 p.1) (zip commands other) ≤ count_by (λ (p : Command × ℕ). tight p.1) (zip commands other) + count_by met_apart (zip commands other) =
-      count_of_either (λ p. is_met p.0 p.1) (λ (p : Command × ℕ). tight p.1) met_apart
+      let split : count_by (λ p. is_on_time p.0 p.1) (zip commands other) ≤ count_by (λ (p : Command × ℕ). tight p.1) (zip commands other) + count_by on_time_apart (zip commands other) =
+      count_of_either (λ p. is_on_time p.0 p.1) (λ (p : Command × ℕ). tight p.1) on_time_apart
       (λ p yes. elim (cases_Bool (tight p.1)) [
         | inl inside ↦ inl inside
-        | inr out ↦ inr (and_from (is_met p.0 p.1) (not (tight p.1)) yes (not_from_false (tight p.1) out))
+        | inr out ↦ inr (and_from (is_on_time p.0 p.1) (not (tight p.1)) yes (not_from_false (tight p.1) out))
       ])
       (zip commands other) in
       let inside : count_by (λ (p : Command × ℕ). tight p.1) (zip commands other) ≤ count_by (tight_below n) other =
@@ -167,29 +167,29 @@ module _ (commands : List Command) (rounds : List ℕ) (steps : List Step) (lega
       and_from (tight (get_or other k e)) (nat_lt (get_or other k e) n)
       (subst (λ m. tight m ≡ true) (get_or_default other k 0 e k_in') here)
       (lt-ltb (get_or other k e) n (top.1 k e k_in'))) in
-      let outside : count_by met_apart (zip commands other) ≤ count_by met_apart (zip commands rounds) =
-      count_along met_apart met_apart (zip commands other) (zip commands rounds) (long' ∙ sym long)
+      let outside : count_by on_time_apart (zip commands other) ≤ count_by on_time_apart (zip commands rounds) =
+      count_along on_time_apart on_time_apart (zip commands other) (zip commands rounds) (long' ∙ sym long)
       (λ k q r h yes.
       let d : Command = q.0 in
       let k_in : k < length commands = omega (arith, long) in
       let c : Command = get_or commands k d in
       let y : ℕ = get_or other k 0 in
-      let here : met_apart (c, y) ≡ true = unpaired commands other met_apart true k d q legal'.one_each k_in yes in
-      let parts = and_parts (is_met c y) (not (tight y)) here in
+      let here : on_time_apart (c, y) ≡ true = unpaired commands other on_time_apart true k d q legal'.one_each k_in yes in
+      let parts = and_parts (is_on_time c y) (not (tight y)) here in
       let kept = apart_kept k y d k_in (legal'.released k d k_in) (leb-true y c.due parts.0) (not-true (tight y) parts.1) in
-      paired commands rounds met_apart k d r legal.one_each k_in
-      (and_from (is_met c (get_or rounds k 0)) (not (tight (get_or rounds k 0))) (le-leb (get_or rounds k 0) c.due kept.0) (not_from_false (tight (get_or rounds k 0)) kept.1))) in
-      let joined : count_by (met_below n) (zip commands rounds) + count_by met_apart (zip commands rounds) ≤ count_by (λ p. is_met p.0 p.1) (zip commands rounds) =
-      count_of_both (λ p. is_met p.0 p.1) (met_below n) met_apart
+      paired commands rounds on_time_apart k d r legal.one_each k_in
+      (and_from (is_on_time c (get_or rounds k 0)) (not (tight (get_or rounds k 0))) (le-leb (get_or rounds k 0) c.due kept.0) (not_from_false (tight (get_or rounds k 0)) kept.1))) in
+      let joined : count_by (on_time_below n) (zip commands rounds) + count_by on_time_apart (zip commands rounds) ≤ count_by (λ p. is_on_time p.0 p.1) (zip commands rounds) =
+      count_of_both (λ p. is_on_time p.0 p.1) (on_time_below n) on_time_apart
       (λ p yes.
-      let parts = and_parts (is_met p.0 p.1) (tight_below n p.1) yes in
+      let parts = and_parts (is_on_time p.0 p.1) (tight_below n p.1) yes in
       let tight_is = (and_parts (tight p.1) (nat_lt p.1 n) parts.1).0 in (
         parts.0,
-        and_right (is_met p.0 p.1) (not (tight p.1)) (not_from_true (tight p.1) tight_is),
+        and_right (is_on_time p.0 p.1) (not (tight p.1)) (not_from_true (tight p.1) tight_is),
       ))
-      (λ p yes. (and_parts (is_met p.0 p.1) (not (tight p.1)) yes).0)
+      (λ p yes. (and_parts (is_on_time p.0 p.1) (not (tight p.1)) yes).0)
       (zip commands rounds) in
       omega (arith, split, inside, outside, joined, others_below other n legal'.within_depth)
 
-  pub meetable_most : IsMostMet commands steps (number_met commands rounds)
+  pub meetable_most : IsMostOnTime commands steps (number_on_time commands rounds)
   meetable_most = record { schedule = rounds; legal = legal; reached = refl; most = none_more }

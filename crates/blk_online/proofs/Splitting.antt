@@ -7,7 +7,7 @@ use Rattle.std.proofs.lemmas.List.{take-append-le, take_all}
 use Rattle.std.proofs.lemmas.Bool.{cases_Bool}
 use Rattle.blk_trace.specs.Happened.{Happened}
 use Rattle.blk_trace.specs.declared.event.Event.TheVariants.{Tick, Issue}
-use Rattle.blk_trace.specs.Kinds.{issues, ends, hands_back, is_done_of}
+use Rattle.blk_trace.specs.Kinds.{issues, ends, requeues, is_done_of}
 use Rattle.blk_trace.specs.Setups.{Setup}
 use Rattle.blk_trace.specs.Events.{At, EndsAt, IsOpen, is_tick, round_of, goes_back}
 use Rattle.blk_trace.specs.Legal.{IsLegalTrace}
@@ -95,7 +95,7 @@ goes_back_kept : (tag : ℕ) (es fs : List Happened) (j : ℕ) → EndsAt es j t
 unfolding goes_back
 goes_back_kept tag [] fs j d = absurd (let e : None ≡ Some d.0 = d.1 in cc)
 goes_back_kept tag (e ∷ es) fs j d =
-    elim (is_done_of tag e) as (λ b. is_done_of tag e ≡ b → cond b (is_some (hands_back e)) (goes_back tag (es ++ fs)) ≡ cond b (is_some (hands_back e)) (goes_back tag es)) [
+    elim (is_done_of tag e) as (λ b. is_done_of tag e ≡ b → cond b (is_some (requeues e)) (goes_back tag (es ++ fs)) ≡ cond b (is_some (requeues e)) (goes_back tag es)) [
       | true ↦ λ _. refl
       | false ↦ λ no. (elim j as (λ (i : ℕ). EndsAt (e ∷ es) i tag → goes_back tag (es ++ fs) ≡ goes_back tag es) [
         | zero ↦ λ c.

@@ -3,28 +3,28 @@ use Rattle.std.proofs.Common.{◌≡◌, ◌<◌, ◌≤◌, ℕ, ◌-◌, zero,
 use Rattle.std.specs.List.{zip, list_any}
 use Rattle.std.proofs.lemmas.List.{get_or_default}
 use Rattle.std.proofs.lemmas.Bool.{cases_lt, cases_eq, and_parts, and_from, and_left, leb-true, leb-false, le-leb, lt-leb, eqb-true, eq-eqb}
-use Rattle.edd_check.specs.declared.Command.{Command}
-use Rattle.edd_check.specs.declared.steps.Step.{Step}
-use Rattle.edd_check.specs.Capacity.{depth_at}
-use Rattle.edd_check.specs.Schedule.{IsLegal, places_at}
-use Rattle.edd_check.specs.Met.{is_met}
-use Rattle.edd_oracle.specs.Met.{IsDelayed}
+use Rattle.edd_commands.specs.declared.Command.{Command}
+use Rattle.edd_commands.specs.declared.steps.Step.{Step}
+use Rattle.edd_commands.specs.Capacity.{depth_at}
+use Rattle.edd_commands.specs.Schedule.{IsLegal, places_at}
+use Rattle.edd_check.specs.OnTime.{is_on_time}
+use Rattle.edd_oracle.specs.OnTime.{IsDelayed}
 use Rattle.edd_oracle.proofs.Counting.{count_along, count_fewer}
 use Rattle.edd_oracle.proofs.Crowded.{due_from_first}
 use Rattle.edd_oracle.proofs.Pairs.{pair_at, length_pairs}
 use Rattle.blk_online.specs.Meetable.{IsMeetableFirst}
 
 -- met in the round x, and due by `due`
-abbrev pub is_met_at : ℕ → ℕ → Command × ℕ → Bool
-is_met_at due x p = nat_le p.0.due due && (is_met p.0 p.1 && p.1 == x)
+abbrev pub is_on_time_at : ℕ → ℕ → Command × ℕ → Bool
+is_on_time_at due x p = nat_le p.0.due due && (is_on_time p.0 p.1 && p.1 == x)
 
-abbrev pub met_at : List Command → List ℕ → ℕ → ℕ → ℕ
-met_at commands rounds due x = count_by (is_met_at due x) (zip commands rounds)
+abbrev pub on_time_at : List Command → List ℕ → ℕ → ℕ → ℕ
+on_time_at commands rounds due x = count_by (is_on_time_at due x) (zip commands rounds)
 
 -- from here on the rounds before n are full of met commands due by `due`
 pub begin : List Command → List ℕ → List Step → ℕ → ℕ → ℕ
 begin commands rounds steps due zero = zero
-begin commands rounds steps due (suc n) = cond (nat_le (depth_at steps n) (met_at commands rounds due n)) (begin commands rounds steps due n) (suc n)
+begin commands rounds steps due (suc n) = cond (nat_le (depth_at steps n) (on_time_at commands rounds due n)) (begin commands rounds steps due n) (suc n)
 
 -- the window that ends with a command's due round holds the round y
 abbrev pub is_held_by : List Command → List ℕ → List Step → ℕ → Command → Bool
@@ -49,13 +49,13 @@ pub unpaired : (commands : List Command) (rounds : List ℕ) (p : Command × ℕ
 unpaired commands rounds p b k d q same within h = subst (λ (r : Command × ℕ). p r ≡ b) (pair_at commands rounds k q d 0 same within) h
 
 module _ (commands : List Command) (rounds : List ℕ) (steps : List Step) where
-  pub begin_full : (due n y : ℕ) → begin commands rounds steps due n ≤ y → y < n → depth_at steps y ≤ met_at commands rounds due y
+  pub begin_full : (due n y : ℕ) → begin commands rounds steps due n ≤ y → y < n → depth_at steps y ≤ on_time_at commands rounds due y
   unfolding begin
   begin_full due zero y low high = absurd (omega arith)
   begin_full due (suc n) y low high =
-      elim (nat_le (depth_at steps n) (met_at commands rounds due n)) as (λ b. nat_le (depth_at steps n) (met_at commands rounds due n) ≡ b → cond b (begin commands rounds steps due n) (suc n) ≤ y → depth_at steps y ≤ met_at commands rounds due y) [
+      elim (nat_le (depth_at steps n) (on_time_at commands rounds due n)) as (λ b. nat_le (depth_at steps n) (on_time_at commands rounds due n) ≡ b → cond b (begin commands rounds steps due n) (suc n) ≤ y → depth_at steps y ≤ on_time_at commands rounds due y) [
         | true ↦ λ e down. elim (cases_eq y n) [
-          | inl same ↦ subst (λ m. depth_at steps m ≤ met_at commands rounds due m) (sym same) (leb-true (depth_at steps n) (met_at commands rounds due n) e)
+          | inl same ↦ subst (λ m. depth_at steps m ≤ on_time_at commands rounds due m) (sym same) (leb-true (depth_at steps n) (on_time_at commands rounds due n) e)
           | inr other ↦ begin_full due n y down (omega arith)
         ]
         | false ↦ λ _ down. absurd (omega arith)
@@ -65,70 +65,70 @@ module _ (commands : List Command) (rounds : List ℕ) (steps : List Step) where
   unfolding begin
   begin_within due zero = omega arith
   begin_within due (suc n) =
-      elim (nat_le (depth_at steps n) (met_at commands rounds due n)) as (λ b. cond b (begin commands rounds steps due n) (suc n) ≤ suc n) [
+      elim (nat_le (depth_at steps n) (on_time_at commands rounds due n)) as (λ b. cond b (begin commands rounds steps due n) (suc n) ≤ suc n) [
         | true ↦ omega (arith, begin_within due n)
         | false ↦ omega arith
       ]
 
   -- the round before it isn't full
-  pub begin_first : (due n : ℕ) → (begin commands rounds steps due n ≡ 0) ⊎ (met_at commands rounds due (begin commands rounds steps due n - 1) < depth_at steps (begin commands rounds steps due n - 1))
+  pub begin_first : (due n : ℕ) → (begin commands rounds steps due n ≡ 0) ⊎ (on_time_at commands rounds due (begin commands rounds steps due n - 1) < depth_at steps (begin commands rounds steps due n - 1))
   unfolding begin
   begin_first due zero = inl refl
   begin_first due (suc n) =
-      elim (nat_le (depth_at steps n) (met_at commands rounds due n)) as (λ b. nat_le (depth_at steps n) (met_at commands rounds due n) ≡ b → (cond b (begin commands rounds steps due n) (suc n) ≡ 0) ⊎ (met_at commands rounds due (cond b (begin commands rounds steps due n) (suc n) - 1) < depth_at steps (cond b (begin commands rounds steps due n) (suc n) - 1))) [
+      elim (nat_le (depth_at steps n) (on_time_at commands rounds due n)) as (λ b. nat_le (depth_at steps n) (on_time_at commands rounds due n) ≡ b → (cond b (begin commands rounds steps due n) (suc n) ≡ 0) ⊎ (on_time_at commands rounds due (cond b (begin commands rounds steps due n) (suc n) - 1) < depth_at steps (cond b (begin commands rounds steps due n) (suc n) - 1))) [
         | true ↦ λ _. begin_first due n
         | false ↦ λ e.
             let same : n ≡ suc n - 1 = omega arith in
-            inr (subst (λ m. met_at commands rounds due m < depth_at steps m) same (leb-false (depth_at steps n) (met_at commands rounds due n) e))
+            inr (subst (λ m. on_time_at commands rounds due m < depth_at steps m) same (leb-false (depth_at steps n) (on_time_at commands rounds due n) e))
       ] refl
 
   -- where all are full from r on it lies no later
-  pub begin_below : (due n r : ℕ) → r ≤ n → ((y : ℕ) → r ≤ y → y < n → depth_at steps y ≤ met_at commands rounds due y) → begin commands rounds steps due n ≤ r
+  pub begin_below : (due n r : ℕ) → r ≤ n → ((y : ℕ) → r ≤ y → y < n → depth_at steps y ≤ on_time_at commands rounds due y) → begin commands rounds steps due n ≤ r
   unfolding begin
   begin_below due zero r low full = omega arith
   begin_below due (suc n) r low full =
       elim (cases_eq r (suc n)) [
         | inl same ↦ omega (arith, begin_within due (suc n))
         | inr other ↦
-            elim (nat_le (depth_at steps n) (met_at commands rounds due n)) as (λ b. nat_le (depth_at steps n) (met_at commands rounds due n) ≡ b → cond b (begin commands rounds steps due n) (suc n) ≤ r) [
+            elim (nat_le (depth_at steps n) (on_time_at commands rounds due n)) as (λ b. nat_le (depth_at steps n) (on_time_at commands rounds due n) ≡ b → cond b (begin commands rounds steps due n) (suc n) ≤ r) [
               | true ↦ λ _. begin_below due n r (omega arith) (λ y from below. full y from (omega arith))
-              | false ↦ λ e. absurd (omega (arith, leb-false (depth_at steps n) (met_at commands rounds due n) e, full n (omega arith) (omega arith)))
+              | false ↦ λ e. absurd (omega (arith, leb-false (depth_at steps n) (on_time_at commands rounds due n) e, full n (omega arith) (omega arith)))
             ] refl
       ]
 
   module _ (legal : IsLegal commands rounds steps) (first : IsMeetableFirst commands rounds steps) where
     -- where a command is delayed the round is full of met commands due no later
-    pub delayed_full : (x k b : ℕ) (d : Command) → IsDelayed commands rounds x k d → (get_or commands k d).due ≤ b → depth_at steps x ≤ met_at commands rounds b x
+    pub delayed_full : (x k b : ℕ) (d : Command) → IsDelayed commands rounds x k d → (get_or commands k d).due ≤ b → depth_at steps x ≤ on_time_at commands rounds b x
     unfolding places_at
     delayed_full x k b d delayed is_due =
         let filled : places_at rounds x ≡ depth_at steps x = first.full x k d delayed in
-        let held : places_at rounds x ≤ met_at commands rounds b x =
-        count_along (λ z. z == x) (is_met_at b x) rounds (zip commands rounds) (length_pairs commands rounds legal.one_each ∙ sym legal.one_each)
+        let held : places_at rounds x ≤ on_time_at commands rounds b x =
+        count_along (λ z. z == x) (is_on_time_at b x) rounds (zip commands rounds) (length_pairs commands rounds legal.one_each ∙ sym legal.one_each)
         (λ j e q within at.
         let j_in : j < length commands = omega (arith, legal.one_each) in
         let at_x : get_or rounds j 0 ≡ x = get_or_default rounds j 0 e within ∙ eqb-true (get_or rounds j e) x at in
         let both = first.due_first x k j d delayed j_in at_x in
         let sooner : (get_or commands j d).due ≤ (get_or commands k d).due = due_from_first (get_or commands j d) (get_or commands k d) both.1 in
-        paired commands rounds (is_met_at b x) j d q legal.one_each j_in
-        (and_from (nat_le (get_or commands j d).due b) (is_met (get_or commands j d) (get_or rounds j 0) && get_or rounds j 0 == x) (le-leb (get_or commands j d).due b (omega arith))
-        (and_from (is_met (get_or commands j d) (get_or rounds j 0)) (get_or rounds j 0 == x) (le-leb (get_or rounds j 0) (get_or commands j d).due (omega (arith, both.0))) (eq-eqb (get_or rounds j 0) x at_x)))) in
+        paired commands rounds (is_on_time_at b x) j d q legal.one_each j_in
+        (and_from (nat_le (get_or commands j d).due b) (is_on_time (get_or commands j d) (get_or rounds j 0) && get_or rounds j 0 == x) (le-leb (get_or commands j d).due b (omega arith))
+        (and_from (is_on_time (get_or commands j d) (get_or rounds j 0)) (get_or rounds j 0 == x) (le-leb (get_or rounds j 0) (get_or commands j d).due (omega (arith, both.0))) (eq-eqb (get_or rounds j 0) x at_x)))) in
         omega (arith, filled, held)
 
     -- a command in a full round is one of those that fill it
-    pub due_inside : (b x k : ℕ) (d : Command) → k < length commands → get_or rounds k 0 ≡ x → depth_at steps x ≤ met_at commands rounds b x → (get_or commands k d).due ≤ b
+    pub due_inside : (b x k : ℕ) (d : Command) → k < length commands → get_or rounds k 0 ≡ x → depth_at steps x ≤ on_time_at commands rounds b x → (get_or commands k d).due ≤ b
     unfolding places_at
     due_inside b x k d within at full =
         elim (cases_lt b (get_or commands k d).due) [
           | inr held ↦ held
           | inl past ↦
               let long : length (zip commands rounds) ≡ length commands = length_pairs commands rounds legal.one_each in
-              let fewer : met_at commands rounds b x < count_by (λ (p : Command × ℕ). p.1 == x) (zip commands rounds) =
-              count_fewer (is_met_at b x) (λ (p : Command × ℕ). p.1 == x)
-              (λ p yes. (and_parts (is_met p.0 p.1) (p.1 == x) (and_parts (nat_le p.0.due b) (is_met p.0 p.1 && p.1 == x) yes).1).1)
+              let fewer : on_time_at commands rounds b x < count_by (λ (p : Command × ℕ). p.1 == x) (zip commands rounds) =
+              count_fewer (is_on_time_at b x) (λ (p : Command × ℕ). p.1 == x)
+              (λ p yes. (and_parts (is_on_time p.0 p.1) (p.1 == x) (and_parts (nat_le p.0.due b) (is_on_time p.0 p.1 && p.1 == x) yes).1).1)
               (zip commands rounds) k (d, 0) (omega (arith, long, within))
               (paired commands rounds (λ (p : Command × ℕ). p.1 == x) k d (d, 0) legal.one_each within (eq-eqb (get_or rounds k 0) x at))
-              (subst (λ (r : Command × ℕ). is_met_at b x r ≡ false) (sym (pair_at commands rounds k (d, 0) d 0 legal.one_each within))
-              (and_left (nat_le (get_or commands k d).due b) (is_met (get_or commands k d) (get_or rounds k 0) && get_or rounds k 0 == x) (lt-leb (get_or commands k d).due b past))) in
+              (subst (λ (r : Command × ℕ). is_on_time_at b x r ≡ false) (sym (pair_at commands rounds k (d, 0) d 0 legal.one_each within))
+              (and_left (nat_le (get_or commands k d).due b) (is_on_time (get_or commands k d) (get_or rounds k 0) && get_or rounds k 0 == x) (lt-leb (get_or commands k d).due b past))) in
               let placed : count_by (λ (p : Command × ℕ). p.1 == x) (zip commands rounds) ≤ places_at rounds x =
               count_along (λ (p : Command × ℕ). p.1 == x) (λ z. z == x) (zip commands rounds) rounds (legal.one_each ∙ sym long)
               (λ j q e j_in yes.

@@ -1,10 +1,10 @@
 -- Schedules that serve first, round by round, what can still be met.
 use Rattle.std.specs.Prelude.{ℕ, ◌≡◌, ◌≤◌, ◌<◌, List, length, slice_index, slice_index_or}
-use Rattle.edd_check.specs.declared.Command.{Command}
-use Rattle.edd_check.specs.declared.steps.Step.{Step}
-use Rattle.edd_check.specs.Capacity.{depth_at}
-use Rattle.edd_check.specs.Schedule.{places_at}
-use Rattle.edd_oracle.specs.Met.{IsDelayed}
+use Rattle.edd_commands.specs.declared.Command.{Command}
+use Rattle.edd_commands.specs.declared.steps.Step.{Step}
+use Rattle.edd_commands.specs.Capacity.{depth_at}
+use Rattle.edd_commands.specs.Schedule.{places_at}
+use Rattle.edd_oracle.specs.OnTime.{IsDelayed}
 use Rattle.edd_oracle.specs.Priority.{ComesFirst}
 
 -- where a released command that could be met has to wait, the round is full, and of commands that are met and come first

@@ -1,6 +1,6 @@
 -- What went out in a round, and what waits as it ends.
 use Rattle.std.specs.Prelude.{ℕ, ◌≡◌, ◌≤◌, List, Some, slice_get, take}
-use Rattle.edd_check.specs.Schedule.{places_at}
+use Rattle.edd_commands.specs.Schedule.{places_at}
 use Rattle.edd_oracle.specs.Priority.{ComesFirst}
 use Rattle.blk_trace.specs.Happened.{Happened}
 use Rattle.blk_trace.specs.declared.event.Event.TheVariants.{Tick}

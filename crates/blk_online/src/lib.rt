@@ -7,10 +7,10 @@
 #![tactic(auto)]
 
 ghost use Rattle.std.specs.Prelude.{◌≡◌, ℕ, ℤ, List};
-ghost use Rattle.edd_check.specs.declared.Command.{Command};
-ghost use Rattle.edd_check.specs.declared.steps.Step.{Step};
-ghost use Rattle.edd_check.specs.Schedule.{IsLegal, IsGreatestLateness, IsLeastLateness};
-ghost use Rattle.edd_check.specs.Met.{number_met, IsMostMet};
+ghost use Rattle.edd_commands.specs.declared.Command.{Command};
+ghost use Rattle.edd_commands.specs.declared.steps.Step.{Step};
+ghost use Rattle.edd_commands.specs.Schedule.{IsLegal, IsGreatestLateness, IsLeastLateness};
+ghost use Rattle.edd_check.specs.OnTime.{number_on_time, IsMostOnTime};
 ghost use Rattle.edd_oracle.specs.Priority.{IsEarliestDueFirst};
 ghost use Rattle.blk_trace.specs.Happened.{Happened};
 ghost use Rattle.blk_trace.specs.Setups.{Setup, IsSetup};
@@ -36,7 +36,7 @@ pub fn law_of_earliest_due_first()
 pub fn law_of_meetable_first()
     ensures { (commands : List Command) → (steps : List Step) → (rounds : List ℕ)
         → IsLegal commands rounds steps → IsMeetableFirst commands rounds steps
-        → IsMostMet commands steps (number_met commands rounds) }
+        → IsMostOnTime commands steps (number_on_time commands rounds) }
 {}
 
 /// Where, as each round of a legal trace ends, what went out in it comes before all that waits, and the round is full if
@@ -73,7 +73,7 @@ pub fn law_of_late_last_traces()
         → IsMeetableFirst (commands_of setup events) (rounds_of events) (capacity_of setup events) }
     ensures most { (setup : Setup) → (events : List Happened)
         → IsLegalTrace setup events → AtTicks (IsMeetableNow setup) events
-        → IsMostMet (commands_of setup events) (capacity_of setup events) (number_met (commands_of setup events) (rounds_of events)) }
+        → IsMostOnTime (commands_of setup events) (capacity_of setup events) (number_on_time (commands_of setup events) (rounds_of events)) }
 {}
 
 /// Read as each command goes out, and not as its round ends, what waits is too little: both laws would be false. In a legal trace a
@@ -87,6 +87,6 @@ pub fn law_of_issues()
     ensures late { (late : ℤ) → IsGreatestLateness (commands_of one_tag read_too_late) (rounds_of read_too_late) late
         → IsLeastLateness (commands_of one_tag read_too_late) (capacity_of one_tag read_too_late) late → ⊥ }
     ensures meetable { IsMeetableAtIssues one_tag read_too_late }
-    ensures missed { IsMostMet (commands_of one_tag read_too_late) (capacity_of one_tag read_too_late)
-        (number_met (commands_of one_tag read_too_late) (rounds_of read_too_late)) → ⊥ }
+    ensures missed { IsMostOnTime (commands_of one_tag read_too_late) (capacity_of one_tag read_too_late)
+        (number_on_time (commands_of one_tag read_too_late) (rounds_of read_too_late)) → ⊥ }
 {}

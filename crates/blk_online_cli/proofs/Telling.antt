@@ -1,4 +1,4 @@
--- What is told of the trace that a simulation under earliest wrote.
+-- What is said about the trace that a simulation under earliest wrote.
 use Rattle.std.proofs.Common.{◌≡◌, ◌∙◌, ◌++◌, ◌⊎◌, ℕ, List, length, Option, Some, Bool, true, false, pos, All, refl, sym, ap, subst, inl, inr}
 use Rattle.std.proofs.lemmas.List.{append_cancel_left}
 use Rattle.std.specs.Io.KnownBytes.{Appends}
@@ -8,6 +8,7 @@ use Rattle.blk_sched.specs.Meaning.{at_start}
 use Rattle.blk_earliest.specs.Choice.{kept_of}
 use Rattle.blk_trace.specs.Happened.{Happened}
 use Rattle.blk_trace.specs.Setups.{Setup, IsSetup}
+use Rattle.edd_figures.specs.Figures.{shortfall_in}
 use Rattle.blk_trace.specs.Traces.{Traced}
 use Rattle.blk_text.specs.Script.{Scripted}
 use Rattle.blk_text.specs.TraceForm.{SpellsTrace}
@@ -47,7 +48,7 @@ read_holds late_last bytes traced u by g read =
     subst (λ (s : Setup). AtTicks (HoldsNow late_last s) u.events) once.1
     (subst (λ (es : List Happened). AtTicks (HoldsNow late_last trace.setup) es) once.2 (held late_last bytes traced by g))
 
-none_short : (u : Traced) (text : List ℕ) → (t : IsReportText form.Lines u text) → IsTrace u → AtTicks (HoldsNow false u.setup) u.events → (t.report.commands ≡ 0) ⊎ (t.report.shortfall ≡ Some (pos 0))
+none_short : (u : Traced) (text : List ℕ) → (t : IsReportText form.Lines u text) → IsTrace u → AtTicks (HoldsNow false u.setup) u.events → (t.report.commands ≡ 0) ⊎ (shortfall_in t.report.figures ≡ Some (pos 0))
 none_short u text t is holds = elim (telling.no_shortfall u.setup u.events t.report (least_late false u.setup u.events is.legal refl holds) t.is_report) [
   | inl none ↦ inl (t.is_report.commands ∙ ap length none)
   | inr zero ↦ inr zero
@@ -55,7 +56,7 @@ none_short u text t is holds = elim (telling.no_shortfall u.setup u.events t.rep
 
 none_avoidable : (u : Traced) (text : List ℕ) → (t : IsMissesText form.Lines u text) → IsTrace u → AtTicks (HoldsNow true u.setup) u.events → t.tally.avoidable ≡ 0
 none_avoidable u text t is holds =
-    telling.none_avoidable u.setup u.events t.tally.commands t.tally.late t.tally.unavoidable t.tally.avoidable t.windows is.legal (meets_most true u.setup u.events is.legal refl holds) t.is_tallied.misses
+    telling.none_avoidable u.setup u.events is.legal (meets_most true u.setup u.events is.legal refl holds) t.tally.commands t.tally.late t.tally.unavoidable t.tally.avoidable t.windows t.is_tallied.misses
 
 -- the report, and the misses, of what a simulation gives
 

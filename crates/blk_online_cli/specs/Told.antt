@@ -1,8 +1,9 @@
 -- From the bytes of a script to what the program tells of its trace.
-use Rattle.std.specs.Prelude.{ℕ, ◌≡◌, ◌↔◌, ◌⊎◌, ◌∷◌, List, [], Bool, true, false, Some, pos, All, codes}
+use Rattle.std.specs.Prelude.{ℕ, ◌≡◌, ◌↔◌, ◌⊎◌, ◌++◌, List, Bool, Option, Some, Result, IfOk, pos, All}
 use Rattle.drafts.specs.Outputs.{Stream, IsWritten}
 use Rattle.csv.specs.Reading.{default_config, records, strip_bom}
 use Rattle.blk_lists.specs.Sources.{Row}
+use Rattle.edd_figures.specs.Figures.{shortfall_in}
 use Rattle.blk_trace.specs.Traces.{Traced}
 use Rattle.blk_text.specs.Script.{Scripted, SpellsScript}
 use Rattle.blk_text.specs.TraceForm.{SpellsTrace}
@@ -42,7 +43,7 @@ pub record ReportsNoShortfall (bytes : List ℕ) (old new : Stream) : Type 0 whe
   pub spelled : SpellsTrace (rows_in bytes) trace
   pub is_text : IsReportText form.Lines trace text
   pub wrote : IsWritten text old new
-  pub none_short : (is_text.report.commands ≡ 0) ⊎ (is_text.report.shortfall ≡ Some (pos 0))
+  pub none_short : (is_text.report.commands ≡ 0) ⊎ (shortfall_in is_text.report.figures ≡ Some (pos 0))
 
 -- what is said of the misses of that trace was written: none of them is avoidable
 pub record CountsNoneAvoidable (bytes : List ℕ) (old new : Stream) : Type 0 where
@@ -53,16 +54,14 @@ pub record CountsNoneAvoidable (bytes : List ℕ) (old new : Stream) : Type 0 wh
   pub wrote : IsWritten text old new
   pub none_avoidable : is_text.tally.avoidable ≡ 0
 
--- the words for a simulation under earliest, for a report and for the misses
-abbrev pub late_last_words : Bool → List (List ℕ)
-late_last_words false = []
-late_last_words true = codes "--late-last" ∷ []
+-- where one run writes a trace of a script by rounds, and another reads it, this holds of what the other writes
+abbrev pub OfTwoRuns : Job → Job → (List ℕ → Stream → Stream → Type 0) → Type 0
+OfTwoRuns first second Tells = (words again : List (List ℕ)) → (script before trace : List ℕ) → (one two old new : Stream)
+    → AskAlone words first → AskAlone again second
+    → SpellByRounds script → EndsWell words script one two → one.held ≡ Some before → two.held ≡ Some (before ++ trace)
+    → EndsWell again trace old new → Tells trace old new
 
-abbrev pub sim_words : Bool → List (List ℕ)
-sim_words late_last = codes "blk" ∷ codes "sim" ∷ codes "--sched" ∷ codes "earliest" ∷ late_last_words late_last
-
-abbrev pub report_words : List (List ℕ)
-report_words = codes "blk" ∷ codes "oracle" ∷ codes "--trace" ∷ []
-
-abbrev pub misses_words : List (List ℕ)
-misses_words = codes "blk" ∷ codes "misses" ∷ []
+-- where both runs end well, and the first reads a script by rounds, this holds of its trace and of what the other writes
+abbrev pub OfItsTrace : {E : Type 0} → (List ℕ → Stream → Stream → Type 0) → Option (List Row) → Stream → Stream → Result Ended E → Type 0
+OfItsTrace Tells input old new r = (script : List ℕ) → input ≡ Some (rows_in script) → SpellByRounds script
+    → IfOk r (λ ended. ended.status ≡ 0 → (trace : List ℕ) × Tells trace old new)

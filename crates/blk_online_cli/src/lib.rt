@@ -2,9 +2,10 @@
 //! shortfall, and with late last no avoidable miss.
 #![tactic(auto)]
 
-ghost use Rattle.std.specs.Prelude.{◌≡◌, ◌++◌, ℕ, false, true, List, Some, IfOk, map, string_bytes};
-ghost use Rattle.drafts.specs.Outputs.{Stream, stream_of};
-ghost use Rattle.blk_online_cli.specs.Told.{SpellByRounds, AskAlone, EndsWell, ReportsNoShortfall, CountsNoneAvoidable, rows_in, sim_words, report_words, misses_words};
+ghost use Rattle.std.specs.Prelude.{◌≡◌, false, true, IfOk, map, string_bytes};
+ghost use Rattle.drafts.specs.Outputs.{stream_of};
+ghost use Rattle.blk_online_cli.specs.Told.{ReportsNoShortfall, CountsNoneAvoidable, OfTwoRuns, OfItsTrace};
+ghost use Rattle.blk_online_cli.specs.Inside.Words.{sim_words, report_words, misses_words};
 
 use blk_cli::{Ended, answer, run};
 use blk_lists::Records;
@@ -24,20 +25,14 @@ use std::thread::Threads;
 ///
 /// A law of [`run`]: it does nothing when it runs, and a caller has its clause.
 pub fn law_of_reports()
-    ensures { (words again : List (List ℕ)) → (script before trace : List ℕ) → (one two old new : Stream)
-        → AskAlone words (Job.Sim (Sched.Earliest false)) → AskAlone again (Job.Report Form.Lines)
-        → SpellByRounds script → EndsWell words script one two → one.held ≡ Some before → two.held ≡ Some (before ++ trace)
-        → EndsWell again trace old new → ReportsNoShortfall trace old new }
+    ensures { OfTwoRuns (Job.Sim (Sched.Earliest false)) (Job.Report Form.Lines) ReportsNoShortfall }
 {}
 
 /// What `sim --sched earliest --late-last` writes of such a script is a trace of which `misses` says that none is avoidable.
 ///
 /// A law of [`run`]: it does nothing when it runs, and a caller has its clause.
 pub fn law_of_misses()
-    ensures { (words again : List (List ℕ)) → (script before trace : List ℕ) → (one two old new : Stream)
-        → AskAlone words (Job.Sim (Sched.Earliest true)) → AskAlone again (Job.Misses Form.Lines)
-        → SpellByRounds script → EndsWell words script one two → one.held ≡ Some before → two.held ≡ Some (before ++ trace)
-        → EndsWell again trace old new → CountsNoneAvoidable trace old new }
+    ensures { OfTwoRuns (Job.Sim (Sched.Earliest true)) (Job.Misses Form.Lines) CountsNoneAvoidable }
 {}
 
 /// The words for a simulation under `earliest`, with `--late-last` or without it.
@@ -77,7 +72,7 @@ fn to_count(alloc: Global) -> Result<Vec<String>, AllocError>
 }
 
 /// `blk sim --sched earliest`, and `blk oracle --trace` on what that answers: of a script by rounds the report has the shortfall 0, or
-/// there are no commands. Answers how the second run ended, or the first where it has no text, and refuses for want of memory for the
+/// there are no commands. Answers how the second run ended, or the first where it has no text, and fails when out of memory for the
 /// words.
 pub fn report_of_earliest<L: Loads, T: Threads + Wait + Sync, R: Read + Drop, W: Write, F: Write>(
     loads: &L,
@@ -88,8 +83,7 @@ pub fn report_of_earliest<L: Loads, T: Threads + Wait + Sync, R: Read + Drop, W:
     faults: &mut Output<F>,
 ) -> Result<Ended, AllocError>
     requires { records.old.at ≡ 0 }
-    ensures { (script : List ℕ) → records.old.left ≡ Some (rows_in script) → SpellByRounds script
-        → IfOk result (λ ended. ended.status ≡ 0 → (trace : List ℕ) × ReportsNoShortfall trace (stream_of W.contents out.old) (stream_of W.contents out.new)) }
+    ensures { OfItsTrace ReportsNoShortfall records.old.left (stream_of W.contents out.old) (stream_of W.contents out.new) result }
 {
     plain_lines();
     let first = to_simulate(alloc, false)?;
@@ -122,8 +116,7 @@ pub fn misses_of_late_last<L: Loads, T: Threads + Wait + Sync, R: Read + Drop, W
     faults: &mut Output<F>,
 ) -> Result<Ended, AllocError>
     requires { records.old.at ≡ 0 }
-    ensures { (script : List ℕ) → records.old.left ≡ Some (rows_in script) → SpellByRounds script
-        → IfOk result (λ ended. ended.status ≡ 0 → (trace : List ℕ) × CountsNoneAvoidable trace (stream_of W.contents out.old) (stream_of W.contents out.new)) }
+    ensures { OfItsTrace CountsNoneAvoidable records.old.left (stream_of W.contents out.old) (stream_of W.contents out.new) result }
 {
     plain_lines();
     let first = to_simulate(alloc, true)?;

@@ -1,14 +1,14 @@
 -- What a simulation does only adds events, and so what it leaves was legal before.
 use Rattle.std.proofs.Common.{◌≡◌, ◌++◌, ℕ, zero, suc, List, [], ◌∷◌, length, Option, Some, None, refl, sym, ◌∙◌, ap, subst, inl, inr, append_assoc, append-nil}
-use Rattle.edd_check.specs.declared.Command.{Command}
+use Rattle.edd_commands.specs.declared.Command.{Command}
 use Rattle.blk_bio.specs.Bios.{Bio}
 use Rattle.blk_soft.specs.Queues.{Queue}
 use Rattle.blk_trace.specs.Happened.{Happened}
 use Rattle.blk_trace.specs.Setups.{Setup}
 use Rattle.blk_trace.specs.Legal.{IsLegalTrace}
 use Rattle.blk_trace.proofs.Reading.{prefix_legal}
-use Rattle.blk_core.specs.declared.Placed.{Placed}
-use Rattle.blk_core.specs.declared.Placed.TheVariants.{New, Joined as JoinedTo}
+use Rattle.blk_core.specs.declared.calls.Placed.{Placed}
+use Rattle.blk_core.specs.declared.calls.Placed.TheVariants.{New, Joined as JoinedTo}
 use Rattle.blk_core.specs.State.{CoreState}
 use Rattle.blk_core.specs.Calls.{Places, Completes, Ends}
 use Rattle.blk_text.specs.declared.script.Line.{Line}

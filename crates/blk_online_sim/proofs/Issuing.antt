@@ -8,7 +8,7 @@ use Rattle.std.specs.Ordering.{nat_cmp, is_eq}
 use Rattle.std.specs.BTreeMap.{is_at}
 use Rattle.std.specs.Map.{lookup, values_of}
 use Rattle.std.proofs.lemmas.List.Sums.{sum_by-append}
-use Rattle.edd_check.specs.Schedule.{places_at}
+use Rattle.edd_commands.specs.Schedule.{places_at}
 use Rattle.blk_sched.specs.Meaning.{Waiting, Pending, Meaning, Picks}
 use Rattle.blk_sched.specs.Maps.{looked_up}
 use Rattle.blk_trace.specs.Happened.{Happened}

@@ -2,11 +2,11 @@
 use Rattle.std.proofs.Common.{◌≡◌, ◌<◌, ◌≤◌, ◌+◌, ◌++◌, ◌==◌, ℕ, List, [], ◌∷◌, take, Some, None, false, true, refl, sym, ◌∙◌, ap, subst, arith, inl, inr, append-nil, ne_eqb, get_or}
 use Rattle.std.specs.Prelude.{slice_get, option_map, cond}
 use Rattle.std.specs.List.{cons_option}
-use Rattle.edd_check.specs.Schedule.{places_at}
+use Rattle.edd_commands.specs.Schedule.{places_at}
 use Rattle.edd_oracle.proofs.Counting.{count_map, count_none}
 use Rattle.blk_trace.specs.Happened.{Happened}
 use Rattle.blk_trace.specs.declared.event.Event.TheVariants.{Tick, Issue}
-use Rattle.blk_trace.specs.Kinds.{issues, hands_back}
+use Rattle.blk_trace.specs.Kinds.{issues, requeues}
 use Rattle.blk_trace.specs.Events.{At, is_tick, round_of, round_at, IsUsed}
 use Rattle.blk_trace.specs.Meaning.{served, rounds_of}
 use Rattle.blk_trace.proofs.Places.{split, before, before_last}
@@ -69,7 +69,7 @@ used_or es id tag t n below low used =
 
 -- ---- services
 
-pub served_same : (es : List Happened) (e : Happened) → issues e ≡ None → hands_back e ≡ None → served 0 (es ++ e ∷ []) ≡ served 0 es
+pub served_same : (es : List Happened) (e : Happened) → issues e ≡ None → requeues e ≡ None → served 0 (es ++ e ∷ []) ≡ served 0 es
 served_same es e quiet keeps =
     served_push es e keeps ∙ ap (λ o. served 0 es ++ cons_option (option_map (λ (p : ℕ × ℕ). (round_of es, p.0)) o) []) quiet ∙ append-nil (served 0 es)
 
@@ -88,7 +88,7 @@ fresh_start es none = subst IsFresh (sym none) (record {
   empty = refl;
 })
 
-pub fresh_kept : (es : List Happened) (e : Happened) → is_tick e ≡ false → issues e ≡ None → hands_back e ≡ None → IsFresh es → IsFresh (es ++ e ∷ [])
+pub fresh_kept : (es : List Happened) (e : Happened) → is_tick e ≡ false → issues e ≡ None → requeues e ≡ None → IsFresh es → IsFresh (es ++ e ∷ [])
 fresh_kept es e none quiet keeps fresh =
     let same : round_of (es ++ e ∷ []) ≡ round_of es = same_round es e none in
     record {

@@ -2,7 +2,7 @@
 use Rattle.std.proofs.Common.{◌≡◌, ◌<◌, ◌≤◌, ◌+◌, ◌++◌, ℕ, zero, suc, List, [], ◌∷◌, Bool, true, false, refl, sym, ◌∙◌, ap, subst, arith, inl, inr, Some}
 use Rattle.std.specs.Prelude.{slice_get}
 use Rattle.std.specs.FinMap as map
-use Rattle.edd_check.specs.Schedule.{places_at}
+use Rattle.edd_commands.specs.Schedule.{places_at}
 use Rattle.blk_bio.specs.Bios.{Bio}
 use Rattle.blk_sched.specs.Meaning.{Waiting, Meaning}
 use Rattle.blk_soft.specs.Queues.{Queue}
@@ -19,8 +19,8 @@ use Rattle.blk_trace.proofs.Commands.{rounds_kept}
 use Rattle.blk_trace.proofs.Depths.{depth_kept, depth_now_is}
 use Rattle.blk_trace.proofs.Entering.{same_entered}
 use Rattle.blk_trace.proofs.Waiting.{waiting_from}
-use Rattle.blk_core.specs.declared.Placed.{Placed}
-use Rattle.blk_core.specs.declared.Placed.TheVariants.{New, Joined as JoinedTo}
+use Rattle.blk_core.specs.declared.calls.Placed.{Placed}
+use Rattle.blk_core.specs.declared.calls.Placed.TheVariants.{New, Joined as JoinedTo}
 use Rattle.blk_core.specs.State.{CoreState}
 use Rattle.blk_core.specs.Calls.{Places, Completes, Ends, SetsDepth}
 use Rattle.blk_sim.specs.Moves.{EnterInTurn, DrainInTurn}

@@ -2,25 +2,18 @@
 //! commands.
 #![tactic(auto)]
 
-ghost use Rattle.std.specs.Prelude.{◌≡◌, ℕ, Bool, true, false, List, IfOk, All};
-ghost use Rattle.blk_sched.specs.Meaning.{at_start};
+ghost use Rattle.std.specs.Prelude.{◌≡◌, Bool, true, false, List, IfOk, All};
 ghost use Rattle.blk_trace.specs.Happened.{Happened};
-ghost use Rattle.blk_trace.specs.Setups.{Setup, IsSetup};
-ghost use Rattle.blk_trace.specs.Depths.{capacity_of};
-ghost use Rattle.blk_trace.specs.Meaning.{commands_of, rounds_of};
+ghost use Rattle.blk_trace.specs.Setups.{Setup};
 ghost use Rattle.blk_trace.specs.Legal.{IsLegalTrace};
 ghost use Rattle.blk_text.specs.declared.script.Line.{Line};
 ghost use Rattle.blk_text.specs.Script.{Scripted, IsScript, scripted};
-ghost use Rattle.blk_sim.specs.State.{SimState, start_of};
-ghost use Rattle.blk_sim.specs.Runs.{Runs};
-ghost use Rattle.blk_earliest.specs.Choice.{kept_of, earliest_policy};
+ghost use Rattle.blk_sim.specs.State.{SimState};
 ghost use Rattle.blk_online.specs.Ticks.{AtTicks};
 ghost use Rattle.blk_report.specs.declared.figures.Report.{Report};
-ghost use Rattle.edd_figures.specs.declared.missing.Crowd.{Crowd};
 ghost use Rattle.blk_report.specs.Shortfall.{IsReport};
-ghost use Rattle.edd_figures.specs.Misses.{AreMisses};
-ghost use Rattle.blk_online_sim.specs.Told.{HasNoShortfall};
-ghost use Rattle.blk_online_sim.specs.ByRounds.{IsByRounds, HoldsNow, IsLeastLate, IsOneSchedule, MeetsMost};
+ghost use Rattle.blk_online_sim.specs.Told.{HasNoShortfall, HasNoneAvoidable};
+ghost use Rattle.blk_online_sim.specs.ByRounds.{IsByRounds, HoldsNow, HoldsByRounds, IsLeastLate, IsOneSchedule, MeetsMost};
 
 use blk_earliest::Earliest;
 use blk_sim::{SimFault, SimWhy, simulate};
@@ -36,35 +29,26 @@ const SETUP_RECORD: u64 = 2;
 ///
 /// A law: it does nothing when it runs, and a caller has its clause.
 pub fn law_of_rounds_under_earliest()
-    ensures { (late_last : Bool) → (script : Scripted) → (steps : List Line) → (end : SimState)
-        → IsSetup script.setup → All IsByRounds steps
-        → Runs earliest_policy steps (start_of script (at_start true) (kept_of late_last)) end
-        → IsLegalTrace script.setup end.core.events
-        → AtTicks (HoldsNow late_last script.setup) end.core.events }
+    ensures { (late_last : Bool) (script : Scripted) (steps : List Line) (end : SimState) → HoldsByRounds late_last script steps end }
 {}
 
 /// The report of a trace that is least late has the shortfall 0, or there are no commands.
 ///
 /// A law: it does nothing when it runs, and a caller has its clause.
 pub fn law_of_no_shortfall()
-    ensures { (setup : Setup) → (events : List Happened) → (r : Report)
-        → IsLeastLate setup events → IsReport setup events r → HasNoShortfall setup events r }
+    ensures { (s : Setup) (es : List Happened) (r : Report) → IsLeastLate s es → IsReport s es r → HasNoShortfall s es r }
 {}
 
 /// None of the misses of a legal trace that meets the most is avoidable.
 ///
 /// A law: it does nothing when it runs, and a caller has its clause.
 pub fn law_of_none_avoidable()
-    ensures { (setup : Setup) → (events : List Happened)
-        → (count late unavoidable avoidable : ℕ) → (windows : List Crowd)
-        → IsLegalTrace setup events → MeetsMost setup events
-        → AreMisses (commands_of setup events) (rounds_of events) (capacity_of setup events) count late unavoidable avoidable windows
-        → avoidable ≡ 0 }
+    ensures { (s : Setup) (es : List Happened) → IsLegalTrace s es → MeetsMost s es → HasNoneAvoidable s es }
 {}
 
 /// The trace of a script under [`Earliest`], as [`simulate`] runs it. Where the script has bios, flushes, drains, depths and runs
 /// alone, no legal schedule of the trace's own commands has a smaller greatest lateness, and with `late_last` none meets more due
-/// rounds. Want of memory is told at the setup's record where the scheduler is not made.
+/// rounds. Where memory runs out before the scheduler is made, the fault is at the setup's record.
 pub fn simulate_earliest<A: Allocator + Clone>(
     alloc: A,
     script: &Script,
@@ -73,11 +57,12 @@ pub fn simulate_earliest<A: Allocator + Clone>(
     requires { IsScript (scripted script.now) }
     ensures setup { IfOk result (λ trace. trace.setup ≡ script.now.setup) }
     ensures legal { IfOk result (λ trace. IsLegalTrace trace.setup trace.events) }
-    ensures rounds { IfOk result (λ trace. All IsByRounds script.now.lines.items → AtTicks (HoldsNow late_last trace.setup) trace.events) }
-    ensures least { IfOk result (λ trace. late_last ≡ false → All IsByRounds script.now.lines.items → IsLeastLate trace.setup trace.events) }
-    ensures one { IfOk result (λ trace. late_last ≡ false → All IsByRounds script.now.lines.items → IsOneSchedule trace.setup trace.events) }
-    ensures most { IfOk result (λ trace. late_last ≡ true → All IsByRounds script.now.lines.items → MeetsMost trace.setup trace.events) }
+    ensures rounds { IfOk result (λ t. All IsByRounds script.now.lines.items → AtTicks (HoldsNow late_last t.setup) t.events) }
+    ensures least { IfOk result (λ t. late_last ≡ false → All IsByRounds script.now.lines.items → IsLeastLate t.setup t.events) }
+    ensures one { IfOk result (λ t. late_last ≡ false → All IsByRounds script.now.lines.items → IsOneSchedule t.setup t.events) }
+    ensures most { IfOk result (λ t. late_last ≡ true → All IsByRounds script.now.lines.items → MeetsMost t.setup t.events) }
 {
+    // brings the prover the setup's ranges, which the laws of rounds ask for
     let _ = script.setup.hw();
     let Ok(spare) = alloc.clone() else {
         return Err(SimFault {

@@ -7,8 +7,8 @@ use Rattle.std.proofs.lemmas.List.{take_more, take_min, drop_all, length_push, l
 use Rattle.std.proofs.lemmas.List.Elements.{filter_map-append}
 use Rattle.std.proofs.lemmas.List.Sums.{count_by_more_yes, count_by_more_no, count_by-le-length, fold_push}
 use Rattle.blk_trace.proofs.Counting.{one_if, count-cons}
-use Rattle.edd_check.specs.declared.steps.Step.{Step}
-use Rattle.edd_check.specs.Capacity.{carried}
+use Rattle.edd_commands.specs.declared.steps.Step.{Step}
+use Rattle.edd_commands.specs.Capacity.{carried}
 use Rattle.std.specs.Prelude.{Option, Some, None}
 use Rattle.std.specs.List.{cons_option, filter_map}
 use Rattle.blk_bio.specs.declared.bio.Dir.{Dir}

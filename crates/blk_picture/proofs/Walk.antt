@@ -7,13 +7,14 @@ use Rattle.std.proofs.lemmas.Bool.{cases_Bool, eqb-false}
 use Rattle.std.proofs.lemmas.List.{drop_more, take_more, drop_all, take_all, length-set, length_push, length-replicate, get_or-replicate, get_or-set_same, get_or-set_other}
 use Rattle.blk_trace.specs.Happened.{Happened}
 use Rattle.blk_trace.specs.declared.event.Event.TheVariants.{Tick, Release, Join, Issue, Done, Back, Depth}
-use Rattle.blk_trace.specs.Kinds.{is_tick, issues, ends, hands_back, is_done_of}
+use Rattle.blk_trace.specs.Kinds.{is_tick, issues, ends, requeues, is_done_of}
 use Rattle.blk_trace.specs.Setups.{Setup}
 use Rattle.blk_trace.specs.declared.trace.TheConstants.{MAX_EVENTS}
 use Rattle.blk_trace.specs.Events.{round_of, goes_back, request_of}
 use Rattle.blk_trace.specs.Meaning.{release_of, due_of}
 use Rattle.blk_trace.proofs.More.{round_more}
 use Rattle.blk_picture.specs.declared.boxes.Issued.{Issued}
+use Rattle.blk_picture.specs.declared.boxes.TheConstants.{TAGS}
 use Rattle.blk_picture.specs.declared.facts.Facts.{Facts}
 use Rattle.blk_picture.specs.Inside.Facts.{facts_with, facts_or, Knows}
 use Rattle.blk_picture.specs.Inside.Walked.{IsWalked}
@@ -27,7 +28,7 @@ boxes_back setup events round k e l is =
     ap (boxes_from setup events round) (drop_more events k e l ∙ ap (λ x. x ∷ drop (k + 1) events) is)
 
 -- how a tag's next end is from a place on
-pub back_back : (events : List Happened) (tag k : ℕ) (e : Happened) → k < length events → get_or events k e ≡ e → goes_back tag (drop k events) ≡ cond (is_done_of tag e) (is_some (hands_back e)) (goes_back tag (drop (k + 1) events))
+pub back_back : (events : List Happened) (tag k : ℕ) (e : Happened) → k < length events → get_or events k e ≡ e → goes_back tag (drop k events) ≡ cond (is_done_of tag e) (is_some (requeues e)) (goes_back tag (drop (k + 1) events))
 unfolding goes_back
 back_back events tag k e l is = ap (goes_back tag) (drop_more events k e l ∙ ap (λ x. x ∷ drop (k + 1) events) is)
 
@@ -82,12 +83,12 @@ boxes_push setup events round k id tag e items new b l is quiet some h box n =
 -- no tag's end changes where none ends
 pub back_still : (events : List Happened) (tag k : ℕ) (e : Happened) (b : Bool) → k < length events → get_or events k e ≡ e → ends e ≡ None → b ≡ goes_back tag (drop (k + 1) events) → b ≡ goes_back tag (drop k events)
 back_still events tag k e b l is none h =
-    h ∙ sym (back_back events tag k e l is ∙ ap (λ o. cond (option_map_or (λ t. t == tag) o false) (is_some (hands_back e)) (goes_back tag (drop (k + 1) events))) none)
+    h ∙ sym (back_back events tag k e l is ∙ ap (λ o. cond (option_map_or (λ t. t == tag) o false) (is_some (requeues e)) (goes_back tag (drop (k + 1) events))) none)
 
 -- where one ends, that changes alone
-pub back_ends : (events : List Happened) (tag k t : ℕ) (e : Happened) → k < length events → get_or events k e ≡ e → ends e ≡ Some t → goes_back tag (drop k events) ≡ cond (t == tag) (is_some (hands_back e)) (goes_back tag (drop (k + 1) events))
+pub back_ends : (events : List Happened) (tag k t : ℕ) (e : Happened) → k < length events → get_or events k e ≡ e → ends e ≡ Some t → goes_back tag (drop k events) ≡ cond (t == tag) (is_some (requeues e)) (goes_back tag (drop (k + 1) events))
 back_ends events tag k t e l is some =
-    back_back events tag k e l is ∙ ap (λ o. cond (option_map_or (λ t. t == tag) o false) (is_some (hands_back e)) (goes_back tag (drop (k + 1) events))) some
+    back_back events tag k e l is ∙ ap (λ o. cond (option_map_or (λ t. t == tag) o false) (is_some (requeues e)) (goes_back tag (drop (k + 1) events))) some
 
 -- over a Tick
 pub walked_tick : (setup : Setup) (events : List Happened) (place round : ℕ) (e : Happened) (backs : List Bool) (boxes : List Issued) → place < length events → e ≡ get_or events place e → is_tick e ≡ true → IsWalked setup events (place + 1) round backs boxes → IsWalked setup events place (round - 1) backs boxes
@@ -110,7 +111,7 @@ same_round events place round e l is quiet h =
     omega (arith, h, now)
 
 -- over the end of an Issue
-pub walked_end : (setup : Setup) (events : List Happened) (place round t : ℕ) (e : Happened) (b : Bool) (backs new : List Bool) (boxes : List Issued) → place < length events → e ≡ get_or events place e → is_tick e ≡ false → ends e ≡ Some t → t < 65536 → b ≡ is_some (hands_back e) → new ≡ set backs t b → IsWalked setup events (place + 1) round backs boxes → IsWalked setup events place round new boxes
+pub walked_end : (setup : Setup) (events : List Happened) (place round t : ℕ) (e : Happened) (b : Bool) (backs new : List Bool) (boxes : List Issued) → place < length events → e ≡ get_or events place e → is_tick e ≡ false → ends e ≡ Some t → t < TAGS → b ≡ is_some (requeues e) → new ≡ set backs t b → IsWalked setup events (place + 1) round backs boxes → IsWalked setup events place round new boxes
 walked_end setup events place round t e b backs new boxes l here quiet some low back n w =
     let is = sym here in
     record {
@@ -126,11 +127,11 @@ walked_end setup events place round t e b backs new boxes l here quiet some low 
                 ap (λ j. get_or (set backs t b) j false) (sym (eqb-true t tag y))
                 ∙ get_or-set_same backs t b false (omega (arith, w.tags, low))
                 ∙ back
-                ∙ sym (back_ends events tag place t e l is some ∙ ap (λ x. cond x (is_some (hands_back e)) (goes_back tag (drop (place + 1) events))) y)
+                ∙ sym (back_ends events tag place t e l is some ∙ ap (λ x. cond x (is_some (requeues e)) (goes_back tag (drop (place + 1) events))) y)
             | inr f ↦
                 get_or-set_other backs t tag b false (λ same. eqb-false t tag f (sym same))
                 ∙ w.backs_are tag h
-                ∙ sym (back_ends events tag place t e l is some ∙ ap (λ x. cond x (is_some (hands_back e)) (goes_back tag (drop (place + 1) events))) f)
+                ∙ sym (back_ends events tag place t e l is some ∙ ap (λ x. cond x (is_some (requeues e)) (goes_back tag (drop (place + 1) events))) f)
           ];
     }
 
@@ -152,7 +153,7 @@ abbrev pub box_with : ℕ → ℕ → ℕ → Facts → Bool → Issued
 box_with id tag round f back = record { id = id; dir = f.dir; first = f.first; end = f.end; release = f.release; due = f.due; round = round; tag = tag; back = back }
 
 -- over an Issue
-pub walked_issue : (setup : Setup) (events : List Happened) (place round id tag : ℕ) (e : Happened) (o : Option Facts) (f : Facts) (back : Bool) (backs : List Bool) (boxes new : List Issued) → place < length events → e ≡ get_or events place e → is_tick e ≡ false → ends e ≡ None → issues e ≡ Some (id, tag) → tag < 65536 → Knows setup events id o → f ≡ facts_or o → back ≡ get_or backs tag false → new ≡ boxes ++ box_with id tag round f back ∷ [] → IsWalked setup events (place + 1) round backs boxes → IsWalked setup events place round backs new
+pub walked_issue : (setup : Setup) (events : List Happened) (place round id tag : ℕ) (e : Happened) (o : Option Facts) (f : Facts) (back : Bool) (backs : List Bool) (boxes new : List Issued) → place < length events → e ≡ get_or events place e → is_tick e ≡ false → ends e ≡ None → issues e ≡ Some (id, tag) → tag < TAGS → Knows setup events id o → f ≡ facts_or o → back ≡ get_or backs tag false → new ≡ boxes ++ box_with id tag round f back ∷ [] → IsWalked setup events (place + 1) round backs boxes → IsWalked setup events place round backs new
 walked_issue setup events place round id tag e o f back backs boxes new l here quiet none some low known fact read n w =
     let is = sym here in
     let later : List Happened = drop (place + 1) events in
@@ -169,7 +170,7 @@ walked_issue setup events place round id tag e o f back backs boxes new l here q
     }
 
 -- at the end of the events
-pub walked_none : (setup : Setup) (events : List Happened) (n : ℕ) (backs : List Bool) (boxes : List Issued) → n ≡ length events → round_of events ≤ MAX_EVENTS → backs ≡ replicate 65536 false → boxes ≡ [] → IsWalked setup events n (round_of events) backs boxes
+pub walked_none : (setup : Setup) (events : List Happened) (n : ℕ) (backs : List Bool) (boxes : List Issued) → n ≡ length events → round_of events ≤ MAX_EVENTS → backs ≡ replicate TAGS false → boxes ≡ [] → IsWalked setup events n (round_of events) backs boxes
 unfolding boxes_from goes_back
 walked_none setup events n backs boxes all few b none =
     let end : drop n events ≡ [] = drop_all n events (omega (arith, all)) in
@@ -178,8 +179,8 @@ walked_none setup events n backs boxes all few b none =
       small = few;
       few = omega (arith, all, ap length none);
       boxes_are = none ∙ sym (ap (boxes_from setup events (round_of events)) end);
-      tags = ap length b ∙ length-replicate 65536 false;
-      backs_are = λ tag h. ap (λ x. get_or x tag false) b ∙ get_or-replicate 65536 tag false false h ∙ sym (ap (goes_back tag) end);
+      tags = ap length b ∙ length-replicate TAGS false;
+      backs_are = λ tag h. ap (λ x. get_or x tag false) b ∙ get_or-replicate TAGS tag false false h ∙ sym (ap (goes_back tag) end);
     }
 
 -- at their start

@@ -1,10 +1,11 @@
 -- What stands round the boxes of a picture, as text.
 use Rattle.std.specs.Prelude.{ℕ, ◌+◌, ◌-◌, ◌*◌, ◌/◌, ◌%◌, ◌++◌, ◌∷◌, [], Bool, true, cond, min, nat_le, List, Option, Some, None, length, codes, slice_index_or}
-use Rattle.edd_check.specs.declared.Window.{Window}
 use Rattle.edd_figures.specs.declared.missing.Crowd.{Crowd}
+use Rattle.edd_figures.specs.declared.lateness.Figures.{Figures}
 use Rattle.blk_report.specs.declared.figures.Report.{Report}
 use Rattle.blk_report.specs.declared.missing.Tally.{Tally}
 use Rattle.blk_report.specs.Lines.{report_text}
+use Rattle.blk_picture.specs.declared.around.TheConstants.{MAX_CROWDS}
 use Rattle.blk_picture.specs.declared.scale.Scale.{Scale}
 use Rattle.blk_picture.specs.Filled.{filled, texts}
 use Rattle.blk_picture.specs.Scales.{step_of}
@@ -51,19 +52,19 @@ abbrev pub bracket_text : Scale → ℕ → Crowd → Bool → List ℕ
 bracket_text scale row c labelled = line_text scale row c ++ named_text scale row c labelled
 
 -- the crowded window of a report, if it has one
-abbrev pub crowded_text : Scale → Option Window → Option ℕ → ℕ → List ℕ
-crowded_text scale (Some w) (Some load) carries = codes "<path class='q'" ++ bracket_text scale 0 (record { window = w; commands = load; carries = carries }) true
-crowded_text scale _ _ carries = []
+abbrev pub crowded_text : Scale → Option Figures → ℕ → List ℕ
+crowded_text scale (Some f) carries = codes "<path class='q'" ++ bracket_text scale 0 (record { window = f.window; commands = f.load; carries = carries }) true
+crowded_text scale None carries = []
 
 abbrev pub no_crowd : Crowd
 no_crowd = record { window = record { from = 0; due = 0 }; commands = 0; carries = 0 }
 
--- the windows of misses, the first 400, in four rows; with their numbers where they are few
+-- the windows of misses, the first of them, in four rows; with their numbers where they are few
 abbrev pub crowd_text : Scale → List Crowd → ℕ → List ℕ
 crowd_text scale crowds n = codes "<path class='k'" ++ bracket_text scale (n % 4 + 1) (slice_index_or crowds n no_crowd) (nat_le (length crowds) 12)
 
 abbrev pub crowds_text : Scale → List Crowd → List ℕ
-crowds_text scale crowds = texts (crowd_text scale crowds) (min (length crowds) 400)
+crowds_text scale crowds = texts (crowd_text scale crowds) (min (length crowds) MAX_CROWDS)
 
 -- how what stands below the frame begins
 abbrev pub foot_text : Scale → List ℕ
@@ -72,4 +73,4 @@ foot_text scale = filled (codes "<g transform='translate(0,$)'>\n") ((scale.deep
 -- what stands below the frame
 abbrev pub windows_text : Scale → Report → ℕ → List Crowd → List ℕ
 windows_text scale r carries crowds =
-    (((foot_text scale ++ axis_text scale) ++ crowded_text scale r.window r.load carries) ++ crowds_text scale crowds) ++ codes "</g>\n"
+    (((foot_text scale ++ axis_text scale) ++ crowded_text scale r.figures carries) ++ crowds_text scale crowds) ++ codes "</g>\n"

@@ -2,8 +2,8 @@
 use Rattle.std.specs.Prelude.{ℕ, zero, suc, ◌+◌, ◌-◌, ◌/◌, ◌==◌, ◌&&◌, ◌++◌, ◌∷◌, [], Bool, not, cond, min, nat_lt, List, Option, Some, None, count_by, take, drop, slice_index_or}
 use Rattle.std.specs.Option.{option_map_or}
 use Rattle.std.specs.List.{filter_map}
-use Rattle.edd_check.specs.declared.steps.Step.{Step}
-use Rattle.edd_check.specs.Capacity.{carried}
+use Rattle.edd_commands.specs.declared.steps.Step.{Step}
+use Rattle.edd_commands.specs.Capacity.{carried}
 use Rattle.blk_bio.specs.declared.bio.Dir.{Dir}
 use Rattle.blk_bio.specs.declared.bio.Dir.TheVariants.{Read, Write}
 use Rattle.blk_bio.specs.Requests.{dir_of}
@@ -61,12 +61,12 @@ unfoldable pub waits_of : List ℕ → List ℕ → ℕ → List ℕ
 waits_of entered gone zero = []
 waits_of entered gone (suc r) = waits_of entered gone r ++ (before entered (r + 1) - before gone (r + 1)) ∷ []
 
--- the greatest of each so many numbers
+-- the greatest of each `per` numbers
 unfoldable pub peaks_of : ℕ → ℕ → List ℕ → List ℕ
 peaks_of per zero numbers = []
 peaks_of per (suc n) numbers = greatest (take per numbers) ∷ peaks_of per n (drop per numbers)
 
--- how many commands each so many rounds carry, from a round on and to the end
+-- how many commands each `per` rounds carry, from a round on and to the end
 unfoldable pub rooms_of : List Step → ℕ → ℕ → ℕ → ℕ → List ℕ
 rooms_of steps per rounds start zero = []
 rooms_of steps per rounds start (suc n) = carried steps start (min (start + per) rounds - start) ∷ rooms_of steps per rounds (min (start + per) rounds) n

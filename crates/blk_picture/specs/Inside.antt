@@ -1,3 +1,5 @@
 -- What invariants and proofs alone need.
 pub mod Facts
 pub mod Walked
+pub mod Counted
+pub mod Several

@@ -1,10 +1,10 @@
 -- The picture of a trace, and the pictures of several.
 use Rattle.std.specs.Prelude.{ℕ, ℤ, pos, negsuc, zero, suc, ◌≡◌, ◌+◌, ◌-◌, ◌*◌, ◌<◌, ◌++◌, ◌∷◌, [], min, List, Option, Some, None, length, codes, map, slice_index_or}
-use Rattle.edd_check.specs.declared.Window.{Window}
-use Rattle.edd_check.specs.declared.steps.Step.{Step}
-use Rattle.edd_check.specs.Limits.{round_limit}
-use Rattle.edd_check.specs.Capacity.{carried}
+use Rattle.edd_commands.specs.declared.steps.Step.{Step}
+use Rattle.edd_commands.specs.Limits.{round_limit}
+use Rattle.edd_commands.specs.Capacity.{carried}
 use Rattle.edd_figures.specs.declared.missing.Crowd.{Crowd}
+use Rattle.edd_figures.specs.declared.lateness.Figures.{Figures}
 use Rattle.blk_report.specs.declared.figures.Report.{Report}
 use Rattle.blk_report.specs.declared.missing.Tally.{Tally}
 use Rattle.blk_report.specs.Shortfall.{IsReport}
@@ -38,9 +38,9 @@ end_of due (pos n) = min (due + n) (2 * round_limit - 1)
 end_of due (negsuc n) = min (due - suc n) (2 * round_limit - 1)
 
 -- how many commands the rounds of the crowded window carry, if each is to be less late than the least lateness
-abbrev pub crowded_room : List Step → Option Window → Option ℤ → ℕ
-crowded_room steps (Some w) (Some late) = carried steps w.from (end_of w.due late - w.from)
-crowded_room steps _ _ = 0
+abbrev pub crowded_room : List Step → Option Figures → ℕ
+crowded_room steps (Some f) = carried steps f.window.from (end_of f.window.due f.least - f.window.from)
+crowded_room steps None = 0
 
 -- the part that shows a trace under a name, so far from the top: its report and its misses, and all that is drawn of it: its boxes, in
 -- the columns of their rounds and the rows of their tags, and its columns
@@ -54,7 +54,7 @@ pub record IsPart (scale : Scale) (top : ℕ) (name : List ℕ) (t : Traced) (te
       ++ heading_text scale name report tally)
       ++ strip_text scale (made (column_of t.setup t.events scale) scale.columns))
       ++ frame_text scale (boxes_of t.setup t.events) (made (column_of t.setup t.events scale) scale.columns))
-      ++ windows_text scale report (crowded_room (capacity_of t.setup t.events) report.window report.least) windows)
+      ++ windows_text scale report (crowded_room (capacity_of t.setup t.events) report.figures) windows)
       ++ codes "</g>\n"
 
 -- how many pixels a part is high

@@ -10,7 +10,7 @@ per_of rounds = max ((rounds + 399) / 400) 1
 unfoldable pub columns_of : ℕ → ℕ
 columns_of rounds = max ((rounds + (per_of rounds - 1)) / per_of rounds) 1
 
--- the scale of so many rounds and tags: at most 1,200 pixels wide, a column at most 40 and a tag 3 to 24
+-- the scale of a number of rounds and tags: at most 1,200 pixels wide, a column at most 40 and a tag 3 to 24
 unfoldable pub scale_of : ℕ → ℕ → Scale
 scale_of rounds deep = record {
   rounds = rounds;
@@ -21,7 +21,7 @@ scale_of rounds deep = record {
   tall = min (max (384 / max deep 1) 3) 24;
 }
 
--- the first step of these with at most 24 of them in so many rounds
+-- the first step of these with at most 24 of them in all the rounds
 abbrev pub first_step : List ℕ → ℕ → ℕ
 first_step [] rounds = 100000
 first_step (s ∷ steps) rounds = cond (nat_le rounds (24 * s)) s (first_step steps rounds)

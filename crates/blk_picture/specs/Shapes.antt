@@ -37,7 +37,7 @@ tail_words b = tail_by b.back (nat_lt b.round b.due)
 abbrev pub apart : Issued → ℕ
 apart b = cond (nat_lt b.round b.due) (b.due - b.round) (b.round - b.due)
 
--- so many rounds can be written inside a box
+-- a number of rounds can be written inside a box
 abbrev pub fits : Scale → ℕ → Bool
 fits scale rounds =
     nat_le 12 scale.tall && nat_lt rounds (cond (nat_lt scale.wide 10) 0 (cond (nat_lt scale.wide 16) 10 (cond (nat_lt scale.wide 22) 100 (cond (nat_lt scale.wide 28) 1000 10000))))
@@ -105,7 +105,7 @@ waiting_text c n =
 abbrev pub most_waiting : List Column → ℕ
 most_waiting columns = fold max 1 (map (λ n. n.read_waits + n.write_waits) columns)
 
--- how the strip begins, where so many wait at most
+-- how the strip begins, by the most that wait
 abbrev pub scale_text : Scale → ℕ → List ℕ
 scale_text scale most = filled (codes "<text class='s e' x='58' y='120'>$</text><text class='s e' x='58' y='168'>waiting</text><text class='s e' x='58' y='194'>tag 0</text><svg x='64' y='110' width='$' height='60' viewBox='0 0 $ $' preserveAspectRatio='none'><rect class='f' width='$' height='$'/><g transform='matrix(1 0 0 -1 0 $)'>\n") (most ∷ (scale.columns * scale.wide + 0) ∷ scale.columns ∷ most ∷ scale.columns ∷ most ∷ most ∷ [])
 

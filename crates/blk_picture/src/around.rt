@@ -7,8 +7,7 @@ use crate::filled::fill;
 use crate::scale::{Scale, place, step_of};
 use blk_report::{Report, Tally, report_lines};
 use drafts::Draft;
-use edd_check::Window;
-use edd_figures::Crowd;
+use edd_figures::{Crowd, Figures};
 use std::alloc::{AllocError, Global};
 
 /// Where the columns begin, from the left.
@@ -16,6 +15,9 @@ const LEFT: u32 = 64;
 
 /// No column is wider, in pixels.
 const WIDEST: u32 = 1200;
+
+/// How many windows of misses are drawn at most.
+const MAX_CROWDS: usize = 400;
 
 /// Adds what was late, and what a column stands for.
 fn push_numbers(draft: &mut Draft, scale: &Scale, tally: &Tally) -> Result<(), AllocError>
@@ -74,7 +76,7 @@ fn column_at(scale: &Scale, round: u64) -> u32
     (round.min(last) as u32) / scale.per
 }
 
-/// Adds a number of the axis, so many steps from its start, where the picture has that round.
+/// Adds a number of the axis, at a number of steps from its start, where the picture has that round.
 fn push_tick(draft: &mut Draft, scale: &Scale, number: u32) -> Result<(), AllocError>
     requires { 0 < scale.now.per }
     ensures { OnOk result (draft.new ≡ draft.old ++ tick_text scale.now number) }
@@ -167,30 +169,26 @@ fn push_bracket(
     Ok(())
 }
 
-/// Adds the crowded window of a report, if it has one, whose rounds carry so many.
+/// Adds the crowded window of a report, if it has one, with what its rounds carry.
 fn push_crowded(
     draft: &mut Draft,
     scale: &Scale,
-    window: Option<Window>,
-    load: Option<u64>,
+    figures: Option<Figures>,
     carries: u64,
 ) -> Result<(), AllocError>
     requires { 0 < scale.now.per }
-    ensures { OnOk result (draft.new ≡ draft.old ++ crowded_text scale.now window load carries) }
+    ensures { OnOk result (draft.new ≡ draft.old ++ crowded_text scale.now figures carries) }
 {
-    match (window, load) {
-        (Some(window), Some(commands)) => {
-            let crowd = Crowd {
-                window,
-                commands,
-                carries,
-            };
-            draft.text(b"<path class='q'")?;
-            push_bracket(draft, scale, 0, crowd, true)?;
-            Ok(())
-        }
-        _ => Ok(()),
-    }
+    let Some(figures) = figures else {
+        return Ok(());
+    };
+    let crowd = Crowd {
+        window: figures.window,
+        commands: figures.load,
+        carries,
+    };
+    draft.text(b"<path class='q'")?;
+    push_bracket(draft, scale, 0, crowd, true)
 }
 
 /// Adds a window of misses.
@@ -212,12 +210,12 @@ fn push_crowd(
     Ok(())
 }
 
-/// Adds the windows of misses, at most 400, in four rows, with their numbers where they are few.
+/// Adds the windows of misses, the first [`MAX_CROWDS`], in four rows, with their numbers where they are few.
 fn push_crowds(draft: &mut Draft, scale: &Scale, crowds: &[Crowd]) -> Result<(), AllocError>
     requires { 0 < scale.now.per }
     ensures { OnOk result (draft.new ≡ draft.old ++ crowds_text scale.now crowds.now) }
 {
-    let count = crowds.len().min(400);
+    let count = crowds.len().min(MAX_CROWDS);
     for number in 0..count {
         push_crowd(draft, scale, crowds, number)?;
     }
@@ -245,7 +243,7 @@ pub(crate) fn push_windows(
 {
     push_foot(draft, scale)?;
     push_axis(draft, scale)?;
-    push_crowded(draft, scale, report.window, report.load, carries)?;
+    push_crowded(draft, scale, report.figures, carries)?;
     push_crowds(draft, scale, crowds)?;
     draft.text(b"</g>\n")?;
     Ok(())

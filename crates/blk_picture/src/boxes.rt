@@ -14,6 +14,9 @@ use blk_trace::Trace;
 use std::alloc::{AllocError, Global};
 use std::collections::BTreeMap;
 
+/// How many numbers of tags there are: those of 16 bits.
+const TAGS: usize = 1 << 16;
+
 /// An Issue, with the request as it was issued.
 #[derive(Clone, Copy)]
 pub struct Issued {
@@ -72,7 +75,7 @@ fn step_back(
         return Ok(round - 1);
     }
     if let Some(tag) = event.ends() {
-        backs[tag as usize] = event.hands_back().is_some();
+        backs[tag as usize] = event.requeues().is_some();
         return Ok(round);
     }
     let Some((id, tag)) = event.issues() else {
@@ -106,7 +109,7 @@ pub(crate) fn boxes(alloc: Global, trace: &Trace) -> Result<Vec<Issued>, AllocEr
     let setup = trace.setup();
     let facts = gathered(alloc, &setup, trace.events())?;
     let mut backs = Vec::new(alloc);
-    backs.resize(65536, false)?;
+    backs.resize(TAGS, false)?;
     let mut boxes = Vec::new(alloc);
     let mut round = trace.round();
     let mut left = trace.events().len();

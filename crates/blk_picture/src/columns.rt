@@ -9,12 +9,13 @@ ghost use Rattle.blk_trace.specs.Setups.{same_dir};
 ghost use Rattle.blk_picture.specs.Boxes.{boxes_of};
 ghost use Rattle.blk_picture.specs.Filled.{made};
 ghost use Rattle.blk_picture.specs.Columns.{is_late, round_in, rounds_in, entry_in, entered_in, in_column, waits_of, peaks_of, rooms_of, column_at, column_of};
+ghost use Rattle.blk_picture.specs.Inside.Counted.{HasOneMore, AreCounts, most_waits, columns_at};
 
 use crate::boxes::Issued;
 use crate::scale::Scale;
 use blk_bio::{Dir, Request};
 use blk_trace::{Event, Trace};
-use edd_check::Capacity;
+use edd_commands::Capacity;
 use std::alloc::{AllocError, Global};
 
 /// Which Issues are counted.
@@ -156,19 +157,19 @@ fn entered(alloc: Global, events: &[Event<Request>], dir: Dir) -> Result<Vec<u32
 fn count_at(counts: &mut Vec<u32>, column: usize)
     requires { (c : ℕ) → c < length counts.old.items → slice_index_or counts.old.items c 0 < 2 ^ 31 }
     ensures each { length counts.new.items ≡ length counts.old.items }
-    ensures counts { (c : ℕ) → c < length counts.old.items → slice_index_or counts.new.items c 0 ≡ cond (column == c) (slice_index_or counts.old.items c 0 + 1) (slice_index_or counts.old.items c 0) }
+    ensures counts { HasOneMore column counts.old.items counts.new.items }
 {
     if column < counts.len() {
         counts[column] += 1;
     }
 }
 
-/// For each of so many columns how many of the rounds stand in it.
+/// For each column how many of the rounds stand in it.
 fn counts(alloc: Global, rounds: &[u32], per: u32, columns: usize) -> Result<Vec<u32>, AllocError>
     requires few { length rounds.now ≤ MAX_EVENTS }
     requires some { 0 < per }
     ensures each { IfOk result (λ v. length v.items ≡ columns) }
-    ensures counts { IfOk result (λ v. (c : ℕ) → c < columns → slice_index_or v.items c 0 ≡ in_column per c rounds.now) }
+    ensures counts { IfOk result (λ v. AreCounts per columns rounds.now v.items) }
 {
     let mut counts = Vec::new(alloc);
     counts.resize(columns, 0)?;
@@ -213,7 +214,7 @@ fn greatest(numbers: &[u32]) -> u32
     most
 }
 
-/// The greatest of each so many numbers.
+/// The greatest of each `per` numbers.
 fn peaks(alloc: Global, numbers: &[u32], per: u32, columns: usize) -> Result<Vec<u32>, AllocError>
     ensures { IfOk result (λ v. v.items ≡ peaks_of per columns numbers.now) }
 {
@@ -251,7 +252,7 @@ fn counted(
     requires few { length boxes.now ≤ MAX_EVENTS }
     requires some { 0 < scale.per }
     ensures each { IfOk result (λ v. length v.items ≡ scale.columns) }
-    ensures counts { IfOk result (λ v. (c : ℕ) → c < scale.columns → slice_index_or v.items c 0 ≡ in_column scale.per c (rounds_in kind boxes.now)) }
+    ensures counts { IfOk result (λ v. AreCounts scale.per scale.columns (rounds_in kind boxes.now) v.items) }
 {
     let rounds = rounds_in(alloc, boxes, kind)?;
     counts(alloc, rounds.as_slice(), scale.per, scale.columns as usize)
@@ -267,7 +268,7 @@ fn most_waited(
     scale: Scale,
 ) -> Result<Vec<u32>, AllocError>
     requires few { length boxes.now ≤ MAX_EVENTS }
-    ensures { IfOk result (λ v. v.items ≡ peaks_of scale.per scale.columns (waits_of (entered_in dir trace.now.events) (rounds_in kind boxes.now) scale.rounds)) }
+    ensures { IfOk result (λ v. v.items ≡ most_waits scale dir kind trace.now.events boxes.now) }
 {
     let _ = trace.len();
     let entered = entered(alloc, trace.events(), dir)?;
@@ -298,7 +299,8 @@ fn joined(
     requires rooms { length rooms.now ≡ length reads.now }
     requires read_waits { length read_waits.now ≡ length reads.now }
     requires write_waits { length write_waits.now ≡ length reads.now }
-    ensures { IfOk result (λ v. v.items ≡ made (column_at reads.now writes.now lates.now backs.now rooms.now read_waits.now write_waits.now) (length reads.now)) }
+    ensures { IfOk result (λ v. v.items
+        ≡ columns_at reads.now writes.now lates.now backs.now rooms.now read_waits.now write_waits.now) }
 {
     let mut columns = Vec::new(alloc);
     for column in 0..reads.len() {

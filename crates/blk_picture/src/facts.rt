@@ -1,13 +1,11 @@
 //! What is known of each request, one event after the other.
 
-ghost use Rattle.std.specs.Prelude.{ℕ, ◌≡◌, ◌==◌, ◌≤◌, ◌<◌, ◌+◌, ◌++◌, ◌∷◌, [], ◌^◌, List, cond, IfOk, OnOk, Some, length};
+ghost use Rattle.std.specs.Prelude.{ℕ, ◌≡◌, ◌≤◌, ◌<◌, ◌+◌, ◌^◌, cond, IfOk, OnOk, length};
 ghost use Rattle.std.specs.Ordering.{nat_cmp};
 ghost use Rattle.std.specs.BTreeMap.{get};
 ghost use Rattle.blk_trace.specs.declared.trace.TheConstants.{MAX_EVENTS};
-ghost use Rattle.blk_trace.specs.Happened.{Happened};
 ghost use Rattle.blk_trace.specs.Kinds.{is_tick};
-ghost use Rattle.blk_trace.specs.Events.{round_of};
-ghost use Rattle.blk_picture.specs.Inside.Facts.{new_facts, joined_facts, with_new, Knows};
+ghost use Rattle.blk_picture.specs.Inside.Facts.{new_facts, joined_facts, IsLearned, Knows, LearnsFrom};
 
 use blk_bio::{Dir, Request};
 use blk_trace::{Event, Setup};
@@ -73,9 +71,9 @@ impl Facts {
     }
 }
 
-/// Takes account of a request that enters under an id.
-fn enter(facts: &mut BTreeMap<u64, Facts>, id: u64, newcomer: Facts) -> Result<(), AllocError>
-    ensures { OnOk result ((i : ℕ) → get nat_cmp facts.new i ≡ cond (id == i) (Some (with_new (get nat_cmp facts.old id) newcomer)) (get nat_cmp facts.old i)) }
+/// Learns of a request that enters under an id.
+fn learn(facts: &mut BTreeMap<u64, Facts>, id: u64, newcomer: Facts) -> Result<(), AllocError>
+    ensures { OnOk result (IsLearned id newcomer (get nat_cmp facts.old) (get nat_cmp facts.new)) }
 {
     let all = match facts.get(&id) {
         None => newcomer,
@@ -96,11 +94,11 @@ fn gather(
 ) -> Result<u64, AllocError>
     requires { round < 2 ^ 62 }
     ensures round { IfOk result (λ r. r ≡ cond (is_tick event.now) (round + 1) round) }
-    ensures known { OnOk result ((events : List Happened) → round ≡ round_of events → ((id : ℕ) → Knows setup.now events id (get nat_cmp facts.old id)) → (id : ℕ) → Knows setup.now (events ++ event.now ∷ []) id (get nat_cmp facts.new id)) }
+    ensures known { OnOk result (LearnsFrom setup.now round event.now (get nat_cmp facts.old) (get nat_cmp facts.new)) }
 {
     match event.enters() {
         Some((id, request)) => {
-            enter(facts, id, Facts::of(setup, round, request))?;
+            learn(facts, id, Facts::of(setup, round, request))?;
             Ok(round)
         }
         None => Ok(if event.is_tick() { round + 1 } else { round }),

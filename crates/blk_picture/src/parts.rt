@@ -1,9 +1,13 @@
 //! The part of a picture that shows a trace, and whole pictures.
 
 ghost use Rattle.std.specs.Prelude.{ℕ, List, ◌≡◌, ◌++◌, ◌*◌, ◌+◌, ◌≤◌, ◌<◌, OnOk, IfOk, length, map};
-ghost use Rattle.edd_check.specs.Limits.{round_limit};
+ghost use Rattle.edd_commands.specs.Limits.{round_limit};
+ghost use Rattle.blk_trace.specs.declared.setup.TheConstants.{MAX_DEPTH};
+ghost use Rattle.blk_trace.specs.declared.trace.TheConstants.{MAX_EVENTS};
+ghost use Rattle.blk_picture.specs.declared.parts.TheConstants.{MAX_TRACES};
 ghost use Rattle.blk_picture.specs.Scales.{scale_of};
-ghost use Rattle.blk_picture.specs.Pictures.{rounds_shown, most_rounds, most_deep, end_of, crowded_room, IsPart, AreParts, height_of, style, head_text, IsPicture, IsPictures};
+ghost use Rattle.blk_picture.specs.Pictures.{rounds_shown, most_rounds, most_deep, end_of, crowded_room, IsPart, height_of, style, head_text, IsPicture, IsPictures};
+ghost use Rattle.blk_picture.specs.Inside.Several.{HasParts};
 
 use crate::around::{push_heading, push_windows};
 use crate::boxes::{Issued, boxes};
@@ -14,14 +18,17 @@ use crate::shapes::{push_frame, push_strip};
 use blk_report::{Report, Tally, misses, report};
 use blk_trace::Trace;
 use drafts::Draft;
-use edd_check::{Capacity, MAX_ROUNDS, Window};
-use edd_figures::Crowd;
+use edd_commands::{Capacity, MAX_ROUNDS};
+use edd_figures::{Crowd, Figures};
 use std::alloc::{AllocError, Global};
+
+/// How many traces are drawn below one another at most.
+const MAX_TRACES: usize = 1000;
 
 /// How many rounds of a trace are shown: the one that is on is the last.
 fn rounds_shown(trace: &Trace) -> u32
     ensures value { result ≡ rounds_shown trace.now }
-    ensures small { result ≤ 1_000_001 }
+    ensures small { result ≤ MAX_EVENTS + 1 }
 {
     let rounds = trace.round() + 1;
     rounds as u32
@@ -30,7 +37,7 @@ fn rounds_shown(trace: &Trace) -> u32
 /// How many tags of a trace are shown.
 fn tags_shown(trace: &Trace) -> u32
     ensures value { result ≡ trace.now.setup.depth }
-    ensures small { result ≤ 256 }
+    ensures small { result ≤ MAX_DEPTH }
 {
     let depth = trace.setup().depth();
     depth as u32
@@ -50,13 +57,14 @@ fn end_of(due: u64, late: i64) -> u64
 }
 
 /// How many commands the rounds of the crowded window carry, if each is to be less late than the least lateness; 0 where there is none.
-fn crowded_room(capacity: &Capacity, window: Option<Window>, least: Option<i64>) -> u64
-    ensures { result ≡ crowded_room capacity.now window least }
+fn crowded_room(capacity: &Capacity, figures: Option<Figures>) -> u64
+    ensures { result ≡ crowded_room capacity.now figures }
 {
-    match (window, least) {
-        (Some(window), Some(late)) => capacity.sum(window.from, end_of(window.due, late)),
-        _ => 0,
-    }
+    let Some(figures) = figures else {
+        return 0;
+    };
+    let window = figures.window;
+    capacity.sum(window.from, end_of(window.due, figures.least))
 }
 
 /// Adds what shows a trace, so far from the top.
@@ -75,7 +83,7 @@ fn push_part(
     let missed = misses(trace)?;
     let boxes = boxes(alloc, trace)?;
     let columns = columns(alloc, trace, boxes.as_slice(), scale)?;
-    let room = crowded_room(&trace.capacity()?, report.window, report.least);
+    let room = crowded_room(&trace.capacity()?, report.figures);
     fill(draft, b"<g transform='translate(0,$)'>\n", &[top])?;
     push_heading(draft, alloc, &scale, name, &report, &missed.tally)?;
     push_strip(draft, &scale, columns.as_slice())?;
@@ -87,7 +95,7 @@ fn push_part(
 
 /// How many pixels a part is high.
 fn height_of(scale: &Scale) -> u32
-    requires deep { scale.now.deep ≤ 256 }
+    requires deep { scale.now.deep ≤ MAX_DEPTH }
     requires tall { scale.now.tall ≤ 24 }
     ensures { result ≡ height_of scale.now }
 {
@@ -104,7 +112,7 @@ fn push_style(draft: &mut Draft) -> Result<(), AllocError>
     )
 }
 
-/// Adds how a picture begins, which is so many pixels high.
+/// Adds how a picture of this height in pixels begins.
 fn push_head(draft: &mut Draft, height: u64) -> Result<(), AllocError>
     ensures { OnOk result (draft.new ≡ draft.old ++ head_text height) }
 {
@@ -124,7 +132,7 @@ fn push_head(draft: &mut Draft, height: u64) -> Result<(), AllocError>
 
 /// The picture of a trace as SVG 1.1, without scripts, fonts or links: a heading, a strip of what waits at the end of each round, a
 /// box for each Issue in its round and under its tag, an axis, and the windows of the report and of misses as brackets. Over 400
-/// rounds a column stands for several rounds, and is a stack of what they served. Fails for want of memory alone.
+/// rounds a column stands for several rounds, and is a stack of what they served. Fails only when out of memory.
 pub fn picture(alloc: Global, trace: &Trace) -> Result<Vec<u8>, AllocError>
     ensures { IfOk result (λ v. IsPicture trace.now v.items) }
 {
@@ -143,7 +151,7 @@ pub fn picture(alloc: Global, trace: &Trace) -> Result<Vec<u8>, AllocError>
 /// The scale that several traces share: that of the most rounds and the most tags.
 fn shared(traces: &[Trace]) -> Scale
     ensures scale { result ≡ scale_of (most_rounds traces.now) (most_deep traces.now) }
-    ensures deep { result.deep ≤ 256 }
+    ensures deep { result.deep ≤ MAX_DEPTH }
     ensures some { 0 < result.per }
     ensures low { result.tall ≤ 24 }
 {
@@ -165,11 +173,11 @@ fn push_parts(
     scale: Scale,
 ) -> Result<(), AllocError>
     requires each { length names.now ≡ length traces.now }
-    requires few { length traces.now ≤ 1000 }
+    requires few { length traces.now ≤ MAX_TRACES }
     requires some { 0 < scale.per }
-    requires deep { scale.deep ≤ 256 }
+    requires deep { scale.deep ≤ MAX_DEPTH }
     requires tall { scale.tall ≤ 24 }
-    ensures { OnOk result ((text : List ℕ) × AreParts scale (map (λ n. n.now) names.now) traces.now (length traces.now) text × (draft.new ≡ draft.old ++ text)) }
+    ensures { OnOk result (HasParts scale (map (λ n. n.now) names.now) traces.now draft.old draft.new) }
 {
     let height = height_of(&scale);
     for number in 0..traces.len() {
@@ -180,12 +188,12 @@ fn push_parts(
 }
 
 /// The pictures of several traces under their names, one below another on one scale of rounds, as [`picture`] draws each. The names
-/// are plain words. Fails for want of memory alone; more than 1,000 traces are refused so.
+/// are plain words. Fails only when out of memory; more than 1,000 traces are refused as if memory had run out.
 pub fn pictures(alloc: Global, names: &[&[u8]], traces: &[Trace]) -> Result<Vec<u8>, AllocError>
     requires { length names.now ≡ length traces.now }
     ensures { IfOk result (λ v. IsPictures (map (λ n. n.now) names.now) traces.now v.items) }
 {
-    if traces.len() > 1000 {
+    if traces.len() > MAX_TRACES {
         return Err(AllocError);
     }
     let scale = shared(traces);

@@ -27,7 +27,7 @@ pub struct Scale {
 }
 
 impl Scale {
-    /// The scale of so many rounds and tags.
+    /// The scale of a number of rounds and tags.
     #[tactic(auto, unfolding(crate::specs::Scales::scale_of, crate::specs::Scales::per_of, crate::specs::Scales::columns_of))]
     pub(crate) fn of(rounds: u32, deep: u32) -> Scale
         requires { rounds ≤ 2 ^ 30 }
@@ -89,7 +89,7 @@ pub(crate) fn step_of(rounds: u32) -> u32
     }
 }
 
-/// Where a thing lies: so many times a length from a place.
+/// Where a thing lies: a number of lengths from a place.
 pub(crate) fn place(number: u32, each: u32, from: u32) -> u64
     ensures { result ≡ number * each + from }
 {

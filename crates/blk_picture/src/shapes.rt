@@ -70,7 +70,7 @@ fn apart(issued: &Issued) -> u64
     }
 }
 
-/// Whether so many rounds can be written inside a box.
+/// Whether a number of rounds can be written inside a box.
 fn fits(scale: &Scale, rounds: u64) -> bool
     ensures { result ≡ fits scale.now rounds }
 {
@@ -317,7 +317,7 @@ fn most_waiting(columns: &[Column]) -> u64
     most
 }
 
-/// Adds how the strip begins, where so many wait at most.
+/// Adds how the strip begins, by the most that wait.
 fn push_scale(draft: &mut Draft, scale: &Scale, most: u64) -> Result<(), AllocError>
     ensures { OnOk result (draft.new ≡ draft.old ++ scale_text scale.now most) }
 {

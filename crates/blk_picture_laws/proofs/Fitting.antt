@@ -6,9 +6,9 @@ use Rattle.std.proofs.Math.Nat.{div-lt_iff_lt-mul, div-mul-le_self}
 use Rattle.std.proofs.lemmas.Bool.{cases_Bool, cases_lt, cases_eq, lt-ltb, le-leb}
 use Rattle.std.proofs.lemmas.List.{length_push, map-append}
 use Rattle.std.proofs.lemmas.List.Sums.{sum_by-append}
-use Rattle.edd_check.specs.Schedule.{places_at}
-use Rattle.edd_check.specs.Capacity.{depth_at, carried}
-use Rattle.edd_check.proofs.Counting.{places_among, places_among-le}
+use Rattle.edd_commands.specs.Schedule.{places_at}
+use Rattle.edd_commands.specs.Capacity.{depth_at, carried}
+use Rattle.edd_commands.proofs.Counting.{places_among, places_among-le}
 use Rattle.blk_trace.specs.Happened.{Happened}
 use Rattle.blk_trace.specs.declared.event.Event.TheVariants.{Tick, Issue}
 use Rattle.blk_trace.specs.Kinds.{is_tick, issues}

@@ -1,6 +1,6 @@
 -- The boxes of a trace, in the order of the Issues that they stand for.
 use Rattle.std.specs.Prelude.{ℕ, ◌-◌, List, filter, reverse, not, Option, option_map}
-use Rattle.edd_check.specs.declared.Command.{Command}
+use Rattle.edd_commands.specs.declared.Command.{Command}
 use Rattle.blk_trace.specs.Happened.{Happened}
 use Rattle.blk_trace.specs.Kinds.{issues}
 use Rattle.blk_trace.specs.Setups.{Setup}

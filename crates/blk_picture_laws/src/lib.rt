@@ -2,7 +2,7 @@
 #![tactic(auto)]
 
 ghost use Rattle.std.specs.Prelude.{◌≡◌, ◌<◌, ◌≤◌, ◌+◌, ℕ, List, length, map, filter_map, sum_by, count_by, Some, slice_get};
-ghost use Rattle.edd_check.specs.Capacity.{carried};
+ghost use Rattle.edd_commands.specs.Capacity.{carried};
 ghost use Rattle.blk_trace.specs.Traces.{Traced};
 ghost use Rattle.blk_trace.specs.Happened.{Happened};
 ghost use Rattle.blk_trace.specs.Setups.{Setup};
@@ -36,7 +36,7 @@ pub fn law_of_boxes()
         → map service_in (boxes_kept setup events) ≡ services_of setup events }
 {}
 
-/// The scale of so many rounds shows all that was issued before the last of them, however many rounds a column stands for, also
+/// The scale of a number of rounds shows all that was issued before the last of them, however many rounds a column stands for, also
 /// where that does not divide their number. So does the one scale of several traces for each of them.
 ///
 /// A law: it does nothing when it runs, and a caller has its clauses.
@@ -67,10 +67,11 @@ pub fn law_of_columns()
         → sum_by issued_in (columns_in setup events scale) ≡ length (boxes_of setup events) }
     ensures rooms { (setup : Setup) → (events : List Happened) → (scale : Scale) → ShowsAll events scale
         → sum_by (λ n. n.room) (columns_in setup events scale) ≡ carried (capacity_of setup events) 0 scale.rounds }
-    ensures fits { (setup : Setup) → (events : List Happened) → (scale : Scale) → IsLegalTrace setup events → ShowsAll events scale
-        → (n : ℕ) → n < scale.columns
+    ensures fits { (setup : Setup) → (events : List Happened) → (scale : Scale)
+        → IsLegalTrace setup events → ShowsAll events scale → (n : ℕ) → n < scale.columns
         → issued_in (column_of setup events scale n) ≤ (column_of setup events scale n).room }
-    ensures idle { (setup : Setup) → (events : List Happened) → (scale : Scale) → IsLegalTrace setup events → ShowsAll events scale
+    ensures idle { (setup : Setup) → (events : List Happened) → (scale : Scale)
+        → IsLegalTrace setup events → ShowsAll events scale
         → sum_by idle_in (columns_in setup events scale) + length (boxes_of setup events)
         ≡ carried (capacity_of setup events) 0 scale.rounds }
 {}

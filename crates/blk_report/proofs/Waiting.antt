@@ -5,11 +5,11 @@ use Rattle.std.proofs.lemmas.Bool.{cases_lt, le-leb, lt-leb, lt-ltb, le-ltb, ltb
 use Rattle.std.proofs.lemmas.List.Elements.{All-filter, filter_passes}
 use Rattle.std.proofs.lemmas.List.{length-take-le, take_all, take-map, length-map, get_or-map, same_lists, length_push, get_or_push, get_or_append_left, get_or_default}
 use Rattle.std.proofs.lemmas.List.Sums.{sum_by_more}
-use Rattle.edd_check.specs.declared.steps.Step.{Step}
-use Rattle.edd_check.specs.Limits.{round_limit}
-use Rattle.edd_check.specs.Capacity.{carried, depth_at}
-use Rattle.edd_check.proofs.InForce.{carried_suc, carried_none}
-use Rattle.edd_check.proofs.Counting.{places_among, places_among-le}
+use Rattle.edd_commands.specs.declared.steps.Step.{Step}
+use Rattle.edd_commands.specs.Limits.{round_limit}
+use Rattle.edd_commands.specs.Capacity.{carried, depth_at}
+use Rattle.edd_commands.proofs.InForce.{carried_suc, carried_none}
+use Rattle.edd_commands.proofs.Counting.{places_among, places_among-le}
 use Rattle.edd_verdict.specs.declared.Verdict.{Verdict}
 use Rattle.edd_verdict.specs.declared.Verdict.TheVariants.{Arrival}
 use Rattle.blk_bio.specs.declared.bio.Dir.TheVariants.{Read}

@@ -3,3 +3,4 @@ pub mod Ranges
 pub mod Below
 pub mod Waited
 pub mod Outstayed
+pub mod Best

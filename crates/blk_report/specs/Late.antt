@@ -1,12 +1,15 @@
 -- Commands that were issued after they were due, what the rounds that they waited went to, and why they were late.
 use Rattle.std.specs.Prelude.{ℕ, ◌≡◌, ◌<◌, ◌+◌, ◌-◌, ◌&&◌, Bool, List, All, length, map, filter, count_by, nat_le, nat_lt, slice_index_or}
-use Rattle.edd_check.specs.declared.steps.Step.{Step}
-use Rattle.edd_check.specs.Capacity.{carried}
+use Rattle.edd_commands.specs.declared.steps.Step.{Step}
+use Rattle.edd_commands.specs.Capacity.{carried}
 use Rattle.edd_verdict.specs.declared.Verdict.{Verdict}
 use Rattle.edd_verdict.specs.Verdicts.{IsVerdict}
 use Rattle.blk_report.specs.declared.serving.Service.{Service}
 use Rattle.blk_report.specs.declared.delays.LateCommand.{LateCommand}
-use Rattle.blk_report.specs.Services.{command_in}
+use Rattle.blk_trace.specs.Depths.{capacity_of}
+use Rattle.blk_trace.specs.Happened.{Happened}
+use Rattle.blk_trace.specs.Setups.{Setup}
+use Rattle.blk_report.specs.Services.{command_in, services_of}
 
 -- it was issued after it was due
 abbrev pub is_late : Service → Bool
@@ -48,3 +51,7 @@ pub record AreLate (services : List Service) (steps : List Step) (late : List La
   pub commands : map (λ l. l.service) late ≡ filter is_late services
   pub each : All (IsLateCommand services steps) late
   pub judged : All (HasVerdict services steps) late
+
+-- those of the trace of these events, under its own capacity
+abbrev pub AreLateIn : Setup → List Happened → List LateCommand → Type 0
+AreLateIn setup events late = AreLate (services_of setup events) (capacity_of setup events) late

@@ -1,7 +1,7 @@
 -- The commands of a trace, each with its request and the round in which it was issued.
 use Rattle.std.specs.Prelude.{ℕ, ◌≤◌, ◌<◌, List, length, map, slice_index_or, All}
-use Rattle.edd_check.specs.declared.Command.{Command}
-use Rattle.edd_check.specs.Limits.{most_commands, round_limit}
+use Rattle.edd_commands.specs.declared.Command.{Command}
+use Rattle.edd_commands.specs.Limits.{most_commands, round_limit}
 use Rattle.blk_bio.specs.Requests.{dir_of, first_of, sectors_of}
 use Rattle.blk_trace.specs.declared.trace.TheConstants.{MAX_EVENTS}
 use Rattle.blk_trace.specs.Happened.{Happened}

@@ -16,7 +16,7 @@ wait_of s = pos s.issue -ℤ pos s.release
 abbrev pub late_by : Service → ℤ
 late_by s = pos s.issue -ℤ pos s.due
 
--- the nearest rank: so many thousandths of n, rounded up
+-- the nearest rank: a share of n in thousandths, rounded up
 abbrev pub nearest_rank : ℕ → ℕ → ℕ
 nearest_rank thousandths n = (thousandths * n + 999) / 1000
 
@@ -38,7 +38,7 @@ quantiles_of sorted = record {
 abbrev pub is_less : ℤ → ℤ → Bool
 is_less x y = is_lt (int_cmp x y)
 
--- so many thousandths of the numbers, at least, are no greater than q, and fewer are less
+-- at least this share of the numbers, in thousandths, are no greater than q, and fewer are less
 pub record HasShare (thousandths : ℕ) (values : List ℤ) (q : ℤ) : Type 0 where
   pub within : thousandths * length values ≤ 1000 * count_by (λ x. not (is_less q x)) values
   pub below : 1000 * count_by (λ x. is_less x q) values < thousandths * length values

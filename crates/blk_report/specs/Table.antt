@@ -1,11 +1,14 @@
 -- A table of reports as text.
 use Rattle.std.specs.Prelude.{ℕ, ◌≡◌, ◌++◌, ◌-◌, ◌∷◌, [], List, length, Option, Some, None, decimal, codes, zero, suc, slice_index_or}
+use Rattle.std.specs.Io.KnownBytes.{Appends}
 use Rattle.std.proofs.Math.ListN.{replicate}
+use Rattle.drafts.specs.Parts.{AppendsPart}
 use Rattle.blk_report.specs.declared.figures.Report.{Report}
 use Rattle.blk_report.specs.Comparison.{IsFirstBest, HasNoBest}
+use Rattle.edd_figures.specs.Figures.{greatest_in, least_in, shortfall_in}
 use Rattle.edd_figures.specs.Lines.{late_text}
 
--- bytes at the left and at the right of so many places; more of them are not cut
+-- bytes at the left and at the right of a number of places; more of them are not cut
 abbrev pub left_in : ℕ → List ℕ → List ℕ
 left_in places bytes = bytes ++ replicate (places - length bytes) 32
 
@@ -18,11 +21,11 @@ head_line = codes "sched     commands   waiting  greatest     least shortfall" +
 
 -- a scheduler's line
 abbrev pub row_line : List ℕ → Report → List ℕ
-row_line name r = (((((left_in 8 name ++ right_in 10 (decimal r.commands)) ++ right_in 10 (decimal r.waiting)) ++ right_in 10 (late_text r.greatest)) ++ right_in 10 (late_text r.least)) ++ right_in 10 (late_text r.shortfall)) ++ 10 ∷ []
+row_line name r = (((((left_in 8 name ++ right_in 10 (decimal r.commands)) ++ right_in 10 (decimal r.waiting)) ++ right_in 10 (late_text (greatest_in r.figures))) ++ right_in 10 (late_text (least_in r.figures))) ++ right_in 10 (late_text (shortfall_in r.figures))) ++ 10 ∷ []
 
 -- a report without figures
 abbrev pub blank : Report
-blank = record { commands = 0; waiting = 0; depth = 0; greatest = None; least = None; shortfall = None; window = None; load = None }
+blank = record { commands = 0; waiting = 0; depth = 0; figures = None }
 
 -- the head line and those of the first n schedulers
 abbrev pub lines_upto : List (List ℕ) → List Report → ℕ → List ℕ
@@ -44,3 +47,10 @@ pub record IsTable (names : List (List ℕ)) (reports : List Report) (text : Lis
   pub best : Option ℕ
   pub is_best : IsBestPlace reports best
   pub is_text : text ≡ lines_upto names reports (length reports) ++ best_line names best
+
+-- known bytes grow by such a table, or by a first part of one, and by nothing else
+abbrev pub AppendsTable : List (List ℕ) → List Report → Option (List ℕ) → Option (List ℕ) → Type 0
+AppendsTable names reports old new = (text : List ℕ) × IsTable names reports text × Appends old new text
+
+abbrev pub AppendsTablePart : List (List ℕ) → List Report → Option (List ℕ) → Option (List ℕ) → Type 0
+AppendsTablePart names reports old new = (text : List ℕ) × IsTable names reports text × AppendsPart old new text

@@ -1,7 +1,7 @@
 //! How many of the numbers at some places of a list are below a bound, for many places and bounds at once.
 
 ghost use Rattle.std.specs.Prelude.{◌≡◌, ◌≤◌, ◌+◌, IfOk, All, length, map};
-ghost use Rattle.edd_check.specs.Limits.{most_commands};
+ghost use Rattle.edd_commands.specs.Limits.{most_commands};
 ghost use Rattle.blk_report.specs.Inside.Below.{AreBelow, halves, half_of, answer_of, IsAsk};
 
 use std::alloc::{AllocError, Allocator};

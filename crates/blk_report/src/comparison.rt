@@ -1,7 +1,8 @@
 //! Which of several reports is the best.
 
 ghost use Rattle.std.specs.Prelude.{◌≡◌, IfSome, IsNone, ◌↔◌};
-ghost use Rattle.blk_report.specs.Comparison.{IsFirstBest, HasNoBest, better_of};
+ghost use Rattle.blk_report.specs.Comparison.{IsFirstBest, HasNoBest};
+ghost use Rattle.blk_report.specs.Inside.Best.{better_of};
 
 use crate::Report;
 
@@ -25,7 +26,7 @@ pub fn compare(reports: &[Report]) -> Option<usize>
 {
     let mut best = None;
     for place in 0..reports.len() {
-        best = better(best, place, reports[place].greatest);
+        best = better(best, place, reports[place].greatest());
     }
     match best {
         Some((place, _)) => Some(place),

@@ -1,24 +1,19 @@
 //! The commands of a trace that were late, what the rounds that they waited went to, and why they were late.
 
-ghost use Rattle.std.specs.Prelude.{ℕ, ◌≡◌, ◌≤◌, ◌<◌, ◌-◌, IfOk, All, filter, length, map, slice_index_or};
+ghost use Rattle.std.specs.Prelude.{◌≡◌, ◌≤◌, ◌<◌, IfOk, All, filter, length, map};
 ghost use Rattle.std.specs.List.{filter_map};
-ghost use Rattle.edd_check.specs.Limits.{round_limit};
-ghost use Rattle.edd_check.specs.Schedule.{IsLegal};
-ghost use Rattle.edd_verdict.specs.declared.Verdict.{Verdict as Why};
+ghost use Rattle.edd_commands.specs.Limits.{round_limit};
+ghost use Rattle.edd_commands.specs.Schedule.{IsLegal};
 ghost use Rattle.edd_verdict.specs.Verdicts.{AreVerdicts};
-ghost use Rattle.blk_trace.specs.Depths.{capacity_of};
 ghost use Rattle.blk_trace.specs.declared.trace.TheConstants.{MAX_EVENTS};
-ghost use Rattle.blk_report.specs.declared.below.Ask.{Ask as Asked};
-ghost use Rattle.blk_report.specs.declared.serving.Service.{Service as Served};
-ghost use Rattle.blk_report.specs.declared.delays.LateCommand.{LateCommand as Row};
-ghost use Rattle.blk_report.specs.Services.{services_of, command_in, AreTimed, AreRising};
-ghost use Rattle.blk_report.specs.Late.{is_late, AreLate};
-ghost use Rattle.blk_report.specs.Inside.Waited.{IsFrom, AsksFor, AreCarried, CanWait, late_command};
+ghost use Rattle.blk_report.specs.Services.{command_in, AreTimed, AreRising};
+ghost use Rattle.blk_report.specs.Late.{is_late, AreLate, AreLateIn};
+ghost use Rattle.blk_report.specs.Inside.Waited.{IsFrom, AskForAll, AreCarried, CanWait, CanAllWait, late_command, AreLateCommands};
 
 use crate::below::{Ask, count_below};
 use crate::serving::{Service, services};
 use blk_trace::Trace;
-use edd_check::Capacity;
+use edd_commands::Capacity;
 use edd_verdict::{Verdict, law_of_verdicts, verdicts};
 use std::alloc::{AllocError, Allocator};
 
@@ -106,7 +101,7 @@ fn sums_upto<A: Allocator, B: Allocator>(
     Ok(sums)
 }
 
-/// For each late command how many of those that were issued in the rounds that it waited were due no later, still to be counted.
+/// A question for each late command, still to be answered: how many of the commands issued while it waited were due no later.
 fn asks<A: Allocator>(
     alloc: A,
     services: &[Service],
@@ -115,7 +110,7 @@ fn asks<A: Allocator>(
     requires rising { AreRising services.now }
     requires in_time { All (λ s. s.due < round_limit) late.now }
     ensures each { IfOk result (λ v. length v.items ≡ length late.now) }
-    ensures asks { IfOk result (λ v. (k : ℕ) → (d : Served) → (e : Asked) → k < length late.now → AsksFor services.now (slice_index_or late.now k d) (slice_index_or v.items k e)) }
+    ensures asks { IfOk result (λ v. AskForAll services.now late.now v.items) }
 {
     let mut asks = Vec::new(alloc);
     for service in late {
@@ -144,7 +139,7 @@ fn last_issue(services: &[Service]) -> u64
     }
 }
 
-/// A late command with its verdict and what its places went to.
+/// A late command with its verdict: `places` of the places that it waited for went to commands, `sooner` of them to ones due no later.
 fn late_command(
     service: Service,
     places: u64,
@@ -166,7 +161,7 @@ fn late_command(
     }
 }
 
-/// The late commands with their verdicts and what their places went to.
+/// Each late command with its verdict, and with what the places of the rounds that it waited went to.
 fn late_commands<A: Allocator>(
     alloc: A,
     late: &[Service],
@@ -179,9 +174,9 @@ fn late_commands<A: Allocator>(
     requires asked { length asks.now ≡ length late.now }
     requires counted { length counted.now ≡ length late.now }
     requires forward { All (λ a. a.start ≤ a.end) asks.now }
-    requires each { (k : ℕ) → (d : Served) → (e f : Asked) → k < length late.now → CanWait sums.now (slice_index_or late.now k d) ((slice_index_or asks.now k e).end - (slice_index_or asks.now k e).start) (slice_index_or counted.now k f).count }
+    requires each { CanAllWait sums.now late.now asks.now counted.now }
     ensures each { IfOk result (λ v. length v.items ≡ length late.now) }
-    ensures rows { IfOk result (λ v. (k : ℕ) → (d : Served) → (e f : Asked) → (w : Why) → (r : Row) → k < length late.now → slice_index_or v.items k r ≡ late_command sums.now (slice_index_or late.now k d) ((slice_index_or asks.now k e).end - (slice_index_or asks.now k e).start) (slice_index_or counted.now k f).count (slice_index_or told.now k w)) }
+    ensures rows { IfOk result (λ v. AreLateCommands sums.now late.now asks.now counted.now told.now v.items) }
 {
     let mut rows = Vec::new(alloc);
     for (place, service) in late.iter().enumerate() {
@@ -229,10 +224,10 @@ fn delays<A: Allocator + Clone, B: Allocator>(
 /// The commands of a trace that were issued after they were due, in the order of these Issues. Of the places of the rounds from its
 /// release up to but not including that of its Issue, each says how many went to commands due no later than it, how many to commands
 /// due later, and how many to none: together they are what these rounds carry. And each has the one verdict that is right of it,
-/// beside the commands that were on time. Only Issues count that were not handed back. Fails for want of memory alone. The time grows
+/// beside the commands that were on time. Only Issues count that were not handed back. Fails only when out of memory. The time grows
 /// as the number of events times its binary digits, or times those of the last due round where these are more.
 pub fn late<A: Allocator + Clone>(trace: &Trace<A>) -> Result<Vec<LateCommand, A>, AllocError>
-    ensures { IfOk result (λ v. AreLate (services_of trace.now.setup trace.now.events) (capacity_of trace.now.setup trace.now.events) v.items) }
+    ensures { IfOk result (λ v. AreLateIn trace.now.setup trace.now.events v.items) }
 {
     let services = services(trace)?;
     let commands = trace.commands()?;

@@ -6,7 +6,7 @@
 //! proves the least.
 #![tactic(auto)]
 
-ghost use Rattle.std.specs.Prelude.{◌≡◌, Some, IfOk};
+ghost use Rattle.std.specs.Prelude.{IfOk};
 ghost use Rattle.blk_report.specs.Shortfall.{IsReport};
 
 mod below;
@@ -35,27 +35,8 @@ pub use crate::spread_text::{drafted as spread_lines, write_spread};
 pub use crate::spreading::{ByDir, Quantiles, Spreads, spread};
 pub use crate::table::{drafted as table_lines, write_table};
 use blk_trace::Trace;
-use edd_figures::{Figures, figures_of};
+use edd_figures::figures_of;
 use std::alloc::{AllocError, Allocator};
-
-/// The report with these figures.
-fn with_figures(report: Report, figures: Figures) -> Report
-    ensures greatest { result.greatest ≡ Some figures.greatest }
-    ensures least { result.least ≡ Some figures.least }
-    ensures shortfall { result.shortfall ≡ Some figures.shortfall }
-    ensures window { result.window ≡ Some figures.window }
-    ensures load { result.load ≡ Some figures.load }
-    ensures counts { (result.commands ≡ report.commands) × (result.waiting ≡ report.waiting) × (result.depth ≡ report.depth) }
-{
-    Report {
-        greatest: Some(figures.greatest),
-        least: Some(figures.least),
-        shortfall: Some(figures.shortfall),
-        window: Some(figures.window),
-        load: Some(figures.load),
-        ..report
-    }
-}
 
 /// The report of a trace. The least lateness is by the trace's own capacity, the depth of each of its rounds. Fails for want of
 /// memory alone. The time grows as n log n in the number of commands and events.
@@ -65,19 +46,13 @@ pub fn report<A: Allocator + Clone>(trace: &Trace<A>) -> Result<Report, AllocErr
     let commands = trace.commands()?;
     let rounds = trace.rounds()?;
     let capacity = trace.capacity()?;
-    let counts = Report {
-        commands: commands.len() as u64,
-        waiting: trace.waiting()?.len() as u64,
-        depth: trace.setup().depth(),
-        greatest: None,
-        least: None,
-        shortfall: None,
-        window: None,
-        load: None,
-    };
+    let waiting = trace.waiting()?.len() as u64;
     let alloc = commands.allocator().clone()?;
-    match figures_of(alloc, commands.as_slice(), rounds.as_slice(), &capacity)? {
-        Some(figures) => Ok(with_figures(counts, figures)),
-        None => Ok(counts),
-    }
+    let figures = figures_of(alloc, commands.as_slice(), rounds.as_slice(), &capacity)?;
+    Ok(Report {
+        commands: commands.len() as u64,
+        waiting,
+        depth: trace.setup().depth(),
+        figures,
+    })
 }

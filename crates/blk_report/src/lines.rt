@@ -7,7 +7,7 @@ ghost use Rattle.blk_report.specs.Lines.{report_text};
 
 use crate::Report;
 use drafts::{Draft, WriteFault, write_whole};
-use edd_figures::lines::{push_late_line, push_number_line, push_window_lines};
+use edd_figures::lines::{push_figures, push_number_line};
 use std::alloc::{AllocError, Global};
 use std::io::Write;
 
@@ -19,10 +19,7 @@ pub fn drafted(alloc: Global, report: &Report) -> Result<Vec<u8>, AllocError>
     push_number_line(&mut draft, b"commands", report.commands)?;
     push_number_line(&mut draft, b"waiting", report.waiting)?;
     push_number_line(&mut draft, b"depth", report.depth)?;
-    push_late_line(&mut draft, alloc, b"greatest", report.greatest)?;
-    push_late_line(&mut draft, alloc, b"least", report.least)?;
-    push_late_line(&mut draft, alloc, b"shortfall", report.shortfall)?;
-    push_window_lines(&mut draft, report.window, report.load)?;
+    push_figures(&mut draft, alloc, report.figures)?;
     draft.finish()
 }
 

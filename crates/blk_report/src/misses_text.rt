@@ -45,10 +45,12 @@ pub fn write_misses<A: Allocator, W: Write>(
     missed: &Missed<A>,
     writer: &mut W,
 ) -> Result<(), WriteFault>
-    ensures ok { OnOk result (Appends (W.contents writer.old) (W.contents writer.new) (misses_text missed.now.tally missed.now.windows.items)) }
+    ensures ok { OnOk result (Appends (W.contents writer.old) (W.contents writer.new)
+        (misses_text missed.now.tally missed.now.windows.items)) }
     ensures memory { IfErr result (λ f. f ≡ WriteFault.Memory → writer.new ≡ writer.old) }
     // whatever the answer
-    ensures part { AppendsPart (W.contents writer.old) (W.contents writer.new) (misses_text missed.now.tally missed.now.windows.items) }
+    ensures part { AppendsPart (W.contents writer.old) (W.contents writer.new)
+        (misses_text missed.now.tally missed.now.windows.items) }
 {
     let Ok(text) = drafted(alloc, missed) else {
         return Err(WriteFault::Memory);

@@ -7,7 +7,7 @@ ghost use Rattle.blk_report.specs.Overdue.{overdue_of};
 
 use crate::outstaying::overdue;
 use blk_trace::Trace;
-use edd_check::Command;
+use edd_commands::Command;
 use edd_figures::{Crowd, misses_of};
 use std::alloc::{AllocError, Allocator, Global};
 
@@ -18,7 +18,7 @@ pub struct Tally {
     pub commands: u64,
     /// How many of them were issued after they were due.
     pub late: u64,
-    /// The fewest that any schedule has late: some legal schedule of these commands has so many, and none has fewer.
+    /// The fewest that any schedule has late: some legal schedule of these commands has this many, and none has fewer.
     pub unavoidable: u64,
     /// The others: by how many a schedule could have had fewer late.
     pub avoidable: u64,
@@ -35,8 +35,8 @@ pub struct Tally {
 pub struct Missed<A: Allocator = Global> {
     /// The numbers.
     pub tally: Tally,
-    /// Disjoint windows by rising rounds which prove that no schedule has fewer late: of the commands in a window no more are on
-    /// time than it carries.
+    /// Disjoint windows, by rising rounds, which prove that no schedule has fewer late commands: of those that lie in a window at
+    /// most as many are on time as its rounds carry.
     pub windows: Vec<Crowd, A>,
 }
 
@@ -56,7 +56,7 @@ fn waits<A: Allocator + Clone>(
 
 /// How many commands of a trace were late, how many of these had to be, under the trace's own capacity, and the windows that prove
 /// it: no schedule of the same commands has fewer late, and some schedule has no more. Of the late ones it counts those that are
-/// spare, and of the bios those that wait, and those that wait past their due round. Fails for want of memory alone. The time
+/// spare, and of the bios those that wait, and those that wait past their due round. Fails only when out of memory. The time
 /// grows as n log n in the number of commands and events.
 pub fn misses<A: Allocator + Clone>(trace: &Trace<A>) -> Result<Missed<A>, AllocError>
     ensures tallied { IfOk result (λ m. IsTallied trace.now.setup trace.now.events m.tally m.windows.items) }

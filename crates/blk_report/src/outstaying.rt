@@ -12,7 +12,7 @@ ghost use Rattle.blk_report.specs.Inside.Outstayed.{comes_to_outstay};
 
 use blk_bio::{Bio, Request};
 use blk_trace::{Event, Setup, Trace};
-use edd_check::Command;
+use edd_commands::Command;
 use std::alloc::{AllocError, Allocator};
 
 /// The ids of commands.
@@ -123,7 +123,7 @@ fn bios_under<A: Allocator + Clone>(
 }
 
 /// The bios that wait in the end though the round that is on then is above the round in which their request is due, in the order in
-/// which they entered. Fails for want of memory alone. The time grows as n log n in the number of events.
+/// which they entered. Fails only when out of memory. The time grows as n log n in the number of events.
 pub(crate) fn overdue<A: Allocator + Clone>(
     trace: &Trace<A>,
     commands: &Vec<Command, A>,

@@ -1,6 +1,6 @@
 //! The commands of a trace, each with its request and the round in which it was issued.
 
-ghost use Rattle.std.specs.Prelude.{ℕ, ◌≡◌, ◌==◌, cond, IfOk, OnOk, Some, map};
+ghost use Rattle.std.specs.Prelude.{ℕ, ◌≡◌, IfOk, OnOk, Some, map};
 ghost use Rattle.std.specs.Ordering.{nat_cmp};
 ghost use Rattle.std.specs.BTreeMap.{get};
 ghost use Rattle.blk_trace.specs.Events.{request_of};
@@ -8,11 +8,11 @@ ghost use Rattle.blk_trace.specs.Kinds.{enters};
 ghost use Rattle.blk_trace.specs.Legal.{IsLegalTrace};
 ghost use Rattle.blk_trace.specs.Meaning.{commands_of, rounds_of};
 ghost use Rattle.blk_report.specs.Services.{services_of, command_in, AreTimed, AreRising};
-ghost use Rattle.blk_report.specs.Inside.Ranges.{range_of, joined_range, joined_to, with_entry};
+ghost use Rattle.blk_report.specs.Inside.Ranges.{range_of, joined_range, IsExtended, with_entry};
 
 use blk_bio::{Dir, Request};
 use blk_trace::{Event, Trace};
-use edd_check::Command;
+use edd_commands::Command;
 use std::alloc::{AllocError, Allocator};
 use std::collections::BTreeMap;
 
@@ -77,13 +77,13 @@ impl Range {
     }
 }
 
-/// Takes account of bios of a range that enter under an id.
-fn enter<A: Allocator + Clone>(
+/// Extends the range under an id by that of bios which enter under it.
+fn extend<A: Allocator + Clone>(
     ranges: &mut BTreeMap<u64, Range, A>,
     id: u64,
     newcomer: Range,
 ) -> Result<(), AllocError>
-    ensures { OnOk result ((i : ℕ) → get nat_cmp ranges.new i ≡ cond (id == i) (joined_to (get nat_cmp ranges.old id) (Some newcomer)) (get nat_cmp ranges.old i)) }
+    ensures { OnOk result (IsExtended id newcomer (get nat_cmp ranges.old) (get nat_cmp ranges.new)) }
 {
     let range = match ranges.get(&id) {
         None => newcomer,
@@ -103,7 +103,7 @@ fn gather<A: Allocator + Clone>(
     ensures { OnOk result ((i : ℕ) → get nat_cmp ranges.new i ≡ with_entry (get nat_cmp ranges.old) (enters event.now) i) }
 {
     match event.enters() {
-        Some((id, request)) => enter(ranges, id, Range::of(request)),
+        Some((id, request)) => extend(ranges, id, Range::of(request)),
         None => Ok(()),
     }
 }
@@ -158,7 +158,7 @@ fn served<A: Allocator + Clone>(
 }
 
 /// The commands of a trace that were issued and not handed back, in the order of these Issues, each with its request as it stood
-/// then, with all that joined it. Rounds and sectors are as in the trace. Fails for want of memory alone. The time grows as n log n
+/// then, with all that joined it. Rounds and sectors are as in the trace. Fails only when out of memory. The time grows as n log n
 /// in the number of events.
 pub fn services<A: Allocator + Clone>(trace: &Trace<A>) -> Result<Vec<Service, A>, AllocError>
     ensures services { IfOk result (λ v. v.items ≡ services_of trace.now.setup trace.now.events) }

@@ -1,7 +1,7 @@
 //! How long the commands of a trace waited, and how late they were, by quantiles.
 
 ghost use Rattle.std.specs.Prelude.{◌≡◌, ◌≤◌, IfOk, filter, length, map};
-ghost use Rattle.edd_check.specs.Limits.{most_commands};
+ghost use Rattle.edd_commands.specs.Limits.{most_commands};
 ghost use Rattle.blk_trace.specs.Setups.{same_dir};
 ghost use Rattle.blk_report.specs.Services.{AreTimed};
 ghost use Rattle.blk_report.specs.Spread.{wait_of, late_by, at_rank, quantiles_of, IsQuantiles, AreSpreads};
@@ -48,7 +48,7 @@ pub struct Spreads {
     pub lateness: ByDir,
 }
 
-/// The number at the place of so many thousandths.
+/// The number at the place of a share in thousandths.
 fn at_rank(sorted: &[i64], thousandths: usize) -> Option<i64>
     requires few { length sorted.now ≤ most_commands }
     requires part { thousandths ≤ 1000 }
@@ -136,7 +136,7 @@ fn latenesses<A: Allocator>(alloc: A, services: &[Service]) -> Result<Quantiles,
 }
 
 /// How long the commands waited and how late they were: of the reads, of the writes and of both how many there are, and the
-/// quantiles by nearest rank, in rounds. The commands are as [`crate::services`] gives them. Fails for want of memory alone. The time
+/// quantiles by nearest rank, in rounds. The commands are as [`crate::services`] gives them. Fails only when out of memory. The time
 /// grows as n log n in the number of commands.
 pub fn spread<A: Allocator + Clone>(alloc: A, services: &[Service]) -> Result<Spreads, AllocError>
     requires { AreTimed services.now }

@@ -1,10 +1,8 @@
 //! A table of reports as text.
 
-ghost use Rattle.std.specs.Prelude.{◌≡◌, ◌⊎◌, ◌++◌, IfOk, IfErr, IfSome, OnOk, ◌<◌, decimal, length, map, List, ℕ};
-ghost use Rattle.std.specs.Io.KnownBytes.{Appends};
-ghost use Rattle.drafts.specs.Parts.{AppendsPart};
+ghost use Rattle.std.specs.Prelude.{◌≡◌, ◌⊎◌, ◌++◌, IfOk, IfErr, IfSome, OnOk, ◌<◌, decimal, length, map};
 ghost use Rattle.edd_figures.specs.Lines.{late_text};
-ghost use Rattle.blk_report.specs.Table.{right_in, row_line, lines_upto, best_line, IsTable};
+ghost use Rattle.blk_report.specs.Table.{right_in, row_line, lines_upto, best_line, IsTable, AppendsTable, AppendsTablePart};
 
 use crate::{Report, compare};
 use drafts::{Draft, WriteFault, write_whole};
@@ -50,9 +48,9 @@ fn push_row(
     draft.left(name, NAME)?;
     push_count(draft, alloc, report.commands)?;
     push_count(draft, alloc, report.waiting)?;
-    push_late(draft, alloc, report.greatest)?;
-    push_late(draft, alloc, report.least)?;
-    push_late(draft, alloc, report.shortfall)?;
+    push_late(draft, alloc, report.greatest())?;
+    push_late(draft, alloc, report.least())?;
+    push_late(draft, alloc, report.shortfall())?;
     draft.text(b"\n")
 }
 
@@ -113,10 +111,11 @@ pub fn write_table<W: Write>(
     writer: &mut W,
 ) -> Result<(), WriteFault>
     requires { length names.now ≡ length reports.now }
-    ensures ok { OnOk result ((text : List ℕ) × IsTable (map (λ name. name.now) names.now) reports.now text × Appends (W.contents writer.old) (W.contents writer.new) text) }
+    ensures ok { OnOk result (AppendsTable (map (λ name. name.now) names.now) reports.now (W.contents writer.old) (W.contents writer.new)) }
     ensures memory { IfErr result (λ f. f ≡ WriteFault.Memory → writer.new ≡ writer.old) }
     // whatever the answer
-    ensures part { (writer.new ≡ writer.old) ⊎ ((text : List ℕ) × IsTable (map (λ name. name.now) names.now) reports.now text × AppendsPart (W.contents writer.old) (W.contents writer.new) text) }
+    ensures part { (writer.new ≡ writer.old)
+        ⊎ AppendsTablePart (map (λ name. name.now) names.now) reports.now (W.contents writer.old) (W.contents writer.new) }
 {
     let Ok(text) = drafted(alloc, names, reports) else {
         return Err(WriteFault::Memory);

@@ -21,7 +21,7 @@ split_at xs i d h = sym (take-append-drop i xs) ∙ ap (λ (rest : List Sched). 
 pub first_unmade : (ss : List Sched) (i : ℕ) (d : Sched) (f : SchedFault) → i < length ss → All IsMade (take i ss) → HasFault (get_or ss i d) f → IsFirstUnmade ss f
 first_unmade ss i d f h made fault = record { before = take i ss; unmade = get_or ss i d; after = drop (i + 1) ss; turn = split_at ss i d h; made = made; fault = fault }
 
--- what is made of its settings is refused for want of memory alone
+-- what is made of its settings is refused only when out of memory
 made_memory : (x : Sched) (f : SchedFault) → IsMade x → IsUnmade x f → f ≡ setting.Memory
 made_memory sched.None setting.ZeroBatch made h = absurd h
 made_memory sched.None setting.ZeroTarget made h = absurd h

@@ -20,7 +20,7 @@ pub record IsFirstUnmade (scheds : List Sched) (f : SchedFault) : Type 0 where
   pub made : All IsMade before
   pub fault : HasFault unmade f
 
--- not all of them are made: for the first that isn't made of its settings, or for want of memory
+-- not all of them are made: for the first that isn't made of its settings, or since memory ran out
 abbrev pub AreUnmade : List Sched → SchedFault → Type 0
 AreUnmade scheds f = IsFirstUnmade scheds f ⊎ (f ≡ setting.Memory)
 

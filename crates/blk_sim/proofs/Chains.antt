@@ -13,7 +13,7 @@ use Rattle.blk_sim.specs.declared.refusal.SimWhy.{SimWhy}
 use Rattle.blk_sim.specs.Moves.{Enters, EnterInTurn, drained, flushed_plug, with_requests, bios_in, Drains, DrainInTurn}
 use Rattle.blk_sim.specs.Rounds.{Gives, IssueInTurn, CompleteInTurn, Works}
 use Rattle.blk_core.specs.Calls.{Completes}
-use Rattle.blk_sim.specs.Working.{WorkInTurn}
+use Rattle.blk_sim.specs.Inside.Working.{WorkInTurn}
 use Rattle.blk_sched.specs.Policies.{Policy}
 use Rattle.blk_sim.specs.Refusals.{IsReleaseRefused, IsMoveRefused}
 

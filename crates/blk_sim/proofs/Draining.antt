@@ -17,7 +17,8 @@ use Rattle.blk_core.specs.State.{CoreState}
 use Rattle.blk_bio.specs.Bios.{Bio}
 use Rattle.blk_sim.specs.Moves.{bios_in, requests_in, served_requests, drained, Drains, DrainInTurn}
 use Rattle.blk_sim.specs.Simulation.{Where, Plugged, Staged, Released, is_where}
-use Rattle.blk_sim.specs.Simulated.{Placing, picked, is_in, is_at, AreStaged, AreDrained, is_served, Passed}
+use Rattle.blk_sim.specs.Simulated.{Placing, picked, is_in, is_at, AreStaged, AreDrained}
+use Rattle.blk_sim.specs.Inside.Places.{is_served, Passed}
 use Rattle.blk_sim.proofs.Events.{chain_took}
 use Rattle.blk_sched.specs.Policies.{Policy}
 use Rattle.blk_sim.proofs.Picking.{picked-same, picked-none, picked-both, IsSplit}

@@ -9,11 +9,11 @@ use Rattle.blk_trace.specs.Happened.{Happened}
 use Rattle.blk_trace.specs.Events.{entered, round_of, bios_of, is_tick}
 use Rattle.blk_core.specs.State.{CoreState}
 use Rattle.blk_core.specs.Calls.{AddsEvent, Places}
-use Rattle.blk_core.specs.declared.Placed.{Placed}
-use Rattle.blk_core.specs.declared.Placed.TheVariants.{New, Joined}
+use Rattle.blk_core.specs.declared.calls.Placed.{Placed}
+use Rattle.blk_core.specs.declared.calls.Placed.TheVariants.{New, Joined}
 use Rattle.blk_sim.specs.Moves.{Enters, EnterInTurn, bios_in}
 use Rattle.blk_sched.specs.Policies.{Policy}
-use Rattle.blk_sim.specs.Simulated.{Passed, TookIn}
+use Rattle.blk_sim.specs.Inside.Places.{Passed, TookIn}
 
 -- how many of a list with one more pass a test
 count_more : (t : Happened → Bool) (es : List Happened) (e : Happened) → count_by t (es ++ e ∷ []) ≡ count_by t es + cond (t e) 1 0

@@ -7,7 +7,7 @@ use Rattle.std.proofs.lemmas.Bool.{lt-ltb}
 use Rattle.std.proofs.lemmas.Bool.Decides.{eqb_tells}
 use Rattle.std.proofs.lemmas.List.{length-set, length-replicate}
 use Rattle.std.proofs.lemmas.List.Elements.{All-replicate}
-use Rattle.edd_check.specs.declared.Command.{Command}
+use Rattle.edd_commands.specs.declared.Command.{Command}
 use Rattle.blk_bio.specs.Bios.{Bio}
 use Rattle.blk_trace.specs.Setups.{Setup}
 use Rattle.blk_trace.specs.Happened.{Happened}
@@ -20,7 +20,7 @@ use Rattle.std.specs.Prelude.{Ok}
 use Rattle.blk_soft.specs.Queues.{Queue}
 use Rattle.blk_sched.specs.Meaning.{Meaning}
 use Rattle.blk_core.specs.State.{CoreState}
-use Rattle.blk_core.specs.Calls.{Completes, Issues, TakesBack, SetsDepth}
+use Rattle.blk_core.specs.Calls.{Completes, Issues, RequeuesTag, SetsDepth}
 use Rattle.blk_text.specs.Script.{Scripted, LineFits}
 use Rattle.blk_text.specs.declared.script.Line.{Line}
 use Rattle.blk_text.specs.declared.script.Line.TheVariants as line
@@ -29,7 +29,8 @@ use Rattle.blk_sim.specs.State.{SimState, start_of}
 use Rattle.blk_sim.specs.Moves.{bios_in, flushed_plug, with_requests, drained, AreEmptied, Drains, DrainInTurn}
 use Rattle.blk_sim.specs.Rounds.{AsksQueue, Ticks, IssueInTurn, CompleteInTurn, Works, Round, Rounds}
 use Rattle.blk_sim.specs.Runs.{Steps}
-use Rattle.blk_sim.specs.Simulated.{Placing, AreDrained, nobody, is_served, stepped, Stands, HaveCome, IsReady, Passed}
+use Rattle.blk_sim.specs.Simulated.{Placing, AreDrained, nobody, stepped, Stands, HaveCome, IsReady}
+use Rattle.blk_sim.specs.Inside.Places.{is_served, Passed}
 use Rattle.blk_sim.proofs.Picking.{set_cases}
 use Rattle.blk_sim.proofs.Events.{adds_passed, passed_same, passed_trans, chain_took}
 use Rattle.blk_sim.proofs.Draining.{drained_same, drained_at, drain_drained, drain_count, all_drained, drained_passed}
@@ -48,7 +49,7 @@ asks_passed policy hw tag a b found h = issues_passed policy hw tag a b found h.
 pub completes_passed : (policy : Policy) (tag : ℕ) (a b : CoreState) → Completes policy.told_done a tag b → Passed 0 a b
 completes_passed policy tag a b h = adds_passed a b _ 0 h.3 refl refl
 
-back_passed : (tag id : ℕ) (a b : CoreState) → TakesBack a tag id b → Passed 0 a b
+back_passed : (tag id : ℕ) (a b : CoreState) → RequeuesTag a tag id b → Passed 0 a b
 back_passed tag id a b h = adds_passed a b _ 0 h.4 refl refl
 
 depth_passed : (n : ℕ) (a b : CoreState) → SetsDepth a n b → Passed 0 a b
@@ -70,7 +71,7 @@ dones_passed policy (suc n) a b h = passed_trans 0 0 a h.0 b (dones_passed polic
 pub works_passed : (policy : Policy) (a b : CoreState) → Works policy a b → Passed 1 a b
 works_passed policy a b h = passed_trans 0 1 a h.idle b (passed_trans 0 0 a h.busy h.idle (tags_passed policy h.issues.tags a h.busy h.issues.issued) (dones_passed policy h.busy.setup.depth h.busy h.idle h.completes)) (ticks_passed policy h.idle b h.ticks)
 
--- so many rounds passed under one setup
+-- n rounds passed under one setup
 pub record Went (n : ℕ) (a b : CoreState) : Type 0 where
   pub setup : b.setup ≡ a.setup
   pub ticks : round_of b.events ≡ round_of a.events + n

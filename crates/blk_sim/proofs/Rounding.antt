@@ -4,7 +4,7 @@ use Rattle.std.specs.Prelude.{slice_get, Result, Ok, Err, OnOk, OnErr, IfErr}
 use Rattle.std.specs.Option.{option_map}
 use Rattle.std.proofs.lemmas.Bool.{cases_eq}
 use Rattle.std.proofs.Math.Nat.{mod-lt}
-use Rattle.edd_check.specs.declared.Command.{Command}
+use Rattle.edd_commands.specs.declared.Command.{Command}
 use Rattle.blk_soft.specs.Queues.{Queue}
 use Rattle.blk_trace.specs.Depths.{depth_now}
 use Rattle.blk_core.specs.State.{CoreState}
@@ -13,9 +13,10 @@ use Rattle.blk_core.specs.Faults.{IsInFlight}
 use Rattle.blk_sim.specs.declared.refusal.SimWhy.{SimWhy}
 use Rattle.blk_sim.specs.declared.refusal.SimWhy.TheVariants as why
 use Rattle.blk_sim.specs.Moves.{EnterInTurn, requests_in, served_requests, drained, DrainInTurn}
-use Rattle.blk_sim.specs.Rounds.{AsksQueue, queue_asked, GiveNothing, IsGiven, IssueInTurn, IssuesAll, CompleteInTurn, Works, Rounds}
+use Rattle.blk_sim.specs.Rounds.{AsksQueue, queue_asked, GiveNothing, IssueInTurn, IssuesAll, CompleteInTurn, Works, Rounds}
+use Rattle.blk_sim.specs.Inside.Given.{IsGiven}
 use Rattle.blk_sim.specs.Refusals.{IsWorkRefused, IsRunRefused, IsDrainInTurnRefused}
-use Rattle.blk_sim.specs.Working.{WorkInTurn, IsWorkInTurnRefused}
+use Rattle.blk_sim.specs.Inside.Working.{WorkInTurn, IsWorkInTurnRefused}
 use Rattle.blk_sim.proofs.Chains.{enter_none, drained_already, complete_done, complete_passed}
 use Rattle.blk_sched.specs.Policies.{Policy}
 use Rattle.blk_sim.proofs.Draining.{drained_none}

@@ -6,7 +6,7 @@ use Rattle.blk_bio.specs.declared.limits.TheConstants.{MAX_QUEUES, MAX_SOFT_QUEU
 use Rattle.blk_hw.specs.Maps.{IsLeastUnserved, IsMapFault}
 use Rattle.blk_hw.specs.declared.MapFault.{MapFault}
 use Rattle.blk_hw.specs.declared.MapFault.TheVariants.{Empty, TooMany, Unserved}
-use Rattle.blk_sim.specs.Simulated.{IsSpread}
+use Rattle.blk_sim.specs.Inside.Places.{IsSpread}
 
 -- an entry is below the number of hardware queues
 below : (hw count : ℕ) (entries : List ℕ) (k x : ℕ) → 0 < hw → IsSpread hw count entries → k < length entries → get_or entries k x ≡ x → x < hw

@@ -19,7 +19,8 @@ use Rattle.blk_text.specs.declared.script.Line.{Line}
 use Rattle.blk_text.specs.declared.script.Line.TheVariants as line
 use Rattle.blk_sim.specs.Simulation.{Where, Plugged, Staged, Released, moved, place_after, is_where, bio_at, bios_at, ticks_of}
 use Rattle.blk_sim.specs.Moves.{bios_in}
-use Rattle.blk_sim.specs.Simulated.{Placing, placed_by, placings, moved_by, stepped, picked, is_in, is_at, ArePlugged, AreStaged, AreDrained, nobody, Stands}
+use Rattle.blk_sim.specs.Simulated.{Placing, placed_by, moved_by, stepped, picked, is_in, is_at, ArePlugged, AreStaged, AreDrained, nobody, Stands}
+use Rattle.blk_sim.specs.Inside.Places.{placings}
 use Rattle.blk_sim.proofs.Where.{one_more}
 use Rattle.blk_sim.proofs.Picking.{picked-append, picked-moved, picked-same, picked-same_in, picked-none, picked-both, IsSplit, set_cases}
 
@@ -37,7 +38,7 @@ picked-stepped t hw l book = picked-append t (map (moved_by hw l) book) (placed_
 picked-quiet : (t : Placing → Bool) (hw : ℕ) (l : Line) (book : List Placing) → placed_by hw l [] ≡ [] → picked t (stepped hw l book) ≡ picked (λ p. t (moved_by hw l p)) book
 picked-quiet t hw l book e = picked-stepped t hw l book ∙ ap (λ r. picked (λ p. t (moved_by hw l p)) book ++ picked t r) e ∙ ap (λ r. picked (λ p. t (moved_by hw l p)) book ++ r) (picked-nil t) ∙ append-nil _
 
--- every bio of the book has one of so many submitters
+-- every bio of the book has one of n submitters
 abbrev pub AreKnown : ℕ → List Placing → Type 0
 AreKnown n book = All (λ (p : Placing). p.bio.id.submitter < n) book
 

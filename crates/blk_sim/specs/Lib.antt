@@ -5,5 +5,5 @@ pub mod Rounds
 pub mod Runs
 pub mod Simulated
 pub mod Refusals
-pub mod Working
 pub mod Names
+pub mod Inside

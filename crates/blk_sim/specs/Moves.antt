@@ -10,7 +10,7 @@ use Rattle.blk_core.specs.State.{CoreState}
 use Rattle.blk_core.specs.Calls.{Places}
 use Rattle.blk_core.specs.Faults.{CanRelease}
 use Rattle.blk_sched.specs.Policies.{Policy}
-use Rattle.blk_core.specs.declared.Placed.{Placed}
+use Rattle.blk_core.specs.declared.calls.Placed.{Placed}
 
 -- the bios of requests, in their order
 abbrev pub bios_in : List (List Bio) → List Bio
@@ -68,7 +68,7 @@ abbrev pub requests_in : Option Queue → List (List Bio)
 requests_in None = []
 requests_in (Some queue) = queue.requests
 
--- the requests of those of the first n software queues that a hardware queue of so many serves, by their rising number
+-- the requests of those of the first n software queues that a hardware queue of `count` serves, by their rising number
 -- and in each from the first
 unfoldable pub served_requests : List Queue → ℕ → ℕ → ℕ → List (List Bio)
 served_requests queues count hw zero = []
@@ -84,20 +84,24 @@ drained queue = record {
   bios_out = queue.bios_out + bios_held queue;
 }
 
--- the requests of the software queues that a hardware queue of so many serves went, and the others stay
+-- the requests of the software queues that a hardware queue of `count` serves went, and the others stay
 pub record AreEmptied (count hw : ℕ) (old new : List Queue) : Type 0 where
   pub as_many : length new ≡ length old
   pub served : (s : ℕ) → (s % count) ≡ hw → slice_get new s ≡ option_map drained (slice_get old s)
   pub others : (s : ℕ) → (s % count) ≢ hw → slice_get new s ≡ slice_get old s
 
--- the requests of the software queues that a hardware queue of so many serves enter the core
+-- the requests of the software queues that a hardware queue of `count` serves enter the core
 pub record Drains (policy : Policy) (count hw : ℕ) (queues : List Queue) (core : CoreState) (new_queues : List Queue) (new_core : CoreState) : Type 0 where
   pub emptied : AreEmptied count hw queues new_queues
   pub entered : EnterInTurn policy hw (served_requests queues count hw (length queues)) core new_core
 
--- the first n hardware queues, of so many, are drained in turn
+-- the first n hardware queues of `count` are drained in turn
 unfoldable pub DrainInTurn : Policy → ℕ → ℕ → List Queue → CoreState → List Queue → CoreState → Type 0
 DrainInTurn policy count zero queues core new_queues new_core = (new_queues ≡ queues) × (new_core ≡ core)
 DrainInTurn policy count (suc n) queues core new_queues new_core =
     (between : List Queue) × (middle : CoreState) × DrainInTurn policy count n queues core between middle
     × Drains policy count n between middle new_queues new_core
+
+-- all hardware queues are, in turn
+abbrev pub DrainsAll : Policy → List Queue → CoreState → List Queue → CoreState → Type 0
+DrainsAll policy queues core new_queues new_core = DrainInTurn policy core.setup.hw core.setup.hw queues core new_queues new_core

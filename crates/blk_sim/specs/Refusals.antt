@@ -10,16 +10,16 @@ use Rattle.blk_sched.specs.Meaning.{Meaning}
 use Rattle.blk_trace.specs.Depths.{depth_now}
 use Rattle.blk_core.specs.State.{CoreState}
 use Rattle.blk_core.specs.Faults.{IsReleaseFault, IsIssueFault, IsBackFault, IsTickFault, IsDepthFault, IsInFlight}
-use Rattle.blk_core.specs.declared.CoreFault.{CoreFault}
-use Rattle.blk_core.specs.declared.CoreFault.TheVariants as release
-use Rattle.blk_core.specs.declared.IssueFault.{IssueFault}
-use Rattle.blk_core.specs.declared.IssueFault.TheVariants as issue
-use Rattle.blk_core.specs.declared.BackFault.{BackFault}
-use Rattle.blk_core.specs.declared.BackFault.TheVariants as back
-use Rattle.blk_core.specs.declared.DepthFault.{DepthFault}
-use Rattle.blk_core.specs.declared.DepthFault.TheVariants as depth
-use Rattle.blk_core.specs.declared.TickFault.{TickFault}
-use Rattle.blk_core.specs.declared.TickFault.TheVariants as tick
+use Rattle.blk_core.specs.declared.refusals.CoreFault.{CoreFault}
+use Rattle.blk_core.specs.declared.refusals.CoreFault.TheVariants as release
+use Rattle.blk_core.specs.declared.refusals.IssueFault.{IssueFault}
+use Rattle.blk_core.specs.declared.refusals.IssueFault.TheVariants as issue
+use Rattle.blk_core.specs.declared.refusals.BackFault.{BackFault}
+use Rattle.blk_core.specs.declared.refusals.BackFault.TheVariants as back
+use Rattle.blk_core.specs.declared.refusals.DepthFault.{DepthFault}
+use Rattle.blk_core.specs.declared.refusals.DepthFault.TheVariants as depth
+use Rattle.blk_core.specs.declared.refusals.TickFault.{TickFault}
+use Rattle.blk_core.specs.declared.refusals.TickFault.TheVariants as tick
 use Rattle.blk_text.specs.Script.{Scripted}
 use Rattle.blk_text.specs.declared.script.Line.{Line}
 use Rattle.blk_text.specs.declared.script.Line.TheVariants as line
@@ -27,7 +27,7 @@ use Rattle.blk_sim.specs.declared.refusal.SimFault.{SimFault}
 use Rattle.blk_sim.specs.declared.refusal.SimWhy.{SimWhy}
 use Rattle.blk_sim.specs.declared.refusal.SimWhy.TheVariants as why
 use Rattle.blk_sim.specs.State.{SimState, start_of}
-use Rattle.blk_sim.specs.Moves.{EnterInTurn, DrainInTurn, served_requests}
+use Rattle.blk_sim.specs.Moves.{EnterInTurn, DrainInTurn, DrainsAll, served_requests}
 use Rattle.blk_sim.specs.Rounds.{queue_asked, GiveNothing, IssueInTurn, IssuesAll, CompleteInTurn, Rounds}
 use Rattle.blk_sched.specs.Policies.{Policy}
 use Rattle.blk_sim.specs.Runs.{Runs}
@@ -107,11 +107,11 @@ pub record IsMoveRefused (policy : Policy) (requests : List (List Bio)) (core : 
   pub entered : EnterInTurn policy hw before core middle
   pub refused : IsReleaseRefused middle bios hw w
 
--- of the requests of the software queues that a hardware queue, of so many, serves the core refuses one
+-- of the requests of the software queues that a hardware queue of `count` serves the core refuses one
 abbrev pub IsDrainRefused : Policy → ℕ → ℕ → List Queue → CoreState → SimWhy → Type 0
 IsDrainRefused policy count hw queues core w = IsMoveRefused policy (served_requests queues count hw (length queues)) core hw w
 
--- the hardware queues below one, of so many, were drained in turn, and its own drain is refused
+-- the hardware queues below one of `count` were drained in turn, and its own drain is refused
 pub record IsDrainInTurnRefused (policy : Policy) (count : ℕ) (queues : List Queue) (core : CoreState) (w : SimWhy) : Type 0 where
   pub hw : ℕ
   pub below : hw < count
@@ -153,10 +153,10 @@ IsWorkRefused policy core w = IsIssueInTurnRefused policy core w ⊎ IsEndRefuse
 abbrev pub IsRoundRefused : Policy → List Queue → CoreState → SimWhy → Type 0
 IsRoundRefused policy queues core w =
     IsDrainInTurnRefused policy core.setup.hw queues core w
-    ⊎ ((between : List Queue) × (middle : CoreState) × DrainInTurn policy core.setup.hw core.setup.hw queues core between middle
+    ⊎ ((between : List Queue) × (middle : CoreState) × DrainsAll policy queues core between middle
     × IsWorkRefused policy middle w)
 
--- of so many rounds some passed, and the next is refused
+-- of n rounds some passed, and the next is refused
 pub record IsRunRefused (policy : Policy) (count : ℕ) (queues : List Queue) (core : CoreState) (w : SimWhy) : Type 0 where
   pub rounds : ℕ
   pub few : rounds < count

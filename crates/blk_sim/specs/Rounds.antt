@@ -1,6 +1,6 @@
 -- What a round of a script's `run` does.
-use Rattle.std.specs.Prelude.{◌≡◌, ◌+◌, ◌<◌, ◌≤◌, ◌%◌, ◌⊎◌, ℕ, zero, suc, Bool, true, false, List, Option, Some, None}
-use Rattle.edd_check.specs.declared.Command.{Command}
+use Rattle.std.specs.Prelude.{◌≡◌, ◌+◌, ◌<◌, ◌≤◌, ◌%◌, ◌⊎◌, ℕ, zero, suc, List, Option, Some, None}
+use Rattle.edd_commands.specs.declared.Command.{Command}
 use Rattle.blk_soft.specs.Queues.{Queue}
 use Rattle.blk_trace.specs.Depths.{depth_now}
 use Rattle.blk_trace.specs.Events.{IsUsed}
@@ -8,18 +8,18 @@ use Rattle.blk_core.specs.State.{CoreState}
 use Rattle.blk_core.specs.Calls.{Issues, Completes, Ends}
 use Rattle.blk_core.specs.Faults.{CanIssue, CanTick, IsInFlight}
 use Rattle.blk_sched.specs.Policies.{Policy}
-use Rattle.blk_sim.specs.Moves.{DrainInTurn}
+use Rattle.blk_sim.specs.Moves.{DrainsAll}
 
 -- a hardware queue is asked for a command under a tag, which it gives or not
 abbrev pub AsksQueue : Policy → ℕ → ℕ → CoreState → Option Command → CoreState → Type 0
 AsksQueue policy hw tag old found new = CanIssue old hw tag × Issues policy.serves policy.chooses old hw tag found new
 
--- a round ends, and the scheduler is told of the new one
+-- a round ends, and the scheduler hears of the new one
 abbrev pub Ticks : Policy → CoreState → CoreState → Type 0
 Ticks policy old new = CanTick old × Ends policy.told_tick old new
 
--- of so many hardware queues the one that is asked for a tag after so many others: from the tag modulo their number on,
--- upward and round
+-- of `count` hardware queues the one that is asked for a tag after `k` others: the first is the tag modulo their number, and behind the
+-- last comes queue 0
 abbrev pub queue_asked : ℕ → ℕ → ℕ → ℕ
 queue_asked count tag k = ((tag % count) + k) % count
 
@@ -34,11 +34,6 @@ pub record Gives (policy : Policy) (tag : ℕ) (old new : CoreState) : Type 0 wh
   pub nothing : GiveNothing policy tag place old
   pub command : Command
   pub gave : AsksQueue policy (queue_asked old.setup.hw tag place) tag old (Some command) new
-
--- whether a hardware queue gave a command for a tag
-abbrev pub IsGiven : Policy → ℕ → CoreState → Bool → CoreState → Type 0
-IsGiven policy tag old true new = Gives policy tag old new
-IsGiven policy tag old false new = GiveNothing policy tag old.setup.hw old × (new ≡ old)
 
 -- the tags below n in turn: one that was issued in this round already is passed over, and each other one gets a command
 unfoldable pub IssueInTurn : Policy → ℕ → CoreState → CoreState → Type 0
@@ -70,10 +65,10 @@ pub record Works (policy : Policy) (old new : CoreState) : Type 0 where
 -- one round: the hardware queues are drained in turn, and the core works
 pub record Round (policy : Policy) (queues : List Queue) (core : CoreState) (new_queues : List Queue) (new_core : CoreState) : Type 0 where
   pub filled : CoreState
-  pub drains : DrainInTurn policy core.setup.hw core.setup.hw queues core new_queues filled
+  pub drains : DrainsAll policy queues core new_queues filled
   pub works : Works policy filled new_core
 
--- so many rounds
+-- n rounds
 unfoldable pub Rounds : Policy → ℕ → List Queue → CoreState → List Queue → CoreState → Type 0
 Rounds policy zero queues core new_queues new_core = (new_queues ≡ queues) × (new_core ≡ core)
 Rounds policy (suc n) queues core new_queues new_core =

@@ -1,11 +1,10 @@
 -- How a simulation stands between two steps.
-use Rattle.std.specs.Prelude.{◌≡◌, ◌<◌, ◌≤◌, ◌+◌, ◌%◌, ◌==◌, ◌++◌, ◌&&◌, ◌||◌, not, cond, nat_lt, ℕ, Bool, false, List, [], ◌∷◌, Some, length, map, slice_get, slice_index_or, All, IsPermutation}
+use Rattle.std.specs.Prelude.{◌≡◌, ◌<◌, ◌≤◌, ◌+◌, ◌==◌, ◌++◌, ◌&&◌, ◌||◌, not, cond, ℕ, Bool, false, List, [], ◌∷◌, Some, length, map, slice_get, All, IsPermutation}
 use Rattle.blk_bio.specs.Bios.{Bio}
 use Rattle.blk_trace.specs.Happened.{Happened}
-use Rattle.blk_trace.specs.Events.{entered, round_of}
+use Rattle.blk_trace.specs.Events.{entered}
 use Rattle.blk_plug.specs.Plugs.{Plug}
 use Rattle.blk_soft.specs.Queues.{Queue}
-use Rattle.blk_core.specs.State.{CoreState}
 use Rattle.blk_text.specs.declared.script.Line.{Line}
 use Rattle.blk_sim.specs.Simulation.{Where, Plugged, Staged, Released, moved, place_after, is_where, effect_of, added_by}
 use Rattle.blk_sim.specs.State.{SimState}
@@ -23,11 +22,6 @@ placing_of hw after b = record { bio = b; place = place_after hw b.id.submitter 
 -- a `bio` line's bio, where the steps after it leave it
 abbrev pub placed_by : ℕ → Line → List Line → List Placing
 placed_by hw l after = map (placing_of hw after) (added_by (effect_of l))
-
--- where the steps leave the bios of their `bio` lines
-unfoldable pub placings : ℕ → List Line → List Placing
-placings hw [] = []
-placings hw (l ∷ ls) = placed_by hw l ls ++ placings hw ls
 
 -- a bio after one more step
 abbrev pub moved_by : ℕ → Line → Placing → Placing
@@ -72,17 +66,13 @@ pub record AreDrained (test : ℕ → Bool) (book : List Placing) (queues : List
 abbrev pub nobody : ℕ → Bool
 nobody s = false
 
--- whether one of so many software queues is served by the hardware queue, of so many
-abbrev pub is_served : ℕ → ℕ → ℕ → ℕ → Bool
-is_served count hw h s = nat_lt s count && ((s % hw) == h)
-
 -- each bio is where the book says
 pub record Stands (book : List Placing) (plugs : List Plug) (queues : List Queue) (events : List Happened) : Type 0 where
   pub known : All (λ p. p.bio.id.submitter < length plugs) book
   pub plugged : ArePlugged book plugs
   pub drained : AreDrained nobody book queues events
 
--- each submitter sent at most so many bios: those that came into its software queue, and those in its plug
+-- each submitter sent at most n bios: those that came into its software queue, and those in its plug
 abbrev pub HaveCome : ℕ → List Plug → List Queue → Type 0
 HaveCome n plugs queues = (s : ℕ) (plug : Plug) (queue : Queue) → slice_get plugs s ≡ Some plug → slice_get queues s ≡ Some queue
     → queue.bios_in + length (bios_in plug.requests) ≤ n
@@ -93,20 +83,3 @@ pub record IsReady (n : ℕ) (state : SimState) : Type 0 where
   pub plug_limits : (s : ℕ) (plug : Plug) → slice_get state.plugs s ≡ Some plug → plug.limits ≡ state.core.setup.limits
   pub queue_limits : (s : ℕ) (queue : Queue) → slice_get state.queues s ≡ Some queue → queue.limits ≡ state.core.setup.limits
   pub come : HaveCome n state.plugs state.queues
-
--- a map of so many software queues to so many hardware queues: queue s is served by hardware queue s mod these
-pub record IsSpread (hw count : ℕ) (entries : List ℕ) : Type 0 where
-  pub counts : length entries ≡ count
-  pub spread : (s d : ℕ) → s < count → slice_index_or entries s d ≡ s % hw
-
--- so many rounds passed in the core, and no bio entered
-pub record Passed (rounds : ℕ) (old new : CoreState) : Type 0 where
-  pub setup : new.setup ≡ old.setup
-  pub entered_same : entered new.events ≡ entered old.events
-  pub ticks : round_of new.events ≡ round_of old.events + rounds
-
--- bios entered the core in the round that is on
-pub record TookIn (bios : List Bio) (old new : CoreState) : Type 0 where
-  pub setup : new.setup ≡ old.setup
-  pub took : entered new.events ≡ entered old.events ++ bios
-  pub ticks : round_of new.events ≡ round_of old.events

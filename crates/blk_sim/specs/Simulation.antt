@@ -55,6 +55,10 @@ unfoldable pub place_after : ℕ → ℕ → Where → List Line → Where
 place_after hw s w [] = w
 place_after hw s w (l ∷ ls) = place_after hw s (moved hw s w l) ls
 
+-- one more step moves it on from where the steps before leave it
+abbrev pub MovesOn : ℕ → ℕ → Where → List Line → Line → Type 0
+MovesOn hw s w ls l = place_after hw s w (ls ++ l ∷ []) ≡ moved hw s (place_after hw s w ls) l
+
 -- these steps have a flush of the submitter, and after it a drain of its hardware queue or a run
 pub record IsFlushedAndMoved (hw s : ℕ) (steps : List Line) : Type 0 where
   pub flush_at : ℕ

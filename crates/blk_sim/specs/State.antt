@@ -1,13 +1,10 @@
 -- What a simulation holds between two steps.
-use Rattle.std.specs.Prelude.{ℕ, List, [], None, replicate, refl}
-use Rattle.std.specs.Coded.{Coded, code_by, coded×, coded_ℕ, coded_list}
-use Rattle.blk_bio.specs.Bios.{Bio}
+use Rattle.std.specs.Prelude.{ℕ, List, [], None, replicate}
 use Rattle.blk_bio.specs.Limits.{Limits}
-use Rattle.blk_bio.specs.Codes.{limits_code, bio_code}
 use Rattle.blk_plug.specs.Plugs.{Plug}
 use Rattle.blk_soft.specs.Queues.{Queue}
 use Rattle.blk_sched.specs.Meaning.{Meaning}
-use Rattle.blk_core.specs.State.{CoreState, core_code}
+use Rattle.blk_core.specs.State.{CoreState}
 use Rattle.blk_text.specs.Script.{Scripted}
 
 -- a simulation: the submitters' plugs, their software queues, and the core
@@ -16,20 +13,17 @@ pub record SimState : Type 0 where
   pub queues : List Queue
   pub core : CoreState
 
+-- a plug and a software queue without requests
+abbrev pub empty_plug : Limits → Plug
+empty_plug limits = record { limits = limits; requests = [] }
+
+abbrev pub empty_queue : ℕ → Limits → Queue
+empty_queue depth limits = record { depth = depth; limits = limits; requests = []; bios_in = 0; bios_out = 0 }
+
 -- before a script's first step: nothing is anywhere, nothing happened, and nothing is in flight
 abbrev pub start_of : Scripted → Meaning → List ℕ → SimState
 start_of script meaning kept = record {
-  plugs = replicate script.submitters (record { limits = script.setup.limits; requests = [] });
-  queues = replicate script.submitters (record { depth = script.soft_depth; limits = script.setup.limits; requests = []; bios_in = 0; bios_out = 0 });
+  plugs = replicate script.submitters (empty_plug script.setup.limits);
+  queues = replicate script.submitters (empty_queue script.soft_depth script.setup.limits);
   core = record { setup = script.setup; events = []; meaning = meaning; kept = kept; flights = replicate script.setup.depth None; held = replicate script.setup.hw [] };
 }
-
--- the codes of a plug, of a software queue and of a simulation
-abbrev pub plug_code : Coded Plug
-plug_code = code_by (Limits × List (List Bio)) (coded× limits_code (coded_list (coded_list bio_code))) (λ p. (p.limits, p.requests)) (λ p. record { limits = p.0; requests = p.1 }) (λ _. refl)
-
-abbrev pub queue_code : Coded Queue
-queue_code = code_by (ℕ × (Limits × (List (List Bio) × (ℕ × ℕ)))) (coded× coded_ℕ (coded× limits_code (coded× (coded_list (coded_list bio_code)) (coded× coded_ℕ coded_ℕ)))) (λ q. (q.depth, (q.limits, (q.requests, (q.bios_in, q.bios_out))))) (λ p. record { depth = p.0; limits = p.1.0; requests = p.1.1.0; bios_in = p.1.1.1.0; bios_out = p.1.1.1.1 }) (λ _. refl)
-
-abbrev pub sim_code : Coded SimState
-sim_code = code_by (List Plug × (List Queue × CoreState)) (coded× (coded_list plug_code) (coded× (coded_list queue_code) core_code)) (λ s. (s.plugs, (s.queues, s.core))) (λ p. record { plugs = p.0; queues = p.1.0; core = p.1.1 }) (λ _. refl)

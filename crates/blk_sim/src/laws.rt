@@ -1,13 +1,11 @@
 //! Laws of the definitions of a simulation.
 
-ghost use Rattle.std.specs.Prelude.{◌≡◌, ◌+◌, ◌<◌, ◌++◌, ◌∷◌, [], ◌↔◌, ℕ, List, length};
+ghost use Rattle.std.specs.Prelude.{◌≡◌, ◌+◌, ◌↔◌, ℕ, List};
 ghost use Rattle.blk_text.specs.declared.script.Line.{Line};
-ghost use Rattle.blk_text.specs.Script.{LineFits};
-ghost use Rattle.blk_trace.specs.Events.{round_of};
-ghost use Rattle.blk_sim.specs.Simulation.{Where, Plugged, Released, moved, place_after, IsFlushedAndMoved, ticks_of};
+ghost use Rattle.blk_sim.specs.Simulation.{Where, Plugged, Released, place_after, IsFlushedAndMoved, MovesOn, ticks_of};
 ghost use Rattle.blk_sim.specs.State.{SimState};
-ghost use Rattle.blk_sim.specs.Runs.{Steps};
-ghost use Rattle.blk_sim.specs.Simulated.{Placing, Stands, IsReady, stepped};
+ghost use Rattle.blk_sim.specs.Runs.{Steps, KeepsBook, TakesRounds};
+ghost use Rattle.blk_sim.specs.Simulated.{IsReady};
 
 use blk_sched::Scheduler;
 
@@ -20,20 +18,14 @@ pub fn released_by_flush_and_move()
 
 /// One more step moves each bio on by itself.
 pub fn one_more_step()
-    ensures { (hw s : ℕ) → (w : Where) → (steps : List Line) → (l : Line)
-        → place_after hw s w (steps ++ l ∷ []) ≡ moved hw s (place_after hw s w steps) l }
+    ensures { (hw s : ℕ) (w : Where) (steps : List Line) (l : Line) → MovesOn hw s w steps l }
 {}
 
 /// Under each scheduler, an accepted step leaves each bio where the step moves it, ends as many rounds as it says, and changes neither the setup
 /// nor how many plugs and software queues there are.
 pub fn each_step_keeps<S: Scheduler>()
-    ensures stands { (old : SimState) → (l : Line) → (new : SimState) → (book : List Placing)
-        → 0 < old.core.setup.hw → length old.queues ≡ length old.plugs → LineFits old.core.setup.hw (length old.plugs) l → Steps S.policy old l new
-        → Stands book old.plugs old.queues old.core.events → Stands (stepped old.core.setup.hw l book) new.plugs new.queues new.core.events }
-    ensures ready { (n : ℕ) → (old : SimState) → (l : Line) → (new : SimState)
-        → Steps S.policy old l new → IsReady n old → IsReady (n + 1) new }
-    ensures rounds { (old : SimState) → (l : Line) → (new : SimState)
-        → Steps S.policy old l new → round_of new.core.events ≡ round_of old.core.events + ticks_of l }
-    ensures setup { (old : SimState) → (l : Line) → (new : SimState)
-        → Steps S.policy old l new → new.core.setup ≡ old.core.setup }
+    ensures stands { (old : SimState) (l : Line) (new : SimState) → KeepsBook S.policy old l new }
+    ensures ready { (n : ℕ) (old : SimState) (l : Line) (new : SimState) → Steps S.policy old l new → IsReady n old → IsReady (n + 1) new }
+    ensures rounds { (old : SimState) (l : Line) (new : SimState) → Steps S.policy old l new → TakesRounds (ticks_of l) old new }
+    ensures setup { (old : SimState) (l : Line) (new : SimState) → Steps S.policy old l new → new.core.setup ≡ old.core.setup }
 {}

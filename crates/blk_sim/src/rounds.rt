@@ -3,11 +3,12 @@
 ghost use Rattle.std.specs.Prelude.{IsTrue, ◌↔◌, ◌≡◌, ◌≢◌, ◌≤◌, ◌<◌, ℕ, Some, slice_get, OnOk, OnErr, IfOk, IfErr, length};
 ghost use Rattle.blk_soft.specs.Queues.{Queue as QueueFields};
 ghost use Rattle.blk_trace.specs.Events.{IsUsed};
-ghost use Rattle.blk_sim.specs.Moves.{DrainInTurn};
-ghost use Rattle.blk_sim.specs.Rounds.{IsGiven, IssuesAll, CompleteInTurn, Works, Rounds};
+ghost use Rattle.blk_sim.specs.Moves.{DrainsAll};
+ghost use Rattle.blk_sim.specs.Rounds.{IssuesAll, CompleteInTurn, Works, Rounds};
+ghost use Rattle.blk_sim.specs.Inside.Given.{IsGiven};
 ghost use Rattle.blk_sim.specs.Refusals.{IsAskRefused, IsIssueInTurnRefused, IsWorkRefused, IsDrainInTurnRefused, IsRunRefused};
-ghost use Rattle.blk_sim.specs.Simulated.{IsSpread};
-ghost use Rattle.blk_sim.specs.Working.{WorkInTurn, IsWorkInTurnRefused};
+ghost use Rattle.blk_sim.specs.Inside.Places.{IsSpread};
+ghost use Rattle.blk_sim.specs.Inside.Working.{WorkInTurn, IsWorkInTurnRefused};
 
 use crate::refusal::SimWhy;
 use crate::steps::{done, drain, issue, tick};
@@ -18,8 +19,8 @@ use blk_sched::Scheduler;
 use blk_soft::SoftQueue;
 use blk_trace::MAX_DEPTH;
 
-/// Asks the hardware queues for a command under a tag, from the tag modulo their number on upward and round, until one
-/// gives one, and says whether one did.
+/// Asks the hardware queues in turn for a command under a tag until one gives one, and says whether one did. The first that is
+/// asked is the tag modulo their number, and behind the last comes queue 0.
 fn issue_tag<S: Scheduler>(core: &mut Core<S>, tag: u16) -> Result<bool, SimWhy>
     ensures given { IfOk result (λ given. IsGiven S.policy tag core.old given core.new) }
     ensures used { IfErr result (λ w. w ≡ SimWhy.SlotUsed → IsUsed core.old.events tag) }
@@ -96,7 +97,7 @@ fn work<S: Scheduler>(core: &mut Core<S>) -> Result<(), SimWhy>
     Ok(())
 }
 
-/// So many rounds of the core alone.
+/// `count` rounds of the core alone.
 fn work_rounds<S: Scheduler>(core: &mut Core<S>, count: u64) -> Result<(), SimWhy>
     ensures worked { OnOk result (WorkInTurn S.policy count core.old core.new) }
     ensures refused { IfErr result (λ w. IsWorkInTurnRefused S.policy count core.old w) }
@@ -116,7 +117,7 @@ fn drain_all<S: Scheduler>(
     requires map { IsSpread core.old.setup.hw (length queues.old.items) map.now }
     requires limits { (s : ℕ) (queue : QueueFields) → slice_get queues.old.items s ≡ Some queue → queue.limits ≡ core.old.setup.limits }
     ensures some { 0 < core.old.setup.hw }
-    ensures drained { OnOk result (DrainInTurn S.policy core.old.setup.hw core.old.setup.hw queues.old.items core.old queues.new.items core.new) }
+    ensures drained { OnOk result (DrainsAll S.policy queues.old.items core.old queues.new.items core.new) }
     ensures refused { IfErr result (λ w. IsDrainInTurnRefused S.policy core.old.setup.hw queues.old.items core.old w) }
 {
     let count = core.trace().setup().hw();
@@ -126,7 +127,7 @@ fn drain_all<S: Scheduler>(
     Ok(())
 }
 
-/// So many rounds of a script's `run`, at least one. Nothing enters a software queue in them, so the drains of the first
+/// `count` rounds of a script's `run`, at least one. Nothing enters a software queue in them, so the drains of the first
 /// round move all that those of the later ones could.
 pub(crate) fn run<S: Scheduler>(
     core: &mut Core<S>,

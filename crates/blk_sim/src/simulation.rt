@@ -1,16 +1,17 @@
 //! A script's steps, run one after the other over plugs, software queues and the core.
 
-ghost use Rattle.std.specs.Prelude.{◌≡◌, ◌<◌, ◌≤◌, ◌%◌, ℕ, List, [], replicate, IfOk, OnOk, IfErr, length, sum_by, IsPermutation};
+ghost use Rattle.std.specs.Prelude.{◌≡◌, ◌<◌, ◌≤◌, ◌%◌, [], replicate, IfOk, OnOk, IfErr, length, sum_by, IsPermutation};
 ghost use Rattle.blk_bio.specs.declared.limits.TheConstants.{MAX_QUEUES, MAX_SOFT_DEPTH, MAX_SOFT_QUEUES};
 ghost use Rattle.blk_sched.specs.Meaning.{at_start};
 ghost use Rattle.blk_trace.specs.Events.{entered, round_of};
 ghost use Rattle.blk_trace.specs.Legal.{IsLegalTrace};
 ghost use Rattle.blk_text.specs.Script.{IsScript, LineFits, scripted};
 ghost use Rattle.blk_sim.specs.Simulation.{released_bios, ticks_of};
-ghost use Rattle.blk_sim.specs.State.{SimState, start_of};
-ghost use Rattle.blk_sim.specs.Runs.{Steps, Runs};
+ghost use Rattle.blk_sim.specs.State.{SimState, start_of, empty_queue};
+ghost use Rattle.blk_sim.specs.Runs.{Steps, LeadsTo};
 ghost use Rattle.blk_sim.specs.Refusals.{IsSimFault, IsStepRefused};
-ghost use Rattle.blk_sim.specs.Simulated.{IsReady, IsSpread};
+ghost use Rattle.blk_sim.specs.Simulated.{IsReady};
+ghost use Rattle.blk_sim.specs.Inside.Places.{IsSpread};
 
 use crate::refusal::{SimFault, SimWhy};
 use crate::rounds::run;
@@ -41,7 +42,8 @@ struct Simulation<S: Scheduler> {
 }
 
 impl<S: Scheduler> Model for Simulation<S> {
-    ghost use Rattle.blk_sim.specs.State.{SimState, sim_code};
+    ghost use Rattle.blk_sim.specs.Inside.Codes.{sim_code};
+    ghost use Rattle.blk_sim.specs.State.{SimState};
 
     ghost Value = { SimState };
 
@@ -50,7 +52,7 @@ impl<S: Scheduler> Model for Simulation<S> {
     ghost view = { λ s. record { plugs = s.plugs.items; queues = s.queues.items; core = s.core } };
 }
 
-/// So many plugs without requests.
+/// `count` plugs without requests.
 fn new_plugs<A: Allocator + Clone>(
     alloc: A,
     count: u64,
@@ -68,7 +70,7 @@ fn new_plugs<A: Allocator + Clone>(
     Ok(plugs)
 }
 
-/// So many software queues without requests.
+/// `count` software queues without requests.
 fn new_queues<A: Allocator + Clone>(
     alloc: A,
     count: u64,
@@ -76,7 +78,7 @@ fn new_queues<A: Allocator + Clone>(
     limits: Limits,
 ) -> Result<Vec<SoftQueue<A>, A>, AllocError>
     requires { (1 ≤ depth) × (depth ≤ MAX_SOFT_DEPTH) }
-    ensures { IfOk result (λ queues. queues.items ≡ replicate count (record { depth = depth; limits = limits; requests = []; bios_in = 0; bios_out = 0 })) }
+    ensures { IfOk result (λ queues. queues.items ≡ replicate count (empty_queue depth limits)) }
 {
     let mut queues = Vec::new(alloc.clone()?);
     for _ in 0..count {
@@ -88,7 +90,7 @@ fn new_queues<A: Allocator + Clone>(
     Ok(queues)
 }
 
-/// The hardware queues of so many software queues: of queue s, s modulo the number of hardware queues.
+/// The hardware queues of `count` software queues: of queue s, s modulo `hw`.
 fn spread<A: Allocator>(alloc: A, count: u64, hw: u8) -> Result<Vec<u8, A>, AllocError>
     requires { 0 < hw }
     ensures { IfOk result (λ entries. IsSpread hw count entries.items) }
@@ -102,7 +104,7 @@ fn spread<A: Allocator>(alloc: A, count: u64, hw: u8) -> Result<Vec<u8, A>, Allo
     Ok(entries)
 }
 
-/// The map of so many software queues to so many hardware queues.
+/// The map of `count` software queues to `hw` hardware queues.
 fn new_map<A: Allocator>(alloc: A, count: u64, hw: u8) -> Result<Map<A>, AllocError>
     requires some { 0 < hw }
     requires few { hw ≤ MAX_QUEUES }
@@ -219,7 +221,7 @@ fn start<S: Scheduler>(
 
 /// The trace of a script under a scheduler in which nothing waits: its steps are run in their order, each bio going
 /// from its submitter's plug through its software queue into the core, as in Linux's blk-mq. The first step that is
-/// refused ends it, as the fault says; so does want of memory.
+/// refused ends it, as the fault says, and so does running out of memory.
 pub fn simulate<S: Scheduler>(
     alloc: S::A,
     script: &Script,
@@ -228,8 +230,7 @@ pub fn simulate<S: Scheduler>(
     requires script { IsScript (scripted script.now) }
     requires start { S.meaning scheduler ≡ at_start (S.meaning scheduler).front }
     // the trace is that of a simulation to which all steps lead, from the start
-    ensures ran { IfOk result (λ trace. (end : SimState) × Runs S.policy script.now.lines.items (start_of (scripted script.now) (S.meaning scheduler) (S.kept scheduler)) end
-        × (trace.setup ≡ end.core.setup) × (trace.events ≡ end.core.events)) }
+    ensures ran { IfOk result (λ t. LeadsTo S.policy (scripted script.now) (S.meaning scheduler) (S.kept scheduler) t.setup t.events) }
     ensures setup { IfOk result (λ trace. trace.setup ≡ script.now.setup) }
     ensures legal { IfOk result (λ trace. IsLegalTrace trace.setup trace.events) }
     ensures bios { IfOk result (λ trace. IsPermutation (entered trace.events) (released_bios script.now.setup.hw script.now.lines.items)) }

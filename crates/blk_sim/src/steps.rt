@@ -1,16 +1,16 @@
 //! The steps of a script, each over what it changes: plugs, software queues and the core.
 
-ghost use Rattle.std.specs.Prelude.{◌≡◌, ◌+◌, ◌<◌, ◌≤◌, ◌≢◌, ℕ, [], Some, slice_get, OnOk, OnErr, IfOk, IfErr, length};
-ghost use Rattle.blk_bio.specs.Bios.{IsBio};
+ghost use Rattle.std.specs.Prelude.{◌≡◌, ◌+◌, ◌<◌, ◌≤◌, ℕ, Some, slice_get, OnOk, OnErr, IfOk, IfErr, length};
 ghost use Rattle.blk_bio.specs.Requests.{IsWithin};
-ghost use Rattle.blk_plug.specs.Plugs.{Plug as PlugFields};
 ghost use Rattle.blk_soft.specs.Queues.{Queue as QueueFields};
-ghost use Rattle.blk_core.specs.Calls.{Completes, TakesBack, SetsDepth};
+ghost use Rattle.blk_core.specs.Calls.{Completes, RequeuesTag, SetsDepth};
 ghost use Rattle.blk_core.specs.Faults.{IsInFlight, CanSetDepth};
 ghost use Rattle.blk_sim.specs.Moves.{AddsBio, EmptiesPlug, HasSoftRoom, flushed_plug, with_requests, bios_in, Enters, EnterInTurn, drained, Drains};
 ghost use Rattle.blk_sim.specs.Rounds.{AsksQueue, Ticks};
 ghost use Rattle.blk_sim.specs.Refusals.{IsBioRefused, IsFlushRefused, IsOverfull, IsReleaseRefused, IsIssueRefused, IsBackRefused, IsDepthRefused, IsTickRefused, IsMoveRefused, IsDrainRefused};
-ghost use Rattle.blk_sim.specs.Simulated.{HaveCome, IsSpread};
+ghost use Rattle.blk_sim.specs.Simulated.{HaveCome};
+ghost use Rattle.blk_sim.specs.Inside.Limits.{ShareLimits};
+ghost use Rattle.blk_sim.specs.Inside.Places.{IsSpread};
 
 use crate::refusal::{
     SimWhy, why_added, why_issued, why_kept, why_released, why_ticked, why_unset,
@@ -22,7 +22,7 @@ use blk_plug::Plug;
 use blk_sched::Scheduler;
 use blk_soft::{MAX_BIOS, SoftQueue};
 use blk_trace::MAX_EVENTS;
-use edd_check::Command;
+use edd_commands::Command;
 use std::alloc::Allocator;
 
 /// Releases a request into the core.
@@ -71,7 +71,7 @@ pub(crate) fn done<S: Scheduler>(core: &mut Core<S>, tag: u16) -> Result<(), Sim
 
 /// Takes what is in flight under a tag back, as a busy device hands it back.
 pub(crate) fn back<S: Scheduler>(core: &mut Core<S>, tag: u16) -> Result<(), SimWhy>
-    ensures back { OnOk result ((id : ℕ) × TakesBack core.old tag id core.new) }
+    ensures back { OnOk result ((id : ℕ) × RequeuesTag core.old tag id core.new) }
     ensures refused { IfErr result (λ w. IsBackRefused core.old tag w) }
 {
     match core.back(tag) {
@@ -184,7 +184,7 @@ pub(crate) fn flush<A: Allocator + Clone>(
 ) -> Result<(), SimWhy>
     requires submitter { submitter < length plugs.old.items }
     requires counts { length queues.old.items ≡ length plugs.old.items }
-    requires limits { (s : ℕ) (plug : PlugFields) (queue : QueueFields) → slice_get plugs.old.items s ≡ Some plug → slice_get queues.old.items s ≡ Some queue → plug.limits ≡ queue.limits }
+    requires limits { ShareLimits plugs.old.items queues.old.items }
     requires few { HaveCome MAX_BIOS plugs.old.items queues.old.items }
     ensures flushed { OnOk result (EmptiesPlug plugs.old.items queues.old.items submitter plugs.new.items queues.new.items) }
     ensures refused { IfErr result (λ w. IsFlushRefused plugs.old.items queues.old.items submitter w) }

@@ -1,12 +1,13 @@
 -- Where nothing is avoidable and where nothing is lost, by what the reports say of all legal schedules.
-use Rattle.std.proofs.Common.{ℕ, ◌≡◌, ◌∙◌, ◌+◌, ◌<◌, [], List, Some, None, refl, sym, ap, subst, arith, length, inl, inr, ℤ, pos, ◌-ℤ◌, ◌≤ℤ◌}
+use Rattle.std.proofs.Common.{ℕ, ◌≡◌, ◌∙◌, ◌+◌, List, Some, None, ap, subst, arith, length, ℤ, pos, ◌-ℤ◌, ◌≤ℤ◌}
 use Rattle.std.specs.Prelude.{◌↔◌, Option}
 use Rattle.std.proofs.lemmas.Int.{ints}
-use Rattle.edd_check.specs.declared.Command.{Command}
-use Rattle.edd_check.specs.declared.steps.Step.{Step}
-use Rattle.edd_check.specs.Schedule.{IsLegal, IsGreatestLateness, IsLowerBound}
+use Rattle.edd_commands.specs.declared.Command.{Command}
+use Rattle.edd_commands.specs.declared.steps.Step.{Step}
+use Rattle.edd_commands.specs.Schedule.{IsGreatestLateness, IsLowerBound}
+use Rattle.edd_figures.specs.declared.lateness.Figures.{Figures}
 use Rattle.edd_figures.specs.declared.missing.Crowd.{Crowd}
-use Rattle.edd_figures.specs.Figures.{AreFigures}
+use Rattle.edd_figures.specs.Figures.{HasFigures, shortfall_in}
 use Rattle.edd_figures.specs.Misses.{number_late, IsLeastLate}
 use Rattle.blk_trace.specs.Depths.{capacity_of}
 use Rattle.blk_trace.specs.Happened.{Happened}
@@ -15,7 +16,7 @@ use Rattle.blk_trace.specs.Setups.{Setup}
 use Rattle.blk_report.specs.declared.figures.Report.{Report}
 use Rattle.blk_report.specs.declared.missing.Tally.{Tally}
 use Rattle.blk_report.specs.Misses.{IsTallied}
-use Rattle.blk_report.specs.Shortfall.{IsReport, HasNoFigures, HasFigures}
+use Rattle.blk_report.specs.Shortfall.{IsReport}
 use Rattle.blk_tune.specs.Row.{HasFewestLate, IsLatestOfNone}
 
 fewest_late : (commands : List Command) (rounds : List ℕ) (steps : List Step) (late unavoidable avoidable : ℕ) → late ≡ number_late commands rounds → IsLeastLate commands steps unavoidable → unavoidable + avoidable ≡ late
@@ -48,14 +49,16 @@ least_late commands rounds steps greatest least lost d is bound most above e = (
       e ∙ ap (λ (l : ℤ). Some l) none,
 )
 
-pub least : (setup : Setup) (events : List Happened) (r : Report) → IsReport setup events r
-    → (r.shortfall ≡ Some (pos 0)) ↔ IsLatestOfNone (commands_of setup events) (rounds_of events) (capacity_of setup events)
-least setup events r is =
+least_of : (commands : List Command) (rounds : List ℕ) (steps : List Step) (f : Option Figures) → HasFigures commands rounds steps f → (shortfall_in f ≡ Some (pos 0)) ↔ IsLatestOfNone commands rounds steps
+least_of commands rounds steps None none = (
+  λ z. absurd (cc z),
+  λ g. let e : length commands ≡ 0 = ap length none in absurd (omega (arith, e, g.1.in_list)),
+)
+least_of commands rounds steps (Some f) are =
     let d : Command = record { id = 0; release = 0; due = 0 } in
-    elim is.figures [
-      | inl h ↦ (λ z. absurd (cc (h.1.shortfall, z)), λ g. let e : length (commands_of setup events) ≡ 0 = ap length h.0 in absurd (omega (arith, e, g.1.in_list)))
-      | inr h ↦
-          let f = h.are in
-          least_late (commands_of setup events) (rounds_of events) (capacity_of setup events) h.figures.greatest h.figures.least r.shortfall d f.greatest f.least.least
-          (λ late lower. lower f.least.schedule h.figures.least f.least.legal f.least.reached) f.not_negative (h.shortfall ∙ ap (λ (l : ℤ). Some l) f.shortfall)
-    ]
+    least_late commands rounds steps f.greatest f.least (Some f.shortfall) d are.greatest are.least.least
+    (λ late lower. lower are.least.schedule f.least are.least.legal are.least.reached) are.not_negative (ap (λ (l : ℤ). Some l) are.shortfall)
+
+pub least : (setup : Setup) (events : List Happened) (r : Report) → IsReport setup events r
+    → (shortfall_in r.figures ≡ Some (pos 0)) ↔ IsLatestOfNone (commands_of setup events) (rounds_of events) (capacity_of setup events)
+least setup events r is = least_of (commands_of setup events) (rounds_of events) (capacity_of setup events) r.figures is.figures

@@ -1,3 +1,4 @@
 mod Best
 mod Pieces
+mod Shares
 mod Turns

@@ -1,3 +1,4 @@
+pub mod Inside
 pub mod Row
 pub mod Order
 pub mod Text

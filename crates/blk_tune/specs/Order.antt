@@ -6,6 +6,7 @@ use Rattle.std.specs.Ordering.{ordering_then, nat_cmp, int_cmp}
 use Rattle.std.specs.declared.cmp.Ordering.{Ordering}
 use Rattle.blk_grid.specs.declared.By.{By}
 use Rattle.blk_grid.specs.declared.By.TheVariants as by
+use Rattle.edd_figures.specs.Figures.{shortfall_in}
 use Rattle.blk_tune.specs.declared.row.Row.{Row}
 
 abbrev pub avoidable_cmp : Row → Row → Ordering
@@ -13,7 +14,7 @@ avoidable_cmp x y = nat_cmp x.tally.avoidable y.tally.avoidable
 
 -- a figure that isn't there is the least
 abbrev pub shortfall_cmp : Row → Row → Ordering
-shortfall_cmp x y = option_cmp int_cmp x.report.shortfall y.report.shortfall
+shortfall_cmp x y = option_cmp int_cmp (shortfall_in x.report.figures) (shortfall_in y.report.figures)
 
 abbrev pub reads_cmp : Row → Row → Ordering
 reads_cmp x y = option_cmp int_cmp x.wait_read y.wait_read
@@ -23,10 +24,10 @@ writes_cmp x y = option_cmp int_cmp x.wait_write y.wait_write
 
 -- by what rows are put in order: what is avoidable and the shortfall, or the other way round, and the waits
 abbrev pub misses_key : Row → ℕ × Option ℤ × Option ℤ × Option ℤ
-misses_key r = (r.tally.avoidable, r.report.shortfall, r.wait_read, r.wait_write)
+misses_key r = (r.tally.avoidable, shortfall_in r.report.figures, r.wait_read, r.wait_write)
 
 abbrev pub lateness_key : Row → Option ℤ × ℕ × Option ℤ × Option ℤ
-lateness_key r = (r.report.shortfall, r.tally.avoidable, r.wait_read, r.wait_write)
+lateness_key r = (shortfall_in r.report.figures, r.tally.avoidable, r.wait_read, r.wait_write)
 
 -- the better one is the less: by what is avoidable and then by the shortfall, or the other way round; then by the reads' waits, then by
 -- the writes'

@@ -1,8 +1,8 @@
 -- What comes of a script under one setting, and under each of some.
-use Rattle.std.specs.Prelude.{◌≡◌, ◌≤◌, ◌↔◌, ℕ, ℤ, pos, List, Option, Some, Result, Ok, Err, All, map}
-use Rattle.edd_check.specs.declared.Command.{Command}
-use Rattle.edd_check.specs.declared.steps.Step.{Step}
-use Rattle.edd_check.specs.Schedule.{IsLegal, IsGreatestLateness, IsLowerBound}
+use Rattle.std.specs.Prelude.{◌≡◌, ◌≤◌, ◌↔◌, ℕ, ℤ, pos, List, Some, Result, Ok, Err, All, map}
+use Rattle.edd_commands.specs.declared.Command.{Command}
+use Rattle.edd_commands.specs.declared.steps.Step.{Step}
+use Rattle.edd_commands.specs.Schedule.{IsLegal, IsGreatestLateness, IsLowerBound}
 use Rattle.edd_figures.specs.declared.missing.Crowd.{Crowd}
 use Rattle.edd_figures.specs.Misses.{number_late}
 use Rattle.blk_trace.specs.Traces.{Traced}
@@ -10,6 +10,7 @@ use Rattle.blk_trace.specs.Depths.{capacity_of}
 use Rattle.blk_trace.specs.Meaning.{commands_of, rounds_of}
 use Rattle.blk_text.specs.Script.{Scripted}
 use Rattle.blk_report.specs.declared.spreading.Spreads.{Spreads}
+use Rattle.edd_figures.specs.Figures.{shortfall_in}
 use Rattle.blk_report.specs.Misses.{IsTallied}
 use Rattle.blk_report.specs.Services.{services_of}
 use Rattle.blk_report.specs.Shortfall.{IsReport}
@@ -38,7 +39,7 @@ pub record IsRowOf (trace : Traced) (r : Row) : Type 0 where
   pub reads : r.wait_read ≡ spreads.wait.reads.p99
   pub writes : r.wait_write ≡ spreads.wait.writes.p99
   pub fewest : (r.tally.avoidable ≡ 0) ↔ HasFewestLate (commands_of trace.setup trace.events) (rounds_of trace.events) (capacity_of trace.setup trace.events)
-  pub least : (r.report.shortfall ≡ Some (pos 0)) ↔ IsLatestOfNone (commands_of trace.setup trace.events) (rounds_of trace.events) (capacity_of trace.setup trace.events)
+  pub least : (shortfall_in r.report.figures ≡ Some (pos 0)) ↔ IsLatestOfNone (commands_of trace.setup trace.events) (rounds_of trace.events) (capacity_of trace.setup trace.events)
 
 -- those of the trace that `sim` writes under the row's settings
 pub record IsRow (script : Scripted) (r : Row) : Type 0 where

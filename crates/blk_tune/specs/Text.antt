@@ -4,6 +4,7 @@ use Rattle.std.specs.List.{flat_map}
 use Rattle.std.specs.Ordering.{int_eq}
 use Rattle.edd_figures.specs.Lines.{late_text, next_field}
 use Rattle.blk_deadline.specs.declared.Tunables.{Tunables}
+use Rattle.edd_figures.specs.Figures.{greatest_in, least_in, shortfall_in}
 use Rattle.blk_report.specs.declared.figures.Report.{Report}
 use Rattle.blk_report.specs.declared.missing.Tally.{Tally}
 use Rattle.blk_settings.specs.Rows.{name_of}
@@ -32,7 +33,7 @@ abbrev pub head_line : List ℕ
 head_line = codes "sched,settings,commands,waiting,greatest,least,shortfall,late,unavoidable,avoidable,wait_p99_read,wait_p99_write" ++ 10 ∷ []
 
 abbrev pub report_fields : Report → List ℕ
-report_fields r = (((next_field (decimal r.commands) ++ next_field (decimal r.waiting)) ++ next_field (late_text r.greatest)) ++ next_field (late_text r.least)) ++ next_field (late_text r.shortfall)
+report_fields r = (((next_field (decimal r.commands) ++ next_field (decimal r.waiting)) ++ next_field (late_text (greatest_in r.figures))) ++ next_field (late_text (least_in r.figures))) ++ next_field (late_text (shortfall_in r.figures))
 
 abbrev pub tally_fields : Tally → List ℕ
 tally_fields t = (next_field (decimal t.late) ++ next_field (decimal t.unavoidable)) ++ next_field (decimal t.avoidable)
@@ -48,7 +49,7 @@ is_none (Some z) = int_eq z (pos 0)
 -- what is said of the best row: nothing avoidable, with some commands, or nothing lost
 abbrev pub remark_of : By → Row → List ℕ
 remark_of by.Misses r = if nat_lt 0 r.tally.commands && (r.tally.avoidable == 0) then codes " (no schedule misses fewer)" else []
-remark_of by.Lateness r = if is_none r.report.shortfall then codes " (no schedule is less late)" else []
+remark_of by.Lateness r = if is_none (shortfall_in r.report.figures) then codes " (no schedule is less late)" else []
 
 -- the last line
 abbrev pub best_line : By → List Row → List ℕ

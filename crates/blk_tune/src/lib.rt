@@ -1,6 +1,6 @@
 //! A script tried under a grid of settings: a row for each, the best first.
 //!
-//! The runs go side by side on threads, in batches of as many as there are threads: what comes of them doesn't turn on how many.
+//! The runs go side by side on threads, which take turns at the settings: the rows are the same for any number of threads.
 #![tactic(auto)]
 
 ghost use Rattle.std.specs.Prelude.{IfOk, IfErr};
@@ -17,9 +17,9 @@ mod text;
 mod trial;
 
 use crate::order::best_first;
-pub use crate::progress::{Line, Progress, Quiet};
+pub use crate::progress::{Progress, ProgressLine, Quiet};
 pub use crate::row::Row;
-pub use crate::text::table;
+pub use crate::text::{shown, table};
 use crate::trial::tried;
 use blk_grid::Asked;
 use blk_runs::{RunFault, unmade};

@@ -12,7 +12,7 @@ fn by_misses(row: &Row) -> (u64, Option<i64>, Option<i64>, Option<i64>)
     ensures { result ≡ misses_key row.now }
 {
     let avoidable = row.tally.avoidable;
-    let shortfall = row.report.shortfall;
+    let shortfall = row.report.shortfall();
     (avoidable, shortfall, row.wait_read, row.wait_write)
 }
 
@@ -20,7 +20,7 @@ fn by_misses(row: &Row) -> (u64, Option<i64>, Option<i64>, Option<i64>)
 fn by_lateness(row: &Row) -> (Option<i64>, u64, Option<i64>, Option<i64>)
     ensures { result ≡ lateness_key row.now }
 {
-    let shortfall = row.report.shortfall;
+    let shortfall = row.report.shortfall();
     let avoidable = row.tally.avoidable;
     (shortfall, avoidable, row.wait_read, row.wait_write)
 }

@@ -28,7 +28,7 @@ const CLEAR: &str = "\r\x1b[K";
 
 /// A line of a terminal, rewritten in place: how many runs are done and how many seconds it took. It is gone when the trial is over.
 #[derive(Drop)]
-pub struct Line<C: Clock + Drop, W: Write + Drop> {
+pub struct ProgressLine<C: Clock + Drop, W: Write + Drop> {
     clock: C,
     writer: W,
     /// When it was made, where the clock could be read and the writer is a terminal: else nothing is written.
@@ -38,15 +38,15 @@ pub struct Line<C: Clock + Drop, W: Write + Drop> {
     alloc: Global,
 }
 
-impl<C: Clock + Drop, W: Write + Drop> Line<C, W> {
+impl<C: Clock + Drop, W: Write + Drop> ProgressLine<C, W> {
     /// A line that tells the time from now on. Nothing is written to where it is no terminal.
-    pub fn new(alloc: Global, clock: C, writer: W, is_terminal: bool) -> Line<C, W> {
+    pub fn new(alloc: Global, clock: C, writer: W, is_terminal: bool) -> ProgressLine<C, W> {
         let start = if is_terminal {
             Instant::now(&clock).ok()
         } else {
             None
         };
-        Line {
+        ProgressLine {
             clock,
             writer,
             start,
@@ -56,7 +56,7 @@ impl<C: Clock + Drop, W: Write + Drop> Line<C, W> {
     }
 }
 
-impl<C: Clock + Drop, W: Write + Drop> Progress for Line<C, W> {
+impl<C: Clock + Drop, W: Write + Drop> Progress for ProgressLine<C, W> {
     fn done(&mut self, runs: usize, all: usize) {
         let Some(start) = self.start else {
             return;

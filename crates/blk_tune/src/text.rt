@@ -83,9 +83,9 @@ fn push_report(draft: &mut Draft, alloc: Global, report: &Report) -> Result<(), 
 {
     push_field(draft, report.commands)?;
     push_field(draft, report.waiting)?;
-    push_figure(draft, alloc, report.greatest)?;
-    push_figure(draft, alloc, report.least)?;
-    push_figure(draft, alloc, report.shortfall)
+    push_figure(draft, alloc, report.greatest())?;
+    push_figure(draft, alloc, report.least())?;
+    push_figure(draft, alloc, report.shortfall())
 }
 
 /// Adds the fields of a tally.
@@ -132,7 +132,7 @@ fn remark(by: By, row: &Row) -> &'static [u8]
                 b""
             }
         }
-        By::Lateness => match row.report.shortfall {
+        By::Lateness => match row.report.shortfall() {
             Some(lost) => {
                 if lost == 0 {
                     b" (no schedule is less late)"
@@ -162,8 +162,8 @@ fn push_best(draft: &mut Draft, by: By, rows: &[Row]) -> Result<(), AllocError>
     }
 }
 
-/// Those of the rows that are shown.
-fn shown(top: Option<u64>, rows: &[Row]) -> &[Row]
+/// The rows that are shown of those that stand best first: the first `top`, or all where there are fewer, or without it.
+pub fn shown(top: Option<u64>, rows: &[Row]) -> &[Row]
     ensures { result.now ≡ shown top rows.now }
 {
     match top {

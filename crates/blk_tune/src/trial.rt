@@ -1,11 +1,12 @@
 //! The runs of a script under some settings, side by side.
 
-ghost use Rattle.std.specs.Prelude.{◌≡◌, ◌≤◌, ◌<◌, ◌+◌, ℕ, IfOk, IfErr, OnOk, All, Result, length, take, slice_index_or};
+ghost use Rattle.std.specs.Prelude.{◌≡◌, ◌≤◌, ◌<◌, ◌+◌, ◌-◌, ℕ, IfOk, IfErr, OnOk, All, Result, length, take, slice_index_or};
 ghost use Rattle.blk_settings.specs.Made.{IsMade};
 ghost use Rattle.blk_settings.specs.declared.sched.Sched.{Sched};
 ghost use Rattle.blk_text.specs.Script.{IsScript, scripted};
 ghost use Rattle.blk_runs.specs.Firsts.{AreUnrun};
-ghost use Rattle.blk_tune.specs.Row.{IsAnswer, AreRows};
+ghost use Rattle.blk_tune.specs.Row.{AreRows};
+ghost use Rattle.blk_tune.specs.Inside.Shares.{IsShare, AreShares};
 
 use crate::progress::Progress;
 use crate::row::{Row, row_under};
@@ -18,6 +19,9 @@ use std::thread::{Threads, available_parallelism};
 
 /// How many runs go side by side at most where nobody says how many.
 const MOST_THREADS: usize = 16;
+
+/// How many runs a thread makes before the next word of progress. At each the threads wait for the slowest of them, and new ones begin.
+const RUNS_EACH: usize = 8;
 
 /// How many runs go side by side: as many as are asked for, and where nobody says, as there are processors, 16 at most; 1 at least.
 fn side_by_side(rt: &impl Threads, threads: Option<u64>) -> usize
@@ -32,50 +36,90 @@ fn side_by_side(rt: &impl Threads, threads: Option<u64>) -> usize
     }
 }
 
-/// What comes of a script under so many of these settings from a place on, each run in a thread of its own where one can be made.
-fn answers<T: Threads + Sync>(
+/// What came of the runs of one thread, in their order.
+type Share = Result<Vec<Result<Row, RunFault>>, AllocError>;
+
+/// The runs of one thread: under the settings at a place and at every `step`-th one after it, below a bound, one after the other.
+///
+/// Neighbours in a grid take about as long as one another, so threads that take turns at them end together.
+fn share(
+    alloc: Global,
+    scheds: &[Sched],
+    from: usize,
+    until: usize,
+    step: usize,
+    script: &Script,
+) -> Share
+    requires script { IsScript (scripted script.now) }
+    requires step { 0 < step }
+    requires within { until ≤ length scheds.now }
+    ensures each { IfOk result (λ all. IsShare (scripted script.now) scheds.now from until step all.items) }
+{
+    let mut all = Vec::new(alloc);
+    let mut place = from;
+    while place < until {
+        all.push(row_under(alloc, scheds[place], script))?;
+        if until - place <= step {
+            break;
+        }
+        place += step;
+    }
+    Ok(all)
+}
+
+/// What comes of a script under the settings from a place to another: a share for each of this number of threads, of which the `i`-th
+/// begins at the `i`-th setting.
+fn shares<T: Threads + Sync>(
     rt: &T,
     alloc: Global,
     scheds: &[Sched],
     from: usize,
-    count: usize,
+    until: usize,
+    threads: usize,
     script: &Script,
-) -> Result<Vec<Result<Row, RunFault>>, AllocError>
+) -> Result<Vec<Share>, AllocError>
     requires script { IsScript (scripted script.now) }
-    requires within { from + count ≤ length scheds.now }
-    ensures len { IfOk result (λ all. length all.items ≡ count) }
-    ensures each { IfOk result (λ all. (i : ℕ) (d : Sched) (e : _) → i < count → IsAnswer (scripted script.now) (slice_index_or scheds.now (from + i) d) (slice_index_or all.items i e)) }
+    requires threads { threads ≤ until - from }
+    requires within { until ≤ length scheds.now }
+    ensures len { IfOk result (λ all. length all.items ≡ threads) }
+    ensures each { IfOk result (λ all. AreShares (λ one. one.items) (scripted script.now) scheds.now from until threads all.items) }
 {
-    let run = |i: usize| -> Result<Row, RunFault>
-        requires { (from + i < length scheds.now) × IsScript (scripted script.now) }
-        ensures { (d : Sched) → IsAnswer (scripted script.entry.now) (slice_index_or scheds.entry.now (from + i) d) result }
-    { row_under(alloc, scheds[from + i], script) };
-    let all = thread::map_indices(rt, alloc, count, &run)?;
+    let run = |i: usize| -> Share
+        requires { (i < threads) × (threads ≤ until - from) × (until ≤ length scheds.now) × IsScript (scripted script.now) }
+        ensures { IfOk result (λ one. IsShare (scripted script.entry.now) scheds.entry.now (from + i) until threads one.items) }
+    { share(alloc, scheds, from + i, until, threads, script) };
+    let all = thread::map_indices(rt, alloc, threads, &run)?;
     Ok(all)
 }
 
-/// Adds the rows of the settings from a place to another, which run side by side.
+/// Adds the rows of the settings from a place to another, which as many threads run as are asked for.
 fn push_batch<T: Threads + Sync>(
     rt: &T,
     alloc: Global,
     scheds: &[Sched],
     from: usize,
     until: usize,
+    threads: usize,
     script: &Script,
     rows: &mut Vec<Row>,
 ) -> Result<(), RunFault>
     requires script { IsScript (scripted script.now) }
     requires made { All IsMade scheds.now }
-    requires within { (from ≤ until) × (until ≤ length scheds.now) }
+    requires within { (from < until) × (until ≤ length scheds.now) }
+    requires threads { 1 ≤ threads }
     requires rows { AreRows (take from scheds.now) (scripted script.now) rows.old.items }
     ensures rows { OnOk result (AreRows (take until scheds.now) (scripted script.now) rows.new.items) }
     ensures unrun { IfErr result (AreUnrun scheds.now (scripted script.now)) }
 {
-    let Ok(batch) = answers(rt, alloc, scheds, from, until - from, script) else {
+    let threads = threads.min(until - from);
+    let Ok(shares) = shares(rt, alloc, scheds, from, until, threads, script) else {
         return Err(RunFault::Memory);
     };
-    for i in 0..batch.len() {
-        match batch[i] {
+    for i in 0..(until - from) {
+        let Ok(share) = &shares[i % threads] else {
+            return Err(RunFault::Memory);
+        };
+        match share[i / threads] {
             Ok(row) => {
                 let Ok(()) = rows.push(row) else {
                     return Err(RunFault::Memory);
@@ -101,12 +145,13 @@ pub fn tried<T: Threads + Sync, P: Progress>(
     ensures rows { IfOk result (λ rows. AreRows scheds.now (scripted script.now) rows.items) }
     ensures unrun { IfErr result (AreUnrun scheds.now (scripted script.now)) }
 {
-    let most = side_by_side(rt, threads);
+    let threads = side_by_side(rt, threads);
+    let batch = threads.saturating_mul(RUNS_EACH);
     let mut rows = Vec::new(alloc);
     let mut from = 0;
     while from < scheds.len() {
-        let until = from + most.min(scheds.len() - from);
-        match push_batch(rt, alloc, scheds, from, until, script, &mut rows) {
+        let until = from + batch.min(scheds.len() - from);
+        match push_batch(rt, alloc, scheds, from, until, threads, script, &mut rows) {
             Ok(()) => {}
             Err(fault) => return Err(fault),
         }

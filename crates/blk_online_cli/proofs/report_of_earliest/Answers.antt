@@ -4,7 +4,8 @@ use Rattle.blk_cli.specs.Said.{said_of}
 use Rattle.blk_settings.specs.declared.sched.Sched.TheVariants as sched
 use Rattle.blk_words.specs.declared.words.Form.TheVariants as form
 use Rattle.blk_words.specs.declared.words.Job.TheVariants as job
-use Rattle.blk_online_cli.specs.Told.{ReportsNoShortfall, sim_words, report_words}
+use Rattle.blk_online_cli.specs.Told.{ReportsNoShortfall}
+use Rattle.blk_online_cli.specs.Inside.Words.{sim_words, report_words}
 use Rattle.blk_online_cli.proofs.Ending.{piped}
 use Rattle.blk_online_cli.proofs.Telling.{reports}
 use Rattle.blk_online_cli.proofs.report_of_earliest.Goals as goal

@@ -1,5 +1,5 @@
 use Rattle.std.proofs.Common.{◌∙◌, ℕ, List, subst, sym}
-use Rattle.edd_check.specs.Schedule.{RoundsInRange}
+use Rattle.edd_commands.specs.Schedule.{RoundsInRange}
 use Rattle.blk_report.proofs.Within.{rounds_in}
 use Rattle.blk_report.proofs.report.Goals as goal
 

@@ -1,5 +1,5 @@
 -- The direction and the range of each request, one event after the other.
-use Rattle.std.specs.Prelude.{ℕ, ◌==◌, cond, List, [], ◌∷◌, Option, Some, None}
+use Rattle.std.specs.Prelude.{ℕ, ◌≡◌, ◌==◌, cond, List, [], ◌∷◌, Option, Some, None}
 use Rattle.blk_bio.specs.Bios.{Bio}
 use Rattle.blk_bio.specs.Requests.{last_of}
 use Rattle.blk_report.specs.declared.serving.Range.{Range}
@@ -19,6 +19,10 @@ abbrev pub joined_to : Option Range → Option Range → Option Range
 joined_to o None = o
 joined_to None (Some n) = Some n
 joined_to (Some r) (Some n) = Some (joined_range r n)
+
+-- the range under the id is extended by the newcomer's, and those of the other ids stay
+abbrev pub IsExtended : ℕ → Range → (ℕ → Option Range) → (ℕ → Option Range) → Type 0
+IsExtended id newcomer old new = (i : ℕ) → new i ≡ cond (id == i) (joined_to (old id) (Some newcomer)) (old i)
 
 -- what is under each id once bios entered under an id, if some did
 abbrev pub with_entry : (ℕ → Option Range) → Option (ℕ × List Bio) → ℕ → Option Range

@@ -1,8 +1,8 @@
 -- The places that a late command waited for, and what they went to.
 use Rattle.std.specs.Prelude.{ℕ, ◌≡◌, ◌≤◌, ◌<◌, ◌+◌, ◌-◌, List, length, map, slice_index, slice_index_or}
-use Rattle.edd_check.specs.declared.steps.Step.{Step}
-use Rattle.edd_check.specs.Capacity.{carried, depth_at}
-use Rattle.edd_check.specs.Schedule.{places_at}
+use Rattle.edd_commands.specs.declared.steps.Step.{Step}
+use Rattle.edd_commands.specs.Capacity.{carried, depth_at}
+use Rattle.edd_commands.specs.Schedule.{places_at}
 use Rattle.edd_verdict.specs.declared.Verdict.{Verdict}
 use Rattle.blk_report.specs.declared.serving.Service.{Service}
 use Rattle.blk_report.specs.declared.delays.LateCommand.{LateCommand}
@@ -21,6 +21,11 @@ pub record AsksFor (services : List Service) (s : Service) (a : Ask) : Type 0 wh
   pub bound : a.bound ≡ s.due + 1
   pub nothing : a.count ≡ 0
 
+-- each late command has one that asks for it
+abbrev pub AskForAll : List Service → List Service → List Ask → Type 0
+AskForAll services late asks =
+    (k : ℕ) → (d : Service) → (e : Ask) → k < length late → AsksFor services (slice_index_or late k d) (slice_index_or asks k e)
+
 -- no round has more of them than it carries
 abbrev pub FitsIn : List Service → List Step → Type 0
 FitsIn services steps = (x : ℕ) → places_at (map (λ s. s.issue) services) x ≤ depth_at steps x
@@ -30,7 +35,7 @@ pub record AreCarried (steps : List Step) (last : ℕ) (sums : List ℕ) : Type 
   pub each : length sums ≡ last + 1
   pub at : (x : ℕ) → x ≤ last → slice_index sums x ≡ carried steps 0 x
 
--- a late command with its verdict, of whose places so many went to commands, and of these so many to commands due no later
+-- a late command with its verdict, `places` of whose places went to commands, and `sooner` of these to commands due no later
 abbrev pub late_command : List ℕ → Service → ℕ → ℕ → Verdict → LateCommand
 late_command sums s places sooner verdict = record {
   service = s;
@@ -41,10 +46,25 @@ late_command sums s places sooner verdict = record {
   verdict = verdict;
 }
 
--- the places of a late command are in range, so many of them went to commands due no later, and its rounds carry as many
+-- the places of a late command are in range, `sooner` of them went to commands due no later, and its rounds carry them all
 pub record CanWait (sums : List ℕ) (s : Service) (places sooner : ℕ) : Type 0 where
   pub few : sooner ≤ places
   pub late : s.due ≤ s.issue
   pub released : s.release ≤ s.issue
   pub summed : s.issue < length sums
   pub room : places + slice_index sums s.release ≤ slice_index sums s.issue
+
+-- how many places it asks about
+abbrev pub places_in : Ask → ℕ
+places_in a = a.end - a.start
+
+-- so of each late command, by what was asked and what was counted
+abbrev pub CanAllWait : List ℕ → List Service → List Ask → List Ask → Type 0
+CanAllWait sums late asks counted = (k : ℕ) → (d : Service) → (e f : Ask) → k < length late
+    → CanWait sums (slice_index_or late k d) (places_in (slice_index_or asks k e)) (slice_index_or counted k f).count
+
+-- the late commands with their verdicts, by what was asked and what was counted
+abbrev pub AreLateCommands : List ℕ → List Service → List Ask → List Ask → List Verdict → List LateCommand → Type 0
+AreLateCommands sums late asks counted told rows =
+    (k : ℕ) → (d : Service) → (e f : Ask) → (w : Verdict) → (r : LateCommand) → k < length late
+    → slice_index_or rows k r ≡ late_command sums (slice_index_or late k d) (places_in (slice_index_or asks k e)) (slice_index_or counted k f).count (slice_index_or told k w)

@@ -4,7 +4,7 @@ use Rattle.json.specs.Json.{Json}
 use Rattle.json.specs.Token as token
 use Rattle.json.specs.Tree.{json_tokens}
 use Rattle.blk_json.specs.Spreading.{by_dir_value, spread_value}
-use Rattle.blk_json.specs.Tokens.{member_tokens}
+use Rattle.blk_json.specs.Inside.Tokens.{member_tokens}
 use Rattle.blk_json.specs.Values.{object_of}
 use Rattle.blk_json.proofs.Tokens.{told}
 use Rattle.blk_json.proofs.spread.spread_json.Goals as goal

@@ -1,7 +1,6 @@
-use Rattle.std.proofs.Common.{◌≡◌, ◌++◌, map, take, length, ap, ◌∙◌, arith}
-use Rattle.std.specs.Prelude.{zip}
+use Rattle.std.proofs.Common.{◌++◌, ap, ◌∙◌, arith}
 use Rattle.std.specs.List.{flat_map}
-use Rattle.blk_json.specs.Tokens.{row_tokens}
+use Rattle.blk_json.specs.Inside.Tokens.{row_tokens}
 use Rattle.blk_json.proofs.Rows.{one_more, all_rows}
 use Rattle.blk_json.proofs.table.write_rows.Goals as goal
 

@@ -1,7 +1,7 @@
 use Rattle.std.proofs.Common.{◌≡◌, ◌++◌, map, take}
 use Rattle.std.specs.Prelude.{zip}
 use Rattle.std.specs.List.{flat_map}
-use Rattle.blk_json.specs.Tokens.{row_tokens}
+use Rattle.blk_json.specs.Inside.Tokens.{row_tokens}
 use Rattle.blk_json.proofs.table.write_rows.Given as goal
 
 -- the tokens of those so far

@@ -1,5 +1,5 @@
-use Rattle.std.proofs.Common.{◌≡◌, ◌++◌, ◌∷◌, [], ◌∙◌, ◌==◌, ℕ, List, length, refl, ap, cond}
-use Rattle.std.specs.Prelude.{codes, flat_map}
+use Rattle.std.proofs.Common.{◌++◌, ◌∷◌, [], ◌∙◌, ℕ, List, refl, ap}
+use Rattle.std.specs.Prelude.{codes}
 use Rattle.blk_trace.specs.Depths.{capacity_of}
 use Rattle.blk_picture.specs.declared.boxes.Issued.{Issued}
 use Rattle.blk_picture.specs.declared.columns.Column.{Column}
@@ -8,7 +8,7 @@ use Rattle.blk_picture.specs.Columns.{column_of}
 use Rattle.blk_picture.specs.Filled.{filled, made}
 use Rattle.blk_picture.specs.Shapes.{strip_text, frame_text}
 use Rattle.blk_picture.specs.Around.{heading_text, windows_text}
-use Rattle.blk_picture.specs.Pictures.{IsPart, crowded_room}
+use Rattle.blk_picture.specs.Pictures.{crowded_room}
 use Rattle.blk_picture.proofs.Texts.{grow6}
 use Rattle.blk_picture.proofs.parts.push_part.Goals as goal
 
@@ -20,7 +20,7 @@ returns c =
     let windows = c.in_ok-missed.missed.windows.items in
     let columns : List Column = made (column_of t.setup t.events scale) scale.columns in
     let boxes : List Issued = boxes_of t.setup t.events in
-    let room : ℕ = crowded_room (capacity_of t.setup t.events) report.window report.least in
+    let room : ℕ = crowded_room (capacity_of t.setup t.events) report.figures in
     let first : List ℕ = filled (codes "<g transform='translate(0,$)'>\n") (c.args.top ∷ []) in
     let heading : List ℕ = heading_text scale c.args.name.now report c.in_ok-missed.missed.tally in (
       ((((first ++ heading) ++ strip_text scale columns) ++ frame_text scale boxes columns) ++ windows_text scale report room windows) ++ codes "</g>\n",
@@ -37,6 +37,6 @@ returns c =
           c.in_ok-push_heading.ensures
           (c.in_ok-push_strip.ensures ∙ ap (λ (l : List Column). c.push_heading.new.draft ++ strip_text scale l) (c.as_slice-2.ensures.value ∙ c.in_ok-columns.ensures))
           (c.in_ok-push_frame.ensures ∙ ap (λ (l : List Issued). c.push_strip.new.draft ++ frame_text scale l c.as_slice-4.result.now) (c.as_slice-3.ensures.value ∙ c.in_ok-boxes.ensures.boxes) ∙ ap (λ (l : List Column). c.push_strip.new.draft ++ frame_text scale boxes l) (c.as_slice-4.ensures.value ∙ c.in_ok-columns.ensures))
-          (c.in_ok-push_windows.ensures ∙ ap (λ (n : ℕ). c.push_frame.new.draft ++ windows_text scale report n c.as_slice-5.result.now) (c.crowded_room-room.ensures ∙ ap (λ s. crowded_room s report.window report.least) c.in_ok-capacity.ensures.steps) ∙ ap (λ l. c.push_frame.new.draft ++ windows_text scale report room l) c.as_slice-5.ensures.value)
+          (c.in_ok-push_windows.ensures ∙ ap (λ (n : ℕ). c.push_frame.new.draft ++ windows_text scale report n c.as_slice-5.result.now) (c.crowded_room-room.ensures ∙ ap (λ s. crowded_room s report.figures) c.in_ok-capacity.ensures.steps) ∙ ap (λ l. c.push_frame.new.draft ++ windows_text scale report room l) c.as_slice-5.ensures.value)
           c.in_ok-text.ensures,
     )

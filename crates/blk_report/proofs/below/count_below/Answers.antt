@@ -1,6 +1,6 @@
 use Rattle.std.proofs.Common.{◌≡◌, ◌≤◌, ◌+◌, ◌-◌, ◌/◌, ◌∙◌, ℕ, List, length, map, refl, sym, ap, subst, arith}
 use Rattle.std.specs.List.{All}
-use Rattle.edd_check.specs.Limits.{most_commands}
+use Rattle.edd_commands.specs.Limits.{most_commands}
 use Rattle.blk_report.specs.declared.below.Ask.{Ask}
 use Rattle.blk_report.specs.Inside.Below.{AreBelow, halves, half_of, answer_of, IsAsk}
 use Rattle.blk_report.proofs.Halving.{halves_many, half_limit, all_halved, all_answered, all_asks}

@@ -1,6 +1,6 @@
 use Rattle.std.proofs.Common.{◌≡◌, ◌≤◌, length, map}
 use Rattle.std.specs.List.{All}
-use Rattle.edd_check.specs.Limits.{most_commands}
+use Rattle.edd_commands.specs.Limits.{most_commands}
 use Rattle.blk_report.specs.Inside.Below.{answer_of, IsAsk}
 use Rattle.blk_report.proofs.below.count_below.Given as goal
 

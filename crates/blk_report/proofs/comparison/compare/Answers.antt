@@ -1,6 +1,8 @@
-use Rattle.std.proofs.Common.{◌≡◌, ◌<◌, ◌+◌, ℕ, length, None, subst, sym, arith, refl, slice_index_or}
+use Rattle.std.proofs.Common.{◌≡◌, ◌<◌, ◌+◌, ℕ, ℤ, Option, length, None, subst, sym, arith, refl, slice_index_or}
+use Rattle.edd_figures.specs.Figures.{greatest_in}
 use Rattle.blk_report.specs.declared.figures.Report.{Report}
-use Rattle.blk_report.specs.Comparison.{IsBestOf, LeadsOf}
+use Rattle.blk_report.specs.Comparison.{LeadsOf}
+use Rattle.blk_report.specs.Inside.Best.{IsBestOf, better_of}
 use Rattle.blk_report.proofs.Leading.{best_next, led}
 use Rattle.blk_report.proofs.comparison.compare.Goals as goal
 
@@ -9,7 +11,9 @@ loop-place-init c = λ k d lt. absurd (omega arith)
 
 pub loop-place-preserved : goal.loop-place-preserved
 loop-place-preserved c =
-    subst (λ b. IsBestOf c.args.reports.now (c.loop-place.place + 1) b) (sym c.better-best.ensures) (best_next c.args.reports.now c.loop-place.place c.loop-place.best record { commands = 0; waiting = 0; depth = 0; greatest = None; least = None; shortfall = None; window = None; load = None } c.loop-place-test.true c.loop-place.invariant)
+    subst (λ b. IsBestOf c.args.reports.now (c.loop-place.place + 1) b) (sym c.better-best.ensures)
+    (subst (λ (late : Option ℤ). IsBestOf c.args.reports.now (c.loop-place.place + 1) (better_of c.loop-place.best c.loop-place.place late)) (sym c.greatest.ensures)
+    (best_next c.args.reports.now c.loop-place.place c.loop-place.best record { commands = 0; waiting = 0; depth = 0; figures = None } c.loop-place-test.true c.loop-place.invariant))
 
 pub returns-in-Some-clause-best : goal.returns-in-Some-clause-best
 returns-in-Some-clause-best c =
@@ -29,4 +33,4 @@ returns-in-None-clause-none c =
     let all : c.loop-place.place ≡ length c.args.reports.now = let a = c.loop-place-test.false in let b = c.loop-place.auto.place-end in omega (arith, a, b) in
     let none : IsBestOf c.args.reports.now c.loop-place.place None =
     subst (λ b. IsBestOf c.args.reports.now c.loop-place.place b) c.in-None.is c.loop-place.invariant in
-    (λ _. subst (λ n. (k : ℕ) (d : Report) → k < n → (slice_index_or c.args.reports.now k d).greatest ≡ None) all none, λ _. refl)
+    (λ _. subst (λ n. (k : ℕ) (d : Report) → k < n → greatest_in (slice_index_or c.args.reports.now k d).figures ≡ None) all none, λ _. refl)

@@ -1,4 +1,4 @@
-use Rattle.blk_report.specs.Comparison.{IsBestOf}
+use Rattle.blk_report.specs.Inside.Best.{IsBestOf}
 use Rattle.blk_report.proofs.comparison.compare.Given as goal
 
 abbrev pub invariant-loop-place : goal.invariant-loop-place

@@ -1,6 +1,6 @@
 use Rattle.std.proofs.Common.{◌≡◌, ◌<◌, ◌≤◌, ◌∙◌, ℕ, List, length, map, sym, ap, subst}
 use Rattle.std.specs.List.{All}
-use Rattle.edd_check.specs.declared.steps.Step.{Step}
+use Rattle.edd_commands.specs.declared.steps.Step.{Step}
 use Rattle.blk_report.specs.declared.below.Ask.{Ask}
 use Rattle.edd_verdict.specs.declared.Verdict.TheVariants.{Arrival}
 use Rattle.blk_report.specs.declared.serving.Service.{Service}

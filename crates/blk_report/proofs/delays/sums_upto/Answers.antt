@@ -1,5 +1,5 @@
 use Rattle.std.proofs.Common.{◌≡◌, ◌+◌, ◌∙◌, ℕ, length, sym, ap, arith}
-use Rattle.edd_check.proofs.InForce.{carried_none}
+use Rattle.edd_commands.proofs.InForce.{carried_none}
 use Rattle.edd_check.proofs.Covers.{carried_most}
 use Rattle.blk_report.proofs.Waiting.{sum_push, sum_next}
 use Rattle.blk_report.proofs.delays.sums_upto.Goals as goal

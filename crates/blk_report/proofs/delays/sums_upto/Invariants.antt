@@ -1,5 +1,5 @@
 use Rattle.std.proofs.Common.{◌≡◌, ◌<◌, ℕ, length, get_or}
-use Rattle.edd_check.specs.Capacity.{carried}
+use Rattle.edd_commands.specs.Capacity.{carried}
 use Rattle.blk_report.proofs.delays.sums_upto.Given as goal
 
 -- a sum for each round so far

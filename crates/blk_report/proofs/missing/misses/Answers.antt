@@ -1,6 +1,6 @@
 use Rattle.std.proofs.Common.{◌∙◌, ℕ, List, subst}
-use Rattle.edd_check.specs.declared.Command.{Command}
-use Rattle.edd_check.specs.declared.steps.Step.{Step}
+use Rattle.edd_commands.specs.declared.Command.{Command}
+use Rattle.edd_commands.specs.declared.steps.Step.{Step}
 use Rattle.edd_figures.specs.declared.missing.Counts.{Counts}
 use Rattle.edd_figures.specs.declared.missing.Crowd.{Crowd}
 use Rattle.edd_figures.specs.Misses.{AreMisses, HasSpares}

@@ -1,6 +1,6 @@
 use Rattle.std.proofs.Common.{◌≡◌, ◌<◌, ◌-◌, ◌++◌, ◌∙◌, ℕ, List, [], ◌∷◌, None, Some, length, get_or, sym, ap, arith, refl, take}
 use Rattle.std.proofs.lemmas.List.{take_all, take_more}
-use Rattle.edd_check.specs.declared.Command.{Command}
+use Rattle.edd_commands.specs.declared.Command.{Command}
 use Rattle.blk_bio.specs.declared.bio.Dir.TheVariants.{Read}
 use Rattle.blk_trace.specs.Events.{request_of}
 use Rattle.blk_report.specs.declared.serving.Service.{Service}

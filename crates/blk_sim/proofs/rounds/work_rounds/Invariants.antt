@@ -1,4 +1,4 @@
-use Rattle.blk_sim.specs.Working.{WorkInTurn}
+use Rattle.blk_sim.specs.Inside.Working.{WorkInTurn}
 use Rattle.blk_sim.proofs.rounds.work_rounds.Given as goal
 
 abbrev pub invariant-loop : goal.invariant-loop

@@ -8,7 +8,8 @@ use Rattle.blk_text.specs.Script.{LineFits, scripted}
 use Rattle.blk_sim.specs.Simulation.{Released, bios_at, ticks_of}
 use Rattle.blk_sim.specs.State.{SimState, start_of}
 use Rattle.blk_sim.specs.Runs.{Runs}
-use Rattle.blk_sim.specs.Simulated.{Stands, placings, stepped}
+use Rattle.blk_sim.specs.Simulated.{Stands, stepped}
+use Rattle.blk_sim.specs.Inside.Places.{placings}
 use Rattle.blk_sim.proofs.Standing.{placings_nil, all_at, stands_more, ticks_more, all_released}
 use Rattle.blk_sim.proofs.Keeping.{start_ready, start_stands, steps_stand, steps_ready, steps_went, steps_plugs, ready_more}
 use Rattle.blk_sim.proofs.Ending.{rounds_nil, fits_along, read_at, whole, runs_none, runs_more}

@@ -5,7 +5,8 @@ use Rattle.blk_text.specs.Script.{scripted}
 use Rattle.blk_sim.specs.Simulation.{ticks_of}
 use Rattle.blk_sim.specs.State.{start_of}
 use Rattle.blk_sim.specs.Runs.{Runs}
-use Rattle.blk_sim.specs.Simulated.{Stands, IsReady, placings}
+use Rattle.blk_sim.specs.Simulated.{Stands, IsReady}
+use Rattle.blk_sim.specs.Inside.Places.{placings}
 use Rattle.blk_sim.proofs.simulation.simulate.Given as goal
 
 abbrev pub invariant-loop-place : goal.invariant-loop-place

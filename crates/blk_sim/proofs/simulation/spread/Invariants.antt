@@ -1,4 +1,4 @@
-use Rattle.blk_sim.specs.Simulated.{IsSpread}
+use Rattle.blk_sim.specs.Inside.Places.{IsSpread}
 use Rattle.blk_sim.proofs.simulation.spread.Given as goal
 
 abbrev pub invariant-loop-s : goal.invariant-loop-s

@@ -1,4 +1,4 @@
-use Rattle.std.proofs.Common.{◌≡◌, sym, subst, Err, Ok}
+use Rattle.std.proofs.Common.{◌≡◌, subst, Err, Ok}
 use Rattle.std.specs.Prelude.{Result, IsErrAnd, IfErr}
 use Rattle.blk_sim.specs.declared.refusal.SimWhy.{SimWhy}
 use Rattle.blk_sim.specs.Refusals.{IsIssueRefused}

@@ -6,12 +6,12 @@ use Rattle.blk_sim.specs.Rounds.{Works}
 use Rattle.blk_sched.specs.Policies.{Policy}
 use Rattle.blk_sim.specs.Refusals.{IsWorkRefused}
 
--- the core works so many times
+-- the core works n times
 unfoldable pub WorkInTurn : Policy → ℕ → CoreState → CoreState → Type 0
 WorkInTurn policy zero old new = new ≡ old
 WorkInTurn policy (suc n) old new = (middle : CoreState) × WorkInTurn policy n old middle × Works policy middle new
 
--- of so many times the core worked some, and is then refused
+-- of n times the core worked some, and is then refused
 pub record IsWorkInTurnRefused (policy : Policy) (count : ℕ) (core : CoreState) (w : SimWhy) : Type 0 where
   pub rounds : ℕ
   pub few : rounds < count

@@ -1,0 +1,28 @@
+-- How rounds are counted in columns.
+use Rattle.std.specs.Prelude.{ℕ, ◌≡◌, ◌<◌, ◌+◌, ◌==◌, cond, List, length, slice_index_or}
+use Rattle.blk_bio.specs.declared.bio.Dir.{Dir}
+use Rattle.blk_trace.specs.Happened.{Happened}
+use Rattle.blk_picture.specs.declared.boxes.Issued.{Issued}
+use Rattle.blk_picture.specs.declared.scale.Scale.{Scale}
+use Rattle.blk_picture.specs.declared.columns.Column.{Column}
+use Rattle.blk_picture.specs.declared.columns.Kind.{Kind}
+use Rattle.blk_picture.specs.Columns.{in_column, rounds_in, entered_in, waits_of, peaks_of, column_at}
+use Rattle.blk_picture.specs.Filled.{made}
+
+-- one more is counted in the column, where there is such a column
+abbrev pub HasOneMore : ℕ → List ℕ → List ℕ → Type 0
+HasOneMore column old new = (c : ℕ) → c < length old
+    → slice_index_or new c 0 ≡ cond (column == c) (slice_index_or old c 0 + 1) (slice_index_or old c 0)
+
+-- of each column how many of the rounds stand in it
+abbrev pub AreCounts : ℕ → ℕ → List ℕ → List ℕ → Type 0
+AreCounts per columns rounds counts = (c : ℕ) → c < columns → slice_index_or counts c 0 ≡ in_column per c rounds
+
+-- the most that waited at the end of a round of each column: those of the direction that entered, without those of the kind
+abbrev pub most_waits : Scale → Dir → Kind → List Happened → List Issued → List ℕ
+most_waits scale dir kind events boxes =
+    peaks_of scale.per scale.columns (waits_of (entered_in dir events) (rounds_in kind boxes) scale.rounds)
+
+-- the columns of these numbers
+abbrev pub columns_at : List ℕ → List ℕ → List ℕ → List ℕ → List ℕ → List ℕ → List ℕ → List Column
+columns_at reads writes lates backs rooms rw ww = made (column_at reads writes lates backs rooms rw ww) (length reads)

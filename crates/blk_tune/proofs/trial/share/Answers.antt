@@ -1,0 +1,39 @@
+use Rattle.std.proofs.Common.{ℕ, List, Result, ◌≡◌, ◌<◌, ◌≤◌, ◌+◌, ◌*◌, ◌∷◌, ◌++◌, [], length, get_or, arith, sym, ap, ◌∙◌, subst}
+use Rattle.std.proofs.lemmas.List.{length_push}
+use Rattle.blk_settings.specs.declared.sched.Sched.{Sched}
+use Rattle.blk_text.specs.Script.{scripted}
+use Rattle.blk_runs.specs.declared.fault.RunFault.{RunFault}
+use Rattle.blk_tune.specs.declared.row.Row.{Row}
+use Rattle.blk_tune.specs.Inside.Shares.{AreAnswers}
+use Rattle.blk_tune.proofs.Shares.{one_more_answer, next_place}
+use Rattle.blk_settings.specs.declared.sched.Sched.TheVariants as sched
+use Rattle.blk_tune.proofs.trial.share.Goals as goal
+use Rattle.blk_tune.proofs.trial.share.Goals.{else-loop-place-test, then-loop-place-test+in_ok-push+then-until-place}
+
+pub loop-place-preserved : goal.loop-place-preserved
+loop-place-preserved c =
+    let s = scripted c.args.script.now in
+    let old : List (Result Row RunFault) = c.loop-place.all.items in
+    let all : List (Result Row RunFault) = old ++ c.row_under.result ∷ [] in
+    let more : AreAnswers s c.args.scheds.now c.args.from c.args.step all =
+    one_more_answer s c.args.scheds.now c.args.from c.args.step old c.row_under.result c.loop-place.place c.loop-place.invariant.at (omega arith) c.loop-place.invariant.are sched.None c.row_under.ensures in
+    let at : c.loop-place.place + c.args.step ≡ c.args.from + length all * c.args.step =
+    next_place s c.args.scheds.now c.args.from c.args.step (length old) c.loop-place.place c.loop-place.invariant.at
+    ∙ ap (λ n. c.args.from + n * c.args.step) (sym (length_push old c.row_under.result)) in
+    record { at = rw c.in_ok-push.ensures.items at; are = rw c.in_ok-push.ensures.items more }
+
+pub returns : goal.returns
+returns c = elim c.loop-place-test.branch [
+  | else-loop-place-test w ↦ rw w.all-is (record { each = record { each = c.loop-place.invariant.are; whole = omega (arith, c.loop-place.invariant.at) } })
+  | then-loop-place-test+in_ok-push+then-until-place w ↦
+      let s = scripted c.args.script.now in
+      let old : List (Result Row RunFault) = c.loop-place.all.items in
+      let all : List (Result Row RunFault) = old ++ w.row_under.result ∷ [] in
+      let more : AreAnswers s c.args.scheds.now c.args.from c.args.step all =
+      one_more_answer s c.args.scheds.now c.args.from c.args.step old w.row_under.result c.loop-place.place c.loop-place.invariant.at (omega arith) c.loop-place.invariant.are sched.None w.row_under.ensures in
+      let at : c.loop-place.place + c.args.step ≡ c.args.from + length all * c.args.step =
+      next_place s c.args.scheds.now c.args.from c.args.step (length old) c.loop-place.place c.loop-place.invariant.at
+      ∙ ap (λ n. c.args.from + n * c.args.step) (sym (length_push old w.row_under.result)) in
+      let whole : c.args.until ≤ c.args.from + length all * c.args.step = omega (arith, at) in
+      rw w.all-is (rw w.in_ok-push.ensures.items (record { each = record { each = more; whole = whole } }))
+]

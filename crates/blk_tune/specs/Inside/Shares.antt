@@ -1,0 +1,22 @@
+-- What comes of the settings that one thread takes, each a step after the one before.
+use Rattle.std.specs.Prelude.{◌<◌, ◌≤◌, ◌+◌, ◌*◌, ℕ, List, Result, IfOk, length, slice_index_or}
+use Rattle.blk_settings.specs.declared.sched.Sched.{Sched}
+use Rattle.blk_text.specs.Script.{Scripted}
+use Rattle.blk_runs.specs.declared.fault.RunFault.{RunFault}
+use Rattle.blk_tune.specs.declared.row.Row.{Row}
+use Rattle.blk_tune.specs.Row.{IsAnswer}
+
+-- each of these answers is that of its setting
+abbrev pub AreAnswers : Scripted → List Sched → ℕ → ℕ → List (Result Row RunFault) → Type 0
+AreAnswers script scheds from step all =
+    (k : ℕ) (d : Sched) (e : Result Row RunFault) → k < length all → IsAnswer script (slice_index_or scheds (from + k * step) d) (slice_index_or all k e)
+
+-- and none is missing below a place
+pub record IsShare (script : Scripted) (scheds : List Sched) (from until step : ℕ) (all : List (Result Row RunFault)) : Type 0 where
+  pub each : AreAnswers script scheds from step all
+  pub whole : until ≤ from + length all * step
+
+-- shares whose settings lie side by side, the step being how many there are, where memory for them was had
+abbrev pub AreShares : {X E : Type 0} → (X → List (Result Row RunFault)) → Scripted → List Sched → ℕ → ℕ → ℕ → List (Result X E) → Type 0
+AreShares {X} {E} items script scheds from until step shares =
+    (i : ℕ) (e : Result X E) → i < step → IfOk (slice_index_or shares i e) (λ one. IsShare script scheds (from + i) until step (items one))
