@@ -3,7 +3,7 @@
 
 use blk_lists::Records;
 use blk_load::OnThreads;
-use blk_tune::Line;
+use blk_tune::ProgressLine;
 use drafts::Output;
 use std::io::ErrorKind;
 use std::os::unix::fs::{FileTypeExt, MetadataExt};
@@ -50,7 +50,7 @@ fn main(rt: HostRuntime) -> ExitCode {
         &mut Records::new(alloc, rt.reader()),
         &mut Output::new(io::writer(&rt)),
         &mut faults,
-        &mut Line::new(alloc, rt, rt.stderr(), is_terminal),
+        &mut ProgressLine::new(alloc, rt, rt.stderr(), is_terminal),
     );
     ExitCode::from(ended.status)
 }

@@ -6,16 +6,18 @@ use Rattle.std.proofs.lemmas.List.{get_or-map, length-map}
 use Rattle.std.proofs.lemmas.List.Elements.{All-get_or}
 use Rattle.std.proofs.lemmas.List.Folds.{list_any_at}
 use Rattle.std.proofs.lemmas.Option.{get_or_from_slice_get, slice_get_within}
-use Rattle.edd_check.specs.declared.Command.{Command}
+use Rattle.edd_commands.specs.declared.Command.{Command}
 use Rattle.edd_check.specs.declared.Window.{Window}
-use Rattle.edd_check.specs.declared.steps.Step.{Step}
-use Rattle.edd_check.specs.Capacity.{fixed}
-use Rattle.edd_check.specs.Schedule.{IsLegal, IsGreatestLateness, IsLeastLateness, RoundsInRange}
-use Rattle.edd_check.specs.Window.{IsCrowded, load_of, rounds_between}
+use Rattle.edd_commands.specs.declared.steps.Step.{Step}
+use Rattle.edd_commands.specs.Capacity.{fixed}
+use Rattle.edd_commands.specs.Schedule.{IsLegal, IsGreatestLateness, IsLeastLateness, RoundsInRange}
+use Rattle.edd_check.specs.Window.{IsCrowded, rounds_between}
+use Rattle.edd_check.specs.declared.Crowding.{Crowding}
 use Rattle.edd_check.specs.declared.CheckFault.{CheckFault}
-use Rattle.edd_check.specs.Check.{IsAnswer}
+use Rattle.edd_check.specs.Check.{IsAnswer, IsCrowding}
+use Rattle.edd_commands.proofs.InForce.{carried_fixed}
 use Rattle.blk_words.specs.declared.words.Form.{Form}
-use Rattle.blk_cli.specs.Certificates.{IsProof, IsRefusedBound, bound_in, verdict_in}
+use Rattle.blk_cli.specs.Certificates.{IsProof, IsCrowdingOf, IsRefusedBound, bound_in, verdict_in}
 use Rattle.edd_oracle.specs.Answer.{IsBest}
 use Rattle.blk_text.specs.TraceRecords.{EventFits}
 use Rattle.blk_trace.proofs.Ids.{has_issued}
@@ -87,13 +89,25 @@ refused_of claim commands rounds steps late other window f same_commands same_ro
     let Q : ℤ → Type 0 = λ z. IsAnswer claim.commands (fixed claim.depth) z claim.rounds window (Err f) in
     (late, window, is, subst Q same (subst P under (subst R same_rounds (subst C same_commands h))))
 
+-- how crowded the window of a bound is of which the check said Ok
+pub crowding_of : (claim : Claim) (commands : List Command) (steps : List Step) (late other : ℤ) (window : Window) (c : Crowding) → commands ≡ claim.commands → steps ≡ fixed claim.depth
+    → claim.bound ≡ Some (late, window) → other ≡ late → IsCrowding commands steps other window c → IsCrowdingOf claim claim.bound (Some c)
+crowding_of claim commands steps late other window c same_commands under is same h =
+    let C : List Command → Type 0 = λ xs. IsCrowding xs steps other window c in
+    let P : List Step → Type 0 = λ s. IsCrowding claim.commands s other window c in
+    let Q : ℤ → Type 0 = λ z. IsCrowding claim.commands (fixed claim.depth) z window c in
+    subst (λ (b : Option (ℤ × Window)). IsCrowdingOf claim b (Some c)) (sym is) (subst Q same (subst P under (subst C same_commands h)))
+
 -- what is written of a certificate with a bound
-pub verdict_is : {S E : Type 0} (f : Form) (text : S → List ℕ) (r : Result S E) (claim : Claim) (late other : ℤ) (window : Window) (commands : List Command) (load carries : ℕ) → claim.bound ≡ Some (late, window) → other ≡ late
-    → commands ≡ claim.commands → load ≡ load_of commands window → carries ≡ claim.depth * rounds_between window.from (pos window.due +ℤ other)
-    → IfOk r (λ s. text s ≡ bound_in f other load carries) → IfOk r (λ s. text s ≡ verdict_in f claim claim.bound)
-verdict_is f text (Err e) claim late other window commands load carries is same list loads carry h = tt
-verdict_is f text (Ok s) claim late other window commands load carries is same list loads carry h =
-    rw is (h ∙ rw (same, loads, carry, same, list) refl)
+pub verdict_is : {S E : Type 0} (f : Form) (text : S → List ℕ) (r : Result S E) (claim : Claim) (late other : ℤ) (window : Window) (found : Option Crowding) (c : Crowding) → claim.bound ≡ Some (late, window) → found ≡ Some c → other ≡ late
+    → IsCrowdingOf claim claim.bound found → IfOk r (λ s. text s ≡ bound_in f other c.load c.carries) → IfOk r (λ s. text s ≡ verdict_in f claim claim.bound)
+verdict_is f text (Err e) claim late other window found c is has same are h = tt
+verdict_is f text (Ok s) claim late other window found c is has same are h =
+    let here : IsCrowding claim.commands (fixed claim.depth) late window c =
+    subst (λ (o : Option Crowding). IsCrowdingOf claim (Some (late, window)) o) has (subst (λ (b : Option (ℤ × Window)). IsCrowdingOf claim b found) is are) in
+    let carries : c.carries ≡ claim.depth * rounds_between window.from (pos window.due +ℤ late) =
+    here.1 ∙ carried_fixed claim.depth window.from (rounds_between window.from (pos window.due +ℤ late)) in
+    rw is (h ∙ rw (same, here.0, carries) refl)
 
 -- a trace's commands are a command list's
 pub commands_in : (setup : Setup) (depth : ℕ) (own commands : List Command) (rounds : List ℕ) → depth ≡ setup.depth → IsSetup setup → AreBounded own rounds → commands ≡ own → All (λ c. c.id < 2 ^ 64) commands

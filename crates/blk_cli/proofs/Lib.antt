@@ -1,7 +1,7 @@
 mod Alone
 mod Claims
 mod Compared
-mod MetClaims
+mod OnTimeClaims
 mod Named
 mod OfRead
 mod Schedules

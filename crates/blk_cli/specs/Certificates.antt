@@ -1,25 +1,27 @@
 -- Certificates: what one proves, what is written of a list, and the line on one that was checked.
 use Rattle.std.specs.Prelude.{◌≡◌, ◌↔◌, ◌*◌, ◌++◌, ◌∷◌, ⊤, ℕ, ℤ, pos, ◌+ℤ◌, List, [], length, Option, None, Some, Err, IfSome, codes, decimal}
 use Rattle.std.specs.Fmt.{signed_decimal}
-use Rattle.edd_check.specs.declared.Command.{Command}
+use Rattle.edd_commands.specs.declared.Command.{Command}
 use Rattle.edd_check.specs.declared.CheckFault.{CheckFault}
-use Rattle.edd_check.specs.declared.met.MetFault.{MetFault}
+use Rattle.edd_check.specs.declared.Crowding.{Crowding}
+use Rattle.edd_check.specs.declared.on_time.Bound.{Bound}
+use Rattle.edd_check.specs.declared.on_time.OnTimeFault.{OnTimeFault}
 use Rattle.edd_check.specs.declared.Window.{Window}
-use Rattle.edd_check.specs.Capacity.{fixed}
-use Rattle.edd_check.specs.Check.{IsAnswer}
-use Rattle.edd_check.specs.CheckMet.{IsMetAnswer}
-use Rattle.edd_check.specs.Met.{carried_by, outside_of}
-use Rattle.edd_check.specs.Schedule.{IsLegal, IsGreatestLateness, IsLeastLateness}
+use Rattle.edd_commands.specs.Capacity.{fixed}
+use Rattle.edd_check.specs.Check.{IsAnswer, IsCrowding}
+use Rattle.edd_check.specs.CheckOnTime.{IsOnTimeAnswer, IsBound}
+use Rattle.edd_check.specs.OnTime.{carried_by, outside_of}
+use Rattle.edd_commands.specs.Schedule.{IsLegal, IsGreatestLateness, IsLeastLateness}
 use Rattle.edd_check.specs.Window.{IsCrowded, load_of, rounds_between}
 use Rattle.edd_oracle.specs.Input.{IsRefusal}
-use Rattle.edd_oracle.specs.Met.{IsMostAnswer}
+use Rattle.edd_oracle.specs.OnTime.{IsMostAnswer}
 use Rattle.blk_lists.specs.Sources.{Row}
 use Rattle.blk_lists.specs.Texts.{rows_text}
 use Rattle.blk_lists.specs.Commands.{SpellsCommands}
 use Rattle.blk_lists.specs.Certificate.{Claim, claim_rows, SpellsClaim}
-use Rattle.blk_lists.specs.Met.{MetClaim, met_rows, SpellsMet}
-use Rattle.blk_lists.specs.Proof.{ProofClaim, OfLateness, OfMet}
-use Rattle.blk_json.specs.Proofs.{bound_json, no_commands_json, met_json}
+use Rattle.blk_lists.specs.OnTime.{OnTimeClaim, on_time_rows, SpellsOnTime}
+use Rattle.blk_lists.specs.Proof.{ProofClaim, OfLateness, OfOnTime}
+use Rattle.blk_json.specs.Proofs.{bound_json, no_commands_json, on_time_json}
 use Rattle.blk_words.specs.declared.words.Form.{Form}
 use Rattle.blk_words.specs.declared.words.Form.TheVariants as form
 use Rattle.blk_cli.specs.declared.failure.Failure.{Failure}
@@ -41,8 +43,8 @@ pub record IsProved (claim : Claim) : Type 0 where
 
 -- the schedule is legal and meets the number stated, the windows are disjoint, and their bound is that number, so that no legal
 -- schedule meets more
-abbrev pub IsMetProved : MetClaim → Type 0
-IsMetProved claim = IsMostAnswer claim.commands (fixed claim.depth) claim.rounds claim.met claim.cover
+abbrev pub IsOnTimeProved : OnTimeClaim → Type 0
+IsOnTimeProved claim = IsMostAnswer claim.commands (fixed claim.depth) claim.rounds claim.met claim.cover
 
 -- the records spell a command list: its depth and its commands
 abbrev pub SpellsList : List Row → ℕ × List Command → Type 0
@@ -58,12 +60,12 @@ pub record IsLeastText (list : ℕ × List Command) (text : List ℕ) : Type 0 w
   pub is_text : text ≡ rows_text (claim_rows claim)
 
 pub record IsMostText (list : ℕ × List Command) (text : List ℕ) : Type 0 where
-  pub claim : MetClaim
+  pub claim : OnTimeClaim
   pub same_depth : claim.depth ≡ list.0
   pub same_commands : claim.commands ≡ list.1
-  pub proved : IsMetProved claim
-  pub spelled : SpellsMet (met_rows claim) claim
-  pub is_text : text ≡ rows_text (met_rows claim)
+  pub proved : IsOnTimeProved claim
+  pub spelled : SpellsOnTime (on_time_rows claim) claim
+  pub is_text : text ≡ rows_text (on_time_rows claim)
 
 abbrev pub IsSolved : Solving → ℕ × List Command → List ℕ → Type 0
 IsSolved solving.Least list text = IsLeastText list text
@@ -93,6 +95,17 @@ abbrev pub verdict_in : Form → Claim → Option (ℤ × Window) → List ℕ
 verdict_in f claim None = no_commands_in f
 verdict_in f claim (Some b) = bound_in f b.0 (load_of claim.commands b.1) (claim.depth * rounds_between b.1.from (pos b.1.due +ℤ b.0))
 
+-- how crowded the window of a certificate is, if it has one
+abbrev pub IsCrowdingOf : Claim → Option (ℤ × Window) → Option Crowding → Type 0
+IsCrowdingOf claim None None = ⊤
+IsCrowdingOf claim None (Some c) = ⊥
+IsCrowdingOf claim (Some b) None = ⊥
+IsCrowdingOf claim (Some b) (Some c) = IsCrowding claim.commands (fixed claim.depth) b.0 b.1 c
+
+-- the bound of the windows of one
+abbrev pub IsBoundOf : OnTimeClaim → Bound → Type 0
+IsBoundOf claim b = IsBound claim.commands (fixed claim.depth) claim.cover b
+
 -- the check refuses the certificate that was read, which has a bound
 abbrev pub IsRefusedBound : Claim → CheckFault → Option (ℤ × Window) → Type 0
 IsRefusedBound claim f b = (late : ℤ) × (window : Window) × (b ≡ Some (late, window))
@@ -100,25 +113,25 @@ IsRefusedBound claim f b = (late : ℤ) × (window : Window) × (b ≡ Some (lat
 
 -- the line on such a certificate: how many commands are met and how many there are, how many windows, what these carry, and how many
 -- commands that can be met lie in none
-abbrev pub met_line : ℕ → ℕ → ℕ → ℕ → ℕ → List ℕ
-met_line met count windows carried rest =
+abbrev pub on_time_line : ℕ → ℕ → ℕ → ℕ → ℕ → List ℕ
+on_time_line met count windows carried rest =
     codes "ok met " ++ (decimal met ++ (codes " of " ++ (decimal count ++ (codes " windows " ++ (decimal windows ++ (codes " carry " ++ (decimal carried ++ (codes " and " ++ (decimal rest ++ (codes " outside" ++ 10 ∷ []))))))))))
 
-abbrev pub met_in : Form → ℕ → ℕ → ℕ → ℕ → ℕ → List ℕ
-met_in form.Lines met count windows carried rest = met_line met count windows carried rest
-met_in form.Json met count windows carried rest = met_json met count windows carried rest
+abbrev pub on_time_in : Form → ℕ → ℕ → ℕ → ℕ → ℕ → List ℕ
+on_time_in form.Lines met count windows carried rest = on_time_line met count windows carried rest
+on_time_in form.Json met count windows carried rest = on_time_json met count windows carried rest
 
-abbrev pub met_verdict_in : Form → MetClaim → List ℕ
-met_verdict_in f claim = met_in f claim.met (length claim.commands) (length claim.cover) (carried_by (fixed claim.depth) claim.cover) (outside_of claim.commands claim.cover)
+abbrev pub on_time_verdict_in : Form → OnTimeClaim → List ℕ
+on_time_verdict_in f claim = on_time_in f claim.met (length claim.commands) (length claim.cover) (carried_by (fixed claim.depth) claim.cover) (outside_of claim.commands claim.cover)
 
 -- the check refuses one of what is met
-abbrev pub IsRefusedMet : MetClaim → MetFault → Type 0
-IsRefusedMet claim f = IsMetAnswer claim.commands (fixed claim.depth) claim.rounds claim.met claim.cover (Err f)
+abbrev pub IsRefusedOnTime : OnTimeClaim → OnTimeFault → Type 0
+IsRefusedOnTime claim f = IsOnTimeAnswer claim.commands (fixed claim.depth) claim.rounds claim.met claim.cover (Err f)
 
 -- what `check` writes in a form, of a certificate of either kind, which is proved
 abbrev pub IsVerdict : Form → ProofClaim → List ℕ → Type 0
 IsVerdict f (OfLateness claim) text = IsProved claim × (text ≡ verdict_in f claim claim.bound)
-IsVerdict f (OfMet claim) text = IsMetProved claim × (text ≡ met_verdict_in f claim)
+IsVerdict f (OfOnTime claim) text = IsOnTimeProved claim × (text ≡ on_time_verdict_in f claim)
 
 -- why a certificate is not proved
 abbrev pub IsUnproved : Claim → Failure → Type 0
@@ -126,11 +139,11 @@ IsUnproved claim (failure.Check f) = IsRefusedBound claim f claim.bound
 IsUnproved claim failure.Memory = ⊤
 IsUnproved claim f = ⊥
 
-abbrev pub IsUnmet : MetClaim → Failure → Type 0
-IsUnmet claim (failure.Met f) = IsRefusedMet claim f
+abbrev pub IsUnmet : OnTimeClaim → Failure → Type 0
+IsUnmet claim (failure.OnTime f) = IsRefusedOnTime claim f
 IsUnmet claim failure.Memory = ⊤
 IsUnmet claim f = ⊥
 
 abbrev pub IsBad : ProofClaim → Failure → Type 0
 IsBad (OfLateness claim) f = IsUnproved claim f
-IsBad (OfMet claim) f = IsUnmet claim f
+IsBad (OfOnTime claim) f = IsUnmet claim f

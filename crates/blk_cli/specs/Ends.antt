@@ -1,12 +1,14 @@
 -- How a run of the program ends: its status, what stands on standard output, and what is said beside it or of why there is nothing.
-use Rattle.std.specs.Prelude.{◌≡◌, ◌⊎◌, ℕ, Bool, true, false, if◌then◌else◌, List, Option, None, Some, string_bytes}
-use Rattle.drafts.specs.Outputs.{Stream, IsWritten, IsCut}
-use Rattle.blk_lists.specs.Sources.{Row}
+use Rattle.std.specs.Prelude.{◌≡◌, ◌⊎◌, ℕ, Bool, true, false, if◌then◌else◌, List, Option, None, Some, String, map, string_bytes}
+use Rattle.drafts.specs.declared.output.Output.{Output}
+use Rattle.drafts.specs.Outputs.{Stream, IsWritten, IsCut, stream_of}
+use Rattle.blk_lists.specs.Sources.{Row, Source}
 use Rattle.blk_words.specs.declared.words.Job.{Job}
 use Rattle.blk_words.specs.Asked.{Asks, AreFaulty, NameNone}
 use Rattle.blk_cli.specs.declared.Ended.{Ended}
 use Rattle.blk_cli.specs.declared.NoText.{NoText}
 use Rattle.blk_cli.specs.declared.NoText.TheVariants as none
+use Rattle.blk_cli.specs.declared.failure.Failure.{Failure}
 use Rattle.blk_cli.specs.declared.failure.Failure.TheVariants as failure
 use Rattle.blk_cli.specs.Lines.{line_of, status_of, write_fault, excluded}
 use Rattle.blk_cli.specs.Said.{Said}
@@ -23,18 +25,18 @@ AskForTexts words = (j : Job) → Asks words j → AnswersText j
 -- or there is none: the job that they ask for fails, memory ran out before they were read, or they ask for nothing
 abbrev pub IsWithout : List (List ℕ) → Option (List Row) → Bool → NoText → Type 0
 IsWithout words input failed (none.Failure f) = ((j : Job) × Asks words j × Fails words j input failed f) ⊎ (f ≡ failure.Memory)
-IsWithout words input failed (none.Line text) = AreFaulty words
+IsWithout words input failed (none.Usage text) = AreFaulty words
 IsWithout words input failed none.Excluded = NameNone words
 
 -- the status and the line then
 abbrev pub status_without : NoText → ℕ
 status_without (none.Failure f) = status_of f
-status_without (none.Line text) = 2
+status_without (none.Usage text) = 2
 status_without none.Excluded = 2
 
 abbrev pub line_without : NoText → List ℕ
 line_without (none.Failure f) = line_of f
-line_without (none.Line text) = string_bytes text
+line_without (none.Usage text) = string_bytes text
 line_without none.Excluded = excluded
 
 -- a line was said whole; or its writer failed, and took a first part of it and nothing else
@@ -45,6 +47,13 @@ Says line old new false = IsCut line old new
 -- a run ended with this status and said this line
 abbrev pub EndsSaying : ℕ → List ℕ → Stream → Stream → Ended → Type 0
 EndsSaying status line old new ended = (ended.status ≡ status) × Says line old new ended.told
+
+-- with those of a failure; and with those of why there is nothing
+abbrev pub EndsFailing : Failure → Stream → Stream → Ended → Type 0
+EndsFailing f old new ended = EndsSaying (status_of f) (line_of f) old new ended
+
+abbrev pub EndsWithout : NoText → Stream → Stream → Ended → Type 0
+EndsWithout n old new ended = EndsSaying (status_without n) (line_without n) old new ended
 
 -- the status of an answer, by whether what was looked at is good
 abbrev pub status_with : Bool → ℕ
@@ -61,9 +70,19 @@ EndsPut s old new faults_old faults_new ended =
     (IsWritten s.text old new × (ended.status ≡ status_with s.good) × SaysBeside s.note faults_old faults_new ended.told)
     ⊎ (IsCut s.text old new × EndsSaying 3 write_fault faults_old faults_new ended)
 
+-- the same of writers, by what they hold
+abbrev pub EndsPutOn : {W F : Type 0} → (W → Option (List ℕ)) → (F → Option (List ℕ)) → Said → Output W → Output W → Output F → Output F → Ended → Type 0
+EndsPutOn held said s old new faults_old faults_new ended =
+    EndsPut s (stream_of held old) (stream_of held new) (stream_of said faults_old) (stream_of said faults_new) ended
+
 -- how a run of the program ended, by the records and the bytes of its input and whether their reader has failed, and by what the writers
 -- of its output and of its faults hold before and after: it wrote the text of its answer, or nothing at all
 abbrev pub RunEnds : List (List ℕ) → Option (List Row) → Option (List ℕ) → Bool → Stream → Stream → Stream → Stream → Ended → Type 0
 RunEnds words input bytes failed old new faults_old faults_new ended =
     ((s : Said) × Answers words input bytes s × EndsPut s old new faults_old faults_new ended)
-    ⊎ ((n : NoText) × IsWithout words input failed n × (new ≡ old) × EndsSaying (status_without n) (line_without n) faults_old faults_new ended)
+    ⊎ ((n : NoText) × IsWithout words input failed n × (new ≡ old) × EndsWithout n faults_old faults_new ended)
+
+-- the same of words, of records that are read, and of writers, by what they hold
+abbrev pub RunEndsOn : {W F A : Type 0} → (W → Option (List ℕ)) → (F → Option (List ℕ)) → List (String A) → Source → Source → Output W → Output W → Output F → Output F → Ended → Type 0
+RunEndsOn held said words unread read old new faults_old faults_new ended =
+    RunEnds (map string_bytes words) unread.left unread.bytes read.failed (stream_of held old) (stream_of held new) (stream_of said faults_old) (stream_of said faults_new) ended

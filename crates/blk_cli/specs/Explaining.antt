@@ -1,4 +1,4 @@
--- What is told of a text of any form, and why nothing is.
+-- What is said about a text of any form, and why nothing is.
 use Rattle.std.specs.Prelude.{◌≡◌, ⊤, ℕ, Bool, List, Option, None, IfSome}
 use Rattle.blk_explain.specs.Explained.{IsExplained}
 use Rattle.blk_lists.specs.Reads.{IsOutside}

@@ -22,7 +22,7 @@ use Rattle.blk_cli.specs.Certificates.{SpellsList, IsSolved, IsUnsolved, IsVerdi
 use Rattle.blk_cli.specs.Judging.{IsJudgedText, IsUnjudged}
 use Rattle.blk_cli.specs.Importing.{IsImported, IsUnimported}
 use Rattle.blk_cli.specs.Explaining.{IsTextExplained, IsUnexplained}
-use Rattle.blk_cli.specs.Tuning.{IsTrial, IsUntried}
+use Rattle.blk_cli.specs.Tuning.{IsTrial, FailsToTry}
 use Rattle.blk_cli.specs.Loading.{IsLoadOf, IsUnloaded}
 
 -- a job that starts no threads
@@ -55,7 +55,7 @@ GivesText (job.Spread o) input text = Of SpellsTrace (IsTold (telling.Spread o))
 GivesText (job.Report o) input text = Of SpellsTrace (IsTold (telling.Report o)) input text
 GivesText job.Picture input text = Of SpellsTrace (IsTold telling.Picture) input text
 GivesText job.Oracle input text = Of SpellsList (IsSolved solving.Least) input text
-GivesText job.Met input text = Of SpellsList (IsSolved solving.Most) input text
+GivesText job.OnTime input text = Of SpellsList (IsSolved solving.Most) input text
 GivesText (job.Check o) input text = Of SpellsProof (IsVerdict o) input text
 GivesText (job.Import i) input text = ⊥
 GivesText (job.Refuse r) input text = ⊥
@@ -85,7 +85,7 @@ HasNoText (job.Spread o) input failed f = FailsOver SpellsTrace TraceFault (IsUn
 HasNoText (job.Report o) input failed f = FailsOver SpellsTrace TraceFault (IsUntold (telling.Report o)) input failed f
 HasNoText job.Picture input failed f = FailsOver SpellsTrace TraceFault (IsUntold telling.Picture) input failed f
 HasNoText job.Oracle input failed f = FailsOver SpellsList CommandsFault IsUnsolved input failed f
-HasNoText job.Met input failed f = FailsOver SpellsList CommandsFault IsUnsolved input failed f
+HasNoText job.OnTime input failed f = FailsOver SpellsList CommandsFault IsUnsolved input failed f
 HasNoText (job.Check o) input failed f = FailsOver SpellsProof ProofFault IsBad input failed f
 HasNoText (job.Import i) input failed f = FailsOver SpellsCapture CaptureTextFault (IsUnimported i) input failed f
 HasNoText (job.Refuse r) input failed f = f ≡ failure.Words r
@@ -96,5 +96,5 @@ HasNoText (job.Load s l w) input failed f = IsUnloaded s l f
 
 -- why it gives none to the words that ask for it
 abbrev pub Fails : List (List ℕ) → Job → Option (List Row) → Bool → Failure → Type 0
-Fails words (job.Tune t) input failed f = FailsOver SpellsScript ScriptFault (IsUntried words) input failed f
+Fails words (job.Tune t) input failed f = FailsToTry words input failed f
 Fails words j input failed f = HasNoText j input failed f

@@ -1,6 +1,6 @@
--- What is told of a schedule, and why nothing is.
+-- What is said about a schedule, and why nothing is.
 use Rattle.std.specs.Prelude.{◌≡◌, ⊤, ℕ, Bool, true, false, List, Option}
-use Rattle.edd_check.specs.Capacity.{fixed}
+use Rattle.edd_commands.specs.Capacity.{fixed}
 use Rattle.edd_figures.specs.declared.lateness.Figures.{Figures}
 use Rattle.edd_figures.specs.declared.missing.Counts.{Counts}
 use Rattle.edd_figures.specs.declared.missing.Crowd.{Crowd}
@@ -12,7 +12,7 @@ use Rattle.blk_lists.specs.Schedule.{Ran}
 use Rattle.blk_cli.specs.declared.failure.Failure.{Failure}
 use Rattle.blk_cli.specs.declared.failure.Failure.TheVariants as failure
 
--- what is told of a schedule as a whole, under its depth in every round
+-- what is said about a schedule as a whole, under its depth in every round
 pub record IsWholeText (s : Ran) (text : List ℕ) : Type 0 where
   pub counts : Counts
   pub windows : List Crowd

@@ -1,13 +1,13 @@
 -- The line and the status of each failure.
-use Rattle.std.specs.Prelude.{◌++◌, ◌∷◌, ℕ, Bool, true, false, if◌then◌else◌, List, [], codes, decimal}
+use Rattle.std.specs.Prelude.{◌++◌, ◌∷◌, ℕ, ℤ, Bool, true, false, if◌then◌else◌, List, [], codes, decimal}
 use Rattle.std.specs.Fmt.{signed_decimal}
 use Rattle.edd_check.specs.declared.CheckFault.{CheckFault}
 use Rattle.edd_check.specs.declared.CheckFault.TheVariants as check
-use Rattle.edd_check.specs.declared.met.MetFault.{MetFault}
-use Rattle.edd_check.specs.declared.met.MetFault.TheVariants as met
+use Rattle.edd_check.specs.declared.on_time.OnTimeFault.{OnTimeFault}
+use Rattle.edd_check.specs.declared.on_time.OnTimeFault.TheVariants as met
 use Rattle.edd_oracle.specs.declared.OracleFault.{OracleFault}
 use Rattle.edd_oracle.specs.declared.OracleFault.TheVariants as oracle
-use Rattle.edd_check.specs.Names.{check_fault_name, met_fault_name}
+use Rattle.edd_check.specs.Names.{check_fault_name, on_time_fault_name}
 use Rattle.edd_oracle.specs.Names.{oracle_fault_name}
 use Rattle.blk_settings.specs.Names.{load_fault_name, sched_fault_name}
 use Rattle.blk_lists.specs.Names.{why_name}
@@ -36,6 +36,10 @@ line text = codes "blk: " ++ (text ++ 10 ∷ [])
 
 abbrev pub numbered : List ℕ → List ℕ → List ℕ
 numbered name number = codes "blk: " ++ (name ++ (codes " " ++ (number ++ 10 ∷ [])))
+
+-- a name with a number that has a sign
+abbrev pub signed_line : List ℕ → ℤ → List ℕ
+signed_line name number = numbered name (signed_decimal number)
 
 abbrev pub at_record : ℕ → List ℕ → List ℕ
 at_record at name = codes "blk: record " ++ (decimal at ++ (codes ": " ++ (name ++ 10 ∷ [])))
@@ -74,17 +78,17 @@ check_line check.Length = line (check_fault_name check.Length)
 check_line (check.BeforeRelease id) = numbered (check_fault_name (check.BeforeRelease id)) (decimal id)
 check_line check.Memory = want_of_memory
 check_line (check.OverDepth round) = numbered (check_fault_name (check.OverDepth round)) (decimal round)
-check_line (check.WrongLateness own) = numbered (check_fault_name (check.WrongLateness own)) (signed_decimal own)
+check_line (check.WrongLateness own) = signed_line (check_fault_name (check.WrongLateness own)) own
 check_line (check.NotCrowded load) = numbered (check_fault_name (check.NotCrowded load)) (decimal load)
 
-abbrev pub met_check_line : MetFault → List ℕ
-met_check_line met.Length = line (met_fault_name met.Length)
-met_check_line (met.BeforeRelease id) = numbered (met_fault_name (met.BeforeRelease id)) (decimal id)
-met_check_line met.Memory = want_of_memory
-met_check_line (met.OverDepth round) = numbered (met_fault_name (met.OverDepth round)) (decimal round)
-met_check_line (met.WrongMet own) = numbered (met_fault_name (met.WrongMet own)) (decimal own)
-met_check_line (met.Windows place) = numbered (met_fault_name (met.Windows place)) (decimal place)
-met_check_line (met.Loose bound) = numbered (met_fault_name (met.Loose bound)) (decimal bound)
+abbrev pub on_time_check_line : OnTimeFault → List ℕ
+on_time_check_line met.Length = line (on_time_fault_name met.Length)
+on_time_check_line (met.BeforeRelease id) = numbered (on_time_fault_name (met.BeforeRelease id)) (decimal id)
+on_time_check_line met.Memory = want_of_memory
+on_time_check_line (met.OverDepth round) = numbered (on_time_fault_name (met.OverDepth round)) (decimal round)
+on_time_check_line (met.WrongMet own) = numbered (on_time_fault_name (met.WrongMet own)) (decimal own)
+on_time_check_line (met.Windows place) = numbered (on_time_fault_name (met.Windows place)) (decimal place)
+on_time_check_line (met.Loose bound) = numbered (on_time_fault_name (met.Loose bound)) (decimal bound)
 
 abbrev pub sched_line : SchedFault → List ℕ
 sched_line setting.Memory = want_of_memory
@@ -130,7 +134,7 @@ line_of (failure.Sched f) = sched_line f
 line_of (failure.Step f) = step_line f.at f.why
 line_of (failure.Solve f) = oracle_line f
 line_of (failure.Check f) = check_line f
-line_of (failure.Met f) = met_check_line f
+line_of (failure.OnTime f) = on_time_check_line f
 line_of failure.NotFixed = line (codes "NotFixed")
 line_of (failure.Load f) = load_line f
 line_of (failure.Import f) = import_line f
@@ -161,9 +165,9 @@ abbrev pub is_check_outside : CheckFault → Bool
 is_check_outside check.Memory = true
 is_check_outside f = false
 
-abbrev pub is_met_outside : MetFault → Bool
-is_met_outside met.Memory = true
-is_met_outside f = false
+abbrev pub is_on_time_outside : OnTimeFault → Bool
+is_on_time_outside met.Memory = true
+is_on_time_outside f = false
 
 abbrev pub is_load_outside : LoadFault → Bool
 is_load_outside load.Memory = true
@@ -183,7 +187,7 @@ is_outside (failure.Sched f) = is_sched_outside f
 is_outside (failure.Step f) = is_step_outside f.why
 is_outside (failure.Solve f) = is_oracle_outside f
 is_outside (failure.Check f) = is_check_outside f
-is_outside (failure.Met f) = is_met_outside f
+is_outside (failure.OnTime f) = is_on_time_outside f
 is_outside failure.NotFixed = false
 is_outside (failure.Load f) = is_load_outside f
 is_outside (failure.Import f) = is_import_outside f

@@ -1,6 +1,6 @@
--- What is told of a trace.
+-- What is said about a trace.
 use Rattle.std.specs.Prelude.{◌≡◌, ⊤, ℕ, List}
-use Rattle.edd_check.specs.Capacity.{fixed}
+use Rattle.edd_commands.specs.Capacity.{fixed}
 use Rattle.blk_trace.specs.Depths.{IsFixed, capacity_of}
 use Rattle.blk_trace.specs.Meaning.{commands_of}
 use Rattle.blk_trace.specs.Traces.{Traced}
@@ -89,7 +89,7 @@ pub record IsMissesText (f : Form) (trace : Traced) (text : List ℕ) : Type 0 w
   pub is_tallied : IsTallied trace.setup trace.events tally windows
   pub is_text : text ≡ misses_in f tally windows
 
--- what is told of a trace
+-- what is said about a trace
 abbrev pub IsTold : Telling → Traced → List ℕ → Type 0
 IsTold telling.Whole trace text = IsTraceText trace text
 IsTold telling.Commands trace text = IsCommandsText trace text
@@ -105,7 +105,7 @@ IsUnlisted trace failure.NotFixed = IsFixed trace.events → ⊥
 IsUnlisted trace failure.Memory = ⊤
 IsUnlisted trace f = ⊥
 
--- why nothing is told of it
+-- why nothing is said about it
 abbrev pub IsUntold : Telling → Traced → Failure → Type 0
 IsUntold telling.Commands trace f = IsUnlisted trace f
 IsUntold t trace f = IsMemory trace f

@@ -1,6 +1,7 @@
 -- What is written of a script under each setting of a grid, and why nothing is.
-use Rattle.std.specs.Prelude.{◌≡◌, ◌⊎◌, ℕ, List}
-use Rattle.blk_text.specs.Script.{Scripted}
+use Rattle.std.specs.Prelude.{◌≡◌, ◌⊎◌, ℕ, Bool, List, Option}
+use Rattle.blk_lists.specs.Sources.{Row as Record}
+use Rattle.blk_text.specs.Script.{Scripted, SpellsScript, ScriptFault}
 use Rattle.blk_grid.specs.Rows.{Gridded, grid_rows}
 use Rattle.blk_grid.specs.Wanted.{Wanted}
 use Rattle.blk_tune.specs.declared.row.Row.{Row}
@@ -13,6 +14,7 @@ use Rattle.blk_words.specs.declared.words.Tuning.{Tuning}
 use Rattle.blk_cli.specs.declared.failure.Failure.{Failure}
 use Rattle.blk_cli.specs.declared.failure.Failure.TheVariants as failure
 use Rattle.blk_cli.specs.Comparing.{IsUncompared}
+use Rattle.blk_cli.specs.Inputs.{FailsOver}
 
 -- what is asked of a trial with this grid
 abbrev pub wanted_by : Tuning → Gridded → Wanted
@@ -37,3 +39,7 @@ pub record IsTrial (words : List (List ℕ)) (t : Tuning) (script : Scripted) (t
 -- why it writes nothing: the script isn't run under each setting of this grid, or memory ran out, which may be before there is a grid
 abbrev pub IsUntried : List (List ℕ) → Scripted → Failure → Type 0
 IsUntried words script f = ((grid : Gridded) × AsksGrid words grid × IsUncompared (grid_rows grid) script f) ⊎ (f ≡ failure.Memory)
+
+-- why there is no trial of a text
+abbrev pub FailsToTry : List (List ℕ) → Option (List Record) → Bool → Failure → Type 0
+FailsToTry words input failed f = FailsOver SpellsScript ScriptFault (IsUntried words) input failed f

@@ -1,53 +1,39 @@
 //! The job over a certificate of either form: its check, and the line on what it proves.
 
-ghost use Rattle.std.specs.Prelude.{ℤ, pos, negsuc, ◌+ℤ◌, ◌≤ℤ◌, ◌≡◌, ◌*◌, ◌≤◌, OnOk, IfOk, IfErr};
-ghost use Rattle.edd_check.specs.Capacity.{fixed};
-ghost use Rattle.edd_check.specs.Met.{IsCover};
-ghost use Rattle.edd_check.specs.Window.{rounds_between, WindowInRange};
-ghost use Rattle.blk_lists.specs.Certificate.{IsClaim, IsLateness, claimed};
-ghost use Rattle.blk_lists.specs.Met.{met_claimed, IsMetClaim};
-ghost use Rattle.blk_lists.specs.Proof.{SpellsProof, ProofFault, proof_claimed, IsProofClaim};
+ghost use Rattle.std.specs.Prelude.{◌≡◌, OnOk, IfOk, IfErr};
+ghost use Rattle.edd_commands.specs.Capacity.{fixed};
+ghost use Rattle.blk_lists.specs.Certificate.{IsClaim, claimed};
+ghost use Rattle.blk_lists.specs.OnTime.{on_time_claimed, IsOnTimeClaim};
+ghost use Rattle.blk_lists.specs.Proof.{OfLateness, OfOnTime, SpellsProof, ProofFault, proof_claimed, IsProofClaim};
 ghost use Rattle.blk_cli.specs.Inputs.{Of, FailsOver};
-ghost use Rattle.blk_cli.specs.Certificates.{IsProved, IsMetProved, IsUnproved, IsUnmet, IsVerdict, IsBad, bound_in, no_commands_in, verdict_in, met_in, met_verdict_in};
+ghost use Rattle.blk_cli.specs.Certificates.{IsProved, IsOnTimeProved, IsCrowdingOf, IsBoundOf, IsUnproved, IsUnmet, IsVerdict, IsBad, bound_in, no_commands_in, verdict_in, on_time_in, on_time_verdict_in};
 
 use crate::failure::Failure;
-use blk_json::{bound_json, met_json, no_commands_json};
-use blk_lists::{Certificate, MetCertificate, Proof, Records, read_proof};
+use blk_json::{bound_json, no_commands_json, on_time_json};
+use blk_lists::{Certificate, OnTimeCertificate, Proof, Records, read_proof};
 use blk_words::Form;
-use edd_check::{Capacity, MAX_DEPTH, Window, carried_by, check, check_met, load, outside};
+use edd_check::{Bound, Crowding, check, check_on_time};
+use edd_commands::Capacity;
 use std::alloc::{AllocError, Global};
 use std::io::Read;
 
-/// How many commands the rounds of a window carry, if each is to be less late than `lateness`.
-fn carried(depth: u64, window: Window, lateness: i64) -> u64
-    requires depth { depth ≤ MAX_DEPTH }
-    requires window { WindowInRange window }
-    requires lateness { IsLateness lateness }
-    ensures { result ≡ depth * rounds_between window.from (pos window.due +ℤ lateness) }
-{
-    let end = window.due as i64 + lateness;
-    if end <= window.from as i64 {
-        return 0;
-    }
-    depth * (end - window.from as i64) as u64
-}
-
-/// Whether the certificate has no commands, or proves its lateness least.
-fn verify(alloc: Global, certificate: &Certificate) -> Result<(), Failure>
+/// How crowded the window of a certificate is that proves its lateness least; nothing of one that has no commands.
+fn verify(alloc: Global, certificate: &Certificate) -> Result<Option<Crowding>, Failure>
     requires { IsClaim (claimed certificate.now) }
     ensures proved { OnOk result (IsProved (claimed certificate.now)) }
+    ensures crowding { IfOk result (IsCrowdingOf (claimed certificate.now) (claimed certificate.now).bound) }
     ensures unproved { IfErr result (IsUnproved (claimed certificate.now)) }
 {
     let commands = certificate.commands.as_slice();
     let rounds = certificate.rounds.as_slice();
     match certificate.bound {
-        None => Ok(()),
+        None => Ok(None),
         Some((lateness, window)) => {
             let Ok(capacity) = Capacity::fixed(alloc, certificate.depth) else {
                 return Err(Failure::Memory);
             };
             match check(alloc, commands, &capacity, lateness, rounds, window) {
-                Ok(()) => Ok(()),
+                Ok(crowding) => Ok(Some(crowding)),
                 Err(fault) => Err(Failure::Check(fault)),
             }
         }
@@ -67,7 +53,7 @@ fn no_commands_text(alloc: Global, form: Form) -> Result<Vec<u8>, AllocError>
     }
 }
 
-/// What is written of one with a bound, whose window holds `asked` commands and carries so many.
+/// What is written of one with a bound, whose window holds `asked` commands and carries `carries`.
 fn bound_text(
     alloc: Global,
     form: Form,
@@ -88,17 +74,22 @@ fn bound_text(
     }
 }
 
-/// What is written of a certificate that was verified.
-fn verdict(alloc: Global, form: Form, certificate: &Certificate) -> Result<Vec<u8>, AllocError>
-    requires { IsClaim (claimed certificate.now) }
+/// What is written of a certificate that was verified, whose window is this crowded.
+fn verdict(
+    alloc: Global,
+    form: Form,
+    certificate: &Certificate,
+    crowding: Option<Crowding>,
+) -> Result<Vec<u8>, AllocError>
+    requires { IsCrowdingOf (claimed certificate.now) (claimed certificate.now).bound crowding }
     ensures { IfOk result (λ text. text.items ≡ verdict_in form (claimed certificate.now) (claimed certificate.now).bound) }
 {
-    let Some((lateness, window)) = certificate.bound else {
-        return no_commands_text(alloc, form);
-    };
-    let asked = load(certificate.commands.as_slice(), window);
-    let carries = carried(certificate.depth, window, lateness);
-    bound_text(alloc, form, lateness, asked, carries)
+    match (certificate.bound, crowding) {
+        (Some((lateness, _)), Some(crowding)) => {
+            bound_text(alloc, form, lateness, crowding.load, crowding.carries)
+        }
+        _ => no_commands_text(alloc, form),
+    }
 }
 
 /// What is written of a certificate of a least lateness, which proves it.
@@ -108,41 +99,42 @@ fn lateness_checked(
     certificate: &Certificate,
 ) -> Result<Vec<u8>, Failure>
     requires { IsClaim (claimed certificate.now) }
-    ensures good { IfOk result (λ text. IsProved (claimed certificate.now) × (text.items ≡ verdict_in form (claimed certificate.now) (claimed certificate.now).bound)) }
+    ensures good { IfOk result (λ text. IsVerdict form (OfLateness (claimed certificate.now)) text.items) }
     ensures unproved { IfErr result (IsUnproved (claimed certificate.now)) }
 {
-    match verify(alloc, certificate) {
-        Ok(()) => {}
+    let crowding = match verify(alloc, certificate) {
+        Ok(crowding) => crowding,
         Err(failure) => return Err(failure),
-    }
-    match verdict(alloc, form, certificate) {
+    };
+    match verdict(alloc, form, certificate, crowding) {
         Ok(text) => Ok(text),
         Err(_) => Err(Failure::Memory),
     }
 }
 
-/// Whether the certificate proves that no schedule meets more commands, under its depth in every round.
-fn verify_met(
+/// The bound of a certificate's windows, which prove that no schedule has more commands on time under its depth in every round.
+fn verify_on_time(
     alloc: Global,
-    certificate: &MetCertificate,
+    certificate: &OnTimeCertificate,
     capacity: &Capacity<Global>,
-) -> Result<(), Failure>
-    requires claim { IsMetClaim (met_claimed certificate.now) }
+) -> Result<Bound, Failure>
+    requires claim { IsOnTimeClaim (on_time_claimed certificate.now) }
     requires capacity { capacity.now ≡ fixed certificate.now.depth }
-    ensures proved { OnOk result (IsMetProved (met_claimed certificate.now)) }
-    ensures unmet { IfErr result (IsUnmet (met_claimed certificate.now)) }
+    ensures proved { OnOk result (IsOnTimeProved (on_time_claimed certificate.now)) }
+    ensures bound { IfOk result (IsBoundOf (on_time_claimed certificate.now)) }
+    ensures unmet { IfErr result (IsUnmet (on_time_claimed certificate.now)) }
 {
     let commands = certificate.commands.as_slice();
     let rounds = certificate.rounds.as_slice();
     let cover = certificate.cover.as_slice();
-    match check_met(alloc, commands, capacity, rounds, certificate.met, cover) {
-        Ok(()) => Ok(()),
-        Err(fault) => Err(Failure::Met(fault)),
+    match check_on_time(alloc, commands, capacity, rounds, certificate.met, cover) {
+        Ok(bound) => Ok(bound),
+        Err(fault) => Err(Failure::OnTime(fault)),
     }
 }
 
-/// What is written of one of `count` commands of which `met` are met, whose windows carry so many, with a rest outside of them.
-fn met_text(
+/// What is written of one of `count` commands of which `met` are met, whose `windows` carry `carries`, with `rest` outside of them.
+fn on_time_text(
     alloc: Global,
     form: Form,
     met: u64,
@@ -151,7 +143,7 @@ fn met_text(
     carries: u64,
     rest: u64,
 ) -> Result<Vec<u8>, AllocError>
-    ensures { IfOk result (λ text. text.items ≡ met_in form met count windows carries rest) }
+    ensures { IfOk result (λ text. text.items ≡ on_time_in form met count windows carries rest) }
 {
     match form {
         Form::Lines => {
@@ -162,47 +154,52 @@ fn met_text(
                 Err(refused) => Err(refused),
             }
         }
-        Form::Json => met_json(alloc, met, count, windows, carries, rest),
+        Form::Json => on_time_json(alloc, met, count, windows, carries, rest),
     }
 }
 
-/// What is written of a certificate that was verified.
-fn met_verdict(
+/// What is written of a certificate that was verified, whose windows have this bound.
+fn on_time_verdict(
     alloc: Global,
     form: Form,
-    certificate: &MetCertificate,
-    capacity: &Capacity<Global>,
+    certificate: &OnTimeCertificate,
+    bound: Bound,
 ) -> Result<Vec<u8>, AllocError>
-    requires claim { IsMetClaim (met_claimed certificate.now) }
-    requires disjoint { IsCover certificate.now.cover.items }
-    requires capacity { capacity.now ≡ fixed certificate.now.depth }
-    ensures { IfOk result (λ text. text.items ≡ met_verdict_in form (met_claimed certificate.now)) }
+    requires { IsBoundOf (on_time_claimed certificate.now) bound }
+    ensures { IfOk result (λ text. text.items ≡ on_time_verdict_in form (on_time_claimed certificate.now)) }
 {
     let met = certificate.met;
     let count = certificate.commands.len() as u64;
     let windows = certificate.cover.len() as u64;
-    let carries = carried_by(capacity, certificate.cover.as_slice());
-    let rest = outside(
-        certificate.commands.as_slice(),
-        certificate.cover.as_slice(),
-    );
-    met_text(alloc, form, met, count, windows, carries, rest)
+    on_time_text(
+        alloc,
+        form,
+        met,
+        count,
+        windows,
+        bound.carries,
+        bound.outside,
+    )
 }
 
 /// What is written of a certificate of what is met, which proves it.
-fn met_checked(alloc: Global, form: Form, certificate: &MetCertificate) -> Result<Vec<u8>, Failure>
-    requires { IsMetClaim (met_claimed certificate.now) }
-    ensures good { IfOk result (λ text. IsMetProved (met_claimed certificate.now) × (text.items ≡ met_verdict_in form (met_claimed certificate.now))) }
-    ensures unmet { IfErr result (IsUnmet (met_claimed certificate.now)) }
+fn on_time_checked(
+    alloc: Global,
+    form: Form,
+    certificate: &OnTimeCertificate,
+) -> Result<Vec<u8>, Failure>
+    requires { IsOnTimeClaim (on_time_claimed certificate.now) }
+    ensures good { IfOk result (λ text. IsVerdict form (OfOnTime (on_time_claimed certificate.now)) text.items) }
+    ensures unmet { IfErr result (IsUnmet (on_time_claimed certificate.now)) }
 {
     let Ok(capacity) = Capacity::fixed(alloc, certificate.depth) else {
         return Err(Failure::Memory);
     };
-    match verify_met(alloc, certificate, &capacity) {
-        Ok(()) => {}
+    let bound = match verify_on_time(alloc, certificate, &capacity) {
+        Ok(bound) => bound,
         Err(failure) => return Err(failure),
-    }
-    match met_verdict(alloc, form, certificate, &capacity) {
+    };
+    match on_time_verdict(alloc, form, certificate, bound) {
         Ok(text) => Ok(text),
         Err(_) => Err(Failure::Memory),
     }
@@ -216,7 +213,7 @@ fn checked(alloc: Global, form: Form, proof: &Proof) -> Result<Vec<u8>, Failure>
 {
     match proof {
         Proof::Lateness(certificate) => lateness_checked(alloc, form, certificate),
-        Proof::Met(certificate) => met_checked(alloc, form, certificate),
+        Proof::OnTime(certificate) => on_time_checked(alloc, form, certificate),
     }
 }
 

@@ -33,7 +33,7 @@ fn report_under(alloc: Global, sched: Sched, script: &Script) -> Result<Report, 
     }
 }
 
-/// The reports of a script under each of these schedulers, which run it in turn: where a step is refused, the later ones don't.
+/// The reports of a script under each of these schedulers, which run it in turn: once a step is refused, the later ones don't run it.
 fn reports_of(alloc: Global, scheds: &[Sched], script: &Script) -> Result<Vec<Report>, RunFault>
     requires script { IsScript (scripted script.now) }
     requires made { All IsMade scheds.now }

@@ -1,6 +1,6 @@
 //! The job over a text of any form: what it is, or what is wrong with it.
 
-ghost use Rattle.std.specs.Prelude.{◌≡◌, IfOk, IfErr};
+ghost use Rattle.std.specs.Prelude.{IfOk, IfErr};
 ghost use Rattle.blk_cli.specs.Said.{said_of};
 ghost use Rattle.blk_cli.specs.Explaining.{IsTextExplained, IsUnexplained};
 

@@ -1,10 +1,9 @@
 //! Why the program ends without its output, as a line and an exit status.
 
 ghost use Rattle.std.specs.Prelude.{◌≡◌, ◌≤◌, decimal};
-ghost use Rattle.std.specs.Fmt.{signed_decimal};
 ghost use Rattle.drafts.specs.Outputs.{Writes, stream_of};
-ghost use Rattle.blk_cli.specs.Lines.{line, want_of_memory, numbered, at_record, text_line, step_line, oracle_line, check_line, met_check_line, refusal_text, line_of, status_of};
-ghost use Rattle.blk_cli.specs.Ends.{EndsSaying};
+ghost use Rattle.blk_cli.specs.Lines.{line, want_of_memory, numbered, signed_line, at_record, text_line, step_line, oracle_line, check_line, on_time_check_line, refusal_text, line_of, status_of};
+ghost use Rattle.blk_cli.specs.Ends.{EndsFailing};
 ghost use Rattle.blk_cli.specs.Scripts.{failure_of_run};
 
 use crate::{COMMAND_LINE, Ended, FAILED, REFUSED};
@@ -17,7 +16,7 @@ use blk_sim::{SimFault, SimWhy};
 use blk_words::Refusal;
 use drafts::pieces::put_number;
 use drafts::{Output, WriteFault};
-use edd_check::{CheckFault, MetFault};
+use edd_check::{CheckFault, OnTimeFault};
 use edd_oracle::OracleFault;
 use std::io::Write;
 
@@ -44,7 +43,7 @@ pub enum Failure {
     /// The check refuses the certificate.
     Check(CheckFault),
     /// The check refuses the certificate of what is met.
-    Met(MetFault),
+    OnTime(OnTimeFault),
     /// The trace sets a depth, so that no command list has its commands.
     NotFixed,
     /// The load fails.
@@ -62,7 +61,7 @@ pub enum Failure {
 }
 
 impl Failure {
-    /// That of a script that is not run.
+    /// The failure of a script that is not run.
     pub fn of_run(fault: RunFault) -> Failure
         ensures { result ≡ failure_of_run fault }
     {
@@ -73,7 +72,7 @@ impl Failure {
         }
     }
 
-    /// The exit status: 1 for refused input, 2 for words that can't be done, 3 for want of memory, a read fault or a write fault.
+    /// The exit status: 1 for refused input, 2 for words that can't be done, 3 when out of memory, for a read fault or a write fault.
     pub fn status(&self) -> u8
         ensures value { result ≡ status_of self.now }
         ensures range { (1 ≤ result) × (result ≤ 3) }
@@ -92,8 +91,8 @@ impl Failure {
             Failure::Solve(OracleFault::Memory) => FAILED,
             Failure::Solve(_) => REFUSED,
             Failure::Check(CheckFault::Memory) => FAILED,
-            Failure::Met(MetFault::Memory) => FAILED,
-            Failure::Check(_) | Failure::Met(_) | Failure::NotFixed => REFUSED,
+            Failure::OnTime(OnTimeFault::Memory) => FAILED,
+            Failure::Check(_) | Failure::OnTime(_) | Failure::NotFixed => REFUSED,
             Failure::Load(LoadFault::Memory) => FAILED,
             Failure::Load(_) => REFUSED,
             Failure::Import(ImportFault::Memory) => FAILED,
@@ -118,7 +117,7 @@ impl Failure {
             Failure::Step(fault) => tell_step(faults, fault.at, fault.why),
             Failure::Solve(fault) => tell_solve(faults, *fault),
             Failure::Check(fault) => tell_check(faults, *fault),
-            Failure::Met(fault) => tell_met(faults, *fault),
+            Failure::OnTime(fault) => tell_on_time(faults, *fault),
             Failure::NotFixed => tell_name(faults, "NotFixed"),
             Failure::Load(fault) => match fault {
                 LoadFault::Memory => tell_memory(faults),
@@ -138,9 +137,9 @@ impl Failure {
         }
     }
 
-    /// Writes the failure's line and ends with its status, which stays where the line can't be written.
+    /// Writes the failure's line and ends with its status, even where the line can't be written.
     pub fn report<F: Write>(&self, faults: &mut Output<F>) -> Ended
-        ensures ends { EndsSaying (status_of self.now) (line_of self.now) (stream_of F.contents faults.old) (stream_of F.contents faults.new) result }
+        ensures ends { EndsFailing self.now (stream_of F.contents faults.old) (stream_of F.contents faults.new) result }
         ensures range { (1 ≤ result.status) × (result.status ≤ 3) }
     {
         let status = self.status();
@@ -225,7 +224,7 @@ fn tell_number<F: Write>(faults: &mut Output<F>, name: &str, number: u64) -> Res
 
 /// Writes the line of a name with a number that has a sign.
 fn tell_signed<F: Write>(faults: &mut Output<F>, name: &str, number: i64) -> Result<(), WriteFault>
-    ensures { Writes (numbered name.now (signed_decimal number)) (stream_of F.contents faults.old) (stream_of F.contents faults.new) result }
+    ensures { Writes (signed_line name.now number) (stream_of F.contents faults.old) (stream_of F.contents faults.new) result }
 {
     if number >= 0 {
         return tell_number(faults, name, number as u64);
@@ -286,16 +285,16 @@ fn tell_check<F: Write>(faults: &mut Output<F>, fault: CheckFault) -> Result<(),
 }
 
 /// Writes the line on a certificate of what is met.
-fn tell_met<F: Write>(faults: &mut Output<F>, fault: MetFault) -> Result<(), WriteFault>
-    ensures { Writes (met_check_line fault) (stream_of F.contents faults.old) (stream_of F.contents faults.new) result }
+fn tell_on_time<F: Write>(faults: &mut Output<F>, fault: OnTimeFault) -> Result<(), WriteFault>
+    ensures { Writes (on_time_check_line fault) (stream_of F.contents faults.old) (stream_of F.contents faults.new) result }
 {
     match fault {
-        MetFault::Length => tell_name(faults, fault.name()),
-        MetFault::BeforeRelease(of)
-        | MetFault::OverDepth(of)
-        | MetFault::WrongMet(of)
-        | MetFault::Loose(of) => tell_number(faults, fault.name(), of),
-        MetFault::Memory => tell_memory(faults),
-        MetFault::Windows(place) => tell_number(faults, fault.name(), place as u64),
+        OnTimeFault::Length => tell_name(faults, fault.name()),
+        OnTimeFault::BeforeRelease(of)
+        | OnTimeFault::OverDepth(of)
+        | OnTimeFault::WrongMet(of)
+        | OnTimeFault::Loose(of) => tell_number(faults, fault.name(), of),
+        OnTimeFault::Memory => tell_memory(faults),
+        OnTimeFault::Windows(place) => tell_number(faults, fault.name(), place as u64),
     }
 }

@@ -17,7 +17,7 @@ use blk_words::{Import, Written};
 use std::alloc::{AllocError, Global};
 use std::io::Read;
 
-/// From when on a request counts as come in.
+/// When a request counts as having come in.
 fn entry_by(from_queue: bool) -> Entry
     ensures { result ≡ entry_by from_queue }
 {

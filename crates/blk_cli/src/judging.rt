@@ -1,7 +1,7 @@
-//! The job over a schedule: what is told of it, as a whole or of each of its late commands.
+//! The job over a schedule: what is said about it, as a whole or of each of its late commands.
 
 ghost use Rattle.std.specs.Prelude.{◌≡◌, IfOk, IfErr};
-ghost use Rattle.edd_check.specs.Capacity.{fixed};
+ghost use Rattle.edd_commands.specs.Capacity.{fixed};
 ghost use Rattle.blk_lists.specs.Schedule.{IsRan, ran_of, SpellsSchedule, ScheduleFault};
 ghost use Rattle.blk_cli.specs.Inputs.{Of, FailsOver};
 ghost use Rattle.blk_cli.specs.Judging.{IsWholeText, IsEachText, IsJudgedText, IsUnjudged};
@@ -9,11 +9,11 @@ ghost use Rattle.blk_cli.specs.Judging.{IsWholeText, IsEachText, IsJudgedText, I
 use crate::failure::Failure;
 use blk_judge::{judge, judged_lines, late_lines, late_of};
 use blk_lists::{Records, Schedule, read_schedule};
-use edd_check::Capacity;
+use edd_commands::Capacity;
 use std::alloc::Global;
 use std::io::Read;
 
-/// The text of what is told of a schedule as a whole.
+/// The text about a schedule as a whole.
 fn whole(
     alloc: Global,
     schedule: &Schedule,
@@ -75,7 +75,7 @@ fn judged(alloc: Global, each: bool, schedule: &Schedule) -> Result<Vec<u8>, Fai
     }
 }
 
-/// Reads a schedule, and gives what is told of it, as a whole or of each of its late commands.
+/// Reads a schedule, and gives what is said about it, as a whole or of each of its late commands.
 pub fn over_schedule<R: Read + Drop>(
     alloc: Global,
     each: bool,

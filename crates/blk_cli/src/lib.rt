@@ -1,11 +1,11 @@
 //! The command line of the program, over a reader and two writers.
 #![tactic(auto)]
 
-ghost use Rattle.std.specs.Prelude.{◌≡◌, ◌≢◌, ◌≤◌, IfOk, IfErr, map, string_bytes};
+ghost use Rattle.std.specs.Prelude.{◌≡◌, ◌≤◌, IfOk, IfErr, map, string_bytes};
 ghost use Rattle.drafts.specs.Outputs.{stream_of};
 ghost use Rattle.blk_cli.specs.Said.{only, said_of, IsAlone};
-ghost use Rattle.blk_cli.specs.Gives.{Gives, GivesText, HasNoText, Fails, StartsNoThreads, AnswersText, version_line};
-ghost use Rattle.blk_cli.specs.Ends.{Answers, AskForTexts, IsWithout, line_without, status_without, status_with, SaysBeside, EndsSaying, EndsPut, RunEnds};
+ghost use Rattle.blk_cli.specs.Gives.{GivesText, HasNoText, StartsNoThreads, AnswersText, version_line};
+ghost use Rattle.blk_cli.specs.Ends.{Answers, AskForTexts, IsWithout, status_with, SaysBeside, EndsSaying, EndsWithout, EndsPutOn, RunEndsOn};
 
 mod checking;
 mod comparing;
@@ -50,7 +50,7 @@ pub const REFUSED: u8 = 1;
 /// The exit status of words that are no command line of the program.
 pub const COMMAND_LINE: u8 = 2;
 
-/// The exit status of want of memory, a read fault or a write fault.
+/// The exit status of a read fault, of a write fault, and when out of memory.
 pub const FAILED: u8 = 3;
 
 /// The line where the words are taken and name no job: no other words than these two flags do so.
@@ -61,7 +61,7 @@ const NO_JOB: &[u8] = b"blk: --trace and --met exclude one another\n";
 pub struct Ended {
     /// Its exit status.
     pub status: u8,
-    /// Whether what it had to say of it was written whole; true where that is nothing.
+    /// Whether all that it had to say was written; true where it had nothing to say.
     pub told: bool,
 }
 
@@ -95,7 +95,7 @@ impl Answered {
         if self.good { GOOD } else { REFUSED }
     }
 
-    /// Says the note, where there is one, and ends with the status of the answer, which stays where the note can't be said.
+    /// Says the note, where there is one, and ends with the status of the answer, even where the note can't be said.
     fn say<F: Write>(&self, faults: &mut Output<F>) -> Ended
         ensures status { result.status ≡ status_with self.now.good }
         ensures says { SaysBeside (said_of self.now).note (stream_of F.contents faults.old) (stream_of F.contents faults.new) result.told }
@@ -121,26 +121,26 @@ pub enum NoText {
     /// The job that they ask for fails, or memory ran out before they were read.
     Failure(Failure),
     /// They are no command line of the program, or ask for its help: what clap says of them.
-    Line(String),
+    Usage(String),
     /// Their flags exclude one another.
     Excluded,
 }
 
 impl NoText {
-    /// Writes the line that says so and ends with its status, which stays where the line can't be written.
+    /// Writes the line that says so and ends with its status, even where the line can't be written.
     pub fn report<F: Write>(&self, faults: &mut Output<F>) -> Ended
-        ensures ends { EndsSaying (status_without self.now) (line_without self.now) (stream_of F.contents faults.old) (stream_of F.contents faults.new) result }
+        ensures ends { EndsWithout self.now (stream_of F.contents faults.old) (stream_of F.contents faults.new) result }
         ensures range { (1 ≤ result.status) × (result.status ≤ 3) }
     {
         match self {
             NoText::Failure(failure) => failure.report(faults),
-            NoText::Line(text) => refuse(text.as_bytes(), faults),
+            NoText::Usage(text) => refuse(text.as_bytes(), faults),
             NoText::Excluded => refuse(NO_JOB, faults),
         }
     }
 }
 
-/// Writes the line on words that ask for nothing and ends with their status, which stays where the line can't be written.
+/// Writes the line on words that ask for nothing and ends with their status, even where the line can't be written.
 fn refuse<F: Write>(line: &[u8], faults: &mut Output<F>) -> Ended
     ensures { EndsSaying 2 line.now (stream_of F.contents faults.old) (stream_of F.contents faults.new) result }
 {
@@ -192,7 +192,7 @@ pub fn work<R: Read + Drop>(
         Job::Report(form) => over_trace(alloc, Telling::Report(form), records),
         Job::Picture => over_trace(alloc, Telling::Picture, records),
         Job::Oracle => over_list(alloc, Solving::Least, records),
-        Job::Met => over_list(alloc, Solving::Most, records),
+        Job::OnTime => over_list(alloc, Solving::Most, records),
         Job::Check(form) => over_proof(alloc, form, records),
         Job::Judge { each } => over_schedule(alloc, each, records),
         Job::Refuse(refusal) => Err(Failure::Words(refusal)),
@@ -242,7 +242,7 @@ pub fn answer<L: Loads, T: Threads + Wait + Sync, R: Read + Drop, P: Progress>(
             Err(failure) => Err(NoText::Failure(failure)),
         },
         Err(NoJob::Memory) => Err(NoText::Failure(Failure::Memory)),
-        Err(NoJob::Line(text)) => Err(NoText::Line(text)),
+        Err(NoJob::Usage(text)) => Err(NoText::Usage(text)),
         Err(NoJob::Nothing) => Err(NoText::Excluded),
     }
 }
@@ -254,7 +254,7 @@ pub fn put_out<W: Write, F: Write>(
     out: &mut Output<W>,
     faults: &mut Output<F>,
 ) -> Ended
-    ensures ends { EndsPut (said_of answer.now) (stream_of W.contents out.old) (stream_of W.contents out.new) (stream_of F.contents faults.old) (stream_of F.contents faults.new) result }
+    ensures ends { EndsPutOn W.contents F.contents (said_of answer.now) out.old out.new faults.old faults.new result }
     ensures quiet { IsAlone (said_of answer.now) → result.status ≡ 0 → faults.new ≡ faults.old }
 {
     match out.put(answer.text.as_slice()) {
@@ -277,7 +277,7 @@ pub fn run<L: Loads, T: Threads + Wait + Sync, R: Read + Drop, W: Write, F: Writ
     progress: &mut P,
 ) -> Ended
     requires { records.old.at ≡ 0 }
-    ensures ended { RunEnds (map string_bytes words.now) records.old.left records.old.bytes records.new.failed (stream_of W.contents out.old) (stream_of W.contents out.new) (stream_of F.contents faults.old) (stream_of F.contents faults.new) result }
+    ensures ended { RunEndsOn W.contents F.contents words.now records.old records.new out.old out.new faults.old faults.new result }
     // nothing is written at status 2
     ensures unwritten { result.status ≡ 2 → out.new ≡ out.old }
     // where the words ask for a text alone: nothing is written at status 1 either, and nothing is said at status 0

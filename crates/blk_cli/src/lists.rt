@@ -3,14 +3,16 @@
 ghost use Rattle.std.specs.Prelude.{◌≡◌, IfOk, IfErr};
 ghost use Rattle.blk_lists.specs.Commands.{AreCommands, CommandsFault};
 ghost use Rattle.blk_lists.specs.Certificate.{IsClaim, claimed};
-ghost use Rattle.blk_lists.specs.Met.{IsMetClaim, met_claimed};
+ghost use Rattle.blk_lists.specs.OnTime.{IsOnTimeClaim, on_time_claimed};
 ghost use Rattle.blk_cli.specs.Inputs.{Of, FailsOver};
-ghost use Rattle.blk_cli.specs.Certificates.{SpellsList, IsProved, IsMetProved, IsSolved, IsUnsolved};
+ghost use Rattle.blk_cli.specs.Certificates.{SpellsList, IsProved, IsOnTimeProved, IsSolved, IsUnsolved};
 
 use crate::failure::Failure;
-use blk_lists::{Certificate, MetCertificate, Records, certificate_text, met_text, read_commands};
-use edd_check::{Capacity, Command};
-use edd_oracle::{most_met, solve};
+use blk_lists::{
+    Certificate, OnTimeCertificate, Records, certificate_text, on_time_text, read_commands,
+};
+use edd_commands::{Capacity, Command};
+use edd_oracle::{most_on_time, solve};
 use std::alloc::Global;
 use std::io::Read;
 
@@ -53,19 +55,23 @@ fn certify(alloc: Global, depth: u64, commands: Vec<Command>) -> Result<Certific
 }
 
 /// The certificate of a schedule that meets as many commands as any.
-fn certify_met(alloc: Global, depth: u64, commands: Vec<Command>) -> Result<MetCertificate, Failure>
+fn certify_on_time(
+    alloc: Global,
+    depth: u64,
+    commands: Vec<Command>,
+) -> Result<OnTimeCertificate, Failure>
     requires { AreCommands depth commands.items }
     ensures depth { IfOk result (λ c. c.depth ≡ depth) }
     ensures commands { IfOk result (λ c. c.commands.items ≡ commands.items) }
-    ensures in_range { IfOk result (λ c. IsMetClaim (met_claimed c)) }
-    ensures proved { IfOk result (λ c. IsMetProved (met_claimed c)) }
+    ensures in_range { IfOk result (λ c. IsOnTimeClaim (on_time_claimed c)) }
+    ensures proved { IfOk result (λ c. IsOnTimeProved (on_time_claimed c)) }
     ensures unsolved { IfErr result (IsUnsolved (depth, commands.items)) }
 {
     let Ok(capacity) = Capacity::fixed(alloc, depth) else {
         return Err(Failure::Memory);
     };
-    match most_met(alloc, commands.as_slice(), &capacity) {
-        Ok(answer) => Ok(MetCertificate {
+    match most_on_time(alloc, commands.as_slice(), &capacity) {
+        Ok(answer) => Ok(OnTimeCertificate {
             depth,
             commands,
             rounds: answer.rounds,
@@ -98,11 +104,11 @@ fn most_of(alloc: Global, depth: u64, commands: Vec<Command>) -> Result<Vec<u8>,
     ensures text { IfOk result (λ text. IsSolved Solving.Most (depth, commands.items) text.items) }
     ensures unsolved { IfErr result (IsUnsolved (depth, commands.items)) }
 {
-    let certificate = match certify_met(alloc, depth, commands) {
+    let certificate = match certify_on_time(alloc, depth, commands) {
         Ok(certificate) => certificate,
         Err(failure) => return Err(failure),
     };
-    match met_text(alloc, &certificate) {
+    match on_time_text(alloc, &certificate) {
         Ok(text) => Ok(text),
         Err(_) => Err(Failure::Memory),
     }

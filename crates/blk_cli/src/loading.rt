@@ -32,7 +32,7 @@ fn account_text(alloc: Global, form: Form, settled: Settled) -> Result<Vec<u8>, 
     }
 }
 
-/// The text of this of a load.
+/// The text that is asked for, of a load.
 fn loaded_text(alloc: Global, shown: Shown, loaded: &Loaded) -> Result<Vec<u8>, AllocError>
     ensures { IfOk result (λ text. IsLoadText shown loaded.now.trace loaded.now.settled text.items) }
 {
@@ -42,7 +42,7 @@ fn loaded_text(alloc: Global, shown: Shown, loaded: &Loaded) -> Result<Vec<u8>, 
     }
 }
 
-/// Runs a load under a scheduler, and gives this of it.
+/// Runs a load under a scheduler, and gives the text that is asked for.
 pub fn run_load<L: Loads, R: Threads + Wait + Sync>(
     loads: &L,
     rt: &R,

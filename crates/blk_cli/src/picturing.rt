@@ -16,7 +16,7 @@ use blk_text::Script;
 use blk_trace::Trace;
 use std::alloc::Global;
 
-/// The traces of a script under each of these schedulers, which run it in turn: where a step is refused, the later ones don't.
+/// The traces of a script under each of these schedulers, which run it in turn: once a step is refused, the later ones don't run it.
 fn traces_of(alloc: Global, scheds: &[Sched], script: &Script) -> Result<Vec<Trace>, RunFault>
     requires script { IsScript (scripted script.now) }
     requires made { All IsMade scheds.now }

@@ -20,7 +20,7 @@ use blk_words::Form;
 use std::alloc::{AllocError, Global};
 use std::io::Read;
 
-/// What is told of a trace.
+/// What is said about a trace.
 #[derive(Clone, Copy, Debug, PartialEq, Eq)]
 pub enum Telling {
     /// The trace itself, in the latest version.
@@ -180,7 +180,7 @@ fn picture_of(alloc: Global, trace: &Trace) -> Result<Vec<u8>, Failure>
     }
 }
 
-/// What is told of a trace.
+/// What is said about a trace.
 fn told_of(alloc: Global, telling: Telling, trace: &Trace) -> Result<Vec<u8>, Failure>
     requires { IsTrace trace.now }
     ensures text { IfOk result (λ text. IsTold telling trace.now text.items) }
@@ -197,7 +197,7 @@ fn told_of(alloc: Global, telling: Telling, trace: &Trace) -> Result<Vec<u8>, Fa
     }
 }
 
-/// Reads a trace, and tells this of it.
+/// Reads a trace, and gives what is asked about it.
 pub fn over_trace<R: Read + Drop>(
     alloc: Global,
     telling: Telling,

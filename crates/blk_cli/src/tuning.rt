@@ -1,12 +1,12 @@
 //! The job over a script that tries it under each setting of a grid.
 
 ghost use Rattle.std.specs.Prelude.{◌≡◌, IfOk, IfErr, map, string_bytes};
-ghost use Rattle.blk_text.specs.Script.{IsScript, SpellsScript, ScriptFault, scripted};
+ghost use Rattle.blk_text.specs.Script.{IsScript, SpellsScript, scripted};
 ghost use Rattle.blk_grid.specs.Rows.{grid_rows};
 ghost use Rattle.blk_grid.specs.Wanted.{wanted};
 ghost use Rattle.blk_runs.specs.Firsts.{AreUnrun};
-ghost use Rattle.blk_cli.specs.Inputs.{Of, FailsOver};
-ghost use Rattle.blk_cli.specs.Tuning.{IsTunedJson, IsTunedIn, IsTrial, IsUntried};
+ghost use Rattle.blk_cli.specs.Inputs.{Of};
+ghost use Rattle.blk_cli.specs.Tuning.{IsTunedJson, IsTunedIn, IsTrial, IsUntried, FailsToTry};
 
 use crate::failure::Failure;
 use blk_grid::Asked;
@@ -89,8 +89,8 @@ fn trial_of<T: Threads + Sync, P: Progress>(
     }
 }
 
-/// Reads a script, and tries it under each setting of the grid that the words ask for, on the threads of `rt`. How far it has come is
-/// told to `progress`.
+/// Reads a script, and tries it under each setting of the grid that the words ask for, on the threads of `rt`. `progress` hears
+/// how far it has come.
 pub fn over_trial<T: Threads + Sync, R: Read + Drop, P: Progress>(
     rt: &T,
     alloc: Global,
@@ -101,7 +101,7 @@ pub fn over_trial<T: Threads + Sync, R: Read + Drop, P: Progress>(
 ) -> Result<Vec<u8>, Failure>
     requires { records.old.at ≡ 0 }
     ensures text { IfOk result (λ text. Of SpellsScript (IsTrial (map string_bytes words.now) tuning) records.old.left text.items) }
-    ensures fails { IfErr result (FailsOver SpellsScript ScriptFault (IsUntried (map string_bytes words.now)) records.old.left records.new.failed) }
+    ensures fails { IfErr result (FailsToTry (map string_bytes words.now) records.old.left records.new.failed) }
 {
     let script = match read_script(alloc, records) {
         Ok(script) => script,

@@ -1,5 +1,5 @@
 -- A submitter's plug and software queue along the steps of a script.
-use Rattle.std.proofs.Common.{◌≡◌, ◌≢◌, ◌+◌, ◌<◌, ◌≤◌, ◌%◌, ◌++◌, ◌∙◌, ℕ, zero, suc, List, [], ◌∷◌, Option, Some, true, length, take, replicate, set, refl, sym, ap, subst, inl, inr, add-one, arith, length-append}
+use Rattle.std.proofs.Common.{◌≡◌, ◌≢◌, ◌+◌, ◌<◌, ◌≤◌, ◌%◌, ◌++◌, ◌∙◌, ℕ, zero, suc, List, [], ◌∷◌, Some, length, take, replicate, set, refl, sym, ap, subst, inl, inr, arith, length-append}
 use Rattle.std.specs.Prelude.{slice_get, slice_set, Ok}
 use Rattle.std.specs.Option.{option_map}
 use Rattle.std.proofs.Math.Nat.{mod-lt}
@@ -18,7 +18,7 @@ use Rattle.blk_text.specs.Script.{Scripted, IsScript, LineFits}
 use Rattle.blk_text.specs.declared.script.Line.{Line}
 use Rattle.blk_text.specs.declared.script.Line.TheVariants as line
 use Rattle.blk_sim.specs.State.{SimState, start_of}
-use Rattle.blk_sim.specs.Moves.{AreEmptied, Drains, DrainInTurn, drained, flushed_plug, with_requests}
+use Rattle.blk_sim.specs.Moves.{AreEmptied, DrainInTurn, drained, flushed_plug, with_requests}
 use Rattle.blk_sim.specs.Rounds.{Rounds}
 use Rattle.blk_sim.specs.Runs.{Steps, Runs}
 use Rattle.blk_sim.proofs.Keeping.{steps_went}

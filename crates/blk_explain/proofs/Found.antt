@@ -6,7 +6,8 @@ use Rattle.blk_lists.specs.Reads.{IsOutside}
 use Rattle.blk_lists.specs.declared.fault.Why.{Why}
 use Rattle.blk_lists.specs.declared.fault.Why.TheVariants as why
 use Rattle.blk_explain.specs.Forms.{form_name}
-use Rattle.blk_explain.specs.Findings.{name_in, IsRead, IsFound}
+use Rattle.blk_explain.specs.Findings.{name_in, IsFound}
+use Rattle.blk_explain.specs.Inside.Read.{IsRead}
 use Rattle.blk_explain.specs.declared.forms.Form.{Form}
 use Rattle.blk_explain.specs.declared.findings.Finding.{Finding}
 use Rattle.blk_explain.specs.declared.findings.Finding.TheVariants as finding

@@ -1,5 +1,5 @@
 -- The steps before one that is refused.
-use Rattle.std.proofs.Common.{◌≡◌, ◌+◌, ◌-◌, ◌⊎◌, ℕ, List, [], true, take, sym, subst, inl, inr, arith}
+use Rattle.std.proofs.Common.{◌≡◌, ◌+◌, ◌-◌, ℕ, List, [], true, take, subst, inl, inr, arith}
 use Rattle.blk_lists.specs.Sources.{Row}
 use Rattle.blk_sched.specs.Meaning.{at_start}
 use Rattle.blk_none.specs.Choice.{none_policy}
@@ -10,7 +10,7 @@ use Rattle.blk_sim.specs.Runs.{Runs}
 use Rattle.blk_sim.specs.declared.refusal.SimFault.{SimFault}
 use Rattle.blk_sim.specs.declared.refusal.SimWhy.TheVariants as why
 use Rattle.blk_explain.specs.Findings.{IsRefused, IsRefusedScript}
-use Rattle.blk_explain.specs.Held.{RunsTo}
+use Rattle.blk_explain.specs.Inside.Before.{RunsTo}
 
 -- they are taken
 pub runs_to : (script : Scripted) (fault : SimFault) (n : ℕ) → n ≡ fault.at - 3 → ¬ (fault.why ≡ why.Memory) → IsRefused script fault → RunsTo script n

@@ -27,7 +27,7 @@ past_last [] k h = refl
 past_last (r ∷ rs) zero h = absurd (omega (arith, h))
 past_last (r ∷ rs) (suc k) h = past_last rs k (omega (arith, h))
 
--- the same, where what is left is told by an equation
+-- the same, where an equation says what is left
 pub takes_next : (rows : List Row) (k : ℕ) (left after : Option (List Row)) (fields : Row) → left ≡ Some (drop k rows) → TakesRecord left after fields true → after ≡ Some (drop (k + 1) rows)
 takes_next rows k left after fields e t = rw (add-one k) (takes_one rows k after fields (rw e at t)).left
 

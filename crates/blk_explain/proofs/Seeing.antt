@@ -1,13 +1,13 @@
 -- One more step whose bio's id is looked up.
-use Rattle.std.proofs.Common.{◌≡◌, ◌≢◌, ◌+◌, ◌<◌, ◌≤◌, ◌==◌, ◌&&◌, ◌||◌, ◌∙◌, ◌⊎◌, ℕ, Bool, true, false, List, Some, refl, sym, ap, subst, inl, inr, arith}
+use Rattle.std.proofs.Common.{◌≡◌, ◌+◌, ◌<◌, ◌≤◌, ◌==◌, ◌&&◌, ◌||◌, ◌∙◌, ◌⊎◌, ℕ, Bool, true, false, List, Some, refl, sym, ap, subst, inl, inr, arith}
 use Rattle.std.specs.Prelude.{slice_get}
-use Rattle.std.proofs.lemmas.Bool.{cases_eq, cases_Bool, eqb-true, eq-eqb}
+use Rattle.std.proofs.lemmas.Bool.{cases_eq, eqb-true, eq-eqb}
 use Rattle.blk_bio.specs.Bios.{Bio}
 use Rattle.blk_bio.specs.declared.bio.BioId.{BioId}
 use Rattle.blk_text.specs.declared.script.Line.{Line}
 use Rattle.blk_text.specs.declared.script.Line.TheVariants as line
 use Rattle.blk_explain.specs.Twice.{AreDistinct}
-use Rattle.blk_explain.specs.Inside.Seen.{WasSeen, AreSeen}
+use Rattle.blk_explain.specs.Inside.Seen.{AreSeen}
 
 -- a step has one bio at most
 pub line_once : (lines : List Line) (k : ℕ) (b c : Bio) → slice_get lines k ≡ Some (line.Bio b) → slice_get lines k ≡ Some (line.Bio c) → b ≡ c

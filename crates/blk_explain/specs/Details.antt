@@ -1,4 +1,4 @@
--- What is told of a fault: the field, what was found in it, and what is wanted.
+-- What is said about a fault: the field, what was found in it, and what is wanted.
 use Rattle.std.specs.Prelude.{◌≡◌, ◌⊎◌, ◌-◌, ◌+◌, ◌/◌, ◌%◌, ◌<◌, ◌^◌, ◌++◌, ◌==◌, ◌&&◌, not, nat_lt, if◌then◌else◌, ℕ, List, [], ◌∷◌, length, take, get_or, codes, decimal}
 use Rattle.std.specs.List.{flat_map}
 use Rattle.blk_bio.specs.declared.bio.BioFault.TheVariants as bio
@@ -121,7 +121,7 @@ KeepsIn w allowed.NoNumber f = KeepsNone w f
 abbrev pub IsNumberIn : Row → ℕ → ℕ → Type 0
 IsNumberIn row k n = (get_or row k [] ≡ decimal n) ⊎ ((n ≡ 0) × ((m : ℕ) → m < 2 ^ 64 → ¬ (get_or row k [] ≡ decimal m)))
 
--- what may stand in a field of a bound beside so many commands
+-- what may stand in a field of a bound beside n commands
 abbrev pub beside : ℕ → Slot → Allowed
 beside n t = if n == 0 then allowed.NoNumber else allowed.Slot t
 
@@ -151,6 +151,10 @@ IsFirstBroken title kind w row k a = (k < 8) × IsBrokenAt title kind w row k a 
 -- none does
 abbrev pub AllKept : Row → Kind → Why → Row → Type 0
 AllKept title kind w row = (j : ℕ) → j < 8 → IsKeptAt title kind w row j
+
+-- a field that has the fault, and what is wanted
+abbrev pub broken_text : Why → Kind → Row → ℕ → Allowed → List ℕ
+broken_text w kind row k a = field_text k (field_name (field_at kind k)) (get_or row k []) ++ wanted_text w a
 
 -- what an event has to be instead of one that breaks a rule
 abbrev pub rule_wanted : TraceRule → List ℕ
@@ -192,7 +196,7 @@ words_at form at = text_of (if at == 2 then form.second_word else form.words)
 abbrev pub named_text : FormRow → Why → List ℕ
 named_text form w = (why_name w ++ codes ": wanted ") ++ why_wanted form w
 
--- what is told where no field by itself has the fault
+-- what is said where no field by itself has the fault
 abbrev pub rest_text : FormRow → ℕ → Why → Kind → Row → List ℕ
 rest_text form at why.Fields kind row = ((codes "found " ++ decimal (length row)) ++ codes " fields, wanted ") ++ decimal form.width
 rest_text form at why.Word kind cells = field_text 0 (field_name (field_at kind 0)) (get_or cells 0 []) ++ words_at form at
@@ -209,10 +213,10 @@ rest_text form at why.TooLong kind row = named_text form why.TooLong
 rest_text form at why.Read kind row = named_text form why.Read
 rest_text form at why.Memory kind row = named_text form why.Memory
 
--- what is told of a fault of a record of this number and kind, in a text with this title
+-- what is said about a fault of a record of this number and kind, in a text with this title
 abbrev pub IsDetailBy : FormRow → Row → ℕ → Why → Kind → Row → List ℕ → Type 0
 IsDetailBy form title at w kind row text =
-    ((k : ℕ) × (a : Allowed) × IsFirstBroken title kind w row k a × (text ≡ field_text k (field_name (field_at kind k)) (get_or row k []) ++ wanted_text w a))
+    ((k : ℕ) × (a : Allowed) × IsFirstBroken title kind w row k a × (text ≡ broken_text w kind row k a))
     ⊎ (AllKept title kind w row × (text ≡ rest_text form at w kind row))
 
 abbrev pub IsDetail : FormRow → Row → ℕ → Why → Row → List ℕ → Type 0

@@ -1,4 +1,4 @@
--- What a text is, or what is wrong with it, as it is told.
+-- What a text is, or what is wrong with it, as it is written.
 use Rattle.std.specs.Prelude.{◌≡◌, ◌≢◌, ◌⊎◌, ◌≤◌, ◌++◌, Bool, true, false, ℕ, List, [], length, get_or, codes, decimal, nat_eq}
 use Rattle.strsim.specs.Edits.{levenshtein_row}
 use Rattle.blk_lists.specs.Sources.{Row}
@@ -37,29 +37,29 @@ abbrev pub fault_text : ℕ → List ℕ → ℕ → List ℕ → List ℕ → L
 fault_text line name at detail why =
     (((((((((((codes "line " ++ decimal line) ++ codes ", record ") ++ decimal at) ++ codes ", ") ++ detail) ++ codes "\n") ++ name) ++ codes ": record ") ++ decimal at) ++ codes ": ") ++ why) ++ codes "\n"
 
--- what is told of a text whose first field is empty, or that has none
+-- what is said about a text whose first field is empty, or that has none
 abbrev pub empty_text : List ℕ → List ℕ
 empty_text bytes = fault_text (line_of bytes 1) (codes "blk") 1 (codes "found nothing, wanted a title") (codes "Title")
 
--- what is told of a text that begins with another name: the nearest one
+-- what is said about a text that begins with another name: the nearest one
 abbrev pub IsNamedText : List ℕ → List ℕ → Type 0
 IsNamedText bytes text =
     (near : Form) × IsNearest (name_in (rows_of bytes)) near
     × (text ≡ fault_text (line_of bytes 1) (form_name near) 1 (field_text 0 (codes "title") (name_in (rows_of bytes)) ++ form_name near) (codes "Title"))
 
--- what is told of a text that begins with the name of no form
+-- what is said about a text that begins with the name of no form
 abbrev pub IsUntitledText : List ℕ → List ℕ → Type 0
 IsUntitledText bytes text =
     ((name_in (rows_of bytes) ≡ []) × (text ≡ empty_text bytes))
     ⊎ ((name_in (rows_of bytes) ≢ []) × IsNamedText bytes text)
 
--- what is told of a fault of records: of their number, or of the record that has it
+-- what is said about a fault of records: of their number, or of the record that has it
 abbrev pub IsFaultDetail : FormRow → List Row → TextFault → List ℕ → Type 0
 IsFaultDetail form rows fault text =
     ((fault.why ≡ why.Count) × IsCountDetail form.counted rows text)
     ⊎ ((fault.why ≢ why.Count) × IsDetail form (row_at rows 1) fault.at fault.why (row_at rows fault.at) text)
 
--- what is told of a finding
+-- what is said about a finding
 abbrev pub IsTold : List ℕ → Finding → List ℕ → Type 0
 IsTold bytes finding.Untitled text = IsUntitledText bytes text
 IsTold bytes (finding.Good f) text = text ≡ good_text (form_row f) (row_at (rows_of bytes) 1) (length (rows_of bytes))

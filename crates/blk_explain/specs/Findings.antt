@@ -1,14 +1,14 @@
 -- What is found in a text, as the reader of its form finds it.
 use Rattle.std.specs.Prelude.{◌≡◌, ◌-◌, ℕ, List, [], true, get_or}
 use Rattle.csv.specs.Reading.{default_config, records, strip_bom}
-use Rattle.edd_check.specs.declared.Command.{Command}
+use Rattle.edd_commands.specs.declared.Command.{Command}
 use Rattle.blk_sched.specs.Meaning.{at_start}
 use Rattle.blk_none.specs.Choice.{none_policy}
 use Rattle.blk_trace.specs.Traces.{Traced}
 use Rattle.blk_lists.specs.Sources.{Row}
 use Rattle.blk_lists.specs.Commands.{SpellsCommands, CommandsFault}
 use Rattle.blk_lists.specs.Certificate.{Claim, SpellsClaim, ClaimFault}
-use Rattle.blk_lists.specs.Met.{MetClaim, SpellsMet, MetClaimFault}
+use Rattle.blk_lists.specs.OnTime.{OnTimeClaim, SpellsOnTime, OnTimeClaimFault}
 use Rattle.blk_lists.specs.Schedule.{Ran, SpellsSchedule, ScheduleFault}
 use Rattle.blk_lists.specs.declared.fault.Why.{Why}
 use Rattle.blk_capture.specs.declared.record.Record.{Record}
@@ -49,7 +49,7 @@ IsRefused script fault = IsSimFault none_policy script (at_start true) [] fault
 abbrev pub IsText : Form → List Row → Type 0
 IsText form.Commands rows = (depth : ℕ) × (commands : List Command) × SpellsCommands rows depth commands
 IsText form.Certificate rows = (c : Claim) × SpellsClaim rows c
-IsText form.Met rows = (c : MetClaim) × SpellsMet rows c
+IsText form.OnTime rows = (c : OnTimeClaim) × SpellsOnTime rows c
 IsText form.Schedule rows = (s : Ran) × SpellsSchedule rows s
 IsText form.Capture rows = (all : List Record) × SpellsCapture rows all
 IsText form.Script rows = (s : Scripted) × SpellsScript rows s × DoesRun s
@@ -59,7 +59,7 @@ IsText form.Trace rows = (t : Traced) × SpellsTrace rows t
 abbrev pub FaultOf : Form → List Row → ℕ → Why → Type 0
 FaultOf form.Commands = CommandsFault
 FaultOf form.Certificate = ClaimFault
-FaultOf form.Met = MetClaimFault
+FaultOf form.OnTime = OnTimeClaimFault
 FaultOf form.Schedule = ScheduleFault
 FaultOf form.Capture = CaptureTextFault
 FaultOf form.Script = ScriptFault
@@ -68,13 +68,6 @@ FaultOf form.Trace = TraceFault
 -- the records spell a script, and one of its steps is refused
 abbrev pub IsRefusedScript : List Row → SimFault → Type 0
 IsRefusedScript rows fault = (s : Scripted) × SpellsScript rows s × IsRefused s fault
-
--- what the reader of a form finds
-abbrev pub IsRead : Form → List Row → Finding → Type 0
-IsRead f rows finding.Untitled = ⊥
-IsRead f rows (finding.Good found) = (found ≡ f) × IsText f rows
-IsRead f rows (finding.Faulty found fault) = (found ≡ f) × FaultOf f rows fault.at fault.why
-IsRead f rows (finding.Refused fault) = (f ≡ form.Script) × IsRefusedScript rows fault
 
 -- what is found: by the name that the first record begins with, what the reader of that form finds
 abbrev pub IsFound : List Row → Finding → Type 0

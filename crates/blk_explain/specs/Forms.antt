@@ -14,7 +14,7 @@ use Rattle.blk_explain.specs.Names.{text_of}
 abbrev pub form_row : Form → FormRow
 form_row form.Commands = COMMANDS
 form_row form.Certificate = CERTIFICATE
-form_row form.Met = MET
+form_row form.OnTime = MET
 form_row form.Schedule = SCHEDULE
 form_row form.Capture = CAPTURE
 form_row form.Script = SCRIPT
@@ -31,7 +31,7 @@ fields_of kind.Command = COMMAND
 fields_of kind.CountedTitle = COUNTED_TITLE
 fields_of kind.Served = SERVED
 fields_of kind.Bound = BOUND
-fields_of kind.Met = MET_NUMBERS
+fields_of kind.OnTime = MET_NUMBERS
 fields_of kind.Window = WINDOW
 fields_of kind.CaptureTitle = CAPTURE_TITLE
 fields_of kind.Capture = CAPTURED
@@ -58,14 +58,14 @@ fields_of kind.EventDone = EVENT_END
 fields_of kind.EventBack = EVENT_END
 fields_of kind.EventDepth = EVENT_DEPTH
 
--- the word that it is told by, or nothing
+-- the word that it begins with, or nothing
 abbrev pub word_of : Kind → List ℕ
 word_of kind.CommandsTitle = []
 word_of kind.Command = []
 word_of kind.CountedTitle = []
 word_of kind.Served = []
 word_of kind.Bound = []
-word_of kind.Met = []
+word_of kind.OnTime = []
 word_of kind.Window = codes "window"
 word_of kind.CaptureTitle = []
 word_of kind.Capture = []
@@ -92,7 +92,7 @@ word_of kind.EventDone = codes "done"
 word_of kind.EventBack = codes "back"
 word_of kind.EventDepth = codes "depth"
 
--- a kind is the one of these that is told by this word, or, where none is, another
+-- a kind is the one of these that begins with this word, or, where none does, another
 abbrev pub IsWorded : List Kind → Kind → List ℕ → Kind → Type 0
 IsWorded kinds other word found =
     ((k : ℕ) × (k < length kinds) × (found ≡ get_or kinds k kind.CommandsTitle) × (word_of found ≡ word))

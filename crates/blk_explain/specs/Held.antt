@@ -7,23 +7,19 @@ use Rattle.blk_text.specs.Script.{Scripted}
 use Rattle.blk_sim.specs.State.{SimState, start_of}
 use Rattle.blk_sim.specs.Runs.{Runs}
 
--- the software queue of a submitter holds so many requests
+-- the software queue of a submitter holds this many requests
 pub record HoldsIn (state : SimState) (s held : ℕ) : Type 0 where
   pub queue : Queue
   pub stands : slice_get state.queues s ≡ Some queue
   pub holds : held ≡ length queue.requests
 
--- it holds so many once the first n steps of a script were run under the scheduler `none`
+-- it holds this many once the first n steps of a script were run under the scheduler `none`
 pub record HoldsAfter (script : Scripted) (n s held : ℕ) : Type 0 where
   pub state : SimState
   pub runs : Runs none_policy (take n script.lines) (start_of script (at_start true) []) state
   pub there : HoldsIn state s held
 
--- the first n steps of a script are taken under the scheduler `none`
-abbrev pub RunsTo : Scripted → ℕ → Type 0
-RunsTo script n = (state : SimState) × Runs none_policy (take n script.lines) (start_of script (at_start true) []) state
-
--- it holds so many in whatever state these steps lead to
+-- it holds this many in whatever state these steps lead to
 abbrev pub HoldsWherever : Scripted → ℕ → ℕ → ℕ → Type 0
 HoldsWherever script n s held =
     (state : SimState) → Runs none_policy (take n script.lines) (start_of script (at_start true) []) state → HoldsIn state s held

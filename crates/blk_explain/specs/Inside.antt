@@ -1,3 +1,8 @@
--- What proofs alone need.
+-- What private functions and proofs alone need.
 pub mod Followed
 pub mod Seen
+pub mod Read
+pub mod Before
+pub mod Ends
+pub mod Broken
+pub mod Entered

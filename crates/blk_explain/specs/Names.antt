@@ -1,4 +1,4 @@
--- Words that are told.
+-- Fixed phrases of the texts.
 use Rattle.std.specs.Prelude.{ℕ, List, codes}
 use Rattle.blk_explain.specs.declared.names.Name.{Name}
 use Rattle.blk_explain.specs.declared.names.Name.TheVariants as name
@@ -11,8 +11,8 @@ text_of name.EachInRange = codes "each number within its range"
 text_of name.BlkCertificate = codes "blk-certificate"
 text_of name.TakeCertificates = codes "check"
 text_of name.Bound = codes "bound"
-text_of name.BlkMet = codes "blk-met"
-text_of name.Met = codes "met"
+text_of name.BlkOnTime = codes "blk-met"
+text_of name.OnTime = codes "met"
 text_of name.Window = codes "window"
 text_of name.BlkSchedule = codes "blk-schedule"
 text_of name.TakeSchedules = codes "judge"

@@ -1,7 +1,8 @@
--- What is told of a step that is refused.
+-- What is said about a step that is refused.
 use Rattle.std.specs.Prelude.{◌≡◌, ◌⊎◌, ◌<◌, ◌+◌, ◌-◌, ◌++◌, ℕ, List, Some, slice_get, codes, decimal}
 use Rattle.blk_bio.specs.Bios.{Bio}
 use Rattle.blk_text.specs.Script.{Scripted, SpellsScript}
+use Rattle.blk_text.specs.declared.script.Line.{Line}
 use Rattle.blk_text.specs.declared.script.Line.TheVariants as line
 use Rattle.blk_sim.specs.declared.refusal.SimFault.{SimFault}
 use Rattle.blk_sim.specs.declared.refusal.SimWhy.{SimWhy}
@@ -24,26 +25,33 @@ step_wanted why.InFlight = codes "no command in flight at the end of a round"
 step_wanted why.DepthRange = codes "a depth of 1 to that of the title"
 step_wanted why.Memory = codes "more memory"
 
--- the same, as it is told
+-- the same, as it is written
 abbrev pub plain_text : SimWhy → List ℕ
 plain_text w = codes "wanted " ++ step_wanted w
 
--- a software queue holds so many requests, of so many that it has room for
+-- how many requests a software queue holds, and for how many it has room
 abbrev pub held_text : ℕ → ℕ → ℕ → List ℕ
 held_text s held room = ((((codes "software queue " ++ decimal s) ++ codes " holds ") ++ decimal held) ++ codes " of ") ++ decimal room ++ codes " requests"
 
--- what is told of the step after the first n where a software queue has no room: of a flush what its submitter's queue holds once the steps
+-- the step at a place is a flush of this submitter; it is none
+abbrev pub IsFlushAt : List Line → ℕ → ℕ → Type 0
+IsFlushAt lines place s = slice_get lines place ≡ Some (line.Flush s)
+
+abbrev pub IsNoFlushAt : List Line → ℕ → Type 0
+IsNoFlushAt lines place = (s : ℕ) → ¬ IsFlushAt lines place s
+
+-- what is said about the step after the first n where a software queue has no room: of a flush what its submitter's queue holds once the steps
 -- before it were run
 abbrev pub IsSoftState : Scripted → ℕ → List ℕ → Type 0
 IsSoftState script n text =
-    ((s held : ℕ) × (slice_get script.lines n ≡ Some (line.Flush s)) × HoldsAfter script n s held × (text ≡ held_text s held script.soft_depth))
-    ⊎ (((s : ℕ) → ¬ (slice_get script.lines n ≡ Some (line.Flush s))) × (text ≡ plain_text why.SoftFull))
+    ((s held : ℕ) × IsFlushAt script.lines n s × HoldsAfter script n s held × (text ≡ held_text s held script.soft_depth))
+    ⊎ (IsNoFlushAt script.lines n × (text ≡ plain_text why.SoftFull))
 
 -- a bio entered on this line
 abbrev pub entered_text : Bio → ℕ → List ℕ
 entered_text b line = (((codes "bio " ++ decimal b.id.submitter) ++ codes ",") ++ decimal b.id.serial) ++ codes " entered at line " ++ decimal line
 
--- what is told of the step after the first n where a bio entered before: of the pairs among these n that are of one bio, that whose second
+-- what is said about the step after the first n where a bio entered before: of the pairs among these n that are of one bio, that whose second
 -- is the least, and on which line its first stands
 abbrev pub IsTwiceState : List ℕ → Scripted → ℕ → List ℕ → Type 0
 IsTwiceState bytes script n text =

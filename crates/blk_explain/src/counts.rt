@@ -1,12 +1,14 @@
-//! What is told of a number of records that is not the announced one.
+//! What is said about a number of records that is not the announced one.
 
-ghost use Rattle.std.specs.Prelude.{◌≡◌, ◌+◌, IfOk, codes};
+ghost use Rattle.std.specs.Prelude.{◌≡◌, ◌<◌, ◌+◌, ◌-◌, ◌^◌, IfOk, cond};
 ghost use Rattle.csv.specs.Records.{fields_of};
 ghost use Rattle.blk_explain.specs.Findings.{rows_of, row_at};
-ghost use Rattle.blk_explain.specs.Counts.{records_text, IsCountDetail};
+ghost use Rattle.blk_explain.specs.Counts.{records_text, announced_text, is_of_bio, events_in, events_text, IsCountDetail};
 
 use crate::details::number_in;
 use crate::findings::{count_rows, row_at};
+use blk_lists::Records;
+use blk_lists::fields::field;
 use csv::ByteRecord;
 use drafts::Draft;
 use std::alloc::{AllocError, Global};
@@ -16,13 +18,15 @@ use std::alloc::{AllocError, Global};
 pub enum Counted {
     /// No number of records.
     Nothing,
-    /// As many commands as its title says, behind so many other records.
+    /// As many commands as its title says, behind this many other records.
     Commands(u64),
     /// As many commands as its title says, and as many windows as its second record says, behind these two.
     Windows,
+    /// As many events as its title says, each of one record and those of its bios.
+    Events,
 }
 
-/// So many records were found, and so many are wanted: two numbers, one beside the other.
+/// How many records were found, and how many are wanted.
 fn records_text(alloc: Global, found: u64, wanted: u64) -> Result<Vec<u8>, AllocError>
     ensures { IfOk result (λ text. text.items ≡ records_text found wanted) }
 {
@@ -34,12 +38,59 @@ fn records_text(alloc: Global, found: u64, wanted: u64) -> Result<Vec<u8>, Alloc
     draft.finish()
 }
 
-/// What is told where no number is announced.
-fn plain_text(alloc: Global) -> Result<Vec<u8>, AllocError>
-    ensures { IfOk result (λ text. text.items ≡ codes "Count: wanted as many records as were announced") }
+/// What is said where no number is announced.
+fn announced_text(alloc: Global) -> Result<Vec<u8>, AllocError>
+    ensures { IfOk result (λ text. text.items ≡ announced_text) }
 {
     let mut draft = Draft::new(alloc);
     draft.text(b"Count: wanted as many records as were announced")?;
+    draft.finish()
+}
+
+/// Whether a record is of a bio.
+fn is_of_bio(row: &ByteRecord) -> bool
+    ensures { result ≡ is_of_bio (fields_of row.now) }
+{
+    field(row, 0) == b"bio".as_slice()
+}
+
+/// `others`, and one more where this record isn't of a bio.
+fn with_row(others: u64, row: &ByteRecord) -> u64
+    requires { others < 2 ^ 64 - 1 }
+    ensures { result ≡ cond (is_of_bio (fields_of row.now)) others (others + 1) }
+{
+    if is_of_bio(row) { others } else { others + 1 }
+}
+
+/// How many events the records of a trace tell: those but for the title, the setup and the bios.
+fn count_events(alloc: Global, bytes: &[u8]) -> Result<u64, AllocError>
+    ensures { IfOk result (λ n. n ≡ events_in (rows_of bytes.now)) }
+{
+    let mut records = Records::new(alloc, bytes);
+    let mut others: u64 = 0;
+    for _ in 0..u64::MAX {
+        match records.advance() {
+            Ok(true) => others = with_row(others, records.row()),
+            Ok(false) => return Ok(others.saturating_sub(2)),
+            Err(_) => return Err(AllocError),
+        }
+    }
+    Err(AllocError)
+}
+
+/// How many events were found, and how many are wanted. Where the numbers agree the fault is that an event has too few bios, of which the
+/// numbers of the whole text say nothing.
+fn events_text(alloc: Global, found: u64, wanted: u64) -> Result<Vec<u8>, AllocError>
+    ensures { IfOk result (λ text. text.items ≡ events_text found wanted) }
+{
+    if found == wanted {
+        return announced_text(alloc);
+    }
+    let mut draft = Draft::new(alloc);
+    draft.text(b"events: found ")?;
+    draft.number(found)?;
+    draft.text(b", wanted ")?;
+    draft.number(wanted)?;
     draft.finish()
 }
 
@@ -53,7 +104,7 @@ fn sum(one: u64, other: u64) -> Result<u64, AllocError>
     }
 }
 
-/// What is told of a text whose records are not as many as it announces, with this title.
+/// What is said about a text whose records are not as many as it announces, with this title.
 pub fn count_detail(
     alloc: Global,
     bytes: &[u8],
@@ -64,7 +115,7 @@ pub fn count_detail(
     ensures { IfOk result (λ text. IsCountDetail counted (rows_of bytes.now) text.items) }
 {
     match counted {
-        Counted::Nothing => plain_text(alloc),
+        Counted::Nothing => announced_text(alloc),
         Counted::Commands(heads) => {
             let found = count_rows(alloc, bytes)?;
             let wanted = sum(number_in(title, 3), heads)?;
@@ -76,6 +127,10 @@ pub fn count_detail(
             let items = sum(number_in(title, 3), number_in(&second, 2))?;
             let wanted = sum(items, 2)?;
             records_text(alloc, found, wanted)
+        }
+        Counted::Events => {
+            let found = count_events(alloc, bytes)?;
+            events_text(alloc, found, number_in(title, 4))
         }
     }
 }

@@ -1,11 +1,11 @@
-//! What is told of a fault of a record: the field, what was found in it, and what is wanted.
+//! What is said about a fault of a record: the field, what was found in it, and what is wanted.
 
-ghost use Rattle.std.specs.Prelude.{◌≡◌, ◌⊎◌, ◌≤◌, ◌<◌, ◌++◌, ◌↔◌, ◌^◌, ℕ, [], IsTrue, IfOk, OnOk, MatchOption, length, take, get_or};
+ghost use Rattle.std.specs.Prelude.{◌≡◌, ◌≤◌, ◌<◌, ◌++◌, ◌↔◌, ◌^◌, ℕ, IsTrue, IfOk, OnOk, MatchOption, take};
 ghost use Rattle.csv.specs.Records.{fields_of};
 ghost use Rattle.blk_lists.specs.Fields.{IsSized, IsNumber, IsInRange};
 ghost use Rattle.blk_lists.specs.declared.fields.Slot.TheVariants as slot;
-ghost use Rattle.blk_explain.specs.Details.{hex_digit, shown_byte, shown, field_text, range_text, number_text, allowed_text, wanted_text, KeepsSlot, KeepsNone, KeepsIn, IsNumberIn, IsAllowedIn, IsKeptAt, IsBrokenAt, IsFirstBroken, AllKept, rule_wanted, why_wanted, words_at, field_at, rest_text, IsDetail};
-ghost use Rattle.blk_explain.specs.Fields.{field_name};
+ghost use Rattle.blk_explain.specs.Details.{hex_digit, shown_byte, shown, field_text, range_text, number_text, allowed_text, wanted_text, KeepsSlot, KeepsNone, KeepsIn, IsNumberIn, IsAllowedIn, rule_wanted, why_wanted, words_at, rest_text, IsDetail, broken_text};
+ghost use Rattle.blk_explain.specs.Inside.Broken.{SaysIfBroken, SaysFirstBroken};
 
 use crate::fields::{Allowed, Want};
 use crate::forms::{FormRow, Kind, kind_of};
@@ -320,7 +320,7 @@ fn broken_at(
     place: usize,
 ) -> Option<Allowed>
     requires { place < 8 }
-    ensures { MatchOption result (IsKeptAt (fields_of title.now) kind why (fields_of row.now) place) (IsBrokenAt (fields_of title.now) kind why (fields_of row.now) place) }
+    ensures { SaysIfBroken (fields_of title.now) kind why (fields_of row.now) place result }
 {
     let allowed = allowed_in(title, kind.fields()[place].want());
     if keeps(why, allowed, field(row, place)) {
@@ -337,7 +337,7 @@ fn first_broken(
     why: Why,
     row: &ByteRecord,
 ) -> Option<(usize, Allowed)>
-    ensures { MatchOption result (AllKept (fields_of title.now) kind why (fields_of row.now)) (λ p. IsFirstBroken (fields_of title.now) kind why (fields_of row.now) p.0 p.1) }
+    ensures { SaysFirstBroken (fields_of title.now) kind why (fields_of row.now) result }
 {
     for place in 0..8 {
         match broken_at(title, kind, why, row, place) {
@@ -392,7 +392,7 @@ fn why_wanted(form: &FormRow, why: Why) -> &'static [u8]
     }
 }
 
-/// What is told where no field by itself has the fault.
+/// What is said where no field by itself has the fault.
 fn rest_told(
     alloc: Global,
     form: &FormRow,
@@ -448,7 +448,7 @@ fn words_at(form: &FormRow, at: u64) -> &'static [u8]
     }
 }
 
-/// What is told of a field at a place that has the fault.
+/// What is said about a field at a place that has the fault.
 fn broken_told(
     alloc: Global,
     why: Why,
@@ -458,7 +458,7 @@ fn broken_told(
     allowed: Allowed,
 ) -> Result<Vec<u8>, AllocError>
     requires { place < 8 }
-    ensures { IfOk result (λ text. text.items ≡ field_text place (field_name (field_at kind place)) (get_or (fields_of row.now) place []) ++ wanted_text why allowed) }
+    ensures { IfOk result (λ text. text.items ≡ broken_text why kind (fields_of row.now) place allowed) }
 {
     let mut draft = Draft::new(alloc);
     let name = kind.fields()[place].name();
@@ -467,7 +467,7 @@ fn broken_told(
     draft.finish()
 }
 
-/// What is told of a fault of the record of this number, in a text of this form with this title.
+/// What is said about a fault of the record of this number, in a text of this form with this title.
 pub fn detail(
     alloc: Global,
     form: &FormRow,

@@ -1,13 +1,10 @@
-//! What a text is, or what is wrong with it, as it is told.
+//! What a text is, or what is wrong with it, as it is written.
 
-ghost use Rattle.std.specs.Prelude.{◌≡◌, ◌≤◌, ◌<◌, ◌-◌, ◌^◌, ◌++◌, IfOk, length, codes};
+ghost use Rattle.std.specs.Prelude.{◌≡◌, ◌≤◌, ◌<◌, ◌-◌, ◌^◌, ◌++◌, IfOk, codes};
 ghost use Rattle.csv.specs.Records.{fields_of};
-ghost use Rattle.blk_lists.specs.Names.{why_name};
-ghost use Rattle.blk_explain.specs.Forms.{form_name, form_row};
-ghost use Rattle.blk_explain.specs.Findings.{rows_of, row_at, name_in, IsRefusedScript, IsFound};
+ghost use Rattle.blk_explain.specs.Findings.{rows_of, row_at, IsRefusedScript, IsFound};
 ghost use Rattle.blk_explain.specs.Details.{field_text};
 ghost use Rattle.blk_explain.specs.Explained.{edits_to, IsNearest, good_text, fault_text, empty_text, IsNamedText, IsFaultDetail, IsTold, is_good, IsExplained};
-ghost use Rattle.blk_explain.specs.declared.forms.Form.{Form as AForm};
 
 use crate::counts::count_detail;
 use crate::details::{detail, push_field};
@@ -23,7 +20,7 @@ use drafts::Draft;
 use std::alloc::{AllocError, Global};
 use strsim::generic_levenshtein;
 
-/// What is told of a text.
+/// What is said about a text.
 #[derive(Debug, Drop)]
 pub struct Explained {
     /// Two lines.
@@ -50,7 +47,7 @@ fn nearest(alloc: Global, found: &[u8]) -> Result<Form, AllocError>
     ensures { IfOk result (IsNearest found.now) }
 {
     let of_two = nearer(alloc, found, Form::Commands, Form::Certificate)?;
-    let of_three = nearer(alloc, found, of_two, Form::Met)?;
+    let of_three = nearer(alloc, found, of_two, Form::OnTime)?;
     let of_four = nearer(alloc, found, of_three, Form::Schedule)?;
     let of_five = nearer(alloc, found, of_four, Form::Capture)?;
     let of_six = nearer(alloc, found, of_five, Form::Script)?;
@@ -106,7 +103,7 @@ fn fault_text(
     draft.finish()
 }
 
-/// What is told of what a text begins with in place of a form's name.
+/// What is said about what a text begins with in place of a form's name.
 fn title_detail(alloc: Global, found: &[u8], name: &[u8]) -> Result<Vec<u8>, AllocError>
     ensures { IfOk result (λ text. text.items ≡ field_text 0 (codes "title") found.now ++ name.now) }
 {
@@ -116,7 +113,7 @@ fn title_detail(alloc: Global, found: &[u8], name: &[u8]) -> Result<Vec<u8>, All
     draft.finish()
 }
 
-/// What is told of a step that is refused: why, and the state.
+/// What is said about a step that is refused: why, and the state.
 fn step_detail(alloc: Global, why: &[u8], state: &[u8]) -> Result<Vec<u8>, AllocError>
     ensures { IfOk result (λ text. text.items ≡ (why.now ++ codes ": ") ++ state.now) }
 {
@@ -127,7 +124,7 @@ fn step_detail(alloc: Global, why: &[u8], state: &[u8]) -> Result<Vec<u8>, Alloc
     draft.finish()
 }
 
-/// What is told of a good text.
+/// What is said about a good text.
 fn good_told(alloc: Global, bytes: &[u8], form: Form) -> Result<Vec<u8>, AllocError>
     ensures { IfOk result (λ text. IsTold bytes.now (Finding.Good form) text.items) }
 {
@@ -136,7 +133,7 @@ fn good_told(alloc: Global, bytes: &[u8], form: Form) -> Result<Vec<u8>, AllocEr
     good_text(alloc, &form.row(), &title, count)
 }
 
-/// What is told of a fault, behind where it is.
+/// What is said about a fault, behind where it is.
 fn fault_detail(
     alloc: Global,
     bytes: &[u8],
@@ -154,7 +151,7 @@ fn fault_detail(
     detail(alloc, form, &title, fault.at, fault.why, &row)
 }
 
-/// What is told of a text with a fault.
+/// What is said about a text with a fault.
 fn faulty_told(
     alloc: Global,
     bytes: &[u8],
@@ -174,7 +171,7 @@ fn faulty_told(
     fault_text(alloc, line, name, fault.at, told.as_slice(), why)
 }
 
-/// What is told of a script of which a step is refused.
+/// What is said about a script of which a step is refused.
 fn refused_told(alloc: Global, bytes: &[u8], fault: SimFault) -> Result<Vec<u8>, AllocError>
     requires { IsRefusedScript (rows_of bytes.now) fault }
     ensures { IfOk result (λ text. IsTold bytes.now (Finding.Refused fault) text.items) }
@@ -186,7 +183,7 @@ fn refused_told(alloc: Global, bytes: &[u8], fault: SimFault) -> Result<Vec<u8>,
     fault_text(alloc, line, b"blk-script", fault.at, detail.as_slice(), why)
 }
 
-/// What is told of a text whose first field is empty, or that has none.
+/// What is said about a text whose first field is empty, or that has none.
 fn empty_told(alloc: Global, bytes: &[u8]) -> Result<Vec<u8>, AllocError>
     ensures { IfOk result (λ text. text.items ≡ empty_text bytes.now) }
 {
@@ -201,7 +198,7 @@ fn empty_told(alloc: Global, bytes: &[u8]) -> Result<Vec<u8>, AllocError>
     )
 }
 
-/// What is told of a text that begins with another name: the nearest one.
+/// What is said about a text that begins with another name: the nearest one.
 fn named_told(alloc: Global, bytes: &[u8]) -> Result<Vec<u8>, AllocError>
     ensures { IfOk result (λ text. IsNamedText bytes.now text.items) }
 {
@@ -214,7 +211,7 @@ fn named_told(alloc: Global, bytes: &[u8]) -> Result<Vec<u8>, AllocError>
     fault_text(alloc, line, name, 1, detail.as_slice(), b"Title")
 }
 
-/// What is told of a text that begins with the name of no form.
+/// What is said about a text that begins with the name of no form.
 fn untitled_told(alloc: Global, bytes: &[u8]) -> Result<Vec<u8>, AllocError>
     ensures { IfOk result (λ text. IsTold bytes.now Finding.Untitled text.items) }
 {
@@ -225,7 +222,7 @@ fn untitled_told(alloc: Global, bytes: &[u8]) -> Result<Vec<u8>, AllocError>
     named_told(alloc, bytes)
 }
 
-/// What is told of a finding.
+/// What is said about a finding.
 fn told(alloc: Global, bytes: &[u8], finding: Finding) -> Result<Vec<u8>, AllocError>
     requires { IsFound (rows_of bytes.now) finding }
     ensures { IfOk result (λ text. IsTold bytes.now finding text.items) }
@@ -249,12 +246,12 @@ fn is_good(finding: Finding) -> bool
 }
 
 /// What a text is: its form by its title, version and number of records, and the subcommands that take it; or its first fault, by line,
-/// record and field, with what was found and what is wanted, or the first step of a script that is refused. Fails for want of memory
-/// alone.
+/// record and field, with what was found and what is wanted, or the first step of a script that is refused. Fails only when
+/// out of memory.
 ///
 /// The form is the one whose name the text begins with, and the fault the one that the reader of that form answers; a good script is run
-/// under the scheduler `none`. A text that begins with no such name is told the nearest one, that to which the fewest edits lead, and one whose
-/// first field is empty that a title is wanted.
+/// under the scheduler `none`. For a text that begins with no such name the nearest one is wanted, that to which the fewest edits lead, and for one whose
+/// first field is empty a title.
 pub fn explain(alloc: Global, bytes: &[u8]) -> Result<Explained, AllocError>
     ensures { IfOk result (λ e. IsExplained bytes.now e.good e.text.items) }
 {

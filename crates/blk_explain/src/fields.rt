@@ -7,7 +7,7 @@ use blk_bio::{MAX_QUEUES, MAX_SECTORS, MAX_SEGMENTS, MAX_SOFT_DEPTH, MAX_SOFT_QU
 use blk_lists::fields::{ANY, COUNT, DEPTH, RELEASE, ROUND, Slot, TAG};
 use blk_text::MAX_RUN;
 use blk_trace::{MAX_EVENTS, MAX_EXPIRIES};
-use edd_check::MAX_ROUNDS;
+use edd_commands::MAX_ROUNDS;
 
 /// What may stand in a field: by itself, or as the text's title says.
 #[derive(Clone, Copy)]
@@ -160,9 +160,9 @@ pub enum Field {
     /// The field `until` of a bound.
     BoundUntil,
     /// The field `met`.
-    Met,
+    OnTime,
     /// The field `commands met`.
-    CommandsMet,
+    CommandsOnTime,
     /// The field `windows`.
     Windows,
     /// The field `window`.
@@ -250,8 +250,8 @@ impl Field {
             Field::Until => b"until",
             Field::BoundFrom => b"from",
             Field::BoundUntil => b"until",
-            Field::Met => b"met",
-            Field::CommandsMet => b"commands met",
+            Field::OnTime => b"met",
+            Field::CommandsOnTime => b"commands met",
             Field::Windows => b"windows",
             Field::Window => b"window",
             Field::Seconds => b"seconds",
@@ -308,8 +308,8 @@ impl Field {
             Field::Until => Want::Is(ROUND),
             Field::BoundFrom => Want::Bound(ROUND),
             Field::BoundUntil => Want::Bound(ROUND),
-            Field::Met => Want::Is(Slot::Given),
-            Field::CommandsMet => Want::Is(COUNT),
+            Field::OnTime => Want::Is(Slot::Given),
+            Field::CommandsOnTime => Want::Is(COUNT),
             Field::Windows => Want::Is(COUNT),
             Field::Window => Want::Is(Slot::Given),
             Field::Seconds => Want::Is(SECONDS_RANGE),

@@ -3,14 +3,15 @@
 ghost use Rattle.std.specs.Prelude.{◌≡◌, ◌<◌, ◌-◌, ◌^◌, IfOk, MatchOption, length};
 ghost use Rattle.csv.specs.Records.{fields_of};
 ghost use Rattle.blk_text.specs.Script.{IsScript, scripted};
-ghost use Rattle.blk_explain.specs.Findings.{rows_of, row_at, DoesRun, IsRefused, IsRead, IsFound};
+ghost use Rattle.blk_explain.specs.Findings.{rows_of, row_at, DoesRun, IsRefused, IsFound};
+ghost use Rattle.blk_explain.specs.Inside.Read.{IsRead};
 ghost use Rattle.blk_lists.specs.declared.fault.Why.TheVariants as why;
 
 use crate::forms::{Form, form_named};
 use blk_capture_text::read_capture;
 use blk_lists::fields::field;
 use blk_lists::{
-    Records, TextFault, Why, read_certificate, read_commands, read_met, read_schedule,
+    Records, TextFault, Why, read_certificate, read_commands, read_on_time, read_schedule,
 };
 use blk_none::NoneSched;
 use blk_sim::{SimFault, SimWhy, simulate};
@@ -101,12 +102,12 @@ fn find_certificate(alloc: Global, bytes: &[u8]) -> Result<Finding, AllocError>
 }
 
 /// What the reader of certificates of what can be met finds.
-fn find_met(alloc: Global, bytes: &[u8]) -> Result<Finding, AllocError>
-    ensures { IfOk result (IsRead Form.Met (rows_of bytes.now)) }
+fn find_on_time(alloc: Global, bytes: &[u8]) -> Result<Finding, AllocError>
+    ensures { IfOk result (IsRead Form.OnTime (rows_of bytes.now)) }
 {
-    match read_met(alloc, &mut Records::new(alloc, bytes)) {
-        Ok(_) => Ok(Finding::Good(Form::Met)),
-        Err(fault) => faulty(Form::Met, fault),
+    match read_on_time(alloc, &mut Records::new(alloc, bytes)) {
+        Ok(_) => Ok(Finding::Good(Form::OnTime)),
+        Err(fault) => faulty(Form::OnTime, fault),
     }
 }
 
@@ -140,7 +141,7 @@ fn find_trace(alloc: Global, bytes: &[u8]) -> Result<Finding, AllocError>
     }
 }
 
-/// The finding of a step that is refused for another reason than want of memory.
+/// The finding of a refused step. Err where it was refused because memory ran out.
 fn stepped(fault: SimFault) -> Result<Finding, AllocError>
     ensures { IfOk result (λ f. f ≡ Finding.Refused fault) }
 {
@@ -187,7 +188,7 @@ fn find_as(alloc: Global, form: Form, bytes: &[u8]) -> Result<Finding, AllocErro
     match form {
         Form::Commands => find_commands(alloc, bytes),
         Form::Certificate => find_certificate(alloc, bytes),
-        Form::Met => find_met(alloc, bytes),
+        Form::OnTime => find_on_time(alloc, bytes),
         Form::Schedule => find_schedule(alloc, bytes),
         Form::Capture => find_capture(alloc, bytes),
         Form::Script => find_script(alloc, bytes),

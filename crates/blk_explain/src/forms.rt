@@ -16,7 +16,7 @@ pub enum Form {
     /// A certificate.
     Certificate,
     /// A certificate of how many commands can be met.
-    Met,
+    OnTime,
     /// A schedule.
     Schedule,
     /// A capture.
@@ -41,7 +41,7 @@ pub enum Kind {
     /// The bound of a certificate.
     Bound,
     /// How many commands are met, and how many windows there are.
-    Met,
+    OnTime,
     /// A window.
     Window,
     /// The title of a capture.
@@ -156,8 +156,8 @@ const BOUND: [Field; 8] = [
 
 /// Of how many commands are met, and how many windows there are.
 const MET_NUMBERS: [Field; 8] = [
-    Field::Met,
-    Field::CommandsMet,
+    Field::OnTime,
+    Field::CommandsOnTime,
     Field::Windows,
     Field::Unused,
     Field::Past,
@@ -453,7 +453,7 @@ impl Kind {
             Kind::CountedTitle => COUNTED_TITLE,
             Kind::Served => SERVED,
             Kind::Bound => BOUND,
-            Kind::Met => MET_NUMBERS,
+            Kind::OnTime => MET_NUMBERS,
             Kind::Window => WINDOW,
             Kind::CaptureTitle => CAPTURE_TITLE,
             Kind::Capture => CAPTURED,
@@ -482,7 +482,7 @@ impl Kind {
         }
     }
 
-    /// The word that it is told by, or nothing.
+    /// The word that it begins with, or nothing.
     fn word(self) -> &'static [u8]
         ensures { result.now ≡ word_of self }
     {
@@ -510,7 +510,7 @@ impl Kind {
             | Kind::CountedTitle
             | Kind::Served
             | Kind::Bound
-            | Kind::Met
+            | Kind::OnTime
             | Kind::CaptureTitle
             | Kind::Capture
             | Kind::ScriptTitle
@@ -601,11 +601,11 @@ const CERTIFICATE: FormRow = FormRow {
 
 /// The row of blk-met texts.
 const MET: FormRow = FormRow {
-    name: Name::BlkMet,
+    name: Name::BlkOnTime,
     takers: Name::TakeCertificates,
     width: 4,
     title: Kind::CountedTitle,
-    second: Kind::Met,
+    second: Kind::OnTime,
     kinds: [
         Kind::Window,
         Kind::Served,
@@ -618,7 +618,7 @@ const MET: FormRow = FormRow {
         Kind::Served,
     ],
     item: Kind::Served,
-    second_word: Name::Met,
+    second_word: Name::OnTime,
     words: Name::Window,
     range: Name::EachInRange,
     counted: Counted::Windows,
@@ -721,7 +721,7 @@ const TRACE: FormRow = FormRow {
     second_word: Name::Setup,
     words: Name::EventWords,
     range: Name::EachInRange,
-    counted: Counted::Nothing,
+    counted: Counted::Events,
 };
 
 impl Form {
@@ -732,7 +732,7 @@ impl Form {
         match self {
             Form::Commands => COMMANDS,
             Form::Certificate => CERTIFICATE,
-            Form::Met => MET,
+            Form::OnTime => MET,
             Form::Schedule => SCHEDULE,
             Form::Capture => CAPTURE,
             Form::Script => SCRIPT,
@@ -750,7 +750,7 @@ pub fn form_named(field: &[u8]) -> Option<Form>
     } else if field == b"blk-certificate".as_slice() {
         Some(Form::Certificate)
     } else if field == b"blk-met".as_slice() {
-        Some(Form::Met)
+        Some(Form::OnTime)
     } else if field == b"blk-schedule".as_slice() {
         Some(Form::Schedule)
     } else if field == b"blk-capture".as_slice() {
@@ -764,7 +764,7 @@ pub fn form_named(field: &[u8]) -> Option<Form>
     }
 }
 
-/// The kind of these that is told by this word, or, where none is, another.
+/// The kind of these that begins with this word, or, where none does, another.
 fn kind_named(kinds: &[Kind], other: Kind, word: &[u8]) -> Kind
     ensures { IsWorded kinds.now other word.now result }
 {

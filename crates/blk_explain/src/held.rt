@@ -1,7 +1,7 @@
 //! How many requests a software queue holds when a step of a script is refused.
 
 ghost use Rattle.std.specs.Prelude.{◌≤◌, ◌<◌, IfOk, length};
-ghost use Rattle.blk_text.specs.Script.{scripted, IsScript, LineFits};
+ghost use Rattle.blk_text.specs.Script.{scripted, IsScript};
 ghost use Rattle.blk_explain.specs.Held.{HoldsWherever};
 ghost use Rattle.blk_explain.specs.Inside.Followed.{IsNext};
 
@@ -9,7 +9,7 @@ use blk_plug::Plug;
 use blk_text::{Line, Script};
 use std::alloc::{AllocError, Global};
 
-/// How many requests a submitter's software queue holds after one more step, of so many before it; the submitter's plug takes
+/// How many requests a submitter's software queue holds after one more step, where it held `held` before; the submitter's plug takes
 /// the step too.
 fn held_next(
     alloc: Global,

@@ -3,7 +3,8 @@
 ghost use Rattle.std.specs.Prelude.{◌≡◌, ◌<◌, ◌+◌, ◌-◌, ◌^◌, if◌then◌else◌, ◌&&◌, ◌==◌};
 ghost use Rattle.csv.specs.Machine.{ends_at_end};
 ghost use Rattle.csv.specs.Reading.{is_bom, strip_bom};
-ghost use Rattle.blk_explain.specs.Lines.{state_of, state_after, begins, ends_line, line_of};
+ghost use Rattle.blk_explain.specs.Lines.{state_after, begins, ends_line, line_of};
+ghost use Rattle.blk_explain.specs.Inside.Ends.{state_of};
 
 /// Where the reading of records stands between two bytes.
 #[derive(Clone, Copy, Debug, PartialEq, Eq)]

@@ -1,4 +1,4 @@
-//! Words that are told.
+//! Fixed phrases of the texts.
 
 ghost use Rattle.std.specs.Prelude.{◌≡◌};
 ghost use Rattle.blk_explain.specs.Names.{text_of};
@@ -21,9 +21,9 @@ pub enum Name {
     /// `bound`.
     Bound,
     /// `blk-met`.
-    BlkMet,
+    BlkOnTime,
     /// `met`.
-    Met,
+    OnTime,
     /// `window`.
     Window,
     /// `blk-schedule`.
@@ -65,8 +65,8 @@ impl Name {
             Name::BlkCertificate => b"blk-certificate",
             Name::TakeCertificates => b"check",
             Name::Bound => b"bound",
-            Name::BlkMet => b"blk-met",
-            Name::Met => b"met",
+            Name::BlkOnTime => b"blk-met",
+            Name::OnTime => b"met",
             Name::Window => b"window",
             Name::BlkSchedule => b"blk-schedule",
             Name::TakeSchedules => b"judge",

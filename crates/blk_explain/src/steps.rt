@@ -1,12 +1,14 @@
-//! What is told of a step that is refused: the state that refuses it.
+//! What is said about a step that is refused: the state that refuses it.
 
-ghost use Rattle.std.specs.Prelude.{◌≡◌, ◌+◌, ◌-◌, ◌++◌, IfOk, MatchOption, Some, ℕ, slice_get, codes};
+ghost use Rattle.std.specs.Prelude.{◌≡◌, ◌+◌, ◌-◌, IfOk, MatchOption, Some};
 ghost use Rattle.blk_bio.specs.Bios.{Bio as BioFields};
 ghost use Rattle.blk_text.specs.Script.{scripted, IsScript};
 ghost use Rattle.blk_text.specs.declared.script.Line.TheVariants as line;
 ghost use Rattle.blk_explain.specs.Findings.{rows_of, IsRefused, IsRefusedScript};
-ghost use Rattle.blk_explain.specs.Steps.{step_wanted, plain_text, held_text, entered_text, IsSoftState, IsTwiceState, IsStateAt, IsState};
-ghost use Rattle.blk_explain.specs.Held.{RunsTo};
+ghost use Rattle.blk_explain.specs.Steps.{step_wanted, plain_text, held_text, entered_text, IsSoftState, IsTwiceState, IsStateAt, IsState, IsFlushAt, IsNoFlushAt};
+ghost use Rattle.blk_explain.specs.Inside.Entered.{IsEntered};
+ghost use Rattle.blk_explain.specs.Twice.{IsBioAt};
+ghost use Rattle.blk_explain.specs.Inside.Before.{RunsTo};
 ghost use Rattle.blk_explain.specs.Lines.{line_of};
 
 use crate::held::held_after;
@@ -40,7 +42,7 @@ fn step_wanted(why: SimWhy) -> &'static [u8]
     }
 }
 
-/// What is told of a software queue without room.
+/// What is said about a software queue without room.
 fn soft_text(
     alloc: Global,
     script: &Script,
@@ -60,7 +62,7 @@ fn soft_text(
     draft.finish()
 }
 
-/// What is told of a bio that entered before.
+/// What is said about a bio that entered before.
 fn entered_text(alloc: Global, bio: &Bio, line: u64) -> Result<Vec<u8>, AllocError>
     ensures { IfOk result (λ text. text.items ≡ entered_text bio.now line) }
 {
@@ -75,7 +77,7 @@ fn entered_text(alloc: Global, bio: &Bio, line: u64) -> Result<Vec<u8>, AllocErr
     draft.finish()
 }
 
-/// What a step has to be instead, as it is told.
+/// What a step has to be instead, as it is written.
 fn wanted(alloc: Global, why: SimWhy) -> Result<Vec<u8>, AllocError>
     ensures { IfOk result (λ text. text.items ≡ plain_text why) }
 {
@@ -87,8 +89,7 @@ fn wanted(alloc: Global, why: SimWhy) -> Result<Vec<u8>, AllocError>
 
 /// The submitter of a step that is a flush.
 fn flush_at(script: &Script, place: usize) -> Option<u8>
-    ensures { MatchOption result ((s : ℕ) → ¬ (slice_get script.now.lines.items place ≡ Some (line.Flush s)))
-        (λ s. slice_get script.now.lines.items place ≡ Some (line.Flush s)) }
+    ensures { MatchOption result (IsNoFlushAt script.now.lines.items place) (IsFlushAt script.now.lines.items place) }
 {
     match script.lines.get(place) {
         Some(Line::Flush(submitter)) => Some(*submitter),
@@ -96,7 +97,7 @@ fn flush_at(script: &Script, place: usize) -> Option<u8>
     }
 }
 
-/// What is told of a flush for which the software queue has no room.
+/// What is said about a flush for which the software queue has no room.
 fn soft_state(alloc: Global, script: &Script, place: usize) -> Result<Vec<u8>, AllocError>
     requires script { IsScript (scripted script.now) }
     requires runs { RunsTo (scripted script.now) place }
@@ -111,7 +112,7 @@ fn soft_state(alloc: Global, script: &Script, place: usize) -> Result<Vec<u8>, A
     }
 }
 
-/// What is told of the bio of a step: on which line it entered.
+/// What is said about the bio of a step: on which line it entered.
 fn entered_at(
     alloc: Global,
     bytes: &[u8],
@@ -119,9 +120,8 @@ fn entered_at(
     place: usize,
 ) -> Result<Vec<u8>, AllocError>
     requires script { IsScript (scripted script.now) }
-    requires bio { (b : BioFields) × (slice_get script.now.lines.items place ≡ Some (line.Bio b)) }
-    ensures { IfOk result (λ text. (b : BioFields) → slice_get script.now.lines.items place ≡ Some (line.Bio b)
-        → text.items ≡ entered_text b (line_of bytes.now (place + 3))) }
+    requires bio { (b : BioFields) × IsBioAt script.now.lines.items place b }
+    ensures { IfOk result (λ text. IsEntered script.now.lines.items place (line_of bytes.now (place + 3)) text.items) }
 {
     match bio_at(script, place) {
         Some(bio) => {
@@ -133,7 +133,7 @@ fn entered_at(
     }
 }
 
-/// What is told of a bio that entered twice before a step: the first that did.
+/// What is said about a bio that entered twice before a step: the first that did.
 fn twice_state(
     alloc: Global,
     bytes: &[u8],
@@ -150,7 +150,7 @@ fn twice_state(
     }
 }
 
-/// What is told of a step of a script that is refused.
+/// What is said about a step of a script that is refused.
 fn state_at(
     alloc: Global,
     bytes: &[u8],

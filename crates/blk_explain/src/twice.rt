@@ -1,10 +1,8 @@
 //! Bios that enter twice.
 
-ghost use Rattle.std.specs.Prelude.{◌≡◌, ◌<◌, MatchOption, IfOk, IfSome, IfNone, Some, ℕ, slice_get};
-ghost use Rattle.blk_bio.specs.Bios.{Bio as BioFields};
-ghost use Rattle.blk_bio.specs.declared.bio.BioId.{BioId as Name};
-ghost use Rattle.blk_text.specs.declared.script.Line.TheVariants as line;
-ghost use Rattle.blk_explain.specs.Twice.{AreOneBio, AreDistinct};
+ghost use Rattle.std.specs.Prelude.{MatchOption, IfOk};
+ghost use Rattle.blk_explain.specs.Twice.{AreDistinct, IsBioAt, IsNoBioAt, IsFirstPairOf};
+ghost use Rattle.blk_explain.specs.Inside.Entered.{HasBioAt, HasNoBio, IsFirstAgain};
 
 use blk_bio::{Bio, BioId};
 use blk_ids::IdSet;
@@ -13,8 +11,7 @@ use std::alloc::{AllocError, Global};
 
 /// The bio of a step.
 pub fn bio_at(script: &Script, place: usize) -> Option<Bio>
-    ensures { MatchOption result ((b : BioFields) → ¬ (slice_get script.now.lines.items place ≡ Some (line.Bio b)))
-        (λ b. slice_get script.now.lines.items place ≡ Some (line.Bio b)) }
+    ensures { MatchOption result (IsNoBioAt script.now.lines.items place) (IsBioAt script.now.lines.items place) }
 {
     match script.lines.get(place) {
         Some(Line::Bio(bio)) => Some(*bio),
@@ -24,8 +21,7 @@ pub fn bio_at(script: &Script, place: usize) -> Option<Bio>
 
 /// The place of the first of these steps whose bio entered before.
 fn second(alloc: Global, script: &Script, count: usize) -> Result<Option<usize>, AllocError>
-    ensures { IfOk result (λ o. MatchOption o (AreDistinct script.now.lines.items count)
-        (λ j. (j < count) × AreDistinct script.now.lines.items j × ((i : ℕ) × AreOneBio script.now.lines.items i j))) }
+    ensures { IfOk result (λ o. MatchOption o (AreDistinct script.now.lines.items count) (IsFirstAgain script.now.lines.items count)) }
 {
     let mut ids = IdSet::new(alloc)?;
     for place in 0..count {
@@ -46,9 +42,7 @@ fn second(alloc: Global, script: &Script, count: usize) -> Result<Option<usize>,
 
 /// The place of the first of these steps whose bio has this id.
 fn first(script: &Script, id: BioId, count: usize) -> Option<usize>
-    ensures { MatchOption result
-        ((k : ℕ) (b : BioFields) → k < count → slice_get script.now.lines.items k ≡ Some (line.Bio b) → ¬ (b.id ≡ id))
-        (λ i. (i < count) × ((b : BioFields) × (slice_get script.now.lines.items i ≡ Some (line.Bio b)) × (b.id ≡ id))) }
+    ensures { MatchOption result (HasNoBio script.now.lines.items count id) (HasBioAt script.now.lines.items count id) }
 {
     for place in 0..count {
         if let Some(bio) = bio_at(script, place) {
@@ -66,8 +60,7 @@ pub fn twice(
     script: &Script,
     count: usize,
 ) -> Result<Option<(usize, usize)>, AllocError>
-    ensures { IfOk result (λ o. MatchOption o (AreDistinct script.now.lines.items count)
-        (λ p. (p.1 < count) × AreDistinct script.now.lines.items p.1 × AreOneBio script.now.lines.items p.0 p.1)) }
+    ensures { IfOk result (IsFirstPairOf script.now.lines.items count) }
 {
     let Some(again) = second(alloc, script, count)? else {
         return Ok(None);

@@ -23,7 +23,7 @@ use Rattle.blk_deadline.specs.declared.Tunables.{Tunables}
 use Rattle.blk_kyber.specs.declared.Targets.{Targets}
 use Rattle.blk_settings.specs.Rows.{name_of}
 use Rattle.blk_words.specs.declared.table.Makes.{Makes}
-use Rattle.blk_words.specs.Line.{Names, AreSchedulers, Subcommand, topmost, run_table, other_table, table, with_one, blk_app}
+use Rattle.blk_words.specs.CommandLine.{Names, AreSchedulers, Subcommand, topmost, run_table, other_table, table, with_one, blk_app}
 use Rattle.blk_words.specs.declared.words.Job.{Job}
 use Rattle.blk_words.specs.declared.words.Job.TheVariants as job
 use Rattle.blk_words.specs.Times.{number_in}
@@ -88,7 +88,7 @@ pub version_by : (names : Names) (a : App) (words : List Text) (error : Error) �
     → (is_simple_and_free a ≡ true → HasKind (fault_of a words) error) → kind.DisplayVersion ≡ kind_of error → Asks words job.Version
 version_by names a words error are e kinds is = (names, are, inr (among names a words error kind.DisplayVersion e kinds is (λ x. cc x), refl))
 
--- words that were not parsed, for another kind of error than want of memory and no question for the version, are refused
+-- words that were not parsed, for another kind of error than out of memory, and that don't ask for the version, are refused
 pub line_by : (names : Names) (a : App) (words : List Text) (error : Error) (k : ErrorKind) → AreSchedulers names → a ≡ blk_app names
     → (is_simple_and_free a ≡ true → HasKind (fault_of a words) error) → k ≡ kind_of error → k ≢ kind.OutOfMemory → k ≢ kind.DisplayVersion → AreFaulty words
 line_by names a words error k are e kinds is not other = (names, are, (k, among names a words error k e kinds is not, other))
@@ -121,11 +121,11 @@ read_by f id text make none r e is = is ∙ ap (λ (o : Option Text). option_map
 pub unread_by : {X : Type 0} (f : Found) (id : Text) (make : Text → X) (none : X) → None ≡ first_value f id → none ≡ option_map_or make (first_of id (rows_of f)) none
 unread_by f id make none e = ap (λ (o : Option Text). option_map_or make o none) (e ∙ first_value-rows f id)
 
--- the greatest number of so many bits
+-- the greatest number of `bits` bits
 abbrev pub IsGreatest : ℕ → ℕ → Type 0
 IsGreatest bits most = (suc most ≡ 2 ^ bits) × (most < 2 ^ 64)
 
--- a text that parses as a number of so many bits, and one that does not
+-- a text that parses as a number of `bits` bits, and one that does not
 abbrev pub Parses : ℕ → Text → Type 0
 Parses bits text = IsNumeral 10 (without_leading_plus text) × (digits_value 10 (without_leading_plus text) < 2 ^ bits)
 
@@ -146,7 +146,7 @@ pub number_unparsed : (bits most : ℕ) → IsGreatest bits most → (text : Tex
 number_unparsed bits most g text wrong =
     ap (λ (b : Bool). if b then Some (digits_value 10 (without_leading_plus text)) else None) (not_accepted bits most g text _ refl wrong)
 
--- what a reader of numbers of so many bits gives for the text of an option
+-- what a reader of numbers of `bits` bits gives for the text of an option
 read_number : (bits most : ℕ) → IsGreatest bits most → {E : Type 0} (gives : Text → Result ℕ E → Type 0) → ((t : Text) (q : Result ℕ E) → gives t q → ParsesUnsigned bits 10 t q) → (o : Option Text) (r : Option ℕ)
     → (o ≡ None → r ≡ None) → ((t : Text) → o ≡ Some t → ReadsOne gives t r) → r ≡ option_and_then (number_in most) o
 read_number bits most g gives w None r none value = none refl

@@ -26,7 +26,6 @@ use Rattle.blk_words.specs.declared.words.Shown.TheVariants as shown
 use Rattle.blk_words.specs.declared.words.Import.{Import}
 use Rattle.blk_words.specs.declared.words.Refusal.{Refusal}
 use Rattle.blk_words.specs.declared.words.Refusal.TheVariants as refusal
-use Rattle.blk_words.specs.declared.words.Tuning.{Tuning}
 use Rattle.blk_words.specs.declared.words.Written.{Written}
 use Rattle.blk_words.specs.declared.words.Written.TheVariants as written
 use Rattle.blk_words.specs.declared.lists.Tried.{Tried}
@@ -35,7 +34,7 @@ use Rattle.blk_words.specs.declared.table.TheConstants.{MAX_TARGET}
 use Rattle.blk_words.specs.declared.table.Makes.{Makes}
 use Rattle.blk_words.specs.declared.table.Makes.TheVariants as makes
 use Rattle.blk_settings.specs.Rows.{name_of}
-use Rattle.blk_words.specs.Line.{Names, AreSchedulers, table, blk_app}
+use Rattle.blk_words.specs.CommandLine.{Names, AreSchedulers, table, blk_app}
 use Rattle.blk_words.specs.Lists.{grid_of, list_of, tried_of}
 use Rattle.blk_words.specs.Times.{number_in, time_of}
 
@@ -90,8 +89,14 @@ form_asked rows = form_of (is_flagged (codes "json") rows)
 abbrev pub earliest_of : Bool → Bool → Option Bool
 earliest_of runs late_last = if runs then Some late_last else None
 
+abbrev pub earliest_given : List Row → Option Bool
+earliest_given rows = earliest_of (is_flagged (codes "earliest") rows) (is_flagged (codes "late-last") rows)
+
 abbrev pub lineup_of : Option Tunables → Option Targets → Option Bool → Option Lineup
 lineup_of tunables targets earliest = option_and_then (λ t. option_map (λ g. record { deadline = t; kyber = g; earliest = earliest }) targets) tunables
+
+abbrev pub lineup_given : List Row → Option Lineup
+lineup_given rows = lineup_of (tunables_of rows) (targets_of rows) (earliest_given rows)
 
 abbrev pub compared : Form → Option Lineup → Option Job
 compared f lineup = option_map (λ l. job.Compare l f) lineup
@@ -117,6 +122,9 @@ loaded w s l = option_and_then (λ s. option_map (λ l. job.Load s l w) l) s
 -- the job of `load` by whether its trace and JSON are asked for, which exclude one another
 abbrev pub load_job : Bool → Bool → Option Sched → Option Load → Option Job
 load_job trace json s l = if trace && json then Some (job.Refuse refusal.TraceAndJson) else loaded (shown_of trace json) s l
+
+abbrev pub load_given : List Row → Option Job
+load_given rows = load_job (is_flagged (codes "trace") rows) (is_flagged (codes "json") rows) (sched_of rows) (amounts_of rows)
 
 -- whether a request came in when its first bio was queued, by the text of `--from`
 abbrev pub entry_named : Text → Option Bool
@@ -226,23 +234,26 @@ oracle_job trace met json =
     if trace && met then None
     else (if trace then Some (job.Report (form_of json))
     else (if json then Some (job.Refuse refusal.JsonAlone)
-    else (if met then Some job.Met else Some job.Oracle)))
+    else (if met then Some job.OnTime else Some job.Oracle)))
+
+abbrev pub oracle_given : List Row → Option Job
+oracle_given rows = oracle_job (is_flagged (codes "trace") rows) (is_flagged (codes "met") rows) (is_flagged (codes "json") rows)
 
 -- the job that a subcommand makes of what its options are given
 abbrev pub job_made : Makes → List Row → Option Job
 job_made (makes.Plain j) rows = Some j
 job_made makes.Sim rows = option_map job.Sim (sched_of rows)
-job_made makes.Compare rows = compared (form_asked rows) (lineup_of (tunables_of rows) (targets_of rows) (earliest_of (is_flagged (codes "earliest") rows) (is_flagged (codes "late-last") rows)))
+job_made makes.Compare rows = compared (form_asked rows) (lineup_given rows)
 job_made makes.Tune rows = Some (tune_job rows)
 job_made makes.Late rows = Some (job.Late (form_asked rows))
 job_made makes.Misses rows = Some (job.Misses (form_asked rows))
 job_made makes.Spread rows = Some (job.Spread (form_asked rows))
-job_made makes.Picture rows = pictured (is_flagged (codes "script") rows) (lineup_of (tunables_of rows) (targets_of rows) (earliest_of (is_flagged (codes "earliest") rows) (is_flagged (codes "late-last") rows)))
-job_made makes.Oracle rows = oracle_job (is_flagged (codes "trace") rows) (is_flagged (codes "met") rows) (is_flagged (codes "json") rows)
+job_made makes.Picture rows = pictured (is_flagged (codes "script") rows) (lineup_given rows)
+job_made makes.Oracle rows = oracle_given rows
 job_made makes.Check rows = Some (job.Check (form_asked rows))
 job_made makes.Import rows = Some (import_job rows)
 job_made makes.Judge rows = Some (job.Judge (is_flagged (codes "each") rows))
-job_made makes.Load rows = load_job (is_flagged (codes "trace") rows) (is_flagged (codes "json") rows) (sched_of rows) (amounts_of rows)
+job_made makes.Load rows = load_given rows
 
 -- the job of the subcommand of a name, by what its options are given
 abbrev pub job_of : Names → Text × List Row → Option Job
@@ -280,12 +291,15 @@ NameNone words = (names : Names) × AreSchedulers names × ReadsNone names words
 -- why there is no job
 abbrev pub IsNoJob : List Text → NoJob → Type 0
 IsNoJob words no.Memory = ⊤
-IsNoJob words (no.Line text) = AreFaulty words
+IsNoJob words (no.Usage text) = AreFaulty words
 IsNoJob words no.Nothing = NameNone words
 
--- the grid that the command line reads in words
+-- the grid by what the options of a subcommand are given, and the one that the command line reads in words
+abbrev pub grid_behind : Option (Text × List Row) → Option Gridded
+grid_behind p = option_and_then (λ p. result_ok (grid_given p.1)) p
+
 abbrev pub grid_read : Names → List Text → Option Gridded
-grid_read names words = option_and_then (λ p. result_ok (grid_given p.1)) (subcommand_of (blk_app names) words)
+grid_read names words = grid_behind (subcommand_of (blk_app names) words)
 
 -- the words ask for a trial of this grid, whose lists are those of their options, or else those of the whole grid
 abbrev pub AsksGrid : List Text → Gridded → Type 0

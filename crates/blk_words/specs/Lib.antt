@@ -1,4 +1,6 @@
-pub mod Line
+pub mod CommandLine
 pub mod Times
 pub mod Lists
 pub mod Asked
+pub mod Plain
+pub mod Inside

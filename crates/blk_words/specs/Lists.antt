@@ -1,12 +1,11 @@
 -- Lists as texts, with commas between.
-use Rattle.std.specs.Prelude.{ℕ, ◌≤◌, All, Bool, true, false, not, ◌&&◌, ◌||◌, ◌==◌, ◌∷◌, List, [], length, nat_le, Option, Some, None, codes, option_and_then, option_map, if◌then◌else◌}
+use Rattle.std.specs.Prelude.{ℕ, Bool, true, false, not, ◌&&◌, ◌==◌, ◌∷◌, List, [], length, nat_le, Option, Some, None, codes, option_and_then, option_map, if◌then◌else◌}
 use Rattle.std.specs.List.{list_any, slice_split}
 use Rattle.std.specs.Str.{bytes_eq}
 use Rattle.clap.specs.Words.{Text}
 use Rattle.blk_grid.specs.Rows.{Gridded}
 use Rattle.blk_words.specs.declared.lists.Tried.{Tried}
-use Rattle.blk_words.specs.declared.lists.Lists.{Lists}
-use Rattle.blk_words.specs.declared.lists.TheConstants.{MAX_LISTED, MAX_SHORT}
+use Rattle.blk_words.specs.declared.lists.TheConstants.{MAX_LISTED}
 use Rattle.blk_words.specs.Times.{number_in}
 
 -- what stands between the commas of a text
@@ -55,13 +54,6 @@ no_schedulers = record { none = false; earliest = false; deadline = false; kyber
 abbrev pub tried_of : Text → Option Tried
 tried_of text = with_names no_schedulers (parts text)
 
--- the numbers of 16 bits of lists are such
-abbrev pub AreShort : Lists → Type 0
-AreShort l = All (λ n. n ≤ MAX_SHORT) l.fifo_batch.items × All (λ n. n ≤ MAX_SHORT) l.writes_starved.items
-
 -- the grid of some schedulers and lists
 abbrev pub grid_of : Tried → List ℕ → List ℕ → List ℕ → List ℕ → Gridded
 grid_of t b s r w = record { has_none = t.none; has_earliest = t.earliest; has_deadline = t.deadline; has_kyber = t.kyber; batches = b; starved = s; reads = r; writes = w }
-
-abbrev pub grid_of_lists : Lists → Gridded
-grid_of_lists l = grid_of l.tried l.fifo_batch.items l.writes_starved.items l.read_target.items l.write_target.items

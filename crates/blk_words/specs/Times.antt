@@ -1,5 +1,5 @@
 -- Numbers and times as texts.
-use Rattle.std.specs.Prelude.{◌-◌, ◌*◌, ◌^◌, ℕ, Bool, false, List, length, take, drop, nat_lt, Option, Some, None, codes, option_and_then, if◌then◌else◌}
+use Rattle.std.specs.Prelude.{◌-◌, ◌*◌, ◌^◌, ℕ, Bool, false, length, take, drop, nat_lt, Option, Some, None, codes, option_and_then, if◌then◌else◌}
 use Rattle.std.specs.Option.{option_or}
 use Rattle.std.specs.Str.{bytes_eq}
 use Rattle.std.specs.Str.Parse.{digits_value, without_leading_plus}
@@ -18,11 +18,11 @@ ends_with unit text = bytes_eq (drop (length text - length unit) text) unit
 abbrev pub before : Text → Text → Text
 before unit text = take (length text - length unit) text
 
--- so many of so many nanoseconds, where they fit 64 bits
+-- `n` times these nanoseconds, where they fit 64 bits
 abbrev pub scaled : ℕ → ℕ → Option ℕ
 scaled nanoseconds n = if nat_lt (n * nanoseconds) (2 ^ 64) then Some (n * nanoseconds) else None
 
--- the nanoseconds of a number with this unit, which has so many of them
+-- the nanoseconds of a number with a unit that has `nanoseconds`
 abbrev pub in_unit : Text → ℕ → Text → Option ℕ
 in_unit unit nanoseconds text =
     if ends_with unit text then option_and_then (scaled nanoseconds) (number_in 18_446_744_073_709_551_615 (before unit text)) else None

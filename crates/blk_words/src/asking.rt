@@ -1,105 +1,72 @@
 //! Laws of the command line: which jobs plain lines ask for, whatever the program's name.
 
-ghost use Rattle.std.specs.Prelude.{◌≡◌, ◌↔◌, ◌∷◌, [], true, false, None, Some, codes};
+ghost use Rattle.std.specs.Prelude.{◌∷◌, [], true, false, None, Some, codes};
 ghost use Rattle.clap.specs.Words.{Text};
-ghost use Rattle.blk_words.specs.declared.words.Job.{Job as AJob};
-ghost use Rattle.blk_grid.specs.Rows.{Gridded, whole};
-ghost use Rattle.blk_words.specs.Asked.{Asks, AsksGrid};
+ghost use Rattle.blk_grid.specs.Rows.{whole};
+ghost use Rattle.blk_words.specs.Asked.{Asks};
+ghost use Rattle.blk_words.specs.Plain.{AsksFor, AsksForGrid, AsksForNothing, default_tunables, default_targets, default_lineup, with_earliest, in_batches, default_trial, five_by_lateness, own_grid, whole_import, hundred_queued, default_load};
 
 use crate::words::{Form, Job, Refusal, Shown, Written};
-use blk_grid::By;
 use blk_settings::Sched;
 
-/// Each of these lines asks for its job and, all but `--version`, for no other; `oracle --trace --met` asks for none. `tune` asks for the whole
-/// grid, or for that of its lists, and for no other.
+/// Each of these lines asks for its job and, all but `--version`, for no other; `oracle --trace --met` asks for none. `tune` asks for the
+/// whole grid, or for that of its lists, and for no other.
 pub fn plain_lines()
-    ensures sim { (name : Text) → (j : AJob) → Asks (name ∷ codes "sim" ∷ []) j ↔ (j ≡ Job.Sim Sched.None) }
-    ensures none { (name : Text) → (j : AJob) → Asks (name ∷ codes "sim" ∷ codes "--sched" ∷ codes "none" ∷ []) j ↔ (j ≡ Job.Sim Sched.None) }
-    ensures deadline { (name : Text) → (j : AJob) → Asks (name ∷ codes "sim" ∷ codes "--sched" ∷ codes "deadline" ∷ []) j
-        ↔ (j ≡ Job.Sim (Sched.Deadline (record { fifo_batch = 16; writes_starved = 2; front_merges = true }))) }
-    ensures kyber { (name : Text) → (j : AJob) → Asks (name ∷ codes "sim" ∷ codes "--sched" ∷ codes "kyber" ∷ []) j
-        ↔ (j ≡ Job.Sim (Sched.Kyber (record { read = 2; write = 10 }))) }
-    ensures earliest { (name : Text) → (j : AJob) → Asks (name ∷ codes "sim" ∷ codes "--sched" ∷ codes "earliest" ∷ []) j ↔ (j ≡ Job.Sim (Sched.Earliest false)) }
-    ensures late_last { (name : Text) → (j : AJob) → Asks (name ∷ codes "sim" ∷ codes "--sched" ∷ codes "earliest" ∷ codes "--late-last" ∷ []) j ↔ (j ≡ Job.Sim (Sched.Earliest true)) }
-    ensures batch { (name : Text) → (j : AJob) → Asks (name ∷ codes "sim" ∷ codes "--sched" ∷ codes "deadline" ∷ codes "--fifo-batch" ∷ codes "1" ∷ []) j
-        ↔ (j ≡ Job.Sim (Sched.Deadline (record { fifo_batch = 1; writes_starved = 2; front_merges = true }))) }
-    ensures target { (name : Text) → (j : AJob) → Asks (name ∷ codes "sim" ∷ codes "--sched" ∷ codes "kyber" ∷ codes "--read-target" ∷ codes "1000000" ∷ []) j
-        ↔ (j ≡ Job.Sim (Sched.Kyber (record { read = 1_000_000; write = 10 }))) }
-    ensures compare { (name : Text) → (j : AJob) → Asks (name ∷ codes "compare" ∷ []) j
-        ↔ (j ≡ Job.Compare (record { deadline = record { fifo_batch = 16; writes_starved = 2; front_merges = true }; kyber = record { read = 2; write = 10 }; earliest = None }) Form.Lines) }
-    ensures compare_earliest { (name : Text) → (j : AJob) → Asks (name ∷ codes "compare" ∷ codes "--earliest" ∷ []) j
-        ↔ (j ≡ Job.Compare (record { deadline = record { fifo_batch = 16; writes_starved = 2; front_merges = true }; kyber = record { read = 2; write = 10 }; earliest = Some false }) Form.Lines) }
-    ensures compare_late_last { (name : Text) → (j : AJob) → Asks (name ∷ codes "compare" ∷ codes "--earliest" ∷ codes "--late-last" ∷ []) j
-        ↔ (j ≡ Job.Compare (record { deadline = record { fifo_batch = 16; writes_starved = 2; front_merges = true }; kyber = record { read = 2; write = 10 }; earliest = Some true }) Form.Lines) }
-    ensures compare_json { (name : Text) → (j : AJob) → Asks (name ∷ codes "compare" ∷ codes "--json" ∷ []) j
-        ↔ (j ≡ Job.Compare (record { deadline = record { fifo_batch = 16; writes_starved = 2; front_merges = true }; kyber = record { read = 2; write = 10 }; earliest = None }) Form.Json) }
-    ensures tune { (name : Text) → (j : AJob) → Asks (name ∷ codes "tune" ∷ []) j
-        ↔ (j ≡ Job.Tune (record { by = By.Misses; top = None; threads = None; form = Form.Lines })) }
-    ensures tune_so { (name : Text) → (j : AJob) → Asks (name ∷ codes "tune" ∷ codes "--sched" ∷ codes "deadline,none" ∷ codes "--fifo-batch" ∷ codes "16,1" ∷ codes "--by" ∷ codes "lateness" ∷ codes "--top" ∷ codes "5" ∷ codes "--threads" ∷ codes "4" ∷ []) j
-        ↔ (j ≡ Job.Tune (record { by = By.Lateness; top = Some 5; threads = Some 4; form = Form.Lines })) }
-    ensures tune_json { (name : Text) → (j : AJob) → Asks (name ∷ codes "tune" ∷ codes "--json" ∷ []) j
-        ↔ (j ≡ Job.Tune (record { by = By.Misses; top = None; threads = None; form = Form.Json })) }
-    ensures tune_unknown { (name : Text) → (j : AJob) → Asks (name ∷ codes "tune" ∷ codes "--sched" ∷ codes "none,cfq" ∷ []) j
-        ↔ (j ≡ Job.Refuse Refusal.Scheds) }
-    ensures tune_no_list { (name : Text) → (j : AJob) → Asks (name ∷ codes "tune" ∷ codes "--fifo-batch" ∷ codes "1,x" ∷ []) j
-        ↔ (j ≡ Job.Refuse Refusal.FifoBatch) }
-    ensures tune_twice { (name : Text) → (j : AJob) → Asks (name ∷ codes "tune" ∷ codes "--read-target" ∷ codes "2,5,2" ∷ []) j
-        ↔ (j ≡ Job.Refuse Refusal.ReadTarget) }
-    ensures tune_by_what { (name : Text) → (j : AJob) → Asks (name ∷ codes "tune" ∷ codes "--by" ∷ codes "wait" ∷ []) j
-        ↔ (j ≡ Job.Refuse Refusal.By) }
-    ensures whole_grid { (name : Text) → (g : Gridded) → AsksGrid (name ∷ codes "tune" ∷ []) g ↔ (g ≡ whole) }
-    ensures own_grid { (name : Text) → (g : Gridded) → AsksGrid (name ∷ codes "tune" ∷ codes "--sched" ∷ codes "deadline,none" ∷ codes "--fifo-batch" ∷ codes "16,1" ∷ codes "--writes-starved" ∷ codes "3" ∷ codes "--write-target" ∷ codes "7,0" ∷ []) g
-        ↔ (g ≡ record { has_none = true; has_earliest = false; has_deadline = true; has_kyber = false; batches = 16 ∷ 1 ∷ []; starved = 3 ∷ []; reads = 1 ∷ 2 ∷ 5 ∷ 10 ∷ 20 ∷ 50 ∷ 100 ∷ []; writes = 7 ∷ 0 ∷ [] }) }
-    ensures migrate { (name : Text) → (j : AJob) → Asks (name ∷ codes "migrate" ∷ []) j ↔ (j ≡ Job.Migrate) }
-    ensures commands { (name : Text) → (j : AJob) → Asks (name ∷ codes "commands" ∷ []) j ↔ (j ≡ Job.Commands) }
-    ensures late { (name : Text) → (j : AJob) → Asks (name ∷ codes "late" ∷ []) j ↔ (j ≡ Job.Late Form.Lines) }
-    ensures late_json { (name : Text) → (j : AJob) → Asks (name ∷ codes "late" ∷ codes "--json" ∷ []) j ↔ (j ≡ Job.Late Form.Json) }
-    ensures misses { (name : Text) → (j : AJob) → Asks (name ∷ codes "misses" ∷ []) j ↔ (j ≡ Job.Misses Form.Lines) }
-    ensures misses_json { (name : Text) → (j : AJob) → Asks (name ∷ codes "misses" ∷ codes "--json" ∷ []) j ↔ (j ≡ Job.Misses Form.Json) }
-    ensures spread { (name : Text) → (j : AJob) → Asks (name ∷ codes "spread" ∷ []) j ↔ (j ≡ Job.Spread Form.Lines) }
-    ensures spread_json { (name : Text) → (j : AJob) → Asks (name ∷ codes "spread" ∷ codes "--json" ∷ []) j ↔ (j ≡ Job.Spread Form.Json) }
-    ensures picture { (name : Text) → (j : AJob) → Asks (name ∷ codes "picture" ∷ []) j ↔ (j ≡ Job.Picture) }
-    ensures pictures { (name : Text) → (j : AJob) → Asks (name ∷ codes "picture" ∷ codes "--script" ∷ codes "--earliest" ∷ codes "--fifo-batch" ∷ codes "1" ∷ []) j
-        ↔ (j ≡ Job.Pictures (record { deadline = record { fifo_batch = 1; writes_starved = 2; front_merges = true }; kyber = record { read = 2; write = 10 }; earliest = Some false })) }
-    ensures oracle { (name : Text) → (j : AJob) → Asks (name ∷ codes "oracle" ∷ []) j ↔ (j ≡ Job.Oracle) }
-    ensures report { (name : Text) → (j : AJob) → Asks (name ∷ codes "oracle" ∷ codes "--trace" ∷ []) j ↔ (j ≡ Job.Report Form.Lines) }
-    ensures report_json { (name : Text) → (j : AJob) → Asks (name ∷ codes "oracle" ∷ codes "--trace" ∷ codes "--json" ∷ []) j ↔ (j ≡ Job.Report Form.Json) }
-    ensures met { (name : Text) → (j : AJob) → Asks (name ∷ codes "oracle" ∷ codes "--met" ∷ []) j ↔ (j ≡ Job.Met) }
-    ensures report_and_met { (name : Text) → (j : AJob) → Asks (name ∷ codes "oracle" ∷ codes "--trace" ∷ codes "--met" ∷ []) j → ⊥ }
-    ensures certificate_json { (name : Text) → (j : AJob) → Asks (name ∷ codes "oracle" ∷ codes "--met" ∷ codes "--json" ∷ []) j
-        ↔ (j ≡ Job.Refuse Refusal.JsonAlone) }
-    ensures check { (name : Text) → (j : AJob) → Asks (name ∷ codes "check" ∷ []) j ↔ (j ≡ Job.Check Form.Lines) }
-    ensures check_json { (name : Text) → (j : AJob) → Asks (name ∷ codes "check" ∷ codes "--json" ∷ []) j ↔ (j ≡ Job.Check Form.Json) }
-    ensures imported { (name : Text) → (j : AJob) → Asks (name ∷ codes "import" ∷ []) j
-        ↔ (j ≡ Job.Import (record { read_expire = 500_000_000; write_expire = 5_000_000_000; from_queue = false; skip = 0; first = None; written = Written.Schedule })) }
-    ensures imported_so { (name : Text) → (j : AJob) → Asks (name ∷ codes "import" ∷ codes "--read-expire" ∷ codes "150us" ∷ codes "--from" ∷ codes "queue" ∷ codes "--skip" ∷ codes "2ms" ∷ codes "--first" ∷ codes "100" ∷ codes "--table" ∷ []) j
-        ↔ (j ≡ Job.Import (record { read_expire = 150_000; write_expire = 5_000_000_000; from_queue = true; skip = 2_000_000; first = Some 100; written = Written.Table })) }
-    ensures summary { (name : Text) → (j : AJob) → Asks (name ∷ codes "import" ∷ codes "--write-expire" ∷ codes "8ns" ∷ codes "--summary" ∷ []) j
-        ↔ (j ≡ Job.Import (record { read_expire = 500_000_000; write_expire = 8; from_queue = false; skip = 0; first = None; written = Written.Summary })) }
-    ensures no_time { (name : Text) → (j : AJob) → Asks (name ∷ codes "import" ∷ codes "--skip" ∷ codes "2" ∷ []) j
-        ↔ (j ≡ Job.Refuse Refusal.Skip) }
-    ensures no_entry { (name : Text) → (j : AJob) → Asks (name ∷ codes "import" ∷ codes "--from" ∷ codes "issue" ∷ []) j
-        ↔ (j ≡ Job.Refuse Refusal.From) }
-    ensures table_and_summary { (name : Text) → (j : AJob) → Asks (name ∷ codes "import" ∷ codes "--table" ∷ codes "--summary" ∷ []) j
-        ↔ (j ≡ Job.Refuse Refusal.TableAndSummary) }
-    ensures script { (name : Text) → (j : AJob) → Asks (name ∷ codes "import" ∷ codes "--script" ∷ codes "--round" ∷ codes "1ms" ∷ []) j
-        ↔ (j ≡ Job.Import (record { read_expire = 500_000_000; write_expire = 5_000_000_000; from_queue = false; skip = 0; first = None; written = Written.Script 1_000_000 None })) }
-    ensures script_alone { (name : Text) → (j : AJob) → Asks (name ∷ codes "import" ∷ codes "--script" ∷ []) j
-        ↔ (j ≡ Job.Refuse Refusal.NoRound) }
-    ensures depth_alone { (name : Text) → (j : AJob) → Asks (name ∷ codes "import" ∷ codes "--depth" ∷ codes "8" ∷ []) j
-        ↔ (j ≡ Job.Refuse Refusal.NoScript) }
-    ensures judge { (name : Text) → (j : AJob) → Asks (name ∷ codes "judge" ∷ []) j ↔ (j ≡ Job.Judge false) }
-    ensures judge_each { (name : Text) → (j : AJob) → Asks (name ∷ codes "judge" ∷ codes "--each" ∷ []) j ↔ (j ≡ Job.Judge true) }
-    ensures explain { (name : Text) → (j : AJob) → Asks (name ∷ codes "explain" ∷ []) j ↔ (j ≡ Job.Explain) }
-    ensures load { (name : Text) → (j : AJob) → Asks (name ∷ codes "load" ∷ []) j
-        ↔ (j ≡ Job.Load Sched.None (record { submitters = 2; workers = 2; bios = 1000; depth = 8; busy = None; service = 0 }) (Shown.Account Form.Lines)) }
-    ensures load_json { (name : Text) → (j : AJob) → Asks (name ∷ codes "load" ∷ codes "--json" ∷ []) j
-        ↔ (j ≡ Job.Load Sched.None (record { submitters = 2; workers = 2; bios = 1000; depth = 8; busy = None; service = 0 }) (Shown.Account Form.Json)) }
-    ensures busy { (name : Text) → (j : AJob) → Asks (name ∷ codes "load" ∷ codes "--busy" ∷ codes "3" ∷ []) j
-        ↔ (j ≡ Job.Load Sched.None (record { submitters = 2; workers = 2; bios = 1000; depth = 8; busy = Some 3; service = 0 }) (Shown.Account Form.Lines)) }
-    ensures traced { (name : Text) → (j : AJob) → Asks (name ∷ codes "load" ∷ codes "--trace" ∷ codes "--service" ∷ codes "100" ∷ []) j
-        ↔ (j ≡ Job.Load Sched.None (record { submitters = 2; workers = 2; bios = 1000; depth = 8; busy = None; service = 100 }) Shown.Trace) }
-    ensures traced_json { (name : Text) → (j : AJob) → Asks (name ∷ codes "load" ∷ codes "--trace" ∷ codes "--json" ∷ []) j
-        ↔ (j ≡ Job.Refuse Refusal.TraceAndJson) }
+    ensures sim { AsksFor "sim" (Job.Sim Sched.None) }
+    ensures none { AsksFor "sim --sched none" (Job.Sim Sched.None) }
+    ensures deadline { AsksFor "sim --sched deadline" (Job.Sim (Sched.Deadline default_tunables)) }
+    ensures kyber { AsksFor "sim --sched kyber" (Job.Sim (Sched.Kyber default_targets)) }
+    ensures earliest { AsksFor "sim --sched earliest" (Job.Sim (Sched.Earliest false)) }
+    ensures late_last { AsksFor "sim --sched earliest --late-last" (Job.Sim (Sched.Earliest true)) }
+    ensures batch { AsksFor "sim --sched deadline --fifo-batch 1" (Job.Sim (Sched.Deadline (record default_tunables { fifo_batch = 1 }))) }
+    ensures target { AsksFor "sim --sched kyber --read-target 1000000" (Job.Sim (Sched.Kyber (record default_targets { read = 1_000_000 }))) }
+    ensures compare { AsksFor "compare" (Job.Compare default_lineup Form.Lines) }
+    ensures compare_earliest { AsksFor "compare --earliest" (Job.Compare (with_earliest false) Form.Lines) }
+    ensures compare_late_last { AsksFor "compare --earliest --late-last" (Job.Compare (with_earliest true) Form.Lines) }
+    ensures compare_json { AsksFor "compare --json" (Job.Compare default_lineup Form.Json) }
+    ensures tune { AsksFor "tune" (default_trial Form.Lines) }
+    ensures tune_so { AsksFor "tune --sched deadline,none --fifo-batch 16,1 --by lateness --top 5 --threads 4" five_by_lateness }
+    ensures tune_json { AsksFor "tune --json" (default_trial Form.Json) }
+    ensures tune_unknown { AsksFor "tune --sched none,cfq" (Job.Refuse Refusal.Scheds) }
+    ensures tune_no_list { AsksFor "tune --fifo-batch 1,x" (Job.Refuse Refusal.FifoBatch) }
+    ensures tune_twice { AsksFor "tune --read-target 2,5,2" (Job.Refuse Refusal.ReadTarget) }
+    ensures tune_by_what { AsksFor "tune --by wait" (Job.Refuse Refusal.By) }
+    ensures whole_grid { AsksForGrid "tune" whole }
+    ensures own_grid { AsksForGrid "tune --sched deadline,none --fifo-batch 16,1 --writes-starved 3 --write-target 7,0" own_grid }
+    ensures migrate { AsksFor "migrate" Job.Migrate }
+    ensures commands { AsksFor "commands" Job.Commands }
+    ensures late { AsksFor "late" (Job.Late Form.Lines) }
+    ensures late_json { AsksFor "late --json" (Job.Late Form.Json) }
+    ensures misses { AsksFor "misses" (Job.Misses Form.Lines) }
+    ensures misses_json { AsksFor "misses --json" (Job.Misses Form.Json) }
+    ensures spread { AsksFor "spread" (Job.Spread Form.Lines) }
+    ensures spread_json { AsksFor "spread --json" (Job.Spread Form.Json) }
+    ensures picture { AsksFor "picture" Job.Picture }
+    ensures pictures { AsksFor "picture --script --earliest --fifo-batch 1" (Job.Pictures (in_batches 1 (with_earliest false))) }
+    ensures oracle { AsksFor "oracle" Job.Oracle }
+    ensures report { AsksFor "oracle --trace" (Job.Report Form.Lines) }
+    ensures report_json { AsksFor "oracle --trace --json" (Job.Report Form.Json) }
+    ensures met { AsksFor "oracle --met" Job.OnTime }
+    ensures report_and_on_time { AsksForNothing "oracle --trace --met" }
+    ensures certificate_json { AsksFor "oracle --met --json" (Job.Refuse Refusal.JsonAlone) }
+    ensures check { AsksFor "check" (Job.Check Form.Lines) }
+    ensures check_json { AsksFor "check --json" (Job.Check Form.Json) }
+    ensures imported { AsksFor "import" (Job.Import (whole_import Written.Schedule)) }
+    ensures imported_so { AsksFor "import --read-expire 150us --from queue --skip 2ms --first 100 --table" (Job.Import hundred_queued) }
+    ensures summary { AsksFor "import --write-expire 8ns --summary" (Job.Import (record (whole_import Written.Summary) { write_expire = 8 })) }
+    ensures no_time { AsksFor "import --skip 2" (Job.Refuse Refusal.Skip) }
+    ensures no_entry { AsksFor "import --from issue" (Job.Refuse Refusal.From) }
+    ensures table_and_summary { AsksFor "import --table --summary" (Job.Refuse Refusal.TableAndSummary) }
+    ensures script { AsksFor "import --script --round 1ms" (Job.Import (whole_import (Written.Script 1_000_000 None))) }
+    ensures script_alone { AsksFor "import --script" (Job.Refuse Refusal.NoRound) }
+    ensures depth_alone { AsksFor "import --depth 8" (Job.Refuse Refusal.NoScript) }
+    ensures judge { AsksFor "judge" (Job.Judge false) }
+    ensures judge_each { AsksFor "judge --each" (Job.Judge true) }
+    ensures explain { AsksFor "explain" Job.Explain }
+    ensures load { AsksFor "load" (Job.Load Sched.None default_load (Shown.Account Form.Lines)) }
+    ensures load_json { AsksFor "load --json" (Job.Load Sched.None default_load (Shown.Account Form.Json)) }
+    ensures busy { AsksFor "load --busy 3" (Job.Load Sched.None (record default_load { busy = Some 3 }) (Shown.Account Form.Lines)) }
+    ensures traced { AsksFor "load --trace --service 100" (Job.Load Sched.None (record default_load { service = 100 }) Shown.Trace) }
+    ensures traced_json { AsksFor "load --trace --json" (Job.Refuse Refusal.TraceAndJson) }
     ensures version { (name : Text) → Asks (name ∷ codes "--version" ∷ []) Job.Version }
 {}

@@ -3,7 +3,8 @@
 ghost use Rattle.std.specs.Prelude.{◌≡◌, false, fold, map, IfOk};
 ghost use Rattle.clap.specs.Words.{app_of, rule_of, with_rule};
 ghost use Rattle.clap.specs.declared.builder.command.Command.TheViews.{out-Command as fields_of};
-ghost use Rattle.blk_words.specs.Line.{Names, AreSchedulers, rule_for, subcommand_of, app_for, with_one, run_table, other_table, blk_app};
+ghost use Rattle.blk_words.specs.CommandLine.{Names, AreSchedulers, app_for, with_one, run_table, other_table, blk_app};
+ghost use Rattle.blk_words.specs.Inside.Tables.{rule_for, subcommand_of};
 
 use crate::table::{
     CommandRow, OTHER_COMMANDS, OptionRow, RUN_COMMANDS, SCHEDULERS, TUNING, Takes,

@@ -2,7 +2,8 @@
 
 ghost use Rattle.std.specs.Prelude.{◌≡◌, ◌≤◌, ◌++◌, ◌∷◌, [], true, All, IfOk, IfSome, option_map};
 ghost use Rattle.blk_grid.specs.Rows.{gridded};
-ghost use Rattle.blk_words.specs.Lists.{AreShort, grid_of_lists, is_listed, list_of, with_name, tried_of};
+ghost use Rattle.blk_words.specs.Lists.{is_listed, list_of, with_name, tried_of};
+ghost use Rattle.blk_words.specs.Inside.Lists.{AreShort, grid_of_lists};
 ghost use Rattle.blk_words.specs.Times.{number_in};
 
 use arrayvec::ArrayVec;
@@ -56,7 +57,7 @@ fn number_up_to(text: &str, most: u64) -> Option<u64>
     }
 }
 
-/// Whether a list with this number behind is a list still: it has room, and hasn't got the number.
+/// Whether a list may take this number too: it has room, and doesn't have the number yet.
 fn goes_on(numbers: &Numbers, number: u64) -> bool
     requires { is_listed numbers.now.items ≡ true }
     ensures { result ≡ is_listed (numbers.now.items ++ number ∷ []) }

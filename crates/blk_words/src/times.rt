@@ -3,7 +3,7 @@
 ghost use Rattle.std.specs.Prelude.{◌≡◌};
 ghost use Rattle.blk_words.specs.Times.{in_unit, time_of};
 
-/// The nanoseconds of a number with this unit, which has so many of them.
+/// The nanoseconds of a number with this unit, which is one of `nanoseconds`.
 fn in_unit(text: &str, unit: &str, nanoseconds: u64) -> Option<u64>
     ensures { result ≡ in_unit unit.now nanoseconds text.now }
 {

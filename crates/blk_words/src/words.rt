@@ -2,14 +2,15 @@
 
 ghost use Rattle.std.specs.Prelude.{◌≡◌, ◌≤◌, find, map, All, IfOk, IfErr, IfSome, Ok, Err, Some, option_map, option_and_then, codes, string_bytes};
 ghost use Rattle.std.specs.Option.{option_or};
-ghost use Rattle.std.specs.Result.{result_ok};
 ghost use Rattle.std.specs.Str.{bytes_eq};
-ghost use Rattle.clap.specs.Words.{rows_of, found_of, subcommand_rows_of};
+ghost use Rattle.clap.specs.Words.{subcommand_rows_of};
 ghost use Rattle.blk_grid.specs.Rows.{gridded};
 ghost use Rattle.blk_settings.specs.Rows.{name_of};
-ghost use Rattle.blk_words.specs.Line.{Names, subcommand_of, table as all_commands};
-ghost use Rattle.blk_words.specs.Lists.{AreShort, grid_of_lists};
-ghost use Rattle.blk_words.specs.Asked.{Asks, AsksGrid, IsNoJob, list_given, tried_given, by_named, by_given, grid_given, tune_job, short_given, number_given, is_flagged, tunables_of, targets_of, sched_of, earliest_of, lineup_of, compared, pictured, amounts_of, shown_of, loaded, load_job, form_of, form_asked, time_given, entry_named, from_given, round_by, round_given, scripted, unscripted, written_of, takes_all, import_of, import_job, oracle_job, job_made, job_of};
+ghost use Rattle.blk_words.specs.CommandLine.{Names, table as all_commands};
+ghost use Rattle.blk_words.specs.Inside.Tables.{subcommand_of, makes_among};
+ghost use Rattle.blk_words.specs.Inside.Lists.{AreShort, grid_of_lists};
+ghost use Rattle.blk_words.specs.Asked.{Asks, AsksGrid, IsNoJob, list_given, tried_given, by_named, by_given, grid_given, tune_job, short_given, number_given, is_flagged, tunables_of, targets_of, sched_of, earliest_given, lineup_given, compared, pictured, amounts_of, shown_of, loaded, load_given, form_of, form_asked, time_given, entry_named, from_given, round_by, round_given, scripted, unscripted, written_of, takes_all, import_of, import_job, oracle_given, grid_behind, job_made, job_of};
+ghost use Rattle.blk_words.specs.Inside.Options.{given};
 
 use crate::command::{blk_command, other_commands, run_commands};
 use crate::lists::{Lists, MAX_SHORT, Numbers, Tried, numbers_of, tried_of};
@@ -54,7 +55,7 @@ pub enum Job {
     /// Write the certificate of a command list.
     Oracle,
     /// Write how many commands of a list can be met, with its certificate.
-    Met,
+    OnTime,
     /// Write the report of a trace.
     Report(Form),
     /// Check a certificate, and write what it proves.
@@ -70,7 +71,7 @@ pub enum Job {
     },
     /// Tell what a text is, or what is wrong with it.
     Explain,
-    /// Run a load on a layer under a scheduler, and write this of it.
+    /// Run a load on a layer under a scheduler, and write what is asked of it.
     Load(Sched, Load, Shown),
 }
 
@@ -83,7 +84,7 @@ pub enum Form {
     Json,
 }
 
-/// How a trial of settings is told.
+/// How a trial of settings is written.
 #[derive(Clone, Copy, Debug, PartialEq, Eq)]
 pub struct Tuning {
     /// By what its rows are put in order first.
@@ -188,28 +189,28 @@ pub enum NoJob {
     /// Memory ran out.
     Memory,
     /// The words are no command line of the program, or ask for its help: what clap says of them.
-    Line(String),
+    Usage(String),
     /// They are taken and name no job: flags exclude one another, those of `oracle --trace --met`.
     Nothing,
 }
 
 /// The number of 16 bits that an option is given.
 fn short_of(options: &ArgMatches<'_>, id: &str) -> Option<u16>
-    ensures { result ≡ short_given id.now (rows_of (found_of options.now)) }
+    ensures { result ≡ short_given id.now (given options.now) }
 {
     options.get_one::<u16>(id)
 }
 
 /// The number that an option is given.
 fn number_of(options: &ArgMatches<'_>, id: &str) -> Option<u64>
-    ensures { result ≡ number_given id.now (rows_of (found_of options.now)) }
+    ensures { result ≡ number_given id.now (given options.now) }
 {
     options.get_one::<u64>(id)
 }
 
 /// Whether a flag is given.
 fn is_flagged(options: &ArgMatches<'_>, id: &str) -> bool
-    ensures { result ≡ is_flagged id.now (rows_of (found_of options.now)) }
+    ensures { result ≡ is_flagged id.now (given options.now) }
 {
     match options.get_str(id) {
         Some(text) => text == "true",
@@ -219,7 +220,7 @@ fn is_flagged(options: &ArgMatches<'_>, id: &str) -> bool
 
 /// The time that an option is given, in nanoseconds.
 fn time_given(options: &ArgMatches<'_>, id: &str) -> Option<u64>
-    ensures { result ≡ time_given id.now (rows_of (found_of options.now)) }
+    ensures { result ≡ time_given id.now (given options.now) }
 {
     match options.get_str(id) {
         Some(text) => time_of(text),
@@ -229,7 +230,7 @@ fn time_given(options: &ArgMatches<'_>, id: &str) -> Option<u64>
 
 /// The settings of `deadline` by the options.
 fn tunables_of(options: &ArgMatches<'_>) -> Option<Tunables>
-    ensures { result ≡ tunables_of (rows_of (found_of options.now)) }
+    ensures { result ≡ tunables_of (given options.now) }
 {
     let fifo_batch = short_of(options, "fifo-batch")?;
     let writes_starved = short_of(options, "writes-starved")?;
@@ -243,7 +244,7 @@ fn tunables_of(options: &ArgMatches<'_>) -> Option<Tunables>
 
 /// The settings of `kyber` by the options.
 fn targets_of(options: &ArgMatches<'_>) -> Option<Targets>
-    ensures { result ≡ targets_of (rows_of (found_of options.now)) }
+    ensures { result ≡ targets_of (given options.now) }
 {
     let read = number_of(options, "read-target")?;
     let write = number_of(options, "write-target")?;
@@ -264,7 +265,7 @@ fn sched_named(name: &str, scheds: &[Sched]) -> Option<Sched>
 
 /// The scheduler that the options name.
 fn sched_of(options: &ArgMatches<'_>) -> Option<Sched>
-    ensures { result ≡ sched_of (rows_of (found_of options.now)) }
+    ensures { result ≡ sched_of (given options.now) }
 {
     let name = options.get_str("sched")?;
     let tunables = tunables_of(options)?;
@@ -281,7 +282,7 @@ fn sched_of(options: &ArgMatches<'_>) -> Option<Sched>
 
 /// Whether the options of `compare` ask for earliest, and then whether late last.
 fn earliest_of(options: &ArgMatches<'_>) -> Option<bool>
-    ensures { result ≡ earliest_of (is_flagged (codes "earliest") (rows_of (found_of options.now))) (is_flagged (codes "late-last") (rows_of (found_of options.now))) }
+    ensures { result ≡ earliest_given (given options.now) }
 {
     let runs = is_flagged(options, "earliest");
     let late_last = is_flagged(options, "late-last");
@@ -297,14 +298,14 @@ fn form_of(json: bool) -> Form
 
 /// The same by the options.
 fn form_asked(options: &ArgMatches<'_>) -> Form
-    ensures { result ≡ form_asked (rows_of (found_of options.now)) }
+    ensures { result ≡ form_asked (given options.now) }
 {
     form_of(is_flagged(options, "json"))
 }
 
 /// The schedulers that run a script in turn, with the settings that the options give.
 fn lineup_of(options: &ArgMatches<'_>) -> Option<Lineup>
-    ensures { result ≡ lineup_of (tunables_of (rows_of (found_of options.now))) (targets_of (rows_of (found_of options.now))) (earliest_of (is_flagged (codes "earliest") (rows_of (found_of options.now))) (is_flagged (codes "late-last") (rows_of (found_of options.now)))) }
+    ensures { result ≡ lineup_given (given options.now) }
 {
     let deadline = tunables_of(options)?;
     let kyber = targets_of(options)?;
@@ -318,7 +319,7 @@ fn lineup_of(options: &ArgMatches<'_>) -> Option<Lineup>
 
 /// The comparison of these, in the form that is asked for.
 fn compare_of(options: &ArgMatches<'_>) -> Option<Job>
-    ensures { result ≡ compared (form_asked (rows_of (found_of options.now))) (lineup_of (tunables_of (rows_of (found_of options.now))) (targets_of (rows_of (found_of options.now))) (earliest_of (is_flagged (codes "earliest") (rows_of (found_of options.now))) (is_flagged (codes "late-last") (rows_of (found_of options.now))))) }
+    ensures { result ≡ compared (form_asked (given options.now)) (lineup_given (given options.now)) }
 {
     let form = form_asked(options);
     let lineup = lineup_of(options)?;
@@ -327,7 +328,7 @@ fn compare_of(options: &ArgMatches<'_>) -> Option<Job>
 
 /// The picture of a trace, or with the flag `--script` those of a script under these.
 fn picture_of(options: &ArgMatches<'_>) -> Option<Job>
-    ensures { result ≡ pictured (is_flagged (codes "script") (rows_of (found_of options.now))) (lineup_of (tunables_of (rows_of (found_of options.now))) (targets_of (rows_of (found_of options.now))) (earliest_of (is_flagged (codes "earliest") (rows_of (found_of options.now))) (is_flagged (codes "late-last") (rows_of (found_of options.now))))) }
+    ensures { result ≡ pictured (is_flagged (codes "script") (given options.now)) (lineup_given (given options.now)) }
 {
     if is_flagged(options, "script") {
         let lineup = lineup_of(options)?;
@@ -339,7 +340,7 @@ fn picture_of(options: &ArgMatches<'_>) -> Option<Job>
 
 /// How much load the options of `load` say there is.
 fn amounts_of(options: &ArgMatches<'_>) -> Option<Load>
-    ensures { result ≡ amounts_of (rows_of (found_of options.now)) }
+    ensures { result ≡ amounts_of (given options.now) }
 {
     let submitters = number_of(options, "submitters")?;
     let workers = number_of(options, "workers")?;
@@ -368,9 +369,9 @@ fn shown_of(trace: bool, json: bool) -> Shown
     }
 }
 
-/// The load that the options of `load` ask for, of which this is to be written.
+/// The load that the options of `load` ask for, and what is to be written of it.
 fn load_of(options: &ArgMatches<'_>, shown: Shown) -> Option<Job>
-    ensures { result ≡ loaded shown (sched_of (rows_of (found_of options.now))) (amounts_of (rows_of (found_of options.now))) }
+    ensures { result ≡ loaded shown (sched_of (given options.now)) (amounts_of (given options.now)) }
 {
     let sched = sched_of(options)?;
     let load = amounts_of(options)?;
@@ -379,7 +380,7 @@ fn load_of(options: &ArgMatches<'_>, shown: Shown) -> Option<Job>
 
 /// The job of `load`, whose trace is no JSON.
 fn load_job(options: &ArgMatches<'_>) -> Option<Job>
-    ensures { result ≡ load_job (is_flagged (codes "trace") (rows_of (found_of options.now))) (is_flagged (codes "json") (rows_of (found_of options.now))) (sched_of (rows_of (found_of options.now))) (amounts_of (rows_of (found_of options.now))) }
+    ensures { result ≡ load_given (given options.now) }
 {
     let trace = is_flagged(options, "trace");
     let json = is_flagged(options, "json");
@@ -405,7 +406,7 @@ fn entry_named(text: &str) -> Option<bool>
 
 /// The same by the options of `import`.
 fn from_given(options: &ArgMatches<'_>) -> Option<bool>
-    ensures { result ≡ from_given (rows_of (found_of options.now)) }
+    ensures { result ≡ from_given (given options.now) }
 {
     match options.get_str("from") {
         Some(text) => entry_named(text),
@@ -425,7 +426,7 @@ fn round_by(text: &str) -> Result<Option<u64>, Refusal>
 
 /// The same by the options of `import`, where it is given.
 fn round_given(options: &ArgMatches<'_>) -> Result<Option<u64>, Refusal>
-    ensures { result ≡ round_given (rows_of (found_of options.now)) }
+    ensures { result ≡ round_given (given options.now) }
 {
     match options.get_str("round") {
         Some(text) => round_by(text),
@@ -458,7 +459,7 @@ fn unscripted(written: Written, round: Option<u64>, depth: Option<u64>) -> Resul
 
 /// What is written of an import by its flags, no two of which may stand together, and by the round and the depth of a script.
 fn written_of(options: &ArgMatches<'_>) -> Result<Written, Refusal>
-    ensures { result ≡ written_of (rows_of (found_of options.now)) }
+    ensures { result ≡ written_of (given options.now) }
 {
     let round = match round_given(options) {
         Ok(round) => round,
@@ -514,7 +515,7 @@ fn import_of(wanted: Import) -> Job
 
 /// The import that the options of `import` ask for, or the refusal of the first of them that can't be done.
 fn import_job(options: &ArgMatches<'_>) -> Job
-    ensures { result ≡ import_job (rows_of (found_of options.now)) }
+    ensures { result ≡ import_job (given options.now) }
 {
     let Some(read_expire) = time_given(options, "read-expire") else {
         return Job::Refuse(Refusal::ReadExpire);
@@ -545,7 +546,7 @@ fn import_job(options: &ArgMatches<'_>) -> Job
 
 /// The numbers up to the most of the list that an option is given.
 fn list_given(options: &ArgMatches<'_>, id: &str, most: u64) -> Option<Numbers>
-    ensures numbers { option_map (λ n. n.items) result ≡ list_given most id.now (rows_of (found_of options.now)) }
+    ensures numbers { option_map (λ n. n.items) result ≡ list_given most id.now (given options.now) }
     ensures range { IfSome result (λ n. All (λ x. x ≤ most) n.items) }
 {
     match options.get_str(id) {
@@ -556,7 +557,7 @@ fn list_given(options: &ArgMatches<'_>, id: &str, most: u64) -> Option<Numbers>
 
 /// The schedulers that the options of `tune` name.
 fn tried_given(options: &ArgMatches<'_>) -> Option<Tried>
-    ensures { result ≡ tried_given (rows_of (found_of options.now)) }
+    ensures { result ≡ tried_given (given options.now) }
 {
     match options.get_str("sched") {
         Some(text) => tried_of(text),
@@ -579,7 +580,7 @@ fn by_named(text: &str) -> Option<By>
 
 /// The same by the options of `tune`.
 fn by_given(options: &ArgMatches<'_>) -> Option<By>
-    ensures { result ≡ by_given (rows_of (found_of options.now)) }
+    ensures { result ≡ by_given (given options.now) }
 {
     match options.get_str("by") {
         Some(text) => by_named(text),
@@ -589,8 +590,8 @@ fn by_given(options: &ArgMatches<'_>) -> Option<By>
 
 /// The lists that the options of `tune` give, or the refusal of the first that is none.
 fn lists_given(options: &ArgMatches<'_>) -> Result<Lists, Refusal>
-    ensures lists { IfOk result (λ l. grid_given (rows_of (found_of options.now)) ≡ Ok (grid_of_lists l)) }
-    ensures refusal { IfErr result (λ r. grid_given (rows_of (found_of options.now)) ≡ Err r) }
+    ensures lists { IfOk result (λ l. grid_given (given options.now) ≡ Ok (grid_of_lists l)) }
+    ensures refusal { IfErr result (λ r. grid_given (given options.now) ≡ Err r) }
     ensures range { IfOk result AreShort }
 {
     let Some(tried) = tried_given(options) else {
@@ -619,7 +620,7 @@ fn lists_given(options: &ArgMatches<'_>) -> Result<Lists, Refusal>
 
 /// The trial that the options of `tune` ask for, or the refusal of the first of them that can't be done.
 fn tune_job(options: &ArgMatches<'_>) -> Job
-    ensures { result ≡ tune_job (rows_of (found_of options.now)) }
+    ensures { result ≡ tune_job (given options.now) }
 {
     match lists_given(options) {
         Ok(_) => {}
@@ -638,7 +639,7 @@ fn tune_job(options: &ArgMatches<'_>) -> Job
 
 /// The job of `oracle` by its flags, two of which may not stand together; certificates are no JSON.
 fn oracle_job(options: &ArgMatches<'_>) -> Option<Job>
-    ensures { result ≡ oracle_job (is_flagged (codes "trace") (rows_of (found_of options.now))) (is_flagged (codes "met") (rows_of (found_of options.now))) (is_flagged (codes "json") (rows_of (found_of options.now))) }
+    ensures { result ≡ oracle_given (given options.now) }
 {
     let trace = is_flagged(options, "trace");
     let met = is_flagged(options, "met");
@@ -650,7 +651,7 @@ fn oracle_job(options: &ArgMatches<'_>) -> Option<Job>
     } else if json {
         Some(Job::Refuse(Refusal::JsonAlone))
     } else if met {
-        Some(Job::Met)
+        Some(Job::OnTime)
     } else {
         Some(Job::Oracle)
     }
@@ -658,7 +659,7 @@ fn oracle_job(options: &ArgMatches<'_>) -> Option<Job>
 
 /// The job that a subcommand makes of its options.
 fn job_made(makes: Makes, options: &ArgMatches<'_>) -> Option<Job>
-    ensures { result ≡ job_made makes (rows_of (found_of options.now)) }
+    ensures { result ≡ job_made makes (given options.now) }
 {
     match makes {
         Makes::Plain(job) => Some(job),
@@ -684,7 +685,7 @@ fn job_made(makes: Makes, options: &ArgMatches<'_>) -> Option<Job>
 
 /// What the subcommand of this name makes of its options.
 fn makes_of(name: &str, rows: &[CommandRow]) -> Option<Makes>
-    ensures { (names : Names) → result ≡ option_map (λ s. s.makes) (find (λ s. bytes_eq name.now s.name) (map (subcommand_of names) rows.now)) }
+    ensures { (names : Names) → result ≡ makes_among name.now (map (subcommand_of names) rows.now) }
 {
     for i in 0..rows.len() {
         if name == rows[i].name {
@@ -703,7 +704,7 @@ fn first_of(first: Option<Makes>, second: Option<Makes>) -> Option<Makes>
 
 /// The same of all subcommands.
 fn makes_named(name: &str) -> Option<Makes>
-    ensures { (names : Names) → result ≡ option_map (λ s. s.makes) (find (λ s. bytes_eq name.now s.name) (all_commands names)) }
+    ensures { (names : Names) → result ≡ makes_among name.now (all_commands names) }
 {
     let first = makes_of(name, run_commands());
     let second = makes_of(name, other_commands());
@@ -736,7 +737,7 @@ pub fn choose(alloc: Global, words: &[String]) -> Result<Job, NoJob>
             ErrorKind::OutOfMemory => Err(NoJob::Memory),
             ErrorKind::DisplayVersion => Ok(Job::Version),
             _ => match format!(in alloc; "{error}") {
-                Ok(text) => Err(NoJob::Line(text)),
+                Ok(text) => Err(NoJob::Usage(text)),
                 Err(_) => Err(NoJob::Memory),
             },
         },
@@ -745,7 +746,7 @@ pub fn choose(alloc: Global, words: &[String]) -> Result<Job, NoJob>
 
 /// The lists of the subcommand that was read.
 fn lists_of(matches: &ArgMatches<'_>) -> Option<Lists>
-    ensures lists { IfSome result (λ l. option_and_then (λ p. result_ok (grid_given p.1)) (subcommand_rows_of matches.now) ≡ Some (grid_of_lists l)) }
+    ensures lists { IfSome result (λ l. grid_behind (subcommand_rows_of matches.now) ≡ Some (grid_of_lists l)) }
     ensures range { IfSome result AreShort }
 {
     let (_, options) = matches.subcommand()?;

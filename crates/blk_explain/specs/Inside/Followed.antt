@@ -11,7 +11,7 @@ use Rattle.blk_text.specs.declared.script.Line.TheVariants as line
 use Rattle.blk_sim.specs.State.{SimState}
 use Rattle.blk_sim.specs.Moves.{flushed_plug}
 
--- a submitter has this plug, and its software queue holds so many requests
+-- a submitter has this plug, and its software queue holds `held` requests
 pub record IsFollowed (script : Scripted) (s : ℕ) (plug : Plug) (held : ℕ) (state : SimState) : Type 0 where
   pub setup : state.core.setup ≡ script.setup
   pub plug_is : slice_get state.plugs s ≡ Some plug

@@ -4,8 +4,8 @@ use Rattle.blk_lists.specs.Certificate.{claimed}
 use Rattle.blk_cli.proofs.Claims.{verdict_is}
 use Rattle.blk_cli.proofs.checking.verdict.Goals as goal
 
-pub returns : goal.returns
-returns c =
-    let back : to_z w64 (of_z w64 c.in-Some.lateness) ≡ c.in-Some.lateness = search (rules, to_z-of_z) in
-    verdict_is c.args.form (λ text. text.items) c.bound_text.result (claimed c.args.certificate.now) c.in-Some.lateness (to_z w64 (of_z w64 c.in-Some.lateness)) c.in-Some.window c.as_slice.result.now c.load-asked.result c.carried-carries.result
-    c.in-Some.is back c.as_slice.ensures.value c.load-asked.ensures c.carried-carries.ensures c.bound_text.ensures
+pub returns-in-Some-Some : goal.returns-in-Some-Some
+returns-in-Some-Some c =
+    let back : to_z w64 (of_z w64 c.in-Some-Some.lateness) ≡ c.in-Some-Some.lateness = search (rules, to_z-of_z) in
+    verdict_is c.args.form (λ text. text.items) c.bound_text.result (claimed c.args.certificate.now) c.in-Some-Some.lateness (to_z w64 (of_z w64 c.in-Some-Some.lateness)) _ c.args.crowding c.in-Some-Some.crowding
+    c.in-Some-Some.is-0 c.in-Some-Some.is-1 back c.requires c.bound_text.ensures

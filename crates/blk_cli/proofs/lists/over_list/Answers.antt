@@ -1,5 +1,5 @@
 use Rattle.std.proofs.Common.{inl, ℕ, List}
-use Rattle.edd_check.specs.declared.Command.{Command}
+use Rattle.edd_commands.specs.declared.Command.{Command}
 use Rattle.blk_lists.specs.Commands.{CommandsFault}
 use Rattle.blk_cli.specs.Certificates.{SpellsList, IsSolved, IsUnsolved}
 use Rattle.blk_cli.proofs.OfRead.{told, refused}

@@ -1,5 +1,5 @@
 use Rattle.std.proofs.Common.{rules, List, refl}
-use Rattle.edd_check.specs.declared.Command.{Command}
+use Rattle.edd_commands.specs.declared.Command.{Command}
 use Rattle.blk_trace.specs.Meaning.{commands_of, rounds_of}
 use Rattle.blk_trace.specs.Setups.{Setup, IsSetup}
 use Rattle.blk_lists.proofs.CommandLaws.{rows_spell}

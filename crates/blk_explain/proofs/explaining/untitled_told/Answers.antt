@@ -1,4 +1,4 @@
-use Rattle.std.proofs.Common.{◌≡◌, ◌≢◌, ◌∙◌, true, false, List, [], length, get_or, sym, ap, inl, inr}
+use Rattle.std.proofs.Common.{◌≡◌, ◌≢◌, ◌∙◌, true, false, [], length, get_or, sym, ap, inr}
 use Rattle.std.proofs.lemmas.Bool.{eq-eqb}
 use Rattle.blk_lists.specs.Sources.{Row}
 use Rattle.blk_explain.specs.Findings.{rows_of, name_in}

@@ -5,7 +5,7 @@ use Rattle.blk_bio.specs.Limits.{Limits}
 use Rattle.blk_sched.specs.Meaning.{at_start}
 use Rattle.blk_none.specs.Choice.{none_policy}
 use Rattle.blk_text.specs.Script.{scripted}
-use Rattle.blk_sim.specs.State.{SimState, start_of}
+use Rattle.blk_sim.specs.State.{start_of}
 use Rattle.blk_sim.specs.Runs.{Runs}
 use Rattle.blk_explain.proofs.Following.{followed_none, followed_more, held_there}
 use Rattle.blk_explain.proofs.held.held_after.Goals as goal

@@ -1,6 +1,7 @@
 use Rattle.std.proofs.Common.{◌≡◌, ◌∙◌, ◌==◌, ◌&&◌, true, false, get_or, refl, sym}
 use Rattle.std.proofs.lemmas.List.{drop_all}
-use Rattle.blk_explain.specs.Lines.{state_of, begins}
+use Rattle.blk_explain.specs.Lines.{begins}
+use Rattle.blk_explain.specs.Inside.Ends.{state_of}
 use Rattle.blk_explain.proofs.Walks.{found_at, walks_on, at_end, if_le}
 use Rattle.blk_explain.proofs.lines.line_of.Goals as goal
 

@@ -1,5 +1,6 @@
 use Rattle.std.proofs.Common.{◌≡◌, ◌≤◌, ◌+◌, drop}
-use Rattle.blk_explain.specs.Lines.{state_of, line_from, line_of}
+use Rattle.blk_explain.specs.Lines.{line_from, line_of}
+use Rattle.blk_explain.specs.Inside.Ends.{state_of}
 use Rattle.blk_explain.proofs.lines.line_of.Given as goal
 
 abbrev pub invariant-loop-i : goal.invariant-loop-i

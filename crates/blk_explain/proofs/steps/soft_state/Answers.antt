@@ -1,4 +1,4 @@
-use Rattle.std.proofs.Common.{◌≡◌, ◌≤◌, ◌<◌, inl, inr, Some, length, arith}
+use Rattle.std.proofs.Common.{◌<◌, inl, inr, length, arith}
 use Rattle.std.proofs.lemmas.Option.{slice_get_within}
 use Rattle.blk_text.specs.Script.{LineFits}
 use Rattle.blk_text.specs.declared.script.Line.TheVariants as line

@@ -1,4 +1,4 @@
-use Rattle.std.proofs.Common.{◌≡◌, ◌≤◌, ◌+◌, ◌∙◌, false, sym, subst, arith}
+use Rattle.std.proofs.Common.{◌≡◌, ◌+◌, ◌∙◌, false, sym, subst, arith}
 use Rattle.blk_ids.specs.IdSet.{has_id}
 use Rattle.blk_explain.specs.Twice.{AreDistinct}
 use Rattle.blk_explain.specs.Inside.Seen.{AreSeen}

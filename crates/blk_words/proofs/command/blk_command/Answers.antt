@@ -1,6 +1,6 @@
 use Rattle.std.proofs.Common.{◌≡◌, codes, rules}
 use Rattle.clap.specs.Words.{app_of, new_app}
-use Rattle.blk_words.specs.Line.{Names, AreSchedulers, topmost}
+use Rattle.blk_words.specs.CommandLine.{Names, AreSchedulers, topmost}
 use Rattle.blk_words.proofs.Lines.{blk_made}
 use Rattle.blk_words.proofs.command.blk_command.Goals as goal
 

@@ -2,7 +2,8 @@ use Rattle.std.proofs.Common.{◌≡◌, ◌∙◌, ap, map, rules}
 use Rattle.std.specs.Prelude.{fold}
 use Rattle.clap.specs.Words.{app_of, new_app, with_rule}
 use Rattle.clap.specs.Simple.{app_of_fields}
-use Rattle.blk_words.specs.Line.{rule_for, tuning}
+use Rattle.blk_words.specs.CommandLine.{tuning}
+use Rattle.blk_words.specs.Inside.Tables.{rule_for}
 use Rattle.blk_words.proofs.Lines.{with_both}
 use Rattle.blk_words.proofs.command.command_of.Goals as goal
 

@@ -6,7 +6,8 @@ use Rattle.clap.specs.Words.{App, app_of}
 use Rattle.blk_words.specs.declared.words.Job.TheVariants as job
 use Rattle.blk_words.specs.declared.table.CommandRow.{CommandRow}
 use Rattle.blk_words.specs.declared.table.Makes.TheVariants as makes
-use Rattle.blk_words.specs.Line.{subcommand_of, app_for, with_one}
+use Rattle.blk_words.specs.CommandLine.{app_for, with_one}
+use Rattle.blk_words.specs.Inside.Tables.{subcommand_of}
 use Rattle.blk_words.proofs.Lines.{adds_command}
 use Rattle.blk_words.proofs.command.with_commands.Goals as goal
 

@@ -5,7 +5,7 @@ use Rattle.std.proofs.lemmas.List.Folds.{fold-map}
 use Rattle.clap.specs.Words.{App, app_of, with_rule}
 use Rattle.blk_words.specs.declared.table.OptionRow.{OptionRow}
 use Rattle.blk_words.specs.declared.table.Takes.TheVariants as takes
-use Rattle.blk_words.specs.Line.{rule_for}
+use Rattle.blk_words.specs.Inside.Tables.{rule_for}
 use Rattle.blk_words.proofs.Lines.{adds_rule}
 use Rattle.blk_words.proofs.command.with_options.Goals as goal
 

@@ -3,7 +3,7 @@ use Rattle.std.specs.Prelude.{find, option_and_then}
 use Rattle.std.specs.Str.{bytes_eq}
 use Rattle.clap.specs.Words.{found_of, rows_of, subcommand_rows_of}
 use Rattle.blk_words.specs.Asked.{job_of}
-use Rattle.blk_words.specs.Line.{table}
+use Rattle.blk_words.specs.CommandLine.{table}
 use Rattle.blk_words.proofs.Lines.{subcommand_read, made, not_made}
 use Rattle.blk_words.proofs.words.job_of.Goals as goal
 

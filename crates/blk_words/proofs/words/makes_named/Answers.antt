@@ -1,6 +1,6 @@
 use Rattle.std.proofs.Common.{◌∙◌}
 use Rattle.std.specs.Str.{bytes_eq}
-use Rattle.blk_words.specs.Line.{run_table, other_table}
+use Rattle.blk_words.specs.CommandLine.{run_table, other_table}
 use Rattle.blk_words.proofs.Lines.{named_in}
 use Rattle.blk_words.proofs.words.makes_named.Goals as goal
 

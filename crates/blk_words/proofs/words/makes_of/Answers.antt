@@ -1,10 +1,10 @@
-use Rattle.std.proofs.Common.{◌≡◌, ◌∙◌, ap, sym, false, arith, [], option_map}
+use Rattle.std.proofs.Common.{◌∙◌, ap, sym, false, arith, [], option_map}
 use Rattle.std.proofs.lemmas.List.{take_all}
 use Rattle.std.specs.Str.{bytes_eq}
 use Rattle.blk_words.specs.declared.words.Job.TheVariants as job
 use Rattle.blk_words.specs.declared.table.CommandRow.{CommandRow}
 use Rattle.blk_words.specs.declared.table.Makes.TheVariants as makes
-use Rattle.blk_words.specs.Line.{subcommand_of}
+use Rattle.blk_words.specs.Inside.Tables.{subcommand_of}
 use Rattle.blk_words.proofs.Lines.{found_next, none_more, find_map}
 use Rattle.blk_words.proofs.words.makes_of.Goals as goal
 

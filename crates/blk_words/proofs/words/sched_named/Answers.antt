@@ -1,5 +1,4 @@
-use Rattle.std.proofs.Common.{◌≡◌, ◌∙◌, ap, sym, true, false, arith}
-use Rattle.std.proofs.lemmas.List.{take_all}
+use Rattle.std.proofs.Common.{◌≡◌, ◌∙◌, ap, sym, true, false}
 use Rattle.std.specs.Str.{bytes_eq}
 use Rattle.blk_settings.specs.Rows.{name_of}
 use Rattle.blk_settings.specs.declared.sched.Sched.TheVariants as sched

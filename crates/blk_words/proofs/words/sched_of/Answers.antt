@@ -1,9 +1,9 @@
 use Rattle.std.proofs.Common.{◌≡◌, ◌∙◌, ap, rules}
 use Rattle.std.specs.Prelude.{find}
 use Rattle.std.specs.Str.{bytes_eq}
-use Rattle.clap.specs.Words.{found_of, rows_of}
+use Rattle.clap.specs.Words.{found_of}
 use Rattle.blk_settings.specs.Rows.{name_of}
-use Rattle.blk_words.specs.Asked.{scheds_of, tunables_of, targets_of, is_flagged}
+use Rattle.blk_words.specs.Asked.{scheds_of}
 use Rattle.blk_words.proofs.Lines.{sched_by, no_sched_by, named_by}
 use Rattle.blk_words.proofs.words.sched_of.Goals as goal
 

@@ -1,7 +1,7 @@
 use Rattle.std.proofs.Common.{rules, ◌≡◌}
-use Rattle.blk_lists.specs.Met.{met_claimed}
-use Rattle.blk_cli.proofs.MetClaims.{met_proved, met_refused}
-use Rattle.blk_cli.proofs.checking.verify_met.Goals as goal
+use Rattle.blk_lists.specs.OnTime.{on_time_claimed}
+use Rattle.blk_cli.proofs.OnTimeClaims.{on_time_proved, on_time_refused}
+use Rattle.blk_cli.proofs.checking.verify_on_time.Goals as goal
 
 pub returns-in-Ok-clause-proved : goal.returns-in-Ok-clause-proved
 returns-in-Ok-clause-proved c =
@@ -9,7 +9,8 @@ returns-in-Ok-clause-proved c =
     let commands : c.as_slice-commands.result.now ≡ certificate.commands.items = search rules in
     let rounds : c.as_slice-rounds.result.now ≡ certificate.rounds.items = search rules in
     let cover : c.as_slice-cover.result.now ≡ certificate.cover.items = search rules in
-    met_proved (met_claimed certificate) _ _ _ _ commands rounds cover c.requires.capacity c.requires.claim c.in-Ok.ensures.answer c.in-Ok.ensures.most
+    let told = c.in-Ok.ensures.answer in
+    on_time_proved (on_time_claimed certificate) _ _ _ _ commands rounds cover c.requires.capacity c.requires.claim (told.0, told.1, told.2, told.3) c.in-Ok.ensures.most
 
 pub returns-in-Err-clause-unmet : goal.returns-in-Err-clause-unmet
 returns-in-Err-clause-unmet c =
@@ -17,4 +18,4 @@ returns-in-Err-clause-unmet c =
     let commands : c.as_slice-commands.result.now ≡ certificate.commands.items = search rules in
     let rounds : c.as_slice-rounds.result.now ≡ certificate.rounds.items = search rules in
     let cover : c.as_slice-cover.result.now ≡ certificate.cover.items = search rules in
-    met_refused (met_claimed certificate) _ _ _ _ c.in-Err.fault commands rounds cover c.requires.capacity c.in-Err.ensures.answer
+    on_time_refused (on_time_claimed certificate) _ _ _ _ c.in-Err.fault commands rounds cover c.requires.capacity c.in-Err.ensures.answer

@@ -1,5 +1,5 @@
 -- The command line, as data.
-use Rattle.std.specs.Prelude.{ℕ, ◌≡◌, ◌++◌, pos, List, Some, [], ◌∷◌, codes, map, fold, true, if◌then◌else◌}
+use Rattle.std.specs.Prelude.{◌≡◌, ◌++◌, pos, List, Some, [], ◌∷◌, codes, map, fold, true}
 use Rattle.std.specs.Borrow.{Bor}
 use Rattle.clap.specs.Words.{App, Rule, Text, new_app, new_rule, with_rule, with_subcommand}
 use Rattle.clap.specs.declared.builder.ArgAction.TheVariants.{Set, SetTrue}
@@ -9,12 +9,8 @@ use Rattle.blk_settings.specs.declared.numbers.TheConstants.{MAX_SUBMITTERS, MAX
 use Rattle.blk_words.specs.declared.words.Job.{Job}
 use Rattle.blk_words.specs.declared.words.Job.TheVariants as job
 use Rattle.blk_words.specs.declared.table.TheConstants.{MAX_TARGET, MAX_BUSY, MAX_FIRST, MAX_TOP, MAX_THREADS, MAX_DEPTH}
-use Rattle.blk_words.specs.declared.table.Takes.{Takes}
-use Rattle.blk_words.specs.declared.table.Takes.TheVariants as takes
 use Rattle.blk_words.specs.declared.table.Makes.{Makes}
 use Rattle.blk_words.specs.declared.table.Makes.TheVariants as makes
-use Rattle.blk_words.specs.declared.table.OptionRow.{OptionRow}
-use Rattle.blk_words.specs.declared.table.CommandRow.{CommandRow}
 
 -- names behind a reference
 abbrev pub Names : Type 0
@@ -51,19 +47,6 @@ flag_rule name = record (new_rule name) { long = Some name; action = Some SetTru
 abbrev pub short : ValueParser
 short = vp.Signed (pos 0) (pos 65535)
 
--- the rule of an option by its name and what it takes
-abbrev pub taking : Names → Text → Takes → Rule
-taking names name takes.Nothing = flag_rule name
-taking names name takes.Sched = sched_rule name names
-taking names name (takes.Short default) = number_rule name short default.now
-taking names name (takes.Number least most default) = number_rule name (vp.Unsigned least most) default.now
-taking names name (takes.Maybe least most) = maybe_rule name (vp.Unsigned least most)
-taking names name (takes.Text default) = text_rule name default.now
-taking names name takes.MaybeText = maybe_text_rule name
-
-abbrev pub rule_for : Names → OptionRow → Rule
-rule_for names o = taking names o.name.now o.takes
-
 -- the options that set the schedulers
 abbrev pub tuning : List Rule
 tuning =
@@ -77,10 +60,6 @@ pub record Subcommand : Type 0 where
   pub rules : List Rule
   pub makes : Makes
 
--- that of a row
-abbrev pub subcommand_of : Names → CommandRow → Subcommand
-subcommand_of names row = record { name = row.name.now; rules = map (rule_for names) row.options.now ++ (if row.is_tuned then tuning else []); makes = row.makes }
-
 -- one without options
 abbrev pub plain : Text → Job → Subcommand
 plain name j = record { name = name; rules = []; makes = makes.Plain j }
@@ -92,7 +71,7 @@ json = flag_rule (codes "json")
 abbrev pub formed : Text → Makes → Subcommand
 formed name m = record { name = name; rules = json ∷ []; makes = m }
 
--- what is tried, by what the best is found, how much is told and how many runs go side by side
+-- what is tried, by what the best is found, how much is written and how many runs go side by side
 abbrev pub trying : List Rule
 trying =
     text_rule (codes "sched") (codes "none,earliest,deadline,kyber") ∷ text_rule (codes "fifo-batch") (codes "1,2,4,8,16,32,64")

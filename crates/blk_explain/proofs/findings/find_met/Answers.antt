@@ -1,8 +1,0 @@
-use Rattle.std.proofs.Common.{refl}
-use Rattle.blk_lists.specs.Met.{SpellsMet, met_claimed}
-use Rattle.blk_explain.specs.Findings.{rows_of}
-use Rattle.blk_explain.proofs.Found.{known}
-use Rattle.blk_explain.proofs.findings.find_met.Goals as goal
-
-pub returns-in-Ok : goal.returns-in-Ok
-returns-in-Ok c = (refl, (met_claimed c.in-Ok.field-0, known (λ rows. SpellsMet rows (met_claimed c.in-Ok.field-0)) _ (rows_of c.args.bytes.now) c.new.ensures.left c.in-Ok.ensures.ok))

@@ -1,0 +1,4 @@
+-- What private functions and proofs alone need.
+pub mod Options
+pub mod Tables
+pub mod Lists

@@ -1,0 +1,74 @@
+-- Lines as a person types them, and the jobs that they ask for.
+use Rattle.std.specs.Prelude.{ℕ, ◌≡◌, ◌↔◌, ◌==◌, ◌∷◌, List, [], Bool, true, false, None, Some, codes}
+use Prim.Native.String.{String}
+use Rattle.std.specs.List.{slice_split}
+use Rattle.clap.specs.Words.{Text}
+use Rattle.blk_deadline.specs.declared.Tunables.{Tunables}
+use Rattle.blk_kyber.specs.declared.Targets.{Targets}
+use Rattle.blk_grid.specs.declared.By.TheVariants as by
+use Rattle.blk_grid.specs.Rows.{Gridded, whole}
+use Rattle.blk_settings.specs.declared.numbers.Load.{Load}
+use Rattle.blk_settings.specs.declared.sched.Lineup.{Lineup}
+use Rattle.blk_words.specs.declared.words.Form.{Form}
+use Rattle.blk_words.specs.declared.words.Form.TheVariants as form
+use Rattle.blk_words.specs.declared.words.Import.{Import}
+use Rattle.blk_words.specs.declared.words.Job.{Job}
+use Rattle.blk_words.specs.declared.words.Job.TheVariants as job
+use Rattle.blk_words.specs.declared.words.Written.{Written}
+use Rattle.blk_words.specs.declared.words.Written.TheVariants as written
+use Rattle.blk_words.specs.Asked.{Asks, AsksGrid}
+
+-- the words of a line behind the program's name, with a space between
+abbrev pub words_in : String → List Text
+words_in line = slice_split (λ c. c == 32) (codes line)
+
+-- whatever the program's name, the line asks for this job and for no other; for this grid and for no other; for nothing
+abbrev pub AsksFor : String → Job → Type 0
+AsksFor line job = (name : Text) → (j : Job) → Asks (name ∷ words_in line) j ↔ (j ≡ job)
+
+abbrev pub AsksForGrid : String → Gridded → Type 0
+AsksForGrid line grid = (name : Text) → (g : Gridded) → AsksGrid (name ∷ words_in line) g ↔ (g ≡ grid)
+
+abbrev pub AsksForNothing : String → Type 0
+AsksForNothing line = (name : Text) → (j : Job) → Asks (name ∷ words_in line) j → ⊥
+
+-- the settings of `deadline` and of `kyber` where no option sets them
+abbrev pub default_tunables : Tunables
+default_tunables = record { fifo_batch = 16; writes_starved = 2; front_merges = true }
+
+abbrev pub default_targets : Targets
+default_targets = record { read = 2; write = 10 }
+
+-- the schedulers that run in turn where no option sets them, the same with earliest, and some with this batch size
+abbrev pub default_lineup : Lineup
+default_lineup = record { deadline = default_tunables; kyber = default_targets; earliest = None }
+
+abbrev pub with_earliest : Bool → Lineup
+with_earliest late_last = record default_lineup { earliest = Some late_last }
+
+abbrev pub in_batches : ℕ → Lineup → Lineup
+in_batches n lineup = record lineup { deadline = record lineup.deadline { fifo_batch = n } }
+
+-- a trial of the whole grid where no option says how; and one of the five best by lateness, four runs side by side
+abbrev pub default_trial : Form → Job
+default_trial f = job.Tune (record { by = by.Misses; top = None; threads = None; form = f })
+
+abbrev pub five_by_lateness : Job
+five_by_lateness = job.Tune (record { by = by.Lateness; top = Some 5; threads = Some 4; form = form.Lines })
+
+-- none, and deadline with batch sizes 16 and 1 and writes passed over 3 times; the write targets 7 and 0 are for kyber, which isn't tried
+abbrev pub own_grid : Gridded
+own_grid =
+    record whole { has_earliest = false; has_kyber = false; batches = 16 ∷ 1 ∷ []; starved = 3 ∷ []; writes = 7 ∷ 0 ∷ [] }
+
+-- an import of all requests where no option says how, in nanoseconds; and one of the first 100 that went out after 2 ms, from when they
+-- were queued, reads due after 150 us
+abbrev pub whole_import : Written → Import
+whole_import w = record { read_expire = 500_000_000; write_expire = 5_000_000_000; from_queue = false; skip = 0; first = None; written = w }
+
+abbrev pub hundred_queued : Import
+hundred_queued = record { read_expire = 150_000; write_expire = 5_000_000_000; from_queue = true; skip = 2_000_000; first = Some 100; written = written.Table }
+
+-- a load where no option sets it
+abbrev pub default_load : Load
+default_load = record { submitters = 2; workers = 2; bios = 1000; depth = 8; busy = None; service = 0 }
