@@ -1,7 +1,7 @@
 //! Requests counted in rounds, worked by hand.
 
 use blk_capture::{Served, are_served, count_rounds};
-use edd_check::Command;
+use edd_commands::Command;
 use refusing::Refusing;
 
 /// A request by when it came in, was due and went out.

@@ -10,7 +10,7 @@ use blk_lifo::Lifo;
 use blk_none::NoneSched;
 use blk_sched::Scheduler;
 use blk_trace::Setup;
-use edd_check::Command;
+use edd_commands::Command;
 use std::alloc::{Allocator, Global};
 use std::process::Abort;
 

@@ -6,7 +6,7 @@ ghost use Rattle.std.specs.Prelude.{◌≡◌, IfSome};
 use blk_bio::{Bio, BioId, Dir, Request};
 use blk_core::{BackFault, Core, CoreFault, DepthFault, IssueFault, NotIssued, Placed, TickFault};
 use blk_sched::Scheduler;
-use edd_check::Command;
+use edd_commands::Command;
 use std::alloc::Allocator;
 
 /// A call of a core, and its answer. Bios are of submitter 0.

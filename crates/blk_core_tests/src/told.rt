@@ -80,14 +80,14 @@ impl<'a, S: Scheduler> Scheduler for Noting<'a, S> {
         self.scheduler.on_done(hw, dir, wait);
     }
 
-    fn on_back(&mut self, dir: Dir) {
+    fn on_requeue(&mut self, dir: Dir) {
         self.told.back.set(Some(dir));
-        self.scheduler.on_back(dir);
+        self.scheduler.on_requeue(dir);
     }
 
-    fn on_again(&mut self, dir: Dir) {
+    fn on_reissue(&mut self, dir: Dir) {
         self.told.again.set(Some(dir));
-        self.scheduler.on_again(dir);
+        self.scheduler.on_reissue(dir);
     }
 
     fn on_tick(&mut self, now: u64) {
@@ -103,8 +103,8 @@ impl<'a, S: Scheduler> Scheduler for Noting<'a, S> {
         self.scheduler.picked(dir)
     }
 
-    fn handed(&self, dir: Dir) -> u64 {
-        self.scheduler.handed(dir)
+    fn requeued(&self, dir: Dir) -> u64 {
+        self.scheduler.requeued(dir)
     }
 }
 

@@ -1,11 +1,10 @@
 //! What schedulers share, and the one of the order of entry called by itself.
 
-ghost use Rattle.std.specs.Prelude.{◌≡◌, ◌≢◌, ℕ, None};
-ghost use Rattle.blk_index.specs.Lanes.{waiting_at};
+ghost use Rattle.std.specs.Prelude.{◌≡◌};
 
 use crate::given::{alone, bio, limits};
 use blk_bio::{Dir, Request, Side};
-use blk_index::Lane;
+use blk_index::Index;
 use blk_none::NoneSched;
 use blk_sched::{Queued, Scheduler, side_of_fit};
 use std::alloc::Global;
@@ -49,30 +48,28 @@ fn front_only_where_it_is_allowed(rt: HostRuntime) {
     }
 }
 
-/// Puts a request of an id that isn't there into a lane.
-fn put(rt: &impl Abort, alloc: Global, lane: &mut Lane, id: u64, dir: Dir)
-    requires { waiting_at lane.old id ≡ None }
-    ensures { (k : ℕ) → k ≢ id → waiting_at lane.new k ≡ waiting_at lane.old k }
-{
+/// Puts a request of an id that isn't there into an index.
+fn put(rt: &impl Abort, alloc: Global, index: &mut Index, id: u64, dir: Dir) {
+    assert!(rt; index.get(id).is_none());
     let newcomer = queued(rt, alloc, id, dir, id.saturating_mul(10));
-    assert!(rt; lane.insert(newcomer).is_ok());
+    assert!(rt; index.insert(newcomer).is_ok());
 }
 
-/// Whatever the order in which they came, the request of the least id leaves first.
+/// Whatever the order in which they came, and whatever their directions, the request of the least id is the first.
 #[test]
-fn lane_leaves_by_id(rt: HostRuntime) {
+fn least_id_is_first(rt: HostRuntime) {
     let alloc = rt.alloc();
-    let mut lane = Lane::new(alloc).expect(&rt, "memory");
-    assert!(rt; lane.is_empty());
-    put(&rt, alloc, &mut lane, 7, Dir::Read);
-    put(&rt, alloc, &mut lane, 3, Dir::Write);
-    put(&rt, alloc, &mut lane, 5, Dir::Read);
-    assert_eq!(rt; (lane.len(), lane.is_empty()), (3, false));
-    for (id, left) in [(3, 2), (5, 1), (7, 0)] {
-        let first = lane.pop_first().expect(&rt, "a request");
-        assert_eq!(rt; (first.id, lane.len()), (id, left));
+    let mut index = Index::new(alloc).expect(&rt, "memory");
+    put(&rt, alloc, &mut index, 7, Dir::Read);
+    put(&rt, alloc, &mut index, 3, Dir::Write);
+    put(&rt, alloc, &mut index, 5, Dir::Read);
+    assert_eq!(rt; index.len(), 3);
+    for id in [3, 5, 7] {
+        assert_eq!(rt; index.first(), Some(id));
+        let first = index.remove(id).expect(&rt, "a request");
+        assert_eq!(rt; first.id, id);
     }
-    assert!(rt; lane.pop_first().is_none());
+    assert!(rt; index.first().is_none());
 }
 
 /// One read waits, is picked in round 1, handed back, picked again and done.
@@ -91,12 +88,12 @@ fn picks_are_counted(rt: HostRuntime) {
     assert!(rt; scheduler.pending() == 1 && scheduler.picked(Dir::Read) == 0);
     assert!(rt; scheduler.pick(0, 1).is_some());
     assert!(rt; scheduler.pending() == 0 && scheduler.picked(Dir::Read) == 1);
-    assert!(rt; scheduler.handed(Dir::Read) == 0);
-    scheduler.on_back(Dir::Read);
-    assert!(rt; scheduler.picked(Dir::Read) == 0 && scheduler.handed(Dir::Read) == 1);
-    assert!(rt; scheduler.pending() == 0 && scheduler.handed(Dir::Write) == 0);
-    scheduler.on_again(Dir::Read);
-    assert!(rt; scheduler.picked(Dir::Read) == 1 && scheduler.handed(Dir::Read) == 0);
+    assert!(rt; scheduler.requeued(Dir::Read) == 0);
+    scheduler.on_requeue(Dir::Read);
+    assert!(rt; scheduler.picked(Dir::Read) == 0 && scheduler.requeued(Dir::Read) == 1);
+    assert!(rt; scheduler.pending() == 0 && scheduler.requeued(Dir::Write) == 0);
+    scheduler.on_reissue(Dir::Read);
+    assert!(rt; scheduler.picked(Dir::Read) == 1 && scheduler.requeued(Dir::Read) == 0);
     scheduler.on_done(0, Dir::Read, 0);
     assert!(rt; scheduler.picked(Dir::Read) == 0 && scheduler.picked(Dir::Write) == 0);
 }

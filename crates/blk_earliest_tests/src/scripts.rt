@@ -51,7 +51,7 @@ fn telling(rt: &impl Abort, alloc: Global, late_last: bool, text: &str) -> Told 
     let report = report(&trace).expect(rt, "memory");
     let missed = misses(&trace).expect(rt, "memory");
     Told {
-        shortfall: report.shortfall.expect(rt, "commands"),
+        shortfall: report.shortfall().expect(rt, "commands"),
         late: missed.tally.late,
         avoidable: missed.tally.avoidable,
     }

@@ -1,8 +1,9 @@
 //! Answers of a fixed number of values, worked by hand.
 
-use blk_json::{bound_json, load_json, met_json, no_commands_json, report_json, spread_json};
+use blk_json::{bound_json, load_json, no_commands_json, on_time_json, report_json, spread_json};
 use blk_report::{ByDir, Quantiles, Report, Spreads};
 use edd_check::Window;
+use edd_figures::Figures;
 
 /// Eight values; the greatest numbers of 64 bits are written as they are.
 #[test]
@@ -11,11 +12,13 @@ fn reports(rt: HostRuntime) {
         commands: 3,
         waiting: 1,
         depth: 18446744073709551615,
-        greatest: Some(2),
-        least: Some(-1),
-        shortfall: Some(3),
-        window: Some(Window { from: 4, due: 6 }),
-        load: Some(0),
+        figures: Some(Figures {
+            greatest: 2,
+            least: -1,
+            shortfall: 3,
+            window: Window { from: 4, due: 6 },
+            load: 0,
+        }),
     };
     let text = report_json(rt.alloc(), &served).expect(&rt, "memory");
     let told =
@@ -30,11 +33,7 @@ fn report_of_none(rt: HostRuntime) {
         commands: 0,
         waiting: 2,
         depth: 64,
-        greatest: None,
-        least: None,
-        shortfall: None,
-        window: None,
-        load: None,
+        figures: None,
     };
     let text = report_json(rt.alloc(), &unserved).expect(&rt, "memory");
     let told =
@@ -92,7 +91,7 @@ fn certificates_and_loads(rt: HostRuntime) {
         none.as_slice(),
         b"{\"lateness\":null,\"load\":null,\"carries\":null}\n".as_slice()
     );
-    let met = met_json(rt.alloc(), 4, 5, 1, 2, 3).expect(&rt, "memory");
+    let met = on_time_json(rt.alloc(), 4, 5, 1, 2, 3).expect(&rt, "memory");
     assert_eq!(rt;
         met.as_slice(),
         b"{\"met\":4,\"of\":5,\"windows\":1,\"carry\":2,\"outside\":3}\n".as_slice()

@@ -4,7 +4,7 @@ use blk_bio::Dir;
 use blk_json::{late_json, misses_json, table_json};
 use blk_report::{LateCommand, Missed, Report, Service, Tally};
 use edd_check::Window;
-use edd_figures::Crowd;
+use edd_figures::{Crowd, Figures};
 use edd_verdict::Verdict;
 
 /// A read that was full, a write that was spare, and one late on arrival; then none at all.
@@ -73,11 +73,13 @@ fn tables(rt: HostRuntime) {
         commands: 2,
         waiting: 0,
         depth: 1,
-        greatest: Some(greatest),
-        least: Some(-3),
-        shortfall: Some(shortfall),
-        window: Some(Window { from: 0, due: 0 }),
-        load: Some(1),
+        figures: Some(Figures {
+            greatest,
+            least: -3,
+            shortfall,
+            window: Window { from: 0, due: 0 },
+            load: 1,
+        }),
     };
     let reports = [served(1, 4), served(-2, 1)];
     let names = ["none", "kyber"];
@@ -89,11 +91,7 @@ fn tables(rt: HostRuntime) {
         commands: 0,
         waiting: 3,
         depth: 1,
-        greatest: None,
-        least: None,
-        shortfall: None,
-        window: None,
-        load: None,
+        figures: None,
     }];
     let single = ["earliest"];
     let none = table_json(rt.alloc(), single.as_slice(), unserved.as_slice()).expect(&rt, "memory");

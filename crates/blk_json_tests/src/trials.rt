@@ -7,6 +7,8 @@ use blk_kyber::Targets;
 use blk_report::{Report, Tally};
 use blk_settings::Sched;
 use blk_tune::Row;
+use edd_check::Window;
+use edd_figures::Figures;
 
 /// A row of two reads: so many are late, and so many of those didn't have to be; how long they waited.
 fn row(sched: Sched, shortfall: i64, late: u64, avoidable: u64, wait: i64) -> Row {
@@ -16,11 +18,13 @@ fn row(sched: Sched, shortfall: i64, late: u64, avoidable: u64, wait: i64) -> Ro
             commands: 2,
             waiting: 1,
             depth: 1,
-            greatest: Some(shortfall),
-            least: Some(0),
-            shortfall: Some(shortfall),
-            window: None,
-            load: None,
+            figures: Some(Figures {
+                greatest: shortfall,
+                least: 0,
+                shortfall,
+                window: Window { from: 0, due: 0 },
+                load: 1,
+            }),
         },
         tally: Tally {
             commands: 2,

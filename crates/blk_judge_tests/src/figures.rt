@@ -1,7 +1,8 @@
 //! What is told of legal schedules, worked by hand.
 
 use crate::made::{command, told};
-use edd_check::{Capacity, Step, Window, in_range, is_legal};
+use edd_check::{Window, in_range, is_legal};
+use edd_commands::{Capacity, Step};
 use edd_figures::{Counts, Figures, figures_of, misses_of};
 use edd_oracle::solve;
 

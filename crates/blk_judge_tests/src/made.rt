@@ -1,7 +1,8 @@
 //! Schedules that the tests are made of, and what is told of them.
 
 use blk_judge::{judge, judged_lines, late_lines, late_of};
-use edd_check::{Capacity, CheckFault, Command, Window, in_range};
+use edd_check::{CheckFault, Window, in_range};
+use edd_commands::{Capacity, Command};
 use edd_oracle::solve;
 use std::alloc::Global;
 use std::process::Abort;

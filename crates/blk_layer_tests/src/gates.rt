@@ -9,7 +9,7 @@ use blk_core::Core;
 use blk_hw::Map;
 use blk_layer::{Device, Layer, MAX_WORKERS, Named, Ran, Worker};
 use blk_none::NoneSched;
-use edd_check::Command;
+use edd_commands::Command;
 use std::alloc::Global;
 use std::marker::Brand;
 use std::process::Abort;

@@ -11,7 +11,7 @@ use blk_layer::{
 };
 use blk_plug::{Added, MAX_STAGED, Plug, PlugFault};
 use blk_sched::Scheduler;
-use edd_check::Command;
+use edd_commands::Command;
 use std::alloc::Allocator;
 use std::process::Abort;
 use std::sync::Wait;

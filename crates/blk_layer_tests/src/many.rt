@@ -11,7 +11,7 @@ use blk_layer::{Closed, Device, Layer, MAX_WORKERS, Named, Ran, Submitter, Worke
 use blk_none::NoneSched;
 use blk_plug::Plug;
 use blk_trace::Event;
-use edd_check::Command;
+use edd_commands::Command;
 use std::alloc::Global;
 use std::marker::Brand;
 use std::process::Abort;
@@ -129,7 +129,7 @@ fn serve_all<R: Threads + Wait + Sync, L: Named + Send + Sync>(
 fn ends(closed: &Closed) -> (u64, u64) {
     let mut counts = (0u64, 0u64);
     for event in closed.trace.events() {
-        if event.hands_back().is_some() {
+        if event.requeues().is_some() {
             counts.0 = counts.0.saturating_add(1);
         } else if event.ends().is_some() {
             counts.1 = counts.1.saturating_add(1);

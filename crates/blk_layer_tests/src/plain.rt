@@ -79,7 +79,7 @@ impl<'a> Tags<'a> {
 
 /// A core's answer under a tag, by the layer's names.
 fn under(
-    answer: Result<Option<edd_check::Command>, IssueFault>,
+    answer: Result<Option<edd_commands::Command>, IssueFault>,
     tag: u16,
 ) -> Result<Option<Issued>, LayerIssueFault> {
     match answer {

@@ -13,7 +13,7 @@ use blk_layer::{
 };
 use blk_none::NoneSched;
 use blk_plug::Plug;
-use edd_check::Command;
+use edd_commands::Command;
 use refusing::Refusing;
 use std::alloc::Global;
 use std::marker::Brand;

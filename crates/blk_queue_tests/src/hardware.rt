@@ -2,7 +2,7 @@
 
 use crate::given::{Heap, bio, request};
 use blk_bio::Dir;
-use blk_hw::{HeldList, HeldLists, Map, MapFault};
+use blk_hw::{Map, MapFault, RequeueList, RequeueLists};
 use blk_sched::Queued;
 use refusing::Refusing;
 use std::alloc::Global;
@@ -57,7 +57,7 @@ fn queued<'a>(rt: &impl Abort, heap: Heap<'a>, id: u64) -> Queued<Heap<'a>> {
 
 /// Requests are held and leave in the order in which they came, which is not that of their ids.
 fn holds(rt: &impl Abort, heap: Heap<'_>) {
-    let mut held = HeldList::new(heap);
+    let mut held = RequeueList::new(heap);
     assert_eq!(rt; held.len(), 0);
     for id in 0..20u64 {
         let id = 19 - id;
@@ -84,7 +84,7 @@ fn holds(rt: &impl Abort, heap: Heap<'_>) {
 #[test]
 fn held_by_hardware_queue(rt: HostRuntime) {
     let heap = Refusing::new(rt.alloc());
-    let mut held = HeldLists::new(&heap, 3).expect(&rt, "memory");
+    let mut held = RequeueLists::new(&heap, 3).expect(&rt, "memory");
     assert!(rt; held.push(2, queued(&rt, &heap, 7)).is_ok());
     assert!(rt; held.push(0, queued(&rt, &heap, 4)).is_ok());
     assert!(rt; held.push(2, queued(&rt, &heap, 5)).is_ok());

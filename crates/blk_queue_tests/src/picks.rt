@@ -9,13 +9,13 @@ fn handed_back_and_issued_again(rt: HostRuntime) {
     let mut picks = OpenPicks::none();
     picks.open(Dir::Read);
     picks.open(Dir::Write);
-    assert_eq!(rt; (picks.of(Dir::Read), picks.handed(Dir::Read)), (1, 0));
-    picks.hand_back(Dir::Read);
-    assert_eq!(rt; (picks.of(Dir::Read), picks.handed(Dir::Read)), (0, 1));
-    assert_eq!(rt; (picks.of(Dir::Write), picks.handed(Dir::Write)), (1, 0));
-    picks.open_again(Dir::Read);
-    assert_eq!(rt; (picks.of(Dir::Read), picks.handed(Dir::Read)), (1, 0));
+    assert_eq!(rt; (picks.of(Dir::Read), picks.requeued(Dir::Read)), (1, 0));
+    picks.requeue(Dir::Read);
+    assert_eq!(rt; (picks.of(Dir::Read), picks.requeued(Dir::Read)), (0, 1));
+    assert_eq!(rt; (picks.of(Dir::Write), picks.requeued(Dir::Write)), (1, 0));
+    picks.reopen(Dir::Read);
+    assert_eq!(rt; (picks.of(Dir::Read), picks.requeued(Dir::Read)), (1, 0));
     picks.close(Dir::Read);
-    assert_eq!(rt; (picks.of(Dir::Read), picks.handed(Dir::Read)), (0, 0));
-    assert_eq!(rt; (picks.of(Dir::Write), picks.handed(Dir::Write)), (1, 0));
+    assert_eq!(rt; (picks.of(Dir::Read), picks.requeued(Dir::Read)), (0, 0));
+    assert_eq!(rt; (picks.of(Dir::Write), picks.requeued(Dir::Write)), (1, 0));
 }

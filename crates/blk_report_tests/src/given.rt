@@ -4,6 +4,7 @@ use blk_bio::{Bio, BioId, Dir, Limits, Request};
 use blk_report::Report;
 use blk_trace::{Event, PushFault, Setup, Trace};
 use edd_check::Window;
+use edd_figures::Figures;
 use refusing::Refusing;
 use std::alloc::Global;
 use std::process::Abort;
@@ -169,11 +170,13 @@ pub fn served(
         commands,
         waiting,
         depth,
-        greatest: Some(greatest),
-        least: Some(least),
-        shortfall: Some(shortfall),
-        window: Some(Window { from, due }),
-        load: Some(load),
+        figures: Some(Figures {
+            greatest,
+            least,
+            shortfall,
+            window: Window { from, due },
+            load,
+        }),
     }
 }
 
@@ -183,10 +186,6 @@ pub fn unserved(waiting: u64, depth: u64) -> Report {
         commands: 0,
         waiting,
         depth,
-        greatest: None,
-        least: None,
-        shortfall: None,
-        window: None,
-        load: None,
+        figures: None,
     }
 }

@@ -67,5 +67,5 @@ fn many_events(rt: HostRuntime) {
     }
     let told = reported(&rt, rt.alloc(), 1, steps.as_slice());
     assert_eq!(rt; (told.commands, told.waiting), (40, 0));
-    assert_eq!(rt; (told.greatest, told.least), (Some(0), Some(0)));
+    assert_eq!(rt; (told.greatest(), told.least()), (Some(0), Some(0)));
 }

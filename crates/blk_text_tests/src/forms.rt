@@ -1,8 +1,8 @@
 //! What comes of texts, form by form: what is read of them and written again, and their faults, each by its record and name.
 
 use blk_lists::{
-    Proof, Records, TextFault, Why, read_certificate, read_commands, read_met, read_proof,
-    read_schedule, write_certificate, write_commands, write_met, write_schedule,
+    Proof, Records, TextFault, Why, read_certificate, read_commands, read_on_time, read_proof,
+    read_schedule, write_certificate, write_commands, write_on_time, write_schedule,
 };
 use blk_text::{read_script, read_trace, write_trace};
 use drafts::WriteFault;
@@ -20,7 +20,7 @@ pub enum Form {
     /// A certificate of the least greatest lateness.
     Certificate,
     /// A certificate of the greatest number met.
-    Met,
+    OnTime,
     /// A certificate of either form.
     Proof,
     /// A schedule.
@@ -36,7 +36,7 @@ pub fn fault_of<R: Read + Drop>(alloc: Global, form: Form, reader: R) -> Option<
         Form::Commands => read_commands(alloc, records).err(),
         Form::Script => read_script(alloc, records).err(),
         Form::Certificate => read_certificate(alloc, records).err(),
-        Form::Met => read_met(alloc, records).err(),
+        Form::OnTime => read_on_time(alloc, records).err(),
         Form::Proof => read_proof(alloc, records).err(),
         Form::Schedule => read_schedule(alloc, records).err(),
         Form::Trace => read_trace(alloc, records).err(),
@@ -72,13 +72,13 @@ fn rewrite<W: Write>(
             Ok(certificate) => Some(write_certificate(alloc, &certificate, out)),
             Err(_) => None,
         },
-        Form::Met => match read_met(alloc, records) {
-            Ok(certificate) => Some(write_met(alloc, &certificate, out)),
+        Form::OnTime => match read_on_time(alloc, records) {
+            Ok(certificate) => Some(write_on_time(alloc, &certificate, out)),
             Err(_) => None,
         },
         Form::Proof => match read_proof(alloc, records) {
             Ok(Proof::Lateness(certificate)) => Some(write_certificate(alloc, &certificate, out)),
-            Ok(Proof::Met(certificate)) => Some(write_met(alloc, &certificate, out)),
+            Ok(Proof::OnTime(certificate)) => Some(write_on_time(alloc, &certificate, out)),
             Err(_) => None,
         },
         Form::Schedule => match read_schedule(alloc, records) {

@@ -4,7 +4,7 @@
 fn laws_hold() {
     blk_lists::laws::commands();
     blk_lists::laws::certificates();
-    blk_lists::laws::met_certificates();
+    blk_lists::laws::on_time_certificates();
     blk_lists::laws::certificates_of_both_forms();
     blk_lists::laws::schedules();
     blk_text::laws::scripts();

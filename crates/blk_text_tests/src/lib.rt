@@ -8,7 +8,7 @@ mod forms;
 #[cfg(test)]
 mod laws;
 #[cfg(test)]
-mod met;
+mod on_time;
 #[cfg(test)]
 mod schedules;
 #[cfg(test)]

@@ -2,7 +2,7 @@
 
 use crate::forms::{Form, first_not_itself, first_other, needs_its_room};
 use blk_lists::{Records, Why, read_schedule};
-use edd_check::Command;
+use edd_commands::Command;
 
 /// Two commands of round 0, of which the one due there runs second, and one that runs before it is released.
 const THREE: &str = "blk-schedule,1,1,3\n7,0,0,1\n5,0,9,0\n18446744073709551615,3,1,2\n";

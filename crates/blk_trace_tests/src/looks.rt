@@ -3,7 +3,7 @@
 use crate::given::{Heap, Step, bio, event, is_event, is_pushed, standing};
 use blk_bio::{Bio, Dir};
 use blk_trace::{PushFault, Trace, TraceRule};
-use edd_check::Command;
+use edd_commands::Command;
 
 /// What is done to a trace, or has to be seen of it.
 #[derive(Clone, Copy)]

@@ -6,7 +6,7 @@ use blk_runs::RunFault;
 use blk_settings::SchedFault;
 use blk_sim::{SimFault, SimWhy};
 use blk_text::{Script, read_script};
-use blk_tune::{Line, Quiet, tune};
+use blk_tune::{ProgressLine, Quiet, tune};
 use std::alloc::Global;
 use std::process::Abort;
 use std::thread::Threads;
@@ -145,7 +145,7 @@ fn progress_on_a_terminal_alone(rt: HostRuntime) {
     let three = asked(&rt, alloc, false, 1, By::Misses, None, 4);
     for is_terminal in [false, true] {
         let mut said = Vec::new(alloc);
-        let mut line = Line::new(alloc, rt, &mut said, is_terminal);
+        let mut line = ProgressLine::new(alloc, rt, &mut said, is_terminal);
         assert!(rt; tune(&rt, alloc, &three, &script, &mut line).is_ok());
         assert!(rt; said.is_empty() != is_terminal);
         assert!(rt; said.ends_with(b"\r\x1b[K") == is_terminal);

@@ -1,7 +1,7 @@
 //! Capacities: what they refuse, and how many commands their rounds carry.
 
 use crate::made::{fixed, steps};
-use edd_check::{Capacity, CapacityFault, MAX_ROUNDS, law_of_one_depth};
+use edd_commands::{Capacity, CapacityFault, MAX_ROUNDS, law_of_one_depth};
 use std::alloc::Global;
 use std::process::Abort;
 

@@ -1,7 +1,13 @@
 //! Claims of least lateness, good and spoiled.
 
 use crate::made::{checked, command, fixed, steps, window};
-use edd_check::{Capacity, CheckFault, MAX_ROUNDS, greatest_lateness, in_range, is_legal, load};
+use edd_check::{CheckFault, Crowding, greatest_lateness, in_range, is_legal, load};
+use edd_commands::{Capacity, MAX_ROUNDS};
+
+/// What the check answers of a window with this load, whose rounds carry this many.
+const fn crowded(load: u64, carries: u64) -> Result<Crowding, CheckFault> {
+    Ok(Crowding { load, carries })
+}
 
 #[test]
 fn spoiled_certificates(rt: HostRuntime) {
@@ -9,7 +15,7 @@ fn spoiled_certificates(rt: HostRuntime) {
     let commands = [command(1, 0, 0), command(2, 0, 0), command(3, 0, 0)];
     let good = window(0, 0);
     for (lateness, rounds, window, answer) in [
-        (2, [0, 1, 2], good, Ok(())),
+        (2, [0, 1, 2], good, crowded(3, 2)),
         (1, [0, 1, 2], good, Err(CheckFault::WrongLateness(2))),
         (2, [0, 1, 2], window(1, 0), Err(CheckFault::NotCrowded(0))),
         (2, [0, 0, 1], good, Err(CheckFault::OverDepth(0))),
@@ -34,7 +40,7 @@ fn late_on_arrival(rt: HostRuntime) {
     assert_eq!(rt; load(&commands, good), 1);
     assert_eq!(rt;
         checked(&rt, rt.alloc(), &one, &commands, 2, &[5], good),
-        Ok(())
+        crowded(1, 0)
     );
     let early = checked(&rt, rt.alloc(), &one, &commands, 2, &[4], good);
     assert_eq!(rt; early, Err(CheckFault::BeforeRelease(1)));
@@ -91,7 +97,7 @@ fn changing_depth(rt: HostRuntime) {
     let flat = [0, 0, 1, 1, 2];
     let whole = window(0, 0);
     for (capacity, lateness, rounds, answer) in [
-        (&changing, 3, &good, Ok(())),
+        (&changing, 3, &good, crowded(5, 4)),
         (&two, 3, &good, Err(CheckFault::NotCrowded(5))),
         (&changing, 2, &flat, Err(CheckFault::OverDepth(1))),
     ] {

@@ -2,9 +2,10 @@
 
 use crate::made::{command, fixed, steps, window};
 use edd_check::{
-    Capacity, Command, MetFault, Window, carried_by, carried_in, check_met, cover_in_range, inside,
-    law_of_covers, number_met, outside,
+    OnTimeFault, Window, carried_by, carried_in, check_on_time, cover_in_range, inside,
+    law_of_covers, number_on_time, outside,
 };
+use edd_commands::{Capacity, Command};
 use std::alloc::Global;
 use std::process::Abort;
 
@@ -21,10 +22,11 @@ fn accepted(
     out: u64,
 ) {
     assert!(rt; cover_in_range(cover));
-    let Ok(()) = check_met(alloc, commands, capacity, rounds, met, cover) else {
+    let Ok(bound) = check_on_time(alloc, commands, capacity, rounds, met, cover) else {
         panic!(rt; "refused");
     };
-    assert_eq!(rt; number_met(commands, rounds), met);
+    assert_eq!(rt; (bound.carries, bound.outside), (carried, out));
+    assert_eq!(rt; number_on_time(commands, rounds), met);
     assert_eq!(rt; carried_by(capacity, cover), carried);
     assert_eq!(rt; outside(commands, cover), out);
     law_of_covers(commands, capacity, cover);
@@ -39,10 +41,10 @@ fn refused(
     rounds: &[u64],
     met: u64,
     cover: &[Window],
-    fault: MetFault,
+    fault: OnTimeFault,
 ) {
     assert!(rt; cover_in_range(cover));
-    let own = check_met(alloc, commands, capacity, rounds, met, cover);
+    let own = check_on_time(alloc, commands, capacity, rounds, met, cover);
     assert!(rt; matches!(own, Err(it) if it == fault));
 }
 
@@ -52,7 +54,7 @@ fn three() -> [Command; 3] {
 }
 
 #[test]
-fn one_can_not_be_met(rt: HostRuntime) {
+fn one_can_not_be_on_time(rt: HostRuntime) {
     let one = fixed(&rt, rt.alloc(), 1);
     let (commands, cover) = (three(), [window(0, 0)]);
     accepted(
@@ -79,10 +81,10 @@ fn spoiled_covers(rt: HostRuntime) {
     let commands = three();
     let good = [0, 2, 1];
     for (rounds, met, fault) in [
-        ([0, 0, 1], 2, MetFault::OverDepth(0)),
-        (good, 3, MetFault::WrongMet(2)),
-        (good, 1, MetFault::WrongMet(2)),
-        ([1, 0, 6], 2, MetFault::WrongMet(1)),
+        ([0, 0, 1], 2, OnTimeFault::OverDepth(0)),
+        (good, 3, OnTimeFault::WrongMet(2)),
+        (good, 1, OnTimeFault::WrongMet(2)),
+        ([1, 0, 6], 2, OnTimeFault::WrongMet(1)),
     ] {
         let cover = [window(0, 0)];
         refused(
@@ -97,11 +99,11 @@ fn spoiled_covers(rt: HostRuntime) {
         );
     }
     for (cover, fault) in [
-        ([window(1, 0), window(2, 2)], MetFault::Windows(0)),
-        ([window(0, 0), window(0, 5)], MetFault::Windows(1)),
-        ([window(3, 3), window(0, 0)], MetFault::Windows(1)),
-        ([window(0, 0), window(1, 5)], MetFault::Loose(7)),
-        ([window(0, 0), window(7, 7)], MetFault::Loose(3)),
+        ([window(1, 0), window(2, 2)], OnTimeFault::Windows(0)),
+        ([window(0, 0), window(0, 5)], OnTimeFault::Windows(1)),
+        ([window(3, 3), window(0, 0)], OnTimeFault::Windows(1)),
+        ([window(0, 0), window(1, 5)], OnTimeFault::Loose(7)),
+        ([window(0, 0), window(7, 7)], OnTimeFault::Loose(3)),
     ] {
         refused(&rt, rt.alloc(), &one, &commands, &good, 2, &cover, fault);
     }
@@ -114,7 +116,7 @@ fn spoiled_covers(rt: HostRuntime) {
         &short,
         2,
         &[],
-        MetFault::Length,
+        OnTimeFault::Length,
     );
     refused(
         &rt,
@@ -124,7 +126,7 @@ fn spoiled_covers(rt: HostRuntime) {
         &good,
         2,
         &[],
-        MetFault::Loose(3),
+        OnTimeFault::Loose(3),
     );
 }
 
@@ -133,12 +135,12 @@ fn released_after_it_is_due(rt: HostRuntime) {
     let one = fixed(&rt, rt.alloc(), 1);
     let late = [command(1, 5, 3)];
     accepted(&rt, rt.alloc(), &one, &late, &[5], 0, &[], 0, 0);
-    let early = MetFault::BeforeRelease(1);
+    let early = OnTimeFault::BeforeRelease(1);
     refused(&rt, rt.alloc(), &one, &late, &[4], 0, &[], early);
 }
 
 #[test]
-fn none_and_all_are_met(rt: HostRuntime) {
+fn none_and_all_are_on_time(rt: HostRuntime) {
     let one = fixed(&rt, rt.alloc(), 1);
     accepted(&rt, rt.alloc(), &one, &[], &[], 0, &[], 0, 0);
     let commands = [command(1, 0, 1), command(2, 0, 1), command(3, 2, 2)];

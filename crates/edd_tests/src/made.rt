@@ -1,6 +1,7 @@
 //! Values that the tests are made of.
 
-use edd_check::{Capacity, CheckFault, Command, Step, Window, check, in_range};
+use edd_check::{CheckFault, Crowding, Window, check, in_range};
+use edd_commands::{Capacity, Command, Step};
 use std::alloc::{Allocator, Global};
 use std::process::Abort;
 
@@ -42,7 +43,7 @@ pub fn checked<A: Allocator, B: Allocator>(
     lateness: i64,
     rounds: &[u64],
     window: Window,
-) -> Result<(), CheckFault> {
+) -> Result<Crowding, CheckFault> {
     assert!(rt; in_range(commands, rounds, window));
     check(alloc, commands, capacity, lateness, rounds, window)
 }

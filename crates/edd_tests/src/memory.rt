@@ -2,15 +2,16 @@
 
 use crate::made::{checked, command, window};
 use crate::verdicts::says;
-use edd_check::{Capacity, CheckFault, MetFault, check, check_met};
-use edd_oracle::{OracleFault, law_of_checks, law_of_met_checks, most_met, solve};
+use edd_check::{CheckFault, Crowding, OnTimeFault, check, check_on_time};
+use edd_commands::Capacity;
+use edd_oracle::{OracleFault, law_of_checks, law_of_on_time_checks, most_on_time, solve};
 use edd_verdict::Verdict;
 use refusing::Refusing;
 use std::alloc::Global;
 use std::process::Abort;
 
 /// Makes a capacity and checks a claim under it.
-fn claimed(rt: &impl Abort, heap: &Refusing<Global>) -> Result<(), CheckFault> {
+fn claimed(rt: &impl Abort, heap: &Refusing<Global>) -> Result<Crowding, CheckFault> {
     let Ok(one) = Capacity::fixed(heap, 1) else {
         return Err(CheckFault::Memory);
     };
@@ -20,15 +21,19 @@ fn claimed(rt: &impl Abort, heap: &Refusing<Global>) -> Result<(), CheckFault> {
 
 #[test]
 fn of_a_claim(rt: HostRuntime) {
+    let good = Crowding {
+        load: 1,
+        carries: 0,
+    };
     let heap = Refusing::new(rt.alloc());
     for n in 1..3 {
         heap.refuse(n);
         assert_eq!(rt; claimed(&rt, &heap), Err(CheckFault::Memory));
         assert!(rt; !heap.is_armed());
-        assert_eq!(rt; claimed(&rt, &heap), Ok(()));
+        assert_eq!(rt; claimed(&rt, &heap), Ok(good));
     }
     heap.refuse(3);
-    assert_eq!(rt; claimed(&rt, &heap), Ok(()));
+    assert_eq!(rt; claimed(&rt, &heap), Ok(good));
     assert!(rt; heap.is_armed());
 }
 
@@ -51,7 +56,7 @@ fn scheduled(rt: &impl Abort, alloc: Global, heap: &Refusing<Global>) -> bool {
                 rounds,
                 answer.window,
             ) {
-                Ok(()) => true,
+                Ok(_) => true,
                 Err(fault) => {
                     assert!(rt; fault == CheckFault::Memory);
                     false
@@ -83,16 +88,16 @@ fn of_a_schedule(rt: HostRuntime) {
 fn met(rt: &impl Abort, alloc: Global, heap: &Refusing<Global>) -> bool {
     let one = Capacity::fixed(alloc, 1).expect(rt, "want of memory");
     let commands = [command(2, 0, 0), command(3, 0, 0), command(1, 0, 5)];
-    match most_met(heap, &commands, &one) {
+    match most_on_time(heap, &commands, &one) {
         Ok(answer) => {
             assert_eq!(rt; answer.rounds.as_slice(), [0, 2, 1].as_slice());
-            law_of_met_checks(&commands, &one, &answer);
+            law_of_on_time_checks(&commands, &one, &answer);
             let rounds = answer.rounds.as_slice();
             let cover = answer.cover.as_slice();
-            match check_met(heap, &commands, &one, rounds, answer.met, cover) {
-                Ok(()) => true,
+            match check_on_time(heap, &commands, &one, rounds, answer.met, cover) {
+                Ok(_) => true,
                 Err(fault) => {
-                    assert!(rt; fault == MetFault::Memory);
+                    assert!(rt; fault == OnTimeFault::Memory);
                     false
                 }
             }

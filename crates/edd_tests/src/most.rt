@@ -1,8 +1,9 @@
 //! Schedules that meet as many commands as any can.
 
 use crate::made::{command, fixed, steps, window};
-use edd_check::{Capacity, Command, Window, check_met};
-use edd_oracle::{OracleFault, law_of_met_checks, most_met, solve};
+use edd_check::{Window, check_on_time};
+use edd_commands::{Capacity, Command};
+use edd_oracle::{OracleFault, law_of_on_time_checks, most_on_time, solve};
 use std::alloc::Global;
 use std::process::Abort;
 
@@ -16,19 +17,19 @@ fn answers(
     met: u64,
     cover: &[Window],
 ) {
-    let answer = most_met(alloc, commands, capacity).expect(rt, "an answer");
+    let answer = most_on_time(alloc, commands, capacity).expect(rt, "an answer");
     assert_eq!(rt; answer.rounds.as_slice(), rounds);
     assert_eq!(rt; answer.met, met);
     assert_eq!(rt; answer.cover.as_slice(), cover);
-    law_of_met_checks(commands, capacity, &answer);
+    law_of_on_time_checks(commands, capacity, &answer);
     let rounds = answer.rounds.as_slice();
     let cover = answer.cover.as_slice();
-    let passed = check_met(alloc, commands, capacity, rounds, answer.met, cover);
-    assert!(rt; matches!(passed, Ok(())));
+    let passed = check_on_time(alloc, commands, capacity, rounds, answer.met, cover);
+    assert!(rt; passed.is_ok());
 }
 
 #[test]
-fn none_and_all_are_met(rt: HostRuntime) {
+fn none_and_all_are_on_time(rt: HostRuntime) {
     let one = fixed(&rt, rt.alloc(), 1);
     answers(&rt, rt.alloc(), &[], &one, &[], 0, &[]);
     let commands = [command(1, 0, 1), command(2, 0, 1), command(3, 2, 2)];
@@ -46,7 +47,7 @@ fn released_after_it_is_due(rt: HostRuntime) {
 }
 
 #[test]
-fn one_can_not_be_met(rt: HostRuntime) {
+fn one_can_not_be_on_time(rt: HostRuntime) {
     let one = fixed(&rt, rt.alloc(), 1);
     let commands = [command(1, 0, 0), command(2, 0, 0), command(3, 0, 5)];
     let cover = [window(0, 0)];
@@ -130,7 +131,7 @@ fn refuses_as_solve_does(rt: HostRuntime) {
             OracleFault::RoundRange(7),
         ),
     ] {
-        let met = most_met(rt.alloc(), &commands, &one);
+        let met = most_on_time(rt.alloc(), &commands, &one);
         assert!(rt; matches!(met, Err(it) if it == fault));
         let solved = solve(rt.alloc(), &commands, &one);
         assert!(rt; matches!(solved, Err(it) if it == fault));
@@ -138,7 +139,7 @@ fn refuses_as_solve_does(rt: HostRuntime) {
 }
 
 /// Whether the commands at the bits of the set can all be met: where the least greatest lateness is none or not above 0.
-fn all_met(
+fn all_on_time(
     rt: &impl Abort,
     alloc: Global,
     commands: &[Command],
@@ -173,10 +174,10 @@ fn no_subset_is_larger(rt: HostRuntime) {
             drawn = drawn.wrapping_mul(75).wrapping_add(74) % 65537;
             commands[id as usize] = command(id, release, drawn % 5);
         }
-        let answer = most_met(rt.alloc(), &commands, &changing).expect(&rt, "an answer");
+        let answer = most_on_time(rt.alloc(), &commands, &changing).expect(&rt, "an answer");
         let mut best = 0;
         for set in 0..32u64 {
-            if all_met(&rt, rt.alloc(), &commands, set, &changing) {
+            if all_on_time(&rt, rt.alloc(), &commands, set, &changing) {
                 best = best.max(u64::from(set.count_ones()));
             }
         }

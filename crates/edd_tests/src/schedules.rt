@@ -2,9 +2,9 @@
 
 use crate::made::{command, fixed, steps, window};
 use edd_check::{
-    Capacity, Command, Window, check, greatest_lateness, in_range, is_legal,
-    law_of_crowded_windows, load,
+    Window, check, greatest_lateness, in_range, is_legal, law_of_crowded_windows, load,
 };
+use edd_commands::{Capacity, Command};
 use edd_oracle::{Answer, OracleFault, law_of_checks, law_of_one_schedule, solve};
 use std::alloc::Global;
 use std::process::Abort;
@@ -24,7 +24,7 @@ fn solved(rt: &impl Abort, alloc: Global, commands: &[Command], capacity: &Capac
         rounds,
         answer.window,
     );
-    assert!(rt; matches!(passed, Ok(())));
+    assert!(rt; passed.is_ok());
     law_of_crowded_windows(commands, capacity, answer.lateness, answer.window);
     law_of_one_schedule(commands, capacity, rounds, rounds);
     answer

@@ -1,7 +1,8 @@
 //! Why commands are late.
 
 use crate::made::{command, fixed, window};
-use edd_check::{Capacity, Command, is_legal};
+use edd_check::is_legal;
+use edd_commands::{Capacity, Command};
 use edd_oracle::solve;
 use edd_verdict::{Verdict, verdicts};
 use std::alloc::{Allocator, Global};

@@ -1,16 +1,16 @@
 //! Certificates of the greatest number met, and certificates of either form.
 
 use crate::forms::{Form, first_not_itself, first_other, needs_its_room};
-use blk_lists::{Records, Why, read_met};
+use blk_lists::{Records, Why, read_on_time};
 use edd_check::Window;
 
 /// Three commands of one round, of which two are due in round 0: one runs in time there, and one later.
 const TWO_OF_THREE: &str = "blk-met,1,1,3\nmet,2,1,\nwindow,0,0,\n1,0,0,0\n2,0,0,1\n3,0,5,2\n";
 
 #[test]
-fn what_is_met_is_read(rt: HostRuntime) {
+fn what_is_on_time_is_read(rt: HostRuntime) {
     let records = &mut Records::new(rt.alloc(), TWO_OF_THREE.as_bytes());
-    let Ok(certificate) = read_met(rt.alloc(), records) else {
+    let Ok(certificate) = read_on_time(rt.alloc(), records) else {
         panic!(rt; "refused");
     };
     assert_eq!(rt; certificate.depth, 1);
@@ -21,11 +21,11 @@ fn what_is_met_is_read(rt: HostRuntime) {
 }
 
 #[test]
-fn met_certificates_come_back(rt: HostRuntime) {
+fn on_time_certificates_come_back(rt: HostRuntime) {
     let none = "blk-met,1,256,0\nmet,0,0,\n";
     let wide = "blk-met,1,2,1\nmet,1000000,2,\nwindow,9,3,\nwindow,0,2199023255551,\n1,0,0,0\n";
     assert_eq!(rt;
-        first_not_itself(rt.alloc(), Form::Met, &[TWO_OF_THREE, none, wide]),
+        first_not_itself(rt.alloc(), Form::OnTime, &[TWO_OF_THREE, none, wide]),
         None
     );
 }
@@ -40,7 +40,7 @@ fn either_form_comes_back(rt: HostRuntime) {
 }
 
 #[test]
-fn faults_of_what_is_met(rt: HostRuntime) {
+fn faults_of_what_is_on_time(rt: HostRuntime) {
     let texts = [
         ("", 1, Why::Title),
         ("blk-certificate,1,1,0\n", 1, Why::Title),
@@ -69,7 +69,7 @@ fn faults_of_what_is_met(rt: HostRuntime) {
         ("blk-met,1,1,1\nmet,0,1,\nwindow,0,0,\n", 4, Why::Count),
         ("blk-met,1,1,0\nmet,0,0,\n1,0,0,0\n", 3, Why::Count),
     ];
-    assert_eq!(rt; first_other(rt.alloc(), Form::Met, &texts), None);
+    assert_eq!(rt; first_other(rt.alloc(), Form::OnTime, &texts), None);
 }
 
 #[test]
@@ -88,6 +88,6 @@ fn faults_of_either_form(rt: HostRuntime) {
 }
 
 #[test]
-fn what_is_met_cannot_be_written(rt: HostRuntime) {
-    assert!(rt; needs_its_room(rt.alloc(), Form::Met, TWO_OF_THREE));
+fn what_is_on_time_cannot_be_written(rt: HostRuntime) {
+    assert!(rt; needs_its_room(rt.alloc(), Form::OnTime, TWO_OF_THREE));
 }
