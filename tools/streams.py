@@ -515,7 +515,7 @@ def progress_at_a_terminal(trials):
             shown = os.read(ours, PIECE)
             ended.said = seen(shown)
             trials.see(name, ended, wanted)
-            told = re.match(rb"(?:\r\x1b\[K\d+ of 3 runs, \d+ s)+\r\x1b\[K", shown)
+            told = re.match(rb"(?:\r\x1b\[K\d+ of \d+ runs, \d+ s)+\r\x1b\[K", shown)
             trials.see(f"{name}, progress", bool(told), True)
 
 
