@@ -76,11 +76,6 @@ fit limits e newcomer side same at w bios more of = record {
   within = within limits e newcomer bios more side of w;
 }
 
--- what fits has extents of one direction
-pub same_dir : (limits : Limits) (e newcomer : Extent) (bios more : List Bio) (side : Side) → AreOf e newcomer bios more → Fits limits bios more side → newcomer.dir ≡ e.dir
-same_dir limits e newcomer bios more side of fits =
-    ap (λ x. x.dir) of.newcomer_extent ∙ fits.same_direction ∙ sym (ap (λ x. x.dir) of.extent)
-
 -- extents that touch nowhere fit nowhere
 pub apart : (limits : Limits) (e newcomer : Extent) → ((side : Side) → TouchesAt e newcomer side → ⊥) → FitNowhere limits e newcomer
 apart limits e newcomer none bios more of side fits = none side (touched e newcomer bios more side of.extent of.newcomer_extent fits.abuts)
@@ -88,18 +83,6 @@ apart limits e newcomer none bios more of side fits = none side (touched e newco
 -- extents that are not within the limits together fit nowhere
 pub too_large : (limits : Limits) (e newcomer : Extent) → (WithinTogether limits e newcomer → ⊥) → FitNowhere limits e newcomer
 too_large limits e newcomer none bios more of side fits = none (together limits e newcomer bios more side of fits.within)
-
--- what touches at one side touches at no other
-pub one_side : (e newcomer : Extent) (found side : Side) → e.first < e.end → newcomer.first < newcomer.end → TouchesAt e newcomer found → TouchesAt e newcomer side → side ≡ found
-one_side e newcomer Back Back range more at other = cc
-one_side e newcomer Back Front range more at other = absurd (omega (arith, range, more, at, other))
-one_side e newcomer Front Back range more at other = absurd (omega (arith, range, more, at, other))
-one_side e newcomer Front Front range more at other = cc
-
--- so what fits does so at one side
-pub only : (limits : Limits) (e newcomer : Extent) (found : Side) → e.first < e.end → newcomer.first < newcomer.end → TouchesAt e newcomer found → FitOnlyAt limits e newcomer found
-only limits e newcomer found range more at bios others of side fits =
-    one_side e newcomer found side range more at (touched e newcomer bios others side of.extent of.newcomer_extent fits.abuts)
 
 -- requests whose extents touch nowhere abut nowhere
 pub apart_none : (found : Option Side) (e newcomer : Extent) (bios more : List Bio) → e ≡ extent_of bios → newcomer ≡ extent_of more → IfNone found ((side : Side) → TouchesAt e newcomer side → ⊥) → IfNone found ((side : Side) → Abuts bios more side → ⊥)

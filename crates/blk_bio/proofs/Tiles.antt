@@ -1,6 +1,6 @@
 -- Lists of bios that tile a range.
-use Rattle.std.proofs.Common.{suc, zero, ◌≡◌, ◌<◌, ◌≤◌, ◌+◌, ◌++◌, ◌^◌, ℕ, List, [], ◌∷◌, length, get_or, refl, sym, ◌∙◌, arith, add-one, Bool, true, false, cond, take, drop, subst, ap}
-use Rattle.std.proofs.Math.Seq.{drop-append_seam, take-append_seam}
+use Rattle.std.proofs.Common.{suc, zero, ◌≡◌, ◌<◌, ◌≤◌, ◌+◌, ◌++◌, ◌^◌, ℕ, List, [], ◌∷◌, length, get_or, refl, sym, ◌∙◌, arith, add-one, subst}
+use Rattle.std.specs.Prelude.{OnOk, OnErr, Result, Ok, Err}
 use Rattle.std.proofs.lemmas.List.Sums.{sum_by-cons}
 use Rattle.blk_bio.specs.declared.request.Side.{Side}
 use Rattle.blk_bio.specs.declared.request.Side.TheVariants.{Back, Front}
@@ -91,24 +91,7 @@ pub joins : (xs ys : List Bio) → IsRequest xs → IsRequest ys → dir_of ys �
 joins xs [] p q same next = absurd (omega (arith, q.not_empty))
 joins xs (y ∷ ys) p q same next = joins_cons xs y ys p q (sym same) next
 
--- whichever is taken is a request
-pub either_request : (b : Bool) (xs ys : List Bio) → IsRequest xs → IsRequest (xs ++ ys) → IsRequest (cond b (xs ++ ys) xs)
-either_request true xs ys p q = q
-either_request false xs ys p q = p
-
--- what stands at the back of a list of bios does not stand at its front too
-pub only_back : (xs ys : List Bio) → first_of xs < last_of xs → first_of ys < last_of ys → first_of ys ≡ last_of xs → (side : Side) → Abuts xs ys side → side ≡ Back
-only_back xs ys some more next Back at = refl
-only_back xs ys some more next Front at = absurd (omega arith)
-
--- a list turned so that what stood behind stands before
-turned : (xs ys grown new : List Bio) (n : ℕ) → grown ≡ xs ++ ys → n ≡ length xs → new ≡ drop n grown ++ take n grown → new ≡ ys ++ xs
-turned xs ys grown new n grown_is n_is new_is =
-    new_is ∙ ap (λ l. drop n l ++ take n l) grown_is ∙ ap (λ m. drop m (xs ++ ys) ++ take m (xs ++ ys)) n_is
-    ∙ ap (λ l. l ++ take (length xs) (xs ++ ys)) (drop-append_seam xs ys) ∙ ap (λ l. ys ++ l) (take-append_seam xs ys)
-
--- a request to which one that ends where it begins was added and then turned before it
-pub turns : (xs ys grown new : List Bio) (n : ℕ) → IsRequest xs → IsRequest ys → dir_of ys ≡ dir_of xs → last_of ys ≡ first_of xs → grown ≡ xs ++ ys → n ≡ length xs → new ≡ drop n grown ++ take n grown → (new ≡ ys ++ xs) × IsRequest new
-turns xs ys grown new n p q same next grown_is n_is new_is =
-    let is : new ≡ ys ++ xs = turned xs ys grown new n grown_is n_is new_is in
-    (is, subst IsRequest (sym is) (joins ys xs q p (sym same) (sym next)))
+-- bios that grew to a request, or stayed one
+pub either_way : {E : Type 0} (r : Result (Unit {0}) E) (xs zs new : List Bio) → IsRequest xs → IsRequest zs → OnOk r (new ≡ zs) → OnErr r (new ≡ xs) → IsRequest new
+either_way (Ok x) xs zs new p q grew same = subst IsRequest (sym grew) q
+either_way (Err e) xs zs new p q grew same = subst IsRequest (sym same) p

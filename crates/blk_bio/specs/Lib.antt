@@ -6,3 +6,4 @@ pub mod Answers
 pub mod Codes
 pub mod Letters
 pub mod Names
+pub mod Inside

@@ -15,7 +15,7 @@ use std::marker::Model;
 pub const MAX_END: u64 = 1 << 48;
 
 /// Which way a bio's data goes, as `REQ_OP_READ` and `REQ_OP_WRITE` of Linux say.
-#[derive(Clone, Copy, Debug, PartialEq, Eq)]
+#[derive(Clone, Copy, Debug, PartialEq, Eq, Hash)]
 pub enum Dir {
     /// From the device.
     Read,
@@ -81,7 +81,7 @@ impl BioFault {
 }
 
 /// A transfer of `sectors` sectors from sector `first` on, at least one, that ends at most at [`MAX_END`].
-#[derive(Clone, Copy, Debug, PartialEq, Eq)]
+#[derive(Clone, Copy, Debug, PartialEq, Eq, Hash)]
 pub struct Bio {
     id: BioId,
     dir: Dir,

@@ -9,6 +9,7 @@
 pub mod bio;
 pub mod extent;
 pub mod limits;
+mod list;
 pub mod request;
 pub mod rule;
 

@@ -6,13 +6,15 @@ ghost use Rattle.blk_bio.specs.declared.request.JoinFault.{JoinFault};
 ghost use Rattle.blk_bio.specs.Bios.{sector_limit};
 ghost use Rattle.blk_bio.specs.Requests.{IsRequest, IsWithin, Abuts, Fits, dir_of, first_of, last_of, sectors_of};
 ghost use Rattle.blk_bio.specs.Extents.{extent_of};
-ghost use Rattle.blk_bio.specs.Answers.{IsJoinAnswer};
+ghost use Rattle.blk_bio.specs.Answers.{IsJoinAnswer, IsPushAnswer};
 
 use crate::bio::{Bio, Dir};
 use crate::extent::Extent;
 use crate::limits::Limits;
+use crate::list::BioList;
 use std::alloc::{AllocError, Allocator, Global};
 use std::marker::Model;
+use std::slice;
 
 /// The end of a request at which another joins it: `ELEVATOR_BACK_MERGE` and `ELEVATOR_FRONT_MERGE` of Linux.
 #[derive(Clone, Copy, Debug, PartialEq, Eq)]
@@ -41,7 +43,7 @@ pub enum JoinFault {
 /// Bios of one direction, at least one, each beginning where the one before it ends. It keeps its allocator.
 #[derive(Debug, Drop)]
 pub struct Request<A: Allocator = Global> {
-    bios: Vec<Bio, A>,
+    bios: BioList<A>,
 }
 
 impl<A: Allocator> Model for Request<A> {
@@ -52,47 +54,43 @@ impl<A: Allocator> Model for Request<A> {
 
     ghost use Rattle.blk_bio.specs.Requests.{IsRequest};
 
-    ghost view = { λ r. r.bios.items };
+    ghost view = { λ r. r.bios };
 
-    ghost invariant = { λ r. IsRequest r.bios.items };
+    ghost invariant = { λ r. IsRequest r.bios };
 }
 
 impl<A: Allocator + Clone> Request<A> {
-    /// A request of one bio. Where memory is refused, the bio comes back.
+    /// A request of one bio, which takes no memory. Where memory is refused, the bio comes back.
     pub fn of(alloc: A, bio: Bio) -> Result<Request<A>, (Bio, AllocError)>
         ensures ok { IfOk result (λ r. r ≡ bio ∷ []) }
         ensures err { IfErr result (λ e. e.0 ≡ bio) }
     {
-        let Ok(mut bios) = Vec::with_capacity(alloc, 1) else {
-            return Err((bio, AllocError));
-        };
-        match bios.push(bio) {
-            Ok(()) => Ok(Request { bios }),
-            Err(_) => Err((bio, AllocError)),
-        }
+        Ok(Request {
+            bios: BioList::of(alloc, bio),
+        })
     }
 
     /// Another request of the same bios, from the same allocator. Fails only when out of memory.
     pub fn copy(&self) -> Result<Request<A>, AllocError>
         ensures { IfOk result (λ r. r ≡ self.now) }
     {
-        let alloc = self.bios.allocator().clone()?;
-        let bios = Vec::from_slice(alloc, self.bios.as_slice())?;
-        Ok(Request { bios })
+        Ok(Request {
+            bios: self.bios.copy()?,
+        })
     }
 
     /// The direction of all its bios.
     pub fn dir(&self) -> Dir
         ensures { result ≡ dir_of self.now }
     {
-        self.bios[0].dir()
+        self.bios()[0].dir()
     }
 
     /// Its first sector: where its first bio begins.
     pub fn first(&self) -> u64
         ensures { result ≡ first_of self.now }
     {
-        self.bios[0].first()
+        self.bios()[0].first()
     }
 
     /// The sector after its last one.
@@ -101,7 +99,8 @@ impl<A: Allocator + Clone> Request<A> {
         ensures in_range { result ≤ sector_limit }
         ensures above { first_of self.now < result }
     {
-        let last = self.bios[self.bios.len() - 1];
+        let bios = self.bios();
+        let last = bios[bios.len() - 1];
         last.first() + last.sectors()
     }
 
@@ -139,9 +138,9 @@ impl<A: Allocator + Clone> Request<A> {
     pub fn within(&self, limits: &Limits) -> bool
         ensures { IsTrue result ↔ IsWithin limits.now self.now }
     {
-        self.bios.len() == 1
+        self.bios().len() == 1
             || self.sectors() <= limits.max_sectors()
-                && self.bios.len() as u64 <= limits.max_segments()
+                && self.bios().len() as u64 <= limits.max_segments()
     }
 
     /// Its direction and its range, and how many bios it has.
@@ -155,7 +154,7 @@ impl<A: Allocator + Clone> Request<A> {
             dir: self.dir(),
             first: self.first(),
             end: self.end(),
-            bios: self.bios.len() as u64,
+            bios: self.bios().len() as u64,
         }
     }
 
@@ -203,7 +202,7 @@ impl<A: Allocator + Clone> Request<A> {
         if self.sectors() + other.sectors() > limits.max_sectors() {
             return Err((other, JoinFault::Sectors));
         }
-        if (self.bios.len() + other.bios.len()) as u64 > limits.max_segments() {
+        if (self.bios().len() + other.bios().len()) as u64 > limits.max_segments() {
             return Err((other, JoinFault::Segments));
         }
         let grown = match side {
@@ -216,6 +215,45 @@ impl<A: Allocator + Clone> Request<A> {
         Ok(side)
     }
 
+    /// Joins a bio to this request at the back, as [`Request::join`] would join a request of that bio alone; none is made. Refused, in
+    /// this order, as `Direction`, as `Apart` where it doesn't begin at this request's end, as `Sectors` or `Segments`, and as
+    /// `Memory` where the growth is refused. This request is then as it was.
+    pub fn push_bio(&mut self, bio: Bio, limits: &Limits) -> Result<(), JoinFault>
+        // Ok or the fault, and the request as it stands then
+        ensures answer { IsPushAnswer limits.now self.old bio self.new result }
+        // what fits at the back is refused only when out of memory
+        ensures accepts { Fits limits.now self.old (bio ∷ []) Side.Back → IfErr result (λ why. why ≡ JoinFault.Memory) }
+    {
+        if bio.dir() != self.dir() {
+            return Err(JoinFault::Direction);
+        }
+        if bio.first() != self.end() {
+            return Err(JoinFault::Apart);
+        }
+        if self.sectors() + bio.sectors() > limits.max_sectors() {
+            return Err(JoinFault::Sectors);
+        }
+        if self.bios().len() as u64 + 1 > limits.max_segments() {
+            return Err(JoinFault::Segments);
+        }
+        match self.append_bio(bio) {
+            Ok(()) => Ok(()),
+            Err(AllocError) => Err(JoinFault::Memory),
+        }
+    }
+
+    /// Adds a bio that begins where this request ends.
+    fn append_bio(&mut self, bio: Bio) -> Result<(), AllocError>
+        requires direction { bio.dir ≡ dir_of self.old }
+        requires abuts { bio.first ≡ last_of self.old }
+        ensures ok { IfOk result (λ _. self.new ≡ self.old ++ bio ∷ []) }
+        ensures err { IfErr result (λ _. self.new ≡ self.old) }
+    {
+        // brings the prover what every bio keeps
+        let _ = bio.first();
+        self.bios.append(slice::from_ref(&bio))
+    }
+
     /// Adds the bios of a request that begins where this one ends.
     fn append(&mut self, other: &Request<A>) -> Result<(), AllocError>
         requires direction { dir_of other.now ≡ dir_of self.old }
@@ -223,7 +261,7 @@ impl<A: Allocator + Clone> Request<A> {
         ensures ok { IfOk result (λ _. self.new ≡ self.old ++ other.now) }
         ensures err { IfErr result (λ _. self.new ≡ self.old) }
     {
-        self.bios.extend_from_slice(other.bios.as_slice())
+        self.bios.append(other.bios())
     }
 
     /// Puts the bios of a request that ends where this one begins before this one's.
@@ -233,8 +271,6 @@ impl<A: Allocator + Clone> Request<A> {
         ensures ok { IfOk result (λ _. self.new ≡ other.now ++ self.old) }
         ensures err { IfErr result (λ _. self.new ≡ self.old) }
     {
-        self.bios.extend_from_slice(other.bios.as_slice())?;
-        self.bios.rotate_right(other.bios.len());
-        Ok(())
+        self.bios.prepend(other.bios())
     }
 }

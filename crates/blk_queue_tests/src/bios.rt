@@ -72,6 +72,26 @@ fn limits_refuse_a_join(rt: HostRuntime) {
 }
 
 #[test]
+fn bios_pushed_at_the_back(rt: HostRuntime) {
+    let heap = Refusing::new(rt.alloc());
+    let eight = limits(&rt, 8, 2);
+    let (first, next) = (bio(&rt, Dir::Read, 4, 4), bio(&rt, Dir::Read, 8, 2));
+    let mut whole = request(&rt, &heap, first);
+    for (dir, begin, sectors, fault) in [
+        (Dir::Write, 8, 1, JoinFault::Direction),
+        (Dir::Read, 3, 1, JoinFault::Apart),
+        (Dir::Read, 8, 5, JoinFault::Sectors),
+    ] {
+        let newcomer = bio(&rt, dir, begin, sectors);
+        assert_eq!(rt; whole.push_bio(newcomer, &eight), Err(fault));
+    }
+    assert_eq!(rt; whole.push_bio(next, &eight), Ok(()));
+    let third = bio(&rt, Dir::Read, 10, 1);
+    assert_eq!(rt; whole.push_bio(third, &eight), Err(JoinFault::Segments));
+    assert_eq!(rt; whole.bios(), [first, next].as_slice());
+}
+
+#[test]
 fn front_merge(rt: HostRuntime) {
     let heap = Refusing::new(rt.alloc());
     let narrow = limits(&rt, 8, 2);
@@ -127,7 +147,7 @@ fn memory_refused(rt: HostRuntime) {
         heap.refuse(n);
         grows(&rt, &heap);
         if heap.is_armed() {
-            assert!(rt; n > 40);
+            assert!(rt; n > 5);
             return;
         }
     }

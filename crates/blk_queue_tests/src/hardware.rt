@@ -103,7 +103,7 @@ fn memory_refused(rt: HostRuntime) {
         heap.refuse(n);
         holds(&rt, &heap);
         if heap.is_armed() {
-            assert!(rt; n > 21);
+            assert!(rt; n > 2);
             return;
         }
     }

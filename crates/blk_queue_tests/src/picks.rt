@@ -1,9 +1,9 @@
-//! The counts of picks that are open and of those that were handed back.
+//! The counts of picks that are open and of those that are requeued.
 
 use blk_bio::Dir;
 use blk_sched::OpenPicks;
 
-/// A read is picked, handed back, issued again and done; a write is picked meanwhile.
+/// A read is picked, requeued, issued again and done; a write is picked meanwhile.
 #[test]
 fn handed_back_and_issued_again(rt: HostRuntime) {
     let mut picks = OpenPicks::none();

@@ -182,7 +182,7 @@ fn memory_refused(rt: HostRuntime) {
         heap.refuse(n);
         joins_after_some_left(&rt, &heap);
         if heap.is_armed() {
-            assert!(rt; n > 50);
+            assert!(rt; n > 4);
             return;
         }
     }
