@@ -117,6 +117,16 @@ gone from next [] now is none rest = cc
 gone from next (None ∷ os) now is none rest = ap (λ (n : ℕ). run_of n now) is ∙ ap (run_of (from + 1)) rest
 gone from next (Some p ∷ os) now is none rest = cc
 
+-- an id without a key is passed over
+pub one_passed : (from : ℕ) (os : Run) → run_of from (os ++ None ∷ []) ≡ run_of from os
+unfolding run_of
+one_passed from [] = refl
+one_passed from (None ∷ os) = one_passed (from + 1) os
+one_passed from (Some p ∷ os) = ap (λ (es : Entries). (from, p) ∷ es) (one_passed (from + 1) os)
+
+pub all_passed : (from : ℕ) (before after : Run) (fs all : Entries) → run_of from after ≡ run_of from before → run_of from before ++ fs ≡ all → run_of from after ++ fs ≡ all
+all_passed from before after fs all same were = ap (λ (es : Entries). es ++ fs) same ∙ were
+
 pub empty_run : (from next : ℕ) (os : Run) → length os ≡ 0 → run_of next os ≡ run_of from os
 unfolding run_of
 empty_run from next [] none = refl

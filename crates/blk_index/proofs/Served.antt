@@ -32,11 +32,11 @@ none_then (Some x) P Q h f = tt
 
 -- ---- joins
 
-abbrev pub meaning_with : Pending → OpenPicks → ℕ → Meaning
-meaning_with pending picks round = record { pending = pending; open_picks = picks; front = true; round = round }
+abbrev pub meaning_with : Pending → OpenPicks → Meaning
+meaning_with pending picks = record { pending = pending; open_picks = picks; front = true }
 
-module _ (m : Pending) (picks : OpenPicks) (round hw : ℕ) (limits : Limits) (newcomer : List Bio) where
-  pub candidate_of : (id : ℕ) (side : Side) → IsNewestFit limits true (served_of hw m) newcomer id side → HasCandidate serves_own hw limits newcomer (meaning_with m picks round) id side
+module _ (m : Pending) (picks : OpenPicks) (hw : ℕ) (limits : Limits) (newcomer : List Bio) where
+  pub candidate_of : (id : ℕ) (side : Side) → IsNewestFit limits true (served_of hw m) newcomer id side → HasCandidate serves_own hw limits newcomer (meaning_with m picks) id side
   candidate_of id side best =
       let f = serves_it hw (map.get m id) best.waiting best.is_found in (
         best.waiting,
@@ -50,5 +50,5 @@ module _ (m : Pending) (picks : OpenPicks) (round hw : ℕ) (limits : Limits) (n
         },
       )
 
-  pub no_candidate_of : FitsNone limits true (served_of hw m) newcomer → HasNoCandidate serves_own hw limits newcomer (meaning_with m picks round)
+  pub no_candidate_of : FitsNone limits true (served_of hw m) newcomer → HasNoCandidate serves_own hw limits newcomer (meaning_with m picks)
   no_candidate_of none id w s there own tried fits = none id w (served_there hw (map.get m id) w there own) s tried fits

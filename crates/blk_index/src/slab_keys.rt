@@ -2,20 +2,26 @@
 
 ghost use Rattle.std.specs.Prelude.{◌≡◌, ◌+◌, ◌++◌, ◌∷◌, ℕ, [], None, Some, length, slice_get, IfOk, OnOk, OnErr, IfSome};
 ghost use Rattle.std.specs.Bool.{OnTrue};
-ghost use Rattle.blk_index.specs.Inside.SlabKeys.{run_at, key_in, entries_of, key_of, Gives};
+ghost use Rattle.blk_index.specs.Inside.SlabKeys.{run_of, run_at, key_in, entries_of, key_of, Gives};
 
 use crate::merge_hash::Hashing;
 use std::alloc::{AllocError, Allocator, Global};
 use std::collections::{HashMap, VecDeque};
 
-/// The keys of ids: those of a run of ids that follow one another, and in a hash table those of others. Requests mostly enter
-/// by rising ids, each one more than the last, and then all stand in the run, where a key is found at once.
+/// How many ids a run may pass over for each of its keys. To pass over so many and to drop them again costs less than a place
+/// in the hash table.
+const SPARE: usize = 4;
+
+/// The keys of ids: those of a run of rising ids, and in a hash table those of others. Requests mostly enter by rising ids, of
+/// which each hardware queue gets a few in a row, and then all stand in the run, where a key is found at once.
 #[derive(Drop)]
 pub struct SlabKeys<A: Allocator = Global> {
     /// The first id of the run.
     pub from: u64,
     /// The key of each id of the run, if it still has one.
     pub run: VecDeque<Option<usize>, A>,
+    /// How many ids without a key the run may still pass over.
+    spare: usize,
     /// The keys of other ids.
     pub others: HashMap<u64, usize, Hashing, A>,
 }
@@ -28,6 +34,7 @@ impl<A: Allocator + Clone> SlabKeys<A> {
         Ok(SlabKeys {
             from: 0,
             run: VecDeque::new(alloc.clone()?),
+            spare: 0,
             others: HashMap::new(alloc),
         })
     }
@@ -51,7 +58,7 @@ impl<A: Allocator + Clone> SlabKeys<A> {
         ensures same { OnErr result (entries_of self.new ≡ entries_of self.old) }
     {
         self.begin_at(id);
-        if is_next(&self.run, self.from, id) {
+        if pass_over(&mut self.run, &mut self.spare, self.from, id) {
             return put_last(&mut self.run, key);
         }
         put_other(&mut self.others, id, key)
@@ -131,15 +138,32 @@ fn run_key<A: Allocator + Clone>(
     run[index]
 }
 
-/// Whether an id comes next after a run.
+/// Lengthens a run by ids without a key until an id comes next after it, and answers whether it does: not where the id lies before
+/// its end, or further after it than may be passed over, and not when out of memory.
 #[inline(always)]
-fn is_next<A: Allocator + Clone>(run: &VecDeque<Option<usize>, A>, from: u64, id: u64) -> bool
-    ensures { OnTrue result (id ≡ from + length run.now.items) }
+fn pass_over<A: Allocator + Clone>(
+    run: &mut VecDeque<Option<usize>, A>,
+    spare: &mut usize,
+    from: u64,
+    id: u64,
+) -> bool
+    ensures next { OnTrue result (id ≡ from + length run.new.items) }
+    ensures same { run_of from run.new.items ≡ run_of from run.old.items }
 {
     if id < from {
         return false;
     }
-    (id - from) as usize == run.len()
+    let index = (id - from) as usize;
+    if index < run.len() || index - run.len() > *spare {
+        return false;
+    }
+    *spare = (*spare - (index - run.len())).saturating_add(SPARE);
+    while run.len() < index {
+        let Ok(()) = run.push_back(None) else {
+            return false;
+        };
+    }
+    true
 }
 
 /// Puts a key after a run. On a refusal nothing is changed.
